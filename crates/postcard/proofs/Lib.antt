@@ -1,0 +1,5 @@
+pub mod NumberLaws
+pub mod DecodeLaws
+pub mod ReadBack
+pub mod DecodeBack
+pub mod DecodeFaults

@@ -1,0 +1,3 @@
+pub mod Number
+pub mod Message
+pub mod Decode

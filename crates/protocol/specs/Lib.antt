@@ -1,0 +1,16 @@
+pub mod Links
+pub mod State
+pub mod Run
+pub mod Push
+pub mod Gossips
+pub mod Control
+pub mod Ticks
+pub mod Neighbours
+pub mod Handle
+pub mod Whole
+pub mod Alike
+pub mod Answer
+pub mod Calls
+pub mod Demand3
+pub mod Panel
+pub mod Growth

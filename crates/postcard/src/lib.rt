@@ -1,1 +1,2 @@
-// postcard
+// Numbers and messages in Postcard's form: document 01, "Numbers and messages (Postcard)".
+pub mod units;

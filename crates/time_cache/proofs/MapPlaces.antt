@@ -7,13 +7,16 @@ use mathlib.Core.List.{List, [], _∷_, _++_, map}
 use Prim.Native.Nat.{ℕ, zero, suc, _+_, _≤_, _<_, zero-le, suc-le-suc}
 use native.Mathlib.Nat.{le-of-suc-le-suc, not-suc-le-zero}
 use native.Mathlib.Omega.{arith}
-use borrow.Author.Tests.{lt-ltb, le-ltb, eq-eqb, ne-eqb}
+use borrow.Author.Tests.{lt-ltb, le-ltb, eq-eqb, ne-eqb, ltb-true, eqb-true}
 use lib.Dec.{ltb, eqb}
 use lib.ListN.{length, take, drop, getD}
-use Rattle.lists.specs.Base.{if_then_else_}
+use Rattle.lists.specs.Base.{if_then_else_, all, filter, ascending}
 use Rattle.lists.specs.Map.{Map, Entry, entry, keys, lookup, insert}
+use Rattle.lists.proofs.MapLaws.{cases, and-left, and-right}
+use Rattle.lists.proofs.ListLaws.{keys-filter-all}
 use Rattle.rows.specs.Part.{put}
 use Rattle.rows.specs.Sorted.{Ascending, Between, Here}
+use Rattle.time_cache.proofs.Orders.{all-at}
 
 -- orders of keys, without the first
 pub up-tail : (k : ℕ) (ks : List ℕ) → Ascending (k ∷ ks) → Ascending ks
@@ -79,3 +82,31 @@ module _ {A : Type 0} (k : ℕ) where
   lookup-here (suc i) d (e ∷ m) a h =
       rw (ne-eqb k (e .key) (λ q. omega (arith, first-below k (e .key) i (keys m) a h)))
       (lookup-here i d m (up-tail (e .key) (keys m) a) (here-tail k (e .key) i (keys m) h))
+
+-- a test of the entries, at a key
+module _ {A : Type 0} where
+  absent : (k : ℕ) (m : Map A) → all (ltb k) (keys m) ≡ true → lookup k m ≡ none
+  absent k m h = lookup-between k 0 m (record {
+    within = zero-le;
+    below = λ j l. absurd (not-suc-le-zero l);
+    above = λ j l h′. ltb-true k (getD (keys m) j 0) (all-at (ltb k) 0 (keys m) h j h′);
+  })
+
+  -- what is left of a value at the key
+  unfoldable pub passes : (Entry A → Bool) → ℕ → Option A → Option A
+  passes f k none = none
+  passes f k (some v) = if f (entry k v) then some v else none
+
+  pub lookup-filter : (f : Entry A → Bool) (k : ℕ) (m : Map A) → ascending (keys m) ≡ true → lookup k (filter f m) ≡ passes f k (lookup k m)
+  unfolding lookup filter ascending passes
+  lookup-filter f k [] h = refl
+  lookup-filter f k (e ∷ m) h =
+      cases (eqb k (e .key))
+      (λ q. rw q (rw (eqb-true k (e .key) q) (cases (f e) (λ t. rw t (rw (eq-eqb (e .key) (e .key) refl) refl)) (λ t. rw t (absent (e .key) (filter f m) (keys-filter-all (ltb (e .key)) f m above))))))
+      (λ q. rw q (cases (f e) (λ t. rw t (rw q (lookup-filter f k m rest))) (λ t. rw t (lookup-filter f k m rest))))
+    where
+      above : all (ltb (e .key)) (keys m) ≡ true
+      above = and-left (all (ltb (e .key)) (keys m)) (ascending (keys m)) h
+
+      rest : ascending (keys m) ≡ true
+      rest = and-right (all (ltb (e .key)) (keys m)) (ascending (keys m)) h

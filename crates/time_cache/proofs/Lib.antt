@@ -7,4 +7,5 @@ pub mod TableLaws
 pub mod ExpiryLaws
 pub mod NamedLaws
 pub mod BlockLaws
+pub mod LoanLaws
 pub mod ReadLaws

@@ -18,7 +18,7 @@ use Rattle.rows.specs.Part.{put}
 use Rattle.rows.specs.Sorted.{Ascending, Between, Here}
 use Rattle.rows.proofs.Views.{map-put, map-gap, map-drop}
 use Rattle.refs.specs.Refs.{Ref, ref, places, shifted, moved, lowered, names, left}
-use Rattle.refs.proofs.Shifts.{named-shifted, named-dropped, shifted-le}
+use Rattle.refs.proofs.Shifts.{named-shifted, named-dropped, shifted-le, shifted-low}
 use Rattle.time_cache.specs.TimeCache.{Timed, Expiry, Cache, addExpiry, put as putIn, expireUntil, later, expiresOnTime, inPopOrder, laterCache}
 use Rattle.time_cache.specs.Tables.{ExpiryRow, noRow, noExpiry, rowAt, expiryOf, Cut, entryFor, entryOf, named, cacheOf}
 use Rattle.time_cache.proofs.CacheLaws.{isAt}
@@ -124,6 +124,13 @@ module _ {A : Type 0} (f : A → Bool) where
   pub all-put : (i : ℕ) (x : A) (l : List A) → f x ≡ true → all f l ≡ true → all f (put i (x ∷ []) l) ≡ true
   unfolding put
   all-put i x l e h = all-append f (take i l) (x ∷ drop 1 (drop i l)) (all-take i l h) (all-cons f x (drop 1 (drop i l)) e (all-drop 1 (drop i l) (all-drop i l h)))
+
+-- no place moves for a row that is put in behind all
+pub moved-none : (i m : ℕ) (es : List Ref) → m ≤ i → below m (places es) ≡ true → map (moved i) es ≡ es
+moved-none i m [] h b = refl
+moved-none i m (r ∷ es) h b =
+    let l : r .place < m = ltb-true (r .place) m (all-head (λ p. ltb p m) (r .place) (places es) b) in
+    λ k. ref (shifted-low i (r .place) (omega arith) k) (r .own) ∷ moved-none i m es h (all-tail (λ p. ltb p m) (r .place) (places es) b) k
 
 -- places after a row was put in at i, of m + 1 rows then
 moved-below : (i m : ℕ) (es : List Ref) → below m (places es) ≡ true → all (λ r. ltb (r .place) (m + 1)) (map (moved i) es) ≡ true

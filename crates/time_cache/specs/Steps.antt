@@ -7,6 +7,7 @@ use Prim.Native.Nat.{ℕ, _+_, _-_, _*_, _≤_, _<_}
 use lib.ListN.{length, getD, take, drop}
 use Rattle.lists.specs.Map.{lookup}
 use Rattle.rows.specs.Part.{put}
+use Rattle.rows.specs.Entries.{Only}
 use Rattle.rows.specs.Sorted.{FoundIs}
 use Rattle.rows.specs.declared.table.Found.{Found}
 use Rattle.rows.specs.declared.table.Found.the-variants.{At, Before}
@@ -39,6 +40,23 @@ pub record GotAt (c : TimeBoundCache) (block : List ℕ) (k i p : ℕ) : Type 0 
 abbrev pub GotIs : TimeBoundCache → List ℕ → ℕ → Got → Type 0
 GotIs c block k (There i p) = GotAt c block k i p
 GotIs c block k Nothing = lookup k (cacheAt c block .entries) ≡ none
+
+-- a row more at row i, and nothing else
+pub record Opens (c : TimeBoundCache) (i k t : ℕ) (xs ys : List ℕ) : Type 0 where
+  pub rest : List ℕ
+  pub rows : rowsAt (resized (c .entries .len) (c .expiry .len + 1) c) ys ≡ take i (rowsAt c xs) ++ (expiryRow t k rest ∷ drop i (rowsAt c xs))
+  pub only : Only (c .expiry .at) ((c .expiry .len + 1) * c .expiry .stride) xs ys
+
+-- other rows of places, and nothing else
+pub record Places (c : TimeBoundCache) (es : List Ref) (k : ℕ) (xs ys : List ℕ) : Type 0 where
+  pub refs : refsAt c ys ≡ es
+  pub only : Only (c .entries .at) k xs ys
+
+-- a gap among the rows of places, before row j, and nothing else
+pub record Gap (c : TimeBoundCache) (j : ℕ) (xs ys : List ℕ) : Type 0 where
+  pub gap : Ref
+  pub refs : refsAt (resized (c .entries .len + 1) (c .expiry .len) c) ys ≡ take j (refsAt c xs) ++ (gap ∷ drop j (refsAt c xs))
+  pub only : Only (c .entries .at) ((c .entries .len + 1) * c .entries .stride) xs ys
 
 -- rows of places with one that names row i: over the one that was found, or before the one where it belongs
 unfoldable pub placed : Found → Ref → List Ref → List Ref

@@ -19,7 +19,7 @@ ghost use Rattle.rows.specs.Sorted.{FoundIs};
 ghost use Rattle.refs.specs.Refs.{ref, places, Below, moved};
 ghost use Rattle.time_cache.specs.TimeCache.{holds, laterCache};
 ghost use Rattle.time_cache.specs.Tables.{expiryRow, refsAt, rowsAt, cacheAt, rowAt, named, resized, Cut, Lies, Room, Sound, sound};
-ghost use Rattle.time_cache.specs.Steps.{refAt, GotIs, Inserts, Expires};
+ghost use Rattle.time_cache.specs.Steps.{refAt, GotIs, Opens, Places, Gap, Inserts, Expires};
 
 // A table in a block: `len` rows of `stride` bytes each, the first at `at`.
 pub struct Table {
@@ -177,5 +177,72 @@ impl TimeBoundCache {
             }
             Got::Nothing => false,
         }
+    }
+
+    // The same tables with other numbers of rows.
+    fn resized(self, n: usize, m: usize) -> TimeBoundCache
+        ensures { λ r. ⌜ r ≡ resized n m self ⌝ }
+    {
+        TimeBoundCache {
+            entries: Table {
+                at: self.entries.at,
+                stride: self.entries.stride,
+                len: n,
+            },
+            expiry: Table {
+                at: self.expiry.at,
+                stride: self.expiry.stride,
+                len: m,
+            },
+        }
+    }
+
+    // Puts an expiry row in at row i.
+    fn open_row(self, block: &mut [u8], i: usize, key: Id, expires: Millis)
+        requires { ⌜ Room self (now block) × (i ≤ self .expiry .len) ⌝ }
+        ensures { λ _. ⌜ Opens self i (idOf key) (expires .0) (now (block .entry)) (now (block .exit)) ⌝ }
+    {
+        let b = self.expiry.at;
+        let t = self.expiry.stride;
+        let m = self.expiry.len;
+        let e = b + (m + 1) * t;
+        expiry::add_expiry(&mut block[b..e], t, m, i, key, expires);
+    }
+
+    // Renames the rows that entries name, after a row was put in at i: nothing where it is the last, as it is unless the clock went back.
+    fn move_places(self, block: &mut [u8], i: usize)
+        requires { ⌜ Lies self (now block) × Below (self .expiry .len) (places (refsAt self (now block))) ⌝ }
+        ensures { λ _. ⌜ Places self (map (moved i) (refsAt self (now (block .entry)))) (self .entries .len * self .entries .stride) (now (block .entry)) (now (block .exit)) ⌝ }
+    {
+        let m = self.expiry.len;
+        if m <= i {
+            return;
+        }
+        let a = self.entries.at;
+        let s = self.entries.stride;
+        let n = self.entries.len;
+        let e = a + n * s;
+        refs::make_room(&mut block[a..e], s, n, i as u64);
+    }
+
+    // Has entry j name row i.
+    fn store_place(self, block: &mut [u8], j: usize, i: usize)
+        requires { ⌜ Lies self (now block) × (j < self .entries .len) × (i < 65536) ⌝ }
+        ensures { λ _. ⌜ Places self (put j (ref i (refAt (refsAt self (now (block .entry))) j .own) ∷ []) (refsAt self (now (block .entry)))) (self .entries .len * self .entries .stride) (now (block .entry)) (now (block .exit)) ⌝ }
+    {
+        let at = self.entries.at + j * self.entries.stride;
+        word::store_le(block, at, 2, i as u64);
+    }
+
+    // Opens a gap at entry j.
+    fn open_entry(self, block: &mut [u8], j: usize)
+        requires { ⌜ Room self (now block) × (j ≤ self .entries .len) ⌝ }
+        ensures { λ _. ⌜ Gap self j (now (block .entry)) (now (block .exit)) ⌝ }
+    {
+        let a = self.entries.at;
+        let s = self.entries.stride;
+        let n = self.entries.len;
+        let e = a + (n + 1) * s;
+        table::insert_row(&mut block[a..e], s, n, j);
     }
 }

@@ -9,3 +9,4 @@ pub mod NamedLaws
 pub mod BlockLaws
 pub mod LoanLaws
 pub mod ReadLaws
+pub mod InsertLaws

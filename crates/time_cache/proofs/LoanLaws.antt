@@ -88,6 +88,10 @@ pub rows-before : (s n a b l : ℕ) (xs ys : List ℕ) → a + n * s ≤ b → b
 unfolding part
 rows-before s n a b l xs ys h w e o = rows-same s n (drop a ys) (drop a xs) (only-apart b l a (n * s) xs ys (inl h) w e o)
 
+pub refs-before : (s n a b l : ℕ) (xs ys : List ℕ) → a + n * s ≤ b → b + l ≤ length xs → length ys ≡ length xs → Only b l xs ys → refs s n (drop a ys) ≡ refs s n (drop a xs)
+unfolding refs
+refs-before s n a b l xs ys h w e o = ap (map refOf) (rows-before s n a b l xs ys h w e o)
+
 pub drop-behind : (a k b : ℕ) (xs ys : List ℕ) → a + k ≤ b → b ≤ length xs → length ys ≡ length xs → Only a k xs ys → drop b ys ≡ drop b xs
 drop-behind a k b xs ys h w e o =
     ap (drop b) o ∙ drop-put b a (part a k ys) xs (omega (arith, length-part a k ys (omega arith))) (omega arith)

@@ -245,4 +245,39 @@ impl TimeBoundCache {
         let e = a + (n + 1) * s;
         table::insert_row(&mut block[a..e], s, n, j);
     }
+
+    // `insert`: "overwrites value and expiry and adds an expiry entry", behind all of its time or earlier. The value's bytes are those that stood
+    // in the entry and in the row, for the caller to write.
+    pub fn insert(self, block: &mut [u8], key: Id, expires: Millis) -> Inserted
+        requires { ⌜ Room self (now block) × Sound self (now block) ⌝ }
+        ensures { λ r. ⌜ Inserts self (idOf key) (expires .0) (now (block .entry)) r (now (block .exit)) ⌝ }
+    {
+        let f = self.find(block, key);
+        let i = self.due(block, expires);
+        let n = self.entries.len;
+        let m = self.expiry.len + 1;
+        self.open_row(block, i, key, expires);
+        self.move_places(block, i);
+        match f {
+            Found::At(j) => {
+                self.store_place(block, j, i);
+                let cache = self.resized(n, m);
+                Inserted {
+                    cache,
+                    entry: j,
+                    row: i,
+                }
+            }
+            Found::Before(j) => {
+                self.open_entry(block, j);
+                let cache = self.resized(n + 1, m);
+                cache.store_place(block, j, i);
+                Inserted {
+                    cache,
+                    entry: j,
+                    row: i,
+                }
+            }
+        }
+    }
 }

@@ -1,5 +1,6 @@
 pub mod CacheLaws
 pub mod Timely
+pub mod Removed
 pub mod Orders
 pub mod MapPlaces
 pub mod Cuts
@@ -10,3 +11,4 @@ pub mod BlockLaws
 pub mod LoanLaws
 pub mod ReadLaws
 pub mod InsertLaws
+pub mod ExpireLaws

@@ -78,6 +78,17 @@ pub record Inserts (c : TimeBoundCache) (k t : ℕ) (xs : List ℕ) (r : Inserte
   pub refs : refsAt (r .cache) ys ≡ placed found (refAt (refsAt (r .cache) ys) (r .entry)) (map (moved (r .row)) (refsAt c xs))
   pub only : OnlyTwo (c .entries .at) ((c .entries .len + 1) * c .entries .stride) (c .expiry .at) ((c .expiry .len + 1) * c .expiry .stride) xs ys
 
+-- the first k rows are gone, and nothing else has changed
+pub record Drops (c : TimeBoundCache) (k : ℕ) (xs ys : List ℕ) : Type 0 where
+  pub rows : rowsAt (resized (c .entries .len) (c .expiry .len - k) c) ys ≡ drop k (rowsAt c xs)
+  pub only : Only (c .expiry .at) (c .expiry .len * c .expiry .stride) xs ys
+
+-- the rows of places that do not name the first k rows are left, r in number, and nothing else has changed
+pub record Leaves (c : TimeBoundCache) (k : ℕ) (xs : List ℕ) (r : ℕ) (ys : List ℕ) : Type 0 where
+  pub count : r ≤ c .entries .len
+  pub refs : refsAt (resized r (c .expiry .len) c) ys ≡ left k (refsAt c xs)
+  pub only : Only (c .entries .at) (c .entries .len * c .entries .stride) xs ys
+
 -- what `expire_until` leaves: the first rows are gone, and the entries that named them
 pub record Expires (c : TimeBoundCache) (t : ℕ) (xs : List ℕ) (r : Expired) (ys : List ℕ) : Type 0 where
   pub sized : r .cache ≡ resized (r .cache .entries .len) (r .cache .expiry .len) c

@@ -19,7 +19,7 @@ ghost use Rattle.rows.specs.Sorted.{FoundIs};
 ghost use Rattle.refs.specs.Refs.{ref, places, Below, moved};
 ghost use Rattle.time_cache.specs.TimeCache.{holds, laterCache};
 ghost use Rattle.time_cache.specs.Tables.{expiryRow, refsAt, rowsAt, cacheAt, rowAt, named, resized, Cut, Lies, Room, Sound, sound};
-ghost use Rattle.time_cache.specs.Steps.{refAt, GotIs, Opens, Places, Gap, Inserts, Expires};
+ghost use Rattle.time_cache.specs.Steps.{refAt, GotIs, Opens, Places, Gap, Inserts, Drops, Leaves, Expires};
 
 // A table in a block: `len` rows of `stride` bytes each, the first at `at`.
 pub struct Table {
@@ -279,5 +279,50 @@ impl TimeBoundCache {
                 }
             }
         }
+    }
+
+    // Drops the first k rows.
+    fn drop_rows(self, block: &mut [u8], k: usize)
+        requires { ⌜ Lies self (now block) × (k ≤ self .expiry .len) ⌝ }
+        ensures { λ _. ⌜ Drops self k (now (block .entry)) (now (block .exit)) ⌝ }
+    {
+        let b = self.expiry.at;
+        let t = self.expiry.stride;
+        let m = self.expiry.len;
+        let e = b + m * t;
+        expiry::drop_expiry(&mut block[b..e], t, m, k);
+    }
+
+    // Drops the entries that name one of the first k rows, has the others name their rows by the numbers that these have once those are gone, and
+    // returns how many are left.
+    fn drop_entries(self, block: &mut [u8], k: usize) -> usize
+        requires { ⌜ Lies self (now block) ⌝ }
+        ensures { λ r. ⌜ Leaves self k (now (block .entry)) r (now (block .exit)) ⌝ }
+    {
+        let a = self.entries.at;
+        let s = self.entries.stride;
+        let n = self.entries.len;
+        let e = a + n * s;
+        refs::drop_places(&mut block[a..e], s, n, k as u64)
+    }
+
+    // `expire_until`: "pops entries with time ≤ the instant", and "removes a key only if its present expiry equals the popped time", which is the
+    // time of the row that its entry names.
+    pub fn expire_until(self, block: &mut [u8], instant: Millis) -> Expired
+        requires { ⌜ Lies self (now block) × Sound self (now block) ⌝ }
+        ensures { λ r. ⌜ Expires self (instant .0) (now (block .entry)) r (now (block .exit)) ⌝ }
+    {
+        let k = self.due(block, instant);
+        let n = self.entries.len;
+        let m = self.expiry.len;
+        if k == 0 {
+            let cache = self.resized(n, m);
+            return Expired { cache, removed: 0 };
+        }
+        self.drop_rows(block, k);
+        let q = self.drop_entries(block, k);
+        let cache = self.resized(q, m - k);
+        let removed = n - q;
+        Expired { cache, removed }
     }
 }

@@ -12,3 +12,4 @@ pub mod LoanLaws
 pub mod ReadLaws
 pub mod InsertLaws
 pub mod ExpireLaws
+pub mod ValueLaws

@@ -140,3 +140,10 @@ sound c block =
 -- nothing but k bytes from a and l bytes from b has changed
 abbrev pub OnlyTwo : ℕ → ℕ → ℕ → ℕ → List ℕ → List ℕ → Type 0
 OnlyTwo a k b l xs ys = ys ≡ put a (part a k ys) (put b (part b l ys) xs)
+
+-- a cache with its values read another way
+abbrev pub readAs : {A B : Type 0} → (A → B) → Entry (Timed A) → Entry (Timed B)
+readAs f e = entry (e .key) (record { expires = e .value .expires; value = f (e .value .value) })
+
+unfoldable pub valuesAs : {A B : Type 0} → (A → B) → Cache A → Cache B
+valuesAs f c = record { entries = map (readAs f) (c .entries); expiry = c .expiry }

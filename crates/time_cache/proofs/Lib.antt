@@ -13,3 +13,4 @@ pub mod ReadLaws
 pub mod InsertLaws
 pub mod ExpireLaws
 pub mod ValueLaws
+pub mod WriteLaws

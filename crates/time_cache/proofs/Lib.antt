@@ -1,5 +1,6 @@
 pub mod CacheLaws
 pub mod Timely
+pub mod Worked
 pub mod Removed
 pub mod Orders
 pub mod MapPlaces

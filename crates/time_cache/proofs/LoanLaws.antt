@@ -14,7 +14,8 @@ use Rattle.rows.proofs.Parts.{length-part, length-put, part-put, part-before, p
 use Rattle.rows.proofs.Rows.{rows-same}
 use Rattle.rows.proofs.Views.{only-apart, loan-only}
 use Rattle.refs.specs.Refs.{refOf, refs}
-use Rattle.time_cache.specs.Tables.{expiryRowOf, expiryRows, OnlyTwo}
+use Rattle.time_cache.specs.Tables.{expiryRowOf, expiryRows, cacheOf, cacheIn, refsAt, rowsAt, OnlyTwo}
+use Rattle.time_cache.specs.declared.cache.TimeBoundCache.{TimeBoundCache}
 
 -- the rows in the part that is lent
 pub rows-lent : (s n a k : ℕ) (xs : List ℕ) → n * s ≤ k → rows s n (take k (drop a xs)) ≡ rows s n (drop a xs)
@@ -106,3 +107,33 @@ put-behind a o zs xs h =
     ∙ ap (drop a) (append-assoc (take a xs) (take o (drop a xs)) (zs ++ drop (length zs) (drop (a + o) xs)))
     ∙ drop-at (take a xs) (take o (drop a xs) ++ (zs ++ drop (length zs) (drop (a + o) xs))) a e
     ∙ ap (λ (l : List ℕ). take o (drop a xs) ++ (zs ++ drop (length zs) l)) (sym (drop-drop o a xs))
+
+-- a change within two parts, as a change within the second and then one within the first: the block in between
+abbrev pub halfway : ℕ → ℕ → List ℕ → List ℕ → List ℕ
+halfway b l xs ys = put b (part b l ys) xs
+
+module _ (a k b l : ℕ) (xs ys : List ℕ) (h : a + k ≤ b) (w : b + l ≤ length xs) (e : length ys ≡ length xs) (o : OnlyTwo a k b l xs ys) where
+  pub length-halfway : length (halfway b l xs ys) ≡ length xs
+  length-halfway = length-put b (part b l ys) xs (omega (arith, length-part b l ys (omega arith)))
+
+  pub only-second : Only b l xs (halfway b l xs ys)
+  only-second = ap (λ (t : List ℕ). put b t xs) (sym (part-put b l (part b l ys) xs (length-part b l ys (omega arith)) w))
+
+  pub only-first : Only a k (halfway b l xs ys) ys
+  only-first = o
+
+  -- and within larger parts
+  pub two-wider : (k′ l′ : ℕ) → k ≤ k′ → l ≤ l′ → a + k′ ≤ b → b + l′ ≤ length xs → OnlyTwo a k′ b l′ xs ys
+  two-wider k′ l′ hk hl hb hx =
+      only-both a k′ b l′ xs (halfway b l xs ys) ys hb hx length-halfway (e ∙ sym length-halfway)
+      (only-wider b l l′ xs (halfway b l xs ys) hl hx length-halfway only-second)
+      (only-wider a k k′ (halfway b l xs ys) ys hk (omega (arith, length-halfway)) (e ∙ sym length-halfway) only-first)
+
+-- the cache that two tables hold, as parts of the block
+pub cache-parts : {A : Type 0} (value : List ℕ → List ℕ → A) (c : TimeBoundCache) (k l : ℕ) (xs : List ℕ)
+    → c .entries .len * c .entries .stride ≤ k → c .expiry .len * c .expiry .stride ≤ l
+    → cacheIn value (c .entries .stride) (c .entries .len) (part (c .entries .at) k xs) (c .expiry .stride) (c .expiry .len) (part (c .expiry .at) l xs)
+    ≡ cacheOf value (refsAt c xs) (rowsAt c xs)
+unfolding part
+cache-parts value c k l xs h g =
+    λ j. cacheOf value (refs-lent (c .entries .stride) (c .entries .len) (c .entries .at) k xs h j) (expiry-lent (c .expiry .stride) (c .expiry .len) (c .expiry .at) l xs g j)

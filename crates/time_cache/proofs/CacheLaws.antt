@@ -41,7 +41,7 @@ module _ {A : Type 0} where
   hits x e = isAt (e .key) (e .value .expires) x
 
   -- a key below all of a map's is not in it
-  remove-absent : (k : ℕ) (m : Map (Timed A)) → all (ltb k) (keys m) ≡ true → remove k m ≡ m
+  pub remove-absent : (k : ℕ) (m : Map (Timed A)) → all (ltb k) (keys m) ≡ true → remove k m ≡ m
   unfolding remove all
   remove-absent k [] a = refl
   remove-absent k (e ∷ m) a =
@@ -72,7 +72,7 @@ module _ {A : Type 0} where
       above : eqb (x .key) (e .key) ≡ true → all (ltb (x .key)) (keys m) ≡ true
       above q = rw (eqb-true (x .key) (e .key) q) (and-left (all (ltb (e .key)) (keys m)) (ascending (keys m)) h)
 
-  pop-ascending : (x : Expiry) (m : Map (Timed A)) → ascending (keys m) ≡ true → ascending (keys (pop x m)) ≡ true
+  pub pop-ascending : (x : Expiry) (m : Map (Timed A)) → ascending (keys m) ≡ true → ascending (keys (pop x m)) ≡ true
   unfolding pop
   pop-ascending x m h =
       cases (expiresAt (x .time) (lookup (x .key) m)) (λ p. rw p (ascending-remove (x .key) m h)) (λ p. rw p h)

@@ -1,2 +1,17 @@
 pub mod CacheLaws
 pub mod Timely
+pub mod Worked
+pub mod Removed
+pub mod Orders
+pub mod MapPlaces
+pub mod Cuts
+pub mod TableLaws
+pub mod ExpiryLaws
+pub mod NamedLaws
+pub mod BlockLaws
+pub mod LoanLaws
+pub mod ReadLaws
+pub mod InsertLaws
+pub mod ExpireLaws
+pub mod ValueLaws
+pub mod WriteLaws

@@ -3,3 +3,6 @@ pub mod DecodeLaws
 pub mod ReadBack
 pub mod DecodeBack
 pub mod DecodeFaults
+pub mod Writes
+pub mod Lengths
+pub mod Layouts

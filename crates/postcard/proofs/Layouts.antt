@@ -1,19 +1,15 @@
 -- The pieces, one after the other, in which contents, messages and actions are written, and the entries of an IHave one by one.
 -- Assumes nothing.
-use mathlib.Core.Path.{_≡_, refl, sym, ap, _∙_, subst}
+use mathlib.Core.Path.{_≡_, refl, sym, ap}
 use mathlib.Core.Bool.{Bool}
 use mathlib.Core.List.{List, [], _∷_, _++_, append-assoc}
 use mathlib.Core.Option.{Option}
-use Prim.Native.Nat.{ℕ, zero, suc, _+_, _≤_, _<_}
-use native.Mathlib.Numerals.{add-one}
-use native.Mathlib.Omega.{arith}
-use lib.ListN.{length, getD, take, drop}
-use lib.Seq.{take-suc, drop-cons}
-use Rattle.lists.specs.Base.{concatMap}
+use Prim.Native.Nat.{ℕ, _+_}
+use lib.ListN.{length}
 use Rattle.postcard.specs.Number.{numberBytes, idBytes}
-use Rattle.postcard.specs.Message.{Delivery, Ihave, Message, Gossip, Prune, Graft, IHave, Timer, Sent, Scheduled, Emitted, contentBytes, deliveryBytes, ihaveBytes, optionalIdBytes, messageBytes, timerBytes, takenByte, actionBytes}
-use Rattle.postcard.specs.Output.{Room, Wrote, sendHead, ihaveHead}
-use Rattle.postcard.proofs.Writes.{Writing, joined, Pieces, pieces, write-on, wrote-then, written}
+use Rattle.postcard.specs.Message.{Delivery, Ihave, Message, Gossip, Graft, IHave, Timer, Sent, Scheduled, Emitted, contentBytes, deliveryBytes, ihaveBytes, optionalIdBytes, messageBytes, timerBytes, takenByte, actionBytes}
+use Rattle.postcard.specs.Output.{Room, sendHead, ihaveHead}
+use Rattle.postcard.proofs.Writes.{joined, Pieces, pieces, written}
 
 -- a send is its beginning and its message
 pub sent-head : (p : ℕ) (taken : Bool) (m : Message) → actionBytes (Sent p taken m) ≡ sendHead p taken ++ messageBytes m

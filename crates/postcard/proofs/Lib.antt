@@ -6,3 +6,5 @@ pub mod DecodeFaults
 pub mod Writes
 pub mod Lengths
 pub mod Layouts
+pub mod Listed
+pub mod Worked

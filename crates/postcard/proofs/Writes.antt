@@ -3,17 +3,17 @@
 use mathlib.Core.Path.{_≡_, refl, sym, ap, _∙_, subst}
 use mathlib.Core.Bool.{Bool, true, false}
 use mathlib.Core.List.{List, [], _∷_, _++_, append-assoc, append-nil}
-use Prim.Native.Nat.{ℕ, zero, suc, _+_, _-_, _*_, _/_, _%_, _^_, _≤_, _<_}
+use Prim.Native.Nat.{ℕ, zero, suc, _+_, _-_, _/_, _%_, _^_, _≤_, _<_}
 use native.Mathlib.Omega.{arith}
 use native.Mathlib.Numerals.{add-one}
 use native.Mathlib.Nat.{pow-suc}
 use borrow.Author.Tests.{lt-ltb, le-ltb}
 use lib.Dec.{ltb}
+use Rattle.lists.specs.Base.{if_then_else_}
 use lib.ListN.{length, set, getD, drop, length-append, drop-of-length-le}
 use lib.Seq.{drop-cons}
 use Rattle.rows.specs.Part.{put}
-use Rattle.rows.proofs.Parts.{put-put-next, put-snoc, set-put, length-put, put-nil}
-use Rattle.lists.specs.Base.{if_then_else_}
+use Rattle.rows.proofs.Parts.{put-put-next, set-put, length-put, put-nil}
 use Rattle.postcard.specs.Number.{groups, numberBytes}
 use Rattle.postcard.specs.Output.{Room, Wrote}
 

@@ -73,8 +73,8 @@ pub fn put_content(out: &mut [u8], at: usize, content: &[u8]) -> usize
     requires { ⌜ Room (contentBytes (now content)) at (now out) ⌝ }
     ensures { λ r. ⌜ Wrote (contentBytes (now (content .entry))) (now (out .entry)) at (now (out .exit)) r ⌝ }
 {
-    let a = put_number(out, at, content.len() as u64);
-    put_bytes(out, a, content)
+    let bytes_at = put_number(out, at, content.len() as u64);
+    put_bytes(out, bytes_at, content)
 }
 
 // Writes a delivery: "0 Swarm and round, 1 Neighbors".
@@ -84,8 +84,8 @@ pub fn put_delivery(out: &mut [u8], at: usize, delivery: Delivery) -> usize
 {
     match delivery {
         Delivery::Swarm(round) => {
-            let a = put_byte(out, at, 0);
-            put_round(out, a, round)
+            let round_at = put_byte(out, at, 0);
+            put_round(out, round_at, round)
         }
         Delivery::Neighbors => put_byte(out, at, 1),
     }
@@ -99,8 +99,8 @@ pub fn put_wanted(out: &mut [u8], at: usize, wanted: Wanted) -> usize
     match wanted {
         Wanted::Nothing => put_byte(out, at, 0),
         Wanted::Message(id) => {
-            let a = put_byte(out, at, 1);
-            put_id(out, a, id)
+            let id_at = put_byte(out, at, 1);
+            put_id(out, id_at, id)
         }
     }
 }
@@ -110,10 +110,10 @@ pub fn put_gossip(out: &mut [u8], at: usize, id: Id, content: &[u8], delivery: D
     requires { ⌜ Room (messageBytes (Gossip (idOf id) (now content) (deliveryValue delivery))) at (now out) ⌝ }
     ensures { λ r. ⌜ Wrote (messageBytes (Gossip (idOf id) (now (content .entry)) (deliveryValue delivery))) (now (out .entry)) at (now (out .exit)) r ⌝ }
 {
-    let a = put_byte(out, at, 0);
-    let b = put_id(out, a, id);
-    let c = put_content(out, b, content);
-    put_delivery(out, c, delivery)
+    let id_at = put_byte(out, at, 0);
+    let content_at = put_id(out, id_at, id);
+    let delivery_at = put_content(out, content_at, content);
+    put_delivery(out, delivery_at, delivery)
 }
 
 // Writes a message: "1 Prune".
@@ -129,9 +129,9 @@ pub fn put_graft(out: &mut [u8], at: usize, wanted: Wanted, round: Round) -> usi
     requires { ⌜ Room (messageBytes (Graft (wantedValue wanted) (round .0))) at (now out) ⌝ }
     ensures { λ r. ⌜ Wrote (messageBytes (Graft (wantedValue wanted) (round .0))) (now (out .entry)) at (now (out .exit)) r ⌝ }
 {
-    let a = put_byte(out, at, 2);
-    let b = put_wanted(out, a, wanted);
-    put_round(out, b, round)
+    let wanted_at = put_byte(out, at, 2);
+    let round_at = put_wanted(out, wanted_at, wanted);
+    put_round(out, round_at, round)
 }
 
 // Writes the beginning of a message: "3 IHave (count, ..". `put_ihave` for each entry makes it whole.
@@ -139,8 +139,8 @@ pub fn put_ihave_head(out: &mut [u8], at: usize, count: usize) -> usize
     requires { ⌜ Room (ihaveHead count) at (now out) ⌝ }
     ensures { λ r. ⌜ Wrote (ihaveHead count) (now (out .entry)) at (now (out .exit)) r ⌝ }
 {
-    let a = put_byte(out, at, 3);
-    put_number(out, a, count as u64)
+    let count_at = put_byte(out, at, 3);
+    put_number(out, count_at, count as u64)
 }
 
 // Writes an entry of an IHave: "identifier and round each".
@@ -148,8 +148,8 @@ pub fn put_ihave(out: &mut [u8], at: usize, id: Id, round: Round) -> usize
     requires { ⌜ Room (ihaveBytes (record { id = idOf id; round = round .0 })) at (now out) ⌝ }
     ensures { λ r. ⌜ Wrote (ihaveBytes (record { id = idOf id; round = round .0 })) (now (out .entry)) at (now (out .exit)) r ⌝ }
 {
-    let a = put_id(out, at, id);
-    put_round(out, a, round)
+    let round_at = put_id(out, at, id);
+    put_round(out, round_at, round)
 }
 
 // Writes a timer: "0 SendGraft with identifier, 1 DispatchLazyPush, 2 EvictCache, 3 AnnounceDropped".
@@ -159,8 +159,8 @@ pub fn put_timer(out: &mut [u8], at: usize, timer: Timer) -> usize
 {
     match timer {
         Timer::SendGraft(id) => {
-            let a = put_byte(out, at, 0);
-            put_id(out, a, id)
+            let id_at = put_byte(out, at, 0);
+            put_id(out, id_at, id)
         }
         Timer::DispatchLazyPush => put_byte(out, at, 1),
         Timer::EvictCache => put_byte(out, at, 2),
@@ -185,9 +185,9 @@ pub fn put_send(out: &mut [u8], at: usize, peer: u64, taken: bool) -> usize
     requires { ⌜ Room (sendHead peer taken) at (now out) ⌝ }
     ensures { λ r. ⌜ Wrote (sendHead peer taken) (now (out .entry)) at (now (out .exit)) r ⌝ }
 {
-    let a = put_byte(out, at, 1);
-    let b = put_number(out, a, peer);
-    put_taken(out, b, taken)
+    let peer_at = put_byte(out, at, 1);
+    let taken_at = put_number(out, peer_at, peer);
+    put_taken(out, taken_at, taken)
 }
 
 // Writes the action of a Gossip that is sent.
@@ -203,8 +203,8 @@ pub fn put_send_gossip(
     requires { ⌜ Room (actionBytes (Sent peer taken (Gossip (idOf id) (now content) (deliveryValue delivery)))) at (now out) ⌝ }
     ensures { λ r. ⌜ Wrote (actionBytes (Sent peer taken (Gossip (idOf id) (now (content .entry)) (deliveryValue delivery)))) (now (out .entry)) at (now (out .exit)) r ⌝ }
 {
-    let a = put_send(out, at, peer, taken);
-    put_gossip(out, a, id, content, delivery)
+    let message_at = put_send(out, at, peer, taken);
+    put_gossip(out, message_at, id, content, delivery)
 }
 
 // Writes the action of a Prune that is sent.
@@ -212,8 +212,8 @@ pub fn put_send_prune(out: &mut [u8], at: usize, peer: u64, taken: bool) -> usiz
     requires { ⌜ Room (actionBytes (Sent peer taken Prune)) at (now out) ⌝ }
     ensures { λ r. ⌜ Wrote (actionBytes (Sent peer taken Prune)) (now (out .entry)) at (now (out .exit)) r ⌝ }
 {
-    let a = put_send(out, at, peer, taken);
-    put_prune(out, a)
+    let message_at = put_send(out, at, peer, taken);
+    put_prune(out, message_at)
 }
 
 // Writes the action of a Graft that is sent.
@@ -228,8 +228,8 @@ pub fn put_send_graft(
     requires { ⌜ Room (actionBytes (Sent peer taken (Graft (wantedValue wanted) (round .0)))) at (now out) ⌝ }
     ensures { λ r. ⌜ Wrote (actionBytes (Sent peer taken (Graft (wantedValue wanted) (round .0)))) (now (out .entry)) at (now (out .exit)) r ⌝ }
 {
-    let a = put_send(out, at, peer, taken);
-    put_graft(out, a, wanted, round)
+    let message_at = put_send(out, at, peer, taken);
+    put_graft(out, message_at, wanted, round)
 }
 
 // Writes the beginning of the action of an IHave that is sent; `put_ihave` for each entry makes it whole.
@@ -237,8 +237,8 @@ pub fn put_send_ihave(out: &mut [u8], at: usize, peer: u64, taken: bool, count: 
     requires { ⌜ Room (sendHead peer taken ++ ihaveHead count) at (now out) ⌝ }
     ensures { λ r. ⌜ Wrote (sendHead peer taken ++ ihaveHead count) (now (out .entry)) at (now (out .exit)) r ⌝ }
 {
-    let a = put_send(out, at, peer, taken);
-    put_ihave_head(out, a, count)
+    let message_at = put_send(out, at, peer, taken);
+    put_ihave_head(out, message_at, count)
 }
 
 // Writes an action: "2 schedule (delay, timer)".
@@ -246,9 +246,9 @@ pub fn put_schedule(out: &mut [u8], at: usize, delay: Millis, timer: Timer) -> u
     requires { ⌜ Room (actionBytes (Scheduled (delay .0) (timerValue timer))) at (now out) ⌝ }
     ensures { λ r. ⌜ Wrote (actionBytes (Scheduled (delay .0) (timerValue timer))) (now (out .entry)) at (now (out .exit)) r ⌝ }
 {
-    let a = put_byte(out, at, 2);
-    let b = put_number(out, a, delay.0);
-    put_timer(out, b, timer)
+    let delay_at = put_byte(out, at, 2);
+    let timer_at = put_number(out, delay_at, delay.0);
+    put_timer(out, timer_at, timer)
 }
 
 // Writes an action: "3 emit (peer, length, content, delivery)".
@@ -256,8 +256,8 @@ pub fn put_emit(out: &mut [u8], at: usize, peer: u64, content: &[u8], delivery: 
     requires { ⌜ Room (actionBytes (Emitted peer (now content) (deliveryValue delivery))) at (now out) ⌝ }
     ensures { λ r. ⌜ Wrote (actionBytes (Emitted peer (now (content .entry)) (deliveryValue delivery))) (now (out .entry)) at (now (out .exit)) r ⌝ }
 {
-    let a = put_byte(out, at, 3);
-    let b = put_number(out, a, peer);
-    let c = put_content(out, b, content);
-    put_delivery(out, c, delivery)
+    let peer_at = put_byte(out, at, 3);
+    let content_at = put_number(out, peer_at, peer);
+    let delivery_at = put_content(out, content_at, content);
+    put_delivery(out, delivery_at, delivery)
 }

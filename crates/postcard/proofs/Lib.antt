@@ -3,3 +3,8 @@ pub mod DecodeLaws
 pub mod ReadBack
 pub mod DecodeBack
 pub mod DecodeFaults
+pub mod Writes
+pub mod Lengths
+pub mod Layouts
+pub mod Listed
+pub mod Worked

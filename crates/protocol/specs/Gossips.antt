@@ -9,7 +9,7 @@ use Rattle.lists.specs.Base.{if_then_else_, _▷_, any}
 use Rattle.lists.specs.Map.{Map, Entry, keys, lookup, insert, remove, has, removeKey}
 use Rattle.time_cache.specs.TimeCache.{get, holds, put, replace}
 use Rattle.protocol.specs.Links.{Links, isNeighbour, eagerIn, makeEager, makeLazy}
-use Rattle.postcard.specs.Number.{numberLength}
+unfoldable pub use Rattle.postcard.specs.Sizes.{gossipSize}
 use Rattle.postcard.specs.Message.{Delivery, Swarm, Neighbors, Scope, toSwarm, toNeighbors, Message, Prune, Graft}
 use Rattle.protocol.specs.State.{State, Hop, Grafts, Counts, withLinks, withMissing, withReceived, withGrafted, withCache, withGraftTimers}
 use Rattle.protocol.specs.Run.{Run, withState, withCounts, send, emit}
@@ -168,11 +168,6 @@ onLateGraftReply sender id d r = onDuplicate sender id (lateKind sender d (r .st
 unfoldable pub onNew : ℕ → ℕ → ℕ → List ℕ → Delivery → Run → Run
 onNew now sender id content (Swarm round) r = r ▷ takeIn now sender id content round ▷ emit sender content (Swarm round)
 onNew now sender id content Neighbors r = r ▷ emit sender content Neighbors
-
--- "Size is content + its length's groups + 37, or 34 for Neighbors" (`max_gossip_size`)
-unfoldable pub gossipSize : ℕ → Scope → ℕ
-gossipSize n toSwarm = n + numberLength n + 37
-gossipSize n toNeighbors = n + numberLength n + 34
 
 module _ (hash : List ℕ → ℕ) where
   -- `on_gossip`

@@ -1,5 +1,5 @@
 -- Document 01, "Ticks": `on_dispatch_timer`, `on_announce_dropped_timer`, `on_evict_cache_timer`.
-use Prim.Native.Nat.{ℕ, zero, suc, _-_, _/_}
+use Prim.Native.Nat.{ℕ, zero, suc}
 use mathlib.Core.Bool.{Bool, true, false}
 use mathlib.Core.List.{List, [], _∷_, _++_, map}
 use lib.Dec.{ltb, eqb}
@@ -8,13 +8,10 @@ use Rattle.lists.specs.Base.{if_then_else_, _▷_, isEmpty, filter, count}
 use Rattle.lists.specs.Map.{insertKey}
 use Rattle.time_cache.specs.TimeCache.{holds, expireUntil}
 use Rattle.postcard.specs.Message.{Ihave, Timer, EvictCache}
+unfoldable pub use Rattle.postcard.specs.Sizes.{perMessage}
 use Rattle.protocol.specs.State.{State, Note, withQueue, withDropped, withCache, withReceived, withGrafted, withDispatchScheduled, withAnnounceScheduled}
 use Rattle.protocol.specs.Run.{Run, withState, schedule}
 use Rattle.protocol.specs.Push.{forPeer, sendIhave, scheduleDispatch, scheduleAnnounceDropped}
-
--- "IHave of at most (M − 6) / 35, rounded down"
-unfoldable pub perMessage : ℕ → ℕ
-perMessage M = (M - 6) / 35
 
 -- the list in pieces of at most `k`, at most `pieces` of them
 unfoldable pub chunks : ℕ → ℕ → List Ihave → List (List Ihave)

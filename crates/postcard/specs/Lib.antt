@@ -1,3 +1,4 @@
 pub mod Number
 pub mod Message
 pub mod Decode
+pub mod Values

@@ -3,3 +3,4 @@ pub mod DecodeLaws
 pub mod ReadBack
 pub mod DecodeBack
 pub mod DecodeFaults
+pub mod GroupLaws

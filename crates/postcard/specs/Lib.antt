@@ -2,3 +2,5 @@ pub mod Number
 pub mod Message
 pub mod Decode
 pub mod Values
+pub mod Place
+pub mod Readings

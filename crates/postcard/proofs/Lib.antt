@@ -4,3 +4,4 @@ pub mod ReadBack
 pub mod DecodeBack
 pub mod DecodeFaults
 pub mod GroupLaws
+pub mod PlaceLaws

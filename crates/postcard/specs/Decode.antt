@@ -26,6 +26,9 @@ unfoldable pub optionalIdOf : ℕ → List ℕ → Read (Option ℕ)
 optionalIdOf zero rest = got none rest
 optionalIdOf (suc k) rest = readId rest then λ id end. got (some id) end
 
+unfoldable pub readOptionalId : List ℕ → Read (Option ℕ)
+readOptionalId bytes = readKind 2 bytes then λ k rest. optionalIdOf k rest
+
 -- "identifier and round each"
 unfoldable pub readIhave : List ℕ → Read Ihave
 readIhave bytes = readId bytes then λ id rest. readRound rest then λ r end. got (record { id = id; round = r }) end

@@ -10,7 +10,7 @@ use lib.ListN.{length, length-append}
 use Rattle.lists.specs.Base.{concatMap}
 use Rattle.postcard.specs.Number.{Read, got, fault, _then_, numberBytes, idBytes, readKind, readBytes, readId, readRound, readNumber}
 use Rattle.postcard.specs.Message.{Delivery, Swarm, Neighbors, Scope, toSwarm, toNeighbors, Ihave, Message, Gossip, Prune, Graft, IHave, Timer, SendGraft, DispatchLazyPush, EvictCache, AnnounceDropped, Event, Received, Broadcast, Fired, Up, Down, contentBytes, deliveryBytes, scopeByte, ihaveBytes, optionalIdBytes, messageBytes, timerBytes, eventBytes}
-use Rattle.postcard.specs.Decode.{readContent, deliveryOf, readDelivery, scopeOf, optionalIdOf, readIhave, readIhaves, messageOf, readMessage, timerOf, readTimer, eventOf, readEvent, Decoded, decoded, faulty, ended, decodeEvent}
+use Rattle.postcard.specs.Decode.{readContent, deliveryOf, readDelivery, scopeOf, optionalIdOf, readOptionalId, readIhave, readIhaves, messageOf, readMessage, timerOf, readTimer, eventOf, readEvent, Decoded, decoded, faulty, ended, decodeEvent}
 use Rattle.lists.proofs.MapLaws.{true≢}
 use Rattle.postcard.proofs.DecodeLaws.{DeliveryWide, IhavesWide, OptionalWide, MessageWide, TimerWide, EventWide}
 use Rattle.postcard.proofs.ReadBack.{Bytes, Back, Joined, joined, not-got, got-value, got-rest, bytes-back, id-back, number-back, round-back, kind-back}
@@ -77,6 +77,13 @@ optional-of (suc zero) bs o rest l y h =
     done OptionalWide optionalIdBytes (j .after) (before 1 (id-back bs (j .value) (j .middle) y (j .before)))
 optional-of (suc (suc k)) bs o rest l y h = absurd (omega arith)
 
+optional-back : (bs : List ℕ) (o : Option ℕ) (rest : List ℕ) → Bytes bs → readOptionalId bs ≡ got o rest → Back (OptionalWide o) (optionalIdBytes o) bs rest
+unfolding readOptionalId
+optional-back bs o rest y h =
+    let j = joined (readKind 2 bs) (λ k end. optionalIdOf k end) o rest h in
+    let k = kind-back 2 bs (j .value) (j .middle) y (j .before) in
+    from-kind k (optional-of (j .value) (j .middle) o rest (k .width) (k .left) (j .after))
+
 IhaveWide : Ihave → Type 0
 IhaveWide h = (h .id < 2 ^ 256) × (h .round < 2 ^ 16)
 
@@ -117,10 +124,8 @@ message-of zero bs m rest l y h =
     done MessageWide messageBytes (f .after) (before 0 (widened (λ w. (w .0 .0, w .0 .1, w .1)) (pair (pair a b) c)))
 message-of (suc zero) bs m rest l y h = done MessageWide messageBytes h (before 1 (nothing refl y))
 message-of (suc (suc zero)) bs m rest l y h =
-    let j = joined (readKind 2 bs) (λ k r₁. optionalIdOf k r₁ then λ wanted r₂. readRound r₂ then λ r end. got (Graft wanted r) end) m rest h in
-    let a = kind-back 2 bs (j .value) (j .middle) y (j .before) in
-    let g = joined (optionalIdOf (j .value) (j .middle)) (λ wanted r₂. readRound r₂ then λ r end. got (Graft wanted r) end) m rest (j .after) in
-    let b = from-kind a (optional-of (j .value) (j .middle) (g .value) (g .middle) (a .width) (a .left) (g .before)) in
+    let g = joined (readOptionalId bs) (λ wanted r₁. readRound r₁ then λ r end. got (Graft wanted r) end) m rest h in
+    let b = optional-back bs (g .value) (g .middle) y (g .before) in
     let f = joined (readRound (g .middle)) (λ r end. got (Graft (g .value) r) end) m rest (g .after) in
     let c = round-back (g .middle) (f .value) (f .middle) (b .left) (f .before) in
     done MessageWide messageBytes (f .after) (before 2 (pair b c))

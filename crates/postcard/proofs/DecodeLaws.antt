@@ -14,7 +14,7 @@ use borrow.Author.Tests.{le-leb}
 use Rattle.lists.specs.Base.{if_then_else_, concatMap}
 use Rattle.postcard.specs.Number.{Read, got, fault, _then_, numberBytes, bigEndian, idBytes, fromBigEndian, readKind, readBytes, readId, readRound, readNumber}
 use Rattle.postcard.specs.Message.{Delivery, Swarm, Neighbors, Scope, toSwarm, toNeighbors, Ihave, Message, Gossip, Prune, Graft, IHave, Timer, SendGraft, DispatchLazyPush, EvictCache, AnnounceDropped, Event, Received, Broadcast, Fired, Up, Down, contentBytes, deliveryBytes, scopeByte, ihaveBytes, optionalIdBytes, messageBytes, timerBytes, eventBytes}
-use Rattle.postcard.specs.Decode.{readContent, deliveryOf, readDelivery, scopeOf, optionalIdOf, readIhave, readIhaves, messageOf, readMessage, timerOf, readTimer, eventOf, readEvent, Decoded, decoded, faulty, ended, decodeEvent}
+use Rattle.postcard.specs.Decode.{readContent, deliveryOf, readDelivery, scopeOf, optionalIdOf, readOptionalId, readIhave, readIhaves, messageOf, readMessage, timerOf, readTimer, eventOf, readEvent, Decoded, decoded, faulty, ended, decodeEvent}
 use Rattle.postcard.proofs.NumberLaws.{read-number, read-round}
 
 -- identifiers
@@ -100,7 +100,7 @@ assoc₃ : (a b d rest : List ℕ) → ((a ++ b) ++ d) ++ rest ≡ a ++ (b ++ (d
 assoc₃ a b d rest = simp append-assoc
 
 pub read-message : (m : Message) (rest : List ℕ) → MessageWide m → readMessage (messageBytes m ++ rest) ≡ got m rest
-unfolding readMessage messageBytes readKind messageOf optionalIdBytes optionalIdOf
+unfolding readMessage messageBytes readKind messageOf optionalIdBytes readOptionalId optionalIdOf
 read-message (Gossip id content d) rest w =
     ap (messageOf 0) (assoc₃ (idBytes id) (contentBytes content) (deliveryBytes d) rest)
     ∙ (rw (read-id id (contentBytes content ++ (deliveryBytes d ++ rest)) (w .0))

@@ -5,3 +5,5 @@ pub mod DecodeBack
 pub mod DecodeFaults
 pub mod GroupLaws
 pub mod PlaceLaws
+pub mod AnnouncementLaws
+pub mod EventLaws

@@ -38,6 +38,11 @@ unfoldable pub readIhaves : ℕ → List ℕ → Read (List Ihave)
 readIhaves zero bytes = got [] bytes
 readIhaves (suc n) bytes = readIhave bytes then λ h rest. readIhaves n rest then λ hs end. got (h ∷ hs) end
 
+-- the announcements that stand there
+unfoldable pub ihavesIn : Read (List Ihave) → List Ihave
+ihavesIn (got hs rest) = hs
+ihavesIn (fault n) = []
+
 -- a message of kind 0 to 3
 unfoldable pub messageOf : ℕ → List ℕ → Read Message
 messageOf zero bytes =
@@ -46,9 +51,8 @@ messageOf zero bytes =
     readDelivery more then λ d end. got (Gossip id content d) end
 messageOf (suc zero) bytes = got Prune bytes
 messageOf (suc (suc zero)) bytes =
-    readKind 2 bytes then λ k rest.
-    optionalIdOf k rest then λ wanted more.
-    readRound more then λ r end. got (Graft wanted r) end
+    readOptionalId bytes then λ wanted rest.
+    readRound rest then λ r end. got (Graft wanted r) end
 messageOf (suc (suc (suc k))) bytes =
     readNumber bytes then λ n rest.
     readIhaves n rest then λ hs end. got (IHave hs) end

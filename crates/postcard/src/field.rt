@@ -10,8 +10,8 @@ use rows::id::Id;
 ghost use lib.ListN.{drop};
 ghost use Rattle.postcard.specs.Number.{readId};
 ghost use Rattle.postcard.specs.Decode.{readContent, readDelivery, readOptionalId, readIhave};
-ghost use Rattle.postcard.specs.Place.{Reads};
-ghost use Rattle.postcard.specs.Readings.{idAt, contentAt, deliveryAt, wantedAt, ihaveAt};
+ghost use Rattle.postcard.specs.Place.{Reads, Announces};
+ghost use Rattle.postcard.specs.Readings.{idAt, contentAt, deliveryAt, wantedAt, ihaveAt, announcedAt};
 
 // What reading an identifier gives: the identifier and the place after it, or the question that is answered no.
 pub enum IdRead {
@@ -41,6 +41,13 @@ pub enum WantedRead {
 pub enum IhaveRead {
     Got { id: Id, round: Round, next: usize },
     Fault(u8),
+}
+
+// An announcement of an accepted IHave, and the place of the next one.
+pub struct Announced {
+    pub id: Id,
+    pub round: Round,
+    pub next: usize,
 }
 
 // "identifier 32 bytes".
@@ -145,5 +152,26 @@ pub fn read_ihave(bytes: &[u8], at: usize) -> IhaveRead
             }
         }
         IdRead::Fault(n) => IhaveRead::Fault(n),
+    }
+}
+
+// The announcement at `at`, where one stands: `decode_event` promises as many of them as it counted.
+pub fn next_ihave(event: &[u8], at: usize) -> Announced
+    requires { ⌜ Announces (now event) at ⌝ }
+    ensures { λ r. ⌜ Reads (now (event .entry)) (announcedAt r) (readIhave (drop at (now (event .entry)))) ⌝ }
+{
+    let found = read_ihave(event, at);
+    match found {
+        IhaveRead::Got { id, round, next } => Announced { id, round, next },
+        IhaveRead::Fault(_) => Announced {
+            id: Id {
+                w0: 0,
+                w1: 0,
+                w2: 0,
+                w3: 0,
+            },
+            round: Round(0),
+            next: at,
+        },
     }
 }

@@ -1,4 +1,5 @@
--- The decoder's faults are 7, 8 and 9.
+-- A fault of the decoder is 7, 8 or 9 (`decode-faults`).
+-- Assumes nothing.
 use Prim.Native.Nat.{ℕ, zero, suc, _+_, _*_, _-_}
 use mathlib.Core.Path.{_≡_, refl}
 use mathlib.Core.Bool.{Bool, true, false, not, _&&_}

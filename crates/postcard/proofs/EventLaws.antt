@@ -10,8 +10,9 @@ use lib.Seq.{drop-cons}
 use Rattle.postcard.specs.Number.{Read, got, fault}
 use Rattle.postcard.specs.Message.{Message, Event, messageBytes}
 use Rattle.postcard.specs.Decode.{readMessage, readEvent, Decoded, decoded, faulty, ended, decodeEvent}
+use Rattle.postcard.specs.Wide.{Bytes}
 use Rattle.postcard.specs.Place.{placed, refused, Reads}
-use Rattle.postcard.proofs.ReadBack.{Bytes, bytes-drop}
+use Rattle.postcard.proofs.FieldBack.{bytes-drop}
 use Rattle.postcard.proofs.DecodeBack.{message-back}
 
 -- a message that was read takes as many bytes as it is written with

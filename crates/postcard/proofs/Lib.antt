@@ -1,6 +1,6 @@
 pub mod NumberLaws
-pub mod DecodeLaws
-pub mod ReadBack
+pub mod DecodeWritten
+pub mod FieldBack
 pub mod DecodeBack
 pub mod DecodeFaults
 pub mod GroupLaws

@@ -4,3 +4,4 @@ pub mod Decode
 pub mod Values
 pub mod Place
 pub mod Readings
+pub mod Wide

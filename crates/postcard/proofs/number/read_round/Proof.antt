@@ -6,7 +6,7 @@ use native.Mathlib.Omega.{arith}
 use borrow.Author.Needs.{needs}
 use lib.ListN.{drop}
 use Rattle.postcard.specs.Number.{readRound}
-use Rattle.postcard.proofs.ReadBack.{bytes-each, bytes-drop, groups-bound}
+use Rattle.postcard.proofs.FieldBack.{bytes-each, bytes-drop, groups-bound}
 use Rattle.postcard.proofs.number.read_round.Statement.{statement}
 use Rattle.postcard.proofs.number.read_round.Tie as tie
 

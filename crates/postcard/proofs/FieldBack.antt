@@ -1,4 +1,5 @@
--- The way back of numbers and identifiers: what is read, written again, is what stood there (bytes below 256).
+-- What is read of numbers and identifiers, written again, is what stood there, and each number is in its width (`number-back`, `round-back`, `id-back`).
+-- Assumes nothing.
 use Prim.Native.Nat.{ℕ, zero, suc, _+_, _*_, _-_, _/_, _%_, _^_, _≤_, _<_}
 use mathlib.Core.Path.{_≡_, refl, sym, ap, _∙_}
 use mathlib.Core.Bool.{Bool, true, false, not, _&&_}
@@ -11,13 +12,10 @@ use lib.ListN.{length, take, drop, getD, take-append-drop}
 use lib.Seq.{length-take-le}
 use borrow.Author.Tests.{ltb-true, ltb-false, leb-true, eqb-false, lt-ltb, le-ltb}
 use Rattle.lists.specs.Base.{if_then_else_, all}
+use Rattle.postcard.specs.Wide.{Bytes}
 use Rattle.postcard.specs.Number.{Read, got, fault, _then_, groups, numberBytes, bigEndian, idBytes, fromBigEndian, readKind, readBytes, readId, lastGroup, readGroups, readRound, readNumber}
 use Rattle.lists.proofs.MapLaws.{cases, true≢, all-head, all-tail, all-cons}
 use Rattle.postcard.proofs.NumberLaws.{greatest, short-round}
-
--- each is a byte
-unfoldable pub Bytes : List ℕ → Type 0
-Bytes bs = all (λ b. ltb b 256) bs ≡ true
 
 pub bytes-head : (b : ℕ) (bs : List ℕ) → Bytes (b ∷ bs) → b < 256
 unfolding Bytes

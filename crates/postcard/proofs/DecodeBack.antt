@@ -1,5 +1,7 @@
--- The way back of the decoder: bytes that are read as an event are that event's bytes, and its numbers are in their width. So only one spelling is
--- read, and the size of a message as read is `length (messageBytes m)` (question 10).
+-- What is read is the only spelling: bytes that are read as an event are that event's bytes (`decode-back`), its numbers are in their width
+-- (`decode-wide`), no two byte strings are read as one event (`decode-once`), and a received message has as many bytes as follow kind and peer
+-- (`message-size`, question 10).
+-- Assumes nothing.
 use Prim.Native.Nat.{ℕ, zero, suc, _+_, _^_, _≤_, _<_}
 use mathlib.Core.Path.{_≡_, refl, sym, ap, _∙_}
 use mathlib.Core.Bool.{Bool, true, false}
@@ -10,10 +12,10 @@ use lib.ListN.{length, length-append}
 use Rattle.lists.specs.Base.{concatMap}
 use Rattle.postcard.specs.Number.{Read, got, fault, _then_, numberBytes, idBytes, readKind, readBytes, readId, readRound, readNumber}
 use Rattle.postcard.specs.Message.{Delivery, Swarm, Neighbors, Scope, toSwarm, toNeighbors, Ihave, Message, Gossip, Prune, Graft, IHave, Timer, SendGraft, DispatchLazyPush, EvictCache, AnnounceDropped, Event, Received, Broadcast, Fired, Up, Down, contentBytes, deliveryBytes, scopeByte, ihaveBytes, optionalIdBytes, messageBytes, timerBytes, eventBytes}
-use Rattle.postcard.specs.Decode.{readContent, deliveryOf, readDelivery, scopeOf, optionalIdOf, readIhave, readIhaves, messageOf, readMessage, timerOf, readTimer, eventOf, readEvent, Decoded, decoded, faulty, ended, decodeEvent}
+use Rattle.postcard.specs.Decode.{readContent, deliveryOf, readDelivery, scopeOf, optionalIdOf, readOptionalId, readIhave, readIhaves, messageOf, readMessage, timerOf, readTimer, eventOf, readEvent, Decoded, decoded, faulty, ended, decodeEvent}
+use Rattle.postcard.specs.Wide.{DeliveryWide, IhavesWide, OptionalWide, MessageWide, TimerWide, EventWide, Bytes}
 use Rattle.lists.proofs.MapLaws.{true≢}
-use Rattle.postcard.proofs.DecodeLaws.{DeliveryWide, IhavesWide, OptionalWide, MessageWide, TimerWide, EventWide}
-use Rattle.postcard.proofs.ReadBack.{Bytes, Back, Joined, joined, not-got, got-value, got-rest, bytes-back, id-back, number-back, round-back, kind-back}
+use Rattle.postcard.proofs.FieldBack.{Back, Joined, joined, not-got, got-value, got-rest, bytes-back, id-back, number-back, round-back, kind-back}
 
 -- one after the other
 pair : {U W : Type 0} {u v bs mid rest : List ℕ} → Back U u bs mid → Back W v mid rest → Back (U × W) (u ++ v) bs rest
@@ -38,9 +40,6 @@ from-kind a b = record { width = b .width; same = a .same ∙ b .same; left = b 
 -- the value as it is returned
 done : {A : Type 0} (W : A → Type 0) (enc : A → List ℕ) {a c : A} {bs mid rest : List ℕ} → got a mid ≡ got c rest → Back (W a) (enc a) bs mid → Back (W c) (enc c) bs rest
 done W enc e b = rw (← (got-value e), ← (got-rest e)) b
-
-ContentWide : List ℕ → Type 0
-ContentWide c = length c < 2 ^ 64
 
 content-back : (bs content rest : List ℕ) → Bytes bs → readContent bs ≡ got content rest → Back (length content < 2 ^ 64) (contentBytes content) bs rest
 unfolding readContent contentBytes
@@ -76,6 +75,13 @@ optional-of (suc zero) bs o rest l y h =
     let j = joined (readId bs) (λ id end. got (some id) end) o rest h in
     done OptionalWide optionalIdBytes (j .after) (before 1 (id-back bs (j .value) (j .middle) y (j .before)))
 optional-of (suc (suc k)) bs o rest l y h = absurd (omega arith)
+
+optional-back : (bs : List ℕ) (o : Option ℕ) (rest : List ℕ) → Bytes bs → readOptionalId bs ≡ got o rest → Back (OptionalWide o) (optionalIdBytes o) bs rest
+unfolding readOptionalId
+optional-back bs o rest y h =
+    let j = joined (readKind 2 bs) (λ k end. optionalIdOf k end) o rest h in
+    let k = kind-back 2 bs (j .value) (j .middle) y (j .before) in
+    from-kind k (optional-of (j .value) (j .middle) o rest (k .width) (k .left) (j .after))
 
 IhaveWide : Ihave → Type 0
 IhaveWide h = (h .id < 2 ^ 256) × (h .round < 2 ^ 16)
@@ -117,10 +123,8 @@ message-of zero bs m rest l y h =
     done MessageWide messageBytes (f .after) (before 0 (widened (λ w. (w .0 .0, w .0 .1, w .1)) (pair (pair a b) c)))
 message-of (suc zero) bs m rest l y h = done MessageWide messageBytes h (before 1 (nothing refl y))
 message-of (suc (suc zero)) bs m rest l y h =
-    let j = joined (readKind 2 bs) (λ k r₁. optionalIdOf k r₁ then λ wanted r₂. readRound r₂ then λ r end. got (Graft wanted r) end) m rest h in
-    let a = kind-back 2 bs (j .value) (j .middle) y (j .before) in
-    let g = joined (optionalIdOf (j .value) (j .middle)) (λ wanted r₂. readRound r₂ then λ r end. got (Graft wanted r) end) m rest (j .after) in
-    let b = from-kind a (optional-of (j .value) (j .middle) (g .value) (g .middle) (a .width) (a .left) (g .before)) in
+    let g = joined (readOptionalId bs) (λ wanted r₁. readRound r₁ then λ r end. got (Graft wanted r) end) m rest h in
+    let b = optional-back bs (g .value) (g .middle) y (g .before) in
     let f = joined (readRound (g .middle)) (λ r end. got (Graft (g .value) r) end) m rest (g .after) in
     let c = round-back (g .middle) (f .value) (f .middle) (b .left) (f .before) in
     done MessageWide messageBytes (f .after) (before 2 (pair b c))
@@ -212,7 +216,7 @@ decode-back bs e y h = decoded-back bs e y h .same ∙ append-nil (eventBytes e)
 pub decode-wide : (bs : List ℕ) (e : Event) → Bytes bs → decodeEvent bs ≡ decoded e → EventWide e
 decode-wide bs e y h = decoded-back bs e y h .width
 
--- only one spelling is read
+-- no two byte strings are read as one event
 pub decode-once : (bs cs : List ℕ) (e : Event) → Bytes bs → Bytes cs → decodeEvent bs ≡ decoded e → decodeEvent cs ≡ decoded e → bs ≡ cs
 decode-once bs cs e y z h k = decode-back bs e y h ∙ sym (decode-back cs e z k)
 

@@ -1,4 +1,5 @@
--- The decoder's faults are 7, 8 and 9.
+-- A fault of the decoder is 7, 8 or 9 (`decode-faults`).
+-- Assumes nothing.
 use Prim.Native.Nat.{ℕ, zero, suc, _+_, _*_, _-_}
 use mathlib.Core.Path.{_≡_, refl}
 use mathlib.Core.Bool.{Bool, true, false, not, _&&_}
@@ -9,7 +10,7 @@ use lib.ListN.{length}
 use Rattle.lists.specs.Base.{if_then_else_}
 use Rattle.postcard.specs.Number.{Read, got, fault, _then_, fromBigEndian, readKind, readBytes, readId, lastGroup, readGroups, readRound, readNumber}
 use Rattle.postcard.specs.Message.{Delivery, Ihave, Message, Timer, Event}
-use Rattle.postcard.specs.Decode.{readContent, deliveryOf, readDelivery, optionalIdOf, readIhave, readIhaves, messageOf, readMessage, timerOf, readTimer, eventOf, readEvent, Decoded, decoded, faulty, ended, decodeEvent}
+use Rattle.postcard.specs.Decode.{readContent, deliveryOf, readDelivery, optionalIdOf, readOptionalId, readIhave, readIhaves, messageOf, readMessage, timerOf, readTimer, eventOf, readEvent, Decoded, decoded, faulty, ended, decodeEvent}
 use Rattle.lists.proofs.MapLaws.{cases}
 
 -- a fault is 7, 8 or 9
@@ -74,6 +75,10 @@ unfolding optionalIdOf
 fine-optional zero bs = refl
 fine-optional (suc k) bs = fine-then (readId bs) _ (fine-id bs) (λ id end. refl)
 
+fine-optionalId : (bs : List ℕ) → fine (readOptionalId bs) ≡ true
+unfolding readOptionalId
+fine-optionalId bs = fine-then (readKind 2 bs) _ (fine-kind 2 bs) fine-optional
+
 fine-ihave : (bs : List ℕ) → fine (readIhave bs) ≡ true
 unfolding readIhave
 fine-ihave bs = fine-then (readId bs) _ (fine-id bs) (λ id rest. fine-then (readRound rest) _ (fine-round rest) (λ r end. refl))
@@ -89,7 +94,7 @@ fine-messageOf zero bs =
     fine-then (readId bs) _ (fine-id bs) (λ id r₁. fine-then (readContent r₁) _ (fine-content r₁) (λ c r₂. fine-then (readDelivery r₂) _ (fine-delivery r₂) (λ d end. refl)))
 fine-messageOf (suc zero) bs = refl
 fine-messageOf (suc (suc zero)) bs =
-    fine-then (readKind 2 bs) _ (fine-kind 2 bs) (λ k r₁. fine-then (optionalIdOf k r₁) _ (fine-optional k r₁) (λ w r₂. fine-then (readRound r₂) _ (fine-round r₂) (λ r end. refl)))
+    fine-then (readOptionalId bs) _ (fine-optionalId bs) (λ w r₁. fine-then (readRound r₁) _ (fine-round r₁) (λ r end. refl))
 fine-messageOf (suc (suc (suc k))) bs = fine-then (readNumber bs) _ (fine-number bs) (λ n r₁. fine-then (readIhaves n r₁) _ (fine-ihaves n r₁) (λ hs end. refl))
 
 fine-message : (bs : List ℕ) → fine (readMessage bs) ≡ true

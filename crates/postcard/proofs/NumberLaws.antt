@@ -1,4 +1,5 @@
--- What is written is read back: numbers of 64 bits and rounds of 16.
+-- What is written is read back: numbers of 64 bits (`read-number`) and rounds of 16 (`read-round`), by one law over the groups (`read-groups`).
+-- Assumes nothing.
 use Prim.Native.Nat.{ℕ, zero, suc, _+_, _*_, _-_, _/_, _%_, _^_, _≤_, _<_}
 use mathlib.Core.Path.{_≡_, refl, sym, ap, _∙_}
 use mathlib.Core.Bool.{Bool, true, false, not, _&&_}

@@ -5,3 +5,6 @@ pub mod Values
 pub mod Output
 pub mod Contents
 pub mod Sizes
+pub mod Place
+pub mod Readings
+pub mod Wide

@@ -1,4 +1,6 @@
--- What is written is read back: `decodeEvent (eventBytes e) ≡ decoded e` for every event whose numbers are in their width.
+-- What is written is read back: the bytes of an event whose numbers are in their width are read as that event (`decode-written`), and so are those of a
+-- message before other bytes (`read-message`).
+-- Assumes nothing.
 use Prim.Native.Nat.{ℕ, zero, suc, _+_, _*_, _/_, _%_, _^_, _≤_, _<_}
 use mathlib.Core.Path.{_≡_, refl, sym, ap, _∙_}
 use mathlib.Core.Bool.{Bool, true, false}
@@ -14,7 +16,8 @@ use borrow.Author.Tests.{le-leb}
 use Rattle.lists.specs.Base.{if_then_else_, concatMap}
 use Rattle.postcard.specs.Number.{Read, got, fault, _then_, numberBytes, bigEndian, idBytes, fromBigEndian, readKind, readBytes, readId, readRound, readNumber}
 use Rattle.postcard.specs.Message.{Delivery, Swarm, Neighbors, Scope, toSwarm, toNeighbors, Ihave, Message, Gossip, Prune, Graft, IHave, Timer, SendGraft, DispatchLazyPush, EvictCache, AnnounceDropped, Event, Received, Broadcast, Fired, Up, Down, contentBytes, deliveryBytes, scopeByte, ihaveBytes, optionalIdBytes, messageBytes, timerBytes, eventBytes}
-use Rattle.postcard.specs.Decode.{readContent, deliveryOf, readDelivery, scopeOf, optionalIdOf, readIhave, readIhaves, messageOf, readMessage, timerOf, readTimer, eventOf, readEvent, Decoded, decoded, faulty, ended, decodeEvent}
+use Rattle.postcard.specs.Decode.{readContent, deliveryOf, readDelivery, scopeOf, optionalIdOf, readOptionalId, readIhave, readIhaves, messageOf, readMessage, timerOf, readTimer, eventOf, readEvent, Decoded, decoded, faulty, ended, decodeEvent}
+use Rattle.postcard.specs.Wide.{DeliveryWide, IhavesWide, OptionalWide, MessageWide, TimerWide, EventWide}
 use Rattle.postcard.proofs.NumberLaws.{read-number, read-round}
 
 -- identifiers
@@ -52,38 +55,6 @@ unfolding readContent contentBytes
 read-content content rest h =
     rw append-assoc (rw (read-number (length content) (content ++ rest) h) (read-bytes content rest (length content) refl))
 
--- each number in its width
-abbrev pub DeliveryWide : Delivery → Type 0
-DeliveryWide (Swarm r) = r < 2 ^ 16
-DeliveryWide Neighbors = Unit {0}
-
-abbrev pub IhavesWide : List Ihave → Type 0
-IhavesWide [] = Unit {0}
-IhavesWide (h ∷ hs) = (h .id < 2 ^ 256) × (h .round < 2 ^ 16) × IhavesWide hs
-
-abbrev pub OptionalWide : Option ℕ → Type 0
-OptionalWide none = Unit {0}
-OptionalWide (some id) = id < 2 ^ 256
-
-abbrev pub MessageWide : Message → Type 0
-MessageWide (Gossip id content d) = (id < 2 ^ 256) × (length content < 2 ^ 64) × DeliveryWide d
-MessageWide Prune = Unit {0}
-MessageWide (Graft wanted r) = OptionalWide wanted × (r < 2 ^ 16)
-MessageWide (IHave hs) = (length hs < 2 ^ 64) × IhavesWide hs
-
-abbrev pub TimerWide : Timer → Type 0
-TimerWide (SendGraft id) = id < 2 ^ 256
-TimerWide DispatchLazyPush = Unit {0}
-TimerWide EvictCache = Unit {0}
-TimerWide AnnounceDropped = Unit {0}
-
-abbrev pub EventWide : Event → Type 0
-EventWide (Received p m) = (p < 2 ^ 64) × MessageWide m
-EventWide (Broadcast content s) = length content < 2 ^ 64
-EventWide (Fired t) = TimerWide t
-EventWide (Up p) = p < 2 ^ 64
-EventWide (Down p) = p < 2 ^ 64
-
 read-delivery : (d : Delivery) (rest : List ℕ) → DeliveryWide d → readDelivery (deliveryBytes d ++ rest) ≡ got d rest
 unfolding readDelivery deliveryBytes readKind deliveryOf
 read-delivery (Swarm r) rest h = rw (read-round r rest h) refl
@@ -100,7 +71,7 @@ assoc₃ : (a b d rest : List ℕ) → ((a ++ b) ++ d) ++ rest ≡ a ++ (b ++ (d
 assoc₃ a b d rest = simp append-assoc
 
 pub read-message : (m : Message) (rest : List ℕ) → MessageWide m → readMessage (messageBytes m ++ rest) ≡ got m rest
-unfolding readMessage messageBytes readKind messageOf optionalIdBytes optionalIdOf
+unfolding readMessage messageBytes readKind messageOf optionalIdBytes readOptionalId optionalIdOf
 read-message (Gossip id content d) rest w =
     ap (messageOf 0) (assoc₃ (idBytes id) (contentBytes content) (deliveryBytes d) rest)
     ∙ (rw (read-id id (contentBytes content ++ (deliveryBytes d ++ rest)) (w .0))
@@ -131,7 +102,7 @@ read-event (Fired t) rest w = rw (read-timer t rest w) refl
 read-event (Up p) rest w = rw (read-number p rest w) refl
 read-event (Down p) rest w = rw (read-number p rest w) refl
 
--- what is written is read back
+-- an event's bytes are read as that event
 pub decode-written : (e : Event) → EventWide e → decodeEvent (eventBytes e) ≡ decoded e
 unfolding decodeEvent ended
 decode-written e w = ap ended (ap readEvent (sym (append-nil (eventBytes e))) ∙ read-event e [] w)

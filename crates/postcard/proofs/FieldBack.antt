@@ -1,4 +1,5 @@
--- The way back of numbers and identifiers: what is read, written again, is what stood there (bytes below 256).
+-- What is read of numbers and identifiers, written again, is what stood there, and each number is in its width (`number-back`, `round-back`, `id-back`).
+-- Assumes nothing.
 use Prim.Native.Nat.{ℕ, zero, suc, _+_, _*_, _-_, _/_, _%_, _^_, _≤_, _<_}
 use mathlib.Core.Path.{_≡_, refl, sym, ap, _∙_}
 use mathlib.Core.Bool.{Bool, true, false, not, _&&_}
@@ -7,17 +8,14 @@ use native.Mathlib.Omega.{arith}
 use native.Mathlib.Nat.{pow-succ', add-mul, mul-assoc, add-assoc, zero-mul, zero-add}
 use lib.Arith.{digits-lt, digits-div, digits-mod}
 use lib.Dec.{leb, ltb, eqb}
-use lib.ListN.{length, take, drop, take-append-drop}
+use lib.ListN.{length, take, drop, getD, take-append-drop}
 use lib.Seq.{length-take-le}
 use borrow.Author.Tests.{ltb-true, ltb-false, leb-true, eqb-false, lt-ltb, le-ltb}
 use Rattle.lists.specs.Base.{if_then_else_, all}
+use Rattle.postcard.specs.Wide.{Bytes}
 use Rattle.postcard.specs.Number.{Read, got, fault, _then_, groups, numberBytes, bigEndian, idBytes, fromBigEndian, readKind, readBytes, readId, lastGroup, readGroups, readRound, readNumber}
 use Rattle.lists.proofs.MapLaws.{cases, true≢, all-head, all-tail, all-cons}
 use Rattle.postcard.proofs.NumberLaws.{greatest, short-round}
-
--- each is a byte
-unfoldable pub Bytes : List ℕ → Type 0
-Bytes bs = all (λ b. ltb b 256) bs ≡ true
 
 pub bytes-head : (b : ℕ) (bs : List ℕ) → Bytes (b ∷ bs) → b < 256
 unfolding Bytes
@@ -38,6 +36,12 @@ bytes-take zero bs h = refl
 bytes-take (suc n) [] h = refl
 bytes-take (suc n) (b ∷ bs) h =
     all-cons (λ x. ltb x 256) b (take n bs) (all-head (λ x. ltb x 256) b bs h) (bytes-take n bs (all-tail (λ x. ltb x 256) b bs h))
+
+-- the elements of a slice of bytes are bytes
+pub bytes-each : (bs : List ℕ) → ((i : ℕ) → getD bs i 0 < 256) → Bytes bs
+unfolding Bytes all
+bytes-each [] h = refl
+bytes-each (b ∷ bs) h = all-cons (λ x. ltb x 256) b bs (lt-ltb b 256 (h 0)) (bytes-each bs (λ i. h (suc i)))
 
 -- what was read of `bs`: in its width, written before `rest`
 pub record Back (wide : Type 0) (written bs rest : List ℕ) : Type 0 where
@@ -213,6 +217,10 @@ round-back bs n rest y h =
     let g = groups-back true 2 3 n bs rest y h in
     let w : n < 2 ^ 16 = omega (arith, g .bound) in
     record { width = w; same = rw (short-round n w) (g .same); left = g .left }
+
+-- the number is no greater than the groups allow
+pub groups-bound : (more top n : ℕ) (bs rest : List ℕ) → Bytes bs → readGroups true more top bs ≡ got n rest → n ≤ greatest more top
+groups-bound more top n bs rest y h = groups-back true more top n bs rest y h .bound
 
 pub kind-back : (kinds : ℕ) (bs : List ℕ) (k : ℕ) (rest : List ℕ) → Bytes bs → readKind kinds bs ≡ got k rest → Back (k < kinds) (k ∷ []) bs rest
 unfolding readKind

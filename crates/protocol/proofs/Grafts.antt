@@ -15,8 +15,8 @@ use Rattle.postcard.specs.Message.{Ihave, Graft, SendGraft, Action, Sent, Sched
 use Rattle.protocol.specs.State.{State, Hop, Grafts}
 use Rattle.protocol.specs.Run.{Run, withState, act, send}
 use Rattle.protocol.specs.Push.{scheduleDispatch, lazyPush}
-use Rattle.protocol.specs.Gossips.{markReceived, cacheAt, hopsOf, announcers, peersOf, graftedFor, withFirst, setFirst, forgetMissing, linksOf, withKept, keep}
-use Rattle.protocol.specs.Control.{addAnnouncer, announce, scheduleGraft, onAnnounced, onIHave, withGraft, noteGraft, leave, askFirst, unmark, onSendGraftTimer}
+use Rattle.protocol.specs.Gossips.{markReceived, cacheAt, hopsOf, announcers, peersOf, graftedFor, withFirst, setFirst, forgetMissing, updateLinks, withKept, setKept}
+use Rattle.protocol.specs.Control.{addAnnouncer, announce, scheduleGraft, onAnnounced, onIHave, withGraft, noteGraft, leaveAnnouncers, askFirst, unmark, onSendGraftTimer}
 use Rattle.protocol.specs.Ticks.{moveOldest, stillCached, dispatchIfQueued, onAnnounceDroppedTimer, clearDispatch, onDispatchTimer, evict, onEvictCacheTimer}
 use Rattle.protocol.specs.Neighbours.{withoutAnnouncer, forgetAnnouncer, withoutGraft, forgetGrafted, forgetPeer}
 use Rattle.protocol.specs.Demand3.{lists, isGraftFor, either, sends}
@@ -127,8 +127,8 @@ unfolding withKept
 missing-kept id p none s = refl
 missing-kept id p (some g) s = refl
 
-shrinks-keep : (id p : ℕ) (r : Run) → Shrinks r (keep id p r)
-unfolding keep announcers
+shrinks-keep : (id p : ℕ) (r : Run) → Shrinks r (setKept id p r)
+unfolding setKept announcers
 shrinks-keep id q r = record {
   sorted = λ o. rw missing-kept o;
   announcing = λ p j h. rw missing-kept at h;
@@ -180,7 +180,7 @@ unfolding send
 shrinks-sending = record { stays = shrinks-refl; follows = shrinks-trans; sends = λ p m r. same refl refl; notes = λ p hs r. apart-shrinks (apart-noteDropped p hs r) }
 
 pub shrinks-steps : Steps Shrinks
-unfolding linksOf markReceived unmark act
+unfolding updateLinks markReceived unmark act
 shrinks-steps = record {
   sending = shrinks-sending;
   schedules = λ d t r. same refl refl;
@@ -345,7 +345,7 @@ pub record Asks (r r′ : Run) : Type 0 where
       (has p (graftedFor id (r .state)) ≡ true) ⊎ ((any (hopOf p) (announcers id (r .state)) ≡ true) × (any (sends p (isGraftFor id) either) (r′ .actions) ≡ true))
 
 asks-first : (now id : ℕ) (hs : List Hop) (r : Run) → announcers id (r .state) ≡ hs → Asks r (askFirst now id hs r)
-unfolding askFirst leave linksOf noteGraft send act announcers graftedFor sends isGraftFor
+unfolding askFirst leaveAnnouncers updateLinks noteGraft send act announcers graftedFor sends isGraftFor
 asks-first now id [] r e = record { sorted = λ o. o; announcing = λ p j x. x; grafting = λ p j x. inl x }
 asks-first now id (h ∷ hs) r e = record {
   sorted = λ o. sorted-leave id hs (r .state .missing) o;

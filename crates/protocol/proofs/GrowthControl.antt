@@ -11,13 +11,13 @@ use borrow.Author.Tests.{leb-true, leb-false, le-leb, lt-leb, eqb-true, eqb-fals
 use Rattle.lists.specs.Base.{if_then_else_, isEmpty, isSome, all, any, filter, count, member, once, ascending}
 use Rattle.lists.specs.Map.{Map, Entry, entry, keys, lookup, insert, remove, has, insertKey, removeKey}
 use Rattle.time_cache.specs.TimeCache.{Timed, Expiry, Cache, valueOf, get, holds, addExpiry, put, withValue, replace}
-use Rattle.protocol.specs.Links.{Mark, Links, isNeighbour, markIfThere, makeEager, makeLazy, eager, lazy}
+use Rattle.protocol.specs.Links.{Mark, Links, isNeighbour, markIfThere, addEager, addLazy, eager, lazy}
 use Rattle.postcard.specs.Message.{Delivery, Swarm, Neighbors, Ihave, Message, Gossip, Graft, Timer, SendGraft, Action, Sent, Scheduled}
 use Rattle.protocol.specs.State.{State, Note, Hop, Grafts, Cached, withLinks}
 use Rattle.protocol.specs.Run.{Run, Room, hasRoom, useRoom, act, send, takes, withState}
 use Rattle.protocol.specs.Push.{forPeer, notes, noteDropped, sendEach, handedBack, noteForEach, noteAfter, pushTo}
-use Rattle.protocol.specs.Gossips.{hopsOf, announcers, linksOf}
-use Rattle.protocol.specs.Control.{addAnnouncer, announce, scheduleGraft, onAnnounced, onIHave, onPrune, replyWith, reply, onGraft, lower, withGraft, noteGraft, leave, askFirst, unmark, onSendGraftTimer}
+use Rattle.protocol.specs.Gossips.{hopsOf, announcers, updateLinks}
+use Rattle.protocol.specs.Control.{addAnnouncer, announce, scheduleGraft, onAnnounced, onIHave, onPrune, replyWith, reply, onGraft, lower, withGraft, noteGraft, leaveAnnouncers, askFirst, unmark, onSendGraftTimer}
 use Rattle.protocol.specs.Whole.{contentHeld}
 use Rattle.protocol.specs.Growth.{Sizes, sizesOf, sizedMissing, sizedTimers, sizedRecorded, sizedGrafted, sizedGraftedExpiry, kthTaken, firstSend, grown, shrunk, Batch, eligible, peerGain, gains, backPeers, batchesFor, noteAction, pushActions, pushGain, pushGains, replySizes, replyActions, graftSizes, graftActions, unmarkedSizes, askSizes, askActions, sendGraftSizes, sendGraftActions, newIds, knownMissing, knownTimer, ihaveSizes, ihaveActions}
 use Rattle.lists.proofs.MapLaws.{cases, true≢, and-left, and-right, and-intro, all-head, all-tail, all-cons, ascending-insert, ascending-remove}
@@ -35,12 +35,12 @@ pub length-mark : (p : ℕ) (m : Mark) (l : Links) → ascending (keys l) ≡ tr
 unfolding markIfThere
 length-mark p m l h = cases (isNeighbour p l) (λ n. rw n (length-insert p m l h ∙ unfold grown in (rw n refl))) (λ n. rw n refl)
 
-pub eager-sizes : (p : ℕ) (r : Run) → ascending (keys (r .state .links)) ≡ true → sizesOf (linksOf (makeEager p) r .state) ≡ sizesOf (r .state)
-unfolding linksOf makeEager sizesOf contentHeld
+pub eager-sizes : (p : ℕ) (r : Run) → ascending (keys (r .state .links)) ≡ true → sizesOf (updateLinks (addEager p) r .state) ≡ sizesOf (r .state)
+unfolding updateLinks addEager sizesOf contentHeld
 eager-sizes p r h = rw (length-mark p eager (r .state .links) h) refl
 
-pub lazy-sizes : (p : ℕ) (r : Run) → ascending (keys (r .state .links)) ≡ true → sizesOf (linksOf (makeLazy p) r .state) ≡ sizesOf (r .state)
-unfolding linksOf makeLazy sizesOf contentHeld
+pub lazy-sizes : (p : ℕ) (r : Run) → ascending (keys (r .state .links)) ≡ true → sizesOf (updateLinks (addLazy p) r .state) ≡ sizesOf (r .state)
+unfolding updateLinks addLazy sizesOf contentHeld
 lazy-sizes p r h = rw (length-mark p lazy (r .state .links) h) refl
 
 pub prune-sizes : (p : ℕ) (r : Run) → ascending (keys (r .state .links)) ≡ true → sizesOf (onPrune p r .state) ≡ sizesOf (r .state)
@@ -48,7 +48,7 @@ unfolding onPrune
 prune-sizes p r h = lazy-sizes p r h
 
 pub prune-actions : (p : ℕ) (r : Run) → onPrune p r .actions ≡ r .actions
-unfolding onPrune linksOf
+unfolding onPrune updateLinks
 prune-actions p r = refl
 
 -- one cached identifier for each of the peers
@@ -124,8 +124,8 @@ reply-actions sender id (some c) r e n =
     ap (λ (x : Run). x .actions) (reply-is sender id c r)
     ∙ swarm-actions (sender ∷ []) id (c .content) r (one-near sender (r .state .links) n) (one-once sender) (c .round) (holds-get id c (r .state .cache) e)
 
-near-eager : (p : ℕ) (r : Run) → isNeighbour p (r .state .links) ≡ true → isNeighbour p (linksOf (makeEager p) r .state .links) ≡ true
-unfolding linksOf makeEager
+near-eager : (p : ℕ) (r : Run) → isNeighbour p (r .state .links) ≡ true → isNeighbour p (updateLinks (addEager p) r .state .links) ≡ true
+unfolding updateLinks addEager
 near-eager p r n = wider-mark p eager (r .state .links) p n
 
 replied-sizes : (rooms : List Room) (sender id : ℕ) (o : Option Cached) (s t : State) → sizesOf s ≡ sizesOf t → s .dropped ≡ t .dropped → replySizes rooms sender id o s ≡ replySizes rooms sender id o t
@@ -136,22 +136,22 @@ replied-sizes rooms sender id (some c) s t e d = ap (λ (z : Sizes). sizedRecord
 
 pub graft-sizes : (sender : ℕ) (wanted : Option ℕ) (r : Run) → CoreOf (r .state) → isNeighbour sender (r .state .links) ≡ true →
     sizesOf (onGraft sender wanted r .state) ≡ graftSizes (r .rooms) sender wanted (r .state)
-unfolding onGraft reply graftSizes linksOf replySizes
+unfolding onGraft reply graftSizes updateLinks replySizes
 graft-sizes sender none r c n = eager-sizes sender r (c .linksUp)
 graft-sizes sender (some id) r c n =
-    reply-sizes sender id _ (linksOf (makeEager sender) r) refl (near-eager sender r n)
-    ∙ replied-sizes (r .rooms) sender id (get id (r .state .cache)) (linksOf (makeEager sender) r .state) (r .state) (eager-sizes sender r (c .linksUp)) (unfold linksOf in refl)
+    reply-sizes sender id _ (updateLinks (addEager sender) r) refl (near-eager sender r n)
+    ∙ replied-sizes (r .rooms) sender id (get id (r .state .cache)) (updateLinks (addEager sender) r .state) (r .state) (eager-sizes sender r (c .linksUp)) (unfold updateLinks in refl)
 
 pub graft-actions : (sender : ℕ) (wanted : Option ℕ) (r : Run) → isNeighbour sender (r .state .links) ≡ true →
     onGraft sender wanted r .actions ≡ r .actions ++ graftActions (r .rooms) sender wanted (r .state)
-unfolding onGraft reply graftActions linksOf
-graft-actions sender none r n = unfold linksOf in (sym (append-nil (r .actions)))
+unfolding onGraft reply graftActions updateLinks
+graft-actions sender none r n = unfold updateLinks in (sym (append-nil (r .actions)))
 graft-actions sender (some id) r n =
-    reply-actions sender id _ (linksOf (makeEager sender) r) refl (near-eager sender r n) ∙ same (get id (r .state .cache))
+    reply-actions sender id _ (updateLinks (addEager sender) r) refl (near-eager sender r n) ∙ same (get id (r .state .cache))
   where
-    same : (o : Option Cached) → linksOf (makeEager sender) r .actions ++ replyActions (r .rooms) sender id o (linksOf (makeEager sender) r .state) ≡ r .actions ++ replyActions (r .rooms) sender id o (r .state)
-    same none = unfold linksOf in (unfold replyActions in refl)
-    same (some c) = unfold linksOf in (unfold replyActions in refl)
+    same : (o : Option Cached) → updateLinks (addEager sender) r .actions ++ replyActions (r .rooms) sender id o (updateLinks (addEager sender) r .state) ≡ r .actions ++ replyActions (r .rooms) sender id o (r .state)
+    same none = unfold updateLinks in (unfold replyActions in refl)
+    same (some c) = unfold updateLinks in (unfold replyActions in refl)
 
 -- SendGraft
 
@@ -215,7 +215,7 @@ ask-sizes : (now id : ℕ) (h : Hop) (hs : List Hop) (r : Run) → CoreOf (r .st
     sizedMissing (if isEmpty hs then length (r .state .missing) - 1 else length (r .state .missing))
     (sizedGrafted (grown (holds id (r .state .grafted)) (length (r .state .grafted .entries)))
     (sizedGraftedExpiry (grown (holds id (r .state .grafted)) (length (r .state .grafted .expiry))) (sizesOf (r .state))))
-unfolding askFirst leave linksOf noteGraft send act makeEager sizesOf contentHeld announcers
+unfolding askFirst leaveAnnouncers updateLinks noteGraft send act addEager sizesOf contentHeld announcers
 ask-sizes now id h hs r c e =
     rw (
       length-mark (h .peer) eager (r .state .links) (c .linksUp),
@@ -244,7 +244,7 @@ sendGraft-sizes now id r x =
     ∙ if-both (holds id (r .state .received)) (unmark-sizes id r (x .core .timersUp)) (asked-sizes now id (announcers id (r .state)) r x refl)
 
 asked-actions : (now id : ℕ) (hs : List Hop) (r : Run) → askFirst now id hs (unmark id r) .actions ≡ r .actions ++ askActions (r .rooms) id hs (r .state)
-unfolding askActions askFirst leave linksOf noteGraft send act unmark firstSend
+unfolding askActions askFirst leaveAnnouncers updateLinks noteGraft send act unmark firstSend
 asked-actions now id [] r = sym (append-nil (r .actions))
 asked-actions now id (h ∷ hs) r = append-assoc (r .actions) (_ ∷ []) (_ ∷ []) ∙ rw (has-first (h .peer) (r .rooms)) refl
 

@@ -11,12 +11,12 @@ use borrow.Author.Tests.{eqb-true, eq-eqb, ne-eqb}
 use Rattle.lists.specs.Base.{if_then_else_, isEmpty, isSome, all, filter, member, once, ascending}
 use Rattle.lists.specs.Map.{Map, Entry, entry, keys, lookup, insert, remove, has, removeKey}
 use Rattle.time_cache.specs.TimeCache.{Timed, Cache, valueOf, get, holds, put, withValue, replace}
-use Rattle.protocol.specs.Links.{Mark, Links, isNeighbour, isEager, marked, eagerIn, peersMarked, eagerPeers, lazyPeers, makeEager, makeLazy, eager, lazy}
+use Rattle.protocol.specs.Links.{Mark, Links, isNeighbour, isEager, marked, eagerIn, peersMarked, eagerPeers, lazyPeers, addEager, addLazy, eager, lazy}
 use Rattle.postcard.specs.Message.{Delivery, Swarm, Neighbors, Message, Gossip, Prune, Graft, Action, Sent, Emitted}
 use Rattle.protocol.specs.State.{State, Note, Hop, Grafts, Cached, withGrafted, withQueue, withDispatchScheduled}
 use Rattle.protocol.specs.Run.{Run, Room, hasRoom, useRoom, act, send, withState}
 use Rattle.protocol.specs.Push.{eagerTargets, pushTo, eagerPush, lazyPush}
-use Rattle.protocol.specs.Gossips.{markReceived, cacheAt, announcers, peersOf, graftedFor, withFirst, setFirst, graftOut, forgetMissing, raiseHops, leastFrom, farCloser, linksOf, graftUnlessEager, pruneBack, optimizeTree, forgetAndOptimise, pushOn, takeIn, Late, duplicate, repeated, faster, withKept, keep, onDuplicate, onNew}
+use Rattle.protocol.specs.Gossips.{markReceived, cacheAt, announcers, peersOf, graftedFor, withFirst, setFirst, graftOut, forgetMissing, raiseHops, leastFrom, farCloser, updateLinks, graftUnlessEager, pruneBack, optimizeTree, forgetAndOptimise, pushOn, takeIn, Late, duplicate, repeated, faster, withKept, setKept, onDuplicate, onNew}
 use Rattle.protocol.specs.Whole.{contentHeld}
 use Rattle.protocol.specs.Growth.{Sizes, sizesOf, sizedMissing, sizedTimers, sizedRecorded, sizedQueued, sizedReceived, sizedReceivedExpiry, sizedCached, sizedCachedExpiry, sizedContent, contentOf, kthTaken, firstSend, grown, shrunk, dispatchAction, backPeers, pushActions, pushGains, takenSizes, lateActions, optimiseActions, newSizes, newActions}
 use Rattle.lists.proofs.MapLaws.{cases, true≢, and-left, and-right, and-intro, all-head, all-tail, lookup-insert-same}
@@ -38,7 +38,7 @@ unfolding pruneBack send
 pruned-sizes p r h = Control.lazy-sizes p r h
 
 pub pruned-actions : (p : ℕ) (r : Run) → pruneBack p r .actions ≡ r .actions ++ (firstSend (r .rooms) Prune p ∷ [])
-unfolding pruneBack send linksOf firstSend
+unfolding pruneBack send updateLinks firstSend
 pruned-actions p r = rw (has-first p (r .rooms)) refl
 
 -- a value of the grafted table is replaced
@@ -64,7 +64,7 @@ keep-links id p (some g) s = refl
 -- received before
 
 pub late-sizes : (sender id : ℕ) (l : Late) (r : Run) → CoreOf (r .state) → sizesOf (onDuplicate sender id l r .state) ≡ sizesOf (r .state)
-unfolding onDuplicate keep
+unfolding onDuplicate setKept
 late-sizes sender id duplicate r c = pruned-sizes sender r (c .linksUp)
 late-sizes sender id repeated r c = refl
 late-sizes sender id (faster first) r c =
@@ -72,7 +72,7 @@ late-sizes sender id (faster first) r c =
     ∙ kept-sizes id sender (get id (r .state .grafted)) (r .state) (c .graftedOn .up)
 
 pub late-actions : (sender id : ℕ) (l : Late) (r : Run) → onDuplicate sender id l r .actions ≡ r .actions ++ lateActions (r .rooms) sender l
-unfolding onDuplicate keep lateActions
+unfolding onDuplicate setKept lateActions
 late-actions sender id duplicate r = pruned-actions sender r
 late-actions sender id repeated r = sym (append-nil (r .actions))
 late-actions sender id (faster first) r = pruned-actions first (withState (withKept id sender (get id (r .state .grafted)) (r .state)) r)
@@ -87,16 +87,16 @@ tree-sizes sender round (h ∷ hs) r u =
     ∙ if-same (farCloser (r .state .settings .optimizationThreshold) round (leastFrom h hs .round)) (pruned-sizes sender (graftUnlessEager (leastFrom h hs) r) (up (leastFrom h hs)) ∙ graft-size (leastFrom h hs)) refl
   where
     up : (k : Hop) → ascending (keys (graftUnlessEager k r .state .links)) ≡ true
-    up k = unfold graftUnlessEager in (unfold send in (unfold linksOf in (unfold makeEager in (by (eagerIn (k .peer) (r .state .links))))))
+    up k = unfold graftUnlessEager in (unfold send in (unfold updateLinks in (unfold addEager in (by (eagerIn (k .peer) (r .state .links))))))
       where
-        by : (b : Bool) → ascending (keys ((if b then r else send (k .peer) (Graft none (k .round)) (linksOf (makeEager (k .peer)) r)) .state .links)) ≡ true
+        by : (b : Bool) → ascending (keys ((if b then r else send (k .peer) (Graft none (k .round)) (updateLinks (addEager (k .peer)) r)) .state .links)) ≡ true
         by true = u
-        by false = unfold send in (unfold linksOf in (unfold makeEager in (ascending-mark (k .peer) eager (r .state .links) u)))
+        by false = unfold send in (unfold updateLinks in (unfold addEager in (ascending-mark (k .peer) eager (r .state .links) u)))
 
     graft-size : (k : Hop) → sizesOf (graftUnlessEager k r .state) ≡ sizesOf (r .state)
     graft-size k = unfold graftUnlessEager in (by (eagerIn (k .peer) (r .state .links)))
       where
-        by : (b : Bool) → sizesOf ((if b then r else send (k .peer) (Graft none (k .round)) (linksOf (makeEager (k .peer)) r)) .state) ≡ sizesOf (r .state)
+        by : (b : Bool) → sizesOf ((if b then r else send (k .peer) (Graft none (k .round)) (updateLinks (addEager (k .peer)) r)) .state) ≡ sizesOf (r .state)
         by true = refl
         by false = unfold send in (Control.eager-sizes (k .peer) r u)
 
@@ -122,10 +122,10 @@ tree-actions sender round (h ∷ hs) r =
         else firstSend (r .rooms) (Graft none (k .round)) (k .peer) ∷ Sent sender (kthTaken (if eqb sender (k .peer) then 2 else 1) sender (r .rooms)) Prune ∷ [])
     graft-then k = unfold graftUnlessEager in (by (eagerIn (k .peer) (r .state .links)))
       where
-        by : (b : Bool) → pruneBack sender (if b then r else send (k .peer) (Graft none (k .round)) (linksOf (makeEager (k .peer)) r)) .actions ≡ r .actions ++ (if b then firstSend (r .rooms) Prune sender ∷ []
+        by : (b : Bool) → pruneBack sender (if b then r else send (k .peer) (Graft none (k .round)) (updateLinks (addEager (k .peer)) r)) .actions ≡ r .actions ++ (if b then firstSend (r .rooms) Prune sender ∷ []
             else firstSend (r .rooms) (Graft none (k .round)) (k .peer) ∷ Sent sender (kthTaken (if eqb sender (k .peer) then 2 else 1) sender (r .rooms)) Prune ∷ [])
         by true = pruned-actions sender r
-        by false = unfold pruneBack in (unfold send in (unfold linksOf in (unfold firstSend in (append-assoc (r .actions) (Sent (k .peer) (hasRoom (k .peer) (r .rooms)) (Graft none (k .round)) ∷ []) (Sent sender (hasRoom sender (useRoom (k .peer) (r .rooms))) Prune ∷ [])
+        by false = unfold pruneBack in (unfold send in (unfold updateLinks in (unfold firstSend in (append-assoc (r .actions) (Sent (k .peer) (hasRoom (k .peer) (r .rooms)) (Graft none (k .round)) ∷ []) (Sent sender (hasRoom sender (useRoom (k .peer) (r .rooms))) Prune ∷ [])
             ∙ rw (has-first (k .peer) (r .rooms), second sender (k .peer) (r .rooms)) refl))))
 
 -- the rooms matter only at the sender and at peers that are not eager

@@ -13,9 +13,9 @@ use Rattle.postcard.specs.Message.{Timer, DispatchLazyPush, AnnounceDropped, Ac
 use Rattle.protocol.specs.State.{State, Note, Hop, withDispatchScheduled}
 use Rattle.protocol.specs.Run.{Run, act, withState}
 use Rattle.protocol.specs.Push.{forPeer, scheduleDispatch, scheduleAnnounceDropped}
-use Rattle.protocol.specs.Gossips.{linksOf}
+use Rattle.protocol.specs.Gossips.{updateLinks}
 use Rattle.protocol.specs.Ticks.{evict, onEvictCacheTimer, oldest, younger, moveOldest, stillCached, dispatchIfQueued, onAnnounceDroppedTimer}
-use Rattle.protocol.specs.Neighbours.{neighborUp, neighborDown, withoutAnnouncer, forgetAnnouncer, withoutNotes, withoutGraft, forgetGrafted, forgetPeer}
+use Rattle.protocol.specs.Neighbours.{onNeighborUp, onNeighborDown, withoutAnnouncer, forgetAnnouncer, withoutNotes, withoutGraft, forgetGrafted, forgetPeer}
 use Rattle.protocol.specs.Whole.{contentHeld}
 use Rattle.protocol.specs.Growth.{Sizes, sizesOf, upSizes, downSizes, evictSizes, evictActions, dispatchAction, announceSizes, announceActions}
 use Rattle.lists.proofs.MapLaws.{cases}
@@ -26,12 +26,12 @@ use Rattle.time_cache.specs.TimeCache.{laterCache}
 
 -- up and down
 
-pub up-sizes : (p : ℕ) (r : Run) → ascending (keys (r .state .links)) ≡ true → sizesOf (neighborUp p r .state) ≡ upSizes p (r .state)
-unfolding neighborUp linksOf linkUp sizesOf upSizes contentHeld
+pub up-sizes : (p : ℕ) (r : Run) → ascending (keys (r .state .links)) ≡ true → sizesOf (onNeighborUp p r .state) ≡ upSizes p (r .state)
+unfolding onNeighborUp updateLinks linkUp sizesOf upSizes contentHeld
 up-sizes p r h = rw (length-insert p eager (r .state .links) h) refl
 
-pub up-actions : (p : ℕ) (r : Run) → neighborUp p r .actions ≡ r .actions
-unfolding neighborUp linksOf
+pub up-actions : (p : ℕ) (r : Run) → onNeighborUp p r .actions ≡ r .actions
+unfolding onNeighborUp updateLinks
 up-actions p r = refl
 
 forget-length : (p : ℕ) (m : Map (List Hop)) → length (forgetAnnouncer p m) ≡ count (λ e. not (isEmpty (withoutAnnouncer p (e .value)))) m
@@ -39,8 +39,8 @@ unfolding forgetAnnouncer count
 forget-length p [] = refl
 forget-length p (e ∷ m) = cases (isEmpty (withoutAnnouncer p (e .value))) (λ q. rw q (forget-length p m)) (λ q. rw q (ap suc (forget-length p m)))
 
-pub down-sizes : (p : ℕ) (r : Run) → ascending (keys (r .state .links)) ≡ true → sizesOf (neighborDown p r .state) ≡ downSizes p (r .state)
-unfolding neighborDown forgetPeer forgetGrafted linkDown withoutNotes sizesOf downSizes contentHeld
+pub down-sizes : (p : ℕ) (r : Run) → ascending (keys (r .state .links)) ≡ true → sizesOf (onNeighborDown p r .state) ≡ downSizes p (r .state)
+unfolding onNeighborDown forgetPeer forgetGrafted linkDown withoutNotes sizesOf downSizes contentHeld
 down-sizes p r h =
     rw (
       length-remove p (r .state .links) h,
@@ -50,8 +50,8 @@ down-sizes p r h =
       length-map (r .state .grafted .entries) (withoutGraft p),
     ) refl
 
-pub down-actions : (p : ℕ) (r : Run) → neighborDown p r .actions ≡ r .actions
-unfolding neighborDown
+pub down-actions : (p : ℕ) (r : Run) → onNeighborDown p r .actions ≡ r .actions
+unfolding onNeighborDown
 down-actions p r = refl
 
 -- EvictCache

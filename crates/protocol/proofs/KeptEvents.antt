@@ -11,15 +11,15 @@ use borrow.Author.Tests.{leb-true, le-leb, eqb-true}
 use Rattle.lists.specs.Base.{if_then_else_, isEmpty, all, any, filter, ascending, member, once}
 use Rattle.lists.specs.Map.{Map, Entry, entry, keys, lookup, insert, remove}
 use Rattle.time_cache.specs.TimeCache.{Timed, Cache, get, holds, put, replace}
-use Rattle.protocol.specs.Links.{eager, Links, isNeighbour, makeEager, linkUp}
+use Rattle.protocol.specs.Links.{eager, Links, isNeighbour, addEager, linkUp}
 use Rattle.postcard.specs.Message.{Delivery, Scope, Ihave, Message, Gossip, Prune, Graft, IHave, Timer, SendGraft, DispatchLazyPush, EvictCache, AnnounceDropped, Event, Received, Broadcast, Fired, Up, Down, Emitted, Scheduled}
 use Rattle.protocol.specs.State.{State, Counts, Note, Hop, Grafts, Cached, Settings, Limits, Created, created, notCreated, create, fresh, zeroCounts, withQueue, sizeInRange, durationsInRange, limitsInRange, blockNeed}
 use Rattle.protocol.specs.Run.{Run, begin, withState, withCounts, act, send}
 use Rattle.protocol.specs.Push.{scheduleDispatch, scheduleAnnounceDropped}
-use Rattle.protocol.specs.Gossips.{hopsOf, announcers, linksOf, broadcast}
-use Rattle.protocol.specs.Control.{addAnnouncer, announce, scheduleGraft, onAnnounced, onIHave, lower, withGraft, noteGraft, leave, askFirst, unmark, onSendGraftTimer}
+use Rattle.protocol.specs.Gossips.{hopsOf, announcers, updateLinks, broadcast}
+use Rattle.protocol.specs.Control.{addAnnouncer, announce, scheduleGraft, onAnnounced, onIHave, lower, withGraft, noteGraft, leaveAnnouncers, askFirst, unmark, onSendGraftTimer}
 use Rattle.protocol.specs.Ticks.{perMessage, queuedPeers, dispatchTo, clearDispatch, onDispatchTimer, oldest, younger, moveOldest, stillCached, dispatchIfQueued, onAnnounceDroppedTimer}
-use Rattle.protocol.specs.Neighbours.{neighborUp, neighborDown, forgetPeer}
+use Rattle.protocol.specs.Neighbours.{onNeighborUp, onNeighborDown, forgetPeer}
 use Rattle.protocol.specs.Handle.{firstEvent, countMessage, ifNeighbour, onTimer, onMessage, handleMessage, handle}
 use Rattle.protocol.specs.Whole.{announcersWhole, graftsWhole, whole, fits}
 use Rattle.protocol.specs.Answer.{Call, Ended, refuse, accept, messageFits, countsStay, tooFar, outputOf, lastTwo, askOf, askRead, askWhole, ask}
@@ -116,8 +116,8 @@ core-leave id h (i ∷ hs) s e x =
     (all-insert-entry (announcersWhole (s .links)) id _ (s .missing)
     (of-announcers (s .links) id (i ∷ hs) (record { some = refl; apiece = once-tail h (i ∷ hs) (k .apiece); near = all-tail (λ h. isNeighbour (h .peer) (s .links)) h (i ∷ hs) (k .near) })) (x .core .announcing)) (x .core)
 
-kept-leave : (id : ℕ) (h : Hop) (hs : List Hop) (r : Run) → announcers id (r .state) ≡ h ∷ hs → Kept r (leave id hs r)
-unfolding leave
+kept-leave : (id : ℕ) (h : Hop) (hs : List Hop) (r : Run) → announcers id (r .state) ≡ h ∷ hs → Kept r (leaveAnnouncers id hs r)
+unfolding leaveAnnouncers
 kept-leave id h hs r e = record {
   settings = refl;
   limits = refl;
@@ -142,16 +142,16 @@ kept-noteGraft now id h r n = record {
   sane = λ x. record { core = core-withGraft id _ h (get id (r .state .grafted)) (r .state) refl (n x) x; queueFlag = x .queueFlag; recordFlag = x .recordFlag };
 }
 
-near-after : (id : ℕ) (h : Hop) (hs : List Hop) (r : Run) → isNeighbour (h .peer) (r .state .links) ≡ true → isNeighbour (h .peer) (linksOf (makeEager (h .peer)) (leave id hs r) .state .links) ≡ true
-unfolding linksOf leave makeEager
+near-after : (id : ℕ) (h : Hop) (hs : List Hop) (r : Run) → isNeighbour (h .peer) (r .state .links) ≡ true → isNeighbour (h .peer) (updateLinks (addEager (h .peer)) (leaveAnnouncers id hs r) .state .links) ≡ true
+unfolding updateLinks leaveAnnouncers addEager
 near-after id h hs r n = wider-mark (h .peer) eager (r .state .links) (h .peer) n
 
 settings-of : (now id : ℕ) (h : Hop) (hs : List Hop) (r : Run) → askFirst now id (h ∷ hs) r .state .settings ≡ r .state .settings
-unfolding askFirst leave linksOf noteGraft send act
+unfolding askFirst leaveAnnouncers updateLinks noteGraft send act
 settings-of now id h hs r = refl
 
 limits-of : (now id : ℕ) (h : Hop) (hs : List Hop) (r : Run) → askFirst now id (h ∷ hs) r .state .limits ≡ r .state .limits
-unfolding askFirst leave linksOf noteGraft send act
+unfolding askFirst leaveAnnouncers updateLinks noteGraft send act
 limits-of now id h hs r = refl
 
 kept-askFirst : (now id : ℕ) (hs : List Hop) (r : Run) → announcers id (r .state) ≡ hs → Kept r (askFirst now id hs r)
@@ -159,9 +159,9 @@ unfolding askFirst
 kept-askFirst now id [] r e = kept-refl r
 kept-askFirst now id (h ∷ hs) r e =
     let a = kept-leave id h hs r e in
-    let b = kept-eager (h .peer) (leave id hs r) in
-    let rest : isNeighbour (h .peer) (linksOf (makeEager (h .peer)) (leave id hs r) .state .links) ≡ true → Kept (linksOf (makeEager (h .peer)) (leave id hs r)) _ =
-    λ n. kept-noteGraft now id h (linksOf (makeEager (h .peer)) (leave id hs r)) (λ x. n) ⨾ kept-send (h .peer) (Graft (some id) (h .round)) _ ⨾ kept-act (Scheduled (r .state .settings .graftTimeout2) (SendGraft id)) _ in
+    let b = kept-eager (h .peer) (leaveAnnouncers id hs r) in
+    let rest : isNeighbour (h .peer) (updateLinks (addEager (h .peer)) (leaveAnnouncers id hs r) .state .links) ≡ true → Kept (updateLinks (addEager (h .peer)) (leaveAnnouncers id hs r)) _ =
+    λ n. kept-noteGraft now id h (updateLinks (addEager (h .peer)) (leaveAnnouncers id hs r)) (λ x. n) ⨾ kept-send (h .peer) (Graft (some id) (h .round)) _ ⨾ kept-act (Scheduled (r .state .settings .graftTimeout2) (SendGraft id)) _ in
     record {
       settings = settings-of now id h hs r;
       limits = limits-of now id h hs r;
@@ -264,8 +264,8 @@ kept-announceDropped r =
 
 -- events
 
-kept-up : (p : ℕ) (r : Run) → Kept r (neighborUp p r)
-unfolding neighborUp
+kept-up : (p : ℕ) (r : Run) → Kept r (onNeighborUp p r)
+unfolding onNeighborUp
 kept-up p r = kept-links (linkUp p) (λ l h. unfold linkUp in (ascending-insert p eager l h)) (λ l. unfold linkUp in (wider-insert p eager l)) r
 
 down-settings : (p : ℕ) (s : State) → forgetPeer p s .settings ≡ s .settings
@@ -276,8 +276,8 @@ down-limits : (p : ℕ) (s : State) → forgetPeer p s .limits ≡ s .limits
 unfolding forgetPeer
 down-limits p s = refl
 
-kept-down : (p : ℕ) (r : Run) → Kept r (neighborDown p r)
-unfolding neighborDown
+kept-down : (p : ℕ) (r : Run) → Kept r (onNeighborDown p r)
+unfolding onNeighborDown
 kept-down p r = record { settings = down-settings p (r .state); limits = down-limits p (r .state); sane = λ x. sane-down p (r .state) x }
 
 kept-onTimer : (now : ℕ) (t : Timer) (r : Run) → Kept r (onTimer now t r)

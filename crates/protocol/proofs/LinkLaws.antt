@@ -8,13 +8,13 @@ use lib.Dec.{eqb}
 use borrow.Author.Tests.{eqb-true}
 use Rattle.lists.specs.Base.{ascending, isSome, isEmpty, member}
 use Rattle.lists.specs.Map.{insert, keys}
-use Rattle.protocol.specs.Links.{Mark, eager, lazy, Links, isNeighbour, markIfThere, makeEager, makeLazy}
+use Rattle.protocol.specs.Links.{Mark, eager, lazy, Links, isNeighbour, markIfThere, addEager, addLazy}
 use Rattle.postcard.specs.Message.{Delivery, Scope, Message, Gossip, Prune, Graft, IHave, Timer, SendGraft, DispatchLazyPush, EvictCache, AnnounceDropped, Emitted}
 use Rattle.protocol.specs.State.{State, Hop, Grafts, withQueue}
 use Rattle.protocol.specs.Run.{Run, withState, act, send}
 use Rattle.protocol.specs.Push.{scheduleDispatch, lazyPush}
-use Rattle.protocol.specs.Gossips.{markReceived, cacheAt, withFirst, setFirst, forgetMissing, linksOf, withKept, keep, broadcast}
-use Rattle.protocol.specs.Control.{announce, scheduleGraft, noteGraft, leave, unmark}
+use Rattle.protocol.specs.Gossips.{markReceived, cacheAt, withFirst, setFirst, forgetMissing, updateLinks, withKept, setKept, broadcast}
+use Rattle.protocol.specs.Control.{announce, scheduleGraft, noteGraft, leaveAnnouncers, unmark}
 use Rattle.protocol.specs.Ticks.{clearDispatch, onDispatchTimer, moveOldest, stillCached, dispatchIfQueued, onAnnounceDroppedTimer, evict, onEvictCacheTimer}
 use Rattle.protocol.specs.Handle.{firstEvent, ifNeighbour, onTimer, onMessage, handleMessage}
 use Rattle.lists.proofs.MapLaws.{cases, lookup-insert-same, lookup-insert-other, ascending-insert}
@@ -56,12 +56,12 @@ ascending-mark : (p : ℕ) (m : Mark) (l : Links) → ascending (keys l) ≡ tru
 unfolding markIfThere
 ascending-mark p m l h = cases (isNeighbour p l) (λ p′. rw p′ (ascending-insert p m l h)) (λ p′. rw p′ h)
 
-keeps-eager : (p : ℕ) (r : Run) → Keeps r (linksOf (makeEager p) r)
-unfolding linksOf makeEager
+keeps-eager : (p : ℕ) (r : Run) → Keeps r (updateLinks (addEager p) r)
+unfolding updateLinks addEager
 keeps-eager p r = record { same = λ q. has-mark q p eager (r .state .links); ordered = λ h. ascending-mark p eager (r .state .links) h }
 
-keeps-lazy : (p : ℕ) (r : Run) → Keeps r (linksOf (makeLazy p) r)
-unfolding linksOf makeLazy
+keeps-lazy : (p : ℕ) (r : Run) → Keeps r (updateLinks (addLazy p) r)
+unfolding updateLinks addLazy
 keeps-lazy p r = record { same = λ q. has-mark q p lazy (r .state .links); ordered = λ h. ascending-mark p lazy (r .state .links) h }
 
 -- the other steps
@@ -97,7 +97,7 @@ unfolding send
 keeps-sending = record { stays = keeps-refl; follows = keeps-trans; sends = λ p m r. still refl; notes = λ p hs r. still (apart-noteDropped p hs r .links) }
 
 keeps-steps : Steps Keeps
-unfolding act markReceived setFirst keep forgetMissing unmark
+unfolding act markReceived setFirst setKept forgetMissing unmark
 keeps-steps = record {
   sending = keeps-sending;
   schedules = λ d t r. still refl;
@@ -127,8 +127,8 @@ keeps-announces : (id : ℕ) (h : Hop) (r : Run) → Keeps r (announce id h r)
 unfolding announce
 keeps-announces id h r = still refl
 
-keeps-leaves : (id : ℕ) (hs : List Hop) (r : Run) → Keeps r (leave id hs r)
-unfolding leave
+keeps-leaves : (id : ℕ) (hs : List Hop) (r : Run) → Keeps r (leaveAnnouncers id hs r)
+unfolding leaveAnnouncers
 keeps-leaves id hs r = still refl
 
 keeps-grafts : (now id : ℕ) (h : Hop) (r : Run) → Keeps r (noteGraft now id h r)

@@ -14,8 +14,8 @@ use Rattle.postcard.specs.Message.{Ihave, Message, Action, Sent, Scheduled, Eve
 use Rattle.protocol.specs.State.{Hop, Note, Grafts}
 use Rattle.protocol.specs.Run.{Run, Met, withState, act, meet, send, takes}
 use Rattle.protocol.specs.Push.{notes, scheduleDispatch, scheduleAnnounceDropped, recordFull, recordAlso, noteOne, noteEach, noteDropped, lazyPush}
-use Rattle.protocol.specs.Gossips.{markReceived, withFirst, setFirst, forgetMissing, linksOf, withKept, keep}
-use Rattle.protocol.specs.Control.{announce, scheduleGraft, noteGraft, leave, unmark}
+use Rattle.protocol.specs.Gossips.{markReceived, withFirst, setFirst, forgetMissing, updateLinks, withKept, setKept}
+use Rattle.protocol.specs.Control.{announce, scheduleGraft, noteGraft, leaveAnnouncers, unmark}
 use Rattle.protocol.specs.Ticks.{evict, onEvictCacheTimer}
 use Rattle.protocol.specs.Calls.{told}
 use Rattle.protocol.specs.Demand3.{carries, sends, wasTaken, wasHandedBack, sent, cameToFull, metFull}
@@ -139,7 +139,7 @@ pub grows-sending : Sending Grows
 grows-sending = record { stays = grows-refl; follows = grows-trans; sends = grows-send; notes = grows-noteDropped }
 
 pub grows-steps : Steps Grows
-unfolding linksOf markReceived setFirst keep forgetMissing unmark
+unfolding updateLinks markReceived setFirst setKept forgetMissing unmark
 grows-steps = record {
   sending = grows-sending;
   schedules = λ d t r. grows-act (Scheduled d t) r;
@@ -161,8 +161,8 @@ pub grows-announces : (id : ℕ) (h : Hop) (r : Run) → Grows r (announce id h 
 unfolding announce
 grows-announces id h r = alike refl refl refl refl refl
 
-pub grows-leaves : (id : ℕ) (hs : List Hop) (r : Run) → Grows r (leave id hs r)
-unfolding leave
+pub grows-leaves : (id : ℕ) (hs : List Hop) (r : Run) → Grows r (leaveAnnouncers id hs r)
+unfolding leaveAnnouncers
 grows-leaves id hs r = alike refl refl refl refl refl
 
 pub grows-grafts : (now id : ℕ) (h : Hop) (r : Run) → Grows r (noteGraft now id h r)

@@ -16,8 +16,8 @@ use Rattle.postcard.specs.Message.{Delivery, Ihave, Message, DispatchLazyPush, 
 use Rattle.protocol.specs.State.{Hop, Note, Grafts, withQueue}
 use Rattle.protocol.specs.Run.{Run, withState, act, meet, send, takes}
 use Rattle.protocol.specs.Push.{forPeer, notes, scheduleDispatch, scheduleAnnounceDropped, recordFull, recordAlso, noteOne, noteEach, noteDropped, lazyPush}
-use Rattle.protocol.specs.Gossips.{markReceived, cacheAt, withFirst, setFirst, forgetMissing, linksOf, withKept, keep}
-use Rattle.protocol.specs.Control.{announce, scheduleGraft, noteGraft, leave, unmark}
+use Rattle.protocol.specs.Gossips.{markReceived, cacheAt, withFirst, setFirst, forgetMissing, updateLinks, withKept, setKept}
+use Rattle.protocol.specs.Control.{announce, scheduleGraft, noteGraft, leaveAnnouncers, unmark}
 use Rattle.protocol.specs.Ticks.{younger, moveOldest, stillCached, dispatchIfQueued, onAnnounceDroppedTimer, evict, onEvictCacheTimer}
 use Rattle.protocol.specs.Demand3.{dispatchTick, announceTick, isTick, schedulesTick}
 use Rattle.lists.proofs.MapLaws.{cases, true≢}
@@ -274,7 +274,7 @@ pub sound-sending : Sending Sound
 sound-sending = record { stays = sound-refl; follows = sound-trans; sends = sound-send; notes = sound-noteDropped }
 
 pub sound-steps : Steps Sound
-unfolding linksOf markReceived setFirst keep forgetMissing unmark
+unfolding updateLinks markReceived setFirst setKept forgetMissing unmark
 sound-steps = record {
   sending = sound-sending;
   schedules = λ d t r. sound-act r (Scheduled d t);
@@ -300,8 +300,8 @@ pub sound-announces : (id : ℕ) (h : Hop) (r : Run) → Sound r (announce id h 
 unfolding announce
 sound-announces id h r = still refl refl refl refl refl refl
 
-pub sound-leaves : (id : ℕ) (hs : List Hop) (r : Run) → Sound r (leave id hs r)
-unfolding leave
+pub sound-leaves : (id : ℕ) (hs : List Hop) (r : Run) → Sound r (leaveAnnouncers id hs r)
+unfolding leaveAnnouncers
 sound-leaves id hs r = still refl refl refl refl refl refl
 
 pub sound-grafts : (now id : ℕ) (h : Hop) (r : Run) → Sound r (noteGraft now id h r)

@@ -10,15 +10,15 @@ use borrow.Author.Tests.{eq-eqb, eqb-true}
 use Rattle.lists.specs.Base.{if_then_else_, isEmpty, any, filter, member}
 use Rattle.lists.specs.Map.{keys}
 use Rattle.time_cache.specs.TimeCache.{Cache, get, holds}
-use Rattle.protocol.specs.Links.{Links, isNeighbour, eagerIn, makeEager, makeLazy, linkUp}
+use Rattle.protocol.specs.Links.{Links, isNeighbour, eagerIn, addEager, addLazy, linkUp}
 use Rattle.postcard.specs.Message.{Delivery, Swarm, Neighbors, Scope, toSwarm, toNeighbors, Ihave, Message, Gossip, Prune, Graft, IHave, Timer, SendGraft, DispatchLazyPush, EvictCache, AnnounceDropped, Event, Received, Broadcast, Fired, Up, Down, Action, Sent, Scheduled, Emitted}
 use Rattle.protocol.specs.State.{State, Counts, Note, Hop, Grafts, Cached}
 use Rattle.protocol.specs.Run.{Run, Room, Met, withState, withCounts, act, meet, hasRoom, useRoom, takes, send}
 use Rattle.protocol.specs.Push.{notes, scheduleDispatch, scheduleAnnounceDropped, recordFull, recordAlso, noteOne, noteEach, noteDropped, sendEach, handedBack, noteForEach, noteAfter, pushTo, eagerPush, lazyPush, sendIhave, eagerTargets}
-use Rattle.protocol.specs.Gossips.{markReceived, cacheAt, announcers, graftedFor, setFirst, graftOut, forgetMissing, raiseHops, leastFrom, farCloser, linksOf, graftUnlessEager, pruneBack, optimizeTree, forgetAndOptimise, pushOn, takeIn, Late, duplicate, repeated, faster, lateKind, keep, onDuplicate, onLateGraftReply, onNew, gossipSize, onGossip, broadcastTo, broadcast}
-use Rattle.protocol.specs.Control.{announce, scheduleGraft, onAnnounced, onIHave, onPrune, replyWith, reply, onGraft, noteGraft, leave, askFirst, unmark, onSendGraftTimer}
+use Rattle.protocol.specs.Gossips.{markReceived, cacheAt, announcers, graftedFor, setFirst, graftOut, forgetMissing, raiseHops, leastFrom, farCloser, updateLinks, graftUnlessEager, pruneBack, optimizeTree, forgetAndOptimise, pushOn, takeIn, Late, duplicate, repeated, faster, lateKind, setKept, onDuplicate, onLateGraftReply, onNew, gossipSize, onGossip, broadcastTo, broadcast}
+use Rattle.protocol.specs.Control.{announce, scheduleGraft, onAnnounced, onIHave, onPrune, replyWith, reply, onGraft, noteGraft, leaveAnnouncers, askFirst, unmark, onSendGraftTimer}
 use Rattle.protocol.specs.Ticks.{perMessage, queuedPeers, chunks, queuedFor, sendChunks, dispatchTo, clearDispatch, onDispatchTimer, moveOldest, stillCached, dispatchIfQueued, onAnnounceDroppedTimer, onEvictCacheTimer}
-use Rattle.protocol.specs.Neighbours.{neighborUp, neighborDown, forgetPeer}
+use Rattle.protocol.specs.Neighbours.{onNeighborUp, onNeighborDown, forgetPeer}
 use Rattle.protocol.specs.Handle.{firstEvent, countMessage, ifNeighbour, onTimer, onMessage, handleMessage, handle}
 use Rattle.protocol.specs.Growth.{kthTaken}
 use Rattle.lists.proofs.MapLaws.{cases, true≢}
@@ -216,18 +216,18 @@ fair-dispatchTo (p ∷ ps) k ns r =
 
 -- gossip
 
-fair-linksOf : (f : Links → Links) (r : Run) → Fair (linksOf f) r
-unfolding linksOf
+fair-linksOf : (f : Links → Links) (r : Run) → Fair (updateLinks f) r
+unfolding updateLinks
 fair-linksOf f r = quiet r _ refl refl
 
 fair-pruneBack : (p : ℕ) (r : Run) → Fair (pruneBack p) r
 unfolding pruneBack
-fair-pruneBack p r = seq (linksOf (makeLazy p)) (send p Prune) r (fair-linksOf (makeLazy p) r) (fair-send p Prune (linksOf (makeLazy p) r))
+fair-pruneBack p r = seq (updateLinks (addLazy p)) (send p Prune) r (fair-linksOf (addLazy p) r) (fair-send p Prune (updateLinks (addLazy p) r))
 
 fair-graftUnlessEager : (h : Hop) (r : Run) → Fair (graftUnlessEager h) r
 unfolding graftUnlessEager
 fair-graftUnlessEager h r =
-    fair-if (eagerIn (h .peer) (r .state .links)) r _ _ _ _ (fair-refl r) (seq (linksOf (makeEager (h .peer))) (send (h .peer) (Graft none (h .round))) r (fair-linksOf (makeEager (h .peer)) r) (fair-send (h .peer) (Graft none (h .round)) (linksOf (makeEager (h .peer)) r)))
+    fair-if (eagerIn (h .peer) (r .state .links)) r _ _ _ _ (fair-refl r) (seq (updateLinks (addEager (h .peer))) (send (h .peer) (Graft none (h .round))) r (fair-linksOf (addEager (h .peer)) r) (fair-send (h .peer) (Graft none (h .round)) (updateLinks (addEager (h .peer)) r)))
 
 fair-optimizeTree : (sender round : ℕ) (hs : List Hop) (r : Run) → Fair (optimizeTree sender round hs) r
 unfolding optimizeTree
@@ -266,8 +266,8 @@ fair-setFirst : (id sender round : ℕ) (r : Run) → Fair (setFirst id sender r
 unfolding setFirst
 fair-setFirst id sender round r = quiet r _ refl refl
 
-fair-keep : (id p : ℕ) (r : Run) → Fair (keep id p) r
-unfolding keep
+fair-keep : (id p : ℕ) (r : Run) → Fair (setKept id p) r
+unfolding setKept
 fair-keep id p r = quiet r _ refl refl
 
 fair-takeIn : (now sender id : ℕ) (content : List ℕ) (round : ℕ) (r : Run) → Fair (takeIn now sender id content round) r
@@ -281,7 +281,7 @@ fair-onDuplicate : (sender id : ℕ) (l : Late) (r : Run) → Fair (onDuplicate 
 unfolding onDuplicate
 fair-onDuplicate sender id duplicate r = fair-pruneBack sender r
 fair-onDuplicate sender id repeated r = fair-refl r
-fair-onDuplicate sender id (faster first) r = seq (keep id sender) (pruneBack first) r (fair-keep id sender r) (fair-pruneBack first (keep id sender r))
+fair-onDuplicate sender id (faster first) r = seq (setKept id sender) (pruneBack first) r (fair-keep id sender r) (fair-pruneBack first (setKept id sender r))
 
 fair-onNew : (now sender id : ℕ) (content : List ℕ) (d : Delivery) (r : Run) → Fair (onNew now sender id content d) r
 unfolding onNew
@@ -321,14 +321,14 @@ fair-reply sender (some id) r = fair-replyWith sender id (get id (r .state .cach
 
 fair-onGraft : (sender : ℕ) (wanted : Option ℕ) (r : Run) → Fair (onGraft sender wanted) r
 unfolding onGraft
-fair-onGraft sender wanted r = seq (linksOf (makeEager sender)) (reply sender wanted) r (fair-linksOf (makeEager sender) r) (fair-reply sender wanted (linksOf (makeEager sender) r))
+fair-onGraft sender wanted r = seq (updateLinks (addEager sender)) (reply sender wanted) r (fair-linksOf (addEager sender) r) (fair-reply sender wanted (updateLinks (addEager sender) r))
 
 fair-onPrune : (sender : ℕ) (r : Run) → Fair (onPrune sender) r
 unfolding onPrune
-fair-onPrune sender r = fair-linksOf (makeLazy sender) r
+fair-onPrune sender r = fair-linksOf (addLazy sender) r
 
-fair-leave : (id : ℕ) (hs : List Hop) (r : Run) → Fair (leave id hs) r
-unfolding leave
+fair-leave : (id : ℕ) (hs : List Hop) (r : Run) → Fair (leaveAnnouncers id hs) r
+unfolding leaveAnnouncers
 fair-leave id hs r = quiet r _ refl refl
 
 fair-noteGraft : (now id : ℕ) (h : Hop) (r : Run) → Fair (noteGraft now id h) r
@@ -344,7 +344,7 @@ unfolding askFirst
 fair-askFirst now id [] r = fair-refl r
 fair-askFirst now id (h ∷ hs) r =
     fair-then r _ _ (act (Scheduled (r .state .settings .graftTimeout2) (SendGraft id))) (fair-then r _ _ (send (h .peer) (Graft (some id) (h .round))) (fair-then r _ _ (noteGraft now id h)
-    (seq (leave id hs) (linksOf (makeEager (h .peer))) r (fair-leave id hs r) (fair-linksOf (makeEager (h .peer)) (leave id hs r))) (fair-noteGraft now id h _)) (fair-send (h .peer) (Graft (some id) (h .round)) _)) (fair-act _ _)
+    (seq (leaveAnnouncers id hs) (updateLinks (addEager (h .peer))) r (fair-leave id hs r) (fair-linksOf (addEager (h .peer)) (leaveAnnouncers id hs r))) (fair-noteGraft now id h _)) (fair-send (h .peer) (Graft (some id) (h .round)) _)) (fair-act _ _)
 
 fair-onSendGraftTimer : (now id : ℕ) (r : Run) → Fair (onSendGraftTimer now id) r
 unfolding onSendGraftTimer
@@ -422,7 +422,7 @@ module _ (hash : List ℕ → ℕ) where
 
   -- any event, of any run
   pub fair-handle : (now : ℕ) (e : Event) (r : Run) → Fair (handle hash now e) r
-  unfolding handle handleMessage neighborUp neighborDown
+  unfolding handle handleMessage onNeighborUp onNeighborDown
   fair-handle now (Received p m) r =
       fair-then r _ _ (onMessage hash now p m) (fair-then r _ _ (λ x. withCounts (countMessage m (x .counts)) x) (fair-firstEvent now r) (quiet (firstEvent now r) (withCounts (countMessage m (firstEvent now r .counts)) (firstEvent now r)) refl refl)) (fair-onMessage now p m _)
   fair-handle now (Broadcast content scope) r = seq (firstEvent now) (broadcast hash now content scope) r (fair-firstEvent now r) (fair-broadcast now content scope (firstEvent now r))

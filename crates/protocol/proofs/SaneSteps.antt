@@ -9,15 +9,15 @@ use borrow.Author.Tests.{not-true}
 use Rattle.lists.specs.Base.{if_then_else_, isEmpty, all, any, filter, ascending, member, once}
 use Rattle.lists.specs.Map.{Map, Entry, entry, keys, lookup, insert, remove}
 use Rattle.time_cache.specs.TimeCache.{Timed, Cache, get, holds, put, replace, expireUntil, laterCache}
-use Rattle.protocol.specs.Links.{eager, lazy, Links, isNeighbour, lazyPeers, isLazy, makeEager, makeLazy, linkUp}
+use Rattle.protocol.specs.Links.{eager, lazy, Links, isNeighbour, lazyPeers, isLazy, addEager, addLazy, linkUp}
 use Rattle.postcard.specs.Message.{Delivery, Scope, Ihave, Message, Gossip, Prune, Graft, IHave, Timer, SendGraft, DispatchLazyPush, EvictCache, AnnounceDropped, Event, Received, Broadcast, Fired, Up, Down, Action, Emitted, Scheduled}
 use Rattle.protocol.specs.State.{State, Counts, Note, Hop, Grafts, Cached, withInit, withQueue}
 use Rattle.protocol.specs.Run.{Run, withState, withCounts, act, meet, send}
 use Rattle.protocol.specs.Push.{forPeer, notes, recordFull, recordAlso, noteOne, noteEach, noteDropped, noteFor, scheduleDispatch, scheduleAnnounceDropped, lazyPush}
-use Rattle.protocol.specs.Gossips.{markReceived, cacheAt, hopsOf, announcers, withFirst, setFirst, forgetMissing, linksOf, withKept, keep, broadcast}
-use Rattle.protocol.specs.Control.{addAnnouncer, announce, scheduleGraft, onAnnounced, onIHave, lower, withGraft, noteGraft, leave, askFirst, unmark, onSendGraftTimer}
+use Rattle.protocol.specs.Gossips.{markReceived, cacheAt, hopsOf, announcers, withFirst, setFirst, forgetMissing, updateLinks, withKept, setKept, broadcast}
+use Rattle.protocol.specs.Control.{addAnnouncer, announce, scheduleGraft, onAnnounced, onIHave, lower, withGraft, noteGraft, leaveAnnouncers, askFirst, unmark, onSendGraftTimer}
 use Rattle.protocol.specs.Ticks.{dispatchTo, clearDispatch, onDispatchTimer, oldest, younger, moveOldest, stillCached, dispatchIfQueued, onAnnounceDroppedTimer, evict, onEvictCacheTimer}
-use Rattle.protocol.specs.Neighbours.{neighborUp, neighborDown, forgetPeer}
+use Rattle.protocol.specs.Neighbours.{onNeighborUp, onNeighborDown, forgetPeer}
 use Rattle.protocol.specs.Handle.{firstEvent, ifNeighbour, onTimer, onMessage, handleMessage, handle}
 use Rattle.protocol.specs.Whole.{announcersWhole, graftsWhole, notedOnce}
 use Rattle.lists.proofs.MapLaws.{cases, true≢, and-left, and-right, and-intro, all-head, all-tail, all-cons, ascending-insert, ascending-remove}
@@ -189,19 +189,19 @@ kept-lazyPush id round sender r =
 
 -- small steps
 
-pub kept-links : (f : Links → Links) → ((l : Links) → ascending (keys l) ≡ true → ascending (keys (f l)) ≡ true) → ((l : Links) → Wider l (f l)) → (r : Run) → Kept r (linksOf f r)
-unfolding linksOf
+pub kept-links : (f : Links → Links) → ((l : Links) → ascending (keys l) ≡ true → ascending (keys (f l)) ≡ true) → ((l : Links) → Wider l (f l)) → (r : Run) → Kept r (updateLinks f r)
+unfolding updateLinks
 kept-links f u w r = record {
   settings = refl;
   limits = refl;
   sane = λ x. record { core = core-links (f (r .state .links)) (r .state) (u (r .state .links) (x .core .linksUp)) (w (r .state .links)) (x .core); queueFlag = x .queueFlag; recordFlag = x .recordFlag };
 }
 
-pub kept-eager : (p : ℕ) (r : Run) → Kept r (linksOf (makeEager p) r)
-kept-eager p r = kept-links (makeEager p) (λ l h. unfold makeEager in (ascending-mark p eager l h)) (λ l. unfold makeEager in (wider-mark p eager l)) r
+pub kept-eager : (p : ℕ) (r : Run) → Kept r (updateLinks (addEager p) r)
+kept-eager p r = kept-links (addEager p) (λ l h. unfold addEager in (ascending-mark p eager l h)) (λ l. unfold addEager in (wider-mark p eager l)) r
 
-pub kept-lazy : (p : ℕ) (r : Run) → Kept r (linksOf (makeLazy p) r)
-kept-lazy p r = kept-links (makeLazy p) (λ l h. unfold makeLazy in (ascending-mark p lazy l h)) (λ l. unfold makeLazy in (wider-mark p lazy l)) r
+pub kept-lazy : (p : ℕ) (r : Run) → Kept r (updateLinks (addLazy p) r)
+kept-lazy p r = kept-links (addLazy p) (λ l h. unfold addLazy in (ascending-mark p lazy l h)) (λ l. unfold addLazy in (wider-mark p lazy l)) r
 
 pub kept-received : (now id : ℕ) (r : Run) → Kept r (markReceived now id r)
 unfolding markReceived
@@ -248,8 +248,8 @@ kept-kept id p (some g) r e = record {
   sane = λ x. record { core = replaced id g (record { first = g .first; kept = some p; peers = g .peers }) r e refl x; queueFlag = x .queueFlag; recordFlag = x .recordFlag };
 }
 
-pub kept-keep : (id p : ℕ) (r : Run) → Kept r (keep id p r)
-unfolding keep
+pub kept-keep : (id p : ℕ) (r : Run) → Kept r (setKept id p r)
+unfolding setKept
 kept-keep id p r = kept-kept id p (get id (r .state .grafted)) r refl
 
 pub kept-forget : (id : ℕ) (r : Run) → Kept r (forgetMissing id r)

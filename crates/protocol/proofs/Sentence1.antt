@@ -13,8 +13,8 @@ use Rattle.protocol.specs.Links.{Mark, eager, lazy, Links, isEager, isLa
 use Rattle.postcard.specs.Message.{Event, Received, Broadcast, Fired, Up, Down}
 use Rattle.protocol.specs.State.{State}
 use Rattle.protocol.specs.Run.{Run}
-use Rattle.protocol.specs.Gossips.{linksOf}
-use Rattle.protocol.specs.Neighbours.{neighborUp, neighborDown, forgetPeer}
+use Rattle.protocol.specs.Gossips.{updateLinks}
+use Rattle.protocol.specs.Neighbours.{onNeighborUp, onNeighborDown, forgetPeer}
 use Rattle.protocol.specs.Handle.{firstEvent, handle}
 use Rattle.protocol.specs.Demand3.{upAfterEvent, InOne, inEager, inLazy, InNeither}
 use Rattle.lists.proofs.MapLaws.{cases, true≢, all-head, all-tail, and-left, and-right, lookup-insert-same, lookup-insert-other, lookup-remove-same, lookup-remove-other, ascending-insert, ascending-remove}
@@ -34,7 +34,7 @@ module _ (hash : List ℕ → ℕ) where
   -- one event: who is a neighbour after it
   pub step-neighbours : (now : ℕ) (e : Event) (r : Run) (q : ℕ) →
       isNeighbour q (handle hash now e r .state .links) ≡ upAfterEvent q e (isNeighbour q (r .state .links))
-  unfolding handle upAfterEvent neighborUp neighborDown forgetPeer linksOf linkUp linkDown
+  unfolding handle upAfterEvent onNeighborUp onNeighborDown forgetPeer updateLinks linkUp linkDown
   step-neighbours now (Received p m) r q = (keeps-firstEvent now r ⨾ keeps-handleMessage hash now p m (firstEvent now r)) .same q
   step-neighbours now (Broadcast content scope) r q = (keeps-firstEvent now r ⨾ keeps-broadcastEvent hash now content scope (firstEvent now r)) .same q
   step-neighbours now (Fired t) r q = (keeps-firstEvent now r ⨾ keeps-onTimer now t (firstEvent now r)) .same q
@@ -43,7 +43,7 @@ module _ (hash : List ℕ → ℕ) where
 
   -- one event: each neighbour stands once
   pub step-ordered : (now : ℕ) (e : Event) (r : Run) → ascending (keys (r .state .links)) ≡ true → ascending (keys (handle hash now e r .state .links)) ≡ true
-  unfolding handle neighborUp neighborDown forgetPeer linksOf linkUp linkDown
+  unfolding handle onNeighborUp onNeighborDown forgetPeer updateLinks linkUp linkDown
   step-ordered now (Received p m) r h = (keeps-firstEvent now r ⨾ keeps-handleMessage hash now p m (firstEvent now r)) .ordered h
   step-ordered now (Broadcast content scope) r h = (keeps-firstEvent now r ⨾ keeps-broadcastEvent hash now content scope (firstEvent now r)) .ordered h
   step-ordered now (Fired t) r h = (keeps-firstEvent now r ⨾ keeps-onTimer now t (firstEvent now r)) .ordered h

@@ -11,9 +11,9 @@ use Rattle.lists.specs.Map.{has, keys}
 use Rattle.protocol.specs.Links.{isNeighbour}
 use Rattle.postcard.specs.Message.{Message, Gossip, Prune, Graft, IHave, SendGraft, DispatchLazyPush, EvictCache, AnnounceDropped, Action, Emitted, Event, Received, Broadcast, Fired, Up, Down}
 use Rattle.protocol.specs.Run.{Run, withCounts}
-use Rattle.protocol.specs.Gossips.{announcers, graftedFor, linksOf}
+use Rattle.protocol.specs.Gossips.{announcers, graftedFor, updateLinks}
 use Rattle.protocol.specs.Control.{onIHave, onSendGraftTimer}
-use Rattle.protocol.specs.Neighbours.{forgetPeer, neighborUp, neighborDown}
+use Rattle.protocol.specs.Neighbours.{forgetPeer, onNeighborUp, onNeighborDown}
 use Rattle.protocol.specs.Handle.{firstEvent, countMessage, ifNeighbour, onTimer, onMessage, handleMessage, handle}
 use Rattle.protocol.specs.Demand3.{isDown, lists, announcesIn, isGraftFor, either, sends}
 use Rattle.lists.proofs.MapLaws.{cases}
@@ -78,12 +78,12 @@ module _ (hash : List ℕ → ℕ) where
   asked actions s p id (inl h) = inl (s .grafting p id h)
   asked actions s p id (inr (h, g)) = inr (s .announcing p id h, g)
 
-  shrinks-up : (p : ℕ) (r : Run) → Shrinks r (neighborUp p r)
-  unfolding neighborUp linksOf
+  shrinks-up : (p : ℕ) (r : Run) → Shrinks r (onNeighborUp p r)
+  unfolding onNeighborUp updateLinks
   shrinks-up p r = same refl refl
 
   pub graftings : (now : ℕ) (e : Event) (r : Run) → ascending (keys (r .state .missing)) ≡ true → Graftings e r (handle hash now e r)
-  unfolding handle handleMessage onTimer isDown neighborDown forgetPeer
+  unfolding handle handleMessage onTimer isDown onNeighborDown forgetPeer
   graftings now (Received p m) r o = graftings-message now p m r
   graftings now (Broadcast content scope) r o =
       graftings-shrinks (Broadcast content scope) (λ q. refl) (shrinks-first now r ⨾ walk-broadcast Shrinks shrinks-steps shrinks-caches hash now content scope (firstEvent now r))

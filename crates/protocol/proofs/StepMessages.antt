@@ -15,9 +15,9 @@ use Rattle.postcard.specs.Message.{Delivery, Swarm, Neighbors, Scope, toSwarm, 
 use Rattle.protocol.specs.State.{State, Counts, Note, withInit}
 use Rattle.protocol.specs.Run.{Run, withState, withCounts, act, send}
 use Rattle.protocol.specs.Push.{forPeer, notes}
-use Rattle.protocol.specs.Gossips.{markReceived, cacheAt, graftedFor, linksOf, pruneBack, takeIn, Late, duplicate, repeated, faster, lateKind, keep, onDuplicate, onLateGraftReply, onNew, gossipSize, onGossip, broadcastTo, broadcast}
+use Rattle.protocol.specs.Gossips.{markReceived, cacheAt, graftedFor, updateLinks, pruneBack, takeIn, Late, duplicate, repeated, faster, lateKind, setKept, onDuplicate, onLateGraftReply, onNew, gossipSize, onGossip, broadcastTo, broadcast}
 use Rattle.protocol.specs.Ticks.{perMessage, onDispatchTimer, onAnnounceDroppedTimer, onEvictCacheTimer}
-use Rattle.protocol.specs.Neighbours.{withoutNotes, forgetPeer, neighborUp, neighborDown}
+use Rattle.protocol.specs.Neighbours.{withoutNotes, forgetPeer, onNeighborUp, onNeighborDown}
 use Rattle.protocol.specs.Handle.{firstEvent, countMessage, ifNeighbour, onTimer, onMessage, handleMessage, handle}
 use Rattle.protocol.specs.Calls.{told}
 use Rattle.protocol.specs.Demand3.{isDown, tellsDown, isEmit, tookGossip, tookBroadcast, tookByEvent, took, isOf}
@@ -92,14 +92,14 @@ unfolding firstEvent onEvictCacheTimer act isEmit
 quiet-first now r = quiet-if r r (onEvictCacheTimer now (withState (withInit true (r .state)) r)) (r .state .init) refl (any-skip isEmit (r .actions) _ refl)
 
 quiet-pruneBack : (p : ℕ) (r : Run) → Quiet r (pruneBack p r)
-unfolding pruneBack linksOf send isEmit
+unfolding pruneBack updateLinks send isEmit
 quiet-pruneBack p r = any-skip isEmit (r .actions) _ refl
 
 quiet-duplicate : (p id : ℕ) (l : Late) (r : Run) → Quiet r (onDuplicate p id l r)
-unfolding onDuplicate keep
+unfolding onDuplicate setKept
 quiet-duplicate p id duplicate r = quiet-pruneBack p r
 quiet-duplicate p id repeated r = refl
-quiet-duplicate p id (faster first) r = quiet-pruneBack first (keep id p r)
+quiet-duplicate p id (faster first) r = quiet-pruneBack first (setKept id p r)
 
 module _ (hash : List ℕ → ℕ) where
   abbrev KeptBy : ℕ → Event → Run → Run → Type 0
@@ -273,14 +273,14 @@ module _ (hash : List ℕ → ℕ) where
       stillThere refl (b .grows .cached j held) (λ p nb nd st. got-settled p j (Fired AnnounceDropped) (onAnnounceDroppedTimer r₁)
       (got-announceDropped p j r₁ held (stands-grows p j (b .grows) st)))
 
-  grows-up : (p : ℕ) (r : Run) → Grows r (neighborUp p r)
-  unfolding neighborUp linksOf
+  grows-up : (p : ℕ) (r : Run) → Grows r (onNeighborUp p r)
+  unfolding onNeighborUp updateLinks
   grows-up p r = alike refl refl refl refl refl
 
-  kept-down : (q : ℕ) (r : Run) (j : ℕ) → holds j (neighborDown q r .state .cache) ≡ true → KeptBy j (Down q) r (neighborDown q r)
-  unfolding neighborDown forgetPeer took tookByEvent isOf tellsDown isDown
+  kept-down : (q : ℕ) (r : Run) (j : ℕ) → holds j (onNeighborDown q r .state .cache) ≡ true → KeptBy j (Down q) r (onNeighborDown q r)
+  unfolding onNeighborDown forgetPeer took tookByEvent isOf tellsDown isDown
   kept-down q r j h = stillThere refl h
-      (λ p nb nd st. got-settled p j (Down q) (neighborDown q r) (stands-got p j (neighborDown q r) (stands-down p q j (r .state) nd st)))
+      (λ p nb nd st. got-settled p j (Down q) (onNeighborDown q r) (stands-got p j (onNeighborDown q r) (stands-down p q j (r .state) nd st)))
 
   pub messages : (now : ℕ) (e : Event) (r : Run) → ascending (keys (r .state .links)) ≡ true → any isEmit (r .actions) ≡ false → 1 ≤ perMessage (r .state .settings .maxMessageSize) →
       (id : ℕ) → holds id (handle hash now e r .state .cache) ≡ true → KeptBy id e r (handle hash now e r)
@@ -288,5 +288,5 @@ module _ (hash : List ℕ → ℕ) where
   messages now (Received p m) r o q one id h = kept-message now p m r _ (counted (countMessage m (firstEvent now r .counts)) (begun now r o q)) id h
   messages now (Broadcast content scope) r o q one id h = kept-broadcast now content r (firstEvent now r) (begun now r o q) scope id h
   messages now (Fired t) r o q one id h = kept-timer now t r (firstEvent now r) (begun now r o q) one id h
-  messages now (Up p) r o q one id h = kept-at id (Up p) r (neighborUp p r) refl (grows-at id (grows-up p r)) h
+  messages now (Up p) r o q one id h = kept-at id (Up p) r (onNeighborUp p r) refl (grows-at id (grows-up p r)) h
   messages now (Down p) r o q one id h = kept-down p r id h

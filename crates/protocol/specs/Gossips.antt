@@ -8,7 +8,7 @@ use lib.ListN.{length}
 use Rattle.lists.specs.Base.{if_then_else_, _▷_, any}
 use Rattle.lists.specs.Map.{Map, Entry, keys, lookup, insert, remove, has, removeKey}
 use Rattle.time_cache.specs.TimeCache.{get, holds, put, replace}
-use Rattle.protocol.specs.Links.{Links, isNeighbour, eagerIn, makeEager, makeLazy}
+use Rattle.protocol.specs.Links.{Links, isNeighbour, eagerIn, addEager, addLazy}
 use Rattle.postcard.specs.Number.{numberLength}
 use Rattle.postcard.specs.Message.{Delivery, Swarm, Neighbors, Scope, toSwarm, toNeighbors, Message, Prune, Graft}
 use Rattle.protocol.specs.State.{State, Hop, Grafts, Counts, withLinks, withMissing, withReceived, withGrafted, withCache, withGraftTimers}
@@ -72,18 +72,18 @@ leastFrom best (h ∷ hs) = if ltb (h .round) (best .round) then leastFrom h hs 
 unfoldable pub farCloser : ℕ → ℕ → ℕ → Bool
 farCloser threshold round a = ltb a round && leb threshold (round - a)
 
-unfoldable pub linksOf : (Links → Links) → Run → Run
-linksOf f r = r ▷ withState (withLinks (f (r .state .links)) (r .state))
+unfoldable pub updateLinks : (Links → Links) → Run → Run
+updateLinks f r = r ▷ withState (withLinks (f (r .state .links)) (r .state))
 
 -- "Graft without identifier unless eager"
 unfoldable pub graftUnlessEager : Hop → Run → Run
 graftUnlessEager h r =
     if eagerIn (h .peer) (r .state .links) then r
-    else (r ▷ linksOf (makeEager (h .peer)) ▷ send (h .peer) (Graft none (h .round)))
+    else (r ▷ updateLinks (addEager (h .peer)) ▷ send (h .peer) (Graft none (h .round)))
 
 -- "a neighbour sender goes lazy, and Prune"
 unfoldable pub pruneBack : ℕ → Run → Run
-pruneBack p r = r ▷ linksOf (makeLazy p) ▷ send p Prune
+pruneBack p r = r ▷ updateLinks (addLazy p) ▷ send p Prune
 
 -- `optimize_tree`, at the round that is sent on (r + 1)
 unfoldable pub optimizeTree : ℕ → ℕ → List Hop → Run → Run
@@ -151,14 +151,14 @@ unfoldable pub withKept : ℕ → ℕ → Option Grafts → State → State
 withKept id p none s = s
 withKept id p (some g) s = withGrafted (replace id (record { first = g .first; kept = some p; peers = g .peers }) (s .grafted)) s
 
-unfoldable pub keep : ℕ → ℕ → Run → Run
-keep id p r = r ▷ withState (withKept id p (get id (r .state .grafted)) (r .state))
+unfoldable pub setKept : ℕ → ℕ → Run → Run
+setKept id p r = r ▷ withState (withKept id p (get id (r .state .grafted)) (r .state))
 
 -- "Received before: late Graft reply, else a neighbour sender goes lazy, and Prune"
 unfoldable pub onDuplicate : ℕ → ℕ → Late → Run → Run
 onDuplicate sender id duplicate r = pruneBack sender r
 onDuplicate sender id repeated r = r
-onDuplicate sender id (faster first) r = r ▷ keep id sender ▷ pruneBack first
+onDuplicate sender id (faster first) r = r ▷ setKept id sender ▷ pruneBack first
 
 -- `on_late_graft_reply`, and what follows it
 unfoldable pub onLateGraftReply : ℕ → ℕ → Delivery → Run → Run

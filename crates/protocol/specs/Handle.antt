@@ -10,7 +10,7 @@ use Rattle.protocol.specs.Run.{Run, withState, withCounts}
 use Rattle.protocol.specs.Gossips.{onGossip, broadcast}
 use Rattle.protocol.specs.Control.{onIHave, onGraft, onPrune, onSendGraftTimer}
 use Rattle.protocol.specs.Ticks.{onDispatchTimer, onAnnounceDroppedTimer, onEvictCacheTimer}
-use Rattle.protocol.specs.Neighbours.{neighborUp, neighborDown}
+use Rattle.protocol.specs.Neighbours.{onNeighborUp, onNeighborDown}
 
 -- "the first other event evicts and schedules EvictCache before anything else"
 unfoldable pub firstEvent : ℕ → Run → Run
@@ -57,5 +57,5 @@ module _ (hash : List ℕ → ℕ) where
   handle now (Received p m) r = r ▷ firstEvent now ▷ handleMessage now p m
   handle now (Broadcast content scope) r = r ▷ firstEvent now ▷ broadcast hash now content scope
   handle now (Fired t) r = r ▷ firstEvent now ▷ onTimer now t
-  handle now (Up p) r = neighborUp p r
-  handle now (Down p) r = neighborDown p r
+  handle now (Up p) r = onNeighborUp p r
+  handle now (Down p) r = onNeighborDown p r

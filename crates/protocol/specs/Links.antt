@@ -51,12 +51,12 @@ unfoldable pub markIfThere : ℕ → Mark → Links → Links
 markIfThere p m l = if isNeighbour p l then insert p m l else l
 
 -- `add_eager`, wherever a step other than "up" makes a peer eager
-unfoldable pub makeEager : ℕ → Links → Links
-makeEager p l = markIfThere p eager l
+unfoldable pub addEager : ℕ → Links → Links
+addEager p l = markIfThere p eager l
 
 -- `add_lazy`
-unfoldable pub makeLazy : ℕ → Links → Links
-makeLazy p l = markIfThere p lazy l
+unfoldable pub addLazy : ℕ → Links → Links
+addLazy p l = markIfThere p lazy l
 
 -- "Up: into eager, out of lazy"
 unfoldable pub linkUp : ℕ → Links → Links

@@ -10,11 +10,11 @@ use Rattle.protocol.specs.Links.{linkUp, linkDown}
 use Rattle.protocol.specs.State.{State, Hop, Note, Grafts, withLinks, withQueue, withDropped, withMissing, withGrafted}
 use Rattle.protocol.specs.Run.{Run, withState}
 use Rattle.protocol.specs.Push.{forPeer}
-use Rattle.protocol.specs.Gossips.{linksOf}
+use Rattle.protocol.specs.Gossips.{updateLinks}
 
 -- `on_neighbor_up`: "Up: into eager, out of lazy"
-unfoldable pub neighborUp : ℕ → Run → Run
-neighborUp p r = r ▷ linksOf (linkUp p)
+unfoldable pub onNeighborUp : ℕ → Run → Run
+onNeighborUp p r = r ▷ updateLinks (linkUp p)
 
 -- "out of announcers (empty lists go)"
 unfoldable pub withoutAnnouncer : ℕ → List Hop → List Hop
@@ -49,5 +49,5 @@ forgetPeer p s =
     ▷ withDropped (withoutNotes p (s .dropped))
     ▷ withGrafted (forgetGrafted p (s .grafted))
 
-unfoldable pub neighborDown : ℕ → Run → Run
-neighborDown p r = r ▷ withState (forgetPeer p (r .state))
+unfoldable pub onNeighborDown : ℕ → Run → Run
+onNeighborDown p r = r ▷ withState (forgetPeer p (r .state))

@@ -19,13 +19,13 @@ use Rattle.protocol.specs.Gossips.{markReceived, cacheAt, hopsOf, announ
 use Rattle.protocol.specs.Control.{addAnnouncer, announce, scheduleGraft, onAnnounced, onIHave, withGraft, noteGraft, leaveAnnouncers, askFirst, unmark, onSendGraftTimer}
 use Rattle.protocol.specs.Ticks.{moveOldest, stillCached, dispatchIfQueued, onAnnounceDroppedTimer, clearDispatch, onDispatchTimer, evict, onEvictCacheTimer}
 use Rattle.protocol.specs.Neighbours.{withoutAnnouncer, forgetAnnouncer, withoutGraft, forgetGrafted, forgetPeer}
-use Rattle.protocol.specs.Demand3.{lists, isGraftFor, either, sends}
+use Rattle.protocol.specs.Demand3.{lists, isGraftFor, takenOrHandedBack, sends}
 use Rattle.lists.proofs.MapLaws.{cases, true≢, and-left, and-right, and-intro, all-head, all-tail, all-cons, ascending-insert, ascending-remove, lookup-insert-same, lookup-insert-other, lookup-remove-same, lookup-remove-other}
 use Rattle.lists.proofs.Lists.{or-cases, any-append, any-left, any-right, any-one}
 use Rattle.time_cache.proofs.CacheLaws.{eqb-sym}
 use Rattle.protocol.proofs.Trace.{hopOf}
 use Rattle.protocol.proofs.Walk.{Sending, Steps, walk-dispatchTo}
-use Rattle.protocol.proofs.Apart.{Apart, apart-noteDropped, apart-schedule}
+use Rattle.protocol.proofs.RecordOnly.{RecordOnly, only-noteDropped, only-schedule}
 
 -- the announcers stand by identifier, ascending
 abbrev pub Sorted : State → Type 0
@@ -160,8 +160,8 @@ shrinks-evict now r = record { sorted = λ o. o; announcing = λ p j h. h; graft
     on p j (inl e) h = rw e at h
     on p j (inr e) h = true≢ (rw e at h)
 
-apart-shrinks : {r r′ : Run} → Apart r r′ → Shrinks r r′
-apart-shrinks a = same (a .missing) (a .grafted)
+only-shrinks : {r r′ : Run} → RecordOnly r r′ → Shrinks r r′
+only-shrinks a = same (a .missing) (a .grafted)
 
 shrinks-scheduleDispatch : (r : Run) → Shrinks r (scheduleDispatch r)
 unfolding scheduleDispatch act
@@ -177,7 +177,7 @@ shrinks-scheduleGraft id r = shrinks-if (member id (r .state .graftTimers)) (shr
 
 pub shrinks-sending : Sending Shrinks
 unfolding send
-shrinks-sending = record { stays = shrinks-refl; follows = shrinks-trans; sends = λ p m r. same refl refl; notes = λ p hs r. apart-shrinks (apart-noteDropped p hs r) }
+shrinks-sending = record { stays = shrinks-refl; follows = shrinks-trans; sends = λ p m r. same refl refl; notes = λ p hs r. only-shrinks (only-noteDropped p hs r) }
 
 pub shrinks-steps : Steps Shrinks
 unfolding updateLinks markReceived unmark act
@@ -216,7 +216,7 @@ shrinks-announceDropped r =
     let r₁ : Run = withState (moveOldest (stillCached (r .state)) (r .state)) r in
     shrinks-trans r r₁ _ (same refl refl)
     (shrinks-trans r₁ (dispatchIfQueued r₁) _ (shrinks-if (isEmpty (r₁ .state .queue)) (shrinks-refl r₁) (shrinks-scheduleDispatch r₁))
-    (apart-shrinks (apart-schedule (dispatchIfQueued r₁))))
+    (only-shrinks (only-schedule (dispatchIfQueued r₁))))
 
 -- IHave
 
@@ -342,7 +342,7 @@ pub record Asks (r r′ : Run) : Type 0 where
   pub sorted : Sorted (r .state) → Sorted (r′ .state)
   pub announcing : (p id : ℕ) → any (hopOf p) (announcers id (r′ .state)) ≡ true → any (hopOf p) (announcers id (r .state)) ≡ true
   pub grafting : (p id : ℕ) → has p (graftedFor id (r′ .state)) ≡ true →
-      (has p (graftedFor id (r .state)) ≡ true) ⊎ ((any (hopOf p) (announcers id (r .state)) ≡ true) × (any (sends p (isGraftFor id) either) (r′ .actions) ≡ true))
+      (has p (graftedFor id (r .state)) ≡ true) ⊎ ((any (hopOf p) (announcers id (r .state)) ≡ true) × (any (sends p (isGraftFor id) takenOrHandedBack) (r′ .actions) ≡ true))
 
 asks-first : (now id : ℕ) (hs : List Hop) (r : Run) → announcers id (r .state) ≡ hs → Asks r (askFirst now id hs r)
 unfolding askFirst leaveAnnouncers updateLinks noteGraft send act announcers graftedFor sends isGraftFor
@@ -358,12 +358,12 @@ asks-first now id (h ∷ hs) r e = record {
     ann p j (inr (q, x)) = rw (eqb-true j id q, e) (any-right (hopOf p) (h ∷ []) hs x)
 
     gra : (p j : ℕ) → (has p (peersOf (get j (r .state .grafted))) ≡ true) ⊎ ((eqb id j ≡ true) × (eqb (h .peer) p ≡ true)) →
-        (has p (graftedFor j (r .state)) ≡ true) ⊎ ((any (hopOf p) (announcers j (r .state)) ≡ true) × (any (sends p (isGraftFor j) either) (askFirst now id (h ∷ hs) r .actions) ≡ true))
+        (has p (graftedFor j (r .state)) ≡ true) ⊎ ((any (hopOf p) (announcers j (r .state)) ≡ true) × (any (sends p (isGraftFor j) takenOrHandedBack) (askFirst now id (h ∷ hs) r .actions) ≡ true))
     gra p j (inl x) = inl x
     gra p j (inr (q, x)) = inr (
       rw (← eqb-true id j q, e) (any-left (hopOf p) (h ∷ []) hs (any-one (hopOf p) h ∙ x)),
-      any-left (sends p (isGraftFor j) either) _ (Scheduled _ (SendGraft id) ∷ [])
-          (any-right (sends p (isGraftFor j) either) (r .actions) (Sent (h .peer) _ (Graft (some id) (h .round)) ∷ []) (any-one (sends p (isGraftFor j) either) _ ∙ rw (x, q))),
+      any-left (sends p (isGraftFor j) takenOrHandedBack) _ (Scheduled _ (SendGraft id) ∷ [])
+          (any-right (sends p (isGraftFor j) takenOrHandedBack) (r .actions) (Sent (h .peer) _ (Graft (some id) (h .round)) ∷ []) (any-one (sends p (isGraftFor j) takenOrHandedBack) _ ∙ rw (x, q))),
     )
 
 pub asks : (now id : ℕ) (r : Run) → Asks r (onSendGraftTimer now id r)

@@ -15,13 +15,13 @@ use Rattle.protocol.specs.Ticks.{oldest, younger, moveOldest, stillCache
 use Rattle.protocol.specs.Whole.{contentHeld}
 use Rattle.protocol.specs.Growth.{Sizes, sizesOf, sizedRecorded, recordAction, dispatchAction, announceSizes, announceActions}
 use Rattle.lists.proofs.MapLaws.{cases}
-use Rattle.protocol.proofs.Aside.{aside-schedule}
-use Rattle.protocol.proofs.NoteLaws.{aside-sizes, schedule-dropped, schedule-actions}
+use Rattle.protocol.proofs.RecordOnly.{only-schedule}
+use Rattle.protocol.proofs.NoteLaws.{only-sizes, schedule-dropped, schedule-actions}
 use Rattle.protocol.proofs.GrowthBase.{if-on, if-both, if-same}
 use Rattle.protocol.proofs.GrowthTicks.{dispatch-sizes, dispatch-actions, dispatch-state}
 
 pub schedule-sizes : (r : Run) → sizesOf (scheduleAnnounceDropped r .state) ≡ sizesOf (r .state)
-schedule-sizes r = aside-sizes r (scheduleAnnounceDropped r) (aside-schedule r) ∙ rw (schedule-dropped r) (unfold sizesOf in refl)
+schedule-sizes r = only-sizes r (scheduleAnnounceDropped r) (only-schedule r) ∙ rw (schedule-dropped r) (unfold sizesOf in refl)
 
 queued-sizes : (r : Run) → sizesOf (dispatchIfQueued r .state) ≡ sizesOf (r .state)
 unfolding dispatchIfQueued

@@ -332,10 +332,6 @@ pub first-rooms : (now : ℕ) (r : Run) → firstEvent now r .rooms ≡ r .rooms
 unfolding firstEvent onEvictCacheTimer act
 first-rooms now r = if-on (λ (x : Run). x .rooms) (r .state .init) _ _ ∙ if-same (r .state .init) refl refl
 
-pub first-full : (now : ℕ) (r : Run) → firstEvent now r .full ≡ r .full
-unfolding firstEvent onEvictCacheTimer act
-first-full now r = if-on (λ (x : Run). x .full) (r .state .init) _ _ ∙ if-same (r .state .init) refl refl
-
 -- the sizes of the settled state, of the state before
 pub settled-sizes : (now : ℕ) (s : State) → sizesOf (settled now s) ≡ settledSizes now s
 unfolding settled settledSizes sizesOf contentHeld

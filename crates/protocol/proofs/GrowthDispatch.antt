@@ -22,11 +22,11 @@ use Rattle.lists.proofs.MapLaws.{cases, true≢, and-left, and-right, all-head,
 use Rattle.time_cache.proofs.CacheLaws.{eqb-sym}
 use Rattle.lists.proofs.ListLaws.{all-append}
 use Rattle.protocol.proofs.Walk.{walk-dispatchTo}
-use Rattle.protocol.proofs.Aside.{Aside, aside-refl, aside-trans, aside-send, aside-noteDropped, aside-sending}
+use Rattle.protocol.proofs.RecordOnly.{RecordOnly, only-refl, only-trans, only-send, only-noteDropped, only-sending}
 use Rattle.protocol.proofs.Sane.{Core, CoreOf, Sane, flagged, byNeighbour}
 use Rattle.protocol.proofs.SaneParts.{all-insertKey, ascending-insertKey}
 use Rattle.protocol.proofs.GrowthBase.{has-first, kth-used-same, kth-used-other, if-on, if-both, if-same}
-use Rattle.protocol.proofs.NoteLaws.{aside-sizes, NotedFor, noted-for, nextFlag, gains-now}
+use Rattle.protocol.proofs.NoteLaws.{only-sizes, NotedFor, noted-for, nextFlag, gains-now}
 use Rattle.protocol.proofs.PushLaws.{once-ascending, noted-filled}
 
 -- the pieces, one after the other
@@ -65,7 +65,7 @@ addPieces c rooms (x ∷ xs) ds = addPieces c rooms xs (if pieceTaken rooms x th
 
 -- one piece
 record One (brought : List Room) (x : Piece) (r r′ : Run) : Type 0 where
-  aside : Aside r r′
+  aside : RecordOnly r r′
   rooms : r′ .rooms ≡ useRoom (x .peer) (r .rooms)
   dropped : r′ .state .dropped ≡ (if pieceTaken brought x then r .state .dropped else addNotes (r .state .cache) (x .peer) (x .ihaves) (r .state .dropped))
   actions : r′ .actions ≡ (r .actions ++ (Sent (x .peer) (pieceTaken brought x) (IHave (x .ihaves)) ∷ []))
@@ -83,7 +83,7 @@ one-piece brought x r n e = on (hasRoom (x .peer) (r .rooms)) refl
     on true h =
         let t : pieceTaken brought x ≡ true = sym e ∙ h in
         record {
-          aside = aside-send (x .peer) (IHave (x .ihaves)) r;
+          aside = only-send (x .peer) (IHave (x .ihaves)) r;
           rooms = unfold send in refl;
           dropped = rw t (unfold send in refl);
           actions = rw t (unfold send in (rw h (sym (append-nil (r .actions ++ (Sent (x .peer) true (IHave (x .ihaves)) ∷ []))))));
@@ -93,7 +93,7 @@ one-piece brought x r n e = on (hasRoom (x .peer) (r .rooms)) refl
         let t : pieceTaken brought x ≡ false = sym e ∙ h in
         let k = noted-for (x .peer) (x .ihaves) (send (x .peer) (IHave (x .ihaves)) r) (unfold send in n) in
         record {
-          aside = aside-trans r (send (x .peer) (IHave (x .ihaves)) r) _ (aside-send (x .peer) (IHave (x .ihaves)) r) (aside-noteDropped (x .peer) (x .ihaves) (send (x .peer) (IHave (x .ihaves)) r));
+          aside = only-trans r (send (x .peer) (IHave (x .ihaves)) r) _ (only-send (x .peer) (IHave (x .ihaves)) r) (only-noteDropped (x .peer) (x .ihaves) (send (x .peer) (IHave (x .ihaves)) r));
           rooms = k .rooms ∙ unfold send in refl;
           dropped = rw t (k .dropped ∙ unfold send in refl);
           actions = rw t (k .actions ∙ unfold send in (rw h refl));
@@ -153,12 +153,12 @@ next-flagged false false ds [] h = refl
 next-flagged false false ds (d ∷ ds′) h = refl
 
 module _ (brought : List Room) where
-  pieces-aside : (xs : List Piece) (r : Run) → all (λ x. isNeighbour (x .peer) (r .state .links)) xs ≡ true → Rightly brought (r .rooms) xs → Aside r (sendPieces xs r)
+  pieces-aside : (xs : List Piece) (r : Run) → all (λ x. isNeighbour (x .peer) (r .state .links)) xs ≡ true → Rightly brought (r .rooms) xs → RecordOnly r (sendPieces xs r)
   unfolding sendPieces Rightly
-  pieces-aside [] r n w = aside-refl r
+  pieces-aside [] r n w = only-refl r
   pieces-aside (x ∷ xs) r n w =
       let o = one-piece brought x r (all-head (λ x. isNeighbour (x .peer) (r .state .links)) x xs n) (unfold pieceTaken in (w .0)) in
-      aside-trans r _ _ (o .aside) (pieces-aside xs (sendIhave (x .peer) (x .ihaves) r) (rw (o .aside .links) (all-tail (λ x. isNeighbour (x .peer) (r .state .links)) x xs n)) (rw (o .rooms) (w .1)))
+      only-trans r _ _ (o .aside) (pieces-aside xs (sendIhave (x .peer) (x .ihaves) r) (rw (o .aside .links) (all-tail (λ x. isNeighbour (x .peer) (r .state .links)) x xs n)) (rw (o .rooms) (w .1)))
 
   pieces-dropped : (xs : List Piece) (r : Run) → all (λ x. isNeighbour (x .peer) (r .state .links)) xs ≡ true → Rightly brought (r .rooms) xs →
       sendPieces xs r .state .dropped ≡ addPieces (r .state .cache) brought xs (r .state .dropped)
@@ -348,7 +348,7 @@ module _ (r : Run) (x : Sane (r .state)) where
   unfolding dispatchSizes qs k
   dispatched-sizes =
       ap (λ (y : Run). sizesOf (y .state)) dispatch-is ∙ clear-sizes (sendPieces (pieces qs k (r .state .queue)) r₁)
-      ∙ aside-sizes r₁ (sendPieces (pieces qs k (r .state .queue)) r₁) (pieces-aside (r .rooms) (pieces qs k (r .state .queue)) r₁ near₁ right₁)
+      ∙ only-sizes r₁ (sendPieces (pieces qs k (r .state .queue)) r₁) (pieces-aside (r .rooms) (pieces qs k (r .state .queue)) r₁ near₁ right₁)
       ∙ rw (recorded₁, empty-sizes) refl
 
   pub dispatched-actions : onDispatchTimer r .actions ≡ r .actions ++ dispatchActions (r .rooms) (r .state)

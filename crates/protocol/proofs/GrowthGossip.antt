@@ -21,7 +21,7 @@ use Rattle.protocol.specs.Whole.{contentHeld}
 use Rattle.protocol.specs.Growth.{Sizes, sizesOf, sizedMissing, sizedTimers, sizedRecorded, sizedQueued, sizedReceived, sizedReceivedExpiry, sizedCached, sizedCachedExpiry, sizedContent, contentOf, kthTaken, firstSend, grown, shrunk, dispatchAction, backPeers, pushActions, pushGains, takenSizes, lateActions, optimiseActions, newSizes, newActions}
 use Rattle.lists.proofs.MapLaws.{cases, true≢, and-left, and-right, and-intro, all-head, all-tail, lookup-insert-same}
 use Rattle.time_cache.proofs.CacheLaws.{eqb-sym}
-use Rattle.protocol.proofs.Aside.{Aside}
+use Rattle.protocol.proofs.RecordOnly.{RecordOnly}
 use Rattle.protocol.proofs.Sane.{Core, CoreOf, Sane}
 use Rattle.protocol.proofs.SaneParts.{ascending-mark}
 use Rattle.protocol.proofs.GrowthBase.{length-remove, length-removeKey, has-first, kth-used-same, kth-used-other, if-on, if-both, if-same}
@@ -279,7 +279,7 @@ record Pushed (id : ℕ) (r₃ r₅ : Run) : Type 0 where
   settings : r₅ .state .settings ≡ r₃ .state .settings
   grafted : r₅ .state .grafted ≡ r₃ .state .grafted
 
-pushed : (id round sender : ℕ) (r₃ r₄ : Run) → Aside r₃ r₄ → Pushed id r₃ (lazyPush id round sender r₄)
+pushed : (id round sender : ℕ) (r₃ r₄ : Run) → RecordOnly r₃ r₄ → Pushed id r₃ (lazyPush id round sender r₄)
 pushed id round sender r₃ r₄ a = record {
   links = lazy-field (λ s. s .links) (λ b s. refl) (λ q s. refl) id round sender r₄ ∙ a .links;
   missing = lazy-field (λ s. s .missing) (λ b s. refl) (λ q s. refl) id round sender r₄ ∙ a .missing;
@@ -296,7 +296,7 @@ raise-actions : (round : ℕ) (r : Run) → raiseHops round r .actions ≡ r .ac
 unfolding raiseHops
 raise-actions round r = refl
 
-after-sizes : (id sender round : ℕ) (r₃ r₄ : Run) → Aside r₃ r₄ → ascending (keys (r₃ .state .links)) ≡ true → ascending (keys (r₃ .state .missing)) ≡ true → ascending (r₃ .state .graftTimers) ≡ true →
+after-sizes : (id sender round : ℕ) (r₃ r₄ : Run) → RecordOnly r₃ r₄ → ascending (keys (r₃ .state .links)) ≡ true → ascending (keys (r₃ .state .missing)) ≡ true → ascending (r₃ .state .graftTimers) ≡ true →
     sizesOf (raiseHops (suc round) (forgetAndOptimise id sender round (lazyPush id (suc round) sender r₄)) .state) ≡
     sizedMissing (shrunk (has id (r₃ .state .missing)) (length (r₃ .state .missing)))
     (sizedTimers (shrunk (member id (r₃ .state .graftTimers)) (length (r₃ .state .graftTimers)))
@@ -313,7 +313,7 @@ unfolding optimiseActions
 tree-state rooms sender round [] s t e d = refl
 tree-state rooms sender round (h ∷ hs) s t e d = rw (e, d) refl
 
-after-actions : (id sender round : ℕ) (r₃ r₄ : Run) → Aside r₃ r₄ →
+after-actions : (id sender round : ℕ) (r₃ r₄ : Run) → RecordOnly r₃ r₄ →
     raiseHops (suc round) (forgetAndOptimise id sender round (lazyPush id (suc round) sender r₄)) .actions ≡
     (r₄ .actions ++ dispatchAction (r₃ .state))
     ++ (if isNeighbour sender (r₃ .state .links) && not (graftOut sender round (graftedFor id (r₃ .state))) then optimiseActions (r₄ .rooms) sender (suc round) (announcers id (r₃ .state)) (r₃ .state) else [])

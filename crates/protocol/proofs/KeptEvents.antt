@@ -22,9 +22,9 @@ use Rattle.protocol.specs.Ticks.{perMessage, queuedPeers, dispatchTo, cl
 use Rattle.protocol.specs.Neighbours.{onNeighborUp, onNeighborDown, forgetPeer}
 use Rattle.protocol.specs.Handle.{firstEvent, countMessage, ifNeighbour, onTimer, onMessage, handleMessage, handle}
 use Rattle.protocol.specs.Whole.{announcersWhole, graftsWhole, whole, fits}
-use Rattle.protocol.specs.Answer.{Call, Ended, refuse, accept, messageFits, countsStay, tooFar, outputOf, lastTwo, askOf, askRead, askWhole, ask}
+use Rattle.protocol.specs.Answer.{Call, Answer, refuse, accept, messageFits, countsStay, tooFar, outputOf, lastTwo, askOf, askRead, askWhole, ask}
 use Rattle.postcard.specs.Decode.{Decoded, decoded, faulty, decodeEvent}
-use Rattle.protocol.specs.Calls.{Ran, Answered, turnedDown, told, answered, stateAfter, countsAfter, prepend, runCalls}
+use Rattle.protocol.specs.Calls.{Ran, stateAfter, countsAfter, prepend, runCalls}
 use Rattle.lists.proofs.MapLaws.{cases, true≢, and-left, and-right, and-intro, all-head, all-tail, all-cons, ascending-insert, ascending-remove}
 use Rattle.protocol.proofs.Accepted.{Accepts, ask-cases}
 use Rattle.protocol.proofs.FreshWhole.{fresh-whole}
@@ -32,7 +32,7 @@ use Rattle.postcard.proofs.DecodeFaults.{faultOf, decode-faults}
 use Rattle.lists.proofs.Lists.{or-right}
 use Rattle.lists.proofs.ListLaws.{all-append, all-filter, all-insert-entry, all-remove-entry, all-lookup}
 use Rattle.protocol.proofs.Walk.{Sending, Steps, walk-if, walk-dispatchTo, walk-firstEvent, walk-onGossip, walk-broadcast, walk-onPrune, walk-onGraft}
-use Rattle.protocol.proofs.Aside.{Aside, aside-schedule, aside-sending}
+use Rattle.protocol.proofs.RecordOnly.{RecordOnly, only-schedule, only-sending}
 use Rattle.time_cache.proofs.Timely.{Timely, timely-put, timely-replace}
 use Rattle.protocol.proofs.Sane.{Within, Core, CoreOf, Sane, Ranged, byNeighbour, flagged, whole-sane, whole-ranged, sane-whole}
 use Rattle.protocol.proofs.SaneParts.{Wider, wider-insert, wider-mark, noted-filter, noted-younger, all-younger, all-oldest, within-filter, within-younger, Announcers, to-announcers, of-announcers, announcers-add, once-tail, Grafted, grafted-get, grafts-replace, grafts-put, grafted-insert, grafted-one}
@@ -187,7 +187,7 @@ kept-dispatch : (r : Run) → Kept r (onDispatchTimer r)
 unfolding onDispatchTimer clearDispatch
 kept-dispatch r =
     let r₁ : Run = withState (withQueue [] (r .state)) r in
-    let a = walk-dispatchTo Aside aside-sending (queuedPeers (r .state .queue)) (perMessage (r .state .settings .maxMessageSize)) (r .state .queue) r₁ in
+    let a = walk-dispatchTo RecordOnly only-sending (queuedPeers (r .state .queue)) (perMessage (r .state .settings .maxMessageSize)) (r .state .queue) r₁ in
     let k = walk-dispatchTo Kept kept-sending (queuedPeers (r .state .queue)) (perMessage (r .state .settings .maxMessageSize)) (r .state .queue) r₁ in
     record {
       settings = a .settings;
@@ -255,7 +255,7 @@ unfolding onAnnounceDroppedTimer
 kept-announceDropped r =
     let r₁ : Run = withState (moveOldest (stillCached (r .state)) (r .state)) r in
     let m = moved-queued r₁ in
-    let a = aside-schedule (dispatchIfQueued r₁) in
+    let a = only-schedule (dispatchIfQueued r₁) in
     record {
       settings = a .settings ∙ m .settings ∙ move-settings (stillCached (r .state)) (r .state);
       limits = a .limits ∙ m .limits ∙ move-limits (stillCached (r .state)) (r .state);
@@ -291,9 +291,9 @@ pub kept-firstEvent : (now : ℕ) (r : Run) → Kept r (firstEvent now r)
 kept-firstEvent now r = walk-firstEvent Kept kept-steps now r
 
 -- the answer is not 5
-abbrev pub notFive : Answered → Bool
-notFive (turnedDown n) = not (eqb n 5)
-notFive (told e acts met) = true
+abbrev pub notFive : Answer → Bool
+notFive (refuse n) = not (eqb n 5)
+notFive (accept e r) = true
 
 -- an accepted creation leaves a whole state
 pub created-whole : (c : Settings) (l : Limits) (block : ℕ) (s : State) (n : Counts) → create c l block ≡ created s n → leb (c .optimizationThreshold) 65535 ≡ true → whole s ≡ true
@@ -339,7 +339,7 @@ module _ (hash : List ℕ → ℕ) where
       sane-whole (handle hash now e r .state) (k .sane (whole-sane (r .state) w))
       (record { size = rw (k .settings) (g .size); durations = rw (k .settings) (g .durations); threshold = rw (k .settings) (g .threshold); limits = rw (k .limits) (g .limits) }) f
 
-  Whole : Ended → Type 0
+  Whole : Answer → Type 0
   Whole (refuse n) = Unit {0}
   Whole (accept e r) = whole (r .state) ≡ true
 
@@ -351,7 +351,7 @@ module _ (hash : List ℕ → ℕ) where
       rw h at w
 
   -- from 6 to 14, or accepted
-  Asked : Ended → Bool
+  Asked : Answer → Bool
   Asked (refuse n) = leb 6 n && leb n 14
   Asked (accept e r) = true
 
@@ -380,12 +380,12 @@ module _ (hash : List ℕ → ℕ) where
   unfolding askWhole
   asked-whole s c k w = rw w refl
 
-  not-five : (x : Ended) → Asked x ≡ true → notFive (answered x) ≡ true
-  unfolding Asked answered
+  not-five : (x : Answer) → Asked x ≡ true → notFive x ≡ true
+  unfolding Asked
   not-five (refuse n) h = cases (eqb n 5) (λ e. true≢ (rw (eqb-true n 5 e) at h)) (λ e. rw e refl)
   not-five (accept e r) h = refl
 
-  after-whole : (s : State) (x : Ended) → whole s ≡ true → Whole x → whole (stateAfter s x) ≡ true
+  after-whole : (s : State) (x : Answer) → whole s ≡ true → Whole x → whole (stateAfter s x) ≡ true
   unfolding stateAfter Whole
   after-whole s (refuse n) w h = w
   after-whole s (accept e r) w h = h
@@ -398,8 +398,8 @@ module _ (hash : List ℕ → ℕ) where
   never-five s c (k ∷ ks) w =
       let x : Whole (askWhole hash s c k) = ask-cases hash s c k Whole (λ n. tt) (λ e a. handle-whole (k .now) e (begin s c (k .rooms)) (a .whole5) (a .fits13)) in
       let i = never-five (stateAfter s (askWhole hash s c k)) (countsAfter c (askWhole hash s c k)) ks (after-whole s (askWhole hash s c k) w x) in
-      let f : notFive (answered (askWhole hash s c k)) ≡ true = not-five (askWhole hash s c k) (rw (asked-whole s c k w) (asked-six s c k)) in
-      (all-cons notFive (answered (askWhole hash s c k)) (runCalls hash (stateAfter s (askWhole hash s c k)) (countsAfter c (askWhole hash s c k)) ks .answers) f (i .0), i .1)
+      let f : notFive (askWhole hash s c k) ≡ true = not-five (askWhole hash s c k) (rw (asked-whole s c k w) (asked-six s c k)) in
+      (all-cons notFive (askWhole hash s c k) (runCalls hash (stateAfter s (askWhole hash s c k)) (countsAfter c (askWhole hash s c k)) ks .answers) f (i .0), i .1)
 
   -- "an accepted creation": its calls are never answered 5
   pub created-never-five : (c : Settings) (l : Limits) (block : ℕ) (s : State) (n : Counts) → create c l block ≡ created s n → leb (c .optimizationThreshold) 65535 ≡ true → (ks : List Call) →

@@ -1,5 +1,4 @@
 pub mod Accepted
-pub mod Apart
 pub mod Demand3
 pub mod Grafts
 pub mod LinkLaws
@@ -16,7 +15,7 @@ pub mod Trace
 pub mod Walk
 pub mod Whatever
 pub mod Worked
-pub mod Aside
+pub mod RecordOnly
 pub mod Astray
 pub mod BackPart
 pub mod Decide

@@ -19,7 +19,7 @@ use Rattle.protocol.specs.Ticks.{clearDispatch, onDispatchTimer, moveOld
 use Rattle.protocol.specs.Handle.{firstEvent, ifNeighbour, onTimer, onMessage, handleMessage}
 use Rattle.lists.proofs.MapLaws.{cases, lookup-insert-same, lookup-insert-other, ascending-insert}
 use Rattle.protocol.proofs.Walk.{Sending, Steps, walk-if, walk-dispatchTo, walk-firstEvent, walk-onGossip, walk-broadcast, walk-onPrune, walk-onGraft, walk-onIHave, walk-onSendGraftTimer}
-use Rattle.protocol.proofs.Apart.{apart-noteDropped, apart-schedule}
+use Rattle.protocol.proofs.RecordOnly.{only-noteDropped, only-schedule}
 
 -- who is a neighbour stays the same
 pub record Keeps (r r′ : Run) : Type 0 where
@@ -94,7 +94,7 @@ keeps-evict now r = still refl
 
 keeps-sending : Sending Keeps
 unfolding send
-keeps-sending = record { stays = keeps-refl; follows = keeps-trans; sends = λ p m r. still refl; notes = λ p hs r. still (apart-noteDropped p hs r .links) }
+keeps-sending = record { stays = keeps-refl; follows = keeps-trans; sends = λ p m r. still refl; notes = λ p hs r. still (only-noteDropped p hs r .links) }
 
 keeps-steps : Steps Keeps
 unfolding act markReceived setFirst setKept forgetMissing unmark
@@ -148,7 +148,7 @@ keeps-announceDropped r =
     let r₁ : Run = withState (moveOldest (stillCached (r .state)) (r .state)) r in
     let k : Keeps r r₁ = still refl in
     let l : Keeps r₁ (dispatchIfQueued r₁) = walk-if Keeps (isEmpty (r₁ .state .queue)) (keeps-refl r₁) (keeps-scheduleDispatch r₁) in
-    k ⨾ l ⨾ still (apart-schedule (dispatchIfQueued r₁) .links)
+    k ⨾ l ⨾ still (only-schedule (dispatchIfQueued r₁) .links)
 
 -- the events
 

@@ -12,7 +12,7 @@ use Rattle.time_cache.specs.TimeCache.{Cache, holds}
 use Rattle.protocol.specs.Links.{isNeighbour}
 use Rattle.postcard.specs.Message.{Ihave, Action, Scheduled, AnnounceDropped}
 use Rattle.protocol.specs.State.{State, Note, Cached, withDropped, withAnnounceScheduled}
-use Rattle.protocol.specs.Run.{Run, act, meet, withState}
+use Rattle.protocol.specs.Run.{Run, act, withState}
 use Rattle.protocol.specs.Push.{forPeer, notes, recordFull, recordAlso, noteOne, noteEach, noteDropped, scheduleAnnounceDropped}
 use Rattle.protocol.specs.Whole.{contentHeld}
 use Rattle.protocol.specs.Growth.{Sizes, sizesOf, sizedRecorded, recordAction, addNote, addNotes, Batch, addBatches, eligible, peerGain, gains}
@@ -20,21 +20,19 @@ use Rattle.lists.proofs.MapLaws.{cases, true≢, and-left, and-right, and-intro
 use Rattle.time_cache.proofs.CacheLaws.{eqb-sym}
 use Rattle.lists.proofs.Lists.{or-false-left, or-false-right, any-append}
 use Rattle.lists.proofs.ListLaws.{count-append}
-use Rattle.protocol.proofs.Aside.{Aside}
+use Rattle.protocol.proofs.RecordOnly.{RecordOnly}
 use Rattle.protocol.proofs.GrowthBase.{if-on, if-both, if-same}
 
 -- the sizes after a push differ in the record only
-pub aside-sizes : (r r′ : Run) → Aside r r′ → sizesOf (r′ .state) ≡ sizedRecorded (length (r′ .state .dropped)) (sizesOf (r .state))
+pub only-sizes : (r r′ : Run) → RecordOnly r r′ → sizesOf (r′ .state) ≡ sizedRecorded (length (r′ .state .dropped)) (sizesOf (r .state))
 unfolding sizesOf contentHeld
-aside-sizes r r′ a = rw (a .links, a .queue, a .missing, a .received, a .grafted, a .cache, a .graftTimers) refl
+only-sizes r r′ a = rw (a .links, a .queue, a .missing, a .received, a .grafted, a .cache, a .graftTimers) refl
 
 -- the run after `note_dropped`
 
 one-dropped : (p : ℕ) (h : Ihave) (r : Run) → noteOne p h r .state .dropped ≡ addNote (r .state .cache) p h (r .state .dropped)
-unfolding noteOne recordAlso meet addNote
-one-dropped p h r =
-    if-on (λ (x : Run). x .state .dropped) (recordFull p (r .state .dropped)) _ _
-    ∙ if-both (recordFull p (r .state .dropped)) refl (if-on (λ (x : Run). x .state .dropped) (holds (h .id) (r .state .cache) && not (any (notes p (h .id)) (r .state .dropped))) _ _)
+unfolding noteOne recordAlso addNote
+one-dropped p h r = if-on (λ (x : Run). x .state .dropped) (not (recordFull p (r .state .dropped)) && holds (h .id) (r .state .cache) && not (any (notes p (h .id)) (r .state .dropped))) _ _
 
 pub record Quiet (r r′ : Run) : Type 0 where
   pub actions : r′ .actions ≡ r .actions
@@ -43,13 +41,12 @@ pub record Quiet (r r′ : Run) : Type 0 where
   pub cache : r′ .state .cache ≡ r .state .cache
 
 one-quiet : (p : ℕ) (h : Ihave) (r : Run) → Quiet r (noteOne p h r)
-unfolding noteOne recordAlso meet
-one-quiet p h r = on (recordFull p (r .state .dropped)) (holds (h .id) (r .state .cache) && not (any (notes p (h .id)) (r .state .dropped)))
+unfolding noteOne recordAlso
+one-quiet p h r = on (not (recordFull p (r .state .dropped)) && holds (h .id) (r .state .cache) && not (any (notes p (h .id)) (r .state .dropped)))
   where
-    on : (a b : Bool) → Quiet r (if a then meet (record { peer = p; id = h .id }) r else if b then recordAlso p h r else r)
-    on true b = unfold meet in (record { actions = refl; rooms = refl; flag = refl; cache = refl })
-    on false true = unfold recordAlso in (record { actions = refl; rooms = refl; flag = refl; cache = refl })
-    on false false = record { actions = refl; rooms = refl; flag = refl; cache = refl }
+    on : (b : Bool) → Quiet r (if b then recordAlso p h r else r)
+    on true = unfold recordAlso in (record { actions = refl; rooms = refl; flag = refl; cache = refl })
+    on false = record { actions = refl; rooms = refl; flag = refl; cache = refl }
 
 pub each-quiet : (p : ℕ) (hs : List Ihave) (r : Run) → Quiet r (noteEach p hs r)
 unfolding noteEach

@@ -20,10 +20,10 @@ use Rattle.lists.proofs.MapLaws.{cases, true≢, and-left, and-right, and-intro
 use Rattle.time_cache.proofs.CacheLaws.{eqb-sym}
 use Rattle.lists.proofs.ListLaws.{all-filter}
 use Rattle.protocol.proofs.Walk.{walk-sendEach, walk-noteForEach}
-use Rattle.protocol.proofs.Aside.{Aside, aside-refl, aside-trans, aside-noteDropped, aside-send, aside-sending}
+use Rattle.protocol.proofs.RecordOnly.{RecordOnly, only-refl, only-trans, only-noteDropped, only-send, only-sending}
 use Rattle.protocol.proofs.SaneParts.{negated, marked-near}
 use Rattle.protocol.proofs.GrowthBase.{if-on, if-both, if-same, has-first, kth-used-same, kth-used-other}
-use Rattle.protocol.proofs.NoteLaws.{aside-sizes, NotedFor, noted-for, nextFlag, gains-now}
+use Rattle.protocol.proofs.NoteLaws.{only-sizes, NotedFor, noted-for, nextFlag, gains-now}
 
 -- peers that stand once
 
@@ -166,7 +166,7 @@ pub for-dropped : (ps : List ℕ) (h : Ihave) (r : Run) → all (λ p. isNeighbo
 unfolding noteForEach batchesFor addBatches
 for-dropped [] h r n = refl
 for-dropped (p ∷ ps) h r n =
-    let a = aside-noteDropped p (h ∷ []) r in
+    let a = only-noteDropped p (h ∷ []) r in
     let t = noted-for p (h ∷ []) r (all-head (λ p. isNeighbour p (r .state .links)) p ps n) in
     for-dropped ps h (noteDropped p (h ∷ []) r) (rw (a .links) (all-tail (λ p. isNeighbour p (r .state .links)) p ps n))
     ∙ rw (a .cache, t .dropped) refl
@@ -175,7 +175,7 @@ pub for-rooms : (ps : List ℕ) (h : Ihave) (r : Run) → all (λ p. isNeighbour
 unfolding noteForEach
 for-rooms [] h r n = refl
 for-rooms (p ∷ ps) h r n =
-    let a = aside-noteDropped p (h ∷ []) r in
+    let a = only-noteDropped p (h ∷ []) r in
     let t = noted-for p (h ∷ []) r (all-head (λ p. isNeighbour p (r .state .links)) p ps n) in
     for-rooms ps h (noteDropped p (h ∷ []) r) (rw (a .links) (all-tail (λ p. isNeighbour p (r .state .links)) p ps n)) ∙ t .rooms
 
@@ -185,7 +185,7 @@ pub for-actions : (ps : List ℕ) (h : Ihave) (r : Run) → all (λ p. isNeighbo
 unfolding noteForEach noteAction
 for-actions [] h r n k = sym (append-nil (r .actions))
 for-actions (p ∷ ps) h r n k =
-    let a = aside-noteDropped p (h ∷ []) r in
+    let a = only-noteDropped p (h ∷ []) r in
     let t = noted-for p (h ∷ []) r (all-head (λ p. isNeighbour p (r .state .links)) p ps n) in
     let f : noteDropped p (h ∷ []) r .state .announceScheduled ≡ true = t .flag ∙ flagged in
     for-actions ps h (noteDropped p (h ∷ []) r) (rw (a .links) (all-tail (λ p. isNeighbour p (r .state .links)) p ps n)) (rw (a .cache) k)
@@ -220,7 +220,7 @@ for-actions (p ∷ ps) h r n k =
 -- the push
 
 pub record PushedTo (ps : List ℕ) (r r′ : Run) : Type 0 where
-  pub aside : Aside r r′
+  pub aside : RecordOnly r r′
   pub rooms : (k q : ℕ) → member q ps ≡ false → kthTaken k q (r′ .rooms) ≡ kthTaken k q (r .rooms)
 
 pub back-near : (rooms : List Room) (l : Links) (ps : List ℕ) → all (λ p. isNeighbour p l) ps ≡ true → all (λ p. isNeighbour p l) (backPeers rooms ps) ≡ true
@@ -246,7 +246,7 @@ module _ (ps : List ℕ) (id : ℕ) (content : List ℕ) (r : Run) (near : all (
 
   pub swarm-pushed : (round : ℕ) → PushedTo ps r (pushTo ps id content (Swarm round) r)
   swarm-pushed round = rw (swarm-is round) (record {
-    aside = aside-trans _ _ _ (walk-sendEach Aside aside-sending ps (Gossip id content (Swarm round)) r) (walk-noteForEach Aside aside-sending (backPeers (r .rooms) ps) (record { id = id; round = round }) _);
+    aside = only-trans _ _ _ (walk-sendEach RecordOnly only-sending ps (Gossip id content (Swarm round)) r) (walk-noteForEach RecordOnly only-sending (backPeers (r .rooms) ps) (record { id = id; round = round }) _);
     rooms = λ k q m. ap (kthTaken k q) (for-rooms (backPeers (r .rooms) ps) (record { id = id; round = round }) (sendEach ps (Gossip id content (Swarm round)) r) (near-after round)) ∙ sent-rooms k q ps (Gossip id content (Swarm round)) r m;
   })
 
@@ -257,7 +257,7 @@ module _ (ps : List ℕ) (id : ℕ) (content : List ℕ) (r : Run) (near : all (
   pub swarm-sizes : (round : ℕ) → sizesOf (pushTo ps id content (Swarm round) r .state) ≡
       sizedRecorded (length (r .state .dropped) + gains (r .state .cache) (r .state .dropped) 0 (batchesFor (record { id = id; round = round }) (backPeers (r .rooms) ps))) (sizesOf (r .state))
   swarm-sizes round =
-      aside-sizes r _ (swarm-pushed round .aside)
+      only-sizes r _ (swarm-pushed round .aside)
       ∙ ap (λ (n : ℕ). sizedRecorded n (sizesOf (r .state))) (ap length (swarm-dropped round)
       ∙ gains-now (r .state .cache) (batchesFor (record { id = id; round = round }) (backPeers (r .rooms) ps)) (r .state .dropped) (rw (batches-peers (record { id = id; round = round }) (backPeers (r .rooms) ps)) (back-once (r .rooms) ps apart)))
 
@@ -271,7 +271,7 @@ module _ (ps : List ℕ) (id : ℕ) (content : List ℕ) (r : Run) (near : all (
 
   pub near-pushed : PushedTo ps r (pushTo ps id content Neighbors r)
   unfolding pushTo noteAfter
-  near-pushed = record { aside = walk-sendEach Aside aside-sending ps (Gossip id content Neighbors) r; rooms = λ k q m. sent-rooms k q ps (Gossip id content Neighbors) r m }
+  near-pushed = record { aside = walk-sendEach RecordOnly only-sending ps (Gossip id content Neighbors) r; rooms = λ k q m. sent-rooms k q ps (Gossip id content Neighbors) r m }
 
   pub near-actions : pushTo ps id content Neighbors r .actions ≡ r .actions ++ map (firstSend (r .rooms) (Gossip id content Neighbors)) ps
   unfolding pushTo noteAfter

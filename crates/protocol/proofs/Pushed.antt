@@ -14,7 +14,7 @@ use Rattle.time_cache.specs.TimeCache.{holds}
 use Rattle.protocol.specs.Links.{isNeighbour, lazyPeers}
 use Rattle.postcard.specs.Message.{Swarm, Ihave, Message, Gossip, IHave, Sent}
 use Rattle.protocol.specs.State.{State, Note, withQueue}
-use Rattle.protocol.specs.Run.{Run, withState, meet, send, takes}
+use Rattle.protocol.specs.Run.{Run, withState, send, takes}
 use Rattle.protocol.specs.Push.{forPeer, notes, recordFull, recordAlso, noteOne, noteEach, noteDropped, sendEach, handedBack, noteForEach, noteAfter, pushTo, noteFor, lazyPush, sendIhave}
 use Rattle.protocol.specs.Ticks.{perMessage, chunks, queuedFor, queuedPeers, sendChunks, dispatchTo, clearDispatch, onDispatchTimer, oldest, younger, moveOldest, stillCached, dispatchIfQueued, onAnnounceDroppedTimer}
 use Rattle.protocol.specs.Demand3.{lists, carries, sends, wasTaken, wasHandedBack}
@@ -22,25 +22,25 @@ use Rattle.lists.proofs.MapLaws.{cases, true≢, and-right}
 use Rattle.lists.proofs.Lists.{or-cases, or-left, or-right, any-append, any-left, any-right, any-one, any-filter}
 use Rattle.protocol.proofs.Trace.{Stands}
 use Rattle.protocol.proofs.Walk.{walk-dispatchTo, walk-sendIhave, walk-sendChunks, walk-noteForEach, walk-sendEach}
-use Rattle.protocol.proofs.Apart.{Apart, apart-sending, apart-send, apart-noteOne, apart-noteDropped}
-use Rattle.protocol.proofs.Reach.{metOf, Grows, grows-refl, grows-trans, grows-sending, grows-noteEach, grows-noteDropped, grows-scheduleAnnounceDropped, grows-scheduleDispatch, Got, wentOut, cameBack, inQueue, inRecord, got-grows}
+use Rattle.protocol.proofs.RecordOnly.{RecordOnly, only-sending, only-send, only-noteOne, only-noteDropped}
+use Rattle.protocol.proofs.Reach.{Grows, grows-refl, grows-trans, grows-sending, grows-noteEach, grows-noteDropped, grows-scheduleAnnounceDropped, grows-scheduleDispatch, Got, wentOut, cameBack, inQueue, inRecord, got-grows}
 
 eqb-refl : (n : ℕ) → eqb n n ≡ true
 eqb-refl n = eq-eqb n n refl
 
--- `note_dropped` came to it: it met a full record, or stands recorded
+-- `note_dropped` came to it: the record is full, or it stands recorded
 abbrev Noted : ℕ → ℕ → Run → Type 0
-Noted p id r = (any (metOf p id) (r .full) ≡ true) ⊎ (any (notes p id) (r .state .dropped) ≡ true)
+Noted p id r = (recordFull p (r .state .dropped) ≡ true) ⊎ (any (notes p id) (r .state .dropped) ≡ true)
 
 noted-grows : (p id : ℕ) {r r′ : Run} → Grows r r′ → Noted p id r → Noted p id r′
-noted-grows p id g (inl h) = inl (g .full (metOf p id) h)
+noted-grows p id g (inl h) = inl (g .full p h)
 noted-grows p id g (inr h) = inr (g .dropped (notes p id) h)
 
 noted-one : (p : ℕ) (h : Ihave) (r : Run) → holds (h .id) (r .state .cache) ≡ true → Noted p (h .id) (noteOne p h r)
-unfolding noteOne meet recordAlso
+unfolding noteOne recordAlso
 noted-one p h r held =
     cases (recordFull p (r .state .dropped))
-    (λ f. rw f (inl (any-right (metOf p (h .id)) (r .full) _ (any-one (metOf p (h .id)) (record { peer = p; id = h .id }) ∙ rw (eqb-refl p, eqb-refl (h .id))))))
+    (λ f. rw f (inl f))
     (λ f. rw f (cases (any (notes p (h .id)) (r .state .dropped))
     (λ q. rw (q, held) (inr q))
     (λ q. rw (q, held) (inr (any-right (notes p (h .id)) (r .state .dropped) _
@@ -52,7 +52,7 @@ noted-each p id [] r l held = true≢ l
 noted-each p id (h ∷ hs) r l held =
     cases (eqb (h .id) id)
     (λ q. noted-grows p id (grows-noteEach p hs (noteOne p h r)) (subst (λ (i : ℕ). Noted p i (noteOne p h r)) (eqb-true (h .id) id q) (noted-one p h r (rw (eqb-true (h .id) id q) held))))
-    (λ q. noted-each p id hs (noteOne p h r) (rw q at l) (rw (apart-noteOne p h r .cache) held))
+    (λ q. noted-each p id hs (noteOne p h r) (rw q at l) (rw (only-noteOne p h r .cache) held))
 
 noted-dropped : (p id : ℕ) (hs : List Ihave) (r : Run) → isNeighbour p (r .state .links) ≡ true → lists id hs ≡ true → holds id (r .state .cache) ≡ true → Noted p id (noteDropped p hs r)
 unfolding noteDropped
@@ -79,7 +79,7 @@ got-sendIhave p id hs r l nb held =
     cases (takes p r)
     (λ t. rw t (wentOut (sent-taken p id (IHave hs) r l t)))
     (λ t. rw t (let r′ = send p (IHave hs) r in
-    let a = apart-send p (IHave hs) r in
+    let a = only-send p (IHave hs) r in
     got-noted p id (noteDropped p hs r′) (grows-noteDropped p hs r′ .actions (sends p (carries id) wasHandedBack) (sent-back p id (IHave hs) r l t))
     (noted-dropped p id hs r′ (rw (a .links) nb) l (rw (a .cache) held))))
 
@@ -89,7 +89,7 @@ got-sendChunks p id [] r l nb held = true≢ l
 got-sendChunks p id (hs ∷ cs) r l nb held =
     cases (lists id hs)
     (λ q. got-grows (walk-sendChunks Grows grows-sending p cs (sendIhave p hs r)) (got-sendIhave p id hs r q nb held))
-    (λ q. let a = walk-sendIhave Apart apart-sending p hs r in
+    (λ q. let a = walk-sendIhave RecordOnly only-sending p hs r in
     got-sendChunks p id cs (sendIhave p hs r) (rw q at l) (rw (a .links) nb) (rw (a .cache) held))
 
 -- the pieces hold all of the list
@@ -147,7 +147,7 @@ got-dispatchTo p id (x ∷ ps) k ns r one m q nb held =
     cases (eqb p x)
     (λ e. rw (← eqb-true p x e) (got-grows (walk-dispatchTo Grows grows-sending ps k ns _)
     (got-sendChunks p id (chunks (length ns) k (queuedFor p ns)) r (chunks-cover (λ h. eqb (h .id) id) (length ns) k (queuedFor p ns) one (queued-length p ns) (queued-lists p id ns q)) nb held)))
-    (λ e. let a = walk-sendChunks Apart apart-sending x (chunks (length ns) k (queuedFor x ns)) r in
+    (λ e. let a = walk-sendChunks RecordOnly only-sending x (chunks (length ns) k (queuedFor x ns)) r in
     got-dispatchTo p id ps k ns (sendChunks x (chunks (length ns) k (queuedFor x ns)) r) one (rw e at m) q (rw (a .links) nb) (rw (a .cache) held))
 
 -- DispatchLazyPush: what is queued goes out or is noted, what is recorded stays
@@ -167,7 +167,7 @@ got-dispatch p id r one nb held (inr h) =
 
 pub queue-dispatch : (r : Run) → onDispatchTimer r .state .queue ≡ []
 unfolding onDispatchTimer clearDispatch
-queue-dispatch r = walk-dispatchTo Apart apart-sending (queuedPeers (r .state .queue)) (perMessage (r .state .settings .maxMessageSize)) (r .state .queue) (withState (withQueue [] (r .state)) r) .queue
+queue-dispatch r = walk-dispatchTo RecordOnly only-sending (queuedPeers (r .state .queue)) (perMessage (r .state .settings .maxMessageSize)) (r .state .queue) (withState (withQueue [] (r .state)) r) .queue
 
 pub cached-dispatch : (id : ℕ) (r : Run) → holds id (onDispatchTimer r .state .cache) ≡ true → holds id (r .state .cache) ≡ true
 unfolding onDispatchTimer clearDispatch
@@ -239,7 +239,7 @@ noted-forEach p [] h r m nb held = true≢ m
 noted-forEach p (x ∷ ps) h r m nb held =
     cases (eqb p x)
     (λ e. rw (← eqb-true p x e) (noted-grows p (h .id) (walk-noteForEach Grows grows-sending ps h (noteDropped p (h ∷ []) r)) (noted-dropped p (h .id) (h ∷ []) r nb (rw (eqb-refl (h .id))) held)))
-    (λ e. let a = apart-noteDropped x (h ∷ []) r in noted-forEach p ps h (noteDropped x (h ∷ []) r) (rw e at m) (rw (a .links) nb) (rw (a .cache) held))
+    (λ e. let a = only-noteDropped x (h ∷ []) r in noted-forEach p ps h (noteDropped x (h ∷ []) r) (rw e at m) (rw (a .links) nb) (rw (a .cache) held))
 
 pub got-pushTo : (p id : ℕ) (ps : List ℕ) (content : List ℕ) (round : ℕ) (r : Run) → member p ps ≡ true → isNeighbour p (r .state .links) ≡ true → holds id (r .state .cache) ≡ true →
     Got p id (pushTo ps id content (Swarm round) r)
@@ -258,8 +258,8 @@ got-pushTo p id ps content round r m nb held = on (sent-each p id ps g r (eqb-re
     after : Grows r₁ (noteForEach (handedBack ps g r) h r₁)
     after = walk-noteForEach Grows grows-sending (handedBack ps g r) h r₁
 
-    a : Apart r r₁
-    a = walk-sendEach Apart apart-sending ps g r
+    a : RecordOnly r r₁
+    a = walk-sendEach RecordOnly only-sending ps g r
 
     on : (any (sends p (carries id) wasTaken) (r₁ .actions) ≡ true) ⊎ ((any (sends p (carries id) wasHandedBack) (r₁ .actions) ≡ true) × (member p (handedBack ps g r) ≡ true)) →
         Got p id (noteForEach (handedBack ps g r) h r₁)

@@ -14,7 +14,7 @@ use Rattle.time_cache.specs.TimeCache.{holds}
 use Rattle.protocol.specs.Links.{isNeighbour}
 use Rattle.postcard.specs.Message.{Delivery, Ihave, Message, DispatchLazyPush, AnnounceDropped, Action, Sent, Scheduled, Emitted}
 use Rattle.protocol.specs.State.{Hop, Note, Grafts, withQueue}
-use Rattle.protocol.specs.Run.{Run, withState, act, meet, send, takes}
+use Rattle.protocol.specs.Run.{Run, withState, act, send, takes}
 use Rattle.protocol.specs.Push.{forPeer, notes, scheduleDispatch, scheduleAnnounceDropped, recordFull, recordAlso, noteOne, noteEach, noteDropped, lazyPush}
 use Rattle.protocol.specs.Gossips.{markReceived, cacheAt, withFirst, setFirst, forgetMissing, updateLinks, withKept, setKept}
 use Rattle.protocol.specs.Control.{announce, scheduleGraft, noteGraft, leaveAnnouncers, unmark}
@@ -186,7 +186,7 @@ pub record Noting (r r′ : Run) : Type 0 where
   pub actions : r′ .actions ≡ r .actions
 
 noting-one : (p : ℕ) (h : Ihave) (r : Run) → Noting r (noteOne p h r)
-unfolding noteOne meet recordAlso
+unfolding noteOne recordAlso
 noting-one p h r =
     cases (recordFull p (r .state .dropped))
     (λ f. rw f (record { settings = refl; within = λ w. w; queue = refl; dispatchScheduled = refl; announceScheduled = refl; actions = refl }))

@@ -13,7 +13,7 @@ use Rattle.time_cache.specs.TimeCache.{Cache, get, holds}
 use Rattle.protocol.specs.Links.{Links, isNeighbour, eagerIn, addEager, addLazy, linkUp}
 use Rattle.postcard.specs.Message.{Delivery, Swarm, Neighbors, Scope, toSwarm, toNeighbors, Ihave, Message, Gossip, Prune, Graft, IHave, Timer, SendGraft, DispatchLazyPush, EvictCache, AnnounceDropped, Event, Received, Broadcast, Fired, Up, Down, Action, Sent, Scheduled, Emitted}
 use Rattle.protocol.specs.State.{State, Counts, Note, Hop, Grafts, Cached}
-use Rattle.protocol.specs.Run.{Run, Room, Met, withState, withCounts, act, meet, hasRoom, useRoom, takes, send}
+use Rattle.protocol.specs.Run.{Run, Room, withState, withCounts, act, hasRoom, useRoom, takes, send}
 use Rattle.protocol.specs.Push.{notes, scheduleDispatch, scheduleAnnounceDropped, recordFull, recordAlso, noteOne, noteEach, noteDropped, sendEach, handedBack, noteForEach, noteAfter, pushTo, eagerPush, lazyPush, sendIhave, eagerTargets}
 use Rattle.protocol.specs.Gossips.{markReceived, cacheAt, announcers, graftedFor, setFirst, graftOut, forgetMissing, raiseHops, leastFrom, farCloser, updateLinks, graftUnlessEager, pruneBack, optimizeTree, forgetAndOptimise, pushOn, takeIn, Late, duplicate, repeated, faster, lateKind, setKept, onDuplicate, onLateGraftReply, onNew, gossipSize, onGossip, broadcastTo, broadcast}
 use Rattle.protocol.specs.Control.{announce, scheduleGraft, onAnnounced, onIHave, onPrune, replyWith, reply, onGraft, noteGraft, leaveAnnouncers, askFirst, unmark, onSendGraftTimer}
@@ -27,7 +27,7 @@ use Rattle.protocol.proofs.GrowthBase.{has-first, kth-used-same, kth-us
 
 -- the same run with other rooms left
 abbrev pub withRooms : List Room → Run → Run
-withRooms rooms r = record { state = r .state; counts = r .counts; rooms = rooms; actions = r .actions; full = r .full }
+withRooms rooms r = record { state = r .state; counts = r .counts; rooms = rooms; actions = r .actions }
 
 abbrev pub toPeer : ℕ → Action → Bool
 toPeer p (Sent q taken m) = eqb q p
@@ -120,10 +120,8 @@ unfolding scheduleAnnounceDropped
 fair-scheduleAnnounce r = fair-if (isEmpty (r .state .dropped) || r .state .announceScheduled) r _ _ _ _ (fair-refl r) (stated _ _ r)
 
 fair-noteOne : (p : ℕ) (h : Ihave) (r : Run) → Fair (noteOne p h) r
-unfolding noteOne recordAlso meet
-fair-noteOne p h r =
-    fair-if (recordFull p (r .state .dropped)) r _ _ _ _ (quiet r _ refl refl)
-    (fair-if (holds (h .id) (r .state .cache) && not (any (notes p (h .id)) (r .state .dropped))) r _ _ _ _ (quiet r _ refl refl) (fair-refl r))
+unfolding noteOne recordAlso
+fair-noteOne p h r = fair-if (not (recordFull p (r .state .dropped)) && holds (h .id) (r .state .cache) && not (any (notes p (h .id)) (r .state .dropped))) r _ _ _ _ (quiet r _ refl refl) (fair-refl r)
 
 fair-noteEach : (p : ℕ) (hs : List Ihave) (r : Run) → Fair (noteEach p hs) r
 unfolding noteEach

@@ -12,7 +12,7 @@ use Rattle.time_cache.specs.TimeCache.{Timed, Cache, get, holds, put, replace, 
 use Rattle.protocol.specs.Links.{eager, lazy, Links, isNeighbour, lazyPeers, isLazy, addEager, addLazy, linkUp}
 use Rattle.postcard.specs.Message.{Delivery, Scope, Ihave, Message, Gossip, Prune, Graft, IHave, Timer, SendGraft, DispatchLazyPush, EvictCache, AnnounceDropped, Event, Received, Broadcast, Fired, Up, Down, Action, Emitted, Scheduled}
 use Rattle.protocol.specs.State.{State, Counts, Note, Hop, Grafts, Cached, withInit, withQueue}
-use Rattle.protocol.specs.Run.{Run, withState, withCounts, act, meet, send}
+use Rattle.protocol.specs.Run.{Run, withState, withCounts, act, send}
 use Rattle.protocol.specs.Push.{forPeer, notes, recordFull, recordAlso, noteOne, noteEach, noteDropped, noteFor, scheduleDispatch, scheduleAnnounceDropped, lazyPush}
 use Rattle.protocol.specs.Gossips.{markReceived, cacheAt, hopsOf, announcers, withFirst, setFirst, forgetMissing, updateLinks, withKept, setKept, broadcast}
 use Rattle.protocol.specs.Control.{addAnnouncer, announce, scheduleGraft, onAnnounced, onIHave, lower, withGraft, noteGraft, leaveAnnouncers, askFirst, unmark, onSendGraftTimer}
@@ -24,7 +24,7 @@ use Rattle.lists.proofs.MapLaws.{cases, true≢, and-left, and-right, and-intro
 use Rattle.lists.proofs.Lists.{or-right}
 use Rattle.lists.proofs.ListLaws.{all-append, all-filter, all-insert-entry, all-remove-entry, all-lookup}
 use Rattle.protocol.proofs.Walk.{Sending, Steps, walk-if, walk-dispatchTo, walk-firstEvent, walk-onGossip, walk-broadcast, walk-onPrune, walk-onGraft}
-use Rattle.protocol.proofs.Aside.{Aside, aside-noteEach, aside-noteOne, aside-schedule, aside-sending}
+use Rattle.protocol.proofs.RecordOnly.{RecordOnly, only-noteEach, only-noteOne, only-schedule, only-sending}
 use Rattle.time_cache.proofs.Timely.{Timely, timely-put, timely-replace, timely-expire, expire-is-filter}
 use Rattle.protocol.proofs.Sane.{Within, Core, CoreOf, Sane, byNeighbour, flagged}
 use Rattle.protocol.proofs.SaneParts.{negated, Wider, wider-insert, wider-mark, ascending-mark, wider-notes, wider-announcers, wider-grafts, marked-near, near-noteFor, noted-more, noted-filter, noted-younger, all-younger, all-oldest, within-filter, within-younger, within-more, ascending-insertKey, ascending-removeKey, Announcers, to-announcers, of-announcers, announcers-add, once-tail, Grafted, to-grafted, of-grafted, grafted-get, grafts-replace, grafts-put, grafted-insert, grafted-one}
@@ -97,20 +97,22 @@ record Noted (p : ℕ) (r r′ : Run) : Type 0 where
   core : isNeighbour p (r .state .links) ≡ true → CoreOf (r .state) → CoreOf (r′ .state)
 
 noted-one : (p : ℕ) (h : Ihave) (r : Run) → Noted p r (noteOne p h r)
-unfolding noteOne recordAlso meet
+unfolding noteOne recordAlso
 noted-one p h r =
-    by-test (Noted p r) (recordFull p (r .state .dropped)) _ _ (λ f. record { core = λ n c. c })
-    (λ f. by-test (Noted p r) (holds (h .id) (r .state .cache) && not (any (notes p (h .id)) (r .state .dropped))) _ _
+    by-test (Noted p r) (not (recordFull p (r .state .dropped)) && holds (h .id) (r .state .cache) && not (any (notes p (h .id)) (r .state .dropped))) _ _
     (λ t. record {
       core = λ n c. core-dropped _ (r .state)
           (all-append (byNeighbour (r .state .links)) (r .state .dropped) _ (c .recorded) (all-cons (byNeighbour (r .state .links)) _ [] n all-nil))
-          (noted-more (r .state .dropped) _ (c .noted) (not-true (any (notes p (h .id)) (r .state .dropped)) (and-right (holds (h .id) (r .state .cache)) (not (any (notes p (h .id)) (r .state .dropped))) t)))
-          (within-more _ (r .state .dropped) f (c .within)) c;
+          (noted-more (r .state .dropped) _ (c .noted) (not-true (any (notes p (h .id)) (r .state .dropped)) (and-right (not (recordFull p (r .state .dropped)) && holds (h .id) (r .state .cache)) (not (any (notes p (h .id)) (r .state .dropped))) t)))
+          (within-more _ (r .state .dropped) (not-full t) (c .within)) c;
     })
-    (λ t. record { core = λ n c. c }))
+    (λ t. record { core = λ n c. c })
   where
     all-nil : all (byNeighbour (r .state .links)) [] ≡ true
     all-nil = unfold all in refl
+
+    not-full : (not (recordFull p (r .state .dropped)) && holds (h .id) (r .state .cache) && not (any (notes p (h .id)) (r .state .dropped))) ≡ true → recordFull p (r .state .dropped) ≡ false
+    not-full t = not-true (recordFull p (r .state .dropped)) (and-left (not (recordFull p (r .state .dropped))) (holds (h .id) (r .state .cache)) (and-left (not (recordFull p (r .state .dropped)) && holds (h .id) (r .state .cache)) (not (any (notes p (h .id)) (r .state .dropped))) t))
 
 noted-each : (p : ℕ) (hs : List Ihave) (r : Run) → Noted p r (noteEach p hs r)
 unfolding noteEach
@@ -118,7 +120,7 @@ noted-each p [] r = record { core = λ n c. c }
 noted-each p (h ∷ hs) r =
     let a = noted-one p h r in
     let b = noted-each p hs (noteOne p h r) in
-    record { core = λ n c. b .core (rw (aside-noteOne p h r .links) n) (a .core n c) }
+    record { core = λ n c. b .core (rw (only-noteOne p h r .links) n) (a .core n c) }
 
 pub announce-sane : (r : Run) → CoreOf (r .state) → flagged (r .state .queue) (r .state .dispatchScheduled) → Sane (scheduleAnnounceDropped r .state)
 unfolding scheduleAnnounceDropped act
@@ -131,8 +133,8 @@ pub kept-noteDropped : (p : ℕ) (hs : List Ihave) (r : Run) → Kept r (noteDro
 unfolding noteDropped
 kept-noteDropped p hs r =
     by-test (Kept r) (isNeighbour p (r .state .links)) _ _
-    (λ n. let a = aside-noteEach p hs r in
-    let b = aside-schedule (noteEach p hs r) in
+    (λ n. let a = only-noteEach p hs r in
+    let b = only-schedule (noteEach p hs r) in
     record {
       settings = b .settings ∙ a .settings;
       limits = b .limits ∙ a .limits;

@@ -16,7 +16,8 @@ use Rattle.protocol.specs.Run.{Run}
 use Rattle.protocol.specs.Gossips.{updateLinks}
 use Rattle.protocol.specs.Neighbours.{onNeighborUp, onNeighborDown, forgetPeer}
 use Rattle.protocol.specs.Handle.{firstEvent, handle}
-use Rattle.protocol.specs.Demand3.{upAfterEvent, InOne, inEager, inLazy, InNeither}
+use Rattle.protocol.specs.Answer.{accept}
+use Rattle.protocol.specs.Demand3.{byEvent, isUp, isDown, tellsDown, upAfterCall, InOne, inEager, inLazy, InNeither}
 use Rattle.lists.proofs.MapLaws.{cases, true≢, all-head, all-tail, and-left, and-right, lookup-insert-same, lookup-insert-other, lookup-remove-same, lookup-remove-other, ascending-insert, ascending-remove}
 use Rattle.protocol.proofs.LinkLaws.{_⨾_, keeps-firstEvent, keeps-handleMessage, keeps-broadcastEvent, keeps-onTimer}
 
@@ -33,8 +34,8 @@ down-links q p l =
 module _ (hash : List ℕ → ℕ) where
   -- one event: who is a neighbour after it
   pub step-neighbours : (now : ℕ) (e : Event) (r : Run) (q : ℕ) →
-      isNeighbour q (handle hash now e r .state .links) ≡ upAfterEvent q e (isNeighbour q (r .state .links))
-  unfolding handle upAfterEvent onNeighborUp onNeighborDown forgetPeer updateLinks linkUp linkDown
+      isNeighbour q (handle hash now e r .state .links) ≡ upAfterCall q (accept e (handle hash now e r)) (isNeighbour q (r .state .links))
+  unfolding handle upAfterCall byEvent tellsDown isUp isDown onNeighborUp onNeighborDown forgetPeer updateLinks linkUp linkDown
   step-neighbours now (Received p m) r q = (keeps-firstEvent now r ⨾ keeps-handleMessage hash now p m (firstEvent now r)) .same q
   step-neighbours now (Broadcast content scope) r q = (keeps-firstEvent now r ⨾ keeps-broadcastEvent hash now content scope (firstEvent now r)) .same q
   step-neighbours now (Fired t) r q = (keeps-firstEvent now r ⨾ keeps-onTimer now t (firstEvent now r)) .same q

@@ -10,8 +10,8 @@ use Rattle.protocol.specs.State.{State, Counts}
 use Rattle.protocol.specs.Run.{Run, Room, begin}
 use Rattle.protocol.specs.Ticks.{perMessage}
 use Rattle.protocol.specs.Handle.{handle}
-use Rattle.protocol.specs.Calls.{told}
-use Rattle.protocol.specs.Demand3.{upAfterCall, tellsDown, announced, sent, scheduled, fired}
+use Rattle.protocol.specs.Answer.{accept}
+use Rattle.protocol.specs.Demand3.{byEvent, byAction, tellsDown, announced, sent, scheduled, fired}
 use Rattle.protocol.proofs.Sentence1.{step-neighbours, step-ordered}
 use Rattle.protocol.proofs.Trace.{Does}
 use Rattle.protocol.proofs.StepRecord.{Timers, timers}
@@ -25,8 +25,8 @@ module _ (hash : List ℕ → ℕ) where
 
   pub step : (s : State) (n : Counts) (rooms : List Room) (now : ℕ) (e : Event) → ascending (keys (s .links)) ≡ true → ascending (keys (s .missing)) ≡ true →
       1 ≤ perMessage (s .settings .maxMessageSize) →
-      Does hash (s .settings) s (told e (ranOn s n rooms now e .actions) (ranOn s n rooms now e .full)) (ranOn s n rooms now e .state)
-  unfolding upAfterCall tellsDown announced sent scheduled fired any
+      Does hash (s .settings) s (accept e (ranOn s n rooms now e)) (ranOn s n rooms now e .state)
+  unfolding byEvent byAction tellsDown announced sent scheduled fired any
   step s n rooms now e links missing one =
       let b : Run = begin s n rooms in
       let t : Timers e b (ranOn s n rooms now e) = timers hash now e b in

@@ -15,7 +15,7 @@ use Rattle.protocol.specs.Gossips.{announcers, graftedFor, updateLinks}
 use Rattle.protocol.specs.Control.{onIHave, onSendGraftTimer}
 use Rattle.protocol.specs.Neighbours.{forgetPeer, onNeighborUp, onNeighborDown}
 use Rattle.protocol.specs.Handle.{firstEvent, countMessage, ifNeighbour, onTimer, onMessage, handleMessage, handle}
-use Rattle.protocol.specs.Demand3.{isDown, lists, announcesIn, isGraftFor, either, sends}
+use Rattle.protocol.specs.Demand3.{isDown, lists, announcesIn, isGraftFor, takenOrHandedBack, sends}
 use Rattle.lists.proofs.MapLaws.{cases}
 use Rattle.protocol.proofs.LinkLaws.{keeps-firstEvent}
 use Rattle.protocol.proofs.Trace.{hopOf}
@@ -27,7 +27,7 @@ pub record Graftings (e : Event) (r r′ : Run) : Type 0 where
   pub announcing : (p id : ℕ) → any (hopOf p) (announcers id (r′ .state)) ≡ true →
       (isDown p e ≡ false) × ((any (hopOf p) (announcers id (r .state)) ≡ true) ⊎ ((announcesIn p id e ≡ true) × (isNeighbour p (r .state .links) ≡ true)))
   pub grafting : (p id : ℕ) → has p (graftedFor id (r′ .state)) ≡ true →
-      (isDown p e ≡ false) × ((has p (graftedFor id (r .state)) ≡ true) ⊎ ((any (hopOf p) (announcers id (r .state)) ≡ true) × (any (sends p (isGraftFor id) either) (r′ .actions) ≡ true)))
+      (isDown p e ≡ false) × ((has p (graftedFor id (r .state)) ≡ true) ⊎ ((any (hopOf p) (announcers id (r .state)) ≡ true) × (any (sends p (isGraftFor id) takenOrHandedBack) (r′ .actions) ≡ true)))
 
 graftings-shrinks : (e : Event) {r r′ : Run} → ((p : ℕ) → isDown p e ≡ false) → Shrinks r r′ → Graftings e r r′
 graftings-shrinks e d x = record { sorted = x .sorted; announcing = λ p id h. (d p, inl (x .announcing p id h)); grafting = λ p id h. (d p, inl (x .grafting p id h)) }
@@ -73,8 +73,8 @@ module _ (hash : List ℕ → ℕ) where
       on nb q id (inr (h, l)) = inr (rw (h, l), rw (← eqb-true p q h) (sym (keeps-firstEvent now r .same p) ∙ nb))
 
   asked : {r r₁ : Run} (actions : List Action) → Shrinks r r₁ → (p id : ℕ) →
-      (has p (graftedFor id (r₁ .state)) ≡ true) ⊎ ((any (hopOf p) (announcers id (r₁ .state)) ≡ true) × (any (sends p (isGraftFor id) either) actions ≡ true)) →
-      (has p (graftedFor id (r .state)) ≡ true) ⊎ ((any (hopOf p) (announcers id (r .state)) ≡ true) × (any (sends p (isGraftFor id) either) actions ≡ true))
+      (has p (graftedFor id (r₁ .state)) ≡ true) ⊎ ((any (hopOf p) (announcers id (r₁ .state)) ≡ true) × (any (sends p (isGraftFor id) takenOrHandedBack) actions ≡ true)) →
+      (has p (graftedFor id (r .state)) ≡ true) ⊎ ((any (hopOf p) (announcers id (r .state)) ≡ true) × (any (sends p (isGraftFor id) takenOrHandedBack) actions ≡ true))
   asked actions s p id (inl h) = inl (s .grafting p id h)
   asked actions s p id (inr (h, g)) = inr (s .announcing p id h, g)
 

@@ -19,8 +19,8 @@ use Rattle.protocol.specs.Gossips.{markReceived, cacheAt, graftedFor, up
 use Rattle.protocol.specs.Ticks.{perMessage, onDispatchTimer, onAnnounceDroppedTimer, onEvictCacheTimer}
 use Rattle.protocol.specs.Neighbours.{withoutNotes, forgetPeer, onNeighborUp, onNeighborDown}
 use Rattle.protocol.specs.Handle.{firstEvent, countMessage, ifNeighbour, onTimer, onMessage, handleMessage, handle}
-use Rattle.protocol.specs.Calls.{told}
-use Rattle.protocol.specs.Demand3.{isDown, tellsDown, isEmit, tookGossip, tookBroadcast, tookByEvent, took, isOf}
+use Rattle.protocol.specs.Answer.{accept}
+use Rattle.protocol.specs.Demand3.{byEvent, isDown, tellsDown, isEmit, tookGossip, tookBroadcast, tookByEvent, took, isOf}
 use Rattle.lists.proofs.MapLaws.{cases, and-left, lookup-insert-other}
 use Rattle.time_cache.proofs.CacheLaws.{eqb-sym}
 use Rattle.protocol.proofs.LinkLaws.{keeps-firstEvent}
@@ -103,12 +103,12 @@ quiet-duplicate p id (faster first) r = quiet-pruneBack first (setKept id p r)
 
 module _ (hash : List ℕ → ℕ) where
   abbrev KeptBy : ℕ → Event → Run → Run → Type 0
-  KeptBy id e r r′ = Kept hash (r .state .settings) id (r .state) (told e (r′ .actions) (r′ .full)) (r′ .state)
+  KeptBy id e r r′ = Kept hash (r .state .settings) id (r .state) (accept e r′) (r′ .state)
 
   -- an event that does not take it in
   kept-at : (id : ℕ) (e : Event) (r r′ : Run) → isOf id (tookByEvent hash (r .state .settings) e (r′ .actions)) ≡ false → GrowsAt id r r′ → holds id (r′ .state .cache) ≡ true → KeptBy id e r r′
   unfolding took
-  kept-at id e r r′ t g h = stillThere t (g .cached h) (λ p nb nd st. got-settled p id e r′ (g .got p (stands-got p id r st)))
+  kept-at id e r r′ t g h = stillThere t (g .cached h) (λ p nb nd st. got-settled p id e r′ h (g .got p (stands-got p id r st)))
 
   -- gossip
 
@@ -138,7 +138,7 @@ module _ (hash : List ℕ → ℕ) where
     kept-swarm round j h =
         cases (eqb j id)
         (λ e. subst (λ (i : ℕ). KeptBy i event r r₃) (sym (eqb-true j id e))
-        (takenIn p (rw (emits p content (Swarm round) r₂)) (λ q ne nb. on q (got-takeIn q now p id content round r₁ (b .ordered) (b .neighbours q ∙ nb) (rw (b .settings) (ne-eqb q (r .state .settings .me) ne))))))
+        (takenIn p (rw (emits p content (Swarm round) r₂)) (λ q ne nb. on (rw (eqb-true j id e) at h) q (got-takeIn q now p id content round r₁ (b .ordered) (b .neighbours q ∙ nb) (rw (b .settings) (ne-eqb q (r .state .settings .me) ne))))))
         (λ e. kept-at j event r r₃ (rw (emits p content (Swarm round) r₂) (eqb-sym id j ∙ e)) (grows e) h)
       where
         event : Event
@@ -150,10 +150,10 @@ module _ (hash : List ℕ → ℕ) where
         r₃ : Run
         r₃ = act (Emitted p content (Swarm round)) r₂
 
-        on : (q : ℕ) → (p ≡ q) ⊎ ((has q (graftedFor id (r₁ .state)) ≡ true) ⊎ Got q id r₂) → (p ≡ q) ⊎ ((has q (graftedFor id (r .state)) ≡ true) ⊎ Settled q id (told event (r₃ .actions) (r₃ .full)) (r₃ .state))
-        on q (inl e) = inl e
-        on q (inr (inl x)) = inr (inl (b .shrinks .grafting q id x))
-        on q (inr (inr x)) = inr (inr (got-settled q id event r₃ (got-grows (grows-act (Emitted p content (Swarm round)) r₂) x)))
+        on : holds id (r₃ .state .cache) ≡ true → (q : ℕ) → (p ≡ q) ⊎ ((has q (graftedFor id (r₁ .state)) ≡ true) ⊎ Got q id r₂) → (p ≡ q) ⊎ ((has q (graftedFor id (r .state)) ≡ true) ⊎ Settled q id (accept event r₃) (r₃ .state))
+        on held q (inl e) = inl e
+        on held q (inr (inl x)) = inr (inl (b .shrinks .grafting q id x))
+        on held q (inr (inr x)) = inr (inr (got-settled q id event r₃ held (got-grows (grows-act (Emitted p content (Swarm round)) r₂) x)))
 
         grows : eqb j id ≡ false → GrowsAt j r r₃
         grows e = grows-at j (b .grows) ⨾ at-takeIn j now p id content round r₁ e ⨾ grows-at j (grows-act (Emitted p content (Swarm round)) r₂)
@@ -186,7 +186,7 @@ module _ (hash : List ℕ → ℕ) where
         cases (eqb j (hash content))
         (λ e. subst (λ (i : ℕ). KeptBy i (Broadcast content toSwarm) r r₂) (sym (eqb-true j (hash content) e))
         (takenIn (r .state .settings .me) (rw small)
-        (λ q ne nb. inr (inr (got-settled q (hash content) (Broadcast content toSwarm) r₂
+        (λ q ne nb. inr (inr (got-settled q (hash content) (Broadcast content toSwarm) r₂ (rw (eqb-true j (hash content) e) at h)
         (got-broadcast hash q now content r₁ (b .ordered) (b .neighbours q ∙ nb) (rw (b .settings) (ne-eqb q (r .state .settings .me) ne))))))))
         (λ e. kept-at j (Broadcast content toSwarm) r r₂ (rw small (eqb-sym (hash content) j ∙ e)) (grows-at j (b .grows) ⨾ at-broadcast hash j now content r₁ e) h)
       where
@@ -266,21 +266,21 @@ module _ (hash : List ℕ → ℕ) where
   kept-timer now EvictCache r r₁ b one j h = kept-at j (Fired EvictCache) r _ refl (grows-at j (grows-trans r r₁ _ (b .grows) (grows-steps .evicts now r₁))) h
   kept-timer now DispatchLazyPush r r₁ b one j h =
       let held : holds j (r₁ .state .cache) ≡ true = cached-dispatch j r₁ h in
-      stillThere refl (b .grows .cached j held) (λ p nb nd st. got-settled p j (Fired DispatchLazyPush) (onDispatchTimer r₁)
+      stillThere refl (b .grows .cached j held) (λ p nb nd st. got-settled p j (Fired DispatchLazyPush) (onDispatchTimer r₁) h
       (got-dispatch p j r₁ (rw (b .settings) one) (b .neighbours p ∙ nb) held (stands-grows p j (b .grows) st)))
   kept-timer now AnnounceDropped r r₁ b one j h =
       let held : holds j (r₁ .state .cache) ≡ true = cached-announceDropped j r₁ h in
-      stillThere refl (b .grows .cached j held) (λ p nb nd st. got-settled p j (Fired AnnounceDropped) (onAnnounceDroppedTimer r₁)
+      stillThere refl (b .grows .cached j held) (λ p nb nd st. got-settled p j (Fired AnnounceDropped) (onAnnounceDroppedTimer r₁) h
       (got-announceDropped p j r₁ held (stands-grows p j (b .grows) st)))
 
   grows-up : (p : ℕ) (r : Run) → Grows r (onNeighborUp p r)
   unfolding onNeighborUp updateLinks
-  grows-up p r = alike refl refl refl refl refl
+  grows-up p r = alike refl refl refl refl
 
   kept-down : (q : ℕ) (r : Run) (j : ℕ) → holds j (onNeighborDown q r .state .cache) ≡ true → KeptBy j (Down q) r (onNeighborDown q r)
-  unfolding onNeighborDown forgetPeer took tookByEvent isOf tellsDown isDown
+  unfolding onNeighborDown forgetPeer took tookByEvent isOf tellsDown byEvent isDown
   kept-down q r j h = stillThere refl h
-      (λ p nb nd st. got-settled p j (Down q) (onNeighborDown q r) (stands-got p j (onNeighborDown q r) (stands-down p q j (r .state) nd st)))
+      (λ p nb nd st. got-settled p j (Down q) (onNeighborDown q r) h (stands-got p j (onNeighborDown q r) (stands-down p q j (r .state) nd st)))
 
   pub messages : (now : ℕ) (e : Event) (r : Run) → ascending (keys (r .state .links)) ≡ true → any isEmit (r .actions) ≡ false → 1 ≤ perMessage (r .state .settings .maxMessageSize) →
       (id : ℕ) → holds id (handle hash now e r .state .cache) ≡ true → KeptBy id e r (handle hash now e r)

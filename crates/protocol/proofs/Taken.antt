@@ -19,7 +19,7 @@ use Rattle.protocol.specs.Gossips.{markReceived, cacheAt, graftedFor, wi
 use Rattle.lists.proofs.MapLaws.{cases, true≢, lookup-insert-same}
 use Rattle.protocol.proofs.Sentence1.{member-marked}
 use Rattle.protocol.proofs.Walk.{walk-eagerPush, walk-settle}
-use Rattle.protocol.proofs.Apart.{Apart, apart-sending}
+use Rattle.protocol.proofs.RecordOnly.{RecordOnly, only-sending}
 use Rattle.protocol.proofs.Grafts.{shrinks-setFirst}
 use Rattle.protocol.proofs.Reach.{Grows, grows-steps, grows-sending, grows-lazyPush, Got, got-grows}
 use Rattle.protocol.proofs.Pushed.{got-pushTo, got-lazyPush, member-filter}
@@ -57,8 +57,8 @@ got-pushOn p sender id content round r o nb me held =
     (λ g. inr (inl (sym (member-keys p (graftedFor id (r .state))) ∙ g)))
     (λ g. inr (inr (on e g (eager-or-lazy p (r .state .links) o nb)))))
   where
-    a : Apart r (pushOn id content round sender r)
-    a = walk-eagerPush Apart apart-sending id content (Swarm round) sender (keys (graftedFor id (r .state))) r
+    a : RecordOnly r (pushOn id content round sender r)
+    a = walk-eagerPush RecordOnly only-sending id content (Swarm round) sender (keys (graftedFor id (r .state))) r
 
     on : eqb p sender ≡ false → member p (keys (graftedFor id (r .state))) ≡ false → (member p (eagerPeers (r .state .links)) ≡ true) ⊎ (member p (lazyPeers (r .state .links)) ≡ true) →
         Got p id (lazyPush id round sender (pushOn id content round sender r))

@@ -15,8 +15,8 @@ use Rattle.postcard.specs.Message.{Graft, Event, Received, Broadcast, Fired, Up
 use Rattle.protocol.specs.State.{State, Settings, Note, Hop}
 use Rattle.protocol.specs.Push.{forPeer, notes}
 use Rattle.protocol.specs.Gossips.{announcers, graftedFor}
-use Rattle.protocol.specs.Calls.{Answered, turnedDown, told}
-use Rattle.protocol.specs.Demand3.{upAfterEvent, upAfterCall, upAfter, toldUp, isDown, tellsDown, Took, tookByEvent, took, isOf, announced, isGraftFor, carries, wasTaken, either, sent, metFull, Tick, dispatchTick, announceTick, scheduled, fired, Happened, Never, TimerRuns, Reached, cameFromThere, announcedAndGrafted, sentAndTaken, backAndFull, standsQueued, standsRecorded, MessageReached}
+use Rattle.protocol.specs.Answer.{Answer, refuse, accept}
+use Rattle.protocol.specs.Demand3.{byEvent, isUp, upAfterCall, upAfter, toldUp, isDown, tellsDown, Took, tookByEvent, took, isOf, announced, isGraftFor, carries, wasTaken, takenOrHandedBack, sent, metFull, Tick, dispatchTick, announceTick, scheduled, fired, Happened, Never, TimerRuns, Reached, cameFromThere, announcedAndGrafted, sentAndTaken, backAndFull, standsQueued, standsRecorded, MessageReached}
 use Rattle.lists.proofs.MapLaws.{cases, true≢}
 use Rattle.lists.proofs.Lists.{any-left, any-right, any-none, any-none-left, any-none-right, any-one, any-cons}
 
@@ -39,7 +39,7 @@ abbrev pub Stands : ℕ → ℕ → State → Type 0
 Stands p id s = (any (notes p id) (s .queue) ≡ true) ⊎ (any (notes p id) (s .dropped) ≡ true)
 
 -- the call, or the state after it, has the identifier for this peer
-pub data Settled (p id : ℕ) (a : Answered) (s : State) : Type 0 where
+pub data Settled (p id : ℕ) (a : Answer) (s : State) : Type 0 where
   wasSent : sent p (carries id) wasTaken a ≡ true → Settled p id a s
   wasFull : metFull p id a ≡ true → Settled p id a s
   queuedNow : any (notes p id) (s .queue) ≡ true → Settled p id a s
@@ -47,13 +47,13 @@ pub data Settled (p id : ℕ) (a : Answered) (s : State) : Type 0 where
 
 module _ (hash : List ℕ → ℕ) (c : Settings) where
   -- an identifier cached after the call: it was before, or the call took it in
-  pub data Kept (id : ℕ) (s : State) (a : Answered) (s′ : State) : Type 0 where
+  pub data Kept (id : ℕ) (s : State) (a : Answer) (s′ : State) : Type 0 where
     stillThere : isOf id (took hash c a) ≡ false → holds id (s .cache) ≡ true →
         ((p : ℕ) → isNeighbour p (s .links) ≡ true → tellsDown p a ≡ false → Stands p id s → Settled p id a s′) → Kept id s a s′
     takenIn : (from : ℕ) → took hash c a ≡ some (record { id = id; from = from }) →
         ((p : ℕ) → (p ≡ c .me → ⊥) → isNeighbour p (s .links) ≡ true → (from ≡ p) ⊎ ((has p (graftedFor id s) ≡ true) ⊎ Settled p id a s′)) → Kept id s a s′
 
-  pub record Does (s : State) (a : Answered) (s′ : State) : Type 0 where
+  pub record Does (s : State) (a : Answer) (s′ : State) : Type 0 where
     pub neighbours : (p : ℕ) → isNeighbour p (s′ .links) ≡ upAfterCall p a (isNeighbour p (s .links))
     pub ordered : ascending (keys (s′ .links)) ≡ true
     pub sorted : ascending (keys (s′ .missing)) ≡ true
@@ -66,65 +66,62 @@ module _ (hash : List ℕ → ℕ) (c : Settings) where
     pub announcing : (p id : ℕ) → any (hopOf p) (announcers id s′) ≡ true →
         (tellsDown p a ≡ false) × ((any (hopOf p) (announcers id s) ≡ true) ⊎ ((announced p id a ≡ true) × (isNeighbour p (s .links) ≡ true)))
     pub grafting : (p id : ℕ) → has p (graftedFor id s′) ≡ true →
-        (tellsDown p a ≡ false) × ((has p (graftedFor id s) ≡ true) ⊎ ((any (hopOf p) (announcers id s) ≡ true) × (sent p (isGraftFor id) either a ≡ true)))
+        (tellsDown p a ≡ false) × ((has p (graftedFor id s) ≡ true) ⊎ ((any (hopOf p) (announcers id s) ≡ true) × (sent p (isGraftFor id) takenOrHandedBack a ≡ true)))
     pub messages : (id : ℕ) → holds id (s′ .cache) ≡ true → Kept id s a s′
 
 -- the past
 
 -- the peer, a neighbour since, announced the identifier
-pub record Announced (p id : ℕ) (past : List Answered) : Type 0 where
-  pub earlier : List Answered
-  pub stretch : List Answered
+pub record Announced (p id : ℕ) (past : List Answer) : Type 0 where
+  pub earlier : List Answer
+  pub stretch : List Answer
   pub split : past ≡ earlier ++ stretch
   pub up : toldUp p earlier ≡ true
   pub unbroken : Never (tellsDown p) stretch
   pub heard : Happened (announced p id) stretch
 
--- and was sent a Graft for it
-pub record Grafted (p id : ℕ) (past : List Answered) : Type 0 where
-  pub since : Announced p id past
-  pub asked : Happened (sent p (isGraftFor id) either) (since .stretch)
+-- the peer, a neighbour since, announced the identifier, and was then sent a Graft for it
+pub record Grafted (p id : ℕ) (past : List Answer) : Type 0 where
+  pub earlier : List Answer
+  pub announcing : List Answer
+  pub grafting : List Answer
+  pub split : past ≡ earlier ++ (announcing ++ grafting)
+  pub up : toldUp p earlier ≡ true
+  pub unbroken : Never (tellsDown p) (announcing ++ grafting)
+  pub heard : Happened (announced p id) announcing
+  pub asked : Happened (sent p (isGraftFor id) takenOrHandedBack) grafting
 
-upAfter-append : (p : ℕ) (up : Bool) (xs ys : List Answered) → upAfter p up (xs ++ ys) ≡ upAfter p (upAfter p up xs) ys
+upAfter-append : (p : ℕ) (up : Bool) (xs ys : List Answer) → upAfter p up (xs ++ ys) ≡ upAfter p (upAfter p up xs) ys
 unfolding upAfter
 upAfter-append p up [] ys = refl
 upAfter-append p up (x ∷ xs) ys = upAfter-append p (upAfterCall p x up) xs ys
 
-pub toldUp-one : (p : ℕ) (past : List Answered) (a : Answered) → toldUp p (past ++ (a ∷ [])) ≡ upAfterCall p a (toldUp p past)
+pub toldUp-one : (p : ℕ) (past : List Answer) (a : Answer) → toldUp p (past ++ (a ∷ [])) ≡ upAfterCall p a (toldUp p past)
 unfolding toldUp upAfter
 toldUp-one p past a = upAfter-append p false past (a ∷ [])
 
-stays-up-event : (p : ℕ) (e : Event) → isDown p e ≡ false → upAfterEvent p e true ≡ true
-unfolding isDown upAfterEvent
-stays-up-event p (Received q m) h = refl
-stays-up-event p (Broadcast content scope) h = refl
-stays-up-event p (Fired t) h = refl
-stays-up-event p (Up q) h = cases (eqb p q) (λ e. rw e) (λ e. rw e)
-stays-up-event p (Down q) h = rw h
-
-stays-up-call : (p : ℕ) (a : Answered) → tellsDown p a ≡ false → upAfterCall p a true ≡ true
-unfolding tellsDown upAfterCall
-stays-up-call p (turnedDown n) h = refl
-stays-up-call p (told e actions full) h = stays-up-event p e h
+stays-up-call : (p : ℕ) (a : Answer) → tellsDown p a ≡ false → upAfterCall p a true ≡ true
+unfolding upAfterCall
+stays-up-call p a h = cases (byEvent (isUp p) a) (λ u. rw u) (λ u. rw (u, h))
 
 -- told up and never down since
-stays-up : (p : ℕ) (up : Bool) (xs : List Answered) → up ≡ true → Never (tellsDown p) xs → upAfter p up xs ≡ true
+stays-up : (p : ℕ) (up : Bool) (xs : List Answer) → up ≡ true → Never (tellsDown p) xs → upAfter p up xs ≡ true
 unfolding upAfter any
 stays-up p up [] u h = u
 stays-up p up (x ∷ xs) u h =
     cases (tellsDown p x) (λ d. true≢ (sym (rw d at h)))
     (λ d. stays-up p (upAfterCall p x up) xs (rw u (stays-up-call p x d)) (rw d at h))
 
-up-since : (p : ℕ) (earlier stretch : List Answered) → toldUp p earlier ≡ true → Never (tellsDown p) stretch → toldUp p (earlier ++ stretch) ≡ true
+up-since : (p : ℕ) (earlier stretch : List Answer) → toldUp p earlier ≡ true → Never (tellsDown p) stretch → toldUp p (earlier ++ stretch) ≡ true
 unfolding toldUp
 up-since p earlier stretch u h = upAfter-append p false earlier stretch ∙ stays-up p (toldUp p earlier) stretch u h
 
-module _ (p id : ℕ) (past : List Answered) (a : Answered) where
+module _ (p id : ℕ) (past : List Answer) (a : Answer) where
   announced-on : Announced p id past → tellsDown p a ≡ false → Announced p id (past ++ (a ∷ []))
   announced-on n d = record {
     earlier = n .earlier;
     stretch = n .stretch ++ (a ∷ []);
-    split = ap (λ (l : List Answered). l ++ (a ∷ [])) (n .split) ∙ append-assoc (n .earlier) (n .stretch) (a ∷ []);
+    split = ap (λ (l : List Answer). l ++ (a ∷ [])) (n .split) ∙ append-assoc (n .earlier) (n .stretch) (a ∷ []);
     up = n .up;
     unbroken = any-none (tellsDown p) (n .stretch) (a ∷ []) (n .unbroken) (any-one (tellsDown p) a ∙ d);
     heard = any-left (announced p id) (n .stretch) (a ∷ []) (n .heard);
@@ -141,26 +138,36 @@ module _ (p id : ℕ) (past : List Answered) (a : Answered) where
   }
 
   grafted-on : Grafted p id past → tellsDown p a ≡ false → Grafted p id (past ++ (a ∷ []))
-  unfolding announced-on
   grafted-on g d = record {
-    since = announced-on (g .since) d;
-    asked = any-left (sent p (isGraftFor id) either) (g .since .stretch) (a ∷ []) (g .asked);
+    earlier = g .earlier;
+    announcing = g .announcing;
+    grafting = g .grafting ++ (a ∷ []);
+    split = ap (λ (l : List Answer). l ++ (a ∷ [])) (g .split) ∙ append-assoc (g .earlier) (g .announcing ++ g .grafting) (a ∷ []) ∙ ap (λ (l : List Answer). g .earlier ++ l) (append-assoc (g .announcing) (g .grafting) (a ∷ []));
+    up = g .up;
+    unbroken = rw (← append-assoc (g .announcing) (g .grafting) (a ∷ [])) (any-none (tellsDown p) (g .announcing ++ g .grafting) (a ∷ []) (g .unbroken) (any-one (tellsDown p) a ∙ d));
+    heard = g .heard;
+    asked = any-left (sent p (isGraftFor id) takenOrHandedBack) (g .grafting) (a ∷ []) (g .asked);
   }
 
-  grafted-now : Announced p id past → tellsDown p a ≡ false → sent p (isGraftFor id) either a ≡ true → Grafted p id (past ++ (a ∷ []))
-  unfolding announced-on
+  grafted-now : Announced p id past → tellsDown p a ≡ false → sent p (isGraftFor id) takenOrHandedBack a ≡ true → Grafted p id (past ++ (a ∷ []))
   grafted-now n d h = record {
-    since = announced-on n d;
-    asked = any-right (sent p (isGraftFor id) either) (n .stretch) (a ∷ []) (any-one (sent p (isGraftFor id) either) a ∙ h);
+    earlier = n .earlier;
+    announcing = n .stretch;
+    grafting = a ∷ [];
+    split = ap (λ (l : List Answer). l ++ (a ∷ [])) (n .split) ∙ append-assoc (n .earlier) (n .stretch) (a ∷ []);
+    up = n .up;
+    unbroken = any-none (tellsDown p) (n .stretch) (a ∷ []) (n .unbroken) (any-one (tellsDown p) a ∙ d);
+    heard = n .heard;
+    asked = any-one (sent p (isGraftFor id) takenOrHandedBack) a ∙ h;
   }
 
-module _ (t : Tick) (past : List Answered) (a : Answered) where
+module _ (t : Tick) (past : List Answer) (a : Answer) where
   timer-on : TimerRuns t past → fired t a ≡ false → TimerRuns t (past ++ (a ∷ []))
   timer-on r h = record {
     before = r .before;
     call = r .call;
     after = r .after ++ (a ∷ []);
-    split = ap (λ (l : List Answered). l ++ (a ∷ [])) (r .split) ∙ append-assoc (r .before) (r .call ∷ r .after) (a ∷ []);
+    split = ap (λ (l : List Answer). l ++ (a ∷ [])) (r .split) ∙ append-assoc (r .before) (r .call ∷ r .after) (a ∷ []);
     schedules = r .schedules;
     unfired = any-none (fired t) (r .after) (a ∷ []) (r .unfired) (any-one (fired t) a ∙ h);
   }
@@ -171,16 +178,16 @@ module _ (t : Tick) (past : List Answered) (a : Answered) where
 
 module _ (hash : List ℕ → ℕ) (c : Settings) where
   -- the call that takes a message in tells nobody down
-  took-tells : (p : ℕ) (a : Answered) (t : Took) → took hash c a ≡ some t → tellsDown p a ≡ false
-  unfolding took tookByEvent tellsDown isDown
-  took-tells p (turnedDown n) t h = refl
-  took-tells p (told (Received q m) actions full) t h = refl
-  took-tells p (told (Broadcast content scope) actions full) t h = refl
-  took-tells p (told (Fired x) actions full) t h = refl
-  took-tells p (told (Up q) actions full) t h = refl
-  took-tells p (told (Down q) actions full) t h = let z : false ≡ true = cc in true≢ z
+  took-tells : (p : ℕ) (a : Answer) (t : Took) → took hash c a ≡ some t → tellsDown p a ≡ false
+  unfolding took tookByEvent tellsDown byEvent isDown
+  took-tells p (refuse n) t h = refl
+  took-tells p (accept (Received q m) r) t h = refl
+  took-tells p (accept (Broadcast content scope) r) t h = refl
+  took-tells p (accept (Fired x) r) t h = refl
+  took-tells p (accept (Up q) r) t h = refl
+  took-tells p (accept (Down q) r) t h = let z : false ≡ true = cc in true≢ z
 
-  pub record Inv (past : List Answered) (s : State) : Type 0 where
+  pub record Inv (past : List Answer) (s : State) : Type 0 where
     pub neighbours : (p : ℕ) → isNeighbour p (s .links) ≡ toldUp p past
     pub ordered : ascending (keys (s .links)) ≡ true
     pub sorted : ascending (keys (s .missing)) ≡ true
@@ -194,17 +201,17 @@ module _ (hash : List ℕ → ℕ) (c : Settings) where
     pub grafting : (p id : ℕ) → has p (graftedFor id s) ≡ true → Grafted p id past
     pub messages : (id : ℕ) → holds id (s .cache) ≡ true → MessageReached hash c id past s
 
-  module _ {past : List Answered} {s s′ : State} {a : Answered} (v : Inv past s) (d : Does hash c s a s′) where
-    settled-reached : (p id : ℕ) (before rest : List Answered) (from : ℕ) → Settled p id a s′ → Reached hash c p id before (rest ++ (a ∷ [])) from s′
+  module _ {past : List Answer} {s s′ : State} {a : Answer} (v : Inv past s) (d : Does hash c s a s′) where
+    settled-reached : (p id : ℕ) (before rest : List Answer) (from : ℕ) → Settled p id a s′ → Reached p id before (rest ++ (a ∷ [])) from s′
     settled-reached p id before rest from (wasSent h) = sentAndTaken (any-right (sent p (carries id) wasTaken) rest (a ∷ []) (any-one (sent p (carries id) wasTaken) a ∙ h))
     settled-reached p id before rest from (wasFull h) = backAndFull (any-right (metFull p id) rest (a ∷ []) (any-one (metFull p id) a ∙ h))
     settled-reached p id before rest from (queuedNow h) = standsQueued h
     settled-reached p id before rest from (recordedNow h) = standsRecorded h
 
-    reached-on : (p id : ℕ) (before since : List Answered) (from : ℕ) → (Stands p id s → Settled p id a s′) →
-        Reached hash c p id before since from s → Reached hash c p id before (since ++ (a ∷ [])) from s′
+    reached-on : (p id : ℕ) (before since : List Answer) (from : ℕ) → (Stands p id s → Settled p id a s′) →
+        Reached p id before since from s → Reached p id before (since ++ (a ∷ [])) from s′
     reached-on p id before since from f (cameFromThere e) = cameFromThere e
-    reached-on p id before since from f (announcedAndGrafted earlier stretch e u n h g) = announcedAndGrafted earlier stretch e u n h g
+    reached-on p id before since from f (announcedAndGrafted earlier announcing grafting e u n h g) = announcedAndGrafted earlier announcing grafting e u n h g
     reached-on p id before since from f (sentAndTaken h) = sentAndTaken (any-left (sent p (carries id) wasTaken) since (a ∷ []) h)
     reached-on p id before since from f (backAndFull h) = backAndFull (any-left (metFull p id) since (a ∷ []) h)
     reached-on p id before since from f (standsQueued h) = settled-reached p id before since from (f (inl h))
@@ -218,7 +225,7 @@ module _ (hash : List ℕ → ℕ) (c : Settings) where
         call = m .taken .call;
         after = m .taken .after ++ (a ∷ []);
         from = m .taken .from;
-        split = ap (λ (l : List Answered). l ++ (a ∷ [])) (m .taken .split) ∙ append-assoc (m .taken .before) (m .taken .call ∷ m .taken .after) (a ∷ []);
+        split = ap (λ (l : List Answer). l ++ (a ∷ [])) (m .taken .split) ∙ append-assoc (m .taken .before) (m .taken .call ∷ m .taken .after) (a ∷ []);
         takes = m .taken .takes;
         last = any-none (λ x. isOf id (took hash c x)) (m .taken .after) (a ∷ []) (m .taken .last) (any-one (λ x. isOf id (took hash c x)) a ∙ no′);
       };
@@ -239,10 +246,10 @@ module _ (hash : List ℕ → ℕ) (c : Settings) where
       reached = λ p ne up never. on p (f p ne (v .neighbours p ∙ up));
     }
       where
-        on : (p : ℕ) → (from ≡ p) ⊎ ((has p (graftedFor id s) ≡ true) ⊎ Settled p id a s′) → Reached hash c p id past (a ∷ []) from s′
+        on : (p : ℕ) → (from ≡ p) ⊎ ((has p (graftedFor id s) ≡ true) ⊎ Settled p id a s′) → Reached p id past (a ∷ []) from s′
         on p (inl e) = cameFromThere e
         on p (inr (inl g)) = let w : Grafted p id past = v .grafting p id g in
-            announcedAndGrafted (w .since .earlier) (w .since .stretch) (w .since .split) (w .since .up) (w .since .unbroken) (w .since .heard) (w .asked)
+            announcedAndGrafted (w .earlier) (w .announcing) (w .grafting) (w .split) (w .up) (w .unbroken) (w .heard) (w .asked)
         on p (inr (inr x)) = settled-reached p id past [] from x
 
     -- one call more
@@ -270,6 +277,6 @@ module _ (hash : List ℕ → ℕ) (c : Settings) where
         announcing-on p id n (inl h) = announced-on p id past a (v .announcing p id h) n
         announcing-on p id n (inr (h, u)) = announced-now p id past a (sym (v .neighbours p) ∙ u) n h
 
-        grafting-on : (p id : ℕ) → tellsDown p a ≡ false → (has p (graftedFor id s) ≡ true) ⊎ ((any (hopOf p) (announcers id s) ≡ true) × (sent p (isGraftFor id) either a ≡ true)) → Grafted p id (past ++ (a ∷ []))
+        grafting-on : (p id : ℕ) → tellsDown p a ≡ false → (has p (graftedFor id s) ≡ true) ⊎ ((any (hopOf p) (announcers id s) ≡ true) × (sent p (isGraftFor id) takenOrHandedBack a ≡ true)) → Grafted p id (past ++ (a ∷ []))
         grafting-on p id n (inl h) = grafted-on p id past a (v .grafting p id h) n
         grafting-on p id n (inr (h, g)) = grafted-now p id past a (v .announcing p id h) n g

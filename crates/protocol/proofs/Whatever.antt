@@ -8,7 +8,8 @@ use Rattle.postcard.specs.Message.{Event}
 use Rattle.protocol.specs.State.{State, Counts, Settings, Limits, created, create}
 use Rattle.protocol.specs.Run.{Run, Room}
 use Rattle.protocol.specs.Ticks.{perMessage}
-use Rattle.protocol.specs.Calls.{Answered, turnedDown, told, prepend, Ran}
+use Rattle.protocol.specs.Answer.{Answer, refuse, accept}
+use Rattle.protocol.specs.Calls.{prepend, Ran}
 use Rattle.protocol.specs.Demand3.{HoldsAfter}
 use Rattle.protocol.proofs.Trace.{Inv}
 use Rattle.protocol.proofs.Step.{ranOn}
@@ -21,21 +22,21 @@ pub data Happening : Type 0 where
 module _ (hash : List ℕ → ℕ) where
   unfoldable pub runAll : State → Counts → List Happening → Ran
   runAll s n [] = record { state = s; counts = n; answers = [] }
-  runAll s n (refusal m ∷ xs) = prepend (turnedDown m) (runAll s n xs)
+  runAll s n (refusal m ∷ xs) = prepend (refuse m) (runAll s n xs)
   runAll s n (event now rooms e ∷ xs) =
-      prepend (told e (ranOn hash s n rooms now e .actions) (ranOn hash s n rooms now e .full)) (runAll (ranOn hash s n rooms now e .state) (ranOn hash s n rooms now e .counts) xs)
+      prepend (accept e (ranOn hash s n rooms now e)) (runAll (ranOn hash s n rooms now e .state) (ranOn hash s n rooms now e .counts) xs)
 
   module _ (c : Settings) (one : 1 ≤ perMessage (c .maxMessageSize)) where
-    all-inv : (xs : List Happening) (past : List Answered) (s : State) (n : Counts) → Inv hash c past s → Inv hash c (past ++ runAll s n xs .answers) (runAll s n xs .state)
+    all-inv : (xs : List Happening) (past : List Answer) (s : State) (n : Counts) → Inv hash c past s → Inv hash c (past ++ runAll s n xs .answers) (runAll s n xs .state)
     unfolding runAll prepend
     all-inv [] past s n v = rw append-nil v
     all-inv (refusal m ∷ xs) past s n v =
-        subst (λ (z : List Answered). Inv hash c z (runAll s n xs .state)) (append-assoc past (turnedDown m ∷ []) (runAll s n xs .answers))
-        (all-inv xs (past ++ (turnedDown m ∷ [])) s n (refused-inv hash c one past s m v))
+        subst (λ (z : List Answer). Inv hash c z (runAll s n xs .state)) (append-assoc past (refuse m ∷ []) (runAll s n xs .answers))
+        (all-inv xs (past ++ (refuse m ∷ [])) s n (refused-inv hash c one past s m v))
     all-inv (event now rooms e ∷ xs) past s n v =
         let r : Run = ranOn hash s n rooms now e in
-        subst (λ (z : List Answered). Inv hash c z (runAll (r .state) (r .counts) xs .state)) (append-assoc past (told e (r .actions) (r .full) ∷ []) (runAll (r .state) (r .counts) xs .answers))
-        (all-inv xs (past ++ (told e (r .actions) (r .full) ∷ [])) (r .state) (r .counts) (event-inv hash c one past s n rooms now e v))
+        subst (λ (z : List Answer). Inv hash c z (runAll (r .state) (r .counts) xs .state)) (append-assoc past (accept e r ∷ []) (runAll (r .state) (r .counts) xs .answers))
+        (all-inv xs (past ++ (accept e r ∷ [])) (r .state) (r .counts) (event-inv hash c one past s n rooms now e v))
 
   pub whatever : (c : Settings) (l : Limits) (blockLength : ℕ) (s : State) (n : Counts) → create c l blockLength ≡ created s n →
       (xs : List Happening) → HoldsAfter hash c (runAll s n xs .answers) (runAll s n xs .state)

@@ -9,7 +9,7 @@ use Rattle.lists.specs.Map.{Map, Entry}
 use Rattle.time_cache.specs.TimeCache.{Cache, Timed, Expiry}
 use Rattle.protocol.specs.Links.{Mark, eager, lazy}
 use Rattle.protocol.specs.State.{State, Settings, Limits, Hop, Note, Grafts, Cached}
-use Rattle.protocol.specs.Whole.{whole}
+use Rattle.protocol.specs.Whole.{wholeBlock}
 
 -- element by element
 unfoldable pub sameList : {A : Type 0} → (A → A → Bool) → List A → List A → Bool
@@ -91,10 +91,17 @@ alike a b =
     && Bool·beq (a .announceScheduled) (b .announceScheduled)
     && Bool·beq (a .init) (b .init)
 
--- *Alike*, of two blocks: "(5 for either)"
+-- the answer to *Alike*: "5 for either", or yes or no
 pub data Likeness : Type 0 where
   notWhole : Likeness
   likeness : Bool → Likeness
 
-unfoldable pub alikeBlocks : State → State → Likeness
-alikeBlocks a b = if whole a && whole b then likeness (alike a b) else notWhole
+-- of the states of two whole blocks
+unfoldable pub likenessOf : Option State → Option State → Likeness
+likenessOf none b = notWhole
+likenessOf (some a) none = notWhole
+likenessOf (some a) (some b) = likeness (alike a b)
+
+-- *Alike*, "of two blocks (5 for either)", each given by its length and the state that its bytes hold
+unfoldable pub alikeBlocks : ℕ → Option State → ℕ → Option State → Likeness
+alikeBlocks lengthA a lengthB b = likenessOf (wholeBlock lengthA a) (wholeBlock lengthB b)

@@ -272,9 +272,7 @@ sizedContent n z = record { links = z .links; received = z .received; receivedEx
 
 unfoldable pub addNote : Cache Cached → ℕ → Ihave → List Note → List Note
 addNote c p h ds =
-    if recordFull p ds then ds
-    else if holds (h .id) c && not (any (notes p (h .id)) ds) then ds ++ (record { peer = p; id = h .id; round = h .round } ∷ [])
-    else ds
+    if not (recordFull p ds) && holds (h .id) c && not (any (notes p (h .id)) ds) then ds ++ (record { peer = p; id = h .id; round = h .round } ∷ []) else ds
 
 unfoldable pub addNotes : Cache Cached → ℕ → List Ihave → List Note → List Note
 addNotes c p [] ds = ds

@@ -6,7 +6,7 @@ use lib.ListN.{length}
 use Rattle.lists.specs.Base.{if_then_else_}
 use Rattle.postcard.specs.Number.{Read, got, fault, _then_, readNumber, readBytes, numberBytes}
 use Rattle.protocol.specs.State.{State, Counts, Settings, Limits, fresh, zeroCounts}
-use Rattle.protocol.specs.Answer.{Call, Ended, refuse, accept, outputOf, askWhole}
+use Rattle.protocol.specs.Answer.{Call, Answer, refuse, accept, outputOf, askWhole}
 use Rattle.protocol.specs.Calls.{stateAfter, countsAfter}
 
 -- `Config::default`, M 4,094, panel 1
@@ -39,7 +39,7 @@ readRecord bytes =
     readLengthed n more then λ event end. got (record { now = now; event = event; rooms = []; output = 40960 }) end
 
 -- "writes answer byte, length, actions"
-unfoldable pub written : Ended → List ℕ
+unfoldable pub written : Answer → List ℕ
 written (refuse n) = n ∷ 0 ∷ []
 written (accept e r) = 0 ∷ numberBytes (length (outputOf r)) ++ outputOf r
 

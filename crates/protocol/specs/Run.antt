@@ -1,4 +1,4 @@
--- A call under way: the state so far, the counts, the link room left, the actions so far (newest last), and what met a full record.
+-- A call under way: the state so far, the counts, the link room left, and the actions so far.
 use Prim.Native.Nat.{ℕ, _-_}
 use mathlib.Core.Bool.{Bool, true, false}
 use mathlib.Core.List.{List, [], _∷_, _++_}
@@ -12,35 +12,26 @@ pub record Room : Type 0 where
   pub peer : ℕ
   pub room : ℕ
 
--- an identifier to which `note_dropped` came for a peer while the record was full
-pub record Met : Type 0 where
-  pub peer : ℕ
-  pub id : ℕ
-
+-- what a call has made so far; `rooms` is the room left, `actions` are in their order
 pub record Run : Type 0 where
   pub state : State
   pub counts : Counts
   pub rooms : List Room
   pub actions : List Action
-  pub full : List Met
 
 -- a call begins
 abbrev pub begin : State → Counts → List Room → Run
-begin s c rooms = record { state = s; counts = c; rooms = rooms; actions = []; full = [] }
+begin s c rooms = record { state = s; counts = c; rooms = rooms; actions = [] }
 
 abbrev pub withState : State → Run → Run
-withState s r = record { state = s; counts = r .counts; rooms = r .rooms; actions = r .actions; full = r .full }
+withState s r = record { state = s; counts = r .counts; rooms = r .rooms; actions = r .actions }
 
 abbrev pub withCounts : Counts → Run → Run
-withCounts c r = record { state = r .state; counts = c; rooms = r .rooms; actions = r .actions; full = r .full }
+withCounts c r = record { state = r .state; counts = c; rooms = r .rooms; actions = r .actions }
 
 -- one action more
 unfoldable pub act : Action → Run → Run
-act a r = record { state = r .state; counts = r .counts; rooms = r .rooms; actions = r .actions ++ (a ∷ []); full = r .full }
-
--- one more that met a full record
-unfoldable pub meet : Met → Run → Run
-meet m r = record { state = r .state; counts = r .counts; rooms = r .rooms; actions = r .actions; full = r .full ++ (m ∷ []) }
+act a r = record { state = r .state; counts = r .counts; rooms = r .rooms; actions = r .actions ++ (a ∷ []) }
 
 -- "The first entry for a peer counts, a peer without one has no bound": is there room for one send more?
 unfoldable pub hasRoom : ℕ → List Room → Bool
@@ -64,7 +55,6 @@ send p m r = record {
   counts = r .counts;
   rooms = useRoom p (r .rooms);
   actions = r .actions ++ (Sent p (takes p r) m ∷ []);
-  full = r .full;
 }
 
 -- `IO::schedule`

@@ -2,6 +2,7 @@
 use Prim.Native.Nat.{ℕ, _*_}
 use mathlib.Core.Bool.{Bool, true, false, not, _&&_, _||_}
 use mathlib.Core.List.{List, [], _∷_, map}
+use mathlib.Core.Option.{Option, none, some}
 use lib.Dec.{leb, eqb}
 use lib.ListN.{length}
 use Rattle.lists.specs.Base.{if_then_else_, isEmpty, all, any, count, sum, ascending, once}
@@ -88,3 +89,8 @@ whole s =
 -- "length as (4) needs"
 unfoldable pub longEnough : ℕ → State → Bool
 longEnough blockLength s = leb (blockNeed (s .limits)) blockLength
+
+-- the state of a whole block of this length; `held` is the state that its bytes hold, if they hold one
+unfoldable pub wholeBlock : ℕ → Option State → Option State
+wholeBlock blockLength none = none
+wholeBlock blockLength (some s) = if longEnough blockLength s && whole s then some s else none

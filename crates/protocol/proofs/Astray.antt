@@ -1,7 +1,7 @@
 -- Document 01, "Where a port goes astray", and the unstarred "65 recorded": each as a run that the definitions compute.
 use Prim.Native.Nat.{ℕ, zero, suc}
 use mathlib.Core.Path.{_≡_, refl}
-use mathlib.Core.Bool.{Bool, true, false}
+use mathlib.Core.Bool.{true, false}
 use mathlib.Core.List.{List, [], _∷_}
 use lib.ListN.{length}
 use Rattle.lists.specs.Base as Base
@@ -19,7 +19,7 @@ use Rattle.protocol.specs.State as State
 use Rattle.protocol.specs.Ticks as Ticks
 use Rattle.time_cache.specs.TimeCache as TimeCache
 use Rattle.lists.specs.Base.{_▷_}
-use Rattle.postcard.specs.Message.{Swarm, Neighbors, toSwarm, Gossip, Prune, IHave, DispatchLazyPush, EvictCache, AnnounceDropped, Received, Fired, Action, Sent, Scheduled, Emitted}
+use Rattle.postcard.specs.Message.{Swarm, Gossip, IHave, DispatchLazyPush, EvictCache, AnnounceDropped, Received, Fired, Sent, Scheduled, Emitted}
 use Rattle.protocol.specs.Run.{Run, Room, begin}
 
 -- an identifier for every content: 9

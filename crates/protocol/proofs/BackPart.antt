@@ -1,25 +1,25 @@
 -- What a dispatch gets handed back from one peer is a suffix of what is queued for it.
-use Prim.Native.Nat.{ℕ, zero, suc, _+_, _*_, _-_, _/_, _≤_, _<_}
+use Prim.Native.Nat.{ℕ, zero, suc, _+_, _*_, _-_, _≤_, _<_}
 use mathlib.Core.Path.{_≡_, refl, sym, ap, _∙_}
-use mathlib.Core.Bool.{Bool, true, false, _&&_}
+use mathlib.Core.Bool.{true, _&&_}
 use mathlib.Core.List.{List, [], _∷_, _++_, map}
 use mathlib.Core.Option.{Option, none, some}
 use native.Mathlib.Omega.{arith}
 use native.Mathlib.Nat.{zero-mul, add-mul}
-use lib.Dec.{leb, eqb}
+use lib.Dec.{leb}
 use lib.ListN.{length, take, drop, take-append-drop, length-drop, length-map}
 use lib.Seq.{drop-drop, drop-nil}
 use borrow.Author.Tests.{leb-true, leb-false}
-use Rattle.lists.specs.Base.{if_then_else_, filter, count}
+use Rattle.lists.specs.Base.{filter}
 use Rattle.postcard.specs.Message.{Ihave}
 use Rattle.protocol.specs.State.{State, Note, sizeInRange}
 use Rattle.protocol.specs.Run.{Room}
 use Rattle.protocol.specs.Push.{forPeer}
 use Rattle.protocol.specs.Ticks.{perMessage, chunks, queuedFor}
 use Rattle.protocol.specs.Whole.{whole}
-use Rattle.protocol.specs.Growth.{kthTaken, firstRoom, roomFor, Piece, numbered, peerPieces, pieceTaken, backIhaves, Batch, dispatchBatches, backPart}
+use Rattle.protocol.specs.Growth.{kthTaken, firstRoom, roomFor, numbered, peerPieces, pieceTaken, backIhaves, dispatchBatches, backPart}
 use Rattle.lists.proofs.MapLaws.{cases, and-left}
-use Rattle.protocol.proofs.Sane.{Ranged, whole-ranged}
+use Rattle.protocol.proofs.Sane.{whole-ranged}
 use Rattle.lists.proofs.ListLaws.{length-filter, count-length}
 use Rattle.protocol.proofs.Decide.{kth-room}
 

@@ -1,31 +1,27 @@
 -- The "decide" half in one place: questions 12, 13 and 14 and the actions, of the state before the call; what never grows; rooms by `firstRoom`.
-use Prim.Native.Nat.{ℕ, zero, suc, _+_, _*_, _≤_}
+use Prim.Native.Nat.{ℕ, suc, _*_, _≤_}
 use mathlib.Core.Path.{_≡_, refl, sym, ap, _∙_}
-use mathlib.Core.Bool.{Bool, true, false, not, _&&_, _||_}
-use mathlib.Core.List.{List, [], _∷_, _++_}
-use mathlib.Core.Option.{Option, none, some}
+use mathlib.Core.Bool.{Bool, true, false}
+use mathlib.Core.List.{List, [], _∷_}
 use native.Mathlib.Omega.{arith}
 use lib.Dec.{leb, ltb, eqb}
 use lib.ListN.{length}
 use borrow.Author.Tests.{leb-true, le-leb}
-use Rattle.lists.specs.Base.{if_then_else_, sum, count}
-use Rattle.lists.specs.Map.{keys, lookup}
-use Rattle.time_cache.specs.TimeCache.{holds}
+use Rattle.lists.specs.Base.{if_then_else_, sum}
 use Rattle.protocol.specs.Links.{isNeighbour}
-use Rattle.postcard.specs.Message.{Delivery, Message, Gossip, Prune, Graft, IHave, Event, Received, Broadcast, Fired, Up, Down, Timer, EvictCache}
+use Rattle.postcard.specs.Message.{Gossip, Prune, Graft, IHave, Event, Received, Broadcast, Fired, Up, Down}
 use Rattle.protocol.specs.State.{State, Counts, Limits}
-use Rattle.protocol.specs.Run.{Run, Room, begin}
-use Rattle.protocol.specs.Push.{forPeer}
+use Rattle.protocol.specs.Run.{Room, begin}
 use Rattle.protocol.specs.Handle.{firstEvent, handle}
 use Rattle.protocol.specs.Whole.{whole, fits, contentHeld}
 use Rattle.protocol.specs.Answer.{tooFarMessage, tooFar}
-use Rattle.protocol.specs.Growth.{Sizes, sizesOf, fitSizes, kthTaken, settled, settledSizes, evictSizes, downSizes, shrunk, receivedBefore, tooFarBefore, firstRoom, roomFor, sizesAfter}
+use Rattle.protocol.specs.Growth.{Sizes, sizesOf, fitSizes, kthTaken, settled, evictSizes, downSizes, shrunk, receivedBefore, tooFarBefore, firstRoom, roomFor, sizesAfter}
 use Rattle.lists.proofs.MapLaws.{cases, and-left, and-right, and-intro}
 use Rattle.lists.proofs.ListLaws.{count-length}
-use Rattle.protocol.proofs.Sane.{Core, CoreOf, Sane, whole-sane, whole-fits}
-use Rattle.protocol.proofs.GrowthBase.{fits-sizes, first-state, settled-received, settled-sizes}
-use Rattle.protocol.proofs.GrowthCall.{decide-13, decide-14, decide-actions}
-use Rattle.protocol.proofs.RoomsFair.{AgreeOn, withRooms}
+use Rattle.protocol.proofs.Sane.{CoreOf, whole-sane, whole-fits}
+use Rattle.protocol.proofs.GrowthBase.{fits-sizes, first-state, settled-received}
+use Rattle.protocol.proofs.GrowthCall.{decide-13}
+use Rattle.protocol.proofs.RoomsFair.{withRooms}
 use Rattle.protocol.proofs.RoomsCall.{reached, same-run}
 
 -- rooms

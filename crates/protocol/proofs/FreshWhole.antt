@@ -1,8 +1,6 @@
 -- An accepted creation with a threshold of 16 bits leaves a whole state: the first call is not answered 5.
-use Prim.Native.Nat.{ℕ, _*_}
-use mathlib.Core.Path.{_≡_, refl}
-use mathlib.Core.Bool.{Bool, true, false, _&&_}
-use mathlib.Core.List.{List, [], _∷_}
+use mathlib.Core.Path.{_≡_}
+use mathlib.Core.Bool.{true}
 use lib.Dec.{leb, leb·zero}
 use Rattle.lists.specs.Base.{all, sum, ascending}
 use Rattle.protocol.specs.State.{Settings, Limits, fresh, sizeInRange, durationsInRange, limitsInRange}

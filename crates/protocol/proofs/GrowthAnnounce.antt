@@ -1,19 +1,19 @@
 -- Sizes and actions of AnnounceDropped, of the state before.
-use Prim.Native.Nat.{ℕ, zero, suc, _+_}
+use Prim.Native.Nat.{_+_}
 use mathlib.Core.Path.{_≡_, refl, sym, ap, _∙_}
-use mathlib.Core.Bool.{Bool, true, false, not, _&&_, _||_}
+use mathlib.Core.Bool.{Bool, true, false, _||_}
 use mathlib.Core.List.{List, [], _∷_, _++_, append-nil, append-assoc}
 use native.Mathlib.Omega.{arith}
 use lib.Dec.{ltb}
 use lib.ListN.{length, length-append}
 use Rattle.lists.specs.Base.{if_then_else_, isEmpty, count}
-use Rattle.postcard.specs.Message.{Timer, DispatchLazyPush, AnnounceDropped, Action, Scheduled}
+use Rattle.postcard.specs.Message.{DispatchLazyPush, AnnounceDropped, Action, Scheduled}
 use Rattle.protocol.specs.State.{State, Note}
-use Rattle.protocol.specs.Run.{Run, act, withState}
+use Rattle.protocol.specs.Run.{Run, withState}
 use Rattle.protocol.specs.Push.{forPeer, scheduleDispatch, scheduleAnnounceDropped}
 use Rattle.protocol.specs.Ticks.{oldest, younger, moveOldest, stillCached, dispatchIfQueued, onAnnounceDroppedTimer}
 use Rattle.protocol.specs.Whole.{contentHeld}
-use Rattle.protocol.specs.Growth.{Sizes, sizesOf, sizedRecorded, recordAction, dispatchAction, announceSizes, announceActions}
+use Rattle.protocol.specs.Growth.{sizesOf, recordAction, dispatchAction, announceSizes, announceActions}
 use Rattle.lists.proofs.MapLaws.{cases}
 use Rattle.protocol.proofs.RecordOnly.{only-schedule}
 use Rattle.protocol.proofs.NoteLaws.{only-sizes, schedule-dropped, schedule-actions}

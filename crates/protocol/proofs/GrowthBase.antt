@@ -1,29 +1,29 @@
 -- The laws behind `specs/Growth.antt`: sizes of tables, lengths of actions, the rooms left, and eviction in advance.
-use Prim.Native.Nat.{ℕ, zero, suc, _+_, _*_, _-_, _≤_, _<_}
+use Prim.Native.Nat.{ℕ, zero, suc, _+_, _-_, _≤_, _<_}
 use mathlib.Core.Path.{_≡_, refl, sym, ap, _∙_}
-use mathlib.Core.Bool.{Bool, true, false, not, _&&_, _||_}
-use mathlib.Core.List.{List, [], _∷_, _++_, map, append-nil}
+use mathlib.Core.Bool.{Bool, true, false}
+use mathlib.Core.List.{List, [], _∷_, _++_, append-nil}
 use mathlib.Core.Option.{Option, none, some}
 use native.Mathlib.Omega.{arith}
 use lib.Dec.{leb, ltb, eqb}
 use lib.ListN.{length, length-append}
-use borrow.Author.Tests.{ltb-true, ltb-false, leb-true, leb-false, eqb-true, eqb-false, eq-eqb, ne-eqb, le-leb, lt-leb, lt-ltb}
-use Rattle.lists.specs.Base.{if_then_else_, isSome, isEmpty, all, any, filter, count, sum, concatMap, member, ascending}
+use borrow.Author.Tests.{ltb-true, leb-true, leb-false, eqb-true, eqb-false, eq-eqb, ne-eqb, le-leb, lt-leb, lt-ltb}
+use Rattle.lists.specs.Base.{if_then_else_, isSome, all, filter, count, sum, concatMap, member, ascending}
 use Rattle.lists.specs.Map.{Map, Entry, entry, keys, lookup, insert, remove, has, insertKey, removeKey}
 use Rattle.postcard.specs.Number.{numberBytes, numberLength, bigEndian, idBytes}
-use Rattle.time_cache.specs.TimeCache.{Timed, Expiry, Cache, valueOf, get, holds, expireUntil, laterCache}
+use Rattle.time_cache.specs.TimeCache.{Timed, Cache, valueOf, get, holds, expireUntil, laterCache}
 use Rattle.postcard.specs.Message.{Delivery, Swarm, Neighbors, Ihave, Message, Gossip, Prune, Graft, IHave, Timer, SendGraft, DispatchLazyPush, EvictCache, AnnounceDropped, Action, Sent, Scheduled, Emitted, contentBytes, deliveryBytes, ihaveBytes, optionalIdBytes, messageBytes, timerBytes, takenByte, actionBytes}
-use Rattle.protocol.specs.State.{State, Limits, Cached}
-use Rattle.protocol.specs.Run.{Run, Room, hasRoom, useRoom, act, withState}
+use Rattle.protocol.specs.State.{State, Cached}
+use Rattle.protocol.specs.Run.{Run, Room, hasRoom, useRoom, act}
 use Rattle.protocol.specs.Ticks.{evict, onEvictCacheTimer}
 use Rattle.protocol.specs.Handle.{firstEvent}
 use Rattle.protocol.specs.Whole.{fits, cacheFits, contentHeld}
 use Rattle.protocol.specs.Answer.{outputOf}
-use Rattle.protocol.specs.Growth.{Sizes, sizesOf, fitSizes, deliveryLength, wantedLength, messageLength, timerLength, actionLength, kthTaken, aliveAt, aliveValue, settled, settledActions, settledSizes, grown, shrunk}
+use Rattle.protocol.specs.Growth.{sizesOf, fitSizes, deliveryLength, wantedLength, messageLength, timerLength, actionLength, kthTaken, aliveAt, aliveValue, settled, settledActions, settledSizes, grown, shrunk}
 use Rattle.lists.proofs.MapLaws.{cases, true≢, and-left, and-right, all-head, all-tail}
 use Rattle.lists.proofs.ListLaws.{length-filter, keys-filter-all}
 use Rattle.time_cache.proofs.Timely.{Timely, expire-is-filter}
-use Rattle.protocol.proofs.Sane.{Core, CoreOf}
+use Rattle.protocol.proofs.Sane.{CoreOf}
 
 -- question 13 looks at the sizes only
 pub fits-sizes : (s : State) → fits s ≡ fitSizes (s .limits) (sizesOf s)

@@ -1,27 +1,24 @@
 -- A whole call: the sizes after it and its actions are functions of the state before it (questions 13 and 14).
-use Prim.Native.Nat.{ℕ, zero, suc, _+_}
+use Prim.Native.Nat.{ℕ}
 use mathlib.Core.Path.{_≡_, refl, sym, ap, _∙_}
-use mathlib.Core.Bool.{Bool, true, false, not, _&&_, _||_}
-use mathlib.Core.List.{List, [], _∷_, _++_, append-nil, append-assoc}
-use lib.Dec.{leb, ltb, eqb}
+use mathlib.Core.Bool.{Bool, true, false, not}
+use mathlib.Core.List.{List, [], _++_, append-nil, append-assoc}
+use lib.Dec.{ltb, eqb}
 use lib.ListN.{length}
 use Rattle.lists.specs.Base.{if_then_else_, sum}
-use Rattle.time_cache.specs.TimeCache.{holds, get}
+use Rattle.time_cache.specs.TimeCache.{holds}
 use Rattle.protocol.specs.Links.{isNeighbour}
 use Rattle.postcard.specs.Message.{Delivery, Swarm, Neighbors, Scope, Message, Gossip, Prune, Graft, IHave, Timer, SendGraft, DispatchLazyPush, EvictCache, AnnounceDropped, Event, Received, Broadcast, Fired, Up, Down, Action}
-use Rattle.protocol.specs.State.{State, Counts, Limits}
+use Rattle.protocol.specs.State.{State, Counts}
 use Rattle.protocol.specs.Run.{Run, Room, begin, withCounts}
-use Rattle.protocol.specs.Gossips.{lateKind, onDuplicate, onLateGraftReply, onNew, onGossip, gossipSize, broadcastTo, broadcast}
-use Rattle.protocol.specs.Control.{onIHave, onGraft, onPrune}
+use Rattle.protocol.specs.Gossips.{onLateGraftReply, onGossip, gossipSize, broadcast}
 use Rattle.protocol.specs.Handle.{firstEvent, countMessage, ifNeighbour, onTimer, onMessage, handleMessage, handle}
 use Rattle.protocol.specs.Whole.{whole, fits}
 use Rattle.protocol.specs.Answer.{outputOf}
-use Rattle.protocol.specs.Growth.{Sizes, sizesOf, fitSizes, actionLength, settled, settledActions, graftSizes, graftActions, ihaveSizes, ihaveActions, broadcastSizes, broadcastActions, lateActions, newSizes, newActions, gossipSizes, gossipActions, messageSizes, messageActions, timerSizes, timerActions, sizesAfter, actionsAfter}
-use Rattle.lists.proofs.MapLaws.{cases, true≢}
-use Rattle.protocol.proofs.Sane.{Core, CoreOf, Sane, whole-sane}
-use Rattle.protocol.proofs.SaneSteps.{Kept, by-test}
+use Rattle.protocol.specs.Growth.{sizesOf, fitSizes, actionLength, settled, settledActions, broadcastSizes, broadcastActions, gossipSizes, gossipActions, messageSizes, messageActions, timerSizes, timerActions, sizesAfter, actionsAfter}
+use Rattle.protocol.proofs.Sane.{Sane, whole-sane}
 use Rattle.protocol.proofs.KeptEvents.{kept-firstEvent, kept-handle}
-use Rattle.protocol.proofs.GrowthBase.{fits-sizes, length-output, if-on, if-both, if-same, first-state, first-actions, first-rooms}
+use Rattle.protocol.proofs.GrowthBase.{fits-sizes, length-output, if-on, if-same, first-state, first-actions, first-rooms}
 use Rattle.protocol.proofs.GrowthTicks.{up-sizes, up-actions, down-sizes, down-actions, evict-sizes, evict-actions}
 use Rattle.protocol.proofs.GrowthAnnounce.{announce-sizes, announce-actions}
 use Rattle.protocol.proofs.GrowthControl.{prune-sizes, prune-actions, graft-sizes, graft-actions, sendGraft-sizes, sendGraft-actions}

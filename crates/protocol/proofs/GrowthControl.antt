@@ -1,33 +1,31 @@
 -- Sizes and actions of Prune, Graft, SendGraft and IHave, of the state before.
-use Prim.Native.Nat.{ℕ, zero, suc, _+_, _*_, _-_, min, _≤_, _<_}
+use Prim.Native.Nat.{ℕ, suc, _+_, _-_, min, _≤_, _<_}
 use mathlib.Core.Path.{_≡_, refl, sym, ap, _∙_}
-use mathlib.Core.Bool.{Bool, true, false, not, _&&_, _||_}
-use mathlib.Core.List.{List, [], _∷_, _++_, map, append-nil, append-assoc}
+use mathlib.Core.Bool.{Bool, true, false, _||_}
+use mathlib.Core.List.{List, [], _∷_, _++_, append-nil, append-assoc}
 use mathlib.Core.Option.{Option, none, some}
 use native.Mathlib.Omega.{arith}
-use lib.Dec.{leb, ltb, eqb}
-use lib.ListN.{length, length-append}
-use borrow.Author.Tests.{leb-true, leb-false, le-leb, lt-leb, eqb-true, eqb-false, eq-eqb, ne-eqb}
-use Rattle.lists.specs.Base.{if_then_else_, isEmpty, isSome, all, any, filter, count, member, once, ascending}
-use Rattle.lists.specs.Map.{Map, Entry, entry, keys, lookup, insert, remove, has, insertKey, removeKey}
+use lib.Dec.{leb}
+use lib.ListN.{length}
+use borrow.Author.Tests.{leb-true, leb-false}
+use Rattle.lists.specs.Base.{if_then_else_, isEmpty, isSome, all, any, count, member, once, ascending}
+use Rattle.lists.specs.Map.{Map, keys, lookup, insert, remove, has}
 use Rattle.time_cache.specs.TimeCache.{Timed, Expiry, Cache, valueOf, get, holds, addExpiry, put, withValue, replace}
 use Rattle.protocol.specs.Links.{Mark, Links, isNeighbour, markIfThere, addEager, addLazy, eager, lazy}
-use Rattle.postcard.specs.Message.{Delivery, Swarm, Neighbors, Ihave, Message, Gossip, Graft, Timer, SendGraft, Action, Sent, Scheduled}
-use Rattle.protocol.specs.State.{State, Note, Hop, Grafts, Cached, withLinks}
-use Rattle.protocol.specs.Run.{Run, Room, hasRoom, useRoom, act, send, takes, withState}
-use Rattle.protocol.specs.Push.{forPeer, notes, noteDropped, sendEach, handedBack, noteForEach, noteAfter, pushTo}
+use Rattle.postcard.specs.Message.{Swarm, Action}
+use Rattle.protocol.specs.State.{State, Note, Hop, Grafts, Cached}
+use Rattle.protocol.specs.Run.{Run, Room, hasRoom, act, send}
+use Rattle.protocol.specs.Push.{forPeer, notes, sendEach, handedBack, noteForEach, noteAfter, pushTo}
 use Rattle.protocol.specs.Gossips.{hopsOf, announcers, updateLinks}
-use Rattle.protocol.specs.Control.{addAnnouncer, announce, scheduleGraft, onAnnounced, onIHave, onPrune, replyWith, reply, onGraft, lower, withGraft, noteGraft, leaveAnnouncers, askFirst, unmark, onSendGraftTimer}
+use Rattle.protocol.specs.Control.{onPrune, replyWith, reply, onGraft, withGraft, noteGraft, leaveAnnouncers, askFirst, unmark, onSendGraftTimer}
 use Rattle.protocol.specs.Whole.{contentHeld}
-use Rattle.protocol.specs.Growth.{Sizes, sizesOf, sizedMissing, sizedTimers, sizedRecorded, sizedGrafted, sizedGraftedExpiry, kthTaken, firstSend, grown, shrunk, Batch, eligible, peerGain, gains, backPeers, batchesFor, noteAction, pushActions, pushGain, pushGains, replySizes, replyActions, graftSizes, graftActions, unmarkedSizes, askSizes, askActions, sendGraftSizes, sendGraftActions, newIds, knownMissing, knownTimer, ihaveSizes, ihaveActions}
-use Rattle.lists.proofs.MapLaws.{cases, true≢, and-left, and-right, and-intro, all-head, all-tail, all-cons, ascending-insert, ascending-remove}
-use Rattle.time_cache.proofs.CacheLaws.{eqb-sym}
-use Rattle.lists.proofs.ListLaws.{has-insert}
-use Rattle.protocol.proofs.Sane.{Core, CoreOf, Sane}
-use Rattle.protocol.proofs.SaneParts.{wider-mark, ascending-mark, ascending-insertKey}
-use Rattle.protocol.proofs.SaneSteps.{Kept, kept-unmark, kept-scheduleGraft}
-use Rattle.protocol.proofs.GrowthBase.{length-insert, length-remove, length-insertKey, length-removeKey, has-first, if-on, if-both, if-same}
-use Rattle.protocol.proofs.PushLaws.{PushedTo, swarm-sizes, swarm-actions}
+use Rattle.protocol.specs.Growth.{Sizes, sizesOf, sizedMissing, sizedRecorded, sizedGrafted, sizedGraftedExpiry, firstSend, grown, shrunk, eligible, peerGain, gains, backPeers, batchesFor, pushGain, pushGains, replySizes, replyActions, graftSizes, graftActions, unmarkedSizes, askSizes, askActions, sendGraftSizes, sendGraftActions}
+use Rattle.lists.proofs.MapLaws.{cases, true≢}
+use Rattle.protocol.proofs.Sane.{CoreOf, Sane}
+use Rattle.protocol.proofs.SaneParts.{wider-mark}
+use Rattle.protocol.proofs.SaneSteps.{kept-unmark}
+use Rattle.protocol.proofs.GrowthBase.{length-insert, length-remove, length-removeKey, has-first, if-on, if-both}
+use Rattle.protocol.proofs.PushLaws.{swarm-sizes, swarm-actions}
 
 -- marks change no size
 

@@ -1,32 +1,29 @@
 -- Sizes and actions of DispatchLazyPush, of the state before.
-use Prim.Native.Nat.{ℕ, zero, suc, _+_, _-_, _≤_, _<_}
+use Prim.Native.Nat.{ℕ, suc, _+_}
 use mathlib.Core.Path.{_≡_, refl, sym, ap, _∙_}
 use mathlib.Core.Bool.{Bool, true, false, not, _&&_, _||_}
 use mathlib.Core.List.{List, [], _∷_, _++_, map, append-nil, append-assoc}
 use native.Mathlib.Omega.{arith}
-use lib.Dec.{leb, ltb, eqb}
+use lib.Dec.{eqb}
 use lib.ListN.{length}
-use borrow.Author.Tests.{eqb-true, eq-eqb, leb-true, not-true}
+use borrow.Author.Tests.{eqb-true, eq-eqb, not-true}
 use Rattle.lists.specs.Base.{if_then_else_, isEmpty, all, any, count, member, once, ascending}
-use Rattle.lists.specs.Map.{keys, insertKey}
 use Rattle.time_cache.specs.TimeCache.{Cache, holds}
 use Rattle.protocol.specs.Links.{Links, isNeighbour}
 use Rattle.postcard.specs.Message.{Ihave, Message, IHave, Action, Sent, Scheduled, AnnounceDropped}
-use Rattle.protocol.specs.State.{State, Note, Cached, withQueue}
-use Rattle.protocol.specs.Run.{Run, Room, hasRoom, useRoom, send, takes, withState}
-use Rattle.protocol.specs.Push.{forPeer, notes, recordFull, noteDropped, sendIhave}
+use Rattle.protocol.specs.State.{Note, Cached, withQueue}
+use Rattle.protocol.specs.Run.{Run, Room, hasRoom, useRoom, send, withState}
+use Rattle.protocol.specs.Push.{notes, recordFull, noteDropped, sendIhave}
 use Rattle.protocol.specs.Ticks.{perMessage, chunks, queuedFor, queuedPeers, sendChunks, dispatchTo, clearDispatch, onDispatchTimer}
 use Rattle.protocol.specs.Whole.{contentHeld}
-use Rattle.protocol.specs.Growth.{Sizes, sizesOf, sizedRecorded, sizedQueued, kthTaken, recordAction, addNote, addNotes, Batch, addBatches, gains, Piece, numbered, peerPieces, pieces, pieceTaken, pieceActions, backIhaves, dispatchBatches, dispatchSizes, dispatchActions}
-use Rattle.lists.proofs.MapLaws.{cases, true≢, and-left, and-right, all-head, all-tail, all-cons}
-use Rattle.time_cache.proofs.CacheLaws.{eqb-sym}
+use Rattle.protocol.specs.Growth.{sizesOf, sizedQueued, kthTaken, recordAction, addNote, addNotes, Batch, addBatches, gains, Piece, numbered, peerPieces, pieces, pieceTaken, pieceActions, backIhaves, dispatchBatches, dispatchSizes, dispatchActions}
+use Rattle.lists.proofs.MapLaws.{cases, true≢, and-left, and-right, all-head, all-tail}
 use Rattle.lists.proofs.ListLaws.{all-append}
-use Rattle.protocol.proofs.Walk.{walk-dispatchTo}
-use Rattle.protocol.proofs.RecordOnly.{RecordOnly, only-refl, only-trans, only-send, only-noteDropped, only-sending}
-use Rattle.protocol.proofs.Sane.{Core, CoreOf, Sane, flagged, byNeighbour}
+use Rattle.protocol.proofs.RecordOnly.{RecordOnly, only-refl, only-trans, only-send, only-noteDropped}
+use Rattle.protocol.proofs.Sane.{Sane, flagged, byNeighbour}
 use Rattle.protocol.proofs.SaneParts.{all-insertKey, ascending-insertKey}
-use Rattle.protocol.proofs.GrowthBase.{has-first, kth-used-same, kth-used-other, if-on, if-both, if-same}
-use Rattle.protocol.proofs.NoteLaws.{only-sizes, NotedFor, noted-for, nextFlag, gains-now}
+use Rattle.protocol.proofs.GrowthBase.{has-first, kth-used-same, kth-used-other}
+use Rattle.protocol.proofs.NoteLaws.{only-sizes, noted-for, nextFlag, gains-now}
 use Rattle.protocol.proofs.PushLaws.{once-ascending, noted-filled}
 
 -- the pieces, one after the other

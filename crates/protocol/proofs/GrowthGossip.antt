@@ -1,31 +1,29 @@
 -- Sizes and actions of a Gossip, of the state before: received before, and new.
-use Prim.Native.Nat.{ℕ, zero, suc, _+_, _-_, _≤_, _<_}
+use Prim.Native.Nat.{ℕ, suc, _+_, _-_}
 use mathlib.Core.Path.{_≡_, refl, sym, ap, _∙_}
-use mathlib.Core.Bool.{Bool, true, false, not, _&&_, _||_}
-use mathlib.Core.List.{List, [], _∷_, _++_, map, append-nil, append-assoc}
+use mathlib.Core.Bool.{Bool, true, false, not, _&&_}
+use mathlib.Core.List.{List, [], _∷_, _++_, append-nil, append-assoc}
 use mathlib.Core.Option.{Option, none, some}
-use native.Mathlib.Omega.{arith}
-use lib.Dec.{leb, ltb, eqb}
-use lib.ListN.{length, length-append}
-use borrow.Author.Tests.{eqb-true, eq-eqb, ne-eqb}
-use Rattle.lists.specs.Base.{if_then_else_, isEmpty, isSome, all, filter, member, once, ascending}
-use Rattle.lists.specs.Map.{Map, Entry, entry, keys, lookup, insert, remove, has, removeKey}
-use Rattle.time_cache.specs.TimeCache.{Timed, Cache, valueOf, get, holds, put, withValue, replace}
-use Rattle.protocol.specs.Links.{Mark, Links, isNeighbour, isEager, marked, eagerIn, peersMarked, eagerPeers, lazyPeers, addEager, addLazy, eager, lazy}
-use Rattle.postcard.specs.Message.{Delivery, Swarm, Neighbors, Message, Gossip, Prune, Graft, Action, Sent, Emitted}
-use Rattle.protocol.specs.State.{State, Note, Hop, Grafts, Cached, withGrafted, withQueue, withDispatchScheduled}
+use lib.Dec.{ltb, eqb}
+use lib.ListN.{length}
+use borrow.Author.Tests.{eqb-true, eq-eqb}
+use Rattle.lists.specs.Base.{if_then_else_, all, filter, member, once, ascending}
+use Rattle.lists.specs.Map.{keys, lookup, has}
+use Rattle.time_cache.specs.TimeCache.{Timed, Cache, valueOf, get, holds, withValue, replace}
+use Rattle.protocol.specs.Links.{Links, isNeighbour, isEager, marked, eagerIn, peersMarked, eagerPeers, lazyPeers, addEager, eager}
+use Rattle.postcard.specs.Message.{Swarm, Neighbors, Gossip, Prune, Graft, Action, Sent, Emitted}
+use Rattle.protocol.specs.State.{State, Hop, Grafts, withGrafted}
 use Rattle.protocol.specs.Run.{Run, Room, hasRoom, useRoom, act, send, withState}
 use Rattle.protocol.specs.Push.{eagerTargets, pushTo, eagerPush, lazyPush}
 use Rattle.protocol.specs.Gossips.{markReceived, cacheAt, announcers, peersOf, graftedFor, withFirst, setFirst, graftOut, forgetMissing, raiseHops, leastFrom, farCloser, updateLinks, graftUnlessEager, pruneBack, optimizeTree, forgetAndOptimise, pushOn, takeIn, Late, duplicate, repeated, faster, withKept, setKept, onDuplicate, onNew}
 use Rattle.protocol.specs.Whole.{contentHeld}
-use Rattle.protocol.specs.Growth.{Sizes, sizesOf, sizedMissing, sizedTimers, sizedRecorded, sizedQueued, sizedReceived, sizedReceivedExpiry, sizedCached, sizedCachedExpiry, sizedContent, contentOf, kthTaken, firstSend, grown, shrunk, dispatchAction, backPeers, pushActions, pushGains, takenSizes, lateActions, optimiseActions, newSizes, newActions}
-use Rattle.lists.proofs.MapLaws.{cases, true≢, and-left, and-right, and-intro, all-head, all-tail, lookup-insert-same}
-use Rattle.time_cache.proofs.CacheLaws.{eqb-sym}
+use Rattle.protocol.specs.Growth.{sizesOf, sizedMissing, sizedTimers, sizedRecorded, sizedQueued, sizedReceived, sizedReceivedExpiry, sizedCached, sizedCachedExpiry, sizedContent, contentOf, kthTaken, firstSend, grown, shrunk, dispatchAction, backPeers, pushActions, pushGains, takenSizes, lateActions, optimiseActions, newSizes, newActions}
+use Rattle.lists.proofs.MapLaws.{cases, true≢, and-left, and-right, lookup-insert-same}
 use Rattle.protocol.proofs.RecordOnly.{RecordOnly}
-use Rattle.protocol.proofs.Sane.{Core, CoreOf, Sane}
+use Rattle.protocol.proofs.Sane.{CoreOf}
 use Rattle.protocol.proofs.SaneParts.{ascending-mark}
 use Rattle.protocol.proofs.GrowthBase.{length-remove, length-removeKey, has-first, kth-used-same, kth-used-other, if-on, if-both, if-same}
-use Rattle.protocol.proofs.GrowthControl.{length-mark, push-gains, length-replace}
+use Rattle.protocol.proofs.GrowthControl.{push-gains, length-replace}
 use Rattle.protocol.proofs.GrowthTaken.{cached-sizes, holds-put, lazy-field, lazy-rooms, lazy-actions}
 use Rattle.protocol.proofs.GrowthTaken as Taken
 use Rattle.protocol.proofs.GrowthControl as Control

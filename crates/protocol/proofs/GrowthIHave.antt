@@ -1,24 +1,23 @@
 -- Sizes and actions of IHave, of the state before: the distinct identifiers of the message that are new.
-use Prim.Native.Nat.{ℕ, zero, suc, _+_, _≤_, _<_}
+use Prim.Native.Nat.{ℕ, _+_}
 use mathlib.Core.Path.{_≡_, refl, sym, ap, _∙_}
-use mathlib.Core.Bool.{Bool, true, false, not, _&&_, _||_}
+use mathlib.Core.Bool.{Bool, true, false, _||_}
 use mathlib.Core.List.{List, [], _∷_, _++_, map, append-nil, append-assoc}
 use native.Mathlib.Omega.{arith}
-use lib.Dec.{leb, ltb, eqb}
+use lib.Dec.{ltb, eqb}
 use lib.ListN.{length}
-use borrow.Author.Tests.{eqb-true, eq-eqb}
-use Rattle.lists.specs.Base.{if_then_else_, isEmpty, isSome, member, ascending}
-use Rattle.lists.specs.Map.{Map, keys, insert, has, insertKey}
-use Rattle.time_cache.specs.TimeCache.{Cache, holds}
-use Rattle.postcard.specs.Message.{Ihave, Timer, SendGraft, Action, Scheduled}
+use borrow.Author.Tests.{eqb-true}
+use Rattle.lists.specs.Base.{if_then_else_, member, ascending}
+use Rattle.lists.specs.Map.{keys, insert, has, insertKey}
+use Rattle.time_cache.specs.TimeCache.{holds}
+use Rattle.postcard.specs.Message.{Ihave, SendGraft, Action, Scheduled}
 use Rattle.protocol.specs.State.{State, Hop}
 use Rattle.protocol.specs.Run.{Run, act}
 use Rattle.protocol.specs.Gossips.{announcers}
 use Rattle.protocol.specs.Control.{addAnnouncer, announce, scheduleGraft, onAnnounced, onIHave}
 use Rattle.protocol.specs.Whole.{contentHeld}
-use Rattle.protocol.specs.Growth.{Sizes, sizesOf, sizedMissing, sizedTimers, grown, newIds, knownMissing, knownTimer, ihaveSizes, ihaveActions}
-use Rattle.lists.proofs.MapLaws.{cases, true≢, ascending-insert}
-use Rattle.time_cache.proofs.CacheLaws.{eqb-sym}
+use Rattle.protocol.specs.Growth.{sizesOf, grown, newIds, knownMissing, knownTimer, ihaveSizes, ihaveActions}
+use Rattle.lists.proofs.MapLaws.{cases, ascending-insert}
 use Rattle.lists.proofs.ListLaws.{has-insert}
 use Rattle.protocol.proofs.SaneParts.{ascending-insertKey}
 use Rattle.protocol.proofs.Walk.{walk-if}

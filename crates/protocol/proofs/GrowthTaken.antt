@@ -1,27 +1,27 @@
 -- Sizes and actions of a broadcast, of the state before.
-use Prim.Native.Nat.{ℕ, zero, suc, _+_, _-_, _≤_, _<_}
-use mathlib.Core.Path.{_≡_, refl, sym, ap, _∙_}
-use mathlib.Core.Bool.{Bool, true, false, not, _&&_, _||_}
-use mathlib.Core.List.{List, [], _∷_, _++_, map, append-nil, append-assoc}
+use Prim.Native.Nat.{ℕ, suc, _+_, _-_, _≤_}
+use mathlib.Core.Path.{_≡_, refl, ap, _∙_}
+use mathlib.Core.Bool.{Bool, true, not}
+use mathlib.Core.List.{List, [], _∷_, _++_, append-assoc}
 use mathlib.Core.Option.{Option, none, some}
 use native.Mathlib.Omega.{arith}
-use lib.Dec.{leb, ltb, eqb}
+use lib.Dec.{ltb, eqb}
 use lib.ListN.{length, length-append}
-use borrow.Author.Tests.{eqb-true, eq-eqb, ne-eqb, ltb-true}
-use Rattle.lists.specs.Base.{if_then_else_, isEmpty, isSome, all, filter, member, sum, ascending}
-use Rattle.lists.specs.Map.{Map, Entry, entry, keys, lookup, insert, has}
+use borrow.Author.Tests.{ne-eqb, ltb-true}
+use Rattle.lists.specs.Base.{if_then_else_, isSome, all, filter, sum, ascending}
+use Rattle.lists.specs.Map.{Map, keys, lookup, insert}
 use Rattle.time_cache.specs.TimeCache.{Timed, Cache, valueOf, get, holds, put}
-use Rattle.protocol.specs.Links.{Links, isNeighbour, lazyPeers}
-use Rattle.postcard.specs.Message.{Delivery, Swarm, Neighbors, Scope, toSwarm, toNeighbors, Message, Gossip, Action}
+use Rattle.protocol.specs.Links.{lazyPeers}
+use Rattle.postcard.specs.Message.{Swarm, Scope, toSwarm, toNeighbors, Gossip}
 use Rattle.protocol.specs.State.{State, Note, Cached, withQueue, withDispatchScheduled}
-use Rattle.protocol.specs.Run.{Run, Room, withState}
-use Rattle.protocol.specs.Push.{scheduleDispatch, eagerTargets, pushTo, eagerPush, noteFor, lazyPush}
+use Rattle.protocol.specs.Run.{Run, withState}
+use Rattle.protocol.specs.Push.{eagerTargets, eagerPush, noteFor, lazyPush}
 use Rattle.protocol.specs.Gossips.{markReceived, cacheAt, broadcastTo}
 use Rattle.protocol.specs.Whole.{contentHeld}
-use Rattle.protocol.specs.Growth.{Sizes, sizesOf, sizedRecorded, sizedReceived, sizedReceivedExpiry, sizedCached, sizedCachedExpiry, sizedContent, sizedQueued, kthTaken, firstSend, grown, dispatchAction, gains, backPeers, batchesFor, pushActions, pushGains, contentOf, takenSizes, broadcastSizes, broadcastActions}
-use Rattle.lists.proofs.MapLaws.{cases, true≢, and-left, and-right, all-head, all-tail, lookup-insert-same}
-use Rattle.protocol.proofs.Sane.{Core, CoreOf, Sane}
-use Rattle.protocol.proofs.GrowthBase.{length-insert, if-on, if-both, if-same}
+use Rattle.protocol.specs.Growth.{sizesOf, sizedReceived, sizedReceivedExpiry, sizedCached, sizedCachedExpiry, sizedContent, sizedQueued, grown, dispatchAction, backPeers, pushActions, contentOf, takenSizes, broadcastSizes, broadcastActions}
+use Rattle.lists.proofs.MapLaws.{cases, and-left, and-right, all-head, all-tail, lookup-insert-same}
+use Rattle.protocol.proofs.Sane.{CoreOf}
+use Rattle.protocol.proofs.GrowthBase.{if-on, if-same}
 use Rattle.protocol.proofs.GrowthTicks.{dispatch-sizes, dispatch-actions, dispatch-state, dispatch-rooms}
 use Rattle.protocol.proofs.GrowthControl.{push-gains, length-put, expiry-put}
 use Rattle.protocol.proofs.PushLaws.{targets-once, targets-near, swarm-sizes, swarm-actions, near-actions, near-state}

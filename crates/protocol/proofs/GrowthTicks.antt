@@ -1,28 +1,25 @@
 -- Sizes and actions of neighbour up, neighbour down, EvictCache and AnnounceDropped, of the state before.
-use Prim.Native.Nat.{ℕ, zero, suc, _+_, _*_, _-_, _≤_, _<_}
+use Prim.Native.Nat.{ℕ, suc}
 use mathlib.Core.Path.{_≡_, refl, sym, ap, _∙_}
-use mathlib.Core.Bool.{Bool, true, false, not, _&&_, _||_}
-use mathlib.Core.List.{List, [], _∷_, _++_, map, append-nil, append-assoc}
-use native.Mathlib.Omega.{arith}
-use lib.Dec.{leb, ltb, eqb}
-use lib.ListN.{length, length-append, length-map}
-use Rattle.lists.specs.Base.{if_then_else_, isEmpty, filter, count, ascending}
-use Rattle.lists.specs.Map.{Map, Entry, keys}
+use mathlib.Core.Bool.{Bool, true, not}
+use mathlib.Core.List.{List, [], _∷_, _++_, append-nil}
+use lib.ListN.{length, length-map}
+use Rattle.lists.specs.Base.{if_then_else_, isEmpty, count, ascending}
+use Rattle.lists.specs.Map.{Map, keys}
 use Rattle.protocol.specs.Links.{eager, linkUp, linkDown}
-use Rattle.postcard.specs.Message.{Timer, DispatchLazyPush, AnnounceDropped, Action, Scheduled}
-use Rattle.protocol.specs.State.{State, Note, Hop, withDispatchScheduled}
-use Rattle.protocol.specs.Run.{Run, act, withState}
-use Rattle.protocol.specs.Push.{forPeer, scheduleDispatch, scheduleAnnounceDropped}
+use Rattle.postcard.specs.Message.{DispatchLazyPush, Action, Scheduled}
+use Rattle.protocol.specs.State.{State, Hop, withDispatchScheduled}
+use Rattle.protocol.specs.Run.{Run, act}
+use Rattle.protocol.specs.Push.{forPeer, scheduleDispatch}
 use Rattle.protocol.specs.Gossips.{updateLinks}
-use Rattle.protocol.specs.Ticks.{evict, onEvictCacheTimer, oldest, younger, moveOldest, stillCached, dispatchIfQueued, onAnnounceDroppedTimer}
+use Rattle.protocol.specs.Ticks.{evict, onEvictCacheTimer}
 use Rattle.protocol.specs.Neighbours.{onNeighborUp, onNeighborDown, withoutAnnouncer, forgetAnnouncer, withoutNotes, withoutGraft, forgetGrafted, forgetPeer}
 use Rattle.protocol.specs.Whole.{contentHeld}
-use Rattle.protocol.specs.Growth.{Sizes, sizesOf, upSizes, downSizes, evictSizes, evictActions, dispatchAction, announceSizes, announceActions}
+use Rattle.protocol.specs.Growth.{sizesOf, upSizes, downSizes, evictSizes, evictActions, dispatchAction}
 use Rattle.lists.proofs.MapLaws.{cases}
 use Rattle.lists.proofs.ListLaws.{length-filter}
-use Rattle.protocol.proofs.Sane.{Core, CoreOf}
-use Rattle.protocol.proofs.GrowthBase.{length-insert, length-remove, length-later, expiry-later, content-later, if-on, if-both, if-same, Evicted, evicted}
-use Rattle.time_cache.specs.TimeCache.{laterCache}
+use Rattle.protocol.proofs.Sane.{CoreOf}
+use Rattle.protocol.proofs.GrowthBase.{length-insert, length-remove, length-later, expiry-later, content-later, if-on, if-both, if-same, evicted}
 
 -- up and down
 

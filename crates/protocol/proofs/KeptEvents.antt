@@ -1,43 +1,43 @@
 -- Each event keeps the settings, the limits, and what `whole` asks apart from them; hence `whole` is kept by an accepted call.
-use Prim.Native.Nat.{ℕ, suc, _+_, _^_, _≤_, _<_}
-use mathlib.Core.Path.{_≡_, refl, sym, ap, _∙_}
-use mathlib.Core.Bool.{Bool, true, false, not, _&&_, _||_}
-use mathlib.Core.List.{List, [], _∷_, _++_, map}
+use Prim.Native.Nat.{ℕ, _^_}
+use mathlib.Core.Path.{_≡_, refl, _∙_}
+use mathlib.Core.Bool.{Bool, true, false, not, _&&_}
+use mathlib.Core.List.{List, [], _∷_, map}
 use mathlib.Core.Option.{Option, none, some}
 use native.Mathlib.Omega.{arith}
-use lib.Dec.{leb, ltb, eqb}
+use lib.Dec.{leb, eqb}
 use lib.ListN.{length}
 use borrow.Author.Tests.{leb-true, le-leb, eqb-true}
-use Rattle.lists.specs.Base.{if_then_else_, isEmpty, all, any, filter, ascending, member, once}
-use Rattle.lists.specs.Map.{Map, Entry, entry, keys, lookup, insert, remove}
-use Rattle.time_cache.specs.TimeCache.{Timed, Cache, get, holds, put, replace}
+use Rattle.lists.specs.Base.{if_then_else_, isEmpty, all, filter, member, once}
+use Rattle.lists.specs.Map.{Map, entry, lookup, insert, remove}
+use Rattle.time_cache.specs.TimeCache.{get, holds}
 use Rattle.protocol.specs.Links.{eager, Links, isNeighbour, addEager, linkUp}
-use Rattle.postcard.specs.Message.{Delivery, Scope, Ihave, Message, Gossip, Prune, Graft, IHave, Timer, SendGraft, DispatchLazyPush, EvictCache, AnnounceDropped, Event, Received, Broadcast, Fired, Up, Down, Emitted, Scheduled}
-use Rattle.protocol.specs.State.{State, Counts, Note, Hop, Grafts, Cached, Settings, Limits, Created, created, notCreated, create, fresh, zeroCounts, withQueue, sizeInRange, durationsInRange, limitsInRange, blockNeed}
-use Rattle.protocol.specs.Run.{Run, begin, withState, withCounts, act, send}
-use Rattle.protocol.specs.Push.{scheduleDispatch, scheduleAnnounceDropped}
-use Rattle.protocol.specs.Gossips.{hopsOf, announcers, updateLinks, broadcast}
-use Rattle.protocol.specs.Control.{addAnnouncer, announce, scheduleGraft, onAnnounced, onIHave, lower, withGraft, noteGraft, leaveAnnouncers, askFirst, unmark, onSendGraftTimer}
-use Rattle.protocol.specs.Ticks.{perMessage, queuedPeers, dispatchTo, clearDispatch, onDispatchTimer, oldest, younger, moveOldest, stillCached, dispatchIfQueued, onAnnounceDroppedTimer}
+use Rattle.postcard.specs.Message.{Ihave, Message, Gossip, Prune, Graft, IHave, Timer, SendGraft, DispatchLazyPush, EvictCache, AnnounceDropped, Event, Received, Broadcast, Fired, Up, Down, Emitted, Scheduled}
+use Rattle.protocol.specs.State.{State, Counts, Note, Hop, Grafts, Settings, Limits, created, notCreated, create, fresh, zeroCounts, withQueue, sizeInRange, durationsInRange, limitsInRange, blockNeed}
+use Rattle.protocol.specs.Run.{Run, begin, withState, act, send}
+use Rattle.protocol.specs.Push.{scheduleDispatch}
+use Rattle.protocol.specs.Gossips.{hopsOf, announcers, updateLinks}
+use Rattle.protocol.specs.Control.{announce, scheduleGraft, onAnnounced, onIHave, withGraft, noteGraft, leaveAnnouncers, askFirst, unmark, onSendGraftTimer}
+use Rattle.protocol.specs.Ticks.{perMessage, queuedPeers, clearDispatch, onDispatchTimer, oldest, moveOldest, stillCached, dispatchIfQueued, onAnnounceDroppedTimer}
 use Rattle.protocol.specs.Neighbours.{onNeighborUp, onNeighborDown, forgetPeer}
 use Rattle.protocol.specs.Handle.{firstEvent, countMessage, ifNeighbour, onTimer, onMessage, handleMessage, handle}
-use Rattle.protocol.specs.Whole.{announcersWhole, graftsWhole, whole, fits}
+use Rattle.protocol.specs.Whole.{announcersWhole, whole, fits}
 use Rattle.protocol.specs.Answer.{Call, Answer, refuse, accept, messageFits, countsStay, tooFar, outputOf, lastTwo, askOf, askRead, askWhole, ask}
 use Rattle.postcard.specs.Decode.{Decoded, decoded, faulty, decodeEvent}
-use Rattle.protocol.specs.Calls.{Ran, stateAfter, countsAfter, prepend, runCalls}
+use Rattle.protocol.specs.Calls.{stateAfter, countsAfter, prepend, runCalls}
 use Rattle.lists.proofs.MapLaws.{cases, true≢, and-left, and-right, and-intro, all-head, all-tail, all-cons, ascending-insert, ascending-remove}
-use Rattle.protocol.proofs.Accepted.{Accepts, ask-cases}
+use Rattle.protocol.proofs.Accepted.{ask-cases}
 use Rattle.protocol.proofs.FreshWhole.{fresh-whole}
 use Rattle.postcard.proofs.DecodeFaults.{faultOf, decode-faults}
 use Rattle.lists.proofs.Lists.{or-right}
 use Rattle.lists.proofs.ListLaws.{all-append, all-filter, all-insert-entry, all-remove-entry, all-lookup}
-use Rattle.protocol.proofs.Walk.{Sending, Steps, walk-if, walk-dispatchTo, walk-firstEvent, walk-onGossip, walk-broadcast, walk-onPrune, walk-onGraft}
+use Rattle.protocol.proofs.Walk.{walk-if, walk-dispatchTo, walk-firstEvent, walk-onGossip, walk-broadcast, walk-onPrune, walk-onGraft}
 use Rattle.protocol.proofs.RecordOnly.{RecordOnly, only-schedule, only-sending}
-use Rattle.time_cache.proofs.Timely.{Timely, timely-put, timely-replace}
-use Rattle.protocol.proofs.Sane.{Within, Core, CoreOf, Sane, Ranged, byNeighbour, flagged, whole-sane, whole-ranged, sane-whole}
-use Rattle.protocol.proofs.SaneParts.{Wider, wider-insert, wider-mark, noted-filter, noted-younger, all-younger, all-oldest, within-filter, within-younger, Announcers, to-announcers, of-announcers, announcers-add, once-tail, Grafted, grafted-get, grafts-replace, grafts-put, grafted-insert, grafted-one}
+use Rattle.time_cache.proofs.Timely.{timely-put, timely-replace}
+use Rattle.protocol.proofs.Sane.{Core, CoreOf, Sane, byNeighbour, flagged, whole-sane, whole-ranged, sane-whole}
+use Rattle.protocol.proofs.SaneParts.{wider-insert, wider-mark, noted-filter, noted-younger, all-younger, all-oldest, within-filter, within-younger, to-announcers, of-announcers, announcers-add, once-tail, grafted-get, grafts-replace, grafts-put, grafted-insert, grafted-one}
 use Rattle.protocol.proofs.SaneDown.{sane-down}
-use Rattle.protocol.proofs.SaneSteps.{Kept, kept-refl, kept-trans, by-test, core-queue, core-dropped, core-missing, core-grafted, announce-sane, dispatch-sane, dispatch-settings, dispatch-limits, kept-links, kept-eager, kept-act, kept-send, kept-cacheAt, kept-counts, kept-scheduleGraft, kept-unmark, kept-evict, kept-sending, kept-steps}
+use Rattle.protocol.proofs.SaneSteps.{Kept, kept-refl, kept-trans, by-test, core-queue, core-missing, core-grafted, announce-sane, kept-links, kept-eager, kept-act, kept-send, kept-cacheAt, kept-counts, kept-scheduleGraft, kept-unmark, kept-evict, kept-sending, kept-steps}
 
 infixr 4 _⨾_
 _⨾_ : {a b c : Run} → Kept a b → Kept b c → Kept a c

@@ -1,22 +1,22 @@
 -- `note_dropped` as a function of lists, and how much the record grows by it.
-use Prim.Native.Nat.{ℕ, zero, suc, _+_, _*_, _-_, min, _≤_, _<_}
+use Prim.Native.Nat.{ℕ, suc, _+_, _-_, min, _<_}
 use mathlib.Core.Path.{_≡_, refl, sym, ap, _∙_}
 use mathlib.Core.Bool.{Bool, true, false, not, _&&_, _||_}
-use mathlib.Core.List.{List, [], _∷_, _++_, map, append-nil, append-assoc}
+use mathlib.Core.List.{List, [], _∷_, _++_, map, append-nil}
 use native.Mathlib.Omega.{arith}
-use lib.Dec.{leb, ltb, eqb}
+use lib.Dec.{leb, eqb}
 use lib.ListN.{length, length-append}
-use borrow.Author.Tests.{leb-true, leb-false, eqb-true, eqb-false, eq-eqb, ne-eqb, not-true}
-use Rattle.lists.specs.Base.{if_then_else_, isEmpty, all, any, filter, count, member, once}
+use borrow.Author.Tests.{leb-true, leb-false, eqb-true, eq-eqb, not-true}
+use Rattle.lists.specs.Base.{if_then_else_, isEmpty, any, count, member, once}
 use Rattle.time_cache.specs.TimeCache.{Cache, holds}
 use Rattle.protocol.specs.Links.{isNeighbour}
 use Rattle.postcard.specs.Message.{Ihave, Action, Scheduled, AnnounceDropped}
-use Rattle.protocol.specs.State.{State, Note, Cached, withDropped, withAnnounceScheduled}
-use Rattle.protocol.specs.Run.{Run, act, withState}
+use Rattle.protocol.specs.State.{Note, Cached}
+use Rattle.protocol.specs.Run.{Run, act}
 use Rattle.protocol.specs.Push.{forPeer, notes, recordFull, recordAlso, noteOne, noteEach, noteDropped, scheduleAnnounceDropped}
 use Rattle.protocol.specs.Whole.{contentHeld}
-use Rattle.protocol.specs.Growth.{Sizes, sizesOf, sizedRecorded, recordAction, addNote, addNotes, Batch, addBatches, eligible, peerGain, gains}
-use Rattle.lists.proofs.MapLaws.{cases, true≢, and-left, and-right, and-intro}
+use Rattle.protocol.specs.Growth.{sizesOf, sizedRecorded, recordAction, addNote, addNotes, Batch, addBatches, eligible, peerGain, gains}
+use Rattle.lists.proofs.MapLaws.{cases, true≢, and-left, and-right}
 use Rattle.time_cache.proofs.CacheLaws.{eqb-sym}
 use Rattle.lists.proofs.Lists.{or-false-left, or-false-right, any-append}
 use Rattle.lists.proofs.ListLaws.{count-append}

@@ -1,29 +1,29 @@
 -- Eager push of the state before: its sends, what is handed back, and how the record grows.
-use Prim.Native.Nat.{ℕ, zero, suc, _+_, _≤_, _<_}
+use Prim.Native.Nat.{ℕ, _+_, _≤_}
 use mathlib.Core.Path.{_≡_, refl, sym, ap, _∙_}
-use mathlib.Core.Bool.{Bool, true, false, not, _&&_, _||_}
+use mathlib.Core.Bool.{Bool, true, false, not, _||_}
 use mathlib.Core.List.{List, [], _∷_, _++_, map, append-nil, append-assoc}
 use native.Mathlib.Omega.{arith}
 use lib.Dec.{leb, ltb, eqb}
-use lib.ListN.{length, length-append}
-use borrow.Author.Tests.{leb-true, ltb-true, eqb-true, eqb-false, ne-eqb, not-true, not-false}
+use lib.ListN.{length}
+use borrow.Author.Tests.{leb-true, ltb-true, ne-eqb, not-true}
 use Rattle.lists.specs.Base.{if_then_else_, isEmpty, all, any, filter, count, member, once, ascending}
-use Rattle.lists.specs.Map.{Map, Entry, keys}
+use Rattle.lists.specs.Map.{keys}
 use Rattle.time_cache.specs.TimeCache.{Cache, holds}
-use Rattle.protocol.specs.Links.{Mark, Links, isNeighbour, isEager, isLazy, peersMarked, eagerPeers, lazyPeers}
-use Rattle.postcard.specs.Message.{Delivery, Swarm, Neighbors, Ihave, Message, Gossip, Action, Sent, Scheduled, AnnounceDropped}
+use Rattle.protocol.specs.Links.{Mark, Links, isNeighbour, isEager, peersMarked, eagerPeers}
+use Rattle.postcard.specs.Message.{Swarm, Neighbors, Ihave, Message, Gossip, Action, Sent, Scheduled, AnnounceDropped}
 use Rattle.protocol.specs.State.{State, Note, Cached}
-use Rattle.protocol.specs.Run.{Run, Room, hasRoom, useRoom, send, takes}
-use Rattle.protocol.specs.Push.{forPeer, notes, recordFull, noteDropped, sendEach, handedBack, noteForEach, noteAfter, eagerTargets, pushTo, eagerPush}
-use Rattle.protocol.specs.Growth.{Sizes, sizesOf, sizedRecorded, kthTaken, firstSend, recordAction, addNote, addNotes, Batch, addBatches, gains, backPeers, batchesFor, noteAction, pushActions}
+use Rattle.protocol.specs.Run.{Run, Room, useRoom, send, takes}
+use Rattle.protocol.specs.Push.{forPeer, notes, recordFull, noteDropped, sendEach, handedBack, noteForEach, noteAfter, eagerTargets, pushTo}
+use Rattle.protocol.specs.Growth.{sizesOf, sizedRecorded, kthTaken, firstSend, recordAction, addNote, addNotes, Batch, addBatches, gains, backPeers, batchesFor, noteAction, pushActions}
 use Rattle.lists.proofs.MapLaws.{cases, true≢, and-left, and-right, and-intro, all-head, all-tail, all-cons}
 use Rattle.time_cache.proofs.CacheLaws.{eqb-sym}
 use Rattle.lists.proofs.ListLaws.{all-filter}
 use Rattle.protocol.proofs.Walk.{walk-sendEach, walk-noteForEach}
-use Rattle.protocol.proofs.RecordOnly.{RecordOnly, only-refl, only-trans, only-noteDropped, only-send, only-sending}
+use Rattle.protocol.proofs.RecordOnly.{RecordOnly, only-trans, only-noteDropped, only-sending}
 use Rattle.protocol.proofs.SaneParts.{negated, marked-near}
-use Rattle.protocol.proofs.GrowthBase.{if-on, if-both, if-same, has-first, kth-used-same, kth-used-other}
-use Rattle.protocol.proofs.NoteLaws.{only-sizes, NotedFor, noted-for, nextFlag, gains-now}
+use Rattle.protocol.proofs.GrowthBase.{has-first, kth-used-other}
+use Rattle.protocol.proofs.NoteLaws.{only-sizes, noted-for, nextFlag, gains-now}
 
 -- peers that stand once
 

@@ -1,19 +1,18 @@
 -- The tests of the settled message cache read from the state before: `stillCached`, `gains`, `pieceActions`, `eagerTargets`.
-use Prim.Native.Nat.{ℕ, zero, suc, _+_, _-_, min}
-use mathlib.Core.Path.{_≡_, refl, sym, ap, _∙_}
-use mathlib.Core.Bool.{Bool, true, false, not, _&&_, _||_}
-use mathlib.Core.List.{List, [], _∷_, _++_}
-use lib.ListN.{length}
-use Rattle.lists.specs.Base.{if_then_else_, any, filter, count, member}
+use Prim.Native.Nat.{ℕ, _+_}
+use mathlib.Core.Path.{_≡_, refl, ap, _∙_}
+use mathlib.Core.Bool.{Bool, true}
+use mathlib.Core.List.{List, [], _∷_}
+use Rattle.lists.specs.Base.{if_then_else_, filter}
 use Rattle.time_cache.specs.TimeCache.{Cache, holds}
-use Rattle.postcard.specs.Message.{Ihave, Action, IHave, Sent, Scheduled, AnnounceDropped}
+use Rattle.postcard.specs.Message.{Ihave}
 use Rattle.protocol.specs.State.{State, Note, Cached}
 use Rattle.protocol.specs.Run.{Room}
-use Rattle.protocol.specs.Push.{forPeer, notes, eagerTargets}
+use Rattle.protocol.specs.Push.{eagerTargets}
 use Rattle.protocol.specs.Ticks.{stillCached}
-use Rattle.protocol.specs.Growth.{settled, Batch, eligible, peerGain, gains, Piece, pieceTaken, pieceActions, cachedBefore, eligibleIf, peerGainIf, gainsIf, pieceActionsIf, standingBefore}
+use Rattle.protocol.specs.Growth.{settled, Batch, eligible, peerGain, gains, Piece, pieceActions, cachedBefore, eligibleIf, peerGainIf, gainsIf, pieceActionsIf, standingBefore}
 use Rattle.lists.proofs.ListLaws.{filter-same, any-same}
-use Rattle.protocol.proofs.Sane.{Core, CoreOf}
+use Rattle.protocol.proofs.Sane.{CoreOf}
 use Rattle.protocol.proofs.GrowthBase.{if-on, if-same, settled-holds}
 
 module _ (c : Cache Cached) (held : ℕ → Bool) (w : (i : ℕ) → holds i c ≡ held i) where

@@ -10,7 +10,7 @@ use lib.Dec.{leb}
 use lib.ListN.{length, length-append}
 use borrow.Author.Tests.{leb-true, le-leb}
 use Rattle.lists.specs.Base.{if_then_else_, isEmpty, any, count, member}
-use Rattle.lists.specs.Map.{lookup, has}
+use Rattle.lists.specs.Map.{lookup}
 use Rattle.time_cache.specs.TimeCache.{Cache, holds, popAll, due, expireUntil}
 use Rattle.protocol.specs.Links.{isNeighbour}
 use Rattle.postcard.specs.Message.{Ihave, Message, Action, Sent, Scheduled, Event}

@@ -1,7 +1,7 @@
 -- What the pushes leave alone: all of the state but the record and its flag.
 use Prim.Native.Nat.{ℕ}
 use mathlib.Core.Path.{_≡_, refl, _∙_}
-use mathlib.Core.Bool.{Bool, true, false, not, _&&_, _||_}
+use mathlib.Core.Bool.{not, _&&_, _||_}
 use mathlib.Core.List.{List, [], _∷_}
 use Rattle.lists.specs.Base.{isEmpty, any}
 use Rattle.time_cache.specs.TimeCache.{holds}

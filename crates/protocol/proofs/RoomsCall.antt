@@ -1,36 +1,35 @@
 -- A call sends only to neighbours and to the event's peer; so two room lists that agree there give the same run (item 5 of the brief).
-use Prim.Native.Nat.{ℕ, zero, suc, _+_}
-use mathlib.Core.Path.{_≡_, refl, sym, ap, subst, _∙_}
+use Prim.Native.Nat.{ℕ, suc}
+use mathlib.Core.Path.{_≡_, refl, sym, subst, _∙_}
 use mathlib.Core.Bool.{Bool, true, false, not, _&&_, _||_}
 use mathlib.Core.List.{List, [], _∷_, _++_, map}
 use mathlib.Core.Option.{Option, none, some}
-use lib.Dec.{leb, ltb, eqb}
+use lib.Dec.{ltb, eqb}
 use lib.ListN.{length}
 use borrow.Author.Tests.{eqb-true, eq-eqb}
 use Rattle.lists.specs.Base.{if_then_else_, isEmpty, isSome, all, any}
 use Rattle.lists.specs.Map.{keys, lookup, has}
 use Rattle.time_cache.specs.TimeCache.{Cache, get, holds}
 use Rattle.protocol.specs.Links.{Mark, Links, isNeighbour, isEager, marked, eagerIn}
-use Rattle.postcard.specs.Message.{Delivery, Swarm, Neighbors, Scope, toSwarm, toNeighbors, Ihave, Message, Gossip, Prune, Graft, IHave, Timer, SendGraft, DispatchLazyPush, EvictCache, AnnounceDropped, Event, Received, Broadcast, Fired, Up, Down, Action, Sent, Scheduled, Emitted}
-use Rattle.protocol.specs.State.{State, Counts, Note, Hop, Grafts, Cached}
-use Rattle.protocol.specs.Run.{Run, Room, begin}
+use Rattle.postcard.specs.Message.{Delivery, Swarm, Neighbors, Scope, toSwarm, toNeighbors, Message, Gossip, Prune, Graft, IHave, Timer, SendGraft, DispatchLazyPush, EvictCache, AnnounceDropped, Event, Received, Broadcast, Fired, Up, Down, Action, Sent, Scheduled, Emitted}
+use Rattle.protocol.specs.State.{State, Counts, Hop, Grafts, Cached}
+use Rattle.protocol.specs.Run.{Room, begin}
 use Rattle.protocol.specs.Push.{eagerTargets}
 use Rattle.protocol.specs.Gossips.{announcers, graftedFor, graftOut, leastFrom, farCloser, Late, duplicate, repeated, faster, sameAs, noMoreHops, lateFrom, lateKind, gossipSize}
 use Rattle.protocol.specs.Ticks.{perMessage, queuedPeers, oldest, younger, stillCached}
-use Rattle.protocol.specs.Handle.{firstEvent, handle}
+use Rattle.protocol.specs.Handle.{handle}
 use Rattle.protocol.specs.Whole.{whole}
-use Rattle.protocol.specs.Growth.{kthTaken, firstSend, settled, settledActions, evictActions, dispatchAction, announceActions, recordAction, noteAction, backPeers, pushActions, replyActions, graftActions, askActions, sendGraftActions, newIds, knownTimer, ihaveActions, broadcastActions, lateActions, optimiseActions, newActions, Piece, pieces, pieceTaken, pieceActions, dispatchActions, gossipActions, messageActions, timerActions, actionsAfter}
-use Rattle.lists.proofs.MapLaws.{cases, true≢, and-left, and-right, all-head, all-tail, all-cons}
+use Rattle.protocol.specs.Growth.{firstSend, settled, settledActions, evictActions, dispatchAction, announceActions, noteAction, backPeers, pushActions, replyActions, graftActions, askActions, sendGraftActions, newIds, knownTimer, ihaveActions, broadcastActions, lateActions, optimiseActions, newActions, Piece, pieceTaken, pieceActions, dispatchActions, gossipActions, messageActions, timerActions, actionsAfter}
+use Rattle.lists.proofs.MapLaws.{cases, true≢, and-right, all-head, all-tail, all-cons}
 use Rattle.lists.proofs.Lists.{or-left, or-right}
 use Rattle.lists.proofs.ListLaws.{all-append, all-imp, all-map, all-each}
-use Rattle.protocol.proofs.Sane.{Core, CoreOf, Sane, whole-sane}
-use Rattle.protocol.proofs.SaneSteps.{Kept}
-use Rattle.protocol.proofs.KeptEvents.{Known, known-announcers, kept-firstEvent}
-use Rattle.protocol.proofs.GrowthBase.{if-on, if-both, if-same, first-state}
+use Rattle.protocol.proofs.Sane.{Sane, whole-sane}
+use Rattle.protocol.proofs.KeptEvents.{known-announcers, kept-firstEvent}
+use Rattle.protocol.proofs.GrowthBase.{if-on, if-same, first-state}
 use Rattle.protocol.proofs.PushLaws.{targets-near}
 use Rattle.protocol.proofs.GrowthDispatch.{near-pieces, queued-near}
 use Rattle.protocol.proofs.GrowthCall.{decide-actions}
-use Rattle.protocol.proofs.RoomsFair.{withRooms, toPeer, sentTo, AgreeOn, Out, FairPair, fair-handle}
+use Rattle.protocol.proofs.RoomsFair.{withRooms, toPeer, sentTo, AgreeOn, fair-handle}
 
 -- a send goes to a peer that passes the test
 abbrev sendIn : (ℕ → Bool) → Action → Bool

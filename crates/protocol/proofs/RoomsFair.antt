@@ -1,27 +1,27 @@
 -- A run depends on the rooms only at the peers to which it sends: two room lists that agree there give the same run (rooms left apart).
-use Prim.Native.Nat.{ℕ, zero, suc, _+_, _*_}
+use Prim.Native.Nat.{ℕ, suc}
 use mathlib.Core.Path.{_≡_, refl, sym, ap, subst, _∙_}
 use mathlib.Core.Bool.{Bool, true, false, not, _&&_, _||_}
 use mathlib.Core.List.{List, [], _∷_, _++_}
 use mathlib.Core.Option.{Option, none, some}
-use lib.Dec.{leb, ltb, eqb}
+use lib.Dec.{ltb, eqb}
 use lib.ListN.{length}
 use borrow.Author.Tests.{eq-eqb, eqb-true}
-use Rattle.lists.specs.Base.{if_then_else_, isEmpty, any, filter, member}
+use Rattle.lists.specs.Base.{if_then_else_, isEmpty, any, member}
 use Rattle.lists.specs.Map.{keys}
-use Rattle.time_cache.specs.TimeCache.{Cache, get, holds}
+use Rattle.time_cache.specs.TimeCache.{get, holds}
 use Rattle.protocol.specs.Links.{Links, isNeighbour, eagerIn, addEager, addLazy, linkUp}
 use Rattle.postcard.specs.Message.{Delivery, Swarm, Neighbors, Scope, toSwarm, toNeighbors, Ihave, Message, Gossip, Prune, Graft, IHave, Timer, SendGraft, DispatchLazyPush, EvictCache, AnnounceDropped, Event, Received, Broadcast, Fired, Up, Down, Action, Sent, Scheduled, Emitted}
-use Rattle.protocol.specs.State.{State, Counts, Note, Hop, Grafts, Cached}
+use Rattle.protocol.specs.State.{State, Note, Hop, Cached}
 use Rattle.protocol.specs.Run.{Run, Room, withState, withCounts, act, hasRoom, useRoom, takes, send}
 use Rattle.protocol.specs.Push.{notes, scheduleDispatch, scheduleAnnounceDropped, recordFull, recordAlso, noteOne, noteEach, noteDropped, sendEach, handedBack, noteForEach, noteAfter, pushTo, eagerPush, lazyPush, sendIhave, eagerTargets}
 use Rattle.protocol.specs.Gossips.{markReceived, cacheAt, announcers, graftedFor, setFirst, graftOut, forgetMissing, raiseHops, leastFrom, farCloser, updateLinks, graftUnlessEager, pruneBack, optimizeTree, forgetAndOptimise, pushOn, takeIn, Late, duplicate, repeated, faster, lateKind, setKept, onDuplicate, onLateGraftReply, onNew, gossipSize, onGossip, broadcastTo, broadcast}
 use Rattle.protocol.specs.Control.{announce, scheduleGraft, onAnnounced, onIHave, onPrune, replyWith, reply, onGraft, noteGraft, leaveAnnouncers, askFirst, unmark, onSendGraftTimer}
 use Rattle.protocol.specs.Ticks.{perMessage, queuedPeers, chunks, queuedFor, sendChunks, dispatchTo, clearDispatch, onDispatchTimer, moveOldest, stillCached, dispatchIfQueued, onAnnounceDroppedTimer, onEvictCacheTimer}
-use Rattle.protocol.specs.Neighbours.{onNeighborUp, onNeighborDown, forgetPeer}
+use Rattle.protocol.specs.Neighbours.{onNeighborUp, onNeighborDown}
 use Rattle.protocol.specs.Handle.{firstEvent, countMessage, ifNeighbour, onTimer, onMessage, handleMessage, handle}
 use Rattle.protocol.specs.Growth.{kthTaken}
-use Rattle.lists.proofs.MapLaws.{cases, true≢}
+use Rattle.lists.proofs.MapLaws.{cases}
 use Rattle.lists.proofs.Lists.{any-left, any-right}
 use Rattle.protocol.proofs.GrowthBase.{has-first, kth-used-same, kth-used-other}
 

@@ -1,20 +1,20 @@
 -- `whole` (question 5) as a record, without the limits: what each step has to keep.
-use Prim.Native.Nat.{ℕ, zero, suc, _+_, _≤_, _<_}
-use mathlib.Core.Path.{_≡_, refl, sym, ap, _∙_}
-use mathlib.Core.Bool.{Bool, true, false, not, _&&_, _||_}
-use mathlib.Core.List.{List, [], _∷_, _++_, map}
+use Prim.Native.Nat.{ℕ, zero, suc, _≤_, _<_}
+use mathlib.Core.Path.{_≡_, refl, sym, _∙_}
+use mathlib.Core.Bool.{Bool, true, _&&_, _||_}
+use mathlib.Core.List.{List, [], _∷_}
 use native.Mathlib.Omega.{arith}
-use lib.Dec.{leb, ltb, eqb}
+use lib.Dec.{leb}
 use lib.ListN.{length}
 use borrow.Author.Tests.{leb-true, le-leb, eqb-true}
-use Rattle.lists.specs.Base.{if_then_else_, isEmpty, all, any, count, ascending, once}
+use Rattle.lists.specs.Base.{isEmpty, all, count, ascending}
 use Rattle.lists.specs.Map.{Map, keys}
-use Rattle.time_cache.specs.TimeCache.{Cache, expiresOnTime, inPopOrder}
+use Rattle.time_cache.specs.TimeCache.{Cache}
 use Rattle.protocol.specs.Links.{Links, isNeighbour}
 use Rattle.protocol.specs.State.{State, Note, Hop, Grafts, Cached, sizeInRange, durationsInRange, limitsInRange}
-use Rattle.protocol.specs.Push.{forPeer, notes}
+use Rattle.protocol.specs.Push.{forPeer}
 use Rattle.protocol.specs.Whole.{fits, inRange, keysOnce, neighbours, announcersWhole, graftsWhole, notedOnce, recordWithin, flagsStand, whole}
-use Rattle.lists.proofs.MapLaws.{cases, true≢, and-left, and-right, and-intro, all-head, all-tail, all-cons}
+use Rattle.lists.proofs.MapLaws.{cases, and-left, and-right, and-intro, all-head, all-tail}
 use Rattle.lists.proofs.ListLaws.{all-map, all-each}
 use Rattle.time_cache.proofs.Timely.{Timely}
 

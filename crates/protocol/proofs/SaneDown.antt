@@ -1,25 +1,25 @@
 -- "Down" keeps what `whole` asks: nobody gone down is left in a queue, record, announcer list or among grafted peers.
-use Prim.Native.Nat.{ℕ, suc, _+_, _≤_, _<_}
-use mathlib.Core.Path.{_≡_, refl, sym, ap, _∙_}
-use mathlib.Core.Bool.{Bool, true, false, not, _&&_, _||_}
-use mathlib.Core.List.{List, [], _∷_, _++_, map}
+use Prim.Native.Nat.{ℕ}
+use mathlib.Core.Path.{_≡_, refl, _∙_}
+use mathlib.Core.Bool.{Bool, true, false, not}
+use mathlib.Core.List.{List, [], _∷_, map}
 use lib.Dec.{ltb, eqb}
 use borrow.Author.Tests.{not-true}
-use Rattle.lists.specs.Base.{if_then_else_, isEmpty, all, filter, ascending, once}
+use Rattle.lists.specs.Base.{isEmpty, all, filter, ascending}
 use Rattle.lists.specs.Map.{Map, Entry, entry, keys, remove}
-use Rattle.time_cache.specs.TimeCache.{Timed, Cache}
+use Rattle.time_cache.specs.TimeCache.{Timed}
 use Rattle.protocol.specs.Links.{Links, isNeighbour, linkDown}
 use Rattle.protocol.specs.State.{State, Note, Hop, Grafts}
 use Rattle.protocol.specs.Push.{forPeer}
 use Rattle.protocol.specs.Neighbours.{withoutAnnouncer, forgetAnnouncer, withoutNotes, withoutGraft, forgetGrafted, forgetPeer}
 use Rattle.protocol.specs.Whole.{announcersWhole, graftsWhole}
-use Rattle.lists.proofs.MapLaws.{cases, true≢, and-left, and-right, and-intro, all-head, all-tail, all-cons, ascending-remove}
+use Rattle.lists.proofs.MapLaws.{cases, and-left, and-right, and-intro, all-head, all-tail, all-cons, ascending-remove}
 use Rattle.time_cache.proofs.CacheLaws.{eqb-sym}
 use Rattle.lists.proofs.Lists.{or-right}
 use Rattle.lists.proofs.ListLaws.{all-imp, all-filter-imp, all-map, has-remove}
-use Rattle.time_cache.proofs.Timely.{Timely, timely-map}
-use Rattle.protocol.proofs.Sane.{Within, Core, CoreOf, Sane, byNeighbour, flagged}
-use Rattle.protocol.proofs.SaneParts.{negated, Announcers, to-announcers, of-announcers, once-filter, Grafted, to-grafted, of-grafted, noted-filter, within-filter}
+use Rattle.time_cache.proofs.Timely.{timely-map}
+use Rattle.protocol.proofs.Sane.{CoreOf, Sane, byNeighbour, flagged}
+use Rattle.protocol.proofs.SaneParts.{Announcers, to-announcers, of-announcers, once-filter, Grafted, to-grafted, of-grafted, noted-filter, within-filter}
 
 -- whoever else was a neighbour is one
 still-near : (p q : ℕ) (l : Links) → eqb q p ≡ false → isNeighbour q l ≡ true → isNeighbour q (remove p l) ≡ true

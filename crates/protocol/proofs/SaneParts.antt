@@ -1,26 +1,26 @@
 -- What `whole` asks of the parts of the state, kept by the functions that change a part.
-use Prim.Native.Nat.{ℕ, zero, suc, _+_, _≤_, _<_}
-use mathlib.Core.Path.{_≡_, refl, sym, ap, _∙_}
-use mathlib.Core.Bool.{Bool, true, false, not, _&&_, _||_}
+use Prim.Native.Nat.{ℕ, _≤_, _<_}
+use mathlib.Core.Path.{_≡_, refl, sym, _∙_}
+use mathlib.Core.Bool.{Bool, true, false, not, _&&_}
 use mathlib.Core.List.{List, [], _∷_, _++_, map}
 use mathlib.Core.Option.{Option, none, some}
 use native.Mathlib.Omega.{arith}
 use lib.Dec.{leb, ltb, eqb}
 use lib.ListN.{length, length-append}
-use borrow.Author.Tests.{eqb-true, eqb-false, eq-eqb, ne-eqb, leb-false, ltb-true, ltb-false, lt-ltb, not-true}
-use Rattle.lists.specs.Base.{if_then_else_, isEmpty, isSome, all, any, filter, count, member, ascending, once}
-use Rattle.lists.specs.Map.{Map, Entry, entry, keys, lookup, insert, remove, has, insertKey, removeKey}
+use borrow.Author.Tests.{eqb-true, eqb-false, eq-eqb, leb-false, ltb-true, ltb-false, lt-ltb, not-true}
+use Rattle.lists.specs.Base.{isEmpty, all, any, filter, count, member, ascending, once}
+use Rattle.lists.specs.Map.{Map, Entry, entry, keys, lookup, insert, insertKey, removeKey}
 use Rattle.time_cache.specs.TimeCache.{Timed, Cache, valueOf, get, withValue, replace, put}
-use Rattle.protocol.specs.Links.{Mark, Links, isNeighbour, peersMarked, lazyPeers, markIfThere}
+use Rattle.protocol.specs.Links.{Mark, Links, isNeighbour, peersMarked, markIfThere}
 use Rattle.protocol.specs.State.{Note, Hop, Grafts}
 use Rattle.protocol.specs.Push.{forPeer, notes, recordFull, noteFor}
 use Rattle.protocol.specs.Control.{addAnnouncer}
 use Rattle.protocol.specs.Ticks.{oldest, younger}
 use Rattle.protocol.specs.Whole.{neighbours, announcersWhole, graftsWhole, notedOnce}
-use Rattle.lists.proofs.MapLaws.{cases, true≢, and-left, and-right, and-intro, all-head, all-tail, all-cons, all-above, ascending-insert, ascending-remove}
+use Rattle.lists.proofs.MapLaws.{cases, true≢, and-left, and-right, and-intro, all-head, all-tail, all-cons, all-above, ascending-insert}
 use Rattle.time_cache.proofs.CacheLaws.{eqb-sym}
-use Rattle.lists.proofs.Lists.{or-left, or-right, or-false-left, or-false-right, any-append}
-use Rattle.lists.proofs.ListLaws.{all-imp, all-each, all-append, all-filter, all-map, all-insert-entry, all-remove-entry, all-lookup, count-append, count-filter, any-filter-false, has-insert, has-remove}
+use Rattle.lists.proofs.Lists.{or-right, or-false-left, or-false-right, any-append}
+use Rattle.lists.proofs.ListLaws.{all-imp, all-append, all-map, all-insert-entry, all-lookup, count-append, count-filter, any-filter-false, has-insert}
 use Rattle.protocol.proofs.Sane.{Within, byNeighbour}
 
 pub negated : {b : Bool} → b ≡ false → not b ≡ true

@@ -1,34 +1,31 @@
 -- Each step keeps the settings, the limits, and what `whole` asks apart from them.
-use Prim.Native.Nat.{ℕ, suc, _+_, _≤_, _<_}
-use mathlib.Core.Path.{_≡_, refl, sym, ap, _∙_}
+use Prim.Native.Nat.{ℕ}
+use mathlib.Core.Path.{_≡_, refl, _∙_}
 use mathlib.Core.Bool.{Bool, true, false, not, _&&_, _||_}
-use mathlib.Core.List.{List, [], _∷_, _++_, map}
+use mathlib.Core.List.{List, [], _∷_}
 use mathlib.Core.Option.{Option, none, some}
-use lib.Dec.{ltb, eqb}
+use lib.Dec.{eqb}
 use borrow.Author.Tests.{not-true}
-use Rattle.lists.specs.Base.{if_then_else_, isEmpty, all, any, filter, ascending, member, once}
-use Rattle.lists.specs.Map.{Map, Entry, entry, keys, lookup, insert, remove}
-use Rattle.time_cache.specs.TimeCache.{Timed, Cache, get, holds, put, replace, expireUntil, laterCache}
-use Rattle.protocol.specs.Links.{eager, lazy, Links, isNeighbour, lazyPeers, isLazy, addEager, addLazy, linkUp}
-use Rattle.postcard.specs.Message.{Delivery, Scope, Ihave, Message, Gossip, Prune, Graft, IHave, Timer, SendGraft, DispatchLazyPush, EvictCache, AnnounceDropped, Event, Received, Broadcast, Fired, Up, Down, Action, Emitted, Scheduled}
+use Rattle.lists.specs.Base.{if_then_else_, isEmpty, all, any, filter, ascending, member}
+use Rattle.lists.specs.Map.{Map, keys}
+use Rattle.time_cache.specs.TimeCache.{Cache, get, holds, replace, expireUntil, laterCache}
+use Rattle.protocol.specs.Links.{eager, lazy, Links, isNeighbour, lazyPeers, isLazy, addEager, addLazy}
+use Rattle.postcard.specs.Message.{Ihave, Message, Action, Scheduled}
 use Rattle.protocol.specs.State.{State, Counts, Note, Hop, Grafts, Cached, withInit, withQueue}
 use Rattle.protocol.specs.Run.{Run, withState, withCounts, act, send}
-use Rattle.protocol.specs.Push.{forPeer, notes, recordFull, recordAlso, noteOne, noteEach, noteDropped, noteFor, scheduleDispatch, scheduleAnnounceDropped, lazyPush}
-use Rattle.protocol.specs.Gossips.{markReceived, cacheAt, hopsOf, announcers, withFirst, setFirst, forgetMissing, updateLinks, withKept, setKept, broadcast}
-use Rattle.protocol.specs.Control.{addAnnouncer, announce, scheduleGraft, onAnnounced, onIHave, lower, withGraft, noteGraft, leaveAnnouncers, askFirst, unmark, onSendGraftTimer}
-use Rattle.protocol.specs.Ticks.{dispatchTo, clearDispatch, onDispatchTimer, oldest, younger, moveOldest, stillCached, dispatchIfQueued, onAnnounceDroppedTimer, evict, onEvictCacheTimer}
-use Rattle.protocol.specs.Neighbours.{onNeighborUp, onNeighborDown, forgetPeer}
-use Rattle.protocol.specs.Handle.{firstEvent, ifNeighbour, onTimer, onMessage, handleMessage, handle}
+use Rattle.protocol.specs.Push.{notes, recordFull, recordAlso, noteOne, noteEach, noteDropped, noteFor, scheduleDispatch, scheduleAnnounceDropped, lazyPush}
+use Rattle.protocol.specs.Gossips.{markReceived, cacheAt, withFirst, setFirst, forgetMissing, updateLinks, withKept, setKept}
+use Rattle.protocol.specs.Control.{scheduleGraft, unmark}
+use Rattle.protocol.specs.Ticks.{evict, onEvictCacheTimer}
 use Rattle.protocol.specs.Whole.{announcersWhole, graftsWhole, notedOnce}
-use Rattle.lists.proofs.MapLaws.{cases, true≢, and-left, and-right, and-intro, all-head, all-tail, all-cons, ascending-insert, ascending-remove}
+use Rattle.lists.proofs.MapLaws.{and-left, and-right, all-cons, ascending-remove}
 use Rattle.lists.proofs.Lists.{or-right}
-use Rattle.lists.proofs.ListLaws.{all-append, all-filter, all-insert-entry, all-remove-entry, all-lookup}
-use Rattle.protocol.proofs.Walk.{Sending, Steps, walk-if, walk-dispatchTo, walk-firstEvent, walk-onGossip, walk-broadcast, walk-onPrune, walk-onGraft}
-use Rattle.protocol.proofs.RecordOnly.{RecordOnly, only-noteEach, only-noteOne, only-schedule, only-sending}
+use Rattle.lists.proofs.ListLaws.{all-append, all-filter, all-remove-entry}
+use Rattle.protocol.proofs.Walk.{Sending, Steps, walk-if}
+use Rattle.protocol.proofs.RecordOnly.{only-noteEach, only-noteOne, only-schedule}
 use Rattle.time_cache.proofs.Timely.{Timely, timely-put, timely-replace, timely-expire, expire-is-filter}
 use Rattle.protocol.proofs.Sane.{Within, Core, CoreOf, Sane, byNeighbour, flagged}
-use Rattle.protocol.proofs.SaneParts.{negated, Wider, wider-insert, wider-mark, ascending-mark, wider-notes, wider-announcers, wider-grafts, marked-near, near-noteFor, noted-more, noted-filter, noted-younger, all-younger, all-oldest, within-filter, within-younger, within-more, ascending-insertKey, ascending-removeKey, Announcers, to-announcers, of-announcers, announcers-add, once-tail, Grafted, to-grafted, of-grafted, grafted-get, grafts-replace, grafts-put, grafted-insert, grafted-one}
-use Rattle.protocol.proofs.SaneDown.{sane-down}
+use Rattle.protocol.proofs.SaneParts.{Wider, wider-mark, ascending-mark, wider-notes, wider-announcers, wider-grafts, marked-near, near-noteFor, noted-more, within-more, ascending-insertKey, ascending-removeKey, grafted-get, grafts-replace}
 
 -- the relation between a run before and a run after
 pub record Kept (r r′ : Run) : Type 0 where

@@ -11,7 +11,7 @@ use Rattle.lists.specs.Base.{any, count, isEmpty, ascending}
 use Rattle.lists.specs.Map.{has, keys}
 use Rattle.time_cache.specs.TimeCache.{holds}
 use Rattle.protocol.specs.Links.{isNeighbour}
-use Rattle.postcard.specs.Message.{Graft, Event, Received, Broadcast, Fired, Up, Down}
+use Rattle.postcard.specs.Message.{Received, Broadcast, Fired, Up, Down}
 use Rattle.protocol.specs.State.{State, Settings, Note, Hop}
 use Rattle.protocol.specs.Push.{forPeer, notes}
 use Rattle.protocol.specs.Gossips.{announcers, graftedFor}

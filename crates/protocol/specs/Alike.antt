@@ -4,9 +4,9 @@ use mathlib.Core.Bool.{Bool, true, false, _&&_, Bool·beq}
 use mathlib.Core.List.{List, [], _∷_}
 use mathlib.Core.Option.{Option, none, some}
 use lib.Dec.{eqb}
-use Rattle.lists.specs.Base.{if_then_else_, all, count}
-use Rattle.lists.specs.Map.{Map, Entry}
-use Rattle.time_cache.specs.TimeCache.{Cache, Timed, Expiry}
+use Rattle.lists.specs.Base.{all, count}
+use Rattle.lists.specs.Map.{Map}
+use Rattle.time_cache.specs.TimeCache.{Cache, Expiry}
 use Rattle.protocol.specs.Links.{Mark, eager, lazy}
 use Rattle.protocol.specs.State.{State, Settings, Limits, Hop, Note, Grafts, Cached}
 use Rattle.protocol.specs.Whole.{wholeBlock}

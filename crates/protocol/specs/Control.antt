@@ -1,15 +1,14 @@
 -- Document 01, "IHave, Graft, Prune" and "SendGraft": `on_ihave`, `on_graft`, `on_prune`, `on_send_graft_timer`.
 use Prim.Native.Nat.{ℕ, _+_, min}
-use mathlib.Core.Bool.{Bool, true, false}
 use mathlib.Core.List.{List, [], _∷_, _++_}
 use mathlib.Core.Option.{Option, none, some}
 use lib.Dec.{eqb}
 use Rattle.lists.specs.Base.{if_then_else_, _▷_, isEmpty, any, member}
-use Rattle.lists.specs.Map.{Map, lookup, insert, remove, entry, insertKey, removeKey}
+use Rattle.lists.specs.Map.{lookup, insert, remove, entry, insertKey, removeKey}
 use Rattle.time_cache.specs.TimeCache.{Cache, get, holds, put, replace}
 use Rattle.protocol.specs.Links.{addEager, addLazy}
-use Rattle.postcard.specs.Message.{Swarm, Ihave, Message, Gossip, Graft, Timer, SendGraft}
-use Rattle.protocol.specs.State.{State, Hop, Grafts, Cached, withMissing, withGrafted, withGraftTimers}
+use Rattle.postcard.specs.Message.{Swarm, Ihave, Gossip, Graft, SendGraft}
+use Rattle.protocol.specs.State.{Hop, Grafts, Cached, withMissing, withGrafted, withGraftTimers}
 use Rattle.protocol.specs.Run.{Run, withState, send, schedule, takes}
 use Rattle.protocol.specs.Push.{noteDropped}
 use Rattle.protocol.specs.Gossips.{announcers, updateLinks}

@@ -8,15 +8,14 @@ use mathlib.Core.Option.{Option, none, some}
 use lib.Dec.{leb, eqb}
 use lib.ListN.{length}
 use Rattle.lists.specs.Base.{if_then_else_, any, count, member}
-use Rattle.postcard.specs.Message.{Delivery, Swarm, Neighbors, Scope, toSwarm, toNeighbors, Ihave, Message, Gossip, Prune, Graft, IHave, Timer, SendGraft, DispatchLazyPush, EvictCache, AnnounceDropped, Event, Received, Broadcast, Fired, Up, Down, Action, Sent, Scheduled, Emitted}
+use Rattle.postcard.specs.Message.{Swarm, Neighbors, Scope, toSwarm, toNeighbors, Ihave, Message, Gossip, Prune, Graft, IHave, Timer, SendGraft, DispatchLazyPush, EvictCache, AnnounceDropped, Event, Received, Broadcast, Fired, Up, Down, Action, Sent, Scheduled, Emitted}
 use Rattle.time_cache.specs.TimeCache.{holds}
 use Rattle.protocol.specs.Links.{eagerPeers, lazyPeers}
-use Rattle.protocol.specs.State.{State, Counts, Settings, Limits, Created, created, create}
-use Rattle.protocol.specs.Run.{Run}
+use Rattle.protocol.specs.State.{State, Counts, Settings, Limits, created, create}
 use Rattle.protocol.specs.Push.{forPeer, notes, recordFull}
 use Rattle.protocol.specs.Gossips.{gossipSize}
 use Rattle.protocol.specs.Answer.{Call, Answer, refuse, accept}
-use Rattle.protocol.specs.Calls.{Ran, runCalls}
+use Rattle.protocol.specs.Calls.{runCalls}
 
 -- "only accepted calls tell, take in, announce or fire": the event of an accepted call passes the test
 unfoldable pub byEvent : (Event → Bool) → Answer → Bool

@@ -1,17 +1,17 @@
 -- Document 01, "Gossip", "Optimise", "Broadcast": `on_gossip`, `on_late_graft_reply`, `optimize_tree`, `broadcast`.
 use Prim.Native.Nat.{ℕ, suc, _+_, _-_, max}
-use mathlib.Core.Bool.{Bool, true, false, not, _&&_, _||_}
+use mathlib.Core.Bool.{Bool, false, not, _&&_, _||_}
 use mathlib.Core.List.{List, [], _∷_}
 use mathlib.Core.Option.{Option, none, some}
 use lib.Dec.{leb, ltb, eqb}
 use lib.ListN.{length}
 use Rattle.lists.specs.Base.{if_then_else_, _▷_, any}
-use Rattle.lists.specs.Map.{Map, Entry, keys, lookup, insert, remove, has, removeKey}
+use Rattle.lists.specs.Map.{Map, keys, lookup, remove, has, removeKey}
 use Rattle.time_cache.specs.TimeCache.{get, holds, put, replace}
 use Rattle.protocol.specs.Links.{Links, isNeighbour, eagerIn, addEager, addLazy}
 use Rattle.postcard.specs.Number.{numberLength}
-use Rattle.postcard.specs.Message.{Delivery, Swarm, Neighbors, Scope, toSwarm, toNeighbors, Message, Prune, Graft}
-use Rattle.protocol.specs.State.{State, Hop, Grafts, Counts, withLinks, withMissing, withReceived, withGrafted, withCache, withGraftTimers}
+use Rattle.postcard.specs.Message.{Delivery, Swarm, Neighbors, Scope, toSwarm, toNeighbors, Prune, Graft}
+use Rattle.protocol.specs.State.{State, Hop, Grafts, withLinks, withMissing, withReceived, withGrafted, withCache, withGraftTimers}
 use Rattle.protocol.specs.Run.{Run, withState, withCounts, send, emit}
 use Rattle.protocol.specs.Push.{eagerPush, lazyPush}
 

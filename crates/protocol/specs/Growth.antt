@@ -1,18 +1,18 @@
 -- What a call needs to know before it writes anything: the sizes of the state after the call (question 13) and its actions (question 14), as
 -- functions of the state before. `s` is the state after a first event's eviction (`settled`), unless a comment says otherwise.
-use Prim.Native.Nat.{ℕ, zero, suc, _+_, _*_, _-_, min}
+use Prim.Native.Nat.{ℕ, suc, _+_, _*_, _-_, min}
 use mathlib.Core.Bool.{Bool, true, false, not, _&&_, _||_}
 use mathlib.Core.List.{List, [], _∷_, _++_, map}
 use mathlib.Core.Option.{Option, none, some}
 use lib.Dec.{leb, ltb, eqb}
 use lib.ListN.{length, drop}
 use Rattle.lists.specs.Base.{if_then_else_, isEmpty, filter, count, any, member, sum}
-use Rattle.lists.specs.Map.{Map, Entry, keys, lookup, has}
+use Rattle.lists.specs.Map.{keys, lookup, has}
 use Rattle.postcard.specs.Number.{numberLength}
-use Rattle.time_cache.specs.TimeCache.{Timed, Expiry, Cache, holds, get, laterCache}
-use Rattle.protocol.specs.Links.{Links, isNeighbour, eagerIn, lazyPeers}
+use Rattle.time_cache.specs.TimeCache.{Timed, Cache, holds, get, laterCache}
+use Rattle.protocol.specs.Links.{isNeighbour, eagerIn, lazyPeers}
 use Rattle.postcard.specs.Message.{Delivery, Swarm, Neighbors, Scope, toSwarm, toNeighbors, Ihave, Message, Gossip, Prune, Graft, IHave, Timer, SendGraft, DispatchLazyPush, EvictCache, AnnounceDropped, Event, Received, Broadcast, Fired, Up, Down, Action, Sent, Scheduled, Emitted}
-use Rattle.protocol.specs.State.{State, Limits, Note, Hop, Grafts, Cached, withInit, withReceived, withGrafted, withCache}
+use Rattle.protocol.specs.State.{State, Limits, Note, Hop, Cached, withInit, withReceived, withGrafted, withCache}
 use Rattle.protocol.specs.Run.{Room}
 use Rattle.protocol.specs.Push.{forPeer, notes, recordFull, eagerTargets}
 use Rattle.protocol.specs.Gossips.{announcers, graftedFor, graftOut, leastFrom, farCloser, Late, duplicate, repeated, faster, lateKind, gossipSize}

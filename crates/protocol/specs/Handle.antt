@@ -1,11 +1,11 @@
 -- One event, from its kind to the steps (`handle`, `handle_message`).
 use Prim.Native.Nat.{ℕ, _+_}
-use mathlib.Core.Bool.{Bool, true, false}
-use mathlib.Core.List.{List, [], _∷_}
+use mathlib.Core.Bool.{true}
+use mathlib.Core.List.{List}
 use Rattle.lists.specs.Base.{if_then_else_, _▷_}
 use Rattle.protocol.specs.Links.{isNeighbour}
 use Rattle.postcard.specs.Message.{Message, Gossip, Prune, Graft, IHave, Timer, SendGraft, DispatchLazyPush, EvictCache, AnnounceDropped, Event, Received, Broadcast, Fired, Up, Down}
-use Rattle.protocol.specs.State.{State, Counts, withInit}
+use Rattle.protocol.specs.State.{Counts, withInit}
 use Rattle.protocol.specs.Run.{Run, withState, withCounts}
 use Rattle.protocol.specs.Gossips.{onGossip, broadcast}
 use Rattle.protocol.specs.Control.{onIHave, onGraft, onPrune, onSendGraftTimer}

@@ -1,6 +1,6 @@
 -- Document 01, "Sets": `on_neighbor_up`, `on_neighbor_down`.
 use Prim.Native.Nat.{ℕ}
-use mathlib.Core.Bool.{Bool, true, false, not}
+use mathlib.Core.Bool.{not}
 use mathlib.Core.List.{List, [], _∷_, map}
 use lib.Dec.{eqb}
 use Rattle.lists.specs.Base.{if_then_else_, _▷_, isEmpty, filter}

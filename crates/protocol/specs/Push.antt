@@ -1,13 +1,13 @@
 -- Document 01, "Record" and the two pushes of "Gossip": `note_dropped`, `schedule_announce_dropped`, `schedule_dispatch`, `eager_push`, `lazy_push`, `send_ihave`.
 use Prim.Native.Nat.{ℕ}
-use mathlib.Core.Bool.{Bool, true, false, not, _&&_, _||_}
+use mathlib.Core.Bool.{Bool, true, not, _&&_, _||_}
 use mathlib.Core.List.{List, [], _∷_, _++_}
 use lib.Dec.{leb, eqb}
 use lib.ListN.{length}
 use Rattle.lists.specs.Base.{if_then_else_, _▷_, isEmpty, filter, count, any, member}
 use Rattle.time_cache.specs.TimeCache.{holds}
 use Rattle.protocol.specs.Links.{isNeighbour, eagerPeers, lazyPeers}
-use Rattle.postcard.specs.Message.{Delivery, Swarm, Neighbors, Ihave, Message, Gossip, IHave, Timer, DispatchLazyPush, AnnounceDropped}
+use Rattle.postcard.specs.Message.{Delivery, Swarm, Neighbors, Ihave, Message, Gossip, IHave, DispatchLazyPush, AnnounceDropped}
 use Rattle.protocol.specs.State.{State, Note, withQueue, withDropped, withDispatchScheduled, withAnnounceScheduled}
 use Rattle.protocol.specs.Run.{Run, withState, send, takes, schedule}
 

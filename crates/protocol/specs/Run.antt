@@ -1,6 +1,6 @@
 -- A call under way: the state so far, the counts, the link room left, and the actions so far.
 use Prim.Native.Nat.{ℕ, _-_}
-use mathlib.Core.Bool.{Bool, true, false}
+use mathlib.Core.Bool.{Bool, true}
 use mathlib.Core.List.{List, [], _∷_, _++_}
 use lib.Dec.{ltb, eqb}
 use Rattle.lists.specs.Base.{if_then_else_}

@@ -1,13 +1,13 @@
 -- Document 01, "Ticks": `on_dispatch_timer`, `on_announce_dropped_timer`, `on_evict_cache_timer`.
 use Prim.Native.Nat.{ℕ, zero, suc, _-_, _/_}
-use mathlib.Core.Bool.{Bool, true, false}
+use mathlib.Core.Bool.{false}
 use mathlib.Core.List.{List, [], _∷_, _++_, map}
-use lib.Dec.{ltb, eqb}
+use lib.Dec.{ltb}
 use lib.ListN.{length, take, drop}
 use Rattle.lists.specs.Base.{if_then_else_, _▷_, isEmpty, filter, count}
 use Rattle.lists.specs.Map.{insertKey}
 use Rattle.time_cache.specs.TimeCache.{holds, expireUntil}
-use Rattle.postcard.specs.Message.{Ihave, Timer, EvictCache}
+use Rattle.postcard.specs.Message.{Ihave, EvictCache}
 use Rattle.protocol.specs.State.{State, Note, withQueue, withDropped, withCache, withReceived, withGrafted, withDispatchScheduled, withAnnounceScheduled}
 use Rattle.protocol.specs.Run.{Run, withState, schedule}
 use Rattle.protocol.specs.Push.{forPeer, sendIhave, scheduleDispatch, scheduleAnnounceDropped}

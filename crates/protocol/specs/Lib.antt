@@ -13,4 +13,3 @@ pub mod Answer
 pub mod Calls
 pub mod Demand3
 pub mod Panel
-pub mod Growth

@@ -13,17 +13,21 @@ use Rattle.lists.specs.Map.{Map, Entry, entry, keys, lookup, insert, remove, ha
 use Rattle.postcard.specs.Number.{numberBytes, numberLength, bigEndian, idBytes}
 use Rattle.time_cache.specs.TimeCache.{Timed, Cache, valueOf, get, holds, expireUntil, laterCache}
 use Rattle.postcard.specs.Message.{Delivery, Swarm, Neighbors, Ihave, Message, Gossip, Prune, Graft, IHave, Timer, SendGraft, DispatchLazyPush, EvictCache, AnnounceDropped, Action, Sent, Scheduled, Emitted, contentBytes, deliveryBytes, ihaveBytes, optionalIdBytes, messageBytes, timerBytes, takenByte, actionBytes}
 use Rattle.protocol.specs.State.{State, Cached}
 use Rattle.protocol.specs.Run.{Run, Room, hasRoom, useRoom, act}
 use Rattle.protocol.specs.Ticks.{evict, onEvictCacheTimer}
 use Rattle.protocol.specs.Handle.{firstEvent}
 use Rattle.protocol.specs.Whole.{fits, cacheFits, contentHeld}
 use Rattle.protocol.specs.Answer.{outputOf}
-use Rattle.protocol.specs.Growth.{sizesOf, fitSizes, deliveryLength, wantedLength, messageLength, timerLength, actionLength, kthTaken, aliveAt, aliveValue, settled, settledActions, settledSizes, grown, shrunk}
+use Rattle.decide.specs.Sizes.{sizesOf, fitSizes, grown, shrunk}
+use Rattle.decide.specs.Lengths.{deliveryLength, wantedLength, messageLength, timerLength, actionLength}
+use Rattle.decide.specs.Rooms.{kthTaken}
+use Rattle.decide.specs.Settled.{aliveAt, aliveValue, settled, settledActions}
+use Rattle.decide.specs.SizesAfter.{settledSizes}
 use Rattle.lists.proofs.MapLaws.{cases, true≢, and-left, and-right, all-head, all-tail}
 use Rattle.lists.proofs.ListLaws.{length-filter, keys-filter-all}
 use Rattle.time_cache.proofs.Timely.{Timely, expire-is-filter}
 use Rattle.protocol.proofs.Sane.{CoreOf}
 
 -- question 13 looks at the sizes only
 pub fits-sizes : (s : State) → fits s ≡ fitSizes (s .limits) (sizesOf s)

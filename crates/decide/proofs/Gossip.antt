@@ -10,24 +10,28 @@ use borrow.Author.Tests.{eqb-true, eq-eqb}
 use Rattle.lists.specs.Base.{if_then_else_, all, filter, member, once, ascending}
 use Rattle.lists.specs.Map.{keys, lookup, has}
 use Rattle.time_cache.specs.TimeCache.{Timed, Cache, valueOf, get, holds, withValue, replace}
 use Rattle.protocol.specs.Links.{Links, isNeighbour, isEager, marked, eagerIn, peersMarked, eagerPeers, lazyPeers, addEager, eager}
 use Rattle.postcard.specs.Message.{Swarm, Neighbors, Gossip, Prune, Graft, Action, Sent, Emitted}
 use Rattle.protocol.specs.State.{State, Hop, Grafts, withGrafted}
 use Rattle.protocol.specs.Run.{Run, Room, hasRoom, useRoom, act, send, withState}
 use Rattle.protocol.specs.Push.{eagerTargets, pushTo, eagerPush, lazyPush}
 use Rattle.protocol.specs.Gossips.{markReceived, cacheAt, announcers, peersOf, graftedFor, withFirst, setFirst, graftOut, forgetMissing, raiseHops, leastFrom, farCloser, updateLinks, graftUnlessEager, pruneBack, optimizeTree, forgetAndOptimise, pushOn, takeIn, Late, duplicate, repeated, faster, withKept, setKept, onDuplicate, onNew}
 use Rattle.protocol.specs.Whole.{contentHeld}
-use Rattle.protocol.specs.Growth.{sizesOf, sizedMissing, sizedTimers, sizedRecorded, sizedQueued, sizedReceived, sizedReceivedExpiry, sizedCached, sizedCachedExpiry, sizedContent, contentOf, kthTaken, firstSend, grown, shrunk, dispatchAction, backPeers, pushActions, pushGains, takenSizes, lateActions, optimiseActions, newSizes, newActions}
+use Rattle.decide.specs.Sizes.{sizesOf, sizedMissing, sizedTimers, sizedRecorded, sizedQueued, sizedReceived, sizedReceivedExpiry, sizedCached, sizedCachedExpiry, sizedContent, grown, shrunk}
+use Rattle.decide.specs.Rooms.{kthTaken, firstSend, backPeers}
+use Rattle.decide.specs.RecordGrowth.{pushActions, pushGains}
+use Rattle.decide.specs.SizesAfter.{contentOf, takenSizes, newSizes}
+use Rattle.decide.specs.ActionsAfter.{dispatchAction, lateActions, optimiseActions, newActions}
 use Rattle.lists.proofs.MapLaws.{cases, true≢, and-left, and-right, lookup-insert-same}
 use Rattle.protocol.proofs.RecordOnly.{RecordOnly}
 use Rattle.protocol.proofs.Sane.{CoreOf}
 use Rattle.protocol.proofs.SaneParts.{ascending-mark}
-use Rattle.protocol.proofs.GrowthBase.{length-remove, length-removeKey, has-first, kth-used-same, kth-used-other, if-on, if-both, if-same}
-use Rattle.protocol.proofs.GrowthControl.{push-gains, length-replace}
-use Rattle.protocol.proofs.GrowthTaken.{cached-sizes, holds-put, lazy-field, lazy-rooms, lazy-actions}
-use Rattle.protocol.proofs.GrowthTaken as Taken
-use Rattle.protocol.proofs.GrowthControl as Control
-use Rattle.protocol.proofs.PushLaws.{above-absent, absent-filter, marked-above, PushedTo, targets-once, targets-near, swarm-pushed, swarm-sizes, swarm-actions}
+use Rattle.decide.proofs.Base.{length-remove, length-removeKey, has-first, kth-used-same, kth-used-other, if-on, if-both, if-same}
+use Rattle.decide.proofs.GraftAndTimer.{push-gains, length-replace}
+use Rattle.decide.proofs.Broadcast.{cached-sizes, holds-put, lazy-field, lazy-rooms, lazy-actions}
+use Rattle.decide.proofs.Broadcast as Taken
+use Rattle.decide.proofs.GraftAndTimer as Control
+use Rattle.decide.proofs.PushLaws.{above-absent, absent-filter, marked-above, PushedTo, targets-once, targets-near, swarm-pushed, swarm-sizes, swarm-actions}
 
 -- Prune to one peer
 

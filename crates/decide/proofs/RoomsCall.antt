@@ -10,26 +10,31 @@ use borrow.Author.Tests.{eqb-true, eq-eqb}
 use Rattle.lists.specs.Base.{if_then_else_, isEmpty, isSome, all, any}
 use Rattle.lists.specs.Map.{keys, lookup, has}
 use Rattle.time_cache.specs.TimeCache.{Cache, get, holds}
 use Rattle.protocol.specs.Links.{Mark, Links, isNeighbour, isEager, marked, eagerIn}
 use Rattle.postcard.specs.Message.{Delivery, Swarm, Neighbors, Scope, toSwarm, toNeighbors, Message, Gossip, Prune, Graft, IHave, Timer, SendGraft, DispatchLazyPush, EvictCache, AnnounceDropped, Event, Received, Broadcast, Fired, Up, Down, Action, Sent, Scheduled, Emitted}
 use Rattle.protocol.specs.State.{State, Counts, Hop, Grafts, Cached}
 use Rattle.protocol.specs.Run.{Room, begin}
 use Rattle.protocol.specs.Push.{eagerTargets}
 use Rattle.protocol.specs.Gossips.{announcers, graftedFor, graftOut, leastFrom, farCloser, Late, duplicate, repeated, faster, sameAs, noMoreHops, lateFrom, lateKind, gossipSize}
 use Rattle.protocol.specs.Ticks.{perMessage, queuedPeers, oldest, younger, stillCached}
 use Rattle.protocol.specs.Handle.{handle}
 use Rattle.protocol.specs.Whole.{whole}
-use Rattle.protocol.specs.Growth.{firstSend, settled, settledActions, evictActions, dispatchAction, announceActions, noteAction, backPeers, pushActions, replyActions, graftActions, askActions, sendGraftActions, newIds, knownTimer, ihaveActions, broadcastActions, lateActions, optimiseActions, newActions, Piece, pieceTaken, pieceActions, dispatchActions, gossipActions, messageActions, timerActions, actionsAfter}
+use Rattle.decide.specs.Rooms.{firstSend, backPeers}
+use Rattle.decide.specs.Settled.{settled, settledActions}
+use Rattle.decide.specs.RecordGrowth.{noteAction, pushActions}
+use Rattle.decide.specs.Pieces.{Piece, pieceTaken, pieceActions}
+use Rattle.decide.specs.SizesAfter.{newIds, knownTimer}
+use Rattle.decide.specs.ActionsAfter.{evictActions, dispatchAction, announceActions, replyActions, graftActions, askActions, sendGraftActions, ihaveActions, broadcastActions, lateActions, optimiseActions, newActions, dispatchActions, gossipActions, messageActions, timerActions, actionsAfter}
 use Rattle.lists.proofs.MapLaws.{cases, true≢, and-right, all-head, all-tail, all-cons}
 use Rattle.lists.proofs.Lists.{or-left, or-right}
 use Rattle.lists.proofs.ListLaws.{all-append, all-imp, all-map, all-each}
 use Rattle.protocol.proofs.Sane.{Sane, whole-sane}
 use Rattle.protocol.proofs.KeptEvents.{known-announcers, kept-firstEvent}
-use Rattle.protocol.proofs.GrowthBase.{if-on, if-same, first-state}
-use Rattle.protocol.proofs.PushLaws.{targets-near}
-use Rattle.protocol.proofs.GrowthDispatch.{near-pieces, queued-near}
-use Rattle.protocol.proofs.GrowthCall.{decide-actions}
-use Rattle.protocol.proofs.RoomsFair.{withRooms, toPeer, sentTo, AgreeOn, fair-handle}
+use Rattle.decide.proofs.Base.{if-on, if-same, first-state}
+use Rattle.decide.proofs.PushLaws.{targets-near}
+use Rattle.decide.proofs.Dispatch.{near-pieces, queued-near}
+use Rattle.decide.proofs.EachEvent.{decide-actions}
+use Rattle.decide.proofs.RoomsSteps.{withRooms, toPeer, sentTo, AgreeOn, fair-handle}
 
 -- a send goes to a peer that passes the test
 abbrev sendIn : (ℕ → Bool) → Action → Bool

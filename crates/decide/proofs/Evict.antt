@@ -6,20 +6,22 @@ use mathlib.Core.List.{List, [], _∷_, _++_, append-nil}
 use lib.ListN.{length, length-map}
 use Rattle.lists.specs.Base.{if_then_else_, isEmpty, count, ascending}
 use Rattle.lists.specs.Map.{Map, keys}
 use Rattle.protocol.specs.Links.{eager, linkUp, linkDown}
 use Rattle.postcard.specs.Message.{DispatchLazyPush, Action, Scheduled}
 use Rattle.protocol.specs.State.{State, Hop, withDispatchScheduled}
 use Rattle.protocol.specs.Run.{Run, act}
 use Rattle.protocol.specs.Push.{forPeer, scheduleDispatch}
 use Rattle.protocol.specs.Gossips.{updateLinks}
 use Rattle.protocol.specs.Ticks.{evict, onEvictCacheTimer}
 use Rattle.protocol.specs.Neighbours.{onNeighborUp, onNeighborDown, withoutAnnouncer, forgetAnnouncer, withoutNotes, withoutGraft, forgetGrafted, forgetPeer}
 use Rattle.protocol.specs.Whole.{contentHeld}
-use Rattle.protocol.specs.Growth.{sizesOf, upSizes, downSizes, evictSizes, evictActions, dispatchAction}
+use Rattle.decide.specs.Sizes.{sizesOf}
+use Rattle.decide.specs.SizesAfter.{upSizes, downSizes, evictSizes}
+use Rattle.decide.specs.ActionsAfter.{evictActions, dispatchAction}
 use Rattle.lists.proofs.MapLaws.{cases}
 use Rattle.lists.proofs.ListLaws.{length-filter}
 use Rattle.protocol.proofs.Sane.{CoreOf}
-use Rattle.protocol.proofs.GrowthBase.{length-insert, length-remove, length-later, expiry-later, content-later, if-on, if-both, if-same, evicted}
+use Rattle.decide.proofs.Base.{length-insert, length-remove, length-later, expiry-later, content-later, if-on, if-both, if-same, evicted}
 
 -- up and down
 

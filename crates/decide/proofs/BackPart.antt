@@ -12,16 +12,17 @@ use lib.Seq.{drop-drop, drop-nil}
 use borrow.Author.Tests.{leb-true, leb-false}
 use Rattle.lists.specs.Base.{filter}
 use Rattle.postcard.specs.Message.{Ihave}
 use Rattle.protocol.specs.State.{State, Note, sizeInRange}
 use Rattle.protocol.specs.Run.{Room}
 use Rattle.protocol.specs.Push.{forPeer}
 use Rattle.protocol.specs.Ticks.{perMessage, chunks, queuedFor}
 use Rattle.protocol.specs.Whole.{whole}
-use Rattle.protocol.specs.Growth.{kthTaken, firstRoom, roomFor, numbered, peerPieces, pieceTaken, backIhaves, dispatchBatches, backPart}
+use Rattle.decide.specs.Rooms.{kthTaken, firstRoom, roomFor}
+use Rattle.decide.specs.Pieces.{numbered, peerPieces, pieceTaken, backIhaves, dispatchBatches, backPart}
 use Rattle.lists.proofs.MapLaws.{cases, and-left}
 use Rattle.protocol.proofs.Sane.{whole-ranged}
 use Rattle.lists.proofs.ListLaws.{length-filter, count-length}
-use Rattle.protocol.proofs.Decide.{kth-room}
+use Rattle.decide.proofs.Decide.{kth-room}
 
 unbounded : (p j : ℕ) (rooms : List Room) → firstRoom p rooms ≡ none → kthTaken j p rooms ≡ true
 unfolding roomFor

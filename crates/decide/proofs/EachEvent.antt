@@ -7,25 +7,29 @@ use lib.Dec.{ltb, eqb}
 use lib.ListN.{length}
 use Rattle.lists.specs.Base.{if_then_else_, sum}
 use Rattle.time_cache.specs.TimeCache.{holds}
 use Rattle.protocol.specs.Links.{isNeighbour}
 use Rattle.postcard.specs.Message.{Delivery, Swarm, Neighbors, Scope, Message, Gossip, Prune, Graft, IHave, Timer, SendGraft, DispatchLazyPush, EvictCache, AnnounceDropped, Event, Received, Broadcast, Fired, Up, Down, Action}
 use Rattle.protocol.specs.State.{State, Counts}
 use Rattle.protocol.specs.Run.{Run, Room, begin, withCounts}
 use Rattle.protocol.specs.Gossips.{onLateGraftReply, onGossip, gossipSize, broadcast}
 use Rattle.protocol.specs.Handle.{firstEvent, countMessage, ifNeighbour, onTimer, onMessage, handleMessage, handle}
 use Rattle.protocol.specs.Whole.{whole, fits}
 use Rattle.protocol.specs.Answer.{outputOf}
-use Rattle.protocol.specs.Growth.{sizesOf, fitSizes, actionLength, settled, settledActions, broadcastSizes, broadcastActions, gossipSizes, gossipActions, messageSizes, messageActions, timerSizes, timerActions, sizesAfter, actionsAfter}
+use Rattle.decide.specs.Sizes.{sizesOf, fitSizes}
+use Rattle.decide.specs.Lengths.{actionLength}
+use Rattle.decide.specs.Settled.{settled, settledActions}
+use Rattle.decide.specs.SizesAfter.{broadcastSizes, gossipSizes, messageSizes, timerSizes, sizesAfter}
+use Rattle.decide.specs.ActionsAfter.{broadcastActions, gossipActions, messageActions, timerActions, actionsAfter}
 use Rattle.protocol.proofs.Sane.{Sane, whole-sane}
 use Rattle.protocol.proofs.KeptEvents.{kept-firstEvent, kept-handle}
-use Rattle.protocol.proofs.GrowthBase.{fits-sizes, length-output, if-on, if-same, first-state, first-actions, first-rooms}
-use Rattle.protocol.proofs.GrowthTicks.{up-sizes, up-actions, down-sizes, down-actions, evict-sizes, evict-actions}
-use Rattle.protocol.proofs.GrowthAnnounce.{announce-sizes, announce-actions}
-use Rattle.protocol.proofs.GrowthControl.{prune-sizes, prune-actions, graft-sizes, graft-actions, sendGraft-sizes, sendGraft-actions}
-use Rattle.protocol.proofs.GrowthIHave.{ihave-sizes, ihave-actions}
-use Rattle.protocol.proofs.GrowthTaken.{broadcast-sizes, broadcast-actions}
-use Rattle.protocol.proofs.GrowthGossip.{late-sizes, late-actions, onNew-sizes, onNew-actions, onNear-actions, onNear-state}
-use Rattle.protocol.proofs.GrowthDispatch.{dispatched-sizes, dispatched-actions}
+use Rattle.decide.proofs.Base.{fits-sizes, length-output, if-on, if-same, first-state, first-actions, first-rooms}
+use Rattle.decide.proofs.Evict.{up-sizes, up-actions, down-sizes, down-actions, evict-sizes, evict-actions}
+use Rattle.decide.proofs.AnnounceDropped.{announce-sizes, announce-actions}
+use Rattle.decide.proofs.GraftAndTimer.{prune-sizes, prune-actions, graft-sizes, graft-actions, sendGraft-sizes, sendGraft-actions}
+use Rattle.decide.proofs.IHave.{ihave-sizes, ihave-actions}
+use Rattle.decide.proofs.Broadcast.{broadcast-sizes, broadcast-actions}
+use Rattle.decide.proofs.Gossip.{late-sizes, late-actions, onNew-sizes, onNew-actions, onNear-actions, onNear-state}
+use Rattle.decide.proofs.Dispatch.{dispatched-sizes, dispatched-actions}
 
 -- a branch, with what the test says
 by-if : {A : Type 0} (f : Run → A) (b : Bool) (x y : Run) (u v : A) → (b ≡ true → f x ≡ u) → (b ≡ false → f y ≡ v) → f (if b then x else y) ≡ (if b then u else v)

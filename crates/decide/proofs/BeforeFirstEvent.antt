@@ -6,14 +6,16 @@ use mathlib.Core.List.{List, [], _∷_}
 use Rattle.lists.specs.Base.{if_then_else_, filter}
 use Rattle.time_cache.specs.TimeCache.{Cache, holds}
 use Rattle.postcard.specs.Message.{Ihave}
 use Rattle.protocol.specs.State.{State, Note, Cached}
 use Rattle.protocol.specs.Run.{Room}
 use Rattle.protocol.specs.Push.{eagerTargets}
 use Rattle.protocol.specs.Ticks.{stillCached}
-use Rattle.protocol.specs.Growth.{settled, Batch, eligible, peerGain, gains, Piece, pieceActions, cachedBefore, eligibleIf, peerGainIf, gainsIf, pieceActionsIf, standingBefore}
+use Rattle.decide.specs.Settled.{settled, cachedBefore, standingBefore}
+use Rattle.decide.specs.RecordGrowth.{Batch, eligible, peerGain, gains, eligibleIf, peerGainIf, gainsIf}
+use Rattle.decide.specs.Pieces.{Piece, pieceActions, pieceActionsIf}
 use Rattle.lists.proofs.ListLaws.{filter-same, any-same}
 use Rattle.protocol.proofs.Sane.{CoreOf}
-use Rattle.protocol.proofs.GrowthBase.{if-on, if-same, settled-holds}
+use Rattle.decide.proofs.Base.{if-on, if-same, settled-holds}
 
 module _ (c : Cache Cached) (held : ℕ → Bool) (w : (i : ℕ) → holds i c ≡ held i) where
   eligible-if : (p : ℕ) (ds : List Note) (seen : List ℕ) (hs : List Ihave) → eligible c p ds seen hs ≡ eligibleIf held p ds seen hs

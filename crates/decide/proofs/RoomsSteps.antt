@@ -10,20 +10,20 @@ use borrow.Author.Tests.{eq-eqb, eqb-true}
 use Rattle.lists.specs.Base.{if_then_else_, isEmpty, any, member}
 use Rattle.lists.specs.Map.{keys}
 use Rattle.time_cache.specs.TimeCache.{get, holds}
 use Rattle.protocol.specs.Links.{Links, isNeighbour, eagerIn, addEager, addLazy, linkUp}
 use Rattle.postcard.specs.Message.{Delivery, Swarm, Neighbors, Scope, toSwarm, toNeighbors, Ihave, Message, Gossip, Prune, Graft, IHave, Timer, SendGraft, DispatchLazyPush, EvictCache, AnnounceDropped, Event, Received, Broadcast, Fired, Up, Down, Action, Sent, Scheduled, Emitted}
 use Rattle.protocol.specs.State.{State, Note, Hop, Cached}
 use Rattle.protocol.specs.Run.{Run, Room, withState, withCounts, act, hasRoom, useRoom, takes, send}
 use Rattle.protocol.specs.Push.{notes, scheduleDispatch, scheduleAnnounceDropped, recordFull, recordAlso, noteOne, noteEach, noteDropped, sendEach, handedBack, noteForEach, noteAfter, pushTo, eagerPush, lazyPush, sendIhave, eagerTargets}
 use Rattle.protocol.specs.Gossips.{markReceived, cacheAt, announcers, graftedFor, setFirst, graftOut, forgetMissing, raiseHops, leastFrom, farCloser, updateLinks, graftUnlessEager, pruneBack, optimizeTree, forgetAndOptimise, pushOn, takeIn, Late, duplicate, repeated, faster, lateKind, setKept, onDuplicate, onLateGraftReply, onNew, gossipSize, onGossip, broadcastTo, broadcast}
 use Rattle.protocol.specs.Control.{announce, scheduleGraft, onAnnounced, onIHave, onPrune, replyWith, reply, onGraft, noteGraft, leaveAnnouncers, askFirst, unmark, onSendGraftTimer}
 use Rattle.protocol.specs.Ticks.{perMessage, queuedPeers, chunks, queuedFor, sendChunks, dispatchTo, clearDispatch, onDispatchTimer, moveOldest, stillCached, dispatchIfQueued, onAnnounceDroppedTimer, onEvictCacheTimer}
 use Rattle.protocol.specs.Neighbours.{onNeighborUp, onNeighborDown}
 use Rattle.protocol.specs.Handle.{firstEvent, countMessage, ifNeighbour, onTimer, onMessage, handleMessage, handle}
-use Rattle.protocol.specs.Growth.{kthTaken}
+use Rattle.decide.specs.Rooms.{kthTaken}
 use Rattle.lists.proofs.MapLaws.{cases}
 use Rattle.lists.proofs.Lists.{any-left, any-right}
-use Rattle.protocol.proofs.GrowthBase.{has-first, kth-used-same, kth-used-other}
+use Rattle.decide.proofs.Base.{has-first, kth-used-same, kth-used-other}
 
 -- the same run with other rooms left
 abbrev pub withRooms : List Room → Run → Run

@@ -11,20 +11,24 @@ use borrow.Author.Tests.{ne-eqb, ltb-true}
 use Rattle.lists.specs.Base.{if_then_else_, isSome, all, filter, sum, ascending}
 use Rattle.lists.specs.Map.{Map, keys, lookup, insert}
 use Rattle.time_cache.specs.TimeCache.{Timed, Cache, valueOf, get, holds, put}
 use Rattle.protocol.specs.Links.{lazyPeers}
 use Rattle.postcard.specs.Message.{Swarm, Scope, toSwarm, toNeighbors, Gossip}
 use Rattle.protocol.specs.State.{State, Note, Cached, withQueue, withDispatchScheduled}
 use Rattle.protocol.specs.Run.{Run, withState}
 use Rattle.protocol.specs.Push.{eagerTargets, eagerPush, noteFor, lazyPush}
 use Rattle.protocol.specs.Gossips.{markReceived, cacheAt, broadcastTo}
 use Rattle.protocol.specs.Whole.{contentHeld}
-use Rattle.protocol.specs.Growth.{sizesOf, sizedReceived, sizedReceivedExpiry, sizedCached, sizedCachedExpiry, sizedContent, sizedQueued, grown, dispatchAction, backPeers, pushActions, contentOf, takenSizes, broadcastSizes, broadcastActions}
+use Rattle.decide.specs.Sizes.{sizesOf, sizedReceived, sizedReceivedExpiry, sizedCached, sizedCachedExpiry, sizedContent, sizedQueued, grown}
+use Rattle.decide.specs.Rooms.{backPeers}
+use Rattle.decide.specs.RecordGrowth.{pushActions}
+use Rattle.decide.specs.SizesAfter.{contentOf, takenSizes, broadcastSizes}
+use Rattle.decide.specs.ActionsAfter.{dispatchAction, broadcastActions}
 use Rattle.lists.proofs.MapLaws.{cases, and-left, and-right, all-head, all-tail, lookup-insert-same}
 use Rattle.protocol.proofs.Sane.{CoreOf}
-use Rattle.protocol.proofs.GrowthBase.{if-on, if-same}
-use Rattle.protocol.proofs.GrowthTicks.{dispatch-sizes, dispatch-actions, dispatch-state, dispatch-rooms}
-use Rattle.protocol.proofs.GrowthControl.{push-gains, length-put, expiry-put}
-use Rattle.protocol.proofs.PushLaws.{targets-once, targets-near, swarm-sizes, swarm-actions, near-actions, near-state}
+use Rattle.decide.proofs.Base.{if-on, if-same}
+use Rattle.decide.proofs.Evict.{dispatch-sizes, dispatch-actions, dispatch-state, dispatch-rooms}
+use Rattle.decide.proofs.GraftAndTimer.{push-gains, length-put, expiry-put}
+use Rattle.decide.proofs.PushLaws.{targets-once, targets-near, swarm-sizes, swarm-actions, near-actions, near-state}
 
 -- content bytes
 

@@ -9,22 +9,27 @@ use lib.ListN.{length}
 use borrow.Author.Tests.{eqb-true, eq-eqb, not-true}
 use Rattle.lists.specs.Base.{if_then_else_, isEmpty, all, any, count, member, once, ascending}
 use Rattle.time_cache.specs.TimeCache.{Cache, holds}
 use Rattle.protocol.specs.Links.{Links, isNeighbour}
 use Rattle.postcard.specs.Message.{Ihave, Message, IHave, Action, Sent, Scheduled, AnnounceDropped}
 use Rattle.protocol.specs.State.{Note, Cached, withQueue}
 use Rattle.protocol.specs.Run.{Run, Room, hasRoom, useRoom, send, withState}
 use Rattle.protocol.specs.Push.{notes, recordFull, noteDropped, sendIhave}
 use Rattle.protocol.specs.Ticks.{perMessage, chunks, queuedFor, queuedPeers, sendChunks, dispatchTo, clearDispatch, onDispatchTimer}
 use Rattle.protocol.specs.Whole.{contentHeld}
-use Rattle.protocol.specs.Growth.{sizesOf, sizedQueued, kthTaken, recordAction, addNote, addNotes, Batch, addBatches, gains, Piece, numbered, peerPieces, pieces, pieceTaken, pieceActions, backIhaves, dispatchBatches, dispatchSizes, dispatchActions}
+use Rattle.decide.specs.Sizes.{sizesOf, sizedQueued}
+use Rattle.decide.specs.Rooms.{kthTaken}
+use Rattle.decide.specs.RecordGrowth.{recordAction, addNote, addNotes, Batch, addBatches, gains}
+use Rattle.decide.specs.Pieces.{Piece, numbered, peerPieces, pieces, pieceTaken, pieceActions, backIhaves, dispatchBatches}
+use Rattle.decide.specs.SizesAfter.{dispatchSizes}
+use Rattle.decide.specs.ActionsAfter.{dispatchActions}
 use Rattle.lists.proofs.MapLaws.{cases, true≢, and-left, and-right, all-head, all-tail}
 use Rattle.lists.proofs.ListLaws.{all-append}
 use Rattle.protocol.proofs.RecordOnly.{RecordOnly, only-refl, only-trans, only-send, only-noteDropped}
 use Rattle.protocol.proofs.Sane.{Sane, flagged, byNeighbour}
 use Rattle.protocol.proofs.SaneParts.{all-insertKey, ascending-insertKey}
-use Rattle.protocol.proofs.GrowthBase.{has-first, kth-used-same, kth-used-other}
-use Rattle.protocol.proofs.NoteLaws.{only-sizes, noted-for, nextFlag, gains-now}
-use Rattle.protocol.proofs.PushLaws.{once-ascending, noted-filled}
+use Rattle.decide.proofs.Base.{has-first, kth-used-same, kth-used-other}
+use Rattle.decide.proofs.RecordGrowthLaws.{only-sizes, noted-for, nextFlag, gains-now}
+use Rattle.decide.proofs.PushLaws.{once-ascending, noted-filled}
 
 -- the pieces, one after the other
 

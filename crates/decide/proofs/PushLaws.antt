@@ -10,20 +10,22 @@ use borrow.Author.Tests.{leb-true, ltb-true, ne-eqb, not-true}
 use Rattle.lists.specs.Base.{if_then_else_, isEmpty, all, any, filter, count, member, once, ascending}
 use Rattle.lists.specs.Map.{keys}
 use Rattle.time_cache.specs.TimeCache.{Cache, holds}
 use Rattle.protocol.specs.Links.{Mark, Links, isNeighbour, isEager, peersMarked, eagerPeers}
 use Rattle.postcard.specs.Message.{Swarm, Neighbors, Ihave, Message, Gossip, Action, Sent, Scheduled, AnnounceDropped}
 use Rattle.protocol.specs.State.{State, Note, Cached}
 use Rattle.protocol.specs.Run.{Run, Room, useRoom, send, takes}
 use Rattle.protocol.specs.Push.{forPeer, notes, recordFull, noteDropped, sendEach, handedBack, noteForEach, noteAfter, eagerTargets, pushTo}
-use Rattle.protocol.specs.Growth.{sizesOf, sizedRecorded, kthTaken, firstSend, recordAction, addNote, addNotes, Batch, addBatches, gains, backPeers, batchesFor, noteAction, pushActions}
+use Rattle.decide.specs.Sizes.{sizesOf, sizedRecorded}
+use Rattle.decide.specs.Rooms.{kthTaken, firstSend, backPeers}
+use Rattle.decide.specs.RecordGrowth.{recordAction, addNote, addNotes, Batch, addBatches, gains, batchesFor, noteAction, pushActions}
 use Rattle.lists.proofs.MapLaws.{cases, true≢, and-left, and-right, and-intro, all-head, all-tail, all-cons}
 use Rattle.time_cache.proofs.CacheLaws.{eqb-sym}
 use Rattle.lists.proofs.ListLaws.{all-filter}
 use Rattle.protocol.proofs.Walk.{walk-sendEach, walk-noteForEach}
 use Rattle.protocol.proofs.RecordOnly.{RecordOnly, only-trans, only-noteDropped, only-sending}
 use Rattle.protocol.proofs.SaneParts.{negated, marked-near}
-use Rattle.protocol.proofs.GrowthBase.{has-first, kth-used-other}
-use Rattle.protocol.proofs.NoteLaws.{only-sizes, noted-for, nextFlag, gains-now}
+use Rattle.decide.proofs.Base.{has-first, kth-used-other}
+use Rattle.decide.proofs.RecordGrowthLaws.{only-sizes, noted-for, nextFlag, gains-now}
 
 -- peers that stand once
 

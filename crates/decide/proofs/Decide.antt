@@ -8,21 +8,24 @@ use lib.Dec.{leb, ltb, eqb}
 use lib.ListN.{length}
 use borrow.Author.Tests.{leb-true, le-leb}
 use Rattle.lists.specs.Base.{if_then_else_, sum}
 use Rattle.protocol.specs.Links.{isNeighbour}
 use Rattle.postcard.specs.Message.{Gossip, Prune, Graft, IHave, Event, Received, Broadcast, Fired, Up, Down}
 use Rattle.protocol.specs.State.{State, Counts, Limits}
 use Rattle.protocol.specs.Run.{Room, begin}
 use Rattle.protocol.specs.Handle.{firstEvent, handle}
 use Rattle.protocol.specs.Whole.{whole, fits, contentHeld}
 use Rattle.protocol.specs.Answer.{tooFarMessage, tooFar}
-use Rattle.protocol.specs.Growth.{Sizes, sizesOf, fitSizes, kthTaken, settled, evictSizes, downSizes, shrunk, receivedBefore, tooFarBefore, firstRoom, roomFor, sizesAfter}
+use Rattle.decide.specs.Sizes.{Sizes, sizesOf, fitSizes, shrunk}
+use Rattle.decide.specs.Rooms.{kthTaken, firstRoom, roomFor}
+use Rattle.decide.specs.Settled.{settled, receivedBefore, tooFarBefore}
+use Rattle.decide.specs.SizesAfter.{evictSizes, downSizes, sizesAfter}
 use Rattle.lists.proofs.MapLaws.{cases, and-left, and-right, and-intro}
 use Rattle.lists.proofs.ListLaws.{count-length}
 use Rattle.protocol.proofs.Sane.{CoreOf, whole-sane, whole-fits}
-use Rattle.protocol.proofs.GrowthBase.{fits-sizes, first-state, settled-received}
-use Rattle.protocol.proofs.GrowthCall.{decide-13}
-use Rattle.protocol.proofs.RoomsFair.{withRooms}
-use Rattle.protocol.proofs.RoomsCall.{reached, same-run}
+use Rattle.decide.proofs.Base.{fits-sizes, first-state, settled-received}
+use Rattle.decide.proofs.EachEvent.{decide-13}
+use Rattle.decide.proofs.RoomsSteps.{withRooms}
+use Rattle.decide.proofs.RoomsCall.{reached, same-run}
 
 -- rooms
 

@@ -11,21 +11,25 @@ use borrow.Author.Tests.{leb-true, leb-false}
 use Rattle.lists.specs.Base.{if_then_else_, isEmpty, isSome, all, any, count, member, once, ascending}
 use Rattle.lists.specs.Map.{Map, keys, lookup, insert, remove, has}
 use Rattle.time_cache.specs.TimeCache.{Timed, Expiry, Cache, valueOf, get, holds, addExpiry, put, withValue, replace}
 use Rattle.protocol.specs.Links.{Mark, Links, isNeighbour, markIfThere, addEager, addLazy, eager, lazy}
 use Rattle.postcard.specs.Message.{Swarm, Action}
 use Rattle.protocol.specs.State.{State, Note, Hop, Grafts, Cached}
 use Rattle.protocol.specs.Run.{Run, Room, hasRoom, act, send}
 use Rattle.protocol.specs.Push.{forPeer, notes, sendEach, handedBack, noteForEach, noteAfter, pushTo}
 use Rattle.protocol.specs.Gossips.{hopsOf, announcers, updateLinks}
 use Rattle.protocol.specs.Control.{onPrune, replyWith, reply, onGraft, withGraft, noteGraft, leaveAnnouncers, askFirst, unmark, onSendGraftTimer}
 use Rattle.protocol.specs.Whole.{contentHeld}
-use Rattle.protocol.specs.Growth.{Sizes, sizesOf, sizedMissing, sizedRecorded, sizedGrafted, sizedGraftedExpiry, firstSend, grown, shrunk, eligible, peerGain, gains, backPeers, batchesFor, pushGain, pushGains, replySizes, replyActions, graftSizes, graftActions, unmarkedSizes, askSizes, askActions, sendGraftSizes, sendGraftActions}
+use Rattle.decide.specs.Sizes.{Sizes, sizesOf, sizedMissing, sizedRecorded, sizedGrafted, sizedGraftedExpiry, grown, shrunk}
+use Rattle.decide.specs.Rooms.{firstSend, backPeers}
+use Rattle.decide.specs.RecordGrowth.{eligible, peerGain, gains, batchesFor, pushGain, pushGains}
+use Rattle.decide.specs.SizesAfter.{replySizes, graftSizes, unmarkedSizes, askSizes, sendGraftSizes}
+use Rattle.decide.specs.ActionsAfter.{replyActions, graftActions, askActions, sendGraftActions}
 use Rattle.lists.proofs.MapLaws.{cases, true≢}
 use Rattle.protocol.proofs.Sane.{CoreOf, Sane}
 use Rattle.protocol.proofs.SaneParts.{wider-mark}
 use Rattle.protocol.proofs.SaneSteps.{kept-unmark}
-use Rattle.protocol.proofs.GrowthBase.{length-insert, length-remove, length-removeKey, has-first, if-on, if-both}
-use Rattle.protocol.proofs.PushLaws.{swarm-sizes, swarm-actions}
+use Rattle.decide.proofs.Base.{length-insert, length-remove, length-removeKey, has-first, if-on, if-both}
+use Rattle.decide.proofs.PushLaws.{swarm-sizes, swarm-actions}
 
 -- marks change no size
 

@@ -9,19 +9,20 @@ use lib.ListN.{length, length-append}
 use borrow.Author.Tests.{leb-true, leb-false, eqb-true, eq-eqb, not-true}
 use Rattle.lists.specs.Base.{if_then_else_, isEmpty, any, count, member, once}
 use Rattle.time_cache.specs.TimeCache.{Cache, holds}
 use Rattle.protocol.specs.Links.{isNeighbour}
 use Rattle.postcard.specs.Message.{Ihave, Action, Scheduled, AnnounceDropped}
 use Rattle.protocol.specs.State.{Note, Cached}
 use Rattle.protocol.specs.Run.{Run, act}
 use Rattle.protocol.specs.Push.{forPeer, notes, recordFull, recordAlso, noteOne, noteEach, noteDropped, scheduleAnnounceDropped}
 use Rattle.protocol.specs.Whole.{contentHeld}
-use Rattle.protocol.specs.Growth.{sizesOf, sizedRecorded, recordAction, addNote, addNotes, Batch, addBatches, eligible, peerGain, gains}
+use Rattle.decide.specs.Sizes.{sizesOf, sizedRecorded}
+use Rattle.decide.specs.RecordGrowth.{recordAction, addNote, addNotes, Batch, addBatches, eligible, peerGain, gains}
 use Rattle.lists.proofs.MapLaws.{cases, true≢, and-left, and-right}
 use Rattle.time_cache.proofs.CacheLaws.{eqb-sym}
 use Rattle.lists.proofs.Lists.{or-false-left, or-false-right, any-append}
 use Rattle.lists.proofs.ListLaws.{count-append}
 use Rattle.protocol.proofs.RecordOnly.{RecordOnly}
-use Rattle.protocol.proofs.GrowthBase.{if-on, if-both, if-same}
+use Rattle.decide.proofs.Base.{if-on, if-both, if-same}
 
 -- the sizes after a push differ in the record only
 pub only-sizes : (r r′ : Run) → RecordOnly r r′ → sizesOf (r′ .state) ≡ sizedRecorded (length (r′ .state .dropped)) (sizesOf (r .state))

@@ -11,17 +11,19 @@ use Rattle.lists.specs.Base.{if_then_else_, member, ascending}
 use Rattle.lists.specs.Map.{keys, insert, has, insertKey}
 use Rattle.time_cache.specs.TimeCache.{holds}
 use Rattle.postcard.specs.Message.{Ihave, SendGraft, Action, Scheduled}
 use Rattle.protocol.specs.State.{State, Hop}
 use Rattle.protocol.specs.Run.{Run, act}
 use Rattle.protocol.specs.Gossips.{announcers}
 use Rattle.protocol.specs.Control.{addAnnouncer, announce, scheduleGraft, onAnnounced, onIHave}
 use Rattle.protocol.specs.Whole.{contentHeld}
-use Rattle.protocol.specs.Growth.{sizesOf, grown, newIds, knownMissing, knownTimer, ihaveSizes, ihaveActions}
+use Rattle.decide.specs.Sizes.{sizesOf, grown}
+use Rattle.decide.specs.SizesAfter.{newIds, knownMissing, knownTimer, ihaveSizes}
+use Rattle.decide.specs.ActionsAfter.{ihaveActions}
 use Rattle.lists.proofs.MapLaws.{cases, ascending-insert}
 use Rattle.lists.proofs.ListLaws.{has-insert}
 use Rattle.protocol.proofs.SaneParts.{ascending-insertKey}
 use Rattle.protocol.proofs.Walk.{walk-if}
-use Rattle.protocol.proofs.GrowthBase.{length-insert, length-insertKey, if-on, if-both, if-same}
+use Rattle.decide.proofs.Base.{length-insert, length-insertKey, if-on, if-both, if-same}
 
 -- new identifiers
 

@@ -8,17 +8,20 @@ use lib.Dec.{ltb}
 use lib.ListN.{length, length-append}
 use Rattle.lists.specs.Base.{if_then_else_, isEmpty, count}
 use Rattle.postcard.specs.Message.{DispatchLazyPush, AnnounceDropped, Action, Scheduled}
 use Rattle.protocol.specs.State.{State, Note}
 use Rattle.protocol.specs.Run.{Run, withState}
 use Rattle.protocol.specs.Push.{forPeer, scheduleDispatch, scheduleAnnounceDropped}
 use Rattle.protocol.specs.Ticks.{oldest, younger, moveOldest, stillCached, dispatchIfQueued, onAnnounceDroppedTimer}
 use Rattle.protocol.specs.Whole.{contentHeld}
-use Rattle.protocol.specs.Growth.{sizesOf, recordAction, dispatchAction, announceSizes, announceActions}
+use Rattle.decide.specs.Sizes.{sizesOf}
+use Rattle.decide.specs.RecordGrowth.{recordAction}
+use Rattle.decide.specs.SizesAfter.{announceSizes}
+use Rattle.decide.specs.ActionsAfter.{dispatchAction, announceActions}
 use Rattle.lists.proofs.MapLaws.{cases}
 use Rattle.protocol.proofs.RecordOnly.{only-schedule}
-use Rattle.protocol.proofs.NoteLaws.{only-sizes, schedule-dropped, schedule-actions}
-use Rattle.protocol.proofs.GrowthBase.{if-on, if-both, if-same}
-use Rattle.protocol.proofs.GrowthTicks.{dispatch-sizes, dispatch-actions, dispatch-state}
+use Rattle.decide.proofs.RecordGrowthLaws.{only-sizes, schedule-dropped, schedule-actions}
+use Rattle.decide.proofs.Base.{if-on, if-both, if-same}
+use Rattle.decide.proofs.Evict.{dispatch-sizes, dispatch-actions, dispatch-state}
 
 pub schedule-sizes : (r : Run) → sizesOf (scheduleAnnounceDropped r .state) ≡ sizesOf (r .state)
 schedule-sizes r = only-sizes r (scheduleAnnounceDropped r) (only-schedule r) ∙ rw (schedule-dropped r) (unfold sizesOf in refl)

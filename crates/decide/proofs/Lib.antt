@@ -1,0 +1,16 @@
+pub mod Base
+pub mod RecordGrowthLaws
+pub mod PushLaws
+pub mod Evict
+pub mod AnnounceDropped
+pub mod Dispatch
+pub mod GraftAndTimer
+pub mod IHave
+pub mod Broadcast
+pub mod Gossip
+pub mod EachEvent
+pub mod RoomsSteps
+pub mod RoomsCall
+pub mod Decide
+pub mod BeforeFirstEvent
+pub mod BackPart

@@ -23,7 +23,7 @@ use Rattle.decide.specs.Sizes.{sizesOf, fitSizes, grown, shrunk}
 use Rattle.decide.specs.Lengths.{deliveryLength, wantedLength, messageLength, timerLength, actionLength}
 use Rattle.decide.specs.Rooms.{kthTaken}
 use Rattle.decide.specs.Settled.{aliveAt, aliveValue, settled, settledActions}
-use Rattle.decide.specs.SizesAfter.{settledSizes}
+use Rattle.decide.specs.SizesAfter.{evictSizes, settledSizes}
 use Rattle.lists.proofs.MapLaws.{cases, true≢, and-left, and-right, all-head, all-tail}
 use Rattle.lists.proofs.ListLaws.{length-filter, keys-filter-all}
 use Rattle.time_cache.proofs.Timely.{Timely, expire-is-filter}
@@ -338,7 +338,7 @@ first-rooms now r = if-on (λ (x : Run). x .rooms) (r .state .init) _ _ ∙ if-s
 
 -- the sizes of the settled state, of the state before
 pub settled-sizes : (now : ℕ) (s : State) → sizesOf (settled now s) ≡ settledSizes now s
-unfolding settled settledSizes sizesOf contentHeld
+unfolding settled settledSizes evictSizes sizesOf contentHeld
 settled-sizes now s =
     if-on sizesOf (s .init) _ _
     ∙ if-both (s .init) refl

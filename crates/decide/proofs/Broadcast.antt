@@ -20,7 +20,7 @@ use Rattle.protocol.specs.Gossips.{markReceived, cacheAt, broadcastTo}
 use Rattle.protocol.specs.Whole.{contentHeld}
 use Rattle.decide.specs.Sizes.{sizesOf, sizedReceived, sizedReceivedExpiry, sizedCached, sizedCachedExpiry, sizedContent, sizedQueued, grown}
 use Rattle.decide.specs.Rooms.{backPeers}
-use Rattle.decide.specs.RecordGrowth.{pushActions}
+use Rattle.decide.specs.RecordGrowth.{cachedIn, pushActions}
 use Rattle.decide.specs.SizesAfter.{contentOf, takenSizes, broadcastSizes}
 use Rattle.decide.specs.ActionsAfter.{dispatchAction, broadcastActions}
 use Rattle.lists.proofs.MapLaws.{cases, and-left, and-right, all-head, all-tail, lookup-insert-same}
@@ -180,7 +180,7 @@ module _ (hash : List ℕ → ℕ) where
       let y = ready now id content 0 me r in
       let up : ascending (keys (r₃ .state .links)) ≡ true = rw (y .links) (c .linksUp) in
       swarm-sizes (eagerTargets me [] (r₃ .state)) id content r₃ (targets-near me [] (r₃ .state)) (targets-once me [] (r₃ .state) up) 0
-      ∙ rw (push-gains (r₃ .state .cache) id 0 (r₃ .state .dropped) 0 (backPeers (r₃ .rooms) (eagerTargets me [] (r₃ .state))) (y .cached))
+      ∙ rw (push-gains (cachedIn (r₃ .state .cache)) id 0 (r₃ .state .dropped) 0 (backPeers (r₃ .rooms) (eagerTargets me [] (r₃ .state))) (y .cached))
       (rw (y .dropped, y .rooms, y .targets, lazy-sizes id 0 me r₂, cached-sizes now id content 0 r c) (unfold cacheAt in (unfold markReceived in refl)))
   broadcast-sizes now content toNeighbors r c = ap sizesOf (near-state (eagerTargets (r .state .settings .me) [] (r .state)) (hash content) content r (targets-near (r .state .settings .me) [] (r .state)) (targets-once (r .state .settings .me) [] (r .state) (c .linksUp)))
 

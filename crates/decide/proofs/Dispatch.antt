@@ -8,17 +8,17 @@ use lib.Dec.{eqb}
 use lib.ListN.{length}
 use borrow.Author.Tests.{eqb-true, eq-eqb, not-true}
 use Rattle.lists.specs.Base.{if_then_else_, isEmpty, all, any, count, member, once, ascending}
-use Rattle.time_cache.specs.TimeCache.{Cache, holds}
+use Rattle.time_cache.specs.TimeCache.{holds}
 use Rattle.protocol.specs.Links.{Links, isNeighbour}
 use Rattle.postcard.specs.Message.{Ihave, Message, IHave, Action, Sent, Scheduled, AnnounceDropped}
-use Rattle.protocol.specs.State.{Note, Cached, withQueue}
+use Rattle.protocol.specs.State.{Note, withQueue}
 use Rattle.protocol.specs.Run.{Run, Room, hasRoom, useRoom, send, withState}
 use Rattle.protocol.specs.Push.{notes, recordFull, noteDropped, sendIhave}
 use Rattle.protocol.specs.Ticks.{perMessage, chunks, queuedFor, queuedPeers, sendChunks, dispatchTo, clearDispatch, onDispatchTimer}
 use Rattle.protocol.specs.Whole.{contentHeld}
 use Rattle.decide.specs.Sizes.{sizesOf, sizedQueued}
 use Rattle.decide.specs.Rooms.{kthTaken}
-use Rattle.decide.specs.RecordGrowth.{recordAction, addNote, addNotes, Batch, addBatches, gains}
+use Rattle.decide.specs.RecordGrowth.{cachedIn, recordAction, addNote, addNotes, Batch, addBatches, gains}
 use Rattle.decide.specs.Pieces.{Piece, numbered, peerPieces, pieces, pieceTaken, pieceActions, backIhaves, dispatchBatches}
 use Rattle.decide.specs.SizesAfter.{dispatchSizes}
 use Rattle.decide.specs.ActionsAfter.{dispatchActions}
@@ -61,7 +61,7 @@ Rightly brought rooms [] = Unit {0}
 Rightly brought rooms (x ∷ xs) = (hasRoom (x .peer) rooms ≡ kthTaken (x .nth) (x .peer) brought) × Rightly brought (useRoom (x .peer) rooms) xs
 
 -- the record after the pieces
-addPieces : Cache Cached → List Room → List Piece → List Note → List Note
+addPieces : (ℕ → Bool) → List Room → List Piece → List Note → List Note
 addPieces c rooms [] ds = ds
 addPieces c rooms (x ∷ xs) ds = addPieces c rooms xs (if pieceTaken rooms x then ds else addNotes c (x .peer) (x .ihaves) ds)
 
@@ -69,10 +69,10 @@ addPieces c rooms (x ∷ xs) ds = addPieces c rooms xs (if pieceTaken rooms x th
 record One (brought : List Room) (x : Piece) (r r′ : Run) : Type 0 where
   aside : RecordOnly r r′
   rooms : r′ .rooms ≡ useRoom (x .peer) (r .rooms)
-  dropped : r′ .state .dropped ≡ (if pieceTaken brought x then r .state .dropped else addNotes (r .state .cache) (x .peer) (x .ihaves) (r .state .dropped))
+  dropped : r′ .state .dropped ≡ (if pieceTaken brought x then r .state .dropped else addNotes (cachedIn (r .state .cache)) (x .peer) (x .ihaves) (r .state .dropped))
   actions : r′ .actions ≡ (r .actions ++ (Sent (x .peer) (pieceTaken brought x) (IHave (x .ihaves)) ∷ []))
-      ++ (if pieceTaken brought x then [] else recordAction (addNotes (r .state .cache) (x .peer) (x .ihaves) (r .state .dropped)) (r .state .announceScheduled))
-  flag : r′ .state .announceScheduled ≡ (if pieceTaken brought x then r .state .announceScheduled else nextFlag (addNotes (r .state .cache) (x .peer) (x .ihaves) (r .state .dropped)) (r .state .announceScheduled))
+      ++ (if pieceTaken brought x then [] else recordAction (addNotes (cachedIn (r .state .cache)) (x .peer) (x .ihaves) (r .state .dropped)) (r .state .announceScheduled))
+  flag : r′ .state .announceScheduled ≡ (if pieceTaken brought x then r .state .announceScheduled else nextFlag (addNotes (cachedIn (r .state .cache)) (x .peer) (x .ihaves) (r .state .dropped)) (r .state .announceScheduled))
 
 one-piece : (brought : List Room) (x : Piece) (r : Run) → isNeighbour (x .peer) (r .state .links) ≡ true → hasRoom (x .peer) (r .rooms) ≡ pieceTaken brought x → One brought x r (sendIhave (x .peer) (x .ihaves) r)
 unfolding sendIhave
@@ -107,27 +107,27 @@ append-filled : (ds : List Note) (d : Note) → isEmpty (ds ++ (d ∷ [])) ≡ f
 append-filled [] d = refl
 append-filled (x ∷ ds) d = refl
 
-stays-one : (c : Cache Cached) (p : ℕ) (h : Ihave) (ds : List Note) → isEmpty ds ≡ false → isEmpty (addNote c p h ds) ≡ false
+stays-one : (c : ℕ → Bool) (p : ℕ) (h : Ihave) (ds : List Note) → isEmpty ds ≡ false → isEmpty (addNote c p h ds) ≡ false
 unfolding addNote
 stays-one c p h ds e =
     cases (recordFull p ds) (λ f. rw f e)
-    (λ f. cases (holds (h .id) c && not (any (notes p (h .id)) ds)) (λ t. rw (f, t) (append-filled ds _)) (λ t. rw (f, t) e))
+    (λ f. cases (c (h .id) && not (any (notes p (h .id)) ds)) (λ t. rw (f, t) (append-filled ds _)) (λ t. rw (f, t) e))
 
-stays-each : (c : Cache Cached) (p : ℕ) (hs : List Ihave) (ds : List Note) → isEmpty ds ≡ false → isEmpty (addNotes c p hs ds) ≡ false
+stays-each : (c : ℕ → Bool) (p : ℕ) (hs : List Ihave) (ds : List Note) → isEmpty ds ≡ false → isEmpty (addNotes c p hs ds) ≡ false
 unfolding addNotes
 stays-each c p [] ds e = e
 stays-each c p (h ∷ hs) ds e = stays-each c p hs (addNote c p h ds) (stays-one c p h ds e)
 
-first-note : (c : Cache Cached) (p : ℕ) (h : Ihave) → holds (h .id) c ≡ false → addNote c p h [] ≡ []
+first-note : (c : ℕ → Bool) (p : ℕ) (h : Ihave) → c (h .id) ≡ false → addNote c p h [] ≡ []
 unfolding addNote recordFull count any
 first-note c p h k = rw k refl
 
 -- an empty record stands after the notes if one identifier is cached
-empty-notes : (c : Cache Cached) (p : ℕ) (hs : List Ihave) → isEmpty (addNotes c p hs []) ≡ not (any (λ h. holds (h .id) c) hs)
+empty-notes : (c : ℕ → Bool) (p : ℕ) (hs : List Ihave) → isEmpty (addNotes c p hs []) ≡ not (any (λ h. c (h .id)) hs)
 unfolding addNotes any
 empty-notes c p [] = refl
 empty-notes c p (h ∷ hs) =
-    cases (holds (h .id) c)
+    cases (c (h .id))
     (λ k. rw k (stays-each c p hs (addNote c p h []) (noted-filled c p h [] k)))
     (λ k. rw k (rw (first-note c p h k) (empty-notes c p hs)))
 
@@ -163,7 +163,7 @@ module _ (brought : List Room) where
       only-trans r _ _ (o .aside) (pieces-aside xs (sendIhave (x .peer) (x .ihaves) r) (rw (o .aside .links) (all-tail (λ x. isNeighbour (x .peer) (r .state .links)) x xs n)) (rw (o .rooms) (w .1)))
 
   pieces-dropped : (xs : List Piece) (r : Run) → all (λ x. isNeighbour (x .peer) (r .state .links)) xs ≡ true → Rightly brought (r .rooms) xs →
-      sendPieces xs r .state .dropped ≡ addPieces (r .state .cache) brought xs (r .state .dropped)
+      sendPieces xs r .state .dropped ≡ addPieces (cachedIn (r .state .cache)) brought xs (r .state .dropped)
   unfolding sendPieces Rightly addPieces
   pieces-dropped [] r n w = refl
   pieces-dropped (x ∷ xs) r n w =
@@ -172,37 +172,37 @@ module _ (brought : List Room) where
       ∙ rw (o .aside .cache, o .dropped) refl
 
   pieces-actions : (xs : List Piece) (r : Run) → all (λ x. isNeighbour (x .peer) (r .state .links)) xs ≡ true → Rightly brought (r .rooms) xs → flagged (r .state .dropped) (r .state .announceScheduled) →
-      sendPieces xs r .actions ≡ r .actions ++ pieceActions (r .state .cache) brought (r .state .announceScheduled) xs
+      sendPieces xs r .actions ≡ r .actions ++ pieceActions (cachedIn (r .state .cache)) brought (r .state .announceScheduled) xs
   unfolding sendPieces Rightly pieceActions
   pieces-actions [] r n w g = sym (append-nil (r .actions))
   pieces-actions (x ∷ xs) r n w g =
       let o = one-piece brought x r (all-head (λ x. isNeighbour (x .peer) (r .state .links)) x xs n) (unfold pieceTaken in (w .0)) in
       pieces-actions xs (sendIhave (x .peer) (x .ihaves) r) (rw (o .aside .links) (all-tail (λ x. isNeighbour (x .peer) (r .state .links)) x xs n)) (rw (o .rooms) (w .1))
-      (rw (o .dropped, o .flag) (next-flagged (pieceTaken brought x) (r .state .announceScheduled) (r .state .dropped) (addNotes (r .state .cache) (x .peer) (x .ihaves) (r .state .dropped)) g))
+      (rw (o .dropped, o .flag) (next-flagged (pieceTaken brought x) (r .state .announceScheduled) (r .state .dropped) (addNotes (cachedIn (r .state .cache)) (x .peer) (x .ihaves) (r .state .dropped)) g))
       ∙ rw (o .actions, o .flag, o .aside .cache) (unfold recordAction in
-      (step-actions (pieceTaken brought x) (r .state .announceScheduled) (any (λ h. holds (h .id) (r .state .cache)) (x .ihaves)) (isEmpty (addNotes (r .state .cache) (x .peer) (x .ihaves) (r .state .dropped)))
-      (r .actions) (Sent (x .peer) (pieceTaken brought x) (IHave (x .ihaves))) (λ f. pieceActions (r .state .cache) brought f xs) stands))
+      (step-actions (pieceTaken brought x) (r .state .announceScheduled) (any (λ h. holds (h .id) (r .state .cache)) (x .ihaves)) (isEmpty (addNotes (cachedIn (r .state .cache)) (x .peer) (x .ihaves) (r .state .dropped)))
+      (r .actions) (Sent (x .peer) (pieceTaken brought x) (IHave (x .ihaves))) (λ f. pieceActions (cachedIn (r .state .cache)) brought f xs) stands))
     where
-      stands : pieceTaken brought x ≡ false → r .state .announceScheduled ≡ false → isEmpty (addNotes (r .state .cache) (x .peer) (x .ihaves) (r .state .dropped)) ≡ not (any (λ h. holds (h .id) (r .state .cache)) (x .ihaves))
+      stands : pieceTaken brought x ≡ false → r .state .announceScheduled ≡ false → isEmpty (addNotes (cachedIn (r .state .cache)) (x .peer) (x .ihaves) (r .state .dropped)) ≡ not (any (λ h. holds (h .id) (r .state .cache)) (x .ihaves))
       stands t f = on (r .state .announceScheduled) f g
         where
-          on : (b : Bool) → b ≡ false → flagged (r .state .dropped) b → isEmpty (addNotes (r .state .cache) (x .peer) (x .ihaves) (r .state .dropped)) ≡ not (any (λ h. holds (h .id) (r .state .cache)) (x .ihaves))
+          on : (b : Bool) → b ≡ false → flagged (r .state .dropped) b → isEmpty (addNotes (cachedIn (r .state .cache)) (x .peer) (x .ihaves) (r .state .dropped)) ≡ not (any (λ h. holds (h .id) (r .state .cache)) (x .ihaves))
           on true z h = true≢ (sym z)
-          on false z h = rw (is-empty (r .state .dropped) h) (empty-notes (r .state .cache) (x .peer) (x .ihaves))
+          on false z h = rw (is-empty (r .state .dropped) h) (empty-notes (cachedIn (r .state .cache)) (x .peer) (x .ihaves))
 
 -- the pieces of each peer as one batch
 
-notes-append : (c : Cache Cached) (p : ℕ) (xs ys : List Ihave) (ds : List Note) → addNotes c p (xs ++ ys) ds ≡ addNotes c p ys (addNotes c p xs ds)
+notes-append : (c : ℕ → Bool) (p : ℕ) (xs ys : List Ihave) (ds : List Note) → addNotes c p (xs ++ ys) ds ≡ addNotes c p ys (addNotes c p xs ds)
 unfolding addNotes
 notes-append c p [] ys ds = refl
 notes-append c p (x ∷ xs) ys ds = notes-append c p xs ys (addNote c p x ds)
 
-pieces-append : (c : Cache Cached) (rooms : List Room) (xs ys : List Piece) (ds : List Note) → addPieces c rooms (xs ++ ys) ds ≡ addPieces c rooms ys (addPieces c rooms xs ds)
+pieces-append : (c : ℕ → Bool) (rooms : List Room) (xs ys : List Piece) (ds : List Note) → addPieces c rooms (xs ++ ys) ds ≡ addPieces c rooms ys (addPieces c rooms xs ds)
 unfolding addPieces
 pieces-append c rooms [] ys ds = refl
 pieces-append c rooms (x ∷ xs) ys ds = pieces-append c rooms xs ys _
 
-numbered-notes : (c : Cache Cached) (rooms : List Room) (p k : ℕ) (cs : List (List Ihave)) (ds : List Note) → addPieces c rooms (numbered p k cs) ds ≡ addNotes c p (backIhaves rooms (numbered p k cs)) ds
+numbered-notes : (c : ℕ → Bool) (rooms : List Room) (p k : ℕ) (cs : List (List Ihave)) (ds : List Note) → addPieces c rooms (numbered p k cs) ds ≡ addNotes c p (backIhaves rooms (numbered p k cs)) ds
 unfolding addPieces numbered backIhaves pieceTaken
 numbered-notes c rooms p k [] ds = unfold addNotes in refl
 numbered-notes c rooms p k (x ∷ cs) ds =
@@ -212,7 +212,7 @@ numbered-notes c rooms p k (x ∷ cs) ds =
     by true rest = refl
     by false rest = sym (notes-append c p x rest ds)
 
-pieces-batches : (c : Cache Cached) (rooms : List Room) (ps : List ℕ) (k : ℕ) (ns ds : List Note) → addPieces c rooms (pieces ps k ns) ds ≡ addBatches c (dispatchBatches rooms ps k ns) ds
+pieces-batches : (c : ℕ → Bool) (rooms : List Room) (ps : List ℕ) (k : ℕ) (ns ds : List Note) → addPieces c rooms (pieces ps k ns) ds ≡ addBatches c (dispatchBatches rooms ps k ns) ds
 unfolding pieces dispatchBatches addBatches peerPieces
 pieces-batches c rooms [] k ns ds = unfold addPieces in refl
 pieces-batches c rooms (p ∷ ps) k ns ds =
@@ -338,13 +338,13 @@ module _ (r : Run) (x : Sane (r .state)) where
   unfolding r₁ sizesOf contentHeld
   empty-sizes = refl
 
-  recorded₁ : length (sendPieces (pieces qs k (r .state .queue)) r₁ .state .dropped) ≡ length (r .state .dropped) + gains (r .state .cache) (r .state .dropped) 0 (dispatchBatches (r .rooms) qs k (r .state .queue))
+  recorded₁ : length (sendPieces (pieces qs k (r .state .queue)) r₁ .state .dropped) ≡ length (r .state .dropped) + gains (cachedIn (r .state .cache)) (r .state .dropped) 0 (dispatchBatches (r .rooms) qs k (r .state .queue))
   recorded₁ =
       ap length (pieces-dropped (r .rooms) (pieces qs k (r .state .queue)) r₁ near₁ right₁ ∙ start)
-      ∙ gains-now (r .state .cache) (dispatchBatches (r .rooms) qs k (r .state .queue)) (r .state .dropped) (rw (batch-peers (r .rooms) qs k (r .state .queue)) once₁)
+      ∙ gains-now (cachedIn (r .state .cache)) (dispatchBatches (r .rooms) qs k (r .state .queue)) (r .state .dropped) (rw (batch-peers (r .rooms) qs k (r .state .queue)) once₁)
     where
-      start : addPieces (r₁ .state .cache) (r .rooms) (pieces qs k (r .state .queue)) (r₁ .state .dropped) ≡ addBatches (r .state .cache) (dispatchBatches (r .rooms) qs k (r .state .queue)) (r .state .dropped)
-      start = unfold r₁ in (pieces-batches (r .state .cache) (r .rooms) qs k (r .state .queue) (r .state .dropped))
+      start : addPieces (cachedIn (r₁ .state .cache)) (r .rooms) (pieces qs k (r .state .queue)) (r₁ .state .dropped) ≡ addBatches (cachedIn (r .state .cache)) (dispatchBatches (r .rooms) qs k (r .state .queue)) (r .state .dropped)
+      start = unfold r₁ in (pieces-batches (cachedIn (r .state .cache)) (r .rooms) qs k (r .state .queue) (r .state .dropped))
 
   pub dispatched-sizes : sizesOf (onDispatchTimer r .state) ≡ dispatchSizes (r .rooms) (r .state)
   unfolding dispatchSizes qs k
@@ -365,10 +365,10 @@ module _ (r : Run) (x : Sane (r .state)) where
 
   -- the record itself after a dispatch
   pub dispatched-dropped : onDispatchTimer r .state .dropped ≡
-      addBatches (r .state .cache) (dispatchBatches (r .rooms) (queuedPeers (r .state .queue)) (perMessage (r .state .settings .maxMessageSize)) (r .state .queue)) (r .state .dropped)
+      addBatches (cachedIn (r .state .cache)) (dispatchBatches (r .rooms) (queuedPeers (r .state .queue)) (perMessage (r .state .settings .maxMessageSize)) (r .state .queue)) (r .state .dropped)
   unfolding qs k r₁
   dispatched-dropped =
       ap (λ (y : Run). y .state .dropped) dispatch-is
       ∙ clear-dropped (sendPieces (pieces qs k (r .state .queue)) r₁)
       ∙ pieces-dropped (r .rooms) (pieces qs k (r .state .queue)) r₁ near₁ right₁
-      ∙ pieces-batches (r .state .cache) (r .rooms) qs k (r .state .queue) (r .state .dropped)
+      ∙ pieces-batches (cachedIn (r .state .cache)) (r .rooms) qs k (r .state .queue) (r .state .dropped)

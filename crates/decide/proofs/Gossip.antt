@@ -19,7 +19,7 @@ use Rattle.protocol.specs.Gossips.{markReceived, cacheAt, announcers, peersOf, 
 use Rattle.protocol.specs.Whole.{contentHeld}
 use Rattle.decide.specs.Sizes.{sizesOf, sizedMissing, sizedTimers, sizedRecorded, sizedQueued, sizedReceived, sizedReceivedExpiry, sizedCached, sizedCachedExpiry, sizedContent, grown, shrunk}
 use Rattle.decide.specs.Rooms.{kthTaken, firstSend, backPeers}
-use Rattle.decide.specs.RecordGrowth.{pushActions, pushGains}
+use Rattle.decide.specs.RecordGrowth.{cachedIn, pushActions, pushGains}
 use Rattle.decide.specs.SizesAfter.{contentOf, takenSizes, newSizes}
 use Rattle.decide.specs.ActionsAfter.{dispatchAction, lateActions, optimiseActions, newActions}
 use Rattle.lists.proofs.MapLaws.{cases, true≢, and-left, and-right, lookup-insert-same}
@@ -406,7 +406,7 @@ module _ (now sender id : ℕ) (content : List ℕ) (round : ℕ) (r : Run) (c :
     where
       recorded : sizesOf (r₄ .state) ≡ sizedRecorded (length (r .state .dropped) + pushGains id (r .state .dropped) 0 (backPeers (r .rooms) (eagerTargets sender (keys (graftedFor id (r .state))) (r .state)))) (sizesOf (r₃ .state))
       recorded = unfold r₄ in (swarm-sizes ps id content r₃ near₃ once₃ (suc round)
-          ∙ rw (push-gains (r₃ .state .cache) id (suc round) (r₃ .state .dropped) 0 (backPeers (r₃ .rooms) ps) (ready₃ .cached)) (rw (ready₃ .dropped, ready₃ .rooms, ps-is) refl))
+          ∙ rw (push-gains (cachedIn (r₃ .state .cache)) id (suc round) (r₃ .state .dropped) 0 (backPeers (r₃ .rooms) ps) (ready₃ .cached)) (rw (ready₃ .dropped, ready₃ .rooms, ps-is) refl))
 
   dispatch₃ : dispatchAction (r₃ .state) ≡ dispatchAction (r .state)
   unfolding dispatchAction

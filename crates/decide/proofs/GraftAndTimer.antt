@@ -21,7 +21,7 @@ use Rattle.protocol.specs.Control.{onPrune, replyWith, reply, onGraft, withGraf
 use Rattle.protocol.specs.Whole.{contentHeld}
 use Rattle.decide.specs.Sizes.{Sizes, sizesOf, sizedMissing, sizedRecorded, sizedGrafted, sizedGraftedExpiry, grown, shrunk}
 use Rattle.decide.specs.Rooms.{firstSend, backPeers}
-use Rattle.decide.specs.RecordGrowth.{eligible, peerGain, gains, batchesFor, pushGain, pushGains}
+use Rattle.decide.specs.RecordGrowth.{cachedIn, eligible, peerGain, gains, batchesFor, pushGain, pushGains}
 use Rattle.decide.specs.SizesAfter.{replySizes, graftSizes, unmarkedSizes, askSizes, sendGraftSizes}
 use Rattle.decide.specs.ActionsAfter.{replyActions, graftActions, askActions, sendGraftActions}
 use Rattle.lists.proofs.MapLaws.{cases, true≢}
@@ -58,7 +58,7 @@ prune-actions p r = refl
 min-none : (n : ℕ) → min 0 n ≡ 0
 min-none n = omega arith
 
-peer-gain : (c : Cache Cached) (id round p : ℕ) (ds : List Note) (extra : ℕ) → holds id c ≡ true → peerGain c p ds extra (record { id = id; round = round } ∷ []) ≡ pushGain id ds extra p
+peer-gain : (c : ℕ → Bool) (id round p : ℕ) (ds : List Note) (extra : ℕ) → c id ≡ true → peerGain c p ds extra (record { id = id; round = round } ∷ []) ≡ pushGain id ds extra p
 unfolding peerGain pushGain eligible member
 peer-gain c id round p ds extra k =
     cases (any (notes p id) ds)
@@ -83,7 +83,7 @@ peer-gain c id round p ds extra k =
     room : count (forPeer p) ds < 256 → length ds + extra < 4096 → min 1 (min (256 - count (forPeer p) ds) (4096 - (length ds + extra))) ≡ 1
     room l m = omega arith
 
-pub push-gains : (c : Cache Cached) (id round : ℕ) (ds : List Note) (extra : ℕ) (ps : List ℕ) → holds id c ≡ true → gains c ds extra (batchesFor (record { id = id; round = round }) ps) ≡ pushGains id ds extra ps
+pub push-gains : (c : ℕ → Bool) (id round : ℕ) (ds : List Note) (extra : ℕ) (ps : List ℕ) → c id ≡ true → gains c ds extra (batchesFor (record { id = id; round = round }) ps) ≡ pushGains id ds extra ps
 unfolding gains batchesFor pushGains
 push-gains c id round ds extra [] k = refl
 push-gains c id round ds extra (p ∷ ps) k = rw (peer-gain c id round p ds extra k, push-gains c id round ds (pushGain id ds extra p + extra) ps k) refl
@@ -116,7 +116,7 @@ reply-sizes sender id none r e n = unfold replyWith in refl
 reply-sizes sender id (some c) r e n =
     ap (λ (x : Run). sizesOf (x .state)) (reply-is sender id c r)
     ∙ swarm-sizes (sender ∷ []) id (c .content) r (one-near sender (r .state .links) n) (one-once sender) (c .round)
-    ∙ rw (push-gains (r .state .cache) id (c .round) (r .state .dropped) 0 (backPeers (r .rooms) (sender ∷ [])) (holds-get id c (r .state .cache) e)) refl
+    ∙ rw (push-gains (cachedIn (r .state .cache)) id (c .round) (r .state .dropped) 0 (backPeers (r .rooms) (sender ∷ [])) (holds-get id c (r .state .cache) e)) refl
 
 reply-actions : (sender id : ℕ) (o : Option Cached) (r : Run) → get id (r .state .cache) ≡ o → isNeighbour sender (r .state .links) ≡ true →
     replyWith sender id o r .actions ≡ r .actions ++ replyActions (r .rooms) sender id o (r .state)

@@ -9,15 +9,15 @@ use lib.ListN.{length}
 use borrow.Author.Tests.{leb-true, ltb-true, ne-eqb, not-true}
 use Rattle.lists.specs.Base.{if_then_else_, isEmpty, all, any, filter, count, member, once, ascending}
 use Rattle.lists.specs.Map.{keys}
-use Rattle.time_cache.specs.TimeCache.{Cache, holds}
+use Rattle.time_cache.specs.TimeCache.{holds}
 use Rattle.protocol.specs.Links.{Mark, Links, isNeighbour, isEager, peersMarked, eagerPeers}
 use Rattle.postcard.specs.Message.{Swarm, Neighbors, Ihave, Message, Gossip, Action, Sent, Scheduled, AnnounceDropped}
-use Rattle.protocol.specs.State.{State, Note, Cached}
+use Rattle.protocol.specs.State.{State, Note}
 use Rattle.protocol.specs.Run.{Run, Room, useRoom, send, takes}
 use Rattle.protocol.specs.Push.{forPeer, notes, recordFull, noteDropped, sendEach, handedBack, noteForEach, noteAfter, eagerTargets, pushTo}
 use Rattle.decide.specs.Sizes.{sizesOf, sizedRecorded}
 use Rattle.decide.specs.Rooms.{kthTaken, firstSend, backPeers}
-use Rattle.decide.specs.RecordGrowth.{recordAction, addNote, addNotes, Batch, addBatches, gains, batchesFor, noteAction, pushActions}
+use Rattle.decide.specs.RecordGrowth.{cachedIn, recordAction, addNote, addNotes, Batch, addBatches, gains, batchesFor, noteAction, pushActions}
 use Rattle.lists.proofs.MapLaws.{cases, true≢, and-left, and-right, and-intro, all-head, all-tail, all-cons}
 use Rattle.time_cache.proofs.CacheLaws.{eqb-sym}
 use Rattle.lists.proofs.ListLaws.{all-filter}
@@ -154,7 +154,7 @@ full-filled p ds f =
     (λ a. filled ds (omega (arith, leb-true 4096 (length ds) (rw a at f))))
 
 -- a cached identifier is recorded, or the record stands anyhow
-pub noted-filled : (c : Cache Cached) (p : ℕ) (h : Ihave) (ds : List Note) → holds (h .id) c ≡ true → isEmpty (addNote c p h ds) ≡ false
+pub noted-filled : (c : ℕ → Bool) (p : ℕ) (h : Ihave) (ds : List Note) → c (h .id) ≡ true → isEmpty (addNote c p h ds) ≡ false
 unfolding addNote
 noted-filled c p h ds k =
     cases (recordFull p ds) (λ f. rw f (full-filled p ds f))
@@ -164,7 +164,7 @@ abbrev pub one : ℕ → Ihave → Batch
 one p h = record { peer = p; ihaves = h ∷ [] }
 
 pub for-dropped : (ps : List ℕ) (h : Ihave) (r : Run) → all (λ p. isNeighbour p (r .state .links)) ps ≡ true →
-    noteForEach ps h r .state .dropped ≡ addBatches (r .state .cache) (batchesFor h ps) (r .state .dropped)
+    noteForEach ps h r .state .dropped ≡ addBatches (cachedIn (r .state .cache)) (batchesFor h ps) (r .state .dropped)
 unfolding noteForEach batchesFor addBatches
 for-dropped [] h r n = refl
 for-dropped (p ∷ ps) h r n =
@@ -196,19 +196,19 @@ for-actions (p ∷ ps) h r n k =
     ∙ t .actions
     ∙ ap (λ (l : List Action). r .actions ++ l) stands
   where
-    empty : isEmpty (addNotes (r .state .cache) p (h ∷ []) (r .state .dropped)) ≡ false
-    empty = unfold addNotes in (noted-filled (r .state .cache) p h (r .state .dropped) k)
+    empty : isEmpty (addNotes (cachedIn (r .state .cache)) p (h ∷ []) (r .state .dropped)) ≡ false
+    empty = unfold addNotes in (noted-filled (cachedIn (r .state .cache)) p h (r .state .dropped) k)
 
-    flagged : nextFlag (addNotes (r .state .cache) p (h ∷ []) (r .state .dropped)) (r .state .announceScheduled) ≡ true
-    flagged = by (isEmpty (addNotes (r .state .cache) p (h ∷ []) (r .state .dropped))) (r .state .announceScheduled) empty
+    flagged : nextFlag (addNotes (cachedIn (r .state .cache)) p (h ∷ []) (r .state .dropped)) (r .state .announceScheduled) ≡ true
+    flagged = by (isEmpty (addNotes (cachedIn (r .state .cache)) p (h ∷ []) (r .state .dropped))) (r .state .announceScheduled) empty
       where
         by : (b g : Bool) → b ≡ false → (if b || g then g else true) ≡ true
         by true g e = true≢ (sym e)
         by false true e = refl
         by false false e = refl
 
-    stands : recordAction (addNotes (r .state .cache) p (h ∷ []) (r .state .dropped)) (r .state .announceScheduled) ≡ (if r .state .announceScheduled then [] else Scheduled 1000 AnnounceDropped ∷ [])
-    stands = unfold recordAction in (by (isEmpty (addNotes (r .state .cache) p (h ∷ []) (r .state .dropped))) (r .state .announceScheduled) empty)
+    stands : recordAction (addNotes (cachedIn (r .state .cache)) p (h ∷ []) (r .state .dropped)) (r .state .announceScheduled) ≡ (if r .state .announceScheduled then [] else Scheduled 1000 AnnounceDropped ∷ [])
+    stands = unfold recordAction in (by (isEmpty (addNotes (cachedIn (r .state .cache)) p (h ∷ []) (r .state .dropped))) (r .state .announceScheduled) empty)
       where
         by : (b g : Bool) → b ≡ false → _≡_ {A = List Action} (if b || g then [] else Scheduled 1000 AnnounceDropped ∷ []) (if g then [] else Scheduled 1000 AnnounceDropped ∷ [])
         by true g e = true≢ (sym e)
@@ -252,16 +252,16 @@ module _ (ps : List ℕ) (id : ℕ) (content : List ℕ) (r : Run) (near : all (
     rooms = λ k q m. ap (kthTaken k q) (for-rooms (backPeers (r .rooms) ps) (record { id = id; round = round }) (sendEach ps (Gossip id content (Swarm round)) r) (near-after round)) ∙ sent-rooms k q ps (Gossip id content (Swarm round)) r m;
   })
 
-  pub swarm-dropped : (round : ℕ) → pushTo ps id content (Swarm round) r .state .dropped ≡ addBatches (r .state .cache) (batchesFor (record { id = id; round = round }) (backPeers (r .rooms) ps)) (r .state .dropped)
+  pub swarm-dropped : (round : ℕ) → pushTo ps id content (Swarm round) r .state .dropped ≡ addBatches (cachedIn (r .state .cache)) (batchesFor (record { id = id; round = round }) (backPeers (r .rooms) ps)) (r .state .dropped)
   swarm-dropped round = rw (swarm-is round) (for-dropped (backPeers (r .rooms) ps) (record { id = id; round = round }) (sendEach ps (Gossip id content (Swarm round)) r) (near-after round) ∙ rw (sent-state ps (Gossip id content (Swarm round)) r) refl)
 
   -- the record grows by `gains`
   pub swarm-sizes : (round : ℕ) → sizesOf (pushTo ps id content (Swarm round) r .state) ≡
-      sizedRecorded (length (r .state .dropped) + gains (r .state .cache) (r .state .dropped) 0 (batchesFor (record { id = id; round = round }) (backPeers (r .rooms) ps))) (sizesOf (r .state))
+      sizedRecorded (length (r .state .dropped) + gains (cachedIn (r .state .cache)) (r .state .dropped) 0 (batchesFor (record { id = id; round = round }) (backPeers (r .rooms) ps))) (sizesOf (r .state))
   swarm-sizes round =
       only-sizes r _ (swarm-pushed round .aside)
       ∙ ap (λ (n : ℕ). sizedRecorded n (sizesOf (r .state))) (ap length (swarm-dropped round)
-      ∙ gains-now (r .state .cache) (batchesFor (record { id = id; round = round }) (backPeers (r .rooms) ps)) (r .state .dropped) (rw (batches-peers (record { id = id; round = round }) (backPeers (r .rooms) ps)) (back-once (r .rooms) ps apart)))
+      ∙ gains-now (cachedIn (r .state .cache)) (batchesFor (record { id = id; round = round }) (backPeers (r .rooms) ps)) (r .state .dropped) (rw (batches-peers (record { id = id; round = round }) (backPeers (r .rooms) ps)) (back-once (r .rooms) ps apart)))
 
   pub swarm-actions : (round : ℕ) → holds id (r .state .cache) ≡ true →
       pushTo ps id content (Swarm round) r .actions ≡ r .actions ++ pushActions (r .rooms) (Gossip id content (Swarm round)) ps (r .state .announceScheduled)

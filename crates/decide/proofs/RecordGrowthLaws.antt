@@ -8,15 +8,15 @@ use lib.Dec.{leb, eqb}
 use lib.ListN.{length, length-append}
 use borrow.Author.Tests.{leb-true, leb-false, eqb-true, eq-eqb, not-true}
 use Rattle.lists.specs.Base.{if_then_else_, isEmpty, any, count, member, once}
-use Rattle.time_cache.specs.TimeCache.{Cache, holds}
+use Rattle.time_cache.specs.TimeCache.{holds}
 use Rattle.protocol.specs.Links.{isNeighbour}
 use Rattle.postcard.specs.Message.{Ihave, Action, Scheduled, AnnounceDropped}
-use Rattle.protocol.specs.State.{Note, Cached}
+use Rattle.protocol.specs.State.{Note}
 use Rattle.protocol.specs.Run.{Run, act}
 use Rattle.protocol.specs.Push.{forPeer, notes, recordFull, recordAlso, noteOne, noteEach, noteDropped, scheduleAnnounceDropped}
 use Rattle.protocol.specs.Whole.{contentHeld}
 use Rattle.decide.specs.Sizes.{sizesOf, sizedRecorded}
-use Rattle.decide.specs.RecordGrowth.{recordAction, addNote, addNotes, Batch, addBatches, eligible, peerGain, gains}
+use Rattle.decide.specs.RecordGrowth.{cachedIn, recordAction, addNote, addNotes, Batch, addBatches, eligible, peerGain, gains}
 use Rattle.lists.proofs.MapLaws.{cases, true≢, and-left, and-right}
 use Rattle.time_cache.proofs.CacheLaws.{eqb-sym}
 use Rattle.lists.proofs.Lists.{or-false-left, or-false-right, any-append}
@@ -31,7 +31,7 @@ only-sizes r r′ a = rw (a .links, a .queue, a .missing, a .received, a .grafte
 
 -- the run after `note_dropped`
 
-one-dropped : (p : ℕ) (h : Ihave) (r : Run) → noteOne p h r .state .dropped ≡ addNote (r .state .cache) p h (r .state .dropped)
+one-dropped : (p : ℕ) (h : Ihave) (r : Run) → noteOne p h r .state .dropped ≡ addNote (cachedIn (r .state .cache)) p h (r .state .dropped)
 unfolding noteOne recordAlso addNote
 one-dropped p h r = if-on (λ (x : Run). x .state .dropped) (not (recordFull p (r .state .dropped)) && holds (h .id) (r .state .cache) && not (any (notes p (h .id)) (r .state .dropped))) _ _
 
@@ -57,7 +57,7 @@ each-quiet p (h ∷ hs) r =
     let b = each-quiet p hs (noteOne p h r) in
     record { actions = b .actions ∙ a .actions; rooms = b .rooms ∙ a .rooms; flag = b .flag ∙ a .flag; cache = b .cache ∙ a .cache }
 
-pub each-dropped : (p : ℕ) (hs : List Ihave) (r : Run) → noteEach p hs r .state .dropped ≡ addNotes (r .state .cache) p hs (r .state .dropped)
+pub each-dropped : (p : ℕ) (hs : List Ihave) (r : Run) → noteEach p hs r .state .dropped ≡ addNotes (cachedIn (r .state .cache)) p hs (r .state .dropped)
 unfolding noteEach addNotes
 each-dropped p [] r = refl
 each-dropped p (h ∷ hs) r = each-dropped p hs (noteOne p h r) ∙ rw (one-quiet p h r .cache, one-dropped p h r) refl
@@ -86,10 +86,10 @@ schedule-flag r = if-on (λ (x : Run). x .state .announceScheduled) (isEmpty (r 
 
 -- `note_dropped` for a neighbour
 pub record NotedFor (p : ℕ) (hs : List Ihave) (r r′ : Run) : Type 0 where
-  pub dropped : r′ .state .dropped ≡ addNotes (r .state .cache) p hs (r .state .dropped)
-  pub actions : r′ .actions ≡ r .actions ++ recordAction (addNotes (r .state .cache) p hs (r .state .dropped)) (r .state .announceScheduled)
+  pub dropped : r′ .state .dropped ≡ addNotes (cachedIn (r .state .cache)) p hs (r .state .dropped)
+  pub actions : r′ .actions ≡ r .actions ++ recordAction (addNotes (cachedIn (r .state .cache)) p hs (r .state .dropped)) (r .state .announceScheduled)
   pub rooms : r′ .rooms ≡ r .rooms
-  pub flag : r′ .state .announceScheduled ≡ nextFlag (addNotes (r .state .cache) p hs (r .state .dropped)) (r .state .announceScheduled)
+  pub flag : r′ .state .announceScheduled ≡ nextFlag (addNotes (cachedIn (r .state .cache)) p hs (r .state .dropped)) (r .state .announceScheduled)
 
 noted-run : (p : ℕ) (hs : List Ihave) (r : Run) → NotedFor p hs r (scheduleAnnounceDropped (noteEach p hs r))
 noted-run p hs r =
@@ -113,7 +113,7 @@ noted-for p hs r n = on (isNeighbour p (r .state .links)) n
 -- how much the record grows
 
 -- the tests depend on which identifiers were seen, not on their order
-eligible-seen : (c : Cache Cached) (p : ℕ) (ds : List Note) (s t : List ℕ) → ((i : ℕ) → member i s ≡ member i t) → (hs : List Ihave) → eligible c p ds s hs ≡ eligible c p ds t hs
+eligible-seen : (c : ℕ → Bool) (p : ℕ) (ds : List Note) (s t : List ℕ) → ((i : ℕ) → member i s ≡ member i t) → (hs : List Ihave) → eligible c p ds s hs ≡ eligible c p ds t hs
 unfolding eligible
 eligible-seen c p ds s t w [] = refl
 eligible-seen c p ds s t w (h ∷ hs) =
@@ -130,7 +130,7 @@ and-false : (a b : Bool) → a ≡ false → (a && b) ≡ false
 and-false a b h = rw h refl
 
 -- an identifier that would not be added may be seen
-eligible-useless : (c : Cache Cached) (p : ℕ) (ds : List Note) (i : ℕ) → (holds i c && not (any (notes p i) ds)) ≡ false → (s : List ℕ) (hs : List Ihave) →
+eligible-useless : (c : ℕ → Bool) (p : ℕ) (ds : List Note) (i : ℕ) → (c i && not (any (notes p i) ds)) ≡ false → (s : List ℕ) (hs : List Ihave) →
     eligible c p ds (i ∷ s) hs ≡ eligible c p ds s hs
 unfolding eligible
 eligible-useless c p ds i u s [] = refl
@@ -139,8 +139,8 @@ eligible-useless c p ds i u s (h ∷ hs) =
     eligible-seen c p ds (h .id ∷ i ∷ s) (i ∷ h .id ∷ s) (member-swap (h .id) i s) hs ∙ eligible-useless c p ds i u (h .id ∷ s) hs in
     cases (eqb (h .id) i)
     (λ e. rw (
-      and-false (holds (h .id) c && not (any (notes p (h .id)) ds)) (not (member (h .id) (i ∷ s))) (rw (eqb-true (h .id) i e) u),
-      and-false (holds (h .id) c && not (any (notes p (h .id)) ds)) (not (member (h .id) s)) (rw (eqb-true (h .id) i e) u),
+      and-false (c (h .id) && not (any (notes p (h .id)) ds)) (not (member (h .id) (i ∷ s))) (rw (eqb-true (h .id) i e) u),
+      and-false (c (h .id) && not (any (notes p (h .id)) ds)) (not (member (h .id) s)) (rw (eqb-true (h .id) i e) u),
     ) t)
     (λ e. rw (skip e, t) refl)
   where
@@ -160,18 +160,18 @@ test-moved true false true m = refl
 test-moved true false false m = refl
 test-moved false b e m = refl
 
-eligible-moved : (c : Cache Cached) (p i round : ℕ) (ds : List Note) (s : List ℕ) (hs : List Ihave) →
+eligible-moved : (c : ℕ → Bool) (p i round : ℕ) (ds : List Note) (s : List ℕ) (hs : List Ihave) →
     eligible c p (ds ++ (record { peer = p; id = i; round = round } ∷ [])) s hs ≡ eligible c p ds (i ∷ s) hs
 unfolding eligible
 eligible-moved c p i round ds s [] = refl
 eligible-moved c p i round ds s (h ∷ hs) =
     let t : eligible c p (ds ++ (record { peer = p; id = i; round = round } ∷ [])) (h .id ∷ s) hs ≡ eligible c p ds (h .id ∷ i ∷ s) hs =
     eligible-moved c p i round ds (h .id ∷ s) hs ∙ eligible-seen c p ds (i ∷ h .id ∷ s) (h .id ∷ i ∷ s) (member-swap i (h .id) s) hs in
-    let u : (holds (h .id) c && not (any (notes p (h .id)) (ds ++ (record { peer = p; id = i; round = round } ∷ []))) && not (member (h .id) s)) ≡ (holds (h .id) c && not (any (notes p (h .id)) ds) && not (member (h .id) (i ∷ s))) = test in
+    let u : (c (h .id) && not (any (notes p (h .id)) (ds ++ (record { peer = p; id = i; round = round } ∷ []))) && not (member (h .id) s)) ≡ (c (h .id) && not (any (notes p (h .id)) ds) && not (member (h .id) (i ∷ s))) = test in
     rw (u, t) refl
   where
-    test : (holds (h .id) c && not (any (notes p (h .id)) (ds ++ (record { peer = p; id = i; round = round } ∷ []))) && not (member (h .id) s)) ≡ (holds (h .id) c && not (any (notes p (h .id)) ds) && not (member (h .id) (i ∷ s)))
-    test = unfold member in (rw (any-more p (h .id) i round ds, eqb-sym i (h .id)) (test-moved (holds (h .id) c) (any (notes p (h .id)) ds) (eqb (h .id) i) (member (h .id) s)))
+    test : (c (h .id) && not (any (notes p (h .id)) (ds ++ (record { peer = p; id = i; round = round } ∷ []))) && not (member (h .id) s)) ≡ (c (h .id) && not (any (notes p (h .id)) ds) && not (member (h .id) (i ∷ s)))
+    test = unfold member in (rw (any-more p (h .id) i round ds, eqb-sym i (h .id)) (test-moved (c (h .id)) (any (notes p (h .id)) ds) (eqb (h .id) i) (member (h .id) s)))
 
 -- the record full, said in numbers
 full-caps : (p : ℕ) (ds : List Note) → recordFull p ds ≡ true → min (256 - count (forPeer p) ds) (4096 - length ds) ≡ 0
@@ -187,7 +187,7 @@ count-peer p i round ds = count-append (forPeer p) ds _ ∙ ap (λ (n : ℕ). co
     one = unfold count in (rw (eq-eqb p p refl) refl)
 
 -- the caps applied to how many are eligible
-capped : Cache Cached → ℕ → List Note → List Ihave → ℕ
+capped : (ℕ → Bool) → ℕ → List Note → List Ihave → ℕ
 capped c p ds hs = min (eligible c p ds [] hs) (min (256 - count (forPeer p) ds) (4096 - length ds))
 
 gain-arith : (e k n l x : ℕ) → k < 256 → n < 4096 → l ≡ (n + 1) + min e (min (256 - (k + 1)) (4096 - (n + 1))) → x ≡ suc e → l ≡ n + min x (min (256 - k) (4096 - n))
@@ -206,13 +206,13 @@ gain-arith e k n l x a b h q =
         plain : (i j : ℕ) → (i + 1) + j ≡ i + suc j
         plain i j = omega arith
 
-pub gain-one : (c : Cache Cached) (p : ℕ) (hs : List Ihave) (ds : List Note) → length (addNotes c p hs ds) ≡ length ds + min (eligible c p ds [] hs) (min (256 - count (forPeer p) ds) (4096 - length ds))
+pub gain-one : (c : ℕ → Bool) (p : ℕ) (hs : List Ihave) (ds : List Note) → length (addNotes c p hs ds) ≡ length ds + min (eligible c p ds [] hs) (min (256 - count (forPeer p) ds) (4096 - length ds))
 unfolding addNotes addNote
 gain-one c p [] ds = unfold eligible in (omega arith)
 gain-one c p (h ∷ hs) ds =
     cases (recordFull p ds)
     (λ f. rw f (omega (arith, gain-one c p hs ds, full-caps p ds f)))
-    (λ f. cases (holds (h .id) c && not (any (notes p (h .id)) ds))
+    (λ f. cases (c (h .id) && not (any (notes p (h .id)) ds))
     (λ t. rw (f, t) (gain-arith (eligible c p ds (h .id ∷ []) hs) (count (forPeer p) ds) (length ds) _ _ (low f) (short f)
     (gain-one c p hs (ds ++ (record { peer = p; id = h .id; round = h .round } ∷ [])) ∙ rw (eligible-moved c p (h .id) (h .round) ds [] hs, count-peer p (h .id) (h .round) ds, length-append ds (record { peer = p; id = h .id; round = h .round } ∷ [])) refl)
     (counted t)))
@@ -224,11 +224,11 @@ gain-one c p (h ∷ hs) ds =
     short : recordFull p ds ≡ false → length ds < 4096
     short f = leb-false 4096 (length ds) (or-false-right (leb 256 (count (forPeer p) ds)) (leb 4096 (length ds)) (unfold recordFull in f))
 
-    counted : (holds (h .id) c && not (any (notes p (h .id)) ds)) ≡ true → eligible c p ds [] (h ∷ hs) ≡ suc (eligible c p ds (h .id ∷ []) hs)
+    counted : (c (h .id) && not (any (notes p (h .id)) ds)) ≡ true → eligible c p ds [] (h ∷ hs) ≡ suc (eligible c p ds (h .id ∷ []) hs)
     counted t = unfold eligible in (unfold member in (rw t refl))
 
-    passed : (holds (h .id) c && not (any (notes p (h .id)) ds)) ≡ false → eligible c p ds [] (h ∷ hs) ≡ eligible c p ds [] hs
-    passed t = unfold eligible in (rw (and-false (holds (h .id) c && not (any (notes p (h .id)) ds)) (not (member (h .id) [])) t) (eligible-useless c p ds (h .id) t [] hs))
+    passed : (c (h .id) && not (any (notes p (h .id)) ds)) ≡ false → eligible c p ds [] (h ∷ hs) ≡ eligible c p ds [] hs
+    passed t = unfold eligible in (rw (and-false (c (h .id) && not (any (notes p (h .id)) ds)) (not (member (h .id) [])) t) (eligible-useless c p ds (h .id) t [] hs))
 
 -- the two records agree on this peer
 pub record Agree (q : ℕ) (ds ds′ : List Note) : Type 0 where
@@ -258,23 +258,23 @@ agree-more q p i round ds e = record {
     plain : (n : ℕ) → n + 0 ≡ n
     plain n = omega arith
 
-agree-one : (c : Cache Cached) (q p : ℕ) (h : Ihave) (ds : List Note) → eqb p q ≡ false → Agree q ds (addNote c p h ds)
-agree-one c q p h ds e = on (recordFull p ds) (holds (h .id) c && not (any (notes p (h .id)) ds)) refl refl
+agree-one : (c : ℕ → Bool) (q p : ℕ) (h : Ihave) (ds : List Note) → eqb p q ≡ false → Agree q ds (addNote c p h ds)
+agree-one c q p h ds e = on (recordFull p ds) (c (h .id) && not (any (notes p (h .id)) ds)) refl refl
   where
     same : Agree q ds ds
     same = record { noted = λ i. refl; counted = refl }
 
-    on : (a b : Bool) → recordFull p ds ≡ a → (holds (h .id) c && not (any (notes p (h .id)) ds)) ≡ b → Agree q ds (addNote c p h ds)
+    on : (a b : Bool) → recordFull p ds ≡ a → (c (h .id) && not (any (notes p (h .id)) ds)) ≡ b → Agree q ds (addNote c p h ds)
     on true b x y = unfold addNote in (rw x same)
     on false true x y = unfold addNote in (rw (x, y) (agree-more q p (h .id) (h .round) ds e))
     on false false x y = unfold addNote in (rw (x, y) same)
 
-agree-each : (c : Cache Cached) (q p : ℕ) (hs : List Ihave) (ds : List Note) → eqb p q ≡ false → Agree q ds (addNotes c p hs ds)
+agree-each : (c : ℕ → Bool) (q p : ℕ) (hs : List Ihave) (ds : List Note) → eqb p q ≡ false → Agree q ds (addNotes c p hs ds)
 unfolding addNotes
 agree-each c q p [] ds e = record { noted = λ i. refl; counted = refl }
 agree-each c q p (h ∷ hs) ds e = agree-trans q ds (addNote c p h ds) (addNotes c p hs (addNote c p h ds)) (agree-one c q p h ds e) (agree-each c q p hs (addNote c p h ds) e)
 
-eligible-agree : (c : Cache Cached) (q : ℕ) (ds ds′ : List Note) → Agree q ds ds′ → (s : List ℕ) (hs : List Ihave) → eligible c q ds′ s hs ≡ eligible c q ds s hs
+eligible-agree : (c : ℕ → Bool) (q : ℕ) (ds ds′ : List Note) → Agree q ds ds′ → (s : List ℕ) (hs : List Ihave) → eligible c q ds′ s hs ≡ eligible c q ds s hs
 unfolding eligible
 eligible-agree c q ds ds′ a s [] = refl
 eligible-agree c q ds ds′ a s (h ∷ hs) = rw (a .noted (h .id), eligible-agree c q ds ds′ a (h .id ∷ s) hs) refl
@@ -299,13 +299,13 @@ batch-later : (q : ℕ) (b : Batch) (bs : List Batch) → any (batchOf q) bs ≡
 unfolding any
 batch-later q b bs h = cases (eqb (b .peer) q) (λ e. rw e refl) (λ e. rw e h)
 
-gain-agreed : (c : Cache Cached) (p : ℕ) (hs : List Ihave) (ds ds′ : List Note) (extra : ℕ) → length ds′ ≡ length ds + extra → Agree p ds ds′ → length (addNotes c p hs ds′) ≡ length ds′ + peerGain c p ds extra hs
+gain-agreed : (c : ℕ → Bool) (p : ℕ) (hs : List Ihave) (ds ds′ : List Note) (extra : ℕ) → length ds′ ≡ length ds + extra → Agree p ds ds′ → length (addNotes c p hs ds′) ≡ length ds′ + peerGain c p ds extra hs
 unfolding peerGain
 gain-agreed c p hs ds ds′ extra l a =
     gain-one c p hs ds′ ∙ rw (eligible-agree c p ds ds′ a [] hs, a .counted) (ap (λ (n : ℕ). length ds′ + min (eligible c p ds [] hs) (min (256 - count (forPeer p) ds) (4096 - n))) l)
 
 -- the record grows by `gains`, where each peer has one batch
-pub gains-batches : (c : Cache Cached) (bs : List Batch) (ds ds′ : List Note) (extra : ℕ) → length ds′ ≡ length ds + extra →
+pub gains-batches : (c : ℕ → Bool) (bs : List Batch) (ds ds′ : List Note) (extra : ℕ) → length ds′ ≡ length ds + extra →
     ((q : ℕ) → any (batchOf q) bs ≡ true → Agree q ds ds′) → once (map (λ x. x .peer) bs) ≡ true → length (addBatches c bs ds′) ≡ length ds′ + gains c ds extra bs
 unfolding addBatches gains once
 gains-batches c [] ds ds′ extra l a o = omega arith
@@ -325,5 +325,5 @@ gains-batches c (b ∷ bs) ds ds′ extra l a o =
     sums x y n k j p q = omega arith
 
 -- from the record as it stands
-pub gains-now : (c : Cache Cached) (bs : List Batch) (ds : List Note) → once (map (λ x. x .peer) bs) ≡ true → length (addBatches c bs ds) ≡ length ds + gains c ds 0 bs
+pub gains-now : (c : ℕ → Bool) (bs : List Batch) (ds : List Note) → once (map (λ x. x .peer) bs) ≡ true → length (addBatches c bs ds) ≡ length ds + gains c ds 0 bs
 gains-now c bs ds o = gains-batches c bs ds ds 0 (omega arith) (λ q h. record { noted = λ i. refl; counted = refl }) o

@@ -9,7 +9,7 @@ use lib.ListN.{length}
 use borrow.Author.Tests.{eqb-true, eq-eqb}
 use Rattle.lists.specs.Base.{if_then_else_, isEmpty, isSome, all, any}
 use Rattle.lists.specs.Map.{keys, lookup, has}
-use Rattle.time_cache.specs.TimeCache.{Cache, get, holds}
+use Rattle.time_cache.specs.TimeCache.{get, holds}
 use Rattle.protocol.specs.Links.{Mark, Links, isNeighbour, isEager, marked, eagerIn}
 use Rattle.postcard.specs.Message.{Delivery, Swarm, Neighbors, Scope, toSwarm, toNeighbors, Message, Gossip, Prune, Graft, IHave, Timer, SendGraft, DispatchLazyPush, EvictCache, AnnounceDropped, Event, Received, Broadcast, Fired, Up, Down, Action, Sent, Scheduled, Emitted}
 use Rattle.protocol.specs.State.{State, Counts, Hop, Grafts, Cached}
@@ -21,7 +21,7 @@ use Rattle.protocol.specs.Handle.{handle}
 use Rattle.protocol.specs.Whole.{whole}
 use Rattle.decide.specs.Rooms.{firstSend, backPeers}
 use Rattle.decide.specs.Settled.{settled, settledActions}
-use Rattle.decide.specs.RecordGrowth.{noteAction, pushActions}
+use Rattle.decide.specs.RecordGrowth.{cachedIn, noteAction, pushActions}
 use Rattle.decide.specs.Pieces.{Piece, pieceTaken, pieceActions}
 use Rattle.decide.specs.SizesAfter.{newIds, knownTimer}
 use Rattle.decide.specs.ActionsAfter.{evictActions, dispatchAction, announceActions, replyActions, graftActions, askActions, sendGraftActions, ihaveActions, broadcastActions, lateActions, optimiseActions, newActions, dispatchActions, gossipActions, messageActions, timerActions, actionsAfter}
@@ -122,12 +122,12 @@ module _ (P : ℕ → Bool) where
   unfolding Within
   scheduling delay is = all-map (sendIn P) (λ i. Scheduled delay (SendGraft i)) is ∙ all-each (λ i. true) (λ i. refl) is
 
-  dispatched : (c : Cache Cached) (rooms : List Room) (flag : Bool) (xs : List Piece) → all (λ x. P (x .peer)) xs ≡ true → Within P (pieceActions c rooms flag xs)
+  dispatched : (c : ℕ → Bool) (rooms : List Room) (flag : Bool) (xs : List Piece) → all (λ x. P (x .peer)) xs ≡ true → Within P (pieceActions c rooms flag xs)
   unfolding pieceActions
   dispatched c rooms flag [] h = nil
   dispatched c rooms flag (x ∷ xs) h =
       cons _ _ (all-head (λ x. P (x .peer)) x xs h)
-      (branch (pieceTaken rooms x || flag || not (any (λ h. holds (h .id) c) (x .ihaves))) _ _ (dispatched c rooms flag xs (all-tail (λ x. P (x .peer)) x xs h))
+      (branch (pieceTaken rooms x || flag || not (any (λ h. c (h .id)) (x .ihaves))) _ _ (dispatched c rooms flag xs (all-tail (λ x. P (x .peer)) x xs h))
       (cons _ _ refl (dispatched c rooms true xs (all-tail (λ x. P (x .peer)) x xs h))))
 
 -- who is eager is a neighbour
@@ -248,7 +248,7 @@ module _ (hash : List ℕ → ℕ) (rooms : List Room) (s : State) (x : Sane s) 
   unfolding timerActions sendGraftActions dispatchActions evictActions
   timer-in (SendGraft id) = branch (alone s) (holds id (s .received)) [] _ (nil (alone s)) (asking (alone s) rooms id (announcers id s) s (known-in (λ q. false) id))
   timer-in DispatchLazyPush =
-      dispatched (alone s) (s .cache) rooms (s .announceScheduled) _ (all-imp (λ y. isNeighbour (y .peer) (s .links)) (λ y. alone s (y .peer)) (λ y k. or-none (isNeighbour (y .peer) (s .links)) ∙ k) _
+      dispatched (alone s) (cachedIn (s .cache)) rooms (s .announceScheduled) _ (all-imp (λ y. isNeighbour (y .peer) (s .links)) (λ y. alone s (y .peer)) (λ y k. or-none (isNeighbour (y .peer) (s .links)) ∙ k) _
       (near-pieces (s .links) (queuedPeers (s .queue)) (perMessage (s .settings .maxMessageSize)) (s .queue) (queued-near (s .links) (s .queue) (x .core .queued))))
   timer-in EvictCache = cons (alone s) _ [] refl (nil (alone s))
   timer-in AnnounceDropped = announcing (alone s) s

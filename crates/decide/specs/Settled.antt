@@ -1,4 +1,4 @@
--- Settled
+-- A first event's eviction in advance: what it leaves, and the tests of what it leaves, read from the state before the call. Proved equal to `firstEvent`.
 use Prim.Native.Nat.{ℕ}
 use mathlib.Core.Bool.{Bool, true, false, not, _&&_}
 use mathlib.Core.List.{List, [], _∷_}

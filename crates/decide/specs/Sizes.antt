@@ -1,4 +1,4 @@
--- Sizes
+-- The twelve numbers that question 13 looks at. Proved equal to the definitions of `protocol` (proofs/EachEvent.antt), as all of this crate: nothing here has to be believed.
 use Prim.Native.Nat.{ℕ, suc, _*_, _-_}
 use mathlib.Core.Bool.{Bool, _&&_}
 use lib.Dec.{leb}
@@ -22,6 +22,7 @@ pub record Sizes : Type 0 where
   pub queued : ℕ
   pub recorded : ℕ
 
+-- the numbers of a state
 unfoldable pub sizesOf : State → Sizes
 sizesOf s = record {
   links = length (s .links);
@@ -52,6 +53,9 @@ fitSizes l z =
     && leb (z .recorded) (l .D)
 
 -- the sizes with one number changed
+abbrev pub sizedLinks : ℕ → Sizes → Sizes
+sizedLinks n z = record { links = n; received = z .received; receivedExpiry = z .receivedExpiry; cached = z .cached; cachedExpiry = z .cachedExpiry; content = z .content; grafted = z .grafted; graftedExpiry = z .graftedExpiry; missing = z .missing; timers = z .timers; queued = z .queued; recorded = z .recorded }
+
 abbrev pub sizedMissing : ℕ → Sizes → Sizes
 sizedMissing n z = record { links = z .links; received = z .received; receivedExpiry = z .receivedExpiry; cached = z .cached; cachedExpiry = z .cachedExpiry; content = z .content; grafted = z .grafted; graftedExpiry = z .graftedExpiry; missing = n; timers = z .timers; queued = z .queued; recorded = z .recorded }
 

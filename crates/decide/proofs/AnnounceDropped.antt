@@ -20,8 +20,8 @@ use Rattle.decide.specs.ActionsAfter.{dispatchAction, announceActions}
 use Rattle.lists.proofs.MapLaws.{cases}
 use Rattle.protocol.proofs.RecordOnly.{only-schedule}
 use Rattle.decide.proofs.RecordGrowthLaws.{only-sizes, schedule-dropped, schedule-actions}
-use Rattle.decide.proofs.Base.{if-on, if-both, if-same}
-use Rattle.decide.proofs.Evict.{dispatch-sizes, dispatch-actions, dispatch-state}
+use Rattle.lists.proofs.Branches.{if-on, if-both, if-same}
+use Rattle.decide.proofs.UpDownEvict.{dispatch-sizes, dispatch-actions, dispatch-state}
 
 pub schedule-sizes : (r : Run) → sizesOf (scheduleAnnounceDropped r .state) ≡ sizesOf (r .state)
 schedule-sizes r = only-sizes r (scheduleAnnounceDropped r) (only-schedule r) ∙ rw (schedule-dropped r) (unfold sizesOf in refl)

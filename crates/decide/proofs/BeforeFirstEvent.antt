@@ -14,8 +14,9 @@ use Rattle.decide.specs.Settled.{settled, cachedBefore, standingBefore}
 use Rattle.decide.specs.RecordGrowth.{cachedIn, Batch, eligible, peerGain, gains}
 use Rattle.decide.specs.Pieces.{Piece, pieceActions}
 use Rattle.lists.proofs.ListLaws.{filter-same, any-same}
-use Rattle.protocol.proofs.Sane.{CoreOf}
-use Rattle.decide.proofs.Base.{if-on, if-same, settled-holds}
+use Rattle.protocol.proofs.Consistent.{CoreOf}
+use Rattle.lists.proofs.Branches.{if-on, if-same}
+use Rattle.decide.proofs.SettledLaws.{settled-holds}
 
 module _ (c held : ℕ → Bool) (w : (i : ℕ) → c i ≡ held i) where
   eligible-if : (p : ℕ) (ds : List Note) (seen : List ℕ) (hs : List Ihave) → eligible c p ds seen hs ≡ eligible held p ds seen hs

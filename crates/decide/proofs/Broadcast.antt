@@ -24,10 +24,10 @@ use Rattle.decide.specs.RecordGrowth.{cachedIn, pushActions}
 use Rattle.decide.specs.SizesAfter.{contentOf, takenSizes, broadcastSizes}
 use Rattle.decide.specs.ActionsAfter.{dispatchAction, broadcastActions}
 use Rattle.lists.proofs.MapLaws.{cases, and-left, and-right, all-head, all-tail, lookup-insert-same}
-use Rattle.protocol.proofs.Sane.{CoreOf}
-use Rattle.decide.proofs.Base.{if-on, if-same}
-use Rattle.decide.proofs.Evict.{dispatch-sizes, dispatch-actions, dispatch-state, dispatch-rooms}
-use Rattle.decide.proofs.GraftAndTimer.{push-gains, length-put, expiry-put}
+use Rattle.protocol.proofs.Consistent.{CoreOf}
+use Rattle.lists.proofs.Branches.{if-on, if-same}
+use Rattle.decide.proofs.UpDownEvict.{dispatch-sizes, dispatch-actions, dispatch-state, dispatch-rooms}
+use Rattle.decide.proofs.GraftSendGraft.{push-gains, length-put, expiry-put}
 use Rattle.decide.proofs.PushLaws.{targets-once, targets-near, swarm-sizes, swarm-actions, near-actions, near-state}
 
 -- content bytes

@@ -21,8 +21,9 @@ use Rattle.decide.specs.Settled.{settled, receivedBefore, tooFarBefore}
 use Rattle.decide.specs.SizesAfter.{evictSizes, downSizes, sizesAfter}
 use Rattle.lists.proofs.MapLaws.{cases, and-left, and-right, and-intro}
 use Rattle.lists.proofs.ListLaws.{count-length}
-use Rattle.protocol.proofs.Sane.{CoreOf, whole-sane, whole-fits}
-use Rattle.decide.proofs.Base.{fits-sizes, first-state, settled-received}
+use Rattle.protocol.proofs.Consistent.{CoreOf, whole-consistent, whole-fits}
+use Rattle.decide.proofs.TableSizes.{fits-sizes}
+use Rattle.decide.proofs.SettledLaws.{first-state, settled-received}
 use Rattle.decide.proofs.EachEvent.{decide-13}
 use Rattle.decide.proofs.RoomsSteps.{withRooms}
 use Rattle.decide.proofs.RoomsCall.{reached, same-run}
@@ -57,7 +58,7 @@ module _ (hash : List ℕ → ℕ) where
 
   pub decide-12 : (now : ℕ) (e : Event) (s : State) (c : Counts) (rooms : List Room) → whole s ≡ true → tooFar hash e (firstEvent now (begin s c rooms) .state) ≡ tooFarBefore hash now e s
   decide-12 now e s c rooms w =
-      ap (tooFar hash e) (first-state now (begin s c rooms) (whole-sane s w .core)) ∙ far-settled now e s (whole-sane s w .core)
+      ap (tooFar hash e) (first-state now (begin s c rooms) (whole-consistent s w .core)) ∙ far-settled now e s (whole-consistent s w .core)
 
 -- what never grows
 

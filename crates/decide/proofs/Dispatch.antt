@@ -25,9 +25,9 @@ use Rattle.decide.specs.ActionsAfter.{dispatchActions}
 use Rattle.lists.proofs.MapLaws.{cases, true≢, and-left, and-right, all-head, all-tail}
 use Rattle.lists.proofs.ListLaws.{all-append}
 use Rattle.protocol.proofs.RecordOnly.{RecordOnly, only-refl, only-trans, only-send, only-noteDropped}
-use Rattle.protocol.proofs.Sane.{Sane, flagged, byNeighbour}
-use Rattle.protocol.proofs.SaneParts.{all-insertKey, ascending-insertKey}
-use Rattle.decide.proofs.Base.{has-first, kth-used-same, kth-used-other}
+use Rattle.protocol.proofs.Consistent.{Consistent, flagged, byNeighbour}
+use Rattle.protocol.proofs.ConsistentTables.{all-insertKey, ascending-insertKey}
+use Rattle.decide.proofs.RoomLaws.{has-first, kth-used-same, kth-used-other}
 use Rattle.decide.proofs.RecordGrowthLaws.{only-sizes, noted-for, nextFlag, gains-now}
 use Rattle.decide.proofs.PushLaws.{once-ascending, noted-filled}
 
@@ -300,7 +300,7 @@ queued-ascending (n ∷ ns) = ascending-insertKey (n .peer) (queuedPeers ns) (qu
 
 -- the event
 
-module _ (r : Run) (x : Sane (r .state)) where
+module _ (r : Run) (x : Consistent (r .state)) where
   qs : List ℕ
   qs = queuedPeers (r .state .queue)
 

@@ -24,13 +24,15 @@ use Rattle.decide.specs.SizesAfter.{contentOf, takenSizes, newSizes}
 use Rattle.decide.specs.ActionsAfter.{dispatchAction, lateActions, optimiseActions, newActions}
 use Rattle.lists.proofs.MapLaws.{cases, true≢, and-left, and-right, lookup-insert-same}
 use Rattle.protocol.proofs.RecordOnly.{RecordOnly}
-use Rattle.protocol.proofs.Sane.{CoreOf}
-use Rattle.protocol.proofs.SaneParts.{ascending-mark}
-use Rattle.decide.proofs.Base.{length-remove, length-removeKey, has-first, kth-used-same, kth-used-other, if-on, if-both, if-same}
-use Rattle.decide.proofs.GraftAndTimer.{push-gains, length-replace}
+use Rattle.protocol.proofs.Consistent.{CoreOf}
+use Rattle.protocol.proofs.ConsistentTables.{ascending-mark}
+use Rattle.lists.proofs.Branches.{if-on, if-both, if-same}
+use Rattle.decide.proofs.RoomLaws.{has-first, kth-used-same, kth-used-other}
+use Rattle.decide.proofs.TableSizes.{length-remove, length-removeKey}
+use Rattle.decide.proofs.GraftSendGraft.{push-gains, length-replace}
 use Rattle.decide.proofs.Broadcast.{cached-sizes, holds-put, lazy-field, lazy-rooms, lazy-actions}
 use Rattle.decide.proofs.Broadcast as Taken
-use Rattle.decide.proofs.GraftAndTimer as Control
+use Rattle.decide.proofs.GraftSendGraft as Control
 use Rattle.decide.proofs.PushLaws.{above-absent, absent-filter, marked-above, PushedTo, targets-once, targets-near, swarm-pushed, swarm-sizes, swarm-actions}
 
 -- Prune to one peer

@@ -21,9 +21,10 @@ use Rattle.decide.specs.SizesAfter.{newIds, knownMissing, knownTimer, ih
 use Rattle.decide.specs.ActionsAfter.{ihaveActions}
 use Rattle.lists.proofs.MapLaws.{cases, ascending-insert}
 use Rattle.lists.proofs.ListLaws.{has-insert}
-use Rattle.protocol.proofs.SaneParts.{ascending-insertKey}
+use Rattle.protocol.proofs.ConsistentTables.{ascending-insertKey}
 use Rattle.protocol.proofs.Walk.{walk-if}
-use Rattle.decide.proofs.Base.{length-insert, length-insertKey, if-on, if-both, if-same}
+use Rattle.lists.proofs.Branches.{if-on, if-both, if-same}
+use Rattle.decide.proofs.TableSizes.{length-insert, length-insertKey}
 
 -- new identifiers
 

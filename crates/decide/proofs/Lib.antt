@@ -1,10 +1,13 @@
-pub mod Base
+pub mod LengthLaws
+pub mod RoomLaws
+pub mod TableSizes
+pub mod SettledLaws
 pub mod RecordGrowthLaws
 pub mod PushLaws
-pub mod Evict
+pub mod UpDownEvict
 pub mod AnnounceDropped
 pub mod Dispatch
-pub mod GraftAndTimer
+pub mod GraftSendGraft
 pub mod IHave
 pub mod Broadcast
 pub mod Gossip

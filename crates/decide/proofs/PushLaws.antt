@@ -23,8 +23,8 @@ use Rattle.time_cache.proofs.CacheLaws.{eqb-sym}
 use Rattle.lists.proofs.ListLaws.{all-filter}
 use Rattle.protocol.proofs.Walk.{walk-sendEach, walk-noteForEach}
 use Rattle.protocol.proofs.RecordOnly.{RecordOnly, only-trans, only-noteDropped, only-sending}
-use Rattle.protocol.proofs.SaneParts.{negated, marked-near}
-use Rattle.decide.proofs.Base.{has-first, kth-used-other}
+use Rattle.protocol.proofs.ConsistentTables.{negated, marked-near}
+use Rattle.decide.proofs.RoomLaws.{has-first, kth-used-other}
 use Rattle.decide.proofs.RecordGrowthLaws.{only-sizes, noted-for, nextFlag, gains-now}
 
 -- peers that stand once

@@ -22,7 +22,7 @@ use Rattle.time_cache.proofs.CacheLaws.{eqb-sym}
 use Rattle.lists.proofs.Lists.{or-false-left, or-false-right, any-append}
 use Rattle.lists.proofs.ListLaws.{count-append}
 use Rattle.protocol.proofs.RecordOnly.{RecordOnly}
-use Rattle.decide.proofs.Base.{if-on, if-both, if-same}
+use Rattle.lists.proofs.Branches.{if-on, if-both, if-same}
 
 -- the sizes after a push differ in the record only
 pub only-sizes : (r r′ : Run) → RecordOnly r r′ → sizesOf (r′ .state) ≡ sizedRecorded (length (r′ .state .dropped)) (sizesOf (r .state))

@@ -1,4 +1,4 @@
--- A call sends only to neighbours and to the event's peer; so two room lists that agree there give the same run (item 5 of the brief).
+-- A call sends only to neighbours and to the event's peer; so two room lists that agree there give the same run.
 use Prim.Native.Nat.{ℕ, suc}
 use mathlib.Core.Path.{_≡_, refl, sym, subst, _∙_}
 use mathlib.Core.Bool.{Bool, true, false, not, _&&_, _||_}
@@ -28,9 +28,10 @@ use Rattle.decide.specs.ActionsAfter.{evictActions, dispatchAction, anno
 use Rattle.lists.proofs.MapLaws.{cases, true≢, and-right, all-head, all-tail, all-cons}
 use Rattle.lists.proofs.Lists.{or-left, or-right}
 use Rattle.lists.proofs.ListLaws.{all-append, all-imp, all-map, all-each}
-use Rattle.protocol.proofs.Sane.{Sane, whole-sane}
-use Rattle.protocol.proofs.KeptEvents.{known-announcers, kept-firstEvent}
-use Rattle.decide.proofs.Base.{if-on, if-same, first-state}
+use Rattle.protocol.proofs.Consistent.{Consistent, whole-consistent}
+use Rattle.protocol.proofs.WholeKept.{known-announcers, kept-firstEvent}
+use Rattle.lists.proofs.Branches.{if-on, if-same}
+use Rattle.decide.proofs.SettledLaws.{first-state}
 use Rattle.decide.proofs.PushLaws.{targets-near}
 use Rattle.decide.proofs.Dispatch.{near-pieces, queued-near}
 use Rattle.decide.proofs.EachEvent.{decide-actions}
@@ -204,7 +205,7 @@ alone s q = isNeighbour q (s .links) || false
 alone-all : (s : State) (ps : List ℕ) → all (λ q. isNeighbour q (s .links)) ps ≡ true → all (alone s) ps ≡ true
 alone-all s ps h = all-imp (λ q. isNeighbour q (s .links)) (alone s) (λ q k. or-none (isNeighbour q (s .links)) ∙ k) ps h
 
-module _ (hash : List ℕ → ℕ) (rooms : List Room) (s : State) (x : Sane s) where
+module _ (hash : List ℕ → ℕ) (rooms : List Room) (s : State) (x : Consistent s) where
   known-in : (g : ℕ → Bool) (id : ℕ) → all (λ h. isNeighbour (h .peer) (s .links) || g (h .peer)) (announcers id s) ≡ true
   known-in g id = all-imp (λ h. isNeighbour (h .peer) (s .links)) (λ h. isNeighbour (h .peer) (s .links) || g (h .peer)) (λ h k. or-left (isNeighbour (h .peer) (s .links)) (g (h .peer)) k) (announcers id s) (known-announcers id s x .near)
 
@@ -259,7 +260,7 @@ module _ (hash : List ℕ → ℕ) (rooms : List Room) (s : State) (x : Sane s) 
       append (alone s) _ _ (dispatching (alone s) s) (pushed (alone s) rooms _ _ _ (alone-all s (eagerTargets (s .settings .me) [] s) (targets-near (s .settings .me) [] s)))
   broadcast-in id content toNeighbors = firsts (alone s) rooms _ _ (alone-all s (eagerTargets (s .settings .me) [] s) (targets-near (s .settings .me) [] s))
 
--- the settled state has the same links, and is sane
+-- the settled state has the same links, and is consistent
 settled-links : (now : ℕ) (s : State) → settled now s .links ≡ s .links
 unfolding settled
 settled-links now s = if-on (λ (t : State). t .links) (s .init) _ _ ∙ if-same (s .init) refl refl
@@ -267,26 +268,26 @@ settled-links now s = if-on (λ (t : State). t .links) (s .init) _ _ ∙ if-same
 on-links : (g : ℕ → Bool) (xs : List Action) (l l′ : Links) → l ≡ l′ → Within (λ q. isNeighbour q l || g q) xs → Within (λ q. isNeighbour q l′ || g q) xs
 on-links g xs l l′ e h = subst (λ (m : Links). Within (λ q. isNeighbour q m || g q) xs) e h
 
-settled-sane : (now : ℕ) (s : State) (c : Counts) → Sane s → Sane (settled now s)
-settled-sane now s c x = rw (first-state now (begin s c []) (x .core)) at (kept-firstEvent now (begin s c []) .sane x)
+settled-consistent : (now : ℕ) (s : State) (c : Counts) → Consistent s → Consistent (settled now s)
+settled-consistent now s c x = rw (first-state now (begin s c []) (x .core)) at (kept-firstEvent now (begin s c []) .consistent x)
 
 module _ (hash : List ℕ → ℕ) where
-  calls-in : (rooms : List Room) (now : ℕ) (e : Event) (s : State) (c : Counts) → Sane s → Within (reached s e) (actionsAfter hash rooms now e s)
+  calls-in : (rooms : List Room) (now : ℕ) (e : Event) (s : State) (c : Counts) → Consistent s → Within (reached s e) (actionsAfter hash rooms now e s)
   unfolding actionsAfter
   calls-in rooms now (Received p m) s c x =
-      append (near s p) _ _ (settling (near s p) s) (on-links (λ q. eqb q p) (messageActions hash rooms p m (settled now s)) (settled now s .links) (s .links) (settled-links now s) (message-in hash rooms (settled now s) (settled-sane now s c x) p m))
+      append (near s p) _ _ (settling (near s p) s) (on-links (λ q. eqb q p) (messageActions hash rooms p m (settled now s)) (settled now s .links) (s .links) (settled-links now s) (message-in hash rooms (settled now s) (settled-consistent now s c x) p m))
   calls-in rooms now (Broadcast content scope) s c x =
       append (alone s) _ _ (settling (alone s) s)
-      (branch (alone s) (ltb (s .settings .maxMessageSize) (gossipSize (length content) scope)) [] _ (nil (alone s)) (on-links (λ q. false) (broadcastActions rooms (hash content) content scope (settled now s)) (settled now s .links) (s .links) (settled-links now s) (broadcast-in hash rooms (settled now s) (settled-sane now s c x) (hash content) content scope)))
+      (branch (alone s) (ltb (s .settings .maxMessageSize) (gossipSize (length content) scope)) [] _ (nil (alone s)) (on-links (λ q. false) (broadcastActions rooms (hash content) content scope (settled now s)) (settled now s .links) (s .links) (settled-links now s) (broadcast-in hash rooms (settled now s) (settled-consistent now s c x) (hash content) content scope)))
   calls-in rooms now (Fired t) s c x =
-      append (alone s) _ _ (settling (alone s) s) (on-links (λ q. false) (timerActions hash rooms t (settled now s)) (settled now s .links) (s .links) (settled-links now s) (timer-in hash rooms (settled now s) (settled-sane now s c x) t))
+      append (alone s) _ _ (settling (alone s) s) (on-links (λ q. false) (timerActions hash rooms t (settled now s)) (settled now s .links) (s .links) (settled-links now s) (timer-in hash rooms (settled now s) (settled-consistent now s c x) t))
   calls-in rooms now (Up p) s c x = nil (reached s (Up p))
   calls-in rooms now (Down p) s c x = nil (reached s (Down p))
 
   -- a call sends only to neighbours and to the event's peer
   pub sends-near : (rooms : List Room) (now : ℕ) (e : Event) (s : State) (c : Counts) → whole s ≡ true → (p : ℕ) → sentTo p (handle hash now e (begin s c rooms) .actions) ≡ true → reached s e p ≡ true
   sends-near rooms now e s c w p h =
-      sent-in (reached s e) p (actionsAfter hash rooms now e s) (calls-in rooms now e s c (whole-sane s w)) (rw (decide-actions hash now e s c rooms w) at h)
+      sent-in (reached s e) p (actionsAfter hash rooms now e s) (calls-in rooms now e s c (whole-consistent s w)) (rw (decide-actions hash now e s c rooms w) at h)
 
   -- two room lists that agree at the neighbours and at the event's peer give the same run, but for the rooms left
   pub same-run : (now : ℕ) (e : Event) (s : State) (c : Counts) (rooms rooms′ : List Room) → whole s ≡ true → AgreeOn (reached s e) rooms′ rooms →

@@ -23,7 +23,7 @@ use Rattle.protocol.specs.Handle.{firstEvent, countMessage, ifNeighbour, onTime
 use Rattle.decide.specs.Rooms.{kthTaken}
 use Rattle.lists.proofs.MapLaws.{cases}
 use Rattle.lists.proofs.Lists.{any-left, any-right}
-use Rattle.decide.proofs.Base.{has-first, kth-used-same, kth-used-other}
+use Rattle.decide.proofs.RoomLaws.{has-first, kth-used-same, kth-used-other}
 
 -- the same run with other rooms left
 abbrev pub withRooms : List Room → Run → Run

@@ -20,9 +20,9 @@ use Rattle.protocol.specs.Answer.{Call, Answer, refuse, accept, askWhole
 use Rattle.protocol.specs.Calls.{stateAfter, countsAfter, prepend, runCalls}
 use Rattle.protocol.specs.Demand3.{byEvent, upAfterCall, upAfter, toldUp, tellsDown, took, isOf, fired, HoldsAfter, Demand3}
 use Rattle.lists.proofs.MapLaws.{cases, true≢, and-left}
-use Rattle.protocol.proofs.Sentence1.{member-marked, one-of, neither-of}
+use Rattle.protocol.proofs.StepNeighbours.{member-marked, one-of, neither-of}
 use Rattle.protocol.proofs.Accepted.{ask-cases}
-use Rattle.protocol.proofs.Trace.{Flagged, Stands, Settled, queuedNow, recordedNow, stillThere, Does, Inv, inv-on}
+use Rattle.protocol.proofs.Invariant.{Flagged, Stands, Settled, queuedNow, recordedNow, stillThere, Does, Inv, inv-on}
 use Rattle.protocol.proofs.Step.{ranOn, step}
 
 -- the lists that stand

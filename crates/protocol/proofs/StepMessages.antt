@@ -23,16 +23,16 @@ use Rattle.protocol.specs.Answer.{accept}
 use Rattle.protocol.specs.Demand3.{byEvent, isDown, tellsDown, isEmit, tookGossip, tookBroadcast, tookByEvent, took, isOf}
 use Rattle.lists.proofs.MapLaws.{cases, and-left, lookup-insert-other}
 use Rattle.time_cache.proofs.CacheLaws.{eqb-sym}
-use Rattle.protocol.proofs.LinkLaws.{keeps-firstEvent}
+use Rattle.protocol.proofs.LinkSteps.{keeps-firstEvent}
 use Rattle.lists.proofs.Lists.{any-append, any-right, any-one, any-filter}
-use Rattle.protocol.proofs.Trace.{Stands, Settled, Kept, stillThere, takenIn}
+use Rattle.protocol.proofs.Invariant.{Stands, Settled, Kept, stillThere, takenIn}
 use Rattle.protocol.proofs.Walk.{walk-if, walk-firstEvent, walk-eagerPush, walk-afterCache, walk-onDuplicate, walk-onPrune, walk-onGraft, walk-onIHave, walk-onSendGraftTimer}
 use Rattle.protocol.proofs.StepRecord.{sound-first}
-use Rattle.protocol.proofs.Grafts.{Shrinks, shrinks-trans, shrinks-steps}
+use Rattle.protocol.proofs.GraftSteps.{Shrinks, shrinks-trans, shrinks-steps}
 use Rattle.protocol.proofs.StepGrafts.{shrinks-first}
-use Rattle.protocol.proofs.Reach.{Grows, grows-refl, grows-trans, grows-act, grows-steps, grows-sending, grows-lazyPush, grows-announces, grows-leaves, grows-grafts, Got, wentOut, cameBack, inQueue, inRecord, got-grows, got-settled, stands-got, alike}
-use Rattle.protocol.proofs.Pushed.{got-dispatch, cached-dispatch, got-announceDropped, cached-announceDropped}
-use Rattle.protocol.proofs.Taken.{got-takeIn, got-broadcast}
+use Rattle.protocol.proofs.ReachSteps.{Grows, grows-refl, grows-trans, grows-act, grows-steps, grows-sending, grows-lazyPush, grows-announces, grows-leaves, grows-grafts, Got, wentOut, cameBack, inQueue, inRecord, got-grows, got-settled, stands-got, alike}
+use Rattle.protocol.proofs.Pushes.{got-dispatch, cached-dispatch, got-announceDropped, cached-announceDropped}
+use Rattle.protocol.proofs.TakenIn.{got-takeIn, got-broadcast}
 
 -- as `Grows`, but of one identifier's place in the cache
 record GrowsAt (id : ℕ) (r r′ : Run) : Type 0 where

@@ -17,10 +17,10 @@ use Rattle.protocol.specs.Handle.{firstEvent, countMessage, ifNeighbour,
 use Rattle.protocol.specs.Demand3.{dispatchTick, announceTick, isTick, schedulesTick, firesTick}
 use Rattle.lists.proofs.MapLaws.{true≢}
 use Rattle.lists.proofs.Lists.{or-right}
-use Rattle.protocol.proofs.Trace.{Within, Flagged}
+use Rattle.protocol.proofs.Invariant.{Within, Flagged}
 use Rattle.protocol.proofs.Walk.{walk-if, walk-dispatchTo, walk-firstEvent, walk-onGossip, walk-broadcast, walk-onPrune, walk-onGraft, walk-onIHave, walk-onSendGraftTimer}
-use Rattle.protocol.proofs.Records.{Sound, sound-refl, sound-trans, sound-steps, sound-sending, sound-caches, sound-announces, sound-leaves, sound-grafts, sound-emits, sound-evict, within-filter, Announces, announces-dropped, sum-on}
-use Rattle.protocol.proofs.Pushed.{queue-dispatch}
+use Rattle.protocol.proofs.RecordSteps.{Sound, sound-refl, sound-trans, sound-steps, sound-sending, sound-caches, sound-announces, sound-leaves, sound-grafts, sound-emits, sound-evict, within-filter, Announces, announces-dropped, sum-on}
+use Rattle.protocol.proofs.Pushes.{queue-dispatch}
 
 pub record Timers (e : Event) (r r′ : Run) : Type 0 where
   pub settings : r′ .state .settings ≡ r .state .settings

@@ -17,12 +17,12 @@ use Rattle.protocol.specs.Run.{Run, withState, act}
 use Rattle.protocol.specs.Push.{scheduleDispatch, eagerTargets, eagerPush, lazyPush}
 use Rattle.protocol.specs.Gossips.{markReceived, cacheAt, graftedFor, withFirst, setFirst, pushOn, takeIn, broadcastTo}
 use Rattle.lists.proofs.MapLaws.{cases, true≢, lookup-insert-same}
-use Rattle.protocol.proofs.Sentence1.{member-marked}
+use Rattle.protocol.proofs.StepNeighbours.{member-marked}
 use Rattle.protocol.proofs.Walk.{walk-eagerPush, walk-settle}
 use Rattle.protocol.proofs.RecordOnly.{RecordOnly, only-sending}
-use Rattle.protocol.proofs.Grafts.{shrinks-setFirst}
-use Rattle.protocol.proofs.Reach.{Grows, grows-steps, grows-sending, grows-lazyPush, Got, got-grows}
-use Rattle.protocol.proofs.Pushed.{got-pushTo, got-lazyPush, member-filter}
+use Rattle.protocol.proofs.GraftSteps.{shrinks-setFirst}
+use Rattle.protocol.proofs.ReachSteps.{Grows, grows-steps, grows-sending, grows-lazyPush, Got, got-grows}
+use Rattle.protocol.proofs.Pushes.{got-pushTo, got-lazyPush, member-filter}
 
 member-keys : {A : Type 0} (p : ℕ) (m : Map A) → member p (keys m) ≡ has p m
 unfolding member lookup

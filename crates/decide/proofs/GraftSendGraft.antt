@@ -1,4 +1,4 @@
--- Sizes and actions of Prune, Graft, SendGraft and IHave, of the state before.
+-- Sizes and actions of Graft and SendGraft, of the state before.
 use Prim.Native.Nat.{ℕ, suc, _+_, _-_, min, _≤_, _<_}
 use mathlib.Core.Path.{_≡_, refl, sym, ap, _∙_}
 use mathlib.Core.Bool.{Bool, true, false, _||_}
@@ -25,10 +25,12 @@ use Rattle.decide.specs.RecordGrowth.{cachedIn, eligible, peerGain, gain
 use Rattle.decide.specs.SizesAfter.{replySizes, graftSizes, unmarkedSizes, askSizes, sendGraftSizes}
 use Rattle.decide.specs.ActionsAfter.{replyActions, graftActions, askActions, sendGraftActions}
 use Rattle.lists.proofs.MapLaws.{cases, true≢}
-use Rattle.protocol.proofs.Sane.{CoreOf, Sane}
-use Rattle.protocol.proofs.SaneParts.{wider-mark}
-use Rattle.protocol.proofs.SaneSteps.{kept-unmark}
-use Rattle.decide.proofs.Base.{length-insert, length-remove, length-removeKey, has-first, if-on, if-both}
+use Rattle.protocol.proofs.Consistent.{CoreOf, Consistent}
+use Rattle.protocol.proofs.ConsistentTables.{wider-mark}
+use Rattle.protocol.proofs.ConsistentSteps.{kept-unmark}
+use Rattle.lists.proofs.Branches.{if-on, if-both}
+use Rattle.decide.proofs.RoomLaws.{has-first}
+use Rattle.decide.proofs.TableSizes.{length-insert, length-remove, length-removeKey}
 use Rattle.decide.proofs.PushLaws.{swarm-sizes, swarm-actions}
 
 -- marks change no size
@@ -226,10 +228,10 @@ ask-sizes now id h hs r c e =
       expiry-withGraft id (now + r .state .settings .messageCacheRetention) h (get id (r .state .grafted)) (r .state .grafted) refl,
     ) refl
 
-core-unmark : (id : ℕ) (r : Run) → Sane (r .state) → Sane (unmark id r .state)
-core-unmark id r x = kept-unmark id r .sane x
+core-unmark : (id : ℕ) (r : Run) → Consistent (r .state) → Consistent (unmark id r .state)
+core-unmark id r x = kept-unmark id r .consistent x
 
-asked-sizes : (now id : ℕ) (hs : List Hop) (r : Run) → Sane (r .state) → announcers id (r .state) ≡ hs → sizesOf (askFirst now id hs (unmark id r) .state) ≡ askSizes id hs (r .state)
+asked-sizes : (now id : ℕ) (hs : List Hop) (r : Run) → Consistent (r .state) → announcers id (r .state) ≡ hs → sizesOf (askFirst now id hs (unmark id r) .state) ≡ askSizes id hs (r .state)
 unfolding askSizes
 asked-sizes now id [] r x e = unfold askFirst in (unmark-sizes id r (x .core .timersUp))
 asked-sizes now id (h ∷ hs) r x e =
@@ -239,7 +241,7 @@ asked-sizes now id (h ∷ hs) r x e =
     announced-unmark : (id : ℕ) (r : Run) → announcers id (unmark id r .state) ≡ announcers id (r .state)
     announced-unmark id r = unfold unmark in (unfold announcers in refl)
 
-pub sendGraft-sizes : (now id : ℕ) (r : Run) → Sane (r .state) → sizesOf (onSendGraftTimer now id r .state) ≡ sendGraftSizes id (r .state)
+pub sendGraft-sizes : (now id : ℕ) (r : Run) → Consistent (r .state) → sizesOf (onSendGraftTimer now id r .state) ≡ sendGraftSizes id (r .state)
 unfolding onSendGraftTimer sendGraftSizes
 sendGraft-sizes now id r x =
     if-on (λ (y : Run). sizesOf (y .state)) (holds id (r .state .received)) _ _

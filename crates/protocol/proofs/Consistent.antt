@@ -50,7 +50,7 @@ CoreOf s = Core (s .links) (s .queue) (s .dropped) (s .missing) (s .received) (s
 abbrev pub flagged : List Note → Bool → Type 0
 flagged ns flag = (isEmpty ns || flag) ≡ true
 
-pub record Sane (s : State) : Type 0 where
+pub record Consistent (s : State) : Type 0 where
   pub core : CoreOf s
   pub queueFlag : flagged (s .queue) (s .dispatchScheduled)
   pub recordFlag : flagged (s .dropped) (s .announceScheduled)
@@ -86,9 +86,9 @@ unfolding recordWithin
 of-within ns w =
     and-intro (all-each (λ n. leb (count (forPeer (n .peer)) ns) 256) (λ n. le-leb (count (forPeer (n .peer)) ns) 256 (w .each (n .peer))) ns) (le-leb (length ns) 4096 (w .inAll))
 
-pub whole-sane : (s : State) → whole s ≡ true → Sane s
+pub whole-consistent : (s : State) → whole s ≡ true → Consistent s
 unfolding whole keysOnce neighbours flagsStand
-whole-sane s h = record {
+whole-consistent s h = record {
   core = record {
     linksUp = search (and-left, and-right) depth 20;
     missingUp = search (and-left, and-right) depth 20;
@@ -120,9 +120,9 @@ pub whole-fits : (s : State) → whole s ≡ true → fits s ≡ true
 unfolding whole inRange
 whole-fits s h = search (and-left, and-right) depth 25
 
-pub sane-whole : (s : State) → Sane s → Ranged s → fits s ≡ true → whole s ≡ true
+pub consistent-whole : (s : State) → Consistent s → Ranged s → fits s ≡ true → whole s ≡ true
 unfolding whole inRange keysOnce neighbours flagsStand
-sane-whole s x r f =
+consistent-whole s x r f =
     let c = x .core in
     infixed
     (and-intro (and-intro (and-intro (and-intro (r .size) (r .durations)) (r .threshold)) (r .limits)) f)

@@ -24,20 +24,20 @@ use Rattle.lists.proofs.ListLaws.{all-append, all-filter, all-remove-entry}
 use Rattle.protocol.proofs.Walk.{Sending, Steps, walk-if}
 use Rattle.protocol.proofs.RecordOnly.{only-noteEach, only-noteOne, only-schedule}
 use Rattle.time_cache.proofs.Timely.{Timely, timely-put, timely-replace, timely-expire, expire-is-filter}
-use Rattle.protocol.proofs.Sane.{Within, Core, CoreOf, Sane, byNeighbour, flagged}
-use Rattle.protocol.proofs.SaneParts.{Wider, wider-mark, ascending-mark, wider-notes, wider-announcers, wider-grafts, marked-near, near-noteFor, noted-more, within-more, ascending-insertKey, ascending-removeKey, grafted-get, grafts-replace}
+use Rattle.protocol.proofs.Consistent.{Within, Core, CoreOf, Consistent, byNeighbour, flagged}
+use Rattle.protocol.proofs.ConsistentTables.{Wider, wider-mark, ascending-mark, wider-notes, wider-announcers, wider-grafts, marked-near, near-noteFor, noted-more, within-more, ascending-insertKey, ascending-removeKey, grafted-get, grafts-replace}
 
 -- the relation between a run before and a run after
 pub record Kept (r r′ : Run) : Type 0 where
   pub settings : r′ .state .settings ≡ r .state .settings
   pub limits : r′ .state .limits ≡ r .state .limits
-  pub sane : Sane (r .state) → Sane (r′ .state)
+  pub consistent : Consistent (r .state) → Consistent (r′ .state)
 
 pub kept-refl : (r : Run) → Kept r r
-kept-refl r = record { settings = refl; limits = refl; sane = λ h. h }
+kept-refl r = record { settings = refl; limits = refl; consistent = λ h. h }
 
 pub kept-trans : (a b c : Run) → Kept a b → Kept b c → Kept a c
-kept-trans a b c x y = record { settings = y .settings ∙ x .settings; limits = y .limits ∙ x .limits; sane = λ h. y .sane (x .sane h) }
+kept-trans a b c x y = record { settings = y .settings ∙ x .settings; limits = y .limits ∙ x .limits; consistent = λ h. y .consistent (x .consistent h) }
 
 infixr 4 _⨾_
 _⨾_ : {a b c : Run} → Kept a b → Kept b c → Kept a c
@@ -119,10 +119,10 @@ noted-each p (h ∷ hs) r =
     let b = noted-each p hs (noteOne p h r) in
     record { core = λ n c. b .core (rw (only-noteOne p h r .links) n) (a .core n c) }
 
-pub announce-sane : (r : Run) → CoreOf (r .state) → flagged (r .state .queue) (r .state .dispatchScheduled) → Sane (scheduleAnnounceDropped r .state)
+pub announce-consistent : (r : Run) → CoreOf (r .state) → flagged (r .state .queue) (r .state .dispatchScheduled) → Consistent (scheduleAnnounceDropped r .state)
 unfolding scheduleAnnounceDropped act
-announce-sane r c q =
-    by-test (λ x. Sane (x .state)) (isEmpty (r .state .dropped) || r .state .announceScheduled) _ _
+announce-consistent r c q =
+    by-test (λ x. Consistent (x .state)) (isEmpty (r .state .dropped) || r .state .announceScheduled) _ _
     (λ t. record { core = c; queueFlag = q; recordFlag = t })
     (λ t. record { core = c; queueFlag = q; recordFlag = or-right (isEmpty (r .state .dropped)) true refl })
 
@@ -135,17 +135,17 @@ kept-noteDropped p hs r =
     record {
       settings = b .settings ∙ a .settings;
       limits = b .limits ∙ a .limits;
-      sane = λ x. announce-sane (noteEach p hs r) (noted-each p hs r .core n (x .core)) (rw (a .queue, a .dispatchScheduled) (x .queueFlag));
+      consistent = λ x. announce-consistent (noteEach p hs r) (noted-each p hs r .core n (x .core)) (rw (a .queue, a .dispatchScheduled) (x .queueFlag));
     })
     (λ n. kept-refl r)
 
 pub kept-send : (p : ℕ) (m : Message) (r : Run) → Kept r (send p m r)
 unfolding send
-kept-send p m r = record { settings = refl; limits = refl; sane = λ x. x }
+kept-send p m r = record { settings = refl; limits = refl; consistent = λ x. x }
 
 pub kept-act : (a : Action) (r : Run) → Kept r (act a r)
 unfolding act
-kept-act a r = record { settings = refl; limits = refl; sane = λ x. x }
+kept-act a r = record { settings = refl; limits = refl; consistent = λ x. x }
 
 pub kept-sending : Sending Kept
 kept-sending = record { stays = kept-refl; follows = kept-trans; sends = kept-send; notes = kept-noteDropped }
@@ -153,10 +153,10 @@ kept-sending = record { stays = kept-refl; follows = kept-trans; sends = kept-se
 -- the queue
 
 -- a dispatch timer is scheduled, so any queue may stand
-pub dispatch-sane : (r : Run) → CoreOf (r .state) → flagged (r .state .dropped) (r .state .announceScheduled) → Sane (scheduleDispatch r .state)
+pub dispatch-consistent : (r : Run) → CoreOf (r .state) → flagged (r .state .dropped) (r .state .announceScheduled) → Consistent (scheduleDispatch r .state)
 unfolding scheduleDispatch act
-dispatch-sane r c d =
-    by-test (λ x. Sane (x .state)) (r .state .dispatchScheduled) _ _
+dispatch-consistent r c d =
+    by-test (λ x. Consistent (x .state)) (r .state .dispatchScheduled) _ _
     (λ t. record { core = c; queueFlag = or-right (isEmpty (r .state .queue)) (r .state .dispatchScheduled) t; recordFlag = d })
     (λ t. record { core = c; queueFlag = or-right (isEmpty (r .state .queue)) true refl; recordFlag = d })
 
@@ -168,11 +168,11 @@ pub dispatch-limits : (r : Run) → scheduleDispatch r .state .limits ≡ r .sta
 unfolding scheduleDispatch act
 dispatch-limits r = by-test (λ x. x .state .limits ≡ r .state .limits) (r .state .dispatchScheduled) _ _ (λ t. refl) (λ t. refl)
 
-pub kept-queued : (q : List Note) (r : Run) → (Sane (r .state) → all (byNeighbour (r .state .links)) q ≡ true) → Kept r (scheduleDispatch (withState (withQueue q (r .state)) r))
+pub kept-queued : (q : List Note) (r : Run) → (Consistent (r .state) → all (byNeighbour (r .state .links)) q ≡ true) → Kept r (scheduleDispatch (withState (withQueue q (r .state)) r))
 kept-queued q r a = record {
   settings = dispatch-settings (withState (withQueue q (r .state)) r);
   limits = dispatch-limits (withState (withQueue q (r .state)) r);
-  sane = λ x. dispatch-sane (withState (withQueue q (r .state)) r) (core-queue q (r .state) (a x) (x .core)) (x .recordFlag);
+  consistent = λ x. dispatch-consistent (withState (withQueue q (r .state)) r) (core-queue q (r .state) (a x) (x .core)) (x .recordFlag);
 }
 
 pub kept-lazyPush : (id round sender : ℕ) (r : Run) → Kept r (lazyPush id round sender r)
@@ -193,7 +193,7 @@ unfolding updateLinks
 kept-links f u w r = record {
   settings = refl;
   limits = refl;
-  sane = λ x. record { core = core-links (f (r .state .links)) (r .state) (u (r .state .links) (x .core .linksUp)) (w (r .state .links)) (x .core); queueFlag = x .queueFlag; recordFlag = x .recordFlag };
+  consistent = λ x. record { core = core-links (f (r .state .links)) (r .state) (u (r .state .links) (x .core .linksUp)) (w (r .state .links)) (x .core); queueFlag = x .queueFlag; recordFlag = x .recordFlag };
 }
 
 pub kept-eager : (p : ℕ) (r : Run) → Kept r (updateLinks (addEager p) r)
@@ -207,7 +207,7 @@ unfolding markReceived
 kept-received now id r = record {
   settings = refl;
   limits = refl;
-  sane = λ x. record { core = core-received _ (r .state) (timely-put id tt _ (r .state .received) (x .core .receivedOn)) (x .core); queueFlag = x .queueFlag; recordFlag = x .recordFlag };
+  consistent = λ x. record { core = core-received _ (r .state) (timely-put id tt _ (r .state .received) (x .core .receivedOn)) (x .core); queueFlag = x .queueFlag; recordFlag = x .recordFlag };
 }
 
 pub kept-cacheAt : (now id : ℕ) (content : List ℕ) (round : ℕ) (r : Run) → Kept r (cacheAt now id content round r)
@@ -215,11 +215,11 @@ unfolding cacheAt
 kept-cacheAt now id content round r = record {
   settings = refl;
   limits = refl;
-  sane = λ x. record { core = core-cache _ (r .state) (timely-put id _ _ (r .state .cache) (x .core .cacheOn)) (x .core); queueFlag = x .queueFlag; recordFlag = x .recordFlag };
+  consistent = λ x. record { core = core-cache _ (r .state) (timely-put id _ _ (r .state .cache) (x .core .cacheOn)) (x .core); queueFlag = x .queueFlag; recordFlag = x .recordFlag };
 }
 
 -- a value of the grafted table is replaced, its peers kept
-replaced : (id : ℕ) (g v : Grafts) (r : Run) → get id (r .state .grafted) ≡ some g → v .peers ≡ g .peers → Sane (r .state) →
+replaced : (id : ℕ) (g v : Grafts) (r : Run) → get id (r .state .grafted) ≡ some g → v .peers ≡ g .peers → Consistent (r .state) →
     Core (r .state .links) (r .state .queue) (r .state .dropped) (r .state .missing) (r .state .received) (replace id v (r .state .grafted)) (r .state .cache) (r .state .graftTimers)
 replaced id g v r h e x =
     core-grafted (replace id v (r .state .grafted)) (r .state) (timely-replace id v (r .state .grafted) (x .core .graftedOn))
@@ -231,7 +231,7 @@ kept-first id h none r e = kept-refl r
 kept-first id h (some g) r e = record {
   settings = refl;
   limits = refl;
-  sane = λ x. record { core = replaced id g (record { first = some h; kept = g .kept; peers = g .peers }) r e refl x; queueFlag = x .queueFlag; recordFlag = x .recordFlag };
+  consistent = λ x. record { core = replaced id g (record { first = some h; kept = g .kept; peers = g .peers }) r e refl x; queueFlag = x .queueFlag; recordFlag = x .recordFlag };
 }
 
 pub kept-setFirst : (id sender round : ℕ) (r : Run) → Kept r (setFirst id sender round r)
@@ -244,7 +244,7 @@ kept-kept id p none r e = kept-refl r
 kept-kept id p (some g) r e = record {
   settings = refl;
   limits = refl;
-  sane = λ x. record { core = replaced id g (record { first = g .first; kept = some p; peers = g .peers }) r e refl x; queueFlag = x .queueFlag; recordFlag = x .recordFlag };
+  consistent = λ x. record { core = replaced id g (record { first = g .first; kept = some p; peers = g .peers }) r e refl x; queueFlag = x .queueFlag; recordFlag = x .recordFlag };
 }
 
 pub kept-keep : (id p : ℕ) (r : Run) → Kept r (setKept id p r)
@@ -256,7 +256,7 @@ unfolding forgetMissing
 kept-forget id r = record {
   settings = refl;
   limits = refl;
-  sane = λ x.
+  consistent = λ x.
       let c = core-timers _ (r .state) (ascending-removeKey id (r .state .graftTimers) (x .core .timersUp)) (x .core) in
       let m = core-missing _ (r .state) (ascending-remove id (r .state .missing) (x .core .missingUp)) (all-remove-entry (announcersWhole (r .state .links)) id (r .state .missing) (x .core .announcing)) (x .core) in
       record {
@@ -267,7 +267,7 @@ kept-forget id r = record {
 }
 
 pub kept-counts : (c : Counts) (r : Run) → Kept r (withCounts c r)
-kept-counts c r = record { settings = refl; limits = refl; sane = λ x. x }
+kept-counts c r = record { settings = refl; limits = refl; consistent = λ x. x }
 
 pub kept-scheduleGraft : (id : ℕ) (r : Run) → Kept r (scheduleGraft id r)
 unfolding scheduleGraft act
@@ -276,7 +276,7 @@ kept-scheduleGraft id r =
     (record {
       settings = refl;
       limits = refl;
-      sane = λ x. record { core = core-timers _ (r .state) (ascending-insertKey id (r .state .graftTimers) (x .core .timersUp)) (x .core); queueFlag = x .queueFlag; recordFlag = x .recordFlag };
+      consistent = λ x. record { core = core-timers _ (r .state) (ascending-insertKey id (r .state .graftTimers) (x .core .timersUp)) (x .core); queueFlag = x .queueFlag; recordFlag = x .recordFlag };
     })
 
 pub kept-unmark : (id : ℕ) (r : Run) → Kept r (unmark id r)
@@ -284,7 +284,7 @@ unfolding unmark
 kept-unmark id r = record {
   settings = refl;
   limits = refl;
-  sane = λ x. record { core = core-timers _ (r .state) (ascending-removeKey id (r .state .graftTimers) (x .core .timersUp)) (x .core); queueFlag = x .queueFlag; recordFlag = x .recordFlag };
+  consistent = λ x. record { core = core-timers _ (r .state) (ascending-removeKey id (r .state .graftTimers) (x .core .timersUp)) (x .core); queueFlag = x .queueFlag; recordFlag = x .recordFlag };
 }
 
 grafts-later : (l : Links) (now : ℕ) (c : Cache Grafts) → Timely c → all (graftsWhole l) (c .entries) ≡ true → all (graftsWhole l) (expireUntil now c .entries) ≡ true
@@ -312,11 +312,11 @@ unfolding onEvictCacheTimer evict act
 kept-evict now r = record {
   settings = refl;
   limits = refl;
-  sane = λ x. record { core = core-evict now (r .state) (x .core); queueFlag = x .queueFlag; recordFlag = x .recordFlag };
+  consistent = λ x. record { core = core-evict now (r .state) (x .core); queueFlag = x .queueFlag; recordFlag = x .recordFlag };
 }
 
 pub kept-begins : (r : Run) → Kept r (withState (withInit true (r .state)) r)
-kept-begins r = record { settings = refl; limits = refl; sane = λ x. record { core = x .core; queueFlag = x .queueFlag; recordFlag = x .recordFlag } }
+kept-begins r = record { settings = refl; limits = refl; consistent = λ x. record { core = x .core; queueFlag = x .queueFlag; recordFlag = x .recordFlag } }
 
 pub kept-steps : Steps Kept
 kept-steps = record {

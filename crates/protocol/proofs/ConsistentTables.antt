@@ -21,7 +21,7 @@ use Rattle.lists.proofs.MapLaws.{cases, true≢, and-left, and-right, and-intro
 use Rattle.time_cache.proofs.CacheLaws.{eqb-sym}
 use Rattle.lists.proofs.Lists.{or-right, or-false-left, or-false-right, any-append}
 use Rattle.lists.proofs.ListLaws.{all-imp, all-append, all-map, all-insert-entry, all-lookup, count-append, count-filter, any-filter-false, has-insert}
-use Rattle.protocol.proofs.Sane.{Within, byNeighbour}
+use Rattle.protocol.proofs.Consistent.{Within, byNeighbour}
 
 pub negated : {b : Bool} → b ≡ false → not b ≡ true
 negated e = rw e

@@ -27,17 +27,17 @@ use Rattle.postcard.specs.Decode.{Decoded, decoded, faulty, decodeEvent}
 use Rattle.protocol.specs.Calls.{stateAfter, countsAfter, prepend, runCalls}
 use Rattle.lists.proofs.MapLaws.{cases, true≢, and-left, and-right, and-intro, all-head, all-tail, all-cons, ascending-insert, ascending-remove}
 use Rattle.protocol.proofs.Accepted.{ask-cases}
-use Rattle.protocol.proofs.FreshWhole.{fresh-whole}
+use Rattle.protocol.proofs.CreatedWhole.{fresh-whole}
 use Rattle.postcard.proofs.DecodeFaults.{faultOf, decode-faults}
 use Rattle.lists.proofs.Lists.{or-right}
 use Rattle.lists.proofs.ListLaws.{all-append, all-filter, all-insert-entry, all-remove-entry, all-lookup}
 use Rattle.protocol.proofs.Walk.{walk-if, walk-dispatchTo, walk-firstEvent, walk-onGossip, walk-broadcast, walk-onPrune, walk-onGraft}
 use Rattle.protocol.proofs.RecordOnly.{RecordOnly, only-schedule, only-sending}
 use Rattle.time_cache.proofs.Timely.{timely-put, timely-replace}
-use Rattle.protocol.proofs.Sane.{Core, CoreOf, Sane, byNeighbour, flagged, whole-sane, whole-ranged, sane-whole}
-use Rattle.protocol.proofs.SaneParts.{wider-insert, wider-mark, noted-filter, noted-younger, all-younger, all-oldest, within-filter, within-younger, to-announcers, of-announcers, announcers-add, once-tail, grafted-get, grafts-replace, grafts-put, grafted-insert, grafted-one}
-use Rattle.protocol.proofs.SaneDown.{sane-down}
-use Rattle.protocol.proofs.SaneSteps.{Kept, kept-refl, kept-trans, by-test, core-queue, core-missing, core-grafted, announce-sane, kept-links, kept-eager, kept-act, kept-send, kept-cacheAt, kept-counts, kept-scheduleGraft, kept-unmark, kept-evict, kept-sending, kept-steps}
+use Rattle.protocol.proofs.Consistent.{Core, CoreOf, Consistent, byNeighbour, flagged, whole-consistent, whole-ranged, consistent-whole}
+use Rattle.protocol.proofs.ConsistentTables.{wider-insert, wider-mark, noted-filter, noted-younger, all-younger, all-oldest, within-filter, within-younger, to-announcers, of-announcers, announcers-add, once-tail, grafted-get, grafts-replace, grafts-put, grafted-insert, grafted-one}
+use Rattle.protocol.proofs.ConsistentDown.{consistent-down}
+use Rattle.protocol.proofs.ConsistentSteps.{Kept, kept-refl, kept-trans, by-test, core-queue, core-missing, core-grafted, announce-consistent, kept-links, kept-eager, kept-act, kept-send, kept-cacheAt, kept-counts, kept-scheduleGraft, kept-unmark, kept-evict, kept-sending, kept-steps}
 
 infixr 4 _⨾_
 _⨾_ : {a b c : Run} → Kept a b → Kept b c → Kept a c
@@ -57,7 +57,7 @@ known-of l id m (some hs) e a =
     let k = to-announcers l (entry id hs) (all-lookup (announcersWhole l) id hs m a e) in
     record { apiece = k .apiece; near = k .near }
 
-pub known-announcers : (id : ℕ) (s : State) → Sane s → Known (s .links) (announcers id s)
+pub known-announcers : (id : ℕ) (s : State) → Consistent s → Known (s .links) (announcers id s)
 unfolding announcers
 known-announcers id s x = known-of (s .links) id (s .missing) (lookup id (s .missing)) refl (x .core .announcing)
 
@@ -66,7 +66,7 @@ unfolding announce
 kept-announce id h r n = record {
   settings = refl;
   limits = refl;
-  sane = λ x.
+  consistent = λ x.
       let k = known-announcers id (r .state) x in
       record {
         core = core-missing _ (r .state) (ascending-insert id _ (r .state .missing) (x .core .missingUp))
@@ -107,7 +107,7 @@ kept-onIHave sender (h ∷ hs) r n =
 
 -- SendGraft
 
-core-leave : (id : ℕ) (h : Hop) (hs : List Hop) (s : State) → announcers id s ≡ h ∷ hs → Sane s →
+core-leave : (id : ℕ) (h : Hop) (hs : List Hop) (s : State) → announcers id s ≡ h ∷ hs → Consistent s →
     Core (s .links) (s .queue) (s .dropped) (if isEmpty hs then remove id (s .missing) else insert id hs (s .missing)) (s .received) (s .grafted) (s .cache) (s .graftTimers)
 core-leave id h [] s e x = core-missing _ s (ascending-remove id (s .missing) (x .core .missingUp)) (all-remove-entry (announcersWhole (s .links)) id (s .missing) (x .core .announcing)) (x .core)
 core-leave id h (i ∷ hs) s e x =
@@ -121,10 +121,10 @@ unfolding leaveAnnouncers
 kept-leave id h hs r e = record {
   settings = refl;
   limits = refl;
-  sane = λ x. record { core = core-leave id h hs (r .state) e x; queueFlag = x .queueFlag; recordFlag = x .recordFlag };
+  consistent = λ x. record { core = core-leave id h hs (r .state) e x; queueFlag = x .queueFlag; recordFlag = x .recordFlag };
 }
 
-core-withGraft : (id expires : ℕ) (h : Hop) (o : Option Grafts) (s : State) → get id (s .grafted) ≡ o → isNeighbour (h .peer) (s .links) ≡ true → Sane s →
+core-withGraft : (id expires : ℕ) (h : Hop) (o : Option Grafts) (s : State) → get id (s .grafted) ≡ o → isNeighbour (h .peer) (s .links) ≡ true → Consistent s →
     Core (s .links) (s .queue) (s .dropped) (s .missing) (s .received) (withGraft id expires h o (s .grafted)) (s .cache) (s .graftTimers)
 unfolding withGraft
 core-withGraft id expires h none s e n x =
@@ -134,12 +134,12 @@ core-withGraft id expires h (some g) s e n x =
     core-grafted _ s (timely-replace id _ (s .grafted) (x .core .graftedOn))
     (grafts-replace (s .links) id _ (s .grafted) (grafted-insert (s .links) (h .peer) _ (g .peers) n (grafted-get (s .links) id g (s .grafted) (x .core .grafting) e)) (x .core .grafting)) (x .core)
 
-kept-noteGraft : (now id : ℕ) (h : Hop) (r : Run) → (Sane (r .state) → isNeighbour (h .peer) (r .state .links) ≡ true) → Kept r (noteGraft now id h r)
+kept-noteGraft : (now id : ℕ) (h : Hop) (r : Run) → (Consistent (r .state) → isNeighbour (h .peer) (r .state .links) ≡ true) → Kept r (noteGraft now id h r)
 unfolding noteGraft
 kept-noteGraft now id h r n = record {
   settings = refl;
   limits = refl;
-  sane = λ x. record { core = core-withGraft id _ h (get id (r .state .grafted)) (r .state) refl (n x) x; queueFlag = x .queueFlag; recordFlag = x .recordFlag };
+  consistent = λ x. record { core = core-withGraft id _ h (get id (r .state .grafted)) (r .state) refl (n x) x; queueFlag = x .queueFlag; recordFlag = x .recordFlag };
 }
 
 near-after : (id : ℕ) (h : Hop) (hs : List Hop) (r : Run) → isNeighbour (h .peer) (r .state .links) ≡ true → isNeighbour (h .peer) (updateLinks (addEager (h .peer)) (leaveAnnouncers id hs r) .state .links) ≡ true
@@ -165,10 +165,10 @@ kept-askFirst now id (h ∷ hs) r e =
     record {
       settings = settings-of now id h hs r;
       limits = limits-of now id h hs r;
-      sane = λ x. rest (near-after id h hs r (near x)) .sane (b .sane (a .sane x));
+      consistent = λ x. rest (near-after id h hs r (near x)) .consistent (b .consistent (a .consistent x));
     }
   where
-    near : Sane (r .state) → isNeighbour (h .peer) (r .state .links) ≡ true
+    near : Consistent (r .state) → isNeighbour (h .peer) (r .state .links) ≡ true
     near x = let k : Known (r .state .links) (h ∷ hs) = rw e at (known-announcers id (r .state) x) in all-head (λ h. isNeighbour (h .peer) (r .state .links)) h hs (k .near)
 
 announcers-unmark : (id : ℕ) (r : Run) → announcers id (unmark id r .state) ≡ announcers id (r .state)
@@ -192,17 +192,17 @@ kept-dispatch r =
     record {
       settings = a .settings;
       limits = a .limits;
-      sane = λ x.
-          let y = k .sane (record { core = core-queue [] (r .state) (all-nil (r .state .links)) (x .core); queueFlag = refl; recordFlag = x .recordFlag }) in
+      consistent = λ x.
+          let y = k .consistent (record { core = core-queue [] (r .state) (all-nil (r .state .links)) (x .core); queueFlag = refl; recordFlag = x .recordFlag }) in
           record { core = y .core; queueFlag = rw (a .queue) refl; recordFlag = y .recordFlag };
     }
   where
     all-nil : (l : Links) → all (byNeighbour l) [] ≡ true
     all-nil l = unfold all in refl
 
-moved-sane : (s : State) → Sane s → CoreOf (moveOldest (stillCached s) s)
+moved-consistent : (s : State) → Consistent s → CoreOf (moveOldest (stillCached s) s)
 unfolding moveOldest stillCached
-moved-sane s x =
+moved-consistent s x =
     let c = x .core in
     let standing : List Note = filter (λ n. holds (n .id) (s .cache)) (s .dropped) in
     let near : all (byNeighbour (s .links)) standing ≡ true = all-filter (byNeighbour (s .links)) (λ n. holds (n .id) (s .cache)) (s .dropped) (c .recorded) in
@@ -259,7 +259,7 @@ kept-announceDropped r =
     record {
       settings = a .settings ∙ m .settings ∙ move-settings (stillCached (r .state)) (r .state);
       limits = a .limits ∙ m .limits ∙ move-limits (stillCached (r .state)) (r .state);
-      sane = λ x. announce-sane (dispatchIfQueued r₁) (m .core (moved-sane (r .state) x)) (m .queueFlag);
+      consistent = λ x. announce-consistent (dispatchIfQueued r₁) (m .core (moved-consistent (r .state) x)) (m .queueFlag);
     }
 
 -- events
@@ -278,7 +278,7 @@ down-limits p s = refl
 
 kept-down : (p : ℕ) (r : Run) → Kept r (onNeighborDown p r)
 unfolding onNeighborDown
-kept-down p r = record { settings = down-settings p (r .state); limits = down-limits p (r .state); sane = λ x. sane-down p (r .state) x }
+kept-down p r = record { settings = down-settings p (r .state); limits = down-limits p (r .state); consistent = λ x. consistent-down p (r .state) x }
 
 kept-onTimer : (now : ℕ) (t : Timer) (r : Run) → Kept r (onTimer now t r)
 unfolding onTimer
@@ -336,7 +336,7 @@ module _ (hash : List ℕ → ℕ) where
   handle-whole now e r w f =
       let k = kept-handle now e r in
       let g = whole-ranged (r .state) w in
-      sane-whole (handle hash now e r .state) (k .sane (whole-sane (r .state) w))
+      consistent-whole (handle hash now e r .state) (k .consistent (whole-consistent (r .state) w))
       (record { size = rw (k .settings) (g .size); durations = rw (k .settings) (g .durations); threshold = rw (k .settings) (g .threshold); limits = rw (k .limits) (g .limits) }) f
 
   Whole : Answer → Type 0

@@ -1,4 +1,4 @@
--- Sizes and actions of neighbour up, neighbour down, EvictCache and AnnounceDropped, of the state before.
+-- Sizes and actions of neighbour up, neighbour down and EvictCache, of the state before.
 use Prim.Native.Nat.{ℕ, suc}
 use mathlib.Core.Path.{_≡_, refl, sym, ap, _∙_}
 use mathlib.Core.Bool.{Bool, true, not}
@@ -20,8 +20,10 @@ use Rattle.decide.specs.SizesAfter.{upSizes, downSizes, evictSizes}
 use Rattle.decide.specs.ActionsAfter.{evictActions, dispatchAction}
 use Rattle.lists.proofs.MapLaws.{cases}
 use Rattle.lists.proofs.ListLaws.{length-filter}
-use Rattle.protocol.proofs.Sane.{CoreOf}
-use Rattle.decide.proofs.Base.{length-insert, length-remove, length-later, expiry-later, content-later, if-on, if-both, if-same, evicted}
+use Rattle.protocol.proofs.Consistent.{CoreOf}
+use Rattle.lists.proofs.Branches.{if-on, if-both, if-same}
+use Rattle.decide.proofs.TableSizes.{length-insert, length-remove}
+use Rattle.decide.proofs.SettledLaws.{length-later, expiry-later, content-later, evicted}
 
 -- up and down
 

@@ -22,7 +22,7 @@ use Rattle.protocol.specs.Ticks.{younger, moveOldest, stillCached, dispa
 use Rattle.protocol.specs.Demand3.{dispatchTick, announceTick, isTick, schedulesTick}
 use Rattle.lists.proofs.MapLaws.{cases, true≢}
 use Rattle.lists.proofs.Lists.{or-false-left, or-false-right, or-left, or-right, any-left, any-right, any-one}
-use Rattle.protocol.proofs.Trace.{Within, Flagged}
+use Rattle.protocol.proofs.Invariant.{Within, Flagged}
 use Rattle.protocol.proofs.Walk.{Sending, Steps}
 
 -- counting

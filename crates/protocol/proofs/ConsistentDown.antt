@@ -18,8 +18,8 @@ use Rattle.time_cache.proofs.CacheLaws.{eqb-sym}
 use Rattle.lists.proofs.Lists.{or-right}
 use Rattle.lists.proofs.ListLaws.{all-imp, all-filter-imp, all-map, has-remove}
 use Rattle.time_cache.proofs.Timely.{timely-map}
-use Rattle.protocol.proofs.Sane.{CoreOf, Sane, byNeighbour, flagged}
-use Rattle.protocol.proofs.SaneParts.{Announcers, to-announcers, of-announcers, once-filter, Grafted, to-grafted, of-grafted, noted-filter, within-filter}
+use Rattle.protocol.proofs.Consistent.{CoreOf, Consistent, byNeighbour, flagged}
+use Rattle.protocol.proofs.ConsistentTables.{Announcers, to-announcers, of-announcers, once-filter, Grafted, to-grafted, of-grafted, noted-filter, within-filter}
 
 -- whoever else was a neighbour is one
 still-near : (p q : ℕ) (l : Links) → eqb q p ≡ false → isNeighbour q l ≡ true → isNeighbour q (remove p l) ≡ true
@@ -113,9 +113,9 @@ unfolding filter
 flagged-filter f [] flag h = refl
 flagged-filter f (n ∷ ns) flag h = or-right (isEmpty (filter f (n ∷ ns))) flag h
 
-pub sane-down : (p : ℕ) (s : State) → Sane s → Sane (forgetPeer p s)
+pub consistent-down : (p : ℕ) (s : State) → Consistent s → Consistent (forgetPeer p s)
 unfolding forgetPeer withoutNotes
-sane-down p s x = record {
+consistent-down p s x = record {
   core = core-down p s (x .core);
   queueFlag = (flagged-filter (λ n. not (forPeer p n)) (s .queue) (s .dispatchScheduled) (x .queueFlag));
   recordFlag = (flagged-filter (λ n. not (forPeer p n)) (s .dropped) (s .announceScheduled) (x .recordFlag));

@@ -23,7 +23,7 @@ use Rattle.protocol.specs.Demand3.{lists, isGraftFor, takenOrHandedBack,
 use Rattle.lists.proofs.MapLaws.{cases, true≢, and-left, and-right, and-intro, all-head, all-tail, all-cons, ascending-insert, ascending-remove, lookup-insert-same, lookup-insert-other, lookup-remove-same, lookup-remove-other}
 use Rattle.lists.proofs.Lists.{or-cases, any-append, any-left, any-right, any-one}
 use Rattle.time_cache.proofs.CacheLaws.{eqb-sym}
-use Rattle.protocol.proofs.Trace.{hopOf}
+use Rattle.protocol.proofs.Invariant.{hopOf}
 use Rattle.protocol.proofs.Walk.{Sending, Steps, walk-dispatchTo}
 use Rattle.protocol.proofs.RecordOnly.{RecordOnly, only-noteDropped, only-schedule}
 

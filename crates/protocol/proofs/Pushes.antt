@@ -20,10 +20,10 @@ use Rattle.protocol.specs.Ticks.{perMessage, chunks, queuedFor, queuedPe
 use Rattle.protocol.specs.Demand3.{lists, carries, sends, wasTaken, wasHandedBack}
 use Rattle.lists.proofs.MapLaws.{cases, true≢, and-right}
 use Rattle.lists.proofs.Lists.{or-cases, or-left, or-right, any-append, any-left, any-right, any-one, any-filter}
-use Rattle.protocol.proofs.Trace.{Stands}
+use Rattle.protocol.proofs.Invariant.{Stands}
 use Rattle.protocol.proofs.Walk.{walk-dispatchTo, walk-sendIhave, walk-sendChunks, walk-noteForEach, walk-sendEach}
 use Rattle.protocol.proofs.RecordOnly.{RecordOnly, only-sending, only-send, only-noteOne, only-noteDropped}
-use Rattle.protocol.proofs.Reach.{Grows, grows-refl, grows-trans, grows-sending, grows-noteEach, grows-noteDropped, grows-scheduleAnnounceDropped, grows-scheduleDispatch, Got, wentOut, cameBack, inQueue, inRecord, got-grows}
+use Rattle.protocol.proofs.ReachSteps.{Grows, grows-refl, grows-trans, grows-sending, grows-noteEach, grows-noteDropped, grows-scheduleAnnounceDropped, grows-scheduleDispatch, Got, wentOut, cameBack, inQueue, inRecord, got-grows}
 
 eqb-refl : (n : ℕ) → eqb n n ≡ true
 eqb-refl n = eq-eqb n n refl

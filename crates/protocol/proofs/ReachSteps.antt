@@ -25,9 +25,9 @@ use Rattle.protocol.specs.Demand3.{byAction, carries, sends, wasTaken, w
 use Rattle.lists.proofs.MapLaws.{cases, true≢}
 use Rattle.lists.proofs.Lists.{or-cases, or-left, or-right, any-left}
 use Rattle.lists.proofs.ListLaws.{count-append}
-use Rattle.protocol.proofs.Trace.{Stands, Settled, wasSent, wasFull, queuedNow, recordedNow}
+use Rattle.protocol.proofs.Invariant.{Stands, Settled, wasSent, wasFull, queuedNow, recordedNow}
 use Rattle.protocol.proofs.Walk.{Sending, Steps}
-use Rattle.protocol.proofs.Grafts.{lookup-popAll}
+use Rattle.protocol.proofs.GraftSteps.{lookup-popAll}
 
 -- queue, record and actions only grow, and the cache only shrinks
 pub record Grows (r r′ : Run) : Type 0 where

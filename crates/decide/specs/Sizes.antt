@@ -52,7 +52,7 @@ fitSizes l z =
     && leb (z .queued) (l .Q)
     && leb (z .recorded) (l .D)
 
--- the sizes with one number changed
+-- the sizes with one number changed; likewise the eleven that follow
 abbrev pub sizedLinks : ℕ → Sizes → Sizes
 sizedLinks n z = record { links = n; received = z .received; receivedExpiry = z .receivedExpiry; cached = z .cached; cachedExpiry = z .cachedExpiry; content = z .content; grafted = z .grafted; graftedExpiry = z .graftedExpiry; missing = z .missing; timers = z .timers; queued = z .queued; recorded = z .recorded }
 

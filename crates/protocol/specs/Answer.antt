@@ -29,6 +29,7 @@ messageFits M (Fired t) = true
 messageFits M (Up p) = true
 messageFits M (Down p) = true
 
+-- the two counts that grow by one are under 2^64; the third only takes a maximum
 unfoldable pub countsBelow : Counts → Bool
 countsBelow c = ltb (c .payload) (2 ^ 64) && ltb (c .control) (2 ^ 64)
 

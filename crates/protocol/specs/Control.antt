@@ -17,6 +17,7 @@ use Rattle.protocol.specs.Gossips.{announcers, updateLinks}
 unfoldable pub addAnnouncer : Hop → List Hop → List Hop
 addAnnouncer h hs = if any (λ x. eqb (x .peer) (h .peer)) hs then hs else hs ++ (h ∷ [])
 
+-- the announcer is queued for the identifier
 unfoldable pub announce : ℕ → Hop → Run → Run
 announce id h r = r ▷ withState (withMissing (insert id (addAnnouncer h (announcers id (r .state))) (r .state .missing)) (r .state))
 
@@ -48,6 +49,7 @@ replyWith sender id (some c) r =
     if takes sender r then send sender (Gossip id (c .content) (Swarm (c .round))) r
     else (r ▷ send sender (Gossip id (c .content) (Swarm (c .round))) ▷ noteDropped sender (record { id = id; round = c .round } ∷ []))
 
+-- if the Graft names an identifier that is cached
 unfoldable pub reply : ℕ → Option ℕ → Run → Run
 reply sender none r = r
 reply sender (some id) r = replyWith sender id (get id (r .state .cache)) r
@@ -67,6 +69,7 @@ withGraft id expires h none c = put id (record { first = none; kept = none; peer
 withGraft id expires h (some g) c =
     replace id (record { first = g .first; kept = g .kept; peers = insert (h .peer) (lower (lookup (h .peer) (g .peers)) (h .round)) (g .peers) }) c
 
+-- the Graft goes into the grafted entry of its identifier, or a new entry that expires `message_cache_retention` later
 unfoldable pub noteGraft : ℕ → ℕ → Hop → Run → Run
 noteGraft now id h r =
     r ▷ withState (withGrafted (withGraft id (now + r .state .settings .messageCacheRetention) h (get id (r .state .grafted)) (r .state .grafted)) (r .state))
@@ -85,6 +88,7 @@ askFirst now id (h ∷ hs) r =
     ▷ send (h .peer) (Graft (some id) (h .round))
     ▷ schedule (r .state .settings .graftTimeout2) (SendGraft id)
 
+-- the timer mark goes
 unfoldable pub unmark : ℕ → Run → Run
 unmark id r = r ▷ withState (withGraftTimers (removeKey id (r .state .graftTimers)) (r .state))
 

@@ -153,12 +153,15 @@ sends p which how (Sent q taken m) = eqb q p && which m && how taken
 sends p which how (Scheduled delay t) = false
 sends p which how (Emitted q content d) = false
 
+-- "taken"
 abbrev pub wasTaken : Bool → Bool
 wasTaken taken = taken
 
+-- "handed back"
 abbrev pub wasHandedBack : Bool → Bool
 wasHandedBack taken = not taken
 
+-- "taken or handed back"
 abbrev pub takenOrHandedBack : Bool → Bool
 takenOrHandedBack taken = true
 

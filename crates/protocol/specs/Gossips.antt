@@ -30,6 +30,7 @@ unfoldable pub hopsOf : Option (List Hop) → List Hop
 hopsOf none = []
 hopsOf (some hs) = hs
 
+-- the announcers of the identifier; none if it is not missing
 unfoldable pub announcers : ℕ → State → List Hop
 announcers id s = hopsOf (lookup id (s .missing))
 
@@ -38,6 +39,7 @@ unfoldable pub peersOf : Option Grafts → Map ℕ
 peersOf none = []
 peersOf (some g) = g .peers
 
+-- the peers grafted for the identifier; none if it has no entry
 unfoldable pub graftedFor : ℕ → State → Map ℕ
 graftedFor id s = peersOf (get id (s .grafted))
 
@@ -46,6 +48,7 @@ unfoldable pub withFirst : ℕ → Hop → Option Grafts → State → State
 withFirst id h none s = s
 withFirst id h (some g) s = withGrafted (replace id (record { first = some h; kept = g .kept; peers = g .peers }) (s .grafted)) s
 
+-- the entry, if there is one, gets its `first`
 unfoldable pub setFirst : ℕ → ℕ → ℕ → Run → Run
 setFirst id sender round r =
     r ▷ withState (withFirst id (record { peer = sender; round = round }) (get id (r .state .grafted)) (r .state))
@@ -72,6 +75,7 @@ leastFrom best (h ∷ hs) = if ltb (h .round) (best .round) then leastFrom h hs 
 unfoldable pub farCloser : ℕ → ℕ → ℕ → Bool
 farCloser threshold round a = ltb a round && leb threshold (round - a)
 
+-- the links changed by a function
 unfoldable pub updateLinks : (Links → Links) → Run → Run
 updateLinks f r = r ▷ withState (withLinks (f (r .state .links)) (r .state))
 
@@ -124,6 +128,7 @@ pub data Late : Type 0 where
   -- a grafted peer's path is no longer than that of the first sender, who goes lazy
   faster : ℕ → Late
 
+-- the peer is the one that is there
 unfoldable pub sameAs : ℕ → Option ℕ → Bool
 sameAs p none = false
 sameAs p (some q) = eqb p q
@@ -142,6 +147,7 @@ lateFrom sender d l g (some f) =
     else if noMoreHops d (f .round) && not (has (f .peer) (g .peers)) && eagerIn sender l && eagerIn (f .peer) l then faster (f .peer)
     else duplicate
 
+-- the same, of the grafted entry that is there or not
 unfoldable pub lateKind : ℕ → Delivery → Links → Option Grafts → Late
 lateKind sender d l none = duplicate
 lateKind sender d l (some g) = lateFrom sender d l g (g .first)
@@ -151,6 +157,7 @@ unfoldable pub withKept : ℕ → ℕ → Option Grafts → State → State
 withKept id p none s = s
 withKept id p (some g) s = withGrafted (replace id (record { first = g .first; kept = some p; peers = g .peers }) (s .grafted)) s
 
+-- the entry's `kept` is the sender
 unfoldable pub setKept : ℕ → ℕ → Run → Run
 setKept id p r = r ▷ withState (withKept id p (get id (r .state .grafted)) (r .state))
 

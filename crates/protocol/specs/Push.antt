@@ -46,6 +46,7 @@ noteOne p h r =
     if not (recordFull p (r .state .dropped)) && holds (h .id) (r .state .cache) && not (any (notes p (h .id)) (r .state .dropped))
     then recordAlso p h r else r
 
+-- one identifier after the other
 unfoldable pub noteEach : ℕ → List Ihave → Run → Run
 noteEach p [] r = r
 noteEach p (h ∷ hs) r = noteEach p hs (noteOne p h r)

@@ -36,10 +36,12 @@ unfoldable pub sendChunks : ℕ → List (List Ihave) → Run → Run
 sendChunks p [] r = r
 sendChunks p (hs ∷ rest) r = sendChunks p rest (sendIhave p hs r)
 
+-- each peer in turn, with all that is queued for it
 unfoldable pub dispatchTo : List ℕ → ℕ → List Note → Run → Run
 dispatchTo [] k ns r = r
 dispatchTo (p ∷ ps) k ns r = dispatchTo ps k ns (sendChunks p (chunks (length ns) k (queuedFor p ns)) r)
 
+-- the flag goes at the end
 unfoldable pub clearDispatch : Run → Run
 clearDispatch r = r ▷ withState (withDispatchScheduled false (r .state))
 

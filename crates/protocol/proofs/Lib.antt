@@ -9,6 +9,7 @@ pub mod ConsistentDown
 pub mod ConsistentSteps
 pub mod CreatedWhole
 pub mod WholeKept
+pub mod NeverFive
 pub mod Invariant
 pub mod LinkSteps
 pub mod StepNeighbours

@@ -1,20 +1,16 @@
 -- Each event keeps the settings, the limits, and what `whole` asks apart from them; hence `whole` is kept by an accepted call.
-use Prim.Native.Nat.{ℕ, _^_}
+use Prim.Native.Nat.{ℕ}
 use mathlib.Core.Path.{_≡_, refl, _∙_}
-use mathlib.Core.Bool.{Bool, true, false, not, _&&_}
+use mathlib.Core.Bool.{true}
 use mathlib.Core.List.{List, [], _∷_, map}
 use mathlib.Core.Option.{Option, none, some}
-use native.Mathlib.Omega.{arith}
-use lib.Dec.{leb, eqb}
-use lib.ListN.{length}
-use borrow.Author.Tests.{leb-true, le-leb, eqb-true}
 use Rattle.lists.specs.Base.{if_then_else_, isEmpty, all, filter, member, once}
 use Rattle.lists.specs.Map.{Map, entry, lookup, insert, remove}
 use Rattle.time_cache.specs.TimeCache.{get, holds}
 use Rattle.protocol.specs.Links.{eager, Links, isNeighbour, addEager, linkUp}
 use Rattle.postcard.specs.Message.{Ihave, Message, Gossip, Prune, Graft, IHave, Timer, SendGraft, DispatchLazyPush, EvictCache, AnnounceDropped, Event, Received, Broadcast, Fired, Up, Down, Emitted, Scheduled}
-use Rattle.protocol.specs.State.{State, Counts, Note, Hop, Grafts, Settings, Limits, created, notCreated, create, fresh, zeroCounts, withQueue, sizeInRange, durationsInRange, limitsInRange, blockNeed}
-use Rattle.protocol.specs.Run.{Run, begin, withState, act, send}
+use Rattle.protocol.specs.State.{State, Note, Hop, Grafts, withQueue}
+use Rattle.protocol.specs.Run.{Run, withState, act, send}
 use Rattle.protocol.specs.Push.{scheduleDispatch}
 use Rattle.protocol.specs.Gossips.{hopsOf, announcers, updateLinks}
 use Rattle.protocol.specs.Control.{announce, scheduleGraft, onAnnounced, onIHave, withGraft, noteGraft, leaveAnnouncers, askFirst, unmark, onSendGraftTimer}
@@ -22,13 +18,7 @@ use Rattle.protocol.specs.Ticks.{perMessage, queuedPeers, clearDispatch,
 use Rattle.protocol.specs.Neighbours.{onNeighborUp, onNeighborDown, forgetPeer}
 use Rattle.protocol.specs.Handle.{firstEvent, countMessage, ifNeighbour, onTimer, onMessage, handleMessage, handle}
 use Rattle.protocol.specs.Whole.{announcersWhole, whole, fits}
-use Rattle.protocol.specs.Answer.{Call, Answer, refuse, accept, messageFits, countsStay, tooFar, outputOf, lastTwo, askOf, askRead, askWhole, ask}
-use Rattle.postcard.specs.Decode.{Decoded, decoded, faulty, decodeEvent}
-use Rattle.protocol.specs.Calls.{stateAfter, countsAfter, prepend, runCalls}
-use Rattle.lists.proofs.MapLaws.{cases, true≢, and-left, and-right, and-intro, all-head, all-tail, all-cons, ascending-insert, ascending-remove}
-use Rattle.protocol.proofs.Accepted.{ask-cases}
-use Rattle.protocol.proofs.CreatedWhole.{fresh-whole}
-use Rattle.postcard.proofs.DecodeFaults.{faultOf, decode-faults}
+use Rattle.lists.proofs.MapLaws.{all-head, all-tail, ascending-insert, ascending-remove}
 use Rattle.lists.proofs.Lists.{or-right}
 use Rattle.lists.proofs.ListLaws.{all-append, all-filter, all-insert-entry, all-remove-entry, all-lookup}
 use Rattle.protocol.proofs.Walk.{walk-if, walk-dispatchTo, walk-firstEvent, walk-onGossip, walk-broadcast, walk-onPrune, walk-onGraft}
@@ -290,30 +280,6 @@ kept-onTimer now AnnounceDropped r = kept-announceDropped r
 pub kept-firstEvent : (now : ℕ) (r : Run) → Kept r (firstEvent now r)
 kept-firstEvent now r = walk-firstEvent Kept kept-steps now r
 
--- the answer is not 5
-abbrev pub notFive : Answer → Bool
-notFive (refuse n) = not (eqb n 5)
-notFive (accept e r) = true
-
--- an accepted creation leaves a whole state
-pub created-whole : (c : Settings) (l : Limits) (block : ℕ) (s : State) (n : Counts) → create c l block ≡ created s n → leb (c .optimizationThreshold) 65535 ≡ true → whole s ≡ true
-unfolding create
-created-whole c l block s n h t =
-    cases (sizeInRange c)
-    (λ a. cases (durationsInRange c)
-    (λ b. cases (limitsInRange l)
-    (λ d. cases (leb (blockNeed l) block)
-    (λ e. let z : created (fresh c l) zeroCounts ≡ created s n = rw (a, b, d, e) at h in
-    let q : fresh c l ≡ s = cc in
-    rw (← q) (fresh-whole c l a b t d))
-    (λ e. clash (rw (a, b, d, e) at h)))
-    (λ d. clash (rw (a, b, d) at h)))
-    (λ b. clash (rw (a, b) at h)))
-    (λ a. clash (rw a at h))
-  where
-    clash : {k : ℕ} → notCreated k ≡ created s n → whole s ≡ true
-    clash e = let z : false ≡ true = cc in true≢ z
-
 module _ (hash : List ℕ → ℕ) where
   kept-onMessage : (now sender : ℕ) (m : Message) (r : Run) → Kept r (onMessage hash now sender m r)
   unfolding onMessage ifNeighbour
@@ -338,70 +304,3 @@ module _ (hash : List ℕ → ℕ) where
       let g = whole-ranged (r .state) w in
       consistent-whole (handle hash now e r .state) (k .consistent (whole-consistent (r .state) w))
       (record { size = rw (k .settings) (g .size); durations = rw (k .settings) (g .durations); threshold = rw (k .settings) (g .threshold); limits = rw (k .limits) (g .limits) }) f
-
-  Whole : Answer → Type 0
-  Whole (refuse n) = Unit {0}
-  Whole (accept e r) = whole (r .state) ≡ true
-
-  -- an accepted call leaves a whole state
-  pub ask-whole : (s : State) (c : Counts) (k : Call) (e : Event) (r : Run) → askWhole hash s c k ≡ accept e r → whole (r .state) ≡ true
-  unfolding Whole
-  ask-whole s c k e r h =
-      let w : Whole (askWhole hash s c k) = ask-cases hash s c k Whole (λ n. tt) (λ e a. handle-whole (k .now) e (begin s c (k .rooms)) (a .whole5) (a .fits13)) in
-      rw h at w
-
-  -- from 6 to 14, or accepted
-  Asked : Answer → Bool
-  Asked (refuse n) = leb 6 n && leb n 14
-  Asked (accept e r) = true
-
-  wider-range : (n : ℕ) → (leb 7 n && leb n 9) ≡ true → (leb 6 n && leb n 14) ≡ true
-  wider-range n h =
-      and-intro (le-leb 6 n (omega (arith, leb-true 7 n (and-left (leb 7 n) (leb n 9) h)))) (le-leb n 14 (omega (arith, leb-true n 9 (and-right (leb 7 n) (leb n 9) h))))
-
-  asked-six : (s : State) (c : Counts) (k : Call) → Asked (ask hash s c k) ≡ true
-  unfolding ask askRead askOf lastTwo Asked
-  asked-six s c k = cases (leb (k .now) (2 ^ 62)) (λ t. rw t (on (decodeEvent (k .event)) (decode-faults (k .event)))) (λ t. rw t refl)
-    where
-      two : (e : Event) (r : Run) → Asked (lastTwo (k .output) e r) ≡ true
-      two e r = unfold lastTwo in (cases (fits (r .state)) (λ t. cases (leb (length (outputOf r)) (k .output)) (λ u. rw (t, u) refl) (λ u. rw (t, u) refl)) (λ t. rw t refl))
-
-      on : (d : Decoded) → faultOf d ≡ true → Asked (askRead hash s c k d) ≡ true
-      on (faulty n) h = wider-range n h
-      on (decoded e) h =
-          cases (messageFits (s .settings .maxMessageSize) e)
-          (λ a. cases (countsStay e c)
-          (λ b. cases (tooFar hash e (firstEvent (k .now) (begin s c (k .rooms)) .state)) (λ d. rw (a, b, d) refl) (λ d. rw (a, b, d) (two e (handle hash (k .now) e (begin s c (k .rooms))))))
-          (λ b. rw (a, b) refl))
-          (λ a. rw a refl)
-
-  -- upon a whole state, question 5 is answered yes, and the answer is accepted or a number from 6 to 14
-  pub asked-whole : (s : State) (c : Counts) (k : Call) → whole s ≡ true → askWhole hash s c k ≡ ask hash s c k
-  unfolding askWhole
-  asked-whole s c k w = rw w refl
-
-  not-five : (x : Answer) → Asked x ≡ true → notFive x ≡ true
-  unfolding Asked
-  not-five (refuse n) h = cases (eqb n 5) (λ e. true≢ (rw (eqb-true n 5 e) at h)) (λ e. rw e refl)
-  not-five (accept e r) h = refl
-
-  after-whole : (s : State) (x : Answer) → whole s ≡ true → Whole x → whole (stateAfter s x) ≡ true
-  unfolding stateAfter Whole
-  after-whole s (refuse n) w h = w
-  after-whole s (accept e r) w h = h
-
-  -- from a whole state no call of a list is answered 5, and the state after it is whole
-  pub never-five : (s : State) (c : Counts) (ks : List Call) → whole s ≡ true →
-      (all notFive (runCalls hash s c ks .answers) ≡ true) × (whole (runCalls hash s c ks .state) ≡ true)
-  unfolding runCalls prepend all Whole
-  never-five s c [] w = (refl, w)
-  never-five s c (k ∷ ks) w =
-      let x : Whole (askWhole hash s c k) = ask-cases hash s c k Whole (λ n. tt) (λ e a. handle-whole (k .now) e (begin s c (k .rooms)) (a .whole5) (a .fits13)) in
-      let i = never-five (stateAfter s (askWhole hash s c k)) (countsAfter c (askWhole hash s c k)) ks (after-whole s (askWhole hash s c k) w x) in
-      let f : notFive (askWhole hash s c k) ≡ true = not-five (askWhole hash s c k) (rw (asked-whole s c k w) (asked-six s c k)) in
-      (all-cons notFive (askWhole hash s c k) (runCalls hash (stateAfter s (askWhole hash s c k)) (countsAfter c (askWhole hash s c k)) ks .answers) f (i .0), i .1)
-
-  -- "an accepted creation": its calls are never answered 5
-  pub created-never-five : (c : Settings) (l : Limits) (block : ℕ) (s : State) (n : Counts) → create c l block ≡ created s n → leb (c .optimizationThreshold) 65535 ≡ true → (ks : List Call) →
-      all notFive (runCalls hash s n ks .answers) ≡ true
-  created-never-five c l block s n h t ks = never-five s n ks (created-whole c l block s n h t) .0

@@ -70,7 +70,7 @@ module _ (hash : List ℕ → ℕ) where
     announceTimer = λ h. inl (h, refl);
     announcing = λ p id h. (refl, inl h);
     grafting = λ p id h. (refl, inl h);
-    messages = λ id h. stillThere refl h (λ p u d x. settled-stands x);
+    messages = λ id h. stillThere refl (λ v k. k) (λ p u d x. settled-stands x);
   }
 
   module _ (c : Settings) where

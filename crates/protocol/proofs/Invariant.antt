@@ -3,16 +3,16 @@ use Prim.Native.Nat.{ℕ, _≤_}
 use mathlib.Core.Path.{_≡_, refl, sym, ap, _∙_}
 use mathlib.Core.Bool.{Bool, true, false, _||_}
 use mathlib.Core.List.{List, [], _∷_, _++_, append-assoc}
-use mathlib.Core.Option.{some}
+use mathlib.Core.Option.{Option, none, some}
 use mathlib.Core.Logic.{_⊎_, inl, inr}
 use lib.Dec.{eqb}
 use lib.ListN.{length}
-use Rattle.lists.specs.Base.{any, count, isEmpty, ascending}
-use Rattle.lists.specs.Map.{has, keys}
-use Rattle.time_cache.specs.TimeCache.{holds}
+use Rattle.lists.specs.Base.{isSome, any, count, isEmpty, ascending}
+use Rattle.lists.specs.Map.{lookup, has, keys}
+use Rattle.time_cache.specs.TimeCache.{Timed, Cache, holds}
 use Rattle.protocol.specs.Links.{isNeighbour}
 use Rattle.postcard.specs.Message.{Received, Broadcast, Fired, Up, Down}
-use Rattle.protocol.specs.State.{State, Settings, Note, Hop}
+use Rattle.protocol.specs.State.{State, Settings, Note, Hop, Cached}
 use Rattle.protocol.specs.Push.{forPeer, notes}
 use Rattle.protocol.specs.Gossips.{announcers, graftedFor}
 use Rattle.protocol.specs.Answer.{Answer, refuse, accept}
@@ -34,6 +34,17 @@ pub record Within (ns : List Note) : Type 0 where
 abbrev pub Flagged : List Note → Bool → Type 0
 Flagged ns flag = (isEmpty ns || flag) ≡ true
 
+-- what the second cache has for the identifier, the first has too
+abbrev pub Same : ℕ → Cache Cached → Cache Cached → Type 0
+Same id c c′ = (v : Timed Cached) → lookup id (c′ .entries) ≡ some v → lookup id (c .entries) ≡ some v
+
+pub same-holds : (id : ℕ) (c c′ : Cache Cached) → Same id c c′ → holds id c′ ≡ true → holds id c ≡ true
+same-holds id c c′ f h = on (lookup id (c′ .entries)) refl h
+  where
+    on : (o : Option (Timed Cached)) → lookup id (c′ .entries) ≡ o → isSome o ≡ true → holds id c ≡ true
+    on none e z = true≢ z
+    on (some v) e z = ap isSome (f v e)
+
 -- queued or recorded
 abbrev pub Stands : ℕ → ℕ → State → Type 0
 Stands p id s = (any (notes p id) (s .queue) ≡ true) ⊎ (any (notes p id) (s .dropped) ≡ true)
@@ -46,9 +57,9 @@ pub data Settled (p id : ℕ) (a : Answer) (s : State) : Type 0 where
   recordedNow : any (notes p id) (s .dropped) ≡ true → Settled p id a s
 
 module _ (hash : List ℕ → ℕ) (c : Settings) where
-  -- an identifier cached after the call: it was before, or the call took it in
+  -- an identifier cached after the call: it was before, as it is, or the call took it in
   pub data Kept (id : ℕ) (s : State) (a : Answer) (s′ : State) : Type 0 where
-    stillThere : isOf id (took hash c a) ≡ false → holds id (s .cache) ≡ true →
+    stillThere : isOf id (took hash c a) ≡ false → Same id (s .cache) (s′ .cache) →
         ((p : ℕ) → isNeighbour p (s .links) ≡ true → tellsDown p a ≡ false → Stands p id s → Settled p id a s′) → Kept id s a s′
     takenIn : (from : ℕ) → took hash c a ≡ some (record { id = id; from = from }) →
         ((p : ℕ) → (p ≡ c .me → ⊥) → isNeighbour p (s .links) ≡ true → (from ≡ p) ⊎ ((has p (graftedFor id s) ≡ true) ⊎ Settled p id a s′)) → Kept id s a s′
@@ -217,9 +228,9 @@ module _ (hash : List ℕ → ℕ) (c : Settings) where
     reached-on p id before since from f (standsQueued h) = settled-reached p id before since from (f (inl h))
     reached-on p id before since from f (standsRecorded h) = settled-reached p id before since from (f (inr h))
 
-    message-on : (id : ℕ) → Kept hash c id s a s′ → MessageReached hash c id (past ++ (a ∷ [])) s′
+    message-on : (id : ℕ) → holds id (s′ .cache) ≡ true → Kept hash c id s a s′ → MessageReached hash c id (past ++ (a ∷ [])) s′
     unfolding any
-    message-on id (stillThere no′ held f) = record {
+    message-on id now (stillThere no′ same f) = record {
       taken = record {
         before = m .taken .before;
         call = m .taken .call;
@@ -236,12 +247,12 @@ module _ (hash : List ℕ → ℕ) (c : Settings) where
     }
       where
         m : MessageReached hash c id past s
-        m = v .messages id held
+        m = v .messages id (same-holds id (s .cache) (s′ .cache) same now)
 
         isUp : (p : ℕ) → toldUp p (m .taken .before) ≡ true → Never (tellsDown p) (m .taken .after ++ (a ∷ [])) → isNeighbour p (s .links) ≡ true
         isUp p up never = v .neighbours p ∙ ap (toldUp p) (m .taken .split) ∙ up-since p (m .taken .before) (m .taken .call ∷ m .taken .after) up
             (any-cons (tellsDown p) (m .taken .call) (m .taken .after) ∙ rw (took-tells p (m .taken .call) (record { id = id; from = m .taken .from }) (m .taken .takes), any-none-left (tellsDown p) (m .taken .after) (a ∷ []) never))
-    message-on id (takenIn from t f) = record {
+    message-on id now (takenIn from t f) = record {
       taken = record { before = past; call = a; after = []; from = from; split = refl; takes = t; last = refl };
       reached = λ p ne up never. on p (f p ne (v .neighbours p ∙ up));
     }
@@ -266,7 +277,7 @@ module _ (hash : List ℕ → ℕ) (c : Settings) where
       announceTimer = λ h. timer announceTick (v .announceTimer) (d .announceTimer h);
       announcing = λ p id h. announcing-on p id (d .announcing p id h .0) (d .announcing p id h .1);
       grafting = λ p id h. grafting-on p id (d .grafting p id h .0) (d .grafting p id h .1);
-      messages = λ id h. message-on id (d .messages id h);
+      messages = λ id h. message-on id h (d .messages id h);
     }
       where
         timer : (t : Tick) {flag : Bool} → (flag ≡ true → TimerRuns t past) → ((flag ≡ true) × (fired t a ≡ false)) ⊎ (scheduled t a ≡ true) → TimerRuns t (past ++ (a ∷ []))

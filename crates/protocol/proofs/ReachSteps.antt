@@ -11,7 +11,7 @@ use lib.ListN.{length, length-append}
 use borrow.Author.Tests.{leb-true, le-leb}
 use Rattle.lists.specs.Base.{if_then_else_, isEmpty, any, count, member}
 use Rattle.lists.specs.Map.{lookup}
-use Rattle.time_cache.specs.TimeCache.{Cache, holds, popAll, due, expireUntil}
+use Rattle.time_cache.specs.TimeCache.{Timed, Cache, holds, popAll, due, expireUntil}
 use Rattle.protocol.specs.Links.{isNeighbour}
 use Rattle.postcard.specs.Message.{Ihave, Message, Action, Sent, Scheduled, Event}
 use Rattle.protocol.specs.State.{Hop, Note, Grafts}
@@ -25,7 +25,7 @@ use Rattle.protocol.specs.Demand3.{byAction, carries, sends, wasTaken, w
 use Rattle.lists.proofs.MapLaws.{cases, true≢}
 use Rattle.lists.proofs.Lists.{or-cases, or-left, or-right, any-left}
 use Rattle.lists.proofs.ListLaws.{count-append}
-use Rattle.protocol.proofs.Invariant.{Stands, Settled, wasSent, wasFull, queuedNow, recordedNow}
+use Rattle.protocol.proofs.Invariant.{Same, Stands, Settled, wasSent, wasFull, queuedNow, recordedNow}
 use Rattle.protocol.proofs.Walk.{Sending, Steps}
 use Rattle.protocol.proofs.GraftSteps.{lookup-popAll}
 
@@ -35,10 +35,10 @@ pub record Grows (r r′ : Run) : Type 0 where
   pub dropped : (f : Note → Bool) → any f (r .state .dropped) ≡ true → any f (r′ .state .dropped) ≡ true
   pub actions : (f : Action → Bool) → any f (r .actions) ≡ true → any f (r′ .actions) ≡ true
   pub full : (p : ℕ) → recordFull p (r .state .dropped) ≡ true → recordFull p (r′ .state .dropped) ≡ true
-  pub cached : (id : ℕ) → holds id (r′ .state .cache) ≡ true → holds id (r .state .cache) ≡ true
+  pub cached : (id : ℕ) → Same id (r .state .cache) (r′ .state .cache)
 
 pub grows-refl : (r : Run) → Grows r r
-grows-refl r = record { queue = λ f h. h; dropped = λ f h. h; actions = λ f h. h; full = λ p h. h; cached = λ id h. h }
+grows-refl r = record { queue = λ f h. h; dropped = λ f h. h; actions = λ f h. h; full = λ p h. h; cached = λ id v h. h }
 
 pub grows-trans : (a b c : Run) → Grows a b → Grows b c → Grows a c
 grows-trans a b c x y = record {
@@ -46,7 +46,7 @@ grows-trans a b c x y = record {
   dropped = λ f h. y .dropped f (x .dropped f h);
   actions = λ f h. y .actions f (x .actions f h);
   full = λ p h. y .full p (x .full p h);
-  cached = λ id h. x .cached id (y .cached id h);
+  cached = λ id v h. x .cached id v (y .cached id v h);
 }
 
 grows-if : {r x y : Run} (b : Bool) → Grows r x → Grows r y → Grows r (if b then x else y)
@@ -55,15 +55,15 @@ grows-if false k l = l
 
 -- none of these changes
 pub alike : {r r′ : Run} → r′ .state .queue ≡ r .state .queue → r′ .state .dropped ≡ r .state .dropped → r′ .actions ≡ r .actions → r′ .state .cache ≡ r .state .cache → Grows r r′
-alike a b c e = record { queue = λ f h. rw a h; dropped = λ f h. rw b h; actions = λ f h. rw c h; full = λ p h. rw b h; cached = λ id h. rw e at h }
+alike a b c e = record { queue = λ f h. rw a h; dropped = λ f h. rw b h; actions = λ f h. rw c h; full = λ p h. rw b h; cached = λ id v h. rw e at h }
 
 pub grows-act : (a : Action) (r : Run) → Grows r (act a r)
 unfolding act
-grows-act a r = record { queue = λ f h. h; dropped = λ f h. h; actions = λ f h. any-left f (r .actions) (a ∷ []) h; full = λ p h. h; cached = λ id h. h }
+grows-act a r = record { queue = λ f h. h; dropped = λ f h. h; actions = λ f h. any-left f (r .actions) (a ∷ []) h; full = λ p h. h; cached = λ id v h. h }
 
 grows-send : (p : ℕ) (m : Message) (r : Run) → Grows r (send p m r)
 unfolding send
-grows-send p m r = record { queue = λ f h. h; dropped = λ f h. h; actions = λ f h. any-left f (r .actions) (Sent p (takes p r) m ∷ []) h; full = λ p h. h; cached = λ id h. h }
+grows-send p m r = record { queue = λ f h. h; dropped = λ f h. h; actions = λ f h. any-left f (r .actions) (Sent p (takes p r) m ∷ []) h; full = λ p h. h; cached = λ id v h. h }
 
 -- a full record stays full with one more
 full-more : (p : ℕ) (ns : List Note) (n : Note) → recordFull p ns ≡ true → recordFull p (ns ++ (n ∷ [])) ≡ true
@@ -80,7 +80,7 @@ grows-noteOne : (p : ℕ) (h : Ihave) (r : Run) → Grows r (noteOne p h r)
 unfolding noteOne recordAlso
 grows-noteOne p h r =
     grows-if (not (recordFull p (r .state .dropped)) && holds (h .id) (r .state .cache) && not (any (notes p (h .id)) (r .state .dropped)))
-    (record { queue = λ f h. h; dropped = λ f h. any-left f (r .state .dropped) _ h; actions = λ f h. h; full = λ q f. full-more q (r .state .dropped) _ f; cached = λ id h. h })
+    (record { queue = λ f h. h; dropped = λ f h. any-left f (r .state .dropped) _ h; actions = λ f h. h; full = λ q f. full-more q (r .state .dropped) _ f; cached = λ id v h. h })
     (grows-refl r)
 
 pub grows-noteEach : (p : ℕ) (hs : List Ihave) (r : Run) → Grows r (noteEach p hs r)
@@ -92,13 +92,13 @@ pub grows-scheduleAnnounceDropped : (r : Run) → Grows r (scheduleAnnounceDropp
 unfolding scheduleAnnounceDropped act
 grows-scheduleAnnounceDropped r =
     grows-if (isEmpty (r .state .dropped) || r .state .announceScheduled) (grows-refl r)
-    (record { queue = λ f h. h; dropped = λ f h. h; actions = λ f h. any-left f (r .actions) _ h; full = λ p h. h; cached = λ id h. h })
+    (record { queue = λ f h. h; dropped = λ f h. h; actions = λ f h. any-left f (r .actions) _ h; full = λ p h. h; cached = λ id v h. h })
 
 pub grows-scheduleDispatch : (r : Run) → Grows r (scheduleDispatch r)
 unfolding scheduleDispatch act
 grows-scheduleDispatch r =
     grows-if (r .state .dispatchScheduled) (grows-refl r)
-    (record { queue = λ f h. h; dropped = λ f h. h; actions = λ f h. any-left f (r .actions) _ h; full = λ p h. h; cached = λ id h. h })
+    (record { queue = λ f h. h; dropped = λ f h. h; actions = λ f h. any-left f (r .actions) _ h; full = λ p h. h; cached = λ id v h. h })
 
 pub grows-noteDropped : (p : ℕ) (hs : List Ihave) (r : Run) → Grows r (noteDropped p hs r)
 unfolding noteDropped
@@ -108,13 +108,13 @@ grows-noteDropped p hs r =
 pub grows-lazyPush : (id round sender : ℕ) (r : Run) → Grows r (lazyPush id round sender r)
 unfolding lazyPush
 grows-lazyPush id round sender r =
-    grows-trans r _ _ (record { queue = λ f h. any-left f (r .state .queue) _ h; dropped = λ f h. h; actions = λ f h. h; full = λ p h. h; cached = λ id h. h }) (grows-scheduleDispatch _)
+    grows-trans r _ _ (record { queue = λ f h. any-left f (r .state .queue) _ h; dropped = λ f h. h; actions = λ f h. h; full = λ p h. h; cached = λ id v h. h }) (grows-scheduleDispatch _)
 
 grows-scheduleGraft : (id : ℕ) (r : Run) → Grows r (scheduleGraft id r)
 unfolding scheduleGraft act
 grows-scheduleGraft id r =
     grows-if (member id (r .state .graftTimers)) (grows-refl r)
-    (record { queue = λ f h. h; dropped = λ f h. h; actions = λ f h. any-left f (r .actions) _ h; full = λ p h. h; cached = λ id h. h })
+    (record { queue = λ f h. h; dropped = λ f h. h; actions = λ f h. any-left f (r .actions) _ h; full = λ p h. h; cached = λ id v h. h })
 
 grows-first : (id : ℕ) (h : Hop) (o : Option Grafts) (r : Run) → Grows r (withState (withFirst id h o (r .state)) r)
 unfolding withFirst
@@ -126,13 +126,13 @@ unfolding withKept
 grows-kept id p none r = alike refl refl refl refl
 grows-kept id p (some g) r = alike refl refl refl refl
 
-holds-expire : {A : Type 0} (id now : ℕ) (c : Cache A) → holds id (expireUntil now c) ≡ true → holds id c ≡ true
+lookup-expire : {A : Type 0} (id now : ℕ) (v : Timed A) (c : Cache A) → lookup id (expireUntil now c .entries) ≡ some v → lookup id (c .entries) ≡ some v
 unfolding expireUntil
-holds-expire id now c h = on (lookup-popAll id (due now (c .expiry)) (c .entries))
+lookup-expire id now v c h = on (lookup-popAll id (due now (c .expiry)) (c .entries))
   where
-    on : (lookup id (popAll (due now (c .expiry)) (c .entries)) ≡ lookup id (c .entries)) ⊎ (lookup id (popAll (due now (c .expiry)) (c .entries)) ≡ none) → holds id c ≡ true
+    on : (lookup id (popAll (due now (c .expiry)) (c .entries)) ≡ lookup id (c .entries)) ⊎ (lookup id (popAll (due now (c .expiry)) (c .entries)) ≡ none) → lookup id (c .entries) ≡ some v
     on (inl e) = rw e at h
-    on (inr e) = true≢ (rw e at h)
+    on (inr e) = let z : false ≡ true = cc in true≢ z
 
 grows-evict : (now : ℕ) (r : Run) → Grows r (onEvictCacheTimer now r)
 unfolding onEvictCacheTimer evict act
@@ -141,7 +141,7 @@ grows-evict now r = record {
   dropped = λ f h. h;
   actions = λ f h. any-left f (r .actions) _ h;
   full = λ p h. h;
-  cached = λ id h. holds-expire id now (r .state .cache) h;
+  cached = λ id v h. lookup-expire id now v (r .state .cache) h;
 }
 
 pub grows-sending : Sending Grows

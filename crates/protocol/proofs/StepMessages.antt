@@ -25,7 +25,7 @@ use Rattle.lists.proofs.MapLaws.{cases, and-left, lookup-insert-other}
 use Rattle.time_cache.proofs.CacheLaws.{eqb-sym}
 use Rattle.protocol.proofs.LinkSteps.{keeps-firstEvent}
 use Rattle.lists.proofs.Lists.{any-append, any-right, any-one, any-filter}
-use Rattle.protocol.proofs.Invariant.{Stands, Settled, Kept, stillThere, takenIn}
+use Rattle.protocol.proofs.Invariant.{Same, same-holds, Stands, Settled, Kept, stillThere, takenIn}
 use Rattle.protocol.proofs.Walk.{walk-if, walk-firstEvent, walk-eagerPush, walk-afterCache, walk-onDuplicate, walk-onPrune, walk-onGraft, walk-onIHave, walk-onSendGraftTimer}
 use Rattle.protocol.proofs.StepRecord.{sound-first}
 use Rattle.protocol.proofs.GraftSteps.{Shrinks, shrinks-trans, shrinks-steps}
@@ -37,18 +37,18 @@ use Rattle.protocol.proofs.TakenIn.{got-takeIn, got-broadcast}
 -- as `Grows`, but of one identifier's place in the cache
 record GrowsAt (id : ℕ) (r r′ : Run) : Type 0 where
   got : (p : ℕ) → Got p id r → Got p id r′
-  cached : holds id (r′ .state .cache) ≡ true → holds id (r .state .cache) ≡ true
+  cached : Same id (r .state .cache) (r′ .state .cache)
 
 grows-at : (id : ℕ) {r r′ : Run} → Grows r r′ → GrowsAt id r r′
 grows-at id g = record { got = λ p x. got-grows g x; cached = g .cached id }
 
 infixr 4 _⨾_
 _⨾_ : {id : ℕ} {a b c : Run} → GrowsAt id a b → GrowsAt id b c → GrowsAt id a c
-k ⨾ l = record { got = λ p x. l .got p (k .got p x); cached = λ h. k .cached (l .cached h) }
+k ⨾ l = record { got = λ p x. l .got p (k .got p x); cached = λ v h. k .cached v (l .cached v h) }
 
 at-caches : (j now id : ℕ) (content : List ℕ) (round : ℕ) (r : Run) → eqb j id ≡ false → GrowsAt j r (cacheAt now id content round r)
 unfolding cacheAt put
-at-caches j now id content round r n = record { got = λ p x. on p x; cached = λ h. sym (ap isSome (lookup-insert-other j id _ (r .state .cache .entries) n)) ∙ h }
+at-caches j now id content round r n = record { got = λ p x. on p x; cached = λ v h. sym (lookup-insert-other j id _ (r .state .cache .entries) n) ∙ h }
   where
     on : (p : ℕ) → Got p j r → Got p j (cacheAt now id content round r)
     on p (wentOut h) = wentOut h
@@ -108,7 +108,7 @@ module _ (hash : List ℕ → ℕ) where
   -- an event that does not take it in
   kept-at : (id : ℕ) (e : Event) (r r′ : Run) → isOf id (tookByEvent hash (r .state .settings) e (r′ .actions)) ≡ false → GrowsAt id r r′ → holds id (r′ .state .cache) ≡ true → KeptBy id e r r′
   unfolding took
-  kept-at id e r r′ t g h = stillThere t (g .cached h) (λ p nb nd st. got-settled p id e r′ h (g .got p (stands-got p id r st)))
+  kept-at id e r r′ t g h = stillThere t (g .cached) (λ p nb nd st. got-settled p id e r′ h (g .got p (stands-got p id r st)))
 
   -- gossip
 
@@ -265,12 +265,12 @@ module _ (hash : List ℕ → ℕ) where
       (grows-at j (grows-trans r r₁ _ (b .grows) (walk-onSendGraftTimer Grows grows-steps grows-leaves grows-grafts now id r₁))) h
   kept-timer now EvictCache r r₁ b one j h = kept-at j (Fired EvictCache) r _ refl (grows-at j (grows-trans r r₁ _ (b .grows) (grows-steps .evicts now r₁))) h
   kept-timer now DispatchLazyPush r r₁ b one j h =
-      let held : holds j (r₁ .state .cache) ≡ true = cached-dispatch j r₁ h in
-      stillThere refl (b .grows .cached j held) (λ p nb nd st. got-settled p j (Fired DispatchLazyPush) (onDispatchTimer r₁) h
+      let held : holds j (r₁ .state .cache) ≡ true = same-holds j (r₁ .state .cache) (onDispatchTimer r₁ .state .cache) (cached-dispatch j r₁) h in
+      stillThere refl (λ v k. b .grows .cached j v (cached-dispatch j r₁ v k)) (λ p nb nd st. got-settled p j (Fired DispatchLazyPush) (onDispatchTimer r₁) h
       (got-dispatch p j r₁ (rw (b .settings) one) (b .neighbours p ∙ nb) held (stands-grows p j (b .grows) st)))
   kept-timer now AnnounceDropped r r₁ b one j h =
-      let held : holds j (r₁ .state .cache) ≡ true = cached-announceDropped j r₁ h in
-      stillThere refl (b .grows .cached j held) (λ p nb nd st. got-settled p j (Fired AnnounceDropped) (onAnnounceDroppedTimer r₁) h
+      let held : holds j (r₁ .state .cache) ≡ true = same-holds j (r₁ .state .cache) (onAnnounceDroppedTimer r₁ .state .cache) (cached-announceDropped j r₁) h in
+      stillThere refl (λ v k. b .grows .cached j v (cached-announceDropped j r₁ v k)) (λ p nb nd st. got-settled p j (Fired AnnounceDropped) (onAnnounceDroppedTimer r₁) h
       (got-announceDropped p j r₁ held (stands-grows p j (b .grows) st)))
 
   grows-up : (p : ℕ) (r : Run) → Grows r (onNeighborUp p r)
@@ -279,7 +279,7 @@ module _ (hash : List ℕ → ℕ) where
 
   kept-down : (q : ℕ) (r : Run) (j : ℕ) → holds j (onNeighborDown q r .state .cache) ≡ true → KeptBy j (Down q) r (onNeighborDown q r)
   unfolding onNeighborDown forgetPeer took tookByEvent isOf tellsDown byEvent isDown
-  kept-down q r j h = stillThere refl h
+  kept-down q r j h = stillThere refl (λ v k. k)
       (λ p nb nd st. got-settled p j (Down q) (onNeighborDown q r) h (stands-got p j (onNeighborDown q r) (stands-down p q j (r .state) nd st)))
 
   pub messages : (now : ℕ) (e : Event) (r : Run) → ascending (keys (r .state .links)) ≡ true → any isEmit (r .actions) ≡ false → 1 ≤ perMessage (r .state .settings .maxMessageSize) →

@@ -10,6 +10,7 @@ pub mod ConsistentSteps
 pub mod CreatedWhole
 pub mod WholeKept
 pub mod NeverFive
+pub mod BlockAnswer
 pub mod Invariant
 pub mod LinkSteps
 pub mod StepNeighbours
@@ -18,9 +19,12 @@ pub mod StepRecord
 pub mod GraftSteps
 pub mod StepGrafts
 pub mod ReachSteps
+pub mod MetFull
 pub mod Pushes
 pub mod TakenIn
+pub mod EmitSteps
 pub mod StepMessages
 pub mod Step
+pub mod TookExact
 pub mod Demand3
 pub mod AnyQuestions

@@ -1,22 +1,22 @@
 -- Of one event: no cached message passes a neighbour over (`Does`, its field `messages`).
 use Prim.Native.Nat.{ℕ, suc, _≤_, _<_}
-use mathlib.Core.Path.{_≡_, refl, sym, ap, subst, _∙_}
-use mathlib.Core.Bool.{Bool, true, false, not, _||_}
-use mathlib.Core.List.{List, [], _∷_, _++_}
+use mathlib.Core.Path.{_≡_, refl, sym, subst, _∙_}
+use mathlib.Core.Bool.{true, false, not}
+use mathlib.Core.List.{List, []}
 use mathlib.Core.Logic.{_⊎_, inl, inr}
 use lib.Dec.{leb, ltb, eqb}
 use lib.ListN.{length}
 use borrow.Author.Tests.{eqb-true, ne-eqb, ltb-true, ltb-false, le-leb, lt-leb}
-use Rattle.lists.specs.Base.{if_then_else_, isSome, any, filter, ascending}
+use Rattle.lists.specs.Base.{if_then_else_, any, filter, ascending}
 use Rattle.lists.specs.Map.{has, keys}
 use Rattle.time_cache.specs.TimeCache.{holds, get, put}
 use Rattle.protocol.specs.Links.{isNeighbour}
 use Rattle.postcard.specs.Message.{Delivery, Swarm, Neighbors, Scope, toSwarm, toNeighbors, Message, Gossip, Prune, Graft, IHave, Timer, SendGraft, DispatchLazyPush, EvictCache, AnnounceDropped, Action, Emitted, Event, Received, Broadcast, Fired, Up, Down}
-use Rattle.protocol.specs.State.{State, Counts, Note, withInit}
-use Rattle.protocol.specs.Run.{Run, withState, withCounts, act, send}
+use Rattle.protocol.specs.State.{State, Counts, Note}
+use Rattle.protocol.specs.Run.{Run, withCounts, act}
 use Rattle.protocol.specs.Push.{forPeer, notes}
-use Rattle.protocol.specs.Gossips.{markReceived, cacheAt, graftedFor, updateLinks, pruneBack, takeIn, Late, duplicate, repeated, faster, lateKind, setKept, onDuplicate, onLateGraftReply, onNew, gossipSize, onGossip, broadcastTo, broadcast}
-use Rattle.protocol.specs.Ticks.{perMessage, onDispatchTimer, onAnnounceDroppedTimer, onEvictCacheTimer}
+use Rattle.protocol.specs.Gossips.{markReceived, cacheAt, graftedFor, updateLinks, takeIn, Late, lateKind, onLateGraftReply, onNew, gossipSize, onGossip, broadcastTo, broadcast}
+use Rattle.protocol.specs.Ticks.{perMessage, onDispatchTimer, onAnnounceDroppedTimer}
 use Rattle.protocol.specs.Neighbours.{withoutNotes, forgetPeer, onNeighborUp, onNeighborDown}
 use Rattle.protocol.specs.Handle.{firstEvent, countMessage, ifNeighbour, onTimer, onMessage, handleMessage, handle}
 use Rattle.protocol.specs.Answer.{accept}
@@ -24,12 +24,13 @@ use Rattle.protocol.specs.Demand3.{byEvent, isDown, tellsDown, isEmit, t
 use Rattle.lists.proofs.MapLaws.{cases, and-left, lookup-insert-other}
 use Rattle.time_cache.proofs.CacheLaws.{eqb-sym}
 use Rattle.protocol.proofs.LinkSteps.{keeps-firstEvent}
-use Rattle.lists.proofs.Lists.{any-append, any-right, any-one, any-filter}
+use Rattle.lists.proofs.Lists.{any-filter}
 use Rattle.protocol.proofs.Invariant.{Same, same-holds, Stands, Settled, Kept, stillThere, takenIn}
 use Rattle.protocol.proofs.Walk.{walk-if, walk-firstEvent, walk-eagerPush, walk-afterCache, walk-onDuplicate, walk-onPrune, walk-onGraft, walk-onIHave, walk-onSendGraftTimer}
 use Rattle.protocol.proofs.StepRecord.{sound-first}
 use Rattle.protocol.proofs.GraftSteps.{Shrinks, shrinks-trans, shrinks-steps}
 use Rattle.protocol.proofs.StepGrafts.{shrinks-first}
+use Rattle.protocol.proofs.EmitSteps.{quiet-first, quiet-duplicate, emits}
 use Rattle.protocol.proofs.ReachSteps.{Grows, grows-refl, grows-trans, grows-act, grows-steps, grows-sending, grows-lazyPush, grows-announces, grows-leaves, grows-grafts, Got, wentOut, cameBack, inQueue, inRecord, got-grows, got-settled, stands-got, alike}
 use Rattle.protocol.proofs.Pushes.{got-dispatch, cached-dispatch, got-announceDropped, cached-announceDropped}
 use Rattle.protocol.proofs.TakenIn.{got-takeIn, got-broadcast}
@@ -71,36 +72,6 @@ at-broadcast hash j now content r n =
 pub grows-first : (now : ℕ) (r : Run) → Grows r (firstEvent now r)
 grows-first now r = walk-firstEvent Grows grows-steps now r
 
--- no emit, no taking in
-
-any-skip : {A : Type 0} (f : A → Bool) (xs : List A) (x : A) → f x ≡ false → any f (xs ++ (x ∷ [])) ≡ any f xs
-any-skip f xs x h = any-append f xs (x ∷ []) ∙ rw (any-one f x, h) (or-none (any f xs))
-  where
-    or-none : (b : Bool) → (b || false) ≡ b
-    or-none true = refl
-    or-none false = refl
-
-abbrev Quiet : Run → Run → Type 0
-Quiet r r′ = any isEmit (r′ .actions) ≡ any isEmit (r .actions)
-
-quiet-if : (r x y : Run) (b : Bool) → Quiet r x → Quiet r y → Quiet r (if b then x else y)
-quiet-if r x y true p q = p
-quiet-if r x y false p q = q
-
-quiet-first : (now : ℕ) (r : Run) → Quiet r (firstEvent now r)
-unfolding firstEvent onEvictCacheTimer act isEmit
-quiet-first now r = quiet-if r r (onEvictCacheTimer now (withState (withInit true (r .state)) r)) (r .state .init) refl (any-skip isEmit (r .actions) _ refl)
-
-quiet-pruneBack : (p : ℕ) (r : Run) → Quiet r (pruneBack p r)
-unfolding pruneBack updateLinks send isEmit
-quiet-pruneBack p r = any-skip isEmit (r .actions) _ refl
-
-quiet-duplicate : (p id : ℕ) (l : Late) (r : Run) → Quiet r (onDuplicate p id l r)
-unfolding onDuplicate setKept
-quiet-duplicate p id duplicate r = quiet-pruneBack p r
-quiet-duplicate p id repeated r = refl
-quiet-duplicate p id (faster first) r = quiet-pruneBack first (setKept id p r)
-
 module _ (hash : List ℕ → ℕ) where
   abbrev KeptBy : ℕ → Event → Run → Run → Type 0
   KeptBy id e r r′ = Kept hash (r .state .settings) id (r .state) (accept e r′) (r′ .state)
@@ -116,10 +87,6 @@ module _ (hash : List ℕ → ℕ) where
   unfolding tookGossip isOf
   untaken j p id content (Swarm round) actions h = rw h
   untaken j p id content Neighbors actions h = refl
-
-  emits : (p : ℕ) (content : List ℕ) (d : Delivery) (r : Run) → any isEmit (act (Emitted p content d) r .actions) ≡ true
-  unfolding act isEmit
-  emits p content d r = any-right isEmit (r .actions) _ (any-one isEmit (Emitted p content d))
 
   -- the first event's work is done
   record Begun (r r₁ : Run) : Type 0 where

@@ -77,7 +77,7 @@ unfolding withFirst
 first-settings id h none s = refl
 first-settings id h (some g) s = refl
 
-first-cache : (id : ℕ) (h : Hop) (o : Option Grafts) (s : State) → withFirst id h o s .cache ≡ s .cache
+pub first-cache : (id : ℕ) (h : Hop) (o : Option Grafts) (s : State) → withFirst id h o s .cache ≡ s .cache
 unfolding withFirst
 first-cache id h none s = refl
 first-cache id h (some g) s = refl
@@ -128,7 +128,7 @@ lazyPush-settings : (id round sender : ℕ) (r : Run) → lazyPush id round send
 unfolding lazyPush
 lazyPush-settings id round sender r = scheduleDispatch-state (λ s. s .settings) (λ s. refl) _
 
-lazyPush-cache : (id round sender : ℕ) (r : Run) → lazyPush id round sender r .state .cache ≡ r .state .cache
+pub lazyPush-cache : (id round sender : ℕ) (r : Run) → lazyPush id round sender r .state .cache ≡ r .state .cache
 unfolding lazyPush
 lazyPush-cache id round sender r = scheduleDispatch-state (λ s. s .cache) (λ s. refl) _
 

@@ -1,15 +1,21 @@
 #!/usr/bin/env python3
 """The Rust's answers as a theorem about the definitions.
 
+    sample.py extra                         a few sections by hand, for SCRIPT: counts at their end, a full record, `kept`
     sample.py choose SCRIPT ANSWERS CALLS   from a long script and the Rust's answers to it, choose short sections that
                                             together show every kind of call and answer, and write both to CALLS
     sample.py module CALLS > MODULE         the module in which the definitions are computed on CALLS and compared
+    sample.py replay CALLS PROGRAM          do the commands of CALLS still get these answers from the Rust?
 
 SCRIPT and ANSWERS are input and output of the program of tests/rust. CALLS has a line for each command, its answer after
 a tab. README.md says how to repeat all of it.
 """
+import os
+import re
 import sys
 
+root = os.path.join(os.path.dirname(os.path.abspath(__file__)), "..", "..")
+sys.path.insert(0, os.path.join(root, "tests", "rust"))
 CEILINGS = [32, 2048, 512, 1048576, 512, 512, 512, 8192, 4096]
 OUTPUT = 1000000
 SPECS = {
@@ -95,7 +101,7 @@ def actions_seen(bytes_):
 def event_seen(bytes_, answer):
     """What an event is; of one that is not read, only its first byte."""
     if answer in ("7", "8", "9") or not bytes_:
-        return tuple(bytes_[:1])
+        return tuple(min(b, 5) for b in bytes_[:1])
     if bytes_[0] == 0:
         _, at = read_number(bytes_, 1)
         return ("received",) + message_seen(bytes_, at)[0]
@@ -119,7 +125,8 @@ def features(section):
         out.add(("answer", number, what[:2]))
         if number == "0":
             acts = actions_seen(bytes.fromhex(said[1]) if said[1] != "-" else b"")
-            out.add(("actions", what, tuple(dict.fromkeys(acts))))
+            kinds = [a[0] if a[0] == "send" else a for a in acts]
+            out.add(("actions", what, tuple(k for i, k in enumerate(kinds) if kinds[i - 1:i] != [k])))
             for a in acts:
                 out.add(("action", what, a))
     return out
@@ -129,27 +136,87 @@ def calls_of(section):
     return sum(1 for c, _ in section if c.startswith("ev "))
 
 
+def beginnings(section):
+    """The section up to each `dump`, without the dumps before."""
+    for k, (command, _) in enumerate(section):
+        if command == "dump":
+            yield [p for p in section[:k] if p[0] != "dump"] + [section[k]]
+
+
+def always(section):
+    """A section that sets the counts or loads a state was written by hand."""
+    return any(c.split()[0] in ("stats", "load") for c, _ in section)
+
+
+def small(section):
+    return calls_of(section) <= 60 and all(len(c) + len(a) < 2600 for c, a in section if c.startswith("ev "))
+
+
 def choose(script, answers, target):
     lines = [l.rstrip("\n") for l in open(script) if l.strip() and not l.startswith("#")]
     said = [l.rstrip("\n") for l in open(answers)]
     assert len(lines) == len(said), (len(lines), len(said))
-    pool = [s for s in sections(zip(lines, said))
-            if calls_of(s) <= 45 and all(len(c) + len(a) < 3000 for c, a in s if c.startswith("ev ")) and s[-1][0] == "dump"]
+    whole = sections(zip(lines, said))
+    chosen = [list(beginnings(s))[-1] for s in whole if always(s)]
+    pool = [b for s in whole if not always(s) for b in beginnings(s) if small(b)]
     shows = [features(s) for s in pool]
     left = set().union(*shows)
-    total, chosen, calls = len(left), [], 0
-    while left and calls < 420:
-        best = max(range(len(pool)), key=lambda i: len(shows[i] & left) / (20 + calls_of(pool[i])))
-        if not shows[best] & left:
-            break
+    total, calls = len(left), sum(map(calls_of, chosen))
+    while left:
+        best = max(range(len(pool)), key=lambda i: len(shows[i] & left) / (12 + calls_of(pool[i])))
         left -= shows[best]
-        chosen.append(best)
+        chosen.append(pool[best])
         calls += calls_of(pool[best])
+        if calls > 560:
+            break
     with open(target, "w") as f:
-        for i in chosen:
-            for c, a in pool[i]:
+        for s in chosen:
+            for c, a in s:
                 f.write(c + "\t" + a + "\n")
     print("%d sections, %d calls, %d of %d features" % (len(chosen), calls, total - len(left), total), file=sys.stderr)
+
+
+# Sections by hand.
+
+def extra():
+    import gen
+    panel = "new 1 4094 80 40 5 7 30000 90000 1000"
+    x = b"kiln"
+    i = gen.blake3(x)
+
+    def ev(now, event, rooms="-"):
+        print("ev %d %s %s" % (now, rooms, event.hex()))
+
+    # The counts end at 2^64 - 1: payload, then control.
+    print(panel)
+    print("stats %d %d 3" % (2**64 - 2, 2**64 - 2))
+    ev(0, gen.up(2))
+    for _ in range(2):
+        ev(1, gen.recv(2, gen.gossip(i, x, 7)))
+        ev(2, gen.recv(5, gen.prune()))
+    ev(3, gen.broadcast(x))
+    print("dump")
+    # 256 stand recorded for peer 2, none for peer 3: both hand back a reply and a payload.
+    print(panel)
+    record = "+".join("%064x:0" % k for k in range(256))
+    print("stats 0 0 0")
+    print("load me=1 M=4094 cfg=80,40,5,7,30000,90000,1000 init=1 dispatch=0 announce=1 eager=2,3 lazy=- received=- rexp=- "
+          "cache=%s@30000/0/%s cexp=30000:%s grafted=- gexp=- missing=- timers=- queue=- dropped=2/%s" % (i.hex(), x.hex(), i.hex(), record))
+    ev(5, gen.recv(2, gen.graft(i, 0)), "2:0")
+    ev(6, gen.recv(3, gen.graft(i, 0)), "3:0")
+    ev(7, gen.broadcast(b"clinker"), "3:0,2:0")
+    ev(8, gen.ANNOUNCE)
+    print("dump")
+    # A late reply to a Graft keeps its sender: the second one is no duplicate.
+    print(panel)
+    print("stats 0 0 0")
+    ev(0, gen.up(2))
+    ev(0, gen.up(3))
+    ev(1, gen.recv(2, gen.ihave([(i, 3)])))
+    ev(81, gen.send_graft(i))
+    for p in (3, 2, 2):
+        ev(90, gen.recv(p, gen.gossip(i, x, 3)))
+    print("dump")
 
 
 # The module.
@@ -168,7 +235,7 @@ def bytes_term(hexa):
 
 
 def ident(hexa):
-    return "0x" + hexa
+    return "0x" + (hexa.lstrip("0") or "0")
 
 
 def split(text, by=","):
@@ -313,8 +380,7 @@ def section_term(number, section, identify):
     ])
 
 
-def unfoldings(root):
-    import re
+def unfoldings():
     for prefix, mods in SPECS.items():
         for m in mods:
             text = open("%s/crates/%s/specs/%s.antt" % (root, CRATE[prefix], m)).read()
@@ -421,9 +487,6 @@ compare r x = sameList sameSaid (map said (r .answers)) (x .answers) ∷ alike (
 
 
 def module(calls):
-    import os
-    root = os.path.join(os.path.dirname(os.path.abspath(__file__)), "..", "..")
-    sys.path.insert(0, os.path.join(root, "tests", "rust"))
     from b3 import blake3
     pairs = [l.rstrip("\n").split("\t") for l in open(calls)]
     identify = {}
@@ -433,7 +496,7 @@ def module(calls):
                              for c in identify] + ["[]"])
     uses = "\n".join("use %s%s as %s" % (p, m, m) for p, mods in SPECS.items() for m in mods)
     out = [PRELUDE % uses]
-    out.append("hash : List ℕ → ℕ\nhash content = named names content\n  where\n    names : List Named\n    names = %s\n\n" % table)
+    out.append("names : List Named\nnames =\n    %s\n\nhash : List ℕ → ℕ\nhash content = named names content\n\n" % table)
     out.append("\n\n".join(terms))
     out.append("""
 
@@ -441,19 +504,33 @@ agrees : Section → List Bool
 agrees x = compare (runCalls hash (x .begin) (x .counts) (x .calls)) x
 
 -- %d lists, %d calls
-pub rust-sample : map agrees (%s) ≡ replicate %d (true ∷ true ∷ true ∷ [])
-unfolding agrees hash named %s %s
+rust-sample : map agrees (%s) ≡ replicate %d (true ∷ true ∷ true ∷ [])
+unfolding agrees hash names named %s %s
 rust-sample = refl
 """ % (n, sum(calls_of(s) for s in sections(pairs)), seq("section%d" % (i + 1) for i in range(n)), n,
-       " ".join("section%d" % (i + 1) for i in range(n)), " ".join(unfoldings(root))))
+       " ".join("section%d" % (i + 1) for i in range(n)), " ".join(unfoldings())))
     sys.stdout.write("".join(out))
 
 
+def replay(calls, program):
+    import subprocess
+    pairs = [l.rstrip("\n").split("\t") for l in open(calls)]
+    said = subprocess.run([program], input="".join(c + "\n" for c, _ in pairs), capture_output=True, text=True, check=True).stdout.splitlines()
+    wrong = [k for k, (_, a) in enumerate(pairs) if said[k:k + 1] != [a]]
+    if wrong or len(said) != len(pairs):
+        sys.exit("%d answers of %d differ, the first at line %d" % (len(wrong), len(pairs), wrong[0] + 1 if wrong else len(pairs)))
+    print("%d answers of the Rust are as stored" % len(pairs))
+
+
 def main():
-    if sys.argv[1:2] == ["choose"] and len(sys.argv) == 5:
+    if sys.argv[1:] == ["extra"]:
+        extra()
+    elif sys.argv[1:2] == ["choose"] and len(sys.argv) == 5:
         choose(*sys.argv[2:])
     elif sys.argv[1:2] == ["module"] and len(sys.argv) == 3:
         module(sys.argv[2])
+    elif sys.argv[1:2] == ["replay"] and len(sys.argv) == 4:
+        replay(*sys.argv[2:])
     else:
         sys.exit(__doc__)
 

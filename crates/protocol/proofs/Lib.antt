@@ -1,5 +1,6 @@
 pub mod Worked
 pub mod Astray
+pub mod RustSample
 pub mod Accepted
 pub mod Walk
 pub mod RecordOnly

@@ -491,7 +491,6 @@ def module(calls):
     pairs = [l.rstrip("\n").split("\t") for l in open(calls)]
     identify = {}
     terms = [section_term(i + 1, s, identify) for i, s in enumerate(sections(pairs))]
-    n = len(terms)
     table = "\n    ∷ ".join(["record { content = %s; id = 0x%s }" % (bytes_term(c).strip("()") if c else "[]", blake3(bytes.fromhex(c)).hex())
                              for c in identify] + ["[]"])
     uses = "\n".join("use %s%s as %s" % (p, m, m) for p, mods in SPECS.items() for m in mods)
@@ -502,13 +501,21 @@ def module(calls):
 
 agrees : Section → List Bool
 agrees x = compare (runCalls hash (x .begin) (x .counts) (x .calls)) x
-
--- %d lists, %d calls
-rust-sample : map agrees (%s) ≡ replicate %d (true ∷ true ∷ true ∷ [])
+""")
+    # The checker bounds the steps of one theorem.
+    groups, calls = [[]], 0
+    for i, section in enumerate(sections(pairs)):
+        if calls + calls_of(section) > 200:
+            groups.append([])
+            calls = 0
+        groups[-1].append("section%d" % (i + 1))
+        calls += calls_of(section)
+    for k, names in enumerate(groups):
+        out.append("""
+rust-sample-%d : map agrees (%s) ≡ replicate %d (true ∷ true ∷ true ∷ [])
 unfolding agrees hash names named %s %s
-rust-sample = refl
-""" % (n, sum(calls_of(s) for s in sections(pairs)), seq("section%d" % (i + 1) for i in range(n)), n,
-       " ".join("section%d" % (i + 1) for i in range(n)), " ".join(unfoldings())))
+rust-sample-%d = refl
+""" % (k + 1, seq(names), len(names), " ".join(names), " ".join(unfoldings()), k + 1))
     sys.stdout.write("".join(out))
 
 

@@ -1,3 +1,4 @@
 pub mod Lists
 pub mod ListLaws
 pub mod MapLaws
+pub mod Branches

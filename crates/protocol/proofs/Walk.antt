@@ -8,13 +8,13 @@ use lib.Dec.{ltb, eqb}
 use lib.ListN.{length}
 use Rattle.lists.specs.Base.{if_then_else_}
 use Rattle.time_cache.specs.TimeCache.{holds, get}
-use Rattle.protocol.specs.Links.{isNeighbour, eagerIn, makeEager, makeLazy}
+use Rattle.protocol.specs.Links.{isNeighbour, eagerIn, addEager, addLazy}
 use Rattle.postcard.specs.Message.{Delivery, Swarm, Neighbors, Scope, toSwarm, toNeighbors, Ihave, Message, Gossip, Prune, Graft, IHave, Timer, SendGraft, Scheduled, Emitted}
 use Rattle.protocol.specs.State.{Counts, Hop, Note, Cached, withInit}
 use Rattle.protocol.specs.Run.{Run, withState, withCounts, act, send, takes}
 use Rattle.protocol.specs.Push.{noteDropped, sendEach, noteForEach, noteAfter, pushTo, eagerPush, lazyPush, sendIhave}
-use Rattle.protocol.specs.Gossips.{markReceived, cacheAt, announcers, graftedFor, setFirst, graftOut, forgetMissing, raiseHops, leastFrom, farCloser, linksOf, graftUnlessEager, pruneBack, optimizeTree, forgetAndOptimise, pushOn, takeIn, Late, duplicate, repeated, faster, lateKind, keep, onDuplicate, onLateGraftReply, onNew, gossipSize, onGossip, broadcastTo, broadcast}
-use Rattle.protocol.specs.Control.{announce, scheduleGraft, onAnnounced, onIHave, onPrune, replyWith, reply, onGraft, noteGraft, leave, askFirst, unmark, onSendGraftTimer}
+use Rattle.protocol.specs.Gossips.{markReceived, cacheAt, announcers, graftedFor, setFirst, graftOut, forgetMissing, raiseHops, leastFrom, farCloser, updateLinks, graftUnlessEager, pruneBack, optimizeTree, forgetAndOptimise, pushOn, takeIn, Late, duplicate, repeated, faster, lateKind, setKept, onDuplicate, onLateGraftReply, onNew, gossipSize, onGossip, broadcastTo, broadcast}
+use Rattle.protocol.specs.Control.{announce, scheduleGraft, onAnnounced, onIHave, onPrune, replyWith, reply, onGraft, noteGraft, leaveAnnouncers, askFirst, unmark, onSendGraftTimer}
 use Rattle.protocol.specs.Ticks.{sendChunks, dispatchTo, onEvictCacheTimer}
 use Rattle.protocol.specs.Handle.{firstEvent}
 
@@ -30,11 +30,11 @@ pub record Steps (Rel : Run → Run → Type 0) : Type 0 where
   pub sending : Sending Rel
   pub schedules : (delay : ℕ) (t : Timer) (r : Run) → Rel r (act (Scheduled delay t) r)
   pub queues : (id round sender : ℕ) (r : Run) → Rel r (lazyPush id round sender r)
-  pub marksEager : (p : ℕ) (r : Run) → Rel r (linksOf (makeEager p) r)
-  pub marksLazy : (p : ℕ) (r : Run) → Rel r (linksOf (makeLazy p) r)
+  pub marksEager : (p : ℕ) (r : Run) → Rel r (updateLinks (addEager p) r)
+  pub marksLazy : (p : ℕ) (r : Run) → Rel r (updateLinks (addLazy p) r)
   pub receives : (now id : ℕ) (r : Run) → Rel r (markReceived now id r)
   pub setsFirst : (id sender round : ℕ) (r : Run) → Rel r (setFirst id sender round r)
-  pub keeps : (id p : ℕ) (r : Run) → Rel r (keep id p r)
+  pub keeps : (id p : ℕ) (r : Run) → Rel r (setKept id p r)
   pub forgets : (id : ℕ) (r : Run) → Rel r (forgetMissing id r)
   pub counts : (c : Counts) (r : Run) → Rel r (withCounts c r)
   pub schedulesGraft : (id : ℕ) (r : Run) → Rel r (scheduleGraft id r)
@@ -180,7 +180,7 @@ module _ (Rel : Run → Run → Type 0) (w : Steps Rel) where
   unfolding onGraft
   walk-onGraft sender o r = w .marksEager sender r ⨾ walk-reply sender o _
 
-  pub walk-onSendGraftTimer : ((id : ℕ) (hs : List Hop) (r : Run) → Rel r (leave id hs r)) → ((now id : ℕ) (h : Hop) (r : Run) → Rel r (noteGraft now id h r)) →
+  pub walk-onSendGraftTimer : ((id : ℕ) (hs : List Hop) (r : Run) → Rel r (leaveAnnouncers id hs r)) → ((now id : ℕ) (h : Hop) (r : Run) → Rel r (noteGraft now id h r)) →
       (now id : ℕ) (r : Run) → Rel r (onSendGraftTimer now id r)
   unfolding onSendGraftTimer askFirst
   walk-onSendGraftTimer leaves grafts now id r =

@@ -11,7 +11,7 @@ use Rattle.lists.specs.Base.{if_then_else_, isEmpty, all, any, count, member, o
 use Rattle.time_cache.specs.TimeCache.{holds}
 use Rattle.protocol.specs.Links.{Links, isNeighbour}
 use Rattle.postcard.specs.Message.{Ihave, Message, IHave, Action, Sent, Scheduled, AnnounceDropped}
-use Rattle.protocol.specs.State.{Note, withQueue}
+use Rattle.protocol.specs.State.{State, Note, withQueue, withDropped, withDispatchScheduled, withAnnounceScheduled}
 use Rattle.protocol.specs.Run.{Run, Room, hasRoom, useRoom, send, withState}
 use Rattle.protocol.specs.Push.{notes, recordFull, noteDropped, sendIhave}
 use Rattle.protocol.specs.Ticks.{perMessage, chunks, queuedFor, queuedPeers, sendChunks, dispatchTo, clearDispatch, onDispatchTimer}
@@ -22,6 +22,7 @@ use Rattle.decide.specs.RecordGrowth.{cachedIn, recordAction, addNote, a
 use Rattle.decide.specs.Pieces.{Piece, numbered, peerPieces, pieces, pieceTaken, pieceActions, backIhaves, dispatchBatches}
 use Rattle.decide.specs.SizesAfter.{dispatchSizes}
 use Rattle.decide.specs.ActionsAfter.{dispatchActions}
+use Rattle.decide.specs.StateAfter.{recordedState, dispatchState}
 use Rattle.lists.proofs.MapLaws.{cases, true≢, and-left, and-right, all-head, all-tail}
 use Rattle.lists.proofs.ListLaws.{all-append}
 use Rattle.protocol.proofs.RecordOnly.{RecordOnly, only-refl, only-trans, only-send, only-noteDropped}
@@ -30,6 +31,7 @@ use Rattle.protocol.proofs.ConsistentTables.{all-insertKey, ascending-insertKey
 use Rattle.decide.proofs.RoomLaws.{has-first, kth-used-same, kth-used-other}
 use Rattle.decide.proofs.RecordGrowthLaws.{only-sizes, noted-for, nextFlag, gains-now}
 use Rattle.decide.proofs.PushLaws.{once-ascending, noted-filled}
+use Rattle.decide.proofs.StateLaws.{only-state, notes-empty, flag-stands, flag-on}
 
 -- the pieces, one after the other
 
@@ -189,6 +191,34 @@ module _ (brought : List Room) where
           on : (b : Bool) → b ≡ false → flagged (r .state .dropped) b → isEmpty (addNotes (cachedIn (r .state .cache)) (x .peer) (x .ihaves) (r .state .dropped)) ≡ not (any (λ h. holds (h .id) (r .state .cache)) (x .ihaves))
           on true z h = true≢ (sym z)
           on false z h = rw (is-empty (r .state .dropped) h) (empty-notes (cachedIn (r .state .cache)) (x .peer) (x .ihaves))
+
+-- the record's flag after the pieces
+
+pieces-empty : (c : ℕ → Bool) (rooms : List Room) (xs : List Piece) (ds : List Note) → isEmpty (addPieces c rooms xs ds) ≡ true → isEmpty ds ≡ true
+unfolding addPieces
+pieces-empty c rooms [] ds e = e
+pieces-empty c rooms (x ∷ xs) ds e = on (pieceTaken rooms x) (pieces-empty c rooms xs (if pieceTaken rooms x then ds else addNotes c (x .peer) (x .ihaves) ds) e)
+  where
+    on : (b : Bool) → isEmpty (if b then ds else addNotes c (x .peer) (x .ihaves) ds) ≡ true → isEmpty ds ≡ true
+    on true h = h
+    on false h = notes-empty c (x .peer) (x .ihaves) ds h
+
+flag-next : (e t f : Bool) (ds ds′ : List Note) → (e ≡ true → isEmpty (if t then ds else ds′) ≡ true) → (not e || (if t then f else nextFlag ds′ f)) ≡ (not e || f)
+flag-next e true f ds ds′ k = refl
+flag-next e false f ds ds′ k = flag-on e (isEmpty ds′) f k
+
+pieces-flag : (brought : List Room) (xs : List Piece) (r : Run) → all (λ x. isNeighbour (x .peer) (r .state .links)) xs ≡ true → Rightly brought (r .rooms) xs → flagged (r .state .dropped) (r .state .announceScheduled) →
+    sendPieces xs r .state .announceScheduled ≡ (not (isEmpty (addPieces (cachedIn (r .state .cache)) brought xs (r .state .dropped))) || r .state .announceScheduled)
+unfolding sendPieces Rightly addPieces
+pieces-flag brought [] r n w g = flag-stands (isEmpty (r .state .dropped)) (r .state .announceScheduled) g
+pieces-flag brought (x ∷ xs) r n w g =
+    let o = one-piece brought x r (all-head (λ x. isNeighbour (x .peer) (r .state .links)) x xs n) (unfold pieceTaken in (w .0)) in
+    pieces-flag brought xs (sendIhave (x .peer) (x .ihaves) r) (rw (o .aside .links) (all-tail (λ x. isNeighbour (x .peer) (r .state .links)) x xs n)) (rw (o .rooms) (w .1))
+    (rw (o .dropped, o .flag) (next-flagged (pieceTaken brought x) (r .state .announceScheduled) (r .state .dropped) (addNotes (cachedIn (r .state .cache)) (x .peer) (x .ihaves) (r .state .dropped)) g))
+    ∙ rw (o .aside .cache, o .dropped, o .flag)
+    (flag-next (isEmpty (addPieces (cachedIn (r .state .cache)) brought xs (if pieceTaken brought x then r .state .dropped else addNotes (cachedIn (r .state .cache)) (x .peer) (x .ihaves) (r .state .dropped))))
+    (pieceTaken brought x) (r .state .announceScheduled) (r .state .dropped) (addNotes (cachedIn (r .state .cache)) (x .peer) (x .ihaves) (r .state .dropped))
+    (pieces-empty (cachedIn (r .state .cache)) brought xs (if pieceTaken brought x then r .state .dropped else addNotes (cachedIn (r .state .cache)) (x .peer) (x .ihaves) (r .state .dropped))))
 
 -- the pieces of each peer as one batch
 
@@ -372,3 +402,20 @@ module _ (r : Run) (x : Consistent (r .state)) where
       ∙ clear-dropped (sendPieces (pieces qs k (r .state .queue)) r₁)
       ∙ pieces-dropped (r .rooms) (pieces qs k (r .state .queue)) r₁ near₁ right₁
       ∙ pieces-batches (cachedIn (r .state .cache)) (r .rooms) qs k (r .state .queue) (r .state .dropped)
+
+  clear-state : (y : Run) → clearDispatch y .state ≡ withDispatchScheduled false (y .state)
+  unfolding clearDispatch
+  clear-state y = refl
+
+  -- the state after a dispatch
+  pub dispatched-state : onDispatchTimer r .state ≡ dispatchState (r .rooms) (r .state)
+  unfolding qs k r₁ dispatchState recordedState
+  dispatched-state =
+      let xs = pieces qs k (r .state .queue) in
+      let b = pieces-batches (cachedIn (r .state .cache)) (r .rooms) qs k (r .state .queue) (r .state .dropped) in
+      ap (λ (y : Run). y .state) dispatch-is
+      ∙ clear-state (sendPieces xs r₁)
+      ∙ ap (λ (s : State). withDispatchScheduled false s)
+      (only-state r₁ (sendPieces xs r₁) (pieces-aside (r .rooms) xs r₁ near₁ right₁)
+      ∙ (λ j. withAnnounceScheduled ((pieces-flag (r .rooms) xs r₁ near₁ right₁ (x .recordFlag) ∙ ap (λ (ds : List Note). not (isEmpty ds) || r .state .announceScheduled) b) j)
+      (withDropped ((pieces-dropped (r .rooms) xs r₁ near₁ right₁ ∙ b) j) (withQueue [] (r .state)))))

@@ -17,3 +17,5 @@ pub mod RoomsCall
 pub mod Decide
 pub mod BeforeFirstEvent
 pub mod BackPart
+pub mod StateLaws
+pub mod StateAfterLaws

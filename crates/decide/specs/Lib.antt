@@ -6,3 +6,4 @@ pub mod RecordGrowth
 pub mod Pieces
 pub mod SizesAfter
 pub mod ActionsAfter
+pub mod StateAfter

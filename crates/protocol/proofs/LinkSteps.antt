@@ -48,7 +48,7 @@ has-insert q p m l h =
     (λ e. rw (eqb-true q p e) (ap isSome (lookup-insert-same p m l) ∙ sym h))
     (λ e. ap isSome (lookup-insert-other q p m l e))
 
-has-mark : (q p : ℕ) (m : Mark) (l : Links) → isNeighbour q (markIfThere p m l) ≡ isNeighbour q l
+pub has-mark : (q p : ℕ) (m : Mark) (l : Links) → isNeighbour q (markIfThere p m l) ≡ isNeighbour q l
 unfolding markIfThere
 has-mark q p m l = cases (isNeighbour p l) (λ h. rw h (has-insert q p m l h)) (λ h. rw h)
 

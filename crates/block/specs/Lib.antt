@@ -1,0 +1,8 @@
+pub mod Cut
+pub mod Layout
+pub mod Caches
+pub mod View
+pub mod Fit
+pub mod Sound
+pub mod Heads
+pub mod Goes

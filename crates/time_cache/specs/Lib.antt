@@ -1,1 +1,2 @@
 pub mod TimeCache
+pub mod Tables

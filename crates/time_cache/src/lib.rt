@@ -1,1 +1,2 @@
-// time_cache
+// Time caches in lent parts of one block: document 01, "Time caches".
+pub mod cache;

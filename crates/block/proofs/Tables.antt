@@ -6,11 +6,12 @@ use Prim.Native.Nat.{ℕ, zero, suc, _+_, _-_, _*_, _≤_, _<_}
 use native.Mathlib.Omega.{arith}
 use lib.Dec.{lit<}
 use lib.ListN.{length, take, drop, getD, set, length-map, List·getD-map, drop-of-length-le}
+use lib.Seq.{take-take}
 use native.Mathlib.Nat.{not-suc-le-zero, le-of-suc-le-suc}
 use Rattle.rows.specs.Part.{part, put}
 use Rattle.rows.specs.Rows.{rows}
 use Rattle.rows.proofs.Keep.{rows-push}
-use Rattle.rows.proofs.Rows.{getD-rows, length-rows}
+use Rattle.rows.proofs.Rows.{getD-rows, length-rows, rows-same}
 use Rattle.rows.proofs.Parts.{part-part, getD-part}
 use Rattle.protocol.specs.State.{Limits, blockNeed}
 use Rattle.block.specs.Cut.{cut, start, total}
@@ -84,3 +85,11 @@ byte-in l t s i o xs ht ho hi =
     getD-part (i * s) s o 0 (table l t xs) ho
     ∙ ap (λ (p : List ℕ). getD p (i * s + o) 0) (cut-part (sizes l) t xs ht)
     ∙ getD-part (place l t) (getD (sizes l) t 0) (i * s + o) 0 xs (omega arith)
+
+-- the rows of table t, as they lie in the block
+pub rows-table : (l : Limits) (t s n : ℕ) (xs : List ℕ) → t < 15 → n * s ≤ getD (sizes l) t 0
+    → rows s n (table l t xs) ≡ rows s n (drop (place l t) xs)
+unfolding part
+rows-table l t s n xs ht h =
+    rows-same s n (table l t xs) (drop (place l t) xs)
+    (ap (take (n * s)) (cut-part (sizes l) t xs ht) ∙ take-take (n * s) (getD (sizes l) t 0) (drop (place l t) xs) h)

@@ -1,6 +1,5 @@
 pub mod Cut
 pub mod Layout
-pub mod Caches
 pub mod View
 pub mod Fit
 pub mod Sound

@@ -8,11 +8,10 @@ use Rattle.lists.specs.Base.{sum}
 use Rattle.lists.specs.Map.{Map}
 use Rattle.rows.specs.Part.{part}
 use Rattle.rows.specs.Rows.{rows}
-use Rattle.refs.specs.Refs.{Below}
+use Rattle.refs.specs.Refs.{Below, refs, places}
 use Rattle.time_cache.specs.TimeCache.{Timed}
 use Rattle.protocol.specs.State.{Cached}
 use Rattle.block.specs.Layout.{tables}
-use Rattle.block.specs.Caches.{refs, places}
 use Rattle.block.specs.View.{limitsOf, byteAt, fourAt, cachedIn}
 use Rattle.block.specs.Fit.{Fit}
 use Rattle.block.specs.declared.head.Head.{Head}

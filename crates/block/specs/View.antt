@@ -13,7 +13,7 @@ use Rattle.rows.specs.Keep.{fieldOf}
 use Rattle.lists.specs.Base.{if_then_else_}
 use Rattle.lists.specs.Map.{Map, Entry, entry, keys}
 use Rattle.time_cache.specs.TimeCache.{Cache}
-use Rattle.block.specs.Caches.{cacheIn}
+use Rattle.time_cache.specs.Tables.{cacheIn}
 use Rattle.protocol.specs.Links.{Mark, eager, lazy, Links}
 use Rattle.protocol.specs.State.{State, Settings, Limits, Note, Hop, Grafts, Cached}
 use Rattle.block.specs.Layout.{tables}

@@ -7,3 +7,6 @@ pub mod Scans
 pub mod LinkLaws
 pub mod Numbered
 pub mod NoteLaws
+pub mod RowLaws
+pub mod KeyPlaces
+pub mod TimerLaws

@@ -8,3 +8,4 @@ pub mod Goes
 pub mod Header
 pub mod LinkSteps
 pub mod NoteSteps
+pub mod TimerSteps

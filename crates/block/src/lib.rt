@@ -3,3 +3,4 @@ pub mod head;
 pub mod header;
 pub mod links;
 pub mod note;
+pub mod timers;

@@ -10,3 +10,5 @@ pub mod NoteLaws
 pub mod RowLaws
 pub mod KeyPlaces
 pub mod TimerLaws
+pub mod Each
+pub mod HopLaws

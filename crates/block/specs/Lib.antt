@@ -9,3 +9,4 @@ pub mod Header
 pub mod LinkSteps
 pub mod NoteSteps
 pub mod TimerSteps
+pub mod HopSteps

@@ -65,7 +65,7 @@ module _ {A : Type 0} (f : A → List ℕ) where
   listed-none {xs} {o} {at} room = listed-start {head = []} room (record { out = sym (put-nil at o); place = omega arith })
 
   module _ {head : List ℕ} {xs : List A} {o o′ : List ℕ} {at m k : ℕ} (d : A) (w : Listed head xs o at o′ m k) (h : k < length xs) where
-    -- the next element has room
+    -- the first k + 1 are the first k and the next
     so-far : head ++ concatMap f (take (k + 1) xs) ≡ (head ++ concatMap f (take k xs)) ++ f (getD xs k d)
     so-far = ap (λ (l : List ℕ). head ++ l) (take-more xs k d h) ∙ sym (append-assoc head (concatMap f (take k xs)) (f (getD xs k d)))
 
@@ -77,6 +77,7 @@ module _ {A : Type 0} (f : A → List ℕ) where
         ∙ sym (append-assoc head (concatMap f (take (k + 1) xs)) (concatMap f (drop (k + 1) xs))) in
         subst (λ (l : List ℕ). Room l at o) so-far (room-first (concatMap f (drop (k + 1) xs)) (subst (λ (l : List ℕ). Room l at o) e (w .room)))
 
+    -- the next element has room
     pub listed-room : Room (f (getD xs k d)) m o′
     listed-room = room-then (w .wrote) room-more
 

@@ -11,7 +11,7 @@ use Rattle.lists.specs.Base.{all, ascending}
 use Rattle.lists.specs.Map.{keys}
 use Rattle.rows.specs.Part.{part, put}
 use Rattle.rows.specs.Rows.{rows}
-use Rattle.rows.specs.Entries.{Only}
+use Rattle.rows.specs.Part.{Only}
 use Rattle.rows.proofs.Parts.{length-part, length-put, part-put, part-before, part-after, put-part, put-over, drop-put, loan-put}
 use Rattle.rows.proofs.Rows.{rows-same, rows-take}
 use Rattle.refs.specs.Refs.{Ref, refOf, refs, places, Below}

@@ -13,7 +13,7 @@ use Rattle.lists.specs.Base.{if_then_else_, all, filter, ascending}
 use Rattle.lists.specs.Map.{keys}
 use Rattle.lists.proofs.MapLaws.{cases, all-head, all-tail, all-cons}
 use Rattle.lists.proofs.ListLaws.{all-imp, all-map, all-filter-imp}
-use Rattle.rows.specs.Entries.{Only}
+use Rattle.rows.specs.Part.{Only}
 use Rattle.refs.specs.Refs.{Ref, ref, places, names, lowered, left}
 use Rattle.time_cache.specs.TimeCache.{Cache, expireUntil, expiredKeys, inPopOrder}
 use Rattle.time_cache.specs.Tables.{ExpiryRow, expiryRows, expiryOf, Cut, Held, held, entryOf, cacheOf, refsAt, rowsAt, cacheAt, Lies, resized, Sound, OnlyTwo}

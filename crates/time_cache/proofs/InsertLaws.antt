@@ -10,7 +10,7 @@ use lib.Seq.{getD-at, length-take-le}
 use Rattle.lists.specs.Base.{ascending}
 use Rattle.lists.specs.Map.{keys}
 use Rattle.rows.specs.Part.{part, put}
-use Rattle.rows.specs.Entries.{Only}
+use Rattle.rows.specs.Part.{Only}
 use Rattle.rows.specs.Sorted.{Between, Here, FoundIs}
 use Rattle.rows.specs.declared.table.Found.{Found}
 use Rattle.rows.specs.declared.table.Found.the-variants.{At, Before}

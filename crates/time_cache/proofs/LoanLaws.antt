@@ -9,7 +9,7 @@ use lib.ListN.{length, take, drop, getD, length-drop, length-take}
 use lib.Seq.{take-take, take-append-le, take-add, drop-at, drop-drop, length-take-le}
 use Rattle.rows.specs.Part.{part, put}
 use Rattle.rows.specs.Rows.{rows}
-use Rattle.rows.specs.Entries.{Only}
+use Rattle.rows.specs.Part.{Only}
 use Rattle.rows.proofs.Parts.{length-part, length-put, part-put, part-before, part-after, part-add, put-part, put-over, put-put-next, put-inside, drop-put, loan-put}
 use Rattle.rows.proofs.Rows.{rows-same}
 use Rattle.rows.proofs.Views.{only-apart, loan-only}

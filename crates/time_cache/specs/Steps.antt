@@ -7,7 +7,7 @@ use Prim.Native.Nat.{ℕ, _+_, _-_, _*_, _≤_, _<_}
 use lib.ListN.{length, getD, take, drop}
 use Rattle.lists.specs.Map.{lookup}
 use Rattle.rows.specs.Part.{put}
-use Rattle.rows.specs.Entries.{Only}
+use Rattle.rows.specs.Part.{Only}
 use Rattle.rows.specs.Sorted.{FoundIs}
 use Rattle.rows.specs.declared.table.Found.{Found}
 use Rattle.rows.specs.declared.table.Found.the-variants.{At, Before}

@@ -13,7 +13,7 @@ ghost use Prim.Native.Nat.{_+_, _-_, _*_, _≤_, _<_};
 ghost use lib.ListN.{length, take, drop};
 ghost use Rattle.lists.specs.Map.{keys};
 ghost use Rattle.rows.specs.Ident.{idOf};
-ghost use Rattle.rows.specs.Entries.{Only};
+ghost use Rattle.rows.specs.Part.{Only};
 ghost use Rattle.rows.specs.Part.{put};
 ghost use Rattle.rows.specs.Sorted.{FoundIs};
 ghost use Rattle.refs.specs.Refs.{ref, places, Below, moved};

@@ -5,7 +5,7 @@ use Prim.Native.Nat.{ℕ, _+_, _*_, _≤_}
 use Rattle.rows.specs.Part.{put}
 use Rattle.rows.specs.Digits.{leBytes, beBytes}
 use Rattle.rows.specs.Ident.{idOf}
-use Rattle.rows.proofs.Entries.{id-lt}
+use Rattle.rows.proofs.Ids.{id-lt}
 use Rattle.refs.proofs.Places.{row-end}
 use Rattle.time_cache.specs.Tables.{expiryRows}
 use Rattle.time_cache.proofs.ExpiryLaws.{row-added}

@@ -1,7 +1,7 @@
 -- `store_place`: the two bytes at the start of the entry's row.
 -- Assumes nothing.
 use mathlib.Core.Path.{_≡_, sym, ap, _∙_, subst}
-use Rattle.rows.specs.Entries.{Only}
+use Rattle.rows.specs.Part.{Only}
 use mathlib.Core.List.{List, []}
 use Prim.Native.Nat.{ℕ, _+_, _*_, _≤_}
 use lib.ListN.{length, drop, length-drop}

@@ -5,7 +5,7 @@ use mathlib.Core.Bool.{Bool, true, false, not}
 use mathlib.Core.List.{List, [], _∷_, map}
 use lib.Dec.{ltb, eqb}
 use borrow.Author.Tests.{not-true}
-use Rattle.lists.specs.Base.{isEmpty, all, filter, ascending}
+use Rattle.lists.specs.Base.{isEmpty, all, ascending}
 use Rattle.lists.specs.Map.{Map, Entry, entry, keys, remove}
 use Rattle.time_cache.specs.TimeCache.{Timed}
 use Rattle.protocol.specs.Links.{Links, isNeighbour, linkDown}
@@ -15,11 +15,11 @@ use Rattle.protocol.specs.Neighbours.{withoutAnnouncer, forgetAnnouncer,
 use Rattle.protocol.specs.Whole.{announcersWhole, graftsWhole}
 use Rattle.lists.proofs.MapLaws.{cases, and-left, and-right, and-intro, all-head, all-tail, all-cons, ascending-remove}
 use Rattle.time_cache.proofs.CacheLaws.{eqb-sym}
-use Rattle.lists.proofs.Lists.{or-right}
 use Rattle.lists.proofs.ListLaws.{all-imp, all-filter-imp, all-map, has-remove}
 use Rattle.time_cache.proofs.Timely.{timely-map}
-use Rattle.protocol.proofs.Consistent.{CoreOf, Consistent, byNeighbour, flagged}
-use Rattle.protocol.proofs.ConsistentTables.{Announcers, to-announcers, of-announcers, once-filter, Grafted, to-grafted, of-grafted, noted-filter, within-filter}
+use Rattle.protocol.proofs.Consistent.{CoreOf, Consistent, byNeighbour}
+use Rattle.protocol.proofs.ConsistentTables.{Announcers, to-announcers, of-announcers, once-filter, Grafted, to-grafted, of-grafted, noted-filter}
+use Rattle.protocol.proofs.RecordBounds.{flagged-filter, within-filter}
 
 -- whoever else was a neighbour is one
 still-near : (p q : ℕ) (l : Links) → eqb q p ≡ false → isNeighbour q l ≡ true → isNeighbour q (remove p l) ≡ true
@@ -108,11 +108,6 @@ core-down p s c = record {
     keeps-time e = unfold withoutGraft in refl
 
 -- a part of a list stands only with the list's flag
-flagged-filter : (f : Note → Bool) (ns : List Note) (flag : Bool) → flagged ns flag → flagged (filter f ns) flag
-unfolding filter
-flagged-filter f [] flag h = refl
-flagged-filter f (n ∷ ns) flag h = or-right (isEmpty (filter f (n ∷ ns))) flag h
-
 pub consistent-down : (p : ℕ) (s : State) → Consistent s → Consistent (forgetPeer p s)
 unfolding forgetPeer withoutNotes
 consistent-down p s x = record {

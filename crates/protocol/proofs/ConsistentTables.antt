@@ -1,27 +1,26 @@
 -- What `whole` asks of the parts of the state, kept by the functions that change a part.
-use Prim.Native.Nat.{ℕ, _≤_, _<_}
+use Prim.Native.Nat.{ℕ, _<_}
 use mathlib.Core.Path.{_≡_, refl, sym, _∙_}
 use mathlib.Core.Bool.{Bool, true, false, not, _&&_}
 use mathlib.Core.List.{List, [], _∷_, _++_, map}
 use mathlib.Core.Option.{Option, none, some}
 use native.Mathlib.Omega.{arith}
-use lib.Dec.{leb, ltb, eqb}
-use lib.ListN.{length, length-append}
-use borrow.Author.Tests.{eqb-true, eqb-false, eq-eqb, leb-false, ltb-true, ltb-false, lt-ltb, not-true}
+use lib.Dec.{ltb, eqb}
+use borrow.Author.Tests.{eqb-false, eq-eqb, ltb-true, ltb-false, lt-ltb, not-true}
 use Rattle.lists.specs.Base.{isEmpty, all, any, filter, count, member, ascending, once}
 use Rattle.lists.specs.Map.{Map, Entry, entry, keys, lookup, insert, insertKey, removeKey}
 use Rattle.time_cache.specs.TimeCache.{Timed, Cache, valueOf, get, withValue, replace, put}
 use Rattle.protocol.specs.Links.{Mark, Links, isNeighbour, peersMarked, markIfThere}
 use Rattle.protocol.specs.State.{Note, Hop, Grafts}
-use Rattle.protocol.specs.Push.{forPeer, notes, recordFull, noteFor}
+use Rattle.protocol.specs.Push.{forPeer, notes, noteFor}
 use Rattle.protocol.specs.Control.{addAnnouncer}
 use Rattle.protocol.specs.Ticks.{oldest, younger}
 use Rattle.protocol.specs.Whole.{neighbours, announcersWhole, graftsWhole, notedOnce}
 use Rattle.lists.proofs.MapLaws.{cases, true≢, and-left, and-right, and-intro, all-head, all-tail, all-cons, all-above, ascending-insert}
 use Rattle.time_cache.proofs.CacheLaws.{eqb-sym}
-use Rattle.lists.proofs.Lists.{or-right, or-false-left, or-false-right, any-append}
-use Rattle.lists.proofs.ListLaws.{all-imp, all-append, all-map, all-insert-entry, all-lookup, count-append, count-filter, any-filter-false, has-insert}
-use Rattle.protocol.proofs.Consistent.{Within, byNeighbour}
+use Rattle.lists.proofs.Lists.{or-right, any-append}
+use Rattle.lists.proofs.ListLaws.{all-imp, all-append, all-map, all-insert-entry, all-lookup, any-filter-false, has-insert}
+use Rattle.protocol.proofs.Consistent.{byNeighbour}
 
 pub negated : {b : Bool} → b ≡ false → not b ≡ true
 negated e = rw e
@@ -151,59 +150,6 @@ all-oldest f seen (n ∷ ns) h =
     cases (ltb (count (forPeer (n .peer)) seen) 64)
     (λ p. rw p (all-cons f n (oldest (n ∷ seen) ns) (all-head f n ns h) (all-oldest f (n ∷ seen) ns (all-tail f n ns h))))
     (λ p. rw p (all-oldest f (n ∷ seen) ns (all-tail f n ns h)))
-
-count-younger : (f : Note → Bool) (seen ns : List Note) → count f (younger seen ns) ≤ count f ns
-unfolding count younger
-count-younger f seen [] = omega arith
-count-younger f seen (n ∷ ns) =
-    cases (ltb (count (forPeer (n .peer)) seen) 64)
-    (λ p. rw p (cases (f n) (λ q. rw q (omega (arith, count-younger f (n ∷ seen) ns))) (λ q. rw q (count-younger f (n ∷ seen) ns))))
-    (λ p. rw p (cases (f n) (λ q. rw q (omega (arith, count-younger f (n ∷ seen) ns))) (λ q. rw q (count-younger f (n ∷ seen) ns))))
-
-length-younger : (seen ns : List Note) → length (younger seen ns) ≤ length ns
-unfolding younger
-length-younger seen [] = omega arith
-length-younger seen (n ∷ ns) =
-    cases (ltb (count (forPeer (n .peer)) seen) 64)
-    (λ p. rw p (omega (arith, length-younger (n ∷ seen) ns))) (λ p. rw p (omega (arith, length-younger (n ∷ seen) ns)))
-
-filter-shorter : (g : Note → Bool) (ns : List Note) → length (filter g ns) ≤ length ns
-unfolding filter
-filter-shorter g [] = omega arith
-filter-shorter g (n ∷ ns) = cases (g n) (λ p. rw p (omega (arith, filter-shorter g ns))) (λ p. rw p (omega (arith, filter-shorter g ns)))
-
-pub within-filter : (g : Note → Bool) (ns : List Note) → Within ns → Within (filter g ns)
-within-filter g ns w = record {
-  each = λ p. omega (arith, count-filter (forPeer p) g ns, w .each p);
-  inAll = omega (arith, filter-shorter g ns, w .inAll);
-}
-
-pub within-younger : (ns : List Note) → Within ns → Within (younger [] ns)
-within-younger ns w = record {
-  each = λ p. omega (arith, count-younger (forPeer p) [] ns, w .each p);
-  inAll = omega (arith, length-younger [] ns, w .inAll);
-}
-
-count-one : (f : Note → Bool) (n : Note) → count f (n ∷ []) ≤ 1
-unfolding count
-count-one f n = cases (f n) (λ p. rw p (omega arith)) (λ p. rw p (omega arith))
-
--- one more, where the record is not full
-pub within-more : (n : Note) (ns : List Note) → recordFull (n .peer) ns ≡ false → Within ns → Within (ns ++ (n ∷ []))
-unfolding recordFull
-within-more n ns full w =
-    record {
-      each = λ q. rw count-append (cases (eqb (n .peer) q)
-          (λ m. rw (sym (eqb-true (n .peer) q m)) (omega (arith, count-one (forPeer (n .peer)) n, room)))
-          (λ m. omega (arith, none-of q m, w .each q)));
-      inAll = omega (arith, length-append ns (n ∷ []), leb-false 4096 (length ns) (or-false-right (leb 256 (count (forPeer (n .peer)) ns)) (leb 4096 (length ns)) full));
-    }
-  where
-    room : count (forPeer (n .peer)) ns < 256
-    room = leb-false 256 (count (forPeer (n .peer)) ns) (or-false-left (leb 256 (count (forPeer (n .peer)) ns)) (leb 4096 (length ns)) full)
-
-    none-of : (q : ℕ) → eqb (n .peer) q ≡ false → count (forPeer q) (n ∷ []) ≡ 0
-    none-of q m = unfold count in (rw m)
 
 -- sets of numbers
 

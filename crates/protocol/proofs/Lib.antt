@@ -27,6 +27,7 @@ pub mod WholeKept
 pub mod NeverFive
 pub mod BlockAnswer
 pub mod TookExact
+pub mod Examples
 pub mod Worked
 pub mod Astray
 pub mod RustSample

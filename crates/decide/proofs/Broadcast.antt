@@ -23,12 +23,13 @@ use Rattle.decide.specs.Rooms.{backPeers}
 use Rattle.decide.specs.RecordGrowth.{cachedIn, pushActions}
 use Rattle.decide.specs.SizesAfter.{contentOf, takenSizes, broadcastSizes}
 use Rattle.decide.specs.ActionsAfter.{dispatchAction, broadcastActions}
-use Rattle.lists.proofs.MapLaws.{cases, and-left, and-right, all-head, all-tail, lookup-insert-same}
+use Rattle.lists.proofs.MapLaws.{cases, and-left, and-right, lookup-insert-same}
 use Rattle.protocol.proofs.Consistent.{CoreOf}
 use Rattle.lists.proofs.Branches.{if-on, if-same}
 use Rattle.decide.proofs.UpDownEvict.{dispatch-sizes, dispatch-actions, dispatch-state, dispatch-rooms}
 use Rattle.decide.proofs.GraftSendGraft.{push-gains, length-put, expiry-put}
 use Rattle.decide.proofs.PushLaws.{targets-once, targets-near, swarm-sizes, swarm-actions, near-actions, near-state}
+use Rattle.lists.proofs.KeyLaws.{lookup-absent, above-all}
 
 -- content bytes
 
@@ -39,25 +40,13 @@ heldOf : Option (Timed Cached) → ℕ
 heldOf none = 0
 heldOf (some t) = length (t .value .content)
 
-absent : (k : ℕ) (m : Map (Timed Cached)) → all (ltb k) (keys m) ≡ true → lookup k m ≡ none
-unfolding lookup
-absent k [] a = refl
-absent k (e ∷ m) a =
-    rw (ne-eqb k (e .key) (λ q. omega (arith, ltb-true k (e .key) (all-head (ltb k) (e .key) (keys m) a)))) (absent k m (all-tail (ltb k) (e .key) (keys m) a))
-
-above-all : (k j : ℕ) (m : Map (Timed Cached)) → ltb k j ≡ true → all (ltb j) (keys m) ≡ true → lookup k m ≡ none
-unfolding lookup
-above-all k j [] h a = refl
-above-all k j (e ∷ m) h a =
-    rw (ne-eqb k (e .key) (λ q. omega (arith, ltb-true k j h, ltb-true j (e .key) (all-head (ltb j) (e .key) (keys m) a)))) (above-all k j m h (all-tail (ltb j) (e .key) (keys m) a))
-
 sum-insert : (k : ℕ) (v : Timed Cached) (m : Map (Timed Cached)) → ascending (keys m) ≡ true →
     sum (λ e. length (e .value .value .content)) (insert k v m) + heldOf (lookup k m) ≡ sum (λ e. length (e .value .value .content)) m + length (v .value .content)
 unfolding sum insert lookup ascending heldOf
 sum-insert k v [] h = omega arith
 sum-insert k v (e ∷ m) h =
     cases (ltb k (e .key))
-    (λ l. rw l (rw (ne-eqb k (e .key) (λ q. omega (arith, ltb-true k (e .key) l)), above-all k (e .key) m l above) (omega arith)))
+    (λ l. rw l (rw (ne-eqb k (e .key) (λ q. omega (arith, ltb-true k (e .key) l)), lookup-absent k m (above-all k (e .key) m l above)) (omega arith)))
     (λ l. cases (eqb k (e .key)) (λ q. rw (l, q) (omega arith))
     (λ q. rw (l, q) (omega (arith, sum-insert k v m rest))))
   where

@@ -26,7 +26,8 @@ use Rattle.decide.specs.StateAfter.{recordedState, dispatchState}
 use Rattle.lists.proofs.MapLaws.{cases, true≢, and-left, and-right, all-head, all-tail}
 use Rattle.lists.proofs.ListLaws.{all-append}
 use Rattle.protocol.proofs.RecordOnly.{RecordOnly, only-refl, only-trans, only-send, only-noteDropped}
-use Rattle.protocol.proofs.Consistent.{Consistent, flagged, byNeighbour}
+use Rattle.protocol.proofs.Consistent.{Consistent, byNeighbour}
+use Rattle.protocol.proofs.RecordBounds.{Flagged}
 use Rattle.protocol.proofs.ConsistentTables.{all-insertKey, ascending-insertKey}
 use Rattle.decide.proofs.RoomLaws.{has-first, kth-used-same, kth-used-other}
 use Rattle.decide.proofs.RecordGrowthLaws.{only-sizes, noted-for, nextFlag, gains-now}
@@ -137,7 +138,7 @@ is-empty : (ds : List Note) → (isEmpty ds || false) ≡ true → ds ≡ []
 is-empty [] h = refl
 is-empty (d ∷ ds) h = true≢ h
 
--- one piece's actions, by the four tests: taken, flagged, one cached, nothing recorded after
+-- one piece's actions, by the four tests: taken, Flagged, one cached, nothing recorded after
 step-actions : (t f a e : Bool) (before : List Action) (sent : Action) (rest : Bool → List Action) → (t ≡ false → f ≡ false → e ≡ not a) →
     ((before ++ (sent ∷ [])) ++ (if t then [] else (if e || f then [] else Scheduled 1000 AnnounceDropped ∷ []))) ++ rest (if t then f else (if e || f then f else true))
     ≡ before ++ (sent ∷ (if t || f || not a then rest f else Scheduled 1000 AnnounceDropped ∷ rest true))
@@ -149,7 +150,7 @@ step-actions false false true false before sent rest h = simp append-assoc
 step-actions false false false true before sent rest h = simp append-assoc
 step-actions false false false false before sent rest h = true≢ (h refl refl)
 
-next-flagged : (t f : Bool) (ds ds′ : List Note) → flagged ds f → flagged (if t then ds else ds′) (if t then f else nextFlag ds′ f)
+next-flagged : (t f : Bool) (ds ds′ : List Note) → Flagged ds f → Flagged (if t then ds else ds′) (if t then f else nextFlag ds′ f)
 next-flagged true f ds ds′ h = h
 next-flagged false true ds [] h = refl
 next-flagged false true ds (d ∷ ds′) h = refl
@@ -173,7 +174,7 @@ module _ (brought : List Room) where
       pieces-dropped xs (sendIhave (x .peer) (x .ihaves) r) (rw (o .aside .links) (all-tail (λ x. isNeighbour (x .peer) (r .state .links)) x xs n)) (rw (o .rooms) (w .1))
       ∙ rw (o .aside .cache, o .dropped) refl
 
-  pieces-actions : (xs : List Piece) (r : Run) → all (λ x. isNeighbour (x .peer) (r .state .links)) xs ≡ true → Rightly brought (r .rooms) xs → flagged (r .state .dropped) (r .state .announceScheduled) →
+  pieces-actions : (xs : List Piece) (r : Run) → all (λ x. isNeighbour (x .peer) (r .state .links)) xs ≡ true → Rightly brought (r .rooms) xs → Flagged (r .state .dropped) (r .state .announceScheduled) →
       sendPieces xs r .actions ≡ r .actions ++ pieceActions (cachedIn (r .state .cache)) brought (r .state .announceScheduled) xs
   unfolding sendPieces Rightly pieceActions
   pieces-actions [] r n w g = sym (append-nil (r .actions))
@@ -188,7 +189,7 @@ module _ (brought : List Room) where
       stands : pieceTaken brought x ≡ false → r .state .announceScheduled ≡ false → isEmpty (addNotes (cachedIn (r .state .cache)) (x .peer) (x .ihaves) (r .state .dropped)) ≡ not (any (λ h. holds (h .id) (r .state .cache)) (x .ihaves))
       stands t f = on (r .state .announceScheduled) f g
         where
-          on : (b : Bool) → b ≡ false → flagged (r .state .dropped) b → isEmpty (addNotes (cachedIn (r .state .cache)) (x .peer) (x .ihaves) (r .state .dropped)) ≡ not (any (λ h. holds (h .id) (r .state .cache)) (x .ihaves))
+          on : (b : Bool) → b ≡ false → Flagged (r .state .dropped) b → isEmpty (addNotes (cachedIn (r .state .cache)) (x .peer) (x .ihaves) (r .state .dropped)) ≡ not (any (λ h. holds (h .id) (r .state .cache)) (x .ihaves))
           on true z h = true≢ (sym z)
           on false z h = rw (is-empty (r .state .dropped) h) (empty-notes (cachedIn (r .state .cache)) (x .peer) (x .ihaves))
 

@@ -19,7 +19,7 @@ use Rattle.decide.specs.Sizes.{sizesOf, sizedRecorded}
 use Rattle.decide.specs.Rooms.{kthTaken, firstSend, backPeers}
 use Rattle.decide.specs.RecordGrowth.{cachedIn, recordAction, addNote, addNotes, Batch, addBatches, gains, batchesFor, noteAction, pushActions}
 use Rattle.lists.proofs.MapLaws.{cases, true≢, and-left, and-right, and-intro, all-head, all-tail, all-cons}
-use Rattle.time_cache.proofs.CacheLaws.{eqb-sym}
+use Rattle.lists.proofs.KeyLaws.{eqb-sym}
 use Rattle.lists.proofs.ListLaws.{all-filter}
 use Rattle.protocol.proofs.Walk.{walk-sendEach, walk-noteForEach}
 use Rattle.protocol.proofs.RecordOnly.{RecordOnly, only-trans, only-noteDropped, only-sending}

@@ -18,7 +18,7 @@ use Rattle.protocol.specs.Whole.{contentHeld}
 use Rattle.decide.specs.Sizes.{sizesOf, sizedRecorded}
 use Rattle.decide.specs.RecordGrowth.{cachedIn, recordAction, addNote, addNotes, Batch, addBatches, eligible, peerGain, gains}
 use Rattle.lists.proofs.MapLaws.{cases, true≢, and-left, and-right}
-use Rattle.time_cache.proofs.CacheLaws.{eqb-sym}
+use Rattle.lists.proofs.KeyLaws.{eqb-sym}
 use Rattle.lists.proofs.Lists.{or-false-left, or-false-right, any-append}
 use Rattle.lists.proofs.ListLaws.{count-append}
 use Rattle.protocol.proofs.RecordOnly.{RecordOnly}

@@ -24,7 +24,7 @@ use Rattle.lists.proofs.ListLaws.{length-filter}
 use Rattle.time_cache.proofs.Timely.{Timely, expire-is-filter}
 use Rattle.protocol.proofs.Consistent.{CoreOf}
 use Rattle.lists.proofs.Branches.{if-on, if-both, if-same}
-use Rattle.decide.proofs.TableSizes.{passes, lookup-filter}
+use Rattle.lists.proofs.KeyLaws.{passes, lookup-filter}
 
 module _ {A : Type 0} where
   -- `holds` after eviction, of the cache before

@@ -1,13 +1,13 @@
 -- `whole` (question 5) as a record, without the limits: what each step has to keep.
 use Prim.Native.Nat.{ℕ, zero, suc, _≤_, _<_}
 use mathlib.Core.Path.{_≡_, refl, sym, _∙_}
-use mathlib.Core.Bool.{Bool, true, _&&_, _||_}
+use mathlib.Core.Bool.{Bool, true, _&&_}
 use mathlib.Core.List.{List, [], _∷_}
 use native.Mathlib.Omega.{arith}
 use lib.Dec.{leb}
 use lib.ListN.{length}
 use borrow.Author.Tests.{leb-true, le-leb, eqb-true}
-use Rattle.lists.specs.Base.{isEmpty, all, count, ascending}
+use Rattle.lists.specs.Base.{all, count, ascending}
 use Rattle.lists.specs.Map.{Map, keys}
 use Rattle.time_cache.specs.TimeCache.{Cache}
 use Rattle.protocol.specs.Links.{Links, isNeighbour}
@@ -17,11 +17,7 @@ use Rattle.protocol.specs.Whole.{fits, inRange, keysOnce, neighbours, an
 use Rattle.lists.proofs.MapLaws.{cases, and-left, and-right, and-intro, all-head, all-tail}
 use Rattle.lists.proofs.ListLaws.{all-map, all-each}
 use Rattle.time_cache.proofs.Timely.{Timely}
-
--- "records within 256 and 4,096"
-pub record Within (ns : List Note) : Type 0 where
-  pub each : (p : ℕ) → count (forPeer p) ns ≤ 256
-  pub inAll : length ns ≤ 4096
+use Rattle.protocol.proofs.RecordBounds.{Within, Flagged}
 
 -- of a neighbour
 abbrev pub byNeighbour : Links → Note → Bool
@@ -46,14 +42,10 @@ pub record Core (links : Links) (queue dropped : List Note) (missing : Map (List
 abbrev pub CoreOf : State → Type 0
 CoreOf s = Core (s .links) (s .queue) (s .dropped) (s .missing) (s .received) (s .grafted) (s .cache) (s .graftTimers)
 
--- "a queue or record stands only with its flag"
-abbrev pub flagged : List Note → Bool → Type 0
-flagged ns flag = (isEmpty ns || flag) ≡ true
-
 pub record Consistent (s : State) : Type 0 where
   pub core : CoreOf s
-  pub queueFlag : flagged (s .queue) (s .dispatchScheduled)
-  pub recordFlag : flagged (s .dropped) (s .announceScheduled)
+  pub queueFlag : Flagged (s .queue) (s .dispatchScheduled)
+  pub recordFlag : Flagged (s .dropped) (s .announceScheduled)
 
 -- the settings and limits are in range
 pub record Ranged (s : State) : Type 0 where

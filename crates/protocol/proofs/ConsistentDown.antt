@@ -1,25 +1,26 @@
 -- "Down" keeps what `whole` asks: nobody gone down is left in a queue, record, announcer list or among grafted peers.
 use Prim.Native.Nat.{ℕ}
 use mathlib.Core.Path.{_≡_, refl, _∙_}
-use mathlib.Core.Bool.{Bool, true, false, not}
+use mathlib.Core.Bool.{true, false, not}
 use mathlib.Core.List.{List, [], _∷_, map}
-use lib.Dec.{ltb, eqb}
+use lib.Dec.{eqb}
 use borrow.Author.Tests.{not-true}
-use Rattle.lists.specs.Base.{isEmpty, all, filter, ascending}
-use Rattle.lists.specs.Map.{Map, Entry, entry, keys, remove}
+use Rattle.lists.specs.Base.{isEmpty, all}
+use Rattle.lists.specs.Map.{Map, Entry, entry, remove}
 use Rattle.time_cache.specs.TimeCache.{Timed}
 use Rattle.protocol.specs.Links.{Links, isNeighbour, linkDown}
 use Rattle.protocol.specs.State.{State, Note, Hop, Grafts}
 use Rattle.protocol.specs.Push.{forPeer}
 use Rattle.protocol.specs.Neighbours.{withoutAnnouncer, forgetAnnouncer, withoutNotes, withoutGraft, forgetGrafted, forgetPeer}
 use Rattle.protocol.specs.Whole.{announcersWhole, graftsWhole}
-use Rattle.lists.proofs.MapLaws.{cases, and-left, and-right, and-intro, all-head, all-tail, all-cons, ascending-remove}
-use Rattle.time_cache.proofs.CacheLaws.{eqb-sym}
-use Rattle.lists.proofs.Lists.{or-right}
+use Rattle.lists.proofs.MapLaws.{cases, all-head, all-tail, all-cons, ascending-remove}
+use Rattle.lists.proofs.KeyLaws.{eqb-sym}
 use Rattle.lists.proofs.ListLaws.{all-imp, all-filter-imp, all-map, has-remove}
 use Rattle.time_cache.proofs.Timely.{timely-map}
-use Rattle.protocol.proofs.Consistent.{CoreOf, Consistent, byNeighbour, flagged}
-use Rattle.protocol.proofs.ConsistentTables.{Announcers, to-announcers, of-announcers, once-filter, Grafted, to-grafted, of-grafted, noted-filter, within-filter}
+use Rattle.protocol.proofs.Consistent.{CoreOf, Consistent, byNeighbour}
+use Rattle.protocol.proofs.ConsistentTables.{Announcers, to-announcers, of-announcers, once-filter, Grafted, to-grafted, of-grafted, noted-filter}
+use Rattle.protocol.proofs.RecordBounds.{flagged-filter, within-filter}
+use Rattle.protocol.proofs.GraftSteps.{sorted-forget}
 
 -- whoever else was a neighbour is one
 still-near : (p q : ℕ) (l : Links) → eqb q p ≡ false → isNeighbour q l ≡ true → isNeighbour q (remove p l) ≡ true
@@ -49,23 +50,6 @@ missing-down p l (e ∷ m) h =
     (of-announcers (remove p l) (e .key) (withoutAnnouncer p (e .value)) (announcers-down p l (e .value) (to-announcers l e (all-head (announcersWhole l) e m h)) q))
     (missing-down p l m (all-tail (announcersWhole l) e m h))))
 
-all-forget : (f : ℕ → Bool) (p : ℕ) (m : Map (List Hop)) → all f (keys m) ≡ true → all f (keys (forgetAnnouncer p m)) ≡ true
-unfolding all forgetAnnouncer
-all-forget f p [] h = refl
-all-forget f p (e ∷ m) h =
-    cases (isEmpty (withoutAnnouncer p (e .value)))
-    (λ q. rw q (all-forget f p m (all-tail f (e .key) (keys m) h)))
-    (λ q. rw q (all-cons f (e .key) (keys (forgetAnnouncer p m)) (all-head f (e .key) (keys m) h) (all-forget f p m (all-tail f (e .key) (keys m) h))))
-
-ascending-forget : (p : ℕ) (m : Map (List Hop)) → ascending (keys m) ≡ true → ascending (keys (forgetAnnouncer p m)) ≡ true
-unfolding ascending forgetAnnouncer
-ascending-forget p [] h = refl
-ascending-forget p (e ∷ m) h =
-    let rest : ascending (keys m) ≡ true = and-right (all (ltb (e .key)) (keys m)) (ascending (keys m)) h in
-    cases (isEmpty (withoutAnnouncer p (e .value)))
-    (λ q. rw q (ascending-forget p m rest))
-    (λ q. rw q (and-intro (all-forget (ltb (e .key)) p m (and-left (all (ltb (e .key)) (keys m)) (ascending (keys m)) h)) (ascending-forget p m rest)))
-
 peers-down : (p : ℕ) (l : Links) (m : Map ℕ) → all (λ e. isNeighbour (e .key) l) m ≡ true → all (λ e. isNeighbour (e .key) (remove p l)) (remove p m) ≡ true
 unfolding remove all
 peers-down p l [] h = refl
@@ -88,7 +72,7 @@ pub core-down : (p : ℕ) (s : State) → CoreOf s → CoreOf (forgetPeer p s)
 unfolding forgetPeer forgetGrafted linkDown
 core-down p s c = record {
   linksUp = ascending-remove p (s .links) (c .linksUp);
-  missingUp = ascending-forget p (s .missing) (c .missingUp);
+  missingUp = sorted-forget p (s .missing) (c .missingUp);
   timersUp = c .timersUp;
   receivedOn = c .receivedOn;
   graftedOn = timely-map (withoutGraft p) (λ e. keeps-key e) (λ e. keeps-time e) (s .grafted) (c .graftedOn);
@@ -108,11 +92,6 @@ core-down p s c = record {
     keeps-time e = unfold withoutGraft in refl
 
 -- a part of a list stands only with the list's flag
-flagged-filter : (f : Note → Bool) (ns : List Note) (flag : Bool) → flagged ns flag → flagged (filter f ns) flag
-unfolding filter
-flagged-filter f [] flag h = refl
-flagged-filter f (n ∷ ns) flag h = or-right (isEmpty (filter f (n ∷ ns))) flag h
-
 pub consistent-down : (p : ℕ) (s : State) → Consistent s → Consistent (forgetPeer p s)
 unfolding forgetPeer withoutNotes
 consistent-down p s x = record {

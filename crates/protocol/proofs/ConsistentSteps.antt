@@ -24,8 +24,9 @@ use Rattle.lists.proofs.ListLaws.{all-append, all-filter, all-remove-entry}
 use Rattle.protocol.proofs.Walk.{Sending, Steps, walk-if}
 use Rattle.protocol.proofs.RecordOnly.{only-noteEach, only-noteOne, only-schedule}
 use Rattle.time_cache.proofs.Timely.{Timely, timely-put, timely-replace, timely-expire, expire-is-filter}
-use Rattle.protocol.proofs.Consistent.{Within, Core, CoreOf, Consistent, byNeighbour, flagged}
-use Rattle.protocol.proofs.ConsistentTables.{Wider, wider-mark, ascending-mark, wider-notes, wider-announcers, wider-grafts, marked-near, near-noteFor, noted-more, within-more, ascending-insertKey, ascending-removeKey, grafted-get, grafts-replace}
+use Rattle.protocol.proofs.Consistent.{Core, CoreOf, Consistent, byNeighbour}
+use Rattle.protocol.proofs.ConsistentTables.{Wider, wider-mark, ascending-mark, wider-notes, wider-announcers, wider-grafts, marked-near, near-noteFor, noted-more, ascending-insertKey, ascending-removeKey, grafted-get, grafts-replace}
+use Rattle.protocol.proofs.RecordBounds.{Within, Flagged, within-more}
 
 -- the relation between a run before and a run after
 pub record Kept (r r′ : Run) : Type 0 where
@@ -119,7 +120,7 @@ noted-each p (h ∷ hs) r =
     let b = noted-each p hs (noteOne p h r) in
     record { core = λ n c. b .core (rw (only-noteOne p h r .links) n) (a .core n c) }
 
-pub announce-consistent : (r : Run) → CoreOf (r .state) → flagged (r .state .queue) (r .state .dispatchScheduled) → Consistent (scheduleAnnounceDropped r .state)
+pub announce-consistent : (r : Run) → CoreOf (r .state) → Flagged (r .state .queue) (r .state .dispatchScheduled) → Consistent (scheduleAnnounceDropped r .state)
 unfolding scheduleAnnounceDropped act
 announce-consistent r c q =
     by-test (λ x. Consistent (x .state)) (isEmpty (r .state .dropped) || r .state .announceScheduled) _ _
@@ -153,7 +154,7 @@ kept-sending = record { stays = kept-refl; follows = kept-trans; sends = kept-se
 -- the queue
 
 -- a dispatch timer is scheduled, so any queue may stand
-pub dispatch-consistent : (r : Run) → CoreOf (r .state) → flagged (r .state .dropped) (r .state .announceScheduled) → Consistent (scheduleDispatch r .state)
+pub dispatch-consistent : (r : Run) → CoreOf (r .state) → Flagged (r .state .dropped) (r .state .announceScheduled) → Consistent (scheduleDispatch r .state)
 unfolding scheduleDispatch act
 dispatch-consistent r c d =
     by-test (λ x. Consistent (x .state)) (r .state .dispatchScheduled) _ _

@@ -22,8 +22,9 @@ use Rattle.protocol.specs.Demand3.{byEvent, upAfterCall, upAfter, toldUp
 use Rattle.lists.proofs.MapLaws.{cases, true≢, and-left}
 use Rattle.protocol.proofs.StepNeighbours.{member-marked, one-of, neither-of}
 use Rattle.protocol.proofs.Accepted.{ask-cases}
-use Rattle.protocol.proofs.Invariant.{Flagged, Stands, Settled, queuedNow, recordedNow, stillThere, Does, Inv, inv-on}
+use Rattle.protocol.proofs.Invariant.{Stands, Settled, queuedNow, recordedNow, stillThere, Does, Inv, inv-on}
 use Rattle.protocol.proofs.Step.{ranOn, step}
+use Rattle.protocol.proofs.RecordBounds.{Flagged}
 
 -- the lists that stand
 stands-flag : (ns : List Note) (flag : Bool) → Flagged ns flag → (ns ≡ [] → ⊥) → flag ≡ true

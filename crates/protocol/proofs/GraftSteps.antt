@@ -22,7 +22,7 @@ use Rattle.protocol.specs.Neighbours.{withoutAnnouncer, forgetAnnouncer,
 use Rattle.protocol.specs.Demand3.{lists, isGraftFor, takenOrHandedBack, sends}
 use Rattle.lists.proofs.MapLaws.{cases, true≢, and-left, and-right, and-intro, all-head, all-tail, all-cons, ascending-insert, ascending-remove, lookup-insert-same, lookup-insert-other, lookup-remove-same, lookup-remove-other}
 use Rattle.lists.proofs.Lists.{or-cases, any-append, any-left, any-right, any-one}
-use Rattle.time_cache.proofs.CacheLaws.{eqb-sym}
+use Rattle.lists.proofs.KeyLaws.{eqb-sym}
 use Rattle.protocol.proofs.Invariant.{hopOf}
 use Rattle.protocol.proofs.Walk.{Sending, Steps, walk-dispatchTo}
 use Rattle.protocol.proofs.RecordOnly.{RecordOnly, only-noteDropped, only-schedule}
@@ -436,7 +436,7 @@ all-forget f q (e ∷ m) a =
     let ih : all f (keys (forgetAnnouncer q m)) ≡ true = all-forget f q m (all-tail f (e .key) (keys m) a) in
     cases (isEmpty (withoutAnnouncer q (e .value))) (λ p. rw p ih) (λ p. rw p (all-cons f (e .key) (keys (forgetAnnouncer q m)) (all-head f (e .key) (keys m) a) ih))
 
-sorted-forget : (q : ℕ) (m : Map (List Hop)) → ascending (keys m) ≡ true → ascending (keys (forgetAnnouncer q m)) ≡ true
+pub sorted-forget : (q : ℕ) (m : Map (List Hop)) → ascending (keys m) ≡ true → ascending (keys (forgetAnnouncer q m)) ≡ true
 unfolding forgetAnnouncer ascending
 sorted-forget q [] o = o
 sorted-forget q (e ∷ m) o =

@@ -1,38 +1,30 @@
 -- Demand 3, over the list of calls. `Does` says what one call does, with no word about the past; a list of such calls keeps `Inv`, which gives `HoldsAfter`.
-use Prim.Native.Nat.{ℕ, _≤_}
+use Prim.Native.Nat.{ℕ}
 use mathlib.Core.Path.{_≡_, refl, sym, ap, _∙_}
-use mathlib.Core.Bool.{Bool, true, false, _||_}
+use mathlib.Core.Bool.{Bool, true, false}
 use mathlib.Core.List.{List, [], _∷_, _++_, append-assoc}
 use mathlib.Core.Option.{Option, none, some}
 use mathlib.Core.Logic.{_⊎_, inl, inr}
 use lib.Dec.{eqb}
-use lib.ListN.{length}
-use Rattle.lists.specs.Base.{isSome, any, count, isEmpty, ascending}
+use Rattle.lists.specs.Base.{isSome, any, ascending}
 use Rattle.lists.specs.Map.{lookup, has, keys}
 use Rattle.time_cache.specs.TimeCache.{Timed, Cache, holds}
 use Rattle.protocol.specs.Links.{isNeighbour}
 use Rattle.postcard.specs.Message.{Received, Broadcast, Fired, Up, Down}
-use Rattle.protocol.specs.State.{State, Settings, Note, Hop, Cached}
-use Rattle.protocol.specs.Push.{forPeer, notes}
+use Rattle.protocol.specs.State.{State, Settings, Hop, Cached}
+use Rattle.protocol.specs.Push.{notes}
 use Rattle.protocol.specs.Gossips.{announcers, graftedFor}
 use Rattle.protocol.specs.Answer.{Answer, refuse, accept}
 use Rattle.protocol.specs.Demand3.{byEvent, isUp, upAfterCall, upAfter, toldUp, isDown, tellsDown, Took, tookByEvent, took, isOf, announced, isGraftFor, carries, wasTaken, takenOrHandedBack, sent, metFull, Tick, dispatchTick, announceTick, scheduled, fired, Happened, Never, TimerRuns, Reached, cameFromThere, announcedAndGrafted, sentAndTaken, backAndFull, standsQueued, standsRecorded, MessageReached}
 use Rattle.lists.proofs.MapLaws.{cases, true≢}
 use Rattle.lists.proofs.Lists.{any-left, any-right, any-none, any-none-left, any-none-right, any-one, any-cons}
+use Rattle.protocol.proofs.RecordBounds.{Within, Flagged}
 
 -- what is said of one call
 
 -- the announcement is this peer's
 abbrev pub hopOf : ℕ → Hop → Bool
 hopOf p h = eqb (h .peer) p
-
-pub record Within (ns : List Note) : Type 0 where
-  pub each : (p : ℕ) → count (forPeer p) ns ≤ 256
-  pub inAll : length ns ≤ 4096
-
--- a list stands only with its flag
-abbrev pub Flagged : List Note → Bool → Type 0
-Flagged ns flag = (isEmpty ns || flag) ≡ true
 
 -- what the second cache has for the identifier, the first has too
 abbrev pub Same : ℕ → Cache Cached → Cache Cached → Type 0

@@ -26,7 +26,7 @@ use Rattle.lists.proofs.MapLaws.{cases, true≢}
 use Rattle.lists.proofs.Lists.{or-cases, or-left, or-right, any-left}
 use Rattle.lists.proofs.ListLaws.{count-append}
 use Rattle.protocol.proofs.Invariant.{Same, Stands, Settled, wasSent, wasFull, queuedNow, recordedNow}
-use Rattle.protocol.proofs.Walk.{Sending, Steps}
+use Rattle.protocol.proofs.Walk.{Sending, Steps, walk-if}
 use Rattle.protocol.proofs.GraftSteps.{lookup-popAll}
 
 -- queue, record and actions only grow, and the cache only shrinks
@@ -48,10 +48,6 @@ grows-trans a b c x y = record {
   full = λ p h. y .full p (x .full p h);
   cached = λ id v h. x .cached id v (y .cached id v h);
 }
-
-grows-if : {r x y : Run} (b : Bool) → Grows r x → Grows r y → Grows r (if b then x else y)
-grows-if true k l = k
-grows-if false k l = l
 
 -- none of these changes
 pub alike : {r r′ : Run} → r′ .state .queue ≡ r .state .queue → r′ .state .dropped ≡ r .state .dropped → r′ .actions ≡ r .actions → r′ .state .cache ≡ r .state .cache → Grows r r′
@@ -79,7 +75,7 @@ full-more p ns n f = on (or-cases (leb 256 (count (forPeer p) ns)) (leb 4096 (le
 grows-noteOne : (p : ℕ) (h : Ihave) (r : Run) → Grows r (noteOne p h r)
 unfolding noteOne recordAlso
 grows-noteOne p h r =
-    grows-if (not (recordFull p (r .state .dropped)) && holds (h .id) (r .state .cache) && not (any (notes p (h .id)) (r .state .dropped)))
+    walk-if Grows (not (recordFull p (r .state .dropped)) && holds (h .id) (r .state .cache) && not (any (notes p (h .id)) (r .state .dropped)))
     (record { queue = λ f h. h; dropped = λ f h. any-left f (r .state .dropped) _ h; actions = λ f h. h; full = λ q f. full-more q (r .state .dropped) _ f; cached = λ id v h. h })
     (grows-refl r)
 
@@ -91,19 +87,19 @@ grows-noteEach p (h ∷ hs) r = grows-trans r (noteOne p h r) _ (grows-noteOne p
 pub grows-scheduleAnnounceDropped : (r : Run) → Grows r (scheduleAnnounceDropped r)
 unfolding scheduleAnnounceDropped act
 grows-scheduleAnnounceDropped r =
-    grows-if (isEmpty (r .state .dropped) || r .state .announceScheduled) (grows-refl r)
+    walk-if Grows (isEmpty (r .state .dropped) || r .state .announceScheduled) (grows-refl r)
     (record { queue = λ f h. h; dropped = λ f h. h; actions = λ f h. any-left f (r .actions) _ h; full = λ p h. h; cached = λ id v h. h })
 
 pub grows-scheduleDispatch : (r : Run) → Grows r (scheduleDispatch r)
 unfolding scheduleDispatch act
 grows-scheduleDispatch r =
-    grows-if (r .state .dispatchScheduled) (grows-refl r)
+    walk-if Grows (r .state .dispatchScheduled) (grows-refl r)
     (record { queue = λ f h. h; dropped = λ f h. h; actions = λ f h. any-left f (r .actions) _ h; full = λ p h. h; cached = λ id v h. h })
 
 pub grows-noteDropped : (p : ℕ) (hs : List Ihave) (r : Run) → Grows r (noteDropped p hs r)
 unfolding noteDropped
 grows-noteDropped p hs r =
-    grows-if (isNeighbour p (r .state .links)) (grows-trans r (noteEach p hs r) _ (grows-noteEach p hs r) (grows-scheduleAnnounceDropped (noteEach p hs r))) (grows-refl r)
+    walk-if Grows (isNeighbour p (r .state .links)) (grows-trans r (noteEach p hs r) _ (grows-noteEach p hs r) (grows-scheduleAnnounceDropped (noteEach p hs r))) (grows-refl r)
 
 pub grows-lazyPush : (id round sender : ℕ) (r : Run) → Grows r (lazyPush id round sender r)
 unfolding lazyPush
@@ -113,7 +109,7 @@ grows-lazyPush id round sender r =
 grows-scheduleGraft : (id : ℕ) (r : Run) → Grows r (scheduleGraft id r)
 unfolding scheduleGraft act
 grows-scheduleGraft id r =
-    grows-if (member id (r .state .graftTimers)) (grows-refl r)
+    walk-if Grows (member id (r .state .graftTimers)) (grows-refl r)
     (record { queue = λ f h. h; dropped = λ f h. h; actions = λ f h. any-left f (r .actions) _ h; full = λ p h. h; cached = λ id v h. h })
 
 grows-first : (id : ℕ) (h : Hop) (o : Option Grafts) (r : Run) → Grows r (withState (withFirst id h o (r .state)) r)

@@ -1,88 +1,27 @@
 -- Demand 3, second and last sentence, of one event: the record stays within its bounds, and a queue or record stands with its flag and timer.
-use Prim.Native.Nat.{ℕ, _+_, _≤_}
+use Prim.Native.Nat.{ℕ}
 use mathlib.Core.Path.{_≡_, refl, sym, _∙_}
 use mathlib.Core.Bool.{Bool, true, false, not, _&&_, _||_}
 use mathlib.Core.List.{List, [], _∷_, _++_}
 use mathlib.Core.Option.{Option, none, some}
 use mathlib.Core.Logic.{_⊎_, inl, inr}
-use native.Mathlib.Omega.{arith}
-use lib.Dec.{leb, ltb, eqb}
-use lib.ListN.{length, length-append}
-use borrow.Author.Tests.{leb-false, eqb-true}
-use Rattle.lists.specs.Base.{if_then_else_, isEmpty, count, any, filter, member}
+use Rattle.lists.specs.Base.{if_then_else_, isEmpty, any, member}
 use Rattle.time_cache.specs.TimeCache.{holds}
 use Rattle.protocol.specs.Links.{isNeighbour}
 use Rattle.postcard.specs.Message.{Delivery, Ihave, Message, DispatchLazyPush, AnnounceDropped, Action, Sent, Scheduled, Emitted}
 use Rattle.protocol.specs.State.{Hop, Note, Grafts, withQueue}
 use Rattle.protocol.specs.Run.{Run, withState, act, send, takes}
-use Rattle.protocol.specs.Push.{forPeer, notes, scheduleDispatch, scheduleAnnounceDropped, recordFull, recordAlso, noteOne, noteEach, noteDropped, lazyPush}
+use Rattle.protocol.specs.Push.{notes, scheduleDispatch, scheduleAnnounceDropped, recordFull, recordAlso, noteOne, noteEach, noteDropped, lazyPush}
 use Rattle.protocol.specs.Gossips.{markReceived, cacheAt, withFirst, setFirst, forgetMissing, updateLinks, withKept, setKept}
 use Rattle.protocol.specs.Control.{announce, scheduleGraft, noteGraft, leaveAnnouncers, unmark}
-use Rattle.protocol.specs.Ticks.{younger, moveOldest, stillCached, dispatchIfQueued, onAnnounceDroppedTimer, evict, onEvictCacheTimer}
+use Rattle.protocol.specs.Ticks.{moveOldest, stillCached, dispatchIfQueued, onAnnounceDroppedTimer, evict, onEvictCacheTimer}
 use Rattle.protocol.specs.Demand3.{dispatchTick, announceTick, isTick, schedulesTick}
 use Rattle.lists.proofs.MapLaws.{cases, true≢}
-use Rattle.lists.proofs.Lists.{or-false-left, or-false-right, or-left, or-right, any-left, any-right, any-one}
-use Rattle.protocol.proofs.Invariant.{Within, Flagged}
+use Rattle.lists.proofs.Lists.{or-left, or-right, any-left, any-right, any-one}
 use Rattle.protocol.proofs.Walk.{Sending, Steps}
+use Rattle.protocol.proofs.RecordBounds.{Within, Flagged, within-filter, within-younger, within-more}
 
 -- counting
-
-count-append : (f : Note → Bool) (xs ys : List Note) → count f (xs ++ ys) ≡ count f xs + count f ys
-unfolding count
-count-append f [] ys = omega arith
-count-append f (x ∷ xs) ys =
-    cases (f x) (λ p. rw p (omega (arith, count-append f xs ys))) (λ p. rw p (count-append f xs ys))
-
-count-filter : (f g : Note → Bool) (ns : List Note) → count f (filter g ns) ≤ count f ns
-unfolding count filter
-count-filter f g [] = omega arith
-count-filter f g (n ∷ ns) =
-    cases (g n)
-    (λ p. rw p (cases (f n) (λ q. rw q (omega (arith, count-filter f g ns))) (λ q. rw q (count-filter f g ns))))
-    (λ p. rw p (cases (f n) (λ q. rw q (omega (arith, count-filter f g ns))) (λ q. rw q (count-filter f g ns))))
-
-length-filter : (g : Note → Bool) (ns : List Note) → length (filter g ns) ≤ length ns
-unfolding filter
-length-filter g [] = omega arith
-length-filter g (n ∷ ns) = cases (g n) (λ p. rw p (omega (arith, length-filter g ns))) (λ p. rw p (omega (arith, length-filter g ns)))
-
-count-younger : (f : Note → Bool) (seen ns : List Note) → count f (younger seen ns) ≤ count f ns
-unfolding count younger
-count-younger f seen [] = omega arith
-count-younger f seen (n ∷ ns) =
-    cases (ltb (count (forPeer (n .peer)) seen) 64)
-    (λ p. rw p (cases (f n) (λ q. rw q (omega (arith, count-younger f (n ∷ seen) ns))) (λ q. rw q (count-younger f (n ∷ seen) ns))))
-    (λ p. rw p (cases (f n) (λ q. rw q (omega (arith, count-younger f (n ∷ seen) ns))) (λ q. rw q (count-younger f (n ∷ seen) ns))))
-
-length-younger : (seen ns : List Note) → length (younger seen ns) ≤ length ns
-unfolding younger
-length-younger seen [] = omega arith
-length-younger seen (n ∷ ns) =
-    cases (ltb (count (forPeer (n .peer)) seen) 64)
-    (λ p. rw p (omega (arith, length-younger (n ∷ seen) ns))) (λ p. rw p (omega (arith, length-younger (n ∷ seen) ns)))
-
-pub within-filter : (g : Note → Bool) (ns : List Note) → Within ns → Within (filter g ns)
-within-filter g ns w = record {
-  each = λ p. omega (arith, count-filter (forPeer p) g ns, w .each p);
-  inAll = omega (arith, length-filter g ns, w .inAll);
-}
-
-within-younger : (ns : List Note) → Within ns → Within (younger [] ns)
-within-younger ns w = record {
-  each = λ p. omega (arith, count-younger (forPeer p) [] ns, w .each p);
-  inAll = omega (arith, length-younger [] ns, w .inAll);
-}
-
--- one more, where the record is not full
-within-more : (n : Note) (ns : List Note) → recordFull (n .peer) ns ≡ false → Within ns → Within (ns ++ (n ∷ []))
-unfolding recordFull count
-within-more n ns full w =
-    record {
-      each = λ q. rw count-append (cases (eqb (n .peer) q)
-          (λ m. rw m (rw (← eqb-true (n .peer) q m) (omega (arith, leb-false 256 (count (forPeer (n .peer)) ns) (or-false-left _ (leb 4096 (length ns)) full)))))
-          (λ m. rw m (omega (arith, w .each q))));
-      inAll = rw length-append (omega (arith, leb-false 4096 (length ns) (or-false-right (leb 256 (count (forPeer (n .peer)) ns)) _ full)));
-    }
 
 -- what every step but the two ticks keeps
 pub record Sound (r r′ : Run) : Type 0 where
@@ -340,7 +279,7 @@ announces-dropped r =
     let z : Sound r₁ (scheduleAnnounceDropped (dispatchIfQueued r₁)) = sound-trans r₁ (dispatchIfQueued r₁) (scheduleAnnounceDropped (dispatchIfQueued r₁)) x y in
     record {
       settings = z .settings;
-      within = λ w. z .within (within-younger _ (within-filter _ (r .state .dropped) w));
+      within = λ w. z .within (within-younger _ _ (within-filter _ (r .state .dropped) w));
       queueFlag = y .queueFlag (queued-flag r₁);
       recordFlag = announce-flag (dispatchIfQueued r₁);
       dispatchTimer = z .dispatchTimer;

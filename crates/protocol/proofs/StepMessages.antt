@@ -22,7 +22,7 @@ use Rattle.protocol.specs.Handle.{firstEvent, countMessage, ifNeighbour,
 use Rattle.protocol.specs.Answer.{accept}
 use Rattle.protocol.specs.Demand3.{byEvent, isDown, tellsDown, isEmit, tookGossip, tookBroadcast, tookByEvent, took, isOf}
 use Rattle.lists.proofs.MapLaws.{cases, and-left, lookup-insert-other}
-use Rattle.time_cache.proofs.CacheLaws.{eqb-sym}
+use Rattle.lists.proofs.KeyLaws.{eqb-sym}
 use Rattle.protocol.proofs.LinkSteps.{keeps-firstEvent}
 use Rattle.lists.proofs.Lists.{any-filter}
 use Rattle.protocol.proofs.Invariant.{Same, same-holds, Stands, Settled, Kept, stillThere, takenIn}

@@ -24,10 +24,11 @@ use Rattle.lists.proofs.ListLaws.{all-append, all-filter, all-insert-entry, all
 use Rattle.protocol.proofs.Walk.{walk-if, walk-dispatchTo, walk-firstEvent, walk-onGossip, walk-broadcast, walk-onPrune, walk-onGraft}
 use Rattle.protocol.proofs.RecordOnly.{RecordOnly, only-schedule, only-sending}
 use Rattle.time_cache.proofs.Timely.{timely-put, timely-replace}
-use Rattle.protocol.proofs.Consistent.{Core, CoreOf, Consistent, byNeighbour, flagged, whole-consistent, whole-ranged, consistent-whole}
-use Rattle.protocol.proofs.ConsistentTables.{wider-insert, wider-mark, noted-filter, noted-younger, all-younger, all-oldest, within-filter, within-younger, to-announcers, of-announcers, announcers-add, once-tail, grafted-get, grafts-replace, grafts-put, grafted-insert, grafted-one}
+use Rattle.protocol.proofs.Consistent.{Core, CoreOf, Consistent, byNeighbour, whole-consistent, whole-ranged, consistent-whole}
+use Rattle.protocol.proofs.ConsistentTables.{wider-insert, wider-mark, noted-filter, noted-younger, all-younger, all-oldest, to-announcers, of-announcers, announcers-add, once-tail, grafted-get, grafts-replace, grafts-put, grafted-insert, grafted-one}
 use Rattle.protocol.proofs.ConsistentDown.{consistent-down}
 use Rattle.protocol.proofs.ConsistentSteps.{Kept, kept-refl, kept-trans, by-test, core-queue, core-missing, core-grafted, announce-consistent, kept-links, kept-eager, kept-act, kept-send, kept-cacheAt, kept-counts, kept-scheduleGraft, kept-unmark, kept-evict, kept-sending, kept-steps}
+use Rattle.protocol.proofs.RecordBounds.{Flagged, within-filter, within-younger}
 
 infixr 4 _⨾_
 _⨾_ : {a b c : Run} → Kept a b → Kept b c → Kept a c
@@ -208,7 +209,7 @@ moved-consistent s x =
       announcing = c .announcing;
       grafting = c .grafting;
       noted = noted-younger [] standing (noted-filter (λ n. holds (n .id) (s .cache)) (s .dropped) (c .noted));
-      within = within-younger standing (within-filter (λ n. holds (n .id) (s .cache)) (s .dropped) (c .within));
+      within = within-younger [] standing (within-filter (λ n. holds (n .id) (s .cache)) (s .dropped) (c .within));
     }
 
 -- the queue's flag stands after `dispatchIfQueued`, the record's may not yet
@@ -216,7 +217,7 @@ record Moved (r r′ : Run) : Type 0 where
   settings : r′ .state .settings ≡ r .state .settings
   limits : r′ .state .limits ≡ r .state .limits
   core : CoreOf (r .state) → CoreOf (r′ .state)
-  queueFlag : flagged (r′ .state .queue) (r′ .state .dispatchScheduled)
+  queueFlag : Flagged (r′ .state .queue) (r′ .state .dispatchScheduled)
 
 moved-scheduled : (r : Run) → Moved r (scheduleDispatch r)
 unfolding scheduleDispatch act

@@ -1,15 +1,15 @@
 -- The word order of the seven rounds: each rule is one test that antt computes over the whole table, and the rounds by the table are
 -- those of the definition. Assumes nothing.
-use mathlib.Core.Path.{_≡_, refl, sym, _∙_}
+use mathlib.Core.Path.{_≡_, refl, sym, ap, _∙_}
 use mathlib.Core.Bool.{Bool, true, false}
 use mathlib.Core.List.{List, [], _∷_}
 use Prim.Native.Nat.{ℕ, suc, _+_, _*_, _/_, _%_, _<_}
 use native.Mathlib.Omega.{arith}
 use lib.Dec.{T, ltb, eqb, ltb→lt, eqb→eq}
-use lib.ListN.{length, getD, take}
+use lib.ListN.{getD, take}
 use Rattle.rows.specs.Part.{part}
 use Rattle.blake3.specs.Blake3.{places, rounds, wordAt, columnsOf, diagonalsOf}
-use Rattle.blake3.specs.WordOrder.{order, rowsFrom, takenAt, orderedRounds}
+use Rattle.blake3.specs.WordOrder.{order, rowsFrom, takenAt, placed, orderedRounds}
 use Rattle.blake3.proofs.Table.{at}
 
 -- the table of the code
@@ -66,6 +66,12 @@ row-permutes r n hr hn =
     let t : T (permutes (r * 16 + n) (getD table (r * 16 + n) 0)) = at permutes table tt (r * 16 + n) (omega arith) in
     sym (λ i. count (m i) (part (d i * 16) 16 table))
     ∙ eqb→eq (count ((r * 16 + n) % 16) (part ((r * 16 + n) / 16 * 16) 16 table)) 1 t
+
+-- one round more
+pub round-step : (n : ℕ) (m v u c d : List ℕ) → u ≡ orderedRounds n m v → c ≡ columnsOf (placed m (16 * n)) u → d ≡ diagonalsOf (placed m (16 * n)) c
+    → d ≡ orderedRounds (suc n) m v
+unfolding orderedRounds
+round-step n m v u c d eu ec ed = ed ∙ ap (diagonalsOf (placed m (16 * n))) (ec ∙ ap (columnsOf (placed m (16 * n))) eu)
 
 -- seven rounds by the table are seven rounds with the message words permuted after each
 pub rounds-ordered : (m v : List ℕ) → orderedRounds 7 m v ≡ rounds 7 (wordAt m) v

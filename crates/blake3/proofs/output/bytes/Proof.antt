@@ -66,4 +66,5 @@ returns c =
 pub bytes-spec : {M : Type 1} → statement M
 bytes-spec =
     tie.close
-    (tie.spec Inv-loop μ-loop loop-holds slice-aggregate-store-le mul-store-le mul-wide array-read-wide wide-requires store-le-requires add-i loop-less loop-again returns)
+    (tie.spec Inv-loop μ-loop loop-holds slice-aggregate-store-le mul-store-le mul-wide array-read-wide wide-requires store-le-requires
+    add-i loop-less loop-again returns)

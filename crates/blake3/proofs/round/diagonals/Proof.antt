@@ -43,4 +43,5 @@ returns c =
 pub diagonals-spec : {M : Type 1} → statement M
 diagonals-spec =
     tie.close
-    (tie.spec diagonalize-requires add-message-row message-row-requires add-message-row-2 message-row-requires-2 g-requires undiagonalize-requires returns)
+    (tie.spec diagonalize-requires add-message-row message-row-requires add-message-row-2 message-row-requires-2 g-requires
+    undiagonalize-requires returns)

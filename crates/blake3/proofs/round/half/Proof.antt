@@ -23,7 +23,8 @@ xor-rotate-requires-2 c κs = search needs
 returns : tie.Need-returns
 returns c =
     let s = c .before .before .before .before .before in
-    halved (s .args .k) (s .args .j) (s .args .x) (s .args .v) (c .before .before .before .before .add .result) (c .before .before .before .add2 .result) (c .before .before .xor-rotate .result) (c .before .add3 .result) (c .xor-rotate2 .result)
+    halved (s .args .k) (s .args .j) (s .args .x) (s .args .v) (c .before .before .before .before .add .result)
+    (c .before .before .before .add2 .result) (c .before .before .xor-rotate .result) (c .before .add3 .result) (c .xor-rotate2 .result)
     (c .before .before .before .before .add .ensures) (c .before .before .before .add2 .ensures) (c .before .before .xor-rotate .ensures) (c .before .add3 .ensures) (c .xor-rotate2 .ensures)
 
 pub half-spec : {M : Type 1} → statement M

@@ -31,4 +31,5 @@ returns c = λ i. record { w0 = c .before .before .before .message-word .ensures
 pub message-row-spec : {M : Type 1} → statement M
 message-row-spec =
     tie.close
-    (tie.spec message-word-requires add-message-word message-word-requires-2 add-message-word-2 message-word-requires-3 add-message-word-3 message-word-requires-4 returns)
+    (tie.spec message-word-requires add-message-word message-word-requires-2 add-message-word-2 message-word-requires-3 add-message-word-3
+    message-word-requires-4 returns)

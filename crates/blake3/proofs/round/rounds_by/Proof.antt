@@ -1,8 +1,9 @@
--- `rounds_by`: fourteen half rounds.
+-- `rounds_by`: seven rounds of two halves (`round-step`).
 -- Assumes nothing.
-use mathlib.Core.Path.{ap, _∙_}
-use Rattle.blake3.specs.Blake3.{columnsOf, diagonalsOf}
-use Rattle.blake3.specs.WordOrder.{placed, orderedRounds}
+use mathlib.Core.Path.{refl}
+use Rattle.blake3.specs.WordOrder.{orderedRounds}
+use Rattle.blake3.specs.Shape.{stateOf}
+use Rattle.blake3.proofs.WordOrder.{round-step}
 use native.Mathlib.Omega.{arith}
 use Rattle.blake3.proofs.round.rounds_by.Statement.{statement}
 use Rattle.blake3.proofs.round.rounds_by.Tie as tie
@@ -52,16 +53,20 @@ diagonals-requires-7 c κs = (c .before .before .before .before .before .before 
 returns : tie.Need-returns
 unfolding orderedRounds
 returns c =
-    let m = c .before .before .before .before .before .before .before .before .before .before .before .before .before .before .args .m .now in
-    let e1 = c .before .before .before .before .before .before .before .before .before .before .before .before .diagonals .ensures ∙ ap (diagonalsOf (placed m 0)) (c .before .before .before .before .before .before .before .before .before .before .before .before .before .columns .ensures) in
-    let e2 = c .before .before .before .before .before .before .before .before .before .before .diagonals2 .ensures ∙ ap (diagonalsOf (placed m 16)) (c .before .before .before .before .before .before .before .before .before .before .before .columns2 .ensures ∙ ap (columnsOf (placed m 16)) e1) in
-    let e3 = c .before .before .before .before .before .before .before .before .diagonals3 .ensures ∙ ap (diagonalsOf (placed m 32)) (c .before .before .before .before .before .before .before .before .before .columns3 .ensures ∙ ap (columnsOf (placed m 32)) e2) in
-    let e4 = c .before .before .before .before .before .before .diagonals4 .ensures ∙ ap (diagonalsOf (placed m 48)) (c .before .before .before .before .before .before .before .columns4 .ensures ∙ ap (columnsOf (placed m 48)) e3) in
-    let e5 = c .before .before .before .before .diagonals5 .ensures ∙ ap (diagonalsOf (placed m 64)) (c .before .before .before .before .before .columns5 .ensures ∙ ap (columnsOf (placed m 64)) e4) in
-    let e6 = c .before .before .diagonals6 .ensures ∙ ap (diagonalsOf (placed m 80)) (c .before .before .before .columns6 .ensures ∙ ap (columnsOf (placed m 80)) e5) in
-    c .diagonals7 .ensures ∙ ap (diagonalsOf (placed m 96)) (c .before .columns7 .ensures ∙ ap (columnsOf (placed m 96)) e6)
+    let s = c .before .before .before .before .before .before .before .before .before .before .before .before .before .before in
+    let m = s .args .m .now in
+    let v = stateOf (s .args .v) in
+    let e1 = round-step 0 m v _ _ _ refl (c .before .before .before .before .before .before .before .before .before .before .before .before .before .columns .ensures) (c .before .before .before .before .before .before .before .before .before .before .before .before .diagonals .ensures) in
+    let e2 = round-step 1 m v _ _ _ e1 (c .before .before .before .before .before .before .before .before .before .before .before .columns2 .ensures) (c .before .before .before .before .before .before .before .before .before .before .diagonals2 .ensures) in
+    let e3 = round-step 2 m v _ _ _ e2 (c .before .before .before .before .before .before .before .before .before .columns3 .ensures) (c .before .before .before .before .before .before .before .before .diagonals3 .ensures) in
+    let e4 = round-step 3 m v _ _ _ e3 (c .before .before .before .before .before .before .before .columns4 .ensures) (c .before .before .before .before .before .before .diagonals4 .ensures) in
+    let e5 = round-step 4 m v _ _ _ e4 (c .before .before .before .before .before .columns5 .ensures) (c .before .before .before .before .diagonals5 .ensures) in
+    let e6 = round-step 5 m v _ _ _ e5 (c .before .before .before .columns6 .ensures) (c .before .before .diagonals6 .ensures) in
+    round-step 6 m v _ _ _ e6 (c .before .columns7 .ensures) (c .diagonals7 .ensures)
 
 pub rounds-by-spec : {M : Type 1} → statement M
 rounds-by-spec =
     tie.close
-    (tie.spec columns-requires diagonals-requires columns-requires-2 diagonals-requires-2 columns-requires-3 diagonals-requires-3 columns-requires-4 diagonals-requires-4 columns-requires-5 diagonals-requires-5 columns-requires-6 diagonals-requires-6 columns-requires-7 diagonals-requires-7 returns)
+    (tie.spec columns-requires diagonals-requires columns-requires-2 diagonals-requires-2 columns-requires-3 diagonals-requires-3
+    columns-requires-4 diagonals-requires-4 columns-requires-5 diagonals-requires-5 columns-requires-6 diagonals-requires-6
+    columns-requires-7 diagonals-requires-7 returns)

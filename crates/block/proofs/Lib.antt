@@ -12,3 +12,4 @@ pub mod KeyPlaces
 pub mod TimerLaws
 pub mod Each
 pub mod HopLaws
+pub mod MissingLaws

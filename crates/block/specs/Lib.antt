@@ -10,3 +10,4 @@ pub mod LinkSteps
 pub mod NoteSteps
 pub mod TimerSteps
 pub mod HopSteps
+pub mod MissingSteps

@@ -3,5 +3,6 @@ pub mod head;
 pub mod header;
 pub mod hops;
 pub mod links;
+pub mod missing;
 pub mod note;
 pub mod timers;

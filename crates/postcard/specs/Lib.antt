@@ -4,4 +4,5 @@ pub mod Decode
 pub mod Values
 pub mod Place
 pub mod Readings
+pub mod Events
 pub mod Wide

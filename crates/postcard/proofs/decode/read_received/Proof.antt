@@ -6,7 +6,7 @@ use lib.ListN.{length, getD}
 use Rattle.postcard.specs.Decode.{eventOf}
 use Rattle.postcard.proofs.PlaceLaws.{reads-got, reads-then, reads-refused}
 use Rattle.postcard.specs.Message.{messageBytes}
-use Rattle.postcard.specs.Readings.{messageValue}
+use Rattle.postcard.specs.Events.{messageValue}
 use Rattle.postcard.proofs.FieldBack.{bytes-each}
 use Rattle.postcard.proofs.EventLaws.{message-end}
 use native.Mathlib.Omega.{arith}

@@ -10,7 +10,7 @@ use lib.Seq.{drop-drop, getD-drop, take-add}
 use Rattle.postcard.specs.Number.{Read, got, fault, _then_}
 use Rattle.postcard.specs.Message.{Ihave}
 use Rattle.postcard.specs.Decode.{readIhave, readIhaves, ihavesIn}
-use Rattle.postcard.specs.Place.{Placed, placed, refused, Reads, Announces}
+use Rattle.postcard.specs.Place.{placed, refused, Reads, Announces}
 use Rattle.postcard.specs.Events.{ihavesFrom, Listed}
 use Rattle.postcard.proofs.FieldBack.{Joined, joined, not-got, got-value, got-rest}
 

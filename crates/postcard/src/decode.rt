@@ -298,7 +298,7 @@ fn read_down(bytes: &[u8], at: usize) -> EventRead
 fn read_event(bytes: &[u8]) -> EventRead
     ensures { λ r. ⌜ EventReads (now (bytes .entry)) r (readEvent (now (bytes .entry))) ⌝ }
 {
-    if bytes.len() <= 0 {
+    if bytes.len() == 0 {
         return EventRead::Fault(7);
     }
     let kind = bytes[0];

@@ -2,7 +2,7 @@
 -- Assumes nothing.
 use Prim.Native.Nat.{_≤_, _-_}
 use native.Mathlib.Omega.{arith}
-use lib.ListN.{length, drop}
+use lib.ListN.{drop}
 use Rattle.postcard.specs.Events.{Listed, ihavesFrom}
 use Rattle.postcard.proofs.AnnouncementLaws.{listed-start, listed-announces, listed-next}
 use borrow.Author.Needs.{needs}

@@ -130,7 +130,7 @@ struct Cases {
 
 impl Cases {
     fn add(&mut self, bytes: &[u8]) -> Result<Event, u8> {
-        assert!(bytes.len() <= 16_384);
+        assert!(bytes.len() <= 4_096);
         let spelt: String = bytes.iter().map(|b| format!("{b:02x}")).collect();
         writeln!(self.events, "{:04x} {spelt}", bytes.len()).unwrap();
         let answer = read(bytes);

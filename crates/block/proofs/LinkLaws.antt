@@ -12,7 +12,7 @@ use lib.Seq.{getD-set-same, set-getD}
 use Rattle.rows.specs.Part.{part, put}
 use Rattle.rows.specs.Digits.{leNat}
 use Rattle.rows.specs.Rows.{rows}
-use Rattle.rows.specs.Keep.{fieldOf}
+use Rattle.rows.specs.Rows.{fieldOf}
 use Rattle.rows.specs.Sorted.{Ascending, Between, Here}
 use Rattle.rows.proofs.Parts.{set-put, part-before, length-part, length-put}
 use Rattle.rows.proofs.Views.{map-put}

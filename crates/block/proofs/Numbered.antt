@@ -12,7 +12,7 @@ use Rattle.rows.specs.Part.{part, put}
 use Rattle.rows.specs.Rows.{rows}
 use Rattle.rows.proofs.Parts.{take-put, set-put, length-put, drop-take}
 use Rattle.rows.proofs.Rows.{getD-rows, length-rows, drop-rows}
-use Rattle.rows.proofs.Keep.{rows-push}
+use Rattle.rows.proofs.Rows.{rows-push}
 use Rattle.block.specs.View.{pairs, numbered}
 
 -- a number put after the first n

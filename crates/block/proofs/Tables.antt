@@ -11,7 +11,7 @@ use native.Mathlib.Nat.{not-suc-le-zero, le-of-suc-le-suc}
 use Rattle.rows.specs.Part.{part, put}
 use Rattle.rows.specs.Rows.{rows}
 use Rattle.rows.specs.Sorted.{keyOf, keys}
-use Rattle.rows.proofs.Keep.{rows-push}
+use Rattle.rows.proofs.Rows.{rows-push}
 use Rattle.rows.proofs.Rows.{getD-rows, length-rows, rows-same, rows-field}
 use Rattle.rows.proofs.Views.{map-put}
 use Rattle.rows.proofs.Parts.{part-part, getD-part}

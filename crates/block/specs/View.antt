@@ -9,7 +9,7 @@ use lib.ListN.{take, drop, getD}
 use Rattle.rows.specs.Part.{part}
 use Rattle.rows.specs.Digits.{leNat, beNat}
 use Rattle.rows.specs.Rows.{rows}
-use Rattle.rows.specs.Keep.{fieldOf}
+use Rattle.rows.specs.Rows.{fieldOf}
 use Rattle.lists.specs.Base.{if_then_else_}
 use Rattle.lists.specs.Map.{Map, Entry, entry, keys}
 use Rattle.time_cache.specs.TimeCache.{Cache}

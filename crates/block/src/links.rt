@@ -6,7 +6,7 @@ ghost use mathlib.Core.Path.{_≡_};
 ghost use Prim.Native.Nat.{_<_};
 ghost use Rattle.rows.specs.Sorted.{FoundIs};
 ghost use Rattle.lists.specs.Map.{keys};
-ghost use Rattle.protocol.specs.Links.{isEager, markIfThere, makeEager, makeLazy};
+ghost use Rattle.protocol.specs.Links.{isEager, markIfThere, addEager, addLazy};
 ghost use Rattle.block.specs.View.{stateOf, markOf};
 ghost use Rattle.block.specs.Fit.{Fit};
 ghost use Rattle.block.specs.Sound.{Sound};
@@ -89,7 +89,7 @@ fn mark_peer(h: Head, block: &mut [u8], peer: u64, to_eager: bool)
 // `add_eager`, wherever a step other than "up" makes a peer eager.
 pub fn add_eager(h: Head, block: &mut [u8], peer: u64)
     requires { ⌜ Sound h (now block) × LinksAscend h (now block) ⌝ }
-    ensures { λ _. ⌜ Goes (linked (makeEager peer)) h (now (block .entry)) h (now (block .exit)) ⌝ }
+    ensures { λ _. ⌜ Goes (linked (addEager peer)) h (now (block .entry)) h (now (block .exit)) ⌝ }
 {
     mark_peer(h, block, peer, true);
 }
@@ -97,7 +97,7 @@ pub fn add_eager(h: Head, block: &mut [u8], peer: u64)
 // `add_lazy`.
 pub fn add_lazy(h: Head, block: &mut [u8], peer: u64)
     requires { ⌜ Sound h (now block) × LinksAscend h (now block) ⌝ }
-    ensures { λ _. ⌜ Goes (linked (makeLazy peer)) h (now (block .entry)) h (now (block .exit)) ⌝ }
+    ensures { λ _. ⌜ Goes (linked (addLazy peer)) h (now (block .entry)) h (now (block .exit)) ⌝ }
 {
     mark_peer(h, block, peer, false);
 }

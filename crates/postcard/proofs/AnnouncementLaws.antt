@@ -2,16 +2,16 @@
 -- Assumes nothing.
 use Prim.Native.Nat.{ℕ, zero, suc, _+_, _-_, _≤_, _<_}
 use mathlib.Core.Path.{_≡_, refl, sym, ap, _∙_}
-use mathlib.Core.List.{List, [], _∷_}
+use mathlib.Core.List.{List, [], _∷_, _++_}
 use native.Mathlib.Omega.{arith}
-use native.Mathlib.Nat.{sub-zero}
-use lib.ListN.{length, drop}
-use lib.Seq.{drop-drop}
+use native.Mathlib.Nat.{sub-zero, add-zero}
+use lib.ListN.{length, getD, take, drop}
+use lib.Seq.{drop-drop, getD-drop, take-add}
 use Rattle.postcard.specs.Number.{Read, got, fault, _then_}
 use Rattle.postcard.specs.Message.{Ihave}
 use Rattle.postcard.specs.Decode.{readIhave, readIhaves, ihavesIn}
-use Rattle.postcard.specs.Place.{Placed, placed, refused, Reads, Announces}
-use Rattle.postcard.specs.Readings.{ihavesFrom, Listed}
+use Rattle.postcard.specs.Place.{placed, refused, Reads, Announces}
+use Rattle.postcard.specs.Events.{ihavesFrom, Listed}
 use Rattle.postcard.proofs.FieldBack.{Joined, joined, not-got, got-value, got-rest}
 
 -- where a reading ends, or its fault
@@ -105,6 +105,14 @@ listed-next bytes place next count i hs h w l r =
     let f = first-of (count - (i + 1)) (drop place bytes) (drop next bytes) (l .rest) h (drop i hs) (sym (r .same)) (rw m at (l .reads)) in
     let d : drop (i + 1) hs ≡ f .others = sym (drop-drop 1 i hs) ∙ ap (drop 1) (f .here) in
     record { here = rw d (f .here); after = record { rest = f .rest; reads = rw d (f .reads) } }
+
+-- so it is what stands at i, and the one more that is taken
+pub turn-at : (bytes : List ℕ) (next count i : ℕ) (hs : List Ihave) (h d : Ihave) → Turn bytes next count i hs h → getD hs i d ≡ h
+turn-at bytes next count i hs h d t =
+    ap (λ (n : ℕ). getD hs n d) (sym (add-zero i)) ∙ sym (getD-drop i hs 0 d) ∙ ap (λ (l : List Ihave). getD l 0 d) (t .here)
+
+pub turn-taken : (bytes : List ℕ) (next count i : ℕ) (hs : List Ihave) (h : Ihave) → Turn bytes next count i hs h → take (i + 1) hs ≡ take i hs ++ (h ∷ [])
+turn-taken bytes next count i hs h t = take-add i 1 hs ∙ ap (λ (l : List Ihave). take i hs ++ take 1 l) (t .here)
 
 -- the list is as long as the count
 pub listed-length : (bytes : List ℕ) (at count : ℕ) (hs : List Ihave) → Listed bytes at count hs → length hs ≡ count

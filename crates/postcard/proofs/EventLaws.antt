@@ -1,15 +1,14 @@
 -- What `read_received` and `decode_event` need of the definitions: how long a message that was read is, and where an event ends.
 -- Assumes nothing.
 use Prim.Native.Nat.{ℕ, _+_, _-_, _≤_, _<_}
-use mathlib.Core.Path.{_≡_, refl, sym, ap, _∙_}
-use mathlib.Core.List.{List, [], _∷_}
+use mathlib.Core.Path.{_≡_, sym, ap, _∙_}
+use mathlib.Core.List.{List}
 use native.Mathlib.Omega.{arith}
-use native.Mathlib.Numerals.{add-one}
-use lib.ListN.{length, getD, drop, length-append, length-drop, drop-of-length-le}
+use lib.ListN.{length, drop, length-append, length-drop, drop-of-length-le}
 use lib.Seq.{drop-cons}
-use Rattle.postcard.specs.Number.{Read, got, fault}
+use Rattle.postcard.specs.Number.{fault}
 use Rattle.postcard.specs.Message.{Message, Event, messageBytes}
-use Rattle.postcard.specs.Decode.{readMessage, readEvent, Decoded, decoded, faulty, ended, decodeEvent}
+use Rattle.postcard.specs.Decode.{readMessage, readEvent, decoded, faulty, ended, decodeEvent}
 use Rattle.postcard.specs.Wide.{Bytes}
 use Rattle.postcard.specs.Place.{placed, refused, Reads}
 use Rattle.postcard.proofs.FieldBack.{bytes-drop}

@@ -4,14 +4,14 @@
 use Prim.Native.Nat.{ℕ, zero, suc, _+_, _*_, _-_, _^_, _≤_, _<_}
 use mathlib.Core.Path.{_≡_, refl, sym, ap, _∙_}
 use mathlib.Core.Bool.{Bool, true, false, not, _&&_}
-use mathlib.Core.List.{List, [], _∷_}
+use mathlib.Core.List.{List, _∷_}
 use native.Mathlib.Omega.{arith}
 use native.Mathlib.Nat.{mul-add, mul-assoc, add-assoc, one-mul, zero-add, pow-succ', le-trans, mul-le-mul, mul-le-mul-left}
 use native.Mathlib.Numerals.{add-one}
-use lib.Dec.{leb, ltb, eqb}
+use lib.Dec.{leb, eqb}
 use lib.ListN.{length, getD, drop, drop-of-length-le}
 use lib.Seq.{drop-cons}
-use borrow.Author.Tests.{le-leb, lt-leb, lt-ltb, le-ltb, eq-eqb, ne-eqb}
+use borrow.Author.Tests.{le-leb, lt-ltb, le-ltb, ne-eqb}
 use Rattle.lists.specs.Base.{if_then_else_}
 use Rattle.lists.proofs.MapLaws.{cases}
 use Rattle.postcard.specs.Number.{Read, got, fault, _then_, lastGroup, readGroups}

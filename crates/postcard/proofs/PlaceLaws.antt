@@ -1,19 +1,17 @@
 -- Readers at places, one after the other: what each promises of its part makes the promise of the whole.
 -- Assumes nothing.
-use Prim.Native.Nat.{ℕ, suc, _+_, _*_, _-_, _≤_, _<_}
+use Prim.Native.Nat.{ℕ, _+_, _*_, _-_, _≤_, _<_}
 use mathlib.Core.Path.{_≡_, refl, sym, ap, _∙_}
 use mathlib.Core.List.{List, [], _∷_}
 use native.Mathlib.Omega.{arith}
 use native.Mathlib.Numerals.{add-one}
-use lib.Dec.{leb, ltb}
-use lib.ListN.{length, getD, take, drop, length-drop, drop-of-length-le}
+use lib.ListN.{length, getD, drop, length-drop, drop-of-length-le}
 use lib.Seq.{drop-cons, drop-drop}
 use borrow.Author.Tests.{le-leb, lt-leb, lt-ltb, le-ltb}
-use Rattle.lists.specs.Base.{if_then_else_}
 use Rattle.rows.specs.Digits.{beFrom, beNat}
 use Rattle.rows.specs.Part.{part}
 use Rattle.postcard.specs.Number.{Read, got, fault, _then_, fromBigEndian, readKind, readBytes, readId}
-use Rattle.postcard.specs.Place.{Placed, placed, refused, readIn, Inside, Reads}
+use Rattle.postcard.specs.Place.{Placed, placed, refused, Reads}
 
 module _ {A : Type 0} {bytes : List ℕ} where
   -- a value that was read, and nothing after it

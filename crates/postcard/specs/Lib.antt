@@ -7,4 +7,5 @@ pub mod Contents
 pub mod Sizes
 pub mod Place
 pub mod Readings
+pub mod Events
 pub mod Wide

@@ -17,7 +17,7 @@ ghost use Prim.Native.Nat.{_≤_};
 ghost use lib.ListN.{length, drop};
 ghost use Rattle.postcard.specs.Decode.{readIhaves, messageOf, readMessage, readTimer, eventOf, readEvent};
 ghost use Rattle.postcard.specs.Place.{Reads};
-ghost use Rattle.postcard.specs.Readings.{ihavesAt, timerAt, MessageReads, EventReads, Decodes};
+ghost use Rattle.postcard.specs.Events.{ihavesAt, timerAt, MessageReads, EventReads, Decodes};
 
 // What passing over the announcements of an IHave gives: the place after them, or the question that is answered no.
 pub enum IhavesRead {
@@ -138,7 +138,7 @@ fn read_announcements(bytes: &[u8], at: usize) -> MessageRead
 }
 
 // "Message: 0 Gossip, 1 Prune, 2 Graft, 3 IHave"; another kind is 8.
-pub fn read_message(bytes: &[u8], at: usize) -> MessageRead
+fn read_message(bytes: &[u8], at: usize) -> MessageRead
     ensures { λ r. ⌜ MessageReads (now (bytes .entry)) r (readMessage (drop at (now (bytes .entry)))) ⌝ }
 {
     if bytes.len() <= at {
@@ -158,7 +158,7 @@ pub fn read_message(bytes: &[u8], at: usize) -> MessageRead
 }
 
 // "Timers: 0 SendGraft with identifier, 1 DispatchLazyPush, 2 EvictCache, 3 AnnounceDropped"; another kind is 8.
-pub fn read_timer(bytes: &[u8], at: usize) -> TimerRead
+fn read_timer(bytes: &[u8], at: usize) -> TimerRead
     ensures { λ r. ⌜ Reads (now (bytes .entry)) (timerAt r) (readTimer (drop at (now (bytes .entry)))) ⌝ }
 {
     if bytes.len() <= at {
@@ -298,7 +298,7 @@ fn read_down(bytes: &[u8], at: usize) -> EventRead
 fn read_event(bytes: &[u8]) -> EventRead
     ensures { λ r. ⌜ EventReads (now (bytes .entry)) r (readEvent (now (bytes .entry))) ⌝ }
 {
-    if bytes.len() <= 0 {
+    if bytes.len() == 0 {
         return EventRead::Fault(7);
     }
     let kind = bytes[0];

@@ -48,9 +48,9 @@ fn replay(event: &[u8]) {
     io::write_all(STDOUT_FILENO, b"\n");
 }
 
-// The event that the digits spell, of at most 16,384 bytes.
+// The event that the digits spell, of at most 4,096 bytes.
 fn replay_digits(digits: &[u8]) {
-    let mut event = [0u8; 16384];
+    let mut event = [0u8; 4096];
     let n = fill(&mut event, digits);
     replay(&event[..n]);
 }
@@ -78,7 +78,7 @@ fn replay_next() -> bool {
         return false;
     }
     let end = size_of(&head) * 2 + 1;
-    let mut line = [0u8; 32769];
+    let mut line = [0u8; 8193];
     if line.len() < end {
         return false;
     }

@@ -9,7 +9,7 @@ use postcard::message::Scope;
 use postcard::message::Timer;
 use postcard::message::Wanted;
 use rows::id::Id;
-ghost use Rattle.postcard.specs.Readings.{Listed, MessageHeld, EventHeld, ihavesFrom};
+ghost use Rattle.postcard.specs.Events.{Listed, MessageHeld, EventHeld, ihavesFrom};
 
 fn word(text: &[u8]) {
     io::write_all(STDOUT_FILENO, text);

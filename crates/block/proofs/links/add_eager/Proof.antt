@@ -1,4 +1,4 @@
-use Rattle.protocol.specs.Links.{makeEager}
+use Rattle.protocol.specs.Links.{addEager}
 use native.Mathlib.Omega.{arith}
 use borrow.Author.Needs.{needs}
 use Rattle.block.proofs.links.add_eager.Statement.{statement}
@@ -11,7 +11,7 @@ same-length : tie.Need-same-length
 same-length c = search needs
 
 returns : tie.Need-returns
-unfolding makeEager
+unfolding addEager
 returns c = record { state = c .before .before .mark-peer .ensures .state; sound = c .before .before .mark-peer .ensures .sound }
 
 pub add-eager-spec : {M : Type 1} → statement M

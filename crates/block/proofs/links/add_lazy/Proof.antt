@@ -1,4 +1,4 @@
-use Rattle.protocol.specs.Links.{makeLazy}
+use Rattle.protocol.specs.Links.{addLazy}
 use native.Mathlib.Omega.{arith}
 use borrow.Author.Needs.{needs}
 use Rattle.block.proofs.links.add_lazy.Statement.{statement}
@@ -11,7 +11,7 @@ same-length : tie.Need-same-length
 same-length c = search needs
 
 returns : tie.Need-returns
-unfolding makeLazy
+unfolding addLazy
 returns c = record { state = c .before .before .mark-peer .ensures .state; sound = c .before .before .mark-peer .ensures .sound }
 
 pub add-lazy-spec : {M : Type 1} → statement M

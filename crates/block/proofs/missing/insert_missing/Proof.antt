@@ -5,7 +5,7 @@ use lib.ListN.{length, length-set}
 use Rattle.rows.specs.Part.{part, put}
 use Rattle.rows.specs.Digits.{beBytes}
 use Rattle.rows.specs.Ident.{idOf}
-use Rattle.rows.proofs.Entries.{id-lt}
+use Rattle.rows.proofs.Ids.{id-lt}
 use Rattle.block.specs.Goes.{Goes}
 use Rattle.block.specs.Heads.{withMissingCount}
 use Rattle.block.specs.MissingSteps.{missAlso}

@@ -3,7 +3,7 @@ use mathlib.Core.List.{List, [], _∷_}
 use Prim.Native.Nat.{ℕ, _+_, _*_}
 use Rattle.rows.specs.Part.{put}
 use Rattle.rows.specs.Ident.{idOf}
-use Rattle.rows.proofs.Entries.{id-lt}
+use Rattle.rows.proofs.Ids.{id-lt}
 use Rattle.block.specs.View.{limitsOf}
 use Rattle.block.specs.Heads.{withQueuedCount}
 use Rattle.block.specs.Goes.{Goes}

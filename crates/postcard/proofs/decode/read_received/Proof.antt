@@ -1,12 +1,12 @@
 -- `read_received`: a peer, then a message, whose size is the number of its bytes (`message-end`).
 -- Assumes nothing.
-use Prim.Native.Nat.{ℕ, _+_, _<_}
+use Prim.Native.Nat.{_+_}
 use mathlib.Core.Path.{_≡_}
-use lib.ListN.{length, getD}
+use lib.ListN.{length}
 use Rattle.postcard.specs.Decode.{eventOf}
 use Rattle.postcard.proofs.PlaceLaws.{reads-got, reads-then, reads-refused}
 use Rattle.postcard.specs.Message.{messageBytes}
-use Rattle.postcard.specs.Readings.{messageValue}
+use Rattle.postcard.specs.Events.{messageValue}
 use Rattle.postcard.proofs.FieldBack.{bytes-each}
 use Rattle.postcard.proofs.EventLaws.{message-end}
 use native.Mathlib.Omega.{arith}

@@ -1,6 +1,6 @@
 -- `next_ihave`: an announcement stands there, so there is no fault.
 -- Assumes nothing.
-use mathlib.Core.Path.{sym, _∙_}
+use mathlib.Core.Path.{_∙_}
 use Rattle.postcard.proofs.FieldBack.{not-got}
 use borrow.Author.Needs.{needs}
 use Rattle.postcard.proofs.field.next_ihave.Statement.{statement}

@@ -1,10 +1,9 @@
 -- `read_groups`: the loop passes the groups one by one (`Passed`), and the last is judged by `last_group`.
 -- Assumes nothing.
-use Prim.Native.Nat.{ℕ, _+_, _*_, _-_, _^_, _≤_, _<_}
-use mathlib.Core.Path.{_≡_, sym, ap, _∙_}
+use Prim.Native.Nat.{_*_, _-_, _^_, _≤_, _<_}
+use mathlib.Core.Path.{_≡_}
 use native.Mathlib.Omega.{arith}
 use borrow.Author.Needs.{needs}
-use lib.ListN.{length, getD}
 use Rattle.postcard.proofs.GroupLaws.{Passed, passed-none, passed-more, passed-last, passed-end, room-last, room-group, group-most, groups-last, groups-short}
 use Rattle.postcard.proofs.number.read_groups.Statement.{statement}
 use Rattle.postcard.proofs.number.read_groups.Tie as tie

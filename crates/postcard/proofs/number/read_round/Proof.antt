@@ -1,6 +1,5 @@
 -- `read_round`: three groups, the last up to 3, so the number is below 2^16.
 -- Assumes nothing.
-use Prim.Native.Nat.{_<_, _^_}
 use mathlib.Core.Path.{sym}
 use native.Mathlib.Omega.{arith}
 use borrow.Author.Needs.{needs}

@@ -2,8 +2,8 @@
 -- Assumes nothing.
 use Prim.Native.Nat.{_≤_, _-_}
 use native.Mathlib.Omega.{arith}
-use lib.ListN.{length, drop}
-use Rattle.postcard.specs.Readings.{Listed, ihavesFrom}
+use lib.ListN.{drop}
+use Rattle.postcard.specs.Events.{Listed, ihavesFrom}
 use Rattle.postcard.proofs.AnnouncementLaws.{listed-start, listed-announces, listed-next}
 use borrow.Author.Needs.{needs}
 use Rattle.postcard_vectors.proofs.show.announcements.Statement.{statement}

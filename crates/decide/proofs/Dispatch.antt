@@ -208,7 +208,7 @@ flag-next : (e t f : Bool) (ds ds′ : List Note) → (e ≡ true → isEmpty (i
 flag-next e true f ds ds′ k = refl
 flag-next e false f ds ds′ k = flag-on e (isEmpty ds′) f k
 
-pieces-flag : (brought : List Room) (xs : List Piece) (r : Run) → all (λ x. isNeighbour (x .peer) (r .state .links)) xs ≡ true → Rightly brought (r .rooms) xs → flagged (r .state .dropped) (r .state .announceScheduled) →
+pieces-flag : (brought : List Room) (xs : List Piece) (r : Run) → all (λ x. isNeighbour (x .peer) (r .state .links)) xs ≡ true → Rightly brought (r .rooms) xs → Flagged (r .state .dropped) (r .state .announceScheduled) →
     sendPieces xs r .state .announceScheduled ≡ (not (isEmpty (addPieces (cachedIn (r .state .cache)) brought xs (r .state .dropped))) || r .state .announceScheduled)
 unfolding sendPieces Rightly addPieces
 pieces-flag brought [] r n w g = flag-stands (isEmpty (r .state .dropped)) (r .state .announceScheduled) g

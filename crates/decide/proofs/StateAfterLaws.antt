@@ -20,7 +20,8 @@ use Rattle.protocol.specs.Ticks.{oldest, younger, moveOldest, stillCached, disp
 use Rattle.protocol.specs.Neighbours.{onNeighborUp, onNeighborDown}
 use Rattle.protocol.specs.Handle.{firstEvent, countMessage, ifNeighbour, onTimer, onMessage, handleMessage, handle}
 use Rattle.protocol.specs.Whole.{whole}
-use Rattle.protocol.proofs.Consistent.{Consistent, flagged, whole-consistent}
+use Rattle.protocol.proofs.Consistent.{Consistent, whole-consistent}
+use Rattle.protocol.proofs.RecordBounds.{Flagged}
 use Rattle.protocol.proofs.WholeKept.{kept-firstEvent}
 use Rattle.protocol.proofs.LinkSteps.{has-mark}
 use Rattle.lists.proofs.Branches.{if-on, if-both, if-same}
@@ -113,7 +114,7 @@ reply-push sender id c r = on (takes sender r)
     on true = unfold noteForEach in refl
     on false = unfold noteForEach in refl
 
-reply-state : (sender id : ℕ) (o : Option Cached) (r : Run) → isNeighbour sender (r .state .links) ≡ true → flagged (r .state .dropped) (r .state .announceScheduled) →
+reply-state : (sender id : ℕ) (o : Option Cached) (r : Run) → isNeighbour sender (r .state .links) ≡ true → Flagged (r .state .dropped) (r .state .announceScheduled) →
     replyWith sender id o r .state ≡ replyState (r .rooms) sender id o (r .state)
 unfolding replyState
 reply-state sender id none r n g = unfold replyWith in refl
@@ -122,7 +123,7 @@ reply-state sender id (some c) r n g =
     ∙ push-state (sender ∷ []) id (c .content) (c .round) r (unfold all in (rw n refl)) (unfold once member in refl) g
 
 -- Graft, from a neighbour
-pub graft-state : (sender : ℕ) (wanted : Option ℕ) (r : Run) → isNeighbour sender (r .state .links) ≡ true → flagged (r .state .dropped) (r .state .announceScheduled) →
+pub graft-state : (sender : ℕ) (wanted : Option ℕ) (r : Run) → isNeighbour sender (r .state .links) ≡ true → Flagged (r .state .dropped) (r .state .announceScheduled) →
     onGraft sender wanted r .state ≡ graftState (r .rooms) sender wanted (r .state)
 unfolding onGraft graftState reply updateLinks
 graft-state sender none r n g = refl

@@ -15,7 +15,8 @@ use Rattle.protocol.specs.State.{State, Counts, Note, Hop, Grafts, Cached, with
 use Rattle.protocol.specs.Run.{Run, Room, begin, withState, withCounts, act, send}
 use Rattle.protocol.specs.Push.{scheduleDispatch, scheduleAnnounceDropped, noteForEach, noteDropped, sendEach, handedBack, eagerTargets, noteAfter, pushTo, eagerPush, lazyPush}
 use Rattle.protocol.specs.Gossips.{markReceived, cacheAt, withFirst, setFirst, forgetMissing, updateLinks, graftUnlessEager, pruneBack, leastFrom, farCloser, optimizeTree, forgetAndOptimise, announcers, graftedFor, graftOut, pushOn, raiseHops, takeIn}
-use Rattle.protocol.proofs.Consistent.{Consistent, flagged, whole-consistent}
+use Rattle.protocol.proofs.Consistent.{Consistent, whole-consistent}
+use Rattle.protocol.proofs.RecordBounds.{Flagged}
 use Rattle.protocol.proofs.RecordOnly.{RecordOnly}
 use Rattle.protocol.specs.Push.{recordFull, notes}
 use Rattle.protocol.proofs.RecordOnly.{only-noteDropped, only-sending}
@@ -88,7 +89,7 @@ pub flag-on : (e m f : Bool) → (e ≡ true → m ≡ true) → (not e || (if m
 flag-on false m f k = refl
 flag-on true m f k = rw (k refl) refl
 
-for-flag : (ps : List ℕ) (h : Ihave) (r : Run) → all (λ p. isNeighbour p (r .state .links)) ps ≡ true → flagged (r .state .dropped) (r .state .announceScheduled) →
+for-flag : (ps : List ℕ) (h : Ihave) (r : Run) → all (λ p. isNeighbour p (r .state .links)) ps ≡ true → Flagged (r .state .dropped) (r .state .announceScheduled) →
     noteForEach ps h r .state .announceScheduled ≡ (not (isEmpty (addBatches (cachedIn (r .state .cache)) (batchesFor h ps) (r .state .dropped))) || r .state .announceScheduled)
 unfolding noteForEach batchesFor addBatches
 for-flag [] h r n g = flag-stands (isEmpty (r .state .dropped)) (r .state .announceScheduled) g
@@ -103,7 +104,7 @@ for-flag (p ∷ ps) h r n g =
     (batches-empty (cachedIn (r .state .cache)) (batchesFor h ps) (addNotes (cachedIn (r .state .cache)) p (h ∷ []) (r .state .dropped))))
 
 -- `note_dropped` of one identifier for each of these neighbours
-for-state : (ps : List ℕ) (h : Ihave) (r : Run) → all (λ p. isNeighbour p (r .state .links)) ps ≡ true → flagged (r .state .dropped) (r .state .announceScheduled) →
+for-state : (ps : List ℕ) (h : Ihave) (r : Run) → all (λ p. isNeighbour p (r .state .links)) ps ≡ true → Flagged (r .state .dropped) (r .state .announceScheduled) →
     noteForEach ps h r .state ≡ recordedState (addBatches (cachedIn (r .state .cache)) (batchesFor h ps) (r .state .dropped)) (r .state)
 unfolding recordedState
 for-state ps h r n g =
@@ -113,7 +114,7 @@ for-state ps h r n g =
 -- the pushes
 
 pub push-state : (ps : List ℕ) (id : ℕ) (content : List ℕ) (round : ℕ) (r : Run) → all (λ p. isNeighbour p (r .state .links)) ps ≡ true → once ps ≡ true →
-    flagged (r .state .dropped) (r .state .announceScheduled) → pushTo ps id content (Swarm round) r .state ≡ pushedState (r .rooms) ps (record { id = id; round = round }) (r .state)
+    Flagged (r .state .dropped) (r .state .announceScheduled) → pushTo ps id content (Swarm round) r .state ≡ pushedState (r .rooms) ps (record { id = id; round = round }) (r .state)
 unfolding pushTo noteAfter pushedState
 push-state ps id content round r near apart g =
     let m = Gossip id content (Swarm round) in
@@ -124,7 +125,7 @@ push-state ps id content round r near apart g =
     ∙ ap (λ (s : State). recordedState (addBatches (cachedIn (s .cache)) (batchesFor h (backPeers (r .rooms) ps)) (s .dropped)) s) (sent-state ps m r)
 
 pub eager-state : (id : ℕ) (content : List ℕ) (round sender : ℕ) (skip : List ℕ) (r : Run) → ascending (keys (r .state .links)) ≡ true →
-    flagged (r .state .dropped) (r .state .announceScheduled) →
+    Flagged (r .state .dropped) (r .state .announceScheduled) →
     eagerPush id content (Swarm round) sender skip r .state ≡ pushedState (r .rooms) (eagerTargets sender skip (r .state)) (record { id = id; round = round }) (r .state)
 unfolding eagerPush
 eager-state id content round sender skip r up g =
@@ -192,7 +193,7 @@ new-state now sender id content round r x =
     let r₃ = setFirst id sender round r₂ in
     let o = first-only id (record { peer = sender; round = round }) (get id (r₂ .state .grafted)) (r₂ .state) in
     let up : ascending (keys (r₃ .state .links)) ≡ true = unfold setFirst in (rw (o .links) (unfold cacheAt markReceived in (x .core .linksUp))) in
-    let g : flagged (r₃ .state .dropped) (r₃ .state .announceScheduled) = unfold setFirst in (rw (o .dropped, o .announceScheduled) (unfold cacheAt markReceived in (x .recordFlag))) in
+    let g : Flagged (r₃ .state .dropped) (r₃ .state .announceScheduled) = unfold setFirst in (rw (o .dropped, o .announceScheduled) (unfold cacheAt markReceived in (x .recordFlag))) in
     let e = eager-state id content (suc round) sender (keys (graftedFor id (r₃ .state))) r₃ up g in
     let r₄ = eagerPush id content (Swarm (suc round)) sender (keys (graftedFor id (r₃ .state))) r₃ in
     let same : r₃ .rooms ≡ r .rooms = unfold setFirst cacheAt markReceived in refl in

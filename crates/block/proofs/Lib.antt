@@ -13,3 +13,4 @@ pub mod TimerLaws
 pub mod Each
 pub mod HopLaws
 pub mod MissingLaws
+pub mod AnnounceLaws

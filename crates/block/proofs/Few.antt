@@ -1,16 +1,16 @@
 -- Peers that stand once and are neighbours are no more than the neighbours: a list of announcers has at most 32.
 -- Assumes nothing.
-use mathlib.Core.Path.{_≡_, refl, sym, ap, _∙_, subst}
+use mathlib.Core.Path.{_≡_, refl, sym, ap, _∙_}
 use mathlib.Core.Bool.{Bool, true, false, not, _&&_}
 use mathlib.Core.List.{List, [], _∷_}
-use Prim.Native.Nat.{ℕ, zero, suc, _+_, _≤_, _<_, zero-le, suc-le-suc}
+use Prim.Native.Nat.{ℕ, _≤_, _<_, zero-le, suc-le-suc}
 use native.Mathlib.Omega.{arith}
 use borrow.Author.Tests.{ne-eqb, eqb-false}
 use lib.Dec.{eqb}
 use lib.ListN.{length}
-use Rattle.lists.specs.Base.{if_then_else_, isSome, all, once, member}
-use Rattle.lists.specs.Map.{Map, Entry, lookup, has, remove}
-use Rattle.lists.proofs.MapLaws.{cases, true≢, and-left, and-right, and-intro, all-head, all-tail, all-cons}
+use Rattle.lists.specs.Base.{if_then_else_, all, once, member}
+use Rattle.lists.specs.Map.{Map, lookup, has, remove}
+use Rattle.lists.proofs.MapLaws.{cases, true≢, and-left, and-right, all-head, all-tail, all-cons}
 use Rattle.lists.proofs.ListLaws.{has-remove}
 
 module _ {A : Type 0} where

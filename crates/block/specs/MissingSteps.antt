@@ -61,15 +61,30 @@ announcedAt i l r s = hopsTo i (hopsAt s i ++ (hop (peerAt s l) r ∷ [])) s
 abbrev pub leftAt : ℕ → State → State
 leftAt i s = hopsTo i (drop 1 (hopsAt s i)) s
 
--- the same, but a list that is then empty goes: `leave` with the announcers after the first
-abbrev pub leaveAt : ℕ → State → State
-leaveAt i s = if isEmpty (drop 1 (hopsAt s i)) then missOutAt i s else leftAt i s
+-- `leave`, of the state: the announcers that are left; an empty list goes
+abbrev pub left : ℕ → List Hop → State → State
+left id hs s = withMissing (if isEmpty hs then remove id (s .missing) else insert id hs (s .missing)) s
+
+-- missing message i is left by its first announcer
+abbrev pub leftAfter : ℕ → State → State
+leftAfter i s = left (missedAt s i .key) (drop 1 (hopsAt s i)) s
+
+-- the announcers of missing message i with the peer of a link, once
+abbrev pub addedAt : ℕ → ℕ → ℕ → State → List Hop
+addedAt i l r s = addAnnouncer (hop (peerAt s l) r) (hopsAt s i)
+
+-- a missing message that the peer of a link announced
+abbrev pub newWith : ℕ → ℕ → ℕ → State → State
+newWith id l r s = withMissing (insert id (hop (peerAt s l) r ∷ []) (s .missing)) s
 
 -- `announce`, of the state
 abbrev pub announced : ℕ → Hop → State → State
 announced id h s = withMissing (insert id (addAnnouncer h (announcers id s)) (s .missing)) s
 
+abbrev pub announcedBy : ℕ → ℕ → ℕ → State → State
+announcedBy id l r s = announced id (hop (peerAt s l) r) s
+
 -- there is room for that
-pub record Announces (id : ℕ) (h : Hop) (s : State) : Type 0 where
-  pub rows : length (announced id h s .missing) ≤ s .limits .S
-  pub hops : length (addAnnouncer h (announcers id s)) ≤ 32
+pub record Announces (id l r : ℕ) (s : State) : Type 0 where
+  pub rows : length (announcedBy id l r s .missing) ≤ s .limits .S
+  pub hops : length (addAnnouncer (hop (peerAt s l) r) (announcers id s)) ≤ 32

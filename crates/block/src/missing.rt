@@ -20,7 +20,7 @@ ghost use Rattle.block.specs.Fit.{Fit};
 ghost use Rattle.block.specs.Sound.{Sound};
 ghost use Rattle.block.specs.Goes.{Goes};
 ghost use Rattle.block.specs.LinkSteps.{LinksAscend, peerAt};
-ghost use Rattle.block.specs.MissingSteps.{MissingAscend, missedAt, hopsAt, fromPeer, HopIs, missAlso, missOutAt, missOut, announcedAt, leftAt, leaveAt, announced, Announces};
+ghost use Rattle.block.specs.MissingSteps.{MissingAscend, hopsAt, fromPeer, HopIs, missAlso, missOutAt, missOut, announcedAt, hopsTo, addedAt, leftAt, leftAfter, newWith, announcedBy, Announces};
 
 // Where an identifier stands among the missing messages, or the one before which it would stand, by halving.
 pub fn find_missing(h: Head, block: &[u8], id: Id) -> Found
@@ -110,4 +110,68 @@ pub fn drop_announcer(h: Head, block: &mut [u8], i: usize)
 {
     let at = head::missing_at(h.limits) + 129 * i + 32;
     hops::drop_hop(block, at);
+}
+
+// An identifier is no longer missing: "drop .. announcers".
+pub fn forget_missing(h: Head, block: &mut [u8], id: Id) -> Head
+    requires { ⌜ Sound h (now block) × MissingAscend h (now block) ⌝ }
+    ensures { λ r. ⌜ Goes (missOut (idOf id)) h (now (block .entry)) r (now (block .exit)) ⌝ }
+{
+    let f = find_missing(h, block, id);
+    match f {
+        Found::At(i) => remove_missing(h, block, i),
+        Found::Before(_) => h,
+    }
+}
+
+// The first announcer of the missing message i leaves; an empty list goes.
+pub fn leave_first(h: Head, block: &mut [u8], i: usize) -> Head
+    requires { ⌜ Sound h (now block) × MissingAscend h (now block) × (i < h .live .missing) × (0 < length (hopsAt (stateOf h (now block)) i)) ⌝ }
+    ensures { λ r. ⌜ Goes (leftAfter i) h (now (block .entry)) r (now (block .exit)) ⌝ }
+{
+    let n = announcers_of(h, block, i);
+    if n == 1 {
+        return remove_missing(h, block, i);
+    }
+    drop_announcer(h, block, i);
+    h
+}
+
+// A link announced the missing message i: "once per identifier".
+fn announce_at(h: Head, block: &mut [u8], i: usize, link: usize, round: Round)
+    requires { ⌜ Sound h (now block) × LinksAscend h (now block) × MissingAscend h (now block) × (i < h .live .missing) × (link < h .live .links) ⌝ }
+    requires { ⌜ length (addedAt i link (round .0) (stateOf h (now block))) ≤ 32 ⌝ }
+    ensures { λ _. ⌜ Goes (λ s. hopsTo i (addedAt i link (round .0) s) s) h (now (block .entry)) h (now (block .exit)) ⌝ }
+{
+    let there = announced_by(h, block, i, link);
+    if there {
+        return;
+    }
+    push_announcer(h, block, i, link, round);
+}
+
+// A link announced a message that was not missing yet.
+fn announce_new(h: Head, block: &mut [u8], i: usize, id: Id, link: usize, round: Round) -> Head
+    requires { ⌜ Sound h (now block) × MissingAscend h (now block) × Between (keys (stateOf h (now block) .missing)) (idOf id) i × (link < h .live .links) × (h .live .missing < h .limits .missing) ⌝ }
+    ensures { λ r. ⌜ Goes (newWith (idOf id) link (round .0)) h (now (block .entry)) r (now (block .exit)) ⌝ }
+{
+    let r = insert_missing(h, block, i, id);
+    push_announcer(r, block, i, link, round);
+    r
+}
+
+// `announce`: a link is among those who announced an identifier, once.
+pub fn announce(h: Head, block: &mut [u8], id: Id, link: usize, round: Round) -> Head
+    requires { ⌜ Sound h (now block) × LinksAscend h (now block) × MissingAscend h (now block) × (link < h .live .links) ⌝ }
+    requires { ⌜ Announces (idOf id) link (round .0) (stateOf h (now block)) ⌝ }
+    ensures { λ r. ⌜ Goes (announcedBy (idOf id) link (round .0)) h (now (block .entry)) r (now (block .exit)) ⌝ }
+{
+    let f = find_missing(h, block, id);
+    match f {
+        Found::At(i) => {
+            announce_at(h, block, i, link, round);
+            h
+        }
+        Found::Before(i) => announce_new(h, block, i, id, link, round),
+    }
 }

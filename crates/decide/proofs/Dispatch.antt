@@ -138,7 +138,7 @@ is-empty : (ds : List Note) → (isEmpty ds || false) ≡ true → ds ≡ []
 is-empty [] h = refl
 is-empty (d ∷ ds) h = true≢ h
 
--- one piece's actions, by the four tests: taken, Flagged, one cached, nothing recorded after
+-- one piece's actions, by the four tests: taken, flagged, one cached, nothing recorded after
 step-actions : (t f a e : Bool) (before : List Action) (sent : Action) (rest : Bool → List Action) → (t ≡ false → f ≡ false → e ≡ not a) →
     ((before ++ (sent ∷ [])) ++ (if t then [] else (if e || f then [] else Scheduled 1000 AnnounceDropped ∷ []))) ++ rest (if t then f else (if e || f then f else true))
     ≡ before ++ (sent ∷ (if t || f || not a then rest f else Scheduled 1000 AnnounceDropped ∷ rest true))

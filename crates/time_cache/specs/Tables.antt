@@ -70,6 +70,10 @@ entryOf value xs r = entryFor value r (rowAt xs (r .place))
 unfoldable pub named : List ExpiryRow → List Ref → List ℕ
 named xs es = map (λ r. rowAt xs (r .place) .key) es
 
+-- the places name some of the first m rows, and the keys that they name ascend
+unfoldable pub namesAscend : ℕ → List ExpiryRow → List Ref → Bool
+namesAscend m xs es = all (λ p. ltb p m) (places es) && ascending (named xs es)
+
 -- n rows of s bytes stand in e, and the places that they start with name some of the m rows of t bytes in x
 pub record Names (s n : ℕ) (e : List ℕ) (t m : ℕ) (x : List ℕ) : Type 0 where
   pub entryWide : 2 ≤ s

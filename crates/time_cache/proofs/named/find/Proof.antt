@@ -48,7 +48,8 @@ there : (c : tie.After-load2 Inv-loop μ-loop) → c .load2 .result * c .before 
 there c =
     let s = c .before .before .before .before .before in
     let a = s .args in
-    named-end (a .stride) (a .n) (a .e .now) (a .width) (a .m) (a .x .now) (s .pre .0) (mid (c .before)) (spot (c .before) .2) (c .load2 .result) (c .load2 .ensures .0)
+    named-end (a .stride) (a .n) (a .e .now) (a .width) (a .m) (a .x .now) (mid (c .before)) (spot (c .before) .2) (s .pre .0 .entryWide) (c .load2 .result) (c .load2 .ensures .0)
+    (named-below (a .stride) (a .n) (a .e .now) (a .width) (a .m) (a .x .now) (s .pre .0) (mid (c .before)) (c .load2 .result) (spot (c .before) .2) (c .load2 .ensures .0)) (s .pre .0 .expiryWide) (s .pre .0 .rows)
 
 -- the key that was read is the one that the middle names
 read : (c : tie.After-load-id Inv-loop μ-loop) → idOf (c .load-id .result) ≡ getD (ks (c .before .before)) (mid (c .before .before)) 0
@@ -56,7 +57,8 @@ read c =
     let t = c .before .before in
     let s = t .before .before .before .before in
     let a = s .args in
-    named-key (a .stride) (a .n) (a .e .now) (a .width) (a .m) (a .x .now) (s .pre .0) (mid t) (spot t .2) (c .before .load2 .result) (c .before .load2 .ensures .0) (idOf (c .load-id .result)) (c .load-id .ensures)
+    named-key (a .stride) (a .n) (a .e .now) (a .width) (a .m) (a .x .now) (mid t) (spot t .2) (s .pre .0 .entryWide) (c .before .load2 .result) (c .before .load2 .ensures .0)
+    (named-below (a .stride) (a .n) (a .e .now) (a .width) (a .m) (a .x .now) (s .pre .0) (mid t) (c .before .load2 .result) (spot t .2) (c .before .load2 .ensures .0)) (s .pre .0 .expiryWide) (s .pre .0 .rows) (idOf (c .load-id .result)) (c .load-id .ensures)
 
 loop-holds : tie.Need-loop-holds Inv-loop μ-loop
 loop-holds c =

@@ -12,7 +12,7 @@ use lib.ListN.{length, getD}
 use Rattle.lists.specs.Base.{all, ascending}
 use Rattle.lists.proofs.MapLaws.{cases, true≢, and-left, and-right, and-intro, all-head, all-tail, all-cons}
 use Rattle.rows.specs.Sorted.{Ascending, TellsAscending}
-use Rattle.refs.specs.Refs.{Below, TellsBelow}
+use Rattle.refs.specs.Refs.{Below}
 use Rattle.time_cache.specs.TimeCache.{Expiry, inPopOrder}
 use Rattle.time_cache.specs.Tables.{noExpiry, Rising}
 
@@ -66,10 +66,6 @@ below-of m ps h = record { below = λ i l. ltb-true (getD ps i 0) m (all-at (λ 
 
 pub of-below : (m : ℕ) (ps : List ℕ) → Below m ps → below m ps ≡ true
 of-below m ps b = at-all (λ p. ltb p m) 0 ps (λ i l. lt-ltb (getD ps i 0) m (b .below i l))
-
-pub tells-below : (m : ℕ) (ps : List ℕ) (r : Bool) → TellsBelow m ps r → r ≡ below m ps
-tells-below m ps true b = sym (of-below m ps b)
-tells-below m ps false n = tells-not (Below m ps) (below m ps) (below-of m ps) n
 
 -- expiry entries in pop order
 pub rising-of : (xs : List Expiry) → inPopOrder xs ≡ true → Rising xs

@@ -2,7 +2,7 @@
 -- Assumes nothing.
 use mathlib.Core.Path.{_≡_, refl, sym, ap, _∙_}
 use mathlib.Core.Bool.{Bool, true, false, _&&_}
-use mathlib.Core.List.{List, [], map}
+use mathlib.Core.List.{List, []}
 use Prim.Native.Nat.{ℕ, _+_, _-_, _*_, _≤_, _<_}
 use native.Mathlib.Omega.{arith}
 use lib.ListN.{length, getD, length-map}
@@ -10,7 +10,7 @@ use Rattle.lists.specs.Base.{ascending}
 use Rattle.lists.proofs.MapLaws.{and-intro}
 use Rattle.rows.specs.Part.{part}
 use Rattle.rows.specs.Digits.{leNat, beNat}
-use Rattle.refs.specs.Refs.{Ref, ref, refs, places, Below}
+use Rattle.refs.specs.Refs.{Ref, ref, refs, places}
 use Rattle.refs.proofs.Places.{getD-map-in, length-refs, length-places, place-in, place-at, row-end, BelowTo, below-more}
 use Rattle.time_cache.specs.Tables.{expiryRows, rowAt, named, namesAscend, Names}
 use Rattle.rows.proofs.Sorted.{AscendTo, ascend-start, ascend-more, ascend-done, ascend-not}

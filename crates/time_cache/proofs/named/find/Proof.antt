@@ -8,17 +8,11 @@ use Rattle.rows.specs.Ident.{idOf}
 use Rattle.rows.proofs.Sorted.{Bracket, bracket-start, bracket-up, bracket-down, bracket-done}
 use Rattle.rows.proofs.Ids.{of-less, of-equal, of-greater}
 use Rattle.refs.proofs.Places.{row-end}
-use Rattle.time_cache.specs.Tables.{Names}
 use Rattle.time_cache.proofs.NamedLaws.{keysIn, length-named, named-below, named-end, named-key}
 use native.Mathlib.Omega.{arith}
 use borrow.Author.Needs.{needs}
 use Rattle.time_cache.proofs.named.find.Statement.{statement}
 use Rattle.time_cache.proofs.named.find.Tie as tie
-use Rattle.time_cache.proofs.named.find.Reads as reads
-use Rattle.time_cache.proofs.named.find.Lts as lts
-use Rattle.rows.proofs.id.compare.Reads as compare-reads
-use Rattle.rows.proofs.id.load_id.Reads as load-id-reads
-use Rattle.rows.proofs.word.load2.Reads as load2-reads
 
 abbrev Inv-loop : tie.InvT-loop
 Inv-loop e stride n x width m key lo₀ hi₀ lo hi = Bracket (keysIn stride n e width m x) (idOf key) lo hi

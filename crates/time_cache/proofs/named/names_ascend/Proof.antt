@@ -16,11 +16,6 @@ use native.Mathlib.Omega.{arith}
 use borrow.Author.Needs.{needs}
 use Rattle.time_cache.proofs.named.names_ascend.Statement.{statement}
 use Rattle.time_cache.proofs.named.names_ascend.Tie as tie
-use Rattle.time_cache.proofs.named.names_ascend.Reads as reads
-use Rattle.time_cache.proofs.named.names_ascend.Lts as lts
-use Rattle.rows.proofs.id.compare.Reads as compare-reads
-use Rattle.rows.proofs.id.load_id.Reads as load-id-reads
-use Rattle.rows.proofs.word.load2.Reads as load2-reads
 
 abbrev Inv-loop : tie.InvT-loop
 Inv-loop e stride n x width m p₀ i₀ p i = (0 < i) × (p < m) × (p ≡ leNat (part ((i - 1) * stride) 2 e)) × Seen stride n e width m x i

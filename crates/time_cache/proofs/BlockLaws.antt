@@ -1,22 +1,19 @@
 -- The two tables of a cache as they lie in a block, what a function that is lent a part of it sees of them, and what it leaves.
 -- Assumes nothing.
-use mathlib.Core.Path.{_≡_, refl, sym, ap, _∙_, subst}
-use mathlib.Core.Bool.{Bool, true, false, _&&_}
-use mathlib.Core.List.{List, [], _∷_, _++_, map}
-use Prim.Native.Nat.{ℕ, zero, suc, _+_, _-_, _*_, _≤_, _<_}
+use mathlib.Core.Path.{_≡_, sym, ap, _∙_, subst}
+use mathlib.Core.Bool.{Bool, true, false}
+use mathlib.Core.List.{List, map}
+use Prim.Native.Nat.{ℕ, _-_, _*_, _≤_}
 use native.Mathlib.Omega.{arith}
-use lib.ListN.{length, take, drop, getD, length-drop, length-take}
-use lib.Seq.{take-all, take-take, take-append-le, length-take-le, drop-at}
-use Rattle.lists.specs.Base.{all, ascending}
+use lib.ListN.{length, take, drop, length-drop}
+use lib.Seq.{take-all}
+use Rattle.lists.specs.Base.{ascending}
 use Rattle.lists.specs.Map.{keys}
-use Rattle.rows.specs.Part.{part, put}
+use Rattle.rows.specs.Part.{part}
 use Rattle.rows.specs.Rows.{rows}
-use Rattle.rows.specs.Part.{Only}
-use Rattle.rows.proofs.Parts.{length-part, length-put, part-put, part-before, part-after, put-part, put-over, drop-put, loan-put}
-use Rattle.rows.proofs.Rows.{rows-same, rows-take}
-use Rattle.refs.specs.Refs.{Ref, refOf, refs, places, Below}
+use Rattle.refs.specs.Refs.{Ref, refs, places, Below}
 use Rattle.time_cache.specs.TimeCache.{inPopOrder}
-use Rattle.time_cache.specs.Tables.{ExpiryRow, expiryRowOf, expiryRows, expiryOf, named, Names, held, cacheOf, refsAt, rowsAt, cacheAt, Lies, resized, Room, Sound, sound, OnlyTwo}
+use Rattle.time_cache.specs.Tables.{expiryRows, expiryOf, named, namesAscend, Names, held, cacheOf, refsAt, rowsAt, Lies, Sound, sound}
 use Rattle.time_cache.specs.declared.cache.TimeBoundCache.{TimeBoundCache}
 use Rattle.rows.specs.Sorted.{Ascending}
 use Rattle.time_cache.proofs.Orders.{below, up-of}
@@ -56,19 +53,14 @@ module _ (c : TimeBoundCache) (xs : List ℕ) where
       below = subst (λ (es : List Ref). Below (c .expiry .len) (places es)) (sym refs-open) b;
     }
 
-  -- the test of soundness, step by step
-  pub sound-low : false ≡ below (c .expiry .len) (places (refsAt c xs)) → false ≡ sound c xs
-  unfolding sound
-  sound-low e = rw (sym e)
+  -- the test of soundness, by its two passes
+  pub sound-low : false ≡ namesAscend (c .expiry .len) (rowsAt c xs) (refsAt c xs) → false ≡ sound c xs
+  unfolding sound namesAscend
+  sound-low e = rw (keys-named held (refsAt c xs) (rowsAt c xs), sym e)
 
-  module _ (b : true ≡ below (c .expiry .len) (places (refsAt c xs))) where
-    pub sound-mid : false ≡ ascending (named (rowsAt c xs) (refsAt c xs)) → false ≡ sound c xs
-    unfolding sound
-    sound-mid e = rw (sym b, keys-named held (refsAt c xs) (rowsAt c xs), sym e)
-
-    pub sound-all : true ≡ ascending (named (rowsAt c xs) (refsAt c xs)) → (r : Bool) → r ≡ inPopOrder (map expiryOf (rowsAt c xs)) → r ≡ sound c xs
-    unfolding sound cacheOf
-    sound-all u r o = rw (sym b, keys-named held (refsAt c xs) (rowsAt c xs), sym u) o
+  pub sound-all : true ≡ namesAscend (c .expiry .len) (rowsAt c xs) (refsAt c xs) → (r : Bool) → r ≡ inPopOrder (map expiryOf (rowsAt c xs)) → r ≡ sound c xs
+  unfolding sound namesAscend cacheOf
+  sound-all e r o = rw (keys-named held (refsAt c xs) (rowsAt c xs), sym e) o
 
   -- a sound cache's keys ascend
   pub sound-up : Sound c xs → Ascending (named (rowsAt c xs) (refsAt c xs))

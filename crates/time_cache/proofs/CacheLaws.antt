@@ -1,16 +1,15 @@
 -- The law of `specs/TimeCache.antt`: on a whole cache `expire_until` keeps just the entries that expire later than the instant.
-use Prim.Native.Nat.{ℕ, suc, _<_, _≤_}
-use mathlib.Core.Path.{_≡_, refl, sym, ap, subst, _∙_}
+use Prim.Native.Nat.{ℕ, _<_, _≤_}
+use mathlib.Core.Path.{_≡_, refl, sym, ap, _∙_}
 use mathlib.Core.Bool.{Bool, true, false, not, _&&_}
 use mathlib.Core.List.{List, [], _∷_}
-use mathlib.Core.Option.{Option, none, some}
 use native.Mathlib.Omega.{arith}
 use lib.Dec.{leb, ltb, eqb}
-use borrow.Author.Tests.{ltb-true, ltb-false, leb-true, leb-false, eqb-true, eqb-false, eq-eqb, ne-eqb, lt-ltb, le-ltb, le-leb, lt-leb}
+use borrow.Author.Tests.{ltb-true, leb-true, leb-false, eqb-true, eqb-false, eq-eqb, ne-eqb, lt-ltb, le-ltb, lt-leb}
 use Rattle.lists.specs.Base.{if_then_else_, all, any, filter, ascending}
-use Rattle.lists.specs.Map.{Map, Entry, entry, keys, lookup, insert, remove}
+use Rattle.lists.specs.Map.{Map, Entry, entry, keys, lookup, remove}
 use Rattle.time_cache.specs.TimeCache.{Timed, Expiry, Cache, expiresAt, pop, due, later, popAll, expireUntil, expiresOnTime, inPopOrder}
-use Rattle.lists.proofs.MapLaws.{cases, true≢, and-left, and-right, and-intro, all-head, all-tail, all-cons, ascending-remove}
+use Rattle.lists.proofs.MapLaws.{cases, true≢, and-left, and-right, all-head, all-tail, ascending-remove}
 
 pub eqb-sym : (a b : ℕ) → eqb a b ≡ eqb b a
 eqb-sym a b =

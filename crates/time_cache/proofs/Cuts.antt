@@ -1,18 +1,16 @@
 -- Expiry entries in pop order, cut at an instant: the first part is due, the second is later, and a new entry of that time goes between.
 -- Assumes nothing.
-use mathlib.Core.Path.{_≡_, refl, sym, ap, _∙_}
-use mathlib.Core.Bool.{Bool, true, false}
-use mathlib.Core.List.{List, [], _∷_, _++_, map}
-use Prim.Native.Nat.{ℕ, zero, suc, _+_, _-_, _≤_, _<_, zero-le, suc-le-suc}
+use mathlib.Core.Path.{_≡_, refl, ap, _∙_}
+use mathlib.Core.Bool.{true, false}
+use mathlib.Core.List.{List, [], _∷_, _++_}
+use Prim.Native.Nat.{ℕ, zero, suc, _+_, _-_, zero-le, suc-le-suc}
 use native.Mathlib.Nat.{le-of-suc-le-suc, not-suc-le-zero}
-use native.Mathlib.Omega.{arith}
 use borrow.Author.Tests.{le-leb, lt-leb}
 use lib.Dec.{leb}
-use lib.ListN.{length, take, drop, getD}
+use lib.ListN.{length, take, drop}
 use lib.Seq.{length-take-le}
-use Rattle.lists.specs.Base.{if_then_else_}
 use Rattle.time_cache.specs.TimeCache.{Expiry, addExpiry, due, later}
-use Rattle.time_cache.specs.Tables.{noExpiry, Cut}
+use Rattle.time_cache.specs.Tables.{Cut}
 
 cut-tail : (x : Expiry) (xs : List Expiry) (t k : ℕ) → Cut (x ∷ xs) t (suc k) → Cut xs t k
 cut-tail x xs t k c = record {

@@ -1,22 +1,19 @@
 -- `expire_until`: the steps put together.
 -- Assumes nothing.
 use mathlib.Core.Path.{_≡_, refl, sym, ap, _∙_, subst}
-use mathlib.Core.Bool.{Bool, true, false}
-use mathlib.Core.List.{List, [], _∷_, _++_, map}
-use Prim.Native.Nat.{ℕ, zero, suc, _+_, _-_, _*_, _≤_, _<_}
+use mathlib.Core.Bool.{true}
+use mathlib.Core.List.{List, [], _∷_, map}
+use Prim.Native.Nat.{ℕ, _+_, _-_, _*_, _≤_}
 use native.Mathlib.Nat.{sub-zero}
 use native.Mathlib.Omega.{arith}
 use borrow.Author.Tests.{ltb-true, lt-ltb, le-leb, leb-true}
-use lib.Dec.{ltb, leb}
-use lib.ListN.{length, take, drop, getD, length-map}
-use Rattle.lists.specs.Base.{if_then_else_, all, filter, ascending}
-use Rattle.lists.specs.Map.{keys}
-use Rattle.lists.proofs.MapLaws.{cases, all-head, all-tail, all-cons}
-use Rattle.lists.proofs.ListLaws.{all-imp, all-map, all-filter-imp}
-use Rattle.rows.specs.Part.{Only}
+use lib.Dec.{ltb}
+use lib.ListN.{length, drop, length-map}
+use Rattle.lists.specs.Base.{all, filter}
+use Rattle.lists.proofs.ListLaws.{all-map, all-filter-imp}
 use Rattle.refs.specs.Refs.{Ref, ref, places, names, lowered, left}
-use Rattle.time_cache.specs.TimeCache.{Cache, expireUntil, expiredKeys, inPopOrder}
-use Rattle.time_cache.specs.Tables.{ExpiryRow, expiryRows, expiryOf, Cut, Held, held, entryOf, cacheOf, refsAt, rowsAt, cacheAt, Lies, resized, Sound, OnlyTwo}
+use Rattle.time_cache.specs.TimeCache.{Cache, expireUntil, expiredKeys}
+use Rattle.time_cache.specs.Tables.{ExpiryRow, expiryRows, expiryOf, Cut, Held, held, entryOf, cacheOf, refsAt, rowsAt, cacheAt, Lies, resized, Sound}
 use Rattle.time_cache.specs.Steps.{Drops, Leaves, Expires}
 use Rattle.time_cache.specs.declared.cache.TimeBoundCache.{TimeBoundCache}
 use Rattle.time_cache.proofs.Timely.{Timely, timely-expire}

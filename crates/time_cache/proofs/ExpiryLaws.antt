@@ -2,19 +2,18 @@
 -- Assumes nothing.
 use mathlib.Core.Path.{_≡_, refl, sym, ap, _∙_, subst}
 use mathlib.Core.Logic.{_⊎_, inl, inr}
-use mathlib.Core.Bool.{Bool, true, false}
-use mathlib.Core.List.{List, [], _∷_, _++_, map, append-assoc}
-use Prim.Native.Nat.{ℕ, zero, suc, _+_, _-_, _*_, _^_, _≤_, _<_, zero-le}
+use mathlib.Core.List.{List, [], _∷_, _++_, map}
+use Prim.Native.Nat.{ℕ, _+_, _-_, _*_, _^_, _≤_, _<_, zero-le}
 use native.Mathlib.Nat.{eq-or-lt-of-le, add-zero, sub-zero}
 use native.Mathlib.Omega.{arith}
-use lib.ListN.{length, take, drop, getD, length-map, length-append, length-drop}
-use lib.Seq.{take-at, drop-at, take-all, length-take-le, drop-drop, take-append-le}
+use lib.ListN.{length, take, drop, getD, length-map, length-append}
+use lib.Seq.{take-at, drop-at, take-all, length-take-le, drop-drop}
 use Rattle.rows.specs.Part.{part, put}
 use Rattle.rows.specs.Digits.{leNat, leBytes, beNat, beBytes}
 use Rattle.rows.specs.Rows.{rows, opened, closed}
-use Rattle.rows.proofs.Parts.{part-part, part-put, part-before, part-after, length-part, length-put, put-put-next, put-inside, drop-put, drop-take}
+use Rattle.rows.proofs.Parts.{part-part, part-put, part-before, length-part, put-put-next, drop-put, drop-take}
 use Rattle.rows.proofs.Digits.{length-leBytes, length-beBytes, leNat-leBytes, beNat-beBytes}
-use Rattle.rows.proofs.Rows.{length-rows, getD-rows, rows-opened, rows-closed, rows-field, put-gap, length-opened, mul-more, mul-up}
+use Rattle.rows.proofs.Rows.{length-rows, getD-rows, rows-opened, rows-closed, rows-field, put-gap, length-opened}
 use Rattle.rows.proofs.Views.{map-gap, map-drop}
 use Rattle.refs.proofs.Places.{getD-map-in, row-end}
 use Rattle.time_cache.specs.TimeCache.{Expiry}

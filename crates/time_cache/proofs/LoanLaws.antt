@@ -1,16 +1,16 @@
 -- A table that is lent as a part of the block: what the callee sees, what is there when it comes back, and that nothing else has changed.
 -- Assumes nothing.
-use mathlib.Core.Path.{_≡_, refl, sym, ap, _∙_, subst}
-use mathlib.Core.Logic.{_⊎_, inl, inr}
-use mathlib.Core.List.{List, [], _∷_, _++_, map, append-assoc}
-use Prim.Native.Nat.{ℕ, zero, suc, _+_, _-_, _*_, _≤_, _<_}
+use mathlib.Core.Path.{_≡_, sym, ap, _∙_, subst}
+use mathlib.Core.Logic.{inl, inr}
+use mathlib.Core.List.{List, _++_, map, append-assoc}
+use Prim.Native.Nat.{ℕ, _+_, _-_, _*_, _≤_}
 use native.Mathlib.Omega.{arith}
-use lib.ListN.{length, take, drop, getD, length-drop, length-take}
+use lib.ListN.{length, take, drop}
 use lib.Seq.{take-take, take-append-le, take-add, drop-at, drop-drop, length-take-le}
 use Rattle.rows.specs.Part.{part, put}
 use Rattle.rows.specs.Rows.{rows}
 use Rattle.rows.specs.Part.{Only}
-use Rattle.rows.proofs.Parts.{length-part, length-put, part-put, part-before, part-after, part-add, put-part, put-over, put-put-next, put-inside, drop-put, loan-put}
+use Rattle.rows.proofs.Parts.{length-part, length-put, part-put, part-add, put-part, put-over, put-put-next, put-inside, drop-put}
 use Rattle.rows.proofs.Rows.{rows-same}
 use Rattle.rows.proofs.Views.{only-apart, loan-only}
 use Rattle.refs.specs.Refs.{refOf, refs}

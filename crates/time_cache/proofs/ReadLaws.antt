@@ -1,26 +1,25 @@
 -- What is read of a sound cache in a block: look-ups, and what is later than an instant.
 -- Assumes nothing.
 use mathlib.Core.Path.{_≡_, refl, sym, ap, _∙_, subst}
-use mathlib.Core.Bool.{Bool, true, false}
-use mathlib.Core.Option.{Option, none, some}
+use mathlib.Core.Bool.{true, false}
+use mathlib.Core.Option.{none, some}
 use mathlib.Core.List.{List, [], map}
-use Prim.Native.Nat.{ℕ, _+_, _-_, _*_, _≤_, _<_}
-use native.Mathlib.Nat.{add-zero}
+use Prim.Native.Nat.{ℕ, _+_, _-_, _*_, _<_}
 use native.Mathlib.Omega.{arith}
 use lib.Dec.{ltb}
-use lib.ListN.{length, take, drop, getD, length-map, length-drop}
+use lib.ListN.{length, take, drop, length-map, length-drop}
 use lib.Seq.{drop-drop}
-use Rattle.lists.specs.Base.{if_then_else_, isSome, filter, count, ascending}
-use Rattle.lists.specs.Map.{Map, Entry, keys, lookup, has}
+use Rattle.lists.specs.Base.{isSome, filter, count}
+use Rattle.lists.specs.Map.{Entry, keys, lookup}
 use Rattle.lists.proofs.MapLaws.{cases}
 use Rattle.lists.proofs.ListLaws.{length-filter}
 use Rattle.rows.specs.Part.{part}
 use Rattle.rows.specs.Digits.{leNat}
-use Rattle.rows.specs.Sorted.{Ascending, Between, Here, FoundIs}
-use Rattle.refs.specs.Refs.{Ref, ref, refs, places, names, lowered, left}
-use Rattle.refs.proofs.Places.{getD-map-in, length-refs, length-places, place-in}
-use Rattle.time_cache.specs.TimeCache.{Timed, Expiry, Cache, later, laterCache, holds}
-use Rattle.time_cache.specs.Tables.{ExpiryRow, expiryRows, expiryOf, rowAt, named, Cut, Held, held, entryOf, cacheOf, refsAt, rowsAt, cacheAt, Lies, Sound}
+use Rattle.rows.specs.Sorted.{Between, Here}
+use Rattle.refs.specs.Refs.{Ref, ref, places, names, lowered, left}
+use Rattle.refs.proofs.Places.{getD-map-in, length-refs, place-in}
+use Rattle.time_cache.specs.TimeCache.{Timed, later, laterCache, holds}
+use Rattle.time_cache.specs.Tables.{ExpiryRow, expiryOf, rowAt, named, Cut, Held, held, entryOf, cacheOf, refsAt, rowsAt, cacheAt, Lies, Sound}
 use Rattle.time_cache.specs.Steps.{refAt, heldAt, GotAt}
 use Rattle.time_cache.specs.declared.cache.TimeBoundCache.{TimeBoundCache}
 use Rattle.time_cache.proofs.Timely.{later-filter}
@@ -28,8 +27,7 @@ use Rattle.time_cache.proofs.Orders.{below, of-below, up-of}
 use Rattle.time_cache.proofs.MapPlaces.{lookup-here, lookup-between, passes, lookup-filter}
 use Rattle.time_cache.proofs.Cuts.{cut-later}
 use Rattle.time_cache.proofs.TableLaws.{keys-named, entries-left}
-use Rattle.time_cache.proofs.ExpiryLaws.{length-expiryRows, length-expiries, time-at}
-use Rattle.time_cache.proofs.BlockLaws.{sound-up, sound-order}
+use Rattle.time_cache.proofs.ExpiryLaws.{length-expiryRows, time-at}
 
 part-drop : (a o k : ℕ) (xs : List ℕ) → part o k (drop a xs) ≡ part (a + o) k xs
 unfolding part

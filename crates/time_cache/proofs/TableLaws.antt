@@ -1,29 +1,29 @@
 -- The cache that two tables hold, and what a new expiry row, a new place and the loss of the first rows are to it.
 -- Assumes nothing.
 use mathlib.Core.Path.{_≡_, refl, sym, ap, _∙_, subst}
-use mathlib.Core.Bool.{Bool, true, false, _&&_}
+use mathlib.Core.Bool.{Bool, true, false}
 use mathlib.Core.List.{List, [], _∷_, _++_, map, map-map}
-use Prim.Native.Nat.{ℕ, zero, suc, _+_, _-_, _≤_, _<_, zero-le, suc-le-suc}
+use Prim.Native.Nat.{ℕ, zero, suc, _+_, _-_, _≤_, _<_}
 use native.Mathlib.Nat.{le-of-suc-le-suc, not-suc-le-zero}
 use native.Mathlib.Omega.{arith}
 use borrow.Author.Tests.{ltb-true, lt-ltb, le-ltb, leb-true, leb-false, eq-eqb}
-use lib.Dec.{ltb, leb, eqb}
+use lib.Dec.{ltb, leb}
 use lib.ListN.{length, take, drop, getD, length-map, length-append, length-drop, List·getD-map}
 use lib.Seq.{getD-at, length-take-le}
-use Rattle.lists.specs.Base.{if_then_else_, all, any, filter, ascending}
-use Rattle.lists.specs.Map.{Map, Entry, entry, keys, insert}
-use Rattle.lists.proofs.MapLaws.{cases, all-head, all-tail, all-cons, ascending-insert}
+use Rattle.lists.specs.Base.{all, any, filter, ascending}
+use Rattle.lists.specs.Map.{Map, Entry, entry, keys}
+use Rattle.lists.proofs.MapLaws.{cases, all-head, all-tail, all-cons}
 use Rattle.lists.proofs.ListLaws.{all-imp, all-append, all-map}
 use Rattle.rows.specs.Part.{put}
 use Rattle.rows.specs.Sorted.{Ascending, Between, Here}
 use Rattle.rows.proofs.Views.{map-put, map-gap, map-drop}
-use Rattle.refs.specs.Refs.{Ref, ref, places, shifted, moved, lowered, names, left}
+use Rattle.refs.specs.Refs.{Ref, ref, places, shifted, moved, names, left}
 use Rattle.refs.proofs.Shifts.{named-shifted, named-dropped, shifted-le, shifted-low}
-use Rattle.time_cache.specs.TimeCache.{Timed, Expiry, Cache, addExpiry, put as putIn, expireUntil, later, expiresOnTime, inPopOrder, laterCache}
+use Rattle.time_cache.specs.TimeCache.{Timed, Expiry, addExpiry, put as putIn, expireUntil, later, expiresOnTime, inPopOrder, laterCache}
 use Rattle.time_cache.specs.Tables.{ExpiryRow, noRow, noExpiry, rowAt, expiryOf, Cut, entryFor, entryOf, named, cacheOf}
 use Rattle.time_cache.proofs.CacheLaws.{isAt}
-use Rattle.time_cache.proofs.Timely.{Timely, expire-is-filter, later-filter, timely-put, order-added}
-use Rattle.time_cache.proofs.Orders.{below, up-of}
+use Rattle.time_cache.proofs.Timely.{Timely, expire-is-filter, later-filter}
+use Rattle.time_cache.proofs.Orders.{below}
 use Rattle.time_cache.proofs.Cuts.{cut-add, cut-later}
 use Rattle.time_cache.proofs.MapPlaces.{insert-between, insert-here}
 

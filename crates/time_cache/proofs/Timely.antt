@@ -1,21 +1,20 @@
 -- A cache that is whole: keys ascending, an expiry entry for each entry's time, expiry entries in pop order. `put`, `replace` and `expireUntil` keep it
 -- so, and `expireUntil` is the filter "later than now" of entries and expiry entries.
-use Prim.Native.Nat.{ℕ, suc, _≤_, _<_}
+use Prim.Native.Nat.{ℕ, _<_}
 use mathlib.Core.Path.{_≡_, refl, sym, ap, _∙_}
-use mathlib.Core.Bool.{Bool, true, false, not, _&&_, _||_}
+use mathlib.Core.Bool.{Bool, true, _&&_}
 use mathlib.Core.List.{List, [], _∷_, map}
 use mathlib.Core.Option.{Option, none, some}
 use native.Mathlib.Omega.{arith}
 use lib.Dec.{leb, ltb, eqb}
-use lib.ListN.{length}
-use borrow.Author.Tests.{ltb-true, ltb-false, leb-true, leb-false, eqb-true, eq-eqb, le-leb, lt-leb, lt-ltb, le-ltb}
-use Rattle.lists.specs.Base.{if_then_else_, all, any, filter, count, ascending, isSome}
-use Rattle.lists.specs.Map.{Map, Entry, entry, keys, lookup, insert, remove, has}
-use Rattle.time_cache.specs.TimeCache.{Timed, Expiry, Cache, addExpiry, put, withValue, replace, later, expireUntil, holds, expiresOnTime, inPopOrder, laterCache}
+use borrow.Author.Tests.{ltb-true, leb-true, leb-false, eqb-true, eq-eqb, le-leb, lt-ltb, le-ltb}
+use Rattle.lists.specs.Base.{all, any, filter, ascending}
+use Rattle.lists.specs.Map.{Map, Entry, entry, keys, lookup}
+use Rattle.time_cache.specs.TimeCache.{Timed, Expiry, Cache, addExpiry, put, withValue, replace, later, expireUntil, expiresOnTime, inPopOrder, laterCache}
 use Rattle.lists.proofs.MapLaws.{cases, true≢, and-left, and-right, and-intro, all-head, all-tail, all-cons, ascending-insert}
-use Rattle.time_cache.proofs.CacheLaws.{isAt, expire-keeps-later, not-leb}
+use Rattle.time_cache.proofs.CacheLaws.{isAt, expire-keeps-later}
 use Rattle.lists.proofs.Lists.{any-filter}
-use Rattle.lists.proofs.ListLaws.{all-imp, all-filter, all-filter-imp, filter-all, length-filter, all-map, all-insert-entry, all-lookup, ascending-filter, keys-map}
+use Rattle.lists.proofs.ListLaws.{all-imp, all-filter, all-filter-imp, filter-all, all-map, all-insert-entry, all-lookup, ascending-filter, keys-map}
 
 pub record Timely {A : Type 0} (c : Cache A) : Type 0 where
   pub up : ascending (keys (c .entries)) ≡ true

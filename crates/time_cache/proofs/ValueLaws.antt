@@ -1,20 +1,19 @@
 -- Values: the functions of a cache do not look at them, so what holds of values as bytes holds of values read from them; and what a write of a
 -- value's bytes is to the cache.
 -- Assumes nothing.
-use mathlib.Core.Path.{_≡_, refl, sym, ap, _∙_, subst}
-use mathlib.Core.Bool.{Bool, true, false}
+use mathlib.Core.Path.{_≡_, refl, ap, _∙_}
 use mathlib.Core.Option.{Option, none, some}
-use mathlib.Core.List.{List, [], _∷_, _++_, map, map-map}
-use Prim.Native.Nat.{ℕ, zero, suc, _+_, _-_, _*_, _≤_, _<_}
+use mathlib.Core.List.{List, [], _∷_, map, map-map}
+use Prim.Native.Nat.{ℕ, suc, _-_, _<_}
 use native.Mathlib.Omega.{arith}
-use borrow.Author.Tests.{eq-eqb, ltb-true, lt-ltb, le-ltb}
-use lib.Dec.{ltb, leb, eqb}
-use lib.ListN.{length, take, drop, getD, length-map}
-use Rattle.lists.specs.Base.{if_then_else_, isSome, all, filter, ascending}
-use Rattle.lists.specs.Map.{Map, Entry, entry, keys, lookup, insert, remove, has}
+use borrow.Author.Tests.{eq-eqb, le-ltb}
+use lib.Dec.{ltb, eqb}
+use lib.ListN.{length, getD, length-map}
+use Rattle.lists.specs.Base.{isSome, filter}
+use Rattle.lists.specs.Map.{Map, Entry, keys, lookup, insert, remove}
 use Rattle.lists.proofs.MapLaws.{cases, lookup-insert-same}
 use Rattle.time_cache.specs.TimeCache.{Timed, Expiry, Cache, valueOf, get, holds, put as putIn, withValue, replace, expiresAt, pop, due, later, popAll, expireUntil, laterCache}
-use Rattle.time_cache.specs.Tables.{ExpiryRow, rowAt, expiryOf, Held, held, entryFor, entryOf, cacheOf, readAs, valuesAs}
+use Rattle.time_cache.specs.Tables.{ExpiryRow, expiryOf, Held, held, entryOf, cacheOf, readAs, valuesAs}
 use Rattle.refs.specs.Refs.{Ref}
 
 -- values that are read from the bytes

@@ -3,10 +3,9 @@
 use Prim.Native.Nat.{ℕ}
 use mathlib.Core.Path.{_≡_, refl}
 use mathlib.Core.Bool.{true, false}
-use mathlib.Core.List.{List, [], _∷_}
-use Rattle.lists.specs.Base.{if_then_else_}
+use mathlib.Core.List.{[], _∷_}
 use Rattle.lists.specs.Map.{lookup, insert, remove}
-use Rattle.time_cache.specs.TimeCache.{Expiry, Cache, emptyCache, holds, addExpiry, put, expiresAt, pop, due, later, popAll, popped, expireUntil, expiredKeys}
+use Rattle.time_cache.specs.TimeCache.{Cache, emptyCache, holds, addExpiry, put, expiresAt, pop, due, later, popAll, popped, expireUntil, expiredKeys}
 
 -- a message that is kept for 30,000 ms, cached at 0, and put again at 10,000
 abbrev cached : Cache ℕ

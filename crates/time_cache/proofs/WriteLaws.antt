@@ -2,34 +2,32 @@
 -- Assumes nothing.
 use mathlib.Core.Path.{_≡_, refl, sym, ap, _∙_, subst}
 use mathlib.Core.Logic.{_⊎_, inl, inr}
-use mathlib.Core.Bool.{Bool, true, false}
-use mathlib.Core.Option.{Option, none, some}
-use mathlib.Core.List.{List, [], _∷_, _++_, map, map-map}
+use mathlib.Core.Option.{Option}
+use mathlib.Core.List.{List, [], _∷_, map}
 use Prim.Native.Nat.{ℕ, zero, suc, _+_, _-_, _*_, _≤_, _<_}
 use native.Mathlib.Omega.{arith}
 use lib.ListN.{length, take, drop, getD, length-map, length-drop}
 use lib.Seq.{ext-getD}
-use Rattle.lists.specs.Base.{ascending}
-use Rattle.lists.specs.Map.{Map, Entry, entry, keys, lookup, insert}
+use Rattle.lists.specs.Map.{Entry, entry, keys}
 use Rattle.rows.specs.Part.{part, put}
 use Rattle.rows.specs.Digits.{leNat, beNat}
 use Rattle.rows.specs.Rows.{rows}
-use Rattle.rows.specs.Sorted.{Ascending, Here}
+use Rattle.rows.specs.Sorted.{Here}
 use Rattle.rows.proofs.Ids.{tri}
-use Rattle.rows.proofs.Parts.{part-before, drop-put, length-put, length-part, put-part, getD-put-before, getD-put-after}
-use Rattle.rows.proofs.Rows.{length-rows, rows-field, rows-same}
+use Rattle.rows.proofs.Parts.{part-before, drop-put, length-put, length-part, getD-put-before, getD-put-after}
+use Rattle.rows.proofs.Rows.{rows-field, rows-same}
 use Rattle.rows.proofs.Views.{map-put}
 use Rattle.refs.specs.Refs.{Ref, ref, refOf, refs, places, Below}
-use Rattle.refs.proofs.Places.{getD-map-in, ref-at, length-refs, row-end}
+use Rattle.refs.proofs.Places.{getD-map-in, ref-at, row-end}
 use Rattle.time_cache.specs.TimeCache.{Timed, Expiry, Cache, withValue, replace}
 use Rattle.time_cache.specs.Tables.{ExpiryRow, expiryRow, expiryRowOf, expiryRows, noRow, expiryOf, rowAt, named, Held, held, entryFor, entryOf, cacheOf, refsAt, rowsAt, cacheAt, Lies, Sound}
 use Rattle.time_cache.specs.Steps.{refAt}
 use Rattle.time_cache.specs.declared.cache.TimeBoundCache.{TimeBoundCache}
 use Rattle.time_cache.proofs.Timely.{Timely, timely-replace}
-use Rattle.time_cache.proofs.Orders.{up-of, below, below-of}
-use Rattle.time_cache.proofs.MapPlaces.{insert-here, lookup-here}
+use Rattle.time_cache.proofs.Orders.{up-of, below}
+use Rattle.time_cache.proofs.MapPlaces.{insert-here}
 use Rattle.time_cache.proofs.TableLaws.{timely-of, keys-named}
-use Rattle.time_cache.proofs.ExpiryLaws.{row-at, length-expiryRows}
+use Rattle.time_cache.proofs.ExpiryLaws.{row-at}
 use Rattle.time_cache.proofs.LoanLaws.{put-behind}
 use Rattle.time_cache.proofs.ReadLaws.{length-es, length-rs, sound-below, found-here}
 use Rattle.time_cache.proofs.BlockLaws.{sound-up}

@@ -12,8 +12,8 @@ use Rattle.rows.specs.Sorted.{FoundIs}
 use Rattle.rows.specs.declared.table.Found.{Found}
 use Rattle.rows.specs.declared.table.Found.the-variants.{At, Before}
 use Rattle.refs.specs.Refs.{Ref, ref, moved, left}
-use Rattle.time_cache.specs.TimeCache.{Timed, put as putIn, expireUntil, expiredKeys}
-use Rattle.time_cache.specs.Tables.{ExpiryRow, expiryRow, rowAt, named, Held, held, refsAt, rowsAt, cacheAt, resized, Sound, OnlyTwo}
+use Rattle.time_cache.specs.TimeCache.{put as putIn, expireUntil, expiredKeys}
+use Rattle.time_cache.specs.Tables.{expiryRow, rowAt, named, Held, held, refsAt, rowsAt, cacheAt, resized, Sound, OnlyTwo}
 use Rattle.time_cache.specs.declared.cache.TimeBoundCache.{TimeBoundCache}
 use Rattle.time_cache.specs.declared.cache.Inserted.{Inserted}
 use Rattle.time_cache.specs.declared.cache.Expired.{Expired}

@@ -4,19 +4,18 @@
 -- the layout, and a key that was put in again names its new row, while its old row still pops.
 -- Assumes nothing.
 use mathlib.Core.Path.{_≡_}
-use mathlib.Core.Bool.{Bool, true, false, _&&_}
+use mathlib.Core.Bool.{Bool, true, _&&_}
 use mathlib.Core.List.{List, [], map}
 use Prim.Native.Nat.{ℕ, _+_, _*_, _≤_, _<_}
 use lib.Dec.{ltb}
 use lib.ListN.{length, getD, drop}
 use Rattle.lists.specs.Base.{all, ascending}
-use Rattle.lists.specs.Map.{Map, Entry, entry, keys}
+use Rattle.lists.specs.Map.{Entry, entry, keys}
 use Rattle.rows.specs.Part.{part, put}
 use Rattle.rows.specs.Digits.{leNat, beNat}
 use Rattle.rows.specs.Rows.{rows}
 use Rattle.refs.specs.Refs.{Ref, refs, places, Below}
 use Rattle.time_cache.specs.TimeCache.{Timed, Expiry, Cache, inPopOrder}
-use Rattle.time_cache.specs.declared.cache.Table.{Table}
 use Rattle.time_cache.specs.declared.cache.TimeBoundCache.{TimeBoundCache}
 
 -- an expiry row: its time, its identifier, and the bytes after them
@@ -69,6 +68,10 @@ entryOf value xs r = entryFor value r (rowAt xs (r .place))
 -- the keys that rows of places name
 unfoldable pub named : List ExpiryRow → List Ref → List ℕ
 named xs es = map (λ r. rowAt xs (r .place) .key) es
+
+-- the places name some of the first m rows, and the keys that they name ascend
+unfoldable pub namesAscend : ℕ → List ExpiryRow → List Ref → Bool
+namesAscend m xs es = all (λ p. ltb p m) (places es) && ascending (named xs es)
 
 -- n rows of s bytes stand in e, and the places that they start with name some of the m rows of t bytes in x
 pub record Names (s n : ℕ) (e : List ℕ) (t m : ℕ) (x : List ℕ) : Type 0 where

@@ -65,13 +65,9 @@ impl TimeBoundCache {
         let b = self.expiry.at;
         let t = self.expiry.stride;
         let m = self.expiry.len;
-        let below = refs::places_below(&block[a..], s, n, m as u64);
-        if below {
-            let up = named::keys_ascend(&block[a..], s, n, &block[b..], t, m);
-            if up {
-                return expiry::in_order(&block[b..], t, m);
-            }
-            return false;
+        let ok = named::names_ascend(&block[a..], s, n, &block[b..], t, m);
+        if ok {
+            return expiry::in_order(&block[b..], t, m);
         }
         false
     }

@@ -1,24 +1,20 @@
 -- `count_from`: of the first i rows, j name none of the first k. The measure is n - i.
 -- Assumes nothing.
 use mathlib.Core.Path.{_≡_, refl, sym, ap, _∙_}
-use mathlib.Core.Bool.{Bool, true, false}
-use mathlib.Core.List.{List, []}
+use mathlib.Core.List.{[]}
 use Prim.Native.Nat.{ℕ, _+_, _-_, _*_, _≤_, _<_}
 use borrow.Author.Tests.{le-leb, lt-leb}
 use lib.Dec.{leb}
 use lib.ListN.{length, take, getD}
 use lib.Seq.{take-all}
 use Rattle.lists.specs.Base.{count}
-use Rattle.refs.specs.Refs.{Ref, ref, refs, names}
+use Rattle.refs.specs.Refs.{ref, refs, names}
 use Rattle.refs.proofs.Places.{length-refs, place-in, row-end}
 use Rattle.refs.proofs.Left.{count-keep, count-drop}
 use native.Mathlib.Omega.{arith}
 use borrow.Author.Needs.{needs}
 use Rattle.refs.proofs.count_from.Statement.{statement}
 use Rattle.refs.proofs.count_from.Tie as tie
-use Rattle.refs.proofs.count_from.Reads as reads
-use Rattle.refs.proofs.count_from.Lts as lts
-use Rattle.rows.proofs.word.load2.Reads as load2-reads
 
 abbrev Inv-loop : tie.InvT-loop
 Inv-loop e stride n k j₀ i₀ j i = (i ≤ n) × (j ≤ i) × (j ≡ count (names k) (take i (refs stride n e)))

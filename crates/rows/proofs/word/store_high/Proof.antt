@@ -1,6 +1,6 @@
 -- `store_high`: the word, turned round, is stored low byte first (`turned-written`).
 -- Assumes nothing.
-use mathlib.Core.Path.{_≡_, ap, _∙_}
+use mathlib.Core.Path.{ap, _∙_}
 use mathlib.Core.List.{List}
 use Prim.Native.Nat.{ℕ}
 use Rattle.rows.specs.Part.{put}
@@ -10,10 +10,6 @@ use native.Mathlib.Omega.{arith}
 use borrow.Author.Needs.{needs}
 use Rattle.rows.proofs.word.store_high.Statement.{statement}
 use Rattle.rows.proofs.word.store_high.Tie as tie
-use Rattle.rows.proofs.word.store_high.Reads as reads
-use Rattle.rows.proofs.word.store_high.Lts as lts
-use Rattle.rows.proofs.word.store.Reads as store-reads
-use Rattle.rows.proofs.word.turn8.Reads as turn8-reads
 
 turn8-requires : tie.Need-turn8-requires
 turn8-requires c κs = search needs

@@ -1,7 +1,7 @@
 -- `add_expiry`: a gap, and the row's time and identifier in it.
 -- Assumes nothing.
-use mathlib.Core.Path.{_≡_, ap, _∙_}
-use Prim.Native.Nat.{ℕ, _+_, _*_, _≤_}
+use mathlib.Core.Path.{ap, _∙_}
+use Prim.Native.Nat.{_+_, _*_, _≤_}
 use Rattle.rows.specs.Part.{put}
 use Rattle.rows.specs.Digits.{leBytes, beBytes}
 use Rattle.rows.specs.Ident.{idOf}
@@ -13,11 +13,6 @@ use native.Mathlib.Omega.{arith}
 use borrow.Author.Needs.{needs}
 use Rattle.time_cache.proofs.expiry.add_expiry.Statement.{statement}
 use Rattle.time_cache.proofs.expiry.add_expiry.Tie as tie
-use Rattle.time_cache.proofs.expiry.add_expiry.Reads as reads
-use Rattle.time_cache.proofs.expiry.add_expiry.Lts as lts
-use Rattle.rows.proofs.id.store_id.Reads as store-id-reads
-use Rattle.rows.proofs.table.insert_row.Reads as insert-row-reads
-use Rattle.rows.proofs.word.store.Reads as store-reads
 
 -- the row lies in the slice
 room : (s : tie.Start) → s .args .i * s .args .stride + s .args .stride ≤ (s .args .m + 1) * s .args .stride

@@ -1,11 +1,10 @@
 -- `due`: the cut lies between lo and hi. The measure is hi - lo.
 -- Assumes nothing.
 use mathlib.Core.Path.{_≡_, sym, _∙_}
-use mathlib.Core.List.{List, map}
-use Prim.Native.Nat.{ℕ, _+_, _-_, _*_, _/_, _≤_, _<_}
-use lib.ListN.{length, getD}
+use mathlib.Core.List.{map}
+use Prim.Native.Nat.{_+_, _-_, _*_, _/_, _≤_, _<_}
+use lib.ListN.{getD}
 use Rattle.refs.proofs.Places.{row-end}
-use Rattle.time_cache.specs.TimeCache.{Expiry}
 use Rattle.time_cache.specs.Tables.{expiryRows, expiryOf, noExpiry}
 use Rattle.time_cache.proofs.Orders.{rising-of}
 use Rattle.time_cache.proofs.ExpiryLaws.{length-expiries, expiry-time, Around, around-start, around-up, around-down, around-done}
@@ -13,9 +12,6 @@ use native.Mathlib.Omega.{arith}
 use borrow.Author.Needs.{needs}
 use Rattle.time_cache.proofs.expiry.due.Statement.{statement}
 use Rattle.time_cache.proofs.expiry.due.Tie as tie
-use Rattle.time_cache.proofs.expiry.due.Reads as reads
-use Rattle.time_cache.proofs.expiry.due.Lts as lts
-use Rattle.rows.proofs.word.load.Reads as load-reads
 
 abbrev Inv-loop : tie.InvT-loop
 Inv-loop x stride m time lo₀ hi₀ lo hi = Around (map expiryOf (expiryRows stride m x)) (time .0) lo hi

@@ -1,11 +1,10 @@
 -- `in_order`: the first i times rise, and the last of them is `last`. The measure is m - i.
 -- Assumes nothing.
 use mathlib.Core.Path.{_≡_, sym, _∙_}
-use mathlib.Core.List.{List, map}
-use Prim.Native.Nat.{ℕ, _+_, _-_, _*_, _≤_, _<_}
-use lib.ListN.{length, getD}
+use mathlib.Core.List.{map}
+use Prim.Native.Nat.{_+_, _-_, _*_, _≤_}
+use lib.ListN.{getD}
 use Rattle.refs.proofs.Places.{row-end}
-use Rattle.time_cache.specs.TimeCache.{Expiry}
 use Rattle.time_cache.specs.Tables.{expiryRows, expiryOf, noExpiry}
 use Rattle.time_cache.proofs.Orders.{of-rising, not-rising}
 use Rattle.time_cache.proofs.ExpiryLaws.{length-expiries, expiry-time, RisingTo, rising-start, rising-more, rising-done, rising-not}
@@ -13,9 +12,6 @@ use native.Mathlib.Omega.{arith}
 use borrow.Author.Needs.{needs}
 use Rattle.time_cache.proofs.expiry.in_order.Statement.{statement}
 use Rattle.time_cache.proofs.expiry.in_order.Tie as tie
-use Rattle.time_cache.proofs.expiry.in_order.Reads as reads
-use Rattle.time_cache.proofs.expiry.in_order.Lts as lts
-use Rattle.rows.proofs.word.load.Reads as load-reads
 
 abbrev Inv-loop : tie.InvT-loop
 Inv-loop x stride m last₀ i₀ last i = (i ≤ m) × RisingTo (map expiryOf (expiryRows stride m x)) last i

@@ -8,17 +8,11 @@ use Rattle.rows.specs.Ident.{idOf}
 use Rattle.rows.proofs.Sorted.{Bracket, bracket-start, bracket-up, bracket-down, bracket-done}
 use Rattle.rows.proofs.Ids.{of-less, of-equal, of-greater}
 use Rattle.refs.proofs.Places.{row-end}
-use Rattle.time_cache.specs.Tables.{Names}
 use Rattle.time_cache.proofs.NamedLaws.{keysIn, length-named, named-below, named-end, named-key}
 use native.Mathlib.Omega.{arith}
 use borrow.Author.Needs.{needs}
 use Rattle.time_cache.proofs.named.find.Statement.{statement}
 use Rattle.time_cache.proofs.named.find.Tie as tie
-use Rattle.time_cache.proofs.named.find.Reads as reads
-use Rattle.time_cache.proofs.named.find.Lts as lts
-use Rattle.rows.proofs.id.compare.Reads as compare-reads
-use Rattle.rows.proofs.id.load_id.Reads as load-id-reads
-use Rattle.rows.proofs.word.load2.Reads as load2-reads
 
 abbrev Inv-loop : tie.InvT-loop
 Inv-loop e stride n x width m key lo₀ hi₀ lo hi = Bracket (keysIn stride n e width m x) (idOf key) lo hi
@@ -48,7 +42,8 @@ there : (c : tie.After-load2 Inv-loop μ-loop) → c .load2 .result * c .before 
 there c =
     let s = c .before .before .before .before .before in
     let a = s .args in
-    named-end (a .stride) (a .n) (a .e .now) (a .width) (a .m) (a .x .now) (s .pre .0) (mid (c .before)) (spot (c .before) .2) (c .load2 .result) (c .load2 .ensures .0)
+    named-end (a .stride) (a .n) (a .e .now) (a .width) (a .m) (a .x .now) (mid (c .before)) (spot (c .before) .2) (s .pre .0 .entryWide) (c .load2 .result) (c .load2 .ensures .0)
+    (named-below (a .stride) (a .n) (a .e .now) (a .width) (a .m) (a .x .now) (s .pre .0) (mid (c .before)) (c .load2 .result) (spot (c .before) .2) (c .load2 .ensures .0)) (s .pre .0 .expiryWide) (s .pre .0 .rows)
 
 -- the key that was read is the one that the middle names
 read : (c : tie.After-load-id Inv-loop μ-loop) → idOf (c .load-id .result) ≡ getD (ks (c .before .before)) (mid (c .before .before)) 0
@@ -56,7 +51,8 @@ read c =
     let t = c .before .before in
     let s = t .before .before .before .before in
     let a = s .args in
-    named-key (a .stride) (a .n) (a .e .now) (a .width) (a .m) (a .x .now) (s .pre .0) (mid t) (spot t .2) (c .before .load2 .result) (c .before .load2 .ensures .0) (idOf (c .load-id .result)) (c .load-id .ensures)
+    named-key (a .stride) (a .n) (a .e .now) (a .width) (a .m) (a .x .now) (mid t) (spot t .2) (s .pre .0 .entryWide) (c .before .load2 .result) (c .before .load2 .ensures .0)
+    (named-below (a .stride) (a .n) (a .e .now) (a .width) (a .m) (a .x .now) (s .pre .0) (mid t) (c .before .load2 .result) (spot t .2) (c .before .load2 .ensures .0)) (s .pre .0 .expiryWide) (s .pre .0 .rows) (idOf (c .load-id .result)) (c .load-id .ensures)
 
 loop-holds : tie.Need-loop-holds Inv-loop μ-loop
 loop-holds c =

@@ -1,8 +1,8 @@
 -- `expire_until`: the rows that are due go, and the entries that name them. `ExpireLaws` puts the steps together.
 -- Assumes nothing.
-use mathlib.Core.Path.{_≡_, sym, ap, _∙_, subst}
+use mathlib.Core.Path.{sym, subst}
 use Prim.Native.Nat.{ℕ, _-_, _≤_}
-use lib.ListN.{length, length-map}
+use lib.ListN.{length-map}
 use Rattle.time_cache.specs.Tables.{expiryOf, Cut, cacheOf, cacheAt, rowsAt}
 use Rattle.time_cache.specs.Steps.{Expires}
 use Rattle.time_cache.specs.declared.cache.TimeBoundCache.{TimeBoundCache}
@@ -13,12 +13,6 @@ use native.Mathlib.Omega.{arith}
 use borrow.Author.Needs.{needs}
 use Rattle.time_cache.proofs.cache.TimeBoundCache.expire_until.Statement.{statement}
 use Rattle.time_cache.proofs.cache.TimeBoundCache.expire_until.Tie as tie
-use Rattle.time_cache.proofs.cache.TimeBoundCache.expire_until.Reads as reads
-use Rattle.time_cache.proofs.cache.TimeBoundCache.expire_until.Lts as lts
-use Rattle.time_cache.proofs.cache.TimeBoundCache.drop_entries.Reads as drop-entries-reads
-use Rattle.time_cache.proofs.cache.TimeBoundCache.drop_rows.Reads as drop-rows-reads
-use Rattle.time_cache.proofs.cache.TimeBoundCache.due.Reads as due-reads
-use Rattle.time_cache.proofs.cache.TimeBoundCache.resized.Reads as resized-reads
 
 -- no more rows are due than there are
 few : (d : tie.After-due) → d .due .result ≤ d .before .before .before .args .self .expiry .len

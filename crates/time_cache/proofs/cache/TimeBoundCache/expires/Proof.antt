@@ -1,16 +1,12 @@
 -- `expires`: the time at the start of an expiry row.
 -- Assumes nothing.
-use mathlib.Core.Path.{_≡_, sym, _∙_}
-use Prim.Native.Nat.{ℕ, _+_, _*_, _≤_}
+use mathlib.Core.Path.{sym, _∙_}
+use Prim.Native.Nat.{_+_, _*_, _≤_}
 use Rattle.refs.proofs.Places.{row-end}
 use Rattle.time_cache.proofs.ReadLaws.{time-of}
 use native.Mathlib.Omega.{arith}
-use borrow.Author.Needs.{needs}
 use Rattle.time_cache.proofs.cache.TimeBoundCache.expires.Statement.{statement}
 use Rattle.time_cache.proofs.cache.TimeBoundCache.expires.Tie as tie
-use Rattle.time_cache.proofs.cache.TimeBoundCache.expires.Reads as reads
-use Rattle.time_cache.proofs.cache.TimeBoundCache.expires.Lts as lts
-use Rattle.rows.proofs.word.load.Reads as load-reads
 
 -- the row lies in the block
 room : (s : tie.Start) → s .args .p * s .args .self .expiry .stride + s .args .self .expiry .stride ≤ s .args .self .expiry .len * s .args .self .expiry .stride

@@ -1,20 +1,19 @@
 -- `insert`: the search, the new row, the places, and the key's entry. What was found says which way; `InsertLaws` puts the steps together.
 -- Assumes nothing.
-use mathlib.Core.Path.{_≡_, sym, ap, _∙_, subst}
-use mathlib.Core.List.{List, [], _∷_, map}
+use mathlib.Core.Path.{_≡_, sym, _∙_, subst}
+use mathlib.Core.List.{List, [], _∷_}
 use Prim.Native.Nat.{ℕ, _+_, _*_, _≤_, _<_}
 use native.Mathlib.Nat.{mul-comm, one-mul}
 use lib.ListN.{length, length-map}
 use Rattle.rows.specs.Ident.{idOf}
 use Rattle.rows.specs.Part.{put}
-use Rattle.rows.specs.Sorted.{FoundIs, Here, Between}
+use Rattle.rows.specs.Sorted.{FoundIs, Between}
 use Rattle.rows.specs.declared.table.Found.{Found}
 use Rattle.rows.proofs.Rows.{mul-up}
 use Rattle.refs.specs.Refs.{Ref, ref, places, Below}
-use Rattle.time_cache.specs.Tables.{expiryOf, named, cacheOf, refsAt, rowsAt, rowAt, resized, Lies, Room, Sound}
+use Rattle.time_cache.specs.Tables.{expiryOf, named, cacheOf, refsAt, rowsAt, rowAt, resized, Lies}
 use Rattle.time_cache.specs.Steps.{refAt, Inserts, Places}
 use Rattle.time_cache.specs.declared.cache.TimeBoundCache.{TimeBoundCache}
-use Rattle.time_cache.specs.declared.cache.Inserted.{Inserted}
 use Rattle.time_cache.proofs.ReadLaws.{length-es, length-rs, found-within}
 use Rattle.time_cache.proofs.LoanLaws.{refs-before}
 use Rattle.time_cache.proofs.InsertLaws.{lies-kept, room-lies, inserts-over, inserts-between}
@@ -22,15 +21,6 @@ use native.Mathlib.Omega.{arith}
 use borrow.Author.Needs.{needs}
 use Rattle.time_cache.proofs.cache.TimeBoundCache.insert.Statement.{statement}
 use Rattle.time_cache.proofs.cache.TimeBoundCache.insert.Tie as tie
-use Rattle.time_cache.proofs.cache.TimeBoundCache.insert.Reads as reads
-use Rattle.time_cache.proofs.cache.TimeBoundCache.insert.Lts as lts
-use Rattle.time_cache.proofs.cache.TimeBoundCache.due.Reads as due-reads
-use Rattle.time_cache.proofs.cache.TimeBoundCache.find.Reads as find-reads
-use Rattle.time_cache.proofs.cache.TimeBoundCache.move_places.Reads as move-places-reads
-use Rattle.time_cache.proofs.cache.TimeBoundCache.open_entry.Reads as open-entry-reads
-use Rattle.time_cache.proofs.cache.TimeBoundCache.open_row.Reads as open-row-reads
-use Rattle.time_cache.proofs.cache.TimeBoundCache.resized.Reads as resized-reads
-use Rattle.time_cache.proofs.cache.TimeBoundCache.store_place.Reads as store-place-reads
 
 -- the place of the new row is among the rows
 low : (d : tie.After-due) → d .due .result ≤ d .before .before .before .before .before .args .self .expiry .len

@@ -1,16 +1,12 @@
 -- `place`: the place at the start of an entry's row.
 -- Assumes nothing.
-use mathlib.Core.Path.{_≡_, sym, _∙_}
-use Prim.Native.Nat.{ℕ, _+_, _*_, _≤_}
+use mathlib.Core.Path.{sym, _∙_}
+use Prim.Native.Nat.{_+_, _*_, _≤_}
 use Rattle.refs.proofs.Places.{row-end}
 use Rattle.time_cache.proofs.ReadLaws.{place-of}
 use native.Mathlib.Omega.{arith}
-use borrow.Author.Needs.{needs}
 use Rattle.time_cache.proofs.cache.TimeBoundCache.place.Statement.{statement}
 use Rattle.time_cache.proofs.cache.TimeBoundCache.place.Tie as tie
-use Rattle.time_cache.proofs.cache.TimeBoundCache.place.Reads as reads
-use Rattle.time_cache.proofs.cache.TimeBoundCache.place.Lts as lts
-use Rattle.rows.proofs.word.load2.Reads as load2-reads
 
 -- the row lies in the block
 room : (s : tie.Start) → s .args .i * s .args .self .entries .stride + s .args .self .entries .stride ≤ s .args .self .entries .len * s .args .self .entries .stride

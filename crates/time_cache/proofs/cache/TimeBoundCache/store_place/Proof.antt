@@ -1,10 +1,10 @@
 -- `store_place`: the two bytes at the start of the entry's row.
 -- Assumes nothing.
-use mathlib.Core.Path.{_≡_, sym, ap, _∙_, subst}
+use mathlib.Core.Path.{sym, ap, _∙_, subst}
 use Rattle.rows.specs.Part.{Only}
 use mathlib.Core.List.{List, []}
 use Prim.Native.Nat.{ℕ, _+_, _*_, _≤_}
-use lib.ListN.{length, drop, length-drop}
+use lib.ListN.{drop, length-drop}
 use Rattle.rows.specs.Digits.{leBytes}
 use Rattle.rows.proofs.Digits.{length-leBytes}
 use Rattle.refs.specs.Refs.{ref, refs}
@@ -14,9 +14,6 @@ use native.Mathlib.Omega.{arith}
 use borrow.Author.Needs.{needs}
 use Rattle.time_cache.proofs.cache.TimeBoundCache.store_place.Statement.{statement}
 use Rattle.time_cache.proofs.cache.TimeBoundCache.store_place.Tie as tie
-use Rattle.time_cache.proofs.cache.TimeBoundCache.store_place.Reads as reads
-use Rattle.time_cache.proofs.cache.TimeBoundCache.store_place.Lts as lts
-use Rattle.rows.proofs.word.store_le.Reads as store-le-reads
 
 -- the row lies in the block
 room : (s : tie.Start) → s .args .j * s .args .self .entries .stride + s .args .self .entries .stride ≤ s .args .self .entries .len * s .args .self .entries .stride

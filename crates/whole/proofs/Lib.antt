@@ -1,0 +1,4 @@
+-- Laws on plain values: Tests on tests of several parts and of lists, HeldLaws on what a block holds, CreateLaws on creation.
+pub mod Tests
+pub mod HeldLaws
+pub mod CreateLaws

@@ -1,0 +1,66 @@
+-- Tests of several parts, and of every element of a list.
+-- Assumes nothing.
+use mathlib.Core.Path.{_≡_, refl, sym, ap, _∙_}
+use mathlib.Core.Bool.{Bool, true, false, not, _&&_}
+use mathlib.Core.List.{List, [], _∷_, _++_}
+use Prim.Native.Nat.{ℕ, zero, suc, _≤_, _<_, zero-le, suc-le-suc}
+use native.Mathlib.Nat.{le-of-suc-le-suc, not-suc-le-zero}
+use borrow.Author.Tests.{not-true, not-false}
+use lib.ListN.{length, getD}
+use Rattle.lists.specs.Base.{all}
+use Rattle.lists.proofs.MapLaws.{true≢, and-left, and-right, and-intro, all-head, all-tail, all-cons}
+
+-- b and all the others
+abbrev pub conj : Bool → List Bool → Bool
+conj b [] = b
+conj b (x ∷ xs) = conj (b && x) xs
+
+-- each of them is true
+abbrev pub Each : List Bool → Type 0
+Each [] = Unit {0}
+Each (b ∷ bs) = (b ≡ true) × Each bs
+
+pub each : (b : Bool) (bs : List Bool) → conj b bs ≡ true → Each (b ∷ bs)
+each b [] h = (h, tt)
+each b (x ∷ xs) h =
+    let e : Each ((b && x) ∷ xs) = each (b && x) xs h in
+    (and-left b x (e .0), (and-right b x (e .0), e .1))
+
+pub from-each : (b : Bool) (bs : List Bool) → Each (b ∷ bs) → conj b bs ≡ true
+from-each b [] e = e .0
+from-each b (x ∷ xs) e = from-each (b && x) xs (and-intro (e .0) (e .1 .0), e .1 .1)
+
+-- one of them is false
+and-false : (a b : Bool) → b ≡ false → (a && b) ≡ false
+and-false true b h = h
+and-false false b h = refl
+
+pub stops : (b : Bool) (bs : List Bool) (i : ℕ) → getD (b ∷ bs) i true ≡ false → conj b bs ≡ false
+stops b [] zero h = h
+stops b [] (suc i) h = true≢ (sym h)
+stops b (x ∷ xs) zero h = stops (b && x) xs zero (rw h)
+stops b (x ∷ xs) (suc zero) h = stops (b && x) xs zero (and-false b x h)
+stops b (x ∷ xs) (suc (suc i)) h = stops (b && x) xs (suc i) h
+
+-- all but the last are true: the last decides
+pub ends : (b : Bool) (bs : List Bool) (x : Bool) → conj b bs ≡ true → conj b (bs ++ (x ∷ [])) ≡ x
+ends b [] x h = rw h
+ends b (y ∷ ys) x h = ends (b && y) ys x h
+
+-- what a function's answer r tells of the test t that it is
+pub no : {r t : Bool} → r ≡ t → not r ≡ true → t ≡ false
+no {r} e h = sym e ∙ not-true r h
+
+pub yes : {r t : Bool} → r ≡ t → not r ≡ false → t ≡ true
+yes {r} e h = sym e ∙ not-false r h
+
+-- a test that holds of every element, by the elements
+pub all-at : {A : Type 0} (f : A → Bool) (d : A) (xs : List A) → all f xs ≡ true → (i : ℕ) → i < length xs → f (getD xs i d) ≡ true
+all-at f d [] h i l = absurd (not-suc-le-zero l)
+all-at f d (x ∷ xs) h zero l = all-head f x xs h
+all-at f d (x ∷ xs) h (suc i) l = all-at f d xs (all-tail f x xs h) i (le-of-suc-le-suc l)
+
+pub at-all : {A : Type 0} (f : A → Bool) (d : A) (xs : List A) → ((i : ℕ) → i < length xs → f (getD xs i d) ≡ true) → all f xs ≡ true
+unfolding all
+at-all f d [] h = refl
+at-all f d (x ∷ xs) h = all-cons f x xs (h 0 (suc-le-suc zero-le)) (at-all f d xs (λ i l. h (suc i) (suc-le-suc l)))

@@ -1,0 +1,2 @@
+// Question 5, "Is the block whole?", and creation.
+pub mod create;

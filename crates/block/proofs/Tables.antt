@@ -11,7 +11,8 @@ use native.Mathlib.Nat.{not-suc-le-zero, le-of-suc-le-suc}
 use Rattle.rows.specs.Part.{part, put}
 use Rattle.rows.specs.Rows.{rows}
 use Rattle.rows.proofs.Keep.{rows-push}
-use Rattle.rows.proofs.Rows.{getD-rows, length-rows, rows-same}
+use Rattle.rows.proofs.Rows.{getD-rows, length-rows, rows-same, rows-field}
+use Rattle.rows.proofs.Views.{map-put}
 use Rattle.rows.proofs.Parts.{part-part, getD-part}
 use Rattle.protocol.specs.State.{Limits, blockNeed}
 use Rattle.block.specs.Cut.{cut, start, total}
@@ -93,3 +94,9 @@ unfolding part
 rows-table l t s n xs ht h =
     rows-same s n (table l t xs) (drop (place l t) xs)
     (ap (take (n * s)) (cut-part (sizes l) t xs ht) ∙ take-take (n * s) (getD (sizes l) t 0) (drop (place l t) xs) h)
+
+-- a field of row i anew, in the table's view
+pub view-set : {A : Type 0} (f : List ℕ → A) (s n i o : ℕ) (ys xs : List ℕ) → o + length ys ≤ s → i < n → n * s ≤ length xs
+    → map f (rows s n (put (i * s + o) ys xs)) ≡ put i (f (put o ys (part (i * s) s xs)) ∷ []) (map f (rows s n xs))
+view-set f s n i o ys xs ho hi h =
+    ap (map f) (rows-field s i n o ys xs ho hi h) ∙ map-put f i (put o ys (part (i * s) s xs) ∷ []) (rows s n xs)

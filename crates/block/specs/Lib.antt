@@ -6,3 +6,4 @@ pub mod Sound
 pub mod Heads
 pub mod Goes
 pub mod Header
+pub mod LinkSteps

@@ -35,12 +35,29 @@ expiryRowOf row = expiryRow (leNat (part 0 8 row)) (beNat (part 8 32 row)) (drop
 unfoldable pub expiryRows : ℕ → ℕ → List ℕ → List ExpiryRow
 expiryRows s m x = map expiryRowOf (rows s m x)
 
--- the row that a place names
-abbrev pub rowAt : List ExpiryRow → ℕ → ExpiryRow
-rowAt xs p = getD xs p (expiryRow 0 0 [])
-
 abbrev pub expiryOf : ExpiryRow → Expiry
 expiryOf x = record { time = x .time; key = x .key }
+
+-- what stands for a row past the last
+abbrev pub noRow : ExpiryRow
+noRow = expiryRow 0 0 []
+
+abbrev pub noExpiry : Expiry
+noExpiry = expiryOf noRow
+
+-- the row that a place names
+abbrev pub rowAt : List ExpiryRow → ℕ → ExpiryRow
+rowAt xs p = getD xs p noRow
+
+-- no time is below one before it
+pub record Rising (xs : List Expiry) : Type 0 where
+  pub up : (p q : ℕ) → p < q → q < length xs → getD xs p noExpiry .time ≤ getD xs q noExpiry .time
+
+-- the first k times are at most t, and the others are above it: the rows that pop at t, and those behind which a row of time t goes
+pub record Cut (xs : List Expiry) (t k : ℕ) : Type 0 where
+  pub within : k ≤ length xs
+  pub before : (j : ℕ) → j < k → getD xs j noExpiry .time ≤ t
+  pub after : (j : ℕ) → k ≤ j → j < length xs → t < getD xs j noExpiry .time
 
 -- an entry: key and expiry are those of the row that it names, the value is read from the bytes after the place and the bytes after that row's identifier
 abbrev pub entryFor : {A : Type 0} → (List ℕ → List ℕ → A) → Ref → ExpiryRow → Entry (Timed A)
@@ -48,6 +65,18 @@ entryFor value r x = entry (x .key) (record { expires = x .time; value = value (
 
 abbrev pub entryOf : {A : Type 0} → (List ℕ → List ℕ → A) → List ExpiryRow → Ref → Entry (Timed A)
 entryOf value xs r = entryFor value r (rowAt xs (r .place))
+
+-- the keys that rows of places name
+unfoldable pub named : List ExpiryRow → List Ref → List ℕ
+named xs es = map (λ r. rowAt xs (r .place) .key) es
+
+-- n rows of s bytes stand in e, and the places that they start with name some of the m rows of t bytes in x
+pub record Names (s n : ℕ) (e : List ℕ) (t m : ℕ) (x : List ℕ) : Type 0 where
+  pub entryWide : 2 ≤ s
+  pub entries : n * s ≤ length e
+  pub expiryWide : 40 ≤ t
+  pub rows : m * t ≤ length x
+  pub below : Below m (places (refs s n e))
 
 -- the cache of the two tables' rows
 unfoldable pub cacheOf : {A : Type 0} → (List ℕ → List ℕ → A) → List Ref → List ExpiryRow → Cache A

@@ -6,3 +6,5 @@ pub mod Cuts
 pub mod TableLaws
 pub mod ExpiryLaws
 pub mod NamedLaws
+pub mod BlockLaws
+pub mod ReadLaws

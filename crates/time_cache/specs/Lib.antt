@@ -1,2 +1,3 @@
 pub mod TimeCache
 pub mod Tables
+pub mod Steps

@@ -66,7 +66,7 @@ module _ (c : HeadSettings) (l : HeadLimits) where
   fresh-counts = simp leb·zero
 
   fresh-laid : (t : List (List ℕ)) → laidOut (freshHead c l) t ≡ true
-  unfolding laidOut allBelow refs rows all adjoin contentHeld sum cachedIn cacheOf
+  unfolding laidOut refs rows all adjoin contentHeld sum cachedIn cacheOf
   fresh-laid t = refl
 
   fresh-state : (block : List ℕ) → stateOf (freshHead c l) block ≡ fresh (settingsOf c) (limitsOf l)

@@ -15,6 +15,7 @@ use Rattle.rows.specs.Part.{part}
 use Rattle.rows.specs.Rows.{rows}
 use Rattle.rows.proofs.Rows.{length-rows, getD-rows}
 use Rattle.refs.specs.Refs.{Below, refs, places}
+use Rattle.time_cache.proofs.Orders.{all-at, below-of}
 use Rattle.protocol.specs.State.{State, Limits, limitsInRange, upTo, blockNeed}
 use Rattle.protocol.specs.Whole.{contentHeld, whole}
 use Rattle.block.specs.Layout.{tables, end}
@@ -26,16 +27,7 @@ use Rattle.block.specs.declared.head.Head.{Head}
 use Rattle.block.specs.declared.head.Live.{Live}
 use Rattle.block.proofs.Tables.{within-need}
 use Rattle.whole.specs.Held.{hasHeader, hasTables, countsWithin, allBelow, placesName, numbersName, adjoin, laidOut, holdsWith, held}
-use Rattle.whole.proofs.Tests.{conj, Each, each, from-each, all-at, at-all}
-
--- numbers that name rows
-pub below-of : (m : ℕ) (ns : List ℕ) → allBelow m ns ≡ true → Below m ns
-unfolding allBelow
-below-of m ns h = record { below = λ i l. ltb-true (getD ns i 0) m (all-at (λ n. ltb n m) 0 ns h i l) }
-
-pub of-below : (m : ℕ) (ns : List ℕ) → Below m ns → allBelow m ns ≡ true
-unfolding allBelow
-of-below m ns b = at-all (λ n. ltb n m) 0 ns (λ i l. lt-ltb (getD ns i 0) m (b .below i l))
+use Rattle.whole.proofs.Tests.{conj, Each, each, from-each}
 
 pub numbered-of : (m o : ℕ) (row : List ℕ) → numbersName m o row ≡ true → Numbered m o row
 unfolding numbersName

@@ -2,3 +2,4 @@
 pub mod Tests
 pub mod HeldLaws
 pub mod CreateLaws
+pub mod CacheLaws

@@ -53,14 +53,3 @@ no {r} e h = sym e ∙ not-true r h
 
 pub yes : {r t : Bool} → r ≡ t → not r ≡ false → t ≡ true
 yes {r} e h = sym e ∙ not-false r h
-
--- a test that holds of every element, by the elements
-pub all-at : {A : Type 0} (f : A → Bool) (d : A) (xs : List A) → all f xs ≡ true → (i : ℕ) → i < length xs → f (getD xs i d) ≡ true
-all-at f d [] h i l = absurd (not-suc-le-zero l)
-all-at f d (x ∷ xs) h zero l = all-head f x xs h
-all-at f d (x ∷ xs) h (suc i) l = all-at f d xs (all-tail f x xs h) i (le-of-suc-le-suc l)
-
-pub at-all : {A : Type 0} (f : A → Bool) (d : A) (xs : List A) → ((i : ℕ) → i < length xs → f (getD xs i d) ≡ true) → all f xs ≡ true
-unfolding all
-at-all f d [] h = refl
-at-all f d (x ∷ xs) h = all-cons f x xs (h 0 (suc-le-suc zero-le)) (at-all f d xs (λ i l. h (suc i) (suc-le-suc l)))

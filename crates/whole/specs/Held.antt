@@ -38,7 +38,7 @@ countsWithin l v =
     && leb (v .dropped) (l .D)
 
 -- each number names one of m rows
-unfoldable pub allBelow : ℕ → List ℕ → Bool
+abbrev pub allBelow : ℕ → List ℕ → Bool
 allBelow m ns = all (λ n. ltb n m) ns
 
 -- the places of n entries of s bytes name expiry rows, of which there are m

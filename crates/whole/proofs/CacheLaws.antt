@@ -1,0 +1,41 @@
+-- A time cache of the block: its test is that of the tables, and its entries have their expiry entries by the layout.
+-- Assumes nothing.
+use mathlib.Core.Path.{_≡_, refl, sym, ap, _∙_}
+use mathlib.Core.Bool.{Bool, true, false, _&&_}
+use mathlib.Core.List.{List, [], map}
+use Prim.Native.Nat.{ℕ, _+_, _*_, _≤_, _<_}
+use native.Mathlib.Omega.{arith}
+use lib.Dec.{ltb}
+use lib.ListN.{length, drop, getD}
+use Rattle.lists.specs.Base.{all, ascending}
+use Rattle.lists.specs.Map.{keys}
+use Rattle.rows.specs.Rows.{rows}
+use Rattle.refs.specs.Refs.{Ref, refOf, refs, places}
+use Rattle.time_cache.specs.TimeCache.{inPopOrder}
+use Rattle.time_cache.specs.Tables.{ExpiryRow, expiryRowOf, expiryRows, cacheOf, cacheIn, held, sound}
+use Rattle.time_cache.proofs.TableLaws.{keys-named}
+use Rattle.protocol.specs.State.{Limits}
+use Rattle.block.specs.Layout.{sizes, place, table}
+use Rattle.block.proofs.Tables.{rows-table}
+use Rattle.whole.specs.Held.{allBelow, placesName}
+use Rattle.whole.specs.Parts.{cacheWhole, cacheFrom}
+
+module _ (l : Limits) (xs : List ℕ) where
+  refs-table : (i s n : ℕ) → i < 15 → n * s ≤ getD (sizes l) i 0 → refs s n (drop (place l i) xs) ≡ refs s n (table l i xs)
+  unfolding refs
+  refs-table i s n h w = ap (map refOf) (sym (rows-table l i s n xs h w))
+
+  rows-expiry : (j t m : ℕ) → j < 15 → m * t ≤ getD (sizes l) j 0 → expiryRows t m (drop (place l j) xs) ≡ expiryRows t m (table l j xs)
+  unfolding expiryRows
+  rows-expiry j t m h w = ap (map expiryRowOf) (sym (rows-table l j t m xs h w))
+
+  pub cache-sound : {A : Type 0} (value : List ℕ → List ℕ → A) (i s n j t m : ℕ) → i < 15 → n * s ≤ getD (sizes l) i 0 → j < 15 → m * t ≤ getD (sizes l) j 0
+      → sound (cacheFrom l i s n j t m) xs ≡ cacheWhole m s n (table l i xs) (cacheIn value s n (table l i xs) t m (table l j xs))
+  unfolding sound cacheWhole cacheOf
+  cache-sound value i s n j t m hi wi hj wj =
+      let es : List Ref = refs s n (table l i xs) in
+      let rs : List ExpiryRow = expiryRows t m (table l j xs) in
+      (λ k. allBelow m (places (refs-table i s n hi wi k))
+      && ascending (keys (cacheOf held (refs-table i s n hi wi k) (rows-expiry j t m hj wj k) .entries))
+      && inPopOrder (cacheOf held (refs-table i s n hi wi k) (rows-expiry j t m hj wj k) .expiry))
+      ∙ ap (λ (ks : List ℕ). allBelow m (places es) && ascending ks && inPopOrder (cacheOf held es rs .expiry)) (keys-named held es rs ∙ sym (keys-named value es rs))

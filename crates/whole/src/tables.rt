@@ -1,0 +1,115 @@
+// Question 5 of the tables: one pass over each, and no search. Where a number names a row by its place, that it does is all that is tested:
+// peers are then neighbours, and each cache entry has an expiry entry of its time, by the layout.
+use block::head;
+use block::head::Head;
+use block::links;
+use notes;
+use refs;
+use rows::table;
+use rows::word;
+use time_cache::cache::Table;
+use time_cache::cache::TimeBoundCache;
+ghost use mathlib.Core.Path.{_≡_};
+ghost use mathlib.Core.Bool.{_&&_};
+ghost use Prim.Native.Nat.{_+_, _*_, _≤_, _<_};
+ghost use lib.ListN.{length};
+ghost use Rattle.lists.specs.Base.{all, ascending, sum};
+ghost use Rattle.lists.specs.Map.{keys};
+ghost use Rattle.rows.specs.Rows.{rows};
+ghost use Rattle.refs.specs.Refs.{refs, places, Below};
+ghost use Rattle.block.specs.View.{stateOf, limitsOf};
+ghost use Rattle.block.specs.Fit.{Ceilings, Fit};
+ghost use Rattle.block.specs.LinkSteps.{LinksAscend};
+ghost use Rattle.whole.specs.Held.{allBelow, adjoin};
+ghost use Rattle.whole.specs.Parts.{lengthAt, graftRow, missedRow, few, linksWhole, receivedCache, receivedWhole, cachedCache, cachedWhole, graftedCache, graftedWhole, missingWhole, timersWhole, queueWhole, recordWhole};
+
+fn wide(x: u8) -> usize
+    ensures { λ r. ⌜ r ≡ x ⌝ }
+{
+    x as usize
+}
+
+// "keys once": the peers of the links ascend.
+pub fn links_whole(h: Head, block: &[u8]) -> bool
+    requires { ⌜ Fit h (now block) ⌝ }
+    ensures { λ r. ⌜ r ≡ linksWhole h (now (block .entry)) ⌝ }
+{
+    let n = h.live.links;
+    let mut i = 1;
+    while i < n {
+        let p = links::peer_at(h, block, i - 1);
+        let q = links::peer_at(h, block, i);
+        if p < q {
+            i += 1;
+        } else {
+            return false;
+        }
+    }
+    true
+}
+
+fn received_cache(h: Head) -> TimeBoundCache
+    requires { ⌜ Ceilings (limitsOf (h .limits)) ⌝ }
+    ensures { λ r. ⌜ r ≡ receivedCache h ⌝ }
+{
+    let a = head::received_at(h.limits);
+    let b = head::received_rows_at(h.limits);
+    let entries = Table {
+        at: a,
+        stride: 2,
+        len: h.live.received,
+    };
+    let expiry = Table {
+        at: b,
+        stride: 40,
+        len: h.live.received_rows,
+    };
+    TimeBoundCache { entries, expiry }
+}
+
+fn cached_cache(h: Head) -> TimeBoundCache
+    requires { ⌜ Ceilings (limitsOf (h .limits)) ⌝ }
+    ensures { λ r. ⌜ r ≡ cachedCache h ⌝ }
+{
+    let a = head::cached_at(h.limits);
+    let b = head::cached_rows_at(h.limits);
+    let entries = Table {
+        at: a,
+        stride: 4,
+        len: h.live.cached,
+    };
+    let expiry = Table {
+        at: b,
+        stride: 48,
+        len: h.live.cached_rows,
+    };
+    TimeBoundCache { entries, expiry }
+}
+
+fn grafted_cache(h: Head) -> TimeBoundCache
+    requires { ⌜ Ceilings (limitsOf (h .limits)) ⌝ }
+    ensures { λ r. ⌜ r ≡ graftedCache h ⌝ }
+{
+    let a = head::grafted_at(h.limits);
+    let b = head::grafted_rows_at(h.limits);
+    let entries = Table {
+        at: a,
+        stride: 119,
+        len: h.live.grafted,
+    };
+    let expiry = Table {
+        at: b,
+        stride: 40,
+        len: h.live.grafted_rows,
+    };
+    TimeBoundCache { entries, expiry }
+}
+
+// Received messages: places name rows, keys once, rows in pop order.
+pub fn received_whole(h: Head, block: &[u8]) -> bool
+    requires { ⌜ Fit h (now block) ⌝ }
+    ensures { λ r. ⌜ r ≡ receivedWhole h (now (block .entry)) ⌝ }
+{
+    let c = received_cache(h);
+    c.is_sound(block)
+}

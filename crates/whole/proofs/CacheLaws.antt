@@ -2,23 +2,29 @@
 -- Assumes nothing.
 use mathlib.Core.Path.{_≡_, refl, sym, ap, _∙_}
 use mathlib.Core.Bool.{Bool, true, false, _&&_}
-use mathlib.Core.List.{List, [], map}
-use Prim.Native.Nat.{ℕ, _+_, _*_, _≤_, _<_}
+use mathlib.Core.List.{List, [], _∷_, map}
+use Prim.Native.Nat.{ℕ, _+_, _-_, _*_, _≤_, _<_}
 use native.Mathlib.Omega.{arith}
 use lib.Dec.{ltb}
-use lib.ListN.{length, drop, getD}
+use lib.ListN.{length, take, drop, getD, length-drop}
 use Rattle.lists.specs.Base.{all, ascending}
 use Rattle.lists.specs.Map.{keys}
 use Rattle.rows.specs.Rows.{rows}
 use Rattle.refs.specs.Refs.{Ref, refOf, refs, places}
-use Rattle.time_cache.specs.TimeCache.{inPopOrder}
+use Rattle.time_cache.specs.TimeCache.{Cache, inPopOrder}
 use Rattle.time_cache.specs.Tables.{ExpiryRow, expiryRowOf, expiryRows, cacheOf, cacheIn, held, sound}
 use Rattle.time_cache.proofs.TableLaws.{keys-named}
+use Rattle.time_cache.proofs.BlockLaws.{open-end}
 use Rattle.protocol.specs.State.{Limits}
 use Rattle.block.specs.Layout.{sizes, place, table}
 use Rattle.block.proofs.Tables.{rows-table}
 use Rattle.whole.specs.Held.{allBelow, placesName}
 use Rattle.whole.specs.Parts.{cacheWhole, cacheFrom}
+use Rattle.whole.proofs.Tests.{each}
+
+-- how long a part without an end is
+pub length-open : (a : ℕ) (xs : List ℕ) → length (take (length xs - a) (drop a xs)) ≡ length xs - a
+length-open a xs = ap length (open-end a xs) ∙ length-drop a xs
 
 module _ (l : Limits) (xs : List ℕ) where
   refs-table : (i s n : ℕ) → i < 15 → n * s ≤ getD (sizes l) i 0 → refs s n (drop (place l i) xs) ≡ refs s n (table l i xs)
@@ -28,6 +34,14 @@ module _ (l : Limits) (xs : List ℕ) where
   rows-expiry : (j t m : ℕ) → j < 15 → m * t ≤ getD (sizes l) j 0 → expiryRows t m (drop (place l j) xs) ≡ expiryRows t m (table l j xs)
   unfolding expiryRows
   rows-expiry j t m h w = ap (map expiryRowOf) (sym (rows-table l j t m xs h w))
+
+  -- a table that is lent from its start to the block's end
+  pub rows-lent : (t s n a : ℕ) → t < 15 → n * s ≤ getD (sizes l) t 0 → a ≡ place l t → rows s n (take (length xs - a) (drop a xs)) ≡ rows s n (table l t xs)
+  rows-lent t s n a h w e = ap (rows s n) (open-end a xs ∙ ap (λ (b : ℕ). drop b xs) e) ∙ sym (rows-table l t s n xs h w)
+
+  pub refs-lent : (t s n a : ℕ) → t < 15 → n * s ≤ getD (sizes l) t 0 → a ≡ place l t → refs s n (take (length xs - a) (drop a xs)) ≡ refs s n (table l t xs)
+  unfolding refs
+  refs-lent t s n a h w e = ap (map refOf) (rows-lent t s n a h w e)
 
   pub cache-sound : {A : Type 0} (value : List ℕ → List ℕ → A) (i s n j t m : ℕ) → i < 15 → n * s ≤ getD (sizes l) i 0 → j < 15 → m * t ≤ getD (sizes l) j 0
       → sound (cacheFrom l i s n j t m) xs ≡ cacheWhole m s n (table l i xs) (cacheIn value s n (table l i xs) t m (table l j xs))
@@ -39,3 +53,8 @@ module _ (l : Limits) (xs : List ℕ) where
       && ascending (keys (cacheOf held (refs-table i s n hi wi k) (rows-expiry j t m hj wj k) .entries))
       && inPopOrder (cacheOf held (refs-table i s n hi wi k) (rows-expiry j t m hj wj k) .expiry))
       ∙ ap (λ (ks : List ℕ). allBelow m (places es) && ascending ks && inPopOrder (cacheOf held es rs .expiry)) (keys-named held es rs ∙ sym (keys-named value es rs))
+
+-- the places of a cache that passes its test name rows
+pub cache-below : {A : Type 0} (m s n : ℕ) (entries : List ℕ) (c : Cache A) → cacheWhole m s n entries c ≡ true → placesName m s n entries ≡ true
+unfolding cacheWhole
+cache-below m s n entries c h = each (placesName m s n entries) (ascending (keys (c .entries)) ∷ inPopOrder (c .expiry) ∷ []) h .0

@@ -3,3 +3,4 @@ pub mod Tests
 pub mod HeldLaws
 pub mod CreateLaws
 pub mod CacheLaws
+pub mod ContentLaws

@@ -7,7 +7,6 @@ use lib.Dec.{leb, ltb, eqb}
 use lib.ListN.{length, take, drop, getD}
 use Rattle.lists.specs.Base.{all, count, ascending, once}
 use Rattle.lists.specs.Map.{keys}
-use Rattle.rows.specs.Part.{part}
 use Rattle.rows.specs.Rows.{rows}
 use Rattle.time_cache.specs.TimeCache.{Cache, inPopOrder}
 use Rattle.time_cache.specs.declared.cache.TimeBoundCache.{TimeBoundCache}
@@ -47,9 +46,9 @@ graftedCache h = cacheFrom (limitsOf (h .limits)) 7 119 (h .live .grafted) 8 40 
 unfoldable pub receivedWhole : Head → List ℕ → Bool
 receivedWhole h block = cacheWhole (h .live .«received_rows») 2 (h .live .received) (tableOf h 2 block) (stateOf h block .received)
 
--- the length of a cached row's content
-abbrev pub lengthAt : List ℕ → ℕ → ℕ
-lengthAt bytes p = fourAt 44 (part (p * 48) 48 bytes)
+-- the length of the content of cached row p
+abbrev pub lengthAt : List (List ℕ) → ℕ → ℕ
+lengthAt rs p = fourAt 44 (getD rs p [])
 
 unfoldable pub cachedWhole : Head → List ℕ → Bool
 cachedWhole h block =

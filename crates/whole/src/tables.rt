@@ -113,3 +113,59 @@ pub fn received_whole(h: Head, block: &[u8]) -> bool
     let c = received_cache(h);
     c.is_sound(block)
 }
+
+// The contents of m cached rows adjoin: each starts where the one before it ends, and the last ends at `used`.
+fn contents_adjoin(b: &[u8], m: usize, used: usize) -> bool
+    requires { ⌜ m * 48 ≤ length (now b) ⌝ }
+    ensures { λ r. ⌜ r ≡ adjoin 0 (rows 48 m (now (b .entry))) used ⌝ }
+{
+    let mut at: u64 = 0;
+    let mut i = 0;
+    while i < m {
+        let start = word::load4(b, i * 48 + 40);
+        if start != at {
+            return false;
+        }
+        let len = word::load4(b, i * 48 + 44);
+        at = start + len;
+        i += 1;
+    }
+    at == used as u64
+}
+
+// The lengths of the contents of those of m cached rows that n entries name.
+fn named_lengths(e: &[u8], n: usize, b: &[u8], m: usize) -> u64
+    requires { ⌜ (n ≤ 65536) × (n * 4 ≤ length (now e)) × (m * 48 ≤ length (now b)) × Below m (places (refs 4 n (now e))) ⌝ }
+    ensures { λ r. ⌜ r ≡ sum (lengthAt (rows 48 m (now (b .entry)))) (places (refs 4 n (now (e .entry)))) ⌝ }
+{
+    let mut total: u64 = 0;
+    let mut i = 0;
+    while i < n {
+        let p = word::load2(e, i * 4) as usize;
+        let len = word::load4(b, p * 48 + 44);
+        total = total + len;
+        i += 1;
+    }
+    total
+}
+
+// Cached messages: places name rows, keys once, rows in pop order; contents adjoin, and those of the entries are all that is used of the store.
+pub fn cached_whole(h: Head, block: &[u8]) -> bool
+    requires { ⌜ Fit h (now block) ⌝ }
+    ensures { λ r. ⌜ r ≡ cachedWhole h (now (block .entry)) ⌝ }
+{
+    let c = cached_cache(h);
+    let sound = c.is_sound(block);
+    if !sound {
+        return false;
+    }
+    let a = head::cached_at(h.limits);
+    let b = head::cached_rows_at(h.limits);
+    let used = h.live.contents;
+    let adjoin = contents_adjoin(&block[b..], h.live.cached_rows, used);
+    if !adjoin {
+        return false;
+    }
+    let total = named_lengths(&block[a..], h.live.cached, &block[b..], h.live.cached_rows);
+    total == used as u64
+}

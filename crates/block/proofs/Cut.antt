@@ -32,6 +32,12 @@ take-inside s o ys xs h l = ap (λ (n : ℕ). take s (put n ys xs)) (sym (zero-a
 next : (s a o : ℕ) → s + a + o ≡ s + (a + o)
 next s a o = add-assoc s a o
 
+-- what lies within a piece lies within the whole
+pub within : (ss : List ℕ) (i o n : ℕ) → i < length ss → o + n ≤ getD ss i 0 → start ss i + o + n ≤ total ss
+within [] i o n h f = absurd (not-suc-le-zero h)
+within (s ∷ ss) zero o n h f = omega arith
+within (s ∷ ss) (suc i) o n h f = omega (arith, within ss i o n (le-of-suc-le-suc h) f)
+
 pub cut-put : (ss : List ℕ) (i o : ℕ) (ys xs : List ℕ) → i < length ss → o + length ys ≤ getD ss i 0 → total ss ≤ length xs
     → cut ss (put (start ss i + o) ys xs) ≡ set (cut ss xs) i (put o ys (getD (cut ss xs) i []))
 cut-put [] i o ys xs h f l = absurd (not-suc-le-zero h)
@@ -43,13 +49,8 @@ cut-put (s ∷ ss) (suc i) o ys xs h f l =
     ∙ (λ k. first k ∷ cut ss (put-drop s (start ss i + o) ys xs (omega arith) k))
     ∙ ap (λ (t : List (List ℕ)). take s xs ∷ t) (cut-put ss i o ys (drop s xs) (le-of-suc-le-suc h) f (omega (arith, length-drop s xs)))
   where
-    within : (ss : List ℕ) (i o n : ℕ) (xs : List ℕ) → i < length ss → o + n ≤ getD ss i 0 → start ss i + o + n ≤ total ss
-    within [] i o n xs h f = absurd (not-suc-le-zero h)
-    within (s ∷ ss) zero o n xs h f = omega arith
-    within (s ∷ ss) (suc i) o n xs h f = omega (arith, within ss i o n xs (le-of-suc-le-suc h) f)
-
     first : take s (put (s + (start ss i + o)) ys xs) ≡ take s xs
-    first = take-put s (s + (start ss i + o)) ys xs (omega arith) (omega (arith, within ss i o (length ys) xs (le-of-suc-le-suc h) f))
+    first = take-put s (s + (start ss i + o)) ys xs (omega arith) (omega (arith, within ss i o (length ys) (le-of-suc-le-suc h) f))
 
 -- piece i as a part of the whole
 pub cut-part : (ss : List ℕ) (i : ℕ) (xs : List ℕ) → i < length ss → getD (cut ss xs) i [] ≡ part (start ss i) (getD ss i 0) xs

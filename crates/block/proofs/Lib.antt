@@ -1,5 +1,9 @@
--- Laws on plain values: Cut on pieces of a list, Tables on the frame of a put in one table, HeaderLaws on the header, LinkLaws on the links.
+-- Laws on plain values: Cut on pieces of a list, Tables on the frame of a put in one table, HeaderLaws on the header, Scans on scans, LinkLaws on the links,
+-- Numbered on numbers with rows beside them, NoteLaws on queue and record.
 pub mod Cut
 pub mod Tables
 pub mod HeaderLaws
+pub mod Scans
 pub mod LinkLaws
+pub mod Numbered
+pub mod NoteLaws

@@ -3,7 +3,6 @@
 use mathlib.Core.Path.{_≡_, refl, sym, ap, _∙_, subst}
 use mathlib.Core.Bool.{Bool, true, false}
 use mathlib.Core.List.{List, [], _∷_, map}
-use mathlib.Core.Logic.{_⊎_, inl, inr}
 use Prim.Native.Nat.{ℕ, _+_, _*_, _≤_, _<_}
 use native.Mathlib.Omega.{arith}
 use borrow.Author.Tests.{eq-eqb, ne-eqb}
@@ -16,7 +15,6 @@ use Rattle.rows.specs.Rows.{rows}
 use Rattle.rows.specs.Keep.{fieldOf}
 use Rattle.rows.specs.Sorted.{Ascending, Between, Here}
 use Rattle.rows.proofs.Parts.{set-put, part-before, length-part, length-put}
-use Rattle.rows.proofs.Ids.{tri}
 use Rattle.rows.proofs.Views.{map-put}
 use Rattle.refs.proofs.Places.{getD-map-in}
 use Rattle.lists.specs.Base.{if_then_else_, isSome, ascending}
@@ -188,23 +186,3 @@ eager-here p i m up h = ap (marked isEager) (lookup-here p i (entry 0 eager) m u
 pub eager-between : (p i : ℕ) (m : Links) → Between (keys m) p i → eagerIn p m ≡ false
 unfolding eagerIn marked
 eager-between p i m b = ap (marked isEager) (lookup-between p i m b)
-
--- a scan of ascending keys: a key passed, a key found to be above, and the end
-pub scan-more : (ks : List ℕ) (k i x : ℕ) → ((j : ℕ) → j < i → getD ks j 0 < k) → x ≡ getD ks i 0 → x < k → (j : ℕ) → j < i + 1 → getD ks j 0 < k
-scan-more ks k i x below e h j q = by-place (tri j i)
-  where
-    by-place : (j < i) ⊎ ((j ≡ i) ⊎ (i < j)) → getD ks j 0 < k
-    by-place (inl l) = below j l
-    by-place (inr (inl s)) = subst (λ (n : ℕ). getD ks n 0 < k) (sym s) (omega arith)
-    by-place (inr (inr g)) = absurd (let z : j < j = omega arith in omega arith)
-
-pub scan-above : (ks : List ℕ) (k i x : ℕ) → Ascending ks → i < length ks → ((j : ℕ) → j < i → getD ks j 0 < k) → x ≡ getD ks i 0 → k < x → Between ks k i
-scan-above ks k i x up h below e g = record { within = omega arith; below = below; above = λ j l m. by-place j m (tri i j) l }
-  where
-    by-place : (j : ℕ) → j < length ks → (i < j) ⊎ ((i ≡ j) ⊎ (j < i)) → i ≤ j → k < getD ks j 0
-    by-place j m (inl l) q = omega (arith, up .up i j l m)
-    by-place j m (inr (inl s)) q = subst (λ (n : ℕ). k < getD ks n 0) s (omega arith)
-    by-place j m (inr (inr l)) q = absurd (let z : j < j = omega arith in omega arith)
-
-pub scan-end : (ks : List ℕ) (k i : ℕ) → i ≤ length ks → length ks ≤ i → ((j : ℕ) → j < i → getD ks j 0 < k) → Between ks k i
-scan-end ks k i h g below = record { within = h; below = below; above = λ j l m. absurd (let z : j < j = omega arith in omega arith) }

@@ -7,3 +7,4 @@ pub mod Heads
 pub mod Goes
 pub mod Header
 pub mod LinkSteps
+pub mod NoteSteps

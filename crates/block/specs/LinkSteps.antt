@@ -19,13 +19,17 @@ LinksAscend h block = ascending (keys (stateOf h block .links)) ≡ true
 abbrev pub markFor : Bool → Mark
 markFor b = if b then eager else lazy
 
+-- the peer that the link number i stands for
+abbrev pub peerAt : State → ℕ → ℕ
+peerAt s i = getD (keys (s .links)) i 0
+
 -- link i
 abbrev pub linkAt : State → ℕ → Entry Mark
 linkAt s i = getD (s .links) i (entry 0 eager)
 
 -- the peer of link i has this mark
 abbrev pub markAt : ℕ → Mark → State → State
-markAt i m s = withLinks (insert (getD (keys (s .links)) i 0) m (s .links)) s
+markAt i m s = withLinks (insert (peerAt s i) m (s .links)) s
 
 -- a step on the links alone
 abbrev pub linked : (Links → Links) → State → State

@@ -16,14 +16,14 @@ use Rattle.block.specs.View.{limitsOf, byteAt, fourAt, cachedIn}
 use Rattle.block.specs.Fit.{Fit}
 use Rattle.block.specs.declared.head.Head.{Head}
 
--- a row whose count at o says how many of the 32 link numbers after it are used: at most 32, and these are below m
-pub record Numbered (m o : ℕ) (row : List ℕ) : Type 0 where
-  pub few : byteAt o row ≤ 32
-  pub below : Below m (take (byteAt o row) (drop (o + 1) row))
+-- a list of link numbers and rounds: at most 32, and the numbers in use are below m
+pub record Numbered (m : ℕ) (list : List ℕ) : Type 0 where
+  pub few : byteAt 0 list ≤ 32
+  pub below : Below m (take (byteAt 0 list) (drop 1 list))
 
--- each of n rows of s bytes is one
+-- each of n rows of s bytes has such a list at o
 pub record AllNumbered (m o s n : ℕ) (bytes : List ℕ) : Type 0 where
-  pub each : (i : ℕ) → i < n → Numbered m o (part (i * s) s bytes)
+  pub each : (i : ℕ) → i < n → Numbered m (drop o (part (i * s) s bytes))
 
 -- the contents of the cached rows stand one after the other, from a to e: a row starts where the one before it ends
 pub data Adjoining : ℕ → List (List ℕ) → ℕ → Type 0 where

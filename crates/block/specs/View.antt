@@ -93,12 +93,16 @@ noteOf peers l row = record { peer = peerOf peers l; id = idAt 0 row; round = ha
 unfoldable pub notesIn : List ℕ → ℕ → List ℕ → List ℕ → List Note
 notesIn peers n numbers bytes = numbered (noteOf peers) 34 n numbers bytes
 
--- missing: table 9
+-- a list of at most 32 link numbers with their rounds, in 97 bytes: count 1, numbers of 1, rounds of 2
+unfoldable pub hopsIn : {A : Type 0} → (ℕ → List ℕ → A) → List ℕ → List A
+hopsIn f list = numbered f 2 (byteAt 0 list) (drop 1 list) (drop 33 list)
+
+-- missing: table 9; the announcers stand after the identifier
 unfoldable pub hopOf : List ℕ → ℕ → List ℕ → Hop
 hopOf peers l row = record { peer = peerOf peers l; round = leNat row }
 
 unfoldable pub hopsOf : List ℕ → List ℕ → List Hop
-hopsOf peers row = numbered (hopOf peers) 2 (byteAt 32 row) (drop 33 row) (drop 65 row)
+hopsOf peers row = hopsIn (hopOf peers) (drop 32 row)
 
 unfoldable pub missedOf : List ℕ → List ℕ → Entry (List Hop)
 missedOf peers row = entry (idAt 0 row) (hopsOf peers row)
@@ -135,7 +139,7 @@ unfoldable pub graftsOf : List ℕ → List ℕ → List ℕ → Grafts
 graftsOf peers own rest = record {
   first = onlyIf (flagOf (byteAt 0 own)) (record { peer = fieldOf 1 own; round = halfAt 9 own });
   kept = onlyIf (flagOf (byteAt 11 own)) (fieldOf 12 own);
-  peers = numbered (roundOf peers) 2 (byteAt 20 own) (drop 21 own) (drop 53 own);
+  peers = hopsIn (roundOf peers) (drop 20 own);
 }
 
 unfoldable pub graftedIn : List ℕ → ℕ → List ℕ → ℕ → List ℕ → Cache Grafts

@@ -2,3 +2,4 @@
 pub mod head;
 pub mod header;
 pub mod links;
+pub mod note;

@@ -4,7 +4,6 @@ use rows::table::Found;
 use rows::word;
 ghost use mathlib.Core.Path.{_≡_};
 ghost use Prim.Native.Nat.{_<_};
-ghost use lib.ListN.{getD};
 ghost use Rattle.rows.specs.Sorted.{FoundIs};
 ghost use Rattle.lists.specs.Map.{keys};
 ghost use Rattle.protocol.specs.Links.{isEager, markIfThere, makeEager, makeLazy};
@@ -12,12 +11,12 @@ ghost use Rattle.block.specs.View.{stateOf, markOf};
 ghost use Rattle.block.specs.Fit.{Fit};
 ghost use Rattle.block.specs.Sound.{Sound};
 ghost use Rattle.block.specs.Goes.{Goes};
-ghost use Rattle.block.specs.LinkSteps.{LinksAscend, markFor, linkAt, markAt, linked};
+ghost use Rattle.block.specs.LinkSteps.{LinksAscend, markFor, peerAt, linkAt, markAt, linked};
 
 // The peer of link i, which is what the link number i stands for.
 pub fn peer_at(h: Head, block: &[u8], i: usize) -> u64
     requires { ⌜ Fit h (now block) × (i < h .live .links) ⌝ }
-    ensures { λ r. ⌜ r ≡ getD (keys (stateOf h (now (block .entry)) .links)) i 0 ⌝ }
+    ensures { λ r. ⌜ r ≡ peerAt (stateOf h (now (block .entry))) i ⌝ }
 {
     word::load(block, 2048 + 16 * i)
 }

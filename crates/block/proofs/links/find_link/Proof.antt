@@ -1,5 +1,6 @@
 use mathlib.Core.Path.{_≡_, sym, ap, _∙_}
-use Rattle.block.proofs.LinkLaws.{count-peers, scan-more, scan-above, scan-end}
+use Rattle.block.proofs.LinkLaws.{count-peers}
+use Rattle.block.proofs.Scans.{scan-more, scan-above, scan-end}
 use Rattle.time_cache.proofs.Orders.{up-of}
 use Prim.Native.Nat.{ℕ, _+_, _-_, _≤_, _<_}
 use lib.ListN.{getD}

@@ -7,9 +7,12 @@ use Prim.Native.Nat.{ℕ, _+_, _-_, _*_, _≤_, _<_}
 use native.Mathlib.Omega.{arith}
 use lib.Dec.{ltb}
 use lib.ListN.{length, take, drop, getD, length-drop}
+use lib.Seq.{take-take}
 use Rattle.lists.specs.Base.{all, ascending}
 use Rattle.lists.specs.Map.{keys}
+use Rattle.rows.specs.Part.{part}
 use Rattle.rows.specs.Rows.{rows}
+use Rattle.rows.specs.Sorted.{keyOf, keys as rowKeys}
 use Rattle.refs.specs.Refs.{Ref, refOf, refs, places}
 use Rattle.time_cache.specs.TimeCache.{Cache, inPopOrder}
 use Rattle.time_cache.specs.Tables.{ExpiryRow, expiryRowOf, expiryRows, cacheOf, cacheIn, held, sound}
@@ -17,8 +20,9 @@ use Rattle.time_cache.proofs.TableLaws.{keys-named}
 use Rattle.time_cache.proofs.BlockLaws.{open-end}
 use Rattle.protocol.specs.State.{Limits}
 use Rattle.block.specs.Layout.{sizes, place, table}
+use Rattle.block.proofs.Cut.{cut-part}
 use Rattle.block.proofs.Tables.{rows-table}
-use Rattle.whole.specs.Held.{allBelow, placesName}
+use Rattle.whole.specs.Held.{allBelow, placesName, allLists}
 use Rattle.whole.specs.Parts.{cacheWhole, cacheFrom}
 use Rattle.whole.proofs.Tests.{each}
 
@@ -42,6 +46,24 @@ module _ (l : Limits) (xs : List ℕ) where
   pub refs-lent : (t s n a : ℕ) → t < 15 → n * s ≤ getD (sizes l) t 0 → a ≡ place l t → refs s n (take (length xs - a) (drop a xs)) ≡ refs s n (table l t xs)
   unfolding refs
   refs-lent t s n a h w e = ap (map refOf) (rows-lent t s n a h w e)
+
+  pub lists-lent : (f : List ℕ → Bool) (o t s n a : ℕ) → t < 15 → n * s ≤ getD (sizes l) t 0 → a ≡ place l t
+      → allLists f o s n (take (length xs - a) (drop a xs)) ≡ allLists f o s n (table l t xs)
+  unfolding allLists
+  lists-lent f o t s n a h w e = ap (all (λ row. f (drop o row))) (rows-lent t s n a h w e)
+
+  pub keys-lent : (t s n a : ℕ) → t < 15 → n * s ≤ getD (sizes l) t 0 → a ≡ place l t
+      → rowKeys s n (take (length xs - a) (drop a xs)) ≡ rowKeys s n (table l t xs)
+  unfolding rowKeys
+  keys-lent t s n a h w e = ap (map keyOf) (rows-lent t s n a h w e)
+
+  -- the first n bytes of a table
+  pub bytes-lent : (t n a : ℕ) → t < 15 → n ≤ getD (sizes l) t 0 → a ≡ place l t → take (a + n - a) (drop a xs) ≡ take n (table l t xs)
+  unfolding part
+  bytes-lent t n a h w e =
+      let size : a + n - a ≡ n = omega arith in
+      (λ k. take (size k) (drop (e k) xs))
+      ∙ sym (ap (take n) (cut-part (sizes l) t xs h) ∙ take-take n (getD (sizes l) t 0) (drop (place l t) xs) w)
 
   pub cache-sound : {A : Type 0} (value : List ℕ → List ℕ → A) (i s n j t m : ℕ) → i < 15 → n * s ≤ getD (sizes l) i 0 → j < 15 → m * t ≤ getD (sizes l) j 0
       → sound (cacheFrom l i s n j t m) xs ≡ cacheWhole m s n (table l i xs) (cacheIn value s n (table l i xs) t m (table l j xs))

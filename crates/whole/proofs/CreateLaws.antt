@@ -26,7 +26,7 @@ use Rattle.block.specs.declared.head.Head.{Head}
 use Rattle.block.specs.declared.head.Settings.{Settings as HeadSettings}
 use Rattle.block.specs.declared.head.Limits.{Limits as HeadLimits}
 use Rattle.block.proofs.HeaderLaws.{word-back, head-words, headWords, length-head}
-use Rattle.whole.specs.Held.{hasHeader, hasTables, countsWithin, allBelow, placesName, numbersName, adjoin, laidOut, holdsWith, held, wholeHeld, wholeBlock}
+use Rattle.whole.specs.Held.{hasHeader, hasTables, countsWithin, allBelow, placesName, numbersName, allLists, adjoin, laidOut, holdsWith, held, wholeHeld, wholeBlock}
 use Rattle.whole.specs.Creation.{Accepted, freshLive}
 
 -- the first no gives its number
@@ -66,7 +66,7 @@ module _ (c : HeadSettings) (l : HeadLimits) where
   fresh-counts = simp leb·zero
 
   fresh-laid : (t : List (List ℕ)) → laidOut (freshHead c l) t ≡ true
-  unfolding laidOut refs rows all adjoin contentHeld sum cachedIn cacheOf
+  unfolding laidOut allLists refs rows all adjoin contentHeld sum cachedIn cacheOf
   fresh-laid t = refl
 
   fresh-state : (block : List ℕ) → stateOf (freshHead c l) block ≡ fresh (settingsOf c) (limitsOf l)

@@ -26,21 +26,22 @@ use Rattle.block.specs.Header.{wordAt, headIn}
 use Rattle.block.specs.declared.head.Head.{Head}
 use Rattle.block.specs.declared.head.Live.{Live}
 use Rattle.block.proofs.Tables.{within-need}
-use Rattle.whole.specs.Held.{hasHeader, hasTables, countsWithin, allBelow, placesName, numbersName, adjoin, laidOut, holdsWith, held}
+use Rattle.whole.specs.Held.{hasHeader, hasTables, countsWithin, allBelow, placesName, numbersName, allLists, adjoin, laidOut, holdsWith, held}
 use Rattle.whole.proofs.Tests.{conj, Each, each, from-each}
 
-pub numbered-of : (m o : ℕ) (row : List ℕ) → numbersName m o row ≡ true → Numbered m o row
+pub numbered-of : (m : ℕ) (list : List ℕ) → numbersName m list ≡ true → Numbered m list
 unfolding numbersName
-numbered-of m o row h =
-    let few : Bool = leb (byteAt o row) 32 in
-    let low : Bool = allBelow m (take (byteAt o row) (drop (o + 1) row)) in
-    record { few = leb-true (byteAt o row) 32 (and-left few low h); below = below-of m (take (byteAt o row) (drop (o + 1) row)) (and-right few low h) }
+numbered-of m list h =
+    let few : Bool = leb (byteAt 0 list) 32 in
+    let low : Bool = allBelow m (take (byteAt 0 list) (drop 1 list)) in
+    record { few = leb-true (byteAt 0 list) 32 (and-left few low h); below = below-of m (take (byteAt 0 list) (drop 1 list)) (and-right few low h) }
 
-pub all-numbered-of : (m o s n : ℕ) (bytes : List ℕ) → all (numbersName m o) (rows s n bytes) ≡ true → AllNumbered m o s n bytes
+pub all-numbered-of : (m o s n : ℕ) (bytes : List ℕ) → allLists (numbersName m) o s n bytes ≡ true → AllNumbered m o s n bytes
+unfolding allLists
 all-numbered-of m o s n bytes h = record {
-  each = λ i l. numbered-of m o (part (i * s) s bytes)
-      (subst (λ (row : List ℕ). numbersName m o row ≡ true) (getD-rows s n i [] bytes l)
-      (all-at (numbersName m o) [] (rows s n bytes) h i (omega (arith, length-rows s n bytes))));
+  each = λ i l. numbered-of m (drop o (part (i * s) s bytes))
+      (subst (λ (row : List ℕ). numbersName m (drop o row) ≡ true) (getD-rows s n i [] bytes l)
+      (all-at (λ row. numbersName m (drop o row)) [] (rows s n bytes) h i (omega (arith, length-rows s n bytes))));
 }
 
 pub adjoining-of : (a : ℕ) (rs : List (List ℕ)) (e : ℕ) → adjoin a rs e ≡ true → Adjoining a rs e
@@ -124,8 +125,8 @@ laid-of h t a =
     let e = each (placesName (v .«received_rows») 2 (v .received) (getD t 2 []))
     (placesName (v .«cached_rows») 4 (v .cached) (getD t 4 [])
     ∷ placesName (v .«grafted_rows») 119 (v .grafted) (getD t 7 [])
-    ∷ all (numbersName (v .links) 22) (rows 119 (v .grafted) (getD t 7 []))
-    ∷ all (numbersName (v .links) 32) (rows 129 (v .missing) (getD t 9 []))
+    ∷ allLists (numbersName (v .links)) 22 119 (v .grafted) (getD t 7 [])
+    ∷ allLists (numbersName (v .links)) 32 129 (v .missing) (getD t 9 [])
     ∷ allBelow (v .links) (take (v .queued) (getD t 11 []))
     ∷ allBelow (v .links) (take (v .dropped) (getD t 13 []))
     ∷ adjoin 0 (rows 48 (v .«cached_rows») (getD t 5 [])) (v .contents)

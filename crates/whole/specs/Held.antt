@@ -45,9 +45,13 @@ allBelow m ns = all (λ n. ltb n m) ns
 abbrev pub placesName : ℕ → ℕ → ℕ → List ℕ → Bool
 placesName m s n entries = allBelow m (places (refs s n entries))
 
--- a row whose byte at o counts the link numbers after it: at most 32, and each names a link, of which there are m
-unfoldable pub numbersName : ℕ → ℕ → List ℕ → Bool
-numbersName m o row = leb (byteAt o row) 32 && allBelow m (take (byteAt o row) (drop (o + 1) row))
+-- a list of link numbers and rounds, the first byte the count: at most 32 numbers, and each names a link, of which there are m
+unfoldable pub numbersName : ℕ → List ℕ → Bool
+numbersName m list = leb (byteAt 0 list) 32 && allBelow m (take (byteAt 0 list) (drop 1 list))
+
+-- the lists that stand at o in n rows of s bytes pass a test
+unfoldable pub allLists : (List ℕ → Bool) → ℕ → ℕ → ℕ → List ℕ → Bool
+allLists f o s n bytes = all (λ row. f (drop o row)) (rows s n bytes)
 
 -- the contents of the cached rows adjoin: the first starts at a, each other one where the one before it ends, and the last ends at e
 unfoldable pub adjoin : ℕ → List (List ℕ) → ℕ → Bool
@@ -60,8 +64,8 @@ laidOut h t =
     placesName (h .live .«received_rows») 2 (h .live .received) (getD t 2 [])
     && placesName (h .live .«cached_rows») 4 (h .live .cached) (getD t 4 [])
     && placesName (h .live .«grafted_rows») 119 (h .live .grafted) (getD t 7 [])
-    && all (numbersName (h .live .links) 22) (rows 119 (h .live .grafted) (getD t 7 []))
-    && all (numbersName (h .live .links) 32) (rows 129 (h .live .missing) (getD t 9 []))
+    && allLists (numbersName (h .live .links)) 22 119 (h .live .grafted) (getD t 7 [])
+    && allLists (numbersName (h .live .links)) 32 129 (h .live .missing) (getD t 9 [])
     && allBelow (h .live .links) (take (h .live .queued) (getD t 11 []))
     && allBelow (h .live .links) (take (h .live .dropped) (getD t 13 []))
     && adjoin 0 (rows 48 (h .live .«cached_rows») (getD t 5 [])) (h .live .contents)

@@ -16,7 +16,7 @@ use Rattle.block.specs.Layout.{place, table}
 use Rattle.block.specs.View.{limitsOf, byteAt, fourAt, stateOf}
 use Rattle.block.specs.declared.head.Head.{Head}
 use Rattle.block.specs.declared.head.Live.{Live}
-use Rattle.whole.specs.Held.{allBelow, placesName, numbersName, adjoin}
+use Rattle.whole.specs.Held.{allBelow, placesName, numbersName, allLists, adjoin}
 
 -- links: their peers ascend
 unfoldable pub linksWhole : Head → List ℕ → Bool
@@ -56,24 +56,24 @@ cachedWhole h block =
     && adjoin 0 (rows 48 (h .live .«cached_rows») (tableOf h 5 block)) (h .live .contents)
     && eqb (contentHeld (stateOf h block)) (h .live .contents)
 
--- a grafted row of a panel with m links: its link numbers name links, and ascend
-unfoldable pub graftRow : ℕ → List ℕ → Bool
-graftRow m row = numbersName m 22 row && ascending (take (byteAt 22 row) (drop 23 row))
+-- the list of a grafted message, with m links: its link numbers name links, and ascend
+unfoldable pub graftList : ℕ → List ℕ → Bool
+graftList m list = numbersName m list && ascending (take (byteAt 0 list) (drop 1 list))
 
 unfoldable pub graftedWhole : Head → List ℕ → Bool
 graftedWhole h block =
     cacheWhole (h .live .«grafted_rows») 119 (h .live .grafted) (tableOf h 7 block) (stateOf h block .grafted)
-    && all (numbersName (h .live .links) 22) (rows 119 (h .live .grafted) (tableOf h 7 block))
+    && allLists (numbersName (h .live .links)) 22 119 (h .live .grafted) (tableOf h 7 block)
     && all (graftsWhole (stateOf h block .links)) (stateOf h block .grafted .entries)
 
--- a row of a missing message: its link numbers name links, each once, and there is one
-unfoldable pub missedRow : ℕ → List ℕ → Bool
-missedRow m row = numbersName m 32 row && ltb 0 (byteAt 32 row) && once (take (byteAt 32 row) (drop 33 row))
+-- the list of a missing message: its link numbers name links, each once, and there is one
+unfoldable pub missedList : ℕ → List ℕ → Bool
+missedList m list = numbersName m list && (ltb 0 (byteAt 0 list) && once (take (byteAt 0 list) (drop 1 list)))
 
 unfoldable pub missingWhole : Head → List ℕ → Bool
 missingWhole h block =
-    all (numbersName (h .live .links) 32) (rows 129 (h .live .missing) (tableOf h 9 block))
-    && ascending (keys (stateOf h block .missing))
+    ascending (keys (stateOf h block .missing))
+    && allLists (numbersName (h .live .links)) 32 129 (h .live .missing) (tableOf h 9 block)
     && all (announcersWhole (stateOf h block .links)) (stateOf h block .missing)
 
 unfoldable pub timersWhole : Head → List ℕ → Bool

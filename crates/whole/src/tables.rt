@@ -20,8 +20,8 @@ ghost use Rattle.refs.specs.Refs.{refs, places, Below};
 ghost use Rattle.block.specs.View.{stateOf, limitsOf};
 ghost use Rattle.block.specs.Fit.{Ceilings, Fit};
 ghost use Rattle.block.specs.LinkSteps.{LinksAscend};
-ghost use Rattle.whole.specs.Held.{allBelow, adjoin};
-ghost use Rattle.whole.specs.Parts.{lengthAt, graftRow, missedRow, few, linksWhole, receivedCache, receivedWhole, cachedCache, cachedWhole, graftedCache, graftedWhole, missingWhole, timersWhole, queueWhole, recordWhole};
+ghost use Rattle.whole.specs.Held.{allBelow, adjoin, allLists};
+ghost use Rattle.whole.specs.Parts.{lengthAt, graftList, missedList, few, linksWhole, receivedCache, receivedWhole, cachedCache, cachedWhole, graftedCache, graftedWhole, missingWhole, timersWhole, queueWhole, recordWhole};
 
 fn wide(x: u8) -> usize
     ensures { λ r. ⌜ r ≡ x ⌝ }
@@ -168,4 +168,155 @@ pub fn cached_whole(h: Head, block: &[u8]) -> bool
     }
     let total = named_lengths(&block[a..], h.live.cached, &block[b..], h.live.cached_rows);
     total == used as u64
+}
+
+// The bytes are numbers below m, and ascend.
+fn numbers_ascend(b: &[u8], m: usize) -> bool
+    ensures { λ r. ⌜ r ≡ (allBelow m (now (b .entry)) && ascending (now (b .entry))) ⌝ }
+{
+    let mut least = 0;
+    let mut j = 0;
+    while j < b.len() {
+        let k = wide(b[j]);
+        if m <= k {
+            return false;
+        }
+        if k < least {
+            return false;
+        }
+        least = k + 1;
+        j += 1;
+    }
+    true
+}
+
+// A list of link numbers and rounds: at most 32 numbers, below m, that ascend.
+fn graft_list(list: &[u8], m: usize) -> bool
+    requires { ⌜ length (now list) ≡ 97 ⌝ }
+    ensures { λ r. ⌜ r ≡ graftList m (now (list .entry)) ⌝ }
+{
+    let n = wide(list[0]);
+    if 32 < n {
+        return false;
+    }
+    let e = 1 + n;
+    numbers_ascend(&list[1..e], m)
+}
+
+// The lists of n grafted entries are such lists.
+fn graft_lists(b: &[u8], n: usize, m: usize) -> bool
+    requires { ⌜ n * 119 ≤ length (now b) ⌝ }
+    ensures { λ r. ⌜ r ≡ allLists (graftList m) 22 119 n (now (b .entry)) ⌝ }
+{
+    let mut i = 0;
+    while i < n {
+        let a = i * 119 + 22;
+        let e = a + 97;
+        let ok = graft_list(&b[a..e], m);
+        if ok {
+            i += 1;
+        } else {
+            return false;
+        }
+    }
+    true
+}
+
+// Grafted messages: places name rows, keys once, rows in pop order; "grafted peers are neighbours, once per identifier".
+pub fn grafted_whole(h: Head, block: &[u8]) -> bool
+    requires { ⌜ Fit h (now block) × LinksAscend h (now block) ⌝ }
+    ensures { λ r. ⌜ r ≡ graftedWhole h (now (block .entry)) ⌝ }
+{
+    let c = grafted_cache(h);
+    let sound = c.is_sound(block);
+    if !sound {
+        return false;
+    }
+    let a = head::grafted_at(h.limits);
+    graft_lists(&block[a..], h.live.grafted, h.live.links)
+}
+
+// A list of link numbers and rounds: at least 1 number and at most 32, below m, each once.
+fn missed_list(list: &[u8], m: usize) -> bool
+    requires { ⌜ (length (now list) ≡ 97) × (m ≤ 32) ⌝ }
+    ensures { λ r. ⌜ r ≡ missedList m (now (list .entry)) ⌝ }
+{
+    let n = wide(list[0]);
+    if 32 < n {
+        return false;
+    }
+    if n < 1 {
+        return false;
+    }
+    let e = 1 + n;
+    refs::numbers(&list[1..e], m)
+}
+
+// The lists of n missing messages are such lists.
+fn missed_lists(b: &[u8], n: usize, m: usize) -> bool
+    requires { ⌜ (n * 129 ≤ length (now b)) × (m ≤ 32) ⌝ }
+    ensures { λ r. ⌜ r ≡ allLists (missedList m) 32 129 n (now (b .entry)) ⌝ }
+{
+    let mut i = 0;
+    while i < n {
+        let a = i * 129 + 32;
+        let e = a + 97;
+        let ok = missed_list(&b[a..e], m);
+        if ok {
+            i += 1;
+        } else {
+            return false;
+        }
+    }
+    true
+}
+
+// Missing messages: keys once; "announcing .. peers are neighbours, once per identifier", and "none of these lists empty".
+pub fn missing_whole(h: Head, block: &[u8]) -> bool
+    requires { ⌜ Fit h (now block) × LinksAscend h (now block) ⌝ }
+    ensures { λ r. ⌜ r ≡ missingWhole h (now (block .entry)) ⌝ }
+{
+    let a = head::missing_at(h.limits);
+    let n = h.live.missing;
+    let up = table::ascending(&block[a..], 129, n);
+    if !up {
+        return false;
+    }
+    missed_lists(&block[a..], n, h.live.links)
+}
+
+// Graft timers: keys once.
+pub fn timers_whole(h: Head, block: &[u8]) -> bool
+    requires { ⌜ Fit h (now block) ⌝ }
+    ensures { λ r. ⌜ r ≡ timersWhole h (now (block .entry)) ⌝ }
+{
+    let a = head::timers_at(h.limits);
+    table::ascending(&block[a..], 32, h.live.timers)
+}
+
+// Every number is below m. There is no exit from the loop, so that it is done for many bytes at once.
+fn numbers_below(b: &[u8], m: u8) -> bool
+    ensures { λ r. ⌜ r ≡ allBelow m (now (b .entry)) ⌝ }
+{
+    let mut bad: u8 = 0;
+    let mut i = 0;
+    while i < b.len() {
+        let x = b[i];
+        i += 1;
+        if m <= x {
+            bad = 1;
+        }
+    }
+    bad == 0
+}
+
+// The queue: "queued .. peers are neighbours".
+pub fn queue_whole(h: Head, block: &[u8]) -> bool
+    requires { ⌜ Fit h (now block) ⌝ }
+    ensures { λ r. ⌜ r ≡ queueWhole h (now (block .entry)) ⌝ }
+{
+    let a = head::queue_at(h.limits);
+    let e = a + h.live.queued;
+    let m = h.live.links;
+    numbers_below(&block[a..e], m as u8)
 }

@@ -38,14 +38,14 @@ use Rattle.whole.proofs.AllLaws.{and-true, all-both, both-same}
 use Rattle.whole.proofs.NumberLaws.{peers-neighbours, peers-ascend, peers-once}
 
 -- what is read off a number and a row beside it, and comes from the number alone
-pairs-map : {A B : Type 0} (f : ℕ → List ℕ → A) (g : A → B) (p : ℕ → B) → ((n : ℕ) (row : List ℕ) → g (f n row) ≡ p n)
+pub pairs-map : {A B : Type 0} (f : ℕ → List ℕ → A) (g : A → B) (p : ℕ → B) → ((n : ℕ) (row : List ℕ) → g (f n row) ≡ p n)
     → (ns : List ℕ) (rs : List (List ℕ)) → length ns ≤ length rs → map g (pairs f ns rs) ≡ map p ns
 unfolding pairs
 pairs-map f g p e [] rs h = refl
 pairs-map f g p e (n ∷ ns) [] h = absurd (not-suc-le-zero h)
 pairs-map f g p e (n ∷ ns) (r ∷ rs) h = λ k. e n r k ∷ pairs-map f g p e ns rs (le-of-suc-le-suc h) k
 
-take-few : (n : ℕ) (xs : List ℕ) → length (take n xs) ≤ n
+pub take-few : (n : ℕ) (xs : List ℕ) → length (take n xs) ≤ n
 take-few zero xs = zero-le
 take-few (suc n) [] = zero-le
 take-few (suc n) (x ∷ xs) = suc-le-suc (take-few n xs)

@@ -3,6 +3,7 @@ pub mod Tests
 pub mod AllLaws
 pub mod NumberLaws
 pub mod HopLaws
+pub mod RecordLaws
 pub mod HeldLaws
 pub mod CreateLaws
 pub mod CacheLaws

@@ -320,3 +320,49 @@ pub fn queue_whole(h: Head, block: &[u8]) -> bool
     let m = h.live.links;
     numbers_below(&block[a..e], m as u8)
 }
+
+// No number, all of them below 32, stands more than 256 times.
+fn few_each(b: &[u8]) -> bool
+    requires { ⌜ Below 32 (now b) ⌝ }
+    ensures { λ r. ⌜ r ≡ few (now (b .entry)) ⌝ }
+{
+    if b.len() <= 256 {
+        return true;
+    }
+    let mut counts = [0u16; 32];
+    let mut i = 0;
+    while i < b.len() {
+        let k = wide(b[i]);
+        let c = counts[k];
+        if 256 <= c {
+            return false;
+        }
+        counts[k] = c + 1;
+        i += 1;
+    }
+    true
+}
+
+// The record: "dropped .. peers are neighbours, once per identifier", and "records within 256 and 4,096".
+pub fn record_whole(h: Head, block: &[u8]) -> bool
+    requires { ⌜ Fit h (now block) × LinksAscend h (now block) ⌝ }
+    ensures { λ r. ⌜ r ≡ recordWhole h (now (block .entry)) ⌝ }
+{
+    let n = h.live.dropped;
+    if n == 0 {
+        return true;
+    }
+    let a = head::dropped_at(h.limits);
+    let e = a + n;
+    let m = h.live.links;
+    let below = numbers_below(&block[a..e], m as u8);
+    if !below {
+        return false;
+    }
+    let few = few_each(&block[a..e]);
+    if !few {
+        return false;
+    }
+    let b = head::dropped_rows_at(h.limits);
+    notes::once(&block[a..e], &block[b..], n)
+}

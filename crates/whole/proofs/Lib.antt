@@ -4,6 +4,7 @@ pub mod AllLaws
 pub mod NumberLaws
 pub mod HopLaws
 pub mod RecordLaws
+pub mod WholeLaws
 pub mod HeldLaws
 pub mod CreateLaws
 pub mod CacheLaws

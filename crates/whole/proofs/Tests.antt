@@ -30,6 +30,21 @@ pub from-each : (b : Bool) (bs : List Bool) → Each (b ∷ bs) → conj b bs �
 from-each b [] e = e .0
 from-each b (x ∷ xs) e = from-each (b && x) xs (and-intro (e .0) (e .1 .0), e .1 .1)
 
+-- the one at i
+pub picks : (b : Bool) (bs : List Bool) → conj b bs ≡ true → (i : ℕ) → getD (b ∷ bs) i true ≡ true
+picks b bs h i = at (b ∷ bs) i (each b bs h)
+  where
+    at : (cs : List Bool) (i : ℕ) → Each cs → getD cs i true ≡ true
+    at [] i e = refl
+    at (c ∷ cs) zero e = e .0
+    at (c ∷ cs) (suc i) e = at cs i (e .1)
+
+-- tests that follow from each other are one
+pub both-ways : (a b : Bool) → (a ≡ true → b ≡ true) → (b ≡ true → a ≡ true) → a ≡ b
+both-ways true b f g = sym (f refl)
+both-ways false true f g = g refl
+both-ways false false f g = refl
+
 -- one of them is false
 and-false : (a b : Bool) → b ≡ false → (a && b) ≡ false
 and-false true b h = h

@@ -21,7 +21,7 @@ ghost use Rattle.block.specs.View.{stateOf, limitsOf};
 ghost use Rattle.block.specs.Fit.{Ceilings, Fit};
 ghost use Rattle.block.specs.LinkSteps.{LinksAscend};
 ghost use Rattle.whole.specs.Held.{allBelow, adjoin, allLists};
-ghost use Rattle.whole.specs.Parts.{lengthAt, graftList, missedList, few, linksWhole, receivedCache, receivedWhole, cachedCache, cachedWhole, graftedCache, graftedWhole, missingWhole, timersWhole, queueWhole, recordWhole};
+ghost use Rattle.whole.specs.Parts.{lengthAt, graftList, missedList, few, linksWhole, receivedCache, receivedWhole, cachedCache, cachedWhole, graftedCache, graftedWhole, missingWhole, timersWhole, queueWhole, recordWhole, tablesWhole};
 
 fn wide(x: u8) -> usize
     ensures { λ r. ⌜ r ≡ x ⌝ }
@@ -365,4 +365,40 @@ pub fn record_whole(h: Head, block: &[u8]) -> bool
     }
     let b = head::dropped_rows_at(h.limits);
     notes::once(&block[a..e], &block[b..], n)
+}
+
+// All tables: the links first, since elsewhere peers are told by the numbers of their links.
+pub fn tables_whole(h: Head, block: &[u8]) -> bool
+    requires { ⌜ Fit h (now block) ⌝ }
+    ensures { λ r. ⌜ r ≡ tablesWhole h (now (block .entry)) ⌝ }
+{
+    let links = links_whole(h, block);
+    if !links {
+        return false;
+    }
+    let received = received_whole(h, block);
+    if !received {
+        return false;
+    }
+    let cached = cached_whole(h, block);
+    if !cached {
+        return false;
+    }
+    let grafted = grafted_whole(h, block);
+    if !grafted {
+        return false;
+    }
+    let missing = missing_whole(h, block);
+    if !missing {
+        return false;
+    }
+    let timers = timers_whole(h, block);
+    if !timers {
+        return false;
+    }
+    let queue = queue_whole(h, block);
+    if !queue {
+        return false;
+    }
+    record_whole(h, block)
 }

@@ -7,3 +7,10 @@ pub mod Scans
 pub mod LinkLaws
 pub mod Numbered
 pub mod NoteLaws
+pub mod RowLaws
+pub mod KeyPlaces
+pub mod TimerLaws
+pub mod Each
+pub mod HopLaws
+pub mod MissingLaws
+pub mod AnnounceLaws

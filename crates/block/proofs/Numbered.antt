@@ -2,7 +2,7 @@
 -- Assumes nothing.
 use mathlib.Core.Path.{_≡_, refl, sym, ap, _∙_}
 use mathlib.Core.List.{List, [], _∷_, _++_}
-use Prim.Native.Nat.{ℕ, zero, suc, _+_, _*_, _≤_, _<_}
+use Prim.Native.Nat.{ℕ, zero, suc, _+_, _-_, _*_, _≤_, _<_}
 use native.Mathlib.Nat.{le-of-suc-le-suc, not-suc-le-zero, zero-add}
 use native.Mathlib.Numerals.{add-one}
 use native.Mathlib.Omega.{arith}
@@ -10,8 +10,8 @@ use lib.ListN.{length, take, drop, getD, length-take}
 use lib.Seq.{length-take-le, getD-take, take-suc, getD-set-same}
 use Rattle.rows.specs.Part.{part, put}
 use Rattle.rows.specs.Rows.{rows}
-use Rattle.rows.proofs.Parts.{take-put, set-put, length-put}
-use Rattle.rows.proofs.Rows.{getD-rows, length-rows}
+use Rattle.rows.proofs.Parts.{take-put, set-put, length-put, drop-take}
+use Rattle.rows.proofs.Rows.{getD-rows, length-rows, drop-rows}
 use Rattle.rows.proofs.Keep.{rows-push}
 use Rattle.block.specs.View.{pairs, numbered}
 
@@ -61,3 +61,25 @@ module _ {A : Type 0} (f : ℕ → List ℕ → A) where
     numbered-push x row e h g =
         (λ k. pairs f (take-put-next n x c h k) (rows-push s n row b e g k))
         ∙ pairs-append (take n c) (x ∷ []) (rows s n b) (row ∷ []) (length-take-le n c (omega arith) ∙ sym (length-rows s n b))
+
+  -- the same numbers and rows
+  pub numbered-same : (s n : ℕ) (c d b e : List ℕ) → take n c ≡ take n d → rows s n b ≡ rows s n e → numbered f s n c b ≡ numbered f s n d e
+  unfolding numbered
+  numbered-same s n c d b e p q = λ k. pairs f (p k) (q k)
+
+  pub pairs-drop : (ls : List ℕ) (rs : List (List ℕ)) → pairs f (drop 1 ls) (drop 1 rs) ≡ drop 1 (pairs f ls rs)
+  unfolding pairs
+  pairs-drop [] rs = refl
+  pairs-drop (l ∷ []) [] = refl
+  pairs-drop (l ∷ m ∷ ls) [] = refl
+  pairs-drop (l ∷ ls) (r ∷ rs) = refl
+
+  -- without the first
+  pub numbered-drop : (s n : ℕ) (c b : List ℕ) → 0 < n → numbered f s (n - 1) (drop 1 c) (drop s b) ≡ drop 1 (numbered f s n c b)
+  unfolding numbered
+  numbered-drop s n c b h =
+      let e : n ≡ 1 + (n - 1) = omega arith in
+      let g : s ≡ 1 * s = omega arith in
+      (λ k. pairs f (sym (drop-take 1 (n - 1) c) k) (rows s (n - 1) (drop (g k) b)))
+      ∙ (λ k. pairs f (drop 1 (take (sym e k) c)) (sym (drop-rows s 1 n b) k))
+      ∙ pairs-drop (take n c) (rows s n b)

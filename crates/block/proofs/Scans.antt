@@ -7,12 +7,12 @@ use mathlib.Core.List.{List, [], _∷_, _++_}
 use Prim.Native.Nat.{ℕ, _+_, _≤_, _<_}
 use native.Mathlib.Numerals.{add-one}
 use native.Mathlib.Omega.{arith}
-use lib.ListN.{length, take, getD}
+use lib.ListN.{length, take, drop, getD, take-append-drop}
 use lib.Seq.{take-suc}
 use Rattle.rows.specs.Sorted.{Ascending, Between}
 use Rattle.rows.proofs.Ids.{tri}
 use Rattle.lists.specs.Base.{any}
-use Rattle.lists.proofs.Lists.{any-append, any-one, or-right}
+use Rattle.lists.proofs.Lists.{any-append, any-one, any-left, or-right}
 
 -- a scan of ascending keys: a key passed, a key found to be above, and the end
 pub scan-more : (ks : List ℕ) (k i x : ℕ) → ((j : ℕ) → j < i → getD ks j 0 < k) → x ≡ getD ks i 0 → x < k → (j : ℕ) → j < i + 1 → getD ks j 0 < k
@@ -61,3 +61,6 @@ module _ {A : Type 0} (q : A → Bool) (i : ℕ) (d : A) (l : List A) (h : i < l
 
   pub any-drop : q (getD l i d) ≡ false → any q (take (i + 1) l) ≡ any q (take i l)
   any-drop e = more ∙ ap (λ (b : Bool). any q (take i l) || b) e ∙ or-false (any q (take i l))
+
+  pub any-found : q (getD l i d) ≡ true → any q l ≡ true
+  any-found e = sym (ap (any q) (take-append-drop (i + 1) l)) ∙ any-left q (take (i + 1) l) (drop (i + 1) l) (any-keep e)

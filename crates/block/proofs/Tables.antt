@@ -5,11 +5,12 @@ use mathlib.Core.List.{List, [], _∷_, _++_, map, map-append, append-nil}
 use Prim.Native.Nat.{ℕ, zero, suc, _+_, _-_, _*_, _≤_, _<_}
 use native.Mathlib.Omega.{arith}
 use lib.Dec.{lit<}
-use lib.ListN.{length, take, drop, getD, set, length-map, List·getD-map, drop-of-length-le}
-use lib.Seq.{take-take}
+use lib.ListN.{length, take, drop, getD, set, length-map, List·getD-map, drop-of-length-le, length-drop}
+use lib.Seq.{take-take, take-all}
 use native.Mathlib.Nat.{not-suc-le-zero, le-of-suc-le-suc}
 use Rattle.rows.specs.Part.{part, put}
 use Rattle.rows.specs.Rows.{rows}
+use Rattle.rows.specs.Sorted.{keyOf, keys}
 use Rattle.rows.proofs.Keep.{rows-push}
 use Rattle.rows.proofs.Rows.{getD-rows, length-rows, rows-same, rows-field}
 use Rattle.rows.proofs.Views.{map-put}
@@ -60,7 +61,7 @@ field-in l t s i o k xs ht ho hi =
     ∙ ap (part (i * s + o) k) (cut-part (sizes l) t xs ht)
     ∙ part-part (i * s + o) k (place l t) (getD (sizes l) t 0) xs (omega arith)
 
-put-all : (zs ts : List ℕ) → length zs ≡ length ts → put 0 zs ts ≡ zs
+pub put-all : (zs ts : List ℕ) → length zs ≡ length ts → put 0 zs ts ≡ zs
 unfolding put
 put-all zs ts e = ap (λ (l : List ℕ). zs ++ l) (drop-of-length-le ts {i = length zs} (omega arith)) ∙ append-nil zs
 
@@ -100,3 +101,12 @@ pub view-set : {A : Type 0} (f : List ℕ → A) (s n i o : ℕ) (ys xs : List �
     → map f (rows s n (put (i * s + o) ys xs)) ≡ put i (f (put o ys (part (i * s) s xs)) ∷ []) (map f (rows s n xs))
 view-set f s n i o ys xs ho hi h =
     ap (map f) (rows-field s i n o ys xs ho hi h) ∙ map-put f i (put o ys (part (i * s) s xs) ∷ []) (rows s n xs)
+
+-- the keys of table t, as a search reads them in what follows its start
+pub keys-table : (l : Limits) (t s n a : ℕ) (xs : List ℕ) → t < 15 → n * s ≤ getD (sizes l) t 0 → a ≡ place l t
+    → keys s n (take (length xs - a) (drop a xs)) ≡ map keyOf (rows s n (table l t xs))
+unfolding keys
+keys-table l t s n a xs ht h e =
+    ap (λ (ys : List ℕ). map keyOf (rows s n ys)) (take-all (length xs - a) (drop a xs) (omega (arith, length-drop a xs)))
+    ∙ ap (λ (m : ℕ). map keyOf (rows s n (drop m xs))) e
+    ∙ ap (map keyOf) (sym (rows-table l t s n xs ht h))

@@ -8,3 +8,6 @@ pub mod Goes
 pub mod Header
 pub mod LinkSteps
 pub mod NoteSteps
+pub mod TimerSteps
+pub mod HopSteps
+pub mod MissingSteps

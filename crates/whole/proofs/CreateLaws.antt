@@ -18,7 +18,7 @@ use Rattle.refs.specs.Refs.{refs, places}
 use Rattle.time_cache.specs.Tables.{cacheOf, expiryRows}
 use Rattle.protocol.specs.State.{State, Limits, Settings, Created, created, notCreated, create, fresh, zeroCounts, sizeInRange, durationsInRange, limitsInRange, blockNeed}
 use Rattle.protocol.specs.Whole.{contentHeld, whole}
-use Rattle.protocol.proofs.FreshWhole.{fresh-whole}
+use Rattle.protocol.proofs.CreatedWhole.{fresh-whole}
 use Rattle.block.specs.Layout.{tables}
 use Rattle.block.specs.View.{settingsOf, limitsOf, viewOf, stateOf, linksIn, notesIn, numbered, pairs, missingIn, receivedIn, graftedIn, cachedIn, timersIn}
 use Rattle.block.specs.Header.{wordsBytes, wordAt, headIn, headBytes, Stored}

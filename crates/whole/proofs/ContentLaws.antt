@@ -11,8 +11,7 @@ use borrow.Author.Tests.{eq-eqb, ne-eqb, ltb-true}
 use lib.Dec.{eqb, ltb, lit<}
 use lib.ListN.{length, take, drop, getD, drop-of-length-le}
 use lib.Seq.{drop-cons, drop-drop, take-suc}
-use Rattle.lists.specs.Base.{all, sum}
-use Rattle.lists.specs.Map.{Entry}
+use Rattle.lists.specs.Base.{sum}
 use Rattle.lists.proofs.MapLaws.{all-head, all-tail}
 use Rattle.rows.specs.Part.{part}
 use Rattle.rows.specs.Digits.{leNat}
@@ -21,9 +20,8 @@ use Rattle.rows.proofs.Parts.{part-part, length-part}
 use Rattle.rows.proofs.Rows.{length-rows, getD-rows}
 use Rattle.refs.specs.Refs.{Ref, refs, places}
 use Rattle.refs.proofs.Places.{getD-map-in}
-use Rattle.time_cache.specs.TimeCache.{Timed}
 use Rattle.time_cache.specs.Tables.{ExpiryRow, expiryRowOf, expiryRows, rowAt, expiryRow, entryOf, cacheOf}
-use Rattle.protocol.specs.State.{Limits, Cached}
+use Rattle.protocol.specs.State.{Limits}
 use Rattle.protocol.specs.Whole.{contentHeld}
 use Rattle.block.specs.View.{limitsOf, fourAt, contentOf, cachedOf, cachedIn, stateOf}
 use Rattle.block.specs.Fit.{Fit}

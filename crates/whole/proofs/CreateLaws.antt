@@ -1,33 +1,39 @@
 -- Creation: its four questions in order, and the block that it leaves.
 -- Assumes nothing.
-use mathlib.Core.Path.{_≡_, refl, sym, ap, _∙_, subst}
+use mathlib.Core.Path.{_≡_, refl, ap, _∙_, subst}
 use mathlib.Core.Bool.{Bool, true, false, _&&_}
-use mathlib.Core.List.{List, [], _∷_, map}
-use mathlib.Core.Option.{Option, none, some}
-use Prim.Native.Nat.{ℕ, _+_, _*_, _^_, _≤_, _<_}
+use mathlib.Core.List.{List}
+use mathlib.Core.Option.{none, some}
+use Prim.Native.Nat.{ℕ, _≤_, _<_}
 use native.Mathlib.Omega.{arith}
-use borrow.Author.Tests.{le-leb, lt-leb, leb-true}
-use lib.Dec.{leb, ltb, eqb, leb·zero, lit<}
-use lib.ListN.{length, take, drop, getD}
+use borrow.Author.Tests.{le-leb, lt-leb, leb-true, leb-false}
+use lib.Dec.{leb, leb·zero, lit<}
+use lib.ListN.{length, drop}
 use Rattle.lists.specs.Base.{if_then_else_, all, sum}
-use Rattle.lists.proofs.MapLaws.{and-intro}
-use Rattle.rows.specs.Part.{part, put}
+use Rattle.lists.proofs.MapLaws.{cases, and-intro}
+use Rattle.rows.specs.Part.{put}
 use Rattle.rows.specs.Rows.{rows}
 use Rattle.rows.proofs.Parts.{length-put, drop-put}
-use Rattle.refs.specs.Refs.{refs, places}
+use Rattle.refs.specs.Refs.{refs}
 use Rattle.time_cache.specs.Tables.{cacheOf, expiryRows}
+<<<<<<< HEAD
 use Rattle.protocol.specs.State.{State, Limits, Settings, Created, created, notCreated, create, fresh, zeroCounts, sizeInRange, durationsInRange, limitsInRange, blockNeed}
 use Rattle.protocol.specs.Whole.{contentHeld, whole}
 use Rattle.protocol.proofs.CreatedWhole.{fresh-whole}
+=======
+use Rattle.protocol.specs.State.{Limits, Settings, Created, created, notCreated, create, fresh, zeroCounts, sizeInRange, durationsInRange, limitsInRange, blockNeed}
+use Rattle.protocol.specs.Whole.{contentHeld}
+use Rattle.protocol.proofs.CreatedWhole.{fresh-whole}
+>>>>>>> whole
 use Rattle.block.specs.Layout.{tables}
-use Rattle.block.specs.View.{settingsOf, limitsOf, viewOf, stateOf, linksIn, notesIn, numbered, pairs, missingIn, receivedIn, graftedIn, cachedIn, timersIn}
-use Rattle.block.specs.Header.{wordsBytes, wordAt, headIn, headBytes, Stored}
+use Rattle.block.specs.View.{settingsOf, limitsOf, stateOf, linksIn, notesIn, numbered, pairs, missingIn, receivedIn, graftedIn, cachedIn, timersIn}
+use Rattle.block.specs.Header.{wordAt, headBytes, Stored}
 use Rattle.block.specs.declared.head.Head.{Head}
 use Rattle.block.specs.declared.head.Settings.{Settings as HeadSettings}
 use Rattle.block.specs.declared.head.Limits.{Limits as HeadLimits}
 use Rattle.block.proofs.HeaderLaws.{word-back, head-words, headWords, length-head}
-use Rattle.whole.specs.Held.{hasHeader, hasTables, countsWithin, allBelow, placesName, numbersName, allLists, adjoin, laidOut, holdsWith, held, wholeHeld, wholeBlock}
-use Rattle.whole.specs.Creation.{Accepted, freshLive}
+use Rattle.whole.specs.Held.{hasHeader, hasTables, countsWithin, allLists, adjoin, laidOut, holdsWith, held, wholeHeld, wholeBlock}
+use Rattle.whole.specs.Creation.{Refused, Accepted, Creates, Creation, freshLive}
 
 -- the first no gives its number
 module _ (c : Settings) (l : Limits) (n : ℕ) where
@@ -112,8 +118,31 @@ module _ (c : HeadSettings) (l : HeadLimits) where
     pub fresh-accepted : Accepted (fresh (settingsOf c) (limitsOf l)) xs ys 0
     fresh-accepted = record { number = refl; state = fresh-held; long = fresh-length; rest = fresh-rest }
 
--- "An accepted creation leaves the state of `State::new`": the block that it leaves is whole
-pub accepted-whole : (c : Settings) (l : Limits) (xs ys : List ℕ) (r : ℕ) → sizeInRange c ≡ true → durationsInRange c ≡ true → limitsInRange l ≡ true → c .optimizationThreshold < 65536
+-- "An accepted creation leaves the state of `State::new`": a block that holds it is whole
+accepted-whole : (c : Settings) (l : Limits) (xs ys : List ℕ) (r : ℕ) → sizeInRange c ≡ true → durationsInRange c ≡ true → limitsInRange l ≡ true → c .optimizationThreshold < 65536
     → Accepted (fresh c l) xs ys r → wholeBlock ys ≡ true
 unfolding wholeBlock wholeHeld
 accepted-whole c l xs ys r a b d t done = ap wholeHeld (done .state) ∙ fresh-whole c l a b (le-leb (c .optimizationThreshold) 65535 (omega arith)) d
+
+-- the block that an accepted creation leaves is whole
+pub creation-whole : (c : HeadSettings) (l : HeadLimits) (xs ys : List ℕ) (r : ℕ) → c .config .«optimization_threshold» .0 < 65536
+    → Creation c l xs ys r → r ≡ 0 → wholeBlock ys ≡ true
+creation-whole c l xs ys r t made answer =
+    cases (sizeInRange s)
+    (λ a. cases (durationsInRange s)
+    (λ b. cases (limitsInRange m)
+    (λ d. cases (leb (blockNeed m) (length xs))
+    (λ e. accepted-whole s m xs ys r a b d t (at (create-0 s m (length xs) a b d (leb-true (blockNeed m) (length xs) e))))
+    (λ e. let f : Refused 4 xs ys r = at (create-4 s m (length xs) a b d (leb-false (blockNeed m) (length xs) e)) in absurd (omega (arith, f .number))))
+    (λ d. let f : Refused 3 xs ys r = at (create-3 s m (length xs) a b d) in absurd (omega (arith, f .number))))
+    (λ b. let f : Refused 2 xs ys r = at (create-2 s m (length xs) a b) in absurd (omega (arith, f .number))))
+    (λ a. let f : Refused 1 xs ys r = at (create-1 s m (length xs) a) in absurd (omega (arith, f .number)))
+  where
+    s : Settings
+    s = settingsOf c
+
+    m : Limits
+    m = limitsOf l
+
+    at : {x : Created} → create s m (length xs) ≡ x → Creates x xs ys r
+    at e = subst (λ (x : Created). Creates x xs ys r) e made

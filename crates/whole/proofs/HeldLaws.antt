@@ -1,33 +1,31 @@
 -- What is known of a block that holds a state.
 -- Assumes nothing.
-use mathlib.Core.Path.{_≡_, refl, sym, ap, _∙_, subst}
+use mathlib.Core.Path.{_≡_, sym, subst}
 use mathlib.Core.Bool.{Bool, true, false, _&&_}
 use mathlib.Core.List.{List, [], _∷_}
 use mathlib.Core.Option.{Option, none, some}
-use Prim.Native.Nat.{ℕ, _+_, _*_, _≤_, _<_}
+use Prim.Native.Nat.{ℕ, _+_, _*_, _≤_}
 use native.Mathlib.Omega.{arith}
-use borrow.Author.Tests.{ltb-true, leb-true, eqb-true, lt-ltb, le-leb, eq-eqb}
-use lib.Dec.{leb, ltb, eqb}
+use borrow.Author.Tests.{leb-true, eqb-true}
+use lib.Dec.{leb, eqb}
 use lib.ListN.{length, take, drop, getD}
-use Rattle.lists.specs.Base.{if_then_else_, all}
-use Rattle.lists.proofs.MapLaws.{cases, true≢, and-left, and-right, and-intro}
+use Rattle.lists.proofs.MapLaws.{cases, true≢, and-left, and-right}
 use Rattle.rows.specs.Part.{part}
 use Rattle.rows.specs.Rows.{rows}
 use Rattle.rows.proofs.Rows.{length-rows, getD-rows}
-use Rattle.refs.specs.Refs.{Below, refs, places}
 use Rattle.time_cache.proofs.Orders.{all-at, below-of}
 use Rattle.protocol.specs.State.{State, Limits, limitsInRange, upTo, blockNeed}
-use Rattle.protocol.specs.Whole.{contentHeld, whole}
-use Rattle.block.specs.Layout.{tables, end}
+use Rattle.protocol.specs.Whole.{contentHeld}
+use Rattle.block.specs.Layout.{tables}
 use Rattle.block.specs.View.{limitsOf, byteAt, fourAt, viewOf, stateOf}
 use Rattle.block.specs.Fit.{Ceilings, Within, Fit}
 use Rattle.block.specs.Sound.{Numbered, AllNumbered, Adjoining, done, next, Laid, Sound}
-use Rattle.block.specs.Header.{wordAt, headIn}
+use Rattle.block.specs.Header.{headIn}
 use Rattle.block.specs.declared.head.Head.{Head}
 use Rattle.block.specs.declared.head.Live.{Live}
 use Rattle.block.proofs.Tables.{within-need}
 use Rattle.whole.specs.Held.{hasHeader, hasTables, countsWithin, allBelow, placesName, numbersName, allLists, adjoin, laidOut, holdsWith, held}
-use Rattle.whole.proofs.Tests.{conj, Each, each, from-each}
+use Rattle.whole.proofs.Tests.{each}
 
 pub numbered-of : (m : ℕ) (list : List ℕ) → numbersName m list ≡ true → Numbered m list
 unfolding numbersName

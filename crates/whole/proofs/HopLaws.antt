@@ -1,29 +1,27 @@
 -- Lists of link numbers and rounds: the tests of the numbers are those of the announcers and of the grafted peers.
 -- Assumes nothing.
 use mathlib.Core.Path.{_≡_, refl, sym, ap, _∙_, subst}
-use mathlib.Core.Bool.{Bool, true, false, not, _&&_}
+use mathlib.Core.Bool.{Bool, true, not, _&&_}
 use mathlib.Core.List.{List, [], _∷_, map}
-use Prim.Native.Nat.{ℕ, zero, suc, _+_, _-_, _*_, _≤_, _<_, zero-le, suc-le-suc}
+use Prim.Native.Nat.{ℕ, zero, suc, _-_, _*_, _≤_, _<_, zero-le, suc-le-suc}
 use native.Mathlib.Nat.{le-of-suc-le-suc, not-suc-le-zero}
 use native.Mathlib.Omega.{arith}
-use borrow.Author.Tests.{leb-true, lt-ltb, le-ltb, eq-eqb, ne-eqb}
-use lib.Dec.{leb, ltb, eqb, lit<}
+use borrow.Author.Tests.{leb-true, lt-ltb, le-ltb}
+use lib.Dec.{leb, ltb, lit<}
 use lib.ListN.{length, take, drop, getD, length-drop}
 use lib.Seq.{drop-drop}
 use Rattle.lists.specs.Base.{isEmpty, all, ascending, once}
 use Rattle.lists.specs.Map.{Entry, keys}
-use Rattle.lists.proofs.MapLaws.{cases, and-left, and-right}
+use Rattle.lists.proofs.MapLaws.{and-left, and-right}
 use Rattle.lists.proofs.ListLaws.{all-map}
-use Rattle.rows.specs.Part.{part}
 use Rattle.rows.specs.Rows.{rows}
 use Rattle.rows.proofs.Parts.{length-part}
 use Rattle.rows.proofs.Rows.{length-rows, getD-rows}
-use Rattle.refs.specs.Refs.{Ref, refOf, refs}
+use Rattle.refs.specs.Refs.{refOf, refs}
 use Rattle.refs.proofs.Places.{row-end}
-use Rattle.time_cache.specs.TimeCache.{Timed}
 use Rattle.time_cache.specs.Tables.{ExpiryRow, expiryRows, entryOf, cacheOf}
 use Rattle.protocol.specs.Links.{Links}
-use Rattle.protocol.specs.State.{Limits, Hop, Grafts}
+use Rattle.protocol.specs.State.{Hop}
 use Rattle.protocol.specs.Whole.{neighbours, announcersWhole, graftsWhole}
 use Rattle.block.specs.View.{limitsOf, byteAt, peerOf, pairs, numbered, hopsIn, hopOf, hopsOf, missedOf, missingIn, roundOf, graftsOf, graftedIn, stateOf}
 use Rattle.block.specs.Fit.{Fit}

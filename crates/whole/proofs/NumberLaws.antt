@@ -4,23 +4,21 @@ use mathlib.Core.Path.{_≡_, refl, sym, ap, _∙_, subst}
 use mathlib.Core.Logic.{_⊎_, inl, inr}
 use mathlib.Core.Bool.{Bool, true, false, not, _&&_}
 use mathlib.Core.List.{List, [], _∷_, map}
-use Prim.Native.Nat.{ℕ, zero, suc, _+_, _-_, _*_, _≤_, _<_, zero-le, suc-le-suc}
+use Prim.Native.Nat.{ℕ, zero, suc, _+_, _-_, _≤_, _<_, zero-le, suc-le-suc}
 use native.Mathlib.Nat.{eq-or-lt-of-le, le-of-suc-le-suc, not-suc-le-zero}
 use native.Mathlib.Omega.{arith}
-use borrow.Author.Tests.{ltb-true, lt-ltb, le-ltb, eqb-true, eqb-false, eq-eqb, ne-eqb, not-true}
+use borrow.Author.Tests.{ltb-true, lt-ltb, le-ltb, eq-eqb, ne-eqb, not-true}
 use lib.Dec.{ltb, eqb}
 use lib.ListN.{length, getD}
 use Rattle.lists.specs.Base.{all, member, ascending, once}
-use Rattle.lists.specs.Map.{Map, Entry, keys}
+use Rattle.lists.specs.Map.{keys}
 use Rattle.lists.proofs.MapLaws.{cases, true≢, and-left, and-right, and-intro, all-head, all-tail}
-use Rattle.rows.specs.Sorted.{Ascending, Here}
 use Rattle.rows.proofs.Ids.{tri}
 use Rattle.rows.proofs.Sorted.{AscendTo, ascend-start, ascend-more, ascend-done, ascend-not}
-use Rattle.refs.specs.Once.{Numbers, TellsNumbers}
-use Rattle.refs.specs.Refs.{Below}
+use Rattle.refs.specs.Once.{TellsNumbers}
 use Rattle.refs.proofs.Places.{BelowTo, below-more}
-use Rattle.time_cache.proofs.Orders.{up-of, of-up, below-of, of-below, at-all}
-use Rattle.protocol.specs.Links.{Links, isNeighbour}
+use Rattle.time_cache.proofs.Orders.{up-of, of-up, below-of, of-below}
+use Rattle.protocol.specs.Links.{Links}
 use Rattle.protocol.specs.Whole.{neighbours}
 use Rattle.block.specs.View.{peerOf}
 use Rattle.block.proofs.LinkLaws.{neighbour-here}

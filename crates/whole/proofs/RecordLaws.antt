@@ -3,32 +3,30 @@
 use mathlib.Core.Path.{_≡_, refl, sym, ap, _∙_, subst}
 use mathlib.Core.Logic.{_⊎_, inl, inr}
 use mathlib.Core.Bool.{Bool, true, false, not, _&&_}
-use mathlib.Core.List.{List, [], _∷_, _++_, map}
+use mathlib.Core.List.{List, [], _∷_, map}
 use Prim.Native.Nat.{ℕ, zero, suc, _+_, _-_, _*_, _≤_, _<_, zero-le, suc-le-suc}
 use native.Mathlib.Nat.{le-of-suc-le-suc, not-suc-le-zero, add-zero}
 use native.Mathlib.Numerals.{add-one}
 use native.Mathlib.Omega.{arith}
-use borrow.Author.Tests.{ltb-true, leb-true, le-leb, lt-leb, eqb-true, eq-eqb, ne-eqb, not-true}
+use borrow.Author.Tests.{ltb-true, le-leb, lt-leb, eqb-true, eq-eqb, ne-eqb, not-true}
 use lib.Dec.{leb, ltb, eqb, lit<}
 use lib.ListN.{length, take, drop, getD, set, replicate, length-set, take-append-drop}
-use lib.Seq.{take-suc, take-all, length-take-le, getD-take, getD-set-same, getD-set-other}
-use Rattle.lists.specs.Base.{if_then_else_, all, any, count, ascending}
+use lib.Seq.{take-suc, take-all, length-take-le, getD-set-same, getD-set-other}
+use Rattle.lists.specs.Base.{all, any, count, ascending}
 use Rattle.lists.specs.Map.{keys}
 use Rattle.lists.proofs.MapLaws.{cases, true≢, and-left, and-right, and-intro, all-head, all-tail}
 use Rattle.lists.proofs.ListLaws.{all-map, count-append, count-length}
 use Rattle.rows.specs.Part.{part}
-use Rattle.rows.specs.Digits.{beNat, beFrom}
+use Rattle.rows.specs.Digits.{beNat}
 use Rattle.rows.specs.Rows.{rows}
-use Rattle.rows.specs.Sorted.{Ascending}
 use Rattle.rows.proofs.Ids.{tri}
 use Rattle.rows.proofs.Parts.{part-part}
 use Rattle.rows.proofs.Rows.{length-rows, getD-rows}
-use Rattle.refs.specs.Refs.{Below}
 use Rattle.notes.specs.Chains.{Once, TellsOnce, idAt as noteId}
 use Rattle.time_cache.proofs.CacheLaws.{eqb-sym}
-use Rattle.time_cache.proofs.Orders.{at-all, all-at, below-of, up-of}
+use Rattle.time_cache.proofs.Orders.{at-all, below-of}
 use Rattle.protocol.specs.Links.{Links}
-use Rattle.protocol.specs.State.{Limits, Note}
+use Rattle.protocol.specs.State.{Note}
 use Rattle.protocol.specs.Push.{forPeer, notes}
 use Rattle.protocol.specs.Whole.{notedOnce, recordWithin}
 use Rattle.block.specs.View.{limitsOf, peerOf, pairs, numbered, idAt, noteOf, notesIn, stateOf}
@@ -38,13 +36,12 @@ use Rattle.block.specs.NoteSteps.{note}
 use Rattle.block.specs.declared.head.Head.{Head}
 use Rattle.block.proofs.LinkLaws.{count-peers}
 use Rattle.block.proofs.Numbered.{length-numbered, pairs-at}
-use Rattle.block.proofs.Scans.{keys-apart}
 use Rattle.block.proofs.Tables.{length-table}
 use Rattle.whole.specs.Held.{allBelow}
 use Rattle.whole.specs.Parts.{tableOf, few, recordWhole}
 use Rattle.whole.proofs.AllLaws.{and-true, all-not, cons-all}
 use Rattle.whole.proofs.NumberLaws.{same-peer}
-use Rattle.whole.proofs.HopLaws.{pairs-map, take-few}
+use Rattle.whole.proofs.HopLaws.{pairs-map}
 
 -- how often a number stands among the first i
 unfoldable pub times : ℕ → List ℕ → ℕ → ℕ

@@ -1,14 +1,12 @@
 -- Tests of several parts, and of every element of a list.
 -- Assumes nothing.
-use mathlib.Core.Path.{_≡_, refl, sym, ap, _∙_}
+use mathlib.Core.Path.{_≡_, refl, sym, _∙_}
 use mathlib.Core.Bool.{Bool, true, false, not, _&&_}
 use mathlib.Core.List.{List, [], _∷_, _++_}
-use Prim.Native.Nat.{ℕ, zero, suc, _≤_, _<_, zero-le, suc-le-suc}
-use native.Mathlib.Nat.{le-of-suc-le-suc, not-suc-le-zero}
+use Prim.Native.Nat.{ℕ, zero, suc}
 use borrow.Author.Tests.{not-true, not-false}
-use lib.ListN.{length, getD}
-use Rattle.lists.specs.Base.{all}
-use Rattle.lists.proofs.MapLaws.{true≢, and-left, and-right, and-intro, all-head, all-tail, all-cons}
+use lib.ListN.{getD}
+use Rattle.lists.proofs.MapLaws.{true≢, and-left, and-right, and-intro}
 
 -- b and all the others
 abbrev pub conj : Bool → List Bool → Bool

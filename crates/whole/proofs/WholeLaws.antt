@@ -1,14 +1,14 @@
 -- Question 5 is the tests of the header's numbers and of the tables: each follows from the others.
 -- Assumes nothing.
 use mathlib.Core.Path.{_≡_, refl, sym, ap, _∙_, subst}
-use mathlib.Core.Bool.{Bool, true, false, not, _&&_, _||_}
+use mathlib.Core.Bool.{Bool, true, _&&_, _||_}
 use mathlib.Core.List.{List, [], _∷_, map}
-use mathlib.Core.Option.{Option, none, some}
-use Prim.Native.Nat.{ℕ, zero, suc, _+_, _-_, _*_, _≤_, _<_, zero-le}
+use mathlib.Core.Option.{none, some}
+use Prim.Native.Nat.{ℕ, zero, suc, _-_, _*_, _≤_, _<_, zero-le}
 use native.Mathlib.Omega.{arith}
 use borrow.Author.Tests.{leb-true, le-leb, eqb-true, eq-eqb, ne-eqb}
-use lib.Dec.{leb, ltb, eqb, lit<}
-use lib.ListN.{length, take, drop, getD, length-map}
+use lib.Dec.{leb, eqb, lit<}
+use lib.ListN.{length, take, drop, length-map}
 use lib.Seq.{take-take}
 use Rattle.lists.specs.Base.{if_then_else_, isEmpty, all, ascending}
 use Rattle.lists.specs.Map.{keys}
@@ -17,16 +17,15 @@ use Rattle.rows.specs.Part.{part}
 use Rattle.rows.specs.Digits.{leNat}
 use Rattle.rows.specs.Rows.{rows}
 use Rattle.rows.proofs.Rows.{length-rows}
-use Rattle.refs.specs.Refs.{Ref, refs, places}
+use Rattle.refs.specs.Refs.{refs, places}
 use Rattle.refs.proofs.Places.{length-refs}
-use Rattle.time_cache.specs.TimeCache.{Cache, Timed, Expiry, expiresOnTime, inPopOrder}
-use Rattle.time_cache.specs.Tables.{ExpiryRow, expiryRowOf, expiryRows, expiryOf, entryOf, cacheOf, cacheIn}
+use Rattle.time_cache.specs.TimeCache.{expiresOnTime, inPopOrder}
+use Rattle.time_cache.specs.Tables.{expiryRowOf, expiryRows, expiryOf, entryOf, cacheOf, cacheIn}
 use Rattle.time_cache.proofs.TableLaws.{on-time}
-use Rattle.protocol.specs.Links.{Links}
 use Rattle.protocol.specs.State.{State, Limits, Note, sizeInRange, durationsInRange, limitsInRange, blockNeed}
 use Rattle.protocol.specs.Whole.{contentHeld, cacheFits, fits, inRange, keysOnce, neighbours, announcersWhole, graftsWhole, notedOnce, recordWithin, flagsStand, whole}
 use Rattle.block.specs.Layout.{tables}
-use Rattle.block.specs.View.{settingsOf, limitsOf, viewOf, stateOf, peerOf, linkOf, noteOf, numbered, notesIn, missedOf, missingIn, idAt, timersIn, nothingOf, receivedIn, cachedOf, cachedIn, graftsOf, graftedIn}
+use Rattle.block.specs.View.{settingsOf, limitsOf, stateOf, peerOf, noteOf, numbered, notesIn, missedOf, missingIn, idAt, timersIn, nothingOf, receivedIn, cachedOf, cachedIn, graftsOf, graftedIn}
 use Rattle.block.specs.Fit.{Fit, Within}
 use Rattle.block.specs.Header.{wordAt, halfWordAt, headIn}
 use Rattle.block.specs.declared.head.Head.{Head}

@@ -1,7 +1,7 @@
 -- What a block holds: the state that its bytes stand for, or nothing where they stand for none. Question 5 of document 01 is asked of that state.
 -- Assumes nothing.
 use Prim.Native.Nat.{ℕ, _+_, _*_}
-use mathlib.Core.Bool.{Bool, true, false, _&&_}
+use mathlib.Core.Bool.{Bool, false, _&&_}
 use mathlib.Core.List.{List, [], _∷_}
 use mathlib.Core.Option.{Option, none, some}
 use lib.Dec.{leb, ltb, eqb}
@@ -61,15 +61,15 @@ adjoin a (row ∷ more) e = eqb (fourAt 40 row) a && adjoin (a + fourAt 44 row) 
 -- places and link numbers name rows; contents adjoin, and those of the cached messages add up to what is used of the store
 unfoldable pub laidOut : Head → List (List ℕ) → Bool
 laidOut h t =
-    placesName (h .live .«received_rows») 2 (h .live .received) (getD t 2 [])
-    && placesName (h .live .«cached_rows») 4 (h .live .cached) (getD t 4 [])
-    && placesName (h .live .«grafted_rows») 119 (h .live .grafted) (getD t 7 [])
-    && allLists (numbersName (h .live .links)) 22 119 (h .live .grafted) (getD t 7 [])
-    && allLists (numbersName (h .live .links)) 32 129 (h .live .missing) (getD t 9 [])
-    && allBelow (h .live .links) (take (h .live .queued) (getD t 11 []))
-    && allBelow (h .live .links) (take (h .live .dropped) (getD t 13 []))
-    && adjoin 0 (rows 48 (h .live .«cached_rows») (getD t 5 [])) (h .live .contents)
-    && eqb (contentHeld (viewOf h t)) (h .live .contents)
+    placesName (h .live .«received_rows») 2 (h .live .received) (getD t 2 [])  -- received entries
+    && placesName (h .live .«cached_rows») 4 (h .live .cached) (getD t 4 [])  -- cached entries
+    && placesName (h .live .«grafted_rows») 119 (h .live .grafted) (getD t 7 [])  -- grafted entries
+    && allLists (numbersName (h .live .links)) 22 119 (h .live .grafted) (getD t 7 [])  -- grafted peers
+    && allLists (numbersName (h .live .links)) 32 129 (h .live .missing) (getD t 9 [])  -- announcers
+    && allBelow (h .live .links) (take (h .live .queued) (getD t 11 []))  -- queued peers
+    && allBelow (h .live .links) (take (h .live .dropped) (getD t 13 []))  -- dropped peers
+    && adjoin 0 (rows 48 (h .live .«cached_rows») (getD t 5 [])) (h .live .contents)  -- contents of the cached rows
+    && eqb (contentHeld (viewOf h t)) (h .live .contents)  -- contents of the cached messages
 
 -- the bytes stand for a state, with the header's numbers h
 unfoldable pub holdsWith : Head → List ℕ → Bool

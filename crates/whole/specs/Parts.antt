@@ -1,10 +1,10 @@
 -- Question 5, table by table: what each test of the code tells. Together these are `wholeBlock` (proofs/WholeLaws.antt).
 -- Assumes nothing.
-use Prim.Native.Nat.{ℕ, _+_, _*_}
-use mathlib.Core.Bool.{Bool, true, false, _&&_, _||_}
+use Prim.Native.Nat.{ℕ}
+use mathlib.Core.Bool.{Bool, _&&_, _||_}
 use mathlib.Core.List.{List, []}
 use lib.Dec.{leb, ltb, eqb}
-use lib.ListN.{length, take, drop, getD}
+use lib.ListN.{take, drop, getD}
 use Rattle.lists.specs.Base.{all, count, ascending, once}
 use Rattle.lists.specs.Map.{keys}
 use Rattle.rows.specs.Rows.{rows}

@@ -24,6 +24,7 @@ pub fn size_in_range(s: Settings) -> bool
     s.max_message_size <= 4094
 }
 
+// "at most 2^40"
 fn short(d: Millis) -> bool
     ensures { λ r. ⌜ r ≡ leb (d .0) (2 ^ 40) ⌝ }
 {

@@ -13,16 +13,16 @@ ghost use mathlib.Core.Path.{_≡_};
 ghost use mathlib.Core.Bool.{_&&_};
 ghost use Prim.Native.Nat.{_+_, _*_, _≤_, _<_};
 ghost use lib.ListN.{length};
-ghost use Rattle.lists.specs.Base.{all, ascending, sum};
-ghost use Rattle.lists.specs.Map.{keys};
+ghost use Rattle.lists.specs.Base.{ascending, sum};
 ghost use Rattle.rows.specs.Rows.{rows};
 ghost use Rattle.refs.specs.Refs.{refs, places, Below};
-ghost use Rattle.block.specs.View.{stateOf, limitsOf};
+ghost use Rattle.block.specs.View.{limitsOf};
 ghost use Rattle.block.specs.Fit.{Ceilings, Fit};
 ghost use Rattle.block.specs.LinkSteps.{LinksAscend};
 ghost use Rattle.whole.specs.Held.{allBelow, adjoin, allLists};
 ghost use Rattle.whole.specs.Parts.{lengthAt, graftList, missedList, few, linksWhole, receivedCache, receivedWhole, cachedCache, cachedWhole, graftedCache, graftedWhole, missingWhole, timersWhole, queueWhole, recordWhole, tablesWhole};
 
+// A byte as a number that can be an index.
 fn wide(x: u8) -> usize
     ensures { λ r. ⌜ r ≡ x ⌝ }
 {
@@ -48,6 +48,7 @@ pub fn links_whole(h: Head, block: &[u8]) -> bool
     true
 }
 
+// Where the received messages are: tables 2 and 3.
 fn received_cache(h: Head) -> TimeBoundCache
     requires { ⌜ Ceilings (limitsOf (h .limits)) ⌝ }
     ensures { λ r. ⌜ r ≡ receivedCache h ⌝ }
@@ -67,6 +68,7 @@ fn received_cache(h: Head) -> TimeBoundCache
     TimeBoundCache { entries, expiry }
 }
 
+// Where the message cache is: tables 4 and 5.
 fn cached_cache(h: Head) -> TimeBoundCache
     requires { ⌜ Ceilings (limitsOf (h .limits)) ⌝ }
     ensures { λ r. ⌜ r ≡ cachedCache h ⌝ }
@@ -86,6 +88,7 @@ fn cached_cache(h: Head) -> TimeBoundCache
     TimeBoundCache { entries, expiry }
 }
 
+// Where the grafted messages are: tables 7 and 8.
 fn grafted_cache(h: Head) -> TimeBoundCache
     requires { ⌜ Ceilings (limitsOf (h .limits)) ⌝ }
     ensures { λ r. ⌜ r ≡ graftedCache h ⌝ }

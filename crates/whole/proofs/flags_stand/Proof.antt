@@ -1,7 +1,7 @@
 -- `flags_stand`: the queue's, then the record's.
 -- Assumes nothing.
-use mathlib.Core.Path.{_≡_, sym, ap, _∙_}
-use mathlib.Core.Bool.{Bool, true, false, _&&_, _||_}
+use mathlib.Core.Path.{sym, ap, _∙_}
+use mathlib.Core.Bool.{Bool, _&&_, _||_}
 use mathlib.Core.List.{[], _∷_}
 use borrow.Author.Needs.{needs}
 use lib.Dec.{eqb}

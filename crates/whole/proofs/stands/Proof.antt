@@ -1,9 +1,8 @@
 -- `stands`: the two cases.
 -- Assumes nothing.
-use mathlib.Core.Path.{_≡_, sym, ap}
+use mathlib.Core.Path.{sym, ap}
 use mathlib.Core.Bool.{Bool, _||_}
 use borrow.Author.Tests.{eq-eqb, ne-eqb}
-use lib.Dec.{eqb}
 use Rattle.whole.proofs.stands.Statement.{statement}
 use Rattle.whole.proofs.stands.Tie as tie
 

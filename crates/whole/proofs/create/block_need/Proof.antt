@@ -1,10 +1,10 @@
+-- `block_need`: the sum fits, and is the need.
+-- Assumes nothing.
 use native.Mathlib.Omega.{arith}
 use borrow.Author.Needs.{needs}
 use Rattle.protocol.specs.State.{blockNeed}
 use Rattle.whole.proofs.create.block_need.Statement.{statement}
 use Rattle.whole.proofs.create.block_need.Tie as tie
-use Rattle.whole.proofs.create.block_need.Reads as reads
-use Rattle.whole.proofs.create.block_need.Lts as lts
 
 add-result : tie.Need-add-result
 add-result c = search needs

@@ -1,9 +1,8 @@
 -- `create`: the four questions in order, then the header of `State::new`.
 -- Assumes nothing.
 use mathlib.Core.Path.{_≡_, refl, sym, subst}
-use mathlib.Core.Bool.{Bool, true, false}
-use mathlib.Core.List.{List}
-use Prim.Native.Nat.{ℕ, _≤_}
+use mathlib.Core.Bool.{true}
+use Prim.Native.Nat.{_≤_}
 use native.Mathlib.Omega.{arith}
 use borrow.Author.Needs.{needs}
 use lib.ListN.{length}
@@ -11,7 +10,7 @@ use Rattle.protocol.specs.State.{Created, sizeInRange, durationsInRange, limits
 use Rattle.block.specs.View.{settingsOf, limitsOf}
 use Rattle.block.specs.Header.{Stored}
 use Rattle.block.specs.declared.head.Live.{Live}
-use Rattle.whole.specs.Creation.{Refused, Accepted, Creates}
+use Rattle.whole.specs.Creation.{Creates}
 use Rattle.whole.proofs.Tests.{no, yes}
 use Rattle.whole.proofs.HeldLaws.{ceilings-of}
 use Rattle.whole.proofs.CreateLaws.{create-0, create-1, create-2, create-3, create-4, need-header, fresh-accepted}

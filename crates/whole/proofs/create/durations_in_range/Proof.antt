@@ -1,12 +1,12 @@
 -- `durations_in_range`: each of the six tests, in order.
 -- Assumes nothing.
-use mathlib.Core.Path.{_≡_, sym, _∙_}
-use mathlib.Core.Bool.{Bool, true, false, _&&_}
+use mathlib.Core.Path.{sym, _∙_}
+use mathlib.Core.Bool.{Bool}
 use mathlib.Core.List.{List, [], _∷_, _++_}
-use Prim.Native.Nat.{ℕ, _^_}
+use Prim.Native.Nat.{_^_}
 use lib.Dec.{leb}
 use borrow.Author.Needs.{needs}
-use Rattle.whole.proofs.Tests.{conj, stops, ends, no, yes, from-each}
+use Rattle.whole.proofs.Tests.{stops, ends, no, yes, from-each}
 use Rattle.protocol.specs.State.{durationsInRange}
 use Rattle.block.specs.declared.head.Settings.{Settings}
 use Rattle.whole.proofs.create.durations_in_range.Statement.{statement}

@@ -1,6 +1,5 @@
 -- `size_in_range`: the two tests.
 -- Assumes nothing.
-use mathlib.Core.Path.{_≡_}
 use borrow.Author.Tests.{lt-leb, le-leb}
 use Rattle.protocol.specs.State.{sizeInRange}
 use Rattle.whole.proofs.create.size_in_range.Statement.{statement}

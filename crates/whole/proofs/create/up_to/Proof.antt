@@ -1,6 +1,5 @@
 -- `up_to`: the two tests.
 -- Assumes nothing.
-use mathlib.Core.Path.{_≡_}
 use borrow.Author.Tests.{lt-leb, le-leb}
 use Rattle.protocol.specs.State.{upTo}
 use Rattle.whole.proofs.create.up_to.Statement.{statement}

@@ -1,14 +1,8 @@
 -- `cached_cache`: where the two tables are.
 -- Assumes nothing.
-use mathlib.Core.Path.{_≡_}
-use native.Mathlib.Omega.{arith}
 use borrow.Author.Needs.{needs}
 use Rattle.whole.proofs.tables.cached_cache.Statement.{statement}
 use Rattle.whole.proofs.tables.cached_cache.Tie as tie
-use Rattle.whole.proofs.tables.cached_cache.Reads as reads
-use Rattle.whole.proofs.tables.cached_cache.Lts as lts
-use Rattle.block.proofs.head.cached_at.Reads as cached-at-reads
-use Rattle.block.proofs.head.cached_rows_at.Reads as cached-rows-at-reads
 
 cached-at-requires : tie.Need-cached-at-requires
 cached-at-requires c κs = search needs

@@ -1,9 +1,9 @@
 -- `cached_whole`: the test of the time cache in tables 4 and 5, then that the contents adjoin and add up.
 -- Assumes nothing.
 use mathlib.Core.Path.{_≡_, sym, ap, _∙_, subst}
-use mathlib.Core.Bool.{Bool, true, false}
+use mathlib.Core.Bool.{Bool, true}
 use mathlib.Core.List.{List, [], _∷_}
-use Prim.Native.Nat.{ℕ, _+_, _-_, _*_, _≤_}
+use Prim.Native.Nat.{ℕ, _-_}
 use native.Mathlib.Omega.{arith}
 use borrow.Author.Needs.{needs}
 use lib.Dec.{eqb, lit<}
@@ -14,7 +14,6 @@ use Rattle.refs.specs.Refs.{Ref, Below, refs, places}
 use Rattle.time_cache.specs.Tables.{Lies, sound}
 use Rattle.time_cache.specs.declared.cache.TimeBoundCache.{TimeBoundCache}
 use Rattle.time_cache.proofs.Orders.{below-of}
-use Rattle.protocol.specs.State.{Limits}
 use Rattle.protocol.specs.Whole.{contentHeld}
 use Rattle.block.specs.Layout.{place}
 use Rattle.block.specs.View.{limitsOf, stateOf, cachedIn, cachedOf}
@@ -23,7 +22,7 @@ use Rattle.block.specs.declared.head.Head.{Head}
 use Rattle.whole.specs.Held.{adjoin, placesName}
 use Rattle.whole.specs.Parts.{tableOf, lengthAt, cacheWhole, cachedCache, cachedWhole}
 use Rattle.whole.proofs.Tests.{stops, ends, from-each, no, yes}
-use Rattle.whole.proofs.CacheLaws.{cache-sound, cache-below, rows-lent, refs-lent, length-open}
+use Rattle.whole.proofs.LentLaws.{cache-sound, cache-below, rows-lent, refs-lent, length-open}
 use Rattle.whole.proofs.ContentLaws.{content-held}
 use Rattle.whole.proofs.tables.cached_whole.Statement.{statement}
 use Rattle.whole.proofs.tables.cached_whole.Tie as tie

@@ -1,20 +1,16 @@
 -- `contents_adjoin`: the contents from row i on adjoin from `at` just if all adjoin from 0. The measure is m - i.
 -- Assumes nothing.
-use mathlib.Core.Path.{_≡_, refl, sym, ap, _∙_}
-use mathlib.Core.List.{List, []}
-use Prim.Native.Nat.{ℕ, _+_, _-_, _*_, _≤_, _<_}
+use mathlib.Core.Path.{_≡_, refl, sym, _∙_}
+use Prim.Native.Nat.{_-_}
 use native.Mathlib.Omega.{arith}
 use borrow.Author.Needs.{needs}
-use lib.ListN.{length, drop, getD}
+use lib.ListN.{drop}
 use Rattle.rows.specs.Rows.{rows}
 use Rattle.rows.proofs.Rows.{length-rows}
 use Rattle.whole.specs.Held.{adjoin}
 use Rattle.whole.proofs.ContentLaws.{four-at, adjoin-more, adjoin-not, adjoin-end}
 use Rattle.whole.proofs.tables.contents_adjoin.Statement.{statement}
 use Rattle.whole.proofs.tables.contents_adjoin.Tie as tie
-use Rattle.whole.proofs.tables.contents_adjoin.Reads as reads
-use Rattle.whole.proofs.tables.contents_adjoin.Lts as lts
-use Rattle.rows.proofs.word.load4.Reads as load4-reads
 
 abbrev Inv-loop : tie.InvT-loop
 Inv-loop b m used at₀ i₀ at i = adjoin at (drop i (rows 48 m b)) used ≡ adjoin 0 (rows 48 m b) used

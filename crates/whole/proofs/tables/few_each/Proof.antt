@@ -1,10 +1,10 @@
 -- `few_each`: a count for each number of the first i, at most 256. The measure is what is left of the length.
 -- Assumes nothing.
-use mathlib.Core.Path.{_≡_, refl}
-use Prim.Native.Nat.{ℕ, _+_, _-_, _≤_, _<_}
+use mathlib.Core.Path.{refl}
+use Prim.Native.Nat.{_-_, _<_}
 use native.Mathlib.Omega.{arith}
 use borrow.Author.Needs.{needs}
-use lib.ListN.{length, getD}
+use lib.ListN.{length}
 use Rattle.whole.proofs.RecordLaws.{Counted, counted-start, counted-more, counted-over, counted-done, few-short}
 use Rattle.whole.proofs.tables.few_each.Statement.{statement}
 use Rattle.whole.proofs.tables.few_each.Tie as tie

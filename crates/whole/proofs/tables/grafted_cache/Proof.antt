@@ -1,14 +1,8 @@
 -- `grafted_cache`: where the two tables are.
 -- Assumes nothing.
-use mathlib.Core.Path.{_≡_}
-use native.Mathlib.Omega.{arith}
 use borrow.Author.Needs.{needs}
 use Rattle.whole.proofs.tables.grafted_cache.Statement.{statement}
 use Rattle.whole.proofs.tables.grafted_cache.Tie as tie
-use Rattle.whole.proofs.tables.grafted_cache.Reads as reads
-use Rattle.whole.proofs.tables.grafted_cache.Lts as lts
-use Rattle.block.proofs.head.grafted_at.Reads as grafted-at-reads
-use Rattle.block.proofs.head.grafted_rows_at.Reads as grafted-rows-at-reads
 
 grafted-at-requires : tie.Need-grafted-at-requires
 grafted-at-requires c κs = search needs

@@ -1,13 +1,12 @@
 -- `grafted_whole`: the test of the time cache in tables 7 and 8, then the lists of grafted peers.
 -- Assumes nothing.
-use mathlib.Core.Path.{_≡_, refl, sym, ap, _∙_, subst}
-use mathlib.Core.Bool.{Bool, true, false, _&&_}
+use mathlib.Core.Path.{_≡_, sym, ap, _∙_, subst}
+use mathlib.Core.Bool.{Bool, _&&_}
 use mathlib.Core.List.{List, [], _∷_}
-use Prim.Native.Nat.{ℕ, _+_, _-_, _*_, _≤_, _<_}
+use Prim.Native.Nat.{ℕ, _-_, _<_}
 use native.Mathlib.Omega.{arith}
 use borrow.Author.Needs.{needs}
 use lib.Dec.{lit<}
-use lib.ListN.{length, take, drop}
 use Rattle.lists.specs.Base.{all}
 use Rattle.time_cache.specs.Tables.{Lies, sound}
 use Rattle.time_cache.specs.declared.cache.TimeBoundCache.{TimeBoundCache}
@@ -19,7 +18,7 @@ use Rattle.block.specs.declared.head.Head.{Head}
 use Rattle.whole.specs.Held.{numbersName, allLists}
 use Rattle.whole.specs.Parts.{tableOf, cacheWhole, graftList, graftedCache, graftedWhole}
 use Rattle.whole.proofs.Tests.{stops, no, yes}
-use Rattle.whole.proofs.CacheLaws.{cache-sound, lists-lent, length-open}
+use Rattle.whole.proofs.LentLaws.{cache-sound, lists-lent}
 use Rattle.whole.proofs.HopLaws.{grafted-lists}
 use Rattle.whole.proofs.tables.grafted_whole.Statement.{statement}
 use Rattle.whole.proofs.tables.grafted_whole.Tie as tie

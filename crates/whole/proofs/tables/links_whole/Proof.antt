@@ -1,15 +1,12 @@
 -- `links_whole`: the first i peers ascend; a turn compares neighbours. The measure is n - i.
 -- Assumes nothing.
-use mathlib.Core.Path.{_≡_, refl, sym, _∙_}
 use mathlib.Core.Bool.{true, false}
-use mathlib.Core.List.{List}
-use Prim.Native.Nat.{ℕ, _+_, _-_, _≤_, _<_}
+use Prim.Native.Nat.{_-_, _<_}
 use native.Mathlib.Omega.{arith}
 use borrow.Author.Needs.{needs}
-use lib.ListN.{length, getD}
 use Rattle.lists.specs.Map.{keys}
 use Rattle.rows.proofs.Sorted.{AscendTo, ascend-start, ascend-more, ascend-done, ascend-not}
-use Rattle.time_cache.proofs.Orders.{tells-ascending, of-up}
+use Rattle.time_cache.proofs.Orders.{tells-ascending}
 use Rattle.block.specs.View.{stateOf}
 use Rattle.block.proofs.LinkLaws.{count-peers}
 use Rattle.whole.specs.Parts.{linksWhole}

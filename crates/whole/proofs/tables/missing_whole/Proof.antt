@@ -1,9 +1,9 @@
 -- `missing_whole`: the keys of table 9, then the lists of announcers.
 -- Assumes nothing.
-use mathlib.Core.Path.{_≡_, refl, sym, ap, _∙_, subst}
-use mathlib.Core.Bool.{Bool, true, false, _&&_}
+use mathlib.Core.Path.{_≡_, sym, ap, _∙_}
+use mathlib.Core.Bool.{Bool, _&&_}
 use mathlib.Core.List.{List, [], _∷_, map-map}
-use Prim.Native.Nat.{ℕ, _+_, _-_, _*_, _≤_, _<_}
+use Prim.Native.Nat.{ℕ, _-_, _<_}
 use native.Mathlib.Omega.{arith}
 use borrow.Author.Needs.{needs}
 use lib.Dec.{lit<}
@@ -19,7 +19,7 @@ use Rattle.block.specs.declared.head.Head.{Head}
 use Rattle.whole.specs.Held.{numbersName, allLists}
 use Rattle.whole.specs.Parts.{tableOf, missedList, missingWhole}
 use Rattle.whole.proofs.Tests.{stops, no, yes}
-use Rattle.whole.proofs.CacheLaws.{keys-lent, lists-lent, length-open}
+use Rattle.whole.proofs.LentLaws.{keys-lent, lists-lent}
 use Rattle.whole.proofs.HopLaws.{missing-lists}
 use Rattle.whole.proofs.tables.missing_whole.Statement.{statement}
 use Rattle.whole.proofs.tables.missing_whole.Tie as tie

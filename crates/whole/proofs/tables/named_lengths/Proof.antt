@@ -1,11 +1,10 @@
 -- `named_lengths`: the sum over the first i entries, at most 2^32 for each. The measure is n - i.
 -- Assumes nothing.
 use mathlib.Core.Path.{_≡_, refl, sym, ap, _∙_, subst}
-use mathlib.Core.List.{List, []}
 use Prim.Native.Nat.{ℕ, _+_, _-_, _*_, _≤_, _<_}
 use native.Mathlib.Omega.{arith}
 use borrow.Author.Needs.{needs}
-use lib.ListN.{length, take, getD}
+use lib.ListN.{take, getD}
 use lib.Seq.{take-all}
 use Rattle.lists.specs.Base.{sum}
 use Rattle.rows.specs.Rows.{rows}
@@ -15,10 +14,6 @@ use Rattle.whole.specs.Parts.{lengthAt}
 use Rattle.whole.proofs.ContentLaws.{four-at, sum-more}
 use Rattle.whole.proofs.tables.named_lengths.Statement.{statement}
 use Rattle.whole.proofs.tables.named_lengths.Tie as tie
-use Rattle.whole.proofs.tables.named_lengths.Reads as reads
-use Rattle.whole.proofs.tables.named_lengths.Lts as lts
-use Rattle.rows.proofs.word.load2.Reads as load2-reads
-use Rattle.rows.proofs.word.load4.Reads as load4-reads
 
 abbrev Inv-loop : tie.InvT-loop
 Inv-loop e n b m total₀ i₀ total i = (i ≤ n) × (total ≤ 4294967296 * i) × (total ≡ sum (lengthAt (rows 48 m b)) (take i (places (refs 4 n e))))

@@ -1,9 +1,8 @@
 -- `numbers_ascend`: the first j numbers are below m and ascend. The measure is what is left of the length.
 -- Assumes nothing.
-use Prim.Native.Nat.{ℕ, _+_, _-_, _≤_, _<_}
-use native.Mathlib.Omega.{arith}
+use Prim.Native.Nat.{_-_}
 use borrow.Author.Needs.{needs}
-use lib.ListN.{length, getD}
+use lib.ListN.{length}
 use Rattle.whole.proofs.NumberLaws.{Climb, climb-start, climb-more, climb-high, climb-low, climb-done}
 use Rattle.whole.proofs.tables.numbers_ascend.Statement.{statement}
 use Rattle.whole.proofs.tables.numbers_ascend.Tie as tie

@@ -1,13 +1,11 @@
 -- `numbers_below`: `bad` is 0 just if the first i numbers are below m. The measure is what is left of the length.
 -- Assumes nothing.
-use mathlib.Core.Path.{_≡_, refl, sym, ap, _∙_}
-use Prim.Native.Nat.{ℕ, _+_, _-_, _≤_, _<_}
-use native.Mathlib.Omega.{arith}
+use mathlib.Core.Path.{_≡_, sym, _∙_}
+use Prim.Native.Nat.{_-_}
 use borrow.Author.Needs.{needs}
 use borrow.Author.Tests.{lt-ltb, le-ltb}
 use lib.Dec.{eqb, ltb}
 use lib.ListN.{length, take, getD}
-use Rattle.lists.specs.Base.{all}
 use Rattle.whole.specs.Held.{allBelow}
 use Rattle.whole.proofs.AllLaws.{all-none, all-keep, all-drop, all-done}
 use Rattle.whole.proofs.tables.numbers_below.Statement.{statement}

@@ -1,17 +1,14 @@
 -- `queue_whole`: the numbers of table 11.
 -- Assumes nothing.
-use mathlib.Core.Path.{_≡_, refl, sym, ap, _∙_, subst}
-use mathlib.Core.Bool.{Bool, true, false, _&&_}
-use mathlib.Core.List.{List, [], _∷_}
-use Prim.Native.Nat.{ℕ, _+_, _-_, _*_, _≤_, _<_}
+use mathlib.Core.Path.{ap, _∙_}
+use Prim.Native.Nat.{_-_, _<_}
 use native.Mathlib.Omega.{arith}
 use borrow.Author.Needs.{needs}
 use lib.Dec.{lit<}
-use lib.ListN.{length, take, drop}
 use Rattle.block.specs.View.{limitsOf}
 use Rattle.whole.specs.Held.{allBelow}
 use Rattle.whole.specs.Parts.{queueWhole}
-use Rattle.whole.proofs.CacheLaws.{bytes-lent}
+use Rattle.whole.proofs.LentLaws.{bytes-lent}
 use Rattle.whole.proofs.tables.queue_whole.Statement.{statement}
 use Rattle.whole.proofs.tables.queue_whole.Tie as tie
 

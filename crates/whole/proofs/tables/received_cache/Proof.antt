@@ -1,14 +1,8 @@
 -- `received_cache`: where the two tables are.
 -- Assumes nothing.
-use mathlib.Core.Path.{_≡_}
-use native.Mathlib.Omega.{arith}
 use borrow.Author.Needs.{needs}
 use Rattle.whole.proofs.tables.received_cache.Statement.{statement}
 use Rattle.whole.proofs.tables.received_cache.Tie as tie
-use Rattle.whole.proofs.tables.received_cache.Reads as reads
-use Rattle.whole.proofs.tables.received_cache.Lts as lts
-use Rattle.block.proofs.head.received_at.Reads as received-at-reads
-use Rattle.block.proofs.head.received_rows_at.Reads as received-rows-at-reads
 
 received-at-requires : tie.Need-received-at-requires
 received-at-requires c κs = search needs

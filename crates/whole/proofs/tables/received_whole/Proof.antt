@@ -2,9 +2,8 @@
 -- Assumes nothing.
 use mathlib.Core.Path.{_≡_, sym, ap, _∙_, subst}
 use mathlib.Core.List.{List}
-use Prim.Native.Nat.{ℕ, _≤_}
+use Prim.Native.Nat.{ℕ}
 use native.Mathlib.Omega.{arith}
-use borrow.Author.Needs.{needs}
 use lib.Dec.{lit<}
 use Rattle.time_cache.specs.Tables.{Lies, sound}
 use Rattle.time_cache.specs.declared.cache.TimeBoundCache.{TimeBoundCache}
@@ -12,7 +11,7 @@ use Rattle.block.specs.View.{limitsOf, stateOf, receivedIn, nothingOf}
 use Rattle.block.specs.Fit.{Fit}
 use Rattle.block.specs.declared.head.Head.{Head}
 use Rattle.whole.specs.Parts.{receivedCache, receivedWhole}
-use Rattle.whole.proofs.CacheLaws.{cache-sound}
+use Rattle.whole.proofs.LentLaws.{cache-sound}
 use Rattle.whole.proofs.tables.received_whole.Statement.{statement}
 use Rattle.whole.proofs.tables.received_whole.Tie as tie
 

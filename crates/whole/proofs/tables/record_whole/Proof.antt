@@ -1,13 +1,13 @@
 -- `record_whole`: the numbers of table 13, how often each stands, and that each note of tables 13 and 14 stands once.
 -- Assumes nothing.
-use mathlib.Core.Path.{_≡_, refl, sym, ap, _∙_, subst}
-use mathlib.Core.Bool.{Bool, true, false, _&&_}
+use mathlib.Core.Path.{_≡_, sym, ap, _∙_, subst}
+use mathlib.Core.Bool.{Bool, true}
 use mathlib.Core.List.{List, [], _∷_}
-use Prim.Native.Nat.{ℕ, _+_, _-_, _*_, _≤_, _<_}
+use Prim.Native.Nat.{ℕ, _+_, _-_, _<_}
 use native.Mathlib.Omega.{arith}
 use borrow.Author.Needs.{needs}
 use lib.Dec.{lit<}
-use lib.ListN.{length, take, drop, length-take, length-drop}
+use lib.ListN.{length, take, drop, length-drop}
 use lib.Seq.{length-take-le}
 use Rattle.rows.specs.Rows.{rows}
 use Rattle.refs.specs.Refs.{Below}
@@ -21,7 +21,7 @@ use Rattle.block.specs.declared.head.Head.{Head}
 use Rattle.whole.specs.Held.{allBelow}
 use Rattle.whole.specs.Parts.{tableOf, few, recordWhole}
 use Rattle.whole.proofs.Tests.{stops, ends, from-each, no, yes}
-use Rattle.whole.proofs.CacheLaws.{bytes-lent, rows-lent, length-open}
+use Rattle.whole.proofs.LentLaws.{bytes-lent, rows-lent, length-open}
 use Rattle.whole.proofs.RecordLaws.{record-few, record-once, record-none}
 use Rattle.whole.proofs.tables.record_whole.Statement.{statement}
 use Rattle.whole.proofs.tables.record_whole.Tie as tie

@@ -1,11 +1,9 @@
 -- `tables_whole`: each table's test, in order.
 -- Assumes nothing.
-use mathlib.Core.Path.{_≡_, refl, sym, ap, _∙_}
-use mathlib.Core.Bool.{Bool, true, false, _&&_, _||_}
+use mathlib.Core.Path.{sym, _∙_}
+use mathlib.Core.Bool.{Bool}
 use mathlib.Core.List.{List, [], _∷_, _++_}
-use Prim.Native.Nat.{ℕ, _+_, _*_, _≤_, _<_}
-use native.Mathlib.Omega.{arith}
-use borrow.Author.Needs.{needs}
+use Prim.Native.Nat.{ℕ, _+_}
 use Rattle.block.specs.LinkSteps.{LinksAscend}
 use Rattle.block.specs.declared.head.Head.{Head}
 use Rattle.whole.specs.Parts.{linksWhole, receivedWhole, cachedWhole, graftedWhole, missingWhole, timersWhole, queueWhole, recordWhole, tablesWhole}

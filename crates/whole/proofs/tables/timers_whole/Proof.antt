@@ -1,9 +1,8 @@
 -- `timers_whole`: the keys of table 10.
 -- Assumes nothing.
-use mathlib.Core.Path.{_≡_, refl, sym, ap, _∙_, subst}
-use mathlib.Core.Bool.{Bool, true, false, _&&_}
-use mathlib.Core.List.{List, [], _∷_}
-use Prim.Native.Nat.{ℕ, _+_, _-_, _*_, _≤_, _<_}
+use mathlib.Core.Path.{_≡_, refl, ap, _∙_}
+use mathlib.Core.List.{List}
+use Prim.Native.Nat.{ℕ, _-_, _<_}
 use native.Mathlib.Omega.{arith}
 use borrow.Author.Needs.{needs}
 use lib.Dec.{lit<}
@@ -14,7 +13,7 @@ use Rattle.time_cache.proofs.Orders.{tells-ascending}
 use Rattle.block.specs.View.{limitsOf, idAt, timersIn, stateOf}
 use Rattle.block.specs.declared.head.Head.{Head}
 use Rattle.whole.specs.Parts.{tableOf, timersWhole}
-use Rattle.whole.proofs.CacheLaws.{keys-lent, length-open}
+use Rattle.whole.proofs.LentLaws.{keys-lent}
 use Rattle.whole.proofs.tables.timers_whole.Statement.{statement}
 use Rattle.whole.proofs.tables.timers_whole.Tie as tie
 

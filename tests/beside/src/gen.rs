@@ -261,7 +261,7 @@ impl World {
                     r.pick(&[2, 10, 64]),
                     r.pick(&[1, 6, 64]),
                 ],
-                _ => [32, 128, 100, 20000, 60, 60, 60, 400, 300],
+                _ => [32, 128, 100, 20000, r.pick(&[3, 60]), 60, 60, 400, 300],
             },
         }
     }
@@ -444,8 +444,12 @@ impl World {
         }
         let room = |r: &mut Rng| r.pick(&[0, 0, 0, 0, 1, 1, 2, 3, 65535]);
         let n = self.peers.len();
-        match self.r.below(4) {
+        match self.r.below(5) {
             0 => self.peers.iter().map(|p| (*p, 0)).collect(),
+            4 => {
+                let same = self.r.pick(&[0, 1, 1, 2, 3]);
+                self.peers.iter().map(|p| (*p, same)).collect()
+            }
             1 => {
                 let links: Vec<u64> = s.eager.iter().chain(&s.lazy).copied().collect();
                 links.into_iter().map(|p| (p, room(&mut self.r))).collect()
@@ -880,7 +884,7 @@ impl World {
             times.push(u64::MAX);
         }
         if full {
-            times.iter_mut().for_each(|t| *t += 1 << 41);
+            times.iter_mut().for_each(|t| *t = t.saturating_add(1 << 41));
         }
         let some = |r: &mut Rng, ids: &[Id], k: usize| -> Vec<Id> {
             let mut v = ids.to_vec();

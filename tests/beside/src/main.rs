@@ -207,7 +207,7 @@ fn watch(seed: u64, args: &[String]) -> ExitCode {
         .unwrap();
     let text = std::fs::read_to_string(&file).unwrap();
     let _ = std::fs::remove_file(&file);
-    if let Some(code @ 0..=1) = status.code() {
+    if let Some(code) = status.code() {
         return ExitCode::from(code as u8);
     }
     match script::parse(&text) {

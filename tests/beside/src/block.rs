@@ -29,7 +29,6 @@ pub struct Layout {
     pub queue: usize,
     pub dropped_numbers: usize,
     pub dropped: usize,
-    pub end: usize,
 }
 
 impl Layout {
@@ -56,7 +55,6 @@ impl Layout {
             queue: next(34 * (q + 1)),
             dropped_numbers: next(d + 1),
             dropped: next(34 * (d + 1)),
-            end: next(0),
         }
     }
 }
@@ -98,6 +96,36 @@ pub fn limits(b: &[u8]) -> [u64; 9] {
 pub fn live(b: &[u8]) -> [u64; 12] {
     std::array::from_fn(|i| header(b, word::LIVE + i))
 }
+
+/// What is asked of a whole block.
+pub const FAULTS: &[&str] = &[
+    "expiry rows in the order of time",
+    "places among the rows",
+    "keys ascend",
+    "at most 32 peers",
+    "peers are neighbours",
+    "notes' peers are neighbours",
+    "length of the header",
+    "M",
+    "threshold",
+    "durations",
+    "limits",
+    "length",
+    "numbers of entries",
+    "peers ascend",
+    "contents follow each other",
+    "contents end",
+    "contents of named rows",
+    "grafted peers ascend",
+    "an announcer",
+    "announcers once",
+    "missing ascend",
+    "timers ascend",
+    "a queue with its flag",
+    "a record with its flag",
+    "records within 256",
+    "recorded once",
+];
 
 type Read<T> = Result<T, &'static str>;
 

@@ -48,6 +48,8 @@ pub enum Profile {
     Full,
     /// Records that fill by calls.
     Fill,
+    /// The ceilings as limits, from a loaded state.
+    Ceilings,
 }
 
 pub struct World {
@@ -82,10 +84,11 @@ impl World {
             180..=459 => Profile::Tiny,
             460..=699 => Profile::Drops,
             700..=983 => Profile::Graft,
-            984..=997 => Profile::Full,
+            984..=996 => Profile::Full,
+            997..=998 => Profile::Ceilings,
             _ => Profile::Fill,
         };
-        let big = matches!(profile, Profile::Full | Profile::Fill);
+        let big = matches!(profile, Profile::Full | Profile::Fill | Profile::Ceilings);
         let many = if big { 32 } else { r.pick(&[3, 5, 8, 12, 12, 33, 40]) };
         let peers: Vec<u64> = if !big && r.chance(25.0) {
             let mut v = WIDE.to_vec();
@@ -109,6 +112,7 @@ impl World {
         let step = cfg[4].min(cfg[5]).min(1000).max(8) / 4;
         let n = match profile {
             Profile::Full | Profile::Fill => 330,
+            Profile::Ceilings => 600,
             Profile::Drops => r.pick(&[20, 90]),
             _ => r.pick(&[1, 2, 4, 8, 16, 40]),
         };
@@ -116,7 +120,8 @@ impl World {
         let mut ids: Vec<Id> = contents.iter().map(|c| identifier(c)).collect();
         let content_of = ids.iter().enumerate().map(|(i, id)| (*id, i)).collect();
         // A part of the identifiers comes from nothing that is ever sent.
-        for _ in 0..(n / 4).max(1) {
+        let others = if profile == Profile::Ceilings { 2000 } else { (n / 4).max(1) };
+        for _ in 0..others {
             let mut id: Id = r.bytes(32).try_into().unwrap();
             if r.chance(30.0) {
                 // Differing late, or in the bits by which chains are made.
@@ -158,7 +163,7 @@ impl World {
                 scale(&mut weights, &v);
                 scale(&mut weights, &[("story", 20)]);
             }
-            Profile::Full | Profile::Fill => {
+            Profile::Full | Profile::Fill | Profile::Ceilings => {
                 let v = [("dispatch", 14), ("announce", 10), ("down", 1), ("broadcast", 20)];
                 scale(&mut weights, &v);
                 scale(&mut weights, &[("graft", 14), ("evict", 1)]);
@@ -175,6 +180,7 @@ impl World {
             profile,
             calls: match profile {
                 Profile::Full => 40,
+                Profile::Ceilings => 30,
                 Profile::Fill => 700,
                 _ => r.pick(&[20, 60, 150, 300]),
             },
@@ -190,7 +196,7 @@ impl World {
             step,
             bad: if big { 0.5 } else { r.pick(&[0.0, 2.0, 6.0]) },
             tight: match profile {
-                Profile::Drops | Profile::Full | Profile::Fill => 85.0,
+                Profile::Drops | Profile::Full | Profile::Fill | Profile::Ceilings => 85.0,
                 _ => r.pick(&[5.0, 35.0, 70.0]),
             },
             damage: if big { 1.0 } else { r.pick(&[0.0, 0.0, 0.0, 20.0]) },
@@ -237,6 +243,7 @@ impl World {
                 max
             }
             Profile::Default => PANELRUN,
+            Profile::Ceilings => CEILINGS,
             _ => match r.below(4) {
                 0 => PANELRUN,
                 1 => [
@@ -269,7 +276,7 @@ impl World {
     fn content(r: &mut Rng, m: u64, k: usize, big: bool) -> Vec<u8> {
         let x = r.below(100);
         if x < 75 || big {
-            let n = r.index(12);
+            let n = if big && x == 0 { r.index(4000) } else { r.index(12) };
             let mut v = r.bytes(n);
             v.push(k as u8);
             v.push((k / 256) as u8);
@@ -289,7 +296,12 @@ impl World {
         let mut v = vec![Cmd::New { me: self.me, m: self.m, cfg: self.cfg }];
         self.out = self.outputs();
         v.push(Cmd::Limits { max: self.max, out: self.out });
-        if self.profile == Profile::Full || (self.profile != Profile::Fill && self.r.chance(35.0)) {
+        let load = match self.profile {
+            Profile::Full | Profile::Ceilings => true,
+            Profile::Fill => false,
+            _ => self.r.chance(35.0),
+        };
+        if load {
             v.push(Cmd::Load(self.state().text()));
         }
         if self.r.chance(4.0) {
@@ -321,7 +333,7 @@ impl World {
 
     fn outputs(&mut self) -> usize {
         match self.profile {
-            Profile::Full | Profile::Fill => 400_000,
+            Profile::Full | Profile::Fill | Profile::Ceilings => 400_000,
             _ => self.r.pick(&[40_960, 40_960, 200_000, 1000]),
         }
     }
@@ -825,10 +837,19 @@ impl World {
             }
             return Cmd::Poke(v);
         }
+        // In rows of peers: the flags, the count, the first numbers and rounds.
+        let near: &[usize] = match stride {
+            119 => &[0, 1, 2, 3, 13, 14, 22, 22, 23, 23, 24, 24, 25, 55, 57],
+            129 => &[0, 31, 32, 32, 33, 33, 34, 34, 35, 65, 67],
+            _ => &[],
+        };
         let many = r.pick(&[1, 1, 1, 1, 2, 4]);
         let mut v = Vec::new();
         for _ in 0..many {
-            let i = start + r.index(rows * stride);
+            let mut i = start + r.index(rows * stride);
+            if !near.is_empty() && r.chance(80.0) {
+                i = start + stride * r.index(rows) + r.pick(near);
+            }
             let any = r.next() as u8;
             let old = b[i];
             let bit = old ^ (1 << r.below(8));
@@ -849,12 +870,13 @@ impl World {
 
     /// A whole state that no list of calls need lead to.
     fn state(&mut self) -> Snap {
-        let full = self.profile == Profile::Full;
+        let full = matches!(self.profile, Profile::Full | Profile::Ceilings);
+        let top = self.profile == Profile::Ceilings;
         let [n, rm, cm, bm, gm, sm, tm, qm, dm] = self.max.map(|x| x as usize);
         let r = &mut self.r;
         let fill = |r: &mut Rng, most: usize| -> usize {
-            match r.below(4) {
-                0 => 0,
+            match r.below(if top { 2 } else { 4 }) {
+                0 if !top => 0,
                 1 => most,
                 _ => r.index(most + 1),
             }
@@ -896,8 +918,9 @@ impl World {
         };
         let stale = |r: &mut Rng, keys: Vec<(u64, Id)>, ids: &[Id], most: usize| -> Vec<(u64, Id)> {
             let mut v = keys;
-            let more = r.index(most - v.len() + 1);
-            for _ in 0..r.pick(&[0, more, more.min(3)]) {
+            let all = most - v.len();
+            let more = r.index(all + 1);
+            for _ in 0..r.pick(&[0, more, more.min(3), all]) {
                 if !v.is_empty() && r.chance(30.0) {
                     let same = r.pick(&v);
                     v.push(same);
@@ -967,9 +990,9 @@ impl World {
 
         // Queue and record
         let mut queue: Notes = Vec::new();
-        let mut left = if full { r.pick(&[0, 100, 2000]) } else { fill(r, qm) };
+        let mut left = if full { r.pick(&[0, 100, 2000, qm]) } else { fill(r, qm) };
         for p in &peers {
-            let k = r.pick(&[0, 1, 3, 13, 14, 15, 28, 29, 43, 200]).min(left);
+            let k = r.pick(&[0, 1, 3, 13, 14, 15, 28, 29, 43, 200, if top { 600 } else { 2 }]).min(left);
             let k = if r.chance(20.0) { r.index(left + 1) } else { k };
             let few = some(r, &self.ids, 3);
             let v: Vec<(Id, u16)> = (0..k)

@@ -1,5 +1,6 @@
 //! Runs the library beside the Rust. See README.md.
 mod block;
+mod create;
 mod gen;
 mod machine;
 mod paths;
@@ -136,6 +137,7 @@ fn run_list(seed: u64, number: u64, paths: &mut Paths, log: &mut Log) -> Result<
     let mut pair = Pair::default();
     let mut calls = 0;
     log.begin();
+    create::check(seed ^ number)?;
     for c in world.begin() {
         pair.run(log.push(c))?;
     }
@@ -150,6 +152,9 @@ fn run_list(seed: u64, number: u64, paths: &mut Paths, log: &mut Log) -> Result<
             };
             let Cmd::Event { now, event, .. } = c else {
                 pair.run(c)?;
+                if let Some(why) = pair.fault {
+                    paths.fault(why);
+                }
                 continue;
             };
             let seen = pair.panel().see(event);

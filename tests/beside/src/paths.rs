@@ -6,7 +6,10 @@ use oracle::{
     Answer, Seen,
 };
 
-use crate::wire::{self, Action, Message};
+use crate::{
+    block,
+    wire::{self, Action, Message},
+};
 
 /// Every path that a run is meant to hit.
 pub const ALL: &[&str] = &[
@@ -156,8 +159,12 @@ pub const ALL: &[&str] = &[
     "broadcast to eager panel itself",
 ];
 
+/// Paths with the number of calls that took them, and what made blocks not whole.
 #[derive(Default)]
-pub struct Paths(pub BTreeMap<&'static str, u64>);
+pub struct Paths {
+    hits: BTreeMap<&'static str, u64>,
+    faults: BTreeMap<&'static str, u64>,
+}
 
 fn find<'a>(notes: &'a Notes, peer: u64) -> &'a [(Id, u16)] {
     notes.iter().find(|e| e.0 == peer).map_or(&[], |e| &e.1)
@@ -176,7 +183,7 @@ struct Handed {
 impl Paths {
     fn hit(&mut self, name: &'static str) {
         debug_assert!(ALL.contains(&name), "{name}");
-        *self.0.entry(name).or_default() += 1;
+        *self.hits.entry(name).or_default() += 1;
     }
 
     fn hit_if(&mut self, yes: bool, name: &'static str) {
@@ -185,10 +192,9 @@ impl Paths {
         }
     }
 
-    pub fn add(&mut self, other: &Paths) {
-        for (k, n) in &other.0 {
-            *self.0.entry(k).or_default() += n;
-        }
+    /// A poke made the block not whole.
+    pub fn fault(&mut self, why: &'static str) {
+        *self.faults.entry(why).or_default() += 1;
     }
 
     /// Takes in a call. `before` is none if the block was not whole, `seen` if the event isn't one.
@@ -580,12 +586,19 @@ impl Paths {
         let mut o = String::new();
         let mut none = Vec::new();
         for name in ALL {
-            match self.0.get(name) {
+            match self.hits.get(name) {
                 Some(n) => o += &format!("{n:>12}  {name}\n"),
                 None => none.push(*name),
             }
         }
-        o += &format!("paths hit: {} of {}\n", ALL.len() - none.len(), ALL.len());
+        for why in block::FAULTS {
+            match self.faults.get(why) {
+                Some(n) => o += &format!("{n:>12}  not whole: {why}\n"),
+                None => none.push(why),
+            }
+        }
+        let all = ALL.len() + block::FAULTS.len();
+        o += &format!("paths hit: {} of {all}\n", all - none.len());
         for name in none {
             o += &format!("       never  {name}\n");
         }

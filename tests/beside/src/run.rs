@@ -59,6 +59,8 @@ pub struct Pair {
     panel: Option<Panel>,
     /// The state; none if the block is not whole.
     pub snap: Option<Snap>,
+    /// Why the block is not whole.
+    pub fault: Option<&'static str>,
     block: Lent,
     before: Vec<u8>,
     counts: [u64; 3],
@@ -104,6 +106,7 @@ impl Default for Pair {
             limits: Limits { max: [0; 9], out: 0 },
             panel: None,
             snap: None,
+            fault: None,
             block: Lent::new(0),
             before: Vec::new(),
             counts: [0; 3],
@@ -122,10 +125,6 @@ impl Pair {
 
     pub fn block(&self) -> &[u8] {
         self.block.part()
-    }
-
-    pub fn counts(&self) -> [u64; 3] {
-        self.counts
     }
 
     /// Runs a command. The error tells a difference.
@@ -180,6 +179,7 @@ impl Pair {
                 let s = self.saved.take().ok_or("script: nothing to undo")?;
                 self.panel = Some(s.panel);
                 self.snap = Some(s.snap);
+                self.fault = None;
                 self.block.set_len(s.block.len());
                 self.block.part_mut().copy_from_slice(&s.block);
                 self.before = s.block;
@@ -265,6 +265,7 @@ impl Pair {
             return Err(format!("whole {} ({why}), the library {ours}", read.is_ok()));
         }
         self.snap = None;
+        self.fault = read.as_ref().err().copied();
         if let Ok(snap) = read {
             let mut panel = Panel::load(&snap.text()).ok_or("a state that can't be loaded")?;
             panel.set_counts(self.counts);

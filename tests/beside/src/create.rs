@@ -78,6 +78,7 @@ pub fn check(seed: u64) -> Result<(), String> {
     if state.text() != oracle::Panel::new(me, m, cfg).snap().text() || block::limits(&bytes) != max {
         return Err(format!("{told}: another state"));
     }
+    let need = block::need(&max);
     if bytes[need..] != before[need..] || !machine::whole(&bytes) {
         return Err(format!("{told}: past the need, or not whole"));
     }

@@ -1,4 +1,5 @@
 //! Runs the library beside the Rust. See README.md.
+mod bench;
 mod block;
 mod create;
 mod gen;
@@ -6,6 +7,7 @@ mod machine;
 mod paths;
 mod rng;
 mod run;
+mod sample;
 mod script;
 mod wire;
 
@@ -25,6 +27,12 @@ beside [--seed N] [--calls N | --seconds N] [--from LIST]
     random lists of calls on both, compared after each call
 beside --script FILE
     the commands of a file (- for stdin) on both
+beside --sample FILE [--seed N] [--calls N]
+    writes a sample of calls with the Rust's answers
+beside --check FILE
+    a sample on the library
+beside --bench [WORD]
+    times per call, of the kinds whose names have the word
 ";
 
 /// Runs a list of commands; the error tells the difference.
@@ -251,6 +259,26 @@ fn main() -> ExitCode {
         };
     }
     let seed = number("--seed", 1);
+    if let Some(file) = value("--sample") {
+        sample::write(file, seed, number("--calls", 600) as usize);
+        return ExitCode::SUCCESS;
+    }
+    if let Some(file) = value("--check") {
+        return match sample::check(file) {
+            Ok(n) => {
+                println!("{n} calls, 0 different");
+                ExitCode::SUCCESS
+            }
+            Err(e) => {
+                println!("{e}");
+                ExitCode::from(1)
+            }
+        };
+    }
+    if args.iter().any(|a| a == "--bench") {
+        bench::run(value("--bench").map(|w| w.as_str()));
+        return ExitCode::SUCCESS;
+    }
     if let Some(file) = value("--work") {
         let timed = value("--seconds").is_some();
         let calls = number("--calls", if timed { u64::MAX } else { 100_000 });

@@ -581,6 +581,10 @@ impl Paths {
         self.hit_if(announced, "broadcast Swarm to announced");
     }
 
+    pub fn names(&self) -> impl Iterator<Item = &'static str> + '_ {
+        self.hits.keys().copied()
+    }
+
     /// A table of all paths; those never taken last.
     pub fn table(&self) -> String {
         let mut o = String::new();

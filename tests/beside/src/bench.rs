@@ -288,3 +288,20 @@ pub fn run(only: Option<&str>) {
         }
     }
 }
+
+/// One kind of call over and over at full tables, for a profiler.
+pub fn spin(name: &str, ceilings: bool, times: u64) {
+    let max = if ceilings { CEILINGS } else { PANELRUN };
+    let f = filled(&max, (1, 1));
+    let all = cases(&f);
+    let case = all.iter().find(|c| c.name == name).expect("a kind of the table");
+    let mut start = vec![0; block::need(&max)];
+    block::write(&mut Rng::new(3), &mut start, &max, &f.snap);
+    let mut b = start.clone();
+    let rooms: Vec<u64> = case.rooms.iter().flat_map(|(p, r)| [*p, u64::from(*r)]).collect();
+    let mut out = vec![0; 1 << 21];
+    for _ in 0..times {
+        b.copy_from_slice(&start);
+        machine::event(&mut b, &mut [0; 3], case.now, &case.event, &rooms, &mut out);
+    }
+}

@@ -75,6 +75,11 @@ pub struct World {
     out: usize,
 }
 
+/// A link number that stands 256 times.
+fn full_record(numbers: &[u8]) -> Option<u8> {
+    (0..32).find(|k| numbers.iter().filter(|x| *x == k).count() == 256)
+}
+
 impl World {
     pub fn new(seed: u64, list: u64) -> World {
         let mut r = Rng::new(seed.rotate_left(32) ^ list);
@@ -199,7 +204,7 @@ impl World {
                 Profile::Drops | Profile::Full | Profile::Fill | Profile::Ceilings => 85.0,
                 _ => r.pick(&[5.0, 35.0, 70.0]),
             },
-            damage: if big { 1.0 } else { r.pick(&[0.0, 0.0, 0.0, 20.0]) },
+            damage: if big { 8.0 } else { r.pick(&[0.0, 0.0, 0.0, 20.0]) },
             weights,
             pending: Vec::new(),
             plan: Vec::new(),
@@ -289,6 +294,11 @@ impl World {
         // Around the size that is still sent.
         let n = m as usize - 31 - r.index(14);
         r.bytes(n)
+    }
+
+    /// A share of the calls, in percent, that also go to a damaged copy of the block.
+    pub fn set_damage(&mut self, percent: f64) {
+        self.damage = percent;
     }
 
     /// The commands that begin the list.
@@ -398,7 +408,7 @@ impl World {
                     }
                     _ => continue,
                 },
-                Action::Schedule { timer, .. } => match timer {
+                Action::Schedule(timer) => match timer {
                     Timer::SendGraft(id) => wire::send_graft(&id),
                     Timer::Dispatch => wire::DISPATCH.to_vec(),
                     Timer::Evict => wire::EVICT.to_vec(),
@@ -782,6 +792,14 @@ impl World {
             let need = block::need(&self.max);
             let any = r.index(b.len());
             return Cmd::Cut(r.pick(&[0, 1, 2047, 2048, need - 1, need, any]));
+        }
+        if let Some(k) = full_record(&b[at.dropped_numbers..][..n[11]]) {
+            // One more for a peer that has 256.
+            let rows: Vec<usize> =
+                (0..n[11]).filter(|i| b[at.dropped_numbers + i] != k).collect();
+            if !rows.is_empty() && r.chance(30.0) {
+                return Cmd::Poke(vec![(at.dropped_numbers + r.pick(&rows), k)]);
+            }
         }
         // Start, bytes of a row, rows.
         let tables = [

@@ -23,8 +23,10 @@ use run::Pair;
 use script::Cmd;
 
 const HELP: &str = "\
-beside [--seed N] [--calls N | --seconds N] [--from LIST]
+beside [--seed N] [--calls N | --seconds N] [--from LIST] [--damage PERCENT]
     random lists of calls on both, compared after each call
+beside --short
+    every event of at most two bytes, and of three that begin with a kind
 beside --script FILE
     the commands of a file (- for stdin) on both
 beside --sample FILE [--seed N] [--calls N]
@@ -33,6 +35,8 @@ beside --check FILE
     a sample on the library
 beside --bench [WORD]
     times per call, of the kinds whose names have the word
+beside --spin KIND [--ceilings] [--times N]
+    the library alone on one kind of call at full tables, for a profiler
 ";
 
 /// Runs a list of commands; the error tells the difference.
@@ -140,8 +144,17 @@ impl Log {
 }
 
 /// Runs list `number`. Answers the number of event calls, or the difference.
-fn run_list(seed: u64, number: u64, paths: &mut Paths, log: &mut Log) -> Result<u64, String> {
+fn run_list(
+    seed: u64,
+    number: u64,
+    damage: Option<f64>,
+    paths: &mut Paths,
+    log: &mut Log,
+) -> Result<u64, String> {
     let mut world = World::new(seed, number);
+    if let Some(percent) = damage {
+        world.set_damage(percent);
+    }
     let mut pair = Pair::default();
     let mut calls = 0;
     log.begin();
@@ -180,32 +193,69 @@ fn run_list(seed: u64, number: u64, paths: &mut Paths, log: &mut Log) -> Result<
     Ok(calls)
 }
 
+/// What a run is asked for.
+struct Job {
+    seed: u64,
+    from: u64,
+    calls: u64,
+    seconds: u64,
+    damage: Option<f64>,
+}
+
 /// Runs lists until the calls or the time are spent.
-fn work(seed: u64, from: u64, calls: u64, seconds: u64, file: Option<&String>) -> ExitCode {
+fn work(job: &Job, mut log: Log) -> ExitCode {
     let start = Instant::now();
     let mut paths = Paths::default();
     let mut done = 0;
-    let file = file.map(|f| std::fs::File::create(f).unwrap());
-    let mut log = Log { list: Vec::new(), file };
-    let mut number = from;
+    let mut number = job.from;
     let mut shown = start;
-    while done < calls && start.elapsed() < Duration::from_secs(seconds) {
-        match run_list(seed, number, &mut paths, &mut log) {
+    while done < job.calls && start.elapsed() < Duration::from_secs(job.seconds) {
+        match run_list(job.seed, number, job.damage, &mut paths, &mut log) {
             Ok(n) => done += n,
             Err(why) => {
-                report(seed, number, log.list, &why);
+                report(job.seed, number, log.list, &why);
                 return ExitCode::from(1);
             }
         }
         number += 1;
         if shown.elapsed() > Duration::from_secs(20) {
             shown = Instant::now();
-            println!("{done} calls in {} lists, {} s", number - from, start.elapsed().as_secs());
+            println!("{done} calls in {} lists, {} s", number - job.from, start.elapsed().as_secs());
         }
     }
     print!("{}", paths.table());
     let t = start.elapsed().as_secs_f64();
-    println!("seed {seed}: {done} calls in {} lists, 0 different, {t:.0} s", number - from);
+    let lists = number - job.from;
+    println!("seed {}: {done} calls in {lists} lists, 0 different, {t:.0} s", job.seed);
+    ExitCode::SUCCESS
+}
+
+/// Every event of at most two bytes, and those of three whose first is a kind, on one panel.
+fn short(mut log: Log) -> ExitCode {
+    let mut events = vec![vec![]];
+    events.extend((0..=255).map(|a| vec![a]));
+    events.extend((0..=65535u16).map(|x| x.to_be_bytes().to_vec()));
+    for kind in 0..6u8 {
+        events.extend((0..=65535u16).map(|x| [vec![kind], x.to_be_bytes().to_vec()].concat()));
+    }
+    log.begin();
+    let mut pair = Pair::default();
+    let cfg = [80, 40, 5, 7, 30000, 90000, 1000];
+    let mut begin = vec![
+        Cmd::New { me: 1, m: 510, cfg },
+        Cmd::Limits { max: gen::PANELRUN, out: 40960 },
+    ];
+    begin.extend([2, 3, 300].map(|p| Cmd::Event { now: 0, rooms: vec![], event: wire::up(p) }));
+    let calls = events.into_iter().map(|event| Cmd::Event { now: 7, rooms: vec![], event });
+    let mut n = 0;
+    for c in begin.into_iter().chain(calls) {
+        n += 1;
+        if let Err(why) = pair.run(log.push(c)) {
+            report(0, 0, log.list, &why);
+            return ExitCode::from(1);
+        }
+    }
+    println!("short events: {n} commands, 0 different");
     ExitCode::SUCCESS
 }
 
@@ -275,15 +325,30 @@ fn main() -> ExitCode {
             }
         };
     }
+    if let Some(name) = value("--spin") {
+        let ceilings = args.iter().any(|a| a == "--ceilings");
+        bench::spin(name, ceilings, number("--times", 1_000_000));
+        return ExitCode::SUCCESS;
+    }
     if args.iter().any(|a| a == "--bench") {
         bench::run(value("--bench").map(|w| w.as_str()));
         return ExitCode::SUCCESS;
     }
     if let Some(file) = value("--work") {
+        let file = Some(std::fs::File::create(file).unwrap());
+        let log = Log { list: Vec::new(), file };
+        if args.iter().any(|a| a == "--short") {
+            return short(log);
+        }
         let timed = value("--seconds").is_some();
-        let calls = number("--calls", if timed { u64::MAX } else { 100_000 });
-        let seconds = number("--seconds", u64::MAX / 4);
-        return work(seed, number("--from", 0), calls, seconds, Some(file));
+        let job = Job {
+            seed,
+            from: number("--from", 0),
+            calls: number("--calls", if timed { u64::MAX } else { 100_000 }),
+            seconds: number("--seconds", u64::MAX / 4),
+            damage: value("--damage").map(|v| v.parse().expect("a number")),
+        };
+        return work(&job, log);
     }
     watch(seed, &args)
 }

@@ -515,7 +515,7 @@ impl Paths {
         }
         let between = acts
             .windows(3)
-            .any(|w| matches!(w, [Action::Send { .. }, Action::Schedule { .. }, Action::Send { .. }]));
+            .any(|w| matches!(w, [Action::Send { .. }, Action::Schedule(_), Action::Send { .. }]));
         self.hit_if(between, "dispatch schedules announce between sends");
     }
 

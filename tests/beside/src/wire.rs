@@ -106,8 +106,8 @@ pub enum Timer {
 #[derive(Clone, Debug)]
 pub enum Action {
     Send { peer: u64, back: bool, message: Message },
-    Schedule { delay: u64, timer: Timer },
-    Emit { peer: u64, content: Vec<u8>, round: Option<u16> },
+    Schedule(Timer),
+    Emit,
 }
 
 struct Reader<'a>(&'a [u8]);
@@ -181,8 +181,16 @@ pub fn actions(bytes: &[u8]) -> Vec<Action> {
     while !r.0.is_empty() {
         v.push(match r.byte() {
             1 => Action::Send { peer: r.number(), back: r.byte() == 1, message: r.message() },
-            2 => Action::Schedule { delay: r.number(), timer: r.timer() },
-            3 => Action::Emit { peer: r.number(), content: r.content(), round: r.delivery() },
+            2 => {
+                r.number();
+                Action::Schedule(r.timer())
+            }
+            3 => {
+                r.number();
+                r.content();
+                r.delivery();
+                Action::Emit
+            }
             _ => panic!("an action's kind"),
         });
     }

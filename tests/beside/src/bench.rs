@@ -43,10 +43,12 @@ struct Filled {
 
 fn filled(max: &[u64; 9], share: (u64, u64)) -> Filled {
     let r = &mut Rng::new(5);
-    let part = |limit: u64, less: u64| ((limit * share.0 / share.1) as usize).min((limit - less) as usize);
+    let part =
+        |limit: u64, less: u64| ((limit * share.0 / share.1) as usize).min((limit - less) as usize);
     let [n, rm, cm, bm, gm, sm, tm, qm, dm] = *max;
     let links = part(n, 1).max(2);
-    let peers: Vec<u64> = (0..links as u64).map(|i| if i % 2 == 0 { 100 + i } else { 2000 + i }).collect();
+    let peers: Vec<u64> =
+        (0..links as u64).map(|i| if i % 2 == 0 { 100 + i } else { 2000 + i }).collect();
     let mut s = Snap { me: ME, m: 4094, cfg: CFG, init: true, dispatch: true, ..Snap::default() };
     for (i, p) in peers.iter().enumerate() {
         if i % 2 == 0 {
@@ -60,7 +62,8 @@ fn filled(max: &[u64; 9], share: (u64, u64)) -> Filled {
     let later = |r: &mut Rng| NOW + 1 + r.below(30000);
 
     let n = part(cm, 1);
-    let size = if n > 0 { (bm as usize - 200) * share.0 as usize / share.1 as usize / n } else { 0 };
+    let size =
+        if n > 0 { (bm as usize - 200) * share.0 as usize / share.1 as usize / n } else { 0 };
     for _ in 0..n {
         let content = r.bytes(size);
         let id = identifier(&content);
@@ -142,7 +145,11 @@ struct Case {
     now: u64,
     event: Vec<u8>,
     rooms: Vec<(u64, u16)>,
+    /// Makes room for what the call moves.
+    clear: fn(&mut Snap),
 }
+
+fn keep(_: &mut Snap) {}
 
 fn cases(f: &Filled) -> Vec<Case> {
     let s = &f.snap;
@@ -150,13 +157,17 @@ fn cases(f: &Filled) -> Vec<Case> {
     let lazy = s.lazy[s.lazy.len() / 2];
     let new = |k: u8| (identifier(&fresh(k)), fresh(k));
     let mut v = Vec::new();
-    let mut put = |name, event: Vec<u8>| v.push(Case { name, now: NOW, event, rooms: vec![] });
+    let mut put =
+        |name, event: Vec<u8>| v.push(Case { name, now: NOW, event, rooms: vec![], clear: keep });
     let (id, c) = new(1);
     put("Gossip new Swarm, 100 B", wire::recv(eager, &wire::gossip(&id, &c, Some(3))));
     let c = vec![9; 1];
     put("Gossip new Swarm, 1 B", wire::recv(eager, &wire::gossip(&identifier(&c), &c, Some(3))));
     let c = vec![9; 1000];
-    put("Gossip new Neighbors, 1,000 B", wire::recv(eager, &wire::gossip(&identifier(&c), &c, None)));
+    put(
+        "Gossip new Neighbors, 1,000 B",
+        wire::recv(eager, &wire::gossip(&identifier(&c), &c, None)),
+    );
     if let Some(c) = &f.cached {
         let m = wire::gossip(&c.id, &c.content, Some(3));
         put("Gossip duplicate", wire::recv(eager, &m));
@@ -183,7 +194,6 @@ fn cases(f: &Filled) -> Vec<Case> {
     }
     put("SendGraft unknown", wire::send_graft(&id));
     put("DispatchLazyPush", wire::DISPATCH.to_vec());
-    put("AnnounceDropped", wire::ANNOUNCE.to_vec());
     put("EvictCache, none due", wire::EVICT.to_vec());
     put("up, new", wire::up(STRANGER));
     put("up, known", wire::up(lazy));
@@ -194,15 +204,27 @@ fn cases(f: &Filled) -> Vec<Case> {
         now: NOW,
         event: wire::DISPATCH.to_vec(),
         rooms: rooms.clone(),
+        clear: |s| s.dropped.clear(),
+    });
+    v.push(Case {
+        name: "AnnounceDropped",
+        now: NOW,
+        event: wire::ANNOUNCE.to_vec(),
+        rooms: vec![],
+        clear: |s| s.queue.clear(),
     });
     v.push(Case {
         name: "Broadcast Swarm, handed back",
         now: NOW,
         event: wire::broadcast(&fresh(2), true),
         rooms,
+        clear: keep,
     });
-    v.push(Case { name: "EvictCache, half due", now: NOW + 15000, event: wire::EVICT.to_vec(), rooms: vec![] });
-    v.push(Case { name: "EvictCache, all due", now: NOW + 500_000, event: wire::EVICT.to_vec(), rooms: vec![] });
+    for (name, now) in
+        [("EvictCache, half due", NOW + 15000), ("EvictCache, all due", NOW + 500_000)]
+    {
+        v.push(Case { name, now, event: wire::EVICT.to_vec(), rooms: vec![], clear: keep });
+    }
     v
 }
 
@@ -225,6 +247,11 @@ fn clock() -> f64 {
 
 fn measure(max: &[u64; 9], s: &Snap, case: &Case, runs: usize) -> Times {
     let base = clock();
+    let s = &{
+        let mut s = s.clone();
+        (case.clear)(&mut s);
+        s
+    };
     let need = block::need(max);
     let mut start = vec![0; need];
     block::write(&mut Rng::new(3), &mut start, max, s);
@@ -235,16 +262,17 @@ fn measure(max: &[u64; 9], s: &Snap, case: &Case, runs: usize) -> Times {
     let since = |i: Instant| i.elapsed().as_nanos() as f64 - base;
     for _ in 0..runs {
         b.copy_from_slice(&start);
+        // What the call reads is at hand, as it is on the Rust's side.
+        assert!(machine::whole(&b));
+        let i = Instant::now();
+        let w = machine::whole(&b);
+        t.whole = t.whole.min(since(i));
+        assert!(w);
         let mut counts = [0; 3];
         let i = Instant::now();
         let (n, _) = machine::event(&mut b, &mut counts, case.now, &case.event, &rooms, &mut out);
         t.ours = t.ours.min(since(i));
         t.answer = n;
-        b.copy_from_slice(&start);
-        let i = Instant::now();
-        let w = machine::whole(&b);
-        t.whole = t.whole.min(since(i));
-        assert!(w);
     }
     let panel = Panel::load(&s.text()).unwrap();
     let mut bytes = Vec::with_capacity(1 << 21);
@@ -281,7 +309,8 @@ pub fn run(only: Option<&str>) {
                 let t = measure(&max, &f.snap, case, runs);
                 let no = if t.answer == 0 { String::new() } else { format!(" ({})", t.answer) };
                 let x = t.ours / t.rust.max(1.0);
-                let text = format!("{:>8.0} {:>8.0} {x:>6.1}x {:>8.0}{no}", t.rust, t.ours, t.whole);
+                let text =
+                    format!("{:>8.0} {:>8.0} {x:>6.1}x {:>8.0}{no}", t.rust, t.ours, t.whole);
                 line += &format!("|{text:34}");
             }
             println!("{line}");
@@ -295,8 +324,10 @@ pub fn spin(name: &str, ceilings: bool, times: u64) {
     let f = filled(&max, (1, 1));
     let all = cases(&f);
     let case = all.iter().find(|c| c.name == name).expect("a kind of the table");
+    let mut s = f.snap.clone();
+    (case.clear)(&mut s);
     let mut start = vec![0; block::need(&max)];
-    block::write(&mut Rng::new(3), &mut start, &max, &f.snap);
+    block::write(&mut Rng::new(3), &mut start, &max, &s);
     let mut b = start.clone();
     let rooms: Vec<u64> = case.rooms.iter().flat_map(|(p, r)| [*p, u64::from(*r)]).collect();
     let mut out = vec![0; 1 << 21];

@@ -139,9 +139,8 @@ fn ask(yes: bool, what: &'static str) -> Read<()> {
 
 /// Rows of an expiry list.
 fn expiry(b: &[u8], at: usize, stride: usize, n: usize) -> Read<Vec<(u64, Id)>> {
-    let v: Vec<_> = (0..n)
-        .map(|i| (le(b, at + stride * i, 8), id_at(b, at + stride * i + 8)))
-        .collect();
+    let v: Vec<_> =
+        (0..n).map(|i| (le(b, at + stride * i, 8), id_at(b, at + stride * i + 8))).collect();
     ask(v.windows(2).all(|w| w[0].0 <= w[1].0), "expiry rows in the order of time")?;
     Ok(v)
 }
@@ -155,11 +154,15 @@ fn places(b: &[u8], at: usize, stride: usize, n: usize, rows: &[(u64, Id)]) -> R
 }
 
 /// Link numbers with rounds: `n` numbers at `at`, rounds at `rounds`.
-fn numbered(b: &[u8], at: usize, rounds: usize, n: usize, peers: &[u64]) -> Read<Vec<(usize, u16)>> {
+fn numbered(
+    b: &[u8],
+    at: usize,
+    rounds: usize,
+    n: usize,
+    peers: &[u64],
+) -> Read<Vec<(usize, u16)>> {
     ask(n <= 32, "at most 32 peers")?;
-    let v: Vec<_> = (0..n)
-        .map(|j| (b[at + j] as usize, le(b, rounds + 2 * j, 2) as u16))
-        .collect();
+    let v: Vec<_> = (0..n).map(|j| (b[at + j] as usize, le(b, rounds + 2 * j, 2) as u16)).collect();
     ask(v.iter().all(|e| e.0 < peers.len()), "peers are neighbours")?;
     Ok(v)
 }

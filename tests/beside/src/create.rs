@@ -75,7 +75,8 @@ pub fn check(seed: u64) -> Result<(), String> {
         return Ok(());
     }
     let state = block::read(&bytes).map_err(|e| format!("{told}: not whole: {e}"))?;
-    if state.text() != oracle::Panel::new(me, m, cfg).snap().text() || block::limits(&bytes) != max {
+    if state.text() != oracle::Panel::new(me, m, cfg).snap().text() || block::limits(&bytes) != max
+    {
         return Err(format!("{told}: another state"));
     }
     let need = block::need(&max);

@@ -18,21 +18,8 @@ const DEFAULT: [u64; 7] = [80, 40, 5, 7, 30000, 90000, 1000];
 const TOP: u64 = 1 << 62;
 pub const PANELRUN: [u64; 9] = [8, 64, 32, 8192, 16, 16, 16, 64, 64];
 
-const WIDE: [u64; 13] = [
-    0,
-    1,
-    127,
-    128,
-    16383,
-    16384,
-    1 << 32,
-    (1 << 63) - 1,
-    1 << 63,
-    u64::MAX - 1,
-    u64::MAX,
-    7,
-    300,
-];
+const WIDE: [u64; 13] =
+    [0, 1, 127, 128, 16383, 16384, 1 << 32, (1 << 63) - 1, 1 << 63, u64::MAX - 1, u64::MAX, 7, 300];
 
 #[derive(Clone, Copy, PartialEq, Debug)]
 pub enum Profile {
@@ -795,8 +782,7 @@ impl World {
         }
         if let Some(k) = full_record(&b[at.dropped_numbers..][..n[11]]) {
             // One more for a peer that has 256.
-            let rows: Vec<usize> =
-                (0..n[11]).filter(|i| b[at.dropped_numbers + i] != k).collect();
+            let rows: Vec<usize> = (0..n[11]).filter(|i| b[at.dropped_numbers + i] != k).collect();
             if !rows.is_empty() && r.chance(30.0) {
                 return Cmd::Poke(vec![(at.dropped_numbers + r.pick(&rows), k)]);
             }
@@ -820,8 +806,7 @@ impl World {
             (at.dropped, 34, n[11]),
         ];
         let used: Vec<_> = tables.into_iter().filter(|t| t.2 > 0).collect();
-        let (start, stride, rows) =
-            if r.chance(30.0) { tables[0] } else { r.pick(&used) };
+        let (start, stride, rows) = if r.chance(30.0) { tables[0] } else { r.pick(&used) };
         if start == 0 && r.chance(50.0) {
             // A word of the header.
             let i = r.index(block::word::END);
@@ -871,16 +856,7 @@ impl World {
             let any = r.next() as u8;
             let old = b[i];
             let bit = old ^ (1 << r.below(8));
-            let new = r.pick(&[
-                bit,
-                old.wrapping_add(1),
-                old.wrapping_sub(1),
-                0,
-                255,
-                any,
-                32,
-                33,
-            ]);
+            let new = r.pick(&[bit, old.wrapping_add(1), old.wrapping_sub(1), 0, 255, any, 32, 33]);
             v.push((i, new));
         }
         Cmd::Poke(v)
@@ -934,22 +910,23 @@ impl World {
             v.dedup();
             v
         };
-        let stale = |r: &mut Rng, keys: Vec<(u64, Id)>, ids: &[Id], most: usize| -> Vec<(u64, Id)> {
-            let mut v = keys;
-            let all = most - v.len();
-            let more = r.index(all + 1);
-            for _ in 0..r.pick(&[0, more, more.min(3), all]) {
-                if !v.is_empty() && r.chance(30.0) {
-                    let same = r.pick(&v);
-                    v.push(same);
-                } else {
-                    v.push((r.pick(&times), r.pick(ids)));
+        let stale =
+            |r: &mut Rng, keys: Vec<(u64, Id)>, ids: &[Id], most: usize| -> Vec<(u64, Id)> {
+                let mut v = keys;
+                let all = most - v.len();
+                let more = r.index(all + 1);
+                for _ in 0..r.pick(&[0, more, more.min(3), all]) {
+                    if !v.is_empty() && r.chance(30.0) {
+                        let same = r.pick(&v);
+                        v.push(same);
+                    } else {
+                        v.push((r.pick(&times), r.pick(ids)));
+                    }
                 }
-            }
-            r.shuffle(&mut v);
-            v.sort_by_key(|e| e.0);
-            v
-        };
+                r.shuffle(&mut v);
+                v.sort_by_key(|e| e.0);
+                v
+            };
         let k = fill(r, rm);
         s.received = some(r, &self.ids, k).into_iter().map(|id| (id, r.pick(&times))).collect();
         s.rexp = stale(r, s.received.iter().map(|e| (e.1, e.0)).collect(), &self.ids, 2 * rm);
@@ -1010,7 +987,9 @@ impl World {
         let mut queue: Notes = Vec::new();
         let mut left = if full { r.pick(&[0, 100, 2000, qm]) } else { fill(r, qm) };
         for p in &peers {
-            let k = r.pick(&[0, 1, 3, 13, 14, 15, 28, 29, 43, 200, if top { 600 } else { 2 }]).min(left);
+            let k = r
+                .pick(&[0, 1, 3, 13, 14, 15, 28, 29, 43, 200, if top { 600 } else { 2 }])
+                .min(left);
             let k = if r.chance(20.0) { r.index(left + 1) } else { k };
             let few = some(r, &self.ids, 3);
             let v: Vec<(Id, u16)> = (0..k)
@@ -1025,11 +1004,8 @@ impl World {
             }
         }
         s.queue = queue;
-        let mut left = if full {
-            dm.min(r.pick(&[4096, 4096, 4095, 4090, 4000, 3000]))
-        } else {
-            fill(r, dm)
-        };
+        let mut left =
+            if full { dm.min(r.pick(&[4096, 4096, 4095, 4090, 4000, 3000])) } else { fill(r, dm) };
         for p in &peers {
             let k = if full {
                 r.pick(&[256, 256, 256, 255, 254, 250, 200])

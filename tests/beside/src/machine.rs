@@ -59,9 +59,7 @@ pub fn event(
     let out = lent_mut(out);
     let len = lent_mut(&mut length);
     let peer = sender(event);
-    let n = unsafe {
-        r_event(&block, &counts, now, &lent(event), &lent(rooms), peer, &out, &len)
-    };
+    let n = unsafe { r_event(&block, &counts, now, &lent(event), &lent(rooms), peer, &out, &len) };
     (n, length[0])
 }
 

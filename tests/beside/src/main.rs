@@ -220,7 +220,11 @@ fn work(job: &Job, mut log: Log) -> ExitCode {
         number += 1;
         if shown.elapsed() > Duration::from_secs(20) {
             shown = Instant::now();
-            println!("{done} calls in {} lists, {} s", number - job.from, start.elapsed().as_secs());
+            println!(
+                "{done} calls in {} lists, {} s",
+                number - job.from,
+                start.elapsed().as_secs()
+            );
         }
     }
     print!("{}", paths.table());
@@ -241,10 +245,8 @@ fn short(mut log: Log) -> ExitCode {
     log.begin();
     let mut pair = Pair::default();
     let cfg = [80, 40, 5, 7, 30000, 90000, 1000];
-    let mut begin = vec![
-        Cmd::New { me: 1, m: 510, cfg },
-        Cmd::Limits { max: gen::PANELRUN, out: 40960 },
-    ];
+    let mut begin =
+        vec![Cmd::New { me: 1, m: 510, cfg }, Cmd::Limits { max: gen::PANELRUN, out: 40960 }];
     begin.extend([2, 3, 300].map(|p| Cmd::Event { now: 0, rooms: vec![], event: wire::up(p) }));
     let calls = events.into_iter().map(|event| Cmd::Event { now: 7, rooms: vec![], event });
     let mut n = 0;

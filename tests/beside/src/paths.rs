@@ -209,13 +209,18 @@ impl Paths {
         after: Option<&Snap>,
         damaged: bool,
     ) {
-        self.hit(ALL[match answer.number {
-            0 => 0,
-            n => n as usize - 4,
-        }]);
+        self.hit(
+            ALL[match answer.number {
+                0 => 0,
+                n => n as usize - 4,
+            }],
+        );
         if answer.number == 13 {
             for i in 0..12 {
-                self.hit_if(answer.over >> i & 1 == 1 && answer.over.count_ones() == 1, ALL[11 + i]);
+                self.hit_if(
+                    answer.over >> i & 1 == 1 && answer.over.count_ones() == 1,
+                    ALL[11 + i],
+                );
             }
         }
         self.hit_if(answer.number == 14 && out + 1 == answer.need, "14 at one byte");
@@ -419,8 +424,8 @@ impl Paths {
         self.hit("optimise with Graft");
         self.hit_if(best == p, "optimise, sender is the best announcer");
         let back = |k: fn(&Message) -> bool| sends.iter().any(|s| s.1 && k(s.2));
-        let both = back(|m| matches!(m, Message::Graft { .. }))
-            && back(|m| matches!(m, Message::Prune));
+        let both =
+            back(|m| matches!(m, Message::Graft { .. })) && back(|m| matches!(m, Message::Prune));
         self.hit_if(both, "optimise, both handed back");
     }
 
@@ -505,7 +510,10 @@ impl Paths {
             let mine: Vec<_> = handed.iter().filter(|h| h.peer == *p).collect();
             let back = mine.iter().filter(|h| h.back).count();
             self.hit_if(back > 0, "dispatch chunk handed back");
-            self.hit_if(back > 0 && back < mine.len(), "dispatch some chunks of a peer handed back");
+            self.hit_if(
+                back > 0 && back < mine.len(),
+                "dispatch some chunks of a peer handed back",
+            );
             let mut ids: Vec<_> =
                 mine.iter().filter(|h| h.back).flat_map(|h| h.ids.iter()).collect();
             let n = ids.len();

@@ -1,12 +1,7 @@
 //! Runs commands on both, the Rust and the library, and compares after each.
 use oracle::{snap::Snap, Answer, Limits, Panel};
 
-use crate::{
-    block,
-    machine,
-    rng::Rng,
-    script::Cmd,
-};
+use crate::{block, machine, rng::Rng, script::Cmd};
 
 /// Bytes kept around everything that is lent.
 const PAD: usize = 64;

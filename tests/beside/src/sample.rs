@@ -3,13 +3,7 @@ use std::collections::BTreeSet;
 
 use oracle::{Limits, Panel};
 
-use crate::{
-    gen::World,
-    machine, paths::Paths,
-    run::Pair,
-    script::Cmd,
-    wire::number,
-};
+use crate::{gen::World, machine, paths::Paths, run::Pair, script::Cmd, wire::number};
 
 fn bytes(out: &mut Vec<u8>, b: &[u8]) {
     number(out, b.len() as u64);
@@ -183,7 +177,8 @@ pub fn check(file: &str) -> Result<usize, String> {
                 let number = r.byte();
                 let actions = r.bytes();
                 let after = r.numbers();
-                let (a, len) = machine::event(&mut block, &mut counts, now, event, &rooms, &mut out);
+                let (a, len) =
+                    machine::event(&mut block, &mut counts, now, event, &rooms, &mut out);
                 n += 1;
                 let same = a == u64::from(number)
                     && len as usize == actions.len()

@@ -4,14 +4,25 @@ use std::fmt::Write;
 
 #[derive(Clone, Debug, PartialEq)]
 pub enum Cmd {
-    New { me: u64, m: u64, cfg: [u64; 7] },
+    New {
+        me: u64,
+        m: u64,
+        cfg: [u64; 7],
+    },
     /// The nine limits and the output's length. Behind a `New` it creates; later on only the
     /// output's length may change.
-    Limits { max: [u64; 9], out: usize },
+    Limits {
+        max: [u64; 9],
+        out: usize,
+    },
     /// A state, as its line of text.
     Load(String),
     Counts([u64; 3]),
-    Event { now: u64, rooms: Vec<(u64, u16)>, event: Vec<u8> },
+    Event {
+        now: u64,
+        rooms: Vec<(u64, u16)>,
+        event: Vec<u8>,
+    },
     /// Changes bytes of the block.
     Poke(Vec<(usize, u8)>),
     /// Lends only so many bytes of the block.

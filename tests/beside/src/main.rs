@@ -126,11 +126,12 @@ struct Log {
 }
 
 impl Log {
-    fn begin(&mut self) {
+    fn begin(&mut self, number: u64) {
         self.list.clear();
         if let Some(f) = &mut self.file {
             f.set_len(0).unwrap();
             f.rewind().unwrap();
+            writeln!(f, "# list {number}").unwrap();
         }
     }
 
@@ -157,7 +158,7 @@ fn run_list(
     }
     let mut pair = Pair::default();
     let mut calls = 0;
-    log.begin();
+    log.begin(number);
     create::check(seed ^ number)?;
     for c in world.begin() {
         pair.run(log.push(c))?;
@@ -242,7 +243,7 @@ fn short(mut log: Log) -> ExitCode {
     for kind in 0..6u8 {
         events.extend((0..=65535u16).map(|x| [vec![kind], x.to_be_bytes().to_vec()].concat()));
     }
-    log.begin();
+    log.begin(0);
     let mut pair = Pair::default();
     let cfg = [80, 40, 5, 7, 30000, 90000, 1000];
     let mut begin =
@@ -275,8 +276,9 @@ fn watch(seed: u64, args: &[String]) -> ExitCode {
     if let Some(code) = status.code() {
         return ExitCode::from(code as u8);
     }
+    let number = text.lines().next().and_then(|l| l.strip_prefix("# list ")?.parse().ok());
     match script::parse(&text) {
-        Ok(list) => report(seed, 0, list, &status.to_string()),
+        Ok(list) => report(seed, number.unwrap_or(0), list, &status.to_string()),
         Err(e) => println!("{status}: {e}"),
     }
     ExitCode::from(1)

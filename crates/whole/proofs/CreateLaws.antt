@@ -16,15 +16,9 @@ use Rattle.rows.specs.Rows.{rows}
 use Rattle.rows.proofs.Parts.{length-put, drop-put}
 use Rattle.refs.specs.Refs.{refs}
 use Rattle.time_cache.specs.Tables.{cacheOf, expiryRows}
-<<<<<<< HEAD
-use Rattle.protocol.specs.State.{State, Limits, Settings, Created, created, notCreated, create, fresh, zeroCounts, sizeInRange, durationsInRange, limitsInRange, blockNeed}
-use Rattle.protocol.specs.Whole.{contentHeld, whole}
-use Rattle.protocol.proofs.CreatedWhole.{fresh-whole}
-=======
 use Rattle.protocol.specs.State.{Limits, Settings, Created, created, notCreated, create, fresh, zeroCounts, sizeInRange, durationsInRange, limitsInRange, blockNeed}
 use Rattle.protocol.specs.Whole.{contentHeld}
 use Rattle.protocol.proofs.CreatedWhole.{fresh-whole}
->>>>>>> whole
 use Rattle.block.specs.Layout.{tables}
 use Rattle.block.specs.View.{settingsOf, limitsOf, stateOf, linksIn, notesIn, numbered, pairs, missingIn, receivedIn, graftedIn, cachedIn, timersIn}
 use Rattle.block.specs.Header.{wordAt, headBytes, Stored}

@@ -403,7 +403,7 @@ module _ (now sender id : ℕ) (content : List ℕ) (round : ℕ) (r : Run) (c :
   new-sizes =
       let y = ready₃ in
       ap (λ (x : Run). sizesOf (x .state)) take-is
-      ∙ after-sizes id sender round r₃ r₄ (pushed₄ .aside) up₃ (rw (y .missing) (c .missingUp)) (rw (y .timers) (c .timersUp))
+      ∙ after-sizes id sender round r₃ r₄ (pushed₄ .only) up₃ (rw (y .missing) (c .missingUp)) (rw (y .timers) (c .timersUp))
       ∙ rw (recorded) (rw (sizes₃, cached₂) (rw (y .missing, y .timers, y .queue, y .links) refl))
     where
       recorded : sizesOf (r₄ .state) ≡ sizedRecorded (length (r .state .dropped) + pushGains id (r .state .dropped) 0 (backPeers (r .rooms) (eagerTargets sender (keys (graftedFor id (r .state))) (r .state)))) (sizesOf (r₃ .state))
@@ -435,7 +435,7 @@ module _ (now sender id : ℕ) (content : List ℕ) (round : ℕ) (r : Run) (c :
       ++ (if isNeighbour sender (r .state .links) && not (graftOut sender round (graftedFor id (r .state))) then optimiseActions (r .rooms) sender (suc round) (announcers id (r .state)) (r .state) else [])
   taken-actions =
       ap (λ (x : Run). x .actions) take-is
-      ∙ after-actions id sender round r₃ r₄ (pushed₄ .aside)
+      ∙ after-actions id sender round r₃ r₄ (pushed₄ .only)
       ∙ rw (tree₃) (rw (actions₄, dispatch₃, ready₃ .links, ready₃ .peers) refl)
 
   -- its actions

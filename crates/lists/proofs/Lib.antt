@@ -1,3 +1,5 @@
+pub mod MapLaws
 pub mod Lists
 pub mod ListLaws
-pub mod MapLaws
+pub mod KeyLaws
+pub mod Branches

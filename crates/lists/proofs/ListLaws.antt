@@ -1,15 +1,15 @@
 -- Laws of `all`, `any`, `filter`, `count` and `length` on lists, and of the tests of a map's entries.
-use Prim.Native.Nat.{ℕ, zero, suc, _+_, _≤_, _<_}
-use mathlib.Core.Path.{_≡_, refl, sym, ap, _∙_}
+use Prim.Native.Nat.{ℕ, suc, _+_, _≤_}
+use mathlib.Core.Path.{_≡_, refl, sym, ap}
 use mathlib.Core.Bool.{Bool, true, false, not, _&&_, _||_}
 use mathlib.Core.List.{List, [], _∷_, _++_, map}
-use mathlib.Core.Option.{Option, none, some}
+use mathlib.Core.Option.{some}
 use native.Mathlib.Omega.{arith}
-use lib.Dec.{leb, ltb, eqb}
+use lib.Dec.{ltb, eqb}
 use lib.ListN.{length}
-use borrow.Author.Tests.{eqb-true, eq-eqb}
-use Rattle.lists.specs.Base.{if_then_else_, all, any, filter, count, ascending, member, isSome}
-use Rattle.lists.specs.Map.{Map, Entry, entry, keys, lookup, insert, remove, has, insertKey, removeKey}
+use borrow.Author.Tests.{eqb-true}
+use Rattle.lists.specs.Base.{all, any, filter, count, ascending, isSome}
+use Rattle.lists.specs.Map.{Map, Entry, entry, keys, lookup, insert, remove, has}
 use Rattle.lists.proofs.MapLaws.{cases, true≢, and-left, and-right, and-intro, all-head, all-tail, all-cons, lookup-insert-same, lookup-insert-other, lookup-remove-same, lookup-remove-other}
 
 module _ {A : Type 0} where

@@ -1,14 +1,14 @@
 -- The laws of `specs/Map.antt`: what `insert` and `remove` do to `lookup`, and that the keys stay ascending.
-use Prim.Native.Nat.{ℕ, suc, _<_, _≤_}
-use mathlib.Core.Path.{_≡_, refl, sym, ap, subst, _∙_}
+use Prim.Native.Nat.{ℕ, _<_}
+use mathlib.Core.Path.{_≡_, refl, ap, subst}
 use mathlib.Core.Bool.{Bool, true, false, _&&_}
 use mathlib.Core.List.{List, [], _∷_}
 use mathlib.Core.Option.{Option, none, some}
 use native.Mathlib.Omega.{arith}
 use lib.Dec.{ltb, eqb}
-use borrow.Author.Tests.{ltb-true, ltb-false, eqb-true, eqb-false, eq-eqb, ne-eqb, lt-ltb, le-ltb}
+use borrow.Author.Tests.{ltb-true, ltb-false, eqb-true, eqb-false, eq-eqb, lt-ltb}
 use Rattle.lists.specs.Base.{if_then_else_, all, ascending}
-use Rattle.lists.specs.Map.{Map, Entry, entry, keys, lookup, insert, remove}
+use Rattle.lists.specs.Map.{Map, keys, lookup, insert, remove}
 
 -- by the two values of a test
 pub cases {ℓ} : {P : Type ℓ} (b : Bool) → (b ≡ true → P) → (b ≡ false → P) → P

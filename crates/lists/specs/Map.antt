@@ -6,16 +6,20 @@ use mathlib.Core.Option.{Option, none, some}
 use lib.Dec.{ltb, eqb}
 use Rattle.lists.specs.Base.{if_then_else_, isSome}
 
+-- a key and its value
 pub record Entry (A : Type 0) : Type 0 where
   pub key : ℕ
   pub value : A
 
+-- the entries, their keys strictly ascending
 abbrev pub Map : Type 0 → Type 0
 Map A = List (Entry A)
 
+-- an entry made of key and value
 abbrev pub entry : {A : Type 0} → ℕ → A → Entry A
 entry k v = record { key = k; value = v }
 
+-- the keys, in order
 abbrev pub keys : {A : Type 0} → Map A → List ℕ
 keys m = map (λ e. e .key) m
 
@@ -24,6 +28,7 @@ unfoldable pub lookup : {A : Type 0} → ℕ → Map A → Option A
 lookup k [] = none
 lookup k (e ∷ m) = if eqb k (e .key) then some (e .value) else lookup k m
 
+-- the key is there
 abbrev pub has : {A : Type 0} → ℕ → Map A → Bool
 has k m = isSome (lookup k m)
 

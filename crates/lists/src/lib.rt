@@ -1,1 +1,1 @@
-// lists
+// Nothing runs here: lists, maps by number, and their laws.

@@ -1,5 +1,14 @@
 pub mod NumberLaws
-pub mod DecodeLaws
-pub mod ReadBack
+pub mod DecodeWritten
+pub mod FieldBack
 pub mod DecodeBack
 pub mod DecodeFaults
+pub mod Writes
+pub mod Lengths
+pub mod Layouts
+pub mod Listed
+pub mod Worked
+pub mod GroupLaws
+pub mod PlaceLaws
+pub mod AnnouncementLaws
+pub mod EventLaws

@@ -26,6 +26,9 @@ unfoldable pub optionalIdOf : ℕ → List ℕ → Read (Option ℕ)
 optionalIdOf zero rest = got none rest
 optionalIdOf (suc k) rest = readId rest then λ id end. got (some id) end
 
+unfoldable pub readOptionalId : List ℕ → Read (Option ℕ)
+readOptionalId bytes = readKind 2 bytes then λ k rest. optionalIdOf k rest
+
 -- "identifier and round each"
 unfoldable pub readIhave : List ℕ → Read Ihave
 readIhave bytes = readId bytes then λ id rest. readRound rest then λ r end. got (record { id = id; round = r }) end
@@ -35,6 +38,11 @@ unfoldable pub readIhaves : ℕ → List ℕ → Read (List Ihave)
 readIhaves zero bytes = got [] bytes
 readIhaves (suc n) bytes = readIhave bytes then λ h rest. readIhaves n rest then λ hs end. got (h ∷ hs) end
 
+-- the announcements that stand there
+unfoldable pub ihavesIn : Read (List Ihave) → List Ihave
+ihavesIn (got hs rest) = hs
+ihavesIn (fault n) = []
+
 -- a message of kind 0 to 3
 unfoldable pub messageOf : ℕ → List ℕ → Read Message
 messageOf zero bytes =
@@ -43,9 +51,8 @@ messageOf zero bytes =
     readDelivery more then λ d end. got (Gossip id content d) end
 messageOf (suc zero) bytes = got Prune bytes
 messageOf (suc (suc zero)) bytes =
-    readKind 2 bytes then λ k rest.
-    optionalIdOf k rest then λ wanted more.
-    readRound more then λ r end. got (Graft wanted r) end
+    readOptionalId bytes then λ wanted rest.
+    readRound rest then λ r end. got (Graft wanted r) end
 messageOf (suc (suc (suc k))) bytes =
     readNumber bytes then λ n rest.
     readIhaves n rest then λ hs end. got (IHave hs) end

@@ -1,3 +1,11 @@
 pub mod Number
 pub mod Message
 pub mod Decode
+pub mod Values
+pub mod Output
+pub mod Contents
+pub mod Sizes
+pub mod Place
+pub mod Readings
+pub mod Events
+pub mod Wide

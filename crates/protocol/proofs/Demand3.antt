@@ -16,21 +16,22 @@ use Rattle.postcard.specs.Message.{Event}
 use Rattle.protocol.specs.Run.{Run, Room}
 use Rattle.protocol.specs.Ticks.{perMessage}
 use Rattle.protocol.specs.Gossips.{announcers, graftedFor, hopsOf, peersOf}
-use Rattle.protocol.specs.Answer.{Call, askWhole}
-use Rattle.protocol.specs.Calls.{Answered, turnedDown, told, answered, stateAfter, countsAfter, prepend, runCalls}
-use Rattle.protocol.specs.Demand3.{upAfterCall, upAfter, toldUp, tellsDown, took, isOf, fired, HoldsAfter, Demand3}
+use Rattle.protocol.specs.Answer.{Call, Answer, refuse, accept, askWhole}
+use Rattle.protocol.specs.Calls.{stateAfter, countsAfter, prepend, runCalls}
+use Rattle.protocol.specs.Demand3.{byEvent, upAfterCall, upAfter, toldUp, tellsDown, took, isOf, fired, HoldsAfter, Demand3}
 use Rattle.lists.proofs.MapLaws.{cases, true≢, and-left}
-use Rattle.protocol.proofs.Sentence1.{member-marked, one-of, neither-of}
+use Rattle.protocol.proofs.StepNeighbours.{member-marked, one-of, neither-of}
 use Rattle.protocol.proofs.Accepted.{ask-cases}
-use Rattle.protocol.proofs.Trace.{Flagged, Stands, Settled, queuedNow, recordedNow, stillThere, Does, Inv, inv-on}
+use Rattle.protocol.proofs.Invariant.{Stands, Settled, queuedNow, recordedNow, stillThere, Does, Inv, inv-on}
 use Rattle.protocol.proofs.Step.{ranOn, step}
+use Rattle.protocol.proofs.RecordBounds.{Flagged}
 
 -- the lists that stand
 stands-flag : (ns : List Note) (flag : Bool) → Flagged ns flag → (ns ≡ [] → ⊥) → flag ≡ true
 stands-flag [] flag h ne = absurd (ne refl)
 stands-flag (n ∷ ns) flag h ne = h
 
-settled-stands : {p id : ℕ} {a : Answered} {s : State} → Stands p id s → Settled p id a s
+settled-stands : {p id : ℕ} {a : Answer} {s : State} → Stands p id s → Settled p id a s
 settled-stands (inl h) = queuedNow h
 settled-stands (inr h) = recordedNow h
 
@@ -56,8 +57,8 @@ create-fresh c l b s n h =
     not-made k e = let z : false ≡ true = cc in true≢ z
 
 module _ (hash : List ℕ → ℕ) where
-  refused-does : (c : Settings) (s : State) (n : ℕ) → ascending (keys (s .links)) ≡ true → ascending (keys (s .missing)) ≡ true → Does hash c s (turnedDown n) s
-  unfolding upAfterCall tellsDown took isOf fired
+  refused-does : (c : Settings) (s : State) (n : ℕ) → ascending (keys (s .links)) ≡ true → ascending (keys (s .missing)) ≡ true → Does hash c s (refuse n) s
+  unfolding byEvent upAfterCall tellsDown took isOf fired
   refused-does c s n o m = record {
     neighbours = λ p. refl;
     ordered = o;
@@ -70,7 +71,7 @@ module _ (hash : List ℕ → ℕ) where
     announceTimer = λ h. inl (h, refl);
     announcing = λ p id h. (refl, inl h);
     grafting = λ p id h. (refl, inl h);
-    messages = λ id h. stillThere refl h (λ p u d x. settled-stands x);
+    messages = λ id h. stillThere refl (λ v k. k) (λ p u d x. settled-stands x);
   }
 
   module _ (c : Settings) where
@@ -91,7 +92,7 @@ module _ (hash : List ℕ → ℕ) where
       messages = λ id h. true≢ h;
     }
 
-    pub holds-after : (past : List Answered) (s : State) → Inv hash c past s → HoldsAfter hash c past s
+    pub holds-after : (past : List Answer) (s : State) → Inv hash c past s → HoldsAfter hash c past s
     unfolding eagerPeers lazyPeers
     holds-after past s v = record {
       neighbours = λ p h. one-of p s (lookup p (s .links)) (v .neighbours p ∙ h) (member-marked isEager p (s .links) (v .ordered)) (member-marked isLazy p (s .links) (v .ordered));
@@ -105,35 +106,35 @@ module _ (hash : List ℕ → ℕ) where
 
   module _ (c : Settings) (one : 1 ≤ perMessage (c .maxMessageSize)) where
     -- one call more, refused
-    pub refused-inv : (past : List Answered) (s : State) (m : ℕ) → Inv hash c past s → Inv hash c (past ++ (turnedDown m ∷ [])) s
+    pub refused-inv : (past : List Answer) (s : State) (m : ℕ) → Inv hash c past s → Inv hash c (past ++ (refuse m ∷ [])) s
     refused-inv past s m v = inv-on hash c v (refused-does c s m (v .ordered) (v .sorted))
 
     -- one event more, run at any time, with any link room
-    pub event-inv : (past : List Answered) (s : State) (n : Counts) (rooms : List Room) (now : ℕ) (e : Event) → Inv hash c past s →
-        Inv hash c (past ++ (told e (ranOn hash s n rooms now e .actions) (ranOn hash s n rooms now e .full) ∷ [])) (ranOn hash s n rooms now e .state)
+    pub event-inv : (past : List Answer) (s : State) (n : Counts) (rooms : List Room) (now : ℕ) (e : Event) → Inv hash c past s →
+        Inv hash c (past ++ (accept e (ranOn hash s n rooms now e) ∷ [])) (ranOn hash s n rooms now e .state)
     event-inv past s n rooms now e v =
-        inv-on hash c v (subst (λ (z : Settings). Does hash z s (told e (r .actions) (r .full)) (r .state)) (v .settings)
+        inv-on hash c v (subst (λ (z : Settings). Does hash z s (accept e r) (r .state)) (v .settings)
         (step hash s n rooms now e (v .ordered) (v .sorted) (rw (v .settings) one)))
       where
         r : Run
         r = ranOn hash s n rooms now e
 
-    call-inv : (past : List Answered) (s : State) (n : Counts) (k : Call) → Inv hash c past s →
-        Inv hash c (past ++ (answered (askWhole hash s n k) ∷ [])) (stateAfter s (askWhole hash s n k))
-    unfolding answered stateAfter
+    call-inv : (past : List Answer) (s : State) (n : Counts) (k : Call) → Inv hash c past s →
+        Inv hash c (past ++ (askWhole hash s n k ∷ [])) (stateAfter s (askWhole hash s n k))
+    unfolding stateAfter
     call-inv past s n k v =
-        ask-cases hash s n k (λ x. Inv hash c (past ++ (answered x ∷ [])) (stateAfter s x))
+        ask-cases hash s n k (λ x. Inv hash c (past ++ (x ∷ [])) (stateAfter s x))
         (λ m. refused-inv past s m v) (λ e a. event-inv past s n (k .rooms) (k .now) e v)
 
-    run-inv : (ks : List Call) (past : List Answered) (s : State) (n : Counts) → Inv hash c past s →
+    run-inv : (ks : List Call) (past : List Answer) (s : State) (n : Counts) → Inv hash c past s →
         Inv hash c (past ++ runCalls hash s n ks .answers) (runCalls hash s n ks .state)
     unfolding runCalls prepend
     run-inv [] past s n v = rw append-nil v
     run-inv (k ∷ ks) past s n v =
-        let a = answered (askWhole hash s n k) in
+        let a = askWhole hash s n k in
         let s′ = stateAfter s (askWhole hash s n k) in
         let n′ = countsAfter n (askWhole hash s n k) in
-        subst (λ (z : List Answered). Inv hash c z (runCalls hash s′ n′ ks .state)) (append-assoc past (a ∷ []) (runCalls hash s′ n′ ks .answers))
+        subst (λ (z : List Answer). Inv hash c z (runCalls hash s′ n′ ks .state)) (append-assoc past (a ∷ []) (runCalls hash s′ n′ ks .answers))
         (run-inv ks (past ++ (a ∷ [])) s′ n′ (call-inv past s n k v))
 
 pub demand3 : (hash : List ℕ → ℕ) → Demand3 hash

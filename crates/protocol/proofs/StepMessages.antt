@@ -1,54 +1,55 @@
 -- Of one event: no cached message passes a neighbour over (`Does`, its field `messages`).
 use Prim.Native.Nat.{ℕ, suc, _≤_, _<_}
-use mathlib.Core.Path.{_≡_, refl, sym, ap, subst, _∙_}
-use mathlib.Core.Bool.{Bool, true, false, not, _||_}
-use mathlib.Core.List.{List, [], _∷_, _++_}
+use mathlib.Core.Path.{_≡_, refl, sym, subst, _∙_}
+use mathlib.Core.Bool.{true, false, not}
+use mathlib.Core.List.{List, []}
 use mathlib.Core.Logic.{_⊎_, inl, inr}
 use lib.Dec.{leb, ltb, eqb}
 use lib.ListN.{length}
 use borrow.Author.Tests.{eqb-true, ne-eqb, ltb-true, ltb-false, le-leb, lt-leb}
-use Rattle.lists.specs.Base.{if_then_else_, isSome, any, filter, ascending}
+use Rattle.lists.specs.Base.{if_then_else_, any, filter, ascending}
 use Rattle.lists.specs.Map.{has, keys}
 use Rattle.time_cache.specs.TimeCache.{holds, get, put}
 use Rattle.protocol.specs.Links.{isNeighbour}
 use Rattle.postcard.specs.Message.{Delivery, Swarm, Neighbors, Scope, toSwarm, toNeighbors, Message, Gossip, Prune, Graft, IHave, Timer, SendGraft, DispatchLazyPush, EvictCache, AnnounceDropped, Action, Emitted, Event, Received, Broadcast, Fired, Up, Down}
-use Rattle.protocol.specs.State.{State, Counts, Note, withInit}
-use Rattle.protocol.specs.Run.{Run, withState, withCounts, act, send}
+use Rattle.protocol.specs.State.{State, Counts, Note}
+use Rattle.protocol.specs.Run.{Run, withCounts, act}
 use Rattle.protocol.specs.Push.{forPeer, notes}
-use Rattle.protocol.specs.Gossips.{markReceived, cacheAt, graftedFor, linksOf, pruneBack, takeIn, Late, duplicate, repeated, faster, lateKind, keep, onDuplicate, onLateGraftReply, onNew, gossipSize, onGossip, broadcastTo, broadcast}
-use Rattle.protocol.specs.Ticks.{perMessage, onDispatchTimer, onAnnounceDroppedTimer, onEvictCacheTimer}
-use Rattle.protocol.specs.Neighbours.{withoutNotes, forgetPeer, neighborUp, neighborDown}
+use Rattle.protocol.specs.Gossips.{markReceived, cacheAt, graftedFor, updateLinks, takeIn, Late, lateKind, onLateGraftReply, onNew, gossipSize, onGossip, broadcastTo, broadcast}
+use Rattle.protocol.specs.Ticks.{perMessage, onDispatchTimer, onAnnounceDroppedTimer}
+use Rattle.protocol.specs.Neighbours.{withoutNotes, forgetPeer, onNeighborUp, onNeighborDown}
 use Rattle.protocol.specs.Handle.{firstEvent, countMessage, ifNeighbour, onTimer, onMessage, handleMessage, handle}
-use Rattle.protocol.specs.Calls.{told}
-use Rattle.protocol.specs.Demand3.{isDown, tellsDown, isEmit, tookGossip, tookBroadcast, tookByEvent, took, isOf}
+use Rattle.protocol.specs.Answer.{accept}
+use Rattle.protocol.specs.Demand3.{byEvent, isDown, tellsDown, isEmit, tookGossip, tookBroadcast, tookByEvent, took, isOf}
 use Rattle.lists.proofs.MapLaws.{cases, and-left, lookup-insert-other}
-use Rattle.time_cache.proofs.CacheLaws.{eqb-sym}
-use Rattle.protocol.proofs.LinkLaws.{keeps-firstEvent}
-use Rattle.lists.proofs.Lists.{any-append, any-right, any-one, any-filter}
-use Rattle.protocol.proofs.Trace.{Stands, Settled, Kept, stillThere, takenIn}
+use Rattle.lists.proofs.KeyLaws.{eqb-sym}
+use Rattle.protocol.proofs.LinkSteps.{keeps-firstEvent}
+use Rattle.lists.proofs.Lists.{any-filter}
+use Rattle.protocol.proofs.Invariant.{Same, same-holds, Stands, Settled, Kept, stillThere, takenIn}
 use Rattle.protocol.proofs.Walk.{walk-if, walk-firstEvent, walk-eagerPush, walk-afterCache, walk-onDuplicate, walk-onPrune, walk-onGraft, walk-onIHave, walk-onSendGraftTimer}
 use Rattle.protocol.proofs.StepRecord.{sound-first}
-use Rattle.protocol.proofs.Grafts.{Shrinks, shrinks-trans, shrinks-steps}
+use Rattle.protocol.proofs.GraftSteps.{Shrinks, shrinks-trans, shrinks-steps}
 use Rattle.protocol.proofs.StepGrafts.{shrinks-first}
-use Rattle.protocol.proofs.Reach.{Grows, grows-refl, grows-trans, grows-act, grows-steps, grows-sending, grows-lazyPush, grows-announces, grows-leaves, grows-grafts, Got, wentOut, cameBack, inQueue, inRecord, got-grows, got-settled, stands-got, alike}
-use Rattle.protocol.proofs.Pushed.{got-dispatch, cached-dispatch, got-announceDropped, cached-announceDropped}
-use Rattle.protocol.proofs.Taken.{got-takeIn, got-broadcast}
+use Rattle.protocol.proofs.EmitSteps.{quiet-first, quiet-duplicate, emits}
+use Rattle.protocol.proofs.ReachSteps.{Grows, grows-refl, grows-trans, grows-act, grows-steps, grows-sending, grows-lazyPush, grows-announces, grows-leaves, grows-grafts, Got, wentOut, cameBack, inQueue, inRecord, got-grows, got-settled, stands-got, alike}
+use Rattle.protocol.proofs.Pushes.{got-dispatch, cached-dispatch, got-announceDropped, cached-announceDropped}
+use Rattle.protocol.proofs.TakenIn.{got-takeIn, got-broadcast}
 
 -- as `Grows`, but of one identifier's place in the cache
 record GrowsAt (id : ℕ) (r r′ : Run) : Type 0 where
   got : (p : ℕ) → Got p id r → Got p id r′
-  cached : holds id (r′ .state .cache) ≡ true → holds id (r .state .cache) ≡ true
+  cached : Same id (r .state .cache) (r′ .state .cache)
 
 grows-at : (id : ℕ) {r r′ : Run} → Grows r r′ → GrowsAt id r r′
 grows-at id g = record { got = λ p x. got-grows g x; cached = g .cached id }
 
 infixr 4 _⨾_
 _⨾_ : {id : ℕ} {a b c : Run} → GrowsAt id a b → GrowsAt id b c → GrowsAt id a c
-k ⨾ l = record { got = λ p x. l .got p (k .got p x); cached = λ h. k .cached (l .cached h) }
+k ⨾ l = record { got = λ p x. l .got p (k .got p x); cached = λ v h. k .cached v (l .cached v h) }
 
 at-caches : (j now id : ℕ) (content : List ℕ) (round : ℕ) (r : Run) → eqb j id ≡ false → GrowsAt j r (cacheAt now id content round r)
 unfolding cacheAt put
-at-caches j now id content round r n = record { got = λ p x. on p x; cached = λ h. sym (ap isSome (lookup-insert-other j id _ (r .state .cache .entries) n)) ∙ h }
+at-caches j now id content round r n = record { got = λ p x. on p x; cached = λ v h. sym (lookup-insert-other j id _ (r .state .cache .entries) n) ∙ h }
   where
     on : (p : ℕ) → Got p j r → Got p j (cacheAt now id content round r)
     on p (wentOut h) = wentOut h
@@ -71,44 +72,14 @@ at-broadcast hash j now content r n =
 pub grows-first : (now : ℕ) (r : Run) → Grows r (firstEvent now r)
 grows-first now r = walk-firstEvent Grows grows-steps now r
 
--- no emit, no taking in
-
-any-skip : {A : Type 0} (f : A → Bool) (xs : List A) (x : A) → f x ≡ false → any f (xs ++ (x ∷ [])) ≡ any f xs
-any-skip f xs x h = any-append f xs (x ∷ []) ∙ rw (any-one f x, h) (or-none (any f xs))
-  where
-    or-none : (b : Bool) → (b || false) ≡ b
-    or-none true = refl
-    or-none false = refl
-
-abbrev Quiet : Run → Run → Type 0
-Quiet r r′ = any isEmit (r′ .actions) ≡ any isEmit (r .actions)
-
-quiet-if : (r x y : Run) (b : Bool) → Quiet r x → Quiet r y → Quiet r (if b then x else y)
-quiet-if r x y true p q = p
-quiet-if r x y false p q = q
-
-quiet-first : (now : ℕ) (r : Run) → Quiet r (firstEvent now r)
-unfolding firstEvent onEvictCacheTimer act isEmit
-quiet-first now r = quiet-if r r (onEvictCacheTimer now (withState (withInit true (r .state)) r)) (r .state .init) refl (any-skip isEmit (r .actions) _ refl)
-
-quiet-pruneBack : (p : ℕ) (r : Run) → Quiet r (pruneBack p r)
-unfolding pruneBack linksOf send isEmit
-quiet-pruneBack p r = any-skip isEmit (r .actions) _ refl
-
-quiet-duplicate : (p id : ℕ) (l : Late) (r : Run) → Quiet r (onDuplicate p id l r)
-unfolding onDuplicate keep
-quiet-duplicate p id duplicate r = quiet-pruneBack p r
-quiet-duplicate p id repeated r = refl
-quiet-duplicate p id (faster first) r = quiet-pruneBack first (keep id p r)
-
 module _ (hash : List ℕ → ℕ) where
   abbrev KeptBy : ℕ → Event → Run → Run → Type 0
-  KeptBy id e r r′ = Kept hash (r .state .settings) id (r .state) (told e (r′ .actions) (r′ .full)) (r′ .state)
+  KeptBy id e r r′ = Kept hash (r .state .settings) id (r .state) (accept e r′) (r′ .state)
 
   -- an event that does not take it in
   kept-at : (id : ℕ) (e : Event) (r r′ : Run) → isOf id (tookByEvent hash (r .state .settings) e (r′ .actions)) ≡ false → GrowsAt id r r′ → holds id (r′ .state .cache) ≡ true → KeptBy id e r r′
   unfolding took
-  kept-at id e r r′ t g h = stillThere t (g .cached h) (λ p nb nd st. got-settled p id e r′ (g .got p (stands-got p id r st)))
+  kept-at id e r r′ t g h = stillThere t (g .cached) (λ p nb nd st. got-settled p id e r′ h (g .got p (stands-got p id r st)))
 
   -- gossip
 
@@ -116,10 +87,6 @@ module _ (hash : List ℕ → ℕ) where
   unfolding tookGossip isOf
   untaken j p id content (Swarm round) actions h = rw h
   untaken j p id content Neighbors actions h = refl
-
-  emits : (p : ℕ) (content : List ℕ) (d : Delivery) (r : Run) → any isEmit (act (Emitted p content d) r .actions) ≡ true
-  unfolding act isEmit
-  emits p content d r = any-right isEmit (r .actions) _ (any-one isEmit (Emitted p content d))
 
   -- the first event's work is done
   record Begun (r r₁ : Run) : Type 0 where
@@ -138,7 +105,7 @@ module _ (hash : List ℕ → ℕ) where
     kept-swarm round j h =
         cases (eqb j id)
         (λ e. subst (λ (i : ℕ). KeptBy i event r r₃) (sym (eqb-true j id e))
-        (takenIn p (rw (emits p content (Swarm round) r₂)) (λ q ne nb. on q (got-takeIn q now p id content round r₁ (b .ordered) (b .neighbours q ∙ nb) (rw (b .settings) (ne-eqb q (r .state .settings .me) ne))))))
+        (takenIn p (rw (emits p content (Swarm round) r₂)) (λ q ne nb. on (rw (eqb-true j id e) at h) q (got-takeIn q now p id content round r₁ (b .ordered) (b .neighbours q ∙ nb) (rw (b .settings) (ne-eqb q (r .state .settings .me) ne))))))
         (λ e. kept-at j event r r₃ (rw (emits p content (Swarm round) r₂) (eqb-sym id j ∙ e)) (grows e) h)
       where
         event : Event
@@ -150,10 +117,10 @@ module _ (hash : List ℕ → ℕ) where
         r₃ : Run
         r₃ = act (Emitted p content (Swarm round)) r₂
 
-        on : (q : ℕ) → (p ≡ q) ⊎ ((has q (graftedFor id (r₁ .state)) ≡ true) ⊎ Got q id r₂) → (p ≡ q) ⊎ ((has q (graftedFor id (r .state)) ≡ true) ⊎ Settled q id (told event (r₃ .actions) (r₃ .full)) (r₃ .state))
-        on q (inl e) = inl e
-        on q (inr (inl x)) = inr (inl (b .shrinks .grafting q id x))
-        on q (inr (inr x)) = inr (inr (got-settled q id event r₃ (got-grows (grows-act (Emitted p content (Swarm round)) r₂) x)))
+        on : holds id (r₃ .state .cache) ≡ true → (q : ℕ) → (p ≡ q) ⊎ ((has q (graftedFor id (r₁ .state)) ≡ true) ⊎ Got q id r₂) → (p ≡ q) ⊎ ((has q (graftedFor id (r .state)) ≡ true) ⊎ Settled q id (accept event r₃) (r₃ .state))
+        on held q (inl e) = inl e
+        on held q (inr (inl x)) = inr (inl (b .shrinks .grafting q id x))
+        on held q (inr (inr x)) = inr (inr (got-settled q id event r₃ held (got-grows (grows-act (Emitted p content (Swarm round)) r₂) x)))
 
         grows : eqb j id ≡ false → GrowsAt j r r₃
         grows e = grows-at j (b .grows) ⨾ at-takeIn j now p id content round r₁ e ⨾ grows-at j (grows-act (Emitted p content (Swarm round)) r₂)
@@ -186,7 +153,7 @@ module _ (hash : List ℕ → ℕ) where
         cases (eqb j (hash content))
         (λ e. subst (λ (i : ℕ). KeptBy i (Broadcast content toSwarm) r r₂) (sym (eqb-true j (hash content) e))
         (takenIn (r .state .settings .me) (rw small)
-        (λ q ne nb. inr (inr (got-settled q (hash content) (Broadcast content toSwarm) r₂
+        (λ q ne nb. inr (inr (got-settled q (hash content) (Broadcast content toSwarm) r₂ (rw (eqb-true j (hash content) e) at h)
         (got-broadcast hash q now content r₁ (b .ordered) (b .neighbours q ∙ nb) (rw (b .settings) (ne-eqb q (r .state .settings .me) ne))))))))
         (λ e. kept-at j (Broadcast content toSwarm) r r₂ (rw small (eqb-sym (hash content) j ∙ e)) (grows-at j (b .grows) ⨾ at-broadcast hash j now content r₁ e) h)
       where
@@ -265,22 +232,22 @@ module _ (hash : List ℕ → ℕ) where
       (grows-at j (grows-trans r r₁ _ (b .grows) (walk-onSendGraftTimer Grows grows-steps grows-leaves grows-grafts now id r₁))) h
   kept-timer now EvictCache r r₁ b one j h = kept-at j (Fired EvictCache) r _ refl (grows-at j (grows-trans r r₁ _ (b .grows) (grows-steps .evicts now r₁))) h
   kept-timer now DispatchLazyPush r r₁ b one j h =
-      let held : holds j (r₁ .state .cache) ≡ true = cached-dispatch j r₁ h in
-      stillThere refl (b .grows .cached j held) (λ p nb nd st. got-settled p j (Fired DispatchLazyPush) (onDispatchTimer r₁)
+      let held : holds j (r₁ .state .cache) ≡ true = same-holds j (r₁ .state .cache) (onDispatchTimer r₁ .state .cache) (cached-dispatch j r₁) h in
+      stillThere refl (λ v k. b .grows .cached j v (cached-dispatch j r₁ v k)) (λ p nb nd st. got-settled p j (Fired DispatchLazyPush) (onDispatchTimer r₁) h
       (got-dispatch p j r₁ (rw (b .settings) one) (b .neighbours p ∙ nb) held (stands-grows p j (b .grows) st)))
   kept-timer now AnnounceDropped r r₁ b one j h =
-      let held : holds j (r₁ .state .cache) ≡ true = cached-announceDropped j r₁ h in
-      stillThere refl (b .grows .cached j held) (λ p nb nd st. got-settled p j (Fired AnnounceDropped) (onAnnounceDroppedTimer r₁)
+      let held : holds j (r₁ .state .cache) ≡ true = same-holds j (r₁ .state .cache) (onAnnounceDroppedTimer r₁ .state .cache) (cached-announceDropped j r₁) h in
+      stillThere refl (λ v k. b .grows .cached j v (cached-announceDropped j r₁ v k)) (λ p nb nd st. got-settled p j (Fired AnnounceDropped) (onAnnounceDroppedTimer r₁) h
       (got-announceDropped p j r₁ held (stands-grows p j (b .grows) st)))
 
-  grows-up : (p : ℕ) (r : Run) → Grows r (neighborUp p r)
-  unfolding neighborUp linksOf
-  grows-up p r = alike refl refl refl refl refl
+  grows-up : (p : ℕ) (r : Run) → Grows r (onNeighborUp p r)
+  unfolding onNeighborUp updateLinks
+  grows-up p r = alike refl refl refl refl
 
-  kept-down : (q : ℕ) (r : Run) (j : ℕ) → holds j (neighborDown q r .state .cache) ≡ true → KeptBy j (Down q) r (neighborDown q r)
-  unfolding neighborDown forgetPeer took tookByEvent isOf tellsDown isDown
-  kept-down q r j h = stillThere refl h
-      (λ p nb nd st. got-settled p j (Down q) (neighborDown q r) (stands-got p j (neighborDown q r) (stands-down p q j (r .state) nd st)))
+  kept-down : (q : ℕ) (r : Run) (j : ℕ) → holds j (onNeighborDown q r .state .cache) ≡ true → KeptBy j (Down q) r (onNeighborDown q r)
+  unfolding onNeighborDown forgetPeer took tookByEvent isOf tellsDown byEvent isDown
+  kept-down q r j h = stillThere refl (λ v k. k)
+      (λ p nb nd st. got-settled p j (Down q) (onNeighborDown q r) h (stands-got p j (onNeighborDown q r) (stands-down p q j (r .state) nd st)))
 
   pub messages : (now : ℕ) (e : Event) (r : Run) → ascending (keys (r .state .links)) ≡ true → any isEmit (r .actions) ≡ false → 1 ≤ perMessage (r .state .settings .maxMessageSize) →
       (id : ℕ) → holds id (handle hash now e r .state .cache) ≡ true → KeptBy id e r (handle hash now e r)
@@ -288,5 +255,5 @@ module _ (hash : List ℕ → ℕ) where
   messages now (Received p m) r o q one id h = kept-message now p m r _ (counted (countMessage m (firstEvent now r .counts)) (begun now r o q)) id h
   messages now (Broadcast content scope) r o q one id h = kept-broadcast now content r (firstEvent now r) (begun now r o q) scope id h
   messages now (Fired t) r o q one id h = kept-timer now t r (firstEvent now r) (begun now r o q) one id h
-  messages now (Up p) r o q one id h = kept-at id (Up p) r (neighborUp p r) refl (grows-at id (grows-up p r)) h
+  messages now (Up p) r o q one id h = kept-at id (Up p) r (onNeighborUp p r) refl (grows-at id (grows-up p r)) h
   messages now (Down p) r o q one id h = kept-down p r id h

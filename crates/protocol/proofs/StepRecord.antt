@@ -1,26 +1,25 @@
 -- Of one event: the record's bounds, the flags and the timers (`Does`, its fields `settings` to `announceTimer`).
 use Prim.Native.Nat.{ℕ}
 use mathlib.Core.Path.{_≡_, refl, sym, _∙_}
-use mathlib.Core.Bool.{Bool, true, false, not}
-use mathlib.Core.List.{List, [], _∷_}
+use mathlib.Core.Bool.{true, false, not}
+use mathlib.Core.List.{List, []}
 use mathlib.Core.Logic.{_⊎_, inl, inr}
-use Rattle.lists.specs.Base.{isEmpty, any, filter}
+use Rattle.lists.specs.Base.{any}
 use Rattle.protocol.specs.Links.{isNeighbour}
 use Rattle.postcard.specs.Message.{Message, Gossip, Prune, Graft, IHave, SendGraft, DispatchLazyPush, EvictCache, AnnounceDropped, Event, Received, Broadcast, Fired, Up, Down}
-use Rattle.protocol.specs.State.{Counts, Note, withQueue}
+use Rattle.protocol.specs.State.{Counts, withQueue}
 use Rattle.protocol.specs.Run.{Run, withState, withCounts}
 use Rattle.protocol.specs.Push.{forPeer}
-use Rattle.protocol.specs.Gossips.{linksOf}
+use Rattle.protocol.specs.Gossips.{updateLinks}
 use Rattle.protocol.specs.Ticks.{perMessage, queuedPeers, dispatchTo, clearDispatch, onDispatchTimer, onAnnounceDroppedTimer}
-use Rattle.protocol.specs.Neighbours.{withoutNotes, forgetPeer, neighborUp, neighborDown}
+use Rattle.protocol.specs.Neighbours.{withoutNotes, forgetPeer, onNeighborUp, onNeighborDown}
 use Rattle.protocol.specs.Handle.{firstEvent, countMessage, ifNeighbour, onTimer, onMessage, handleMessage, handle}
 use Rattle.protocol.specs.Demand3.{dispatchTick, announceTick, isTick, schedulesTick, firesTick}
 use Rattle.lists.proofs.MapLaws.{true≢}
-use Rattle.lists.proofs.Lists.{or-right}
-use Rattle.protocol.proofs.Trace.{Within, Flagged}
 use Rattle.protocol.proofs.Walk.{walk-if, walk-dispatchTo, walk-firstEvent, walk-onGossip, walk-broadcast, walk-onPrune, walk-onGraft, walk-onIHave, walk-onSendGraftTimer}
-use Rattle.protocol.proofs.Records.{Sound, sound-refl, sound-trans, sound-steps, sound-sending, sound-caches, sound-announces, sound-leaves, sound-grafts, sound-emits, sound-evict, within-filter, Announces, announces-dropped, sum-on}
-use Rattle.protocol.proofs.Pushed.{queue-dispatch}
+use Rattle.protocol.proofs.RecordSteps.{Sound, sound-refl, sound-trans, sound-steps, sound-sending, sound-caches, sound-announces, sound-leaves, sound-grafts, sound-emits, sound-evict, Announces, announces-dropped, sum-on}
+use Rattle.protocol.proofs.Pushes.{queue-dispatch}
+use Rattle.protocol.proofs.RecordBounds.{Within, Flagged, flagged-filter, within-filter}
 
 pub record Timers (e : Event) (r r′ : Run) : Type 0 where
   pub settings : r′ .state .settings ≡ r .state .settings
@@ -52,13 +51,8 @@ k ⨾ l = sound-trans _ _ _ k l
 pub sound-first : (now : ℕ) (r : Run) → Sound r (firstEvent now r)
 sound-first now r = walk-firstEvent Sound sound-steps now r
 
-flagged-filter : (f : Note → Bool) (ns : List Note) (flag : Bool) → Flagged ns flag → Flagged (filter f ns) flag
-unfolding filter
-flagged-filter f [] flag h = refl
-flagged-filter f (n ∷ ns) flag h = or-right (isEmpty (filter f (n ∷ ns))) flag h
-
-sound-down : (p : ℕ) (r : Run) → Sound r (neighborDown p r)
-unfolding neighborDown forgetPeer withoutNotes
+sound-down : (p : ℕ) (r : Run) → Sound r (onNeighborDown p r)
+unfolding onNeighborDown forgetPeer withoutNotes
 sound-down p r = record {
   settings = refl;
   within = λ w. within-filter (λ n. not (forPeer p n)) (r .state .dropped) w;
@@ -69,8 +63,8 @@ sound-down p r = record {
   actions = λ f h. h;
 }
 
-sound-up : (p : ℕ) (r : Run) → Sound r (neighborUp p r)
-unfolding neighborUp linksOf
+sound-up : (p : ℕ) (r : Run) → Sound r (onNeighborUp p r)
+unfolding onNeighborUp updateLinks
 sound-up p r = record { settings = refl; within = λ w. w; queueFlag = λ h. h; recordFlag = λ h. h; dispatchTimer = λ h. inl h; announceTimer = λ h. inl h; actions = λ f h. h }
 
 sound-counts : (c : Counts) (r : Run) → Sound r (withCounts c r)

@@ -11,14 +11,14 @@ use Rattle.postcard.specs.Number.{got, groups, numberBytes, numberLength, readR
 use Rattle.postcard.specs.Message.{Swarm, toSwarm, toNeighbors, Gossip, Prune, Graft, DispatchLazyPush, Sent, Scheduled, messageBytes, timerBytes, actionBytes}
 use Rattle.postcard.specs.Decode.{readMessage, messageOf, readTimer, timerOf, eventOf, readEvent, ended, decodeEvent}
 use Rattle.time_cache.specs.TimeCache.{holds, put, addExpiry, get, valueOf, expiresAt, pop, due, later, popAll, expireUntil, expiresOnTime, inPopOrder}
-use Rattle.protocol.specs.Links.{eagerPeers, lazyPeers, eagerIn, marked, peersMarked, markIfThere, makeEager, makeLazy, linkUp}
+use Rattle.protocol.specs.Links.{eagerPeers, lazyPeers, eagerIn, marked, peersMarked, markIfThere, addEager, addLazy, linkUp}
 use Rattle.protocol.specs.State.{fresh, zeroCounts, sizeInRange, durationsInRange, limitsInRange, upTo}
 use Rattle.protocol.specs.Run.{Run, begin, act, send, hasRoom, useRoom}
 use Rattle.protocol.specs.Push.{scheduleDispatch, sendEach, handedBack, noteForEach, noteAfter, pushTo, eagerTargets, eagerPush, noteFor, lazyPush}
-use Rattle.protocol.specs.Gossips.{gossipSize, farCloser, leastFrom, graftUnlessEager, pruneBack, optimizeTree, linksOf, markReceived, cacheAt, broadcastTo, broadcast}
+use Rattle.protocol.specs.Gossips.{gossipSize, farCloser, leastFrom, graftUnlessEager, pruneBack, optimizeTree, updateLinks, markReceived, cacheAt, broadcastTo, broadcast}
 use Rattle.protocol.specs.Ticks.{perMessage, queuedPeers, dispatchTo, clearDispatch, onDispatchTimer, evict, onEvictCacheTimer}
 use Rattle.protocol.specs.Control.{onPrune}
-use Rattle.protocol.specs.Neighbours.{neighborUp}
+use Rattle.protocol.specs.Neighbours.{onNeighborUp}
 use Rattle.protocol.specs.Handle.{firstEvent, countMessage, oneControl, ifNeighbour, onTimer, onMessage, handleMessage, handle}
 use Rattle.protocol.specs.Whole.{contentHeld, cacheFits, fits, inRange, keysOnce, neighbours, notedOnce, recordWithin, flagsStand, whole}
 use Rattle.protocol.specs.Answer.{messageFits, countsBelow, countsStay, outputOf, lastTwo, tooFarMessage, tooFar, askOf, askRead, ask, askWhole}
@@ -50,9 +50,9 @@ pub record Worked (hash : List ℕ → ℕ) : Type 0 where
   pub size128 : gossipSize 128 toSwarm ≡ 167
   pub sizeNeighbors : gossipSize 0 toNeighbors ≡ 35
   -- "M 510: content 471 is sent, 472 isn't"
-  pub sent471 : (panel 510 ▷ neighborUp 2 ▷ broadcast hash 0 (zeros 471) toSwarm) .actions
+  pub sent471 : (panel 510 ▷ onNeighborUp 2 ▷ broadcast hash 0 (zeros 471) toSwarm) .actions
       ≡ (Scheduled 5 DispatchLazyPush ∷ Sent 2 true (Gossip (hash (zeros 471)) (zeros 471) (Swarm 0)) ∷ [])
-  pub unsent472 : (panel 510 ▷ neighborUp 2 ▷ broadcast hash 0 (zeros 472) toSwarm) .actions ≡ []
+  pub unsent472 : (panel 510 ▷ onNeighborUp 2 ▷ broadcast hash 0 (zeros 472) toSwarm) .actions ≡ []
   -- "IHave 14 per message; M 4,094: 116"
   pub ihave510 : perMessage 510 ≡ 14
   pub ihave4094 : perMessage 4094 ≡ 116
@@ -64,9 +64,9 @@ pub record Worked (hash : List ℕ → ℕ) : Type 0 where
   pub read128 : readRound (0x80 ∷ 0x01 ∷ []) ≡ got 128 []
   pub read65535 : readRound (0xFF ∷ 0xFF ∷ 0x03 ∷ []) ≡ got 65535 []
   -- "Threshold 7, r = 9: announcer round 3 optimises, 4 doesn't"
-  pub optimises : (panel 4094 ▷ neighborUp 2 ▷ neighborUp 3 ▷ onPrune 3 ▷ optimizeTree 2 10 (record { peer = 3; round = 3 } ∷ [])) .actions
+  pub optimises : (panel 4094 ▷ onNeighborUp 2 ▷ onNeighborUp 3 ▷ onPrune 3 ▷ optimizeTree 2 10 (record { peer = 3; round = 3 } ∷ [])) .actions
       ≡ Sent 3 true (Graft none 3) ∷ Sent 2 true Prune ∷ []
-  pub doesNot : (panel 4094 ▷ neighborUp 2 ▷ neighborUp 3 ▷ onPrune 3 ▷ optimizeTree 2 10 (record { peer = 3; round = 4 } ∷ [])) .actions ≡ []
+  pub doesNot : (panel 4094 ▷ onNeighborUp 2 ▷ onNeighborUp 3 ▷ onPrune 3 ▷ optimizeTree 2 10 (record { peer = 3; round = 4 } ∷ [])) .actions ≡ []
   -- "Cached at 0: evicting at 29,999 keeps, 30,000 removes; put again at 10,000, evicting at 30,000 keeps"
   pub keeps : holds 9 ((panel 4094 ▷ cacheAt 0 9 [] 1 ▷ onEvictCacheTimer 29999) .state .cache) ≡ true
   pub removes : holds 9 ((panel 4094 ▷ cacheAt 0 9 [] 1 ▷ onEvictCacheTimer 30000) .state .cache) ≡ false
@@ -74,9 +74,9 @@ pub record Worked (hash : List ℕ → ℕ) : Type 0 where
 
 pub worked : (hash : List ℕ → ℕ) → Worked hash
 unfolding count any filter member lookup insert remove groups numberBytes numberLength readRound readGroups lastGroup put addExpiry get valueOf expiresAt pop due later popAll expireUntil
-    peersMarked eagerPeers lazyPeers eagerIn marked markIfThere makeEager makeLazy linkUp fresh zeroCounts act send hasRoom useRoom scheduleDispatch sendEach handedBack noteForEach
-    noteAfter pushTo eagerTargets eagerPush noteFor lazyPush gossipSize farCloser leastFrom graftUnlessEager pruneBack optimizeTree linksOf markReceived cacheAt broadcastTo broadcast
-    perMessage evict onEvictCacheTimer onPrune neighborUp panelLimits
+    peersMarked eagerPeers lazyPeers eagerIn marked markIfThere addEager addLazy linkUp fresh zeroCounts act send hasRoom useRoom scheduleDispatch sendEach handedBack noteForEach
+    noteAfter pushTo eagerTargets eagerPush noteFor lazyPush gossipSize farCloser leastFrom graftUnlessEager pruneBack optimizeTree updateLinks markReceived cacheAt broadcastTo broadcast
+    perMessage evict onEvictCacheTimer onPrune onNeighborUp panelLimits
 worked hash = record {
   size0 = refl;
   size127 = refl;
@@ -106,7 +106,7 @@ pub panelrun-example : (hash : List ℕ → ℕ) →
 unfolding panelrun runRecords readRecords orCut readRecord readLengthed written readNumber readBytes readGroups lastGroup readKind askWhole ask askRead askOf lastTwo
     tooFar tooFarMessage messageFits countsStay countsBelow outputOf concatMap actionBytes timerBytes messageBytes numberBytes groups decodeEvent ended readEvent eventOf readTimer timerOf readMessage messageOf
     stateAfter countsAfter handle handleMessage onMessage ifNeighbour onTimer countMessage oneControl firstEvent onEvictCacheTimer evict expireUntil due later popAll
-    onDispatchTimer dispatchTo queuedPeers clearDispatch perMessage neighborUp linksOf linkUp lookup insert act
+    onDispatchTimer dispatchTo queuedPeers clearDispatch perMessage onNeighborUp updateLinks linkUp lookup insert act
     whole inRange sizeInRange durationsInRange limitsInRange upTo fits cacheFits contentHeld sum keysOnce ascending all any neighbours notedOnce recordWithin expiresOnTime inPopOrder flagsStand
     fresh zeroCounts panelSettings panelLimits
 panelrun-example hash = refl

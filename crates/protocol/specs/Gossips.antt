@@ -1,17 +1,17 @@
 -- Document 01, "Gossip", "Optimise", "Broadcast": `on_gossip`, `on_late_graft_reply`, `optimize_tree`, `broadcast`.
 use Prim.Native.Nat.{ℕ, suc, _+_, _-_, max}
-use mathlib.Core.Bool.{Bool, true, false, not, _&&_, _||_}
+use mathlib.Core.Bool.{Bool, false, not, _&&_, _||_}
 use mathlib.Core.List.{List, [], _∷_}
 use mathlib.Core.Option.{Option, none, some}
 use lib.Dec.{leb, ltb, eqb}
 use lib.ListN.{length}
 use Rattle.lists.specs.Base.{if_then_else_, _▷_, any}
-use Rattle.lists.specs.Map.{Map, Entry, keys, lookup, insert, remove, has, removeKey}
+use Rattle.lists.specs.Map.{Map, keys, lookup, remove, has, removeKey}
 use Rattle.time_cache.specs.TimeCache.{get, holds, put, replace}
-use Rattle.protocol.specs.Links.{Links, isNeighbour, eagerIn, makeEager, makeLazy}
-use Rattle.postcard.specs.Number.{numberLength}
-use Rattle.postcard.specs.Message.{Delivery, Swarm, Neighbors, Scope, toSwarm, toNeighbors, Message, Prune, Graft}
-use Rattle.protocol.specs.State.{State, Hop, Grafts, Counts, withLinks, withMissing, withReceived, withGrafted, withCache, withGraftTimers}
+use Rattle.protocol.specs.Links.{Links, isNeighbour, eagerIn, addEager, addLazy}
+unfoldable pub use Rattle.postcard.specs.Sizes.{gossipSize}
+use Rattle.postcard.specs.Message.{Delivery, Swarm, Neighbors, Scope, toSwarm, toNeighbors, Prune, Graft}
+use Rattle.protocol.specs.State.{State, Hop, Grafts, withLinks, withMissing, withReceived, withGrafted, withCache, withGraftTimers}
 use Rattle.protocol.specs.Run.{Run, withState, withCounts, send, emit}
 use Rattle.protocol.specs.Push.{eagerPush, lazyPush}
 
@@ -30,6 +30,7 @@ unfoldable pub hopsOf : Option (List Hop) → List Hop
 hopsOf none = []
 hopsOf (some hs) = hs
 
+-- the announcers of the identifier; none if it is not missing
 unfoldable pub announcers : ℕ → State → List Hop
 announcers id s = hopsOf (lookup id (s .missing))
 
@@ -38,6 +39,7 @@ unfoldable pub peersOf : Option Grafts → Map ℕ
 peersOf none = []
 peersOf (some g) = g .peers
 
+-- the peers grafted for the identifier; none if it has no entry
 unfoldable pub graftedFor : ℕ → State → Map ℕ
 graftedFor id s = peersOf (get id (s .grafted))
 
@@ -46,6 +48,7 @@ unfoldable pub withFirst : ℕ → Hop → Option Grafts → State → State
 withFirst id h none s = s
 withFirst id h (some g) s = withGrafted (replace id (record { first = some h; kept = g .kept; peers = g .peers }) (s .grafted)) s
 
+-- the entry, if there is one, gets its `first`
 unfoldable pub setFirst : ℕ → ℕ → ℕ → Run → Run
 setFirst id sender round r =
     r ▷ withState (withFirst id (record { peer = sender; round = round }) (get id (r .state .grafted)) (r .state))
@@ -72,18 +75,19 @@ leastFrom best (h ∷ hs) = if ltb (h .round) (best .round) then leastFrom h hs 
 unfoldable pub farCloser : ℕ → ℕ → ℕ → Bool
 farCloser threshold round a = ltb a round && leb threshold (round - a)
 
-unfoldable pub linksOf : (Links → Links) → Run → Run
-linksOf f r = r ▷ withState (withLinks (f (r .state .links)) (r .state))
+-- the links changed by a function
+unfoldable pub updateLinks : (Links → Links) → Run → Run
+updateLinks f r = r ▷ withState (withLinks (f (r .state .links)) (r .state))
 
 -- "Graft without identifier unless eager"
 unfoldable pub graftUnlessEager : Hop → Run → Run
 graftUnlessEager h r =
     if eagerIn (h .peer) (r .state .links) then r
-    else (r ▷ linksOf (makeEager (h .peer)) ▷ send (h .peer) (Graft none (h .round)))
+    else (r ▷ updateLinks (addEager (h .peer)) ▷ send (h .peer) (Graft none (h .round)))
 
 -- "a neighbour sender goes lazy, and Prune"
 unfoldable pub pruneBack : ℕ → Run → Run
-pruneBack p r = r ▷ linksOf (makeLazy p) ▷ send p Prune
+pruneBack p r = r ▷ updateLinks (addLazy p) ▷ send p Prune
 
 -- `optimize_tree`, at the round that is sent on (r + 1)
 unfoldable pub optimizeTree : ℕ → ℕ → List Hop → Run → Run
@@ -124,6 +128,7 @@ pub data Late : Type 0 where
   -- a grafted peer's path is no longer than that of the first sender, who goes lazy
   faster : ℕ → Late
 
+-- the peer is the one that is there
 unfoldable pub sameAs : ℕ → Option ℕ → Bool
 sameAs p none = false
 sameAs p (some q) = eqb p q
@@ -142,6 +147,7 @@ lateFrom sender d l g (some f) =
     else if noMoreHops d (f .round) && not (has (f .peer) (g .peers)) && eagerIn sender l && eagerIn (f .peer) l then faster (f .peer)
     else duplicate
 
+-- the same, of the grafted entry that is there or not
 unfoldable pub lateKind : ℕ → Delivery → Links → Option Grafts → Late
 lateKind sender d l none = duplicate
 lateKind sender d l (some g) = lateFrom sender d l g (g .first)
@@ -151,14 +157,15 @@ unfoldable pub withKept : ℕ → ℕ → Option Grafts → State → State
 withKept id p none s = s
 withKept id p (some g) s = withGrafted (replace id (record { first = g .first; kept = some p; peers = g .peers }) (s .grafted)) s
 
-unfoldable pub keep : ℕ → ℕ → Run → Run
-keep id p r = r ▷ withState (withKept id p (get id (r .state .grafted)) (r .state))
+-- the entry's `kept` is the sender
+unfoldable pub setKept : ℕ → ℕ → Run → Run
+setKept id p r = r ▷ withState (withKept id p (get id (r .state .grafted)) (r .state))
 
 -- "Received before: late Graft reply, else a neighbour sender goes lazy, and Prune"
 unfoldable pub onDuplicate : ℕ → ℕ → Late → Run → Run
 onDuplicate sender id duplicate r = pruneBack sender r
 onDuplicate sender id repeated r = r
-onDuplicate sender id (faster first) r = r ▷ keep id sender ▷ pruneBack first
+onDuplicate sender id (faster first) r = r ▷ setKept id sender ▷ pruneBack first
 
 -- `on_late_graft_reply`, and what follows it
 unfoldable pub onLateGraftReply : ℕ → ℕ → Delivery → Run → Run
@@ -168,11 +175,6 @@ onLateGraftReply sender id d r = onDuplicate sender id (lateKind sender d (r .st
 unfoldable pub onNew : ℕ → ℕ → ℕ → List ℕ → Delivery → Run → Run
 onNew now sender id content (Swarm round) r = r ▷ takeIn now sender id content round ▷ emit sender content (Swarm round)
 onNew now sender id content Neighbors r = r ▷ emit sender content Neighbors
-
--- "Size is content + its length's groups + 37, or 34 for Neighbors" (`max_gossip_size`)
-unfoldable pub gossipSize : ℕ → Scope → ℕ
-gossipSize n toSwarm = n + numberLength n + 37
-gossipSize n toNeighbors = n + numberLength n + 34
 
 module _ (hash : List ℕ → ℕ) where
   -- `on_gossip`

@@ -1,15 +1,15 @@
 -- Document 01, "Record" and the two pushes of "Gossip": `note_dropped`, `schedule_announce_dropped`, `schedule_dispatch`, `eager_push`, `lazy_push`, `send_ihave`.
 use Prim.Native.Nat.{ℕ}
-use mathlib.Core.Bool.{Bool, true, false, not, _&&_, _||_}
+use mathlib.Core.Bool.{Bool, true, not, _&&_, _||_}
 use mathlib.Core.List.{List, [], _∷_, _++_}
 use lib.Dec.{leb, eqb}
 use lib.ListN.{length}
 use Rattle.lists.specs.Base.{if_then_else_, _▷_, isEmpty, filter, count, any, member}
 use Rattle.time_cache.specs.TimeCache.{holds}
 use Rattle.protocol.specs.Links.{isNeighbour, eagerPeers, lazyPeers}
-use Rattle.postcard.specs.Message.{Delivery, Swarm, Neighbors, Ihave, Message, Gossip, IHave, Timer, DispatchLazyPush, AnnounceDropped}
+use Rattle.postcard.specs.Message.{Delivery, Swarm, Neighbors, Ihave, Message, Gossip, IHave, DispatchLazyPush, AnnounceDropped}
 use Rattle.protocol.specs.State.{State, Note, withQueue, withDropped, withDispatchScheduled, withAnnounceScheduled}
-use Rattle.protocol.specs.Run.{Run, Met, withState, meet, send, takes, schedule}
+use Rattle.protocol.specs.Run.{Run, withState, send, takes, schedule}
 
 -- `schedule_dispatch`
 unfoldable pub scheduleDispatch : Run → Run
@@ -43,10 +43,10 @@ recordAlso p h r =
 -- "each identifier in the cache and not already there is added unless the peer has 256 or all have 4,096"
 unfoldable pub noteOne : ℕ → Ihave → Run → Run
 noteOne p h r =
-    if recordFull p (r .state .dropped) then meet (record { peer = p; id = h .id }) r
-    else if holds (h .id) (r .state .cache) && not (any (notes p (h .id)) (r .state .dropped)) then recordAlso p h r
-    else r
+    if not (recordFull p (r .state .dropped)) && holds (h .id) (r .state .cache) && not (any (notes p (h .id)) (r .state .dropped))
+    then recordAlso p h r else r
 
+-- one identifier after the other
 unfoldable pub noteEach : ℕ → List Ihave → Run → Run
 noteEach p [] r = r
 noteEach p (h ∷ hs) r = noteEach p hs (noteOne p h r)

@@ -1,8 +1,8 @@
 -- The state of the panel (`State`), its settings and limits, and document 01's questions 1 to 4.
 use Prim.Native.Nat.{ℕ, _+_, _*_, _^_}
-use mathlib.Core.Bool.{Bool, true, false, _&&_}
-use mathlib.Core.List.{List, [], _∷_}
-use mathlib.Core.Option.{Option, none, some}
+use mathlib.Core.Bool.{Bool, false, _&&_}
+use mathlib.Core.List.{List, []}
+use mathlib.Core.Option.{Option}
 use lib.Dec.{leb}
 use Rattle.lists.specs.Base.{if_then_else_}
 use Rattle.lists.specs.Map.{Map}
@@ -61,6 +61,7 @@ pub record Counts : Type 0 where
   pub control : ℕ
   pub hops : ℕ
 
+-- `State`, field by field; the settings' last two and the limits are the creation's
 pub record State : Type 0 where
   -- the panel's own number, and `Config` with `max_message_size`
   pub settings : Settings
@@ -89,7 +90,7 @@ pub record State : Type 0 where
   -- `init`
   pub init : Bool
 
--- the state with one field changed
+-- the state with one field changed; likewise the ten that follow
 abbrev pub withLinks : Links → State → State
 withLinks x s = record { settings = s .settings; limits = s .limits; links = x; queue = s .queue; dropped = s .dropped; missing = s .missing; received = s .received; grafted = s .grafted; cache = s .cache; graftTimers = s .graftTimers; dispatchScheduled = s .dispatchScheduled; announceScheduled = s .announceScheduled; init = s .init }
 
@@ -141,6 +142,7 @@ fresh c l = record {
   init = false;
 }
 
+-- "the counts zero"
 unfoldable pub zeroCounts : Counts
 zeroCounts = record { payload = 0; control = 0; hops = 0 }
 
@@ -169,6 +171,7 @@ unfoldable pub blockNeed : Limits → ℕ
 blockNeed l =
     4096 + l .B + 160 * l .R + 256 * l .C + 640 * l .G + 512 * l .S + 64 * (l .N + l .T + l .Q + l .D)
 
+-- the answer to a creation: a number, or the state and the counts
 pub data Created : Type 0 where
   notCreated : ℕ → Created
   created : State → Counts → Created

@@ -1,20 +1,17 @@
 -- Document 01, "Ticks": `on_dispatch_timer`, `on_announce_dropped_timer`, `on_evict_cache_timer`.
-use Prim.Native.Nat.{ℕ, zero, suc, _-_, _/_}
-use mathlib.Core.Bool.{Bool, true, false}
+use Prim.Native.Nat.{ℕ, zero, suc}
+use mathlib.Core.Bool.{false}
 use mathlib.Core.List.{List, [], _∷_, _++_, map}
-use lib.Dec.{ltb, eqb}
+use lib.Dec.{ltb}
 use lib.ListN.{length, take, drop}
 use Rattle.lists.specs.Base.{if_then_else_, _▷_, isEmpty, filter, count}
 use Rattle.lists.specs.Map.{insertKey}
 use Rattle.time_cache.specs.TimeCache.{holds, expireUntil}
-use Rattle.postcard.specs.Message.{Ihave, Timer, EvictCache}
+use Rattle.postcard.specs.Message.{Ihave, EvictCache}
+unfoldable pub use Rattle.postcard.specs.Sizes.{perMessage}
 use Rattle.protocol.specs.State.{State, Note, withQueue, withDropped, withCache, withReceived, withGrafted, withDispatchScheduled, withAnnounceScheduled}
 use Rattle.protocol.specs.Run.{Run, withState, schedule}
 use Rattle.protocol.specs.Push.{forPeer, sendIhave, scheduleDispatch, scheduleAnnounceDropped}
-
--- "IHave of at most (M − 6) / 35, rounded down"
-unfoldable pub perMessage : ℕ → ℕ
-perMessage M = (M - 6) / 35
 
 -- the list in pieces of at most `k`, at most `pieces` of them
 unfoldable pub chunks : ℕ → ℕ → List Ihave → List (List Ihave)
@@ -36,10 +33,12 @@ unfoldable pub sendChunks : ℕ → List (List Ihave) → Run → Run
 sendChunks p [] r = r
 sendChunks p (hs ∷ rest) r = sendChunks p rest (sendIhave p hs r)
 
+-- each peer in turn, with all that is queued for it
 unfoldable pub dispatchTo : List ℕ → ℕ → List Note → Run → Run
 dispatchTo [] k ns r = r
 dispatchTo (p ∷ ps) k ns r = dispatchTo ps k ns (sendChunks p (chunks (length ns) k (queuedFor p ns)) r)
 
+-- the flag goes at the end
 unfoldable pub clearDispatch : Run → Run
 clearDispatch r = r ▷ withState (withDispatchScheduled false (r .state))
 

@@ -1,14 +1,15 @@
 -- Document 01, question 13 and the paragraph "Whole" of question 5, on the abstract state.
 use Prim.Native.Nat.{ℕ, _*_}
-use mathlib.Core.Bool.{Bool, true, false, not, _&&_, _||_}
+use mathlib.Core.Bool.{Bool, true, not, _&&_, _||_}
 use mathlib.Core.List.{List, [], _∷_, map}
-use lib.Dec.{leb, eqb}
+use mathlib.Core.Option.{Option, none, some}
+use lib.Dec.{leb}
 use lib.ListN.{length}
 use Rattle.lists.specs.Base.{if_then_else_, isEmpty, all, any, count, sum, ascending, once}
-use Rattle.lists.specs.Map.{Map, Entry, keys}
-use Rattle.time_cache.specs.TimeCache.{Cache, Timed, Expiry, expiresOnTime, inPopOrder}
+use Rattle.lists.specs.Map.{Entry, keys}
+use Rattle.time_cache.specs.TimeCache.{Cache, Timed, expiresOnTime, inPopOrder}
 use Rattle.protocol.specs.Links.{Links, isNeighbour}
-use Rattle.protocol.specs.State.{State, Limits, Note, Hop, Grafts, sizeInRange, durationsInRange, limitsInRange, blockNeed}
+use Rattle.protocol.specs.State.{State, Note, Hop, Grafts, sizeInRange, durationsInRange, limitsInRange, blockNeed}
 use Rattle.protocol.specs.Push.{forPeer, notes}
 
 -- how many content bytes are cached
@@ -88,3 +89,8 @@ whole s =
 -- "length as (4) needs"
 unfoldable pub longEnough : ℕ → State → Bool
 longEnough blockLength s = leb (blockNeed (s .limits)) blockLength
+
+-- the state of a whole block of this length; `held` is the state that its bytes hold, if they hold one
+unfoldable pub wholeBlock : ℕ → Option State → Option State
+wholeBlock blockLength none = none
+wholeBlock blockLength (some s) = if longEnough blockLength s && whole s then some s else none

@@ -1,0 +1,13 @@
+pub mod Cut
+pub mod Layout
+pub mod View
+pub mod Fit
+pub mod Sound
+pub mod Heads
+pub mod Goes
+pub mod Header
+pub mod LinkSteps
+pub mod NoteSteps
+pub mod TimerSteps
+pub mod HopSteps
+pub mod MissingSteps

@@ -1,0 +1,57 @@
+-- `put_emit`: four pieces.
+-- Assumes nothing.
+use borrow.Author.Needs.{needs}
+use Rattle.postcard.specs.Values.{deliveryValue}
+use Rattle.postcard.proofs.Layouts.{emitted-pieces}
+use Rattle.postcard.proofs.Writes.{room-next, further, finish}
+use Rattle.postcard.proofs.encode.put_emit.Statement.{statement}
+use Rattle.postcard.proofs.encode.put_emit.Tie as tie
+
+put-byte-requires : tie.Need-put-byte-requires
+put-byte-requires c κs =
+    let s = c .before .before .before in
+    room-next (emitted-pieces (s .args .peer) (s .args .content .now) (deliveryValue (s .args .delivery)) (s .pre))
+
+put-number-requires : tie.Need-put-number-requires
+put-number-requires c κs =
+    let c1 = c .before .before .before in
+    let s = c1 .before .before .before .before in
+    room-next (further (emitted-pieces (s .args .peer) (s .args .content .now) (deliveryValue (s .args .delivery)) (s .pre)) (c1 .put-byte .ensures))
+
+put-content-requires : tie.Need-put-content-requires
+put-content-requires c κs =
+    let c2 = c .before .before .before in
+    let c1 = c2 .before .before .before .before in
+    let s = c1 .before .before .before .before in
+    room-next (further (further (emitted-pieces (s .args .peer) (s .args .content .now) (deliveryValue (s .args .delivery)) (s .pre)) (c1 .put-byte .ensures)) (c2 .put-number .ensures))
+
+put-delivery-requires : tie.Need-put-delivery-requires
+put-delivery-requires c κs =
+    let c3 = c .before .before .before in
+    let c2 = c3 .before .before .before .before in
+    let c1 = c2 .before .before .before .before in
+    let s = c1 .before .before .before .before in
+    room-next (further (further (further (emitted-pieces (s .args .peer) (s .args .content .now) (deliveryValue (s .args .delivery)) (s .pre)) (c1 .put-byte .ensures)) (c2 .put-number .ensures)) (c3 .put-content .ensures))
+
+same-length : tie.Need-same-length
+same-length c = search needs
+
+returns : tie.Need-returns
+returns c =
+    let c4 = c .before .before in
+    let c3 = c4 .before .before .before .before in
+    let c2 = c3 .before .before .before .before in
+    let c1 = c2 .before .before .before .before in
+    let s = c1 .before .before .before .before in
+    finish (further (further (further (emitted-pieces (s .args .peer) (s .args .content .now) (deliveryValue (s .args .delivery)) (s .pre)) (c1 .put-byte .ensures)) (c2 .put-number .ensures)) (c3 .put-content .ensures)) (c4 .put-delivery .ensures)
+
+pub put-emit-spec : {M : Type 1} → statement M
+put-emit-spec =
+    tie.close
+    (tie.spec
+    put-byte-requires
+    put-number-requires
+    put-content-requires
+    put-delivery-requires
+    same-length
+    returns)

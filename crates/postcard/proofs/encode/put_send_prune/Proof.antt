@@ -1,0 +1,32 @@
+-- `put_send_prune`: the beginning of a send, and a message.
+-- Assumes nothing.
+use borrow.Author.Needs.{needs}
+use Rattle.postcard.specs.Message.{Prune}
+use Rattle.postcard.proofs.Layouts.{sent-pieces}
+use Rattle.postcard.proofs.Writes.{room-next, further, finish}
+use Rattle.postcard.proofs.encode.put_send_prune.Statement.{statement}
+use Rattle.postcard.proofs.encode.put_send_prune.Tie as tie
+
+put-send-requires : tie.Need-put-send-requires
+put-send-requires c κs =
+    let s = c .before .before in
+    room-next (sent-pieces (s .args .peer) (s .args .taken) Prune (s .pre))
+
+put-prune-requires : tie.Need-put-prune-requires
+put-prune-requires c κs =
+    let c1 = c .before .before .before in
+    let s = c1 .before .before .before in
+    room-next (further (sent-pieces (s .args .peer) (s .args .taken) Prune (s .pre)) (c1 .put-send .ensures))
+
+same-length : tie.Need-same-length
+same-length c = search needs
+
+returns : tie.Need-returns
+returns c =
+    let c2 = c .before .before in
+    let c1 = c2 .before .before .before .before in
+    let s = c1 .before .before .before in
+    finish (further (sent-pieces (s .args .peer) (s .args .taken) Prune (s .pre)) (c1 .put-send .ensures)) (c2 .put-prune .ensures)
+
+pub put-send-prune-spec : {M : Type 1} → statement M
+put-send-prune-spec = tie.close (tie.spec put-send-requires put-prune-requires same-length returns)

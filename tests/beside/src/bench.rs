@@ -1,0 +1,338 @@
+//! Times per call, the library's beside those of the Rust's `handle`.
+//!
+//! Each call starts from the same state, given back before it outside of the time taken; the least
+//! of many is told.
+use std::time::Instant;
+
+use oracle::{
+    identifier,
+    snap::{Cached, Grafted, Id, Snap},
+    Panel,
+};
+
+use crate::{
+    block::{self, CEILINGS},
+    gen::PANELRUN,
+    machine,
+    rng::Rng,
+    wire,
+};
+
+const NOW: u64 = 1_000_000;
+const CFG: [u64; 7] = [80, 40, 5, 7, 30000, 90000, 1000];
+const ME: u64 = 1;
+/// A peer between the others, never a neighbour at first.
+const STRANGER: u64 = 1000;
+
+/// Contents whose identifiers stand nowhere in the state.
+fn fresh(k: u8) -> Vec<u8> {
+    vec![k; 100]
+}
+
+fn some_id(r: &mut Rng) -> Id {
+    r.bytes(32).try_into().unwrap()
+}
+
+/// The tables at a share of their limits, with room left for one message and a neighbour.
+struct Filled {
+    snap: Snap,
+    /// A cached identifier; a missing one with a timer; one received and grafted.
+    cached: Option<Cached>,
+    missing: Option<Id>,
+}
+
+fn filled(max: &[u64; 9], share: (u64, u64)) -> Filled {
+    let r = &mut Rng::new(5);
+    let part =
+        |limit: u64, less: u64| ((limit * share.0 / share.1) as usize).min((limit - less) as usize);
+    let [n, rm, cm, bm, gm, sm, tm, qm, dm] = *max;
+    let links = part(n, 1).max(2);
+    let peers: Vec<u64> =
+        (0..links as u64).map(|i| if i % 2 == 0 { 100 + i } else { 2000 + i }).collect();
+    let mut s = Snap { me: ME, m: 4094, cfg: CFG, init: true, dispatch: true, ..Snap::default() };
+    for (i, p) in peers.iter().enumerate() {
+        if i % 2 == 0 {
+            s.eager.push(*p);
+        } else {
+            s.lazy.push(*p);
+        }
+    }
+    let mut all = peers.clone();
+    all.sort();
+    let later = |r: &mut Rng| NOW + 1 + r.below(30000);
+
+    let n = part(cm, 1);
+    let size =
+        if n > 0 { (bm as usize - 200) * share.0 as usize / share.1 as usize / n } else { 0 };
+    for _ in 0..n {
+        let content = r.bytes(size);
+        let id = identifier(&content);
+        s.cache.push(Cached { id, expires: later(r), round: 3, content });
+    }
+    s.cache.sort_by_key(|c| c.id);
+    s.cexp = s.cache.iter().map(|c| (c.expires, c.id)).collect();
+
+    for c in s.cache.iter().take(part(rm, 1)) {
+        s.received.push((c.id, c.expires + 60000));
+    }
+    while s.received.len() < part(rm, 1) {
+        s.received.push((some_id(r), later(r)));
+    }
+    s.received.sort();
+    s.rexp = s.received.iter().map(|e| (e.1, e.0)).collect();
+
+    for i in 0..part(gm, 1) {
+        let id = match s.received.get(i) {
+            Some(e) if i % 2 == 0 => e.0,
+            _ => some_id(r),
+        };
+        let v = all.iter().take(4).map(|p| (*p, 5)).collect();
+        let first = Some((all[all.len() - 1], 6));
+        s.grafted.push(Grafted { id, expires: later(r), first, kept: None, peers: v });
+    }
+    s.grafted.sort_by_key(|g| g.id);
+    s.gexp = s.grafted.iter().map(|g| (g.expires, g.id)).collect();
+
+    for _ in 0..part(sm, 120.min(sm / 2)) {
+        s.missing.push((some_id(r), all.iter().take(4).map(|p| (*p, 5)).collect()));
+    }
+    s.missing.sort();
+    s.timers = s.missing.iter().take(part(tm, 120.min(tm / 2))).map(|e| e.0).collect();
+    while s.timers.len() < part(tm, 120.min(tm / 2)) {
+        s.timers.push(some_id(r));
+    }
+    s.timers.sort();
+
+    // Old rows up to their limits.
+    for (rows, limit) in [(&mut s.rexp, rm), (&mut s.cexp, cm), (&mut s.gexp, gm)] {
+        let want = part(2 * limit, 1);
+        while rows.len() < want {
+            rows.push((later(r), some_id(r)));
+        }
+        rows.sort_by_key(|e| e.0);
+    }
+    let known: Vec<Id> = s.cache.iter().map(|c| c.id).collect();
+    let note = |r: &mut Rng, k: usize| match known.get(k) {
+        Some(id) => (*id, 3),
+        None => (some_id(r), 3),
+    };
+    // The queue, even over the peers, with room for one message to every lazy peer.
+    let each = part(qm, max[0]) / links;
+    for p in &all {
+        let v: Vec<_> = (0..each).map(|k| note(r, k)).collect();
+        if !v.is_empty() {
+            s.queue.push((*p, v));
+        }
+    }
+    let each = (part(dm, max[0]) / links).min(256);
+    for p in &all {
+        let v: Vec<_> = (0..each).map(|k| note(r, known.len().saturating_sub(k + 1))).collect();
+        let mut ids = v.clone();
+        ids.sort();
+        ids.dedup_by_key(|e| e.0);
+        if !v.is_empty() && ids.len() == v.len() {
+            s.dropped.push((*p, v));
+        }
+    }
+    s.announce = !s.dropped.is_empty();
+    let cached = s.cache.get(s.cache.len() / 2).cloned();
+    let missing = s.timers.iter().find(|t| s.missing.iter().any(|e| e.0 == **t)).copied();
+    Filled { snap: s, cached, missing }
+}
+
+struct Case {
+    name: &'static str,
+    now: u64,
+    event: Vec<u8>,
+    rooms: Vec<(u64, u16)>,
+    /// Makes room for what the call moves.
+    clear: fn(&mut Snap),
+}
+
+fn keep(_: &mut Snap) {}
+
+fn cases(f: &Filled) -> Vec<Case> {
+    let s = &f.snap;
+    let eager = s.eager[s.eager.len() / 2];
+    let lazy = s.lazy[s.lazy.len() / 2];
+    let new = |k: u8| (identifier(&fresh(k)), fresh(k));
+    let mut v = Vec::new();
+    let mut put =
+        |name, event: Vec<u8>| v.push(Case { name, now: NOW, event, rooms: vec![], clear: keep });
+    let (id, c) = new(1);
+    put("Gossip new Swarm, 100 B", wire::recv(eager, &wire::gossip(&id, &c, Some(3))));
+    let c = vec![9; 1];
+    put("Gossip new Swarm, 1 B", wire::recv(eager, &wire::gossip(&identifier(&c), &c, Some(3))));
+    let c = vec![9; 1000];
+    put(
+        "Gossip new Neighbors, 1,000 B",
+        wire::recv(eager, &wire::gossip(&identifier(&c), &c, None)),
+    );
+    if let Some(c) = &f.cached {
+        let m = wire::gossip(&c.id, &c.content, Some(3));
+        put("Gossip duplicate", wire::recv(eager, &m));
+    }
+    put("Gossip not valid, 1 B", wire::recv(eager, &wire::gossip(&id, &[1], Some(3))));
+    put("Prune", wire::recv(eager, &wire::prune()));
+    put("Prune from a stranger", wire::recv(STRANGER, &wire::prune()));
+    if let Some(c) = &f.cached {
+        put("Graft cached", wire::recv(lazy, &wire::graft(Some(&c.id), 3)));
+    }
+    put("Graft not cached", wire::recv(lazy, &wire::graft(Some(&id), 3)));
+    put("IHave of 1, new", wire::recv(lazy, &wire::ihave(&[(id, 3)])));
+    let list: Vec<(Id, u16)> = (0..8).map(|k| (new(k).0, 3)).collect();
+    put("IHave of 8, new", wire::recv(lazy, &wire::ihave(&list)));
+    if !s.received.is_empty() {
+        let n = s.received.len();
+        let list: Vec<(Id, u16)> = (0..100).map(|k| (s.received[k * 7 % n].0, 3)).collect();
+        put("IHave of 100, received", wire::recv(lazy, &wire::ihave(&list)));
+    }
+    put("Broadcast Swarm, 100 B", wire::broadcast(&fresh(2), true));
+    put("Broadcast Neighbors, 100 B", wire::broadcast(&fresh(2), false));
+    if let Some(id) = &f.missing {
+        put("SendGraft", wire::send_graft(id));
+    }
+    put("SendGraft unknown", wire::send_graft(&id));
+    put("DispatchLazyPush", wire::DISPATCH.to_vec());
+    put("EvictCache, none due", wire::EVICT.to_vec());
+    put("up, new", wire::up(STRANGER));
+    put("up, known", wire::up(lazy));
+    put("down", wire::down(eager));
+    let rooms: Vec<(u64, u16)> = s.eager.iter().chain(&s.lazy).map(|p| (*p, 0)).collect();
+    v.push(Case {
+        name: "DispatchLazyPush, all handed back",
+        now: NOW,
+        event: wire::DISPATCH.to_vec(),
+        rooms: rooms.clone(),
+        clear: |s| s.dropped.clear(),
+    });
+    v.push(Case {
+        name: "AnnounceDropped",
+        now: NOW,
+        event: wire::ANNOUNCE.to_vec(),
+        rooms: vec![],
+        clear: |s| s.queue.clear(),
+    });
+    v.push(Case {
+        name: "Broadcast Swarm, handed back",
+        now: NOW,
+        event: wire::broadcast(&fresh(2), true),
+        rooms,
+        clear: keep,
+    });
+    for (name, now) in
+        [("EvictCache, half due", NOW + 15000), ("EvictCache, all due", NOW + 500_000)]
+    {
+        v.push(Case { name, now, event: wire::EVICT.to_vec(), rooms: vec![], clear: keep });
+    }
+    v
+}
+
+struct Times {
+    rust: f64,
+    ours: f64,
+    whole: f64,
+    answer: u64,
+}
+
+/// What taking the time costs.
+fn clock() -> f64 {
+    (0..2000)
+        .map(|_| {
+            let t = Instant::now();
+            t.elapsed().as_nanos() as f64
+        })
+        .fold(f64::MAX, f64::min)
+}
+
+fn measure(max: &[u64; 9], s: &Snap, case: &Case, runs: usize) -> Times {
+    let base = clock();
+    let s = &{
+        let mut s = s.clone();
+        (case.clear)(&mut s);
+        s
+    };
+    let need = block::need(max);
+    let mut start = vec![0; need];
+    block::write(&mut Rng::new(3), &mut start, max, s);
+    let mut b = start.clone();
+    let rooms: Vec<u64> = case.rooms.iter().flat_map(|(p, r)| [*p, u64::from(*r)]).collect();
+    let mut out = vec![0; 1 << 21];
+    let mut t = Times { rust: f64::MAX, ours: f64::MAX, whole: f64::MAX, answer: 0 };
+    let since = |i: Instant| i.elapsed().as_nanos() as f64 - base;
+    for _ in 0..runs {
+        b.copy_from_slice(&start);
+        // What the call reads is at hand, as it is on the Rust's side.
+        assert!(machine::whole(&b));
+        let i = Instant::now();
+        let w = machine::whole(&b);
+        t.whole = t.whole.min(since(i));
+        assert!(w);
+        let mut counts = [0; 3];
+        let i = Instant::now();
+        let (n, _) = machine::event(&mut b, &mut counts, case.now, &case.event, &rooms, &mut out);
+        t.ours = t.ours.min(since(i));
+        t.answer = n;
+    }
+    let panel = Panel::load(&s.text()).unwrap();
+    let mut bytes = Vec::with_capacity(1 << 21);
+    for _ in 0..runs {
+        let mut p = panel.copy();
+        let ready = p.ready(&case.event).unwrap();
+        bytes.clear();
+        let i = Instant::now();
+        p.handle(ready, case.now, &case.rooms, &mut bytes);
+        t.rust = t.rust.min(since(i));
+    }
+    t
+}
+
+pub fn run(only: Option<&str>) {
+    for (title, max) in [("panelrun's limits", PANELRUN), ("the ceilings", CEILINGS)] {
+        println!("\n{title}: nanoseconds a call; the Rust's `handle`, the library, their ratio, and question 5 alone");
+        println!("{:34}|{:^34}|{:^34}|{:^34}", "", "empty", "quarter", "full");
+        let fills: Vec<Filled> =
+            [(0, 4), (1, 4), (1, 1)].iter().map(|share| filled(&max, *share)).collect();
+        let names: Vec<&str> = cases(&fills[2]).iter().map(|c| c.name).collect();
+        for name in names {
+            if only.is_some_and(|o| !name.contains(o)) {
+                continue;
+            }
+            let mut line = format!("{name:34}");
+            for f in &fills {
+                let all = cases(f);
+                let Some(case) = all.iter().find(|c| c.name == name) else {
+                    line += &format!("|{:34}", "");
+                    continue;
+                };
+                let runs = if max == CEILINGS { 60 } else { 400 };
+                let t = measure(&max, &f.snap, case, runs);
+                let no = if t.answer == 0 { String::new() } else { format!(" ({})", t.answer) };
+                let x = t.ours / t.rust.max(1.0);
+                let text =
+                    format!("{:>8.0} {:>8.0} {x:>6.1}x {:>8.0}{no}", t.rust, t.ours, t.whole);
+                line += &format!("|{text:34}");
+            }
+            println!("{line}");
+        }
+    }
+}
+
+/// One kind of call over and over at full tables, for a profiler.
+pub fn spin(name: &str, ceilings: bool, times: u64) {
+    let max = if ceilings { CEILINGS } else { PANELRUN };
+    let f = filled(&max, (1, 1));
+    let all = cases(&f);
+    let case = all.iter().find(|c| c.name == name).expect("a kind of the table");
+    let mut s = f.snap.clone();
+    (case.clear)(&mut s);
+    let mut start = vec![0; block::need(&max)];
+    block::write(&mut Rng::new(3), &mut start, &max, &s);
+    let mut b = start.clone();
+    let rooms: Vec<u64> = case.rooms.iter().flat_map(|(p, r)| [*p, u64::from(*r)]).collect();
+    let mut out = vec![0; 1 << 21];
+    for _ in 0..times {
+        b.copy_from_slice(&start);
+        machine::event(&mut b, &mut [0; 3], case.now, &case.event, &rooms, &mut out);
+    }
+}

@@ -1,0 +1,326 @@
+//! Runs commands on both, the Rust and the library, and compares after each.
+use oracle::{snap::Snap, Answer, Limits, Panel};
+
+use crate::{block, machine, rng::Rng, script::Cmd};
+
+/// Bytes kept around everything that is lent.
+const PAD: usize = 64;
+const PATTERN: u8 = 0xa5;
+
+/// A lent part between two pads.
+struct Lent {
+    bytes: Vec<u8>,
+    len: usize,
+}
+
+impl Lent {
+    fn new(len: usize) -> Lent {
+        Lent { bytes: vec![PATTERN; len + 2 * PAD], len }
+    }
+    fn set_len(&mut self, len: usize) {
+        self.bytes.clear();
+        self.bytes.resize(len + 2 * PAD, PATTERN);
+        self.len = len;
+    }
+    fn part(&self) -> &[u8] {
+        &self.bytes[PAD..PAD + self.len]
+    }
+    fn part_mut(&mut self) -> &mut [u8] {
+        &mut self.bytes[PAD..PAD + self.len]
+    }
+    fn pads_kept(&self) -> bool {
+        let p = |v: &[u8]| v.iter().all(|b| *b == PATTERN);
+        p(&self.bytes[..PAD]) && p(&self.bytes[PAD + self.len..])
+    }
+}
+
+/// What an event call was, for the summary of paths.
+pub struct Call {
+    pub before: Option<Snap>,
+    pub answer: Answer,
+}
+
+struct Saved {
+    panel: Panel,
+    snap: Snap,
+    block: Vec<u8>,
+    counts: [u64; 3],
+    limits: Limits,
+}
+
+pub struct Pair {
+    settings: Option<(u64, u64, [u64; 7])>,
+    pub limits: Limits,
+    panel: Option<Panel>,
+    /// The state; none if the block is not whole.
+    pub snap: Option<Snap>,
+    /// Why the block is not whole.
+    pub fault: Option<&'static str>,
+    block: Lent,
+    before: Vec<u8>,
+    counts: [u64; 3],
+    out: Lent,
+    saved: Option<Saved>,
+    garbage: Rng,
+}
+
+type Same<T> = Result<T, String>;
+
+fn same<T: PartialEq + std::fmt::Debug>(what: &str, rust: T, ours: T) -> Same<()> {
+    if rust == ours {
+        Ok(())
+    } else {
+        Err(format!("{what}: the Rust {rust:?}, the library {ours:?}"))
+    }
+}
+
+fn holds(yes: bool, what: &str) -> Same<()> {
+    if yes {
+        Ok(())
+    } else {
+        Err(what.into())
+    }
+}
+
+/// The words in which two lines of text differ.
+fn unlike(rust: &Snap, ours: &Snap) -> String {
+    let (a, b) = (rust.text(), ours.text());
+    let mut o = String::from("state:");
+    for (x, y) in a.split(' ').zip(b.split(' ')) {
+        if x != y {
+            o += &format!("\n  the Rust    {x}\n  the library {y}");
+        }
+    }
+    o
+}
+
+impl Default for Pair {
+    fn default() -> Pair {
+        Pair {
+            settings: None,
+            limits: Limits { max: [0; 9], out: 0 },
+            panel: None,
+            snap: None,
+            fault: None,
+            block: Lent::new(0),
+            before: Vec::new(),
+            counts: [0; 3],
+            out: Lent::new(0),
+            saved: None,
+            garbage: Rng::new(7),
+        }
+    }
+}
+
+impl Pair {
+    /// The Rust's panel.
+    pub fn panel(&self) -> &Panel {
+        self.panel.as_ref().expect("a panel")
+    }
+
+    pub fn block(&self) -> &[u8] {
+        self.block.part()
+    }
+
+    /// Runs a command. The error tells a difference.
+    pub fn run(&mut self, cmd: &Cmd) -> Same<Option<Call>> {
+        match cmd {
+            Cmd::New { me, m, cfg } => {
+                *self = Pair::default();
+                self.settings = Some((*me, *m, *cfg));
+                self.garbage = Rng::new(*me ^ *m ^ cfg[4]);
+                Ok(None)
+            }
+            Cmd::Limits { max, out } => {
+                if self.panel.is_none() {
+                    self.limits = Limits { max: *max, out: *out };
+                    self.create()?;
+                }
+                if self.limits.max != *max {
+                    return Err("script: limits change only by creation".into());
+                }
+                self.limits.out = *out;
+                Ok(None)
+            }
+            Cmd::Load(text) => {
+                let panel = Panel::load(text).ok_or("script: not a state")?;
+                self.load(panel)?;
+                Ok(None)
+            }
+            Cmd::Counts(c) => {
+                self.counts = *c;
+                self.panel.as_mut().ok_or("script: no panel")?.set_counts(*c);
+                Ok(None)
+            }
+            Cmd::Event { now, rooms, event } => self.event(*now, rooms, event).map(Some),
+            Cmd::Poke(v) => {
+                self.save();
+                for (i, b) in v {
+                    if let Some(x) = self.block.part_mut().get_mut(*i) {
+                        *x = *b;
+                    }
+                }
+                self.look().map(|()| None)
+            }
+            Cmd::Cut(n) => {
+                self.save();
+                let n = (*n).min(self.block.len);
+                let kept = self.block.part()[..n].to_vec();
+                self.block.set_len(n);
+                self.block.part_mut().copy_from_slice(&kept);
+                self.look().map(|()| None)
+            }
+            Cmd::Undo => {
+                let s = self.saved.take().ok_or("script: nothing to undo")?;
+                self.panel = Some(s.panel);
+                self.snap = Some(s.snap);
+                self.fault = None;
+                self.block.set_len(s.block.len());
+                self.block.part_mut().copy_from_slice(&s.block);
+                self.before = s.block;
+                self.counts = s.counts;
+                self.limits = s.limits;
+                Ok(None)
+            }
+        }
+    }
+
+    fn create(&mut self) -> Same<()> {
+        let (me, m, cfg) = self.settings.ok_or("script: limits before new")?;
+        let need = block::need(&self.limits.max);
+        // One byte short: refused, nothing touched.
+        self.fill(need - 1);
+        let n = machine::create(self.block.part_mut(), me, m, cfg, self.limits.max);
+        same("creation in a short block", 4, n)?;
+        holds(self.block.part() == self.before, "a refused creation changed the block")?;
+        let more = self.garbage.pick(&[0, 0, 1, 7, 100]);
+        self.fill(need + more);
+        let n = machine::create(self.block.part_mut(), me, m, cfg, self.limits.max);
+        same("creation", 0, n)?;
+        holds(self.block.pads_kept(), "creation wrote outside of the block")?;
+        holds(self.block.part()[need..] == self.before[need..], "creation wrote past the need")?;
+        self.panel = Some(Panel::new(me, m, cfg));
+        self.settle()
+    }
+
+    /// A new block full of anything.
+    fn fill(&mut self, len: usize) {
+        self.block.set_len(len);
+        self.garbage.fill(self.block.part_mut());
+        self.before.clear();
+        self.before.extend_from_slice(self.block.part());
+    }
+
+    fn load(&mut self, panel: Panel) -> Same<()> {
+        let snap = sorted(panel.snap());
+        let len = self.block.len;
+        self.fill(len);
+        let (r, l) = (&mut self.garbage, &self.limits.max);
+        block::write(r, &mut self.block.bytes[PAD..PAD + len], l, &snap);
+        self.panel = Some(panel);
+        self.counts = [0; 3];
+        self.settle()
+    }
+
+    /// After an accepted creation, a load or an accepted event: the states agree.
+    fn settle(&mut self) -> Same<()> {
+        let rust = sorted(self.panel().snap());
+        let ours = block::read(self.block.part()).map_err(|e| format!("not whole: {e}"))?;
+        holds(machine::whole(self.block.part()), "the library says that the block is not whole")?;
+        if rust != ours {
+            return Err(unlike(&rust, &ours));
+        }
+        same("limits", self.limits.max, block::limits(self.block.part()))?;
+        self.snap = Some(rust);
+        self.before.clear();
+        self.before.extend_from_slice(self.block.part());
+        Ok(())
+    }
+
+    fn save(&mut self) {
+        if self.saved.is_none() {
+            self.saved = Some(Saved {
+                panel: self.panel().copy(),
+                snap: self.snap.clone().expect("a state"),
+                block: self.block.part().to_vec(),
+                counts: self.counts,
+                limits: self.limits,
+            });
+        }
+    }
+
+    /// After a poke: whole or not, and if it is, the Rust goes on with what the block tells.
+    fn look(&mut self) -> Same<()> {
+        self.before.clear();
+        self.before.extend_from_slice(self.block.part());
+        let read = block::read(self.block.part());
+        let why = read.as_ref().err().copied().unwrap_or("");
+        let ours = machine::whole(self.block.part());
+        if read.is_ok() != ours {
+            return Err(format!("whole {} ({why}), the library {ours}", read.is_ok()));
+        }
+        self.snap = None;
+        self.fault = read.as_ref().err().copied();
+        if let Ok(snap) = read {
+            let mut panel = Panel::load(&snap.text()).ok_or("a state that can't be loaded")?;
+            panel.set_counts(self.counts);
+            self.panel = Some(panel);
+            self.limits.max = block::limits(self.block.part());
+            self.snap = Some(snap);
+        }
+        Ok(())
+    }
+
+    fn event(&mut self, now: u64, rooms: &[(u64, u16)], event: &[u8]) -> Same<Call> {
+        let before = self.snap.clone();
+        let limits = self.limits;
+        let answer = match &before {
+            Some(_) => {
+                let panel = self.panel.as_mut().ok_or("script: no panel")?;
+                panel.call(Some(&limits), now, rooms, event)
+            }
+            None => Answer { number: 5, ..Answer::default() },
+        };
+        let lent_rooms: Vec<u64> = rooms.iter().flat_map(|(p, r)| [*p, u64::from(*r)]).collect();
+        self.out.set_len(limits.out);
+        let mut counts = self.counts;
+        let (number, length) = machine::event(
+            self.block.part_mut(),
+            &mut counts,
+            now,
+            event,
+            &lent_rooms,
+            self.out.part_mut(),
+        );
+        same("answer", u64::from(answer.number), number)?;
+        same("length", answer.actions.len() as u64, length)?;
+        holds(self.block.pads_kept(), "wrote outside of the block")?;
+        holds(self.out.pads_kept(), "wrote outside of the output")?;
+        let out = self.out.part();
+        let n = answer.actions.len();
+        if out[..n] != answer.actions[..] {
+            let (a, b) = (hex::encode(&answer.actions), hex::encode(&out[..n]));
+            return Err(format!("actions:\n  the Rust    {a}\n  the library {b}"));
+        }
+        holds(out[n..].iter().all(|b| *b == PATTERN), "wrote beyond the length")?;
+        if answer.number != 0 {
+            same("counts of a refused call", self.counts, counts)?;
+            holds(self.block.part() == self.before, "a refused call changed the block")?;
+        } else {
+            same("counts", self.panel().counts(), counts)?;
+            self.counts = counts;
+            let need = block::need(&limits.max);
+            holds(self.block.part()[need..] == self.before[need..], "wrote past the need")?;
+            self.settle()?;
+        }
+        Ok(Call { before, answer })
+    }
+}
+
+/// Grafted peers of an identifier are a map, the block has them ascending.
+fn sorted(mut s: Snap) -> Snap {
+    for g in &mut s.grafted {
+        g.peers.sort();
+    }
+    s
+}

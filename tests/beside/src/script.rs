@@ -1,0 +1,132 @@
+//! Lists of calls, and their text: the oracle's commands (tests/rust/README.md), with `poke`, `cut`
+//! and `undo` for the block, which the oracle has none of.
+use std::fmt::Write;
+
+#[derive(Clone, Debug, PartialEq)]
+pub enum Cmd {
+    New {
+        me: u64,
+        m: u64,
+        cfg: [u64; 7],
+    },
+    /// The nine limits and the output's length. Behind a `New` it creates; later on only the
+    /// output's length may change.
+    Limits {
+        max: [u64; 9],
+        out: usize,
+    },
+    /// A state, as its line of text.
+    Load(String),
+    Counts([u64; 3]),
+    Event {
+        now: u64,
+        rooms: Vec<(u64, u16)>,
+        event: Vec<u8>,
+    },
+    /// Changes bytes of the block.
+    Poke(Vec<(usize, u8)>),
+    /// Lends only so many bytes of the block.
+    Cut(usize),
+    /// Takes back the last poke or cut and what came after it.
+    Undo,
+}
+
+fn hex_or_dash(b: &[u8]) -> String {
+    if b.is_empty() {
+        "-".into()
+    } else {
+        hex::encode(b)
+    }
+}
+
+fn list<T, F: Fn(&T) -> String>(v: &[T], f: F) -> String {
+    if v.is_empty() {
+        return "-".into();
+    }
+    v.iter().map(f).collect::<Vec<_>>().join(",")
+}
+
+fn words<T: ToString>(v: &[T]) -> String {
+    v.iter().map(|x| x.to_string()).collect::<Vec<_>>().join(" ")
+}
+
+impl Cmd {
+    pub fn text(&self) -> String {
+        match self {
+            Cmd::New { me, m, cfg } => format!("new {me} {m} {}", words(cfg)),
+            Cmd::Limits { max, out } => format!("limits {} {out}", words(max)),
+            Cmd::Load(s) => format!("load {s}"),
+            Cmd::Counts(c) => format!("stats {}", words(c)),
+            Cmd::Event { now, rooms, event } => {
+                let rooms = list(rooms, |(p, r)| format!("{p}:{r}"));
+                format!("ev {now} {rooms} {}", hex_or_dash(event))
+            }
+            Cmd::Poke(v) => format!("poke {}", list(v, |(i, b)| format!("{i}:{b}"))),
+            Cmd::Cut(n) => format!("cut {n}"),
+            Cmd::Undo => "undo".into(),
+        }
+    }
+
+    pub fn parse(line: &str) -> Option<Cmd> {
+        let w: Vec<&str> = line.split_whitespace().collect();
+        let nums = || w[1..].iter().map(|x| x.parse().ok()).collect::<Option<Vec<u64>>>();
+        let pairs = |s: &str| -> Option<Vec<(u64, u64)>> {
+            if s == "-" {
+                return Some(vec![]);
+            }
+            s.split(',')
+                .map(|e| {
+                    let (a, b) = e.split_once(':')?;
+                    Some((a.parse().ok()?, b.parse().ok()?))
+                })
+                .collect()
+        };
+        Some(match *w.first()? {
+            "new" => {
+                let v = nums()?;
+                Cmd::New { me: *v.first()?, m: *v.get(1)?, cfg: v.get(2..)?.try_into().ok()? }
+            }
+            "limits" => {
+                let v = nums()?;
+                Cmd::Limits { max: v.get(..9)?.try_into().ok()?, out: *v.get(9)? as usize }
+            }
+            "load" => Cmd::Load(line.trim().strip_prefix("load")?.trim().into()),
+            "stats" => Cmd::Counts(nums()?.try_into().ok()?),
+            "ev" => Cmd::Event {
+                now: w.get(1)?.parse().ok()?,
+                rooms: pairs(w.get(2)?)?.iter().map(|e| (e.0, e.1 as u16)).collect(),
+                event: match *w.get(3)? {
+                    "-" => vec![],
+                    h => hex::decode(h).ok()?,
+                },
+            },
+            "poke" => {
+                Cmd::Poke(pairs(w.get(1)?)?.iter().map(|e| (e.0 as usize, e.1 as u8)).collect())
+            }
+            "cut" => Cmd::Cut(*nums()?.first()? as usize),
+            "undo" => Cmd::Undo,
+            _ => return None,
+        })
+    }
+}
+
+pub fn text(list: &[Cmd]) -> String {
+    let mut o = String::new();
+    for c in list {
+        writeln!(o, "{}", c.text()).unwrap();
+    }
+    o
+}
+
+/// Reads a script; blank lines, `#` lines and `dump` are passed over.
+pub fn parse(text: &str) -> Result<Vec<Cmd>, String> {
+    let mut v = Vec::new();
+    for line in text.lines() {
+        let l = line.trim();
+        if l.is_empty() || l.starts_with('#') || l == "dump" {
+            continue;
+        }
+        v.push(Cmd::parse(l).ok_or_else(|| format!("not understood: {l}"))?);
+    }
+    Ok(v)
+}

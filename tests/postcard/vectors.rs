@@ -1,0 +1,436 @@
+//! Makes the events that `crates/postcard_vectors` replays, and what each holds.
+//!
+//! `types.rs` has the message types of `plumtree.rs` with their serde derives (make_vectors.py takes them out). Events are written by `Serialize` and read by
+//! `Deserialize`, so the kinds and the order of the fields are the Rust's; `postcard` is the stand-in that reads as strictly as document 01.
+//! Writes the two files named on the command line: an event to a line, and what it holds to a line.
+use bytes::Bytes;
+use postcard::{put_number, to_vec, De, Error};
+use serde::{Deserialize, Serialize};
+use std::fmt::Write;
+
+include!("types.rs");
+
+#[derive(Clone, PartialEq)]
+enum Event {
+    Received(u64, Message),
+    Broadcast(Bytes, Scope),
+    Fired(Timer),
+    Up(u64),
+    Down(u64),
+}
+
+fn question(e: Error) -> u8 {
+    match e {
+        Error::End => 7,
+        Error::Bad => 8,
+        Error::Unsupported => unreachable!("a form outside the messages"),
+    }
+}
+
+/// The event and the size of its message, or the number of the question that is answered no.
+fn read(bytes: &[u8]) -> Result<(Event, usize), u8> {
+    let mut de = De::new(bytes);
+    let got = read_kinds(&mut de).map_err(question)?;
+    if de.rest.is_empty() {
+        Ok(got)
+    } else {
+        Err(9)
+    }
+}
+
+fn read_kinds(de: &mut De<'_>) -> Result<(Event, usize), Error> {
+    let event = match de.byte()? {
+        0 => {
+            let peer = de.number(64)?;
+            let before = de.rest.len();
+            let message = de.read()?;
+            return Ok((Event::Received(peer, message), before - de.rest.len()));
+        }
+        1 => Event::Broadcast(de.read()?, de.read()?),
+        2 => Event::Fired(match de.byte()? {
+            0 => Timer::SendGraft(de.read()?),
+            1 => Timer::DispatchLazyPush,
+            2 => Timer::EvictCache,
+            3 => Timer::AnnounceDropped,
+            _ => return Err(Error::Bad),
+        }),
+        3 => Event::Up(de.number(64)?),
+        4 => Event::Down(de.number(64)?),
+        _ => return Err(Error::Bad),
+    };
+    Ok((event, 0))
+}
+
+fn write(event: &Event) -> Vec<u8> {
+    let mut out = Vec::new();
+    let mut put = |kind: u8, fields: &[Vec<u8>]| {
+        out.push(kind);
+        fields.iter().for_each(|f| out.extend_from_slice(f));
+    };
+    match event {
+        Event::Received(peer, m) => put(0, &[to_vec(peer).unwrap(), to_vec(m).unwrap()]),
+        Event::Broadcast(content, scope) => put(1, &[to_vec(content).unwrap(), to_vec(scope).unwrap()]),
+        Event::Fired(Timer::SendGraft(id)) => put(2, &[vec![0], to_vec(id).unwrap()]),
+        Event::Fired(Timer::DispatchLazyPush) => put(2, &[vec![1]]),
+        Event::Fired(Timer::EvictCache) => put(2, &[vec![2]]),
+        Event::Fired(Timer::AnnounceDropped) => put(2, &[vec![3]]),
+        Event::Up(peer) => put(3, &[to_vec(peer).unwrap()]),
+        Event::Down(peer) => put(4, &[to_vec(peer).unwrap()]),
+    }
+    out
+}
+
+fn hex(bytes: &[u8]) -> String {
+    if bytes.is_empty() {
+        return "-".into();
+    }
+    bytes.iter().map(|b| format!("{b:02x}")).collect()
+}
+
+/// What an event holds, as `crates/postcard_vectors` writes it.
+fn words(event: &Event, size: usize) -> String {
+    match event {
+        Event::Received(peer, m) => format!("Received {peer} {size} {}", message_words(m)),
+        Event::Broadcast(content, Scope::Swarm) => format!("Broadcast {} Swarm", hex(content)),
+        Event::Broadcast(content, Scope::Neighbors) => format!("Broadcast {} Neighbors", hex(content)),
+        Event::Fired(Timer::SendGraft(id)) => format!("SendGraft {}", hex(&id.0)),
+        Event::Fired(Timer::DispatchLazyPush) => "DispatchLazyPush".into(),
+        Event::Fired(Timer::EvictCache) => "EvictCache".into(),
+        Event::Fired(Timer::AnnounceDropped) => "AnnounceDropped".into(),
+        Event::Up(peer) => format!("Up {peer}"),
+        Event::Down(peer) => format!("Down {peer}"),
+    }
+}
+
+fn message_words(m: &Message) -> String {
+    match m {
+        Message::Gossip(g) => {
+            let head = format!("Gossip {} {}", hex(&g.id.0), hex(&g.content));
+            match g.scope {
+                DeliveryScope::Swarm(r) => format!("{head} Swarm {}", r.0),
+                DeliveryScope::Neighbors => format!("{head} Neighbors"),
+            }
+        }
+        Message::Prune => "Prune".into(),
+        Message::Graft(g) => format!("Graft {} {}", g.id.map_or("-".into(), |id| hex(&id.0)), g.round.0),
+        Message::IHave(list) => list.iter().fold("IHave".into(), |mut s, h| {
+            write!(s, " {} {}", hex(&h.id.0), h.round.0).unwrap();
+            s
+        }),
+    }
+}
+
+/// The two files, and how many cases there are of each answer.
+#[derive(Default)]
+struct Cases {
+    events: String,
+    answers: String,
+    counts: [usize; 4],
+}
+
+impl Cases {
+    fn add(&mut self, bytes: &[u8]) -> Result<Event, u8> {
+        assert!(bytes.len() <= 4_096);
+        let spelt: String = bytes.iter().map(|b| format!("{b:02x}")).collect();
+        writeln!(self.events, "{:04x} {spelt}", bytes.len()).unwrap();
+        let answer = read(bytes);
+        match &answer {
+            Ok((event, size)) => writeln!(self.answers, "{}", words(event, *size)).unwrap(),
+            Err(n) => writeln!(self.answers, "{n}").unwrap(),
+        }
+        self.counts[answer.as_ref().map_or_else(|n| *n as usize - 6, |_| 0)] += 1;
+        answer.map(|(event, _)| event)
+    }
+
+    /// A case whose answer is known beforehand.
+    fn refuse(&mut self, bytes: &[u8], n: u8) {
+        assert!(self.add(bytes).err() == Some(n), "{} is not {n}", hex(bytes));
+    }
+
+    fn accept(&mut self, event: &Event) {
+        let bytes = write(event);
+        assert!(self.add(&bytes).ok().as_ref() == Some(event), "{}", hex(&bytes));
+    }
+}
+
+/// The fields of an event, as document 01 names them.
+#[derive(Clone)]
+enum Field {
+    /// A kind byte, and how many kinds there are.
+    Kind(u8, u8),
+    Id(u8),
+    /// A number, and its width.
+    Number(u64, u32),
+    /// The bytes of a content.
+    Content(Vec<u8>),
+}
+
+fn number(v: u64) -> Vec<u8> {
+    let mut out = Vec::new();
+    put_number(&mut out, v);
+    out
+}
+
+fn spelt(f: &Field) -> Vec<u8> {
+    match f {
+        Field::Kind(k, _) => vec![*k],
+        Field::Id(b) => (0..32).map(|i| b.wrapping_add(i)).collect(),
+        Field::Number(v, _) => number(*v),
+        Field::Content(c) => c.clone(),
+    }
+}
+
+/// Spellings of a number that are refused, with the answer.
+fn bad_numbers(bits: u32) -> Vec<(Vec<u8>, u8)> {
+    let last = (bits as usize).div_ceil(7);
+    let top = 1u8 << (bits as usize - 7 * (last - 1));
+    let mut all = Vec::new();
+    for k in 1..last {
+        all.push((vec![0x80; k], 7));
+        all.push((vec![0xff; k], 7));
+        all.push(([vec![0x80; k], vec![0]].concat(), 8));
+    }
+    for end in [top, 0x7f, 0x80, 0x80 + top - 1, 0xff] {
+        all.push(([vec![0xff; last - 1], vec![end]].concat(), 8));
+    }
+    all
+}
+
+/// Each refusal at each field of an event.
+fn refusals(cases: &mut Cases, fields: &[Field]) {
+    let whole: Vec<u8> = fields.iter().flat_map(spelt).collect();
+    assert!(cases.add(&whole).is_ok());
+    for cut in 0..whole.len() {
+        cases.refuse(&whole[..cut], 7);
+    }
+    cases.refuse(&[&whole[..], &[0]].concat(), 9);
+    cases.refuse(&[&whole[..], &[0x80, 0]].concat(), 9);
+    for (i, f) in fields.iter().enumerate() {
+        let before: Vec<u8> = fields[..i].iter().flat_map(spelt).collect();
+        let after: Vec<u8> = fields[i + 1..].iter().flat_map(spelt).collect();
+        match f {
+            Field::Kind(_, kinds) => {
+                for bad in [*kinds, 0x7f, 0x80, 0xff] {
+                    cases.refuse(&[&before[..], &[bad], &after].concat(), 8);
+                    cases.refuse(&[&before[..], &[bad]].concat(), 8);
+                }
+            }
+            Field::Number(_, bits) => {
+                for (bad, n) in bad_numbers(*bits) {
+                    cases.refuse(&[before.clone(), bad.clone()].concat(), n);
+                    if n == 8 {
+                        cases.refuse(&[before.clone(), bad, after.clone()].concat(), n);
+                    }
+                }
+            }
+            Field::Id(_) | Field::Content(_) => {}
+        }
+    }
+}
+
+/// An event of each kind, field by field.
+fn shapes() -> Vec<Vec<Field>> {
+    use Field::*;
+    let received = |rest: &[Field]| [&[Kind(0, 5), Number(300, 64)], rest].concat();
+    let content = || [Number(3, 64), Content(vec![7, 8, 9])];
+    let gossip = |rest: &[Field]| received(&[&[Kind(0, 4), Id(16)], &content()[..], rest].concat());
+    let broadcast = |scope: u8| [&[Kind(1, 5)], &content()[..], &[Kind(scope, 2)]].concat();
+    vec![
+        gossip(&[Kind(0, 2), Number(20_000, 16)]),
+        gossip(&[Kind(1, 2)]),
+        received(&[Kind(1, 4)]),
+        received(&[Kind(2, 4), Kind(0, 2), Number(128, 16)]),
+        received(&[Kind(2, 4), Kind(1, 2), Id(48), Number(65_535, 16)]),
+        received(&[Kind(3, 4), Number(2, 64), Id(80), Number(1, 16), Id(112), Number(16_384, 16)]),
+        broadcast(0),
+        broadcast(1),
+        vec![Kind(2, 5), Kind(0, 4), Id(144)],
+        vec![Kind(2, 5), Kind(1, 4)],
+        vec![Kind(2, 5), Kind(2, 4)],
+        vec![Kind(2, 5), Kind(3, 4)],
+        vec![Kind(3, 5), Number(1 << 40, 64)],
+        vec![Kind(4, 5), Number(127, 64)],
+    ]
+}
+
+/// Numbers at the edges of each count of groups: peers, and rounds.
+fn edges(cases: &mut Cases) {
+    for k in 0..10 {
+        let low = 1u64.checked_shl(7 * k).unwrap();
+        for v in [low - 1, low, low + 1] {
+            cases.accept(&Event::Up(v));
+            cases.accept(&Event::Down(v));
+        }
+    }
+    for v in [u64::MAX - 1, u64::MAX, 1 << 63, (1 << 63) - 1] {
+        cases.accept(&Event::Up(v));
+        cases.accept(&Event::Received(v, Message::Prune));
+    }
+    for r in [0, 1, 126, 127, 128, 129, 255, 256, 16_383, 16_384, 32_767, 32_768, 65_534, 65_535] {
+        cases.accept(&Event::Received(1, Message::Graft(Graft { id: None, round: Round(r) })));
+    }
+}
+
+fn gossip(len: usize, scope: DeliveryScope) -> Message {
+    let content: Vec<u8> = (0..len).map(|i| (i % 251) as u8).collect();
+    Message::Gossip(Gossip { id: MessageId([9; 32]), content: content.into(), scope })
+}
+
+fn announcements(n: usize, round: u16) -> Message {
+    Message::IHave((0..n).map(|i| IHave { id: MessageId([i as u8; 32]), round: Round(round) }).collect())
+}
+
+/// The worked calls of document 01 that speak of bytes read: sizes, rounds, and the events of panelrun's example.
+fn worked(cases: &mut Cases) {
+    let top = DeliveryScope::Swarm(Round(65_535));
+    for (len, scope, size) in [(0, top, 38), (127, top, 165), (128, top, 167), (0, DeliveryScope::Neighbors, 35), (471, top, 510), (472, top, 511)] {
+        let message = gossip(len, scope);
+        assert_eq!(to_vec(&message).unwrap().len(), size);
+        cases.accept(&Event::Received(2, message));
+    }
+    for n in [14, 116] {
+        cases.accept(&Event::Received(2, announcements(n, 65_535)));
+    }
+    for (event, bytes) in [
+        (Event::Up(2), &[3, 2][..]),
+        (Event::Fired(Timer::DispatchLazyPush), &[2, 1]),
+        (Event::Received(5, Message::Prune), &[0, 5, 1]),
+        (Event::Received(2, Message::Graft(Graft { id: None, round: Round(127) })), &[0, 2, 2, 0, 0x7f]),
+        (Event::Received(2, Message::Graft(Graft { id: None, round: Round(128) })), &[0, 2, 2, 0, 0x80, 1]),
+        (Event::Received(2, Message::Graft(Graft { id: None, round: Round(65_535) })), &[0, 2, 2, 0, 0xff, 0xff, 3]),
+    ] {
+        assert_eq!(write(&event), bytes);
+        cases.accept(&event);
+    }
+}
+
+/// Lengths and counts that the bytes do not hold.
+fn too_long(cases: &mut Cases) {
+    let id = [1u8; 32];
+    let whole = [&id[..], &[5]].concat();
+    let wrong = [&id[..], &[0x80, 0]].concat();
+    for count in [1, 2, 3, 127, 128, 1 << 32, 1 << 63, u64::MAX - 1, u64::MAX] {
+        let head = [vec![0, 2, 3], number(count)].concat();
+        // no announcement, or the first cut
+        cases.refuse(&head, 7);
+        cases.refuse(&[&head[..], &id[..31]].concat(), 7);
+        cases.refuse(&[&head[..], &id, &[0xff, 0xff]].concat(), 7);
+        // a fault in the first, and in the second, comes before the end of the bytes
+        cases.refuse(&[&head[..], &wrong].concat(), 8);
+        cases.refuse(&[&head[..], &id, &[0xff, 0xff, 4]].concat(), 8);
+        if count > 1 {
+            cases.refuse(&[&head[..], &whole, &wrong].concat(), 8);
+            cases.refuse(&[&head[..], &whole].concat(), 7);
+        }
+    }
+    for len in [1, 2, 3, 127, 128, 1 << 32, 1 << 63, u64::MAX - 1, u64::MAX] {
+        let short: Vec<u8> = vec![4; len.min(200) as usize - 1];
+        cases.refuse(&[vec![1], number(len), short.clone()].concat(), 7);
+        cases.refuse(&[vec![0, 2, 0], id.to_vec(), number(len), short].concat(), 7);
+    }
+    cases.accept(&Event::Received(2, Message::IHave(vec![])));
+    cases.accept(&Event::Broadcast(Bytes::new(), Scope::Neighbors));
+}
+
+/// Numbers from a seed (xorshift64*).
+struct Random(u64);
+
+impl Random {
+    fn next(&mut self) -> u64 {
+        self.0 ^= self.0 >> 12;
+        self.0 ^= self.0 << 25;
+        self.0 ^= self.0 >> 27;
+        self.0.wrapping_mul(0x2545_f491_4f6c_dd1d) >> 8
+    }
+    fn below(&mut self, n: u64) -> u64 {
+        self.next() % n
+    }
+    /// Of any number of groups, edges among them.
+    fn wide(&mut self, bits: u64) -> u64 {
+        let width = self.below(bits + 1);
+        let v = (self.next() << 32 ^ self.next()) & (((1u128 << width) - 1) as u64);
+        if self.below(4) == 0 {
+            ((1u128 << width) - 1) as u64
+        } else {
+            v
+        }
+    }
+    fn round(&mut self) -> Round {
+        Round(self.wide(16) as u16)
+    }
+    fn bytes(&mut self, n: u64) -> Vec<u8> {
+        (0..n).map(|_| self.next() as u8).collect()
+    }
+    fn id(&mut self) -> MessageId {
+        MessageId(self.bytes(32).try_into().unwrap())
+    }
+    fn content(&mut self) -> Bytes {
+        let n = match self.below(20) {
+            0 => self.below(300),
+            1 => 127 + self.below(3),
+            _ => self.below(16),
+        };
+        self.bytes(n).into()
+    }
+    fn message(&mut self) -> Message {
+        match self.below(8) {
+            0..=2 => {
+                let scope = if self.below(3) == 0 { DeliveryScope::Neighbors } else { DeliveryScope::Swarm(self.round()) };
+                Message::Gossip(Gossip { id: self.id(), content: self.content(), scope })
+            }
+            3 => Message::Prune,
+            4 => Message::Graft(Graft { id: None, round: self.round() }),
+            5 => Message::Graft(Graft { id: Some(self.id()), round: self.round() }),
+            _ => {
+                let n = self.below(5);
+                Message::IHave((0..n).map(|_| IHave { id: self.id(), round: self.round() }).collect())
+            }
+        }
+    }
+    fn event(&mut self) -> Event {
+        match self.below(10) {
+            0..=6 => Event::Received(self.wide(64), self.message()),
+            7 => Event::Broadcast(self.content(), if self.below(2) == 0 { Scope::Swarm } else { Scope::Neighbors }),
+            8 => Event::Fired(Timer::SendGraft(self.id())),
+            _ if self.below(2) == 0 => Event::Up(self.wide(64)),
+            _ => Event::Down(self.wide(64)),
+        }
+    }
+    /// The bytes with something wrong: a byte changed, taken out or put in, a cut, or more at the end.
+    fn damage(&mut self, bytes: &mut Vec<u8>) {
+        let i = self.below(bytes.len() as u64) as usize;
+        match self.below(6) {
+            0 => bytes[i] = self.next() as u8,
+            1 => bytes[i] ^= 0x80,
+            2 => drop(bytes.remove(i)),
+            3 => bytes.insert(i, self.next() as u8),
+            4 => bytes.truncate(i),
+            _ => bytes.push(self.next() as u8),
+        }
+    }
+}
+
+fn main() {
+    let args: Vec<String> = std::env::args().collect();
+    let mut cases = Cases::default();
+    worked(&mut cases);
+    edges(&mut cases);
+    too_long(&mut cases);
+    shapes().iter().for_each(|s| refusals(&mut cases, s));
+    let chosen: usize = cases.counts.iter().sum();
+    let mut random = Random(0x9e37_79b9_7f4a_7c15);
+    for _ in 0..2_400 {
+        let event = random.event();
+        if random.below(5) < 3 {
+            cases.accept(&event);
+        } else {
+            let mut bytes = write(&event);
+            random.damage(&mut bytes);
+            let _ = cases.add(&bytes);
+        }
+    }
+    std::fs::write(&args[1], &cases.events).unwrap();
+    std::fs::write(&args[2], &cases.answers).unwrap();
+    let [read, seven, eight, nine] = cases.counts;
+    println!("{chosen} chosen, 2400 random: {read} read, {seven} of 7, {eight} of 8, {nine} of 9");
+}

@@ -1,0 +1,33 @@
+# Shared by the commands: what must be on the machine. Sourced from the repository's top.
+
+die() {
+    echo "$*" >&2
+    exit 1
+}
+
+# The Rattle kit.
+need_rt() {
+    command -v rt >/dev/null 2>&1 || die "the Rattle kit is not on this machine: its command rt was not found"
+}
+
+# Debian's packages, by name.
+need_packages() {
+    local missing= p
+    for p in "$@"; do
+        dpkg-query -W -f='${Status}\n' "$p" 2>/dev/null | grep -q 'install ok installed' || missing="$missing $p"
+    done
+    [ -n "$missing" ] || return 0
+    command -v apt-get >/dev/null 2>&1 || die "these Debian packages are missing:$missing"
+    apt-get update >/dev/null
+    # shellcheck disable=SC2086
+    apt-get install -y --no-install-recommends $missing >/dev/null
+}
+
+# A crate folder that crates.txt does not list is an error.
+every_crate_listed() {
+    local d n
+    for d in crates/*/; do
+        n=$(basename "$d")
+        grep -q "^$n:" crates.txt || die "crates/$n is not listed in crates.txt"
+    done
+}

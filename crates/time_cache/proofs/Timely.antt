@@ -95,10 +95,6 @@ module _ {A : Type 0} where
       ap (λ (x : Map (Timed A)). record { entries = x; expiry = later now (c .expiry) }) e
       ∙ ap (λ (x : List Expiry). record { entries = filter (λ x. ltb now (x .value .expires)) (c .entries); expiry = x }) l
 
-  -- the row of an entry's time
-  onRow : List Expiry → Entry (Timed A) → Bool
-  onRow xs e = any (λ x. eqb (x .key) (e .key) && eqb (x .time) (e .value .expires)) xs
-
   pub timely-put : (k : ℕ) (v : A) (at : ℕ) (c : Cache A) → Timely c → Timely (put k v at c)
   unfolding put expiresOnTime
   timely-put k v at c t = record {

@@ -21,7 +21,9 @@ pub record Worked : Type 0 where
   pub removed : expiredKeys 30000 cached ≡ 9 ∷ []
   pub keepsPutAgain : holds 9 (expireUntil 30000 again) ≡ true
   pub oldRowPopped : expireUntil 30000 again .expiry ≡ record { time = 40000; key = 9 } ∷ []
+  -- "earliest first, ties oldest first"
+  pub tiesOldestFirst : expiredKeys 30000 (put 8 1 30000 cached) ≡ 9 ∷ 8 ∷ []
 
 pub worked : Worked
 unfolding lookup insert remove addExpiry put expiresAt pop due later popAll popped expireUntil expiredKeys
-worked = record { keeps = refl; removes = refl; removed = refl; keepsPutAgain = refl; oldRowPopped = refl }
+worked = record { keeps = refl; removes = refl; removed = refl; keepsPutAgain = refl; oldRowPopped = refl; tiesOldestFirst = refl }

@@ -214,9 +214,9 @@ unfolding sendPieces Rightly addPieces
 pieces-flag brought [] r n w g = flag-stands (isEmpty (r .state .dropped)) (r .state .announceScheduled) g
 pieces-flag brought (x ∷ xs) r n w g =
     let o = one-piece brought x r (all-head (λ x. isNeighbour (x .peer) (r .state .links)) x xs n) (unfold pieceTaken in (w .0)) in
-    pieces-flag brought xs (sendIhave (x .peer) (x .ihaves) r) (rw (o .aside .links) (all-tail (λ x. isNeighbour (x .peer) (r .state .links)) x xs n)) (rw (o .rooms) (w .1))
+    pieces-flag brought xs (sendIhave (x .peer) (x .ihaves) r) (rw (o .only .links) (all-tail (λ x. isNeighbour (x .peer) (r .state .links)) x xs n)) (rw (o .rooms) (w .1))
     (rw (o .dropped, o .flag) (next-flagged (pieceTaken brought x) (r .state .announceScheduled) (r .state .dropped) (addNotes (cachedIn (r .state .cache)) (x .peer) (x .ihaves) (r .state .dropped)) g))
-    ∙ rw (o .aside .cache, o .dropped, o .flag)
+    ∙ rw (o .only .cache, o .dropped, o .flag)
     (flag-next (isEmpty (addPieces (cachedIn (r .state .cache)) brought xs (if pieceTaken brought x then r .state .dropped else addNotes (cachedIn (r .state .cache)) (x .peer) (x .ihaves) (r .state .dropped))))
     (pieceTaken brought x) (r .state .announceScheduled) (r .state .dropped) (addNotes (cachedIn (r .state .cache)) (x .peer) (x .ihaves) (r .state .dropped))
     (pieces-empty (cachedIn (r .state .cache)) brought xs (if pieceTaken brought x then r .state .dropped else addNotes (cachedIn (r .state .cache)) (x .peer) (x .ihaves) (r .state .dropped))))
@@ -417,6 +417,6 @@ module _ (r : Run) (x : Consistent (r .state)) where
       ap (λ (y : Run). y .state) dispatch-is
       ∙ clear-state (sendPieces xs r₁)
       ∙ ap (λ (s : State). withDispatchScheduled false s)
-      (only-state r₁ (sendPieces xs r₁) (pieces-aside (r .rooms) xs r₁ near₁ right₁)
+      (only-state r₁ (sendPieces xs r₁) (pieces-only (r .rooms) xs r₁ near₁ right₁)
       ∙ (λ j. withAnnounceScheduled ((pieces-flag (r .rooms) xs r₁ near₁ right₁ (x .recordFlag) ∙ ap (λ (ds : List Note). not (isEmpty ds) || r .state .announceScheduled) b) j)
       (withDropped ((pieces-dropped (r .rooms) xs r₁ near₁ right₁ ∙ b) j) (withQueue [] (r .state)))))

@@ -67,10 +67,10 @@ fn show_message(m: Message) {
             wanted: _,
             round: _,
         } => show(b"a Graft", b""),
-        Message::IHave {
-            start: _,
-            count,
-        } => show_number(b"an IHave, announcements: ", count as u64),
+        Message::IHave { start: _, count } => show_number(
+            b"an IHave, announcements: ",
+            count as u64,
+        ),
     }
 }
 

@@ -62,4 +62,3 @@ show-spec =
     slice-aggregate-write-all
     write-all-requires-2
     returns)
-

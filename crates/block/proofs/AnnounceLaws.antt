@@ -1,19 +1,18 @@
 -- Announcers by the place of their identifier: none, one more, and an identifier that is new.
 -- Assumes nothing.
-use mathlib.Core.Path.{_≡_, refl, sym, ap, _∙_, subst}
+use mathlib.Core.Path.{_≡_, refl, sym, ap, _∙_}
 use mathlib.Core.Bool.{Bool, true, false}
 use mathlib.Core.List.{List, [], _∷_, _++_}
-use mathlib.Core.Option.{Option, none, some}
-use Prim.Native.Nat.{ℕ, suc, _+_, _≤_, _<_}
+use Prim.Native.Nat.{ℕ, _+_, _<_}
 use native.Mathlib.Omega.{arith}
-use lib.ListN.{length, take, drop, getD, length-append, length-take, length-drop, length-map, List·getD-map}
+use lib.ListN.{length, take, drop, getD, length-append, length-drop, length-map, List·getD-map}
 use lib.Seq.{set-getD, length-take-le}
 use Rattle.rows.specs.Part.{put}
 use Rattle.rows.specs.Sorted.{Ascending, Between, Here}
 use Rattle.rows.proofs.Parts.{set-put}
 use Rattle.rows.proofs.Rows.{put-gap}
-use Rattle.lists.specs.Base.{if_then_else_, isEmpty, any, ascending}
-use Rattle.lists.specs.Map.{Map, Entry, entry, keys, insert, remove}
+use Rattle.lists.specs.Base.{if_then_else_, any}
+use Rattle.lists.specs.Map.{Map, Entry, entry, keys, insert}
 use Rattle.lists.proofs.MapLaws.{ascending-insert}
 use Rattle.time_cache.proofs.Orders.{up-of, of-up}
 use Rattle.time_cache.proofs.MapPlaces.{insert-between, insert-here, lookup-here, lookup-between}

@@ -1,11 +1,11 @@
 -- The frame law: a put inside one piece of a list changes that piece alone.
 -- Assumes nothing.
-use mathlib.Core.Path.{_≡_, refl, sym, ap, _∙_, subst}
+use mathlib.Core.Path.{_≡_, refl, sym, ap, _∙_}
 use mathlib.Core.List.{List, [], _∷_, _++_, append-assoc}
-use Prim.Native.Nat.{ℕ, zero, suc, _+_, _-_, _*_, _≤_, _<_}
+use Prim.Native.Nat.{ℕ, zero, suc, _+_, _≤_, _<_}
 use native.Mathlib.Nat.{zero-add, add-assoc, le-of-suc-le-suc, not-suc-le-zero}
 use native.Mathlib.Omega.{arith}
-use lib.ListN.{length, take, drop, getD, set, length-append, length-take, length-drop, take-append-drop}
+use lib.ListN.{length, take, drop, getD, set, length-drop, take-append-drop}
 use lib.Seq.{take-append-add, drop-append-add, drop-at, drop-drop, length-take-le}
 use Rattle.rows.specs.Part.{part, put}
 use Rattle.rows.proofs.Parts.{part-inside, drop-put, take-put}

@@ -3,24 +3,22 @@
 use mathlib.Core.Path.{_≡_, refl, sym, ap, _∙_, subst}
 use mathlib.Core.Bool.{Bool, true, false}
 use mathlib.Core.List.{List, [], _∷_, _++_, append-assoc, append-nil}
-use Prim.Native.Nat.{ℕ, zero, suc, _+_, _-_, _*_, _^_, _≤_, _<_}
-use native.Mathlib.Nat.{not-suc-le-zero, le-of-suc-le-suc, add-suc, mul-suc, suc-mul}
+use Prim.Native.Nat.{ℕ, zero, suc, _+_, _*_, _^_, _≤_, _<_}
+use native.Mathlib.Nat.{not-suc-le-zero, le-of-suc-le-suc, mul-suc}
 use native.Mathlib.Numerals.{add-one}
 use native.Mathlib.Omega.{arith}
-use borrow.Author.Tests.{eq-eqb, ne-eqb}
-use lib.Dec.{lit<, eqb}
+use lib.Dec.{lit<}
 use lib.ListN.{length, take, drop, getD, set, length-append}
-use lib.Seq.{take-suc, take-at, drop-at, drop-drop, drop-append-add}
+use lib.Seq.{take-suc, take-at, drop-append-add}
 use Rattle.rows.specs.Part.{part, put}
 use Rattle.rows.specs.Digits.{leNat, leBytes}
-use Rattle.rows.proofs.Parts.{put-put-next, part-put, part-part, length-put, put-nil, part-left}
+use Rattle.rows.proofs.Parts.{put-put-next, part-put, part-part, length-put, put-nil}
 use Rattle.rows.proofs.Digits.{length-leBytes, leNat-leBytes}
-use Rattle.lists.specs.Base.{if_then_else_}
-use Rattle.block.specs.Layout.{sizes, place, tables, table}
+use Rattle.block.specs.Layout.{tables, table}
 use Rattle.block.specs.View.{stateOf, viewOf, limitsOf}
 use Rattle.block.specs.Fit.{Fit}
 use Rattle.block.specs.Sound.{Laid, Sound}
-use Rattle.block.specs.Header.{wordsBytes, wordAt, halfWordAt, bit, flag, settingsWords, limitsWords, liveWords, settingsIn, limitsIn, liveIn, headIn, headBytes}
+use Rattle.block.specs.Header.{wordsBytes, wordAt, halfWordAt, bit, flag, settingsWords, limitsWords, liveWords, headIn, headBytes}
 use Rattle.block.specs.declared.head.Head.{Head}
 use Rattle.block.proofs.Tables.{frame}
 

@@ -2,7 +2,7 @@
 -- Assumes nothing.
 use mathlib.Core.Path.{_≡_, refl, sym, ap, _∙_, subst}
 use mathlib.Core.List.{List, [], _∷_, _++_}
-use Prim.Native.Nat.{ℕ, zero, suc, _+_, _-_, _*_, _≤_, _<_, suc-le-suc}
+use Prim.Native.Nat.{ℕ, suc, _+_, _-_, _*_, _≤_, _<_, suc-le-suc}
 use native.Mathlib.Omega.{arith}
 use lib.ListN.{length, take, drop, getD, set, length-drop, length-set}
 use lib.Seq.{take-append-le, take-take, drop-drop, getD-drop}
@@ -13,7 +13,7 @@ use Rattle.rows.proofs.Parts.{put-inside, part-put, put-over, part-part, part-b
 use Rattle.rows.proofs.Rows.{rows-same}
 use Rattle.rows.proofs.Digits.{length-leBytes}
 use Rattle.refs.specs.Refs.{Below}
-use Rattle.block.specs.View.{byteAt, pairs, numbered, hopsIn}
+use Rattle.block.specs.View.{byteAt, numbered, hopsIn}
 use Rattle.block.specs.Sound.{Numbered}
 use Rattle.block.specs.HopSteps.{pushedHop, shiftedHops}
 use Rattle.block.proofs.Cut.{put-drop}

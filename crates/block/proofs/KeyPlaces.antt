@@ -1,16 +1,13 @@
 -- Maps and sets by the place of a key: what a search for the key found says what taking it out, or putting it into a set, does.
 -- Assumes nothing.
 use mathlib.Core.Path.{_≡_, refl, sym, ap, _∙_, subst}
-use mathlib.Core.Bool.{Bool, true, false}
-use mathlib.Core.List.{List, [], _∷_, _++_, map}
-use Prim.Native.Nat.{ℕ, zero, suc, _+_, _≤_, _<_, zero-le, suc-le-suc}
-use native.Mathlib.Nat.{not-suc-le-zero, le-of-suc-le-suc}
+use mathlib.Core.List.{List, [], _∷_, _++_}
+use Prim.Native.Nat.{ℕ, zero, suc, zero-le, suc-le-suc}
+use native.Mathlib.Nat.{not-suc-le-zero}
 use native.Mathlib.Omega.{arith}
 use borrow.Author.Tests.{lt-ltb, le-ltb, eq-eqb, ne-eqb}
-use lib.Dec.{ltb, eqb}
-use lib.ListN.{length, take, drop, getD}
-use Rattle.lists.specs.Base.{if_then_else_}
-use Rattle.lists.specs.Map.{Map, Entry, entry, keys, remove, insertKey, removeKey}
+use lib.ListN.{take, drop}
+use Rattle.lists.specs.Map.{Map, Entry, keys, remove, insertKey, removeKey}
 use Rattle.rows.specs.Sorted.{Ascending, Between, Here}
 use Rattle.time_cache.proofs.MapPlaces.{up-tail, between-tail, here-tail, first-below}
 

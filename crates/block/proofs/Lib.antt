@@ -1,5 +1,6 @@
--- Laws on plain values: Cut on pieces of a list, Tables on the frame of a put in one table, HeaderLaws on the header, Scans on scans, LinkLaws on the links,
--- Numbered on numbers with rows beside them, NoteLaws on queue and record.
+-- Laws on plain values. Cut, Tables: pieces of a list, and the frame of a put in one table. HeaderLaws: the header. Scans, LinkLaws: the links.
+-- Numbered, NoteLaws: link numbers with rows beside them, queue and record. RowLaws, KeyPlaces, Each: a row more or less in a table.
+-- TimerLaws: graft timers. HopLaws, MissingLaws, AnnounceLaws, Few: missing messages and their announcers. GoesLaws: steps one after the other.
 pub mod Cut
 pub mod Tables
 pub mod HeaderLaws
@@ -14,3 +15,5 @@ pub mod Each
 pub mod HopLaws
 pub mod MissingLaws
 pub mod AnnounceLaws
+pub mod GoesLaws
+pub mod Few

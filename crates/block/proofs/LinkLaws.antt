@@ -2,31 +2,30 @@
 -- Assumes nothing.
 use mathlib.Core.Path.{_≡_, refl, sym, ap, _∙_, subst}
 use mathlib.Core.Bool.{Bool, true, false}
-use mathlib.Core.List.{List, [], _∷_, map}
-use Prim.Native.Nat.{ℕ, _+_, _*_, _≤_, _<_}
+use mathlib.Core.List.{List, [], _∷_}
+use Prim.Native.Nat.{ℕ, _+_, _*_, _<_}
 use native.Mathlib.Omega.{arith}
 use borrow.Author.Tests.{eq-eqb, ne-eqb}
-use lib.Dec.{lit<, eqb}
-use lib.ListN.{length, getD, set, length-set, length-map, List·getD-map}
+use lib.Dec.{lit<}
+use lib.ListN.{length, getD, set, length-map, List·getD-map}
 use lib.Seq.{getD-set-same, set-getD}
 use Rattle.rows.specs.Part.{part, put}
 use Rattle.rows.specs.Digits.{leNat}
-use Rattle.rows.specs.Rows.{rows}
 use Rattle.rows.specs.Keep.{fieldOf}
 use Rattle.rows.specs.Sorted.{Ascending, Between, Here}
 use Rattle.rows.proofs.Parts.{set-put, part-before, length-part, length-put}
 use Rattle.rows.proofs.Views.{map-put}
 use Rattle.refs.proofs.Places.{getD-map-in}
-use Rattle.lists.specs.Base.{if_then_else_, isSome, ascending}
-use Rattle.lists.specs.Map.{Entry, entry, keys, insert, lookup, has}
+use Rattle.lists.specs.Base.{if_then_else_, isSome}
+use Rattle.lists.specs.Map.{Entry, entry, keys, insert}
 use Rattle.protocol.specs.Links.{Mark, eager, lazy, Links, isEager, isNeighbour, marked, eagerIn, markIfThere}
 use Rattle.protocol.specs.State.{State, Limits, withLinks}
-use Rattle.block.specs.Layout.{sizes, place, table, tables}
-use Rattle.block.specs.View.{stateOf, viewOf, viewWith, limitsOf, linkOf, linksIn, markOf, peersIn}
+use Rattle.block.specs.Layout.{place, table, tables}
+use Rattle.block.specs.View.{stateOf, viewOf, viewWith, limitsOf, linkOf, linksIn, markOf}
 use Rattle.block.specs.Fit.{Fit}
 use Rattle.block.specs.Sound.{Laid, Sound}
 use Rattle.block.specs.Goes.{Goes}
-use Rattle.block.specs.LinkSteps.{LinksAscend, linkAt, markFor, markAt, linked}
+use Rattle.block.specs.LinkSteps.{LinksAscend, linkAt, markAt, linked}
 use Rattle.block.specs.declared.head.Head.{Head}
 use Rattle.block.proofs.Tables.{frame, view-at, view-set, length-view, length-table, field-in, byte-in}
 use Rattle.time_cache.proofs.MapPlaces.{insert-here, lookup-here, lookup-between}

@@ -2,7 +2,7 @@
 -- Assumes nothing.
 use mathlib.Core.Path.{_≡_, refl, sym, ap, _∙_, subst}
 use mathlib.Core.List.{List, [], _∷_, _++_, map, append-assoc}
-use Prim.Native.Nat.{ℕ, suc, _+_, _-_, _*_, _^_, _≤_, _<_, zero-le}
+use Prim.Native.Nat.{ℕ, _+_, _-_, _*_, _^_, _≤_, _<_, zero-le}
 use native.Mathlib.Nat.{not-suc-le-zero}
 use native.Mathlib.Numerals.{add-one}
 use native.Mathlib.Omega.{arith}
@@ -10,18 +10,18 @@ use lib.Dec.{lit<}
 use lib.ListN.{length, take, drop, getD, set, length-append, length-drop, length-map, List·getD-map}
 use lib.Seq.{take-all, take-at, drop-at, length-take-le, getD-take, getD-drop}
 use Rattle.rows.specs.Part.{part, put}
-use Rattle.rows.specs.Digits.{leNat, leBytes, beNat, beBytes}
+use Rattle.rows.specs.Digits.{leNat, beNat, beBytes}
 use Rattle.rows.specs.Rows.{rows, opened, closed}
-use Rattle.rows.specs.Sorted.{keyOf, Ascending, Between, Here}
+use Rattle.rows.specs.Sorted.{keyOf, Between, Here}
 use Rattle.rows.specs.Sorted.{keys as rowKeys}
 use Rattle.rows.proofs.Parts.{length-part, length-put, part-before, part-part, put-put-next, set-put, getD-part}
-use Rattle.rows.proofs.Rows.{length-opened, rows-field}
+use Rattle.rows.proofs.Rows.{rows-field}
 use Rattle.rows.proofs.Digits.{length-beBytes, beNat-beBytes, leNat-leBytes}
 use Rattle.lists.specs.Map.{Map, Entry, entry, keys, insert, remove}
 use Rattle.time_cache.proofs.Orders.{up-of}
 use Rattle.time_cache.proofs.MapPlaces.{insert-between, insert-here}
-use Rattle.protocol.specs.State.{State, Limits, Hop, withMissing}
-use Rattle.block.specs.Layout.{sizes, place, tables, table}
+use Rattle.protocol.specs.State.{Limits, Hop, withMissing}
+use Rattle.block.specs.Layout.{place, tables, table}
 use Rattle.block.specs.View.{stateOf, viewOf, limitsOf, byteAt, idAt, pairs, numbered, hopsIn, hopOf, hopsOf, missedOf, missingIn, peersIn}
 use Rattle.block.specs.Fit.{Fit}
 use Rattle.block.specs.Sound.{Numbered, AllNumbered, Laid, Sound}

@@ -1,9 +1,8 @@
 -- Queue and record: what is read from them, and what a note more does to the state. A law for both, over the number of the table.
 -- Assumes nothing.
 use mathlib.Core.Path.{_≡_, refl, sym, ap, _∙_, subst}
-use mathlib.Core.Bool.{Bool, true, false, _&&_, _||_}
 use mathlib.Core.List.{List, [], _∷_, _++_}
-use Prim.Native.Nat.{ℕ, zero, suc, _+_, _-_, _*_, _^_, _≤_, _<_}
+use Prim.Native.Nat.{ℕ, suc, _+_, _*_, _^_, _≤_, _<_}
 use native.Mathlib.Nat.{not-suc-le-zero}
 use native.Mathlib.Omega.{arith}
 use borrow.Author.Tests.{lt-ltb}
@@ -19,7 +18,7 @@ use Rattle.rows.proofs.Parts.{put-put-next, length-put, getD-part}
 use Rattle.rows.proofs.Digits.{length-leBytes, length-beBytes, leNat-leBytes, beNat-beBytes}
 use Rattle.refs.specs.Refs.{Below}
 use Rattle.time_cache.proofs.Orders.{below-of, of-below}
-use Rattle.protocol.specs.State.{State, Limits, Note, withQueue, withDropped}
+use Rattle.protocol.specs.State.{Limits, Note, withQueue, withDropped}
 use Rattle.block.specs.Layout.{sizes, place, tables, table, end}
 use Rattle.block.specs.View.{stateOf, viewOf, limitsOf, peerOf, noteOf, notesIn, pairs, numbered, idAt, halfAt, peersIn}
 use Rattle.block.specs.Fit.{Fit}

@@ -1,16 +1,15 @@
 -- A row put in at i of a table, and a row taken out, for every table and every length of a row: the bytes that move, the tables, and the table's view.
 -- Assumes nothing.
-use mathlib.Core.Path.{_≡_, refl, sym, ap, _∙_, subst}
+use mathlib.Core.Path.{_≡_, sym, ap, _∙_}
 use mathlib.Core.List.{List, [], _∷_, _++_, map, map-append}
-use Prim.Native.Nat.{ℕ, zero, suc, _+_, _-_, _*_, _≤_, _<_, zero-le, suc-le-suc}
-use native.Mathlib.Nat.{not-suc-le-zero, le-of-suc-le-suc}
+use Prim.Native.Nat.{ℕ, _+_, _-_, _*_, _≤_, _<_}
 use native.Mathlib.Omega.{arith}
 use lib.ListN.{length, take, drop, getD, set}
 use lib.Seq.{length-take-le, getD-set-same, set-set}
 use Rattle.rows.specs.Part.{part, put}
 use Rattle.rows.specs.Rows.{rows, opened, closed}
 use Rattle.rows.proofs.Parts.{part-part, length-part, length-put}
-use Rattle.rows.proofs.Rows.{length-rows, rows-opened, rows-closed, rows-field, put-gap, mul-more, mul-split, mul-up, length-opened}
+use Rattle.rows.proofs.Rows.{length-rows, rows-opened, rows-closed, rows-field, put-gap, mul-more, mul-split, length-opened}
 use Rattle.rows.proofs.Views.{map-gap, map-take, map-drop}
 use Rattle.protocol.specs.State.{Limits}
 use Rattle.block.specs.Layout.{sizes, place, tables, table, end}

@@ -1,10 +1,9 @@
 -- What a put in one table does to the tables, and a row more to a table's view.
 -- Assumes nothing.
-use mathlib.Core.Path.{_≡_, refl, sym, ap, _∙_, subst}
+use mathlib.Core.Path.{_≡_, refl, sym, ap, _∙_}
 use mathlib.Core.List.{List, [], _∷_, _++_, map, map-append, append-nil}
 use Prim.Native.Nat.{ℕ, zero, suc, _+_, _-_, _*_, _≤_, _<_}
 use native.Mathlib.Omega.{arith}
-use lib.Dec.{lit<}
 use lib.ListN.{length, take, drop, getD, set, length-map, List·getD-map, drop-of-length-le, length-drop}
 use lib.Seq.{take-take, take-all}
 use native.Mathlib.Nat.{not-suc-le-zero, le-of-suc-le-suc}
@@ -16,7 +15,7 @@ use Rattle.rows.proofs.Rows.{getD-rows, length-rows, rows-same, rows-field}
 use Rattle.rows.proofs.Views.{map-put}
 use Rattle.rows.proofs.Parts.{part-part, getD-part}
 use Rattle.protocol.specs.State.{Limits, blockNeed}
-use Rattle.block.specs.Cut.{cut, start, total}
+use Rattle.block.specs.Cut.{total}
 use Rattle.block.specs.Layout.{sizes, place, tables, table}
 use Rattle.block.proofs.Cut.{cut-put, cut-part, length-cut}
 

@@ -1,8 +1,8 @@
 -- The rows of graft timers: what a timer more, and one less, does to the state.
 -- Assumes nothing.
 use mathlib.Core.Path.{_≡_, refl, sym, ap, _∙_, subst}
-use mathlib.Core.List.{List, [], _∷_, _++_, map}
-use Prim.Native.Nat.{ℕ, suc, _+_, _-_, _*_, _^_, _≤_, _<_}
+use mathlib.Core.List.{List, _∷_, _++_}
+use Prim.Native.Nat.{ℕ, _+_, _-_, _*_, _^_, _≤_, _<_}
 use native.Mathlib.Numerals.{add-one}
 use native.Mathlib.Omega.{arith}
 use lib.Dec.{lit<}
@@ -10,8 +10,8 @@ use lib.ListN.{length, take, drop, getD, set}
 use lib.Seq.{take-all}
 use Rattle.rows.specs.Part.{part, put}
 use Rattle.rows.specs.Digits.{beNat, beBytes}
-use Rattle.rows.specs.Rows.{rows, opened, closed}
-use Rattle.rows.specs.Sorted.{keys, keyOf, Ascending, Between, Here}
+use Rattle.rows.specs.Rows.{opened, closed}
+use Rattle.rows.specs.Sorted.{keys, keyOf, Between}
 use Rattle.rows.proofs.Parts.{length-part, length-put}
 use Rattle.rows.proofs.Rows.{length-opened}
 use Rattle.rows.proofs.Digits.{length-beBytes, beNat-beBytes}
@@ -24,11 +24,11 @@ use Rattle.block.specs.Fit.{Fit}
 use Rattle.block.specs.Sound.{Laid, Sound}
 use Rattle.block.specs.Goes.{Goes}
 use Rattle.block.specs.Heads.{withTimerCount}
-use Rattle.block.specs.TimerSteps.{TimersAscend, timerAlso, timerOut, timerOutAt}
+use Rattle.block.specs.TimerSteps.{TimersAscend, timerAlso, timerOutAt}
 use Rattle.block.specs.declared.head.Head.{Head}
 use Rattle.block.proofs.Cut.{within}
 use Rattle.block.proofs.Tables.{length-table, length-view, keys-table, put-all}
-use Rattle.block.proofs.RowLaws.{opened-frame, closed-frame, view-insert, view-remove, gapRow}
+use Rattle.block.proofs.RowLaws.{opened-frame, closed-frame, view-insert, view-remove}
 use Rattle.block.proofs.KeyPlaces.{insertKey-between, removeKey-here}
 
 pub count-timers : (h : Head) (xs : List ℕ) → length (stateOf h xs .graftTimers) ≡ h .live .timers

@@ -8,8 +8,6 @@ use lib.Dec.{eqb}
 use Rattle.rows.specs.Part.{part, put}
 use Rattle.rows.specs.Digits.{leNat, leBytes}
 use Rattle.lists.specs.Base.{if_then_else_}
-use Rattle.block.specs.View.{stateOf}
-use Rattle.block.specs.Fit.{Fit}
 use Rattle.block.specs.declared.head.Head.{Head}
 use Rattle.block.specs.declared.head.Config.{Config}
 use Rattle.block.specs.declared.head.Settings.{Settings}

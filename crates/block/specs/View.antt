@@ -1,6 +1,6 @@
 -- The state that a block holds, read with the header's numbers by a small decoder for each table. Each decoder is total: any bytes are read as something.
 -- Assumes nothing.
-use Prim.Native.Nat.{ℕ, _+_}
+use Prim.Native.Nat.{ℕ}
 use mathlib.Core.Bool.{Bool, true, false}
 use mathlib.Core.List.{List, [], _∷_, map}
 use mathlib.Core.Option.{Option, none, some}

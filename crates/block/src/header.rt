@@ -10,8 +10,7 @@ use rows::word;
 ghost use mathlib.Core.Path.{_≡_};
 ghost use Prim.Native.Nat.{_+_, _*_, _≤_};
 ghost use lib.ListN.{length};
-ghost use Rattle.rows.specs.Part.{part, put};
-ghost use Rattle.rows.specs.Digits.{leNat};
+ghost use Rattle.rows.specs.Part.{put};
 ghost use Rattle.block.specs.Header.{wordAt, halfWordAt, wordsBytes, bit, flag, settingsWords, limitsWords, liveWords, configIn, settingsIn, limitsIn, liveIn, headIn, Stored};
 
 // The duration in the eight bytes at `at`.

@@ -20,7 +20,7 @@ ghost use Rattle.block.specs.Fit.{Fit};
 ghost use Rattle.block.specs.Sound.{Sound};
 ghost use Rattle.block.specs.Goes.{Goes};
 ghost use Rattle.block.specs.LinkSteps.{LinksAscend, peerAt};
-ghost use Rattle.block.specs.MissingSteps.{MissingAscend, missedAt, hopsAt, fromPeer, HopIs, missAlso, missOutAt, missOut, announcedAt, hopsTo, addedAt, leftAt, leftAfter, newWith, announcedBy, Announces};
+ghost use Rattle.block.specs.MissingSteps.{MissingAscend, hopsAt, fromPeer, HopIs, missAlso, missOutAt, missOut, announcedAt, hopsTo, addedAt, leftAt, leftAfter, newWith, announcedBy, Announces};
 
 // Where an identifier stands among the missing messages, or the one before which it would stand, by halving.
 pub fn find_missing(h: Head, block: &[u8], id: Id) -> Found

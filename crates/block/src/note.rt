@@ -14,7 +14,6 @@ ghost use Rattle.rows.specs.Part.{put};
 ghost use Rattle.rows.specs.Ident.{idOf};
 ghost use Rattle.protocol.specs.State.{withQueue};
 ghost use Rattle.block.specs.View.{stateOf};
-ghost use Rattle.block.specs.Fit.{Fit};
 ghost use Rattle.block.specs.Sound.{Sound};
 ghost use Rattle.block.specs.Goes.{Goes};
 ghost use Rattle.block.specs.LinkSteps.{LinksAscend, peerAt};

@@ -1,5 +1,5 @@
-use mathlib.Core.Path.{_≡_}
-use native.Mathlib.Omega.{arith}
+-- `header::load_head` meets its contract: part by part.
+-- Assumes nothing.
 use borrow.Author.Needs.{needs}
 use Rattle.block.proofs.header.load_head.Statement.{statement}
 use Rattle.block.proofs.header.load_head.Tie as tie

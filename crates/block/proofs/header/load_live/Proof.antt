@@ -1,5 +1,5 @@
-use mathlib.Core.Path.{_≡_}
-use native.Mathlib.Omega.{arith}
+-- `header::load_live` meets its contract: number by number.
+-- Assumes nothing.
 use borrow.Author.Needs.{needs}
 use Rattle.block.proofs.header.load_live.Statement.{statement}
 use Rattle.block.proofs.header.load_live.Tie as tie

@@ -1,5 +1,7 @@
-use mathlib.Core.Path.{_≡_, ap, _∙_}
-use mathlib.Core.List.{List, [], _∷_, _++_}
+-- `header::store_head` meets its contract: three puts are one, which reads back.
+-- Assumes nothing.
+use mathlib.Core.Path.{ap, _∙_}
+use mathlib.Core.List.{[], _∷_, _++_}
 use Rattle.rows.specs.Part.{put}
 use Rattle.block.specs.Header.{wordsBytes, settingsWords, limitsWords, liveWords, headIn, bit}
 use Rattle.block.proofs.HeaderLaws.{store-three, head-back, below-append, bit-lt}

@@ -1,8 +1,9 @@
-use mathlib.Core.Path.{_≡_, ap, _∙_}
-use mathlib.Core.List.{List, [], _∷_}
+-- `header::store_live` meets its contract: the flags are bits.
+-- Assumes nothing.
+use mathlib.Core.Path.{_∙_}
+use mathlib.Core.List.{[], _∷_}
 use Rattle.rows.specs.Part.{put}
 use Rattle.block.specs.Header.{wordsBytes}
-use native.Mathlib.Omega.{arith}
 use borrow.Author.Needs.{needs}
 use Rattle.block.proofs.header.store_live.Statement.{statement}
 use Rattle.block.proofs.header.store_live.Tie as tie

@@ -1,18 +1,16 @@
-use mathlib.Core.Path.{_≡_, sym, ap, _∙_}
+-- `header::store_words` meets its contract: the first i numbers are stored.
+-- Assumes nothing.
+use mathlib.Core.Path.{_≡_, ap, _∙_}
 use mathlib.Core.List.{List}
-use Prim.Native.Nat.{ℕ, _+_, _-_, _*_, _≤_, _<_}
-use native.Mathlib.Omega.{arith}
+use Prim.Native.Nat.{ℕ, _-_, _≤_}
 use borrow.Author.Needs.{needs}
-use lib.ListN.{length, take, getD}
+use lib.ListN.{length, take}
 use lib.Seq.{take-all}
 use Rattle.rows.specs.Part.{put}
-use Rattle.rows.specs.Digits.{leBytes}
 use Rattle.block.specs.Header.{wordsBytes}
 use Rattle.block.proofs.HeaderLaws.{words-start, words-more}
 use Rattle.block.proofs.header.store_words.Statement.{statement}
 use Rattle.block.proofs.header.store_words.Tie as tie
-use Rattle.block.proofs.header.store_words.Reads as reads
-use Rattle.block.proofs.header.store_words.Lts as lts
 
 abbrev Inv-loop : tie.InvT-loop
 Inv-loop b₀ at ws i₀ b i = (i ≤ length ws) × (length b ≡ length b₀) × (b ≡ put at (wordsBytes (take i ws)) b₀)

@@ -1,5 +1,6 @@
+-- `links::add_eager` meets its contract: it is a mark.
+-- Assumes nothing.
 use Rattle.protocol.specs.Links.{makeEager}
-use native.Mathlib.Omega.{arith}
 use borrow.Author.Needs.{needs}
 use Rattle.block.proofs.links.add_eager.Statement.{statement}
 use Rattle.block.proofs.links.add_eager.Tie as tie

@@ -1,5 +1,6 @@
+-- `links::add_lazy` meets its contract: it is a mark.
+-- Assumes nothing.
 use Rattle.protocol.specs.Links.{makeLazy}
-use native.Mathlib.Omega.{arith}
 use borrow.Author.Needs.{needs}
 use Rattle.block.proofs.links.add_lazy.Statement.{statement}
 use Rattle.block.proofs.links.add_lazy.Tie as tie

@@ -1,9 +1,10 @@
-use mathlib.Core.Path.{_≡_, sym, ap, _∙_}
+-- `links::eager_at` meets its contract: the byte read is the mark of the view.
+-- Assumes nothing.
+use mathlib.Core.Path.{sym, ap, _∙_}
 use Prim.Native.Nat.{_+_, _*_}
 use lib.ListN.{getD}
 use Rattle.protocol.specs.Links.{isEager}
 use Rattle.block.proofs.LinkLaws.{read-mark, mark-zero, mark-other}
-use native.Mathlib.Omega.{arith}
 use borrow.Author.Needs.{needs}
 use Rattle.block.proofs.links.eager_at.Statement.{statement}
 use Rattle.block.proofs.links.eager_at.Tie as tie

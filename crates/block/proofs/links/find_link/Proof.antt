@@ -1,8 +1,10 @@
-use mathlib.Core.Path.{_≡_, sym, ap, _∙_}
+-- `links::find_link` meets its contract: the links before i are below the peer.
+-- Assumes nothing.
+use mathlib.Core.Path.{sym, _∙_}
 use Rattle.block.proofs.LinkLaws.{count-peers}
 use Rattle.block.proofs.Scans.{scan-more, scan-above, scan-end}
 use Rattle.time_cache.proofs.Orders.{up-of}
-use Prim.Native.Nat.{ℕ, _+_, _-_, _≤_, _<_}
+use Prim.Native.Nat.{ℕ, _-_, _≤_, _<_}
 use lib.ListN.{getD}
 use Rattle.lists.specs.Map.{keys}
 use Rattle.block.specs.View.{stateOf}

@@ -1,11 +1,12 @@
-use mathlib.Core.Path.{_≡_, sym, ap, _∙_, subst}
+-- `links::mark_peer` meets its contract: a neighbour is marked, a stranger is not.
+-- Assumes nothing.
+use mathlib.Core.Path.{_∙_, subst}
 use mathlib.Core.List.{List}
-use Prim.Native.Nat.{ℕ, _<_}
-use Rattle.rows.specs.Sorted.{Here, Between, FoundIs}
+use Prim.Native.Nat.{ℕ}
+use Rattle.rows.specs.Sorted.{Here, FoundIs}
 use Rattle.rows.specs.declared.table.Found.{Found}
 use Rattle.lists.specs.Map.{keys}
 use Rattle.block.specs.View.{stateOf}
-use Rattle.block.specs.Goes.{Goes}
 use Rattle.block.specs.LinkSteps.{markFor}
 use Rattle.block.proofs.LinkLaws.{count-peers, mark-there, mark-stranger}
 use Rattle.time_cache.proofs.Orders.{up-of}

@@ -1,6 +1,7 @@
-use mathlib.Core.Path.{_≡_, sym, ap, _∙_}
+-- `links::peer_at` meets its contract: the row read is the link of the view.
+-- Assumes nothing.
+use mathlib.Core.Path.{_∙_}
 use Rattle.block.proofs.LinkLaws.{read-peer}
-use native.Mathlib.Omega.{arith}
 use borrow.Author.Needs.{needs}
 use Rattle.block.proofs.links.peer_at.Statement.{statement}
 use Rattle.block.proofs.links.peer_at.Tie as tie

@@ -1,4 +1,6 @@
-use mathlib.Core.Path.{_≡_, sym, ap, _∙_, subst}
+-- `links::set_mark` meets its contract: the byte put is a mark anew.
+-- Assumes nothing.
+use mathlib.Core.Path.{sym, subst}
 use mathlib.Core.List.{List, [], _∷_}
 use Prim.Native.Nat.{ℕ, _+_, _*_}
 use Rattle.rows.specs.Part.{put}

@@ -1,3 +1,5 @@
+-- `missing::announce` meets its contract: by what the search found.
+-- Assumes nothing.
 use mathlib.Core.Path.{_≡_, sym, ap, _∙_, subst}
 use mathlib.Core.List.{List, [], _∷_}
 use Prim.Native.Nat.{ℕ, _+_, _≤_, _<_}
@@ -11,7 +13,7 @@ use Rattle.protocol.specs.State.{State, Hop}
 use Rattle.protocol.specs.Control.{addAnnouncer}
 use Rattle.block.specs.View.{stateOf}
 use Rattle.block.specs.LinkSteps.{peerAt}
-use Rattle.block.specs.MissingSteps.{hop, addedAt, newWith, announcedBy}
+use Rattle.block.specs.MissingSteps.{hop, announcedBy}
 use Rattle.block.specs.declared.head.Head.{Head}
 use Rattle.block.proofs.MissingLaws.{count-missing, count-missed}
 use Rattle.block.proofs.AnnounceLaws.{announcers-here, announced-here, announced-new, insert-long}

@@ -1,12 +1,14 @@
-use mathlib.Core.Path.{_≡_, sym, ap, _∙_}
-use mathlib.Core.List.{List, [], _∷_, _++_}
+-- `missing::announce_at` meets its contract: a link that is there stays, another is added.
+-- Assumes nothing.
+use mathlib.Core.Path.{sym, ap, _∙_}
+use mathlib.Core.List.{List, [], _∷_}
 use lib.ListN.{length, length-append}
 use Rattle.lists.specs.Map.{keys}
 use Rattle.time_cache.proofs.Orders.{up-of}
 use Rattle.protocol.specs.State.{Hop}
 use Rattle.block.specs.View.{stateOf}
 use Rattle.block.specs.LinkSteps.{peerAt}
-use Rattle.block.specs.MissingSteps.{hop, hopsAt, hopsTo, addedAt}
+use Rattle.block.specs.MissingSteps.{hop, hopsAt, hopsTo}
 use Rattle.block.proofs.MissingLaws.{count-missing}
 use Rattle.block.proofs.AnnounceLaws.{added-there, added-not, hops-same}
 use native.Mathlib.Omega.{arith}

@@ -1,18 +1,19 @@
-use mathlib.Core.Path.{_≡_, refl, sym, ap, _∙_, subst}
-use mathlib.Core.Bool.{true}
+-- `missing::announce_new` meets its contract: a row more, then its announcer.
+-- Assumes nothing.
+use mathlib.Core.Path.{_≡_, ap, _∙_}
 use mathlib.Core.List.{List, []}
-use Prim.Native.Nat.{ℕ, _+_, _<_}
+use Prim.Native.Nat.{_+_}
 use lib.ListN.{length, length-map}
 use Rattle.rows.specs.Ident.{idOf}
 use Rattle.lists.specs.Base.{ascending}
-use Rattle.lists.specs.Map.{Map, Entry, entry, keys, insert}
+use Rattle.lists.specs.Map.{Entry, entry, keys}
 use Rattle.lists.proofs.MapLaws.{ascending-insert}
 use Rattle.time_cache.proofs.Orders.{up-of}
 use Rattle.protocol.specs.State.{State, Hop}
 use Rattle.block.specs.View.{stateOf}
-use Rattle.block.specs.MissingSteps.{hopsAt, missAlso, announcedAt}
+use Rattle.block.specs.MissingSteps.{hopsAt, announcedAt}
 use Rattle.block.proofs.LinkLaws.{count-links}
-use Rattle.block.proofs.MissingLaws.{count-missing, count-missed}
+use Rattle.block.proofs.MissingLaws.{count-missing}
 use Rattle.block.proofs.AnnounceLaws.{insert-at, insert-long, new-announced}
 use native.Mathlib.Omega.{arith}
 use borrow.Author.Needs.{needs}

@@ -1,5 +1,7 @@
-use mathlib.Core.Path.{_≡_, sym, ap, _∙_, subst}
-use Prim.Native.Nat.{ℕ, _+_, _*_, _≤_, _<_}
+-- `missing::announcer_at` meets its contract: number and round read are an announcer of the view.
+-- Assumes nothing.
+use mathlib.Core.Path.{ap, subst}
+use Prim.Native.Nat.{ℕ, _+_, _*_}
 use Rattle.block.specs.HopSteps.{HopIn}
 use Rattle.block.proofs.MissingLaws.{missed-count, missed-few, missed-hop}
 use native.Mathlib.Omega.{arith}

@@ -1,8 +1,9 @@
-use mathlib.Core.Path.{_≡_, sym, ap, _∙_, subst}
+-- `missing::announcers_of` meets its contract: the byte read is the number of announcers of the view.
+-- Assumes nothing.
+use mathlib.Core.Path.{sym, ap, _∙_, subst}
 use Prim.Native.Nat.{ℕ, _+_, _*_, _≤_}
 use lib.ListN.{getD}
 use Rattle.block.proofs.MissingLaws.{missed-count, missed-few}
-use native.Mathlib.Omega.{arith}
 use borrow.Author.Needs.{needs}
 use Rattle.block.proofs.missing.announcers_of.Statement.{statement}
 use Rattle.block.proofs.missing.announcers_of.Tie as tie

@@ -1,4 +1,6 @@
-use mathlib.Core.Path.{_≡_, sym, subst}
+-- `missing::find_missing` meets its contract: the search is among the keys of the view.
+-- Assumes nothing.
+use mathlib.Core.Path.{sym, subst}
 use mathlib.Core.List.{List}
 use Prim.Native.Nat.{ℕ, _-_}
 use lib.ListN.{length, drop, length-drop}

@@ -1,9 +1,10 @@
-use mathlib.Core.Path.{_≡_, sym, ap, _∙_, subst}
+-- `missing::insert_missing` meets its contract: the move and the stores are a row more.
+-- Assumes nothing.
+use mathlib.Core.Path.{sym, ap, _∙_, subst}
 use mathlib.Core.List.{List}
 use Prim.Native.Nat.{ℕ, _+_, _-_, _*_, _≤_}
-use lib.ListN.{length, length-set}
+use lib.ListN.{length-set}
 use Rattle.rows.specs.Part.{part, put}
-use Rattle.rows.specs.Digits.{beBytes}
 use Rattle.rows.specs.Ident.{idOf}
 use Rattle.rows.proofs.Entries.{id-lt}
 use Rattle.block.specs.Goes.{Goes}

@@ -1,4 +1,6 @@
-use mathlib.Core.Path.{_≡_, sym, ap, _∙_}
+-- `missing::leave_first` meets its contract: one announcer goes with its row, of several the first.
+-- Assumes nothing.
+use mathlib.Core.Path.{sym, _∙_}
 use Rattle.block.specs.View.{stateOf}
 use Rattle.block.proofs.AnnounceLaws.{left-one, left-more}
 use native.Mathlib.Omega.{arith}

@@ -1,4 +1,6 @@
-use mathlib.Core.Path.{_≡_, sym, ap, _∙_, subst}
+-- `missing::remove_missing` meets its contract: the move is a row less.
+-- Assumes nothing.
+use mathlib.Core.Path.{sym, _∙_, subst}
 use mathlib.Core.List.{List}
 use Prim.Native.Nat.{ℕ, _+_, _-_, _*_}
 use Rattle.rows.specs.Part.{part, put}
@@ -6,7 +8,6 @@ use Rattle.block.specs.Goes.{Goes}
 use Rattle.block.specs.Heads.{withMissingCount}
 use Rattle.block.specs.MissingSteps.{missOutAt}
 use Rattle.block.proofs.MissingLaws.{missing-out}
-use native.Mathlib.Omega.{arith}
 use borrow.Author.Needs.{needs}
 use Rattle.block.proofs.missing.remove_missing.Statement.{statement}
 use Rattle.block.proofs.missing.remove_missing.Tie as tie

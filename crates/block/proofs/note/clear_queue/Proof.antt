@@ -1,6 +1,6 @@
+-- `note::clear_queue` meets its contract: no rows are no notes.
+-- Assumes nothing.
 use Rattle.block.proofs.NoteLaws.{queue-cleared}
-use native.Mathlib.Omega.{arith}
-use borrow.Author.Needs.{needs}
 use Rattle.block.proofs.note.clear_queue.Statement.{statement}
 use Rattle.block.proofs.note.clear_queue.Tie as tie
 

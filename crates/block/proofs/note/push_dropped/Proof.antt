@@ -1,4 +1,6 @@
-use mathlib.Core.Path.{_≡_, sym, ap, _∙_, subst}
+-- `note::push_dropped` meets its contract: the two puts are a note more.
+-- Assumes nothing.
+use mathlib.Core.Path.{sym, _∙_, subst}
 use mathlib.Core.List.{List, [], _∷_}
 use Prim.Native.Nat.{ℕ, _+_, _*_}
 use Rattle.rows.specs.Part.{put}

@@ -1,10 +1,11 @@
-use mathlib.Core.Path.{_≡_, sym, ap, _∙_, subst}
+-- `note::queued_link_at` meets its contract: the byte read is the link number of the view.
+-- Assumes nothing.
+use mathlib.Core.Path.{sym, ap, _∙_, subst}
 use Prim.Native.Nat.{ℕ, _+_}
 use lib.ListN.{getD}
 use Rattle.block.specs.View.{stateOf}
 use Rattle.block.specs.NoteSteps.{LinkIs}
 use Rattle.block.proofs.NoteLaws.{queue-link}
-use native.Mathlib.Omega.{arith}
 use borrow.Author.Needs.{needs}
 use Rattle.block.proofs.note.queued_link_at.Statement.{statement}
 use Rattle.block.proofs.note.queued_link_at.Tie as tie

@@ -1,3 +1,5 @@
+-- `note::scan_dropped` meets its contract: count and answer are those of the rows passed.
+-- Assumes nothing.
 use mathlib.Core.Path.{_≡_, refl, sym, ap, _∙_}
 use mathlib.Core.Bool.{Bool, true, false, _&&_}
 use mathlib.Core.List.{List}

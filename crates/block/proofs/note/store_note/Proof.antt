@@ -1,5 +1,7 @@
-use mathlib.Core.Path.{_≡_, sym, ap, _∙_}
-use Prim.Native.Nat.{ℕ, _+_}
+-- `note::store_note` meets its contract: three stores are two puts.
+-- Assumes nothing.
+use mathlib.Core.Path.{ap, _∙_}
+use Prim.Native.Nat.{_+_}
 use lib.ListN.{length-set, set}
 use Rattle.rows.specs.Part.{put}
 use Rattle.rows.specs.Digits.{leBytes}

@@ -12,7 +12,7 @@ use lib.ListN.{length, take, drop, length-map}
 use lib.Seq.{take-take}
 use Rattle.lists.specs.Base.{if_then_else_, isEmpty, all, ascending}
 use Rattle.lists.specs.Map.{keys}
-use Rattle.lists.proofs.MapLaws.{cases, true≢, and-left, and-right, and-intro}
+use Rattle.lists.proofs.MapLaws.{and-intro}
 use Rattle.rows.specs.Part.{part}
 use Rattle.rows.specs.Digits.{leNat}
 use Rattle.rows.specs.Rows.{rows}

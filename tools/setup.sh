@@ -31,3 +31,12 @@ every_crate_listed() {
         grep -q "^$n:" crates.txt || die "crates/$n is not listed in crates.txt"
     done
 }
+
+# Is there a Rust that builds the original? Without one the stored answers are still replayed by `rt ci`.
+have_rust() {
+    local v
+    v=$(cargo --version 2>/dev/null | sed -n 's/^cargo 1\.\([0-9]*\)\..*/\1/p')
+    [ -n "$v" ] && [ "$v" -ge 82 ] && return 0
+    echo "left out: no cargo of 1.82 or later here, so the original Rust is not run beside the library"
+    return 1
+}

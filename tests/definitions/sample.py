@@ -384,8 +384,10 @@ def unfoldings():
     for prefix, mods in SPECS.items():
         for m in mods:
             text = open("%s/crates/%s/specs/%s.antt" % (root, CRATE[prefix], m)).read()
-            for name in re.findall(r"^\s*unfoldable pub (\S+) ", text, re.M):
-                yield "%s.%s" % (m, name)
+            passed_on = re.findall(r"^unfoldable pub use \S+\.\{(.*)\}", text, re.M)
+            for name in re.findall(r"^\s*unfoldable pub (\S+) :", text, re.M) + ", ".join(passed_on).split(", "):
+                if name:
+                    yield "%s.%s" % (m, name)
 
 
 PRELUDE = """-- The Rust's answers to lists of calls, which the definitions give too: outputs, answer numbers, states and counts. Written by tests/definitions/sample.py from calls.txt beside it.

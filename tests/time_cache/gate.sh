@@ -3,6 +3,7 @@
 set -eu
 cd "$(dirname "$0")/../.."
 . tools/setup.sh
+have_rust || exit 0
 need_packages librust-hex-dev librust-indexmap-dev
 (cd tests/rust/seed && sha256sum -c --quiet SHA256SUMS)
 rt staticlib time_cache_c >/dev/null

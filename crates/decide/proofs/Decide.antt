@@ -1,4 +1,4 @@
--- The "decide" half in one place: questions 12, 13 and 14 and the actions, of the state before the call; what never grows; rooms by `firstRoom`.
+-- Question 12 of the state before the call, what never grows, and the rooms that a call depends on; questions 13 and 14 and the actions are in EachEvent.
 use Prim.Native.Nat.{ℕ, suc, _*_, _≤_}
 use mathlib.Core.Path.{_≡_, refl, sym, ap, _∙_}
 use mathlib.Core.Bool.{Bool, true, false}

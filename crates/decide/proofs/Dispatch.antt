@@ -70,7 +70,7 @@ addPieces c rooms (x ∷ xs) ds = addPieces c rooms xs (if pieceTaken rooms x th
 
 -- one piece
 record One (brought : List Room) (x : Piece) (r r′ : Run) : Type 0 where
-  aside : RecordOnly r r′
+  only : RecordOnly r r′
   rooms : r′ .rooms ≡ useRoom (x .peer) (r .rooms)
   dropped : r′ .state .dropped ≡ (if pieceTaken brought x then r .state .dropped else addNotes (cachedIn (r .state .cache)) (x .peer) (x .ihaves) (r .state .dropped))
   actions : r′ .actions ≡ (r .actions ++ (Sent (x .peer) (pieceTaken brought x) (IHave (x .ihaves)) ∷ []))
@@ -88,7 +88,7 @@ one-piece brought x r n e = on (hasRoom (x .peer) (r .rooms)) refl
     on true h =
         let t : pieceTaken brought x ≡ true = sym e ∙ h in
         record {
-          aside = only-send (x .peer) (IHave (x .ihaves)) r;
+          only = only-send (x .peer) (IHave (x .ihaves)) r;
           rooms = unfold send in refl;
           dropped = rw t (unfold send in refl);
           actions = rw t (unfold send in (rw h (sym (append-nil (r .actions ++ (Sent (x .peer) true (IHave (x .ihaves)) ∷ []))))));
@@ -98,7 +98,7 @@ one-piece brought x r n e = on (hasRoom (x .peer) (r .rooms)) refl
         let t : pieceTaken brought x ≡ false = sym e ∙ h in
         let k = noted-for (x .peer) (x .ihaves) (send (x .peer) (IHave (x .ihaves)) r) (unfold send in n) in
         record {
-          aside = only-trans r (send (x .peer) (IHave (x .ihaves)) r) _ (only-send (x .peer) (IHave (x .ihaves)) r) (only-noteDropped (x .peer) (x .ihaves) (send (x .peer) (IHave (x .ihaves)) r));
+          only = only-trans r (send (x .peer) (IHave (x .ihaves)) r) _ (only-send (x .peer) (IHave (x .ihaves)) r) (only-noteDropped (x .peer) (x .ihaves) (send (x .peer) (IHave (x .ihaves)) r));
           rooms = k .rooms ∙ unfold send in refl;
           dropped = rw t (k .dropped ∙ unfold send in refl);
           actions = rw t (k .actions ∙ unfold send in (rw h refl));
@@ -158,12 +158,12 @@ next-flagged false false ds [] h = refl
 next-flagged false false ds (d ∷ ds′) h = refl
 
 module _ (brought : List Room) where
-  pieces-aside : (xs : List Piece) (r : Run) → all (λ x. isNeighbour (x .peer) (r .state .links)) xs ≡ true → Rightly brought (r .rooms) xs → RecordOnly r (sendPieces xs r)
+  pieces-only : (xs : List Piece) (r : Run) → all (λ x. isNeighbour (x .peer) (r .state .links)) xs ≡ true → Rightly brought (r .rooms) xs → RecordOnly r (sendPieces xs r)
   unfolding sendPieces Rightly
-  pieces-aside [] r n w = only-refl r
-  pieces-aside (x ∷ xs) r n w =
+  pieces-only [] r n w = only-refl r
+  pieces-only (x ∷ xs) r n w =
       let o = one-piece brought x r (all-head (λ x. isNeighbour (x .peer) (r .state .links)) x xs n) (unfold pieceTaken in (w .0)) in
-      only-trans r _ _ (o .aside) (pieces-aside xs (sendIhave (x .peer) (x .ihaves) r) (rw (o .aside .links) (all-tail (λ x. isNeighbour (x .peer) (r .state .links)) x xs n)) (rw (o .rooms) (w .1)))
+      only-trans r _ _ (o .only) (pieces-only xs (sendIhave (x .peer) (x .ihaves) r) (rw (o .only .links) (all-tail (λ x. isNeighbour (x .peer) (r .state .links)) x xs n)) (rw (o .rooms) (w .1)))
 
   pieces-dropped : (xs : List Piece) (r : Run) → all (λ x. isNeighbour (x .peer) (r .state .links)) xs ≡ true → Rightly brought (r .rooms) xs →
       sendPieces xs r .state .dropped ≡ addPieces (cachedIn (r .state .cache)) brought xs (r .state .dropped)
@@ -171,8 +171,8 @@ module _ (brought : List Room) where
   pieces-dropped [] r n w = refl
   pieces-dropped (x ∷ xs) r n w =
       let o = one-piece brought x r (all-head (λ x. isNeighbour (x .peer) (r .state .links)) x xs n) (unfold pieceTaken in (w .0)) in
-      pieces-dropped xs (sendIhave (x .peer) (x .ihaves) r) (rw (o .aside .links) (all-tail (λ x. isNeighbour (x .peer) (r .state .links)) x xs n)) (rw (o .rooms) (w .1))
-      ∙ rw (o .aside .cache, o .dropped) refl
+      pieces-dropped xs (sendIhave (x .peer) (x .ihaves) r) (rw (o .only .links) (all-tail (λ x. isNeighbour (x .peer) (r .state .links)) x xs n)) (rw (o .rooms) (w .1))
+      ∙ rw (o .only .cache, o .dropped) refl
 
   pieces-actions : (xs : List Piece) (r : Run) → all (λ x. isNeighbour (x .peer) (r .state .links)) xs ≡ true → Rightly brought (r .rooms) xs → Flagged (r .state .dropped) (r .state .announceScheduled) →
       sendPieces xs r .actions ≡ r .actions ++ pieceActions (cachedIn (r .state .cache)) brought (r .state .announceScheduled) xs
@@ -180,9 +180,9 @@ module _ (brought : List Room) where
   pieces-actions [] r n w g = sym (append-nil (r .actions))
   pieces-actions (x ∷ xs) r n w g =
       let o = one-piece brought x r (all-head (λ x. isNeighbour (x .peer) (r .state .links)) x xs n) (unfold pieceTaken in (w .0)) in
-      pieces-actions xs (sendIhave (x .peer) (x .ihaves) r) (rw (o .aside .links) (all-tail (λ x. isNeighbour (x .peer) (r .state .links)) x xs n)) (rw (o .rooms) (w .1))
+      pieces-actions xs (sendIhave (x .peer) (x .ihaves) r) (rw (o .only .links) (all-tail (λ x. isNeighbour (x .peer) (r .state .links)) x xs n)) (rw (o .rooms) (w .1))
       (rw (o .dropped, o .flag) (next-flagged (pieceTaken brought x) (r .state .announceScheduled) (r .state .dropped) (addNotes (cachedIn (r .state .cache)) (x .peer) (x .ihaves) (r .state .dropped)) g))
-      ∙ rw (o .actions, o .flag, o .aside .cache) (unfold recordAction in
+      ∙ rw (o .actions, o .flag, o .only .cache) (unfold recordAction in
       (step-actions (pieceTaken brought x) (r .state .announceScheduled) (any (λ h. holds (h .id) (r .state .cache)) (x .ihaves)) (isEmpty (addNotes (cachedIn (r .state .cache)) (x .peer) (x .ihaves) (r .state .dropped)))
       (r .actions) (Sent (x .peer) (pieceTaken brought x) (IHave (x .ihaves))) (λ f. pieceActions (cachedIn (r .state .cache)) brought f xs) stands))
     where
@@ -214,9 +214,9 @@ unfolding sendPieces Rightly addPieces
 pieces-flag brought [] r n w g = flag-stands (isEmpty (r .state .dropped)) (r .state .announceScheduled) g
 pieces-flag brought (x ∷ xs) r n w g =
     let o = one-piece brought x r (all-head (λ x. isNeighbour (x .peer) (r .state .links)) x xs n) (unfold pieceTaken in (w .0)) in
-    pieces-flag brought xs (sendIhave (x .peer) (x .ihaves) r) (rw (o .aside .links) (all-tail (λ x. isNeighbour (x .peer) (r .state .links)) x xs n)) (rw (o .rooms) (w .1))
+    pieces-flag brought xs (sendIhave (x .peer) (x .ihaves) r) (rw (o .only .links) (all-tail (λ x. isNeighbour (x .peer) (r .state .links)) x xs n)) (rw (o .rooms) (w .1))
     (rw (o .dropped, o .flag) (next-flagged (pieceTaken brought x) (r .state .announceScheduled) (r .state .dropped) (addNotes (cachedIn (r .state .cache)) (x .peer) (x .ihaves) (r .state .dropped)) g))
-    ∙ rw (o .aside .cache, o .dropped, o .flag)
+    ∙ rw (o .only .cache, o .dropped, o .flag)
     (flag-next (isEmpty (addPieces (cachedIn (r .state .cache)) brought xs (if pieceTaken brought x then r .state .dropped else addNotes (cachedIn (r .state .cache)) (x .peer) (x .ihaves) (r .state .dropped))))
     (pieceTaken brought x) (r .state .announceScheduled) (r .state .dropped) (addNotes (cachedIn (r .state .cache)) (x .peer) (x .ihaves) (r .state .dropped))
     (pieces-empty (cachedIn (r .state .cache)) brought xs (if pieceTaken brought x then r .state .dropped else addNotes (cachedIn (r .state .cache)) (x .peer) (x .ihaves) (r .state .dropped))))
@@ -381,7 +381,7 @@ module _ (r : Run) (x : Consistent (r .state)) where
   unfolding dispatchSizes qs k
   dispatched-sizes =
       ap (λ (y : Run). sizesOf (y .state)) dispatch-is ∙ clear-sizes (sendPieces (pieces qs k (r .state .queue)) r₁)
-      ∙ only-sizes r₁ (sendPieces (pieces qs k (r .state .queue)) r₁) (pieces-aside (r .rooms) (pieces qs k (r .state .queue)) r₁ near₁ right₁)
+      ∙ only-sizes r₁ (sendPieces (pieces qs k (r .state .queue)) r₁) (pieces-only (r .rooms) (pieces qs k (r .state .queue)) r₁ near₁ right₁)
       ∙ rw (recorded₁, empty-sizes) refl
 
   pub dispatched-actions : onDispatchTimer r .actions ≡ r .actions ++ dispatchActions (r .rooms) (r .state)
@@ -417,6 +417,6 @@ module _ (r : Run) (x : Consistent (r .state)) where
       ap (λ (y : Run). y .state) dispatch-is
       ∙ clear-state (sendPieces xs r₁)
       ∙ ap (λ (s : State). withDispatchScheduled false s)
-      (only-state r₁ (sendPieces xs r₁) (pieces-aside (r .rooms) xs r₁ near₁ right₁)
+      (only-state r₁ (sendPieces xs r₁) (pieces-only (r .rooms) xs r₁ near₁ right₁)
       ∙ (λ j. withAnnounceScheduled ((pieces-flag (r .rooms) xs r₁ near₁ right₁ (x .recordFlag) ∙ ap (λ (ds : List Note). not (isEmpty ds) || r .state .announceScheduled) b) j)
       (withDropped ((pieces-dropped (r .rooms) xs r₁ near₁ right₁ ∙ b) j) (withQueue [] (r .state)))))

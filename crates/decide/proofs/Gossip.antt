@@ -31,15 +31,15 @@ use Rattle.decide.proofs.RoomLaws.{has-first, kth-used-same, kth-used-o
 use Rattle.decide.proofs.TableSizes.{length-remove, length-removeKey}
 use Rattle.decide.proofs.GraftSendGraft.{push-gains, length-replace}
 use Rattle.decide.proofs.Broadcast.{cached-sizes, holds-put, lazy-field, lazy-rooms, lazy-actions}
-use Rattle.decide.proofs.Broadcast as Taken
-use Rattle.decide.proofs.GraftSendGraft as Control
+use Rattle.decide.proofs.Broadcast.{lazy-sizes}
+use Rattle.decide.proofs.GraftSendGraft.{addEager-sizes, addLazy-sizes}
 use Rattle.decide.proofs.PushLaws.{above-absent, absent-filter, marked-above, PushedTo, targets-once, targets-near, swarm-pushed, swarm-sizes, swarm-actions}
 
 -- Prune to one peer
 
 pub pruned-sizes : (p : ℕ) (r : Run) → ascending (keys (r .state .links)) ≡ true → sizesOf (pruneBack p r .state) ≡ sizesOf (r .state)
 unfolding pruneBack send
-pruned-sizes p r h = Control.lazy-sizes p r h
+pruned-sizes p r h = addLazy-sizes p r h
 
 pub pruned-actions : (p : ℕ) (r : Run) → pruneBack p r .actions ≡ r .actions ++ (firstSend (r .rooms) Prune p ∷ [])
 unfolding pruneBack send updateLinks firstSend
@@ -102,7 +102,7 @@ tree-sizes sender round (h ∷ hs) r u =
       where
         by : (b : Bool) → sizesOf ((if b then r else send (k .peer) (Graft none (k .round)) (updateLinks (addEager (k .peer)) r)) .state) ≡ sizesOf (r .state)
         by true = refl
-        by false = unfold send in (Control.eager-sizes (k .peer) r u)
+        by false = unfold send in (addEager-sizes (k .peer) r u)
 
 -- the second send to a peer, or the first to another
 second : (p q : ℕ) (rooms : List Room) → hasRoom p (useRoom q rooms) ≡ kthTaken (if eqb p q then 2 else 1) p rooms
@@ -310,7 +310,7 @@ after-sizes id sender round r₃ r₄ a u v w =
     ap sizesOf (raise-state (suc round) (forgetAndOptimise id sender round (lazyPush id (suc round) sender r₄)))
     ∙ settle-sizes id sender round (lazyPush id (suc round) sender r₄) (rw (p .links) u)
     ∙ forget-sizes id (lazyPush id (suc round) sender r₄) (rw (p .missing) v) (rw (p .timers) w)
-    ∙ rw (p .missing, p .timers, Taken.lazy-sizes id (suc round) sender r₄, a .queue, a .links) refl
+    ∙ rw (p .missing, p .timers, lazy-sizes id (suc round) sender r₄, a .queue, a .links) refl
 
 tree-state : (rooms : List Room) (sender round : ℕ) (hs : List Hop) (s t : State) → s .links ≡ t .links → s .settings ≡ t .settings → optimiseActions rooms sender round hs s ≡ optimiseActions rooms sender round hs t
 unfolding optimiseActions
@@ -403,7 +403,7 @@ module _ (now sender id : ℕ) (content : List ℕ) (round : ℕ) (r : Run) (c :
   new-sizes =
       let y = ready₃ in
       ap (λ (x : Run). sizesOf (x .state)) take-is
-      ∙ after-sizes id sender round r₃ r₄ (pushed₄ .aside) up₃ (rw (y .missing) (c .missingUp)) (rw (y .timers) (c .timersUp))
+      ∙ after-sizes id sender round r₃ r₄ (pushed₄ .only) up₃ (rw (y .missing) (c .missingUp)) (rw (y .timers) (c .timersUp))
       ∙ rw (recorded) (rw (sizes₃, cached₂) (rw (y .missing, y .timers, y .queue, y .links) refl))
     where
       recorded : sizesOf (r₄ .state) ≡ sizedRecorded (length (r .state .dropped) + pushGains id (r .state .dropped) 0 (backPeers (r .rooms) (eagerTargets sender (keys (graftedFor id (r .state))) (r .state)))) (sizesOf (r₃ .state))
@@ -435,7 +435,7 @@ module _ (now sender id : ℕ) (content : List ℕ) (round : ℕ) (r : Run) (c :
       ++ (if isNeighbour sender (r .state .links) && not (graftOut sender round (graftedFor id (r .state))) then optimiseActions (r .rooms) sender (suc round) (announcers id (r .state)) (r .state) else [])
   taken-actions =
       ap (λ (x : Run). x .actions) take-is
-      ∙ after-actions id sender round r₃ r₄ (pushed₄ .aside)
+      ∙ after-actions id sender round r₃ r₄ (pushed₄ .only)
       ∙ rw (tree₃) (rw (actions₄, dispatch₃, ready₃ .links, ready₃ .peers) refl)
 
   -- its actions

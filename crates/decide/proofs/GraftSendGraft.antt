@@ -39,17 +39,17 @@ pub length-mark : (p : ℕ) (m : Mark) (l : Links) → ascending (keys l) ≡ tr
 unfolding markIfThere
 length-mark p m l h = cases (isNeighbour p l) (λ n. rw n (length-insert p m l h ∙ unfold grown in (rw n refl))) (λ n. rw n refl)
 
-pub eager-sizes : (p : ℕ) (r : Run) → ascending (keys (r .state .links)) ≡ true → sizesOf (updateLinks (addEager p) r .state) ≡ sizesOf (r .state)
+pub addEager-sizes : (p : ℕ) (r : Run) → ascending (keys (r .state .links)) ≡ true → sizesOf (updateLinks (addEager p) r .state) ≡ sizesOf (r .state)
 unfolding updateLinks addEager sizesOf contentHeld
-eager-sizes p r h = rw (length-mark p eager (r .state .links) h) refl
+addEager-sizes p r h = rw (length-mark p eager (r .state .links) h) refl
 
-pub lazy-sizes : (p : ℕ) (r : Run) → ascending (keys (r .state .links)) ≡ true → sizesOf (updateLinks (addLazy p) r .state) ≡ sizesOf (r .state)
+pub addLazy-sizes : (p : ℕ) (r : Run) → ascending (keys (r .state .links)) ≡ true → sizesOf (updateLinks (addLazy p) r .state) ≡ sizesOf (r .state)
 unfolding updateLinks addLazy sizesOf contentHeld
-lazy-sizes p r h = rw (length-mark p lazy (r .state .links) h) refl
+addLazy-sizes p r h = rw (length-mark p lazy (r .state .links) h) refl
 
 pub prune-sizes : (p : ℕ) (r : Run) → ascending (keys (r .state .links)) ≡ true → sizesOf (onPrune p r .state) ≡ sizesOf (r .state)
 unfolding onPrune
-prune-sizes p r h = lazy-sizes p r h
+prune-sizes p r h = addLazy-sizes p r h
 
 pub prune-actions : (p : ℕ) (r : Run) → onPrune p r .actions ≡ r .actions
 unfolding onPrune updateLinks
@@ -141,10 +141,10 @@ replied-sizes rooms sender id (some c) s t e d = ap (λ (z : Sizes). sizedRecord
 pub graft-sizes : (sender : ℕ) (wanted : Option ℕ) (r : Run) → CoreOf (r .state) → isNeighbour sender (r .state .links) ≡ true →
     sizesOf (onGraft sender wanted r .state) ≡ graftSizes (r .rooms) sender wanted (r .state)
 unfolding onGraft reply graftSizes updateLinks replySizes
-graft-sizes sender none r c n = eager-sizes sender r (c .linksUp)
+graft-sizes sender none r c n = addEager-sizes sender r (c .linksUp)
 graft-sizes sender (some id) r c n =
     reply-sizes sender id _ (updateLinks (addEager sender) r) refl (near-eager sender r n)
-    ∙ replied-sizes (r .rooms) sender id (get id (r .state .cache)) (updateLinks (addEager sender) r .state) (r .state) (eager-sizes sender r (c .linksUp)) (unfold updateLinks in refl)
+    ∙ replied-sizes (r .rooms) sender id (get id (r .state .cache)) (updateLinks (addEager sender) r .state) (r .state) (addEager-sizes sender r (c .linksUp)) (unfold updateLinks in refl)
 
 pub graft-actions : (sender : ℕ) (wanted : Option ℕ) (r : Run) → isNeighbour sender (r .state .links) ≡ true →
     onGraft sender wanted r .actions ≡ r .actions ++ graftActions (r .rooms) sender wanted (r .state)

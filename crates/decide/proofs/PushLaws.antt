@@ -222,7 +222,7 @@ for-actions (p ∷ ps) h r n k =
 -- the push
 
 pub record PushedTo (ps : List ℕ) (r r′ : Run) : Type 0 where
-  pub aside : RecordOnly r r′
+  pub only : RecordOnly r r′
   pub rooms : (k q : ℕ) → member q ps ≡ false → kthTaken k q (r′ .rooms) ≡ kthTaken k q (r .rooms)
 
 pub back-near : (rooms : List Room) (l : Links) (ps : List ℕ) → all (λ p. isNeighbour p l) ps ≡ true → all (λ p. isNeighbour p l) (backPeers rooms ps) ≡ true
@@ -248,7 +248,7 @@ module _ (ps : List ℕ) (id : ℕ) (content : List ℕ) (r : Run) (near : all (
 
   pub swarm-pushed : (round : ℕ) → PushedTo ps r (pushTo ps id content (Swarm round) r)
   swarm-pushed round = rw (swarm-is round) (record {
-    aside = only-trans _ _ _ (walk-sendEach RecordOnly only-sending ps (Gossip id content (Swarm round)) r) (walk-noteForEach RecordOnly only-sending (backPeers (r .rooms) ps) (record { id = id; round = round }) _);
+    only = only-trans _ _ _ (walk-sendEach RecordOnly only-sending ps (Gossip id content (Swarm round)) r) (walk-noteForEach RecordOnly only-sending (backPeers (r .rooms) ps) (record { id = id; round = round }) _);
     rooms = λ k q m. ap (kthTaken k q) (for-rooms (backPeers (r .rooms) ps) (record { id = id; round = round }) (sendEach ps (Gossip id content (Swarm round)) r) (near-after round)) ∙ sent-rooms k q ps (Gossip id content (Swarm round)) r m;
   })
 
@@ -259,7 +259,7 @@ module _ (ps : List ℕ) (id : ℕ) (content : List ℕ) (r : Run) (near : all (
   pub swarm-sizes : (round : ℕ) → sizesOf (pushTo ps id content (Swarm round) r .state) ≡
       sizedRecorded (length (r .state .dropped) + gains (cachedIn (r .state .cache)) (r .state .dropped) 0 (batchesFor (record { id = id; round = round }) (backPeers (r .rooms) ps))) (sizesOf (r .state))
   swarm-sizes round =
-      only-sizes r _ (swarm-pushed round .aside)
+      only-sizes r _ (swarm-pushed round .only)
       ∙ ap (λ (n : ℕ). sizedRecorded n (sizesOf (r .state))) (ap length (swarm-dropped round)
       ∙ gains-now (cachedIn (r .state .cache)) (batchesFor (record { id = id; round = round }) (backPeers (r .rooms) ps)) (r .state .dropped) (rw (batches-peers (record { id = id; round = round }) (backPeers (r .rooms) ps)) (back-once (r .rooms) ps apart)))
 
@@ -273,7 +273,7 @@ module _ (ps : List ℕ) (id : ℕ) (content : List ℕ) (r : Run) (near : all (
 
   pub near-pushed : PushedTo ps r (pushTo ps id content Neighbors r)
   unfolding pushTo noteAfter
-  near-pushed = record { aside = walk-sendEach RecordOnly only-sending ps (Gossip id content Neighbors) r; rooms = λ k q m. sent-rooms k q ps (Gossip id content Neighbors) r m }
+  near-pushed = record { only = walk-sendEach RecordOnly only-sending ps (Gossip id content Neighbors) r; rooms = λ k q m. sent-rooms k q ps (Gossip id content Neighbors) r m }
 
   pub near-actions : pushTo ps id content Neighbors r .actions ≡ r .actions ++ map (firstSend (r .rooms) (Gossip id content Neighbors)) ps
   unfolding pushTo noteAfter

@@ -15,7 +15,7 @@ use Rattle.rows.specs.Rows.{rows}
 use Rattle.rows.proofs.Rows.{length-rows, getD-rows}
 use Rattle.time_cache.proofs.Orders.{all-at, below-of}
 use Rattle.protocol.specs.State.{State, Limits, limitsInRange, upTo, blockNeed}
-use Rattle.protocol.specs.Whole.{contentHeld}
+use Rattle.protocol.specs.Whole.{contentHeld, whole}
 use Rattle.block.specs.Layout.{tables}
 use Rattle.block.specs.View.{limitsOf, byteAt, fourAt, viewOf, stateOf}
 use Rattle.block.specs.Fit.{Ceilings, Within, Fit}
@@ -24,7 +24,7 @@ use Rattle.block.specs.Header.{headIn}
 use Rattle.block.specs.declared.head.Head.{Head}
 use Rattle.block.specs.declared.head.Live.{Live}
 use Rattle.block.proofs.Tables.{within-need}
-use Rattle.whole.specs.Held.{hasHeader, hasTables, countsWithin, allBelow, placesName, numbersName, allLists, adjoin, laidOut, holdsWith, held}
+use Rattle.whole.specs.Held.{hasHeader, hasTables, countsWithin, allBelow, placesName, numbersName, allLists, adjoin, laidOut, holdsWith, held, wholeHeld, wholeBlock}
 use Rattle.whole.proofs.Tests.{each}
 
 pub numbered-of : (m : ℕ) (list : List ℕ) → numbersName m list ≡ true → Numbered m list
@@ -162,3 +162,24 @@ held-sound block s e =
     record { sound = sound-of (headIn block) block (and-right (hasHeader block) (holdsWith (headIn block) block) p); state = (let z : stateOf (headIn block) block ≡ s = cc in sym z) })
     (λ p. let q : _≡_ {A = Option State} none (some s) = rw p at e in
     let z : false ≡ true = cc in true≢ z)
+
+-- a block that is whole: it holds the state of its tables, and that state is whole
+pub record Wholly (block : List ℕ) : Type 0 where
+  pub header : hasHeader block ≡ true
+  pub holds : holdsWith (headIn block) block ≡ true
+  pub sound : Sound (headIn block) block
+  pub state : held block ≡ some (stateOf (headIn block) block)
+  pub whole : whole (stateOf (headIn block) block) ≡ true
+
+pub wholly-of : (block : List ℕ) → wholeBlock block ≡ true → Wholly block
+unfolding wholeBlock wholeHeld held
+wholly-of block w =
+    cases (hasHeader block && holdsWith (headIn block) block)
+    (λ p. record {
+      header = and-left (hasHeader block) (holdsWith (headIn block) block) p;
+      holds = and-right (hasHeader block) (holdsWith (headIn block) block) p;
+      sound = sound-of (headIn block) block (and-right (hasHeader block) (holdsWith (headIn block) block) p);
+      state = rw p;
+      whole = rw p at w;
+    })
+    (λ p. true≢ (rw p at w))

@@ -12,7 +12,7 @@ use lib.ListN.{length, take, drop, length-map}
 use lib.Seq.{take-take}
 use Rattle.lists.specs.Base.{if_then_else_, isEmpty, all, ascending}
 use Rattle.lists.specs.Map.{keys}
-use Rattle.lists.proofs.MapLaws.{cases, true≢, and-left, and-right, and-intro}
+use Rattle.lists.proofs.MapLaws.{and-intro}
 use Rattle.rows.specs.Part.{part}
 use Rattle.rows.specs.Digits.{leNat}
 use Rattle.rows.specs.Rows.{rows}
@@ -36,7 +36,7 @@ use Rattle.block.proofs.Tables.{length-view, length-table}
 use Rattle.whole.specs.Held.{hasHeader, hasTables, countsWithin, allBelow, placesName, numbersName, allLists, adjoin, laidOut, holdsWith, held, wholeHeld, wholeBlock}
 use Rattle.whole.specs.Parts.{tableOf, cacheWhole, linksWhole, receivedWhole, cachedWhole, graftedWhole, missingWhole, timersWhole, queueWhole, recordWhole, tablesWhole, flagsWith}
 use Rattle.whole.proofs.Tests.{conj, Each, each, from-each, picks, both-ways}
-use Rattle.whole.proofs.HeldLaws.{fit-of}
+use Rattle.whole.proofs.HeldLaws.{fit-of, wholly-of}
 use Rattle.whole.proofs.NumberLaws.{peers-neighbours}
 use Rattle.whole.proofs.HopLaws.{pairs-map, take-few}
 
@@ -428,26 +428,18 @@ module _ (xs : List ℕ) where
       ap (λ (t : Bool). wholeHeld (if t then some (stateOf g xs) else none)) (and-intro header holds)
       ∙ state-whole g xs fit p (e .1 .1 .1 .1 .1 .0) (e .1 .1 .1 .1 .1 .1 .0) round limits (e .1 .1 .1 .1 .1 .1 .1 .0)
 
-  -- what a whole block holds
-  held-whole : wholeBlock xs ≡ true → Each (hasHeader xs ∷ holdsWith g xs ∷ whole (stateOf g xs) ∷ [])
-  unfolding wholeBlock wholeHeld held
-  held-whole w =
-      cases (hasHeader xs && holdsWith g xs)
-      (λ p. (and-left (hasHeader xs) (holdsWith g xs) p, (and-right (hasHeader xs) (holdsWith g xs) p, (rw p at w, tt))))
-      (λ p. true≢ (rw p at w))
-
   whole-tests : wholeBlock xs ≡ true → Each (firstTest xs ∷ laterTests g xs)
   unfolding hasHeader holdsWith hasTables whole inRange stateOf
   whole-tests w =
-      let e = held-whole w in
-      let header = each (leb 2048 (length xs)) (leb (wordAt 24 xs) 65535 ∷ []) (e .0) in
-      let holds = each (limitsInRange (limitsOf (g .limits)) && leb (blockNeed (limitsOf (g .limits))) (length xs)) (countsWithin (limitsOf (g .limits)) (g .live) ∷ laidOut g (tables (limitsOf (g .limits)) xs) ∷ []) (e .1 .0) in
+      let e = wholly-of xs w in
+      let header = each (leb 2048 (length xs)) (leb (wordAt 24 xs) 65535 ∷ []) (e .header) in
+      let holds = each (limitsInRange (limitsOf (g .limits)) && leb (blockNeed (limitsOf (g .limits))) (length xs)) (countsWithin (limitsOf (g .limits)) (g .live) ∷ laidOut g (tables (limitsOf (g .limits)) xs) ∷ []) (e .holds) in
       let has = each (limitsInRange (limitsOf (g .limits))) (leb (blockNeed (limitsOf (g .limits))) (length xs) ∷ []) (holds .0) in
-      let q = picks (inRange (stateOf g xs)) (stateTests g xs) (e .1 .1 .0) in
+      let q = picks (inRange (stateOf g xs)) (stateTests g xs) (e .whole) in
       let r = picks (sizeInRange (stateOf g xs .settings)) (rangeTests g xs) (q 0) in
       let fit : Fit g xs = fit-of g xs (holds .0) (holds .1 .0) in
       let flags : flagsWith (g .live) ≡ true = sym (flags-told g xs fit) ∙ q 14 in
-      let tabled : tablesWhole g xs ≡ true = of-passed g xs (passed-state g xs (holds .1 .1 .0) (e .1 .1 .0)) in
+      let tabled : tablesWhole g xs ≡ true = of-passed g xs (passed-state g xs (holds .1 .1 .0) (e .whole)) in
       (header .0, (header .1 .0, (has .0, (has .1 .0, (holds .1 .0, (r 0, (r 1, (flags, (tabled, tt)))))))))
 
 -- question 5 is the tests of the code

@@ -1,5 +1,5 @@
 -- Laws of the definitions (CallsWorked, CacheLaws, Timely, Removed), of orders and maps (Orders, MapPlaces, Cuts), of the two tables (TableLaws, ExpiryLaws,
--- NamedLaws), of tables in a block (BlockLaws, LoanLaws, ReadLaws), and of the functions over them (InsertLaws, ExpireLaws, ValueLaws, WriteLaws).
+-- NamedLaws), of tables in a block (BlockLaws, LoanLaws, ReadLaws), and of the functions over them (InsertLaws, ExpireLaws, ValueLaws, WriteLaws, ViewLaws).
 pub mod CallsWorked
 pub mod CacheLaws
 pub mod Timely
@@ -17,3 +17,4 @@ pub mod InsertLaws
 pub mod ExpireLaws
 pub mod ValueLaws
 pub mod WriteLaws
+pub mod ViewLaws

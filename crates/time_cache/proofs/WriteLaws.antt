@@ -71,7 +71,7 @@ put-getD i j x d l h n = go (tri j i)
     go (inr (inl p)) = absurd (n p)
     go (inr (inr p)) = getD-put-after i j d (x ∷ []) l (omega arith) (omega arith)
 
-put-getD-same : {A : Type 0} (i : ℕ) (x d : A) (l : List A) → i < length l → getD (put i (x ∷ []) l) i d ≡ x
+pub put-getD-same : {A : Type 0} (i : ℕ) (x d : A) (l : List A) → i < length l → getD (put i (x ∷ []) l) i d ≡ x
 unfolding put
 put-getD-same zero x d [] h = absurd (omega arith)
 put-getD-same zero x d (y ∷ l) h = refl
@@ -140,9 +140,9 @@ module _ (c : TimeBoundCache) (xs : List ℕ) (s : Sound c xs) (i : ℕ) (l : i 
       ∙ ap (λ (p : ℕ). put i (p ∷ []) (places es)) (sym (getD-map-in (λ (q : Ref). q .place) es i 0 (ref 0 []) there))
       ∙ put-same i 0 (places es) (omega (arith, length-map es (λ (q : Ref). q .place), there))
 
-  -- no other entry names its row
-  p-there : r .place < length rs
-  p-there = omega (arith, getD-map-in (λ (q : Ref). q .place) es i 0 (ref 0 []) there, s .below .below i (omega (arith, length-map es (λ (q : Ref). q .place), there)), length-rs c xs)
+  -- its place names a row
+  pub place-low : r .place < length rs
+  place-low = omega (arith, getD-map-in (λ (q : Ref). q .place) es i 0 (ref 0 []) there, s .below .below i (omega (arith, length-map es (λ (q : Ref). q .place), there)), length-rs c xs)
 
   key-in : (j : ℕ) → j < length es → getD (named rs es) j 0 ≡ rowAt rs (refAt es j .place) .key
   unfolding named
@@ -152,6 +152,7 @@ module _ (c : TimeBoundCache) (xs : List ℕ) (s : Sound c xs) (i : ℕ) (l : i 
   unfolding named
   length-names = length-map es (λ (q : Ref). rowAt rs (q .place) .key)
 
+  -- two entries name two rows
   clash : (p q : ℕ) → p < q → q < length es → refAt es p .place ≡ refAt es q .place → ⊥
   clash p q h g e =
       omega (arith, sound-up c xs s .up p q h (omega (arith, length-names)), key-in p (omega arith), key-in q g, ap (λ (z : ℕ). rowAt rs z .key) e)
@@ -175,8 +176,8 @@ module _ (c : TimeBoundCache) (xs : List ℕ) (s : Sound c xs) (i : ℕ) (l : i 
     pub rest-expiry : map expiryOf rowsNow ≡ map expiryOf rs
     rest-expiry =
         map-put expiryOf (r .place) (new ∷ []) rs
-        ∙ ap (λ (y : Expiry). put (r .place) (y ∷ []) (map expiryOf rs)) (sym (getD-map-in expiryOf rs (r .place) (expiryOf noRow) noRow p-there))
-        ∙ put-same (r .place) (expiryOf noRow) (map expiryOf rs) (omega (arith, length-map rs expiryOf, p-there))
+        ∙ ap (λ (y : Expiry). put (r .place) (y ∷ []) (map expiryOf rs)) (sym (getD-map-in expiryOf rs (r .place) (expiryOf noRow) noRow place-low))
+        ∙ put-same (r .place) (expiryOf noRow) (map expiryOf rs) (omega (arith, length-map rs expiryOf, place-low))
 
     abbrev e′ : Entry (Timed Held)
     e′ = entry (x .key) (record { expires = x .time; value = held (r .own) rest })
@@ -188,11 +189,11 @@ module _ (c : TimeBoundCache) (xs : List ℕ) (s : Sound c xs) (i : ℕ) (l : i 
     each j h (inl p) =
         getD-map-in (entryOf held rowsNow) es j d (ref 0 []) h
         ∙ ap (λ (k : ℕ). entryOf held rowsNow (refAt es k)) p
-        ∙ ap (entryFor held r) (put-getD-same (r .place) new noRow rs p-there)
+        ∙ ap (entryFor held r) (put-getD-same (r .place) new noRow rs place-low)
         ∙ sym (ap (λ (k : ℕ). getD (put i (e′ ∷ []) (map (entryOf held rs) es)) k d) p ∙ put-getD-same i e′ d (map (entryOf held rs) es) (omega (arith, length-map es (entryOf held rs), there)))
     each j h (inr n) =
         getD-map-in (entryOf held rowsNow) es j d (ref 0 []) h
-        ∙ ap (entryFor held (refAt es j)) (put-getD (r .place) (refAt es j .place) new noRow rs p-there (alone j h n))
+        ∙ ap (entryFor held (refAt es j)) (put-getD (r .place) (refAt es j .place) new noRow rs place-low (alone j h n))
         ∙ sym (put-getD i j e′ d (map (entryOf held rs) es) (omega (arith, length-map es (entryOf held rs), there)) n ∙ getD-map-in (entryOf held rs) es j d (ref 0 []) h)
 
     same-or : (j : ℕ) → (j ≡ i) ⊎ (j ≡ i → ⊥)
@@ -231,12 +232,12 @@ module _ (c : TimeBoundCache) (xs : List ℕ) (s : Sound c xs) (i : ℕ) (l : i 
       inside : i * c .entries .stride + c .entries .stride ≤ c .entries .len * c .entries .stride
       inside = row-end (c .entries .stride) (c .entries .len) i l
 
-      own-refs : refsAt c ownWritten ≡ put i (ref (r .place) (put o bs (r .own)) ∷ []) es
+      pub own-refs : refsAt c ownWritten ≡ put i (ref (r .place) (put o bs (r .own)) ∷ []) es
       own-refs =
           ap (refs (c .entries .stride) (c .entries .len)) (put-behind (c .entries .at) (i * c .entries .stride + (2 + o)) bs xs (omega (arith, lies .apart, lies .within)))
           ∙ own-stored (c .entries .stride) (c .entries .len) i o bs (drop (c .entries .at) xs) w l (omega (arith, length-drop (c .entries .at) xs, lies .apart, lies .within))
 
-      own-rows : rowsAt c ownWritten ≡ rs
+      pub own-rows : rowsAt c ownWritten ≡ rs
       own-rows =
           ap (expiryRows (c .expiry .stride) (c .expiry .len))
           (drop-put (c .expiry .at) (c .entries .at + (i * c .entries .stride + (2 + o))) bs xs (omega (arith, inside, lies .apart)) (omega (arith, inside, lies .apart, lies .within)))
@@ -255,17 +256,17 @@ module _ (c : TimeBoundCache) (xs : List ℕ) (s : Sound c xs) (i : ℕ) (l : i 
 
     module _ (w : 40 + o + length bs ≤ c .expiry .stride) where
       p-low : r .place < c .expiry .len
-      p-low = omega (arith, p-there, length-rs c xs)
+      p-low = omega (arith, place-low, length-rs c xs)
 
       within : r .place * c .expiry .stride + c .expiry .stride ≤ c .expiry .len * c .expiry .stride
       within = row-end (c .expiry .stride) (c .expiry .len) (r .place) p-low
 
-      rest-rows : rowsAt c restWritten ≡ rowsNow (put o bs (x .rest))
+      pub rest-rows : rowsAt c restWritten ≡ rowsNow (put o bs (x .rest))
       rest-rows =
           ap (expiryRows (c .expiry .stride) (c .expiry .len)) (put-behind (c .expiry .at) (r .place * c .expiry .stride + (40 + o)) bs xs (omega (arith, lies .within)))
           ∙ rest-stored (c .expiry .stride) (c .expiry .len) (r .place) o bs (drop (c .expiry .at) xs) w p-low (omega (arith, length-drop (c .expiry .at) xs, lies .within))
 
-      rest-refs : refsAt c restWritten ≡ es
+      pub rest-refs : refsAt c restWritten ≡ es
       unfolding refs
       rest-refs =
           ap (map refOf) (rows-same (c .entries .stride) (c .entries .len) (drop (c .entries .at) restWritten) (drop (c .entries .at) xs)

@@ -8,17 +8,15 @@ use rows::table;
 use rows::table::Found;
 use rows::word;
 ghost use mathlib.Core.Path.{_≡_};
-ghost use mathlib.Core.List.{map, _++_, _∷_, []};
-ghost use Prim.Native.Nat.{_+_, _-_, _*_, _≤_, _<_};
-ghost use lib.ListN.{length, take, drop};
-ghost use Rattle.lists.specs.Map.{keys};
+ghost use mathlib.Core.List.{map, _∷_, []};
+ghost use Prim.Native.Nat.{_*_, _≤_, _<_};
+ghost use lib.ListN.{length};
 ghost use Rattle.rows.specs.Ident.{idOf};
-ghost use Rattle.rows.specs.Part.{Only};
 ghost use Rattle.rows.specs.Part.{put};
 ghost use Rattle.rows.specs.Sorted.{FoundIs};
 ghost use Rattle.refs.specs.Refs.{ref, places, Below, moved};
 ghost use Rattle.time_cache.specs.TimeCache.{holds, laterCache};
-ghost use Rattle.time_cache.specs.Tables.{expiryRow, refsAt, rowsAt, cacheAt, rowAt, named, resized, Cut, Lies, Room, Sound, sound};
+ghost use Rattle.time_cache.specs.Tables.{refsAt, rowsAt, cacheAt, rowAt, named, resized, Cut, Lies, Room, Sound, sound};
 ghost use Rattle.time_cache.specs.Steps.{refAt, GotIs, Opens, Places, Gap, Inserts, Drops, Leaves, Expires};
 
 // A table in a block: `len` rows of `stride` bytes each, the first at `at`.

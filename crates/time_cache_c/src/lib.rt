@@ -5,8 +5,7 @@ use time_cache::cache::Table;
 use time_cache::cache::TimeBoundCache;
 ghost use mathlib.Core.Path.{_≡_};
 ghost use lib.ListN.{length};
-ghost use Rattle.rows.specs.Ident.{idOf};
-ghost use Rattle.time_cache.specs.TimeCache.{holds, laterCache};
+ghost use Rattle.time_cache.specs.TimeCache.{laterCache};
 ghost use Rattle.time_cache.specs.Tables.{cacheAt, Lies, Room, Sound, sound};
 ghost use Rattle.time_cache_c.specs.Handed.{handed};
 

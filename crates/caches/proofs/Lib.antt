@@ -1,0 +1,3 @@
+-- Laws on plain values. CacheLaws: a time cache of the block as the view reads it. ReceivedLaws: the received messages.
+pub mod CacheLaws
+pub mod ReceivedLaws

@@ -1,0 +1,2 @@
+// The three time caches of the panel, in the block.
+pub mod received;

@@ -1,3 +1,4 @@
--- Laws on plain values. CacheLaws: a time cache of the block as the view reads it. ReceivedLaws: the received messages.
+-- Laws on plain values. CacheLaws: a time cache of the block as the view reads it. ReceivedLaws: the received messages. GraftedLaws: the grafted messages.
 pub mod CacheLaws
 pub mod ReceivedLaws
+pub mod GraftedLaws

@@ -115,12 +115,12 @@ received-expired h xs ys instant r sound e x =
     let at : cacheAt (cacheFrom l 2 2 n′ 3 40 m′) ys ≡ expireUntil instant (cacheAt (receivedCache h) xs) = sym (ap (λ (c : TimeBoundCache). cacheAt c ys) (x .sized)) ∙ x .cache in
     record {
       state =
-        received-state h xs ys sound n′ m′ (n * 2) (m * 40) (omega (arith, sound .fit .within)) (omega (arith, sound .fit .within)) e (x .only)
-        ∙ ap (λ (c : Cache (Unit {0})). withReceived c (stateOf h xs))
-        (expired-in l 2 2 n 3 40 m xs ys (lit< tt) (omega (arith, sound .fit .within)) (lit< tt) (omega (arith, sound .fit .within)) n′ m′ (omega arith) (omega arith) nothingOf instant at);
+          received-state h xs ys sound n′ m′ (n * 2) (m * 40) (omega (arith, sound .fit .within)) (omega (arith, sound .fit .within)) e (x .only)
+          ∙ ap (λ (c : Cache (Unit {0})). withReceived c (stateOf h xs))
+          (expired-in l 2 2 n 3 40 m xs ys (lit< tt) (omega (arith, sound .fit .within)) (lit< tt) (omega (arith, sound .fit .within)) n′ m′ (omega arith) (omega arith) nothingOf instant at);
       sound =
-        received-laid h xs ys sound n′ m′ (n * 2) (m * 40) (omega (arith, sound .fit .within)) (omega (arith, sound .fit .within)) e (x .only) hn hm
-        (subst (λ (c : TimeBoundCache). SoundCache c ys) (x .sized) (x .sound));
+          received-laid h xs ys sound n′ m′ (n * 2) (m * 40) (omega (arith, sound .fit .within)) (omega (arith, sound .fit .within)) e (x .only) hn hm
+          (subst (λ (c : TimeBoundCache). SoundCache c ys) (x .sized) (x .sound));
     }
 
 -- an insert
@@ -145,9 +145,9 @@ received-inserted h xs ys id expires r sound e most x =
     let hm : m′ ≤ 2 * l .R = omega (arith, most .expiry, sym (count-expiry l 2 2 n′ 3 40 m′ ys (lit< tt) wn (lit< tt) wm nothingOf) ∙ ap (λ (c : Cache (Unit {0})). length (c .expiry)) all) in
     record {
       state =
-        received-state h xs ys sound n′ m′ ((n + 1) * 2) ((m + 1) * 40) (omega (arith, sound .fit .within)) (omega (arith, sound .fit .within)) e (x .only)
-        ∙ ap (λ (c : Cache (Unit {0})). withReceived c (stateOf h xs)) all;
+          received-state h xs ys sound n′ m′ ((n + 1) * 2) ((m + 1) * 40) (omega (arith, sound .fit .within)) (omega (arith, sound .fit .within)) e (x .only)
+          ∙ ap (λ (c : Cache (Unit {0})). withReceived c (stateOf h xs)) all;
       sound =
-        received-laid h xs ys sound n′ m′ ((n + 1) * 2) ((m + 1) * 40) (omega (arith, sound .fit .within)) (omega (arith, sound .fit .within)) e (x .only) hn hm
-        (subst (λ (c : TimeBoundCache). SoundCache c ys) sized (x .sound));
+          received-laid h xs ys sound n′ m′ ((n + 1) * 2) ((m + 1) * 40) (omega (arith, sound .fit .within)) (omega (arith, sound .fit .within)) e (x .only) hn hm
+          (subst (λ (c : TimeBoundCache). SoundCache c ys) sized (x .sound));
     }

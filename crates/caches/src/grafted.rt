@@ -1,0 +1,70 @@
+// `grafted`: an entry is a place, first, kept, and the grafted peers with their rounds; a row is a time and an identifier.
+use block::head;
+use block::head::Head;
+use postcard::units::Millis;
+use rows::id::Id;
+use rows::table::Found;
+use time_cache::cache::Table;
+use time_cache::cache::TimeBoundCache;
+ghost use mathlib.Core.Path.{_≡_};
+ghost use Rattle.lists.specs.Map.{keys};
+ghost use Rattle.rows.specs.Ident.{idOf};
+ghost use Rattle.rows.specs.Sorted.{FoundIs};
+ghost use Rattle.time_cache.specs.TimeCache.{holds};
+ghost use Rattle.block.specs.View.{limitsOf, stateOf};
+ghost use Rattle.block.specs.Fit.{Ceilings};
+ghost use Rattle.block.specs.Sound.{Sound};
+ghost use Rattle.block.specs.Goes.{Goes};
+ghost use Rattle.caches.specs.InBlock.{graftedCache, InOrder, graftedLeft};
+
+// Where the grafted messages are: tables 7 and 8.
+pub fn grafted_cache(h: Head) -> TimeBoundCache
+    requires { ⌜ Ceilings (limitsOf (h .limits)) ⌝ }
+    ensures { λ r. ⌜ r ≡ graftedCache h ⌝ }
+{
+    let a = head::grafted_at(h.limits);
+    let b = head::grafted_rows_at(h.limits);
+    let entries = Table {
+        at: a,
+        stride: 119,
+        len: h.live.grafted,
+    };
+    let expiry = Table {
+        at: b,
+        stride: 40,
+        len: h.live.grafted_rows,
+    };
+    TimeBoundCache { entries, expiry }
+}
+
+// Where an identifier stands among the grafted messages, or before which it would stand.
+pub fn find_grafted(h: Head, block: &[u8], id: Id) -> Found
+    requires { ⌜ Sound h (now block) × InOrder (stateOf h (now block) .grafted) ⌝ }
+    ensures { λ r. ⌜ FoundIs (keys (stateOf h (now (block .entry)) .grafted .entries)) (idOf id) r ⌝ }
+{
+    let c = grafted_cache(h);
+    c.find(block, id)
+}
+
+// Whether a message has grafted peers.
+pub fn contains_grafted(h: Head, block: &[u8], id: Id) -> bool
+    requires { ⌜ Sound h (now block) × InOrder (stateOf h (now block) .grafted) ⌝ }
+    ensures { λ r. ⌜ r ≡ holds (idOf id) (stateOf h (now (block .entry)) .grafted) ⌝ }
+{
+    let c = grafted_cache(h);
+    c.contains_key(block, id)
+}
+
+// `expire_until` of the grafted messages.
+pub fn expire_grafted(mut h: Head, block: &mut [u8], instant: Millis) -> Head
+    requires { ⌜ Sound h (now block) × InOrder (stateOf h (now block) .grafted) ⌝ }
+    ensures { λ r. ⌜ Goes (graftedLeft (instant .0)) h (now (block .entry)) r (now (block .exit)) ⌝ }
+{
+    let c = grafted_cache(h);
+    let e = c.expire_until(block, instant);
+    let n = e.cache.entries.len;
+    let m = e.cache.expiry.len;
+    h.live.grafted = n;
+    h.live.grafted_rows = m;
+    h
+}

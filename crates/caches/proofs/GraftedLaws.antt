@@ -59,7 +59,7 @@ abbrev pub Listed : ℕ → List ℕ → Type 0
 Listed m own = Numbered m (drop 20 own)
 
 module _ (m n : ℕ) (bytes : List ℕ) where
-  own-list : (i : ℕ) → i < n → drop 20 (refAt (refs 119 n bytes) i .own) ≡ drop 22 (part (i * 119) 119 bytes)
+  pub own-list : (i : ℕ) → i < n → drop 20 (refAt (refs 119 n bytes) i .own) ≡ drop 22 (part (i * 119) 119 bytes)
   unfolding refOf
   own-list i h = ap (λ (r : Ref). drop 20 (r .own)) (ref-at 119 n i (ref 0 []) bytes h) ∙ drop-drop 20 2 (part (i * 119) 119 bytes)
 

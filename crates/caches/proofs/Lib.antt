@@ -1,4 +1,5 @@
--- Laws on plain values. CacheLaws: a time cache of the block as the view reads it. ReceivedLaws: the received messages. GraftedLaws: the grafted messages.
+-- Laws on plain values. CacheLaws: a time cache of the block as the view reads it. ReceivedLaws: the received messages. GraftedLaws: the grafted messages. GraftLaws: one of them.
 pub mod CacheLaws
 pub mod ReceivedLaws
 pub mod GraftedLaws
+pub mod GraftLaws

@@ -1,1 +1,2 @@
 pub mod InBlock
+pub mod GraftSteps

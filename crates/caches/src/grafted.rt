@@ -1,12 +1,16 @@
 // `grafted`: an entry is a place, first, kept, and the grafted peers with their rounds; a row is a time and an identifier.
 use block::head;
 use block::head::Head;
+use block::hops;
+use block::hops::Hop;
 use postcard::units::Millis;
 use rows::id::Id;
 use rows::table::Found;
 use time_cache::cache::Table;
 use time_cache::cache::TimeBoundCache;
 ghost use mathlib.Core.Path.{_≡_};
+ghost use Prim.Native.Nat.{_≤_, _<_};
+ghost use lib.ListN.{length};
 ghost use Rattle.lists.specs.Map.{keys};
 ghost use Rattle.rows.specs.Ident.{idOf};
 ghost use Rattle.rows.specs.Sorted.{FoundIs};
@@ -16,6 +20,7 @@ ghost use Rattle.block.specs.Fit.{Ceilings};
 ghost use Rattle.block.specs.Sound.{Sound};
 ghost use Rattle.block.specs.Goes.{Goes};
 ghost use Rattle.caches.specs.InBlock.{graftedCache, InOrder, graftedLeft};
+ghost use Rattle.caches.specs.GraftSteps.{graftsAt, GraftIs};
 
 // Where the grafted messages are: tables 7 and 8.
 pub fn grafted_cache(h: Head) -> TimeBoundCache
@@ -67,4 +72,22 @@ pub fn expire_grafted(mut h: Head, block: &mut [u8], instant: Millis) -> Head
     h.live.grafted = n;
     h.live.grafted_rows = m;
     h
+}
+
+// How many peers are grafted for the grafted message i.
+pub fn graft_count(h: Head, block: &[u8], i: usize) -> usize
+    requires { ⌜ Sound h (now block) × (i < h .live .grafted) ⌝ }
+    ensures { λ r. ⌜ (r ≡ length (graftsAt (stateOf h (now (block .entry))) i .peers)) × (r ≤ 32) ⌝ }
+{
+    let at = head::grafted_at(h.limits) + 119 * i + 22;
+    hops::count(block, at)
+}
+
+// Peer j of the grafted message i, by the number of its link, and its round.
+pub fn graft_at(h: Head, block: &[u8], i: usize, j: usize) -> Hop
+    requires { ⌜ Sound h (now block) × (i < h .live .grafted) × (j < length (graftsAt (stateOf h (now block)) i .peers)) ⌝ }
+    ensures { λ r. ⌜ GraftIs h (now (block .entry)) (graftsAt (stateOf h (now (block .entry))) i .peers) j r ⌝ }
+{
+    let at = head::grafted_at(h.limits) + 119 * i + 22;
+    hops::hop_at(block, at, j)
 }

@@ -1,5 +1,6 @@
--- Laws on plain values. CacheLaws: a time cache of the block as the view reads it. ReceivedLaws: the received messages. GraftedLaws: the grafted messages. GraftLaws: one of them.
+-- Laws on plain values. CacheLaws: a time cache of the block as the view reads it. ReceivedLaws: the received messages. GraftedLaws: the grafted messages. GraftLaws, GraftWrites: one of them, read and written.
 pub mod CacheLaws
 pub mod ReceivedLaws
 pub mod GraftedLaws
 pub mod GraftLaws
+pub mod GraftWrites

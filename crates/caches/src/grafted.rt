@@ -4,8 +4,10 @@ use block::head::Head;
 use block::hops;
 use block::hops::Hop;
 use postcard::units::Millis;
+use postcard::units::Round;
 use rows::id::Id;
 use rows::table::Found;
+use rows::word;
 use time_cache::cache::Table;
 use time_cache::cache::TimeBoundCache;
 ghost use mathlib.Core.Path.{_≡_};
@@ -20,7 +22,7 @@ ghost use Rattle.block.specs.Fit.{Ceilings};
 ghost use Rattle.block.specs.Sound.{Sound};
 ghost use Rattle.block.specs.Goes.{Goes};
 ghost use Rattle.caches.specs.InBlock.{graftedCache, InOrder, graftedLeft};
-ghost use Rattle.caches.specs.GraftSteps.{graftsAt, GraftIs};
+ghost use Rattle.caches.specs.GraftSteps.{graftsAt, GraftIs, firstAt, keptAt};
 
 // Where the grafted messages are: tables 7 and 8.
 pub fn grafted_cache(h: Head) -> TimeBoundCache
@@ -90,4 +92,25 @@ pub fn graft_at(h: Head, block: &[u8], i: usize, j: usize) -> Hop
 {
     let at = head::grafted_at(h.limits) + 119 * i + 22;
     hops::hop_at(block, at, j)
+}
+
+// "set a grafted entry's `first` to sender and r": of the grafted message i.
+pub fn set_first(h: Head, block: &mut [u8], i: usize, peer: u64, round: Round)
+    requires { ⌜ Sound h (now block) × InOrder (stateOf h (now block) .grafted) × (i < h .live .grafted) ⌝ }
+    ensures { λ _. ⌜ Goes (firstAt i peer (round .0)) h (now (block .entry)) h (now (block .exit)) ⌝ }
+{
+    let a = head::grafted_at(h.limits) + 119 * i;
+    block[a + 2] = 1;
+    word::store(block, a + 3, peer);
+    word::store_le(block, a + 11, 2, round.0 as u64);
+}
+
+// The entry's `kept` is the sender: of the grafted message i.
+pub fn set_kept(h: Head, block: &mut [u8], i: usize, peer: u64)
+    requires { ⌜ Sound h (now block) × InOrder (stateOf h (now block) .grafted) × (i < h .live .grafted) ⌝ }
+    ensures { λ _. ⌜ Goes (keptAt i peer) h (now (block .entry)) h (now (block .exit)) ⌝ }
+{
+    let a = head::grafted_at(h.limits) + 119 * i;
+    block[a + 13] = 1;
+    word::store(block, a + 14, peer);
 }

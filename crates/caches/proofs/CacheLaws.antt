@@ -13,14 +13,14 @@ use Rattle.rows.specs.Rows.{rows}
 use Rattle.rows.proofs.Rows.{length-rows}
 use Rattle.rows.proofs.Parts.{part-put, length-part, length-put}
 use Rattle.refs.specs.Refs.{Ref, refOf, refs, places, Below}
-use Rattle.time_cache.specs.TimeCache.{Timed, Cache, put as putIn, expireUntil, inPopOrder}
+use Rattle.time_cache.specs.TimeCache.{Timed, Cache, put as putIn, expireUntil, inPopOrder, holds, laterCache}
 use Rattle.time_cache.specs.Tables.{ExpiryRow, expiryRowOf, expiryRows, expiryOf, Held, held, entryOf, cacheOf, cacheIn, refsAt, rowsAt, cacheAt, valuesAs, Sound, OnlyTwo}
 use Rattle.time_cache.specs.Steps.{heldAt, Inserts, Expires}
 use Rattle.time_cache.specs.declared.cache.TimeBoundCache.{TimeBoundCache}
 use Rattle.time_cache.specs.declared.cache.Inserted.{Inserted}
 use Rattle.time_cache.specs.declared.cache.Expired.{Expired}
 use Rattle.time_cache.proofs.TableLaws.{keys-named}
-use Rattle.time_cache.proofs.ValueLaws.{values-read, keys-as, holds-as, put-as, expire-as}
+use Rattle.time_cache.proofs.ValueLaws.{values-read, keys-as, holds-as, put-as, expire-as, later-as, length-as}
 use Rattle.time_cache.proofs.LoanLaws.{halfway, length-halfway, only-second, only-first, two-wider}
 use Rattle.protocol.specs.State.{Limits}
 use Rattle.block.specs.Cut.{total}
@@ -114,3 +114,18 @@ module _ (l : Limits) (i s n j t m : ℕ) (xs ys : List ℕ) (hi : i < 15) (wi :
       ∙ ap (valuesAs (asValue value)) e
       ∙ put-as (asValue value) k v instant (cacheAt (cacheFrom l i s n j t m) xs)
       ∙ ap (putIn k (asValue value v) instant) (cache-in l i s n j t m xs hi wi hj wj value)
+
+-- what is later than an instant, of the cache and of the view
+module _ {A B : Type 0} (f : A → B) (c : Cache A) (d : Cache B) (e : valuesAs f c ≡ d) (instant : ℕ) where
+  later-view : valuesAs f (laterCache instant c) ≡ laterCache instant d
+  later-view = later-as f instant c ∙ ap (laterCache instant) e
+
+  pub holds-later : (k : ℕ) → holds k (laterCache instant c) ≡ holds k (laterCache instant d)
+  holds-later k = sym (holds-as f k (laterCache instant c)) ∙ ap (holds k) later-view
+
+  pub entries-later : length (laterCache instant c .entries) ≡ length (laterCache instant d .entries)
+  entries-later = sym (length-as f (laterCache instant c)) ∙ ap (λ (k : Cache B). length (k .entries)) later-view
+
+  pub rows-later : length (laterCache instant c .expiry) ≡ length (laterCache instant d .expiry)
+  unfolding valuesAs
+  rows-later = ap (λ (k : Cache B). length (k .expiry)) later-view

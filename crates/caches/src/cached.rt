@@ -1,0 +1,54 @@
+// `cache`, the message cache: an entry is a place and a round; a row is a time, an identifier, and start and length of the content.
+use block::head;
+use block::head::Head;
+use rows::id::Id;
+use rows::table::Found;
+use time_cache::cache::Table;
+use time_cache::cache::TimeBoundCache;
+ghost use mathlib.Core.Path.{_≡_};
+ghost use Rattle.lists.specs.Map.{keys};
+ghost use Rattle.rows.specs.Ident.{idOf};
+ghost use Rattle.rows.specs.Sorted.{FoundIs};
+ghost use Rattle.time_cache.specs.TimeCache.{holds};
+ghost use Rattle.block.specs.View.{limitsOf, stateOf};
+ghost use Rattle.block.specs.Fit.{Ceilings};
+ghost use Rattle.block.specs.Sound.{Sound};
+ghost use Rattle.caches.specs.InBlock.{cachedCache, InOrder};
+
+// Where the message cache is: tables 4 and 5.
+pub fn cached_cache(h: Head) -> TimeBoundCache
+    requires { ⌜ Ceilings (limitsOf (h .limits)) ⌝ }
+    ensures { λ r. ⌜ r ≡ cachedCache h ⌝ }
+{
+    let a = head::cached_at(h.limits);
+    let b = head::cached_rows_at(h.limits);
+    let entries = Table {
+        at: a,
+        stride: 4,
+        len: h.live.cached,
+    };
+    let expiry = Table {
+        at: b,
+        stride: 48,
+        len: h.live.cached_rows,
+    };
+    TimeBoundCache { entries, expiry }
+}
+
+// Where an identifier stands in the message cache, or before which it would stand.
+pub fn find_cached(h: Head, block: &[u8], id: Id) -> Found
+    requires { ⌜ Sound h (now block) × InOrder (stateOf h (now block) .cache) ⌝ }
+    ensures { λ r. ⌜ FoundIs (keys (stateOf h (now (block .entry)) .cache .entries)) (idOf id) r ⌝ }
+{
+    let c = cached_cache(h);
+    c.find(block, id)
+}
+
+// Whether a message is cached.
+pub fn is_cached(h: Head, block: &[u8], id: Id) -> bool
+    requires { ⌜ Sound h (now block) × InOrder (stateOf h (now block) .cache) ⌝ }
+    ensures { λ r. ⌜ r ≡ holds (idOf id) (stateOf h (now (block .entry)) .cache) ⌝ }
+{
+    let c = cached_cache(h);
+    c.contains_key(block, id)
+}

@@ -1,15 +1,17 @@
 // `cache`, the message cache: an entry is a place and a round; a row is a time, an identifier, and start and length of the content.
 use block::head;
 use block::head::Head;
+use postcard::units::Millis;
 use rows::id::Id;
 use rows::table::Found;
 use time_cache::cache::Table;
 use time_cache::cache::TimeBoundCache;
 ghost use mathlib.Core.Path.{_≡_};
+ghost use lib.ListN.{length};
 ghost use Rattle.lists.specs.Map.{keys};
 ghost use Rattle.rows.specs.Ident.{idOf};
 ghost use Rattle.rows.specs.Sorted.{FoundIs};
-ghost use Rattle.time_cache.specs.TimeCache.{holds};
+ghost use Rattle.time_cache.specs.TimeCache.{holds, laterCache};
 ghost use Rattle.block.specs.View.{limitsOf, stateOf};
 ghost use Rattle.block.specs.Fit.{Ceilings};
 ghost use Rattle.block.specs.Sound.{Sound};
@@ -51,4 +53,31 @@ pub fn is_cached(h: Head, block: &[u8], id: Id) -> bool
 {
     let c = cached_cache(h);
     c.contains_key(block, id)
+}
+
+// How many of the cached messages `expire_until` leaves.
+pub fn cached_later(h: Head, block: &[u8], instant: Millis) -> usize
+    requires { ⌜ Sound h (now block) × InOrder (stateOf h (now block) .cache) ⌝ }
+    ensures { λ r. ⌜ r ≡ length (laterCache (instant .0) (stateOf h (now (block .entry)) .cache) .entries) ⌝ }
+{
+    let c = cached_cache(h);
+    c.entries_later(block, instant)
+}
+
+// How many expiry entries of the cached messages `expire_until` leaves.
+pub fn cached_rows_later(h: Head, block: &[u8], instant: Millis) -> usize
+    requires { ⌜ Sound h (now block) × InOrder (stateOf h (now block) .cache) ⌝ }
+    ensures { λ r. ⌜ r ≡ length (laterCache (instant .0) (stateOf h (now (block .entry)) .cache) .expiry) ⌝ }
+{
+    let c = cached_cache(h);
+    c.rows_later(block, instant)
+}
+
+// Whether `expire_until` leaves a message among the cached messages.
+pub fn is_cached_later(h: Head, block: &[u8], id: Id, instant: Millis) -> bool
+    requires { ⌜ Sound h (now block) × InOrder (stateOf h (now block) .cache) ⌝ }
+    ensures { λ r. ⌜ r ≡ holds (idOf id) (laterCache (instant .0) (stateOf h (now (block .entry)) .cache)) ⌝ }
+{
+    let c = cached_cache(h);
+    c.contains_later(block, id, instant)
 }

@@ -16,7 +16,7 @@ ghost use lib.ListN.{length};
 ghost use Rattle.lists.specs.Map.{keys};
 ghost use Rattle.rows.specs.Ident.{idOf};
 ghost use Rattle.rows.specs.Sorted.{FoundIs};
-ghost use Rattle.time_cache.specs.TimeCache.{holds};
+ghost use Rattle.time_cache.specs.TimeCache.{holds, laterCache};
 ghost use Rattle.block.specs.View.{limitsOf, stateOf};
 ghost use Rattle.block.specs.Fit.{Ceilings};
 ghost use Rattle.block.specs.Sound.{Sound};
@@ -113,4 +113,31 @@ pub fn set_kept(h: Head, block: &mut [u8], i: usize, peer: u64)
     let a = head::grafted_at(h.limits) + 119 * i;
     block[a + 13] = 1;
     word::store(block, a + 14, peer);
+}
+
+// How many of the grafted messages `expire_until` leaves.
+pub fn grafted_later(h: Head, block: &[u8], instant: Millis) -> usize
+    requires { ⌜ Sound h (now block) × InOrder (stateOf h (now block) .grafted) ⌝ }
+    ensures { λ r. ⌜ r ≡ length (laterCache (instant .0) (stateOf h (now (block .entry)) .grafted) .entries) ⌝ }
+{
+    let c = grafted_cache(h);
+    c.entries_later(block, instant)
+}
+
+// How many expiry entries of the grafted messages `expire_until` leaves.
+pub fn grafted_rows_later(h: Head, block: &[u8], instant: Millis) -> usize
+    requires { ⌜ Sound h (now block) × InOrder (stateOf h (now block) .grafted) ⌝ }
+    ensures { λ r. ⌜ r ≡ length (laterCache (instant .0) (stateOf h (now (block .entry)) .grafted) .expiry) ⌝ }
+{
+    let c = grafted_cache(h);
+    c.rows_later(block, instant)
+}
+
+// Whether `expire_until` leaves a message among the grafted messages.
+pub fn is_grafted_later(h: Head, block: &[u8], id: Id, instant: Millis) -> bool
+    requires { ⌜ Sound h (now block) × InOrder (stateOf h (now block) .grafted) ⌝ }
+    ensures { λ r. ⌜ r ≡ holds (idOf id) (laterCache (instant .0) (stateOf h (now (block .entry)) .grafted)) ⌝ }
+{
+    let c = grafted_cache(h);
+    c.contains_later(block, id, instant)
 }

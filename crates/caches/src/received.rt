@@ -7,10 +7,11 @@ use rows::table::Found;
 use time_cache::cache::Table;
 use time_cache::cache::TimeBoundCache;
 ghost use mathlib.Core.Path.{_≡_};
+ghost use lib.ListN.{length};
 ghost use Rattle.lists.specs.Map.{keys};
 ghost use Rattle.rows.specs.Ident.{idOf};
 ghost use Rattle.rows.specs.Sorted.{FoundIs};
-ghost use Rattle.time_cache.specs.TimeCache.{holds, put};
+ghost use Rattle.time_cache.specs.TimeCache.{holds, put, laterCache};
 ghost use Rattle.block.specs.View.{limitsOf, stateOf};
 ghost use Rattle.block.specs.Fit.{Ceilings};
 ghost use Rattle.block.specs.Sound.{Sound};
@@ -81,4 +82,31 @@ pub fn expire_received(mut h: Head, block: &mut [u8], instant: Millis) -> Head
     h.live.received = n;
     h.live.received_rows = m;
     h
+}
+
+// How many of the received messages `expire_until` leaves.
+pub fn received_later(h: Head, block: &[u8], instant: Millis) -> usize
+    requires { ⌜ Sound h (now block) × InOrder (stateOf h (now block) .received) ⌝ }
+    ensures { λ r. ⌜ r ≡ length (laterCache (instant .0) (stateOf h (now (block .entry)) .received) .entries) ⌝ }
+{
+    let c = received_cache(h);
+    c.entries_later(block, instant)
+}
+
+// How many expiry entries of the received messages `expire_until` leaves.
+pub fn received_rows_later(h: Head, block: &[u8], instant: Millis) -> usize
+    requires { ⌜ Sound h (now block) × InOrder (stateOf h (now block) .received) ⌝ }
+    ensures { λ r. ⌜ r ≡ length (laterCache (instant .0) (stateOf h (now (block .entry)) .received) .expiry) ⌝ }
+{
+    let c = received_cache(h);
+    c.rows_later(block, instant)
+}
+
+// Whether `expire_until` leaves a message among the received messages.
+pub fn is_received_later(h: Head, block: &[u8], id: Id, instant: Millis) -> bool
+    requires { ⌜ Sound h (now block) × InOrder (stateOf h (now block) .received) ⌝ }
+    ensures { λ r. ⌜ r ≡ holds (idOf id) (laterCache (instant .0) (stateOf h (now (block .entry)) .received)) ⌝ }
+{
+    let c = received_cache(h);
+    c.contains_later(block, id, instant)
 }

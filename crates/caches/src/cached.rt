@@ -4,9 +4,11 @@ use block::head::Head;
 use postcard::units::Millis;
 use rows::id::Id;
 use rows::table::Found;
+use rows::word;
 use time_cache::cache::Table;
 use time_cache::cache::TimeBoundCache;
 ghost use mathlib.Core.Path.{_≡_};
+ghost use Prim.Native.Nat.{_<_};
 ghost use lib.ListN.{length};
 ghost use Rattle.lists.specs.Map.{keys};
 ghost use Rattle.rows.specs.Ident.{idOf};
@@ -16,6 +18,13 @@ ghost use Rattle.block.specs.View.{limitsOf, stateOf};
 ghost use Rattle.block.specs.Fit.{Ceilings};
 ghost use Rattle.block.specs.Sound.{Sound};
 ghost use Rattle.caches.specs.InBlock.{cachedCache, InOrder};
+ghost use Rattle.caches.specs.CachedReads.{ContentIs};
+
+// Where the content of a cached message stands among the contents: table 6.
+pub struct Content {
+    pub start: usize,
+    pub len: usize,
+}
 
 // Where the message cache is: tables 4 and 5.
 pub fn cached_cache(h: Head) -> TimeBoundCache
@@ -80,4 +89,20 @@ pub fn is_cached_later(h: Head, block: &[u8], id: Id, instant: Millis) -> bool
 {
     let c = cached_cache(h);
     c.contains_later(block, id, instant)
+}
+
+// The content of cached message i: start and length in the row that its entry names.
+pub fn cached_content(h: Head, block: &[u8], i: usize) -> Content
+    requires { ⌜ Sound h (now block) × (i < h .live .cached) ⌝ }
+    ensures { λ r. ⌜ ContentIs h (now (block .entry)) i r ⌝ }
+{
+    let c = cached_cache(h);
+    let p = c.place(block, i);
+    let a = head::cached_rows_at(h.limits) + 48 * p;
+    let start = word::load4(block, a + 40);
+    let len = word::load4(block, a + 44);
+    Content {
+        start: start as usize,
+        len: len as usize,
+    }
 }

@@ -104,3 +104,15 @@ module _ (h : Head) (xs : List ℕ) (sound : Sound h xs) (i : ℕ) (q : i < h .l
         within = w;
         same = content-in ∙ (λ z. part (sym s z) (sym t z) (table l 6 xs)) ∙ part-in l 6 (r .start) (r .len) xs (lit< tt) (omega (arith, w, sound .fit .within .contents));
       }
+
+  -- the round, after the place
+  pub round-is : (a v : ℕ) → a ≡ place l 4 → v ≡ leNat (part (a + 4 * i + 2) 2 xs) → v ≡ cachedAt (stateOf h xs) i .round
+  unfolding cachedOf halfAt refOf part
+  round-is a v ea ev =
+      let at : a + 4 * i + 2 ≡ place l 4 + (i * 4 + 2) = omega (arith, ea) in
+      let own : leNat (part 2 2 (part (i * 4) 4 (table l 4 xs))) ≡ halfAt 0 (refAt es i .own) = sym (ap (λ (r : Ref). halfAt 0 (r .own)) (ref-at 4 n i (ref 0 []) (table l 4 xs) q)) in
+      ev
+      ∙ ap (λ (b : ℕ). leNat (part b 2 xs)) at
+      ∙ sym (ap leNat (field-in l 4 4 i 2 2 xs (lit< tt) (omega arith) (omega (arith, sound .fit .within .cached))))
+      ∙ own
+      ∙ sym (ap (λ (v : Cached). v .round) value-in)

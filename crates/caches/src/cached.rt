@@ -2,6 +2,7 @@
 use block::head;
 use block::head::Head;
 use postcard::units::Millis;
+use postcard::units::Round;
 use rows::id::Id;
 use rows::table::Found;
 use rows::word;
@@ -18,7 +19,7 @@ ghost use Rattle.block.specs.View.{limitsOf, stateOf};
 ghost use Rattle.block.specs.Fit.{Ceilings};
 ghost use Rattle.block.specs.Sound.{Sound};
 ghost use Rattle.caches.specs.InBlock.{cachedCache, InOrder};
-ghost use Rattle.caches.specs.CachedReads.{ContentIs};
+ghost use Rattle.caches.specs.CachedReads.{ContentIs, cachedAt};
 
 // Where the content of a cached message stands among the contents: table 6.
 pub struct Content {
@@ -105,4 +106,14 @@ pub fn cached_content(h: Head, block: &[u8], i: usize) -> Content
         start: start as usize,
         len: len as usize,
     }
+}
+
+// The round at which cached message i is sent on.
+pub fn cached_round(h: Head, block: &[u8], i: usize) -> Round
+    requires { ⌜ Sound h (now block) × (i < h .live .cached) ⌝ }
+    ensures { λ r. ⌜ r .0 ≡ cachedAt (stateOf h (now (block .entry))) i .round ⌝ }
+{
+    let a = head::cached_at(h.limits) + 4 * i;
+    let round = word::load2(block, a + 2);
+    Round(round as u16)
 }

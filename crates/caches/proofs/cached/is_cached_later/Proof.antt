@@ -1,0 +1,38 @@
+-- `cached::is_cached_later` meets its contract: what is later is read from the bytes as from the view.
+-- Assumes nothing.
+use mathlib.Core.Path.{sym, ap, _∙_, subst}
+use Rattle.rows.specs.Ident.{idOf}
+use Rattle.time_cache.specs.TimeCache.{holds, laterCache}
+use Rattle.time_cache.specs.Tables.{Lies, Sound, cacheAt}
+use Rattle.time_cache.specs.declared.cache.TimeBoundCache.{TimeBoundCache}
+use Rattle.block.specs.View.{stateOf}
+use Rattle.block.specs.Layout.{table}
+use Rattle.block.specs.View.{limitsOf, cachedOf}
+use Rattle.caches.specs.InBlock.{cachedCache}
+use Rattle.caches.proofs.CacheLaws.{asValue, holds-later}
+use Rattle.caches.proofs.CachedLaws.{cached-lies, cached-sound, cached-as}
+use borrow.Author.Needs.{needs}
+use Rattle.caches.proofs.cached.is_cached_later.Statement.{statement}
+use Rattle.caches.proofs.cached.is_cached_later.Tie as tie
+
+cached-cache-requires : tie.Need-cached-cache-requires
+cached-cache-requires c κs = search needs
+
+contains-later-requires : tie.Need-contains-later-requires
+contains-later-requires c κs =
+    let s = c .before .before in
+    let h = s .args .h in
+    let xs = s .args .block .now in
+    subst (λ (t : TimeBoundCache). Lies t xs × Sound t xs) (sym (c .cached-cache .ensures)) (cached-lies h xs (s .pre .0 .fit), cached-sound h xs (s .pre .0) (s .pre .1))
+
+returns : tie.Need-returns
+returns c =
+    let s = c .before .before .before in
+    let h = s .args .h in
+    let xs = s .args .block .now in
+    c .contains-later .ensures
+    ∙ ap (λ (t : TimeBoundCache). holds (idOf (s .args .id)) (laterCache (s .args .instant .0) (cacheAt t xs))) (c .before .cached-cache .ensures)
+    ∙ holds-later (asValue (cachedOf (table (limitsOf (h .limits)) 6 xs))) (cacheAt (cachedCache h) xs) (stateOf h xs .cache) (cached-as h xs (s .pre .0 .fit)) (s .args .instant .0) (idOf (s .args .id))
+
+pub is-cached-later-spec : {M : Type 1} → statement M
+is-cached-later-spec = tie.close (tie.spec cached-cache-requires contains-later-requires returns)

@@ -1,1 +1,2 @@
 pub mod Lazy
+pub mod Noted

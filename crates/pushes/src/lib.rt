@@ -12,6 +12,7 @@ ghost use Rattle.block.specs.Sound.{Sound};
 ghost use Rattle.block.specs.Goes.{Goes};
 ghost use Rattle.decide.specs.StateAfter.{lazyState};
 ghost use Rattle.pushes.specs.Lazy.{lazyNotes};
+ghost use Rattle.pushes.specs.Noted.{notedState, Notes};
 
 // `lazy_push`: "Lazy push skips only the sender and always schedules dispatch unless flagged". Its time is that of one pass over the links.
 pub fn lazy_push(h: Head, block: &mut [u8], id: Id, round: Round, sender: u64) -> Head
@@ -33,5 +34,26 @@ pub fn lazy_push(h: Head, block: &mut [u8], id: Id, round: Round, sender: u64) -
         }
     }
     g.live.dispatch_timer_scheduled = true;
+    g
+}
+
+// `note_dropped` of one cached identifier for one link: "added unless the peer has 256 or all have 4,096", or it is there. Its time is that of one pass over
+// the record's column of link numbers.
+pub fn note_cached(h: Head, block: &mut [u8], link: usize, id: Id, round: Round) -> Head
+    requires { ⌜ Notes h (now block) link (idOf id) (round .0) ⌝ }
+    ensures { λ r. ⌜ Goes (notedState link (idOf id) (round .0)) h (now (block .entry)) r (now (block .exit)) ⌝ }
+{
+    let scan = note::scan_dropped(h, block, link, id);
+    if 256 <= scan.count {
+        return h;
+    }
+    if 4096 <= h.live.dropped {
+        return h;
+    }
+    if scan.noted {
+        return h;
+    }
+    let mut g = note::push_dropped(h, block, link, id, round);
+    g.live.announce_dropped_scheduled = true;
     g
 }

@@ -1,0 +1,2 @@
+pub mod LazyLaws
+pub mod NotedLaws

@@ -1,0 +1,2 @@
+pub mod Lazy
+pub mod Noted

@@ -1,0 +1,31 @@
+// Link numbers after a link came in.
+ghost use mathlib.Core.Path.{_≡_};
+ghost use Prim.Native.Nat.{_+_, _*_, _≤_, _<_};
+ghost use lib.ListN.{length};
+ghost use Rattle.rows.specs.Part.{part};
+ghost use Rattle.refs.specs.Refs.{shifted, Below};
+ghost use Rattle.neighbours.specs.Raised.{raised};
+
+// A link number after a link came in at i.
+fn raise(l: u8, i: usize) -> u8
+    requires { ⌜ l < 255 ⌝ }
+    ensures { λ r. ⌜ r ≡ shifted i l ⌝ }
+{
+    if (l as usize) < i {
+        return l;
+    }
+    l + 1
+}
+
+// The n link numbers at `at`, after a link came in at i.
+pub fn raise_numbers(b: &mut [u8], at: usize, n: usize, i: usize)
+    requires { ⌜ (at + n ≤ length (now b)) × Below 255 (part at n (now b)) ⌝ }
+    ensures { λ _. ⌜ now (b .exit) ≡ raised i at n (now (b .entry)) ⌝ }
+{
+    let mut j = 0;
+    while j < n {
+        let l = raise(b[at + j], i);
+        b[at + j] = l;
+        j += 1;
+    }
+}

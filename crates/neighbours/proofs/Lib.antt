@@ -1,2 +1,5 @@
--- Laws on plain values. ShiftLaws: link numbers after a link came in, in every place where they stand.
+-- Laws on plain values. ShiftLaws: link numbers after a link came in, one after the other. RaisedRows: rows with a list of them inside.
+-- RaisedLaws: they stand for the same peers.
 pub mod ShiftLaws
+pub mod RaisedRows
+pub mod RaisedLaws

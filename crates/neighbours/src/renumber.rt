@@ -1,10 +1,14 @@
 // Link numbers after a link came in.
+use block::hops;
 ghost use mathlib.Core.Path.{_≡_};
 ghost use Prim.Native.Nat.{_+_, _*_, _≤_, _<_};
+ghost use mathlib.Core.List.{map};
 ghost use lib.ListN.{length};
 ghost use Rattle.rows.specs.Part.{part};
+ghost use Rattle.rows.specs.Rows.{rows};
 ghost use Rattle.refs.specs.Refs.{shifted, Below};
-ghost use Rattle.neighbours.specs.Raised.{raised};
+ghost use Rattle.block.specs.Sound.{AllNumbered};
+ghost use Rattle.neighbours.specs.Raised.{raised, raisedRow};
 
 // A link number after a link came in at i.
 fn raise(l: u8, i: usize) -> u8
@@ -27,5 +31,19 @@ pub fn raise_numbers(b: &mut [u8], at: usize, n: usize, i: usize)
         let l = raise(b[at + j], i);
         b[at + j] = l;
         j += 1;
+    }
+}
+
+// The link numbers in the list at o of each of n rows, after a link came in at i.
+pub fn raise_rows(b: &mut [u8], stride: usize, n: usize, o: usize, i: usize)
+    requires { ⌜ (o + 97 ≤ stride) × (n * stride ≤ length (now b)) × AllNumbered 255 o stride n (now b) ⌝ }
+    ensures { λ _. ⌜ rows stride n (now (b .exit)) ≡ map (raisedRow i o) (rows stride n (now (b .entry))) ⌝ }
+{
+    let mut k = 0;
+    while k < n {
+        let at = k * stride + o;
+        let c = hops::count(b, at);
+        raise_numbers(b, at + 1, c, i);
+        k += 1;
     }
 }

@@ -3,3 +3,4 @@
 pub mod ShiftLaws
 pub mod RaisedRows
 pub mod RaisedLaws
+pub mod UpLaws

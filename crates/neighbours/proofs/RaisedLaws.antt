@@ -1,7 +1,7 @@
 -- Link numbers after a link came in stand for the same peers: one law for numbers with rows beside them, and from it queue, record, missing and grafted.
 -- Assumes nothing.
 use mathlib.Core.Path.{_≡_, refl, sym, ap, _∙_, subst}
-use mathlib.Core.List.{List, [], _∷_, _++_, map}
+use mathlib.Core.List.{List, [], _∷_, _++_, map, map-map}
 use Prim.Native.Nat.{ℕ, zero, suc, _+_, _*_, _≤_, _<_, zero-le, suc-le-suc}
 use native.Mathlib.Nat.{le-of-suc-le-suc}
 use native.Mathlib.Omega.{arith}
@@ -208,3 +208,21 @@ module _ (i p : ℕ) (ps : List ℕ) (h : i ≤ length ps) where
       let x : ExpiryRow = rowAt es (leNat (part 0 2 row)) in
       ap (λ (r : Ref). entryOf (graftsOf with-p) es r) (place-raised row (l .0))
       ∙ ap (λ (g : Grafts). entry (x .key) (record { expires = x .time; value = g })) (grafts-raised (drop 2 row) (x .rest) (length-drop 2 row ∙ (omega (arith, l .0))) (own-numbered row (l .1)))
+
+  module _ (n : ℕ) (xs ys : List ℕ) (room : n * 119 ≤ length xs) (all : AllNumbered m 22 119 n xs) (new : rows 119 n ys ≡ map (raisedRow i 22) (rows 119 n xs)) where
+    pub grafted-raised : (r : ℕ) (expiry : List ℕ) → graftedIn with-p n ys r expiry ≡ graftedIn ps n xs r expiry
+    unfolding graftedIn cacheOf refs
+    grafted-raised r expiry =
+        let es : List ExpiryRow = expiryRows 40 r expiry in
+        let e : map (entryOf (graftsOf with-p) es) (map refOf (rows 119 n ys)) ≡ map (entryOf (graftsOf ps) es) (map refOf (rows 119 n xs)) =
+        map-map (entryOf (graftsOf with-p) es) refOf (rows 119 n ys)
+        ∙ view-raised i 22 119 n m xs (omega arith) room all ys new (λ row. entryOf (graftsOf ps) es (refOf row)) (λ row. entryOf (graftsOf with-p) es (refOf row)) (entry-raised es)
+        ∙ sym (map-map (entryOf (graftsOf ps) es) refOf (rows 119 n xs)) in
+        λ k. record { entries = e k; expiry = map expiryOf es }
+
+    pub places-raised : places (refs 119 n ys) ≡ places (refs 119 n xs)
+    unfolding refs
+    places-raised =
+        map-map (λ (r : Ref). r .place) refOf (rows 119 n ys)
+        ∙ view-raised i 22 119 n m xs (omega arith) room all ys new (λ row. refOf row .place) (λ row. refOf row .place) (λ row l. ap (λ (r : Ref). r .place) (place-raised row (l .0)))
+        ∙ sym (map-map (λ (r : Ref). r .place) refOf (rows 119 n xs))

@@ -1,14 +1,14 @@
 // Link numbers after a link came in.
 use block::hops;
 ghost use mathlib.Core.Path.{_≡_};
-ghost use Prim.Native.Nat.{_+_, _*_, _≤_, _<_};
+ghost use Prim.Native.Nat.{_+_, _-_, _*_, _≤_, _<_};
 ghost use mathlib.Core.List.{map};
 ghost use lib.ListN.{length};
 ghost use Rattle.rows.specs.Part.{part};
 ghost use Rattle.rows.specs.Rows.{rows};
 ghost use Rattle.refs.specs.Refs.{shifted, Below};
 ghost use Rattle.block.specs.Sound.{AllNumbered};
-ghost use Rattle.neighbours.specs.Raised.{raised, raisedRow};
+ghost use Rattle.neighbours.specs.Raised.{raised, raisedRow, RaisedIn};
 
 // A link number after a link came in at i.
 fn raise(l: u8, i: usize) -> u8
@@ -46,4 +46,20 @@ pub fn raise_rows(b: &mut [u8], stride: usize, n: usize, o: usize, i: usize)
         raise_numbers(b, at + 1, c, i);
         k += 1;
     }
+}
+
+// The same of the rows in the bytes of a block from a to e.
+pub fn raise_table(
+    block: &mut [u8],
+    a: usize,
+    e: usize,
+    stride: usize,
+    n: usize,
+    o: usize,
+    i: usize,
+)
+    requires { ⌜ (a ≤ e) × (e ≤ length (now block)) × (o + 97 ≤ stride) × (n * stride ≤ e - a) × AllNumbered 255 o stride n (part a (e - a) (now block)) ⌝ }
+    ensures { λ _. ⌜ RaisedIn i a (e - a) stride n o (now (block .entry)) (now (block .exit)) ⌝ }
+{
+    raise_rows(&mut block[a..e], stride, n, o, i);
 }

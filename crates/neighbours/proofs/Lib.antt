@@ -4,3 +4,4 @@ pub mod ShiftLaws
 pub mod RaisedRows
 pub mod RaisedLaws
 pub mod UpLaws
+pub mod RaiseSteps

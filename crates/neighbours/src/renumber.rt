@@ -1,4 +1,6 @@
 // Link numbers after a link came in.
+use block::head;
+use block::head::Head;
 use block::hops;
 ghost use mathlib.Core.Path.{_≡_};
 ghost use Prim.Native.Nat.{_+_, _-_, _*_, _≤_, _<_};
@@ -7,8 +9,8 @@ ghost use lib.ListN.{length};
 ghost use Rattle.rows.specs.Part.{part};
 ghost use Rattle.rows.specs.Rows.{rows};
 ghost use Rattle.refs.specs.Refs.{shifted, Below};
-ghost use Rattle.block.specs.Sound.{AllNumbered};
-ghost use Rattle.neighbours.specs.Raised.{raised, raisedRow, RaisedIn};
+ghost use Rattle.block.specs.Sound.{Sound, AllNumbered};
+ghost use Rattle.neighbours.specs.Raised.{raised, raisedRow, RaisedIn, RaisedLinks};
 
 // A link number after a link came in at i.
 fn raise(l: u8, i: usize) -> u8
@@ -62,4 +64,21 @@ pub fn raise_table(
     ensures { λ _. ⌜ RaisedIn i a (e - a) stride n o (now (block .entry)) (now (block .exit)) ⌝ }
 {
     raise_rows(&mut block[a..e], stride, n, o, i);
+}
+
+// Every link number of the block, after a link came in at i: queue, record, grafted and missing messages.
+pub fn raise_links(h: Head, block: &mut [u8], i: usize)
+    requires { ⌜ Sound h (now block) × (i ≤ h .live .links) ⌝ }
+    ensures { λ _. ⌜ RaisedLinks i h (now (block .entry)) (now (block .exit)) ⌝ }
+{
+    let queue = head::queue_at(h.limits);
+    let dropped = head::dropped_at(h.limits);
+    let grafted = head::grafted_at(h.limits);
+    let grafted_rows = head::grafted_rows_at(h.limits);
+    let missing = head::missing_at(h.limits);
+    let timers = head::timers_at(h.limits);
+    raise_numbers(block, queue, h.live.queued, i);
+    raise_numbers(block, dropped, h.live.dropped, i);
+    raise_table(block, grafted, grafted_rows, 119, h.live.grafted, 22, i);
+    raise_table(block, missing, timers, 129, h.live.missing, 32, i);
 }

@@ -5,3 +5,4 @@ pub mod RaisedRows
 pub mod RaisedLaws
 pub mod UpLaws
 pub mod RaiseSteps
+pub mod LinkIn

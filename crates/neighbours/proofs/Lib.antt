@@ -6,3 +6,4 @@ pub mod RaisedLaws
 pub mod UpLaws
 pub mod RaiseSteps
 pub mod LinkIn
+pub mod LoweredLaws

@@ -6,6 +6,7 @@ use mathlib.Core.Logic.{_⊎_, inl, inr}
 use mathlib.Core.Bool.{Bool, true, false, not}
 use mathlib.Core.List.{List, [], _∷_, _++_, map}
 use Prim.Native.Nat.{ℕ, zero, suc, _+_, _-_, _*_, _≤_, _<_, zero-le, suc-le-suc}
+use native.Mathlib.Nat.{le-of-suc-le-suc, not-suc-le-zero}
 use native.Mathlib.Omega.{arith}
 use borrow.Author.Tests.{lt-ltb, le-ltb, eq-eqb, ne-eqb, eqb-false}
 use lib.Dec.{ltb, eqb}
@@ -13,10 +14,11 @@ use lib.ListN.{length, take, drop, getD, List·getD-append}
 use lib.Seq.{getD-take, getD-drop, getD-append-add, length-take-le}
 use Rattle.lists.specs.Base.{if_then_else_, filter}
 use Rattle.lists.proofs.MapLaws.{cases}
-use Rattle.refs.specs.Refs.{Below}
+use Rattle.rows.specs.Part.{put}
+use Rattle.refs.specs.Refs.{Ref, ref, Below}
 use Rattle.refs.proofs.Shifts.{low-or-high}
 use Rattle.block.specs.View.{peerOf, pairs}
-use Rattle.neighbours.specs.Lowered.{lowered, numbersLeft, besideLeft, withoutPeer}
+use Rattle.neighbours.specs.Lowered.{lowered, stays, lower, withoutPeer}
 
 pub lowered-low : (i l : ℕ) → l < i → lowered i l ≡ l
 unfolding lowered
@@ -54,21 +56,37 @@ peer-lowered i l ps h n = go (low-or-high i l)
 below-rest : (m l : ℕ) (ls : List ℕ) → Below m (l ∷ ls) → Below m ls
 below-rest m l ls b = record { below = λ i h. b .below (suc i) (suc-le-suc h) }
 
+-- what is read from numbers and rows, by way of the pairs
+module _ {A : Type 0} (f : ℕ → List ℕ → A) where
+  abbrev pub readBy : Ref → A
+  readBy r = f (r .place) (r .own)
+
+  pub pairs-read : (ls : List ℕ) (rs : List (List ℕ)) → map readBy (pairs ref ls rs) ≡ pairs f ls rs
+  unfolding pairs
+  pairs-read [] rs = refl
+  pairs-read (l ∷ ls) [] = refl
+  pairs-read (l ∷ ls) (r ∷ rs) = ap (λ (t : List A). f l r ∷ t) (pairs-read ls rs)
+
 -- the entries that are left, where g reads a lowered number as f the number, and t tells those that are not of link i
 module _ {A : Type 0} (f g : ℕ → List ℕ → A) (t : A → Bool) (i m : ℕ)
     (same : (l : ℕ) (row : List ℕ) → l < m → (l ≡ i → ⊥) → g (lowered i l) row ≡ f l row)
     (test : (l : ℕ) (row : List ℕ) → l < m → t (f l row) ≡ not (eqb l i)) where
-  pub pairs-lowered : (ls : List ℕ) (rs : List (List ℕ)) → Below m ls → pairs g (numbersLeft i ls) (besideLeft i ls rs) ≡ filter t (pairs f ls rs)
-  unfolding pairs numbersLeft besideLeft filter
+  pub pairs-lowered : (ls : List ℕ) (rs : List (List ℕ)) → Below m ls → map (readBy g) (map (lower i) (filter (stays i) (pairs ref ls rs))) ≡ filter t (pairs f ls rs)
+  unfolding pairs filter
   pairs-lowered [] rs b = refl
-  pairs-lowered (l ∷ ls) [] b = no-rows (numbersLeft i (l ∷ ls))
-    where
-      no-rows : (ks : List ℕ) → pairs g ks [] ≡ []
-      no-rows [] = refl
-      no-rows (k ∷ ks) = refl
+  pairs-lowered (l ∷ ls) [] b = refl
   pairs-lowered (l ∷ ls) (r ∷ rs) b =
       let q : l < m = b .below 0 (suc-le-suc zero-le) in
       let rest = pairs-lowered ls rs (below-rest m l ls b) in
       cases (eqb l i)
       (λ e. rw e (rw (test l r q ∙ ap not e) rest))
       (λ e. rw e (rw (test l r q ∙ ap not e) (λ k. same l r q (eqb-false l i e) k ∷ rest k)))
+
+-- an entry anew
+pairs-put : (x : ℕ) (row : List ℕ) (j : ℕ) (ls : List ℕ) (rs : List (List ℕ)) → j < length ls → j < length rs
+    → pairs ref (put j (x ∷ []) ls) (put j (row ∷ []) rs) ≡ put j (ref x row ∷ []) (pairs ref ls rs)
+unfolding pairs put
+pairs-put x row j [] rs h g = absurd (not-suc-le-zero h)
+pairs-put x row j (l ∷ ls) [] h g = absurd (not-suc-le-zero g)
+pairs-put x row zero (l ∷ ls) (r ∷ rs) h g = refl
+pairs-put x row (suc j) (l ∷ ls) (r ∷ rs) h g = ap (λ (t : List Ref). ref l r ∷ t) (pairs-put x row j ls rs (le-of-suc-le-suc h) (le-of-suc-le-suc g))

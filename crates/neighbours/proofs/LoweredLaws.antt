@@ -83,7 +83,7 @@ module _ {A : Type 0} (f g : ℕ → List ℕ → A) (t : A → Bool) (i m : ℕ
       (λ e. rw e (rw (test l r q ∙ ap not e) (λ k. same l r q (eqb-false l i e) k ∷ rest k)))
 
 -- an entry anew
-pairs-put : (x : ℕ) (row : List ℕ) (j : ℕ) (ls : List ℕ) (rs : List (List ℕ)) → j < length ls → j < length rs
+pub pairs-put : (x : ℕ) (row : List ℕ) (j : ℕ) (ls : List ℕ) (rs : List (List ℕ)) → j < length ls → j < length rs
     → pairs ref (put j (x ∷ []) ls) (put j (row ∷ []) rs) ≡ put j (ref x row ∷ []) (pairs ref ls rs)
 unfolding pairs put
 pairs-put x row j [] rs h g = absurd (not-suc-le-zero h)

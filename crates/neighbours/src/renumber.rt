@@ -1,7 +1,8 @@
-// Link numbers after a link came in.
+// Link numbers after a link came in, and after one went.
 use block::head;
 use block::head::Head;
 use block::hops;
+use rows::table;
 ghost use mathlib.Core.Path.{_≡_};
 ghost use Prim.Native.Nat.{_+_, _-_, _*_, _≤_, _<_};
 ghost use mathlib.Core.List.{map};
@@ -10,6 +11,8 @@ ghost use Rattle.rows.specs.Part.{part};
 ghost use Rattle.rows.specs.Rows.{rows};
 ghost use Rattle.refs.specs.Refs.{shifted, Below};
 ghost use Rattle.block.specs.Sound.{Sound, AllNumbered};
+ghost use Rattle.lists.specs.Base.{filter};
+ghost use Rattle.neighbours.specs.Lowered.{lowered, stays, lower, entries};
 ghost use Rattle.neighbours.specs.Raised.{raised, raisedRow, RaisedIn, RaisedLinks};
 
 // A link number after a link came in at i.
@@ -81,4 +84,45 @@ pub fn raise_links(h: Head, block: &mut [u8], i: usize)
     raise_numbers(block, dropped, h.live.dropped, i);
     raise_table(block, grafted, grafted_rows, 119, h.live.grafted, 22, i);
     raise_table(block, missing, timers, 129, h.live.missing, 32, i);
+}
+
+// A link number other than i, after link i went.
+fn lower_one(l: u8, i: usize) -> u8
+    requires { ⌜ (l ≡ i → ⊥) ⌝ }
+    ensures { λ r. ⌜ r ≡ lowered i l ⌝ }
+{
+    if (l as usize) < i {
+        return l;
+    }
+    l - 1
+}
+
+// A byte as an index.
+fn wide(x: u8) -> usize
+    ensures { λ r. ⌜ r ≡ x ⌝ }
+{
+    x as usize
+}
+
+// Drops the number i and the rows beside it, lowers the numbers above it, and returns how many are left: n numbers at the start, and n rows at o.
+pub fn drop_number(b: &mut [u8], o: usize, stride: usize, n: usize, i: usize) -> usize
+    requires { ⌜ (n ≤ o) × (o + n * stride ≤ length (now b)) ⌝ }
+    ensures { λ r. ⌜ (r ≤ n) × (entries o stride r (now (b .exit)) ≡ map (lower i) (filter (stays i) (entries o stride n (now (b .entry))))) ⌝ }
+{
+    let mut k = 0;
+    let mut j = 0;
+    while j < n {
+        let l = b[j];
+        let w = wide(l);
+        let from = o + j * stride;
+        j += 1;
+        if w != i {
+            let to = o + k * stride;
+            let m = lower_one(l, i);
+            table::move_down(b, from, to, stride);
+            b[k] = m;
+            k += 1;
+        }
+    }
+    k
 }

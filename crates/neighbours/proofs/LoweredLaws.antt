@@ -15,10 +15,11 @@ use lib.Seq.{getD-take, getD-drop, getD-append-add, length-take-le}
 use Rattle.lists.specs.Base.{if_then_else_, filter}
 use Rattle.lists.proofs.MapLaws.{cases}
 use Rattle.rows.specs.Part.{put}
+use Rattle.rows.specs.Rows.{rows}
 use Rattle.refs.specs.Refs.{Ref, ref, Below}
 use Rattle.refs.proofs.Shifts.{low-or-high}
-use Rattle.block.specs.View.{peerOf, pairs}
-use Rattle.neighbours.specs.Lowered.{lowered, stays, lower, withoutPeer}
+use Rattle.block.specs.View.{peerOf, pairs, numbered}
+use Rattle.neighbours.specs.Lowered.{lowered, stays, lower, entries, withoutPeer}
 
 pub lowered-low : (i l : ℕ) → l < i → lowered i l ≡ l
 unfolding lowered
@@ -81,6 +82,12 @@ module _ {A : Type 0} (f g : ℕ → List ℕ → A) (t : A → Bool) (i m : ℕ
       cases (eqb l i)
       (λ e. rw e (rw (test l r q ∙ ap not e) rest))
       (λ e. rw e (rw (test l r q ∙ ap not e) (λ k. same l r q (eqb-false l i e) k ∷ rest k)))
+
+  -- what is then read from the bytes
+  pub numbered-lowered : (o s n r : ℕ) (xs ys : List ℕ) → entries o s r ys ≡ map (lower i) (filter (stays i) (entries o s n xs)) → Below m (take n xs)
+      → numbered g s r ys (drop o ys) ≡ filter t (numbered f s n xs (drop o xs))
+  unfolding numbered
+  numbered-lowered o s n r xs ys e b = sym (pairs-read g (take r ys) (rows s r (drop o ys))) ∙ ap (map (readBy g)) e ∙ pairs-lowered (take n xs) (rows s n (drop o xs)) b
 
 -- an entry anew
 pub pairs-put : (x : ℕ) (row : List ℕ) (j : ℕ) (ls : List ℕ) (rs : List (List ℕ)) → j < length ls → j < length rs

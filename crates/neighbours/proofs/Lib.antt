@@ -1,0 +1,11 @@
+-- Laws on plain values. ShiftLaws: link numbers after a link came in, one after the other. RaisedRows: rows with a list of them inside.
+-- RaisedLaws: they stand for the same peers. UpLaws, RaiseSteps: in the whole block. LinkIn: the row of the link.
+-- LoweredLaws, EntryLaws: link numbers with rows beside them after a link went.
+pub mod ShiftLaws
+pub mod RaisedRows
+pub mod RaisedLaws
+pub mod UpLaws
+pub mod RaiseSteps
+pub mod LinkIn
+pub mod LoweredLaws
+pub mod EntryLaws

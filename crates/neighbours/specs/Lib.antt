@@ -1,0 +1,2 @@
+pub mod Raised
+pub mod Lowered

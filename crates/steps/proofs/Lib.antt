@@ -1,0 +1,2 @@
+pub mod StandsLaws
+pub mod RoomsLaws

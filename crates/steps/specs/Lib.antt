@@ -1,2 +1,3 @@
 pub mod Stands
 pub mod Rooms
+pub mod Shared

@@ -1,0 +1,178 @@
+-- The targets of an eager push, link by link, and those of them that hand it back.
+-- Assumes nothing.
+use mathlib.Core.Path.{_≡_, refl, sym, ap, _∙_}
+use mathlib.Core.Bool.{Bool, true, false, not, _&&_}
+use mathlib.Core.List.{List, [], _∷_, _++_, append-nil}
+use Prim.Native.Nat.{ℕ, _+_, _≤_, _<_}
+use native.Mathlib.Omega.{arith}
+use native.Mathlib.Numerals.{add-one}
+use borrow.Author.Tests.{ltb-true, ltb-false, le-leb, lt-leb}
+use lib.Dec.{eqb, leb, ltb}
+use lib.ListN.{length, take, drop, getD, take-append-drop, List·getD-map}
+use lib.Seq.{take-suc, take-all}
+use Rattle.lists.specs.Base.{if_then_else_, filter, member, any}
+use Rattle.lists.specs.Map.{Map, Entry, entry, keys}
+use Rattle.lists.proofs.MapLaws.{cases, and-left, and-right}
+use Rattle.protocol.specs.Links.{Mark, eager, lazy, Links, isEager, peersMarked, eagerPeers}
+use Rattle.protocol.specs.State.{State}
+use Rattle.protocol.specs.Run.{Room}
+use Rattle.protocol.specs.Push.{eagerTargets}
+use Rattle.decide.specs.Rooms.{kthTaken, backPeers}
+use Rattle.block.specs.LinkSteps.{linkAt, peerAt}
+use Rattle.steps.specs.Rooms.{roomsIn}
+use Rattle.eager.specs.Targets.{isTarget, handsBack, Roomed}
+
+if-append : {A : Type 0} (t : Bool) (x : A) (xs ys : List A) → (if t then x ∷ (xs ++ ys) else xs ++ ys) ≡ (if t then x ∷ xs else xs) ++ ys
+if-append true x xs ys = refl
+if-append false x xs ys = refl
+
+marked-append : (f : Mark → Bool) (l m : Links) → peersMarked f (l ++ m) ≡ peersMarked f l ++ peersMarked f m
+unfolding peersMarked
+marked-append f [] m = refl
+marked-append f (e ∷ l) m =
+    ap (λ (t : List ℕ). if f (e .value) then e .key ∷ t else t) (marked-append f l m) ∙ if-append (f (e .value)) (e .key) (peersMarked f l) (peersMarked f m)
+
+filter-append : {A : Type 0} (f : A → Bool) (l m : List A) → filter f (l ++ m) ≡ filter f l ++ filter f m
+unfolding filter
+filter-append f [] m = refl
+filter-append f (x ∷ l) m = ap (λ t. if f x then x ∷ t else t) (filter-append f l m) ∙ if-append (f x) x (filter f l) (filter f m)
+
+-- the targets among some links
+
+abbrev passes : ℕ → ℕ → List ℕ → ℕ → Bool
+passes me sender skip p = not (eqb p me) && not (eqb p sender) && not (member p skip)
+
+unfoldable pub targetsIn : ℕ → ℕ → List ℕ → Links → List ℕ
+targetsIn me sender skip l = filter (passes me sender skip) (eagerPeers l)
+
+module _ (me sender : ℕ) (skip : List ℕ) where
+  pub targets-append : (l m : Links) → targetsIn me sender skip (l ++ m) ≡ targetsIn me sender skip l ++ targetsIn me sender skip m
+  unfolding targetsIn eagerPeers
+  targets-append l m =
+      ap (filter (passes me sender skip)) (marked-append isEager l m)
+      ∙ filter-append (passes me sender skip) (peersMarked isEager l) (peersMarked isEager m)
+
+  targets-one : (e : Entry Mark) → targetsIn me sender skip (e ∷ []) ≡ (if isEager (e .value) && passes me sender skip (e .key) then e .key ∷ [] else [])
+  unfolding targetsIn eagerPeers peersMarked filter
+  targets-one e = on (e .value)
+    where
+      on : (m : Mark) → filter (passes me sender skip) (if isEager m then e .key ∷ [] else []) ≡ (if isEager m && passes me sender skip (e .key) then e .key ∷ [] else [])
+      on eager = unfold filter in refl
+      on lazy = unfold filter in refl
+
+module _ (sender : ℕ) (skip : List ℕ) (s : State) where
+  -- the targets among the first i links
+  abbrev pub first : ℕ → List ℕ
+  first i = targetsIn (s .settings .me) sender skip (take i (s .links))
+
+  -- and behind them
+  abbrev pub rest : ℕ → List ℕ
+  rest i = targetsIn (s .settings .me) sender skip (drop i (s .links))
+
+  pub first-none : first 0 ≡ []
+  unfolding targetsIn eagerPeers peersMarked filter
+  first-none = refl
+
+  whole : targetsIn (s .settings .me) sender skip (s .links) ≡ eagerTargets sender skip s
+  unfolding targetsIn eagerTargets
+  whole = refl
+
+  pub first-all : (i : ℕ) → length (s .links) ≤ i → first i ≡ eagerTargets sender skip s
+  first-all i h = ap (targetsIn (s .settings .me) sender skip) (take-all i (s .links) h) ∙ whole
+
+  pub first-rest : (i : ℕ) → eagerTargets sender skip s ≡ first i ++ rest i
+  first-rest i =
+      sym whole
+      ∙ sym (ap (targetsIn (s .settings .me) sender skip) (take-append-drop i (s .links)))
+      ∙ targets-append (s .settings .me) sender skip (take i (s .links)) (drop i (s .links))
+
+  module _ (i : ℕ) (q : i < length (s .links)) where
+    one : targetsIn (s .settings .me) sender skip (linkAt s i ∷ []) ≡ (if isTarget sender skip s i then peerAt s i ∷ [] else [])
+    unfolding isTarget
+    one =
+        targets-one (s .settings .me) sender skip (linkAt s i)
+        ∙ ap (λ (p : ℕ). if isEager (linkAt s i .value) && passes (s .settings .me) sender skip p then p ∷ [] else [])
+        (sym (List·getD-map (λ (e : Entry Mark). e .key) (s .links) i (entry 0 eager)))
+
+    first-more : first (i + 1) ≡ first i ++ (if isTarget sender skip s i then peerAt s i ∷ [] else [])
+    first-more =
+        ap first (add-one i)
+        ∙ ap (targetsIn (s .settings .me) sender skip) (take-suc (s .links) i (entry 0 eager) q)
+        ∙ targets-append (s .settings .me) sender skip (take i (s .links)) (linkAt s i ∷ [])
+        ∙ ap (λ (l : List ℕ). first i ++ l) one
+
+    -- link i is one more, or none
+    pub first-in : isTarget sender skip s i ≡ true → first (i + 1) ≡ first i ++ (peerAt s i ∷ [])
+    first-in e = first-more ∙ ap (λ (b : Bool). first i ++ (if b then peerAt s i ∷ [] else [])) e
+
+    pub first-out : isTarget sender skip s i ≡ false → first (i + 1) ≡ first i
+    first-out e = first-more ∙ ap (λ (b : Bool). first i ++ (if b then peerAt s i ∷ [] else [])) e ∙ append-nil (first i)
+
+-- those that hand it back
+
+module _ (rooms : List Room) where
+  pub back-append : (ps qs : List ℕ) → backPeers rooms (ps ++ qs) ≡ backPeers rooms ps ++ backPeers rooms qs
+  unfolding backPeers
+  back-append ps qs = filter-append (λ p. not (kthTaken 1 p rooms)) ps qs
+
+  pub back-held : (p : ℕ) → kthTaken 1 p rooms ≡ false → backPeers rooms (p ∷ []) ≡ p ∷ []
+  unfolding backPeers filter
+  back-held p e = ap (λ (b : Bool). if not b then p ∷ [] else []) e
+
+  pub back-taken : (p : ℕ) → kthTaken 1 p rooms ≡ true → backPeers rooms (p ∷ []) ≡ []
+  unfolding backPeers filter
+  back-taken p e = ap (λ (b : Bool). if not b then p ∷ [] else []) e
+
+module _ (sender : ℕ) (skip array : List ℕ) (s : State) (roomed : Roomed s array) where
+  -- those among the first i links
+  abbrev pub backs : ℕ → List ℕ
+  backs i = backPeers (roomsIn s array) (first sender skip s i)
+
+  pub backs-none : backs 0 ≡ []
+  unfolding backPeers filter
+  backs-none = ap (backPeers (roomsIn s array)) (first-none sender skip s)
+
+  pub backs-rest : (i : ℕ) → backPeers (roomsIn s array) (eagerTargets sender skip s) ≡ backs i ++ backPeers (roomsIn s array) (rest sender skip s i)
+  backs-rest i = ap (backPeers (roomsIn s array)) (first-rest sender skip s i) ∙ back-append (roomsIn s array) (first sender skip s i) (rest sender skip s i)
+
+  pub backs-all : (i : ℕ) → length (s .links) ≤ i → backs i ≡ backPeers (roomsIn s array) (eagerTargets sender skip s)
+  backs-all i h = ap (backPeers (roomsIn s array)) (first-all sender skip s i h)
+
+  module _ (i : ℕ) (q : i < length (s .links)) where
+    -- link i is pushed to, and has no room
+    pub backs-held : isTarget sender skip s i ≡ true → getD array i 0 < 1 → backs (i + 1) ≡ backs i ++ (peerAt s i ∷ [])
+    backs-held e z =
+        ap (backPeers (roomsIn s array)) (first-in sender skip s i q e)
+        ∙ back-append (roomsIn s array) (first sender skip s i) (peerAt s i ∷ [])
+        ∙ ap (λ (l : List ℕ). backs i ++ l) (back-held (roomsIn s array) (peerAt s i) (roomed .first i q ∙ lt-leb 1 (getD array i 0) z))
+
+    -- it is pushed to, and has room
+    pub backs-taken : isTarget sender skip s i ≡ true → 1 ≤ getD array i 0 → backs (i + 1) ≡ backs i
+    backs-taken e z =
+        ap (backPeers (roomsIn s array)) (first-in sender skip s i q e)
+        ∙ back-append (roomsIn s array) (first sender skip s i) (peerAt s i ∷ [])
+        ∙ ap (λ (l : List ℕ). backs i ++ l) (back-taken (roomsIn s array) (peerAt s i) (roomed .first i q ∙ le-leb 1 (getD array i 0) z))
+        ∙ append-nil (backs i)
+
+    -- it is not pushed to
+    pub backs-out : isTarget sender skip s i ≡ false → backs (i + 1) ≡ backs i
+    backs-out e = ap (backPeers (roomsIn s array)) (first-out sender skip s i q e)
+
+    pub backs-yes : handsBack sender skip array s i ≡ true → backs (i + 1) ≡ backs i ++ (peerAt s i ∷ [])
+    unfolding handsBack
+    backs-yes e =
+        backs-held (and-left (isTarget sender skip s i) (ltb (getD array i 0) 1) e)
+        (ltb-true (getD array i 0) 1 (and-right (isTarget sender skip s i) (ltb (getD array i 0) 1) e))
+
+    pub backs-no : handsBack sender skip array s i ≡ false → backs (i + 1) ≡ backs i
+    unfolding handsBack
+    backs-no e =
+        cases (isTarget sender skip s i)
+        (λ t. backs-taken t (ltb-false (getD array i 0) 1 (sym (ap (λ (b : Bool). b && ltb (getD array i 0) 1) t) ∙ e)))
+        backs-out
+
+-- among the keys of a map
+pub member-keys : {A : Type 0} (p : ℕ) (m : Map A) → member p (keys m) ≡ any (λ (e : Entry A). eqb p (e .key)) m
+unfolding member any
+member-keys p [] = refl
+member-keys p (e ∷ m) = ap (λ (b : Bool). if eqb p (e .key) then true else b) (member-keys p m)

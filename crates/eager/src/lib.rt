@@ -1,0 +1,2 @@
+// The eager push of a message that is taken in, and the reply to a Graft: document 01, "Gossip", "Broadcast" and `on_graft`.
+pub mod target;

@@ -6,8 +6,8 @@ use mathlib.Core.List.{List, [], _∷_, _++_, append-nil}
 use Prim.Native.Nat.{ℕ, _+_, _≤_, _<_}
 use native.Mathlib.Omega.{arith}
 use native.Mathlib.Numerals.{add-one}
-use borrow.Author.Tests.{ltb-true, ltb-false, le-leb, lt-leb}
-use lib.Dec.{eqb, leb, ltb}
+use borrow.Author.Tests.{not-true, not-false}
+use lib.Dec.{eqb, leb}
 use lib.ListN.{length, take, drop, getD, take-append-drop, List·getD-map}
 use lib.Seq.{take-suc, take-all}
 use Rattle.lists.specs.Base.{if_then_else_, filter, member, any}
@@ -123,10 +123,13 @@ module _ (rooms : List Room) where
   unfolding backPeers filter
   back-taken p e = ap (λ (b : Bool). if not b then p ∷ [] else []) e
 
-module _ (sender : ℕ) (skip array : List ℕ) (s : State) (roomed : Roomed s array) where
-  -- those among the first i links
-  abbrev pub backs : ℕ → List ℕ
-  backs i = backPeers (roomsIn s array) (first sender skip s i)
+-- those among the first i links
+abbrev pub backsTo : ℕ → List ℕ → List ℕ → State → ℕ → List ℕ
+backsTo sender skip array s i = backPeers (roomsIn s array) (first sender skip s i)
+
+module _ (sender : ℕ) (skip array : List ℕ) (s : State) where
+  abbrev backs : ℕ → List ℕ
+  backs i = backsTo sender skip array s i
 
   pub backs-none : backs 0 ≡ []
   unfolding backPeers filter
@@ -138,20 +141,20 @@ module _ (sender : ℕ) (skip array : List ℕ) (s : State) (roomed : Roomed s a
   pub backs-all : (i : ℕ) → length (s .links) ≤ i → backs i ≡ backPeers (roomsIn s array) (eagerTargets sender skip s)
   backs-all i h = ap (backPeers (roomsIn s array)) (first-all sender skip s i h)
 
-  module _ (i : ℕ) (q : i < length (s .links)) where
+  module _ (roomed : Roomed s array) (i : ℕ) (q : i < length (s .links)) where
     -- link i is pushed to, and has no room
-    pub backs-held : isTarget sender skip s i ≡ true → getD array i 0 < 1 → backs (i + 1) ≡ backs i ++ (peerAt s i ∷ [])
+    pub backs-held : isTarget sender skip s i ≡ true → leb 1 (getD array i 0) ≡ false → backs (i + 1) ≡ backs i ++ (peerAt s i ∷ [])
     backs-held e z =
         ap (backPeers (roomsIn s array)) (first-in sender skip s i q e)
         ∙ back-append (roomsIn s array) (first sender skip s i) (peerAt s i ∷ [])
-        ∙ ap (λ (l : List ℕ). backs i ++ l) (back-held (roomsIn s array) (peerAt s i) (roomed .first i q ∙ lt-leb 1 (getD array i 0) z))
+        ∙ ap (λ (l : List ℕ). backs i ++ l) (back-held (roomsIn s array) (peerAt s i) (roomed .first i q ∙ z))
 
     -- it is pushed to, and has room
-    pub backs-taken : isTarget sender skip s i ≡ true → 1 ≤ getD array i 0 → backs (i + 1) ≡ backs i
+    pub backs-taken : isTarget sender skip s i ≡ true → leb 1 (getD array i 0) ≡ true → backs (i + 1) ≡ backs i
     backs-taken e z =
         ap (backPeers (roomsIn s array)) (first-in sender skip s i q e)
         ∙ back-append (roomsIn s array) (first sender skip s i) (peerAt s i ∷ [])
-        ∙ ap (λ (l : List ℕ). backs i ++ l) (back-taken (roomsIn s array) (peerAt s i) (roomed .first i q ∙ le-leb 1 (getD array i 0) z))
+        ∙ ap (λ (l : List ℕ). backs i ++ l) (back-taken (roomsIn s array) (peerAt s i) (roomed .first i q ∙ z))
         ∙ append-nil (backs i)
 
     -- it is not pushed to
@@ -161,15 +164,26 @@ module _ (sender : ℕ) (skip array : List ℕ) (s : State) (roomed : Roomed s a
     pub backs-yes : handsBack sender skip array s i ≡ true → backs (i + 1) ≡ backs i ++ (peerAt s i ∷ [])
     unfolding handsBack
     backs-yes e =
-        backs-held (and-left (isTarget sender skip s i) (ltb (getD array i 0) 1) e)
-        (ltb-true (getD array i 0) 1 (and-right (isTarget sender skip s i) (ltb (getD array i 0) 1) e))
+        backs-held (and-left (isTarget sender skip s i) (not (leb 1 (getD array i 0))) e)
+        (not-true (leb 1 (getD array i 0)) (and-right (isTarget sender skip s i) (not (leb 1 (getD array i 0))) e))
 
     pub backs-no : handsBack sender skip array s i ≡ false → backs (i + 1) ≡ backs i
     unfolding handsBack
     backs-no e =
         cases (isTarget sender skip s i)
-        (λ t. backs-taken t (ltb-false (getD array i 0) 1 (sym (ap (λ (b : Bool). b && ltb (getD array i 0) 1) t) ∙ e)))
+        (λ t. backs-taken t (not-false (leb 1 (getD array i 0)) (sym (ap (λ (b : Bool). b && not (leb 1 (getD array i 0))) t) ∙ e)))
         backs-out
+
+-- the tests of one link, one by one
+module _ (sender : ℕ) (skip : List ℕ) (s : State) (i : ℕ) where
+  pub target-is : (e m f t : Bool) → isEager (linkAt s i .value) ≡ e → eqb (peerAt s i) (s .settings .me) ≡ m → eqb (peerAt s i) sender ≡ f → member (peerAt s i) skip ≡ t
+      → isTarget sender skip s i ≡ (e && (not m && not f && not t))
+  unfolding isTarget
+  target-is e m f t a b c d = λ k. a k && (not (b k) && not (c k) && not (d k))
+
+  pub back-is : (array : List ℕ) (t r : Bool) → isTarget sender skip s i ≡ t → leb 1 (getD array i 0) ≡ r → handsBack sender skip array s i ≡ (t && not r)
+  unfolding handsBack
+  back-is array t r a b = λ k. a k && not (b k)
 
 -- among the keys of a map
 pub member-keys : {A : Type 0} (p : ℕ) (m : Map A) → member p (keys m) ≡ any (λ (e : Entry A). eqb p (e .key)) m

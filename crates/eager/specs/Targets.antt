@@ -5,7 +5,7 @@ use mathlib.Core.Path.{_≡_}
 use mathlib.Core.Bool.{Bool, not, _&&_}
 use mathlib.Core.List.{List, []}
 use mathlib.Core.Option.{none}
-use lib.Dec.{eqb, leb, ltb}
+use lib.Dec.{eqb, leb}
 use lib.ListN.{length, getD}
 use Rattle.lists.specs.Base.{member}
 use Rattle.lists.specs.Map.{Entry, entry, keys}
@@ -45,7 +45,7 @@ isTarget sender skip s i =
 
 -- link i is pushed to, and has no room
 unfoldable pub handsBack : ℕ → List ℕ → List ℕ → State → ℕ → Bool
-handsBack sender skip rooms s i = isTarget sender skip s i && ltb (getD rooms i 0) 1
+handsBack sender skip rooms s i = isTarget sender skip s i && not (leb 1 (getD rooms i 0))
 
 -- whom the push goes to
 abbrev pub targetsOf : ℕ → Held → State → List ℕ

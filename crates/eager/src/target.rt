@@ -5,6 +5,8 @@ use caches::grafted;
 use steps::Held;
 ghost use mathlib.Core.Path.{_≡_};
 ghost use Prim.Native.Nat.{_<_};
+ghost use lib.Dec.{leb};
+ghost use lib.ListN.{getD};
 ghost use Rattle.lists.specs.Base.{member};
 ghost use Rattle.lists.specs.Map.{keys};
 ghost use Rattle.block.specs.View.{stateOf};
@@ -72,6 +74,14 @@ pub fn is_target(h: Head, block: &[u8], push: Push, i: usize) -> bool
     false
 }
 
+// Whether the first send to link i is taken.
+pub fn is_taken(rooms: &[u64; 34], i: usize) -> bool
+    requires { ⌜ i < 34 ⌝ }
+    ensures { λ r. ⌜ r ≡ leb 1 (getD (now (rooms .entry)) i 0) ⌝ }
+{
+    1 <= rooms[i]
+}
+
 // Whether link i is pushed to and hands it back: "the k-th send of a call to a peer is taken when k ≤ room".
 pub fn hands_back(h: Head, block: &[u8], rooms: &[u64; 34], push: Push, i: usize) -> bool
     requires { ⌜ Pushing h (now block) (push .skip) × (i < h .live .links) ⌝ }
@@ -79,10 +89,11 @@ pub fn hands_back(h: Head, block: &[u8], rooms: &[u64; 34], push: Push, i: usize
 {
     let target = is_target(h, block, push, i);
     if target {
-        if rooms[i] < 1 {
-            return true;
+        let taken = is_taken(rooms, i);
+        if taken {
+            return false;
         }
-        return false;
+        return true;
     }
     false
 }

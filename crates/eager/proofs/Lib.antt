@@ -1,2 +1,3 @@
 pub mod TargetLaws
 pub mod GainLaws
+pub mod BackLaws

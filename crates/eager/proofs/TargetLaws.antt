@@ -19,8 +19,12 @@ use Rattle.protocol.specs.Run.{Room}
 use Rattle.protocol.specs.Push.{eagerTargets}
 use Rattle.decide.specs.Rooms.{kthTaken, backPeers}
 use Rattle.block.specs.LinkSteps.{linkAt, peerAt}
+use Rattle.block.specs.View.{stateOf}
+use Rattle.block.specs.declared.head.Head.{Head}
 use Rattle.steps.specs.Rooms.{roomsIn}
-use Rattle.eager.specs.Targets.{isTarget, handsBack, Roomed}
+use Rattle.steps.specs.declared.Held.{Held}
+use Rattle.steps.proofs.RoomsLaws.{kth-link}
+use Rattle.eager.specs.Targets.{isTarget, handsBack, Pushing}
 
 if-append : {A : Type 0} (t : Bool) (x : A) (xs ys : List A) → (if t then x ∷ (xs ++ ys) else xs ++ ys) ≡ (if t then x ∷ xs else xs) ++ ys
 if-append true x xs ys = refl
@@ -36,6 +40,13 @@ filter-append : {A : Type 0} (f : A → Bool) (l m : List A) → filter f (l ++ 
 unfolding filter
 filter-append f [] m = refl
 filter-append f (x ∷ l) m = ap (λ t. if f x then x ∷ t else t) (filter-append f l m) ∙ if-append (f x) x (filter f l) (filter f m)
+
+-- the array has the room of each link
+pub record Roomed (s : State) (array : List ℕ) : Type 0 where
+  pub first : (i : ℕ) → i < length (s .links) → kthTaken 1 (peerAt s i) (roomsIn s array) ≡ leb 1 (getD array i 0)
+
+pub roomed : (h : Head) (xs : List ℕ) (k : Held) (array : List ℕ) → Pushing h xs k → Roomed (stateOf h xs) array
+roomed h xs k array p = record { first = λ i q. kth-link (stateOf h xs) array 1 i (p .up) q (omega arith) }
 
 -- the targets among some links
 

@@ -13,7 +13,7 @@ use Rattle.block.specs.View.{stateOf}
 use Rattle.block.specs.declared.head.Head.{Head}
 use Rattle.steps.specs.Rooms.{roomsIn}
 use Rattle.steps.specs.declared.Held.{Held}
-use Rattle.eager.specs.Targets.{Pushing, Roomed, targetsOf}
+use Rattle.eager.specs.Targets.{Pushing, targetsOf}
 
 -- what is handed back of the push is noted
 abbrev pub backState : ℕ → Held → List ℕ → ℕ → ℕ → State → State
@@ -22,7 +22,6 @@ backState sender skip rooms id round s = pushedState (roomsIn s rooms) (targetsO
 -- what noting asks: a cached identifier, a record that stands with its flag, and room for what is recorded then
 pub record NotesBack (h : Head) (block : List ℕ) (sender : ℕ) (skip : Held) (rooms : List ℕ) (id round : ℕ) : Type 0 where
   pub pushing : Pushing h block skip
-  pub roomed : Roomed (stateOf h block) rooms
   pub cached : holds id (stateOf h block .cache) ≡ true
   pub flagged : Flagged (stateOf h block .dropped) (stateOf h block .announceScheduled)
   pub room : length (backState sender skip rooms id round (stateOf h block) .dropped) ≤ h .limits .dropped

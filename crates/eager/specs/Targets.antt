@@ -1,19 +1,18 @@
 -- Which links an eager push goes to, and which of them hand it back.
 -- Assumes nothing.
 use Prim.Native.Nat.{ℕ, _<_}
-use mathlib.Core.Path.{_≡_}
 use mathlib.Core.Bool.{Bool, not, _&&_}
 use mathlib.Core.List.{List, []}
 use mathlib.Core.Option.{none}
 use lib.Dec.{eqb, leb}
-use lib.ListN.{length, getD}
+use lib.ListN.{getD}
 use Rattle.lists.specs.Base.{member}
 use Rattle.lists.specs.Map.{Entry, entry, keys}
 use Rattle.time_cache.specs.TimeCache.{Cache, Timed}
 use Rattle.protocol.specs.Links.{isEager}
 use Rattle.protocol.specs.State.{State, Grafts}
 use Rattle.protocol.specs.Push.{eagerTargets}
-use Rattle.decide.specs.Rooms.{kthTaken, backPeers}
+use Rattle.decide.specs.Rooms.{backPeers}
 use Rattle.block.specs.View.{stateOf}
 use Rattle.block.specs.Sound.{Sound}
 use Rattle.block.specs.LinkSteps.{LinksAscend, linkAt, peerAt}
@@ -54,7 +53,3 @@ targetsOf sender skip s = eagerTargets sender (skippedIn skip (s .grafted)) s
 -- those of them that hand it back
 abbrev pub backsOf : ℕ → Held → List ℕ → State → List ℕ
 backsOf sender skip rooms s = backPeers (roomsIn s rooms) (targetsOf sender skip s)
-
--- the array has the room of each link
-pub record Roomed (s : State) (rooms : List ℕ) : Type 0 where
-  pub first : (i : ℕ) → i < length (s .links) → kthTaken 1 (peerAt s i) (roomsIn s rooms) ≡ leb 1 (getD rooms i 0)

@@ -13,7 +13,7 @@ ghost use Rattle.block.specs.View.{stateOf};
 ghost use Rattle.block.specs.Sound.{Sound};
 ghost use Rattle.block.specs.Goes.{Goes};
 ghost use Rattle.block.specs.LinkSteps.{LinksAscend, peerAt};
-ghost use Rattle.eager.specs.Targets.{Pushing, backsOf, Roomed};
+ghost use Rattle.eager.specs.Targets.{Pushing, backsOf};
 ghost use Rattle.eager.specs.Backs.{backState, NotesBack};
 
 // How many notes the record gets for one link that handed back a cached identifier, after `extra` for others: "added unless the peer has 256 or all have
@@ -37,7 +37,7 @@ pub fn push_gain(h: Head, block: &[u8], link: usize, id: Id, extra: usize) -> us
 
 // How many notes the record gets for a cached identifier that is pushed: one pass over the links, and over the record for each that hands it back.
 pub fn push_gains(h: Head, block: &[u8], rooms: &[u64; 34], id: Id, push: Push) -> usize
-    requires { ⌜ Pushing h (now block) (push .skip) × Roomed (stateOf h (now block)) (now rooms) ⌝ }
+    requires { ⌜ Pushing h (now block) (push .skip) ⌝ }
     ensures { λ r. ⌜ r ≡ pushGains (idOf id) (stateOf h (now (block .entry)) .dropped) 0 (backsOf (push .sender) (push .skip) (now (rooms .entry)) (stateOf h (now (block .entry)))) ⌝ }
 {
     let n = h.live.links;

@@ -13,7 +13,7 @@ ghost use Rattle.postcard.specs.Message.{Gossip, Swarm};
 ghost use Rattle.postcard.specs.Values.{deliveryValue};
 ghost use Rattle.output.specs.Written.{Told, Written};
 ghost use Rattle.block.specs.View.{stateOf};
-ghost use Rattle.eager.specs.Targets.{Pushing, Roomed, targetsOf, backsOf};
+ghost use Rattle.eager.specs.Targets.{Pushing, targetsOf, backsOf};
 ghost use Rattle.eager.specs.Sent.{sentBytes, pushBytes, SentTo};
 
 // Where the output goes on, and whether any send was handed back.
@@ -34,7 +34,7 @@ pub fn push_sends(
     content: &[u8],
     delivery: Delivery,
 ) -> Pushed
-    requires { ⌜ Pushing h (now block) (push .skip) × Roomed (stateOf h (now block)) (now rooms) ⌝ }
+    requires { ⌜ Pushing h (now block) (push .skip) ⌝ }
     requires { ⌜ Told (sentBytes (now rooms) (Gossip (idOf id) (now content) (deliveryValue delivery)) (targetsOf (push .sender) (push .skip) (stateOf h (now block))) (stateOf h (now block))) at ⌝ }
     ensures { λ r. ⌜ SentTo (sentBytes (now (rooms .entry)) (Gossip (idOf id) (now (content .entry)) (deliveryValue delivery)) (targetsOf (push .sender) (push .skip) (stateOf h (now (block .entry)))) (stateOf h (now (block .entry)))) (backsOf (push .sender) (push .skip) (now (rooms .entry)) (stateOf h (now (block .entry)))) (now (out .entry)) at (now (out .exit)) r ⌝ }
 {
@@ -70,7 +70,7 @@ pub fn eager_push(
     content: &[u8],
     round: Round,
 ) -> usize
-    requires { ⌜ Pushing h (now block) (push .skip) × Roomed (stateOf h (now block)) (now rooms) ⌝ }
+    requires { ⌜ Pushing h (now block) (push .skip) ⌝ }
     requires { ⌜ Told (pushBytes (now rooms) (Gossip (idOf id) (now content) (Swarm (round .0))) (targetsOf (push .sender) (push .skip) (stateOf h (now block))) (stateOf h (now block))) at ⌝ }
     ensures { λ r. ⌜ Written (pushBytes (now (rooms .entry)) (Gossip (idOf id) (now (content .entry)) (Swarm (round .0))) (targetsOf (push .sender) (push .skip) (stateOf h (now (block .entry)))) (stateOf h (now (block .entry)))) (now (out .entry)) at (now (out .exit)) r ⌝ }
 {

@@ -42,15 +42,17 @@ module _ (id : ℕ) (ds : List Note) where
       let w : g + (r + pushGains id ds (g + r + extra) qs) ≡ g + r + pushGains id ds (g + r + extra) qs = omega arith in
       ap (λ (n : ℕ). g + n) (e ∙ ap (λ (n : ℕ). r + pushGains id ds n qs) z) ∙ w
 
+  -- one peer alone
+  pub gains-one : (extra p : ℕ) → pushGains id ds extra (p ∷ []) ≡ pushGain id ds extra p
+  unfolding pushGains
+  gains-one extra p = omega arith
+
   -- one peer more
   pub gains-more : (ps : List ℕ) (p : ℕ) → pushGains id ds 0 (ps ++ (p ∷ [])) ≡ pushGains id ds 0 ps + pushGain id ds (pushGains id ds 0 ps) p
   gains-more ps p =
       let n : ℕ = pushGains id ds 0 ps in
       let z : n + 0 ≡ n = omega arith in
-      gains-append 0 ps (p ∷ []) ∙ ap (λ (m : ℕ). n + m) (ap (λ (m : ℕ). pushGains id ds m (p ∷ [])) z ∙ one n)
-    where
-      one : (n : ℕ) → pushGains id ds n (p ∷ []) ≡ pushGain id ds n p
-      one n = unfold pushGains in (omega arith)
+      gains-append 0 ps (p ∷ []) ∙ ap (λ (m : ℕ). n + m) (ap (λ (m : ℕ). pushGains id ds m (p ∷ [])) z ∙ gains-one n p)
 
   -- none
   pub gains-none : pushGains id ds 0 [] ≡ 0

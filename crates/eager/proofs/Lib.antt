@@ -2,3 +2,4 @@ pub mod TargetLaws
 pub mod GainLaws
 pub mod BackLaws
 pub mod SendLaws
+pub mod ReplyLaws

@@ -1,3 +1,4 @@
 pub mod Targets
 pub mod Backs
 pub mod Sent
+pub mod Reply

@@ -1,8 +1,8 @@
 // What is handed back of a push is noted: document 01, "Record".
-use block::head::Head;
-use block::note;
 use crate::target;
 use crate::target::Push;
+use block::head::Head;
+use block::note;
 use postcard::units::Round;
 use rows::id::Id;
 ghost use mathlib.Core.Path.{_≡_};
@@ -57,7 +57,14 @@ pub fn push_gains(h: Head, block: &[u8], rooms: &[u64; 34], id: Id, push: Push) 
 
 // "handed back are noted after all sends": `note_dropped` of a cached identifier for each link that handed it back. Its time is that of one pass over the
 // links, and over the record's column of link numbers for each that handed it back.
-pub fn note_back(h: Head, block: &mut [u8], rooms: &[u64; 34], push: Push, id: Id, round: Round) -> Head
+pub fn note_back(
+    h: Head,
+    block: &mut [u8],
+    rooms: &[u64; 34],
+    push: Push,
+    id: Id,
+    round: Round,
+) -> Head
     requires { ⌜ NotesBack h (now block) (push .sender) (push .skip) (now rooms) (idOf id) (round .0) ⌝ }
     ensures { λ r. ⌜ Goes (backState (push .sender) (push .skip) (now (rooms .entry)) (idOf id) (round .0)) h (now (block .entry)) r (now (block .exit)) ⌝ }
 {

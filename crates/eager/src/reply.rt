@@ -1,10 +1,10 @@
 // The reply to a Graft of a neighbour: the cached message, noted if it is handed back (document 01, `on_graft`).
+use crate::back;
+use crate::target;
 use block::head;
 use block::head::Head;
 use block::links;
 use caches::cached;
-use crate::back;
-use crate::target;
 use postcard::message::Delivery;
 use postcard::message::Timer;
 use postcard::units::Millis;
@@ -45,7 +45,14 @@ pub fn reply(h: Head, block: &mut [u8], rooms: &[u64; 34], link: usize, id: Id) 
 }
 
 // How many notes the record gets by the reply, given the cached message, if any. Its time is that of one pass over the record's column of link numbers.
-pub fn reply_gains(h: Head, block: &[u8], rooms: &[u64; 34], link: usize, id: Id, held: Held) -> usize
+pub fn reply_gains(
+    h: Head,
+    block: &[u8],
+    rooms: &[u64; 34],
+    link: usize,
+    id: Id,
+    held: Held,
+) -> usize
     requires { ⌜ Replying h (now block) link ⌝ }
     ensures { λ r. ⌜ r ≡ replyGains (roomsIn (stateOf h (now (block .entry))) (now (rooms .entry))) (peerAt (stateOf h (now (block .entry))) link) (idOf id) (heldCached held (stateOf h (now (block .entry)))) (stateOf h (now (block .entry))) ⌝ }
 {
@@ -90,7 +97,16 @@ fn send_one(
 }
 
 // The actions of the reply, given the cached message, if any: its content is the part of the block that holds it.
-pub fn reply_sends(h: Head, block: &[u8], rooms: &[u64; 34], out: &mut [u8], at: usize, link: usize, id: Id, held: Held) -> usize
+pub fn reply_sends(
+    h: Head,
+    block: &[u8],
+    rooms: &[u64; 34],
+    out: &mut [u8],
+    at: usize,
+    link: usize,
+    id: Id,
+    held: Held,
+) -> usize
     requires { ⌜ Replying h (now block) link × HeldIn h held ⌝ }
     requires { ⌜ Told (replyBytes (now rooms) link (idOf id) held (stateOf h (now block))) at ⌝ }
     ensures { λ r. ⌜ Written (replyBytes (now (rooms .entry)) link (idOf id) held (stateOf h (now (block .entry)))) (now (out .entry)) at (now (out .exit)) r ⌝ }

@@ -72,7 +72,7 @@ loop-again c =
       search needs,
       search needs,
       back-take (a .push .sender) (a .push .skip) (a .rooms .now) (idOf (a .id)) (a .round .0) (a .h) (a .block .now) (s .pre) (l .i) (l .g) (l .block) (l .inv .2)
-      (q .note-cached .result) (q .note-cached .last .1 .0) (d .before .before .loop-test .taken) (was d _ (q .before .before .if1 .taken)) (q .note-cached .ensures),
+          (q .note-cached .result) (q .note-cached .last .1 .0) (d .before .before .loop-test .taken) (was d _ (q .before .before .if1 .taken)) (q .note-cached .ensures),
     )
 
 loop-less-2 : tie.Need-loop-less-2 Inv-loop μ-loop
@@ -87,7 +87,7 @@ loop-again-2 c =
       search needs,
       search needs,
       back-skip (a .push .sender) (a .push .skip) (a .rooms .now) (idOf (a .id)) (a .round .0) (a .h) (a .block .now) (s .pre) (l .i) (l .g) (l .block) (l .inv .2)
-      (d .before .before .loop-test .taken) (was d _ (c .if1 .left)),
+          (d .before .before .loop-test .taken) (was d _ (c .if1 .left)),
     )
 
 same-length : tie.Need-same-length Inv-loop μ-loop

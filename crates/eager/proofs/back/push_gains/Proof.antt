@@ -91,9 +91,9 @@ loop-again c =
       omega (arith, t),
       omega (arith, small c, l .inv .1),
       ap (λ (x : ℕ). l .extra + x) (c .push-gain .ensures)
-      ∙ ap (λ (x : ℕ). x + pushGain (id s) (st s .dropped) x (peerAt (st s) (l .i))) (l .inv .2)
-      ∙ sym (ap (pushGains (id s) (st s .dropped) 0) (backs-yes (s .args .push .sender) (sk s) (s .args .rooms .now) (st s) (rooms s) (l .i) q yes)
-      ∙ gains-more (id s) (st s .dropped) bs (peerAt (st s) (l .i))),
+          ∙ ap (λ (x : ℕ). x + pushGain (id s) (st s .dropped) x (peerAt (st s) (l .i))) (l .inv .2)
+          ∙ sym (ap (pushGains (id s) (st s .dropped) 0) (backs-yes (s .args .push .sender) (sk s) (s .args .rooms .now) (st s) (rooms s) (l .i) q yes)
+          ∙ gains-more (id s) (st s .dropped) bs (peerAt (st s) (l .i))),
     )
 
 loop-less-2 : tie.Need-loop-less-2 Inv-loop μ-loop

@@ -3,3 +3,4 @@ pub mod GainLaws
 pub mod BackLaws
 pub mod SendLaws
 pub mod ReplyLaws
+pub mod CallLaws

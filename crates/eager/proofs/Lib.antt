@@ -1,4 +1,5 @@
 pub mod TargetLaws
+pub mod ScanLaws
 pub mod GainLaws
 pub mod BackLaws
 pub mod SendLaws

@@ -82,7 +82,6 @@ unfolding stateOf pushedState recordedState
 notes-back h xs sender k array id round s i c = record {
   pushing = pushing h xs k (s .stands) i;
   cached = c;
-  flagged = s .stands .consistent .recordFlag;
   room = fits-record (backState sender k array id round (stateOf h xs)) (s .fits);
 }
 

@@ -1,1 +1,3 @@
 pub mod Guarantee
+pub mod Counted
+pub mod DecidedLaws

@@ -1,2 +1,4 @@
 pub mod Called
 pub mod Chain
+pub mod Counted
+pub mod Decided

@@ -1,3 +1,4 @@
 pub mod Guarantee
 pub mod Counted
+pub mod HoldsLaws
 pub mod DecidedLaws

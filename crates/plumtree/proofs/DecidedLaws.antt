@@ -24,9 +24,9 @@ use Rattle.decide.proofs.EachEvent.{decide-13, decide-actions}
 use Rattle.decide.proofs.StateAfterLaws.{decide-state}
 use Rattle.decide.proofs.RoomsSteps.{withRooms}
 use Rattle.decide.proofs.RoomsCall.{reached}
-use Rattle.plumtree.specs.Counted.{countsAfterCall}
+use Rattle.kinds.specs.Counted.{countsAfterCall}
 use Rattle.plumtree.specs.Decided.{bytesAfter, lastDecided, decided}
-use Rattle.plumtree.proofs.Counted.{decide-counts}
+use Rattle.kinds.proofs.Counted.{decide-counts}
 
 module _ (hash : List ℕ → ℕ) where
   -- what the caller finds of a run

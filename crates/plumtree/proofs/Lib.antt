@@ -1,4 +1,3 @@
 pub mod Guarantee
-pub mod Counted
 pub mod HoldsLaws
 pub mod DecidedLaws

@@ -16,7 +16,7 @@ use Rattle.decide.specs.Settled.{tooFarBefore}
 use Rattle.decide.specs.SizesAfter.{sizesAfter}
 use Rattle.decide.specs.ActionsAfter.{actionsAfter}
 use Rattle.decide.specs.StateAfter.{stateAfter}
-use Rattle.plumtree.specs.Counted.{countsAfterCall}
+use Rattle.kinds.specs.Counted.{countsAfterCall}
 
 module _ (hash : List ℕ → ℕ) where
   -- the bytes of the call's actions

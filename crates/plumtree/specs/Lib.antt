@@ -1,4 +1,3 @@
 pub mod Called
 pub mod Chain
-pub mod Counted
 pub mod Decided

@@ -24,7 +24,7 @@ use Rattle.protocol.proofs.Consistent.{whole-consistent}
 use Rattle.protocol.proofs.Walk.{Sending, walk-if, walk-eagerPush, walk-dispatchTo}
 use Rattle.decide.specs.Settled.{settled}
 use Rattle.decide.proofs.SettledLaws.{first-state}
-use Rattle.plumtree.specs.Counted.{raised, messageCounts, countsAfterCall}
+use Rattle.kinds.specs.Counted.{raised, messageCounts, countsAfterCall}
 
 -- the counts are as before
 record Same (a b : Run) : Type 0 where

@@ -1,0 +1,76 @@
+// AnnounceDropped (document 01, "Ticks"): the record's entries that are still cached go to the queue again.
+use block::head;
+use block::head::Head;
+use block::note;
+use caches::cached;
+use postcard::units::Round;
+use rows::id;
+use rows::id::Id;
+use rows::word;
+ghost use Prim.Native.Nat.{_+_, _≤_, _<_};
+ghost use lib.ListN.{length};
+ghost use Rattle.rows.specs.Ident.{idOf};
+ghost use Rattle.block.specs.View.{stateOf};
+ghost use Rattle.block.specs.Sound.{Sound};
+ghost use Rattle.block.specs.Goes.{Goes};
+ghost use Rattle.decide.specs.StateAfter.{announceState};
+ghost use Rattle.steps.specs.Stands.{Stands, Step};
+ghost use Rattle.announce.specs.Moved.{movedState, dropInstead};
+
+// Stores a note in place k of the record, over what stood there.
+fn store_dropped(h: Head, block: &mut [u8], k: usize, link: usize, id: Id, round: Round)
+    requires { ⌜ Sound h (now block) × (k < h .live .dropped) × (link < h .live .links) ⌝ }
+    ensures { λ _. ⌜ Goes (dropInstead k link (idOf id) (round .0)) h (now (block .entry)) h (now (block .exit)) ⌝ }
+{
+    let at = head::dropped_at(h.limits) + k;
+    let row = head::dropped_rows_at(h.limits) + 34 * k;
+    block[at] = link as u8;
+    id::store_id(block, row, id);
+    word::store_le(block, row + 32, 2, round.0 as u64);
+}
+
+// "drops uncached identifiers, moves the oldest 64 per peer to its queue". Its time is that of one pass over the record, with a search of the message
+// cache for each entry.
+fn move_oldest(h: Head, block: &mut [u8]) -> Head
+    requires { ⌜ Step announceState h (now block) ⌝ }
+    ensures { λ r. ⌜ Goes movedState h (now (block .entry)) r (now (block .exit)) ⌝ }
+{
+    let n = h.live.dropped;
+    let mut seen = [0u16; 32];
+    let mut g = h;
+    let mut k = 0;
+    let mut i = 0;
+    while i < n {
+        let entry = note::dropped_at(g, block, i);
+        i += 1;
+        let cached = cached::is_cached(g, block, entry.id);
+        if cached {
+            let l = entry.link;
+            let c = seen[l];
+            seen[l] = c + 1;
+            if c < 64 {
+                g = note::push_queued(g, block, l, entry.id, entry.round);
+            } else {
+                store_dropped(g, block, k, l, entry.id, entry.round);
+                k += 1;
+            }
+        }
+    }
+    g.live.dropped = k;
+    g
+}
+
+// `on_announce_dropped_timer`: "schedules dispatch if a queue stands, then itself if a record does, each unless flagged".
+pub fn on_announce_dropped_timer(h: Head, block: &mut [u8]) -> Head
+    requires { ⌜ Step announceState h (now block) ⌝ }
+    ensures { λ r. ⌜ Goes announceState h (now (block .entry)) r (now (block .exit)) ⌝ }
+{
+    let mut g = move_oldest(h, block);
+    let stands = 0 < g.live.dropped;
+    g.live.announce_dropped_scheduled = stands;
+    if g.live.queued == 0 {
+        return g;
+    }
+    g.live.dispatch_timer_scheduled = true;
+    g
+}

@@ -26,7 +26,7 @@ use Rattle.block.specs.NoteSteps.{note, noteRow}
 use Rattle.block.specs.declared.head.Head.{Head}
 use Rattle.block.proofs.Tables.{length-table}
 use Rattle.block.proofs.NoteLaws.{Columns, length-row, read-row, notedIn, noted-long, noted-frame}
-use Rattle.announce.specs.Moved.{dropInstead}
+use Rattle.announce.specs.Moves.{dropInstead}
 
 take-inside : (s o : ℕ) (ys xs : List ℕ) → o + length ys ≤ s → s ≤ length xs → take s (put o ys xs) ≡ put o ys (take s xs)
 unfolding part

@@ -1,3 +1,4 @@
 pub mod Turns
 pub mod KeepLaws
 pub mod MoveLaws
+pub mod CountLaws

@@ -9,17 +9,15 @@ use borrow.Author.Tests.{leb-true, lt-ltb, le-ltb}
 use lib.Dec.{ltb}
 use lib.ListN.{length, take, getD, set, replicate, length-append}
 use lib.Seq.{take-all}
-use Rattle.lists.specs.Base.{if_then_else_, _▷_, isEmpty, filter, count}
+use Rattle.lists.specs.Base.{if_then_else_, _▷_, isEmpty, filter}
 use Rattle.lists.specs.Map.{keys}
 use Rattle.lists.proofs.MapLaws.{and-left, and-right}
-use Rattle.lists.proofs.ListLaws.{count-length}
 use Rattle.rows.specs.Part.{part, put}
 use Rattle.rows.specs.Ident.{idOf}
 use Rattle.rows.proofs.Parts.{put-nil, put-put-next, part-put, length-put, getD-put-after}
 use Rattle.time_cache.specs.TimeCache.{Cache, holds}
 use Rattle.time_cache.proofs.Orders.{up-of}
 use Rattle.protocol.specs.State.{State, Note, Cached, withQueue, withDropped, withDispatchScheduled, withAnnounceScheduled}
-use Rattle.protocol.specs.Push.{forPeer}
 use Rattle.protocol.specs.Ticks.{oldest, younger, stillCached}
 use Rattle.protocol.specs.Whole.{fits}
 use Rattle.decide.specs.StateAfter.{announceState}
@@ -37,9 +35,9 @@ use Rattle.block.proofs.GoesLaws.{dispatch-goes, announce-goes}
 use Rattle.caches.specs.InBlock.{InOrder}
 use Rattle.steps.specs.Stands.{Stands, Step}
 use Rattle.steps.proofs.StandsLaws.{links-up, cached-order}
-use Rattle.announce.specs.Moved.{movedState, dropInstead}
+use Rattle.announce.specs.Moves.{movedState, dropInstead}
 use Rattle.announce.proofs.KeepLaws.{cut-goes}
-use Rattle.announce.proofs.Turns.{standing, standing-few, standing-none, oldest-within, stands, stands-not, oldest-more, oldest-same, younger-more, younger-same, younger-few, Counts, counts-start, counts-more, count-here}
+use Rattle.announce.proofs.Turns.{standing, standing-few, oldest-within, younger-few, Counts, counts-start, Read, seen-few, gone, counted, moves, moves-alone, stays, stays-alone}
 
 -- question 13 of the queue
 queue-fits : (s : State) → fits (announceState s) ≡ true → length (s .queue ++ oldest [] (stillCached s)) ≤ s .limits .Q
@@ -128,40 +126,23 @@ module _ (h : Head) (xs : List ℕ) where
           ∙ is .same
           ∙ ap (λ (t : State). noteFor t l id (r .round .0)) (so .goes .state)
 
-      here : i < length ds
-      here = omega (arith, count-dropped h xs sound)
+      entry : Read (λ x. holds x (s .cache)) (keys (s .links)) ds i seen l id (r .round .0)
+      entry = record {
+        up = up-of (keys (s .links)) (links-up h xs (asks .stands));
+        few = omega (arith, links-same, links-few, count-peers h xs);
+        here = omega (arith, count-dropped h xs sound);
+        counts = so .counts;
+        there = omega (arith, is .below, links-same, count-peers h xs);
+        same = read;
+      }
 
-      held : (b : Bool) → holds id (s .cache) ≡ b → holds (n .id) (s .cache) ≡ b
-      held b e = ap (λ (m : Note). holds (m .id) (s .cache)) read ∙ e
-
-      there : l < length (keys (s .links))
-      there = omega (arith, is .below, links-same, count-peers h xs)
-
-      few : length (keys (s .links)) ≤ 32
-      few = omega (arith, links-same, links-few, count-peers h xs)
-
-      peer : n .peer ≡ getD (keys (s .links)) l 0
-      peer = ap (λ (m : Note). m .peer) read
-
-      passed : getD seen l 0 ≡ count (forPeer (n .peer)) (still i)
-      passed = count-here (keys (s .links)) seen (still i) (so .counts) l n (up-of (keys (s .links)) (links-up h xs (asks .stands))) few there peer
-
-      pub seen-few : getD seen l 0 ≤ 4096
-      seen-few =
-          omega (
-            arith,
-            passed,
-            count-length (forPeer (n .peer)) (still i),
-            standing-few (λ x. holds x (s .cache)) ds i (omega (arith, so .within, count-dropped h xs sound)),
-            so .within,
-            sound .fit .within .dropped,
-            sound .fit .ceilings .D,
-          )
+      pub seen-small : getD seen l 0 ≤ 4096
+      seen-small = omega (arith, seen-few entry, so .within, sound .fit .within .dropped, sound .fit .ceilings .D)
 
       -- one that is not cached
       pub move-skip : holds id (s .cache) ≡ false → Sofar (i + 1) k seen g ys
       move-skip e =
-          let same : still (i + 1) ≡ still i = stands-not (λ x. holds x (s .cache)) ds i here (held false e) in
+          let same : still (i + 1) ≡ still i = gone entry e in
           record {
             within = omega arith;
             goes = record {
@@ -173,22 +154,8 @@ module _ (h : Head) (xs : List ℕ) where
           }
 
       module _ (e : holds id (s .cache) ≡ true) where
-        more : still (i + 1) ≡ still i ++ (n ∷ [])
-        more = stands (λ x. holds x (s .cache)) ds i here (held true e)
-
-        counted : Counts (keys (s .links)) (set seen l (getD seen l 0 + 1)) (still (i + 1))
-        counted =
-            subst (λ (ns : List Note). Counts (keys (s .links)) (set seen l (getD seen l 0 + 1)) ns) (sym more)
-            (counts-more (keys (s .links)) seen (still i) (so .counts) l n (up-of (keys (s .links)) (links-up h xs (asks .stands))) few there peer)
-
         -- one of the oldest 64
         module _ (t : getD seen l 0 < 64) where
-          oldest-next : oldest [] (still (i + 1)) ≡ oldest [] (still i) ++ (n ∷ [])
-          oldest-next = ap (oldest []) more ∙ oldest-more (still i) n (omega (arith, passed))
-
-          younger-next : younger [] (still (i + 1)) ≡ younger [] (still i)
-          younger-next = ap (younger []) more ∙ younger-same (still i) n (omega (arith, passed))
-
           pub move-room : g .live .queued < g .limits .queued
           unfolding stateOf stillCached
           move-room =
@@ -199,7 +166,7 @@ module _ (h : Head) (xs : List ℕ) where
                 ap (λ (t : State). t .limits .Q) (so .goes .state),
                 length-append (s .queue) (oldest [] (still i)),
                 length-append (oldest [] (still i)) (n ∷ []),
-                ap length oldest-next,
+                ap length (moves entry e t),
                 oldest-within (λ x. holds x (s .cache)) ds (i + 1),
                 length-append (s .queue) (oldest [] (stillCached s)),
                 queue-fits s (asks .fits),
@@ -210,16 +177,16 @@ module _ (h : Head) (xs : List ℕ) where
               let behind : (s .queue ++ oldest [] (still i)) ++ (noteFor s l id (r .round .0) ∷ []) ≡ s .queue ++ oldest [] (still (i + 1)) =
               append-assoc (s .queue) (oldest [] (still i)) (noteFor s l id (r .round .0) ∷ [])
               ∙ ap (λ (m : Note). s .queue ++ (oldest [] (still i) ++ (m ∷ []))) (sym read)
-              ∙ ap (λ (ns : List Note). s .queue ++ ns) (sym oldest-next) in
+              ∙ ap (λ (ns : List Note). s .queue ++ ns) (sym (moves entry e t)) in
               record {
                 within = omega arith;
                 goes = record {
                   state = go .state ∙ ap (queueAlso l id (r .round .0)) (so .goes .state)
-                      ∙ (λ t. withDropped (put 0 (sym younger-next t) ds) (withQueue (behind t) s));
+                      ∙ (λ k. withDropped (put 0 (sym (moves-alone entry e t) k) ds) (withQueue (behind k) s));
                   sound = go .sound;
                 };
-                kept = ap length younger-next ∙ so .kept;
-                counts = counted;
+                kept = ap length (moves-alone entry e t) ∙ so .kept;
+                counts = counted entry e;
               }
 
         -- a younger one
@@ -229,21 +196,19 @@ module _ (h : Head) (xs : List ℕ) where
 
           pub move-keep : (ys′ : List ℕ) → Goes (dropInstead k l id (r .round .0)) g ys g ys′ → Sofar (i + 1) (k + 1) (set seen l (getD seen l 0 + 1)) g ys′
           move-keep ys′ go =
-              let older : oldest [] (still (i + 1)) ≡ oldest [] (still i) = ap (oldest []) more ∙ oldest-same (still i) n (omega (arith, passed)) in
-              let younger-next : younger [] (still (i + 1)) ≡ younger [] (still i) ++ (n ∷ []) = ap (younger []) more ∙ younger-more (still i) n (omega (arith, passed)) in
               let first : put k (noteFor s l id (r .round .0) ∷ []) (put 0 (younger [] (still i)) ds) ≡ put 0 (younger [] (still (i + 1))) ds =
               ap (λ (m : Note). put k (m ∷ []) (put 0 (younger [] (still i)) ds)) (sym read)
-              ∙ put-put-next 0 k (younger [] (still i)) (n ∷ []) ds (omega (arith, so .kept)) (omega (arith, kept-few, here))
-              ∙ ap (λ (ns : List Note). put 0 ns ds) (sym younger-next) in
+              ∙ put-put-next 0 k (younger [] (still i)) (n ∷ []) ds (omega (arith, so .kept)) (omega (arith, kept-few, count-dropped h xs sound))
+              ∙ ap (λ (ns : List Note). put 0 ns ds) (sym (stays entry e t)) in
               record {
                 within = omega arith;
                 goes = record {
                   state = go .state ∙ ap (dropInstead k l id (r .round .0)) (so .goes .state)
-                      ∙ (λ t. withDropped (first t) (withQueue (s .queue ++ sym older t) s));
+                      ∙ (λ j. withDropped (first j) (withQueue (s .queue ++ sym (stays-alone entry e t) j) s));
                   sound = go .sound;
                 };
-                kept = ap length younger-next ∙ length-append (younger [] (still i)) (n ∷ []) ∙ ap (λ (m : ℕ). m + 1) (so .kept);
-                counts = counted;
+                kept = ap length (stays entry e t) ∙ length-append (younger [] (still i)) (n ∷ []) ∙ ap (λ (m : ℕ). m + 1) (so .kept);
+                counts = counted entry e;
               }
 
     -- the record's first k entries are what is left

@@ -1,6 +1,6 @@
 -- The record passed entry by entry: what stands of the first i entries, what of that moves to the queue and what stays, and how many stand for each link.
 -- Assumes nothing.
-use mathlib.Core.Path.{_≡_, refl, sym, ap, _∙_}
+use mathlib.Core.Path.{_≡_, refl, sym, ap, _∙_, subst}
 use mathlib.Core.Logic.{_⊎_, inl, inr}
 use mathlib.Core.Bool.{Bool, true, false}
 use mathlib.Core.List.{List, [], _∷_, _++_, append-nil}
@@ -70,20 +70,20 @@ module _ (xs : List Note) (n : Note) where
   unfolding count
   none-seen = zero-add (count (forPeer (n .peer)) xs)
 
-  pub oldest-more : passed < 64 → oldest [] (xs ++ (n ∷ [])) ≡ oldest [] xs ++ (n ∷ [])
+  oldest-more : passed < 64 → oldest [] (xs ++ (n ∷ [])) ≡ oldest [] xs ++ (n ∷ [])
   oldest-more h = oldest-snoc [] xs n ∙ ap (λ (b : Bool). oldest [] xs ++ (if b then n ∷ [] else [])) (ap (λ (m : ℕ). ltb m 64) none-seen ∙ lt-ltb passed 64 h)
 
-  pub oldest-same : 64 ≤ passed → oldest [] (xs ++ (n ∷ [])) ≡ oldest [] xs
+  oldest-same : 64 ≤ passed → oldest [] (xs ++ (n ∷ [])) ≡ oldest [] xs
   oldest-same h =
       oldest-snoc [] xs n ∙ ap (λ (b : Bool). oldest [] xs ++ (if b then n ∷ [] else [])) (ap (λ (m : ℕ). ltb m 64) none-seen ∙ le-ltb passed 64 h)
       ∙ append-nil (oldest [] xs)
 
-  pub younger-same : passed < 64 → younger [] (xs ++ (n ∷ [])) ≡ younger [] xs
+  younger-same : passed < 64 → younger [] (xs ++ (n ∷ [])) ≡ younger [] xs
   younger-same h =
       younger-snoc [] xs n ∙ ap (λ (b : Bool). younger [] xs ++ (if b then [] else n ∷ [])) (ap (λ (m : ℕ). ltb m 64) none-seen ∙ lt-ltb passed 64 h)
       ∙ append-nil (younger [] xs)
 
-  pub younger-more : 64 ≤ passed → younger [] (xs ++ (n ∷ [])) ≡ younger [] xs ++ (n ∷ [])
+  younger-more : 64 ≤ passed → younger [] (xs ++ (n ∷ [])) ≡ younger [] xs ++ (n ∷ [])
   younger-more h = younger-snoc [] xs n ∙ ap (λ (b : Bool). younger [] xs ++ (if b then [] else n ∷ [])) (ap (λ (m : ℕ). ltb m 64) none-seen ∙ le-ltb passed 64 h)
 
 pub younger-few : (xs : List Note) → length (younger [] xs) ≤ length xs
@@ -118,11 +118,11 @@ module _ (held : ℕ → Bool) (ds : List Note) where
     abbrev here : Note
     here = getD ds i (note 0 0 0)
 
-    pub stands-not : held (here .id) ≡ false → standing (i + 1) ≡ standing i
+    stands-not : held (here .id) ≡ false → standing (i + 1) ≡ standing i
     stands-not e =
         filter-more (λ n. held (n .id)) i (note 0 0 0) ds h ∙ ap (λ (t : Bool). standing i ++ (if t then here ∷ [] else [])) e ∙ append-nil (standing i)
 
-    pub stands : held (here .id) ≡ true → standing (i + 1) ≡ standing i ++ (here ∷ [])
+    stands : held (here .id) ≡ true → standing (i + 1) ≡ standing i ++ (here ∷ [])
     stands e = filter-more (λ n. held (n .id)) i (note 0 0 0) ds h ∙ ap (λ (t : Bool). standing i ++ (if t then here ∷ [] else [])) e
 
 -- how many of these entries are for the peer of each link
@@ -140,7 +140,7 @@ unfolding count
 counts-start ps seen e = record { each = λ l h. ap (λ (s : List ℕ). getD s l 0) e ∙ zeros 32 l; long = ap length e }
 
 module _ (ps seen : List ℕ) (xs : List Note) (c : Counts ps seen xs) (l : ℕ) (n : Note) (up : Ascending ps) (few : length ps ≤ 32) (h : l < length ps) (e : n .peer ≡ getD ps l 0) where
-  pub count-here : getD seen l 0 ≡ count (forPeer (n .peer)) xs
+  count-here : getD seen l 0 ≡ count (forPeer (n .peer)) xs
   count-here = c .each l h ∙ ap (λ (p : ℕ). count (forPeer p) xs) (sym e)
 
   abbrev seenWith : List ℕ
@@ -157,7 +157,7 @@ module _ (ps seen : List ℕ) (xs : List Note) (c : Counts ps seen xs) (l : ℕ)
       ∙ ap (λ (b : Bool). count (forPeer (getD ps j 0)) xs + (if b then 1 else 0)) (ne-eqb (n .peer) (getD ps j 0) (λ z. keys-apart ps j l up q h d (sym z ∙ e)))
       ∙ add-zero (count (forPeer (getD ps j 0)) xs)
 
-  pub counts-more : Counts ps seenWith (xs ++ (n ∷ []))
+  counts-more : Counts ps seenWith (xs ++ (n ∷ []))
   counts-more = record { each = λ j q. by-each j q (tri j l); long = length-set seen l (getD seen l 0 + 1) ∙ c .long }
     where
       other : (j : ℕ) → j < length ps → (j ≡ l → ⊥) → getD seenWith j 0 ≡ count (forPeer (getD ps j 0)) (xs ++ (n ∷ []))
@@ -172,3 +172,58 @@ module _ (ps seen : List ℕ) (xs : List Note) (c : Counts ps seen xs) (l : ℕ)
           ∙ sym same
           ∙ ap (λ (m : ℕ). count (forPeer (getD ps m 0)) (xs ++ (n ∷ []))) (sym s)
       by-each j q (inr (inr s)) = other j q (λ t. omega arith)
+
+-- entry i of the record is read: a note for link l; the entries before it are counted
+pub record Read (held : ℕ → Bool) (ps : List ℕ) (ds : List Note) (i : ℕ) (seen : List ℕ) (l id round : ℕ) : Type 0 where
+  pub up : Ascending ps
+  pub few : length ps ≤ 32
+  pub here : i < length ds
+  pub counts : Counts ps seen (standing held ds i)
+  pub there : l < length ps
+  pub same : getD ds i (note 0 0 0) ≡ note (getD ps l 0) id round
+
+module _ {held : ℕ → Bool} {ps : List ℕ} {ds : List Note} {i : ℕ} {seen : List ℕ} {l id round : ℕ} (x : Read held ps ds i seen l id round) where
+  abbrev at : Note
+  at = getD ds i (note 0 0 0)
+
+  abbrev upto : List Note
+  upto = standing held ds i
+
+  abbrev with : List Note
+  with = standing held ds (i + 1)
+
+  held-as : (b : Bool) → held id ≡ b → held (at .id) ≡ b
+  held-as b e = ap (λ (m : Note). held (m .id)) (x .same) ∙ e
+
+  before : getD seen l 0 ≡ count (forPeer (at .peer)) upto
+  before = count-here ps seen upto (x .counts) l at (x .up) (x .few) (x .there) (ap (λ (m : Note). m .peer) (x .same))
+
+  pub seen-few : getD seen l 0 ≤ i
+  seen-few = omega (arith, before, count-length (forPeer (at .peer)) upto, standing-few held ds i (omega (arith, x .here)))
+
+  -- it is not cached
+  pub gone : held id ≡ false → with ≡ upto
+  gone e = stands-not held ds i (x .here) (held-as false e)
+
+  module _ (e : held id ≡ true) where
+    more : with ≡ upto ++ (at ∷ [])
+    more = stands held ds i (x .here) (held-as true e)
+
+    pub counted : Counts ps (set seen l (getD seen l 0 + 1)) with
+    counted =
+        subst (λ (ns : List Note). Counts ps (set seen l (getD seen l 0 + 1)) ns) (sym more)
+        (counts-more ps seen upto (x .counts) l at (x .up) (x .few) (x .there) (ap (λ (m : Note). m .peer) (x .same)))
+
+    -- it is one of the oldest 64 of its peer
+    pub moves : getD seen l 0 < 64 → oldest [] with ≡ oldest [] upto ++ (at ∷ [])
+    moves t = ap (oldest []) more ∙ oldest-more upto at (omega (arith, before))
+
+    pub moves-alone : getD seen l 0 < 64 → younger [] with ≡ younger [] upto
+    moves-alone t = ap (younger []) more ∙ younger-same upto at (omega (arith, before))
+
+    -- it is a younger one
+    pub stays : 64 ≤ getD seen l 0 → younger [] with ≡ younger [] upto ++ (at ∷ [])
+    stays t = ap (younger []) more ∙ younger-more upto at (omega (arith, before))
+
+    pub stays-alone : 64 ≤ getD seen l 0 → oldest [] with ≡ oldest [] upto
+    stays-alone t = ap (oldest []) more ∙ oldest-same upto at (omega (arith, before))

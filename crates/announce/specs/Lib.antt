@@ -1,1 +1,2 @@
-pub mod Moved
+pub mod Moves
+pub mod Counted

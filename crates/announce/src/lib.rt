@@ -15,7 +15,13 @@ ghost use Rattle.block.specs.Sound.{Sound};
 ghost use Rattle.block.specs.Goes.{Goes};
 ghost use Rattle.decide.specs.StateAfter.{announceState};
 ghost use Rattle.steps.specs.Stands.{Stands, Step};
-ghost use Rattle.announce.specs.Moved.{movedState, dropInstead};
+ghost use Rattle.announce.specs.Moves.{movedState, dropInstead};
+
+// How many entries of the record AnnounceDropped moves to the queue, and how many it leaves.
+pub struct Moved {
+    pub moved: usize,
+    pub left: usize,
+}
 
 // Stores a note in place k of the record, over what stood there.
 fn store_dropped(h: Head, block: &mut [u8], k: usize, link: usize, id: Id, round: Round)

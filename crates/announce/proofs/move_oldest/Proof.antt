@@ -11,7 +11,7 @@ use Rattle.time_cache.specs.TimeCache.{holds}
 use Rattle.block.specs.View.{stateOf}
 use Rattle.block.specs.declared.head.Head.{Head}
 use Rattle.block.specs.declared.note.Note.{Note as LinkNote}
-use Rattle.announce.proofs.MoveLaws.{Sofar, move-start, links-few, count-same, order, cached-in, seen-few, move-skip, move-room, move-take, keep-room, move-keep, kept-few, move-end}
+use Rattle.announce.proofs.MoveLaws.{Sofar, move-start, links-few, count-same, order, cached-in, seen-small, move-skip, move-room, move-take, keep-room, move-keep, kept-few, move-end}
 use native.Mathlib.Omega.{arith}
 use borrow.Author.Needs.{needs}
 use Rattle.announce.proofs.move_oldest.Statement.{statement}
@@ -90,7 +90,7 @@ array-read-c c = omega (arith, low (c .before))
 add-seen : tie.Need-add-seen Inv-loop μ-loop
 add-seen c =
     let d = c .before in
-    omega (arith, seen-few (h d) (xs d) (s d .pre) (i d) (k d) (seen d) (g d) (ys d) (so d) (r d) (d .before .before .before .before .loop-test .taken) (d .before .before .dropped-at .ensures))
+    omega (arith, seen-small (h d) (xs d) (s d .pre) (i d) (k d) (seen d) (g d) (ys d) (so d) (r d) (d .before .before .before .before .loop-test .taken) (d .before .before .dropped-at .ensures))
 
 mul-seen : tie.Need-mul-seen Inv-loop μ-loop
 mul-seen c = omega (arith, low (c .before))

@@ -12,7 +12,7 @@ use Rattle.rows.proofs.Parts.{set-put}
 use Rattle.block.specs.Goes.{Goes}
 use Rattle.block.specs.NoteSteps.{noteRow}
 use Rattle.block.proofs.NoteLaws.{write-row}
-use Rattle.announce.specs.Moved.{dropInstead}
+use Rattle.announce.specs.Moves.{dropInstead}
 use Rattle.announce.proofs.KeepLaws.{instead-goes}
 use native.Mathlib.Omega.{arith}
 use borrow.Author.Needs.{needs}

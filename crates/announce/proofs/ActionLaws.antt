@@ -3,24 +3,32 @@
 use mathlib.Core.Path.{_≡_, refl, sym, ap, _∙_}
 use mathlib.Core.Bool.{Bool, true, false}
 use mathlib.Core.List.{List, [], _∷_, _++_}
-use Prim.Native.Nat.{ℕ, _+_}
+use Prim.Native.Nat.{ℕ, _+_, _≤_}
 use borrow.Author.Tests.{eq-eqb, ne-eqb}
 use native.Mathlib.Omega.{arith}
 use lib.Dec.{eqb}
 use lib.ListN.{length, length-append}
 use Rattle.lists.specs.Base.{if_then_else_, isEmpty, concatMap}
 use Rattle.lists.proofs.Branches.{if-on, if-same}
+use Rattle.lists.proofs.ListLaws.{length-filter, count-length}
+use Rattle.time_cache.specs.TimeCache.{holds}
 use Rattle.postcard.specs.Message.{Action, Scheduled, AnnounceDropped, actionBytes}
 use Rattle.protocol.specs.State.{State, Note}
 use Rattle.protocol.specs.Ticks.{oldest, younger, stillCached}
+use Rattle.decide.proofs.AnnounceDropped.{moved-all}
 use Rattle.decide.specs.Sizes.{sizesOf, sizedQueued, sizedRecorded}
 use Rattle.decide.specs.SizesAfter.{announceSizes}
 use Rattle.decide.specs.Settled.{settled}
 use Rattle.decide.specs.ActionsAfter.{dispatchAction, announceActions}
+use Rattle.block.specs.View.{stateOf}
+use Rattle.block.specs.declared.head.Head.{Head}
+use Rattle.block.proofs.NoteLaws.{count-queue, count-dropped}
+use Rattle.steps.specs.Stands.{Stands}
 use Rattle.ticks.proofs.ActionLaws.{no-action, one-action, actions-then}
 use Rattle.ticks.proofs.TickLaws.{settled-dispatch}
 use Rattle.announce.specs.Counted.{MovedIs, ifAny}
 use Rattle.announce.specs.declared.Moved.{Moved}
+use Rattle.announce.proofs.CountLaws.{settled-dropped}
 
 -- the bytes of actions that are there only for something
 pub none-bytes : (n : ℕ) (acts : List Action) → n ≡ 0 → concatMap actionBytes (ifAny n acts) ≡ []
@@ -55,13 +63,48 @@ module _ (instant : ℕ) (s : State) (r : Moved) (is : MovedIs (settled instant 
   recorded : isEmpty (younger [] (stillCached t)) ≡ eqb (r .left) 0
   recorded = empty-length (younger [] (stillCached t)) ∙ ap (λ (n : ℕ). eqb n 0) (sym (is .left))
 
-  pub announce-bytes : concatMap actionBytes (announceActions (settled instant s))
+  settled-bytes : concatMap actionBytes (announceActions (settled instant s))
       ≡ concatMap actionBytes (ifAny (length (s .queue) + r .moved) (dispatchAction s)) ++ concatMap actionBytes (ifAny (r .left) (Scheduled 1000 AnnounceDropped ∷ []))
   unfolding announceActions ifAny
-  announce-bytes =
+  settled-bytes =
       (λ k. concatMap actionBytes ((if standing k then [] else settled-dispatch instant s k) ++ (if recorded k then [] else Scheduled 1000 AnnounceDropped ∷ [])))
       ∙ actions-then (ifAny (length (s .queue) + r .moved) (dispatchAction s)) (ifAny (r .left) (Scheduled 1000 AnnounceDropped ∷ []))
 
-  pub announce-sized : sizedQueued (length (s .queue) + r .moved) (sizedRecorded (r .left) (sizesOf (settled instant s))) ≡ announceSizes (settled instant s)
+  settled-sized : sizedQueued (length (s .queue) + r .moved) (sizedRecorded (r .left) (sizesOf (settled instant s))) ≡ announceSizes (settled instant s)
   unfolding announceSizes
-  announce-sized = λ k. sizedQueued (length (sym (settled-queue instant s) k) + is .moved k) (sizedRecorded (is .left k) (sizesOf (settled instant s)))
+  settled-sized = λ k. sizedQueued (length (sym (settled-queue instant s) k) + is .moved k) (sizedRecorded (is .left k) (sizesOf (settled instant s)))
+
+module _ (instant : ℕ) (h : Head) (xs : List ℕ) (asks : Stands h xs) (r : Moved) (is : MovedIs (settled instant (stateOf h xs)) r) where
+  abbrev u : State
+  u = settled instant (stateOf h xs)
+
+  queued : length (stateOf h xs .queue) + r .moved ≡ h .live .queued + r .moved
+  queued = ap (λ (n : ℕ). n + r .moved) (count-queue h xs (asks .sound))
+
+  -- the queue's length is a number that can be told
+  pub queued-few : h .live .queued + r .moved ≤ 12288
+  unfolding stillCached
+  queued-few =
+      omega (
+        arith,
+        is .moved,
+        moved-all [] (stillCached u),
+        length-filter (λ n. holds (n .id) (u .cache)) (u .dropped),
+        count-length (λ n. holds (n .id) (u .cache)) (u .dropped),
+        ap length (settled-dropped instant (stateOf h xs)),
+        count-dropped h xs (asks .sound),
+        asks .sound .fit .within .dropped,
+        asks .sound .fit .ceilings .D,
+        asks .sound .fit .within .queued,
+        asks .sound .fit .ceilings .Q,
+      )
+
+  pub announce-bytes : concatMap actionBytes (announceActions (settled instant (stateOf h xs)))
+      ≡ concatMap actionBytes (ifAny (h .live .queued + r .moved) (dispatchAction (stateOf h xs))) ++ concatMap actionBytes (ifAny (r .left) (Scheduled 1000 AnnounceDropped ∷ []))
+  announce-bytes =
+      settled-bytes instant (stateOf h xs) r is
+      ∙ ap (λ (n : ℕ). concatMap actionBytes (ifAny n (dispatchAction (stateOf h xs))) ++ concatMap actionBytes (ifAny (r .left) (Scheduled 1000 AnnounceDropped ∷ []))) queued
+
+  pub announce-sized : sizedQueued (h .live .queued + r .moved) (sizedRecorded (r .left) (sizesOf (settled instant (stateOf h xs)))) ≡ announceSizes (settled instant (stateOf h xs))
+  announce-sized =
+      ap (λ (n : ℕ). sizedQueued n (sizedRecorded (r .left) (sizesOf (settled instant (stateOf h xs))))) (sym queued) ∙ settled-sized instant (stateOf h xs) r is

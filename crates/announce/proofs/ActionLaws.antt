@@ -1,7 +1,7 @@
 -- The sizes and actions of AnnounceDropped, by the numbers of what moves and what stays.
 -- Assumes nothing.
 use mathlib.Core.Path.{_≡_, refl, sym, ap, _∙_}
-use mathlib.Core.Bool.{Bool, true, false}
+use mathlib.Core.Bool.{Bool}
 use mathlib.Core.List.{List, [], _∷_, _++_}
 use Prim.Native.Nat.{ℕ, _+_, _≤_}
 use borrow.Author.Tests.{eq-eqb, ne-eqb}
@@ -13,7 +13,7 @@ use Rattle.lists.proofs.Branches.{if-on, if-same}
 use Rattle.lists.proofs.ListLaws.{length-filter, count-length}
 use Rattle.time_cache.specs.TimeCache.{holds}
 use Rattle.postcard.specs.Message.{Action, Scheduled, AnnounceDropped, actionBytes}
-use Rattle.protocol.specs.State.{State, Note}
+use Rattle.protocol.specs.State.{State}
 use Rattle.protocol.specs.Ticks.{oldest, younger, stillCached}
 use Rattle.decide.proofs.AnnounceDropped.{moved-all}
 use Rattle.decide.specs.Sizes.{sizesOf, sizedQueued, sizedRecorded}

@@ -1,13 +1,13 @@
 -- The pass over the record that counts: what is moved and left of its first i entries, as a first event finds it once it has evicted.
 -- Assumes nothing.
 use mathlib.Core.Path.{_≡_, refl, sym, ap, _∙_, subst}
-use mathlib.Core.Bool.{Bool, true, false}
-use mathlib.Core.List.{List, [], _∷_, _++_}
+use mathlib.Core.Bool.{true, false}
+use mathlib.Core.List.{List, [], _∷_}
 use Prim.Native.Nat.{ℕ, _+_, _≤_, _<_, zero-le}
 use native.Mathlib.Omega.{arith}
-use lib.ListN.{length, take, getD, set, replicate, length-append}
+use lib.ListN.{length, getD, set, replicate, length-append}
 use lib.Seq.{take-all}
-use Rattle.lists.specs.Base.{if_then_else_, filter}
+use Rattle.lists.specs.Base.{filter}
 use Rattle.lists.specs.Map.{keys}
 use Rattle.lists.proofs.Branches.{if-on, if-same}
 use Rattle.rows.specs.Ident.{idOf}

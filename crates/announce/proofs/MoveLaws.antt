@@ -1,15 +1,15 @@
 -- The pass over the record: queue and record after its first i entries.
 -- Assumes nothing.
 use mathlib.Core.Path.{_≡_, refl, sym, ap, _∙_, subst}
-use mathlib.Core.Bool.{Bool, true, false, not, _&&_, _||_}
+use mathlib.Core.Bool.{Bool, true, false, not, _||_}
 use mathlib.Core.List.{List, [], _∷_, _++_, append-nil, append-assoc}
-use Prim.Native.Nat.{ℕ, suc, _+_, _≤_, _<_, zero-le}
+use Prim.Native.Nat.{ℕ, _+_, _≤_, _<_, zero-le}
 use native.Mathlib.Omega.{arith}
-use borrow.Author.Tests.{leb-true, lt-ltb, le-ltb}
+use borrow.Author.Tests.{leb-true, lt-ltb}
 use lib.Dec.{ltb}
 use lib.ListN.{length, take, getD, set, replicate, length-append}
 use lib.Seq.{take-all}
-use Rattle.lists.specs.Base.{if_then_else_, _▷_, isEmpty, filter}
+use Rattle.lists.specs.Base.{isEmpty, filter}
 use Rattle.lists.specs.Map.{keys}
 use Rattle.lists.proofs.MapLaws.{and-left, and-right}
 use Rattle.rows.specs.Part.{part, put}
@@ -25,7 +25,6 @@ use Rattle.block.specs.View.{stateOf}
 use Rattle.block.specs.Sound.{Sound}
 use Rattle.block.specs.Goes.{Goes}
 use Rattle.block.specs.Heads.{withDroppedCount, withAnnounce, withDispatch}
-use Rattle.block.specs.LinkSteps.{peerAt}
 use Rattle.block.specs.NoteSteps.{note, noteFor, NoteIs, queueAlso}
 use Rattle.block.specs.declared.head.Head.{Head}
 use Rattle.block.specs.declared.note.Note.{Note as LinkNote}
@@ -33,7 +32,7 @@ use Rattle.block.proofs.LinkLaws.{count-links, count-peers}
 use Rattle.block.proofs.NoteLaws.{count-queue, count-dropped}
 use Rattle.block.proofs.GoesLaws.{dispatch-goes, announce-goes}
 use Rattle.caches.specs.InBlock.{InOrder}
-use Rattle.steps.specs.Stands.{Stands, Step}
+use Rattle.steps.specs.Stands.{Step}
 use Rattle.steps.proofs.StandsLaws.{links-up, cached-order}
 use Rattle.announce.specs.Moves.{movedState, dropInstead}
 use Rattle.announce.proofs.KeepLaws.{cut-goes}

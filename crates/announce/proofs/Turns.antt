@@ -8,8 +8,8 @@ use Prim.Native.Nat.{ℕ, zero, suc, _+_, _≤_, _<_, zero-le, suc-le-suc}
 use native.Mathlib.Nat.{add-zero, zero-add}
 use native.Mathlib.Omega.{arith}
 use borrow.Author.Tests.{eq-eqb, ne-eqb, lt-ltb, le-ltb}
-use lib.Dec.{ltb, eqb}
-use lib.ListN.{length, take, drop, getD, set, replicate, length-append, length-set, take-append-drop}
+use lib.Dec.{ltb}
+use lib.ListN.{length, take, drop, getD, set, replicate, length-set, take-append-drop}
 use lib.Seq.{getD-set-same, getD-set-other, length-take-le}
 use Rattle.lists.specs.Base.{if_then_else_, filter, count}
 use Rattle.lists.proofs.Branches.{if-on}
@@ -17,7 +17,7 @@ use Rattle.lists.proofs.MapLaws.{cases}
 use Rattle.lists.proofs.ListLaws.{count-append, count-length, length-filter}
 use Rattle.rows.specs.Sorted.{Ascending}
 use Rattle.rows.proofs.Ids.{tri}
-use Rattle.refs.proofs.Left.{only, filter-more}
+use Rattle.refs.proofs.Left.{filter-more}
 use Rattle.protocol.specs.State.{Note}
 use Rattle.protocol.specs.Push.{forPeer}
 use Rattle.protocol.specs.Ticks.{oldest, younger}

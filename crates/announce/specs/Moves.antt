@@ -1,7 +1,7 @@
 -- What AnnounceDropped does to queue and record.
 -- Assumes nothing.
 use Prim.Native.Nat.{ℕ}
-use mathlib.Core.List.{List, [], _∷_, _++_}
+use mathlib.Core.List.{[], _∷_, _++_}
 use Rattle.rows.specs.Part.{put}
 use Rattle.protocol.specs.State.{State, withQueue, withDropped}
 use Rattle.protocol.specs.Ticks.{oldest, younger, stillCached}

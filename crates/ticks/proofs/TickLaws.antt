@@ -1,12 +1,12 @@
 -- The bytes of the timers, by the header's flags and settings; and that a first event's eviction changes none of them.
 -- Assumes nothing.
-use mathlib.Core.Path.{_≡_, refl, sym, ap, _∙_}
+use mathlib.Core.Path.{_≡_, refl, ap, _∙_}
 use mathlib.Core.Bool.{Bool, true, false}
 use mathlib.Core.List.{List, [], _∷_}
 use Prim.Native.Nat.{ℕ}
 use Rattle.lists.specs.Base.{if_then_else_, concatMap}
 use Rattle.lists.proofs.Branches.{if-on, if-same}
-use Rattle.postcard.specs.Message.{Action, Scheduled, DispatchLazyPush, EvictCache, actionBytes}
+use Rattle.postcard.specs.Message.{Scheduled, DispatchLazyPush, EvictCache, actionBytes}
 use Rattle.protocol.specs.State.{State}
 use Rattle.decide.specs.Settled.{settled, settledActions}
 use Rattle.decide.specs.ActionsAfter.{evictActions, dispatchAction}

@@ -1,12 +1,10 @@
 -- `announce_actions` meets its contract: dispatch if a queue stands, then itself if a record does.
 -- Assumes nothing.
 use mathlib.Core.Path.{sym}
-use mathlib.Core.List.{List, [], _∷_}
-use Prim.Native.Nat.{ℕ, _+_}
+use mathlib.Core.List.{[], _∷_}
 use native.Mathlib.Omega.{arith}
 use Rattle.lists.specs.Base.{concatMap}
 use Rattle.postcard.specs.Message.{Scheduled, AnnounceDropped, actionBytes}
-use Rattle.output.specs.Written.{Told}
 use Rattle.output.proofs.WrittenLaws.{written-then, told-first, told-then}
 use Rattle.ticks.proofs.ActionLaws.{told-as, written-as}
 use Rattle.announce.specs.Counted.{ifAny}

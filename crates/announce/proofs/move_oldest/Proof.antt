@@ -174,4 +174,3 @@ move-oldest-spec =
     loop-again-3
     same-length
     returns)
-

@@ -115,4 +115,3 @@ store-dropped-spec =
     store-le-requires
     same-length
     returns)
-

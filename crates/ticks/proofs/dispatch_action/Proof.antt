@@ -9,12 +9,12 @@ use Rattle.ticks.proofs.dispatch_action.Statement.{statement}
 use Rattle.ticks.proofs.dispatch_action.Tie as tie
 
 returns : tie.Need-returns
-returns c = 
+returns c =
     let a = c .before .before .before .args in
     written-as (sym (dispatch-flagged (a .h) (a .block .now) (c .if1 .taken))) (written-none (a .out .now) (a .at))
 
 schedule-requires : tie.Need-schedule-requires
-schedule-requires c κs = 
+schedule-requires c κs =
     let s = c .before .before .before .before .before in
     told-as (dispatch-due (s .args .h) (s .args .block .now) (c .before .before .if1 .left)) (s .pre)
 
@@ -22,7 +22,7 @@ same-length : tie.Need-same-length
 same-length c = search needs
 
 returns-2 : tie.Need-returns-2
-returns-2 c = 
+returns-2 c =
     let m = c .before .before in
     let a = m .before .before .before .before .before .before .args in
     written-as (sym (dispatch-due (a .h) (a .block .now) (m .before .before .before .if1 .left))) (m .schedule .ensures)

@@ -8,7 +8,7 @@ use Rattle.ticks.proofs.evict_actions.Statement.{statement}
 use Rattle.ticks.proofs.evict_actions.Tie as tie
 
 schedule-requires : tie.Need-schedule-requires
-schedule-requires c κs = 
+schedule-requires c κs =
     let s = c .before .before .before .before in
     told-as (evict-due (s .args .h) (s .args .block .now)) (s .pre)
 
@@ -16,7 +16,7 @@ same-length : tie.Need-same-length
 same-length c = search needs
 
 returns : tie.Need-returns
-returns c = 
+returns c =
     let m = c .before .before in
     let a = m .before .before .before .before .before .args in
     written-as (sym (evict-due (a .h) (a .block .now))) (m .schedule .ensures)

@@ -9,12 +9,12 @@ use Rattle.ticks.proofs.first_event_actions.Statement.{statement}
 use Rattle.ticks.proofs.first_event_actions.Tie as tie
 
 returns : tie.Need-returns
-returns c = 
+returns c =
     let a = c .before .before .before .args in
     written-as (sym (first-none (a .h) (a .block .now) (c .if1 .taken))) (written-none (a .out .now) (a .at))
 
 evict-actions-requires : tie.Need-evict-actions-requires
-evict-actions-requires c κs = 
+evict-actions-requires c κs =
     let s = c .before .before .before .before in
     told-as (first-due (s .args .h) (s .args .block .now) (c .before .if1 .left)) (s .pre)
 
@@ -22,7 +22,7 @@ same-length : tie.Need-same-length
 same-length c = search needs
 
 returns-2 : tie.Need-returns-2
-returns-2 c = 
+returns-2 c =
     let m = c .before .before in
     let a = m .before .before .before .before .before .args in
     written-as (sym (first-due (a .h) (a .block .now) (m .before .before .if1 .left))) (m .evict-actions .ensures)

@@ -86,7 +86,7 @@ module _ (sender : ℕ) (h : Head) (xs : List ℕ) where
       pub counted-sender : p ≡ sender → Counted sender h xs (i + 1) n
       counted-sender d =
           let z : Counted sender h xs (i + 1) (n + 0) = next 0 (ap (λ (x : Bool). if x then 0 else if eqb (linkAt (stateOf h xs) i .key) sender then 0 else 1) is-lazy
-              ∙ ap (λ (x : Bool). if x then 0 else 1) (ap (λ (k : ℕ). eqb k sender) key ∙ eq-eqb p sender d)) in
+          ∙ ap (λ (x : Bool). if x then 0 else 1) (ap (λ (k : ℕ). eqb k sender) key ∙ eq-eqb p sender d)) in
           let s : n ≡ n + 0 = omega arith in
           s ∙ z
 

@@ -1,1 +1,2 @@
 pub mod Heard
+pub mod New

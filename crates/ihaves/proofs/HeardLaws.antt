@@ -1,20 +1,19 @@
 -- What an announcement leaves as it is, and what it keeps: limits, settings and links; that the state is consistent; and that tables grow.
 -- Assumes nothing.
 use mathlib.Core.Path.{_≡_, refl, sym, ap, _∙_, subst}
-use mathlib.Core.Bool.{Bool, true, false}
+use mathlib.Core.Bool.{true, false}
 use mathlib.Core.List.{List, [], _∷_, _++_, map}
 use Prim.Native.Nat.{ℕ, _≤_, _<_}
 use native.Mathlib.Omega.{arith}
-use lib.ListN.{length, getD, length-map}
-use Rattle.lists.specs.Base.{if_then_else_, all, member, ascending}
+use lib.ListN.{length, length-map}
+use Rattle.lists.specs.Base.{all, member, ascending}
 use Rattle.lists.specs.Map.{Map, keys, insert, insertKey}
 use Rattle.lists.proofs.MapLaws.{cases, ascending-insert}
 use Rattle.lists.proofs.ListLaws.{all-map, all-insert-entry}
-use Rattle.rows.specs.Sorted.{Here}
 use Rattle.time_cache.specs.TimeCache.{holds}
 use Rattle.time_cache.proofs.Orders.{up-of}
 use Rattle.postcard.specs.Message.{Ihave}
-use Rattle.protocol.specs.Links.{Links, isNeighbour}
+use Rattle.protocol.specs.Links.{isNeighbour}
 use Rattle.protocol.specs.State.{State, Hop}
 use Rattle.protocol.specs.Gossips.{announcers}
 use Rattle.protocol.specs.Control.{addAnnouncer}

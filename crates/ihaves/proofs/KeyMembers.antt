@@ -9,7 +9,7 @@ use native.Mathlib.Omega.{arith}
 use borrow.Author.Tests.{eq-eqb, ne-eqb, ltb-true, ltb-false}
 use lib.Dec.{ltb, eqb}
 use lib.ListN.{length, getD}
-use Rattle.lists.specs.Base.{if_then_else_, member}
+use Rattle.lists.specs.Base.{member}
 use Rattle.lists.proofs.MapLaws.{cases}
 use Rattle.rows.specs.Sorted.{Here, Between}
 

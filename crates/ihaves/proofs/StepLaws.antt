@@ -6,16 +6,13 @@ use mathlib.Core.List.{List}
 use Prim.Native.Nat.{ℕ, _+_, _≤_, _<_}
 use native.Mathlib.Omega.{arith}
 use lib.ListN.{length}
-use Rattle.lists.specs.Base.{if_then_else_, member, ascending}
-use Rattle.lists.specs.Map.{insertKey}
+use Rattle.lists.specs.Base.{member, ascending}
 use Rattle.rows.specs.Sorted.{Here, Between}
 use Rattle.time_cache.specs.TimeCache.{holds}
-use Rattle.postcard.specs.Message.{Ihave}
 use Rattle.protocol.specs.Links.{isNeighbour}
 use Rattle.protocol.specs.State.{State, Limits}
 use Rattle.protocol.specs.Whole.{fits}
 use Rattle.decide.specs.Sizes.{grown}
-use Rattle.decide.specs.StateAfter.{announcedState}
 use Rattle.decide.proofs.TableSizes.{length-insertKey}
 use Rattle.block.specs.View.{stateOf}
 use Rattle.block.specs.Sound.{Sound}
@@ -26,7 +23,7 @@ use Rattle.block.specs.TimerSteps.{TimersAscend, timerAlso}
 use Rattle.block.specs.declared.head.Head.{Head}
 use Rattle.block.proofs.LinkLaws.{count-links, count-peers}
 use Rattle.block.proofs.TimerLaws.{count-timers}
-use Rattle.steps.specs.Stands.{Stands, Step}
+use Rattle.steps.specs.Stands.{Step}
 use Rattle.ihaves.specs.Heard.{ihave, timerMarked, announcedFrom}
 use Rattle.ihaves.proofs.Longer.{fits-missing, fits-timers}
 use Rattle.ihaves.proofs.KeyMembers.{member-here, member-between}

@@ -4,11 +4,10 @@ use mathlib.Core.Path.{_≡_, refl, sym, ap, _∙_, subst}
 use mathlib.Core.Bool.{Bool, true, false, not}
 use mathlib.Core.List.{List, [], _∷_, _++_, map, append-nil, append-assoc}
 use Prim.Native.Nat.{ℕ, _+_, _≤_}
-use native.Mathlib.Omega.{arith}
-use lib.ListN.{length, take, drop}
+use lib.ListN.{length, take}
 use lib.Seq.{take-all}
 use Rattle.lists.specs.Base.{if_then_else_, concatMap}
-use Rattle.postcard.specs.Message.{Ihave, Action, Scheduled, SendGraft, actionBytes}
+use Rattle.postcard.specs.Message.{Ihave, Scheduled, SendGraft, actionBytes}
 use Rattle.protocol.specs.State.{State}
 use Rattle.decide.specs.SizesAfter.{newIds, knownTimer}
 use Rattle.decide.specs.ActionsAfter.{ihaveActions}

@@ -7,7 +7,6 @@ use Rattle.rows.specs.declared.table.Found.{Found}
 use Rattle.block.specs.View.{stateOf}
 use Rattle.steps.proofs.StandsLaws.{timers-up}
 use Rattle.ihaves.proofs.KeyMembers.{member-here, member-between}
-use native.Mathlib.Omega.{arith}
 use borrow.Author.Needs.{needs}
 use Rattle.ihaves.proofs.has_timer.Statement.{statement}
 use Rattle.ihaves.proofs.has_timer.Tie as tie

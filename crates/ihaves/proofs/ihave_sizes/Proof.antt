@@ -1,8 +1,7 @@
 -- `ihave_sizes` meets its contract. The loop's invariant: after i entries the numbers are those of the first i, and the others stand from the place on.
 -- Assumes nothing.
 use Prim.Native.Nat.{_+_, _-_, _≤_}
-use mathlib.Core.Path.{_≡_, sym, _∙_}
-use lib.ListN.{length, drop}
+use lib.ListN.{drop}
 use Rattle.rows.specs.Ident.{idOf}
 use Rattle.postcard.specs.Events.{ihavesFrom, Listed}
 use Rattle.postcard.proofs.AnnouncementLaws.{Turn, listed-start, listed-announces, listed-next, listed-length, turn-taken}

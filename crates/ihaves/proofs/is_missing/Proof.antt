@@ -1,9 +1,8 @@
 -- `is_missing` meets its contract: by what the search found.
 -- Assumes nothing.
 use mathlib.Core.Path.{sym, ap, subst}
-use mathlib.Core.List.{[]}
+use mathlib.Core.List.{List, []}
 use mathlib.Core.Option.{Option}
-use mathlib.Core.List.{List}
 use Rattle.rows.specs.Ident.{idOf}
 use Rattle.rows.specs.Sorted.{FoundIs}
 use Rattle.rows.specs.declared.table.Found.{Found}
@@ -14,7 +13,6 @@ use Rattle.time_cache.proofs.MapPlaces.{lookup-here, lookup-between}
 use Rattle.protocol.specs.State.{Hop}
 use Rattle.block.specs.View.{stateOf}
 use Rattle.steps.proofs.StandsLaws.{missing-up}
-use native.Mathlib.Omega.{arith}
 use borrow.Author.Needs.{needs}
 use Rattle.ihaves.proofs.is_missing.Statement.{statement}
 use Rattle.ihaves.proofs.is_missing.Tie as tie

@@ -6,7 +6,6 @@ use Rattle.rows.specs.Sorted.{Between, FoundIs}
 use Rattle.rows.specs.declared.table.Found.{Found}
 use Rattle.block.specs.View.{stateOf}
 use Rattle.ihaves.proofs.StepLaws.{mark-still, mark-goes, mark-room}
-use native.Mathlib.Omega.{arith}
 use borrow.Author.Needs.{needs}
 use Rattle.ihaves.proofs.mark_timer.Statement.{statement}
 use Rattle.ihaves.proofs.mark_timer.Tie as tie

@@ -1,16 +1,13 @@
 -- `new_of` meets its contract: by its tests.
 -- Assumes nothing.
 use mathlib.Core.Path.{_≡_, sym, ap, _∙_}
-use mathlib.Core.Bool.{Bool, true, false}
-use mathlib.Core.List.{List}
+use mathlib.Core.Bool.{Bool, true}
 use Prim.Native.Nat.{ℕ}
-use lib.ListN.{length}
 use Rattle.rows.specs.Ident.{idOf}
 use Rattle.lists.specs.Base.{if_then_else_}
 use Rattle.postcard.specs.Events.{ihavesFrom}
 use Rattle.block.specs.View.{stateOf}
 use Rattle.ihaves.proofs.NewLaws.{missing-received, missing-before, missing-else, timer-received, timer-before, timer-else}
-use native.Mathlib.Omega.{arith}
 use borrow.Author.Needs.{needs}
 use Rattle.ihaves.proofs.new_of.Statement.{statement}
 use Rattle.ihaves.proofs.new_of.Tie as tie

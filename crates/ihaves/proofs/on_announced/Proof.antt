@@ -1,13 +1,12 @@
 -- `on_announced` meets its contract: a message that is received changes nothing, and any other gets an announcer and a mark.
 -- Assumes nothing.
 use mathlib.Core.Path.{_≡_, sym, _∙_}
-use mathlib.Core.Bool.{true, false}
+use mathlib.Core.Bool.{false}
 use Rattle.rows.specs.Ident.{idOf}
 use Rattle.time_cache.specs.TimeCache.{holds}
 use Rattle.block.specs.View.{stateOf}
 use Rattle.steps.proofs.StandsLaws.{links-up, missing-up, received-order}
 use Rattle.ihaves.proofs.StepLaws.{announced-still, announces, mark-up, mark-within, announced-goes}
-use native.Mathlib.Omega.{arith}
 use borrow.Author.Needs.{needs}
 use Rattle.ihaves.proofs.on_announced.Statement.{statement}
 use Rattle.ihaves.proofs.on_announced.Tie as tie

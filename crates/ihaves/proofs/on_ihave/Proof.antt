@@ -1,6 +1,6 @@
 -- `on_ihave` meets its contract. The loop's invariant: after i entries the state is that of the first i, and the others stand from the place on.
 -- Assumes nothing.
-use Prim.Native.Nat.{_+_, _-_, _≤_}
+use Prim.Native.Nat.{_-_, _≤_}
 use mathlib.Core.Path.{_≡_}
 use lib.ListN.{length, drop}
 use Rattle.rows.specs.Ident.{idOf}

@@ -1,8 +1,8 @@
 -- `stands_before` meets its contract. The loop's invariant: the identifier is not among the first i entries, and the others stand from the place on.
 -- Assumes nothing.
-use Prim.Native.Nat.{_+_, _-_, _≤_}
-use mathlib.Core.Path.{_≡_, sym, _∙_}
-use lib.ListN.{length, drop}
+use Prim.Native.Nat.{_-_, _≤_}
+use mathlib.Core.Path.{sym, _∙_}
+use lib.ListN.{drop}
 use Rattle.rows.specs.Ident.{idOf}
 use Rattle.postcard.specs.Events.{ihavesFrom, Listed}
 use Rattle.postcard.proofs.AnnouncementLaws.{Turn, listed-start, listed-announces, listed-next, listed-length, turn-taken}

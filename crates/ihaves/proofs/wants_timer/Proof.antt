@@ -1,13 +1,11 @@
 -- `wants_timer` meets its contract: by its tests.
 -- Assumes nothing.
-use mathlib.Core.Path.{_≡_, sym, ap, _∙_}
-use mathlib.Core.Bool.{Bool, not}
+use mathlib.Core.Path.{sym, ap, _∙_}
+use mathlib.Core.Bool.{not}
 use Rattle.rows.specs.Ident.{idOf}
 use Rattle.postcard.specs.Events.{ihavesFrom}
 use Rattle.block.specs.View.{stateOf}
 use Rattle.ihaves.proofs.NewLaws.{timer-received, timer-marked, timer-open}
-use native.Mathlib.Omega.{arith}
-use borrow.Author.Needs.{needs}
 use Rattle.ihaves.proofs.wants_timer.Statement.{statement}
 use Rattle.ihaves.proofs.wants_timer.Tie as tie
 

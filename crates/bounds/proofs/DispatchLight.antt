@@ -3,7 +3,7 @@
 use Prim.Native.Nat.{ℕ, zero, suc, _+_, _*_, _≤_}
 use mathlib.Core.Path.{_≡_, refl, ap}
 use mathlib.Core.Bool.{Bool, true, not, _||_}
-use mathlib.Core.List.{List, [], _∷_, _++_, map}
+use mathlib.Core.List.{List, [], _∷_}
 use native.Mathlib.Omega.{arith}
 use lib.Dec.{eqb, ltb}
 use lib.ListN.{length, take, drop, length-append, length-map, take-append-drop}
@@ -11,7 +11,7 @@ use Rattle.lists.specs.Base.{if_then_else_, filter, any, sum}
 use Rattle.lists.specs.Map.{insertKey}
 use Rattle.lists.proofs.MapLaws.{cases}
 use Rattle.lists.proofs.ListLaws.{length-filter, count-length}
-use Rattle.postcard.specs.Message.{Ihave, IHave, AnnounceDropped, Action, Sent, Scheduled}
+use Rattle.postcard.specs.Message.{Ihave, AnnounceDropped, Scheduled}
 use Rattle.protocol.specs.State.{State, Note}
 use Rattle.protocol.specs.Run.{Room}
 use Rattle.protocol.specs.Push.{forPeer}

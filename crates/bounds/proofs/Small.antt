@@ -1,18 +1,17 @@
 -- What bounds the actions of a step: the links, the queue and the contents of the state are within document 01's ceilings, also once a first event has evicted.
 -- Assumes nothing.
-use Prim.Native.Nat.{ℕ, suc, _+_, _≤_}
-use mathlib.Core.Path.{_≡_, _∙_}
+use Prim.Native.Nat.{ℕ, _≤_}
+use mathlib.Core.Path.{_≡_}
 use mathlib.Core.Bool.{Bool, true, false, not, _&&_}
 use mathlib.Core.List.{List, [], _∷_}
-use mathlib.Core.Option.{Option, none, some}
 use native.Mathlib.Omega.{arith}
 use lib.Dec.{eqb, ltb}
 use lib.ListN.{length}
-use Rattle.lists.specs.Base.{if_then_else_, filter, member, sum}
+use Rattle.lists.specs.Base.{if_then_else_, member, sum}
 use Rattle.lists.specs.Map.{Map, lookup}
 use Rattle.lists.proofs.MapLaws.{cases}
 use Rattle.lists.proofs.ListLaws.{length-filter, count-length}
-use Rattle.time_cache.specs.TimeCache.{Timed, Cache, valueOf, get, laterCache}
+use Rattle.time_cache.specs.TimeCache.{Timed, valueOf, get, laterCache}
 use Rattle.protocol.specs.Links.{Mark, Links, isEager, peersMarked, eagerPeers}
 use Rattle.protocol.specs.State.{State, Cached, withInit, withReceived, withGrafted, withCache}
 use Rattle.protocol.specs.Push.{eagerTargets}

@@ -1,11 +1,10 @@
 -- The output of any step can be told: its bytes, with those of a first event's work, are at most 2^40.
 -- Assumes nothing.
 use Prim.Native.Nat.{ℕ, _+_, _^_, _≤_}
-use mathlib.Core.Path.{_≡_}
-use mathlib.Core.List.{List, [], _++_}
+use mathlib.Core.List.{List, _++_}
 use native.Mathlib.Omega.{arith}
 use lib.ListN.{length}
-use Rattle.lists.specs.Base.{concatMap, sum}
+use Rattle.lists.specs.Base.{concatMap}
 use Rattle.rows.specs.Part.{part}
 use Rattle.rows.specs.Ident.{idOf}
 use Rattle.rows.proofs.Parts.{length-part}
@@ -21,7 +20,6 @@ use Rattle.output.specs.Written.{Told}
 use Rattle.block.specs.View.{stateOf}
 use Rattle.block.specs.LinkSteps.{peerAt}
 use Rattle.block.specs.declared.head.Head.{Head}
-use Rattle.decide.specs.Lengths.{actionLength}
 use Rattle.decide.specs.Settled.{settled, settledActions}
 use Rattle.decide.proofs.LengthLaws.{length-actions}
 use Rattle.steps.specs.Stands.{Stands}
@@ -37,7 +35,7 @@ use Rattle.bounds.proofs.StepsLight.{settled-light, evict-light, announ
 content-few : (bytes : List ℕ) (start len : ℕ) → ContentHeld bytes start len → length (part start len bytes) ≤ 4094
 content-few bytes start len held = omega (arith, length-part start len bytes (held .within), held .short)
 
--- `t` is the state that names what is there, `s` the one that a first event leaves
+-- the actions of each step; what it names is there in the state `t` before the call, and `s` is the state that a first event leaves
 step-light : (bytes : List ℕ) (rooms : List Room) (t : State) (r : Step) (s : State) → Small s → StepHeld bytes t r → Light 7314866176 (stepActions bytes rooms r s)
 unfolding stepActions
 step-light bytes rooms t step.Nothing s small held = light-none

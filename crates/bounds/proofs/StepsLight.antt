@@ -1,8 +1,7 @@
 -- The actions of each kind of step but a dispatch are few and short: contents of an event at most 4,094 bytes, cached ones at most 1,048,576.
 -- Assumes nothing.
 use Prim.Native.Nat.{ℕ, suc, _+_, _*_, _≤_}
-use mathlib.Core.Path.{_≡_, refl}
-use mathlib.Core.Bool.{Bool, true, false, not, _&&_, _||_}
+use mathlib.Core.Bool.{Bool, not, _&&_, _||_}
 use mathlib.Core.List.{List, [], _∷_, _++_, map}
 use mathlib.Core.Option.{Option, none, some}
 use native.Mathlib.Omega.{arith}
@@ -12,7 +11,7 @@ use Rattle.lists.specs.Base.{if_then_else_, isEmpty, member}
 use Rattle.lists.specs.Map.{keys}
 use Rattle.lists.proofs.MapLaws.{cases}
 use Rattle.time_cache.specs.TimeCache.{get, holds}
-use Rattle.postcard.specs.Message.{Delivery, Swarm, Neighbors, Scope, toSwarm, toNeighbors, Ihave, Message, Gossip, Prune, Graft, SendGraft, DispatchLazyPush, EvictCache, AnnounceDropped, Action, Sent, Scheduled, Emitted}
+use Rattle.postcard.specs.Message.{Delivery, Swarm, Neighbors, Scope, toSwarm, toNeighbors, Ihave, Gossip, SendGraft, DispatchLazyPush, EvictCache, AnnounceDropped, Scheduled, Emitted}
 use Rattle.protocol.specs.Links.{isNeighbour, eagerIn}
 use Rattle.protocol.specs.State.{State, Hop, Cached}
 use Rattle.protocol.specs.Run.{Room}
@@ -51,7 +50,7 @@ note-light : (back : List ℕ) (flag : Bool) → Light 44 (noteAction back flag)
 unfolding noteAction
 note-light back flag = light-if (isEmpty back || flag) light-none (light-one (scheduled-few 1000 AnnounceDropped))
 
--- the same message to at most n peers, each of at most m bytes
+-- the same Gossip to each of these peers, at most m bytes each
 sends-light : (rooms : List Room) (id : ℕ) (content : List ℕ) (d : Delivery) (ps : List ℕ) (m : ℕ) → 66 + length content ≤ m
     → Light (length ps * m) (map (firstSend rooms (Gossip id content d)) ps)
 unfolding firstSend

@@ -9,3 +9,6 @@ pub mod RaiseSteps
 pub mod LinkIn
 pub mod LoweredLaws
 pub mod EntryLaws
+pub mod LoweredRefs
+pub mod LoweredRows
+pub mod LoweredTables

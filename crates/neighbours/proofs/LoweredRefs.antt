@@ -3,17 +3,17 @@
 use mathlib.Core.Path.{_≡_, refl, sym, ap, _∙_, subst}
 use mathlib.Core.Logic.{_⊎_, inl, inr}
 use mathlib.Core.Bool.{Bool, true, false, not}
-use mathlib.Core.List.{List, [], _∷_, _++_, map}
-use Prim.Native.Nat.{ℕ, zero, suc, _+_, _-_, _*_, _≤_, _<_, zero-le, suc-le-suc}
+use mathlib.Core.List.{List, [], _∷_, map}
+use Prim.Native.Nat.{ℕ, zero, suc, _-_, _≤_, _<_, zero-le, suc-le-suc}
 use native.Mathlib.Nat.{le-of-suc-le-suc, not-suc-le-zero}
 use native.Mathlib.Omega.{arith}
 use borrow.Author.Tests.{eq-eqb, ne-eqb, eqb-false, eqb-true}
-use lib.Dec.{ltb, eqb}
-use lib.ListN.{length, take, drop, getD, length-map}
-use Rattle.lists.specs.Base.{if_then_else_, filter, count}
+use lib.Dec.{eqb}
+use lib.ListN.{length, take, getD, length-map}
+use Rattle.lists.specs.Base.{if_then_else_, filter}
 use Rattle.lists.specs.Map.{Map, Entry, entry, remove}
 use Rattle.lists.proofs.MapLaws.{cases, true≢}
-use Rattle.lists.proofs.ListLaws.{length-filter, count-length, filter-same}
+use Rattle.lists.proofs.ListLaws.{length-filter, count-length}
 use Rattle.lists.proofs.KeyLaws.{eqb-sym}
 use Rattle.rows.specs.Digits.{leNat}
 use Rattle.rows.specs.Rows.{rows}
@@ -21,10 +21,9 @@ use Rattle.rows.specs.Sorted.{Ascending}
 use Rattle.rows.proofs.Rows.{length-rows}
 use Rattle.refs.specs.Refs.{Ref, ref, places, Below}
 use Rattle.refs.proofs.Shifts.{low-or-high}
-use Rattle.protocol.specs.State.{Note, Hop}
 use Rattle.protocol.specs.Push.{forPeer}
 use Rattle.protocol.specs.Neighbours.{withoutAnnouncer, withoutNotes}
-use Rattle.block.specs.View.{byteAt, halfAt, idAt, peerOf, pairs, numbered, noteOf, hopOf, roundOf}
+use Rattle.block.specs.View.{halfAt, idAt, peerOf, pairs, numbered, noteOf, hopOf, roundOf}
 use Rattle.neighbours.specs.Lowered.{lowered, stays, lower, lowerAll, withoutPeer}
 use Rattle.neighbours.proofs.LoweredLaws.{lowered-low, lowered-high, peer-lowered, readBy, pairs-read}
 

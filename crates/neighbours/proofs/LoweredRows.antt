@@ -1,34 +1,28 @@
 -- Rows that end with a list of link numbers, after a link went: the list, the row, and one row after the other.
 -- Assumes nothing.
-use mathlib.Core.Path.{_≡_, refl, sym, ap, _∙_, subst}
-use mathlib.Core.Bool.{Bool, true, false, not}
+use mathlib.Core.Path.{_≡_, sym, ap, _∙_, subst}
+use mathlib.Core.Bool.{not}
 use mathlib.Core.List.{List, [], _∷_, _++_, map, map-id}
-use Prim.Native.Nat.{ℕ, zero, suc, _+_, _-_, _*_, _≤_, _<_, zero-le, suc-le-suc}
-use native.Mathlib.Nat.{le-of-suc-le-suc}
+use Prim.Native.Nat.{ℕ, _+_, _*_, _≤_, _<_}
 use native.Mathlib.Omega.{arith}
 use borrow.Author.Tests.{eq-eqb, ne-eqb}
-use lib.Dec.{eqb}
-use lib.ListN.{length, take, drop, getD, set, length-map, length-drop}
-use lib.Seq.{drop-drop, getD-drop, length-take-le}
-use Rattle.lists.specs.Base.{if_then_else_, filter}
+use lib.ListN.{length, take, drop, getD, set, length-drop}
+use lib.Seq.{drop-drop, getD-drop}
+use Rattle.lists.specs.Base.{filter}
 use Rattle.rows.specs.Part.{part, put}
 use Rattle.rows.specs.Rows.{rows}
-use Rattle.rows.proofs.Parts.{length-part, length-put, take-put, part-put, part-part, getD-part, drop-take, put-cons, loan-put}
-use Rattle.rows.proofs.Rows.{length-rows, getD-rows, rows-put-one, take-rows}
+use Rattle.rows.proofs.Parts.{length-part, take-put, getD-part, drop-take, put-cons, loan-put}
+use Rattle.rows.proofs.Rows.{rows-put-one, take-rows}
 use Rattle.rows.proofs.Views.{map-put, map-take}
-use Rattle.refs.specs.Refs.{Ref, ref, places, Below}
+use Rattle.refs.specs.Refs.{Ref, ref}
 use Rattle.refs.proofs.Places.{row-end}
 use Rattle.refs.proofs.Shifts.{done, done-read, done-more}
 use Rattle.refs.proofs.Left.{Going, going-read, going-keep, going-drop, going-done}
 use Rattle.block.specs.View.{byteAt, numbered, hopsIn}
-use Rattle.block.specs.Sound.{Numbered, AllNumbered}
 use Rattle.block.proofs.Cut.{put-drop}
 use Rattle.block.proofs.Tables.{put-all, view-at, view-set, length-view}
 use Rattle.block.proofs.Numbered.{length-numbered}
-use Rattle.block.proofs.Each.{Each, each-numbered, numbered-each}
-use Rattle.neighbours.specs.Lowered.{lowered, stays, lower, lowerAll, entries, Listed, listedOf, listed, lowerListed, announced, AllFew}
-use Rattle.neighbours.proofs.RaisedRows.{few-in}
-use Rattle.neighbours.proofs.LoweredRefs.{below-lowered, length-lowered, places-numbered, numbered-few}
+use Rattle.neighbours.specs.Lowered.{stays, lower, lowerAll, entries, Listed, listedOf, listed, lowerListed, announced}
 
 -- what stands for a row past the last
 abbrev pub noListed : Listed

@@ -2,30 +2,29 @@
 -- Assumes nothing.
 use mathlib.Core.Path.{_≡_, refl, sym, ap, _∙_, subst}
 use mathlib.Core.Bool.{Bool, true, false, not}
-use mathlib.Core.List.{List, [], _∷_, _++_, map, map-map}
-use Prim.Native.Nat.{ℕ, zero, suc, _+_, _-_, _*_, _≤_, _<_, zero-le, suc-le-suc}
+use mathlib.Core.List.{List, [], _∷_, map, map-map}
+use Prim.Native.Nat.{ℕ, zero, suc, _+_, _-_, _≤_, _<_, zero-le, suc-le-suc}
 use native.Mathlib.Nat.{le-of-suc-le-suc, not-suc-le-zero}
 use native.Mathlib.Omega.{arith}
 use borrow.Author.Tests.{eq-eqb, ne-eqb}
 use lib.Dec.{eqb}
-use lib.ListN.{length, take, drop, getD, length-map, length-drop}
-use lib.Seq.{drop-drop, getD-drop, getD-take, take-take}
+use lib.ListN.{length, take, drop, getD}
+use lib.Seq.{drop-drop, getD-drop, take-take}
 use Rattle.lists.specs.Base.{if_then_else_, filter, isEmpty}
-use Rattle.lists.specs.Map.{Map, Entry, entry, remove}
+use Rattle.lists.specs.Map.{Map, Entry, entry}
 use Rattle.rows.specs.Part.{part}
 use Rattle.rows.specs.Digits.{leNat, beNat}
 use Rattle.rows.specs.Rows.{rows, fieldOf}
 use Rattle.rows.specs.Sorted.{Ascending}
 use Rattle.rows.proofs.Parts.{part-part, drop-take, getD-part}
-use Rattle.rows.proofs.Rows.{length-rows}
 use Rattle.refs.specs.Refs.{Ref, ref, refOf, refs, places, Below}
-use Rattle.time_cache.specs.TimeCache.{Timed, Cache}
+use Rattle.time_cache.specs.TimeCache.{Timed}
 use Rattle.time_cache.specs.Tables.{ExpiryRow, expiryRows, expiryOf, entryOf, rowAt, cacheOf}
-use Rattle.protocol.specs.State.{Note, Hop, Grafts}
+use Rattle.protocol.specs.State.{Hop, Grafts}
 use Rattle.protocol.specs.Neighbours.{withoutAnnouncer, forgetAnnouncer, withoutNotes, withoutGraft, forgetGrafted}
 use Rattle.block.specs.View.{byteAt, halfAt, idAt, flagOf, onlyIf, peerOf, numbered, noteOf, notesIn, hopsIn, hopOf, hopsOf, missedOf, missingIn, roundOf, graftsOf, graftedIn}
 use Rattle.block.specs.Sound.{Numbered, AllNumbered}
-use Rattle.block.proofs.Each.{Each, OfRow, each-numbered, numbered-each}
+use Rattle.block.proofs.Each.{Each, each-numbered, numbered-each}
 use Rattle.neighbours.specs.Lowered.{lowerAll, withoutPeer, Listed, listedOf, listed, lowerListed, announced}
 use Rattle.neighbours.proofs.LoweredLaws.{readBy}
 use Rattle.neighbours.proofs.LoweredRefs.{below-lowered, length-lowered, notes-lowered, hops-lowered, rounds-lowered, places-numbered, numbered-few, numbered-read}

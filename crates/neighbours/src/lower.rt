@@ -101,3 +101,27 @@ pub fn drop_notes(block: &mut [u8], a: usize, w: usize, e: usize, n: usize, i: u
     let o = w - a;
     renumber::drop_number(&mut block[a..e], o, 34, n, i)
 }
+
+// Every link number of the block, after link i went: queue, record, grafted and missing messages.
+pub fn lower_links(mut h: Head, block: &mut [u8], i: usize) -> Head
+    requires { ⌜ Sound h (now block) × LinksAscend h (now block) × (i < h .live .links) ⌝ }
+    ensures { λ r. ⌜ LoweredLinks i h (now (block .entry)) r (now (block .exit)) ⌝ }
+{
+    let queue = head::queue_at(h.limits);
+    let queue_rows = head::queue_rows_at(h.limits);
+    let dropped = head::dropped_at(h.limits);
+    let dropped_rows = head::dropped_rows_at(h.limits);
+    let end = head::end_at(h.limits);
+    let grafted = head::grafted_at(h.limits);
+    let grafted_rows = head::grafted_rows_at(h.limits);
+    let missing = head::missing_at(h.limits);
+    let timers = head::timers_at(h.limits);
+    let q = drop_notes(block, queue, queue_rows, dropped, h.live.queued, i);
+    let d = drop_notes(block, dropped, dropped_rows, end, h.live.dropped, i);
+    drop_in_table(block, grafted, grafted_rows, 119, h.live.grafted, 22, i);
+    let m = drop_missing(block, missing, timers, h.live.missing, i);
+    h.live.queued = q;
+    h.live.dropped = d;
+    h.live.missing = m;
+    h
+}

@@ -1,9 +1,8 @@
 -- `lower::drop_announcers`: the lists are lowered, then the rows with announcers are kept.
 -- Assumes nothing.
-use mathlib.Core.Path.{_≡_, ap, _∙_}
+use mathlib.Core.Path.{ap, _∙_}
 use Rattle.lists.specs.Base.{filter}
 use Rattle.neighbours.specs.Lowered.{announced}
-use native.Mathlib.Omega.{arith}
 use borrow.Author.Needs.{needs}
 use Rattle.neighbours.proofs.lower.drop_announcers.Statement.{statement}
 use Rattle.neighbours.proofs.lower.drop_announcers.Tie as tie

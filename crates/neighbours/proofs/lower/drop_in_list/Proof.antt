@@ -2,7 +2,7 @@
 -- Assumes nothing.
 use mathlib.Core.Path.{_≡_, sym, ap, _∙_, subst}
 use mathlib.Core.List.{List, _++_, map}
-use Prim.Native.Nat.{ℕ, _+_, _-_, _*_, _≤_}
+use Prim.Native.Nat.{ℕ, _-_}
 use lib.ListN.{length, take, drop, set, length-drop}
 use lib.Seq.{take-all}
 use Rattle.lists.specs.Base.{filter}
@@ -67,4 +67,3 @@ drop-in-list-spec =
     slice-write-list
     same-length
     returns)
-

@@ -1,14 +1,14 @@
 -- `lower::drop_in_rows`: the lists of the first k rows are lowered, the other rows are as they were. The measure is n - k.
 -- Assumes nothing.
-use mathlib.Core.Path.{_≡_, refl, sym, ap, _∙_, subst}
-use mathlib.Core.List.{List, [], _++_}
-use Prim.Native.Nat.{ℕ, _+_, _-_, _*_, _≤_, _<_}
+use mathlib.Core.Path.{_≡_, refl, ap, _∙_}
+use mathlib.Core.List.{List, _++_}
+use Prim.Native.Nat.{ℕ, _+_, _-_, _*_, _≤_}
 use lib.ListN.{length, getD, take, drop}
 use Rattle.rows.specs.Part.{part, put}
 use Rattle.rows.proofs.Parts.{length-part, length-put, loan-put, getD-part}
 use Rattle.refs.proofs.Places.{row-end}
 use Rattle.refs.proofs.Shifts.{done, done-start, done-all}
-use Rattle.neighbours.specs.Lowered.{Listed, listedOf, listed, lowerListed}
+use Rattle.neighbours.specs.Lowered.{listedOf, listed, lowerListed}
 use Rattle.neighbours.proofs.LoweredRows.{noListed, count-was, rows-more, length-listed}
 use native.Mathlib.Omega.{arith}
 use borrow.Author.Needs.{needs}
@@ -70,8 +70,11 @@ module _ (c : tie.In-loop Inv-loop μ-loop) where
   counted =
       let l = c .before .loop in
       let a = s .args in
-      omega (arith, s .pre .2 .each (l .k) (c .loop-test .taken),
-        count-was (a .i) (a .o) (a .stride) (a .n) (a .b .now) b (l .k) (s .pre .0) (c .loop-test .taken) (s .pre .1) (l .inv .2) (l .inv .1))
+      omega (
+        arith,
+        s .pre .2 .each (l .k) (c .loop-test .taken),
+        count-was (a .i) (a .o) (a .stride) (a .n) (a .b .now) b (l .k) (s .pre .0) (c .loop-test .taken) (s .pre .1) (l .inv .2) (l .inv .1),
+      )
 
 drop-in-list-requires : tie.Need-drop-in-list-requires Inv-loop μ-loop
 drop-in-list-requires c κs =

@@ -1,11 +1,9 @@
 -- `lower::keep_announced`: of the first j rows, those with announcers stand first (`Going`). The measure is n - j.
 -- Assumes nothing.
-use mathlib.Core.Path.{_≡_, refl, sym, ap, _∙_, subst}
-use mathlib.Core.List.{List, []}
-use Prim.Native.Nat.{ℕ, _+_, _-_, _*_, _≤_, _<_}
-use lib.ListN.{length, getD}
-use Rattle.rows.specs.Part.{part, put}
-use Rattle.rows.proofs.Parts.{length-part, length-put}
+use mathlib.Core.Path.{_≡_, refl, sym, _∙_, subst}
+use mathlib.Core.List.{List}
+use Prim.Native.Nat.{ℕ, _+_, _-_, _≤_}
+use lib.ListN.{length}
 use Rattle.refs.proofs.Left.{Going, going-start}
 use Rattle.neighbours.specs.Lowered.{Listed, listed, announced}
 use Rattle.neighbours.proofs.LoweredRows.{noListed, turn-gone, turn-stays, kept-all, length-listed}
@@ -107,4 +105,3 @@ keep-announced-spec =
     loop-again-2
     same-length
     returns)
-

@@ -3,3 +3,5 @@
 pub mod ReadLaws
 pub mod ListWrites
 pub mod PeerLaws
+pub mod NoteLaws
+pub mod EntryLaws

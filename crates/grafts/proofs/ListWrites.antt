@@ -1,7 +1,6 @@
 -- Lists of link numbers and rounds: one more in its order, and another round of one of them.
 -- Assumes nothing.
 use mathlib.Core.Path.{_≡_, refl, sym, ap, _∙_, subst}
-use mathlib.Core.Bool.{Bool, true}
 use mathlib.Core.List.{List, [], _∷_, _++_, append-assoc}
 use Prim.Native.Nat.{ℕ, zero, suc, _+_, _-_, _*_, _≤_, _<_}
 use native.Mathlib.Omega.{arith}
@@ -9,8 +8,6 @@ use borrow.Author.Tests.{lt-ltb}
 use lib.Dec.{ltb}
 use lib.ListN.{length, take, drop, getD, set, length-append, length-drop, length-set}
 use lib.Seq.{take-all, take-append-le, take-take, length-take-le, drop-drop, getD-drop, getD-take}
-use Rattle.lists.specs.Base.{all}
-use Rattle.lists.proofs.MapLaws.{all-head, all-tail, all-cons}
 use Rattle.rows.specs.Part.{part, put}
 use Rattle.rows.specs.Digits.{leBytes}
 use Rattle.rows.specs.Rows.{rows, opened}
@@ -19,6 +16,7 @@ use Rattle.rows.proofs.Parts.{length-part, length-put, part-part, part-after, d
 use Rattle.rows.proofs.Rows.{length-rows, rows-put-one, rows-opened, length-opened, put-gap}
 use Rattle.refs.specs.Refs.{Below}
 use Rattle.time_cache.proofs.Orders.{below-of, of-below}
+use Rattle.time_cache.proofs.TableLaws.{all-gap}
 use Rattle.block.specs.View.{byteAt, pairs, numbered, hopsIn}
 use Rattle.block.specs.Sound.{Numbered}
 use Rattle.block.proofs.Cut.{put-drop}
@@ -43,13 +41,8 @@ module _ {A : Type 0} (f : ℕ → List ℕ → A) where
   pairs-put zero r (m ∷ ls) (s ∷ rs) h e = refl
   pairs-put (suc j) r (m ∷ ls) (s ∷ rs) h e = ap (λ (t : List A). f m s ∷ t) (pairs-put j r ls rs (omega arith) (omega arith))
 
-all-gap : (f : ℕ → Bool) (j l : ℕ) (ps : List ℕ) → all f ps ≡ true → f l ≡ true → all f (take j ps ++ (l ∷ drop j ps)) ≡ true
-all-gap f zero l ps h e = all-cons f l ps e h
-all-gap f (suc j) l [] h e = all-cons f l [] e h
-all-gap f (suc j) l (p ∷ ps) h e = all-cons f p (take j ps ++ (l ∷ drop j ps)) (all-head f p ps h) (all-gap f j l ps (all-tail f p ps h) e)
-
 below-gap : (m j l : ℕ) (ps : List ℕ) → Below m ps → l < m → Below m (take j ps ++ (l ∷ drop j ps))
-below-gap m j l ps b h = below-of m (take j ps ++ (l ∷ drop j ps)) (all-gap (λ p. ltb p m) j l ps (of-below m ps b) (lt-ltb l m h))
+below-gap m j l ps b h = below-of m (take j ps ++ (l ∷ drop j ps)) (all-gap (λ p. ltb p m) j l ps (lt-ltb l m h) (of-below m ps b))
 
 -- the first k numbers and one more among them
 take-opened : (k j l : ℕ) (c : List ℕ) → j ≤ k → k < length c → take (k + 1) (put j (l ∷ take (k - j) (drop j c)) c) ≡ take j (take k c) ++ (l ∷ drop j (take k c))

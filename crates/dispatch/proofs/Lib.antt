@@ -1,0 +1,4 @@
+pub mod QueueLaws
+pub mod RecordSteps
+pub mod LinkPass
+pub mod LinkPeers

@@ -2,3 +2,4 @@ pub mod QueueLaws
 pub mod RecordSteps
 pub mod LinkPass
 pub mod LinkPeers
+pub mod LinkLoop

@@ -1,0 +1,2 @@
+pub mod ThenLaws
+pub mod SizeLaws

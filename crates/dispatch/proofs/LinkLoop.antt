@@ -39,7 +39,7 @@ use Rattle.block.proofs.GoesLaws.{dispatch-goes}
 use Rattle.steps.specs.Rooms.{roomAt, roomsIn}
 use Rattle.steps.specs.Stands.{Stands, Step}
 use Rattle.steps.proofs.StandsLaws.{links-up, cached-order}
-use Rattle.steps.proofs.RoomsLaws.{first-at}
+use Rattle.steps.proofs.RoomsLaws.{first-of}
 use Rattle.dispatch.specs.HandedBack.{Ready, linkNoted, linkNotedState}
 use Rattle.dispatch.proofs.QueueLaws.{notes-none, notes-grow, queued-few}
 use Rattle.dispatch.proofs.RecordSteps.{recorded-again, recorded-still, same-room}
@@ -133,9 +133,9 @@ module _ (rooms : List ℕ) (k : ℕ) (h : Head) (xs : List ℕ) where
   links-start r = record { state = sym (ap (λ (ds : List Note). recordedState ds s) (batch-none c (s .dropped)) ∙ recorded-still s (r .flagged)); sound = r .sound }
 
   -- what link i hands back
-  module _ (i : ℕ) (stands : Stands h xs) (q : i < h .live .links) (long : length rooms ≡ 34) where
+  module _ (i : ℕ) (stands : Stands h xs) (q : i < h .live .links) where
     room-is : firstRoom (peerAt s i) brought ≡ roomAt (getD rooms i 0)
-    room-is = first-at s rooms i (links-up h xs stands) (omega (arith, count-links h xs)) (omega (arith, stands .sound .fit .within .links, stands .sound .fit .ceilings .N))
+    room-is = first-of s rooms i (links-up h xs stands) (omega (arith, count-links h xs))
 
     pub back-nothing : (room : ℕ) → 1 ≤ k → room ≡ getD rooms i 0 → h .live .queued ≤ room → back (peerAt s i) ≡ []
     back-nothing room one e w =

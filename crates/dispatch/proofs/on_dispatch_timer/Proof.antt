@@ -74,9 +74,6 @@ module _ (d : tie.After-room Inv-loop μ-loop) where
   more : l < s .args .h .live .links
   more = d .before .loop-test .taken
 
-  long : length rooms ≡ 34
-  long = omega arith
-
   k-is : k ≡ perMessage (stateOf (s .args .h) xs .settings .maxMessageSize)
   unfolding stateOf
   k-is = d .before .before .before .chunk-len .ensures
@@ -85,7 +82,7 @@ module _ (d : tie.After-room Inv-loop μ-loop) where
   numbers = subst (λ (n : ℕ). PerMessage n) (sym k-is) (per-message (stateOf (s .args .h) xs) (s .pre .stands .ranged))
 
   behind : room < s .args .h .live .queued → back rooms k (s .args .h) xs (peerAt (stateOf (s .args .h) xs) l) ≡ drop (room * k) (queuedFor (peerAt (stateOf (s .args .h) xs) l) (stateOf (s .args .h) xs .queue))
-  behind w = back-behind rooms k (s .args .h) xs l (s .pre .stands) more long room refl w
+  behind w = back-behind rooms k (s .args .h) xs l (s .pre .stands) more room refl w
 
 mul-note-link : tie.Need-mul-note-link Inv-loop μ-loop
 mul-note-link c =
@@ -127,7 +124,7 @@ loop-again-2 c =
       search needs,
       search needs,
       links-skip (rooms d) (k d) h (xs d) (l d) (d .before .before .loop .g) (ys d) (so d) (more d)
-          (back-nothing (rooms d) (k d) h (xs d) (l d) (s d .pre .stands) (more d) (long d) (room d) (numbers d .some) refl (c .if1 .left)),
+          (back-nothing (rooms d) (k d) h (xs d) (l d) (s d .pre .stands) (more d) (room d) (numbers d .some) refl (c .if1 .left)),
     )
 
 clear-queue-requires : tie.Need-clear-queue-requires Inv-loop μ-loop

@@ -3,3 +3,6 @@ pub mod RecordSteps
 pub mod LinkPass
 pub mod LinkPeers
 pub mod LinkLoop
+pub mod ReadPass
+pub mod GainLaws
+pub mod GainLoop

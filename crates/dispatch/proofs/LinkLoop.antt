@@ -165,18 +165,22 @@ module _ (rooms : List ℕ) (k : ℕ) (h : Head) (xs : List ℕ) where
       )
 
   -- all links are all peers for whom something is queued
-  module _ (stands : Stands h xs) (one : 1 ≤ k) where
-    pub all-links : addBatches c (map (batchFor c back) (keys (s .links))) (s .dropped) ≡ addBatches c (dispatchBatches brought (queuedPeers (s .queue)) k (s .queue)) (s .dropped)
-    all-links =
-        batches-among c back (keys (s .links)) (queuedPeers (s .queue)) (links-up h xs stands) (queued-ascending (s .queue))
-        (queued-among (s .links) (s .queue) (stands .consistent .core .queued))
-        (λ x m n. ap (backPart (firstRoom x brought) k) (nothing-queued x (s .queue) n) ∙ back-empty (firstRoom x brought))
-        (s .dropped)
-        ∙ ap (λ (bs : List Batch). addBatches c bs (s .dropped)) (sym (batches-parts brought (queuedPeers (s .queue)) k (s .queue) one))
-      where
-        back-empty : (o : Option ℕ) → backPart o k [] ≡ []
-        back-empty none = unfold backPart in refl
-        back-empty (some room) = unfold backPart in (drop-nil (room * k))
+  pub all-batches : Stands h xs → (held : ℕ → Bool) (ds : List Note) → addBatches held (map (batchFor held back) (keys (s .links))) ds ≡ addBatches held (map (batchFor held back) (queuedPeers (s .queue))) ds
+  all-batches stands held ds =
+      batches-among held back (keys (s .links)) (queuedPeers (s .queue)) (links-up h xs stands) (queued-ascending (s .queue))
+      (queued-among (s .links) (s .queue) (stands .consistent .core .queued))
+      (λ x m n. ap (backPart (firstRoom x brought) k) (nothing-queued x (s .queue) n) ∙ back-empty (firstRoom x brought))
+      ds
+    where
+      back-empty : (o : Option ℕ) → backPart o k [] ≡ []
+      back-empty none = unfold backPart in refl
+      back-empty (some room) = unfold backPart in (drop-nil (room * k))
+
+  pub peers-batches : 1 ≤ k → (held : ℕ → Bool) → map (batchFor held back) (queuedPeers (s .queue)) ≡ dispatchBatches brought (queuedPeers (s .queue)) k (s .queue)
+  peers-batches one held = sym (batches-parts brought (queuedPeers (s .queue)) k (s .queue) one)
+
+  all-links : Stands h xs → 1 ≤ k → addBatches c (map (batchFor c back) (keys (s .links))) (s .dropped) ≡ addBatches c (dispatchBatches brought (queuedPeers (s .queue)) k (s .queue)) (s .dropped)
+  all-links stands one = all-batches stands c (s .dropped) ∙ ap (λ (bs : List Batch). addBatches c bs (s .dropped)) (peers-batches one c)
 
   module _ (i : ℕ) (g : Head) (ys : List ℕ) (so : Sofar i g ys) (q : i < h .live .links) where
     pub links-skip : back (peerAt s i) ≡ [] → Sofar (i + 1) g ys

@@ -1,0 +1,3 @@
+pub mod Sums
+pub mod Chains
+pub mod Contents

@@ -21,11 +21,11 @@ use Rattle.block.specs.Sound.Adjoining.{done as last, next as then}
 use Rattle.contents.specs.Starts.{startOf, lenOf, firstStart, Chain, done, next, withStart, shiftedRow, Above}
 
 -- start and length in the bytes of a row
-start-bytes : (row : List ℕ) → startOf (expiryRowOf row) ≡ fourAt 40 row
+pub start-bytes : (row : List ℕ) → startOf (expiryRowOf row) ≡ fourAt 40 row
 unfolding expiryRowOf fourAt part
 start-bytes row = refl
 
-len-bytes : (row : List ℕ) → lenOf (expiryRowOf row) ≡ fourAt 44 row
+pub len-bytes : (row : List ℕ) → lenOf (expiryRowOf row) ≡ fourAt 44 row
 unfolding expiryRowOf fourAt part
 len-bytes row = ap (λ (z : List ℕ). leNat (take 4 z)) (drop-drop 4 40 row)
 

@@ -1,3 +1,5 @@
 pub mod Sums
 pub mod Chains
 pub mod Contents
+pub mod Shifts
+pub mod Closing

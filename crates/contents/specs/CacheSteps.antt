@@ -2,8 +2,8 @@
 -- Assumes nothing.
 use Prim.Native.Nat.{ℕ, _+_}
 use mathlib.Core.Path.{_≡_}
-use mathlib.Core.List.{List, []}
-use lib.ListN.{take, getD}
+use mathlib.Core.List.{List, [], _++_, map}
+use lib.ListN.{take, drop, getD, set}
 use Rattle.refs.specs.Refs.{Below, refs, places}
 use Rattle.time_cache.specs.TimeCache.{put, expireUntil}
 use Rattle.time_cache.specs.Tables.{expiryRows}
@@ -13,7 +13,7 @@ use Rattle.block.specs.View.{limitsOf, cachedIn}
 use Rattle.block.specs.Fit.{Fit}
 use Rattle.block.specs.Sound.{AllNumbered, held}
 use Rattle.block.specs.declared.head.Head.{Head}
-use Rattle.contents.specs.Starts.{firstStart, Chain}
+use Rattle.contents.specs.Starts.{firstStart, Chain, shiftedRow}
 
 -- `expire_until` of the message cache
 abbrev pub cachedLeft : ℕ → State → State
@@ -41,3 +41,9 @@ pub record Ahead (h : Head) (block : List ℕ) : Type 0 where
   pub used : firstStart (h .live .contents) (expiryRows 48 (h .live .«cached_rows») (table (limitsOf (h .limits)) 5 block))
       + held (cachedIn (table (limitsOf (h .limits)) 6 block) (h .live .cached) (table (limitsOf (h .limits)) 4 block) (h .live .«cached_rows») (table (limitsOf (h .limits)) 5 block) .entries)
       ≡ h .live .contents
+
+-- the starts of the rows from j on went up and then down, and nothing else has changed
+pub record Shifts (h : Head) (j up down : ℕ) (xs ys : List ℕ) : Type 0 where
+  pub rows : expiryRows 48 (h .live .«cached_rows») (table (limitsOf (h .limits)) 5 ys)
+      ≡ take j (expiryRows 48 (h .live .«cached_rows») (table (limitsOf (h .limits)) 5 xs)) ++ map (shiftedRow up down) (drop j (expiryRows 48 (h .live .«cached_rows») (table (limitsOf (h .limits)) 5 xs)))
+  pub tables : tables (limitsOf (h .limits)) ys ≡ set (tables (limitsOf (h .limits)) xs) 5 (table (limitsOf (h .limits)) 5 ys)

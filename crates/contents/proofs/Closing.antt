@@ -32,9 +32,9 @@ use Rattle.block.proofs.RowLaws.{part-in}
 use Rattle.caches.specs.InBlock.{cacheFrom, cachedCache, InOrder}
 use Rattle.caches.proofs.CacheLaws.{refs-in, rows-in, frame-pair, expired-in}
 use Rattle.caches.proofs.CachedLaws.{cached-keys}
-use Rattle.contents.specs.Starts.{startOf, lenOf, firstStart, Chain, shiftedRow}
-use Rattle.contents.specs.CacheSteps.{cachedLeft, Others, Ahead}
-use Rattle.contents.proofs.Chains.{Along, along-at, along-map, along-same, chain-along, chain-at, chain-ends, chain-drop, of-adjoining, to-adjoining, wide-rows}
+use Rattle.contents.specs.Starts.{startOf, lenOf, firstStart, Chain, shiftedRow, Above}
+use Rattle.contents.specs.CacheSteps.{cachedLeft, Others, Ahead, Shifts}
+use Rattle.contents.proofs.Chains.{Along, along-at, along-map, along-same, chain-along, chain-at, chain-ends, chain-drop, chain-above, of-adjoining, to-adjoining, wide-rows}
 use Rattle.contents.proofs.Contents.{part-moved, cache-same, left-held}
 
 -- the other tables, out of what is asked of all
@@ -107,8 +107,8 @@ module _ (h : Head) (xs : List ℕ) (ahead : Ahead h xs) where
   abbrev a : ℕ
   a = firstStart u rs
 
-  low : a ≤ u
-  low = chain-ends (ahead .chain)
+  pub close-low : a ≤ u
+  close-low = chain-ends (ahead .chain)
 
   long : length s ≡ l .B
   long = length-table l 6 xs (lit< tt) (ahead .fit .long)
@@ -146,7 +146,7 @@ module _ (h : Head) (xs : List ℕ) (ahead : Ahead h xs) where
         let z : b ≡ 0 + b = omega arith in
         let t : a + b ≡ startOf (rowAt rs p) = omega (arith, at .2) in
         ap (λ (q : ℕ). part q k (put 0 (part a (u - a) s) s)) z
-        ∙ part-moved 0 a (u - a) b k s (omega (arith, t, c .1)) (omega (arith, low, within, long)) (omega (arith, low, within, long))
+        ∙ part-moved 0 a (u - a) b k s (omega (arith, t, c .1)) (omega (arith, close-low, within, long)) (omega (arith, close-low, within, long))
         ∙ ap (λ (q : ℕ). part q k s) t
 
     same : cachedIn (put 0 (part a (u - a) s) s) n (table l 4 xs) m (table l 5 ys) ≡ cachedIn s n (table l 4 xs) m (table l 5 xs)
@@ -161,9 +161,36 @@ module _ (h : Head) (xs : List ℕ) (ahead : Ahead h xs) where
           ∙ ap (λ (c : Cache Cached). withCache c (stateOf h xs)) same;
       sound = cached-laid h xs ys (ahead .fit) (ahead .others) n m (u - a) (table l 4 xs) (table l 5 ys) (put 0 (part a (u - a) s) s) framed
           (cached-fit h xs ys (ahead .fit) (ahead .others) n m (u - a) (table l 4 xs) (table l 5 ys) (put 0 (part a (u - a) s) s) framed len (ahead .fit .within .cached) (ahead .fit .within .cachedRows) (omega (arith, within)))
-          (ahead .places) (chain-along 0 (u - a) along (ahead .chain) (omega arith) (omega (arith, low)))
+          (ahead .places) (chain-along 0 (u - a) along (ahead .chain) (omega arith) (omega (arith, close-low)))
           (ap (λ (c : Cache Cached). held (c .entries)) same ∙ omega (arith, ahead .used));
     }
+
+  -- the move, and then the starts
+  module _ (r e : ℕ) (ws : List ℕ) (er : r ≡ a) (ee : e ≡ place l 6) (moved : ws ≡ put e (part (e + r) (u - r) xs) xs) (len : length ws ≡ length xs) where
+    tables-moved : tables l ws ≡ set (tables l xs) 6 (put 0 (part a (u - a) s) s)
+    tables-moved =
+        let z : e ≡ place l 6 + 0 = omega (arith, ee) in
+        let y : e + r ≡ place l 6 + a = omega (arith, ee, er) in
+        let w : u - r ≡ u - a = omega (arith, er) in
+        ap (tables l) (moved ∙ (λ k. put (z k) (part (y k) (w k) xs) xs))
+        ∙ move-frame l 0 a (u - a) xs (omega (arith, ahead .fit .within .contents)) (omega (arith, ahead .fit .within .contents, close-low)) (ahead .fit .long)
+
+    rows-kept : expiryRows 48 m (table l 5 ws) ≡ rs
+    rows-kept = ap (λ (t : List (List ℕ)). expiryRows 48 m (getD t 5 [])) tables-moved
+
+    pub close-fit : Fit h ws
+    close-fit = record { ceilings = ahead .fit .ceilings; within = ahead .fit .within; long = omega (arith, len, ahead .fit .long) }
+
+    pub close-above : Above 0 r (drop 0 (expiryRows 48 m (table l 5 ws)))
+    close-above = subst (Above 0 r) (sym rows-kept) (chain-above 0 r (ahead .chain) (omega (arith, er)))
+
+    pub close-shifts : (ys : List ℕ) → length ys ≡ length ws → Shifts h 0 0 r ws ys → Goes (λ t. t) h xs (withCachedCounts n m (u - r) h) ys
+    close-shifts ys ly sh =
+        let w : u - a ≡ u - r = omega (arith, er) in
+        subst (λ (k : ℕ). Goes (λ t. t) h xs (withCachedCounts n m k h) ys) w
+        (close-goes ys (ly ∙ len)
+        (sh .tables ∙ ap (λ (t : List (List ℕ)). set t 5 (table l 5 ys)) tables-moved)
+        (sh .rows ∙ (λ k. map (shiftedRow 0 (er k)) (rows-kept k))))
 
 -- what `expire_until` of the two tables leaves
 pub record Expires-left (h : Head) (xs : List ℕ) (t : ℕ) (g : Head) (ys : List ℕ) : Type 0 where

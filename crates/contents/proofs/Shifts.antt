@@ -104,11 +104,19 @@ module _ (l : Limits) (m j n : ℕ) (xs : List ℕ) (hm : m * 48 ≤ 48 * (2 * l
         ∙ put-end j (map expiryRowOf (rows 48 n zs)) (map expiryRowOf (rows 48 m x))
         (omega (arith, length-map (rows 48 n zs) expiryRowOf, length-rows 48 n zs, length-map (rows 48 m x) expiryRowOf, length-rows 48 m x))
 
+-- the rows from j on, as they are lent
+pub lent-rows : (h : Head) (xs : List ℕ) (j n a k : ℕ) → Fit h xs → j + n ≡ h .live .«cached_rows» → a ≡ place (limitsOf (h .limits)) 5 + 48 * j → k ≡ n * 48
+    → expiryRows 48 n (take k (drop a xs)) ≡ drop j (expiryRows 48 (h .live .«cached_rows») (table (limitsOf (h .limits)) 5 xs))
+unfolding part
+lent-rows h xs j n a k fit hj ea ek =
+    let l : Limits = limitsOf (h .limits) in
+    let eb : a ≡ place l 5 + j * 48 = omega (arith, ea) in
+    (λ i. expiryRows 48 n (take (ek i) (drop (eb i) xs))) ∙ rows-lent l (h .live .«cached_rows») j n xs (omega (arith, fit .within .cachedRows)) hj (fit .long)
+
 -- the loan comes back with other starts
 pub shifts : (h : Head) (xs zs : List ℕ) (j n a k up down : ℕ) → Fit h xs → j + n ≡ h .live .«cached_rows» → a ≡ place (limitsOf (h .limits)) 5 + 48 * j → k ≡ n * 48 → length zs ≡ k
     → expiryRows 48 n zs ≡ map (shiftedRow up down) (expiryRows 48 n (take k (drop a xs)))
     → Shifts h j up down xs (take a xs ++ (zs ++ drop k (drop a xs)))
-unfolding part
 shifts h xs zs j n a k up down fit hj ea ek lz e =
     let l : Limits = limitsOf (h .limits) in
     let m : ℕ = h .live .«cached_rows» in
@@ -119,10 +127,27 @@ shifts h xs zs j n a k up down fit hj ea ek lz e =
     let back : take a xs ++ (zs ++ drop k (drop a xs)) ≡ put b zs xs = loan-put a k zs xs lz ∙ ap (λ (p : ℕ). put p zs xs) eb in
     let ts : tables l (take a xs ++ (zs ++ drop k (drop a xs))) ≡ set (tables l xs) 5 (put (j * 48) zs (table l 5 xs)) = ap (tables l) back ∙ table-back l m j n xs hm hj (fit .long) zs ln in
     let t5 : table l 5 (take a xs ++ (zs ++ drop k (drop a xs))) ≡ put (j * 48) zs (table l 5 xs) = ap (λ (t : List (List ℕ)). getD t 5 []) ts in
-    let lent : expiryRows 48 n (take k (drop a xs)) ≡ drop j (expiryRows 48 m (table l 5 xs)) = (λ i. expiryRows 48 n (take (ek i) (drop (eb i) xs))) ∙ rows-lent l m j n xs hm hj (fit .long) in
     record {
       rows =
           ap (expiryRows 48 m) t5 ∙ rows-back l m j n xs hm hj (fit .long) zs ln
-          ∙ ap (λ (r : List ExpiryRow). take j (expiryRows 48 m (table l 5 xs)) ++ r) (e ∙ ap (map (shiftedRow up down)) lent);
+          ∙ ap (λ (r : List ExpiryRow). take j (expiryRows 48 m (table l 5 xs)) ++ r) (e ∙ ap (map (shiftedRow up down)) (lent-rows h xs j n a k fit hj ea ek));
       tables = ts ∙ ap (set (tables l xs) 5) (sym t5);
     }
+
+-- where row j starts, as it is read
+module _ (h : Head) (xs : List ℕ) (fit : Fit h xs) (j : ℕ) where
+  pub first-read : (a v : ℕ) → j < h .live .«cached_rows» → a ≡ place (limitsOf (h .limits)) 5 → v ≡ leNat (part (a + 48 * j + 40) 4 xs)
+      → v ≡ firstStart (h .live .contents) (drop j (expiryRows 48 (h .live .«cached_rows») (table (limitsOf (h .limits)) 5 xs)))
+  first-read a v hj ea ev =
+      let l : Limits = limitsOf (h .limits) in
+      let m : ℕ = h .live .«cached_rows» in
+      let x : List ℕ = table l 5 xs in
+      ev ∙ ap (λ (b : ℕ). leNat (part (b + 48 * j + 40) 4 xs)) ea
+      ∙ sym (start-in l m xs (omega (arith, fit .within .cachedRows)) j hj)
+      ∙ sym (first-drop (h .live .contents) j (expiryRows 48 m x) (omega (arith, length-expiryRows 48 m x)))
+
+  pub first-past : h .live .«cached_rows» ≤ j → h .live .contents ≡ firstStart (h .live .contents) (drop j (expiryRows 48 (h .live .«cached_rows») (table (limitsOf (h .limits)) 5 xs)))
+  first-past hj =
+      let m : ℕ = h .live .«cached_rows» in
+      let x : List ℕ = table (limitsOf (h .limits)) 5 xs in
+      sym (first-none (h .live .contents) j (expiryRows 48 m x) (omega (arith, length-expiryRows 48 m x)))

@@ -3,3 +3,4 @@ pub mod Chains
 pub mod Contents
 pub mod Shifts
 pub mod Closing
+pub mod Firsts

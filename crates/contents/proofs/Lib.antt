@@ -4,3 +4,4 @@ pub mod Contents
 pub mod Shifts
 pub mod Closing
 pub mod Firsts
+pub mod Resizing

@@ -5,3 +5,4 @@ pub mod Shifts
 pub mod Closing
 pub mod Firsts
 pub mod Resizing
+pub mod Setting

@@ -51,7 +51,7 @@ sum-put f (suc i) x d (y ∷ m) h = omega (arith, sum-put f i x d m (omega arith
 same-row : (xs ys : List ExpiryRow) → map expiryOf ys ≡ map expiryOf xs → (q : ℕ) → expiryOf (rowAt ys q) ≡ expiryOf (rowAt xs q)
 same-row xs ys e q = sym (List·getD-map expiryOf ys q noRow) ∙ ap (λ (l : List Expiry). getD l q noExpiry) e ∙ List·getD-map expiryOf xs q noRow
 
-noEntry : Entry (Timed Cached)
+abbrev pub noEntry : Entry (Timed Cached)
 noEntry = entry 0 (record { expires = 0; value = record { content = []; round = 0 } })
 
 -- entry i, which names row p, has another content, and the others have theirs

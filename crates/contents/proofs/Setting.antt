@@ -13,7 +13,7 @@ use Rattle.lists.specs.Base.{sum, ascending}
 use Rattle.lists.specs.Map.{Map, Entry, entry, keys, lookup, insert}
 use Rattle.rows.specs.Part.{part, put}
 use Rattle.rows.specs.Digits.{leNat, leBytes}
-use Rattle.rows.specs.Sorted.{Ascending, Here}
+use Rattle.rows.specs.Sorted.{Ascending, Here, Between}
 use Rattle.rows.proofs.Parts.{length-part}
 use Rattle.rows.proofs.Digits.{length-leBytes}
 use Rattle.refs.specs.Refs.{Ref, ref, refs, places, Below}
@@ -23,7 +23,7 @@ use Rattle.time_cache.specs.Tables.{ExpiryRow, expiryRows, rowAt, noRow, named,
 use Rattle.time_cache.specs.Steps.{refAt}
 use Rattle.time_cache.proofs.Orders.{up-of}
 use Rattle.time_cache.proofs.ExpiryLaws.{length-expiryRows}
-use Rattle.time_cache.proofs.MapPlaces.{insert-here, lookup-here}
+use Rattle.time_cache.proofs.MapPlaces.{insert-here, lookup-here, lookup-between}
 use Rattle.time_cache.proofs.TableLaws.{keys-named}
 use Rattle.time_cache.proofs.WriteLaws.{rest-stored}
 use Rattle.protocol.specs.State.{Limits, Cached, withCache}
@@ -299,3 +299,11 @@ module _ (h : Head) (xs content : List ℕ) (id i : ℕ) (sound : Sound h xs) (o
             (subst (λ (r : List ExpiryRow). Chain 0 r e) (sym rows-now) (chain-then store content rows uc p chained hp wide room us sm e (omega (arith, ends))))
             used;
       })
+
+-- a message that is not cached
+pub refill-none : (h : Head) (xs content : List ℕ) (id i : ℕ) → Sound h xs → Between (keys (stateOf h xs .cache .entries)) id i → Goes (refilled id content) h xs h xs
+unfolding get valueOf refillWith
+refill-none h xs content id i sound b = record {
+  state = sym (ap (λ (o : Option (Timed Cached)). withCache (refillWith id content (valueOf o) (stateOf h xs .cache)) (stateOf h xs)) (lookup-between id i (stateOf h xs .cache .entries) b));
+  sound = sound;
+}

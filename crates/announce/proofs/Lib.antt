@@ -1,0 +1,5 @@
+pub mod Turns
+pub mod KeepLaws
+pub mod MoveLaws
+pub mod CountLaws
+pub mod ActionLaws

@@ -1,0 +1,3 @@
+pub mod Guarantee
+pub mod HoldsLaws
+pub mod DecidedLaws

@@ -1,0 +1,41 @@
+// The actions that schedule a timer by a flag and a setting alone.
+use block::head::Head;
+use postcard::message::Timer;
+ghost use Rattle.lists.specs.Base.{concatMap};
+ghost use Rattle.postcard.specs.Message.{actionBytes};
+ghost use Rattle.block.specs.View.{stateOf};
+ghost use Rattle.decide.specs.Settled.{settledActions};
+ghost use Rattle.decide.specs.ActionsAfter.{evictActions, dispatchAction};
+ghost use Rattle.output.specs.Written.{Told, Written};
+
+// "schedules dispatch unless flagged".
+pub fn dispatch_action(h: Head, block: &[u8], out: &mut [u8], at: usize) -> usize
+    requires { ⌜ Told (concatMap actionBytes (dispatchAction (stateOf h (now block)))) at ⌝ }
+    ensures { λ r. ⌜ Written (concatMap actionBytes (dispatchAction (stateOf h (now (block .entry))))) (now (out .entry)) at (now (out .exit)) r ⌝ }
+{
+    if h.live.dispatch_timer_scheduled {
+        return at;
+    }
+    let delay = h.settings.config.dispatch_timeout;
+    output::schedule(out, at, delay, Timer::DispatchLazyPush)
+}
+
+// `on_evict_cache_timer`: "then schedules itself".
+pub fn evict_actions(h: Head, block: &[u8], out: &mut [u8], at: usize) -> usize
+    requires { ⌜ Told (concatMap actionBytes (evictActions (stateOf h (now block)))) at ⌝ }
+    ensures { λ r. ⌜ Written (concatMap actionBytes (evictActions (stateOf h (now (block .entry))))) (now (out .entry)) at (now (out .exit)) r ⌝ }
+{
+    let delay = h.settings.config.cache_evict_interval;
+    output::schedule(out, at, delay, Timer::EvictCache)
+}
+
+// "the first other event evicts and schedules EvictCache before anything else".
+pub fn first_event_actions(h: Head, block: &[u8], out: &mut [u8], at: usize) -> usize
+    requires { ⌜ Told (concatMap actionBytes (settledActions (stateOf h (now block)))) at ⌝ }
+    ensures { λ r. ⌜ Written (concatMap actionBytes (settledActions (stateOf h (now (block .entry))))) (now (out .entry)) at (now (out .exit)) r ⌝ }
+{
+    if h.live.init {
+        return at;
+    }
+    evict_actions(h, block, out, at)
+}

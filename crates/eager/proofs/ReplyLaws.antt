@@ -40,7 +40,7 @@ use Rattle.steps.specs.declared.Held.{Held}
 use Rattle.steps.specs.declared.Held.the-variants.{At, Nothing}
 use Rattle.steps.proofs.RoomsLaws.{kth-link}
 use Rattle.eager.specs.Sent.{sentBytes, pushBytes}
-use Rattle.eager.specs.Reply.{heldCached, HeldIn, Replying, Replies, repliedState, replyGains, replyBytes}
+use Rattle.eager.specs.Reply.{heldCached, Replying, Replies, repliedState, replyGains, replyBytes}
 use Rattle.eager.proofs.TargetLaws.{back-held, back-taken}
 use Rattle.eager.proofs.GainLaws.{gains-one, gains-none}
 use Rattle.eager.proofs.BackLaws.{for-one, for-none, recorded-same}

@@ -30,11 +30,6 @@ unfoldable pub heldCached : Held → State → Option Cached
 heldCached (At i) s = some (cachedAt s i)
 heldCached Nothing s = none
 
--- it is there
-abbrev pub HeldIn : Head → Held → Type 0
-HeldIn h (At i) = i < h .live .cached
-HeldIn h Nothing = Unit {0}
-
 -- what every function of a reply asks: links that ascend, and the link
 pub record Replying (h : Head) (block : List ℕ) (l : ℕ) : Type 0 where
   pub sound : Sound h block

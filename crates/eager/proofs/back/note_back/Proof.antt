@@ -27,7 +27,7 @@ abbrev μ-loop : tie.MeasureT-loop
 
 few : (s : tie.Start Inv-loop μ-loop) → s .args .h .live .links ≤ 32
 few s =
-    let f = s .pre .pushing .sound .fit in
+    let f = s .pre .pushing .grafting .sound .fit in
     omega (arith, f .within .links, f .ceilings .N)
 
 wants-note-requires : tie.Need-wants-note-requires Inv-loop μ-loop

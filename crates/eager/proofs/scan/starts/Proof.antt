@@ -30,7 +30,7 @@ back s l =
 
 few : (s : tie.Start Inv-loop μ-loop) → s .args .h .live .links ≤ 32
 few s =
-    let f = s .pre .sound .fit in
+    let f = s .pre .grafting .sound .fit in
     omega (arith, f .within .links, f .ceilings .N)
 
 loop-holds : tie.Need-loop-holds Inv-loop μ-loop

@@ -15,7 +15,7 @@ starts-requires c κs = c .before .pre
 seen-for-requires : tie.Need-seen-for-requires
 seen-for-requires c κs =
     let s = c .before .before in
-    (s .pre .sound, s .pre .up, c .starts .ensures .long)
+    (s .pre .grafting .sound, s .pre .grafting .linksUp, c .starts .ensures .long)
 
 returns : tie.Need-returns
 returns c =

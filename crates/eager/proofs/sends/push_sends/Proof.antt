@@ -58,11 +58,11 @@ is-target-requires : tie.Need-is-target-requires Inv-loop μ-loop
 is-target-requires c κs = (c .before .before .before .before .before .pre .0, c .loop-test .taken)
 
 peer-at-requires : tie.Need-peer-at-requires Inv-loop μ-loop
-peer-at-requires c κs = (c .before .before .before .before .before .before .before .pre .0 .sound .fit, c .before .before .loop-test .taken)
+peer-at-requires c κs = (c .before .before .before .before .before .before .before .pre .0 .grafting .sound .fit, c .before .before .loop-test .taken)
 
 is-taken-requires : tie.Need-is-taken-requires Inv-loop μ-loop
 is-taken-requires c κs =
-    let f = c .before .before .before .before .before .before .before .before .pre .0 .sound .fit in
+    let f = c .before .before .before .before .before .before .before .before .pre .0 .grafting .sound .fit in
     omega (arith, c .before .before .before .loop-test .taken, f .within .links, f .ceilings .N)
 
 send-gossip-requires : tie.Need-send-gossip-requires Inv-loop μ-loop

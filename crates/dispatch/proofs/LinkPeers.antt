@@ -89,22 +89,22 @@ module _ (c : ℕ → Bool) (batch : ℕ → List Ihave) where
   batches-among (k ∷ ks) (q ∷ qs) a b within away ds =
       cases (eqb k q)
       (λ e.
-      let s : k ≡ q = eqb-true k q e in
-      first-batch k (map batchFor ks) ds
-      ∙ batches-among ks qs (ascending-rest k ks a) (ascending-rest q qs b)
-      (λ x m. member-tail x k ks (within x (member-later x q qs m)) (λ z. omega (arith, member-lt q x qs (ascending-above q qs b) m)))
-      (λ x m n. away x (member-later x k ks m) (member-not x q qs (λ z. omega (arith, member-lt k x ks (ascending-above k ks a) m)) n))
-      (addNotes c k (batch k) ds)
-      ∙ ap (λ (x : ℕ). addBatches c (map batchFor qs) (addNotes c x (batch x) ds)) s
-      ∙ sym (first-batch q (map batchFor qs) ds))
+        let s : k ≡ q = eqb-true k q e in
+        first-batch k (map batchFor ks) ds
+        ∙ batches-among ks qs (ascending-rest k ks a) (ascending-rest q qs b)
+        (λ x m. member-tail x k ks (within x (member-later x q qs m)) (λ z. omega (arith, member-lt q x qs (ascending-above q qs b) m)))
+        (λ x m n. away x (member-later x k ks m) (member-not x q qs (λ z. omega (arith, member-lt k x ks (ascending-above k ks a) m)) n))
+        (addNotes c k (batch k) ds)
+        ∙ ap (λ (x : ℕ). addBatches c (map batchFor qs) (addNotes c x (batch x) ds)) s
+        ∙ sym (first-batch q (map batchFor qs) ds))
       (λ e.
-      let n : k ≡ q → ⊥ = eqb-false k q e in
-      let l : k < q = member-lt k q ks (ascending-above k ks a) (member-tail q k ks (within q (member-here q qs)) (λ z. n (sym z))) in
-      skip-empty k (map batchFor ks) ds (away k (member-here k ks) (outside l))
-      ∙ batches-among ks (q ∷ qs) (ascending-rest k ks a) b
-      (λ x m. member-tail x k ks (within x m) (λ z. above l x m z))
-      (λ x m w. away x (member-later x k ks m) w)
-      ds)
+        let n : k ≡ q → ⊥ = eqb-false k q e in
+        let l : k < q = member-lt k q ks (ascending-above k ks a) (member-tail q k ks (within q (member-here q qs)) (λ z. n (sym z))) in
+        skip-empty k (map batchFor ks) ds (away k (member-here k ks) (outside l))
+        ∙ batches-among ks (q ∷ qs) (ascending-rest k ks a) b
+        (λ x m. member-tail x k ks (within x m) (λ z. above l x m z))
+        (λ x m w. away x (member-later x k ks m) w)
+        ds)
     where
       above : k < q → (x : ℕ) → member x (q ∷ qs) ≡ true → x ≡ k → ⊥
       above l x m z =

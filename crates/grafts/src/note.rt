@@ -1,5 +1,4 @@
 // A graft more of a message: "the Graft goes into the grafted entry of its identifier", or a new entry.
-use crate::reads;
 use block::head;
 use block::head::Head;
 use block::hops;
@@ -10,6 +9,7 @@ use rows::id::Id;
 use rows::table;
 use rows::table::Found;
 use rows::word;
+use crate::reads;
 ghost use mathlib.Core.Path.{_≡_};
 ghost use mathlib.Core.List.{_∷_, []};
 ghost use Prim.Native.Nat.{_+_, _≤_, _<_};
@@ -118,14 +118,7 @@ fn graft_anew(h: Head, block: &mut [u8], id: Id, link: usize, round: Round, expi
 
 // The peer of a link is grafted for a message: in the entry of its identifier, where a known round takes the lower, or in a new entry that expires at
 // `expires`. Its time is that of an insert into a time cache.
-pub fn note_graft(
-    h: Head,
-    block: &mut [u8],
-    id: Id,
-    link: usize,
-    round: Round,
-    expires: Millis,
-) -> Head
+pub fn note_graft(h: Head, block: &mut [u8], id: Id, link: usize, round: Round, expires: Millis) -> Head
     requires { ⌜ Grafting h (now block) × (link < h .live .links) × AtMost (h .limits .grafted) (graftNoted (idOf id) link (round .0) (expires .0) (stateOf h (now block)) .grafted) ⌝ }
     ensures { λ r. ⌜ Goes (graftNoted (idOf id) link (round .0) (expires .0)) h (now (block .entry)) r (now (block .exit)) ⌝ }
 {

@@ -154,15 +154,7 @@ pub fn message_step(
 }
 
 // The step of a broadcast: "Size over M: accepted, only a first event's work".
-pub fn broadcast_step(
-    h: Head,
-    block: &[u8],
-    instant: Millis,
-    event: &[u8],
-    start: usize,
-    len: usize,
-    scope: Scope,
-) -> Step
+pub fn broadcast_step(h: Head, block: &[u8], instant: Millis, event: &[u8], start: usize, len: usize, scope: Scope) -> Step
     requires { ⌜ Stands h (now block) × (start + len ≤ length (now event)) ⌝ }
     ensures { λ r. ⌜ Means (now (event .entry)) (instant .0) (stateOf h (now (block .entry))) r (Broadcast (part start len (now (event .entry))) (scopeValue scope)) ⌝ }
 {

@@ -181,3 +181,4 @@ resize-row-spec =
     add-all
     same-length
     returns)
+

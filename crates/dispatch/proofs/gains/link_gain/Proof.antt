@@ -65,3 +65,4 @@ link-gain-spec =
     min-requires
     min-requires-2
     returns)
+

@@ -20,6 +20,7 @@ use borrow.Author.Needs.{needs}
 use Rattle.grafts.proofs.note.enter_graft.Statement.{statement}
 use Rattle.grafts.proofs.note.enter_graft.Tie as tie
 
+
 -- what the insert left
 inserts : (d : tie.After-insert) → Inserts (graftedCache (d .before .before .before .before .args .h)) (idOf (d .before .before .before .before .args .id)) (d .before .before .before .before .args .expires .0) (d .before .before .before .before .args .block .now) (d .insert .result) (d .insert .last .1 .0)
 inserts d =

@@ -14,6 +14,7 @@ use borrow.Author.Needs.{needs}
 use Rattle.grafts.proofs.note.graft_at_entry.Statement.{statement}
 use Rattle.grafts.proofs.note.graft_at_entry.Tie as tie
 
+
 abbrev peers : tie.Start → List ℕ
 peers s = keys (graftsAt (stateOf (s .args .h) (s .args .block .now)) (s .args .i) .peers)
 

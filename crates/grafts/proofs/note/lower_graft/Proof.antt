@@ -19,6 +19,7 @@ use borrow.Author.Needs.{needs}
 use Rattle.grafts.proofs.note.lower_graft.Statement.{statement}
 use Rattle.grafts.proofs.note.lower_graft.Tie as tie
 
+
 -- the peer is one of the peers, at most 32
 there : (s : tie.Start) → s .args .j < length (graftsAt (stateOf (s .args .h) (s .args .block .now)) (s .args .i) .peers)
 there s = omega (arith, s .pre .3 .within, length-map (graftsAt (stateOf (s .args .h) (s .args .block .now)) (s .args .i) .peers) (λ (e : Entry ℕ). e .key))

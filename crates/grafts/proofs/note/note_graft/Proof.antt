@@ -19,6 +19,7 @@ use borrow.Author.Needs.{needs}
 use Rattle.grafts.proofs.note.note_graft.Statement.{statement}
 use Rattle.grafts.proofs.note.note_graft.Tie as tie
 
+
 abbrev state : tie.Start → State
 state s = stateOf (s .args .h) (s .args .block .now)
 

@@ -3,15 +3,15 @@
 use Prim.Native.Nat.{ℕ, _+_, _-_, _≤_, _<_}
 use mathlib.Core.Path.{_≡_, refl, sym, ap, _∙_, subst}
 use mathlib.Core.Bool.{Bool, true, false, not, _&&_}
-use mathlib.Core.List.{List, [], _∷_, _++_, append-nil}
+use mathlib.Core.List.{List, [], _∷_, _++_}
 use native.Mathlib.Omega.{arith}
 use borrow.Author.Tests.{leb-true, leb-false, lt-ltb, le-ltb}
 use lib.Dec.{eqb, ltb, leb}
 use lib.ListN.{length, getD, take, drop, length-append, length-map}
-use Rattle.lists.specs.Base.{if_then_else_, concatMap}
+use Rattle.lists.specs.Base.{concatMap}
 use Rattle.lists.specs.Map.{Entry, keys}
 use Rattle.lists.proofs.Branches.{if-on, if-both, if-same}
-use Rattle.lists.proofs.MapLaws.{cases, and-right}
+use Rattle.lists.proofs.MapLaws.{and-right}
 use Rattle.rows.specs.Part.{part}
 use Rattle.rows.specs.Ident.{idOf}
 use Rattle.rows.specs.declared.id.Id.{Id}

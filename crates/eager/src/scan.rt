@@ -1,8 +1,8 @@
 // Which of the links that hand a push back get a note, found in one pass over the record.
-use block::head::Head;
-use block::note;
 use crate::target;
 use crate::target::Push;
+use block::head::Head;
+use block::note;
 use rows::id;
 use rows::id::Id;
 ghost use mathlib.Core.Path.{_≡_};

@@ -96,7 +96,7 @@ loop-again c =
       omega (arith, d .before .loop-test .taken),
       length-set (l .marks) (x d) 256 ∙ l .inv .1,
       seen-set (a .h) (a .block .now) (s d .pre .1) (idOf (a .id)) (a .from) (l .marks) (i d) (x d) (here d) (d .dropped-link-at .ensures .below) (d .dropped-link-at .ensures .peer) (l .inv .2) 256
-      (omega (arith, few (s d), d .dropped-link-at .ensures .below, l .inv .1)) (sym (seen-same (peerAt (st d) (x d)) (idOf (a .id)) (e d) m (f .before .if1 .taken) (is-for d) t)),
+          (omega (arith, few (s d), d .dropped-link-at .ensures .below, l .inv .1)) (sym (seen-same (peerAt (st d) (x d)) (idOf (a .id)) (e d) m (f .before .if1 .taken) (is-for d) t)),
     )
 
 add-marks : tie.Need-add-marks Inv-loop μ-loop
@@ -122,7 +122,7 @@ loop-again-2 c =
       omega (arith, d .before .loop-test .taken),
       length-set (l .marks) (x d) (m + 1) ∙ l .inv .1,
       seen-set (a .h) (a .block .now) (s d .pre .1) (idOf (a .id)) (a .from) (l .marks) (i d) (x d) (here d) (d .dropped-link-at .ensures .below) (d .dropped-link-at .ensures .peer) (l .inv .2) (m + 1)
-      (omega (arith, few (s d), d .dropped-link-at .ensures .below, l .inv .1)) (sym (seen-one (peerAt (st d) (x d)) (idOf (a .id)) (e d) m (f .before .if1 .taken) (is-for d) t)),
+          (omega (arith, few (s d), d .dropped-link-at .ensures .below, l .inv .1)) (sym (seen-one (peerAt (st d) (x d)) (idOf (a .id)) (e d) m (f .before .if1 .taken) (is-for d) t)),
     )
 
 loop-less-3 : tie.Need-loop-less-3 Inv-loop μ-loop

@@ -6,3 +6,4 @@ pub mod LinkLoop
 pub mod ReadPass
 pub mod GainLaws
 pub mod GainLoop
+pub mod SendLaws

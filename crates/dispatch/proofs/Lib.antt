@@ -7,3 +7,4 @@ pub mod ReadPass
 pub mod GainLaws
 pub mod GainLoop
 pub mod SendLaws
+pub mod ActionLoop

@@ -215,13 +215,13 @@ chunk-first k (suc fuel) (h ∷ hs) a b = ap (λ (n : ℕ). take k (h ∷ hs) �
     plain : (n : ℕ) → n ≡ suc n - 1
     plain n = omega arith
 
-chunk-last : (k fuel : ℕ) (hs : List Ihave) → length hs ≡ 0 → chunks fuel k hs ≡ []
+pub chunk-last : (k fuel : ℕ) (hs : List Ihave) → length hs ≡ 0 → chunks fuel k hs ≡ []
 unfolding chunks
 chunk-last k zero hs e = refl
 chunk-last k (suc fuel) [] e = refl
 chunk-last k (suc fuel) (h ∷ hs) e = absurd (omega arith)
 
-numbered-none : (p n : ℕ) → numbered p n [] ≡ []
+pub numbered-none : (p n : ℕ) → numbered p n [] ≡ []
 unfolding numbered
 numbered-none p n = refl
 

@@ -1,4 +1,5 @@
 // The actions of a dispatch, read from the block as it stands before a first event evicts.
+use crate::gains;
 use block::head::Head;
 use block::links;
 use block::note;
@@ -6,7 +7,7 @@ use postcard::message::Timer;
 use postcard::size;
 use postcard::units::Millis;
 ghost use mathlib.Core.Path.{_≡_};
-ghost use Prim.Native.Nat.{_≤_, _<_, min};
+ghost use Prim.Native.Nat.{_≤_, _<_};
 ghost use lib.ListN.{length, take};
 ghost use Rattle.lists.specs.Base.{concatMap};
 ghost use Rattle.postcard.specs.Message.{ihaveBytes, actionBytes};
@@ -39,16 +40,6 @@ pub struct Sending {
 pub struct Sends {
     pub at: usize,
     pub flag: bool,
-}
-
-// The smaller of two numbers.
-fn min(a: usize, b: usize) -> usize
-    ensures { λ r. ⌜ r ≡ min a b ⌝ }
-{
-    if a < b {
-        return a;
-    }
-    b
 }
 
 // How many identifiers are queued for a link: one pass over the queue's column of link numbers.
@@ -145,8 +136,8 @@ fn send_chunk(
     }
 }
 
-// The IHaves to one link, each of at most k entries; its room is `room`. Its time is that of two passes over the queue, and of a look-up in the message cache for
-// each entry.
+// The IHaves to one link, "of at most (M − 6) / 35" entries each. Its time is that of two passes over the queue, and of a look-up in the message cache for each
+// entry that is queued for the link.
 fn send_link(h: Head, block: &[u8], instant: Millis, rooms: &[u64; 34], link: usize, flagged: bool, out: &mut [u8], from: usize) -> Sends
     requires { ⌜ Stands h (now block) × (link < h .live .links) × Told (concatMap actionBytes (pieceActions (heldThen (instant .0) (stateOf h (now block))) (roomsIn (stateOf h (now block)) (now rooms)) flagged (peerPieces (perMessage (stateOf h (now block) .settings .maxMessageSize)) (stateOf h (now block) .queue) (peerAt (stateOf h (now block)) link)))) from ⌝ }
     ensures { λ r. ⌜ PeerSent (heldThen (instant .0) (stateOf h (now (block .entry)))) (roomsIn (stateOf h (now (block .entry))) (now (rooms .entry))) (peerAt (stateOf h (now (block .entry))) link) (perMessage (stateOf h (now (block .entry)) .settings .maxMessageSize)) (stateOf h (now (block .entry)) .queue) flagged (now (out .entry)) from (now (out .exit)) r ⌝ }
@@ -160,7 +151,7 @@ fn send_link(h: Head, block: &[u8], instant: Millis, rooms: &[u64; 34], link: us
     let mut left = total;
     let mut nth: u64 = 1;
     while 0 < left {
-        let count = min(k, left);
+        let count = gains::min(k, left);
         let taken = nth <= room;
         let s = send_chunk(h, block, instant, link, row, count, taken, flag, out, at);
         at = s.at;
@@ -172,7 +163,7 @@ fn send_link(h: Head, block: &[u8], instant: Millis, rooms: &[u64; 34], link: us
     Sends { at, flag }
 }
 
-// `on_dispatch_timer`: the actions, links in order.
+// `on_dispatch_timer`: the actions, links in order. Its time is that of `send_link` for each link.
 pub fn dispatch_actions(h: Head, block: &[u8], instant: Millis, rooms: &[u64; 34], out: &mut [u8], from: usize) -> usize
     requires { ⌜ Stands h (now block) × Told (concatMap actionBytes (dispatchActions (roomsIn (stateOf h (now block)) (now rooms)) (settled (instant .0) (stateOf h (now block))))) from ⌝ }
     ensures { λ r. ⌜ Written (concatMap actionBytes (dispatchActions (roomsIn (stateOf h (now (block .entry))) (now (rooms .entry))) (settled (instant .0) (stateOf h (now (block .entry)))))) (now (out .entry)) from (now (out .exit)) r ⌝ }

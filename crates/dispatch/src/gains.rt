@@ -20,7 +20,7 @@ ghost use Rattle.steps.specs.Stands.{Stands};
 ghost use Rattle.dispatch.specs.Gains.{handedTo, among, fresh, dispatchGains};
 
 // The smaller of two numbers.
-fn min(a: usize, b: usize) -> usize
+pub fn min(a: usize, b: usize) -> usize
     ensures { λ r. ⌜ r ≡ min a b ⌝ }
 {
     if a < b {
@@ -105,7 +105,7 @@ fn count_fresh(h: Head, block: &[u8], instant: Millis, link: usize, skip: usize)
     found
 }
 
-// How many of them are added, where `extra` were added for the links before: "unless the peer has 256 or all have 4,096".
+// How many of them are added, where `extra` were added for the links before: "unless the peer has 256 or all have 4,096". Of the scan only the count is used.
 fn link_gain(h: Head, block: &[u8], instant: Millis, link: usize, skip: usize, extra: usize) -> usize
     requires { ⌜ Stands h (now block) × (link < h .live .links) × (h .live .dropped + extra ≤ 4096) ⌝ }
     ensures { λ r. ⌜ r ≡ peerGain (cachedIn (settled (instant .0) (stateOf h (now (block .entry))) .cache)) (peerAt (stateOf h (now (block .entry))) link) (stateOf h (now (block .entry)) .dropped) extra (drop skip (queuedFor (peerAt (stateOf h (now (block .entry))) link) (stateOf h (now (block .entry)) .queue))) ⌝ }

@@ -100,22 +100,22 @@ module _ (c : ℕ → Bool) (batch : ℕ → List Ihave) where
   batches-among (k ∷ ks) (q ∷ qs) a b within away ds =
       cases (eqb k q)
       (λ e.
-        let s : k ≡ q = eqb-true k q e in
-        first-batch k (map batchFor ks) ds
-        ∙ batches-among ks qs (ascending-rest k ks a) (ascending-rest q qs b)
-        (λ x m. member-tail x k ks (within x (member-later x q qs m)) (λ z. omega (arith, member-lt q x qs (ascending-above q qs b) m)))
-        (λ x m n. away x (member-later x k ks m) (member-not x q qs (λ z. omega (arith, member-lt k x ks (ascending-above k ks a) m)) n))
-        (addNotes c k (batch k) ds)
-        ∙ ap (λ (x : ℕ). addBatches c (map batchFor qs) (addNotes c x (batch x) ds)) s
-        ∙ sym (first-batch q (map batchFor qs) ds))
+      let s : k ≡ q = eqb-true k q e in
+      first-batch k (map batchFor ks) ds
+      ∙ batches-among ks qs (ascending-rest k ks a) (ascending-rest q qs b)
+      (λ x m. member-tail x k ks (within x (member-later x q qs m)) (λ z. omega (arith, member-lt q x qs (ascending-above q qs b) m)))
+      (λ x m n. away x (member-later x k ks m) (member-not x q qs (λ z. omega (arith, member-lt k x ks (ascending-above k ks a) m)) n))
+      (addNotes c k (batch k) ds)
+      ∙ ap (λ (x : ℕ). addBatches c (map batchFor qs) (addNotes c x (batch x) ds)) s
+      ∙ sym (first-batch q (map batchFor qs) ds))
       (λ e.
-        let n : k ≡ q → ⊥ = eqb-false k q e in
-        let l : k < q = member-lt k q ks (ascending-above k ks a) (member-tail q k ks (within q (member-here q qs)) (λ z. n (sym z))) in
-        skip-empty k (map batchFor ks) ds (away k (member-here k ks) (outside k q qs b l))
-        ∙ batches-among ks (q ∷ qs) (ascending-rest k ks a) b
-        (λ x m. member-tail x k ks (within x m) (λ z. above k q qs b l x m z))
-        (λ x m w. away x (member-later x k ks m) w)
-        ds)
+      let n : k ≡ q → ⊥ = eqb-false k q e in
+      let l : k < q = member-lt k q ks (ascending-above k ks a) (member-tail q k ks (within q (member-here q qs)) (λ z. n (sym z))) in
+      skip-empty k (map batchFor ks) ds (away k (member-here k ks) (outside k q qs b l))
+      ∙ batches-among ks (q ∷ qs) (ascending-rest k ks a) b
+      (λ x m. member-tail x k ks (within x m) (λ z. above k q qs b l x m z))
+      (λ x m w. away x (member-later x k ks m) w)
+      ds)
 
 -- the IHaves to more peers, where there are none to the others
 
@@ -138,20 +138,20 @@ module _ (k : ℕ) (ns : List Note) where
   pieces-among (j ∷ ks) (q ∷ qs) a b within away =
       cases (eqb j q)
       (λ e.
-        let s : j ≡ q = eqb-true j q e in
-        first-pieces j ks
-        ∙ ap (λ (xs : List Piece). peerPieces k ns j ++ xs) (pieces-among ks qs (ascending-rest j ks a) (ascending-rest q qs b)
-        (λ x m. member-tail x j ks (within x (member-later x q qs m)) (λ z. omega (arith, member-lt q x qs (ascending-above q qs b) m)))
-        (λ x m n. away x (member-later x j ks m) (member-not x q qs (λ z. omega (arith, member-lt j x ks (ascending-above j ks a) m)) n)))
-        ∙ ap (λ (x : ℕ). peerPieces k ns x ++ pieces qs k ns) s
-        ∙ sym (first-pieces q qs))
+      let s : j ≡ q = eqb-true j q e in
+      first-pieces j ks
+      ∙ ap (λ (xs : List Piece). peerPieces k ns j ++ xs) (pieces-among ks qs (ascending-rest j ks a) (ascending-rest q qs b)
+      (λ x m. member-tail x j ks (within x (member-later x q qs m)) (λ z. omega (arith, member-lt q x qs (ascending-above q qs b) m)))
+      (λ x m n. away x (member-later x j ks m) (member-not x q qs (λ z. omega (arith, member-lt j x ks (ascending-above j ks a) m)) n)))
+      ∙ ap (λ (x : ℕ). peerPieces k ns x ++ pieces qs k ns) s
+      ∙ sym (first-pieces q qs))
       (λ e.
-        let n : j ≡ q → ⊥ = eqb-false j q e in
-        let l : j < q = member-lt j q ks (ascending-above j ks a) (member-tail q j ks (within q (member-here q qs)) (λ z. n (sym z))) in
-        skip-pieces j ks (away j (member-here j ks) (outside j q qs b l))
-        ∙ pieces-among ks (q ∷ qs) (ascending-rest j ks a) b
-        (λ x m. member-tail x j ks (within x m) (λ z. above j q qs b l x m z))
-        (λ x m w. away x (member-later x j ks m) w))
+      let n : j ≡ q → ⊥ = eqb-false j q e in
+      let l : j < q = member-lt j q ks (ascending-above j ks a) (member-tail q j ks (within q (member-here q qs)) (λ z. n (sym z))) in
+      skip-pieces j ks (away j (member-here j ks) (outside j q qs b l))
+      ∙ pieces-among ks (q ∷ qs) (ascending-rest j ks a) b
+      (λ x m. member-tail x j ks (within x m) (λ z. above j q qs b l x m z))
+      (λ x m w. away x (member-later x j ks m) w))
 
 -- who has nothing queued
 

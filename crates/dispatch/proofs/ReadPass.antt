@@ -57,8 +57,8 @@ module _ (skip k : ℕ) (hs : List Ihave) where
       cases (leb skip (length hs))
       (λ t. ap (among k) (drop-append-le skip hs rest (leb-true skip (length hs) t)) ∙ any-left (λ h. eqb (h .id) k) (drop skip hs) rest e)
       (λ t.
-        let none : among k (drop skip hs) ≡ false = ap (among k) (drop-of-length-le hs (below t)) ∙ among-nothing k in
-        true≢ (sym none ∙ e))
+      let none : among k (drop skip hs) ≡ false = ap (among k) (drop-of-length-le hs (below t)) ∙ among-nothing k in
+      true≢ (sym none ∙ e))
     where
       below : leb skip (length hs) ≡ false → length hs ≤ skip
       below t = omega (arith, leb-false skip (length hs) t)

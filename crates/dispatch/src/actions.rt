@@ -62,7 +62,16 @@ fn count_queued(h: Head, block: &[u8], link: usize) -> usize
 }
 
 // Writes the next `count` entries that are queued for a link, from entry `row` of the queue on.
-fn put_entries(h: Head, block: &[u8], instant: Millis, link: usize, row: usize, count: usize, out: &mut [u8], from: usize) -> Chunk
+fn put_entries(
+    h: Head,
+    block: &[u8],
+    instant: Millis,
+    link: usize,
+    row: usize,
+    count: usize,
+    out: &mut [u8],
+    from: usize,
+) -> Chunk
     requires { ⌜ Stands h (now block) × (link < h .live .links) × (row ≤ h .live .queued) × (count ≤ length (toSend link row (stateOf h (now block)))) × Told (concatMap ihaveBytes (take count (toSend link row (stateOf h (now block))))) from ⌝ }
     ensures { λ r. ⌜ EntriesPut (heldThen (instant .0) (stateOf h (now (block .entry)))) (peerAt (stateOf h (now (block .entry))) link) (stateOf h (now (block .entry)) .queue) (toSend link row (stateOf h (now (block .entry)))) count (now (out .entry)) from (now (out .exit)) r ⌝ }
 {
@@ -138,7 +147,16 @@ fn send_chunk(
 
 // The IHaves to one link, "of at most (M − 6) / 35" entries each. Its time is that of two passes over the queue, and of a look-up in the message cache for each
 // entry that is queued for the link.
-fn send_link(h: Head, block: &[u8], instant: Millis, rooms: &[u64; 34], link: usize, flagged: bool, out: &mut [u8], from: usize) -> Sends
+fn send_link(
+    h: Head,
+    block: &[u8],
+    instant: Millis,
+    rooms: &[u64; 34],
+    link: usize,
+    flagged: bool,
+    out: &mut [u8],
+    from: usize,
+) -> Sends
     requires { ⌜ Stands h (now block) × (link < h .live .links) × Told (concatMap actionBytes (pieceActions (heldThen (instant .0) (stateOf h (now block))) (roomsIn (stateOf h (now block)) (now rooms)) flagged (peerPieces (perMessage (stateOf h (now block) .settings .maxMessageSize)) (stateOf h (now block) .queue) (peerAt (stateOf h (now block)) link)))) from ⌝ }
     ensures { λ r. ⌜ PeerSent (heldThen (instant .0) (stateOf h (now (block .entry)))) (roomsIn (stateOf h (now (block .entry))) (now (rooms .entry))) (peerAt (stateOf h (now (block .entry))) link) (perMessage (stateOf h (now (block .entry)) .settings .maxMessageSize)) (stateOf h (now (block .entry)) .queue) flagged (now (out .entry)) from (now (out .exit)) r ⌝ }
 {
@@ -164,7 +182,14 @@ fn send_link(h: Head, block: &[u8], instant: Millis, rooms: &[u64; 34], link: us
 }
 
 // `on_dispatch_timer`: the actions, links in order. Its time is that of `send_link` for each link.
-pub fn dispatch_actions(h: Head, block: &[u8], instant: Millis, rooms: &[u64; 34], out: &mut [u8], from: usize) -> usize
+pub fn dispatch_actions(
+    h: Head,
+    block: &[u8],
+    instant: Millis,
+    rooms: &[u64; 34],
+    out: &mut [u8],
+    from: usize,
+) -> usize
     requires { ⌜ Stands h (now block) × Told (concatMap actionBytes (dispatchActions (roomsIn (stateOf h (now block)) (now rooms)) (settled (instant .0) (stateOf h (now block))))) from ⌝ }
     ensures { λ r. ⌜ Written (concatMap actionBytes (dispatchActions (roomsIn (stateOf h (now (block .entry))) (now (rooms .entry))) (settled (instant .0) (stateOf h (now (block .entry)))))) (now (out .entry)) from (now (out .exit)) r ⌝ }
 {

@@ -109,4 +109,3 @@ count-queued-spec =
     loop-less-2
     loop-again-2
     returns)
-

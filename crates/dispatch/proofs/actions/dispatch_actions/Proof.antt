@@ -27,7 +27,7 @@ abbrev Inv-loop : tie.InvT-loop
 Inv-loop h block instant rooms out₀ from n at₀ flag₀ l₀ out at flag l =
     (l ≤ n) × (length out ≡ length out₀)
     × Going (heldThen (instant .0) (stateOf h block)) (roomsIn (stateOf h block) rooms) (perMessage (stateOf h block .settings .maxMessageSize)) (stateOf h block .queue)
-        (concatMap actionBytes (dispatchActions (roomsIn (stateOf h block) rooms) (settled (instant .0) (stateOf h block)))) out₀ from out at (drop l (keys (stateOf h block .links))) flag
+    (concatMap actionBytes (dispatchActions (roomsIn (stateOf h block) rooms) (settled (instant .0) (stateOf h block)))) out₀ from out at (drop l (keys (stateOf h block .links))) flag
 
 abbrev μ-loop : tie.MeasureT-loop
 μ-loop h block instant rooms out₀ from n at₀ flag₀ l₀ out at flag l = n - l

@@ -23,7 +23,7 @@ abbrev Inv-loop : tie.InvT-loop
 Inv-loop h block instant link row count out₀ from at₀ cached₀ left₀ i₀ out at cached left i =
     (i ≤ h .live .queued) × (length out ≡ length out₀)
     × Entering (heldThen (instant .0) (stateOf h block)) (concatMap ihaveBytes (take count (toSend link row (stateOf h block)))) (someHeld (heldThen (instant .0) (stateOf h block)) (take count (toSend link row (stateOf h block))))
-        (drop count (toSend link row (stateOf h block))) out₀ from out at (toSend link i (stateOf h block)) left cached
+    (drop count (toSend link row (stateOf h block))) out₀ from out at (toSend link i (stateOf h block)) left cached
 
 abbrev μ-loop : tie.MeasureT-loop
 μ-loop h block instant link row count out₀ from at₀ cached₀ left₀ i₀ out at cached left i = h .live .queued - i
@@ -90,7 +90,7 @@ module _ (q : tie.After-queued-at Inv-loop μ-loop) where
       (drop (s .args .count) (toSend (s .args .link) (s .args .row) st)) (s .args .out .now) (s .args .from) (d .before .loop .out) (d .before .loop .at) (here ∷ after) left (d .before .loop .cached)
   entering =
       subst (λ (hs : List Ihave). Entering (heldThen (s .args .instant .0) st) (concatMap ihaveBytes (take (s .args .count) (toSend (s .args .link) (s .args .row) st))) (someHeld (heldThen (s .args .instant .0) st) (take (s .args .count) (toSend (s .args .link) (s .args .row) st)))
-        (drop (s .args .count) (toSend (s .args .link) (s .args .row) st)) (s .args .out .now) (s .args .from) (d .before .loop .out) (d .before .loop .at) hs left (d .before .loop .cached))
+      (drop (s .args .count) (toSend (s .args .link) (s .args .row) st)) (s .args .out .now) (s .args .from) (d .before .loop .out) (d .before .loop .at) hs left (d .before .loop .cached))
       (send-mine (s .args .link) (s .args .h) (s .args .block .now) (s .pre .0) i (stands-at d) (q .before .before .queued-link-at .result) (q .before .before .queued-link-at .ensures) (q .before .if1 .taken)
       ∙ ap (λ (y : Ihave). y ∷ after) (heard-note (s .args .link) (s .args .h) (s .args .block .now) (s .pre .0) i (stands-at d) (q .queued-at .result) (q .queued-at .ensures)))
       (d .before .loop .inv .2)
@@ -139,7 +139,7 @@ loop-again-3 c =
       omega (arith, stands-at e),
       e .before .loop .inv .1,
       subst (λ (hs : List Ihave). Entering (heldThen (a .instant .0) u) (concatMap ihaveBytes (take (a .count) (toSend (a .link) (a .row) u))) (someHeld (heldThen (a .instant .0) u) (take (a .count) (toSend (a .link) (a .row) u)))
-            (drop (a .count) (toSend (a .link) (a .row) u)) (a .out .now) (a .from) (e .before .loop .out) (e .before .loop .at) hs (e .before .loop .left) (e .before .loop .cached))
+          (drop (a .count) (toSend (a .link) (a .row) u)) (a .out .now) (a .from) (e .before .loop .out) (e .before .loop .at) hs (e .before .loop .left) (e .before .loop .cached))
           (send-other (a .link) (a .h) (a .block .now) (t .pre .0) (e .before .loop .i) (stands-at e) (c .before .queued-link-at .result) (c .before .queued-link-at .ensures) (t .pre .1) (c .if1 .left))
           (e .before .loop .inv .2),
     )

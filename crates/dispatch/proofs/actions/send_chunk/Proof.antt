@@ -155,4 +155,3 @@ send-chunk-spec =
     returns-3
     same-length-4
     returns-4)
-

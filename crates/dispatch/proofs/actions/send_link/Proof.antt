@@ -33,9 +33,9 @@ abbrev Inv-loop : tie.InvT-loop
 Inv-loop h block instant rooms link flagged out₀ from k room total at₀ flag₀ row₀ left₀ nth₀ out at flag row left nth =
     (left ≡ length (toSend link row (stateOf h block))) × (row ≤ h .live .queued) × (nth + left ≤ total + 1) × (length out ≡ length out₀)
     × Linking (heldThen (instant .0) (stateOf h block)) (roomsIn (stateOf h block) rooms) (peerAt (stateOf h block) link) (perMessage (stateOf h block .settings .maxMessageSize))
-        (concatMap actionBytes (pieceActions (heldThen (instant .0) (stateOf h block)) (roomsIn (stateOf h block) rooms) flagged (peerPieces (perMessage (stateOf h block .settings .maxMessageSize)) (stateOf h block .queue) (peerAt (stateOf h block) link))))
-        (flagAfterAll (heldThen (instant .0) (stateOf h block)) (roomsIn (stateOf h block) rooms) flagged (peerPieces (perMessage (stateOf h block .settings .maxMessageSize)) (stateOf h block .queue) (peerAt (stateOf h block) link)))
-        out₀ from out at (toSend link row (stateOf h block)) nth flag
+    (concatMap actionBytes (pieceActions (heldThen (instant .0) (stateOf h block)) (roomsIn (stateOf h block) rooms) flagged (peerPieces (perMessage (stateOf h block .settings .maxMessageSize)) (stateOf h block .queue) (peerAt (stateOf h block) link))))
+    (flagAfterAll (heldThen (instant .0) (stateOf h block)) (roomsIn (stateOf h block) rooms) flagged (peerPieces (perMessage (stateOf h block .settings .maxMessageSize)) (stateOf h block .queue) (peerAt (stateOf h block) link)))
+    out₀ from out at (toSend link row (stateOf h block)) nth flag
 
 abbrev μ-loop : tie.MeasureT-loop
 μ-loop h block instant rooms link flagged out₀ from k room total at₀ flag₀ row₀ left₀ nth₀ out at flag row left nth = left

@@ -1,0 +1,8 @@
+pub mod Sums
+pub mod Chains
+pub mod Contents
+pub mod Shifts
+pub mod Closing
+pub mod Firsts
+pub mod Resizing
+pub mod Setting

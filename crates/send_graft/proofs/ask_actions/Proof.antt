@@ -33,7 +33,7 @@ send-graft-requires c κs =
     let f = c .before .before .before .announcer-at in
     let p = c .before .before .peer-at in
     told-first (actionBytes (Scheduled (a .h .settings .config .«graft_timeout_2» .0) (SendGraft (idOf (a .id)))))
-    (told-as (ask-bytes (a .h) (a .block .now) (s .pre .0) (a .i) (idOf (a .id)) (s .pre .1) (a .rooms .now) (f .result) (f .ensures) (omega (arith, s .good)) (p .result) (p .ensures)) (s .pre .2))
+    (told-as (ask-bytes (a .h) (a .block .now) (s .pre .0) (a .i) (idOf (a .id)) (s .pre .1) (a .rooms .now) (f .result) (f .ensures) (p .result) (p .ensures)) (s .pre .2))
 
 schedule-requires : tie.Need-schedule-requires
 schedule-requires c κs =
@@ -41,7 +41,7 @@ schedule-requires c κs =
     let a = s .args in
     let f = c .before .before .before .before .before .before .before .before .announcer-at in
     let p = c .before .before .before .before .before .before .before .peer-at in
-    told-then (c .before .before .before .before .send-graft .ensures) (told-as (ask-bytes (a .h) (a .block .now) (s .pre .0) (a .i) (idOf (a .id)) (s .pre .1) (a .rooms .now) (f .result) (f .ensures) (omega (arith, s .good)) (p .result) (p .ensures)) (s .pre .2))
+    told-then (c .before .before .before .before .send-graft .ensures) (told-as (ask-bytes (a .h) (a .block .now) (s .pre .0) (a .i) (idOf (a .id)) (s .pre .1) (a .rooms .now) (f .result) (f .ensures) (p .result) (p .ensures)) (s .pre .2))
 
 same-length : tie.Need-same-length
 same-length c = search needs
@@ -52,7 +52,7 @@ returns c =
     let a = s .args in
     let f = c .before .before .before .before .before .before .before .before .before .before .before .announcer-at in
     let p = c .before .before .before .before .before .before .before .before .before .before .peer-at in
-    written-as (sym (ask-bytes (a .h) (a .block .now) (s .pre .0) (a .i) (idOf (a .id)) (s .pre .1) (a .rooms .now) (f .result) (f .ensures) (omega (arith, s .good)) (p .result) (p .ensures))) (written-then (c .before .before .before .before .before .before .before .send-graft .ensures) (c .before .before .schedule .ensures))
+    written-as (sym (ask-bytes (a .h) (a .block .now) (s .pre .0) (a .i) (idOf (a .id)) (s .pre .1) (a .rooms .now) (f .result) (f .ensures) (p .result) (p .ensures))) (written-then (c .before .before .before .before .before .before .before .send-graft .ensures) (c .before .before .schedule .ensures))
 
 pub ask-actions-spec : {M : Type 1} → statement M
 ask-actions-spec =

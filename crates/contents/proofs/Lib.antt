@@ -6,3 +6,5 @@ pub mod Closing
 pub mod Firsts
 pub mod Resizing
 pub mod Setting
+pub mod Inserting
+pub mod Putting

@@ -21,7 +21,7 @@ use Rattle.block.proofs.LinkLaws.{count-links}
 use Rattle.block.proofs.NoteLaws.{count-queue}
 use Rattle.steps.specs.Rooms.{roomsIn}
 use Rattle.steps.proofs.StandsLaws.{links-up}
-use Rattle.steps.proofs.RoomsLaws.{kth-of}
+use Rattle.steps.proofs.RoomsLaws.{kth-link}
 use Rattle.dispatch.specs.Sends.{heldThen, toSend, flagAfterAll}
 use Rattle.dispatch.proofs.QueueLaws.{queued-few}
 use Rattle.dispatch.proofs.LinkLoop.{PerMessage, size-low, per-message}
@@ -143,7 +143,7 @@ module _ (m : tie.After-min Inv-loop μ-loop) where
   taken = leb nth (getD (s .args .rooms .now) (s .args .link) 0)
 
   taken-is : taken ≡ kthTaken nth (p s) (brought s)
-  taken-is = sym (kth-of (st s) (s .args .rooms .now) nth (s .args .link) (links-up (s .args .h) (s .args .block .now) (s .pre .0)) (omega (arith, count-links (s .args .h) (s .args .block .now), s .pre .1)) nth-small)
+  taken-is = sym (kth-link (st s) (s .args .rooms .now) nth (s .args .link) (links-up (s .args .h) (s .args .block .now) (s .pre .0)) (omega (arith, count-links (s .args .h) (s .args .block .now), s .pre .1)) nth-small)
 
 send-chunk-requires : tie.Need-send-chunk-requires Inv-loop μ-loop
 send-chunk-requires c κs =

@@ -1,0 +1,4 @@
+pub mod TargetLaws
+pub mod GainLaws
+pub mod BackLaws
+pub mod SendLaws

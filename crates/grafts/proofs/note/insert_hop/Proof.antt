@@ -68,10 +68,10 @@ mul-move-up-3 c = search needs
 
 move-up-requires-2 : tie.Need-move-up-requires-2
 move-up-requires-2 c κs =
-    let u = c  .before .before .before in
-    let s = c  .before .before .before .before .before .before .before .before in
+    let u = c .before .before .before in
+    let s = c .before .before .before .before .before .before .before .before in
     let a = s .args in
-    (omega arith, omega (arith, s .pre, c  .before .before .before .before .before .count .ensures .0, u .move-up .kept .0, length-set (u .move-up .last .0) (a .at + 1 + a .j) (a .link)))
+    (omega arith, omega (arith, s .pre, c .before .before .before .before .before .count .ensures .0, u .move-up .kept .0, length-set (u .move-up .last .0) (a .at + 1 + a .j) (a .link)))
 
 add-store-le : tie.Need-add-store-le
 add-store-le c = search needs
@@ -87,11 +87,11 @@ cast-store-le c = search needs
 
 store-le-requires : tie.Need-store-le-requires
 store-le-requires c κs =
-    let w = c  .before .before .before .before in
-    let u = c  .before .before .before .before .before .before .before .before in
-    let s = c  .before .before .before .before .before .before .before .before .before .before .before .before .before in
+    let w = c .before .before .before .before in
+    let u = c .before .before .before .before .before .before .before .before in
+    let s = c .before .before .before .before .before .before .before .before .before .before .before .before .before in
     let a = s .args in
-    omega (arith, s .pre, c  .before .before .before .before .before .before .before .before .before .before .count .ensures .0, w .move-up2 .kept .0, u .move-up .kept .0, length-set (u .move-up .last .0) (a .at + 1 + a .j) (a .link))
+    omega (arith, s .pre, c .before .before .before .before .before .before .before .before .before .before .count .ensures .0, w .move-up2 .kept .0, u .move-up .kept .0, length-set (u .move-up .last .0) (a .at + 1 + a .j) (a .link))
 
 add-block-3 : tie.Need-add-block-3
 add-block-3 c = search needs
@@ -101,33 +101,33 @@ cast-block-2 c = search needs
 
 slice-write-block-2 : tie.Need-slice-write-block-2
 slice-write-block-2 c =
-    let w = c  .before .before .before .before .before .before .before in
-    let u = c  .before .before .before .before .before .before .before .before .before .before .before in
-    let s = c  .before .before .before .before .before .before .before .before .before .before .before .before .before .before .before .before in
+    let w = c .before .before .before .before .before .before .before in
+    let u = c .before .before .before .before .before .before .before .before .before .before .before in
+    let s = c .before .before .before .before .before .before .before .before .before .before .before .before .before .before .before .before in
     let a = s .args in
-    omega (arith, s .pre, c  .before .before .store-le .kept .0, w .move-up2 .kept .0, u .move-up .kept .0, length-set (u .move-up .last .0) (a .at + 1 + a .j) (a .link))
+    omega (arith, s .pre, c .before .before .store-le .kept .0, w .move-up2 .kept .0, u .move-up .kept .0, length-set (u .move-up .last .0) (a .at + 1 + a .j) (a .link))
 
 same-length : tie.Need-same-length
 same-length c =
-    let w = c  .before .before .before .before .before .before .before in
-    let u = c  .before .before .before .before .before .before .before .before .before .before .before in
-    let s = c  .before .before .before .before .before .before .before .before .before .before .before .before .before .before .before .before in
+    let w = c .before .before .before .before .before .before .before in
+    let u = c .before .before .before .before .before .before .before .before .before .before .before in
+    let s = c .before .before .before .before .before .before .before .before .before .before .before .before .before .before .before .before in
     let a = s .args in
-    length-set (c  .before .before .store-le .last .0) (a .at) (c  .before .before .before .before .before .before .before .before .before .before .before .before .before .count .result + 1)
-    ∙ c  .before .before .store-le .kept .0
+    length-set (c .before .before .store-le .last .0) (a .at) (c .before .before .before .before .before .before .before .before .before .before .before .before .before .count .result + 1)
+    ∙ c .before .before .store-le .kept .0
     ∙ w .move-up2 .kept .0
     ∙ length-set (u .move-up .last .0) (a .at + 1 + a .j) (a .link)
     ∙ u .move-up .kept .0
 
 returns : tie.Need-returns
 returns c =
-    let w = c  .before .before .before .before .before .before .before in
-    let u = c  .before .before .before .before .before .before .before .before .before .before .before in
-    let k = c  .before .before .before .before .before .before .before .before .before .before .before .before .before .count in
-    let s = c  .before .before .before .before .before .before .before .before .before .before .before .before .before .before .before .before in
+    let w = c .before .before .before .before .before .before .before in
+    let u = c .before .before .before .before .before .before .before .before .before .before .before in
+    let k = c .before .before .before .before .before .before .before .before .before .before .before .before .before .count in
+    let s = c .before .before .before .before .before .before .before .before .before .before .before .before .before .before .before .before in
     let a = s .args in
-    write-insert (a .block .now) (u .move-up .last .0) (w .move-up2 .last .0) (c  .before .before .store-le .last .0) (a .at) (k .result) (a .j) (a .link) (a .round .0)
-    (k .ensures .0) (omega (arith, s .pre .0, k .ensures .0)) (omega (arith, s .pre .1, k .ensures .0)) (s .pre .3) (u .move-up .ensures) (w .move-up2 .ensures) (c  .before .before .store-le .ensures)
+    write-insert (a .block .now) (u .move-up .last .0) (w .move-up2 .last .0) (c .before .before .store-le .last .0) (a .at) (k .result) (a .j) (a .link) (a .round .0)
+    (k .ensures .0) (omega (arith, s .pre .0, k .ensures .0)) (omega (arith, s .pre .1, k .ensures .0)) (s .pre .3) (u .move-up .ensures) (w .move-up2 .ensures) (c .before .before .store-le .ensures)
 
 pub insert-hop-spec : {M : Type 1} → statement M
 insert-hop-spec =

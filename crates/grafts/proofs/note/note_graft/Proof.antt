@@ -30,19 +30,19 @@ abbrev id : tie.Start → ℕ
 id s = idOf (s .args .id)
 
 -- where the search found the identifier, or would have
-here : (c : tie.After-f) → Here (ids (c  .before .before .before .before .before)) (id (c  .before .before .before .before .before)) (c .f .given .0 .0)
-here c = subst (λ (x : Found). FoundIs (ids (c  .before .before .before .before .before)) (id (c  .before .before .before .before .before)) x) (c .f .given .1) (c  .before .before .find-grafted .ensures)
+here : (c : tie.After-f) → Here (ids (c .before .before .before .before .before)) (id (c .before .before .before .before .before)) (c .f .given .0 .0)
+here c = subst (λ (x : Found). FoundIs (ids (c .before .before .before .before .before)) (id (c .before .before .before .before .before)) x) (c .f .given .1) (c .before .before .find-grafted .ensures)
 
 find-grafted-requires : tie.Need-find-grafted-requires
-find-grafted-requires c κs = (c  .before .before .pre .0 .sound, c  .before .before .pre .0 .order)
+find-grafted-requires c κs = (c .before .before .pre .0 .sound, c .before .before .pre .0 .order)
 
 enum-known-f : tie.Need-enum-known-f
 enum-known-f c = search needs
 
 graft-at-entry-requires : tie.Need-graft-at-entry-requires
 graft-at-entry-requires c κs =
-    let f = c  .before .before in
-    let s = f  .before .before .before .before .before in
+    let f = c .before .before in
+    let s = f .before .before .before .before .before in
     let st = state s in
     (s .pre .0, omega (arith, here f .within, length-map (st .grafted .entries) (λ (e : Entry (Timed Grafts)). e .key), count-grafted (s .args .h) (s .args .block .now) (s .pre .0 .sound .fit)), s .pre .1)
 
@@ -51,11 +51,11 @@ enum-told c = search needs
 
 graft-anew-requires : tie.Need-graft-anew-requires
 graft-anew-requires c κs =
-    let f = c  .before .before in
-    let s = f  .before .before .before .before .before in
+    let f = c .before in
+    let s = f .before .before .before .before .before in
     let a = s .args in
     let st = state s in
-    let b = subst (λ (x : Found). FoundIs (ids s) (idOf (a .id)) x) (f .enum-told .given .1) (f  .before .before .find-grafted .ensures) in
+    let b = subst (λ (x : Found). FoundIs (ids s) (idOf (a .id)) x) (f .enum-told .given .1) (f .before .before .find-grafted .ensures) in
     (s .pre .0 .sound, s .pre .0 .order, s .pre .1, new-most st (idOf (a .id)) (a .link) (a .round .0) (a .expires .0) _ b (a .h .limits .grafted) (up-of (ids s) (s .pre .0 .order .up)) (s .pre .2))
 
 same-length : tie.Need-same-length
@@ -63,10 +63,10 @@ same-length c = search needs
 
 returns : tie.Need-returns
 returns c =
-    let f = c  .before .before .before .before .before in
-    let s = f  .before .before .before .before .before in
+    let f = c .before .before .before .before .before in
+    let s = f .before .before .before .before .before in
     let a = s .args in
-    let g = c  .before .before .graft-at-entry .ensures in
+    let g = c .before .before .graft-at-entry .ensures in
     record { state = g .state ∙ noted-here (state s) (idOf (a .id)) (a .link) (a .round .0) (a .expires .0) (f .f .given .0 .0) (up-of (ids s) (s .pre .0 .order .up)) (here f); sound = g .sound }
 
 same-length-2 : tie.Need-same-length-2
@@ -74,11 +74,11 @@ same-length-2 c = search needs
 
 returns-2 : tie.Need-returns-2
 returns-2 c =
-    let f = c  .before .before .before .before .before in
-    let s = f  .before .before .before .before .before in
+    let f = c .before .before .before .before in
+    let s = f .before .before .before .before .before in
     let a = s .args in
-    let g = c  .before .before .graft-anew .ensures in
-    let b = subst (λ (x : Found). FoundIs (ids s) (idOf (a .id)) x) (f .enum-told .given .1) (f  .before .before .find-grafted .ensures) in
+    let g = c .before .before .graft-anew .ensures in
+    let b = subst (λ (x : Found). FoundIs (ids s) (idOf (a .id)) x) (f .enum-told .given .1) (f .before .before .find-grafted .ensures) in
     record { state = g .state ∙ noted-new (state s) (idOf (a .id)) (a .link) (a .round .0) (a .expires .0) _ b; sound = g .sound }
 
 pub note-graft-spec : {M : Type 1} → statement M

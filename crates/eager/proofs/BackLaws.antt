@@ -1,37 +1,43 @@
 -- The notes of what a push got back, link by link, and the loop that adds them.
 -- Assumes nothing.
-use mathlib.Core.Path.{_≡_, refl, sym, ap, _∙_, subst}
+use mathlib.Core.Path.{_≡_, refl, sym, ap, _∙_}
 use mathlib.Core.Bool.{Bool, true, false, not, _&&_, _||_}
-use mathlib.Core.List.{List, [], _∷_, _++_, map}
+use mathlib.Core.List.{List, [], _∷_, _++_}
 use Prim.Native.Nat.{ℕ, _+_, _≤_, _<_}
 use native.Mathlib.Omega.{arith}
+use borrow.Author.Tests.{not-true, not-false, le-leb, lt-leb}
+use lib.Dec.{eqb, leb}
 use lib.ListN.{length, length-append}
-use Rattle.lists.specs.Base.{if_then_else_, isEmpty, any, ascending}
-use Rattle.lists.specs.Map.{keys}
-use Rattle.lists.proofs.MapLaws.{true≢}
+use Rattle.lists.specs.Base.{if_then_else_, isEmpty, any, count, member}
+use Rattle.lists.proofs.MapLaws.{cases, true≢, and-left, and-right}
+use Rattle.lists.proofs.KeyLaws.{eqb-sym}
+use Rattle.lists.proofs.Lists.{any-append, or-false-left, or-false-right}
+use Rattle.lists.proofs.ListLaws.{count-append}
 use Rattle.time_cache.specs.TimeCache.{holds}
 use Rattle.postcard.specs.Message.{Ihave}
-use Rattle.protocol.specs.Links.{Links}
 use Rattle.protocol.specs.State.{State, Note, withDropped, withAnnounceScheduled}
-use Rattle.protocol.specs.Push.{notes, recordFull, eagerTargets}
+use Rattle.protocol.specs.Push.{forPeer, notes, recordFull, eagerTargets}
 use Rattle.protocol.proofs.RecordBounds.{Flagged}
 use Rattle.decide.specs.Rooms.{backPeers}
 use Rattle.decide.specs.RecordGrowth.{cachedIn, addNote, addNotes, Batch, addBatches, batchesFor}
 use Rattle.decide.specs.StateAfter.{recordedState, pushedState}
-use Rattle.decide.proofs.StateLaws.{flag-stands, notes-empty}
+use Rattle.decide.proofs.StateLaws.{flag-stands}
+use Rattle.decide.proofs.RecordGrowthLaws.{Agree}
 use Rattle.block.specs.View.{stateOf}
 use Rattle.block.specs.Goes.{Goes}
-use Rattle.block.specs.LinkSteps.{LinksAscend, peerAt}
+use Rattle.block.specs.Heads.{withAnnounce}
+use Rattle.block.specs.LinkSteps.{peerAt}
+use Rattle.block.specs.NoteSteps.{note, dropAlso}
 use Rattle.block.specs.declared.head.Head.{Head}
 use Rattle.block.proofs.LinkLaws.{count-links}
-use Rattle.caches.proofs.GraftedLaws.{count-grafted}
-use Rattle.pushes.specs.Noted.{noted, notedState, Notes}
+use Rattle.block.proofs.NoteLaws.{count-dropped}
+use Rattle.block.proofs.GoesLaws.{announce-goes}
 use Rattle.steps.specs.Rooms.{roomsIn}
 use Rattle.steps.specs.declared.Held.{Held}
-use Rattle.steps.specs.declared.Held.the-variants.{At, Nothing}
-use Rattle.eager.specs.Targets.{SkipIn, Pushing, skippedIn, isTarget, handsBack, targetsOf}
+use Rattle.eager.specs.Targets.{skippedIn, handsBack}
+use Rattle.eager.specs.Scan.{wantsNote}
 use Rattle.eager.specs.Backs.{backState, NotesBack}
-use Rattle.eager.proofs.TargetLaws.{Roomed, roomed, first, rest, backsTo, backs-none, backs-yes, backs-no, backs-all, backs-rest}
+use Rattle.eager.proofs.TargetLaws.{Roomed, roomed, rest, backsTo, backs-none, backs-yes, backs-no, backs-all, backs-rest, backs-apart}
 
 -- batches one after the other, and one alone
 
@@ -77,40 +83,70 @@ module _ (c : ℕ → Bool) where
   batches-longer [] ds = omega arith
   batches-longer (b ∷ bs) ds = omega (arith, notes-longer (b .peer) (b .ihaves) ds, batches-longer bs (addNotes c (b .peer) (b .ihaves) ds))
 
-  note-empty : (p : ℕ) (h : Ihave) (ds : List Note) → isEmpty (addNote c p h ds) ≡ true → isEmpty ds ≡ true
-  unfolding addNotes
-  note-empty p h ds e = notes-empty c p (h ∷ []) ds e
+  -- what is noted for others is nothing for a peer
 
--- the record's flag
+  note-apart : (q p : ℕ) (h : Ihave) (ds : List Note) → eqb q p ≡ false → Agree q ds (addNote c p h ds)
+  unfolding addNote
+  note-apart q p h ds e = on (not (recordFull p ds) && c (h .id) && not (any (notes p (h .id)) ds))
+    where
+      other : eqb p q ≡ false
+      other = eqb-sym p q ∙ e
 
-flag-more : (e m f : Bool) → (e ≡ true → m ≡ true) → (not e || (not m || f)) ≡ (not e || f)
-flag-more false m f k = refl
-flag-more true true f k = refl
-flag-more true false f k = true≢ (k refl)
+      or-false : (b : Bool) → (b || false) ≡ b
+      or-false true = refl
+      or-false false = refl
 
-stands : (e f : Bool) → (e || (not e || f)) ≡ true
-stands true f = refl
-stands false f = refl
+      none : (i : ℕ) → any (notes q i) (record { peer = p; id = h .id; round = h .round } ∷ []) ≡ false
+      none i = unfold any in (rw other refl)
 
--- a record that is replaced by one that is not empty unless it was
-recorded-more : (ds es : List Note) (s : State) → (isEmpty es ≡ true → isEmpty ds ≡ true) → recordedState es (recordedState ds s) ≡ recordedState es s
-unfolding recordedState
-recorded-more ds es s k = λ z. withAnnounceScheduled (flag-more (isEmpty es) (isEmpty ds) (s .announceScheduled) k z) (withDropped es s)
+      zero-of : count (forPeer q) (record { peer = p; id = h .id; round = h .round } ∷ []) ≡ 0
+      zero-of = unfold count in (rw other refl)
+
+      plain : (n : ℕ) → n + 0 ≡ n
+      plain n = omega arith
+
+      on : (b : Bool) → Agree q ds (if b then ds ++ (record { peer = p; id = h .id; round = h .round } ∷ []) else ds)
+      on false = record { noted = λ i. refl; counted = refl }
+      on true = record {
+        noted = λ i. any-append (notes q i) ds (record { peer = p; id = h .id; round = h .round } ∷ []) ∙ ap (λ (b : Bool). any (notes q i) ds || b) (none i) ∙ or-false (any (notes q i) ds);
+        counted = count-append (forPeer q) ds (record { peer = p; id = h .id; round = h .round } ∷ []) ∙ ap (λ (n : ℕ). count (forPeer q) ds + n) zero-of ∙ plain (count (forPeer q) ds);
+      }
+
+  pub for-apart : (q : ℕ) (h : Ihave) (ps : List ℕ) (ds : List Note) → member q ps ≡ false → Agree q ds (addBatches c (batchesFor h ps) ds)
+  unfolding addBatches batchesFor addNotes member
+  for-apart q h [] ds m = record { noted = λ i. refl; counted = refl }
+  for-apart q h (p ∷ ps) ds m =
+      cases (eqb q p) (λ e. true≢ (sym (rw e at m)))
+      (λ e.
+      let a = note-apart q p h ds e in
+      let b = for-apart q h ps (addNote c p h ds) (rw e at m) in
+      record { noted = λ i. b .noted i ∙ a .noted i; counted = b .counted ∙ a .counted })
+
+-- the test of `note_dropped`, given its parts
+
+picked : (full held there : Bool) (ds more : List Note) → (full || there) ≡ true → (if not full && held && not there then more else ds) ≡ ds
+picked true held there ds more h = refl
+picked false true true ds more h = refl
+picked false false true ds more h = refl
+picked false held false ds more h = true≢ h
+
+or-in : (a b c : Bool) → (a || b) ≡ true → (a || c || b) ≡ true
+or-in true b c h = refl
+or-in false b true h = refl
+or-in false b false h = h
 
 pub recorded-same : (s : State) → Flagged (s .dropped) (s .announceScheduled) → recordedState (s .dropped) s ≡ s
 unfolding recordedState
 recorded-same s f = λ z. withAnnounceScheduled (sym (flag-stands (isEmpty (s .dropped)) (s .announceScheduled) f) z) s
 
-pub noted-flag : (l id round : ℕ) (ds : List Note) (s : State) → notedState l id round (recordedState ds s) ≡ recordedState (addNote (cachedIn (s .cache)) (peerAt s l) (record { id = id; round = round }) ds) s
-unfolding notedState recordedState
-noted-flag l id round ds s =
-    let es = addNote (cachedIn (s .cache)) (peerAt s l) (record { id = id; round = round }) ds in
-    recorded-more ds es s (note-empty (cachedIn (s .cache)) (peerAt s l) (record { id = id; round = round }) ds)
-
 -- the loop: after i links the record has the notes of those among the first i that handed it back
+
+abbrev pub after : ℕ → Held → List ℕ → ℕ → ℕ → State → ℕ → List Note
+after sender skip array id round s i =
+    addBatches (cachedIn (s .cache)) (batchesFor (record { id = id; round = round }) (backsTo sender (skippedIn skip (s .grafted)) array s i)) (s .dropped)
+
 abbrev pub SofarBack : ℕ → Held → List ℕ → ℕ → ℕ → Head → List ℕ → ℕ → Head → List ℕ → Type 0
-SofarBack sender skip array id round h xs i g ys =
-    Goes (recordedState (addBatches (cachedIn (stateOf h xs .cache)) (batchesFor (record { id = id; round = round }) (backsTo sender (skippedIn skip (stateOf h xs .grafted)) array (stateOf h xs) i)) (stateOf h xs .dropped))) h xs g ys
+SofarBack sender skip array id round h xs i g ys = Goes (withDropped (after sender skip array id round (stateOf h xs) i)) h xs g ys
 
 module _ (sender : ℕ) (skip : Held) (array : List ℕ) (id round : ℕ) (h : Head) (xs : List ℕ) (asks : NotesBack h xs sender skip array id round) where
   abbrev s : State
@@ -122,33 +158,20 @@ module _ (sender : ℕ) (skip : Held) (array : List ℕ) (id round : ℕ) (h : H
   abbrev ih : Ihave
   ih = record { id = id; round = round }
 
+  abbrev kept : ℕ → List Note
+  kept i = after sender skip array id round s i
+
   rooms : Roomed s array
   rooms = roomed h xs skip array (asks .pushing)
 
-  -- the record then
-  abbrev after : ℕ → List Note
-  after i = addBatches (cachedIn (s .cache)) (batchesFor ih (backsTo sender sk array s i)) (s .dropped)
-
-  abbrev Sofar : ℕ → Head → List ℕ → Type 0
-  Sofar i g ys = SofarBack sender skip array id round h xs i g ys
-
-  after-none : after 0 ≡ s .dropped
+  pub after-none : kept 0 ≡ s .dropped
   after-none = ap (λ (ps : List ℕ). addBatches (cachedIn (s .cache)) (batchesFor ih ps) (s .dropped)) (backs-none sender sk array s) ∙ for-none (cachedIn (s .cache)) ih (s .dropped)
-
-  after-yes : (i : ℕ) → i < length (s .links) → handsBack sender sk array s i ≡ true → after (i + 1) ≡ addNote (cachedIn (s .cache)) (peerAt s i) ih (after i)
-  after-yes i q e =
-      ap (λ (ps : List ℕ). addBatches (cachedIn (s .cache)) (batchesFor ih ps) (s .dropped)) (backs-yes sender sk array s rooms i q e)
-      ∙ for-then (cachedIn (s .cache)) ih (backsTo sender sk array s i) (peerAt s i ∷ []) (s .dropped)
-      ∙ for-one (cachedIn (s .cache)) ih (peerAt s i) (after i)
-
-  after-no : (i : ℕ) → i < length (s .links) → handsBack sender sk array s i ≡ false → after (i + 1) ≡ after i
-  after-no i q e = ap (λ (ps : List ℕ). addBatches (cachedIn (s .cache)) (batchesFor ih ps) (s .dropped)) (backs-no sender sk array s rooms i q e)
 
   final : backState sender skip array id round s ≡ recordedState (addBatches (cachedIn (s .cache)) (batchesFor ih (backPeers (roomsIn s array) (eagerTargets sender sk s))) (s .dropped)) s
   unfolding pushedState
   final = refl
 
-  after-fewer : (i : ℕ) → length (after i) ≤ h .limits .dropped
+  after-fewer : (i : ℕ) → length (kept i) ≤ h .limits .dropped
   unfolding recordedState
   after-fewer i =
       let more = backPeers (roomsIn s array) (rest sender sk s i) in
@@ -158,76 +181,129 @@ module _ (sender : ℕ) (skip : Held) (array : List ℕ) (id round : ℕ) (h : H
         ap (λ (t : State). length (t .dropped)) final,
         ap (λ (ps : List ℕ). length (addBatches (cachedIn (s .cache)) (batchesFor ih ps) (s .dropped))) (backs-rest sender sk array s i),
         ap length (for-then (cachedIn (s .cache)) ih (backsTo sender sk array s i) more (s .dropped)),
-        batches-longer (cachedIn (s .cache)) (batchesFor ih more) (after i),
+        batches-longer (cachedIn (s .cache)) (batchesFor ih more) (kept i),
       )
 
-  pub back-start : Sofar 0 h xs
-  back-start = record {
-    state = sym (ap (λ (ds : List Note). recordedState ds s) after-none ∙ recorded-same s (asks .flagged));
-    sound = asks .pushing .sound;
-  }
+  module _ (i : ℕ) (q : i < length (s .links)) where
+    abbrev p : ℕ
+    p = peerAt s i
 
-  pub back-end : (i : ℕ) (g : Head) (ys : List ℕ) → Sofar i g ys → h .live .links ≤ i → Goes (backState sender skip array id round) h xs g ys
-  back-end i g ys so q = record {
-    state = so .state
-        ∙ ap (λ (ps : List ℕ). recordedState (addBatches (cachedIn (s .cache)) (batchesFor ih ps) (s .dropped)) s) (backs-all sender sk array s i (omega (arith, count-links h xs)))
-        ∙ sym final;
-    sound = so .sound;
-  }
+    agree : Agree p (s .dropped) (kept i)
+    agree = for-apart (cachedIn (s .cache)) p ih (backsTo sender sk array s i) (s .dropped) (backs-apart sender sk array s (asks .pushing .up) i q)
 
-  module _ (i : ℕ) (g : Head) (ys : List ℕ) (so : Sofar i g ys) where
-    same-links : stateOf g ys .links ≡ s .links
-    unfolding recordedState
-    same-links = ap (λ (t : State). t .links) (so .state)
+    after-yes : handsBack sender sk array s i ≡ true → kept (i + 1) ≡ addNote (cachedIn (s .cache)) p ih (kept i)
+    after-yes e =
+        ap (λ (ps : List ℕ). addBatches (cachedIn (s .cache)) (batchesFor ih ps) (s .dropped)) (backs-yes sender sk array s rooms i q e)
+        ∙ for-then (cachedIn (s .cache)) ih (backsTo sender sk array s i) (p ∷ []) (s .dropped)
+        ∙ for-one (cachedIn (s .cache)) ih p (kept i)
 
+    after-no : handsBack sender sk array s i ≡ false → kept (i + 1) ≡ kept i
+    after-no e = ap (λ (ps : List ℕ). addBatches (cachedIn (s .cache)) (batchesFor ih ps) (s .dropped)) (backs-no sender sk array s rooms i q e)
+
+    -- it gets a note
+
+    pub after-want : wantsNote sender sk array id s i ≡ true → length (kept i) < 4096 → kept (i + 1) ≡ kept i ++ (note p id round ∷ [])
+    unfolding wantsNote addNote recordFull
+    after-want w short =
+        let b : Bool = handsBack sender sk array s i in
+        let full : Bool = leb 256 (count (forPeer p) (s .dropped)) in
+        let there : Bool = any (notes p id) (s .dropped) in
+        let n : full || there ≡ false = not-true (full || there) (and-right b (not (full || there)) w) in
+        after-yes (and-left b (not (full || there)) w)
+        ∙ (λ k. if not ((ap (leb 256) (agree .counted) ∙ or-false-left full there n) k || lt-leb 4096 (length (kept i)) short k) && asks .cached k && not ((agree .noted id ∙ or-false-right full there n) k)
+        then kept i ++ (note p id round ∷ []) else kept i)
+
+    -- or none
+
+    pub after-full : 4096 ≤ length (kept i) → kept (i + 1) ≡ kept i
+    unfolding addNote recordFull
+    after-full long =
+        cases (handsBack sender sk array s i)
+        (λ e. after-yes e ∙ picked (recordFull p (kept i)) (holds id (s .cache)) (any (notes p id) (kept i)) (kept i) _ (on (leb 256 (count (forPeer p) (kept i))) (any (notes p id) (kept i)) (le-leb 4096 (length (kept i)) long)))
+        after-no
+      where
+        on : (a d : Bool) → leb 4096 (length (kept i)) ≡ true → ((a || leb 4096 (length (kept i))) || d) ≡ true
+        on true d e = refl
+        on false d e = ap (λ (x : Bool). x || d) e
+
+    pub after-pass : wantsNote sender sk array id s i ≡ false → kept (i + 1) ≡ kept i
+    unfolding wantsNote addNote recordFull
+    after-pass w =
+        let full : Bool = leb 256 (count (forPeer p) (s .dropped)) in
+        let there : Bool = any (notes p id) (s .dropped) in
+        cases (handsBack sender sk array s i)
+        (λ e.
+        let o : full || there ≡ true = not-false (full || there) (sym (ap (λ (b : Bool). b && not (full || there)) e) ∙ w) in
+        let o′ : leb 256 (count (forPeer p) (kept i)) || any (notes p id) (kept i) ≡ true = (λ k. leb 256 (agree .counted k) || agree .noted id k) ∙ o in
+        after-yes e ∙ picked (recordFull p (kept i)) (holds id (s .cache)) (any (notes p id) (kept i)) (kept i) _ (or-in (leb 256 (count (forPeer p) (kept i))) (any (notes p id) (kept i)) (leb 4096 (length (kept i))) o′))
+        after-no
+
+  pub back-start : SofarBack sender skip array id round h xs 0 h xs
+  back-start = record { state = sym (ap (λ (ds : List Note). withDropped ds s) after-none); sound = asks .pushing .sound }
+
+  module _ (i : ℕ) (g : Head) (ys : List ℕ) (so : SofarBack sender skip array id round h xs i g ys) where
     pub same-count : g .live .links ≡ h .live .links
-    same-count = sym (count-links g ys) ∙ ap length same-links ∙ count-links h xs
-
-    same-grafted : g .live .grafted ≡ h .live .grafted
-    unfolding recordedState
-    same-grafted = sym (count-grafted g ys (so .sound .fit)) ∙ ap (λ (t : State). length (t .grafted .entries)) (so .state) ∙ count-grafted h xs (asks .pushing .sound .fit)
+    same-count = sym (count-links g ys) ∙ ap (λ (t : State). length (t .links)) (so .state) ∙ count-links h xs
 
     same-limit : g .limits .dropped ≡ h .limits .dropped
-    unfolding recordedState stateOf
+    unfolding stateOf
     same-limit = ap (λ (t : State). t .limits .D) (so .state)
 
-    up : LinksAscend g ys
-    up = ap (λ (l : Links). ascending (keys l)) same-links ∙ asks .pushing .up
+    so-many : length (kept i) ≡ g .live .dropped
+    so-many = sym (ap (λ (t : State). length (t .dropped)) (so .state)) ∙ count-dropped g ys (so .sound)
 
-    pub still-pushing : Pushing g ys skip
-    still-pushing = record { sound = so .sound; up = up; skip = on skip (asks .pushing .skip) }
-      where
-        on : (k : Held) → SkipIn h k → SkipIn g k
-        on (At j) q = omega (arith, same-grafted)
-        on Nothing q = tt
+    module _ (q : i < h .live .links) where
+      among : i < length (s .links)
+      among = omega (arith, count-links h xs)
 
-    -- what is tested of link i is tested of the state at entry
-    pub was-back : (b : Bool) → b ≡ handsBack sender (skippedIn skip (stateOf g ys .grafted)) array (stateOf g ys) i → handsBack sender sk array s i ≡ b
-    unfolding recordedState handsBack isTarget
-    was-back b e = sym (e ∙ ap (λ (t : State). handsBack sender (skippedIn skip (t .grafted)) array t i) (so .state))
+      still : kept (i + 1) ≡ kept i → SofarBack sender skip array id round h xs (i + 1) g ys
+      still e = record { state = so .state ∙ ap (λ (ds : List Note). withDropped ds s) (sym e); sound = so .sound }
 
-    pub back-skip : i < h .live .links → handsBack sender sk array s i ≡ false → Sofar (i + 1) g ys
-    back-skip q e = record {
-      state = so .state ∙ ap (λ (ds : List Note). recordedState ds s) (sym (after-no i (omega (arith, count-links h xs)) e));
-      sound = so .sound;
-    }
+      pub back-pass : wantsNote sender sk array id s i ≡ false → SofarBack sender skip array id round h xs (i + 1) g ys
+      back-pass w = still (after-pass i among w)
 
-    pub back-asks : i < h .live .links → handsBack sender sk array s i ≡ true → Notes g ys i id round
-    unfolding recordedState
-    back-asks q e = record {
-      sound = so .sound;
-      up = up;
-      link = omega (arith, same-count);
-      cached = ap (λ (t : State). holds id (t .cache)) (so .state) ∙ asks .cached;
-      flagged = ap (λ (t : State). isEmpty (t .dropped) || t .announceScheduled) (so .state) ∙ stands (isEmpty (after i)) (s .announceScheduled);
-      room = omega (arith, ap (λ (t : State). length (noted i id round t)) (so .state), ap length (after-yes i (omega (arith, count-links h xs)) e), after-fewer (i + 1), same-limit);
-    }
+      pub back-full : 4096 ≤ g .live .dropped → SofarBack sender skip array id round h xs (i + 1) g ys
+      back-full f = still (after-full i among (omega (arith, so-many)))
 
-    pub back-take : (g′ : Head) (ys′ : List ℕ) → i < h .live .links → handsBack sender sk array s i ≡ true → Goes (notedState i id round) g ys g′ ys′ → Sofar (i + 1) g′ ys′
-    back-take g′ ys′ q e go = record {
-      state = go .state
-          ∙ ap (notedState i id round) (so .state)
-          ∙ noted-flag i id round (after i) s
-          ∙ ap (λ (ds : List Note). recordedState ds s) (sym (after-yes i (omega (arith, count-links h xs)) e));
-      sound = go .sound;
-    }
+      module _ (w : wantsNote sender sk array id s i ≡ true) (short : g .live .dropped < 4096) where
+        one-more : kept (i + 1) ≡ kept i ++ (note (peerAt s i) id round ∷ [])
+        one-more = after-want i among w (omega (arith, so-many))
+
+        pub back-room : g .live .dropped < g .limits .dropped
+        back-room = omega (arith, ap length one-more, length-append (kept i) (note (peerAt s i) id round ∷ []), after-fewer (i + 1), so-many, same-limit)
+
+        pub back-take : (g′ : Head) (ys′ : List ℕ) → Goes (dropAlso i id round) g ys g′ ys′ → SofarBack sender skip array id round h xs (i + 1) g′ ys′
+        back-take g′ ys′ go = record {
+          state = go .state ∙ ap (dropAlso i id round) (so .state) ∙ ap (λ (ds : List Note). withDropped ds s) (sym one-more);
+          sound = go .sound;
+        }
+
+    -- the end: the record stands with its flag
+    module _ (q : h .live .links ≤ i) where
+      all-noted : backState sender skip array id round s ≡ recordedState (kept i) s
+      all-noted = final ∙ ap (λ (ps : List ℕ). recordedState (addBatches (cachedIn (s .cache)) (batchesFor ih ps) (s .dropped)) s) (sym (backs-all sender sk array s i (omega (arith, count-links h xs))))
+
+      empty : (ds : List Note) → length ds ≡ 0 → isEmpty ds ≡ true
+      empty [] e = refl
+      empty (d ∷ ds) e = absurd (omega arith)
+
+      filled : (ds : List Note) → (length ds ≡ 0 → ⊥) → isEmpty ds ≡ false
+      filled [] e = absurd (e refl)
+      filled (d ∷ ds) e = refl
+
+      pub back-empty : g .live .dropped ≡ 0 → Goes (backState sender skip array id round) h xs g ys
+      unfolding recordedState
+      back-empty z = record {
+        state = so .state ∙ sym (all-noted ∙ ap (λ (b : Bool). withAnnounceScheduled (not b || s .announceScheduled) (withDropped (kept i) s)) (empty (kept i) (so-many ∙ z)));
+        sound = so .sound;
+      }
+
+      pub back-filled : (g .live .dropped ≡ 0 → ⊥) → Goes (backState sender skip array id round) h xs (withAnnounce true g) ys
+      unfolding recordedState
+      back-filled z =
+          let a = announce-goes true g ys (so .sound) in
+          record {
+            state = a .state ∙ ap (withAnnounceScheduled true) (so .state)
+                ∙ sym (all-noted ∙ ap (λ (b : Bool). withAnnounceScheduled (not b || s .announceScheduled) (withDropped (kept i) s)) (filled (kept i) (λ e. z (sym so-many ∙ e))));
+            sound = a .sound;
+          }

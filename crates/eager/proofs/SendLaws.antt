@@ -29,7 +29,7 @@ unfolding concatMap
 bytes-append f [] ys = refl
 bytes-append f (x ∷ xs) ys = ap (λ (l : List ℕ). f x ++ l) (bytes-append f xs ys) ∙ sym (append-assoc (f x) (concatMap f xs) (concatMap f ys))
 
-bytes-one : {A : Type 0} (f : A → List ℕ) (x : A) → concatMap f (x ∷ []) ≡ f x
+pub bytes-one : {A : Type 0} (f : A → List ℕ) (x : A) → concatMap f (x ∷ []) ≡ f x
 unfolding concatMap
 bytes-one f x = append-nil (f x)
 

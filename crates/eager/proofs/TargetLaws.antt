@@ -1,18 +1,20 @@
 -- The targets of an eager push, link by link, and those of them that hand it back.
 -- Assumes nothing.
-use mathlib.Core.Path.{_≡_, refl, sym, ap, _∙_}
+use mathlib.Core.Path.{_≡_, refl, sym, ap, _∙_, subst}
 use mathlib.Core.Bool.{Bool, true, false, not, _&&_}
 use mathlib.Core.List.{List, [], _∷_, _++_, append-nil}
-use Prim.Native.Nat.{ℕ, _+_, _≤_, _<_}
+use Prim.Native.Nat.{ℕ, zero, suc, _+_, _≤_, _<_}
 use native.Mathlib.Omega.{arith}
 use native.Mathlib.Numerals.{add-one}
-use borrow.Author.Tests.{not-true, not-false}
-use lib.Dec.{eqb, leb}
-use lib.ListN.{length, take, drop, getD, take-append-drop, List·getD-map}
-use lib.Seq.{take-suc, take-all}
-use Rattle.lists.specs.Base.{if_then_else_, filter, member, any}
+use borrow.Author.Tests.{not-true, not-false, ltb-true, lt-ltb, ne-eqb}
+use lib.Dec.{eqb, leb, ltb}
+use lib.ListN.{length, take, drop, getD, take-append-drop, length-map, List·getD-map}
+use lib.Seq.{take-suc, take-all, getD-take, length-take-le}
+use Rattle.lists.specs.Base.{if_then_else_, filter, member, any, all, ascending}
 use Rattle.lists.specs.Map.{Map, Entry, entry, keys}
-use Rattle.lists.proofs.MapLaws.{cases, and-left, and-right}
+use Rattle.lists.proofs.MapLaws.{cases, and-left, and-right, all-head, all-tail, all-cons}
+use Rattle.lists.proofs.ListLaws.{all-filter}
+use Rattle.time_cache.proofs.Orders.{at-all, up-of}
 use Rattle.protocol.specs.Links.{Mark, eager, lazy, Links, isEager, peersMarked, eagerPeers}
 use Rattle.protocol.specs.State.{State}
 use Rattle.protocol.specs.Run.{Room}
@@ -201,3 +203,38 @@ pub member-keys : {A : Type 0} (p : ℕ) (m : Map A) → member p (keys m) ≡ a
 unfolding member any
 member-keys p [] = refl
 member-keys p (e ∷ m) = ap (λ (b : Bool). if eqb p (e .key) then true else b) (member-keys p m)
+
+-- the peers of earlier links are others
+
+all-below : (p : ℕ) (xs : List ℕ) → all (λ x. ltb x p) xs ≡ true → member p xs ≡ false
+unfolding member
+all-below p [] a = refl
+all-below p (x ∷ xs) a =
+    rw (ne-eqb p x (λ e. omega (arith, ltb-true x p (all-head (λ y. ltb y p) x xs a)))) (all-below p xs (all-tail (λ y. ltb y p) x xs a))
+
+marked-all : (f : ℕ → Bool) (g : Mark → Bool) (l : Links) → all f (keys l) ≡ true → all f (peersMarked g l) ≡ true
+unfolding peersMarked all
+marked-all f g [] a = refl
+marked-all f g (e ∷ l) a =
+    cases (g (e .value)) (λ t. rw t (all-cons f (e .key) (peersMarked g l) (all-head f (e .key) (keys l) a) (marked-all f g l (all-tail f (e .key) (keys l) a))))
+    (λ t. rw t (marked-all f g l (all-tail f (e .key) (keys l) a)))
+
+keys-take : {A : Type 0} (i : ℕ) (m : Map A) → keys (take i m) ≡ take i (keys m)
+keys-take zero m = refl
+keys-take (suc i) [] = refl
+keys-take (suc i) (e ∷ m) = ap (λ (l : List ℕ). e .key ∷ l) (keys-take i m)
+
+pub backs-apart : (sender : ℕ) (skip array : List ℕ) (s : State) → ascending (keys (s .links)) ≡ true → (i : ℕ) → i < length (s .links) → member (peerAt s i) (backsTo sender skip array s i) ≡ false
+unfolding backPeers targetsIn eagerPeers
+backs-apart sender skip array s up i q =
+    let k : length (keys (s .links)) ≡ length (s .links) = length-map (s .links) (λ e. e .key) in
+    let below : all (λ x. ltb x (peerAt s i)) (keys (take i (s .links))) ≡ true =
+    at-all (λ x. ltb x (peerAt s i)) 0 (keys (take i (s .links)))
+    (λ j h.
+    let j-below : j < i = omega (arith, ap length (keys-take i (s .links)), length-take-le i (keys (s .links)) (omega arith)) in
+    lt-ltb (getD (keys (take i (s .links))) j 0) (peerAt s i)
+    (subst (λ (x : ℕ). x < peerAt s i) (sym (ap (λ (l : List ℕ). getD l j 0) (keys-take i (s .links)) ∙ getD-take i (keys (s .links)) j 0 j-below)) (up-of (keys (s .links)) up .up j i j-below (omega arith)))) in
+    all-below (peerAt s i) (backsTo sender skip array s i)
+    (all-filter (λ x. ltb x (peerAt s i)) (λ p. not (kthTaken 1 p (roomsIn s array))) (first sender skip s i)
+    (all-filter (λ x. ltb x (peerAt s i)) (passes (s .settings .me) sender skip) (peersMarked isEager (take i (s .links)))
+    (marked-all (λ x. ltb x (peerAt s i)) isEager (take i (s .links)) below)))

@@ -7,7 +7,6 @@ use mathlib.Core.List.{List}
 use lib.ListN.{length}
 use Rattle.time_cache.specs.TimeCache.{holds}
 use Rattle.protocol.specs.State.{State}
-use Rattle.protocol.proofs.RecordBounds.{Flagged}
 use Rattle.decide.specs.StateAfter.{pushedState}
 use Rattle.block.specs.View.{stateOf}
 use Rattle.block.specs.declared.head.Head.{Head}
@@ -19,9 +18,8 @@ use Rattle.eager.specs.Targets.{Pushing, targetsOf}
 abbrev pub backState : ℕ → Held → List ℕ → ℕ → ℕ → State → State
 backState sender skip rooms id round s = pushedState (roomsIn s rooms) (targetsOf sender skip s) (record { id = id; round = round }) s
 
--- what noting asks: a cached identifier, a record that stands with its flag, and room for what is recorded then
+-- what noting asks: a cached identifier, and room for what is recorded then
 pub record NotesBack (h : Head) (block : List ℕ) (sender : ℕ) (skip : Held) (rooms : List ℕ) (id round : ℕ) : Type 0 where
   pub pushing : Pushing h block skip
   pub cached : holds id (stateOf h block .cache) ≡ true
-  pub flagged : Flagged (stateOf h block .dropped) (stateOf h block .announceScheduled)
   pub room : length (backState sender skip rooms id round (stateOf h block) .dropped) ≤ h .limits .dropped

@@ -1,8 +1,8 @@
 // What is handed back of a push is noted: document 01, "Record".
+use crate::scan;
+use crate::target::Push;
 use block::head::Head;
 use block::note;
-use crate::target;
-use crate::target::Push;
 use postcard::units::Round;
 use rows::id::Id;
 ghost use mathlib.Core.Path.{_≡_};
@@ -35,42 +35,58 @@ pub fn push_gain(h: Head, block: &[u8], link: usize, id: Id, extra: usize) -> us
     1
 }
 
-// How many notes the record gets for a cached identifier that is pushed: one pass over the links, and over the record for each that hands it back.
+// How many notes the record gets for a cached identifier that is pushed. Its time is that of one pass over the links, and of one over the record's column of
+// link numbers.
 pub fn push_gains(h: Head, block: &[u8], rooms: &[u64; 34], id: Id, push: Push) -> usize
     requires { ⌜ Pushing h (now block) (push .skip) ⌝ }
     ensures { λ r. ⌜ r ≡ pushGains (idOf id) (stateOf h (now (block .entry)) .dropped) 0 (backsOf (push .sender) (push .skip) (now (rooms .entry)) (stateOf h (now (block .entry)))) ⌝ }
 {
+    let marks = scan::wants_note(h, block, rooms, push, id);
     let n = h.live.links;
+    let dropped = h.live.dropped;
     let mut extra = 0;
     let mut i = 0;
     while i < n {
         let link = i;
         i += 1;
-        let back = target::hands_back(h, block, rooms, push, link);
-        if back {
-            let gain = push_gain(h, block, link, id, extra);
-            extra = extra + gain;
+        if marks[link] < 256 {
+            if dropped + extra < 4096 {
+                extra += 1;
+            }
         }
     }
     extra
 }
 
-// "handed back are noted after all sends": `note_dropped` of a cached identifier for each link that handed it back. Its time is that of one pass over the
-// links, and over the record's column of link numbers for each that handed it back.
-pub fn note_back(h: Head, block: &mut [u8], rooms: &[u64; 34], push: Push, id: Id, round: Round) -> Head
+// "handed back are noted after all sends": `note_dropped` of a cached identifier for each link that handed it back, "added unless the peer has 256 or all have
+// 4,096", or it is there. Its time is that of one pass over the links, and of one over the record's column of link numbers.
+pub fn note_back(
+    h: Head,
+    block: &mut [u8],
+    rooms: &[u64; 34],
+    push: Push,
+    id: Id,
+    round: Round,
+) -> Head
     requires { ⌜ NotesBack h (now block) (push .sender) (push .skip) (now rooms) (idOf id) (round .0) ⌝ }
     ensures { λ r. ⌜ Goes (backState (push .sender) (push .skip) (now (rooms .entry)) (idOf id) (round .0)) h (now (block .entry)) r (now (block .exit)) ⌝ }
 {
+    let marks = scan::wants_note(h, block, rooms, push, id);
     let n = h.live.links;
     let mut g = h;
     let mut i = 0;
     while i < n {
         let link = i;
         i += 1;
-        let back = target::hands_back(g, block, rooms, push, link);
-        if back {
-            g = pushes::note_cached(g, block, link, id, round);
+        if marks[link] < 256 {
+            if g.live.dropped < 4096 {
+                g = note::push_dropped(g, block, link, id, round);
+            }
         }
     }
+    if g.live.dropped == 0 {
+        return g;
+    }
+    g.live.announce_dropped_scheduled = true;
     g
 }

@@ -1,8 +1,8 @@
 // The sends of an eager push: document 01, "Eager push".
-use block::head::Head;
-use block::links;
 use crate::target;
 use crate::target::Push;
+use block::head::Head;
+use block::links;
 use postcard::message::Delivery;
 use postcard::message::Timer;
 use postcard::units::Millis;
@@ -74,7 +74,17 @@ pub fn eager_push(
     requires { ⌜ Told (pushBytes (now rooms) (Gossip (idOf id) (now content) (Swarm (round .0))) (targetsOf (push .sender) (push .skip) (stateOf h (now block))) (stateOf h (now block))) at ⌝ }
     ensures { λ r. ⌜ Written (pushBytes (now (rooms .entry)) (Gossip (idOf id) (now (content .entry)) (Swarm (round .0))) (targetsOf (push .sender) (push .skip) (stateOf h (now (block .entry)))) (stateOf h (now (block .entry)))) (now (out .entry)) at (now (out .exit)) r ⌝ }
 {
-    let p = push_sends(h, block, rooms, out, at, push, id, content, Delivery::Swarm(round));
+    let p = push_sends(
+        h,
+        block,
+        rooms,
+        out,
+        at,
+        push,
+        id,
+        content,
+        Delivery::Swarm(round),
+    );
     if p.back {
         if h.live.announce_dropped_scheduled {
             return p.at;

@@ -86,8 +86,8 @@ loop-again c =
       search needs,
       search needs,
       sends-taken (s .args .push .sender) (sk s) (s .args .rooms .now) (msg s) (st s) (s .args .out .now) (s .args .at) (rooms s) (l .i) (l .out) (l .to) (l .back) (l .inv .2)
-      (among s (l .i) (k .before .before .before .before .loop-test .taken)) (sym (k .before .before .before .is-target .ensures) ∙ k .before .before .if1 .taken) (k .before .peer-at .result) (k .before .peer-at .ensures)
-      (k .is-taken .result) (k .is-taken .ensures) (w .send-gossip .last .0) (w .send-gossip .result) (w .send-gossip .ensures) (c .if2 .taken),
+          (among s (l .i) (k .before .before .before .before .loop-test .taken)) (sym (k .before .before .before .is-target .ensures) ∙ k .before .before .if1 .taken) (k .before .peer-at .result) (k .before .peer-at .ensures)
+          (k .is-taken .result) (k .is-taken .ensures) (w .send-gossip .last .0) (w .send-gossip .result) (w .send-gossip .ensures) (c .if2 .taken),
     )
 
 loop-less-2 : tie.Need-loop-less-2 Inv-loop μ-loop
@@ -102,8 +102,8 @@ loop-again-2 c =
       search needs,
       search needs,
       sends-back (s .args .push .sender) (sk s) (s .args .rooms .now) (msg s) (st s) (s .args .out .now) (s .args .at) (rooms s) (l .i) (l .out) (l .to) (l .back) (l .inv .2)
-      (among s (l .i) (k .before .before .before .before .loop-test .taken)) (sym (k .before .before .before .is-target .ensures) ∙ k .before .before .if1 .taken) (k .before .peer-at .result) (k .before .peer-at .ensures)
-      (k .is-taken .result) (k .is-taken .ensures) (w .send-gossip .last .0) (w .send-gossip .result) (w .send-gossip .ensures) (c .if2 .left),
+          (among s (l .i) (k .before .before .before .before .loop-test .taken)) (sym (k .before .before .before .is-target .ensures) ∙ k .before .before .if1 .taken) (k .before .peer-at .result) (k .before .peer-at .ensures)
+          (k .is-taken .result) (k .is-taken .ensures) (w .send-gossip .last .0) (w .send-gossip .result) (w .send-gossip .ensures) (c .if2 .left),
     )
 
 loop-less-3 : tie.Need-loop-less-3 Inv-loop μ-loop
@@ -116,7 +116,7 @@ loop-again-3 c =
       search needs,
       search needs,
       sends-skip (s .args .push .sender) (sk s) (s .args .rooms .now) (msg s) (st s) (s .args .out .now) (s .args .at) (rooms s) (l .i) (l .out) (l .to) (l .back) (l .inv .2)
-      (among s (l .i) (c .before .before .loop-test .taken)) (sym (c .before .is-target .ensures) ∙ c .if1 .left),
+          (among s (l .i) (c .before .before .loop-test .taken)) (sym (c .before .is-target .ensures) ∙ c .if1 .left),
     )
 
 same-length : tie.Need-same-length Inv-loop μ-loop

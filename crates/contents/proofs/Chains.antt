@@ -5,12 +5,12 @@ use mathlib.Core.List.{List, [], _∷_, _++_, map}
 use Prim.Native.Nat.{ℕ, zero, suc, _+_, _-_, _*_, _≤_, _<_}
 use native.Mathlib.Omega.{arith}
 use lib.ListN.{length, take, drop, getD, length-drop}
-use lib.Seq.{drop-drop}
+use lib.Seq.{drop-drop, getD-drop}
 use Rattle.lists.specs.Base.{sum}
 use Rattle.rows.specs.Part.{part, put}
 use Rattle.rows.specs.Digits.{leNat, leBytes}
 use Rattle.rows.specs.Rows.{rows}
-use Rattle.rows.proofs.Parts.{part-put, part-after, length-part}
+use Rattle.rows.proofs.Parts.{part-put, part-before, part-after, length-part}
 use Rattle.rows.proofs.Digits.{length-leBytes, leNat-leBytes}
 use Rattle.refs.proofs.Places.{row-end}
 use Rattle.time_cache.specs.Tables.{ExpiryRow, expiryRowOf, expiryRows, expiryOf, rowAt, noRow}
@@ -18,7 +18,7 @@ use Rattle.time_cache.proofs.ExpiryLaws.{row-at, length-expiryRows}
 use Rattle.block.specs.View.{fourAt}
 use Rattle.block.specs.Sound.{Adjoining} 
 use Rattle.block.specs.Sound.Adjoining.{done as last, next as then}
-use Rattle.contents.specs.Starts.{startOf, lenOf, firstStart, Chain, done, next, withStart, shiftedRow, Above}
+use Rattle.contents.specs.Starts.{startOf, lenOf, firstStart, Chain, done, next, withStart, withLen, shiftedRow, Above}
 
 -- start and length in the bytes of a row
 pub start-bytes : (row : List ℕ) → startOf (expiryRowOf row) ≡ fourAt 40 row
@@ -129,3 +129,43 @@ along-map up down w (next x xs s c) h g =
 
 pub chain-above : (up down : ℕ) {a e : ℕ} {xs : List ExpiryRow} → Chain a xs e → down ≤ a + up → Above up down xs
 chain-above up down c h = record { above = λ i l. omega (arith, chain-at c i l .0) }
+
+-- a row ends where or before a later row starts
+pub chain-order : {a e : ℕ} {xs : List ExpiryRow} → Chain a xs e → (q p : ℕ) → q < p → p < length xs → startOf (rowAt xs q) + lenOf (rowAt xs q) ≤ startOf (rowAt xs p)
+chain-order done q p h l = absurd (omega arith)
+chain-order (next x xs s c) q zero h l = absurd (omega arith)
+chain-order (next x xs s c) zero (suc p) h l = omega (arith, s, chain-at c p (omega arith) .0)
+chain-order (next x xs s c) (suc q) (suc p) h l = chain-order c q p (omega arith) (omega arith)
+
+-- another length in row p, and the rows behind it moved by as much
+pub chain-resize : {k old a e : ℕ} {xs : List ExpiryRow} (e′ p : ℕ) (y : ExpiryRow) (ys : List ExpiryRow) → Chain a xs e → p < length xs → Along k old (drop (suc p) xs) ys
+    → startOf y ≡ startOf (rowAt xs p) → lenOf y ≡ k → lenOf (rowAt xs p) ≡ old → e′ + old ≡ e + k → Chain a (take p xs ++ (y ∷ ys)) e′
+chain-resize e′ p y ys done h al s l o t = absurd (omega arith)
+chain-resize e′ zero y ys (next {a = a} x xs sx c) h al s l o t = next {a = a} {e = e′} y ys (s ∙ sx) (chain-along (a + lenOf y) e′ al c (omega (arith, l, o)) t)
+chain-resize e′ (suc p) y ys (next {a = a} x xs sx c) h al s l o t = next {a = a} {e = e′} x (take p xs ++ (y ∷ ys)) sx (chain-resize e′ p y ys c (omega arith) al s l o t)
+
+-- a row without a content put in before row j
+pub chain-gap : {a e : ℕ} {xs : List ExpiryRow} (j : ℕ) (y : ExpiryRow) → Chain a xs e → startOf y ≡ firstStart e (drop j xs) → lenOf y ≡ 0 → Chain a (take j xs ++ (y ∷ drop j xs)) e
+chain-gap {a} zero y done s l = next {a = a} {e = a} y [] s (subst (λ (b : ℕ). Chain b [] a) (omega (arith, l)) done)
+chain-gap {a} (suc j) y done s l = next {a = a} {e = a} y [] s (subst (λ (b : ℕ). Chain b [] a) (omega (arith, l)) done)
+chain-gap {a} {e} zero y (next x xs sx c) s l = next {a = a} {e = e} y (x ∷ xs) (s ∙ sx) (subst (λ (b : ℕ). Chain b (x ∷ xs) e) (omega (arith, l)) (next {a = a} {e = e} x xs sx c))
+chain-gap {a} {e} (suc j) y (next x xs sx c) s l = next {a = a} {e = e} x (take j xs ++ (y ∷ drop j xs)) sx (chain-gap j y c s l)
+
+-- another length, in bytes
+pub len-set : (v : ℕ) (x : ExpiryRow) → 8 ≤ length (x .rest) → v < 4294967296 → lenOf (withLen v x) ≡ v
+unfolding fourAt
+len-set v x h w = ap leNat (part-put 4 4 (leBytes 4 v) (x .rest) (length-leBytes 4 v) (omega arith)) ∙ leNat-leBytes 4 v w
+
+pub len-start : (v : ℕ) (x : ExpiryRow) → 4 ≤ length (x .rest) → startOf (withLen v x) ≡ startOf x
+unfolding fourAt
+len-start v x h = ap leNat (part-before 0 4 4 (leBytes 4 v) (x .rest) (omega arith) (omega arith))
+
+pub wide-drop : (d : ℕ) (xs : List ExpiryRow) → Wide xs → Wide (drop d xs)
+wide-drop d xs w i h =
+    ap (λ (y : ExpiryRow). length (y .rest)) (getD-drop d xs i noRow) ∙ w (d + i) (omega (arith, length-drop d xs))
+
+-- a row starts where the one before it ends
+pub chain-next : {a e : ℕ} {xs : List ExpiryRow} → Chain a xs e → (p : ℕ) → p < length xs → firstStart e (drop (suc p) xs) ≡ startOf (rowAt xs p) + lenOf (rowAt xs p)
+chain-next done p h = absurd (omega arith)
+chain-next (next x xs s c) zero h = omega (arith, s, chain-first c)
+chain-next (next x xs s c) (suc p) h = chain-next c p (omega arith)

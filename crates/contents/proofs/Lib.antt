@@ -4,3 +4,7 @@ pub mod Contents
 pub mod Shifts
 pub mod Closing
 pub mod Firsts
+pub mod Resizing
+pub mod Setting
+pub mod Inserting
+pub mod Putting

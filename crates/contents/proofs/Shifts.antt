@@ -151,3 +151,19 @@ module _ (h : Head) (xs : List ℕ) (fit : Fit h xs) (j : ℕ) where
       let m : ℕ = h .live .«cached_rows» in
       let x : List ℕ = table (limitsOf (h .limits)) 5 xs in
       sym (first-none (h .live .contents) j (expiryRows 48 m x) (omega (arith, length-expiryRows 48 m x)))
+
+-- how long the content of row p is, as it is read
+pub len-read : (h : Head) (xs : List ℕ) → Fit h xs → (p a v : ℕ) → p < h .live .«cached_rows» → a ≡ place (limitsOf (h .limits)) 5 → v ≡ leNat (part (a + 48 * p + 44) 4 xs)
+    → v ≡ lenOf (rowAt (expiryRows 48 (h .live .«cached_rows») (table (limitsOf (h .limits)) 5 xs)) p)
+len-read h xs fit p a v hp ea ev =
+    ev ∙ ap (λ (b : ℕ). leNat (part (b + 48 * p + 44) 4 xs)) ea
+    ∙ sym (len-in (limitsOf (h .limits)) (h .live .«cached_rows») xs (omega (arith, fit .within .cachedRows)) p hp)
+
+-- where row p starts, as `start_of` tells
+pub first-row : (h : Head) (xs : List ℕ) (p v : ℕ) → p < h .live .«cached_rows»
+    → v ≡ firstStart (h .live .contents) (drop p (expiryRows 48 (h .live .«cached_rows») (table (limitsOf (h .limits)) 5 xs)))
+    → v ≡ startOf (rowAt (expiryRows 48 (h .live .«cached_rows») (table (limitsOf (h .limits)) 5 xs)) p)
+first-row h xs p v hp e =
+    let m : ℕ = h .live .«cached_rows» in
+    let x : List ℕ = table (limitsOf (h .limits)) 5 xs in
+    e ∙ first-drop (h .live .contents) p (expiryRows 48 m x) (omega (arith, length-expiryRows 48 m x))

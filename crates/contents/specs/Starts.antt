@@ -37,3 +37,7 @@ shiftedRow up down x = withStart (startOf x + up - down) x
 -- no start goes below 0 when it goes up and then down
 pub record Above (up down : ℕ) (xs : List ExpiryRow) : Type 0 where
   pub above : (i : ℕ) → i < length xs → down ≤ startOf (rowAt xs i) + up
+
+-- a row with another length
+abbrev pub withLen : ℕ → ExpiryRow → ExpiryRow
+withLen v x = expiryRow (x .time) (x .key) (put 4 (leBytes 4 v) (x .rest))

@@ -8,3 +8,4 @@ pub mod Resizing
 pub mod Setting
 pub mod Inserting
 pub mod Putting
+pub mod Takings

@@ -39,7 +39,14 @@ pub fn first_event(h: Head, block: &mut [u8], instant: Millis) -> Head
 
 // "mark received; cache at" a round: requires that the caches with the message are within their limits. Its time is that of one pass over entries, rows and
 // contents.
-pub fn take_in(h: Head, block: &mut [u8], instant: Millis, id: Id, content: &[u8], round: Round) -> Head
+pub fn take_in(
+    h: Head,
+    block: &mut [u8],
+    instant: Millis,
+    id: Id,
+    content: &[u8],
+    round: Round,
+) -> Head
     requires { ⌜ TakesIn (instant .0) (idOf id) (now content) (round .0) h (now block) ⌝ }
     ensures { λ r. ⌜ Goes (takenState (instant .0) (idOf id) (now (content .entry)) (round .0)) h (now (block .entry)) r (now (block .exit)) ⌝ }
 {

@@ -16,7 +16,7 @@ use Rattle.refs.proofs.Places.{row-end}
 use Rattle.time_cache.specs.Tables.{ExpiryRow, expiryRowOf, expiryRows, expiryOf, rowAt, noRow}
 use Rattle.time_cache.proofs.ExpiryLaws.{row-at, length-expiryRows}
 use Rattle.block.specs.View.{fourAt}
-use Rattle.block.specs.Sound.{Adjoining} 
+use Rattle.block.specs.Sound.{Adjoining}
 use Rattle.block.specs.Sound.Adjoining.{done as last, next as then}
 use Rattle.contents.specs.Starts.{startOf, lenOf, firstStart, Chain, done, next, withStart, withLen, shiftedRow, Above}
 

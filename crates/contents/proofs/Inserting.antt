@@ -134,15 +134,23 @@ module _ (h : Head) (xs : List ℕ) (sound : Sound h xs) (id round t : ℕ) (r :
   unfolding stateOf cachedIn
   hn =
       let v : Cached = cachedOf store (heldAt (r .cache) i j ys .own) (heldAt (r .cache) i j ys .rest) in
-      omega (arith, most .entries, count-put id t v (message [] round) (stateOf h xs .cache),
-        sym (count-entries l 4 4 n′ 5 48 m′ ys (lit< tt) wn′ (lit< tt) wm′ (cachedOf store)) ∙ ap (λ (c : Cache Cached). length (c .entries)) first)
+      omega (
+        arith,
+        most .entries,
+        count-put id t v (message [] round) (stateOf h xs .cache),
+        sym (count-entries l 4 4 n′ 5 48 m′ ys (lit< tt) wn′ (lit< tt) wm′ (cachedOf store)) ∙ ap (λ (c : Cache Cached). length (c .entries)) first,
+      )
 
   hm : m′ ≤ 2 * l .C
   unfolding stateOf cachedIn
   hm =
       let v : Cached = cachedOf store (heldAt (r .cache) i j ys .own) (heldAt (r .cache) i j ys .rest) in
-      omega (arith, most .expiry, expiry-put id t v (message [] round) (stateOf h xs .cache),
-        sym (count-expiry l 4 4 n′ 5 48 m′ ys (lit< tt) wn′ (lit< tt) wm′ (cachedOf store)) ∙ ap (λ (c : Cache Cached). length (c .expiry)) first)
+      omega (
+        arith,
+        most .expiry,
+        expiry-put id t v (message [] round) (stateOf h xs .cache),
+        sym (count-expiry l 4 4 n′ 5 48 m′ ys (lit< tt) wn′ (lit< tt) wm′ (cachedOf store)) ∙ ap (λ (c : Cache Cached). length (c .expiry)) first,
+      )
 
   pub fit-in : Fit newHead ys
   fit-in = record { ceilings = sound .fit .ceilings; within = omega (arith, sound .fit .within, hn, hm); long = omega (arith, e, sound .fit .long) }

@@ -60,10 +60,12 @@ unfolding sum ascending
 sum-once K m w [] a b = omega arith
 sum-once K m w (p ∷ ps) a b =
     let low : p < m = ltb-true p m (all-head (λ p. ltb p m) p ps b) in
-    omega (arith,
+    omega (
+      arith,
       sum-once K m (but p w) ps (and-right (all (ltb (K p)) (map K ps)) (ascending (map K ps)) a) (all-tail (λ p. ltb p m) p ps b),
       but-apart K p w ps (and-left (all (ltb (K p)) (map K ps)) (ascending (map K ps)) a),
-      sums-but w p m low)
+      sums-but w p m low,
+    )
 
 -- two parts of a sum
 module _ (v u w : ℕ → ℕ) (e : (i : ℕ) → v i + u i ≡ w i) where

@@ -84,4 +84,3 @@ insert-empty-spec =
     store-empty-requires
     same-length
     returns)
-

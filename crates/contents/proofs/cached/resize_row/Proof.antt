@@ -181,4 +181,3 @@ resize-row-spec =
     add-all
     same-length
     returns)
-

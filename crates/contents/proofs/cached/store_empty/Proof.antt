@@ -88,4 +88,3 @@ store-empty-spec =
     store-le-requires-3
     same-length
     returns)
-

@@ -2,15 +2,15 @@
 -- Assumes nothing.
 use mathlib.Core.Path.{_≡_, refl, sym, ap, _∙_}
 use mathlib.Core.Bool.{Bool, true, false, not, _&&_}
-use mathlib.Core.List.{List, [], _∷_, map}
-use mathlib.Core.Option.{Option, none, some}
-use Prim.Native.Nat.{ℕ, _+_, _≤_, _<_}
+use mathlib.Core.List.{List, [], _∷_}
+use mathlib.Core.Option.{Option, none}
+use Prim.Native.Nat.{ℕ, _≤_, _<_}
 use native.Mathlib.Omega.{arith}
 use borrow.Author.Tests.{ltb-true, ne-eqb}
-use lib.Dec.{leb, ltb, eqb}
+use lib.Dec.{leb, ltb}
 use lib.ListN.{length, getD, length-map, List·getD-map}
-use Rattle.lists.specs.Base.{if_then_else_, isSome, all, any, member, once, ascending}
-use Rattle.lists.specs.Map.{Map, Entry, entry, keys, lookup, insert, has}
+use Rattle.lists.specs.Base.{isSome, all, any, member, once, ascending}
+use Rattle.lists.specs.Map.{Map, Entry, entry, keys, insert, has}
 use Rattle.lists.proofs.MapLaws.{and-left, and-right, and-intro, all-head, all-tail}
 use Rattle.lists.proofs.ListLaws.{all-map}
 use Rattle.rows.specs.Sorted.{Ascending, Here, Between}

@@ -23,6 +23,7 @@ use Rattle.protocol.specs.Gossips.{peersOf, graftOut}
 use Rattle.protocol.specs.Whole.{graftsWhole}
 use Rattle.protocol.proofs.ConsistentTables.{Grafted, to-grafted, grafted-insert}
 use Rattle.block.specs.View.{stateOf}
+use Rattle.block.specs.Fit.{Fit}
 use Rattle.block.specs.LinkSteps.{peerAt}
 use Rattle.block.specs.declared.head.Head.{Head}
 use Rattle.block.proofs.LinkLaws.{count-links, count-peers, neighbour-here}
@@ -35,7 +36,7 @@ use Rattle.steps.specs.Stands.{Stands}
 use Rattle.steps.specs.declared.Held.{Held}
 use Rattle.steps.specs.declared.Held.the-variants.{At, Nothing}
 use Rattle.steps.proofs.StandsLaws.{links-up, grafted-order}
-use Rattle.grafts.specs.Reads.{Grafting, heldPeers}
+use Rattle.grafts.specs.Reads.{Grafting, HeldBelow, heldPeers}
 
 -- what the functions of the grafts ask, out of `Stands`
 pub stands-grafting : (h : Head) (xs : List ℕ) → Stands h xs → Grafting h xs
@@ -110,3 +111,9 @@ pub held-peers : (s : State) (id : ℕ) (found : Option Grafts) (r : Held) → H
 unfolding peersOf
 held-peers s id found (At i) h = sym (ap peersOf (h .value))
 held-peers s id found Nothing h = sym (ap peersOf h)
+
+-- the entry that was found is one of those in the block
+pub held-below : (h : Head) (xs : List ℕ) (id : ℕ) (found : Option Grafts) (r : Held) → Fit h xs
+    → HeldIs (entry 0 (record { expires = 0; value = record { first = none; kept = none; peers = [] } })) (stateOf h xs .grafted .entries) id found r → HeldBelow (h .live .grafted) r
+held-below h xs id found (At i) fit x = omega (arith, x .below, count-grafted h xs fit)
+held-below h xs id found Nothing fit x = tt

@@ -1,6 +1,6 @@
 -- The steps of the message cache, and what stands between the two stages of one.
 -- Assumes nothing.
-use Prim.Native.Nat.{ℕ, _+_, _-_}
+use Prim.Native.Nat.{ℕ, _+_, _-_, _*_}
 use mathlib.Core.Path.{_≡_}
 use mathlib.Core.List.{List, [], _∷_, _++_, map}
 use mathlib.Core.Option.{Option, none, some}
@@ -10,7 +10,8 @@ use Rattle.refs.specs.Refs.{Below, refs, places}
 use Rattle.time_cache.specs.TimeCache.{Cache, get, put, replace, expireUntil}
 use Rattle.time_cache.specs.Tables.{ExpiryRow, rowAt, expiryRows}
 use Rattle.protocol.specs.State.{State, Cached, withCache}
-use Rattle.block.specs.Layout.{tables, table}
+use Rattle.rows.specs.Digits.{leBytes}
+use Rattle.block.specs.Layout.{place, tables, table}
 use Rattle.block.specs.View.{limitsOf, cachedIn}
 use Rattle.block.specs.Fit.{Fit}
 use Rattle.block.specs.Heads.{withCachedCounts}
@@ -22,9 +23,13 @@ use Rattle.contents.specs.Starts.{startOf, lenOf, firstStart, Chain, shi
 abbrev pub cachedLeft : ℕ → State → State
 cachedLeft instant s = withCache (expireUntil instant (s .cache)) s
 
+-- a cached message
+abbrev pub message : List ℕ → ℕ → Cached
+message content round = record { content = content; round = round }
+
 -- "cache at" a round, until an instant
 abbrev pub cachedAlso : ℕ → List ℕ → ℕ → ℕ → State → State
-cachedAlso id content round expires s = withCache (put id (record { content = content; round = round }) expires (s .cache)) s
+cachedAlso id content round expires s = withCache (put id (message content round) expires (s .cache)) s
 
 -- what the layout needs of all tables but those of the message cache
 pub record Others (h : Head) (t : List (List ℕ)) : Type 0 where
@@ -77,3 +82,10 @@ pub record Resized (h : Head) (p : ℕ) (content xs : List ℕ) (r : Head) (ys :
       (table (limitsOf (h .limits)) 6 xs))
   pub tables : tables (limitsOf (h .limits)) ys ≡ set (set (tables (limitsOf (h .limits)) xs) 6 (table (limitsOf (h .limits)) 6 ys)) 5 (table (limitsOf (h .limits)) 5 ys)
   pub long : length ys ≡ length xs
+
+-- the bytes of an entry and of its row for a content of no bytes that starts at s: start, length and round
+abbrev pub emptyIn : Head → ℕ → ℕ → ℕ → ℕ → List ℕ → List ℕ
+emptyIn h i j s round block =
+    putAt (place (limitsOf (h .limits)) 4 + (i * 4 + 2)) (leBytes 2 round)
+    (putAt (place (limitsOf (h .limits)) 5 + (j * 48 + 44)) (leBytes 4 0)
+    (putAt (place (limitsOf (h .limits)) 5 + (j * 48 + 40)) (leBytes 4 s) block))

@@ -25,10 +25,10 @@ ghost use Rattle.block.specs.Sound.{Sound, held};
 ghost use Rattle.block.specs.Goes.{Goes};
 ghost use Rattle.caches.specs.InBlock.{InOrder, AtMost};
 ghost use Rattle.contents.specs.Starts.{lenOf, firstStart, shiftedRow, Above};
-ghost use Rattle.contents.specs.CacheSteps.{cachedLeft, cachedAlso, cachedRows, refill, refilled, Ahead, Shifts, Resized};
+ghost use Rattle.contents.specs.CacheSteps.{cachedLeft, cachedAlso, cachedRows, message, emptyIn, refill, refilled, Ahead, Shifts, Resized};
 
 // Where the content of row j starts among the contents; for the row after the last, where the contents end.
-pub fn start_of(h: Head, block: &[u8], j: usize) -> usize
+fn start_of(h: Head, block: &[u8], j: usize) -> usize
     requires { ⌜ Fit h (now block) × (j ≤ h .live .«cached_rows») ⌝ }
     ensures { λ r. ⌜ r ≡ firstStart (h .live .contents) (drop j (expiryRows 48 (h .live .«cached_rows») (table (limitsOf (h .limits)) 5 (now (block .entry))))) ⌝ }
 {
@@ -155,4 +155,51 @@ fn set_content(h: Head, block: &mut [u8], id: Id, content: &[u8]) -> Head
         }
         Found::Before(_) => h,
     }
+}
+
+// Stores round, start and length of a content of no bytes in entry i and its row j.
+fn store_empty(h: Head, block: &mut [u8], i: usize, j: usize, s: usize, round: Round)
+    requires { ⌜ Fit h (now block) × (i < h .live .cached) × (j < h .live .«cached_rows») ⌝ }
+    ensures { λ _. ⌜ now (block .exit) ≡ emptyIn h i j s (round .0) (now (block .entry)) ⌝ }
+{
+    let b = head::cached_rows_at(h.limits) + j * 48;
+    word::store_le(block, b + 40, 4, s as u64);
+    word::store_le(block, b + 44, 4, 0);
+    let a = head::cached_at(h.limits) + i * 4;
+    word::store_le(block, a + 2, 2, round.0 as u64);
+}
+
+// Puts a message in without its content: requires that no content is left of an entry that it overwrites.
+fn insert_empty(mut h: Head, block: &mut [u8], id: Id, round: Round, expires: Millis) -> Head
+    requires { ⌜ Sound h (now block) × InOrder (stateOf h (now block) .cache) × AtMost (h .limits .cached) (putIn (idOf id) (message [] (round .0)) (expires .0) (stateOf h (now block) .cache)) × (held (putIn (idOf id) (message [] (round .0)) (expires .0) (stateOf h (now block) .cache) .entries) ≡ h .live .contents) ⌝ }
+    ensures { λ r. ⌜ Goes (cachedAlso (idOf id) [] (round .0) (expires .0)) h (now (block .entry)) r (now (block .exit)) ⌝ }
+{
+    let c = cached::cached_cache(h);
+    let e = c.insert(block, id, expires);
+    let n = e.cache.entries.len;
+    let m = e.cache.expiry.len;
+    h.live.cached = n;
+    h.live.cached_rows = m;
+    let i = e.entry;
+    let j = e.row;
+    let s = start_of(h, block, j + 1);
+    store_empty(h, block, i, j, s, round);
+    h
+}
+
+// "cache at" a round, until `expires`: requires that what it leaves is within the limits. Its time is that of one pass over entries, rows and contents.
+pub fn insert_cached(
+    h: Head,
+    block: &mut [u8],
+    id: Id,
+    content: &[u8],
+    round: Round,
+    expires: Millis,
+) -> Head
+    requires { ⌜ Sound h (now block) × InOrder (stateOf h (now block) .cache) × AtMost (h .limits .cached) (putIn (idOf id) (message (now content) (round .0)) (expires .0) (stateOf h (now block) .cache)) × (held (putIn (idOf id) (message (now content) (round .0)) (expires .0) (stateOf h (now block) .cache) .entries) ≤ h .limits .content) ⌝ }
+    ensures { λ r. ⌜ Goes (cachedAlso (idOf id) (now (content .entry)) (round .0) (expires .0)) h (now (block .entry)) r (now (block .exit)) ⌝ }
+{
+    let a = set_content(h, block, id, &content[0..0]);
+    let b = insert_empty(a, block, id, round, expires);
+    set_content(b, block, id, content)
 }

@@ -6,3 +6,5 @@ pub mod LinkLoop
 pub mod ReadPass
 pub mod GainLaws
 pub mod GainLoop
+pub mod SendLaws
+pub mod ActionLoop

@@ -19,6 +19,7 @@ use Rattle.protocol.specs.Push.{forPeer}
 use Rattle.protocol.specs.Ticks.{queuedFor, queuedPeers}
 use Rattle.protocol.proofs.Consistent.{byNeighbour}
 use Rattle.decide.specs.RecordGrowth.{Batch, addNotes, addBatches}
+use Rattle.decide.specs.Pieces.{Piece, peerPieces, pieces}
 use Rattle.decide.proofs.Dispatch.{queued-near, queued-ascending}
 use Rattle.steps.proofs.RoomsLaws.{has-member}
 use Rattle.dispatch.proofs.QueueLaws.{notes-none}
@@ -65,6 +66,16 @@ ascending-rest : (k : ℕ) (ks : List ℕ) → ascending (k ∷ ks) ≡ true →
 unfolding ascending
 ascending-rest k ks a = and-right (all (ltb k) ks) (ascending ks) a
 
+-- what is below the first of them is none of them
+above : (k q : ℕ) (qs : List ℕ) → ascending (q ∷ qs) ≡ true → k < q → (x : ℕ) → member x (q ∷ qs) ≡ true → x ≡ k → ⊥
+above k q qs b l x m z =
+    cases (eqb x q)
+    (λ e. omega (arith, eqb-true x q e))
+    (λ e. omega (arith, member-lt q x qs (ascending-above q qs b) (member-tail x q qs m (eqb-false x q e))))
+
+outside : (k q : ℕ) (qs : List ℕ) → ascending (q ∷ qs) ≡ true → k < q → member k (q ∷ qs) ≡ false
+outside k q qs b l = cases (member k (q ∷ qs)) (λ e. absurd (above k q qs b l k e refl)) (λ e. e)
+
 -- batches of more peers, where those of the others are empty
 
 module _ (c : ℕ → Bool) (batch : ℕ → List Ihave) where
@@ -89,31 +100,58 @@ module _ (c : ℕ → Bool) (batch : ℕ → List Ihave) where
   batches-among (k ∷ ks) (q ∷ qs) a b within away ds =
       cases (eqb k q)
       (λ e.
-        let s : k ≡ q = eqb-true k q e in
-        first-batch k (map batchFor ks) ds
-        ∙ batches-among ks qs (ascending-rest k ks a) (ascending-rest q qs b)
-        (λ x m. member-tail x k ks (within x (member-later x q qs m)) (λ z. omega (arith, member-lt q x qs (ascending-above q qs b) m)))
-        (λ x m n. away x (member-later x k ks m) (member-not x q qs (λ z. omega (arith, member-lt k x ks (ascending-above k ks a) m)) n))
-        (addNotes c k (batch k) ds)
-        ∙ ap (λ (x : ℕ). addBatches c (map batchFor qs) (addNotes c x (batch x) ds)) s
-        ∙ sym (first-batch q (map batchFor qs) ds))
+      let s : k ≡ q = eqb-true k q e in
+      first-batch k (map batchFor ks) ds
+      ∙ batches-among ks qs (ascending-rest k ks a) (ascending-rest q qs b)
+      (λ x m. member-tail x k ks (within x (member-later x q qs m)) (λ z. omega (arith, member-lt q x qs (ascending-above q qs b) m)))
+      (λ x m n. away x (member-later x k ks m) (member-not x q qs (λ z. omega (arith, member-lt k x ks (ascending-above k ks a) m)) n))
+      (addNotes c k (batch k) ds)
+      ∙ ap (λ (x : ℕ). addBatches c (map batchFor qs) (addNotes c x (batch x) ds)) s
+      ∙ sym (first-batch q (map batchFor qs) ds))
       (λ e.
-        let n : k ≡ q → ⊥ = eqb-false k q e in
-        let l : k < q = member-lt k q ks (ascending-above k ks a) (member-tail q k ks (within q (member-here q qs)) (λ z. n (sym z))) in
-        skip-empty k (map batchFor ks) ds (away k (member-here k ks) (outside l))
-        ∙ batches-among ks (q ∷ qs) (ascending-rest k ks a) b
-        (λ x m. member-tail x k ks (within x m) (λ z. above l x m z))
-        (λ x m w. away x (member-later x k ks m) w)
-        ds)
-    where
-      above : k < q → (x : ℕ) → member x (q ∷ qs) ≡ true → x ≡ k → ⊥
-      above l x m z =
-          cases (eqb x q)
-          (λ e. omega (arith, eqb-true x q e))
-          (λ e. omega (arith, member-lt q x qs (ascending-above q qs b) (member-tail x q qs m (eqb-false x q e))))
+      let n : k ≡ q → ⊥ = eqb-false k q e in
+      let l : k < q = member-lt k q ks (ascending-above k ks a) (member-tail q k ks (within q (member-here q qs)) (λ z. n (sym z))) in
+      skip-empty k (map batchFor ks) ds (away k (member-here k ks) (outside k q qs b l))
+      ∙ batches-among ks (q ∷ qs) (ascending-rest k ks a) b
+      (λ x m. member-tail x k ks (within x m) (λ z. above k q qs b l x m z))
+      (λ x m w. away x (member-later x k ks m) w)
+      ds)
 
-      outside : k < q → member k (q ∷ qs) ≡ false
-      outside l = cases (member k (q ∷ qs)) (λ e. absurd (above l k e refl)) (λ e. e)
+-- the IHaves to more peers, where there are none to the others
+
+module _ (k : ℕ) (ns : List Note) where
+  skip-pieces : (p : ℕ) (ps : List ℕ) → peerPieces k ns p ≡ [] → pieces (p ∷ ps) k ns ≡ pieces ps k ns
+  unfolding pieces
+  skip-pieces p ps e = ap (λ (xs : List Piece). xs ++ pieces ps k ns) e
+
+  first-pieces : (p : ℕ) (ps : List ℕ) → pieces (p ∷ ps) k ns ≡ peerPieces k ns p ++ pieces ps k ns
+  unfolding pieces
+  first-pieces p ps = refl
+
+  pub pieces-among : (ks qs : List ℕ) → ascending ks ≡ true → ascending qs ≡ true → ((x : ℕ) → member x qs ≡ true → member x ks ≡ true)
+      → ((x : ℕ) → member x ks ≡ true → member x qs ≡ false → peerPieces k ns x ≡ []) → pieces ks k ns ≡ pieces qs k ns
+  pieces-among [] [] a b within away = refl
+  pieces-among [] (q ∷ qs) a b within away = true≢ (unfold member in (within q (member-here q qs)))
+  pieces-among (j ∷ ks) [] a b within away =
+      skip-pieces j ks (away j (member-here j ks) (unfold member in refl))
+      ∙ pieces-among ks [] (ascending-rest j ks a) b (λ x m. true≢ (unfold member in m)) (λ x m n. away x (member-later x j ks m) n)
+  pieces-among (j ∷ ks) (q ∷ qs) a b within away =
+      cases (eqb j q)
+      (λ e.
+      let s : j ≡ q = eqb-true j q e in
+      first-pieces j ks
+      ∙ ap (λ (xs : List Piece). peerPieces k ns j ++ xs) (pieces-among ks qs (ascending-rest j ks a) (ascending-rest q qs b)
+      (λ x m. member-tail x j ks (within x (member-later x q qs m)) (λ z. omega (arith, member-lt q x qs (ascending-above q qs b) m)))
+      (λ x m n. away x (member-later x j ks m) (member-not x q qs (λ z. omega (arith, member-lt j x ks (ascending-above j ks a) m)) n)))
+      ∙ ap (λ (x : ℕ). peerPieces k ns x ++ pieces qs k ns) s
+      ∙ sym (first-pieces q qs))
+      (λ e.
+      let n : j ≡ q → ⊥ = eqb-false j q e in
+      let l : j < q = member-lt j q ks (ascending-above j ks a) (member-tail q j ks (within q (member-here q qs)) (λ z. n (sym z))) in
+      skip-pieces j ks (away j (member-here j ks) (outside j q qs b l))
+      ∙ pieces-among ks (q ∷ qs) (ascending-rest j ks a) b
+      (λ x m. member-tail x j ks (within x m) (λ z. above j q qs b l x m z))
+      (λ x m w. away x (member-later x j ks m) w))
 
 -- who has nothing queued
 

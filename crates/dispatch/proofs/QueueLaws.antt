@@ -52,6 +52,15 @@ pub queued-none : (p : ℕ) → queuedFor p [] ≡ []
 unfolding queuedFor filter
 queued-none p = refl
 
+-- the first entry
+pub queued-first : (p : ℕ) (n : Note) (ns : List Note) → forPeer p n ≡ true → queuedFor p (n ∷ ns) ≡ ihaveOf n ∷ queuedFor p ns
+unfolding queuedFor filter
+queued-first p n ns e = rw e refl
+
+pub queued-passed : (p : ℕ) (n : Note) (ns : List Note) → forPeer p n ≡ false → queuedFor p (n ∷ ns) ≡ queuedFor p ns
+unfolding queuedFor filter
+queued-passed p n ns e = rw e refl
+
 pub queued-few : (p : ℕ) (ns : List Note) → length (queuedFor p ns) ≤ length ns
 unfolding queuedFor
 queued-few p ns = omega (arith, length-map (filter (forPeer p) ns) ihaveOf, length-filter (forPeer p) ns, count-length (forPeer p) ns)

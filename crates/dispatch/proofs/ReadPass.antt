@@ -6,8 +6,9 @@ use mathlib.Core.List.{List, [], _∷_, _++_}
 use Prim.Native.Nat.{ℕ, _+_, _-_, _≤_, _<_}
 use native.Mathlib.Omega.{arith}
 use lib.Dec.{eqb}
-use lib.ListN.{length, take, drop, getD, length-append, drop-of-length-le}
-use lib.Seq.{take-all, take-add, length-take-le, drop-append-le, drop-nil}
+use lib.ListN.{length, take, drop, getD, length-drop, drop-of-length-le}
+use lib.Seq.{take-all, take-add, length-take-le, drop-append-le, drop-nil, drop-cons}
+use native.Mathlib.Numerals.{add-one}
 use borrow.Author.Tests.{leb-true, leb-false}
 use lib.Dec.{leb}
 use Rattle.lists.specs.Base.{any}
@@ -25,8 +26,9 @@ use Rattle.block.specs.declared.note.Note.{Note as LinkNote}
 use Rattle.block.proofs.NoteLaws.{count-queue}
 use Rattle.steps.specs.Stands.{Stands}
 use Rattle.steps.proofs.StandsLaws.{links-up}
-use Rattle.dispatch.specs.Gains.{handedTo, among}
-use Rattle.dispatch.proofs.QueueLaws.{ihaveOf, queued-more, queued-same, queued-none, queued-few, queued-append, drop-late, drop-early, link-for, link-not}
+use Rattle.dispatch.specs.Gains.{among}
+use Rattle.dispatch.specs.Sends.{toSend}
+use Rattle.dispatch.proofs.QueueLaws.{ihaveOf, queued-more, queued-same, queued-none, queued-few, queued-append, queued-first, queued-passed, drop-late, drop-early, link-for, link-not}
 
 -- what is queued for the link among the first i entries
 abbrev pub heardBy : ℕ → Head → List ℕ → ℕ → List Ihave
@@ -55,8 +57,8 @@ module _ (skip k : ℕ) (hs : List Ihave) where
       cases (leb skip (length hs))
       (λ t. ap (among k) (drop-append-le skip hs rest (leb-true skip (length hs) t)) ∙ any-left (λ h. eqb (h .id) k) (drop skip hs) rest e)
       (λ t.
-        let none : among k (drop skip hs) ≡ false = ap (among k) (drop-of-length-le hs (below t)) ∙ among-nothing k in
-        true≢ (sym none ∙ e))
+      let none : among k (drop skip hs) ≡ false = ap (among k) (drop-of-length-le hs (below t)) ∙ among-nothing k in
+      true≢ (sym none ∙ e))
     where
       below : leb skip (length hs) ≡ false → length hs ≤ skip
       below t = omega (arith, leb-false skip (length hs) t)
@@ -101,3 +103,17 @@ module _ (l : ℕ) (h : Head) (xs : List ℕ) where
 
       pub heard-note : (x : LinkNote) → NoteIs h xs (s .queue) i x → ihaveOf here ≡ record { id = idOf (x .id); round = x .round .0 }
       heard-note x is = λ k. ihaveOf (is .same k)
+
+      -- the same of what is still to be sent
+      from-here : drop i (s .queue) ≡ here ∷ drop (i + 1) (s .queue)
+      from-here = drop-cons (s .queue) i (note 0 0 0) within ∙ ap (λ (n : ℕ). here ∷ drop n (s .queue)) (sym (add-one i))
+
+      pub send-other : (x : ℕ) → LinkIs h xs (s .queue) i x → l < h .live .links → (x ≡ l → ⊥) → toSend l i s ≡ toSend l (i + 1) s
+      send-other x is m n = ap (queuedFor (peerAt s l)) from-here ∙ queued-passed (peerAt s l) here (drop (i + 1) (s .queue)) (link-not h xs (s .queue) i x l is (links-up h xs t) m n)
+
+      pub send-mine : (x : ℕ) → LinkIs h xs (s .queue) i x → x ≡ l → toSend l i s ≡ ihaveOf here ∷ toSend l (i + 1) s
+      send-mine x is e = ap (queuedFor (peerAt s l)) from-here ∙ queued-first (peerAt s l) here (drop (i + 1) (s .queue)) (link-for h xs (s .queue) i x l is e)
+
+    -- where something is to be sent, an entry stands
+    pub send-some : (i : ℕ) → 0 < length (toSend l i s) → i < h .live .queued
+    send-some i q = omega (arith, queued-few (peerAt s l) (drop i (s .queue)), length-drop i (s .queue), count-queue h xs (t .sound))

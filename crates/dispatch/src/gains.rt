@@ -20,7 +20,7 @@ ghost use Rattle.steps.specs.Stands.{Stands};
 ghost use Rattle.dispatch.specs.Gains.{handedTo, among, fresh, dispatchGains};
 
 // The smaller of two numbers.
-fn min(a: usize, b: usize) -> usize
+pub fn min(a: usize, b: usize) -> usize
     ensures { λ r. ⌜ r ≡ min a b ⌝ }
 {
     if a < b {
@@ -57,7 +57,15 @@ fn is_again(h: Head, block: &[u8], link: usize, skip: usize, end: usize, id: Id)
 
 // Whether an identifier that is handed back with entry `end` of the queue would be added, were there room for all: "each identifier in the cache and not already
 // there". Its time is that of a look-up in the message cache and, where it is cached, of a pass over the record's and the queue's column of link numbers.
-fn is_fresh(h: Head, block: &[u8], instant: Millis, link: usize, skip: usize, end: usize, id: Id) -> bool
+fn is_fresh(
+    h: Head,
+    block: &[u8],
+    instant: Millis,
+    link: usize,
+    skip: usize,
+    end: usize,
+    id: Id,
+) -> bool
     requires { ⌜ Stands h (now block) × (link < h .live .links) × (end ≤ h .live .queued) ⌝ }
     ensures { λ r. ⌜ r ≡ fresh (cachedIn (settled (instant .0) (stateOf h (now (block .entry))) .cache)) (peerAt (stateOf h (now (block .entry))) link) (stateOf h (now (block .entry)) .dropped) (handedTo link skip end (stateOf h (now (block .entry)))) (idOf id) ⌝ }
 {
@@ -105,8 +113,15 @@ fn count_fresh(h: Head, block: &[u8], instant: Millis, link: usize, skip: usize)
     found
 }
 
-// How many of them are added, where `extra` were added for the links before: "unless the peer has 256 or all have 4,096".
-fn link_gain(h: Head, block: &[u8], instant: Millis, link: usize, skip: usize, extra: usize) -> usize
+// How many of them are added, where `extra` were added for the links before: "unless the peer has 256 or all have 4,096". Of the scan only the count is used.
+fn link_gain(
+    h: Head,
+    block: &[u8],
+    instant: Millis,
+    link: usize,
+    skip: usize,
+    extra: usize,
+) -> usize
     requires { ⌜ Stands h (now block) × (link < h .live .links) × (h .live .dropped + extra ≤ 4096) ⌝ }
     ensures { λ r. ⌜ r ≡ peerGain (cachedIn (settled (instant .0) (stateOf h (now (block .entry))) .cache)) (peerAt (stateOf h (now (block .entry))) link) (stateOf h (now (block .entry)) .dropped) extra (drop skip (queuedFor (peerAt (stateOf h (now (block .entry))) link) (stateOf h (now (block .entry)) .queue))) ⌝ }
 {

@@ -1,5 +1,7 @@
 // DispatchLazyPush: "Dispatch empties the queue, peers ascending, IHave of at most (M − 6) / 35, rounded down; handed back are noted".
+pub mod actions;
 pub mod gains;
+
 use block::head::Head;
 use block::note;
 use caches::cached;

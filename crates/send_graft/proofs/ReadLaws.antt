@@ -1,6 +1,6 @@
 -- The actions and sizes of SendGraft, read from the block as it stands before a first event has evicted.
 -- Assumes nothing.
-use mathlib.Core.Path.{_≡_, refl, sym, ap, _∙_, subst}
+use mathlib.Core.Path.{_≡_, refl, sym, ap, _∙_}
 use mathlib.Core.Bool.{Bool, true, false}
 use mathlib.Core.List.{List, [], _∷_, _++_}
 use mathlib.Core.Option.{Option, none, some}
@@ -10,9 +10,9 @@ use native.Mathlib.Numerals.{add-one}
 use native.Mathlib.Omega.{arith}
 use borrow.Author.Tests.{ne-eqb}
 use lib.Dec.{leb, ltb}
-use lib.ListN.{length, drop, getD, length-map}
-use Rattle.lists.specs.Base.{if_then_else_, isSome, isEmpty, filter, member, concatMap}
-use Rattle.lists.specs.Map.{Map, Entry, entry, keys, lookup}
+use lib.ListN.{length, drop, getD}
+use Rattle.lists.specs.Base.{if_then_else_, isSome, isEmpty, member, concatMap}
+use Rattle.lists.specs.Map.{Map, Entry, keys, lookup}
 use Rattle.lists.proofs.Branches.{if-on, if-same}
 use Rattle.lists.proofs.ListLaws.{length-filter, count-length}
 use Rattle.rows.specs.Sorted.{Ascending, Here, Between}
@@ -33,16 +33,14 @@ use Rattle.block.specs.MissingSteps.{hop, hopsAt, HopIs}
 use Rattle.block.specs.declared.head.Head.{Head}
 use Rattle.block.specs.declared.hops.Hop.{Hop as LinkHop}
 use Rattle.block.proofs.LinkLaws.{count-links}
-use Rattle.block.proofs.MissingLaws.{count-missing, count-missed}
-use Rattle.block.proofs.TimerLaws.{count-timers}
+use Rattle.block.proofs.MissingLaws.{count-missing}
 use Rattle.block.proofs.AnnounceLaws.{announcers-here, announcers-between}
-use Rattle.caches.proofs.GraftedLaws.{count-grafted, count-grafted-rows}
 use Rattle.steps.specs.Stands.{Stands}
 use Rattle.steps.specs.Rooms.{roomsIn}
 use Rattle.steps.specs.Shared.{sizesValue}
 use Rattle.steps.specs.declared.Sizes.{Sizes as CodeSizes}
-use Rattle.steps.proofs.StandsLaws.{links-up, missing-up}
-use Rattle.steps.proofs.RoomsLaws.{kth-at, member-at}
+use Rattle.steps.proofs.StandsLaws.{links-up}
+use Rattle.steps.proofs.RoomsLaws.{kth-link, member-at}
 use Rattle.ticks.proofs.ActionLaws.{no-action, one-action, actions-then}
 use Rattle.send_graft.specs.Asks.{missingLeft}
 use Rattle.send_graft.proofs.AskLaws.{some-hops}
@@ -235,7 +233,7 @@ two-actions s rooms id p rd [] q e = absurd (omega arith)
 two-actions s rooms id p rd (x ∷ hs) q e =
     ap (λ (y : Hop). Sent (y .peer) (kthTaken 1 (y .peer) rooms) (Graft (some id) (y .round)) ∷ Scheduled (s .settings .graftTimeout2) (SendGraft id) ∷ []) e
 
-module _ (h : Head) (xs : List ℕ) (stands : Stands h xs) (i id : ℕ) (q : i < h .live .missing) (array : List ℕ) (r : LinkHop) (first : HopIs h xs (hopsAt (stateOf h xs) i) 0 r) (long : 34 ≤ length array) where
+module _ (h : Head) (xs : List ℕ) (stands : Stands h xs) (i id : ℕ) (q : i < h .live .missing) (array : List ℕ) (r : LinkHop) (first : HopIs h xs (hopsAt (stateOf h xs) i) 0 r) where
   abbrev s : State
   s = stateOf h xs
 
@@ -245,7 +243,7 @@ module _ (h : Head) (xs : List ℕ) (stands : Stands h xs) (i id : ℕ) (q : i <
   unfolding stateOf
   ask-bytes p e =
       let taken : kthTaken 1 (peerAt s (r .link)) (roomsIn s array) ≡ leb 1 (getD array (r .link) 0) =
-      kth-at s array 1 (r .link) (links-up h xs stands) (omega (arith, first .below, count-links h xs)) (omega (arith, first .below, long, stands .sound .fit .within .links, stands .sound .fit .ceilings .N)) (omega arith) in
+      kth-link s array 1 (r .link) (links-up h xs stands) (omega (arith, first .below, count-links h xs)) (omega arith) in
       let timer : Action = Scheduled (h .settings .config .«graft_timeout_2» .0) (SendGraft id) in
       ap (concatMap actionBytes) (two-actions s (roomsIn s array) id (peerAt s (r .link)) (r .round .0) (hopsAt s i) (some-hops h xs stands i q) (first .same))
       ∙ (λ k. concatMap actionBytes (Sent (sym e k) (taken k) (Graft (some id) (r .round .0)) ∷ timer ∷ []))

@@ -65,4 +65,3 @@ link-gain-spec =
     min-requires
     min-requires-2
     returns)
-

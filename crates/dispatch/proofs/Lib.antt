@@ -8,3 +8,4 @@ pub mod GainLaws
 pub mod GainLoop
 pub mod SendLaws
 pub mod ActionLoop
+pub mod MarkLaws

@@ -20,6 +20,7 @@ use Rattle.protocol.specs.State.{Note}
 use Rattle.protocol.specs.Push.{forPeer, notes, recordFull}
 use Rattle.decide.specs.RecordGrowth.{addNote}
 use Rattle.block.specs.NoteSteps.{note}
+use Rattle.dispatch.specs.Gains.{among}
 use Rattle.dispatch.specs.Marks.{lowOf, Covers}
 
 -- the low twelve bits of an identifier are those of its last word
@@ -110,3 +111,14 @@ module _ (p : ℕ) where
         on : (b : Bool) → count (forPeer p) (if b then ds ++ (n₁ ∷ []) else ds) + length ds ≡ count (forPeer p) ds + length (if b then ds ++ (n₁ ∷ []) else ds)
         on true = omega (arith, count-append (forPeer p) ds (n₁ ∷ []), one, length-append ds (n₁ ∷ []))
         on false = refl
+
+-- of what is handed back, one identifier more
+pub among-known : (a : Bool) (hs : List Ihave) (x : Ihave) (j : ℕ) → (a || among j (hs ++ (x ∷ []))) ≡ true → ((a || among j hs) ≡ true) ⊎ (j ≡ x .id)
+among-known true hs x j h = inl refl
+among-known false hs x j h =
+    ⊎-elim (λ b. inl b) (λ b. inr (sym (eqb-true (x .id) j b)))
+    (or-cases (among j hs) (eqb (x .id) j) (ap (λ (b : Bool). among j hs || b) (sym (any-one (λ y. eqb (y .id) j) x)) ∙ sym (any-append (λ y. eqb (y .id) j) hs (x ∷ [])) ∙ h))
+
+pub or-nothing : (a b : Bool) → b ≡ false → (a || b) ≡ true → a ≡ true
+or-nothing true b e h = refl
+or-nothing false b e h = true≢ (sym e ∙ h)

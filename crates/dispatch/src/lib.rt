@@ -23,7 +23,15 @@ ghost use Rattle.dispatch.specs.HandedBack.{Ready, MayNote, linkNoted, l
 // `note_dropped` of one identifier for one link: "each identifier in the cache and not already there is added unless the peer has 256 or all have 4,096". The record
 // has `own` for the link, and this one only where `mark` is set. Its time is that of a look-up in the message cache and, where the mark is set, of one pass over
 // the record's column of link numbers.
-fn note_one(h: Head, block: &mut [u8], link: usize, own: usize, mark: u8, id: Id, round: Round) -> Head
+fn note_one(
+    h: Head,
+    block: &mut [u8],
+    link: usize,
+    own: usize,
+    mark: u8,
+    id: Id,
+    round: Round,
+) -> Head
     requires { ⌜ MayNote h (now block) link own mark (idOf id) (round .0) ⌝ }
     ensures { λ r. ⌜ Goes (notedState link (idOf id) (round .0)) h (now (block .entry)) r (now (block .exit)) ⌝ }
 {

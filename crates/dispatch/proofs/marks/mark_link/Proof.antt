@@ -121,4 +121,3 @@ mark-link-spec =
     loop-less-2
     loop-again-2
     returns)
-

@@ -37,13 +37,13 @@ use Rattle.steps.specs.declared.Sizes.{Sizes as CodeSizes}
 use Rattle.settled.specs.Then.{noCached, laterBytes}
 
 -- a sum over the first entries, one more
-sum-next : {A : Type 0} (f : A → ℕ) (d : A) (i : ℕ) (m : List A) → i < length m → sum f (take (suc i) m) ≡ sum f (take i m) + f (getD m i d)
+pub sum-next : {A : Type 0} (f : A → ℕ) (d : A) (i : ℕ) (m : List A) → i < length m → sum f (take (suc i) m) ≡ sum f (take i m) + f (getD m i d)
 unfolding sum
 sum-next f d i [] h = absurd (omega arith)
 sum-next f d zero (x ∷ m) h = omega arith
 sum-next f d (suc i) (x ∷ m) h = omega (arith, sum-next f d i m (omega arith))
 
-sum-all : {A : Type 0} (f : A → ℕ) (i : ℕ) (m : List A) → length m ≤ i → sum f (take i m) ≡ sum f m
+pub sum-all : {A : Type 0} (f : A → ℕ) (i : ℕ) (m : List A) → length m ≤ i → sum f (take i m) ≡ sum f m
 unfolding sum
 sum-all f zero [] h = refl
 sum-all f (suc i) [] h = refl
@@ -91,7 +91,8 @@ module _ (now : ℕ) (h : Head) (xs : List ℕ) (sound : Sound h xs) where
       start [] = refl
       start (x ∷ m) = refl
 
-  length-content : (i : ℕ) (r : Content) → ContentIs h xs i r → length (cachedAt (stateOf h xs) i .content) ≡ r .len
+  -- the length of a content
+  pub length-content : (i : ℕ) (r : Content) → ContentIs h xs i r → length (cachedAt (stateOf h xs) i .content) ≡ r .len
   length-content i r c =
       ap length (c .same) ∙ length-part (place (limitsOf (h .limits)) 6 + r .start) (r .len) xs (omega (arith, c .within, sound .fit .within, sound .fit .long))
 

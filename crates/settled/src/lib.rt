@@ -229,7 +229,7 @@ fn cache_fits(limit: usize, entries: usize, rows: usize) -> bool
     rows <= 2 * limit
 }
 
-// (13) "Does the state stay within every limit?", of the numbers of entries after the call.
+// (13) "Is the state after the call within every limit?", of the numbers of entries after it.
 pub fn fit(l: Limits, z: Sizes) -> bool
     requires { ⌜ Ceilings (limitsOf l) ⌝ }
     ensures { λ r. ⌜ r ≡ fitSizes (limitsOf l) (sizesValue z) ⌝ }

@@ -15,9 +15,13 @@ use Rattle.lists.proofs.MapLaws.{cases, true≢, and-left, and-right, all-head,
 use Rattle.protocol.specs.Links.{isNeighbour}
 use Rattle.protocol.specs.State.{State}
 use Rattle.protocol.specs.Run.{Room}
+use Rattle.block.specs.View.{stateOf}
 use Rattle.block.specs.LinkSteps.{peerAt}
+use Rattle.block.specs.declared.head.Head.{Head}
+use Rattle.block.proofs.LinkLaws.{count-links}
 use Rattle.decide.specs.Rooms.{kthTaken, firstRoom, roomFor}
 use Rattle.decide.proofs.Decide.{kth-room}
+use Rattle.steps.specs.Stands.{Stands}
 use Rattle.steps.specs.Rooms.{roomAt, roomEntry, roomEntries, strangerEntry, roomsIn}
 
 -- links with the same peers stand for the same link room
@@ -129,3 +133,14 @@ module _ (s : State) (array : List ℕ) where
 
   pub kth-stranger : (k p : ℕ) → isNeighbour p (s .links) ≡ false → p ≡ getD array 33 0 → k ≤ 65536 → kthTaken k p (roomsIn s array) ≡ leb k (getD array 32 0)
   kth-stranger k p n e f = kth-room k p (roomsIn s array) ∙ ap (roomFor k) (first-stranger p n e) ∙ room-for k (getD array 32 0) f
+
+-- the same of a header and a block that stand, for the numbers that links have
+module _ (h : Head) (xs array : List ℕ) (stands : Stands h xs) (long : 32 ≤ length array) (i : ℕ) (q : i < h .live .links) where
+  below : i < length array
+  below = omega (arith, stands .sound .fit .within .links, stands .sound .fit .ceilings .N)
+
+  pub first-link : firstRoom (peerAt (stateOf h xs) i) (roomsIn (stateOf h xs) array) ≡ roomAt (getD array i 0)
+  first-link = first-at (stateOf h xs) array i (stands .consistent .core .linksUp) (omega (arith, count-links h xs)) below
+
+  pub kth-link : (k : ℕ) → k ≤ 65536 → kthTaken k (peerAt (stateOf h xs) i) (roomsIn (stateOf h xs) array) ≡ leb k (getD array i 0)
+  kth-link k f = kth-at (stateOf h xs) array k i (stands .consistent .core .linksUp) (omega (arith, count-links h xs)) below f

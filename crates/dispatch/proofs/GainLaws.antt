@@ -106,6 +106,18 @@ module _ (held : ℕ → Bool) (ds : List Note) where
       order : (x y z : ℕ) → y + (x + z) ≡ (x + y) + z
       order x y z = omega arith
 
+  -- the record stays within 4,096
+  pub gains-small : (extra : ℕ) (bs : List Batch) → length ds + extra ≤ 4096 → length ds + (gains held ds extra bs + extra) ≤ 4096
+  unfolding gains
+  gains-small extra [] w = omega arith
+  gains-small extra (b ∷ bs) w =
+      let g : ℕ = peerGain held (b .peer) ds extra (b .ihaves) in
+      let a : length ds + (g + extra) ≤ 4096 = omega (arith, gain-small held (b .peer) ds extra (b .ihaves) w) in
+      plain g (gains held ds (g + extra) bs) extra (length ds) (gains-small (g + extra) bs a)
+    where
+      plain : (g r e n : ℕ) → n + (r + (g + e)) ≤ 4096 → n + ((g + r) + e) ≤ 4096
+      plain g r e n h = omega arith
+
   pub gains-none : gains held ds 0 [] ≡ 0
   unfolding gains
   gains-none = refl

@@ -9,3 +9,4 @@ pub mod GainLoop
 pub mod SendLaws
 pub mod ActionLoop
 pub mod MarkLaws
+pub mod SizesLaws

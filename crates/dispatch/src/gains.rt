@@ -6,6 +6,7 @@ use postcard::size;
 use postcard::units::Millis;
 use rows::id;
 use rows::id::Id;
+use steps::Sizes;
 ghost use mathlib.Core.Path.{_≡_};
 ghost use mathlib.Core.Bool.{false};
 ghost use mathlib.Core.List.{[]};
@@ -15,9 +16,11 @@ ghost use Rattle.rows.specs.Ident.{idOf};
 ghost use Rattle.protocol.specs.Ticks.{queuedFor};
 ghost use Rattle.decide.specs.RecordGrowth.{cachedIn, eligible, peerGain};
 ghost use Rattle.decide.specs.Settled.{settled};
+ghost use Rattle.decide.specs.SizesAfter.{dispatchSizes};
 ghost use Rattle.block.specs.View.{stateOf};
 ghost use Rattle.block.specs.LinkSteps.{peerAt};
 ghost use Rattle.steps.specs.Rooms.{roomsIn};
+ghost use Rattle.steps.specs.Shared.{sizesValue};
 ghost use Rattle.steps.specs.Stands.{Stands};
 ghost use Rattle.dispatch.specs.Gains.{handedTo, among, known, fresh, dispatchGains};
 
@@ -169,4 +172,19 @@ pub fn dispatch_gains(h: Head, block: &[u8], instant: Millis, rooms: &[u64; 34])
         }
     }
     extra
+}
+
+// The numbers of entries after a dispatch: the queue is empty, and the record has grown.
+pub fn dispatch_sizes(h: Head, block: &[u8], instant: Millis, rooms: &[u64; 34]) -> Sizes
+    requires { ⌜ Stands h (now block) ⌝ }
+    ensures { λ r. ⌜ sizesValue r ≡ dispatchSizes (roomsIn (stateOf h (now (block .entry))) (now (rooms .entry))) (settled (instant .0) (stateOf h (now (block .entry)))) ⌝ }
+{
+    let z = settled::sizes_then(h, block, instant);
+    let gain = dispatch_gains(h, block, instant, rooms);
+    let dropped = h.live.dropped + gain;
+    Sizes {
+        queued: 0,
+        dropped,
+        ..z
+    }
 }

@@ -11,11 +11,9 @@ use lib.Seq.{drop-cons}
 use Rattle.lists.specs.Base.{if_then_else_}
 use Rattle.lists.specs.Map.{keys}
 use Rattle.time_cache.specs.TimeCache.{laterCache}
-use Rattle.postcard.specs.Message.{Action, Ihave}
 use Rattle.protocol.specs.State.{State, Note, withInit, withReceived, withGrafted, withCache}
 use Rattle.protocol.specs.Run.{Room}
-use Rattle.protocol.specs.Ticks.{perMessage, chunks, queuedFor, queuedPeers}
-use Rattle.decide.specs.RecordGrowth.{cachedIn}
+use Rattle.protocol.specs.Ticks.{perMessage, queuedFor, queuedPeers}
 use Rattle.decide.specs.Settled.{settled}
 use Rattle.decide.specs.Pieces.{numbered, peerPieces, pieces, pieceActions}
 use Rattle.decide.specs.ActionsAfter.{dispatchActions}

@@ -1,20 +1,18 @@
 -- How many identifiers are added, one after the other, and link by link.
 -- Assumes nothing.
-use mathlib.Core.Path.{_≡_, refl, sym, ap, _∙_}
+use mathlib.Core.Path.{_≡_, refl, ap, _∙_}
 use mathlib.Core.Bool.{Bool, true, false, not, _&&_, _||_}
 use mathlib.Core.List.{List, [], _∷_, _++_, map, map-append}
 use Prim.Native.Nat.{ℕ, suc, _+_, _-_, _≤_, _<_, min}
 use native.Mathlib.Numerals.{add-one}
 use native.Mathlib.Omega.{arith}
 use lib.Dec.{eqb}
-use lib.ListN.{length, take, drop, getD}
-use lib.Seq.{take-suc, take-all}
+use lib.ListN.{length, take, getD}
+use lib.Seq.{take-suc}
 use Rattle.lists.specs.Base.{if_then_else_, any, count, member, once}
-use Rattle.lists.specs.Map.{keys}
-use Rattle.lists.proofs.MapLaws.{cases}
 use Rattle.lists.proofs.KeyLaws.{eqb-sym}
 use Rattle.postcard.specs.Message.{Ihave}
-use Rattle.protocol.specs.State.{State, Note}
+use Rattle.protocol.specs.State.{Note}
 use Rattle.protocol.specs.Push.{forPeer, notes}
 use Rattle.decide.specs.RecordGrowth.{Batch, addBatches, eligible, peerGain, gains}
 use Rattle.decide.proofs.RecordGrowthLaws.{gains-now}

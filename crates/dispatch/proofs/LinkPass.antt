@@ -1,7 +1,7 @@
 -- One pass over the queue for one link: the record after the first i entries.
 -- Assumes nothing.
-use mathlib.Core.Path.{_≡_, refl, sym, ap, _∙_}
-use mathlib.Core.Bool.{Bool, true, false}
+use mathlib.Core.Path.{_≡_, sym, ap, _∙_}
+use mathlib.Core.Bool.{true, false}
 use mathlib.Core.List.{List, [], _∷_, _++_}
 use Prim.Native.Nat.{ℕ, _+_, _≤_, _<_}
 use native.Mathlib.Omega.{arith}
@@ -26,7 +26,7 @@ use Rattle.block.proofs.NoteLaws.{count-queue}
 use Rattle.pushes.specs.Noted.{noted, notedState}
 use Rattle.dispatch.specs.HandedBack.{Ready, linkNoted, linkNotedState}
 use Rattle.dispatch.proofs.QueueLaws.{ihaveOf, queued-more, queued-same, queued-none, queued-few, queued-append, drop-late, drop-early, notes-append, notes-one, notes-none, part-fewer, link-for, link-not}
-use Rattle.dispatch.proofs.RecordSteps.{recorded-again, recorded-still, same-queue, same-peers, same-links, same-room, same-queued, ready-after}
+use Rattle.dispatch.proofs.RecordSteps.{recorded-again, recorded-still, same-links, same-room, same-queued, ready-after}
 
 module _ (l skip : ℕ) (h : Head) (xs : List ℕ) where
   abbrev pub s : State

@@ -3,7 +3,7 @@
 use mathlib.Core.Path.{_≡_, refl, sym, ap, _∙_, subst}
 use mathlib.Core.Bool.{Bool, true, false, not, _&&_, _||_}
 use mathlib.Core.List.{List, [], _∷_, _++_}
-use Prim.Native.Nat.{ℕ, _+_, _≤_, _<_}
+use Prim.Native.Nat.{ℕ, _≤_, _<_}
 use native.Mathlib.Omega.{arith}
 use lib.ListN.{length}
 use borrow.Author.Tests.{le-leb}
@@ -14,10 +14,9 @@ use Rattle.time_cache.specs.TimeCache.{holds}
 use Rattle.protocol.specs.State.{State, Note, withDropped, withAnnounceScheduled}
 use Rattle.protocol.specs.Push.{forPeer, notes, recordFull}
 use Rattle.protocol.proofs.RecordBounds.{Flagged}
-use Rattle.postcard.specs.Message.{Ihave}
-use Rattle.decide.specs.RecordGrowth.{cachedIn, addNote}
+use Rattle.decide.specs.RecordGrowth.{addNote}
 use Rattle.decide.specs.StateAfter.{recordedState}
-use Rattle.decide.proofs.StateLaws.{flag-stands, notes-empty}
+use Rattle.decide.proofs.StateLaws.{flag-stands}
 use Rattle.block.specs.View.{stateOf}
 use Rattle.block.specs.Goes.{Goes}
 use Rattle.block.specs.LinkSteps.{peerAt}

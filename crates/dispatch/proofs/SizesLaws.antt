@@ -1,6 +1,6 @@
 -- The numbers of entries after a dispatch, of the state before a first event evicts.
 -- Assumes nothing.
-use mathlib.Core.Path.{_≡_, refl, sym, ap, _∙_}
+use mathlib.Core.Path.{_≡_, sym}
 use mathlib.Core.Bool.{Bool}
 use mathlib.Core.List.{List}
 use Prim.Native.Nat.{ℕ, _+_, _≤_}
@@ -9,7 +9,7 @@ use lib.ListN.{length}
 use Rattle.protocol.specs.State.{State}
 use Rattle.protocol.specs.Run.{Room}
 use Rattle.protocol.specs.Ticks.{perMessage, queuedPeers}
-use Rattle.decide.specs.Sizes.{Sizes, sizesOf, sizedQueued, sizedRecorded}
+use Rattle.decide.specs.Sizes.{sizesOf, sizedQueued, sizedRecorded}
 use Rattle.decide.specs.SizesAfter.{dispatchSizes}
 use Rattle.decide.specs.RecordGrowth.{cachedIn, gains}
 use Rattle.decide.specs.Pieces.{dispatchBatches}

@@ -12,7 +12,7 @@ use Rattle.rows.specs.Ident.{idOf}
 use Rattle.lists.specs.Base.{any, count}
 use Rattle.lists.proofs.ListLaws.{count-length}
 use Rattle.postcard.specs.Message.{Ihave}
-use Rattle.protocol.specs.State.{State, Note}
+use Rattle.protocol.specs.State.{Note}
 use Rattle.protocol.specs.Push.{forPeer, notes}
 use Rattle.decide.specs.RecordGrowth.{cachedIn, addNote}
 use Rattle.block.specs.View.{stateOf}
@@ -20,7 +20,7 @@ use Rattle.block.specs.LinkSteps.{peerAt}
 use Rattle.block.specs.NoteSteps.{note}
 use Rattle.block.proofs.NoteLaws.{count-dropped}
 use Rattle.dispatch.specs.HandedBack.{Ready}
-use Rattle.dispatch.specs.Marks.{lowOf, Covers}
+use Rattle.dispatch.specs.Marks.{Covers}
 use Rattle.dispatch.proofs.QueueLaws.{note-grows}
 use Rattle.dispatch.proofs.LinkPass.{heard, after, Sofar, pass-seen, pass-start, after-none, now-dropped, now-peer, heard-few, pass-at, read-for, read-not, count-other, pass-skip, after-other, count-mine, after-early, pass-early, after-more, pass-room, pass-note, pass-end}
 use Rattle.dispatch.proofs.RecordSteps.{same-links, ready-after}

@@ -5,9 +5,9 @@ use Prim.Native.Nat.{ℕ, _+_, _≤_, _-_, _<_}
 use native.Mathlib.Omega.{arith}
 use borrow.Author.Needs.{needs}
 use mathlib.Core.Bool.{Bool, true, false, _||_}
-use mathlib.Core.Logic.{_⊎_, inl, inr, ⊎-elim}
+use mathlib.Core.Logic.{inl, inr, ⊎-elim}
 use mathlib.Core.List.{List, [], _∷_, _++_}
-use mathlib.Core.Path.{_≡_, refl, sym, ap, _∙_, subst}
+use mathlib.Core.Path.{_≡_, sym, ap, _∙_, subst}
 use lib.ListN.{length, drop, getD, set, length-append}
 use lib.Seq.{drop-nil}
 use Rattle.rows.specs.Ident.{idOf}
@@ -20,7 +20,7 @@ use Rattle.block.specs.View.{stateOf}
 use Rattle.block.specs.LinkSteps.{peerAt}
 use Rattle.block.specs.NoteSteps.{note}
 use Rattle.dispatch.specs.Gains.{handedTo, among, known, fresh}
-use Rattle.dispatch.specs.Marks.{lowOf, Covers}
+use Rattle.dispatch.specs.Marks.{Covers}
 use Rattle.dispatch.proofs.QueueLaws.{ihaveOf, drop-late, drop-early}
 use Rattle.dispatch.proofs.ReadPass.{among-none, heardBy, heard-none, heard-count, heard-all, heard-other, heard-mine, heard-note}
 use Rattle.steps.proofs.StandsLaws.{links-up}

@@ -1,10 +1,9 @@
 -- `gains::dispatch_sizes` meets its contract.
 -- Assumes nothing.
-use Prim.Native.Nat.{ℕ, _+_, _≤_}
+use Prim.Native.Nat.{_+_}
 use native.Mathlib.Omega.{arith}
 use borrow.Author.Needs.{needs}
-use mathlib.Core.Path.{_≡_, refl, sym, ap, _∙_}
-use lib.ListN.{length}
+use mathlib.Core.Path.{sym, _∙_}
 use Rattle.decide.specs.Sizes.{sizedQueued, sizedRecorded}
 use Rattle.decide.specs.RecordGrowth.{cachedIn}
 use Rattle.decide.specs.Settled.{settled}

@@ -1,8 +1,7 @@
 -- `gains::is_fresh` meets its contract: the three tests in turn.
 -- Assumes nothing.
-use borrow.Author.Needs.{needs}
-use mathlib.Core.Bool.{Bool, true, false, not, _&&_, _||_}
-use mathlib.Core.Path.{_≡_, refl, sym, ap, _∙_}
+use mathlib.Core.Bool.{Bool, true, false, not, _&&_}
+use mathlib.Core.Path.{_≡_, sym, _∙_}
 use Rattle.rows.specs.Ident.{idOf}
 use Rattle.lists.specs.Base.{any}
 use Rattle.lists.proofs.Lists.{or-false-left, or-false-right}

@@ -3,8 +3,7 @@
 use Prim.Native.Nat.{ℕ, _+_, _≤_, _-_, _<_}
 use native.Mathlib.Omega.{arith}
 use borrow.Author.Needs.{needs}
-use mathlib.Core.Bool.{true, false}
-use mathlib.Core.Logic.{_⊎_, inl, inr, ⊎-elim}
+use mathlib.Core.Logic.{inl, inr, ⊎-elim}
 use mathlib.Core.List.{List}
 use mathlib.Core.Path.{_≡_, refl, sym, ap, _∙_, subst}
 use lib.ListN.{length, take, getD, set}
@@ -12,12 +11,12 @@ use lib.Seq.{take-all}
 use Rattle.rows.specs.Ident.{idOf}
 use Rattle.lists.specs.Base.{any}
 use Rattle.protocol.specs.State.{State, Note}
-use Rattle.protocol.specs.Push.{forPeer, notes}
+use Rattle.protocol.specs.Push.{notes}
 use Rattle.block.specs.View.{stateOf}
 use Rattle.block.specs.LinkSteps.{peerAt}
 use Rattle.block.specs.NoteSteps.{note}
 use Rattle.block.proofs.NoteLaws.{count-dropped}
-use Rattle.dispatch.specs.Marks.{lowOf, Covers}
+use Rattle.dispatch.specs.Marks.{Covers}
 use Rattle.dispatch.proofs.QueueLaws.{link-not}
 use Rattle.dispatch.proofs.MarkLaws.{low-in, covers-same, covers-more, covers-none, none-noted, row-mine, row-other}
 use Rattle.dispatch.proofs.marks.mark_link.Statement.{statement}

@@ -1,3 +1,4 @@
 pub mod Guarantee
 pub mod HoldsLaws
 pub mod DecidedLaws
+pub mod OutcomeLaws

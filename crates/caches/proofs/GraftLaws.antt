@@ -56,7 +56,7 @@ module _ (h : Head) (xs : List ℕ) (sound : Sound h xs) (i : ℕ) (q : i < h .l
   abbrev pub peersPlace : ℕ
   peersPlace = place l 7 + 119 * i + 22
 
-  abbrev list : List ℕ
+  abbrev pub list : List ℕ
   list = part peersPlace 97 xs
 
   long7 : length tab ≡ 119 * (l .G + 1)
@@ -65,7 +65,7 @@ module _ (h : Head) (xs : List ℕ) (sound : Sound h xs) (i : ℕ) (q : i < h .l
   row-long : length row ≡ 119
   row-long = length-part (i * 119) 119 tab (omega (arith, long7, sound .fit .within .grafted))
 
-  list-long : length list ≡ 97
+  pub list-long : length list ≡ 97
   list-long = length-part peersPlace 97 xs (omega (arith, sound .fit .long, sound .fit .within .grafted))
 
   list-in : drop 22 row ≡ list
@@ -80,11 +80,11 @@ module _ (h : Head) (xs : List ℕ) (sound : Sound h xs) (i : ℕ) (q : i < h .l
   unfolding stateOf graftedIn cacheOf
   grafted-entry = getD-map-in (entryOf (graftsOf ps) rs) es i (entry 0 (record { expires = 0; value = record { first = none; kept = none; peers = [] } })) (ref 0 []) (omega (arith, length-refs 119 n tab))
 
-  peers-row : graftsAt (stateOf h xs) i .peers ≡ hopsIn (roundOf ps) list
+  pub peers-row : graftsAt (stateOf h xs) i .peers ≡ hopsIn (roundOf ps) list
   unfolding graftsOf
   peers-row = ap (λ (e : Entry (Timed Grafts)). e .value .value .peers) grafted-entry ∙ ap (hopsIn (roundOf ps)) (own-list (h .live .links) n tab i q ∙ list-in)
 
-  list-numbered : Numbered (h .live .links) list
+  pub list-numbered : Numbered (h .live .links) list
   list-numbered = subst (Numbered (h .live .links)) list-in (sound .laid .grafts .each i q)
 
   first-byte : byteAt 0 list ≡ getD xs peersPlace 0

@@ -94,6 +94,28 @@ module _ (ps own rest : List ℕ) (long : length own ≡ 117) where
         peers = hopsIn (roundOf ps) (d20 z);
       }
 
+  pub peers-value : (list : List ℕ) → length list ≡ 97 → graftsOf ps (put 20 list own) rest ≡ record { first = old .first; kept = old .kept; peers = hopsIn (roundOf ps) list }
+  unfolding graftsOf fieldOf halfAt part
+  peers-value list e =
+      let new : List ℕ = put 20 list own in
+      let ln : length new ≡ 117 = length-put 20 list own (omega arith) ∙ long in
+      let b0 : getD new 0 0 ≡ getD own 0 0 = getD-put-before 20 0 0 list own (omega arith) (omega arith) in
+      let f1 : part 1 8 new ≡ part 1 8 own = part-before 1 8 20 list own (omega arith) (omega arith) in
+      let h9 : part 9 2 new ≡ part 9 2 own = part-before 9 2 20 list own (omega arith) (omega arith) in
+      let b11 : getD new 11 0 ≡ getD own 11 0 = getD-put-before 20 11 0 list own (omega arith) (omega arith) in
+      let f12 : part 12 8 new ≡ part 12 8 own = part-before 12 8 20 list own (omega arith) (omega arith) in
+      let d20 : drop 20 new ≡ list = sym (take-all 97 (drop 20 new) (omega (arith, length-drop 20 new, ln))) ∙ part-put 20 97 list own e (omega arith) in
+      λ z. record {
+        first = onlyIf (flagOf (b0 z)) (record { peer = leNat (f1 z); round = leNat (h9 z) });
+        kept = onlyIf (flagOf (b11 z)) (leNat (f12 z));
+        peers = hopsIn (roundOf ps) (d20 z);
+      }
+
+  pub list-put : (list : List ℕ) → length list ≡ 97 → drop 20 (put 20 list own) ≡ list
+  unfolding part
+  list-put list e =
+      sym (take-all 97 (drop 20 (put 20 list own)) (omega (arith, length-drop 20 (put 20 list own), length-put 20 list own (omega arith)))) ∙ part-put 20 97 list own e (omega arith)
+
 -- another value, read from the bytes
 module _ {A B : Type 0} (f : A → B) where
   abbrev timedAs : Timed A → Timed B
@@ -128,7 +150,7 @@ module _ {A B : Type 0} (f : A → B) where
   }
 
 -- one row of places anew
-each-put : (P : List ℕ → Type 0) (i : ℕ) (r : Ref) (es : List Ref) → P (r .own) → EachOwn P es → i < length es → EachOwn P (put i (r ∷ []) es)
+pub each-put : (P : List ℕ → Type 0) (i : ℕ) (r : Ref) (es : List Ref) → P (r .own) → EachOwn P es → i < length es → EachOwn P (put i (r ∷ []) es)
 unfolding put
 each-put P i r [] p a h = absurd (omega arith)
 each-put P zero r (e ∷ es) p a h = record { each = go }
@@ -142,8 +164,8 @@ each-put P (suc i) r (e ∷ es) p a h = record { each = go (each-put P i r es p 
     go next zero q = a .each 0 (omega arith)
     go next (suc j) q = next .each j (omega arith)
 
--- bytes of grafted message i, before its list of peers
-module _ (h : Head) (xs : List ℕ) (sound : Sound h xs) (order : InOrder (stateOf h xs .grafted)) (i : ℕ) (q : i < h .live .grafted) (o : ℕ) (bs : List ℕ) (w : o + length bs ≤ 20) where
+-- bytes of grafted message i, after its place
+module _ (h : Head) (xs : List ℕ) (sound : Sound h xs) (order : InOrder (stateOf h xs .grafted)) (i : ℕ) (q : i < h .live .grafted) (o : ℕ) (bs : List ℕ) (w : o + length bs ≤ 117) where
   abbrev l : Limits
   l = limitsOf (h .limits)
 
@@ -211,20 +233,27 @@ module _ (h : Head) (xs : List ℕ) (sound : Sound h xs) (order : InOrder (state
   lies : Lies c xs
   lies = grafted-lies h xs (sound .fit)
 
-  lists : EachOwn (Listed (h .live .links)) (refsAt c ys)
-  lists =
+  old-lists : EachOwn (Listed (h .live .links)) (refsAt c xs)
+  old-lists = subst (EachOwn (Listed (h .live .links))) (sym refs-same) (to-own (h .live .links) n tab (sound .laid .grafts))
+
+  here : i < length (refsAt c xs)
+  here = omega (arith, length-refs 119 n (drop (place l 7) xs))
+
+  -- a write before the list of peers leaves the list
+  pub list-kept : o + length bs ≤ 20 → Listed (h .live .links) (put o bs (r .own))
+  list-kept v = subst (Numbered (h .live .links)) (sym (drop-put 20 o bs (r .own) v (omega (arith, own-long)))) (old-lists .each i here)
+
+  lists : Listed (h .live .links) (put o bs (r .own)) → EachOwn (Listed (h .live .links)) (refsAt c ys)
+  lists listed =
       let e : refsAt c ys ≡ put i (ref (r .place) (put o bs (r .own)) ∷ []) (refsAt c xs) =
       ap (refs 119 n) (put-behind (place l 7) (i * 119 + (2 + o)) bs xs (omega (arith, sound .fit .long)))
       ∙ own-stored 119 n i o bs (drop (place l 7) xs) (omega arith) q (omega (arith, length-drop (place l 7) xs, n-in, sound .fit .long)) in
-      let before : EachOwn (Listed (h .live .links)) (refsAt c xs) = subst (EachOwn (Listed (h .live .links))) (sym refs-same) (to-own (h .live .links) n tab (sound .laid .grafts)) in
-      let here : i < length (refsAt c xs) = omega (arith, length-refs 119 n (drop (place l 7) xs)) in
-      let d : drop 20 (put o bs (r .own)) ≡ drop 20 (r .own) = drop-put 20 o bs (r .own) w (omega (arith, own-long)) in
       subst (EachOwn (Listed (h .live .links))) (sym e)
-      (each-put (Listed (h .live .links)) i (ref (r .place) (put o bs (r .own))) (refsAt c xs) (subst (Numbered (h .live .links)) (sym d) (before .each i here)) before here)
+      (each-put (Listed (h .live .links)) i (ref (r .place) (put o bs (r .own))) (refsAt c xs) listed old-lists here)
 
-  pub own-goes : (g : Grafts) → graftsOf ps (put o bs (r .own)) (x .rest) ≡ g → Goes (λ t. withGrafted (replace (graftedAt t i .key) g (t .grafted)) t) h xs h ys
+  pub own-goes : Listed (h .live .links) (put o bs (r .own)) → (g : Grafts) → graftsOf ps (put o bs (r .own)) (x .rest) ≡ g → Goes (λ t. withGrafted (replace (graftedAt t i .key) g (t .grafted)) t) h xs h ys
   unfolding stateOf graftedIn
-  own-goes g e =
+  own-goes listed g e =
       let k : x .key ≡ graftedAt (stateOf h xs) i .key = sym (ap (λ (z : Entry (Timed Grafts)). z .key) entry-same) in
       let all : graftedIn ps n (table l 7 ys) m (table l 8 ys) ≡ replace (graftedAt (stateOf h xs) i .key) g (stateOf h xs .grafted) =
       sym (cache-in l 7 119 n 8 40 m ys (lit< tt) n-in (lit< tt) m-in (graftsOf ps))
@@ -233,7 +262,7 @@ module _ (h : Head) (xs : List ℕ) (sound : Sound h xs) (order : InOrder (state
       ∙ (λ z. replace (k z) (e z) (grafted-as h xs (sound .fit) z)) in
       record {
         state = grafted-state h xs ys sound n m (119 * (l .G + 1)) 0 (omega arith) (omega arith) ys-long only ∙ ap (λ (t : Cache Grafts). withGrafted t (stateOf h xs)) all;
-        sound = grafted-laid h xs ys sound n m (119 * (l .G + 1)) 0 (omega arith) (omega arith) ys-long only (sound .fit .within .grafted) (sound .fit .within .graftedRows) (own-sound c xs s i q lies o bs (omega arith)) lists;
+        sound = grafted-laid h xs ys sound n m (119 * (l .G + 1)) 0 (omega arith) (omega arith) ys-long only (sound .fit .within .grafted) (sound .fit .within .graftedRows) (own-sound c xs s i q lies o bs (omega arith)) (lists listed);
       }
 
 -- the stores of a `first` and of a `kept`
@@ -247,7 +276,7 @@ module _ (h : Head) (xs : List ℕ) (sound : Sound h xs) (order : InOrder (state
   pub first-goes : (rd : ℕ) → rd < 256 ^ 2 → Goes (firstAt i p rd) h xs h (put (a + 11) (leBytes 2 rd) (put (a + 3) (leBytes 8 p) (set xs (a + 2) 1)))
   first-goes rd hr =
       let bs : List ℕ = firstBytes p rd in
-      let w : 0 + length bs ≤ 20 = omega (arith, length-first p rd) in
+      let w : 0 + length bs ≤ 117 = omega (arith, length-first p rd) in
       let l8 : length (leBytes 8 p) ≡ 8 = length-leBytes 8 p in
       let l2 : length (leBytes 2 rd) ≡ 2 = length-leBytes 2 rd in
       let e : a + 2 ≡ place lim 7 + (i * 119 + (2 + 0)) = omega (arith, at) in
@@ -260,7 +289,7 @@ module _ (h : Head) (xs : List ℕ) (sound : Sound h xs) (order : InOrder (state
       let g : Grafts = record { first = some (record { peer = p; round = rd }); kept = graftsAt (stateOf h xs) i .kept; peers = graftsAt (stateOf h xs) i .peers } in
       let same : graftsAt (stateOf h xs) i ≡ graftsOf (peersOf h xs) (r h xs sound order i q 0 bs w .own) (x h xs sound order i q 0 bs w .rest) =
       ap (λ (y : Entry (Timed Grafts)). y .value .value) (entry-same h xs sound order i q 0 bs w) in
-      let go = own-goes h xs sound order i q 0 bs w g
+      let go = own-goes h xs sound order i q 0 bs w (list-kept h xs sound order i q 0 bs w (omega (arith, length-first p rd))) g
       (first-value (peersOf h xs) (r h xs sound order i q 0 bs w .own) (x h xs sound order i q 0 bs w .rest) (own-long h xs sound order i q 0 bs w) p rd hp hr
       ∙ (λ z. record { first = some (record { peer = p; round = rd }); kept = sym same z .kept; peers = sym same z .peers })) in
       subst (Goes (firstAt i p rd) h xs h) (sym two) (record { state = go .state; sound = go .sound })
@@ -268,7 +297,7 @@ module _ (h : Head) (xs : List ℕ) (sound : Sound h xs) (order : InOrder (state
   pub kept-goes : Goes (keptAt i p) h xs h (put (a + 14) (leBytes 8 p) (set xs (a + 13) 1))
   kept-goes =
       let bs : List ℕ = keptBytes p in
-      let w : 11 + length bs ≤ 20 = omega (arith, length-kept p) in
+      let w : 11 + length bs ≤ 117 = omega (arith, length-kept p) in
       let l8 : length (leBytes 8 p) ≡ 8 = length-leBytes 8 p in
       let e : a + 13 ≡ place lim 7 + (i * 119 + (2 + 11)) = omega (arith, at) in
       let one : put (a + 14) (leBytes 8 p) (set xs (a + 13) 1) ≡ put (place lim 7 + (i * 119 + (2 + 11))) bs xs =
@@ -278,7 +307,25 @@ module _ (h : Head) (xs : List ℕ) (sound : Sound h xs) (order : InOrder (state
       let g : Grafts = record { first = graftsAt (stateOf h xs) i .first; kept = some p; peers = graftsAt (stateOf h xs) i .peers } in
       let same : graftsAt (stateOf h xs) i ≡ graftsOf (peersOf h xs) (r h xs sound order i q 11 bs w .own) (x h xs sound order i q 11 bs w .rest) =
       ap (λ (y : Entry (Timed Grafts)). y .value .value) (entry-same h xs sound order i q 11 bs w) in
-      let go = own-goes h xs sound order i q 11 bs w g
+      let go = own-goes h xs sound order i q 11 bs w (list-kept h xs sound order i q 11 bs w (omega (arith, length-kept p))) g
       (kept-value (peersOf h xs) (r h xs sound order i q 11 bs w .own) (x h xs sound order i q 11 bs w .rest) (own-long h xs sound order i q 11 bs w) p hp
       ∙ (λ z. record { first = sym same z .first; kept = some p; peers = sym same z .peers })) in
       subst (Goes (keptAt i p) h xs h) (sym one) (record { state = go .state; sound = go .sound })
+
+-- the store of another list of peers
+module _ (h : Head) (xs : List ℕ) (sound : Sound h xs) (order : InOrder (stateOf h xs .grafted)) (i : ℕ) (q : i < h .live .grafted) where
+  pub peers-goes : (list : List ℕ) → length list ≡ 97 → Numbered (h .live .links) list
+      → Goes (λ s. withGrafted (replace (graftedAt s i .key) (record { first = graftsAt s i .first; kept = graftsAt s i .kept; peers = hopsIn (roundOf (peersOf h xs)) list }) (s .grafted)) s) h xs h (put (place (limitsOf (h .limits)) 7 + 119 * i + 22) list xs)
+  peers-goes list long numbered =
+      let lim : Limits = limitsOf (h .limits) in
+      let w : 20 + length list ≤ 117 = omega arith in
+      let own : List ℕ = r h xs sound order i q 20 list w .own in
+      let rest : List ℕ = x h xs sound order i q 20 list w .rest in
+      let ol : length own ≡ 117 = own-long h xs sound order i q 20 list w in
+      let e : place lim 7 + 119 * i + 22 ≡ place lim 7 + (i * 119 + (2 + 20)) = omega arith in
+      let g : Grafts = record { first = graftsAt (stateOf h xs) i .first; kept = graftsAt (stateOf h xs) i .kept; peers = hopsIn (roundOf (peersOf h xs)) list } in
+      let same : graftsAt (stateOf h xs) i ≡ graftsOf (peersOf h xs) own rest = ap (λ (y : Entry (Timed Grafts)). y .value .value) (entry-same h xs sound order i q 20 list w) in
+      let go = own-goes h xs sound order i q 20 list w (subst (Numbered (h .live .links)) (sym (list-put (peersOf h xs) own rest ol list long)) numbered) g
+      (peers-value (peersOf h xs) own rest ol list long ∙ (λ z. record { first = sym same z .first; kept = sym same z .kept; peers = hopsIn (roundOf (peersOf h xs)) list })) in
+      let f : State → State = λ s. withGrafted (replace (graftedAt s i .key) (record { first = graftsAt s i .first; kept = graftsAt s i .kept; peers = hopsIn (roundOf (peersOf h xs)) list }) (s .grafted)) s in
+      subst (Goes f h xs h) (ap (λ (b : ℕ). put b list xs) (sym e)) (record { state = go .state; sound = go .sound })

@@ -15,13 +15,9 @@ use Rattle.lists.proofs.MapLaws.{cases, true≢, and-left, and-right, all-head,
 use Rattle.protocol.specs.Links.{isNeighbour}
 use Rattle.protocol.specs.State.{State}
 use Rattle.protocol.specs.Run.{Room}
-use Rattle.block.specs.View.{stateOf}
 use Rattle.block.specs.LinkSteps.{peerAt}
-use Rattle.block.specs.declared.head.Head.{Head}
-use Rattle.block.proofs.LinkLaws.{count-links}
 use Rattle.decide.specs.Rooms.{kthTaken, firstRoom, roomFor}
 use Rattle.decide.proofs.Decide.{kth-room}
-use Rattle.steps.specs.Stands.{Stands}
 use Rattle.steps.specs.Rooms.{roomAt, roomEntry, roomEntries, strangerEntry, roomsIn}
 
 -- links with the same peers stand for the same link room
@@ -58,25 +54,30 @@ member-at (suc i) (x ∷ xs) h = cases (eqb (getD xs i 0) x) (λ p. rw p refl) (
 first-skip : (p : ℕ) (ps ns : List ℕ) (more : List Room) → member p ps ≡ false → firstRoom p (roomEntries ps ns ++ more) ≡ firstRoom p more
 unfolding firstRoom roomEntries roomEntry member
 first-skip p [] ns more h = refl
-first-skip p (x ∷ xs) [] more h = refl
+first-skip p (x ∷ xs) [] more h = cases (eqb p x) (λ e. true≢ (sym (rw e at h))) (λ e. rw e (first-skip p xs [] more (rw e at h)))
 first-skip p (x ∷ xs) (n ∷ ns) more h =
     cases (eqb p x) (λ e. true≢ (sym (rw e at h)))
     (λ e. cases (ltb n 65536) (λ q. rw q (rw e (first-skip p xs ns more (rw e at h)))) (λ q. rw q (first-skip p xs ns more (rw e at h))))
 
 -- of a peer with a link, the number beside it
-first-entry : (i : ℕ) (ps ns : List ℕ) (more : List Room) → ascending ps ≡ true → i < length ps → i < length ns → firstRoom (getD ps i 0) more ≡ none
+first-entry : (i : ℕ) (ps ns : List ℕ) (more : List Room) → ascending ps ≡ true → i < length ps → firstRoom (getD ps i 0) more ≡ none
     → firstRoom (getD ps i 0) (roomEntries ps ns ++ more) ≡ roomAt (getD ns i 0)
 unfolding firstRoom roomEntries roomEntry ascending roomAt
-first-entry i [] ns more a h l m = absurd (not-suc-le-zero h)
-first-entry i (x ∷ xs) [] more a h l m = absurd (not-suc-le-zero l)
-first-entry zero (x ∷ xs) (n ∷ ns) more a h l m =
-    cases (ltb n 65536) (λ q. rw q (rw (eq-eqb x x refl) refl))
-    (λ q. rw q (first-skip x xs ns more (member-above x xs (and-left (all (ltb x) xs) (ascending xs) a)) ∙ m))
-first-entry (suc i) (x ∷ xs) (n ∷ ns) more a h l m =
+first-entry i [] ns more a h m = absurd (not-suc-le-zero h)
+first-entry zero (x ∷ xs) [] more a h m = rw (eq-eqb x x refl) refl
+first-entry (suc i) (x ∷ xs) [] more a h m =
     let b : i < length xs = omega arith in
     let d : x < getD xs i 0 = at-above x i xs (and-left (all (ltb x) xs) (ascending xs) a) b in
     let e : eqb (getD xs i 0) x ≡ false = ne-eqb (getD xs i 0) x (λ q. omega arith) in
-    let r = first-entry i xs ns more (and-right (all (ltb x) xs) (ascending xs) a) b (omega arith) m in
+    rw e (first-entry i xs [] more (and-right (all (ltb x) xs) (ascending xs) a) b m)
+first-entry zero (x ∷ xs) (n ∷ ns) more a h m =
+    cases (ltb n 65536) (λ q. rw q (rw (eq-eqb x x refl) refl))
+    (λ q. rw q (first-skip x xs ns more (member-above x xs (and-left (all (ltb x) xs) (ascending xs) a)) ∙ m))
+first-entry (suc i) (x ∷ xs) (n ∷ ns) more a h m =
+    let b : i < length xs = omega arith in
+    let d : x < getD xs i 0 = at-above x i xs (and-left (all (ltb x) xs) (ascending xs) a) b in
+    let e : eqb (getD xs i 0) x ≡ false = ne-eqb (getD xs i 0) x (λ q. omega arith) in
+    let r = first-entry i xs ns more (and-right (all (ltb x) xs) (ascending xs) a) b m in
     cases (ltb n 65536) (λ q. rw q (rw e r)) (λ q. rw q r)
 
 -- of a peer with a link, the entry of the event's peer says nothing
@@ -100,16 +101,22 @@ room-for k n h = cases (ltb n 65536) (λ q. rw q refl) (λ q. rw q (sym (le-leb 
 
 module _ (s : State) (array : List ℕ) where
   -- the room of link i
-  pub first-at : (i : ℕ) → ascending (keys (s .links)) ≡ true → i < length (s .links) → i < length array → firstRoom (peerAt s i) (roomsIn s array) ≡ roomAt (getD array i 0)
+  pub first-link : (i : ℕ) → ascending (keys (s .links)) ≡ true → i < length (s .links) → firstRoom (peerAt s i) (roomsIn s array) ≡ roomAt (getD array i 0)
   unfolding roomsIn
-  first-at i a h l =
+  first-link i a h =
       let b : i < length (keys (s .links)) = omega (arith, length-map (s .links) (λ e. e .key)) in
-      first-entry i (keys (s .links)) array (strangerEntry (keys (s .links)) array) a b l
+      first-entry i (keys (s .links)) array (strangerEntry (keys (s .links)) array) a b
       (first-stranger-other (peerAt s i) (keys (s .links)) array (member-at i (keys (s .links)) b))
 
   -- "the k-th send of a call to a peer is taken when k ≤ room", of link i
+  pub kth-link : (k i : ℕ) → ascending (keys (s .links)) ≡ true → i < length (s .links) → k ≤ 65536 → kthTaken k (peerAt s i) (roomsIn s array) ≡ leb k (getD array i 0)
+  kth-link k i a h f = kth-room k (peerAt s i) (roomsIn s array) ∙ ap (roomFor k) (first-link i a h) ∙ room-for k (getD array i 0) f
+
+  pub first-at : (i : ℕ) → ascending (keys (s .links)) ≡ true → i < length (s .links) → i < length array → firstRoom (peerAt s i) (roomsIn s array) ≡ roomAt (getD array i 0)
+  first-at i a h l = first-link i a h
+
   pub kth-at : (k i : ℕ) → ascending (keys (s .links)) ≡ true → i < length (s .links) → i < length array → k ≤ 65536 → kthTaken k (peerAt s i) (roomsIn s array) ≡ leb k (getD array i 0)
-  kth-at k i a h l f = kth-room k (peerAt s i) (roomsIn s array) ∙ ap (roomFor k) (first-at i a h l) ∙ room-for k (getD array i 0) f
+  kth-at k i a h l f = kth-link k i a h f
 
   -- the room of the event's peer, where it has no link
   pub first-stranger : (p : ℕ) → isNeighbour p (s .links) ≡ false → p ≡ getD array 33 0 → firstRoom p (roomsIn s array) ≡ roomAt (getD array 32 0)
@@ -121,14 +128,3 @@ module _ (s : State) (array : List ℕ) where
 
   pub kth-stranger : (k p : ℕ) → isNeighbour p (s .links) ≡ false → p ≡ getD array 33 0 → k ≤ 65536 → kthTaken k p (roomsIn s array) ≡ leb k (getD array 32 0)
   kth-stranger k p n e f = kth-room k p (roomsIn s array) ∙ ap (roomFor k) (first-stranger p n e) ∙ room-for k (getD array 32 0) f
-
--- the same of a header and a block that stand, for the numbers that links have
-module _ (h : Head) (xs array : List ℕ) (stands : Stands h xs) (long : 32 ≤ length array) (i : ℕ) (q : i < h .live .links) where
-  below : i < length array
-  below = omega (arith, stands .sound .fit .within .links, stands .sound .fit .ceilings .N)
-
-  pub first-link : firstRoom (peerAt (stateOf h xs) i) (roomsIn (stateOf h xs) array) ≡ roomAt (getD array i 0)
-  first-link = first-at (stateOf h xs) array i (stands .consistent .core .linksUp) (omega (arith, count-links h xs)) below
-
-  pub kth-link : (k : ℕ) → k ≤ 65536 → kthTaken k (peerAt (stateOf h xs) i) (roomsIn (stateOf h xs) array) ≡ leb k (getD array i 0)
-  kth-link k f = kth-at (stateOf h xs) array k i (stands .consistent .core .linksUp) (omega (arith, count-links h xs)) below f

@@ -18,10 +18,10 @@ roomAt n = if ltb n 65536 then some n else none
 unfoldable pub roomEntry : ℕ → ℕ → List Room
 roomEntry p n = if ltb n 65536 then record { peer = p; room = n } ∷ [] else []
 
--- the entries of peers and the numbers beside them
+-- the entries of peers and the numbers beside them; 0 stands beside those behind the last number
 unfoldable pub roomEntries : List ℕ → List ℕ → List Room
 roomEntries [] ns = []
-roomEntries (p ∷ ps) [] = []
+roomEntries (p ∷ ps) [] = roomEntry p 0 ++ roomEntries ps []
 roomEntries (p ∷ ps) (n ∷ ns) = roomEntry p n ++ roomEntries ps ns
 
 -- the entry of the event's peer, which stands there where it has no link

@@ -1,0 +1,173 @@
+-- The sends of a push, link by link, and the loop that writes them.
+-- Assumes nothing.
+use mathlib.Core.Path.{_≡_, refl, sym, ap, _∙_, subst}
+use mathlib.Core.Bool.{Bool, true, false, not, _||_}
+use mathlib.Core.List.{List, [], _∷_, _++_, map, append-nil, append-assoc}
+use Prim.Native.Nat.{ℕ, _+_, _≤_, _<_}
+use native.Mathlib.Omega.{arith}
+use lib.Dec.{leb}
+use lib.ListN.{length, getD}
+use Rattle.lists.specs.Base.{if_then_else_, isEmpty, concatMap}
+use Rattle.postcard.specs.Message.{Message, Action, Sent, Scheduled, AnnounceDropped, actionBytes}
+use Rattle.output.specs.Written.{Told, Written}
+use Rattle.output.proofs.WrittenLaws.{written-none, written-then, told-first, told-then}
+use Rattle.protocol.specs.State.{State}
+use Rattle.protocol.specs.Run.{Room}
+use Rattle.protocol.specs.Push.{eagerTargets}
+use Rattle.decide.specs.Rooms.{kthTaken, firstSend, backPeers}
+use Rattle.decide.specs.RecordGrowth.{noteAction, pushActions}
+use Rattle.block.specs.LinkSteps.{peerAt}
+use Rattle.steps.specs.Rooms.{roomsIn}
+use Rattle.eager.specs.Targets.{isTarget}
+use Rattle.eager.specs.Sent.{sentBytes, pushBytes}
+use Rattle.eager.proofs.TargetLaws.{Roomed, first, rest, first-none, first-in, first-out, first-all, first-rest, backsTo, backs-none, backs-held, backs-taken, backs-out, backs-all}
+
+-- bytes of actions one after the other
+
+bytes-append : {A : Type 0} (f : A → List ℕ) (xs ys : List A) → concatMap f (xs ++ ys) ≡ concatMap f xs ++ concatMap f ys
+unfolding concatMap
+bytes-append f [] ys = refl
+bytes-append f (x ∷ xs) ys = ap (λ (l : List ℕ). f x ++ l) (bytes-append f xs ys) ∙ sym (append-assoc (f x) (concatMap f xs) (concatMap f ys))
+
+pub bytes-one : {A : Type 0} (f : A → List ℕ) (x : A) → concatMap f (x ∷ []) ≡ f x
+unfolding concatMap
+bytes-one f x = append-nil (f x)
+
+map-more : {A B : Type 0} (f : A → B) (xs ys : List A) → map f (xs ++ ys) ≡ map f xs ++ map f ys
+map-more f [] ys = refl
+map-more f (x ∷ xs) ys = ap (λ (l : List _). f x ∷ l) (map-more f xs ys)
+
+module _ (array : List ℕ) (m : Message) (s : State) where
+  abbrev bytes : List ℕ → List ℕ
+  bytes ps = sentBytes array m ps s
+
+  abbrev send : ℕ → Action
+  send p = firstSend (roomsIn s array) m p
+
+  sent-append : (ps qs : List ℕ) → bytes (ps ++ qs) ≡ bytes ps ++ bytes qs
+  sent-append ps qs = ap (concatMap actionBytes) (map-more send ps qs) ∙ bytes-append actionBytes (map send ps) (map send qs)
+
+  -- one peer more
+  sent-more : (ps : List ℕ) (p : ℕ) → bytes (ps ++ (p ∷ [])) ≡ bytes ps ++ actionBytes (send p)
+  sent-more ps p = sent-append ps (p ∷ []) ∙ ap (λ (l : List ℕ). bytes ps ++ l) (bytes-one actionBytes (send p))
+
+  sent-none : bytes [] ≡ []
+  unfolding concatMap
+  sent-none = refl
+
+-- the loop: after i links the sends to the targets among the first i are written
+pub record SentSofar (sender : ℕ) (skip array : List ℕ) (m : Message) (s : State) (before : List ℕ) (at i : ℕ) (after : List ℕ) (to : ℕ) (b : Bool) : Type 0 where
+  pub written : Written (sentBytes array m (first sender skip s i) s) before at after to
+  pub back : b ≡ not (isEmpty (backsTo sender skip array s i))
+
+filled : (ps : List ℕ) (p : ℕ) → isEmpty (ps ++ (p ∷ [])) ≡ false
+filled [] p = refl
+filled (q ∷ ps) p = refl
+
+module _ (sender : ℕ) (skip array : List ℕ) (m : Message) (s : State) (before : List ℕ) (at : ℕ) where
+  pub sends-start : SentSofar sender skip array m s before at 0 before at false
+  sends-start = record {
+    written = subst (λ (b : List ℕ). Written b before at before at) (sym (ap (λ (ps : List ℕ). sentBytes array m ps s) (first-none sender skip s) ∙ sent-none array m s)) (written-none before at);
+    back = sym (ap (λ (ps : List ℕ). not (isEmpty ps)) (backs-none sender skip array s));
+  }
+
+  module _ (rooms : Roomed s array) (i : ℕ) (after : List ℕ) (to : ℕ) (back : Bool) (so : SentSofar sender skip array m s before at i after to back) (q : i < length (s .links)) where
+    pub sends-skip : isTarget sender skip s i ≡ false → SentSofar sender skip array m s before at (i + 1) after to back
+    sends-skip e = record {
+      written = subst (λ (ps : List ℕ). Written (sentBytes array m ps s) before at after to) (sym (first-out sender skip s i q e)) (so .written);
+      back = so .back ∙ ap (λ (ps : List ℕ). not (isEmpty ps)) (sym (backs-out sender skip array s rooms i q e));
+    }
+
+    module _ (e : isTarget sender skip s i ≡ true) (p : ℕ) (ep : p ≡ peerAt s i) (taken : Bool) (et : taken ≡ leb 1 (getD array i 0)) where
+      same-send : Sent p taken m ≡ firstSend (roomsIn s array) m (peerAt s i)
+      unfolding firstSend
+      same-send = λ k. Sent (ep k) ((et ∙ sym (rooms .first i q)) k) m
+
+      more : sentBytes array m (first sender skip s (i + 1)) s ≡ sentBytes array m (first sender skip s i) s ++ actionBytes (Sent p taken m)
+      more =
+          ap (λ (ps : List ℕ). sentBytes array m ps s) (first-in sender skip s i q e)
+          ∙ sent-more array m s (first sender skip s i) (peerAt s i)
+          ∙ ap (λ (a : Action). sentBytes array m (first sender skip s i) s ++ actionBytes a) (sym same-send)
+
+      pub sends-told : Told (sentBytes array m (eagerTargets sender skip s) s) at → Told (actionBytes (Sent p taken m)) to
+      sends-told t =
+          let whole : sentBytes array m (eagerTargets sender skip s) s ≡ sentBytes array m (first sender skip s (i + 1)) s ++ sentBytes array m (rest sender skip s (i + 1)) s =
+          ap (λ (ps : List ℕ). sentBytes array m ps s) (first-rest sender skip s (i + 1)) ∙ sent-append array m s (first sender skip s (i + 1)) (rest sender skip s (i + 1)) in
+          told-then (so .written)
+          (subst (λ (b : List ℕ). Told b at) more (told-first (sentBytes array m (rest sender skip s (i + 1)) s) (subst (λ (b : List ℕ). Told b at) whole t)))
+
+      module _ (after′ : List ℕ) (to′ : ℕ) (w : Written (actionBytes (Sent p taken m)) after to after′ to′) where
+        next : Written (sentBytes array m (first sender skip s (i + 1)) s) before at after′ to′
+        next = subst (λ (b : List ℕ). Written b before at after′ to′) (sym more) (written-then (so .written) w)
+
+        pub sends-taken : taken ≡ true → SentSofar sender skip array m s before at (i + 1) after′ to′ back
+        sends-taken t = record {
+          written = next;
+          back = so .back ∙ ap (λ (ps : List ℕ). not (isEmpty ps)) (sym (backs-taken sender skip array s rooms i q e (sym et ∙ t)));
+        }
+
+        pub sends-back : taken ≡ false → SentSofar sender skip array m s before at (i + 1) after′ to′ true
+        sends-back t = record {
+          written = next;
+          back = sym (ap (λ (ps : List ℕ). not (isEmpty ps)) (backs-held sender skip array s rooms i q e (sym et ∙ t)) ∙ ap not (filled (backsTo sender skip array s i) (peerAt s i)));
+        }
+
+-- the record's timer behind the sends
+
+module _ (array : List ℕ) (m : Message) (ps : List ℕ) (s : State) where
+  abbrev backs : List ℕ
+  backs = backPeers (roomsIn s array) ps
+
+  abbrev sent : List ℕ
+  sent = sentBytes array m ps s
+
+  pushed : pushBytes array m ps s ≡ sent ++ concatMap actionBytes (noteAction backs (s .announceScheduled))
+  unfolding pushActions
+  pushed = bytes-append actionBytes (map (firstSend (roomsIn s array) m) ps) (noteAction backs (s .announceScheduled))
+
+  pub push-first : (at : ℕ) → Told (pushBytes array m ps s) at → Told sent at
+  push-first at t = told-first (concatMap actionBytes (noteAction backs (s .announceScheduled))) (subst (λ (b : List ℕ). Told b at) pushed t)
+
+  -- nothing was handed back, or the flag is set
+  quiet : (b f : Bool) → (b || f) ≡ true → isEmpty backs ≡ b → s .announceScheduled ≡ f → noteAction backs (s .announceScheduled) ≡ []
+  unfolding noteAction
+  quiet b f h x y = ap (λ (t : Bool). if t then [] else Scheduled 1000 AnnounceDropped ∷ []) ((λ k. x k || y k) ∙ h)
+
+  module _ (before : List ℕ) (at : ℕ) (after : List ℕ) (to : ℕ) (w : Written sent before at after to) where
+    still : noteAction backs (s .announceScheduled) ≡ [] → Written (pushBytes array m ps s) before at after to
+    unfolding concatMap
+    still e =
+        subst (λ (b : List ℕ). Written b before at after to)
+        (sym (pushed ∙ ap (λ (l : List Action). sent ++ concatMap actionBytes l) e ∙ append-nil sent)) w
+
+    pub push-taken : not (isEmpty backs) ≡ false → Written (pushBytes array m ps s) before at after to
+    push-taken e = still (quiet true (s .announceScheduled) refl (flip (isEmpty backs) e) refl)
+      where
+        flip : (b : Bool) → not b ≡ false → b ≡ true
+        flip true h = refl
+        flip false h = sym h
+
+    pub push-flagged : s .announceScheduled ≡ true → Written (pushBytes array m ps s) before at after to
+    push-flagged e = still (quiet (isEmpty backs) true (both (isEmpty backs)) refl e)
+      where
+        both : (b : Bool) → (b || true) ≡ true
+        both true = refl
+        both false = refl
+
+    module _ (e : not (isEmpty backs) ≡ true) (f : s .announceScheduled ≡ false) where
+      timed : pushBytes array m ps s ≡ sent ++ actionBytes (Scheduled 1000 AnnounceDropped)
+      unfolding noteAction
+      timed =
+          pushed
+          ∙ ap (λ (t : Bool). sent ++ concatMap actionBytes (if t then [] else Scheduled 1000 AnnounceDropped ∷ [])) ((λ k. flip (isEmpty backs) e k || f k))
+          ∙ ap (λ (l : List ℕ). sent ++ l) (bytes-one actionBytes (Scheduled 1000 AnnounceDropped))
+        where
+          flip : (b : Bool) → not b ≡ true → b ≡ false
+          flip true h = sym h
+          flip false h = refl
+
+      pub push-told : Told (pushBytes array m ps s) at → Told (actionBytes (Scheduled 1000 AnnounceDropped)) to
+      push-told t = told-then w (subst (λ (b : List ℕ). Told b at) timed t)
+
+      pub push-timed : (after′ : List ℕ) (to′ : ℕ) → Written (actionBytes (Scheduled 1000 AnnounceDropped)) after to after′ to′ → Written (pushBytes array m ps s) before at after′ to′
+      push-timed after′ to′ v = subst (λ (b : List ℕ). Written b before at after′ to′) (sym timed) (written-then w v)

@@ -1,0 +1,121 @@
+-- `reply::send_one` meets its contract: the send, and behind it the record's timer or nothing.
+-- Assumes nothing.
+use mathlib.Core.Path.{_≡_, refl, sym, ap, _∙_}
+use mathlib.Core.Bool.{Bool, true, false}
+use mathlib.Core.List.{List, [], _∷_}
+use Prim.Native.Nat.{ℕ}
+use native.Mathlib.Omega.{arith}
+use borrow.Author.Needs.{needs}
+use Rattle.rows.specs.Ident.{idOf}
+use Rattle.postcard.specs.Message.{Message, Gossip, Swarm}
+use Rattle.output.specs.Written.{Written}
+use Rattle.protocol.specs.State.{State}
+use Rattle.block.specs.View.{stateOf}
+use Rattle.block.specs.LinkSteps.{peerAt}
+use Rattle.eager.specs.Sent.{sentBytes}
+use Rattle.eager.proofs.SendLaws.{push-taken, push-flagged, push-told, push-timed}
+use Rattle.eager.proofs.ReplyLaws.{one-told, one-sent, one-taken, one-held}
+use Rattle.eager.proofs.reply.send_one.Statement.{statement}
+use Rattle.eager.proofs.reply.send_one.Tie as tie
+
+module _ (s : tie.Start) where
+  abbrev st : State
+  st = stateOf (s .args .h) (s .args .block .now)
+
+  abbrev ps : List ℕ
+  ps = peerAt st (s .args .link) ∷ []
+
+  abbrev msg : Message
+  msg = Gossip (idOf (s .args .id)) (s .args .content .now) (Swarm (s .args .round .0))
+
+  flag : (b : Bool) → s .args .h .live .«announce_dropped_scheduled» ≡ b → st .announceScheduled ≡ b
+  unfolding stateOf
+  flag b e = e
+
+peer-at-requires : tie.Need-peer-at-requires
+peer-at-requires c κs =
+    let s = c .before .before .before in
+    (s .pre .0 .sound .fit, s .pre .0 .link)
+
+is-taken-requires : tie.Need-is-taken-requires
+is-taken-requires c κs =
+    let s = c .before .before .before .before in
+    let f = s .pre .0 .sound .fit in
+    omega (arith, s .pre .0 .link, f .within .links, f .ceilings .N)
+
+send-gossip-requires : tie.Need-send-gossip-requires
+send-gossip-requires c κs =
+    let k = c .before in
+    let s = k .before .before .before .before .before in
+    let a = s .args in
+    one-told (a .rooms .now) (a .link) (a .h) (a .block .now) (s .pre .0) (msg s) (k .before .peer-at .result) (k .before .peer-at .ensures) (k .is-taken .result) (k .is-taken .ensures) (a .at) (s .pre .1)
+
+-- the send
+sent : (w : tie.After-send-gossip) → Written (sentBytes (w .before .before .before .before .before .before .before .args .rooms .now) (msg (w .before .before .before .before .before .before .before)) (ps (w .before .before .before .before .before .before .before)) (st (w .before .before .before .before .before .before .before))) (w .before .before .before .before .before .before .before .args .out .now) (w .before .before .before .before .before .before .before .args .at) (w .send-gossip .last .0) (w .send-gossip .result)
+sent w =
+    let k = w .before .before in
+    let s = k .before .before .before .before .before in
+    let a = s .args in
+    one-sent (a .rooms .now) (a .link) (a .h) (a .block .now) (s .pre .0) (msg s) (k .before .peer-at .result) (k .before .peer-at .ensures) (k .is-taken .result) (k .is-taken .ensures)
+    (a .out .now) (a .at) (w .send-gossip .last .0) (w .send-gossip .result) (w .send-gossip .ensures)
+
+same-length : tie.Need-same-length
+same-length c = search needs
+
+returns : tie.Need-returns
+returns c =
+    let w = c .before .before .before in
+    let k = w .before .before in
+    let s = k .before .before .before .before .before in
+    let a = s .args in
+    push-taken (a .rooms .now) (msg s) (ps s) (st s) (a .out .now) (a .at) (w .send-gossip .last .0) (w .send-gossip .result) (sent w)
+    (one-taken (a .rooms .now) (a .link) (a .h) (a .block .now) (s .pre .0) (msg s) (k .before .peer-at .result) (k .before .peer-at .ensures) (k .is-taken .result) (k .is-taken .ensures) (c .if1 .taken))
+
+same-length-2 : tie.Need-same-length-2
+same-length-2 c = search needs
+
+returns-2 : tie.Need-returns-2
+returns-2 c =
+    let w = c .before .before .before .before in
+    let s = w .before .before .before .before .before .before .before in
+    let a = s .args in
+    push-flagged (a .rooms .now) (msg s) (ps s) (st s) (a .out .now) (a .at) (w .send-gossip .last .0) (w .send-gossip .result) (sent w) (flag s true (c .if2 .taken))
+
+schedule-requires : tie.Need-schedule-requires
+schedule-requires c κs =
+    let w = c .before .before .before .before .before in
+    let k = w .before .before in
+    let s = k .before .before .before .before .before in
+    let a = s .args in
+    push-told (a .rooms .now) (msg s) (ps s) (st s) (a .out .now) (a .at) (w .send-gossip .last .0) (w .send-gossip .result) (sent w)
+    (one-held (a .rooms .now) (a .link) (a .h) (a .block .now) (s .pre .0) (msg s) (k .before .peer-at .result) (k .before .peer-at .ensures) (k .is-taken .result) (k .is-taken .ensures) (c .before .before .if1 .left))
+    (flag s false (c .before .if2 .left)) (s .pre .1)
+
+same-length-3 : tie.Need-same-length-3
+same-length-3 c = search needs
+
+returns-3 : tie.Need-returns-3
+returns-3 c =
+    let v = c .before .before in
+    let w = v .before .before .before .before .before .before in
+    let k = w .before .before in
+    let s = k .before .before .before .before .before in
+    let a = s .args in
+    push-timed (a .rooms .now) (msg s) (ps s) (st s) (a .out .now) (a .at) (w .send-gossip .last .0) (w .send-gossip .result) (sent w)
+    (one-held (a .rooms .now) (a .link) (a .h) (a .block .now) (s .pre .0) (msg s) (k .before .peer-at .result) (k .before .peer-at .ensures) (k .is-taken .result) (k .is-taken .ensures) (v .before .before .before .if1 .left))
+    (flag s false (v .before .before .if2 .left)) (v .schedule .last .0) (v .schedule .result) (v .schedule .ensures)
+
+pub send-one-spec : {M : Type 1} → statement M
+send-one-spec =
+    tie.close
+    (tie.spec
+    peer-at-requires
+    is-taken-requires
+    send-gossip-requires
+    same-length
+    returns
+    same-length-2
+    returns-2
+    schedule-requires
+    same-length-3
+    returns-3)

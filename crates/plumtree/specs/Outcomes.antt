@@ -10,6 +10,7 @@ use Rattle.lists.specs.Base.{if_then_else_, concatMap}
 use Rattle.postcard.specs.Message.{actionBytes}
 use Rattle.protocol.specs.State.{State, Counts, blockNeed}
 use Rattle.protocol.specs.Run.{Room}
+use Rattle.protocol.specs.Whole.{fits}
 use Rattle.protocol.specs.Answer.{Outcome, refused, accepted}
 use Rattle.decide.specs.Sizes.{fitSizes}
 use Rattle.decide.specs.Settled.{settled, settledActions}
@@ -55,3 +56,8 @@ pub record Asked (h : Head) (block bytes rooms : List ℕ) (now : ℕ) (r : Step
   pub held : StepHeld bytes (stateOf h block) r
   pub sender : SenderIs (getD rooms 33 0) r
   pub early : now ≤ 2 ^ 62
+
+-- a step that is some event's, asked (13): the state after it is within every limit if its sizes are, and its limits are those before
+pub record Decides (bytes : List ℕ) (rooms : List Room) (now : ℕ) (r : Step) (s : State) : Type 0 where
+  pub fits : fits (stepState bytes rooms now r (settled now s)) ≡ fitSizes (s .limits) (stepSizes bytes rooms now r (settled now s))
+  pub limits : stepState bytes rooms now r (settled now s) .limits ≡ s .limits

@@ -3,7 +3,6 @@ use crate::after;
 use crate::Stats;
 use block::head::Head;
 use block::header;
-use block::links;
 use kinds::Step;
 use postcard::decode;
 use postcard::message::Decoded;
@@ -12,7 +11,6 @@ use postcard::message::Message;
 use postcard::message::Scope;
 use postcard::message::Timer;
 use postcard::units::Millis;
-use rows::table::Found;
 ghost use mathlib.Core.Path.{_≡_};
 ghost use Prim.Native.Nat.{suc, _<_};
 ghost use mathlib.Core.Bool.{false};
@@ -34,7 +32,7 @@ ghost use Rattle.output.specs.Written.{Told};
 ghost use Rattle.steps.specs.Rooms.{roomsIn};
 ghost use Rattle.kinds.specs.Meaning.{stepFar, stepCounts};
 ghost use Rattle.plumtree.specs.Called.{countsOf, lent, Finds, Called};
-ghost use Rattle.plumtree.specs.Outcomes.{stepBytes, stepOutcome, Asked};
+ghost use Rattle.plumtree.specs.Outcomes.{stepOutcome, Asked, Decides};
 
 // What a call answers: its number, the length of the output, and the counts after it.
 pub struct Outcome {
@@ -66,7 +64,38 @@ fn is_far(step: Step) -> bool
             len: _,
             round,
         } => round.0 == 65535,
-        _ => false,
+        Step::Nothing => false,
+        Step::NewNeighbors {
+            sender: _,
+            start: _,
+            len: _,
+        } => false,
+        Step::Late {
+            sender: _,
+            id: _,
+            delivery: _,
+        } => false,
+        Step::Prune { link: _ } => false,
+        Step::Graft { link: _, wanted: _ } => false,
+        Step::IHave {
+            link: _,
+            start: _,
+            count: _,
+        } => false,
+        Step::BroadcastSwarm {
+            id: _,
+            start: _,
+            len: _,
+        } => false,
+        Step::BroadcastNeighbors {
+            id: _,
+            start: _,
+            len: _,
+        } => false,
+        Step::SendGraft(_) => false,
+        Step::DispatchLazyPush => false,
+        Step::EvictCache => false,
+        Step::AnnounceDropped => false,
     }
 }
 
@@ -92,7 +121,38 @@ fn raised(c: Stats, step: Step) -> Stats
                 max_last_delivery_hop: round.0 + 1,
             }
         }
-        _ => c,
+        Step::Nothing => c,
+        Step::NewNeighbors {
+            sender: _,
+            start: _,
+            len: _,
+        } => c,
+        Step::Late {
+            sender: _,
+            id: _,
+            delivery: _,
+        } => c,
+        Step::Prune { link: _ } => c,
+        Step::Graft { link: _, wanted: _ } => c,
+        Step::IHave {
+            link: _,
+            start: _,
+            count: _,
+        } => c,
+        Step::BroadcastSwarm {
+            id: _,
+            start: _,
+            len: _,
+        } => c,
+        Step::BroadcastNeighbors {
+            id: _,
+            start: _,
+            len: _,
+        } => c,
+        Step::SendGraft(_) => c,
+        Step::DispatchLazyPush => c,
+        Step::EvictCache => c,
+        Step::AnnounceDropped => c,
     }
 }
 
@@ -108,7 +168,7 @@ fn run_step(
     step: Step,
     counted: Stats,
 ) -> Outcome
-    requires { ⌜ Asked h (now block) (now event) (now rooms) (instant .0) step ⌝ }
+    requires { ⌜ Asked h (now block) (now event) (now rooms) (instant .0) step × Decides (now event) (roomsIn (stateOf h (now block)) (now rooms)) (instant .0) step (stateOf h (now block)) ⌝ }
     ensures { λ r. ⌜ Finds (stepOutcome (now (event .entry)) (roomsIn (stateOf h (now (block .entry))) (now (rooms .entry))) (instant .0) step (stateOf h (now (block .entry))) (countsOf counted) (length (now (out .entry)))) (lent (now (block .entry)) c (now (out .entry))) (lent (now (block .exit)) (r .stats) (now (out .exit))) (r .number) (r .length) ⌝ }
 {
     let far = is_far(step);
@@ -251,19 +311,15 @@ fn on_timer(
     run_step(h, block, c, instant, event, rooms, out, step, c)
 }
 
-// A neighbour is told up: no first event's work, and no action. (13) is asked of a new neighbour.
+// A neighbour is told up: no first event's work, and no action.
 fn on_up(h: Head, block: &mut [u8], c: Stats, instant: Millis, rooms: &[u64; 34], out: &[u8], peer: u64) -> Outcome
     requires { ⌜ Begun h (now block) (instant .0) ⌝ }
     ensures { λ r. ⌜ Finds (decided identifier (roomsIn (stateOf h (now (block .entry))) (now (rooms .entry))) (instant .0) (Up peer) (stateOf h (now (block .entry))) (countsOf c) (length (now (out .entry)))) (lent (now (block .entry)) c (now (out .entry))) (lent (now (block .exit)) (r .stats) (now (out .entry))) (r .number) (r .length) ⌝ }
 {
-    let f = links::find_link(h, block, peer);
-    match f {
-        Found::At(_) => {}
-        Found::Before(_) => {
-            if h.limits.neighbours <= h.live.links {
-                return refused(13, c);
-            }
-        }
+    let after = sizes::up_sizes(h, block, peer);
+    let fits = settled::fit(h.limits, after);
+    if !fits {
+        return refused(13, c);
     }
     let r = neighbours::on_neighbor_up(h, block, peer);
     header::store_head(block, r);

@@ -32,7 +32,7 @@ refused-requires-2 : tie.Need-refused-requires-2
 refused-requires-2 c κs = search needs
 
 same-length : tie.Need-same-length
-same-length c = ?
+same-length c = search needs
 
 returns-2 : tie.Need-returns-2
 returns-2 c = ?
@@ -53,10 +53,10 @@ refused-requires-3 : tie.Need-refused-requires-3
 refused-requires-3 c κs = search needs
 
 same-length-2 : tie.Need-same-length-2
-same-length-2 c = ?
+same-length-2 c = search needs
 
 same-length-3 : tie.Need-same-length-3
-same-length-3 c = ?
+same-length-3 c = search needs
 
 returns-3 : tie.Need-returns-3
 returns-3 c = ?
@@ -74,7 +74,7 @@ raised-requires : tie.Need-raised-requires
 raised-requires c κs = ?
 
 same-length-4 : tie.Need-same-length-4
-same-length-4 c = ?
+same-length-4 c = search needs
 
 same-length-5 : tie.Need-same-length-5
 same-length-5 c = ?
@@ -109,3 +109,4 @@ run-step-spec =
     same-length-4
     same-length-5
     returns-4)
+

@@ -5,7 +5,6 @@ use mathlib.Core.Bool.{Bool, true, false}
 use mathlib.Core.List.{List, []}
 use lib.ListN.{length, set}
 use Rattle.lists.specs.Base.{if_then_else_}
-use Rattle.postcard.specs.Message as message
 use Rattle.postcard.specs.Decode.{Decoded, decoded, faulty, decodeEvent}
 use Rattle.postcard.specs.declared.message.Message.{Message}
 use Rattle.postcard.specs.declared.message.Message.the-variants as messages
@@ -20,6 +19,7 @@ use Rattle.block.specs.Header.{headIn}
 use Rattle.block.specs.declared.head.Head.{Head}
 use Rattle.steps.specs.Stands.{Stands}
 use Rattle.steps.specs.Rooms.{roomsIn}
+use Rattle.kinds.specs.Meaning.{peerOf}
 
 -- questions 5 and 6 were answered yes
 pub record Begun (h : Head) (block : List ℕ) (now : ℕ) : Type 0 where
@@ -46,13 +46,6 @@ eventPeer (events.Up peer) = 0
 eventPeer (events.Down peer) = 0
 
 -- the same of the event's bytes
-unfoldable pub peerOf : message.Event → ℕ
-peerOf (message.Received p m) = p
-peerOf (message.Broadcast content scope) = 0
-peerOf (message.Fired t) = 0
-peerOf (message.Up p) = 0
-peerOf (message.Down p) = 0
-
 unfoldable pub peerIn : Decoded → ℕ
 peerIn (decoded e) = peerOf e
 peerIn (faulty n) = 0

@@ -17,9 +17,8 @@ use Rattle.decide.specs.Settled.{settled, settledActions}
 use Rattle.block.specs.View.{stateOf, limitsOf}
 use Rattle.block.specs.declared.head.Head.{Head}
 use Rattle.steps.specs.Stands.{Stands}
-use Rattle.kinds.specs.Meaning.{stepSizes, stepActions, stepState, stepFar, stepCounts, StepHeld}
+use Rattle.kinds.specs.Meaning.{stepSizes, stepActions, stepState, stepFar, stepCounts, StepHeld, SenderIs}
 use Rattle.kinds.specs.declared.Step.{Step}
-use Rattle.kinds.specs.declared.Step.the-variants as step
 
 -- the bytes of the call's actions
 unfoldable pub stepBytes : List ℕ → List Room → ℕ → Step → State → List ℕ
@@ -33,22 +32,6 @@ stepOutcome bytes rooms now r s counted output =
     else if not (leb (length (stepBytes bytes rooms now r s)) output) then refused 14
     else accepted (stepState bytes rooms now r (settled now s)) (stepCounts r counted) (stepBytes bytes rooms now r s)
 
--- a received message's sender is the peer whose room stands last in the array
-abbrev pub SenderIs : ℕ → Step → Type 0
-SenderIs p step.Nothing = Unit {0}
-SenderIs p (step.NewSwarm sender id start len round) = sender ≡ p
-SenderIs p (step.NewNeighbors sender start len) = sender ≡ p
-SenderIs p (step.Late sender id d) = sender ≡ p
-SenderIs p (step.Prune link) = Unit {0}
-SenderIs p (step.Graft link w) = Unit {0}
-SenderIs p (step.IHave link start count) = Unit {0}
-SenderIs p (step.BroadcastSwarm id start len) = Unit {0}
-SenderIs p (step.BroadcastNeighbors id start len) = Unit {0}
-SenderIs p (step.SendGraft id) = Unit {0}
-SenderIs p step.DispatchLazyPush = Unit {0}
-SenderIs p step.EvictCache = Unit {0}
-SenderIs p step.AnnounceDropped = Unit {0}
-
 -- what a step is asked with: questions 5 and 6 were answered yes, and what the step names is there
 pub record Asked (h : Head) (block bytes rooms : List ℕ) (now : ℕ) (r : Step) : Type 0 where
   pub stands : Stands h block
@@ -57,7 +40,8 @@ pub record Asked (h : Head) (block bytes rooms : List ℕ) (now : ℕ) (r : Step
   pub sender : SenderIs (getD rooms 33 0) r
   pub early : now ≤ 2 ^ 62
 
--- a step that is some event's, asked (13): the state after it is within every limit if its sizes are, and its limits are those before
+-- a step that is some event's, asked (13): the state after it is within every limit if its sizes are, and its settings and limits are those before
 pub record Decides (bytes : List ℕ) (rooms : List Room) (now : ℕ) (r : Step) (s : State) : Type 0 where
   pub fits : fits (stepState bytes rooms now r (settled now s)) ≡ fitSizes (s .limits) (stepSizes bytes rooms now r (settled now s))
   pub limits : stepState bytes rooms now r (settled now s) .limits ≡ s .limits
+  pub settings : stepState bytes rooms now r (settled now s) .settings ≡ s .settings

@@ -286,7 +286,7 @@ fn on_broadcast(
     len: usize,
     scope: Scope,
 ) -> Outcome
-    requires { ⌜ Begun h (now block) (instant .0) × (start + len ≤ length (now event)) ⌝ }
+    requires { ⌜ Begun h (now block) (instant .0) × (start + len ≤ length (now event)) × (getD (now rooms) 33 0 ≡ 0) ⌝ }
     ensures { λ r. ⌜ Finds (decided identifier (roomsIn (stateOf h (now (block .entry))) (now (rooms .entry))) (instant .0) (Broadcast (part start len (now (event .entry))) (scopeValue scope)) (stateOf h (now (block .entry))) (countsOf c) (length (now (out .entry)))) (lent (now (block .entry)) c (now (out .entry))) (lent (now (block .exit)) (r .stats) (now (out .exit))) (r .number) (r .length) ⌝ }
 {
     let step = kinds::broadcast_step(h, block, instant, event, start, len, scope);
@@ -304,7 +304,7 @@ fn on_timer(
     out: &mut [u8],
     t: Timer,
 ) -> Outcome
-    requires { ⌜ Begun h (now block) (instant .0) ⌝ }
+    requires { ⌜ Begun h (now block) (instant .0) × (getD (now rooms) 33 0 ≡ 0) ⌝ }
     ensures { λ r. ⌜ Finds (decided identifier (roomsIn (stateOf h (now (block .entry))) (now (rooms .entry))) (instant .0) (Fired (timerValue t)) (stateOf h (now (block .entry))) (countsOf c) (length (now (out .entry)))) (lent (now (block .entry)) c (now (out .entry))) (lent (now (block .exit)) (r .stats) (now (out .exit))) (r .number) (r .length) ⌝ }
 {
     let step = kinds::timer_step(h, block, instant, event, t);

@@ -1,9 +1,11 @@
+-- `is_far`: by the step.
+-- Assumes nothing.
+use mathlib.Core.Path.{sym, ap}
+use Rattle.kinds.specs.Meaning.{stepFar}
 use native.Mathlib.Omega.{arith}
 use borrow.Author.Needs.{needs}
 use Rattle.plumtree.proofs.event.is_far.Statement.{statement}
 use Rattle.plumtree.proofs.event.is_far.Tie as tie
-use Rattle.plumtree.proofs.event.is_far.Reads as reads
-use Rattle.plumtree.proofs.event.is_far.Lts as lts
 
 enum-known-step : tie.Need-enum-known-step
 enum-known-step c = search needs
@@ -45,43 +47,56 @@ enum-told-12 : tie.Need-enum-told-12
 enum-told-12 c = search needs
 
 returns : tie.Need-returns
-returns c = ?
+unfolding stepFar
+returns c = sym (ap stepFar (c .before .before .step .given .1))
 
 returns-2 : tie.Need-returns-2
-returns-2 c = ?
+unfolding stepFar
+returns-2 c = sym (ap stepFar (c .enum-told .given .1))
 
 returns-3 : tie.Need-returns-3
-returns-3 c = ?
+unfolding stepFar
+returns-3 c = sym (ap stepFar (c .enum-told2 .given .1))
 
 returns-4 : tie.Need-returns-4
-returns-4 c = ?
+unfolding stepFar
+returns-4 c = sym (ap stepFar (c .enum-told3 .given .1))
 
 returns-5 : tie.Need-returns-5
-returns-5 c = ?
+unfolding stepFar
+returns-5 c = sym (ap stepFar (c .enum-told4 .given .1))
 
 returns-6 : tie.Need-returns-6
-returns-6 c = ?
+unfolding stepFar
+returns-6 c = sym (ap stepFar (c .enum-told5 .given .1))
 
 returns-7 : tie.Need-returns-7
-returns-7 c = ?
+unfolding stepFar
+returns-7 c = sym (ap stepFar (c .enum-told6 .given .1))
 
 returns-8 : tie.Need-returns-8
-returns-8 c = ?
+unfolding stepFar
+returns-8 c = sym (ap stepFar (c .enum-told7 .given .1))
 
 returns-9 : tie.Need-returns-9
-returns-9 c = ?
+unfolding stepFar
+returns-9 c = sym (ap stepFar (c .enum-told8 .given .1))
 
 returns-10 : tie.Need-returns-10
-returns-10 c = ?
+unfolding stepFar
+returns-10 c = sym (ap stepFar (c .enum-told9 .given .1))
 
 returns-11 : tie.Need-returns-11
-returns-11 c = ?
+unfolding stepFar
+returns-11 c = sym (ap stepFar (c .enum-told10 .given .1))
 
 returns-12 : tie.Need-returns-12
-returns-12 c = ?
+unfolding stepFar
+returns-12 c = sym (ap stepFar (c .enum-told11 .given .1))
 
 returns-13 : tie.Need-returns-13
-returns-13 c = ?
+unfolding stepFar
+returns-13 c = sym (ap stepFar (c .enum-told12 .given .1))
 
 pub is-far-spec : {M : Type 1} → statement M
 is-far-spec =

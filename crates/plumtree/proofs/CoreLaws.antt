@@ -16,6 +16,7 @@ use Rattle.postcard.specs.Events.{eventValue}
 use Rattle.postcard.specs.declared.message.Event.{Event}
 use Rattle.postcard.specs.declared.message.Event.the-variants as events
 use Rattle.protocol.specs.State.{State, Counts, limitsInRange, blockNeed}
+use Rattle.protocol.specs.Run.{Room}
 use Rattle.protocol.specs.Whole.{longEnough, whole}
 use Rattle.protocol.specs.Whole as protocol
 use Rattle.protocol.specs.Answer.{Call, Answer, Outcome, refused, outcome, askOf, askRead, ask, askWhole, answerOf, answerBlock}
@@ -30,22 +31,25 @@ use Rattle.steps.specs.Rooms.{roomsIn}
 use Rattle.whole.specs.Held.{hasHeader, hasTables, countsWithin, laidOut, holdsWith, held, wholeHeld, wholeBlock}
 use Rattle.whole.proofs.HeldLaws.{Wholly}
 use Rattle.kinds.specs.Meaning.{peerOf}
-use Rattle.plumtree.specs.Core.{Begun, eventPeer, peerIn, coreRooms}
+use Rattle.plumtree.specs.Called.{Lent, Finds}
+use Rattle.plumtree.specs.Core.{Begun, eventPeer, peerIn, coreRooms, callOf}
 use Rattle.plumtree.specs.Decided.{decided}
 use Rattle.plumtree.proofs.DecidedLaws.{decided-ask}
 
 -- (5) no
+lost : (s : State) (b : Bool) (c : Counts) (k : Call) → whole s ≡ false → answerOf identifier (if b && whole s then some s else none) c k ≡ refused 5
+unfolding answerOf
+lost s true c k q = rw q refl
+lost s false c k q = refl
+
+no : (n : ℕ) (x : Option State) (c : Counts) (k : Call) → wholeHeld x ≡ false → answerBlock identifier n x c k ≡ refused 5
+unfolding answerBlock protocol.wholeBlock answerOf wholeHeld
+no n none c k q = refl
+no n (some s) c k q = lost s (longEnough n s) c k q
+
 pub answer-5 : (block : List ℕ) (c : Counts) (k : Call) → wholeBlock block ≡ false → answerBlock identifier (length block) (held block) c k ≡ refused 5
 unfolding wholeBlock
-answer-5 block c k e = no (held block) e
-  where
-    no : (x : Option State) → wholeHeld x ≡ false → answerBlock identifier (length block) x c k ≡ refused 5
-    no none q = unfold answerBlock protocol.wholeBlock answerOf in refl
-    no (some s) q = unfold answerBlock protocol.wholeBlock answerOf wholeHeld in lost (longEnough (length block) s) q
-
-    lost : {s : State} (b : Bool) → whole s ≡ false → answerOf identifier (if b && whole s then some s else none) c k ≡ refused 5
-    lost true q = unfold answerOf in rw q refl
-    lost false q = unfold answerOf in refl
+answer-5 block c k e = no (length block) (held block) c k e
 
 -- (5) yes
 module _ (block : List ℕ) (w : Wholly block) where
@@ -126,3 +130,14 @@ unfolding coreRooms peerIn
 core-rooms block bytes array e p d q =
     ap (λ (x : Decoded). roomsIn (stateOf (headIn block) block) (set array 33 (peerIn x))) d
     ∙ ap (λ (n : ℕ). roomsIn (stateOf (headIn block) block) (set array 33 n)) (sym (q ∙ peer-value bytes e))
+
+-- an event that was read, and its outcome
+pub core-finds : (block bytes array out : List ℕ) (c : Counts) (g : Head) (now : ℕ) (e : Event) (p : ℕ) (before after : Lent) (n m : ℕ) → Wholly block → g ≡ headIn block → now ≤ 2 ^ 62 →
+    decodeEvent bytes ≡ decoded (eventValue bytes e) → p ≡ eventPeer e →
+    Finds (decided identifier (roomsIn (stateOf g block) (set array 33 p)) now (eventValue bytes e) (stateOf g block) c (length out)) before after n m →
+    Finds (answerBlock identifier (length block) (held block) c (callOf now bytes (coreRooms block bytes array) out)) before after n m
+core-finds block bytes array out c g now e p before after n m w same early d q f =
+    subst (λ (o : Outcome). Finds o before after n m)
+    (sym (answer-event block w c (callOf now bytes (coreRooms block bytes array) out) (eventValue bytes e) early d
+    ∙ ap (λ (rs : List Room). decided identifier rs now (eventValue bytes e) (stateOf (headIn block) block) c (length out)) (core-rooms block bytes array e p d q)))
+    (subst (λ (x : Head). Finds (decided identifier (roomsIn (stateOf x block) (set array 33 p)) now (eventValue bytes e) (stateOf x block) c (length out)) before after n m) same f)

@@ -14,7 +14,7 @@ use Rattle.lists.proofs.MapLaws.{cases, and-left, and-right, and-intro}
 use Rattle.rows.specs.Part.{put}
 use Rattle.rows.proofs.Parts.{put-nil}
 use Rattle.blake3.specs.Blake3.{identifier}
-use Rattle.postcard.specs.Message.{Event, Received, Up, Down, actionBytes}
+use Rattle.postcard.specs.Message.{Event, Received, Up, Down, messageBytes, actionBytes}
 use Rattle.postcard.specs.Events.{messageValue, Sized}
 use Rattle.postcard.specs.declared.message.Message.{Message}
 use Rattle.postcard.specs.declared.message.Message.the-variants as messages
@@ -187,6 +187,10 @@ counted-message bytes messages.Prune c = refl
 counted-message bytes (messages.Graft w r) c = refl
 counted-message bytes (messages.IHave start count) c = refl
 
+pub message-counted : (bytes : List ℕ) (peer : ℕ) (m : Message) (c : Counts) → countedAs (isPayload m) c ≡ countedFor (Received peer (messageValue bytes m)) c
+unfolding countedFor
+message-counted bytes peer m c = counted-message bytes m c
+
 and-no : (b : Bool) → (b && false) ≡ false
 and-no true = refl
 and-no false = refl
@@ -213,11 +217,11 @@ module _ (h : Head) (block bytes : List ℕ) (rooms : List Room) (now peer size 
 
   pub message-10 : h .settings .«max_message_size» < size → decided identifier rooms now event t c output ≡ refused 10
   unfolding decided messageFits stateOf
-  message-10 l = rw (lt-leb _ (h .settings .«max_message_size») (omega (arith, l, sized .counts))) refl
+  message-10 l = rw (lt-leb (length (messageBytes (messageValue bytes m))) (h .settings .«max_message_size») (omega (arith, l, sized .counts))) refl
 
   pub message-fits : size ≤ h .settings .«max_message_size» → messageFits (t .settings .maxMessageSize) event ≡ true
   unfolding messageFits stateOf
-  message-fits l = le-leb _ (h .settings .«max_message_size») (omega (arith, l, sized .counts))
+  message-fits l = le-leb (length (messageBytes (messageValue bytes m))) (h .settings .«max_message_size») (omega (arith, l, sized .counts))
 
   pub message-stays : (b : Bool) → countsBelow (countedAs (isPayload m) c) ≡ b → countsStay event c ≡ b
   unfolding countsStay
@@ -250,11 +254,11 @@ module _ (h : Head) (block : List ℕ) (rooms : List Room) (now p : ℕ) (c : Co
   up-13 e = rw e refl
 
   pub up-0 : fitSizes (limitsOf (h .limits)) (upSizes p u) ≡ true → decided identifier rooms now (Up p) u c output ≡ accepted (withLinks (linkUp p (u .links)) u) c []
-  unfolding decided lastDecided bytesAfter messageFits countsStay tooFarBefore sizesAfter actionsAfter stateAfter countsAfterCall stateOf
+  unfolding decided lastDecided bytesAfter messageFits countsStay tooFarBefore sizesAfter actionsAfter stateAfter countsAfterCall stateOf concatMap
   up-0 e = both _ _ _ (fitSizes (limitsOf (h .limits)) (upSizes p u)) (leb 0 output) e (le-leb 0 output (omega arith))
 
   pub down-0 : Sound h block → decided identifier rooms now (Down p) u c output ≡ accepted (forgetPeer p u) c []
-  unfolding decided lastDecided bytesAfter messageFits countsStay tooFarBefore sizesAfter actionsAfter stateAfter countsAfterCall stateOf
+  unfolding decided lastDecided bytesAfter messageFits countsStay tooFarBefore sizesAfter actionsAfter stateAfter countsAfterCall stateOf concatMap
   down-0 sound = both _ _ _ (fitSizes (limitsOf (h .limits)) (downSizes p u)) (leb 0 output) (fit-down p h block sound) (le-leb 0 output (omega arith))
 
   -- a new neighbour has room

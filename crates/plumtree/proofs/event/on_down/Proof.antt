@@ -1,11 +1,21 @@
+-- `on_down`: nothing grows, so the state fits.
+-- Assumes nothing.
+use mathlib.Core.Path.{refl, sym, ap, subst, _∙_}
+use mathlib.Core.Bool.{Bool, true, false}
+use lib.ListN.{length}
+use Rattle.blake3.specs.Blake3.{identifier}
+use Rattle.block.specs.View.{stateOf}
+use Rattle.steps.specs.Rooms.{roomsIn}
+use Rattle.settled.proofs.SizeLaws.{yes, no}
+use Rattle.plumtree.specs.Called.{countsOf, lent}
+use Rattle.plumtree.specs.Decided.{decided}
+use Rattle.postcard.specs.Message.{Down}
+use Rattle.protocol.specs.Neighbours.{forgetPeer}
+use Rattle.plumtree.proofs.RunLaws.{down-0, changed-finds}
 use native.Mathlib.Omega.{arith}
 use borrow.Author.Needs.{needs}
 use Rattle.plumtree.proofs.event.on_down.Statement.{statement}
 use Rattle.plumtree.proofs.event.on_down.Tie as tie
-use Rattle.plumtree.proofs.event.on_down.Reads as reads
-use Rattle.plumtree.proofs.event.on_down.Lts as lts
-use Rattle.block.proofs.header.store_head.Reads as store-head-reads
-use Rattle.neighbours.proofs.on_neighbor_down.Reads as on-neighbor-down-reads
 
 on-neighbor-down-requires : tie.Need-on-neighbor-down-requires
 on-neighbor-down-requires c κs = search needs
@@ -17,7 +27,14 @@ same-length : tie.Need-same-length
 same-length c = search needs
 
 returns : tie.Need-returns
-returns c = ?
+unfolding forgetPeer
+returns c =
+    let s = c .before .before .before .before .before .before .before .before .before .before in
+    let a = s .args in
+    let st = stateOf (a .h) (a .block .now) in
+    changed-finds (decided identifier (roomsIn st (a .rooms .now)) (a .instant .0) (Down (a .peer)) st (countsOf (a .c)) (length (a .out .now))) (forgetPeer (a .peer)) (a .h) (a .block .now) (a .c) (a .out .now) (c .before .before .before .before .before .before .on-neighbor-down .result) (c .before .before .before .before .before .before .on-neighbor-down .last .1 .0) (c .before .before .store-head .last .0)
+    (s .pre .stands) (s .pre .long) (c .before .before .before .before .before .before .on-neighbor-down .ensures) (c .before .before .before .before .before .before .on-neighbor-down .kept .1 .0) (c .before .before .store-head .ensures) refl refl
+    (down-0 (a .h) (a .block .now) (roomsIn st (a .rooms .now)) (a .instant .0) (a .peer) (countsOf (a .c)) (length (a .out .now)) (s .pre .stands .sound))
 
 pub on-down-spec : {M : Type 1} → statement M
 on-down-spec =

@@ -1,14 +1,24 @@
+-- `on_up`: question 13 is answered by the sizes, and the link is there.
+-- Assumes nothing.
+use mathlib.Core.Path.{refl, sym, ap, subst, _∙_}
+use mathlib.Core.Bool.{Bool, true, false}
+use lib.ListN.{length}
+use Rattle.blake3.specs.Blake3.{identifier}
+use Rattle.block.specs.View.{stateOf}
+use Rattle.steps.specs.Rooms.{roomsIn}
+use Rattle.settled.proofs.SizeLaws.{yes, no}
+use Rattle.plumtree.specs.Called.{countsOf, lent}
+use Rattle.plumtree.specs.Decided.{decided}
+use Rattle.postcard.specs.Message.{Up}
+use Rattle.protocol.specs.Links.{linkUp}
+use Rattle.block.specs.View.{limitsOf}
+use Rattle.block.specs.LinkSteps.{linked}
+use Rattle.decide.specs.Sizes.{fitSizes}
+use Rattle.plumtree.proofs.RunLaws.{refused-finds, up-13, up-0, up-room, changed-finds}
 use native.Mathlib.Omega.{arith}
 use borrow.Author.Needs.{needs}
 use Rattle.plumtree.proofs.event.on_up.Statement.{statement}
 use Rattle.plumtree.proofs.event.on_up.Tie as tie
-use Rattle.plumtree.proofs.event.on_up.Reads as reads
-use Rattle.plumtree.proofs.event.on_up.Lts as lts
-use Rattle.block.proofs.header.store_head.Reads as store-head-reads
-use Rattle.neighbours.proofs.on_neighbor_up.Reads as on-neighbor-up-reads
-use Rattle.plumtree.proofs.event.refused.Reads as refused-reads
-use Rattle.settled.proofs.fit.Reads as fit-reads
-use Rattle.sizes.proofs.up_sizes.Reads as up-sizes-reads
 
 up-sizes-requires : tie.Need-up-sizes-requires
 up-sizes-requires c κs = search needs
@@ -23,10 +33,18 @@ same-length : tie.Need-same-length
 same-length c = search needs
 
 returns : tie.Need-returns
-returns c = search needs
+returns c =
+    let s = c .before .before .before .before .before .before .before in
+    let a = s .args in
+    let st = stateOf (a .h) (a .block .now) in
+    refused-finds (decided identifier (roomsIn st (a .rooms .now)) (a .instant .0) (Up (a .peer)) st (countsOf (a .c)) (length (a .out .now))) 13 (a .block .now) (a .out .now) (a .c) (c .refused .result) (c .refused .ensures) (up-13 (a .h) (a .block .now) (roomsIn st (a .rooms .now)) (a .instant .0) (a .peer) (countsOf (a .c)) (length (a .out .now)) (no (c .before .before .fit .ensures ∙ ap (fitSizes (limitsOf (a .h .limits))) (c .before .before .before .up-sizes .ensures)) (c .before .if1 .taken)))
 
 on-neighbor-up-requires : tie.Need-on-neighbor-up-requires
-on-neighbor-up-requires c κs = search needs
+on-neighbor-up-requires c κs =
+    let s = c .before .before .before .before .before .before .before in
+    let a = s .args in
+    let st = stateOf (a .h) (a .block .now) in
+    (s .pre .stands .sound, s .pre .stands .consistent .core .linksUp, λ away. up-room (a .h) (a .block .now) (roomsIn st (a .rooms .now)) (a .instant .0) (a .peer) (countsOf (a .c)) (length (a .out .now)) (yes (c .before .before .fit .ensures ∙ ap (fitSizes (limitsOf (a .h .limits))) (c .before .before .before .up-sizes .ensures)) (c .before .if1 .left)) away)
 
 store-head-requires : tie.Need-store-head-requires
 store-head-requires c κs = search needs
@@ -35,7 +53,13 @@ same-length-2 : tie.Need-same-length-2
 same-length-2 c = search needs
 
 returns-2 : tie.Need-returns-2
-returns-2 c = search needs
+returns-2 c =
+    let s = c .before .before .before .before .before .before .before .before .before .before .before .before .before .before in
+    let a = s .args in
+    let st = stateOf (a .h) (a .block .now) in
+    changed-finds (decided identifier (roomsIn st (a .rooms .now)) (a .instant .0) (Up (a .peer)) st (countsOf (a .c)) (length (a .out .now))) (linked (linkUp (a .peer))) (a .h) (a .block .now) (a .c) (a .out .now) (c .before .before .before .before .before .before .on-neighbor-up .result) (c .before .before .before .before .before .before .on-neighbor-up .last .1 .0) (c .before .before .store-head .last .0)
+    (s .pre .stands) (s .pre .long) (c .before .before .before .before .before .before .on-neighbor-up .ensures) (c .before .before .before .before .before .before .on-neighbor-up .kept .1 .0) (c .before .before .store-head .ensures) refl refl
+    (up-0 (a .h) (a .block .now) (roomsIn st (a .rooms .now)) (a .instant .0) (a .peer) (countsOf (a .c)) (length (a .out .now)) (yes (c .before .before .before .before .before .before .before .before .before .fit .ensures ∙ ap (fitSizes (limitsOf (a .h .limits))) (c .before .before .before .before .before .before .before .before .before .before .up-sizes .ensures)) (c .before .before .before .before .before .before .before .before .if1 .left)))
 
 pub on-up-spec : {M : Type 1} → statement M
 on-up-spec =

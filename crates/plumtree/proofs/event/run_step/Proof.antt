@@ -6,6 +6,7 @@ use mathlib.Core.List.{List}
 use lib.ListN.{length}
 use Rattle.block.specs.View.{stateOf}
 use Rattle.steps.specs.Rooms.{roomsIn}
+use Rattle.settled.proofs.SizeLaws.{yes, no}
 use Rattle.plumtree.specs.Called.{countsOf, lent, Finds}
 use Rattle.plumtree.specs.Outcomes.{stepBytes, stepOutcome}
 use Rattle.plumtree.proofs.OutcomeLaws.{outcome-12, outcome-13, outcome-14}
@@ -46,7 +47,7 @@ returns-2 c =
     let a = s .args in
     refused-finds (stepOutcome (a .event .now) (roomsIn (stateOf (a .h) (a .block .now)) (a .rooms .now)) (a .instant .0) (a .step) (stateOf (a .h) (a .block .now)) (countsOf (a .counted)) (length (a .out .now))) 13 (a .block .now) (a .out .now) (a .c) (c .refused2 .result) (c .refused2 .ensures)
     (outcome-13 (a .event .now) (roomsIn (stateOf (a .h) (a .block .now)) (a .rooms .now)) (a .instant .0) (a .step) (stateOf (a .h) (a .block .now)) (countsOf (a .counted)) (length (a .out .now)) (sym (c .before .before .before .before .before .before .is-far .ensures) ∙ c .before .before .before .before .before .if1 .left)
-    (sym (run-fit (a .h) (a .block .now) (a .event .now) (a .rooms .now) (a .instant .0) (a .step) (s .pre .0) (s .pre .1) (c .before .before .before .step-sizes .result) (c .before .before .fit .result) (c .before .before .before .step-sizes .ensures) (c .before .before .fit .ensures)) ∙ c .before .if2 .taken))
+    (no (run-fit (a .h) (a .block .now) (a .event .now) (a .rooms .now) (a .instant .0) (a .step) (s .pre .0) (s .pre .1) (c .before .before .before .step-sizes .result) (c .before .before .fit .result) (c .before .before .before .step-sizes .ensures) (c .before .before .fit .ensures)) (c .before .if2 .taken)))
 
 sub-step-actions : tie.Need-sub-step-actions
 sub-step-actions c = search needs
@@ -80,7 +81,7 @@ returns-3 c =
     subst (λ (o : List ℕ). Finds (stepOutcome (a .event .now) (roomsIn (stateOf (a .h) (a .block .now)) (a .rooms .now)) (a .instant .0) (a .step) (stateOf (a .h) (a .block .now)) (countsOf (a .counted)) (length (a .out .now))) (lent (a .block .now) (a .c) (a .out .now)) (lent (a .block .now) (c .refused3 .result .stats) o) (c .refused3 .result .number) (c .refused3 .result .length)) (sym e)
     (refused-finds (stepOutcome (a .event .now) (roomsIn (stateOf (a .h) (a .block .now)) (a .rooms .now)) (a .instant .0) (a .step) (stateOf (a .h) (a .block .now)) (countsOf (a .counted)) (length (a .out .now))) 14 (a .block .now) (a .out .now) (a .c) (c .refused3 .result) (c .refused3 .ensures)
     (outcome-14 (a .event .now) (roomsIn (stateOf (a .h) (a .block .now)) (a .rooms .now)) (a .instant .0) (a .step) (stateOf (a .h) (a .block .now)) (countsOf (a .counted)) (length (a .out .now)) (sym (c .before .before .before .before .before .before .before .before .before .before .before .before .is-far .ensures) ∙ c .before .before .before .before .before .before .before .before .before .before .before .if1 .left)
-    (sym (run-fit (a .h) (a .block .now) (a .event .now) (a .rooms .now) (a .instant .0) (a .step) (s .pre .0) (s .pre .1) (c .before .before .before .before .before .before .before .before .before .step-sizes .result) (c .before .before .before .before .before .before .before .before .fit .result) (c .before .before .before .before .before .before .before .before .before .step-sizes .ensures) (c .before .before .before .before .before .before .before .before .fit .ensures)) ∙ c .before .before .before .before .before .before .before .if2 .left)
+    (yes (run-fit (a .h) (a .block .now) (a .event .now) (a .rooms .now) (a .instant .0) (a .step) (s .pre .0) (s .pre .1) (c .before .before .before .before .before .before .before .before .before .step-sizes .result) (c .before .before .before .before .before .before .before .before .fit .result) (c .before .before .before .before .before .before .before .before .before .step-sizes .ensures) (c .before .before .before .before .before .before .before .before .fit .ensures)) (c .before .before .before .before .before .before .before .if2 .left))
     (no-room (stepBytes (a .event .now) (roomsIn (stateOf (a .h) (a .block .now)) (a .rooms .now)) (a .instant .0) (a .step) (stateOf (a .h) (a .block .now))) (c .before .before .before .before .step-actions .last .1 .1 .1 .1 .1 .1 .0) (a .out .now) (c .before .before .before .before .step-actions .result) (c .before .before .before .before .step-actions .ensures) (c .before .if3 .taken))))
 
 step-actions-requires-2 : tie.Need-step-actions-requires-2
@@ -94,7 +95,7 @@ step-state-requires c κs =
     let s = c .before .before .before .before .before .before .before .before .before .before .before .before .before .before .before .before .before .before .before .before .before in
     let a = s .args in
     (s .pre .0, sym (c .before .before .before .before .before .before .before .before .before .before .before .before .before .before .before .before .before .is-far .ensures) ∙ c .before .before .before .before .before .before .before .before .before .before .before .before .before .before .before .before .if1 .left, run-fits (a .h) (a .block .now) (a .event .now) (a .rooms .now) (a .instant .0) (a .step) (s .pre .0) (s .pre .1)
-    (sym (run-fit (a .h) (a .block .now) (a .event .now) (a .rooms .now) (a .instant .0) (a .step) (s .pre .0) (s .pre .1) (c .before .before .before .before .before .before .before .before .before .before .before .before .before .before .step-sizes .result) (c .before .before .before .before .before .before .before .before .before .before .before .before .before .fit .result) (c .before .before .before .before .before .before .before .before .before .before .before .before .before .before .step-sizes .ensures) (c .before .before .before .before .before .before .before .before .before .before .before .before .before .fit .ensures)) ∙ c .before .before .before .before .before .before .before .before .before .before .before .before .if2 .left))
+    (yes (run-fit (a .h) (a .block .now) (a .event .now) (a .rooms .now) (a .instant .0) (a .step) (s .pre .0) (s .pre .1) (c .before .before .before .before .before .before .before .before .before .before .before .before .before .before .step-sizes .result) (c .before .before .before .before .before .before .before .before .before .before .before .before .before .fit .result) (c .before .before .before .before .before .before .before .before .before .before .before .before .before .before .step-sizes .ensures) (c .before .before .before .before .before .before .before .before .before .before .before .before .before .fit .ensures)) (c .before .before .before .before .before .before .before .before .before .before .before .before .if2 .left)))
 
 store-head-requires : tie.Need-store-head-requires
 store-head-requires c κs = search needs
@@ -118,7 +119,7 @@ returns-4 c =
     run-done (a .h) (a .block .now) (a .event .now) (a .rooms .now) (a .instant .0) (a .step) (s .pre .0) (s .pre .1) (a .c) (a .counted) (c .raised .result) (a .out .now) (c .before .before .before .before .before .before .before .step-state .result) (c .before .before .before .before .before .before .before .step-state .last .1 .0) (c .before .before .before .store-head .last .0)
     (c .before .before .before .before .before .before .before .before .before .before .before .before .before .before .before .before .before .step-actions .last .1 .1 .1 .1 .1 .1 .0) (c .before .before .before .before .before .before .before .before .before .before .before .step-actions2 .last .1 .1 .1 .1 .1 .1 .0) (c .before .before .before .before .before .before .before .before .before .before .before .before .before .before .before .before .before .step-actions .result) (c .before .before .before .before .before .before .before .before .before .before .before .step-actions2 .result)
     (sym (c .before .before .before .before .before .before .before .before .before .before .before .before .before .before .before .before .before .before .before .before .before .before .before .before .before .is-far .ensures) ∙ c .before .before .before .before .before .before .before .before .before .before .before .before .before .before .before .before .before .before .before .before .before .before .before .before .if1 .left)
-    (sym (run-fit (a .h) (a .block .now) (a .event .now) (a .rooms .now) (a .instant .0) (a .step) (s .pre .0) (s .pre .1) (c .before .before .before .before .before .before .before .before .before .before .before .before .before .before .before .before .before .before .before .before .before .before .step-sizes .result) (c .before .before .before .before .before .before .before .before .before .before .before .before .before .before .before .before .before .before .before .before .before .fit .result) (c .before .before .before .before .before .before .before .before .before .before .before .before .before .before .before .before .before .before .before .before .before .before .step-sizes .ensures) (c .before .before .before .before .before .before .before .before .before .before .before .before .before .before .before .before .before .before .before .before .before .fit .ensures)) ∙ c .before .before .before .before .before .before .before .before .before .before .before .before .before .before .before .before .before .before .before .before .if2 .left)
+    (yes (run-fit (a .h) (a .block .now) (a .event .now) (a .rooms .now) (a .instant .0) (a .step) (s .pre .0) (s .pre .1) (c .before .before .before .before .before .before .before .before .before .before .before .before .before .before .before .before .before .before .before .before .before .before .step-sizes .result) (c .before .before .before .before .before .before .before .before .before .before .before .before .before .before .before .before .before .before .before .before .before .fit .result) (c .before .before .before .before .before .before .before .before .before .before .before .before .before .before .before .before .before .before .before .before .before .before .step-sizes .ensures) (c .before .before .before .before .before .before .before .before .before .before .before .before .before .before .before .before .before .before .before .before .before .fit .ensures)) (c .before .before .before .before .before .before .before .before .before .before .before .before .before .before .before .before .before .before .before .before .if2 .left))
     (c .before .before .before .before .before .before .before .before .before .before .before .before .before .before .before .before .before .step-actions .ensures) (c .before .before .before .before .before .before .before .before .before .before .before .before .before .before .if3 .left) (c .before .before .before .before .before .before .before .before .before .before .before .step-actions2 .ensures)
     (c .before .before .before .before .before .before .before .step-state .ensures) (c .before .before .before .before .before .before .before .step-state .kept .1 .0) (c .before .before .before .store-head .ensures) (c .raised .ensures)
 

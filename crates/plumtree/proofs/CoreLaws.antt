@@ -1,15 +1,14 @@
 -- Questions 5 to 9, and the link room of a call.
 use Prim.Native.Nat.{ℕ, _^_, _≤_, _<_}
-use native.Mathlib.Omega.{arith}
 use mathlib.Core.Path.{_≡_, refl, sym, ap, subst, _∙_}
 use mathlib.Core.Bool.{Bool, true, false, _&&_}
 use mathlib.Core.List.{List}
 use mathlib.Core.Option.{Option, none, some}
 use lib.Dec.{leb}
-use lib.ListN.{length, getD, set}
+use lib.ListN.{length, set}
 use borrow.Author.Tests.{le-leb, lt-leb, leb-true}
 use Rattle.lists.specs.Base.{if_then_else_}
-use Rattle.lists.proofs.MapLaws.{cases, and-left, and-right}
+use Rattle.lists.proofs.MapLaws.{and-left, and-right}
 use Rattle.blake3.specs.Blake3.{identifier}
 use Rattle.postcard.specs.Decode.{Decoded, decoded, faulty, decodeEvent}
 use Rattle.postcard.specs.Events.{eventValue}
@@ -19,14 +18,13 @@ use Rattle.protocol.specs.State.{State, Counts, limitsInRange, blockNeed}
 use Rattle.protocol.specs.Run.{Room}
 use Rattle.protocol.specs.Whole.{longEnough, whole}
 use Rattle.protocol.specs.Whole as protocol
-use Rattle.protocol.specs.Answer.{Call, Answer, Outcome, refused, outcome, askOf, askRead, ask, askWhole, answerOf, answerBlock}
+use Rattle.protocol.specs.Answer.{Call, Outcome, refused, outcome, askOf, askRead, ask, askWhole, answerOf, answerBlock}
 use Rattle.protocol.proofs.Consistent.{whole-consistent, whole-ranged}
 use Rattle.protocol.proofs.BlockAnswer.{answer-long}
 use Rattle.block.specs.View.{limitsOf, stateOf}
 use Rattle.block.specs.Layout.{tables}
 use Rattle.block.specs.Header.{headIn}
 use Rattle.block.specs.declared.head.Head.{Head}
-use Rattle.steps.specs.Stands.{Stands}
 use Rattle.steps.specs.Rooms.{roomsIn}
 use Rattle.whole.specs.Held.{hasHeader, hasTables, countsWithin, laidOut, holdsWith, held, wholeHeld, wholeBlock}
 use Rattle.whole.proofs.HeldLaws.{Wholly}

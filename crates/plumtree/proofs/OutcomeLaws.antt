@@ -1,6 +1,6 @@
 -- The outcome of a step, test by test, and that of the definitions for the event whose step it is.
 use Prim.Native.Nat.{ℕ}
-use mathlib.Core.Path.{_≡_, refl, sym, ap, subst, _∙_}
+use mathlib.Core.Path.{_≡_, refl, sym, subst}
 use mathlib.Core.Bool.{Bool, true, false, not}
 use mathlib.Core.List.{List, _++_}
 use lib.Dec.{leb}
@@ -12,16 +12,12 @@ use Rattle.protocol.specs.State.{State, Counts}
 use Rattle.protocol.specs.Run.{Room}
 use Rattle.protocol.specs.Answer.{messageFits, countsStay, Outcome, refused, accepted}
 use Rattle.decide.specs.Sizes.{fitSizes}
-use Rattle.decide.specs.Settled.{settled, settledActions, tooFarBefore}
-use Rattle.decide.specs.SizesAfter.{sizesAfter}
-use Rattle.decide.specs.ActionsAfter.{actionsAfter}
-use Rattle.decide.specs.StateAfter.{stateAfter}
-use Rattle.kinds.specs.Counted.{countsAfterCall}
+use Rattle.decide.specs.Settled.{settled, settledActions}
 use Rattle.kinds.specs.Meaning.{stepSizes, stepActions, stepState, stepFar, stepCounts, countedFor, Means}
 use Rattle.kinds.specs.declared.Step.{Step}
 use Rattle.plumtree.specs.Decided.{bytesAfter, lastDecided, decided}
 use Rattle.plumtree.specs.Outcomes.{stepBytes, stepOutcome}
-use Rattle.plumtree.specs.Called.{Lent, Refused, Accepted, Finds}
+use Rattle.plumtree.specs.Called.{Lent, Accepted, Finds}
 
 module _ (bytes : List ℕ) (rooms : List Room) (now : ℕ) (r : Step) (s : State) (c : Counts) (output : ℕ) where
   abbrev outcome : Outcome

@@ -3,26 +3,26 @@ use Prim.Native.Nat.{ℕ, suc, max, _+_, _^_, _≤_, _<_}
 use native.Mathlib.Nat.{max-eq-left, max-eq-right}
 use native.Mathlib.Omega.{arith}
 use mathlib.Core.Path.{_≡_, refl, sym, ap, subst, _∙_}
-use mathlib.Core.Bool.{Bool, true, false, not, _&&_}
-use mathlib.Core.List.{List, [], _∷_, _++_}
-use mathlib.Core.Option.{Option, none, some}
-use lib.Dec.{leb, ltb, eqb}
-use lib.ListN.{length, getD, set}
+use mathlib.Core.Bool.{Bool, true, false, _&&_}
+use mathlib.Core.List.{List, [], _++_}
+use mathlib.Core.Option.{some}
+use lib.Dec.{leb, ltb}
+use lib.ListN.{length, getD}
 use borrow.Author.Tests.{le-leb, lt-leb, leb-true, lt-ltb, le-ltb, ltb-true, ltb-false}
 use Rattle.lists.specs.Base.{if_then_else_, concatMap}
-use Rattle.lists.proofs.MapLaws.{cases, and-left, and-right, and-intro}
+use Rattle.lists.proofs.MapLaws.{cases, and-left, and-intro}
 use Rattle.rows.specs.Part.{put}
 use Rattle.rows.proofs.Parts.{put-nil}
 use Rattle.blake3.specs.Blake3.{identifier}
-use Rattle.postcard.specs.Message.{Event, Received, Up, Down, messageBytes, actionBytes}
+use Rattle.postcard.specs.Message.{Event, Received, Up, Down, messageBytes}
 use Rattle.postcard.specs.Events.{messageValue, Sized}
 use Rattle.postcard.specs.declared.message.Message.{Message}
 use Rattle.postcard.specs.declared.message.Message.the-variants as messages
 use Rattle.protocol.specs.Links.{isNeighbour, linkUp}
-use Rattle.protocol.specs.State.{State, Counts, Limits, Settings, limitsInRange, blockNeed, zeroCounts, withLinks}
+use Rattle.protocol.specs.State.{State, Counts, Settings, limitsInRange, blockNeed, zeroCounts, withLinks}
 use Rattle.protocol.specs.Run.{Room, begin}
 use Rattle.protocol.specs.Neighbours.{forgetPeer}
-use Rattle.protocol.specs.Handle.{onePayload, oneControl, countMessage}
+use Rattle.protocol.specs.Handle.{countMessage}
 use Rattle.protocol.specs.Whole.{fits, whole}
 use Rattle.protocol.specs.Answer.{messageFits, countsBelow, countsStay, Outcome, refused, accepted}
 use Rattle.protocol.proofs.WholeKept.{kept-handle}
@@ -52,7 +52,7 @@ use Rattle.bounds.proofs.StepTold.{step-told}
 use Rattle.whole.specs.Held.{held}
 use Rattle.plumtree.specs.declared.Stats.{Stats}
 use Rattle.plumtree.specs.declared.event.Outcome.{Outcome as Answered}
-use Rattle.plumtree.specs.Called.{countsOf, Lent, lent, Refused, Accepted, Finds}
+use Rattle.plumtree.specs.Called.{countsOf, Lent, lent, Finds}
 use Rattle.plumtree.specs.Core.{Begun, isPayload, countedAs}
 use Rattle.plumtree.specs.Decided.{bytesAfter, lastDecided, decided}
 use Rattle.plumtree.specs.Outcomes.{stepBytes, stepOutcome, Asked, Decides}

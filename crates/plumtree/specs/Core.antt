@@ -2,7 +2,7 @@
 -- Assumes nothing.
 use Prim.Native.Nat.{ℕ, _^_, _≤_}
 use mathlib.Core.Bool.{Bool, true, false}
-use mathlib.Core.List.{List, []}
+use mathlib.Core.List.{List}
 use lib.ListN.{length, set}
 use Rattle.lists.specs.Base.{if_then_else_}
 use Rattle.postcard.specs.Decode.{Decoded, decoded, faulty, decodeEvent}

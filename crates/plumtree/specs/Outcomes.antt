@@ -1,8 +1,8 @@
 -- What the caller finds of a step: questions 12, 13 and 14, then the step. Proved equal to the definitions' outcome for the event whose step it is (proofs/OutcomeLaws.antt).
 -- Assumes nothing.
-use Prim.Native.Nat.{ℕ, _^_, _≤_, _<_}
+use Prim.Native.Nat.{ℕ, _^_, _≤_}
 use mathlib.Core.Path.{_≡_}
-use mathlib.Core.Bool.{Bool, true, false, not}
+use mathlib.Core.Bool.{not}
 use mathlib.Core.List.{List, _++_}
 use lib.Dec.{leb}
 use lib.ListN.{length, getD}

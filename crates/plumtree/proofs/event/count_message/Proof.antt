@@ -11,7 +11,6 @@ use Rattle.protocol.specs.Answer.{countsBelow}
 use Rattle.plumtree.specs.Called.{countsOf}
 use Rattle.plumtree.specs.Core.{countedAs}
 use native.Mathlib.Omega.{arith}
-use borrow.Author.Needs.{needs}
 use Rattle.plumtree.proofs.event.count_message.Statement.{statement}
 use Rattle.plumtree.proofs.event.count_message.Tie as tie
 

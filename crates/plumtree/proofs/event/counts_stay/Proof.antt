@@ -9,7 +9,6 @@ use Rattle.plumtree.specs.Called.{countsOf}
 use Rattle.plumtree.specs.Core.{countedAs}
 use Rattle.plumtree.proofs.RunLaws.{stay-payload, stay-control}
 use native.Mathlib.Omega.{arith}
-use borrow.Author.Needs.{needs}
 use Rattle.plumtree.proofs.event.counts_stay.Statement.{statement}
 use Rattle.plumtree.proofs.event.counts_stay.Tie as tie
 

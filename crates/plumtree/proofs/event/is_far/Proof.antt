@@ -2,7 +2,6 @@
 -- Assumes nothing.
 use mathlib.Core.Path.{sym, ap}
 use Rattle.kinds.specs.Meaning.{stepFar}
-use native.Mathlib.Omega.{arith}
 use borrow.Author.Needs.{needs}
 use Rattle.plumtree.proofs.event.is_far.Statement.{statement}
 use Rattle.plumtree.proofs.event.is_far.Tie as tie

@@ -1,18 +1,15 @@
 -- `on_down`: nothing grows, so the state fits.
 -- Assumes nothing.
-use mathlib.Core.Path.{refl, sym, ap, subst, _∙_}
-use mathlib.Core.Bool.{Bool, true, false}
+use mathlib.Core.Path.{refl}
 use lib.ListN.{length}
 use Rattle.blake3.specs.Blake3.{identifier}
 use Rattle.block.specs.View.{stateOf}
 use Rattle.steps.specs.Rooms.{roomsIn}
-use Rattle.settled.proofs.SizeLaws.{yes, no}
-use Rattle.plumtree.specs.Called.{countsOf, lent}
+use Rattle.plumtree.specs.Called.{countsOf}
 use Rattle.plumtree.specs.Decided.{decided}
 use Rattle.postcard.specs.Message.{Down}
 use Rattle.protocol.specs.Neighbours.{forgetPeer}
 use Rattle.plumtree.proofs.RunLaws.{down-0, changed-finds}
-use native.Mathlib.Omega.{arith}
 use borrow.Author.Needs.{needs}
 use Rattle.plumtree.proofs.event.on_down.Statement.{statement}
 use Rattle.plumtree.proofs.event.on_down.Tie as tie

@@ -1,18 +1,15 @@
 -- `on_event`: by the event.
 -- Assumes nothing.
-use mathlib.Core.Path.{refl, sym, ap, subst, _∙_}
-use mathlib.Core.Bool.{Bool, true, false}
+use mathlib.Core.Path.{sym, ap, subst, _∙_}
 use lib.ListN.{length}
 use Rattle.blake3.specs.Blake3.{identifier}
 use Rattle.block.specs.View.{stateOf}
 use Rattle.steps.specs.Rooms.{roomsIn}
-use Rattle.settled.proofs.SizeLaws.{yes, no}
 use Rattle.plumtree.specs.Called.{countsOf, lent, Finds}
 use Rattle.plumtree.specs.Decided.{decided}
 use Rattle.postcard.specs.Events.{eventValue, EventHeld}
 use Rattle.postcard.specs.declared.message.Event.{Event}
 use Rattle.plumtree.specs.Core.{eventPeer}
-use native.Mathlib.Omega.{arith}
 use borrow.Author.Needs.{needs}
 use Rattle.plumtree.proofs.event.on_event.Statement.{statement}
 use Rattle.plumtree.proofs.event.on_event.Tie as tie

@@ -1,7 +1,7 @@
 -- `on_message`: questions 10 and 11, then the message's step.
 -- Assumes nothing.
-use mathlib.Core.Path.{refl, sym, ap, subst, _∙_}
-use mathlib.Core.Bool.{Bool, true, false}
+use mathlib.Core.Path.{ap, _∙_}
+use mathlib.Core.Bool.{Bool, true}
 use lib.ListN.{length}
 use Rattle.blake3.specs.Blake3.{identifier}
 use Rattle.block.specs.View.{stateOf}
@@ -14,7 +14,6 @@ use Rattle.postcard.specs.Events.{messageValue}
 use Rattle.protocol.specs.Answer.{countsBelow}
 use Rattle.plumtree.specs.Core.{countedAs}
 use Rattle.plumtree.proofs.RunLaws.{refused-finds, message-10, message-11, message-fits, message-stays, message-counted, asked-of, step-finds}
-use native.Mathlib.Omega.{arith}
 use borrow.Author.Needs.{needs}
 use Rattle.plumtree.proofs.event.on_message.Statement.{statement}
 use Rattle.plumtree.proofs.event.on_message.Tie as tie

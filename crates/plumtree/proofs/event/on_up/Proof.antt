@@ -1,13 +1,12 @@
 -- `on_up`: question 13 is answered by the sizes, and the link is there.
 -- Assumes nothing.
-use mathlib.Core.Path.{refl, sym, ap, subst, _∙_}
-use mathlib.Core.Bool.{Bool, true, false}
+use mathlib.Core.Path.{refl, ap, _∙_}
 use lib.ListN.{length}
 use Rattle.blake3.specs.Blake3.{identifier}
 use Rattle.block.specs.View.{stateOf}
 use Rattle.steps.specs.Rooms.{roomsIn}
 use Rattle.settled.proofs.SizeLaws.{yes, no}
-use Rattle.plumtree.specs.Called.{countsOf, lent}
+use Rattle.plumtree.specs.Called.{countsOf}
 use Rattle.plumtree.specs.Decided.{decided}
 use Rattle.postcard.specs.Message.{Up}
 use Rattle.protocol.specs.Links.{linkUp}
@@ -15,7 +14,6 @@ use Rattle.block.specs.View.{limitsOf}
 use Rattle.block.specs.LinkSteps.{linked}
 use Rattle.decide.specs.Sizes.{fitSizes}
 use Rattle.plumtree.proofs.RunLaws.{refused-finds, up-13, up-0, up-room, changed-finds}
-use native.Mathlib.Omega.{arith}
 use borrow.Author.Needs.{needs}
 use Rattle.plumtree.proofs.event.on_up.Statement.{statement}
 use Rattle.plumtree.proofs.event.on_up.Tie as tie

@@ -11,7 +11,6 @@ use Rattle.plumtree.specs.Called.{countsOf, lent, Finds}
 use Rattle.plumtree.specs.Outcomes.{stepBytes, stepOutcome}
 use Rattle.plumtree.proofs.OutcomeLaws.{outcome-12, outcome-13, outcome-14}
 use Rattle.plumtree.proofs.RunLaws.{refused-finds, measured, no-room, run-told, run-fit, run-fits, run-done}
-use native.Mathlib.Omega.{arith}
 use borrow.Author.Needs.{needs}
 use Rattle.plumtree.proofs.event.run_step.Statement.{statement}
 use Rattle.plumtree.proofs.event.run_step.Tie as tie

@@ -70,10 +70,10 @@ unfolding runCalls prepend
 ended _ s _ _ _ _ _ h (done block c) = record { state = h .state; counts = refl; answers = refl }
 ended _ s _ _ _ _ _ h (next block c k output after number long f ks seen last lastCounts more) =
     let o : answerBlock identifier (length block) (held block) c k ≡ outcome (askWhole identifier s c k) =
-        ap (λ (x : Option State). answerBlock identifier (length block) x c k) (h .state) ∙ answer-long identifier (length block) s c k (h .long) in
+    ap (λ (x : Option State). answerBlock identifier (length block) x c k) (h .state) ∙ answer-long identifier (length block) s c k (h .long) in
     let g = after-of s c k (askWhole identifier s c k) block output after number long refl h (subst (λ (x : Outcome). Finds x (record { block = block; counts = c; output = output }) after number long) o (f .finds)) in
     let w = subst (λ (x : Counts). Ended (stateAfter s (askWhole identifier s c k)) x ks seen last lastCounts) (g .counts)
-        (ended (after .block) (stateAfter s (askWhole identifier s c k)) (after .counts) ks seen last lastCounts (g .holds) more) in
+    (ended (after .block) (stateAfter s (askWhole identifier s c k)) (after .counts) ks seen last lastCounts (g .holds) more) in
     record { state = w .state; counts = w .counts; answers = rw (g .seen, w .answers) refl }
 
 -- a creation that answers 0

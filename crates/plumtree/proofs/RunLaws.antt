@@ -170,14 +170,16 @@ decides-of bytes rooms now r s e w m =
 -- what its step is asked with
 pub asked-of : (h : Head) (block bytes array : List ℕ) (now : ℕ) (r : Step) (e : Event) → Begun h block now → Means bytes now (stateOf h block) r e → getD array 33 0 ≡ peerOf e →
     Asked h block bytes array now r × Decides bytes (roomsIn (stateOf h block) array) now r (stateOf h block)
-asked-of h block bytes array now r e b m q =
-    (record {
-      stands = b .stands;
-      long = b .long;
-      held = m .held;
-      sender = subst (λ (p : ℕ). SenderIs p r) (sym q) (m .sender);
-      early = b .early;
-    }, decides-of bytes (roomsIn (stateOf h block) array) now r (stateOf h block) e (stands-whole h block (b .stands)) m)
+asked-of h block bytes array now r e b m q = (
+  record {
+    stands = b .stands;
+    long = b .long;
+    held = m .held;
+    sender = subst (λ (p : ℕ). SenderIs p r) (sym q) (m .sender);
+    early = b .early;
+  },
+  decides-of bytes (roomsIn (stateOf h block) array) now r (stateOf h block) e (stands-whole h block (b .stands)) m,
+)
 
 -- a message's counts
 pub counted-message : (bytes : List ℕ) (m : Message) (c : Counts) → countedAs (isPayload m) c ≡ countMessage (messageValue bytes m) c

@@ -1,6 +1,6 @@
 // An event call: document 01's questions 5 to 14 in their order, then the event.
-use crate::after;
 use crate::Stats;
+use crate::after;
 use block::head::Head;
 use block::header;
 use kinds::Step;
@@ -307,7 +307,15 @@ fn on_timer(
 }
 
 // A neighbour is told up: no first event's work, and no action.
-fn on_up(h: Head, block: &mut [u8], c: Stats, instant: Millis, rooms: &[u64; 34], out: &[u8], peer: u64) -> Outcome
+fn on_up(
+    h: Head,
+    block: &mut [u8],
+    c: Stats,
+    instant: Millis,
+    rooms: &[u64; 34],
+    out: &[u8],
+    peer: u64,
+) -> Outcome
     requires { ⌜ Begun h (now block) (instant .0) ⌝ }
     ensures { λ r. ⌜ Finds (decided identifier (roomsIn (stateOf h (now (block .entry))) (now (rooms .entry))) (instant .0) (Up peer) (stateOf h (now (block .entry))) (countsOf c) (length (now (out .entry)))) (lent (now (block .entry)) c (now (out .entry))) (lent (now (block .exit)) (r .stats) (now (out .entry))) (r .number) (r .length) ⌝ }
 {
@@ -326,7 +334,15 @@ fn on_up(h: Head, block: &mut [u8], c: Stats, instant: Millis, rooms: &[u64; 34]
 }
 
 // A neighbour is told down: nothing grows.
-fn on_down(h: Head, block: &mut [u8], c: Stats, instant: Millis, rooms: &[u64; 34], out: &[u8], peer: u64) -> Outcome
+fn on_down(
+    h: Head,
+    block: &mut [u8],
+    c: Stats,
+    instant: Millis,
+    rooms: &[u64; 34],
+    out: &[u8],
+    peer: u64,
+) -> Outcome
     requires { ⌜ Begun h (now block) (instant .0) ⌝ }
     ensures { λ r. ⌜ Finds (decided identifier (roomsIn (stateOf h (now (block .entry))) (now (rooms .entry))) (instant .0) (Down peer) (stateOf h (now (block .entry))) (countsOf c) (length (now (out .entry)))) (lent (now (block .entry)) c (now (out .entry))) (lent (now (block .exit)) (r .stats) (now (out .entry))) (r .number) (r .length) ⌝ }
 {
@@ -359,7 +375,18 @@ fn on_event(
             size,
             message,
         } => on_message(h, block, c, instant, event, rooms, out, peer, size, message),
-        Event::Broadcast { start, len, scope } => on_broadcast(h, block, c, instant, event, rooms, out, start, len, scope),
+        Event::Broadcast { start, len, scope } => on_broadcast(
+            h,
+            block,
+            c,
+            instant,
+            event,
+            rooms,
+            out,
+            start,
+            len,
+            scope,
+        ),
         Event::Timer(t) => on_timer(h, block, c, instant, event, rooms, out, t),
         Event::Up(peer) => on_up(h, block, c, instant, rooms, out, peer),
         Event::Down(peer) => on_down(h, block, c, instant, rooms, out, peer),

@@ -10,4 +10,3 @@ returns c = ?
 
 pub step-actions-spec : {M : Type 1} → statement M
 step-actions-spec = tie.close (tie.spec returns)
-

@@ -10,4 +10,3 @@ returns c = ?
 
 pub step-state-spec : {M : Type 1} → statement M
 step-state-spec = tie.close (tie.spec returns)
-

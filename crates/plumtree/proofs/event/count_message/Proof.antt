@@ -40,4 +40,3 @@ returns-2 c = ap (λ (b : Bool). countedAs b (countsOf (c .before .before .args 
 
 pub count-message-spec : {M : Type 1} → statement M
 count-message-spec = tie.close (tie.spec add-t4 returns add-t5 returns-2)
-

@@ -28,4 +28,3 @@ returns-2 c =
 
 pub counts-stay-spec : {M : Type 1} → statement M
 counts-stay-spec = tie.close (tie.spec returns returns-2)
-

@@ -73,10 +73,11 @@ on-event-requires c κs =
     let s = c .before .before .before .before .before .before .before .before .before .before .before .before .before .before .before .before .before .before in
     let a = s .args in
     let w = wholly-of (a .block .now) (yes (c .before .before .before .before .before .before .before .before .before .before .before .before .before .is-whole .ensures) (c .before .before .before .before .before .before .before .before .before .before .before .before .if1 .left)) in
-    let long : 33 < length (a .rooms) = omega arith in
-    (subst (λ (g : Head). Begun g (a .block .now) (a .instant .0)) (sym (c .before .before .before .before .before .before .before .before .load-head .ensures)) (begun-of (a .block .now) w (a .instant .0) (c .before .before .before .before .before .before .before .before .before .before .if2 .left)),
-    subst (λ (v : Decoded). DecodedHeld (a .event .now) v) (c .before .before .before .before .before .d .given .1) (c .before .before .before .before .before .before .before .decode-event .ensures .held),
-    getD-set-same (a .rooms) 33 (c .before .before .before .event-peer .result) 0 long ∙ c .before .before .before .event-peer .ensures)
+    let long : 33 < length (a .rooms) = omega arith in (
+      subst (λ (g : Head). Begun g (a .block .now) (a .instant .0)) (sym (c .before .before .before .before .before .before .before .before .load-head .ensures)) (begun-of (a .block .now) w (a .instant .0) (c .before .before .before .before .before .before .before .before .before .before .if2 .left)),
+      subst (λ (v : Decoded). DecodedHeld (a .event .now) v) (c .before .before .before .before .before .d .given .1) (c .before .before .before .before .before .before .before .decode-event .ensures .held),
+      getD-set-same (a .rooms) 33 (c .before .before .before .event-peer .result) 0 long ∙ c .before .before .before .event-peer .ensures,
+    )
 
 enum-known-d-2 : tie.Need-enum-known-d-2
 enum-known-d-2 c = search needs

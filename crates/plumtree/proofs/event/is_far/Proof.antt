@@ -127,4 +127,3 @@ is-far-spec =
     returns-11
     returns-12
     returns-13)
-

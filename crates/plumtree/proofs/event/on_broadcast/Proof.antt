@@ -44,4 +44,3 @@ pub on-broadcast-spec : {M : Type 1} → statement M
 on-broadcast-spec =
     tie.close
     (tie.spec broadcast-step-requires run-step-requires same-length same-length-2 returns)
-

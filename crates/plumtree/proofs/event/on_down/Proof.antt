@@ -36,4 +36,3 @@ returns c =
 pub on-down-spec : {M : Type 1} → statement M
 on-down-spec =
     tie.close (tie.spec on-neighbor-down-requires store-head-requires same-length returns)
-

@@ -158,4 +158,3 @@ on-event-spec =
     same-length-9
     same-length-10
     returns-5)
-

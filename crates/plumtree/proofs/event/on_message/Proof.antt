@@ -89,4 +89,3 @@ on-message-spec =
     same-length
     same-length-2
     returns-3)
-

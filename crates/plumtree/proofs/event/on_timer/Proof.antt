@@ -42,4 +42,3 @@ returns c =
 pub on-timer-spec : {M : Type 1} → statement M
 on-timer-spec =
     tie.close (tie.spec timer-step-requires run-step-requires same-length same-length-2 returns)
-

@@ -155,4 +155,3 @@ raised-spec =
     returns-12
     returns-13
     returns-14)
-

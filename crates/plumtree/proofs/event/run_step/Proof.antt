@@ -92,9 +92,12 @@ step-actions-requires-2 c κs =
 step-state-requires : tie.Need-step-state-requires
 step-state-requires c κs =
     let s = c .before .before .before .before .before .before .before .before .before .before .before .before .before .before .before .before .before .before .before .before .before in
-    let a = s .args in
-    (s .pre .0, sym (c .before .before .before .before .before .before .before .before .before .before .before .before .before .before .before .before .before .is-far .ensures) ∙ c .before .before .before .before .before .before .before .before .before .before .before .before .before .before .before .before .if1 .left, run-fits (a .h) (a .block .now) (a .event .now) (a .rooms .now) (a .instant .0) (a .step) (s .pre .0) (s .pre .1)
-    (yes (run-fit (a .h) (a .block .now) (a .event .now) (a .rooms .now) (a .instant .0) (a .step) (s .pre .0) (s .pre .1) (c .before .before .before .before .before .before .before .before .before .before .before .before .before .before .step-sizes .result) (c .before .before .before .before .before .before .before .before .before .before .before .before .before .fit .result) (c .before .before .before .before .before .before .before .before .before .before .before .before .before .before .step-sizes .ensures) (c .before .before .before .before .before .before .before .before .before .before .before .before .before .fit .ensures)) (c .before .before .before .before .before .before .before .before .before .before .before .before .if2 .left)))
+    let a = s .args in (
+      s .pre .0,
+      sym (c .before .before .before .before .before .before .before .before .before .before .before .before .before .before .before .before .before .is-far .ensures) ∙ c .before .before .before .before .before .before .before .before .before .before .before .before .before .before .before .before .if1 .left,
+      run-fits (a .h) (a .block .now) (a .event .now) (a .rooms .now) (a .instant .0) (a .step) (s .pre .0) (s .pre .1)
+          (yes (run-fit (a .h) (a .block .now) (a .event .now) (a .rooms .now) (a .instant .0) (a .step) (s .pre .0) (s .pre .1) (c .before .before .before .before .before .before .before .before .before .before .before .before .before .before .step-sizes .result) (c .before .before .before .before .before .before .before .before .before .before .before .before .before .fit .result) (c .before .before .before .before .before .before .before .before .before .before .before .before .before .before .step-sizes .ensures) (c .before .before .before .before .before .before .before .before .before .before .before .before .before .fit .ensures)) (c .before .before .before .before .before .before .before .before .before .before .before .before .if2 .left)),
+    )
 
 store-head-requires : tie.Need-store-head-requires
 store-head-requires c κs = search needs
@@ -149,4 +152,3 @@ run-step-spec =
     same-length-4
     same-length-5
     returns-4)
-

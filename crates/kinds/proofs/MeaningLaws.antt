@@ -48,7 +48,7 @@ use Rattle.decide.specs.ActionsAfter.{gossipActions, messageActions, timerActio
 use Rattle.decide.specs.StateAfter.{firstState, broadcastState, timerState, gossipState, messageState, stateAfter}
 use Rattle.decide.proofs.SettledLaws.{evicted, settled-received}
 use Rattle.kinds.specs.Counted.{messageCounts, countsAfterCall}
-use Rattle.kinds.specs.Meaning.{stepSizes, stepActions, stepState, stepFar, stepCounts, countedFor, ContentHeld, ListHeld, StepHeld, Means}
+use Rattle.kinds.specs.Meaning.{stepSizes, stepActions, stepState, stepFar, stepCounts, countedFor, ContentHeld, ListHeld, StepHeld, SenderIs, Means}
 use Rattle.kinds.specs.declared.Step.{Step}
 use Rattle.kinds.specs.declared.Step.the-variants as step
 
@@ -71,15 +71,16 @@ record Does (bytes : List ℕ) (now : ℕ) (t : State) (r : Step) (sender : ℕ)
   counts : (c : Counts) → messageCounts identifier m t c ≡ stepCounts r c
 
 means-message : (bytes : List ℕ) (now : ℕ) (s : State) (r : Step) (sender : ℕ) (m : Message) → CoreOf s →
-    tooFarBefore identifier now (Received sender m) s ≡ stepFar r → Does bytes now (settled now s) r sender m → StepHeld bytes s r → Means bytes now s r (Received sender m)
+    tooFarBefore identifier now (Received sender m) s ≡ stepFar r → Does bytes now (settled now s) r sender m → StepHeld bytes s r → SenderIs sender r → Means bytes now s r (Received sender m)
 unfolding sizesAfter actionsAfter stateAfter countsAfterCall countedFor
-means-message bytes now s r sender m c f d h = record {
+means-message bytes now s r sender m c f d h q = record {
   far = f;
   sizes = d .sizes;
   actions = λ rooms. ap (λ (l : List _). settledActions s ++ l) (d .actions rooms);
   state = λ rooms. ap (messageState identifier rooms now sender m) (first-settled now s c) ∙ d .state rooms;
   counts = λ n. d .counts _;
   held = h;
+  sender = q;
 }
 
 -- a Gossip that is not valid
@@ -96,7 +97,7 @@ far-invalid now s sender id content d e = rw e refl
 pub means-invalid : (bytes : List ℕ) (now : ℕ) (s : State) (sender id : ℕ) (content : List ℕ) (d : Delivery) → CoreOf s → eqb (identifier content) id ≡ false →
     Means bytes now s step.Nothing (Received sender (Gossip id content d))
 means-invalid bytes now s sender id content d c e =
-    means-message bytes now s step.Nothing sender (Gossip id content d) c (far-invalid now s sender id content d e) (does-invalid bytes now (settled now s) sender id content d e) tt
+    means-message bytes now s step.Nothing sender (Gossip id content d) c (far-invalid now s sender id content d e) (does-invalid bytes now (settled now s) sender id content d e) tt tt
 
 and-off : (b : Bool) → (b && false) ≡ false
 and-off true = refl
@@ -129,6 +130,7 @@ means-late bytes now s sender i content d c e q =
     (far-valid now s sender (idOf i) content (deliveryValue d) true c e q ∙ and-off (lastRound (deliveryValue d)))
     (does-late bytes now (settled now s) sender i content d e q)
     tt
+    refl
 
 -- a valid one, new
 module _ (bytes : List ℕ) (now : ℕ) (s : State) (sender : ℕ) (i : Id) (start len : ℕ) (core : CoreOf s) (valid : eqb (identifier (part start len bytes)) (idOf i) ≡ true)
@@ -144,6 +146,7 @@ module _ (bytes : List ℕ) (now : ℕ) (s : State) (sender : ℕ) (i : Id) (sta
       (far-valid now s sender (idOf i) (part start len bytes) (Swarm (round .0)) false core valid new ∙ and-on (eqb (round .0) 65535))
       (does-new-swarm round)
       held
+      refl
 
   does-new-neighbors : Does bytes now (settled now s) (step.NewNeighbors sender start len) sender (Gossip (idOf i) (part start len bytes) Neighbors)
   unfolding messageSizes gossipSizes messageActions gossipActions messageState gossipState messageCounts stepSizes stepActions stepState stepCounts
@@ -156,6 +159,7 @@ module _ (bytes : List ℕ) (now : ℕ) (s : State) (sender : ℕ) (i : Id) (sta
       (far-valid now s sender (idOf i) (part start len bytes) Neighbors false core valid new)
       does-new-neighbors
       held
+      refl
 
   pub means-new : (d : declared.Delivery) (round : Round) → d ≡ delivery.Swarm round → Means bytes now s (step.NewSwarm sender i start len round) (Received sender (Gossip (idOf i) (part start len bytes) (deliveryValue d)))
   means-new d round e =
@@ -176,7 +180,7 @@ module _ (bytes : List ℕ) (now : ℕ) (s : State) (sender place : ℕ) (core :
 
   pub means-stranger-prune : Means bytes now s step.Nothing (Received sender Prune)
   unfolding tooFarBefore stepFar
-  means-stranger-prune = means-message bytes now s step.Nothing sender Prune core refl (does-stranger-prune (settled now s) away-settled) tt
+  means-stranger-prune = means-message bytes now s step.Nothing sender Prune core refl (does-stranger-prune (settled now s) away-settled) tt tt
 
   does-stranger-graft : (wanted : _) (round : ℕ) (t : State) → isNeighbour sender (t .links) ≡ false → Does bytes now t step.Nothing sender (Graft wanted round)
   unfolding messageSizes messageActions messageState messageCounts stepSizes stepActions stepState stepCounts
@@ -184,7 +188,7 @@ module _ (bytes : List ℕ) (now : ℕ) (s : State) (sender place : ℕ) (core :
 
   pub means-stranger-graft : (wanted : _) (round : ℕ) → Means bytes now s step.Nothing (Received sender (Graft wanted round))
   unfolding tooFarBefore stepFar
-  means-stranger-graft wanted round = means-message bytes now s step.Nothing sender (Graft wanted round) core refl (does-stranger-graft wanted round (settled now s) away-settled) tt
+  means-stranger-graft wanted round = means-message bytes now s step.Nothing sender (Graft wanted round) core refl (does-stranger-graft wanted round (settled now s) away-settled) tt tt
 
   does-stranger-ihave : (hs : List Ihave) (t : State) → isNeighbour sender (t .links) ≡ false → Does bytes now t step.Nothing sender (IHave hs)
   unfolding messageSizes messageActions messageState messageCounts stepSizes stepActions stepState stepCounts
@@ -192,7 +196,7 @@ module _ (bytes : List ℕ) (now : ℕ) (s : State) (sender place : ℕ) (core :
 
   pub means-stranger-ihave : (hs : List Ihave) → Means bytes now s step.Nothing (Received sender (IHave hs))
   unfolding tooFarBefore stepFar
-  means-stranger-ihave hs = means-message bytes now s step.Nothing sender (IHave hs) core refl (does-stranger-ihave hs (settled now s) away-settled) tt
+  means-stranger-ihave hs = means-message bytes now s step.Nothing sender (IHave hs) core refl (does-stranger-ihave hs (settled now s) away-settled) tt tt
 
 -- a neighbour's
 module _ (bytes : List ℕ) (now : ℕ) (s : State) (sender link : ℕ) (core : CoreOf s) (here : Here (keys (s .links)) sender link) where
@@ -211,7 +215,7 @@ module _ (bytes : List ℕ) (now : ℕ) (s : State) (sender link : ℕ) (core : 
 
   pub means-prune : Means bytes now s (step.Prune link) (Received sender Prune)
   unfolding tooFarBefore stepFar
-  means-prune = means-message bytes now s (step.Prune link) sender Prune core refl (does-prune (settled now s) there-settled peer-settled) is-link
+  means-prune = means-message bytes now s (step.Prune link) sender Prune core refl (does-prune (settled now s) there-settled peer-settled) is-link tt
 
   does-graft : (w : Wanted) (round : ℕ) (t : State) → isNeighbour sender (t .links) ≡ true → peerAt t link ≡ sender → Does bytes now t (step.Graft link w) sender (Graft (wantedValue w) round)
   unfolding messageSizes messageActions messageState messageCounts stepSizes stepActions stepState stepCounts
@@ -219,7 +223,7 @@ module _ (bytes : List ℕ) (now : ℕ) (s : State) (sender link : ℕ) (core : 
 
   pub means-graft : (w : Wanted) (round : ℕ) → Means bytes now s (step.Graft link w) (Received sender (Graft (wantedValue w) round))
   unfolding tooFarBefore stepFar
-  means-graft w round = means-message bytes now s (step.Graft link w) sender (Graft (wantedValue w) round) core refl (does-graft w round (settled now s) there-settled peer-settled) is-link
+  means-graft w round = means-message bytes now s (step.Graft link w) sender (Graft (wantedValue w) round) core refl (does-graft w round (settled now s) there-settled peer-settled) is-link tt
 
   does-ihave : (start count : ℕ) (t : State) → isNeighbour sender (t .links) ≡ true → peerAt t link ≡ sender → Does bytes now t (step.IHave link start count) sender (IHave (ihavesFrom bytes start count))
   unfolding messageSizes messageActions messageState messageCounts stepSizes stepActions stepState stepCounts
@@ -228,7 +232,7 @@ module _ (bytes : List ℕ) (now : ℕ) (s : State) (sender link : ℕ) (core : 
   pub means-ihave : (start count : ℕ) → ListHeld bytes s link start count → Means bytes now s (step.IHave link start count) (Received sender (IHave (ihavesFrom bytes start count)))
   unfolding tooFarBefore stepFar
   means-ihave start count h =
-      means-message bytes now s (step.IHave link start count) sender (IHave (ihavesFrom bytes start count)) core refl (does-ihave start count (settled now s) there-settled peer-settled) h
+      means-message bytes now s (step.IHave link start count) sender (IHave (ihavesFrom bytes start count)) core refl (does-ihave start count (settled now s) there-settled peer-settled) h tt
 
 -- a broadcast of size over M
 pub means-oversize : (bytes : List ℕ) (now : ℕ) (s : State) (content : List ℕ) (scope : Scope) → CoreOf s → ltb (s .settings .maxMessageSize) (gossipSize (length content) scope) ≡ true →
@@ -241,6 +245,7 @@ means-oversize bytes now s content scope c e = record {
   state = λ rooms. rw e (first-settled now s c);
   counts = λ n. refl;
   held = tt;
+  sender = tt;
 }
 
 -- one of size at most M
@@ -255,6 +260,7 @@ module _ (bytes : List ℕ) (now : ℕ) (s : State) (i : Id) (start len : ℕ) (
     state = λ rooms. rw (e, first-settled now s core, ← of) refl;
     counts = λ n. refl;
     held = held;
+    sender = tt;
   }
 
   pub means-broadcast-neighbors : ltb (s .settings .maxMessageSize) (gossipSize (length (part start len bytes)) toNeighbors) ≡ false →
@@ -267,6 +273,7 @@ module _ (bytes : List ℕ) (now : ℕ) (s : State) (i : Id) (start len : ℕ) (
     state = λ rooms. rw e (first-settled now s core);
     counts = λ n. refl;
     held = held;
+    sender = tt;
   }
 
   pub means-sent-swarm : (v : declaredScope.Scope) → v ≡ scopes.Swarm → ltb (s .settings .maxMessageSize) (gossipSize (length (part start len bytes)) (scopeValue v)) ≡ false →
@@ -285,19 +292,19 @@ module _ (bytes : List ℕ) (now : ℕ) (s : State) (i : Id) (start len : ℕ) (
 module _ (bytes : List ℕ) (now : ℕ) (s : State) (core : CoreOf s) where
   pub means-timer-graft : (i : Id) → Means bytes now s (step.SendGraft i) (Fired (SendGraft (idOf i)))
   unfolding tooFarBefore sizesAfter actionsAfter stateAfter countsAfterCall timerSizes timerActions timerState countedFor stepFar stepSizes stepActions stepState stepCounts
-  means-timer-graft i = record { far = refl; sizes = λ rooms. refl; actions = λ rooms. refl; state = λ rooms. rw (first-settled now s core) refl; counts = λ n. refl; held = tt }
+  means-timer-graft i = record { far = refl; sizes = λ rooms. refl; actions = λ rooms. refl; state = λ rooms. rw (first-settled now s core) refl; counts = λ n. refl; held = tt; sender = tt }
 
   pub means-timer-dispatch : Means bytes now s step.DispatchLazyPush (Fired DispatchLazyPush)
   unfolding tooFarBefore sizesAfter actionsAfter stateAfter countsAfterCall timerSizes timerActions timerState countedFor stepFar stepSizes stepActions stepState stepCounts
-  means-timer-dispatch = record { far = refl; sizes = λ rooms. refl; actions = λ rooms. refl; state = λ rooms. rw (first-settled now s core) refl; counts = λ n. refl; held = tt }
+  means-timer-dispatch = record { far = refl; sizes = λ rooms. refl; actions = λ rooms. refl; state = λ rooms. rw (first-settled now s core) refl; counts = λ n. refl; held = tt; sender = tt }
 
   pub means-timer-evict : Means bytes now s step.EvictCache (Fired EvictCache)
   unfolding tooFarBefore sizesAfter actionsAfter stateAfter countsAfterCall timerSizes timerActions timerState countedFor stepFar stepSizes stepActions stepState stepCounts
-  means-timer-evict = record { far = refl; sizes = λ rooms. refl; actions = λ rooms. refl; state = λ rooms. rw (first-settled now s core) refl; counts = λ n. refl; held = tt }
+  means-timer-evict = record { far = refl; sizes = λ rooms. refl; actions = λ rooms. refl; state = λ rooms. rw (first-settled now s core) refl; counts = λ n. refl; held = tt; sender = tt }
 
   pub means-timer-announce : Means bytes now s step.AnnounceDropped (Fired AnnounceDropped)
   unfolding tooFarBefore sizesAfter actionsAfter stateAfter countsAfterCall timerSizes timerActions timerState countedFor stepFar stepSizes stepActions stepState stepCounts
-  means-timer-announce = record { far = refl; sizes = λ rooms. refl; actions = λ rooms. refl; state = λ rooms. rw (first-settled now s core) refl; counts = λ n. refl; held = tt }
+  means-timer-announce = record { far = refl; sizes = λ rooms. refl; actions = λ rooms. refl; state = λ rooms. rw (first-settled now s core) refl; counts = λ n. refl; held = tt; sender = tt }
 
 -- M is at most 4,094
 max-few : (h : Head) (xs : List ℕ) → Ranged (stateOf h xs) → h .settings .«max_message_size» ≤ 4094

@@ -144,6 +144,30 @@ StepHeld bytes s step.DispatchLazyPush = Unit {0}
 StepHeld bytes s step.EvictCache = Unit {0}
 StepHeld bytes s step.AnnounceDropped = Unit {0}
 
+-- the peer of an event: a received message's sender; 0 for the others
+abbrev pub peerOf : Event → ℕ
+peerOf (Received p m) = p
+peerOf (Broadcast content scope) = 0
+peerOf (Fired t) = 0
+peerOf (Up p) = 0
+peerOf (Down p) = 0
+
+-- the sender that a step names, if it names one
+abbrev pub SenderIs : ℕ → Step → Type 0
+SenderIs p step.Nothing = Unit {0}
+SenderIs p (step.NewSwarm sender id start len round) = sender ≡ p
+SenderIs p (step.NewNeighbors sender start len) = sender ≡ p
+SenderIs p (step.Late sender id d) = sender ≡ p
+SenderIs p (step.Prune link) = Unit {0}
+SenderIs p (step.Graft link w) = Unit {0}
+SenderIs p (step.IHave link start count) = Unit {0}
+SenderIs p (step.BroadcastSwarm id start len) = Unit {0}
+SenderIs p (step.BroadcastNeighbors id start len) = Unit {0}
+SenderIs p (step.SendGraft id) = Unit {0}
+SenderIs p step.DispatchLazyPush = Unit {0}
+SenderIs p step.EvictCache = Unit {0}
+SenderIs p step.AnnounceDropped = Unit {0}
+
 -- the step is that of the event, upon the state `s` before the call
 pub record Means (bytes : List ℕ) (now : ℕ) (s : State) (r : Step) (e : Event) : Type 0 where
   pub far : tooFarBefore identifier now e s ≡ stepFar r
@@ -152,3 +176,4 @@ pub record Means (bytes : List ℕ) (now : ℕ) (s : State) (r : Step) (e : Even
   pub state : (rooms : List Room) → stateAfter identifier rooms now e s ≡ stepState bytes rooms now r (settled now s)
   pub counts : (c : Counts) → countsAfterCall identifier now e s c ≡ stepCounts r (countedFor e c)
   pub held : StepHeld bytes s r
+  pub sender : SenderIs (peerOf e) r

@@ -1,30 +1,25 @@
 -- What the code computes is what the definitions say (`decided-ask`), also with another list of rooms that tells the same of the peers that a call can reach (`decided-rooms`).
 use Prim.Native.Nat.{ℕ}
 use mathlib.Core.Path.{_≡_, refl, sym, ap, _∙_}
-use mathlib.Core.Bool.{Bool, true, false, not}
+use mathlib.Core.Bool.{Bool, true, not}
 use mathlib.Core.List.{List}
 use lib.Dec.{leb}
 use lib.ListN.{length}
-use Rattle.lists.specs.Base.{if_then_else_, concatMap}
+use Rattle.lists.specs.Base.{if_then_else_}
 use Rattle.lists.proofs.Branches.{if-on, if-both}
-use Rattle.postcard.specs.Message.{Event, Action, actionBytes}
+use Rattle.postcard.specs.Message.{Event}
 use Rattle.protocol.specs.State.{State, Counts}
 use Rattle.protocol.specs.Run.{Run, Room, begin}
 use Rattle.protocol.specs.Handle.{firstEvent, handle}
 use Rattle.protocol.specs.Whole.{whole, fits}
-use Rattle.protocol.specs.Answer.{Call, Answer, refuse, accept, Outcome, refused, accepted, outcome, outputOf, messageFits, countsStay, tooFar, lastTwo, askOf}
+use Rattle.protocol.specs.Answer.{Call, Outcome, refused, accepted, outcome, outputOf, messageFits, countsStay, tooFar, lastTwo, askOf}
 use Rattle.decide.specs.Rooms.{firstRoom}
-use Rattle.decide.specs.Sizes.{fitSizes}
 use Rattle.decide.specs.Settled.{tooFarBefore}
-use Rattle.decide.specs.SizesAfter.{sizesAfter}
-use Rattle.decide.specs.ActionsAfter.{actionsAfter}
-use Rattle.decide.specs.StateAfter.{stateAfter}
 use Rattle.decide.proofs.Decide.{decide-12, same-rooms}
 use Rattle.decide.proofs.EachEvent.{decide-13, decide-actions}
 use Rattle.decide.proofs.StateAfterLaws.{decide-state}
 use Rattle.decide.proofs.RoomsSteps.{withRooms}
 use Rattle.decide.proofs.RoomsCall.{reached}
-use Rattle.kinds.specs.Counted.{countsAfterCall}
 use Rattle.plumtree.specs.Decided.{bytesAfter, lastDecided, decided}
 use Rattle.kinds.proofs.Counted.{decide-counts}
 

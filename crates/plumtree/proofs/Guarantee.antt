@@ -1,23 +1,21 @@
 -- Demand 3 over blocks: a chain of calls that meet the contract of an event call goes through the states of the definitions.
 use Prim.Native.Nat.{ℕ, _≤_}
 use native.Mathlib.Omega.{arith}
-use mathlib.Core.Path.{_≡_, refl, sym, ap, subst, _∙_}
-use mathlib.Core.Bool.{true, false}
-use mathlib.Core.List.{List, [], _∷_, map}
-use mathlib.Core.Option.{Option, none, some}
+use mathlib.Core.Path.{_≡_, refl, ap, subst, _∙_}
+use mathlib.Core.Bool.{true}
+use mathlib.Core.List.{List, map}
+use mathlib.Core.Option.{Option, some}
 use lib.Dec.{leb}
 use lib.ListN.{length, take}
 use Rattle.rows.specs.Part.{part, put}
 use Rattle.rows.proofs.Parts.{part-put}
 use Rattle.blake3.specs.Blake3.{identifier}
-use Rattle.postcard.specs.Message.{Event}
 use Rattle.protocol.specs.State.{State, Counts, Created, created, create, fresh, zeroCounts, sizeInRange, durationsInRange, limitsInRange, blockNeed, Settings as PanelSettings, Limits as PanelLimits}
 use Rattle.lists.proofs.MapLaws.{cases}
 use borrow.Author.Tests.{leb-true, leb-false}
-use Rattle.protocol.specs.Run.{Run}
 use Rattle.protocol.specs.Whole.{longEnough}
-use Rattle.protocol.specs.Answer.{Call, Answer, refuse, accept, Outcome, refused, accepted, outcome, outputOf, askWhole, answerBlock}
-use Rattle.protocol.specs.Calls.{Ran, runCalls, stateAfter, countsAfter, prepend}
+use Rattle.protocol.specs.Answer.{Call, Answer, refuse, accept, Outcome, outcome, outputOf, askWhole, answerBlock}
+use Rattle.protocol.specs.Calls.{runCalls, stateAfter, countsAfter, prepend}
 use Rattle.protocol.proofs.BlockAnswer.{created-long, ask-limits, answer-long}
 use Rattle.protocol.proofs.Demand3.{demand3}
 use Rattle.block.specs.View.{settingsOf, limitsOf}
@@ -26,8 +24,8 @@ use Rattle.block.specs.declared.head.Limits.{Limits}
 use Rattle.whole.specs.Held.{held}
 use Rattle.whole.specs.Creation.{Creation, Creates, Refused as NotMade, Accepted as Made}
 use Rattle.whole.proofs.CreateLaws.{create-0, create-1, create-2, create-3, create-4}
-use Rattle.plumtree.specs.Called.{Lent, Refused, Accepted, Finds, Called}
-use Rattle.plumtree.specs.Chain.{Seen, Chain, done, next, seenOf, ranFrom, Guaranteed, Guarantee}
+use Rattle.plumtree.specs.Called.{Lent, Finds}
+use Rattle.plumtree.specs.Chain.{Seen, Chain, done, next, seenOf, Guaranteed, Guarantee}
 
 -- the block holds this state, and is long enough for it
 record Holds (block : List ℕ) (s : State) : Type 0 where
@@ -72,10 +70,10 @@ unfolding runCalls prepend
 ended _ s _ _ _ _ _ h (done block c) = record { state = h .state; counts = refl; answers = refl }
 ended _ s _ _ _ _ _ h (next block c k output after number long f ks seen last lastCounts more) =
     let o : answerBlock identifier (length block) (held block) c k ≡ outcome (askWhole identifier s c k) =
-        ap (λ (x : Option State). answerBlock identifier (length block) x c k) (h .state) ∙ answer-long identifier (length block) s c k (h .long) in
+    ap (λ (x : Option State). answerBlock identifier (length block) x c k) (h .state) ∙ answer-long identifier (length block) s c k (h .long) in
     let g = after-of s c k (askWhole identifier s c k) block output after number long refl h (subst (λ (x : Outcome). Finds x (record { block = block; counts = c; output = output }) after number long) o (f .finds)) in
     let w = subst (λ (x : Counts). Ended (stateAfter s (askWhole identifier s c k)) x ks seen last lastCounts) (g .counts)
-        (ended (after .block) (stateAfter s (askWhole identifier s c k)) (after .counts) ks seen last lastCounts (g .holds) more) in
+    (ended (after .block) (stateAfter s (askWhole identifier s c k)) (after .counts) ks seen last lastCounts (g .holds) more) in
     record { state = w .state; counts = w .counts; answers = rw (g .seen, w .answers) refl }
 
 -- a creation that answers 0

@@ -22,6 +22,10 @@ pub record Lent : Type 0 where
   pub counts : Counts
   pub output : List ℕ
 
+-- what is lent, with the counts as the code has them
+abbrev pub lent : List ℕ → Stats → List ℕ → Lent
+lent block c output = record { block = block; counts = countsOf c; output = output }
+
 -- "The first no gives its number and output length 0; block, counts record and output are untouched"
 pub record Refused (n : ℕ) (before after : Lent) (answer outputLength : ℕ) : Type 0 where
   pub number : answer ≡ n

@@ -6,7 +6,7 @@ use mathlib.Core.List.{List, [], _∷_, map}
 use mathlib.Core.Option.{some}
 use lib.ListN.{take}
 use Rattle.blake3.specs.Blake3.{identifier}
-use Rattle.protocol.specs.State.{State, Counts, fresh, zeroCounts}
+use Rattle.protocol.specs.State.{Counts, fresh, zeroCounts}
 use Rattle.protocol.specs.Answer.{Call, Answer, refuse, accept, outputOf}
 use Rattle.protocol.specs.Calls.{Ran, runCalls}
 use Rattle.protocol.specs.Demand3.{HoldsAfter}

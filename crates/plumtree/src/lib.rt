@@ -1,4 +1,6 @@
 // The panel over a lent block: document 01's calls.
+pub mod after;
+pub mod event;
 
 // Document 01's counts record, with the Rust's names.
 pub struct Stats {

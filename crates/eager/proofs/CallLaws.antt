@@ -9,34 +9,39 @@ use native.Mathlib.Omega.{arith}
 use borrow.Author.Tests.{leb-true}
 use lib.Dec.{leb}
 use lib.ListN.{length}
-use Rattle.lists.specs.Base.{if_then_else_}
+use Rattle.lists.specs.Base.{if_then_else_, concatMap}
 use Rattle.lists.specs.Map.{Entry, entry, keys}
 use Rattle.lists.proofs.MapLaws.{and-right}
 use Rattle.time_cache.specs.TimeCache.{Timed, get, holds, laterCache}
-use Rattle.postcard.specs.Message.{Message}
+use Rattle.postcard.specs.Message.{Message, actionBytes}
 use Rattle.protocol.specs.State.{State, Limits, Grafts, Cached, withInit, withReceived, withGrafted, withCache}
 use Rattle.protocol.specs.Run.{Room}
 use Rattle.protocol.specs.Push.{eagerTargets}
-use Rattle.protocol.specs.Gossips.{peersOf}
+use Rattle.protocol.specs.Gossips.{peersOf, graftedFor}
 use Rattle.protocol.specs.Whole.{fits, cacheFits, contentHeld}
 use Rattle.decide.specs.Settled.{settled}
-use Rattle.decide.specs.StateAfter.{recordedState, pushedState, replyState}
+use Rattle.decide.specs.Rooms.{backPeers}
+use Rattle.decide.specs.RecordGrowth.{pushGains}
+use Rattle.decide.specs.ActionsAfter.{replyActions}
+use Rattle.decide.specs.StateAfter.{recordedState, pushedState, pushedOnState, replyState}
 use Rattle.block.specs.View.{stateOf}
 use Rattle.block.specs.Fit.{Fit}
 use Rattle.block.specs.LinkSteps.{peerAt}
 use Rattle.block.specs.declared.head.Head.{Head}
 use Rattle.caches.proofs.GraftedLaws.{count-grafted}
 use Rattle.caches.proofs.CachedLaws.{count-cached}
+use Rattle.grafts.specs.Reads.{HeldBelow}
+use Rattle.grafts.proofs.PeerLaws.{stands-grafting}
 use Rattle.steps.specs.Rooms.{roomsIn}
 use Rattle.steps.specs.Shared.{HeldIs}
 use Rattle.steps.specs.Stands.{Stands, Step}
 use Rattle.steps.specs.declared.Held.{Held}
 use Rattle.steps.specs.declared.Held.the-variants.{At, Nothing}
 use Rattle.steps.proofs.StandsLaws.{links-up, cached-order}
-use Rattle.eager.specs.Targets.{SkipIn, Pushing, skippedIn}
+use Rattle.eager.specs.Targets.{Pushing, skippedIn, targetsOf, backsOf}
 use Rattle.eager.specs.Backs.{backState, NotesBack}
 use Rattle.eager.specs.Sent.{sentBytes, pushBytes}
-use Rattle.eager.specs.Reply.{HeldIn, Replying, Replies, repliedState}
+use Rattle.eager.specs.Reply.{Replying, Replies, repliedState, replyGains}
 
 abbrev noGrafts : Entry (Timed Grafts)
 noGrafts = entry 0 (record { expires = 0; value = record { first = none; kept = none; peers = [] } })
@@ -47,11 +52,11 @@ noCached = entry 0 (record { expires = 0; value = record { content = []; round =
 -- a grafted message that was found is there, and its peers are those that are skipped
 
 module _ (h : Head) (xs : List ℕ) (fit : Fit h xs) (id : ℕ) where
-  pub skip-in : (found : Option Grafts) (k : Held) → HeldIs noGrafts (stateOf h xs .grafted .entries) id found k → SkipIn h k
+  pub skip-in : (found : Option Grafts) (k : Held) → HeldIs noGrafts (stateOf h xs .grafted .entries) id found k → HeldBelow (h .live .grafted) k
   skip-in found (At i) e = omega (arith, e .below, count-grafted h xs fit)
   skip-in found Nothing e = tt
 
-  pub held-in : (found : Option Cached) (k : Held) → HeldIs noCached (stateOf h xs .cache .entries) id found k → HeldIn h k
+  pub held-in : (found : Option Cached) (k : Held) → HeldIs noCached (stateOf h xs .cache .entries) id found k → HeldBelow (h .live .cached) k
   held-in found (At i) e = omega (arith, e .below, count-cached h xs fit)
   held-in found Nothing e = tt
 
@@ -62,8 +67,8 @@ skip-found s id found Nothing e = sym (ap (λ (o : Option Grafts). keys (peersOf
 
 -- what the functions ask, of a state that stands
 
-pub pushing : (h : Head) (xs : List ℕ) (k : Held) → Stands h xs → SkipIn h k → Pushing h xs k
-pushing h xs k s i = record { sound = s .sound; up = links-up h xs s; skip = i }
+pub pushing : (h : Head) (xs : List ℕ) (k : Held) → Stands h xs → HeldBelow (h .live .grafted) k → Pushing h xs k
+pushing h xs k s i = record { grafting = stands-grafting h xs s; skip = i }
 
 pub replying : (h : Head) (xs : List ℕ) (l : ℕ) → Stands h xs → l < h .live .links → Replying h xs l
 replying h xs l s i = record { sound = s .sound; up = links-up h xs s; link = i }
@@ -77,7 +82,7 @@ fits-record s h =
     && leb (length (s .missing)) (s .limits .S) && leb (length (s .graftTimers)) (s .limits .T) && leb (length (s .queue)) (s .limits .Q))
     (leb (length (s .dropped)) (s .limits .D)) h)
 
-pub notes-back : (h : Head) (xs : List ℕ) (sender : ℕ) (k : Held) (array : List ℕ) (id round : ℕ) → Step (backState sender k array id round) h xs → SkipIn h k → holds id (stateOf h xs .cache) ≡ true → NotesBack h xs sender k array id round
+pub notes-back : (h : Head) (xs : List ℕ) (sender : ℕ) (k : Held) (array : List ℕ) (id round : ℕ) → Step (backState sender k array id round) h xs → HeldBelow (h .live .grafted) k → holds id (stateOf h xs .cache) ≡ true → NotesBack h xs sender k array id round
 unfolding stateOf pushedState recordedState
 notes-back h xs sender k array id round s i c = record {
   pushing = pushing h xs k (s .stands) i;
@@ -130,3 +135,50 @@ module _ (now : ℕ) (s : State) where
   pub settled-pushed : (array : List ℕ) (m : Message) (sender : ℕ) (skip : List ℕ) → pushBytes array m (eagerTargets sender skip (settled now s)) (settled now s) ≡ pushBytes array m (eagerTargets sender skip s) s
   unfolding eagerTargets roomsIn
   settled-pushed array m sender skip = settled-as now s (λ (t : State). pushBytes array m (eagerTargets sender skip t) t) refl
+
+  pub settled-gains : (array : List ℕ) (id sender : ℕ) (skip : List ℕ)
+      → pushGains id (settled now s .dropped) 0 (backPeers (roomsIn (settled now s) array) (eagerTargets sender skip (settled now s))) ≡ pushGains id (s .dropped) 0 (backPeers (roomsIn s array) (eagerTargets sender skip s))
+  unfolding eagerTargets roomsIn
+  settled-gains array id sender skip = settled-as now s (λ (t : State). pushGains id (t .dropped) 0 (backPeers (roomsIn t array) (eagerTargets sender skip t))) refl
+
+  -- a reply, given what is found for the identifier
+
+  pub settled-reply : (array : List ℕ) (l id : ℕ) (c : Option Cached)
+      → concatMap actionBytes (replyActions (roomsIn (settled now s) array) (peerAt (settled now s) l) id c (settled now s)) ≡ concatMap actionBytes (replyActions (roomsIn s array) (peerAt s l) id c s)
+  unfolding replyActions roomsIn
+  settled-reply array l id none = refl
+  settled-reply array l id (some c) = settled-as now s (λ (t : State). concatMap actionBytes (replyActions (roomsIn t array) (peerAt t l) id (some c) t)) refl
+
+  pub settled-reply-gains : (array : List ℕ) (l id : ℕ) (c : Option Cached)
+      → replyGains (roomsIn (settled now s) array) (peerAt (settled now s) l) id c (settled now s) ≡ replyGains (roomsIn s array) (peerAt s l) id c s
+  unfolding replyGains roomsIn
+  settled-reply-gains array l id none = refl
+  settled-reply-gains array l id (some c) = settled-as now s (λ (t : State). replyGains (roomsIn t array) (peerAt t l) id (some c) t) refl
+
+  -- the push of a new message, which skips the peers grafted for it once a first event has evicted
+  module _ (array : List ℕ) (id sender : ℕ) (k : Held) (e : HeldIs noGrafts (s .grafted .entries) id (get id (settled now s .grafted)) k) where
+    grafted-skipped : skippedIn k (s .grafted) ≡ keys (graftedFor id (settled now s))
+    unfolding graftedFor
+    grafted-skipped = skip-found s id (get id (settled now s .grafted)) k e
+
+    pub new-gains : pushGains id (s .dropped) 0 (backsOf sender k array s)
+        ≡ pushGains id (settled now s .dropped) 0 (backPeers (roomsIn (settled now s) array) (eagerTargets sender (keys (graftedFor id (settled now s))) (settled now s)))
+    new-gains =
+        ap (λ (skip : List ℕ). pushGains id (s .dropped) 0 (backPeers (roomsIn s array) (eagerTargets sender skip s))) grafted-skipped
+        ∙ sym (settled-gains array id sender (keys (graftedFor id (settled now s))))
+
+    pub new-pushed : (m : Message) → pushBytes array m (targetsOf sender k s) s ≡ pushBytes array m (eagerTargets sender (keys (graftedFor id (settled now s))) (settled now s)) (settled now s)
+    new-pushed m =
+        ap (λ (skip : List ℕ). pushBytes array m (eagerTargets sender skip s) s) grafted-skipped
+        ∙ sym (settled-pushed array m sender (keys (graftedFor id (settled now s))))
+
+-- the push of a broadcast skips nobody for being grafted
+pub broadcast-targets : (sender : ℕ) (s : State) → targetsOf sender Nothing s ≡ eagerTargets sender [] s
+unfolding skippedIn
+broadcast-targets sender s = refl
+
+-- `note_back` with the entry found for the identifier is the step of a new message
+pub pushed-on : (array : List ℕ) (id round sender : ℕ) (k : Held) (s : State) → HeldIs noGrafts (s .grafted .entries) id (get id (s .grafted)) k → backState sender k array id round s ≡ pushedOnState (roomsIn s array) id round sender s
+unfolding pushedOnState graftedFor
+pushed-on array id round sender k s e =
+    ap (λ (skip : List ℕ). pushedState (roomsIn s array) (eagerTargets sender skip s) (record { id = id; round = round }) s) (skip-found s id (get id (s .grafted)) k e)

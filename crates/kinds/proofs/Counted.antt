@@ -1,22 +1,22 @@
 -- The counts after a call are those of `handle`: no step changes them but the count of a message and `raiseHops`.
-use Prim.Native.Nat.{ℕ, suc, max}
-use mathlib.Core.Path.{_≡_, refl, sym, ap, _∙_}
-use mathlib.Core.Bool.{Bool, true, false, not, _&&_, _||_}
+use Prim.Native.Nat.{ℕ, suc}
+use mathlib.Core.Path.{_≡_, refl, ap, _∙_}
+use mathlib.Core.Bool.{true, not, _&&_, _||_}
 use mathlib.Core.List.{List, [], _∷_}
 use mathlib.Core.Option.{Option, none, some}
 use lib.Dec.{ltb, eqb}
 use lib.ListN.{length}
-use Rattle.lists.specs.Base.{if_then_else_, isEmpty, member, any}
-use Rattle.lists.proofs.Branches.{if-on, if-both, if-same}
-use Rattle.time_cache.specs.TimeCache.{get, holds}
+use Rattle.lists.specs.Base.{isEmpty, member, any}
+use Rattle.lists.proofs.Branches.{if-on, if-both}
+use Rattle.time_cache.specs.TimeCache.{holds}
 use Rattle.postcard.specs.Message.{Delivery, Swarm, Neighbors, Scope, toSwarm, toNeighbors, Ihave, Message, Gossip, Prune, Graft, IHave, Timer, SendGraft, DispatchLazyPush, EvictCache, AnnounceDropped, Event, Received, Broadcast, Fired, Up, Down}
 use Rattle.protocol.specs.Links.{isNeighbour, eagerIn}
 use Rattle.protocol.specs.State.{State, Counts, Hop, Cached}
 use Rattle.protocol.specs.Run.{Run, Room, begin, withState, withCounts, act, send, takes}
-use Rattle.protocol.specs.Push.{scheduleDispatch, scheduleAnnounceDropped, recordFull, notes, recordAlso, noteOne, noteEach, noteDropped, eagerTargets, eagerPush, lazyPush}
-use Rattle.protocol.specs.Gossips.{markReceived, cacheAt, announcers, graftedFor, setFirst, graftOut, forgetMissing, raiseHops, leastFrom, farCloser, updateLinks, graftUnlessEager, pruneBack, optimizeTree, forgetAndOptimise, pushOn, takeIn, Late, duplicate, repeated, faster, lateKind, setKept, onDuplicate, onLateGraftReply, onNew, onGossip, gossipSize, broadcastTo, broadcast}
+use Rattle.protocol.specs.Push.{scheduleDispatch, scheduleAnnounceDropped, recordFull, notes, recordAlso, noteOne, noteEach, noteDropped, lazyPush}
+use Rattle.protocol.specs.Gossips.{markReceived, cacheAt, announcers, graftedFor, setFirst, graftOut, forgetMissing, raiseHops, leastFrom, farCloser, updateLinks, graftUnlessEager, pruneBack, optimizeTree, forgetAndOptimise, pushOn, takeIn, Late, duplicate, repeated, faster, setKept, onDuplicate, onLateGraftReply, onNew, onGossip, gossipSize, broadcastTo, broadcast}
 use Rattle.protocol.specs.Control.{announce, scheduleGraft, onAnnounced, onIHave, onPrune, replyWith, reply, onGraft, noteGraft, leaveAnnouncers, askFirst, unmark, onSendGraftTimer}
-use Rattle.protocol.specs.Ticks.{perMessage, queuedPeers, dispatchTo, clearDispatch, onDispatchTimer, dispatchIfQueued, stillCached, moveOldest, onAnnounceDroppedTimer, onEvictCacheTimer}
+use Rattle.protocol.specs.Ticks.{perMessage, queuedPeers, clearDispatch, onDispatchTimer, dispatchIfQueued, stillCached, moveOldest, onAnnounceDroppedTimer, onEvictCacheTimer}
 use Rattle.protocol.specs.Neighbours.{onNeighborUp, onNeighborDown}
 use Rattle.protocol.specs.Handle.{firstEvent, countMessage, ifNeighbour, onTimer, onMessage, handleMessage, handle}
 use Rattle.protocol.specs.Whole.{whole}

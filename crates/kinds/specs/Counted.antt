@@ -6,7 +6,7 @@ use mathlib.Core.List.{List}
 use lib.Dec.{eqb}
 use Rattle.lists.specs.Base.{if_then_else_}
 use Rattle.time_cache.specs.TimeCache.{holds}
-use Rattle.postcard.specs.Message.{Delivery, Swarm, Neighbors, Message, Gossip, Prune, Graft, IHave, Event, Received, Broadcast, Fired, Up, Down}
+use Rattle.postcard.specs.Message.{Swarm, Neighbors, Message, Gossip, Prune, Graft, IHave, Event, Received, Broadcast, Fired, Up, Down}
 use Rattle.protocol.specs.State.{State, Counts}
 use Rattle.protocol.specs.Handle.{countMessage}
 use Rattle.decide.specs.Settled.{settled}

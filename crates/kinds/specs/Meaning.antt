@@ -2,16 +2,15 @@
 -- Assumes nothing.
 use Prim.Native.Nat.{ℕ, suc, _+_, _≤_, _<_}
 use mathlib.Core.Path.{_≡_}
-use mathlib.Core.Bool.{Bool, true, false}
-use mathlib.Core.List.{List, [], _∷_, _++_, map}
-use mathlib.Core.Option.{none}
+use mathlib.Core.Bool.{Bool, false}
+use mathlib.Core.List.{List, [], _∷_, _++_}
 use lib.Dec.{eqb}
 use lib.ListN.{length}
 use Rattle.rows.specs.Part.{part}
 use Rattle.rows.specs.Ident.{idOf}
 use Rattle.blake3.specs.Blake3.{identifier}
 use Rattle.time_cache.specs.TimeCache.{get}
-use Rattle.postcard.specs.Message.{Swarm, Neighbors, toSwarm, toNeighbors, Ihave, Message, Event, Received, Broadcast, Fired, Up, Down, Action, Emitted}
+use Rattle.postcard.specs.Message.{Swarm, Neighbors, toSwarm, toNeighbors, Event, Received, Broadcast, Fired, Up, Down, Action, Emitted}
 use Rattle.postcard.specs.Values.{deliveryValue, wantedValue}
 use Rattle.postcard.specs.Events.{ihavesFrom, Listed}
 use Rattle.protocol.specs.Links.{addLazy}

@@ -77,7 +77,7 @@ pub enum Step {
     AnnounceDropped,
 }
 
-// The step of a Gossip: "Not valid: nothing", "Received before", or new.
+// The step of a Gossip: "Not valid: nothing", "Received before", or new. Linear in the content, for its hash.
 fn gossip_step(
     h: Head,
     block: &[u8],
@@ -118,7 +118,7 @@ fn gossip_step(
     }
 }
 
-// The step of a message; Prune, Graft and IHave "from strangers are counted only".
+// The step of a message; Prune, Graft and IHave "from strangers are counted only". Linear in the links, and in the content of a Gossip.
 pub fn message_step(
     h: Head,
     block: &[u8],
@@ -153,8 +153,16 @@ pub fn message_step(
     }
 }
 
-// The step of a broadcast: "Size over M: accepted, only a first event's work".
-pub fn broadcast_step(h: Head, block: &[u8], instant: Millis, event: &[u8], start: usize, len: usize, scope: Scope) -> Step
+// The step of a broadcast: "Size over M: accepted, only a first event's work". Linear in the content, if it is sent.
+pub fn broadcast_step(
+    h: Head,
+    block: &[u8],
+    instant: Millis,
+    event: &[u8],
+    start: usize,
+    len: usize,
+    scope: Scope,
+) -> Step
     requires { ⌜ Stands h (now block) × (start + len ≤ length (now event)) ⌝ }
     ensures { λ r. ⌜ Means (now (event .entry)) (instant .0) (stateOf h (now (block .entry))) r (Broadcast (part start len (now (event .entry))) (scopeValue scope)) ⌝ }
 {

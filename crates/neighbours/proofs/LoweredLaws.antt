@@ -1,25 +1,20 @@
 -- Link numbers after a link went: those that are left stand for the same peers, and those that went are the numbers of the peer. One law for numbers
 -- with rows beside them, whatever is read from them.
 -- Assumes nothing.
-use mathlib.Core.Path.{_≡_, refl, sym, ap, _∙_, subst}
+use mathlib.Core.Path.{_≡_, refl, ap, _∙_}
 use mathlib.Core.Logic.{_⊎_, inl, inr}
-use mathlib.Core.Bool.{Bool, true, false, not}
-use mathlib.Core.List.{List, [], _∷_, _++_, map}
-use Prim.Native.Nat.{ℕ, zero, suc, _+_, _-_, _*_, _≤_, _<_, zero-le, suc-le-suc}
+use mathlib.Core.List.{List, [], _∷_, map}
+use Prim.Native.Nat.{ℕ, zero, suc, _+_, _-_, _≤_, _<_}
 use native.Mathlib.Nat.{le-of-suc-le-suc, not-suc-le-zero}
 use native.Mathlib.Omega.{arith}
-use borrow.Author.Tests.{lt-ltb, le-ltb, eq-eqb, ne-eqb, eqb-false}
-use lib.Dec.{ltb, eqb}
+use borrow.Author.Tests.{lt-ltb, le-ltb}
 use lib.ListN.{length, take, drop, getD, List·getD-append}
 use lib.Seq.{getD-take, getD-drop, getD-append-add, length-take-le}
-use Rattle.lists.specs.Base.{if_then_else_, filter}
-use Rattle.lists.proofs.MapLaws.{cases}
 use Rattle.rows.specs.Part.{put}
-use Rattle.rows.specs.Rows.{rows}
-use Rattle.refs.specs.Refs.{Ref, ref, Below}
+use Rattle.refs.specs.Refs.{Ref, ref}
 use Rattle.refs.proofs.Shifts.{low-or-high}
-use Rattle.block.specs.View.{peerOf, pairs, numbered}
-use Rattle.neighbours.specs.Lowered.{lowered, stays, lower, entries, withoutPeer}
+use Rattle.block.specs.View.{peerOf, pairs}
+use Rattle.neighbours.specs.Lowered.{lowered, withoutPeer}
 
 pub lowered-low : (i l : ℕ) → l < i → lowered i l ≡ l
 unfolding lowered
@@ -54,9 +49,6 @@ peer-lowered i l ps h n = go (low-or-high i l)
             go2 (inl q) = absurd (n (let e : l ≡ i = omega arith in e))
             go2 (inr q) = omega arith
 
-below-rest : (m l : ℕ) (ls : List ℕ) → Below m (l ∷ ls) → Below m ls
-below-rest m l ls b = record { below = λ i h. b .below (suc i) (suc-le-suc h) }
-
 -- what is read from numbers and rows, by way of the pairs
 module _ {A : Type 0} (f : ℕ → List ℕ → A) where
   abbrev pub readBy : Ref → A
@@ -67,27 +59,6 @@ module _ {A : Type 0} (f : ℕ → List ℕ → A) where
   pairs-read [] rs = refl
   pairs-read (l ∷ ls) [] = refl
   pairs-read (l ∷ ls) (r ∷ rs) = ap (λ (t : List A). f l r ∷ t) (pairs-read ls rs)
-
--- the entries that are left, where g reads a lowered number as f the number, and t tells those that are not of link i
-module _ {A : Type 0} (f g : ℕ → List ℕ → A) (t : A → Bool) (i m : ℕ)
-    (same : (l : ℕ) (row : List ℕ) → l < m → (l ≡ i → ⊥) → g (lowered i l) row ≡ f l row)
-    (test : (l : ℕ) (row : List ℕ) → l < m → t (f l row) ≡ not (eqb l i)) where
-  pub pairs-lowered : (ls : List ℕ) (rs : List (List ℕ)) → Below m ls → map (readBy g) (map (lower i) (filter (stays i) (pairs ref ls rs))) ≡ filter t (pairs f ls rs)
-  unfolding pairs filter
-  pairs-lowered [] rs b = refl
-  pairs-lowered (l ∷ ls) [] b = refl
-  pairs-lowered (l ∷ ls) (r ∷ rs) b =
-      let q : l < m = b .below 0 (suc-le-suc zero-le) in
-      let rest = pairs-lowered ls rs (below-rest m l ls b) in
-      cases (eqb l i)
-      (λ e. rw e (rw (test l r q ∙ ap not e) rest))
-      (λ e. rw e (rw (test l r q ∙ ap not e) (λ k. same l r q (eqb-false l i e) k ∷ rest k)))
-
-  -- what is then read from the bytes
-  pub numbered-lowered : (o s n r : ℕ) (xs ys : List ℕ) → entries o s r ys ≡ map (lower i) (filter (stays i) (entries o s n xs)) → Below m (take n xs)
-      → numbered g s r ys (drop o ys) ≡ filter t (numbered f s n xs (drop o xs))
-  unfolding numbered
-  numbered-lowered o s n r xs ys e b = sym (pairs-read g (take r ys) (rows s r (drop o ys))) ∙ ap (map (readBy g)) e ∙ pairs-lowered (take n xs) (rows s n (drop o xs)) b
 
 -- an entry anew
 pub pairs-put : (x : ℕ) (row : List ℕ) (j : ℕ) (ls : List ℕ) (rs : List (List ℕ)) → j < length ls → j < length rs

@@ -1,0 +1,222 @@
+-- `gains::count_fresh` meets its contract. The loop's invariant: `seen` of the entries passed are queued for the link, and of those handed back `found` would be added.
+-- Assumes nothing.
+use Prim.Native.Nat.{ℕ, _+_, _≤_, _-_, _<_}
+use native.Mathlib.Omega.{arith}
+use borrow.Author.Needs.{needs}
+use mathlib.Core.Bool.{Bool, true, false}
+use mathlib.Core.List.{List, [], _∷_, _++_}
+use mathlib.Core.Path.{_≡_, refl, sym, ap, _∙_}
+use lib.ListN.{length, take, drop, getD, length-append}
+use lib.Seq.{drop-nil}
+use Rattle.rows.specs.Ident.{idOf}
+use Rattle.lists.specs.Base.{if_then_else_}
+use Rattle.postcard.specs.Message.{Ihave}
+use Rattle.decide.specs.RecordGrowth.{cachedIn, eligible}
+use Rattle.decide.specs.Settled.{settled}
+use Rattle.block.specs.View.{stateOf}
+use Rattle.block.specs.LinkSteps.{peerAt}
+use Rattle.block.specs.NoteSteps.{note}
+use Rattle.dispatch.specs.Gains.{fresh}
+use Rattle.dispatch.proofs.QueueLaws.{ihaveOf, drop-late, drop-early}
+use Rattle.dispatch.proofs.ReadPass.{heardBy, heard-none, heard-count, heard-all, heard-other, heard-mine, heard-note}
+use Rattle.dispatch.proofs.GainLaws.{eligible-more, eligible-none}
+use Rattle.dispatch.proofs.gains.count_fresh.Statement.{statement}
+use Rattle.dispatch.proofs.gains.count_fresh.Tie as tie
+
+abbrev Inv-loop : tie.InvT-loop
+Inv-loop h block instant link skip n found₀ seen₀ i₀ found seen i = (i ≤ n) × (seen ≡ length (heardBy link h block i)) × (found ≤ i) × (found ≡ eligible (cachedIn (settled (instant .0) (stateOf h block) .cache)) (peerAt (stateOf h block) link) (stateOf h block .dropped) [] (drop skip (heardBy link h block i)))
+
+abbrev μ-loop : tie.MeasureT-loop
+μ-loop h block instant link skip n found₀ seen₀ i₀ found seen i = n - i
+
+-- how many of these would be added for the link
+module _ (s : tie.Start Inv-loop μ-loop) where
+  abbrev held : ℕ → Bool
+  held = cachedIn (settled (s .args .instant .0) (stateOf (s .args .h) (s .args .block .now)) .cache)
+
+  abbrev counted : List Ihave → ℕ
+  counted hs = eligible held (peerAt (stateOf (s .args .h) (s .args .block .now)) (s .args .link)) (stateOf (s .args .h) (s .args .block .now) .dropped) [] hs
+
+loop-holds : tie.Need-loop-holds Inv-loop μ-loop
+loop-holds c =
+    let a = c .before .args in
+    let e = heard-none (a .link) (a .h) (a .block .now) in
+    let t = stateOf (a .h) (a .block .now) in (
+      search needs,
+      sym (ap length e),
+      search needs,
+      sym (ap (λ (hs : List Ihave). counted (c .before) (drop (a .skip) hs)) e ∙ ap (counted (c .before)) (drop-nil (a .skip)) ∙ eligible-none (held (c .before)) (peerAt t (a .link)) (t .dropped)),
+    )
+
+queued-link-at-requires : tie.Need-queued-link-at-requires Inv-loop μ-loop
+queued-link-at-requires c κs =
+    let s = c .before .before .before in
+    (s .pre .0 .sound, c .loop-test .taken)
+
+add-i : tie.Need-add-i Inv-loop μ-loop
+add-i c = search needs
+
+-- the entry whose link number was read
+module _ (d : tie.After-queued-link-at Inv-loop μ-loop) where
+  abbrev s : tie.Start Inv-loop μ-loop
+  s = d .before .before .before .before
+
+  abbrev link : ℕ
+  link = s .args .link
+
+  abbrev xs : List ℕ
+  xs = s .args .block .now
+
+  abbrev i : ℕ
+  i = d .before .before .loop .i
+
+  abbrev heard : List Ihave
+  heard = heardBy link (s .args .h) xs i
+
+  abbrev here : Ihave
+  here = ihaveOf (getD (stateOf (s .args .h) xs .queue) i (note 0 0 0))
+
+  more : i < s .args .h .live .queued
+  more = d .before .loop-test .taken
+
+  few : length heard ≤ i
+  few = heard-count link (s .args .h) xs (s .pre .0) i (omega (arith, more))
+
+  small : s .args .h .live .queued ≤ 8192
+  small = omega (arith, s .pre .0 .sound .fit .within .queued, s .pre .0 .sound .fit .ceilings .Q)
+
+  mine : d .queued-link-at .result ≡ link → heardBy link (s .args .h) xs (i + 1) ≡ heard ++ (here ∷ [])
+  mine e = heard-mine link (s .args .h) xs (s .pre .0) i more (d .queued-link-at .result) (d .queued-link-at .ensures) e
+
+  mine-count : (n : ℕ) → d .queued-link-at .result ≡ link → n ≡ length heard → n + 1 ≡ length (heardBy link (s .args .h) xs (i + 1))
+  mine-count n e m = omega (arith, ap length (mine e), length-append heard (here ∷ []))
+
+  other : (d .queued-link-at .result ≡ link → ⊥) → heardBy link (s .args .h) xs (i + 1) ≡ heard
+  other e = heard-other link (s .args .h) xs (s .pre .0) i more (d .queued-link-at .result) (d .queued-link-at .ensures) (s .pre .1) e
+
+add-seen : tie.Need-add-seen Inv-loop μ-loop
+add-seen c =
+    let d = c .before in
+    omega (arith, few d, more d, small d, d .before .before .loop .inv .1)
+
+queued-at-requires : tie.Need-queued-at-requires Inv-loop μ-loop
+queued-at-requires c κs =
+    let d = c .before .before in
+    (s d .pre .0 .sound, more d)
+
+is-fresh-requires : tie.Need-is-fresh-requires Inv-loop μ-loop
+is-fresh-requires c κs =
+    let d = c .before .before .before in
+    (s d .pre .0, s d .pre .1, omega (arith, more d))
+
+-- the entry that was read, and whether it would be added
+module _ (f : tie.After-is-fresh Inv-loop μ-loop) where
+  abbrev d₁ : tie.After-queued-link-at Inv-loop μ-loop
+  d₁ = f .before .before .before .before
+
+  behind : s d₁ .args .skip ≤ length (heard d₁)
+  behind = omega (arith, f .before .before .if2 .taken, d₁ .before .before .loop .inv .1)
+
+  fresh-is : (b : Bool) → f .is-fresh .result ≡ b → fresh (held (s d₁)) (peerAt (stateOf (s d₁ .args .h) (xs d₁)) (link d₁)) (stateOf (s d₁ .args .h) (xs d₁) .dropped) (drop (s d₁ .args .skip) (heard d₁)) (here d₁ .id) ≡ b
+  fresh-is b e =
+      ap (λ (y : Ihave). fresh (held (s d₁)) (peerAt (stateOf (s d₁ .args .h) (xs d₁)) (link d₁)) (stateOf (s d₁ .args .h) (xs d₁) .dropped) (drop (s d₁ .args .skip) (heard d₁)) (y .id))
+      (heard-note (link d₁) (s d₁ .args .h) (xs d₁) (s d₁ .pre .0) (i d₁) (more d₁) (f .before .queued-at .result) (f .before .queued-at .ensures))
+      ∙ sym (f .is-fresh .ensures) ∙ e
+
+  count-more : (b : Bool) → f .is-fresh .result ≡ b → counted (s d₁) (drop (s d₁ .args .skip) (heardBy (link d₁) (s d₁ .args .h) (xs d₁) (i d₁ + 1))) ≡ counted (s d₁) (drop (s d₁ .args .skip) (heard d₁)) + (if b then 1 else 0)
+  count-more b e =
+      ap (counted (s d₁)) (ap (drop (s d₁ .args .skip)) (mine d₁ (f .before .before .before .if1 .taken)) ∙ drop-late (s d₁ .args .skip) (heard d₁) (here d₁) behind)
+      ∙ eligible-more (held (s d₁)) (peerAt (stateOf (s d₁ .args .h) (xs d₁)) (link d₁)) (stateOf (s d₁ .args .h) (xs d₁) .dropped) (drop (s d₁ .args .skip) (heard d₁)) (here d₁) b (fresh-is b e)
+
+add-found : tie.Need-add-found Inv-loop μ-loop
+add-found c =
+    let d = d₁ (c .before) in
+    omega (arith, d .before .before .loop .inv .2, more d, small d)
+
+loop-less : tie.Need-loop-less Inv-loop μ-loop
+loop-less c = search needs
+
+loop-again : tie.Need-loop-again Inv-loop μ-loop
+loop-again c =
+    let f = c .before in
+    let d = d₁ f in
+    let m = f .before .before .before .if1 .taken in (
+      search needs,
+      mine-count d (d .before .before .loop .seen) m (d .before .before .loop .inv .1),
+      search needs,
+      ap (λ (n : ℕ). n + 1) (d .before .before .loop .inv .3) ∙ sym (count-more f true (c .if3 .taken)),
+    )
+
+loop-less-2 : tie.Need-loop-less-2 Inv-loop μ-loop
+loop-less-2 c = search needs
+
+loop-again-2 : tie.Need-loop-again-2 Inv-loop μ-loop
+loop-again-2 c =
+    let f = c .before in
+    let d = d₁ f in
+    let m = f .before .before .before .if1 .taken in (
+      search needs,
+      mine-count d (d .before .before .loop .seen) m (d .before .before .loop .inv .1),
+      search needs,
+      d .before .before .loop .inv .3 ∙ sym (count-more f false (c .if3 .left) ∙ plain (counted (s d) (drop (s d .args .skip) (heard d)))),
+    )
+  where
+    plain : (n : ℕ) → n + 0 ≡ n
+    plain n = omega arith
+
+loop-less-3 : tie.Need-loop-less-3 Inv-loop μ-loop
+loop-less-3 c = search needs
+
+loop-again-3 : tie.Need-loop-again-3 Inv-loop μ-loop
+loop-again-3 c =
+    let d = c .before .before in
+    let m = c .before .if1 .taken in
+    let w : length (heard d) < s d .args .skip = omega (arith, c .if2 .left, d .before .before .loop .inv .1) in (
+      search needs,
+      mine-count d (d .before .before .loop .seen) m (d .before .before .loop .inv .1),
+      search needs,
+      d .before .before .loop .inv .3 ∙ sym (ap (counted (s d)) (ap (drop (s d .args .skip)) (mine d m) ∙ drop-early (s d .args .skip) (heard d) (here d) w)),
+    )
+
+loop-less-4 : tie.Need-loop-less-4 Inv-loop μ-loop
+loop-less-4 c = search needs
+
+loop-again-4 : tie.Need-loop-again-4 Inv-loop μ-loop
+loop-again-4 c =
+    let d = c .before in
+    let m = other d (c .if1 .left) in (
+      search needs,
+      d .before .before .loop .inv .1 ∙ sym (ap length m),
+      search needs,
+      d .before .before .loop .inv .3 ∙ sym (ap (λ (hs : List Ihave). counted (s d) (drop (s d .args .skip) hs)) m),
+    )
+
+returns : tie.Need-returns Inv-loop μ-loop
+returns c =
+    let t = c .before .before .before in
+    let a = t .args in
+    let p = c .before .loop in
+    p .inv .3 ∙ ap (λ (hs : List Ihave). counted t (drop (a .skip) hs)) (heard-all (a .link) (a .h) (a .block .now) (t .pre .0) (p .i) (c .loop-test .left))
+
+pub count-fresh-spec : {M : Type 1} → statement M
+count-fresh-spec =
+    tie.close
+    (tie.spec
+    Inv-loop
+    μ-loop
+    loop-holds
+    queued-link-at-requires
+    add-i
+    add-seen
+    queued-at-requires
+    is-fresh-requires
+    add-found
+    loop-less
+    loop-again
+    loop-less-2
+    loop-again-2
+    loop-less-3
+    loop-again-3
+    loop-less-4
+    loop-again-4
+    returns)

@@ -1,0 +1,3 @@
+pub mod HandedBack
+pub mod Gains
+pub mod Sends

@@ -1,34 +1,38 @@
 -- The actions of a new Swarm message and of a broadcast, as bytes, and the numbers of entries after them.
 -- Assumes nothing.
 use mathlib.Core.Path.{_≡_, refl, sym, ap, _∙_, subst}
-use mathlib.Core.Bool.{Bool, true, false}
+use mathlib.Core.Bool.{Bool, true, false, not, _&&_, _||_}
 use mathlib.Core.List.{List, [], _∷_, _++_, map}
 use mathlib.Core.Option.{Option, none}
-use Prim.Native.Nat.{ℕ, zero, suc, zero-le, suc-le-suc, _+_, _-_}
+use Prim.Native.Nat.{ℕ, zero, suc, zero-le, suc-le-suc, _+_, _-_, _≤_}
 use native.Mathlib.Nat.{not-suc-le-zero}
 use borrow.Author.Tests.{ne-eqb}
 use native.Mathlib.Numerals.{add-one}
 use native.Mathlib.Omega.{arith}
+use lib.Dec.{leb, eqb}
 use lib.ListN.{length, getD}
-use Rattle.lists.specs.Base.{if_then_else_, isSome, concatMap, member}
+use Rattle.lists.specs.Base.{if_then_else_, isSome, concatMap, member, filter, count, any}
+use Rattle.lists.proofs.MapLaws.{cases}
 use Rattle.lists.specs.Map.{Entry, entry, keys, has}
 use Rattle.rows.specs.Sorted.{Here, Between}
 use Rattle.time_cache.specs.TimeCache.{Timed, get}
 use Rattle.time_cache.proofs.Orders.{up-of}
 use Rattle.time_cache.proofs.MapPlaces.{lookup-here, lookup-between, between-tail}
 use Rattle.postcard.specs.Message.{Swarm, Neighbors, toSwarm, toNeighbors, Message, Gossip, Action, Emitted, actionBytes}
-use Rattle.protocol.specs.State.{State, Hop}
+use Rattle.protocol.specs.Links.{Mark, Links, isEager, peersMarked, eagerPeers}
+use Rattle.protocol.specs.State.{State, Note}
 use Rattle.protocol.specs.Run.{Room}
-use Rattle.protocol.specs.Push.{eagerTargets}
+use Rattle.protocol.specs.Push.{forPeer, notes, eagerTargets}
 use Rattle.protocol.specs.Gossips.{graftedFor}
-use Rattle.decide.specs.Rooms.{firstSend, backPeers}
-use Rattle.decide.specs.RecordGrowth.{pushActions, pushGains}
+use Rattle.decide.specs.Rooms.{kthTaken, backPeers}
+use Rattle.decide.specs.RecordGrowth.{pushActions, pushGain, pushGains}
 use Rattle.decide.specs.Sizes.{shrunk, sizedMissing, sizedTimers, sizedRecorded}
 use Rattle.decide.specs.Settled.{settled}
 use Rattle.decide.specs.SizesAfter.{takenSizes, newSizes, broadcastSizes}
 use Rattle.decide.specs.ActionsAfter.{dispatchAction, newActions, broadcastActions}
 use Rattle.block.specs.View.{stateOf}
 use Rattle.block.specs.declared.head.Head.{Head}
+use Rattle.block.proofs.LinkLaws.{count-links}
 use Rattle.block.proofs.MissingLaws.{count-missing}
 use Rattle.block.proofs.TimerLaws.{count-timers}
 use Rattle.block.proofs.NoteLaws.{count-dropped}
@@ -42,7 +46,7 @@ use Rattle.steps.proofs.StandsLaws.{missing-up, timers-up}
 use Rattle.steps.proofs.RoomsLaws.{member-at}
 use Rattle.settled.specs.Then.{noGrafts}
 use Rattle.sizes.specs.Counts.{TakenIs}
-use Rattle.eager.specs.Targets.{targetsOf, backsOf}
+use Rattle.eager.specs.Targets.{skippedIn, targetsOf, backsOf}
 use Rattle.eager.specs.Sent.{sentBytes, pushBytes}
 use Rattle.eager.proofs.CallLaws.{settled-as, settled-rooms, settled-gains, new-gains, new-pushed, broadcast-targets}
 use Rattle.ticks.proofs.ActionLaws.{no-action, one-action, actions-then}
@@ -165,7 +169,7 @@ module _ (h : Head) (xs array : List ℕ) (stands : Stands h xs) (now sender id 
   new-sized taken k held m n g em en eg =
       let tm : m ≡ shrunk (has id (w′ .missing)) (length (w′ .missing)) = em ∙ sym (settled-as now w (λ (x : State). shrunk (has id (x .missing)) (length (x .missing))) refl) in
       let tn : n ≡ shrunk (member id (w′ .graftTimers)) (length (w′ .graftTimers)) = en ∙ sym (settled-as now w (λ (x : State). shrunk (member id (x .graftTimers)) (length (x .graftTimers))) refl) in
-      let td : h .live .dropped ≡ length (w′ .dropped) = sym (count-dropped h xs (stands .sound .fit)) ∙ sym (settled-as now w (λ (x : State). length (x .dropped)) refl) in
+      let td : h .live .dropped ≡ length (w′ .dropped) = sym (count-dropped h xs (stands .sound)) ∙ sym (settled-as now w (λ (x : State). length (x .dropped)) refl) in
       let tg : g ≡ pushGains id (w′ .dropped) 0 (backPeers (roomsIn w array) (eagerTargets sender (keys (graftedFor id w′)) w′)) =
           eg ∙ new-gains now w array id sender k held
           ∙ ap (λ (rs : List Room). pushGains id (w′ .dropped) 0 (backPeers rs (eagerTargets sender (keys (graftedFor id w′)) w′))) (settled-rooms now w array) in
@@ -177,10 +181,42 @@ module _ (h : Head) (xs array : List ℕ) (stands : Stands h xs) (now sender id 
   unfolding broadcastSizes
   swarm-sized taken g eg =
       let me : h .settings .me ≡ w′ .settings .me = me-of h xs ∙ sym (settled-as now w (λ (x : State). x .settings .me) refl) in
-      let td : h .live .dropped ≡ length (w′ .dropped) = sym (count-dropped h xs (stands .sound .fit)) ∙ sym (settled-as now w (λ (x : State). length (x .dropped)) refl) in
+      let td : h .live .dropped ≡ length (w′ .dropped) = sym (count-dropped h xs (stands .sound)) ∙ sym (settled-as now w (λ (x : State). length (x .dropped)) refl) in
       let tg : g ≡ pushGains id (w′ .dropped) 0 (backPeers (roomsIn w array) (eagerTargets (h .settings .me) [] w′)) =
           eg ∙ ap (λ (ps : List ℕ). pushGains id (w .dropped) 0 (backPeers (roomsIn w array) ps)) (broadcast-targets (h .settings .me) w)
           ∙ sym (settled-gains now w array id (h .settings .me) [])
           ∙ ap (λ (rs : List Room). pushGains id (w′ .dropped) 0 (backPeers rs (eagerTargets (h .settings .me) [] w′))) (settled-rooms now w array) in
       (λ j. sizedRecorded (td j + tg j) (taken .same content refl j))
       ∙ ap (λ (p : ℕ). sizedRecorded (length (w′ .dropped) + pushGains id (w′ .dropped) 0 (backPeers (roomsIn w array) (eagerTargets p [] w′))) (takenSizes id content p w′)) me
+
+-- a push is noted for each link at most
+one-if : (b : Bool) → (if b then 0 else 1) ≤ 1
+one-if true = omega arith
+one-if false = omega arith
+
+gains-few : (id : ℕ) (ds : List Note) (extra : ℕ) (ps : List ℕ) → pushGains id ds extra ps ≤ length ps
+unfolding pushGains pushGain
+gains-few id ds extra [] = omega arith
+gains-few id ds extra (p ∷ ps) = omega (arith, one-if (leb 256 (count (forPeer p) ds) || leb 4096 (length ds + extra) || any (notes p id) ds), gains-few id ds (pushGain id ds extra p + extra) ps)
+
+filter-few : {A : Type 0} (f : A → Bool) (xs : List A) → length (filter f xs) ≤ length xs
+unfolding filter
+filter-few f [] = omega arith
+filter-few f (x ∷ xs) = let l = filter-few f xs in cases (f x) (λ q. rw q (omega (arith, l))) (λ q. rw q (omega (arith, l)))
+
+marked-few : (f : Mark → Bool) (l : Links) → length (peersMarked f l) ≤ length l
+unfolding peersMarked
+marked-few f [] = omega arith
+marked-few f (e ∷ l) = let m = marked-few f l in cases (f (e .value)) (λ q. rw q (omega (arith, m))) (λ q. rw q (omega (arith, m)))
+
+backs-few : (sender : ℕ) (k : Held) (array : List ℕ) (s : State) → length (backsOf sender k array s) ≤ length (s .links)
+unfolding backPeers eagerTargets eagerPeers
+backs-few sender k array s =
+    let ps : List ℕ = peersMarked isEager (s .links) in
+    let f : ℕ → Bool = λ p. not (eqb p (s .settings .me)) && not (eqb p sender) && not (member p (skippedIn k (s .grafted))) in
+    omega (arith, filter-few (λ p. not (kthTaken 1 p (roomsIn s array))) (filter f ps), filter-few f ps, marked-few isEager (s .links))
+
+pub few-gains : (h : Head) (xs array : List ℕ) → Stands h xs → (id sender : ℕ) (k : Held) → pushGains id (stateOf h xs .dropped) 0 (backsOf sender k array (stateOf h xs)) ≤ 32
+few-gains h xs array stands id sender k =
+    let s : State = stateOf h xs in
+    omega (arith, gains-few id (s .dropped) 0 (backsOf sender k array s), backs-few sender k array s, count-links h xs, stands .sound .fit .within .links, stands .sound .fit .ceilings .N)

@@ -1,0 +1,165 @@
+-- A Swarm broadcast in three steps: what each asks, and that together they are the broadcast.
+-- Assumes nothing.
+use mathlib.Core.Path.{_≡_, refl, sym, ap, _∙_, subst}
+use mathlib.Core.Bool.{Bool, true, _&&_}
+use mathlib.Core.List.{List, []}
+use Prim.Native.Nat.{ℕ, _+_, _≤_, _^_}
+use native.Mathlib.Omega.{arith}
+use borrow.Author.Tests.{leb-true, le-leb}
+use lib.Dec.{leb}
+use lib.ListN.{length, length-append}
+use Rattle.lists.specs.Base.{ascending}
+use Rattle.lists.specs.Map.{keys}
+use Rattle.lists.proofs.MapLaws.{and-left, and-right, and-intro}
+use Rattle.time_cache.specs.TimeCache.{holds}
+use Rattle.postcard.specs.Message.{toSwarm}
+use Rattle.protocol.specs.State.{State}
+use Rattle.protocol.specs.Run.{Room}
+use Rattle.protocol.specs.Whole.{fits, cacheFits, contentHeld}
+use Rattle.decide.specs.StateAfter.{takenState, lazyState, pushedState, recordedState, broadcastState}
+use Rattle.decide.proofs.Broadcast.{holds-put}
+use Rattle.block.specs.View.{stateOf}
+use Rattle.block.specs.Sound.{Sound}
+use Rattle.block.specs.Goes.{Goes}
+use Rattle.block.specs.declared.head.Head.{Head}
+use Rattle.block.proofs.NoteLaws.{count-queue}
+use Rattle.steps.specs.Rooms.{roomsIn}
+use Rattle.steps.specs.Stands.{Stands, Step}
+use Rattle.steps.specs.declared.Held.the-variants.{Nothing}
+use Rattle.steps.proofs.StandsLaws.{links-up}
+use Rattle.contents.specs.Taking.{TakesIn}
+use Rattle.contents.proofs.Takings.{takes-step}
+use Rattle.pushes.specs.Lazy.{lazyNotes}
+use Rattle.eager.specs.Targets.{skippedIn}
+use Rattle.eager.specs.Backs.{backState, NotesBack}
+use Rattle.eager.proofs.BackLaws.{batches-longer}
+use Rattle.broadcast.specs.Broadcasts.{broadcastIn}
+
+-- question 13, but for the queue and the record
+abbrev others : State → Bool
+others s =
+    leb (length (s .links)) (s .limits .N) && cacheFits (s .limits .R) (s .received) && cacheFits (s .limits .C) (s .cache) && leb (contentHeld s) (s .limits .B) && cacheFits (s .limits .G) (s .grafted)
+    && leb (length (s .missing)) (s .limits .S) && leb (length (s .graftTimers)) (s .limits .T)
+
+record Parts (s : State) : Type 0 where
+  others : others s ≡ true
+  queued : length (s .queue) ≤ s .limits .Q
+  recorded : length (s .dropped) ≤ s .limits .D
+
+parts : (s : State) → fits s ≡ true → Parts s
+unfolding fits
+parts s e =
+    let q : Bool = leb (length (s .queue)) (s .limits .Q) in
+    let d : Bool = leb (length (s .dropped)) (s .limits .D) in
+    let b : others s && q ≡ true = and-left (others s && q) d e in
+    record {
+      others = and-left (others s) q b;
+      queued = leb-true (length (s .queue)) (s .limits .Q) (and-right (others s) q b);
+      recorded = leb-true (length (s .dropped)) (s .limits .D) (and-right (others s && q) d e);
+    }
+
+of-parts : (s : State) → Parts s → fits s ≡ true
+unfolding fits
+of-parts s p = and-intro (and-intro (p .others) (le-leb (length (s .queue)) (s .limits .Q) (p .queued))) (le-leb (length (s .dropped)) (s .limits .D) (p .recorded))
+
+-- queue and record only grow, and the tables of the message caches are those of the first step
+module _ (rooms : List Room) (instant id : ℕ) (content : List ℕ) (s : State) where
+  abbrev end : State
+  end = broadcastState rooms instant id content toSwarm s
+
+  end-queue : length (end .queue) ≡ length (s .queue) + length (lazyNotes id 0 (s .settings .me) (s .links))
+  unfolding broadcastState pushedState recordedState lazyState takenState lazyNotes
+  end-queue = length-append (s .queue) _
+
+  end-record : length (s .dropped) ≤ length (end .dropped)
+  unfolding broadcastState pushedState recordedState lazyState takenState
+  end-record = batches-longer _ _ (s .dropped)
+
+  end-limits : end .limits ≡ s .limits
+  unfolding broadcastState pushedState recordedState lazyState takenState
+  end-limits = refl
+
+  taken-parts : Parts end → length (s .queue) ≤ s .limits .Q → length (s .dropped) ≤ s .limits .D → Parts (takenState instant id content 0 s)
+  unfolding broadcastState pushedState recordedState lazyState takenState contentHeld
+  taken-parts p q d = record { others = p .others; queued = q; recorded = d }
+
+  module _ (f : fits end ≡ true) where
+    pub queue-fits : length (s .queue) + length (lazyNotes id 0 (s .settings .me) (s .links)) ≤ s .limits .Q
+    queue-fits = omega (arith, parts end f .queued, end-queue, ap (λ l. l .Q) end-limits)
+
+    pub record-fits : length (end .dropped) ≤ s .limits .D
+    record-fits = omega (arith, parts end f .recorded, ap (λ l. l .D) end-limits)
+
+    pub taken-fits : fits (takenState instant id content 0 s) ≡ true
+    taken-fits =
+        of-parts (takenState instant id content 0 s)
+        (taken-parts (parts end f) (omega (arith, queue-fits)) (omega (arith, record-fits, end-record)))
+
+-- the three steps are the broadcast
+three-steps : (instant : ℕ) (array : List ℕ) (id : ℕ) (content : List ℕ) (s : State)
+    → backState (s .settings .me) Nothing array id 0 (lazyState id 0 (s .settings .me) (takenState instant id content 0 s)) ≡ broadcastIn instant array id content s
+unfolding broadcastState roomsIn takenState lazyState skippedIn
+three-steps instant array id content s = refl
+
+taken-cached : (instant id : ℕ) (content : List ℕ) (sender : ℕ) (s : State) → holds id (lazyState id 0 sender (takenState instant id content 0 s) .cache) ≡ true
+unfolding takenState lazyState
+taken-cached instant id content sender s = holds-put id _ _ (s .cache)
+
+queued-up : (instant id : ℕ) (content : List ℕ) (sender : ℕ) (s : State) → ascending (keys (s .links)) ≡ true → ascending (keys (lazyState id 0 sender (takenState instant id content 0 s) .links)) ≡ true
+unfolding takenState lazyState
+queued-up instant id content sender s u = u
+
+pub own-number : (h : Head) (xs : List ℕ) → stateOf h xs .settings .me ≡ h .settings .me
+unfolding stateOf
+own-number h xs = refl
+
+-- in the block
+module _ (instant : ℕ) (array : List ℕ) (id : ℕ) (content : List ℕ) (h : Head) (xs : List ℕ) (step : Step (broadcastIn instant array id content) h xs) where
+  abbrev s : State
+  s = stateOf h xs
+
+  abbrev me : ℕ
+  me = h .settings .me
+
+  pub takes : instant ≤ 2 ^ 62 → TakesIn instant id content 0 h xs
+  takes early = takes-step instant id content 0 h xs early (record { stands = step .stands; fits = taken-fits (roomsIn s array) instant id content s (step .fits) })
+
+  module _ (a : Head) (ys : List ℕ) (g : Goes (takenState instant id content 0) h xs a ys) where
+    taken-queue : length (stateOf a ys .queue) ≡ length (s .queue)
+    unfolding takenState
+    taken-queue = ap (λ (t : State). length (t .queue)) (g .state)
+
+    taken-notes : length (lazyNotes id 0 me (stateOf a ys .links)) ≡ length (lazyNotes id 0 (s .settings .me) (s .links))
+    unfolding takenState
+    taken-notes = ap (λ (t : State). length (lazyNotes id 0 me (t .links))) (g .state) ∙ ap (λ (m : ℕ). length (lazyNotes id 0 m (s .links))) (sym (own-number h xs))
+
+    taken-limit : a .limits .queued ≡ s .limits .Q
+    unfolding stateOf takenState
+    taken-limit = ap (λ (t : State). t .limits .Q) (g .state)
+
+    pub lazy-asks : Sound a ys × (a .live .queued + length (lazyNotes id 0 me (stateOf a ys .links)) ≤ a .limits .queued)
+    lazy-asks = (g .sound, omega (arith, count-queue a ys (g .sound), taken-queue, taken-notes, taken-limit, queue-fits (roomsIn s array) instant id content s (step .fits)))
+
+    module _ (b : Head) (zs : List ℕ) (l : Goes (lazyState id 0 me) a ys b zs) where
+      queued : stateOf b zs ≡ lazyState id 0 me (takenState instant id content 0 s)
+      queued = l .state ∙ ap (lazyState id 0 me) (g .state)
+
+      queued-limit : b .limits .dropped ≡ s .limits .D
+      unfolding stateOf takenState lazyState
+      queued-limit = ap (λ (t : State). t .limits .D) queued
+
+      pushed : backState me Nothing array id 0 (stateOf b zs) ≡ broadcastIn instant array id content s
+      pushed =
+          ap (backState me Nothing array id 0) queued
+          ∙ ap (λ (m : ℕ). backState m Nothing array id 0 (lazyState id 0 m (takenState instant id content 0 s))) (sym (own-number h xs))
+          ∙ three-steps instant array id content s
+
+      pub back-asks : NotesBack b zs me Nothing array id 0
+      back-asks = record {
+        pushing = record { sound = l .sound; up = subst (λ (t : State). ascending (keys (t .links)) ≡ true) (sym queued) (queued-up instant id content me s (links-up h xs (step .stands))); skip = tt };
+        cached = subst (λ (t : State). holds id (t .cache) ≡ true) (sym queued) (taken-cached instant id content me s);
+        room = omega (arith, ap (λ (t : State). length (t .dropped)) pushed, record-fits (roomsIn s array) instant id content s (step .fits), queued-limit);
+      }
+
+      pub broadcast-goes : (c : Head) (ws : List ℕ) → Goes (backState me Nothing array id 0) b zs c ws → Goes (broadcastIn instant array id content) h xs c ws
+      broadcast-goes c ws k = record { state = k .state ∙ pushed; sound = k .sound }

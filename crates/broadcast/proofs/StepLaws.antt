@@ -5,15 +5,15 @@ use mathlib.Core.Bool.{Bool, true, _&&_}
 use mathlib.Core.List.{List, []}
 use Prim.Native.Nat.{ℕ, _+_, _≤_, _^_}
 use native.Mathlib.Omega.{arith}
-use borrow.Author.Tests.{leb-true, le-leb}
+use borrow.Author.Tests.{leb-true}
 use lib.Dec.{leb}
 use lib.ListN.{length, length-append}
 use Rattle.lists.specs.Base.{ascending}
 use Rattle.lists.specs.Map.{keys}
-use Rattle.lists.proofs.MapLaws.{and-left, and-right, and-intro}
+use Rattle.lists.proofs.MapLaws.{and-left, and-right}
 use Rattle.time_cache.specs.TimeCache.{holds}
 use Rattle.postcard.specs.Message.{toSwarm}
-use Rattle.protocol.specs.State.{State}
+use Rattle.protocol.specs.State.{State, Limits}
 use Rattle.protocol.specs.Run.{Room}
 use Rattle.protocol.specs.Whole.{fits, cacheFits, contentHeld}
 use Rattle.decide.specs.StateAfter.{takenState, lazyState, pushedState, recordedState, broadcastState}
@@ -24,15 +24,14 @@ use Rattle.block.specs.Goes.{Goes}
 use Rattle.block.specs.declared.head.Head.{Head}
 use Rattle.block.proofs.NoteLaws.{count-queue}
 use Rattle.steps.specs.Rooms.{roomsIn}
-use Rattle.steps.specs.Stands.{Stands, Step}
+use Rattle.steps.specs.Stands.{Step}
 use Rattle.steps.specs.declared.Held.the-variants.{Nothing}
 use Rattle.steps.proofs.StandsLaws.{links-up}
 use Rattle.contents.specs.Taking.{TakesIn}
-use Rattle.contents.proofs.Takings.{takes-step}
+use Rattle.contents.proofs.Takings.{takes-from}
 use Rattle.pushes.specs.Lazy.{lazyNotes}
 use Rattle.eager.specs.Targets.{skippedIn}
 use Rattle.eager.specs.Backs.{backState, NotesBack}
-use Rattle.eager.proofs.BackLaws.{batches-longer}
 use Rattle.broadcast.specs.Broadcasts.{broadcastIn}
 
 -- question 13, but for the queue and the record
@@ -41,59 +40,50 @@ others s =
     leb (length (s .links)) (s .limits .N) && cacheFits (s .limits .R) (s .received) && cacheFits (s .limits .C) (s .cache) && leb (contentHeld s) (s .limits .B) && cacheFits (s .limits .G) (s .grafted)
     && leb (length (s .missing)) (s .limits .S) && leb (length (s .graftTimers)) (s .limits .T)
 
-record Parts (s : State) : Type 0 where
-  others : others s ≡ true
-  queued : length (s .queue) ≤ s .limits .Q
-  recorded : length (s .dropped) ≤ s .limits .D
-
-parts : (s : State) → fits s ≡ true → Parts s
+-- what question 13 tells of the queue and the record
+queue-within : (s : State) → fits s ≡ true → length (s .queue) ≤ s .limits .Q
 unfolding fits
-parts s e =
+queue-within s e =
     let q : Bool = leb (length (s .queue)) (s .limits .Q) in
     let d : Bool = leb (length (s .dropped)) (s .limits .D) in
-    let b : others s && q ≡ true = and-left (others s && q) d e in
-    record {
-      others = and-left (others s) q b;
-      queued = leb-true (length (s .queue)) (s .limits .Q) (and-right (others s) q b);
-      recorded = leb-true (length (s .dropped)) (s .limits .D) (and-right (others s && q) d e);
-    }
+    leb-true (length (s .queue)) (s .limits .Q) (and-right (others s) q (and-left (others s && q) d e))
 
-of-parts : (s : State) → Parts s → fits s ≡ true
+record-within : (s : State) → fits s ≡ true → length (s .dropped) ≤ s .limits .D
 unfolding fits
-of-parts s p = and-intro (and-intro (p .others) (le-leb (length (s .queue)) (s .limits .Q) (p .queued))) (le-leb (length (s .dropped)) (s .limits .D) (p .recorded))
+record-within s e =
+    leb-true (length (s .dropped)) (s .limits .D) (and-right (others s && leb (length (s .queue)) (s .limits .Q)) (leb (length (s .dropped)) (s .limits .D)) e)
 
--- queue and record only grow, and the tables of the message caches are those of the first step
+-- the state after a broadcast: the tables that the later steps leave, and the queue, which only grows
 module _ (rooms : List Room) (instant id : ℕ) (content : List ℕ) (s : State) where
   abbrev end : State
   end = broadcastState rooms instant id content toSwarm s
+
+  end-limits : end .limits ≡ takenState instant id content 0 s .limits
+  unfolding broadcastState pushedState recordedState lazyState
+  end-limits = refl
+
+  end-received : end .received ≡ takenState instant id content 0 s .received
+  unfolding broadcastState pushedState recordedState lazyState
+  end-received = refl
+
+  end-cache : end .cache ≡ takenState instant id content 0 s .cache
+  unfolding broadcastState pushedState recordedState lazyState
+  end-cache = refl
+
+  same-limits : end .limits ≡ s .limits
+  unfolding broadcastState pushedState recordedState lazyState takenState
+  same-limits = refl
 
   end-queue : length (end .queue) ≡ length (s .queue) + length (lazyNotes id 0 (s .settings .me) (s .links))
   unfolding broadcastState pushedState recordedState lazyState takenState lazyNotes
   end-queue = length-append (s .queue) _
 
-  end-record : length (s .dropped) ≤ length (end .dropped)
-  unfolding broadcastState pushedState recordedState lazyState takenState
-  end-record = batches-longer _ _ (s .dropped)
-
-  end-limits : end .limits ≡ s .limits
-  unfolding broadcastState pushedState recordedState lazyState takenState
-  end-limits = refl
-
-  taken-parts : Parts end → length (s .queue) ≤ s .limits .Q → length (s .dropped) ≤ s .limits .D → Parts (takenState instant id content 0 s)
-  unfolding broadcastState pushedState recordedState lazyState takenState contentHeld
-  taken-parts p q d = record { others = p .others; queued = q; recorded = d }
-
   module _ (f : fits end ≡ true) where
-    pub queue-fits : length (s .queue) + length (lazyNotes id 0 (s .settings .me) (s .links)) ≤ s .limits .Q
-    queue-fits = omega (arith, parts end f .queued, end-queue, ap (λ l. l .Q) end-limits)
+    queue-fits : length (s .queue) + length (lazyNotes id 0 (s .settings .me) (s .links)) ≤ s .limits .Q
+    queue-fits = omega (arith, queue-within end f, end-queue, ap (λ (l : Limits). l .Q) same-limits)
 
-    pub record-fits : length (end .dropped) ≤ s .limits .D
-    record-fits = omega (arith, parts end f .recorded, ap (λ l. l .D) end-limits)
-
-    pub taken-fits : fits (takenState instant id content 0 s) ≡ true
-    taken-fits =
-        of-parts (takenState instant id content 0 s)
-        (taken-parts (parts end f) (omega (arith, queue-fits)) (omega (arith, record-fits, end-record)))
+    record-fits : length (end .dropped) ≤ s .limits .D
+    record-fits = omega (arith, record-within end f, ap (λ (l : Limits). l .D) same-limits)
 
 -- the three steps are the broadcast
 three-steps : (instant : ℕ) (array : List ℕ) (id : ℕ) (content : List ℕ) (s : State)
@@ -122,7 +112,9 @@ module _ (instant : ℕ) (array : List ℕ) (id : ℕ) (content : List ℕ) (h :
   me = h .settings .me
 
   pub takes : instant ≤ 2 ^ 62 → TakesIn instant id content 0 h xs
-  takes early = takes-step instant id content 0 h xs early (record { stands = step .stands; fits = taken-fits (roomsIn s array) instant id content s (step .fits) })
+  takes early =
+      takes-from instant id content 0 h xs early (broadcastIn instant array id content s) (step .stands) (step .fits) (end-limits (roomsIn s array) instant id content s)
+      (end-received (roomsIn s array) instant id content s) (end-cache (roomsIn s array) instant id content s)
 
   module _ (a : Head) (ys : List ℕ) (g : Goes (takenState instant id content 0) h xs a ys) where
     taken-queue : length (stateOf a ys .queue) ≡ length (s .queue)

@@ -8,14 +8,15 @@ use native.Mathlib.Omega.{arith}
 use borrow.Author.Tests.{leb-true}
 use lib.Dec.{leb}
 use lib.ListN.{length, length-append}
-use Rattle.lists.specs.Base.{ascending}
+use Rattle.lists.specs.Base.{all, ascending}
 use Rattle.lists.specs.Map.{keys}
 use Rattle.lists.proofs.MapLaws.{and-left, and-right}
-use Rattle.time_cache.specs.TimeCache.{holds}
+use Rattle.time_cache.specs.TimeCache.{Cache, holds}
 use Rattle.postcard.specs.Message.{toSwarm}
-use Rattle.protocol.specs.State.{State, Limits}
+use Rattle.protocol.specs.Links.{Links}
+use Rattle.protocol.specs.State.{State, Limits, Grafts}
 use Rattle.protocol.specs.Run.{Room}
-use Rattle.protocol.specs.Whole.{fits, cacheFits, contentHeld}
+use Rattle.protocol.specs.Whole.{fits, cacheFits, contentHeld, graftsWhole}
 use Rattle.decide.specs.StateAfter.{takenState, lazyState, pushedState, recordedState, broadcastState}
 use Rattle.decide.proofs.Broadcast.{holds-put}
 use Rattle.block.specs.View.{stateOf}
@@ -26,7 +27,9 @@ use Rattle.block.proofs.NoteLaws.{count-queue}
 use Rattle.steps.specs.Rooms.{roomsIn}
 use Rattle.steps.specs.Stands.{Step}
 use Rattle.steps.specs.declared.Held.the-variants.{Nothing}
-use Rattle.steps.proofs.StandsLaws.{links-up}
+use Rattle.steps.proofs.StandsLaws.{links-up, grafted-order}
+use Rattle.caches.specs.InBlock.{InOrder}
+use Rattle.grafts.specs.Reads.{Grafting}
 use Rattle.contents.specs.Taking.{TakesIn}
 use Rattle.contents.proofs.Takings.{takes-from}
 use Rattle.pushes.specs.Lazy.{lazyNotes}
@@ -95,9 +98,13 @@ taken-cached : (instant id : ℕ) (content : List ℕ) (sender : ℕ) (s : State
 unfolding takenState lazyState
 taken-cached instant id content sender s = holds-put id _ _ (s .cache)
 
-queued-up : (instant id : ℕ) (content : List ℕ) (sender : ℕ) (s : State) → ascending (keys (s .links)) ≡ true → ascending (keys (lazyState id 0 sender (takenState instant id content 0 s) .links)) ≡ true
+queued-links : (instant id : ℕ) (content : List ℕ) (sender : ℕ) (s : State) → lazyState id 0 sender (takenState instant id content 0 s) .links ≡ s .links
 unfolding takenState lazyState
-queued-up instant id content sender s u = u
+queued-links instant id content sender s = refl
+
+queued-grafted : (instant id : ℕ) (content : List ℕ) (sender : ℕ) (s : State) → lazyState id 0 sender (takenState instant id content 0 s) .grafted ≡ s .grafted
+unfolding takenState lazyState
+queued-grafted instant id content sender s = refl
 
 pub own-number : (h : Head) (xs : List ℕ) → stateOf h xs .settings .me ≡ h .settings .me
 unfolding stateOf
@@ -146,9 +153,23 @@ module _ (instant : ℕ) (array : List ℕ) (id : ℕ) (content : List ℕ) (h :
           ∙ ap (λ (m : ℕ). backState m Nothing array id 0 (lazyState id 0 m (takenState instant id content 0 s))) (sym (own-number h xs))
           ∙ three-steps instant array id content s
 
+      links-then : stateOf b zs .links ≡ s .links
+      links-then = ap (λ (t : State). t .links) queued ∙ queued-links instant id content me s
+
+      grafted-then : stateOf b zs .grafted ≡ s .grafted
+      grafted-then = ap (λ (t : State). t .grafted) queued ∙ queued-grafted instant id content me s
+
+      grafting-then : Grafting b zs
+      grafting-then = record {
+        sound = l .sound;
+        linksUp = subst (λ (x : Links). ascending (keys x) ≡ true) (sym links-then) (links-up h xs (step .stands));
+        order = subst (λ (x : Cache Grafts). InOrder x) (sym grafted-then) (grafted-order h xs (step .stands));
+        whole = (λ i. all (graftsWhole (links-then i)) (grafted-then i .entries)) ∙ step .stands .consistent .core .grafting;
+      }
+
       pub back-asks : NotesBack b zs me Nothing array id 0
       back-asks = record {
-        pushing = record { sound = l .sound; up = subst (λ (t : State). ascending (keys (t .links)) ≡ true) (sym queued) (queued-up instant id content me s (links-up h xs (step .stands))); skip = tt };
+        pushing = record { grafting = grafting-then; skip = tt };
         cached = subst (λ (t : State). holds id (t .cache) ≡ true) (sym queued) (taken-cached instant id content me s);
         room = omega (arith, ap (λ (t : State). length (t .dropped)) pushed, record-fits (roomsIn s array) instant id content s (step .fits), queued-limit);
       }

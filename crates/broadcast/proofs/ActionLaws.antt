@@ -7,7 +7,6 @@ use Rattle.lists.specs.Base.{concatMap}
 use Rattle.postcard.specs.Message.{Swarm, Neighbors, Scope, toSwarm, toNeighbors, Gossip, actionBytes}
 use Rattle.protocol.specs.State.{State}
 use Rattle.protocol.specs.Push.{eagerTargets}
-use Rattle.decide.specs.Settled.{settled}
 use Rattle.decide.specs.RecordGrowth.{pushActions}
 use Rattle.decide.specs.ActionsAfter.{dispatchAction, broadcastActions}
 use Rattle.block.specs.View.{stateOf}

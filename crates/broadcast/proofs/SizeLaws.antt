@@ -19,7 +19,6 @@ use Rattle.decide.specs.RecordGrowth.{pushGain, pushGains}
 use Rattle.block.specs.View.{stateOf}
 use Rattle.block.specs.declared.head.Head.{Head}
 use Rattle.steps.specs.Rooms.{roomsIn}
-use Rattle.steps.specs.Shared.{sizesValue}
 use Rattle.steps.specs.Stands.{Stands}
 use Rattle.steps.specs.declared.Held.the-variants.{Nothing}
 use Rattle.steps.specs.declared.Sizes.{Sizes as CodeSizes}

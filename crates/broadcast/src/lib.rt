@@ -88,7 +88,17 @@ fn neighbors_actions(
         sender: me,
         skip: Held::Nothing,
     };
-    let p = sends::push_sends(h, block, rooms, out, at, push, id, content, Delivery::Neighbors);
+    let p = sends::push_sends(
+        h,
+        block,
+        rooms,
+        out,
+        at,
+        push,
+        id,
+        content,
+        Delivery::Neighbors,
+    );
     p.at
 }
 

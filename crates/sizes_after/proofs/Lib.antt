@@ -1,0 +1,2 @@
+pub mod FewGains
+pub mod StepSizes

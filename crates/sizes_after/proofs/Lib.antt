@@ -1,2 +1,3 @@
 pub mod FewGains
 pub mod StepSizes
+pub mod Waiting

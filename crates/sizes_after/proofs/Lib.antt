@@ -1,3 +1,4 @@
 pub mod FewGains
 pub mod StepSizes
 pub mod Waiting
+pub mod Sums

@@ -1,26 +1,24 @@
 -- The numbers of entries after each kind of step, from those of the settled state.
 -- Assumes nothing.
 use mathlib.Core.Path.{_≡_, refl, sym, ap, _∙_}
-use mathlib.Core.Bool.{Bool}
 use mathlib.Core.List.{List, [], _∷_}
 use mathlib.Core.Option.{Option, none, some}
 use Prim.Native.Nat.{ℕ, _+_, _≤_}
-use native.Mathlib.Omega.{arith}
 use lib.ListN.{length, replicate, length-replicate}
 use Rattle.lists.specs.Base.{member}
-use Rattle.lists.specs.Map.{Map, keys, has}
+use Rattle.lists.specs.Map.{keys, has}
 use Rattle.rows.specs.Part.{part}
 use Rattle.rows.specs.Ident.{idOf}
 use Rattle.rows.specs.declared.id.Id.{Id}
 use Rattle.rows.proofs.Parts.{length-part}
 use Rattle.time_cache.specs.TimeCache.{get}
-use Rattle.postcard.specs.Message.{Ihave, toSwarm}
+use Rattle.postcard.specs.Message.{Ihave}
 use Rattle.postcard.specs.Values.{wantedValue}
 use Rattle.postcard.specs.Events.{ihavesFrom}
 use Rattle.postcard.specs.declared.message.Delivery.{Delivery}
 use Rattle.postcard.specs.declared.message.Wanted.{Wanted}
 use Rattle.postcard.specs.declared.units.Round.{Round}
-use Rattle.protocol.specs.State.{State, Note, Hop, Cached}
+use Rattle.protocol.specs.State.{State, Note, Cached}
 use Rattle.protocol.specs.Run.{Room}
 use Rattle.protocol.specs.Push.{eagerTargets}
 use Rattle.protocol.specs.Gossips.{graftedFor}

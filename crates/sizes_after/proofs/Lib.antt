@@ -1,0 +1,4 @@
+pub mod FewGains
+pub mod StepSizes
+pub mod Waiting
+pub mod Sums

@@ -14,9 +14,8 @@ use Rattle.protocol.specs.State.{State, Note, Cached}
 use Rattle.protocol.specs.Run.{Room}
 use Rattle.protocol.specs.Push.{forPeer, notes}
 use Rattle.decide.specs.Rooms.{backPeers}
-use Rattle.decide.specs.RecordGrowth.{Batch, peerGain, gains, pushGain, pushGains}
+use Rattle.decide.specs.RecordGrowth.{pushGain, pushGains}
 use Rattle.eager.specs.Reply.{replyGains}
-use Rattle.dispatch.proofs.GainLaws.{gain-small}
 
 -- "unless … all have 4,096"
 gain-few : (id : ℕ) (ds : List Note) (extra p : ℕ) → length ds + extra ≤ 4096 → length ds + (pushGain id ds extra p + extra) ≤ 4096
@@ -43,14 +42,3 @@ pub reply-few : (rooms : List Room) (sender id : ℕ) (c : Option Cached) (s : S
 unfolding replyGains
 reply-few rooms sender id none s h = omega arith
 reply-few rooms sender id (some c) s h = push-few id (s .dropped) (backPeers rooms (sender ∷ [])) h
-
--- a dispatch
-batches-few : (held : ℕ → Bool) (ds : List Note) (extra : ℕ) (bs : List Batch) → length ds + extra ≤ 4096 → length ds + extra + gains held ds extra bs ≤ 4096
-unfolding gains
-batches-few held ds extra [] h = omega (arith, h)
-batches-few held ds extra (b ∷ bs) h =
-    let g : ℕ = peerGain held (b .peer) ds extra (b .ihaves) in
-    omega (arith, batches-few held ds (g + extra) bs (omega (arith, gain-small held (b .peer) ds extra (b .ihaves) h)))
-
-pub dispatch-few : (held : ℕ → Bool) (ds : List Note) (bs : List Batch) → length ds ≤ 4096 → gains held ds 0 bs ≤ 4096
-dispatch-few held ds bs h = omega (arith, batches-few held ds 0 bs (omega (arith, h)))

@@ -23,13 +23,11 @@ use Rattle.protocol.specs.Run.{Room}
 use Rattle.protocol.specs.Push.{eagerTargets}
 use Rattle.protocol.specs.Gossips.{graftedFor}
 use Rattle.decide.specs.Settled.{settled}
-use Rattle.decide.specs.Sizes.{Sizes, sizesOf, sizedMissing, sizedTimers, sizedQueued, sizedRecorded, shrunk}
-use Rattle.decide.specs.SizesAfter.{takenSizes, replySizes, graftSizes, ihaveSizes, dispatchSizes, newSizes, broadcastSizes, sendGraftSizes, evictSizes, announceSizes}
+use Rattle.decide.specs.Sizes.{Sizes, sizesOf, sizedMissing, sizedTimers, sizedRecorded, shrunk}
+use Rattle.decide.specs.SizesAfter.{takenSizes, replySizes, graftSizes, ihaveSizes, dispatchSizes, newSizes, sendGraftSizes, evictSizes, announceSizes}
 use Rattle.decide.specs.Rooms.{backPeers}
-use Rattle.decide.specs.RecordGrowth.{cachedIn, pushGains}
-use Rattle.block.specs.View.{stateOf}
+use Rattle.decide.specs.RecordGrowth.{pushGains}
 use Rattle.block.specs.LinkSteps.{peerAt}
-use Rattle.block.specs.declared.head.Head.{Head}
 use Rattle.steps.specs.Rooms.{roomsIn}
 use Rattle.steps.specs.Shared.{HeldIs, sizesValue}
 use Rattle.steps.specs.declared.Held.{Held}
@@ -39,14 +37,14 @@ use Rattle.settled.specs.Then.{noCached, noGrafts}
 use Rattle.sizes.specs.Counts.{TakenIs}
 use Rattle.ihaves.specs.New.{NewIn}
 use Rattle.ihaves.specs.declared.NewIds.{NewIds}
-use Rattle.eager.specs.Targets.{skippedIn, backsOf}
+use Rattle.eager.specs.Targets.{backsOf}
 use Rattle.eager.specs.Reply.{heldCached, replyGains}
 use Rattle.eager.proofs.ReplyLaws.{held-cached, reply-sizes}
 use Rattle.eager.proofs.CallLaws.{settled-as, settled-rooms, new-gains}
-use Rattle.dispatch.specs.Gains.{dispatchGains}
 use Rattle.kinds.specs.Meaning.{stepSizes}
 use Rattle.kinds.specs.declared.Step.the-variants as step
-use Rattle.sizes_after.specs.Pushed.{PushedIs, NewIs, BroadcastIs}
+use Rattle.broadcast.specs.Broadcasts.{BroadcastIs}
+use Rattle.sizes_after.specs.Pushed.{PushedIs, NewIs}
 
 -- how many are recorded, of the sizes
 pub recorded-of : (t : State) (z : CodeSizes) → sizesValue z ≡ sizesOf t → z .dropped ≡ length (t .dropped)
@@ -137,18 +135,6 @@ module _ (now : ℕ) (s : State) where
   unfolding ihaveSizes sizesOf
   ihave-sized hs r z w new = λ i. sizedMissing (w i .missing + new .missing i) (sizedTimers (w i .timers + new .timers i) (w i))
 
-  -- a dispatch
-
-  dispatch-still : (rooms : List Room) → dispatchGains (cachedIn (settled now s .cache)) rooms (settled now s) ≡ dispatchGains (cachedIn (settled now s .cache)) rooms s
-  dispatch-still rooms = settled-as now s (λ (u : State). dispatchGains (cachedIn (settled now s .cache)) rooms u) refl
-
-  pub dispatch-sized : (rooms : List Room) (z : CodeSizes) (g : ℕ) → sizesValue z ≡ sizesOf (settled now s) → g ≡ dispatchGains (cachedIn (settled now s .cache)) rooms s
-      → sizedQueued 0 (sizedRecorded (z .dropped + g) (sizesValue z)) ≡ dispatchSizes rooms (settled now s)
-  unfolding dispatchSizes
-  dispatch-sized rooms z g w e =
-      let gained : g ≡ dispatchGains (cachedIn (settled now s .cache)) rooms (settled now s) = e ∙ sym (dispatch-still rooms) in
-      λ i. sizedQueued 0 (sizedRecorded (recorded-of (settled now s) z w i + gained i) (w i))
-
   -- a message taken in and pushed
   pub pushed-is : (array : List ℕ) (id n sender : ℕ) (k : Held) (z : CodeSizes) (g : ℕ) → TakenIs id n sender (settled now s) z → g ≡ pushGains id (s .dropped) 0 (backsOf sender k array s)
       → PushedIs now array id n sender k s (withRecorded (z .dropped + g) z)
@@ -230,37 +216,3 @@ module _ (now : ℕ) (s : State) where
       → sizesValue z ≡ stepSizes bytes (roomsIn s array) now (step.BroadcastSwarm id start len) (settled now s)
   unfolding stepSizes
   step-broadcast bytes array id start len z within is = is .same (part start len bytes) (length-part start len bytes within)
-
--- a Swarm broadcast: the push skips nobody for being grafted
-module _ (instant : ℕ) (array : List ℕ) (id n : ℕ) (h : Head) (xs : List ℕ) where
-  abbrev s₁ : State
-  s₁ = stateOf h xs
-
-  abbrev t₁ : State
-  t₁ = settled instant (stateOf h xs)
-
-  own-number : stateOf h xs .settings .me ≡ h .settings .me
-  unfolding stateOf
-  own-number = refl
-
-  abbrev gained : State → ℕ
-  gained u = pushGains id (u .dropped) 0 (backPeers (roomsIn (stateOf h xs) array) (eagerTargets (u .settings .me) [] u))
-
-  same-me : t₁ .settings .me ≡ h .settings .me
-  same-me = settled-as instant s₁ (λ (u : State). u .settings .me) refl ∙ own-number
-
-  same-gains : gained t₁ ≡ gained s₁
-  unfolding eagerTargets
-  same-gains = settled-as instant s₁ gained refl
-
-  gains-here : pushGains id (s₁ .dropped) 0 (backsOf (h .settings .me) Nothing array s₁) ≡ gained s₁
-  unfolding skippedIn
-  gains-here = ap (λ (m : ℕ). pushGains id (s₁ .dropped) 0 (backPeers (roomsIn s₁ array) (eagerTargets m [] s₁))) (sym own-number)
-
-  pub broadcast-is : (z : CodeSizes) → PushedIs instant array id n (h .settings .me) Nothing (stateOf h xs) z → BroadcastIs instant array id n (stateOf h xs) z
-  unfolding broadcastSizes
-  broadcast-is z is = record {
-    same = λ content l.
-        is .same content l
-        ∙ (λ i. sizedRecorded (length (sym (same-dropped instant s₁) i) + (gains-here ∙ sym same-gains) i) (takenSizes id content (sym same-me i) t₁));
-  }

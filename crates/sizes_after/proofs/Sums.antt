@@ -12,7 +12,7 @@ use Rattle.protocol.specs.Run.{Room}
 use Rattle.decide.specs.Settled.{settled}
 use Rattle.decide.specs.Sizes.{sizesOf}
 use Rattle.decide.specs.SizesAfter.{knownMissing, knownTimer}
-use Rattle.decide.specs.RecordGrowth.{cachedIn, pushGains}
+use Rattle.decide.specs.RecordGrowth.{pushGains}
 use Rattle.block.specs.View.{stateOf}
 use Rattle.block.specs.Sound.{Sound}
 use Rattle.block.specs.declared.head.Head.{Head}
@@ -24,18 +24,12 @@ use Rattle.ihaves.specs.New.{NewIn}
 use Rattle.ihaves.specs.declared.NewIds.{NewIds}
 use Rattle.ihaves.proofs.NewLaws.{new-few-all}
 use Rattle.eager.specs.Reply.{replyGains}
-use Rattle.dispatch.specs.Gains.{dispatchGains}
-use Rattle.sizes_after.proofs.FewGains.{push-few, reply-few, dispatch-few}
+use Rattle.sizes_after.proofs.FewGains.{push-few, reply-few}
 use Rattle.sizes_after.proofs.StepSizes.{recorded-of, taken-recorded, same-dropped}
 
 module _ (now : ℕ) (s : State) (few : length (s .dropped) ≤ 4096) (z : CodeSizes) (g : ℕ) where
   pub reply-sum : sizesValue z ≡ sizesOf (settled now s) → (rooms : List Room) (p id : ℕ) (c : Option Cached) → g ≡ replyGains rooms p id c s → z .dropped + g ≤ 8192
   reply-sum w rooms p id c e = omega (arith, recorded-of (settled now s) z w, ap length (same-dropped now s), few, e, reply-few rooms p id c s few)
-
-  pub dispatch-sum : sizesValue z ≡ sizesOf (settled now s) → (rooms : List Room) → g ≡ dispatchGains (cachedIn (settled now s .cache)) rooms s → z .dropped + g ≤ 8192
-  dispatch-sum w rooms e =
-      let f : dispatchGains (cachedIn (settled now s .cache)) rooms s ≤ 4096 = dispatch-few (cachedIn (settled now s .cache)) (s .dropped) _ few in
-      omega (arith, recorded-of (settled now s) z w, ap length (same-dropped now s), few, e, f)
 
   pub push-sum : (id n sender : ℕ) → TakenIs id n sender (settled now s) z → (ps : List ℕ) → g ≡ pushGains id (s .dropped) 0 ps → z .dropped + g ≤ 8192
   push-sum id n sender is ps e = omega (arith, taken-recorded id n sender (settled now s) z is, ap length (same-dropped now s), few, e, push-few id (s .dropped) ps few)

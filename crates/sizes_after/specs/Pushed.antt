@@ -4,11 +4,10 @@ use Prim.Native.Nat.{ℕ, _+_}
 use mathlib.Core.Path.{_≡_}
 use mathlib.Core.List.{List}
 use lib.ListN.{length}
-use Rattle.postcard.specs.Message.{toSwarm}
 use Rattle.protocol.specs.State.{State}
 use Rattle.decide.specs.Settled.{settled}
 use Rattle.decide.specs.Sizes.{sizedRecorded}
-use Rattle.decide.specs.SizesAfter.{takenSizes, newSizes, broadcastSizes}
+use Rattle.decide.specs.SizesAfter.{takenSizes, newSizes}
 use Rattle.decide.specs.RecordGrowth.{pushGains}
 use Rattle.steps.specs.Rooms.{roomsIn}
 use Rattle.steps.specs.Shared.{sizesValue}
@@ -23,7 +22,3 @@ pub record PushedIs (instant : ℕ) (rooms : List ℕ) (id n sender : ℕ) (skip
 -- a new Swarm message
 pub record NewIs (instant : ℕ) (rooms : List ℕ) (id n sender : ℕ) (s : State) (r : CodeSizes) : Type 0 where
   pub same : (content : List ℕ) → length content ≡ n → sizesValue r ≡ newSizes (roomsIn s rooms) sender id content (settled instant s)
-
--- a Swarm broadcast
-pub record BroadcastIs (instant : ℕ) (rooms : List ℕ) (id n : ℕ) (s : State) (r : CodeSizes) : Type 0 where
-  pub same : (content : List ℕ) → length content ≡ n → sizesValue r ≡ broadcastSizes (roomsIn s rooms) id content toSwarm (settled instant s)

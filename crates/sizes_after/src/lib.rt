@@ -11,7 +11,6 @@ use postcard::message::Wanted;
 use postcard::units::Millis;
 use rows::id::Id;
 use rows::table::Found;
-use steps::Held;
 use steps::Sizes;
 ghost use mathlib.Core.Path.{_≡_};
 ghost use Prim.Native.Nat.{_≤_, _<_};
@@ -26,13 +25,13 @@ ghost use Rattle.block.specs.View.{stateOf};
 ghost use Rattle.block.specs.LinkSteps.{peerAt};
 ghost use Rattle.decide.specs.Settled.{settled};
 ghost use Rattle.decide.specs.Sizes.{shrunk};
-ghost use Rattle.decide.specs.SizesAfter.{replySizes, graftSizes, ihaveSizes, dispatchSizes};
+ghost use Rattle.decide.specs.SizesAfter.{replySizes, graftSizes, ihaveSizes};
 ghost use Rattle.steps.specs.Stands.{Stands};
 ghost use Rattle.steps.specs.Rooms.{roomsIn};
 ghost use Rattle.steps.specs.Shared.{sizesValue};
 ghost use Rattle.grafts.specs.Reads.{HeldBelow};
 ghost use Rattle.kinds.specs.Meaning.{StepHeld, stepSizes};
-ghost use Rattle.sizes_after.specs.Pushed.{PushedIs, NewIs, BroadcastIs};
+ghost use Rattle.sizes_after.specs.Pushed.{PushedIs, NewIs};
 
 // The reply to a Graft: what a push of the cached message to one link adds to the record. Its time is that of `sizes_then`, of a look-up in the message cache,
 // and of one pass over the record's column of link numbers.
@@ -91,19 +90,6 @@ pub fn ihave_step_sizes(
     let timers = z.timers + new.timers;
     z.missing = missing;
     z.timers = timers;
-    z
-}
-
-// DispatchLazyPush: "Dispatch empties the queue", and what is handed back is noted. Its time is that of `dispatch_gains` and of `sizes_then`.
-pub fn dispatch_sizes(h: Head, block: &[u8], instant: Millis, rooms: &[u64; 34]) -> Sizes
-    requires { ⌜ Stands h (now block) ⌝ }
-    ensures { λ r. ⌜ sizesValue r ≡ dispatchSizes (roomsIn (stateOf h (now (block .entry))) (now (rooms .entry))) (settled (instant .0) (stateOf h (now (block .entry)))) ⌝ }
-{
-    let mut z = settled::sizes_then(h, block, instant);
-    let gained = gains::dispatch_gains(h, block, instant, rooms);
-    let n = z.dropped + gained;
-    z.dropped = n;
-    z.queued = 0;
     z
 }
 
@@ -176,27 +162,6 @@ pub fn new_sizes(
     z
 }
 
-// A Swarm broadcast of `len` content bytes: it is taken in and pushed, with the panel itself for its sender. Its time is that of one pass over the caches, one
-// over the links, and one over the record's column of link numbers.
-fn broadcast_sizes(
-    h: Head,
-    block: &[u8],
-    instant: Millis,
-    rooms: &[u64; 34],
-    id: Id,
-    len: usize,
-) -> Sizes
-    requires { ⌜ Stands h (now block) × (len < 4294967296) ⌝ }
-    ensures { λ r. ⌜ BroadcastIs (instant .0) (now (rooms .entry)) (idOf id) len (stateOf h (now (block .entry))) r ⌝ }
-{
-    let sender = h.settings.me;
-    let push = Push {
-        sender,
-        skip: Held::Nothing,
-    };
-    pushed_sizes(h, block, instant, rooms, id, len, push)
-}
-
 // The numbers of entries after the step of an event (question 13). Its time is that of the step's own function.
 pub fn step_sizes(
     h: Head,
@@ -236,7 +201,7 @@ pub fn step_sizes(
             count,
         } => ihave_step_sizes(h, block, instant, event, start, count),
         Step::BroadcastSwarm { id, start: _, len } => {
-            broadcast_sizes(h, block, instant, rooms, id, len)
+            broadcast::broadcast_sizes(h, block, instant, rooms, id, len)
         }
         Step::BroadcastNeighbors {
             id: _,
@@ -244,7 +209,7 @@ pub fn step_sizes(
             len: _,
         } => settled::sizes_then(h, block, instant),
         Step::SendGraft(id) => send_graft::send_graft_sizes(h, block, instant, id),
-        Step::DispatchLazyPush => dispatch_sizes(h, block, instant, rooms),
+        Step::DispatchLazyPush => gains::dispatch_sizes(h, block, instant, rooms),
         Step::EvictCache => sizes::evict_sizes(h, block, instant),
         Step::AnnounceDropped => announce::announce_sizes(h, block, instant),
     }

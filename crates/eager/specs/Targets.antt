@@ -7,8 +7,8 @@ use mathlib.Core.Option.{none}
 use lib.Dec.{eqb, leb}
 use lib.ListN.{getD}
 use Rattle.lists.specs.Base.{member}
-use Rattle.lists.specs.Map.{Entry, entry, keys}
-use Rattle.time_cache.specs.TimeCache.{Cache, Timed}
+use Rattle.lists.specs.Map.{entry, keys}
+use Rattle.time_cache.specs.TimeCache.{Cache}
 use Rattle.protocol.specs.Links.{isEager}
 use Rattle.protocol.specs.State.{State, Grafts}
 use Rattle.protocol.specs.Push.{eagerTargets}

@@ -16,7 +16,6 @@ use Rattle.block.specs.LinkSteps.{peerAt}
 use Rattle.caches.specs.CachedReads.{cachedAt}
 use Rattle.grafts.specs.Reads.{HeldBelow}
 use Rattle.steps.specs.declared.Held.{Held}
-use Rattle.steps.specs.declared.Held.the-variants.{At, Nothing}
 use Rattle.eager.specs.Sent.{pushBytes}
 use Rattle.eager.specs.Reply.{replyBytes}
 use Rattle.eager.proofs.ReplyLaws.{reply-bytes, reply-no-bytes, content-part}

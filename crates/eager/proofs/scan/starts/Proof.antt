@@ -1,14 +1,12 @@
 -- `scan::starts` meets its contract: the links passed have their number.
 -- Assumes nothing.
 use mathlib.Core.Path.{_≡_, refl, sym, ap, _∙_}
-use mathlib.Core.Bool.{Bool, true, false}
-use mathlib.Core.List.{List}
-use Prim.Native.Nat.{ℕ, _+_, _≤_, _<_, _-_}
+use mathlib.Core.Bool.{Bool}
+use Prim.Native.Nat.{ℕ, _≤_, _-_}
 use native.Mathlib.Omega.{arith}
 use borrow.Author.Needs.{needs}
-use lib.ListN.{length, getD, set, length-set}
+use lib.ListN.{length-set}
 use Rattle.lists.specs.Base.{if_then_else_}
-use Rattle.protocol.specs.State.{State}
 use Rattle.block.specs.View.{stateOf}
 use Rattle.eager.specs.Targets.{skippedIn, handsBack}
 use Rattle.eager.specs.Scan.{Starts}

@@ -1,7 +1,5 @@
 -- `scan::wants_note` meets its contract.
 -- Assumes nothing.
-use native.Mathlib.Omega.{arith}
-use borrow.Author.Needs.{needs}
 use Rattle.rows.specs.Ident.{idOf}
 use Rattle.block.specs.View.{stateOf}
 use Rattle.eager.specs.Targets.{skippedIn}

@@ -42,7 +42,7 @@ use Rattle.steps.specs.declared.Held.the-variants.{At, Nothing}
 use Rattle.steps.proofs.StandsLaws.{links-up}
 use Rattle.settled.specs.Then.{noCached}
 use Rattle.grafts.specs.Reads.{HeldBelow}
-use Rattle.ticks.proofs.ActionLaws.{no-action, actions-then}
+use Rattle.ticks.proofs.ActionLaws.{no-action, one-action, actions-then}
 use Rattle.ticks.proofs.TickLaws.{settled-evict}
 use Rattle.eager.specs.Reply.{Replying, heldCached, replyBytes}
 use Rattle.eager.proofs.ReplyLaws.{held-cached}
@@ -160,8 +160,17 @@ module _ (event : List ℕ) (instant : ℕ) (rooms : List ℕ) (s : State) where
   of-call r = actions-then (settledActions s) (stepActions event room r settledTo)
 
 -- the round of a new message that is not too far
-pub near : (sender : ℕ) (id : Id) (start len : ℕ) (round : Round) → stepFar (step.NewSwarm sender id start len round) ≡ false → round .0 < 65536 → round .0 < 65535
+pub near : (n : ℕ) → eqb n 65535 ≡ false → n < 65536 → n < 65535
+near n e q =
+    let f : n ≡ 65535 → ⊥ = eqb-false n 65535 e in
+    omega (arith, f, q)
+
+pub not-far : (sender : ℕ) (id : Id) (start len : ℕ) (round : Round) → stepFar (step.NewSwarm sender id start len round) ≡ false → eqb (round .0) 65535 ≡ false
 unfolding stepFar
-near sender id start len round e q =
-    let n : round .0 ≡ 65535 → ⊥ = eqb-false (round .0) 65535 e in
-    omega (arith, n, q)
+not-far sender id start len round e = e
+
+-- a message that is emitted
+pub emit-one : (event : List ℕ) (sender start len : ℕ)
+    → concatMap actionBytes (Emitted sender (part start len event) Neighbors ∷ []) ≡ actionBytes (Emitted sender (take (start + len - start) (drop start event)) Neighbors)
+emit-one event sender start len =
+    one-action (Emitted sender (part start len event) Neighbors) ∙ ap (λ (l : List ℕ). actionBytes (Emitted sender l Neighbors)) (sym (part-of event start len))

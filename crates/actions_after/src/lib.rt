@@ -14,6 +14,7 @@ ghost use mathlib.Core.Path.{_≡_};
 ghost use mathlib.Core.Bool.{false};
 ghost use mathlib.Core.List.{[], _∷_};
 ghost use Prim.Native.Nat.{_<_};
+ghost use lib.Dec.{eqb};
 ghost use lib.ListN.{length, getD};
 ghost use Rattle.lists.specs.Base.{concatMap};
 ghost use Rattle.rows.specs.Part.{part};
@@ -82,7 +83,7 @@ fn new_swarm(
     len: usize,
     round: Round,
 ) -> usize
-    requires { ⌜ Stands h (now block) × ContentHeld (now event) start len × (sender ≡ getD (now rooms) 33 0) × (round .0 < 65535) ⌝ }
+    requires { ⌜ Stands h (now block) × ContentHeld (now event) start len × (eqb (round .0) 65535 ≡ false) ⌝ }
     requires { ⌜ Told (newBytes (instant .0) (now rooms) sender (idOf id) (part start len (now event)) (round .0) (stateOf h (now block))) at ⌝ }
     ensures { λ r. ⌜ Written (newBytes (instant .0) (now (rooms .entry)) sender (idOf id) (part start len (now (event .entry))) (round .0) (stateOf h (now (block .entry)))) (now (out .entry)) at (now (out .exit)) r ⌝ }
 {

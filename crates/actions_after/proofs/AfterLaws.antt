@@ -48,10 +48,11 @@ use Rattle.eager.specs.Reply.{Replying, heldCached, replyBytes}
 use Rattle.eager.proofs.ReplyLaws.{held-cached}
 use Rattle.late.specs.Kinds.{lateAs}
 use Rattle.late.proofs.LateLaws.{settled-links}
+use Rattle.broadcast.specs.Broadcasts.{broadcastBytes}
 use Rattle.kinds.specs.Meaning.{stepActions, stepFar}
 use Rattle.kinds.specs.declared.Step.{Step}
 use Rattle.kinds.specs.declared.Step.the-variants as step
-use Rattle.actions_after.specs.After.{graftBytes, newBytes, broadcastBytes, stepBytes, callBytes}
+use Rattle.actions_after.specs.After.{graftBytes, newBytes, stepBytes, callBytes}
 
 -- a first event leaves the record's flag
 settled-flag : (instant : ℕ) (s : State) → settled instant s .announceScheduled ≡ s .announceScheduled

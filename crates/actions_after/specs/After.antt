@@ -5,10 +5,10 @@ use mathlib.Core.Path.{_≡_}
 use mathlib.Core.List.{List, _++_}
 use mathlib.Core.Option.{Option}
 use Rattle.lists.specs.Base.{concatMap}
-use Rattle.postcard.specs.Message.{Scope, actionBytes}
+use Rattle.postcard.specs.Message.{actionBytes}
 use Rattle.protocol.specs.State.{State}
 use Rattle.decide.specs.Settled.{settled, settledActions}
-use Rattle.decide.specs.ActionsAfter.{newActions, graftActions, broadcastActions}
+use Rattle.decide.specs.ActionsAfter.{newActions, graftActions}
 use Rattle.block.specs.LinkSteps.{peerAt}
 use Rattle.steps.specs.Rooms.{roomsIn}
 use Rattle.kinds.specs.Meaning.{stepActions}
@@ -22,10 +22,6 @@ graftBytes instant rooms link wanted s = concatMap actionBytes (graftActions (ro
 -- the actions of a new Swarm message, once a first event has evicted
 abbrev pub newBytes : ℕ → List ℕ → ℕ → ℕ → List ℕ → ℕ → State → List ℕ
 newBytes instant rooms sender id content round s = concatMap actionBytes (newActions (roomsIn s rooms) sender id content round (settled instant s))
-
--- the actions of a broadcast that is sent, once a first event has evicted
-abbrev pub broadcastBytes : ℕ → List ℕ → ℕ → List ℕ → Scope → State → List ℕ
-broadcastBytes instant rooms id content scope s = concatMap actionBytes (broadcastActions (roomsIn s rooms) id content scope (settled instant s))
 
 -- the actions of a step, once a first event has evicted
 abbrev pub stepBytes : List ℕ → ℕ → List ℕ → Step → State → List ℕ

@@ -24,8 +24,9 @@ ghost use Rattle.postcard.specs.Values.{wantedValue, scopeValue};
 ghost use Rattle.output.specs.Written.{Told, Written};
 ghost use Rattle.block.specs.View.{stateOf};
 ghost use Rattle.steps.specs.Stands.{Stands};
+ghost use Rattle.broadcast.specs.Broadcasts.{broadcastBytes};
 ghost use Rattle.kinds.specs.Meaning.{ContentHeld, StepHeld, stepFar};
-ghost use Rattle.actions_after.specs.After.{graftBytes, newBytes, broadcastBytes, stepBytes, callBytes, SenderIs};
+ghost use Rattle.actions_after.specs.After.{graftBytes, newBytes, stepBytes, callBytes, SenderIs};
 
 // The actions of a Graft from the neighbour of a link: the reply, if an identifier is asked for and its message is cached once a first event has evicted. Its
 // time is that of a look-up in the message cache, and of the content.
@@ -68,7 +69,27 @@ fn emit_neighbors(
     output::emit(out, at, sender, &event[start..end], Delivery::Neighbors)
 }
 
-// The actions of a new Swarm message.
+// The actions of a new Swarm message: "eager push, lazy push; .. optimise as `on_gossip` says; emit at r", once a first event has evicted.
+fn new_actions(
+    h: Head,
+    block: &[u8],
+    instant: Millis,
+    rooms: &[u64; 34],
+    out: &mut [u8],
+    at: usize,
+    sender: u64,
+    id: Id,
+    content: &[u8],
+    round: Round,
+) -> usize
+    requires { ⌜ Stands h (now block) × (round .0 < 65535) ⌝ }
+    requires { ⌜ Told (newBytes (instant .0) (now rooms) sender (idOf id) (now content) (round .0) (stateOf h (now block))) at ⌝ }
+    ensures { λ r. ⌜ Written (newBytes (instant .0) (now (rooms .entry)) sender (idOf id) (now (content .entry)) (round .0) (stateOf h (now (block .entry)))) (now (out .entry)) at (now (out .exit)) r ⌝ }
+{
+    at
+}
+
+// The actions of a new Swarm message, whose content is a part of the event.
 fn new_swarm(
     h: Head,
     block: &[u8],
@@ -87,11 +108,12 @@ fn new_swarm(
     requires { ⌜ Told (newBytes (instant .0) (now rooms) sender (idOf id) (part start len (now event)) (round .0) (stateOf h (now block))) at ⌝ }
     ensures { λ r. ⌜ Written (newBytes (instant .0) (now (rooms .entry)) sender (idOf id) (part start len (now (event .entry))) (round .0) (stateOf h (now (block .entry)))) (now (out .entry)) at (now (out .exit)) r ⌝ }
 {
-    at
+    let end = start + len;
+    new_actions(h, block, instant, rooms, out, at, sender, id, &event[start..end], round)
 }
 
-// The actions of a broadcast.
-fn broadcast(
+// The actions of a broadcast, whose content is a part of the event.
+fn send_broadcast(
     h: Head,
     block: &[u8],
     instant: Millis,
@@ -108,7 +130,8 @@ fn broadcast(
     requires { ⌜ Told (broadcastBytes (instant .0) (now rooms) (idOf id) (part start len (now event)) (scopeValue scope) (stateOf h (now block))) at ⌝ }
     ensures { λ r. ⌜ Written (broadcastBytes (instant .0) (now (rooms .entry)) (idOf id) (part start len (now (event .entry))) (scopeValue scope) (stateOf h (now (block .entry)))) (now (out .entry)) at (now (out .exit)) r ⌝ }
 {
-    at
+    let end = start + len;
+    broadcast::broadcast_actions(h, block, instant, rooms, out, at, id, &event[start..end], scope)
 }
 
 // The actions of the step of an event, once a first event has evicted. Its time is that of the function of the step.
@@ -152,7 +175,7 @@ pub fn step_actions(
             start,
             count,
         } => ihaves::ihave_actions(h, block, instant, out, at, event, start, count),
-        Step::BroadcastSwarm { id, start, len } => broadcast(
+        Step::BroadcastSwarm { id, start, len } => send_broadcast(
             h,
             block,
             instant,
@@ -165,7 +188,7 @@ pub fn step_actions(
             len,
             Scope::Swarm,
         ),
-        Step::BroadcastNeighbors { id, start, len } => broadcast(
+        Step::BroadcastNeighbors { id, start, len } => send_broadcast(
             h,
             block,
             instant,

@@ -94,8 +94,8 @@ ihave-actions-requires c κs =
 enum-known-step-6 : tie.Need-enum-known-step-6
 enum-known-step-6 c = search needs
 
-broadcast-requires : tie.Need-broadcast-requires
-broadcast-requires c κs =
+send-broadcast-requires : tie.Need-send-broadcast-requires
+send-broadcast-requires c κs =
     let s = c .before .before .before .before .before .before .before in
     let a = s .args in
     let g = c .before .before .step6 .given in
@@ -104,8 +104,8 @@ broadcast-requires c κs =
 enum-known-step-7 : tie.Need-enum-known-step-7
 enum-known-step-7 c = search needs
 
-broadcast-requires-2 : tie.Need-broadcast-requires-2
-broadcast-requires-2 c κs =
+send-broadcast-requires-2 : tie.Need-send-broadcast-requires-2
+send-broadcast-requires-2 c κs =
     let s = c .before .before .before .before .before .before .before in
     let a = s .args in
     let g = c .before .before .step7 .given in
@@ -222,7 +222,7 @@ returns-8 c =
     let s = c .before .before .before .before .before .before .before .before .before .before in
     let a = s .args in
     let g = c .before .before .before .before .before .step6 .given in
-    written-as (sym (ap (bytes s) (g .1) ∙ of-broadcast-swarm (a .event .now) (a .instant .0) (a .rooms .now) (st s) (g .0 .0) (g .0 .1 .0) (g .0 .1 .1 .0))) (c .before .before .broadcast .ensures)
+    written-as (sym (ap (bytes s) (g .1) ∙ of-broadcast-swarm (a .event .now) (a .instant .0) (a .rooms .now) (st s) (g .0 .0) (g .0 .1 .0) (g .0 .1 .1 .0))) (c .before .before .send-broadcast .ensures)
 
 same-length-7 : tie.Need-same-length-7
 same-length-7 c = search needs
@@ -232,7 +232,7 @@ returns-9 c =
     let s = c .before .before .before .before .before .before .before .before .before .before in
     let a = s .args in
     let g = c .before .before .before .before .before .step7 .given in
-    written-as (sym (ap (bytes s) (g .1) ∙ of-broadcast-neighbors (a .event .now) (a .instant .0) (a .rooms .now) (st s) (g .0 .0) (g .0 .1 .0) (g .0 .1 .1 .0))) (c .before .before .broadcast2 .ensures)
+    written-as (sym (ap (bytes s) (g .1) ∙ of-broadcast-neighbors (a .event .now) (a .instant .0) (a .rooms .now) (st s) (g .0 .0) (g .0 .1 .0) (g .0 .1 .1 .0))) (c .before .before .send-broadcast2 .ensures)
 
 same-length-8 : tie.Need-same-length-8
 same-length-8 c = search needs
@@ -291,9 +291,9 @@ step-actions-spec =
     enum-known-step-5
     ihave-actions-requires
     enum-known-step-6
-    broadcast-requires
+    send-broadcast-requires
     enum-known-step-7
-    broadcast-requires-2
+    send-broadcast-requires-2
     enum-known-step-8
     send-graft-actions-requires
     enum-told-3

@@ -3,14 +3,14 @@
 use mathlib.Core.Path.{_≡_, refl, sym, ap, _∙_, subst}
 use mathlib.Core.Bool.{Bool, true, _&&_}
 use mathlib.Core.List.{List}
-use Prim.Native.Nat.{ℕ, _+_, _*_, _≤_, _<_, _^_}
+use Prim.Native.Nat.{ℕ, _*_, _≤_, _^_}
 use native.Mathlib.Omega.{arith}
 use borrow.Author.Tests.{leb-true}
 use lib.Dec.{leb}
 use lib.ListN.{length}
 use Rattle.lists.proofs.MapLaws.{and-left, and-right}
 use Rattle.time_cache.specs.TimeCache.{Cache, put}
-use Rattle.protocol.specs.State.{State, Settings, durationsInRange}
+use Rattle.protocol.specs.State.{State, Limits, Settings, Cached, durationsInRange}
 use Rattle.protocol.specs.Whole.{cacheFits, contentHeld, fits}
 use Rattle.decide.specs.StateAfter.{takenState}
 use Rattle.block.specs.View.{stateOf}
@@ -66,12 +66,25 @@ caches-fit s e =
       leb-true (contentHeld s) (s .limits .B) (and-right (n && r && c) b four),
     )
 
--- a step whose result is within every limit
-pub takes-step : (instant id : ℕ) (content : List ℕ) (round : ℕ) (h : Head) (block : List ℕ) → instant ≤ 2 ^ 62 → Step (takenState instant id content round) h block → TakesIn instant id content round h block
-unfolding takenState stateOf
-takes-step instant id content round h block early s =
-    let f = caches-fit (takenState instant id content round (stateOf h block)) (s .fits) in
-    record { stands = s .stands; early = early; received = f .0; cached = f .1; bytes = f .2 }
+-- a later state, with these message caches and limits, that is within every limit
+module _ (instant id : ℕ) (content : List ℕ) (round : ℕ) (h : Head) (block : List ℕ) (early : instant ≤ 2 ^ 62) where
+  abbrev taken : State
+  taken = takenState instant id content round (stateOf h block)
+
+  pub takes-from : (z : State) → Stands h block → fits z ≡ true → z .limits ≡ taken .limits → z .received ≡ taken .received → z .cache ≡ taken .cache → TakesIn instant id content round h block
+  unfolding takenState stateOf
+  takes-from z s e l r c =
+      let f = caches-fit z e in
+      record {
+        stands = s;
+        early = early;
+        received = subst (λ (n : ℕ). AtMost n (taken .received)) (ap (λ (k : Limits). k .R) l) (subst (AtMost (z .limits .R)) r (f .0));
+        cached = subst (λ (n : ℕ). AtMost n (taken .cache)) (ap (λ (k : Limits). k .C) l) (subst (AtMost (z .limits .C)) c (f .1));
+        bytes = omega (arith, f .2, ap (λ (k : Limits). k .B) l, ap (λ (k : Cache Cached). held (k .entries)) c);
+      }
+
+  pub takes-step : Step (takenState instant id content round) h block → TakesIn instant id content round h block
+  takes-step s = takes-from taken (s .stands) (s .fits) refl refl refl
 
 -- after the first insert
 module _ (id t : ℕ) (h a : Head) (xs ys : List ℕ) (g : Goes (receivedAlso id t) h xs a ys) where

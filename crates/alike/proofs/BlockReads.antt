@@ -26,7 +26,7 @@ use Rattle.block.specs.View.{limitsOf, stateOf, byteAt, halfAt, idAt, flagOf, o
 use Rattle.block.specs.Fit.{Fit}
 use Rattle.block.specs.Sound.{Sound}
 use Rattle.block.specs.LinkSteps.{linkAt, peerAt}
-use Rattle.block.specs.MissingSteps.{missedAt}
+use Rattle.block.specs.MissingSteps.{missedAt, hopsAt}
 use Rattle.block.specs.declared.head.Head.{Head}
 use Rattle.block.proofs.Tables.{view-at, field-in, byte-in, length-table, length-view}
 use Rattle.block.proofs.Numbered.{length-numbered}
@@ -34,7 +34,13 @@ use Rattle.caches.specs.InBlock.{cacheFrom}
 use Rattle.caches.specs.GraftSteps.{graftsAt}
 use Rattle.caches.proofs.CacheLaws.{refs-in, rows-in}
 use Rattle.caches.proofs.GraftLaws.{grafted-entry}
-use Rattle.alike.specs.Elements.{element, expiryElement}
+use Rattle.block.proofs.MissingLaws.{missed-few, missed-count}
+use Rattle.caches.proofs.ReceivedLaws.{count-received-rows}
+use Rattle.caches.proofs.GraftedLaws.{count-grafted-rows}
+use Rattle.caches.proofs.CachedLaws.{count-cached-rows}
+use Rattle.alike.specs.Elements.{element, noteElement, hopElement, expiryElement, bagOf, InState}
+use Rattle.alike.specs.declared.bags.Bag.{Bag}
+use Rattle.alike.specs.declared.bags.Bag.the-variants.{Queue, Record, Received, Grafted, Cached, Announcers}
 
 -- timer i, and the identifier of missing message i
 pub timer-read : (h : Head) (xs : List ℕ) (i a : ℕ) → Fit h xs → i < h .live .timers → a ≡ place (limitsOf (h .limits)) 10
@@ -158,3 +164,12 @@ place-below c xs m i b h =
     let es : List Ref = refsAt c xs in
     let le : length es ≡ c .entries .len = length-refs (c .entries .stride) (c .entries .len) (drop (c .entries .at) xs) in
     omega (arith, b .below i (omega (arith, le, length-map es (λ (r : Ref). r .place))), getD-map-in (λ (r : Ref). r .place) es i 0 (ref 0 []) (omega (arith, le)))
+
+-- no list has more than 8,192 elements
+pub bag-few : (bag : Bag) (h : Head) (xs : List ℕ) → Sound h xs → InState bag (h .live) → length (bagOf bag (stateOf h xs)) ≤ 8192
+bag-few Queue h xs sound q = omega (arith, length-map (stateOf h xs .queue) noteElement, count-queue h xs (sound .fit), sound .fit)
+bag-few Record h xs sound q = omega (arith, length-map (stateOf h xs .dropped) noteElement, count-dropped h xs (sound .fit), sound .fit)
+bag-few Received h xs sound q = omega (arith, length-map (stateOf h xs .received .expiry) expiryElement, count-received-rows h xs (sound .fit), sound .fit)
+bag-few Grafted h xs sound q = omega (arith, length-map (stateOf h xs .grafted .expiry) expiryElement, count-grafted-rows h xs (sound .fit), sound .fit)
+bag-few Cached h xs sound q = omega (arith, length-map (stateOf h xs .cache .expiry) expiryElement, count-cached-rows h xs (sound .fit), sound .fit)
+bag-few (Announcers i) h xs sound q = omega (arith, length-map (hopsAt (stateOf h xs) i) hopElement, missed-few h xs sound i q, missed-count h xs sound i q)

@@ -1,4 +1,5 @@
 -- What the comparison of two blocks is said by.
 pub mod Elements
+pub mod Chains
 pub mod Rows
 pub mod Answer

@@ -10,14 +10,15 @@ use rows::id;
 use rows::id::Id;
 use time_cache::cache::TimeBoundCache;
 ghost use mathlib.Core.Path.{_≡_};
-ghost use Prim.Native.Nat.{_<_};
+ghost use Prim.Native.Nat.{ℕ, _<_};
 ghost use lib.Dec.{eqb};
-ghost use lib.ListN.{length, getD};
+ghost use lib.ListN.{length, getD, replicate};
 ghost use Rattle.lists.specs.Base.{all, count};
 ghost use Rattle.time_cache.specs.Tables.{Lies, rowsAt, rowAt, expiryOf};
 ghost use Rattle.protocol.specs.Alike.{sameBag};
 ghost use Rattle.block.specs.View.{stateOf};
 ghost use Rattle.block.specs.Sound.{Sound};
+ghost use Rattle.alike.specs.Chains.{Linked};
 ghost use Rattle.alike.specs.Elements.{element, sameElement, expiryElement, elementOf, bagOf, InState};
 
 // One of the lists; of the announcers, those of missing message i.
@@ -155,18 +156,44 @@ fn item_at(bag: Bag, h: Head, block: &[u8], i: usize) -> Item
     }
 }
 
-// How often an element stands in a list: one pass over it.
-fn times(bag: Bag, h: Head, block: &[u8], x: Item) -> usize
-    requires { ⌜ Sound h (now block) × InState bag (h .live) ⌝ }
-    ensures { λ r. ⌜ r ≡ count (sameElement (elementOf x)) (bagOf bag (stateOf h (now (block .entry)))) ⌝ }
+// A number of a chain as an index.
+fn wide(x: u16) -> usize
+    ensures { λ r. ⌜ r ≡ x ⌝ }
+{
+    x as usize
+}
+
+// Chains the elements of a list whose identifiers agree in their last ten bits: `head` names the latest of each chain, `next` the one before each
+// element, by one more than its number; 0 names none. One pass over the list.
+fn chain(bag: Bag, h: Head, block: &[u8], head: &mut [u16; 1024], next: &mut [u16; 8192])
+    requires { ⌜ Sound h (now block) × InState bag (h .live) × (now head ≡ replicate {A = ℕ} 1024 0) × (length (now next) ≡ 8192) ⌝ }
+    ensures { λ _. ⌜ Linked (bagOf bag (stateOf h (now (block .entry)))) (now (head .exit)) (now (next .exit)) ⌝ }
 {
     let n = size(bag, h, block);
-    let mut c = 0;
     let mut i = 0;
     while i < n {
-        let y = item_at(bag, h, block, i);
-        let s = same(x, y);
+        let x = item_at(bag, h, block, i);
+        let w = x.id.w3;
+        let k = (w % 1024) as usize;
+        next[i] = head[k];
+        head[k] = ((i + 1) % 65536) as u16;
         i += 1;
+    }
+}
+
+// How often an element stands in a list: a walk along one chain.
+fn times(bag: Bag, h: Head, block: &[u8], head: &[u16; 1024], next: &[u16; 8192], x: Item) -> usize
+    requires { ⌜ Sound h (now block) × InState bag (h .live) × Linked (bagOf bag (stateOf h (now block))) (now head) (now next) ⌝ }
+    ensures { λ r. ⌜ r ≡ count (sameElement (elementOf x)) (bagOf bag (stateOf h (now (block .entry)))) ⌝ }
+{
+    let w = x.id.w3;
+    let k = (w % 1024) as usize;
+    let mut j = wide(head[k]);
+    let mut c = 0;
+    while 0 < j {
+        let y = item_at(bag, h, block, j - 1);
+        let s = same(x, y);
+        j = wide(next[j - 1]);
         if s {
             c += 1;
         }
@@ -175,16 +202,29 @@ fn times(bag: Bag, h: Head, block: &[u8], x: Item) -> usize
 }
 
 // Whether each element of the list of one block stands as often in those of two others.
-fn as_often(bag: Bag, h: Head, block: &[u8], ha: Head, a: &[u8], hb: Head, b: &[u8]) -> bool
+fn as_often(
+    bag: Bag,
+    h: Head,
+    block: &[u8],
+    ha: Head,
+    a: &[u8],
+    head_a: &[u16; 1024],
+    next_a: &[u16; 8192],
+    hb: Head,
+    b: &[u8],
+    head_b: &[u16; 1024],
+    next_b: &[u16; 8192],
+) -> bool
     requires { ⌜ Sound h (now block) × InState bag (h .live) × Sound ha (now a) × InState bag (ha .live) × Sound hb (now b) × InState bag (hb .live) ⌝ }
+    requires { ⌜ Linked (bagOf bag (stateOf ha (now a))) (now «head_a») (now «next_a») × Linked (bagOf bag (stateOf hb (now b))) (now «head_b») (now «next_b») ⌝ }
     ensures { λ r. ⌜ r ≡ all (λ x. eqb (count (sameElement x) (bagOf bag (stateOf ha (now (a .entry))))) (count (sameElement x) (bagOf bag (stateOf hb (now (b .entry)))))) (bagOf bag (stateOf h (now (block .entry)))) ⌝ }
 {
     let n = size(bag, h, block);
     let mut i = 0;
     while i < n {
         let x = item_at(bag, h, block, i);
-        let p = times(bag, ha, a, x);
-        let q = times(bag, hb, b, x);
+        let p = times(bag, ha, a, head_a, next_a, x);
+        let q = times(bag, hb, b, head_b, next_b, x);
         if p != q {
             return false;
         }
@@ -193,14 +233,20 @@ fn as_often(bag: Bag, h: Head, block: &[u8], ha: Head, a: &[u8], hb: Head, b: &[
     true
 }
 
-// Whether the lists of two blocks agree, their order ignored and repeats counted.
+// Whether the lists of two blocks agree, their order ignored and repeats counted. Linear in their length, where few identifiers agree in their last ten bits.
 pub fn same_bag(bag: Bag, ha: Head, a: &[u8], hb: Head, b: &[u8]) -> bool
     requires { ⌜ Sound ha (now a) × InState bag (ha .live) × Sound hb (now b) × InState bag (hb .live) ⌝ }
     ensures { λ r. ⌜ r ≡ sameBag sameElement (bagOf bag (stateOf ha (now (a .entry)))) (bagOf bag (stateOf hb (now (b .entry)))) ⌝ }
 {
-    let first = as_often(bag, ha, a, ha, a, hb, b);
+    let mut head_a = [0u16; 1024];
+    let mut next_a = [0u16; 8192];
+    let mut head_b = [0u16; 1024];
+    let mut next_b = [0u16; 8192];
+    chain(bag, ha, a, &mut head_a, &mut next_a);
+    chain(bag, hb, b, &mut head_b, &mut next_b);
+    let first = as_often(bag, ha, a, ha, a, &head_a, &next_a, hb, b, &head_b, &next_b);
     if !first {
         return false;
     }
-    as_often(bag, hb, b, ha, a, hb, b)
+    as_often(bag, hb, b, ha, a, &head_a, &next_a, hb, b, &head_b, &next_b)
 }

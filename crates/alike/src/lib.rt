@@ -11,7 +11,7 @@ use block::head::Settings;
 use block::header;
 use tables::Table;
 ghost use mathlib.Core.Path.{_≡_};
-ghost use mathlib.Core.Bool.{_&&_, Bool·beq};
+ghost use mathlib.Core.Bool.{_&&_};
 ghost use lib.ListN.{length};
 ghost use Rattle.protocol.specs.Alike.{sameSettings, sameLimits, sameTables, sameCaches, sameFlags, alike, alikeBlocks};
 ghost use Rattle.block.specs.View.{settingsOf, limitsOf, stateOf};

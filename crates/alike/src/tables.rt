@@ -16,7 +16,7 @@ ghost use mathlib.Core.Path.{_≡_};
 ghost use mathlib.Core.Bool.{Bool·beq};
 ghost use Prim.Native.Nat.{_<_};
 ghost use lib.Dec.{eqb};
-ghost use lib.ListN.{length, getD};
+ghost use lib.ListN.{getD};
 ghost use Rattle.rows.specs.Ident.{idOf};
 ghost use Rattle.refs.specs.Refs.{places, Below};
 ghost use Rattle.time_cache.specs.Tables.{Lies, refsAt, rowsAt, rowAt, expiryOf};

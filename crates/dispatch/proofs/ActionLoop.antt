@@ -11,11 +11,9 @@ use lib.Seq.{drop-cons}
 use Rattle.lists.specs.Base.{if_then_else_}
 use Rattle.lists.specs.Map.{keys}
 use Rattle.time_cache.specs.TimeCache.{laterCache}
-use Rattle.postcard.specs.Message.{Action, Ihave}
 use Rattle.protocol.specs.State.{State, Note, withInit, withReceived, withGrafted, withCache}
 use Rattle.protocol.specs.Run.{Room}
-use Rattle.protocol.specs.Ticks.{perMessage, chunks, queuedFor, queuedPeers}
-use Rattle.decide.specs.RecordGrowth.{cachedIn}
+use Rattle.protocol.specs.Ticks.{perMessage, queuedFor, queuedPeers}
 use Rattle.decide.specs.Settled.{settled}
 use Rattle.decide.specs.Pieces.{numbered, peerPieces, pieces, pieceActions}
 use Rattle.decide.specs.ActionsAfter.{dispatchActions}
@@ -31,18 +29,19 @@ use Rattle.dispatch.proofs.LinkPeers.{pieces-among, nothing-queued, que
 use Rattle.dispatch.proofs.SendLaws.{chunk-last, numbered-none}
 
 -- what a first event leaves as it is
-record Same (s t : State) : Type 0 where
-  settings : t .settings ≡ s .settings
-  queue : t .queue ≡ s .queue
-  flag : t .announceScheduled ≡ s .announceScheduled
+pub record Same (s t : State) : Type 0 where
+  pub settings : t .settings ≡ s .settings
+  pub queue : t .queue ≡ s .queue
+  pub dropped : t .dropped ≡ s .dropped
+  pub flag : t .announceScheduled ≡ s .announceScheduled
 
-settled-same : (now : ℕ) (s : State) → Same s (settled now s)
+pub settled-same : (now : ℕ) (s : State) → Same s (settled now s)
 unfolding settled
 settled-same now s = on (s .init)
   where
     on : (b : Bool) → Same s (if b then s else withInit true (withGrafted (laterCache now (s .grafted)) (withReceived (laterCache now (s .received)) (withCache (laterCache now (s .cache)) s))))
-    on true = record { settings = refl; queue = refl; flag = refl }
-    on false = record { settings = refl; queue = refl; flag = refl }
+    on true = record { settings = refl; queue = refl; dropped = refl; flag = refl }
+    on false = record { settings = refl; queue = refl; dropped = refl; flag = refl }
 
 settled-actions : (now : ℕ) (rooms : List Room) (s : State)
     → dispatchActions rooms (settled now s) ≡ pieceActions (heldThen now s) rooms (s .announceScheduled) (pieces (queuedPeers (s .queue)) (perMessage (s .settings .maxMessageSize)) (s .queue))

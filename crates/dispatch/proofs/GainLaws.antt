@@ -1,20 +1,18 @@
 -- How many identifiers are added, one after the other, and link by link.
 -- Assumes nothing.
-use mathlib.Core.Path.{_≡_, refl, sym, ap, _∙_}
+use mathlib.Core.Path.{_≡_, refl, ap, _∙_}
 use mathlib.Core.Bool.{Bool, true, false, not, _&&_, _||_}
 use mathlib.Core.List.{List, [], _∷_, _++_, map, map-append}
 use Prim.Native.Nat.{ℕ, suc, _+_, _-_, _≤_, _<_, min}
 use native.Mathlib.Numerals.{add-one}
 use native.Mathlib.Omega.{arith}
 use lib.Dec.{eqb}
-use lib.ListN.{length, take, drop, getD}
-use lib.Seq.{take-suc, take-all}
+use lib.ListN.{length, take, getD}
+use lib.Seq.{take-suc}
 use Rattle.lists.specs.Base.{if_then_else_, any, count, member, once}
-use Rattle.lists.specs.Map.{keys}
-use Rattle.lists.proofs.MapLaws.{cases}
 use Rattle.lists.proofs.KeyLaws.{eqb-sym}
 use Rattle.postcard.specs.Message.{Ihave}
-use Rattle.protocol.specs.State.{State, Note}
+use Rattle.protocol.specs.State.{Note}
 use Rattle.protocol.specs.Push.{forPeer, notes}
 use Rattle.decide.specs.RecordGrowth.{Batch, addBatches, eligible, peerGain, gains}
 use Rattle.decide.proofs.RecordGrowthLaws.{gains-now}
@@ -105,6 +103,18 @@ module _ (held : ℕ → Bool) (ds : List Note) where
 
       order : (x y z : ℕ) → y + (x + z) ≡ (x + y) + z
       order x y z = omega arith
+
+  -- the record stays within 4,096
+  pub gains-small : (extra : ℕ) (bs : List Batch) → length ds + extra ≤ 4096 → length ds + (gains held ds extra bs + extra) ≤ 4096
+  unfolding gains
+  gains-small extra [] w = omega arith
+  gains-small extra (b ∷ bs) w =
+      let g : ℕ = peerGain held (b .peer) ds extra (b .ihaves) in
+      let a : length ds + (g + extra) ≤ 4096 = omega (arith, gain-small held (b .peer) ds extra (b .ihaves) w) in
+      plain g (gains held ds (g + extra) bs) extra (length ds) (gains-small (g + extra) bs a)
+    where
+      plain : (g r e n : ℕ) → n + (r + (g + e)) ≤ 4096 → n + ((g + r) + e) ≤ 4096
+      plain g r e n h = omega arith
 
   pub gains-none : gains held ds 0 [] ≡ 0
   unfolding gains

@@ -1,11 +1,11 @@
 -- The links one after the other: how much the record grows by the first i.
 -- Assumes nothing.
 use mathlib.Core.Path.{_≡_, refl, sym, ap, _∙_}
-use mathlib.Core.Bool.{Bool, true}
+use mathlib.Core.Bool.{Bool}
 use mathlib.Core.List.{List, [], _∷_, map}
 use Prim.Native.Nat.{ℕ, _+_, _≤_, _<_}
 use native.Mathlib.Omega.{arith}
-use lib.ListN.{length, take}
+use lib.ListN.{take}
 use lib.Seq.{take-all}
 use Rattle.lists.specs.Base.{once}
 use Rattle.lists.specs.Map.{keys}

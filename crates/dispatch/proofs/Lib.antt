@@ -8,3 +8,5 @@ pub mod GainLaws
 pub mod GainLoop
 pub mod SendLaws
 pub mod ActionLoop
+pub mod MarkLaws
+pub mod SizesLaws

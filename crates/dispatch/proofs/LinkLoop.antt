@@ -1,7 +1,7 @@
 -- The links one after the other: the record after the first i, and at the end that of `on_dispatch_timer`.
 -- Assumes nothing.
 use mathlib.Core.Path.{_≡_, refl, sym, ap, _∙_}
-use mathlib.Core.Bool.{Bool, true, false, _&&_}
+use mathlib.Core.Bool.{Bool, true, false}
 use mathlib.Core.List.{List, [], _∷_, _++_, map, map-append}
 use mathlib.Core.Option.{Option, none, some}
 use Prim.Native.Nat.{ℕ, _+_, _*_, _≤_, _<_}
@@ -10,13 +10,12 @@ use native.Mathlib.Numerals.{add-one}
 use native.Mathlib.Omega.{arith}
 use borrow.Author.Tests.{leb-true, lt-ltb}
 use lib.Dec.{leb, ltb}
-use lib.ListN.{length, take, drop, getD, take-append-drop, drop-of-length-le, length-map}
+use lib.ListN.{length, take, drop, getD, take-append-drop, drop-of-length-le}
 use lib.Seq.{take-suc, take-all, drop-nil}
-use Rattle.lists.specs.Base.{if_then_else_, isEmpty}
 use Rattle.lists.specs.Map.{keys}
 use Rattle.lists.proofs.MapLaws.{cases, and-left, and-right}
 use Rattle.postcard.specs.Message.{Ihave}
-use Rattle.protocol.specs.State.{State, Note, sizeInRange, withQueue, withDropped, withAnnounceScheduled, withDispatchScheduled}
+use Rattle.protocol.specs.State.{State, Note, sizeInRange, withQueue, withDispatchScheduled}
 use Rattle.protocol.specs.Run.{Room}
 use Rattle.protocol.specs.Whole.{fits}
 use Rattle.protocol.specs.Ticks.{perMessage, queuedFor, queuedPeers}

@@ -1,7 +1,7 @@
 -- One pass over the queue for one link: the record after the first i entries.
 -- Assumes nothing.
-use mathlib.Core.Path.{_≡_, refl, sym, ap, _∙_}
-use mathlib.Core.Bool.{Bool, true, false}
+use mathlib.Core.Path.{_≡_, sym, ap, _∙_}
+use mathlib.Core.Bool.{true, false}
 use mathlib.Core.List.{List, [], _∷_, _++_}
 use Prim.Native.Nat.{ℕ, _+_, _≤_, _<_}
 use native.Mathlib.Omega.{arith}
@@ -26,7 +26,7 @@ use Rattle.block.proofs.NoteLaws.{count-queue}
 use Rattle.pushes.specs.Noted.{noted, notedState}
 use Rattle.dispatch.specs.HandedBack.{Ready, linkNoted, linkNotedState}
 use Rattle.dispatch.proofs.QueueLaws.{ihaveOf, queued-more, queued-same, queued-none, queued-few, queued-append, drop-late, drop-early, notes-append, notes-one, notes-none, part-fewer, link-for, link-not}
-use Rattle.dispatch.proofs.RecordSteps.{recorded-again, recorded-still, same-queue, same-peers, same-links, same-room, same-queued, ready-after}
+use Rattle.dispatch.proofs.RecordSteps.{recorded-again, recorded-still, same-links, same-room, same-queued, ready-after}
 
 module _ (l skip : ℕ) (h : Head) (xs : List ℕ) where
   abbrev pub s : State
@@ -56,6 +56,18 @@ module _ (l skip : ℕ) (h : Head) (xs : List ℕ) where
   pass-start r =
       let e : after 0 ≡ s .dropped = ap (λ (hs : List Ihave). addNotes (cachedIn (s .cache)) p hs (s .dropped)) (ap (drop skip) heard-none ∙ drop-nil skip) ∙ notes-none (cachedIn (s .cache)) p (s .dropped) in
       record { state = sym (ap (λ (ds : List Note). recordedState ds s) e ∙ recorded-still s (r .flagged)); sound = r .sound }
+
+  pub after-none : after 0 ≡ s .dropped
+  after-none = ap (λ (hs : List Ihave). addNotes (cachedIn (s .cache)) p hs (s .dropped)) (ap (drop skip) heard-none ∙ drop-nil skip) ∙ notes-none (cachedIn (s .cache)) p (s .dropped)
+
+  -- the record is that of the first i entries
+  pub now-dropped : (i : ℕ) (g : Head) (ys : List ℕ) → Sofar i g ys → stateOf g ys .dropped ≡ after i
+  unfolding recordedState
+  now-dropped i g ys so = ap (λ (t : State). t .dropped) (so .state)
+
+  pub now-peer : (i : ℕ) (g : Head) (ys : List ℕ) → Sofar i g ys → peerAt (stateOf g ys) l ≡ p
+  unfolding recordedState
+  now-peer i g ys so = ap (λ (t : State). peerAt t l) (so .state)
 
   pub heard-few : (i : ℕ) → i ≤ h .live .queued → Ready h xs → length (heard i) ≤ i
   heard-few i q r = omega (arith, queued-few p (take i (s .queue)), length-take-le i (s .queue) (omega (arith, count-queue h xs (r .sound))))
@@ -98,12 +110,18 @@ module _ (l skip : ℕ) (h : Head) (xs : List ℕ) where
       sound = so .sound;
     }
 
+    pub after-other : forPeer p here ≡ false → after (i + 1) ≡ after i
+    after-other e = ap (λ (hs : List Ihave). addNotes (cachedIn (s .cache)) p (drop skip hs) (s .dropped)) (pass-other e)
+
     module _ (mine : forPeer p here ≡ true) where
       heard-more : heard (i + 1) ≡ heard i ++ (ihaveOf here ∷ [])
       heard-more = queued-more p (s .queue) i within mine
 
       pub count-mine : (n : ℕ) → n ≡ length (heard i) → n + 1 ≡ length (heard (i + 1))
       count-mine n m = omega (arith, ap length heard-more, length-append (heard i) (ihaveOf here ∷ []))
+
+      pub after-early : length (heard i) < skip → after (i + 1) ≡ after i
+      after-early w = ap (λ (hs : List Ihave). addNotes (cachedIn (s .cache)) p hs (s .dropped)) (ap (drop skip) heard-more ∙ drop-early skip (heard i) (ihaveOf here) w)
 
       -- one of the first
       pub pass-early : length (heard i) < skip → Sofar (i + 1) g ys
@@ -117,7 +135,7 @@ module _ (l skip : ℕ) (h : Head) (xs : List ℕ) where
         abbrev it : Ihave
         it = record { id = idOf (x .id); round = x .round .0 }
 
-        after-more : after (i + 1) ≡ addNote (cachedIn (s .cache)) p it (after i)
+        pub after-more : after (i + 1) ≡ addNote (cachedIn (s .cache)) p it (after i)
         after-more =
             ap (λ (hs : List Ihave). addNotes (cachedIn (s .cache)) p hs (s .dropped)) (ap (drop skip) heard-more ∙ drop-late skip (heard i) (ihaveOf here) w)
             ∙ notes-append (cachedIn (s .cache)) p (drop skip (heard i)) (ihaveOf here ∷ []) (s .dropped)

@@ -1,26 +1,24 @@
 -- The peers for whom something is queued are among the links: noting link by link is noting peer by peer.
 -- Assumes nothing.
 use mathlib.Core.Path.{_≡_, refl, sym, ap, _∙_}
-use mathlib.Core.Bool.{Bool, true, false, _&&_, _||_}
+use mathlib.Core.Bool.{Bool, true, false, _||_}
 use mathlib.Core.List.{List, [], _∷_, _++_, map}
-use Prim.Native.Nat.{ℕ, _+_, _≤_, _<_}
+use Prim.Native.Nat.{ℕ, _<_}
 use native.Mathlib.Omega.{arith}
 use borrow.Author.Tests.{ltb-true, eqb-true, eqb-false, eq-eqb, ne-eqb}
 use lib.Dec.{ltb, eqb}
-use lib.ListN.{length}
-use Rattle.lists.specs.Base.{if_then_else_, filter, all, member, ascending}
+use Rattle.lists.specs.Base.{filter, all, member, ascending}
 use Rattle.lists.specs.Map.{keys, insertKey}
 use Rattle.lists.proofs.MapLaws.{cases, true≢, and-left, and-right, all-head, all-tail}
 use Rattle.lists.proofs.Lists.{or-left, or-right}
 use Rattle.postcard.specs.Message.{Ihave}
 use Rattle.protocol.specs.Links.{Links, isNeighbour}
-use Rattle.protocol.specs.State.{State, Note}
-use Rattle.protocol.specs.Push.{forPeer}
+use Rattle.protocol.specs.State.{Note}
 use Rattle.protocol.specs.Ticks.{queuedFor, queuedPeers}
 use Rattle.protocol.proofs.Consistent.{byNeighbour}
 use Rattle.decide.specs.RecordGrowth.{Batch, addNotes, addBatches}
 use Rattle.decide.specs.Pieces.{Piece, peerPieces, pieces}
-use Rattle.decide.proofs.Dispatch.{queued-near, queued-ascending}
+use Rattle.decide.proofs.Dispatch.{queued-near}
 use Rattle.steps.proofs.RoomsLaws.{has-member}
 use Rattle.dispatch.proofs.QueueLaws.{notes-none}
 

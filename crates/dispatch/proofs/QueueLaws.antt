@@ -6,17 +6,17 @@ use mathlib.Core.List.{List, [], _∷_, _++_, map, map-append, append-nil}
 use Prim.Native.Nat.{ℕ, _+_, _≤_, _<_}
 use native.Mathlib.Omega.{arith}
 use borrow.Author.Tests.{leb-true, leb-false, eq-eqb, ne-eqb}
-use lib.Dec.{leb, eqb}
-use lib.ListN.{length, take, drop, getD, length-append, length-map, take-append-drop, drop-of-length-le}
-use lib.Seq.{drop-append-le, drop-nil}
-use Rattle.lists.specs.Base.{if_then_else_, isEmpty, filter, any}
+use lib.Dec.{leb}
+use lib.ListN.{length, take, drop, getD, length-append, length-map, drop-of-length-le}
+use lib.Seq.{drop-append-le}
+use Rattle.lists.specs.Base.{if_then_else_, filter, any}
 use Rattle.lists.specs.Map.{keys}
 use Rattle.lists.proofs.MapLaws.{cases}
 use Rattle.lists.proofs.ListLaws.{length-filter, count-length}
 use Rattle.refs.proofs.Left.{filter-more}
 use Rattle.time_cache.proofs.Orders.{up-of}
 use Rattle.postcard.specs.Message.{Ihave}
-use Rattle.protocol.specs.State.{State, Note}
+use Rattle.protocol.specs.State.{Note}
 use Rattle.protocol.specs.Push.{forPeer, notes, recordFull}
 use Rattle.protocol.specs.Ticks.{queuedFor}
 use Rattle.decide.specs.RecordGrowth.{addNote, addNotes}

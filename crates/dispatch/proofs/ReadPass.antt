@@ -1,7 +1,7 @@
 -- One pass over the queue for one link, that only reads.
 -- Assumes nothing.
 use mathlib.Core.Path.{_≡_, refl, sym, ap, _∙_}
-use mathlib.Core.Bool.{Bool, true, false, not, _&&_}
+use mathlib.Core.Bool.{true, false}
 use mathlib.Core.List.{List, [], _∷_, _++_}
 use Prim.Native.Nat.{ℕ, _+_, _-_, _≤_, _<_}
 use native.Mathlib.Omega.{arith}
@@ -13,7 +13,7 @@ use borrow.Author.Tests.{leb-true, leb-false}
 use lib.Dec.{leb}
 use Rattle.lists.specs.Base.{any}
 use Rattle.lists.proofs.MapLaws.{cases, true≢}
-use Rattle.lists.proofs.Lists.{any-append, any-left, any-right, any-one, any-none}
+use Rattle.lists.proofs.Lists.{any-left, any-right, any-one, any-none}
 use Rattle.rows.specs.Ident.{idOf}
 use Rattle.postcard.specs.Message.{Ihave}
 use Rattle.protocol.specs.State.{State, Note}

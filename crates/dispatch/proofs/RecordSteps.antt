@@ -3,19 +3,20 @@
 use mathlib.Core.Path.{_≡_, refl, sym, ap, _∙_, subst}
 use mathlib.Core.Bool.{Bool, true, false, not, _&&_, _||_}
 use mathlib.Core.List.{List, [], _∷_, _++_}
-use Prim.Native.Nat.{ℕ, _+_, _≤_, _<_}
+use Prim.Native.Nat.{ℕ, _≤_, _<_}
 use native.Mathlib.Omega.{arith}
 use lib.ListN.{length}
-use Rattle.lists.specs.Base.{if_then_else_, isEmpty, any, ascending}
+use borrow.Author.Tests.{le-leb}
+use lib.Dec.{leb}
+use Rattle.lists.specs.Base.{if_then_else_, isEmpty, any, count, ascending}
 use Rattle.lists.specs.Map.{keys}
 use Rattle.time_cache.specs.TimeCache.{holds}
 use Rattle.protocol.specs.State.{State, Note, withDropped, withAnnounceScheduled}
-use Rattle.protocol.specs.Push.{notes, recordFull}
+use Rattle.protocol.specs.Push.{forPeer, notes, recordFull}
 use Rattle.protocol.proofs.RecordBounds.{Flagged}
-use Rattle.postcard.specs.Message.{Ihave}
-use Rattle.decide.specs.RecordGrowth.{cachedIn, addNote}
+use Rattle.decide.specs.RecordGrowth.{addNote}
 use Rattle.decide.specs.StateAfter.{recordedState}
-use Rattle.decide.proofs.StateLaws.{flag-stands, notes-empty}
+use Rattle.decide.proofs.StateLaws.{flag-stands}
 use Rattle.block.specs.View.{stateOf}
 use Rattle.block.specs.Goes.{Goes}
 use Rattle.block.specs.LinkSteps.{peerAt}
@@ -90,6 +91,29 @@ not-cached l id round h xs r e = record {
     stays : (b : Bool) → (if not b && holds id (stateOf h xs .cache) && not (any (notes (peerAt (stateOf h xs) l) id) (stateOf h xs .dropped)) then stateOf h xs .dropped ++ (note (peerAt (stateOf h xs) l) id round ∷ []) else stateOf h xs .dropped) ≡ stateOf h xs .dropped
     stays true = refl
     stays false = rw e refl
+
+-- a full record stays as it is
+pub full-still : (l id round : ℕ) (h : Head) (xs : List ℕ) → Ready h xs → recordFull (peerAt (stateOf h xs) l) (stateOf h xs .dropped) ≡ true → Goes (notedState l id round) h xs h xs
+unfolding notedState addNote
+full-still l id round h xs r e = record {
+  state = sym (ap (λ (ds : List Note). recordedState ds (stateOf h xs)) stays ∙ recorded-still (stateOf h xs) (r .flagged));
+  sound = r .sound;
+}
+  where
+    stays : (if not (recordFull (peerAt (stateOf h xs) l) (stateOf h xs .dropped)) && holds id (stateOf h xs .cache) && not (any (notes (peerAt (stateOf h xs) l) id) (stateOf h xs .dropped)) then stateOf h xs .dropped ++ (note (peerAt (stateOf h xs) l) id round ∷ []) else stateOf h xs .dropped) ≡ stateOf h xs .dropped
+    stays = rw e refl
+
+pub full-own : (p own : ℕ) (ds : List Note) → own ≡ count (forPeer p) ds → 256 ≤ own → recordFull p ds ≡ true
+unfolding recordFull
+full-own p own ds e w = ap (λ (b : Bool). b || leb 4096 (length ds)) (le-leb 256 (count (forPeer p) ds) (omega arith))
+
+pub full-all : (p total : ℕ) (ds : List Note) → total ≡ length ds → 4096 ≤ total → recordFull p ds ≡ true
+unfolding recordFull
+full-all p total ds e w = ap (λ (b : Bool). leb 256 (count (forPeer p) ds) || b) (le-leb 4096 (length ds) (omega arith)) ∙ or-true (leb 256 (count (forPeer p) ds))
+  where
+    or-true : (b : Bool) → (b || true) ≡ true
+    or-true true = refl
+    or-true false = refl
 
 -- what is cached may be noted
 pub may-note : (l id round : ℕ) (h : Head) (xs : List ℕ) → Ready h xs → l < h .live .links → length (noted l id round (stateOf h xs)) ≤ h .limits .dropped → holds id (stateOf h xs .cache) ≡ true → Notes h xs l id round

@@ -1,7 +1,7 @@
 -- How much the record grows in a dispatch.
 -- Assumes nothing.
 use Prim.Native.Nat.{ℕ}
-use mathlib.Core.Bool.{Bool, not, _&&_}
+use mathlib.Core.Bool.{Bool, not, _&&_, _||_}
 use mathlib.Core.List.{List}
 use lib.Dec.{eqb}
 use lib.ListN.{take, drop}
@@ -22,6 +22,10 @@ handedTo l skip i s = drop skip (queuedFor (peerAt s l) (take i (s .queue)))
 -- is the identifier among these?
 abbrev pub among : ℕ → List Ihave → Bool
 among id hs = any (λ h. eqb (h .id) id) hs
+
+-- is the identifier recorded for the peer of the link, or handed back for it before entry i of the queue?
+abbrev pub known : ℕ → ℕ → ℕ → State → ℕ → Bool
+known l skip i s id = any (notes (peerAt s l) id) (s .dropped) || among id (handedTo l skip i s)
 
 -- is the identifier cached, not recorded for the peer, and not among those handed back before?
 abbrev pub fresh : (ℕ → Bool) → ℕ → List Note → List Ihave → ℕ → Bool

@@ -1,3 +1,4 @@
 pub mod HandedBack
 pub mod Gains
 pub mod Sends
+pub mod Marks

@@ -1,11 +1,14 @@
 // How much the record grows in a dispatch, read from the block as it stands before a first event evicts: question 13 asks it.
+use crate::marks;
 use block::head::Head;
 use block::note;
 use postcard::size;
 use postcard::units::Millis;
 use rows::id;
 use rows::id::Id;
+use steps::Sizes;
 ghost use mathlib.Core.Path.{_≡_};
+ghost use mathlib.Core.Bool.{false};
 ghost use mathlib.Core.List.{[]};
 ghost use Prim.Native.Nat.{_+_, _≤_, _<_, min};
 ghost use lib.ListN.{drop};
@@ -13,11 +16,13 @@ ghost use Rattle.rows.specs.Ident.{idOf};
 ghost use Rattle.protocol.specs.Ticks.{queuedFor};
 ghost use Rattle.decide.specs.RecordGrowth.{cachedIn, eligible, peerGain};
 ghost use Rattle.decide.specs.Settled.{settled};
+ghost use Rattle.decide.specs.SizesAfter.{dispatchSizes};
 ghost use Rattle.block.specs.View.{stateOf};
 ghost use Rattle.block.specs.LinkSteps.{peerAt};
 ghost use Rattle.steps.specs.Rooms.{roomsIn};
+ghost use Rattle.steps.specs.Shared.{sizesValue};
 ghost use Rattle.steps.specs.Stands.{Stands};
-ghost use Rattle.dispatch.specs.Gains.{handedTo, among, fresh, dispatchGains};
+ghost use Rattle.dispatch.specs.Gains.{handedTo, among, known, fresh, dispatchGains};
 
 // The smaller of two numbers.
 pub fn min(a: usize, b: usize) -> usize
@@ -56,7 +61,8 @@ fn is_again(h: Head, block: &[u8], link: usize, skip: usize, end: usize, id: Id)
 }
 
 // Whether an identifier that is handed back with entry `end` of the queue would be added, were there room for all: "each identifier in the cache and not already
-// there". Its time is that of a look-up in the message cache and, where it is cached, of a pass over the record's and the queue's column of link numbers.
+// there". Where `mark` is clear, it is neither recorded for the link nor handed back before. Its time is that of a look-up in the message cache and, where it is
+// cached and the mark is set, of a pass over the record's and the queue's column of link numbers.
 fn is_fresh(
     h: Head,
     block: &[u8],
@@ -64,13 +70,17 @@ fn is_fresh(
     link: usize,
     skip: usize,
     end: usize,
+    mark: u8,
     id: Id,
 ) -> bool
-    requires { ⌜ Stands h (now block) × (link < h .live .links) × (end ≤ h .live .queued) ⌝ }
+    requires { ⌜ Stands h (now block) × (link < h .live .links) × (end ≤ h .live .queued) × (mark ≡ 0 → known link skip end (stateOf h (now block)) (idOf id) ≡ false) ⌝ }
     ensures { λ r. ⌜ r ≡ fresh (cachedIn (settled (instant .0) (stateOf h (now (block .entry))) .cache)) (peerAt (stateOf h (now (block .entry))) link) (stateOf h (now (block .entry)) .dropped) (handedTo link skip end (stateOf h (now (block .entry)))) (idOf id) ⌝ }
 {
     let held = settled::is_cached_then(h, block, instant, id);
     if held {
+        if mark == 0 {
+            return true;
+        }
         let scan = note::scan_dropped(h, block, link, id);
         if scan.noted {
             return false;
@@ -84,12 +94,13 @@ fn is_fresh(
     false
 }
 
-// How many identifiers would be added for one link, were there room for all. Its time is that of one pass over the queue's column of link numbers, and of
-// `is_fresh` for each that is handed back.
+// How many identifiers would be added for one link, were there room for all. Its time is that of one pass over the record's and the queue's column of link numbers,
+// and of `is_fresh` for each that is handed back.
 fn count_fresh(h: Head, block: &[u8], instant: Millis, link: usize, skip: usize) -> usize
     requires { ⌜ Stands h (now block) × (link < h .live .links) ⌝ }
     ensures { λ r. ⌜ r ≡ eligible (cachedIn (settled (instant .0) (stateOf h (now (block .entry))) .cache)) (peerAt (stateOf h (now (block .entry))) link) (stateOf h (now (block .entry)) .dropped) [] (drop skip (queuedFor (peerAt (stateOf h (now (block .entry))) link) (stateOf h (now (block .entry)) .queue))) ⌝ }
 {
+    let mut marks = marks::mark_link(h, block, link);
     let n = h.live.queued;
     let mut found = 0;
     let mut seen = 0;
@@ -103,7 +114,10 @@ fn count_fresh(h: Head, block: &[u8], instant: Millis, link: usize, skip: usize)
             seen += 1;
             if skip <= before {
                 let q = note::queued_at(h, block, j);
-                let new = is_fresh(h, block, instant, link, skip, j, q.id);
+                let m = marks::low(q.id);
+                let mark = marks[m];
+                marks[m] = 1;
+                let new = is_fresh(h, block, instant, link, skip, j, mark, q.id);
                 if new {
                     found += 1;
                 }
@@ -158,4 +172,19 @@ pub fn dispatch_gains(h: Head, block: &[u8], instant: Millis, rooms: &[u64; 34])
         }
     }
     extra
+}
+
+// The numbers of entries after a dispatch: the queue is empty, and the record has grown.
+pub fn dispatch_sizes(h: Head, block: &[u8], instant: Millis, rooms: &[u64; 34]) -> Sizes
+    requires { ⌜ Stands h (now block) ⌝ }
+    ensures { λ r. ⌜ sizesValue r ≡ dispatchSizes (roomsIn (stateOf h (now (block .entry))) (now (rooms .entry))) (settled (instant .0) (stateOf h (now (block .entry)))) ⌝ }
+{
+    let z = settled::sizes_then(h, block, instant);
+    let gain = dispatch_gains(h, block, instant, rooms);
+    let dropped = h.live.dropped + gain;
+    Sizes {
+        queued: 0,
+        dropped,
+        ..z
+    }
 }

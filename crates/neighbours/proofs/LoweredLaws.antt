@@ -1,5 +1,4 @@
--- Link numbers after a link went: those that are left stand for the same peers, and those that went are the numbers of the peer. One law for numbers
--- with rows beside them, whatever is read from them.
+-- Link numbers after a link went: those that are left stand for the same peers; what is read from numbers with rows beside them goes by the pairs of both.
 -- Assumes nothing.
 use mathlib.Core.Path.{_≡_, refl, ap, _∙_}
 use mathlib.Core.Logic.{_⊎_, inl, inr}

@@ -9,13 +9,11 @@ ghost use mathlib.Core.Path.{_≡_};
 ghost use mathlib.Core.List.{map};
 ghost use Prim.Native.Nat.{_+_, _-_, _*_, _≤_, _<_};
 ghost use lib.ListN.{length, getD};
-ghost use Rattle.lists.specs.Base.{ascending, filter};
-ghost use Rattle.lists.specs.Map.{keys};
+ghost use Rattle.lists.specs.Base.{filter};
 ghost use Rattle.rows.specs.Part.{part};
-ghost use Rattle.block.specs.View.{stateOf};
 ghost use Rattle.block.specs.Sound.{Sound};
 ghost use Rattle.block.specs.LinkSteps.{LinksAscend};
-ghost use Rattle.neighbours.specs.Lowered.{Listed, listedOf, listed, lowerListed, announced, AllFew, LoweredIn, MissedIn, NotesIn, LoweredLinks};
+ghost use Rattle.neighbours.specs.Lowered.{listedOf, listed, lowerListed, announced, AllFew, LoweredIn, MissedIn, NotesIn, LoweredLinks};
 
 // The list of link numbers and rounds in 97 bytes, after link i went.
 pub fn drop_in_list(list: &mut [u8], i: usize)

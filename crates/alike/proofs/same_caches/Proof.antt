@@ -2,10 +2,9 @@
 -- Assumes nothing.
 use mathlib.Core.Path.{sym, _∙_}
 use mathlib.Core.List.{[], _∷_}
-use Rattle.whole.proofs.Tests.{no, yes}
+use Rattle.whole.proofs.Tests.{no, yes, stops, ends, from-each}
 use Rattle.block.specs.View.{stateOf}
 use Rattle.protocol.specs.Alike.{sameBag, sameMap, sameExpiry, sameCache, sameUnit, sameGrafts, sameCached, sameCaches}
-use Rattle.whole.proofs.Tests.{stops, ends, from-each}
 use Rattle.alike.proofs.Lists.{bag-expiry}
 use Rattle.alike.specs.Rows.{sameTimed}
 use Rattle.alike.proofs.Answers.{six}

@@ -3,10 +3,9 @@
 use mathlib.Core.Path.{sym, _∙_}
 use mathlib.Core.Bool.{_&&_}
 use mathlib.Core.List.{[], _∷_}
-use Rattle.whole.proofs.Tests.{no, yes}
+use Rattle.whole.proofs.Tests.{no, yes, stops}
 use Rattle.block.specs.View.{stateOf}
 use Rattle.protocol.specs.Alike.{sameSettings, sameLimits, sameTables, sameCaches, sameFlags, alike}
-use Rattle.whole.proofs.Tests.{stops}
 use Rattle.alike.proofs.Lists.{and-yes}
 use borrow.Author.Needs.{needs}
 use Rattle.alike.proofs.same_states.Statement.{statement}

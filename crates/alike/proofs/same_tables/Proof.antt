@@ -3,10 +3,9 @@
 use mathlib.Core.Path.{sym, _∙_}
 use mathlib.Core.List.{[], _∷_}
 use lib.Dec.{eqb}
-use Rattle.whole.proofs.Tests.{no, yes}
+use Rattle.whole.proofs.Tests.{no, yes, stops, ends, from-each}
 use Rattle.block.specs.View.{stateOf}
 use Rattle.protocol.specs.Alike.{sameList, sameBag, sameMap, sameMark, sameHop, sameNote, sameTables}
-use Rattle.whole.proofs.Tests.{stops, ends, from-each}
 use Rattle.alike.proofs.Lists.{bag-notes}
 use Rattle.alike.proofs.same_tables.Statement.{statement}
 use Rattle.alike.proofs.same_tables.Tie as tie

@@ -3,8 +3,8 @@
 use Prim.Native.Nat.{ℕ, _≤_, _-_, _<_, _*_}
 use native.Mathlib.Omega.{arith}
 use borrow.Author.Needs.{needs}
-use mathlib.Core.List.{List, []}
-use mathlib.Core.Path.{_≡_, refl, sym, ap, _∙_, subst}
+use mathlib.Core.List.{List}
+use mathlib.Core.Path.{_≡_, refl, sym, subst}
 use lib.ListN.{length, drop, getD}
 use Rattle.protocol.specs.Ticks.{perMessage, queuedFor}
 use Rattle.block.specs.View.{stateOf}

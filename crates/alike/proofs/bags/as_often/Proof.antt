@@ -19,10 +19,10 @@ use Rattle.alike.proofs.bags.as_often.Statement.{statement}
 use Rattle.alike.proofs.bags.as_often.Tie as tie
 
 abbrev Inv-loop : tie.InvT-loop
-Inv-loop bag h block ha a hb b n i₀ i = (i ≤ n) × ((k : ℕ) → k < i → eqb (count (sameElement (getD (bagOf bag (stateOf h block)) k (element 0 0 0))) (bagOf bag (stateOf ha a))) (count (sameElement (getD (bagOf bag (stateOf h block)) k (element 0 0 0))) (bagOf bag (stateOf hb b))) ≡ true)
+Inv-loop bag h block ha a head-a next-a hb b head-b next-b n i₀ i = (i ≤ n) × ((k : ℕ) → k < i → eqb (count (sameElement (getD (bagOf bag (stateOf h block)) k (element 0 0 0))) (bagOf bag (stateOf ha a))) (count (sameElement (getD (bagOf bag (stateOf h block)) k (element 0 0 0))) (bagOf bag (stateOf hb b))) ≡ true)
 
 abbrev μ-loop : tie.MeasureT-loop
-μ-loop bag h block ha a hb b n i₀ i = n - i
+μ-loop bag h block ha a head-a next-a hb b head-b next-b n i₀ i = n - i
 
 -- element i, and what was told of it
 module _ (d : tie.After-times2 Inv-loop μ-loop) where
@@ -53,19 +53,19 @@ module _ (d : tie.After-times2 Inv-loop μ-loop) where
       sym (λ k. eqb ((d .before .times .ensures ∙ ap (λ (x : Element). count (sameElement x) A) e) k) ((d .times2 .ensures ∙ ap (λ (x : Element). count (sameElement x) B) e) k))
 
 size-requires : tie.Need-size-requires Inv-loop μ-loop
-size-requires c κs = let s = c .before .before .before in (s .pre .0, s .pre .1)
+size-requires c κs = let s = c .before .before .before in (s .pre .0 .0, s .pre .0 .1)
 
 loop-holds : tie.Need-loop-holds Inv-loop μ-loop
 loop-holds c = (search needs, λ k h. absurd (omega (arith, h)))
 
 item-at-requires : tie.Need-item-at-requires Inv-loop μ-loop
-item-at-requires c κs = let s = c .before .before .before .before .before .before in (s .pre .0, s .pre .1, omega (arith, c .loop-test .taken, c .before .before .size .ensures))
+item-at-requires c κs = let s = c .before .before .before .before .before .before in (s .pre .0 .0, s .pre .0 .1, omega (arith, c .loop-test .taken, c .before .before .size .ensures))
 
 times-requires : tie.Need-times-requires Inv-loop μ-loop
-times-requires c κs = let s = c .before .before .before .before .before .before .before in (s .pre .2, s .pre .3)
+times-requires c κs = let s = c .before .before .before .before .before .before .before in (s .pre .0 .2, s .pre .0 .3, s .pre .1 .0)
 
 times-requires-2 : tie.Need-times-requires-2 Inv-loop μ-loop
-times-requires-2 c κs = let s = c .before .before .before .before .before .before .before .before in (s .pre .4, s .pre .5)
+times-requires-2 c κs = let s = c .before .before .before .before .before .before .before .before in (s .pre .0 .4, s .pre .0 .5, s .pre .1 .1)
 
 returns : tie.Need-returns Inv-loop μ-loop
 returns c =

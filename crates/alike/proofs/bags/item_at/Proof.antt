@@ -6,7 +6,7 @@ use Prim.Native.Nat.{ℕ, _<_}
 use lib.Dec.{lit<}
 use lib.ListN.{length, getD, length-map}
 use Rattle.alike.specs.Elements.{element, expiryElement, bagOf, InState}
-use Rattle.block.specs.View.{stateOf, limitsOf}
+use Rattle.block.specs.View.{stateOf, limitsOf, receivedIn, graftedIn, cachedIn, nothingOf, graftsOf, cachedOf}
 use Rattle.block.specs.declared.head.Head.{Head}
 use Rattle.caches.proofs.ReceivedLaws.{received-lies, count-received-rows}
 use Rattle.caches.proofs.GraftedLaws.{grafted-lies, count-grafted-rows}
@@ -18,7 +18,6 @@ use Rattle.time_cache.specs.Tables.{Lies, rowsAt, rowAt, expiryOf}
 use Rattle.time_cache.specs.declared.cache.TimeBoundCache.{TimeBoundCache}
 use Rattle.block.specs.Layout.{table}
 use Rattle.block.specs.Fit.{Fit}
-use Rattle.block.specs.View.{receivedIn, graftedIn, cachedIn, nothingOf, graftsOf, cachedOf}
 use Rattle.caches.specs.InBlock.{receivedCache, graftedCache, cachedCache}
 use Rattle.alike.proofs.BlockReads.{expiry-read}
 use native.Mathlib.Omega.{arith}

@@ -1,4 +1,4 @@
--- `bags::same_bag`: each element of the first list, then each of the second.
+-- `bags::same_bag`: the lists are chained; then each element of the first list, and each of the second.
 -- Assumes nothing.
 use mathlib.Core.Path.{sym, ap, _∙_}
 use mathlib.Core.Bool.{Bool, _&&_}
@@ -9,26 +9,43 @@ use Rattle.block.specs.View.{stateOf}
 use Rattle.protocol.specs.Alike.{sameBag}
 use Rattle.alike.proofs.Lists.{and-no-left}
 use Rattle.lists.specs.Base.{all, count}
+use borrow.Author.Needs.{needs}
 use Rattle.alike.proofs.bags.same_bag.Statement.{statement}
 use Rattle.alike.proofs.bags.same_bag.Tie as tie
 
+chain-requires : tie.Need-chain-requires
+chain-requires c κs = search needs
+
+chain-requires-2 : tie.Need-chain-requires-2
+chain-requires-2 c κs = search needs
+
 as-often-requires : tie.Need-as-often-requires
-as-often-requires c κs = let s = c .before .before in (s .pre .0, s .pre .1, s .pre .0, s .pre .1, s .pre .2, s .pre .3)
+as-often-requires c κs = search needs
 
 returns : tie.Need-returns
 unfolding sameBag
 returns c = sym (and-no-left _ _ (no (c .before .as-often .ensures) (c .if1 .taken)))
 
 as-often-requires-2 : tie.Need-as-often-requires-2
-as-often-requires-2 c κs = let s = c .before .before .before .before in (s .pre .2, s .pre .3, s .pre .0, s .pre .1, s .pre .2, s .pre .3)
+as-often-requires-2 c κs =
+    let s = c .before .before .before .before .before .before .before .before .before .before .before .before .before .before .before .before .before .before in
+    ((s .pre .2, s .pre .3, s .pre .0, s .pre .1, s .pre .2, s .pre .3), (c .before .before .before .before .before .before .before .before .before .before .before .before .before .chain .ensures, c .before .before .before .before .before .before .before .before .before .before .chain2 .ensures))
 
 returns-2 : tie.Need-returns-2
 unfolding sameBag
 returns-2 c =
-    let s = c .before .before .before .before .before in
+    let s = c .before .before .before .before .before .before .before .before .before .before .before .before .before .before .before .before .before .before .before in
     let A = bagOf (s .args .bag) (stateOf (s .args .ha) (s .args .a .now)) in
     let B = bagOf (s .args .bag) (stateOf (s .args .hb) (s .args .b .now)) in
-    c .as-often2 .ensures ∙ sym (ap (λ (t : Bool). t && all (λ (y : Element). eqb (count (sameElement y) A) (count (sameElement y) B)) B) (yes (c .before .before .as-often .ensures) (c .before .if1 .left)))
+    c .as-often2 .ensures ∙ sym (ap (λ (t : Bool). t && all (λ (y : Element). eqb (count (sameElement y) A) (count (sameElement y) B)) B) (yes (c .before .before .before .before .before .before .as-often .ensures) (c .before .before .before .before .before .if1 .left)))
 
 pub same-bag-spec : {M : Type 1} → statement M
-same-bag-spec = tie.close (tie.spec as-often-requires returns as-often-requires-2 returns-2)
+same-bag-spec =
+    tie.close
+    (tie.spec
+    chain-requires
+    chain-requires-2
+    as-often-requires
+    returns
+    as-often-requires-2
+    returns-2)

@@ -3,8 +3,8 @@
 use Prim.Native.Nat.{ℕ, _+_, _≤_, _-_, _<_}
 use native.Mathlib.Omega.{arith}
 use borrow.Author.Needs.{needs}
-use mathlib.Core.List.{List, [], _∷_, _++_}
-use mathlib.Core.Path.{_≡_, refl, sym, ap, _∙_}
+use mathlib.Core.List.{List, [], _∷_}
+use mathlib.Core.Path.{_≡_, sym, ap, _∙_}
 use lib.ListN.{length, getD, length-append}
 use Rattle.postcard.specs.Message.{Ihave}
 use Rattle.block.specs.View.{stateOf}

@@ -1,20 +1,19 @@
 -- `actions::send_chunk` meets its contract: the beginning, the entries, and the timer where one follows.
 -- Assumes nothing.
-use Prim.Native.Nat.{ℕ, _≤_}
-use native.Mathlib.Omega.{arith}
+use Prim.Native.Nat.{ℕ}
 use borrow.Author.Needs.{needs}
 use mathlib.Core.Bool.{Bool, true, false}
 use mathlib.Core.List.{List}
-use mathlib.Core.Path.{_≡_, refl, sym, ap, _∙_, subst}
+use mathlib.Core.Path.{_≡_, sym, _∙_, subst}
 use lib.ListN.{length, take}
 use lib.Seq.{length-take-le}
 use Rattle.lists.specs.Base.{concatMap}
-use Rattle.postcard.specs.Message.{Ihave, ihaveBytes, actionBytes}
+use Rattle.postcard.specs.Message.{Ihave, actionBytes}
 use Rattle.protocol.specs.State.{State}
 use Rattle.output.specs.Written.{Told, Written}
 use Rattle.block.specs.View.{stateOf}
 use Rattle.block.specs.LinkSteps.{peerAt}
-use Rattle.dispatch.specs.Sends.{heldThen, toSend, someHeld, quiet, oneSend, flagAfter}
+use Rattle.dispatch.specs.Sends.{heldThen, toSend, quiet, oneSend}
 use Rattle.dispatch.proofs.SendLaws.{chunk-head, chunk-entries, chunk-timer, chunk-quiet, chunk-timed, quiet-taken, quiet-flag, quiet-none, loud, flag-quiet, flag-loud}
 use Rattle.dispatch.proofs.actions.send_chunk.Statement.{statement}
 use Rattle.dispatch.proofs.actions.send_chunk.Tie as tie

@@ -1,13 +1,13 @@
 -- `actions::send_link` meets its contract. The loop's invariant: what was written and what the IHaves from the nth on have to add make the whole.
 -- Assumes nothing.
-use Prim.Native.Nat.{ℕ, _+_, _≤_, _-_, _<_, min}
+use Prim.Native.Nat.{ℕ, _+_, _≤_, _<_, min}
 use native.Mathlib.Omega.{arith}
 use borrow.Author.Needs.{needs}
 use mathlib.Core.Bool.{Bool}
 use mathlib.Core.List.{List}
 use mathlib.Core.Path.{_≡_, refl, sym, ap, _∙_}
 use lib.Dec.{leb}
-use lib.ListN.{length, drop, getD, length-drop}
+use lib.ListN.{length, getD, length-drop}
 use Rattle.lists.specs.Base.{concatMap}
 use Rattle.postcard.specs.Message.{Ihave, actionBytes}
 use Rattle.protocol.specs.State.{State}

@@ -4,9 +4,9 @@ use Prim.Native.Nat.{ℕ, _+_, _*_, _≤_, _-_, _<_}
 use native.Mathlib.Omega.{arith}
 use borrow.Author.Needs.{needs}
 use mathlib.Core.Bool.{Bool}
-use mathlib.Core.List.{List, []}
+use mathlib.Core.List.{List}
 use mathlib.Core.Path.{_≡_, refl, sym, ap, _∙_, subst}
-use lib.ListN.{length, drop, getD}
+use lib.ListN.{drop, getD}
 use Rattle.protocol.specs.State.{State}
 use Rattle.protocol.specs.Ticks.{perMessage, queuedFor}
 use Rattle.postcard.specs.Message.{Ihave}

@@ -1,10 +1,10 @@
 -- `gains::is_fresh` meets its contract: the three tests in turn.
 -- Assumes nothing.
-use borrow.Author.Needs.{needs}
 use mathlib.Core.Bool.{Bool, true, false, not, _&&_}
-use mathlib.Core.Path.{_≡_, refl, sym, ap, _∙_}
+use mathlib.Core.Path.{_≡_, sym, _∙_}
 use Rattle.rows.specs.Ident.{idOf}
 use Rattle.lists.specs.Base.{any}
+use Rattle.lists.proofs.Lists.{or-false-left, or-false-right}
 use Rattle.time_cache.specs.TimeCache.{holds}
 use Rattle.protocol.specs.State.{State}
 use Rattle.protocol.specs.Push.{notes}
@@ -45,40 +45,65 @@ module _ (s : tie.Start) where
 is-cached-then-requires : tie.Need-is-cached-then-requires
 is-cached-then-requires c κs = c .before .pre .0
 
-scan-dropped-requires : tie.Need-scan-dropped-requires
-scan-dropped-requires c κs =
-    let s = c .before .before .before in
-    (s .pre .0 .sound, links-up (s .args .h) (s .args .block .now) (s .pre .0), s .pre .1)
-
 returns : tie.Need-returns
 returns c =
-    let e = c .before in
-    let s = e .before .before .before .before in
-    no-second (held s) (there s) (again s) (sym (e .before .before .is-cached-then .ensures) ∙ e .before .if1 .taken) (sym (e .scan-dropped .ensures .noted) ∙ c .if2 .taken)
+    let e = c .before .before in
+    let s = e .before .before in
+    let z = s .pre .3 (c .if2 .taken) in
+    yes-all (held s) (there s) (again s) (sym (e .is-cached-then .ensures) ∙ c .before .if1 .taken) (or-false-left (there s) (again s) z) (or-false-right (there s) (again s) z)
 
-is-again-requires : tie.Need-is-again-requires
-is-again-requires c κs = c .before .before .before .before .before .pre
+scan-dropped-requires : tie.Need-scan-dropped-requires
+scan-dropped-requires c κs =
+    let s = c .before .before .before .before in
+    (s .pre .0 .sound, links-up (s .args .h) (s .args .block .now) (s .pre .0), s .pre .1)
+
+-- the identifier is cached, and the record was scanned
+module _ (e : tie.After-scan-dropped) where
+  abbrev s₁ : tie.Start
+  s₁ = e .before .before .before .before .before
+
+  cached-is : held s₁ ≡ true
+  cached-is = sym (e .before .before .before .is-cached-then .ensures) ∙ e .before .before .if1 .taken
 
 returns-2 : tie.Need-returns-2
 returns-2 c =
-    let f = c .before in
-    let e = f .before .before in
-    let s = e .before .before .before .before in
-    no-third (held s) (there s) (again s) (sym (e .before .before .is-cached-then .ensures) ∙ e .before .if1 .taken) (sym (e .scan-dropped .ensures .noted) ∙ f .before .if2 .left) (sym (f .is-again .ensures) ∙ c .if3 .taken)
+    let e = c .before in
+    let s = s₁ e in
+    no-second (held s) (there s) (again s) (cached-is e) (sym (e .scan-dropped .ensures .noted) ∙ c .if3 .taken)
+
+is-again-requires : tie.Need-is-again-requires
+is-again-requires c κs =
+    let s = s₁ (c .before) in
+    (s .pre .0, s .pre .1, s .pre .2)
 
 returns-3 : tie.Need-returns-3
 returns-3 c =
     let f = c .before in
     let e = f .before .before in
-    let s = e .before .before .before .before in
-    yes-all (held s) (there s) (again s) (sym (e .before .before .is-cached-then .ensures) ∙ e .before .if1 .taken) (sym (e .scan-dropped .ensures .noted) ∙ f .before .if2 .left) (sym (f .is-again .ensures) ∙ c .if3 .left)
+    let s = s₁ e in
+    no-third (held s) (there s) (again s) (cached-is e) (sym (e .scan-dropped .ensures .noted) ∙ f .before .if3 .left) (sym (f .is-again .ensures) ∙ c .if4 .taken)
 
 returns-4 : tie.Need-returns-4
 returns-4 c =
+    let f = c .before in
+    let e = f .before .before in
+    let s = s₁ e in
+    yes-all (held s) (there s) (again s) (cached-is e) (sym (e .scan-dropped .ensures .noted) ∙ f .before .if3 .left) (sym (f .is-again .ensures) ∙ c .if4 .left)
+
+returns-5 : tie.Need-returns-5
+returns-5 c =
     let s = c .before .before .before in
     no-first (held s) (there s) (again s) (sym (c .before .is-cached-then .ensures) ∙ c .if1 .left)
 
 pub is-fresh-spec : {M : Type 1} → statement M
 is-fresh-spec =
     tie.close
-    (tie.spec is-cached-then-requires scan-dropped-requires returns is-again-requires returns-2 returns-3 returns-4)
+    (tie.spec
+    is-cached-then-requires
+    returns
+    scan-dropped-requires
+    returns-2
+    is-again-requires
+    returns-3
+    returns-4
+    returns-5)

@@ -1,9 +1,9 @@
 -- `gains::link_gain` meets its contract: no link has more than 256 in the record, and the record with what was added is within 4,096.
 -- Assumes nothing.
-use Prim.Native.Nat.{ℕ, _+_, _-_, _≤_, min}
+use Prim.Native.Nat.{min}
 use native.Mathlib.Omega.{arith}
 use borrow.Author.Needs.{needs}
-use mathlib.Core.Path.{_≡_, sym, ap, _∙_}
+use mathlib.Core.Path.{sym, ap, _∙_}
 use lib.ListN.{drop}
 use Rattle.protocol.specs.Ticks.{queuedFor}
 use Rattle.decide.specs.RecordGrowth.{cachedIn}

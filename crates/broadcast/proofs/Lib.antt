@@ -1,0 +1,3 @@
+pub mod StepLaws
+pub mod ActionLaws
+pub mod SizeLaws

@@ -1,0 +1,45 @@
+-- `swarm_actions` meets its contract: the dispatch timer, then the push.
+-- Assumes nothing.
+use mathlib.Core.Path.{sym}
+use Rattle.rows.specs.Ident.{idOf}
+use Rattle.postcard.specs.Message.{Gossip, Swarm}
+use Rattle.block.specs.View.{stateOf}
+use Rattle.steps.specs.declared.Held.the-variants.{Nothing}
+use Rattle.output.proofs.WrittenLaws.{written-then, told-first, told-then}
+use Rattle.ticks.proofs.ActionLaws.{told-as, written-as}
+use Rattle.eager.specs.Targets.{targetsOf}
+use Rattle.eager.specs.Sent.{pushBytes}
+use Rattle.eager.proofs.CallLaws.{pushing}
+use Rattle.broadcast.proofs.ActionLaws.{swarm-bytes}
+use borrow.Author.Needs.{needs}
+use Rattle.broadcast.proofs.swarm_actions.Statement.{statement}
+use Rattle.broadcast.proofs.swarm_actions.Tie as tie
+
+dispatch-action-requires : tie.Need-dispatch-action-requires
+dispatch-action-requires c κs =
+    let s = c .before .before .before .before in
+    let a = s .args in
+    let st = stateOf (a .h) (a .block .now) in
+    told-first (pushBytes (a .rooms .now) (Gossip (idOf (a .id)) (a .content .now) (Swarm 0)) (targetsOf (a .h .settings .me) Nothing st) st)
+    (told-as (swarm-bytes (a .instant .0) (a .rooms .now) (idOf (a .id)) (a .content .now) (a .h) (a .block .now)) (s .pre .1))
+
+eager-push-requires : tie.Need-eager-push-requires
+eager-push-requires c κs =
+    let d = c .before .before .before .dispatch-action in
+    let s = c .before .before .before .before .before .before .before .before in
+    let a = s .args in
+    (pushing (a .h) (a .block .now) Nothing (s .pre .0) tt, told-then (d .ensures) (told-as (swarm-bytes (a .instant .0) (a .rooms .now) (idOf (a .id)) (a .content .now) (a .h) (a .block .now)) (s .pre .1)))
+
+same-length : tie.Need-same-length
+same-length c = search needs
+
+returns : tie.Need-returns
+returns c =
+    let e = c .before .before .eager-push in
+    let d = c .before .before .before .before .before .before .dispatch-action in
+    let s = c .before .before .before .before .before .before .before .before .before .before .before in
+    let a = s .args in
+    written-as (sym (swarm-bytes (a .instant .0) (a .rooms .now) (idOf (a .id)) (a .content .now) (a .h) (a .block .now))) (written-then (d .ensures) (e .ensures))
+
+pub swarm-actions-spec : {M : Type 1} → statement M
+swarm-actions-spec = tie.close (tie.spec dispatch-action-requires eager-push-requires same-length returns)

@@ -53,13 +53,13 @@ use Rattle.kinds.specs.declared.Step.{Step}
 use Rattle.kinds.specs.declared.Step.the-variants as step
 
 -- both say what a first event leaves
-first-settled : (now : ℕ) (s : State) → CoreOf s → firstState now s ≡ settled now s
+pub first-settled : (now : ℕ) (s : State) → CoreOf s → firstState now s ≡ settled now s
 unfolding firstState settled evict
 first-settled now s c =
     let e = evicted now s c in
     if-both (s .init) refl (rw (e .received, e .grafted, e .cache) refl)
 
-settled-links : (now : ℕ) (s : State) → settled now s .links ≡ s .links
+pub settled-links : (now : ℕ) (s : State) → settled now s .links ≡ s .links
 unfolding settled
 settled-links now s = if-on (λ (x : State). x .links) (s .init) _ _ ∙ if-same (s .init) refl refl
 

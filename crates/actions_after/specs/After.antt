@@ -1,7 +1,6 @@
 -- The actions of the step of an event as bytes, with the link room as an array, of the state before the call.
 -- Assumes nothing.
 use Prim.Native.Nat.{ℕ}
-use mathlib.Core.Path.{_≡_}
 use mathlib.Core.List.{List, _++_}
 use mathlib.Core.Option.{Option}
 use Rattle.lists.specs.Base.{concatMap}
@@ -13,7 +12,6 @@ use Rattle.block.specs.LinkSteps.{peerAt}
 use Rattle.steps.specs.Rooms.{roomsIn}
 use Rattle.kinds.specs.Meaning.{stepActions}
 use Rattle.kinds.specs.declared.Step.{Step}
-use Rattle.kinds.specs.declared.Step.the-variants as step
 
 -- the actions of a Graft from the neighbour of a link, once a first event has evicted
 abbrev pub graftBytes : ℕ → List ℕ → ℕ → Option ℕ → State → List ℕ
@@ -30,19 +28,3 @@ stepBytes event instant rooms r s = concatMap actionBytes (stepActions event (ro
 -- the actions of a call: those of a first event, then those of the step
 abbrev pub callBytes : List ℕ → ℕ → List ℕ → Step → State → List ℕ
 callBytes event instant rooms r s = concatMap actionBytes (settledActions s ++ stepActions event (roomsIn s rooms) r (settled instant s))
-
--- the sender of a Gossip is the event's peer
-abbrev pub SenderIs : ℕ → Step → Type 0
-SenderIs peer step.Nothing = Unit {0}
-SenderIs peer (step.NewSwarm sender id start len round) = sender ≡ peer
-SenderIs peer (step.NewNeighbors sender start len) = sender ≡ peer
-SenderIs peer (step.Late sender id d) = sender ≡ peer
-SenderIs peer (step.Prune link) = Unit {0}
-SenderIs peer (step.Graft link w) = Unit {0}
-SenderIs peer (step.IHave link start count) = Unit {0}
-SenderIs peer (step.BroadcastSwarm id start len) = Unit {0}
-SenderIs peer (step.BroadcastNeighbors id start len) = Unit {0}
-SenderIs peer (step.SendGraft id) = Unit {0}
-SenderIs peer step.DispatchLazyPush = Unit {0}
-SenderIs peer step.EvictCache = Unit {0}
-SenderIs peer step.AnnounceDropped = Unit {0}

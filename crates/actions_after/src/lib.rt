@@ -25,8 +25,8 @@ ghost use Rattle.output.specs.Written.{Told, Written};
 ghost use Rattle.block.specs.View.{stateOf};
 ghost use Rattle.steps.specs.Stands.{Stands};
 ghost use Rattle.broadcast.specs.Broadcasts.{broadcastBytes};
-ghost use Rattle.kinds.specs.Meaning.{ContentHeld, StepHeld, stepFar};
-ghost use Rattle.actions_after.specs.After.{graftBytes, newBytes, stepBytes, callBytes, SenderIs};
+ghost use Rattle.kinds.specs.Meaning.{ContentHeld, StepHeld, stepFar, SenderIs};
+ghost use Rattle.actions_after.specs.After.{graftBytes, newBytes, stepBytes, callBytes};
 
 // The actions of a Graft from the neighbour of a link: the reply, if an identifier is asked for and its message is cached once a first event has evicted. Its
 // time is that of a look-up in the message cache, and of the content.

@@ -27,7 +27,7 @@ pub fn step_sizes(
     requires { ⌜ Asked h (now block) (now event) (now rooms) (instant .0) step ⌝ }
     ensures { λ r. ⌜ sizesValue r ≡ stepSizes (now (event .entry)) (roomsIn (stateOf h (now (block .entry))) (now (rooms .entry))) (instant .0) step (settled (instant .0) (stateOf h (now (block .entry)))) ⌝ }
 {
-    settled::sizes_then(h, block, instant)
+    sizes_after::step_sizes(h, block, instant, rooms, event, step)
 }
 
 // The actions of the call (14).
@@ -43,7 +43,7 @@ pub fn step_actions(
     requires { ⌜ Asked h (now block) (now event) (now rooms) (instant .0) step × (stepFar step ≡ false) × Told (stepBytes (now event) (roomsIn (stateOf h (now block)) (now rooms)) (instant .0) step (stateOf h (now block))) 0 ⌝ }
     ensures { λ r. ⌜ Written (stepBytes (now (event .entry)) (roomsIn (stateOf h (now (block .entry))) (now (rooms .entry))) (instant .0) step (stateOf h (now (block .entry)))) (now (out .entry)) 0 (now (out .exit)) r ⌝ }
 {
-    0
+    actions_after::call_actions(h, block, instant, rooms, event, step, out)
 }
 
 // The state after the call.
@@ -58,5 +58,5 @@ pub fn step_state(
     requires { ⌜ Asked h (now block) (now event) (now rooms) (instant .0) step × (stepFar step ≡ false) × (fits (stepState (now event) (roomsIn (stateOf h (now block)) (now rooms)) (instant .0) step (settled (instant .0) (stateOf h (now block)))) ≡ true) ⌝ }
     ensures { λ r. ⌜ Goes (λ s. stepState (now (event .entry)) (roomsIn (stateOf h (now (block .entry))) (now (rooms .entry))) (instant .0) step (settled (instant .0) s)) h (now (block .entry)) r (now (block .exit)) ⌝ }
 {
-    h
+    state_after::after::call_state(h, block, instant, rooms, event, step)
 }

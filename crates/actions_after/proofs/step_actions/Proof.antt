@@ -11,7 +11,8 @@ use Rattle.block.specs.View.{stateOf}
 use Rattle.ticks.proofs.ActionLaws.{told-as, written-as}
 use Rattle.kinds.specs.Meaning.{StepHeld, stepFar}
 use Rattle.kinds.specs.declared.Step.{Step}
-use Rattle.actions_after.specs.After.{stepBytes, SenderIs}
+use Rattle.actions_after.specs.After.{stepBytes}
+use Rattle.kinds.specs.Meaning.{SenderIs}
 use Rattle.actions_after.proofs.AfterLaws.{of-nothing, of-prune, of-new, of-neighbors, of-late, of-graft, of-ihave, of-broadcast-swarm, of-broadcast-neighbors, of-send-graft, of-dispatch, of-evict, of-announce, not-far}
 use borrow.Author.Needs.{needs}
 use Rattle.actions_after.proofs.step_actions.Statement.{statement}

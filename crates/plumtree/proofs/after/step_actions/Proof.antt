@@ -1,12 +1,16 @@
-use native.Mathlib.Omega.{arith}
-use borrow.Author.Needs.{needs}
+-- `step_actions` meets its contract: it is that of `actions_after`.
+-- Assumes nothing.
+use Rattle.plumtree.specs.Outcomes.{stepBytes}
 use Rattle.plumtree.proofs.after.step_actions.Statement.{statement}
 use Rattle.plumtree.proofs.after.step_actions.Tie as tie
-use Rattle.plumtree.proofs.after.step_actions.Reads as reads
-use Rattle.plumtree.proofs.after.step_actions.Lts as lts
+
+call-actions-requires : tie.Need-call-actions-requires
+unfolding stepBytes
+call-actions-requires c κs = ((c .pre .0 .stands, c .pre .0 .held, c .pre .0 .sender, c .pre .1), c .pre .2)
 
 returns : tie.Need-returns
-returns c = ?
+unfolding stepBytes
+returns c = c .call-actions .ensures
 
 pub step-actions-spec : {M : Type 1} → statement M
-step-actions-spec = tie.close (tie.spec returns)
+step-actions-spec = tie.close (tie.spec call-actions-requires returns)

@@ -1,16 +1,13 @@
-use native.Mathlib.Omega.{arith}
-use borrow.Author.Needs.{needs}
+-- `step_sizes` meets its contract: it is that of `sizes_after`.
+-- Assumes nothing.
 use Rattle.plumtree.proofs.after.step_sizes.Statement.{statement}
 use Rattle.plumtree.proofs.after.step_sizes.Tie as tie
-use Rattle.plumtree.proofs.after.step_sizes.Reads as reads
-use Rattle.plumtree.proofs.after.step_sizes.Lts as lts
-use Rattle.settled.proofs.sizes_then.Reads as sizes-then-reads
 
-sizes-then-requires : tie.Need-sizes-then-requires
-sizes-then-requires c κs = search needs
+step-sizes-requires : tie.Need-step-sizes-requires
+step-sizes-requires c κs = (c .pre .stands, c .pre .held)
 
 returns : tie.Need-returns
-returns c = ?
+returns c = c .step-sizes .ensures
 
 pub step-sizes-spec : {M : Type 1} → statement M
-step-sizes-spec = tie.close (tie.spec sizes-then-requires returns)
+step-sizes-spec = tie.close (tie.spec step-sizes-requires returns)

@@ -69,26 +69,6 @@ fn emit_neighbors(
     output::emit(out, at, sender, &event[start..end], Delivery::Neighbors)
 }
 
-// The actions of a new Swarm message: "eager push, lazy push; .. optimise as `on_gossip` says; emit at r", once a first event has evicted.
-fn new_actions(
-    h: Head,
-    block: &[u8],
-    instant: Millis,
-    rooms: &[u64; 34],
-    out: &mut [u8],
-    at: usize,
-    sender: u64,
-    id: Id,
-    content: &[u8],
-    round: Round,
-) -> usize
-    requires { ⌜ Stands h (now block) × (round .0 < 65535) ⌝ }
-    requires { ⌜ Told (newBytes (instant .0) (now rooms) sender (idOf id) (now content) (round .0) (stateOf h (now block))) at ⌝ }
-    ensures { λ r. ⌜ Written (newBytes (instant .0) (now (rooms .entry)) sender (idOf id) (now (content .entry)) (round .0) (stateOf h (now (block .entry)))) (now (out .entry)) at (now (out .exit)) r ⌝ }
-{
-    at
-}
-
 // The actions of a new Swarm message, whose content is a part of the event.
 fn new_swarm(
     h: Head,
@@ -109,7 +89,7 @@ fn new_swarm(
     ensures { λ r. ⌜ Written (newBytes (instant .0) (now (rooms .entry)) sender (idOf id) (part start len (now (event .entry))) (round .0) (stateOf h (now (block .entry)))) (now (out .entry)) at (now (out .exit)) r ⌝ }
 {
     let end = start + len;
-    new_actions(h, block, instant, rooms, out, at, sender, id, &event[start..end], round)
+    gossip::new_actions(h, block, instant, rooms, out, at, sender, id, &event[start..end], round)
 }
 
 // The actions of a broadcast, whose content is a part of the event.

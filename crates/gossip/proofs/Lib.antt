@@ -1,2 +1,2 @@
--- OutLaws: the actions of a new Swarm message and of a broadcast, as bytes, and the numbers of entries after them.
+-- OutLaws: the actions of a new Swarm message, as bytes.
 pub mod OutLaws

@@ -1,6 +1,6 @@
 -- The bytes of each step: those that the function of the step writes, of the state before the call.
 -- Assumes nothing.
-use Prim.Native.Nat.{ℕ, _+_, _-_, _≤_, _<_}
+use Prim.Native.Nat.{ℕ, _+_, _-_, _<_}
 use mathlib.Core.Path.{_≡_, refl, sym, ap, _∙_}
 use mathlib.Core.Bool.{false}
 use mathlib.Core.List.{List, [], _∷_, _++_}
@@ -16,7 +16,7 @@ use Rattle.rows.specs.Part.{part}
 use Rattle.rows.specs.Ident.{idOf}
 use Rattle.rows.specs.declared.id.Id.{Id}
 use Rattle.time_cache.specs.TimeCache.{get}
-use Rattle.postcard.specs.Message.{Neighbors, toSwarm, toNeighbors, Action, Emitted, actionBytes}
+use Rattle.postcard.specs.Message.{Neighbors, toSwarm, toNeighbors, Emitted, actionBytes}
 use Rattle.postcard.specs.Values.{deliveryValue, wantedValue}
 use Rattle.postcard.specs.Events.{ihavesFrom}
 use Rattle.postcard.specs.declared.message.Wanted.{Wanted}

@@ -69,7 +69,7 @@ fn emit_neighbors(
     output::emit(out, at, sender, &event[start..end], Delivery::Neighbors)
 }
 
-// The actions of a new Swarm message, whose content is a part of the event.
+// The actions of a new Swarm message, whose content is a part of the event. Its time is that of `new_actions`.
 fn new_swarm(
     h: Head,
     block: &[u8],
@@ -89,10 +89,21 @@ fn new_swarm(
     ensures { λ r. ⌜ Written (newBytes (instant .0) (now (rooms .entry)) sender (idOf id) (part start len (now (event .entry))) (round .0) (stateOf h (now (block .entry)))) (now (out .entry)) at (now (out .exit)) r ⌝ }
 {
     let end = start + len;
-    gossip::new_actions(h, block, instant, rooms, out, at, sender, id, &event[start..end], round)
+    gossip::new_actions(
+        h,
+        block,
+        instant,
+        rooms,
+        out,
+        at,
+        sender,
+        id,
+        &event[start..end],
+        round,
+    )
 }
 
-// The actions of a broadcast, whose content is a part of the event.
+// The actions of a broadcast, whose content is a part of the event. Its time is that of one pass over the links.
 fn send_broadcast(
     h: Head,
     block: &[u8],
@@ -111,7 +122,17 @@ fn send_broadcast(
     ensures { λ r. ⌜ Written (broadcastBytes (instant .0) (now (rooms .entry)) (idOf id) (part start len (now (event .entry))) (scopeValue scope) (stateOf h (now (block .entry)))) (now (out .entry)) at (now (out .exit)) r ⌝ }
 {
     let end = start + len;
-    broadcast::broadcast_actions(h, block, instant, rooms, out, at, id, &event[start..end], scope)
+    broadcast::broadcast_actions(
+        h,
+        block,
+        instant,
+        rooms,
+        out,
+        at,
+        id,
+        &event[start..end],
+        scope,
+    )
 }
 
 // The actions of the step of an event, once a first event has evicted. Its time is that of the function of the step.
@@ -137,7 +158,20 @@ pub fn step_actions(
             start,
             len,
             round,
-        } => new_swarm(h, block, instant, rooms, out, at, event, sender, id, start, len, round),
+        } => new_swarm(
+            h,
+            block,
+            instant,
+            rooms,
+            out,
+            at,
+            event,
+            sender,
+            id,
+            start,
+            len,
+            round,
+        ),
         Step::NewNeighbors { sender, start, len } => {
             emit_neighbors(out, at, event, sender, start, len)
         }

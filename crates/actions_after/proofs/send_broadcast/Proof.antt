@@ -1,9 +1,8 @@
 -- `send_broadcast` meets its contract: the content is a part of the event.
 -- Assumes nothing.
-use mathlib.Core.Path.{_≡_, sym, ap}
+use mathlib.Core.Path.{sym, ap}
 use mathlib.Core.List.{List}
 use Prim.Native.Nat.{ℕ}
-use native.Mathlib.Omega.{arith}
 use Rattle.rows.specs.Ident.{idOf}
 use Rattle.block.specs.View.{stateOf}
 use Rattle.ticks.proofs.ActionLaws.{told-as, written-as}

@@ -1,0 +1,56 @@
+-- `make_eager` meets its contract: by whether the link is eager.
+-- Assumes nothing.
+use mathlib.Core.Path.{_≡_, refl, sym, ap, _∙_, subst}
+use mathlib.Core.Bool.{Bool, true, false, not}
+use mathlib.Core.List.{List}
+use Prim.Native.Nat.{ℕ, _+_, _-_, _≤_, _<_}
+use lib.ListN.{length, getD, drop}
+use Rattle.lists.specs.Map.{keys}
+use Rattle.rows.specs.Ident.{idOf}
+use Rattle.rows.specs.Sorted.{FoundIs, Here}
+use Rattle.rows.specs.declared.table.Found.{Found}
+use Rattle.protocol.specs.State.{State, Hop}
+use Rattle.block.specs.View.{stateOf}
+use Rattle.block.specs.LinkSteps.{peerAt}
+use Rattle.block.specs.MissingSteps.{hop, hopsAt}
+use Rattle.block.proofs.LinkLaws.{count-peers}
+use Rattle.steps.proofs.StandsLaws.{links-up}
+use Rattle.optimise.proofs.OptimiseLaws.{eager-still, eager-goes}
+use native.Mathlib.Omega.{arith}
+use borrow.Author.Needs.{needs}
+use Rattle.optimise.proofs.make_eager.Statement.{statement}
+use Rattle.optimise.proofs.make_eager.Tie as tie
+
+eager-at-requires : tie.Need-eager-at-requires
+eager-at-requires c κs = search needs
+
+same-length : tie.Need-same-length
+same-length c = search needs
+
+returns : tie.Need-returns
+returns c =
+    let s = c .before .before .before .before in
+    eager-still (s .args .h) (s .args .block .now) (s .pre .0) (s .pre .1) (s .args .link) (s .pre .2) (c .before .eager-at .result) (c .before .eager-at .ensures) (c .if1 .taken)
+
+set-mark-requires : tie.Need-set-mark-requires
+set-mark-requires c κs = search needs
+
+same-length-2 : tie.Need-same-length-2
+same-length-2 c = search needs
+
+returns-2 : tie.Need-returns-2
+returns-2 c =
+    let e = c .before .before .before .before .before in
+    let s = c .before .before .before .before .before .before .before .before in
+    eager-goes (s .args .h) (s .args .block .now) (s .pre .0) (s .pre .1) (s .args .link) (s .pre .2) (e .eager-at .result) (e .eager-at .ensures) (c .before .before .before .before .if1 .left) (c .before .before .set-mark .ensures)
+
+pub make-eager-spec : {M : Type 1} → statement M
+make-eager-spec =
+    tie.close
+    (tie.spec
+    eager-at-requires
+    same-length
+    returns
+    set-mark-requires
+    same-length-2
+    returns-2)

@@ -1,12 +1,12 @@
 -- The stages of a new Swarm message keep what every event keeps.
 -- Assumes nothing.
-use mathlib.Core.Path.{_≡_, refl, ap, _∙_, subst}
+use mathlib.Core.Path.{ap, _∙_, subst}
 use mathlib.Core.List.{List, []}
 use Prim.Native.Nat.{ℕ}
 use lib.Dec.{leb}
 use Rattle.lists.specs.Map.{keys}
 use Rattle.postcard.specs.Message.{Swarm}
-use Rattle.protocol.specs.State.{State, Settings, Limits, zeroCounts, sizeInRange, durationsInRange, limitsInRange}
+use Rattle.protocol.specs.State.{State, Settings, zeroCounts, sizeInRange, durationsInRange, limitsInRange}
 use Rattle.protocol.specs.Run.{Run, Room, begin}
 use Rattle.protocol.specs.Push.{eagerPush, lazyPush}
 use Rattle.protocol.specs.Gossips.{setFirst, graftedFor}

@@ -1,20 +1,20 @@
 -- What each stage of a new Swarm message asks, and that together they are the step.
 -- Assumes nothing.
-use mathlib.Core.Path.{_≡_, refl, sym, ap, _∙_, subst}
-use mathlib.Core.Bool.{Bool, true}
-use mathlib.Core.List.{List, []}
+use mathlib.Core.Path.{_≡_, sym, ap, _∙_, subst}
+use mathlib.Core.Bool.{true}
+use mathlib.Core.List.{List}
 use mathlib.Core.Option.{Option, none, some}
 use Prim.Native.Nat.{ℕ, suc, _+_, _≤_, _<_, _^_}
 use native.Mathlib.Omega.{arith}
 use lib.ListN.{length}
-use Rattle.time_cache.specs.TimeCache.{Cache, get, holds, replace}
+use Rattle.time_cache.specs.TimeCache.{get, holds, replace}
 use Rattle.protocol.specs.Links.{Links}
 use Rattle.protocol.specs.State.{State, Limits, Grafts, withGrafted}
 use Rattle.protocol.specs.Run.{Room}
 use Rattle.protocol.specs.Gossips.{withFirst}
 use Rattle.protocol.specs.Whole.{fits}
 use Rattle.decide.specs.Settled.{settled}
-use Rattle.decide.specs.StateAfter.{recordedState, pushedState, pushedOnState, lazyState, takenState, firstSetState, closedState, newState}
+use Rattle.decide.specs.StateAfter.{recordedState, pushedState, pushedOnState, lazyState, takenState, firstSetState, closedState}
 use Rattle.block.specs.View.{stateOf}
 use Rattle.block.specs.Sound.{Sound}
 use Rattle.block.specs.Goes.{Goes}
@@ -37,7 +37,7 @@ use Rattle.eager.specs.Backs.{backState, NotesBack}
 use Rattle.eager.proofs.CallLaws.{skip-in, pushing, pushed-on}
 use Rattle.new_gossip.specs.News.{pushedOnIn, newIn, PushesOn}
 use Rattle.new_gossip.proofs.KeptLaws.{kept-first-set, kept-pushed-on, kept-lazy}
-use Rattle.new_gossip.proofs.RestLaws.{taken, firstSet, pushedOn, queued, end, end-new, end-limits, end-received, end-cache, first-links, first-cached, pushed-limits, first-limits, queue-room, record-room}
+use Rattle.new_gossip.proofs.RestLaws.{firstSet, pushedOn, end, end-new, end-limits, end-received, end-cache, first-links, first-cached, pushed-limits, first-limits, queue-room, record-room}
 
 -- the entry that was found is one of the grafted messages
 pub held-below : (h : Head) (xs : List ℕ) → Stands h xs → (id : ℕ) (found : Option Grafts) (g : ℕ) → HeldAt noGrafts (stateOf h xs .grafted .entries) id found g → g < h .live .grafted

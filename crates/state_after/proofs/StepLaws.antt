@@ -32,7 +32,8 @@ use Rattle.kinds.specs.Meaning.{stepState, stepFar, ContentHeld}
 use Rattle.kinds.specs.declared.Step.{Step}
 use Rattle.kinds.specs.declared.Step.the-variants as step
 use Rattle.state_after.specs.Controls.{prunedAt, graftedAt}
-use Rattle.state_after.specs.Swarms.{newIn, sentIn}
+use Rattle.broadcast.specs.Broadcasts.{broadcastIn}
+use Rattle.state_after.specs.Swarms.{newIn}
 use Rattle.state_after.specs.StepAfter.{steppedIn, Stepping}
 
 -- `r` is the step, `e` what the match tells of it
@@ -62,7 +63,7 @@ module _ {bytes array : List ℕ} {instant : ℕ} {r : Step} {h : Head} {xs : Li
 
   -- a new Swarm message
   module _ {sender : ℕ} {id : Id} {start len : ℕ} {round : Round} (e : r ≡ step.NewSwarm sender id start len round) where
-    pub new-asks : Asks (newIn array instant sender (idOf id) (part start len bytes) (round .0)) h xs
+    pub new-asks : Asks (newIn instant array sender (idOf id) (part start len bytes) (round .0)) h xs
     unfolding stepState
     new-asks = record { stands = a .stands; fits = known e .fits }
 
@@ -73,7 +74,7 @@ module _ {bytes array : List ℕ} {instant : ℕ} {r : Step} {h : Head} {xs : Li
     unfolding stepFar
     new-near = known e .near
 
-    pub new-goes : {g : Head} {ys : List ℕ} → Goes (newIn array instant sender (idOf id) (part start len bytes) (round .0)) h xs g ys → Goes (steppedIn bytes array instant r) h xs g ys
+    pub new-goes : {g : Head} {ys : List ℕ} → Goes (newIn instant array sender (idOf id) (part start len bytes) (round .0)) h xs g ys → Goes (steppedIn bytes array instant r) h xs g ys
     unfolding stepState
     new-goes d = told e (record { state = d .state; sound = d .sound })
 
@@ -124,11 +125,11 @@ module _ {bytes array : List ℕ} {instant : ℕ} {r : Step} {h : Head} {xs : Li
     pub broadcast-held : ContentHeld bytes start len
     broadcast-held = known e .held
 
-    pub broadcast-asks : Asks (sentIn array instant (idOf id) (part start len bytes)) h xs
+    pub broadcast-asks : Asks (broadcastIn instant array (idOf id) (part start len bytes)) h xs
     unfolding stepState
     broadcast-asks = record { stands = a .stands; fits = known e .fits }
 
-    pub broadcast-goes : {g : Head} {ys : List ℕ} → Goes (sentIn array instant (idOf id) (part start len bytes)) h xs g ys → Goes (steppedIn bytes array instant r) h xs g ys
+    pub broadcast-goes : {g : Head} {ys : List ℕ} → Goes (broadcastIn instant array (idOf id) (part start len bytes)) h xs g ys → Goes (steppedIn bytes array instant r) h xs g ys
     unfolding stepState
     broadcast-goes d = told e (record { state = d .state; sound = d .sound })
 

@@ -1,9 +1,9 @@
 -- What each step asks, out of what all ask, and the state after it.
 -- Assumes nothing.
-use mathlib.Core.Path.{_≡_, refl, sym, ap, _∙_, subst}
-use mathlib.Core.Bool.{Bool, true, false}
+use mathlib.Core.Path.{_≡_, refl, sym, subst}
+use mathlib.Core.Bool.{false}
 use mathlib.Core.List.{List}
-use Prim.Native.Nat.{ℕ, _^_, _≤_, _<_}
+use Prim.Native.Nat.{ℕ, _<_}
 use native.Mathlib.Omega.{arith}
 use lib.Dec.{eqb}
 use lib.ListN.{length}
@@ -15,14 +15,11 @@ use Rattle.postcard.specs.Events.{ihavesFrom, Listed}
 use Rattle.postcard.specs.declared.message.Delivery.{Delivery}
 use Rattle.postcard.specs.declared.message.Wanted.{Wanted}
 use Rattle.postcard.specs.declared.units.Round.{Round}
-use Rattle.protocol.specs.State.{State}
 use Rattle.protocol.specs.Ticks.{evict}
 use Rattle.decide.specs.StateAfter.{sendGraftState, dispatchState, announceState}
 use Rattle.block.specs.View.{stateOf}
 use Rattle.block.specs.Goes.{Goes}
-use Rattle.block.specs.LinkSteps.{peerAt}
 use Rattle.block.specs.declared.head.Head.{Head}
-use Rattle.block.proofs.GoesLaws.{goes-still}
 use Rattle.block.proofs.LinkLaws.{count-links}
 use Rattle.steps.specs.Rooms.{roomsIn}
 use Rattle.steps.specs.Stands.{Step as Asks}

@@ -48,7 +48,16 @@ pub fn new_swarm(
     ensures { λ r. ⌜ Goes (newIn (instant .0) (now (rooms .entry)) sender (idOf id) (part start len (now (event .entry))) (round .0)) h (now (block .entry)) r (now (block .exit)) ⌝ }
 {
     let end = start + len;
-    on_new(h, block, instant, rooms, sender, id, &event[start..end], round)
+    on_new(
+        h,
+        block,
+        instant,
+        rooms,
+        sender,
+        id,
+        &event[start..end],
+        round,
+    )
 }
 
 // A Swarm broadcast, where a first event's work is done.

@@ -1,5 +1,3 @@
-use native.Mathlib.Omega.{arith}
-use borrow.Author.Needs.{needs}
 use Rattle.state_after.proofs.swarms.on_new.Statement.{statement}
 use Rattle.state_after.proofs.swarms.on_new.Tie as tie
 use Rattle.state_after.proofs.swarms.on_new.Reads as reads
@@ -10,4 +8,3 @@ returns c = ?
 
 pub on-new-spec : {M : Type 1} → statement M
 on-new-spec = tie.close (tie.spec returns)
-

@@ -30,7 +30,7 @@ use Rattle.kinds.specs.declared.Step.{Step}
 use Rattle.kinds.specs.declared.Step.the-variants as step
 use Rattle.state_after.specs.Controls.{prunedAt, graftedAt}
 use Rattle.broadcast.specs.Broadcasts.{broadcastIn}
-use Rattle.state_after.specs.Swarms.{newIn}
+use Rattle.new_gossip.specs.News.{newIn}
 use Rattle.state_after.specs.StepAfter.{steppedIn, Stepping}
 
 -- `r` is the step, `e` what the match tells of it

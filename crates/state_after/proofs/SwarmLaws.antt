@@ -14,7 +14,7 @@ use Rattle.block.specs.Goes.{Goes}
 use Rattle.block.specs.declared.head.Head.{Head}
 use Rattle.steps.specs.Stands.{Step}
 use Rattle.broadcast.specs.Broadcasts.{broadcastIn}
-use Rattle.state_after.specs.Swarms.{newIn}
+use Rattle.new_gossip.specs.News.{newIn}
 
 -- "valid Swarm message of round 65,535" is refused
 pub below-last : (n : ℕ) → n < 65536 → eqb n 65535 ≡ false → n < 65535

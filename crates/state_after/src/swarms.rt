@@ -5,7 +5,7 @@ use postcard::units::Round;
 use rows::id::Id;
 ghost use mathlib.Core.Path.{_≡_};
 ghost use mathlib.Core.Bool.{true, false};
-ghost use Prim.Native.Nat.{_^_, _≤_, _<_};
+ghost use Prim.Native.Nat.{_^_, _≤_};
 ghost use lib.Dec.{eqb};
 ghost use Rattle.rows.specs.Part.{part};
 ghost use Rattle.rows.specs.Ident.{idOf};
@@ -13,23 +13,7 @@ ghost use Rattle.block.specs.Goes.{Goes};
 ghost use Rattle.steps.specs.Stands.{Step};
 ghost use Rattle.kinds.specs.Meaning.{ContentHeld};
 ghost use Rattle.broadcast.specs.Broadcasts.{broadcastIn};
-ghost use Rattle.state_after.specs.Swarms.{newIn};
-
-fn on_new(
-    h: Head,
-    block: &mut [u8],
-    instant: Millis,
-    rooms: &[u64; 34],
-    sender: u64,
-    id: Id,
-    content: &[u8],
-    round: Round,
-) -> Head
-    requires { ⌜ Step (newIn (instant .0) (now rooms) sender (idOf id) (now content) (round .0)) h (now block) × (h .live .init ≡ true) × (round .0 < 65535) × (instant .0 ≤ 2 ^ 62) ⌝ }
-    ensures { λ r. ⌜ Goes (newIn (instant .0) (now (rooms .entry)) sender (idOf id) (now (content .entry)) (round .0)) h (now (block .entry)) r (now (block .exit)) ⌝ }
-{
-    h
-}
+ghost use Rattle.new_gossip.specs.News.{newIn};
 
 // "New Swarm round r", where a first event's work is done.
 pub fn new_swarm(
@@ -48,7 +32,7 @@ pub fn new_swarm(
     ensures { λ r. ⌜ Goes (newIn (instant .0) (now (rooms .entry)) sender (idOf id) (part start len (now (event .entry))) (round .0)) h (now (block .entry)) r (now (block .exit)) ⌝ }
 {
     let end = start + len;
-    on_new(
+    new_gossip::on_new(
         h,
         block,
         instant,

@@ -9,7 +9,6 @@ use Rattle.lists.specs.Base.{if_then_else_}
 use Rattle.lists.specs.Map.{keys}
 use Rattle.protocol.specs.Links.{Links}
 use Rattle.protocol.specs.State.{State, withInit}
-use Rattle.protocol.specs.Run.{Room}
 use Rattle.protocol.specs.Ticks.{evict}
 use Rattle.protocol.specs.Whole.{fits}
 use Rattle.decide.specs.Settled.{settled}
@@ -18,11 +17,10 @@ use Rattle.block.specs.View.{stateOf}
 use Rattle.block.specs.Goes.{Goes}
 use Rattle.block.specs.declared.head.Head.{Head}
 use Rattle.steps.specs.Rooms.{roomsIn}
-use Rattle.steps.specs.Stands.{Stands}
 use Rattle.steps.proofs.RoomsLaws.{same-rooms-in}
 use Rattle.settled.proofs.ThenLaws.{init-of}
 use Rattle.contents.proofs.StandsAfter.{stands-after, kept-of, kept-first}
-use Rattle.kinds.specs.Meaning.{stepState, StepHeld, ListHeld}
+use Rattle.kinds.specs.Meaning.{stepState, StepHeld}
 use Rattle.kinds.specs.declared.Step.{Step}
 use Rattle.kinds.specs.declared.Step.the-variants as step
 use Rattle.kinds.proofs.MeaningLaws.{first-settled, settled-links}

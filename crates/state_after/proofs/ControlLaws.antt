@@ -1,12 +1,11 @@
 -- What another mark of a link leaves as it is, and the state after a Prune and after a Graft.
 -- Assumes nothing.
-use mathlib.Core.Path.{_≡_, refl, sym, ap, _∙_, subst}
-use mathlib.Core.Bool.{Bool, true}
+use mathlib.Core.Path.{_≡_, refl, sym, ap, _∙_}
 use mathlib.Core.List.{List, [], _∷_}
-use mathlib.Core.Option.{Option, none, some}
+use mathlib.Core.Option.{none, some}
 use Prim.Native.Nat.{ℕ, _<_}
 use native.Mathlib.Omega.{arith}
-use lib.ListN.{length, getD, length-map}
+use lib.ListN.{getD}
 use lib.Seq.{set-getD}
 use Rattle.rows.specs.Sorted.{Here}
 use Rattle.rows.proofs.Parts.{set-put}
@@ -17,9 +16,8 @@ use Rattle.time_cache.specs.TimeCache.{get}
 use Rattle.time_cache.proofs.MapPlaces.{insert-here}
 use Rattle.time_cache.proofs.Orders.{up-of}
 use Rattle.protocol.specs.Links.{Mark, eager, lazy, Links, markIfThere, addEager, addLazy}
-use Rattle.protocol.specs.State.{State, withLinks}
+use Rattle.protocol.specs.State.{State}
 use Rattle.protocol.specs.Whole.{fits}
-use Rattle.protocol.specs.Run.{Room}
 use Rattle.protocol.proofs.ConsistentSteps.{core-links}
 use Rattle.protocol.proofs.ConsistentTables.{wider-insert}
 use Rattle.decide.specs.StateAfter.{replyState, graftState}
@@ -33,7 +31,7 @@ use Rattle.steps.specs.Rooms.{roomsIn}
 use Rattle.steps.specs.Stands.{Stands, Step}
 use Rattle.steps.proofs.StandsLaws.{links-up}
 use Rattle.steps.proofs.RoomsLaws.{same-rooms-in}
-use Rattle.contents.proofs.StandsAfter.{Kept, stands-after}
+use Rattle.contents.proofs.StandsAfter.{stands-after}
 use Rattle.eager.specs.Reply.{Replies, repliedState}
 use Rattle.eager.proofs.CallLaws.{replies}
 use Rattle.state_after.specs.Controls.{prunedAt, graftedAt}

@@ -1,9 +1,9 @@
 -- What each step asks, out of what all ask, and the state after it.
 -- Assumes nothing.
-use mathlib.Core.Path.{_≡_, refl, sym, ap, _∙_, subst}
-use mathlib.Core.Bool.{Bool, true, false}
+use mathlib.Core.Path.{_≡_, refl, sym, subst}
+use mathlib.Core.Bool.{false}
 use mathlib.Core.List.{List}
-use Prim.Native.Nat.{ℕ, _^_, _≤_, _<_}
+use Prim.Native.Nat.{ℕ, _<_}
 use native.Mathlib.Omega.{arith}
 use lib.Dec.{eqb}
 use lib.ListN.{length}
@@ -15,14 +15,11 @@ use Rattle.postcard.specs.Events.{ihavesFrom, Listed}
 use Rattle.postcard.specs.declared.message.Delivery.{Delivery}
 use Rattle.postcard.specs.declared.message.Wanted.{Wanted}
 use Rattle.postcard.specs.declared.units.Round.{Round}
-use Rattle.protocol.specs.State.{State}
 use Rattle.protocol.specs.Ticks.{evict}
 use Rattle.decide.specs.StateAfter.{sendGraftState, dispatchState, announceState}
 use Rattle.block.specs.View.{stateOf}
 use Rattle.block.specs.Goes.{Goes}
-use Rattle.block.specs.LinkSteps.{peerAt}
 use Rattle.block.specs.declared.head.Head.{Head}
-use Rattle.block.proofs.GoesLaws.{goes-still}
 use Rattle.block.proofs.LinkLaws.{count-links}
 use Rattle.steps.specs.Rooms.{roomsIn}
 use Rattle.steps.specs.Stands.{Step as Asks}
@@ -32,7 +29,8 @@ use Rattle.kinds.specs.Meaning.{stepState, stepFar, ContentHeld}
 use Rattle.kinds.specs.declared.Step.{Step}
 use Rattle.kinds.specs.declared.Step.the-variants as step
 use Rattle.state_after.specs.Controls.{prunedAt, graftedAt}
-use Rattle.state_after.specs.Swarms.{newIn, sentIn}
+use Rattle.broadcast.specs.Broadcasts.{broadcastIn}
+use Rattle.new_gossip.specs.News.{newIn}
 use Rattle.state_after.specs.StepAfter.{steppedIn, Stepping}
 
 -- `r` is the step, `e` what the match tells of it
@@ -62,7 +60,7 @@ module _ {bytes array : List ℕ} {instant : ℕ} {r : Step} {h : Head} {xs : Li
 
   -- a new Swarm message
   module _ {sender : ℕ} {id : Id} {start len : ℕ} {round : Round} (e : r ≡ step.NewSwarm sender id start len round) where
-    pub new-asks : Asks (newIn array instant sender (idOf id) (part start len bytes) (round .0)) h xs
+    pub new-asks : Asks (newIn instant array sender (idOf id) (part start len bytes) (round .0)) h xs
     unfolding stepState
     new-asks = record { stands = a .stands; fits = known e .fits }
 
@@ -73,7 +71,7 @@ module _ {bytes array : List ℕ} {instant : ℕ} {r : Step} {h : Head} {xs : Li
     unfolding stepFar
     new-near = known e .near
 
-    pub new-goes : {g : Head} {ys : List ℕ} → Goes (newIn array instant sender (idOf id) (part start len bytes) (round .0)) h xs g ys → Goes (steppedIn bytes array instant r) h xs g ys
+    pub new-goes : {g : Head} {ys : List ℕ} → Goes (newIn instant array sender (idOf id) (part start len bytes) (round .0)) h xs g ys → Goes (steppedIn bytes array instant r) h xs g ys
     unfolding stepState
     new-goes d = told e (record { state = d .state; sound = d .sound })
 
@@ -124,11 +122,11 @@ module _ {bytes array : List ℕ} {instant : ℕ} {r : Step} {h : Head} {xs : Li
     pub broadcast-held : ContentHeld bytes start len
     broadcast-held = known e .held
 
-    pub broadcast-asks : Asks (sentIn array instant (idOf id) (part start len bytes)) h xs
+    pub broadcast-asks : Asks (broadcastIn instant array (idOf id) (part start len bytes)) h xs
     unfolding stepState
     broadcast-asks = record { stands = a .stands; fits = known e .fits }
 
-    pub broadcast-goes : {g : Head} {ys : List ℕ} → Goes (sentIn array instant (idOf id) (part start len bytes)) h xs g ys → Goes (steppedIn bytes array instant r) h xs g ys
+    pub broadcast-goes : {g : Head} {ys : List ℕ} → Goes (broadcastIn instant array (idOf id) (part start len bytes)) h xs g ys → Goes (steppedIn bytes array instant r) h xs g ys
     unfolding stepState
     broadcast-goes d = told e (record { state = d .state; sound = d .sound })
 

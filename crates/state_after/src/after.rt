@@ -29,7 +29,16 @@ pub fn step_state(
             len,
             round,
         } => swarms::new_swarm(
-            h, block, instant, rooms, event, sender, id, start, len, round,
+            h,
+            block,
+            instant,
+            rooms,
+            event,
+            sender,
+            id,
+            start,
+            len,
+            round,
         ),
         Step::NewNeighbors {
             sender: _,

@@ -19,13 +19,7 @@ pub fn on_prune(h: Head, block: &mut [u8], link: usize)
 
 // `on_graft`: the peer of the link goes eager, and gets the message that it wants, if it is cached. Its time is that of one pass over the record's column of
 // link numbers.
-pub fn on_graft(
-    h: Head,
-    block: &mut [u8],
-    rooms: &[u64; 34],
-    link: usize,
-    wanted: Wanted,
-) -> Head
+pub fn on_graft(h: Head, block: &mut [u8], rooms: &[u64; 34], link: usize, wanted: Wanted) -> Head
     requires { ⌜ Step (graftedAt (now rooms) link (wantedValue wanted)) h (now block) × (link < h .live .links) ⌝ }
     ensures { λ r. ⌜ Goes (graftedAt (now (rooms .entry)) link (wantedValue wanted)) h (now (block .entry)) r (now (block .exit)) ⌝ }
 {

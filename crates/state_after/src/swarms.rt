@@ -5,44 +5,15 @@ use postcard::units::Round;
 use rows::id::Id;
 ghost use mathlib.Core.Path.{_≡_};
 ghost use mathlib.Core.Bool.{true, false};
-ghost use Prim.Native.Nat.{_^_, _≤_, _<_};
+ghost use Prim.Native.Nat.{_^_, _≤_};
 ghost use lib.Dec.{eqb};
 ghost use Rattle.rows.specs.Part.{part};
 ghost use Rattle.rows.specs.Ident.{idOf};
 ghost use Rattle.block.specs.Goes.{Goes};
 ghost use Rattle.steps.specs.Stands.{Step};
 ghost use Rattle.kinds.specs.Meaning.{ContentHeld};
-ghost use Rattle.state_after.specs.Swarms.{newIn, sentIn};
-
-fn on_new(
-    h: Head,
-    block: &mut [u8],
-    instant: Millis,
-    rooms: &[u64; 34],
-    sender: u64,
-    id: Id,
-    content: &[u8],
-    round: Round,
-) -> Head
-    requires { ⌜ Step (newIn (now rooms) (instant .0) sender (idOf id) (now content) (round .0)) h (now block) × (h .live .init ≡ true) × (round .0 < 65535) × (instant .0 ≤ 2 ^ 62) ⌝ }
-    ensures { λ r. ⌜ Goes (newIn (now (rooms .entry)) (instant .0) sender (idOf id) (now (content .entry)) (round .0)) h (now (block .entry)) r (now (block .exit)) ⌝ }
-{
-    h
-}
-
-fn on_broadcast(
-    h: Head,
-    block: &mut [u8],
-    instant: Millis,
-    rooms: &[u64; 34],
-    id: Id,
-    content: &[u8],
-) -> Head
-    requires { ⌜ Step (sentIn (now rooms) (instant .0) (idOf id) (now content)) h (now block) × (instant .0 ≤ 2 ^ 62) ⌝ }
-    ensures { λ r. ⌜ Goes (sentIn (now (rooms .entry)) (instant .0) (idOf id) (now (content .entry))) h (now (block .entry)) r (now (block .exit)) ⌝ }
-{
-    h
-}
+ghost use Rattle.broadcast.specs.Broadcasts.{broadcastIn};
+ghost use Rattle.new_gossip.specs.News.{newIn};
 
 // "New Swarm round r", where a first event's work is done.
 pub fn new_swarm(
@@ -57,11 +28,20 @@ pub fn new_swarm(
     len: usize,
     round: Round,
 ) -> Head
-    requires { ⌜ Step (newIn (now rooms) (instant .0) sender (idOf id) (part start len (now event)) (round .0)) h (now block) × (h .live .init ≡ true) × ContentHeld (now event) start len × (eqb (round .0) 65535 ≡ false) × (instant .0 ≤ 2 ^ 62) ⌝ }
-    ensures { λ r. ⌜ Goes (newIn (now (rooms .entry)) (instant .0) sender (idOf id) (part start len (now (event .entry))) (round .0)) h (now (block .entry)) r (now (block .exit)) ⌝ }
+    requires { ⌜ Step (newIn (instant .0) (now rooms) sender (idOf id) (part start len (now event)) (round .0)) h (now block) × (h .live .init ≡ true) × ContentHeld (now event) start len × (eqb (round .0) 65535 ≡ false) × (instant .0 ≤ 2 ^ 62) ⌝ }
+    ensures { λ r. ⌜ Goes (newIn (instant .0) (now (rooms .entry)) sender (idOf id) (part start len (now (event .entry))) (round .0)) h (now (block .entry)) r (now (block .exit)) ⌝ }
 {
     let end = start + len;
-    on_new(h, block, instant, rooms, sender, id, &event[start..end], round)
+    new_gossip::on_new(
+        h,
+        block,
+        instant,
+        rooms,
+        sender,
+        id,
+        &event[start..end],
+        round,
+    )
 }
 
 // A Swarm broadcast, where a first event's work is done.
@@ -75,9 +55,9 @@ pub fn broadcast_swarm(
     start: usize,
     len: usize,
 ) -> Head
-    requires { ⌜ Step (sentIn (now rooms) (instant .0) (idOf id) (part start len (now event))) h (now block) × ContentHeld (now event) start len × (instant .0 ≤ 2 ^ 62) ⌝ }
-    ensures { λ r. ⌜ Goes (sentIn (now (rooms .entry)) (instant .0) (idOf id) (part start len (now (event .entry)))) h (now (block .entry)) r (now (block .exit)) ⌝ }
+    requires { ⌜ Step (broadcastIn (instant .0) (now rooms) (idOf id) (part start len (now event))) h (now block) × ContentHeld (now event) start len × (instant .0 ≤ 2 ^ 62) ⌝ }
+    ensures { λ r. ⌜ Goes (broadcastIn (instant .0) (now (rooms .entry)) (idOf id) (part start len (now (event .entry)))) h (now (block .entry)) r (now (block .exit)) ⌝ }
 {
     let end = start + len;
-    on_broadcast(h, block, instant, rooms, id, &event[start..end])
+    broadcast::on_broadcast(h, block, instant, rooms, id, &event[start..end])
 }

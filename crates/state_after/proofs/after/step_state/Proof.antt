@@ -245,4 +245,3 @@ step-state-spec =
     returns-12
     same-length-10
     returns-13)
-

@@ -1,8 +1,6 @@
 -- `controls::on_graft` meets its contract: the mark, and the reply behind it.
 -- Assumes nothing.
 use mathlib.Core.Path.{sym, subst}
-use Prim.Native.Nat.{ℕ}
-use mathlib.Core.List.{List}
 use Rattle.postcard.specs.Values.{wantedValue}
 use Rattle.postcard.specs.declared.message.Wanted.{Wanted}
 use Rattle.block.specs.Goes.{Goes}
@@ -64,4 +62,3 @@ on-graft-spec =
     returns
     same-length-2
     returns-2)
-

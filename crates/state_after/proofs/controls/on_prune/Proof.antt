@@ -19,4 +19,3 @@ returns c =
 
 pub on-prune-spec : {M : Type 1} → statement M
 on-prune-spec = tie.close (tie.spec set-mark-requires same-length returns)
-

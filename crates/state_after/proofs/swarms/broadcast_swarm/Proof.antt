@@ -45,4 +45,3 @@ broadcast-swarm-spec =
     on-broadcast-requires
     same-length
     returns)
-

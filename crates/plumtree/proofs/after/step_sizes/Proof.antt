@@ -4,7 +4,9 @@ use Rattle.plumtree.proofs.after.step_sizes.Statement.{statement}
 use Rattle.plumtree.proofs.after.step_sizes.Tie as tie
 
 step-sizes-requires : tie.Need-step-sizes-requires
-step-sizes-requires c κs = (c .pre .stands, c .pre .held)
+step-sizes-requires c κs =
+    let a = c .before .before .pre in
+    (a .stands, a .held)
 
 returns : tie.Need-returns
 returns c = c .step-sizes .ensures

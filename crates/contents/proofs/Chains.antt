@@ -4,19 +4,18 @@ use mathlib.Core.Path.{_≡_, refl, sym, ap, _∙_, subst}
 use mathlib.Core.List.{List, [], _∷_, _++_, map}
 use Prim.Native.Nat.{ℕ, zero, suc, _+_, _-_, _*_, _≤_, _<_}
 use native.Mathlib.Omega.{arith}
-use lib.ListN.{length, take, drop, getD, length-drop}
+use lib.ListN.{length, take, drop, length-drop}
 use lib.Seq.{drop-drop, getD-drop}
 use Rattle.lists.specs.Base.{sum}
-use Rattle.rows.specs.Part.{part, put}
+use Rattle.rows.specs.Part.{part}
 use Rattle.rows.specs.Digits.{leNat, leBytes}
-use Rattle.rows.specs.Rows.{rows}
 use Rattle.rows.proofs.Parts.{part-put, part-before, part-after, length-part}
 use Rattle.rows.proofs.Digits.{length-leBytes, leNat-leBytes}
 use Rattle.refs.proofs.Places.{row-end}
 use Rattle.time_cache.specs.Tables.{ExpiryRow, expiryRowOf, expiryRows, expiryOf, rowAt, noRow}
 use Rattle.time_cache.proofs.ExpiryLaws.{row-at, length-expiryRows}
 use Rattle.block.specs.View.{fourAt}
-use Rattle.block.specs.Sound.{Adjoining} 
+use Rattle.block.specs.Sound.{Adjoining}
 use Rattle.block.specs.Sound.Adjoining.{done as last, next as then}
 use Rattle.contents.specs.Starts.{startOf, lenOf, firstStart, Chain, done, next, withStart, withLen, shiftedRow, Above}
 

@@ -2,27 +2,27 @@
 -- Assumes nothing.
 use mathlib.Core.Path.{_≡_, refl, sym, ap, _∙_, subst}
 use mathlib.Core.Bool.{true}
-use mathlib.Core.List.{List, [], _∷_, _++_, map}
-use Prim.Native.Nat.{ℕ, zero, suc, _+_, _-_, _*_, _≤_, _<_}
+use mathlib.Core.List.{List, [], map}
+use Prim.Native.Nat.{ℕ, _+_, _-_, _*_, _≤_, _<_}
 use native.Mathlib.Omega.{arith}
 use lib.Dec.{lit<}
-use lib.ListN.{length, take, drop, getD, set, length-drop}
+use lib.ListN.{length, drop, getD, set, length-drop}
 use Rattle.lists.specs.Base.{ascending}
 use Rattle.rows.specs.Part.{part, put}
 use Rattle.rows.specs.Rows.{rows}
 use Rattle.rows.proofs.Parts.{length-part}
 use Rattle.refs.specs.Refs.{Ref, refs, places, Below, left}
 use Rattle.time_cache.specs.TimeCache.{Cache, expireUntil}
-use Rattle.time_cache.specs.Tables.{ExpiryRow, expiryRowOf, expiryRows, rowAt, named, cacheOf, cacheAt, refsAt, rowsAt, Sound as SoundCache}
+use Rattle.time_cache.specs.Tables.{ExpiryRow, expiryRows, rowAt, named, cacheOf, cacheAt, refsAt, rowsAt}
 use Rattle.time_cache.specs.Steps.{Expires}
 use Rattle.time_cache.specs.declared.cache.TimeBoundCache.{TimeBoundCache}
 use Rattle.time_cache.specs.declared.cache.Expired.{Expired}
 use Rattle.time_cache.proofs.ExpiryLaws.{length-expiryRows}
 use Rattle.time_cache.proofs.TableLaws.{keys-named}
 use Rattle.protocol.specs.State.{Limits, Cached, withCache}
-use Rattle.block.specs.Layout.{sizes, place, tables, table, end}
+use Rattle.block.specs.Layout.{place, tables, table, end}
 use Rattle.block.specs.View.{stateOf, viewOf, limitsOf, cachedIn, cachedOf}
-use Rattle.block.specs.Fit.{Fit, Within}
+use Rattle.block.specs.Fit.{Fit}
 use Rattle.block.specs.Sound.{Laid, Sound, held}
 use Rattle.block.specs.Goes.{Goes}
 use Rattle.block.specs.Heads.{withCachedCounts}
@@ -31,10 +31,9 @@ use Rattle.block.proofs.Tables.{frame, length-table}
 use Rattle.block.proofs.RowLaws.{part-in}
 use Rattle.caches.specs.InBlock.{cacheFrom, cachedCache, InOrder}
 use Rattle.caches.proofs.CacheLaws.{refs-in, rows-in, frame-pair, expired-in}
-use Rattle.caches.proofs.CachedLaws.{cached-keys}
 use Rattle.contents.specs.Starts.{startOf, lenOf, firstStart, Chain, shiftedRow, Above}
 use Rattle.contents.specs.CacheSteps.{cachedLeft, Others, Ahead, Shifts}
-use Rattle.contents.proofs.Chains.{Along, along-at, along-map, along-same, chain-along, chain-at, chain-ends, chain-drop, chain-above, of-adjoining, to-adjoining, wide-rows}
+use Rattle.contents.proofs.Chains.{Along, along-at, along-map, chain-along, chain-at, chain-ends, chain-drop, chain-above, of-adjoining, to-adjoining, wide-rows}
 use Rattle.contents.proofs.Contents.{part-moved, cache-same, left-held}
 
 -- the other tables, out of what is asked of all
@@ -193,12 +192,12 @@ module _ (h : Head) (xs : List ℕ) (ahead : Ahead h xs) where
         (sh .rows ∙ (λ k. map (shiftedRow 0 (er k)) (rows-kept k))))
 
 -- what `expire_until` of the two tables leaves
-pub record Expires-left (h : Head) (xs : List ℕ) (t : ℕ) (g : Head) (ys : List ℕ) : Type 0 where
+pub record ExpiredAhead (h : Head) (xs : List ℕ) (t : ℕ) (g : Head) (ys : List ℕ) : Type 0 where
   pub state : stateOf g ys ≡ cachedLeft t (stateOf h xs)
   pub ahead : Ahead g ys
 
 pub expired-ahead : (h : Head) (xs ys : List ℕ) (instant : ℕ) (r : Expired) → Sound h xs → InOrder (stateOf h xs .cache) → length ys ≡ length xs → Expires (cachedCache h) instant xs r ys
-    → Expires-left h xs instant (withCachedCounts (r .cache .entries .len) (r .cache .expiry .len) (h .live .contents) h) ys
+    → ExpiredAhead h xs instant (withCachedCounts (r .cache .entries .len) (r .cache .expiry .len) (h .live .contents) h) ys
 unfolding cachedIn stateOf
 expired-ahead h xs ys instant r sound o e x =
     let l : Limits = limitsOf (h .limits) in

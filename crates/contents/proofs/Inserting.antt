@@ -1,10 +1,9 @@
 -- A message put into the two tables without its content.
 -- Assumes nothing.
 use mathlib.Core.Path.{_≡_, refl, sym, ap, _∙_, subst}
-use mathlib.Core.List.{List, [], _∷_, _++_, map}
-use Prim.Native.Nat.{ℕ, zero, suc, _+_, _-_, _*_, _≤_, _<_}
+use mathlib.Core.List.{List, [], _∷_, _++_}
+use Prim.Native.Nat.{ℕ, _+_, _-_, _*_, _≤_, _<_}
 use native.Mathlib.Omega.{arith}
-use native.Mathlib.Numerals.{add-one}
 use lib.Dec.{lit<}
 use lib.ListN.{length, take, drop, getD, set, length-drop}
 use lib.Seq.{length-take-le, getD-at, drop-append-add}
@@ -15,18 +14,18 @@ use Rattle.rows.proofs.Digits.{length-leBytes, leNat-leBytes}
 use Rattle.rows.proofs.Rows.{put-gap}
 use Rattle.refs.specs.Refs.{Ref, ref, refOf, refs, places, Below}
 use Rattle.refs.proofs.Places.{ref-at, row-end, length-refs}
-use Rattle.time_cache.specs.TimeCache.{Timed, Cache, put as putIn}
-use Rattle.time_cache.specs.Tables.{ExpiryRow, expiryRow, expiryRowOf, expiryRows, rowAt, noRow, Held, held as heldBytes, cacheOf, cacheIn, cacheAt, refsAt, rowsAt, valuesAs, Lies, Sound as SoundCache}
+use Rattle.time_cache.specs.TimeCache.{Cache, put as putIn}
+use Rattle.time_cache.specs.Tables.{ExpiryRow, expiryRow, expiryRows, rowAt, noRow, cacheIn, cacheAt, refsAt, rowsAt}
 use Rattle.time_cache.specs.Steps.{refAt, heldAt, Inserts}
 use Rattle.time_cache.specs.declared.cache.TimeBoundCache.{TimeBoundCache}
 use Rattle.time_cache.specs.declared.cache.Inserted.{Inserted}
 use Rattle.time_cache.proofs.ExpiryLaws.{length-expiryRows}
 use Rattle.time_cache.proofs.ValueLaws.{put-as, length-as}
-use Rattle.time_cache.proofs.ViewLaws.{Fresh, fresh-start, fresh-own, fresh-rest, held-own, held-rest}
+use Rattle.time_cache.proofs.ViewLaws.{Fresh, fresh-start, fresh-own, fresh-rest}
 use Rattle.time_cache.proofs.WriteLaws.{own-stored, rest-stored, put-getD-same}
 use Rattle.protocol.specs.State.{Limits, Cached, withCache}
-use Rattle.block.specs.Layout.{sizes, place, tables, table, end}
-use Rattle.block.specs.View.{stateOf, limitsOf, cachedIn, cachedOf, contentOf, halfAt, fourAt}
+use Rattle.block.specs.Layout.{place, tables, table, end}
+use Rattle.block.specs.View.{stateOf, limitsOf, cachedIn, cachedOf, contentOf, halfAt}
 use Rattle.block.specs.Fit.{Fit}
 use Rattle.block.specs.Sound.{Sound, held}
 use Rattle.block.specs.Goes.{Goes}
@@ -34,14 +33,14 @@ use Rattle.block.specs.Heads.{withCachedCounts}
 use Rattle.block.specs.declared.head.Head.{Head}
 use Rattle.block.proofs.Tables.{frame, length-table}
 use Rattle.block.proofs.RowLaws.{frame-two}
-use Rattle.caches.specs.InBlock.{cacheFrom, cachedCache, InOrder, AtMost}
+use Rattle.caches.specs.InBlock.{cacheFrom, cachedCache, AtMost}
 use Rattle.caches.proofs.CacheLaws.{refs-in, rows-in, frame-pair, inserted-in, count-entries, count-expiry}
 use Rattle.caches.proofs.CachedLaws.{cached-lies}
 use Rattle.contents.specs.Starts.{startOf, lenOf, firstStart, Chain, withStart, withLen}
 use Rattle.contents.specs.CacheSteps.{message, cachedAlso, cachedRows, emptyIn, Others}
 use Rattle.contents.proofs.Chains.{of-adjoining, chain-ends, chain-drop, chain-gap, start-set, len-set, len-start, wide-rows}
 use Rattle.contents.proofs.Shifts.{store-start}
-use Rattle.contents.proofs.Closing.{others-of, cached-state, cached-fit, cached-laid}
+use Rattle.contents.proofs.Closing.{others-of, cached-state, cached-laid}
 
 -- how many entries there are when a key was put in does not hang on its value
 pub count-put : {A : Type 0} (k t : ℕ) (v w : A) (c : Cache A) → length (putIn k v t c .entries) ≡ length (putIn k w t c .entries)
@@ -134,15 +133,23 @@ module _ (h : Head) (xs : List ℕ) (sound : Sound h xs) (id round t : ℕ) (r :
   unfolding stateOf cachedIn
   hn =
       let v : Cached = cachedOf store (heldAt (r .cache) i j ys .own) (heldAt (r .cache) i j ys .rest) in
-      omega (arith, most .entries, count-put id t v (message [] round) (stateOf h xs .cache),
-        sym (count-entries l 4 4 n′ 5 48 m′ ys (lit< tt) wn′ (lit< tt) wm′ (cachedOf store)) ∙ ap (λ (c : Cache Cached). length (c .entries)) first)
+      omega (
+        arith,
+        most .entries,
+        count-put id t v (message [] round) (stateOf h xs .cache),
+        sym (count-entries l 4 4 n′ 5 48 m′ ys (lit< tt) wn′ (lit< tt) wm′ (cachedOf store)) ∙ ap (λ (c : Cache Cached). length (c .entries)) first,
+      )
 
   hm : m′ ≤ 2 * l .C
   unfolding stateOf cachedIn
   hm =
       let v : Cached = cachedOf store (heldAt (r .cache) i j ys .own) (heldAt (r .cache) i j ys .rest) in
-      omega (arith, most .expiry, expiry-put id t v (message [] round) (stateOf h xs .cache),
-        sym (count-expiry l 4 4 n′ 5 48 m′ ys (lit< tt) wn′ (lit< tt) wm′ (cachedOf store)) ∙ ap (λ (c : Cache Cached). length (c .expiry)) first)
+      omega (
+        arith,
+        most .expiry,
+        expiry-put id t v (message [] round) (stateOf h xs .cache),
+        sym (count-expiry l 4 4 n′ 5 48 m′ ys (lit< tt) wn′ (lit< tt) wm′ (cachedOf store)) ∙ ap (λ (c : Cache Cached). length (c .expiry)) first,
+      )
 
   pub fit-in : Fit newHead ys
   fit-in = record { ceilings = sound .fit .ceilings; within = omega (arith, sound .fit .within, hn, hm); long = omega (arith, e, sound .fit .long) }

@@ -4,7 +4,7 @@ use mathlib.Core.Path.{_≡_, refl, sym, ap, _∙_, subst}
 use mathlib.Core.Bool.{true}
 use mathlib.Core.Option.{Option, none, some}
 use mathlib.Core.List.{List, [], _∷_}
-use Prim.Native.Nat.{ℕ, zero, suc, _+_, _-_, _*_, _≤_, _<_}
+use Prim.Native.Nat.{ℕ, _+_, _-_, _≤_}
 use native.Mathlib.Omega.{arith}
 use borrow.Author.Tests.{eq-eqb, le-ltb}
 use lib.Dec.{ltb, eqb}
@@ -12,7 +12,7 @@ use lib.ListN.{length}
 use Rattle.lists.specs.Base.{sum, ascending}
 use Rattle.lists.specs.Map.{Map, Entry, entry, keys, lookup, insert}
 use Rattle.lists.proofs.MapLaws.{cases, lookup-insert-same, ascending-insert}
-use Rattle.time_cache.specs.TimeCache.{Timed, Cache, valueOf, get, put as putIn, withValue, replace, inPopOrder}
+use Rattle.time_cache.specs.TimeCache.{Timed, Cache, valueOf, get, put as putIn, withValue, replace}
 use Rattle.time_cache.proofs.Timely.{order-added}
 use Rattle.time_cache.proofs.ValueLaws.{replace-put}
 use Rattle.protocol.specs.State.{State, Cached, withCache}

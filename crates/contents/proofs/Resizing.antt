@@ -2,15 +2,13 @@
 -- Assumes nothing.
 use mathlib.Core.Path.{_≡_, refl, sym, ap, _∙_, subst}
 use mathlib.Core.Logic.{_⊎_, inl, inr}
-use mathlib.Core.Bool.{true}
-use mathlib.Core.Option.{Option, none, some}
+use mathlib.Core.Option.{Option, some}
 use mathlib.Core.List.{List, [], _∷_, _++_, map, map-append}
-use Prim.Native.Nat.{ℕ, zero, suc, _+_, _-_, _*_, _≤_, _<_}
+use Prim.Native.Nat.{ℕ, zero, suc, _+_, _-_, _≤_, _<_}
 use native.Mathlib.Omega.{arith}
-use native.Mathlib.Numerals.{add-one}
 use Rattle.rows.proofs.Ids.{tri}
-use lib.ListN.{length, take, drop, getD, length-drop, length-map, length-append, List·getD-append, List·getD-map, take-append-drop}
-use lib.Seq.{getD-take, getD-drop, getD-at, getD-append-add, length-take-le, drop-cons}
+use lib.ListN.{length, take, drop, getD, length-drop, length-map, List·getD-append, List·getD-map}
+use lib.Seq.{getD-take, getD-drop, getD-at, getD-append-add, length-take-le}
 use Rattle.lists.specs.Base.{sum}
 use Rattle.lists.specs.Map.{Map, Entry, entry, keys, lookup, insert}
 use Rattle.rows.specs.Part.{part, put}
@@ -19,15 +17,15 @@ use Rattle.rows.proofs.Parts.{part-before, part-after, part-put, length-part, l
 use Rattle.refs.specs.Refs.{Ref, ref, places, Below}
 use Rattle.refs.proofs.Places.{getD-map-in}
 use Rattle.time_cache.specs.TimeCache.{Timed, Expiry, Cache, valueOf, get, withValue, replace}
-use Rattle.time_cache.specs.Tables.{ExpiryRow, expiryRow, expiryOf, rowAt, noRow, noExpiry, named, entryOf, cacheOf}
+use Rattle.time_cache.specs.Tables.{ExpiryRow, expiryOf, rowAt, noRow, noExpiry, named, entryOf, cacheOf}
 use Rattle.time_cache.proofs.MapPlaces.{insert-here, lookup-here}
 use Rattle.time_cache.proofs.TableLaws.{keys-named}
 use Rattle.protocol.specs.State.{Cached}
-use Rattle.block.specs.View.{fourAt, halfAt, contentOf, cachedOf}
+use Rattle.block.specs.View.{halfAt, contentOf, cachedOf}
 use Rattle.contents.specs.CacheSteps.{refillWith, refill}
-use Rattle.contents.specs.Starts.{startOf, lenOf, firstStart, Chain, withLen, shiftedRow}
+use Rattle.contents.specs.Starts.{startOf, lenOf, Chain, withLen, shiftedRow}
 use Rattle.contents.proofs.Chains.{Along, along-at, along-expiry, along-map, chain-at, chain-order, chain-drop, chain-next, chain-resize, len-set, len-start, Wide, wide-drop}
-use Rattle.contents.proofs.Contents.{part-moved, part-of-put, place-low}
+use Rattle.contents.proofs.Contents.{part-moved, place-low}
 
 -- an element of a list that was changed at i
 module _ {A B : Type 0} (f g : A → B) (d : A) where

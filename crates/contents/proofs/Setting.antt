@@ -2,7 +2,7 @@
 -- Assumes nothing.
 use mathlib.Core.Path.{_≡_, refl, sym, ap, _∙_, subst}
 use mathlib.Core.Bool.{true}
-use mathlib.Core.Option.{Option, none, some}
+use mathlib.Core.Option.{Option, some}
 use mathlib.Core.List.{List, [], _∷_, _++_, map}
 use Prim.Native.Nat.{ℕ, zero, suc, _+_, _-_, _*_, _≤_, _<_}
 use native.Mathlib.Omega.{arith}
@@ -10,16 +10,16 @@ use native.Mathlib.Numerals.{add-one}
 use lib.Dec.{lit<}
 use lib.ListN.{length, take, drop, getD, set, length-map}
 use Rattle.lists.specs.Base.{sum, ascending}
-use Rattle.lists.specs.Map.{Map, Entry, entry, keys, lookup, insert}
+use Rattle.lists.specs.Map.{Map, Entry, entry, keys, lookup}
 use Rattle.rows.specs.Part.{part, put}
-use Rattle.rows.specs.Digits.{leNat, leBytes}
+use Rattle.rows.specs.Digits.{leBytes}
 use Rattle.rows.specs.Sorted.{Ascending, Here, Between}
 use Rattle.rows.proofs.Parts.{length-part}
 use Rattle.rows.proofs.Digits.{length-leBytes}
 use Rattle.refs.specs.Refs.{Ref, ref, refs, places, Below}
 use Rattle.refs.proofs.Places.{getD-map-in, length-refs}
 use Rattle.time_cache.specs.TimeCache.{Timed, Cache, valueOf, get, withValue, replace}
-use Rattle.time_cache.specs.Tables.{ExpiryRow, expiryRows, rowAt, noRow, named, entryOf, cacheOf, refsAt}
+use Rattle.time_cache.specs.Tables.{ExpiryRow, expiryRows, rowAt, named, entryOf, cacheOf, refsAt}
 use Rattle.time_cache.specs.Steps.{refAt}
 use Rattle.time_cache.proofs.Orders.{up-of}
 use Rattle.time_cache.proofs.ExpiryLaws.{length-expiryRows}
@@ -27,7 +27,7 @@ use Rattle.time_cache.proofs.MapPlaces.{insert-here, lookup-here, lookup-betwee
 use Rattle.time_cache.proofs.TableLaws.{keys-named}
 use Rattle.time_cache.proofs.WriteLaws.{rest-stored}
 use Rattle.protocol.specs.State.{Limits, Cached, withCache}
-use Rattle.block.specs.Layout.{sizes, place, tables, table, end}
+use Rattle.block.specs.Layout.{place, tables, table}
 use Rattle.block.specs.View.{stateOf, limitsOf, cachedIn, cachedOf, contentOf}
 use Rattle.block.specs.Fit.{Fit}
 use Rattle.block.specs.Sound.{Sound, held}
@@ -37,11 +37,11 @@ use Rattle.block.specs.declared.head.Head.{Head}
 use Rattle.block.proofs.Tables.{frame, length-table}
 use Rattle.caches.specs.InBlock.{cachedCache, InOrder}
 use Rattle.caches.proofs.CacheLaws.{refs-in}
-use Rattle.contents.specs.Starts.{startOf, lenOf, firstStart, Chain, withLen, shiftedRow, Above}
+use Rattle.contents.specs.Starts.{startOf, lenOf, Chain, withLen, shiftedRow, Above}
 use Rattle.contents.specs.CacheSteps.{refillWith, refill, refilled, cachedRows, Others, Shifts, Resized}
 use Rattle.contents.proofs.Chains.{of-adjoining, chain-at, chain-drop, chain-next, chain-above, wide-rows}
 use Rattle.contents.proofs.Contents.{place-low}
-use Rattle.contents.proofs.Resizing.{noEntry, sum-put, refill-set, held-set, rowsThen, storeThen, chain-then, expiry-then, content-new, content-kept}
+use Rattle.contents.proofs.Resizing.{noEntry, sum-put, refill-set, rowsThen, storeThen, chain-then, expiry-then, content-new, content-kept}
 use Rattle.contents.proofs.Closing.{others-of, move-frame, cached-state, cached-fit, cached-laid}
 
 take-row : (p : ℕ) (xs zs : List ExpiryRow) → p < length xs → rowAt (take (suc p) xs ++ zs) p ≡ rowAt xs p

@@ -28,7 +28,7 @@ ghost use Rattle.contents.specs.Starts.{lenOf, firstStart, shiftedRow, A
 ghost use Rattle.contents.specs.CacheSteps.{cachedLeft, cachedAlso, cachedRows, message, emptyIn, refill, refilled, Ahead, Shifts, Resized};
 
 // Where the content of row j starts among the contents; for the row after the last, where the contents end.
-pub fn start_of(h: Head, block: &[u8], j: usize) -> usize
+fn start_of(h: Head, block: &[u8], j: usize) -> usize
     requires { ⌜ Fit h (now block) × (j ≤ h .live .«cached_rows») ⌝ }
     ensures { λ r. ⌜ r ≡ firstStart (h .live .contents) (drop j (expiryRows 48 (h .live .«cached_rows») (table (limitsOf (h .limits)) 5 (now (block .entry))))) ⌝ }
 {
@@ -188,7 +188,14 @@ fn insert_empty(mut h: Head, block: &mut [u8], id: Id, round: Round, expires: Mi
 }
 
 // "cache at" a round, until `expires`: requires that what it leaves is within the limits. Its time is that of one pass over entries, rows and contents.
-pub fn insert_cached(h: Head, block: &mut [u8], id: Id, content: &[u8], round: Round, expires: Millis) -> Head
+pub fn insert_cached(
+    h: Head,
+    block: &mut [u8],
+    id: Id,
+    content: &[u8],
+    round: Round,
+    expires: Millis,
+) -> Head
     requires { ⌜ Sound h (now block) × InOrder (stateOf h (now block) .cache) × AtMost (h .limits .cached) (putIn (idOf id) (message (now content) (round .0)) (expires .0) (stateOf h (now block) .cache)) × (held (putIn (idOf id) (message (now content) (round .0)) (expires .0) (stateOf h (now block) .cache) .entries) ≤ h .limits .content) ⌝ }
     ensures { λ r. ⌜ Goes (cachedAlso (idOf id) (now (content .entry)) (round .0) (expires .0)) h (now (block .entry)) r (now (block .exit)) ⌝ }
 {

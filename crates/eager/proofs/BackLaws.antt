@@ -189,7 +189,7 @@ module _ (sender : ℕ) (skip : Held) (array : List ℕ) (id round : ℕ) (h : H
     p = peerAt s i
 
     agree : Agree p (s .dropped) (kept i)
-    agree = for-apart (cachedIn (s .cache)) p ih (backsTo sender sk array s i) (s .dropped) (backs-apart sender sk array s (asks .pushing .up) i q)
+    agree = for-apart (cachedIn (s .cache)) p ih (backsTo sender sk array s i) (s .dropped) (backs-apart sender sk array s (asks .pushing .grafting .linksUp) i q)
 
     after-yes : handsBack sender sk array s i ≡ true → kept (i + 1) ≡ addNote (cachedIn (s .cache)) p ih (kept i)
     after-yes e =
@@ -239,7 +239,7 @@ module _ (sender : ℕ) (skip : Held) (array : List ℕ) (id round : ℕ) (h : H
         after-no
 
   pub back-start : SofarBack sender skip array id round h xs 0 h xs
-  back-start = record { state = sym (ap (λ (ds : List Note). withDropped ds s) after-none); sound = asks .pushing .sound }
+  back-start = record { state = sym (ap (λ (ds : List Note). withDropped ds s) after-none); sound = asks .pushing .grafting .sound }
 
   module _ (i : ℕ) (g : Head) (ys : List ℕ) (so : SofarBack sender skip array id round h xs i g ys) where
     pub same-count : g .live .links ≡ h .live .links

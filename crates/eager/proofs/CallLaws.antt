@@ -30,16 +30,18 @@ use Rattle.block.specs.LinkSteps.{peerAt}
 use Rattle.block.specs.declared.head.Head.{Head}
 use Rattle.caches.proofs.GraftedLaws.{count-grafted}
 use Rattle.caches.proofs.CachedLaws.{count-cached}
+use Rattle.grafts.specs.Reads.{HeldBelow}
+use Rattle.grafts.proofs.PeerLaws.{stands-grafting}
 use Rattle.steps.specs.Rooms.{roomsIn}
 use Rattle.steps.specs.Shared.{HeldIs}
 use Rattle.steps.specs.Stands.{Stands, Step}
 use Rattle.steps.specs.declared.Held.{Held}
 use Rattle.steps.specs.declared.Held.the-variants.{At, Nothing}
 use Rattle.steps.proofs.StandsLaws.{links-up, cached-order}
-use Rattle.eager.specs.Targets.{SkipIn, Pushing, skippedIn, targetsOf, backsOf}
+use Rattle.eager.specs.Targets.{Pushing, skippedIn, targetsOf, backsOf}
 use Rattle.eager.specs.Backs.{backState, NotesBack}
 use Rattle.eager.specs.Sent.{sentBytes, pushBytes}
-use Rattle.eager.specs.Reply.{HeldIn, Replying, Replies, repliedState, replyGains}
+use Rattle.eager.specs.Reply.{Replying, Replies, repliedState, replyGains}
 
 abbrev noGrafts : Entry (Timed Grafts)
 noGrafts = entry 0 (record { expires = 0; value = record { first = none; kept = none; peers = [] } })
@@ -50,11 +52,11 @@ noCached = entry 0 (record { expires = 0; value = record { content = []; round =
 -- a grafted message that was found is there, and its peers are those that are skipped
 
 module _ (h : Head) (xs : List ℕ) (fit : Fit h xs) (id : ℕ) where
-  pub skip-in : (found : Option Grafts) (k : Held) → HeldIs noGrafts (stateOf h xs .grafted .entries) id found k → SkipIn h k
+  pub skip-in : (found : Option Grafts) (k : Held) → HeldIs noGrafts (stateOf h xs .grafted .entries) id found k → HeldBelow (h .live .grafted) k
   skip-in found (At i) e = omega (arith, e .below, count-grafted h xs fit)
   skip-in found Nothing e = tt
 
-  pub held-in : (found : Option Cached) (k : Held) → HeldIs noCached (stateOf h xs .cache .entries) id found k → HeldIn h k
+  pub held-in : (found : Option Cached) (k : Held) → HeldIs noCached (stateOf h xs .cache .entries) id found k → HeldBelow (h .live .cached) k
   held-in found (At i) e = omega (arith, e .below, count-cached h xs fit)
   held-in found Nothing e = tt
 
@@ -65,8 +67,8 @@ skip-found s id found Nothing e = sym (ap (λ (o : Option Grafts). keys (peersOf
 
 -- what the functions ask, of a state that stands
 
-pub pushing : (h : Head) (xs : List ℕ) (k : Held) → Stands h xs → SkipIn h k → Pushing h xs k
-pushing h xs k s i = record { sound = s .sound; up = links-up h xs s; skip = i }
+pub pushing : (h : Head) (xs : List ℕ) (k : Held) → Stands h xs → HeldBelow (h .live .grafted) k → Pushing h xs k
+pushing h xs k s i = record { grafting = stands-grafting h xs s; skip = i }
 
 pub replying : (h : Head) (xs : List ℕ) (l : ℕ) → Stands h xs → l < h .live .links → Replying h xs l
 replying h xs l s i = record { sound = s .sound; up = links-up h xs s; link = i }
@@ -80,7 +82,7 @@ fits-record s h =
     && leb (length (s .missing)) (s .limits .S) && leb (length (s .graftTimers)) (s .limits .T) && leb (length (s .queue)) (s .limits .Q))
     (leb (length (s .dropped)) (s .limits .D)) h)
 
-pub notes-back : (h : Head) (xs : List ℕ) (sender : ℕ) (k : Held) (array : List ℕ) (id round : ℕ) → Step (backState sender k array id round) h xs → SkipIn h k → holds id (stateOf h xs .cache) ≡ true → NotesBack h xs sender k array id round
+pub notes-back : (h : Head) (xs : List ℕ) (sender : ℕ) (k : Held) (array : List ℕ) (id round : ℕ) → Step (backState sender k array id round) h xs → HeldBelow (h .live .grafted) k → holds id (stateOf h xs .cache) ≡ true → NotesBack h xs sender k array id round
 unfolding stateOf pushedState recordedState
 notes-back h xs sender k array id round s i c = record {
   pushing = pushing h xs k (s .stands) i;

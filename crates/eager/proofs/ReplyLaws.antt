@@ -4,7 +4,7 @@ use mathlib.Core.Path.{_≡_, refl, sym, ap, _∙_, subst}
 use mathlib.Core.Bool.{Bool, true, false, not}
 use mathlib.Core.List.{List, [], _∷_}
 use mathlib.Core.Option.{Option, none, some}
-use Prim.Native.Nat.{ℕ, _+_, _-_, _≤_, _<_}
+use Prim.Native.Nat.{ℕ, _+_, _-_}
 use native.Mathlib.Omega.{arith}
 use lib.Dec.{leb}
 use lib.ListN.{length, take, drop, getD}
@@ -12,14 +12,14 @@ use Rattle.lists.specs.Base.{isEmpty, isSome, concatMap}
 use Rattle.lists.specs.Map.{Entry, entry, keys, lookup}
 use Rattle.rows.specs.Part.{part}
 use Rattle.rows.specs.Sorted.{Here, Between}
-use Rattle.time_cache.specs.TimeCache.{Timed, get, valueOf, holds}
+use Rattle.time_cache.specs.TimeCache.{Timed, get, valueOf}
 use Rattle.time_cache.proofs.MapPlaces.{lookup-here, lookup-between}
 use Rattle.time_cache.proofs.Orders.{up-of}
-use Rattle.postcard.specs.Message.{Ihave, Message, Gossip, Swarm, Action, Sent, actionBytes}
+use Rattle.postcard.specs.Message.{Message, Gossip, Swarm, Sent, actionBytes}
 use Rattle.output.specs.Written.{Told, Written}
 use Rattle.protocol.specs.State.{State, Note, Cached}
 use Rattle.protocol.specs.Run.{Room}
-use Rattle.decide.specs.Sizes.{Sizes, sizesOf, sizedRecorded}
+use Rattle.decide.specs.Sizes.{sizesOf, sizedRecorded}
 use Rattle.decide.specs.SizesAfter.{replySizes}
 use Rattle.decide.specs.Rooms.{kthTaken, firstSend, backPeers}
 use Rattle.decide.specs.RecordGrowth.{cachedIn, addNote, addBatches, batchesFor, pushGain, pushGains}
@@ -33,14 +33,14 @@ use Rattle.block.specs.declared.head.Head.{Head}
 use Rattle.block.proofs.LinkLaws.{count-links}
 use Rattle.caches.specs.CachedReads.{cachedAt, ContentIs}
 use Rattle.caches.specs.declared.cached.Content.{Content}
-use Rattle.pushes.specs.Noted.{noted, notedState, Notes}
+use Rattle.pushes.specs.Noted.{notedState, Notes}
 use Rattle.steps.specs.Rooms.{roomsIn}
 use Rattle.steps.specs.Shared.{HeldIs}
 use Rattle.steps.specs.declared.Held.{Held}
 use Rattle.steps.specs.declared.Held.the-variants.{At, Nothing}
 use Rattle.steps.proofs.RoomsLaws.{kth-link}
 use Rattle.eager.specs.Sent.{sentBytes, pushBytes}
-use Rattle.eager.specs.Reply.{heldCached, HeldIn, Replying, Replies, repliedState, replyGains, replyBytes}
+use Rattle.eager.specs.Reply.{heldCached, Replying, Replies, repliedState, replyGains, replyBytes}
 use Rattle.eager.proofs.TargetLaws.{back-held, back-taken}
 use Rattle.eager.proofs.GainLaws.{gains-one, gains-none}
 use Rattle.eager.proofs.BackLaws.{for-one, for-none, recorded-same}

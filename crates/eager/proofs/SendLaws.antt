@@ -3,8 +3,7 @@
 use mathlib.Core.Path.{_≡_, refl, sym, ap, _∙_, subst}
 use mathlib.Core.Bool.{Bool, true, false, not, _||_}
 use mathlib.Core.List.{List, [], _∷_, _++_, map, append-nil, append-assoc}
-use Prim.Native.Nat.{ℕ, _+_, _≤_, _<_}
-use native.Mathlib.Omega.{arith}
+use Prim.Native.Nat.{ℕ, _+_, _<_}
 use lib.Dec.{leb}
 use lib.ListN.{length, getD}
 use Rattle.lists.specs.Base.{if_then_else_, isEmpty, concatMap}
@@ -12,15 +11,14 @@ use Rattle.postcard.specs.Message.{Message, Action, Sent, Scheduled, AnnounceDr
 use Rattle.output.specs.Written.{Told, Written}
 use Rattle.output.proofs.WrittenLaws.{written-none, written-then, told-first, told-then}
 use Rattle.protocol.specs.State.{State}
-use Rattle.protocol.specs.Run.{Room}
 use Rattle.protocol.specs.Push.{eagerTargets}
-use Rattle.decide.specs.Rooms.{kthTaken, firstSend, backPeers}
+use Rattle.decide.specs.Rooms.{firstSend, backPeers}
 use Rattle.decide.specs.RecordGrowth.{noteAction, pushActions}
 use Rattle.block.specs.LinkSteps.{peerAt}
 use Rattle.steps.specs.Rooms.{roomsIn}
 use Rattle.eager.specs.Targets.{isTarget}
 use Rattle.eager.specs.Sent.{sentBytes, pushBytes}
-use Rattle.eager.proofs.TargetLaws.{Roomed, first, rest, first-none, first-in, first-out, first-all, first-rest, backsTo, backs-none, backs-held, backs-taken, backs-out, backs-all}
+use Rattle.eager.proofs.TargetLaws.{Roomed, first, rest, first-none, first-in, first-out, first-rest, backsTo, backs-none, backs-held, backs-taken, backs-out}
 
 -- bytes of actions one after the other
 

@@ -10,7 +10,7 @@ use borrow.Author.Tests.{not-true, not-false, ltb-true, lt-ltb, ne-eqb}
 use lib.Dec.{eqb, leb, ltb}
 use lib.ListN.{length, take, drop, getD, take-append-drop, length-map, List·getD-map}
 use lib.Seq.{take-suc, take-all, getD-take, length-take-le}
-use Rattle.lists.specs.Base.{if_then_else_, filter, member, any, all, ascending}
+use Rattle.lists.specs.Base.{if_then_else_, filter, member, all, ascending}
 use Rattle.lists.specs.Map.{Map, Entry, entry, keys}
 use Rattle.lists.proofs.MapLaws.{cases, and-left, and-right, all-head, all-tail, all-cons}
 use Rattle.lists.proofs.ListLaws.{all-filter}
@@ -48,7 +48,7 @@ pub record Roomed (s : State) (array : List ℕ) : Type 0 where
   pub first : (i : ℕ) → i < length (s .links) → kthTaken 1 (peerAt s i) (roomsIn s array) ≡ leb 1 (getD array i 0)
 
 pub roomed : (h : Head) (xs : List ℕ) (k : Held) (array : List ℕ) → Pushing h xs k → Roomed (stateOf h xs) array
-roomed h xs k array p = record { first = λ i q. kth-link (stateOf h xs) array 1 i (p .up) q (omega arith) }
+roomed h xs k array p = record { first = λ i q. kth-link (stateOf h xs) array 1 i (p .grafting .linksUp) q (omega arith) }
 
 -- the targets among some links
 
@@ -197,12 +197,6 @@ module _ (sender : ℕ) (skip : List ℕ) (s : State) (i : ℕ) where
   pub back-is : (array : List ℕ) (t r : Bool) → isTarget sender skip s i ≡ t → leb 1 (getD array i 0) ≡ r → handsBack sender skip array s i ≡ (t && not r)
   unfolding handsBack
   back-is array t r a b = λ k. a k && not (b k)
-
--- among the keys of a map
-pub member-keys : {A : Type 0} (p : ℕ) (m : Map A) → member p (keys m) ≡ any (λ (e : Entry A). eqb p (e .key)) m
-unfolding member any
-member-keys p [] = refl
-member-keys p (e ∷ m) = ap (λ (b : Bool). if eqb p (e .key) then true else b) (member-keys p m)
 
 -- the peers of earlier links are others
 

@@ -1,7 +1,6 @@
 -- The reply to a Graft of a neighbour.
 -- Assumes nothing.
 use Prim.Native.Nat.{ℕ, _≤_, _<_}
-use mathlib.Core.Path.{_≡_}
 use mathlib.Core.List.{List, [], _∷_}
 use mathlib.Core.Option.{Option, none, some}
 use lib.ListN.{length}
@@ -29,11 +28,6 @@ use Rattle.steps.specs.declared.Held.the-variants.{At, Nothing}
 unfoldable pub heldCached : Held → State → Option Cached
 heldCached (At i) s = some (cachedAt s i)
 heldCached Nothing s = none
-
--- it is there
-abbrev pub HeldIn : Head → Held → Type 0
-HeldIn h (At i) = i < h .live .cached
-HeldIn h Nothing = Unit {0}
 
 -- what every function of a reply asks: links that ascend, and the link
 pub record Replying (h : Head) (block : List ℕ) (l : ℕ) : Type 0 where

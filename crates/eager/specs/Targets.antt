@@ -1,36 +1,29 @@
 -- Which links an eager push goes to, and which of them hand it back.
 -- Assumes nothing.
-use Prim.Native.Nat.{ℕ, _<_}
+use Prim.Native.Nat.{ℕ}
 use mathlib.Core.Bool.{Bool, not, _&&_}
 use mathlib.Core.List.{List, []}
 use mathlib.Core.Option.{none}
 use lib.Dec.{eqb, leb}
 use lib.ListN.{getD}
 use Rattle.lists.specs.Base.{member}
-use Rattle.lists.specs.Map.{Entry, entry, keys}
-use Rattle.time_cache.specs.TimeCache.{Cache, Timed}
+use Rattle.lists.specs.Map.{entry, keys}
+use Rattle.time_cache.specs.TimeCache.{Cache}
 use Rattle.protocol.specs.Links.{isEager}
 use Rattle.protocol.specs.State.{State, Grafts}
 use Rattle.protocol.specs.Push.{eagerTargets}
 use Rattle.decide.specs.Rooms.{backPeers}
-use Rattle.block.specs.View.{stateOf}
-use Rattle.block.specs.Sound.{Sound}
-use Rattle.block.specs.LinkSteps.{LinksAscend, linkAt, peerAt}
+use Rattle.block.specs.LinkSteps.{linkAt, peerAt}
 use Rattle.block.specs.declared.head.Head.{Head}
+use Rattle.grafts.specs.Reads.{Grafting, HeldBelow}
 use Rattle.steps.specs.Rooms.{roomsIn}
 use Rattle.steps.specs.declared.Held.{Held}
 use Rattle.steps.specs.declared.Held.the-variants.{At, Nothing}
 
--- the grafted entry that is skipped is there
-abbrev pub SkipIn : Head → Held → Type 0
-SkipIn h (At g) = g < h .live .grafted
-SkipIn h Nothing = Unit {0}
-
--- what every function of a push asks: links that ascend, and the entry that is skipped
-pub record Pushing (h : Head) (block : List ℕ) (grafted : Held) : Type 0 where
-  pub sound : Sound h block
-  pub up : LinksAscend h block
-  pub skip : SkipIn h grafted
+-- what every function of a push asks: that of the grafted messages, and that the entry that is skipped is there
+pub record Pushing (h : Head) (block : List ℕ) (k : Held) : Type 0 where
+  pub grafting : Grafting h block
+  pub skip : HeldBelow (h .live .grafted) k
 
 -- "grafted peers": those of the entry, or none
 unfoldable pub skippedIn : Held → Cache Grafts → List ℕ

@@ -22,7 +22,8 @@ ghost use Rattle.block.specs.Goes.{Goes};
 ghost use Rattle.block.specs.LinkSteps.{peerAt};
 ghost use Rattle.steps.specs.Rooms.{roomsIn};
 ghost use Rattle.eager.specs.Sent.{pushBytes};
-ghost use Rattle.eager.specs.Reply.{heldCached, HeldIn, Replying, Replies, repliedState, replyGains, replyBytes};
+ghost use Rattle.grafts.specs.Reads.{HeldBelow};
+ghost use Rattle.eager.specs.Reply.{heldCached, Replying, Replies, repliedState, replyGains, replyBytes};
 
 // The state after the reply to a link: `note_dropped` of the identifier if it is cached and the link hands it back. Its time is that of one pass over the
 // record's column of link numbers.
@@ -107,7 +108,7 @@ pub fn reply_sends(
     id: Id,
     held: Held,
 ) -> usize
-    requires { ⌜ Replying h (now block) link × HeldIn h held ⌝ }
+    requires { ⌜ Replying h (now block) link × HeldBelow (h .live .cached) held ⌝ }
     requires { ⌜ Told (replyBytes (now rooms) link (idOf id) held (stateOf h (now block))) at ⌝ }
     ensures { λ r. ⌜ Written (replyBytes (now (rooms .entry)) link (idOf id) held (stateOf h (now (block .entry)))) (now (out .entry)) at (now (out .exit)) r ⌝ }
 {

@@ -1,18 +1,15 @@
 // Which links an eager push goes to, and which of them hand it back.
 use block::head::Head;
 use block::links;
-use caches::grafted;
+use grafts::reads;
 use steps::Held;
 ghost use mathlib.Core.Path.{_≡_};
 ghost use Prim.Native.Nat.{_<_};
 ghost use lib.Dec.{leb};
 ghost use lib.ListN.{getD};
 ghost use Rattle.lists.specs.Base.{member};
-ghost use Rattle.lists.specs.Map.{keys};
 ghost use Rattle.block.specs.View.{stateOf};
-ghost use Rattle.block.specs.Sound.{Sound};
-ghost use Rattle.block.specs.LinkSteps.{LinksAscend, peerAt};
-ghost use Rattle.caches.specs.GraftSteps.{graftsAt};
+ghost use Rattle.block.specs.LinkSteps.{peerAt};
 ghost use Rattle.eager.specs.Targets.{Pushing, skippedIn, isTarget, handsBack};
 
 // A push: from whom, and the grafted entry whose peers it skips.
@@ -21,30 +18,13 @@ pub struct Push {
     pub skip: Held,
 }
 
-// Whether a link is among the grafted peers of the grafted message g.
-fn is_grafted(h: Head, block: &[u8], g: usize, link: usize) -> bool
-    requires { ⌜ Sound h (now block) × LinksAscend h (now block) × (g < h .live .grafted) × (link < h .live .links) ⌝ }
-    ensures { λ r. ⌜ r ≡ member (peerAt (stateOf h (now (block .entry))) link) (keys (graftsAt (stateOf h (now (block .entry))) g .peers)) ⌝ }
-{
-    let n = grafted::graft_count(h, block, g);
-    let mut j = 0;
-    while j < n {
-        let k = grafted::graft_at(h, block, g, j);
-        if k.link == link {
-            return true;
-        }
-        j += 1;
-    }
-    false
-}
-
 // Whether a link is among the peers that the push skips for being grafted.
 fn is_skipped(h: Head, block: &[u8], skip: Held, link: usize) -> bool
     requires { ⌜ Pushing h (now block) skip × (link < h .live .links) ⌝ }
     ensures { λ r. ⌜ r ≡ member (peerAt (stateOf h (now (block .entry))) link) (skippedIn skip (stateOf h (now (block .entry)) .grafted)) ⌝ }
 {
     match skip {
-        Held::At(g) => is_grafted(h, block, g, link),
+        Held::At(g) => reads::is_grafted(h, block, g, link),
         Held::Nothing => false,
     }
 }

@@ -2,27 +2,24 @@
 -- Assumes nothing.
 use mathlib.Core.Path.{_≡_, refl, sym, ap, _∙_, subst}
 use mathlib.Core.Logic.{_⊎_, inl, inr}
-use mathlib.Core.Bool.{true}
 use mathlib.Core.List.{List, [], _∷_, _++_, map}
 use Prim.Native.Nat.{ℕ, zero, suc, _+_, _*_, _^_, _≤_, _<_}
 use native.Mathlib.Omega.{arith}
 use lib.Dec.{lit<}
 use lib.ListN.{length, take, drop, getD, length-map}
-use Rattle.lists.specs.Base.{ascending}
-use Rattle.lists.specs.Map.{Map, Entry, entry, keys, insert}
+use Rattle.lists.specs.Map.{Entry, entry, keys}
 use Rattle.lists.proofs.MapLaws.{ascending-insert}
 use Rattle.rows.specs.Part.{part, put}
-use Rattle.rows.specs.Digits.{leNat, leBytes}
-use Rattle.rows.specs.Sorted.{Ascending}
+use Rattle.rows.specs.Digits.{leBytes}
 use Rattle.rows.specs.declared.table.Found.{Found}
 use Rattle.rows.specs.declared.table.Found.the-variants.{At, Before}
 use Rattle.rows.proofs.Digits.{length-leBytes, leNat-leBytes}
 use Rattle.rows.proofs.Ids.{tri}
 use Rattle.rows.proofs.Parts.{length-put, getD-part, getD-put-before, getD-put-after}
-use Rattle.refs.specs.Refs.{Ref, ref, refs, moved, Below}
+use Rattle.refs.specs.Refs.{Ref, ref, refs, moved}
 use Rattle.refs.proofs.Places.{getD-map-in}
-use Rattle.time_cache.specs.TimeCache.{Timed, Expiry, Cache, put as putIn, replace, addExpiry, inPopOrder}
-use Rattle.time_cache.specs.Tables.{ExpiryRow, expiryRow, noRow, rowAt, expiryRows, named, Held, held, entryFor, refsAt, rowsAt, cacheAt, Lies, OnlyTwo, Sound as SoundCache}
+use Rattle.time_cache.specs.TimeCache.{Timed, Cache, put as putIn, replace}
+use Rattle.time_cache.specs.Tables.{ExpiryRow, expiryRow, noRow, rowAt, expiryRows, named, held, entryFor, refsAt, rowsAt, cacheAt, Lies, OnlyTwo, Sound as SoundCache}
 use Rattle.time_cache.specs.Steps.{refAt, heldAt, placed, Inserts}
 use Rattle.time_cache.specs.declared.cache.TimeBoundCache.{TimeBoundCache}
 use Rattle.time_cache.specs.declared.cache.Inserted.{Inserted}
@@ -33,9 +30,9 @@ use Rattle.time_cache.proofs.ValueLaws.{replace-put}
 use Rattle.time_cache.proofs.WriteLaws.{put-getD-same, own-refs, own-rows, own-written, own-sound}
 use Rattle.time_cache.proofs.LoanLaws.{halfway, length-halfway, only-second, only-first, only-put, only-then, only-both, two-wider}
 use Rattle.protocol.specs.State.{Limits, State, Grafts, withGrafted}
-use Rattle.block.specs.Layout.{sizes, place, tables, table}
+use Rattle.block.specs.Layout.{place, table}
 use Rattle.block.specs.View.{stateOf, limitsOf, byteAt, pairs, numbered, hopsIn, roundOf, graftsOf, graftedIn}
-use Rattle.block.specs.Sound.{Numbered, Sound}
+use Rattle.block.specs.Sound.{Sound}
 use Rattle.block.specs.Goes.{Goes}
 use Rattle.block.specs.Heads.{withGraftedCounts}
 use Rattle.block.specs.HopSteps.{pushedHop}
@@ -44,7 +41,7 @@ use Rattle.block.specs.declared.head.Head.{Head}
 use Rattle.block.proofs.Scans.{keys-apart}
 use Rattle.block.proofs.HopLaws.{pushed-long, hops-push, numbered-pushed}
 use Rattle.caches.specs.InBlock.{cacheFrom, graftedCache, InOrder, AtMost}
-use Rattle.caches.specs.GraftSteps.{graftedAt, graftsAt}
+use Rattle.caches.specs.GraftSteps.{graftedAt}
 use Rattle.caches.proofs.CacheLaws.{refs-in, rows-in, count-entries, count-expiry, inserted-in}
 use Rattle.caches.proofs.GraftedLaws.{peersOf, EachOwn, Listed, to-own, grafted-state, grafted-laid}
 use Rattle.caches.proofs.GraftLaws.{grafted-entry, graft-many, list-long, list-numbered, peers-row}

@@ -6,7 +6,7 @@ use Prim.Native.Nat.{ℕ, zero, suc, _+_, _-_, _*_, _≤_, _<_}
 use native.Mathlib.Omega.{arith}
 use borrow.Author.Tests.{lt-ltb}
 use lib.Dec.{ltb}
-use lib.ListN.{length, take, drop, getD, set, length-append, length-drop, length-set}
+use lib.ListN.{length, take, drop, getD, set, length-append, length-drop}
 use lib.Seq.{take-all, take-append-le, take-take, length-take-le, drop-drop, getD-drop, getD-take}
 use Rattle.rows.specs.Part.{part, put}
 use Rattle.rows.specs.Digits.{leBytes}

@@ -8,18 +8,18 @@ use native.Mathlib.Omega.{arith}
 use lib.ListN.{length, take, drop, getD, length-map, List·getD-map}
 use Rattle.lists.specs.Map.{Map, Entry, entry, keys, lookup, insert}
 use Rattle.rows.specs.Part.{part, put}
-use Rattle.rows.specs.Digits.{leNat, leBytes}
+use Rattle.rows.specs.Digits.{leBytes}
 use Rattle.rows.specs.Sorted.{Ascending, Here, Between}
 use Rattle.rows.proofs.Digits.{length-leBytes, leNat-leBytes}
 use Rattle.rows.proofs.Parts.{put-inside}
 use Rattle.time_cache.specs.TimeCache.{Timed, Cache, valueOf, get, put as putIn, withValue, replace}
 use Rattle.time_cache.proofs.Orders.{up-of}
 use Rattle.time_cache.proofs.MapPlaces.{insert-between, insert-here, lookup-here, lookup-between}
-use Rattle.protocol.specs.State.{Limits, State, Grafts, withGrafted}
+use Rattle.protocol.specs.State.{State, Grafts, withGrafted}
 use Rattle.protocol.specs.Control.{lower, withGraft}
 use Rattle.block.specs.Layout.{place}
 use Rattle.block.specs.View.{stateOf, limitsOf, byteAt, peerOf, roundOf, hopsIn}
-use Rattle.block.specs.Sound.{Numbered, Sound}
+use Rattle.block.specs.Sound.{Numbered}
 use Rattle.block.specs.Goes.{Goes}
 use Rattle.block.specs.LinkSteps.{peerAt}
 use Rattle.block.specs.MissingSteps.{hop}
@@ -29,7 +29,7 @@ use Rattle.block.proofs.AnnounceLaws.{insert-same, insert-long}
 use Rattle.caches.specs.InBlock.{AtMost}
 use Rattle.caches.specs.GraftSteps.{graftedAt, graftsAt}
 use Rattle.caches.proofs.GraftedLaws.{peersOf, count-grafted}
-use Rattle.caches.proofs.GraftLaws.{peersPlace, list-long, list-numbered, peers-row}
+use Rattle.caches.proofs.GraftLaws.{list-long, list-numbered, peers-row}
 use Rattle.caches.proofs.GraftWrites.{peers-goes}
 use Rattle.grafts.specs.Reads.{Grafting}
 use Rattle.grafts.specs.NoteSteps.{insertedHop, roundPut, peersTo, peersWith, noGrafts, graftNoted}

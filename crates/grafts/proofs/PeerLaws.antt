@@ -2,15 +2,15 @@
 -- Assumes nothing.
 use mathlib.Core.Path.{_≡_, refl, sym, ap, _∙_}
 use mathlib.Core.Bool.{Bool, true, false, not, _&&_}
-use mathlib.Core.List.{List, [], _∷_, map}
-use mathlib.Core.Option.{Option, none, some}
-use Prim.Native.Nat.{ℕ, _+_, _≤_, _<_}
+use mathlib.Core.List.{List, [], _∷_}
+use mathlib.Core.Option.{Option, none}
+use Prim.Native.Nat.{ℕ, _≤_, _<_}
 use native.Mathlib.Omega.{arith}
 use borrow.Author.Tests.{ltb-true, ne-eqb}
-use lib.Dec.{leb, ltb, eqb}
+use lib.Dec.{leb, ltb}
 use lib.ListN.{length, getD, length-map, List·getD-map}
-use Rattle.lists.specs.Base.{if_then_else_, isSome, all, any, member, once, ascending}
-use Rattle.lists.specs.Map.{Map, Entry, entry, keys, lookup, insert, has}
+use Rattle.lists.specs.Base.{isSome, all, any, member, once, ascending}
+use Rattle.lists.specs.Map.{Map, Entry, entry, keys, insert, has}
 use Rattle.lists.proofs.MapLaws.{and-left, and-right, and-intro, all-head, all-tail}
 use Rattle.lists.proofs.ListLaws.{all-map}
 use Rattle.rows.specs.Sorted.{Ascending, Here, Between}
@@ -23,6 +23,7 @@ use Rattle.protocol.specs.Gossips.{peersOf, graftOut}
 use Rattle.protocol.specs.Whole.{graftsWhole}
 use Rattle.protocol.proofs.ConsistentTables.{Grafted, to-grafted, grafted-insert}
 use Rattle.block.specs.View.{stateOf}
+use Rattle.block.specs.Fit.{Fit}
 use Rattle.block.specs.LinkSteps.{peerAt}
 use Rattle.block.specs.declared.head.Head.{Head}
 use Rattle.block.proofs.LinkLaws.{count-links, count-peers, neighbour-here}
@@ -35,7 +36,7 @@ use Rattle.steps.specs.Stands.{Stands}
 use Rattle.steps.specs.declared.Held.{Held}
 use Rattle.steps.specs.declared.Held.the-variants.{At, Nothing}
 use Rattle.steps.proofs.StandsLaws.{links-up, grafted-order}
-use Rattle.grafts.specs.Reads.{Grafting, heldPeers}
+use Rattle.grafts.specs.Reads.{Grafting, HeldBelow, heldPeers}
 
 -- what the functions of the grafts ask, out of `Stands`
 pub stands-grafting : (h : Head) (xs : List ℕ) → Stands h xs → Grafting h xs
@@ -110,3 +111,9 @@ pub held-peers : (s : State) (id : ℕ) (found : Option Grafts) (r : Held) → H
 unfolding peersOf
 held-peers s id found (At i) h = sym (ap peersOf (h .value))
 held-peers s id found Nothing h = sym (ap peersOf h)
+
+-- the entry that was found is one of those in the block
+pub held-below : (h : Head) (xs : List ℕ) (id : ℕ) (found : Option Grafts) (r : Held) → Fit h xs
+    → HeldIs (entry 0 (record { expires = 0; value = record { first = none; kept = none; peers = [] } })) (stateOf h xs .grafted .entries) id found r → HeldBelow (h .live .grafted) r
+held-below h xs id found (At i) fit x = omega (arith, x .below, count-grafted h xs fit)
+held-below h xs id found Nothing fit x = tt

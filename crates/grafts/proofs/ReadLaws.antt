@@ -1,6 +1,6 @@
 -- What the bytes of a grafted message say: its `first` and its `kept`.
 -- Assumes nothing.
-use mathlib.Core.Path.{_≡_, refl, sym, ap, _∙_}
+use mathlib.Core.Path.{_≡_, sym, ap, _∙_}
 use mathlib.Core.Bool.{Bool, true, false}
 use mathlib.Core.List.{List, []}
 use mathlib.Core.Option.{Option, none, some}
@@ -8,7 +8,7 @@ use Prim.Native.Nat.{ℕ, _+_, _*_, _≤_, _<_}
 use native.Mathlib.Omega.{arith}
 use borrow.Author.Tests.{eq-eqb, ne-eqb}
 use lib.Dec.{lit<, eqb}
-use lib.ListN.{length, take, drop, getD}
+use lib.ListN.{take, drop, getD}
 use lib.Seq.{drop-drop, getD-drop}
 use Rattle.lists.specs.Base.{if_then_else_}
 use Rattle.lists.specs.Map.{Entry}
@@ -19,9 +19,9 @@ use Rattle.refs.specs.Refs.{Ref, ref, refOf, refs}
 use Rattle.refs.proofs.Places.{ref-at}
 use Rattle.time_cache.specs.TimeCache.{Timed}
 use Rattle.time_cache.specs.Steps.{refAt}
-use Rattle.protocol.specs.State.{Limits, Hop, Grafts}
+use Rattle.protocol.specs.State.{Limits, Grafts}
 use Rattle.protocol.specs.Gossips.{sameAs}
-use Rattle.block.specs.Layout.{sizes, place, table}
+use Rattle.block.specs.Layout.{place, table}
 use Rattle.block.specs.View.{stateOf, limitsOf, byteAt, halfAt, flagOf, onlyIf, graftsOf}
 use Rattle.block.specs.Sound.{Sound}
 use Rattle.block.specs.MissingSteps.{hop}

@@ -1,4 +1,5 @@
 // A graft more of a message: "the Graft goes into the grafted entry of its identifier", or a new entry.
+use crate::reads;
 use block::head;
 use block::head::Head;
 use block::hops;
@@ -9,24 +10,22 @@ use rows::id::Id;
 use rows::table;
 use rows::table::Found;
 use rows::word;
-use crate::reads;
 ghost use mathlib.Core.Path.{_≡_};
 ghost use mathlib.Core.List.{_∷_, []};
 ghost use Prim.Native.Nat.{_+_, _≤_, _<_};
 ghost use lib.ListN.{length, getD};
-ghost use Rattle.lists.specs.Map.{keys, entry, insert};
+ghost use Rattle.lists.specs.Map.{keys, entry};
 ghost use Rattle.rows.specs.Ident.{idOf};
 ghost use Rattle.rows.specs.Part.{part, put};
 ghost use Rattle.rows.specs.Sorted.{Between, Here};
-ghost use Rattle.time_cache.specs.TimeCache.{get, put as putIn};
+ghost use Rattle.time_cache.specs.TimeCache.{put as putIn};
 ghost use Rattle.protocol.specs.State.{withGrafted};
-ghost use Rattle.protocol.specs.Control.{withGraft};
 ghost use Rattle.block.specs.View.{stateOf};
 ghost use Rattle.block.specs.Sound.{Sound};
 ghost use Rattle.block.specs.Goes.{Goes};
 ghost use Rattle.block.specs.LinkSteps.{peerAt};
 ghost use Rattle.caches.specs.InBlock.{InOrder, AtMost};
-ghost use Rattle.caches.specs.GraftSteps.{graftedAt, graftsAt};
+ghost use Rattle.caches.specs.GraftSteps.{graftsAt};
 ghost use Rattle.grafts.specs.Reads.{Grafting};
 ghost use Rattle.grafts.specs.NoteSteps.{insertedHop, peersTo, peersWith, noGrafts, Enters, graftNoted};
 
@@ -118,7 +117,14 @@ fn graft_anew(h: Head, block: &mut [u8], id: Id, link: usize, round: Round, expi
 
 // The peer of a link is grafted for a message: in the entry of its identifier, where a known round takes the lower, or in a new entry that expires at
 // `expires`. Its time is that of an insert into a time cache.
-pub fn note_graft(h: Head, block: &mut [u8], id: Id, link: usize, round: Round, expires: Millis) -> Head
+pub fn note_graft(
+    h: Head,
+    block: &mut [u8],
+    id: Id,
+    link: usize,
+    round: Round,
+    expires: Millis,
+) -> Head
     requires { ⌜ Grafting h (now block) × (link < h .live .links) × AtMost (h .limits .grafted) (graftNoted (idOf id) link (round .0) (expires .0) (stateOf h (now block)) .grafted) ⌝ }
     ensures { λ r. ⌜ Goes (graftNoted (idOf id) link (round .0) (expires .0)) h (now (block .entry)) r (now (block .exit)) ⌝ }
 {

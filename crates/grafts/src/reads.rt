@@ -1,7 +1,6 @@
 // What is read from a grafted message.
 use block::head;
 use block::head::Head;
-use block::links;
 use caches::grafted;
 use postcard::units::Round;
 use rows::table::Found;

@@ -1,26 +1,24 @@
 -- The steps of SendGraft, one after the other, are what document 01 says.
 -- Assumes nothing.
 use mathlib.Core.Path.{_≡_, refl, sym, ap, _∙_, subst}
-use mathlib.Core.Bool.{Bool, true, false, _&&_}
-use mathlib.Core.List.{List, [], _∷_, map}
+use mathlib.Core.Bool.{Bool, true, false}
+use mathlib.Core.List.{List, [], _∷_}
 use Prim.Native.Nat.{ℕ, _+_, _*_, _^_, _≤_, _<_}
 use native.Mathlib.Omega.{arith}
 use borrow.Author.Tests.{leb-true}
-use lib.Dec.{leb}
 use lib.ListN.{length, drop, getD, length-map}
 use Rattle.lists.specs.Base.{if_then_else_, isEmpty, all, ascending}
-use Rattle.lists.specs.Map.{Map, Entry, entry, keys, lookup, insert, remove, removeKey}
+use Rattle.lists.specs.Map.{Entry, entry, keys, insert, remove, removeKey}
 use Rattle.lists.proofs.MapLaws.{true≢, and-left, and-right, ascending-insert}
-use Rattle.rows.specs.Part.{put}
 use Rattle.rows.specs.Sorted.{Here, Between}
 use Rattle.rows.proofs.Views.{map-put}
-use Rattle.time_cache.specs.TimeCache.{Cache, get, holds}
+use Rattle.time_cache.specs.TimeCache.{get, holds}
 use Rattle.time_cache.proofs.Orders.{up-of, all-at}
 use Rattle.time_cache.proofs.MapPlaces.{insert-here}
 use Rattle.time_cache.proofs.WriteLaws.{put-getD-same}
 use Rattle.protocol.specs.Links.{Mark, eager, Links, isNeighbour, markIfThere, addEager}
-use Rattle.protocol.specs.State.{State, Hop, Grafts, durationsInRange, withLinks, withMissing, withGrafted, withGraftTimers}
-use Rattle.protocol.specs.Gossips.{hopsOf, announcers}
+use Rattle.protocol.specs.State.{State, Hop, durationsInRange, withLinks, withMissing, withGrafted}
+use Rattle.protocol.specs.Gossips.{announcers}
 use Rattle.protocol.specs.Control.{withGraft}
 use Rattle.protocol.specs.Whole.{cacheFits, fits, announcersWhole, graftsWhole}
 use Rattle.protocol.proofs.Consistent.{Consistent, Ranged}
@@ -30,11 +28,11 @@ use Rattle.decide.specs.StateAfter.{askedState, sendGraftState}
 use Rattle.block.specs.View.{stateOf}
 use Rattle.block.specs.Goes.{Goes}
 use Rattle.block.specs.LinkSteps.{LinksAscend, markFor, peerAt, markAt}
-use Rattle.block.specs.MissingSteps.{hop, missedAt, hopsAt, HopIs, left, leftAfter}
+use Rattle.block.specs.MissingSteps.{hop, missedAt, hopsAt, HopIs, leftAfter}
 use Rattle.block.specs.TimerSteps.{timerOut}
 use Rattle.block.specs.declared.head.Head.{Head}
 use Rattle.block.specs.declared.hops.Hop.{Hop as LinkHop}
-use Rattle.block.proofs.LinkLaws.{count-links, count-peers, neighbour-here}
+use Rattle.block.proofs.LinkLaws.{count-links, neighbour-here}
 use Rattle.block.proofs.MissingLaws.{count-missing, count-missed}
 use Rattle.block.proofs.AnnounceLaws.{announcers-here, announcers-between, key-here}
 use Rattle.caches.specs.InBlock.{InOrder, AtMost}

@@ -1,6 +1,6 @@
 -- The actions and sizes of SendGraft, read from the block as it stands before a first event has evicted.
 -- Assumes nothing.
-use mathlib.Core.Path.{_≡_, refl, sym, ap, _∙_, subst}
+use mathlib.Core.Path.{_≡_, refl, sym, ap, _∙_}
 use mathlib.Core.Bool.{Bool, true, false}
 use mathlib.Core.List.{List, [], _∷_, _++_}
 use mathlib.Core.Option.{Option, none, some}
@@ -10,9 +10,9 @@ use native.Mathlib.Numerals.{add-one}
 use native.Mathlib.Omega.{arith}
 use borrow.Author.Tests.{ne-eqb}
 use lib.Dec.{leb, ltb}
-use lib.ListN.{length, drop, getD, length-map}
-use Rattle.lists.specs.Base.{if_then_else_, isSome, isEmpty, filter, member, concatMap}
-use Rattle.lists.specs.Map.{Map, Entry, entry, keys, lookup}
+use lib.ListN.{length, drop, getD}
+use Rattle.lists.specs.Base.{if_then_else_, isSome, isEmpty, member, concatMap}
+use Rattle.lists.specs.Map.{Map, Entry, keys, lookup}
 use Rattle.lists.proofs.Branches.{if-on, if-same}
 use Rattle.lists.proofs.ListLaws.{length-filter, count-length}
 use Rattle.rows.specs.Sorted.{Ascending, Here, Between}
@@ -33,15 +33,13 @@ use Rattle.block.specs.MissingSteps.{hop, hopsAt, HopIs}
 use Rattle.block.specs.declared.head.Head.{Head}
 use Rattle.block.specs.declared.hops.Hop.{Hop as LinkHop}
 use Rattle.block.proofs.LinkLaws.{count-links}
-use Rattle.block.proofs.MissingLaws.{count-missing, count-missed}
-use Rattle.block.proofs.TimerLaws.{count-timers}
+use Rattle.block.proofs.MissingLaws.{count-missing}
 use Rattle.block.proofs.AnnounceLaws.{announcers-here, announcers-between}
-use Rattle.caches.proofs.GraftedLaws.{count-grafted, count-grafted-rows}
 use Rattle.steps.specs.Stands.{Stands}
 use Rattle.steps.specs.Rooms.{roomsIn}
 use Rattle.steps.specs.Shared.{sizesValue}
 use Rattle.steps.specs.declared.Sizes.{Sizes as CodeSizes}
-use Rattle.steps.proofs.StandsLaws.{links-up, missing-up}
+use Rattle.steps.proofs.StandsLaws.{links-up}
 use Rattle.steps.proofs.RoomsLaws.{kth-link, member-at}
 use Rattle.ticks.proofs.ActionLaws.{no-action, one-action, actions-then}
 use Rattle.send_graft.specs.Asks.{missingLeft}

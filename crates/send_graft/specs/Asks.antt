@@ -1,7 +1,6 @@
 -- What SendGraft does where the message is not received.
 -- Assumes nothing.
 use Prim.Native.Nat.{ℕ, _-_}
-use mathlib.Core.List.{List}
 use lib.ListN.{length, drop}
 use Rattle.lists.specs.Base.{if_then_else_, isEmpty}
 use Rattle.protocol.specs.State.{State}

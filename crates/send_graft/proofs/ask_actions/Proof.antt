@@ -7,7 +7,6 @@ use Rattle.output.proofs.WrittenLaws.{written-then, told-first, told-then}
 use Rattle.ticks.proofs.ActionLaws.{told-as, written-as}
 use Rattle.send_graft.proofs.AskLaws.{some-hops}
 use Rattle.send_graft.proofs.ReadLaws.{ask-bytes}
-use native.Mathlib.Omega.{arith}
 use borrow.Author.Needs.{needs}
 use Rattle.send_graft.proofs.ask_actions.Statement.{statement}
 use Rattle.send_graft.proofs.ask_actions.Tie as tie

@@ -1,13 +1,12 @@
 -- `ask_first` meets its contract: the first announcer leaves, becomes eager, and is grafted for the message.
 -- Assumes nothing.
 use mathlib.Core.Path.{_∙_}
-use Prim.Native.Nat.{ℕ, _<_}
+use Prim.Native.Nat.{_<_}
 use Rattle.rows.specs.Ident.{idOf}
 use Rattle.block.proofs.MissingLaws.{count-missed}
 use Rattle.steps.proofs.StandsLaws.{missing-up}
 use Rattle.send_graft.proofs.AskLaws.{some-hops, retention-small, left-up, left-links, grafting, asked, most}
 use native.Mathlib.Omega.{arith}
-use borrow.Author.Needs.{needs}
 use Rattle.send_graft.proofs.ask_first.Statement.{statement}
 use Rattle.send_graft.proofs.ask_first.Tie as tie
 
@@ -30,9 +29,11 @@ set-mark-requires c κs =
     let s = c .before .before .before .before .before .before .before .before .before in
     let a = s .args in
     let l = c .before .before .before .leave-first in
-    let f = c .before .before .before .before .before .before .announcer-at in
-    (l .ensures .sound, left-up (a .h) (l .result) (a .block .now) (l .last .1 .0) (s .pre .0 .stands) (idOf (a .id)) (a .i) (s .pre .2) (f .result) (f .ensures) (l .ensures),
-    omega (arith, f .ensures .below, left-links (a .h) (l .result) (a .block .now) (l .last .1 .0) (s .pre .0 .stands) (idOf (a .id)) (a .i) (s .pre .2) (f .result) (f .ensures) (l .ensures)))
+    let f = c .before .before .before .before .before .before .announcer-at in (
+      l .ensures .sound,
+      left-up (a .h) (l .result) (a .block .now) (l .last .1 .0) (s .pre .0 .stands) (idOf (a .id)) (a .i) (s .pre .2) (f .result) (f .ensures) (l .ensures),
+      omega (arith, f .ensures .below, left-links (a .h) (l .result) (a .block .now) (l .last .1 .0) (s .pre .0 .stands) (idOf (a .id)) (a .i) (s .pre .2) (f .result) (f .ensures) (l .ensures)),
+    )
 
 add-expires : tie.Need-add-expires
 add-expires c =
@@ -45,10 +46,11 @@ note-graft-requires c κs =
     let a = s .args in
     let l = c .before .before .before .before .before .before .before .before .before .leave-first in
     let f = c .before .before .before .before .before .before .before .before .before .before .before .before .announcer-at in
-    let k = c .before .before .before .before .before .set-mark in
-    (grafting (a .h) (l .result) (a .block .now) (l .last .1 .0) (s .pre .0 .stands) (idOf (a .id)) (a .i) (s .pre .2) (f .result) (f .ensures) (l .ensures) (k .last .1 .0) (k .ensures),
-    omega (arith, f .ensures .below, left-links (a .h) (l .result) (a .block .now) (l .last .1 .0) (s .pre .0 .stands) (idOf (a .id)) (a .i) (s .pre .2) (f .result) (f .ensures) (l .ensures)),
-    most (a .h) (l .result) (a .block .now) (l .last .1 .0) (s .pre .0 .stands) (idOf (a .id)) (a .i) (s .pre .2) (f .result) (f .ensures) (l .ensures) (k .last .1 .0) (k .ensures) (a .instant .0) (s .pre .0 .fits))
+    let k = c .before .before .before .before .before .set-mark in (
+      grafting (a .h) (l .result) (a .block .now) (l .last .1 .0) (s .pre .0 .stands) (idOf (a .id)) (a .i) (s .pre .2) (f .result) (f .ensures) (l .ensures) (k .last .1 .0) (k .ensures),
+      omega (arith, f .ensures .below, left-links (a .h) (l .result) (a .block .now) (l .last .1 .0) (s .pre .0 .stands) (idOf (a .id)) (a .i) (s .pre .2) (f .result) (f .ensures) (l .ensures)),
+      most (a .h) (l .result) (a .block .now) (l .last .1 .0) (s .pre .0 .stands) (idOf (a .id)) (a .i) (s .pre .2) (f .result) (f .ensures) (l .ensures) (k .last .1 .0) (k .ensures) (a .instant .0) (s .pre .0 .fits),
+    )
 
 same-length : tie.Need-same-length
 same-length c =

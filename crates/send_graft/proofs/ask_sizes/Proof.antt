@@ -1,7 +1,7 @@
 -- `ask_sizes` meets its contract: a message less where its only announcer left, and an entry more where there is none.
 -- Assumes nothing.
 use mathlib.Core.Path.{ap, _∙_, subst}
-use Prim.Native.Nat.{ℕ, _<_}
+use Prim.Native.Nat.{_<_}
 use Rattle.lists.specs.Map.{keys}
 use Rattle.rows.specs.Ident.{idOf}
 use Rattle.time_cache.specs.TimeCache.{get}
@@ -13,7 +13,6 @@ use Rattle.decide.specs.Settled.{settled}
 use Rattle.decide.specs.Sizes.{Sizes, sizedMissing}
 use Rattle.settled.specs.Then.{noGrafts}
 use Rattle.steps.specs.Shared.{HeldIs}
-use Rattle.steps.specs.declared.Held.{Held}
 use Rattle.steps.proofs.StandsLaws.{missing-up}
 use Rattle.send_graft.proofs.AskLaws.{some-hops}
 use Rattle.send_graft.proofs.ReadLaws.{grafted-few, expiry-few, grafted-of, grafted-rows-of, there-sized, new-sized}

@@ -1,7 +1,6 @@
 -- `on_send_graft_timer` meets its contract: the mark goes, and unless the message is received its first announcer is asked.
 -- Assumes nothing.
-use mathlib.Core.Path.{_≡_, sym, _∙_, subst}
-use mathlib.Core.Bool.{false}
+use mathlib.Core.Path.{sym, _∙_, subst}
 use Rattle.lists.specs.Map.{keys}
 use Rattle.rows.specs.Ident.{idOf}
 use Rattle.rows.specs.Sorted.{FoundIs}
@@ -10,7 +9,6 @@ use Rattle.block.specs.View.{stateOf}
 use Rattle.steps.specs.Stands.{Stands}
 use Rattle.steps.proofs.StandsLaws.{received-order, missing-up}
 use Rattle.send_graft.proofs.AskLaws.{unmarked-stands, received-sent, asked-step, asked-goes, nobody-goes}
-use native.Mathlib.Omega.{arith}
 use borrow.Author.Needs.{needs}
 use Rattle.send_graft.proofs.on_send_graft_timer.Statement.{statement}
 use Rattle.send_graft.proofs.on_send_graft_timer.Tie as tie
@@ -55,10 +53,11 @@ ask-first-requires c κs =
     let s = c .before .before .before .before .before .before .before .before .before .before .before .before .before .before in
     let a = s .args in
     let g = t .forget-timer in
-    let ks = keys (stateOf (g .result) (g .last .1 .0) .missing) in
-    (asked-step (a .h) (g .result) (a .block .now) (g .last .1 .0) (idOf (a .id)) (s .pre .0 .stands) (g .ensures) (a .instant .0) (sym (c .before .before .before .before .before .before .before .is-received .ensures) ∙ c .before .before .before .before .before .before .if1 .left) (s .pre .0 .fits),
-    s .pre .1,
-    subst (λ (x : Found). FoundIs ks (idOf (a .id)) x) (c .before .before .f .given .1) (c .before .before .before .before .find-missing .ensures))
+    let ks = keys (stateOf (g .result) (g .last .1 .0) .missing) in (
+      asked-step (a .h) (g .result) (a .block .now) (g .last .1 .0) (idOf (a .id)) (s .pre .0 .stands) (g .ensures) (a .instant .0) (sym (c .before .before .before .before .before .before .before .is-received .ensures) ∙ c .before .before .before .before .before .before .if1 .left) (s .pre .0 .fits),
+      s .pre .1,
+      subst (λ (x : Found). FoundIs ks (idOf (a .id)) x) (c .before .before .f .given .1) (c .before .before .before .before .find-missing .ensures),
+    )
 
 enum-told : tie.Need-enum-told
 enum-told c = search needs

@@ -42,9 +42,11 @@ ask-actions-requires c κs =
     let a = s .args in
     let st = stateOf (a .h) (a .block .now) in
     let f = c .before .before .f .given in
-    let here : Here (keys (st .missing)) (idOf (a .id)) (f .0 .0) = subst (λ (x : Found). FoundIs (keys (st .missing)) (idOf (a .id)) x) (f .1) (c .before .before .before .before .find-missing .ensures) in
-    (s .pre .0, omega (arith, here .within, count-missed (a .h) (a .block .now)),
-    told-as (asks-sent (a .instant .0) st (roomsIn st (a .rooms .now)) (idOf (a .id)) (hopsAt st (f .0 .0)) (sym (c .before .before .before .before .before .before .received-then .ensures) ∙ c .before .before .before .before .before .if1 .left) (announcers-here st (idOf (a .id)) (f .0 .0) (up-of (keys (st .missing)) (missing-up (a .h) (a .block .now) (s .pre .0))) here)) (s .pre .1))
+    let here : Here (keys (st .missing)) (idOf (a .id)) (f .0 .0) = subst (λ (x : Found). FoundIs (keys (st .missing)) (idOf (a .id)) x) (f .1) (c .before .before .before .before .find-missing .ensures) in (
+      s .pre .0,
+      omega (arith, here .within, count-missed (a .h) (a .block .now)),
+      told-as (asks-sent (a .instant .0) st (roomsIn st (a .rooms .now)) (idOf (a .id)) (hopsAt st (f .0 .0)) (sym (c .before .before .before .before .before .before .received-then .ensures) ∙ c .before .before .before .before .before .if1 .left) (announcers-here st (idOf (a .id)) (f .0 .0) (up-of (keys (st .missing)) (missing-up (a .h) (a .block .now) (s .pre .0))) here)) (s .pre .1),
+    )
 
 enum-told : tie.Need-enum-told
 enum-told c = search needs

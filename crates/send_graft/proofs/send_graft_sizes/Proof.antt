@@ -7,7 +7,6 @@ use Rattle.rows.specs.Sorted.{FoundIs}
 use Rattle.rows.specs.declared.table.Found.{Found}
 use Rattle.block.specs.View.{stateOf}
 use Rattle.send_graft.proofs.ReadLaws.{none-sized, asks-sized, nobody-sized}
-use native.Mathlib.Omega.{arith}
 use borrow.Author.Needs.{needs}
 use Rattle.send_graft.proofs.send_graft_sizes.Statement.{statement}
 use Rattle.send_graft.proofs.send_graft_sizes.Tie as tie

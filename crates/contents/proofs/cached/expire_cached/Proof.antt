@@ -1,13 +1,12 @@
 -- `cached::expire_cached` meets its contract: the two tables are left to `expire_until`, and the contents that are left move to the front.
 -- Assumes nothing.
-use mathlib.Core.Path.{_≡_, sym, ap, _∙_, subst}
-use native.Mathlib.Omega.{arith}
+use mathlib.Core.Path.{sym, _∙_, subst}
 use Rattle.time_cache.specs.Tables.{Lies, Sound}
 use Rattle.time_cache.specs.Steps.{Expires}
 use Rattle.time_cache.specs.declared.cache.TimeBoundCache.{TimeBoundCache}
 use Rattle.block.specs.Heads.{withCachedCounts}
 use Rattle.caches.proofs.CachedLaws.{cached-lies, cached-sound}
-use Rattle.contents.proofs.Closing.{Expires-left, expired-ahead}
+use Rattle.contents.proofs.Closing.{ExpiredAhead, expired-ahead}
 use borrow.Author.Needs.{needs}
 use Rattle.contents.proofs.cached.expire_cached.Statement.{statement}
 use Rattle.contents.proofs.cached.expire_cached.Tie as tie
@@ -17,7 +16,7 @@ module _ (d : tie.After-expire-until) where
   abbrev s : tie.Start
   s = d .before .before .before .before
 
-  expired : Expires-left (s .args .h) (s .args .block .now) (s .args .instant .0) (withCachedCounts (d .expire-until .result .cache .entries .len) (d .expire-until .result .cache .expiry .len) (s .args .h .live .contents) (s .args .h)) (d .expire-until .last .1 .0)
+  expired : ExpiredAhead (s .args .h) (s .args .block .now) (s .args .instant .0) (withCachedCounts (d .expire-until .result .cache .entries .len) (d .expire-until .result .cache .expiry .len) (s .args .h .live .contents) (s .args .h)) (d .expire-until .last .1 .0)
   expired =
       expired-ahead (s .args .h) (s .args .block .now) (d .expire-until .last .1 .0) (s .args .instant .0) (d .expire-until .result) (s .pre .0) (s .pre .1) (d .expire-until .kept .1 .0)
       (subst (λ (t : TimeBoundCache). Expires t (s .args .instant .0) (s .args .block .now) (d .expire-until .result) (d .expire-until .last .1 .0)) (d .before .before .cached-cache .ensures) (d .expire-until .ensures))

@@ -1,7 +1,7 @@
 -- `cached::insert_empty` meets its contract: the two tables are left to `insert`, and the row has a content of no bytes where the next row's starts.
 -- Assumes nothing.
-use mathlib.Core.Path.{_≡_, refl, sym, ap, _∙_, subst}
-use Prim.Native.Nat.{ℕ, _+_, _*_, _≤_, _<_}
+use mathlib.Core.Path.{sym, _∙_, subst}
+use Prim.Native.Nat.{_<_}
 use native.Mathlib.Omega.{arith}
 use Rattle.rows.specs.Ident.{idOf}
 use Rattle.time_cache.specs.Tables.{Room, Sound}
@@ -84,4 +84,3 @@ insert-empty-spec =
     store-empty-requires
     same-length
     returns)
-

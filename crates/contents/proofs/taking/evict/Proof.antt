@@ -1,6 +1,5 @@
 -- `taking::evict` meets its contract: three steps, each of which leaves the other caches alone.
 -- Assumes nothing.
-use native.Mathlib.Omega.{arith}
 use Rattle.steps.proofs.StandsLaws.{cached-order, received-order, grafted-order}
 use Rattle.contents.proofs.Firsts.{received-after, grafted-after, evict-goes}
 use borrow.Author.Needs.{needs}

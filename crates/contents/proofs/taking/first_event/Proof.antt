@@ -1,6 +1,5 @@
 -- `taking::first_event` meets its contract: where the flag stands nothing is left to do, and else eviction and the flag are.
 -- Assumes nothing.
-use native.Mathlib.Omega.{arith}
 use Rattle.contents.proofs.Firsts.{first-still, first-goes}
 use borrow.Author.Needs.{needs}
 use Rattle.contents.proofs.taking.first_event.Statement.{statement}

@@ -1,9 +1,9 @@
 -- `back::note_back` meets its contract. The loop's invariant: the record has the notes of the first i links, by their numbers.
 -- Assumes nothing.
-use mathlib.Core.Path.{_≡_, refl, sym, ap, _∙_}
+use mathlib.Core.Path.{_≡_, sym, _∙_}
 use mathlib.Core.Bool.{Bool, true, false}
 use mathlib.Core.List.{List}
-use Prim.Native.Nat.{ℕ, _+_, _≤_, _<_, _-_}
+use Prim.Native.Nat.{ℕ, _+_, _≤_, _-_}
 use native.Mathlib.Omega.{arith}
 use borrow.Author.Needs.{needs}
 use borrow.Author.Tests.{lt-ltb, le-ltb}
@@ -27,7 +27,7 @@ abbrev μ-loop : tie.MeasureT-loop
 
 few : (s : tie.Start Inv-loop μ-loop) → s .args .h .live .links ≤ 32
 few s =
-    let f = s .pre .pushing .sound .fit in
+    let f = s .pre .pushing .grafting .sound .fit in
     omega (arith, f .within .links, f .ceilings .N)
 
 wants-note-requires : tie.Need-wants-note-requires Inv-loop μ-loop

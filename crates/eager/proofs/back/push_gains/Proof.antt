@@ -2,14 +2,12 @@
 -- Assumes nothing.
 use mathlib.Core.Path.{_≡_, refl, sym, ap, _∙_}
 use mathlib.Core.Bool.{true, false}
-use mathlib.Core.List.{List}
-use Prim.Native.Nat.{ℕ, _+_, _≤_, _<_, _-_}
+use Prim.Native.Nat.{_+_, _≤_, _-_}
 use native.Mathlib.Omega.{arith}
 use borrow.Author.Needs.{needs}
 use borrow.Author.Tests.{lt-ltb, le-ltb}
-use lib.ListN.{length, getD}
+use lib.ListN.{getD}
 use Rattle.rows.specs.Ident.{idOf}
-use Rattle.protocol.specs.State.{State}
 use Rattle.decide.specs.RecordGrowth.{pushGains}
 use Rattle.block.specs.View.{stateOf}
 use Rattle.block.proofs.LinkLaws.{count-links}
@@ -28,7 +26,7 @@ abbrev μ-loop : tie.MeasureT-loop
 
 few : (s : tie.Start Inv-loop μ-loop) → s .args .h .live .links ≤ 32
 few s =
-    let f = s .pre .sound .fit in
+    let f = s .pre .grafting .sound .fit in
     omega (arith, f .within .links, f .ceilings .N)
 
 wants-note-requires : tie.Need-wants-note-requires Inv-loop μ-loop
@@ -50,7 +48,7 @@ add-if2 : tie.Need-add-if2 Inv-loop μ-loop
 add-if2 c =
     let s = c .before .before .before .before .before in
     let l = c .before .before .loop in
-    let f = s .pre .sound .fit in
+    let f = s .pre .grafting .sound .fit in
     omega (arith, f .within .dropped, f .ceilings .D, few s, l .inv .1, c .before .loop-test .taken)
 
 add-extra : tie.Need-add-extra Inv-loop μ-loop
@@ -115,7 +113,7 @@ returns c =
     let n = count-links (a .h) (a .block .now) in
     l .inv .2
     ∙ gain-to (a .push .sender) sk (a .rooms .now) (idOf (a .id)) st (roomed (a .h) (a .block .now) (a .push .skip) (a .rooms .now) (s .pre)) (a .h .live .links) (v .wants-note .result) (v .wants-note .ensures)
-    (a .h .live .dropped) (count-dropped (a .h) (a .block .now) (s .pre .sound)) (sym n) (l .i) (l .inv .0)
+    (a .h .live .dropped) (count-dropped (a .h) (a .block .now) (s .pre .grafting .sound)) (sym n) (l .i) (l .inv .0)
     ∙ ap (pushGains (idOf (a .id)) (st .dropped) 0) (backs-all (a .push .sender) sk (a .rooms .now) st (l .i) (omega (arith, n, c .loop-test .left)))
 
 pub push-gains-spec : {M : Type 1} → statement M

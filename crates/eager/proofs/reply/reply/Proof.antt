@@ -1,9 +1,8 @@
 -- `reply::reply` meets its contract: nothing is cached, the send is taken, or it is noted.
 -- Assumes nothing.
-use mathlib.Core.Path.{_≡_, refl, sym, ap, _∙_, subst}
-use mathlib.Core.Bool.{true, false}
+use mathlib.Core.Path.{sym, _∙_, subst}
 use mathlib.Core.List.{List}
-use Prim.Native.Nat.{ℕ, _<_}
+use Prim.Native.Nat.{ℕ}
 use native.Mathlib.Omega.{arith}
 use borrow.Author.Needs.{needs}
 use lib.ListN.{length-map}
@@ -11,7 +10,6 @@ use Rattle.lists.specs.Map.{keys}
 use Rattle.rows.specs.Ident.{idOf}
 use Rattle.rows.specs.Sorted.{FoundIs, Here}
 use Rattle.rows.specs.declared.table.Found.{Found}
-use Rattle.protocol.specs.State.{State}
 use Rattle.block.specs.View.{stateOf}
 use Rattle.caches.proofs.CachedLaws.{count-cached}
 use Rattle.eager.proofs.ReplyLaws.{reply-none, reply-taken, reply-asks, reply-noted}

@@ -1,12 +1,10 @@
 -- `reply::reply_gains` meets its contract: nothing is cached, the send is taken, or one link handed it back.
 -- Assumes nothing.
-use mathlib.Core.Path.{_≡_, refl, sym, ap, _∙_}
-use mathlib.Core.Bool.{true, false}
+use mathlib.Core.Path.{sym, ap, _∙_}
 use Prim.Native.Nat.{ℕ}
 use native.Mathlib.Omega.{arith}
 use borrow.Author.Needs.{needs}
 use Rattle.rows.specs.Ident.{idOf}
-use Rattle.protocol.specs.State.{State}
 use Rattle.block.specs.View.{stateOf}
 use Rattle.block.specs.LinkSteps.{peerAt}
 use Rattle.steps.specs.Rooms.{roomsIn}

@@ -14,10 +14,10 @@ use Rattle.protocol.specs.State.{State}
 use Rattle.block.specs.View.{stateOf}
 use Rattle.block.specs.LinkSteps.{peerAt}
 use Rattle.caches.specs.CachedReads.{cachedAt}
+use Rattle.grafts.specs.Reads.{HeldBelow}
 use Rattle.steps.specs.declared.Held.{Held}
-use Rattle.steps.specs.declared.Held.the-variants.{At, Nothing}
 use Rattle.eager.specs.Sent.{pushBytes}
-use Rattle.eager.specs.Reply.{HeldIn, replyBytes}
+use Rattle.eager.specs.Reply.{replyBytes}
 use Rattle.eager.proofs.ReplyLaws.{reply-bytes, reply-no-bytes, content-part}
 use Rattle.eager.proofs.reply.reply_sends.Statement.{statement}
 use Rattle.eager.proofs.reply.reply_sends.Tie as tie
@@ -31,7 +31,7 @@ enum-known-held c = search needs
 there : (c : tie.After-held) → c .held .given .0 .0 < c .before .before .before .before .args .h .live .cached
 there c =
     let s = c .before .before .before .before in
-    subst (HeldIn (s .args .h)) (c .held .given .1) (s .pre .0 .1)
+    subst (HeldBelow (s .args .h .live .cached)) (c .held .given .1) (s .pre .0 .1)
 
 cached-round-requires : tie.Need-cached-round-requires
 cached-round-requires c κs =

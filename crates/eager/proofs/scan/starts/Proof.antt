@@ -1,14 +1,12 @@
 -- `scan::starts` meets its contract: the links passed have their number.
 -- Assumes nothing.
 use mathlib.Core.Path.{_≡_, refl, sym, ap, _∙_}
-use mathlib.Core.Bool.{Bool, true, false}
-use mathlib.Core.List.{List}
-use Prim.Native.Nat.{ℕ, _+_, _≤_, _<_, _-_}
+use mathlib.Core.Bool.{Bool}
+use Prim.Native.Nat.{ℕ, _≤_, _-_}
 use native.Mathlib.Omega.{arith}
 use borrow.Author.Needs.{needs}
-use lib.ListN.{length, getD, set, length-set}
+use lib.ListN.{length-set}
 use Rattle.lists.specs.Base.{if_then_else_}
-use Rattle.protocol.specs.State.{State}
 use Rattle.block.specs.View.{stateOf}
 use Rattle.eager.specs.Targets.{skippedIn, handsBack}
 use Rattle.eager.specs.Scan.{Starts}
@@ -30,7 +28,7 @@ back s l =
 
 few : (s : tie.Start Inv-loop μ-loop) → s .args .h .live .links ≤ 32
 few s =
-    let f = s .pre .sound .fit in
+    let f = s .pre .grafting .sound .fit in
     omega (arith, f .within .links, f .ceilings .N)
 
 loop-holds : tie.Need-loop-holds Inv-loop μ-loop

@@ -1,7 +1,5 @@
 -- `scan::wants_note` meets its contract.
 -- Assumes nothing.
-use native.Mathlib.Omega.{arith}
-use borrow.Author.Needs.{needs}
 use Rattle.rows.specs.Ident.{idOf}
 use Rattle.block.specs.View.{stateOf}
 use Rattle.eager.specs.Targets.{skippedIn}
@@ -15,7 +13,7 @@ starts-requires c κs = c .before .pre
 seen-for-requires : tie.Need-seen-for-requires
 seen-for-requires c κs =
     let s = c .before .before in
-    (s .pre .sound, s .pre .up, c .starts .ensures .long)
+    (s .pre .grafting .sound, s .pre .grafting .linksUp, c .starts .ensures .long)
 
 returns : tie.Need-returns
 returns c =

@@ -1,9 +1,9 @@
 -- `sends::push_sends` meets its contract. The loop's invariant: after i links the sends to the targets among the first i are written.
 -- Assumes nothing.
-use mathlib.Core.Path.{_≡_, refl, sym, ap, _∙_, subst}
-use mathlib.Core.Bool.{Bool, true, false, not}
+use mathlib.Core.Path.{_≡_, sym, ap, _∙_, subst}
+use mathlib.Core.Bool.{not}
 use mathlib.Core.List.{List}
-use Prim.Native.Nat.{ℕ, _+_, _≤_, _<_, _-_}
+use Prim.Native.Nat.{ℕ, _≤_, _<_, _-_}
 use native.Mathlib.Omega.{arith}
 use borrow.Author.Needs.{needs}
 use lib.ListN.{length}
@@ -58,11 +58,11 @@ is-target-requires : tie.Need-is-target-requires Inv-loop μ-loop
 is-target-requires c κs = (c .before .before .before .before .before .pre .0, c .loop-test .taken)
 
 peer-at-requires : tie.Need-peer-at-requires Inv-loop μ-loop
-peer-at-requires c κs = (c .before .before .before .before .before .before .before .pre .0 .sound .fit, c .before .before .loop-test .taken)
+peer-at-requires c κs = (c .before .before .before .before .before .before .before .pre .0 .grafting .sound .fit, c .before .before .loop-test .taken)
 
 is-taken-requires : tie.Need-is-taken-requires Inv-loop μ-loop
 is-taken-requires c κs =
-    let f = c .before .before .before .before .before .before .before .before .pre .0 .sound .fit in
+    let f = c .before .before .before .before .before .before .before .before .pre .0 .grafting .sound .fit in
     omega (arith, c .before .before .before .loop-test .taken, f .within .links, f .ceilings .N)
 
 send-gossip-requires : tie.Need-send-gossip-requires Inv-loop μ-loop

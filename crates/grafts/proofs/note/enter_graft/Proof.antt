@@ -1,8 +1,7 @@
 -- `note::enter_graft` meets its contract: the two tables are left to `insert`, and the zeros are an entry with no grafts.
 -- Assumes nothing.
 use mathlib.Core.Path.{_≡_, refl, sym, ap, _∙_, subst}
-use mathlib.Core.List.{List}
-use Prim.Native.Nat.{ℕ, _+_, _*_, _<_, _≤_}
+use Prim.Native.Nat.{ℕ, _+_, _*_, _≤_}
 use Rattle.rows.specs.Ident.{idOf}
 use Rattle.rows.specs.Part.{put}
 use Rattle.rows.specs.Digits.{leBytes}
@@ -19,7 +18,6 @@ use native.Mathlib.Omega.{arith}
 use borrow.Author.Needs.{needs}
 use Rattle.grafts.proofs.note.enter_graft.Statement.{statement}
 use Rattle.grafts.proofs.note.enter_graft.Tie as tie
-
 
 -- what the insert left
 inserts : (d : tie.After-insert) → Inserts (graftedCache (d .before .before .before .before .args .h)) (idOf (d .before .before .before .before .args .id)) (d .before .before .before .before .args .expires .0) (d .before .before .before .before .args .block .now) (d .insert .result) (d .insert .last .1 .0)

@@ -1,14 +1,14 @@
 -- `note::graft_anew` meets its contract: a new entry, and its first peer.
 -- Assumes nothing.
 use mathlib.Core.Path.{sym, ap, _∙_, subst}
-use mathlib.Core.List.{List, [], _∷_}
+use mathlib.Core.List.{[], _∷_}
 use Prim.Native.Nat.{ℕ, _+_, _*_}
 use lib.ListN.{getD}
 use Rattle.lists.specs.Map.{entry}
 use Rattle.rows.specs.Ident.{idOf}
 use Rattle.rows.specs.Part.{part, put}
 use Rattle.time_cache.specs.TimeCache.{put as putIn}
-use Rattle.protocol.specs.State.{State, withGrafted}
+use Rattle.protocol.specs.State.{withGrafted}
 use Rattle.block.specs.Goes.{Goes}
 use Rattle.block.specs.HopSteps.{pushedHop}
 use Rattle.block.specs.LinkSteps.{peerAt}

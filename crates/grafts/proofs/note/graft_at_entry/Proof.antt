@@ -9,11 +9,9 @@ use Rattle.rows.specs.declared.table.Found.{Found}
 use Rattle.block.specs.View.{stateOf}
 use Rattle.block.specs.LinkSteps.{peerAt}
 use Rattle.caches.specs.GraftSteps.{graftsAt}
-use native.Mathlib.Omega.{arith}
 use borrow.Author.Needs.{needs}
 use Rattle.grafts.proofs.note.graft_at_entry.Statement.{statement}
 use Rattle.grafts.proofs.note.graft_at_entry.Tie as tie
-
 
 abbrev peers : tie.Start → List ℕ
 peers s = keys (graftsAt (stateOf (s .args .h) (s .args .block .now)) (s .args .i) .peers)

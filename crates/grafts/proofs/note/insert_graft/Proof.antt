@@ -1,7 +1,6 @@
 -- `note::insert_graft` meets its contract: a peer more, at its place.
 -- Assumes nothing.
 use mathlib.Core.Path.{sym, ap, _∙_, subst}
-use mathlib.Core.List.{List}
 use Prim.Native.Nat.{ℕ, _+_, _*_}
 use lib.ListN.{getD, length-map}
 use Rattle.lists.specs.Map.{Entry}

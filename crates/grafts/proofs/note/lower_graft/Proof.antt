@@ -1,10 +1,9 @@
 -- `note::lower_graft` meets its contract: the known round stays where it is no higher, and a lower one is stored.
 -- Assumes nothing.
-use mathlib.Core.Path.{_≡_, sym, ap, _∙_, subst}
-use mathlib.Core.List.{List}
-use Prim.Native.Nat.{ℕ, _+_, _*_, _<_, _≤_}
+use mathlib.Core.Path.{sym, ap, _∙_, subst}
+use Prim.Native.Nat.{ℕ, _+_, _*_, _<_}
 use lib.ListN.{length, length-map}
-use Rattle.lists.specs.Map.{Map, Entry}
+use Rattle.lists.specs.Map.{Entry}
 use Rattle.rows.specs.Part.{put}
 use Rattle.rows.specs.Digits.{leBytes}
 use Rattle.block.specs.View.{stateOf}
@@ -18,7 +17,6 @@ use native.Mathlib.Omega.{arith}
 use borrow.Author.Needs.{needs}
 use Rattle.grafts.proofs.note.lower_graft.Statement.{statement}
 use Rattle.grafts.proofs.note.lower_graft.Tie as tie
-
 
 -- the peer is one of the peers, at most 32
 there : (s : tie.Start) → s .args .j < length (graftsAt (stateOf (s .args .h) (s .args .block .now)) (s .args .i) .peers)

@@ -6,7 +6,7 @@ use Prim.Native.Nat.{ℕ}
 use lib.ListN.{length-map}
 use Rattle.lists.specs.Map.{Entry, keys}
 use Rattle.rows.specs.Ident.{idOf}
-use Rattle.rows.specs.Sorted.{Here, Between, FoundIs}
+use Rattle.rows.specs.Sorted.{Here, FoundIs}
 use Rattle.rows.specs.declared.table.Found.{Found}
 use Rattle.time_cache.specs.TimeCache.{Timed}
 use Rattle.time_cache.proofs.Orders.{up-of}
@@ -18,7 +18,6 @@ use native.Mathlib.Omega.{arith}
 use borrow.Author.Needs.{needs}
 use Rattle.grafts.proofs.note.note_graft.Statement.{statement}
 use Rattle.grafts.proofs.note.note_graft.Tie as tie
-
 
 abbrev state : tie.Start → State
 state s = stateOf (s .args .h) (s .args .block .now)

@@ -1,11 +1,9 @@
 -- `reads::find_graft` meets its contract: the peers before j are below the peer of the link, since links ascend by their peers.
 -- Assumes nothing.
 use mathlib.Core.Path.{_≡_, sym, ap, _∙_}
-use mathlib.Core.List.{List}
 use Prim.Native.Nat.{ℕ, _-_, _≤_, _<_}
 use lib.ListN.{length, getD, length-map}
-use Rattle.lists.specs.Map.{Map, Entry, entry, keys}
-use Rattle.rows.specs.Sorted.{Ascending}
+use Rattle.lists.specs.Map.{Map, Entry, keys}
 use Rattle.time_cache.proofs.Orders.{up-of}
 use Rattle.protocol.specs.State.{State}
 use Rattle.block.specs.View.{stateOf}

@@ -8,7 +8,6 @@ use Rattle.rows.specs.Part.{part}
 use Rattle.rows.specs.Digits.{leNat}
 use Rattle.block.specs.MissingSteps.{hop}
 use Rattle.grafts.proofs.ReadLaws.{read-first, flag-none, flag-some}
-use native.Mathlib.Omega.{arith}
 use borrow.Author.Needs.{needs}
 use Rattle.grafts.proofs.reads.graft_first.Statement.{statement}
 use Rattle.grafts.proofs.reads.graft_first.Tie as tie

@@ -8,7 +8,6 @@ use Rattle.block.specs.LinkSteps.{peerAt}
 use Rattle.caches.specs.GraftSteps.{graftsAt}
 use Rattle.grafts.specs.Reads.{HeldBelow, heldPeers}
 use Rattle.grafts.proofs.PeerLaws.{out-away, out-none, out-empty}
-use native.Mathlib.Omega.{arith}
 use borrow.Author.Needs.{needs}
 use Rattle.grafts.proofs.reads.graft_out.Statement.{statement}
 use Rattle.grafts.proofs.reads.graft_out.Tie as tie

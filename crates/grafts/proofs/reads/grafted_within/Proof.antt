@@ -1,7 +1,7 @@
 -- `reads::grafted_within` meets its contract: no peer passed is grafted over so few hops.
 -- Assumes nothing.
 use mathlib.Core.Path.{_≡_, refl, sym, ap, _∙_}
-use mathlib.Core.Bool.{Bool, true, false}
+use mathlib.Core.Bool.{Bool, false}
 use Prim.Native.Nat.{ℕ, _-_, _≤_, _<_}
 use borrow.Author.Tests.{le-leb, lt-leb}
 use lib.Dec.{leb}
@@ -9,7 +9,6 @@ use lib.ListN.{length, take, getD}
 use lib.Seq.{take-all}
 use Rattle.lists.specs.Base.{any}
 use Rattle.lists.specs.Map.{Map, Entry, entry}
-use Rattle.protocol.specs.State.{State}
 use Rattle.block.specs.View.{stateOf}
 use Rattle.block.proofs.Scans.{any-found, any-drop}
 use Rattle.caches.specs.GraftSteps.{graftsAt}

@@ -8,7 +8,6 @@ use Rattle.block.specs.View.{stateOf}
 use Rattle.block.specs.LinkSteps.{peerAt}
 use Rattle.caches.specs.GraftSteps.{graftsAt}
 use Rattle.grafts.proofs.PeerLaws.{peers-up, has-here, has-between}
-use native.Mathlib.Omega.{arith}
 use borrow.Author.Needs.{needs}
 use Rattle.grafts.proofs.reads.is_grafted.Statement.{statement}
 use Rattle.grafts.proofs.reads.is_grafted.Tie as tie

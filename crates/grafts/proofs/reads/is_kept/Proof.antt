@@ -1,6 +1,6 @@
 -- `reads::is_kept` meets its contract: flag and peer read are the `kept` of the view.
 -- Assumes nothing.
-use mathlib.Core.Path.{sym, ap, _∙_}
+use mathlib.Core.Path.{ap, _∙_}
 use Prim.Native.Nat.{ℕ, _+_, _*_}
 use lib.Dec.{eqb}
 use lib.ListN.{getD}
@@ -9,7 +9,6 @@ use Rattle.rows.specs.Digits.{leNat}
 use Rattle.block.specs.View.{stateOf}
 use Rattle.caches.specs.GraftSteps.{graftsAt}
 use Rattle.grafts.proofs.ReadLaws.{read-kept, flag-none, flag-some, same-none, same-some}
-use native.Mathlib.Omega.{arith}
 use borrow.Author.Needs.{needs}
 use Rattle.grafts.proofs.reads.is_kept.Statement.{statement}
 use Rattle.grafts.proofs.reads.is_kept.Tie as tie

@@ -1,0 +1,38 @@
+-- `bags::queued_item`: the note, with the peer of its link.
+-- Assumes nothing.
+use mathlib.Core.Path.{sym, ap, _∙_}
+use lib.ListN.{length-map, List·getD-map}
+use Rattle.alike.specs.Elements.{element, noteElement}
+use Rattle.block.specs.View.{stateOf}
+use Rattle.rows.specs.Ident.{idOf}
+use Rattle.block.specs.NoteSteps.{note}
+use Rattle.alike.proofs.BlockReads.{count-queue}
+use native.Mathlib.Omega.{arith}
+use borrow.Author.Needs.{needs}
+use Rattle.alike.proofs.bags.queued_item.Statement.{statement}
+use Rattle.alike.proofs.bags.queued_item.Tie as tie
+
+queued-at-requires : tie.Need-queued-at-requires
+queued-at-requires c κs =
+    let s = c .before in
+    let st = stateOf (s .args .h) (s .args .block .now) in
+    (s .pre .0, omega (arith, s .pre .1, length-map (st .queue) noteElement, count-queue (s .args .h) (s .args .block .now) (s .pre .0 .fit)))
+
+peer-at-requires : tie.Need-peer-at-requires
+peer-at-requires c κs =
+    let s = c .before .before in
+    (s .pre .0 .fit, c .queued-at .ensures .below)
+
+cast-t7 : tie.Need-cast-t7
+cast-t7 c = search needs
+
+returns : tie.Need-returns
+returns c =
+    let s = c .before .before .before .before .before in
+    let st = stateOf (s .args .h) (s .args .block .now) in
+    let n = c .before .before .before .queued-at in
+    (λ k. element (c .before .before .peer-at .ensures k) (idOf (n .result .id)) (n .result .round .0))
+    ∙ sym (List·getD-map noteElement (st .queue) (s .args .i) (note 0 0 0) ∙ ap noteElement (n .ensures .same))
+
+pub queued-item-spec : {M : Type 1} → statement M
+queued-item-spec = tie.close (tie.spec queued-at-requires peer-at-requires cast-t7 returns)

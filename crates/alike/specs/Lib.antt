@@ -1,0 +1,4 @@
+-- What the comparison of two blocks is said by.
+pub mod Elements
+pub mod Rows
+pub mod Answer

@@ -235,22 +235,18 @@ pub record InNeither (p : ℕ) (s : State) : Type 0 where
   pub notEager : member p (eagerPeers (s .links)) ≡ false
   pub notLazy : member p (lazyPeers (s .links)) ≡ false
 
--- why a neighbour was not passed over; `before` are the calls before the last taking in, `since` that call and those after it
+-- why a neighbour was not passed over; `before` are the calls before the last taking in, `since` that call and those after it: "Then it came from there; or before that taking in, and
+-- without break since, this neighbour had announced it and a Graft for it was sent there, taken or handed back; or since that taking in its payload or announcement was sent there and was
+-- taken, or was handed back and met a full record (this neighbour's 256 or all 4,096); or it now stands queued or recorded for this neighbour"
 pub data Reached (p id : ℕ) (before since : List Answer) (from : ℕ) (s : State) : Type 0 where
-  -- "Then it came from there"
   cameFromThere : from ≡ p → Reached p id before since from s
-  -- "or before that taking in, and without break since, this neighbour had announced it and a Graft for it was sent there, taken or handed back"
   announcedAndGrafted :
       (earlier announcing grafting : List Answer) → before ≡ earlier ++ (announcing ++ grafting) →
       toldUp p earlier ≡ true → Never (tellsDown p) (announcing ++ grafting) →
       Happened (announced p id) announcing → Happened (sent p (isGraftFor id) takenOrHandedBack) grafting → Reached p id before since from s
-  -- "or since that taking in its payload or announcement was sent there and was taken"
   sentAndTaken : Happened (sent p (carries id) wasTaken) since → Reached p id before since from s
-  -- "or was handed back and met a full record (this neighbour's 256 or all 4,096)"
   backAndFull : Happened (metFull p id) since → Reached p id before since from s
-  -- "or it now stands queued …"
   standsQueued : any (notes p id) (s .queue) ≡ true → Reached p id before since from s
-  -- "… or recorded for this neighbour"
   standsRecorded : any (notes p id) (s .dropped) ≡ true → Reached p id before since from s
 
 module _ (hash : List ℕ → ℕ) (c : Settings) where
@@ -270,21 +266,16 @@ module _ (hash : List ℕ → ℕ) (c : Settings) where
     pub reached : (p : ℕ) → (p ≡ c .me → ⊥) → toldUp p (taken .before) ≡ true → Never (tellsDown p) (taken .after) →
         Reached p id (taken .before) (taken .call ∷ taken .after) (taken .from) s
 
-  -- "after it this holds"; `s` is the state after the list
+  -- "after it this holds"; `s` is the state after the list: "Each neighbour (told up, not down since) is in exactly one of eager and lazy", "nobody else in either", "At most 256 identifiers
+  -- stand recorded for one neighbour", "4,096 in all", "Take each swarm message still cached", "If any queue … stands, its timer was scheduled …", "If any … record stands, its timer was
+  -- scheduled …": a field each
   pub record HoldsAfter (past : List Answer) (s : State) : Type 0 where
-    -- "Each neighbour (told up, not down since) is in exactly one of eager and lazy"
     pub neighbours : (p : ℕ) → toldUp p past ≡ true → InOne p s
-    -- "nobody else in either"
     pub strangers : (p : ℕ) → toldUp p past ≡ false → InNeither p s
-    -- "At most 256 identifiers stand recorded for one neighbour"
     pub recordEach : (p : ℕ) → count (forPeer p) (s .dropped) ≤ 256
-    -- "4,096 in all"
     pub recordAll : length (s .dropped) ≤ 4096
-    -- "Take each swarm message still cached"
     pub messages : (id : ℕ) → holds id (s .cache) ≡ true → MessageReached id past s
-    -- "If any queue … stands, its timer was scheduled …"
     pub queueTimer : (s .queue ≡ [] → ⊥) → TimerRuns dispatchTick past
-    -- "If any … record stands, its timer was scheduled …"
     pub recordTimer : (s .dropped ≡ [] → ⊥) → TimerRuns announceTick past
 
 -- "Whatever the clock does and however full the links are: for every list of event calls (…; refused ones too) from a fresh panel, after it this holds"

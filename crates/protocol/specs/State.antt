@@ -126,21 +126,7 @@ withInit x s = record { settings = s .settings; limits = s .limits; links = s .l
 
 -- "An accepted creation leaves the state of `State::new`, the counts zero"
 unfoldable pub fresh : Settings → Limits → State
-fresh c l = record {
-  settings = c;
-  limits = l;
-  links = [];
-  queue = [];
-  dropped = [];
-  missing = [];
-  received = emptyCache;
-  grafted = emptyCache;
-  cache = emptyCache;
-  graftTimers = [];
-  dispatchScheduled = false;
-  announceScheduled = false;
-  init = false;
-}
+fresh c l = record { settings = c; limits = l; links = []; queue = []; dropped = []; missing = []; received = emptyCache; grafted = emptyCache; cache = emptyCache; graftTimers = []; dispatchScheduled = false; announceScheduled = false; init = false }
 
 -- "the counts zero"
 unfoldable pub zeroCounts : Counts

@@ -208,14 +208,7 @@ fn keep(h: Head, block: &mut [u8], instant: Millis, sender: u64, id: Id, link: u
 }
 
 // The state after a copy of a message received before, where a first event's work is done.
-pub fn on_late(
-    h: Head,
-    block: &mut [u8],
-    instant: Millis,
-    sender: u64,
-    id: Id,
-    delivery: Delivery,
-)
+pub fn on_late(h: Head, block: &mut [u8], instant: Millis, sender: u64, id: Id, delivery: Delivery)
     requires { ⌜ Stands h (now block) × (h .live .init ≡ true) ⌝ }
     ensures { λ _. ⌜ Goes (lateAfter sender (deliveryValue delivery) (idOf id)) h (now (block .entry)) h (now (block .exit)) ⌝ }
 {

@@ -156,7 +156,7 @@ module _ (h : Head) (xs : List ℕ) (stands : Stands h xs) (now id sender round 
   wanted-link l q k held o e =
       let n : isNeighbour sender (settled now s₁ .links) ≡ true = ap (isNeighbour sender) (settled-links now s₁) ∙ neighbour-here sender l (s₁ .links) (up-of (keys (s₁ .links)) (links-up h xs stands)) q in
       let g : graftOut sender round (graftedFor id (settled now s₁)) ≡ o =
-          sym (e ∙ (λ j. graftOut (q .same j) round (held-peers s₁ id (get id (settled now s₁ .grafted)) k held j))) in
+      sym (e ∙ (λ j. graftOut (q .same j) round (held-peers s₁ id (get id (settled now s₁ .grafted)) k held j))) in
       λ j. n j && not (g j)
 
   pub wanted-stranger : (i : ℕ) → Between (keys (s₁ .links)) sender i → wanted id sender round (settled now s₁) ≡ false

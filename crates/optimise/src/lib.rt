@@ -81,14 +81,7 @@ fn closer(h: Head, block: &[u8], id: Id, round: Round) -> Best
 }
 
 // "optimise as `on_gossip` says": for a neighbour sender, whose link is told, where no graft is out, once a first event has evicted.
-fn wants_optimise(
-    h: Head,
-    block: &[u8],
-    instant: Millis,
-    sender: u64,
-    id: Id,
-    round: Round,
-) -> Held
+fn wants_optimise(h: Head, block: &[u8], instant: Millis, sender: u64, id: Id, round: Round) -> Held
     requires { ⌜ Stands h (now block) ⌝ }
     ensures { λ r. ⌜ WantedIs (keys (stateOf h (now (block .entry)) .links)) sender (wanted (idOf id) sender (round .0) (settled (instant .0) (stateOf h (now (block .entry))))) r ⌝ }
 {
@@ -151,14 +144,7 @@ fn maybe_optimize(h: Head, block: &mut [u8], instant: Millis, sender: u64, id: I
 
 // "drop graft-timer mark and announcers; optimise as `on_gossip` says", where a first event's work is done. Its time is that of look-ups by halving, and of
 // moving the rows behind those that go.
-pub fn close(
-    h: Head,
-    block: &mut [u8],
-    instant: Millis,
-    sender: u64,
-    id: Id,
-    round: Round,
-) -> Head
+pub fn close(h: Head, block: &mut [u8], instant: Millis, sender: u64, id: Id, round: Round) -> Head
     requires { ⌜ Stands h (now block) × (h .live .init ≡ true) × (round .0 < 65535) ⌝ }
     ensures { λ r. ⌜ Goes (closedState (idOf id) sender (round .0)) h (now (block .entry)) r (now (block .exit)) ⌝ }
 {

@@ -28,8 +28,7 @@ grafted-then-requires c κs = search needs
 eager-push-requires : tie.Need-eager-push-requires
 eager-push-requires c κs =
     let s = c .before .before .before .before .before .before in
-    let a = s .args in
-    (
+    let a = s .args in (
       pushing (a .h) (a .block .now) (c .before .grafted-then .result) (s .pre .0 .0) (skip-in (a .h) (a .block .now) (s .pre .0 .0 .sound .fit) (idOf (a .id)) _ (c .before .grafted-then .result) (c .before .grafted-then .ensures)),
       told-first _ (told-first _ (told-first _ (told-as (new-bytes (a .instant .0) (stateOf (a .h) (a .block .now)) (a .rooms .now) (a .sender) (idOf (a .id)) (a .content .now) (a .round .0) (c .before .grafted-then .result) (c .before .grafted-then .ensures)) (s .pre .1)))),
     )

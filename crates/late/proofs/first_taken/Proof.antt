@@ -80,4 +80,3 @@ first-taken-spec =
     element-copy-out-result-2
     returns
     returns-2)
-

@@ -115,4 +115,3 @@ from-first-spec =
     enum-told
     returns-3
     returns-4)
-

@@ -101,4 +101,3 @@ keep-spec =
     returns
     same-length-2
     returns-2)
-

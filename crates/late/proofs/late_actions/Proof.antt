@@ -130,4 +130,3 @@ late-actions-spec =
     returns-2
     same-length-2
     returns-3)
-

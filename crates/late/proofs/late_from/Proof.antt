@@ -94,4 +94,3 @@ late-from-spec =
     enum-told
     returns-2
     returns-3)
-

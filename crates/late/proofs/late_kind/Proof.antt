@@ -121,4 +121,3 @@ late-kind-spec =
     returns
     returns-2
     returns-3)
-

@@ -123,4 +123,3 @@ late-reply-spec =
     returns-4
     from-first-requires
     returns-5)
-

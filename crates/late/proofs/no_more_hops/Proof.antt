@@ -40,4 +40,3 @@ returns-2 c =
 
 pub no-more-hops-spec : {M : Type 1} → statement M
 no-more-hops-spec = tie.close (tie.spec enum-known-delivery enum-told returns returns-2)
-

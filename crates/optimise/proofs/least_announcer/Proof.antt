@@ -42,8 +42,7 @@ announcer-at-requires c κs =
 loop-holds : tie.Need-loop-holds Inv-loop μ-loop
 loop-holds c =
     let s = c .before .before .before in
-    let hs : List Hop = hopsAt (stateOf (s .args .h) (s .args .block .now)) (s .args .i) in
-    (
+    let hs : List Hop = hopsAt (stateOf (s .args .h) (s .args .block .now)) (s .args .i) in (
       omega arith,
       omega (arith, c .before .announcers-of .ensures .0, s .pre .2),
       c .announcer-at .ensures .below,
@@ -70,13 +69,12 @@ loop-again c =
     let hs : List Hop = hopsAt (stateOf (s .args .h) (s .args .block .now)) (s .args .i) in
     let st : State = stateOf (s .args .h) (s .args .block .now) in
     let q : l .j < length hs = omega (arith, c .before .before .before .before .loop-test .taken, n .announcers-of .ensures .0) in
-    let r : getD hs (l .j) (hop 0 0) .round ≡ k .announcer-at2 .result .round .0 = ap (λ (x : Hop). x .round) (k .announcer-at2 .ensures .same) in
-    (
+    let r : getD hs (l .j) (hop 0 0) .round ≡ k .announcer-at2 .result .round .0 = ap (λ (x : Hop). x .round) (k .announcer-at2 .ensures .same) in (
       omega arith,
       omega (arith, c .before .before .before .before .loop-test .taken),
       k .announcer-at2 .ensures .below,
       ap (λ (x : Hop). leastFrom x (drop (l .j + 1) hs)) (sym (k .announcer-at2 .ensures .same))
-      ∙ least-closer (hop (peerAt st (l .best .link)) (l .best .round .0)) hs (l .j) q (omega (arith, r, c .if1 .taken)) ∙ l .inv .3,
+          ∙ least-closer (hop (peerAt st (l .best .link)) (l .best .round .0)) hs (l .j) q (omega (arith, r, c .if1 .taken)) ∙ l .inv .3,
     )
 
 loop-less-2 : tie.Need-loop-less-2 Inv-loop μ-loop
@@ -91,8 +89,7 @@ loop-again-2 c =
     let hs : List Hop = hopsAt (stateOf (s .args .h) (s .args .block .now)) (s .args .i) in
     let st : State = stateOf (s .args .h) (s .args .block .now) in
     let q : l .j < length hs = omega (arith, c .before .before .before .before .loop-test .taken, n .announcers-of .ensures .0) in
-    let r : getD hs (l .j) (hop 0 0) .round ≡ k .announcer-at2 .result .round .0 = ap (λ (x : Hop). x .round) (k .announcer-at2 .ensures .same) in
-    (
+    let r : getD hs (l .j) (hop 0 0) .round ≡ k .announcer-at2 .result .round .0 = ap (λ (x : Hop). x .round) (k .announcer-at2 .ensures .same) in (
       omega arith,
       omega (arith, c .before .before .before .before .loop-test .taken),
       l .inv .2,

@@ -8,6 +8,7 @@ need_rt
 copy=$(mktemp -d)
 trap 'rm -rf "$copy"' EXIT
 git clone -q . "$copy/here"
+if [ -d target ]; then cp -r target "$copy/here/target"; fi
 cd "$copy/here"
 rm -rf crates/*/must-fail
 [ $# -gt 0 ] || set -- $(ls -d crates/*/more-edits | cut -d/ -f2)

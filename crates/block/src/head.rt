@@ -7,6 +7,7 @@ ghost use Rattle.block.specs.View.{limitsOf};
 ghost use Rattle.block.specs.Fit.{Ceilings};
 
 // The Rust's `Config`, in its order.
+#[repr(C)]
 pub struct Config {
     pub graft_timeout_1: Millis,
     pub graft_timeout_2: Millis,
@@ -17,6 +18,7 @@ pub struct Config {
     pub cache_evict_interval: Millis,
 }
 
+#[repr(C)]
 pub struct Settings {
     pub config: Config,
     pub max_message_size: u64,
@@ -24,6 +26,7 @@ pub struct Settings {
 }
 
 // Document 01's limits: N, R, C, B, G, S, T, Q, D.
+#[repr(C)]
 pub struct Limits {
     pub neighbours: usize,
     pub received: usize,

@@ -415,6 +415,19 @@ fn event_peer(e: Event) -> u64
 }
 
 // An event call, with the link room of each link by its number, and at 32 that of the event's peer: questions 5 to 14 in their order, then the event.
+//
+// What a call costs, with n links, r received, c cached, g grafted and m missing messages, t graft timers, q queued and d recorded identifiers, and b bytes of
+// contents; a look-up is by halving.
+// Every call: one pass over each table (question 5), one over the event's bytes, and a content's identifier.
+// Up, down: n + q + d, and the lists of g and m.
+// Prune, Graft without identifier: a look-up. Graft for an identifier: a look-up, its content once into the output, and d where it is handed back.
+// IHave of k entries: k look-ups in r, m and t, k^2 / 2 comparisons (k is at most 124), and for each new one a move of the rows of m and t.
+// A Gossip not valid or received before: look-ups, and the 32 peers of a grafted message.
+// A new Gossip, a broadcast: r + c + b to take it in, its content once into the store and once into the output for each send and the emit, n, and d where one is handed back.
+// SendGraft: look-ups, and a move of the rows of g and m.
+// DispatchLazyPush: n q for the link numbers, the identifiers once into the output, and for each handed back a look-up in c and, where its mark is set, d + q.
+// AnnounceDropped: d look-ups in c, and d + q.
+// EvictCache, and a first event: look-ups where nothing is due, else r + c + g + b.
 pub fn event_core(
     block: &mut [u8],
     c: Stats,

@@ -1,7 +1,7 @@
 -- One pass over the queue for one link, that only reads.
 -- Assumes nothing.
 use mathlib.Core.Path.{_≡_, refl, sym, ap, _∙_}
-use mathlib.Core.Bool.{true, false}
+use mathlib.Core.Bool.{Bool, true, false, _&&_}
 use mathlib.Core.List.{List, [], _∷_, _++_}
 use Prim.Native.Nat.{ℕ, _+_, _-_, _≤_, _<_}
 use native.Mathlib.Omega.{arith}
@@ -9,8 +9,8 @@ use lib.Dec.{eqb}
 use lib.ListN.{length, take, drop, getD, length-drop, drop-of-length-le}
 use lib.Seq.{take-all, take-add, length-take-le, drop-append-le, drop-nil, drop-cons}
 use native.Mathlib.Numerals.{add-one}
-use borrow.Author.Tests.{leb-true, leb-false}
-use lib.Dec.{leb}
+use borrow.Author.Tests.{leb-true, leb-false, ltb-true, ltb-false}
+use lib.Dec.{leb, ltb}
 use Rattle.lists.specs.Base.{any}
 use Rattle.lists.proofs.MapLaws.{cases, true≢}
 use Rattle.lists.proofs.Lists.{any-left, any-right, any-one, any-none}
@@ -40,17 +40,27 @@ among-nothing k = refl
 
 -- an identifier among those behind the first `skip`
 module _ (skip k : ℕ) (hs : List Ihave) where
-  pub among-early : (x : Ihave) → length hs < skip → among k (drop skip (hs ++ (x ∷ []))) ≡ among k (drop skip hs)
+  among-early : (x : Ihave) → length hs < skip → among k (drop skip (hs ++ (x ∷ []))) ≡ among k (drop skip hs)
   among-early x w = ap (among k) (drop-early skip hs x w)
 
   among-more : (x : Ihave) → skip ≤ length hs → among k (drop skip (hs ++ (x ∷ []))) ≡ any (λ h. eqb (h .id) k) (drop skip hs ++ (x ∷ []))
   among-more x w = ap (among k) (drop-late skip hs x w)
 
-  pub among-yes : (x : Ihave) → skip ≤ length hs → eqb (x .id) k ≡ true → among k (drop skip (hs ++ (x ∷ []))) ≡ true
+  among-yes : (x : Ihave) → skip ≤ length hs → eqb (x .id) k ≡ true → among k (drop skip (hs ++ (x ∷ []))) ≡ true
   among-yes x w e = among-more x w ∙ any-right (λ h. eqb (h .id) k) (drop skip hs) (x ∷ []) (any-one (λ h. eqb (h .id) k) x ∙ e)
 
-  pub among-no : (x : Ihave) → skip ≤ length hs → eqb (x .id) k ≡ false → among k (drop skip hs) ≡ false → among k (drop skip (hs ++ (x ∷ []))) ≡ false
+  among-no : (x : Ihave) → skip ≤ length hs → eqb (x .id) k ≡ false → among k (drop skip hs) ≡ false → among k (drop skip (hs ++ (x ∷ []))) ≡ false
   among-no x w e f = among-more x w ∙ any-none (λ h. eqb (h .id) k) (drop skip hs) (x ∷ []) f (any-one (λ h. eqb (h .id) k) x ∙ e)
+
+  -- one more: it is the only one that can have the identifier, where none before it has
+  pub among-next : (x : Ihave) (n : ℕ) → n ≡ length hs + 1 → among k (drop skip hs) ≡ false → among k (drop skip (hs ++ (x ∷ []))) ≡ (ltb skip n && eqb (x .id) k)
+  among-next x n e f =
+      cases (ltb skip n)
+      (λ t.
+      let w : skip ≤ length hs = omega (arith, ltb-true skip n t) in
+      let late : (ltb skip n && eqb (x .id) k) ≡ eqb (x .id) k = ap (λ (b : Bool). b && eqb (x .id) k) t in
+      cases (eqb (x .id) k) (λ u. among-yes x w u ∙ sym (late ∙ u)) (λ u. among-no x w u f ∙ sym (late ∙ u)))
+      (λ t. among-early x (omega (arith, ltb-false skip n t)) ∙ f ∙ sym (ap (λ (b : Bool). b && eqb (x .id) k) t))
 
   pub among-later : (rest : List Ihave) → among k (drop skip hs) ≡ true → among k (drop skip (hs ++ rest)) ≡ true
   among-later rest e =

@@ -8,16 +8,20 @@ use rows::id;
 use rows::id::Id;
 use steps::Sizes;
 ghost use mathlib.Core.Path.{_≡_};
-ghost use mathlib.Core.Bool.{false};
+ghost use mathlib.Core.Bool.{false, _&&_};
 ghost use mathlib.Core.List.{[]};
 ghost use Prim.Native.Nat.{_+_, _≤_, _<_, min};
-ghost use lib.ListN.{drop};
+ghost use lib.Dec.{ltb, eqb};
+ghost use lib.ListN.{drop, getD};
+ghost use Rattle.lists.specs.Base.{if_then_else_};
 ghost use Rattle.rows.specs.Ident.{idOf};
 ghost use Rattle.protocol.specs.Ticks.{queuedFor};
 ghost use Rattle.decide.specs.RecordGrowth.{cachedIn, eligible, peerGain};
 ghost use Rattle.decide.specs.Settled.{settled};
 ghost use Rattle.decide.specs.SizesAfter.{dispatchSizes};
 ghost use Rattle.block.specs.View.{stateOf};
+ghost use Rattle.block.specs.Sound.{Sound};
+ghost use Rattle.block.specs.NoteSteps.{note};
 ghost use Rattle.block.specs.LinkSteps.{peerAt};
 ghost use Rattle.steps.specs.Rooms.{roomsIn};
 ghost use Rattle.steps.specs.Shared.{sizesValue};
@@ -34,6 +38,18 @@ pub fn min(a: usize, b: usize) -> usize
     b
 }
 
+// Whether entry j of the queue is handed back, of whose link `seen` entries stand up to it, and has the identifier: the link takes the first `skip`.
+fn is_handed(h: Head, block: &[u8], skip: usize, seen: usize, j: usize, id: Id) -> bool
+    requires { ⌜ Sound h (now block) × (j < h .live .queued) ⌝ }
+    ensures { λ r. ⌜ r ≡ (ltb skip seen && eqb (getD (stateOf h (now (block .entry)) .queue) j (note 0 0 0) .id) (idOf id)) ⌝ }
+{
+    if skip < seen {
+        let q = note::queued_at(h, block, j);
+        return id::same(q.id, id);
+    }
+    false
+}
+
 // Whether an identifier is handed back for the link before entry `end` of the queue. Its time is that of one pass over the queue's column of link numbers.
 fn is_again(h: Head, block: &[u8], link: usize, skip: usize, end: usize, id: Id) -> bool
     requires { ⌜ Stands h (now block) × (link < h .live .links) × (end ≤ h .live .queued) ⌝ }
@@ -46,14 +62,10 @@ fn is_again(h: Head, block: &[u8], link: usize, skip: usize, end: usize, id: Id)
         let l = note::queued_link_at(h, block, j);
         i += 1;
         if l == link {
-            let before = seen;
             seen += 1;
-            if skip <= before {
-                let q = note::queued_at(h, block, j);
-                let same = id::same(q.id, id);
-                if same {
-                    return true;
-                }
+            let hit = is_handed(h, block, skip, seen, j, id);
+            if hit {
+                return true;
             }
         }
     }
@@ -94,6 +106,16 @@ fn is_fresh(
     false
 }
 
+// 1 for yes, 0 for no.
+fn one_if(yes: bool) -> usize
+    ensures { λ r. ⌜ r ≡ (if yes then 1 else 0) ⌝ }
+{
+    if yes {
+        return 1;
+    }
+    0
+}
+
 // How many identifiers would be added for one link, were there room for all. Its time is that of one pass over the record's and the queue's column of link numbers,
 // and of `is_fresh` for each that is handed back.
 fn count_fresh(h: Head, block: &[u8], instant: Millis, link: usize, skip: usize) -> usize
@@ -118,9 +140,7 @@ fn count_fresh(h: Head, block: &[u8], instant: Millis, link: usize, skip: usize)
                 let mark = marks[m];
                 marks[m] = 1;
                 let new = is_fresh(h, block, instant, link, skip, j, mark, q.id);
-                if new {
-                    found += 1;
-                }
+                found += one_if(new);
             }
         }
     }

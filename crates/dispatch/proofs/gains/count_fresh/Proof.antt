@@ -7,7 +7,7 @@ use borrow.Author.Needs.{needs}
 use mathlib.Core.Bool.{Bool, true, false, _||_}
 use mathlib.Core.Logic.{inl, inr, ⊎-elim}
 use mathlib.Core.List.{List, [], _∷_, _++_}
-use mathlib.Core.Path.{_≡_, sym, ap, _∙_, subst}
+use mathlib.Core.Path.{_≡_, refl, sym, ap, _∙_, subst}
 use lib.ListN.{length, drop, getD, set, length-append}
 use lib.Seq.{drop-nil}
 use Rattle.rows.specs.Ident.{idOf}
@@ -177,10 +177,17 @@ module _ (f : tie.After-is-fresh Inv-loop μ-loop) where
       (λ j o. ⊎-elim (λ a. inl a) (λ b. inr (b ∙ same)) (among-known (any (notes (peerAt st (link d₁)) j) (st .dropped)) (drop (s d₁ .args .skip) (heard d₁)) (here d₁) j
       (sym (ap (λ (hs : List Ihave). any (notes (peerAt st (link d₁)) j) (st .dropped) || among j hs) (ap (drop (s d₁ .args .skip)) (mine d₁ (f .before .before .before .before .if1 .taken)) ∙ drop-late (s d₁ .args .skip) (heard d₁) (here d₁) behind)) ∙ o))))
 
+one-if-requires : tie.Need-one-if-requires Inv-loop μ-loop
+one-if-requires c κs = search needs
+
+one-small : (b : Bool) → (if b then 1 else 0) ≤ 1
+one-small true = omega arith
+one-small false = omega arith
+
 add-found : tie.Need-add-found Inv-loop μ-loop
 add-found c =
     let d = d₁ (c .before) in
-    omega (arith, d .before .before .loop .inv .2, more d, small d)
+    omega (arith, d .before .before .loop .inv .2, more d, small d, c .one-if .ensures, one-small (c .before .is-fresh .result))
 
 loop-less : tie.Need-loop-less Inv-loop μ-loop
 loop-less c = search needs
@@ -192,8 +199,8 @@ loop-again c =
     let m = f .before .before .before .before .if1 .taken in (
       search needs,
       mine-count d (d .before .before .loop .seen) m (d .before .before .loop .inv .1),
-      search needs,
-      ap (λ (n : ℕ). n + 1) (d .before .before .loop .inv .3) ∙ sym (count-more f true (c .if3 .taken)),
+      omega (arith, d .before .before .loop .inv .2, c .one-if .ensures, one-small (f .is-fresh .result)),
+      (λ k. d .before .before .loop .inv .3 k + c .one-if .ensures k) ∙ sym (count-more f (f .is-fresh .result) refl),
       marked f,
     )
 
@@ -202,24 +209,6 @@ loop-less-2 c = search needs
 
 loop-again-2 : tie.Need-loop-again-2 Inv-loop μ-loop
 loop-again-2 c =
-    let f = c .before in
-    let d = d₁ f in
-    let m = f .before .before .before .before .if1 .taken in (
-      search needs,
-      mine-count d (d .before .before .loop .seen) m (d .before .before .loop .inv .1),
-      search needs,
-      d .before .before .loop .inv .3 ∙ sym (count-more f false (c .if3 .left) ∙ plain (counted (s d) (drop (s d .args .skip) (heard d)))),
-      marked f,
-    )
-  where
-    plain : (n : ℕ) → n + 0 ≡ n
-    plain n = omega arith
-
-loop-less-3 : tie.Need-loop-less-3 Inv-loop μ-loop
-loop-less-3 c = search needs
-
-loop-again-3 : tie.Need-loop-again-3 Inv-loop μ-loop
-loop-again-3 c =
     let d = c .before .before in
     let m = c .before .if1 .taken in
     let w : length (heard d) < s d .args .skip = omega (arith, c .if2 .left, d .before .before .loop .inv .1) in (
@@ -230,11 +219,11 @@ loop-again-3 c =
       still d (ap (drop (s d .args .skip)) (mine d m) ∙ drop-early (s d .args .skip) (heard d) (here d) w),
     )
 
-loop-less-4 : tie.Need-loop-less-4 Inv-loop μ-loop
-loop-less-4 c = search needs
+loop-less-3 : tie.Need-loop-less-3 Inv-loop μ-loop
+loop-less-3 c = search needs
 
-loop-again-4 : tie.Need-loop-again-4 Inv-loop μ-loop
-loop-again-4 c =
+loop-again-3 : tie.Need-loop-again-3 Inv-loop μ-loop
+loop-again-3 c =
     let d = c .before in
     let m = other d (c .if1 .left) in (
       search needs,
@@ -267,6 +256,7 @@ count-fresh-spec =
     array-read-mark
     array-write-marks
     is-fresh-requires
+    one-if-requires
     add-found
     loop-less
     loop-again
@@ -274,6 +264,4 @@ count-fresh-spec =
     loop-again-2
     loop-less-3
     loop-again-3
-    loop-less-4
-    loop-again-4
     returns)

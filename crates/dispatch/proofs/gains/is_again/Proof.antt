@@ -3,10 +3,9 @@
 use Prim.Native.Nat.{ℕ, _+_, _≤_, _-_, _<_}
 use native.Mathlib.Omega.{arith}
 use borrow.Author.Needs.{needs}
-use mathlib.Core.Bool.{true, false}
+use mathlib.Core.Bool.{false}
 use mathlib.Core.List.{List, [], _∷_, _++_}
 use mathlib.Core.Path.{_≡_, sym, ap, _∙_}
-use lib.Dec.{eqb}
 use lib.ListN.{length, take, drop, getD, length-append}
 use Rattle.rows.specs.Ident.{idOf}
 use Rattle.postcard.specs.Message.{Ihave}
@@ -16,7 +15,7 @@ use Rattle.block.specs.LinkSteps.{peerAt}
 use Rattle.block.specs.NoteSteps.{note}
 use Rattle.dispatch.specs.Gains.{among}
 use Rattle.dispatch.proofs.QueueLaws.{ihaveOf}
-use Rattle.dispatch.proofs.ReadPass.{heardBy, among-early, among-yes, among-no, among-later, among-none, heard-none, heard-count, heard-on, heard-other, heard-mine, heard-note}
+use Rattle.dispatch.proofs.ReadPass.{heardBy, among-next, among-later, among-none, heard-none, heard-count, heard-on, heard-other, heard-mine}
 use Rattle.dispatch.proofs.gains.is_again.Statement.{statement}
 use Rattle.dispatch.proofs.gains.is_again.Tie as tie
 
@@ -83,26 +82,21 @@ add-seen c =
     let d = c .before in
     omega (arith, few d, more d, small d, d .before .before .loop .inv .1)
 
-queued-at-requires : tie.Need-queued-at-requires Inv-loop μ-loop
-queued-at-requires c κs =
-    let d = c .before .before in
+is-handed-requires : tie.Need-is-handed-requires Inv-loop μ-loop
+is-handed-requires c κs =
+    let d = c .before in
     (s d .pre .0 .sound, more d)
 
-same-requires : tie.Need-same-requires Inv-loop μ-loop
-same-requires c κs = search needs
-
--- the identifier of the entry that was read
-module _ (f : tie.After-same Inv-loop μ-loop) where
+-- whether the entry that was read is handed back and has the identifier
+module _ (f : tie.After-is-handed Inv-loop μ-loop) where
   abbrev d₁ : tie.After-queued-link-at Inv-loop μ-loop
-  d₁ = f .before .before .before .before
+  d₁ = f .before .before
 
-  same-is : eqb (here d₁ .id) (idOf (s d₁ .args .id)) ≡ f .same .result
-  same-is =
-      ap (λ (y : Ihave). eqb (y .id) (idOf (s d₁ .args .id))) (heard-note (link d₁) (s d₁ .args .h) (xs d₁) (s d₁ .pre .0) (i d₁) (more d₁) (f .before .queued-at .result) (f .before .queued-at .ensures))
-      ∙ sym (f .same .ensures)
-
-  behind : s d₁ .args .skip ≤ length (heard d₁)
-  behind = omega (arith, f .before .before .if2 .taken, d₁ .before .before .loop .inv .1)
+  next : among (idOf (s d₁ .args .id)) (drop (s d₁ .args .skip) (heardBy (link d₁) (s d₁ .args .h) (xs d₁) (i d₁ + 1))) ≡ f .is-handed .result
+  next =
+      ap (λ (hs : List Ihave). among (idOf (s d₁ .args .id)) (drop (s d₁ .args .skip) hs)) (mine d₁ (f .before .if1 .taken))
+      ∙ among-next (s d₁ .args .skip) (idOf (s d₁ .args .id)) (heard d₁) (here d₁) (d₁ .before .before .loop .seen + 1) (ap (λ (n : ℕ). n + 1) (d₁ .before .before .loop .inv .1)) (d₁ .before .before .loop .inv .2)
+      ∙ sym (f .is-handed .ensures)
 
 returns : tie.Need-returns Inv-loop μ-loop
 returns c =
@@ -110,10 +104,8 @@ returns c =
     let d = d₁ f in
     let a = s d .args in
     let k = idOf (a .id) in
-    let e : among k (drop (a .skip) (heardBy (link d) (a .h) (xs d) (i d + 1))) ≡ true =
-    ap (λ (hs : List Ihave). among k (drop (a .skip) hs)) (mine d (f .before .before .before .if1 .taken)) ∙ among-yes (a .skip) k (heard d) (here d) (behind f) (same-is f ∙ c .if3 .taken) in
     sym (ap (λ (hs : List Ihave). among k (drop (a .skip) hs)) (heard-on (link d) (a .h) (xs d) (s d .pre .0) (i d + 1) (a .end) (omega (arith, d .before .loop-test .taken)))
-    ∙ among-later (a .skip) k (heardBy (link d) (a .h) (xs d) (i d + 1)) (queuedFor (peerAt (stateOf (a .h) (xs d)) (link d)) (take (a .end - (i d + 1)) (drop (i d + 1) (stateOf (a .h) (xs d) .queue)))) e)
+    ∙ among-later (a .skip) k (heardBy (link d) (a .h) (xs d) (i d + 1)) (queuedFor (peerAt (stateOf (a .h) (xs d)) (link d)) (take (a .end - (i d + 1)) (drop (i d + 1) (stateOf (a .h) (xs d) .queue)))) (next f ∙ c .if2 .taken))
 
 loop-less : tie.Need-loop-less Inv-loop μ-loop
 loop-less c = search needs
@@ -122,33 +114,13 @@ loop-again : tie.Need-loop-again Inv-loop μ-loop
 loop-again c =
     let f = c .before in
     let d = d₁ f in
-    let a = s d .args in
-    let m = f .before .before .before .if1 .taken in (
-      search needs,
-      mine-count d (d .before .before .loop .seen) m (d .before .before .loop .inv .1),
-      ap (λ (hs : List Ihave). among (idOf (a .id)) (drop (a .skip) hs)) (mine d m)
-          ∙ among-no (a .skip) (idOf (a .id)) (heard d) (here d) (behind f) (same-is f ∙ c .if3 .left) (d .before .before .loop .inv .2),
-    )
+    (search needs, mine-count d (d .before .before .loop .seen) (f .before .if1 .taken) (d .before .before .loop .inv .1), next f ∙ c .if2 .left)
 
 loop-less-2 : tie.Need-loop-less-2 Inv-loop μ-loop
 loop-less-2 c = search needs
 
 loop-again-2 : tie.Need-loop-again-2 Inv-loop μ-loop
 loop-again-2 c =
-    let d = c .before .before in
-    let a = s d .args in
-    let m = c .before .if1 .taken in (
-      search needs,
-      mine-count d (d .before .before .loop .seen) m (d .before .before .loop .inv .1),
-      ap (λ (hs : List Ihave). among (idOf (a .id)) (drop (a .skip) hs)) (mine d m)
-          ∙ among-early (a .skip) (idOf (a .id)) (heard d) (here d) (omega (arith, c .if2 .left, d .before .before .loop .inv .1)) ∙ d .before .before .loop .inv .2,
-    )
-
-loop-less-3 : tie.Need-loop-less-3 Inv-loop μ-loop
-loop-less-3 c = search needs
-
-loop-again-3 : tie.Need-loop-again-3 Inv-loop μ-loop
-loop-again-3 c =
     let d = c .before in
     let a = s d .args in
     let m = other d (c .if1 .left) in (
@@ -174,13 +146,10 @@ is-again-spec =
     queued-link-at-requires
     add-i
     add-seen
-    queued-at-requires
-    same-requires
+    is-handed-requires
     returns
     loop-less
     loop-again
     loop-less-2
     loop-again-2
-    loop-less-3
-    loop-again-3
     returns-2)

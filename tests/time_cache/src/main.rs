@@ -5,7 +5,7 @@ mod proto {
     include!(concat!(env!("OUT_DIR"), "/mods.rs"));
 }
 
-use std::collections::BTreeMap;
+use std::{cell::RefCell, collections::BTreeMap, rc::Rc};
 
 use n0_future::time::Instant;
 use proto::util::TimeBoundCache;
@@ -15,11 +15,11 @@ extern "C" {
     fn time_cache_insert(
         p: *mut u8, l: usize, a: usize, s: usize, n: usize, b: usize, t: usize, m: usize,
         w0: u64, w1: u64, w2: u64, w3: u64, expires: u64, out: *mut [u64; 4],
-    );
+    ) -> bool;
     fn time_cache_expire_until(
         p: *mut u8, l: usize, a: usize, s: usize, n: usize, b: usize, t: usize, m: usize,
         instant: u64, out: *mut [u64; 3],
-    );
+    ) -> bool;
     fn time_cache_contains_key(
         p: *const u8, l: usize, a: usize, s: usize, n: usize, b: usize, t: usize, m: usize,
         w0: u64, w1: u64, w2: u64, w3: u64,
@@ -39,6 +39,20 @@ extern "C" {
 type Key = [u8; 32];
 /// What an entry holds: the bytes after its place, and those after its row's identifier.
 type Value = (Vec<u8>, Vec<u8>);
+
+/// A value in the Rust's cache. `expire_until` answers a number only; it drops a value where it removes its key, so
+/// the keys that are written down here are those that it removes, in its order.
+struct Kept {
+    value: Value,
+    key: Key,
+    dropped: Rc<RefCell<Vec<Key>>>,
+}
+
+impl Drop for Kept {
+    fn drop(&mut self) {
+        self.dropped.borrow_mut().push(self.key);
+    }
+}
 
 struct Rng(u64);
 
@@ -90,31 +104,55 @@ impl Block {
     fn key(&self, p: usize) -> Key {
         self.row(p)[8..40].try_into().unwrap()
     }
-    fn insert(&mut self, key: &Key, expires: u64, value: &Value) {
+    fn insert(&mut self, key: &Key, expires: u64, value: &Value) -> bool {
         let w = words(key);
         let mut out = [0; 4];
-        unsafe {
+        let done = unsafe {
             time_cache_insert(
                 self.bytes.as_mut_ptr(), self.bytes.len(), self.a, self.s, self.n, self.b, self.t, self.m,
                 w[0], w[1], w[2], w[3], expires, &mut out,
             )
         };
+        if !done {
+            return false;
+        }
         (self.n, self.m) = (out[0] as usize, out[1] as usize);
         let e = self.a + out[2] as usize * self.s + 2;
         self.bytes[e..e + self.s - 2].copy_from_slice(&value.0);
         let r = self.b + out[3] as usize * self.t + 40;
         self.bytes[r..r + self.t - 40].copy_from_slice(&value.1);
+        true
     }
-    fn expire_until(&mut self, instant: u64) -> usize {
+    fn expire_until(&mut self, instant: u64) -> Option<usize> {
         let mut out = [0; 3];
-        unsafe {
+        let done = unsafe {
             time_cache_expire_until(
                 self.bytes.as_mut_ptr(), self.bytes.len(), self.a, self.s, self.n, self.b, self.t, self.m,
                 instant, &mut out,
             )
         };
+        if !done {
+            return None;
+        }
         (self.n, self.m) = (out[0] as usize, out[1] as usize);
-        out[2] as usize
+        Some(out[2] as usize)
+    }
+    /// The keys that an expiry removes, in order: the rows pop one by one, "and a key is removed only if its present
+    /// expiry equals the popped time".
+    fn expired_keys(&self, instant: u64) -> Vec<Key> {
+        let mut present: BTreeMap<Key, u64> =
+            (0..self.n).map(|i| (self.key(self.place(i)), self.time(self.place(i)))).collect();
+        let mut removed = Vec::new();
+        for q in (0..self.m).take_while(|&q| self.time(q) <= instant) {
+            if present.get(&self.key(q)) == Some(&self.time(q)) {
+                present.remove(&self.key(q));
+                removed.push(self.key(q));
+            }
+        }
+        removed
+    }
+    fn is_sound(&self) -> bool {
+        unsafe { time_cache_is_sound(self.bytes.as_ptr(), self.bytes.len(), self.a, self.s, self.n, self.b, self.t, self.m) }
     }
     /// What stands outside the two tables and their spare rows.
     fn around(&self) -> [Vec<u8>; 3] {
@@ -129,12 +167,12 @@ fn words(k: &Key) -> [u64; 4] {
 }
 
 /// The first difference between the block and the Rust's cache, asked at an instant.
-fn differs(x: &Block, rust: &TimeBoundCache<Key, Value>, keys: &[Key], at: u64) -> Option<String> {
+fn differs(x: &Block, rust: &TimeBoundCache<Key, Kept>, keys: &[Key], at: u64) -> Option<String> {
     let (p, l) = (x.bytes.as_ptr(), x.bytes.len());
     macro_rules! ask {
         ($f:ident $(, $e:expr)*) => { unsafe { $f(p, l, x.a, x.s, x.n, x.b, x.t, x.m $(, $e)*) } };
     }
-    let theirs: BTreeMap<Key, (u64, Value)> = rust.oracle_entries().map(|(k, t, v)| (*k, (t, v.clone()))).collect();
+    let theirs: BTreeMap<Key, (u64, Value)> = rust.oracle_entries().map(|(k, t, v)| (*k, (t, v.value.clone()))).collect();
     let mut ours = BTreeMap::new();
     let mut last = None;
     for i in 0..x.n {
@@ -152,7 +190,7 @@ fn differs(x: &Block, rust: &TimeBoundCache<Key, Value>, keys: &[Key], at: u64) 
     if rows != rust.oracle_expiry() {
         return Some("expiry entries".into());
     }
-    if !ask!(time_cache_is_sound) {
+    if !x.is_sound() {
         return Some("is_sound".into());
     }
     if ask!(time_cache_entries_later, at) != theirs.values().filter(|v| v.0 > at).count() {
@@ -182,14 +220,32 @@ fn judged(x: &Block) -> bool {
         && (1..x.m).all(|q| x.time(q - 1) <= x.time(q))
 }
 
-fn list(seed: u64, number: u64, calls: &mut [u64; 5]) -> Result<(), String> {
+/// Whether every call answers no or 0 and leaves all as it was.
+fn refused(mut x: Block, key: &Key, at: u64) -> bool {
+    let before = (x.bytes.clone(), x.n, x.m);
+    let value = (vec![0; x.s.clamp(2, 120) - 2], vec![0; x.t.clamp(40, 48) - 40]);
+    let taken = x.insert(key, at, &value) || x.expire_until(u64::MAX).is_some();
+    let (p, l, w) = (x.bytes.as_ptr(), x.bytes.len(), words(key));
+    macro_rules! ask {
+        ($f:ident $(, $e:expr)*) => { unsafe { $f(p, l, x.a, x.s, x.n, x.b, x.t, x.m $(, $e)*) } };
+    }
+    !taken
+        && !ask!(time_cache_contains_key, w[0], w[1], w[2], w[3])
+        && !ask!(time_cache_contains_later, w[0], w[1], w[2], w[3], 0)
+        && ask!(time_cache_entries_later, 0) == 0
+        && ask!(time_cache_rows_later, 0) == 0
+        && before == (x.bytes, x.n, x.m)
+}
+
+fn list(seed: u64, number: u64, calls: &mut [u64; 8]) -> Result<(), String> {
     let mut rng = Rng(seed.wrapping_mul(0x9e37_79b9_7f4a_7c15) ^ (number + 1).wrapping_mul(0xd134_2543_de82_ef95) | 1);
     for _ in 0..8 {
         rng.next();
     }
     let (s, t) = [(2, 40), (4, 48), (120, 40)][rng.below(3) as usize];
     let mut x = Block::new(&mut rng, s, t);
-    let mut rust: TimeBoundCache<Key, Value> = TimeBoundCache::default();
+    let mut rust: TimeBoundCache<Key, Kept> = TimeBoundCache::default();
+    let dropped = Rc::new(RefCell::new(Vec::new()));
     // keys that agree in their first words, so that the later ones decide
     let pool = 2 + rng.below(48);
     let same = rng.below(4) as usize;
@@ -217,13 +273,20 @@ fn list(seed: u64, number: u64, calls: &mut [u64; 5]) -> Result<(), String> {
             let expires = clock + rng.below(3 * step);
             let v = ((2..s).map(|_| rng.next() as u8).collect(), (40..t).map(|_| rng.next() as u8).collect());
             calls[if rust.contains_key(&k) { 1 } else { 0 }] += 1;
-            x.insert(&k, expires, &v);
-            rust.insert(k, v, Instant(expires));
+            if !x.insert(&k, expires, &v) {
+                return Err(format!("call {call}: insert refuses"));
+            }
+            rust.insert(k, Kept { value: v, key: k, dropped: dropped.clone() }, Instant(expires));
         } else {
             let instant = if x.m > 0 && rng.below(2) == 0 { x.time(rng.below(x.m as u64) as usize) } else { at };
+            let order = x.expired_keys(instant);
+            dropped.borrow_mut().clear();
             let removed = rust.expire_until(Instant(instant));
-            calls[if removed > 0 { 2 } else { 3 }] += 1;
-            if x.expire_until(instant) != removed {
+            calls[match removed { 0 => 3, 1 => 2, _ => 5 }] += 1;
+            if *dropped.borrow() != order {
+                return Err(format!("call {call}: the order of removal"));
+            }
+            if x.expire_until(instant) != Some(removed) {
                 return Err(format!("call {call}: expire_until's count"));
             }
         }
@@ -243,12 +306,42 @@ fn list(seed: u64, number: u64, calls: &mut [u64; 5]) -> Result<(), String> {
         }
         bad.bytes[from + rng.below(size as u64) as usize] ^= 1 << rng.below(8);
         calls[4] += 1;
-        let told = unsafe {
-            time_cache_is_sound(bad.bytes.as_ptr(), bad.bytes.len(), bad.a, bad.s, bad.n, bad.b, bad.t, bad.m)
-        };
-        if told != judged(&bad) {
+        let sound = judged(&bad);
+        if bad.is_sound() != sound {
             return Err("is_sound of damaged tables".into());
         }
+        if !sound && !refused(bad, &keys[0], clock) {
+            return Err("a call takes damaged tables".into());
+        }
+        calls[6] += !sound as u64;
+    }
+    // numbers that the tables can't have in this block
+    for which in 0..8 {
+        let mut bad = Block { bytes: x.bytes.clone(), ..x };
+        match which {
+            0 => bad.s = rng.below(2) as usize,
+            1 => bad.t = rng.below(40) as usize,
+            2 => bad.m = 65536 + rng.below(1 << 20) as usize,
+            3 => bad.n = (bad.b - bad.a) / bad.s + 1 + rng.below(9) as usize,
+            4 => bad.b = bad.bytes.len() + 1 + rng.below(9) as usize,
+            5 => bad.a = bad.b + 1 + rng.below(9) as usize,
+            // products that would wrap
+            6 => bad.n = usize::MAX / bad.s + 1 + rng.below(9) as usize,
+            _ => bad.t = usize::MAX / 3 + rng.below(9) as usize * 2,
+        }
+        // the last is in order where there are no expiry rows
+        if which == 7 && bad.m == 0 {
+            continue;
+        }
+        calls[7] += 1;
+        if bad.is_sound() || !refused(bad, &keys[0], clock) {
+            return Err(format!("a call takes numbers of kind {which}"));
+        }
+    }
+    // no room for one more
+    let mut full = Block { bytes: x.bytes[..x.b + x.m * x.t].to_vec(), ..x };
+    if !full.is_sound() || full.insert(&keys[0], clock, &(vec![0; s - 2], vec![0; t - 40])) || full.bytes != x.bytes[..x.b + x.m * x.t] {
+        return Err("a full table takes one more".into());
     }
     Ok(())
 }
@@ -256,7 +349,7 @@ fn list(seed: u64, number: u64, calls: &mut [u64; 5]) -> Result<(), String> {
 fn main() {
     let args: Vec<u64> = std::env::args().skip(1).map(|a| a.parse().expect("a number")).collect();
     let (seed, lists) = (args.first().copied().unwrap_or(1), args.get(1).copied().unwrap_or(2000));
-    let mut calls = [0; 5];
+    let mut calls = [0; 8];
     for number in args.get(2).copied().unwrap_or(0)..lists {
         if let Err(why) = list(seed, number, &mut calls) {
             println!("DIFFERENT: seed {seed} list {number}: {why}");
@@ -264,7 +357,7 @@ fn main() {
         }
     }
     println!(
-        "time caches: seed {seed}, {lists} lists, no difference; inserts of new keys {}, of keys that were there {}, expiries that removed {}, that did not {}, damaged tables {}",
-        calls[0], calls[1], calls[2], calls[3], calls[4]
+        "time caches: seed {seed}, {lists} lists, no difference; inserts of new keys {}, of keys that were there {}, expiries that removed one {}, several {}, none {}, damaged tables {} (refused {}), numbers out of range {}",
+        calls[0], calls[1], calls[2], calls[5], calls[3], calls[4], calls[6], calls[7]
     );
 }

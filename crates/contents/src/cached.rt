@@ -3,7 +3,6 @@
 use block::head;
 use block::head::Head;
 use caches::cached;
-use postcard::encode;
 use postcard::units::Millis;
 use postcard::units::Round;
 use rows::id::Id;

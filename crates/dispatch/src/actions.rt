@@ -4,7 +4,6 @@ use block::head::Head;
 use block::links;
 use block::note;
 use postcard::message::Timer;
-use postcard::size;
 use postcard::units::Millis;
 ghost use mathlib.Core.Path.{_≡_};
 ghost use Prim.Native.Nat.{_≤_, _<_};
@@ -160,7 +159,7 @@ fn send_link(
     requires { ⌜ Stands h (now block) × (link < h .live .links) × Told (concatMap actionBytes (pieceActions (heldThen (instant .0) (stateOf h (now block))) (roomsIn (stateOf h (now block)) (now rooms)) flagged (peerPieces (perMessage (stateOf h (now block) .settings .maxMessageSize)) (stateOf h (now block) .queue) (peerAt (stateOf h (now block)) link)))) from ⌝ }
     ensures { λ r. ⌜ PeerSent (heldThen (instant .0) (stateOf h (now (block .entry)))) (roomsIn (stateOf h (now (block .entry))) (now (rooms .entry))) (peerAt (stateOf h (now (block .entry))) link) (perMessage (stateOf h (now (block .entry)) .settings .maxMessageSize)) (stateOf h (now (block .entry)) .queue) flagged (now (out .entry)) from (now (out .exit)) r ⌝ }
 {
-    let k = size::chunk_len(h.settings.max_message_size as usize);
+    let k = serialized_size::chunk_len(h.settings.max_message_size as usize);
     let room = rooms[link];
     let total = count_queued(h, block, link);
     let mut at = from;

@@ -2,7 +2,6 @@
 use crate::marks;
 use block::head::Head;
 use block::note;
-use postcard::size;
 use postcard::units::Millis;
 use rows::id;
 use rows::id::Id;
@@ -177,7 +176,7 @@ pub fn dispatch_gains(h: Head, block: &[u8], instant: Millis, rooms: &[u64; 34])
     requires { ⌜ Stands h (now block) ⌝ }
     ensures { λ r. ⌜ r ≡ dispatchGains (cachedIn (settled (instant .0) (stateOf h (now (block .entry))) .cache)) (roomsIn (stateOf h (now (block .entry))) (now (rooms .entry))) (stateOf h (now (block .entry))) ⌝ }
 {
-    let k = size::chunk_len(h.settings.max_message_size as usize);
+    let k = serialized_size::chunk_len(h.settings.max_message_size as usize);
     let queued = h.live.queued as u64;
     let n = h.live.links;
     let mut extra = 0;

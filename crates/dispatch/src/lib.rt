@@ -6,7 +6,6 @@ pub mod marks;
 use block::head::Head;
 use block::note;
 use caches::cached;
-use postcard::size;
 use postcard::units::Round;
 use rows::id::Id;
 ghost use Prim.Native.Nat.{_≤_, _<_};
@@ -100,7 +99,7 @@ pub fn on_dispatch_timer(h: Head, block: &mut [u8], rooms: &[u64; 34]) -> Head
     requires { ⌜ Step (dispatchState (roomsIn (stateOf h (now block)) (now rooms))) h (now block) ⌝ }
     ensures { λ r. ⌜ Goes (dispatchState (roomsIn (stateOf h (now (block .entry))) (now (rooms .entry)))) h (now (block .entry)) r (now (block .exit)) ⌝ }
 {
-    let k = size::chunk_len(h.settings.max_message_size as usize);
+    let k = serialized_size::chunk_len(h.settings.max_message_size as usize);
     let queued = h.live.queued as u64;
     let n = h.live.links;
     let mut g = h;

@@ -3,7 +3,7 @@ use block::head::Head;
 use block::missing;
 use block::timers;
 use caches::received;
-use postcard::field;
+use decode::field;
 use postcard::message::Timer;
 use postcard::units::Millis;
 use postcard::units::Round;

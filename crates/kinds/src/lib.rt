@@ -6,7 +6,6 @@ use postcard::message::Message;
 use postcard::message::Scope;
 use postcard::message::Timer;
 use postcard::message::Wanted;
-use postcard::size;
 use postcard::units::Millis;
 use postcard::units::Round;
 use rows::id;
@@ -166,7 +165,7 @@ pub fn broadcast_step(
     requires { ⌜ Stands h (now block) × (start + len ≤ length (now event)) ⌝ }
     ensures { λ r. ⌜ Means (now (event .entry)) (instant .0) (stateOf h (now (block .entry))) r (Broadcast (part start len (now (event .entry))) (scopeValue scope)) ⌝ }
 {
-    let fits = size::broadcast_fits(len, scope, h.settings.max_message_size as usize);
+    let fits = serialized_size::broadcast_fits(len, scope, h.settings.max_message_size as usize);
     if !fits {
         return Step::Nothing;
     }

@@ -4,7 +4,6 @@ use crate::after;
 use block::head::Head;
 use block::header;
 use kinds::Step;
-use postcard::decode;
 use postcard::message::Decoded;
 use postcard::message::Event;
 use postcard::message::Message;

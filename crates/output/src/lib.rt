@@ -1,10 +1,8 @@
 // The actions of a call, written where the output has room. Each function tells the place after its action whether it was written or not, so that the
 // same functions measure (question 14), lent an empty output, and write.
-use postcard::encode;
 use postcard::message::Delivery;
 use postcard::message::Timer;
 use postcard::message::Wanted;
-use postcard::size;
 use postcard::units::Millis;
 use postcard::units::Round;
 use rows::id::Id;
@@ -43,7 +41,7 @@ pub fn send_gossip(
     requires { ⌜ Told (actionBytes (Sent peer taken (Gossip (idOf id) (now content) (deliveryValue delivery)))) at ⌝ }
     ensures { λ r. ⌜ Written (actionBytes (Sent peer taken (Gossip (idOf id) (now (content .entry)) (deliveryValue delivery)))) (now (out .entry)) at (now (out .exit)) r ⌝ }
 {
-    let n = size::send_size(peer, size::gossip_size(content.len(), delivery));
+    let n = serialized_size::send_size(peer, serialized_size::gossip_size(content.len(), delivery));
     let room = has_room(out.len(), at, n);
     if room {
         return encode::put_send_gossip(out, at, peer, taken, id, content, delivery);
@@ -56,7 +54,7 @@ pub fn send_prune(out: &mut [u8], at: usize, peer: u64, taken: bool) -> usize
     requires { ⌜ Told (actionBytes (Sent peer taken Prune)) at ⌝ }
     ensures { λ r. ⌜ Written (actionBytes (Sent peer taken Prune)) (now (out .entry)) at (now (out .exit)) r ⌝ }
 {
-    let n = size::send_size(peer, size::prune_size());
+    let n = serialized_size::send_size(peer, serialized_size::prune_size());
     let room = has_room(out.len(), at, n);
     if room {
         return encode::put_send_prune(out, at, peer, taken);
@@ -76,7 +74,7 @@ pub fn send_graft(
     requires { ⌜ Told (actionBytes (Sent peer taken (Graft (wantedValue wanted) (round .0)))) at ⌝ }
     ensures { λ r. ⌜ Written (actionBytes (Sent peer taken (Graft (wantedValue wanted) (round .0)))) (now (out .entry)) at (now (out .exit)) r ⌝ }
 {
-    let n = size::send_size(peer, size::graft_size(wanted, round));
+    let n = serialized_size::send_size(peer, serialized_size::graft_size(wanted, round));
     let room = has_room(out.len(), at, n);
     if room {
         return encode::put_send_graft(out, at, peer, taken, wanted, round);
@@ -89,7 +87,7 @@ pub fn send_ihave(out: &mut [u8], at: usize, peer: u64, taken: bool, count: usiz
     requires { ⌜ Told (sendHead peer taken ++ ihaveHead count) at ⌝ }
     ensures { λ r. ⌜ Written (sendHead peer taken ++ ihaveHead count) (now (out .entry)) at (now (out .exit)) r ⌝ }
 {
-    let n = 3 + size::number_size(peer) + size::number_size(count as u64);
+    let n = 3 + serialized_size::number_size(peer) + serialized_size::number_size(count as u64);
     let room = has_room(out.len(), at, n);
     if room {
         return encode::put_send_ihave(out, at, peer, taken, count);
@@ -102,7 +100,7 @@ pub fn ihave(out: &mut [u8], at: usize, id: Id, round: Round) -> usize
     requires { ⌜ Told (ihaveBytes (record { id = idOf id; round = round .0 })) at ⌝ }
     ensures { λ r. ⌜ Written (ihaveBytes (record { id = idOf id; round = round .0 })) (now (out .entry)) at (now (out .exit)) r ⌝ }
 {
-    let n = size::ihave_size(round);
+    let n = serialized_size::ihave_size(round);
     let room = has_room(out.len(), at, n);
     if room {
         return encode::put_ihave(out, at, id, round);
@@ -115,7 +113,7 @@ pub fn schedule(out: &mut [u8], at: usize, delay: Millis, timer: Timer) -> usize
     requires { ⌜ Told (actionBytes (Scheduled (delay .0) (timerValue timer))) at ⌝ }
     ensures { λ r. ⌜ Written (actionBytes (Scheduled (delay .0) (timerValue timer))) (now (out .entry)) at (now (out .exit)) r ⌝ }
 {
-    let n = size::schedule_size(delay, timer);
+    let n = serialized_size::schedule_size(delay, timer);
     let room = has_room(out.len(), at, n);
     if room {
         return encode::put_schedule(out, at, delay, timer);
@@ -128,7 +126,7 @@ pub fn emit(out: &mut [u8], at: usize, peer: u64, content: &[u8], delivery: Deli
     requires { ⌜ Told (actionBytes (Emitted peer (now content) (deliveryValue delivery))) at ⌝ }
     ensures { λ r. ⌜ Written (actionBytes (Emitted peer (now (content .entry)) (deliveryValue delivery))) (now (out .entry)) at (now (out .exit)) r ⌝ }
 {
-    let n = size::emit_size(peer, content.len(), delivery);
+    let n = serialized_size::emit_size(peer, content.len(), delivery);
     let room = has_room(out.len(), at, n);
     if room {
         return encode::put_emit(out, at, peer, content, delivery);

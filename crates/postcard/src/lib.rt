@@ -1,9 +1,5 @@
-// Numbers and messages in Postcard's form: document 01, "Numbers and messages (Postcard)".
+// Numbers and messages in Postcard's form: document 01, "Numbers and messages (Postcard)". The definitions and their laws, and the types that the reader
+// (decode), the writer (encode) and the sizes (serialized_size) share.
 pub mod content;
-pub mod decode;
-pub mod encode;
-pub mod field;
 pub mod message;
-pub mod number;
-pub mod size;
 pub mod units;

@@ -1,8 +1,6 @@
 // A reading as it crosses a link: the event in which a panel receives it, what is read from those bytes, and the action that sends it on. Each in
 // hexadecimal, with document 01's bytes.
 use libc::STDOUT_FILENO;
-use postcard::decode;
-use postcard::encode;
 use postcard::message::Decoded;
 use postcard::message::Delivery;
 use postcard::message::Event;

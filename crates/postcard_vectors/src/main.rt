@@ -2,7 +2,6 @@
 // each this writes a line with what `decode_event` reads. What must come out is the file `stdout`. tests/postcard says how both were made.
 use libc::STDIN_FILENO;
 use libc::STDOUT_FILENO;
-use postcard::decode;
 use postcard::message::Decoded;
 
 mod show;

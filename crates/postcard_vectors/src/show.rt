@@ -1,7 +1,7 @@
 // Writes what an event holds, in words; contents and identifiers in hexadecimal.
+use decode::field;
+use decode::field::Announced;
 use libc::STDOUT_FILENO;
-use postcard::field;
-use postcard::field::Announced;
 use postcard::message::Delivery;
 use postcard::message::Event;
 use postcard::message::Message;

@@ -35,6 +35,8 @@
  *   - Each lent part has fewer than 2^63 bytes. `counts` and `rooms` are aligned as C aligns them; bytes need no alignment.
  *   - Every byte lent has been written once, those of block and output too (calloc or memset will do).
  *
+ *   - The thread has 64 KiB of stack left. (Measured at the ceilings, tests/c/stack.c, and not proved: no proof speaks of the stack.)
+ *
  * Nothing else is asked. There is no order of calls to keep and no event that must not come: a call that cannot be carried out is refused.
  *
  *

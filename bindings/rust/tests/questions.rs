@@ -1,5 +1,7 @@
 //! Each question answered no once, through the library, with what a refusal promises: block, counts and output untouched.
-use plumtree::{alike, block_size, raw, Action, Delivery, Error, Event, Limits, LinkRoom, Message, Panel, Scope, Settings, Stats, Timer};
+use plumtree::{
+    alike, block_size, raw, Action, Announced, Delivery, Error, Event, Limits, LinkRoom, Message, Panel, Scope, Settings, Stats, Timer,
+};
 
 const LIMITS: [fn(&mut Limits) -> &mut usize; 9] = [
     |l| &mut l.neighbours,
@@ -195,6 +197,82 @@ fn what_is_beyond_the_length_stays() {
     let n = p.event(0, &Event::Timer(Timer::EvictCache), &[], &mut output).unwrap().bytes().len();
     assert_eq!(n, 4);
     assert!(output[4..].iter().all(|b| *b == 0x5a));
+}
+
+/// Each setting is where the library reads it: the delays that it writes, the times at which it forgets, whom it takes for itself.
+#[test]
+fn settings_in_place() {
+    let mut settings = Settings::of_panel(7);
+    settings.config.graft_timeout_1 = 101;
+    settings.config.graft_timeout_2 = 102;
+    settings.config.dispatch_timeout = 103;
+    settings.config.message_cache_retention = 2000;
+    settings.config.message_id_retention = 3000;
+    settings.config.cache_evict_interval = 104;
+    let mut p = Panel::new(settings, Limits::SMALL).unwrap();
+    let mut lines = |at, event: &Event| {
+        let mut output = [0; 4096];
+        p.event(at, event, &[], &mut output).unwrap().map(|a| a.to_string()).collect::<Vec<_>>()
+    };
+    lines(0, &Event::Up(2));
+    lines(0, &Event::Up(7));
+    let evict = Event::Timer(Timer::EvictCache);
+    assert_eq!(lines(0, &evict), ["schedule EvictCache in 104", "schedule EvictCache in 104"]);
+
+    let announced = vec![Announced { id: [9; 32], round: 5 }];
+    let ihave = Event::Received { peer: 2, message: Message::IHave(announced) };
+    assert_eq!(lines(0, &ihave), ["schedule SendGraft 09090909.. in 101"]);
+    let timer = Event::Timer(Timer::SendGraft([9; 32]));
+    assert_eq!(lines(0, &timer), ["send to 2: Graft 09090909.., round 5", "schedule SendGraft 09090909.. in 102"]);
+
+    // Not to 7, which is the panel itself.
+    let sent = lines(0, &Event::Broadcast { content: b"hot", scope: Scope::Swarm });
+    assert_eq!(sent.len(), 2);
+    assert_eq!(sent[0], "schedule DispatchLazyPush in 103");
+    assert!(sent[1].starts_with("send to 2: Gossip ") && sent[1].ends_with(" \"hot\", Swarm, round 0"), "{}", sent[1]);
+
+    // A Graft for it is answered until it leaves the cache, at 2,000; it is known until 3,000.
+    let bytes = gossip(b"hot", 0);
+    let Ok(Message::Gossip { id, .. }) = Message::read(&bytes) else { panic!("a Gossip") };
+    let graft = Event::Received { peer: 2, message: Message::Graft { id: Some(id), round: 0 } };
+    let again = Event::ReceivedBytes { peer: 2, bytes: &bytes };
+    lines(1999, &evict);
+    assert_eq!(lines(1999, &graft).len(), 1);
+    lines(2000, &evict);
+    assert_eq!(lines(2000, &graft), [""; 0]);
+    lines(2999, &evict);
+    assert_eq!(lines(2999, &again), ["send to 2: Prune"]);
+    lines(3000, &evict);
+    assert!(lines(3000, &again).contains(&"emit from 2: \"hot\", Swarm, round 0".to_string()));
+    let counts = Stats { payload_messages_received: 2, control_messages_received: 3, max_last_delivery_hop: 1 };
+    assert_eq!(p.stats(), counts);
+}
+
+/// "Threshold 7, r = 9: announcer round 3 optimises, 4 doesn't."
+#[test]
+fn threshold_in_place() {
+    let bytes = gossip(b"hot", 9);
+    let Ok(Message::Gossip { id, .. }) = Message::read(&bytes) else { panic!("a Gossip") };
+    let optimises = |threshold, round| {
+        let mut settings = Settings::of_panel(1);
+        settings.config.optimization_threshold = threshold;
+        let mut p = Panel::new(settings, Limits::SMALL).unwrap();
+        let mut output = [0; 4096];
+        let before = [
+            Event::Up(2),
+            Event::Up(3),
+            Event::Received { peer: 3, message: Message::Prune },
+            Event::Received { peer: 3, message: Message::IHave(vec![Announced { id, round }]) },
+        ];
+        for event in before {
+            p.event(0, &event, &[], &mut output).unwrap();
+        }
+        let mut actions = p.event(0, &Event::ReceivedBytes { peer: 2, bytes: &bytes }, &[], &mut output).unwrap();
+        actions.any(|a| matches!(a, Action::Send { peer: 3, message: Message::Graft { id: None, .. }, .. }))
+    };
+    assert!(optimises(7, 3));
+    assert!(!optimises(7, 4));
+    assert!(optimises(6, 4));
 }
 
 #[test]

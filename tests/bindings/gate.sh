@@ -1,0 +1,39 @@
+#!/usr/bin/env bash
+# The binding for Rust: its tests and examples, its documentation's examples, the reader on document 01's example, and its tests under valgrind.
+# PLUMTREE_LIB_DIR names the directory of libplumtree.a; without it, target/staticlib, where `rt staticlib plumtree` writes it.
+set -eu
+cd "$(dirname "$0")/../.."
+. tools/setup.sh
+have_rust || exit 0
+need_packages gcc libc6-dev valgrind
+
+lib=${PLUMTREE_LIB_DIR:-target/staticlib}
+[ -n "${PLUMTREE_LIB_DIR:-}" ] || [ -e "$lib/libplumtree.a" ] || { need_rt; rt staticlib plumtree >/dev/null; }
+[ -e "$lib/libplumtree.a" ] || die "no libplumtree.a in $lib"
+PLUMTREE_LIB_DIR=$(cd "$lib" && pwd)
+export PLUMTREE_LIB_DIR
+export CARGO_TARGET_DIR="$PWD/target/bindings"
+out=$CARGO_TARGET_DIR/gate
+mkdir -p "$out"
+cd bindings/rust
+
+# `unsafe` stands in one module.
+[ "$(grep -rl 'unsafe {' src)" = src/ffi.rs ] || die "unsafe outside src/ffi.rs"
+
+export RUSTFLAGS="-D warnings"
+cargo test --offline -q >"$out/test.log" 2>&1 || { cat "$out/test.log"; die "cargo test failed"; }
+grep -h '^test result' "$out/test.log"
+if cargo clippy --version >/dev/null 2>&1; then
+    cargo clippy --offline -q --all-targets -- -D warnings
+fi
+
+# The reader, on document 01's example.
+printf '\x00\x02\x03\x02\x00\x02\x02\x01\x00\x03\x00\x05\x01' >"$out/input"
+printf '\x00\x00\x00\x04\x02\xe8\x07\x02\x00\x00' >"$out/output"
+cargo run --offline -q --example read -- "$out/input" "$out/output" | diff ../../tests/bindings/worked.expected -
+
+# The questions again, under valgrind: each lent part is a heap block of its length.
+cargo test --offline -q --test questions --no-run --message-format=json 2>/dev/null | sed -n 's/.*"executable":"\([^"]*questions[^"]*\)".*/\1/p' >"$out/questions"
+valgrind -q --error-exitcode=9 "$(tail -n 1 "$out/questions")" --test-threads=1 >"$out/valgrind.log" 2>&1 || { cat "$out/valgrind.log"; die "not clean under valgrind"; }
+grep '^test result' "$out/valgrind.log"
+echo "tests/bindings: passed"

@@ -266,6 +266,31 @@ static bool optimises(uint16_t threshold, uint8_t announced)
     return graft;
 }
 
+/* Each limit is where the library reads it: by what one more of it adds to the block, and by its ceiling. */
+static void limits_in_place(void)
+{
+    static const size_t adds[9] = {64, 160, 256, 1, 640, 512, 64, 64, 64};
+    static const size_t ceilings[9] = {PLUMTREE_CEILING_NEIGHBOURS, PLUMTREE_CEILING_RECEIVED, PLUMTREE_CEILING_CACHED,
+                                       PLUMTREE_CEILING_CONTENT,    PLUMTREE_CEILING_GRAFTED,  PLUMTREE_CEILING_MISSING,
+                                       PLUMTREE_CEILING_TIMERS,     PLUMTREE_CEILING_QUEUED,   PLUMTREE_CEILING_DROPPED};
+    struct plumtree_limits l = plumtree_small_limits();
+    size_t *const fields[9] = {&l.neighbours, &l.received, &l.cached, &l.content, &l.grafted, &l.missing, &l.timers, &l.queued, &l.dropped};
+    size_t n = plumtree_block_size(l);
+    int i;
+    for (i = 0; i < 9; i++) {
+        size_t was = *fields[i];
+        *fields[i] = was + 1;
+        CHECK(plumtree_block_size(l) == n + adds[i]);
+        *fields[i] = ceilings[i];
+        CHECK(plumtree_block_size(l) == n + adds[i] * (ceilings[i] - was));
+        *fields[i] = ceilings[i] + 1;
+        CHECK(plumtree_block_size(l) == 0);
+        *fields[i] = 0;
+        CHECK(plumtree_block_size(l) == 0);
+        *fields[i] = was;
+    }
+}
+
 /* Creation: the answers, and that a refused one touches nothing. */
 static void creation(size_t length, struct plumtree_settings s, struct plumtree_limits l, uint8_t number, int line)
 {
@@ -460,6 +485,7 @@ int main(void)
 {
     CHECK(sizeof(struct plumtree_config) == 56);
     CHECK(offsetof(struct plumtree_config, optimization_threshold) == 24);
+    CHECK(sizeof plumtree_default_settings(1).config.optimization_threshold == 2);
     CHECK(sizeof(struct plumtree_settings) == 72);
     CHECK(sizeof(struct plumtree_limits) == 72);
     CHECK(sizeof(struct plumtree_stats) == 24);
@@ -471,6 +497,7 @@ int main(void)
     CHECK(optimises(7, 3));
     CHECK(!optimises(7, 4));
     CHECK(optimises(6, 4));
+    limits_in_place();
     creations();
     events();
     rooms();

@@ -1,17 +1,12 @@
 #!/usr/bin/env bash
 # The binding for Rust: its tests and examples, its documentation's examples, the reader on document 01's example, and its tests under valgrind.
-# PLUMTREE_LIB_DIR names the directory of libplumtree.a; without it, target/staticlib, where `rt staticlib plumtree` writes it.
-set -eu
+# PLUMTREE_LIB_DIR can name the directory of another libplumtree.a than the proved one.
+set -euo pipefail
 cd "$(dirname "$0")/../.."
 . tools/setup.sh
 have_rust || exit 0
 need_packages gcc libc6-dev valgrind
-
-lib=${PLUMTREE_LIB_DIR:-target/staticlib}
-[ -n "${PLUMTREE_LIB_DIR:-}" ] || [ -e "$lib/libplumtree.a" ] || { need_rt; rt staticlib plumtree >/dev/null; }
-[ -e "$lib/libplumtree.a" ] || die "no libplumtree.a in $lib"
-PLUMTREE_LIB_DIR=$(cd "$lib" && pwd)
-export PLUMTREE_LIB_DIR
+need_library
 export CARGO_TARGET_DIR="$PWD/target/bindings"
 out=$CARGO_TARGET_DIR/gate
 mkdir -p "$out"

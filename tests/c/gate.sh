@@ -1,14 +1,12 @@
 #!/usr/bin/env bash
 # The library called from C: the header by itself as C and C++, the first broadcast with what it prints, and each refusal, all under valgrind.
-# PLUMTREE_LIB_DIR names the directory of libplumtree.a; without it, target/staticlib, where `rt staticlib plumtree` writes it.
-set -eu
+# PLUMTREE_LIB_DIR can name the directory of another libplumtree.a than the proved one.
+set -euo pipefail
 cd "$(dirname "$0")/../.."
 . tools/setup.sh
 need_packages gcc g++ libc6-dev valgrind
-
-lib=${PLUMTREE_LIB_DIR:-target/staticlib}
-[ -n "${PLUMTREE_LIB_DIR:-}" ] || [ -e "$lib/libplumtree.a" ] || { need_rt; rt staticlib plumtree >/dev/null; }
-[ -e "$lib/libplumtree.a" ] || die "no libplumtree.a in $lib"
+need_library
+lib=$PLUMTREE_LIB_DIR
 out=target/c
 mkdir -p "$out"
 strict="-Wall -Wextra -pedantic -Werror"

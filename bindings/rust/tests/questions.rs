@@ -291,8 +291,8 @@ fn rooms() {
     assert_eq!(taken(&[]), [(2, true), (3, true)]);
     assert_eq!(taken(&[LinkRoom { peer: 3, room: 0 }]), [(2, true), (3, false)]);
     // "The first entry for a peer counts".
-    assert_eq!(taken(&[LinkRoom { peer: 2, room: 0 }, LinkRoom { peer: 2, room: 9 }]), [(2, false), (3, true)]);
-    assert_eq!(taken(&[LinkRoom { peer: 2, room: 9 }, LinkRoom { peer: 2, room: 0 }]), [(2, true), (3, true)]);
+    assert_eq!(taken(&[LinkRoom { peer: 2, room: 0 }, LinkRoom { peer: 2, room: u16::MAX }]), [(2, false), (3, true)]);
+    assert_eq!(taken(&[LinkRoom { peer: 2, room: u16::MAX }, LinkRoom { peer: 2, room: 0 }]), [(2, true), (3, true)]);
 }
 
 #[test]

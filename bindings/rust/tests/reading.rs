@@ -1,5 +1,5 @@
 //! The readers and writers of this crate beside the library's: they agree on every event of at most two bytes, and on events that were damaged.
-use plumtree::{Announced, Delivery, Error, Event, Limits, Message, Panel, Scope, Settings, Timer};
+use plumtree::{Action, Announced, Delivery, Error, Event, Limits, LinkRoom, Message, Panel, Scope, Settings, Timer};
 
 /// The library's answer to an event where it is 7, 8 or 9; none where the event was read.
 fn library(p: &mut Panel, event: &[u8], output: &mut [u8]) -> Option<Error> {
@@ -125,6 +125,32 @@ fn damaged_events() {
         met[answer.map_or(0, |e| usize::from(e.number()) - 6)] += 1;
     }
     assert!(met.iter().all(|n| *n > 1000), "read, 7, 8, 9: {met:?}");
+}
+
+/// A send's `bytes` are its message's, no more and no less, and a reading of all actions takes all bytes.
+#[test]
+fn sent_bytes() {
+    let mut p = Panel::new(Settings::of_panel(1), Limits::SMALL).unwrap();
+    let mut output = vec![0; 40_960];
+    for peer in [2, 3, 300] {
+        p.event(0, &Event::Up(peer), &[], &mut output).unwrap();
+    }
+    let full = [LinkRoom { peer: 3, room: 0 }];
+    let actions = p.event(0, &Event::Broadcast { content: b"hot", scope: Scope::Swarm }, &full, &mut output).unwrap();
+    let mut sends = Vec::new();
+    let mut left = actions.bytes();
+    for action in actions {
+        let (same, rest) = Action::read(left).unwrap();
+        assert_eq!(same, action);
+        left = rest;
+        if let Action::Send { peer, taken, message, bytes } = action {
+            assert_eq!(bytes, message.to_bytes());
+            assert_eq!(Message::read(bytes), Ok(message));
+            sends.push((peer, taken));
+        }
+    }
+    assert!(left.is_empty());
+    assert_eq!(sends, [(2, true), (3, false), (300, true)]);
 }
 
 #[test]

@@ -33,8 +33,7 @@
  *   - No other thread writes what is lent, nor reads what is not const, before the call returns. Calls on different panels may run at
  *     the same time.
  *   - Each lent part has fewer than 2^63 bytes. `counts` and `rooms` are aligned as C aligns them; bytes need no alignment.
- *   - Every byte lent has been written once, those of block and output too (calloc or memset will do).
- *
+ *   - What is lent has been written once, block, counts and output too (calloc or memset will do). Padding does not matter.
  *   - The thread has 64 KiB of stack left. (Measured at the ceilings, tests/c/stack.c, and not proved: no proof speaks of the stack.)
  *
  * Nothing else is asked. There is no order of calls to keep and no event that must not come: a call that cannot be carried out is refused.
@@ -277,7 +276,7 @@ struct plumtree_likeness plumtree_alike(const uint8_t *a, size_t a_length, const
  * plumtree_link_room); put nothing there, the panel has noted what it has to announce later. Its length is not written: it ends where its
  * fields end. It can be one byte longer than M: a round that goes from 127 to 128 takes a byte more.
  * Schedule: when `delay` milliseconds have passed, call with the event `02 TIMER`. A timer is never taken back.
- * Emit: a new message, for the panel's own use; `peer` brought it, and its round counts the hops it had made.
+ * Emit: a new message, for the panel's own use; `peer` brought it, with this round.
  *
  * Examples, in hexadecimal: `03 02` neighbour 2 is up. `02 01` DispatchLazyPush fired. `00 05 01` a Prune from 5.
  * `01 05 31 34 35 32 43 00` broadcast of "1452C" to all panels. The action `02 E8 07 02`: schedule EvictCache in 1,000.

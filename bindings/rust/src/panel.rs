@@ -1,3 +1,5 @@
+use std::fmt;
+
 use crate::{raw, Actions, Error, Event, Limits, Settings};
 
 /// The counts record, brought up to date by each accepted call.
@@ -79,12 +81,19 @@ pub fn alike(a: &[u8], b: &[u8]) -> Result<bool, Error> {
 /// # Ok(())
 /// # }
 /// ```
-#[derive(Clone, Debug)]
+#[derive(Clone)]
 pub struct Panel<B = Vec<u8>> {
     block: B,
     stats: Stats,
     // The bytes of an event while it is told.
     event: Vec<u8>,
+}
+
+/// The counts, and how long the block is.
+impl<B: AsRef<[u8]>> fmt::Debug for Panel<B> {
+    fn fmt(&self, f: &mut fmt::Formatter<'_>) -> fmt::Result {
+        f.debug_struct("Panel").field("block_length", &self.block.as_ref().len()).field("stats", &self.stats).finish_non_exhaustive()
+    }
 }
 
 impl Panel {

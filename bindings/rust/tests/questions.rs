@@ -190,6 +190,24 @@ fn events() {
     assert_eq!(p.event_bytes(0, &tick, &[], &mut four).unwrap().bytes(), [2, 0xe8, 7, 2]);
 }
 
+/// A send can be a byte longer than M, where the round has grown to 128; a panel of the same M then refuses it.
+#[test]
+fn a_byte_more_than_m() {
+    let settings = Settings { max_message_size: 510, ..Settings::of_panel(1) };
+    let mut p = Panel::new(settings, Limits::SMALL).unwrap();
+    let mut output = [0; 4096];
+    for peer in [2, 3] {
+        p.event(0, &Event::Up(peer), &[], &mut output).unwrap();
+    }
+    let came = gossip(&[7; 473], 127);
+    assert_eq!(came.len(), 510);
+    let mut actions = p.event(0, &Event::ReceivedBytes { peer: 2, bytes: &came }, &[], &mut output).unwrap();
+    let Some(Action::Send { peer: 3, bytes, .. }) = actions.find(|a| matches!(a, Action::Send { .. })) else { panic!("it goes on to 3") };
+    assert_eq!(bytes.len(), 511);
+    let event = Event::ReceivedBytes { peer: 2, bytes };
+    assert_eq!(Panel::new(settings, Limits::SMALL).unwrap().event(0, &event, &[], &mut [0; 4096]).unwrap_err(), Error::MessageTooLong);
+}
+
 #[test]
 fn what_is_beyond_the_length_stays() {
     let mut p = panel(Limits::SMALL);

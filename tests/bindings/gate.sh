@@ -1,5 +1,6 @@
 #!/usr/bin/env bash
-# The binding for Rust: its tests and examples, its documentation's examples, the reader on document 01's example, and its tests under valgrind.
+# The binding for Rust: its tests and examples, its documentation's examples, the reader on two runs of panelrun, and its tests
+# under valgrind.
 # PLUMTREE_LIB_DIR can name the directory of another libplumtree.a than the proved one.
 set -euo pipefail
 cd "$(dirname "$0")/../.."
@@ -22,10 +23,11 @@ if cargo clippy --version >/dev/null 2>&1; then
     cargo clippy --offline -q --all-targets -- -D warnings
 fi
 
-# The reader, on document 01's example.
-printf '\x00\x02\x03\x02\x00\x02\x02\x01\x00\x03\x00\x05\x01' >"$out/input"
-printf '\x00\x00\x00\x04\x02\xe8\x07\x02\x00\x00' >"$out/output"
-cargo run --offline -q --example read -- "$out/input" "$out/output" | diff ../../tests/bindings/worked.expected -
+# The reader, on document 01's example and on a longer run.
+for run in worked longer; do
+    files=../../tests/bindings/$run
+    cargo run --offline -q --example read -- $files.input $files.output | diff $files.expected -
+done
 
 # The questions again, under valgrind: each lent part is a heap block of its length.
 cargo test --offline -q --test questions --no-run --message-format=json 2>/dev/null | sed -n 's/.*"executable":"\([^"]*questions[^"]*\)".*/\1/p' >"$out/questions"

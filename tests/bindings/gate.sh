@@ -29,7 +29,7 @@ for run in worked longer; do
     cargo run --offline -q --example read -- $files.input $files.output | diff $files.expected -
 done
 
-# The questions again, under valgrind: each lent part is a heap block of its length.
+# The questions again, under valgrind.
 cargo test --offline -q --test questions --no-run --message-format=json 2>/dev/null | sed -n 's/.*"executable":"\([^"]*questions[^"]*\)".*/\1/p' >"$out/questions"
 valgrind -q --error-exitcode=9 "$(tail -n 1 "$out/questions")" --test-threads=1 >"$out/valgrind.log" 2>&1 || { cat "$out/valgrind.log"; die "not clean under valgrind"; }
 grep '^test result' "$out/valgrind.log"

@@ -23,6 +23,21 @@ need_packages() {
     apt-get install -y --no-install-recommends $missing >/dev/null
 }
 
+# The panel's static library: PLUMTREE_LIB_DIR is afterwards the directory that has it. Without that variable it is target/staticlib, and the
+# library is written there unless it is younger than its proof.
+need_library() {
+    if [ -z "${PLUMTREE_LIB_DIR:-}" ]; then
+        PLUMTREE_LIB_DIR=target/staticlib
+        if ! [ "$PLUMTREE_LIB_DIR/libplumtree.a" -nt target/stamp/plumtree ]; then
+            need_rt
+            rt staticlib plumtree >/dev/null || die "rt staticlib plumtree failed"
+        fi
+    fi
+    [ -e "$PLUMTREE_LIB_DIR/libplumtree.a" ] || die "no libplumtree.a in $PLUMTREE_LIB_DIR"
+    PLUMTREE_LIB_DIR=$(cd "$PLUMTREE_LIB_DIR" && pwd)
+    export PLUMTREE_LIB_DIR
+}
+
 # A crate folder that crates.txt does not list is an error.
 every_crate_listed() {
     local d n

@@ -1,0 +1,87 @@
+//! The library's functions, as include/plumtree.h declares them, and a safe function above each. All `unsafe` of this crate is here.
+//!
+//! Why the calls are sound. The library's functions are proved for every value of their arguments; a caller owes what the types mean:
+//! pointers that are valid for their lengths, exclusive where they are not `const`, fewer than 2^63 bytes each, and bytes that have been
+//! written. A Rust slice or reference is all of that for as long as it is lent, and each is lent here for the call alone: the
+//! library keeps no pointer (it has no variable of its own). An empty slice's pointer may be dangling, which the library allows. The structs
+//! are `repr(C)` with the header's fields in its order.
+#![allow(unsafe_code)]
+
+use crate::{Limits, LinkRoom, Settings, Stats};
+
+/// A call's answer.
+#[repr(C)]
+#[derive(Clone, Copy, Debug, PartialEq, Eq)]
+pub struct Answer {
+    /// 0, or the number of the first question that is answered no.
+    pub number: u8,
+    /// How many bytes of actions stand in the output; 0 where the number is not 0.
+    pub length: usize,
+}
+
+/// Whether two blocks are alike.
+#[repr(C)]
+#[derive(Clone, Copy, Debug, PartialEq, Eq)]
+pub struct Likeness {
+    /// 0, or 5 where either block is not whole.
+    pub number: u8,
+    /// Whether they are alike; false where the number is not 0.
+    pub alike: bool,
+}
+
+extern "C" {
+    fn plumtree_block_size(limits: Limits) -> usize;
+    fn plumtree_create(block: *mut u8, block_length: usize, counts: *mut Stats, settings: Settings, limits: Limits) -> Answer;
+    fn plumtree_event(
+        block: *mut u8,
+        block_length: usize,
+        counts: *mut Stats,
+        at: u64,
+        event: *const u8,
+        event_length: usize,
+        rooms: *const LinkRoom,
+        rooms_length: usize,
+        output: *mut u8,
+        output_length: usize,
+    ) -> Answer;
+    fn plumtree_alike(a: *const u8, a_length: usize, b: *const u8, b_length: usize) -> Likeness;
+}
+
+/// How many bytes a block of these limits needs, or 0 where a limit is out of range.
+pub fn block_size(limits: Limits) -> usize {
+    // SAFETY: no pointer is passed.
+    unsafe { plumtree_block_size(limits) }
+}
+
+/// Makes the block a new panel and the counts zero: questions 1 to 4. A refused creation leaves both as they are.
+pub fn create(block: &mut [u8], counts: &mut Stats, settings: Settings, limits: Limits) -> Answer {
+    // SAFETY: `block` and `counts` are exclusive references, so valid for the call and apart from each other.
+    unsafe { plumtree_create(block.as_mut_ptr(), block.len(), counts, settings, limits) }
+}
+
+/// One event at a time in milliseconds: questions 5 to 14. The first `length` bytes of the output are the actions. A refused call leaves block,
+/// counts and output as they are.
+pub fn event(block: &mut [u8], counts: &mut Stats, at: u64, event: &[u8], rooms: &[LinkRoom], output: &mut [u8]) -> Answer {
+    // SAFETY: `block`, `counts` and `output` are exclusive references, so valid for the call and apart from each other and from the two
+    // shared ones, which are valid for reading and which nobody writes before the call returns.
+    unsafe {
+        plumtree_event(
+            block.as_mut_ptr(),
+            block.len(),
+            counts,
+            at,
+            event.as_ptr(),
+            event.len(),
+            rooms.as_ptr(),
+            rooms.len(),
+            output.as_mut_ptr(),
+            output.len(),
+        )
+    }
+}
+
+/// Whether two blocks are alike: the same state, the order inside queue, record, announcer and expiry lists ignored.
+pub fn alike(a: &[u8], b: &[u8]) -> Likeness {
+    // SAFETY: both are shared references, valid for reading; they may be the same.
+    unsafe { plumtree_alike(a.as_ptr(), a.len(), b.as_ptr(), b.len()) }
+}

@@ -1,0 +1,186 @@
+use std::fmt;
+
+use crate::{raw, Actions, Error, Event, Limits, Settings};
+
+/// The counts record, brought up to date by each accepted call.
+#[repr(C)]
+#[derive(Clone, Copy, Debug, Default, PartialEq, Eq, Hash)]
+pub struct Stats {
+    /// How many Gossip messages came, valid or not.
+    pub payload_messages_received: u64,
+    /// How many Prune, Graft and IHave messages came.
+    pub control_messages_received: u64,
+    /// The largest r + 1 of a new Swarm message of round r.
+    pub max_last_delivery_hop: u16,
+}
+
+/// How many sends of a call the link to a peer takes: "The first entry for a peer counts, a peer without one has no bound, and the k-th
+/// send of a call to a peer is taken when k ≤ room."
+///
+/// ```
+/// use plumtree::{Action, Event, Limits, LinkRoom, Panel, Scope, Settings};
+/// # fn main() -> Result<(), plumtree::Error> {
+/// let mut panel = Panel::new(Settings::of_panel(1), Limits::SMALL)?;
+/// let mut output = [0; 4096];
+/// panel.event(0, &Event::Up(2), &[], &mut output)?;
+/// let full = [LinkRoom { peer: 2, room: 0 }];
+/// let reading = Event::Broadcast { content: b"hot", scope: Scope::Swarm };
+/// let mut actions = panel.event(0, &reading, &full, &mut output)?;
+/// assert!(actions.any(|a| matches!(a, Action::Send { peer: 2, taken: false, .. })));
+/// # Ok(())
+/// # }
+/// ```
+#[repr(C)]
+#[derive(Clone, Copy, Debug, PartialEq, Eq, Hash)]
+pub struct LinkRoom {
+    /// The peer at the other end.
+    pub peer: u64,
+    /// How many sends its link takes in this call.
+    pub room: u16,
+}
+
+/// How many bytes a block of these limits needs; none where a limit is not "from 1 to its ceiling".
+///
+/// ```
+/// use plumtree::{block_size, Limits};
+/// assert_eq!(block_size(Limits::SMALL), Some(58_880));
+/// assert_eq!(block_size(Limits::CEILINGS), Some(2_922_496));
+/// assert_eq!(block_size(Limits { received: 0, ..Limits::SMALL }), None);
+/// ```
+pub fn block_size(limits: Limits) -> Option<usize> {
+    match raw::block_size(limits) {
+        0 => None,
+        n => Some(n),
+    }
+}
+
+/// Whether two blocks hold the same: "yes exactly when own peer number, settings, limits, sets, flags and maps agree, order inside queue, record,
+/// announcer and expiry lists ignored, repeats counted". [`Error::BlockNotWhole`] for either.
+pub fn alike(a: &[u8], b: &[u8]) -> Result<bool, Error> {
+    let answer = raw::alike(a, b);
+    Error::check(answer.number)?;
+    Ok(answer.alike)
+}
+
+/// A panel: its block, which holds all that it knows, and its counts.
+///
+/// The block is a `Vec<u8>` of the panel's own, or any bytes that the host lends: `&mut [u8]`, `Box<[u8]>`, an array.
+///
+/// ```
+/// use plumtree::{block_size, Event, Limits, Panel, Settings};
+/// # fn main() -> Result<(), plumtree::Error> {
+/// let limits = Limits { neighbours: 4, ..Limits::SMALL };
+/// let mut memory = vec![0; block_size(limits).unwrap()];
+/// let mut panel = Panel::in_block(&mut memory[..], Settings::of_panel(1), limits)?;
+/// panel.event(0, &Event::Up(2), &[], &mut [])?;
+///
+/// // The block and the counts are the panel: kept, it goes on from there.
+/// let stats = panel.stats();
+/// let mut panel = Panel::resume(memory, stats);
+/// panel.event(5, &Event::Down(2), &[], &mut [])?;
+/// # Ok(())
+/// # }
+/// ```
+#[derive(Clone)]
+pub struct Panel<B = Vec<u8>> {
+    block: B,
+    stats: Stats,
+    // The bytes of an event while it is told.
+    event: Vec<u8>,
+}
+
+/// The counts, and how long the block is.
+impl<B: AsRef<[u8]>> fmt::Debug for Panel<B> {
+    fn fmt(&self, f: &mut fmt::Formatter<'_>) -> fmt::Result {
+        f.debug_struct("Panel").field("block_length", &self.block.as_ref().len()).field("stats", &self.stats).finish_non_exhaustive()
+    }
+}
+
+impl Panel {
+    /// A new panel without neighbours, with a block of its own: questions 1 to 3.
+    pub fn new(settings: Settings, limits: Limits) -> Result<Panel, Error> {
+        Panel::in_block(vec![0; raw::block_size(limits)], settings, limits)
+    }
+}
+
+impl<B: AsRef<[u8]> + AsMut<[u8]>> Panel<B> {
+    /// A new panel without neighbours in a lent block: questions 1 to 4. What the block held does not matter.
+    pub fn in_block(mut block: B, settings: Settings, limits: Limits) -> Result<Panel<B>, Error> {
+        let mut stats = Stats::default();
+        Error::check(raw::create(block.as_mut(), &mut stats, settings, limits).number)?;
+        Ok(Panel::resume(block, stats))
+    }
+
+    /// A panel from a block and its counts as they were left. Nothing is asked here: each event asks whether the block is whole.
+    pub fn resume(block: B, stats: Stats) -> Panel<B> {
+        Panel { block, stats, event: Vec::new() }
+    }
+
+    /// One event at a time in milliseconds: questions 5 to 14. The actions stand in the output, in the order in which they are to be carried out.
+    ///
+    /// `rooms` is the link room of this call; with none every send is taken. A call that is refused with [`Error::OutputTooShort`] goes through
+    /// with a longer output. Times may come in any order.
+    pub fn event<'o>(&mut self, at: u64, event: &Event<'_>, rooms: &[LinkRoom], output: &'o mut [u8]) -> Result<Actions<'o>, Error> {
+        self.event.clear();
+        event.write(&mut self.event);
+        tell(self.block.as_mut(), &mut self.stats, at, &self.event, rooms, output)
+    }
+
+    /// The same with the event's bytes, whatever they are.
+    ///
+    /// ```
+    /// use plumtree::{Error, Limits, Panel, Settings};
+    /// # fn main() -> Result<(), Error> {
+    /// let mut panel = Panel::new(Settings::of_panel(1), Limits::SMALL)?;
+    /// panel.event_bytes(0, &[3, 2], &[], &mut [])?;
+    /// assert_eq!(panel.event_bytes(0, &[9], &[], &mut []).unwrap_err(), Error::EventMalformed);
+    /// # Ok(())
+    /// # }
+    /// ```
+    pub fn event_bytes<'o>(&mut self, at: u64, event: &[u8], rooms: &[LinkRoom], output: &'o mut [u8]) -> Result<Actions<'o>, Error> {
+        tell(self.block.as_mut(), &mut self.stats, at, event, rooms, output)
+    }
+
+    /// The counts.
+    pub fn stats(&self) -> Stats {
+        self.stats
+    }
+
+    /// The counts, to be changed. What the library promises of a list of calls, it promises where nobody else writes block or counts.
+    pub fn stats_mut(&mut self) -> &mut Stats {
+        &mut self.stats
+    }
+
+    /// The block's bytes: all that the panel knows, to be kept or compared.
+    pub fn block(&self) -> &[u8] {
+        self.block.as_ref()
+    }
+
+    /// The block's bytes, to be changed. Each call asks whether the block is whole.
+    pub fn block_mut(&mut self) -> &mut [u8] {
+        self.block.as_mut()
+    }
+
+    /// The block and the counts, for [`Panel::resume`].
+    pub fn into_parts(self) -> (B, Stats) {
+        (self.block, self.stats)
+    }
+
+    /// Whether two panels hold the same, the counts apart: [`alike`].
+    pub fn alike<C: AsRef<[u8]>>(&self, other: &Panel<C>) -> Result<bool, Error> {
+        alike(self.block.as_ref(), other.block.as_ref())
+    }
+}
+
+fn tell<'o>(
+    block: &mut [u8],
+    stats: &mut Stats,
+    at: u64,
+    event: &[u8],
+    rooms: &[LinkRoom],
+    output: &'o mut [u8],
+) -> Result<Actions<'o>, Error> {
+    let answer = raw::event(block, stats, at, event, rooms, output);
+    Error::check(answer.number)?;
+    Ok(Actions::of_call(&output[..answer.length]))
+}

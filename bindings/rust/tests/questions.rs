@@ -1,0 +1,338 @@
+//! Each question answered no once, through the library, with what a refusal promises: block, counts and output untouched.
+use plumtree::{
+    alike, block_size, raw, Action, Announced, Delivery, Error, Event, Limits, LinkRoom, Message, Panel, Scope, Settings, Stats, Timer,
+};
+
+const LIMITS: [fn(&mut Limits) -> &mut usize; 9] = [
+    |l| &mut l.neighbours,
+    |l| &mut l.received,
+    |l| &mut l.cached,
+    |l| &mut l.content,
+    |l| &mut l.grafted,
+    |l| &mut l.missing,
+    |l| &mut l.timers,
+    |l| &mut l.queued,
+    |l| &mut l.dropped,
+];
+
+const DURATIONS: [fn(&mut Settings) -> &mut u64; 6] = [
+    |s| &mut s.config.graft_timeout_1,
+    |s| &mut s.config.graft_timeout_2,
+    |s| &mut s.config.dispatch_timeout,
+    |s| &mut s.config.message_cache_retention,
+    |s| &mut s.config.message_id_retention,
+    |s| &mut s.config.cache_evict_interval,
+];
+
+const SOME: Stats = Stats { payload_messages_received: 5, control_messages_received: 6, max_last_delivery_hop: 7 };
+
+/// The answer to a creation in a block of this length; a refused one has left block and counts as they were.
+fn create(length: usize, settings: Settings, limits: Limits) -> u8 {
+    let before = vec![0xa5; length];
+    let mut block = before.clone();
+    let mut counts = SOME;
+    let answer = raw::create(&mut block, &mut counts, settings, limits);
+    assert_eq!(answer.length, 0);
+    if answer.number == 0 {
+        assert_eq!(counts, Stats::default());
+    } else {
+        assert!(block == before);
+        assert_eq!(counts, SOME);
+    }
+    answer.number
+}
+
+/// Document 01's sum.
+fn need(l: Limits) -> usize {
+    4096 + l.content
+        + 160 * l.received
+        + 256 * l.cached
+        + 640 * l.grafted
+        + 512 * l.missing
+        + 64 * (l.neighbours + l.timers + l.queued + l.dropped)
+}
+
+#[test]
+fn creation() {
+    let settings = Settings::of_panel(1);
+    let limits = Limits::SMALL;
+    let length = need(limits);
+    for (m, number) in [(509, 1), (510, 0), (4094, 0), (4095, 1), (u64::MAX, 1)] {
+        assert_eq!(create(length, Settings { max_message_size: m, ..settings }, limits), number, "M {m}");
+    }
+    for (i, field) in DURATIONS.iter().enumerate() {
+        for (duration, number) in [(0, 0), (1 << 40, 0), ((1 << 40) + 1, 2), (u64::MAX, 2)] {
+            let mut s = settings;
+            *field(&mut s) = duration;
+            assert_eq!(create(length, s, limits), number, "duration {i}: {duration}");
+        }
+    }
+    for (i, field) in LIMITS.iter().enumerate() {
+        let ceiling = *field(&mut Limits::CEILINGS.clone());
+        for (limit, number) in [(0, 3), (1, 0), (ceiling, 0), (ceiling + 1, 3), (usize::MAX, 3)] {
+            let mut l = limits;
+            *field(&mut l) = limit;
+            let fits = number == 0;
+            assert_eq!(block_size(l), fits.then(|| need(l)), "limit {i}: {limit}");
+            let length = if fits { need(l) } else { need(Limits::CEILINGS) };
+            assert_eq!(create(length, settings, l), number, "limit {i}: {limit}");
+            if fits {
+                assert_eq!(create(length - 1, settings, l), 4, "limit {i}: {limit}");
+                assert_eq!(create(length + 1, settings, l), 0, "limit {i}: {limit}");
+            }
+        }
+    }
+    assert_eq!(create(0, settings, limits), 4);
+    // The threshold is no duration: every number will do.
+    let mut far = settings;
+    far.config.optimization_threshold = u16::MAX;
+    assert_eq!(create(length, far, limits), 0);
+    // In their order.
+    let mut wrong = Settings { max_message_size: 0, ..settings };
+    wrong.config.dispatch_timeout = u64::MAX;
+    assert_eq!(create(0, wrong, Limits { queued: 0, ..limits }), 1);
+    wrong.max_message_size = 4094;
+    assert_eq!(create(0, wrong, Limits { queued: 0, ..limits }), 2);
+    wrong.config.dispatch_timeout = 5;
+    assert_eq!(create(0, wrong, Limits { queued: 0, ..limits }), 3);
+    assert_eq!(Panel::new(wrong, Limits { queued: 0, ..limits }).unwrap_err(), Error::LimitOutOfRange);
+    assert_eq!(Panel::in_block([0; 100], wrong, limits).unwrap_err(), Error::BlockTooShort);
+}
+
+/// A panel with the neighbours 2 and 3, and its first event behind it.
+fn panel(limits: Limits) -> Panel {
+    let mut p = Panel::new(Settings::of_panel(1), limits).unwrap();
+    for event in [Event::Up(2), Event::Up(3), Event::Timer(Timer::EvictCache)] {
+        p.event(0, &event, &[], &mut [0; 64]).unwrap();
+    }
+    p
+}
+
+/// The bytes of the message that a broadcast of this content sends, with another round.
+fn gossip(content: &[u8], round: u16) -> Vec<u8> {
+    let mut output = [0; 4096];
+    let mut p = panel(Limits::SMALL);
+    let mut actions = p.event(0, &Event::Broadcast { content, scope: Scope::Swarm }, &[], &mut output).unwrap();
+    let Some(Action::Send { message: Message::Gossip { id, content, .. }, .. }) = actions.find(|a| matches!(a, Action::Send { .. })) else {
+        panic!("it is sent to 2");
+    };
+    Message::Gossip { id, content, delivery: Delivery::Swarm { round } }.to_bytes()
+}
+
+/// A call that is refused, by this question, and touches nothing.
+fn refused(p: &mut Panel, at: u64, event: &[u8], output_length: usize, error: Error) {
+    let block = p.block().to_vec();
+    let stats = p.stats();
+    let mut output = vec![0x5a; output_length];
+    assert_eq!(p.event_bytes(at, event, &[], &mut output).unwrap_err(), error);
+    assert!(p.block() == block, "{error}");
+    assert_eq!(p.stats(), stats, "{error}");
+    assert!(output.iter().all(|b| *b == 0x5a), "{error}");
+}
+
+#[test]
+fn events() {
+    let mut p = panel(Limits::SMALL);
+    let tick = Event::Timer(Timer::EvictCache).to_bytes();
+
+    // 5: a block that is cut, that never was a panel's, that has another limit.
+    let mut short = Panel::resume(p.block()[..p.block().len() - 1].to_vec(), p.stats());
+    refused(&mut short, 0, &tick, 64, Error::BlockNotWhole);
+    refused(&mut Panel::resume(vec![0; 58_880], Stats::default()), 0, &tick, 64, Error::BlockNotWhole);
+    refused(&mut Panel::resume(Vec::new(), Stats::default()), 0, &tick, 64, Error::BlockNotWhole);
+    let mut other = Panel::resume(p.block().to_vec(), p.stats());
+    other.block_mut()[..64].fill(0xff);
+    refused(&mut other, 0, &tick, 64, Error::BlockNotWhole);
+    assert_eq!(alike(p.block(), other.block()), Err(Error::BlockNotWhole));
+    assert_eq!(alike(other.block(), p.block()), Err(Error::BlockNotWhole));
+
+    refused(&mut p, (1 << 62) + 1, &tick, 64, Error::TimeTooLate);
+    refused(&mut p, 0, &[], 64, Error::EventCut);
+    refused(&mut p, 0, &[3, 0x80], 64, Error::EventCut);
+    refused(&mut p, 0, &[5], 64, Error::EventMalformed);
+    refused(&mut p, 0, &[3, 0x80, 0x00], 64, Error::EventMalformed);
+    refused(&mut p, 0, &[3, 2, 0], 64, Error::EventTooLong);
+
+    // 10: M is 4,094. A content of 4,057 makes a message of 4,094 bytes, at round 128 one more.
+    let long = |length: usize, round| {
+        let delivery = Delivery::Swarm { round };
+        Event::Received { peer: 2, message: Message::Gossip { id: [0; 32], content: &[7; 4096][..length], delivery } }.to_bytes()
+    };
+    refused(&mut p, 0, &long(4058, 0), 40_960, Error::MessageTooLong);
+    refused(&mut p, 0, &long(4057, 128), 40_960, Error::MessageTooLong);
+    let mut output = vec![0; 40_960];
+    assert!(p.event_bytes(0, &long(4057, 127), &[], &mut output).is_ok());
+
+    // 11: of either count.
+    p.stats_mut().control_messages_received = u64::MAX;
+    refused(&mut p, 0, &[0, 2, 1], 64, Error::CountsFull);
+    p.stats_mut().control_messages_received = 0;
+    p.stats_mut().payload_messages_received = u64::MAX;
+    assert!(p.event_bytes(0, &[0, 2, 1], &[], &mut output).is_ok());
+    let hot = gossip(b"hot", 0);
+    refused(&mut p, 0, &Event::ReceivedBytes { peer: 2, bytes: &hot }.to_bytes(), 4096, Error::CountsFull);
+    p.stats_mut().payload_messages_received = 0;
+
+    // 12: the last round.
+    let far = gossip(b"hot", u16::MAX);
+    refused(&mut p, 0, &Event::ReceivedBytes { peer: 2, bytes: &far }.to_bytes(), 4096, Error::NoMoreHops);
+
+    // 13: a third neighbour where two are the limit.
+    let mut two = panel(Limits { neighbours: 2, ..Limits::SMALL });
+    refused(&mut two, 0, &Event::Up(4).to_bytes(), 64, Error::LimitReached);
+    two.event(0, &Event::Down(3), &[], &mut []).unwrap();
+    two.event(0, &Event::Up(4), &[], &mut []).unwrap();
+
+    // 14: an eviction schedules itself, four bytes.
+    refused(&mut p, 0, &tick, 3, Error::OutputTooShort);
+    refused(&mut p, 0, &tick, 0, Error::OutputTooShort);
+    let mut four = [0; 4];
+    assert_eq!(p.event_bytes(0, &tick, &[], &mut four).unwrap().bytes(), [2, 0xe8, 7, 2]);
+}
+
+/// A send can be a byte longer than M, where the round has grown to 128; a panel of the same M then refuses it.
+#[test]
+fn a_byte_more_than_m() {
+    let settings = Settings { max_message_size: 510, ..Settings::of_panel(1) };
+    let mut p = Panel::new(settings, Limits::SMALL).unwrap();
+    let mut output = [0; 4096];
+    for peer in [2, 3] {
+        p.event(0, &Event::Up(peer), &[], &mut output).unwrap();
+    }
+    let came = gossip(&[7; 473], 127);
+    assert_eq!(came.len(), 510);
+    let mut actions = p.event(0, &Event::ReceivedBytes { peer: 2, bytes: &came }, &[], &mut output).unwrap();
+    let Some(Action::Send { peer: 3, bytes, .. }) = actions.find(|a| matches!(a, Action::Send { .. })) else { panic!("it goes on to 3") };
+    assert_eq!(bytes.len(), 511);
+    let event = Event::ReceivedBytes { peer: 2, bytes };
+    assert_eq!(Panel::new(settings, Limits::SMALL).unwrap().event(0, &event, &[], &mut [0; 4096]).unwrap_err(), Error::MessageTooLong);
+}
+
+#[test]
+fn what_is_beyond_the_length_stays() {
+    let mut p = panel(Limits::SMALL);
+    let mut output = [0x5a; 64];
+    let n = p.event(0, &Event::Timer(Timer::EvictCache), &[], &mut output).unwrap().bytes().len();
+    assert_eq!(n, 4);
+    assert!(output[4..].iter().all(|b| *b == 0x5a));
+}
+
+/// Each setting is where the library reads it: the delays that it writes, the times at which it forgets, whom it takes for itself.
+#[test]
+fn settings_in_place() {
+    let mut settings = Settings::of_panel(7);
+    settings.config.graft_timeout_1 = 101;
+    settings.config.graft_timeout_2 = 102;
+    settings.config.dispatch_timeout = 103;
+    settings.config.message_cache_retention = 2000;
+    settings.config.message_id_retention = 3000;
+    settings.config.cache_evict_interval = 104;
+    let mut p = Panel::new(settings, Limits::SMALL).unwrap();
+    let mut lines = |at, event: &Event| {
+        let mut output = [0; 4096];
+        p.event(at, event, &[], &mut output).unwrap().map(|a| a.to_string()).collect::<Vec<_>>()
+    };
+    lines(0, &Event::Up(2));
+    lines(0, &Event::Up(7));
+    let evict = Event::Timer(Timer::EvictCache);
+    assert_eq!(lines(0, &evict), ["schedule EvictCache in 104", "schedule EvictCache in 104"]);
+
+    let announced = vec![Announced { id: [9; 32], round: 5 }];
+    let ihave = Event::Received { peer: 2, message: Message::IHave(announced) };
+    assert_eq!(lines(0, &ihave), ["schedule SendGraft 09090909.. in 101"]);
+    let timer = Event::Timer(Timer::SendGraft([9; 32]));
+    assert_eq!(lines(0, &timer), ["send to 2: Graft 09090909.., round 5", "schedule SendGraft 09090909.. in 102"]);
+
+    // Not to 7, which is the panel itself.
+    let sent = lines(0, &Event::Broadcast { content: b"hot", scope: Scope::Swarm });
+    assert_eq!(sent.len(), 2);
+    assert_eq!(sent[0], "schedule DispatchLazyPush in 103");
+    assert!(sent[1].starts_with("send to 2: Gossip ") && sent[1].ends_with(" \"hot\", Swarm, round 0"), "{}", sent[1]);
+
+    // A Graft for it is answered until it leaves the cache, at 2,000; it is known until 3,000.
+    let bytes = gossip(b"hot", 0);
+    let Ok(Message::Gossip { id, .. }) = Message::read(&bytes) else { panic!("a Gossip") };
+    let graft = Event::Received { peer: 2, message: Message::Graft { id: Some(id), round: 0 } };
+    let again = Event::ReceivedBytes { peer: 2, bytes: &bytes };
+    lines(1999, &evict);
+    assert_eq!(lines(1999, &graft).len(), 1);
+    lines(2000, &evict);
+    assert_eq!(lines(2000, &graft), [""; 0]);
+    lines(2999, &evict);
+    assert_eq!(lines(2999, &again), ["send to 2: Prune"]);
+    lines(3000, &evict);
+    assert!(lines(3000, &again).contains(&"emit from 2: \"hot\", Swarm, round 0".to_string()));
+    let counts = Stats { payload_messages_received: 2, control_messages_received: 3, max_last_delivery_hop: 1 };
+    assert_eq!(p.stats(), counts);
+}
+
+/// "Threshold 7, r = 9: announcer round 3 optimises, 4 doesn't."
+#[test]
+fn threshold_in_place() {
+    let bytes = gossip(b"hot", 9);
+    let Ok(Message::Gossip { id, .. }) = Message::read(&bytes) else { panic!("a Gossip") };
+    let optimises = |threshold, round| {
+        let mut settings = Settings::of_panel(1);
+        settings.config.optimization_threshold = threshold;
+        let mut p = Panel::new(settings, Limits::SMALL).unwrap();
+        let mut output = [0; 4096];
+        let before = [
+            Event::Up(2),
+            Event::Up(3),
+            Event::Received { peer: 3, message: Message::Prune },
+            Event::Received { peer: 3, message: Message::IHave(vec![Announced { id, round }]) },
+        ];
+        for event in before {
+            p.event(0, &event, &[], &mut output).unwrap();
+        }
+        let mut actions = p.event(0, &Event::ReceivedBytes { peer: 2, bytes: &bytes }, &[], &mut output).unwrap();
+        actions.any(|a| matches!(a, Action::Send { peer: 3, message: Message::Graft { id: None, .. }, .. }))
+    };
+    assert!(optimises(7, 3));
+    assert!(!optimises(7, 4));
+    assert!(optimises(6, 4));
+}
+
+#[test]
+fn rooms() {
+    let reading = Event::Broadcast { content: b"hot", scope: Scope::Swarm };
+    let taken = |rooms: &[LinkRoom]| {
+        let mut output = [0; 4096];
+        let mut v = Vec::new();
+        for a in panel(Limits::SMALL).event(0, &reading, rooms, &mut output).unwrap() {
+            if let Action::Send { peer, taken, .. } = a {
+                v.push((peer, taken));
+            }
+        }
+        v
+    };
+    assert_eq!(taken(&[]), [(2, true), (3, true)]);
+    assert_eq!(taken(&[LinkRoom { peer: 3, room: 0 }]), [(2, true), (3, false)]);
+    // "The first entry for a peer counts".
+    assert_eq!(taken(&[LinkRoom { peer: 2, room: 0 }, LinkRoom { peer: 2, room: u16::MAX }]), [(2, false), (3, true)]);
+    assert_eq!(taken(&[LinkRoom { peer: 2, room: u16::MAX }, LinkRoom { peer: 2, room: 0 }]), [(2, true), (3, true)]);
+}
+
+#[test]
+fn alike_and_not() {
+    let mut a = panel(Limits::SMALL);
+    let mut b = Panel::new(Settings::of_panel(1), Limits::SMALL).unwrap();
+    assert_eq!(a.alike(&a), Ok(true));
+    assert_eq!(a.alike(&b), Ok(false));
+    for event in [Event::Up(3), Event::Up(2), Event::Timer(Timer::EvictCache)] {
+        b.event(0, &event, &[], &mut [0; 64]).unwrap();
+    }
+    assert_eq!(a.alike(&b), Ok(true));
+    a.event(0, &Event::Received { peer: 2, message: Message::Prune }, &[], &mut []).unwrap();
+    assert_eq!(a.alike(&b), Ok(false));
+}
+
+#[test]
+fn error_numbers() {
+    for (i, e) in Error::ALL.iter().enumerate() {
+        assert_eq!(usize::from(e.number()), i + 1);
+        assert_eq!(Error::from_number(e.number()), Some(*e));
+    }
+    assert_eq!(Error::from_number(0), None);
+    assert_eq!(Error::from_number(15), None);
+}

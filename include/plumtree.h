@@ -1,0 +1,326 @@
+/*
+ * plumtree.h: the state machine of the kiln panel broadcast, for C and C++.
+ *
+ * Link libplumtree.a (`rt staticlib plumtree` writes target/staticlib/libplumtree.a, for x86-64 Linux). It needs memcpy, memmove and
+ * memset of the C library and nothing else: it has no heap, no thread, no clock, no file, no variable of its own. What a panel knows
+ * stands in one block of bytes that its owner lends to each call. examples/c/first_broadcast.c is a program to start from.
+ *
+ *     cc -I include program.c target/staticlib/libplumtree.a
+ *
+ * The specification is called "document 01" here; its words stand in quotes.
+ *
+ *
+ * WHAT A HOST DOES
+ *
+ *   1. Lend a block: plumtree_block_size says how many bytes. plumtree_create makes it a panel without neighbours.
+ *   2. Tell what happens, one plumtree_event each: a neighbour is up or down, a message came over a link, the panel's own reading is to be
+ *      broadcast, a timer fired.
+ *   3. Carry out the actions that the call wrote, in their order: put the message of each send that was taken onto the link to its peer,
+ *      start a timer for each schedule, hand the content of each emit to the panel's screen.
+ *
+ * A message goes over a link as the bytes it has in the send action. The panel at the other end gets it as an event: a byte 0, the
+ * sender's number, and these bytes as they came, damaged or not.
+ *
+ *
+ * WHAT A CALLER OWES
+ *
+ * The functions are proved for every value of their arguments; nothing checks a caller in C. So a caller owes what the types mean:
+ *
+ *   - Each pointer is valid for its length: a const pointer for reading, the others for reading and writing, until the call returns.
+ *     A pointer whose length is 0 may be null or any other value. `counts` is never null.
+ *   - block, counts and output do not overlap each other, nor event nor rooms. (event and rooms may overlap, and the two blocks of
+ *     plumtree_alike may be the same.)
+ *   - No other thread writes what is lent, nor reads what is not const, before the call returns. Calls on different panels may run at
+ *     the same time.
+ *   - Each lent part has fewer than 2^63 bytes. `counts` and `rooms` are aligned as C aligns them; bytes need no alignment.
+ *   - What is lent has been written once, block, counts and output too (calloc or memset will do). Padding does not matter.
+ *   - The thread has 64 KiB of stack left. (Measured at the ceilings, tests/c/stack.c, and not proved: no proof speaks of the stack.)
+ *
+ * Nothing else is asked. There is no order of calls to keep and no event that must not come: a call that cannot be carried out is refused.
+ *
+ *
+ * WHAT A CALL PROMISES
+ *
+ *   - It returns, and touches nothing but block, counts and output, within their lengths.
+ *   - Answer number 0: it was accepted. The block holds the state after the call, the counts are brought up to date, the first `length`
+ *     bytes of the output hold the actions, and the bytes after them keep their old content.
+ *   - Any other number: "The first no gives its number and output length 0; block, counts record and output are untouched."
+ *   - Each call is a function of what is lent: from the same block, counts, time, event, rooms and output length come the same answer,
+ *     actions and state.
+ *   - Over a list of calls, from a creation on: no neighbour is passed over (docs/GUARANTEE.md). That speaks of lists in which each call
+ *     gets block and counts as the one before left them. Times may go back, calls may be refused, links may hand back what they like.
+ *   - From an accepted creation on, no call is answered 5 as long as nobody else writes the block.
+ *
+ * A block is plain bytes: it can be copied, or kept and lent again later, with its counts.
+ */
+#ifndef PLUMTREE_H
+#define PLUMTREE_H
+
+#include <stddef.h>
+#include <stdint.h>
+#ifndef __cplusplus
+#include <stdbool.h>
+#endif
+
+#ifdef __cplusplus
+extern "C" {
+#endif
+
+/*
+ * ANSWERS
+ *
+ * "Answer 0 is yes to all. The first no gives its number". Creation asks 1 to 4, an event 5 to 14, plumtree_alike 5.
+ */
+enum plumtree_number {
+    PLUMTREE_ACCEPTED = 0,
+
+    /* "Is M, `max_message_size`, from 510 to 4,094?" */
+    PLUMTREE_MESSAGE_SIZE_OUT_OF_RANGE = 1,
+    /* "Is each of the six durations at most 2^40?" */
+    PLUMTREE_DURATION_TOO_LONG = 2,
+    /* "Is each limit from 1 to its ceiling?" */
+    PLUMTREE_LIMIT_OUT_OF_RANGE = 3,
+    /* "Has the lent block at least 4,096 + B + 160R + 256C + 640G + 512S + 64(N + T + Q + D) bytes?" (plumtree_block_size) */
+    PLUMTREE_BLOCK_TOO_SHORT = 4,
+
+    /* "Is the block whole?" No: it was not created, was written by somebody else, or is shorter than its limits need. */
+    PLUMTREE_BLOCK_NOT_WHOLE = 5,
+    /* "Is now <= 2^62?" */
+    PLUMTREE_TIME_TOO_LATE = 6,
+    /* "Does each field end within the bytes?" */
+    PLUMTREE_EVENT_CUT = 7,
+    /* "Is each kind known, each number in its width and shortest?" */
+    PLUMTREE_EVENT_MALFORMED = 8,
+    /* "Do the bytes end there?" */
+    PLUMTREE_EVENT_TOO_LONG = 9,
+    /* "Is a received message at most M bytes?" These are the bytes behind the peer's number. */
+    PLUMTREE_MESSAGE_TOO_LONG = 10,
+    /* "Do the counts stay under 2^64?" */
+    PLUMTREE_COUNTS_FULL = 11,
+    /* "Is it anything but a valid Swarm message of round 65,535, unreceived once a first event has evicted?" */
+    PLUMTREE_NO_MORE_HOPS = 12,
+    /* "Is the state after the call within every limit?" What the call frees counts as free. Entries that expire and neighbours that go down
+     * make room; so do higher limits at creation. */
+    PLUMTREE_LIMIT_REACHED = 13,
+    /* "Do the actions fit the output?" Nothing has changed: the same call with a longer output goes through. */
+    PLUMTREE_OUTPUT_TOO_SHORT = 14
+};
+
+/*
+ * SETTINGS AND LIMITS
+ */
+
+/* The Rust's `Config`, in its order: six durations in milliseconds, at most 2^40 each, and a number of hops. */
+struct plumtree_config {
+    uint64_t graft_timeout_1;         /* from an announcement to asking for the message; default 80 */
+    uint64_t graft_timeout_2;         /* until the next announcer is asked; default 40 */
+    uint64_t dispatch_timeout;        /* until queued announcements are sent; default 5 */
+    uint16_t optimization_threshold;  /* hops that a shorter way must save; default 7 */
+    uint64_t message_cache_retention; /* a message stays cached; default 30,000 */
+    uint64_t message_id_retention;    /* an identifier stays known; default 90,000 */
+    uint64_t cache_evict_interval;    /* between two evictions; default 1,000 */
+};
+
+struct plumtree_settings {
+    struct plumtree_config config;
+    uint64_t max_message_size; /* M, from 510 to 4,094; default 4,094 */
+    uint64_t me;               /* the panel's own peer number */
+};
+
+/* How much a panel can hold, each from 1 to its ceiling. The block's size follows from these. */
+struct plumtree_limits {
+    size_t neighbours; /* N: neighbours */
+    size_t received;   /* R: identifiers of messages that came; twice as many expiry entries */
+    size_t cached;     /* C: messages held for others to ask for; twice as many expiry entries */
+    size_t content;    /* B: bytes of the contents of those */
+    size_t grafted;    /* G: identifiers that were asked for; twice as many expiry entries */
+    size_t missing;    /* S: identifiers that were announced and are not here */
+    size_t timers;     /* T: identifiers whose graft timer is marked */
+    size_t queued;     /* Q: announcements queued, over all neighbours */
+    size_t dropped;    /* D: identifiers recorded since a link handed them back, over all neighbours */
+};
+
+#define PLUMTREE_CEILING_NEIGHBOURS 32
+#define PLUMTREE_CEILING_RECEIVED 2048
+#define PLUMTREE_CEILING_CACHED 512
+#define PLUMTREE_CEILING_CONTENT 1048576
+#define PLUMTREE_CEILING_GRAFTED 512
+#define PLUMTREE_CEILING_MISSING 512
+#define PLUMTREE_CEILING_TIMERS 512
+#define PLUMTREE_CEILING_QUEUED 8192
+#define PLUMTREE_CEILING_DROPPED 4096
+
+#define PLUMTREE_LEAST_MESSAGE_SIZE 510
+#define PLUMTREE_GREATEST_MESSAGE_SIZE 4094
+
+/* The default settings (`Config::default`, M 4,094) for panel `me`. Plain C, in this header. */
+static inline struct plumtree_settings plumtree_default_settings(uint64_t me)
+{
+    struct plumtree_settings s;
+    s.config.graft_timeout_1 = 80;
+    s.config.graft_timeout_2 = 40;
+    s.config.dispatch_timeout = 5;
+    s.config.optimization_threshold = 7;
+    s.config.message_cache_retention = 30000;
+    s.config.message_id_retention = 90000;
+    s.config.cache_evict_interval = 1000;
+    s.max_message_size = 4094;
+    s.me = me;
+    return s;
+}
+
+/* The limits of the program panelrun: "N 8, R 64, C 32, B 8,192, G S T 16, Q D 64". They need 58,880 bytes. Plain C, in this header. */
+static inline struct plumtree_limits plumtree_small_limits(void)
+{
+    struct plumtree_limits l;
+    l.neighbours = 8;
+    l.received = 64;
+    l.cached = 32;
+    l.content = 8192;
+    l.grafted = 16;
+    l.missing = 16;
+    l.timers = 16;
+    l.queued = 64;
+    l.dropped = 64;
+    return l;
+}
+
+/*
+ * WHAT IS LENT AND ANSWERED
+ */
+
+/* The counts record: "payload, control, largest r + 1". An accepted creation sets it to zeros. */
+struct plumtree_stats {
+    uint64_t payload_messages_received; /* every Gossip, valid or not */
+    uint64_t control_messages_received; /* every Prune, Graft and IHave */
+    uint16_t max_last_delivery_hop;     /* the largest r + 1 of a new Swarm message of round r */
+};
+
+/* Link room: how many sends of this call the link to a peer takes. "The first entry for a peer counts, a peer without one has no bound, and
+ * the k-th send of a call to a peer is taken when k <= room." */
+struct plumtree_link_room {
+    uint64_t peer;
+    uint16_t room;
+};
+
+/* A call's answer: the number (enum plumtree_number) and how many bytes of actions stand in the output. */
+struct plumtree_answer {
+    uint8_t number;
+    size_t length;
+};
+
+/* Whether two blocks are alike; number 5, and then alike is false, where either is not whole. */
+struct plumtree_likeness {
+    uint8_t number;
+    bool alike;
+};
+
+/*
+ * CALLS
+ */
+
+/* How many bytes a block of these limits needs, or 0 where a limit is not "from 1 to its ceiling". A longer block is taken too. */
+size_t plumtree_block_size(struct plumtree_limits limits);
+
+/*
+ * Makes the block a new panel: "An accepted creation leaves the state of `State::new`, the counts zero and length 0."
+ * Asks 1 to 4. A refused one leaves block and counts untouched. What the block held before does not matter.
+ */
+struct plumtree_answer plumtree_create(uint8_t *block, size_t block_length, struct plumtree_stats *counts, struct plumtree_settings settings,
+                                       struct plumtree_limits limits);
+
+/*
+ * One event at the time `at`, in milliseconds. Asks 5 to 14 in their order, then does what document 01 says of the event.
+ * `rooms` is the link room of this call; none (null, 0): every send is taken.
+ * `output` takes the actions. 40,960 bytes are what panelrun lends; a host that is answered 14 calls again with more.
+ */
+struct plumtree_answer plumtree_event(uint8_t *block, size_t block_length, struct plumtree_stats *counts, uint64_t at, const uint8_t *event,
+                                      size_t event_length, const struct plumtree_link_room *rooms, size_t rooms_length, uint8_t *output,
+                                      size_t output_length);
+
+/*
+ * Whether two blocks hold the same: "yes exactly when own peer number, settings, limits, sets, flags and maps agree, order inside queue,
+ * record, announcer and expiry lists ignored, repeats counted". Comparing bytes says less: equal states can be laid out in different bytes.
+ */
+struct plumtree_likeness plumtree_alike(const uint8_t *a, size_t a_length, const uint8_t *b, size_t b_length);
+
+/*
+ * EVENTS AND ACTIONS, BYTE BY BYTE
+ *
+ * A number is written in groups of seven bits, the lowest group first, with the high bit (0x80) set on every byte but the last. Only the
+ * shortest form is read: 0 is 00, 127 is 7F, 128 is 80 01, 300 is AC 02, 65,535 is FF FF 03. A round has 16 bits (at most 3 bytes); a peer, a
+ * time, a length and a count have 64 (at most 10). An identifier is 32 bytes as they are: BLAKE3 of the content. A kind is one byte.
+ *
+ * An event:
+ *
+ *     received message   00  peer  MESSAGE
+ *     broadcast          01  length  content  00 Swarm, 01 Neighbors
+ *     timer              02  TIMER
+ *     neighbour up       03  peer
+ *     neighbour down     04  peer
+ *
+ * The actions, one after another:
+ *
+ *     send               01  peer  00 taken, 01 handed back  MESSAGE
+ *     schedule           02  delay  TIMER
+ *     emit               03  peer  length  content  DELIVERY
+ *
+ *     MESSAGE   Gossip   00  identifier  length  content  DELIVERY
+ *               Prune    01
+ *               Graft    02  00, or 01 and identifier  round
+ *               IHave    03  count  (identifier  round) for each
+ *     DELIVERY           00  round: Swarm, for all panels        01: Neighbors, for neighbours alone
+ *     TIMER              00  identifier: SendGraft    01: DispatchLazyPush    02: EvictCache    03: AnnounceDropped
+ *
+ * Send: the message is for that peer. Taken: put it onto the link. Handed back: the link had no room in this call (struct
+ * plumtree_link_room); put nothing there, the panel has noted what it has to announce later. Its length is not written: it ends where its
+ * fields end. It can be one byte longer than M: a round that goes from 127 to 128 takes a byte more.
+ * Schedule: when `delay` milliseconds have passed, call with the event `02 TIMER`. A timer is never taken back.
+ * Emit: a new message, for the panel's own use; `peer` brought it, with this round.
+ *
+ * Examples, in hexadecimal: `03 02` neighbour 2 is up. `02 01` DispatchLazyPush fired. `00 05 01` a Prune from 5.
+ * `01 05 31 34 35 32 43 00` broadcast of "1452C" to all panels. The action `02 E8 07 02`: schedule EvictCache in 1,000.
+ */
+enum plumtree_event_kind {
+    PLUMTREE_EVENT_RECEIVED = 0,
+    PLUMTREE_EVENT_BROADCAST = 1,
+    PLUMTREE_EVENT_TIMER = 2,
+    PLUMTREE_EVENT_UP = 3,
+    PLUMTREE_EVENT_DOWN = 4
+};
+
+enum plumtree_action_kind {
+    PLUMTREE_ACTION_SEND = 1,
+    PLUMTREE_ACTION_SCHEDULE = 2,
+    PLUMTREE_ACTION_EMIT = 3
+};
+
+enum plumtree_message_kind {
+    PLUMTREE_MESSAGE_GOSSIP = 0,
+    PLUMTREE_MESSAGE_PRUNE = 1,
+    PLUMTREE_MESSAGE_GRAFT = 2,
+    PLUMTREE_MESSAGE_IHAVE = 3
+};
+
+enum plumtree_delivery_kind {
+    PLUMTREE_DELIVERY_SWARM = 0,
+    PLUMTREE_DELIVERY_NEIGHBORS = 1
+};
+
+enum plumtree_timer_kind {
+    PLUMTREE_TIMER_SEND_GRAFT = 0,
+    PLUMTREE_TIMER_DISPATCH_LAZY_PUSH = 1,
+    PLUMTREE_TIMER_EVICT_CACHE = 2,
+    PLUMTREE_TIMER_ANNOUNCE_DROPPED = 3
+};
+
+/* The bytes of an identifier; the most bytes of a number of 64 bits and of a round. */
+#define PLUMTREE_ID_BYTES 32
+#define PLUMTREE_NUMBER_BYTES 10
+#define PLUMTREE_ROUND_BYTES 3
+
+#ifdef __cplusplus
+}
+#endif
+
+#endif

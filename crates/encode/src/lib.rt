@@ -111,8 +111,8 @@ pub fn put_gossip(out: &mut [u8], at: usize, id: Id, content: &[u8], delivery: D
     ensures { λ r. ⌜ Wrote (messageBytes (Gossip (idOf id) (now (content .entry)) (deliveryValue delivery))) (now (out .entry)) at (now (out .exit)) r ⌝ }
 {
     let id_at = put_byte(out, at, 0);
-    let content_at = put_id(out, id_at, id);
-    let delivery_at = put_content(out, content_at, content);
+    let length_at = put_id(out, id_at, id);
+    let delivery_at = put_content(out, length_at, content);
     put_delivery(out, delivery_at, delivery)
 }
 
@@ -148,8 +148,8 @@ pub fn put_ihave(out: &mut [u8], at: usize, id: Id, round: Round) -> usize
     requires { ⌜ Room (ihaveBytes (record { id = idOf id; round = round .0 })) at (now out) ⌝ }
     ensures { λ r. ⌜ Wrote (ihaveBytes (record { id = idOf id; round = round .0 })) (now (out .entry)) at (now (out .exit)) r ⌝ }
 {
-    let round_at = put_id(out, at, id);
-    put_round(out, round_at, round)
+    let hops_at = put_id(out, at, id);
+    put_round(out, hops_at, round)
 }
 
 // Writes a timer: "0 SendGraft with identifier, 1 DispatchLazyPush, 2 EvictCache, 3 AnnounceDropped".
@@ -212,8 +212,8 @@ pub fn put_send_prune(out: &mut [u8], at: usize, peer: u64, taken: bool) -> usiz
     requires { ⌜ Room (actionBytes (Sent peer taken Prune)) at (now out) ⌝ }
     ensures { λ r. ⌜ Wrote (actionBytes (Sent peer taken Prune)) (now (out .entry)) at (now (out .exit)) r ⌝ }
 {
-    let message_at = put_send(out, at, peer, taken);
-    put_prune(out, message_at)
+    let prune_at = put_send(out, at, peer, taken);
+    put_prune(out, prune_at)
 }
 
 // Writes the action of a Graft that is sent.
@@ -228,8 +228,8 @@ pub fn put_send_graft(
     requires { ⌜ Room (actionBytes (Sent peer taken (Graft (wantedValue wanted) (round .0)))) at (now out) ⌝ }
     ensures { λ r. ⌜ Wrote (actionBytes (Sent peer taken (Graft (wantedValue wanted) (round .0)))) (now (out .entry)) at (now (out .exit)) r ⌝ }
 {
-    let message_at = put_send(out, at, peer, taken);
-    put_graft(out, message_at, wanted, round)
+    let graft_at = put_send(out, at, peer, taken);
+    put_graft(out, graft_at, wanted, round)
 }
 
 // Writes the beginning of the action of an IHave that is sent; `put_ihave` for each entry makes it whole.
@@ -237,8 +237,8 @@ pub fn put_send_ihave(out: &mut [u8], at: usize, peer: u64, taken: bool, count: 
     requires { ⌜ Room (sendHead peer taken ++ ihaveHead count) at (now out) ⌝ }
     ensures { λ r. ⌜ Wrote (sendHead peer taken ++ ihaveHead count) (now (out .entry)) at (now (out .exit)) r ⌝ }
 {
-    let message_at = put_send(out, at, peer, taken);
-    put_ihave_head(out, message_at, count)
+    let ihave_at = put_send(out, at, peer, taken);
+    put_ihave_head(out, ihave_at, count)
 }
 
 // Writes an action: "2 schedule (delay, timer)".

@@ -76,7 +76,7 @@ pub fn gossip_size(len: usize, delivery: Delivery) -> usize
 pub fn prune_size() -> usize
     ensures { λ r. ⌜ r ≡ length (messageBytes Prune) ⌝ }
 {
-    1
+    1 // the kind
 }
 
 // The size of a Graft.

@@ -1,7 +1,6 @@
 // The fields that messages, timers and events are made of, read at a place: document 01, "Numbers and messages (Postcard)".
-use crate::number;
-use crate::number::NumberRead;
-use crate::number::RoundRead;
+use number::NumberRead;
+use number::RoundRead;
 use postcard::message::Delivery;
 use postcard::message::Wanted;
 use postcard::units::Round;

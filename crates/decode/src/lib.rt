@@ -1,14 +1,13 @@
 // Messages, timers and events read from the left: document 01, questions 7, 8 and 9.
 pub mod field;
-mod number;
 
 use crate::field::ContentRead;
 use crate::field::DeliveryRead;
 use crate::field::IdRead;
 use crate::field::IhaveRead;
 use crate::field::WantedRead;
-use crate::number::NumberRead;
-use crate::number::RoundRead;
+use number::NumberRead;
+use number::RoundRead;
 use postcard::message::Decoded;
 use postcard::message::Event;
 use postcard::message::Message;

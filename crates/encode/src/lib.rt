@@ -14,38 +14,6 @@ ghost use Rattle.postcard.specs.Message.{Gossip, Prune, Graft, Sent, Scheduled,
 ghost use Rattle.postcard.specs.Values.{deliveryValue, wantedValue, timerValue};
 ghost use Rattle.postcard.specs.Output.{Room, Wrote, sendHead, ihaveHead};
 
-// Writes a byte.
-fn put_byte(out: &mut [u8], at: usize, b: u8) -> usize
-    requires { ⌜ Room (b ∷ []) at (now out) ⌝ }
-    ensures { λ r. ⌜ Wrote (b ∷ []) (now (out .entry)) at (now (out .exit)) r ⌝ }
-{
-    out[at] = b;
-    at + 1
-}
-
-// Writes a number of 16 or 64 bits: "Groups of seven bits, low first, high bit on all but the last".
-fn put_number(out: &mut [u8], at: usize, v: u64) -> usize
-    requires { ⌜ Room (numberBytes v) at (now out) ⌝ }
-    ensures { λ r. ⌜ Wrote (numberBytes v) (now (out .entry)) at (now (out .exit)) r ⌝ }
-{
-    let mut w = v;
-    let mut i = at;
-    while 128 <= w {
-        out[i] = (w % 128 + 128) as u8;
-        w = w / 128;
-        i += 1;
-    }
-    put_byte(out, i, w as u8)
-}
-
-// Writes a round.
-fn put_round(out: &mut [u8], at: usize, round: Round) -> usize
-    requires { ⌜ Room (numberBytes (round .0)) at (now out) ⌝ }
-    ensures { λ r. ⌜ Wrote (numberBytes (round .0)) (now (out .entry)) at (now (out .exit)) r ⌝ }
-{
-    put_number(out, at, round.0 as u64)
-}
-
 // Writes an identifier: "identifier 32 bytes".
 fn put_id(out: &mut [u8], at: usize, id: Id) -> usize
     requires { ⌜ Room (idBytes (idOf id)) at (now out) ⌝ }
@@ -73,7 +41,7 @@ fn put_content(out: &mut [u8], at: usize, content: &[u8]) -> usize
     requires { ⌜ Room (contentBytes (now content)) at (now out) ⌝ }
     ensures { λ r. ⌜ Wrote (contentBytes (now (content .entry))) (now (out .entry)) at (now (out .exit)) r ⌝ }
 {
-    let bytes_at = put_number(out, at, content.len() as u64);
+    let bytes_at = number::put_number(out, at, content.len() as u64);
     put_bytes(out, bytes_at, content)
 }
 
@@ -84,10 +52,10 @@ fn put_delivery(out: &mut [u8], at: usize, delivery: Delivery) -> usize
 {
     match delivery {
         Delivery::Swarm(round) => {
-            let round_at = put_byte(out, at, 0);
-            put_round(out, round_at, round)
+            let round_at = number::put_byte(out, at, 0);
+            number::put_round(out, round_at, round)
         }
-        Delivery::Neighbors => put_byte(out, at, 1),
+        Delivery::Neighbors => number::put_byte(out, at, 1),
     }
 }
 
@@ -97,9 +65,9 @@ fn put_wanted(out: &mut [u8], at: usize, wanted: Wanted) -> usize
     ensures { λ r. ⌜ Wrote (optionalIdBytes (wantedValue wanted)) (now (out .entry)) at (now (out .exit)) r ⌝ }
 {
     match wanted {
-        Wanted::Nothing => put_byte(out, at, 0),
+        Wanted::Nothing => number::put_byte(out, at, 0),
         Wanted::Message(id) => {
-            let id_at = put_byte(out, at, 1);
+            let id_at = number::put_byte(out, at, 1);
             put_id(out, id_at, id)
         }
     }
@@ -110,7 +78,7 @@ pub fn put_gossip(out: &mut [u8], at: usize, id: Id, content: &[u8], delivery: D
     requires { ⌜ Room (messageBytes (Gossip (idOf id) (now content) (deliveryValue delivery))) at (now out) ⌝ }
     ensures { λ r. ⌜ Wrote (messageBytes (Gossip (idOf id) (now (content .entry)) (deliveryValue delivery))) (now (out .entry)) at (now (out .exit)) r ⌝ }
 {
-    let id_at = put_byte(out, at, 0);
+    let id_at = number::put_byte(out, at, 0);
     let length_at = put_id(out, id_at, id);
     let delivery_at = put_content(out, length_at, content);
     put_delivery(out, delivery_at, delivery)
@@ -121,7 +89,7 @@ fn put_prune(out: &mut [u8], at: usize) -> usize
     requires { ⌜ Room (messageBytes Prune) at (now out) ⌝ }
     ensures { λ r. ⌜ Wrote (messageBytes Prune) (now (out .entry)) at (now (out .exit)) r ⌝ }
 {
-    put_byte(out, at, 1)
+    number::put_byte(out, at, 1)
 }
 
 // Writes a message: "2 Graft (byte 0, or 1 and identifier; round)".
@@ -129,9 +97,9 @@ fn put_graft(out: &mut [u8], at: usize, wanted: Wanted, round: Round) -> usize
     requires { ⌜ Room (messageBytes (Graft (wantedValue wanted) (round .0))) at (now out) ⌝ }
     ensures { λ r. ⌜ Wrote (messageBytes (Graft (wantedValue wanted) (round .0))) (now (out .entry)) at (now (out .exit)) r ⌝ }
 {
-    let wanted_at = put_byte(out, at, 2);
+    let wanted_at = number::put_byte(out, at, 2);
     let round_at = put_wanted(out, wanted_at, wanted);
-    put_round(out, round_at, round)
+    number::put_round(out, round_at, round)
 }
 
 // Writes the beginning of a message: "3 IHave (count, ..". `put_ihave` for each entry makes it whole.
@@ -139,8 +107,8 @@ fn put_ihave_head(out: &mut [u8], at: usize, count: usize) -> usize
     requires { ⌜ Room (ihaveHead count) at (now out) ⌝ }
     ensures { λ r. ⌜ Wrote (ihaveHead count) (now (out .entry)) at (now (out .exit)) r ⌝ }
 {
-    let count_at = put_byte(out, at, 3);
-    put_number(out, count_at, count as u64)
+    let count_at = number::put_byte(out, at, 3);
+    number::put_number(out, count_at, count as u64)
 }
 
 // Writes an entry of an IHave: "identifier and round each".
@@ -149,7 +117,7 @@ pub fn put_ihave(out: &mut [u8], at: usize, id: Id, round: Round) -> usize
     ensures { λ r. ⌜ Wrote (ihaveBytes (record { id = idOf id; round = round .0 })) (now (out .entry)) at (now (out .exit)) r ⌝ }
 {
     let hops_at = put_id(out, at, id);
-    put_round(out, hops_at, round)
+    number::put_round(out, hops_at, round)
 }
 
 // Writes a timer: "0 SendGraft with identifier, 1 DispatchLazyPush, 2 EvictCache, 3 AnnounceDropped".
@@ -159,12 +127,12 @@ fn put_timer(out: &mut [u8], at: usize, timer: Timer) -> usize
 {
     match timer {
         Timer::SendGraft(id) => {
-            let id_at = put_byte(out, at, 0);
+            let id_at = number::put_byte(out, at, 0);
             put_id(out, id_at, id)
         }
-        Timer::DispatchLazyPush => put_byte(out, at, 1),
-        Timer::EvictCache => put_byte(out, at, 2),
-        Timer::AnnounceDropped => put_byte(out, at, 3),
+        Timer::DispatchLazyPush => number::put_byte(out, at, 1),
+        Timer::EvictCache => number::put_byte(out, at, 2),
+        Timer::AnnounceDropped => number::put_byte(out, at, 3),
     }
 }
 
@@ -174,9 +142,9 @@ fn put_taken(out: &mut [u8], at: usize, taken: bool) -> usize
     ensures { λ r. ⌜ Wrote (takenByte taken ∷ []) (now (out .entry)) at (now (out .exit)) r ⌝ }
 {
     if taken {
-        put_byte(out, at, 0)
+        number::put_byte(out, at, 0)
     } else {
-        put_byte(out, at, 1)
+        number::put_byte(out, at, 1)
     }
 }
 
@@ -185,8 +153,8 @@ fn put_send(out: &mut [u8], at: usize, peer: u64, taken: bool) -> usize
     requires { ⌜ Room (sendHead peer taken) at (now out) ⌝ }
     ensures { λ r. ⌜ Wrote (sendHead peer taken) (now (out .entry)) at (now (out .exit)) r ⌝ }
 {
-    let peer_at = put_byte(out, at, 1);
-    let taken_at = put_number(out, peer_at, peer);
+    let peer_at = number::put_byte(out, at, 1);
+    let taken_at = number::put_number(out, peer_at, peer);
     put_taken(out, taken_at, taken)
 }
 
@@ -246,8 +214,8 @@ pub fn put_schedule(out: &mut [u8], at: usize, delay: Millis, timer: Timer) -> u
     requires { ⌜ Room (actionBytes (Scheduled (delay .0) (timerValue timer))) at (now out) ⌝ }
     ensures { λ r. ⌜ Wrote (actionBytes (Scheduled (delay .0) (timerValue timer))) (now (out .entry)) at (now (out .exit)) r ⌝ }
 {
-    let delay_at = put_byte(out, at, 2);
-    let timer_at = put_number(out, delay_at, delay.0);
+    let delay_at = number::put_byte(out, at, 2);
+    let timer_at = number::put_number(out, delay_at, delay.0);
     put_timer(out, timer_at, timer)
 }
 
@@ -256,8 +224,8 @@ pub fn put_emit(out: &mut [u8], at: usize, peer: u64, content: &[u8], delivery: 
     requires { ⌜ Room (actionBytes (Emitted peer (now content) (deliveryValue delivery))) at (now out) ⌝ }
     ensures { λ r. ⌜ Wrote (actionBytes (Emitted peer (now (content .entry)) (deliveryValue delivery))) (now (out .entry)) at (now (out .exit)) r ⌝ }
 {
-    let peer_at = put_byte(out, at, 3);
-    let content_at = put_number(out, peer_at, peer);
+    let peer_at = number::put_byte(out, at, 3);
+    let content_at = number::put_number(out, peer_at, peer);
     let delivery_at = put_content(out, content_at, content);
     put_delivery(out, delivery_at, delivery)
 }

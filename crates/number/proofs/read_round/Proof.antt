@@ -6,8 +6,8 @@ use borrow.Author.Needs.{needs}
 use lib.ListN.{drop}
 use Rattle.postcard.specs.Number.{readRound}
 use Rattle.postcard.proofs.FieldBack.{bytes-each, bytes-drop, groups-bound}
-use Rattle.decode.proofs.number.read_round.Statement.{statement}
-use Rattle.decode.proofs.number.read_round.Tie as tie
+use Rattle.number.proofs.read_round.Statement.{statement}
+use Rattle.number.proofs.read_round.Tie as tie
 
 read-groups-requires : tie.Need-read-groups-requires
 read-groups-requires c κs = search needs

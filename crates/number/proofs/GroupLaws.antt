@@ -16,7 +16,7 @@ use Rattle.lists.specs.Base.{if_then_else_}
 use Rattle.lists.proofs.MapLaws.{cases}
 use Rattle.postcard.specs.Number.{Read, got, fault, _then_, lastGroup, readGroups}
 use Rattle.postcard.specs.Place.{Placed, placed, refused, readIn, Inside, Reads}
-use Rattle.decode.specs.Readings.{lastAt}
+use Rattle.number.specs.Readings.{lastAt}
 
 -- a number read above lower groups that make `low`
 unfoldable pub raised : ℕ → ℕ → Read ℕ → Read ℕ

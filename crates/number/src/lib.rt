@@ -2,11 +2,13 @@
 use postcard::units::Round;
 ghost use mathlib.Core.Path.{_≡_};
 ghost use mathlib.Core.Bool.{true};
+ghost use mathlib.Core.List.{[], _∷_};
 ghost use Prim.Native.Nat.{_+_, _*_, _^_, _≤_, _<_};
 ghost use lib.ListN.{drop};
-ghost use Rattle.postcard.specs.Number.{readGroups, readNumber, readRound};
+ghost use Rattle.postcard.specs.Number.{numberBytes, readGroups, readNumber, readRound};
+ghost use Rattle.postcard.specs.Output.{Room, Wrote};
 ghost use Rattle.postcard.specs.Place.{Reads};
-ghost use Rattle.decode.specs.Readings.{numberAt, roundAt, lastAt};
+ghost use Rattle.number.specs.Readings.{numberAt, roundAt, lastAt};
 
 // What reading a number of 64 bits gives: the number and the place after it, or the question that is answered no (7 or 8).
 pub enum NumberRead {
@@ -76,14 +78,14 @@ fn read_groups(bytes: &[u8], at: usize, more: usize, top: u64) -> NumberRead
 }
 
 // A number of 64 bits at `at` ("peer, time, length and count 64"): ten bytes at most, the tenth up to 1.
-pub(crate) fn read_number(bytes: &[u8], at: usize) -> NumberRead
+pub fn read_number(bytes: &[u8], at: usize) -> NumberRead
     ensures { λ r. ⌜ Reads (now (bytes .entry)) (numberAt r) (readNumber (drop at (now (bytes .entry)))) ⌝ }
 {
     read_groups(bytes, at, 9, 1)
 }
 
 // A round at `at` ("round 16 bits"): three bytes at most, the third up to 3.
-pub(crate) fn read_round(bytes: &[u8], at: usize) -> RoundRead
+pub fn read_round(bytes: &[u8], at: usize) -> RoundRead
     ensures { λ r. ⌜ Reads (now (bytes .entry)) (roundAt r) (readRound (drop at (now (bytes .entry)))) ⌝ }
 {
     let number = read_groups(bytes, at, 2, 3);
@@ -94,4 +96,36 @@ pub(crate) fn read_round(bytes: &[u8], at: usize) -> RoundRead
         },
         NumberRead::Fault(n) => RoundRead::Fault(n),
     }
+}
+
+// Writes a byte.
+pub fn put_byte(out: &mut [u8], at: usize, b: u8) -> usize
+    requires { ⌜ Room (b ∷ []) at (now out) ⌝ }
+    ensures { λ r. ⌜ Wrote (b ∷ []) (now (out .entry)) at (now (out .exit)) r ⌝ }
+{
+    out[at] = b;
+    at + 1
+}
+
+// Writes a number of 16 or 64 bits: "Groups of seven bits, low first, high bit on all but the last".
+pub fn put_number(out: &mut [u8], at: usize, v: u64) -> usize
+    requires { ⌜ Room (numberBytes v) at (now out) ⌝ }
+    ensures { λ r. ⌜ Wrote (numberBytes v) (now (out .entry)) at (now (out .exit)) r ⌝ }
+{
+    let mut w = v;
+    let mut i = at;
+    while 128 <= w {
+        out[i] = (w % 128 + 128) as u8;
+        w = w / 128;
+        i += 1;
+    }
+    put_byte(out, i, w as u8)
+}
+
+// Writes a round.
+pub fn put_round(out: &mut [u8], at: usize, round: Round) -> usize
+    requires { ⌜ Room (numberBytes (round .0)) at (now out) ⌝ }
+    ensures { λ r. ⌜ Wrote (numberBytes (round .0)) (now (out .entry)) at (now (out .exit)) r ⌝ }
+{
+    put_number(out, at, round.0 as u64)
 }

@@ -4,9 +4,9 @@ use Prim.Native.Nat.{_*_, _-_, _^_, _≤_, _<_}
 use mathlib.Core.Path.{_≡_}
 use native.Mathlib.Omega.{arith}
 use borrow.Author.Needs.{needs}
-use Rattle.decode.proofs.GroupLaws.{Passed, passed-none, passed-more, passed-last, passed-end, room-last, room-group, group-most, groups-last, groups-short}
-use Rattle.decode.proofs.number.read_groups.Statement.{statement}
-use Rattle.decode.proofs.number.read_groups.Tie as tie
+use Rattle.number.proofs.GroupLaws.{Passed, passed-none, passed-more, passed-last, passed-end, room-last, room-group, group-most, groups-last, groups-short}
+use Rattle.number.proofs.read_groups.Statement.{statement}
+use Rattle.number.proofs.read_groups.Tie as tie
 
 abbrev Inv-loop : tie.InvT-loop
 Inv-loop bytes at more top low₀ scale₀ least₀ place₀ left₀ low scale least place left = Passed bytes at more top low scale least place left

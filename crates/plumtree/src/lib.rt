@@ -9,6 +9,16 @@ use machine::event;
 use machine::event::Outcome;
 use postcard::units::Millis;
 use whole::create;
+ghost use mathlib.Core.Path.{_≡_};
+ghost use mathlib.Core.List.{[]};
+ghost use lib.ListN.{length};
+ghost use Rattle.protocol.specs.Alike.{alikeBlocks};
+ghost use Rattle.block.specs.View.{limitsOf};
+ghost use Rattle.whole.specs.Held.{held};
+ghost use Rattle.machine.specs.Called.{countsOf, lent, Called};
+ghost use Rattle.machine.specs.Core.{callOf};
+ghost use Rattle.plumtree.specs.Calls.{blockSize, Made, toldOf};
+ghost use Rattle.plumtree.specs.Rooms.{entries};
 
 // An entry of a call's link room: how many sends to the peer its link takes.
 #[repr(C)]
@@ -33,7 +43,9 @@ pub struct Likeness {
 
 // The bytes that question 4 asks of a block with these limits; 0 where question 3 is answered no.
 #[no_mangle]
-pub extern "C" fn plumtree_block_size(limits: Limits) -> usize {
+pub extern "C" fn plumtree_block_size(limits: Limits) -> usize
+    ensures { λ r. ⌜ r ≡ blockSize (limitsOf limits) ⌝ }
+{
     let range = create::limits_in_range(limits);
     if !range {
         return 0;
@@ -42,7 +54,9 @@ pub extern "C" fn plumtree_block_size(limits: Limits) -> usize {
 }
 
 // A creation, with the counts by value: zero once it is accepted.
-pub fn create_core(block: &mut [u8], c: Stats, settings: Settings, limits: Limits) -> Outcome {
+pub fn create_core(block: &mut [u8], c: Stats, settings: Settings, limits: Limits) -> Outcome
+    ensures { λ r. ⌜ Made settings limits (now (block .entry)) (countsOf c) (now (block .exit)) (countsOf (r .stats)) (r .number) (r .length) ⌝ }
+{
     let number = create::create(block, settings, limits);
     if number == 0 {
         let zero = Stats {
@@ -70,7 +84,9 @@ pub extern "C" fn plumtree_create(
     counts: &mut Stats,
     settings: Settings,
     limits: Limits,
-) -> Answer {
+) -> Answer
+    ensures { λ r. ⌜ Made settings limits (now (block .entry)) (countsOf (now (counts .entry))) (now (block .exit)) (countsOf (now (counts .exit))) (r .number) (r .length) ⌝ }
+{
     let c = *counts;
     let o = create_core(block, c, settings, limits);
     if o.number == 0 {
@@ -89,7 +105,9 @@ pub fn event_unbounded(
     at: Millis,
     event: &[u8],
     output: &mut [u8],
-) -> Outcome {
+) -> Outcome
+    ensures { λ r. ⌜ Called (callOf (at .0) (now (event .entry)) [] (now (output .entry))) (lent (now (block .entry)) c (now (output .entry))) (lent (now (block .exit)) (r .stats) (now (output .exit))) (r .number) (r .length) ⌝ }
+{
     event::event_core(block, c, at, event, [65536; 34], output)
 }
 
@@ -102,7 +120,9 @@ pub extern "C" fn plumtree_event(
     event: &[u8],
     rooms: &[LinkRoom],
     output: &mut [u8],
-) -> Answer {
+) -> Answer
+    ensures { λ r. ⌜ Called (callOf (at .0) (now (event .entry)) (entries (now (rooms .entry))) (now (output .entry))) (lent (now (block .entry)) (now (counts .entry)) (now (output .entry))) (lent (now (block .exit)) (now (counts .exit)) (now (output .exit))) (r .number) (r .length) ⌝ }
+{
     let peers = peers::peers_in(block, event);
     let found = rooms::rooms_of(rooms, peers);
     let c = *counts;
@@ -118,7 +138,9 @@ pub extern "C" fn plumtree_event(
 
 // *Alike*, "of two blocks (5 for either)".
 #[no_mangle]
-pub extern "C" fn plumtree_alike(a: &[u8], b: &[u8]) -> Likeness {
+pub extern "C" fn plumtree_alike(a: &[u8], b: &[u8]) -> Likeness
+    ensures { λ r. ⌜ r ≡ toldOf (alikeBlocks (length (now (a .entry))) (held (now (a .entry))) (length (now (b .entry))) (held (now (b .entry)))) ⌝ }
+{
     let answer = alike::alike(a, b);
     match answer {
         alike::Answer::NotWhole => Likeness {

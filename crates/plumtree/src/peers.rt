@@ -2,9 +2,12 @@
 use postcard::number;
 use postcard::number::NumberRead;
 use rows::word;
+ghost use Rattle.plumtree.specs.Peers.{Sender, LinkPeers, Peers};
 
 // The sender of a received message, read with no look at the rest of the event; 0 for other events.
-fn sender(event: &[u8]) -> u64 {
+fn sender(event: &[u8]) -> u64
+    ensures { λ r. ⌜ Sender (now (event .entry)) r ⌝ }
+{
     if event.len() == 0 {
         return 0;
     }
@@ -19,7 +22,9 @@ fn sender(event: &[u8]) -> u64 {
 }
 
 // The peers in the 32 places where a block may have links, whether it has them or not.
-fn link_peers(block: &[u8]) -> [u64; 34] {
+fn link_peers(block: &[u8]) -> [u64; 34]
+    ensures { λ r. ⌜ LinkPeers (now (block .entry)) r ⌝ }
+{
     let mut peers = [0; 34];
     if block.len() < 2560 {
         return peers;
@@ -33,7 +38,9 @@ fn link_peers(block: &[u8]) -> [u64; 34] {
 }
 
 // The peer of each link by its number, and at 32 that of the event.
-pub fn peers_in(block: &[u8], event: &[u8]) -> [u64; 34] {
+pub fn peers_in(block: &[u8], event: &[u8]) -> [u64; 34]
+    ensures { λ r. ⌜ Peers (now (block .entry)) (now (event .entry)) r ⌝ }
+{
     let mut peers = link_peers(block);
     peers[32] = sender(event);
     peers

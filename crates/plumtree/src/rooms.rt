@@ -1,5 +1,11 @@
 // The link room that a call is lent: "The first entry for a peer counts, a peer without one has no bound".
 use crate::LinkRoom;
+ghost use mathlib.Core.Path.{_≡_};
+ghost use Prim.Native.Nat.{_<_};
+ghost use lib.ListN.{getD};
+ghost use Rattle.decide.specs.Rooms.{firstRoom};
+ghost use Rattle.steps.specs.Rooms.{roomAt};
+ghost use Rattle.plumtree.specs.Rooms.{entries, roomOf, Placed, Found};
 
 // How many sends a peer's link takes.
 pub enum Room {
@@ -8,7 +14,9 @@ pub enum Room {
 }
 
 // The room of the peer's first entry.
-pub fn room_of(rooms: &[LinkRoom], peer: u64) -> Room {
+pub fn room_of(rooms: &[LinkRoom], peer: u64) -> Room
+    ensures { λ r. ⌜ roomOf r ≡ firstRoom peer (entries (now (rooms .entry))) ⌝ }
+{
     let mut i = 0;
     while i < rooms.len() {
         let e = rooms[i];
@@ -21,7 +29,9 @@ pub fn room_of(rooms: &[LinkRoom], peer: u64) -> Room {
 }
 
 // A room as a number: 65,536 is no bound.
-fn room_number(r: Room) -> u64 {
+fn room_number(r: Room) -> u64
+    ensures { λ n. ⌜ roomAt n ≡ roomOf r ⌝ }
+{
     match r {
         Room::Unbounded => 65536,
         Room::Bounded(n) => n as u64,
@@ -31,6 +41,7 @@ fn room_number(r: Room) -> u64 {
 // The peer in place i.
 pub fn peer_at(peers: [u64; 34], i: usize) -> u64
     requires { ⌜ i < 34 ⌝ }
+    ensures { λ r. ⌜ r ≡ getD peers i 0 ⌝ }
 {
     peers[i]
 }
@@ -38,6 +49,7 @@ pub fn peer_at(peers: [u64; 34], i: usize) -> u64
 // The rooms with that of place i.
 pub fn with_room(rooms: [u64; 34], i: usize, r: Room) -> [u64; 34]
     requires { ⌜ i < 34 ⌝ }
+    ensures { λ a. ⌜ Placed rooms i r a ⌝ }
 {
     let mut a = rooms;
     a[i] = room_number(r);
@@ -45,7 +57,9 @@ pub fn with_room(rooms: [u64; 34], i: usize, r: Room) -> [u64; 34]
 }
 
 // Each peer's room, in the peer's place.
-pub fn rooms_of(rooms: &[LinkRoom], peers: [u64; 34]) -> [u64; 34] {
+pub fn rooms_of(rooms: &[LinkRoom], peers: [u64; 34]) -> [u64; 34]
+    ensures { λ r. ⌜ Found (now (rooms .entry)) peers r ⌝ }
+{
     let mut a = peers;
     let mut i = 0;
     while i < 34 {

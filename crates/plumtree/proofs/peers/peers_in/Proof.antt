@@ -1,0 +1,3 @@
+use Rattle.plumtree.proofs.peers.peers_in.Statement.{statement}
+pub peers-in-spec : {M : Type 1} → statement M
+peers-in-spec = ?

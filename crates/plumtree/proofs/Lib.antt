@@ -1,1 +1,3 @@
-
+pub mod Turns
+pub mod Shared
+pub mod RoomLaws

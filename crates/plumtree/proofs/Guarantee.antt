@@ -24,8 +24,8 @@ use Rattle.block.specs.declared.head.Limits.{Limits}
 use Rattle.whole.specs.Held.{held}
 use Rattle.whole.specs.Creation.{Creation, Creates, Refused as NotMade, Accepted as Made}
 use Rattle.whole.proofs.CreateLaws.{create-0, create-1, create-2, create-3, create-4}
 use Rattle.machine.specs.Called.{Lent, Finds}
-use Rattle.machine.specs.Chain.{Seen, Chain, done, next, seenOf, Guaranteed, Guarantee}
+use Rattle.plumtree.specs.Chain.{Seen, Chain, done, next, seenOf, Guaranteed, Guarantee}
 
 -- the block holds this state, and is long enough for it
 record Holds (block : List ℕ) (s : State) : Type 0 where

@@ -1,3 +1,0 @@
-use Rattle.plumtree.proofs.rooms.room_number.Statement.{statement}
-pub room-number-spec : {M : Type 1} → statement M
-room-number-spec = ?

@@ -47,6 +47,9 @@ is-false : (b : Bool) → T (not b) → b ≡ false
 is-false true h = absurd h
 is-false false h = refl
 
+pub not-eq : (m n : ℕ) → T (not (eqb m n)) → m ≡ n → ⊥
+not-eq m n h = eqb-false m n (is-false (eqb m n) h)
+
 -- the comparison turned round
 turned : (m n : ℕ) → eqb m n ≡ eqb n m
 turned m n = cases (eqb m n) (λ e. e ∙ sym (eq-eqb n m (sym (eqb-true m n e)))) (λ e. e ∙ sym (ne-eqb n m (λ q. eqb-false m n e (sym q))))

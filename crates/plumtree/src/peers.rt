@@ -1,6 +1,5 @@
 // The peers to whom a call can send: those of the links, and the sender of the message that it brings.
-use postcard::number;
-use postcard::number::NumberRead;
+use number::NumberRead;
 use rows::word;
 ghost use Rattle.plumtree.specs.Peers.{Sender, LinkPeers, Peers};
 

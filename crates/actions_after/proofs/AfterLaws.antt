@@ -87,13 +87,6 @@ pub held-there : (h : Head) (xs : List ℕ) (id : ℕ) (found : Option Cached) (
 held-there h xs id found (At i) fit e = omega (arith, e .below, count-cached h xs fit)
 held-there h xs id found Nothing fit e = tt
 
--- a part of the event
-pub part-of : (bytes : List ℕ) (start len : ℕ) → take (start + len - start) (drop start bytes) ≡ part start len bytes
-unfolding part
-part-of bytes start len =
-    let e : start + len - start ≡ len = omega arith in
-    ap (λ (n : ℕ). take n (drop start bytes)) e
-
 -- the actions of each step
 module _ (event : List ℕ) (instant : ℕ) (rooms : List ℕ) (s : State) where
   abbrev room : List Room
@@ -171,7 +164,5 @@ unfolding stepFar
 not-far sender id start len round e = e
 
 -- a message that is emitted
-pub emit-one : (event : List ℕ) (sender start len : ℕ)
-    → concatMap actionBytes (Emitted sender (part start len event) Neighbors ∷ []) ≡ actionBytes (Emitted sender (take (start + len - start) (drop start event)) Neighbors)
-emit-one event sender start len =
-    one-action (Emitted sender (part start len event) Neighbors) ∙ ap (λ (l : List ℕ). actionBytes (Emitted sender l Neighbors)) (sym (part-of event start len))
+pub emit-one : (event : List ℕ) (sender start len : ℕ) → concatMap actionBytes (Emitted sender (part start len event) Neighbors ∷ []) ≡ actionBytes (Emitted sender (part start len event) Neighbors)
+emit-one event sender start len = one-action (Emitted sender (part start len event) Neighbors)

@@ -4,6 +4,8 @@ use block::head::Head;
 use dispatch::actions;
 use eager::reply;
 use kinds::Step;
+use postcard::content;
+use postcard::content::Content;
 use postcard::message::Delivery;
 use postcard::message::Scope;
 use postcard::message::Wanted;
@@ -30,13 +32,14 @@ ghost use Rattle.actions_after.specs.After.{graftBytes, newBytes, stepBy
 
 // The actions of a Graft from the neighbour of a link: the reply, if an identifier is asked for and its message is cached once a first event has evicted. Its
 // time is that of a look-up in the message cache, and of the content.
-pub fn graft_actions(
+pub fn graft_actions<'a>(
     h: Head,
-    block: &[u8],
+    block: &'a [u8],
     instant: Millis,
     rooms: &[u64; 34],
     out: &mut [u8],
     at: usize,
+    event: &'a [u8],
     link: usize,
     wanted: Wanted,
 ) -> usize
@@ -48,16 +51,17 @@ pub fn graft_actions(
         Wanted::Nothing => at,
         Wanted::Message(id) => {
             let held = settled::cached_then(h, block, instant, id);
-            reply::reply_sends(h, block, rooms, out, at, link, id, held)
+            reply::reply_sends(h, block, rooms, out, at, event, link, id, held)
         }
     }
 }
 
 // A new Neighbors message: it is emitted. Linear in the content.
-fn emit_neighbors(
+fn emit_neighbors<'a>(
+    block: &'a [u8],
     out: &mut [u8],
     at: usize,
-    event: &[u8],
+    event: &'a [u8],
     sender: u64,
     start: usize,
     len: usize,
@@ -65,19 +69,19 @@ fn emit_neighbors(
     requires { ⌜ ContentHeld (now event) start len × Told (concatMap actionBytes (Emitted sender (part start len (now event)) Neighbors ∷ [])) at ⌝ }
     ensures { λ r. ⌜ Written (concatMap actionBytes (Emitted sender (part start len (now (event .entry))) Neighbors ∷ [])) (now (out .entry)) at (now (out .exit)) r ⌝ }
 {
-    let end = start + len;
-    output::emit(out, at, sender, &event[start..end], Delivery::Neighbors)
+    let content = content::content_part(event, block, Content::InEvent { start, len });
+    output::emit(out, at, sender, content, Delivery::Neighbors)
 }
 
 // The actions of a new Swarm message, whose content is a part of the event. Its time is that of `new_actions`.
-fn new_swarm(
+fn new_swarm<'a>(
     h: Head,
-    block: &[u8],
+    block: &'a [u8],
     instant: Millis,
     rooms: &[u64; 34],
     out: &mut [u8],
     at: usize,
-    event: &[u8],
+    event: &'a [u8],
     sender: u64,
     id: Id,
     start: usize,
@@ -88,7 +92,7 @@ fn new_swarm(
     requires { ⌜ Told (newBytes (instant .0) (now rooms) sender (idOf id) (part start len (now event)) (round .0) (stateOf h (now block))) at ⌝ }
     ensures { λ r. ⌜ Written (newBytes (instant .0) (now (rooms .entry)) sender (idOf id) (part start len (now (event .entry))) (round .0) (stateOf h (now (block .entry)))) (now (out .entry)) at (now (out .exit)) r ⌝ }
 {
-    let end = start + len;
+    let content = content::content_part(event, block, Content::InEvent { start, len });
     gossip::new_actions(
         h,
         block,
@@ -98,20 +102,20 @@ fn new_swarm(
         at,
         sender,
         id,
-        &event[start..end],
+        content,
         round,
     )
 }
 
 // The actions of a broadcast, whose content is a part of the event. Its time is that of one pass over the links.
-fn send_broadcast(
+fn send_broadcast<'a>(
     h: Head,
-    block: &[u8],
+    block: &'a [u8],
     instant: Millis,
     rooms: &[u64; 34],
     out: &mut [u8],
     at: usize,
-    event: &[u8],
+    event: &'a [u8],
     id: Id,
     start: usize,
     len: usize,
@@ -121,27 +125,17 @@ fn send_broadcast(
     requires { ⌜ Told (broadcastBytes (instant .0) (now rooms) (idOf id) (part start len (now event)) (scopeValue scope) (stateOf h (now block))) at ⌝ }
     ensures { λ r. ⌜ Written (broadcastBytes (instant .0) (now (rooms .entry)) (idOf id) (part start len (now (event .entry))) (scopeValue scope) (stateOf h (now (block .entry)))) (now (out .entry)) at (now (out .exit)) r ⌝ }
 {
-    let end = start + len;
-    broadcast::broadcast_actions(
-        h,
-        block,
-        instant,
-        rooms,
-        out,
-        at,
-        id,
-        &event[start..end],
-        scope,
-    )
+    let content = content::content_part(event, block, Content::InEvent { start, len });
+    broadcast::broadcast_actions(h, block, instant, rooms, out, at, id, content, scope)
 }
 
 // The actions of the step of an event, once a first event has evicted. Its time is that of the function of the step.
-pub fn step_actions(
+pub fn step_actions<'a>(
     h: Head,
-    block: &[u8],
+    block: &'a [u8],
     instant: Millis,
     rooms: &[u64; 34],
-    event: &[u8],
+    event: &'a [u8],
     step: Step,
     out: &mut [u8],
     at: usize,
@@ -173,7 +167,7 @@ pub fn step_actions(
             round,
         ),
         Step::NewNeighbors { sender, start, len } => {
-            emit_neighbors(out, at, event, sender, start, len)
+            emit_neighbors(block, out, at, event, sender, start, len)
         }
         Step::Late {
             sender,
@@ -182,7 +176,7 @@ pub fn step_actions(
         } => late::late_actions(h, block, instant, rooms, out, at, sender, id, delivery),
         Step::Prune { link: _ } => at,
         Step::Graft { link, wanted } => {
-            graft_actions(h, block, instant, rooms, out, at, link, wanted)
+            graft_actions(h, block, instant, rooms, out, at, event, link, wanted)
         }
         Step::IHave {
             link: _,
@@ -225,12 +219,12 @@ pub fn step_actions(
 }
 
 // The actions of a call: a first event's timer, then those of the step. Its time is that of the function of the step.
-pub fn call_actions(
+pub fn call_actions<'a>(
     h: Head,
-    block: &[u8],
+    block: &'a [u8],
     instant: Millis,
     rooms: &[u64; 34],
-    event: &[u8],
+    event: &'a [u8],
     step: Step,
     out: &mut [u8],
 ) -> usize

@@ -108,11 +108,8 @@ unfolding replyActions heldCached concatMap
 reply-no-bytes array l id s = refl
 
 -- the content is the part of the block that holds it
-pub content-part : (h : Head) (xs : List ℕ) (i : ℕ) (r : Content) (a e : ℕ) → ContentIs h xs i r → a ≡ place (limitsOf (h .limits)) 6 + r .start → e ≡ a + r .len → take (e - a) (drop a xs) ≡ cachedAt (stateOf h xs) i .content
-unfolding part
-content-part h xs i r a e c ea ee =
-    let n : e - a ≡ r .len = omega (arith, ee) in
-    (λ k. take (n k) (drop (ea k) xs)) ∙ sym (c .same)
+pub content-held : (h : Head) (xs : List ℕ) (i : ℕ) (r : Content) (a : ℕ) → ContentIs h xs i r → a ≡ place (limitsOf (h .limits)) 6 + r .start → part a (r .len) xs ≡ cachedAt (stateOf h xs) i .content
+content-held h xs i r a c e = ap (λ (n : ℕ). part n (r .len) xs) e ∙ sym (c .same)
 
 -- what is found for an identifier is what stands at the number
 pub held-cached : (s : State) (id : ℕ) (found : Option Cached) (k : Held) → HeldIs (entry 0 (record { expires = 0; value = record { content = []; round = 0 } })) (s .cache .entries) id found k → found ≡ heldCached k s

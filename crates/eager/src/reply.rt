@@ -5,6 +5,8 @@ use block::head;
 use block::head::Head;
 use block::links;
 use caches::cached;
+use postcard::content;
+use postcard::content::Content;
 use postcard::message::Delivery;
 use postcard::message::Timer;
 use postcard::units::Millis;
@@ -97,13 +99,14 @@ fn send_one(
     output::schedule(out, to, Millis(1000), Timer::AnnounceDropped)
 }
 
-// The actions of the reply, given the cached message, if any: its content is the part of the block that holds it.
-pub fn reply_sends(
+// The actions of the reply, given the cached message, if any: "The content is the part of the event or of the store that holds it", here of the store.
+pub fn reply_sends<'a>(
     h: Head,
-    block: &[u8],
+    block: &'a [u8],
     rooms: &[u64; 34],
     out: &mut [u8],
     at: usize,
+    event: &'a [u8],
     link: usize,
     id: Id,
     held: Held,
@@ -116,9 +119,10 @@ pub fn reply_sends(
         Held::At(i) => {
             let round = cached::cached_round(h, block, i);
             let c = cached::cached_content(h, block, i);
-            let a = head::contents_at(h.limits) + c.start;
-            let e = a + c.len;
-            send_one(h, block, rooms, out, at, link, id, &block[a..e], round)
+            let start = head::contents_at(h.limits) + c.start;
+            let place = Content::InStore { start, len: c.len };
+            let content = content::content_part(event, block, place);
+            send_one(h, block, rooms, out, at, link, id, content, round)
         }
         Held::Nothing => at,
     }

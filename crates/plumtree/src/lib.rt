@@ -88,13 +88,13 @@ pub extern "C" fn plumtree_create(
     ensures { λ r. ⌜ Made settings limits (now (block .entry)) (countsOf (now (counts .entry))) (now (block .exit)) (countsOf (now (counts .exit))) (r .number) (r .length) ⌝ }
 {
     let c = *counts;
-    let o = create_core(block, c, settings, limits);
-    if o.number == 0 {
-        *counts = o.stats;
+    let made = create_core(block, c, settings, limits);
+    if made.number == 0 {
+        *counts = made.stats;
     }
     Answer {
-        number: o.number,
-        length: o.length,
+        number: made.number,
+        length: made.length,
     }
 }
 
@@ -126,13 +126,13 @@ pub extern "C" fn plumtree_event(
     let peers = peers::peers_in(block, event);
     let found = rooms::rooms_of(rooms, peers);
     let c = *counts;
-    let o = event::event_core(block, c, at, event, found, output);
-    if o.number == 0 {
-        *counts = o.stats;
+    let done = event::event_core(block, c, at, event, found, output);
+    if done.number == 0 {
+        *counts = done.stats;
     }
     Answer {
-        number: o.number,
-        length: o.length,
+        number: done.number,
+        length: done.length,
     }
 }
 

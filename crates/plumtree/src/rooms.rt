@@ -13,7 +13,7 @@ pub enum Room {
     Bounded(u16),
 }
 
-// The room of the peer's first entry.
+// The room of the peer's first entry, or none.
 pub fn room_of(rooms: &[LinkRoom], peer: u64) -> Room
     ensures { λ r. ⌜ roomOf r ≡ firstRoom peer (entries (now (rooms .entry))) ⌝ }
 {

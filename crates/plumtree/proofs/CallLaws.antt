@@ -5,11 +5,10 @@ use native.Mathlib.Omega.{arith}
 use mathlib.Core.Path.{_≡_, refl, sym, ap, subst, _∙_}
 use mathlib.Core.Bool.{Bool, true, false, not, _||_}
 use mathlib.Core.List.{List, [], _∷_}
-use mathlib.Core.Option.{none}
-use lib.Dec.{T, leb, eqb}
+use lib.Dec.{leb, eqb}
 use lib.ListN.{length, getD, set, replicate, length-map}
 use lib.Seq.{getD-set-same, getD-set-other}
-use borrow.Author.Tests.{leb-true, leb-false, eqb-true, eqb-false, eq-eqb}
+use borrow.Author.Tests.{leb-true, leb-false, eqb-true}
 use Rattle.lists.specs.Base.{if_then_else_, member}
 use Rattle.lists.specs.Map.{keys}
 use Rattle.lists.proofs.MapLaws.{cases, true≢}
@@ -34,7 +33,7 @@ use Rattle.whole.proofs.HeldLaws.{Wholly, wholly-of}
 use Rattle.machine.specs.declared.Stats.{Stats}
 use Rattle.machine.specs.Called.{countsOf, Lent, lent, Finds, Called}
 use Rattle.machine.specs.Core.{peerIn, coreRooms, callOf}
-use Rattle.machine.specs.Decided.{lastDecided, decided}
+use Rattle.machine.specs.Decided.{decided}
 use Rattle.machine.proofs.CoreLaws.{answer-5, answer-6, answer-fault, answer-event, begun-of}
 use Rattle.machine.proofs.DecidedLaws.{decided-rooms}
 use Rattle.plumtree.specs.declared.LinkRoom.{LinkRoom}

@@ -9,7 +9,7 @@ use lib.ListN.{length, take}
 use Rattle.rows.specs.Part.{part, put}
 use Rattle.rows.proofs.Parts.{part-put}
 use Rattle.blake3.specs.Blake3.{identifier}
-use Rattle.protocol.specs.State.{State, Counts, Created, create, fresh, zeroCounts}
+use Rattle.protocol.specs.State.{State, Counts, Created, fresh, zeroCounts}
 use Rattle.protocol.specs.Whole.{longEnough}
 use Rattle.protocol.specs.Answer.{Call, Answer, refuse, accept, Outcome, outcome, outputOf, askWhole, answerBlock}
 use Rattle.protocol.specs.Calls.{runCalls, stateAfter, countsAfter, prepend}

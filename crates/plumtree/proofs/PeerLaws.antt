@@ -1,13 +1,11 @@
 -- The peers to whom a call can send: those of the links, and the sender of a received message.
 use Prim.Native.Nat.{ℕ, zero, suc, _≤_, _<_, zero-le}
 use native.Mathlib.Omega.{arith}
-use mathlib.Core.Path.{_≡_, refl, sym, ap, subst, _∙_}
-use mathlib.Core.Bool.{Bool, true, false}
+use mathlib.Core.Path.{_≡_, refl, sym, subst, _∙_}
 use mathlib.Core.List.{List, [], _∷_}
 use lib.Dec.{ltb}
 use lib.ListN.{length, getD, set, drop}
 use lib.Seq.{getD-set-same, getD-set-other}
-use Rattle.lists.specs.Base.{if_then_else_}
 use Rattle.lists.specs.Map.{keys}
 use Rattle.lists.proofs.MapLaws.{cases}
 use Rattle.postcard.specs.Number.{Read, got, fault, _then_, readKind, readNumber}
@@ -16,7 +14,6 @@ use Rattle.postcard.specs.Decode.{Decoded, decoded, faulty, readContent, scopeO
 use Rattle.block.specs.View.{stateOf}
 use Rattle.block.specs.Header.{headIn}
 use Rattle.block.proofs.LinkLaws.{count-links, read-peer}
-use Rattle.whole.specs.Held.{wholeBlock}
 use Rattle.whole.proofs.HeldLaws.{Wholly, wholly-of}
 use Rattle.whole.proofs.CreateLaws.{need-header}
 use Rattle.block.specs.View.{limitsOf}

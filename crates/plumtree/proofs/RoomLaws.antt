@@ -9,7 +9,6 @@ use mathlib.Core.Option.{none, some}
 use lib.Dec.{T, eqb}
 use lib.ListN.{length, getD, drop}
 use borrow.Author.Tests.{eqb-true, eqb-false, eq-eqb, ne-eqb}
-use Rattle.lists.specs.Base.{if_then_else_}
 use Rattle.lists.proofs.MapLaws.{cases}
 use Rattle.decide.specs.Rooms.{firstRoom}
 use Rattle.steps.specs.Rooms.{roomAt}

@@ -22,7 +22,7 @@ pub record Seen : Type 0 where
   pub number : ℕ
   pub bytes : List ℕ
 
--- the calls one after the other, from a block and counts to the last block and counts, with what was seen of each
+-- the calls one after the other, each as `plumtree_event` promises, from a block and counts to the last block and counts, with what was seen of each
 pub data Chain : List ℕ → Counts → List Call → List Seen → List ℕ → Counts → Type 0 where
   done : (block : List ℕ) (counts : Counts) → Chain block counts [] [] block counts
   next : (block : List ℕ) (counts : Counts) (k : Call) (output : List ℕ) (after : Lent) (number long : ℕ) →

@@ -4,7 +4,7 @@ use Prim.Native.Nat.{ℕ, _<_}
 use mathlib.Core.Path.{_≡_}
 use mathlib.Core.List.{List, map}
 use mathlib.Core.Option.{Option, none, some}
-use lib.ListN.{length, getD}
+use lib.ListN.{getD}
 use Rattle.protocol.specs.Run.{Room}
 use Rattle.decide.specs.Rooms.{firstRoom}
 use Rattle.steps.specs.Rooms.{roomAt}

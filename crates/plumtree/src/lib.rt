@@ -41,7 +41,7 @@ pub struct Likeness {
     pub alike: bool,
 }
 
-// The bytes that question 4 asks of a block with these limits; 0 where question 3 is answered no.
+// The bytes that a block with these limits must have, question 4; 0 where question 3, "Is each limit from 1 to its ceiling?", is answered no.
 #[no_mangle]
 pub extern "C" fn plumtree_block_size(limits: Limits) -> usize
     ensures { λ r. ⌜ r ≡ blockSize (limitsOf limits) ⌝ }
@@ -77,7 +77,7 @@ pub fn create_core(block: &mut [u8], c: Stats, settings: Settings, limits: Limit
     }
 }
 
-// A creation: "An accepted creation leaves the state of `State::new`, the counts zero".
+// A creation, questions 1 to 4: "An accepted creation leaves the state of `State::new`, the counts zero and length 0".
 #[no_mangle]
 pub extern "C" fn plumtree_create(
     block: &mut [u8],
@@ -88,17 +88,17 @@ pub extern "C" fn plumtree_create(
     ensures { λ r. ⌜ Made settings limits (now (block .entry)) (countsOf (now (counts .entry))) (now (block .exit)) (countsOf (now (counts .exit))) (r .number) (r .length) ⌝ }
 {
     let c = *counts;
-    let o = create_core(block, c, settings, limits);
-    if o.number == 0 {
-        *counts = o.stats;
+    let made = create_core(block, c, settings, limits);
+    if made.number == 0 {
+        *counts = made.stats;
     }
     Answer {
-        number: o.number,
-        length: o.length,
+        number: made.number,
+        length: made.length,
     }
 }
 
-// An event call with the counts by value, and no bound on any link.
+// An event call with the counts by value and "link room unbounded", for a program.
 pub fn event_unbounded(
     block: &mut [u8],
     c: Stats,
@@ -111,7 +111,8 @@ pub fn event_unbounded(
     event::event_core(block, c, at, event, [65536; 34], output)
 }
 
-// An event call: the room of each peer it can send to is looked up, then it is answered; the counts are stored to only where it is accepted.
+// An event call: the room of each peer to whom it can send is looked up, then questions 5 to 14 are asked. "The counts record is brought up to date by
+// the call"; a refused one leaves it "untouched".
 #[no_mangle]
 pub extern "C" fn plumtree_event(
     block: &mut [u8],
@@ -126,13 +127,13 @@ pub extern "C" fn plumtree_event(
     let peers = peers::peers_in(block, event);
     let found = rooms::rooms_of(rooms, peers);
     let c = *counts;
-    let o = event::event_core(block, c, at, event, found, output);
-    if o.number == 0 {
-        *counts = o.stats;
+    let done = event::event_core(block, c, at, event, found, output);
+    if done.number == 0 {
+        *counts = done.stats;
     }
     Answer {
-        number: o.number,
-        length: o.length,
+        number: done.number,
+        length: done.length,
     }
 }
 

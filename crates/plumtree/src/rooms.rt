@@ -13,7 +13,7 @@ pub enum Room {
     Bounded(u16),
 }
 
-// The room of the peer's first entry.
+// The room of the peer's first entry, or none.
 pub fn room_of(rooms: &[LinkRoom], peer: u64) -> Room
     ensures { λ r. ⌜ roomOf r ≡ firstRoom peer (entries (now (rooms .entry))) ⌝ }
 {
@@ -61,12 +61,12 @@ pub fn rooms_of(rooms: &[LinkRoom], peers: [u64; 34]) -> [u64; 34]
     ensures { λ r. ⌜ Found (now (rooms .entry)) peers r ⌝ }
 {
     let mut a = peers;
-    let mut i = 0;
-    while i < 34 {
-        let p = peer_at(a, i);
+    let mut place = 0;
+    while place < 34 {
+        let p = peer_at(a, place);
         let r = room_of(rooms, p);
-        a = with_room(a, i, r);
-        i = i + 1;
+        a = with_room(a, place, r);
+        place = place + 1;
     }
     a
 }

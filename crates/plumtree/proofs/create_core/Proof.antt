@@ -1,7 +1,7 @@
 -- `create_core`: the counts are zero once the creation is accepted.
 -- Assumes nothing.
 use Prim.Native.Nat.{ℕ}
-use mathlib.Core.Path.{refl, sym, subst, _∙_}
+use mathlib.Core.Path.{refl, sym, subst}
 use borrow.Author.Needs.{needs}
 use Rattle.protocol.specs.State.{zeroCounts}
 use Rattle.machine.specs.Called.{countsOf}

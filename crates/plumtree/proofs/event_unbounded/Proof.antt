@@ -1,9 +1,7 @@
 -- `event_unbounded`: every place of the array says that there is no bound.
 -- Assumes nothing.
-use Prim.Native.Nat.{ℕ, _<_}
-use mathlib.Core.Path.{_≡_, refl}
-use mathlib.Core.List.{List}
-use lib.ListN.{length, getD, replicate}
+use mathlib.Core.Path.{refl}
+use lib.ListN.{length, replicate}
 use borrow.Author.Needs.{needs}
 use Rattle.machine.specs.Called.{lent}
 use Rattle.plumtree.proofs.CallLaws.{called-unbounded, all-unbounded}

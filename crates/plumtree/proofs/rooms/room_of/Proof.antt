@@ -25,7 +25,7 @@ use prog.Wp.{Heap, Env, Out, Calls, Loops, Wp, WpFn, Tables, afterSeq, afterBloc
 use ghost.Atoms.{Atoms}
 use contract.Monad.{Fun}
 use contract.Running.{givenOf, tables, tablesOf}
-use types.Kit.{Given, Item, Sq, runs, frees, prop, anyQ, atRet, ‵, _⊛_, ⋆, _$_, _∵_, !, qed, by, move, keep, drop, use1, split, join, rewrite, fsplit, fjoin, feqI, suffices, frame, done}
+use types.Kit.{Given, Item, Sq, runs, frees, prop, anyQ, atRet, ‵, _⊛_, ⋆, _$_, _∵_, !, qed, by, move, keep, drop, use1, split, join, rewrite, fsplit, fjoin, suffices, frame, done}
 use types.Part.{agg, whole, sub, look-in}
 use types.Run.{look, look-raw, init, store, forget, stop, hop, fld, from, load, lit, of-opd, and-then, no-more, bin, assigns, assigns-last, first, blocks, exec, again, Below, loops, returns, returns-within, enter, alloc1, alloc0, params1, pass1, pass0, free1, free0}
 use types.Share.{arr-parts}

@@ -24,7 +24,6 @@ use ghost.Atoms.{Atoms, sem}
 use contract.Monad.{Fun, fact}
 use contract.Running.{givenOf, tables, tablesOf}
 use types.Kit.{Given, Item, Sq, runs, anyQ, atRet, ‵, raw, some, later, _⊛_, ⋆, _$_, _∵_, !, qed, by, move, keep, drop, use0, use1, use2, split, join, pick, rewrite, fsplit, fjoin, suffices, frame, await, done}
-use types.Part.{whole, sub, look-in}
 use types.Run.{look, init, store, forget, stop, from, load, lit, of-opd, and-then, no-more, bin, assigns, assigns-last, land, first, blocks, exec, again, Below, loops, returns, enter, alloc1, alloc0, params1, pass1, pass0, free1, free0}
 use sound.WpLaws.{FmC, fmOf, WpFn-mono}
 use denote.RattleType.{RattleType, owns}

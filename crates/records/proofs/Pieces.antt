@@ -500,3 +500,8 @@ module _ (bytes : List ℕ) (at : ℕ) where
 
   pub fit-two : length bytes - at ≡ 2 → mayFit (drop at bytes) ≡ (eqb (getD bytes at 0) 128 && eqb (getD bytes (at + 1) 0) 128)
   fit-two h = two-fit (drop at bytes) (omega (arith, length-drop at bytes)) ∙ rw (getD-drop at bytes 0 0, getD-drop at bytes 1 0, add-zero at) refl
+
+-- where there is no byte, one can follow
+pub bad-none : Bad [] → ⊥
+unfolding readRecord readLengthed readBytes readNumber readGroups lastGroup
+bad-none b = b .always (0 ∷ 0 ∷ []) .never (recordCall 0 []) [] refl

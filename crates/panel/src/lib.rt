@@ -11,9 +11,20 @@ use postcard::units::Millis;
 use postcard::units::Round;
 use records::Record;
 use whole::create;
+ghost use mathlib.Core.Path.{_≡_};
+ghost use mathlib.Core.List.{[]};
+ghost use Rattle.protocol.specs.State.{fresh, zeroCounts};
+ghost use Rattle.protocol.specs.Panel.{panelSettings, panelLimits};
+ghost use Rattle.block.specs.View.{settingsOf, limitsOf};
+ghost use Rattle.records.specs.Reading.{recordCall};
+ghost use Rattle.machine.specs.Called.{countsOf, lent, Called};
+ghost use Rattle.machine.specs.Core.{callOf};
+ghost use Rattle.panel.specs.Turns.{Holds, Answered, Turned};
 
 // "panel 1, default settings, M 4,094": the default settings are those of `Config::default`.
-fn settings() -> Settings {
+fn settings() -> Settings
+    ensures { λ r. ⌜ settingsOf r ≡ panelSettings ⌝ }
+{
     let config = Config {
         graft_timeout_1: Millis(80),
         graft_timeout_2: Millis(40),
@@ -31,7 +42,9 @@ fn settings() -> Settings {
 }
 
 // "N 8, R 64, C 32, B 8,192, G S T 16, Q D 64".
-fn limits() -> Limits {
+fn limits() -> Limits
+    ensures { λ r. ⌜ limitsOf r ≡ panelLimits ⌝ }
+{
     Limits {
         neighbours: 8,
         received: 64,
@@ -46,7 +59,9 @@ fn limits() -> Limits {
 }
 
 // "the counts zero".
-pub fn no_counts() -> Stats {
+pub fn no_counts() -> Stats
+    ensures { λ r. ⌜ countsOf r ≡ zeroCounts ⌝ }
+{
     Stats {
         payload_messages_received: 0,
         control_messages_received: 0,
@@ -55,14 +70,18 @@ pub fn no_counts() -> Stats {
 }
 
 // A fresh panel in a block of as many bytes as question 4 asks.
-pub fn begin(block: &mut [u8; 58880]) {
+pub fn begin(block: &mut [u8; 58880])
+    ensures { λ _. ⌜ Holds (now (block .exit)) (fresh panelSettings panelLimits) ⌝ }
+{
     let settings = settings();
     let limits = limits();
     create::create(block, settings, limits);
 }
 
 // The call of a record: "link room unbounded".
-fn call(block: &mut [u8], c: Stats, instant: Millis, event: &[u8], out: &mut [u8]) -> Outcome {
+fn call(block: &mut [u8], c: Stats, instant: Millis, event: &[u8], out: &mut [u8]) -> Outcome
+    ensures { λ r. ⌜ Called (callOf (instant .0) (now (event .entry)) [] (now (out .entry))) (lent (now (block .entry)) c (now (out .entry))) (lent (now (block .exit)) (r .stats) (now (out .exit))) (r .number) (r .length) ⌝ }
+{
     event::event_core(block, c, instant, event, [65536; 34], out)
 }
 
@@ -81,7 +100,9 @@ pub fn answer(
     event: &[u8],
     head: &mut [u8; 11],
     out: &mut [u8; 40960],
-) -> Answer {
+) -> Answer
+    ensures { λ r. ⌜ Answered (recordCall (instant .0) (now (event .entry))) (now (block .entry)) (countsOf c) (now (block .exit)) (now (head .exit)) (now (out .exit)) r ⌝ }
+{
     let o = call(block, c, instant, event, out);
     let n = records::put_head(head, o.number, o.length);
     Answer {
@@ -108,7 +129,9 @@ pub fn turn(
     bytes: &[u8],
     head: &mut [u8; 11],
     out: &mut [u8; 40960],
-) -> Turn {
+) -> Turn
+    ensures { λ r. ⌜ Turned (now (block .entry)) (countsOf c) (now (bytes .entry)) (now (block .exit)) (now (head .exit)) (now (out .exit)) r ⌝ }
+{
     let record = records::read_record(bytes);
     match record {
         Record::Whole {

@@ -1,11 +1,16 @@
-// The program `panelrun`: from standard input to standard output, record by record. What is read and written is the C library's word; what a record's answer is, `turn`'s.
+// The program `panelrun`: from standard input to standard output, record by record. What a record's answer is, is `turn`'s word; what is read and written, the C library's.
 use crate::Answer;
 use crate::Turn;
 use libc::STDIN_FILENO;
 use libc::STDOUT_FILENO;
 use machine::Stats;
+use rows::table;
+ghost use mathlib.Core.Path.{_≡_};
+ghost use Prim.Native.Nat.{_+_, _-_, _≤_, _<_};
+ghost use lib.ListN.{length, take};
+ghost use Rattle.panel.specs.Places.{Inside, Refilled};
 
-// Where the program is: the counts, the bytes that are read and not yet answered, from `at` to `end`, and whether it goes on.
+// Where the program is: the counts, the unread bytes of the buffer, from `at` to `end`, and whether it goes on.
 pub struct Place {
     pub stats: Stats,
     pub at: usize,
@@ -13,19 +18,16 @@ pub struct Place {
     pub goes_on: bool,
 }
 
-// "it writes 07 00 and ends"; what is unread is of no use any more.
-fn give_up(p: Place) -> Place {
-    io::write_all(STDOUT_FILENO, &[7, 0]);
-    Place {
-        stats: p.stats,
-        at: p.at,
-        end: p.end,
-        goes_on: false,
-    }
+// "at a record that is cut, has a number too wide or not shortest, or an event over 16,384 bytes, it writes 07 00 and ends".
+fn write_end() {
+    let end = [7u8, 0];
+    io::write_all(STDOUT_FILENO, &end);
 }
 
-// Writes a record's answer.
-fn write_answer(head: &[u8; 11], out: &[u8; 40960], a: Answer) -> bool {
+// Writes a record's answer: "answer byte, length, actions".
+fn write_answer(head: &[u8], out: &[u8], a: Answer) -> bool
+    requires { ⌜ (a .head ≤ length (now head)) × (a .length ≤ length (now out)) ⌝ }
+{
     let n = a.head;
     let length = a.length;
     let first = io::write_all(STDOUT_FILENO, &head[..n]);
@@ -35,69 +37,60 @@ fn write_answer(head: &[u8; 11], out: &[u8; 40960], a: Answer) -> bool {
     io::write_all(STDOUT_FILENO, &out[..length])
 }
 
-// Moves the bytes from `at` to `end` to the start of the buffer.
-fn move_down(buffer: &mut [u8; 32768], at: usize, end: usize) {
-    let mut i = at;
-    while i < end {
-        buffer[i - at] = buffer[i];
-        i += 1;
-    }
+// Reads once, into the bytes from `end` on: how many came, 0 at the end of the input.
+fn read_behind(buffer: &mut [u8], end: usize) -> usize
+    requires { ⌜ end < length (now buffer) ⌝ }
+    ensures { λ r. ⌜ (end + r ≤ length (now (buffer .entry))) × (length (now (buffer .exit)) ≡ length (now (buffer .entry))) × (take end (now (buffer .exit)) ≡ take end (now (buffer .entry))) ⌝ }
+{
+    let got = libc::read(STDIN_FILENO, &mut buffer[end..]);
+    io::count(got, &buffer[end..])
 }
 
-// Reads once, into the bytes behind `end`: how many came, 0 at the end of the input.
-fn read_behind(buffer: &mut [u8; 32768], end: usize) -> usize {
-    let space = &mut buffer[end..];
-    let got = libc::read(STDIN_FILENO, space);
-    io::count(got, space)
-}
-
-// Reads on. At the end of the input a record that is cut is one "that is cut".
-fn read_on(buffer: &mut [u8; 32768], p: Place) -> Place {
+// Reads on behind the unread bytes; at the end of the input, what is unread then is a record that is cut.
+fn read_on(buffer: &mut [u8], p: Place) -> Place
+    requires { ⌜ Inside p (now buffer) × (p .end < length (now buffer)) ⌝ }
+    ensures { λ r. ⌜ Refilled p (now (buffer .entry)) r (now (buffer .exit)) ⌝ }
+{
+    let mut r = p;
     let more = read_behind(buffer, p.end);
     if more == 0 {
         if p.at < p.end {
-            return give_up(p);
+            write_end();
         }
-        return Place {
-            stats: p.stats,
-            at: p.at,
-            end: p.end,
-            goes_on: false,
-        };
+        r.goes_on = false;
+        return r;
     }
-    Place {
-        stats: p.stats,
-        at: p.at,
-        end: p.end + more,
-        goes_on: true,
-    }
+    r.end = p.end + more;
+    r
 }
 
-// Reads on, once what is unread stands where there is room behind it.
-fn refill(buffer: &mut [u8; 32768], p: Place) -> Place {
-    if p.end < 32768 {
+// Reads on, where the buffer is full after its unread bytes are moved to the start: they are few, so that there is room behind them.
+fn refill(buffer: &mut [u8], p: Place) -> Place
+    requires { ⌜ Inside p (now buffer) × (p .end - p .at < 16404) ⌝ }
+    ensures { λ r. ⌜ Refilled p (now (buffer .entry)) r (now (buffer .exit)) ⌝ }
+{
+    if p.end < buffer.len() {
         return read_on(buffer, p);
     }
-    move_down(buffer, p.at, p.end);
-    read_on(
-        buffer,
-        Place {
-            stats: p.stats,
-            at: 0,
-            end: p.end - p.at,
-            goes_on: true,
-        },
-    )
+    let k = p.end - p.at;
+    table::move_down(buffer, p.at, 0, k);
+    let mut r = p;
+    r.at = 0;
+    r.end = k;
+    read_on(buffer, r)
 }
 
-// One turn: a record is answered and its answer written, or more is read, or it ends.
+// A turn: a record is answered and its answer written; or more is read; or it ends.
 fn step(
-    block: &mut [u8; 58880],
-    buffer: &mut [u8; 32768],
+    block: &mut [u8],
+    buffer: &mut [u8],
     head: &mut [u8; 11],
     out: &mut [u8; 40960],
     p: Place,
-) -> Place {
+) -> Place
+    requires { ⌜ Inside p (now buffer) ⌝ }
+    ensures { λ r. ⌜ Inside r (now (buffer .exit)) ⌝ }
+{
     let at = p.at;
     let end = p.end;
     let turn = crate::turn(block, p.stats, &buffer[at..end], head, out);
@@ -112,19 +105,25 @@ fn step(
             }
         }
         Turn::Cut => refill(buffer, p),
-        Turn::Bad => give_up(p),
+        Turn::Bad => {
+            write_end();
+            let mut r = p;
+            r.goes_on = false;
+            r
+        }
     }
 }
 
-// The whole program. A proved loop has to end, and nothing says that the input does: the turns are counted down from a number that no run uses up.
+// The whole program. A proved loop has to end, and nothing says that the input does: its turns are counted down from a number that no run uses up.
 pub fn run() {
     let mut block = [0u8; 58880];
     let mut buffer = [0u8; 32768];
     let mut head = [0u8; 11];
     let mut out = [0u8; 40960];
     crate::begin(&mut block);
+    let stats = crate::no_counts();
     let mut p = Place {
-        stats: crate::no_counts(),
+        stats,
         at: 0,
         end: 0,
         goes_on: true,

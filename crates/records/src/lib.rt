@@ -100,7 +100,7 @@ pub fn read_record(bytes: &[u8]) -> Record
 
 // What goes before the actions: "answer byte, length". Answers how many bytes it has.
 pub fn put_head(head: &mut [u8; 11], number: u8, length: usize) -> usize
-    ensures { λ r. ⌜ take r (now (head .exit)) ≡ number ∷ numberBytes length ⌝ }
+    ensures { λ r. ⌜ (r ≤ 11) × (take r (now (head .exit)) ≡ number ∷ numberBytes length) ⌝ }
 {
     let at = encode::put_byte(head, 0, number);
     encode::put_number(head, at, length as u64)

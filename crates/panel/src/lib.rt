@@ -93,7 +93,7 @@ pub struct Answer {
 }
 
 // Answers a record: "writes answer byte, length, actions", the first two into `head`.
-pub fn answer(
+pub fn answer_record(
     block: &mut [u8],
     c: Stats,
     instant: Millis,
@@ -104,11 +104,13 @@ pub fn answer(
     ensures { λ r. ⌜ Answered (recordCall (instant .0) (now (event .entry))) (now (block .entry)) (countsOf c) (now (block .exit)) (now (head .exit)) (now (out .exit)) r ⌝ }
 {
     let o = call(block, c, instant, event, out);
-    let n = records::put_head(head, o.number, o.length);
+    let length = o.length;
+    let stats = o.stats;
+    let n = records::put_head(head, o.number, length);
     Answer {
         head: n,
-        length: o.length,
-        stats: o.stats,
+        length,
+        stats,
     }
 }
 
@@ -123,7 +125,7 @@ pub enum Turn {
 }
 
 // Answers the first record of the bytes, if it is there.
-pub fn turn(
+pub fn next(
     block: &mut [u8],
     c: Stats,
     bytes: &[u8],
@@ -140,7 +142,7 @@ pub fn turn(
             len,
         } => {
             let end = start + len;
-            let answer = answer(block, c, instant, &bytes[start..end], head, out);
+            let answer = answer_record(block, c, instant, &bytes[start..end], head, out);
             Turn::Answered { used: end, answer }
         }
         Record::Cut => Turn::Cut,

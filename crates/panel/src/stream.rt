@@ -1,4 +1,4 @@
-// The program `panelrun`: from standard input to standard output, record by record. What a record's answer is, is `turn`'s word; what is read and written, the C library's.
+// The program `panelrun`: from standard input to standard output, record by record. What a record's answer is, is `next`'s word; what is read and written, the C library's.
 use crate::Answer;
 use crate::Turn;
 use libc::STDIN_FILENO;
@@ -82,7 +82,7 @@ fn refill(buffer: &mut [u8], p: Place) -> Place
 
 // A turn: a record is answered and its answer written; or more is read; or it ends.
 fn step(
-    block: &mut [u8],
+    block: &mut [u8; 58880],
     buffer: &mut [u8],
     head: &mut [u8; 11],
     out: &mut [u8; 40960],
@@ -93,12 +93,14 @@ fn step(
 {
     let at = p.at;
     let end = p.end;
-    let turn = crate::turn(block, p.stats, &buffer[at..end], head, out);
+    let c = p.stats;
+    let turn = crate::next(block, c, &buffer[at..end], head, out);
     match turn {
         Turn::Answered { used, answer } => {
             let written = write_answer(head, out, answer);
+            let stats = answer.stats;
             Place {
-                stats: answer.stats,
+                stats,
                 at: at + used,
                 end,
                 goes_on: written,

@@ -4,11 +4,9 @@ use postcard::number;
 use postcard::number::NumberRead;
 use postcard::units::Millis;
 ghost use mathlib.Core.Path.{_≡_};
-ghost use mathlib.Core.List.{_∷_};
 ghost use Prim.Native.Nat.{_≤_};
-ghost use lib.ListN.{length, take, drop};
-ghost use Rattle.postcard.specs.Number.{numberBytes};
-ghost use Rattle.records.specs.Reading.{Tells, mayFit, Timed, Lengthed};
+ghost use lib.ListN.{length, drop};
+ghost use Rattle.records.specs.Reading.{Tells, Headed, mayFit, Timed, Lengthed};
 
 // What the first bytes of the input tell of its first record.
 pub enum Record {
@@ -100,7 +98,7 @@ pub fn read_record(bytes: &[u8]) -> Record
 
 // What goes before the actions: "answer byte, length". Answers how many bytes it has.
 pub fn put_head(head: &mut [u8; 11], number: u8, length: usize) -> usize
-    ensures { λ r. ⌜ (r ≤ 11) × (take r (now (head .exit)) ≡ number ∷ numberBytes length) ⌝ }
+    ensures { λ r. ⌜ Headed number length (now (head .exit)) r ⌝ }
 {
     let at = encode::put_byte(head, 0, number);
     encode::put_number(head, at, length as u64)

@@ -1,9 +1,7 @@
 -- `put_head`: a byte, then a number of at most ten.
 -- Assumes nothing.
-use mathlib.Core.Path.{_≡_}
 use native.Mathlib.Omega.{arith}
-use lib.ListN.{length}
-use Rattle.postcard.proofs.Writes.{wrote-then, room-then}
+use Rattle.postcard.proofs.Writes.{wrote-then, room-then, wrote-long}
 use Rattle.records.proofs.Heads.{head-room, wrote-first}
 use borrow.Author.Needs.{needs}
 use Rattle.records.proofs.put_head.Statement.{statement}
@@ -21,9 +19,8 @@ returns : tie.Need-returns
 returns c =
     let s = c .before .before .before .before in
     let r = head-room (s .args .number) (s .args .length) (s .args .head .now) (search needs) in
-    let l : length (s .args .head .now) ≡ 11 = search needs in
     let w = wrote-then (c .before .before .put-byte .ensures) (c .put-number .ensures) r in
-    (omega (arith, r .fits, w .place, l), wrote-first w r)
+    record { fits = omega (arith, r .fits, w .place, wrote-long w r); bytes = wrote-first w r }
 
 pub put-head-spec : {M : Type 1} → statement M
 put-head-spec = tie.close (tie.spec put-byte-requires put-number-requires returns)

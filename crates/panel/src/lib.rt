@@ -5,20 +5,16 @@ use block::head::Config;
 use block::head::Limits;
 use block::head::Settings;
 use machine::Stats;
-use machine::event;
-use machine::event::Outcome;
 use postcard::units::Millis;
 use postcard::units::Round;
 use records::Record;
 use whole::create;
 ghost use mathlib.Core.Path.{_≡_};
-ghost use mathlib.Core.List.{[]};
 ghost use Rattle.protocol.specs.State.{fresh, zeroCounts};
 ghost use Rattle.protocol.specs.Panel.{panelSettings, panelLimits};
 ghost use Rattle.block.specs.View.{settingsOf, limitsOf};
 ghost use Rattle.records.specs.Reading.{recordCall};
-ghost use Rattle.machine.specs.Called.{countsOf, lent, Called};
-ghost use Rattle.machine.specs.Core.{callOf};
+ghost use Rattle.machine.specs.Called.{countsOf};
 ghost use Rattle.panel.specs.Turns.{Holds, Answered, Turned};
 
 // "panel 1, default settings, M 4,094": the default settings are those of `Config::default`.
@@ -78,13 +74,6 @@ pub fn begin(block: &mut [u8; 58880])
     create::create(block, settings, limits);
 }
 
-// The call of a record: "link room unbounded".
-fn call(block: &mut [u8], c: Stats, instant: Millis, event: &[u8], out: &mut [u8]) -> Outcome
-    ensures { λ r. ⌜ Called (callOf (instant .0) (now (event .entry)) [] (now (out .entry))) (lent (now (block .entry)) c (now (out .entry))) (lent (now (block .exit)) (r .stats) (now (out .exit))) (r .number) (r .length) ⌝ }
-{
-    event::event_core(block, c, instant, event, [65536; 34], out)
-}
-
 // How many bytes of the head and of the output a record's answer has, and the counts after it.
 pub struct Answer {
     pub head: usize,
@@ -92,7 +81,7 @@ pub struct Answer {
     pub stats: Stats,
 }
 
-// Answers a record: "writes answer byte, length, actions", the first two into `head`.
+// Answers a record, "link room unbounded": "writes answer byte, length, actions", the first two into `head`.
 pub fn answer_record(
     block: &mut [u8],
     c: Stats,
@@ -103,7 +92,7 @@ pub fn answer_record(
 ) -> Answer
     ensures { λ r. ⌜ Answered (recordCall (instant .0) (now (event .entry))) (now (block .entry)) (countsOf c) (now (block .exit)) (now (head .exit)) (now (out .exit)) r ⌝ }
 {
-    let o = call(block, c, instant, event, out);
+    let o = plumtree::event_unbounded(block, c, instant, event, out);
     let length = o.length;
     let stats = o.stats;
     let n = records::put_head(head, o.number, length);

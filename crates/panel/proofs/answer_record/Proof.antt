@@ -6,8 +6,8 @@ use borrow.Author.Needs.{needs}
 use Rattle.panel.proofs.answer_record.Statement.{statement}
 use Rattle.panel.proofs.answer_record.Tie as tie
 
-call-requires : tie.Need-call-requires
-call-requires c κs = search needs
+event-unbounded-requires : tie.Need-event-unbounded-requires
+event-unbounded-requires c κs = search needs
 
 put-head-requires : tie.Need-put-head-requires
 put-head-requires c κs = search needs
@@ -18,13 +18,13 @@ same-length c = search needs
 returns : tie.Need-returns
 returns c =
     let s = c .before .before .before .before .before .before .before .before .before .before in
-    answered-record (s .args .instant .0) (s .args .event .now) (s .args .block .now) (s .args .c) (s .args .out .now) _ _ _ _ _ (search needs) (c .before .before .before .before .before .call .ensures) (search needs) (c .put-head .ensures .fits) (c .put-head .ensures .bytes)
+    answered-record (s .args .instant .0) (s .args .event .now) (s .args .block .now) (s .args .c) (s .args .out .now) _ _ _ _ _ (search needs) (c .before .before .before .before .before .event-unbounded .ensures) (search needs) (c .put-head .ensures .fits) (c .put-head .ensures .bytes)
 
 pub answer-record-spec : {M : Type 1} → statement M
 answer-record-spec =
     tie.close
     (tie.spec
-    call-requires
+    event-unbounded-requires
     put-head-requires
     same-length
     returns)

@@ -5,14 +5,11 @@ use mathlib.Core.Path.{_≡_, refl, ap, subst, _∙_}
 use mathlib.Core.Bool.{true}
 use mathlib.Core.List.{List, map}
 use mathlib.Core.Option.{Option, some}
-use lib.Dec.{leb}
 use lib.ListN.{length, take}
 use Rattle.rows.specs.Part.{part, put}
 use Rattle.rows.proofs.Parts.{part-put}
 use Rattle.blake3.specs.Blake3.{identifier}
-use Rattle.protocol.specs.State.{State, Counts, Created, created, create, fresh, zeroCounts, sizeInRange, durationsInRange, limitsInRange, blockNeed, Settings as PanelSettings, Limits as PanelLimits}
-use Rattle.lists.proofs.MapLaws.{cases}
-use borrow.Author.Tests.{leb-true, leb-false}
+use Rattle.protocol.specs.State.{State, Counts, Created, create, fresh, zeroCounts}
 use Rattle.protocol.specs.Whole.{longEnough}
 use Rattle.protocol.specs.Answer.{Call, Answer, refuse, accept, Outcome, outcome, outputOf, askWhole, answerBlock}
 use Rattle.protocol.specs.Calls.{runCalls, stateAfter, countsAfter, prepend}
@@ -22,10 +19,11 @@ use Rattle.block.specs.View.{settingsOf, limitsOf}
 use Rattle.block.specs.declared.head.Settings.{Settings}
 use Rattle.block.specs.declared.head.Limits.{Limits}
 use Rattle.whole.specs.Held.{held}
-use Rattle.whole.specs.Creation.{Creation, Creates, Refused as NotMade, Accepted as Made}
-use Rattle.whole.proofs.CreateLaws.{create-0, create-1, create-2, create-3, create-4}
+use Rattle.whole.specs.Creation.{Creation, Creates, Accepted}
 use Rattle.machine.specs.Called.{Lent, Finds}
-use Rattle.machine.specs.Chain.{Seen, Chain, done, next, seenOf, Guaranteed, Guarantee}
+use Rattle.plumtree.specs.Calls.{Made}
+use Rattle.plumtree.proofs.CreationLaws.{made, made-zero}
+use Rattle.plumtree.specs.Chain.{Seen, Chain, done, next, seenOf, Guaranteed, Guarantee}
 
 -- the block holds this state, and is long enough for it
 record Holds (block : List ℕ) (s : State) : Type 0 where
@@ -76,48 +74,27 @@ ended _ s _ _ _ _ _ h (next block c k output after number long f ks seen last la
     (ended (after .block) (stateAfter s (askWhole identifier s c k)) (after .counts) ks seen last lastCounts (g .holds) more) in
     record { state = w .state; counts = w .counts; answers = rw (g .seen, w .answers) refl }
 
--- a creation that answers 0
-made : (c : Settings) (l : Limits) (before block : List ℕ) → Creation c l before block 0 → create (settingsOf c) (limitsOf l) (length before) ≡ created (fresh (settingsOf c) (limitsOf l)) zeroCounts
-made c l before block m =
-    cases (sizeInRange s)
-    (λ a. cases (durationsInRange s)
-    (λ b. cases (limitsInRange n)
-    (λ d. cases (leb (blockNeed n) (length before))
-    (λ e. create-0 s n (length before) a b d (leb-true (blockNeed n) (length before) e))
-    (λ e. let f : NotMade 4 before block 0 = at (create-4 s n (length before) a b d (leb-false (blockNeed n) (length before) e)) in absurd (omega (arith, f .number))))
-    (λ d. let f : NotMade 3 before block 0 = at (create-3 s n (length before) a b d) in absurd (omega (arith, f .number))))
-    (λ b. let f : NotMade 2 before block 0 = at (create-2 s n (length before) a b) in absurd (omega (arith, f .number))))
-    (λ a. let f : NotMade 1 before block 0 = at (create-1 s n (length before) a) in absurd (omega (arith, f .number)))
-  where
-    s : PanelSettings
-    s = settingsOf c
-
-    n : PanelLimits
-    n = limitsOf l
-
-    at : {x : Created} → create s n (length before) ≡ x → Creates x before block 0
-    at e = subst (λ (x : Created). Creates x before block 0) e m
-
 created-holds : (c : Settings) (l : Limits) (before block : List ℕ) → Creation c l before block 0 → Holds block (fresh (settingsOf c) (limitsOf l))
 created-holds c l before block m =
     let e = made c l before block m in
-    let a : Made (fresh (settingsOf c) (limitsOf l)) before block 0 = subst (λ (x : Created). Creates x before block 0) e m in
+    let a : Accepted (fresh (settingsOf c) (limitsOf l)) before block 0 = subst (λ (x : Created). Creates x before block 0) e m in
     record {
       state = a .state;
       long = rw (a .long) (created-long (settingsOf c) (limitsOf l) (length before) (fresh (settingsOf c) (limitsOf l)) zeroCounts e);
     }
 
-guaranteed : (c : Settings) (l : Limits) (before block : List ℕ) → Creation c l before block 0 →
-    (ks : List Call) (seen : List Seen) (last : List ℕ) (lastCounts : Counts) → Chain block zeroCounts ks seen last lastCounts →
+guaranteed : (c : Settings) (l : Limits) (before : List ℕ) (old : Counts) (block : List ℕ) (counts : Counts) (long : ℕ) → Made c l before old block counts 0 long →
+    (ks : List Call) (seen : List Seen) (last : List ℕ) (lastCounts : Counts) → Chain block counts ks seen last lastCounts →
     Guaranteed c l ks seen last lastCounts
-guaranteed c l before block m ks seen last lastCounts chain =
-    let h = created-holds c l before block m in
-    let w = ended block (fresh (settingsOf c) (limitsOf l)) zeroCounts ks seen last lastCounts h chain in
+guaranteed c l before old block counts long m ks seen last lastCounts chain =
+    let h = created-holds c l before block (m .creation) in
+    let zero : counts ≡ zeroCounts = m .left ∙ made-zero c l before block old (m .creation) in
+    let w = ended block (fresh (settingsOf c) (limitsOf l)) zeroCounts ks seen last lastCounts h (subst (λ (x : Counts). Chain block x ks seen last lastCounts) zero chain) in
     record {
       state = w .state;
       counts = w .counts;
       answers = w .answers;
-      holds = demand3 identifier .always (settingsOf c) (limitsOf l) (length before) (fresh (settingsOf c) (limitsOf l)) zeroCounts (made c l before block m) ks;
+      holds = demand3 identifier .always (settingsOf c) (limitsOf l) (length before) (fresh (settingsOf c) (limitsOf l)) zeroCounts (made c l before block (m .creation)) ks;
     }
 
 -- demand 3 over blocks

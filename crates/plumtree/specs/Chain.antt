@@ -14,8 +14,8 @@ use Rattle.block.specs.View.{settingsOf, limitsOf}
 use Rattle.block.specs.declared.head.Settings.{Settings}
 use Rattle.block.specs.declared.head.Limits.{Limits}
 use Rattle.whole.specs.Held.{held}
-use Rattle.whole.specs.Creation.{Creation}
 use Rattle.machine.specs.Called.{Lent, Called}
+use Rattle.plumtree.specs.Calls.{Made}
 
 -- what the caller sees of a call: its answer, and the bytes of the output up to its length
 pub record Seen : Type 0 where
@@ -49,6 +49,6 @@ pub record Guaranteed (c : Settings) (l : Limits) (ks : List Call) (seen : List 
 
 -- "for every list of event calls (…; refused ones too) from a fresh panel, after it this holds": upon a block and counts as an accepted creation left them
 pub record Guarantee : Type 0 where
-  pub always : (c : Settings) (l : Limits) (before block : List ℕ) → Creation c l before block 0 →
-      (ks : List Call) (seen : List Seen) (last : List ℕ) (lastCounts : Counts) → Chain block zeroCounts ks seen last lastCounts →
+  pub always : (c : Settings) (l : Limits) (before : List ℕ) (old : Counts) (block : List ℕ) (counts : Counts) (long : ℕ) → Made c l before old block counts 0 long →
+      (ks : List Call) (seen : List Seen) (last : List ℕ) (lastCounts : Counts) → Chain block counts ks seen last lastCounts →
       Guaranteed c l ks seen last lastCounts

@@ -1,4 +1,0 @@
-use Rattle.panel.proofs.call.Statement.{statement}
-
-pub call-spec : {M : Type 1} → statement M
-call-spec = ?

@@ -1,0 +1,159 @@
+// Document 01's calls upon a lent block, as C and Rust link them.
+pub mod peers;
+pub mod rooms;
+
+use block::head::Limits;
+use block::head::Settings;
+use machine::Stats;
+use machine::event;
+use machine::event::Outcome;
+use postcard::units::Millis;
+use whole::create;
+ghost use mathlib.Core.Path.{_≡_};
+ghost use mathlib.Core.List.{[]};
+ghost use lib.ListN.{length};
+ghost use Rattle.protocol.specs.Alike.{alikeBlocks};
+ghost use Rattle.block.specs.View.{limitsOf};
+ghost use Rattle.whole.specs.Held.{held};
+ghost use Rattle.machine.specs.Called.{countsOf, lent, Called};
+ghost use Rattle.machine.specs.Core.{callOf};
+ghost use Rattle.plumtree.specs.Calls.{blockSize, Made, toldOf};
+ghost use Rattle.plumtree.specs.Rooms.{entries};
+
+// An entry of a call's link room: how many sends to the peer its link takes.
+#[repr(C)]
+pub struct LinkRoom {
+    pub peer: u64,
+    pub room: u16,
+}
+
+// What a call answers: its number, and the length of the output.
+#[repr(C)]
+pub struct Answer {
+    pub number: u8,
+    pub length: usize,
+}
+
+// What *Alike* answers: 5 if either block is not whole; else 0, and yes or no.
+#[repr(C)]
+pub struct Likeness {
+    pub number: u8,
+    pub alike: bool,
+}
+
+// The bytes that question 4 asks of a block with these limits; 0 where question 3 is answered no.
+#[no_mangle]
+pub extern "C" fn plumtree_block_size(limits: Limits) -> usize
+    ensures { λ r. ⌜ r ≡ blockSize (limitsOf limits) ⌝ }
+{
+    let range = create::limits_in_range(limits);
+    if !range {
+        return 0;
+    }
+    create::block_need(limits)
+}
+
+// A creation, with the counts by value: zero once it is accepted.
+pub fn create_core(block: &mut [u8], c: Stats, settings: Settings, limits: Limits) -> Outcome
+    ensures { λ r. ⌜ Made settings limits (now (block .entry)) (countsOf c) (now (block .exit)) (countsOf (r .stats)) (r .number) (r .length) ⌝ }
+{
+    let number = create::create(block, settings, limits);
+    if number == 0 {
+        let zero = Stats {
+            payload_messages_received: 0,
+            control_messages_received: 0,
+            max_last_delivery_hop: 0,
+        };
+        return Outcome {
+            number,
+            length: 0,
+            stats: zero,
+        };
+    }
+    Outcome {
+        number,
+        length: 0,
+        stats: c,
+    }
+}
+
+// A creation: "An accepted creation leaves the state of `State::new`, the counts zero".
+#[no_mangle]
+pub extern "C" fn plumtree_create(
+    block: &mut [u8],
+    counts: &mut Stats,
+    settings: Settings,
+    limits: Limits,
+) -> Answer
+    ensures { λ r. ⌜ Made settings limits (now (block .entry)) (countsOf (now (counts .entry))) (now (block .exit)) (countsOf (now (counts .exit))) (r .number) (r .length) ⌝ }
+{
+    let c = *counts;
+    let o = create_core(block, c, settings, limits);
+    if o.number == 0 {
+        *counts = o.stats;
+    }
+    Answer {
+        number: o.number,
+        length: o.length,
+    }
+}
+
+// An event call with the counts by value, and no bound on any link.
+pub fn event_unbounded(
+    block: &mut [u8],
+    c: Stats,
+    at: Millis,
+    event: &[u8],
+    output: &mut [u8],
+) -> Outcome
+    ensures { λ r. ⌜ Called (callOf (at .0) (now (event .entry)) [] (now (output .entry))) (lent (now (block .entry)) c (now (output .entry))) (lent (now (block .exit)) (r .stats) (now (output .exit))) (r .number) (r .length) ⌝ }
+{
+    event::event_core(block, c, at, event, [65536; 34], output)
+}
+
+// An event call: the room of each peer it can send to is looked up, then it is answered; the counts are stored to only where it is accepted.
+#[no_mangle]
+pub extern "C" fn plumtree_event(
+    block: &mut [u8],
+    counts: &mut Stats,
+    at: Millis,
+    event: &[u8],
+    rooms: &[LinkRoom],
+    output: &mut [u8],
+) -> Answer
+    ensures { λ r. ⌜ Called (callOf (at .0) (now (event .entry)) (entries (now (rooms .entry))) (now (output .entry))) (lent (now (block .entry)) (now (counts .entry)) (now (output .entry))) (lent (now (block .exit)) (now (counts .exit)) (now (output .exit))) (r .number) (r .length) ⌝ }
+{
+    let peers = peers::peers_in(block, event);
+    let found = rooms::rooms_of(rooms, peers);
+    let c = *counts;
+    let o = event::event_core(block, c, at, event, found, output);
+    if o.number == 0 {
+        *counts = o.stats;
+    }
+    Answer {
+        number: o.number,
+        length: o.length,
+    }
+}
+
+// *Alike*, "of two blocks (5 for either)".
+#[no_mangle]
+pub extern "C" fn plumtree_alike(a: &[u8], b: &[u8]) -> Likeness
+    ensures { λ r. ⌜ r ≡ toldOf (alikeBlocks (length (now (a .entry))) (held (now (a .entry))) (length (now (b .entry))) (held (now (b .entry)))) ⌝ }
+{
+    let answer = alike::alike(a, b);
+    match answer {
+        alike::Answer::NotWhole => Likeness {
+            number: 5,
+            alike: false,
+        },
+        alike::Answer::Yes => Likeness {
+            number: 0,
+            alike: true,
+        },
+        alike::Answer::No => Likeness {
+            number: 0,
+            alike: false,
+        },
+    }
+}

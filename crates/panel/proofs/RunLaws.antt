@@ -2,7 +2,7 @@
 -- Assumes nothing.
 use Prim.Native.Nat.{ℕ}
 use mathlib.Core.Path.{_≡_, sym, ap, subst, _∙_}
-use mathlib.Core.List.{List, [], _∷_, _++_, append-assoc, append-nil}
+use mathlib.Core.List.{List, [], _++_, append-assoc, append-nil}
 use Rattle.blake3.specs.Blake3.{identifier}
 use Rattle.protocol.specs.State.{State, Counts, fresh, zeroCounts}
 use Rattle.protocol.specs.Panel.{panelSettings, panelLimits}

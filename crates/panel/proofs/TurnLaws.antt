@@ -1,20 +1,20 @@
 -- A turn of `panelrun` is one record of the definition: its call, what that writes, and what is left.
 -- Assumes nothing.
-use Prim.Native.Nat.{ℕ, _+_, _-_, _≤_, _<_}
-use mathlib.Core.Path.{_≡_, refl, sym, ap, subst, _∙_}
+use Prim.Native.Nat.{ℕ, _+_, _-_, _≤_}
+use mathlib.Core.Path.{_≡_, refl, ap, subst, _∙_}
 use mathlib.Core.Bool.{true}
 use mathlib.Core.List.{List, [], _∷_, _++_}
-use mathlib.Core.Option.{Option, some}
+use mathlib.Core.Option.{Option}
 use native.Mathlib.Omega.{arith}
 use lib.ListN.{length, take, drop}
-use Rattle.rows.specs.Part.{part, put}
+use Rattle.rows.specs.Part.{part}
 use Rattle.blake3.specs.Blake3.{identifier}
-use Rattle.postcard.specs.Number.{got, groups, numberBytes}
+use Rattle.postcard.specs.Number.{groups, numberBytes}
 use Rattle.protocol.specs.State.{State, Counts, Created, created, create, fresh, zeroCounts, sizeInRange, durationsInRange, upTo, limitsInRange, blockNeed}
 use Rattle.protocol.specs.Whole.{longEnough}
 use Rattle.protocol.specs.Answer.{Call, Answer, refuse, accept, Outcome, refused, accepted, outcome, outputOf, askWhole, answerBlock}
 use Rattle.protocol.specs.Calls.{stateAfter, countsAfter}
-use Rattle.protocol.specs.Panel.{panelSettings, panelLimits, readRecord, written}
+use Rattle.protocol.specs.Panel.{panelSettings, panelLimits, written}
 use Rattle.protocol.proofs.BlockAnswer.{ask-limits, answer-long}
 use Rattle.block.specs.View.{settingsOf, limitsOf}
 use Rattle.block.specs.declared.head.Settings.{Settings}
@@ -22,14 +22,14 @@ use Rattle.block.specs.declared.head.Limits.{Limits}
 use Rattle.whole.specs.Held.{held}
 use Rattle.whole.specs.Creation.{Creation, Creates, Accepted}
 use Rattle.records.specs.Reading.{recordCall, Whole, Cut, Bad}
-use Rattle.records.specs.Running.{writes, closing}
+use Rattle.records.specs.Running.{writes}
 use Rattle.records.proofs.Pieces.{record-stays}
 use Rattle.records.proofs.RunningLaws.{writes-record, writes-never, writes-bad}
 use Rattle.records.proofs.Heads.{put-first}
 use Rattle.machine.specs.Called.{Lent, Finds, Called, countsOf, lent}
 use Rattle.machine.specs.Core.{callOf}
 use Rattle.machine.specs.declared.Stats.{Stats}
-use Rattle.panel.specs.Turns.{Holds, answerBytes, Answers, Answered, Goes, Took, Waits, Stops}
+use Rattle.panel.specs.Turns.{Holds, Answered, Took, Waits, Stops}
 use Rattle.panel.specs.declared.Answer.{Answer as Parts}
 
 -- a call that was answered, as the caller finds it
@@ -77,7 +77,7 @@ answered k before c out₀ after head out number a f same h e = record {
   headFits = h;
   outFits = omega (arith, same, out-fits k (lent before c out₀) (lent after (a .stats) out) number (a .length) f);
   answers = λ s holds. let g = called-after s k (lent before c out₀) (lent after (a .stats) out) number (a .length) holds f in
-  record { holds = g .holds; after = g .counts; wrote = rw e (g .bytes) };
+      record { holds = g .holds; after = g .counts; wrote = rw e (g .bytes) };
 }
 
 -- a turn that answers a whole record
@@ -88,11 +88,11 @@ took before c unread after head out now start len a w f = record {
   headFits = f .headFits;
   outFits = f .outFits;
   goes = λ s holds. let g = f .answers s holds in
-  record {
-    state = stateAfter s (askWhole identifier s c (recordCall now (part start len unread)));
-    holds = g .holds;
-    output = λ input. rw (g .after, g .wrote) (writes-record identifier s c (unread ++ input) (recordCall now (part start len unread)) (drop (start + len) unread ++ input) (record-stays unread input (w .reads)));
-  };
+      record {
+        state = stateAfter s (askWhole identifier s c (recordCall now (part start len unread)));
+        holds = g .holds;
+        output = λ input. rw (g .after, g .wrote) (writes-record identifier s c (unread ++ input) (recordCall now (part start len unread)) (drop (start + len) unread ++ input) (record-stays unread input (w .reads)));
+      };
 }
 
 -- a turn that finds a record that is cut

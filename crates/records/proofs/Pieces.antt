@@ -9,8 +9,8 @@ use native.Mathlib.Nat.{add-zero}
 use lib.Dec.{leb, ltb, eqb}
 use lib.ListN.{length, take, drop, getD, length-append, length-drop}
 use lib.Seq.{take-append-le, drop-append-le, drop-drop, getD-drop}
-use borrow.Author.Tests.{ltb-true, ltb-false, leb-true, leb-false, eqb-true, eqb-false, lt-ltb, le-ltb, le-leb, lt-leb}
-use Rattle.lists.specs.Base.{if_then_else_, all}
+use borrow.Author.Tests.{ltb-true, ltb-false, leb-true, eqb-true, eqb-false, le-ltb, le-leb}
+use Rattle.lists.specs.Base.{all}
 use Rattle.lists.proofs.MapLaws.{cases, true≢, and-left, and-right}
 use Rattle.rows.specs.Part.{part}
 use Rattle.postcard.specs.Number.{Read, got, fault, _then_, readBytes, lastGroup, readGroups, readNumber}

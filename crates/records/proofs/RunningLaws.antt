@@ -1,17 +1,16 @@
 -- The definition's output, record by record: what `panelrun` writes for the first record, then for the rest of the input.
 -- Assumes nothing.
 use Prim.Native.Nat.{ℕ, zero, suc, _≤_, _<_}
-use mathlib.Core.Path.{_≡_, refl, sym, ap, subst, _∙_}
+use mathlib.Core.Path.{_≡_, refl, ap}
 use mathlib.Core.List.{List, [], _∷_, _++_}
 use native.Mathlib.Omega.{arith}
 use lib.ListN.{length}
 use Rattle.postcard.specs.Number.{Read, got, fault}
-use Rattle.postcard.proofs.FieldBack.{not-got}
 use Rattle.protocol.specs.State.{State, Counts, fresh, zeroCounts}
 use Rattle.protocol.specs.Answer.{Call, askWhole}
 use Rattle.protocol.specs.Calls.{stateAfter, countsAfter}
-use Rattle.protocol.specs.Panel.{Records, ended, cut, record1, readRecord, orCut, readRecords, runRecords, written, panelSettings, panelLimits, panelrun}
-use Rattle.records.specs.Reading.{Never, Bad, Cut}
+use Rattle.protocol.specs.Panel.{Records, cut, record1, readRecord, orCut, readRecords, runRecords, written, panelSettings, panelLimits, panelrun}
+use Rattle.records.specs.Reading.{Never, Bad}
 use Rattle.records.specs.Running.{writes, closing}
 use Rattle.records.proofs.Pieces.{record-takes, bad-none}
 

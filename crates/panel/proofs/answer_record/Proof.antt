@@ -1,7 +1,6 @@
 -- `answer_record`: the call, then what goes before its actions.
 -- Assumes nothing.
 use Rattle.panel.proofs.TurnLaws.{answered-record}
-use native.Mathlib.Omega.{arith}
 use borrow.Author.Needs.{needs}
 use Rattle.panel.proofs.answer_record.Statement.{statement}
 use Rattle.panel.proofs.answer_record.Tie as tie

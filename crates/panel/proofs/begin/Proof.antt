@@ -1,7 +1,6 @@
 -- `begin`: the creation is accepted.
 -- Assumes nothing.
 use Rattle.panel.proofs.TurnLaws.{begun}
-use native.Mathlib.Omega.{arith}
 use borrow.Author.Needs.{needs}
 use Rattle.panel.proofs.begin.Statement.{statement}
 use Rattle.panel.proofs.begin.Tie as tie

@@ -2,8 +2,6 @@
 -- Assumes nothing.
 use mathlib.Core.Path.{refl}
 use Rattle.protocol.specs.State.{zeroCounts}
-use native.Mathlib.Omega.{arith}
-use borrow.Author.Needs.{needs}
 use Rattle.panel.proofs.no_counts.Statement.{statement}
 use Rattle.panel.proofs.no_counts.Tie as tie
 

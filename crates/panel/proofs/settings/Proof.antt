@@ -2,8 +2,6 @@
 -- Assumes nothing.
 use mathlib.Core.Path.{refl}
 use Rattle.protocol.specs.Panel.{panelSettings}
-use native.Mathlib.Omega.{arith}
-use borrow.Author.Needs.{needs}
 use Rattle.panel.proofs.settings.Statement.{statement}
 use Rattle.panel.proofs.settings.Tie as tie
 

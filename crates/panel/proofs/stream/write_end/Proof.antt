@@ -1,4 +1,5 @@
-use native.Mathlib.Omega.{arith}
+-- `write_end` is safe.
+-- Assumes what `libc` says of `write`.
 use borrow.Author.Needs.{needs}
 use Rattle.panel.proofs.stream.write_end.Statement.{statement}
 use Rattle.panel.proofs.stream.write_end.Tie as tie

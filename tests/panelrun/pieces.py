@@ -113,7 +113,7 @@ def main():
     print("40 drawn inputs of 300 records, in pieces")
 
     rows = [record(now, e) for now, e in drawn(9, 4000, 1)]
-    data = b""
+    data = bytearray()
     while len(data) < 10_000_000:
         data += r.choice(rows)
     start = time.time()

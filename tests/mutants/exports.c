@@ -14,7 +14,7 @@ struct slice { const void *at; size length; };
 
 size unproved_block_size(const struct limits *);
 void unproved_create(struct answer *, const struct slice *, void *, const struct settings *, const struct limits *);
-void unproved_event(struct answer *, const struct slice *, void *, u64, const struct slice *, const struct slice *, const struct slice *);
+void unproved_event(struct answer *, const struct slice *, void *, const u64 *, const struct slice *, const struct slice *, const struct slice *);
 void unproved_alike(struct likeness *, const struct slice *, const struct slice *);
 
 size plumtree_block_size(struct limits l) { return unproved_block_size(&l); }
@@ -30,7 +30,7 @@ struct answer plumtree_event(u8 *block, size block_length, void *counts, u64 at,
                              const void *rooms, size rooms_length, u8 *output, size output_length) {
     struct slice b = { block, block_length }, e = { event, event_length }, l = { rooms, rooms_length }, o = { output, output_length };
     struct answer r;
-    unproved_event(&r, &b, counts, at, &e, &l, &o);
+    unproved_event(&r, &b, counts, &at, &e, &l, &o);
     return r;
 }
 

@@ -8,6 +8,7 @@ use oracle::{
 
 use crate::{
     block::{self, Layout, CEILINGS},
+    likeness,
     rng::Rng,
     run::{Call, Pair},
     script::Cmd,
@@ -56,6 +57,7 @@ pub struct World {
     bad: f64,
     tight: f64,
     damage: f64,
+    alike: f64,
     weights: Vec<(&'static str, u64)>,
     pending: Vec<Vec<u8>>,
     plan: Vec<Vec<u8>>,
@@ -192,6 +194,7 @@ impl World {
                 _ => r.pick(&[5.0, 35.0, 70.0]),
             },
             damage: if big { 8.0 } else { r.pick(&[0.0, 0.0, 0.0, 20.0]) },
+            alike: if big { 3.0 } else { r.pick(&[0.0, 3.0, 3.0, 20.0]) },
             weights,
             pending: Vec::new(),
             plan: Vec::new(),
@@ -360,11 +363,17 @@ impl World {
         if out != pair.limits.out {
             v.push(Cmd::Limits { max: self.max, out });
         }
+        if self.r.chance(self.alike) {
+            v.push(self.likeness(snap));
+        }
         let call = Cmd::Event { now, rooms, event };
         if self.r.chance(self.damage) {
             for _ in 0..self.r.pick(&[1, 3]) {
                 let damage = self.poke(pair.block());
                 v.push(damage);
+                if self.r.chance(self.alike) {
+                    v.push(self.likeness(snap));
+                }
                 v.push(call.clone());
                 v.push(Cmd::Undo);
             }
@@ -453,7 +462,7 @@ impl World {
         }
         let room = |r: &mut Rng| r.pick(&[0, 0, 0, 0, 1, 1, 2, 3, 65535]);
         let n = self.peers.len();
-        match self.r.below(5) {
+        let mut v: Vec<(u64, u16)> = match self.r.below(5) {
             0 => self.peers.iter().map(|p| (*p, 0)).collect(),
             4 => {
                 let same = self.r.pick(&[0, 1, 1, 2, 3]);
@@ -472,7 +481,18 @@ impl World {
                 self.r.shuffle(&mut v);
                 v.into_iter().map(|p| (p, room(&mut self.r))).collect()
             }
+        };
+        if self.r.chance(25.0) {
+            // More entries, before and behind: of the same peers, of strangers.
+            for _ in 0..self.r.pick(&[1, 3, 40]) {
+                let any = self.r.next();
+                let p = if self.r.chance(80.0) { self.r.pick(&self.peers) } else { any };
+                let entry = (p, room(&mut self.r));
+                let at = self.r.index(v.len() + 1);
+                v.insert(at, entry);
+            }
         }
+        v
     }
 
     fn tick(&mut self, s: &Snap) {
@@ -769,6 +789,12 @@ impl World {
     }
 
     // The block
+
+    /// A block near to this state, to be asked whether it is alike.
+    fn likeness(&mut self, s: &Snap) -> Cmd {
+        let (max, near) = likeness::near(&mut self.r, s, &self.max);
+        Cmd::Alike { max, text: near.text() }
+    }
 
     /// Damage to a whole block.
     fn poke(&mut self, b: &[u8]) -> Cmd {

@@ -3,7 +3,8 @@ mod bench;
 mod block;
 mod create;
 mod gen;
-mod machine;
+mod library;
+mod likeness;
 mod paths;
 mod rng;
 mod run;
@@ -114,7 +115,8 @@ fn report(seed: u64, number: u64, list: Vec<Cmd>, why: &str) {
     println!("DIFFERENT: seed {seed} list {number}: {why}");
     println!("shrinking {} commands", list.len());
     let least = shrink(list);
-    println!("least list ({} commands):", least.len());
+    let calls = least.iter().filter(|c| matches!(c, Cmd::Event { .. })).count();
+    println!("least list ({} commands, {calls} of them calls):", least.len());
     println!("--------\n{}--------", script::text(&least));
     println!("{}", replay_apart(&least).err().unwrap_or("(no longer)".into()));
 }
@@ -159,7 +161,7 @@ fn run_list(
     let mut pair = Pair::default();
     let mut calls = 0;
     log.begin(number);
-    create::check(seed ^ number)?;
+    paths.creation(create::check(seed ^ number)?);
     for c in world.begin() {
         pair.run(log.push(c))?;
     }
@@ -172,10 +174,13 @@ fn run_list(
                 Cmd::Undo => false,
                 _ => damaged,
             };
-            let Cmd::Event { now, event, .. } = c else {
+            let Cmd::Event { now, event, rooms } = c else {
                 pair.run(c)?;
                 if let Some(why) = pair.fault {
                     paths.fault(why);
+                }
+                if let Some(about) = pair.likeness.take() {
+                    paths.alike(about);
                 }
                 continue;
             };
@@ -186,6 +191,7 @@ fn run_list(
             let out = pair.limits.out;
             let before = call.before.as_ref();
             paths.call(before, seen.as_ref(), *now, &call.answer, out, after, damaged);
+            paths.rooms(before, rooms, &call.answer);
             if !damaged {
                 world.heard(&call);
             }
@@ -273,7 +279,7 @@ fn watch(seed: u64, args: &[String]) -> ExitCode {
         .unwrap();
     let text = std::fs::read_to_string(&file).unwrap();
     let _ = std::fs::remove_file(&file);
-    if let Some(code) = status.code() {
+    if let Some(code @ (0 | 1)) = status.code() {
         return ExitCode::from(code as u8);
     }
     let number = text.lines().next().and_then(|l| l.strip_prefix("# list ")?.parse().ok());

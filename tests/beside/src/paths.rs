@@ -7,7 +7,7 @@ use oracle::{
 };
 
 use crate::{
-    block,
+    block, likeness,
     wire::{self, Action, Message},
 };
 
@@ -157,6 +157,15 @@ pub const ALL: &[&str] = &[
     "broadcast Neighbors too large",
     "broadcast Neighbors handed back",
     "broadcast to eager panel itself",
+    "room: second entry of a peer, the first counts",
+    "room of a stranger",
+    "room: more entries than links",
+    "room for some of a peer's sends",
+    "creation 0",
+    "creation 1",
+    "creation 2",
+    "creation 3",
+    "creation 4",
 ];
 
 /// Paths with the number of calls that took them, and what made blocks not whole.
@@ -195,6 +204,39 @@ impl Paths {
     /// A poke made the block not whole.
     pub fn fault(&mut self, why: &'static str) {
         *self.faults.entry(why).or_default() += 1;
+    }
+
+    /// A creation with this answer.
+    pub fn creation(&mut self, number: u64) {
+        let name = ALL.iter().find(|n| **n == format!("creation {number}"));
+        self.hit(name.expect("an answer of a creation"));
+    }
+
+    /// A question of *alike*.
+    pub fn alike(&mut self, about: &'static str) {
+        *self.faults.entry(about).or_default() += 1;
+    }
+
+    /// The link room of a call.
+    pub fn rooms(&mut self, before: Option<&Snap>, rooms: &[(u64, u16)], answer: &Answer) {
+        let Some(b) = before else { return };
+        let sends: Vec<(u64, bool)> = wire::actions(&answer.actions)
+            .iter()
+            .filter_map(|a| match a {
+                Action::Send { peer, back, .. } => Some((*peer, *back)),
+                _ => None,
+            })
+            .collect();
+        self.hit_if(!sends.is_empty() && rooms.len() > 34, "room: more entries than links");
+        for (p, _) in &sends {
+            let mine: Vec<u16> = rooms.iter().filter(|e| e.0 == *p).map(|e| e.1).collect();
+            let other = mine.iter().any(|r| (*r == 0) != (mine[0] == 0));
+            self.hit_if(other, "room: second entry of a peer, the first counts");
+            let stranger = !b.eager.contains(p) && !b.lazy.contains(p);
+            self.hit_if(stranger && !mine.is_empty(), "room of a stranger");
+            let both = [true, false].map(|back| sends.contains(&(*p, back)));
+            self.hit_if(both == [true, true], "room for some of a peer's sends");
+        }
     }
 
     /// Takes in a call. `before` is none if the block was not whole, `seen` if the event isn't one.
@@ -609,7 +651,13 @@ impl Paths {
                 None => none.push(why),
             }
         }
-        let all = ALL.len() + block::FAULTS.len();
+        for about in likeness::ABOUT {
+            match self.faults.get(about) {
+                Some(n) => o += &format!("{n:>12}  {about}\n"),
+                None => none.push(about),
+            }
+        }
+        let all = ALL.len() + block::FAULTS.len() + likeness::ABOUT.len();
         o += &format!("paths hit: {} of {all}\n", all - none.len());
         for name in none {
             o += &format!("       never  {name}\n");

@@ -3,7 +3,7 @@ use std::collections::BTreeSet;
 
 use oracle::{Limits, Panel};
 
-use crate::{gen::World, machine, paths::Paths, run::Pair, script::Cmd, wire::number};
+use crate::{gen::World, library, paths::Paths, run::Pair, script::Cmd, wire::number};
 
 fn bytes(out: &mut Vec<u8>, b: &[u8]) {
     number(out, b.len() as u64);
@@ -71,7 +71,7 @@ fn candidate(seed: u64, n: u64) -> Option<(Vec<Cmd>, Paths)> {
     }
     for _ in 0..world.calls {
         for c in world.next(&pair) {
-            if matches!(c, Cmd::Poke(_) | Cmd::Cut(_) | Cmd::Undo) {
+            if matches!(c, Cmd::Poke(_) | Cmd::Cut(_) | Cmd::Undo | Cmd::Alike { .. }) {
                 return None;
             }
             if let Cmd::Event { now, event, .. } = &c {
@@ -163,7 +163,7 @@ pub fn check(file: &str) -> Result<usize, String> {
                 let max = r.numbers();
                 block = vec![0xa5; crate::block::need(&max)];
                 counts = [0; 3];
-                if machine::create(&mut block, me, m, cfg, max) != 0 {
+                if library::create(&mut block, &mut counts, me, m, cfg, max).number != 0 {
                     return Err("a creation is refused".into());
                 }
             }
@@ -171,18 +171,17 @@ pub fn check(file: &str) -> Result<usize, String> {
             2 => {
                 let now = r.number();
                 let k = r.number();
-                let rooms: Vec<u64> = (0..2 * k).map(|_| r.number()).collect();
+                let rooms: Vec<(u64, u16)> = (0..k).map(|_| (r.number(), r.number() as u16)).collect();
                 let event = r.bytes();
                 let mut out = vec![0; r.number() as usize];
                 let number = r.byte();
                 let actions = r.bytes();
                 let after = r.numbers();
-                let (a, len) =
-                    machine::event(&mut block, &mut counts, now, event, &rooms, &mut out);
+                let a = library::event(&mut block, &mut counts, now, event, &rooms, &mut out);
                 n += 1;
-                let same = a == u64::from(number)
-                    && len as usize == actions.len()
-                    && out[..len as usize] == *actions
+                let same = a.number == u64::from(number)
+                    && a.length as usize == actions.len()
+                    && out[..actions.len()] == *actions
                     && counts == after;
                 if !same {
                     return Err(format!("call {n} differs"));

@@ -24,8 +24,9 @@ use run::Pair;
 use script::Cmd;
 
 const HELP: &str = "\
-beside [--seed N] [--calls N | --seconds N] [--from LIST] [--damage PERCENT]
-    random lists of calls on both, compared after each call
+beside [--seed N] [--calls N] [--seconds N] [--from LIST] [--damage PERCENT] [--brief] [--every-path]
+    random lists of calls on both, compared after each call; --brief: no table, only the paths never
+    taken; --every-path: such a path is a failure
 beside --short
     every event of at most two bytes, and of three that begin with a kind
 beside --script FILE
@@ -207,6 +208,8 @@ struct Job {
     calls: u64,
     seconds: u64,
     damage: Option<f64>,
+    brief: bool,
+    every_path: bool,
 }
 
 /// Runs lists until the calls or the time are spent.
@@ -225,7 +228,7 @@ fn work(job: &Job, mut log: Log) -> ExitCode {
             }
         }
         number += 1;
-        if shown.elapsed() > Duration::from_secs(20) {
+        if !job.brief && shown.elapsed() > Duration::from_secs(20) {
             shown = Instant::now();
             println!(
                 "{done} calls in {} lists, {} s",
@@ -234,10 +237,14 @@ fn work(job: &Job, mut log: Log) -> ExitCode {
             );
         }
     }
-    print!("{}", paths.table());
+    print!("{}", paths.table(job.brief));
     let t = start.elapsed().as_secs_f64();
     let lists = number - job.from;
     println!("seed {}: {done} calls in {lists} lists, 0 different, {t:.0} s", job.seed);
+    if job.every_path && paths.never() > 0 {
+        println!("paths that no call took: {}", paths.never());
+        return ExitCode::from(1);
+    }
     ExitCode::SUCCESS
 }
 
@@ -357,6 +364,8 @@ fn main() -> ExitCode {
             calls: number("--calls", if timed { u64::MAX } else { 100_000 }),
             seconds: number("--seconds", u64::MAX / 4),
             damage: value("--damage").map(|v| v.parse().expect("a number")),
+            brief: args.iter().any(|a| a == "--brief"),
+            every_path: args.iter().any(|a| a == "--every-path"),
         };
         return work(&job, log);
     }

@@ -635,31 +635,29 @@ impl Paths {
         self.hits.keys().copied()
     }
 
-    /// A table of all paths; those never taken last.
-    pub fn table(&self) -> String {
+    /// Every path, with the number of times it was taken.
+    fn all(&self) -> Vec<(u64, String)> {
+        let n = |m: &BTreeMap<&'static str, u64>, k: &str| m.get(k).copied().unwrap_or(0);
+        let calls = ALL.iter().map(|k| (n(&self.hits, k), k.to_string()));
+        let faults = block::FAULTS.iter().map(|k| (n(&self.faults, k), format!("not whole: {k}")));
+        let alike = likeness::ABOUT.iter().map(|k| (n(&self.faults, k), k.to_string()));
+        calls.chain(faults).chain(alike).collect()
+    }
+
+    /// How many paths no call took.
+    pub fn never(&self) -> usize {
+        self.all().iter().filter(|e| e.0 == 0).count()
+    }
+
+    /// A table of all paths, or with `brief` only those never taken.
+    pub fn table(&self, brief: bool) -> String {
         let mut o = String::new();
-        let mut none = Vec::new();
-        for name in ALL {
-            match self.hits.get(name) {
-                Some(n) => o += &format!("{n:>12}  {name}\n"),
-                None => none.push(*name),
-            }
+        let all = self.all();
+        for (n, name) in all.iter().filter(|e| e.0 > 0 && !brief) {
+            o += &format!("{n:>12}  {name}\n");
         }
-        for why in block::FAULTS {
-            match self.faults.get(why) {
-                Some(n) => o += &format!("{n:>12}  not whole: {why}\n"),
-                None => none.push(why),
-            }
-        }
-        for about in likeness::ABOUT {
-            match self.faults.get(about) {
-                Some(n) => o += &format!("{n:>12}  {about}\n"),
-                None => none.push(about),
-            }
-        }
-        let all = ALL.len() + block::FAULTS.len() + likeness::ABOUT.len();
-        o += &format!("paths hit: {} of {all}\n", all - none.len());
-        for name in none {
+        o += &format!("paths hit: {} of {}\n", all.len() - self.never(), all.len());
+        for (_, name) in all.iter().filter(|e| e.0 == 0) {
             o += &format!("       never  {name}\n");
         }
         o

@@ -277,8 +277,13 @@ impl World {
             v.push((k / 256) as u8);
             return v;
         }
-        if x < 93 {
+        if x < 91 {
             let n = r.pick(&[0, 1, 63, 64, 65, 127, 128, 130, 200]);
+            return r.bytes(n);
+        }
+        if x < 94 {
+            // Around BLAKE3's chunks.
+            let n = r.pick(&[1023, 1024, 1025, 2047, 2048, 2049, 3072, 3073]);
             return r.bytes(n);
         }
         // Around the size that is still sent.

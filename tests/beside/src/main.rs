@@ -24,7 +24,7 @@ use run::Pair;
 use script::Cmd;
 
 const HELP: &str = "\
-beside [--seed N] [--calls N] [--seconds N] [--from LIST] [--damage PERCENT] [--brief] [--every-path]
+beside [--seed N] [--calls N] [--seconds N] [--from LIST] [--damage PERCENT] [--brief] [--every-path] [--no-shrink]
     random lists of calls on both, compared after each call; --brief: no table, only the paths never
     taken; --every-path: such a path is a failure
 beside --short
@@ -112,8 +112,13 @@ fn shrink(mut list: Vec<Cmd>) -> Vec<Cmd> {
     list
 }
 
-fn report(seed: u64, number: u64, list: Vec<Cmd>, why: &str) {
-    println!("DIFFERENT: seed {seed} list {number}: {why}");
+/// Tells a difference. `calls` were made before its list.
+fn report(seed: u64, number: u64, calls: u64, list: Vec<Cmd>, why: &str) {
+    let own = list.iter().filter(|c| matches!(c, Cmd::Event { .. })).count() as u64;
+    println!("DIFFERENT: seed {seed} list {number} after {} calls: {why}", calls + own);
+    if std::env::args().any(|a| a == "--no-shrink") {
+        return;
+    }
     println!("shrinking {} commands", list.len());
     let least = shrink(list);
     let calls = least.iter().filter(|c| matches!(c, Cmd::Event { .. })).count();
@@ -129,12 +134,12 @@ struct Log {
 }
 
 impl Log {
-    fn begin(&mut self, number: u64) {
+    fn begin(&mut self, number: u64, calls: u64) {
         self.list.clear();
         if let Some(f) = &mut self.file {
             f.set_len(0).unwrap();
             f.rewind().unwrap();
-            writeln!(f, "# list {number}").unwrap();
+            writeln!(f, "# list {number} {calls}").unwrap();
         }
     }
 
@@ -151,6 +156,7 @@ impl Log {
 fn run_list(
     seed: u64,
     number: u64,
+    before: u64,
     damage: Option<f64>,
     paths: &mut Paths,
     log: &mut Log,
@@ -161,7 +167,7 @@ fn run_list(
     }
     let mut pair = Pair::default();
     let mut calls = 0;
-    log.begin(number);
+    log.begin(number, before);
     paths.creation(create::check(seed ^ number)?);
     for c in world.begin() {
         pair.run(log.push(c))?;
@@ -220,10 +226,10 @@ fn work(job: &Job, mut log: Log) -> ExitCode {
     let mut number = job.from;
     let mut shown = start;
     while done < job.calls && start.elapsed() < Duration::from_secs(job.seconds) {
-        match run_list(job.seed, number, job.damage, &mut paths, &mut log) {
+        match run_list(job.seed, number, done, job.damage, &mut paths, &mut log) {
             Ok(n) => done += n,
             Err(why) => {
-                report(job.seed, number, log.list, &why);
+                report(job.seed, number, done, log.list, &why);
                 return ExitCode::from(1);
             }
         }
@@ -256,7 +262,7 @@ fn short(mut log: Log) -> ExitCode {
     for kind in 0..6u8 {
         events.extend((0..=65535u16).map(|x| [vec![kind], x.to_be_bytes().to_vec()].concat()));
     }
-    log.begin(0);
+    log.begin(0, 0);
     let mut pair = Pair::default();
     let cfg = [80, 40, 5, 7, 30000, 90000, 1000];
     let mut begin =
@@ -267,7 +273,7 @@ fn short(mut log: Log) -> ExitCode {
     for c in begin.into_iter().chain(calls) {
         n += 1;
         if let Err(why) = pair.run(log.push(c)) {
-            report(0, 0, log.list, &why);
+            report(0, 0, 0, log.list, &why);
             return ExitCode::from(1);
         }
     }
@@ -289,9 +295,11 @@ fn watch(seed: u64, args: &[String]) -> ExitCode {
     if let Some(code @ (0 | 1)) = status.code() {
         return ExitCode::from(code as u8);
     }
-    let number = text.lines().next().and_then(|l| l.strip_prefix("# list ")?.parse().ok());
+    let head = text.lines().next().and_then(|l| l.strip_prefix("# list ")?.split_once(' '));
+    let of = |s: &str| s.parse().unwrap_or(0);
+    let (number, calls) = head.map_or((0, 0), |(a, b)| (of(a), of(b)));
     match script::parse(&text) {
-        Ok(list) => report(seed, number.unwrap_or(0), list, &status.to_string()),
+        Ok(list) => report(seed, number, calls, list, &status.to_string()),
         Err(e) => println!("{status}: {e}"),
     }
     ExitCode::from(1)

@@ -340,8 +340,8 @@ fn main() -> ExitCode {
     }
     if let Some(file) = value("--check") {
         return match sample::check(file) {
-            Ok(n) => {
-                println!("{n} calls, 0 different");
+            Ok((n, states)) => {
+                println!("{n} calls, {states} states, 0 different");
                 ExitCode::SUCCESS
             }
             Err(e) => {

@@ -8,6 +8,6 @@ have_rust || exit 0
 rt staticlib plumtree >/dev/null
 LIBRARY=$PWD/target/staticlib tests/beside/build.sh
 beside=tests/target/release/beside
-$beside --check tests/beside/sample.bin
+$beside --check crates/beside_sample/stdin
 $beside --brief --seed 7 --calls 160000 --every-path
 $beside --brief --seed "${SEED:-$(date +%s)}" --calls 200000

@@ -32,6 +32,8 @@ pub enum Profile {
     Drops,
     /// Announcements, grafts, late replies.
     Graft,
+    /// First events, from a loaded state that has outlived its entries.
+    First,
     /// Records and queues that fill, from a loaded state.
     Full,
     /// Records that fill by calls.
@@ -76,8 +78,9 @@ impl World {
         let profile = match r.below(1000) {
             0..=179 => Profile::Default,
             180..=459 => Profile::Tiny,
-            460..=699 => Profile::Drops,
-            700..=983 => Profile::Graft,
+            460..=679 => Profile::Drops,
+            680..=883 => Profile::Graft,
+            884..=983 => Profile::First,
             984..=996 => Profile::Full,
             997..=998 => Profile::Ceilings,
             _ => Profile::Fill,
@@ -157,6 +160,11 @@ impl World {
                 scale(&mut weights, &v);
                 scale(&mut weights, &[("story", 20)]);
             }
+            Profile::First => {
+                let v = [("sendgraft", 24), ("gossip", 40), ("broadcast", 14), ("evict", 6)];
+                scale(&mut weights, &v);
+                scale(&mut weights, &[("up", 2), ("story", 0), ("pending", 2)]);
+            }
             Profile::Full | Profile::Fill | Profile::Ceilings => {
                 let v = [("dispatch", 14), ("announce", 10), ("down", 1), ("broadcast", 20)];
                 scale(&mut weights, &v);
@@ -176,6 +184,7 @@ impl World {
                 Profile::Full => 40,
                 Profile::Ceilings => 30,
                 Profile::Fill => 700,
+                Profile::First => r.pick(&[2, 4, 10]),
                 _ => r.pick(&[20, 60, 150, 300]),
             },
             me,
@@ -302,7 +311,7 @@ impl World {
         self.out = self.outputs();
         v.push(Cmd::Limits { max: self.max, out: self.out });
         let load = match self.profile {
-            Profile::Full | Profile::Ceilings => true,
+            Profile::Full | Profile::Ceilings | Profile::First => true,
             Profile::Fill => false,
             _ => self.r.chance(35.0),
         };
@@ -326,7 +335,7 @@ impl World {
                 self.plan.drain(7..31);
             }
             self.plan.reverse();
-        } else if self.r.chance(80.0) {
+        } else if self.profile != Profile::First && self.r.chance(80.0) {
             let n = 1 + self.r.index(9);
             for _ in 0..n {
                 let p = self.r.pick(&self.peers);
@@ -920,7 +929,7 @@ impl World {
                 s.lazy.push(*p);
             }
         }
-        s.init = r.chance(60.0);
+        s.init = self.profile != Profile::First && r.chance(60.0);
         // Times around now, few of them.
         let now = self.now;
         let mut times: Vec<u64> = (0..1 + r.index(6))
@@ -1007,7 +1016,8 @@ impl World {
                 let mut v = peers.clone();
                 r.shuffle(&mut v);
                 let most = r.pick(&[1, 2, links]);
-                v.truncate(1 + r.index(most));
+                let all = r.chance(30.0);
+                v.truncate(if all { most } else { 1 + r.index(most) });
                 s.missing.push((id, v.into_iter().map(|p| (p, hops(r))).collect()));
             }
         }
@@ -1044,7 +1054,9 @@ impl World {
                 r.pick(&[0, 1, 2, 5, 63, 64, 65, 130, 256])
             };
             let mut v = self.ids.clone();
-            r.shuffle(&mut v);
+            if !full && r.chance(40.0) && !s.cache.is_empty() {
+                v = s.cache.iter().map(|c| c.id).collect();
+            }
             v.sort();
             v.dedup();
             r.shuffle(&mut v);

@@ -1,7 +1,7 @@
 #!/usr/bin/env python3
-"""run.py [WORD]: applies each change of mutants.txt (those whose file or function has the word) to a copy of the sources, compiles it unproved and
-runs it beside the Rust for at most a minute. Writes a table to RESULTS.md. Nothing of this is a test of the gate: it tests the tests."""
-import os, re, shutil, subprocess, sys, tempfile, time
+"""run.py [WORD]: applies each change of mutants.txt (those whose file or function has the word; with no word, those not run yet) to a copy of the
+sources, compiles it unproved and runs it beside the Rust for at most a minute. Writes a table to RESULTS.md. No part of the gate: it tests the tests."""
+import json, os, re, shutil, subprocess, sys, tempfile
 
 here = os.path.dirname(os.path.abspath(__file__))
 top = os.path.dirname(os.path.dirname(here))
@@ -76,9 +76,39 @@ def judge(beside, lib):
     return ('SURVIVED', m.group(1), '') if m else ('?', '', out[-200:].replace('\n', ' '))
 
 
+def key(m):
+    return ' '.join(m[:4])
+
+
+def table(mutants, rows):
+    """RESULTS.md of what is known of the list's changes."""
+    known = [m for m in mutants if key(m) in rows]
+    told = [rows[key(m)] for m in known]
+    caught = sum(r[0] == 'caught' for r in told)
+    with open(os.path.join(here, 'RESULTS.md'), 'w') as f:
+        f.write('# Mutants\n\n%d changes of the library (mutants.txt), each run beside the Rust for at most a minute: %d told apart, %d not. ' % (len(known), caught, len(known) - caught))
+        f.write('"After" is the number of the call that differs, or of all calls made where none does; "by" what differs, or why nothing can.\n\n')
+        f.write('| where | change | told apart | after | by |\n|---|---|---|---|---|\n')
+        for m, (answer, calls, by) in zip(known, told):
+            file, function, old, new, why = m
+            where = file.replace('crates/', '').replace('/src/', '/').replace('.rt', '') + ' ' + function
+            answer = {'caught': 'yes', 'SURVIVED': 'no'}.get(answer, answer)
+            change = ('`%s` → `%s`' % (old, new)).replace('|', '\\|')
+            f.write('| %s | %s | %s | %s | %s |\n' % (where, change, answer, calls, by or why or ''))
+
+
 def main():
+    """With no word: those whose rows are not known yet. The rows of all runs are kept in tests/target/mutants/rows."""
     word = sys.argv[1] if len(sys.argv) > 1 else ''
-    todo = [m for m in read_list(os.path.join(here, 'mutants.txt')) if word in m[0] + ' ' + m[1]]
+    mutants = read_list(os.path.join(here, 'mutants.txt'))
+    target = os.path.join(top, 'tests', 'target', 'mutants')
+    os.makedirs(target, exist_ok=True)
+    kept = os.path.join(target, 'rows')
+    rows = json.load(open(kept)) if os.path.exists(kept) else {}
+    if word:
+        todo = [m for m in mutants if word in m[0] + ' ' + m[1]]
+    else:
+        todo = [m for m in mutants if key(m) not in rows]
     work = tempfile.mkdtemp()
     lib = os.path.join(work, 'lib')
     os.makedirs(lib)
@@ -88,29 +118,21 @@ def main():
     so = os.path.join(lib, 'libplumtree.so')
     ok, said = build(copy, so)
     assert ok, said
-    target = os.environ.get('CARGO_TARGET_DIR') or os.path.join(top, 'tests', 'target', 'mutants')
     subprocess.run(['cargo', 'build', '--release', '--offline', '-j', '1', '--quiet'], cwd=os.path.join(top, 'tests', 'beside'), env=dict(os.environ, LIBRARY=lib, CARGO_TARGET_DIR=target), check=True)
     beside = os.path.join(target, 'release', 'beside')
-    rows = [('none', 'the sources as they are', *judge(beside, lib), None)]
-    print(rows[0], flush=True)
-    for file, function, old, new, why in todo:
+    for m in todo:
+        file, function, old, new, why = m
         path = os.path.join(copy, file)
         text = open(path).read()
-        name = file.replace('crates/', '').replace('/src/', '/').replace('.rt', '') + ' ' + function
-        change = '`%s` → `%s`' % (old, new)
         open(path, 'w').write(changed(text, function, old, new))
         ok, said = build(copy, so)
         told = judge(beside, lib) if ok else ('NOT BUILT', '', said.strip().split('\n')[-1][:100])
         open(path, 'w').write(text)
-        rows.append((name, change, *told, why))
-        print(time.strftime('%H:%M:%S'), rows[-1], flush=True)
+        rows[key(m)] = told
+        json.dump(rows, open(kept, 'w'))
+        print(file, function, told, flush=True)
     shutil.rmtree(work)
-    with open(os.environ.get('TABLE', os.path.join(here, 'RESULTS.md')), 'w') as f:
-        caught = sum(r[2] == 'caught' for r in rows)
-        f.write('# Mutants\n\nMade by run.py, seed %s, at most %d s each: %d changes, %d caught, %d not.\n\n' % (SEED, SECONDS, len(rows) - 1, caught, len(rows) - 1 - caught))
-        f.write('| where | change | caught | after calls | by |\n|---|---|---|---|---|\n')
-        for name, change, told, calls, by, why in rows:
-            f.write('| %s | %s | %s | %s | %s |\n' % (name, change.replace('|', '\\|'), {'caught': 'yes', 'SURVIVED': 'no'}.get(told, told), calls, by or why or ''))
+    table(mutants, rows)
 
 
 main()

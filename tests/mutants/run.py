@@ -110,8 +110,8 @@ def main():
     else:
         todo = [m for m in mutants if key(m) not in rows]
     work = tempfile.mkdtemp()
-    lib = os.path.join(work, 'lib')
-    os.makedirs(lib)
+    lib = os.path.join(target, 'lib')
+    os.makedirs(lib, exist_ok=True)
     copy = os.path.join(work, 'copy')
     os.makedirs(copy)
     sources(copy)

@@ -34,6 +34,8 @@ pub enum Profile {
     Graft,
     /// First events, from a loaded state that has outlived its entries.
     First,
+    /// Records around 64 and 256 of cached messages, from a loaded state.
+    Record,
     /// Records and queues that fill, from a loaded state.
     Full,
     /// Records that fill by calls.
@@ -76,12 +78,13 @@ impl World {
         let mut r = Rng::new(seed.rotate_left(32) ^ list);
         r.next();
         let profile = match r.below(1000) {
-            0..=179 => Profile::Default,
-            180..=459 => Profile::Tiny,
-            460..=679 => Profile::Drops,
-            680..=883 => Profile::Graft,
-            884..=983 => Profile::First,
-            984..=996 => Profile::Full,
+            0..=119 => Profile::Default,
+            120..=319 => Profile::Tiny,
+            320..=489 => Profile::Drops,
+            490..=679 => Profile::Graft,
+            680..=939 => Profile::First,
+            940..=979 => Profile::Record,
+            980..=996 => Profile::Full,
             997..=998 => Profile::Ceilings,
             _ => Profile::Fill,
         };
@@ -109,6 +112,7 @@ impl World {
         let step = cfg[4].min(cfg[5]).min(1000).max(8) / 4;
         let n = match profile {
             Profile::Full | Profile::Fill => 330,
+            Profile::Record => 300,
             Profile::Ceilings => 600,
             Profile::Drops => r.pick(&[20, 90]),
             _ => r.pick(&[1, 2, 4, 8, 16, 40]),
@@ -165,7 +169,7 @@ impl World {
                 scale(&mut weights, &v);
                 scale(&mut weights, &[("up", 2), ("story", 0), ("pending", 2)]);
             }
-            Profile::Full | Profile::Fill | Profile::Ceilings => {
+            Profile::Full | Profile::Fill | Profile::Ceilings | Profile::Record => {
                 let v = [("dispatch", 14), ("announce", 10), ("down", 1), ("broadcast", 20)];
                 scale(&mut weights, &v);
                 scale(&mut weights, &[("graft", 14), ("evict", 1)]);
@@ -185,6 +189,7 @@ impl World {
                 Profile::Ceilings => 30,
                 Profile::Fill => 700,
                 Profile::First => r.pick(&[2, 4, 10]),
+                Profile::Record => 8,
                 _ => r.pick(&[20, 60, 150, 300]),
             },
             me,
@@ -200,6 +205,7 @@ impl World {
             bad: if big { 0.5 } else { r.pick(&[0.0, 2.0, 6.0]) },
             tight: match profile {
                 Profile::Drops | Profile::Full | Profile::Fill | Profile::Ceilings => 85.0,
+                Profile::Record => 85.0,
                 _ => r.pick(&[5.0, 35.0, 70.0]),
             },
             damage: if big { 8.0 } else { r.pick(&[0.0, 0.0, 0.0, 20.0]) },
@@ -248,6 +254,7 @@ impl World {
             }
             Profile::Default => PANELRUN,
             Profile::Ceilings => CEILINGS,
+            Profile::Record => [8, 300, 300, 8000, 8, 8, 16, 400, r.pick(&[1100, 1024, 600])],
             _ => match r.below(4) {
                 0 => PANELRUN,
                 1 => [
@@ -311,7 +318,7 @@ impl World {
         self.out = self.outputs();
         v.push(Cmd::Limits { max: self.max, out: self.out });
         let load = match self.profile {
-            Profile::Full | Profile::Ceilings | Profile::First => true,
+            Profile::Full | Profile::Ceilings | Profile::First | Profile::Record => true,
             Profile::Fill => false,
             _ => self.r.chance(35.0),
         };
@@ -335,7 +342,9 @@ impl World {
                 self.plan.drain(7..31);
             }
             self.plan.reverse();
-        } else if self.profile != Profile::First && self.r.chance(80.0) {
+        } else if self.r.chance(80.0)
+            && !matches!(self.profile, Profile::First | Profile::Record)
+        {
             let n = 1 + self.r.index(9);
             for _ in 0..n {
                 let p = self.r.pick(&self.peers);
@@ -905,6 +914,7 @@ impl World {
     /// A whole state that no list of calls need lead to.
     fn state(&mut self) -> Snap {
         let full = matches!(self.profile, Profile::Full | Profile::Ceilings);
+        let record = self.profile == Profile::Record;
         let top = self.profile == Profile::Ceilings;
         let [n, rm, cm, bm, gm, sm, tm, qm, dm] = self.max.map(|x| x as usize);
         let r = &mut self.r;
@@ -939,7 +949,7 @@ impl World {
         if r.chance(5.0) {
             times.push(u64::MAX);
         }
-        if full {
+        if full || record {
             times.iter_mut().for_each(|t| *t = t.saturating_add(1 << 41));
         }
         let some = |r: &mut Rng, ids: &[Id], k: usize| -> Vec<Id> {
@@ -971,7 +981,7 @@ impl World {
         s.received = some(r, &self.ids, k).into_iter().map(|id| (id, r.pick(&times))).collect();
         s.rexp = stale(r, s.received.iter().map(|e| (e.1, e.0)).collect(), &self.ids, 2 * rm);
 
-        let k = if full { cm } else { fill(r, cm) };
+        let k = if full || record { cm } else { fill(r, cm) };
         let mut left = bm;
         for id in some(r, &self.ids, k) {
             let content = match self.content_of.get(&id) {
@@ -1045,16 +1055,23 @@ impl World {
             }
         }
         s.queue = queue;
-        let mut left =
-            if full { dm.min(r.pick(&[4096, 4096, 4095, 4090, 4000, 3000])) } else { fill(r, dm) };
+        let mut left = if record {
+            dm
+        } else if full {
+            dm.min(r.pick(&[4096, 4096, 4095, 4090, 4000, 3000]))
+        } else {
+            fill(r, dm)
+        };
         for p in &peers {
             let k = if full {
                 r.pick(&[256, 256, 256, 255, 254, 250, 200])
+            } else if record {
+                r.pick(&[0, 63, 64, 64, 65, 128, 254, 255, 255, 256])
             } else {
                 r.pick(&[0, 1, 2, 5, 63, 64, 65, 130, 256])
             };
             let mut v = self.ids.clone();
-            if !full && r.chance(40.0) && !s.cache.is_empty() {
+            if !full && (record || r.chance(40.0)) && !s.cache.is_empty() {
                 v = s.cache.iter().map(|c| c.id).collect();
             }
             v.sort();

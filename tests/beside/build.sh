@@ -1,10 +1,10 @@
 #!/bin/sh
-# Builds target/release/beside against the library in the directory MACHINE names (libmachine.a), and
-# target/fair/beside, without overflow checks in the Rust, for times. One core, no crates registry.
+# Builds ../target/release/beside against the library in the directory LIBRARY names (libplumtree.a). With the word `fair` also
+# ../target/fair/beside, without overflow checks in the Rust, for times. One core, no crates registry.
 set -eu
 cd "$(dirname "$0")"
-: "${MACHINE:?names the directory of libmachine.a}"
+: "${LIBRARY:?names the directory of libplumtree.a}"
 ../rust/build.sh
 cargo build --release --offline -j 1
-cargo build --profile fair --offline -j 1
-echo "built: $PWD/target/release/beside, $PWD/target/fair/beside"
+[ "${1:-}" != fair ] || cargo build --profile fair --offline -j 1
+echo "built: tests/target/release/beside"

@@ -5,5 +5,5 @@ cd "$(dirname "$0")/../.."
 . tools/setup.sh
 diff <(python3 tests/definitions/sample.py module tests/definitions/calls.txt | grep -v '^unfolding ') <(grep -v '^unfolding ' crates/rust_sample/proofs/RustSample.antt)
 have_rust || exit 0
-[ -x tests/rust/target/release/oracle ] || tests/rust/build.sh
-python3 tests/definitions/sample.py replay tests/definitions/calls.txt tests/rust/target/release/oracle
+[ -x tests/target/release/oracle ] || tests/rust/build.sh
+python3 tests/definitions/sample.py replay tests/definitions/calls.txt tests/target/release/oracle

@@ -9,4 +9,4 @@ need_packages librust-hex-dev librust-indexmap-dev
 rt staticlib time_cache_c >/dev/null
 cd tests/time_cache
 LIBRARY=$PWD/../../target/staticlib cargo build --release --offline -j 1 --quiet
-target/release/time_cache_beside "${SEED:-$(date +%s)}" "${LISTS:-2000}"
+../target/release/time_cache_beside "${SEED:-$(date +%s)}" "${LISTS:-2000}"

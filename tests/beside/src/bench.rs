@@ -13,7 +13,7 @@ use oracle::{
 use crate::{
     block::{self, CEILINGS},
     gen::PANELRUN,
-    machine,
+    library,
     rng::Rng,
     wire,
 };
@@ -256,23 +256,23 @@ fn measure(max: &[u64; 9], s: &Snap, case: &Case, runs: usize) -> Times {
     let mut start = vec![0; need];
     block::write(&mut Rng::new(3), &mut start, max, s);
     let mut b = start.clone();
-    let rooms: Vec<u64> = case.rooms.iter().flat_map(|(p, r)| [*p, u64::from(*r)]).collect();
+    let rooms = &case.rooms;
     let mut out = vec![0; 1 << 21];
     let mut t = Times { rust: f64::MAX, ours: f64::MAX, whole: f64::MAX, answer: 0 };
     let since = |i: Instant| i.elapsed().as_nanos() as f64 - base;
     for _ in 0..runs {
         b.copy_from_slice(&start);
         // What the call reads is at hand, as it is on the Rust's side.
-        assert!(machine::whole(&b));
+        assert!(library::whole(&mut b));
         let i = Instant::now();
-        let w = machine::whole(&b);
+        let w = library::whole(&mut b);
         t.whole = t.whole.min(since(i));
         assert!(w);
         let mut counts = [0; 3];
         let i = Instant::now();
-        let (n, _) = machine::event(&mut b, &mut counts, case.now, &case.event, &rooms, &mut out);
+        let a = library::event(&mut b, &mut counts, case.now, &case.event, rooms, &mut out);
         t.ours = t.ours.min(since(i));
-        t.answer = n;
+        t.answer = a.number;
     }
     let panel = Panel::load(&s.text()).unwrap();
     let mut bytes = Vec::with_capacity(1 << 21);
@@ -329,10 +329,10 @@ pub fn spin(name: &str, ceilings: bool, times: u64) {
     let mut start = vec![0; block::need(&max)];
     block::write(&mut Rng::new(3), &mut start, &max, &s);
     let mut b = start.clone();
-    let rooms: Vec<u64> = case.rooms.iter().flat_map(|(p, r)| [*p, u64::from(*r)]).collect();
+    let rooms = &case.rooms;
     let mut out = vec![0; 1 << 21];
     for _ in 0..times {
         b.copy_from_slice(&start);
-        machine::event(&mut b, &mut [0; 3], case.now, &case.event, &rooms, &mut out);
+        library::event(&mut b, &mut [0; 3], case.now, &case.event, rooms, &mut out);
     }
 }

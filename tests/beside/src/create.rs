@@ -1,26 +1,21 @@
 //! Creations with settings, limits and lengths around their bounds.
-use oracle::Oracle;
-
 use crate::{
     block::{self, CEILINGS},
-    machine,
+    library,
     rng::Rng,
 };
 
-/// The number that document 01 asks for: the oracle's for 1 to 3, the length's for 4.
-fn expected(me: u64, m: u64, cfg: [u64; 7], max: [u64; 9], len: usize) -> u64 {
-    let mut oracle = Oracle::default();
-    let mut ask = |name: &str, v: &[u64]| {
-        let v: Vec<String> = v.iter().map(|x| x.to_string()).collect();
-        let words: Vec<&str> = [name].into_iter().chain(v.iter().map(|x| x.as_str())).collect();
-        oracle.run(&words).expect("a command")
-    };
-    let new = [&[me, m][..], &cfg].concat();
-    let limits = [&max[..], &[0]].concat();
-    for answer in [ask("new", &new), ask("limits", &limits)] {
-        if let Some(n) = answer.strip_prefix("bad ") {
-            return n.parse().unwrap();
-        }
+/// Document 01's questions 1 to 4.
+fn expected(m: u64, cfg: [u64; 7], max: [u64; 9], len: usize) -> u64 {
+    let durations = [cfg[0], cfg[1], cfg[2], cfg[4], cfg[5], cfg[6]];
+    if !(510..=4094).contains(&m) {
+        return 1;
+    }
+    if durations.iter().any(|d| *d > 1 << 40) {
+        return 2;
+    }
+    if !in_range(&max) {
+        return 3;
     }
     if len < block::need(&max) {
         return 4;
@@ -28,8 +23,12 @@ fn expected(me: u64, m: u64, cfg: [u64; 7], max: [u64; 9], len: usize) -> u64 {
     0
 }
 
-/// One creation.
-pub fn check(seed: u64) -> Result<(), String> {
+fn in_range(max: &[u64; 9]) -> bool {
+    (0..9).all(|i| (1..=CEILINGS[i]).contains(&max[i]))
+}
+
+/// One creation; answers its number. Also the size of a block, 0 for limits out of range.
+pub fn check(seed: u64) -> Result<u64, String> {
     let r = &mut Rng::new(seed ^ 0xc4ea7e);
     let any = r.next();
     let me = r.pick(&[0, 1, u64::MAX, any]);
@@ -62,17 +61,27 @@ pub fn check(seed: u64) -> Result<(), String> {
     let len = r.pick(&[need, need, need + 1, need - 1, need + 500, need / 2, any, 0, 2048, 4096]);
     let mut bytes = r.bytes(len);
     let before = bytes.clone();
-    let rust = expected(me, m, cfg, max, len);
-    let ours = machine::create(&mut bytes, me, m, cfg, max);
+    let any = [r.next(), r.next(), r.below(65536)];
+    let mut counts = any;
     let told = format!("creation: me {me} M {m} settings {cfg:?} limits {max:?} length {len}");
-    if rust != ours {
-        return Err(format!("{told}: {rust}, the library {ours}"));
+    let size = if in_range(&max) { block::need(&max) as u64 } else { 0 };
+    let ours = library::block_size(max);
+    if size != ours {
+        return Err(format!("{told}: block size {size}, the library {ours}"));
     }
-    if rust != 0 {
-        if bytes != before {
-            return Err(format!("{told}: refused, but the block changed"));
+    let number = expected(m, cfg, max, len);
+    let ours = library::create(&mut bytes, &mut counts, me, m, cfg, max);
+    if ours != (library::Answer { number, length: 0, kept: true }) {
+        return Err(format!("{told}: {number}, the library {ours:?}"));
+    }
+    if number != 0 {
+        if bytes != before || counts != any {
+            return Err(format!("{told}: refused, but the block or the counts changed"));
         }
-        return Ok(());
+        return Ok(number);
+    }
+    if counts != [0; 3] {
+        return Err(format!("{told}: counts {counts:?}"));
     }
     let state = block::read(&bytes).map_err(|e| format!("{told}: not whole: {e}"))?;
     if state.text() != oracle::Panel::new(me, m, cfg).snap().text() || block::limits(&bytes) != max
@@ -80,8 +89,8 @@ pub fn check(seed: u64) -> Result<(), String> {
         return Err(format!("{told}: another state"));
     }
     let need = block::need(&max);
-    if bytes[need..] != before[need..] || !machine::whole(&bytes) {
+    if bytes[need..] != before[need..] || !library::whole(&mut bytes) {
         return Err(format!("{told}: past the need, or not whole"));
     }
-    Ok(())
+    Ok(number)
 }

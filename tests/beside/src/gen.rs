@@ -8,6 +8,7 @@ use oracle::{
 
 use crate::{
     block::{self, Layout, CEILINGS},
+    likeness,
     rng::Rng,
     run::{Call, Pair},
     script::Cmd,
@@ -31,6 +32,10 @@ pub enum Profile {
     Drops,
     /// Announcements, grafts, late replies.
     Graft,
+    /// First events, from a loaded state that has outlived its entries.
+    First,
+    /// Records around 64 and 256 of cached messages, from a loaded state.
+    Record,
     /// Records and queues that fill, from a loaded state.
     Full,
     /// Records that fill by calls.
@@ -56,6 +61,7 @@ pub struct World {
     bad: f64,
     tight: f64,
     damage: f64,
+    alike: f64,
     weights: Vec<(&'static str, u64)>,
     pending: Vec<Vec<u8>>,
     plan: Vec<Vec<u8>>,
@@ -72,11 +78,13 @@ impl World {
         let mut r = Rng::new(seed.rotate_left(32) ^ list);
         r.next();
         let profile = match r.below(1000) {
-            0..=179 => Profile::Default,
-            180..=459 => Profile::Tiny,
-            460..=699 => Profile::Drops,
-            700..=983 => Profile::Graft,
-            984..=996 => Profile::Full,
+            0..=119 => Profile::Default,
+            120..=319 => Profile::Tiny,
+            320..=489 => Profile::Drops,
+            490..=679 => Profile::Graft,
+            680..=939 => Profile::First,
+            940..=979 => Profile::Record,
+            980..=996 => Profile::Full,
             997..=998 => Profile::Ceilings,
             _ => Profile::Fill,
         };
@@ -104,6 +112,7 @@ impl World {
         let step = cfg[4].min(cfg[5]).min(1000).max(8) / 4;
         let n = match profile {
             Profile::Full | Profile::Fill => 330,
+            Profile::Record => 300,
             Profile::Ceilings => 600,
             Profile::Drops => r.pick(&[20, 90]),
             _ => r.pick(&[1, 2, 4, 8, 16, 40]),
@@ -155,7 +164,12 @@ impl World {
                 scale(&mut weights, &v);
                 scale(&mut weights, &[("story", 20)]);
             }
-            Profile::Full | Profile::Fill | Profile::Ceilings => {
+            Profile::First => {
+                let v = [("sendgraft", 24), ("gossip", 40), ("broadcast", 14), ("evict", 6)];
+                scale(&mut weights, &v);
+                scale(&mut weights, &[("up", 2), ("story", 0), ("pending", 2)]);
+            }
+            Profile::Full | Profile::Fill | Profile::Ceilings | Profile::Record => {
                 let v = [("dispatch", 14), ("announce", 10), ("down", 1), ("broadcast", 20)];
                 scale(&mut weights, &v);
                 scale(&mut weights, &[("graft", 14), ("evict", 1)]);
@@ -174,6 +188,8 @@ impl World {
                 Profile::Full => 40,
                 Profile::Ceilings => 30,
                 Profile::Fill => 700,
+                Profile::First => r.pick(&[2, 4, 10]),
+                Profile::Record => 8,
                 _ => r.pick(&[20, 60, 150, 300]),
             },
             me,
@@ -189,9 +205,11 @@ impl World {
             bad: if big { 0.5 } else { r.pick(&[0.0, 2.0, 6.0]) },
             tight: match profile {
                 Profile::Drops | Profile::Full | Profile::Fill | Profile::Ceilings => 85.0,
+                Profile::Record => 85.0,
                 _ => r.pick(&[5.0, 35.0, 70.0]),
             },
             damage: if big { 8.0 } else { r.pick(&[0.0, 0.0, 0.0, 20.0]) },
+            alike: if big { 3.0 } else { r.pick(&[0.0, 3.0, 3.0, 20.0]) },
             weights,
             pending: Vec::new(),
             plan: Vec::new(),
@@ -236,6 +254,7 @@ impl World {
             }
             Profile::Default => PANELRUN,
             Profile::Ceilings => CEILINGS,
+            Profile::Record => [8, 300, 300, 8000, 8, 8, 16, 400, r.pick(&[1100, 1024, 600])],
             _ => match r.below(4) {
                 0 => PANELRUN,
                 1 => [
@@ -274,8 +293,13 @@ impl World {
             v.push((k / 256) as u8);
             return v;
         }
-        if x < 93 {
+        if x < 91 {
             let n = r.pick(&[0, 1, 63, 64, 65, 127, 128, 130, 200]);
+            return r.bytes(n);
+        }
+        if x < 94 {
+            // Around BLAKE3's chunks.
+            let n = r.pick(&[1023, 1024, 1025, 2047, 2048, 2049, 3072, 3073]);
             return r.bytes(n);
         }
         // Around the size that is still sent.
@@ -294,7 +318,7 @@ impl World {
         self.out = self.outputs();
         v.push(Cmd::Limits { max: self.max, out: self.out });
         let load = match self.profile {
-            Profile::Full | Profile::Ceilings => true,
+            Profile::Full | Profile::Ceilings | Profile::First | Profile::Record => true,
             Profile::Fill => false,
             _ => self.r.chance(35.0),
         };
@@ -318,7 +342,9 @@ impl World {
                 self.plan.drain(7..31);
             }
             self.plan.reverse();
-        } else if self.r.chance(80.0) {
+        } else if self.r.chance(80.0)
+            && !matches!(self.profile, Profile::First | Profile::Record)
+        {
             let n = 1 + self.r.index(9);
             for _ in 0..n {
                 let p = self.r.pick(&self.peers);
@@ -360,11 +386,17 @@ impl World {
         if out != pair.limits.out {
             v.push(Cmd::Limits { max: self.max, out });
         }
+        if self.r.chance(self.alike) {
+            v.push(self.likeness(snap));
+        }
         let call = Cmd::Event { now, rooms, event };
         if self.r.chance(self.damage) {
             for _ in 0..self.r.pick(&[1, 3]) {
                 let damage = self.poke(pair.block());
                 v.push(damage);
+                if self.r.chance(self.alike) {
+                    v.push(self.likeness(snap));
+                }
                 v.push(call.clone());
                 v.push(Cmd::Undo);
             }
@@ -453,7 +485,7 @@ impl World {
         }
         let room = |r: &mut Rng| r.pick(&[0, 0, 0, 0, 1, 1, 2, 3, 65535]);
         let n = self.peers.len();
-        match self.r.below(5) {
+        let mut v: Vec<(u64, u16)> = match self.r.below(5) {
             0 => self.peers.iter().map(|p| (*p, 0)).collect(),
             4 => {
                 let same = self.r.pick(&[0, 1, 1, 2, 3]);
@@ -472,7 +504,18 @@ impl World {
                 self.r.shuffle(&mut v);
                 v.into_iter().map(|p| (p, room(&mut self.r))).collect()
             }
+        };
+        if self.r.chance(25.0) {
+            // More entries, before and behind: of the same peers, of strangers.
+            for _ in 0..self.r.pick(&[1, 3, 40]) {
+                let any = self.r.next();
+                let p = if self.r.chance(80.0) { self.r.pick(&self.peers) } else { any };
+                let entry = (p, room(&mut self.r));
+                let at = self.r.index(v.len() + 1);
+                v.insert(at, entry);
+            }
         }
+        v
     }
 
     fn tick(&mut self, s: &Snap) {
@@ -770,6 +813,12 @@ impl World {
 
     // The block
 
+    /// A block near to this state, to be asked whether it is alike.
+    fn likeness(&mut self, s: &Snap) -> Cmd {
+        let (max, near) = likeness::near(&mut self.r, s, &self.max);
+        Cmd::Alike { max, text: near.text() }
+    }
+
     /// Damage to a whole block.
     fn poke(&mut self, b: &[u8]) -> Cmd {
         let r = &mut self.r;
@@ -865,6 +914,7 @@ impl World {
     /// A whole state that no list of calls need lead to.
     fn state(&mut self) -> Snap {
         let full = matches!(self.profile, Profile::Full | Profile::Ceilings);
+        let record = self.profile == Profile::Record;
         let top = self.profile == Profile::Ceilings;
         let [n, rm, cm, bm, gm, sm, tm, qm, dm] = self.max.map(|x| x as usize);
         let r = &mut self.r;
@@ -889,7 +939,7 @@ impl World {
                 s.lazy.push(*p);
             }
         }
-        s.init = r.chance(60.0);
+        s.init = self.profile != Profile::First && r.chance(60.0);
         // Times around now, few of them.
         let now = self.now;
         let mut times: Vec<u64> = (0..1 + r.index(6))
@@ -899,7 +949,7 @@ impl World {
         if r.chance(5.0) {
             times.push(u64::MAX);
         }
-        if full {
+        if full || record {
             times.iter_mut().for_each(|t| *t = t.saturating_add(1 << 41));
         }
         let some = |r: &mut Rng, ids: &[Id], k: usize| -> Vec<Id> {
@@ -931,7 +981,7 @@ impl World {
         s.received = some(r, &self.ids, k).into_iter().map(|id| (id, r.pick(&times))).collect();
         s.rexp = stale(r, s.received.iter().map(|e| (e.1, e.0)).collect(), &self.ids, 2 * rm);
 
-        let k = if full { cm } else { fill(r, cm) };
+        let k = if full || record { cm } else { fill(r, cm) };
         let mut left = bm;
         for id in some(r, &self.ids, k) {
             let content = match self.content_of.get(&id) {
@@ -976,7 +1026,8 @@ impl World {
                 let mut v = peers.clone();
                 r.shuffle(&mut v);
                 let most = r.pick(&[1, 2, links]);
-                v.truncate(1 + r.index(most));
+                let all = r.chance(30.0);
+                v.truncate(if all { most } else { 1 + r.index(most) });
                 s.missing.push((id, v.into_iter().map(|p| (p, hops(r))).collect()));
             }
         }
@@ -1004,16 +1055,25 @@ impl World {
             }
         }
         s.queue = queue;
-        let mut left =
-            if full { dm.min(r.pick(&[4096, 4096, 4095, 4090, 4000, 3000])) } else { fill(r, dm) };
+        let mut left = if record {
+            dm
+        } else if full {
+            dm.min(r.pick(&[4096, 4096, 4095, 4090, 4000, 3000]))
+        } else {
+            fill(r, dm)
+        };
         for p in &peers {
             let k = if full {
                 r.pick(&[256, 256, 256, 255, 254, 250, 200])
+            } else if record {
+                r.pick(&[0, 63, 64, 64, 65, 128, 254, 255, 255, 256])
             } else {
                 r.pick(&[0, 1, 2, 5, 63, 64, 65, 130, 256])
             };
             let mut v = self.ids.clone();
-            r.shuffle(&mut v);
+            if !full && (record || r.chance(40.0)) && !s.cache.is_empty() {
+                v = s.cache.iter().map(|c| c.id).collect();
+            }
             v.sort();
             v.dedup();
             r.shuffle(&mut v);

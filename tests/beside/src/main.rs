@@ -3,7 +3,8 @@ mod bench;
 mod block;
 mod create;
 mod gen;
-mod machine;
+mod library;
+mod likeness;
 mod paths;
 mod rng;
 mod run;
@@ -23,8 +24,9 @@ use run::Pair;
 use script::Cmd;
 
 const HELP: &str = "\
-beside [--seed N] [--calls N | --seconds N] [--from LIST] [--damage PERCENT]
-    random lists of calls on both, compared after each call
+beside [--seed N] [--calls N] [--seconds N] [--from LIST] [--damage PERCENT] [--brief] [--every-path] [--no-shrink]
+    random lists of calls on both, compared after each call; --brief: no table, only the paths never
+    taken; --every-path: such a path is a failure
 beside --short
     every event of at most two bytes, and of three that begin with a kind
 beside --script FILE
@@ -110,11 +112,17 @@ fn shrink(mut list: Vec<Cmd>) -> Vec<Cmd> {
     list
 }
 
-fn report(seed: u64, number: u64, list: Vec<Cmd>, why: &str) {
-    println!("DIFFERENT: seed {seed} list {number}: {why}");
+/// Tells a difference. `calls` were made before its list.
+fn report(seed: u64, number: u64, calls: u64, list: Vec<Cmd>, why: &str) {
+    let own = list.iter().filter(|c| matches!(c, Cmd::Event { .. })).count() as u64;
+    println!("DIFFERENT: seed {seed} list {number} after {} calls: {why}", calls + own);
+    if std::env::args().any(|a| a == "--no-shrink") {
+        return;
+    }
     println!("shrinking {} commands", list.len());
     let least = shrink(list);
-    println!("least list ({} commands):", least.len());
+    let calls = least.iter().filter(|c| matches!(c, Cmd::Event { .. })).count();
+    println!("least list ({} commands, {calls} of them calls):", least.len());
     println!("--------\n{}--------", script::text(&least));
     println!("{}", replay_apart(&least).err().unwrap_or("(no longer)".into()));
 }
@@ -126,12 +134,12 @@ struct Log {
 }
 
 impl Log {
-    fn begin(&mut self, number: u64) {
+    fn begin(&mut self, number: u64, calls: u64) {
         self.list.clear();
         if let Some(f) = &mut self.file {
             f.set_len(0).unwrap();
             f.rewind().unwrap();
-            writeln!(f, "# list {number}").unwrap();
+            writeln!(f, "# list {number} {calls}").unwrap();
         }
     }
 
@@ -148,6 +156,7 @@ impl Log {
 fn run_list(
     seed: u64,
     number: u64,
+    before: u64,
     damage: Option<f64>,
     paths: &mut Paths,
     log: &mut Log,
@@ -158,8 +167,8 @@ fn run_list(
     }
     let mut pair = Pair::default();
     let mut calls = 0;
-    log.begin(number);
-    create::check(seed ^ number)?;
+    log.begin(number, before);
+    paths.creation(create::check(seed ^ number)?);
     for c in world.begin() {
         pair.run(log.push(c))?;
     }
@@ -172,10 +181,13 @@ fn run_list(
                 Cmd::Undo => false,
                 _ => damaged,
             };
-            let Cmd::Event { now, event, .. } = c else {
+            let Cmd::Event { now, event, rooms } = c else {
                 pair.run(c)?;
                 if let Some(why) = pair.fault {
                     paths.fault(why);
+                }
+                if let Some(about) = pair.likeness.take() {
+                    paths.alike(about);
                 }
                 continue;
             };
@@ -186,6 +198,7 @@ fn run_list(
             let out = pair.limits.out;
             let before = call.before.as_ref();
             paths.call(before, seen.as_ref(), *now, &call.answer, out, after, damaged);
+            paths.rooms(before, rooms, &call.answer);
             if !damaged {
                 world.heard(&call);
             }
@@ -201,6 +214,8 @@ struct Job {
     calls: u64,
     seconds: u64,
     damage: Option<f64>,
+    brief: bool,
+    every_path: bool,
 }
 
 /// Runs lists until the calls or the time are spent.
@@ -211,15 +226,15 @@ fn work(job: &Job, mut log: Log) -> ExitCode {
     let mut number = job.from;
     let mut shown = start;
     while done < job.calls && start.elapsed() < Duration::from_secs(job.seconds) {
-        match run_list(job.seed, number, job.damage, &mut paths, &mut log) {
+        match run_list(job.seed, number, done, job.damage, &mut paths, &mut log) {
             Ok(n) => done += n,
             Err(why) => {
-                report(job.seed, number, log.list, &why);
+                report(job.seed, number, done, log.list, &why);
                 return ExitCode::from(1);
             }
         }
         number += 1;
-        if shown.elapsed() > Duration::from_secs(20) {
+        if !job.brief && shown.elapsed() > Duration::from_secs(20) {
             shown = Instant::now();
             println!(
                 "{done} calls in {} lists, {} s",
@@ -228,10 +243,14 @@ fn work(job: &Job, mut log: Log) -> ExitCode {
             );
         }
     }
-    print!("{}", paths.table());
+    print!("{}", paths.table(job.brief));
     let t = start.elapsed().as_secs_f64();
     let lists = number - job.from;
     println!("seed {}: {done} calls in {lists} lists, 0 different, {t:.0} s", job.seed);
+    if job.every_path && paths.never() > 0 {
+        println!("paths that no call took: {}", paths.never());
+        return ExitCode::from(1);
+    }
     ExitCode::SUCCESS
 }
 
@@ -243,7 +262,7 @@ fn short(mut log: Log) -> ExitCode {
     for kind in 0..6u8 {
         events.extend((0..=65535u16).map(|x| [vec![kind], x.to_be_bytes().to_vec()].concat()));
     }
-    log.begin(0);
+    log.begin(0, 0);
     let mut pair = Pair::default();
     let cfg = [80, 40, 5, 7, 30000, 90000, 1000];
     let mut begin =
@@ -254,7 +273,7 @@ fn short(mut log: Log) -> ExitCode {
     for c in begin.into_iter().chain(calls) {
         n += 1;
         if let Err(why) = pair.run(log.push(c)) {
-            report(0, 0, log.list, &why);
+            report(0, 0, 0, log.list, &why);
             return ExitCode::from(1);
         }
     }
@@ -273,12 +292,14 @@ fn watch(seed: u64, args: &[String]) -> ExitCode {
         .unwrap();
     let text = std::fs::read_to_string(&file).unwrap();
     let _ = std::fs::remove_file(&file);
-    if let Some(code) = status.code() {
+    if let Some(code @ (0 | 1)) = status.code() {
         return ExitCode::from(code as u8);
     }
-    let number = text.lines().next().and_then(|l| l.strip_prefix("# list ")?.parse().ok());
+    let head = text.lines().next().and_then(|l| l.strip_prefix("# list ")?.split_once(' '));
+    let of = |s: &str| s.parse().unwrap_or(0);
+    let (number, calls) = head.map_or((0, 0), |(a, b)| (of(a), of(b)));
     match script::parse(&text) {
-        Ok(list) => report(seed, number.unwrap_or(0), list, &status.to_string()),
+        Ok(list) => report(seed, number, calls, list, &status.to_string()),
         Err(e) => println!("{status}: {e}"),
     }
     ExitCode::from(1)
@@ -319,8 +340,8 @@ fn main() -> ExitCode {
     }
     if let Some(file) = value("--check") {
         return match sample::check(file) {
-            Ok(n) => {
-                println!("{n} calls, 0 different");
+            Ok((n, states)) => {
+                println!("{n} calls, {states} states, 0 different");
                 ExitCode::SUCCESS
             }
             Err(e) => {
@@ -351,6 +372,8 @@ fn main() -> ExitCode {
             calls: number("--calls", if timed { u64::MAX } else { 100_000 }),
             seconds: number("--seconds", u64::MAX / 4),
             damage: value("--damage").map(|v| v.parse().expect("a number")),
+            brief: args.iter().any(|a| a == "--brief"),
+            every_path: args.iter().any(|a| a == "--every-path"),
         };
         return work(&job, log);
     }

@@ -7,7 +7,7 @@ use oracle::{
 };
 
 use crate::{
-    block,
+    block, likeness,
     wire::{self, Action, Message},
 };
 
@@ -157,6 +157,15 @@ pub const ALL: &[&str] = &[
     "broadcast Neighbors too large",
     "broadcast Neighbors handed back",
     "broadcast to eager panel itself",
+    "room: second entry of a peer, the first counts",
+    "room of a stranger",
+    "room: more entries than links",
+    "room for some of a peer's sends",
+    "creation 0",
+    "creation 1",
+    "creation 2",
+    "creation 3",
+    "creation 4",
 ];
 
 /// Paths with the number of calls that took them, and what made blocks not whole.
@@ -195,6 +204,39 @@ impl Paths {
     /// A poke made the block not whole.
     pub fn fault(&mut self, why: &'static str) {
         *self.faults.entry(why).or_default() += 1;
+    }
+
+    /// A creation with this answer.
+    pub fn creation(&mut self, number: u64) {
+        let name = ALL.iter().find(|n| **n == format!("creation {number}"));
+        self.hit(name.expect("an answer of a creation"));
+    }
+
+    /// A question of *alike*.
+    pub fn alike(&mut self, about: &'static str) {
+        *self.faults.entry(about).or_default() += 1;
+    }
+
+    /// The link room of a call.
+    pub fn rooms(&mut self, before: Option<&Snap>, rooms: &[(u64, u16)], answer: &Answer) {
+        let Some(b) = before else { return };
+        let sends: Vec<(u64, bool)> = wire::actions(&answer.actions)
+            .iter()
+            .filter_map(|a| match a {
+                Action::Send { peer, back, .. } => Some((*peer, *back)),
+                _ => None,
+            })
+            .collect();
+        self.hit_if(!sends.is_empty() && rooms.len() > 34, "room: more entries than links");
+        for (p, _) in &sends {
+            let mine: Vec<u16> = rooms.iter().filter(|e| e.0 == *p).map(|e| e.1).collect();
+            let other = mine.iter().any(|r| (*r == 0) != (mine[0] == 0));
+            self.hit_if(other, "room: second entry of a peer, the first counts");
+            let stranger = !b.eager.contains(p) && !b.lazy.contains(p);
+            self.hit_if(stranger && !mine.is_empty(), "room of a stranger");
+            let both = [true, false].map(|back| sends.contains(&(*p, back)));
+            self.hit_if(both == [true, true], "room for some of a peer's sends");
+        }
     }
 
     /// Takes in a call. `before` is none if the block was not whole, `seen` if the event isn't one.
@@ -593,25 +635,29 @@ impl Paths {
         self.hits.keys().copied()
     }
 
-    /// A table of all paths; those never taken last.
-    pub fn table(&self) -> String {
+    /// Every path, with the number of times it was taken.
+    fn all(&self) -> Vec<(u64, String)> {
+        let n = |m: &BTreeMap<&'static str, u64>, k: &str| m.get(k).copied().unwrap_or(0);
+        let calls = ALL.iter().map(|k| (n(&self.hits, k), k.to_string()));
+        let faults = block::FAULTS.iter().map(|k| (n(&self.faults, k), format!("not whole: {k}")));
+        let alike = likeness::ABOUT.iter().map(|k| (n(&self.faults, k), k.to_string()));
+        calls.chain(faults).chain(alike).collect()
+    }
+
+    /// How many paths no call took.
+    pub fn never(&self) -> usize {
+        self.all().iter().filter(|e| e.0 == 0).count()
+    }
+
+    /// A table of all paths, or with `brief` only those never taken.
+    pub fn table(&self, brief: bool) -> String {
         let mut o = String::new();
-        let mut none = Vec::new();
-        for name in ALL {
-            match self.hits.get(name) {
-                Some(n) => o += &format!("{n:>12}  {name}\n"),
-                None => none.push(*name),
-            }
+        let all = self.all();
+        for (n, name) in all.iter().filter(|e| e.0 > 0 && !brief) {
+            o += &format!("{n:>12}  {name}\n");
         }
-        for why in block::FAULTS {
-            match self.faults.get(why) {
-                Some(n) => o += &format!("{n:>12}  not whole: {why}\n"),
-                None => none.push(why),
-            }
-        }
-        let all = ALL.len() + block::FAULTS.len();
-        o += &format!("paths hit: {} of {all}\n", all - none.len());
-        for name in none {
+        o += &format!("paths hit: {} of {}\n", all.len() - self.never(), all.len());
+        for (_, name) in all.iter().filter(|e| e.0 == 0) {
             o += &format!("       never  {name}\n");
         }
         o

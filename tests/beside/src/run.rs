@@ -1,7 +1,7 @@
 //! Runs commands on both, the Rust and the library, and compares after each.
 use oracle::{snap::Snap, Answer, Limits, Panel};
 
-use crate::{block, machine, rng::Rng, script::Cmd};
+use crate::{block, library, likeness, rng::Rng, script::Cmd};
 
 /// Bytes kept around everything that is lent.
 const PAD: usize = 64;
@@ -56,6 +56,8 @@ pub struct Pair {
     pub snap: Option<Snap>,
     /// Why the block is not whole.
     pub fault: Option<&'static str>,
+    /// What the last question of *alike* was about.
+    pub likeness: Option<&'static str>,
     block: Lent,
     before: Vec<u8>,
     counts: [u64; 3],
@@ -102,6 +104,7 @@ impl Default for Pair {
             panel: None,
             snap: None,
             fault: None,
+            likeness: None,
             block: Lent::new(0),
             before: Vec::new(),
             counts: [0; 3],
@@ -153,6 +156,7 @@ impl Pair {
                 Ok(None)
             }
             Cmd::Event { now, rooms, event } => self.event(*now, rooms, event).map(Some),
+            Cmd::Alike { max, text } => self.alike(max, text).map(|()| None),
             Cmd::Poke(v) => {
                 self.save();
                 for (i, b) in v {
@@ -187,18 +191,26 @@ impl Pair {
 
     fn create(&mut self) -> Same<()> {
         let (me, m, cfg) = self.settings.ok_or("script: limits before new")?;
-        let need = block::need(&self.limits.max);
+        let max = self.limits.max;
+        let need = block::need(&max);
+        same("block size", need as u64, library::block_size(max))?;
+        let any = [self.garbage.next(), self.garbage.next(), self.garbage.below(65536)];
         // One byte short: refused, nothing touched.
         self.fill(need - 1);
-        let n = machine::create(self.block.part_mut(), me, m, cfg, self.limits.max);
-        same("creation in a short block", 4, n)?;
+        let mut counts = any;
+        let a = library::create(self.block.part_mut(), &mut counts, me, m, cfg, max);
+        let refused = library::Answer { number: 4, length: 0, kept: true };
+        same("creation in a short block", refused, a)?;
+        same("counts of a refused creation", any, counts)?;
         holds(self.block.part() == self.before, "a refused creation changed the block")?;
         let more = self.garbage.pick(&[0, 0, 1, 7, 100]);
         self.fill(need + more);
-        let n = machine::create(self.block.part_mut(), me, m, cfg, self.limits.max);
-        same("creation", 0, n)?;
+        let a = library::create(self.block.part_mut(), &mut counts, me, m, cfg, max);
+        same("creation", library::Answer { number: 0, length: 0, kept: true }, a)?;
+        same("counts of a creation", [0; 3], counts)?;
         holds(self.block.pads_kept(), "creation wrote outside of the block")?;
         holds(self.block.part()[need..] == self.before[need..], "creation wrote past the need")?;
+        self.counts = counts;
         self.panel = Some(Panel::new(me, m, cfg));
         self.settle()
     }
@@ -226,7 +238,7 @@ impl Pair {
     fn settle(&mut self) -> Same<()> {
         let rust = sorted(self.panel().snap());
         let ours = block::read(self.block.part()).map_err(|e| format!("not whole: {e}"))?;
-        holds(machine::whole(self.block.part()), "the library says that the block is not whole")?;
+        holds(library::whole(self.block.part_mut()), "the library says that the block is not whole")?;
         if rust != ours {
             return Err(unlike(&rust, &ours));
         }
@@ -255,7 +267,7 @@ impl Pair {
         self.before.extend_from_slice(self.block.part());
         let read = block::read(self.block.part());
         let why = read.as_ref().err().copied().unwrap_or("");
-        let ours = machine::whole(self.block.part());
+        let ours = library::whole(self.block.part_mut());
         if read.is_ok() != ours {
             return Err(format!("whole {} ({why}), the library {ours}", read.is_ok()));
         }
@@ -281,19 +293,13 @@ impl Pair {
             }
             None => Answer { number: 5, ..Answer::default() },
         };
-        let lent_rooms: Vec<u64> = rooms.iter().flat_map(|(p, r)| [*p, u64::from(*r)]).collect();
         self.out.set_len(limits.out);
         let mut counts = self.counts;
-        let (number, length) = machine::event(
-            self.block.part_mut(),
-            &mut counts,
-            now,
-            event,
-            &lent_rooms,
-            self.out.part_mut(),
-        );
-        same("answer", u64::from(answer.number), number)?;
-        same("length", answer.actions.len() as u64, length)?;
+        let block = self.block.part_mut();
+        let a = library::event(block, &mut counts, now, event, rooms, self.out.part_mut());
+        same("answer", u64::from(answer.number), a.number)?;
+        same("length", answer.actions.len() as u64, a.length)?;
+        holds(a.kept, "wrote outside of the counts")?;
         holds(self.block.pads_kept(), "wrote outside of the block")?;
         holds(self.out.pads_kept(), "wrote outside of the output")?;
         let out = self.out.part();
@@ -314,6 +320,20 @@ impl Pair {
             self.settle()?;
         }
         Ok(Call { before, answer })
+    }
+
+    /// *Alike*, of the block and one that holds another state, both ways.
+    fn alike(&mut self, max: &[u64; 9], text: &str) -> Same<()> {
+        let other = Panel::load(text).ok_or("script: not a state")?;
+        let mut second = Lent::new(block::need(max));
+        self.garbage.fill(second.part_mut());
+        block::write(&mut self.garbage, second.part_mut(), max, &sorted(other.snap()));
+        let (a, b) = (self.block.part(), second.part());
+        let told = likeness::told(a, b);
+        self.likeness = Some(told.about);
+        same("alike", (told.number, told.alike), library::alike(a, b))?;
+        same("alike, the other way", (told.number, told.alike), library::alike(b, a))?;
+        holds(self.block.part() == self.before, "alike changed the block")
     }
 }
 

@@ -1,5 +1,5 @@
-//! Lists of calls, and their text: the oracle's commands (tests/rust/README.md), with `poke`, `cut`
-//! and `undo` for the block, which the oracle has none of.
+//! Lists of calls, and their text: the oracle's commands (tests/rust/README.md), with `alike`,
+//! `poke`, `cut` and `undo` for the block, which the oracle has none of.
 use std::fmt::Write;
 
 #[derive(Clone, Debug, PartialEq)]
@@ -22,6 +22,11 @@ pub enum Cmd {
         now: u64,
         rooms: Vec<(u64, u16)>,
         event: Vec<u8>,
+    },
+    /// *Alike*, of the block and one with these limits and this state.
+    Alike {
+        max: [u64; 9],
+        text: String,
     },
     /// Changes bytes of the block.
     Poke(Vec<(usize, u8)>),
@@ -61,6 +66,7 @@ impl Cmd {
                 let rooms = list(rooms, |(p, r)| format!("{p}:{r}"));
                 format!("ev {now} {rooms} {}", hex_or_dash(event))
             }
+            Cmd::Alike { max, text } => format!("alike {} {text}", words(max)),
             Cmd::Poke(v) => format!("poke {}", list(v, |(i, b)| format!("{i}:{b}"))),
             Cmd::Cut(n) => format!("cut {n}"),
             Cmd::Undo => "undo".into(),
@@ -99,6 +105,16 @@ impl Cmd {
                     "-" => vec![],
                     h => hex::decode(h).ok()?,
                 },
+            },
+            "alike" => Cmd::Alike {
+                max: w
+                    .get(1..10)?
+                    .iter()
+                    .map(|x| x.parse().ok())
+                    .collect::<Option<Vec<u64>>>()?
+                    .try_into()
+                    .ok()?,
+                text: w.get(10..)?.join(" "),
             },
             "poke" => {
                 Cmd::Poke(pairs(w.get(1)?)?.iter().map(|e| (e.0 as usize, e.1 as u8)).collect())

@@ -1,0 +1,214 @@
+//! The library's C interface. Everything that knows its names and forms is in this file.
+
+/// Document 01's counts record as C lends it.
+#[repr(C)]
+#[derive(Clone, Copy)]
+struct Stats {
+    payload_messages_received: u64,
+    control_messages_received: u64,
+    max_last_delivery_hop: u16,
+}
+
+#[repr(C)]
+#[derive(Clone, Copy)]
+struct Config {
+    graft_timeout_1: u64,
+    graft_timeout_2: u64,
+    dispatch_timeout: u64,
+    optimization_threshold: u16,
+    message_cache_retention: u64,
+    message_id_retention: u64,
+    cache_evict_interval: u64,
+}
+
+#[repr(C)]
+#[derive(Clone, Copy)]
+struct Settings {
+    config: Config,
+    max_message_size: u64,
+    me: u64,
+}
+
+#[repr(C)]
+#[derive(Clone, Copy)]
+struct Limits {
+    neighbours: usize,
+    received: usize,
+    cached: usize,
+    content: usize,
+    grafted: usize,
+    missing: usize,
+    timers: usize,
+    queued: usize,
+    dropped: usize,
+}
+
+#[repr(C)]
+#[derive(Clone, Copy)]
+struct LinkRoom {
+    peer: u64,
+    room: u16,
+}
+
+#[repr(C)]
+#[derive(Clone, Copy)]
+struct Answered {
+    number: u8,
+    length: usize,
+}
+
+#[repr(C)]
+#[derive(Clone, Copy)]
+struct Likeness {
+    number: u8,
+    alike: bool,
+}
+
+extern "C" {
+    fn plumtree_block_size(limits: Limits) -> usize;
+    fn plumtree_create(
+        block: *mut u8,
+        block_length: usize,
+        counts: *mut Stats,
+        settings: Settings,
+        limits: Limits,
+    ) -> Answered;
+    fn plumtree_event(
+        block: *mut u8,
+        block_length: usize,
+        counts: *mut Stats,
+        at: u64,
+        event: *const u8,
+        event_length: usize,
+        rooms: *const LinkRoom,
+        rooms_length: usize,
+        output: *mut u8,
+        output_length: usize,
+    ) -> Answered;
+    fn plumtree_alike(a: *const u8, a_length: usize, b: *const u8, b_length: usize) -> Likeness;
+}
+
+/// The counts record between two pads.
+#[repr(C)]
+struct Lent {
+    before: [u64; 4],
+    counts: Stats,
+    after: [u64; 4],
+}
+
+const PATTERN: [u64; 4] = [0xa5a5_a5a5_a5a5_a5a5; 4];
+
+impl Lent {
+    fn new(c: &[u64; 3]) -> Lent {
+        let counts = Stats {
+            payload_messages_received: c[0],
+            control_messages_received: c[1],
+            max_last_delivery_hop: c[2] as u16,
+        };
+        Lent { before: PATTERN, counts, after: PATTERN }
+    }
+
+    fn told(&self) -> [u64; 3] {
+        let c = &self.counts;
+        [c.payload_messages_received, c.control_messages_received, c.max_last_delivery_hop.into()]
+    }
+
+    fn answer(&self, a: Answered) -> Answer {
+        let kept = self.before == PATTERN && self.after == PATTERN;
+        Answer { number: a.number.into(), length: a.length as u64, kept }
+    }
+}
+
+/// What a call answers, and whether the bytes around the counts record kept their values.
+#[derive(Debug, PartialEq)]
+pub struct Answer {
+    pub number: u64,
+    pub length: u64,
+    pub kept: bool,
+}
+
+fn limits(l: [u64; 9]) -> Limits {
+    let [neighbours, received, cached, content, grafted, missing, timers, queued, dropped] =
+        l.map(|x| x as usize);
+    Limits { neighbours, received, cached, content, grafted, missing, timers, queued, dropped }
+}
+
+/// The bytes a block with these limits needs.
+pub fn block_size(max: [u64; 9]) -> u64 {
+    unsafe { plumtree_block_size(limits(max)) as u64 }
+}
+
+/// Creation: own peer number, M, the seven of `Config`, the nine limits.
+pub fn create(
+    block: &mut [u8],
+    counts: &mut [u64; 3],
+    me: u64,
+    m: u64,
+    cfg: [u64; 7],
+    max: [u64; 9],
+) -> Answer {
+    let config = Config {
+        graft_timeout_1: cfg[0],
+        graft_timeout_2: cfg[1],
+        dispatch_timeout: cfg[2],
+        optimization_threshold: cfg[3] as u16,
+        message_cache_retention: cfg[4],
+        message_id_retention: cfg[5],
+        cache_evict_interval: cfg[6],
+    };
+    let settings = Settings { config, max_message_size: m, me };
+    let mut lent = Lent::new(counts);
+    let a = unsafe {
+        plumtree_create(
+            block.as_mut_ptr(),
+            block.len(),
+            &mut lent.counts,
+            settings,
+            limits(max),
+        )
+    };
+    *counts = lent.told();
+    lent.answer(a)
+}
+
+/// An event call.
+pub fn event(
+    block: &mut [u8],
+    counts: &mut [u64; 3],
+    now: u64,
+    event: &[u8],
+    rooms: &[(u64, u16)],
+    out: &mut [u8],
+) -> Answer {
+    let rooms: Vec<LinkRoom> = rooms.iter().map(|&(peer, room)| LinkRoom { peer, room }).collect();
+    let mut lent = Lent::new(counts);
+    let a = unsafe {
+        plumtree_event(
+            block.as_mut_ptr(),
+            block.len(),
+            &mut lent.counts,
+            now,
+            event.as_ptr(),
+            event.len(),
+            rooms.as_ptr(),
+            rooms.len(),
+            out.as_mut_ptr(),
+            out.len(),
+        )
+    };
+    *counts = lent.told();
+    lent.answer(a)
+}
+
+/// Question 5, asked by a call whose time is over 2^62: the answer is 5, or 6 if the block is whole.
+pub fn whole(block: &mut [u8]) -> bool {
+    let a = event(block, &mut [0; 3], u64::MAX, &[], &[], &mut []);
+    assert!(a.number == 5 || a.number == 6, "a call out of time answers {}", a.number);
+    a.number == 6
+}
+
+/// *Alike*: the number, and yes or no.
+pub fn alike(a: &[u8], b: &[u8]) -> (u64, bool) {
+    let r = unsafe { plumtree_alike(a.as_ptr(), a.len(), b.as_ptr(), b.len()) };
+    (r.number.into(), r.alike)
+}

@@ -1,0 +1,42 @@
+/* The C interface over the functions as rattle-cases compiles them: there the result comes first, by address, and slices and
+   structs are handed by address. `rt staticlib` makes the like by itself; this is for unproved builds only. */
+typedef __UINT8_TYPE__ u8;
+typedef __UINT16_TYPE__ u16;
+typedef __UINT64_TYPE__ u64;
+typedef __SIZE_TYPE__ size;
+
+struct config { u64 graft_timeout_1, graft_timeout_2, dispatch_timeout; u16 optimization_threshold; u64 message_cache_retention, message_id_retention, cache_evict_interval; };
+struct settings { struct config config; u64 max_message_size, me; };
+struct limits { size neighbours, received, cached, content, grafted, missing, timers, queued, dropped; };
+struct answer { u8 number; size length; };
+struct likeness { u8 number; _Bool alike; };
+struct slice { const void *at; size length; };
+
+size unproved_block_size(const struct limits *);
+void unproved_create(struct answer *, const struct slice *, void *, const struct settings *, const struct limits *);
+void unproved_event(struct answer *, const struct slice *, void *, const u64 *, const struct slice *, const struct slice *, const struct slice *);
+void unproved_alike(struct likeness *, const struct slice *, const struct slice *);
+
+size plumtree_block_size(struct limits l) { return unproved_block_size(&l); }
+
+struct answer plumtree_create(u8 *block, size block_length, void *counts, struct settings s, struct limits l) {
+    struct slice b = { block, block_length };
+    struct answer r;
+    unproved_create(&r, &b, counts, &s, &l);
+    return r;
+}
+
+struct answer plumtree_event(u8 *block, size block_length, void *counts, u64 at, const u8 *event, size event_length,
+                             const void *rooms, size rooms_length, u8 *output, size output_length) {
+    struct slice b = { block, block_length }, e = { event, event_length }, l = { rooms, rooms_length }, o = { output, output_length };
+    struct answer r;
+    unproved_event(&r, &b, counts, &at, &e, &l, &o);
+    return r;
+}
+
+struct likeness plumtree_alike(const u8 *a, size a_length, const u8 *b, size b_length) {
+    struct slice x = { a, a_length }, y = { b, b_length };
+    struct likeness r;
+    unproved_alike(&r, &x, &y);
+    return r;
+}

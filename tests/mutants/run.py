@@ -1,6 +1,6 @@
 #!/usr/bin/env python3
-"""run.py [WORD]: applies each change of mutants.txt (those whose file or function has the word; with no word, those not run yet) to a copy of the
-sources, compiles it unproved and runs it beside the Rust for at most a minute. Writes a table to RESULTS.md. No part of the gate: it tests the tests."""
+"""run.py [WORD] [--table]: applies each change of mutants.txt (those whose file or function has the word; with no word, those not run yet) to a copy of the
+sources, compiles it unproved and runs it beside the Rust for at most a minute. Writes a table to RESULTS.md; --table does only that. No part of the gate: it tests the tests."""
 import json, os, re, shutil, subprocess, sys, tempfile
 
 here = os.path.dirname(os.path.abspath(__file__))
@@ -80,6 +80,18 @@ def key(m):
     return ' '.join(m[:4])
 
 
+def in_turn(mutants, rows):
+    """Those not run yet, the crates by turns."""
+    done = {}
+    todo = []
+    for m in sorted(mutants, key=lambda m: key(m) not in rows):
+        crate = m[0].split('/')[1]
+        done[crate] = done.get(crate, 0) + 1
+        if key(m) not in rows:
+            todo.append((done[crate], m))
+    return [m for _, m in sorted(todo, key=lambda t: t[0])]
+
+
 def table(mutants, rows):
     """RESULTS.md of what is known of the list's changes."""
     known = [m for m in mutants if key(m) in rows]
@@ -105,10 +117,12 @@ def main():
     os.makedirs(target, exist_ok=True)
     kept = os.path.join(target, 'rows')
     rows = json.load(open(kept)) if os.path.exists(kept) else {}
+    if word == '--table':
+        return table(mutants, rows)
     if word:
         todo = [m for m in mutants if word in m[0] + ' ' + m[1]]
     else:
-        todo = [m for m in mutants if key(m) not in rows]
+        todo = in_turn(mutants, rows)
     work = tempfile.mkdtemp()
     lib = os.path.join(target, 'lib')
     os.makedirs(lib, exist_ok=True)
@@ -118,8 +132,10 @@ def main():
     so = os.path.join(lib, 'libplumtree.so')
     ok, said = build(copy, so)
     assert ok, said
-    subprocess.run(['cargo', 'build', '--release', '--offline', '-j', '1', '--quiet'], cwd=os.path.join(top, 'tests', 'beside'), env=dict(os.environ, LIBRARY=lib, CARGO_TARGET_DIR=target), check=True)
-    beside = os.path.join(target, 'release', 'beside')
+    beside = os.environ.get('BESIDE')
+    if not beside:
+        subprocess.run(['cargo', 'build', '--release', '--offline', '-j', '1', '--quiet'], cwd=os.path.join(top, 'tests', 'beside'), env=dict(os.environ, LIBRARY=lib, CARGO_TARGET_DIR=target), check=True)
+        beside = os.path.join(target, 'release', 'beside')
     for m in todo:
         file, function, old, new, why = m
         path = os.path.join(copy, file)

@@ -4,5 +4,5 @@ set -eu
 cd "$(dirname "$0")/../.."
 . tools/setup.sh
 have_rust || exit 0
-[ -x tests/rust/target/release/oracle ] || tests/rust/build.sh
+[ -x tests/target/release/oracle ] || tests/rust/build.sh
 python3 tests/panelrun/make.py check

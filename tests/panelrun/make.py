@@ -18,7 +18,7 @@ sys.path.insert(0, str(HERE.parent / "rust"))
 import gen  # noqa: E402
 from b3 import blake3  # noqa: E402
 
-ORACLE = HERE.parent / "rust" / "target" / "release" / "oracle"
+ORACLE = HERE.parent / "target" / "release" / "oracle"
 CRATES = HERE.parent.parent / "crates"
 TOP = 1 << 62
 

@@ -1,22 +1,29 @@
-//! Links libplumtree.a from the directory that the variable PLUMTREE_LIB_DIR names, by default target/staticlib of the repository.
+//! Links libplumtree.a from the directory that the variable PLUMTREE_LIB_DIR names, by default target/staticlib of the repository. Where the variable
+//! PLUMTREE_LIB_KIND is `dylib` it links libplumtree.so of that directory, which can be exchanged between runs (tests/mutants).
 use std::env;
 use std::path::PathBuf;
 
 fn main() {
     println!("cargo:rerun-if-env-changed=PLUMTREE_LIB_DIR");
+    println!("cargo:rerun-if-env-changed=PLUMTREE_LIB_KIND");
     let dir = match env::var_os("PLUMTREE_LIB_DIR") {
         Some(dir) => PathBuf::from(dir),
         None => PathBuf::from(env::var_os("CARGO_MANIFEST_DIR").expect("cargo sets it")).join("../../target/staticlib"),
     };
-    let archive = dir.join("libplumtree.a");
-    if !archive.is_file() {
+    let (kind, name) = match env::var("PLUMTREE_LIB_KIND").as_deref() {
+        Err(_) | Ok("static") => ("static", "libplumtree.a"),
+        Ok("dylib") => ("dylib", "libplumtree.so"),
+        Ok(other) => panic!("PLUMTREE_LIB_KIND is static or dylib, not {other}"),
+    };
+    let library = dir.join(name);
+    if !library.is_file() {
         println!(
-            "cargo:warning=there is no {}: run `rt staticlib plumtree`, or set PLUMTREE_LIB_DIR to the directory of libplumtree.a",
-            archive.display()
+            "cargo:warning=there is no {}: run `rt staticlib plumtree`, or set PLUMTREE_LIB_DIR to the directory of {name}",
+            library.display()
         );
         std::process::exit(1);
     }
-    println!("cargo:rerun-if-changed={}", archive.display());
+    println!("cargo:rerun-if-changed={}", library.display());
     println!("cargo:rustc-link-search=native={}", dir.display());
-    println!("cargo:rustc-link-lib=static=plumtree");
+    println!("cargo:rustc-link-lib={kind}=plumtree");
 }

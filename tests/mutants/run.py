@@ -134,7 +134,7 @@ def main():
     assert ok, said
     beside = os.environ.get('BESIDE')
     if not beside:
-        subprocess.run(['cargo', 'build', '--release', '--offline', '-j', '1', '--quiet'], cwd=os.path.join(top, 'tests', 'beside'), env=dict(os.environ, LIBRARY=lib, CARGO_TARGET_DIR=target), check=True)
+        subprocess.run(['cargo', 'build', '--release', '--offline', '-j', '1', '--quiet'], cwd=os.path.join(top, 'tests', 'beside'), env=dict(os.environ, PLUMTREE_LIB_DIR=lib, PLUMTREE_LIB_KIND='dylib', CARGO_TARGET_DIR=target), check=True)
         beside = os.path.join(target, 'release', 'beside')
     for m in todo:
         file, function, old, new, why = m

@@ -1,92 +1,5 @@
-//! The library's C interface. Everything that knows its names and forms is in this file.
-
-/// Document 01's counts record as C lends it.
-#[repr(C)]
-#[derive(Clone, Copy)]
-struct Stats {
-    payload_messages_received: u64,
-    control_messages_received: u64,
-    max_last_delivery_hop: u16,
-}
-
-#[repr(C)]
-#[derive(Clone, Copy)]
-struct Config {
-    graft_timeout_1: u64,
-    graft_timeout_2: u64,
-    dispatch_timeout: u64,
-    optimization_threshold: u16,
-    message_cache_retention: u64,
-    message_id_retention: u64,
-    cache_evict_interval: u64,
-}
-
-#[repr(C)]
-#[derive(Clone, Copy)]
-struct Settings {
-    config: Config,
-    max_message_size: u64,
-    me: u64,
-}
-
-#[repr(C)]
-#[derive(Clone, Copy)]
-struct Limits {
-    neighbours: usize,
-    received: usize,
-    cached: usize,
-    content: usize,
-    grafted: usize,
-    missing: usize,
-    timers: usize,
-    queued: usize,
-    dropped: usize,
-}
-
-#[repr(C)]
-#[derive(Clone, Copy)]
-struct LinkRoom {
-    peer: u64,
-    room: u16,
-}
-
-#[repr(C)]
-#[derive(Clone, Copy)]
-struct Answered {
-    number: u8,
-    length: usize,
-}
-
-#[repr(C)]
-#[derive(Clone, Copy)]
-struct Likeness {
-    number: u8,
-    alike: bool,
-}
-
-extern "C" {
-    fn plumtree_block_size(limits: Limits) -> usize;
-    fn plumtree_create(
-        block: *mut u8,
-        block_length: usize,
-        counts: *mut Stats,
-        settings: Settings,
-        limits: Limits,
-    ) -> Answered;
-    fn plumtree_event(
-        block: *mut u8,
-        block_length: usize,
-        counts: *mut Stats,
-        at: u64,
-        event: *const u8,
-        event_length: usize,
-        rooms: *const LinkRoom,
-        rooms_length: usize,
-        output: *mut u8,
-        output_length: usize,
-    ) -> Answered;
-    fn plumtree_alike(a: *const u8, a_length: usize, b: *const u8, b_length: usize) -> Likeness;
-}
+//! The library, through its binding for Rust (bindings/rust). Everything that knows its names and forms is in this file.
+use plumtree::{raw, Config, Limits, LinkRoom, Settings, Stats};
 
 /// The counts record between two pads.
 #[repr(C)]
@@ -113,7 +26,7 @@ impl Lent {
         [c.payload_messages_received, c.control_messages_received, c.max_last_delivery_hop.into()]
     }
 
-    fn answer(&self, a: Answered) -> Answer {
+    fn answer(&self, a: raw::Answer) -> Answer {
         let kept = self.before == PATTERN && self.after == PATTERN;
         Answer { number: a.number.into(), length: a.length as u64, kept }
     }
@@ -135,7 +48,7 @@ fn limits(l: [u64; 9]) -> Limits {
 
 /// The bytes a block with these limits needs.
 pub fn block_size(max: [u64; 9]) -> u64 {
-    unsafe { plumtree_block_size(limits(max)) as u64 }
+    raw::block_size(limits(max)) as u64
 }
 
 /// Creation: own peer number, M, the seven of `Config`, the nine limits.
@@ -158,15 +71,7 @@ pub fn create(
     };
     let settings = Settings { config, max_message_size: m, me };
     let mut lent = Lent::new(counts);
-    let a = unsafe {
-        plumtree_create(
-            block.as_mut_ptr(),
-            block.len(),
-            &mut lent.counts,
-            settings,
-            limits(max),
-        )
-    };
+    let a = raw::create(block, &mut lent.counts, settings, limits(max));
     *counts = lent.told();
     lent.answer(a)
 }
@@ -182,20 +87,7 @@ pub fn event(
 ) -> Answer {
     let rooms: Vec<LinkRoom> = rooms.iter().map(|&(peer, room)| LinkRoom { peer, room }).collect();
     let mut lent = Lent::new(counts);
-    let a = unsafe {
-        plumtree_event(
-            block.as_mut_ptr(),
-            block.len(),
-            &mut lent.counts,
-            now,
-            event.as_ptr(),
-            event.len(),
-            rooms.as_ptr(),
-            rooms.len(),
-            out.as_mut_ptr(),
-            out.len(),
-        )
-    };
+    let a = raw::event(block, &mut lent.counts, now, event, &rooms, out);
     *counts = lent.told();
     lent.answer(a)
 }
@@ -209,6 +101,6 @@ pub fn whole(block: &mut [u8]) -> bool {
 
 /// *Alike*: the number, and yes or no.
 pub fn alike(a: &[u8], b: &[u8]) -> (u64, bool) {
-    let r = unsafe { plumtree_alike(a.as_ptr(), a.len(), b.as_ptr(), b.len()) };
+    let r = raw::alike(a, b);
     (r.number.into(), r.alike)
 }

@@ -98,14 +98,14 @@ def key(m):
 
 
 def in_turn(mutants, rows):
-    """Those not run yet, the crates by turns."""
+    """Those not run yet, the crates by turns; last those that nothing tells apart, which take their whole minute."""
     done = {}
     todo = []
     for m in sorted(mutants, key=lambda m: key(m) not in rows):
         crate = m[0].split('/')[1]
         done[crate] = done.get(crate, 0) + 1
         if key(m) not in rows:
-            todo.append((done[crate], m))
+            todo.append(((m[4] is not None, done[crate]), m))
     return [m for _, m in sorted(todo, key=lambda t: t[0])]
 
 

@@ -142,7 +142,7 @@ def table(mutants, rows):
             answer = {'caught': 'yes', 'SURVIVED': 'no'}.get(answer, answer)
             f.write('%s %s | %s | %s |\n' % (named(m), answer, calls, by or m[4] or ''))
         if before:
-            f.write('\n## Run on earlier sources\n\n%d changes of code that stands still were run on earlier sources, with the lists of calls of that time, and not since. The remaining %d of the list were not run.\n\n' % (len(before), len(mutants) - len(known) - len(before)))
+            f.write('\n## Run on earlier sources\n\n%d changes whose text stands in the code still were run on earlier sources, with the lists of calls of that time, and not since. The remaining %d of the list were not run.\n\n' % (len(before), len(mutants) - len(known) - len(before)))
             f.write(columns + '\n'.join(before) + '\n')
 
 

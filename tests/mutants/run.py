@@ -1,5 +1,5 @@
 #!/usr/bin/env python3
-"""run.py [WORD] [--table]: applies each change of mutants.txt (those whose file or function has the word; with no word, those not run yet) to a copy of the
+"""run.py [WORD ..] [--table]: applies each change of mutants.txt (those whose lines have one of the words; with no word, those not run yet) to a copy of the
 sources, compiles it unproved and runs it beside the Rust for at most a minute. Writes a table to RESULTS.md; --table does only that. No part of the gate: it tests the tests."""
 import json, os, re, shutil, subprocess, sys, tempfile
 
@@ -29,17 +29,34 @@ def read_list(path):
     return found
 
 
-def changed(text, function, old, new):
-    """The file's text with the change at its first place in the function."""
+def code_of(text, function):
+    """Where the function's code begins and ends in the file's text; the contract is not the code."""
     start = re.search(r'\bfn ' + function + r'\b', text)
-    assert start, 'no function ' + function
-    end = re.compile(r'^\s*(pub )?(extern "C" )?fn ', re.M).search(text, start.end())
-    body = text[start.end():end.start() if end else len(text)]
-    # the contract is not the code
-    at = re.search(r'^\s*\{$|\{$', body, re.M)
-    assert at and old in body[at.start():], (function, old)
-    code = body[:at.start()] + body[at.start():].replace(old, new, 1)
-    return text[:start.end()] + code + text[start.end() + len(body):]
+    if not start:
+        return 0, 0
+    following = re.compile(r'^\s*(pub(\(crate\))? )?(extern "C" )?fn ', re.M).search(text, start.end())
+    end = following.start() if following else len(text)
+    at = re.compile(r'\{$', re.M).search(text, start.end(), end)
+    return (at.start(), end) if at else (0, 0)
+
+
+def misplaced(mutants):
+    """The changes whose text does not stand exactly once in the code of their function."""
+    found = []
+    for file, function, old, new, _ in mutants:
+        path = os.path.join(SOURCES, file)
+        text = open(path).read() if os.path.exists(path) else ''
+        at, end = code_of(text, function)
+        times = text[at:end].count(old)
+        if times != 1:
+            found.append('%s %s: %d times: %s' % (file, function, times, old))
+    return found
+
+
+def changed(text, function, old, new):
+    """The file's text with the change in the function's code."""
+    at, end = code_of(text, function)
+    return text[:at] + text[at:end].replace(old, new, 1) + text[end:]
 
 
 def sources(copy):
@@ -81,46 +98,69 @@ def key(m):
 
 
 def in_turn(mutants, rows):
-    """Those not run yet, the crates by turns."""
+    """Those not run yet, the crates by turns; last those that nothing tells apart, which take their whole minute."""
     done = {}
     todo = []
     for m in sorted(mutants, key=lambda m: key(m) not in rows):
         crate = m[0].split('/')[1]
         done[crate] = done.get(crate, 0) + 1
         if key(m) not in rows:
-            todo.append((done[crate], m))
+            todo.append(((m[4] is not None, done[crate]), m))
     return [m for _, m in sorted(todo, key=lambda t: t[0])]
+
+
+def named(m):
+    """The first two columns of a change's row."""
+    file, function, old, new, _ = m
+    where = file.replace('crates/', '').replace('/src/', '/').replace('.rt', '') + ' ' + function
+    return '| %s | %s |' % (where, ('`%s` → `%s`' % (old, new)).replace('|', '\\|'))
+
+
+def earlier(mutants, rows):
+    """The rows of RESULTS.md of changes that are in the list still, and were not run since."""
+    path = os.path.join(here, 'RESULTS.md')
+    lines = [l.rstrip('\n') for l in open(path)] if os.path.exists(path) else []
+    left = [named(m) for m in mutants if key(m) not in rows]
+    return [l for l in lines if any(l.startswith(n) for n in left)]
 
 
 def table(mutants, rows):
     """RESULTS.md of what is known of the list's changes."""
     known = [m for m in mutants if key(m) in rows]
-    told = [rows[key(m)] for m in known]
-    caught = sum(r[0] == 'caught' for r in told)
+    before = earlier(mutants, rows)
+    answers = [(rows[key(m)][0], m[4]) for m in known]
+    caught = sum(a == 'caught' for a, _ in answers)
+    alike = sum(a == 'SURVIVED' and bool(why) for a, why in answers)
     with open(os.path.join(here, 'RESULTS.md'), 'w') as f:
-        f.write('# Mutants\n\n%d changes of the library (mutants.txt), each run beside the Rust for at most a minute: %d told apart, %d not. ' % (len(known), caught, len(known) - caught))
+        f.write('# Mutants\n\nOf the %d changes of the library in mutants.txt, %d were run on these sources, each beside the Rust for at most a minute (seed %s): %d told apart, ' % (len(mutants), len(known), SEED, caught))
+        f.write('%d that no call can tell apart (the last column says why), %d not told apart and not explained. ' % (alike, len(known) - caught - alike))
         f.write('"After" is the number of the call that differs, or of all calls made where none does; "by" what differs, or why nothing can.\n\n')
-        f.write('| where | change | told apart | after | by |\n|---|---|---|---|---|\n')
-        for m, (answer, calls, by) in zip(known, told):
-            file, function, old, new, why = m
-            where = file.replace('crates/', '').replace('/src/', '/').replace('.rt', '') + ' ' + function
+        columns = '| where | change | told apart | after | by |\n|---|---|---|---|---|\n'
+        f.write(columns)
+        for m in known:
+            answer, calls, by = rows[key(m)]
             answer = {'caught': 'yes', 'SURVIVED': 'no'}.get(answer, answer)
-            change = ('`%s` → `%s`' % (old, new)).replace('|', '\\|')
-            f.write('| %s | %s | %s | %s | %s |\n' % (where, change, answer, calls, by or why or ''))
+            f.write('%s %s | %s | %s |\n' % (named(m), answer, calls, by or m[4] or ''))
+        if before:
+            f.write('\n## Run on earlier sources\n\n%d changes whose text stands in the code still were run on earlier sources, with the lists of calls of that time, and not since. The remaining %d of the list were not run.\n\n' % (len(before), len(mutants) - len(known) - len(before)))
+            f.write(columns + '\n'.join(before) + '\n')
 
 
 def main():
     """With no word: those whose rows are not known yet. The rows of all runs are kept in tests/target/mutants/rows."""
-    word = sys.argv[1] if len(sys.argv) > 1 else ''
+    words = sys.argv[1:]
     mutants = read_list(os.path.join(here, 'mutants.txt'))
+    wrong = misplaced(mutants)
+    if wrong:
+        sys.exit('mutants.txt does not fit the sources:\n' + '\n'.join(wrong))
     target = os.path.join(top, 'tests', 'target', 'mutants')
     os.makedirs(target, exist_ok=True)
     kept = os.path.join(target, 'rows')
     rows = json.load(open(kept)) if os.path.exists(kept) else {}
-    if word == '--table':
+    if words == ['--table']:
         return table(mutants, rows)
-    if word:
-        todo = [m for m in mutants if word in m[0] + ' ' + m[1]]
+    if words:
+        todo = [m for m in mutants if any(w in key(m) for w in words)]
     else:
         todo = in_turn(mutants, rows)
     work = tempfile.mkdtemp()

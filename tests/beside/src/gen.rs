@@ -1,4 +1,6 @@
 //! Random lists of calls. A list is determined by its seed and the Rust's answers.
+mod brink;
+
 use std::collections::HashMap;
 
 use oracle::{
@@ -42,6 +44,8 @@ pub enum Profile {
     Fill,
     /// The ceilings as limits, from a loaded state.
     Ceilings,
+    /// From a loaded state that is one or two calls from a limit (brink.rs).
+    Brink,
 }
 
 pub struct World {
@@ -74,9 +78,23 @@ fn full_record(numbers: &[u8]) -> Option<u8> {
 }
 
 impl World {
-    pub fn new(seed: u64, list: u64) -> World {
+    /// List `list` of a run: one in eight is on the brink of a limit.
+    pub fn of(seed: u64, list: u64) -> World {
+        if list % 8 == 5 {
+            return World::with(World::start(seed, list), Profile::Brink);
+        }
+        World::new(seed, list)
+    }
+
+    fn start(seed: u64, list: u64) -> Rng {
         let mut r = Rng::new(seed.rotate_left(32) ^ list);
         r.next();
+        r
+    }
+
+    /// A list of any other profile.
+    pub fn new(seed: u64, list: u64) -> World {
+        let mut r = World::start(seed, list);
         let profile = match r.below(1000) {
             0..=119 => Profile::Default,
             120..=319 => Profile::Tiny,
@@ -88,7 +106,14 @@ impl World {
             997..=998 => Profile::Ceilings,
             _ => Profile::Fill,
         };
-        let big = matches!(profile, Profile::Full | Profile::Fill | Profile::Ceilings);
+        World::with(r, profile)
+    }
+
+    fn with(mut r: Rng, profile: Profile) -> World {
+        let big = matches!(
+            profile,
+            Profile::Full | Profile::Fill | Profile::Ceilings | Profile::Brink
+        );
         let many = if big { 32 } else { r.pick(&[3, 5, 8, 12, 12, 33, 40]) };
         let peers: Vec<u64> = if !big && r.chance(25.0) {
             let mut v = WIDE.to_vec();
@@ -111,7 +136,7 @@ impl World {
         let max = World::limits(&mut r, profile);
         let step = cfg[4].min(cfg[5]).min(1000).max(8) / 4;
         let n = match profile {
-            Profile::Full | Profile::Fill => 330,
+            Profile::Full | Profile::Fill | Profile::Brink => 330,
             Profile::Record => 300,
             Profile::Ceilings => 600,
             Profile::Drops => r.pick(&[20, 90]),
@@ -169,7 +194,11 @@ impl World {
                 scale(&mut weights, &v);
                 scale(&mut weights, &[("up", 2), ("story", 0), ("pending", 2)]);
             }
-            Profile::Full | Profile::Fill | Profile::Ceilings | Profile::Record => {
+            Profile::Full
+            | Profile::Fill
+            | Profile::Ceilings
+            | Profile::Record
+            | Profile::Brink => {
                 let v = [("dispatch", 14), ("announce", 10), ("down", 1), ("broadcast", 20)];
                 scale(&mut weights, &v);
                 scale(&mut weights, &[("graft", 14), ("evict", 1)]);
@@ -190,6 +219,7 @@ impl World {
                 Profile::Fill => 700,
                 Profile::First => r.pick(&[2, 4, 10]),
                 Profile::Record => 8,
+                Profile::Brink => 6,
                 _ => r.pick(&[20, 60, 150, 300]),
             },
             me,
@@ -205,7 +235,7 @@ impl World {
             bad: if big { 0.5 } else { r.pick(&[0.0, 2.0, 6.0]) },
             tight: match profile {
                 Profile::Drops | Profile::Full | Profile::Fill | Profile::Ceilings => 85.0,
-                Profile::Record => 85.0,
+                Profile::Record | Profile::Brink => 85.0,
                 _ => r.pick(&[5.0, 35.0, 70.0]),
             },
             damage: if big { 8.0 } else { r.pick(&[0.0, 0.0, 0.0, 20.0]) },
@@ -314,6 +344,9 @@ impl World {
 
     /// The commands that begin the list.
     pub fn begin(&mut self) -> Vec<Cmd> {
+        if self.profile == Profile::Brink {
+            return self.begin_on_brink();
+        }
         let mut v = vec![Cmd::New { me: self.me, m: self.m, cfg: self.cfg }];
         self.out = self.outputs();
         v.push(Cmd::Limits { max: self.max, out: self.out });
@@ -480,6 +513,9 @@ impl World {
     }
 
     fn rooms(&mut self, s: &Snap) -> Vec<(u64, u16)> {
+        if self.profile == Profile::Brink && self.r.chance(70.0) {
+            return self.peers.iter().map(|p| (*p, 0)).collect();
+        }
         if !self.r.chance(self.tight) {
             return vec![];
         }

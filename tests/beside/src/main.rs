@@ -161,7 +161,7 @@ fn run_list(
     paths: &mut Paths,
     log: &mut Log,
 ) -> Result<u64, String> {
-    let mut world = World::new(seed, number);
+    let mut world = World::of(seed, number);
     if let Some(percent) = damage {
         world.set_damage(percent);
     }

@@ -130,6 +130,8 @@ impl World {
         let me = peers[0];
         let m = match profile {
             Profile::Default => 4094,
+            // (M - 6) / 35 goes from 14 to 15 at 531.
+            Profile::Brink => r.pick(&[510, 511, 530, 530, 531, 531, 565, 4094]),
             _ => r.pick(&[510, 510, 510, 511, 544, 545, 700, 1024, 4094, 4094]),
         };
         let cfg = World::settings(&mut r, profile);

@@ -188,6 +188,12 @@ impl World {
                 queue.push(queue[0]);
                 self.r.shuffle(&mut queue);
             }
+            if n > 0 && self.r.chance(50.0) {
+                // Nor do those, which are not cached; they make more than one IHave of the queue.
+                let more = 4 + self.r.index(16);
+                queue.extend(self.notes(more, false));
+                self.r.shuffle(&mut queue);
+            }
             if k > 0 {
                 s.dropped.push((p, notes));
             }

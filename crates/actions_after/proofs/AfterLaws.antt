@@ -8,7 +8,7 @@ use mathlib.Core.Option.{Option, none, some}
 use native.Mathlib.Omega.{arith}
 use borrow.Author.Tests.{eqb-false}
 use lib.Dec.{eqb}
-use lib.ListN.{length, take, drop, getD}
+use lib.ListN.{length, getD}
 use Rattle.lists.specs.Base.{concatMap}
 use Rattle.lists.specs.Map.{keys}
 use Rattle.lists.proofs.Branches.{if-on, if-same}

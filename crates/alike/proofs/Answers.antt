@@ -12,7 +12,7 @@ use Rattle.lists.specs.Base.{if_then_else_}
 use Rattle.lists.proofs.MapLaws.{and-left, and-right, and-intro}
 use Rattle.protocol.specs.State.{State, limitsInRange, blockNeed}
 use Rattle.protocol.specs.Whole.{whole, longEnough, wholeBlock as wholeOf}
-use Rattle.protocol.specs.Alike.{notWhole, likeness, likenessOf}
+use Rattle.protocol.specs.Alike.{notWhole, likenessOf}
 use Rattle.block.specs.View.{limitsOf, stateOf}
 use Rattle.block.specs.Layout.{tables}
 use Rattle.block.specs.Header.{wordAt, headIn}
@@ -56,9 +56,6 @@ pub second-not : (o : Option State) → likenessOf o none ≡ notWhole
 unfolding likenessOf
 second-not none = refl
 second-not (some s) = refl
-
-pub both-whole : (s t : State) (o p : Option State) → o ≡ some s → p ≡ some t → (alike : Bool) → likenessOf (some s) (some t) ≡ likeness alike → likenessOf o p ≡ likeness alike
-both-whole s t o p e f b h = (λ k. likenessOf (e k) (f k)) ∙ h
 
 -- the tests of the three caches, one after the other
 pub six : (a b c d e f : Bool) → (a && b && (c && d) && (e && f)) ≡ conj a (b ∷ c ∷ d ∷ e ∷ f ∷ [])

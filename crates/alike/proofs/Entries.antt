@@ -23,7 +23,7 @@ use Rattle.block.specs.Fit.{Fit}
 use Rattle.block.specs.Sound.{Sound}
 use Rattle.block.specs.declared.head.Head.{Head}
 use Rattle.block.proofs.LinkLaws.{count-links}
-use Rattle.caches.specs.InBlock.{receivedCache, graftedCache, cachedCache}
+use Rattle.block.specs.TimeCaches.{receivedCache, graftedCache, cachedCache}
 use Rattle.caches.specs.GraftSteps.{graftedAt}
 use Rattle.caches.proofs.ReceivedLaws.{received-lies, count-received}
 use Rattle.caches.proofs.GraftedLaws.{grafted-lies, count-grafted}

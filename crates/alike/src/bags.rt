@@ -3,9 +3,7 @@ use block::head::Head;
 use block::links;
 use block::missing;
 use block::note;
-use caches::cached;
-use caches::grafted;
-use caches::received;
+use block::time_caches;
 use rows::id;
 use rows::id::Id;
 use time_cache::cache::TimeBoundCache;
@@ -141,15 +139,15 @@ fn item_at(bag: Bag, h: Head, block: &[u8], i: usize) -> Item
         Bag::Queue => queued_item(h, block, i),
         Bag::Record => dropped_item(h, block, i),
         Bag::Received => {
-            let c = received::received_cache(h);
+            let c = time_caches::received_cache(h);
             row_item(c, block, i)
         }
         Bag::Grafted => {
-            let c = grafted::grafted_cache(h);
+            let c = time_caches::grafted_cache(h);
             row_item(c, block, i)
         }
         Bag::Cached => {
-            let c = cached::cached_cache(h);
+            let c = time_caches::cached_cache(h);
             row_item(c, block, i)
         }
         Bag::Announcers(m) => announcer_item(h, block, m, i),

@@ -6,7 +6,6 @@ pub mod tables;
 use bags::Bag;
 use block::head::Head;
 use block::head::Limits;
-use block::head::Live;
 use block::head::Settings;
 use block::header;
 use tables::Table;

@@ -5,9 +5,9 @@ use block::head;
 use block::head::Head;
 use block::head::Live;
 use block::links;
+use block::time_caches;
 use caches::cached;
 use caches::grafted;
-use caches::received;
 use rows::id;
 use rows::id::Id;
 use rows::word;
@@ -223,8 +223,8 @@ fn same_received(ha: Head, a: &[u8], hb: Head, b: &[u8], i: usize) -> bool
     requires { ⌜ Sound ha (now a) × (i < ha .live .received) × Sound hb (now b) × (i < hb .live .received) ⌝ }
     ensures { λ r. ⌜ r ≡ sameRow Table.Received (stateOf ha (now (a .entry))) (stateOf hb (now (b .entry))) i ⌝ }
 {
-    let c = received::received_cache(ha);
-    let d = received::received_cache(hb);
+    let c = time_caches::received_cache(ha);
+    let d = time_caches::received_cache(hb);
     same_key(c, a, d, b, i)
 }
 
@@ -233,8 +233,8 @@ fn same_grafted(ha: Head, a: &[u8], hb: Head, b: &[u8], i: usize) -> bool
     requires { ⌜ Sound ha (now a) × (i < ha .live .grafted) × Sound hb (now b) × (i < hb .live .grafted) ⌝ }
     ensures { λ r. ⌜ r ≡ sameRow Table.Grafted (stateOf ha (now (a .entry))) (stateOf hb (now (b .entry))) i ⌝ }
 {
-    let c = grafted::grafted_cache(ha);
-    let d = grafted::grafted_cache(hb);
+    let c = time_caches::grafted_cache(ha);
+    let d = time_caches::grafted_cache(hb);
     let key = same_key(c, a, d, b, i);
     if !key {
         return false;
@@ -259,8 +259,8 @@ fn same_cached(ha: Head, a: &[u8], hb: Head, b: &[u8], i: usize) -> bool
     requires { ⌜ Sound ha (now a) × (i < ha .live .cached) × Sound hb (now b) × (i < hb .live .cached) ⌝ }
     ensures { λ r. ⌜ r ≡ sameRow Table.Cached (stateOf ha (now (a .entry))) (stateOf hb (now (b .entry))) i ⌝ }
 {
-    let c = cached::cached_cache(ha);
-    let d = cached::cached_cache(hb);
+    let c = time_caches::cached_cache(ha);
+    let d = time_caches::cached_cache(hb);
     let key = same_key(c, a, d, b, i);
     if !key {
         return false;

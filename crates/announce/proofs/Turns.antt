@@ -104,10 +104,6 @@ module _ (held : ℕ → Bool) (ds : List Note) where
   pub standing-few : (i : ℕ) → i ≤ length ds → length (standing i) ≤ i
   standing-few i h = omega (arith, length-filter (λ n. held (n .id)) (take i ds), count-length (λ n. held (n .id)) (take i ds), length-take-le i ds h)
 
-  pub standing-none : standing 0 ≡ []
-  unfolding filter
-  standing-none = refl
-
   pub oldest-within : (i : ℕ) → length (oldest [] (standing i)) ≤ length (oldest [] (filter (λ n. held (n .id)) ds))
   oldest-within i =
       let e : standing i ++ filter (λ n. held (n .id)) (drop i ds) ≡ filter (λ n. held (n .id)) ds =

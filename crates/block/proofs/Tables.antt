@@ -1,7 +1,7 @@
 -- What a put in one table does to the tables, and a row more to a table's view.
 -- Assumes nothing.
 use mathlib.Core.Path.{_≡_, refl, sym, ap, _∙_}
-use mathlib.Core.List.{List, [], _∷_, _++_, map, map-append, append-nil}
+use mathlib.Core.List.{List, [], _∷_, _++_, map, append-nil}
 use Prim.Native.Nat.{ℕ, zero, suc, _+_, _-_, _*_, _≤_, _<_}
 use native.Mathlib.Omega.{arith}
 use lib.ListN.{length, take, drop, getD, set, length-map, List·getD-map, drop-of-length-le, length-drop}
@@ -10,7 +10,6 @@ use native.Mathlib.Nat.{not-suc-le-zero, le-of-suc-le-suc}
 use Rattle.rows.specs.Part.{part, put}
 use Rattle.rows.specs.Rows.{rows}
 use Rattle.rows.specs.Sorted.{keyOf, keys}
-use Rattle.rows.proofs.Rows.{rows-push}
 use Rattle.rows.proofs.Rows.{getD-rows, length-rows, rows-same, rows-field}
 use Rattle.rows.proofs.Views.{map-put}
 use Rattle.rows.proofs.Parts.{part-part, getD-part}
@@ -31,11 +30,6 @@ frame l i o ys xs h f e = cut-put (sizes l) i o ys xs h f e
 
 pub length-table : (l : Limits) (i : ℕ) (xs : List ℕ) → i < 15 → total (sizes l) ≤ length xs → length (table l i xs) ≡ getD (sizes l) i 0
 length-table l i xs h e = length-cut (sizes l) i xs h e
-
--- a row more at the end of a table, in the table's view
-pub view-push : {A : Type 0} (f : List ℕ → A) (s n : ℕ) (row xs : List ℕ) → length row ≡ s → (n + 1) * s ≤ length xs
-    → map f (rows s (n + 1) (put (n * s) row xs)) ≡ map f (rows s n xs) ++ (f row ∷ [])
-view-push f s n row xs e h = ap (map f) (rows-push s n row xs e h) ∙ map-append f (rows s n xs) (row ∷ [])
 
 getD-any : {A : Type 0} (xs : List A) (i : ℕ) (d e : A) → i < length xs → getD xs i d ≡ getD xs i e
 getD-any [] i d e h = absurd (not-suc-le-zero h)

@@ -5,4 +5,5 @@ pub mod hops;
 pub mod links;
 pub mod missing;
 pub mod note;
+pub mod time_caches;
 pub mod timers;

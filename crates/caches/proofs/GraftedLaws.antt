@@ -6,30 +6,30 @@ use mathlib.Core.Bool.{Bool, true, false}
 use Prim.Native.Nat.{ℕ, zero, suc, _+_, _-_, _*_, _≤_, _<_}
 use native.Mathlib.Omega.{arith}
 use lib.Dec.{lit<}
-use lib.ListN.{length, drop, getD, set}
+use lib.ListN.{length, drop, set}
 use lib.Seq.{drop-drop}
 use Rattle.lists.specs.Base.{if_then_else_, filter}
 use Rattle.lists.specs.Map.{keys}
-use Rattle.rows.specs.Sorted.{FoundIs}
 use Rattle.rows.specs.Part.{part}
 use Rattle.refs.specs.Refs.{Ref, ref, refOf, refs, places, Below, names, lowered, left}
 use Rattle.refs.proofs.Places.{ref-at, length-refs}
-use Rattle.time_cache.specs.TimeCache.{Cache, put as putIn, expireUntil, holds}
-use Rattle.time_cache.specs.Tables.{Held, held, cacheAt, refsAt, rowsAt, named, resized, Lies, Room, Sound as SoundCache, OnlyTwo, valuesAs}
+use Rattle.time_cache.specs.TimeCache.{Cache, expireUntil, holds}
+use Rattle.time_cache.specs.Tables.{held, cacheAt, refsAt, rowsAt, named, Lies, Room, Sound as SoundCache, OnlyTwo, valuesAs}
 use Rattle.time_cache.specs.Steps.{refAt, Expires}
 use Rattle.time_cache.specs.declared.cache.TimeBoundCache.{TimeBoundCache}
 use Rattle.time_cache.specs.declared.cache.Expired.{Expired}
 use Rattle.time_cache.proofs.TableLaws.{keys-named}
 use Rattle.time_cache.proofs.ValueLaws.{holds-as}
 use Rattle.protocol.specs.State.{Limits, Grafts, withGrafted}
-use Rattle.block.specs.Layout.{sizes, place, tables, table}
+use Rattle.block.specs.Layout.{place, tables, table}
 use Rattle.block.specs.View.{stateOf, viewOf, limitsOf, graftedIn, graftsOf, peersIn}
-use Rattle.block.specs.Fit.{Fit, Within}
+use Rattle.block.specs.Fit.{Fit}
 use Rattle.block.specs.Sound.{Numbered, AllNumbered, Laid, Sound}
 use Rattle.block.specs.Goes.{Goes}
 use Rattle.block.specs.Heads.{withGraftedCounts}
 use Rattle.block.specs.declared.head.Head.{Head}
-use Rattle.caches.specs.InBlock.{cacheFrom, graftedCache, InOrder, graftedLeft}
+use Rattle.block.specs.TimeCaches.{cacheFrom, graftedCache}
+use Rattle.caches.specs.InBlock.{InOrder, graftedLeft}
 use Rattle.caches.proofs.CacheLaws.{asValue, cache-in, keys-in, sound-in, refs-in, count-entries, count-expiry, frame-pair, expired-in}
 
 -- the peers that link numbers stand for

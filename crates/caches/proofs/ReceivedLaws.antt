@@ -1,16 +1,15 @@
 -- The received messages: their tables, and what an insert and `expire_until` do to the state.
 -- Assumes nothing.
 use mathlib.Core.Path.{_≡_, sym, ap, _∙_, subst}
-use mathlib.Core.List.{List, []}
+use mathlib.Core.List.{List}
 use Prim.Native.Nat.{ℕ, _+_, _*_, _≤_, _<_}
 use native.Mathlib.Omega.{arith}
 use lib.Dec.{lit<}
-use lib.ListN.{length, getD, set}
+use lib.ListN.{length, set}
 use Rattle.lists.specs.Map.{keys}
-use Rattle.rows.specs.Sorted.{FoundIs}
-use Rattle.refs.specs.Refs.{Ref, refs, places, Below}
+use Rattle.refs.specs.Refs.{Ref, places, Below}
 use Rattle.time_cache.specs.TimeCache.{Cache, put as putIn, expireUntil, holds}
-use Rattle.time_cache.specs.Tables.{Held, held, cacheAt, refsAt, rowsAt, named, resized, Lies, Room, Sound as SoundCache, OnlyTwo, valuesAs}
+use Rattle.time_cache.specs.Tables.{held, cacheAt, refsAt, rowsAt, named, Lies, Room, Sound as SoundCache, OnlyTwo, valuesAs}
 use Rattle.time_cache.specs.Steps.{heldAt, Inserts, Expires}
 use Rattle.time_cache.specs.declared.cache.TimeBoundCache.{TimeBoundCache}
 use Rattle.time_cache.specs.declared.cache.Inserted.{Inserted}
@@ -18,14 +17,15 @@ use Rattle.time_cache.specs.declared.cache.Expired.{Expired}
 use Rattle.time_cache.proofs.TableLaws.{keys-named}
 use Rattle.time_cache.proofs.ValueLaws.{holds-as}
 use Rattle.protocol.specs.State.{Limits, withReceived}
-use Rattle.block.specs.Layout.{sizes, place, tables, table}
+use Rattle.block.specs.Layout.{place, tables, table}
 use Rattle.block.specs.View.{stateOf, viewOf, limitsOf, receivedIn, nothingOf}
-use Rattle.block.specs.Fit.{Fit, Within}
+use Rattle.block.specs.Fit.{Fit}
 use Rattle.block.specs.Sound.{Laid, Sound}
 use Rattle.block.specs.Goes.{Goes}
 use Rattle.block.specs.Heads.{withReceivedCounts}
 use Rattle.block.specs.declared.head.Head.{Head}
-use Rattle.caches.specs.InBlock.{cacheFrom, receivedCache, InOrder, AtMost, receivedAlso, receivedLeft}
+use Rattle.block.specs.TimeCaches.{cacheFrom, receivedCache}
+use Rattle.caches.specs.InBlock.{InOrder, AtMost, receivedAlso, receivedLeft}
 use Rattle.caches.proofs.CacheLaws.{asValue, cache-in, keys-in, sound-in, refs-in, count-entries, count-expiry, frame-pair, expired-in, inserted-in}
 
 module _ (h : Head) (xs : List ℕ) (fit : Fit h xs) where

@@ -7,24 +7,7 @@ use lib.ListN.{length}
 use Rattle.lists.specs.Base.{ascending}
 use Rattle.lists.specs.Map.{keys}
 use Rattle.time_cache.specs.TimeCache.{Cache, put, expireUntil, inPopOrder}
-use Rattle.time_cache.specs.declared.cache.TimeBoundCache.{TimeBoundCache}
-use Rattle.protocol.specs.State.{Limits, State, withReceived, withGrafted}
-use Rattle.block.specs.Layout.{place}
-use Rattle.block.specs.View.{limitsOf}
-use Rattle.block.specs.declared.head.Head.{Head}
-
--- n entries of s bytes in table i, m expiry rows of t bytes in table j
-abbrev pub cacheFrom : Limits → ℕ → ℕ → ℕ → ℕ → ℕ → ℕ → TimeBoundCache
-cacheFrom l i s n j t m = record { entries = record { at = place l i; stride = s; len = n }; expiry = record { at = place l j; stride = t; len = m } }
-
-abbrev pub receivedCache : Head → TimeBoundCache
-receivedCache h = cacheFrom (limitsOf (h .limits)) 2 2 (h .live .received) 3 40 (h .live .«received_rows»)
-
-abbrev pub cachedCache : Head → TimeBoundCache
-cachedCache h = cacheFrom (limitsOf (h .limits)) 4 4 (h .live .cached) 5 48 (h .live .«cached_rows»)
-
-abbrev pub graftedCache : Head → TimeBoundCache
-graftedCache h = cacheFrom (limitsOf (h .limits)) 7 119 (h .live .grafted) 8 40 (h .live .«grafted_rows»)
+use Rattle.protocol.specs.State.{State, withReceived, withGrafted}
 
 -- keys ascend, and expiry entries stand in pop order: a part of being whole
 pub record InOrder {A : Type 0} (c : Cache A) : Type 0 where

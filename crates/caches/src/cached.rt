@@ -1,13 +1,12 @@
 // `cache`, the message cache: an entry is a place and a round; a row is a time, an identifier, and start and length of the content.
 use block::head;
 use block::head::Head;
+use block::time_caches;
 use postcard::units::Millis;
 use postcard::units::Round;
 use rows::id::Id;
 use rows::table::Found;
 use rows::word;
-use time_cache::cache::Table;
-use time_cache::cache::TimeBoundCache;
 ghost use mathlib.Core.Path.{_≡_};
 ghost use Prim.Native.Nat.{_<_};
 ghost use lib.ListN.{length};
@@ -15,10 +14,9 @@ ghost use Rattle.lists.specs.Map.{keys};
 ghost use Rattle.rows.specs.Ident.{idOf};
 ghost use Rattle.rows.specs.Sorted.{FoundIs};
 ghost use Rattle.time_cache.specs.TimeCache.{holds, laterCache};
-ghost use Rattle.block.specs.View.{limitsOf, stateOf};
-ghost use Rattle.block.specs.Fit.{Ceilings};
+ghost use Rattle.block.specs.View.{stateOf};
 ghost use Rattle.block.specs.Sound.{Sound};
-ghost use Rattle.caches.specs.InBlock.{cachedCache, InOrder};
+ghost use Rattle.caches.specs.InBlock.{InOrder};
 ghost use Rattle.caches.specs.CachedReads.{ContentIs, cachedAt};
 
 // Where the content of a cached message stands among the contents: table 6.
@@ -27,32 +25,12 @@ pub struct Content {
     pub len: usize,
 }
 
-// Where the message cache is: tables 4 and 5.
-pub fn cached_cache(h: Head) -> TimeBoundCache
-    requires { ⌜ Ceilings (limitsOf (h .limits)) ⌝ }
-    ensures { λ r. ⌜ r ≡ cachedCache h ⌝ }
-{
-    let a = head::cached_at(h.limits);
-    let b = head::cached_rows_at(h.limits);
-    let entries = Table {
-        at: a,
-        stride: 4,
-        len: h.live.cached,
-    };
-    let expiry = Table {
-        at: b,
-        stride: 48,
-        len: h.live.cached_rows,
-    };
-    TimeBoundCache { entries, expiry }
-}
-
 // Where an identifier stands in the message cache, or before which it would stand.
 pub fn find_cached(h: Head, block: &[u8], id: Id) -> Found
     requires { ⌜ Sound h (now block) × InOrder (stateOf h (now block) .cache) ⌝ }
     ensures { λ r. ⌜ FoundIs (keys (stateOf h (now (block .entry)) .cache .entries)) (idOf id) r ⌝ }
 {
-    let c = cached_cache(h);
+    let c = time_caches::cached_cache(h);
     c.find(block, id)
 }
 
@@ -61,7 +39,7 @@ pub fn is_cached(h: Head, block: &[u8], id: Id) -> bool
     requires { ⌜ Sound h (now block) × InOrder (stateOf h (now block) .cache) ⌝ }
     ensures { λ r. ⌜ r ≡ holds (idOf id) (stateOf h (now (block .entry)) .cache) ⌝ }
 {
-    let c = cached_cache(h);
+    let c = time_caches::cached_cache(h);
     c.contains_key(block, id)
 }
 
@@ -70,7 +48,7 @@ pub fn cached_later(h: Head, block: &[u8], instant: Millis) -> usize
     requires { ⌜ Sound h (now block) × InOrder (stateOf h (now block) .cache) ⌝ }
     ensures { λ r. ⌜ r ≡ length (laterCache (instant .0) (stateOf h (now (block .entry)) .cache) .entries) ⌝ }
 {
-    let c = cached_cache(h);
+    let c = time_caches::cached_cache(h);
     c.entries_later(block, instant)
 }
 
@@ -79,7 +57,7 @@ pub fn cached_rows_later(h: Head, block: &[u8], instant: Millis) -> usize
     requires { ⌜ Sound h (now block) × InOrder (stateOf h (now block) .cache) ⌝ }
     ensures { λ r. ⌜ r ≡ length (laterCache (instant .0) (stateOf h (now (block .entry)) .cache) .expiry) ⌝ }
 {
-    let c = cached_cache(h);
+    let c = time_caches::cached_cache(h);
     c.rows_later(block, instant)
 }
 
@@ -88,7 +66,7 @@ pub fn is_cached_later(h: Head, block: &[u8], id: Id, instant: Millis) -> bool
     requires { ⌜ Sound h (now block) × InOrder (stateOf h (now block) .cache) ⌝ }
     ensures { λ r. ⌜ r ≡ holds (idOf id) (laterCache (instant .0) (stateOf h (now (block .entry)) .cache)) ⌝ }
 {
-    let c = cached_cache(h);
+    let c = time_caches::cached_cache(h);
     c.contains_later(block, id, instant)
 }
 
@@ -97,7 +75,7 @@ pub fn cached_content(h: Head, block: &[u8], i: usize) -> Content
     requires { ⌜ Sound h (now block) × (i < h .live .cached) ⌝ }
     ensures { λ r. ⌜ ContentIs h (now (block .entry)) i r ⌝ }
 {
-    let c = cached_cache(h);
+    let c = time_caches::cached_cache(h);
     let p = c.place(block, i);
     let a = head::cached_rows_at(h.limits) + 48 * p;
     let start = word::load4(block, a + 40);

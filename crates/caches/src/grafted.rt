@@ -3,13 +3,12 @@ use block::head;
 use block::head::Head;
 use block::hops;
 use block::hops::Hop;
+use block::time_caches;
 use postcard::units::Millis;
 use postcard::units::Round;
 use rows::id::Id;
 use rows::table::Found;
 use rows::word;
-use time_cache::cache::Table;
-use time_cache::cache::TimeBoundCache;
 ghost use mathlib.Core.Path.{_≡_};
 ghost use Prim.Native.Nat.{_≤_, _<_};
 ghost use lib.ListN.{length};
@@ -17,39 +16,18 @@ ghost use Rattle.lists.specs.Map.{keys};
 ghost use Rattle.rows.specs.Ident.{idOf};
 ghost use Rattle.rows.specs.Sorted.{FoundIs};
 ghost use Rattle.time_cache.specs.TimeCache.{holds, laterCache};
-ghost use Rattle.block.specs.View.{limitsOf, stateOf};
-ghost use Rattle.block.specs.Fit.{Ceilings};
+ghost use Rattle.block.specs.View.{stateOf};
 ghost use Rattle.block.specs.Sound.{Sound};
 ghost use Rattle.block.specs.Goes.{Goes};
-ghost use Rattle.caches.specs.InBlock.{graftedCache, InOrder, graftedLeft};
+ghost use Rattle.caches.specs.InBlock.{InOrder, graftedLeft};
 ghost use Rattle.caches.specs.GraftSteps.{graftsAt, GraftIs, firstAt, keptAt};
-
-// Where the grafted messages are: tables 7 and 8.
-pub fn grafted_cache(h: Head) -> TimeBoundCache
-    requires { ⌜ Ceilings (limitsOf (h .limits)) ⌝ }
-    ensures { λ r. ⌜ r ≡ graftedCache h ⌝ }
-{
-    let a = head::grafted_at(h.limits);
-    let b = head::grafted_rows_at(h.limits);
-    let entries = Table {
-        at: a,
-        stride: 119,
-        len: h.live.grafted,
-    };
-    let expiry = Table {
-        at: b,
-        stride: 40,
-        len: h.live.grafted_rows,
-    };
-    TimeBoundCache { entries, expiry }
-}
 
 // Where an identifier stands among the grafted messages, or before which it would stand.
 pub fn find_grafted(h: Head, block: &[u8], id: Id) -> Found
     requires { ⌜ Sound h (now block) × InOrder (stateOf h (now block) .grafted) ⌝ }
     ensures { λ r. ⌜ FoundIs (keys (stateOf h (now (block .entry)) .grafted .entries)) (idOf id) r ⌝ }
 {
-    let c = grafted_cache(h);
+    let c = time_caches::grafted_cache(h);
     c.find(block, id)
 }
 
@@ -58,7 +36,7 @@ pub fn contains_grafted(h: Head, block: &[u8], id: Id) -> bool
     requires { ⌜ Sound h (now block) × InOrder (stateOf h (now block) .grafted) ⌝ }
     ensures { λ r. ⌜ r ≡ holds (idOf id) (stateOf h (now (block .entry)) .grafted) ⌝ }
 {
-    let c = grafted_cache(h);
+    let c = time_caches::grafted_cache(h);
     c.contains_key(block, id)
 }
 
@@ -67,7 +45,7 @@ pub fn expire_grafted(mut h: Head, block: &mut [u8], instant: Millis) -> Head
     requires { ⌜ Sound h (now block) × InOrder (stateOf h (now block) .grafted) ⌝ }
     ensures { λ r. ⌜ Goes (graftedLeft (instant .0)) h (now (block .entry)) r (now (block .exit)) ⌝ }
 {
-    let c = grafted_cache(h);
+    let c = time_caches::grafted_cache(h);
     let e = c.expire_until(block, instant);
     let n = e.cache.entries.len;
     let m = e.cache.expiry.len;
@@ -120,7 +98,7 @@ pub fn grafted_later(h: Head, block: &[u8], instant: Millis) -> usize
     requires { ⌜ Sound h (now block) × InOrder (stateOf h (now block) .grafted) ⌝ }
     ensures { λ r. ⌜ r ≡ length (laterCache (instant .0) (stateOf h (now (block .entry)) .grafted) .entries) ⌝ }
 {
-    let c = grafted_cache(h);
+    let c = time_caches::grafted_cache(h);
     c.entries_later(block, instant)
 }
 
@@ -129,7 +107,7 @@ pub fn grafted_rows_later(h: Head, block: &[u8], instant: Millis) -> usize
     requires { ⌜ Sound h (now block) × InOrder (stateOf h (now block) .grafted) ⌝ }
     ensures { λ r. ⌜ r ≡ length (laterCache (instant .0) (stateOf h (now (block .entry)) .grafted) .expiry) ⌝ }
 {
-    let c = grafted_cache(h);
+    let c = time_caches::grafted_cache(h);
     c.rows_later(block, instant)
 }
 
@@ -138,6 +116,6 @@ pub fn is_grafted_later(h: Head, block: &[u8], id: Id, instant: Millis) -> bool
     requires { ⌜ Sound h (now block) × InOrder (stateOf h (now block) .grafted) ⌝ }
     ensures { λ r. ⌜ r ≡ holds (idOf id) (laterCache (instant .0) (stateOf h (now (block .entry)) .grafted)) ⌝ }
 {
-    let c = grafted_cache(h);
+    let c = time_caches::grafted_cache(h);
     c.contains_later(block, id, instant)
 }

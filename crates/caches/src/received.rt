@@ -1,49 +1,26 @@
 // `received_messages`: an entry is a place, a row is a time and an identifier.
-use block::head;
 use block::head::Head;
+use block::time_caches;
 use postcard::units::Millis;
 use rows::id::Id;
 use rows::table::Found;
-use time_cache::cache::Table;
-use time_cache::cache::TimeBoundCache;
 ghost use mathlib.Core.Path.{_≡_};
 ghost use lib.ListN.{length};
 ghost use Rattle.lists.specs.Map.{keys};
 ghost use Rattle.rows.specs.Ident.{idOf};
 ghost use Rattle.rows.specs.Sorted.{FoundIs};
 ghost use Rattle.time_cache.specs.TimeCache.{holds, put, laterCache};
-ghost use Rattle.block.specs.View.{limitsOf, stateOf};
-ghost use Rattle.block.specs.Fit.{Ceilings};
+ghost use Rattle.block.specs.View.{stateOf};
 ghost use Rattle.block.specs.Sound.{Sound};
 ghost use Rattle.block.specs.Goes.{Goes};
-ghost use Rattle.caches.specs.InBlock.{receivedCache, InOrder, AtMost, receivedAlso, receivedLeft};
-
-// Where the received messages are: tables 2 and 3.
-pub fn received_cache(h: Head) -> TimeBoundCache
-    requires { ⌜ Ceilings (limitsOf (h .limits)) ⌝ }
-    ensures { λ r. ⌜ r ≡ receivedCache h ⌝ }
-{
-    let a = head::received_at(h.limits);
-    let b = head::received_rows_at(h.limits);
-    let entries = Table {
-        at: a,
-        stride: 2,
-        len: h.live.received,
-    };
-    let expiry = Table {
-        at: b,
-        stride: 40,
-        len: h.live.received_rows,
-    };
-    TimeBoundCache { entries, expiry }
-}
+ghost use Rattle.caches.specs.InBlock.{InOrder, AtMost, receivedAlso, receivedLeft};
 
 // Where an identifier stands among the received messages, or before which it would stand.
 pub fn find_received(h: Head, block: &[u8], id: Id) -> Found
     requires { ⌜ Sound h (now block) × InOrder (stateOf h (now block) .received) ⌝ }
     ensures { λ r. ⌜ FoundIs (keys (stateOf h (now (block .entry)) .received .entries)) (idOf id) r ⌝ }
 {
-    let c = received_cache(h);
+    let c = time_caches::received_cache(h);
     c.find(block, id)
 }
 
@@ -52,7 +29,7 @@ pub fn is_received(h: Head, block: &[u8], id: Id) -> bool
     requires { ⌜ Sound h (now block) × InOrder (stateOf h (now block) .received) ⌝ }
     ensures { λ r. ⌜ r ≡ holds (idOf id) (stateOf h (now (block .entry)) .received) ⌝ }
 {
-    let c = received_cache(h);
+    let c = time_caches::received_cache(h);
     c.contains_key(block, id)
 }
 
@@ -61,7 +38,7 @@ pub fn insert_received(mut h: Head, block: &mut [u8], id: Id, expires: Millis) -
     requires { ⌜ Sound h (now block) × InOrder (stateOf h (now block) .received) × AtMost (h .limits .received) (put (idOf id) tt (expires .0) (stateOf h (now block) .received)) ⌝ }
     ensures { λ r. ⌜ Goes (receivedAlso (idOf id) (expires .0)) h (now (block .entry)) r (now (block .exit)) ⌝ }
 {
-    let c = received_cache(h);
+    let c = time_caches::received_cache(h);
     let e = c.insert(block, id, expires);
     let n = e.cache.entries.len;
     let m = e.cache.expiry.len;
@@ -75,7 +52,7 @@ pub fn expire_received(mut h: Head, block: &mut [u8], instant: Millis) -> Head
     requires { ⌜ Sound h (now block) × InOrder (stateOf h (now block) .received) ⌝ }
     ensures { λ r. ⌜ Goes (receivedLeft (instant .0)) h (now (block .entry)) r (now (block .exit)) ⌝ }
 {
-    let c = received_cache(h);
+    let c = time_caches::received_cache(h);
     let e = c.expire_until(block, instant);
     let n = e.cache.entries.len;
     let m = e.cache.expiry.len;
@@ -89,7 +66,7 @@ pub fn received_later(h: Head, block: &[u8], instant: Millis) -> usize
     requires { ⌜ Sound h (now block) × InOrder (stateOf h (now block) .received) ⌝ }
     ensures { λ r. ⌜ r ≡ length (laterCache (instant .0) (stateOf h (now (block .entry)) .received) .entries) ⌝ }
 {
-    let c = received_cache(h);
+    let c = time_caches::received_cache(h);
     c.entries_later(block, instant)
 }
 
@@ -98,7 +75,7 @@ pub fn received_rows_later(h: Head, block: &[u8], instant: Millis) -> usize
     requires { ⌜ Sound h (now block) × InOrder (stateOf h (now block) .received) ⌝ }
     ensures { λ r. ⌜ r ≡ length (laterCache (instant .0) (stateOf h (now (block .entry)) .received) .expiry) ⌝ }
 {
-    let c = received_cache(h);
+    let c = time_caches::received_cache(h);
     c.rows_later(block, instant)
 }
 
@@ -107,6 +84,6 @@ pub fn is_received_later(h: Head, block: &[u8], id: Id, instant: Millis) -> bool
     requires { ⌜ Sound h (now block) × InOrder (stateOf h (now block) .received) ⌝ }
     ensures { λ r. ⌜ r ≡ holds (idOf id) (laterCache (instant .0) (stateOf h (now (block .entry)) .received)) ⌝ }
 {
-    let c = received_cache(h);
+    let c = time_caches::received_cache(h);
     c.contains_later(block, id, instant)
 }

@@ -33,7 +33,8 @@ use Rattle.block.specs.Heads.{withCachedCounts}
 use Rattle.block.specs.declared.head.Head.{Head}
 use Rattle.block.proofs.Tables.{frame, length-table}
 use Rattle.block.proofs.RowLaws.{frame-two}
-use Rattle.caches.specs.InBlock.{cacheFrom, cachedCache, AtMost}
+use Rattle.block.specs.TimeCaches.{cacheFrom, cachedCache}
+use Rattle.caches.specs.InBlock.{AtMost}
 use Rattle.caches.proofs.CacheLaws.{refs-in, rows-in, frame-pair, inserted-in, count-entries, count-expiry}
 use Rattle.caches.proofs.CachedLaws.{cached-lies}
 use Rattle.contents.specs.Starts.{startOf, lenOf, firstStart, Chain, withStart, withLen}

@@ -1,6 +1,6 @@
 -- A message taken in: the times fit a word, and the two inserts are the step.
 -- Assumes nothing.
-use mathlib.Core.Path.{_≡_, refl, sym, ap, _∙_, subst}
+use mathlib.Core.Path.{_≡_, sym, ap, _∙_, subst}
 use mathlib.Core.Bool.{Bool, true, _&&_}
 use mathlib.Core.List.{List}
 use Prim.Native.Nat.{ℕ, _*_, _≤_, _^_}
@@ -18,7 +18,7 @@ use Rattle.block.specs.Sound.{held}
 use Rattle.block.specs.Goes.{Goes}
 use Rattle.block.specs.declared.head.Head.{Head}
 use Rattle.caches.specs.InBlock.{InOrder, AtMost, receivedAlso}
-use Rattle.steps.specs.Stands.{Stands, Step}
+use Rattle.steps.specs.Stands.{Stands}
 use Rattle.steps.proofs.StandsLaws.{cached-order}
 use Rattle.contents.specs.CacheSteps.{message, cachedAlso}
 use Rattle.contents.specs.Taking.{TakesIn, forgottenAt, uncachedAt}
@@ -82,9 +82,6 @@ module _ (instant id : ℕ) (content : List ℕ) (round : ℕ) (h : Head) (block
         cached = subst (λ (n : ℕ). AtMost n (taken .cache)) (ap (λ (k : Limits). k .C) l) (subst (AtMost (z .limits .C)) c (f .1));
         bytes = omega (arith, f .2, ap (λ (k : Limits). k .B) l, ap (λ (k : Cache Cached). held (k .entries)) c);
       }
-
-  pub takes-step : Step (takenState instant id content round) h block → TakesIn instant id content round h block
-  takes-step s = takes-from taken (s .stands) (s .fits) refl refl refl
 
 -- after the first insert
 module _ (id t : ℕ) (h a : Head) (xs ys : List ℕ) (g : Goes (receivedAlso id t) h xs a ys) where

@@ -2,6 +2,7 @@
 // start and length of its content.
 use block::head;
 use block::head::Head;
+use block::time_caches;
 use caches::cached;
 use postcard::units::Millis;
 use postcard::units::Round;
@@ -89,7 +90,7 @@ pub fn expire_cached(mut h: Head, block: &mut [u8], instant: Millis) -> Head
     requires { ⌜ Sound h (now block) × InOrder (stateOf h (now block) .cache) ⌝ }
     ensures { λ r. ⌜ Goes (cachedLeft (instant .0)) h (now (block .entry)) r (now (block .exit)) ⌝ }
 {
-    let c = cached::cached_cache(h);
+    let c = time_caches::cached_cache(h);
     let e = c.expire_until(block, instant);
     let n = e.cache.entries.len;
     let m = e.cache.expiry.len;
@@ -148,7 +149,7 @@ fn set_content(h: Head, block: &mut [u8], id: Id, content: &[u8]) -> Head
     let f = cached::find_cached(h, block, id);
     match f {
         Found::At(i) => {
-            let c = cached::cached_cache(h);
+            let c = time_caches::cached_cache(h);
             let p = c.place(block, i);
             resize_row(h, block, p, content)
         }
@@ -173,7 +174,7 @@ fn insert_empty(mut h: Head, block: &mut [u8], id: Id, round: Round, expires: Mi
     requires { ⌜ Sound h (now block) × InOrder (stateOf h (now block) .cache) × AtMost (h .limits .cached) (putIn (idOf id) (message [] (round .0)) (expires .0) (stateOf h (now block) .cache)) × (held (putIn (idOf id) (message [] (round .0)) (expires .0) (stateOf h (now block) .cache) .entries) ≡ h .live .contents) ⌝ }
     ensures { λ r. ⌜ Goes (cachedAlso (idOf id) [] (round .0) (expires .0)) h (now (block .entry)) r (now (block .exit)) ⌝ }
 {
-    let c = cached::cached_cache(h);
+    let c = time_caches::cached_cache(h);
     let e = c.insert(block, id, expires);
     let n = e.cache.entries.len;
     let m = e.cache.expiry.len;

@@ -8,7 +8,7 @@ use native.Mathlib.Omega.{arith}
 use lib.Dec.{ltb, eqb}
 use lib.ListN.{length, length-append}
 use borrow.Author.Tests.{ne-eqb, ltb-true}
-use Rattle.lists.specs.Base.{if_then_else_, isSome, all, filter, sum, ascending}
+use Rattle.lists.specs.Base.{isSome, all, filter, sum, ascending}
 use Rattle.lists.specs.Map.{Map, keys, lookup, insert}
 use Rattle.time_cache.specs.TimeCache.{Timed, Cache, valueOf, get, holds, put}
 use Rattle.protocol.specs.Links.{lazyPeers}
@@ -32,9 +32,6 @@ use Rattle.decide.proofs.PushLaws.{targets-once, targets-near, swarm-si
 use Rattle.lists.proofs.KeyLaws.{lookup-absent, above-all}
 
 -- content bytes
-
-valueHeld : Timed Cached → ℕ
-valueHeld t = length (t .value .content)
 
 heldOf : Option (Timed Cached) → ℕ
 heldOf none = 0

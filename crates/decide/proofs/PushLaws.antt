@@ -271,10 +271,6 @@ module _ (ps : List ℕ) (id : ℕ) (content : List ℕ) (r : Run) (near : all (
       rw (swarm-is round) (for-actions (backPeers (r .rooms) ps) (record { id = id; round = round }) (sendEach ps m r) (near-after round) (rw (sent-state ps m r) k)
       ∙ rw (sent-state ps m r, sent-actions ps m r apart) (append-assoc (r .actions) (map (firstSend (r .rooms) m) ps) (noteAction (backPeers (r .rooms) ps) (r .state .announceScheduled))))
 
-  pub near-pushed : PushedTo ps r (pushTo ps id content Neighbors r)
-  unfolding pushTo noteAfter
-  near-pushed = record { only = walk-sendEach RecordOnly only-sending ps (Gossip id content Neighbors) r; rooms = λ k q m. sent-rooms k q ps (Gossip id content Neighbors) r m }
-
   pub near-actions : pushTo ps id content Neighbors r .actions ≡ r .actions ++ map (firstSend (r .rooms) (Gossip id content Neighbors)) ps
   unfolding pushTo noteAfter
   near-actions = sent-actions ps (Gossip id content Neighbors) r apart

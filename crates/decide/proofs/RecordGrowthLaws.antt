@@ -186,10 +186,6 @@ count-peer p i round ds = count-append (forPeer p) ds _ ∙ ap (λ (n : ℕ). co
     one : count (forPeer p) (record { peer = p; id = i; round = round } ∷ []) ≡ 1
     one = unfold count in (rw (eq-eqb p p refl) refl)
 
--- the caps applied to how many are eligible
-capped : (ℕ → Bool) → ℕ → List Note → List Ihave → ℕ
-capped c p ds hs = min (eligible c p ds [] hs) (min (256 - count (forPeer p) ds) (4096 - length ds))
-
 gain-arith : (e k n l x : ℕ) → k < 256 → n < 4096 → l ≡ (n + 1) + min e (min (256 - (k + 1)) (4096 - (n + 1))) → x ≡ suc e → l ≡ n + min x (min (256 - k) (4096 - n))
 gain-arith e k n l x a b h q =
     h ∙ back ∙ rw (q, sub-suc 256 k a, sub-suc 4096 n b, min-suc (256 - (k + 1)) (4096 - (n + 1)), min-suc e (min (256 - (k + 1)) (4096 - (n + 1)))) refl

@@ -1,20 +1,19 @@
 -- The state after each event, and after a whole call (`stateAfter`), is that of `handle`.
-use Prim.Native.Nat.{ℕ, suc}
-use mathlib.Core.Path.{_≡_, refl, sym, ap, _∙_}
-use mathlib.Core.Bool.{Bool, true, false, not, _&&_, _||_}
+use Prim.Native.Nat.{ℕ}
+use mathlib.Core.Path.{_≡_, refl, ap, _∙_}
+use mathlib.Core.Bool.{Bool, true, false, not, _||_}
 use mathlib.Core.List.{List, [], _∷_, _++_}
 use mathlib.Core.Option.{Option, none, some}
 use lib.Dec.{ltb, eqb}
 use lib.ListN.{length}
 use Rattle.lists.specs.Base.{if_then_else_, isEmpty, member, all, once}
-use Rattle.lists.specs.Map.{keys, insertKey}
 use Rattle.time_cache.specs.TimeCache.{get, holds}
 use Rattle.postcard.specs.Message.{Delivery, Swarm, Neighbors, Scope, toSwarm, toNeighbors, Ihave, Message, Gossip, Prune, Graft, IHave, Timer, SendGraft, DispatchLazyPush, EvictCache, AnnounceDropped, Event, Received, Broadcast, Fired, Up, Down}
 use Rattle.protocol.specs.Links.{eager, isNeighbour, addLazy, addEager}
 use Rattle.protocol.specs.State.{State, Counts, Hop, Cached, withLinks, withDispatchScheduled, withAnnounceScheduled}
-use Rattle.protocol.specs.Run.{Run, Room, begin, withState, withCounts, act, send, takes, hasRoom}
-use Rattle.protocol.specs.Push.{scheduleDispatch, scheduleAnnounceDropped, noteDropped, sendEach, handedBack, noteForEach, eagerTargets, noteAfter, pushTo, eagerPush, lazyPush}
-use Rattle.protocol.specs.Gossips.{markReceived, cacheAt, updateLinks, pruneBack, announcers, setKept, Late, duplicate, repeated, faster, lateKind, onDuplicate, onLateGraftReply, onNew, onGossip, gossipSize, broadcastTo, broadcast}
+use Rattle.protocol.specs.Run.{Run, Room, begin, withState, withCounts, act, send, takes}
+use Rattle.protocol.specs.Push.{scheduleAnnounceDropped, noteDropped, sendEach, handedBack, noteForEach, eagerTargets, noteAfter, pushTo, eagerPush, lazyPush}
+use Rattle.protocol.specs.Gossips.{markReceived, cacheAt, updateLinks, pruneBack, announcers, setKept, Late, duplicate, repeated, faster, onDuplicate, onLateGraftReply, onNew, onGossip, gossipSize, broadcastTo, broadcast}
 use Rattle.protocol.specs.Control.{announce, scheduleGraft, onAnnounced, onIHave, onPrune, replyWith, reply, onGraft, noteGraft, leaveAnnouncers, askFirst, unmark, onSendGraftTimer}
 use Rattle.protocol.specs.Ticks.{oldest, younger, moveOldest, stillCached, dispatchIfQueued, onAnnounceDroppedTimer, onEvictCacheTimer}
 use Rattle.protocol.specs.Neighbours.{onNeighborUp, onNeighborDown}
@@ -24,8 +23,8 @@ use Rattle.protocol.proofs.Consistent.{Consistent, whole-consistent}
 use Rattle.protocol.proofs.RecordBounds.{Flagged}
 use Rattle.protocol.proofs.WholeKept.{kept-firstEvent}
 use Rattle.protocol.proofs.LinkSteps.{has-mark}
-use Rattle.lists.proofs.Branches.{if-on, if-both, if-same}
-use Rattle.decide.specs.StateAfter.{firstState, recordedState, pushedState, lazyState, takenState, newState, lateState, broadcastState, announcedState, ihaveState, replyState, graftState, askedState, sendGraftState, announceState, timerState, gossipState, messageState, stateAfter}
+use Rattle.lists.proofs.Branches.{if-on, if-both}
+use Rattle.decide.specs.StateAfter.{firstState, pushedState, lazyState, takenState, lateState, broadcastState, announcedState, ihaveState, replyState, graftState, askedState, sendGraftState, announceState, timerState, gossipState, messageState, stateAfter}
 use Rattle.decide.proofs.SettledLaws.{first-rooms}
 use Rattle.decide.proofs.Broadcast.{lazy-rooms}
 use Rattle.decide.proofs.Dispatch.{dispatched-state}

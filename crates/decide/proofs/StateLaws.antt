@@ -1,29 +1,27 @@
 -- The state after a whole call is a function of the state before it (`stateAfter`): each step of `handle` without its run.
 use Prim.Native.Nat.{ℕ, suc}
-use mathlib.Core.Path.{_≡_, refl, sym, ap, _∙_}
+use mathlib.Core.Path.{_≡_, refl, ap, _∙_}
 use mathlib.Core.Bool.{Bool, true, false, not, _&&_, _||_}
 use mathlib.Core.List.{List, [], _∷_, _++_}
 use mathlib.Core.Option.{Option, none, some}
-use lib.Dec.{ltb, eqb}
-use lib.ListN.{length}
-use Rattle.lists.specs.Base.{if_then_else_, isEmpty, any, all, member, once, ascending}
+use Rattle.lists.specs.Base.{if_then_else_, isEmpty, any, all, once, ascending}
 use Rattle.lists.specs.Map.{keys}
-use Rattle.time_cache.specs.TimeCache.{get, holds}
-use Rattle.postcard.specs.Message.{Delivery, Swarm, Neighbors, Scope, toSwarm, toNeighbors, Ihave, Message, Gossip, Prune, Graft, IHave, Timer, SendGraft, DispatchLazyPush, EvictCache, AnnounceDropped, Event, Received, Broadcast, Fired, Up, Down}
-use Rattle.protocol.specs.Links.{Links, isNeighbour, eagerIn, addLazy, addEager}
-use Rattle.protocol.specs.State.{State, Counts, Note, Hop, Grafts, Cached, withLinks, withQueue, withDropped, withDispatchScheduled, withAnnounceScheduled}
-use Rattle.protocol.specs.Run.{Run, Room, begin, withState, withCounts, act, send}
-use Rattle.protocol.specs.Push.{scheduleDispatch, scheduleAnnounceDropped, noteForEach, noteDropped, sendEach, handedBack, eagerTargets, noteAfter, pushTo, eagerPush, lazyPush}
+use Rattle.time_cache.specs.TimeCache.{get}
+use Rattle.postcard.specs.Message.{Swarm, Ihave, Gossip, Graft}
+use Rattle.protocol.specs.Links.{isNeighbour, eagerIn, addLazy, addEager}
+use Rattle.protocol.specs.State.{State, Note, Hop, Grafts, withLinks, withDropped, withDispatchScheduled, withAnnounceScheduled}
+use Rattle.protocol.specs.Run.{Run, Room, send}
+use Rattle.protocol.specs.Push.{noteForEach, noteDropped, sendEach, eagerTargets, noteAfter, pushTo, eagerPush, lazyPush}
 use Rattle.protocol.specs.Gossips.{markReceived, cacheAt, withFirst, setFirst, forgetMissing, updateLinks, graftUnlessEager, pruneBack, leastFrom, farCloser, optimizeTree, forgetAndOptimise, announcers, graftedFor, graftOut, pushOn, raiseHops, takeIn}
-use Rattle.protocol.proofs.Consistent.{Consistent, whole-consistent}
+use Rattle.protocol.proofs.Consistent.{Consistent}
 use Rattle.protocol.proofs.RecordBounds.{Flagged}
 use Rattle.protocol.proofs.RecordOnly.{RecordOnly}
 use Rattle.protocol.specs.Push.{recordFull, notes}
 use Rattle.protocol.proofs.RecordOnly.{only-noteDropped, only-sending}
 use Rattle.protocol.proofs.Walk.{walk-noteForEach}
-use Rattle.lists.proofs.MapLaws.{cases, true≢, all-head, all-tail}
-use Rattle.lists.proofs.Branches.{if-on, if-both, if-same}
-use Rattle.decide.proofs.RecordGrowthLaws.{nextFlag, noted-for}
+use Rattle.lists.proofs.MapLaws.{true≢, all-head, all-tail}
+use Rattle.lists.proofs.Branches.{if-on, if-both}
+use Rattle.decide.proofs.RecordGrowthLaws.{noted-for}
 use Rattle.decide.proofs.PushLaws.{for-dropped, sent-back, sent-state, back-near, targets-near, targets-once}
 use Rattle.decide.proofs.UpDownEvict.{dispatch-state}
 use Rattle.decide.specs.Rooms.{backPeers}

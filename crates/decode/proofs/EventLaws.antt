@@ -6,7 +6,6 @@ use mathlib.Core.List.{List}
 use native.Mathlib.Omega.{arith}
 use lib.ListN.{length, drop, length-append, length-drop, drop-of-length-le}
 use lib.Seq.{drop-cons}
-use Rattle.postcard.specs.Number.{fault}
 use Rattle.postcard.specs.Message.{Message, Event, messageBytes}
 use Rattle.postcard.specs.Decode.{readMessage, readEvent, decoded, faulty, ended, decodeEvent}
 use Rattle.postcard.specs.Wide.{Bytes}

@@ -10,7 +10,7 @@ use lib.Seq.{drop-cons, drop-drop}
 use borrow.Author.Tests.{le-leb, lt-leb, lt-ltb, le-ltb}
 use Rattle.rows.specs.Digits.{beFrom, beNat}
 use Rattle.rows.specs.Part.{part}
-use Rattle.postcard.specs.Number.{Read, got, fault, _then_, fromBigEndian, readKind, readBytes, readId}
+use Rattle.postcard.specs.Number.{Read, got, _then_, fromBigEndian, readKind, readBytes, readId}
 use Rattle.postcard.specs.Place.{Placed, placed, refused, Reads}
 
 module _ {A : Type 0} {bytes : List ℕ} where

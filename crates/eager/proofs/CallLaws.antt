@@ -9,11 +9,11 @@ use native.Mathlib.Omega.{arith}
 use borrow.Author.Tests.{leb-true}
 use lib.Dec.{leb}
 use lib.ListN.{length}
-use Rattle.lists.specs.Base.{if_then_else_, concatMap}
+use Rattle.lists.specs.Base.{if_then_else_}
 use Rattle.lists.specs.Map.{Entry, entry, keys}
 use Rattle.lists.proofs.MapLaws.{and-right}
-use Rattle.time_cache.specs.TimeCache.{Timed, get, holds, laterCache}
-use Rattle.postcard.specs.Message.{Message, actionBytes}
+use Rattle.time_cache.specs.TimeCache.{Timed, get, laterCache}
+use Rattle.postcard.specs.Message.{Message}
 use Rattle.protocol.specs.State.{State, Limits, Grafts, Cached, withInit, withReceived, withGrafted, withCache}
 use Rattle.protocol.specs.Run.{Room}
 use Rattle.protocol.specs.Push.{eagerTargets}
@@ -22,14 +22,12 @@ use Rattle.protocol.specs.Whole.{fits, cacheFits, contentHeld}
 use Rattle.decide.specs.Settled.{settled}
 use Rattle.decide.specs.Rooms.{backPeers}
 use Rattle.decide.specs.RecordGrowth.{pushGains}
-use Rattle.decide.specs.ActionsAfter.{replyActions}
 use Rattle.decide.specs.StateAfter.{recordedState, pushedState, pushedOnState, replyState}
 use Rattle.block.specs.View.{stateOf}
 use Rattle.block.specs.Fit.{Fit}
 use Rattle.block.specs.LinkSteps.{peerAt}
 use Rattle.block.specs.declared.head.Head.{Head}
 use Rattle.caches.proofs.GraftedLaws.{count-grafted}
-use Rattle.caches.proofs.CachedLaws.{count-cached}
 use Rattle.grafts.specs.Reads.{HeldBelow}
 use Rattle.grafts.proofs.PeerLaws.{stands-grafting}
 use Rattle.steps.specs.Rooms.{roomsIn}
@@ -39,9 +37,9 @@ use Rattle.steps.specs.declared.Held.{Held}
 use Rattle.steps.specs.declared.Held.the-variants.{At, Nothing}
 use Rattle.steps.proofs.StandsLaws.{links-up, cached-order}
 use Rattle.eager.specs.Targets.{Pushing, skippedIn, targetsOf, backsOf}
-use Rattle.eager.specs.Backs.{backState, NotesBack}
-use Rattle.eager.specs.Sent.{sentBytes, pushBytes}
-use Rattle.eager.specs.Reply.{Replying, Replies, repliedState, replyGains}
+use Rattle.eager.specs.Backs.{backState}
+use Rattle.eager.specs.Sent.{pushBytes}
+use Rattle.eager.specs.Reply.{Replying, Replies, repliedState}
 
 abbrev noGrafts : Entry (Timed Grafts)
 noGrafts = entry 0 (record { expires = 0; value = record { first = none; kept = none; peers = [] } })
@@ -55,10 +53,6 @@ module _ (h : Head) (xs : List ℕ) (fit : Fit h xs) (id : ℕ) where
   pub skip-in : (found : Option Grafts) (k : Held) → HeldIs noGrafts (stateOf h xs .grafted .entries) id found k → HeldBelow (h .live .grafted) k
   skip-in found (At i) e = omega (arith, e .below, count-grafted h xs fit)
   skip-in found Nothing e = tt
-
-  pub held-in : (found : Option Cached) (k : Held) → HeldIs noCached (stateOf h xs .cache .entries) id found k → HeldBelow (h .live .cached) k
-  held-in found (At i) e = omega (arith, e .below, count-cached h xs fit)
-  held-in found Nothing e = tt
 
 pub skip-found : (s : State) (id : ℕ) (found : Option Grafts) (k : Held) → HeldIs noGrafts (s .grafted .entries) id found k → skippedIn k (s .grafted) ≡ keys (peersOf found)
 unfolding skippedIn peersOf
@@ -81,14 +75,6 @@ fits-record s h =
     (leb (length (s .links)) (s .limits .N) && cacheFits (s .limits .R) (s .received) && cacheFits (s .limits .C) (s .cache) && leb (contentHeld s) (s .limits .B) && cacheFits (s .limits .G) (s .grafted)
     && leb (length (s .missing)) (s .limits .S) && leb (length (s .graftTimers)) (s .limits .T) && leb (length (s .queue)) (s .limits .Q))
     (leb (length (s .dropped)) (s .limits .D)) h)
-
-pub notes-back : (h : Head) (xs : List ℕ) (sender : ℕ) (k : Held) (array : List ℕ) (id round : ℕ) → Step (backState sender k array id round) h xs → HeldBelow (h .live .grafted) k → holds id (stateOf h xs .cache) ≡ true → NotesBack h xs sender k array id round
-unfolding stateOf pushedState recordedState
-notes-back h xs sender k array id round s i c = record {
-  pushing = pushing h xs k (s .stands) i;
-  cached = c;
-  room = fits-record (backState sender k array id round (stateOf h xs)) (s .fits);
-}
 
 same-limits : (rooms : List Room) (sender id : ℕ) (c : Option Cached) (s : State) → replyState rooms sender id c s .limits ≡ s .limits
 unfolding replyState pushedState recordedState
@@ -124,14 +110,6 @@ module _ (now : ℕ) (s : State) where
   unfolding roomsIn
   settled-rooms array = settled-as now s (λ (t : State). roomsIn t array) refl
 
-  pub settled-targets : (sender : ℕ) (skip : List ℕ) → eagerTargets sender skip (settled now s) ≡ eagerTargets sender skip s
-  unfolding eagerTargets
-  settled-targets sender skip = settled-as now s (λ (t : State). eagerTargets sender skip t) refl
-
-  pub settled-sent : (array : List ℕ) (m : Message) (sender : ℕ) (skip : List ℕ) → sentBytes array m (eagerTargets sender skip (settled now s)) (settled now s) ≡ sentBytes array m (eagerTargets sender skip s) s
-  unfolding eagerTargets roomsIn
-  settled-sent array m sender skip = settled-as now s (λ (t : State). sentBytes array m (eagerTargets sender skip t) t) refl
-
   pub settled-pushed : (array : List ℕ) (m : Message) (sender : ℕ) (skip : List ℕ) → pushBytes array m (eagerTargets sender skip (settled now s)) (settled now s) ≡ pushBytes array m (eagerTargets sender skip s) s
   unfolding eagerTargets roomsIn
   settled-pushed array m sender skip = settled-as now s (λ (t : State). pushBytes array m (eagerTargets sender skip t) t) refl
@@ -140,20 +118,6 @@ module _ (now : ℕ) (s : State) where
       → pushGains id (settled now s .dropped) 0 (backPeers (roomsIn (settled now s) array) (eagerTargets sender skip (settled now s))) ≡ pushGains id (s .dropped) 0 (backPeers (roomsIn s array) (eagerTargets sender skip s))
   unfolding eagerTargets roomsIn
   settled-gains array id sender skip = settled-as now s (λ (t : State). pushGains id (t .dropped) 0 (backPeers (roomsIn t array) (eagerTargets sender skip t))) refl
-
-  -- a reply, given what is found for the identifier
-
-  pub settled-reply : (array : List ℕ) (l id : ℕ) (c : Option Cached)
-      → concatMap actionBytes (replyActions (roomsIn (settled now s) array) (peerAt (settled now s) l) id c (settled now s)) ≡ concatMap actionBytes (replyActions (roomsIn s array) (peerAt s l) id c s)
-  unfolding replyActions roomsIn
-  settled-reply array l id none = refl
-  settled-reply array l id (some c) = settled-as now s (λ (t : State). concatMap actionBytes (replyActions (roomsIn t array) (peerAt t l) id (some c) t)) refl
-
-  pub settled-reply-gains : (array : List ℕ) (l id : ℕ) (c : Option Cached)
-      → replyGains (roomsIn (settled now s) array) (peerAt (settled now s) l) id c (settled now s) ≡ replyGains (roomsIn s array) (peerAt s l) id c s
-  unfolding replyGains roomsIn
-  settled-reply-gains array l id none = refl
-  settled-reply-gains array l id (some c) = settled-as now s (λ (t : State). replyGains (roomsIn t array) (peerAt t l) id (some c) t) refl
 
   -- the push of a new message, which skips the peers grafted for it once a first event has evicted
   module _ (array : List ℕ) (id sender : ℕ) (k : Held) (e : HeldIs noGrafts (s .grafted .entries) id (get id (settled now s .grafted)) k) where
@@ -171,11 +135,6 @@ module _ (now : ℕ) (s : State) where
     new-pushed m =
         ap (λ (skip : List ℕ). pushBytes array m (eagerTargets sender skip s) s) grafted-skipped
         ∙ sym (settled-pushed array m sender (keys (graftedFor id (settled now s))))
-
--- the push of a broadcast skips nobody for being grafted
-pub broadcast-targets : (sender : ℕ) (s : State) → targetsOf sender Nothing s ≡ eagerTargets sender [] s
-unfolding skippedIn
-broadcast-targets sender s = refl
 
 -- `note_back` with the entry found for the identifier is the step of a new message
 pub pushed-on : (array : List ℕ) (id round sender : ℕ) (k : Held) (s : State) → HeldIs noGrafts (s .grafted .entries) id (get id (s .grafted)) k → backState sender k array id round s ≡ pushedOnState (roomsIn s array) id round sender s

@@ -7,7 +7,7 @@ use mathlib.Core.Option.{Option, none, some}
 use Prim.Native.Nat.{ℕ, _+_, _-_}
 use native.Mathlib.Omega.{arith}
 use lib.Dec.{leb}
-use lib.ListN.{length, take, drop, getD}
+use lib.ListN.{length, getD}
 use Rattle.lists.specs.Base.{isEmpty, isSome, concatMap}
 use Rattle.lists.specs.Map.{Entry, entry, keys, lookup}
 use Rattle.rows.specs.Part.{part}

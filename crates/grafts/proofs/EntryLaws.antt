@@ -40,7 +40,8 @@ use Rattle.block.specs.LinkSteps.{peerAt}
 use Rattle.block.specs.declared.head.Head.{Head}
 use Rattle.block.proofs.Scans.{keys-apart}
 use Rattle.block.proofs.HopLaws.{pushed-long, hops-push, numbered-pushed}
-use Rattle.caches.specs.InBlock.{cacheFrom, graftedCache, InOrder, AtMost}
+use Rattle.block.specs.TimeCaches.{cacheFrom, graftedCache}
+use Rattle.caches.specs.InBlock.{InOrder, AtMost}
 use Rattle.caches.specs.GraftSteps.{graftedAt}
 use Rattle.caches.proofs.CacheLaws.{refs-in, rows-in, count-entries, count-expiry, inserted-in}
 use Rattle.caches.proofs.GraftedLaws.{peersOf, EachOwn, Listed, to-own, grafted-state, grafted-laid}

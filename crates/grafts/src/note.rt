@@ -3,6 +3,7 @@ use crate::reads;
 use block::head;
 use block::head::Head;
 use block::hops;
+use block::time_caches;
 use caches::grafted;
 use postcard::units::Millis;
 use postcard::units::Round;
@@ -91,7 +92,7 @@ fn enter_graft(mut h: Head, block: &mut [u8], id: Id, expires: Millis) -> Entere
     requires { ⌜ Sound h (now block) × InOrder (stateOf h (now block) .grafted) × AtMost (h .limits .grafted) (putIn (idOf id) noGrafts (expires .0) (stateOf h (now block) .grafted)) ⌝ }
     ensures { λ r. ⌜ Enters (idOf id) (expires .0) h (now (block .entry)) r (now (block .exit)) ⌝ }
 {
-    let c = grafted::grafted_cache(h);
+    let c = time_caches::grafted_cache(h);
     let e = c.insert(block, id, expires);
     let n = e.cache.entries.len;
     let m = e.cache.expiry.len;

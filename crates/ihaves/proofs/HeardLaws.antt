@@ -6,7 +6,7 @@ use mathlib.Core.List.{List, [], _∷_, _++_, map}
 use Prim.Native.Nat.{ℕ, _≤_, _<_}
 use native.Mathlib.Omega.{arith}
 use lib.ListN.{length, length-map}
-use Rattle.lists.specs.Base.{all, member, ascending}
+use Rattle.lists.specs.Base.{member, ascending}
 use Rattle.lists.specs.Map.{Map, keys, insert, insertKey}
 use Rattle.lists.proofs.MapLaws.{cases, ascending-insert}
 use Rattle.lists.proofs.ListLaws.{all-map, all-insert-entry}

@@ -10,7 +10,7 @@ use Rattle.rows.specs.Part.{part}
 use Rattle.rows.specs.Ident.{idOf}
 use Rattle.blake3.specs.Blake3.{identifier}
 use Rattle.time_cache.specs.TimeCache.{get}
-use Rattle.postcard.specs.Message.{Swarm, Neighbors, toSwarm, toNeighbors, Event, Received, Broadcast, Fired, Up, Down, Action, Emitted}
+use Rattle.postcard.specs.Message.{Neighbors, toSwarm, toNeighbors, Event, Received, Broadcast, Fired, Up, Down, Action, Emitted}
 use Rattle.postcard.specs.Values.{deliveryValue, wantedValue}
 use Rattle.postcard.specs.Events.{ihavesFrom, Listed}
 use Rattle.protocol.specs.Links.{addLazy}

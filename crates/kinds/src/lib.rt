@@ -11,7 +11,6 @@ use postcard::units::Round;
 use rows::id;
 use rows::id::Id;
 use rows::table::Found;
-ghost use mathlib.Core.Path.{_≡_};
 ghost use Prim.Native.Nat.{_+_, _≤_};
 ghost use lib.ListN.{length};
 ghost use Rattle.rows.specs.Part.{part};

@@ -1,7 +1,7 @@
 -- The row of a link that comes in, once the link numbers are raised.
 -- Assumes nothing.
-use mathlib.Core.Path.{_≡_, refl, sym, ap, _∙_, subst}
-use mathlib.Core.List.{List, [], _∷_, _++_, map}
+use mathlib.Core.Path.{_≡_, sym, ap, _∙_, subst}
+use mathlib.Core.List.{List, [], _∷_, _++_}
 use Prim.Native.Nat.{ℕ, _+_, _-_, _*_, _^_, _≤_, _<_}
 use native.Mathlib.Omega.{arith}
 use lib.Dec.{lit<}
@@ -10,7 +10,7 @@ use lib.Seq.{getD-set-same}
 use Rattle.lists.specs.Map.{Entry, entry, keys, insert}
 use Rattle.rows.specs.Part.{part, put}
 use Rattle.rows.specs.Digits.{leNat, leBytes}
-use Rattle.rows.specs.Rows.{rows, fieldOf, opened}
+use Rattle.rows.specs.Rows.{fieldOf, opened}
 use Rattle.rows.specs.Sorted.{Between}
 use Rattle.rows.proofs.Parts.{length-part, length-put, part-before, part-put, put-put-next, set-put}
 use Rattle.rows.proofs.Rows.{length-opened}
@@ -19,10 +19,9 @@ use Rattle.rows.proofs.Digits.{length-leBytes, leNat-leBytes}
 use Rattle.time_cache.proofs.MapPlaces.{insert-between}
 use Rattle.protocol.specs.Links.{Mark, eager, Links, linkUp}
 use Rattle.protocol.specs.State.{State, Limits, withLinks}
-use Rattle.block.specs.Layout.{sizes, place, tables, table, end}
+use Rattle.block.specs.Layout.{place, tables, table}
 use Rattle.block.specs.View.{limitsOf, viewWith, viewOf, stateOf, linkOf, linksIn, markOf}
-use Rattle.block.specs.Fit.{Fit}
-use Rattle.block.specs.Sound.{Laid, Sound}
+use Rattle.block.specs.Sound.{Laid}
 use Rattle.block.specs.Goes.{Goes}
 use Rattle.block.specs.LinkSteps.{linked}
 use Rattle.block.specs.Heads.{withLinkCount}
@@ -30,7 +29,7 @@ use Rattle.block.specs.declared.head.Head.{Head}
 use Rattle.block.proofs.Cut.{within}
 use Rattle.block.proofs.Tables.{length-table}
 use Rattle.block.proofs.RowLaws.{opened-frame, view-insert, gapRow}
-use Rattle.block.proofs.LinkLaws.{count-links, count-peers}
+use Rattle.block.proofs.LinkLaws.{count-peers}
 use Rattle.neighbours.specs.Raised.{RaisedLinks, withPeer}
 
 -- what is stored in the row of a link: its peer, and the mark 0

@@ -1,19 +1,18 @@
 -- The four changes that raise the link numbers of a block, one after the other: queue, record, grafted rows, missing rows.
 -- Assumes nothing.
 use mathlib.Core.Path.{_≡_, refl, sym, ap, _∙_, subst}
-use mathlib.Core.List.{List, [], _∷_, _++_, map}
-use Prim.Native.Nat.{ℕ, _+_, _-_, _*_, _≤_, _<_}
+use mathlib.Core.List.{List, [], map}
+use Prim.Native.Nat.{ℕ, _+_, _-_, _≤_, _<_}
 use native.Mathlib.Omega.{arith}
 use lib.Dec.{lit<}
-use lib.ListN.{length, take, drop, getD, set}
-use Rattle.rows.specs.Part.{part, put}
+use lib.ListN.{length, take, getD, set}
+use Rattle.rows.specs.Part.{part}
 use Rattle.rows.specs.Rows.{rows}
 use Rattle.refs.specs.Refs.{Below}
 use Rattle.protocol.specs.State.{Limits}
-use Rattle.block.specs.Layout.{sizes, place, tables, table, end}
+use Rattle.block.specs.Layout.{sizes, place, tables, table}
 use Rattle.block.specs.View.{limitsOf}
-use Rattle.block.specs.Fit.{Fit}
-use Rattle.block.specs.Sound.{Sound, Numbered, AllNumbered}
+use Rattle.block.specs.Sound.{Sound, AllNumbered}
 use Rattle.block.specs.declared.head.Head.{Head}
 use Rattle.block.proofs.Cut.{cut-part}
 use Rattle.block.proofs.RowLaws.{part-in}

@@ -2,12 +2,11 @@
 -- Assumes nothing.
 use mathlib.Core.Path.{_≡_, refl, sym, ap, _∙_, subst}
 use mathlib.Core.List.{List, [], _∷_, _++_, map, map-map}
-use Prim.Native.Nat.{ℕ, zero, suc, _+_, _*_, _≤_, _<_, zero-le, suc-le-suc}
-use native.Mathlib.Nat.{le-of-suc-le-suc}
+use Prim.Native.Nat.{ℕ, suc, _+_, _*_, _≤_, _<_, zero-le, suc-le-suc}
 use native.Mathlib.Omega.{arith}
 use lib.ListN.{length, take, drop, getD, length-map, length-drop}
 use lib.Seq.{drop-drop, getD-drop, length-take-le}
-use Rattle.lists.specs.Map.{Map, Entry, entry}
+use Rattle.lists.specs.Map.{entry}
 use Rattle.rows.specs.Part.{part, put}
 use Rattle.rows.specs.Digits.{leNat, beNat}
 use Rattle.rows.specs.Rows.{rows, fieldOf}
@@ -16,15 +15,13 @@ use Rattle.rows.proofs.Rows.{length-rows, getD-rows}
 use Rattle.refs.specs.Refs.{Ref, ref, refOf, refs, places, shifted, Below}
 use Rattle.refs.proofs.Places.{row-end, getD-map-in}
 use Rattle.refs.proofs.Shifts.{named-shifted, shifted-le}
-use Rattle.time_cache.specs.TimeCache.{Timed, Cache}
 use Rattle.time_cache.specs.Tables.{ExpiryRow, expiryRows, expiryOf, entryOf, rowAt, cacheOf}
-use Rattle.protocol.specs.State.{Note, Hop, Grafts}
+use Rattle.protocol.specs.State.{Grafts}
 use Rattle.block.specs.View.{byteAt, halfAt, idAt, flagOf, onlyIf, peerOf, pairs, numbered, noteOf, notesIn, hopsIn, hopOf, hopsOf, missedOf, missingIn, roundOf, graftsOf, graftedIn}
 use Rattle.block.specs.Sound.{Numbered, AllNumbered}
 use Rattle.block.proofs.Cut.{put-drop}
-use Rattle.block.proofs.Each.{Each, each-numbered, numbered-each}
+use Rattle.block.proofs.Each.{Each, numbered-each}
 use Rattle.neighbours.specs.Raised.{raised, raisedRow}
-use Rattle.neighbours.proofs.RaisedRows.{few-in, numbers-in}
 
 below-tail : (m l : ℕ) (ls : List ℕ) → Below m (l ∷ ls) → Below m ls
 below-tail m l ls b = record { below = λ i h. b .below (suc i) (suc-le-suc h) }

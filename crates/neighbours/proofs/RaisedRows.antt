@@ -1,22 +1,20 @@
 -- Rows with a list of link numbers inside, after a link came in: row after row, and what else stands in a row.
 -- Assumes nothing.
-use mathlib.Core.Path.{_≡_, refl, sym, ap, _∙_, subst}
-use mathlib.Core.List.{List, [], _∷_, _++_, map}
-use Prim.Native.Nat.{ℕ, zero, suc, _+_, _*_, _≤_, _<_, zero-le, suc-le-suc}
-use native.Mathlib.Nat.{le-of-suc-le-suc}
+use mathlib.Core.Path.{_≡_, sym, ap, _∙_, subst}
+use mathlib.Core.List.{List, [], _∷_, map}
+use Prim.Native.Nat.{ℕ, _+_, _*_, _≤_, _<_}
 use native.Mathlib.Omega.{arith}
-use lib.ListN.{length, take, drop, getD, set, length-map}
+use lib.ListN.{length, take, drop, getD, length-map}
 use lib.Seq.{drop-drop, getD-drop}
 use Rattle.rows.specs.Part.{part, put}
 use Rattle.rows.specs.Rows.{rows}
-use Rattle.rows.proofs.Parts.{length-part, length-put, part-part, part-before, getD-part, getD-put-before}
+use Rattle.rows.proofs.Parts.{length-part, part-part, getD-part}
 use Rattle.rows.proofs.Rows.{length-rows, getD-rows, rows-field}
 use Rattle.refs.specs.Refs.{shifted, Below}
 use Rattle.refs.proofs.Places.{row-end}
 use Rattle.refs.proofs.Shifts.{done, done-read, done-more}
 use Rattle.block.specs.View.{byteAt}
-use Rattle.block.specs.Sound.{Numbered, AllNumbered}
-use Rattle.block.proofs.Cut.{put-drop}
+use Rattle.block.specs.Sound.{Numbered}
 use Rattle.neighbours.specs.Raised.{raised, raisedRow}
 
 -- the list at o of a row, in the row's own bytes

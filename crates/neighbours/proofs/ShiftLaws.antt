@@ -1,14 +1,13 @@
 -- Link numbers after a link came in: each stands for the same peer as before.
 -- Assumes nothing.
-use mathlib.Core.Path.{_≡_, refl, sym, ap, _∙_}
-use mathlib.Core.List.{List, [], _∷_, _++_, map, map-append}
-use Prim.Native.Nat.{ℕ, zero, suc, _+_, _*_, _≤_, _<_, zero-le, suc-le-suc}
-use native.Mathlib.Nat.{le-of-suc-le-suc}
+use mathlib.Core.Path.{_≡_, sym, ap, _∙_}
+use mathlib.Core.List.{List, [], _∷_, map, map-append}
+use Prim.Native.Nat.{ℕ, _+_, _≤_, _<_}
 use native.Mathlib.Omega.{arith}
-use lib.ListN.{length, take, drop, getD, set, length-map}
+use lib.ListN.{length, getD, set, length-map}
 use Rattle.rows.specs.Part.{part, put}
 use Rattle.rows.proofs.Parts.{length-part, part-snoc, put-snoc, getD-put-after, part-zero, put-nil}
-use Rattle.refs.specs.Refs.{shifted, Below}
+use Rattle.refs.specs.Refs.{shifted}
 use Rattle.neighbours.specs.Raised.{raised}
 
 module _ (i a : ℕ) (xs : List ℕ) where

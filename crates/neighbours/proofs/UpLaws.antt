@@ -1,30 +1,27 @@
 -- A link that comes in: the link numbers of the whole block, then the row of the link.
 -- Assumes nothing.
-use mathlib.Core.Path.{_≡_, refl, sym, ap, _∙_, subst}
-use mathlib.Core.List.{List, [], _∷_, _++_, map}
-use Prim.Native.Nat.{ℕ, _+_, _-_, _*_, _^_, _≤_, _<_}
+use mathlib.Core.Path.{_≡_, sym, ap, _∙_, subst}
+use mathlib.Core.List.{List, map}
+use Prim.Native.Nat.{ℕ, _+_, _-_, _*_, _≤_, _<_}
 use native.Mathlib.Omega.{arith}
 use lib.Dec.{lit<}
-use lib.ListN.{length, take, drop, getD, set, length-map}
-use lib.Seq.{length-take-le}
-use Rattle.lists.specs.Map.{Entry, entry, keys, insert}
+use lib.ListN.{length, take, getD, set, length-map}
+use Rattle.lists.specs.Map.{keys}
 use Rattle.rows.specs.Part.{part, put}
-use Rattle.rows.specs.Rows.{rows, opened}
-use Rattle.rows.specs.Sorted.{Between}
+use Rattle.rows.specs.Rows.{rows}
 use Rattle.rows.proofs.Parts.{length-part, length-put}
-use Rattle.refs.specs.Refs.{shifted, Below, places, refs}
-use Rattle.protocol.specs.State.{State, Limits, withLinks}
+use Rattle.refs.specs.Refs.{shifted, Below}
+use Rattle.protocol.specs.State.{Limits}
 use Rattle.block.specs.Layout.{sizes, place, tables, table, end}
-use Rattle.block.specs.View.{limitsOf, viewWith, viewOf, stateOf, settingsOf, linksIn, notesIn, missingIn, graftedIn}
+use Rattle.block.specs.View.{limitsOf, viewWith, stateOf}
 use Rattle.block.specs.Fit.{Fit}
 use Rattle.block.specs.Sound.{Laid, Sound, AllNumbered}
-use Rattle.block.specs.Goes.{Goes}
 use Rattle.block.specs.Heads.{withLinkCount}
 use Rattle.block.specs.declared.head.Head.{Head}
 use Rattle.block.proofs.Cut.{cut-part, within}
 use Rattle.block.proofs.Tables.{frame, frame-whole, length-table}
 use Rattle.block.proofs.RowLaws.{part-in}
-use Rattle.block.proofs.LinkLaws.{count-links, count-peers}
+use Rattle.block.proofs.LinkLaws.{count-peers}
 use Rattle.neighbours.specs.Raised.{raised, raisedRow, RaisedIn, RaisedLinks, withPeer}
 use Rattle.neighbours.proofs.RaisedLaws.{below-raised, take-raised, notes-raised, missing-raised, grafted-raised, places-raised, all-raised}
 

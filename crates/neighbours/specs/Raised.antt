@@ -2,7 +2,7 @@
 -- Assumes nothing.
 use mathlib.Core.Path.{_≡_}
 use mathlib.Core.List.{List, _∷_, _++_, map}
-use Prim.Native.Nat.{ℕ, _+_, _-_}
+use Prim.Native.Nat.{ℕ, _+_}
 use lib.ListN.{length, take, drop}
 use Rattle.rows.specs.Part.{part, put, Only}
 use Rattle.rows.specs.Rows.{rows}

@@ -1,10 +1,10 @@
 -- The least announcer of a message, whether it is far closer, and for which sender it is looked for.
 -- Assumes nothing.
-use mathlib.Core.Path.{_≡_, refl, sym, ap, _∙_, subst}
+use mathlib.Core.Path.{_≡_, refl, sym, ap, _∙_}
 use mathlib.Core.Bool.{Bool, true, false, not, _&&_}
 use mathlib.Core.List.{List, [], _∷_, map}
-use mathlib.Core.Option.{Option, none, some}
-use Prim.Native.Nat.{ℕ, zero, suc, _+_, _-_, _≤_, _<_}
+use mathlib.Core.Option.{Option, none}
+use Prim.Native.Nat.{ℕ, _+_, _-_, _≤_, _<_}
 use native.Mathlib.Nat.{not-suc-le-zero}
 use native.Mathlib.Numerals.{add-one}
 use native.Mathlib.Omega.{arith}
@@ -12,8 +12,8 @@ use borrow.Author.Tests.{lt-ltb, le-ltb, le-leb, lt-leb}
 use lib.Dec.{leb, ltb}
 use lib.ListN.{length, getD, drop}
 use lib.Seq.{drop-cons, drop-length}
-use Rattle.lists.specs.Base.{if_then_else_, isEmpty, all, once}
-use Rattle.lists.specs.Map.{Map, Entry, entry, keys, lookup}
+use Rattle.lists.specs.Base.{if_then_else_, isEmpty, once}
+use Rattle.lists.specs.Map.{Entry, entry, keys}
 use Rattle.lists.proofs.MapLaws.{cases, true≢, and-left}
 use Rattle.lists.proofs.Branches.{if-on, if-same}
 use Rattle.rows.specs.Sorted.{Here, Between}
@@ -23,7 +23,7 @@ use Rattle.time_cache.proofs.MapPlaces.{lookup-here, lookup-between}
 use Rattle.protocol.specs.Links.{isNeighbour}
 use Rattle.protocol.specs.State.{State, Hop, Grafts}
 use Rattle.protocol.specs.Whole.{announcersWhole, neighbours}
-use Rattle.protocol.specs.Gossips.{hopsOf, announcers, peersOf, graftedFor, graftOut, leastFrom, farCloser}
+use Rattle.protocol.specs.Gossips.{hopsOf, announcers, graftedFor, graftOut, leastFrom, farCloser}
 use Rattle.decide.specs.Settled.{settled}
 use Rattle.block.specs.View.{stateOf, onlyIf}
 use Rattle.block.specs.LinkSteps.{peerAt}

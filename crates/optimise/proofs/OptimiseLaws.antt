@@ -1,6 +1,6 @@
 -- The links and the actions by the announcer that was found, and the state that ends a new Swarm message.
 -- Assumes nothing.
-use mathlib.Core.Path.{_≡_, refl, sym, ap, _∙_, subst}
+use mathlib.Core.Path.{_≡_, refl, sym, ap, _∙_}
 use mathlib.Core.Bool.{Bool, true, false}
 use mathlib.Core.List.{List, [], _∷_, _++_, append-nil}
 use mathlib.Core.Option.{Option, none, some}
@@ -11,12 +11,12 @@ use borrow.Author.Tests.{eq-eqb, ne-eqb}
 use lib.Dec.{leb, eqb}
 use lib.ListN.{length, getD, length-map}
 use Rattle.lists.specs.Base.{if_then_else_, ascending, concatMap}
-use Rattle.lists.specs.Map.{Entry, entry, keys}
+use Rattle.lists.specs.Map.{keys}
 use Rattle.lists.proofs.Branches.{if-on, if-both, if-same}
 use Rattle.rows.specs.Sorted.{Here}
 use Rattle.time_cache.proofs.Orders.{up-of}
-use Rattle.postcard.specs.Message.{Prune, Graft, Action, Sent, actionBytes}
-use Rattle.protocol.specs.Links.{Mark, Links, eager, isEager, eagerIn, addEager, addLazy}
+use Rattle.postcard.specs.Message.{Prune, Graft, Sent, actionBytes}
+use Rattle.protocol.specs.Links.{Links, eager, isEager, eagerIn, addEager, addLazy}
 use Rattle.protocol.specs.State.{State, Hop, withLinks}
 use Rattle.protocol.specs.Run.{Room}
 use Rattle.protocol.specs.Gossips.{announcers, leastFrom, farCloser}
@@ -42,7 +42,7 @@ use Rattle.steps.proofs.StandsLaws.{links-up, missing-up, timers-up}
 use Rattle.steps.proofs.RoomsLaws.{kth-link}
 use Rattle.settled.proofs.ThenLaws.{settled-still, init-of}
 use Rattle.ticks.proofs.ActionLaws.{no-action, one-action}
-use Rattle.optimise.specs.Best.{nearest, BestAt, wanted, unlessEager, byBest, optimisedOn, bestActions, actionsBy, optimiseOn}
+use Rattle.optimise.specs.Best.{nearest, wanted, unlessEager, byBest, optimisedOn, bestActions, actionsBy, optimiseOn}
 
 -- a link stands where it is found
 link-here : (h : Head) (xs : List ℕ) (l : ℕ) → l < h .live .links → Here (keys (stateOf h xs .links)) (peerAt (stateOf h xs) l) l

@@ -22,7 +22,6 @@ use Rattle.block.specs.declared.head.Limits.{Limits}
 use Rattle.whole.specs.Held.{held}
 use Rattle.whole.specs.Creation.{Creation, Creates, Accepted}
 use Rattle.records.specs.Reading.{recordCall, Whole, Cut, Bad}
-use Rattle.records.specs.Running.{writes}
 use Rattle.records.proofs.Pieces.{record-stays}
 use Rattle.records.proofs.RunningLaws.{writes-record, writes-never, writes-bad}
 use Rattle.records.proofs.Heads.{put-first}

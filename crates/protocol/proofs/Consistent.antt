@@ -108,10 +108,6 @@ whole-ranged s h = record {
   limits = search (and-left, and-right) depth 25;
 }
 
-pub whole-fits : (s : State) → whole s ≡ true → fits s ≡ true
-unfolding whole inRange
-whole-fits s h = search (and-left, and-right) depth 25
-
 pub consistent-whole : (s : State) → Consistent s → Ranged s → fits s ≡ true → whole s ≡ true
 unfolding whole inRange keysOnce neighbours flagsStand
 consistent-whole s x r f =

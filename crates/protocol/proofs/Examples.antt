@@ -29,7 +29,6 @@ use Rattle.postcard.specs.Message.{Swarm, toSwarm, Gossip, Prune, IHave, SendGr
 use Rattle.time_cache.specs.TimeCache.{holds}
 use Rattle.protocol.specs.Links.{eagerPeers, lazyPeers}
 use Rattle.protocol.specs.State.{State, fresh, zeroCounts}
-use Rattle.protocol.specs.Run.{Room}
 use Rattle.protocol.specs.Push.{notes}
 use Rattle.protocol.specs.Answer.{Call, Answer}
 use Rattle.protocol.specs.Calls.{Ran, runCalls}

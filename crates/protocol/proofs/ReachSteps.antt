@@ -9,7 +9,7 @@ use native.Mathlib.Omega.{arith}
 use lib.Dec.{leb}
 use lib.ListN.{length, length-append}
 use borrow.Author.Tests.{leb-true, le-leb}
-use Rattle.lists.specs.Base.{if_then_else_, isEmpty, any, count, member}
+use Rattle.lists.specs.Base.{isEmpty, any, count, member}
 use Rattle.lists.specs.Map.{lookup}
 use Rattle.time_cache.specs.TimeCache.{Timed, Cache, holds, popAll, due, expireUntil}
 use Rattle.protocol.specs.Links.{isNeighbour}

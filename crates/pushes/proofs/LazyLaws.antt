@@ -12,12 +12,12 @@ use lib.ListN.{length, take, drop, getD, length-append, List·getD-map}
 use lib.Seq.{take-suc, take-all}
 use lib.ListN.{take-append-drop}
 use Rattle.lists.specs.Base.{if_then_else_, filter}
-use Rattle.lists.specs.Map.{Entry, entry, keys}
+use Rattle.lists.specs.Map.{Entry, entry}
 use Rattle.protocol.specs.Links.{Mark, eager, lazy, Links, isEager, isLazy, peersMarked, lazyPeers}
 use Rattle.protocol.specs.State.{State, Note, withQueue, withDispatchScheduled}
 use Rattle.protocol.specs.Push.{noteFor}
 use Rattle.decide.specs.StateAfter.{lazyState}
-use Rattle.block.specs.View.{stateOf, notesIn}
+use Rattle.block.specs.View.{stateOf}
 use Rattle.block.specs.Sound.{Sound}
 use Rattle.block.specs.Goes.{Goes}
 use Rattle.block.specs.Heads.{withDispatch}

@@ -12,11 +12,8 @@ use Rattle.lists.specs.Base.{if_then_else_, isEmpty, any, count}
 use Rattle.time_cache.specs.TimeCache.{holds}
 use Rattle.protocol.specs.State.{State, Note, withDropped, withAnnounceScheduled}
 use Rattle.protocol.specs.Push.{forPeer, notes, recordFull}
-use Rattle.protocol.proofs.RecordBounds.{Flagged}
-use Rattle.postcard.specs.Message.{Ihave}
-use Rattle.decide.specs.RecordGrowth.{cachedIn, addNote}
+use Rattle.decide.specs.RecordGrowth.{addNote}
 use Rattle.decide.specs.StateAfter.{recordedState}
-use Rattle.decide.proofs.PushLaws.{noted-filled}
 use Rattle.decide.proofs.StateLaws.{flag-stands}
 use Rattle.block.specs.View.{stateOf}
 use Rattle.block.specs.Goes.{Goes}

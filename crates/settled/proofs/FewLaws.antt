@@ -1,8 +1,8 @@
 -- The numbers of entries of a state that stands, and of what a first event, EvictCache and neighbour down leave of it: within the limits, and so within document 01's ceilings.
 -- Assumes nothing.
 use Prim.Native.Nat.{ℕ, _≤_}
-use mathlib.Core.Path.{_≡_, refl, sym, ap, _∙_, subst}
-use mathlib.Core.Bool.{Bool, true, false}
+use mathlib.Core.Path.{_≡_, refl, sym, _∙_, subst}
+use mathlib.Core.Bool.{true}
 use mathlib.Core.List.{List}
 use native.Mathlib.Omega.{arith}
 use borrow.Author.Tests.{le-leb}
@@ -15,7 +15,7 @@ use Rattle.block.specs.Fit.{Fit}
 use Rattle.block.specs.Sound.{Sound}
 use Rattle.block.specs.declared.head.Head.{Head}
 use Rattle.decide.specs.Sizes.{Sizes, sizesOf, fitSizes}
-use Rattle.decide.specs.SizesAfter.{evictSizes, downSizes}
+use Rattle.decide.specs.SizesAfter.{downSizes}
 use Rattle.decide.specs.Settled.{settled}
 use Rattle.decide.proofs.Decide.{Below, fit-below, down-below, evict-below}
 use Rattle.decide.proofs.TableSizes.{fits-sizes}
@@ -147,13 +147,6 @@ module _ (now : ℕ) (h : Head) (xs : List ℕ) (sound : Sound h xs) where
 
   pub few-then : Few (sizesOf (settled now s))
   few-then = few-below (sizesOf (settled now s)) (sizesOf s) (settled-below now s) (few-now h xs sound)
-
-  pub fit-then : fitSizes (limitsOf (h .limits)) (sizesOf (settled now s)) ≡ true
-  fit-then = fit-below (limitsOf (h .limits)) (sizesOf (settled now s)) (sizesOf s) (settled-below now s) (fit-now h xs sound)
-
-  -- EvictCache is never answered 13
-  pub fit-evicted : fitSizes (limitsOf (h .limits)) (evictSizes now (settled now s)) ≡ true
-  fit-evicted = fit-below (limitsOf (h .limits)) (evictSizes now (settled now s)) (sizesOf (settled now s)) (evict-below now (settled now s)) fit-then
 
 -- neighbour down is never answered 13
 pub fit-down : (p : ℕ) (h : Head) (xs : List ℕ) → Sound h xs → fitSizes (limitsOf (h .limits)) (downSizes p (stateOf h xs)) ≡ true

@@ -10,14 +10,14 @@ use borrow.Author.Tests.{not-true, not-false}
 use lib.Dec.{leb, ltb}
 use lib.ListN.{length, getD, take}
 use Rattle.lists.specs.Base.{if_then_else_, sum}
-use Rattle.lists.specs.Map.{Map, Entry}
+use Rattle.lists.specs.Map.{Map}
 use Rattle.rows.proofs.Parts.{length-part}
 use Rattle.time_cache.specs.TimeCache.{Timed, laterCache}
 use Rattle.protocol.specs.State.{State, Cached}
 use Rattle.protocol.specs.Whole.{contentHeld}
 use Rattle.block.specs.Layout.{place}
-use Rattle.block.specs.View.{stateOf, limitsOf, cachedIn}
-use Rattle.block.specs.Sound.{Sound, held}
+use Rattle.block.specs.View.{stateOf, limitsOf}
+use Rattle.block.specs.Sound.{Sound}
 use Rattle.block.specs.declared.head.Head.{Head}
 use Rattle.block.specs.declared.head.Limits.{Limits}
 use Rattle.block.proofs.LinkLaws.{count-links}

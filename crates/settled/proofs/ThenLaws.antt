@@ -4,30 +4,30 @@ use Prim.Native.Nat.{ℕ, _*_, _≤_, _<_}
 use mathlib.Core.Path.{_≡_, refl, sym, ap, _∙_, subst}
 use mathlib.Core.Bool.{Bool, true, false}
 use mathlib.Core.List.{List, []}
-use mathlib.Core.Option.{Option, none, some}
+use mathlib.Core.Option.{none, some}
 use native.Mathlib.Omega.{arith}
 use lib.Dec.{ltb, lit<}
 use lib.ListN.{length, getD, length-map}
 use Rattle.lists.specs.Base.{if_then_else_}
 use Rattle.lists.specs.Map.{Map, Entry, keys, lookup}
-use Rattle.lists.proofs.MapLaws.{cases, true≢}
+use Rattle.lists.proofs.MapLaws.{cases}
 use Rattle.lists.proofs.Branches.{if-on}
 use Rattle.rows.specs.Sorted.{Here, Between}
 use Rattle.refs.specs.Refs.{Ref, ref, refs, places}
 use Rattle.refs.proofs.Places.{getD-map-in, length-refs}
 use Rattle.time_cache.specs.TimeCache.{Timed, Cache, valueOf, get, laterCache}
-use Rattle.time_cache.specs.Tables.{ExpiryRow, expiryRows, rowAt, entryOf, cacheOf, cacheIn, refsAt, rowsAt, Sound}
+use Rattle.time_cache.specs.Tables.{expiryRows, rowAt, entryOf, cacheOf, cacheIn, refsAt, rowsAt, Sound}
 use Rattle.time_cache.specs.Steps.{refAt}
 use Rattle.time_cache.specs.declared.cache.TimeBoundCache.{TimeBoundCache}
 use Rattle.time_cache.proofs.Timely.{Timely}
 use Rattle.time_cache.proofs.Orders.{up-of}
 use Rattle.time_cache.proofs.MapPlaces.{lookup-here, lookup-between}
 use Rattle.protocol.specs.State.{State, Limits, Cached, Grafts}
-use Rattle.block.specs.Layout.{sizes, table, tables}
+use Rattle.block.specs.Layout.{sizes, table}
 use Rattle.block.specs.View.{stateOf, limitsOf, cachedOf, cachedIn, graftsOf, graftedIn}
 use Rattle.block.specs.Fit.{Fit}
 use Rattle.block.specs.declared.head.Head.{Head}
-use Rattle.caches.specs.InBlock.{cacheFrom, cachedCache, graftedCache}
+use Rattle.block.specs.TimeCaches.{cacheFrom, cachedCache, graftedCache}
 use Rattle.caches.proofs.CacheLaws.{refs-in, rows-in}
 use Rattle.caches.proofs.GraftedLaws.{peersOf}
 use Rattle.decide.specs.Settled.{aliveValue, settled}

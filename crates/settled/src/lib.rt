@@ -2,6 +2,7 @@
 // before anything else". Where `init` is set, nothing is evicted.
 use block::head::Head;
 use block::head::Limits;
+use block::time_caches;
 use caches::cached;
 use caches::grafted;
 use caches::received;
@@ -66,7 +67,7 @@ pub fn cached_expires(h: Head, block: &[u8], i: usize) -> Millis
     requires { ⌜ Stands h (now block) × (i < h .live .cached) ⌝ }
     ensures { λ r. ⌜ r .0 ≡ getD (stateOf h (now (block .entry)) .cache .entries) i noCached .value .expires ⌝ }
 {
-    let c = cached::cached_cache(h);
+    let c = time_caches::cached_cache(h);
     expires_at(c, block, i)
 }
 
@@ -75,7 +76,7 @@ pub fn grafted_expires(h: Head, block: &[u8], i: usize) -> Millis
     requires { ⌜ Stands h (now block) × (i < h .live .grafted) ⌝ }
     ensures { λ r. ⌜ r .0 ≡ getD (stateOf h (now (block .entry)) .grafted .entries) i noGrafts .value .expires ⌝ }
 {
-    let c = grafted::grafted_cache(h);
+    let c = time_caches::grafted_cache(h);
     expires_at(c, block, i)
 }
 

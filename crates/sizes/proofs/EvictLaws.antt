@@ -1,21 +1,20 @@
 -- Eviction twice at one instant is eviction once; the numbers after neighbour up.
 -- Assumes nothing.
 use Prim.Native.Nat.{ℕ, suc, _+_}
-use mathlib.Core.Path.{_≡_, refl, sym, ap, _∙_, subst}
+use mathlib.Core.Path.{_≡_, refl, sym, ap, _∙_}
 use mathlib.Core.Bool.{Bool, true, false}
 use mathlib.Core.List.{List, [], _∷_}
-use mathlib.Core.Option.{Option, none, some}
 use native.Mathlib.Numerals.{add-one}
 use native.Mathlib.Omega.{arith}
 use lib.Dec.{ltb}
 use lib.ListN.{length}
 use Rattle.lists.specs.Base.{if_then_else_, isSome, filter, count, sum}
-use Rattle.lists.specs.Map.{keys, lookup, has}
+use Rattle.lists.specs.Map.{keys}
 use Rattle.lists.proofs.MapLaws.{cases}
 use Rattle.rows.specs.Sorted.{Ascending, Here, Between}
 use Rattle.time_cache.specs.TimeCache.{laterCache}
 use Rattle.time_cache.proofs.MapPlaces.{lookup-here, lookup-between}
-use Rattle.protocol.specs.Links.{Links, Mark, eager, isNeighbour}
+use Rattle.protocol.specs.Links.{eager, isNeighbour}
 use Rattle.protocol.specs.State.{State}
 use Rattle.decide.specs.Sizes.{Sizes, sizesOf, sizedLinks, grown}
 use Rattle.decide.specs.SizesAfter.{evictSizes, upSizes}

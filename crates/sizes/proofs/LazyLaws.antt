@@ -1,6 +1,6 @@
 -- The lazy peers but the sender, link by link.
 -- Assumes nothing.
-use Prim.Native.Nat.{ℕ, suc, _+_, _≤_, _<_}
+use Prim.Native.Nat.{ℕ, _+_, _≤_, _<_}
 use mathlib.Core.Path.{_≡_, refl, sym, ap, _∙_}
 use mathlib.Core.Bool.{Bool, true, false, not}
 use mathlib.Core.List.{List, [], _∷_}
@@ -8,9 +8,9 @@ use native.Mathlib.Numerals.{add-one}
 use native.Mathlib.Omega.{arith}
 use borrow.Author.Tests.{eq-eqb, ne-eqb}
 use lib.Dec.{eqb}
-use lib.ListN.{length, take, getD, List·getD-map}
+use lib.ListN.{length, take, List·getD-map}
 use Rattle.lists.specs.Base.{if_then_else_, filter, sum}
-use Rattle.lists.specs.Map.{Entry, entry, keys}
+use Rattle.lists.specs.Map.{Entry, entry}
 use Rattle.protocol.specs.Links.{Mark, eager, lazy, Links, isEager, isLazy, peersMarked, lazyPeers}
 use Rattle.block.specs.View.{stateOf}
 use Rattle.block.specs.LinkSteps.{linkAt, peerAt}

@@ -1,7 +1,7 @@
 -- A message taken in: the numbers of entries, from those of the settled state.
 -- Assumes nothing.
 use Prim.Native.Nat.{ℕ, suc, _+_, _-_, _≤_}
-use mathlib.Core.Path.{_≡_, refl, sym, ap, _∙_, subst}
+use mathlib.Core.Path.{_≡_, refl, sym, ap, _∙_}
 use mathlib.Core.Bool.{Bool, true, false}
 use mathlib.Core.List.{List, [], _∷_}
 use mathlib.Core.Option.{Option, none, some}
@@ -9,13 +9,11 @@ use native.Mathlib.Numerals.{add-one}
 use native.Mathlib.Omega.{arith}
 use lib.Dec.{eqb}
 use lib.ListN.{length}
-use borrow.Author.Tests.{eqb-true}
-use Rattle.lists.specs.Base.{if_then_else_, isSome, sum}
-use Rattle.lists.specs.Map.{Map, Entry, entry, lookup}
+use Rattle.lists.specs.Base.{isSome, sum}
+use Rattle.lists.specs.Map.{Map, lookup}
 use Rattle.lists.proofs.MapLaws.{cases}
 use Rattle.lists.proofs.Branches.{if-on, if-same}
 use Rattle.time_cache.specs.TimeCache.{Timed, Cache, valueOf, get, holds}
-use Rattle.protocol.specs.Links.{Links}
 use Rattle.protocol.specs.State.{State, Cached}
 use Rattle.protocol.specs.Whole.{contentHeld}
 use Rattle.decide.specs.Sizes.{Sizes, sizesOf, grown}

@@ -3,13 +3,13 @@ use Prim.Native.Nat.{ℕ, zero, suc, _≤_, _<_}
 use native.Mathlib.Nat.{not-suc-le-zero}
 use native.Mathlib.Omega.{arith}
 use mathlib.Core.Path.{_≡_, refl, sym, ap, _∙_}
-use mathlib.Core.Bool.{Bool, true, false}
+use mathlib.Core.Bool.{true, false}
 use mathlib.Core.List.{List, [], _∷_, _++_}
-use mathlib.Core.Option.{Option, none, some}
+use mathlib.Core.Option.{none}
 use lib.Dec.{leb, ltb, eqb}
 use lib.ListN.{length, getD, length-map}
-use borrow.Author.Tests.{ltb-true, ltb-false, eqb-true, eqb-false, eq-eqb, ne-eqb, le-leb}
-use Rattle.lists.specs.Base.{if_then_else_, all, ascending, member}
+use borrow.Author.Tests.{ltb-true, ltb-false, eq-eqb, ne-eqb, le-leb}
+use Rattle.lists.specs.Base.{all, ascending, member}
 use Rattle.lists.specs.Map.{Map, keys, lookup, has}
 use Rattle.lists.proofs.MapLaws.{cases, true≢, and-left, and-right, all-head, all-tail}
 use Rattle.protocol.specs.Links.{isNeighbour}
@@ -114,9 +114,6 @@ module _ (s : State) (array : List ℕ) where
 
   pub first-at : (i : ℕ) → ascending (keys (s .links)) ≡ true → i < length (s .links) → i < length array → firstRoom (peerAt s i) (roomsIn s array) ≡ roomAt (getD array i 0)
   first-at i a h l = first-link i a h
-
-  pub kth-at : (k i : ℕ) → ascending (keys (s .links)) ≡ true → i < length (s .links) → i < length array → k ≤ 65536 → kthTaken k (peerAt s i) (roomsIn s array) ≡ leb k (getD array i 0)
-  kth-at k i a h l f = kth-link k i a h f
 
   -- the room of the event's peer, where it has no link
   pub first-stranger : (p : ℕ) → isNeighbour p (s .links) ≡ false → p ≡ getD array 33 0 → firstRoom p (roomsIn s array) ≡ roomAt (getD array 32 0)

@@ -1,5 +1,4 @@
 -- What the functions of the tables ask, out of `Stands`.
-use mathlib.Core.Path.{_≡_}
 use mathlib.Core.List.{List}
 use Prim.Native.Nat.{ℕ}
 use Rattle.time_cache.specs.TimeCache.{Cache}

@@ -9,7 +9,7 @@ use native.Mathlib.Omega.{arith}
 use borrow.Author.Tests.{ltb-true, lt-ltb, le-leb, leb-true}
 use lib.Dec.{ltb}
 use lib.ListN.{length, drop, length-map}
-use Rattle.lists.specs.Base.{all, filter}
+use Rattle.lists.specs.Base.{filter}
 use Rattle.lists.proofs.ListLaws.{all-map, all-filter-imp}
 use Rattle.refs.specs.Refs.{Ref, ref, places, names, lowered, left}
 use Rattle.time_cache.specs.TimeCache.{Cache, expireUntil, expiredKeys}

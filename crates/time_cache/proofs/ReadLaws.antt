@@ -18,7 +18,7 @@ use Rattle.rows.specs.Digits.{leNat}
 use Rattle.rows.specs.Sorted.{Between, Here}
 use Rattle.refs.specs.Refs.{Ref, ref, places, names, lowered, left}
 use Rattle.refs.proofs.Places.{getD-map-in, length-refs, place-in}
-use Rattle.time_cache.specs.TimeCache.{Timed, later, laterCache, holds}
+use Rattle.time_cache.specs.TimeCache.{Timed, laterCache, holds}
 use Rattle.time_cache.specs.Tables.{ExpiryRow, expiryOf, rowAt, named, Cut, Held, held, entryOf, cacheOf, refsAt, rowsAt, cacheAt, Lies, Sound}
 use Rattle.time_cache.specs.Steps.{refAt, heldAt, GotAt}
 use Rattle.time_cache.specs.declared.cache.TimeBoundCache.{TimeBoundCache}

@@ -12,7 +12,7 @@ use lib.ListN.{length, getD, length-map}
 use Rattle.lists.specs.Base.{isSome, filter}
 use Rattle.lists.specs.Map.{Map, Entry, keys, lookup, insert, remove}
 use Rattle.lists.proofs.MapLaws.{cases, lookup-insert-same}
-use Rattle.time_cache.specs.TimeCache.{Timed, Expiry, Cache, valueOf, get, holds, put as putIn, withValue, replace, expiresAt, pop, due, later, popAll, expireUntil, laterCache}
+use Rattle.time_cache.specs.TimeCache.{Timed, Expiry, Cache, holds, put as putIn, withValue, replace, expiresAt, pop, due, later, popAll, expireUntil, laterCache}
 use Rattle.time_cache.specs.Tables.{ExpiryRow, expiryOf, Held, held, entryOf, cacheOf, readAs, valuesAs}
 use Rattle.refs.specs.Refs.{Ref}
 
@@ -82,14 +82,6 @@ module _ {A B : Type 0} (f : A → B) where
   pub holds-as : (k : ℕ) (c : Cache A) → holds k (valuesAs f c) ≡ holds k c
   unfolding valuesAs
   holds-as k c = ap isSome (lookup-as k (c .entries)) ∙ isSome-as (lookup k (c .entries))
-
-  pub get-as : (k : ℕ) (v : Timed A) (c : Cache A) → lookup k (c .entries) ≡ some v → get k (valuesAs f c) ≡ some (f (v .value))
-  unfolding valuesAs get valueOf optionAs
-  get-as k v c e = ap valueOf (lookup-as k (c .entries) ∙ ap (optionAs timedAs) e)
-
-  pub get-none : (k : ℕ) (c : Cache A) → lookup k (c .entries) ≡ none → get k (valuesAs f c) ≡ none
-  unfolding valuesAs get valueOf optionAs
-  get-none k c e = ap valueOf (lookup-as k (c .entries) ∙ ap (optionAs timedAs) e)
 
   pub put-as : (k : ℕ) (v : A) (t : ℕ) (c : Cache A) → valuesAs f (putIn k v t c) ≡ putIn k (f v) t (valuesAs f c)
   unfolding valuesAs putIn

@@ -1,9 +1,9 @@
 -- What is known of a block that holds a state.
 -- Assumes nothing.
-use mathlib.Core.Path.{_≡_, sym, subst}
-use mathlib.Core.Bool.{Bool, true, false, _&&_}
+use mathlib.Core.Path.{_≡_, subst}
+use mathlib.Core.Bool.{Bool, true, _&&_}
 use mathlib.Core.List.{List, [], _∷_}
-use mathlib.Core.Option.{Option, none, some}
+use mathlib.Core.Option.{some}
 use Prim.Native.Nat.{ℕ, _+_, _*_, _≤_}
 use native.Mathlib.Omega.{arith}
 use borrow.Author.Tests.{leb-true, eqb-true}
@@ -153,15 +153,6 @@ sound-of h block a =
 pub record Holding (block : List ℕ) (s : State) : Type 0 where
   pub sound : Sound (headIn block) block
   pub state : s ≡ stateOf (headIn block) block
-
-pub held-sound : (block : List ℕ) (s : State) → held block ≡ some s → Holding block s
-unfolding held
-held-sound block s e =
-    cases (hasHeader block && holdsWith (headIn block) block)
-    (λ p. let q : some (stateOf (headIn block) block) ≡ some s = rw p at e in
-    record { sound = sound-of (headIn block) block (and-right (hasHeader block) (holdsWith (headIn block) block) p); state = (let z : stateOf (headIn block) block ≡ s = cc in sym z) })
-    (λ p. let q : _≡_ {A = Option State} none (some s) = rw p at e in
-    let z : false ≡ true = cc in true≢ z)
 
 -- a block that is whole: it holds the state of its tables, and that state is whole
 pub record Wholly (block : List ℕ) : Type 0 where

@@ -22,7 +22,8 @@ use Rattle.block.specs.Layout.{sizes, place, table}
 use Rattle.block.proofs.Cut.{cut-part}
 use Rattle.block.proofs.Tables.{rows-table}
 use Rattle.whole.specs.Held.{allBelow, placesName, allLists}
-use Rattle.whole.specs.Parts.{cacheWhole, cacheFrom}
+use Rattle.block.specs.TimeCaches.{cacheFrom}
+use Rattle.whole.specs.Parts.{cacheWhole}
 use Rattle.whole.proofs.Tests.{each}
 
 -- how long a part without an end is

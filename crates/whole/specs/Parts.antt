@@ -9,10 +9,8 @@ use Rattle.lists.specs.Base.{all, count, ascending, once}
 use Rattle.lists.specs.Map.{keys}
 use Rattle.rows.specs.Rows.{rows}
 use Rattle.time_cache.specs.TimeCache.{Cache, inPopOrder}
-use Rattle.time_cache.specs.declared.cache.TimeBoundCache.{TimeBoundCache}
-use Rattle.protocol.specs.State.{Limits}
 use Rattle.protocol.specs.Whole.{contentHeld, announcersWhole, graftsWhole, notedOnce, recordWithin}
-use Rattle.block.specs.Layout.{place, table}
+use Rattle.block.specs.Layout.{table}
 use Rattle.block.specs.View.{limitsOf, byteAt, fourAt, stateOf}
 use Rattle.block.specs.declared.head.Head.{Head}
 use Rattle.block.specs.declared.head.Live.{Live}
@@ -29,19 +27,6 @@ cacheWhole m s n entries c = placesName m s n entries && ascending (keys (c .ent
 -- table i of a block
 abbrev pub tableOf : Head → ℕ → List ℕ → List ℕ
 tableOf h i block = table (limitsOf (h .limits)) i block
-
--- a time cache in a block: n entries of s bytes in table i, m expiry rows of t bytes in table j
-abbrev pub cacheFrom : Limits → ℕ → ℕ → ℕ → ℕ → ℕ → ℕ → TimeBoundCache
-cacheFrom l i s n j t m = record { entries = record { at = place l i; stride = s; len = n }; expiry = record { at = place l j; stride = t; len = m } }
-
-abbrev pub receivedCache : Head → TimeBoundCache
-receivedCache h = cacheFrom (limitsOf (h .limits)) 2 2 (h .live .received) 3 40 (h .live .«received_rows»)
-
-abbrev pub cachedCache : Head → TimeBoundCache
-cachedCache h = cacheFrom (limitsOf (h .limits)) 4 4 (h .live .cached) 5 48 (h .live .«cached_rows»)
-
-abbrev pub graftedCache : Head → TimeBoundCache
-graftedCache h = cacheFrom (limitsOf (h .limits)) 7 119 (h .live .grafted) 8 40 (h .live .«grafted_rows»)
 
 unfoldable pub receivedWhole : Head → List ℕ → Bool
 receivedWhole h block = cacheWhole (h .live .«received_rows») 2 (h .live .received) (tableOf h 2 block) (stateOf h block .received)

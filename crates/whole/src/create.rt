@@ -1,5 +1,4 @@
 // Creation: document 01, questions 1 to 4, and the state of `State::new`.
-use block::head::Config;
 use block::head::Head;
 use block::head::Limits;
 use block::head::Live;

@@ -3,12 +3,11 @@
 use block::head;
 use block::head::Head;
 use block::links;
+use block::time_caches;
 use notes;
 use refs;
 use rows::table;
 use rows::word;
-use time_cache::cache::Table;
-use time_cache::cache::TimeBoundCache;
 ghost use mathlib.Core.Path.{_≡_};
 ghost use mathlib.Core.Bool.{_&&_};
 ghost use Prim.Native.Nat.{_+_, _*_, _≤_, _<_};
@@ -16,11 +15,10 @@ ghost use lib.ListN.{length};
 ghost use Rattle.lists.specs.Base.{ascending, sum};
 ghost use Rattle.rows.specs.Rows.{rows};
 ghost use Rattle.refs.specs.Refs.{refs, places, Below};
-ghost use Rattle.block.specs.View.{limitsOf};
-ghost use Rattle.block.specs.Fit.{Ceilings, Fit};
+ghost use Rattle.block.specs.Fit.{Fit};
 ghost use Rattle.block.specs.LinkSteps.{LinksAscend};
 ghost use Rattle.whole.specs.Held.{allBelow, adjoin, allLists};
-ghost use Rattle.whole.specs.Parts.{lengthAt, graftList, missedList, few, linksWhole, receivedCache, receivedWhole, cachedCache, cachedWhole, graftedCache, graftedWhole, missingWhole, timersWhole, queueWhole, recordWhole, tablesWhole};
+ghost use Rattle.whole.specs.Parts.{lengthAt, graftList, missedList, few, linksWhole, receivedWhole, cachedWhole, graftedWhole, missingWhole, timersWhole, queueWhole, recordWhole, tablesWhole};
 
 // A byte as a number that can be an index.
 fn wide(x: u8) -> usize
@@ -48,72 +46,12 @@ pub fn links_whole(h: Head, block: &[u8]) -> bool
     true
 }
 
-// Where the received messages are: tables 2 and 3.
-fn received_cache(h: Head) -> TimeBoundCache
-    requires { ⌜ Ceilings (limitsOf (h .limits)) ⌝ }
-    ensures { λ r. ⌜ r ≡ receivedCache h ⌝ }
-{
-    let a = head::received_at(h.limits);
-    let b = head::received_rows_at(h.limits);
-    let entries = Table {
-        at: a,
-        stride: 2,
-        len: h.live.received,
-    };
-    let expiry = Table {
-        at: b,
-        stride: 40,
-        len: h.live.received_rows,
-    };
-    TimeBoundCache { entries, expiry }
-}
-
-// Where the message cache is: tables 4 and 5.
-fn cached_cache(h: Head) -> TimeBoundCache
-    requires { ⌜ Ceilings (limitsOf (h .limits)) ⌝ }
-    ensures { λ r. ⌜ r ≡ cachedCache h ⌝ }
-{
-    let a = head::cached_at(h.limits);
-    let b = head::cached_rows_at(h.limits);
-    let entries = Table {
-        at: a,
-        stride: 4,
-        len: h.live.cached,
-    };
-    let expiry = Table {
-        at: b,
-        stride: 48,
-        len: h.live.cached_rows,
-    };
-    TimeBoundCache { entries, expiry }
-}
-
-// Where the grafted messages are: tables 7 and 8.
-fn grafted_cache(h: Head) -> TimeBoundCache
-    requires { ⌜ Ceilings (limitsOf (h .limits)) ⌝ }
-    ensures { λ r. ⌜ r ≡ graftedCache h ⌝ }
-{
-    let a = head::grafted_at(h.limits);
-    let b = head::grafted_rows_at(h.limits);
-    let entries = Table {
-        at: a,
-        stride: 119,
-        len: h.live.grafted,
-    };
-    let expiry = Table {
-        at: b,
-        stride: 40,
-        len: h.live.grafted_rows,
-    };
-    TimeBoundCache { entries, expiry }
-}
-
 // Received messages: places name rows, keys once, rows in pop order.
 pub fn received_whole(h: Head, block: &[u8]) -> bool
     requires { ⌜ Fit h (now block) ⌝ }
     ensures { λ r. ⌜ r ≡ receivedWhole h (now (block .entry)) ⌝ }
 {
-    let c = received_cache(h);
+    let c = time_caches::received_cache(h);
     c.is_sound(block)
 }
 
@@ -157,7 +95,7 @@ pub fn cached_whole(h: Head, block: &[u8]) -> bool
     requires { ⌜ Fit h (now block) ⌝ }
     ensures { λ r. ⌜ r ≡ cachedWhole h (now (block .entry)) ⌝ }
 {
-    let c = cached_cache(h);
+    let c = time_caches::cached_cache(h);
     let sound = c.is_sound(block);
     if !sound {
         return false;
@@ -230,7 +168,7 @@ pub fn grafted_whole(h: Head, block: &[u8]) -> bool
     requires { ⌜ Fit h (now block) × LinksAscend h (now block) ⌝ }
     ensures { λ r. ⌜ r ≡ graftedWhole h (now (block .entry)) ⌝ }
 {
-    let c = grafted_cache(h);
+    let c = time_caches::grafted_cache(h);
     let sound = c.is_sound(block);
     if !sound {
         return false;

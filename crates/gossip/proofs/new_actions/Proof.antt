@@ -1,20 +1,12 @@
 -- `new_actions` meets its contract: the push, the dispatch timer, optimising, and the emit.
 -- Assumes nothing.
-use mathlib.Core.Path.{_≡_, refl, sym, ap, _∙_, subst}
-use mathlib.Core.List.{List}
-use Prim.Native.Nat.{ℕ}
-use lib.ListN.{length}
-use Rattle.lists.specs.Map.{keys}
+use mathlib.Core.Path.{sym}
 use Rattle.rows.specs.Ident.{idOf}
-use Rattle.rows.specs.Sorted.{FoundIs, Here}
-use Rattle.rows.specs.declared.table.Found.{Found}
 use Rattle.block.specs.View.{stateOf}
 use Rattle.output.proofs.WrittenLaws.{written-then, told-first, told-then}
-use Rattle.steps.specs.declared.Held.the-variants.{Nothing}
 use Rattle.ticks.proofs.ActionLaws.{told-as, written-as}
 use Rattle.eager.proofs.CallLaws.{pushing, skip-in}
 use Rattle.gossip.proofs.OutLaws.{new-bytes}
-use native.Mathlib.Omega.{arith}
 use borrow.Author.Needs.{needs}
 use Rattle.gossip.proofs.new_actions.Statement.{statement}
 use Rattle.gossip.proofs.new_actions.Tie as tie

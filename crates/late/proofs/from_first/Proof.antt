@@ -1,21 +1,12 @@
 -- `from_first` meets its contract: by where the first sender stands among the links.
 -- Assumes nothing.
-use mathlib.Core.Path.{_≡_, refl, sym, ap, _∙_, subst}
-use mathlib.Core.Bool.{Bool, true, false}
-use mathlib.Core.List.{List}
-use Prim.Native.Nat.{ℕ, _<_}
-use lib.Dec.{leb}
-use lib.ListN.{length, getD, length-map}
-use Rattle.lists.specs.Map.{Map, keys, has}
-use Rattle.rows.specs.Ident.{idOf}
-use Rattle.rows.specs.Sorted.{FoundIs, Here, Between}
+use mathlib.Core.Path.{sym, ap, _∙_, subst}
+use Prim.Native.Nat.{ℕ}
+use Rattle.lists.specs.Map.{keys, has}
+use Rattle.rows.specs.Sorted.{FoundIs, Here}
 use Rattle.rows.specs.declared.table.Found.{Found}
-use Rattle.rows.specs.declared.table.Found.the-variants.{At, Before}
 use Rattle.time_cache.proofs.Orders.{up-of}
-use Rattle.protocol.specs.State.{State, Grafts}
-use Rattle.protocol.specs.Links.{Links, isEager, eagerIn}
 use Rattle.block.specs.View.{stateOf}
-use Rattle.block.specs.LinkSteps.{peerAt}
 use Rattle.block.proofs.LinkLaws.{count-peers, eager-here, eager-between}
 use Rattle.caches.specs.GraftSteps.{graftsAt}
 use Rattle.steps.proofs.StandsLaws.{links-up}

@@ -1,25 +1,9 @@
 -- `keep` meets its contract: the sender is kept where there is a grafted message, and the link goes lazy.
 -- Assumes nothing.
-use mathlib.Core.Path.{_≡_, refl, sym, ap, _∙_, subst}
-use mathlib.Core.Bool.{Bool, true, false}
-use mathlib.Core.List.{List}
-use Prim.Native.Nat.{ℕ, _<_}
-use lib.Dec.{leb}
-use lib.ListN.{length, getD, length-map}
-use Rattle.lists.specs.Map.{Map, keys, has}
+use mathlib.Core.Path.{subst}
 use Rattle.rows.specs.Ident.{idOf}
-use Rattle.rows.specs.Sorted.{FoundIs, Here, Between}
-use Rattle.rows.specs.declared.table.Found.{Found}
-use Rattle.rows.specs.declared.table.Found.the-variants.{At, Before}
-use Rattle.time_cache.proofs.Orders.{up-of}
-use Rattle.protocol.specs.State.{State, Grafts}
-use Rattle.protocol.specs.Links.{Links, isEager, eagerIn}
 use Rattle.block.specs.View.{stateOf}
-use Rattle.block.specs.LinkSteps.{peerAt}
-use Rattle.block.proofs.LinkLaws.{count-peers, eager-here, eager-between}
-use Rattle.caches.specs.GraftSteps.{graftsAt}
 use Rattle.steps.proofs.StandsLaws.{links-up}
-use Rattle.grafts.proofs.PeerLaws.{stands-grafting}
 use Rattle.time_cache.specs.TimeCache.{get}
 use Rattle.decide.specs.Settled.{settled}
 use Rattle.steps.specs.Shared.{HeldAt, HeldIs}
@@ -27,7 +11,6 @@ use Rattle.steps.specs.declared.Held.{Held}
 use Rattle.steps.proofs.StandsLaws.{grafted-order}
 use Rattle.settled.specs.Then.{noGrafts}
 use Rattle.late.proofs.LateLaws.{held-below, kept-goes, kept-none, kept-links-up}
-use native.Mathlib.Omega.{arith}
 use borrow.Author.Needs.{needs}
 use Rattle.late.proofs.keep.Statement.{statement}
 use Rattle.late.proofs.keep.Tie as tie

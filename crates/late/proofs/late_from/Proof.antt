@@ -1,33 +1,14 @@
 -- `late_from` meets its contract: by the `first` of the grafted message, and whether the sender is among its peers.
 -- Assumes nothing.
-use mathlib.Core.Path.{_≡_, refl, sym, ap, _∙_, subst}
-use mathlib.Core.Bool.{Bool, true, false}
-use mathlib.Core.List.{List}
-use Prim.Native.Nat.{ℕ, _<_}
-use lib.Dec.{leb}
-use lib.ListN.{length, getD, length-map}
-use Rattle.lists.specs.Map.{Map, keys, has}
-use Rattle.rows.specs.Ident.{idOf}
-use Rattle.rows.specs.Sorted.{FoundIs, Here, Between}
-use Rattle.rows.specs.declared.table.Found.{Found}
-use Rattle.rows.specs.declared.table.Found.the-variants.{At, Before}
-use Rattle.time_cache.proofs.Orders.{up-of}
-use Rattle.protocol.specs.State.{State, Grafts}
-use Rattle.protocol.specs.Links.{Links, isEager, eagerIn}
+use mathlib.Core.Path.{sym, ap, _∙_}
 use Rattle.block.specs.View.{stateOf}
 use Rattle.block.specs.LinkSteps.{peerAt}
-use Rattle.block.proofs.LinkLaws.{count-peers, eager-here, eager-between}
 use Rattle.caches.specs.GraftSteps.{graftsAt}
-use Rattle.steps.proofs.StandsLaws.{links-up}
 use Rattle.grafts.proofs.PeerLaws.{stands-grafting}
-use mathlib.Core.Option.{Option}
 use Rattle.postcard.specs.Values.{deliveryValue}
-use Rattle.protocol.specs.State.{Hop}
 use Rattle.block.specs.MissingSteps.{hop}
 use Rattle.grafts.specs.Reads.{firstOf}
-use Rattle.grafts.specs.declared.reads.First.{First}
 use Rattle.late.proofs.LateLaws.{from-none, from-grafted, from-other}
-use native.Mathlib.Omega.{arith}
 use borrow.Author.Needs.{needs}
 use Rattle.late.proofs.late_from.Statement.{statement}
 use Rattle.late.proofs.late_from.Tie as tie

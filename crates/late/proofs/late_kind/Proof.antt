@@ -1,25 +1,14 @@
 -- `late_kind` meets its contract: by the grafted message, and the link of the sender.
 -- Assumes nothing.
-use mathlib.Core.Path.{_≡_, refl, sym, ap, _∙_, subst}
-use mathlib.Core.Bool.{Bool, true, false}
-use mathlib.Core.List.{List}
-use Prim.Native.Nat.{ℕ, _<_}
-use lib.Dec.{leb}
-use lib.ListN.{length, getD, length-map}
-use Rattle.lists.specs.Map.{Map, keys, has}
+use mathlib.Core.Path.{ap, _∙_, subst}
+use Prim.Native.Nat.{ℕ}
+use Rattle.lists.specs.Map.{keys}
 use Rattle.rows.specs.Ident.{idOf}
-use Rattle.rows.specs.Sorted.{FoundIs, Here, Between}
+use Rattle.rows.specs.Sorted.{FoundIs, Here}
 use Rattle.rows.specs.declared.table.Found.{Found}
-use Rattle.rows.specs.declared.table.Found.the-variants.{At, Before}
-use Rattle.time_cache.proofs.Orders.{up-of}
-use Rattle.protocol.specs.State.{State, Grafts}
-use Rattle.protocol.specs.Links.{Links, isEager, eagerIn}
 use Rattle.block.specs.View.{stateOf}
-use Rattle.block.specs.LinkSteps.{peerAt}
-use Rattle.block.proofs.LinkLaws.{count-peers, eager-here, eager-between}
+use Rattle.block.proofs.LinkLaws.{count-peers}
 use Rattle.caches.specs.GraftSteps.{graftsAt}
-use Rattle.steps.proofs.StandsLaws.{links-up}
-use Rattle.grafts.proofs.PeerLaws.{stands-grafting}
 use Rattle.time_cache.specs.TimeCache.{get}
 use Rattle.postcard.specs.Values.{deliveryValue}
 use Rattle.protocol.specs.Gossips.{lateFrom}

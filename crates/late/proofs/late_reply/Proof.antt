@@ -1,30 +1,18 @@
 -- `late_reply` meets its contract: by each test in turn.
 -- Assumes nothing.
-use mathlib.Core.Path.{_≡_, refl, sym, ap, _∙_, subst}
-use mathlib.Core.Bool.{Bool, true, false}
-use mathlib.Core.List.{List}
-use Prim.Native.Nat.{ℕ, _<_}
-use lib.Dec.{leb}
-use lib.ListN.{length, getD, length-map}
-use Rattle.lists.specs.Map.{Map, keys, has}
-use Rattle.rows.specs.Ident.{idOf}
-use Rattle.rows.specs.Sorted.{FoundIs, Here, Between}
-use Rattle.rows.specs.declared.table.Found.{Found}
-use Rattle.rows.specs.declared.table.Found.the-variants.{At, Before}
+use mathlib.Core.Path.{sym, ap, _∙_}
+use Prim.Native.Nat.{ℕ}
+use Rattle.lists.specs.Map.{keys}
 use Rattle.time_cache.proofs.Orders.{up-of}
-use Rattle.protocol.specs.State.{State, Grafts}
-use Rattle.protocol.specs.Links.{Links, isEager, eagerIn}
 use Rattle.block.specs.View.{stateOf}
 use Rattle.block.specs.LinkSteps.{peerAt}
-use Rattle.block.proofs.LinkLaws.{count-peers, eager-here, eager-between}
+use Rattle.block.proofs.LinkLaws.{eager-here}
 use Rattle.caches.specs.GraftSteps.{graftsAt}
 use Rattle.steps.proofs.StandsLaws.{links-up}
-use Rattle.grafts.proofs.PeerLaws.{stands-grafting}
 use Rattle.postcard.specs.Values.{deliveryValue}
 use Rattle.protocol.specs.Gossips.{sameAs}
 use Rattle.settled.proofs.SizeLaws.{no, yes}
 use Rattle.late.proofs.LateLaws.{link-here, reply-first, reply-kept, reply-far, reply-lazy, reply-near}
-use native.Mathlib.Omega.{arith}
 use borrow.Author.Needs.{needs}
 use Rattle.late.proofs.late_reply.Statement.{statement}
 use Rattle.late.proofs.late_reply.Tie as tie

@@ -1,7 +1,7 @@
 -- `no_more_hops` meets its contract: by the delivery.
 -- Assumes nothing.
-use mathlib.Core.Path.{_≡_, refl, sym, ap}
-use mathlib.Core.Bool.{Bool, false}
+use mathlib.Core.Path.{_≡_, sym, ap}
+use mathlib.Core.Bool.{false}
 use Prim.Native.Nat.{ℕ}
 use lib.Dec.{leb}
 use Rattle.postcard.specs.Values.{deliveryValue}
@@ -9,7 +9,6 @@ use Rattle.postcard.specs.declared.message.Delivery.{Delivery}
 use Rattle.postcard.specs.declared.message.Delivery.the-variants.{Swarm, Neighbors}
 use Rattle.postcard.specs.declared.units.Round.{Round}
 use Rattle.protocol.specs.Gossips.{noMoreHops}
-use native.Mathlib.Omega.{arith}
 use borrow.Author.Needs.{needs}
 use Rattle.late.proofs.no_more_hops.Statement.{statement}
 use Rattle.late.proofs.no_more_hops.Tie as tie

@@ -1,35 +1,18 @@
 -- `on_late` meets its contract: by what the copy is.
 -- Assumes nothing.
-use mathlib.Core.Path.{_≡_, refl, sym, ap, _∙_, subst}
-use mathlib.Core.Bool.{Bool, true, false}
-use mathlib.Core.List.{List}
-use Prim.Native.Nat.{ℕ, _<_}
-use lib.Dec.{leb}
-use lib.ListN.{length, getD, length-map}
-use Rattle.lists.specs.Map.{Map, keys, has}
+use mathlib.Core.Path.{_∙_, subst}
 use Rattle.rows.specs.Ident.{idOf}
-use Rattle.rows.specs.Sorted.{FoundIs, Here, Between}
-use Rattle.rows.specs.declared.table.Found.{Found}
-use Rattle.rows.specs.declared.table.Found.the-variants.{At, Before}
-use Rattle.time_cache.proofs.Orders.{up-of}
-use Rattle.protocol.specs.State.{State, Grafts}
-use Rattle.protocol.specs.Links.{Links, isEager, eagerIn}
 use Rattle.block.specs.View.{stateOf}
 use Rattle.block.specs.LinkSteps.{peerAt}
-use Rattle.block.proofs.LinkLaws.{count-peers, eager-here, eager-between}
-use Rattle.caches.specs.GraftSteps.{graftsAt}
-use Rattle.steps.proofs.StandsLaws.{links-up}
-use Rattle.grafts.proofs.PeerLaws.{stands-grafting}
 use Rattle.postcard.specs.Values.{deliveryValue}
 use Rattle.protocol.specs.Gossips.{faster, duplicate, repeated}
 use Rattle.decide.specs.Settled.{settled}
 use Rattle.late.specs.Kinds.{LateIs, lateAs}
 use Rattle.late.specs.declared.Late.{Late}
-use Rattle.late.specs.declared.Late.the-variants.{Duplicate, Repeated, Faster}
+use Rattle.late.specs.declared.Late.the-variants.{Faster}
 use Rattle.block.proofs.GoesLaws.{goes-as, goes-still}
 use Rattle.late.specs.Kinds.{lateAfter}
 use Rattle.late.proofs.LateLaws.{late-still, lazy-sender, still-repeated}
-use native.Mathlib.Omega.{arith}
 use borrow.Author.Needs.{needs}
 use Rattle.late.proofs.on_late.Statement.{statement}
 use Rattle.late.proofs.on_late.Tie as tie

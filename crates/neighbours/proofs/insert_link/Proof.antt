@@ -1,10 +1,10 @@
 -- `insert_link`: the raised numbers, the move and the two stores are a link more.
 -- Assumes nothing.
-use mathlib.Core.Path.{_≡_, sym, ap, _∙_, subst}
+use mathlib.Core.Path.{sym, ap, _∙_, subst}
 use mathlib.Core.List.{List}
 use Prim.Native.Nat.{ℕ, _+_, _-_, _*_, _≤_, _<_}
 use lib.ListN.{length, set, length-set}
-use Rattle.rows.specs.Part.{part, put}
+use Rattle.rows.specs.Part.{put}
 use Rattle.rows.specs.Digits.{leBytes}
 use Rattle.protocol.specs.Links.{linkUp}
 use Rattle.block.specs.Goes.{Goes}

@@ -1,6 +1,6 @@
 -- `on_neighbor_up`: a neighbour is made eager, and a new one is a link more.
 -- Assumes nothing.
-use mathlib.Core.Path.{_≡_, sym, ap, _∙_, subst}
+use mathlib.Core.Path.{ap, _∙_, subst}
 use mathlib.Core.List.{List}
 use Prim.Native.Nat.{ℕ}
 use Rattle.rows.specs.Sorted.{Here, Between, FoundIs}

@@ -1,22 +1,8 @@
 -- `close` meets its contract: the links, then the timer mark, then the announcers.
 -- Assumes nothing.
-use mathlib.Core.Path.{_≡_, refl, sym, ap, _∙_, subst}
-use mathlib.Core.Bool.{Bool, true, false, not}
-use mathlib.Core.List.{List}
-use Prim.Native.Nat.{ℕ, _+_, _-_, _≤_, _<_}
-use lib.ListN.{length, getD, drop}
-use Rattle.lists.specs.Map.{keys}
+use Prim.Native.Nat.{_-_}
 use Rattle.rows.specs.Ident.{idOf}
-use Rattle.rows.specs.Sorted.{FoundIs, Here}
-use Rattle.rows.specs.declared.table.Found.{Found}
-use Rattle.protocol.specs.State.{State, Hop}
-use Rattle.block.specs.View.{stateOf}
-use Rattle.block.specs.LinkSteps.{peerAt}
-use Rattle.block.specs.MissingSteps.{hop, hopsAt}
-use Rattle.block.proofs.LinkLaws.{count-peers}
-use Rattle.steps.proofs.StandsLaws.{links-up}
 use Rattle.optimise.proofs.OptimiseLaws.{timers-then, missing-then, closed-goes}
-use native.Mathlib.Omega.{arith}
 use borrow.Author.Needs.{needs}
 use Rattle.optimise.proofs.close.Statement.{statement}
 use Rattle.optimise.proofs.close.Tie as tie

@@ -1,20 +1,13 @@
 -- `closer` meets its contract: by the least announcer, and the two tests.
 -- Assumes nothing.
-use mathlib.Core.Path.{_≡_, refl, sym, ap, _∙_, subst}
-use mathlib.Core.Bool.{Bool, true, false, not}
-use mathlib.Core.List.{List}
-use Prim.Native.Nat.{ℕ, _+_, _-_, _≤_, _<_}
-use lib.ListN.{length, getD, drop}
+use mathlib.Core.Path.{subst}
+use Prim.Native.Nat.{_-_, _<_}
 use Rattle.lists.specs.Map.{keys}
 use Rattle.rows.specs.Ident.{idOf}
 use Rattle.rows.specs.Sorted.{FoundIs, Here}
 use Rattle.rows.specs.declared.table.Found.{Found}
-use Rattle.protocol.specs.State.{State, Hop}
 use Rattle.block.specs.View.{stateOf}
-use Rattle.block.specs.LinkSteps.{peerAt}
-use Rattle.block.specs.MissingSteps.{hop, hopsAt}
-use Rattle.block.proofs.LinkLaws.{count-peers}
-use Rattle.steps.proofs.StandsLaws.{links-up}
+use Rattle.block.specs.MissingSteps.{hopsAt}
 use Rattle.protocol.specs.Gossips.{announcers}
 use Rattle.block.proofs.MissingLaws.{count-missed}
 use Rattle.optimise.proofs.BestLaws.{announcers-here, announcers-none, announced-some, threshold-of, far-not-less, far-few, far-enough, nearest-not, nearest-is, nearest-none}

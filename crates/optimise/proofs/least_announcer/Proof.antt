@@ -1,20 +1,13 @@
 -- `least_announcer` meets its contract: the best so far, and those that are left.
 -- Assumes nothing.
-use mathlib.Core.Path.{_≡_, refl, sym, ap, _∙_, subst}
-use mathlib.Core.Bool.{Bool, true, false, not}
+use mathlib.Core.Path.{_≡_, sym, ap, _∙_}
 use mathlib.Core.List.{List}
-use Prim.Native.Nat.{ℕ, _+_, _-_, _≤_, _<_}
+use Prim.Native.Nat.{_+_, _-_, _≤_, _<_}
 use lib.ListN.{length, getD, drop}
-use Rattle.lists.specs.Map.{keys}
-use Rattle.rows.specs.Ident.{idOf}
-use Rattle.rows.specs.Sorted.{FoundIs, Here}
-use Rattle.rows.specs.declared.table.Found.{Found}
 use Rattle.protocol.specs.State.{State, Hop}
 use Rattle.block.specs.View.{stateOf}
 use Rattle.block.specs.LinkSteps.{peerAt}
 use Rattle.block.specs.MissingSteps.{hop, hopsAt}
-use Rattle.block.proofs.LinkLaws.{count-peers}
-use Rattle.steps.proofs.StandsLaws.{links-up}
 use Rattle.protocol.specs.Gossips.{leastFrom}
 use Rattle.optimise.specs.Best.{leastOf}
 use Rattle.optimise.proofs.BestLaws.{least-begin, least-end, least-closer, least-further}

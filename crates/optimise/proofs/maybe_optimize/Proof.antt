@@ -1,29 +1,17 @@
 -- `maybe_optimize` meets its contract: by the sender, and the announcer that was found.
 -- Assumes nothing.
-use mathlib.Core.Path.{_≡_, refl, sym, ap, _∙_, subst}
-use mathlib.Core.Bool.{Bool, true, false, not}
-use mathlib.Core.List.{List}
-use Prim.Native.Nat.{ℕ, _+_, _-_, _≤_, _<_}
-use lib.ListN.{length, getD, drop}
+use mathlib.Core.Path.{subst}
+use Prim.Native.Nat.{_+_, _-_}
 use Rattle.lists.specs.Map.{keys}
 use Rattle.rows.specs.Ident.{idOf}
-use Rattle.rows.specs.Sorted.{FoundIs, Here}
-use Rattle.rows.specs.declared.table.Found.{Found}
-use Rattle.protocol.specs.State.{State, Hop}
 use Rattle.block.specs.View.{stateOf}
-use Rattle.block.specs.LinkSteps.{peerAt}
-use Rattle.block.specs.MissingSteps.{hop, hopsAt}
-use Rattle.block.proofs.LinkLaws.{count-peers}
 use Rattle.steps.proofs.StandsLaws.{links-up}
 use Rattle.protocol.specs.Gossips.{announcers}
 use Rattle.decide.specs.Settled.{settled}
 use Rattle.steps.specs.declared.Held.{Held}
-use Rattle.steps.specs.declared.Held.the-variants as held
-use Rattle.optimise.specs.Best.{nearest, BestAt, BestIs, wanted, WantedAt, WantedIs}
+use Rattle.optimise.specs.Best.{nearest, BestAt, BestIs, wanted, WantedIs}
 use Rattle.optimise.specs.declared.Best.{Best}
-use Rattle.optimise.specs.declared.Best.the-variants as best
 use Rattle.optimise.proofs.OptimiseLaws.{optimised-goes, optimised-none, optimised-away}
-use native.Mathlib.Omega.{arith}
 use borrow.Author.Needs.{needs}
 use Rattle.optimise.proofs.maybe_optimize.Statement.{statement}
 use Rattle.optimise.proofs.maybe_optimize.Tie as tie

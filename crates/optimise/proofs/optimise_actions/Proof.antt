@@ -1,32 +1,22 @@
 -- `optimise_actions` meets its contract: by the sender, and the announcer that was found.
 -- Assumes nothing.
-use mathlib.Core.Path.{_≡_, refl, sym, ap, _∙_, subst}
-use mathlib.Core.Bool.{Bool, true, false, not}
-use mathlib.Core.List.{List}
-use Prim.Native.Nat.{ℕ, _+_, _-_, _≤_, _<_}
-use lib.ListN.{length, getD, drop}
+use mathlib.Core.Path.{_≡_, sym, ap, _∙_, subst}
+use Prim.Native.Nat.{ℕ, _+_, _-_}
 use Rattle.lists.specs.Map.{keys}
 use Rattle.rows.specs.Ident.{idOf}
-use Rattle.rows.specs.Sorted.{FoundIs, Here}
-use Rattle.rows.specs.declared.table.Found.{Found}
 use Rattle.protocol.specs.State.{State, Hop}
 use Rattle.block.specs.View.{stateOf}
 use Rattle.block.specs.LinkSteps.{peerAt}
-use Rattle.block.specs.MissingSteps.{hop, hopsAt}
+use Rattle.block.specs.MissingSteps.{hop}
 use Rattle.block.proofs.LinkLaws.{count-peers}
-use Rattle.steps.proofs.StandsLaws.{links-up}
 use Rattle.protocol.specs.Gossips.{announcers}
 use Rattle.decide.specs.Settled.{settled}
 use Rattle.steps.specs.declared.Held.{Held}
-use Rattle.steps.specs.declared.Held.the-variants as held
 use Rattle.optimise.specs.Best.{nearest, BestAt, BestIs, wanted, WantedAt, WantedIs}
 use Rattle.optimise.specs.declared.Best.{Best}
-use Rattle.optimise.specs.declared.Best.the-variants as best
-use mathlib.Core.Option.{none}
-use lib.Dec.{leb}
 use Rattle.lists.specs.Base.{concatMap}
-use Rattle.postcard.specs.Message.{Sent, Prune, Graft, actionBytes}
-use Rattle.output.proofs.WrittenLaws.{written-none, written-then, told-first, told-then}
+use Rattle.postcard.specs.Message.{actionBytes}
+use Rattle.output.proofs.WrittenLaws.{written-none}
 use Rattle.steps.specs.Rooms.{roomsIn}
 use Rattle.ticks.proofs.ActionLaws.{told-as, written-as}
 use Rattle.optimise.specs.Best.{bestActions, optimiseOn}

@@ -1,22 +1,7 @@
 -- `optimize_tree` meets its contract: the announcer eager, then the sender lazy.
 -- Assumes nothing.
-use mathlib.Core.Path.{_≡_, refl, sym, ap, _∙_, subst}
-use mathlib.Core.Bool.{Bool, true, false, not}
-use mathlib.Core.List.{List}
-use Prim.Native.Nat.{ℕ, _+_, _-_, _≤_, _<_}
-use lib.ListN.{length, getD, drop}
-use Rattle.lists.specs.Map.{keys}
-use Rattle.rows.specs.Ident.{idOf}
-use Rattle.rows.specs.Sorted.{FoundIs, Here}
-use Rattle.rows.specs.declared.table.Found.{Found}
-use Rattle.protocol.specs.State.{State, Hop}
-use Rattle.block.specs.View.{stateOf}
-use Rattle.block.specs.LinkSteps.{peerAt}
-use Rattle.block.specs.MissingSteps.{hop, hopsAt}
-use Rattle.block.proofs.LinkLaws.{count-peers}
-use Rattle.steps.proofs.StandsLaws.{links-up}
+use Prim.Native.Nat.{_-_}
 use Rattle.optimise.proofs.OptimiseLaws.{eager-up, tree-goes}
-use native.Mathlib.Omega.{arith}
 use borrow.Author.Needs.{needs}
 use Rattle.optimise.proofs.optimize_tree.Statement.{statement}
 use Rattle.optimise.proofs.optimize_tree.Tie as tie

@@ -1,29 +1,10 @@
 -- `send_optimise` meets its contract: a Prune alone, or a Graft and a Prune.
 -- Assumes nothing.
-use mathlib.Core.Path.{_≡_, refl, sym, ap, _∙_, subst}
-use mathlib.Core.Bool.{Bool, true, false, not}
-use mathlib.Core.List.{List}
-use Prim.Native.Nat.{ℕ, _+_, _-_, _≤_, _<_}
-use lib.ListN.{length, getD, drop}
-use Rattle.lists.specs.Map.{keys}
-use Rattle.rows.specs.Ident.{idOf}
-use Rattle.rows.specs.Sorted.{FoundIs, Here}
-use Rattle.rows.specs.declared.table.Found.{Found}
-use Rattle.protocol.specs.State.{State, Hop}
-use Rattle.block.specs.View.{stateOf}
-use Rattle.block.specs.LinkSteps.{peerAt}
-use Rattle.block.specs.MissingSteps.{hop, hopsAt}
-use Rattle.block.proofs.LinkLaws.{count-peers}
-use Rattle.steps.proofs.StandsLaws.{links-up}
-use mathlib.Core.Option.{none}
-use lib.Dec.{leb}
-use Rattle.lists.specs.Base.{concatMap}
-use Rattle.postcard.specs.Message.{Sent, Prune, Graft, actionBytes}
-use Rattle.output.proofs.WrittenLaws.{written-none, written-then, told-first, told-then}
-use Rattle.steps.specs.Rooms.{roomsIn}
+use mathlib.Core.Path.{refl, sym}
+use Prim.Native.Nat.{_-_}
+use Rattle.output.proofs.WrittenLaws.{written-then, told-first, told-then}
 use Rattle.ticks.proofs.ActionLaws.{told-as, written-as}
 use Rattle.optimise.proofs.OptimiseLaws.{best-eager, best-else, best-same, best-other}
-use native.Mathlib.Omega.{arith}
 use borrow.Author.Needs.{needs}
 use Rattle.optimise.proofs.send_optimise.Statement.{statement}
 use Rattle.optimise.proofs.send_optimise.Tie as tie

@@ -1,20 +1,14 @@
 -- `wants_optimise` meets its contract: by the link of the sender, and whether a graft is out.
 -- Assumes nothing.
-use mathlib.Core.Path.{_≡_, refl, sym, ap, _∙_, subst}
-use mathlib.Core.Bool.{Bool, true, false, not}
-use mathlib.Core.List.{List}
-use Prim.Native.Nat.{ℕ, _+_, _-_, _≤_, _<_}
-use lib.ListN.{length, getD, drop}
+use mathlib.Core.Path.{ap, _∙_, subst}
+use mathlib.Core.Bool.{not}
+use Prim.Native.Nat.{_-_}
 use Rattle.lists.specs.Map.{keys}
 use Rattle.rows.specs.Ident.{idOf}
 use Rattle.rows.specs.Sorted.{FoundIs, Here}
 use Rattle.rows.specs.declared.table.Found.{Found}
-use Rattle.protocol.specs.State.{State, Hop}
 use Rattle.block.specs.View.{stateOf}
-use Rattle.block.specs.LinkSteps.{peerAt}
-use Rattle.block.specs.MissingSteps.{hop, hopsAt}
 use Rattle.block.proofs.LinkLaws.{count-peers}
-use Rattle.steps.proofs.StandsLaws.{links-up}
 use Rattle.grafts.proofs.PeerLaws.{stands-grafting}
 use Rattle.optimise.proofs.BestLaws.{held-below, wanted-link, wanted-stranger}
 use native.Mathlib.Omega.{arith}

@@ -1,13 +1,11 @@
 -- `write_event` meets its contract.
 -- Assumes nothing.
-use Prim.Native.Nat.{_≤_}
 use native.Mathlib.Omega.{arith}
 use borrow.Author.Needs.{needs}
-use mathlib.Core.Path.{_≡_, sym, _∙_}
+use mathlib.Core.Path.{_≡_, _∙_}
 use lib.ListN.{length, set, length-set}
 use Rattle.rows.specs.Ident.{idOf}
 use Rattle.postcard.specs.Message.{Swarm}
-use Rattle.postcard.specs.Output.{Room}
 use Rattle.postcard.proofs.Writes.{wrote-long}
 use Rattle.postcard_show.proofs.Few.{gossip-few}
 use Rattle.postcard_show.proofs.write_event.Statement.{statement}

@@ -1,6 +1,5 @@
 -- `note_cached` meets its contract: by the three tests the record stays as it is, or gets one note more.
 -- Assumes nothing.
-use native.Mathlib.Omega.{arith}
 use borrow.Author.Needs.{needs}
 use Rattle.rows.specs.Ident.{idOf}
 use Rattle.pushes.proofs.NotedLaws.{has-256, has-4096, has-it, adds-room, added}

@@ -11,7 +11,7 @@ use Rattle.protocol.specs.State.{State}
 use Rattle.block.specs.View.{stateOf}
 use Rattle.caches.specs.CachedReads.{cachedAt}
 use Rattle.caches.proofs.CachedLaws.{count-cached}
-use Rattle.decide.specs.Sizes.{sizesOf, grown}
+use Rattle.decide.specs.Sizes.{grown}
 use Rattle.decide.specs.Settled.{settled}
 use Rattle.steps.specs.Shared.{sizesValue, HeldAt, HeldIs}
 use Rattle.steps.specs.declared.Held.{Held}

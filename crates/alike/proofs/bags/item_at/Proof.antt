@@ -18,7 +18,7 @@ use Rattle.time_cache.specs.Tables.{Lies, rowsAt, rowAt, expiryOf}
 use Rattle.time_cache.specs.declared.cache.TimeBoundCache.{TimeBoundCache}
 use Rattle.block.specs.Layout.{table}
 use Rattle.block.specs.Fit.{Fit}
-use Rattle.caches.specs.InBlock.{receivedCache, graftedCache, cachedCache}
+use Rattle.block.specs.TimeCaches.{receivedCache, graftedCache, cachedCache}
 use Rattle.alike.proofs.BlockReads.{expiry-read}
 use native.Mathlib.Omega.{arith}
 use borrow.Author.Needs.{needs}

@@ -7,7 +7,7 @@ use Rattle.time_cache.specs.Tables.{Lies, Sound, cacheAt}
 use Rattle.time_cache.specs.declared.cache.TimeBoundCache.{TimeBoundCache}
 use Rattle.block.specs.View.{stateOf}
 use Rattle.block.specs.View.{graftsOf}
-use Rattle.caches.specs.InBlock.{graftedCache}
+use Rattle.block.specs.TimeCaches.{graftedCache}
 use Rattle.caches.proofs.CacheLaws.{asValue, holds-later}
 use Rattle.caches.proofs.GraftedLaws.{grafted-lies, grafted-sound, grafted-as, peersOf}
 use borrow.Author.Needs.{needs}

@@ -1,8 +1,7 @@
 -- `gains::one_if` meets its contract.
 -- Assumes nothing.
 use mathlib.Core.Bool.{Bool}
-use mathlib.Core.Path.{_≡_, sym, ap}
-use Prim.Native.Nat.{ℕ}
+use mathlib.Core.Path.{sym, ap}
 use Rattle.lists.specs.Base.{if_then_else_}
 use Rattle.dispatch.proofs.gains.one_if.Statement.{statement}
 use Rattle.dispatch.proofs.gains.one_if.Tie as tie

@@ -10,7 +10,7 @@ use Rattle.time_cache.specs.Steps.{Inserts}
 use Rattle.time_cache.specs.declared.cache.TimeBoundCache.{TimeBoundCache}
 use Rattle.block.specs.Layout.{place}
 use Rattle.block.specs.View.{limitsOf}
-use Rattle.caches.specs.InBlock.{graftedCache}
+use Rattle.block.specs.TimeCaches.{graftedCache}
 use Rattle.caches.proofs.GraftedLaws.{grafted-room, grafted-sound}
 use Rattle.grafts.specs.NoteSteps.{Enters}
 use Rattle.grafts.proofs.EntryLaws.{entered}

@@ -1,15 +1,14 @@
 -- `renumber::drop_number`: of the first j entries, those that are left stand first (`Going`). The measure is n - j.
 -- Assumes nothing.
-use mathlib.Core.Path.{_≡_, refl, sym, ap, _∙_, subst}
-use mathlib.Core.List.{List, [], _∷_}
-use Prim.Native.Nat.{ℕ, _+_, _-_, _*_, _≤_, _<_}
-use lib.ListN.{length, getD, set, length-set}
-use Rattle.rows.specs.Part.{part, put}
+use mathlib.Core.Path.{_≡_, refl, sym, _∙_, subst}
+use mathlib.Core.List.{List, []}
+use Prim.Native.Nat.{ℕ, _+_, _-_, _*_, _≤_}
+use lib.ListN.{length, set, length-set}
 use Rattle.rows.proofs.Rows.{mul-up}
-use Rattle.refs.specs.Refs.{Ref, ref}
+use Rattle.refs.specs.Refs.{ref}
 use Rattle.refs.proofs.Places.{row-end}
 use Rattle.refs.proofs.Left.{Going, going-start, going-done}
-use Rattle.neighbours.specs.Lowered.{lowered, stays, lower, entries}
+use Rattle.neighbours.specs.Lowered.{stays, lower, entries}
 use Rattle.neighbours.proofs.EntryLaws.{entries-long, entries-first, turn-drop, turn-keep}
 use native.Mathlib.Omega.{arith}
 use borrow.Author.Needs.{needs}

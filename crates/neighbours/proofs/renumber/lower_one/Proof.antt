@@ -4,7 +4,6 @@ use mathlib.Core.Path.{_≡_, sym}
 use Prim.Native.Nat.{ℕ, zero, suc, _≤_}
 use Rattle.neighbours.proofs.LoweredLaws.{lowered-low, lowered-high}
 use native.Mathlib.Omega.{arith}
-use borrow.Author.Needs.{needs}
 use Rattle.neighbours.proofs.renumber.lower_one.Statement.{statement}
 use Rattle.neighbours.proofs.renumber.lower_one.Tie as tie
 

@@ -1,6 +1,6 @@
 -- `renumber::raise_numbers`: the first j numbers are raised, the rest is as it was. The measure is n - j.
 -- Assumes nothing.
-use mathlib.Core.Path.{_≡_, refl, sym, ap, _∙_}
+use mathlib.Core.Path.{_≡_, refl, ap, _∙_}
 use mathlib.Core.List.{List}
 use Prim.Native.Nat.{ℕ, _+_, _-_, _≤_, _<_}
 use lib.ListN.{length, getD, set, length-set}

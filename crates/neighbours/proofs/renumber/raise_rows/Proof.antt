@@ -2,17 +2,16 @@
 -- Assumes nothing.
 use mathlib.Core.Path.{_≡_, refl, sym, ap, _∙_, subst}
 use mathlib.Core.List.{List, []}
-use Prim.Native.Nat.{ℕ, _+_, _-_, _*_, _≤_, _<_}
+use Prim.Native.Nat.{ℕ, _+_, _-_, _*_, _≤_}
 use lib.ListN.{length, getD}
 use Rattle.rows.specs.Part.{part}
 use Rattle.rows.specs.Rows.{rows}
 use Rattle.rows.proofs.Rows.{length-rows}
-use Rattle.rows.proofs.Parts.{length-part}
 use Rattle.refs.specs.Refs.{Below}
 use Rattle.refs.proofs.Places.{row-end}
 use Rattle.refs.proofs.Shifts.{done, done-start, done-all}
 use Rattle.block.specs.View.{byteAt}
-use Rattle.neighbours.specs.Raised.{raised, raisedRow}
+use Rattle.neighbours.specs.Raised.{raisedRow}
 use Rattle.neighbours.proofs.RaisedRows.{few-in, below-in, count-was, numbers-were, rows-more}
 use native.Mathlib.Omega.{arith}
 use borrow.Author.Needs.{needs}

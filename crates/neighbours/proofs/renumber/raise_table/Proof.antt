@@ -1,11 +1,9 @@
 -- `renumber::raise_table`: the part that is lent comes back with its rows raised, and nothing else has changed.
 -- Assumes nothing.
-use mathlib.Core.Path.{_≡_, sym, ap, _∙_}
-use mathlib.Core.List.{List}
-use Prim.Native.Nat.{ℕ, _+_, _-_, _*_, _≤_}
-use lib.ListN.{length, take, drop, length-drop}
-use lib.Seq.{length-take-le}
-use Rattle.rows.specs.Part.{part, put}
+use mathlib.Core.Path.{_≡_, ap, _∙_}
+use Prim.Native.Nat.{_-_}
+use lib.ListN.{length}
+use Rattle.rows.specs.Part.{part}
 use Rattle.rows.specs.Rows.{rows}
 use Rattle.rows.proofs.Parts.{length-part, length-put, loan-put}
 use Rattle.rows.proofs.Views.{loan-part, loan-only}

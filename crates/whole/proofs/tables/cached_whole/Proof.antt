@@ -20,7 +20,8 @@ use Rattle.block.specs.View.{limitsOf, stateOf, cachedIn, cachedOf}
 use Rattle.block.specs.Fit.{Fit}
 use Rattle.block.specs.declared.head.Head.{Head}
 use Rattle.whole.specs.Held.{adjoin, placesName}
-use Rattle.whole.specs.Parts.{tableOf, lengthAt, cacheWhole, cachedCache, cachedWhole}
+use Rattle.block.specs.TimeCaches.{cachedCache}
+use Rattle.whole.specs.Parts.{tableOf, lengthAt, cacheWhole, cachedWhole}
 use Rattle.whole.proofs.Tests.{stops, ends, from-each, no, yes}
 use Rattle.whole.proofs.LentLaws.{cache-sound, cache-below, rows-lent, refs-lent, length-open}
 use Rattle.whole.proofs.ContentLaws.{content-held}

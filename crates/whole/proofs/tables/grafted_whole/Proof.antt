@@ -16,7 +16,8 @@ use Rattle.block.specs.View.{limitsOf, stateOf, graftedIn, graftsOf}
 use Rattle.block.specs.Fit.{Fit}
 use Rattle.block.specs.declared.head.Head.{Head}
 use Rattle.whole.specs.Held.{numbersName, allLists}
-use Rattle.whole.specs.Parts.{tableOf, cacheWhole, graftList, graftedCache, graftedWhole}
+use Rattle.block.specs.TimeCaches.{graftedCache}
+use Rattle.whole.specs.Parts.{tableOf, cacheWhole, graftList, graftedWhole}
 use Rattle.whole.proofs.Tests.{stops, no, yes}
 use Rattle.whole.proofs.LentLaws.{cache-sound, lists-lent}
 use Rattle.whole.proofs.HopLaws.{grafted-lists}

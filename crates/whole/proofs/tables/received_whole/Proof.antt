@@ -10,7 +10,8 @@ use Rattle.time_cache.specs.declared.cache.TimeBoundCache.{TimeBoundCache}
 use Rattle.block.specs.View.{limitsOf, stateOf, receivedIn, nothingOf}
 use Rattle.block.specs.Fit.{Fit}
 use Rattle.block.specs.declared.head.Head.{Head}
-use Rattle.whole.specs.Parts.{receivedCache, receivedWhole}
+use Rattle.block.specs.TimeCaches.{receivedCache}
+use Rattle.whole.specs.Parts.{receivedWhole}
 use Rattle.whole.proofs.LentLaws.{cache-sound}
 use Rattle.whole.proofs.tables.received_whole.Statement.{statement}
 use Rattle.whole.proofs.tables.received_whole.Tie as tie

@@ -1,8 +1,8 @@
 -- `grafted_cache`: where the two tables are.
 -- Assumes nothing.
 use borrow.Author.Needs.{needs}
-use Rattle.whole.proofs.tables.grafted_cache.Statement.{statement}
-use Rattle.whole.proofs.tables.grafted_cache.Tie as tie
+use Rattle.block.proofs.time_caches.grafted_cache.Statement.{statement}
+use Rattle.block.proofs.time_caches.grafted_cache.Tie as tie
 
 grafted-at-requires : tie.Need-grafted-at-requires
 grafted-at-requires c κs = search needs

@@ -1,8 +1,8 @@
 -- `cached_cache`: where the two tables are.
 -- Assumes nothing.
 use borrow.Author.Needs.{needs}
-use Rattle.caches.proofs.cached.cached_cache.Statement.{statement}
-use Rattle.caches.proofs.cached.cached_cache.Tie as tie
+use Rattle.block.proofs.time_caches.cached_cache.Statement.{statement}
+use Rattle.block.proofs.time_caches.cached_cache.Tie as tie
 
 cached-at-requires : tie.Need-cached-at-requires
 cached-at-requires c κs = search needs

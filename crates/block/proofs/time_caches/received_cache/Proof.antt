@@ -1,8 +1,8 @@
 -- `received_cache`: where the two tables are.
 -- Assumes nothing.
 use borrow.Author.Needs.{needs}
-use Rattle.caches.proofs.received.received_cache.Statement.{statement}
-use Rattle.caches.proofs.received.received_cache.Tie as tie
+use Rattle.block.proofs.time_caches.received_cache.Statement.{statement}
+use Rattle.block.proofs.time_caches.received_cache.Tie as tie
 
 received-at-requires : tie.Need-received-at-requires
 received-at-requires c κs = search needs

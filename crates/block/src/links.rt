@@ -6,7 +6,7 @@ ghost use mathlib.Core.Path.{_≡_};
 ghost use Prim.Native.Nat.{_<_};
 ghost use Rattle.rows.specs.Sorted.{FoundIs};
 ghost use Rattle.lists.specs.Map.{keys};
-ghost use Rattle.protocol.specs.Links.{isEager, markIfThere, addEager, addLazy};
+ghost use Rattle.protocol.specs.Links.{isEager, markIfThere, addLazy};
 ghost use Rattle.block.specs.View.{stateOf, markOf};
 ghost use Rattle.block.specs.Fit.{Fit};
 ghost use Rattle.block.specs.Sound.{Sound};
@@ -84,14 +84,6 @@ fn mark_peer(h: Head, block: &mut [u8], peer: u64, to_eager: bool)
         }
         Found::Before(_) => {}
     }
-}
-
-// `add_eager`, wherever a step other than "up" makes a peer eager.
-pub fn add_eager(h: Head, block: &mut [u8], peer: u64)
-    requires { ⌜ Sound h (now block) × LinksAscend h (now block) ⌝ }
-    ensures { λ _. ⌜ Goes (linked (addEager peer)) h (now (block .entry)) h (now (block .exit)) ⌝ }
-{
-    mark_peer(h, block, peer, true);
 }
 
 // `add_lazy`.

@@ -15,7 +15,7 @@ ghost use lib.ListN.{length};
 ghost use Rattle.lists.specs.Map.{keys};
 ghost use Rattle.rows.specs.Ident.{idOf};
 ghost use Rattle.rows.specs.Sorted.{FoundIs};
-ghost use Rattle.time_cache.specs.TimeCache.{holds, laterCache};
+ghost use Rattle.time_cache.specs.TimeCache.{laterCache};
 ghost use Rattle.block.specs.View.{stateOf};
 ghost use Rattle.block.specs.Sound.{Sound};
 ghost use Rattle.block.specs.Goes.{Goes};
@@ -29,15 +29,6 @@ pub fn find_grafted(h: Head, block: &[u8], id: Id) -> Found
 {
     let c = time_caches::grafted_cache(h);
     c.find(block, id)
-}
-
-// Whether a message has grafted peers.
-pub fn contains_grafted(h: Head, block: &[u8], id: Id) -> bool
-    requires { ⌜ Sound h (now block) × InOrder (stateOf h (now block) .grafted) ⌝ }
-    ensures { λ r. ⌜ r ≡ holds (idOf id) (stateOf h (now (block .entry)) .grafted) ⌝ }
-{
-    let c = time_caches::grafted_cache(h);
-    c.contains_key(block, id)
 }
 
 // `expire_until` of the grafted messages.
@@ -109,13 +100,4 @@ pub fn grafted_rows_later(h: Head, block: &[u8], instant: Millis) -> usize
 {
     let c = time_caches::grafted_cache(h);
     c.rows_later(block, instant)
-}
-
-// Whether `expire_until` leaves a message among the grafted messages.
-pub fn is_grafted_later(h: Head, block: &[u8], id: Id, instant: Millis) -> bool
-    requires { ⌜ Sound h (now block) × InOrder (stateOf h (now block) .grafted) ⌝ }
-    ensures { λ r. ⌜ r ≡ holds (idOf id) (laterCache (instant .0) (stateOf h (now (block .entry)) .grafted)) ⌝ }
-{
-    let c = time_caches::grafted_cache(h);
-    c.contains_later(block, id, instant)
 }

@@ -3,26 +3,14 @@ use block::head::Head;
 use block::time_caches;
 use postcard::units::Millis;
 use rows::id::Id;
-use rows::table::Found;
 ghost use mathlib.Core.Path.{_≡_};
 ghost use lib.ListN.{length};
-ghost use Rattle.lists.specs.Map.{keys};
 ghost use Rattle.rows.specs.Ident.{idOf};
-ghost use Rattle.rows.specs.Sorted.{FoundIs};
 ghost use Rattle.time_cache.specs.TimeCache.{holds, put, laterCache};
 ghost use Rattle.block.specs.View.{stateOf};
 ghost use Rattle.block.specs.Sound.{Sound};
 ghost use Rattle.block.specs.Goes.{Goes};
 ghost use Rattle.caches.specs.InBlock.{InOrder, AtMost, receivedAlso, receivedLeft};
-
-// Where an identifier stands among the received messages, or before which it would stand.
-pub fn find_received(h: Head, block: &[u8], id: Id) -> Found
-    requires { ⌜ Sound h (now block) × InOrder (stateOf h (now block) .received) ⌝ }
-    ensures { λ r. ⌜ FoundIs (keys (stateOf h (now (block .entry)) .received .entries)) (idOf id) r ⌝ }
-{
-    let c = time_caches::received_cache(h);
-    c.find(block, id)
-}
 
 // Whether a message is received.
 pub fn is_received(h: Head, block: &[u8], id: Id) -> bool

@@ -14,7 +14,7 @@ use Rattle.rows.specs.Part.{part}
 use Rattle.rows.specs.Rows.{rows}
 use Rattle.rows.proofs.Rows.{length-rows, getD-rows}
 use Rattle.time_cache.proofs.Orders.{all-at, below-of}
-use Rattle.protocol.specs.State.{State, Limits, limitsInRange, upTo, blockNeed}
+use Rattle.protocol.specs.State.{Limits, limitsInRange, upTo, blockNeed}
 use Rattle.protocol.specs.Whole.{contentHeld, whole}
 use Rattle.block.specs.Layout.{tables}
 use Rattle.block.specs.View.{limitsOf, byteAt, fourAt, viewOf, stateOf}
@@ -148,11 +148,6 @@ sound-of h block a =
     let l : Limits = limitsOf (h .limits) in
     let e = each (hasTables l block) (countsWithin l (h .live) ∷ laidOut h (tables l block) ∷ []) a in
     record { fit = fit-of h block (e .0) (e .1 .0); laid = laid-of h (tables l block) (e .1 .1 .0) }
-
--- a block that holds a state: its header fits it, and the state is the view of its tables
-pub record Holding (block : List ℕ) (s : State) : Type 0 where
-  pub sound : Sound (headIn block) block
-  pub state : s ≡ stateOf (headIn block) block
 
 -- a block that is whole: it holds the state of its tables, and that state is whole
 pub record Wholly (block : List ℕ) : Type 0 where

@@ -13,10 +13,11 @@ use Rattle.block.specs.LinkSteps.{peerAt}
 use Rattle.block.specs.declared.head.Head.{Head}
 use Rattle.block.specs.declared.hops.Hop.{Hop as LinkHop}
 
--- grafted message i, and its grafts
+-- grafted message i
 abbrev pub graftedAt : State → ℕ → Entry (Timed Grafts)
 graftedAt s i = getD (s .grafted .entries) i (entry 0 (record { expires = 0; value = record { first = none; kept = none; peers = [] } }))
 
+-- the grafts of grafted message i
 abbrev pub graftsAt : State → ℕ → Grafts
 graftsAt s i = graftedAt s i .value .value
 

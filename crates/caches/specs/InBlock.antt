@@ -17,12 +17,15 @@ use Rattle.block.specs.declared.head.Head.{Head}
 abbrev pub cacheFrom : Limits → ℕ → ℕ → ℕ → ℕ → ℕ → ℕ → TimeBoundCache
 cacheFrom l i s n j t m = record { entries = record { at = place l i; stride = s; len = n }; expiry = record { at = place l j; stride = t; len = m } }
 
+-- where the received messages are
 abbrev pub receivedCache : Head → TimeBoundCache
 receivedCache h = cacheFrom (limitsOf (h .limits)) 2 2 (h .live .received) 3 40 (h .live .«received_rows»)
 
+-- where the message cache is
 abbrev pub cachedCache : Head → TimeBoundCache
 cachedCache h = cacheFrom (limitsOf (h .limits)) 4 4 (h .live .cached) 5 48 (h .live .«cached_rows»)
 
+-- where the grafted messages are
 abbrev pub graftedCache : Head → TimeBoundCache
 graftedCache h = cacheFrom (limitsOf (h .limits)) 7 119 (h .live .grafted) 8 40 (h .live .«grafted_rows»)
 
@@ -31,7 +34,7 @@ pub record InOrder {A : Type 0} (c : Cache A) : Type 0 where
   pub up : ascending (keys (c .entries)) ≡ true
   pub order : inPopOrder (c .expiry) ≡ true
 
--- at most n entries, and "expiry entries: 2R, 2C, 2G"
+-- at most n entries, and twice as many expiry entries: "Expiry entries: 2R, 2C, 2G"
 pub record AtMost {A : Type 0} (n : ℕ) (c : Cache A) : Type 0 where
   pub entries : length (c .entries) ≤ n
   pub expiry : length (c .expiry) ≤ 2 * n

@@ -51,7 +51,9 @@
  *     gets block and counts as the one before left them. Times may go back, calls may be refused, links may hand back what they like.
  *   - From an accepted creation on, no call is answered 5 as long as nobody else writes the block.
  *
- * A block is plain bytes: it can be copied, or kept and lent again later, with its counts.
+ * A block is plain bytes: it can be copied, or kept and lent again later, with its counts. A call that is cut off (power, a killed process)
+ * can leave it half written, and question 5 does not find every such block: whoever keeps a block over that goes on from a copy made
+ * between two calls.
  */
 #ifndef PLUMTREE_H
 #define PLUMTREE_H
@@ -275,8 +277,13 @@ struct plumtree_likeness plumtree_alike(const uint8_t *a, size_t a_length, const
  * Send: the message is for that peer. Taken: put it onto the link. Handed back: the link had no room in this call (struct
  * plumtree_link_room); put nothing there, the panel has noted what it has to announce later. Its length is not written: it ends where its
  * fields end. It can be one byte longer than M: a round that goes from 127 to 128 takes a byte more.
- * Schedule: when `delay` milliseconds have passed, call with the event `02 TIMER`. A timer is never taken back.
- * Emit: a new message, for the panel's own use; `peer` brought it, with this round.
+ * Schedule: when `delay` milliseconds have passed, call with the event `02 TIMER`. A timer is never taken back. A timer whose event is refused
+ * has not fired: tell it again, with a longer output (14) or later (13); what waits for it is not scheduled anew.
+ * Emit: a new message, for the panel's own use; `peer` brought it, with this round. A panel's own broadcasts are not emitted.
+ *
+ * A broadcast that would be over M bytes on its way is accepted and sent to nobody. So a content has at most 4,055 bytes where M is 4,094 and
+ * 471 where it is 510, three more for Neighbors: "Size is content + its length's groups + 37, or 34 for Neighbors." A Gossip whose
+ * identifier is not that of its content is accepted, counted, and leads to nothing.
  *
  * Examples, in hexadecimal: `03 02` neighbour 2 is up. `02 01` DispatchLazyPush fired. `00 05 01` a Prune from 5.
  * `01 05 31 34 35 32 43 00` broadcast of "1452C" to all panels. The action `02 E8 07 02`: schedule EvictCache in 1,000.

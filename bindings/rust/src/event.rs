@@ -46,7 +46,8 @@ pub enum Event<'a> {
         /// Who it is for.
         scope: Scope,
     },
-    /// A timer fired that an [`Action::Schedule`](crate::Action::Schedule) asked for.
+    /// A timer fired that an [`Action::Schedule`](crate::Action::Schedule) asked for. Where this is refused it has not fired, and is to be told
+    /// again: what waits for it is not scheduled anew.
     Timer(Timer),
     /// A peer is a neighbour from now on.
     Up(u64),

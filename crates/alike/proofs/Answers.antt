@@ -11,7 +11,7 @@ use lib.ListN.{length}
 use Rattle.lists.specs.Base.{if_then_else_}
 use Rattle.lists.proofs.MapLaws.{and-left, and-right, and-intro}
 use Rattle.protocol.specs.State.{State, limitsInRange, blockNeed}
-use Rattle.protocol.specs.Whole.{whole, longEnough, wholeBlock as wholeOf}
+use Rattle.protocol.specs.Whole.{whole, longEnough, wholeState}
 use Rattle.protocol.specs.Alike.{notWhole, likenessOf}
 use Rattle.block.specs.View.{limitsOf, stateOf}
 use Rattle.block.specs.Layout.{tables}
@@ -23,12 +23,12 @@ use Rattle.whole.proofs.Tests.{conj}
 use Rattle.alike.proofs.Lists.{and-no}
 
 -- a block that is not whole
-no-state : (n : ℕ) (o : Option State) → wholeHeld o ≡ false → wholeOf n o ≡ none
-unfolding wholeHeld wholeOf
+no-state : (n : ℕ) (o : Option State) → wholeHeld o ≡ false → wholeState n o ≡ none
+unfolding wholeHeld wholeState
 no-state n none e = refl
 no-state n (some s) e = ap (λ (b : Bool). if b then some s else none) (and-no (longEnough n s) (whole s) e)
 
-pub not-whole : (xs : List ℕ) → wholeBlock xs ≡ false → wholeOf (length xs) (held xs) ≡ none
+pub not-whole : (xs : List ℕ) → wholeBlock xs ≡ false → wholeState (length xs) (held xs) ≡ none
 unfolding wholeBlock
 not-whole xs e = no-state (length xs) (held xs) e
 
@@ -46,11 +46,11 @@ module _ (xs : List ℕ) (w : Wholly xs) where
       (and-left (hasTables (limitsOf (h .limits)) xs) (countsWithin (limitsOf (h .limits)) (h .live))
       (and-left (hasTables (limitsOf (h .limits)) xs && countsWithin (limitsOf (h .limits)) (h .live)) (laidOut h (tables (limitsOf (h .limits)) xs)) (w .holds)))
 
-  pub whole-state : wholeOf (length xs) (held xs) ≡ some (stateOf (headIn xs) xs)
-  unfolding wholeOf
+  pub whole-state : wholeState (length xs) (held xs) ≡ some (stateOf (headIn xs) xs)
+  unfolding wholeState
   whole-state =
       let s : State = stateOf (headIn xs) xs in
-      ap (wholeOf (length xs)) (w .state) ∙ ap (λ (b : Bool). if b then some s else none) (and-intro {a = longEnough (length xs) s} {b = whole s} long (w .whole))
+      ap (wholeState (length xs)) (w .state) ∙ ap (λ (b : Bool). if b then some s else none) (and-intro {a = longEnough (length xs) s} {b = whole s} long (w .whole))
 
 pub second-not : (o : Option State) → likenessOf o none ≡ notWhole
 unfolding likenessOf

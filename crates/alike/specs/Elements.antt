@@ -14,11 +14,13 @@ use Rattle.alike.specs.declared.bags.Bag.{Bag}
 use Rattle.alike.specs.declared.bags.Bag.the-variants.{Queue, Record, Received, Grafted, Cached, Announcers}
 use Rattle.alike.specs.declared.bags.Item.{Item}
 
+-- an element: a peer or a time, an identifier, a round; 0 for what it has not
 pub record Element : Type 0 where
   pub a : ℕ
   pub id : ℕ
   pub b : ℕ
 
+-- the same, made of its three numbers
 abbrev pub element : ℕ → ℕ → ℕ → Element
 element a i b = record { a = a; id = i; b = b }
 
@@ -26,12 +28,15 @@ element a i b = record { a = a; id = i; b = b }
 unfoldable pub sameElement : Element → Element → Bool
 sameElement x y = eqb (x .a) (y .a) && eqb (x .id) (y .id) && eqb (x .b) (y .b)
 
+-- a note
 abbrev pub noteElement : Note → Element
 noteElement n = element (n .peer) (n .id) (n .round)
 
+-- an announcer
 abbrev pub hopElement : Hop → Element
 hopElement h = element (h .peer) 0 (h .round)
 
+-- an expiry entry
 abbrev pub expiryElement : Expiry → Element
 expiryElement x = element (x .time) (x .key) 0
 

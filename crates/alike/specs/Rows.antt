@@ -19,17 +19,19 @@ use Rattle.alike.specs.declared.tables.Table.{Table}
 use Rattle.alike.specs.declared.tables.Table.the-variants.{Links, Missing, Timers, Received, Grafted, Cached as CachedRows}
 use Rattle.alike.specs.declared.tables.Sender.{Sender}
 
--- two entries of maps, and two values of time caches
+-- two entries of maps
 abbrev pub sameEntry : {A : Type 0} → (A → A → Bool) → Entry A → Entry A → Bool
 sameEntry same d e = eqb (d .key) (e .key) && same (d .value) (e .value)
 
+-- two values of time caches
 abbrev pub sameTimed : {A : Type 0} → (A → A → Bool) → Timed A → Timed A → Bool
 sameTimed same x y = eqb (x .expires) (y .expires) && same (x .value) (y .value)
 
--- received message i, and cached message i with its expiry
+-- received message i with its expiry
 abbrev pub receivedAt : State → ℕ → Entry (Timed (Unit {0}))
 receivedAt s i = getD (s .received .entries) i (entry 0 (record { expires = 0; value = tt }))
 
+-- cached message i with its expiry
 abbrev pub cachedEntry : State → ℕ → Entry (Timed Cached)
 cachedEntry s i = getD (s .cache .entries) i (entry 0 (record { expires = 0; value = record { content = []; round = 0 } }))
 
@@ -60,9 +62,10 @@ rowsOf Received v = v .received
 rowsOf Grafted v = v .grafted
 rowsOf CachedRows v = v .cached
 
--- the `first` and the `kept` of a grafted message
+-- the `first` of a grafted message
 abbrev pub firstOf : Sender → Option Hop
 firstOf z = onlyIf (z .there) (record { peer = z .peer; round = z .round })
 
+-- the `kept` of a grafted message
 abbrev pub keptOf : Sender → Option ℕ
 keptOf z = onlyIf (z .there) (z .peer)

@@ -4,6 +4,7 @@ ghost use mathlib.Core.Path.{_≡_};
 ghost use Rattle.blake3.specs.Blake3.{bytesOf};
 ghost use Rattle.blake3.specs.Shape.{valueOf};
 
+// A word as a number of 64 bits.
 fn wide(x: u32) -> u64
     ensures { λ r. ⌜ r ≡ x ⌝ }
 {

@@ -75,6 +75,7 @@ fn g(v: State, x: Row, y: Row) -> State
     half(half(v, x, 16, 12), y, 8, 7)
 }
 
+// A byte as an index.
 fn wide(x: u8) -> usize
     ensures { λ r. ⌜ r ≡ x ⌝ }
 {

@@ -36,6 +36,7 @@ pub record Within (l : Limits) (v : Live) : Type 0 where
   pub queued : v .queued ≤ l .Q
   pub dropped : v .dropped ≤ l .D
 
+-- limits within the ceilings, rows within the limits, and a block that has all tables
 pub record Fit (h : Head) (block : List ℕ) : Type 0 where
   pub ceilings : Ceilings (limitsOf (h .limits))
   pub within : Within (limitsOf (h .limits)) (h .live)

@@ -27,13 +27,15 @@ wordAt at block = leNat (part at 8 block)
 abbrev pub halfWordAt : ℕ → List ℕ → ℕ
 halfWordAt at block = leNat (part at 2 block)
 
+-- a flag as a number
 abbrev pub bit : Bool → ℕ
 bit b = if b then 1 else 0
 
+-- a number as a flag: any but 0 is set
 abbrev pub flag : ℕ → Bool
 flag n = if eqb n 0 then false else true
 
--- the numbers of each part of the header, in their order
+-- the settings, in their order
 abbrev pub settingsWords : Settings → List ℕ
 settingsWords c =
     c .config .«graft_timeout_1» .0
@@ -47,9 +49,11 @@ settingsWords c =
     ∷ c .me
     ∷ []
 
+-- the limits, in the order of the ceilings
 abbrev pub limitsWords : Limits → List ℕ
 limitsWords l = l .neighbours ∷ l .received ∷ l .cached ∷ l .content ∷ l .grafted ∷ l .missing ∷ l .timers ∷ l .queued ∷ l .dropped ∷ []
 
+-- how many rows each table has in use, then the flags
 abbrev pub liveWords : Live → List ℕ
 liveWords v =
     v .links
@@ -69,7 +73,7 @@ liveWords v =
     ∷ bit (v .init)
     ∷ []
 
--- the parts of the header, read from a block
+-- `Config`, read from a block; likewise the other parts of the header
 abbrev pub configIn : List ℕ → Config
 configIn xs = record {
   «graft_timeout_1» = record { 0 = wordAt 0 xs };
@@ -81,9 +85,11 @@ configIn xs = record {
   «cache_evict_interval» = record { 0 = wordAt 48 xs };
 }
 
+-- the settings
 abbrev pub settingsIn : List ℕ → Settings
 settingsIn xs = record { config = configIn xs; «max_message_size» = wordAt 56 xs; me = wordAt 64 xs }
 
+-- the limits
 abbrev pub limitsIn : List ℕ → Limits
 limitsIn xs = record {
   neighbours = wordAt 72 xs;
@@ -97,6 +103,7 @@ limitsIn xs = record {
   dropped = wordAt 136 xs;
 }
 
+-- the rows in use and the flags
 abbrev pub liveIn : List ℕ → Live
 liveIn xs = record {
   links = wordAt 144 xs;
@@ -116,9 +123,11 @@ liveIn xs = record {
   init = flag (wordAt 256 xs);
 }
 
+-- the header
 abbrev pub headIn : List ℕ → Head
 headIn xs = record { settings = settingsIn xs; limits = limitsIn xs; live = liveIn xs }
 
+-- the header's bytes
 unfoldable pub headBytes : Head → List ℕ
 headBytes h = wordsBytes (settingsWords (h .settings)) ++ (wordsBytes (limitsWords (h .limits)) ++ wordsBytes (liveWords (h .live)))
 

@@ -5,9 +5,11 @@ use mathlib.Core.Bool.{Bool}
 use Rattle.block.specs.declared.head.Head.{Head}
 use Rattle.block.specs.declared.head.Live.{Live}
 
+-- the header with other rows in use and flags
 abbrev pub withLive : Live → Head → Head
 withLive v h = record { settings = h .settings; limits = h .limits; live = v }
 
+-- the header with another number of links; likewise, of what its name says, the ten that follow
 abbrev pub withLinkCount : ℕ → Head → Head
 withLinkCount x h = withLive (record { links = x; received = h .live .received; «received_rows» = h .live .«received_rows»; cached = h .live .cached; «cached_rows» = h .live .«cached_rows»; contents = h .live .contents; grafted = h .live .grafted; «grafted_rows» = h .live .«grafted_rows»; missing = h .live .missing; timers = h .live .timers; queued = h .live .queued; dropped = h .live .dropped; «dispatch_timer_scheduled» = h .live .«dispatch_timer_scheduled»; «announce_dropped_scheduled» = h .live .«announce_dropped_scheduled»; init = h .live .init }) h
 

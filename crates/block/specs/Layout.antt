@@ -35,9 +35,10 @@ place l i = start (sizes l) i
 abbrev pub end : Limits → ℕ
 end l = total (sizes l)
 
--- the block as its tables, and table i of it
+-- the block as its tables
 abbrev pub tables : Limits → List ℕ → List (List ℕ)
 tables l block = cut (sizes l) block
 
+-- table i of the block
 abbrev pub table : Limits → ℕ → List ℕ → List ℕ
 table l i block = getD (tables l block) i []

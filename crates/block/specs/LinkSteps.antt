@@ -16,6 +16,7 @@ use Rattle.block.specs.declared.head.Head.{Head}
 abbrev pub LinksAscend : Head → List ℕ → Type 0
 LinksAscend h block = ascending (keys (stateOf h block .links)) ≡ true
 
+-- eager if so, else lazy
 abbrev pub markFor : Bool → Mark
 markFor b = if b then eager else lazy
 

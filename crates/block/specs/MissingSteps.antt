@@ -20,16 +20,19 @@ use Rattle.block.specs.declared.hops.Hop.{Hop as LinkHop}
 abbrev pub MissingAscend : Head → List ℕ → Type 0
 MissingAscend h block = ascending (keys (stateOf h block .missing)) ≡ true
 
+-- an announcer of a peer and a round
 abbrev pub hop : ℕ → ℕ → Hop
 hop p r = record { peer = p; round = r }
 
--- missing message i, and its announcers
+-- missing message i
 abbrev pub missedAt : State → ℕ → Entry (List Hop)
 missedAt s i = getD (s .missing) i (entry 0 [])
 
+-- the announcers of missing message i
 abbrev pub hopsAt : State → ℕ → List Hop
 hopsAt s i = missedAt s i .value
 
+-- the announcer is this peer
 abbrev pub fromPeer : ℕ → Hop → Bool
 fromPeer p x = eqb (x .peer) p
 
@@ -46,6 +49,7 @@ missAlso id s = withMissing (insert id [] (s .missing)) s
 abbrev pub missOut : ℕ → State → State
 missOut id s = withMissing (remove id (s .missing)) s
 
+-- missing message i is no longer missing
 abbrev pub missOutAt : ℕ → State → State
 missOutAt i s = missOut (missedAt s i .key) s
 
@@ -81,6 +85,7 @@ newWith id l r s = withMissing (insert id (hop (peerAt s l) r ∷ []) (s .missin
 abbrev pub announced : ℕ → Hop → State → State
 announced id h s = withMissing (insert id (addAnnouncer h (announcers id s)) (s .missing)) s
 
+-- the same by the peer of a link
 abbrev pub announcedBy : ℕ → ℕ → ℕ → State → State
 announcedBy id l r s = announced id (hop (peerAt s l) r) s
 

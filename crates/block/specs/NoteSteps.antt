@@ -16,6 +16,7 @@ use Rattle.block.specs.declared.head.Head.{Head}
 use Rattle.block.specs.declared.note.Note.{Note as LinkNote}
 use Rattle.block.specs.declared.note.Scan.{Scan}
 
+-- a note of a peer, an identifier and a round
 abbrev pub note : ℕ → ℕ → ℕ → Note
 note p i r = record { peer = p; id = i; round = r }
 
@@ -43,10 +44,11 @@ pub record NoteIs (h : Head) (block : List ℕ) (ns : List Note) (i : ℕ) (r : 
   pub below : r .link < h .live .links
   pub same : getD ns i (note 0 0 0) ≡ noteFor (stateOf h block) (r .link) (idOf (r .id)) (r .round .0)
 
--- a note more
+-- a note more in the queue
 abbrev pub queueAlso : ℕ → ℕ → ℕ → State → State
 queueAlso l i r s = withQueue (s .queue ++ (noteFor s l i r ∷ [])) s
 
+-- a note more in the record
 abbrev pub dropAlso : ℕ → ℕ → ℕ → State → State
 dropAlso l i r s = withDropped (s .dropped ++ (noteFor s l i r ∷ [])) s
 

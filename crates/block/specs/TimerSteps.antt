@@ -15,9 +15,11 @@ use Rattle.block.specs.declared.head.Head.{Head}
 abbrev pub TimersAscend : Head → List ℕ → Type 0
 TimersAscend h block = ascending (stateOf h block .graftTimers) ≡ true
 
+-- a timer more
 abbrev pub timerAlso : ℕ → State → State
 timerAlso id s = withGraftTimers (insertKey id (s .graftTimers)) s
 
+-- a timer less
 abbrev pub timerOut : ℕ → State → State
 timerOut id s = withGraftTimers (removeKey id (s .graftTimers)) s
 

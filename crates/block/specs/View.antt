@@ -21,7 +21,7 @@ use Rattle.block.specs.declared.head.Head.{Head}
 use Rattle.block.specs.declared.head.Settings.{Settings as HeadSettings}
 use Rattle.block.specs.declared.head.Limits.{Limits as HeadLimits}
 
--- the header's settings and limits as document 01's
+-- the header's settings, as document 01's
 abbrev pub settingsOf : HeadSettings → Settings
 settingsOf c = record {
   graftTimeout1 = c .config .«graft_timeout_1» .0;
@@ -35,6 +35,7 @@ settingsOf c = record {
   me = c .me;
 }
 
+-- the header's limits, as document 01's
 abbrev pub limitsOf : HeadLimits → Limits
 limitsOf l = record { N = l .neighbours; R = l .received; C = l .cached; B = l .content; G = l .grafted; S = l .missing; T = l .timers; Q = l .queued; D = l .dropped }
 
@@ -58,6 +59,7 @@ idAt o row = beNat (part o 32 row)
 abbrev pub flagOf : ℕ → Bool
 flagOf b = if eqb b 0 then false else true
 
+-- the value where the flag is set
 abbrev pub onlyIf : {A : Type 0} → Bool → A → Option A
 onlyIf b a = if b then some a else none
 
@@ -69,6 +71,7 @@ markOf b = if eqb b 0 then eager else lazy
 unfoldable pub linkOf : List ℕ → Entry Mark
 linkOf row = entry (fieldOf 0 row) (markOf (byteAt 8 row))
 
+-- the first n links
 unfoldable pub linksIn : ℕ → List ℕ → Links
 linksIn n bytes = map linkOf (rows 16 n bytes)
 
@@ -90,6 +93,7 @@ numbered f s n numbers bytes = pairs f (take n numbers) (rows s n bytes)
 unfoldable pub noteOf : List ℕ → ℕ → List ℕ → Note
 noteOf peers l row = record { peer = peerOf peers l; id = idAt 0 row; round = halfAt 32 row }
 
+-- the first n notes
 unfoldable pub notesIn : List ℕ → ℕ → List ℕ → List ℕ → List Note
 notesIn peers n numbers bytes = numbered (noteOf peers) 34 n numbers bytes
 
@@ -101,12 +105,15 @@ hopsIn f list = numbered f 2 (byteAt 0 list) (drop 1 list) (drop 33 list)
 unfoldable pub hopOf : List ℕ → ℕ → List ℕ → Hop
 hopOf peers l row = record { peer = peerOf peers l; round = leNat row }
 
+-- the announcers in a row
 unfoldable pub hopsOf : List ℕ → List ℕ → List Hop
 hopsOf peers row = hopsIn (hopOf peers) (drop 32 row)
 
+-- a row: the identifier and its announcers
 unfoldable pub missedOf : List ℕ → List ℕ → Entry (List Hop)
 missedOf peers row = entry (idAt 0 row) (hopsOf peers row)
 
+-- the first n rows
 unfoldable pub missingIn : List ℕ → ℕ → List ℕ → Map (List Hop)
 missingIn peers n bytes = map (missedOf peers) (rows 129 n bytes)
 
@@ -118,6 +125,7 @@ timersIn n bytes = map (idAt 0) (rows 32 n bytes)
 abbrev pub nothingOf : List ℕ → List ℕ → Unit {0}
 nothingOf own rest = tt
 
+-- n entries and m expiry rows
 unfoldable pub receivedIn : ℕ → List ℕ → ℕ → List ℕ → Cache (Unit {0})
 receivedIn n entries m expiry = cacheIn nothingOf 2 n entries 40 m expiry
 
@@ -125,9 +133,11 @@ receivedIn n entries m expiry = cacheIn nothingOf 2 n entries 40 m expiry
 unfoldable pub contentOf : List ℕ → List ℕ → List ℕ
 contentOf store rest = part (fourAt 0 rest) (fourAt 4 rest) store
 
+-- the value: content and round
 unfoldable pub cachedOf : List ℕ → List ℕ → List ℕ → Cached
 cachedOf store own rest = record { content = contentOf store rest; round = halfAt 0 own }
 
+-- n entries and m expiry rows
 unfoldable pub cachedIn : List ℕ → ℕ → List ℕ → ℕ → List ℕ → Cache Cached
 cachedIn store n entries m expiry = cacheIn (cachedOf store) 4 n entries 48 m expiry
 
@@ -135,6 +145,7 @@ cachedIn store n entries m expiry = cacheIn (cachedOf store) 4 n entries 48 m ex
 unfoldable pub roundOf : List ℕ → ℕ → List ℕ → Entry ℕ
 roundOf peers l row = entry (peerOf peers l) (leNat row)
 
+-- the value: first, kept and peers
 unfoldable pub graftsOf : List ℕ → List ℕ → List ℕ → Grafts
 graftsOf peers own rest = record {
   first = onlyIf (flagOf (byteAt 0 own)) (record { peer = fieldOf 1 own; round = halfAt 9 own });
@@ -142,6 +153,7 @@ graftsOf peers own rest = record {
   peers = hopsIn (roundOf peers) (drop 20 own);
 }
 
+-- n entries and m expiry rows
 unfoldable pub graftedIn : List ℕ → ℕ → List ℕ → ℕ → List ℕ → Cache Grafts
 graftedIn peers n entries m expiry = cacheIn (graftsOf peers) 119 n entries 40 m expiry
 
@@ -167,6 +179,7 @@ viewWith peers h t = record {
 abbrev pub peersIn : Head → List (List ℕ) → List ℕ
 peersIn h t = keys (linksIn (h .live .links) (getD t 1 []))
 
+-- the same with the peers that the links have
 abbrev pub viewOf : Head → List (List ℕ) → State
 viewOf h t = viewWith (peersIn h t) h t
 

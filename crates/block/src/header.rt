@@ -52,6 +52,7 @@ fn load_flag(block: &[u8], at: usize) -> bool
     true
 }
 
+// A flag as a number.
 fn bit_of(b: bool) -> u64
     ensures { λ r. ⌜ r ≡ bit b ⌝ }
 {
@@ -73,6 +74,7 @@ fn store_words(block: &mut [u8], at: usize, ws: &[u64])
     }
 }
 
+// `Config`, from the header.
 fn load_config(block: &[u8]) -> Config
     requires { ⌜ 2048 ≤ length (now block) ⌝ }
     ensures { λ r. ⌜ r ≡ configIn (now (block .entry)) ⌝ }
@@ -95,6 +97,7 @@ fn load_config(block: &[u8]) -> Config
     }
 }
 
+// The settings, from the header.
 fn load_settings(block: &[u8]) -> Settings
     requires { ⌜ 2048 ≤ length (now block) ⌝ }
     ensures { λ r. ⌜ r ≡ settingsIn (now (block .entry)) ⌝ }
@@ -109,6 +112,7 @@ fn load_settings(block: &[u8]) -> Settings
     }
 }
 
+// The limits, from the header.
 fn load_limits(block: &[u8]) -> Limits
     requires { ⌜ 2048 ≤ length (now block) ⌝ }
     ensures { λ r. ⌜ r ≡ limitsIn (now (block .entry)) ⌝ }
@@ -135,6 +139,7 @@ fn load_limits(block: &[u8]) -> Limits
     }
 }
 
+// The rows in use and the flags, from the header.
 fn load_live(block: &[u8]) -> Live
     requires { ⌜ 2048 ≤ length (now block) ⌝ }
     ensures { λ r. ⌜ r ≡ liveIn (now (block .entry)) ⌝ }
@@ -188,6 +193,7 @@ pub fn load_head(block: &[u8]) -> Head
     }
 }
 
+// The settings, into the header.
 fn store_settings(block: &mut [u8], s: Settings)
     requires { ⌜ 2048 ≤ length (now block) ⌝ }
     ensures { λ _. ⌜ now (block .exit) ≡ put 0 (wordsBytes (settingsWords s)) (now (block .entry)) ⌝ }
@@ -207,6 +213,7 @@ fn store_settings(block: &mut [u8], s: Settings)
     store_words(block, 0, &ws);
 }
 
+// The limits, into the header.
 fn store_limits(block: &mut [u8], l: Limits)
     requires { ⌜ 2048 ≤ length (now block) ⌝ }
     ensures { λ _. ⌜ now (block .exit) ≡ put 72 (wordsBytes (limitsWords l)) (now (block .entry)) ⌝ }
@@ -225,6 +232,7 @@ fn store_limits(block: &mut [u8], l: Limits)
     store_words(block, 72, &ws);
 }
 
+// The rows in use and the flags, into the header.
 fn store_live(block: &mut [u8], v: Live)
     requires { ⌜ 2048 ≤ length (now block) ⌝ }
     ensures { λ _. ⌜ now (block .exit) ≡ put 144 (wordsBytes (liveWords v)) (now (block .entry)) ⌝ }

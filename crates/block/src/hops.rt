@@ -15,6 +15,7 @@ pub struct Hop {
     pub round: Round,
 }
 
+// A byte as an index.
 fn wide(x: u8) -> usize
     ensures { λ r. ⌜ (r ≡ x) × (r < 256) ⌝ }
 {

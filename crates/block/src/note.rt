@@ -32,6 +32,7 @@ pub struct Scan {
     pub noted: bool,
 }
 
+// A byte as an index.
 fn wide(x: u8) -> usize
     ensures { λ r. ⌜ r ≡ x ⌝ }
 {

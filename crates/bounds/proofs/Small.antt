@@ -16,7 +16,7 @@ use Rattle.protocol.specs.Links.{Mark, Links, isEager, peersMarked, eagerPeers}
 use Rattle.protocol.specs.State.{State, Cached, withInit, withReceived, withGrafted, withCache}
 use Rattle.protocol.specs.Push.{eagerTargets}
 use Rattle.decide.specs.Settled.{settled}
-use Rattle.decide.specs.SizesAfter.{contentOf}
+use Rattle.decide.specs.SizesAfter.{contentLength}
 use Rattle.block.specs.View.{stateOf}
 use Rattle.block.specs.Sound.{Sound, held}
 use Rattle.block.specs.declared.head.Head.{Head}
@@ -53,12 +53,12 @@ small-settled now s small = by (s .init)
     }
 
 -- a cached content is one of the contents
-found-few : (id : ℕ) (m : Map (Timed Cached)) → contentOf (valueOf (lookup id m)) ≤ held m
-unfolding contentOf valueOf lookup sum
+found-few : (id : ℕ) (m : Map (Timed Cached)) → contentLength (valueOf (lookup id m)) ≤ held m
+unfolding contentLength valueOf lookup sum
 found-few id [] = omega arith
 found-few id (e ∷ m) = cases (eqb id (e .key)) (λ q. rw q (omega arith)) (λ q. rw q (omega (arith, found-few id m)))
 
-pub cached-few : (id : ℕ) (s : State) → Small s → contentOf (get id (s .cache)) ≤ 1048576
+pub cached-few : (id : ℕ) (s : State) → Small s → contentLength (get id (s .cache)) ≤ 1048576
 unfolding get
 cached-few id s small = omega (arith, found-few id (s .cache .entries), small .cached)
 

@@ -21,7 +21,7 @@ use Rattle.protocol.specs.Ticks.{oldest, younger, stillCached}
 use Rattle.decide.specs.Rooms.{kthTaken, firstSend, backPeers}
 use Rattle.decide.specs.RecordGrowth.{noteAction, pushActions}
 use Rattle.decide.specs.Settled.{settledActions}
-use Rattle.decide.specs.SizesAfter.{newIds, knownTimer, contentOf}
+use Rattle.decide.specs.SizesAfter.{newIds, knownTimer, contentLength}
 use Rattle.decide.specs.ActionsAfter.{evictActions, dispatchAction, announceActions, replyActions, graftActions, askActions, sendGraftActions, ihaveActions, broadcastActions, lateActions, optimiseActions, newActions}
 use Rattle.bounds.proofs.Light.{Light, light-none, light-more, light-cons, light-one, light-then, light-if, light-each}
 use Rattle.bounds.proofs.ActionLengths.{scheduled-few, emitted-few, gossip-few, prune-few, graft-few}
@@ -61,8 +61,8 @@ push-light : (rooms : List Room) (id : ℕ) (content : List ℕ) (d : Delivery) 
 unfolding pushActions
 push-light rooms id content d ps flag m h = light-then (sends-light rooms id content d ps m h) (note-light (backPeers rooms ps) flag)
 
-reply-light : (rooms : List Room) (sender id : ℕ) (o : Option Cached) (s : State) → contentOf o ≤ 1048576 → Light 1100000 (replyActions rooms sender id o s)
-unfolding replyActions contentOf
+reply-light : (rooms : List Room) (sender id : ℕ) (o : Option Cached) (s : State) → contentLength o ≤ 1048576 → Light 1100000 (replyActions rooms sender id o s)
+unfolding replyActions contentLength
 reply-light rooms sender id none s h = light-none
 reply-light rooms sender id (some c) s h =
     light-more (push-light rooms id (c .content) (Swarm (c .round)) (sender ∷ []) (s .announceScheduled) 1048642 (omega arith)) (omega arith)

@@ -21,7 +21,7 @@ use Rattle.protocol.specs.Whole.{contentHeld}
 use Rattle.decide.specs.Sizes.{sizesOf, sizedReceived, sizedReceivedExpiry, sizedCached, sizedCachedExpiry, sizedContent, sizedQueued, grown}
 use Rattle.decide.specs.Rooms.{backPeers}
 use Rattle.decide.specs.RecordGrowth.{cachedIn, pushActions}
-use Rattle.decide.specs.SizesAfter.{contentOf, takenSizes, broadcastSizes}
+use Rattle.decide.specs.SizesAfter.{contentLength, takenSizes, broadcastSizes}
 use Rattle.decide.specs.ActionsAfter.{dispatchAction, broadcastActions}
 use Rattle.lists.proofs.MapLaws.{cases, and-left, and-right, lookup-insert-same}
 use Rattle.protocol.proofs.Consistent.{CoreOf}
@@ -58,20 +58,20 @@ unfolding sum lookup heldOf
 held-some k [] = omega arith
 held-some k (e ∷ m) = cases (eqb k (e .key)) (λ q. rw q (omega arith)) (λ q. rw q (omega (arith, held-some k m)))
 
-held-get : (k : ℕ) (c : Cache Cached) → heldOf (lookup k (c .entries)) ≡ contentOf (get k c)
+held-get : (k : ℕ) (c : Cache Cached) → heldOf (lookup k (c .entries)) ≡ contentLength (get k c)
 unfolding get valueOf
 held-get k c = on (lookup k (c .entries))
   where
-    on : (o : Option (Timed Cached)) → heldOf o ≡ contentOf (valueOf o)
-    on none = unfold heldOf in (unfold valueOf in (unfold contentOf in refl))
-    on (some t) = unfold heldOf in (unfold valueOf in (unfold contentOf in refl))
+    on : (o : Option (Timed Cached)) → heldOf o ≡ contentLength (valueOf o)
+    on none = unfold heldOf in (unfold valueOf in (unfold contentLength in refl))
+    on (some t) = unfold heldOf in (unfold valueOf in (unfold contentLength in refl))
 
 pub content-put : (id at : ℕ) (v : Cached) (c : Cache Cached) → ascending (keys (c .entries)) ≡ true →
-    sum (λ e. length (e .value .value .content)) (put id v at c .entries) ≡ (sum (λ e. length (e .value .value .content)) (c .entries) - contentOf (get id c)) + length (v .content)
+    sum (λ e. length (e .value .value .content)) (put id v at c .entries) ≡ (sum (λ e. length (e .value .value .content)) (c .entries) - contentLength (get id c)) + length (v .content)
 unfolding put
 content-put id at v c a = plain _ _ _ _ (sum-insert id (record { expires = at; value = v }) (c .entries) a) (held-some id (c .entries)) (held-get id c)
   where
-    plain : (x h y l : ℕ) → x + h ≡ y + l → h ≤ y → h ≡ contentOf (get id c) → x ≡ (y - contentOf (get id c)) + l
+    plain : (x h y l : ℕ) → x + h ≡ y + l → h ≤ y → h ≡ contentLength (get id c) → x ≡ (y - contentLength (get id c)) + l
     plain x h y l p q e = omega arith
 
 -- received and cached
@@ -80,7 +80,7 @@ pub cached-sizes : (now id : ℕ) (content : List ℕ) (round : ℕ) (r : Run) �
     (sizedReceivedExpiry (suc (length (r .state .received .expiry)))
     (sizedCached (grown (holds id (r .state .cache)) (length (r .state .cache .entries)))
     (sizedCachedExpiry (suc (length (r .state .cache .expiry)))
-    (sizedContent ((contentHeld (r .state) - contentOf (get id (r .state .cache))) + length content) (sizesOf (r .state))))))
+    (sizedContent ((contentHeld (r .state) - contentLength (get id (r .state .cache))) + length content) (sizesOf (r .state))))))
 unfolding cacheAt markReceived sizesOf contentHeld
 cached-sizes now id content round r c =
     let s = r .state in

@@ -20,7 +20,7 @@ use Rattle.protocol.specs.Whole.{contentHeld}
 use Rattle.decide.specs.Sizes.{sizesOf, sizedMissing, sizedTimers, sizedRecorded, sizedQueued, sizedReceived, sizedReceivedExpiry, sizedCached, sizedCachedExpiry, sizedContent, grown, shrunk}
 use Rattle.decide.specs.Rooms.{kthTaken, firstSend, backPeers}
 use Rattle.decide.specs.RecordGrowth.{cachedIn, pushActions, pushGains}
-use Rattle.decide.specs.SizesAfter.{contentOf, takenSizes, newSizes}
+use Rattle.decide.specs.SizesAfter.{contentLength, takenSizes, newSizes}
 use Rattle.decide.specs.ActionsAfter.{dispatchAction, lateActions, optimiseActions, newActions}
 use Rattle.lists.proofs.MapLaws.{cases, true≢, and-left, and-right, lookup-insert-same}
 use Rattle.protocol.proofs.RecordOnly.{RecordOnly}
@@ -393,7 +393,7 @@ module _ (now sender id : ℕ) (content : List ℕ) (round : ℕ) (r : Run) (c :
       (sizedReceivedExpiry (suc (length (r .state .received .expiry)))
       (sizedCached (grown (holds id (r .state .cache)) (length (r .state .cache .entries)))
       (sizedCachedExpiry (suc (length (r .state .cache .expiry)))
-      (sizedContent ((contentHeld (r .state) - contentOf (get id (r .state .cache))) + length content) (sizesOf (r .state))))))
+      (sizedContent ((contentHeld (r .state) - contentLength (get id (r .state .cache))) + length content) (sizesOf (r .state))))))
   unfolding r₂
   cached₂ = cached-sizes now id content (suc round) r c
 

@@ -101,9 +101,9 @@ ihaveSizes hs s =
     (sizedTimers (length (s .graftTimers) + length (newIds (knownTimer s) [] hs)) (sizesOf s))
 
 -- the content bytes cached for the identifier so far
-unfoldable pub contentOf : Option Cached → ℕ
-contentOf none = 0
-contentOf (some c) = length (c .content)
+unfoldable pub contentLength : Option Cached → ℕ
+contentLength none = 0
+contentLength (some c) = length (c .content)
 
 -- a message taken in: received and cached, queued for the lazy peers but the sender
 unfoldable pub takenSizes : ℕ → List ℕ → ℕ → State → Sizes
@@ -112,7 +112,7 @@ takenSizes id content sender s =
     (sizedReceivedExpiry (suc (length (s .received .expiry)))
     (sizedCached (grown (holds id (s .cache)) (length (s .cache .entries)))
     (sizedCachedExpiry (suc (length (s .cache .expiry)))
-    (sizedContent ((contentHeld s - contentOf (get id (s .cache))) + length content)
+    (sizedContent ((contentHeld s - contentLength (get id (s .cache))) + length content)
     (sizedQueued (length (s .queue) + length (filter (λ p. not (eqb p sender)) (lazyPeers (s .links)))) (sizesOf s))))))
 
 -- a broadcast of size at most M

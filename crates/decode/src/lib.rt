@@ -138,7 +138,7 @@ fn read_announcements(bytes: &[u8], at: usize) -> MessageRead
     }
 }
 
-// "Message: 0 Gossip, 1 Prune, 2 Graft, 3 IHave"; another kind is 8.
+// "Message: 0 Gossip .., 1 Prune, 2 Graft .., 3 IHave .."; another kind is 8.
 fn read_message(bytes: &[u8], at: usize) -> MessageRead
     ensures { λ r. ⌜ MessageReads (now (bytes .entry)) r (readMessage (drop at (now (bytes .entry)))) ⌝ }
 {

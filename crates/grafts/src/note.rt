@@ -1,4 +1,4 @@
-// A graft more of a message: "the Graft goes into the grafted entry of its identifier", or a new entry.
+// A graft more of a message: it goes into the grafted entry of its identifier, or into a new one.
 use crate::reads;
 use block::head;
 use block::head::Head;
@@ -58,7 +58,7 @@ fn insert_graft(h: Head, block: &mut [u8], i: usize, j: usize, link: usize, roun
     insert_hop(block, at, j, link, round);
 }
 
-// The round of peer j of the grafted message i, "the lower of a known round and a new one".
+// The round of peer j of the grafted message i: the lower of the known one and a new one.
 fn lower_graft(h: Head, block: &mut [u8], i: usize, j: usize, link: usize, round: Round)
     requires { ⌜ Grafting h (now block) × (i < h .live .grafted) × (link < h .live .links) × Here (keys (graftsAt (stateOf h (now block)) i .peers)) (peerAt (stateOf h (now block)) link) j ⌝ }
     ensures { λ _. ⌜ Goes (λ s. peersTo i (peersWith i (peerAt s link) (round .0) s) s) h (now (block .entry)) h (now (block .exit)) ⌝ }

@@ -13,7 +13,7 @@ use Rattle.block.specs.TimerSteps.{timerAlso}
 abbrev pub ihave : ℕ → ℕ → Ihave
 ihave i r = record { id = i; round = r }
 
--- a timer for an identifier, "unless one is marked"
+-- a timer for an identifier, unless one is marked
 unfoldable pub timerMarked : ℕ → State → State
 timerMarked id s = if member id (s .graftTimers) then s else timerAlso id s
 

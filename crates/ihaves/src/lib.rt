@@ -36,7 +36,7 @@ pub struct NewIds {
     pub timers: usize,
 }
 
-// A SendGraft timer is marked for an identifier, "unless one is marked".
+// A SendGraft timer is marked for an identifier, unless one is.
 fn mark_timer(h: Head, block: &mut [u8], id: Id) -> Head
     requires { ⌜ Sound h (now block) × TimersAscend h (now block) × (length (timerMarked (idOf id) (stateOf h (now block)) .graftTimers) ≤ stateOf h (now block) .limits .T) ⌝ }
     ensures { λ r. ⌜ Goes (timerMarked (idOf id)) h (now (block .entry)) r (now (block .exit)) ⌝ }

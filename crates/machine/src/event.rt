@@ -46,7 +46,7 @@ fn refused(number: u8, c: Stats) -> Outcome
     }
 }
 
-// (12) "Is no valid Swarm message of round 65,535, unreceived?"
+// (12) Whether it is a "valid Swarm message of round 65,535, unreceived once a first event has evicted".
 fn is_far(step: Step) -> bool
     ensures { λ r. ⌜ r ≡ stepFar step ⌝ }
 {
@@ -392,7 +392,7 @@ fn on_event(
     }
 }
 
-// The peer of an event: a received message's sender; 0 for the others, to whom nothing is sent but as a neighbour.
+// The peer of an event: a received message's sender; 0 for the others, which lead to sends to neighbours alone.
 fn event_peer(e: Event) -> u64
     ensures { λ r. ⌜ r ≡ eventPeer e ⌝ }
 {
@@ -416,10 +416,10 @@ fn event_peer(e: Event) -> u64
 // An event call, with the link room of each link by its number, and at 32 that of the event's peer: questions 5 to 14 in their order, then the event.
 //
 // What a call costs, with n links, r received, c cached, g grafted and m missing messages, t graft timers, q queued and d recorded identifiers, and b bytes of
-// contents; a look-up is by halving.
+// contents; a look-up of an identifier is by halving, that of a peer goes over the n links.
 // Every call: one pass over each table (question 5), one over the event's bytes, and a content's identifier.
 // Up, down: n + q + d, and the lists of g and m.
-// Prune, Graft without identifier: a look-up. Graft for an identifier: a look-up, its content once into the output, and d where it is handed back.
+// Prune, Graft without identifier: n. Graft for an identifier: n, a look-up, its content once into the output, and d where it is handed back.
 // IHave of k entries: k look-ups in r, m and t, k^2 / 2 comparisons (k is at most 124), and for each new one a move of the rows of m and t.
 // A Gossip not valid or received before: look-ups, and the 32 peers of a grafted message.
 // A new Gossip, a broadcast: r + c + b to take it in, its content once into the store and once into the output for each send and the emit, n, and d where one is handed back.

@@ -20,14 +20,15 @@ use Rattle.block.specs.Sound.{Laid}
 use Rattle.block.specs.Heads.{withLinkCount}
 use Rattle.block.specs.declared.head.Head.{Head}
 
--- a number other than i
+-- a link number other than i, once link i is gone
 unfoldable pub lowered : ℕ → ℕ → ℕ
 lowered i l = if ltb l i then l else l - 1
 
--- a number and the row beside it: whether it is left, and what it then is
+-- whether a number and the row beside it are left
 abbrev pub stays : ℕ → Ref → Bool
 stays i r = not (eqb (r .place) i)
 
+-- a number that is left, and the row beside it
 abbrev pub lower : ℕ → Ref → Ref
 lower i r = ref (lowered i (r .place)) (r .own)
 

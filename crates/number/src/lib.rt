@@ -22,6 +22,7 @@ pub enum RoundRead {
     Fault(u8),
 }
 
+// A byte as a number of 64 bits.
 fn wide(b: u8) -> u64
     ensures { λ r. ⌜ r ≡ b ⌝ }
 {

@@ -1,4 +1,4 @@
--- Demand 3: "for every list of event calls from a fresh panel, after it this holds".
+-- Demand 3: "for every list of event calls (…; refused ones too) from a fresh panel, after it this holds".
 use Prim.Native.Nat.{ℕ, _≤_}
 use mathlib.Core.Path.{_≡_, refl, sym, subst, _∙_}
 use mathlib.Core.Bool.{Bool, true, false}

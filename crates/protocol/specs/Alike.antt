@@ -9,7 +9,7 @@ use Rattle.lists.specs.Map.{Map}
 use Rattle.time_cache.specs.TimeCache.{Cache, Expiry}
 use Rattle.protocol.specs.Links.{Mark, eager, lazy}
 use Rattle.protocol.specs.State.{State, Settings, Limits, Hop, Note, Grafts, Cached}
-use Rattle.protocol.specs.Whole.{wholeBlock}
+use Rattle.protocol.specs.Whole.{wholeState}
 
 -- element by element
 unfoldable pub sameList : {A : Type 0} → (A → A → Bool) → List A → List A → Bool
@@ -125,4 +125,4 @@ likenessOf (some a) (some b) = likeness (alike a b)
 
 -- *Alike*, "of two blocks (5 for either)", each given by its length and the state that its bytes hold
 unfoldable pub alikeBlocks : ℕ → Option State → ℕ → Option State → Likeness
-alikeBlocks lengthA a lengthB b = likenessOf (wholeBlock lengthA a) (wholeBlock lengthB b)
+alikeBlocks lengthA a lengthB b = likenessOf (wholeState lengthA a) (wholeState lengthB b)

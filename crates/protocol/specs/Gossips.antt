@@ -161,7 +161,7 @@ withKept id p (some g) s = withGrafted (replace id (record { first = g .first; k
 unfoldable pub setKept : ℕ → ℕ → Run → Run
 setKept id p r = r ▷ withState (withKept id p (get id (r .state .grafted)) (r .state))
 
--- "Received before: late Graft reply, else a neighbour sender goes lazy, and Prune"
+-- "Received before: late Graft reply (`on_late_graft_reply`), else a neighbour sender goes lazy, and Prune"
 unfoldable pub onDuplicate : ℕ → ℕ → Late → Run → Run
 onDuplicate sender id duplicate r = pruneBack sender r
 onDuplicate sender id repeated r = r

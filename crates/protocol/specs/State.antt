@@ -21,7 +21,7 @@ pub record Settings : Type 0 where
   pub maxMessageSize : ℕ
   pub me : ℕ
 
--- "neighbours N, received R, cached C, content bytes B, grafted G, missing S, graft timers T, queued Q, dropped D"
+-- "neighbours N …, received R …, cached C …, content bytes B …, grafted G …, missing S …, graft timers T …, queued Q …, dropped D …"
 pub record Limits : Type 0 where
   pub N : ℕ
   pub R : ℕ

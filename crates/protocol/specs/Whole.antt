@@ -91,6 +91,6 @@ unfoldable pub longEnough : ℕ → State → Bool
 longEnough blockLength s = leb (blockNeed (s .limits)) blockLength
 
 -- the state of a whole block of this length; `held` is the state that its bytes hold, if they hold one
-unfoldable pub wholeBlock : ℕ → Option State → Option State
-wholeBlock blockLength none = none
-wholeBlock blockLength (some s) = if longEnough blockLength s && whole s then some s else none
+unfoldable pub wholeState : ℕ → Option State → Option State
+wholeState blockLength none = none
+wholeState blockLength (some s) = if longEnough blockLength s && whole s then some s else none

@@ -17,7 +17,7 @@ use Rattle.time_cache.specs.TimeCache.{Timed, Cache, valueOf, get, holds}
 use Rattle.protocol.specs.State.{State, Cached}
 use Rattle.protocol.specs.Whole.{contentHeld}
 use Rattle.decide.specs.Sizes.{Sizes, sizesOf, grown}
-use Rattle.decide.specs.SizesAfter.{contentOf, takenSizes}
+use Rattle.decide.specs.SizesAfter.{contentLength, takenSizes}
 use Rattle.decide.specs.Settled.{settled}
 use Rattle.steps.specs.Shared.{sizesValue}
 use Rattle.steps.specs.declared.Sizes.{Sizes as CodeSizes}
@@ -60,7 +60,7 @@ unfolding sizesOf
 old-least id v s z old e g eo = omega (arith, eo, held-least id v s g, ap (λ (y : Sizes). y .content) e)
 
 module _ (id n sender : ℕ) (s : State) (z : CodeSizes) (e : sizesValue z ≡ sizesOf s) (received queued : ℕ) (er : received ≡ grown (holds id (s .received)) (z .received)) (eq : queued ≡ z .queued + lazyCount sender (s .links)) where
-  taken-of : (cached contents : ℕ) → cached ≡ grown (holds id (s .cache)) (z .cached) → ((content : List ℕ) → length content ≡ n → contents ≡ (z .contents - contentOf (get id (s .cache))) + length content)
+  taken-of : (cached contents : ℕ) → cached ≡ grown (holds id (s .cache)) (z .cached) → ((content : List ℕ) → length content ≡ n → contents ≡ (z .contents - contentLength (get id (s .cache))) + length content)
       → TakenIs id n sender s (takenOf z received cached contents queued)
   unfolding takenSizes sizesOf
   taken-of cached contents ec et = record {
@@ -70,7 +70,7 @@ module _ (id n sender : ℕ) (s : State) (z : CodeSizes) (e : sizesValue z ≡ s
       receivedExpiry = (add-one (z .«received_rows») ∙ ap (λ (y : Sizes). suc (y .receivedExpiry)) e) p;
       cached = (ec ∙ ap (λ (y : Sizes). grown (holds id (s .cache)) (y .cached)) e) p;
       cachedExpiry = (add-one (z .«cached_rows») ∙ ap (λ (y : Sizes). suc (y .cachedExpiry)) e) p;
-      content = (et content l ∙ ap (λ (y : Sizes). (y .content - contentOf (get id (s .cache))) + length content) e) p;
+      content = (et content l ∙ ap (λ (y : Sizes). (y .content - contentLength (get id (s .cache))) + length content) e) p;
       grafted = e p .grafted;
       graftedExpiry = e p .graftedExpiry;
       missing = e p .missing;
@@ -82,18 +82,18 @@ module _ (id n sender : ℕ) (s : State) (z : CodeSizes) (e : sizesValue z ≡ s
 
   -- a content that was cached goes
   pub taken-over : (v : Cached) (old : ℕ) → get id (s .cache) ≡ some v → old ≡ length (v .content) → TakenIs id n sender s (takenOf z received (z .cached) ((z .contents - old) + n) queued)
-  unfolding grown contentOf
+  unfolding grown contentLength
   taken-over v old g eo =
       let t : holds id (s .cache) ≡ true = holds-get id (s .cache) ∙ ap isSome g in
       taken-of (z .cached) ((z .contents - old) + n) (sym (ap (λ (b : Bool). grown b (z .cached)) t))
-      (λ content l. (λ p. (z .contents - (eo ∙ sym (ap contentOf g)) p) + sym l p))
+      (λ content l. (λ p. (z .contents - (eo ∙ sym (ap contentLength g)) p) + sym l p))
 
   pub taken-new : get id (s .cache) ≡ none → TakenIs id n sender s (takenOf z received (z .cached + 1) (z .contents + n) queued)
-  unfolding grown contentOf
+  unfolding grown contentLength
   taken-new g =
       let t : holds id (s .cache) ≡ false = holds-get id (s .cache) ∙ ap isSome g in
       taken-of (z .cached + 1) (z .contents + n) (add-one (z .cached) ∙ sym (ap (λ (b : Bool). grown b (z .cached)) t))
-      (λ content l. sub content l (contentOf (get id (s .cache))) (ap contentOf g))
+      (λ content l. sub content l (contentLength (get id (s .cache))) (ap contentLength g))
     where
       sub : (content : List ℕ) → length content ≡ n → (k : ℕ) → k ≡ 0 → z .contents + n ≡ (z .contents - k) + length content
       sub content l k q = omega (arith, l, q)

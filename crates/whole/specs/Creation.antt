@@ -25,6 +25,7 @@ pub record Accepted (s : State) (before after : List ℕ) (r : ℕ) : Type 0 whe
   pub long : length after ≡ length before
   pub rest : drop 2048 after ≡ drop 2048 before
 
+-- what a creation leaves, by its answer in the definitions
 abbrev pub Creates : Created → List ℕ → List ℕ → ℕ → Type 0
 Creates (notCreated n) before after r = Refused n before after r
 Creates (created s counts) before after r = Accepted s before after r

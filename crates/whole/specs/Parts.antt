@@ -28,6 +28,7 @@ cacheWhole m s n entries c = placesName m s n entries && ascending (keys (c .ent
 abbrev pub tableOf : Head → ℕ → List ℕ → List ℕ
 tableOf h i block = table (limitsOf (h .limits)) i block
 
+-- received messages
 unfoldable pub receivedWhole : Head → List ℕ → Bool
 receivedWhole h block = cacheWhole (h .live .«received_rows») 2 (h .live .received) (tableOf h 2 block) (stateOf h block .received)
 
@@ -35,6 +36,7 @@ receivedWhole h block = cacheWhole (h .live .«received_rows») 2 (h .live .rece
 abbrev pub lengthAt : List (List ℕ) → ℕ → ℕ
 lengthAt rs p = fourAt 44 (getD rs p [])
 
+-- the message cache: also, contents adjoin, and those of the cached messages add up to what is used of the store
 unfoldable pub cachedWhole : Head → List ℕ → Bool
 cachedWhole h block =
     cacheWhole (h .live .«cached_rows») 4 (h .live .cached) (tableOf h 4 block) (stateOf h block .cache)
@@ -45,6 +47,7 @@ cachedWhole h block =
 unfoldable pub graftList : ℕ → List ℕ → Bool
 graftList m list = numbersName m list && ascending (take (byteAt 0 list) (drop 1 list))
 
+-- grafted messages: also, their peers are neighbours, once per identifier
 unfoldable pub graftedWhole : Head → List ℕ → Bool
 graftedWhole h block =
     cacheWhole (h .live .«grafted_rows») 119 (h .live .grafted) (tableOf h 7 block) (stateOf h block .grafted)
@@ -55,15 +58,18 @@ graftedWhole h block =
 unfoldable pub missedList : ℕ → List ℕ → Bool
 missedList m list = numbersName m list && (ltb 0 (byteAt 0 list) && once (take (byteAt 0 list) (drop 1 list)))
 
+-- missing messages: keys once; their announcers are neighbours, once per identifier, and none of these lists is empty
 unfoldable pub missingWhole : Head → List ℕ → Bool
 missingWhole h block =
     ascending (keys (stateOf h block .missing))
     && allLists (numbersName (h .live .links)) 32 129 (h .live .missing) (tableOf h 9 block)
     && all (announcersWhole (stateOf h block .links)) (stateOf h block .missing)
 
+-- graft timers: keys once
 unfoldable pub timersWhole : Head → List ℕ → Bool
 timersWhole h block = ascending (stateOf h block .graftTimers)
 
+-- queued peers are neighbours
 unfoldable pub queueWhole : Head → List ℕ → Bool
 queueWhole h block = allBelow (h .live .links) (take (h .live .queued) (tableOf h 11 block))
 
@@ -71,12 +77,14 @@ queueWhole h block = allBelow (h .live .links) (take (h .live .queued) (tableOf 
 unfoldable pub few : List ℕ → Bool
 few ns = all (λ k. leb (count (eqb k) ns) 256) ns
 
+-- recorded peers are neighbours, "records within 256 and 4,096", and no identifier twice for one peer
 unfoldable pub recordWhole : Head → List ℕ → Bool
 recordWhole h block =
     allBelow (h .live .links) (take (h .live .dropped) (tableOf h 13 block))
     && recordWithin (stateOf h block .dropped)
     && notedOnce (stateOf h block .dropped)
 
+-- all tables
 unfoldable pub tablesWhole : Head → List ℕ → Bool
 tablesWhole h block =
     linksWhole h block && receivedWhole h block && cachedWhole h block && graftedWhole h block && missingWhole h block

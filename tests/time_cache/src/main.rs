@@ -223,7 +223,7 @@ fn judged(x: &Block) -> bool {
 /// Whether every call answers no or 0 and leaves all as it was.
 fn refused(mut x: Block, key: &Key, at: u64) -> bool {
     let before = (x.bytes.clone(), x.n, x.m);
-    let value = (vec![0; x.s.clamp(2, 120) - 2], vec![0; x.t.clamp(40, 48) - 40]);
+    let value = (vec![0; x.s.clamp(2, 119) - 2], vec![0; x.t.clamp(40, 48) - 40]);
     let taken = x.insert(key, at, &value) || x.expire_until(u64::MAX).is_some();
     let (p, l, w) = (x.bytes.as_ptr(), x.bytes.len(), words(key));
     macro_rules! ask {
@@ -242,7 +242,7 @@ fn list(seed: u64, number: u64, calls: &mut [u64; 8]) -> Result<(), String> {
     for _ in 0..8 {
         rng.next();
     }
-    let (s, t) = [(2, 40), (4, 48), (120, 40)][rng.below(3) as usize];
+    let (s, t) = [(2, 40), (4, 48), (119, 40)][rng.below(3) as usize];
     let mut x = Block::new(&mut rng, s, t);
     let mut rust: TimeBoundCache<Key, Kept> = TimeBoundCache::default();
     let dropped = Rc::new(RefCell::new(Vec::new()));

@@ -7,7 +7,7 @@ use Rattle.block.specs.View.{stateOf}
 use Rattle.block.specs.declared.head.Head.{Head}
 use mathlib.Core.Option.{Option}
 use Rattle.protocol.specs.State.{State}
-use Rattle.protocol.specs.Whole.{wholeBlock as wholeOf}
+use Rattle.protocol.specs.Whole.{wholeState}
 use Rattle.protocol.specs.Alike.{likeness, likenessOf, alike, alikeBlocks}
 use Rattle.block.specs.Sound.{Sound}
 use Rattle.whole.specs.Held.{held}
@@ -26,7 +26,7 @@ returns c =
     let s = c .before .before .before .before in
     let a = s .args .a .now in
     let b = s .args .b .now in
-    sym (ap (λ (o : Option State). likenessOf o (wholeOf (length b) (held b))) (not-whole a (no (c .before .is-whole .ensures) (c .if1 .taken))))
+    sym (ap (λ (o : Option State). likenessOf o (wholeState (length b) (held b))) (not-whole a (no (c .before .is-whole .ensures) (c .if1 .taken))))
 
 is-whole-requires-2 : tie.Need-is-whole-requires-2
 is-whole-requires-2 c κs = search needs
@@ -37,7 +37,7 @@ returns-2 c =
     let s = c .before .before .before .before .before .before in
     let a = s .args .a .now in
     let b = s .args .b .now in
-    sym (ap (likenessOf (wholeOf (length a) (held a))) (not-whole b (no (c .before .is-whole2 .ensures) (c .if2 .taken))) ∙ second-not (wholeOf (length a) (held a)))
+    sym (ap (likenessOf (wholeState (length a) (held a))) (not-whole b (no (c .before .is-whole2 .ensures) (c .if2 .taken))) ∙ second-not (wholeState (length a) (held a)))
 
 load-head-requires : tie.Need-load-head-requires
 load-head-requires c κs = has-header (c .before .before .before .before .before .before .args .a .now) (wholly-of (c .before .before .before .before .before .before .args .a .now) (yes (c .before .before .before .is-whole .ensures) (c .before .before .if1 .left)))

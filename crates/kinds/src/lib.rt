@@ -15,13 +15,14 @@ ghost use mathlib.Core.Path.{_≡_};
 ghost use Prim.Native.Nat.{_+_, _≤_};
 ghost use lib.ListN.{length};
 ghost use Rattle.rows.specs.Part.{part};
-ghost use Rattle.postcard.specs.Message.{Received, Broadcast, Fired, Gossip, messageBytes};
+ghost use Rattle.postcard.specs.Message.{Received, Broadcast, Fired, Gossip, IHave, messageBytes};
 ghost use Rattle.postcard.specs.Values.{deliveryValue, scopeValue, timerValue};
-ghost use Rattle.postcard.specs.Events.{messageValue, MessageHeld};
+ghost use Rattle.postcard.specs.Events.{ihavesFrom, messageValue, MessageHeld};
 ghost use Rattle.rows.specs.Ident.{idOf};
 ghost use Rattle.block.specs.View.{stateOf};
+ghost use Rattle.block.specs.LinkSteps.{peerAt};
 ghost use Rattle.steps.specs.Stands.{Stands};
-ghost use Rattle.kinds.specs.Meaning.{Means};
+ghost use Rattle.kinds.specs.Meaning.{ListHeld, Means};
 
 // The steps. A content is its place and length in the event, a list of announcements its place and count; a neighbour is the number of its link.
 pub enum Step {
@@ -117,7 +118,28 @@ fn gossip_step(
     }
 }
 
-// The step of a message; Prune, Graft and IHave "from strangers are counted only". Linear in the links, and in the content of a Gossip.
+// The step of a neighbour's IHave (`on_ihave`): where every identifier is received it does nothing. Its time is that of a look-up for each entry, up to the first
+// that is not received.
+fn ihave_step(
+    h: Head,
+    block: &[u8],
+    instant: Millis,
+    event: &[u8],
+    link: usize,
+    start: usize,
+    count: usize,
+) -> Step
+    requires { ⌜ Stands h (now block) × ListHeld (now event) (stateOf h (now block)) link start count ⌝ }
+    ensures { λ r. ⌜ Means (now (event .entry)) (instant .0) (stateOf h (now (block .entry))) r (Received (peerAt (stateOf h (now (block .entry))) link) (IHave (ihavesFrom (now (event .entry)) start count))) ⌝ }
+{
+    let known = ihaves::all_received(h, block, instant, event, start, count);
+    if known {
+        return Step::Nothing;
+    }
+    Step::IHave { link, start, count }
+}
+
+// The step of a message; Prune, Graft and IHave "from strangers are counted only". Linear in the links, in the content of a Gossip and in the entries of an IHave.
 pub fn message_step(
     h: Head,
     block: &[u8],
@@ -146,7 +168,7 @@ pub fn message_step(
             Found::Before(_) => Step::Nothing,
         },
         Message::IHave { start, count } => match f {
-            Found::At(link) => Step::IHave { link, start, count },
+            Found::At(link) => ihave_step(h, block, instant, event, link, start, count),
             Found::Before(_) => Step::Nothing,
         },
     }

@@ -7,6 +7,7 @@ use mathlib.Core.List.{List, []}
 use lib.Dec.{eqb}
 use lib.ListN.{length}
 use Rattle.lists.specs.Base.{if_then_else_, any}
+use Rattle.time_cache.specs.TimeCache.{holds}
 use Rattle.postcard.specs.Message.{Ihave}
 use Rattle.protocol.specs.State.{State}
 use Rattle.decide.specs.SizesAfter.{newIds, knownMissing, knownTimer}
@@ -23,6 +24,10 @@ isOld known before i = known i || any (isFor i) before
 -- one that is neither
 abbrev pub isNew : (ℕ → Bool) → List Ihave → ℕ → Bool
 isNew known before i = not (isOld known before i)
+
+-- an entry whose message is received
+abbrev pub isReceived : State → Ihave → Bool
+isReceived s h = holds (h .id) (s .received)
 
 -- what an entry of this identifier adds, after these
 pub record NewOf (s : State) (before : List Ihave) (i : ℕ) (r : NewIds) : Type 0 where

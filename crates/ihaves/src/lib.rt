@@ -13,7 +13,7 @@ use rows::table::Found;
 ghost use mathlib.Core.Path.{_≡_};
 ghost use Prim.Native.Nat.{_≤_, _<_};
 ghost use lib.ListN.{length};
-ghost use Rattle.lists.specs.Base.{if_then_else_, any, member, concatMap};
+ghost use Rattle.lists.specs.Base.{if_then_else_, any, all, member, concatMap};
 ghost use Rattle.lists.specs.Map.{has};
 ghost use Rattle.rows.specs.Ident.{idOf};
 ghost use Rattle.postcard.specs.Message.{actionBytes};
@@ -28,7 +28,7 @@ ghost use Rattle.block.specs.Goes.{Goes};
 ghost use Rattle.block.specs.TimerSteps.{TimersAscend};
 ghost use Rattle.steps.specs.Stands.{Stands, Step};
 ghost use Rattle.ihaves.specs.Heard.{timerMarked, announcedFrom, heardFrom};
-ghost use Rattle.ihaves.specs.New.{isFor, isNew, NewOf, NewIn};
+ghost use Rattle.ihaves.specs.New.{isFor, isNew, isReceived, NewOf, NewIn};
 
 // How many entries an IHave adds to the missing messages, and to the graft timers.
 pub struct NewIds {
@@ -83,6 +83,33 @@ pub fn on_ihave(
         i += 1;
     }
     g
+}
+
+// Whether every entry of an IHave is received once a first event has evicted: then the message does nothing. Its time is that of a look-up for each entry, up to
+// the first that is not received.
+pub fn all_received(
+    h: Head,
+    block: &[u8],
+    instant: Millis,
+    event: &[u8],
+    start: usize,
+    count: usize,
+) -> bool
+    requires { ⌜ Stands h (now block) × Listed (now event) start count (ihavesFrom (now event) start count) ⌝ }
+    ensures { λ r. ⌜ r ≡ all (isReceived (settled (instant .0) (stateOf h (now (block .entry))))) (ihavesFrom (now (event .entry)) start count) ⌝ }
+{
+    let mut place = start;
+    let mut i = 0;
+    while i < count {
+        let one = field::next_ihave(event, place);
+        let received = settled::received_then(h, block, instant, one.id);
+        if !received {
+            return false;
+        }
+        place = one.next;
+        i += 1;
+    }
+    true
 }
 
 // Whether somebody announced the message before.

@@ -8,7 +8,7 @@ use native.Mathlib.Omega.{arith}
 use borrow.Author.Tests.{leb-true, leb-false, lt-ltb, le-ltb}
 use lib.Dec.{eqb, ltb, leb}
 use lib.ListN.{length, getD, take, drop, length-append, length-map}
-use Rattle.lists.specs.Base.{concatMap}
+use Rattle.lists.specs.Base.{concatMap, all}
 use Rattle.lists.specs.Map.{Entry, keys}
 use Rattle.lists.proofs.Branches.{if-on, if-both, if-same}
 use Rattle.lists.proofs.MapLaws.{and-right}
@@ -47,6 +47,8 @@ use Rattle.decide.specs.SizesAfter.{gossipSizes, messageSizes, timerSizes, broa
 use Rattle.decide.specs.ActionsAfter.{gossipActions, messageActions, timerActions, actionsAfter}
 use Rattle.decide.specs.StateAfter.{firstState, broadcastState, timerState, gossipState, messageState, stateAfter}
 use Rattle.decide.proofs.SettledLaws.{evicted, settled-received}
+use Rattle.ihaves.specs.New.{isReceived}
+use Rattle.ihaves.proofs.ReceivedLaws.{received-sizes, received-actions, received-state}
 use Rattle.kinds.specs.Counted.{messageCounts, countsAfterCall}
 use Rattle.kinds.specs.Meaning.{stepSizes, stepActions, stepState, stepFar, stepCounts, countedFor, ContentHeld, ListHeld, StepHeld, SenderIs, Means}
 use Rattle.kinds.specs.declared.Step.{Step}
@@ -233,6 +235,18 @@ module _ (bytes : List ℕ) (now : ℕ) (s : State) (sender link : ℕ) (core : 
   unfolding tooFarBefore stepFar
   means-ihave start count h =
       means-message bytes now s (step.IHave link start count) sender (IHave (ihavesFrom bytes start count)) core refl (does-ihave start count (settled now s) there-settled peer-settled) h tt
+
+  does-known-ihave : (hs : List Ihave) (t : State) → isNeighbour sender (t .links) ≡ true → all (isReceived t) hs ≡ true → Does bytes now t step.Nothing sender (IHave hs)
+  unfolding messageSizes messageActions messageState messageCounts stepSizes stepActions stepState stepCounts
+  does-known-ihave hs t a k = record { sizes = λ rooms. rw a (received-sizes t hs k); actions = λ rooms. rw a (received-actions t hs k); state = λ rooms. rw a (received-state sender t hs k); counts = λ c. refl }
+
+  pub means-known-ihave : (hs : List Ihave) → all (isReceived (settled now s)) hs ≡ true → Means bytes now s step.Nothing (Received sender (IHave hs))
+  unfolding tooFarBefore stepFar
+  means-known-ihave hs k = means-message bytes now s step.Nothing sender (IHave hs) core refl (does-known-ihave hs (settled now s) there-settled k) tt tt
+
+-- the peer of a link stands there
+pub link-here : (s : State) (link : ℕ) → link < length (s .links) → Here (keys (s .links)) (peerAt s link) link
+link-here s link w = record { within = omega (arith, w, length-map (s .links) (λ (e : Entry Mark). e .key)); same = refl }
 
 -- a broadcast of size over M
 pub means-oversize : (bytes : List ℕ) (now : ℕ) (s : State) (content : List ℕ) (scope : Scope) → CoreOf s → ltb (s .settings .maxMessageSize) (gossipSize (length content) scope) ≡ true →

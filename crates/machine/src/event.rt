@@ -420,7 +420,8 @@ fn event_peer(e: Event) -> u64
 // Every call: one pass over each table (question 5), one over the event's bytes, and a content's identifier.
 // Up, down: n + q + d, and the lists of g and m.
 // Prune, Graft without identifier: n. Graft for an identifier: n, a look-up, its content once into the output, and d where it is handed back.
-// IHave of k entries: k look-ups in r, m and t, k^2 / 2 comparisons (k is at most 124), and for each new one a move of the rows of m and t.
+// IHave of k entries: k look-ups in r. Where one is not received, k look-ups in r, m and t more, k^2 / 2 comparisons (k is at most 124), and for each new one a
+// move of the rows of m and t.
 // A Gossip not valid or received before: look-ups, and the 32 peers of a grafted message.
 // A new Gossip, a broadcast: r + c + b to take it in, its content once into the store and once into the output for each send and the emit, n, and d where one is handed back.
 // SendGraft: look-ups, and a move of the rows of g and m.

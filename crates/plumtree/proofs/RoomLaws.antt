@@ -7,7 +7,8 @@ use mathlib.Core.Bool.{Bool, true, false, not}
 use mathlib.Core.List.{List, [], _∷_}
 use mathlib.Core.Option.{none, some}
 use lib.Dec.{T, eqb, ltb}
-use lib.ListN.{length, getD, drop, replicate}
+use lib.ListN.{length, getD, set, drop, replicate}
+use lib.Seq.{getD-set-same, getD-set-other}
 use borrow.Author.Tests.{eqb-true, eqb-false, eq-eqb, ne-eqb, ltb-true, ltb-false}
 use Rattle.lists.proofs.MapLaws.{cases}
 use Rattle.decide.specs.Rooms.{firstRoom}
@@ -15,7 +16,7 @@ use Rattle.steps.specs.Rooms.{roomAt}
 use Rattle.whole.proofs.HeldLaws.{wholly-of}
 use Rattle.plumtree.specs.declared.LinkRoom.{LinkRoom}
 use Rattle.plumtree.specs.declared.rooms.Room.{Room}
-use Rattle.plumtree.specs.Rooms.{entries, roomOf, roomPlace, Placed, Found}
+use Rattle.plumtree.specs.Rooms.{entries, roomOf, roomPlace, Found}
 use Rattle.plumtree.specs.Peers.{PeerIn, Places}
 use Rattle.plumtree.proofs.PeerLaws.{few-links, link-peer}
 
@@ -118,22 +119,25 @@ module _ (block event : List ℕ) (rooms : List LinkRoom) where
   pub upto-none : (xs : List ℕ) → xs ≡ replicate 34 65536 → Upto 0 xs
   upto-none xs e = record { done = λ j l. absurd (not-suc-le-zero l); left = λ j h l. unbounded-at xs (roomPlace j) e (place-below j l) }
 
-  pub upto-next : (i : ℕ) (xs zs : List ℕ) (p : ℕ) (r : Room) → i < 33 → Upto i xs → PeerIn block event i p → roomOf r ≡ firstRoom p (entries rooms) → Placed xs i r zs → Upto (i + 1) zs
-  upto-next i xs zs p r l u ep er ez = record {
-    done = λ j k. cases (eqb j i) (λ e. same j (eqb-true j i e)) (λ e. other j k (eqb-false j i e));
-    left = λ j h k. ap roomAt (ez .others (roomPlace j) (apart j i k l (λ e. omega (arith, h, e)))) ∙ u .left j (omega (arith, h)) k;
+  pub upto-next : (i : ℕ) (xs : List ℕ) (p : ℕ) (r : Room) (k y : ℕ) → i < 33 → length xs ≡ 34 → Upto i xs → PeerIn block event i p → roomOf r ≡ firstRoom p (entries rooms) → (k ≡ roomPlace i) × (k < 33) → roomAt y ≡ roomOf r → Upto (i + 1) (set xs k y)
+  upto-next i xs p r k y l long u ep er ek ey = record {
+    done = λ j h. cases (eqb j i) (λ e. same j (eqb-true j i e)) (λ e. other j h (eqb-false j i e));
+    left = λ j h m. ap roomAt (kept j m (λ e. omega (arith, h, e))) ∙ u .left j (omega (arith, h)) m;
   }
     where
-      here : Has i zs
-      here = record { peer = p; stands = ep; room = ez .here ∙ er }
+      kept : (j : ℕ) → j < 33 → (j ≡ i → ⊥) → getD (set xs k y) (roomPlace j) 0 ≡ getD xs (roomPlace j) 0
+      kept j m n = getD-set-other xs k (roomPlace j) y 0 (λ e. apart j i m l n (e ∙ ek .0))
 
-      same : (j : ℕ) → j ≡ i → Has j zs
-      same j e = subst (λ (k : ℕ). Has k zs) (sym e) here
+      here : Has i (set xs k y)
+      here = record { peer = p; stands = ep; room = ap (λ (j : ℕ). roomAt (getD (set xs k y) j 0)) (sym (ek .0)) ∙ ap roomAt (getD-set-same xs k y 0 (omega (arith, ek .1, long))) ∙ ey ∙ er }
 
-      other : (j : ℕ) → j < i + 1 → (j ≡ i → ⊥) → Has j zs
-      other j k n =
-          let h = u .done j (omega (arith, k, n)) in
-          record { peer = h .peer; stands = h .stands; room = ap roomAt (ez .others (roomPlace j) (apart j i (omega (arith, k, l)) l n)) ∙ h .room }
+      same : (j : ℕ) → j ≡ i → Has j (set xs k y)
+      same j e = subst (λ (m : ℕ). Has m (set xs k y)) (sym e) here
+
+      other : (j : ℕ) → j < i + 1 → (j ≡ i → ⊥) → Has j (set xs k y)
+      other j m n =
+          let h = u .done j (omega (arith, m, n)) in
+          record { peer = h .peer; stands = h .stands; room = ap roomAt (kept j (omega (arith, m, l)) n) ∙ h .room }
 
 -- without entries no place has a bound
 no-bound : (block event : List ℕ) (i : ℕ) (xs : List ℕ) → Upto block event [] i xs → (j : ℕ) → j < 33 → roomAt (getD xs (roomPlace j) 0) ≡ none

@@ -33,11 +33,6 @@ abbrev pub roomPlace : ℕ → ℕ
 roomPlace zero = 32
 roomPlace (suc i) = i
 
--- the array with the room of a place, the others as they were
-pub record Placed (rooms : List ℕ) (place : ℕ) (r : PeerRoom) (after : List ℕ) : Type 0 where
-  pub here : roomAt (getD after (roomPlace place) 0) ≡ roomOf r
-  pub others : (j : ℕ) → (j ≡ roomPlace place → ⊥) → getD after j 0 ≡ getD rooms j 0
-
 -- "The first entry for a peer counts, a peer without one has no bound": the room of each link of a whole block by its number, and at 32 the sender's
 pub record Found (block event : List ℕ) (rooms : List LinkRoom) (found : List ℕ) : Type 0 where
   pub links : wholeBlock block ≡ true → (i : ℕ) → i < length (stateOf (headIn block) block .links) → roomAt (getD found i 0) ≡ firstRoom (peerAt (stateOf (headIn block) block) i) (entries rooms)

@@ -6,7 +6,7 @@ ghost use Prim.Native.Nat.{_<_};
 ghost use lib.ListN.{replicate};
 ghost use Rattle.decide.specs.Rooms.{firstRoom};
 ghost use Rattle.steps.specs.Rooms.{roomAt};
-ghost use Rattle.plumtree.specs.Rooms.{entries, roomOf, roomPlace, Placed, Found};
+ghost use Rattle.plumtree.specs.Rooms.{entries, roomOf, roomPlace, Found};
 
 // How many sends a peer's link takes.
 pub enum Room {
@@ -57,17 +57,6 @@ pub fn unbounded() -> [u64; 34]
     [65536; 34]
 }
 
-// The rooms with that of a place.
-pub fn with_room(rooms: [u64; 34], place: usize, r: Room) -> [u64; 34]
-    requires { ⌜ place < 33 ⌝ }
-    ensures { λ a. ⌜ Placed rooms place r a ⌝ }
-{
-    let mut a = rooms;
-    let i = room_place(place);
-    a[i] = room_number(r);
-    a
-}
-
 // The room of the sender and of each link; no bound elsewhere.
 pub fn rooms_of(block: &[u8], event: &[u8], rooms: &[LinkRoom]) -> [u64; 34]
     ensures { λ r. ⌜ Found (now (block .entry)) (now (event .entry)) (now (rooms .entry)) r ⌝ }
@@ -78,7 +67,8 @@ pub fn rooms_of(block: &[u8], event: &[u8], rooms: &[LinkRoom]) -> [u64; 34]
     while place < n {
         let p = peers::peer_at(block, event, place);
         let r = room_of(rooms, p);
-        a = with_room(a, place, r);
+        let i = room_place(place);
+        a[i] = room_number(r);
         place = place + 1;
     }
     a

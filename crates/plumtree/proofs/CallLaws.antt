@@ -1,6 +1,5 @@
 -- An event call asks the link room only of the peers to whom it can send; and what a refused call leaves of the counts.
-use Prim.Native.Nat.{ℕ, zero, suc, _≤_, _<_, _^_, zero-le}
-use native.Mathlib.Nat.{not-suc-le-zero}
+use Prim.Native.Nat.{ℕ, suc, _≤_, _<_, _^_, zero-le}
 use native.Mathlib.Omega.{arith}
 use mathlib.Core.Path.{_≡_, refl, sym, ap, subst, _∙_}
 use mathlib.Core.Bool.{Bool, true, false, not, _||_}
@@ -38,8 +37,8 @@ use Rattle.machine.proofs.CoreLaws.{answer-5, answer-6, answer-fault, answer-ev
 use Rattle.machine.proofs.DecidedLaws.{decided-rooms}
 use Rattle.plumtree.specs.declared.LinkRoom.{LinkRoom}
 use Rattle.plumtree.specs.Rooms.{entries, Found}
-use Rattle.plumtree.specs.Peers.{Peers}
 use Rattle.plumtree.proofs.PeerLaws.{few-links}
+use Rattle.plumtree.proofs.RoomLaws.{unbounded-at}
 
 -- the place of a peer among others
 record Place (p : ℕ) (ps : List ℕ) : Type 0 where
@@ -101,7 +100,7 @@ module _ (block event : List ℕ) where
 
   -- the array that the core was given, with the room of each link and of the sender
   module _ (array : List ℕ) (asked : List Room) (long : length array ≡ 34) (links : Wholly block → (i : ℕ) → i < length (s .links) → roomAt (getD array i 0) ≡ firstRoom (peerAt s i) asked)
-      (sender : (q : ℕ) (m : Message) → decodeEvent event ≡ decoded (Received q m) → roomAt (getD array 32 0) ≡ firstRoom q asked) where
+      (sender : Wholly block → (q : ℕ) (m : Message) → decodeEvent event ≡ decoded (Received q m) → roomAt (getD array 32 0) ≡ firstRoom q asked) where
     link-same : (p : ℕ) (own : ℕ) → Wholly block → isNeighbour p (s .links) ≡ true → firstRoom p (roomsIn s (set array 33 own)) ≡ firstRoom p asked
     link-same p own w n =
         let r = place p (keys (s .links)) (sym (has-member p (s .links)) ∙ n) in
@@ -115,11 +114,11 @@ module _ (block event : List ℕ) where
         count : length (keys (s .links)) ≡ length (s .links)
         count = length-map (s .links) (λ e. e .key)
 
-    stranger-same : (p : ℕ) (m : Message) → isNeighbour p (s .links) ≡ false → decodeEvent event ≡ decoded (Received p m) → firstRoom p (roomsIn s (set array 33 p)) ≡ firstRoom p asked
-    stranger-same p m n d =
+    stranger-same : (p : ℕ) (m : Message) → Wholly block → isNeighbour p (s .links) ≡ false → decodeEvent event ≡ decoded (Received p m) → firstRoom p (roomsIn s (set array 33 p)) ≡ firstRoom p asked
+    stranger-same p m w n d =
         first-stranger s (set array 33 p) p n (sym (getD-set-same array 33 p 0 (omega (arith, long))))
         ∙ ap roomAt (getD-set-other array 33 32 p 0 (λ e. omega (arith, e)))
-        ∙ sender p m d
+        ∙ sender w p m d
 
     reach : (e : Event) (p : ℕ) → Wholly block → decodeEvent event ≡ decoded e → reached s e p ≡ true → firstRoom p (coreRooms block event array) ≡ firstRoom p asked
     unfolding coreRooms peerIn
@@ -127,7 +126,7 @@ module _ (block event : List ℕ) where
         cases (isNeighbour p (s .links)) (λ n. link-same p (peerIn (decodeEvent event)) w n)
         (λ n. let e : p ≡ q = eqb-true p q (rw n at h) in
         ap (λ (x : Decoded). firstRoom p (roomsIn s (set array 33 (peerIn x)))) d
-        ∙ (rw e (stranger-same q m (rw e at n) d)))
+        ∙ (rw e (stranger-same q m w (rw e at n) d)))
     reach (Broadcast content scope) p w d h = link-same p (peerIn (decodeEvent event)) w (alone (isNeighbour p (s .links)) h)
     reach (Fired t) p w d h = link-same p (peerIn (decodeEvent event)) w (alone (isNeighbour p (s .links)) h)
     reach (Up q) p w d h = link-same p (peerIn (decodeEvent event)) w (alone (isNeighbour p (s .links)) h)
@@ -137,24 +136,19 @@ module _ (block event : List ℕ) where
     serves = record { same = λ w e d p h. reach e p w d h }
 
 -- the rooms of the lent entries
-pub called-entries : (block event peers array : List ℕ) (rooms : List LinkRoom) (now : ℕ) (c : Stats) (out : List ℕ) (after : Lent) (n m : ℕ) → length array ≡ 34 → Peers block event peers → Found rooms peers array →
+pub called-entries : (block event array : List ℕ) (rooms : List LinkRoom) (now : ℕ) (c : Stats) (out : List ℕ) (after : Lent) (n m : ℕ) → length array ≡ 34 → Found block event rooms array →
     Called (callOf now event (coreRooms block event array) out) (lent block c out) after n m → Called (callOf now event (entries rooms) out) (lent block c out) after n m
-called-entries block event peers array rooms now c out after n m long p f =
+called-entries block event array rooms now c out after n m long f =
     called-with block event (coreRooms block event array) (entries rooms) now c out after n m
-    (serves block event array (entries rooms) long
-    (λ w i h. f .each i (omega (arith, h, few-links block w)) ∙ ap (λ (q : ℕ). firstRoom q (entries rooms)) (p .links (whole-is block w) i h))
-    (λ q k d. f .each 32 (omega arith) ∙ ap (λ (x : ℕ). firstRoom x (entries rooms)) (p .sender .same q k d)))
+    (serves block event array (entries rooms) long (λ w i h. f .links (whole-is block w) i h) (λ w q k d. f .sender (whole-is block w) q k d))
 
 -- no link is bounded
-pub called-unbounded : (block event array : List ℕ) (now : ℕ) (c : Stats) (out : List ℕ) (after : Lent) (n m : ℕ) → length array ≡ 34 → ((i : ℕ) → i < 34 → getD array i 0 ≡ 65536) →
+pub called-unbounded : (block event array : List ℕ) (now : ℕ) (c : Stats) (out : List ℕ) (after : Lent) (n m : ℕ) → array ≡ replicate 34 65536 →
     Called (callOf now event (coreRooms block event array) out) (lent block c out) after n m → Called (callOf now event [] out) (lent block c out) after n m
-unfolding roomAt firstRoom
-called-unbounded block event array now c out after n m long e =
+unfolding firstRoom
+called-unbounded block event array now c out after n m e =
     called-with block event (coreRooms block event array) [] now c out after n m
-    (serves block event array [] long (λ w i h. unbounded i (peerAt (stateOf (headIn block) block) i) (omega (arith, h, few-links block w))) (λ q k d. unbounded 32 q (omega arith)))
-  where
-    unbounded : (i p : ℕ) → i < 34 → roomAt (getD array i 0) ≡ firstRoom p []
-    unbounded i p l = rw (e i l) refl
+    (serves block event array [] (ap length e) (λ w i h. unbounded-at array i e (omega (arith, h, few-links block w))) (λ w q k d. unbounded-at array 32 e (omega arith)))
 
 -- a refused call has left the counts
 kept : (o : Outcome) (block : List ℕ) (h s : Stats) (out block′ out′ : List ℕ) (n m : ℕ) → (n ≡ 0 → ⊥) → Finds o (lent block h out) (lent block′ s out′) n m → Finds o (lent block h out) (lent block′ h out′) n m
@@ -163,11 +157,3 @@ kept (accepted state counts bytes) block h s out block′ out′ n m ne f = absu
 
 pub called-kept : (k : Call) (block : List ℕ) (h s : Stats) (out block′ out′ : List ℕ) (n m : ℕ) → (n ≡ 0 → ⊥) → Called k (lent block h out) (lent block′ s out′) n m → Called k (lent block h out) (lent block′ h out′) n m
 called-kept k block h s out block′ out′ n m ne f = record { room = f .room; finds = kept (answerBlock identifier (length block) (held block) (countsOf h) k) block h s out block′ out′ n m ne (f .finds) }
-
-pub all-unbounded : (i : ℕ) → i < 34 → _≡_ {A = ℕ} (getD (replicate 34 65536) i 0) 65536
-all-unbounded i l = getD-replicate 34 i l
-  where
-    getD-replicate : (n i : ℕ) → i < n → _≡_ {A = ℕ} (getD (replicate n 65536) i 0) 65536
-    getD-replicate zero i l = absurd (not-suc-le-zero l)
-    getD-replicate (suc n) zero l = refl
-    getD-replicate (suc n) (suc i) l = getD-replicate n i (omega (arith, l))

@@ -1,24 +1,23 @@
 -- The peers to whom a call can send: those of the links, and the sender of a received message.
-use Prim.Native.Nat.{ℕ, zero, suc, _≤_, _<_, zero-le}
+use Prim.Native.Nat.{ℕ, zero, suc, _+_, _*_, _≤_, _<_, zero-le}
 use native.Mathlib.Omega.{arith}
-use mathlib.Core.Path.{_≡_, refl, sym, subst, _∙_}
+use mathlib.Core.Path.{_≡_, refl, sym, ap, subst, _∙_}
 use mathlib.Core.List.{List, [], _∷_}
 use lib.Dec.{ltb}
-use lib.ListN.{length, getD, set, drop}
-use lib.Seq.{getD-set-same, getD-set-other}
-use Rattle.lists.specs.Map.{keys}
+use lib.ListN.{length, getD, drop}
 use Rattle.lists.proofs.MapLaws.{cases}
 use Rattle.postcard.specs.Number.{Read, got, fault, _then_, readKind, readNumber}
 use Rattle.postcard.specs.Message.{Message, Event, Received, Broadcast, Fired, Up, Down}
 use Rattle.postcard.specs.Decode.{Decoded, decoded, faulty, readContent, scopeOf, readMessage, readTimer, eventOf, readEvent, ended, decodeEvent}
 use Rattle.block.specs.View.{stateOf}
-use Rattle.block.specs.Header.{headIn}
+use Rattle.block.specs.LinkSteps.{peerAt}
+use Rattle.block.specs.Header.{wordAt, headIn}
 use Rattle.block.proofs.LinkLaws.{count-links, read-peer}
-use Rattle.whole.proofs.HeldLaws.{Wholly, wholly-of}
+use Rattle.whole.proofs.HeldLaws.{Wholly}
 use Rattle.whole.proofs.CreateLaws.{need-header}
 use Rattle.block.specs.View.{limitsOf}
 use Rattle.machine.proofs.CoreLaws.{begun-of}
-use Rattle.plumtree.specs.Peers.{Sender, LinkPeers, Peers}
+use Rattle.plumtree.specs.Peers.{PeerIn}
 
 -- a received message was read, and this is its sender
 abbrev From : Read Event → ℕ → Type 0
@@ -109,16 +108,15 @@ module _ (block : List ℕ) (w : Wholly block) where
   pub few-links : length (stateOf (headIn block) block .links) ≤ 32
   few-links = omega (arith, count-links (headIn block) block, w .sound .fit .within .links, w .sound .fit .ceilings .N)
 
-  long-block : 2560 ≤ length block
+  pub long-block : 2560 ≤ length block
   long-block = omega (arith, begun-of block w 0 zero-le .long, need-header (limitsOf (headIn block .limits)))
 
-  pub link-peer : (peers : List ℕ) (i : ℕ) → LinkPeers block peers → i < length (stateOf (headIn block) block .links) → getD peers i 0 ≡ getD (keys (stateOf (headIn block) block .links)) i 0
-  link-peer peers i l h =
-      l .each long-block i (omega (arith, h, few-links))
-      ∙ read-peer (headIn block) block i (w .sound .fit) (omega (arith, h, count-links (headIn block) block))
+  pub link-peer : (i : ℕ) → i < length (stateOf (headIn block) block .links) → wordAt (2048 + 16 * i) block ≡ peerAt (stateOf (headIn block) block) i
+  link-peer i h = read-peer (headIn block) block i (w .sound .fit) (omega (arith, h, count-links (headIn block) block))
 
-pub peers-with : (block event peers : List ℕ) (p : ℕ) → length peers ≡ 34 → LinkPeers block peers → Sender event p → Peers block event (set peers 32 p)
-peers-with block event peers p long l s = record {
-  links = λ w i h. getD-set-other peers 32 i p 0 (λ e. omega (arith, e, h, few-links block (wholly-of block w))) ∙ link-peer block (wholly-of block w) peers i l h;
-  sender = subst (λ (q : ℕ). Sender event q) (sym (getD-set-same peers 32 p 0 (omega (arith, long)))) s;
-}
+-- the peer of a link, in its place
+pub peer-link : (block event : List ℕ) (place p : ℕ) → (place ≡ 0 → ⊥) → p ≡ wordAt (2032 + 16 * place) block → PeerIn block event place p
+peer-link block event zero p n e = absurd (n refl)
+peer-link block event (suc i) p n e =
+    let a : 2032 + 16 * suc i ≡ 2048 + 16 * i = omega arith in
+    e ∙ ap (λ (k : ℕ). wordAt k block) a

@@ -108,7 +108,8 @@ pub fn event_unbounded(
 ) -> Outcome
     ensures { λ r. ⌜ Called (callOf (at .0) (now (event .entry)) [] (now (output .entry))) (lent (now (block .entry)) c (now (output .entry))) (lent (now (block .exit)) (r .stats) (now (output .exit))) (r .number) (r .length) ⌝ }
 {
-    event::event_core(block, c, at, event, [65536; 34], output)
+    let unbounded = rooms::unbounded();
+    event::event_core(block, c, at, event, unbounded, output)
 }
 
 // An event call: the room of each peer to whom it can send is looked up, then questions 5 to 14 are asked. "The counts record is brought up to date by
@@ -124,8 +125,7 @@ pub extern "C" fn plumtree_event(
 ) -> Answer
     ensures { λ r. ⌜ Called (callOf (at .0) (now (event .entry)) (entries (now (rooms .entry))) (now (output .entry))) (lent (now (block .entry)) (now (counts .entry)) (now (output .entry))) (lent (now (block .exit)) (now (counts .exit)) (now (output .exit))) (r .number) (r .length) ⌝ }
 {
-    let peers = peers::peers_in(block, event);
-    let found = rooms::rooms_of(rooms, peers);
+    let found = rooms::rooms_of(block, event, rooms);
     let c = *counts;
     let done = event::event_core(block, c, at, event, found, output);
     if done.number == 0 {

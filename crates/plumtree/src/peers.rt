@@ -1,7 +1,9 @@
-// The peers to whom a call can send: those of the links, and the sender of the message that it brings.
+// The peers to whom a call can send: the sender of the message that it brings, and those of the links.
 use number::NumberRead;
 use rows::word;
-ghost use Rattle.plumtree.specs.Peers.{Sender, LinkPeers, Peers};
+ghost use Prim.Native.Nat.{_≤_, _<_};
+ghost use lib.ListN.{length};
+ghost use Rattle.plumtree.specs.Peers.{Sender, PeerIn, Places};
 
 // The sender of a received message, read with no look at the rest of the event; 0 for other events.
 fn sender(event: &[u8]) -> u64
@@ -20,27 +22,31 @@ fn sender(event: &[u8]) -> u64
     }
 }
 
-// The peers in the 32 places where a block may have links, whether it has them or not.
-fn link_peers(block: &[u8]) -> [u64; 34]
-    ensures { λ r. ⌜ LinkPeers (now (block .entry)) r ⌝ }
+// How many places are looked up: that of the sender and one for each link; none where the call is lent no entry, or the block is too short or tells of more
+// than 32 links, so that it is not whole.
+pub fn places(block: &[u8], entries: usize) -> usize
+    ensures { λ r. ⌜ Places (now (block .entry)) entries r ⌝ }
 {
-    let mut peers = [0; 34];
+    if entries == 0 {
+        return 0;
+    }
     if block.len() < 2560 {
-        return peers;
+        return 0;
     }
-    let mut i = 0;
-    while i < 32 {
-        peers[i] = word::load(block, 2048 + 16 * i);
-        i += 1;
+    let links = word::load(block, 144);
+    if 32 < links {
+        return 0;
     }
-    peers
+    links as usize + 1
 }
 
-// The peer of each link by its number, and at 32 that of the event.
-pub fn peers_in(block: &[u8], event: &[u8]) -> [u64; 34]
-    ensures { λ r. ⌜ Peers (now (block .entry)) (now (event .entry)) r ⌝ }
+// The peer in a place: the sender in place 0, then those of the links.
+pub fn peer_at(block: &[u8], event: &[u8], place: usize) -> u64
+    requires { ⌜ (2560 ≤ length (now block)) × (place < 33) ⌝ }
+    ensures { λ r. ⌜ PeerIn (now (block .entry)) (now (event .entry)) place r ⌝ }
 {
-    let mut peers = link_peers(block);
-    peers[32] = sender(event);
-    peers
+    if place == 0 {
+        return sender(event);
+    }
+    word::load(block, 2032 + 16 * place)
 }

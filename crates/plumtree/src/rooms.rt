@@ -1,11 +1,12 @@
 // The link room that a call is lent: "The first entry for a peer counts, a peer without one has no bound".
 use crate::LinkRoom;
+use crate::peers;
 ghost use mathlib.Core.Path.{_≡_};
 ghost use Prim.Native.Nat.{_<_};
-ghost use lib.ListN.{getD};
+ghost use lib.ListN.{replicate};
 ghost use Rattle.decide.specs.Rooms.{firstRoom};
 ghost use Rattle.steps.specs.Rooms.{roomAt};
-ghost use Rattle.plumtree.specs.Rooms.{entries, roomOf, Placed, Found};
+ghost use Rattle.plumtree.specs.Rooms.{entries, roomOf, roomPlace, Found};
 
 // How many sends a peer's link takes.
 pub enum Room {
@@ -38,34 +39,36 @@ fn room_number(r: Room) -> u64
     }
 }
 
-// The peer in place i.
-pub fn peer_at(peers: [u64; 34], i: usize) -> u64
-    requires { ⌜ i < 34 ⌝ }
-    ensures { λ r. ⌜ r ≡ getD peers i 0 ⌝ }
+// Where the room of a place stands.
+fn room_place(place: usize) -> usize
+    requires { ⌜ place < 33 ⌝ }
+    ensures { λ r. ⌜ (r ≡ roomPlace place) × (r < 33) ⌝ }
 {
-    peers[i]
+    if place == 0 {
+        return 32;
+    }
+    place - 1
 }
 
-// The rooms with that of place i.
-pub fn with_room(rooms: [u64; 34], i: usize, r: Room) -> [u64; 34]
-    requires { ⌜ i < 34 ⌝ }
-    ensures { λ a. ⌜ Placed rooms i r a ⌝ }
+// No peer has a bound.
+pub fn unbounded() -> [u64; 34]
+    ensures { λ r. ⌜ r ≡ replicate 34 65536 ⌝ }
 {
-    let mut a = rooms;
-    a[i] = room_number(r);
-    a
+    [65536; 34]
 }
 
-// Each peer's room, in the peer's place.
-pub fn rooms_of(rooms: &[LinkRoom], peers: [u64; 34]) -> [u64; 34]
-    ensures { λ r. ⌜ Found (now (rooms .entry)) peers r ⌝ }
+// The room of the sender and of each link; no bound elsewhere.
+pub fn rooms_of(block: &[u8], event: &[u8], rooms: &[LinkRoom]) -> [u64; 34]
+    ensures { λ r. ⌜ Found (now (block .entry)) (now (event .entry)) (now (rooms .entry)) r ⌝ }
 {
-    let mut a = peers;
+    let n = peers::places(block, rooms.len());
+    let mut a = unbounded();
     let mut place = 0;
-    while place < 34 {
-        let p = peer_at(a, place);
+    while place < n {
+        let p = peers::peer_at(block, event, place);
         let r = room_of(rooms, p);
-        a = with_room(a, place, r);
+        let i = room_place(place);
+        a[i] = room_number(r);
         place = place + 1;
     }
     a

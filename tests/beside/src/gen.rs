@@ -543,6 +543,12 @@ impl World {
                 v.into_iter().map(|p| (p, room(&mut self.r))).collect()
             }
         };
+        // A room that is more than any call sends, with a low byte of 0 too.
+        for (peer, room) in &mut v {
+            if *room == 65535 && *peer % 2 == 0 {
+                *room = 256;
+            }
+        }
         if self.r.chance(25.0) {
             // More entries, before and behind: of the same peers, of strangers.
             for _ in 0..self.r.pick(&[1, 3, 40]) {

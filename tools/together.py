@@ -4,8 +4,8 @@
 import glob, re, subprocess, sys
 
 
-# An edit of one replacement: the file, what stands there before and after it, and the function that it is in. There is no function where the edit can spoil more than
-# that function's own proof: in a definition, and in a contract that the crate itself uses.
+# An edit of one replacement: the file, what stands there before and after it, the function that it is in, and whether it can spoil more than that function's own proof, as
+# in a definition, or in a contract that the crate itself uses.
 def read(crate, edit):
     file, old, new = (line.split(":", 1)[1][1:] for line in open(edit).read().splitlines())
     text = open(f"crates/{crate}/{file}").read()
@@ -15,7 +15,7 @@ def read(crate, edit):
     name = (re.findall(r"\bfn (\w+)", text[:start]) or [""])[-1]
     source = "".join(open(f).read() for f in glob.glob(f"crates/{crate}/src/**/*.rt", recursive=True))
     alone = file.startswith("specs/") or old.lstrip().startswith(("requires", "ensures")) and len(re.findall(rf"\b{name}\(", source)) > 1
-    return {"edit": edit, "file": f"crates/{crate}/{file}", "start": start, "end": start + len(old), "new": new, "in": None if alone else (file[4:-3], name)}
+    return {"edit": edit, "file": f"crates/{crate}/{file}", "start": start, "end": start + len(old), "new": new, "in": (file[4:-3], name), "alone": alone}
 
 
 # What `rt dev` says of a crate with some edits: nothing where it is not refused.
@@ -39,17 +39,23 @@ def own_error(crate, place, said):
     return next((l for l in said if re.search(proof, l) and "was not admitted" not in l or re.match(none, l)), None)
 
 
+# The first error of an edit that is tried alone.
+def error_alone(crate, e):
+    said = check(crate, [e])
+    return own_error(crate, e["in"], said) or next((l for l in said if re.search(": error|: no proof", l)), None)
+
+
 kept = []
 for crate in sys.argv[1:]:
     rounds, answers = [], []
     for e in [read(crate, edit) for edit in sorted(glob.glob(f"crates/{crate}/more-edits/*.edit"))]:
         free = [r for r in rounds if e["in"] not in [other["in"] for other in r]]
-        answers.append((e, None)) if e["in"] is None else free[0].append(e) if free else rounds.append([e])
+        answers.append((e, None)) if e["alone"] else free[0].append(e) if free else rounds.append([e])
     for r in rounds:
         said = check(crate, r)
         answers += [(e, own_error(crate, e["in"], said)) for e in r]
     for e, error in answers:
-        error = error or next((l for l in check(crate, [e]) if re.search(": error|: no proof", l)), None)
+        error = error or error_alone(crate, e)
         print(f"{e['edit']}: " + (f"refused: {error[:300]}" if error else "NOT REFUSED"), flush=True)
         kept += [] if error else [e["edit"]]
 sys.exit("not refused: " + " ".join(kept) if kept else 0)

@@ -1,9 +1,9 @@
 #!/usr/bin/env bash
-# Tries the edits of crates/NAME/more-edits, which must be refused as those of crates/NAME/must-fail are: two or more of each function that another crate calls. The gate
-# leaves them out for time. Usage: tools/more-edits.sh [--together] [NAME ...], all that have such edits if none is named.
-# Each edit costs one check of its crate. With --together edits of different functions of a crate are tried in one check: an edit of a function leaves the contracts as
-# they are, and the check tells the errors of every function. An edit is then refused where its own function's proof is; one whose function has no error of its own is tried
-# alone. It prints the first error of each edit, and fails if one is not refused.
+# Tries the edits of crates/NAME/more-edits, which must be refused as those of crates/NAME/must-fail are; the gate leaves them out for time. Usage:
+# tools/more-edits.sh [--together] [NAME ...], all crates that have such edits if none is named.
+# Each edit costs one check of its crate. With --together edits of different functions of a crate are tried in one check: an edit of a function's body leaves every
+# contract as it is, and a check tells the errors of every function. An edit is then refused where its own function's proof has an error, and is tried alone where it has
+# none. The first error of each edit is printed, and the command fails if an edit is not refused.
 set -eu
 cd "$(dirname "$0")/.."
 . tools/setup.sh

@@ -1,7 +1,7 @@
 // *Alike*, of two blocks: "yes exactly when own peer number, settings, limits, sets, flags and maps agree, order inside queue, record, announcer and expiry
 // lists ignored, repeats counted".
-pub mod bags;
-pub mod tables;
+mod bags;
+mod tables;
 
 use bags::Bag;
 use block::head::Head;

@@ -55,7 +55,7 @@ pub fn push_hop(block: &mut [u8], at: usize, link: usize, round: Round)
 }
 
 // Takes the first number and its round out of the list at `at`: the others move down by one.
-pub fn drop_hop(block: &mut [u8], at: usize)
+pub(crate) fn drop_hop(block: &mut [u8], at: usize)
     requires { ⌜ (0 < getD (now block) at 0) × (at + 97 ≤ length (now block)) ⌝ }
     ensures { λ _. ⌜ now (block .exit) ≡ put at (shiftedHops (part at 97 (now (block .entry)))) (now (block .entry)) ⌝ }
 {

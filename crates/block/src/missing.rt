@@ -50,7 +50,7 @@ pub fn announcer_at(h: Head, block: &[u8], i: usize, j: usize) -> Hop
 }
 
 // Whether a link is among the announcers of the missing message i.
-pub fn announced_by(h: Head, block: &[u8], i: usize, link: usize) -> bool
+fn announced_by(h: Head, block: &[u8], i: usize, link: usize) -> bool
     requires { ⌜ Sound h (now block) × LinksAscend h (now block) × (i < h .live .missing) × (link < h .live .links) ⌝ }
     ensures { λ r. ⌜ r ≡ any (fromPeer (peerAt (stateOf h (now (block .entry))) link)) (hopsAt (stateOf h (now (block .entry))) i) ⌝ }
 {
@@ -67,7 +67,7 @@ pub fn announced_by(h: Head, block: &[u8], i: usize, link: usize) -> bool
 }
 
 // A missing message more, at its place, that nobody has announced yet.
-pub fn insert_missing(mut h: Head, block: &mut [u8], i: usize, id: Id) -> Head
+fn insert_missing(mut h: Head, block: &mut [u8], i: usize, id: Id) -> Head
     requires { ⌜ Sound h (now block) × Between (keys (stateOf h (now block) .missing)) (idOf id) i × (h .live .missing < h .limits .missing) ⌝ }
     ensures { λ r. ⌜ Goes (missAlso (idOf id)) h (now (block .entry)) r (now (block .exit)) ⌝ }
 {
@@ -82,7 +82,7 @@ pub fn insert_missing(mut h: Head, block: &mut [u8], i: usize, id: Id) -> Head
 }
 
 // An announcer more of the missing message i.
-pub fn push_announcer(h: Head, block: &mut [u8], i: usize, link: usize, round: Round)
+fn push_announcer(h: Head, block: &mut [u8], i: usize, link: usize, round: Round)
     requires { ⌜ Sound h (now block) × MissingAscend h (now block) × (i < h .live .missing) × (link < h .live .links) × (length (hopsAt (stateOf h (now block)) i) < 32) ⌝ }
     ensures { λ _. ⌜ Goes (announcedAt i link (round .0)) h (now (block .entry)) h (now (block .exit)) ⌝ }
 {
@@ -91,7 +91,7 @@ pub fn push_announcer(h: Head, block: &mut [u8], i: usize, link: usize, round: R
 }
 
 // The missing message i is forgotten.
-pub fn remove_missing(mut h: Head, block: &mut [u8], i: usize) -> Head
+fn remove_missing(mut h: Head, block: &mut [u8], i: usize) -> Head
     requires { ⌜ Sound h (now block) × MissingAscend h (now block) × (i < h .live .missing) ⌝ }
     ensures { λ r. ⌜ Goes (missOutAt i) h (now (block .entry)) r (now (block .exit)) ⌝ }
 {
@@ -104,7 +104,7 @@ pub fn remove_missing(mut h: Head, block: &mut [u8], i: usize) -> Head
 }
 
 // The first announcer of the missing message i is taken out.
-pub fn drop_announcer(h: Head, block: &mut [u8], i: usize)
+fn drop_announcer(h: Head, block: &mut [u8], i: usize)
     requires { ⌜ Sound h (now block) × MissingAscend h (now block) × (i < h .live .missing) × (0 < length (hopsAt (stateOf h (now block)) i)) ⌝ }
     ensures { λ _. ⌜ Goes (leftAt i) h (now (block .entry)) h (now (block .exit)) ⌝ }
 {

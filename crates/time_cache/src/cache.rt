@@ -85,7 +85,7 @@ impl TimeBoundCache {
     }
 
     // How many rows are due at an instant: "entries with time ≤ the instant".
-    pub fn due(self, block: &[u8], instant: Millis) -> usize
+    pub(crate) fn due(self, block: &[u8], instant: Millis) -> usize
         requires { ⌜ Lies self (now block) × Sound self (now block) ⌝ }
         ensures { λ r. ⌜ Cut (cacheAt self (now (block .entry)) .expiry) (instant .0) r ⌝ }
     {
@@ -144,7 +144,7 @@ impl TimeBoundCache {
     }
 
     // `get`: the key's entry and the row that it names, where the value's bytes are.
-    pub fn get(self, block: &[u8], key: Id) -> Got
+    pub(crate) fn get(self, block: &[u8], key: Id) -> Got
         requires { ⌜ Lies self (now block) × Sound self (now block) ⌝ }
         ensures { λ r. ⌜ GotIs self (now (block .entry)) (idOf key) r ⌝ }
     {

@@ -14,7 +14,7 @@ ghost use Rattle.block.specs.Fit.{Ceilings};
 ghost use Rattle.whole.specs.Creation.{Creation, freshLive};
 
 // (1) "Is M, `max_message_size`, from 510 to 4,094?"
-pub fn size_in_range(s: Settings) -> bool
+pub(crate) fn size_in_range(s: Settings) -> bool
     ensures { λ r. ⌜ r ≡ sizeInRange (settingsOf s) ⌝ }
 {
     if s.max_message_size < 510 {
@@ -31,7 +31,7 @@ fn short(d: Millis) -> bool
 }
 
 // (2) "Is each of the six durations at most 2^40?"
-pub fn durations_in_range(s: Settings) -> bool
+pub(crate) fn durations_in_range(s: Settings) -> bool
     ensures { λ r. ⌜ r ≡ durationsInRange (settingsOf s) ⌝ }
 {
     let c = s.config;

@@ -1,6 +1,6 @@
 // Question 5, "Is the block whole?", and creation.
 pub mod create;
-pub mod tables;
+mod tables;
 
 use block::head::Limits;
 use block::head::Live;

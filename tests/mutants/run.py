@@ -132,7 +132,7 @@ def table(mutants, rows):
     caught = sum(a == 'caught' for a, _ in answers)
     alike = sum(a == 'SURVIVED' and bool(why) for a, why in answers)
     with open(os.path.join(here, 'RESULTS.md'), 'w') as f:
-        f.write('# Mutants\n\nOf the %d changes of the library in mutants.txt, %d were run on these sources, each beside the Rust for at most a minute (seed %s): %d told apart, ' % (len(mutants), len(known), SEED, caught))
+        f.write('# Mutants\n\nOf the %d changes of the library in mutants.txt, %d were run on the code of their function as it stands, each beside the Rust for at most a minute (seed %s): %d told apart, ' % (len(mutants), len(known), SEED, caught))
         f.write('%d that no call can tell apart (the last column says why), %d not told apart and not explained. ' % (alike, len(known) - caught - alike))
         f.write('"After" is the number of the call that differs, or of all calls made where none does; "by" what differs, or why nothing can.\n\n')
         columns = '| where | change | told apart | after | by |\n|---|---|---|---|---|\n'

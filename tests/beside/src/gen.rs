@@ -69,6 +69,8 @@ pub struct World {
     weights: Vec<(&'static str, u64)>,
     pending: Vec<Vec<u8>>,
     plan: Vec<Vec<u8>>,
+    /// The room of every peer, where a list plans it.
+    room: Option<u16>,
     out: usize,
 }
 
@@ -245,6 +247,7 @@ impl World {
             weights,
             pending: Vec::new(),
             plan: Vec::new(),
+            room: None,
             out: 0,
             r,
         }
@@ -515,6 +518,9 @@ impl World {
     }
 
     fn rooms(&mut self, s: &Snap) -> Vec<(u64, u16)> {
+        if let Some(room) = self.room {
+            return self.peers.iter().map(|p| (*p, room)).collect();
+        }
         if self.profile == Profile::Brink && self.r.chance(70.0) {
             return self.peers.iter().map(|p| (*p, 0)).collect();
         }
@@ -872,6 +878,37 @@ impl World {
             let need = block::need(&self.max);
             let any = r.index(b.len());
             return Cmd::Cut(r.pick(&[0, 1, 2047, 2048, need - 1, need, any]));
+        }
+        if r.chance(4.0) {
+            // One expiry row too many, and nothing else amiss: copies of the last one behind it.
+            let (start, rows, limit, count) = r.pick(&[
+                (at.received_rows, n[2], self.max[1] as usize, 2),
+                (at.grafted_rows, n[7], self.max[4] as usize, 7),
+            ]);
+            let all = 2 * limit + 1;
+            if rows > 0 && all - rows <= 40 {
+                let last = &b[start + 40 * (rows - 1)..][..40];
+                let copy = |i: usize| (0..40).map(move |k| (start + 40 * i + k, last[k]));
+                let mut v: Vec<(usize, u8)> = (rows..all).flat_map(copy).collect();
+                let word = (all as u64).to_le_bytes();
+                v.extend((0..8).map(|k| (8 * (block::word::LIVE + count) + k, word[k])));
+                return Cmd::Poke(v);
+            }
+        }
+        if n[11] > 2 && r.chance(4.0) {
+            // A note twice, and between the two one for the same peer whose identifier ends in the same bytes.
+            let mut rows = [r.index(n[11]), r.index(n[11]), r.index(n[11])];
+            rows.sort();
+            let [i, j, k] = rows;
+            if i < j && j < k {
+                let note = b[at.dropped + 34 * i..][..34].to_vec();
+                let number = b[at.dropped_numbers + i];
+                let mut v = vec![(at.dropped_numbers + j, number), (at.dropped_numbers + k, number)];
+                v.extend(note.iter().enumerate().map(|(x, y)| (at.dropped + 34 * k + x, *y)));
+                v.extend(note.iter().enumerate().map(|(x, y)| (at.dropped + 34 * j + x, *y)));
+                v.push((at.dropped + 34 * j, note[0] ^ 1));
+                return Cmd::Poke(v);
+            }
         }
         if let Some(k) = full_record(&b[at.dropped_numbers..][..n[11]]) {
             // One more for a peer that has 256.

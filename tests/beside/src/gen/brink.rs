@@ -1,5 +1,5 @@
 //! States that are one or two calls from a limit, with the calls that reach it: 256 identifiers recorded for a peer, 4,096 in all, a record that a dispatch
-//! fills, contents that a first event leaves no room in.
+//! fills, also by what stands in two of its IHaves, contents that a first event leaves no room in.
 use oracle::snap::{Cached, Id, Notes, Snap};
 
 use super::World;
@@ -23,10 +23,11 @@ fn noted(notes: &Notes) -> usize {
 impl World {
     /// A creation, a loaded state, and a plan of calls.
     pub(super) fn begin_on_brink(&mut self) -> Vec<Cmd> {
-        let state = match self.r.below(4) {
+        let state = match self.r.below(5) {
             0 => self.peers_nearly_full(),
             1 => self.record_nearly_full(),
             2 => self.dispatch_that_fills(),
+            3 => self.dispatch_in_two(),
             _ => self.contents_nearly_full(),
         };
         self.out = 400_000;
@@ -205,6 +206,39 @@ impl World {
         s.announce = true;
         let room = noted(&s.dropped) + gains + self.r.pick(&[0, 0, 1, 2]);
         self.roomy(8000, (room - 1).max(noted(&s.dropped)));
+        self.plan.push(wire::DISPATCH.to_vec());
+        s
+    }
+
+    /// The one link takes one IHave of a dispatch and hands back the next, in which an identifier of the first stands again; the record has room for what it
+    /// gains, or for all but one.
+    fn dispatch_in_two(&mut self) -> Snap {
+        let mut s = self.linked(1);
+        let p = neighbours(&s)[0];
+        let mut cached: Vec<(Id, u16)> = s.cache.iter().map(|c| (c.id, c.round)).collect();
+        self.r.shuffle(&mut cached);
+        let first = ((self.m - 6) / 35) as usize;
+        let both = 1 + self.r.index(cached.len().min(6));
+        let mut queue = cached[..both].to_vec();
+        queue.extend(self.notes(first - both, false));
+        let new = self.r.index((cached.len() - both).min(3) + 1);
+        let mut back = cached[both..][..new].to_vec();
+        let again = queue[self.r.index(both)];
+        back.push(again);
+        let gains = back.len();
+        self.r.shuffle(&mut back);
+        self.r.shuffle(&mut queue);
+        queue.extend(back);
+        s.queue.push((p, queue));
+        // One whose identifier ends in the same bytes is recorded.
+        let mut near = again;
+        near.0[0] ^= 1;
+        s.dropped.push((p, vec![near]));
+        s.dispatch = true;
+        s.announce = true;
+        self.room = Some(1);
+        let room = 1 + gains + self.r.pick(&[0, 0, 1]);
+        self.roomy(8000, room - 1);
         self.plan.push(wire::DISPATCH.to_vec());
         s
     }

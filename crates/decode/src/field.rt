@@ -106,7 +106,7 @@ pub(crate) fn read_delivery(bytes: &[u8], at: usize) -> DeliveryRead
             delivery: Delivery::Neighbors,
             next: at + 1,
         },
-        _ => DeliveryRead::Fault(8),
+        2..=255 => DeliveryRead::Fault(8),
     }
 }
 
@@ -133,7 +133,7 @@ pub(crate) fn read_wanted(bytes: &[u8], at: usize) -> WantedRead
                 IdRead::Fault(n) => WantedRead::Fault(n),
             }
         }
-        _ => WantedRead::Fault(8),
+        2..=255 => WantedRead::Fault(8),
     }
 }
 

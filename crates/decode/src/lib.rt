@@ -138,7 +138,7 @@ fn read_announcements(bytes: &[u8], at: usize) -> MessageRead
     }
 }
 
-// "Message: 0 Gossip .., 1 Prune, 2 Graft .., 3 IHave .."; another kind is 8.
+// "Message: 0 Gossip .., 1 Prune, 2 Graft .., 3 IHave .."; the range above is 8.
 fn read_message(bytes: &[u8], at: usize) -> MessageRead
     ensures { λ r. ⌜ MessageReads (now (bytes .entry)) r (readMessage (drop at (now (bytes .entry)))) ⌝ }
 {
@@ -154,11 +154,11 @@ fn read_message(bytes: &[u8], at: usize) -> MessageRead
         },
         2 => read_graft(bytes, at + 1),
         3 => read_announcements(bytes, at + 1),
-        _ => MessageRead::Fault(8),
+        4..=255 => MessageRead::Fault(8),
     }
 }
 
-// "Timers: 0 SendGraft with identifier, 1 DispatchLazyPush, 2 EvictCache, 3 AnnounceDropped"; another kind is 8.
+// "Timers: 0 SendGraft with identifier, 1 DispatchLazyPush, 2 EvictCache, 3 AnnounceDropped"; the range above is 8.
 fn read_timer(bytes: &[u8], at: usize) -> TimerRead
     ensures { λ r. ⌜ Reads (now (bytes .entry)) (timerAt r) (readTimer (drop at (now (bytes .entry)))) ⌝ }
 {
@@ -189,7 +189,7 @@ fn read_timer(bytes: &[u8], at: usize) -> TimerRead
             timer: Timer::AnnounceDropped,
             next: at + 1,
         },
-        _ => TimerRead::Fault(8),
+        4..=255 => TimerRead::Fault(8),
     }
 }
 
@@ -246,7 +246,7 @@ fn read_broadcast(bytes: &[u8], at: usize) -> EventRead
                     },
                     next: end + 1,
                 },
-                _ => EventRead::Fault(8),
+                2..=255 => EventRead::Fault(8),
             }
         }
         ContentRead::Fault(n) => EventRead::Fault(n),
@@ -295,7 +295,7 @@ fn read_down(bytes: &[u8], at: usize) -> EventRead
     }
 }
 
-// "0 received message, 1 broadcast, 2 timer, 3 neighbour up, 4 neighbour down"; another kind is 8.
+// "0 received message, 1 broadcast, 2 timer, 3 neighbour up, 4 neighbour down"; the range above is 8.
 fn read_event(bytes: &[u8]) -> EventRead
     ensures { λ r. ⌜ EventReads (now (bytes .entry)) r (readEvent (now (bytes .entry))) ⌝ }
 {
@@ -309,7 +309,7 @@ fn read_event(bytes: &[u8]) -> EventRead
         2 => read_fired(bytes, 1),
         3 => read_up(bytes, 1),
         4 => read_down(bytes, 1),
-        _ => EventRead::Fault(8),
+        5..=255 => EventRead::Fault(8),
     }
 }
 

@@ -1,6 +1,6 @@
 // Document 01's calls upon a lent block, as C and Rust link them.
-pub mod peers;
-pub mod rooms;
+mod peers;
+mod rooms;
 
 use block::head::Limits;
 use block::head::Settings;

@@ -308,8 +308,10 @@ def state(dump, settings, limits):
         ("settings", settings), ("limits", limits), ("links", seq("(entry %d %s)" % l for l in links)),
         ("queue", seq(notes(d["queue"]))), ("dropped", seq(notes(d["dropped"]))), ("missing", seq(missing(d["missing"]))),
         ("received", cache(received(d["received"]), d["rexp"])), ("grafted", cache(grafted(d["grafted"]), d["gexp"])),
-        ("cache", cache(cached(d["cache"]), d["cexp"])), ("graftTimers", seq(map(ident, split(d["timers"])))),
-        ("dispatchScheduled", flag(d["dispatch"])), ("announceScheduled", flag(d["announce"])), ("init", flag(d["init"])),
+        ("cache", cache(cached(d["cache"]), d["cexp"])),
+        ("timers", "record { graft = %s; dispatch = %s; announce = %s }" % (
+            seq(map(ident, split(d["timers"]))), flag(d["dispatch"]), flag(d["announce"]))),
+        ("init", flag(d["init"])),
     ]
     return "record {\n" + "".join("    %s = %s;\n" % f for f in fields) + "  }"
 

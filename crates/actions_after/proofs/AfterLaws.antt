@@ -55,9 +55,9 @@ use Rattle.kinds.specs.declared.Step.the-variants as step
 use Rattle.actions_after.specs.After.{graftBytes, newBytes, stepBytes, callBytes}
 
 -- a first event leaves the record's flag
-settled-flag : (instant : ℕ) (s : State) → settled instant s .announceScheduled ≡ s .announceScheduled
+settled-flag : (instant : ℕ) (s : State) → settled instant s .timers .announce ≡ s .timers .announce
 unfolding settled
-settled-flag instant s = if-on (λ (x : State). x .announceScheduled) (s .init) _ _ ∙ if-same (s .init) refl refl
+settled-flag instant s = if-on (λ (x : State). x .timers .announce) (s .init) _ _ ∙ if-same (s .init) refl refl
 
 -- the reply reads the record's flag alone
 reply-settled : (rooms : List Room) (sender id instant : ℕ) (o : Option Cached) (s : State) → replyActions rooms sender id o s ≡ replyActions rooms sender id o (settled instant s)

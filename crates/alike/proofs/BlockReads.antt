@@ -44,7 +44,7 @@ use Rattle.alike.specs.declared.bags.Bag.the-variants.{Queue, Record, Re
 
 -- timer i, and the identifier of missing message i
 pub timer-read : (h : Head) (xs : List ℕ) (i a : ℕ) → Fit h xs → i < h .live .timers → a ≡ place (limitsOf (h .limits)) 10
-    → beNat (part (a + 32 * i) 32 xs) ≡ getD (stateOf h xs .graftTimers) i 0
+    → beNat (part (a + 32 * i) 32 xs) ≡ getD (stateOf h xs .timers .graft) i 0
 unfolding stateOf timersIn idAt
 timer-read h xs i a fit q e =
     let l : Limits = limitsOf (h .limits) in
@@ -83,7 +83,7 @@ pub count-missing : (h : Head) (xs : List ℕ) → length (stateOf h xs .missing
 unfolding stateOf missingIn
 count-missing h xs = length-view (missedOf (keys (stateOf h xs .links))) 129 (h .live .missing) (table (limitsOf (h .limits)) 9 xs)
 
-pub count-timers : (h : Head) (xs : List ℕ) → length (stateOf h xs .graftTimers) ≡ h .live .timers
+pub count-timers : (h : Head) (xs : List ℕ) → length (stateOf h xs .timers .graft) ≡ h .live .timers
 unfolding stateOf timersIn
 count-timers h xs = length-view (idAt 0) 32 (h .live .timers) (table (limitsOf (h .limits)) 10 xs)
 

@@ -125,7 +125,7 @@ module _ (ha : Head) (a : List ℕ) (hb : Head) (b : List ℕ) (fa : Fit ha a) (
   unfolding sameMap
   rows-yes Links e h = list-yes (sameEntry sameMark) (entry 0 eager) (s .links) (u .links) (count-links ha a ∙ e ∙ sym (count-links hb b)) (λ k q. h k (omega (arith, q, count-links ha a)))
   rows-yes Missing e h = list-yes (sameEntry (sameBag sameHop)) (entry 0 []) (s .missing) (u .missing) (count-missing ha a ∙ e ∙ sym (count-missing hb b)) (λ k q. h k (omega (arith, q, count-missing ha a)))
-  rows-yes Timers e h = list-yes eqb 0 (s .graftTimers) (u .graftTimers) (count-timers ha a ∙ e ∙ sym (count-timers hb b)) (λ k q. h k (omega (arith, q, count-timers ha a)))
+  rows-yes Timers e h = list-yes eqb 0 (s .timers .graft) (u .timers .graft) (count-timers ha a ∙ e ∙ sym (count-timers hb b)) (λ k q. h k (omega (arith, q, count-timers ha a)))
   rows-yes Received e h = list-yes (sameEntry (sameTimed sameUnit)) noReceived (s .received .entries) (u .received .entries) (count-received ha a fa ∙ e ∙ sym (count-received hb b fb)) (λ k q. h k (omega (arith, q, count-received ha a fa)))
   rows-yes Grafted e h = list-yes (sameEntry (sameTimed sameGrafts)) noGrafted (s .grafted .entries) (u .grafted .entries) (count-grafted ha a fa ∙ e ∙ sym (count-grafted hb b fb)) (λ k q. h k (omega (arith, q, count-grafted ha a fa)))
   rows-yes CachedRows e h = list-yes (sameEntry (sameTimed sameCached)) noCached (s .cache .entries) (u .cache .entries) (count-cached ha a fa ∙ e ∙ sym (count-cached hb b fb)) (λ k q. h k (omega (arith, q, count-cached ha a fa)))
@@ -134,7 +134,7 @@ module _ (ha : Head) (a : List ℕ) (hb : Head) (b : List ℕ) (fa : Fit ha a) (
   unfolding sameMap
   rows-no Links k p q e = list-no (sameEntry sameMark) (entry 0 eager) (s .links) (u .links) k (omega (arith, count-links ha a)) (omega (arith, count-links hb b)) e
   rows-no Missing k p q e = list-no (sameEntry (sameBag sameHop)) (entry 0 []) (s .missing) (u .missing) k (omega (arith, count-missing ha a)) (omega (arith, count-missing hb b)) e
-  rows-no Timers k p q e = list-no eqb 0 (s .graftTimers) (u .graftTimers) k (omega (arith, count-timers ha a)) (omega (arith, count-timers hb b)) e
+  rows-no Timers k p q e = list-no eqb 0 (s .timers .graft) (u .timers .graft) k (omega (arith, count-timers ha a)) (omega (arith, count-timers hb b)) e
   rows-no Received k p q e = list-no (sameEntry (sameTimed sameUnit)) noReceived (s .received .entries) (u .received .entries) k (omega (arith, count-received ha a fa)) (omega (arith, count-received hb b fb)) e
   rows-no Grafted k p q e = list-no (sameEntry (sameTimed sameGrafts)) noGrafted (s .grafted .entries) (u .grafted .entries) k (omega (arith, count-grafted ha a fa)) (omega (arith, count-grafted hb b fb)) e
   rows-no CachedRows k p q e = list-no (sameEntry (sameTimed sameCached)) noCached (s .cache .entries) (u .cache .entries) k (omega (arith, count-cached ha a fa)) (omega (arith, count-cached hb b fb)) e
@@ -143,7 +143,7 @@ module _ (ha : Head) (a : List ℕ) (hb : Head) (b : List ℕ) (fa : Fit ha a) (
   unfolding sameMap
   rows-length Links n = list-length (sameEntry sameMark) (entry 0 eager) (s .links) (u .links) (λ e. n (sym (count-links ha a) ∙ e ∙ count-links hb b))
   rows-length Missing n = list-length (sameEntry (sameBag sameHop)) (entry 0 []) (s .missing) (u .missing) (λ e. n (sym (count-missing ha a) ∙ e ∙ count-missing hb b))
-  rows-length Timers n = list-length eqb 0 (s .graftTimers) (u .graftTimers) (λ e. n (sym (count-timers ha a) ∙ e ∙ count-timers hb b))
+  rows-length Timers n = list-length eqb 0 (s .timers .graft) (u .timers .graft) (λ e. n (sym (count-timers ha a) ∙ e ∙ count-timers hb b))
   rows-length Received n = list-length (sameEntry (sameTimed sameUnit)) noReceived (s .received .entries) (u .received .entries) (λ e. n (sym (count-received ha a fa) ∙ e ∙ count-received hb b fb))
   rows-length Grafted n = list-length (sameEntry (sameTimed sameGrafts)) noGrafted (s .grafted .entries) (u .grafted .entries) (λ e. n (sym (count-grafted ha a fa) ∙ e ∙ count-grafted hb b fb))
   rows-length CachedRows n = list-length (sameEntry (sameTimed sameCached)) noCached (s .cache .entries) (u .cache .entries) (λ e. n (sym (count-cached ha a fa) ∙ e ∙ count-cached hb b fb))

@@ -39,7 +39,7 @@ cachedEntry s i = getD (s .cache .entries) i (entry 0 (record { expires = 0; val
 abbrev pub sameRow : Table → State → State → ℕ → Bool
 sameRow Links s t i = sameEntry sameMark (linkAt s i) (linkAt t i)
 sameRow Missing s t i = sameEntry (sameBag sameHop) (missedAt s i) (missedAt t i)
-sameRow Timers s t i = eqb (getD (s .graftTimers) i 0) (getD (t .graftTimers) i 0)
+sameRow Timers s t i = eqb (getD (s .timers .graft) i 0) (getD (t .timers .graft) i 0)
 sameRow Received s t i = sameEntry (sameTimed sameUnit) (receivedAt s i) (receivedAt t i)
 sameRow Grafted s t i = sameEntry (sameTimed sameGrafts) (graftedAt s i) (graftedAt t i)
 sameRow CachedRows s t i = sameEntry (sameTimed sameCached) (cachedEntry s i) (cachedEntry t i)
@@ -48,7 +48,7 @@ sameRow CachedRows s t i = sameEntry (sameTimed sameCached) (cachedEntry s i) (c
 abbrev pub sameRows : Table → State → State → Bool
 sameRows Links s t = sameMap sameMark (s .links) (t .links)
 sameRows Missing s t = sameMap (sameBag sameHop) (s .missing) (t .missing)
-sameRows Timers s t = sameList eqb (s .graftTimers) (t .graftTimers)
+sameRows Timers s t = sameList eqb (s .timers .graft) (t .timers .graft)
 sameRows Received s t = sameMap (sameTimed sameUnit) (s .received .entries) (t .received .entries)
 sameRows Grafted s t = sameMap (sameTimed sameGrafts) (s .grafted .entries) (t .grafted .entries)
 sameRows CachedRows s t = sameMap (sameTimed sameCached) (s .cache .entries) (t .cache .entries)

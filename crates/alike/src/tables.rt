@@ -77,7 +77,7 @@ fn same_bytes(a: &[u8], b: &[u8]) -> bool
 // Graft timer i.
 fn timer_at(h: Head, block: &[u8], i: usize) -> Id
     requires { ⌜ Fit h (now block) × (i < h .live .timers) ⌝ }
-    ensures { λ r. ⌜ idOf r ≡ getD (stateOf h (now (block .entry)) .graftTimers) i 0 ⌝ }
+    ensures { λ r. ⌜ idOf r ≡ getD (stateOf h (now (block .entry)) .timers .graft) i 0 ⌝ }
 {
     let a = head::timers_at(h.limits);
     id::load_id(block, a + 32 * i)

@@ -257,7 +257,7 @@ module _ (h : Head) (xs : List ℕ) (g : Head) (ys : List ℕ) (go : Goes movedS
       let none : isEmpty (s0 .queue ++ oldest [] (stillCached s0)) ≡ true = empty-is (s0 .queue ++ oldest [] (stillCached s0)) (sym long ∙ z) in
       record {
         state = a .state ∙ ap (withAnnounceScheduled b) (go .state)
-            ∙ (λ t. withAnnounceScheduled (flag t) (withDispatchScheduled (not (sym none t) || s0 .dispatchScheduled) (withDropped (younger [] (stillCached s0)) (withQueue (s0 .queue ++ oldest [] (stillCached s0)) s0))));
+            ∙ (λ t. withAnnounceScheduled (flag t) (withDispatchScheduled (not (sym none t) || s0 .timers .dispatch) (withDropped (younger [] (stillCached s0)) (withQueue (s0 .queue ++ oldest [] (stillCached s0)) s0))));
         sound = a .sound;
       }
 
@@ -269,6 +269,6 @@ module _ (h : Head) (xs : List ℕ) (g : Head) (ys : List ℕ) (go : Goes movedS
       let some : isEmpty (s0 .queue ++ oldest [] (stillCached s0)) ≡ false = empty-not (s0 .queue ++ oldest [] (stillCached s0)) (λ y. z (long ∙ y)) in
       record {
         state = d .state ∙ ap (withDispatchScheduled true) (a .state ∙ ap (withAnnounceScheduled b) (go .state))
-            ∙ (λ t. withAnnounceScheduled (flag t) (withDispatchScheduled (not (sym some t) || s0 .dispatchScheduled) (withDropped (younger [] (stillCached s0)) (withQueue (s0 .queue ++ oldest [] (stillCached s0)) s0))));
+            ∙ (λ t. withAnnounceScheduled (flag t) (withDispatchScheduled (not (sym some t) || s0 .timers .dispatch) (withDropped (younger [] (stillCached s0)) (withQueue (s0 .queue ++ oldest [] (stillCached s0)) s0))));
         sound = d .sound;
       }

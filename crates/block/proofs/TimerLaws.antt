@@ -31,13 +31,13 @@ use Rattle.block.proofs.Tables.{length-table, length-view, keys-table, 
 use Rattle.block.proofs.RowLaws.{opened-frame, closed-frame, view-insert, view-remove}
 use Rattle.block.proofs.KeyPlaces.{insertKey-between, removeKey-here}
 
-pub count-timers : (h : Head) (xs : List ℕ) → length (stateOf h xs .graftTimers) ≡ h .live .timers
+pub count-timers : (h : Head) (xs : List ℕ) → length (stateOf h xs .timers .graft) ≡ h .live .timers
 unfolding stateOf timersIn
 count-timers h xs = length-view (idAt 0) 32 (h .live .timers) (table (limitsOf (h .limits)) 10 xs)
 
 -- the timers, as the search reads them in the block
 pub timer-keys : (h : Head) (xs : List ℕ) (a : ℕ) → Fit h xs → a ≡ place (limitsOf (h .limits)) 10
-    → keys 32 (h .live .timers) (take (length xs - a) (drop a xs)) ≡ stateOf h xs .graftTimers
+    → keys 32 (h .live .timers) (take (length xs - a) (drop a xs)) ≡ stateOf h xs .timers .graft
 unfolding stateOf timersIn keyOf idAt
 timer-keys h xs a fit e = keys-table (limitsOf (h .limits)) 10 32 (h .live .timers) a xs (lit< tt) (omega arith) e
 
@@ -53,7 +53,7 @@ module _ (h : Head) (xs : List ℕ) (sound : Sound h xs) (i : ℕ) where
   n = h .live .timers
 
   abbrev ts : List ℕ
-  ts = stateOf h xs .graftTimers
+  ts = stateOf h xs .timers .graft
 
   abbrev fit : Fit h xs
   fit = sound .fit

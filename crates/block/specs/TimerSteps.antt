@@ -13,16 +13,16 @@ use Rattle.block.specs.declared.head.Head.{Head}
 
 -- the timers ascend: a part of being whole
 abbrev pub TimersAscend : Head → List ℕ → Type 0
-TimersAscend h block = ascending (stateOf h block .graftTimers) ≡ true
+TimersAscend h block = ascending (stateOf h block .timers .graft) ≡ true
 
 -- a timer more
 abbrev pub timerAlso : ℕ → State → State
-timerAlso id s = withGraftTimers (insertKey id (s .graftTimers)) s
+timerAlso id s = withGraftTimers (insertKey id (s .timers .graft)) s
 
 -- a timer less
 abbrev pub timerOut : ℕ → State → State
-timerOut id s = withGraftTimers (removeKey id (s .graftTimers)) s
+timerOut id s = withGraftTimers (removeKey id (s .timers .graft)) s
 
 -- the timer in row i
 abbrev pub timerOutAt : ℕ → State → State
-timerOutAt i s = timerOut (getD (s .graftTimers) i 0) s
+timerOutAt i s = timerOut (getD (s .timers .graft) i 0) s

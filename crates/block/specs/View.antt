@@ -169,9 +169,7 @@ viewWith peers h t = record {
   received = receivedIn (h .live .received) (getD t 2 []) (h .live .«received_rows») (getD t 3 []);
   grafted = graftedIn peers (h .live .grafted) (getD t 7 []) (h .live .«grafted_rows») (getD t 8 []);
   cache = cachedIn (getD t 6 []) (h .live .cached) (getD t 4 []) (h .live .«cached_rows») (getD t 5 []);
-  graftTimers = timersIn (h .live .timers) (getD t 10 []);
-  dispatchScheduled = h .live .«dispatch_timer_scheduled»;
-  announceScheduled = h .live .«announce_dropped_scheduled»;
+  timers = record { graft = timersIn (h .live .timers) (getD t 10 []); dispatch = h .live .«dispatch_timer_scheduled»; announce = h .live .«announce_dropped_scheduled» };
   init = h .live .init;
 }
 

@@ -37,7 +37,7 @@ evict-light s = light-one (scheduled-few (s .settings .cacheEvictInterval) Evict
 
 timer-light : (s : State) → Light 44 (dispatchAction s)
 unfolding dispatchAction
-timer-light s = light-if (s .dispatchScheduled) light-none (light-one (scheduled-few (s .settings .dispatchTimeout) DispatchLazyPush))
+timer-light s = light-if (s .timers .dispatch) light-none (light-one (scheduled-few (s .settings .dispatchTimeout) DispatchLazyPush))
 
 pub announce-light : (s : State) → Light 88 (announceActions s)
 unfolding announceActions
@@ -65,7 +65,7 @@ reply-light : (rooms : List Room) (sender id : ℕ) (o : Option Cached) (s : Sta
 unfolding replyActions contentLength
 reply-light rooms sender id none s h = light-none
 reply-light rooms sender id (some c) s h =
-    light-more (push-light rooms id (c .content) (Swarm (c .round)) (sender ∷ []) (s .announceScheduled) 1048642 (omega arith)) (omega arith)
+    light-more (push-light rooms id (c .content) (Swarm (c .round)) (sender ∷ []) (s .timers .announce) 1048642 (omega arith)) (omega arith)
 
 pub graft-light : (rooms : List Room) (sender : ℕ) (wanted : Option ℕ) (s : State) → Small s → Light 1100000 (graftActions rooms sender wanted s)
 unfolding graftActions
@@ -100,7 +100,7 @@ pub broadcast-light : (rooms : List Room) (id : ℕ) (content : List ℕ) (scope
 unfolding broadcastActions
 broadcast-light rooms id content toSwarm s small h =
     light-more
-    (light-then (timer-light s) (push-light rooms id content (Swarm 0) (eagerTargets (s .settings .me) [] s) (s .announceScheduled) 4160 (omega arith)))
+    (light-then (timer-light s) (push-light rooms id content (Swarm 0) (eagerTargets (s .settings .me) [] s) (s .timers .announce) 4160 (omega arith)))
     (omega (arith, targets-few (s .settings .me) [] s small))
 broadcast-light rooms id content toNeighbors s small h =
     light-more (sends-light rooms id content Neighbors (eagerTargets (s .settings .me) [] s) 4160 (omega arith)) (omega (arith, targets-few (s .settings .me) [] s small))
@@ -130,7 +130,7 @@ new-light rooms sender id content round s small h =
     (light-then
     (light-then
     (light-then
-    (push-light rooms id content (Swarm (suc round)) (eagerTargets sender (keys (graftedFor id s)) s) (s .announceScheduled) 4160 (omega arith))
+    (push-light rooms id content (Swarm (suc round)) (eagerTargets sender (keys (graftedFor id s)) s) (s .timers .announce) 4160 (omega arith))
     (timer-light s))
     (light-if (isNeighbour sender (s .links) && not (graftOut sender round (graftedFor id s))) (optimise-light rooms sender (suc round) (announcers id s) s) light-none))
     (light-one (emitted-few sender content (Swarm round))))

@@ -29,7 +29,7 @@ module _ (instant : ℕ) (array : List ℕ) (id : ℕ) (content : List ℕ) (s :
   swarm-of : concatMap actionBytes (broadcastActions (roomsIn s array) id content toSwarm s)
       ≡ concatMap actionBytes (dispatchAction s) ++ pushBytes array (Gossip id content (Swarm 0)) (targetsOf (s .settings .me) Nothing s) s
   unfolding broadcastActions skippedIn
-  swarm-of = actions-then (dispatchAction s) (pushActions (roomsIn s array) (Gossip id content (Swarm 0)) (eagerTargets (s .settings .me) [] s) (s .announceScheduled))
+  swarm-of = actions-then (dispatchAction s) (pushActions (roomsIn s array) (Gossip id content (Swarm 0)) (eagerTargets (s .settings .me) [] s) (s .timers .announce))
 
   near-of : concatMap actionBytes (broadcastActions (roomsIn s array) id content toNeighbors s) ≡ sentBytes array (Gossip id content Neighbors) (targetsOf (s .settings .me) Nothing s) s
   unfolding broadcastActions skippedIn

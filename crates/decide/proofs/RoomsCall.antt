@@ -92,7 +92,7 @@ module _ (P : ℕ → Bool) where
 
   dispatching : (s : State) → Within P (dispatchAction s)
   unfolding dispatchAction
-  dispatching s = branch (s .dispatchScheduled) [] _ nil (cons _ [] refl nil)
+  dispatching s = branch (s .timers .dispatch) [] _ nil (cons _ [] refl nil)
 
   announcing : (s : State) → Within P (announceActions s)
   unfolding announceActions
@@ -215,7 +215,7 @@ module _ (hash : List ℕ → ℕ) (rooms : List Room) (s : State) (x : Consiste
   reply-in : (sender id : ℕ) (o : Option Cached) → Within (near s sender) (replyActions rooms sender id o s)
   unfolding replyActions
   reply-in sender id none = nil (near s sender)
-  reply-in sender id (some c) = pushed (near s sender) rooms _ (sender ∷ []) (s .announceScheduled) (all-one (near s sender) sender (self-near sender))
+  reply-in sender id (some c) = pushed (near s sender) rooms _ (sender ∷ []) (s .timers .announce) (all-one (near s sender) sender (self-near sender))
 
   graft-in : (sender : ℕ) (wanted : Option ℕ) → Within (near s sender) (graftActions rooms sender wanted s)
   unfolding graftActions
@@ -249,7 +249,7 @@ module _ (hash : List ℕ → ℕ) (rooms : List Room) (s : State) (x : Consiste
   unfolding timerActions sendGraftActions dispatchActions evictActions
   timer-in (SendGraft id) = branch (alone s) (holds id (s .received)) [] _ (nil (alone s)) (asking (alone s) rooms id (announcers id s) s (known-in (λ q. false) id))
   timer-in DispatchLazyPush =
-      dispatched (alone s) (cachedIn (s .cache)) rooms (s .announceScheduled) _ (all-imp (λ y. isNeighbour (y .peer) (s .links)) (λ y. alone s (y .peer)) (λ y k. or-none (isNeighbour (y .peer) (s .links)) ∙ k) _
+      dispatched (alone s) (cachedIn (s .cache)) rooms (s .timers .announce) _ (all-imp (λ y. isNeighbour (y .peer) (s .links)) (λ y. alone s (y .peer)) (λ y k. or-none (isNeighbour (y .peer) (s .links)) ∙ k) _
       (near-pieces (s .links) (queuedPeers (s .queue)) (perMessage (s .settings .maxMessageSize)) (s .queue) (queued-near (s .links) (s .queue) (x .core .queued))))
   timer-in EvictCache = cons (alone s) _ [] refl (nil (alone s))
   timer-in AnnounceDropped = announcing (alone s) s

@@ -113,11 +113,11 @@ stated s a r = fair-then r (withState s r) (λ rooms. withState s (withRooms roo
 
 fair-scheduleDispatch : (r : Run) → Fair scheduleDispatch r
 unfolding scheduleDispatch
-fair-scheduleDispatch r = fair-if (r .state .dispatchScheduled) r _ _ _ _ (fair-refl r) (stated _ _ r)
+fair-scheduleDispatch r = fair-if (r .state .timers .dispatch) r _ _ _ _ (fair-refl r) (stated _ _ r)
 
 fair-scheduleAnnounce : (r : Run) → Fair scheduleAnnounceDropped r
 unfolding scheduleAnnounceDropped
-fair-scheduleAnnounce r = fair-if (isEmpty (r .state .dropped) || r .state .announceScheduled) r _ _ _ _ (fair-refl r) (stated _ _ r)
+fair-scheduleAnnounce r = fair-if (isEmpty (r .state .dropped) || r .state .timers .announce) r _ _ _ _ (fair-refl r) (stated _ _ r)
 
 fair-noteOne : (p : ℕ) (h : Ihave) (r : Run) → Fair (noteOne p h) r
 unfolding noteOne recordAlso
@@ -294,7 +294,7 @@ fair-announce id h r = quiet r _ refl refl
 
 fair-scheduleGraft : (id : ℕ) (r : Run) → Fair (scheduleGraft id) r
 unfolding scheduleGraft
-fair-scheduleGraft id r = fair-if (member id (r .state .graftTimers)) r _ _ _ _ (fair-refl r) (stated _ _ r)
+fair-scheduleGraft id r = fair-if (member id (r .state .timers .graft)) r _ _ _ _ (fair-refl r) (stated _ _ r)
 
 fair-onAnnounced : (sender : ℕ) (h : Ihave) (r : Run) → Fair (onAnnounced sender h) r
 unfolding onAnnounced

@@ -82,7 +82,7 @@ announced-state : (sender : ℕ) (h : Ihave) (r : Run) → onAnnounced sender h 
 unfolding onAnnounced announcedState announce scheduleGraft act
 announced-state sender h r =
     if-on (λ (y : Run). y .state) (holds (h .id) (r .state .received)) _ _
-    ∙ if-both (holds (h .id) (r .state .received)) refl (if-on (λ (y : Run). y .state) (member (h .id) (r .state .graftTimers)) _ _)
+    ∙ if-both (holds (h .id) (r .state .received)) refl (if-on (λ (y : Run). y .state) (member (h .id) (r .state .timers .graft)) _ _)
 
 pub ihave-state : (sender : ℕ) (hs : List Ihave) (r : Run) → onIHave sender hs r .state ≡ ihaveState sender hs (r .state)
 unfolding onIHave ihaveState
@@ -113,7 +113,7 @@ reply-push sender id c r = on (takes sender r)
     on true = unfold noteForEach in refl
     on false = unfold noteForEach in refl
 
-reply-state : (sender id : ℕ) (o : Option Cached) (r : Run) → isNeighbour sender (r .state .links) ≡ true → Flagged (r .state .dropped) (r .state .announceScheduled) →
+reply-state : (sender id : ℕ) (o : Option Cached) (r : Run) → isNeighbour sender (r .state .links) ≡ true → Flagged (r .state .dropped) (r .state .timers .announce) →
     replyWith sender id o r .state ≡ replyState (r .rooms) sender id o (r .state)
 unfolding replyState
 reply-state sender id none r n g = unfold replyWith in refl
@@ -122,7 +122,7 @@ reply-state sender id (some c) r n g =
     ∙ push-state (sender ∷ []) id (c .content) (c .round) r (unfold all in (rw n refl)) (unfold once member in refl) g
 
 -- Graft, from a neighbour
-pub graft-state : (sender : ℕ) (wanted : Option ℕ) (r : Run) → isNeighbour sender (r .state .links) ≡ true → Flagged (r .state .dropped) (r .state .announceScheduled) →
+pub graft-state : (sender : ℕ) (wanted : Option ℕ) (r : Run) → isNeighbour sender (r .state .links) ≡ true → Flagged (r .state .dropped) (r .state .timers .announce) →
     onGraft sender wanted r .state ≡ graftState (r .rooms) sender wanted (r .state)
 unfolding onGraft graftState reply updateLinks
 graft-state sender none r n g = refl
@@ -135,28 +135,28 @@ prune-state sender r = refl
 
 -- AnnounceDropped
 
-dispatch-set : (s : State) (e b : Bool) → s .dispatchScheduled ≡ b → (if e then s else if b then s else withDispatchScheduled true s) ≡ withDispatchScheduled (not e || b) s
+dispatch-set : (s : State) (e b : Bool) → s .timers .dispatch ≡ b → (if e then s else if b then s else withDispatchScheduled true s) ≡ withDispatchScheduled (not e || b) s
 dispatch-set s true b p = λ k. withDispatchScheduled (p k) s
 dispatch-set s false true p = λ k. withDispatchScheduled (p k) s
 dispatch-set s false false p = refl
 
-announce-set : (s : State) (e f : Bool) → s .announceScheduled ≡ f → (if e || f then s else withAnnounceScheduled true s) ≡ withAnnounceScheduled (not e || f) s
+announce-set : (s : State) (e f : Bool) → s .timers .announce ≡ f → (if e || f then s else withAnnounceScheduled true s) ≡ withAnnounceScheduled (not e || f) s
 announce-set s true f p = λ k. withAnnounceScheduled (p k) s
 announce-set s false true p = λ k. withAnnounceScheduled (p k) s
 announce-set s false false p = refl
 
-queued-state : (r : Run) → dispatchIfQueued r .state ≡ withDispatchScheduled (not (isEmpty (r .state .queue)) || r .state .dispatchScheduled) (r .state)
+queued-state : (r : Run) → dispatchIfQueued r .state ≡ withDispatchScheduled (not (isEmpty (r .state .queue)) || r .state .timers .dispatch) (r .state)
 unfolding dispatchIfQueued
 queued-state r =
     if-on (λ (y : Run). y .state) (isEmpty (r .state .queue)) _ _
     ∙ if-both (isEmpty (r .state .queue)) refl (dispatch-state r)
-    ∙ dispatch-set (r .state) (isEmpty (r .state .queue)) (r .state .dispatchScheduled) refl
+    ∙ dispatch-set (r .state) (isEmpty (r .state .queue)) (r .state .timers .dispatch) refl
 
-scheduled-state : (r : Run) → scheduleAnnounceDropped r .state ≡ withAnnounceScheduled (not (isEmpty (r .state .dropped)) || r .state .announceScheduled) (r .state)
+scheduled-state : (r : Run) → scheduleAnnounceDropped r .state ≡ withAnnounceScheduled (not (isEmpty (r .state .dropped)) || r .state .timers .announce) (r .state)
 unfolding scheduleAnnounceDropped act
 scheduled-state r =
-    if-on (λ (y : Run). y .state) (isEmpty (r .state .dropped) || r .state .announceScheduled) _ _
-    ∙ announce-set (r .state) (isEmpty (r .state .dropped)) (r .state .announceScheduled) refl
+    if-on (λ (y : Run). y .state) (isEmpty (r .state .dropped) || r .state .timers .announce) _ _
+    ∙ announce-set (r .state) (isEmpty (r .state .dropped)) (r .state .timers .announce) refl
 
 or-false : (b : Bool) → (b || false) ≡ b
 or-false true = refl
@@ -167,9 +167,9 @@ unfolding onAnnounceDroppedTimer announceState moveOldest
 announce-state r =
     let r₁ = withState (moveOldest (stillCached (r .state)) (r .state)) r in
     scheduled-state (dispatchIfQueued r₁)
-    ∙ ap (λ (s : State). withAnnounceScheduled (not (isEmpty (s .dropped)) || s .announceScheduled) s) (queued-state r₁)
+    ∙ ap (λ (s : State). withAnnounceScheduled (not (isEmpty (s .dropped)) || s .timers .announce) s) (queued-state r₁)
     ∙ (λ k. withAnnounceScheduled (or-false (not (isEmpty (younger [] (stillCached (r .state))))) k)
-    (withDispatchScheduled (not (isEmpty (r .state .queue ++ oldest [] (stillCached (r .state)))) || r .state .dispatchScheduled) (moveOldest (stillCached (r .state)) (r .state))))
+    (withDispatchScheduled (not (isEmpty (r .state .queue ++ oldest [] (stillCached (r .state)))) || r .state .timers .dispatch) (moveOldest (stillCached (r .state)) (r .state))))
 
 -- a timer
 timer-state : (now : ℕ) (t : Timer) (r : Run) → Consistent (r .state) → onTimer now t r .state ≡ timerState (r .rooms) now t (r .state)

@@ -74,17 +74,17 @@ evict-actions now r = refl
 pub dispatch-actions : (r : Run) → scheduleDispatch r .actions ≡ r .actions ++ dispatchAction (r .state)
 unfolding scheduleDispatch act dispatchAction
 dispatch-actions r =
-    if-on (λ (x : Run). x .actions) (r .state .dispatchScheduled) _ _ ∙ if-both (r .state .dispatchScheduled) (sym (append-nil (r .actions))) refl
-    ∙ sym (if-on (λ (xs : List Action). r .actions ++ xs) (r .state .dispatchScheduled) [] (Scheduled (r .state .settings .dispatchTimeout) DispatchLazyPush ∷ []))
+    if-on (λ (x : Run). x .actions) (r .state .timers .dispatch) _ _ ∙ if-both (r .state .timers .dispatch) (sym (append-nil (r .actions))) refl
+    ∙ sym (if-on (λ (xs : List Action). r .actions ++ xs) (r .state .timers .dispatch) [] (Scheduled (r .state .settings .dispatchTimeout) DispatchLazyPush ∷ []))
 
 -- `schedule_dispatch` changes the flag only
-pub dispatch-state : (r : Run) → scheduleDispatch r .state ≡ (if r .state .dispatchScheduled then r .state else withDispatchScheduled true (r .state))
+pub dispatch-state : (r : Run) → scheduleDispatch r .state ≡ (if r .state .timers .dispatch then r .state else withDispatchScheduled true (r .state))
 unfolding scheduleDispatch act
-dispatch-state r = if-on (λ (x : Run). x .state) (r .state .dispatchScheduled) _ _
+dispatch-state r = if-on (λ (x : Run). x .state) (r .state .timers .dispatch) _ _
 
 pub dispatch-rooms : (r : Run) → scheduleDispatch r .rooms ≡ r .rooms
 unfolding scheduleDispatch act
-dispatch-rooms r = if-on (λ (x : Run). x .rooms) (r .state .dispatchScheduled) _ _ ∙ if-same (r .state .dispatchScheduled) refl refl
+dispatch-rooms r = if-on (λ (x : Run). x .rooms) (r .state .timers .dispatch) _ _ ∙ if-same (r .state .timers .dispatch) refl refl
 
 sizes-flag : (f : Bool) (s : State) → sizesOf (withDispatchScheduled f s) ≡ sizesOf s
 unfolding sizesOf contentHeld
@@ -92,4 +92,4 @@ sizes-flag f s = refl
 
 pub dispatch-sizes : (r : Run) → sizesOf (scheduleDispatch r .state) ≡ sizesOf (r .state)
 dispatch-sizes r =
-    ap sizesOf (dispatch-state r) ∙ if-on sizesOf (r .state .dispatchScheduled) (r .state) (withDispatchScheduled true (r .state)) ∙ if-same (r .state .dispatchScheduled) refl (sizes-flag true (r .state))
+    ap sizesOf (dispatch-state r) ∙ if-on sizesOf (r .state .timers .dispatch) (r .state) (withDispatchScheduled true (r .state)) ∙ if-same (r .state .timers .dispatch) refl (sizes-flag true (r .state))

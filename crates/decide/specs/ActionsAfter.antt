@@ -27,7 +27,7 @@ evictActions s = Scheduled (s .settings .cacheEvictInterval) EvictCache ∷ []
 
 -- a dispatch timer, unless flagged
 unfoldable pub dispatchAction : State → List Action
-dispatchAction s = if s .dispatchScheduled then [] else Scheduled (s .settings .dispatchTimeout) DispatchLazyPush ∷ []
+dispatchAction s = if s .timers .dispatch then [] else Scheduled (s .settings .dispatchTimeout) DispatchLazyPush ∷ []
 
 -- AnnounceDropped: dispatch if a queue stands, then itself if a record does
 unfoldable pub announceActions : State → List Action
@@ -38,7 +38,7 @@ announceActions s =
 -- the reply to a Graft, given what is cached for the identifier
 unfoldable pub replyActions : List Room → ℕ → ℕ → Option Cached → State → List Action
 replyActions rooms sender id none s = []
-replyActions rooms sender id (some c) s = pushActions rooms (Gossip id (c .content) (Swarm (c .round))) (sender ∷ []) (s .announceScheduled)
+replyActions rooms sender id (some c) s = pushActions rooms (Gossip id (c .content) (Swarm (c .round))) (sender ∷ []) (s .timers .announce)
 
 -- Graft from a neighbour
 unfoldable pub graftActions : List Room → ℕ → Option ℕ → State → List Action
@@ -61,7 +61,7 @@ ihaveActions hs s = map (λ i. Scheduled (s .settings .graftTimeout1) (SendGraft
 -- a broadcast of size at most M
 unfoldable pub broadcastActions : List Room → ℕ → List ℕ → Scope → State → List Action
 broadcastActions rooms id content toSwarm s =
-    dispatchAction s ++ pushActions rooms (Gossip id content (Swarm 0)) (eagerTargets (s .settings .me) [] s) (s .announceScheduled)
+    dispatchAction s ++ pushActions rooms (Gossip id content (Swarm 0)) (eagerTargets (s .settings .me) [] s) (s .timers .announce)
 broadcastActions rooms id content toNeighbors s = map (firstSend rooms (Gossip id content Neighbors)) (eagerTargets (s .settings .me) [] s)
 
 -- "Received before"
@@ -83,14 +83,14 @@ optimiseActions rooms sender round (h ∷ hs) s =
 -- a new Swarm message of round `round`
 unfoldable pub newActions : List Room → ℕ → ℕ → List ℕ → ℕ → State → List Action
 newActions rooms sender id content round s =
-    pushActions rooms (Gossip id content (Swarm (suc round))) (eagerTargets sender (keys (graftedFor id s)) s) (s .announceScheduled)
+    pushActions rooms (Gossip id content (Swarm (suc round))) (eagerTargets sender (keys (graftedFor id s)) s) (s .timers .announce)
     ++ dispatchAction s
     ++ (if isNeighbour sender (s .links) && not (graftOut sender round (graftedFor id s)) then optimiseActions rooms sender (suc round) (announcers id s) s else [])
     ++ (Emitted sender content (Swarm round) ∷ [])
 
 -- DispatchLazyPush
 unfoldable pub dispatchActions : List Room → State → List Action
-dispatchActions rooms s = pieceActions (cachedIn (s .cache)) rooms (s .announceScheduled) (pieces (queuedPeers (s .queue)) (perMessage (s .settings .maxMessageSize)) (s .queue))
+dispatchActions rooms s = pieceActions (cachedIn (s .cache)) rooms (s .timers .announce) (pieces (queuedPeers (s .queue)) (perMessage (s .settings .maxMessageSize)) (s .queue))
 
 module _ (hash : List ℕ → ℕ) where
   -- a Gossip, valid or not, received before or new

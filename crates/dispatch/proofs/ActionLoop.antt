@@ -33,7 +33,7 @@ pub record Same (s t : State) : Type 0 where
   pub settings : t .settings ≡ s .settings
   pub queue : t .queue ≡ s .queue
   pub dropped : t .dropped ≡ s .dropped
-  pub flag : t .announceScheduled ≡ s .announceScheduled
+  pub flag : t .timers .announce ≡ s .timers .announce
 
 pub settled-same : (now : ℕ) (s : State) → Same s (settled now s)
 unfolding settled
@@ -44,7 +44,7 @@ settled-same now s = on (s .init)
     on false = record { settings = refl; queue = refl; dropped = refl; flag = refl }
 
 settled-actions : (now : ℕ) (rooms : List Room) (s : State)
-    → dispatchActions rooms (settled now s) ≡ pieceActions (heldThen now s) rooms (s .announceScheduled) (pieces (queuedPeers (s .queue)) (perMessage (s .settings .maxMessageSize)) (s .queue))
+    → dispatchActions rooms (settled now s) ≡ pieceActions (heldThen now s) rooms (s .timers .announce) (pieces (queuedPeers (s .queue)) (perMessage (s .settings .maxMessageSize)) (s .queue))
 unfolding dispatchActions
 settled-actions now rooms s =
     let e = settled-same now s in
@@ -60,10 +60,10 @@ module _ (h : Head) (xs : List ℕ) (stands : Stands h xs) where
 
   -- all links are all peers for whom something is queued
   pub all-actions : (now : ℕ) (rooms : List Room)
-      → dispatchActions rooms (settled now s) ≡ pieceActions (heldThen now s) rooms (s .announceScheduled) (pieces (keys (s .links)) (perMessage (s .settings .maxMessageSize)) (s .queue))
+      → dispatchActions rooms (settled now s) ≡ pieceActions (heldThen now s) rooms (s .timers .announce) (pieces (keys (s .links)) (perMessage (s .settings .maxMessageSize)) (s .queue))
   all-actions now rooms =
       settled-actions now rooms s
-      ∙ ap (pieceActions (heldThen now s) rooms (s .announceScheduled))
+      ∙ ap (pieceActions (heldThen now s) rooms (s .timers .announce))
       (sym (pieces-among (perMessage (s .settings .maxMessageSize)) (s .queue) (keys (s .links)) (queuedPeers (s .queue)) (links-up h xs stands) (queued-ascending (s .queue))
       (queued-among (s .links) (s .queue) (stands .consistent .core .queued))
       (λ x m n. no-pieces (perMessage (s .settings .maxMessageSize)) x (s .queue) (nothing-queued x (s .queue) n))))

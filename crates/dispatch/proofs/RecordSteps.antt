@@ -35,16 +35,16 @@ flag-again true m f k = rw (k refl) refl
 -- the second of two records is as if it came at once
 pub recorded-again : (es ds : List Note) (s : State) → (isEmpty es ≡ true → isEmpty ds ≡ true) → recordedState es (recordedState ds s) ≡ recordedState es s
 unfolding recordedState
-recorded-again es ds s k = ap (λ (b : Bool). withAnnounceScheduled b (withDropped es s)) (flag-again (isEmpty es) (isEmpty ds) (s .announceScheduled) k)
+recorded-again es ds s k = ap (λ (b : Bool). withAnnounceScheduled b (withDropped es s)) (flag-again (isEmpty es) (isEmpty ds) (s .timers .announce) k)
 
 -- the record as it stands
-pub recorded-still : (s : State) → Flagged (s .dropped) (s .announceScheduled) → recordedState (s .dropped) s ≡ s
+pub recorded-still : (s : State) → Flagged (s .dropped) (s .timers .announce) → recordedState (s .dropped) s ≡ s
 unfolding recordedState
-recorded-still s f = λ k. withAnnounceScheduled (sym (flag-stands (isEmpty (s .dropped)) (s .announceScheduled) f) k) s
+recorded-still s f = λ k. withAnnounceScheduled (sym (flag-stands (isEmpty (s .dropped)) (s .timers .announce) f) k) s
 
-recorded-flagged : (ds : List Note) (s : State) → Flagged (recordedState ds s .dropped) (recordedState ds s .announceScheduled)
+recorded-flagged : (ds : List Note) (s : State) → Flagged (recordedState ds s .dropped) (recordedState ds s .timers .announce)
 unfolding recordedState
-recorded-flagged ds s = on (isEmpty ds) (s .announceScheduled)
+recorded-flagged ds s = on (isEmpty ds) (s .timers .announce)
   where
     on : (e f : Bool) → (e || (not e || f)) ≡ true
     on true f = refl
@@ -77,7 +77,7 @@ module _ (ds : List Note) (h : Head) (xs : List ℕ) (g : Head) (ys : List ℕ) 
     sound = go .sound;
     up = ap (λ (s : State). ascending (keys (s .links))) (go .state) ∙ r .up;
     order = subst (λ (s : State). InOrder (s .cache)) (sym (go .state)) (r .order);
-    flagged = (λ k. isEmpty (go .state k .dropped) || go .state k .announceScheduled) ∙ recorded-flagged ds (stateOf h xs);
+    flagged = (λ k. isEmpty (go .state k .dropped) || go .state k .timers .announce) ∙ recorded-flagged ds (stateOf h xs);
   }
 
 -- what is not cached is not noted

@@ -32,7 +32,7 @@ pub record Ready (h : Head) (block : List ℕ) : Type 0 where
   pub sound : Sound h block
   pub up : LinksAscend h block
   pub order : InOrder (stateOf h block .cache)
-  pub flagged : Flagged (stateOf h block .dropped) (stateOf h block .announceScheduled)
+  pub flagged : Flagged (stateOf h block .dropped) (stateOf h block .timers .announce)
 
 -- what noting one identifier for a link asks besides: how many the record has for the link, and a mark that is set where it has this one
 pub record MayNote (h : Head) (block : List ℕ) (l own mark id round : ℕ) : Type 0 where

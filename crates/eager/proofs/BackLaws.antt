@@ -135,9 +135,9 @@ or-in true b c h = refl
 or-in false b true h = refl
 or-in false b false h = h
 
-pub recorded-same : (s : State) → Flagged (s .dropped) (s .announceScheduled) → recordedState (s .dropped) s ≡ s
+pub recorded-same : (s : State) → Flagged (s .dropped) (s .timers .announce) → recordedState (s .dropped) s ≡ s
 unfolding recordedState
-recorded-same s f = λ z. withAnnounceScheduled (sym (flag-stands (isEmpty (s .dropped)) (s .announceScheduled) f) z) s
+recorded-same s f = λ z. withAnnounceScheduled (sym (flag-stands (isEmpty (s .dropped)) (s .timers .announce) f) z) s
 
 -- the loop: after i links the record has the notes of those among the first i that handed it back
 
@@ -294,7 +294,7 @@ module _ (sender : ℕ) (skip : Held) (array : List ℕ) (id round : ℕ) (h : H
       pub back-empty : g .live .dropped ≡ 0 → Goes (backState sender skip array id round) h xs g ys
       unfolding recordedState
       back-empty z = record {
-        state = so .state ∙ sym (all-noted ∙ ap (λ (b : Bool). withAnnounceScheduled (not b || s .announceScheduled) (withDropped (kept i) s)) (empty (kept i) (so-many ∙ z)));
+        state = so .state ∙ sym (all-noted ∙ ap (λ (b : Bool). withAnnounceScheduled (not b || s .timers .announce) (withDropped (kept i) s)) (empty (kept i) (so-many ∙ z)));
         sound = so .sound;
       }
 
@@ -304,6 +304,6 @@ module _ (sender : ℕ) (skip : Held) (array : List ℕ) (id round : ℕ) (h : H
           let a = announce-goes true g ys (so .sound) in
           record {
             state = a .state ∙ ap (withAnnounceScheduled true) (so .state)
-                ∙ sym (all-noted ∙ ap (λ (b : Bool). withAnnounceScheduled (not b || s .announceScheduled) (withDropped (kept i) s)) (filled (kept i) (λ e. z (sym so-many ∙ e))));
+                ∙ sym (all-noted ∙ ap (λ (b : Bool). withAnnounceScheduled (not b || s .timers .announce) (withDropped (kept i) s)) (filled (kept i) (λ e. z (sym so-many ∙ e))));
             sound = a .sound;
           }

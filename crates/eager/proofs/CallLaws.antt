@@ -73,7 +73,7 @@ fits-record s h =
     leb-true (length (s .dropped)) (s .limits .D)
     (and-right
     (leb (length (s .links)) (s .limits .N) && cacheFits (s .limits .R) (s .received) && cacheFits (s .limits .C) (s .cache) && leb (contentHeld s) (s .limits .B) && cacheFits (s .limits .G) (s .grafted)
-    && leb (length (s .missing)) (s .limits .S) && leb (length (s .graftTimers)) (s .limits .T) && leb (length (s .queue)) (s .limits .Q))
+    && leb (length (s .missing)) (s .limits .S) && leb (length (s .timers .graft)) (s .limits .T) && leb (length (s .queue)) (s .limits .Q))
     (leb (length (s .dropped)) (s .limits .D)) h)
 
 same-limits : (rooms : List Room) (sender id : ℕ) (c : Option Cached) (s : State) → replyState rooms sender id c s .limits ≡ s .limits

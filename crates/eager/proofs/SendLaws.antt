@@ -119,40 +119,40 @@ module _ (array : List ℕ) (m : Message) (ps : List ℕ) (s : State) where
   abbrev sent : List ℕ
   sent = sentBytes array m ps s
 
-  pushed : pushBytes array m ps s ≡ sent ++ concatMap actionBytes (noteAction backs (s .announceScheduled))
+  pushed : pushBytes array m ps s ≡ sent ++ concatMap actionBytes (noteAction backs (s .timers .announce))
   unfolding pushActions
-  pushed = bytes-append actionBytes (map (firstSend (roomsIn s array) m) ps) (noteAction backs (s .announceScheduled))
+  pushed = bytes-append actionBytes (map (firstSend (roomsIn s array) m) ps) (noteAction backs (s .timers .announce))
 
   pub push-first : (at : ℕ) → Told (pushBytes array m ps s) at → Told sent at
-  push-first at t = told-first (concatMap actionBytes (noteAction backs (s .announceScheduled))) (subst (λ (b : List ℕ). Told b at) pushed t)
+  push-first at t = told-first (concatMap actionBytes (noteAction backs (s .timers .announce))) (subst (λ (b : List ℕ). Told b at) pushed t)
 
   -- nothing was handed back, or the flag is set
-  quiet : (b f : Bool) → (b || f) ≡ true → isEmpty backs ≡ b → s .announceScheduled ≡ f → noteAction backs (s .announceScheduled) ≡ []
+  quiet : (b f : Bool) → (b || f) ≡ true → isEmpty backs ≡ b → s .timers .announce ≡ f → noteAction backs (s .timers .announce) ≡ []
   unfolding noteAction
   quiet b f h x y = ap (λ (t : Bool). if t then [] else Scheduled 1000 AnnounceDropped ∷ []) ((λ k. x k || y k) ∙ h)
 
   module _ (before : List ℕ) (at : ℕ) (after : List ℕ) (to : ℕ) (w : Written sent before at after to) where
-    still : noteAction backs (s .announceScheduled) ≡ [] → Written (pushBytes array m ps s) before at after to
+    still : noteAction backs (s .timers .announce) ≡ [] → Written (pushBytes array m ps s) before at after to
     unfolding concatMap
     still e =
         subst (λ (b : List ℕ). Written b before at after to)
         (sym (pushed ∙ ap (λ (l : List Action). sent ++ concatMap actionBytes l) e ∙ append-nil sent)) w
 
     pub push-taken : not (isEmpty backs) ≡ false → Written (pushBytes array m ps s) before at after to
-    push-taken e = still (quiet true (s .announceScheduled) refl (flip (isEmpty backs) e) refl)
+    push-taken e = still (quiet true (s .timers .announce) refl (flip (isEmpty backs) e) refl)
       where
         flip : (b : Bool) → not b ≡ false → b ≡ true
         flip true h = refl
         flip false h = sym h
 
-    pub push-flagged : s .announceScheduled ≡ true → Written (pushBytes array m ps s) before at after to
+    pub push-flagged : s .timers .announce ≡ true → Written (pushBytes array m ps s) before at after to
     push-flagged e = still (quiet (isEmpty backs) true (both (isEmpty backs)) refl e)
       where
         both : (b : Bool) → (b || true) ≡ true
         both true = refl
         both false = refl
 
-    module _ (e : not (isEmpty backs) ≡ true) (f : s .announceScheduled ≡ false) where
+    module _ (e : not (isEmpty backs) ≡ true) (f : s .timers .announce ≡ false) where
       timed : pushBytes array m ps s ≡ sent ++ actionBytes (Scheduled 1000 AnnounceDropped)
       unfolding noteAction
       timed =

@@ -43,7 +43,7 @@ repliedState rooms l id s = replyState (roomsIn s rooms) (peerAt s l) id (get id
 pub record Replies (h : Head) (block rooms : List ℕ) (l id : ℕ) : Type 0 where
   pub replying : Replying h block l
   pub order : InOrder (stateOf h block .cache)
-  pub flagged : Flagged (stateOf h block .dropped) (stateOf h block .announceScheduled)
+  pub flagged : Flagged (stateOf h block .dropped) (stateOf h block .timers .announce)
   pub room : length (repliedState rooms l id (stateOf h block) .dropped) ≤ h .limits .dropped
 
 -- by how much the record grows

@@ -19,7 +19,7 @@ sentBytes rooms m ps s = concatMap actionBytes (map (firstSend (roomsIn s rooms)
 
 -- a cached Swarm message to each of these peers, and the record's timer
 abbrev pub pushBytes : List ℕ → Message → List ℕ → State → List ℕ
-pushBytes rooms m ps s = concatMap actionBytes (pushActions (roomsIn s rooms) m ps (s .announceScheduled))
+pushBytes rooms m ps s = concatMap actionBytes (pushActions (roomsIn s rooms) m ps (s .timers .announce))
 
 -- these bytes were written, and `back` tells whether any peer handed the message back
 pub record SentTo (bytes backs before : List ℕ) (at : ℕ) (after : List ℕ) (r : Pushed) : Type 0 where

@@ -42,11 +42,11 @@ module _ (now : ℕ) (s : State) (array : List ℕ) (sender id : ℕ) (content :
   msg n = Gossip id content (Swarm n)
 
   abbrev pushed : List Action
-  pushed = pushActions R (msg (suc round)) (eagerTargets sender (keys (graftedFor id t)) t) (t .announceScheduled)
+  pushed = pushActions R (msg (suc round)) (eagerTargets sender (keys (graftedFor id t)) t) (t .timers .announce)
 
   pushed-bytes : concatMap actionBytes pushed ≡ pushBytes array (msg (round + 1)) (targetsOf sender k s) s
   pushed-bytes =
-      ap (λ (rs : List Room). concatMap actionBytes (pushActions rs (msg (suc round)) (eagerTargets sender (keys (graftedFor id t)) t) (t .announceScheduled))) (sym (settled-rooms now s array))
+      ap (λ (rs : List Room). concatMap actionBytes (pushActions rs (msg (suc round)) (eagerTargets sender (keys (graftedFor id t)) t) (t .timers .announce))) (sym (settled-rooms now s array))
       ∙ sym (new-pushed now s array id sender k held (msg (suc round)))
       ∙ ap (λ (n : ℕ). pushBytes array (msg n) (targetsOf sender k s) s) (sym (add-one round))
 

@@ -36,10 +36,10 @@ pub record Hears (s t : State) : Type 0 where
   pub timers : List ℕ
   pub same : t ≡ withHeard missing timers s
   pub more-missing : length (s .missing) ≤ length missing
-  pub more-timers : length (s .graftTimers) ≤ length timers
+  pub more-timers : length (s .timers .graft) ≤ length timers
 
 hears-still : (s : State) → Hears s s
-hears-still s = record { missing = s .missing; timers = s .graftTimers; same = refl; more-missing = omega arith; more-timers = omega arith }
+hears-still s = record { missing = s .missing; timers = s .timers .graft; same = refl; more-missing = omega arith; more-timers = omega arith }
 
 hears-then : (s t u : State) → Hears s t → Hears t u → Hears s u
 hears-then s t u a b = record {
@@ -47,7 +47,7 @@ hears-then s t u a b = record {
   timers = b .timers;
   same = b .same ∙ ap (withHeard (b .missing) (b .timers)) (a .same);
   more-missing = omega (arith, a .more-missing, b .more-missing, ap (λ (x : State). length (x .missing)) (a .same));
-  more-timers = omega (arith, a .more-timers, b .more-timers, ap (λ (x : State). length (x .graftTimers)) (a .same));
+  more-timers = omega (arith, a .more-timers, b .more-timers, ap (λ (x : State). length (x .timers .graft)) (a .same));
 }
 
 pub hears-links : (s t : State) → Hears s t → t .links ≡ s .links
@@ -70,16 +70,16 @@ hears-fits s t a f = fits-fewer (a .missing) (a .timers) s (a .more-missing) (a 
 pub marked-hears : (id : ℕ) (s : State) → Hears s (timerMarked id s)
 unfolding timerMarked
 marked-hears id s =
-    cases (member id (s .graftTimers))
+    cases (member id (s .timers .graft))
     (λ e. rw e (hears-still s))
-    (λ e. rw e (record { missing = s .missing; timers = insertKey id (s .graftTimers); same = refl; more-missing = omega arith; more-timers = insertKey-longer id (s .graftTimers) }))
+    (λ e. rw e (record { missing = s .missing; timers = insertKey id (s .timers .graft); same = refl; more-missing = omega arith; more-timers = insertKey-longer id (s .timers .graft) }))
 
 marked-consistent : (id : ℕ) (s : State) → Consistent s → Consistent (timerMarked id s)
 unfolding timerMarked
 marked-consistent id s x =
-    cases (member id (s .graftTimers))
+    cases (member id (s .timers .graft))
     (λ e. rw e x)
-    (λ e. rw e (record { core = core-timers (insertKey id (s .graftTimers)) s (ascending-insertKey id (s .graftTimers) (x .core .timersUp)) (x .core); queueFlag = x .queueFlag; recordFlag = x .recordFlag }))
+    (λ e. rw e (record { core = core-timers (insertKey id (s .timers .graft)) s (ascending-insertKey id (s .timers .graft) (x .core .timersUp)) (x .core); queueFlag = x .queueFlag; recordFlag = x .recordFlag }))
 
 -- an announcer
 
@@ -107,7 +107,7 @@ module _ (id : ℕ) (h : Hop) (s : State) (x : Consistent s) (near : isNeighbour
 announced-hears : (id : ℕ) (h : Hop) (s : State) → Hears s (announced id h s)
 announced-hears id h s = record {
   missing = insert id (addAnnouncer h (announcers id s)) (s .missing);
-  timers = s .graftTimers;
+  timers = s .timers .graft;
   same = refl;
   more-missing = insert-longer id (addAnnouncer h (announcers id s)) (s .missing);
   more-timers = omega arith;

@@ -53,7 +53,7 @@ abbrev missingFits : State → Bool
 missingFits s = leb (length (s .missing)) (s .limits .S)
 
 abbrev timersFit : State → Bool
-timersFit s = leb (length (s .graftTimers)) (s .limits .T)
+timersFit s = leb (length (s .timers .graft)) (s .limits .T)
 
 abbrev queueFits : State → Bool
 queueFits s = leb (length (s .queue)) (s .limits .Q)
@@ -62,11 +62,11 @@ abbrev recordFits : State → Bool
 recordFits s = leb (length (s .dropped)) (s .limits .D)
 
 -- with fewer missing messages and timers the state is within the limits all the more
-pub fits-fewer : (m : Map (List Hop)) (g : List ℕ) (s : State) → length (s .missing) ≤ length m → length (s .graftTimers) ≤ length g → fits (withHeard m g s) ≡ true → fits s ≡ true
+pub fits-fewer : (m : Map (List Hop)) (g : List ℕ) (s : State) → length (s .missing) ≤ length m → length (s .timers .graft) ≤ length g → fits (withHeard m g s) ≡ true → fits s ≡ true
 unfolding fits contentHeld
 fits-fewer m g s p q h =
     swapped (five s) (leb (length m) (s .limits .S)) (leb (length g) (s .limits .T)) (queueFits s) (recordFits s) (missingFits s) (timersFit s) h
-    (fewer (length (s .missing)) (length m) (s .limits .S) p) (fewer (length (s .graftTimers)) (length g) (s .limits .T) q)
+    (fewer (length (s .missing)) (length m) (s .limits .S) p) (fewer (length (s .timers .graft)) (length g) (s .limits .T) q)
 
 middle : (x a b q d : Bool) → (x && a && b && q && d) ≡ true → a ≡ true
 middle x a b q d h = and-right x a (and-left (x && a) b (and-left (x && a && b) q (and-left (x && a && b && q) d h)))
@@ -78,6 +78,6 @@ pub fits-missing : (s : State) → fits s ≡ true → length (s .missing) ≤ s
 unfolding fits
 fits-missing s h = leb-true (length (s .missing)) (s .limits .S) (middle (five s) (missingFits s) (timersFit s) (queueFits s) (recordFits s) h)
 
-pub fits-timers : (s : State) → fits s ≡ true → length (s .graftTimers) ≤ s .limits .T
+pub fits-timers : (s : State) → fits s ≡ true → length (s .timers .graft) ≤ s .limits .T
 unfolding fits
-fits-timers s h = leb-true (length (s .graftTimers)) (s .limits .T) (next (five s) (missingFits s) (timersFit s) (queueFits s) (recordFits s) h)
+fits-timers s h = leb-true (length (s .timers .graft)) (s .limits .T) (next (five s) (missingFits s) (timersFit s) (queueFits s) (recordFits s) h)

@@ -91,9 +91,9 @@ module _ (now : ℕ) (s : State) where
   unfolding settled
   settled-missing = if-on (λ (x : State). x .missing) (s .init) _ _ ∙ if-same (s .init) refl refl
 
-  settled-timers : settled now s .graftTimers ≡ s .graftTimers
+  settled-timers : settled now s .timers .graft ≡ s .timers .graft
   unfolding settled
-  settled-timers = if-on (λ (x : State). x .graftTimers) (s .init) _ _ ∙ if-same (s .init) refl refl
+  settled-timers = if-on (λ (x : State). x .timers .graft) (s .init) _ _ ∙ if-same (s .init) refl refl
 
   pub settled-settings : settled now s .settings ≡ s .settings
   unfolding settled
@@ -137,21 +137,21 @@ module _ (now : ℕ) (s : State) (before : List Ihave) (i : ℕ) where
 
   pub timer-received : holds i (t .received) ≡ true → isOld (knownTimer t) before i ≡ true
   unfolding knownTimer
-  timer-received e = first (holds i (t .received)) (member i (t .graftTimers)) (any (isFor i) before) e
+  timer-received e = first (holds i (t .received)) (member i (t .timers .graft)) (any (isFor i) before) e
 
-  pub timer-marked : member i (s .graftTimers) ≡ true → isOld (knownTimer t) before i ≡ true
+  pub timer-marked : member i (s .timers .graft) ≡ true → isOld (knownTimer t) before i ≡ true
   unfolding knownTimer
-  timer-marked e = second (holds i (t .received)) (member i (t .graftTimers)) (any (isFor i) before) (ap (member i) (settled-timers now s) ∙ e)
+  timer-marked e = second (holds i (t .received)) (member i (t .timers .graft)) (any (isFor i) before) (ap (member i) (settled-timers now s) ∙ e)
 
   pub timer-before : any (isFor i) before ≡ true → isOld (knownTimer t) before i ≡ true
   unfolding knownTimer
-  timer-before e = third (holds i (t .received)) (member i (t .graftTimers)) (any (isFor i) before) e
+  timer-before e = third (holds i (t .received)) (member i (t .timers .graft)) (any (isFor i) before) e
 
-  pub timer-else : holds i (t .received) ≡ false → any (isFor i) before ≡ false → isOld (knownTimer t) before i ≡ member i (s .graftTimers)
+  pub timer-else : holds i (t .received) ≡ false → any (isFor i) before ≡ false → isOld (knownTimer t) before i ≡ member i (s .timers .graft)
   unfolding knownTimer
-  timer-else e f = others (holds i (t .received)) (member i (t .graftTimers)) (any (isFor i) before) e f ∙ ap (member i) (settled-timers now s)
+  timer-else e f = others (holds i (t .received)) (member i (t .timers .graft)) (any (isFor i) before) e f ∙ ap (member i) (settled-timers now s)
 
   -- neither received nor marked
-  pub timer-open : holds i (t .received) ≡ false → member i (s .graftTimers) ≡ false → isNew (knownTimer t) before i ≡ not (any (isFor i) before)
+  pub timer-open : holds i (t .received) ≡ false → member i (s .timers .graft) ≡ false → isNew (knownTimer t) before i ≡ not (any (isFor i) before)
   unfolding knownTimer
   timer-open e f = (λ k. not ((e k || (ap (member i) (settled-timers now s) ∙ f) k) || any (isFor i) before))

@@ -33,11 +33,11 @@ module _ (s : State) (hs : List Ihave) (a : all (isReceived s) hs ≡ true) wher
 
   no-timers : newIds (knownTimer s) [] hs ≡ []
   unfolding knownTimer
-  no-timers = new-none (knownTimer s) [] hs (all-imp (isReceived s) (λ h. knownTimer s (h .id)) (λ h e. ap (λ (b : Bool). b || member (h .id) (s .graftTimers)) e) hs a)
+  no-timers = new-none (knownTimer s) [] hs (all-imp (isReceived s) (λ h. knownTimer s (h .id)) (λ h e. ap (λ (b : Bool). b || member (h .id) (s .timers .graft)) e) hs a)
 
   pub received-sizes : ihaveSizes hs s ≡ sizesOf s
   unfolding ihaveSizes sizesOf
-  received-sizes = rw (no-missing, no-timers, add-zero (length (s .missing)), add-zero (length (s .graftTimers))) refl
+  received-sizes = rw (no-missing, no-timers, add-zero (length (s .missing)), add-zero (length (s .timers .graft))) refl
 
   pub received-actions : ihaveActions hs s ≡ []
   unfolding ihaveActions

@@ -30,35 +30,35 @@ use Rattle.ihaves.proofs.KeyMembers.{member-here, member-between}
 use Rattle.ihaves.proofs.HeardLaws.{hears-fits, hears-limits, marked-hears, few-announcers, announced-received, announced-missing, link-near}
 
 -- a mark, by whether it is there
-marked-there : (id : ℕ) (s : State) → member id (s .graftTimers) ≡ true → timerMarked id s ≡ s
+marked-there : (id : ℕ) (s : State) → member id (s .timers .graft) ≡ true → timerMarked id s ≡ s
 unfolding timerMarked
 marked-there id s e = rw e refl
 
-marked-new : (id : ℕ) (s : State) → member id (s .graftTimers) ≡ false → timerMarked id s ≡ timerAlso id s
+marked-new : (id : ℕ) (s : State) → member id (s .timers .graft) ≡ false → timerMarked id s ≡ timerAlso id s
 unfolding timerMarked
 marked-new id s e = rw e refl
 
 module _ (id i : ℕ) (h : Head) (xs : List ℕ) where
-  pub mark-still : Sound h xs → Here (stateOf h xs .graftTimers) id i → Goes (timerMarked id) h xs h xs
-  mark-still sound e = record { state = sym (marked-there id (stateOf h xs) (member-here id i (stateOf h xs .graftTimers) e)); sound = sound }
+  pub mark-still : Sound h xs → Here (stateOf h xs .timers .graft) id i → Goes (timerMarked id) h xs h xs
+  mark-still sound e = record { state = sym (marked-there id (stateOf h xs) (member-here id i (stateOf h xs .timers .graft) e)); sound = sound }
 
-  module _ (b : Between (stateOf h xs .graftTimers) id i) where
-    new : member id (stateOf h xs .graftTimers) ≡ false
-    new = member-between id i (stateOf h xs .graftTimers) b
+  module _ (b : Between (stateOf h xs .timers .graft) id i) where
+    new : member id (stateOf h xs .timers .graft) ≡ false
+    new = member-between id i (stateOf h xs .timers .graft) b
 
     pub mark-goes : (g : Head) (ys : List ℕ) → Goes (timerAlso id) h xs g ys → Goes (timerMarked id) h xs g ys
     mark-goes g ys go = record { state = go .state ∙ sym (marked-new id (stateOf h xs) new); sound = go .sound }
 
-    one-more : TimersAscend h xs → length (timerMarked id (stateOf h xs) .graftTimers) ≡ length (stateOf h xs .graftTimers) + 1
+    one-more : TimersAscend h xs → length (timerMarked id (stateOf h xs) .timers .graft) ≡ length (stateOf h xs .timers .graft) + 1
     unfolding grown
     one-more up =
-        ap (λ (t : State). length (t .graftTimers)) (marked-new id (stateOf h xs) new) ∙ length-insertKey id (stateOf h xs .graftTimers) up
-        ∙ ap (λ (t : Bool). grown t (length (stateOf h xs .graftTimers))) new ∙ add-one (length (stateOf h xs .graftTimers))
+        ap (λ (t : State). length (t .timers .graft)) (marked-new id (stateOf h xs) new) ∙ length-insertKey id (stateOf h xs .timers .graft) up
+        ∙ ap (λ (t : Bool). grown t (length (stateOf h xs .timers .graft))) new ∙ add-one (length (stateOf h xs .timers .graft))
       where
         add-one : (n : ℕ) → grown false n ≡ n + 1
         add-one n = unfold grown in (omega arith)
 
-    pub mark-room : TimersAscend h xs → length (timerMarked id (stateOf h xs) .graftTimers) ≤ stateOf h xs .limits .T → h .live .timers < h .limits .timers
+    pub mark-room : TimersAscend h xs → length (timerMarked id (stateOf h xs) .timers .graft) ≤ stateOf h xs .limits .T → h .live .timers < h .limits .timers
     unfolding stateOf
     mark-room up room = omega (arith, room, one-more up, count-timers h xs)
 
@@ -92,11 +92,11 @@ module _ (l id r : ℕ) (h : Head) (xs : List ℕ) (step : Step (announcedFrom l
 
     module _ (g : Head) (ys : List ℕ) (go : Goes (announcedBy id l r) h xs g ys) where
       pub mark-up : TimersAscend g ys
-      mark-up = ap (λ (t : State). ascending (t .graftTimers)) (go .state) ∙ step .stands .consistent .core .timersUp
+      mark-up = ap (λ (t : State). ascending (t .timers .graft)) (go .state) ∙ step .stands .consistent .core .timersUp
 
-      pub mark-within : length (timerMarked id (stateOf g ys) .graftTimers) ≤ stateOf g ys .limits .T
+      pub mark-within : length (timerMarked id (stateOf g ys) .timers .graft) ≤ stateOf g ys .limits .T
       mark-within =
-          subst (λ (t : State). length (timerMarked id t .graftTimers) ≤ t .limits .T) (sym (go .state))
+          subst (λ (t : State). length (timerMarked id t .timers .graft) ≤ t .limits .T) (sym (go .state))
           (omega (arith, fits-timers (timerMarked id one) fits-after, ap (λ (l : Limits). l .T) (hears-limits one (timerMarked id one) (marked-hears id one))))
 
       pub announced-goes : (k : Head) (zs : List ℕ) → Goes (timerMarked id) g ys k zs → Goes (announcedFrom l id r) h xs k zs

@@ -15,7 +15,7 @@ ihave i r = record { id = i; round = r }
 
 -- a timer for an identifier, unless one is marked
 unfoldable pub timerMarked : ℕ → State → State
-timerMarked id s = if member id (s .graftTimers) then s else timerAlso id s
+timerMarked id s = if member id (s .timers .graft) then s else timerAlso id s
 
 -- one announcement by the peer of a link
 abbrev pub announcedFrom : ℕ → ℕ → ℕ → State → State

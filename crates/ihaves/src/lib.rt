@@ -38,7 +38,7 @@ pub struct NewIds {
 
 // A SendGraft timer is marked for an identifier, unless one is.
 fn mark_timer(h: Head, block: &mut [u8], id: Id) -> Head
-    requires { ⌜ Sound h (now block) × TimersAscend h (now block) × (length (timerMarked (idOf id) (stateOf h (now block)) .graftTimers) ≤ stateOf h (now block) .limits .T) ⌝ }
+    requires { ⌜ Sound h (now block) × TimersAscend h (now block) × (length (timerMarked (idOf id) (stateOf h (now block)) .timers .graft) ≤ stateOf h (now block) .limits .T) ⌝ }
     ensures { λ r. ⌜ Goes (timerMarked (idOf id)) h (now (block .entry)) r (now (block .exit)) ⌝ }
 {
     let f = timers::find_timer(h, block, id);
@@ -127,7 +127,7 @@ fn is_missing(h: Head, block: &[u8], id: Id) -> bool
 // Whether a timer is marked for the message.
 fn has_timer(h: Head, block: &[u8], id: Id) -> bool
     requires { ⌜ Stands h (now block) ⌝ }
-    ensures { λ r. ⌜ r ≡ member (idOf id) (stateOf h (now (block .entry)) .graftTimers) ⌝ }
+    ensures { λ r. ⌜ r ≡ member (idOf id) (stateOf h (now (block .entry)) .timers .graft) ⌝ }
 {
     let f = timers::find_timer(h, block, id);
     match f {

@@ -46,11 +46,11 @@ plain a b e = record { counts = e }
 
 same-schedule : (r : Run) → Same r (scheduleAnnounceDropped r)
 unfolding scheduleAnnounceDropped act
-same-schedule r = walk-if Same (isEmpty (r .state .dropped) || r .state .announceScheduled) still (plain r _ refl)
+same-schedule r = walk-if Same (isEmpty (r .state .dropped) || r .state .timers .announce) still (plain r _ refl)
 
 same-dispatch : (r : Run) → Same r (scheduleDispatch r)
 unfolding scheduleDispatch act
-same-dispatch r = walk-if Same (r .state .dispatchScheduled) still (plain r _ refl)
+same-dispatch r = walk-if Same (r .state .timers .dispatch) still (plain r _ refl)
 
 same-one : (p : ℕ) (h : Ihave) (r : Run) → Same r (noteOne p h r)
 unfolding noteOne recordAlso
@@ -112,7 +112,7 @@ same-late sender id (faster first) r = plain r _ (same-prune first _ .counts)
 same-announced : (sender : ℕ) (h : Ihave) (r : Run) → Same r (onAnnounced sender h r)
 unfolding onAnnounced announce scheduleGraft act
 same-announced sender h r =
-    walk-if Same (holds (h .id) (r .state .received)) still (walk-if Same (member (h .id) (r .state .graftTimers)) (plain r _ refl) (plain r _ refl))
+    walk-if Same (holds (h .id) (r .state .received)) still (walk-if Same (member (h .id) (r .state .timers .graft)) (plain r _ refl) (plain r _ refl))
 
 same-ihave : (sender : ℕ) (hs : List Ihave) (r : Run) → Same r (onIHave sender hs r)
 unfolding onIHave

@@ -183,9 +183,7 @@ module _ (h : Head) (xs : List ℕ) (sound : Sound h xs) (asc : LinksAscend h xs
             received = s .received;
             grafted = grafted-left i ps up here (h .live .grafted) (T 7) g ng grafts-below (h .live .«grafted_rows») (T 8) k;
             cache = s .cache;
-            graftTimers = s .graftTimers;
-            dispatchScheduled = s .dispatchScheduled;
-            announceScheduled = s .announceScheduled;
+            timers = s .timers;
             init = s .init;
           });
       links = refl;

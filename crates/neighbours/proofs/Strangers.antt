@@ -85,8 +85,6 @@ stranger p s away out c = λ k. record {
   received = s .received;
   grafted = record { entries = grafts-stay p (s .links) away (s .grafted .entries) (c .grafting) k; expiry = s .grafted .expiry };
   cache = s .cache;
-  graftTimers = s .graftTimers;
-  dispatchScheduled = s .dispatchScheduled;
-  announceScheduled = s .announceScheduled;
+  timers = s .timers;
   init = s .init;
 }

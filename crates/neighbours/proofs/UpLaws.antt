@@ -129,9 +129,7 @@ module _ (h : Head) (xs : List ℕ) (sound : Sound h xs) (i : ℕ) (hi : i ≤ h
             received = s .received;
             grafted = grafted-raised i p ps here (h .live .grafted) (T 7) g room7 grafts-below rg (h .live .«grafted_rows») (T 8) k;
             cache = s .cache;
-            graftTimers = s .graftTimers;
-            dispatchScheduled = s .dispatchScheduled;
-            announceScheduled = s .announceScheduled;
+            timers = s .timers;
             init = s .init;
           });
       fit = record { ceilings = fit .ceilings; within = fit .within; long = omega (arith, fit .long) };

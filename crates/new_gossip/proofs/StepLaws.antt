@@ -89,7 +89,7 @@ module _ (h : Head) (xs array : List ℕ) (sender id round : ℕ) (asks : Pushes
 -- the room is that of the links
 rooms-by : (array : List ℕ) (s t : State) → t .links ≡ s .links → roomsIn t array ≡ roomsIn s array
 unfolding roomsIn
-rooms-by array s t e = ap (λ (l : Links). roomsIn (record { settings = s .settings; limits = s .limits; links = l; queue = s .queue; dropped = s .dropped; missing = s .missing; received = s .received; grafted = s .grafted; cache = s .cache; graftTimers = s .graftTimers; dispatchScheduled = s .dispatchScheduled; announceScheduled = s .announceScheduled; init = s .init }) array) e
+rooms-by array s t e = ap (λ (l : Links). roomsIn (record { settings = s .settings; limits = s .limits; links = l; queue = s .queue; dropped = s .dropped; missing = s .missing; received = s .received; grafted = s .grafted; cache = s .cache; timers = s .timers; init = s .init }) array) e
 
 -- in the block
 module _ (instant : ℕ) (array : List ℕ) (sender id : ℕ) (content : List ℕ) (round next : ℕ) (up : next ≡ suc round) (h : Head) (xs : List ℕ) (step : Step (newIn instant array sender id content round) h xs) where

@@ -129,7 +129,7 @@ module _ (id sender round : ℕ) (s : State) where
 
 module _ (h : Head) (xs : List ℕ) (stands : Stands h xs) (id sender round : ℕ) {ys : List ℕ} (a : Goes (optimisedOn id sender round) h xs h ys) where
   pub timers-then : TimersAscend h ys
-  timers-then = ap (λ (t : State). ascending (t .graftTimers)) (a .state) ∙ optimised-only id sender round (stateOf h xs) (λ (t : State). ascending (t .graftTimers)) (λ l. refl) ∙ timers-up h xs stands
+  timers-then = ap (λ (t : State). ascending (t .timers .graft)) (a .state) ∙ optimised-only id sender round (stateOf h xs) (λ (t : State). ascending (t .timers .graft)) (λ l. refl) ∙ timers-up h xs stands
 
   pub missing-then : {g : Head} {zs : List ℕ} → Goes (timerOut id) h ys g zs → MissingAscend g zs
   missing-then b =

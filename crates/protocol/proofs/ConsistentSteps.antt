@@ -51,7 +51,7 @@ by-test P false x y f g = g refl
 
 -- one part changed
 
-pub core-links : (l : Links) (s : State) → ascending (keys l) ≡ true → Wider (s .links) l → CoreOf s → Core l (s .queue) (s .dropped) (s .missing) (s .received) (s .grafted) (s .cache) (s .graftTimers)
+pub core-links : (l : Links) (s : State) → ascending (keys l) ≡ true → Wider (s .links) l → CoreOf s → Core l (s .queue) (s .dropped) (s .missing) (s .received) (s .grafted) (s .cache) (s .timers .graft)
 core-links l s u w c = record {
   linksUp = u;
   missingUp = c .missingUp;
@@ -67,22 +67,22 @@ core-links l s u w c = record {
   within = c .within;
 }
 
-pub core-queue : (q : List Note) (s : State) → all (byNeighbour (s .links)) q ≡ true → CoreOf s → Core (s .links) q (s .dropped) (s .missing) (s .received) (s .grafted) (s .cache) (s .graftTimers)
+pub core-queue : (q : List Note) (s : State) → all (byNeighbour (s .links)) q ≡ true → CoreOf s → Core (s .links) q (s .dropped) (s .missing) (s .received) (s .grafted) (s .cache) (s .timers .graft)
 core-queue q s a c = record { linksUp = c .linksUp; missingUp = c .missingUp; timersUp = c .timersUp; receivedOn = c .receivedOn; graftedOn = c .graftedOn; cacheOn = c .cacheOn; queued = a; recorded = c .recorded; announcing = c .announcing; grafting = c .grafting; noted = c .noted; within = c .within }
 
-pub core-dropped : (d : List Note) (s : State) → all (byNeighbour (s .links)) d ≡ true → notedOnce d ≡ true → Within d → CoreOf s → Core (s .links) (s .queue) d (s .missing) (s .received) (s .grafted) (s .cache) (s .graftTimers)
+pub core-dropped : (d : List Note) (s : State) → all (byNeighbour (s .links)) d ≡ true → notedOnce d ≡ true → Within d → CoreOf s → Core (s .links) (s .queue) d (s .missing) (s .received) (s .grafted) (s .cache) (s .timers .graft)
 core-dropped d s a n w c = record { linksUp = c .linksUp; missingUp = c .missingUp; timersUp = c .timersUp; receivedOn = c .receivedOn; graftedOn = c .graftedOn; cacheOn = c .cacheOn; queued = c .queued; recorded = a; announcing = c .announcing; grafting = c .grafting; noted = n; within = w }
 
-pub core-missing : (m : Map (List Hop)) (s : State) → ascending (keys m) ≡ true → all (announcersWhole (s .links)) m ≡ true → CoreOf s → Core (s .links) (s .queue) (s .dropped) m (s .received) (s .grafted) (s .cache) (s .graftTimers)
+pub core-missing : (m : Map (List Hop)) (s : State) → ascending (keys m) ≡ true → all (announcersWhole (s .links)) m ≡ true → CoreOf s → Core (s .links) (s .queue) (s .dropped) m (s .received) (s .grafted) (s .cache) (s .timers .graft)
 core-missing m s u a c = record { linksUp = c .linksUp; missingUp = u; timersUp = c .timersUp; receivedOn = c .receivedOn; graftedOn = c .graftedOn; cacheOn = c .cacheOn; queued = c .queued; recorded = c .recorded; announcing = a; grafting = c .grafting; noted = c .noted; within = c .within }
 
-pub core-received : (x : Cache (Unit {0})) (s : State) → Timely x → CoreOf s → Core (s .links) (s .queue) (s .dropped) (s .missing) x (s .grafted) (s .cache) (s .graftTimers)
+pub core-received : (x : Cache (Unit {0})) (s : State) → Timely x → CoreOf s → Core (s .links) (s .queue) (s .dropped) (s .missing) x (s .grafted) (s .cache) (s .timers .graft)
 core-received x s t c = record { linksUp = c .linksUp; missingUp = c .missingUp; timersUp = c .timersUp; receivedOn = t; graftedOn = c .graftedOn; cacheOn = c .cacheOn; queued = c .queued; recorded = c .recorded; announcing = c .announcing; grafting = c .grafting; noted = c .noted; within = c .within }
 
-pub core-cache : (x : Cache Cached) (s : State) → Timely x → CoreOf s → Core (s .links) (s .queue) (s .dropped) (s .missing) (s .received) (s .grafted) x (s .graftTimers)
+pub core-cache : (x : Cache Cached) (s : State) → Timely x → CoreOf s → Core (s .links) (s .queue) (s .dropped) (s .missing) (s .received) (s .grafted) x (s .timers .graft)
 core-cache x s t c = record { linksUp = c .linksUp; missingUp = c .missingUp; timersUp = c .timersUp; receivedOn = c .receivedOn; graftedOn = c .graftedOn; cacheOn = t; queued = c .queued; recorded = c .recorded; announcing = c .announcing; grafting = c .grafting; noted = c .noted; within = c .within }
 
-pub core-grafted : (x : Cache Grafts) (s : State) → Timely x → all (graftsWhole (s .links)) (x .entries) ≡ true → CoreOf s → Core (s .links) (s .queue) (s .dropped) (s .missing) (s .received) x (s .cache) (s .graftTimers)
+pub core-grafted : (x : Cache Grafts) (s : State) → Timely x → all (graftsWhole (s .links)) (x .entries) ≡ true → CoreOf s → Core (s .links) (s .queue) (s .dropped) (s .missing) (s .received) x (s .cache) (s .timers .graft)
 core-grafted x s t g c = record { linksUp = c .linksUp; missingUp = c .missingUp; timersUp = c .timersUp; receivedOn = c .receivedOn; graftedOn = t; cacheOn = c .cacheOn; queued = c .queued; recorded = c .recorded; announcing = c .announcing; grafting = g; noted = c .noted; within = c .within }
 
 pub core-timers : (x : List ℕ) (s : State) → ascending x ≡ true → CoreOf s → Core (s .links) (s .queue) (s .dropped) (s .missing) (s .received) (s .grafted) (s .cache) x
@@ -120,10 +120,10 @@ noted-each p (h ∷ hs) r =
     let b = noted-each p hs (noteOne p h r) in
     record { core = λ n c. b .core (rw (only-noteOne p h r .links) n) (a .core n c) }
 
-pub announce-consistent : (r : Run) → CoreOf (r .state) → Flagged (r .state .queue) (r .state .dispatchScheduled) → Consistent (scheduleAnnounceDropped r .state)
+pub announce-consistent : (r : Run) → CoreOf (r .state) → Flagged (r .state .queue) (r .state .timers .dispatch) → Consistent (scheduleAnnounceDropped r .state)
 unfolding scheduleAnnounceDropped act
 announce-consistent r c q =
-    by-test (λ x. Consistent (x .state)) (isEmpty (r .state .dropped) || r .state .announceScheduled) _ _
+    by-test (λ x. Consistent (x .state)) (isEmpty (r .state .dropped) || r .state .timers .announce) _ _
     (λ t. record { core = c; queueFlag = q; recordFlag = t })
     (λ t. record { core = c; queueFlag = q; recordFlag = or-right (isEmpty (r .state .dropped)) true refl })
 
@@ -154,20 +154,20 @@ kept-sending = record { stays = kept-refl; follows = kept-trans; sends = kept-se
 -- the queue
 
 -- a dispatch timer is scheduled, so any queue may stand
-pub dispatch-consistent : (r : Run) → CoreOf (r .state) → Flagged (r .state .dropped) (r .state .announceScheduled) → Consistent (scheduleDispatch r .state)
+pub dispatch-consistent : (r : Run) → CoreOf (r .state) → Flagged (r .state .dropped) (r .state .timers .announce) → Consistent (scheduleDispatch r .state)
 unfolding scheduleDispatch act
 dispatch-consistent r c d =
-    by-test (λ x. Consistent (x .state)) (r .state .dispatchScheduled) _ _
-    (λ t. record { core = c; queueFlag = or-right (isEmpty (r .state .queue)) (r .state .dispatchScheduled) t; recordFlag = d })
+    by-test (λ x. Consistent (x .state)) (r .state .timers .dispatch) _ _
+    (λ t. record { core = c; queueFlag = or-right (isEmpty (r .state .queue)) (r .state .timers .dispatch) t; recordFlag = d })
     (λ t. record { core = c; queueFlag = or-right (isEmpty (r .state .queue)) true refl; recordFlag = d })
 
 pub dispatch-settings : (r : Run) → scheduleDispatch r .state .settings ≡ r .state .settings
 unfolding scheduleDispatch act
-dispatch-settings r = by-test (λ x. x .state .settings ≡ r .state .settings) (r .state .dispatchScheduled) _ _ (λ t. refl) (λ t. refl)
+dispatch-settings r = by-test (λ x. x .state .settings ≡ r .state .settings) (r .state .timers .dispatch) _ _ (λ t. refl) (λ t. refl)
 
 pub dispatch-limits : (r : Run) → scheduleDispatch r .state .limits ≡ r .state .limits
 unfolding scheduleDispatch act
-dispatch-limits r = by-test (λ x. x .state .limits ≡ r .state .limits) (r .state .dispatchScheduled) _ _ (λ t. refl) (λ t. refl)
+dispatch-limits r = by-test (λ x. x .state .limits ≡ r .state .limits) (r .state .timers .dispatch) _ _ (λ t. refl) (λ t. refl)
 
 pub kept-queued : (q : List Note) (r : Run) → (Consistent (r .state) → all (byNeighbour (r .state .links)) q ≡ true) → Kept r (scheduleDispatch (withState (withQueue q (r .state)) r))
 kept-queued q r a = record {
@@ -221,7 +221,7 @@ kept-cacheAt now id content round r = record {
 
 -- a value of the grafted table is replaced, its peers kept
 replaced : (id : ℕ) (g v : Grafts) (r : Run) → get id (r .state .grafted) ≡ some g → v .peers ≡ g .peers → Consistent (r .state) →
-    Core (r .state .links) (r .state .queue) (r .state .dropped) (r .state .missing) (r .state .received) (replace id v (r .state .grafted)) (r .state .cache) (r .state .graftTimers)
+    Core (r .state .links) (r .state .queue) (r .state .dropped) (r .state .missing) (r .state .received) (replace id v (r .state .grafted)) (r .state .cache) (r .state .timers .graft)
 replaced id g v r h e x =
     core-grafted (replace id v (r .state .grafted)) (r .state) (timely-replace id v (r .state .grafted) (x .core .graftedOn))
     (grafts-replace (r .state .links) id v (r .state .grafted) (rw e (grafted-get (r .state .links) id g (r .state .grafted) (x .core .grafting) h)) (x .core .grafting)) (x .core)
@@ -258,7 +258,7 @@ kept-forget id r = record {
   settings = refl;
   limits = refl;
   consistent = λ x.
-      let c = core-timers _ (r .state) (ascending-removeKey id (r .state .graftTimers) (x .core .timersUp)) (x .core) in
+      let c = core-timers _ (r .state) (ascending-removeKey id (r .state .timers .graft) (x .core .timersUp)) (x .core) in
       let m = core-missing _ (r .state) (ascending-remove id (r .state .missing) (x .core .missingUp)) (all-remove-entry (announcersWhole (r .state .links)) id (r .state .missing) (x .core .announcing)) (x .core) in
       record {
         core = record { linksUp = c .linksUp; missingUp = m .missingUp; timersUp = c .timersUp; receivedOn = c .receivedOn; graftedOn = c .graftedOn; cacheOn = c .cacheOn; queued = c .queued; recorded = c .recorded; announcing = m .announcing; grafting = c .grafting; noted = c .noted; within = c .within };
@@ -273,11 +273,11 @@ kept-counts c r = record { settings = refl; limits = refl; consistent = λ x. x 
 pub kept-scheduleGraft : (id : ℕ) (r : Run) → Kept r (scheduleGraft id r)
 unfolding scheduleGraft act
 kept-scheduleGraft id r =
-    walk-if Kept (member id (r .state .graftTimers)) (kept-refl r)
+    walk-if Kept (member id (r .state .timers .graft)) (kept-refl r)
     (record {
       settings = refl;
       limits = refl;
-      consistent = λ x. record { core = core-timers _ (r .state) (ascending-insertKey id (r .state .graftTimers) (x .core .timersUp)) (x .core); queueFlag = x .queueFlag; recordFlag = x .recordFlag };
+      consistent = λ x. record { core = core-timers _ (r .state) (ascending-insertKey id (r .state .timers .graft) (x .core .timersUp)) (x .core); queueFlag = x .queueFlag; recordFlag = x .recordFlag };
     })
 
 pub kept-unmark : (id : ℕ) (r : Run) → Kept r (unmark id r)
@@ -285,7 +285,7 @@ unfolding unmark
 kept-unmark id r = record {
   settings = refl;
   limits = refl;
-  consistent = λ x. record { core = core-timers _ (r .state) (ascending-removeKey id (r .state .graftTimers) (x .core .timersUp)) (x .core); queueFlag = x .queueFlag; recordFlag = x .recordFlag };
+  consistent = λ x. record { core = core-timers _ (r .state) (ascending-removeKey id (r .state .timers .graft) (x .core .timersUp)) (x .core); queueFlag = x .queueFlag; recordFlag = x .recordFlag };
 }
 
 grafts-later : (l : Links) (now : ℕ) (c : Cache Grafts) → Timely c → all (graftsWhole l) (c .entries) ≡ true → all (graftsWhole l) (expireUntil now c .entries) ≡ true

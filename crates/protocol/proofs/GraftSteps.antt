@@ -165,7 +165,7 @@ only-shrinks a = same (a .missing) (a .grafted)
 
 shrinks-scheduleDispatch : (r : Run) → Shrinks r (scheduleDispatch r)
 unfolding scheduleDispatch act
-shrinks-scheduleDispatch r = shrinks-if (r .state .dispatchScheduled) (shrinks-refl r) (same refl refl)
+shrinks-scheduleDispatch r = shrinks-if (r .state .timers .dispatch) (shrinks-refl r) (same refl refl)
 
 shrinks-lazyPush : (id round sender : ℕ) (r : Run) → Shrinks r (lazyPush id round sender r)
 unfolding lazyPush
@@ -173,7 +173,7 @@ shrinks-lazyPush id round sender r = shrinks-trans r _ _ (same refl refl) (shrin
 
 shrinks-scheduleGraft : (id : ℕ) (r : Run) → Shrinks r (scheduleGraft id r)
 unfolding scheduleGraft act
-shrinks-scheduleGraft id r = shrinks-if (member id (r .state .graftTimers)) (shrinks-refl r) (same refl refl)
+shrinks-scheduleGraft id r = shrinks-if (member id (r .state .timers .graft)) (shrinks-refl r) (same refl refl)
 
 pub shrinks-sending : Sending Shrinks
 unfolding send

@@ -78,7 +78,7 @@ withKept-links id p (some g) s = refl
 
 keeps-scheduleDispatch : (r : Run) → Keeps r (scheduleDispatch r)
 unfolding scheduleDispatch act
-keeps-scheduleDispatch r = walk-if Keeps (r .state .dispatchScheduled) (keeps-refl r) (still refl)
+keeps-scheduleDispatch r = walk-if Keeps (r .state .timers .dispatch) (keeps-refl r) (still refl)
 
 keeps-lazyPush : (id round sender : ℕ) (r : Run) → Keeps r (lazyPush id round sender r)
 unfolding lazyPush
@@ -86,7 +86,7 @@ keeps-lazyPush id round sender r = let k : Keeps r _ = still refl in k ⨾ keeps
 
 keeps-scheduleGraft : (id : ℕ) (r : Run) → Keeps r (scheduleGraft id r)
 unfolding scheduleGraft act
-keeps-scheduleGraft id r = walk-if Keeps (member id (r .state .graftTimers)) (keeps-refl r) (still refl)
+keeps-scheduleGraft id r = walk-if Keeps (member id (r .state .timers .graft)) (keeps-refl r) (still refl)
 
 keeps-evict : (now : ℕ) (r : Run) → Keeps r (onEvictCacheTimer now r)
 unfolding onEvictCacheTimer evict act

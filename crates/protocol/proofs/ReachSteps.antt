@@ -87,13 +87,13 @@ grows-noteEach p (h ∷ hs) r = grows-trans r (noteOne p h r) _ (grows-noteOne p
 pub grows-scheduleAnnounceDropped : (r : Run) → Grows r (scheduleAnnounceDropped r)
 unfolding scheduleAnnounceDropped act
 grows-scheduleAnnounceDropped r =
-    walk-if Grows (isEmpty (r .state .dropped) || r .state .announceScheduled) (grows-refl r)
+    walk-if Grows (isEmpty (r .state .dropped) || r .state .timers .announce) (grows-refl r)
     (record { queue = λ f h. h; dropped = λ f h. h; actions = λ f h. any-left f (r .actions) _ h; full = λ p h. h; cached = λ id v h. h })
 
 pub grows-scheduleDispatch : (r : Run) → Grows r (scheduleDispatch r)
 unfolding scheduleDispatch act
 grows-scheduleDispatch r =
-    walk-if Grows (r .state .dispatchScheduled) (grows-refl r)
+    walk-if Grows (r .state .timers .dispatch) (grows-refl r)
     (record { queue = λ f h. h; dropped = λ f h. h; actions = λ f h. any-left f (r .actions) _ h; full = λ p h. h; cached = λ id v h. h })
 
 pub grows-noteDropped : (p : ℕ) (hs : List Ihave) (r : Run) → Grows r (noteDropped p hs r)
@@ -109,7 +109,7 @@ grows-lazyPush id round sender r =
 grows-scheduleGraft : (id : ℕ) (r : Run) → Grows r (scheduleGraft id r)
 unfolding scheduleGraft act
 grows-scheduleGraft id r =
-    walk-if Grows (member id (r .state .graftTimers)) (grows-refl r)
+    walk-if Grows (member id (r .state .timers .graft)) (grows-refl r)
     (record { queue = λ f h. h; dropped = λ f h. h; actions = λ f h. any-left f (r .actions) _ h; full = λ p h. h; cached = λ id v h. h })
 
 grows-first : (id : ℕ) (h : Hop) (o : Option Grafts) (r : Run) → Grows r (withState (withFirst id h o (r .state)) r)

@@ -27,10 +27,10 @@ use Rattle.protocol.proofs.RecordBounds.{Within, Flagged, within-filter
 pub record Sound (r r′ : Run) : Type 0 where
   pub settings : r′ .state .settings ≡ r .state .settings
   pub within : Within (r .state .dropped) → Within (r′ .state .dropped)
-  pub queueFlag : Flagged (r .state .queue) (r .state .dispatchScheduled) → Flagged (r′ .state .queue) (r′ .state .dispatchScheduled)
-  pub recordFlag : Flagged (r .state .dropped) (r .state .announceScheduled) → Flagged (r′ .state .dropped) (r′ .state .announceScheduled)
-  pub dispatchTimer : r′ .state .dispatchScheduled ≡ true → (r .state .dispatchScheduled ≡ true) ⊎ (any (schedulesTick dispatchTick) (r′ .actions) ≡ true)
-  pub announceTimer : r′ .state .announceScheduled ≡ true → (r .state .announceScheduled ≡ true) ⊎ (any (schedulesTick announceTick) (r′ .actions) ≡ true)
+  pub queueFlag : Flagged (r .state .queue) (r .state .timers .dispatch) → Flagged (r′ .state .queue) (r′ .state .timers .dispatch)
+  pub recordFlag : Flagged (r .state .dropped) (r .state .timers .announce) → Flagged (r′ .state .dropped) (r′ .state .timers .announce)
+  pub dispatchTimer : r′ .state .timers .dispatch ≡ true → (r .state .timers .dispatch ≡ true) ⊎ (any (schedulesTick dispatchTick) (r′ .actions) ≡ true)
+  pub announceTimer : r′ .state .timers .announce ≡ true → (r .state .timers .announce ≡ true) ⊎ (any (schedulesTick announceTick) (r′ .actions) ≡ true)
   pub actions : (f : Action → Bool) → any f (r .actions) ≡ true → any f (r′ .actions) ≡ true
 
 pub sound-refl : (r : Run) → Sound r r
@@ -82,13 +82,13 @@ schedules-announce : (d : ℕ) (xs : List Action) → any (schedulesTick announc
 unfolding schedulesTick isTick
 schedules-announce d xs = any-right (schedulesTick announceTick) xs (Scheduled d AnnounceDropped ∷ []) (any-one (schedulesTick announceTick) (Scheduled d AnnounceDropped))
 
-dispatch-flag : (r : Run) → scheduleDispatch r .state .dispatchScheduled ≡ true
+dispatch-flag : (r : Run) → scheduleDispatch r .state .timers .dispatch ≡ true
 unfolding scheduleDispatch act
-dispatch-flag r = cases (r .state .dispatchScheduled) (λ p. rw p) (λ p. rw p)
+dispatch-flag r = cases (r .state .timers .dispatch) (λ p. rw p) (λ p. rw p)
 
 sound-scheduleDispatch : (r : Run) → Sound r (scheduleDispatch r)
 unfolding scheduleDispatch act
-sound-scheduleDispatch r = sound-if (r .state .dispatchScheduled) (λ p. sound-refl r) (λ p. record {
+sound-scheduleDispatch r = sound-if (r .state .timers .dispatch) (λ p. sound-refl r) (λ p. record {
   settings = refl;
   within = λ h. h;
   queueFlag = λ h. or-right (isEmpty (r .state .queue)) true refl;
@@ -98,13 +98,13 @@ sound-scheduleDispatch r = sound-if (r .state .dispatchScheduled) (λ p. sound-r
   actions = λ f h. any-left f (r .actions) _ h;
 })
 
-announce-flag : (r : Run) → Flagged (scheduleAnnounceDropped r .state .dropped) (scheduleAnnounceDropped r .state .announceScheduled)
+announce-flag : (r : Run) → Flagged (scheduleAnnounceDropped r .state .dropped) (scheduleAnnounceDropped r .state .timers .announce)
 unfolding scheduleAnnounceDropped act
-announce-flag r = cases (isEmpty (r .state .dropped) || r .state .announceScheduled) (λ p. rw p p) (λ p. rw p (or-right (isEmpty (r .state .dropped)) true refl))
+announce-flag r = cases (isEmpty (r .state .dropped) || r .state .timers .announce) (λ p. rw p p) (λ p. rw p (or-right (isEmpty (r .state .dropped)) true refl))
 
 sound-scheduleAnnounceDropped : (r : Run) → Sound r (scheduleAnnounceDropped r)
 unfolding scheduleAnnounceDropped act
-sound-scheduleAnnounceDropped r = sound-if (isEmpty (r .state .dropped) || r .state .announceScheduled) (λ p. sound-refl r) (λ p. record {
+sound-scheduleAnnounceDropped r = sound-if (isEmpty (r .state .dropped) || r .state .timers .announce) (λ p. sound-refl r) (λ p. record {
   settings = refl;
   within = λ h. h;
   queueFlag = λ h. h;
@@ -120,8 +120,8 @@ pub record Noting (r r′ : Run) : Type 0 where
   pub settings : r′ .state .settings ≡ r .state .settings
   pub within : Within (r .state .dropped) → Within (r′ .state .dropped)
   pub queue : r′ .state .queue ≡ r .state .queue
-  pub dispatchScheduled : r′ .state .dispatchScheduled ≡ r .state .dispatchScheduled
-  pub announceScheduled : r′ .state .announceScheduled ≡ r .state .announceScheduled
+  pub dispatchScheduled : r′ .state .timers .dispatch ≡ r .state .timers .dispatch
+  pub announceScheduled : r′ .state .timers .announce ≡ r .state .timers .announce
   pub actions : r′ .actions ≡ r .actions
 
 noting-one : (p : ℕ) (h : Ihave) (r : Run) → Noting r (noteOne p h r)
@@ -166,7 +166,7 @@ sound-queue q r =
     record {
       settings = y .settings;
       within = λ w. y .within w;
-      queueFlag = λ h. or-right (isEmpty (scheduleDispatch r′ .state .queue)) (scheduleDispatch r′ .state .dispatchScheduled) (dispatch-flag r′);
+      queueFlag = λ h. or-right (isEmpty (scheduleDispatch r′ .state .queue)) (scheduleDispatch r′ .state .timers .dispatch) (dispatch-flag r′);
       recordFlag = λ h. y .recordFlag h;
       dispatchTimer = λ h. y .dispatchTimer h;
       announceTimer = λ h. y .announceTimer h;
@@ -179,7 +179,7 @@ sound-lazyPush id round sender r = sound-queue _ r
 
 -- a step that changes nothing of these
 still : {r r′ : Run} → r′ .state .settings ≡ r .state .settings → r′ .state .dropped ≡ r .state .dropped → r′ .state .queue ≡ r .state .queue →
-    r′ .state .dispatchScheduled ≡ r .state .dispatchScheduled → r′ .state .announceScheduled ≡ r .state .announceScheduled → r′ .actions ≡ r .actions → Sound r r′
+    r′ .state .timers .dispatch ≡ r .state .timers .dispatch → r′ .state .timers .announce ≡ r .state .timers .announce → r′ .actions ≡ r .actions → Sound r r′
 still {r} {r′} a b c d e f = record {
   settings = a;
   within = λ w. rw b w;
@@ -202,7 +202,7 @@ withKept-still id p (some g) r = still refl refl refl refl refl refl
 
 sound-scheduleGraft : (id : ℕ) (r : Run) → Sound r (scheduleGraft id r)
 unfolding scheduleGraft
-sound-scheduleGraft id r = sound-if (member id (r .state .graftTimers)) (λ p. sound-refl r)
+sound-scheduleGraft id r = sound-if (member id (r .state .timers .graft)) (λ p. sound-refl r)
     (λ p. let r′ : Run = withState _ r in sound-trans r r′ _ (still refl refl refl refl refl refl) (sound-act r′ _))
 
 pub sound-evict : (now : ℕ) (r : Run) → Sound r (onEvictCacheTimer now r)
@@ -255,13 +255,13 @@ sound-emits p content d r = sound-act r (Emitted p content d)
 pub record Announces (r r′ : Run) : Type 0 where
   pub settings : r′ .state .settings ≡ r .state .settings
   pub within : Within (r .state .dropped) → Within (r′ .state .dropped)
-  pub queueFlag : Flagged (r′ .state .queue) (r′ .state .dispatchScheduled)
-  pub recordFlag : Flagged (r′ .state .dropped) (r′ .state .announceScheduled)
-  pub dispatchTimer : r′ .state .dispatchScheduled ≡ true → (r .state .dispatchScheduled ≡ true) ⊎ (any (schedulesTick dispatchTick) (r′ .actions) ≡ true)
-  pub announceTimer : r′ .state .announceScheduled ≡ true → any (schedulesTick announceTick) (r′ .actions) ≡ true
+  pub queueFlag : Flagged (r′ .state .queue) (r′ .state .timers .dispatch)
+  pub recordFlag : Flagged (r′ .state .dropped) (r′ .state .timers .announce)
+  pub dispatchTimer : r′ .state .timers .dispatch ≡ true → (r .state .timers .dispatch ≡ true) ⊎ (any (schedulesTick dispatchTick) (r′ .actions) ≡ true)
+  pub announceTimer : r′ .state .timers .announce ≡ true → any (schedulesTick announceTick) (r′ .actions) ≡ true
   pub actions : (f : Action → Bool) → any f (r .actions) ≡ true → any f (r′ .actions) ≡ true
 
-queued-flag : (r : Run) → Flagged (dispatchIfQueued r .state .queue) (dispatchIfQueued r .state .dispatchScheduled)
+queued-flag : (r : Run) → Flagged (dispatchIfQueued r .state .queue) (dispatchIfQueued r .state .timers .dispatch)
 unfolding dispatchIfQueued
 queued-flag r = cases (isEmpty (r .state .queue)) (λ p. rw p (or-left (isEmpty (r .state .queue)) _ p))
     (λ p. rw p (or-right (isEmpty (scheduleDispatch r .state .queue)) _ (dispatch-flag r)))

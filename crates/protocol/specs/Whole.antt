@@ -29,7 +29,7 @@ fits s =
     && leb (contentHeld s) (s .limits .B)
     && cacheFits (s .limits .G) (s .grafted)
     && leb (length (s .missing)) (s .limits .S)
-    && leb (length (s .graftTimers)) (s .limits .T)
+    && leb (length (s .timers .graft)) (s .limits .T)
     && leb (length (s .queue)) (s .limits .Q)
     && leb (length (s .dropped)) (s .limits .D)
 
@@ -43,7 +43,7 @@ inRange s =
 unfoldable pub keysOnce : State → Bool
 keysOnce s =
     ascending (keys (s .links)) && ascending (keys (s .missing)) && ascending (keys (s .received .entries))
-    && ascending (keys (s .grafted .entries)) && ascending (keys (s .cache .entries)) && ascending (s .graftTimers)
+    && ascending (keys (s .grafted .entries)) && ascending (keys (s .cache .entries)) && ascending (s .timers .graft)
 
 -- each is a neighbour
 unfoldable pub neighbours : Links → List ℕ → Bool
@@ -69,7 +69,7 @@ recordWithin dropped = all (λ n. leb (count (forPeer (n .peer)) dropped) 256) d
 
 -- "a queue or record stands only with its flag"
 unfoldable pub flagsStand : State → Bool
-flagsStand s = (isEmpty (s .queue) || s .dispatchScheduled) && (isEmpty (s .dropped) || s .announceScheduled)
+flagsStand s = (isEmpty (s .queue) || s .timers .dispatch) && (isEmpty (s .dropped) || s .timers .announce)
 
 -- (5) "Is the block whole?", of the state that it holds; "no peer in both sets" holds by `keysOnce` of the one table of links
 unfoldable pub whole : State → Bool

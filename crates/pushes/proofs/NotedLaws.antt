@@ -49,7 +49,7 @@ module _ (l id round : ℕ) (h : Head) (xs : List ℕ) (asks : Notes h xs l id r
   }
     where
       same : recordedState (s .dropped) s ≡ s
-      same = unfold recordedState in (λ k. withAnnounceScheduled (sym (flag-stands (isEmpty (s .dropped)) (s .announceScheduled) (asks .flagged)) k) s)
+      same = unfold recordedState in (λ k. withAnnounceScheduled (sym (flag-stands (isEmpty (s .dropped)) (s .timers .announce) (asks .flagged)) k) s)
 
   pub has-256 : (r : Scan) → Scanned p id (s .dropped) r → 256 ≤ r .count → Goes (notedState l id round) h xs h xs
   unfolding addNote recordFull
@@ -92,10 +92,10 @@ module _ (l id round : ℕ) (h : Head) (xs : List ℕ) (asks : Notes h xs l id r
         let a = announce-goes true g ys (go .sound) in
         record {
           state = a .state ∙ ap (withAnnounceScheduled true) (go .state)
-              ∙ sym (ap (λ (ds : List Note). withAnnounceScheduled (not (isEmpty ds) || s .announceScheduled) (withDropped ds s)) adds ∙ filled (s .dropped));
+              ∙ sym (ap (λ (ds : List Note). withAnnounceScheduled (not (isEmpty ds) || s .timers .announce) (withDropped ds s)) adds ∙ filled (s .dropped));
           sound = a .sound;
         }
       where
-        filled : (ds : List Note) → withAnnounceScheduled (not (isEmpty (ds ++ (note p id round ∷ []))) || s .announceScheduled) (withDropped (s .dropped ++ (note p id round ∷ [])) s) ≡ withAnnounceScheduled true (withDropped (s .dropped ++ (note p id round ∷ [])) s)
+        filled : (ds : List Note) → withAnnounceScheduled (not (isEmpty (ds ++ (note p id round ∷ []))) || s .timers .announce) (withDropped (s .dropped ++ (note p id round ∷ [])) s) ≡ withAnnounceScheduled true (withDropped (s .dropped ++ (note p id round ∷ [])) s)
         filled [] = refl
         filled (d ∷ ds) = refl

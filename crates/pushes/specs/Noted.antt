@@ -29,5 +29,5 @@ pub record Notes (h : Head) (block : List ℕ) (l id round : ℕ) : Type 0 where
   pub up : LinksAscend h block
   pub link : l < h .live .links
   pub cached : holds id (stateOf h block .cache) ≡ true
-  pub flagged : Flagged (stateOf h block .dropped) (stateOf h block .announceScheduled)
+  pub flagged : Flagged (stateOf h block .dropped) (stateOf h block .timers .announce)
   pub room : length (noted l id round (stateOf h block)) ≤ h .limits .dropped

@@ -175,7 +175,7 @@ module _ (h a : Head) (xs ys : List ℕ) (id : ℕ) (stands : Stands h xs) (gone
   unmarked-stands = record {
     sound = gone .sound;
     consistent = subst Consistent (sym (gone .state)) (record {
-      core = core-timers (removeKey id (stateOf h xs .graftTimers)) (stateOf h xs) (ascending-removeKey id (stateOf h xs .graftTimers) (stands .consistent .core .timersUp)) (stands .consistent .core);
+      core = core-timers (removeKey id (stateOf h xs .timers .graft)) (stateOf h xs) (ascending-removeKey id (stateOf h xs .timers .graft) (stands .consistent .core .timersUp)) (stands .consistent .core);
       queueFlag = stands .consistent .queueFlag;
       recordFlag = stands .consistent .recordFlag;
     });

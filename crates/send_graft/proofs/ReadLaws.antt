@@ -74,9 +74,9 @@ module _ (now : ℕ) (s : State) where
   unfolding settled
   settled-timeout = if-on (λ (t : State). t .settings .graftTimeout2) (s .init) _ _ ∙ if-same (s .init) refl refl
 
-  settled-timers : settled now s .graftTimers ≡ s .graftTimers
+  settled-timers : settled now s .timers .graft ≡ s .timers .graft
   unfolding settled
-  settled-timers = if-on (λ (t : State). t .graftTimers) (s .init) _ _ ∙ if-same (s .init) refl refl
+  settled-timers = if-on (λ (t : State). t .timers .graft) (s .init) _ _ ∙ if-same (s .init) refl refl
 
   settled-missing : settled now s .missing ≡ s .missing
   unfolding settled
@@ -116,18 +116,18 @@ module _ (now : ℕ) (s : State) where
   nobody-sized id j b = sym (ap (λ (hs : List Hop). askSizes id hs (settled now s)) (announcers-between s id j b))
 
   -- the timer mark is there, or not
-  pub mark-sized : (id j : ℕ) → Here (s .graftTimers) id j → sizedTimers (length (s .graftTimers) - 1) (sizesOf (settled now s)) ≡ unmarkedSizes id (settled now s)
+  pub mark-sized : (id j : ℕ) → Here (s .timers .graft) id j → sizedTimers (length (s .timers .graft) - 1) (sizesOf (settled now s)) ≡ unmarkedSizes id (settled now s)
   unfolding unmarkedSizes shrunk
   mark-sized id j h =
-      let m : member id (settled now s .graftTimers) ≡ true =
-      ap (member id) settled-timers ∙ ap (λ (n : ℕ). member n (s .graftTimers)) (sym (h .same)) ∙ member-at j (s .graftTimers) (h .within) in
+      let m : member id (settled now s .timers .graft) ≡ true =
+      ap (member id) settled-timers ∙ ap (λ (n : ℕ). member n (s .timers .graft)) (sym (h .same)) ∙ member-at j (s .timers .graft) (h .within) in
       λ k. sizedTimers (if sym m k then length (sym settled-timers k) - 1 else length (sym settled-timers k)) (sizesOf (settled now s))
 
-  pub no-mark-sized : (id j : ℕ) → Between (s .graftTimers) id j → sizesOf (settled now s) ≡ unmarkedSizes id (settled now s)
+  pub no-mark-sized : (id j : ℕ) → Between (s .timers .graft) id j → sizesOf (settled now s) ≡ unmarkedSizes id (settled now s)
   unfolding unmarkedSizes shrunk sizesOf
   no-mark-sized id j b =
-      let m : member id (settled now s .graftTimers) ≡ false = ap (member id) settled-timers ∙ member-between id j (s .graftTimers) b in
-      λ k. sizedTimers (if sym m k then length (settled now s .graftTimers) - 1 else length (settled now s .graftTimers)) (sizesOf (settled now s))
+      let m : member id (settled now s .timers .graft) ≡ false = ap (member id) settled-timers ∙ member-between id j (s .timers .graft) b in
+      λ k. sizedTimers (if sym m k then length (settled now s .timers .graft) - 1 else length (settled now s .timers .graft)) (sizesOf (settled now s))
 
   -- eviction leaves no more
   pub grafted-few : length (settled now s .grafted .entries) ≤ length (s .grafted .entries)

@@ -45,7 +45,7 @@ again now s e = rw e (λ p. record {
   grafted = count-again (λ x. ltb now (x .value .expires)) (s .grafted .entries) p;
   graftedExpiry = count-again (λ x. ltb now (x .time)) (s .grafted .expiry) p;
   missing = length (s .missing);
-  timers = length (s .graftTimers);
+  timers = length (s .timers .graft);
   queued = length (s .queue);
   recorded = length (s .dropped);
 })

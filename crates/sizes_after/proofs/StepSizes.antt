@@ -101,8 +101,8 @@ module _ (now : ℕ) (s : State) where
   same-missing : settled now s .missing ≡ s .missing
   same-missing = settled-as now s (λ (u : State). u .missing) refl
 
-  same-timers : settled now s .graftTimers ≡ s .graftTimers
-  same-timers = settled-as now s (λ (u : State). u .graftTimers) refl
+  same-timers : settled now s .timers .graft ≡ s .timers .graft
+  same-timers = settled-as now s (λ (u : State). u .timers .graft) refl
 
   same-peer : (l : ℕ) → peerAt (settled now s) l ≡ peerAt s l
   same-peer l = settled-as now s (λ (u : State). peerAt u l) refl
@@ -150,7 +150,7 @@ module _ (now : ℕ) (s : State) where
         new-gains now s array id sender k e
         ∙ ap (λ (rooms : List Room). pushGains id (settled now s .dropped) 0 (backPeers rooms (eagerTargets sender (keys (graftedFor id (settled now s))) (settled now s)))) (settled-rooms now s array)
 
-    pub new-is : (z : CodeSizes) (m n′ : ℕ) → PushedIs now array id n sender k s z → m ≡ shrunk (has id (s .missing)) (length (s .missing)) → n′ ≡ shrunk (member id (s .graftTimers)) (length (s .graftTimers))
+    pub new-is : (z : CodeSizes) (m n′ : ℕ) → PushedIs now array id n sender k s z → m ≡ shrunk (has id (s .missing)) (length (s .missing)) → n′ ≡ shrunk (member id (s .timers .graft)) (length (s .timers .graft))
         → NewIs now array id n sender s (withWaiting m n′ z)
     unfolding newSizes
     new-is z m n′ is em en = record {

@@ -26,7 +26,7 @@ module _ (h : Head) (xs : List ℕ) (id j : ℕ) where
   m = stateOf h xs .missing
 
   abbrev ks : List ℕ
-  ks = stateOf h xs .graftTimers
+  ks = stateOf h xs .timers .graft
 
   pub missing-there : Stands h xs → Here (keys (stateOf h xs .missing)) id j → h .live .missing - 1 ≡ shrunk (has id (stateOf h xs .missing)) (length (stateOf h xs .missing))
   unfolding shrunk
@@ -40,10 +40,10 @@ module _ (h : Head) (xs : List ℕ) (id j : ℕ) where
       let e : has id m ≡ false = ap (λ (o : Option (List Hop)). isSome o) (lookup-between id j m between) in
       sym (count-missing h xs) ∙ ap (λ (b : Bool). shrunk b (length m)) (sym e)
 
-  pub timer-there : Here (stateOf h xs .graftTimers) id j → h .live .timers - 1 ≡ shrunk (member id (stateOf h xs .graftTimers)) (length (stateOf h xs .graftTimers))
+  pub timer-there : Here (stateOf h xs .timers .graft) id j → h .live .timers - 1 ≡ shrunk (member id (stateOf h xs .timers .graft)) (length (stateOf h xs .timers .graft))
   unfolding shrunk
   timer-there here = ap (λ (n : ℕ). n - 1) (sym (count-timers h xs)) ∙ ap (λ (b : Bool). shrunk b (length ks)) (sym (member-here id j ks here))
 
-  pub timer-absent : Between (stateOf h xs .graftTimers) id j → h .live .timers ≡ shrunk (member id (stateOf h xs .graftTimers)) (length (stateOf h xs .graftTimers))
+  pub timer-absent : Between (stateOf h xs .timers .graft) id j → h .live .timers ≡ shrunk (member id (stateOf h xs .timers .graft)) (length (stateOf h xs .timers .graft))
   unfolding shrunk
   timer-absent between = sym (count-timers h xs) ∙ ap (λ (b : Bool). shrunk b (length ks)) (sym (member-between id j ks between))

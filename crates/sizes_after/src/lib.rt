@@ -129,7 +129,7 @@ fn missing_without(h: Head, block: &[u8], id: Id) -> usize
 // How many timers are marked once this message's mark is gone.
 fn timers_without(h: Head, block: &[u8], id: Id) -> usize
     requires { ⌜ Stands h (now block) ⌝ }
-    ensures { λ r. ⌜ r ≡ shrunk (member (idOf id) (stateOf h (now (block .entry)) .graftTimers)) (length (stateOf h (now (block .entry)) .graftTimers)) ⌝ }
+    ensures { λ r. ⌜ r ≡ shrunk (member (idOf id) (stateOf h (now (block .entry)) .timers .graft)) (length (stateOf h (now (block .entry)) .timers .graft)) ⌝ }
 {
     let f = timers::find_timer(h, block, id);
     match f {

@@ -43,7 +43,7 @@ module _ (h : Head) (xs : List ℕ) where
 module _ (instant : ℕ) (s : State) where
   pub settled-dispatch : dispatchAction (settled instant s) ≡ dispatchAction s
   unfolding settled dispatchAction
-  settled-dispatch = if-on (λ (t : State). if t .dispatchScheduled then [] else Scheduled (t .settings .dispatchTimeout) DispatchLazyPush ∷ []) (s .init) _ _ ∙ if-same (s .init) refl refl
+  settled-dispatch = if-on (λ (t : State). if t .timers .dispatch then [] else Scheduled (t .settings .dispatchTimeout) DispatchLazyPush ∷ []) (s .init) _ _ ∙ if-same (s .init) refl refl
 
   pub settled-evict : evictActions (settled instant s) ≡ evictActions s
   unfolding settled evictActions

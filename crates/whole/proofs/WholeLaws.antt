@@ -125,7 +125,7 @@ module _ (h : Head) (xs : List ℕ) where
       ∷ ascending (keys (s .received .entries))
       ∷ ascending (keys (s .grafted .entries))
       ∷ ascending (keys (s .cache .entries))
-      ∷ ascending (s .graftTimers)
+      ∷ ascending (s .timers .graft)
       ∷ []
 
   abbrev rangeTests : List Bool
@@ -166,7 +166,7 @@ module _ (h : Head) (xs : List ℕ) where
     missingUp : ascending (keys (s .missing)) ≡ true
     missingLists : allLists (numbersName (v .links)) 32 129 (v .missing) (tableOf h 9 xs) ≡ true
     announcers : all (announcersWhole (s .links)) (s .missing) ≡ true
-    timers : ascending (s .graftTimers) ≡ true
+    timers : ascending (s .timers .graft) ≡ true
     queueNamed : allBelow (v .links) (take (v .queued) (tableOf h 11 xs)) ≡ true
     recordNamed : allBelow (v .links) (take (v .dropped) (tableOf h 13 xs)) ≡ true
     recordFew : recordWithin (s .dropped) ≡ true
@@ -276,7 +276,7 @@ module _ (h : Head) (xs : List ℕ) where
     unfolding stateOf missingIn
     missing-count = length-view (missedOf (keys (s .links))) 129 (v .missing) (tableOf h 9 xs)
 
-    timers-count : length (s .graftTimers) ≡ v .timers
+    timers-count : length (s .timers .graft) ≡ v .timers
     unfolding stateOf timersIn
     timers-count = length-view (idAt 0) 32 (v .timers) (tableOf h 10 xs)
 
@@ -291,7 +291,7 @@ module _ (h : Head) (xs : List ℕ) where
         ∷ leb (contentHeld s) (s .limits .B)
         ∷ cacheFits (s .limits .G) (s .grafted)
         ∷ leb (length (s .missing)) (s .limits .S)
-        ∷ leb (length (s .graftTimers)) (s .limits .T)
+        ∷ leb (length (s .timers .graft)) (s .limits .T)
         ∷ leb (length (s .queue)) (s .limits .Q)
         ∷ leb (length (s .dropped)) (s .limits .D)
         ∷ []) (
@@ -307,7 +307,7 @@ module _ (h : Head) (xs : List ℕ) where
                   (
                     le-leb (length (s .missing)) (l .S) (omega (arith, missing-count, w .missing)),
                     (
-                      le-leb (length (s .graftTimers)) (l .T) (omega (arith, timers-count, w .timers)),
+                      le-leb (length (s .timers .graft)) (l .T) (omega (arith, timers-count, w .timers)),
                       (
                         le-leb (length (s .queue)) (l .Q) (omega (arith, queue-count, w .queued)),
                         (le-leb (length (s .dropped)) (l .D) (omega (arith, record-count, w .dropped)), tt),

@@ -67,7 +67,7 @@ missingWhole h block =
 
 -- graft timers: keys once
 unfoldable pub timersWhole : Head → List ℕ → Bool
-timersWhole h block = ascending (stateOf h block .graftTimers)
+timersWhole h block = ascending (stateOf h block .timers .graft)
 
 -- queued peers are neighbours
 unfoldable pub queueWhole : Head → List ℕ → Bool

@@ -25,13 +25,13 @@ enum-told-2 c = search needs
 returns : tie.Need-returns
 returns c =
     let a = c .before .before .before .before .args in
-    let ks = stateOf (a .h) (a .block .now) .graftTimers in
+    let ks = stateOf (a .h) (a .block .now) .timers .graft in
     sym (member-here (idOf (a .id)) _ ks (subst (λ (x : Found). FoundIs ks (idOf (a .id)) x) (c .enum-told .given .1) (c .before .before .find-timer .ensures)))
 
 returns-2 : tie.Need-returns-2
 returns-2 c =
     let a = c .before .before .before .before .args in
-    let ks = stateOf (a .h) (a .block .now) .graftTimers in
+    let ks = stateOf (a .h) (a .block .now) .timers .graft in
     sym (member-between (idOf (a .id)) _ ks (subst (λ (x : Found). FoundIs ks (idOf (a .id)) x) (c .enum-told2 .given .1) (c .before .before .find-timer .ensures)))
 
 pub has-timer-spec : {M : Type 1} → statement M

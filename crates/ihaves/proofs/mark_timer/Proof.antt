@@ -11,10 +11,10 @@ use Rattle.ihaves.proofs.mark_timer.Statement.{statement}
 use Rattle.ihaves.proofs.mark_timer.Tie as tie
 
 -- where the mark would stand
-between : (c : tie.After-f) → Between (stateOf (c .before .before .before .before .before .args .h) (c .before .before .before .before .before .args .block .now) .graftTimers) (idOf (c .before .before .before .before .before .args .id)) (c .f .given .0 .0)
+between : (c : tie.After-f) → Between (stateOf (c .before .before .before .before .before .args .h) (c .before .before .before .before .before .args .block .now) .timers .graft) (idOf (c .before .before .before .before .before .args .id)) (c .f .given .0 .0)
 between c =
     let s = c .before .before .before .before .before in
-    subst (λ (x : Found). FoundIs (stateOf (s .args .h) (s .args .block .now) .graftTimers) (idOf (s .args .id)) x) (c .f .given .1) (c .before .before .find-timer .ensures)
+    subst (λ (x : Found). FoundIs (stateOf (s .args .h) (s .args .block .now) .timers .graft) (idOf (s .args .id)) x) (c .f .given .1) (c .before .before .find-timer .ensures)
 
 find-timer-requires : tie.Need-find-timer-requires
 find-timer-requires c κs = let s = c .before .before in (s .pre .0 .fit, s .pre .1)
@@ -40,7 +40,7 @@ returns c =
     let s = c .before .before .before .before .before in
     let a = s .args in
     mark-still (idOf (a .id)) _ (a .h) (a .block .now) (s .pre .0)
-    (subst (λ (x : Found). FoundIs (stateOf (a .h) (a .block .now) .graftTimers) (idOf (a .id)) x) (c .enum-told .given .1) (c .before .before .find-timer .ensures))
+    (subst (λ (x : Found). FoundIs (stateOf (a .h) (a .block .now) .timers .graft) (idOf (a .id)) x) (c .enum-told .given .1) (c .before .before .find-timer .ensures))
 
 same-length-2 : tie.Need-same-length-2
 same-length-2 c = search needs

@@ -29,7 +29,7 @@ sub-n c =
     let s = c .before .before .before .before .before .before in
     let a = s .args in
     let st = stateOf (a .h) (a .block .now) in
-    let here = subst (λ (x : Found). FoundIs (st .graftTimers) (idOf (a .id)) x) (c .before .enum-told .given .1) (c .before .before .before .find-timer .ensures) in
+    let here = subst (λ (x : Found). FoundIs (st .timers .graft) (idOf (a .id)) x) (c .before .enum-told .given .1) (c .before .before .before .find-timer .ensures) in
     omega (arith, here .within, count-timers (a .h) (a .block .now))
 
 enum-told-2 : tie.Need-enum-told-2
@@ -40,7 +40,7 @@ returns c =
     let s = c .before .before .before .before .before .before in
     let a = s .args in
     let st = stateOf (a .h) (a .block .now) in
-    let here = subst (λ (x : Found). FoundIs (st .graftTimers) (idOf (a .id)) x) (c .before .enum-told .given .1) (c .before .before .before .find-timer .ensures) in
+    let here = subst (λ (x : Found). FoundIs (st .timers .graft) (idOf (a .id)) x) (c .before .enum-told .given .1) (c .before .before .before .find-timer .ensures) in
     ap (λ (z : Sizes). sizedTimers (a .h .live .timers - 1) z) (c .before .before .before .before .sizes-then .ensures)
     ∙ ap (λ (n : ℕ). sizedTimers (n - 1) (sizesOf (settled (a .instant .0) st))) (sym (count-timers (a .h) (a .block .now)))
     ∙ mark-sized (a .instant .0) st (idOf (a .id)) _ here
@@ -51,7 +51,7 @@ returns-2 c =
     let a = s .args in
     let st = stateOf (a .h) (a .block .now) in
     c .before .before .before .sizes-then .ensures
-    ∙ no-mark-sized (a .instant .0) st (idOf (a .id)) _ (subst (λ (x : Found). FoundIs (st .graftTimers) (idOf (a .id)) x) (c .enum-told2 .given .1) (c .before .before .find-timer .ensures))
+    ∙ no-mark-sized (a .instant .0) st (idOf (a .id)) _ (subst (λ (x : Found). FoundIs (st .timers .graft) (idOf (a .id)) x) (c .enum-told2 .given .1) (c .before .before .find-timer .ensures))
 
 pub unmarked-sizes-spec : {M : Type 1} → statement M
 unmarked-sizes-spec =

@@ -23,7 +23,7 @@ sub-result c =
     let s = c .before .before .before .before .before in
     let a = s .args in
     let st = stateOf (a .h) (a .block .now) in
-    let here = subst (λ (x : Found). FoundIs (st .graftTimers) (idOf (a .id)) x) (c .before .enum-told .given .1) (c .before .before .before .find-timer .ensures) in
+    let here = subst (λ (x : Found). FoundIs (st .timers .graft) (idOf (a .id)) x) (c .before .enum-told .given .1) (c .before .before .before .find-timer .ensures) in
     omega (arith, here .within, count-timers (a .h) (a .block .now))
 
 enum-told-2 : tie.Need-enum-told-2
@@ -34,14 +34,14 @@ returns c =
     let s = c .before .before .before .before .before in
     let a = s .args in
     let st = stateOf (a .h) (a .block .now) in
-    timer-there (a .h) (a .block .now) (idOf (a .id)) _ (subst (λ (x : Found). FoundIs (st .graftTimers) (idOf (a .id)) x) (c .before .enum-told .given .1) (c .before .before .before .find-timer .ensures))
+    timer-there (a .h) (a .block .now) (idOf (a .id)) _ (subst (λ (x : Found). FoundIs (st .timers .graft) (idOf (a .id)) x) (c .before .enum-told .given .1) (c .before .before .before .find-timer .ensures))
 
 returns-2 : tie.Need-returns-2
 returns-2 c =
     let s = c .before .before .before .before in
     let a = s .args in
     let st = stateOf (a .h) (a .block .now) in
-    timer-absent (a .h) (a .block .now) (idOf (a .id)) _ (subst (λ (x : Found). FoundIs (st .graftTimers) (idOf (a .id)) x) (c .enum-told2 .given .1) (c .before .before .find-timer .ensures))
+    timer-absent (a .h) (a .block .now) (idOf (a .id)) _ (subst (λ (x : Found). FoundIs (st .timers .graft) (idOf (a .id)) x) (c .enum-told2 .given .1) (c .before .before .find-timer .ensures))
 
 pub timers-without-spec : {M : Type 1} → statement M
 timers-without-spec = tie.close (tie.spec find-timer-requires enum-told sub-result enum-told-2 returns returns-2)

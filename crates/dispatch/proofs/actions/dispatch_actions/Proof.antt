@@ -39,7 +39,7 @@ loop-holds c =
     let t = stateOf (a .h) (a .block .now) in (
       search needs,
       refl,
-      going-start (heldThen (a .instant .0) t) (roomsIn t (a .rooms .now)) (perMessage (t .settings .maxMessageSize)) (t .queue) (concatMap actionBytes (dispatchActions (roomsIn t (a .rooms .now)) (settled (a .instant .0) t))) (a .out .now) (a .from) (keys (t .links)) (t .announceScheduled)
+      going-start (heldThen (a .instant .0) t) (roomsIn t (a .rooms .now)) (perMessage (t .settings .maxMessageSize)) (t .queue) (concatMap actionBytes (dispatchActions (roomsIn t (a .rooms .now)) (settled (a .instant .0) t))) (a .out .now) (a .from) (keys (t .links)) (t .timers .announce)
           (ap (concatMap actionBytes) (all-actions (a .h) (a .block .now) (s .pre .0) (a .instant .0) (roomsIn t (a .rooms .now)))),
     )
 

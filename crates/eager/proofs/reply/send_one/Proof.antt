@@ -28,7 +28,7 @@ module _ (s : tie.Start) where
   abbrev msg : Message
   msg = Gossip (idOf (s .args .id)) (s .args .content .now) (Swarm (s .args .round .0))
 
-  flag : (b : Bool) → s .args .h .live .«announce_dropped_scheduled» ≡ b → st .announceScheduled ≡ b
+  flag : (b : Bool) → s .args .h .live .«announce_dropped_scheduled» ≡ b → st .timers .announce ≡ b
   unfolding stateOf
   flag b e = e
 

@@ -18,7 +18,7 @@ use Rattle.whole.proofs.tables.timers_whole.Statement.{statement}
 use Rattle.whole.proofs.tables.timers_whole.Tie as tie
 
 -- the timers are the keys
-told : (h : Head) (xs : List ℕ) → keys 32 (h .live .timers) (tableOf h 10 xs) ≡ stateOf h xs .graftTimers
+told : (h : Head) (xs : List ℕ) → keys 32 (h .live .timers) (tableOf h 10 xs) ≡ stateOf h xs .timers .graft
 unfolding keys keyOf stateOf timersIn idAt
 told h xs = refl
 

@@ -29,7 +29,7 @@ use Rattle.block.specs.LinkSteps.{linkAt, peerAt}
 use Rattle.block.specs.MissingSteps.{missedAt, hopsAt}
 use Rattle.block.specs.declared.head.Head.{Head}
 use Rattle.block.proofs.Tables.{view-at, field-in, byte-in, length-table, length-view}
-use Rattle.block.proofs.Numbered.{length-numbered}
+use Rattle.refs.proofs.Numbered.{length-numbered}
 use Rattle.block.specs.TimeCaches.{cacheFrom}
 use Rattle.caches.specs.GraftSteps.{graftsAt}
 use Rattle.caches.proofs.CacheLaws.{refs-in, rows-in}

@@ -14,7 +14,7 @@ use lib.Seq.{getD-set-same, getD-set-other, take-all}
 use Rattle.lists.specs.Base.{count}
 use Rattle.lists.proofs.MapLaws.{cases, and-left, and-right}
 use Rattle.rows.proofs.Ids.{tri}
-use Rattle.refs.proofs.Left.{count-keep, count-drop}
+use Rattle.lists.proofs.Firsts.{count-keep, count-drop}
 use Rattle.alike.specs.Elements.{Element, element, sameElement}
 use Rattle.alike.specs.Chains.{bucket, Latest, Chained, Heads}
 

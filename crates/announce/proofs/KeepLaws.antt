@@ -17,7 +17,8 @@ use Rattle.rows.proofs.Ids.{tri}
 use Rattle.refs.specs.Refs.{Below}
 use Rattle.protocol.specs.State.{Limits, Note, withDropped}
 use Rattle.block.specs.Layout.{tables, table}
-use Rattle.block.specs.View.{stateOf, viewOf, limitsOf, peerOf, noteOf, notesIn, pairs, numbered, peersIn}
+use Rattle.block.specs.View.{stateOf, viewOf, limitsOf, peerOf, noteOf, notesIn, peersIn}
+use Rattle.refs.specs.Numbers.{pairs, numbered}
 use Rattle.block.specs.Fit.{Fit}
 use Rattle.block.specs.Sound.{Laid, Sound}
 use Rattle.block.specs.Goes.{Goes}

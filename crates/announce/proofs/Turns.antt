@@ -17,7 +17,7 @@ use Rattle.lists.proofs.MapLaws.{cases}
 use Rattle.lists.proofs.ListLaws.{count-append, count-length, length-filter}
 use Rattle.rows.specs.Sorted.{Ascending}
 use Rattle.rows.proofs.Ids.{tri}
-use Rattle.refs.proofs.Left.{filter-more}
+use Rattle.lists.proofs.Firsts.{filter-more}
 use Rattle.protocol.specs.State.{Note}
 use Rattle.protocol.specs.Push.{forPeer}
 use Rattle.protocol.specs.Ticks.{oldest, younger}

@@ -1,28 +1,15 @@
 -- The frame law: a put inside one piece of a list changes that piece alone.
 -- Assumes nothing.
 use mathlib.Core.Path.{_≡_, refl, sym, ap, _∙_}
-use mathlib.Core.List.{List, [], _∷_, _++_, append-assoc}
+use mathlib.Core.List.{List, [], _∷_}
 use Prim.Native.Nat.{ℕ, zero, suc, _+_, _≤_, _<_}
 use native.Mathlib.Nat.{zero-add, add-assoc, le-of-suc-le-suc, not-suc-le-zero}
 use native.Mathlib.Omega.{arith}
-use lib.ListN.{length, take, drop, getD, set, length-drop, take-append-drop}
-use lib.Seq.{take-append-add, drop-append-add, drop-at, drop-drop, length-take-le}
+use lib.ListN.{length, take, drop, getD, set, length-drop}
+use lib.Seq.{drop-drop, length-take-le}
 use Rattle.rows.specs.Part.{part, put}
-use Rattle.rows.proofs.Parts.{part-inside, drop-put, take-put}
+use Rattle.rows.proofs.Parts.{part-inside, put-drop, drop-put, take-put}
 use Rattle.block.specs.Cut.{cut, start, total}
-
-put-right : (c : ℕ) (p zs s : List ℕ) → put (length p + c) zs (p ++ s) ≡ p ++ put c zs s
-unfolding put
-put-right c p zs s = rw (take-append-add p s c, drop-append-add p s c, append-assoc p (take c s) (zs ++ drop (length zs) (drop c s)))
-
--- a put past the first s elements
-pub put-drop : (s a : ℕ) (ys xs : List ℕ) → s ≤ length xs → drop s (put (s + a) ys xs) ≡ put a ys (drop s xs)
-put-drop s a ys xs h =
-    let e : length (take s xs) ≡ s = length-take-le s xs h in
-    ap (λ (l : List ℕ). drop s (put (s + a) ys l)) (sym (take-append-drop s xs))
-    ∙ ap (λ (n : ℕ). drop s (put (n + a) ys (take s xs ++ drop s xs))) (sym e)
-    ∙ ap (drop s) (put-right a (take s xs) ys (drop s xs))
-    ∙ drop-at (take s xs) (put a ys (drop s xs)) s e
 
 take-inside : (s o : ℕ) (ys xs : List ℕ) → o + length ys ≤ s → s ≤ length xs → take s (put o ys xs) ≡ put o ys (take s xs)
 unfolding part

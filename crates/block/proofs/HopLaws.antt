@@ -9,15 +9,15 @@ use lib.Seq.{take-append-le, take-take, drop-drop, getD-drop}
 use Rattle.rows.specs.Part.{part, put}
 use Rattle.rows.specs.Digits.{leBytes}
 use Rattle.rows.specs.Rows.{rows}
-use Rattle.rows.proofs.Parts.{put-inside, part-put, put-over, part-part, part-before, length-part, length-put, drop-put, take-put, drop-take, getD-part, set-put}
+use Rattle.rows.proofs.Parts.{put-inside, part-put, put-over, part-part, part-before, length-part, length-put, drop-put, take-put, drop-take, getD-part, set-put, put-drop}
 use Rattle.rows.proofs.Rows.{rows-same}
 use Rattle.rows.proofs.Digits.{length-leBytes}
 use Rattle.refs.specs.Refs.{Below}
-use Rattle.block.specs.View.{byteAt, numbered, hopsIn}
+use Rattle.block.specs.View.{byteAt, hopsIn}
+use Rattle.refs.specs.Numbers.{numbered}
 use Rattle.block.specs.Sound.{Numbered}
 use Rattle.block.specs.HopSteps.{pushedHop, shiftedHops}
-use Rattle.block.proofs.Cut.{put-drop}
-use Rattle.block.proofs.Numbered.{numbered-at, numbered-push, numbered-same, numbered-drop, length-numbered, take-put-next}
+use Rattle.refs.proofs.Numbered.{numbered-at, numbered-push, numbered-same, numbered-drop, length-numbered, take-put-next}
 use Rattle.block.proofs.NoteLaws.{below-snoc}
 
 -- puts inside the k elements from a

@@ -1,12 +1,11 @@
 -- Laws on plain values. Cut, Tables: pieces of a list, and the frame of a put in one table. HeaderLaws: the header. Scans, LinkLaws: the links.
--- Numbered, NoteLaws: link numbers with rows beside them, queue and record. RowLaws, KeyPlaces, Each: a row more or less in a table.
+-- NoteLaws: queue and record. RowLaws, KeyPlaces, Each: a row more or less in a table.
 -- TimerLaws: graft timers. HopLaws, MissingLaws, AnnounceLaws, Few: missing messages and their announcers. GoesLaws: steps one after the other.
 pub mod Cut
 pub mod Tables
 pub mod HeaderLaws
 pub mod Scans
 pub mod LinkLaws
-pub mod Numbered
 pub mod NoteLaws
 pub mod RowLaws
 pub mod KeyPlaces

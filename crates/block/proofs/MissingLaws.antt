@@ -14,7 +14,7 @@ use Rattle.rows.specs.Digits.{leNat, beNat, beBytes}
 use Rattle.rows.specs.Rows.{rows, opened, closed}
 use Rattle.rows.specs.Sorted.{keyOf, Between, Here}
 use Rattle.rows.specs.Sorted.{keys as rowKeys}
-use Rattle.rows.proofs.Parts.{length-part, length-put, part-before, part-part, put-put-next, set-put, getD-part}
+use Rattle.rows.proofs.Parts.{length-part, length-put, part-before, part-part, put-put-next, set-put, getD-part, put-drop}
 use Rattle.rows.proofs.Rows.{rows-field}
 use Rattle.rows.proofs.Digits.{length-beBytes, beNat-beBytes, leNat-leBytes}
 use Rattle.lists.specs.Map.{Map, Entry, entry, keys, insert, remove}
@@ -22,7 +22,8 @@ use Rattle.time_cache.proofs.Orders.{up-of}
 use Rattle.time_cache.proofs.MapPlaces.{insert-between, insert-here}
 use Rattle.protocol.specs.State.{Limits, Hop, withMissing}
 use Rattle.block.specs.Layout.{place, tables, table}
-use Rattle.block.specs.View.{stateOf, viewOf, limitsOf, byteAt, idAt, pairs, numbered, hopsIn, hopOf, hopsOf, missedOf, missingIn, peersIn}
+use Rattle.block.specs.View.{stateOf, viewOf, limitsOf, byteAt, idAt, hopsIn, hopOf, hopsOf, missedOf, missingIn, peersIn}
+use Rattle.refs.specs.Numbers.{pairs, numbered}
 use Rattle.block.specs.Fit.{Fit}
 use Rattle.block.specs.Sound.{Numbered, AllNumbered, Laid, Sound}
 use Rattle.block.specs.Goes.{Goes}
@@ -32,7 +33,7 @@ use Rattle.block.specs.HopSteps.{HopIn, pushedHop, shiftedHops}
 use Rattle.block.specs.MissingSteps.{MissingAscend, hop, missedAt, hopsAt, HopIs, missAlso, missOutAt, hopsTo, announcedAt, leftAt}
 use Rattle.block.specs.declared.head.Head.{Head}
 use Rattle.block.specs.declared.hops.Hop.{Hop as LinkHop}
-use Rattle.block.proofs.Cut.{within, put-drop}
+use Rattle.block.proofs.Cut.{within}
 use Rattle.block.proofs.Tables.{frame, length-table, length-view, view-at, view-set, field-in, keys-table, put-all}
 use Rattle.block.proofs.RowLaws.{opened-frame, closed-frame, rows-insert, rows-remove, view-insert, view-remove, gapRow}
 use Rattle.block.proofs.KeyPlaces.{remove-here}

@@ -20,7 +20,8 @@ use Rattle.refs.specs.Refs.{Below}
 use Rattle.time_cache.proofs.Orders.{below-of, of-below}
 use Rattle.protocol.specs.State.{Limits, Note, withQueue, withDropped}
 use Rattle.block.specs.Layout.{sizes, place, tables, table, end}
-use Rattle.block.specs.View.{stateOf, viewOf, limitsOf, peerOf, noteOf, notesIn, pairs, numbered, idAt, halfAt, peersIn}
+use Rattle.block.specs.View.{stateOf, viewOf, limitsOf, peerOf, noteOf, notesIn, idAt, halfAt, peersIn}
+use Rattle.refs.specs.Numbers.{pairs, numbered}
 use Rattle.block.specs.Fit.{Fit}
 use Rattle.block.specs.Sound.{Laid, Sound}
 use Rattle.block.specs.Goes.{Goes}
@@ -30,7 +31,7 @@ use Rattle.block.specs.declared.note.Note.{Note as LinkNote}
 use Rattle.block.specs.declared.head.Head.{Head}
 use Rattle.block.proofs.Cut.{cut-part, within}
 use Rattle.block.proofs.Tables.{frame, length-table, field-in}
-use Rattle.block.proofs.Numbered.{length-numbered, numbered-at, numbered-push, take-put-next}
+use Rattle.refs.proofs.Numbered.{length-numbered, numbered-at, numbered-push, take-put-next}
 
 pub length-row : (i r : ℕ) → length (noteRow i r) ≡ 34
 unfolding noteRow

@@ -2,14 +2,14 @@
 -- Assumes nothing.
 use Prim.Native.Nat.{ℕ}
 use mathlib.Core.Bool.{Bool, true, false}
-use mathlib.Core.List.{List, [], _∷_, map}
+use mathlib.Core.List.{List, [], map}
 use mathlib.Core.Option.{Option, none, some}
 use lib.Dec.{eqb}
-use lib.ListN.{take, drop, getD}
+use lib.ListN.{drop, getD}
 use Rattle.rows.specs.Part.{part}
 use Rattle.rows.specs.Digits.{leNat, beNat}
-use Rattle.rows.specs.Rows.{rows}
-use Rattle.rows.specs.Rows.{fieldOf}
+use Rattle.rows.specs.Rows.{rows, fieldOf}
+use Rattle.refs.specs.Numbers.{numbered}
 use Rattle.lists.specs.Base.{if_then_else_}
 use Rattle.lists.specs.Map.{Map, Entry, entry, keys}
 use Rattle.time_cache.specs.TimeCache.{Cache}
@@ -78,16 +78,6 @@ linksIn n bytes = map linkOf (rows 16 n bytes)
 -- a link number stands for the peer in that place of the links
 abbrev pub peerOf : List ℕ → ℕ → ℕ
 peerOf peers l = getD peers l 0
-
--- numbers and rows, read together one by one
-unfoldable pub pairs : {A : Type 0} → (ℕ → List ℕ → A) → List ℕ → List (List ℕ) → List A
-pairs f [] rs = []
-pairs f (l ∷ ls) [] = []
-pairs f (l ∷ ls) (r ∷ rs) = f l r ∷ pairs f ls rs
-
--- n link numbers, a byte each, and beside them n rows of s bytes
-unfoldable pub numbered : {A : Type 0} → (ℕ → List ℕ → A) → ℕ → ℕ → List ℕ → List ℕ → List A
-numbered f s n numbers bytes = pairs f (take n numbers) (rows s n bytes)
 
 -- queue and record: tables 11 and 12, 13 and 14
 unfoldable pub noteOf : List ℕ → ℕ → List ℕ → Note

@@ -1,14 +1,14 @@
 -- What a first event leaves, and its sizes and tests read from the state before.
 use Prim.Native.Nat.{ℕ}
 use mathlib.Core.Path.{_≡_, refl, sym, ap, _∙_}
-use mathlib.Core.Bool.{Bool}
+use mathlib.Core.Bool.{Bool, true}
 use mathlib.Core.List.{List, [], _∷_, _++_, append-nil}
 use mathlib.Core.Option.{Option, none, some}
 use native.Mathlib.Omega.{arith}
 use lib.Dec.{ltb}
 use lib.ListN.{length}
-use Rattle.lists.specs.Base.{if_then_else_, isSome, filter, count, sum}
-use Rattle.lists.specs.Map.{lookup}
+use Rattle.lists.specs.Base.{if_then_else_, isSome, filter, count, sum, ascending}
+use Rattle.lists.specs.Map.{keys, lookup}
 use Rattle.time_cache.specs.TimeCache.{Timed, Cache, valueOf, get, holds, expireUntil, laterCache}
 use Rattle.postcard.specs.Message.{EvictCache, Action, Scheduled}
 use Rattle.protocol.specs.State.{State, Cached}
@@ -37,9 +37,9 @@ module _ {A : Type 0} where
       by (some x) = unfold passes in (cases (ltb now (x .expires)) (λ p. rw p refl) (λ p. rw p refl))
 
   -- `get` after eviction, of the cache before
-  pub get-later : (now id : ℕ) (c : Cache A) → Timely c → get id (laterCache now c) ≡ aliveValue now (lookup id (c .entries))
+  pub get-later : (now id : ℕ) (c : Cache A) → ascending (keys (c .entries)) ≡ true → get id (laterCache now c) ≡ aliveValue now (lookup id (c .entries))
   unfolding laterCache aliveValue get
-  get-later now id c t = ap valueOf (lookup-filter (λ e. ltb now (e .value .expires)) id (c .entries) (t .up)) ∙ by (lookup id (c .entries))
+  get-later now id c up = ap valueOf (lookup-filter (λ e. ltb now (e .value .expires)) id (c .entries) up) ∙ by (lookup id (c .entries))
     where
       by : (o : Option (Timed A)) → valueOf (passes (λ e. ltb now (e .value .expires)) id o) ≡ aliveValue now o
       by none = unfold passes in (unfold valueOf in refl)
@@ -104,7 +104,7 @@ settled-received now id s c = if-on (λ (x : State). holds id (x .received)) (s 
 
 pub settled-cached : (now id : ℕ) (s : State) → CoreOf s → get id (settled now s .cache) ≡ (if s .init then get id (s .cache) else aliveValue now (lookup id (s .cache .entries)))
 unfolding settled
-settled-cached now id s c = if-on (λ (x : State). get id (x .cache)) (s .init) _ _ ∙ if-both (s .init) refl (get-later now id (s .cache) (c .cacheOn))
+settled-cached now id s c = if-on (λ (x : State). get id (x .cache)) (s .init) _ _ ∙ if-both (s .init) refl (get-later now id (s .cache) (c .cacheOn .up))
 
 pub settled-holds : (now id : ℕ) (s : State) → CoreOf s → holds id (settled now s .cache) ≡ (if s .init then holds id (s .cache) else aliveAt now (lookup id (s .cache .entries)))
 unfolding settled
@@ -112,4 +112,4 @@ settled-holds now id s c = if-on (λ (x : State). holds id (x .cache)) (s .init)
 
 pub settled-grafted : (now id : ℕ) (s : State) → CoreOf s → get id (settled now s .grafted) ≡ (if s .init then get id (s .grafted) else aliveValue now (lookup id (s .grafted .entries)))
 unfolding settled
-settled-grafted now id s c = if-on (λ (x : State). get id (x .grafted)) (s .init) _ _ ∙ if-both (s .init) refl (get-later now id (s .grafted) (c .graftedOn))
+settled-grafted now id s c = if-on (λ (x : State). get id (x .grafted)) (s .init) _ _ ∙ if-both (s .init) refl (get-later now id (s .grafted) (c .graftedOn .up))

@@ -13,7 +13,7 @@ use Rattle.lists.specs.Base.{if_then_else_, filter, any}
 use Rattle.lists.specs.Map.{keys}
 use Rattle.lists.proofs.MapLaws.{cases}
 use Rattle.lists.proofs.ListLaws.{length-filter, count-length}
-use Rattle.refs.proofs.Left.{filter-more}
+use Rattle.lists.proofs.Firsts.{filter-more}
 use Rattle.time_cache.proofs.Orders.{up-of}
 use Rattle.postcard.specs.Message.{Ihave}
 use Rattle.protocol.specs.State.{Note}

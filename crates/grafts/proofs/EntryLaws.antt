@@ -31,7 +31,8 @@ use Rattle.time_cache.proofs.WriteLaws.{put-getD-same, own-refs, own-rows, own-
 use Rattle.time_cache.proofs.LoanLaws.{halfway, length-halfway, only-second, only-first, only-put, only-then, only-both, two-wider}
 use Rattle.protocol.specs.State.{Limits, State, Grafts, withGrafted}
 use Rattle.block.specs.Layout.{place, table}
-use Rattle.block.specs.View.{stateOf, limitsOf, byteAt, pairs, numbered, hopsIn, roundOf, graftsOf, graftedIn}
+use Rattle.block.specs.View.{stateOf, limitsOf, byteAt, hopsIn, roundOf, graftsOf, graftedIn}
+use Rattle.refs.specs.Numbers.{pairs, numbered}
 use Rattle.block.specs.Sound.{Sound}
 use Rattle.block.specs.Goes.{Goes}
 use Rattle.block.specs.Heads.{withGraftedCounts}

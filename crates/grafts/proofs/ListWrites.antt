@@ -12,14 +12,14 @@ use Rattle.rows.specs.Part.{part, put}
 use Rattle.rows.specs.Digits.{leBytes}
 use Rattle.rows.specs.Rows.{rows, opened}
 use Rattle.rows.proofs.Digits.{length-leBytes}
-use Rattle.rows.proofs.Parts.{length-part, length-put, part-part, part-after, drop-put, take-put, drop-take, getD-part, getD-put-before, set-put, put-cons, put-put-prev}
+use Rattle.rows.proofs.Parts.{length-part, length-put, part-part, part-after, drop-put, take-put, drop-take, getD-part, getD-put-before, set-put, put-cons, put-put-prev, put-drop}
 use Rattle.rows.proofs.Rows.{length-rows, rows-put-one, rows-opened, length-opened, put-gap}
 use Rattle.refs.specs.Refs.{Below}
 use Rattle.time_cache.proofs.Orders.{below-of, of-below}
 use Rattle.time_cache.proofs.TableLaws.{all-gap}
-use Rattle.block.specs.View.{byteAt, pairs, numbered, hopsIn}
+use Rattle.block.specs.View.{byteAt, hopsIn}
+use Rattle.refs.specs.Numbers.{pairs, numbered}
 use Rattle.block.specs.Sound.{Numbered}
-use Rattle.block.proofs.Cut.{put-drop}
 use Rattle.block.proofs.HopLaws.{three-nested}
 use Rattle.grafts.specs.NoteSteps.{insertedHop, roundPut}
 

@@ -3,3 +3,4 @@ pub mod Lists
 pub mod ListLaws
 pub mod KeyLaws
 pub mod Branches
+pub mod Firsts

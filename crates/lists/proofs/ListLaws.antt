@@ -46,6 +46,11 @@ module _ {A : Type 0} where
   filter-all f [] h = refl
   filter-all f (x ∷ xs) h = rw (all-head f x xs h) (ap (λ (l : List A). x ∷ l) (filter-all f xs (all-tail f x xs h)))
 
+  pub filter-map : {B : Type 0} (q : A → Bool) (f : B → A) (xs : List B) → filter q (map f xs) ≡ map f (filter (λ (x : B). q (f x)) xs)
+  unfolding filter
+  filter-map q f [] = refl
+  filter-map q f (x ∷ xs) = cases (q (f x)) (λ e. rw e (ap (λ (l : List A). f x ∷ l) (filter-map q f xs))) (λ e. rw e (filter-map q f xs))
+
   pub length-filter : (f : A → Bool) (xs : List A) → length (filter f xs) ≡ count f xs
   unfolding filter count
   length-filter f [] = refl

@@ -17,7 +17,8 @@ use Rattle.refs.specs.Refs.{ref, places, Below}
 use Rattle.time_cache.proofs.Orders.{up-of}
 use Rattle.protocol.specs.State.{Limits}
 use Rattle.block.specs.Layout.{sizes, place, tables, table, end}
-use Rattle.block.specs.View.{limitsOf, numbered, viewWith, stateOf}
+use Rattle.block.specs.View.{limitsOf, viewWith, stateOf}
+use Rattle.refs.specs.Numbers.{numbered, lowerAll, entries}
 use Rattle.block.specs.Fit.{Fit}
 use Rattle.block.specs.Sound.{Laid, Sound, AllNumbered}
 use Rattle.block.specs.LinkSteps.{LinksAscend}
@@ -26,8 +27,8 @@ use Rattle.block.specs.declared.head.Head.{Head}
 use Rattle.block.proofs.Cut.{cut-part, within}
 use Rattle.block.proofs.Tables.{frame-whole, length-table}
 use Rattle.block.proofs.LinkLaws.{count-peers}
-use Rattle.block.proofs.Numbered.{numbered-same}
-use Rattle.neighbours.specs.Lowered.{lowerAll, entries, withoutPeer, Listed, listed, lowerListed, announced, AllFew, LoweredIn, MissedIn, NotesIn, LoweredLinks}
+use Rattle.refs.proofs.Numbered.{numbered-same}
+use Rattle.neighbours.specs.Lowered.{withoutPeer, Listed, listed, lowerListed, announced, AllFew, LoweredIn, MissedIn, NotesIn, LoweredLinks}
 use Rattle.neighbours.proofs.RaisedRows.{few-in}
 use Rattle.neighbours.proofs.LoweredRefs.{below-lowered, places-numbered}
 use Rattle.neighbours.proofs.LoweredTables.{notes-left, missing-left, grafted-left, places-lowered, fine-of, of-fine, fine-lowered, fine-filter, Fine}

@@ -23,9 +23,11 @@ use Rattle.refs.specs.Refs.{Ref, ref, places, Below}
 use Rattle.refs.proofs.Shifts.{low-or-high}
 use Rattle.protocol.specs.Push.{forPeer}
 use Rattle.protocol.specs.Neighbours.{withoutAnnouncer, withoutNotes}
-use Rattle.block.specs.View.{halfAt, idAt, peerOf, pairs, numbered, noteOf, hopOf, roundOf}
-use Rattle.neighbours.specs.Lowered.{lowered, stays, lower, lowerAll, withoutPeer}
-use Rattle.neighbours.proofs.LoweredLaws.{lowered-low, lowered-high, peer-lowered, readBy, pairs-read}
+use Rattle.block.specs.View.{halfAt, idAt, peerOf, noteOf, hopOf, roundOf}
+use Rattle.refs.specs.Numbers.{pairs, numbered, lowered, stays, lower, lowerAll}
+use Rattle.neighbours.specs.Lowered.{withoutPeer}
+use Rattle.neighbours.proofs.LoweredLaws.{readBy, pairs-read}
+use Rattle.refs.proofs.Lowered.{lowered-low, lowered-high, named-lowered}
 
 differs : (a b : ℕ) → not (eqb a b) ≡ true → a ≡ b → ⊥
 differs a b h e = true≢ (sym (ap not (eq-eqb a b e)) ∙ h)
@@ -127,7 +129,7 @@ module _ (i : ℕ) (ps : List ℕ) (up : Ascending ps) (h : i < length ps) where
 
   same-note : (l : ℕ) (row : List ℕ) → l < length ps → (l ≡ i → ⊥) → noteOf rest (lowered i l) row ≡ noteOf ps l row
   unfolding noteOf
-  same-note l row q n = ap (λ (x : ℕ). record { peer = x; id = idAt 0 row; round = halfAt 32 row }) (peer-lowered i l ps h n)
+  same-note l row q n = ap (λ (x : ℕ). record { peer = x; id = idAt 0 row; round = halfAt 32 row }) (named-lowered 0 i l ps h n)
 
   test-note : (l : ℕ) (row : List ℕ) → l < length ps → not (forPeer p (noteOf ps l row)) ≡ not (eqb l i)
   unfolding noteOf
@@ -135,7 +137,7 @@ module _ (i : ℕ) (ps : List ℕ) (up : Ascending ps) (h : i < length ps) where
 
   same-hop : (l : ℕ) (row : List ℕ) → l < length ps → (l ≡ i → ⊥) → hopOf rest (lowered i l) row ≡ hopOf ps l row
   unfolding hopOf
-  same-hop l row q n = ap (λ (x : ℕ). record { peer = x; round = leNat row }) (peer-lowered i l ps h n)
+  same-hop l row q n = ap (λ (x : ℕ). record { peer = x; round = leNat row }) (named-lowered 0 i l ps h n)
 
   test-hop : (l : ℕ) (row : List ℕ) → l < length ps → not (eqb (hopOf ps l row .peer) p) ≡ not (eqb l i)
   unfolding hopOf
@@ -143,7 +145,7 @@ module _ (i : ℕ) (ps : List ℕ) (up : Ascending ps) (h : i < length ps) where
 
   same-round : (l : ℕ) (row : List ℕ) → l < length ps → (l ≡ i → ⊥) → roundOf rest (lowered i l) row ≡ roundOf ps l row
   unfolding roundOf
-  same-round l row q n = ap (λ (x : ℕ). entry x (leNat row)) (peer-lowered i l ps h n)
+  same-round l row q n = ap (λ (x : ℕ). entry x (leNat row)) (named-lowered 0 i l ps h n)
 
   test-round : (l : ℕ) (row : List ℕ) → l < length ps → not (eqb (roundOf ps l row .key) p) ≡ not (eqb l i)
   unfolding roundOf

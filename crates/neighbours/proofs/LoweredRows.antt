@@ -1,28 +1,24 @@
 -- Rows that end with a list of link numbers, after a link went: the list, the row, and one row after the other.
 -- Assumes nothing.
-use mathlib.Core.Path.{_≡_, sym, ap, _∙_, subst}
-use mathlib.Core.Bool.{not}
-use mathlib.Core.List.{List, [], _∷_, _++_, map, map-id}
+use mathlib.Core.Path.{_≡_, sym, ap, _∙_}
+use mathlib.Core.List.{List, [], _∷_, _++_, map}
 use Prim.Native.Nat.{ℕ, _+_, _*_, _≤_, _<_}
 use native.Mathlib.Omega.{arith}
-use borrow.Author.Tests.{eq-eqb, ne-eqb}
 use lib.ListN.{length, take, drop, getD, set, length-drop}
 use lib.Seq.{drop-drop, getD-drop}
 use Rattle.lists.specs.Base.{filter}
+use Rattle.lists.proofs.ListLaws.{filter-map}
 use Rattle.rows.specs.Part.{part, put}
-use Rattle.rows.specs.Rows.{rows}
-use Rattle.rows.proofs.Parts.{length-part, take-put, getD-part, drop-take, put-cons, loan-put}
-use Rattle.rows.proofs.Rows.{rows-put-one, take-rows}
-use Rattle.rows.proofs.Views.{map-put, map-take}
-use Rattle.refs.specs.Refs.{Ref, ref}
-use Rattle.refs.proofs.Places.{row-end}
+use Rattle.rows.specs.Rows.{rows, differs}
+use Rattle.rows.proofs.Parts.{length-part, take-put, getD-part, drop-take, put-cons, loan-put, put-drop}
+use Rattle.rows.proofs.Rows.{row-end}
+use Rattle.refs.specs.Refs.{ref}
 use Rattle.refs.proofs.Shifts.{done, done-read, done-more}
-use Rattle.refs.proofs.Left.{Going, going-read, going-keep, going-drop, going-done}
-use Rattle.block.specs.View.{byteAt, numbered, hopsIn}
-use Rattle.block.proofs.Cut.{put-drop}
+use Rattle.block.specs.View.{byteAt, hopsIn}
+use Rattle.refs.specs.Numbers.{numbered, lowerAll, entries}
 use Rattle.block.proofs.Tables.{put-all, view-at, view-set, length-view}
-use Rattle.block.proofs.Numbered.{length-numbered}
-use Rattle.neighbours.specs.Lowered.{stays, lower, lowerAll, entries, Listed, listedOf, listed, lowerListed, announced}
+use Rattle.refs.proofs.Numbered.{length-numbered}
+use Rattle.neighbours.specs.Lowered.{Listed, listedOf, listed, lowerListed, announced}
 
 -- what stands for a row past the last
 abbrev pub noListed : Listed
@@ -36,14 +32,13 @@ list-after r list zs e l =
     ∙ put-all (r ∷ zs) list (omega arith)
 
 module _ (i n r : ℕ) (list zs : List ℕ) (e : length list ≡ 97) (c : n ≡ byteAt 0 list) (few : n ≤ 32) (le : r ≤ n) (l : length zs ≡ 96)
-    (left : entries 32 2 r zs ≡ map (lower i) (filter (stays i) (entries 32 2 n (drop 1 list)))) where
+    (left : entries 32 2 r zs ≡ lowerAll i (entries 32 2 n (drop 1 list))) where
   hops-were : entries 32 2 n (drop 1 list) ≡ hopsIn ref list
   unfolding hopsIn
   hops-were = λ k. numbered ref 2 (c k) (drop 1 list) (drop-drop 32 1 list k)
 
   hops-are : entries 32 2 r zs ≡ lowerAll i (hopsIn ref list)
-  unfolding lowerAll
-  hops-are = left ∙ ap (λ (rs : List Ref). map (lower i) (filter (stays i) rs)) hops-were
+  hops-are = left ∙ ap (lowerAll i) hops-were
 
   pub list-lowered : listedOf 0 (r ∷ zs) ≡ lowerListed i (listedOf 0 list)
   unfolding listedOf hopsIn
@@ -113,44 +108,7 @@ module _ (i o s n : ℕ) (xs ys : List ℕ) (k : ℕ) (wide : o + 97 ≡ s) (h :
       ∙ (λ z. put k ((row-lowered i o (part (k * s) s ys) list lr l g ∙ ap (lowerListed i) row-was) z ∷ []) (inv z))
       ∙ done-more (lowerListed i) noListed (listed o s n xs) k (omega (arith, length-listed o s n xs))
 
--- the rows that are still announced, one behind the other
-module _ (n : ℕ) (xs b : List ℕ) (room : n * 129 ≤ length xs) (long : length b ≡ length xs) (k j : ℕ) (h : j < n)
-    (g : Going announced (λ (r : Listed). r) noListed (listed 32 129 n xs) (listed 32 129 n b) k j) where
-  kept-was : listedOf 32 (part (j * 129) 129 b) ≡ getD (listed 32 129 n xs) j noListed
-  kept-was =
-      sym (listed-at 32 129 n j noListed b h)
-      ∙ going-read announced (λ (r : Listed). r) noListed (listed 32 129 n xs) (listed 32 129 n b) k j g
-
-  kept-count : getD (listed 32 129 n xs) j noListed .count ≡ getD b (j * 129 + 32) 0
-  kept-count = sym (ap (λ (r : Listed). r .count) kept-was) ∙ count-in 32 129 j b (omega arith)
-
-  inside : j < length (listed 32 129 n xs)
-  inside = omega (arith, length-listed 32 129 n xs)
-
-  pub turn-gone : getD b (j * 129 + 32) 0 ≡ 0 → Going announced (λ (r : Listed). r) noListed (listed 32 129 n xs) (listed 32 129 n b) k (j + 1)
-  turn-gone e =
-      going-drop announced (λ (r : Listed). r) noListed (listed 32 129 n xs) (listed 32 129 n b) k j g inside
-      (ap not (eq-eqb (getD (listed 32 129 n xs) j noListed .count) 0 (kept-count ∙ e)))
-
-  pub turn-stays : (getD b (j * 129 + 32) 0 ≡ 0 → ⊥)
-      → Going announced (λ (r : Listed). r) noListed (listed 32 129 n xs) (listed 32 129 n (put (k * 129) (part (j * 129) 129 b) b)) (k + 1) (j + 1)
-  unfolding listed
-  turn-stays e =
-      let q : k < n = omega (arith, g .behind) in
-      let lr : length (part (j * 129) 129 b) ≡ 129 = length-part (j * 129) 129 b (omega arith) in
-      let p : listed 32 129 n (put (k * 129) (part (j * 129) 129 b) b) ≡ put k (getD (listed 32 129 n xs) j noListed ∷ []) (listed 32 129 n b) =
-      ap (map (listedOf 32)) (rows-put-one 129 k n (part (j * 129) 129 b) b lr q (omega arith))
-      ∙ map-put (listedOf 32) k (part (j * 129) 129 b ∷ []) (rows 129 n b)
-      ∙ ap (λ (r : Listed). put k (r ∷ []) (listed 32 129 n b)) kept-was in
-      subst (λ (rs : List Listed). Going announced (λ (r : Listed). r) noListed (listed 32 129 n xs) rs (k + 1) (j + 1)) (sym p)
-      (going-keep announced (λ (r : Listed). r) noListed (listed 32 129 n xs) (listed 32 129 n b) k j g inside
-      (ap not (ne-eqb (getD (listed 32 129 n xs) j noListed .count) 0 (λ z. e (sym kept-count ∙ z)))))
-
-pub kept-all : (n : ℕ) (xs b : List ℕ) (k j : ℕ) → Going announced (λ (r : Listed). r) noListed (listed 32 129 n xs) (listed 32 129 n b) k j → n ≤ j → k ≤ n
-    → listed 32 129 k b ≡ filter announced (listed 32 129 n xs)
-unfolding listed
-kept-all n xs b k j g h q =
-    sym (ap (map (listedOf 32)) (take-rows 129 k n b q))
-    ∙ map-take (listedOf 32) k (rows 129 n b)
-    ∙ going-done announced (λ (r : Listed). r) noListed (listed 32 129 n xs) (listed 32 129 n b) k j g (omega (arith, length-listed 32 129 n xs))
-    ∙ map-id (filter announced (listed 32 129 n xs))
+-- the rows whose count is not 0 are those that are still announced
+pub kept-announced : (n r : ℕ) (xs ys : List ℕ) → rows 129 r ys ≡ filter (differs 32 0) (rows 129 n xs) → listed 32 129 r ys ≡ filter announced (listed 32 129 n xs)
+unfolding listed listedOf
+kept-announced n r xs ys e = ap (map (listedOf 32)) e ∙ sym (filter-map announced (listedOf 32) (rows 129 n xs))

@@ -22,10 +22,11 @@ use Rattle.time_cache.specs.TimeCache.{Timed}
 use Rattle.time_cache.specs.Tables.{ExpiryRow, expiryRows, expiryOf, entryOf, rowAt, cacheOf}
 use Rattle.protocol.specs.State.{Hop, Grafts}
 use Rattle.protocol.specs.Neighbours.{withoutAnnouncer, forgetAnnouncer, withoutNotes, withoutGraft, forgetGrafted}
-use Rattle.block.specs.View.{byteAt, halfAt, idAt, flagOf, onlyIf, peerOf, numbered, noteOf, notesIn, hopsIn, hopOf, hopsOf, missedOf, missingIn, roundOf, graftsOf, graftedIn}
+use Rattle.block.specs.View.{byteAt, halfAt, idAt, flagOf, onlyIf, peerOf, noteOf, notesIn, hopsIn, hopOf, hopsOf, missedOf, missingIn, roundOf, graftsOf, graftedIn}
+use Rattle.refs.specs.Numbers.{numbered, lowerAll}
 use Rattle.block.specs.Sound.{Numbered, AllNumbered}
 use Rattle.block.proofs.Each.{Each, each-numbered, numbered-each}
-use Rattle.neighbours.specs.Lowered.{lowerAll, withoutPeer, Listed, listedOf, listed, lowerListed, announced}
+use Rattle.neighbours.specs.Lowered.{withoutPeer, Listed, listedOf, listed, lowerListed, announced}
 use Rattle.neighbours.proofs.LoweredLaws.{readBy}
 use Rattle.neighbours.proofs.LoweredRefs.{below-lowered, length-lowered, notes-lowered, hops-lowered, rounds-lowered, places-numbered, numbered-few, numbered-read}
 

@@ -16,7 +16,8 @@ use Rattle.block.specs.Sound.{Sound, AllNumbered}
 use Rattle.block.specs.declared.head.Head.{Head}
 use Rattle.block.proofs.Cut.{cut-part}
 use Rattle.block.proofs.RowLaws.{part-in}
-use Rattle.neighbours.specs.Raised.{raised, raisedRow, RaisedIn, RaisedLinks}
+use Rattle.neighbours.specs.Raised.{raisedRow, RaisedIn, RaisedLinks}
+use Rattle.refs.specs.Numbers.{raised}
 use Rattle.neighbours.proofs.RaisedLaws.{below-more}
 use Rattle.neighbours.proofs.UpLaws.{column-long, column-frame, table-frame, table-rows, raised-links}
 

@@ -10,18 +10,18 @@ use Rattle.lists.specs.Map.{entry}
 use Rattle.rows.specs.Part.{part, put}
 use Rattle.rows.specs.Digits.{leNat, beNat}
 use Rattle.rows.specs.Rows.{rows, fieldOf}
-use Rattle.rows.proofs.Parts.{length-part, part-put, part-before, drop-put, getD-put-before}
-use Rattle.rows.proofs.Rows.{length-rows, getD-rows}
+use Rattle.rows.proofs.Parts.{length-part, part-put, part-before, drop-put, getD-put-before, put-drop}
+use Rattle.rows.proofs.Rows.{length-rows, getD-rows, row-end}
 use Rattle.refs.specs.Refs.{Ref, ref, refOf, refs, places, shifted, Below}
-use Rattle.refs.proofs.Places.{row-end, getD-map-in}
+use Rattle.refs.proofs.Places.{getD-map-in}
 use Rattle.refs.proofs.Shifts.{named-shifted, shifted-le}
 use Rattle.time_cache.specs.Tables.{ExpiryRow, expiryRows, expiryOf, entryOf, rowAt, cacheOf}
 use Rattle.protocol.specs.State.{Grafts}
-use Rattle.block.specs.View.{byteAt, halfAt, idAt, flagOf, onlyIf, peerOf, pairs, numbered, noteOf, notesIn, hopsIn, hopOf, hopsOf, missedOf, missingIn, roundOf, graftsOf, graftedIn}
+use Rattle.block.specs.View.{byteAt, halfAt, idAt, flagOf, onlyIf, peerOf, noteOf, notesIn, hopsIn, hopOf, hopsOf, missedOf, missingIn, roundOf, graftsOf, graftedIn}
+use Rattle.refs.specs.Numbers.{pairs, numbered, raised}
 use Rattle.block.specs.Sound.{Numbered, AllNumbered}
-use Rattle.block.proofs.Cut.{put-drop}
 use Rattle.block.proofs.Each.{Each, numbered-each}
-use Rattle.neighbours.specs.Raised.{raised, raisedRow}
+use Rattle.neighbours.specs.Raised.{raisedRow}
 
 below-tail : (m l : ℕ) (ls : List ℕ) → Below m (l ∷ ls) → Below m ls
 below-tail m l ls b = record { below = λ i h. b .below (suc i) (suc-le-suc h) }

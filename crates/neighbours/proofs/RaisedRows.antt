@@ -9,13 +9,13 @@ use lib.Seq.{drop-drop, getD-drop}
 use Rattle.rows.specs.Part.{part, put}
 use Rattle.rows.specs.Rows.{rows}
 use Rattle.rows.proofs.Parts.{length-part, part-part, getD-part}
-use Rattle.rows.proofs.Rows.{length-rows, getD-rows, rows-field}
+use Rattle.rows.proofs.Rows.{length-rows, getD-rows, rows-field, row-end}
 use Rattle.refs.specs.Refs.{shifted, Below}
-use Rattle.refs.proofs.Places.{row-end}
 use Rattle.refs.proofs.Shifts.{done, done-read, done-more}
 use Rattle.block.specs.View.{byteAt}
 use Rattle.block.specs.Sound.{Numbered}
-use Rattle.neighbours.specs.Raised.{raised, raisedRow}
+use Rattle.neighbours.specs.Raised.{raisedRow}
+use Rattle.refs.specs.Numbers.{raised}
 
 -- the list at o of a row, in the row's own bytes
 pub few-in : (m o : ℕ) (row : List ℕ) → Numbered m (drop o row) → byteAt o row ≤ 32

@@ -22,7 +22,8 @@ use Rattle.block.proofs.Cut.{cut-part, within}
 use Rattle.block.proofs.Tables.{frame, frame-whole, length-table}
 use Rattle.block.proofs.RowLaws.{part-in}
 use Rattle.block.proofs.LinkLaws.{count-peers}
-use Rattle.neighbours.specs.Raised.{raised, raisedRow, RaisedIn, RaisedLinks, withPeer}
+use Rattle.neighbours.specs.Raised.{raisedRow, RaisedIn, RaisedLinks, withPeer}
+use Rattle.refs.specs.Numbers.{raised}
 use Rattle.neighbours.proofs.RaisedLaws.{below-raised, take-raised, notes-raised, missing-raised, grafted-raised, places-raised, all-raised}
 
 module _ (l : Limits) (t : ℕ) (ht : t < 15) (ys : List ℕ) (long : end l ≤ length ys) where

@@ -1,12 +1,12 @@
--- Link numbers after link i went: i is dropped, and those above it are one lower.
+-- The tables and the whole block after link i went: its number is dropped wherever it stands, and those above it are one lower.
 -- Assumes nothing.
 use mathlib.Core.Path.{_≡_}
 use mathlib.Core.Bool.{Bool, not}
 use mathlib.Core.List.{List, _++_, map}
 use Prim.Native.Nat.{ℕ, _+_, _-_, _*_, suc, _≤_, _<_}
-use lib.Dec.{ltb, eqb}
+use lib.Dec.{eqb}
 use lib.ListN.{length, take, drop, getD}
-use Rattle.lists.specs.Base.{if_then_else_, filter}
+use Rattle.lists.specs.Base.{filter}
 use Rattle.lists.specs.Map.{keys}
 use Rattle.rows.specs.Part.{part, Only}
 use Rattle.rows.specs.Rows.{rows}
@@ -14,31 +14,12 @@ use Rattle.refs.specs.Refs.{Ref, ref}
 use Rattle.protocol.specs.State.{State, withMissing, withQueue, withDropped, withGrafted}
 use Rattle.protocol.specs.Neighbours.{forgetAnnouncer, withoutNotes, forgetGrafted}
 use Rattle.block.specs.Layout.{tables}
-use Rattle.block.specs.View.{byteAt, numbered, hopsIn, limitsOf, viewWith, stateOf}
+use Rattle.block.specs.View.{byteAt, hopsIn, limitsOf, viewWith, stateOf}
+use Rattle.refs.specs.Numbers.{lowerAll, entries}
 use Rattle.block.specs.Fit.{Fit}
 use Rattle.block.specs.Sound.{Laid}
 use Rattle.block.specs.Heads.{withLinkCount}
 use Rattle.block.specs.declared.head.Head.{Head}
-
--- a link number other than i, once link i is gone
-unfoldable pub lowered : ℕ → ℕ → ℕ
-lowered i l = if ltb l i then l else l - 1
-
--- whether a number and the row beside it are left
-abbrev pub stays : ℕ → Ref → Bool
-stays i r = not (eqb (r .place) i)
-
--- a number that is left, and the row beside it
-abbrev pub lower : ℕ → Ref → Ref
-lower i r = ref (lowered i (r .place)) (r .own)
-
--- what is left of numbers and the rows beside them
-unfoldable pub lowerAll : ℕ → List Ref → List Ref
-lowerAll i rs = map (lower i) (filter (stays i) rs)
-
--- n numbers at the start of the bytes and n rows of s bytes at o
-abbrev pub entries : ℕ → ℕ → ℕ → List ℕ → List Ref
-entries o s n bytes = numbered ref s n bytes (drop o bytes)
 
 -- peers without the one at i
 abbrev pub withoutPeer : ℕ → List ℕ → List ℕ

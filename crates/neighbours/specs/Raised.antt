@@ -1,12 +1,12 @@
--- Link numbers after a link came in at i: those from i on are one higher.
+-- The tables and the whole block after a link came in at i: link numbers from i on are one higher.
 -- Assumes nothing.
 use mathlib.Core.Path.{_≡_}
 use mathlib.Core.List.{List, _∷_, _++_, map}
 use Prim.Native.Nat.{ℕ, _+_}
 use lib.ListN.{length, take, drop}
-use Rattle.rows.specs.Part.{part, put, Only}
+use Rattle.rows.specs.Part.{part, Only}
 use Rattle.rows.specs.Rows.{rows}
-use Rattle.refs.specs.Refs.{shifted}
+use Rattle.refs.specs.Numbers.{raised}
 use Rattle.lists.specs.Map.{keys}
 use Rattle.block.specs.Layout.{tables}
 use Rattle.block.specs.View.{byteAt, limitsOf, viewWith, stateOf}
@@ -14,10 +14,6 @@ use Rattle.block.specs.Fit.{Fit}
 use Rattle.block.specs.Sound.{Laid}
 use Rattle.block.specs.Heads.{withLinkCount}
 use Rattle.block.specs.declared.head.Head.{Head}
-
--- the n numbers at a
-unfoldable pub raised : ℕ → ℕ → ℕ → List ℕ → List ℕ
-raised i a n bytes = put a (map (shifted i) (part a n bytes)) bytes
 
 -- the numbers of the list at o of a row
 unfoldable pub raisedRow : ℕ → ℕ → List ℕ → List ℕ

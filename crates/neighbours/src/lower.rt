@@ -1,9 +1,9 @@
 // A link that went: its number is dropped wherever it stands, and the numbers after it are one lower (document 01, "Sets": "Down: out of both, and out of
 // announcers (empty lists go), queue, record, grafted peers").
-use crate::renumber;
 use block::head;
 use block::head::Head;
 use block::hops;
+use refs::renumber;
 use rows::table;
 ghost use mathlib.Core.Path.{_≡_};
 ghost use mathlib.Core.List.{map};
@@ -60,18 +60,7 @@ pub fn keep_announced(b: &mut [u8], n: usize) -> usize
     requires { ⌜ n * 129 ≤ length (now b) ⌝ }
     ensures { λ r. ⌜ (r ≤ n) × (listed 32 129 r (now (b .exit)) ≡ filter announced (listed 32 129 n (now (b .entry)))) ⌝ }
 {
-    let mut k = 0;
-    let mut j = 0;
-    while j < n {
-        let from = j * 129;
-        let c = hops::count(b, from + 32);
-        j += 1;
-        if c != 0 {
-            table::move_down(b, from, k * 129, 129);
-            k += 1;
-        }
-    }
-    k
+    table::retain(b, 129, n, 32, 0)
 }
 
 // The announcers of n missing messages after link i went; returns how many messages are left.

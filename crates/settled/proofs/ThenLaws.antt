@@ -3,38 +3,38 @@
 use Prim.Native.Nat.{ℕ, _*_, _≤_, _<_}
 use mathlib.Core.Path.{_≡_, refl, sym, ap, _∙_, subst}
 use mathlib.Core.Bool.{Bool, true, false}
-use mathlib.Core.List.{List, []}
+use mathlib.Core.List.{List, [], map}
 use mathlib.Core.Option.{none, some}
 use native.Mathlib.Omega.{arith}
 use lib.Dec.{ltb, lit<}
 use lib.ListN.{length, getD, length-map}
 use Rattle.lists.specs.Base.{if_then_else_}
-use Rattle.lists.specs.Map.{Map, Entry, keys, lookup}
+use Rattle.lists.specs.Map.{Map, Entry, entry, lookup}
 use Rattle.lists.proofs.MapLaws.{cases}
-use Rattle.lists.proofs.Branches.{if-on}
-use Rattle.rows.specs.Sorted.{Here, Between}
+use Rattle.lists.proofs.Branches.{if-on, if-both}
 use Rattle.refs.specs.Refs.{Ref, ref, refs, places}
 use Rattle.refs.proofs.Places.{getD-map-in, length-refs}
 use Rattle.time_cache.specs.TimeCache.{Timed, Cache, valueOf, get, laterCache}
-use Rattle.time_cache.specs.Tables.{expiryRows, rowAt, entryOf, cacheOf, cacheIn, refsAt, rowsAt, Sound}
-use Rattle.time_cache.specs.Steps.{refAt}
+use Rattle.time_cache.specs.Tables.{expiryRows, rowAt, Held, held, entryOf, cacheOf, cacheIn, refsAt, rowsAt, cacheAt, readAs, valuesAs, Sound}
+use Rattle.time_cache.specs.Steps.{refAt, heldAt, GotAt}
 use Rattle.time_cache.specs.declared.cache.TimeBoundCache.{TimeBoundCache}
-use Rattle.time_cache.proofs.Timely.{Timely}
-use Rattle.time_cache.proofs.Orders.{up-of}
-use Rattle.time_cache.proofs.MapPlaces.{lookup-here, lookup-between}
+use Rattle.time_cache.proofs.ReadLaws.{length-es}
+use Rattle.time_cache.proofs.ValueLaws.{optionAs, get-as, later-as}
 use Rattle.protocol.specs.State.{State, Limits, Cached, Grafts}
 use Rattle.block.specs.Layout.{sizes, table}
-use Rattle.block.specs.View.{stateOf, limitsOf, cachedOf, cachedIn, graftsOf, graftedIn}
+use Rattle.block.specs.View.{stateOf, limitsOf, cachedOf, cachedIn, graftsOf}
 use Rattle.block.specs.Fit.{Fit}
 use Rattle.block.specs.declared.head.Head.{Head}
 use Rattle.block.specs.TimeCaches.{cacheFrom, cachedCache, graftedCache}
-use Rattle.caches.proofs.CacheLaws.{refs-in, rows-in}
-use Rattle.caches.proofs.GraftedLaws.{peersOf}
+use Rattle.caches.proofs.CacheLaws.{asValue, refs-in, rows-in}
+use Rattle.caches.proofs.CachedLaws.{cached-as}
+use Rattle.caches.proofs.GraftedLaws.{peersOf, grafted-as}
 use Rattle.decide.specs.Settled.{aliveValue, settled}
 use Rattle.decide.proofs.SettledLaws.{get-later}
-use Rattle.steps.specs.Shared.{HeldAt}
-use Rattle.steps.specs.Stands.{Stands}
-use Rattle.settled.specs.Then.{noCached, noGrafts, staysAt}
+use Rattle.steps.specs.Shared.{HeldAt, HeldIs}
+use Rattle.steps.specs.declared.Held.{Held as HeldThen}
+use Rattle.steps.specs.declared.Held.the-variants.{At, Nothing}
+use Rattle.settled.specs.Then.{noHeld, noCached, noGrafts, leftThen}
 
 -- the settled state, where `init` is set and where it is not
 module _ (now : ℕ) (s : State) where
@@ -63,42 +63,68 @@ pub init-of : (h : Head) (xs : List ℕ) → stateOf h xs .init ≡ h .live .ini
 unfolding stateOf
 init-of h xs = refl
 
--- what is found of an identifier
-module _ {A : Type 0} (init : Bool) (now id : ℕ) (c : Cache A) (t : Timely c) (d : Entry (Timed A)) where
-  abbrev left : Cache A
-  left = if init then c else laterCache now c
+-- what is found of a key among the entries of a block
+module _ (c : TimeBoundCache) (xs : List ℕ) (sound : Sound c xs) (init : Bool) (now id : ℕ) where
+  abbrev all : Cache Held
+  all = cacheAt c xs
 
-  abbrev value : ℕ → Timed A
-  value i = getD (c .entries) i d .value
+  found : get id (leftThen init now all) ≡ (if init then valueOf (lookup id (all .entries)) else aliveValue now (lookup id (all .entries)))
+  unfolding get
+  found = if-on (get id) init all (laterCache now all) ∙ if-both init refl (get-later now id all (sound .up))
 
-  there : (i : ℕ) → Here (keys (c .entries)) id i → lookup id (c .entries) ≡ some (value i)
-  there i h = lookup-here id i d (c .entries) (up-of (keys (c .entries)) (t .up)) h
+  module _ (i p : ℕ) (g : GotAt c xs id i p) where
+    entry-is : getD (all .entries) i noHeld ≡ entry id (record { expires = rowAt (rowsAt c xs) p .time; value = heldAt c i p xs })
+    unfolding cacheOf
+    entry-is =
+        getD-map-in (entryOf held (rowsAt c xs)) (refsAt c xs) i noHeld (ref 0 []) (omega (arith, g .entry, length-es c xs))
+        ∙ ap (λ (q : ℕ). entry (rowAt (rowsAt c xs) q .key) (record { expires = rowAt (rowsAt c xs) q .time; value = heldAt c i q xs })) (g .names)
+        ∙ ap (λ (k : ℕ). entry k (record { expires = rowAt (rowsAt c xs) p .time; value = heldAt c i p xs })) (g .key)
 
-  alive : (i : ℕ) → (b : Bool) → ltb now (value i .expires) ≡ b → aliveValue now (some (value i)) ≡ (if b then some (value i .value) else none)
-  unfolding aliveValue
-  alive i b e = rw e refl
+    held-at : get id (leftThen init now all) ≡ some (heldAt c i p xs) → HeldAt noHeld (all .entries) id (get id (leftThen init now all)) i
+    unfolding cacheOf
+    held-at e = record {
+      below = omega (arith, g .entry, length-es c xs, length-map (refsAt c xs) (entryOf held (rowsAt c xs)));
+      key = ap (λ (x : Entry (Timed Held)). x .key) entry-is;
+      value = e ∙ sym (ap (λ (x : Entry (Timed Held)). some (x .value .value)) entry-is);
+    }
 
-  found : (i : ℕ) → Here (keys (c .entries)) id i → get id left ≡ (if staysAt init now d (c .entries) i then some (value i .value) else none)
-  unfolding get valueOf
-  found i h =
-      cases init (λ e. rw e (ap valueOf (there i h)))
-      (λ e. rw e (get-later now id c t ∙ ap (aliveValue now) (there i h) ∙ alive i (ltb now (value i .expires)) refl))
+    pub there-still : init ≡ true → HeldAt noHeld (all .entries) id (get id (leftThen init now all)) i
+    unfolding valueOf
+    there-still e = held-at (found ∙ rw e (ap valueOf (g .value)))
 
-  pub held-there : (i : ℕ) → Here (keys (c .entries)) id i → staysAt init now d (c .entries) i ≡ true → HeldAt d (c .entries) id (get id left) i
-  held-there i h e = record {
-    below = omega (arith, h .within, length-map (c .entries) (λ (x : Entry (Timed A)). x .key));
-    key = sym (getD-map-in (λ (x : Entry (Timed A)). x .key) (c .entries) i 0 d (omega (arith, h .within, length-map (c .entries) (λ (x : Entry (Timed A)). x .key)))) ∙ h .same;
-    value = found i h ∙ rw e refl;
-  }
+    pub there-later : init ≡ false → ltb now (rowAt (rowsAt c xs) p .time) ≡ true → HeldAt noHeld (all .entries) id (get id (leftThen init now all)) i
+    unfolding aliveValue
+    there-later e l = held-at (found ∙ rw e (ap (aliveValue now) (g .value) ∙ rw l refl))
 
-  pub held-gone : (i : ℕ) → Here (keys (c .entries)) id i → staysAt init now d (c .entries) i ≡ false → get id left ≡ none
-  held-gone i h e = found i h ∙ rw e refl
+    pub there-gone : init ≡ false → ltb now (rowAt (rowsAt c xs) p .time) ≡ false → get id (leftThen init now all) ≡ none
+    unfolding aliveValue
+    there-gone e l = found ∙ rw e (ap (aliveValue now) (g .value) ∙ rw l refl)
 
-  pub held-nowhere : (i : ℕ) → Between (keys (c .entries)) id i → get id left ≡ none
-  unfolding get valueOf aliveValue
-  held-nowhere i b =
-      let n : lookup id (c .entries) ≡ none = lookup-between id i (c .entries) b in
-      cases init (λ e. rw e (ap valueOf n)) (λ e. rw e (get-later now id c t ∙ ap (aliveValue now) n))
+  pub nowhere : lookup id (all .entries) ≡ none → get id (leftThen init now all) ≡ none
+  unfolding valueOf aliveValue
+  nowhere e = found ∙ cases init (λ q. rw q (ap valueOf e)) (λ q. rw q (ap (aliveValue now) e))
+
+-- the same of the values that are read from the bytes
+module _ {A B : Type 0} (f : A → B) (c : Cache A) (d : Cache B) (same : valuesAs f c ≡ d) (init : Bool) (now id : ℕ) (a : Entry (Timed A)) (b : Entry (Timed B)) where
+  get-then : get id (leftThen init now d) ≡ optionAs f (get id (leftThen init now c))
+  get-then =
+      ap (get id) (cases init (λ p. rw p (sym same)) (λ p. rw p (sym (later-as f now c ∙ ap (laterCache now) same))))
+      ∙ get-as f id (leftThen init now c)
+
+  entries-then : d .entries ≡ map (readAs f) (c .entries)
+  unfolding valuesAs
+  entries-then = sym (ap (λ (x : Cache B). x .entries) same)
+
+  pub held-as : (r : HeldThen) → HeldIs a (c .entries) id (get id (leftThen init now c)) r → HeldIs b (d .entries) id (get id (leftThen init now d)) r
+  unfolding optionAs
+  held-as (At i) h =
+      let e : getD (d .entries) i b ≡ readAs f (getD (c .entries) i a) = ap (λ (m : Map (Timed B)). getD m i b) entries-then ∙ getD-map-in (readAs f) (c .entries) i b a (h .below) in
+      record {
+        below = omega (arith, h .below, ap length entries-then, length-map (c .entries) (readAs f));
+        key = ap (λ (x : Entry (Timed B)). x .key) e ∙ h .key;
+        value = get-then ∙ ap (optionAs f) (h .value) ∙ sym (ap (λ (x : Entry (Timed B)). some (x .value .value)) e);
+      }
+  held-as Nothing h = get-then ∙ ap (optionAs f) h
 
 -- the place that entry i names is that of a row
 pub place-below : (c : TimeBoundCache) (xs : List ℕ) → Sound c xs → (i : ℕ) → i < c .entries .len → refAt (refsAt c xs) i .place < c .expiry .len
@@ -122,47 +148,16 @@ module _ (h : Head) (xs : List ℕ) (fit : Fit h xs) (k : ℕ) where
   unfolding stateOf cachedIn
   cached-time q = time-in (limitsOf (h .limits)) 4 4 (h .live .cached) 5 48 (h .live .«cached_rows») xs (lit< tt) (omega arith) (lit< tt) (omega arith) (cachedOf (table (limitsOf (h .limits)) 6 xs)) k noCached q
 
-  pub grafted-time : k < h .live .grafted → rowAt (rowsAt (graftedCache h) xs) (refAt (refsAt (graftedCache h) xs) k .place) .time ≡ getD (stateOf h xs .grafted .entries) k noGrafts .value .expires
-  unfolding stateOf graftedIn
-  grafted-time q = time-in (limitsOf (h .limits)) 7 119 (h .live .grafted) 8 40 (h .live .«grafted_rows») xs (lit< tt) (omega arith) (lit< tt) (omega arith) (graftsOf (peersOf h xs)) k noGrafts q
+-- what is found of the cached and the grafted messages, in the settled state
+module _ (h : Head) (xs : List ℕ) (fit : Fit h xs) (now id : ℕ) (r : HeldThen) where
+  pub cached-held : HeldIs noHeld (cacheAt (cachedCache h) xs .entries) id (get id (leftThen (h .live .init) now (cacheAt (cachedCache h) xs))) r
+      → HeldIs noCached (stateOf h xs .cache .entries) id (get id (settled now (stateOf h xs) .cache)) r
+  cached-held e =
+      subst (λ (c : Cache Cached). HeldIs noCached (stateOf h xs .cache .entries) id (get id c) r) (sym (settled-cache now (stateOf h xs) ∙ ap (λ (b : Bool). leftThen b now (stateOf h xs .cache)) (init-of h xs)))
+      (held-as (asValue (cachedOf (table (limitsOf (h .limits)) 6 xs))) (cacheAt (cachedCache h) xs) (stateOf h xs .cache) (cached-as h xs fit) (h .live .init) now id noHeld noCached r e)
 
--- an entry stays: `init` is set, or it expires later
-module _ {A : Type 0} (init : Bool) (now : ℕ) (d : Entry (Timed A)) (m : Map (Timed A)) (i : ℕ) where
-  pub stays-still : init ≡ true → true ≡ staysAt init now d m i
-  stays-still e = sym (ap (λ (b : Bool). if b then true else ltb now (getD m i d .value .expires)) e)
-
-  pub stays-later : init ≡ false → (t : ℕ) → t ≡ getD m i d .value .expires → ltb now t ≡ staysAt init now d m i
-  stays-later e t q = ap (ltb now) q ∙ sym (ap (λ (b : Bool). if b then true else ltb now (getD m i d .value .expires)) e)
-
--- the cached and the grafted message of an identifier, in the settled state
-module _ (h : Head) (xs : List ℕ) (stands : Stands h xs) (now id : ℕ) where
-  abbrev s : State
-  s = stateOf h xs
-
-  pub cached-there : (i : ℕ) → Here (keys (s .cache .entries)) id i → staysAt (h .live .init) now noCached (s .cache .entries) i ≡ true
-      → HeldAt noCached (s .cache .entries) id (get id (settled now s .cache)) i
-  cached-there i q e =
-      subst (λ (c : Cache Cached). HeldAt noCached (s .cache .entries) id (get id c) i) (sym (settled-cache now s))
-      (held-there (s .init) now id (s .cache) (stands .consistent .core .cacheOn) noCached i q (ap (λ (b : Bool). staysAt b now noCached (s .cache .entries) i) (init-of h xs) ∙ e))
-
-  pub cached-gone : (i : ℕ) → Here (keys (s .cache .entries)) id i → staysAt (h .live .init) now noCached (s .cache .entries) i ≡ false → get id (settled now s .cache) ≡ none
-  cached-gone i q e =
-      ap (get id) (settled-cache now s)
-      ∙ held-gone (s .init) now id (s .cache) (stands .consistent .core .cacheOn) noCached i q (ap (λ (b : Bool). staysAt b now noCached (s .cache .entries) i) (init-of h xs) ∙ e)
-
-  pub cached-nowhere : (i : ℕ) → Between (keys (s .cache .entries)) id i → get id (settled now s .cache) ≡ none
-  cached-nowhere i q = ap (get id) (settled-cache now s) ∙ held-nowhere (s .init) now id (s .cache) (stands .consistent .core .cacheOn) noCached i q
-
-  pub grafted-there : (i : ℕ) → Here (keys (s .grafted .entries)) id i → staysAt (h .live .init) now noGrafts (s .grafted .entries) i ≡ true
-      → HeldAt noGrafts (s .grafted .entries) id (get id (settled now s .grafted)) i
-  grafted-there i q e =
-      subst (λ (c : Cache Grafts). HeldAt noGrafts (s .grafted .entries) id (get id c) i) (sym (settled-grafted now s))
-      (held-there (s .init) now id (s .grafted) (stands .consistent .core .graftedOn) noGrafts i q (ap (λ (b : Bool). staysAt b now noGrafts (s .grafted .entries) i) (init-of h xs) ∙ e))
-
-  pub grafted-gone : (i : ℕ) → Here (keys (s .grafted .entries)) id i → staysAt (h .live .init) now noGrafts (s .grafted .entries) i ≡ false → get id (settled now s .grafted) ≡ none
-  grafted-gone i q e =
-      ap (get id) (settled-grafted now s)
-      ∙ held-gone (s .init) now id (s .grafted) (stands .consistent .core .graftedOn) noGrafts i q (ap (λ (b : Bool). staysAt b now noGrafts (s .grafted .entries) i) (init-of h xs) ∙ e)
-
-  pub grafted-nowhere : (i : ℕ) → Between (keys (s .grafted .entries)) id i → get id (settled now s .grafted) ≡ none
-  grafted-nowhere i q = ap (get id) (settled-grafted now s) ∙ held-nowhere (s .init) now id (s .grafted) (stands .consistent .core .graftedOn) noGrafts i q
+  pub grafted-held : HeldIs noHeld (cacheAt (graftedCache h) xs .entries) id (get id (leftThen (h .live .init) now (cacheAt (graftedCache h) xs))) r
+      → HeldIs noGrafts (stateOf h xs .grafted .entries) id (get id (settled now (stateOf h xs) .grafted)) r
+  grafted-held e =
+      subst (λ (c : Cache Grafts). HeldIs noGrafts (stateOf h xs .grafted .entries) id (get id c) r) (sym (settled-grafted now (stateOf h xs) ∙ ap (λ (b : Bool). leftThen b now (stateOf h xs .grafted)) (init-of h xs)))
+      (held-as (asValue (graftsOf (peersOf h xs))) (cacheAt (graftedCache h) xs) (stateOf h xs .grafted) (grafted-as h xs fit) (h .live .init) now id noHeld noGrafts r e)

@@ -8,9 +8,9 @@ use caches::grafted;
 use caches::received;
 use postcard::units::Millis;
 use rows::id::Id;
-use rows::table::Found;
 use steps::Held;
 use steps::Sizes;
+use time_cache::cache::Got;
 use time_cache::cache::TimeBoundCache;
 ghost use mathlib.Core.Path.{_≡_};
 ghost use mathlib.Core.Bool.{_&&_};
@@ -20,8 +20,7 @@ ghost use lib.ListN.{getD};
 ghost use Rattle.lists.specs.Base.{sum};
 ghost use Rattle.rows.specs.Ident.{idOf};
 ghost use Rattle.time_cache.specs.TimeCache.{holds, get};
-ghost use Rattle.time_cache.specs.Tables.{Lies, Sound, rowAt, rowsAt, refsAt};
-ghost use Rattle.time_cache.specs.Steps.{refAt};
+ghost use Rattle.time_cache.specs.Tables.{cacheAt, Lies, Sound};
 ghost use Rattle.block.specs.View.{stateOf, limitsOf};
 ghost use Rattle.block.specs.Fit.{Ceilings};
 ghost use Rattle.decide.specs.Sizes.{sizesOf, fitSizes};
@@ -29,7 +28,7 @@ ghost use Rattle.decide.specs.SizesAfter.{evictSizes};
 ghost use Rattle.decide.specs.Settled.{settled};
 ghost use Rattle.steps.specs.Stands.{Stands};
 ghost use Rattle.steps.specs.Shared.{HeldIs, sizesValue};
-ghost use Rattle.settled.specs.Then.{noCached, noGrafts, staysAt, laterBytes};
+ghost use Rattle.settled.specs.Then.{noHeld, noCached, noGrafts, leftThen, laterBytes};
 
 // Whether a message is received then.
 pub fn received_then(h: Head, block: &[u8], instant: Millis, id: Id) -> bool
@@ -53,55 +52,35 @@ pub fn is_cached_then(h: Head, block: &[u8], instant: Millis, id: Id) -> bool
     cached::is_cached_later(h, block, id, instant)
 }
 
-// When entry i of a time cache expires: the time of the row that it names.
-fn expires_at(c: TimeBoundCache, block: &[u8], i: usize) -> Millis
-    requires { ⌜ Lies c (now block) × Sound c (now block) × (i < c .entries .len) ⌝ }
-    ensures { λ r. ⌜ r .0 ≡ rowAt (rowsAt c (now (block .entry))) (refAt (refsAt c (now (block .entry))) i .place) .time ⌝ }
-{
-    let p = c.place(block, i);
-    c.expires(block, p)
-}
-
-// When the cached message i expires.
-pub fn cached_expires(h: Head, block: &[u8], i: usize) -> Millis
+// When the cached message i expires: the time of the row that its entry names.
+fn cached_expires(h: Head, block: &[u8], i: usize) -> Millis
     requires { ⌜ Stands h (now block) × (i < h .live .cached) ⌝ }
     ensures { λ r. ⌜ r .0 ≡ getD (stateOf h (now (block .entry)) .cache .entries) i noCached .value .expires ⌝ }
 {
     let c = time_caches::cached_cache(h);
-    expires_at(c, block, i)
+    let p = c.place(block, i);
+    c.expires(block, p)
 }
 
-// When the grafted message i expires.
-pub fn grafted_expires(h: Head, block: &[u8], i: usize) -> Millis
-    requires { ⌜ Stands h (now block) × (i < h .live .grafted) ⌝ }
-    ensures { λ r. ⌜ r .0 ≡ getD (stateOf h (now (block .entry)) .grafted .entries) i noGrafts .value .expires ⌝ }
+// The entry of a key that is there then, by its number in the cache as it stands.
+fn held_then(c: TimeBoundCache, block: &[u8], init: bool, instant: Millis, id: Id) -> Held
+    requires { ⌜ Lies c (now block) × Sound c (now block) ⌝ }
+    ensures { λ r. ⌜ HeldIs noHeld (cacheAt c (now (block .entry)) .entries) (idOf id) (get (idOf id) (leftThen init (instant .0) (cacheAt c (now (block .entry))))) r ⌝ }
 {
-    let c = time_caches::grafted_cache(h);
-    expires_at(c, block, i)
-}
-
-// Whether the cached message i is there then.
-fn cached_stays(h: Head, block: &[u8], instant: Millis, i: usize) -> bool
-    requires { ⌜ Stands h (now block) × (i < h .live .cached) ⌝ }
-    ensures { λ r. ⌜ r ≡ staysAt (h .live .init) (instant .0) noCached (stateOf h (now (block .entry)) .cache .entries) i ⌝ }
-{
-    if h.live.init {
-        return true;
+    let g = c.get(block, id);
+    match g {
+        Got::There(i, p) => {
+            if init {
+                return Held::At(i);
+            }
+            let time = c.expires(block, p);
+            if instant.0 < time.0 {
+                return Held::At(i);
+            }
+            Held::Nothing
+        }
+        Got::Nothing => Held::Nothing,
     }
-    let t = cached_expires(h, block, i);
-    instant.0 < t.0
-}
-
-// Whether the grafted message i is there then.
-fn grafted_stays(h: Head, block: &[u8], instant: Millis, i: usize) -> bool
-    requires { ⌜ Stands h (now block) × (i < h .live .grafted) ⌝ }
-    ensures { λ r. ⌜ r ≡ staysAt (h .live .init) (instant .0) noGrafts (stateOf h (now (block .entry)) .grafted .entries) i ⌝ }
-{
-    if h.live.init {
-        return true;
-    }
-    let t = grafted_expires(h, block, i);
-    instant.0 < t.0
 }
 
 // The cached message of an identifier, if it is there then, by its number in the cache as it stands.
@@ -109,17 +88,8 @@ pub fn cached_then(h: Head, block: &[u8], instant: Millis, id: Id) -> Held
     requires { ⌜ Stands h (now block) ⌝ }
     ensures { λ r. ⌜ HeldIs noCached (stateOf h (now (block .entry)) .cache .entries) (idOf id) (get (idOf id) (settled (instant .0) (stateOf h (now (block .entry))) .cache)) r ⌝ }
 {
-    let f = cached::find_cached(h, block, id);
-    match f {
-        Found::At(i) => {
-            let stays = cached_stays(h, block, instant, i);
-            if stays {
-                return Held::At(i);
-            }
-            Held::Nothing
-        }
-        Found::Before(_) => Held::Nothing,
-    }
+    let c = time_caches::cached_cache(h);
+    held_then(c, block, h.live.init, instant, id)
 }
 
 // The grafted message of an identifier, if it is there then, by its number among the grafted messages as they stand.
@@ -127,17 +97,8 @@ pub fn grafted_then(h: Head, block: &[u8], instant: Millis, id: Id) -> Held
     requires { ⌜ Stands h (now block) ⌝ }
     ensures { λ r. ⌜ HeldIs noGrafts (stateOf h (now (block .entry)) .grafted .entries) (idOf id) (get (idOf id) (settled (instant .0) (stateOf h (now (block .entry))) .grafted)) r ⌝ }
 {
-    let f = grafted::find_grafted(h, block, id);
-    match f {
-        Found::At(i) => {
-            let stays = grafted_stays(h, block, instant, i);
-            if stays {
-                return Held::At(i);
-            }
-            Held::Nothing
-        }
-        Found::Before(_) => Held::Nothing,
-    }
+    let c = time_caches::grafted_cache(h);
+    held_then(c, block, h.live.init, instant, id)
 }
 
 // The numbers of entries as they stand.

@@ -1,7 +1,7 @@
 -- Values: the functions of a cache do not look at them, so what holds of values as bytes holds of values read from them; and what a write of a
 -- value's bytes is to the cache.
 -- Assumes nothing.
-use mathlib.Core.Path.{_≡_, refl, ap, _∙_}
+use mathlib.Core.Path.{_≡_, refl, sym, ap, _∙_}
 use mathlib.Core.Option.{Option, none, some}
 use mathlib.Core.List.{List, [], _∷_, map, map-map}
 use Prim.Native.Nat.{ℕ, suc, _-_, _<_}
@@ -9,10 +9,11 @@ use native.Mathlib.Omega.{arith}
 use borrow.Author.Tests.{eq-eqb, le-ltb}
 use lib.Dec.{ltb, eqb}
 use lib.ListN.{length, getD, length-map}
-use Rattle.lists.specs.Base.{isSome, filter}
+use Rattle.lists.specs.Base.{isSome}
 use Rattle.lists.specs.Map.{Map, Entry, keys, lookup, insert, remove}
 use Rattle.lists.proofs.MapLaws.{cases, lookup-insert-same}
-use Rattle.time_cache.specs.TimeCache.{Timed, Expiry, Cache, holds, put as putIn, withValue, replace, expiresAt, pop, due, later, popAll, expireUntil, laterCache}
+use Rattle.lists.proofs.ListLaws.{filter-map}
+use Rattle.time_cache.specs.TimeCache.{Timed, Expiry, Cache, valueOf, get, holds, put as putIn, withValue, replace, expiresAt, pop, due, later, popAll, expireUntil, laterCache}
 use Rattle.time_cache.specs.Tables.{ExpiryRow, expiryOf, Held, held, entryOf, cacheOf, readAs, valuesAs}
 use Rattle.refs.specs.Refs.{Ref}
 
@@ -21,7 +22,8 @@ pub values-read : {A : Type 0} (value : List ℕ → List ℕ → A) (es : List 
 unfolding valuesAs cacheOf
 values-read value es xs = λ j. record { entries = map-map (readAs (λ (h : Held). value (h .own) (h .rest))) (entryOf held xs) es j; expiry = map expiryOf xs }
 
-optionAs : {A B : Type 0} → (A → B) → Option A → Option B
+-- a value that may be missing
+unfoldable pub optionAs : {A B : Type 0} → (A → B) → Option A → Option B
 optionAs f none = none
 optionAs f (some a) = some (f a)
 
@@ -65,11 +67,6 @@ module _ {A B : Type 0} (f : A → B) where
   popAll-as [] m = refl
   popAll-as (x ∷ xs) m = popAll-as xs (pop x m) ∙ ap (popAll xs) (pop-as x m)
 
-  filter-as : (t : ℕ) (m : Map (Timed A)) → map (readAs f) (filter (λ e. ltb t (e .value .expires)) m) ≡ filter (λ e. ltb t (e .value .expires)) (map (readAs f) m)
-  unfolding filter
-  filter-as t [] = refl
-  filter-as t (e ∷ m) = cases (ltb t (e .value .expires)) (λ p. rw p (ap (λ (l : Map (Timed B)). readAs f e ∷ l) (filter-as t m))) (λ p. rw p (filter-as t m))
-
   isSome-as : (o : Option (Timed A)) → isSome (optionAs timedAs o) ≡ isSome o
   unfolding optionAs
   isSome-as none = refl
@@ -83,6 +80,15 @@ module _ {A B : Type 0} (f : A → B) where
   unfolding valuesAs
   holds-as k c = ap isSome (lookup-as k (c .entries)) ∙ isSome-as (lookup k (c .entries))
 
+  value-as : (o : Option (Timed A)) → valueOf (optionAs timedAs o) ≡ optionAs f (valueOf o)
+  unfolding valueOf optionAs
+  value-as none = refl
+  value-as (some v) = refl
+
+  pub get-as : (k : ℕ) (c : Cache A) → get k (valuesAs f c) ≡ optionAs f (get k c)
+  unfolding valuesAs get
+  get-as k c = ap valueOf (lookup-as k (c .entries)) ∙ value-as (lookup k (c .entries))
+
   pub put-as : (k : ℕ) (v : A) (t : ℕ) (c : Cache A) → valuesAs f (putIn k v t c) ≡ putIn k (f v) t (valuesAs f c)
   unfolding valuesAs putIn
   put-as k v t c = λ j. record { entries = insert-as k (record { expires = t; value = v }) (c .entries) j; expiry = putIn k v t c .expiry }
@@ -93,7 +99,7 @@ module _ {A B : Type 0} (f : A → B) where
 
   pub later-as : (t : ℕ) (c : Cache A) → valuesAs f (laterCache t c) ≡ laterCache t (valuesAs f c)
   unfolding valuesAs laterCache
-  later-as t c = λ j. record { entries = filter-as t (c .entries) j; expiry = laterCache t c .expiry }
+  later-as t c = λ j. record { entries = sym (filter-map (λ (e : Entry (Timed B)). ltb t (e .value .expires)) (readAs f) (c .entries)) j; expiry = laterCache t c .expiry }
 
   pub length-as : (c : Cache A) → length (valuesAs f c .entries) ≡ length (c .entries)
   unfolding valuesAs

@@ -144,7 +144,7 @@ impl TimeBoundCache {
     }
 
     // `get`: the key's entry and the row that it names, where the value's bytes are.
-    pub(crate) fn get(self, block: &[u8], key: Id) -> Got
+    pub fn get(self, block: &[u8], key: Id) -> Got
         requires { ⌜ Lies self (now block) × Sound self (now block) ⌝ }
         ensures { λ r. ⌜ GotIs self (now (block .entry)) (idOf key) r ⌝ }
     {

@@ -13,8 +13,7 @@ use Rattle.lists.proofs.MapLaws.{cases, true≢}
 use Rattle.rows.specs.Part.{part}
 use Rattle.rows.specs.Rows.{rows}
 use Rattle.rows.proofs.Parts.{part-part, length-part}
-use Rattle.rows.proofs.Rows.{getD-rows}
-use Rattle.refs.proofs.Places.{row-end}
+use Rattle.rows.proofs.Rows.{getD-rows, row-end}
 use Rattle.time_cache.proofs.Orders.{all-at}
 
 pub and-true : (a : Bool) → (a && true) ≡ a

@@ -20,7 +20,8 @@ use Rattle.protocol.specs.State.{Limits, Settings, Created, created, notCreated
 use Rattle.protocol.specs.Whole.{contentHeld}
 use Rattle.protocol.proofs.CreatedWhole.{fresh-whole}
 use Rattle.block.specs.Layout.{tables}
-use Rattle.block.specs.View.{settingsOf, limitsOf, stateOf, linksIn, notesIn, numbered, pairs, missingIn, receivedIn, graftedIn, cachedIn, timersIn}
+use Rattle.block.specs.View.{settingsOf, limitsOf, stateOf, linksIn, notesIn, missingIn, receivedIn, graftedIn, cachedIn, timersIn}
+use Rattle.refs.specs.Numbers.{numbered, pairs}
 use Rattle.block.specs.Header.{wordAt, headBytes, Stored}
 use Rattle.block.specs.declared.head.Head.{Head}
 use Rattle.block.specs.declared.head.Settings.{Settings as HeadSettings}

@@ -16,19 +16,19 @@ use Rattle.lists.proofs.MapLaws.{and-left, and-right}
 use Rattle.lists.proofs.ListLaws.{all-map}
 use Rattle.rows.specs.Rows.{rows}
 use Rattle.rows.proofs.Parts.{length-part}
-use Rattle.rows.proofs.Rows.{length-rows, getD-rows}
+use Rattle.rows.proofs.Rows.{length-rows, getD-rows, row-end}
 use Rattle.refs.specs.Refs.{refOf, refs}
-use Rattle.refs.proofs.Places.{row-end}
 use Rattle.time_cache.specs.Tables.{ExpiryRow, expiryRows, entryOf, cacheOf}
 use Rattle.protocol.specs.Links.{Links}
 use Rattle.protocol.specs.State.{Hop}
 use Rattle.protocol.specs.Whole.{neighbours, announcersWhole, graftsWhole}
-use Rattle.block.specs.View.{limitsOf, byteAt, peerOf, pairs, numbered, hopsIn, hopOf, hopsOf, missedOf, missingIn, roundOf, graftsOf, graftedIn, stateOf}
+use Rattle.block.specs.View.{limitsOf, byteAt, peerOf, hopsIn, hopOf, hopsOf, missedOf, missingIn, roundOf, graftsOf, graftedIn, stateOf}
+use Rattle.refs.specs.Numbers.{pairs, numbered}
 use Rattle.block.specs.Fit.{Fit}
 use Rattle.block.specs.LinkSteps.{LinksAscend}
 use Rattle.block.specs.declared.head.Head.{Head}
 use Rattle.block.proofs.LinkLaws.{count-peers}
-use Rattle.block.proofs.Numbered.{length-numbered}
+use Rattle.refs.proofs.Numbered.{length-numbered}
 use Rattle.block.proofs.Tables.{length-table}
 use Rattle.whole.specs.Held.{allBelow, numbersName, allLists}
 use Rattle.whole.specs.Parts.{tableOf, graftList, missedList}

@@ -29,13 +29,14 @@ use Rattle.protocol.specs.Links.{Links}
 use Rattle.protocol.specs.State.{Note}
 use Rattle.protocol.specs.Push.{forPeer, notes}
 use Rattle.protocol.specs.Whole.{notedOnce, recordWithin}
-use Rattle.block.specs.View.{limitsOf, peerOf, pairs, numbered, idAt, noteOf, notesIn, stateOf}
+use Rattle.block.specs.View.{limitsOf, peerOf, idAt, noteOf, notesIn, stateOf}
+use Rattle.refs.specs.Numbers.{pairs, numbered}
 use Rattle.block.specs.Fit.{Fit}
 use Rattle.block.specs.LinkSteps.{LinksAscend}
 use Rattle.block.specs.NoteSteps.{note}
 use Rattle.block.specs.declared.head.Head.{Head}
 use Rattle.block.proofs.LinkLaws.{count-peers}
-use Rattle.block.proofs.Numbered.{length-numbered, pairs-at}
+use Rattle.refs.proofs.Numbered.{length-numbered, pairs-at}
 use Rattle.block.proofs.Tables.{length-table}
 use Rattle.whole.specs.Held.{allBelow}
 use Rattle.whole.specs.Parts.{tableOf, few, recordWhole}

@@ -25,13 +25,14 @@ use Rattle.time_cache.proofs.TableLaws.{on-time}
 use Rattle.protocol.specs.State.{State, Limits, Note, sizeInRange, durationsInRange, limitsInRange, blockNeed}
 use Rattle.protocol.specs.Whole.{contentHeld, cacheFits, fits, inRange, keysOnce, neighbours, announcersWhole, graftsWhole, notedOnce, recordWithin, flagsStand, whole}
 use Rattle.block.specs.Layout.{tables}
-use Rattle.block.specs.View.{settingsOf, limitsOf, stateOf, peerOf, noteOf, numbered, notesIn, missedOf, missingIn, idAt, timersIn, nothingOf, receivedIn, cachedOf, cachedIn, graftsOf, graftedIn}
+use Rattle.block.specs.View.{settingsOf, limitsOf, stateOf, peerOf, noteOf, notesIn, missedOf, missingIn, idAt, timersIn, nothingOf, receivedIn, cachedOf, cachedIn, graftsOf, graftedIn}
+use Rattle.refs.specs.Numbers.{numbered}
 use Rattle.block.specs.Fit.{Fit, Within}
 use Rattle.block.specs.Header.{wordAt, halfWordAt, headIn}
 use Rattle.block.specs.declared.head.Head.{Head}
 use Rattle.block.specs.declared.head.Live.{Live}
 use Rattle.block.proofs.LinkLaws.{count-links, count-peers}
-use Rattle.block.proofs.Numbered.{length-numbered}
+use Rattle.refs.proofs.Numbered.{length-numbered}
 use Rattle.block.proofs.Tables.{length-view, length-table}
 use Rattle.whole.specs.Held.{hasHeader, hasTables, countsWithin, allBelow, placesName, numbersName, allLists, adjoin, laidOut, holdsWith, held, wholeHeld, wholeBlock}
 use Rattle.whole.specs.Parts.{tableOf, cacheWhole, linksWhole, receivedWhole, cachedWhole, graftedWhole, missingWhole, timersWhole, queueWhole, recordWhole, tablesWhole, flagsWith}

@@ -9,8 +9,9 @@ use lib.ListN.{length, take, getD}
 use lib.Seq.{take-all}
 use Rattle.lists.specs.Base.{count}
 use Rattle.refs.specs.Refs.{ref, refs, names}
-use Rattle.refs.proofs.Places.{length-refs, place-in, row-end}
-use Rattle.refs.proofs.Left.{count-keep, count-drop}
+use Rattle.refs.proofs.Places.{length-refs, place-in}
+use Rattle.rows.proofs.Rows.{row-end}
+use Rattle.lists.proofs.Firsts.{count-keep, count-drop}
 use native.Mathlib.Omega.{arith}
 use borrow.Author.Needs.{needs}
 use Rattle.refs.proofs.count_from.Statement.{statement}

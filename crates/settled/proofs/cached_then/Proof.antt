@@ -1,67 +1,37 @@
--- `cached_then`: what the search found, and whether it stays.
+-- `cached_then`: what is found in the bytes, as the view reads it.
 -- Assumes nothing.
-use mathlib.Core.Path.{sym, _∙_, subst}
-use native.Mathlib.Omega.{arith}
-use lib.ListN.{length-map}
-use Rattle.lists.specs.Map.{keys}
+use mathlib.Core.Path.{sym, subst}
 use Rattle.rows.specs.Ident.{idOf}
-use Rattle.rows.specs.Sorted.{FoundIs, Here}
-use Rattle.rows.specs.declared.table.Found.{Found}
-use Rattle.block.specs.View.{stateOf}
-use Rattle.caches.proofs.CachedLaws.{count-cached}
-use Rattle.settled.proofs.ThenLaws.{cached-there, cached-gone, cached-nowhere}
+use Rattle.time_cache.specs.TimeCache.{get}
+use Rattle.time_cache.specs.Tables.{cacheAt, Lies, Sound}
+use Rattle.time_cache.specs.declared.cache.TimeBoundCache.{TimeBoundCache}
+use Rattle.caches.proofs.CachedLaws.{cached-lies, cached-sound}
+use Rattle.steps.specs.Shared.{HeldIs}
+use Rattle.steps.proofs.StandsLaws.{cached-order}
+use Rattle.settled.specs.Then.{noHeld, leftThen}
+use Rattle.settled.proofs.ThenLaws.{cached-held}
 use borrow.Author.Needs.{needs}
 use Rattle.settled.proofs.cached_then.Statement.{statement}
 use Rattle.settled.proofs.cached_then.Tie as tie
 
-find-cached-requires : tie.Need-find-cached-requires
-find-cached-requires c κs = search needs
+cached-cache-requires : tie.Need-cached-cache-requires
+cached-cache-requires c κs = search needs
 
-enum-known-f : tie.Need-enum-known-f
-enum-known-f c = search needs
-
--- the entry that was found
-there : (c : tie.After-known-told) → Here (keys (stateOf (c .before .before .before .before .before .args .h) (c .before .before .before .before .before .args .block .now) .cache .entries)) (idOf (c .before .before .before .before .before .args .id)) (c .before .f .given .0 .0)
-there c =
-    let a = c .before .before .before .before .before .args in
-    subst (λ (o : Found). FoundIs (keys (stateOf (a .h) (a .block .now) .cache .entries)) (idOf (a .id)) o) (c .before .f .given .1) (c .before .before .before .find-cached .ensures)
-
-cached-stays-requires : tie.Need-cached-stays-requires
-cached-stays-requires c κs =
-    let s = c .before .before .before .before .before in
+held-then-requires : tie.Need-held-then-requires
+held-then-requires c κs =
+    let s = c .before .before in
     let h = s .args .h in
     let xs = s .args .block .now in
-    (s .pre, omega (arith, there c .within, length-map (stateOf h xs .cache .entries) (λ e. e .key), count-cached h xs (s .pre .sound .fit)))
+    subst (λ (t : TimeBoundCache). Lies t xs × Sound t xs) (sym (c .cached-cache .ensures)) (cached-lies h xs (s .pre .sound .fit), cached-sound h xs (s .pre .sound) (cached-order h xs (s .pre)))
 
 returns : tie.Need-returns
 returns c =
-    let d = c .before .before in
-    let s = d .before .before .before .before .before in
-    cached-there (s .args .h) (s .args .block .now) (s .pre) (s .args .instant .0) (idOf (s .args .id)) (d .before .f .given .0 .0) (there d) (sym (c .before .cached-stays .ensures) ∙ c .if1 .taken)
-
-enum-told : tie.Need-enum-told
-enum-told c = search needs
-
-returns-2 : tie.Need-returns-2
-returns-2 c =
-    let d = c .before .before in
-    let s = d .before .before .before .before .before in
-    cached-gone (s .args .h) (s .args .block .now) (s .pre) (s .args .instant .0) (idOf (s .args .id)) (d .before .f .given .0 .0) (there d) (sym (c .before .cached-stays .ensures) ∙ c .if1 .left)
-
-returns-3 : tie.Need-returns-3
-returns-3 c =
-    let s = c .before .before .before .before in
-    let a = s .args in
-    cached-nowhere (a .h) (a .block .now) (s .pre) (a .instant .0) (idOf (a .id)) _ (subst (λ (o : Found). FoundIs (keys (stateOf (a .h) (a .block .now) .cache .entries)) (idOf (a .id)) o) (c .enum-told .given .1) (c .before .before .find-cached .ensures))
+    let s = c .before .before .before in
+    let h = s .args .h in
+    let xs = s .args .block .now in
+    let k = idOf (s .args .id) in
+    cached-held h xs (s .pre .sound .fit) (s .args .instant .0) k (c .held-then .result)
+    (subst (λ (t : TimeBoundCache). HeldIs noHeld (cacheAt t xs .entries) k (get k (leftThen (h .live .init) (s .args .instant .0) (cacheAt t xs))) (c .held-then .result)) (c .before .cached-cache .ensures) (c .held-then .ensures))
 
 pub cached-then-spec : {M : Type 1} → statement M
-cached-then-spec =
-    tie.close
-    (tie.spec
-    find-cached-requires
-    enum-known-f
-    cached-stays-requires
-    returns
-    enum-told
-    returns-2
-    returns-3)
+cached-then-spec = tie.close (tie.spec cached-cache-requires held-then-requires returns)

@@ -4,7 +4,7 @@ use mathlib.Core.Path.{_∙_}
 use Prim.Native.Nat.{_+_, _*_, _≤_}
 use lib.ListN.{length}
 use Rattle.alike.specs.Elements.{element}
-use Rattle.refs.proofs.Places.{row-end}
+use Rattle.rows.proofs.Rows.{row-end}
 use Rattle.alike.proofs.BlockReads.{key-read}
 use native.Mathlib.Omega.{arith}
 use borrow.Author.Needs.{needs}

@@ -15,7 +15,7 @@ use Rattle.protocol.specs.Push.{forPeer, notes}
 use Rattle.block.specs.View.{stateOf}
 use Rattle.block.specs.LinkSteps.{peerAt}
 use Rattle.block.specs.NoteSteps.{note}
-use Rattle.refs.proofs.Left.{count-keep, count-drop}
+use Rattle.lists.proofs.Firsts.{count-keep, count-drop}
 use Rattle.time_cache.proofs.Orders.{up-of}
 use Rattle.lists.specs.Map.{keys}
 use Rattle.block.proofs.LinkLaws.{count-peers}

@@ -1,12 +1,12 @@
 -- `lower::drop_in_list`: the numbers and rounds after the count, then the count.
 -- Assumes nothing.
 use mathlib.Core.Path.{_≡_, sym, ap, _∙_, subst}
-use mathlib.Core.List.{List, _++_, map}
+use mathlib.Core.List.{List, _++_}
 use Prim.Native.Nat.{ℕ, _-_}
 use lib.ListN.{length, take, drop, set, length-drop}
 use lib.Seq.{take-all}
-use Rattle.lists.specs.Base.{filter}
-use Rattle.neighbours.specs.Lowered.{stays, lower, entries, listedOf, lowerListed}
+use Rattle.neighbours.specs.Lowered.{listedOf, lowerListed}
+use Rattle.refs.specs.Numbers.{lowerAll, entries}
 use Rattle.neighbours.proofs.LoweredRows.{list-after, list-lowered}
 use native.Mathlib.Omega.{arith}
 use borrow.Author.Needs.{needs}
@@ -52,7 +52,7 @@ returns c =
     subst (λ (xs : List ℕ). listedOf 0 xs ≡ lowerListed i (listedOf 0 list))
     (sym (ap (λ (m : ℕ). set (take 1 list ++ (zs ++ drop m (drop 1 list))) 0 r) k ∙ list-after r list zs (s .pre .0) lz))
     (list-lowered i (n .result) r list zs (s .pre .0) (n .ensures .0) (omega (arith, n .ensures .0, s .pre .1)) (d .drop-number .ensures .0) lz
-    (d .drop-number .ensures .1 ∙ ap (λ (b : List ℕ). map (lower i) (filter (stays i) (entries 32 2 (n .result) b))) w))
+    (d .drop-number .ensures .1 ∙ ap (λ (b : List ℕ). lowerAll i (entries 32 2 (n .result) b)) w))
 
 pub drop-in-list-spec : {M : Type 1} → statement M
 drop-in-list-spec =

@@ -6,7 +6,7 @@ use Prim.Native.Nat.{ℕ, _+_, _-_, _*_, _≤_}
 use lib.ListN.{length, getD, take, drop}
 use Rattle.rows.specs.Part.{part, put}
 use Rattle.rows.proofs.Parts.{length-part, length-put, loan-put, getD-part}
-use Rattle.refs.proofs.Places.{row-end}
+use Rattle.rows.proofs.Rows.{row-end}
 use Rattle.refs.proofs.Shifts.{done, done-start, done-all}
 use Rattle.neighbours.specs.Lowered.{listedOf, listed, lowerListed}
 use Rattle.neighbours.proofs.LoweredRows.{noListed, count-was, rows-more, length-listed}

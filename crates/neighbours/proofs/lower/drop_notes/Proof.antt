@@ -6,7 +6,7 @@ use lib.ListN.{length}
 use Rattle.rows.specs.Part.{part}
 use Rattle.rows.proofs.Parts.{length-part, length-put, loan-put}
 use Rattle.rows.proofs.Views.{loan-part, loan-only}
-use Rattle.neighbours.specs.Lowered.{entries, lowerAll}
+use Rattle.refs.specs.Numbers.{entries}
 use native.Mathlib.Omega.{arith}
 use borrow.Author.Needs.{needs}
 use Rattle.neighbours.proofs.lower.drop_notes.Statement.{statement}
@@ -36,7 +36,7 @@ same-length : tie.Need-same-length
 same-length c = search needs
 
 returns : tie.Need-returns
-unfolding part lowerAll
+unfolding part
 returns c =
     let d = c .before .before in
     let s = d .before .before .before in

@@ -10,7 +10,8 @@ use Rattle.block.specs.Layout.{place}
 use Rattle.block.specs.View.{limitsOf}
 use Rattle.block.specs.Sound.{AllNumbered}
 use Rattle.block.specs.declared.head.Head.{Head}
-use Rattle.neighbours.specs.Raised.{raised, RaisedIn, RaisedLinks}
+use Rattle.neighbours.specs.Raised.{RaisedIn, RaisedLinks}
+use Rattle.refs.specs.Numbers.{raised}
 use Rattle.neighbours.proofs.RaiseSteps.{first-asks, long1, second-asks, long2, third-asks, long3, fourth-asks, all-steps}
 use native.Mathlib.Omega.{arith}
 use borrow.Author.Needs.{needs}

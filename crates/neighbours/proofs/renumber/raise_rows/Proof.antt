@@ -6,9 +6,8 @@ use Prim.Native.Nat.{ℕ, _+_, _-_, _*_, _≤_}
 use lib.ListN.{length, getD}
 use Rattle.rows.specs.Part.{part}
 use Rattle.rows.specs.Rows.{rows}
-use Rattle.rows.proofs.Rows.{length-rows}
+use Rattle.rows.proofs.Rows.{length-rows, row-end}
 use Rattle.refs.specs.Refs.{Below}
-use Rattle.refs.proofs.Places.{row-end}
 use Rattle.refs.proofs.Shifts.{done, done-start, done-all}
 use Rattle.block.specs.View.{byteAt}
 use Rattle.neighbours.specs.Raised.{raisedRow}

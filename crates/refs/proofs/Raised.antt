@@ -1,4 +1,4 @@
--- Link numbers after a link came in: each stands for the same peer as before.
+-- Link numbers after a link came in, one after the other.
 -- Assumes nothing.
 use mathlib.Core.Path.{_≡_, sym, ap, _∙_}
 use mathlib.Core.List.{List, [], _∷_, map, map-append}
@@ -7,8 +7,8 @@ use native.Mathlib.Omega.{arith}
 use lib.ListN.{length, getD, set, length-map}
 use Rattle.rows.specs.Part.{part, put}
 use Rattle.rows.proofs.Parts.{length-part, part-snoc, put-snoc, getD-put-after, part-zero, put-nil}
 use Rattle.refs.specs.Refs.{shifted}
-use Rattle.neighbours.specs.Raised.{raised}
+use Rattle.refs.specs.Numbers.{raised}
 
 module _ (i a : ℕ) (xs : List ℕ) where
   pub raised-start : xs ≡ raised i a 0 xs

@@ -4,16 +4,15 @@ use mathlib.Core.Path.{_≡_, refl, sym, _∙_, subst}
 use mathlib.Core.List.{List, []}
 use Prim.Native.Nat.{ℕ, _+_, _-_, _*_, _≤_}
 use lib.ListN.{length, set, length-set}
-use Rattle.rows.proofs.Rows.{mul-up}
+use Rattle.rows.proofs.Rows.{mul-up, row-end}
 use Rattle.refs.specs.Refs.{ref}
-use Rattle.refs.proofs.Places.{row-end}
-use Rattle.refs.proofs.Left.{Going, going-start, going-done}
-use Rattle.neighbours.specs.Lowered.{stays, lower, entries}
-use Rattle.neighbours.proofs.EntryLaws.{entries-long, entries-first, turn-drop, turn-keep}
+use Rattle.rows.proofs.Kept.{Going, going-start, going-done}
+use Rattle.refs.specs.Numbers.{stays, lower, lowerAll, entries}
+use Rattle.refs.proofs.Entries.{entries-long, entries-first, turn-drop, turn-keep}
 use native.Mathlib.Omega.{arith}
 use borrow.Author.Needs.{needs}
-use Rattle.neighbours.proofs.renumber.drop_number.Statement.{statement}
-use Rattle.neighbours.proofs.renumber.drop_number.Tie as tie
+use Rattle.refs.proofs.renumber.drop_number.Statement.{statement}
+use Rattle.refs.proofs.renumber.drop_number.Tie as tie
 
 abbrev Inv-loop : tie.InvT-loop
 Inv-loop b₀ o stride n i k₀ j₀ b k j = Going (stays i) (lower i) (ref 0 []) (entries o stride n b₀) (entries o stride n b) k j × (length b ≡ length b₀)
@@ -111,6 +110,7 @@ same-length : tie.Need-same-length Inv-loop μ-loop
 same-length c = c .before .loop .inv .1
 
 returns : tie.Need-returns Inv-loop μ-loop
+unfolding lowerAll
 returns c =
     let l = c .before .loop in
     let s = c .before .before .before in

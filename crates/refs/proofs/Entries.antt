@@ -10,16 +10,13 @@ use lib.ListN.{length, take, drop, getD, set, length-drop}
 use lib.Seq.{take-take, drop-drop, length-take-le}
 use Rattle.rows.specs.Part.{part, put}
 use Rattle.rows.specs.Rows.{rows}
-use Rattle.rows.proofs.Parts.{part-inside, take-put, drop-put, length-put, length-part, set-put}
-use Rattle.rows.proofs.Rows.{length-rows, take-rows, rows-put-one}
+use Rattle.rows.proofs.Parts.{part-inside, take-put, drop-put, length-put, length-part, set-put, put-drop}
+use Rattle.rows.proofs.Rows.{length-rows, take-rows, rows-put-one, row-end}
 use Rattle.refs.specs.Refs.{Ref, ref}
-use Rattle.refs.proofs.Places.{row-end}
-use Rattle.refs.proofs.Left.{Going, going-read, going-keep, going-drop}
-use Rattle.block.specs.View.{pairs, numbered}
-use Rattle.block.proofs.Cut.{put-drop}
-use Rattle.block.proofs.Numbered.{length-numbered, numbered-at}
-use Rattle.neighbours.specs.Lowered.{lowered, stays, lower, entries}
-use Rattle.neighbours.proofs.LoweredLaws.{pairs-put}
+use Rattle.rows.proofs.Kept.{Going, going-read, going-keep, going-drop}
+use Rattle.refs.specs.Numbers.{pairs, numbered, lowered, stays, lower, entries}
+use Rattle.refs.proofs.Numbered.{length-numbered, numbered-at}
+use Rattle.refs.proofs.Lowered.{pairs-put}
 
 pairs-take : (r : ℕ) (ls : List ℕ) (rs : List (List ℕ)) → take r (pairs ref ls rs) ≡ pairs ref (take r ls) (take r rs)
 unfolding pairs

@@ -2,10 +2,10 @@
 -- Assumes nothing.
 use mathlib.Core.Path.{_≡_, sym}
 use Prim.Native.Nat.{ℕ, zero, suc, _≤_}
-use Rattle.neighbours.proofs.LoweredLaws.{lowered-low, lowered-high}
+use Rattle.refs.proofs.Lowered.{lowered-low, lowered-high}
 use native.Mathlib.Omega.{arith}
-use Rattle.neighbours.proofs.renumber.lower_one.Statement.{statement}
-use Rattle.neighbours.proofs.renumber.lower_one.Tie as tie
+use Rattle.refs.proofs.renumber.lower_one.Statement.{statement}
+use Rattle.refs.proofs.renumber.lower_one.Tie as tie
 
 returns : tie.Need-returns
 returns c = sym (lowered-low (c .before .args .i) (c .before .args .l) (omega arith))

@@ -4,14 +4,14 @@ use mathlib.Core.Path.{_≡_, refl, ap, _∙_}
 use mathlib.Core.List.{List}
 use Prim.Native.Nat.{ℕ, _+_, _-_, _≤_, _<_}
 use lib.ListN.{length, getD, set, length-set}
 use Rattle.refs.specs.Refs.{shifted}
 use Rattle.rows.proofs.Parts.{getD-part, length-part}
-use Rattle.neighbours.specs.Raised.{raised}
-use Rattle.neighbours.proofs.ShiftLaws.{raised-start, raised-read, raised-more}
+use Rattle.refs.specs.Numbers.{raised}
+use Rattle.refs.proofs.Raised.{raised-start, raised-read, raised-more}
 use native.Mathlib.Omega.{arith}
 use borrow.Author.Needs.{needs}
-use Rattle.neighbours.proofs.renumber.raise_numbers.Statement.{statement}
-use Rattle.neighbours.proofs.renumber.raise_numbers.Tie as tie
+use Rattle.refs.proofs.renumber.raise_numbers.Statement.{statement}
+use Rattle.refs.proofs.renumber.raise_numbers.Tie as tie
 
 abbrev Inv-loop : tie.InvT-loop
 Inv-loop b₀ at n i j₀ b j = (j ≤ n) × (b ≡ raised i at j b₀) × (length b ≡ length b₀)

@@ -1,11 +1,11 @@
 -- `renumber::raise`: by cases, as `shifted` is.
 -- Assumes nothing.
 use mathlib.Core.Path.{sym}
 use Rattle.refs.proofs.Shifts.{shifted-low, shifted-high}
 use native.Mathlib.Omega.{arith}
 use borrow.Author.Needs.{needs}
-use Rattle.neighbours.proofs.renumber.raise.Statement.{statement}
-use Rattle.neighbours.proofs.renumber.raise.Tie as tie
+use Rattle.refs.proofs.renumber.raise.Statement.{statement}
+use Rattle.refs.proofs.renumber.raise.Tie as tie
 
 returns : tie.Need-returns
 returns c = sym (shifted-low (c .before .args .i) (c .before .args .l) (omega arith))

@@ -13,7 +13,7 @@ use Rattle.rows.specs.Rows.{rows}
 use Rattle.rows.proofs.Parts.{take-put, set-put, length-put, drop-take}
 use Rattle.rows.proofs.Rows.{getD-rows, length-rows, drop-rows}
 use Rattle.rows.proofs.Rows.{rows-push}
-use Rattle.block.specs.View.{pairs, numbered}
+use Rattle.refs.specs.Numbers.{pairs, numbered}
 
 -- a number put after the first n
 pub take-put-next : (n x : ℕ) (c : List ℕ) → n < length c → take (n + 1) (put n (x ∷ []) c) ≡ take n c ++ (x ∷ [])

@@ -30,8 +30,8 @@ ghost use Rattle.broadcast.specs.Broadcasts.{broadcastBytes};
 ghost use Rattle.kinds.specs.Meaning.{ContentHeld, StepHeld, stepFar, SenderIs};
 ghost use Rattle.actions_after.specs.After.{graftBytes, newBytes, stepBytes, callBytes};
 
-// The actions of a Graft from the neighbour of a link: the reply, if an identifier is asked for and its message is cached once a first event has evicted. Its
-// time is that of a look-up in the message cache, and of the content.
+// `on_graft`, the actions half, for the neighbour of a link: the reply, if an identifier is asked for and its message is cached once a first event has evicted.
+// Its time is that of a look-up in the message cache, and of the content.
 pub fn graft_actions<'a>(
     h: Head,
     block: &'a [u8],
@@ -56,7 +56,7 @@ pub fn graft_actions<'a>(
     }
 }
 
-// A new Neighbors message: it is emitted. Linear in the content.
+// `on_gossip`, of a new Neighbors message: "New Neighbors: emit". Linear in the content.
 fn emit_neighbors<'a>(
     block: &'a [u8],
     out: &mut [u8],

@@ -1,12 +1,12 @@
 -- The sizes and actions of AnnounceDropped, by the numbers of what moves and what stays.
 -- Assumes nothing.
 use mathlib.Core.Path.{_≡_, refl, sym, ap, _∙_}
-use mathlib.Core.Bool.{Bool}
+use mathlib.Core.Bool.{Bool, false, not, _&&_}
 use mathlib.Core.List.{List, [], _∷_, _++_}
-use Prim.Native.Nat.{ℕ, _+_, _≤_}
-use borrow.Author.Tests.{eq-eqb, ne-eqb}
+use Prim.Native.Nat.{ℕ, zero, suc, _+_, _≤_}
+use borrow.Author.Tests.{eq-eqb, ne-eqb, lt-ltb}
 use native.Mathlib.Omega.{arith}
-use lib.Dec.{eqb}
+use lib.Dec.{ltb, eqb}
 use lib.ListN.{length, length-append}
 use Rattle.lists.specs.Base.{if_then_else_, isEmpty, concatMap}
 use Rattle.lists.proofs.Branches.{if-on, if-same}
@@ -19,12 +19,12 @@ use Rattle.decide.proofs.AnnounceDropped.{moved-all}
 use Rattle.decide.specs.Sizes.{sizesOf, sizedQueued, sizedRecorded}
 use Rattle.decide.specs.SizesAfter.{announceSizes}
 use Rattle.decide.specs.Settled.{settled}
-use Rattle.decide.specs.ActionsAfter.{dispatchAction, announceActions}
+use Rattle.decide.specs.ActionsAfter.{dispatchAction, announceAction, announceActions}
 use Rattle.block.specs.View.{stateOf}
 use Rattle.block.specs.declared.head.Head.{Head}
 use Rattle.block.proofs.NoteLaws.{count-queue, count-dropped}
 use Rattle.steps.specs.Stands.{Stands}
-use Rattle.ticks.proofs.ActionLaws.{no-action, one-action, actions-then}
+use Rattle.ticks.proofs.ActionLaws.{no-action, actions-then}
 use Rattle.ticks.proofs.TickLaws.{settled-dispatch}
 use Rattle.announce.specs.Counted.{MovedIs, ifAny}
 use Rattle.announce.specs.declared.Moved.{Moved}
@@ -39,8 +39,13 @@ pub some-bytes : (n : ℕ) (acts : List Action) → (n ≡ 0 → ⊥) → concat
 unfolding ifAny
 some-bytes n acts e = ap (λ (b : Bool). concatMap actionBytes (if b then [] else acts)) (ne-eqb n 0 e)
 
-pub one-bytes : (n : ℕ) (a : Action) → (n ≡ 0 → ⊥) → concatMap actionBytes (ifAny n (a ∷ [])) ≡ actionBytes a
-one-bytes n a e = some-bytes n (a ∷ []) e ∙ one-action a
+-- a record of that length makes its timer due, the flag being clear
+pub if-announce : (n : ℕ) → ifAny n (Scheduled 1000 AnnounceDropped ∷ []) ≡ announceAction (ltb 0 n) false
+unfolding ifAny announceAction
+if-announce zero = refl
+if-announce (suc n) =
+    ap (λ (b : Bool). if b then [] else Scheduled 1000 AnnounceDropped ∷ []) (ne-eqb (suc n) 0 (λ z. omega arith))
+    ∙ ap (λ (b : Bool). if b && not false then Scheduled 1000 AnnounceDropped ∷ [] else []) (sym (lt-ltb 0 (suc n) (omega arith)))
 
 empty-length : {A : Type 0} (l : List A) → isEmpty l ≡ eqb (length l) 0
 empty-length [] = sym (eq-eqb 0 0 refl)
@@ -100,10 +105,10 @@ module _ (instant : ℕ) (h : Head) (xs : List ℕ) (asks : Stands h xs) (r : Mo
       )
 
   pub announce-bytes : concatMap actionBytes (announceActions (settled instant (stateOf h xs)))
-      ≡ concatMap actionBytes (ifAny (h .live .queued + r .moved) (dispatchAction (stateOf h xs))) ++ concatMap actionBytes (ifAny (r .left) (Scheduled 1000 AnnounceDropped ∷ []))
+      ≡ concatMap actionBytes (ifAny (h .live .queued + r .moved) (dispatchAction (stateOf h xs))) ++ concatMap actionBytes (announceAction (ltb 0 (r .left)) false)
   announce-bytes =
       settled-bytes instant (stateOf h xs) r is
-      ∙ ap (λ (n : ℕ). concatMap actionBytes (ifAny n (dispatchAction (stateOf h xs))) ++ concatMap actionBytes (ifAny (r .left) (Scheduled 1000 AnnounceDropped ∷ []))) queued
+      ∙ (λ k. concatMap actionBytes (ifAny (queued k) (dispatchAction (stateOf h xs))) ++ concatMap actionBytes (if-announce (r .left) k))
 
   pub announce-sized : sizedQueued (h .live .queued + r .moved) (sizedRecorded (r .left) (sizesOf (settled instant (stateOf h xs)))) ≡ announceSizes (settled instant (stateOf h xs))
   announce-sized =

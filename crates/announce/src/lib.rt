@@ -3,7 +3,6 @@ use block::head;
 use block::head::Head;
 use block::note;
 use caches::cached;
-use postcard::message::Timer;
 use postcard::units::Millis;
 use postcard::units::Round;
 use rows::id;
@@ -11,11 +10,10 @@ use rows::id::Id;
 use rows::word;
 use steps::Sizes;
 ghost use mathlib.Core.Path.{_≡_};
-ghost use mathlib.Core.List.{[], _∷_};
 ghost use Prim.Native.Nat.{_+_, _<_};
 ghost use Rattle.lists.specs.Base.{concatMap};
 ghost use Rattle.rows.specs.Ident.{idOf};
-ghost use Rattle.postcard.specs.Message.{Scheduled, AnnounceDropped, actionBytes};
+ghost use Rattle.postcard.specs.Message.{actionBytes};
 ghost use Rattle.output.specs.Written.{Told, Written};
 ghost use Rattle.block.specs.View.{stateOf};
 ghost use Rattle.block.specs.Sound.{Sound};
@@ -78,7 +76,7 @@ fn move_oldest(h: Head, block: &mut [u8]) -> Head
     g
 }
 
-// `on_announce_dropped_timer`: "schedules dispatch if a queue stands, then itself if a record does, each unless flagged".
+// `on_announce_dropped_timer`, the state half: "drops uncached identifiers, moves the oldest 64 per peer to its queue", and the flags of what it "then schedules".
 pub fn on_announce_dropped_timer(h: Head, block: &mut [u8]) -> Head
     requires { ⌜ Step announceState h (now block) ⌝ }
     ensures { λ r. ⌜ Goes announceState h (now (block .entry)) r (now (block .exit)) ⌝ }
@@ -144,21 +142,11 @@ fn dispatch_if_any(n: usize, h: Head, block: &[u8], out: &mut [u8], at: usize) -
     if n == 0 {
         return at;
     }
-    ticks::dispatch_action(h, block, out, at)
+    ticks::schedule_dispatch(h, block, out, at)
 }
 
-// "then itself if a record does": n is how long it is.
-fn announce_if_any(n: usize, out: &mut [u8], at: usize) -> usize
-    requires { ⌜ Told (concatMap actionBytes (ifAny n (Scheduled 1000 AnnounceDropped ∷ []))) at ⌝ }
-    ensures { λ r. ⌜ Written (concatMap actionBytes (ifAny n (Scheduled 1000 AnnounceDropped ∷ []))) (now (out .entry)) at (now (out .exit)) r ⌝ }
-{
-    if n == 0 {
-        return at;
-    }
-    output::schedule(out, at, Millis(1000), Timer::AnnounceDropped)
-}
-
-// The actions of AnnounceDropped: "schedules dispatch if a queue stands, then itself if a record does, each unless flagged".
+// `on_announce_dropped_timer`, the actions half: "schedules dispatch if a queue stands, then itself if a record does, each unless flagged". Its own flag was just
+// cleared.
 pub fn announce_actions(h: Head, block: &[u8], instant: Millis, out: &mut [u8], at: usize) -> usize
     requires { ⌜ Stands h (now block) × Told (concatMap actionBytes (announceActions (settled (instant .0) (stateOf h (now block))))) at ⌝ }
     ensures { λ r. ⌜ Written (concatMap actionBytes (announceActions (settled (instant .0) (stateOf h (now (block .entry)))))) (now (out .entry)) at (now (out .exit)) r ⌝ }
@@ -166,5 +154,6 @@ pub fn announce_actions(h: Head, block: &[u8], instant: Millis, out: &mut [u8], 
     let m = count_moved(h, block, instant);
     let queued = h.live.queued + m.moved;
     let next = dispatch_if_any(queued, h, block, out, at);
-    announce_if_any(m.left, out, next)
+    let stands = 0 < m.left;
+    ticks::schedule_announce_dropped(stands, false, out, next)
 }

@@ -18,14 +18,14 @@ use Rattle.rows.proofs.Views.{map-put}
 use Rattle.refs.proofs.Places.{getD-map-in}
 use Rattle.lists.specs.Base.{if_then_else_, isSome}
 use Rattle.lists.specs.Map.{Entry, entry, keys, insert}
-use Rattle.protocol.specs.Links.{Mark, eager, lazy, Links, isEager, isNeighbour, marked, eagerIn, markIfThere}
+use Rattle.protocol.specs.Links.{Mark, eager, lazy, Links, isEager, isNeighbour, marked, eagerIn, markIfThere, addEager}
 use Rattle.protocol.specs.State.{State, Limits, withLinks}
 use Rattle.block.specs.Layout.{place, table, tables}
 use Rattle.block.specs.View.{stateOf, viewOf, viewWith, limitsOf, linkOf, linksIn, markOf}
 use Rattle.block.specs.Fit.{Fit}
 use Rattle.block.specs.Sound.{Laid, Sound}
 use Rattle.block.specs.Goes.{Goes}
-use Rattle.block.specs.LinkSteps.{LinksAscend, linkAt, markAt, linked}
+use Rattle.block.specs.LinkSteps.{LinksAscend, peerAt, linkAt, markAt, eagerAt, linked}
 use Rattle.block.specs.declared.head.Head.{Head}
 use Rattle.block.proofs.Tables.{frame, view-at, view-set, length-view, length-table, field-in, byte-in}
 use Rattle.time_cache.proofs.MapPlaces.{insert-here, lookup-here, lookup-between}
@@ -164,6 +164,15 @@ mark-there s p i m up h =
     let there : isNeighbour p (s .links) ≡ true = ap isSome (lookup-here p i (entry 0 eager) (s .links) up h) in
     ap (λ (k : ℕ). withLinks (insert k m (s .links)) s) (h .same)
     ∙ ap (λ (t : Bool). withLinks (if t then insert p m (s .links) else s .links) s) (sym there)
+
+-- the peer of a link is a neighbour: made eager it has the mark
+module _ (h : Head) (xs : List ℕ) (i : ℕ) (up : LinksAscend h xs) (q : i < h .live .links) where
+  pub eager-link : markAt i eager (stateOf h xs) ≡ eagerAt i (stateOf h xs)
+  unfolding addEager
+  eager-link = mark-there (stateOf h xs) (peerAt (stateOf h xs) i) i eager (up-of (keys (stateOf h xs .links)) up) (record { within = omega (arith, count-peers h xs); same = refl })
+
+  pub eager-marked : {r : Head} {ys : List ℕ} → Goes (eagerAt i) h xs r ys → Goes (markAt i eager) h xs r ys
+  eager-marked g = record { state = g .state ∙ sym eager-link; sound = g .sound }
 
 pub mark-stranger : (s : State) (p i : ℕ) (m : Mark) → Between (keys (s .links)) p i → s ≡ linked (markIfThere p m) s
 unfolding markIfThere

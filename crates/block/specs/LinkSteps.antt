@@ -7,7 +7,7 @@ use mathlib.Core.List.{List}
 use lib.ListN.{getD}
 use Rattle.lists.specs.Base.{if_then_else_, ascending}
 use Rattle.lists.specs.Map.{Entry, entry, keys, insert}
-use Rattle.protocol.specs.Links.{Mark, Links, eager, lazy}
+use Rattle.protocol.specs.Links.{Mark, Links, eager, lazy, addEager}
 use Rattle.protocol.specs.State.{State, withLinks}
 use Rattle.block.specs.View.{stateOf}
 use Rattle.block.specs.declared.head.Head.{Head}
@@ -35,3 +35,7 @@ markAt i m s = withLinks (insert (peerAt s i) m (s .links)) s
 -- a step on the links alone
 abbrev pub linked : (Links → Links) → State → State
 linked f s = withLinks (f (s .links)) s
+
+-- `add_eager`, of the peer of link i
+abbrev pub eagerAt : ℕ → State → State
+eagerAt i s = linked (addEager (peerAt s i)) s

@@ -11,7 +11,7 @@ ghost use Rattle.block.specs.View.{stateOf, markOf};
 ghost use Rattle.block.specs.Fit.{Fit};
 ghost use Rattle.block.specs.Sound.{Sound};
 ghost use Rattle.block.specs.Goes.{Goes};
-ghost use Rattle.block.specs.LinkSteps.{LinksAscend, markFor, peerAt, linkAt, markAt, linked};
+ghost use Rattle.block.specs.LinkSteps.{LinksAscend, markFor, peerAt, linkAt, markAt, eagerAt, linked};
 
 // The peer of link i, which is what the link number i stands for.
 pub fn peer_at(h: Head, block: &[u8], i: usize) -> u64
@@ -86,7 +86,15 @@ fn mark_peer(h: Head, block: &mut [u8], peer: u64, to_eager: bool)
     }
 }
 
-// `add_lazy`.
+// `add_eager`, of the peer of link i: wherever "a step makes a peer eager", it is a neighbour whose link is known; a stranger has none, and "stays in neither".
+pub fn add_eager(h: Head, block: &mut [u8], i: usize)
+    requires { ⌜ Sound h (now block) × LinksAscend h (now block) × (i < h .live .links) ⌝ }
+    ensures { λ _. ⌜ Goes (eagerAt i) h (now (block .entry)) h (now (block .exit)) ⌝ }
+{
+    set_mark(h, block, i, true);
+}
+
+// `add_lazy`: wherever "a step makes a peer .. lazy", "a stranger, or one gone down since, stays in neither".
 pub fn add_lazy(h: Head, block: &mut [u8], peer: u64)
     requires { ⌜ Sound h (now block) × LinksAscend h (now block) ⌝ }
     ensures { λ _. ⌜ Goes (linked (addLazy peer)) h (now (block .entry)) h (now (block .exit)) ⌝ }

@@ -21,9 +21,10 @@ ghost use Rattle.block.specs.Goes.{Goes};
 ghost use Rattle.steps.specs.Stands.{Stands, Step};
 ghost use Rattle.broadcast.specs.Broadcasts.{broadcastIn, broadcastBytes, BroadcastIs};
 
-// A Swarm broadcast: "mark received; cache at" round 0, then "lazy push, then eager push", which skip the panel alone. Its time is that of one pass over the
-// caches and contents, one over the links, and one over the record's column of link numbers.
-pub fn on_broadcast(
+// `broadcast`, the state half, of a Swarm message that is sent: "mark received, cache at round 0, lazy push, then eager push"; "The panel is the sender in both
+// pushes". A Neighbors broadcast changes no state. Its time is that of one pass over the caches and contents, one over the links, and one over the record's column
+// of link numbers.
+pub fn broadcast(
     h: Head,
     block: &mut [u8],
     instant: Millis,
@@ -60,7 +61,7 @@ fn swarm_actions(
     ensures { λ r. ⌜ Written (broadcastBytes (instant .0) (now (rooms .entry)) (idOf id) (now (content .entry)) toSwarm (stateOf h (now (block .entry)))) (now (out .entry)) at (now (out .exit)) r ⌝ }
 {
     let me = h.settings.me;
-    let to = ticks::dispatch_action(h, block, out, at);
+    let to = ticks::schedule_dispatch(h, block, out, at);
     let push = Push {
         sender: me,
         skip: Held::Nothing,
@@ -102,7 +103,7 @@ fn neighbors_actions(
     p.at
 }
 
-// The actions of a broadcast that is sent, once a first event has evicted at the instant. Its time is that of one pass over the links.
+// `broadcast`, the actions half, of a message that is sent, once a first event has evicted at the instant. Its time is that of one pass over the links.
 pub fn broadcast_actions(
     h: Head,
     block: &[u8],

@@ -1,6 +1,6 @@
 -- The actions of an event, as functions of the state before it; `s` is the state that a first event leaves (`settled`) unless a comment says otherwise. Proved equal (`decide-actions`).
 use Prim.Native.Nat.{ℕ, suc}
-use mathlib.Core.Bool.{not, _&&_}
+use mathlib.Core.Bool.{Bool, not, _&&_}
 use mathlib.Core.List.{List, [], _∷_, _++_, map}
 use mathlib.Core.Option.{Option, none, some}
 use lib.Dec.{ltb, eqb}
@@ -28,6 +28,10 @@ evictActions s = Scheduled (s .settings .cacheEvictInterval) EvictCache ∷ []
 -- a dispatch timer, unless flagged
 unfoldable pub dispatchAction : State → List Action
 dispatchAction s = if s .timers .dispatch then [] else Scheduled (s .settings .dispatchTimeout) DispatchLazyPush ∷ []
+
+-- `schedule_announce_dropped`: "a nonempty record and a clear flag schedule AnnounceDropped (1,000)"
+unfoldable pub announceAction : Bool → Bool → List Action
+announceAction stands flag = if stands && not flag then Scheduled 1000 AnnounceDropped ∷ [] else []
 
 -- AnnounceDropped: dispatch if a queue stands, then itself if a record does
 unfoldable pub announceActions : State → List Action

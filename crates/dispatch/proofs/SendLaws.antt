@@ -1,7 +1,7 @@
 -- The entries of an IHave, one after the other; an IHave with its timer; the IHaves to a link; the links.
 -- Assumes nothing.
 use mathlib.Core.Path.{_≡_, refl, sym, ap, _∙_, subst}
-use mathlib.Core.Bool.{Bool, true, false, not, _||_}
+use mathlib.Core.Bool.{Bool, true, false, not, _&&_, _||_}
 use mathlib.Core.List.{List, [], _∷_, _++_, append-nil, append-assoc}
 use Prim.Native.Nat.{ℕ, zero, suc, _+_, _-_, _≤_, _<_, min}
 use native.Mathlib.Omega.{arith}
@@ -18,6 +18,7 @@ use Rattle.protocol.specs.Run.{Room}
 use Rattle.protocol.specs.Ticks.{chunks, queuedFor}
 use Rattle.decide.specs.Rooms.{kthTaken}
 use Rattle.decide.specs.Pieces.{Piece, numbered, peerPieces, pieces, pieceTaken, pieceActions}
+use Rattle.decide.specs.ActionsAfter.{announceAction}
 use Rattle.output.specs.Written.{Told, Written}
 use Rattle.output.proofs.WrittenLaws.{written-none, written-then, told-first, told-then}
 use Rattle.dispatch.specs.Sends.{someHeld, quiet, timerAfter, oneSend, flagAfter, flagAfterAll}
@@ -115,19 +116,18 @@ module _ (held : ℕ → Bool) (taken flag : Bool) (p count : ℕ) (hs : List Ih
     pub chunk-entries : {before out : List ℕ} {a : ℕ} → Written headOf before start out a → Told (concatMap ihaveBytes hs) a
     chunk-entries w = told-first (concatMap actionBytes (timerAfter (quiet held taken flag hs))) (told-then w again)
 
-    pub chunk-timer : {before out out′ : List ℕ} {a b : ℕ} → Written headOf before start out a → Written (concatMap ihaveBytes hs) out a out′ b → quiet held taken flag hs ≡ false → Told (actionBytes (Scheduled 1000 AnnounceDropped)) b
-    chunk-timer {b = b} w v e = told-first [] (subst (λ (l : List ℕ). Told l b) (ap (λ (still : Bool). concatMap actionBytes (timerAfter still)) e ∙ bytes-cons actionBytes (Scheduled 1000 AnnounceDropped) [] ∙ ap (λ (l : List ℕ). actionBytes (Scheduled 1000 AnnounceDropped) ++ l) (bytes-none actionBytes)) (told-then v (told-then w again)))
+    pub chunk-timer : {before out out′ : List ℕ} {a b : ℕ} → Written headOf before start out a → Written (concatMap ihaveBytes hs) out a out′ b → {acts : List Action} → timerAfter (quiet held taken flag hs) ≡ acts → Told (concatMap actionBytes acts) b
+    chunk-timer {b = b} w v e = subst (λ (l : List Action). Told (concatMap actionBytes l) b) e (told-then v (told-then w again))
 
   pub chunk-quiet : {before out out′ : List ℕ} {start a b : ℕ} → Written headOf before start out a → Written (concatMap ihaveBytes hs) out a out′ b → quiet held taken flag hs ≡ true → Written sendBytes before start out′ b
   chunk-quiet {before} {out} {out′} {start} {a} {b} w v e =
       let s : sendBytes ≡ headOf ++ concatMap ihaveBytes hs = chunk-bytes ∙ ap (λ (still : Bool). headOf ++ (concatMap ihaveBytes hs ++ concatMap actionBytes (timerAfter still))) e ∙ ap (λ (l : List ℕ). headOf ++ (concatMap ihaveBytes hs ++ l)) (bytes-none actionBytes) ∙ ap (λ (l : List ℕ). headOf ++ l) (append-nil (concatMap ihaveBytes hs)) in
       subst (λ (l : List ℕ). Written l before start out′ b) (sym s) (written-then w v)
 
-  pub chunk-timed : {before out out′ out″ : List ℕ} {start a b c : ℕ} → Written headOf before start out a → Written (concatMap ihaveBytes hs) out a out′ b → Written (actionBytes (Scheduled 1000 AnnounceDropped)) out′ b out″ c → quiet held taken flag hs ≡ false → Written sendBytes before start out″ c
-  chunk-timed {before} {out} {out′} {out″} {start} {a} {b} {c} w v u e =
-      let s : sendBytes ≡ headOf ++ (concatMap ihaveBytes hs ++ actionBytes (Scheduled 1000 AnnounceDropped)) =
-      chunk-bytes ∙ ap (λ (still : Bool). headOf ++ (concatMap ihaveBytes hs ++ concatMap actionBytes (timerAfter still))) e
-      ∙ ap (λ (l : List ℕ). headOf ++ (concatMap ihaveBytes hs ++ l)) (bytes-cons actionBytes (Scheduled 1000 AnnounceDropped) [] ∙ ap (λ (l : List ℕ). actionBytes (Scheduled 1000 AnnounceDropped) ++ l) (bytes-none actionBytes) ∙ append-nil (actionBytes (Scheduled 1000 AnnounceDropped))) in
+  pub chunk-timed : {before out out′ out″ : List ℕ} {start a b c : ℕ} → Written headOf before start out a → Written (concatMap ihaveBytes hs) out a out′ b → {acts : List Action} → timerAfter (quiet held taken flag hs) ≡ acts
+      → Written (concatMap actionBytes acts) out′ b out″ c → Written sendBytes before start out″ c
+  chunk-timed {before} {out} {out′} {out″} {start} {a} {b} {c} w v e u =
+      let s : sendBytes ≡ headOf ++ (concatMap ihaveBytes hs ++ concatMap actionBytes _) = chunk-bytes ∙ ap (λ (l : List Action). headOf ++ (concatMap ihaveBytes hs ++ concatMap actionBytes l)) e in
       subst (λ (l : List ℕ). Written l before start out″ c) (sym s) (written-then w (written-then v u))
 
 -- when no timer follows
@@ -135,29 +135,37 @@ module _ (held : ℕ → Bool) (taken flag : Bool) (hs : List Ihave) where
   pub quiet-taken : taken ≡ true → quiet held taken flag hs ≡ true
   quiet-taken e = λ k. e k || flag || not (someHeld held hs)
 
-  pub quiet-flag : flag ≡ true → quiet held taken flag hs ≡ true
-  quiet-flag e = by-flag taken flag e
-    where
-      by-flag : (t f : Bool) → f ≡ true → (t || f || not (someHeld held hs)) ≡ true
-      by-flag true f e = refl
-      by-flag false f e = λ k. e k || not (someHeld held hs)
+  pub flag-taken : taken ≡ true → flag ≡ flagAfter held taken flag hs
+  flag-taken e = λ k. if sym (quiet-taken e) k then flag else true
 
-  pub quiet-none : someHeld held hs ≡ false → quiet held taken flag hs ≡ true
-  quiet-none e = (λ k. taken || flag || not (e k)) ∙ by taken flag
-    where
-      by : (t f : Bool) → (t || f || true) ≡ true
-      by true f = refl
-      by false true = refl
-      by false false = refl
+  -- one that is handed back makes a record stand, where any of it is cached
+  module _ (back : taken ≡ false) (cached : Bool) (seen : cached ≡ someHeld held hs) where
+    quiet-back : quiet held taken flag hs ≡ (flag || not cached)
+    quiet-back = λ k. back k || flag || not (sym seen k)
 
-  pub loud : taken ≡ false → flag ≡ false → someHeld held hs ≡ true → quiet held taken flag hs ≡ false
-  loud a b d = λ k. a k || b k || not (d k)
+    pub back-announce : timerAfter (quiet held taken flag hs) ≡ announceAction cached flag
+    unfolding announceAction
+    back-announce = ap timerAfter quiet-back ∙ by cached flag
+      where
+        by : (c f : Bool) → timerAfter (f || not c) ≡ (if c && not f then Scheduled 1000 AnnounceDropped ∷ [] else [])
+        by true true = refl
+        by true false = refl
+        by false true = refl
+        by false false = refl
 
-  pub flag-quiet : quiet held taken flag hs ≡ true → flag ≡ flagAfter held taken flag hs
-  flag-quiet e = λ k. if sym e k then flag else true
+    pub flag-cached : cached ≡ true → true ≡ flagAfter held taken flag hs
+    flag-cached e = sym ((λ k. if (quiet-back ∙ (λ j. flag || not (e j))) k then flag else true) ∙ by flag)
+      where
+        by : (f : Bool) → (if f || not true then f else true) ≡ true
+        by true = refl
+        by false = refl
 
-  pub flag-loud : quiet held taken flag hs ≡ false → true ≡ flagAfter held taken flag hs
-  flag-loud e = λ k. if sym e k then flag else true
+    pub flag-none : cached ≡ false → flag ≡ flagAfter held taken flag hs
+    flag-none e = sym ((λ k. if (quiet-back ∙ (λ j. flag || not (e j))) k then flag else true) ∙ by flag)
+      where
+        by : (f : Bool) → (if f || not false then f else true) ≡ f
+        by true = refl
+        by false = refl
 
 -- one piece and the others
 module _ (held : ℕ → Bool) (rooms : List Room) where

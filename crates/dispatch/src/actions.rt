@@ -3,7 +3,6 @@ use crate::gains;
 use block::head::Head;
 use block::links;
 use block::note;
-use postcard::message::Timer;
 use postcard::units::Millis;
 ghost use mathlib.Core.Path.{_≡_};
 ghost use Prim.Native.Nat.{_≤_, _<_};
@@ -95,9 +94,9 @@ fn put_entries(
     Chunk { at, row: i, cached }
 }
 
-// Sends the next `count` entries to a link as one IHave; "handed back are noted", which a first cached identifier in an empty record follows with its timer:
-// "a nonempty record and a clear flag schedule AnnounceDropped (1,000)".
-fn send_chunk(
+// `send_ihave`, the actions half: the next `count` entries to a link as one IHave; "handed back are noted", and where one of them is cached the record stands, so that
+// `schedule_announce_dropped` follows.
+fn send_ihave(
     h: Head,
     block: &[u8],
     instant: Millis,
@@ -122,15 +121,8 @@ fn send_chunk(
             flag,
         };
     }
-    if flag {
-        return Sending {
-            at: c.at,
-            row: c.row,
-            flag,
-        };
-    }
+    let b = ticks::schedule_announce_dropped(c.cached, flag, out, c.at);
     if c.cached {
-        let b = output::schedule(out, c.at, Millis(1000), Timer::AnnounceDropped);
         return Sending {
             at: b,
             row: c.row,
@@ -138,7 +130,7 @@ fn send_chunk(
         };
     }
     Sending {
-        at: c.at,
+        at: b,
         row: c.row,
         flag,
     }
@@ -170,7 +162,7 @@ fn send_link(
     while 0 < left {
         let count = gains::min(k, left);
         let taken = nth <= room;
-        let s = send_chunk(h, block, instant, link, row, count, taken, flag, out, at);
+        let s = send_ihave(h, block, instant, link, row, count, taken, flag, out, at);
         at = s.at;
         row = s.row;
         flag = s.flag;
@@ -180,7 +172,7 @@ fn send_link(
     Sends { at, flag }
 }
 
-// `on_dispatch_timer`: the actions, links in order. Its time is that of `send_link` for each link.
+// `on_dispatch_timer`, the actions half: the IHaves, "peers ascending" being the links in order. Its time is that of `send_link` for each link.
 pub fn dispatch_actions(
     h: Head,
     block: &[u8],

@@ -47,7 +47,7 @@ fn note_one(
             g.live.announce_dropped_scheduled = true;
             return g;
         }
-        return pushes::note_cached(h, block, link, id, round);
+        return pushes::note_dropped(h, block, link, id, round);
     }
     h
 }
@@ -92,9 +92,9 @@ fn note_link(h: Head, block: &mut [u8], link: usize, skip: usize) -> Head
     g
 }
 
-// `on_dispatch_timer`: the queue is emptied, and what a link hands back of it, all behind its room's number of IHaves, is noted; "peers ascending" are the links
-// in order. Its time is that of one pass over the queue's column of link numbers for each link whose room is below the queue's length, and of `note_one` for each
-// identifier that is handed back.
+// `on_dispatch_timer`, the state half: the queue is emptied, and what a link hands back of it, all behind its room's number of IHaves, is noted; "peers
+// ascending" are the links in order. Its time is that of one pass over the queue's column of link numbers for each link whose room is below the queue's length,
+// and of `note_one` for each identifier that is handed back.
 pub fn on_dispatch_timer(h: Head, block: &mut [u8], rooms: &[u64; 34]) -> Head
     requires { ⌜ Step (dispatchState (roomsIn (stateOf h (now block)) (now rooms))) h (now block) ⌝ }
     ensures { λ r. ⌜ Goes (dispatchState (roomsIn (stateOf h (now (block .entry))) (now (rooms .entry)))) h (now (block .entry)) r (now (block .exit)) ⌝ }

@@ -91,11 +91,12 @@ module _ (array : List ℕ) (l : ℕ) (h : Head) (xs : List ℕ) (ok : Replying 
     pub one-sent : (before : List ℕ) (at : ℕ) (after : List ℕ) (to : ℕ) → Written (actionBytes (Sent q taken m)) before at after to → Written (sentBytes array m (p ∷ []) s) before at after to
     one-sent before at after to w = subst (λ (b : List ℕ). Written b before at after to) (sym same-bytes) w
 
-    pub one-taken : taken ≡ true → not (isEmpty (backPeers (roomsIn s array) (p ∷ []))) ≡ false
-    one-taken e = ap (λ (ps : List ℕ). not (isEmpty ps)) (none-back (sym et ∙ e))
-
-    pub one-held : taken ≡ false → not (isEmpty (backPeers (roomsIn s array) (p ∷ []))) ≡ true
-    one-held e = ap (λ (ps : List ℕ). not (isEmpty ps)) (one-back (sym et ∙ e))
+    pub one-noted : not taken ≡ not (isEmpty (backPeers (roomsIn s array) (p ∷ [])))
+    one-noted = ap not (et ∙ sym (none-noted (leb 1 (getD array l 0)) refl))
+      where
+        none-noted : (b : Bool) → leb 1 (getD array l 0) ≡ b → isEmpty (backPeers (roomsIn s array) (p ∷ [])) ≡ b
+        none-noted true e = ap isEmpty (none-back e)
+        none-noted false e = ap isEmpty (one-back e)
 
 -- the reply's actions are those of a push of the cached message
 pub reply-bytes : (array : List ℕ) (l id i : ℕ) (s : State) (content : List ℕ) (round : ℕ) → content ≡ cachedAt s i .content → round ≡ cachedAt s i .round

@@ -1,21 +1,23 @@
 -- The sends of a push, link by link, and the loop that writes them.
 -- Assumes nothing.
 use mathlib.Core.Path.{_≡_, refl, sym, ap, _∙_, subst}
-use mathlib.Core.Bool.{Bool, true, false, not, _||_}
+use mathlib.Core.Bool.{Bool, true, false, not}
 use mathlib.Core.List.{List, [], _∷_, _++_, map, append-nil, append-assoc}
 use Prim.Native.Nat.{ℕ, _+_, _<_}
 use lib.Dec.{leb}
 use lib.ListN.{length, getD}
-use Rattle.lists.specs.Base.{if_then_else_, isEmpty, concatMap}
-use Rattle.postcard.specs.Message.{Message, Action, Sent, Scheduled, AnnounceDropped, actionBytes}
+use Rattle.lists.specs.Base.{isEmpty, concatMap}
+use Rattle.postcard.specs.Message.{Message, Action, Sent, actionBytes}
 use Rattle.output.specs.Written.{Told, Written}
 use Rattle.output.proofs.WrittenLaws.{written-none, written-then, told-first, told-then}
 use Rattle.protocol.specs.State.{State}
 use Rattle.protocol.specs.Push.{eagerTargets}
 use Rattle.decide.specs.Rooms.{firstSend, backPeers}
 use Rattle.decide.specs.RecordGrowth.{noteAction, pushActions}
+use Rattle.decide.specs.ActionsAfter.{announceAction}
 use Rattle.block.specs.LinkSteps.{peerAt}
 use Rattle.steps.specs.Rooms.{roomsIn}
+use Rattle.ticks.proofs.TickLaws.{noted-announce}
 use Rattle.eager.specs.Targets.{isTarget}
 use Rattle.eager.specs.Sent.{sentBytes, pushBytes}
 use Rattle.eager.proofs.TargetLaws.{Roomed, first, rest, first-none, first-in, first-out, first-rest, backsTo, backs-none, backs-held, backs-taken, backs-out}
@@ -126,46 +128,12 @@ module _ (array : List ℕ) (m : Message) (ps : List ℕ) (s : State) where
   pub push-first : (at : ℕ) → Told (pushBytes array m ps s) at → Told sent at
   push-first at t = told-first (concatMap actionBytes (noteAction backs (s .timers .announce))) (subst (λ (b : List ℕ). Told b at) pushed t)
 
-  -- nothing was handed back, or the flag is set
-  quiet : (b f : Bool) → (b || f) ≡ true → isEmpty backs ≡ b → s .timers .announce ≡ f → noteAction backs (s .timers .announce) ≡ []
-  unfolding noteAction
-  quiet b f h x y = ap (λ (t : Bool). if t then [] else Scheduled 1000 AnnounceDropped ∷ []) ((λ k. x k || y k) ∙ h)
+  module _ (before : List ℕ) (at : ℕ) (after : List ℕ) (to : ℕ) (w : Written sent before at after to) (back flag : Bool) (eb : back ≡ not (isEmpty backs)) (ef : flag ≡ s .timers .announce) where
+    timed : pushBytes array m ps s ≡ sent ++ concatMap actionBytes (announceAction back flag)
+    timed = pushed ∙ ap (λ (l : List Action). sent ++ concatMap actionBytes l) (noted-announce backs (s .timers .announce) ∙ sym (λ k. announceAction (eb k) (ef k)))
 
-  module _ (before : List ℕ) (at : ℕ) (after : List ℕ) (to : ℕ) (w : Written sent before at after to) where
-    still : noteAction backs (s .timers .announce) ≡ [] → Written (pushBytes array m ps s) before at after to
-    unfolding concatMap
-    still e =
-        subst (λ (b : List ℕ). Written b before at after to)
-        (sym (pushed ∙ ap (λ (l : List Action). sent ++ concatMap actionBytes l) e ∙ append-nil sent)) w
+    pub push-told : Told (pushBytes array m ps s) at → Told (concatMap actionBytes (announceAction back flag)) to
+    push-told t = told-then w (subst (λ (b : List ℕ). Told b at) timed t)
 
-    pub push-taken : not (isEmpty backs) ≡ false → Written (pushBytes array m ps s) before at after to
-    push-taken e = still (quiet true (s .timers .announce) refl (flip (isEmpty backs) e) refl)
-      where
-        flip : (b : Bool) → not b ≡ false → b ≡ true
-        flip true h = refl
-        flip false h = sym h
-
-    pub push-flagged : s .timers .announce ≡ true → Written (pushBytes array m ps s) before at after to
-    push-flagged e = still (quiet (isEmpty backs) true (both (isEmpty backs)) refl e)
-      where
-        both : (b : Bool) → (b || true) ≡ true
-        both true = refl
-        both false = refl
-
-    module _ (e : not (isEmpty backs) ≡ true) (f : s .timers .announce ≡ false) where
-      timed : pushBytes array m ps s ≡ sent ++ actionBytes (Scheduled 1000 AnnounceDropped)
-      unfolding noteAction
-      timed =
-          pushed
-          ∙ ap (λ (t : Bool). sent ++ concatMap actionBytes (if t then [] else Scheduled 1000 AnnounceDropped ∷ [])) ((λ k. flip (isEmpty backs) e k || f k))
-          ∙ ap (λ (l : List ℕ). sent ++ l) (bytes-one actionBytes (Scheduled 1000 AnnounceDropped))
-        where
-          flip : (b : Bool) → not b ≡ true → b ≡ false
-          flip true h = sym h
-          flip false h = refl
-
-      pub push-told : Told (pushBytes array m ps s) at → Told (actionBytes (Scheduled 1000 AnnounceDropped)) to
-      push-told t = told-then w (subst (λ (b : List ℕ). Told b at) timed t)
-
-      pub push-timed : (after′ : List ℕ) (to′ : ℕ) → Written (actionBytes (Scheduled 1000 AnnounceDropped)) after to after′ to′ → Written (pushBytes array m ps s) before at after′ to′
-      push-timed after′ to′ v = subst (λ (b : List ℕ). Written b before at after′ to′) (sym timed) (written-then w v)
+    pub push-timed : (after′ : List ℕ) (to′ : ℕ) → Written (concatMap actionBytes (announceAction back flag)) after to after′ to′ → Written (pushBytes array m ps s) before at after′ to′
+    push-timed after′ to′ v = subst (λ (b : List ℕ). Written b before at after′ to′) (sym timed) (written-then w v)

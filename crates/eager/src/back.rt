@@ -58,8 +58,8 @@ pub fn push_gains(h: Head, block: &[u8], rooms: &[u64; 34], id: Id, push: Push) 
     extra
 }
 
-// "handed back are noted after all sends": `note_dropped` of a cached identifier for each link that handed it back, "added unless the peer has 256 or all have
-// 4,096", or it is there. Its time is that of one pass over the links, and of one over the record's column of link numbers.
+// `eager_push`, the state half: "handed back are noted after all sends", which is `note_dropped` of a cached identifier for each link that handed it back, "added unless
+// the peer has 256 or all have 4,096", or it is there. Its time is that of one pass over the links, and of one over the record's column of link numbers.
 pub fn note_back(
     h: Head,
     block: &mut [u8],

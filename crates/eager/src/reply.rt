@@ -8,8 +8,6 @@ use caches::cached;
 use postcard::content;
 use postcard::content::Content;
 use postcard::message::Delivery;
-use postcard::message::Timer;
-use postcard::units::Millis;
 use postcard::units::Round;
 use rows::id::Id;
 use rows::table::Found;
@@ -41,7 +39,7 @@ pub fn reply(h: Head, block: &mut [u8], rooms: &[u64; 34], link: usize, id: Id) 
             if taken {
                 return h;
             }
-            pushes::note_cached(h, block, link, id, round)
+            pushes::note_dropped(h, block, link, id, round)
         }
         Found::Before(_) => h,
     }
@@ -71,7 +69,7 @@ pub fn reply_gains(
     }
 }
 
-// The sends of a push to one link: the message, and the record's timer behind it if it is handed back, unless flagged.
+// The sends of a push to one link: the message, and `schedule_announce_dropped` behind it if it is handed back.
 fn send_one(
     h: Head,
     block: &[u8],
@@ -90,16 +88,11 @@ fn send_one(
     let peer = links::peer_at(h, block, link);
     let taken = target::is_taken(rooms, link);
     let to = output::send_gossip(out, at, peer, taken, id, content, Delivery::Swarm(round));
-    if taken {
-        return to;
-    }
-    if h.live.announce_dropped_scheduled {
-        return to;
-    }
-    output::schedule(out, to, Millis(1000), Timer::AnnounceDropped)
+    let back = !taken;
+    ticks::schedule_announce_dropped(back, h.live.announce_dropped_scheduled, out, to)
 }
 
-// The actions of the reply, given the cached message, if any: "The content is the part of the event or of the store that holds it", here of the store.
+// `on_graft`, the actions half: the reply, given the cached message, if any. "The content is the part of the event or of the store that holds it", here of the store.
 pub fn reply_sends<'a>(
     h: Head,
     block: &'a [u8],

@@ -4,8 +4,6 @@ use crate::target::Push;
 use block::head::Head;
 use block::links;
 use postcard::message::Delivery;
-use postcard::message::Timer;
-use postcard::units::Millis;
 use postcard::units::Round;
 use rows::id::Id;
 ghost use Rattle.rows.specs.Ident.{idOf};
@@ -58,7 +56,8 @@ pub fn push_sends(
     Pushed { at: to, back }
 }
 
-// `eager_push` of a cached Swarm message: the sends, and the record's timer behind them if any was handed back, unless flagged.
+// `eager_push`, the actions half, of a cached Swarm message: the sends, ascending, and `schedule_announce_dropped` behind them all, as "handed back are noted after all
+// sends".
 pub fn eager_push(
     h: Head,
     block: &[u8],
@@ -85,11 +84,5 @@ pub fn eager_push(
         content,
         Delivery::Swarm(round),
     );
-    if p.back {
-        if h.live.announce_dropped_scheduled {
-            return p.at;
-        }
-        return output::schedule(out, p.at, Millis(1000), Timer::AnnounceDropped);
-    }
-    p.at
+    ticks::schedule_announce_dropped(p.back, h.live.announce_dropped_scheduled, out, p.at)
 }

@@ -17,8 +17,8 @@ ghost use Rattle.block.specs.View.{stateOf};
 ghost use Rattle.steps.specs.Stands.{Stands};
 ghost use Rattle.steps.specs.Rooms.{roomsIn};
 
-// The actions of a new Swarm message: "eager push, lazy push; .. optimise as `on_gossip` says; emit at r", once a first event has evicted. Its time is that
-// of the eager push.
+// `on_gossip`, the actions half, of a new Swarm message: "eager push, lazy push; .. optimise as `on_gossip` says; emit at r", once a first event has evicted. Its
+// time is that of the eager push.
 pub fn new_actions(
     h: Head,
     block: &[u8],
@@ -39,7 +39,7 @@ pub fn new_actions(
     let skip = settled::grafted_then(h, block, instant, id);
     let push = Push { sender, skip };
     let a = sends::eager_push(h, block, rooms, out, at, push, id, content, Round(next));
-    let b = ticks::dispatch_action(h, block, out, a);
+    let b = ticks::schedule_dispatch(h, block, out, a);
     let c = optimise::optimise_actions(h, block, instant, rooms, out, b, sender, id, round);
     output::emit(out, c, sender, content, Delivery::Swarm(round))
 }

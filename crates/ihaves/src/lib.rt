@@ -61,7 +61,7 @@ fn on_announced(h: Head, block: &mut [u8], id: Id, round: Round, link: usize) ->
     mark_timer(g, block, id)
 }
 
-// `on_ihave`: the entries of the message, in order. Its time is that of a look-up, and of an insertion, for each entry.
+// `on_ihave`, the state half: the entries of the message, in order. Its time is that of a look-up, and of an insertion, for each entry.
 pub fn on_ihave(
     h: Head,
     block: &mut [u8],
@@ -249,7 +249,7 @@ fn wants_timer(
     !before
 }
 
-// The actions of an IHave: a SendGraft timer for each identifier that is not received and has none, in the order of the message. Its time is that of a pass over
+// `on_ihave`, the actions half: a SendGraft timer for each identifier that is not received and has none, in the order of the message. Its time is that of a pass over
 // the entries before, for each entry.
 pub fn ihave_actions(
     h: Head,

@@ -159,7 +159,8 @@ fn first_taken(h: Head, block: &[u8], rooms: &[u64; 34], peer: u64) -> bool
     }
 }
 
-// The Prune of a copy of a message received before: to the sender, to the first sender, or none.
+// `on_late_graft_reply`, the actions half, and what `on_gossip` sends else: the Prune of a copy of a message received before, to the first sender, or to the sender, or
+// none.
 pub fn late_actions(
     h: Head,
     block: &[u8],
@@ -207,8 +208,16 @@ fn keep(h: Head, block: &mut [u8], instant: Millis, sender: u64, id: Id, link: u
     }
 }
 
-// The state after a copy of a message received before, where a first event's work is done.
-pub fn on_late(h: Head, block: &mut [u8], instant: Millis, sender: u64, id: Id, delivery: Delivery)
+// `on_late_graft_reply`, the state half, and what `on_gossip` does else: "Received before: late Graft reply (`on_late_graft_reply`), else a neighbour sender goes
+// lazy", where a first event's work is done.
+pub fn on_late_graft_reply(
+    h: Head,
+    block: &mut [u8],
+    instant: Millis,
+    sender: u64,
+    id: Id,
+    delivery: Delivery,
+)
     requires { ⌜ Stands h (now block) × (h .live .init ≡ true) ⌝ }
     ensures { λ _. ⌜ Goes (lateAfter sender (deliveryValue delivery) (idOf id)) h (now (block .entry)) h (now (block .exit)) ⌝ }
 {

@@ -45,7 +45,7 @@ pub fn on_neighbor_up(h: Head, block: &mut [u8], peer: u64) -> Head
     let f = links::find_link(h, block, peer);
     match f {
         Found::At(i) => {
-            links::set_mark(h, block, i, true);
+            links::add_eager(h, block, i);
             h
         }
         Found::Before(i) => insert_link(h, block, i, peer),

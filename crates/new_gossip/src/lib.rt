@@ -50,10 +50,10 @@ fn push_on(
     back::note_back(h, block, rooms, push, id, round)
 }
 
-// "New Swarm round r": "mark received; cache at r + 1; set a grafted entry's `first` to sender and r; eager push, lazy push; drop graft-timer mark and
-// announcers; optimise as `on_gossip` says", where a first event's work is done. Its time is that of one pass over the caches and contents, one over the
-// links, and one over the record's column of link numbers.
-pub fn on_new(
+// `on_gossip`, the state half, of a new Swarm message: "mark received; cache at r + 1; set a grafted entry's `first` to sender and r; eager push, lazy push; drop
+// graft-timer mark and announcers; optimise as `on_gossip` says", where a first event's work is done. Its time is that of one pass over the caches and contents,
+// one over the links, and one over the record's column of link numbers.
+pub fn on_gossip(
     h: Head,
     block: &mut [u8],
     instant: Millis,

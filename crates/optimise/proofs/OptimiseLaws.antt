@@ -28,13 +28,13 @@ use Rattle.decide.specs.StateAfter.{forgottenState, optimisedLinks, optimisedSt
 use Rattle.block.specs.View.{stateOf}
 use Rattle.block.specs.Sound.{Sound}
 use Rattle.block.specs.Goes.{Goes}
-use Rattle.block.specs.LinkSteps.{LinksAscend, peerAt, linkAt, markAt, linked}
+use Rattle.block.specs.LinkSteps.{LinksAscend, peerAt, linkAt, eagerAt, linked}
 use Rattle.block.specs.MissingSteps.{MissingAscend, hop, missOut}
 use Rattle.block.specs.TimerSteps.{TimersAscend, timerOut}
 use Rattle.block.specs.declared.head.Head.{Head}
 use Rattle.block.specs.declared.hops.Hop.{Hop as LinkHop}
 use Rattle.block.proofs.GoesLaws.{goes-then, goes-as, goes-still}
-use Rattle.block.proofs.LinkLaws.{count-peers, mark-there, eager-here}
+use Rattle.block.proofs.LinkLaws.{count-peers, eager-here}
 use Rattle.block.proofs.Scans.{keys-apart}
 use Rattle.steps.specs.Stands.{Stands}
 use Rattle.steps.specs.Rooms.{roomsIn}
@@ -63,12 +63,11 @@ module _ (h : Head) (xs : List ℕ) (sound : Sound h xs) (up : LinksAscend h xs)
       (ap (λ (b : Bool). withLinks (if b then s .links else addEager (peerAt s l) (s .links)) s) (sym (eager-at ∙ sym m ∙ t)))
       (goes-still sound)
 
-  pub eager-goes : (e : Bool) → e ≡ isEager (linkAt s l .value) → e ≡ false → {ys : List ℕ} → Goes (markAt l eager) h xs h ys → Goes (λ s. linked (unlessEager (peerAt s l)) s) h xs h ys
-  unfolding unlessEager addEager
+  pub eager-goes : (e : Bool) → e ≡ isEager (linkAt s l .value) → e ≡ false → {ys : List ℕ} → Goes (eagerAt l) h xs h ys → Goes (λ s. linked (unlessEager (peerAt s l)) s) h xs h ys
+  unfolding unlessEager
   eager-goes e m t a =
       goes-as (λ s. linked (unlessEager (peerAt s l)) s)
-      (mark-there s (peerAt s l) l eager (up-of (keys (s .links)) up) (link-here h xs l q)
-      ∙ ap (λ (b : Bool). withLinks (if b then s .links else addEager (peerAt s l) (s .links)) s) (sym (eager-at ∙ sym m ∙ t)))
+      (ap (λ (b : Bool). withLinks (if b then s .links else addEager (peerAt s l) (s .links)) s) (sym (eager-at ∙ sym m ∙ t)))
       a
 
   pub eager-up : {ys : List ℕ} → Goes (λ s. linked (unlessEager (peerAt s l)) s) h xs h ys → LinksAscend h ys

@@ -107,10 +107,10 @@ fn make_eager(h: Head, block: &mut [u8], link: usize)
     if eager {
         return;
     }
-    links::set_mark(h, block, link, true);
+    links::add_eager(h, block, link);
 }
 
-// `optimize_tree`: the announcer is eager, "then sender lazy".
+// `optimize_tree`, the state half: the announcer goes eager "unless eager", "then sender lazy".
 fn optimize_tree(h: Head, block: &mut [u8], sender: u64, best: Hop)
     requires { ⌜ Sound h (now block) × LinksAscend h (now block) × (best .link < h .live .links) ⌝ }
     ensures { λ _. ⌜ Goes (λ s. linked (optimisedLinks sender (hop (peerAt s (best .link)) (best .round .0))) s) h (now (block .entry)) h (now (block .exit)) ⌝ }
@@ -185,7 +185,7 @@ fn send_optimise(
     output::send_prune(out, to, sender, taken)
 }
 
-// The actions of optimising, once a first event has evicted.
+// `optimize_tree`, the actions half, where it is wanted, once a first event has evicted.
 pub fn optimise_actions(
     h: Head,
     block: &[u8],

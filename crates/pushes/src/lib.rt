@@ -14,7 +14,7 @@ ghost use Rattle.decide.specs.StateAfter.{lazyState};
 ghost use Rattle.pushes.specs.Lazy.{lazyNotes};
 ghost use Rattle.pushes.specs.Noted.{notedState, Notes};
 
-// `lazy_push`: "Lazy push skips only the sender and always schedules dispatch unless flagged". Its time is that of one pass over the links.
+// `lazy_push`, the state half: "Lazy push skips only the sender and always schedules dispatch unless flagged". Its time is that of one pass over the links.
 pub fn lazy_push(h: Head, block: &mut [u8], id: Id, round: Round, sender: u64) -> Head
     requires { ⌜ Sound h (now block) × (h .live .queued + length (lazyNotes (idOf id) (round .0) sender (stateOf h (now block) .links)) ≤ h .limits .queued) ⌝ }
     ensures { λ r. ⌜ Goes (lazyState (idOf id) (round .0) sender) h (now (block .entry)) r (now (block .exit)) ⌝ }
@@ -37,9 +37,9 @@ pub fn lazy_push(h: Head, block: &mut [u8], id: Id, round: Round, sender: u64) -
     g
 }
 
-// `note_dropped` of one cached identifier for one link: "added unless the peer has 256 or all have 4,096", or it is there. Its time is that of one pass over
-// the record's column of link numbers.
-pub fn note_cached(h: Head, block: &mut [u8], link: usize, id: Id, round: Round) -> Head
+// `note_dropped`, the state half, of one cached identifier for one link: "added unless the peer has 256 or all have 4,096", or it is there; a record that stands has
+// its flag. Its time is that of one pass over the record's column of link numbers.
+pub fn note_dropped(h: Head, block: &mut [u8], link: usize, id: Id, round: Round) -> Head
     requires { ⌜ Notes h (now block) link (idOf id) (round .0) ⌝ }
     ensures { λ r. ⌜ Goes (notedState link (idOf id) (round .0)) h (now (block .entry)) r (now (block .exit)) ⌝ }
 {

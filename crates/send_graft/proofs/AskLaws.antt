@@ -27,12 +27,12 @@ use Rattle.protocol.proofs.ConsistentTables.{ascending-removeKey, wider-insert,
 use Rattle.decide.specs.StateAfter.{askedState, sendGraftState}
 use Rattle.block.specs.View.{stateOf}
 use Rattle.block.specs.Goes.{Goes}
-use Rattle.block.specs.LinkSteps.{LinksAscend, markFor, peerAt, markAt}
+use Rattle.block.specs.LinkSteps.{LinksAscend, peerAt, markAt, eagerAt}
 use Rattle.block.specs.MissingSteps.{hop, missedAt, hopsAt, HopIs, leftAfter}
 use Rattle.block.specs.TimerSteps.{timerOut}
 use Rattle.block.specs.declared.head.Head.{Head}
 use Rattle.block.specs.declared.hops.Hop.{Hop as LinkHop}
-use Rattle.block.proofs.LinkLaws.{count-links, neighbour-here}
+use Rattle.block.proofs.LinkLaws.{count-links, neighbour-here, eager-marked}
 use Rattle.block.proofs.MissingLaws.{count-missing, count-missed}
 use Rattle.block.proofs.AnnounceLaws.{announcers-here, announcers-between, key-here}
 use Rattle.caches.specs.InBlock.{InOrder, AtMost}
@@ -123,7 +123,10 @@ module _ (h a : Head) (xs ys : List ℕ) (stands : Stands h xs) (id i : ℕ) (he
   near : isNeighbour p (st .links) ≡ true
   near = neighbour-here p link (st .links) (up-of (keys (st .links)) (links-up h xs stands)) (record { within = omega (arith, low, length-map (st .links) (λ (e : Entry Mark). e .key)); same = refl })
 
-  module _ (zs : List ℕ) (marked : Goes (markAt link (markFor true)) a ys a zs) where
+  module _ (zs : List ℕ) (grown : Goes (eagerAt link) a ys a zs) where
+    marked : Goes (markAt link eager) a ys a zs
+    marked = eager-marked a ys link left-up (omega (arith, first .below, left-links)) grown
+
     -- the state between
     abbrev mid : State
     mid = markAt link eager (leftAfter i st)

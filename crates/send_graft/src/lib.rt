@@ -43,12 +43,12 @@ fn ask_first(h: Head, block: &mut [u8], i: usize, instant: Millis, id: Id) -> He
     let link = first.link;
     let round = first.round;
     let a = missing::leave_first(h, block, i);
-    links::set_mark(a, block, link, true);
+    links::add_eager(a, block, link);
     let expires = instant.0 + h.settings.config.message_cache_retention.0;
     note::note_graft(a, block, id, link, round, Millis(expires))
 }
 
-// `on_send_graft_timer`: the mark goes; unless the message is received, its first announcer is asked. Its time is that of an insert into a time cache.
+// `on_send_graft_timer`, the state half: the mark goes; unless the message is received, its first announcer is asked. Its time is that of an insert into a time cache.
 pub fn on_send_graft_timer(h: Head, block: &mut [u8], instant: Millis, id: Id) -> Head
     requires { ⌜ Step (sendGraftState (instant .0) (idOf id)) h (now block) × (instant .0 ≤ 2 ^ 62) ⌝ }
     ensures { λ r. ⌜ Goes (sendGraftState (instant .0) (idOf id)) h (now (block .entry)) r (now (block .exit)) ⌝ }
@@ -87,7 +87,7 @@ fn ask_actions(
     output::schedule(out, next, delay, Timer::SendGraft(id))
 }
 
-// The actions of SendGraft, once a first event has evicted.
+// `on_send_graft_timer`, the actions half, once a first event has evicted: the Graft, and "after asking schedules again without marking".
 pub fn send_graft_actions(
     h: Head,
     block: &[u8],

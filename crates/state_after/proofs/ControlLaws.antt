@@ -23,10 +23,10 @@ use Rattle.protocol.proofs.ConsistentTables.{wider-insert}
 use Rattle.decide.specs.StateAfter.{replyState, graftState}
 use Rattle.block.specs.View.{stateOf}
 use Rattle.block.specs.Goes.{Goes}
-use Rattle.block.specs.LinkSteps.{peerAt, markAt, linked}
+use Rattle.block.specs.LinkSteps.{peerAt, markAt, eagerAt, linked}
 use Rattle.block.specs.declared.head.Head.{Head}
 use Rattle.block.proofs.GoesLaws.{goes-as}
-use Rattle.block.proofs.LinkLaws.{count-peers, mark-there}
+use Rattle.block.proofs.LinkLaws.{count-peers, mark-there, eager-marked}
 use Rattle.steps.specs.Rooms.{roomsIn}
 use Rattle.steps.specs.Stands.{Stands, Step}
 use Rattle.steps.proofs.StandsLaws.{links-up}
@@ -77,9 +77,9 @@ module _ (h : Head) (xs : List ℕ) (stands : Stands h xs) (l : ℕ) (low : l < 
 
   -- a Graft
   module _ (array : List ℕ) where
-    pub eager-only : (ys : List ℕ) → Goes (markAt l eager) h xs h ys → Goes (graftedAt array l none) h xs h ys
-    unfolding addEager graftState
-    eager-only ys g = goes-as (graftedAt array l none) (marked-there eager) g
+    pub eager-only : (ys : List ℕ) → Goes (eagerAt l) h xs h ys → Goes (graftedAt array l none) h xs h ys
+    unfolding graftState
+    eager-only ys g = record { state = g .state; sound = g .sound }
 
     replied : (id : ℕ) → repliedState array l id (markAt l eager s) ≡ graftedAt array l (some id) s
     unfolding addEager graftState
@@ -88,12 +88,13 @@ module _ (h : Head) (xs : List ℕ) (stands : Stands h xs) (l : ℕ) (low : l < 
         let peer : peerAt (markAt l eager s) l ≡ p = ap (λ (ks : List ℕ). getD ks l 0) (same-keys eager) in
         λ k. replyState (rooms k) (peer k) id (get id (s .cache)) (marked-there eager k)
 
-    pub graft-replies : (id : ℕ) (ys : List ℕ) → Step (graftedAt array l (some id)) h xs → Goes (markAt l eager) h xs h ys → Replies h ys array l id
+    pub graft-replies : (id : ℕ) (ys : List ℕ) → Step (graftedAt array l (some id)) h xs → Goes (eagerAt l) h xs h ys → Replies h ys array l id
     graft-replies id ys step g =
+        let m : Goes (markAt l eager) h xs h ys = eager-marked h xs l (links-up h xs stands) low g in
         replies h ys array l id (record {
-          stands = marked-stands eager ys g;
-          fits = ap (λ (t : State). fits t) (ap (repliedState array l id) (g .state) ∙ replied id) ∙ step .fits;
+          stands = marked-stands eager ys m;
+          fits = ap (λ (t : State). fits t) (ap (repliedState array l id) (m .state) ∙ replied id) ∙ step .fits;
         }) low
 
-    pub graft-goes : (id : ℕ) (ys : List ℕ) (r : Head) (zs : List ℕ) → Goes (markAt l eager) h xs h ys → Goes (repliedState array l id) h ys r zs → Goes (graftedAt array l (some id)) h xs r zs
-    graft-goes id ys r zs g e = record { state = e .state ∙ ap (repliedState array l id) (g .state) ∙ replied id; sound = e .sound }
+    pub graft-goes : (id : ℕ) (ys : List ℕ) (r : Head) (zs : List ℕ) → Goes (eagerAt l) h xs h ys → Goes (repliedState array l id) h ys r zs → Goes (graftedAt array l (some id)) h xs r zs
+    graft-goes id ys r zs g e = record { state = e .state ∙ ap (repliedState array l id) (eager-marked h xs l (links-up h xs stands) low g .state) ∙ replied id; sound = e .sound }

@@ -50,7 +50,7 @@ pub fn step_state(
             id,
             delivery,
         } => {
-            late::on_late(h, block, instant, sender, id, delivery);
+            late::on_late_graft_reply(h, block, instant, sender, id, delivery);
             h
         }
         Step::Prune { link } => {
@@ -71,7 +71,7 @@ pub fn step_state(
         } => h,
         Step::SendGraft(id) => send_graft::on_send_graft_timer(h, block, instant, id),
         Step::DispatchLazyPush => dispatch::on_dispatch_timer(h, block, rooms),
-        Step::EvictCache => taking::evict(h, block, instant),
+        Step::EvictCache => taking::on_evict_cache_timer(h, block, instant),
         Step::AnnounceDropped => announce::on_announce_dropped_timer(h, block),
     }
 }

@@ -32,7 +32,7 @@ pub fn new_swarm(
     ensures { λ r. ⌜ Goes (newIn (instant .0) (now (rooms .entry)) sender (idOf id) (part start len (now (event .entry))) (round .0)) h (now (block .entry)) r (now (block .exit)) ⌝ }
 {
     let end = start + len;
-    new_gossip::on_new(
+    new_gossip::on_gossip(
         h,
         block,
         instant,
@@ -59,5 +59,5 @@ pub fn broadcast_swarm(
     ensures { λ r. ⌜ Goes (broadcastIn (instant .0) (now (rooms .entry)) (idOf id) (part start len (now (event .entry)))) h (now (block .entry)) r (now (block .exit)) ⌝ }
 {
     let end = start + len;
-    broadcast::on_broadcast(h, block, instant, rooms, id, &event[start..end])
+    broadcast::broadcast(h, block, instant, rooms, id, &event[start..end])
 }

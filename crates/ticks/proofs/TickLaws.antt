@@ -1,15 +1,16 @@
 -- The bytes of the timers, by the header's flags and settings; and that a first event's eviction changes none of them.
 -- Assumes nothing.
 use mathlib.Core.Path.{_≡_, refl, ap, _∙_}
-use mathlib.Core.Bool.{Bool, true, false}
+use mathlib.Core.Bool.{Bool, true, false, not, _&&_}
 use mathlib.Core.List.{List, [], _∷_}
 use Prim.Native.Nat.{ℕ}
-use Rattle.lists.specs.Base.{if_then_else_, concatMap}
+use Rattle.lists.specs.Base.{if_then_else_, isEmpty, concatMap}
 use Rattle.lists.proofs.Branches.{if-on, if-same}
-use Rattle.postcard.specs.Message.{Scheduled, DispatchLazyPush, EvictCache, actionBytes}
+use Rattle.postcard.specs.Message.{Scheduled, DispatchLazyPush, EvictCache, AnnounceDropped, actionBytes}
 use Rattle.protocol.specs.State.{State}
 use Rattle.decide.specs.Settled.{settled, settledActions}
-use Rattle.decide.specs.ActionsAfter.{evictActions, dispatchAction}
+use Rattle.decide.specs.RecordGrowth.{noteAction}
+use Rattle.decide.specs.ActionsAfter.{evictActions, dispatchAction, announceAction}
 use Rattle.block.specs.View.{stateOf}
 use Rattle.block.specs.declared.head.Head.{Head}
 use Rattle.ticks.proofs.ActionLaws.{no-action, one-action}
@@ -39,6 +40,30 @@ module _ (h : Head) (xs : List ℕ) where
   pub first-due : h .live .init ≡ false → concatMap actionBytes (settledActions (stateOf h xs)) ≡ concatMap actionBytes (evictActions (stateOf h xs))
   unfolding settledActions evictActions stateOf
   first-due e = ap (λ (b : Bool). concatMap actionBytes (if b then [] else Scheduled (h .settings .config .«cache_evict_interval» .0) EvictCache ∷ [])) e
+
+module _ (stands flag : Bool) where
+  pub announce-flagged : flag ≡ true → concatMap actionBytes (announceAction stands flag) ≡ []
+  unfolding announceAction
+  announce-flagged e = ap (λ (f : Bool). concatMap actionBytes (announceAction stands f)) e ∙ none stands ∙ no-action
+    where
+      none : (b : Bool) → concatMap actionBytes (if b && not true then Scheduled 1000 AnnounceDropped ∷ [] else []) ≡ concatMap actionBytes []
+      none true = refl
+      none false = refl
+
+  pub announce-none : stands ≡ false → concatMap actionBytes (announceAction stands flag) ≡ []
+  unfolding announceAction
+  announce-none e = ap (λ (b : Bool). concatMap actionBytes (if b && not flag then Scheduled 1000 AnnounceDropped ∷ [] else [])) e ∙ no-action
+
+  pub announce-due : stands ≡ true → flag ≡ false → concatMap actionBytes (announceAction stands flag) ≡ actionBytes (Scheduled 1000 AnnounceDropped)
+  unfolding announceAction
+  announce-due b f = (λ k. concatMap actionBytes (announceAction (b k) (f k))) ∙ one-action (Scheduled 1000 AnnounceDropped)
+
+-- a message that is noted for anybody makes a record stand
+pub noted-announce : (back : List ℕ) (flag : Bool) → noteAction back flag ≡ announceAction (not (isEmpty back)) flag
+unfolding noteAction announceAction
+noted-announce [] flag = refl
+noted-announce (p ∷ ps) true = refl
+noted-announce (p ∷ ps) false = refl
 
 module _ (instant : ℕ) (s : State) where
   pub settled-dispatch : dispatchAction (settled instant s) ≡ dispatchAction s

@@ -1,15 +1,16 @@
 // The actions that schedule a timer by a flag and a setting alone.
 use block::head::Head;
 use postcard::message::Timer;
+use postcard::units::Millis;
 ghost use Rattle.lists.specs.Base.{concatMap};
 ghost use Rattle.postcard.specs.Message.{actionBytes};
 ghost use Rattle.block.specs.View.{stateOf};
 ghost use Rattle.decide.specs.Settled.{settledActions};
-ghost use Rattle.decide.specs.ActionsAfter.{evictActions, dispatchAction};
+ghost use Rattle.decide.specs.ActionsAfter.{evictActions, dispatchAction, announceAction};
 ghost use Rattle.output.specs.Written.{Told, Written};
 
-// "schedules dispatch unless flagged".
-pub fn dispatch_action(h: Head, block: &[u8], out: &mut [u8], at: usize) -> usize
+// `schedule_dispatch`, the actions half: "schedules dispatch unless flagged".
+pub fn schedule_dispatch(h: Head, block: &[u8], out: &mut [u8], at: usize) -> usize
     requires { ⌜ Told (concatMap actionBytes (dispatchAction (stateOf h (now block)))) at ⌝ }
     ensures { λ r. ⌜ Written (concatMap actionBytes (dispatchAction (stateOf h (now (block .entry))))) (now (out .entry)) at (now (out .exit)) r ⌝ }
 {
@@ -20,7 +21,22 @@ pub fn dispatch_action(h: Head, block: &[u8], out: &mut [u8], at: usize) -> usiz
     output::schedule(out, at, delay, Timer::DispatchLazyPush)
 }
 
-// `on_evict_cache_timer`: "then schedules itself".
+// `schedule_announce_dropped`, the actions half: "a nonempty record and a clear flag schedule AnnounceDropped (1,000)". `stands` tells whether anything was to be
+// noted, or is left: a record that stood before has its flag.
+pub fn schedule_announce_dropped(stands: bool, flag: bool, out: &mut [u8], at: usize) -> usize
+    requires { ⌜ Told (concatMap actionBytes (announceAction stands flag)) at ⌝ }
+    ensures { λ r. ⌜ Written (concatMap actionBytes (announceAction stands flag)) (now (out .entry)) at (now (out .exit)) r ⌝ }
+{
+    if flag {
+        return at;
+    }
+    if stands {
+        return output::schedule(out, at, Millis(1000), Timer::AnnounceDropped);
+    }
+    at
+}
+
+// `on_evict_cache_timer`, the actions half: "then schedules itself".
 pub fn evict_actions(h: Head, block: &[u8], out: &mut [u8], at: usize) -> usize
     requires { ⌜ Told (concatMap actionBytes (evictActions (stateOf h (now block)))) at ⌝ }
     ensures { λ r. ⌜ Written (concatMap actionBytes (evictActions (stateOf h (now (block .entry))))) (now (out .entry)) at (now (out .exit)) r ⌝ }

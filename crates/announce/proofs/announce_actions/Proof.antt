@@ -1,13 +1,14 @@
 -- `announce_actions` meets its contract: dispatch if a queue stands, then itself if a record does.
 -- Assumes nothing.
 use mathlib.Core.Path.{sym}
-use mathlib.Core.List.{[], _∷_}
+use mathlib.Core.Bool.{false}
+use lib.Dec.{ltb}
 use native.Mathlib.Omega.{arith}
 use Rattle.lists.specs.Base.{concatMap}
-use Rattle.postcard.specs.Message.{Scheduled, AnnounceDropped, actionBytes}
+use Rattle.postcard.specs.Message.{actionBytes}
+use Rattle.decide.specs.ActionsAfter.{announceAction}
 use Rattle.output.proofs.WrittenLaws.{written-then, told-first, told-then}
 use Rattle.ticks.proofs.ActionLaws.{told-as, written-as}
-use Rattle.announce.specs.Counted.{ifAny}
 use Rattle.announce.proofs.ActionLaws.{queued-few, announce-bytes}
 use borrow.Author.Needs.{needs}
 use Rattle.announce.proofs.announce_actions.Statement.{statement}
@@ -27,12 +28,12 @@ dispatch-if-any-requires c κs =
     let m = c .before .before .before in
     let s = m .before .before .before in
     let r = m .count-moved .result in
-    told-first (concatMap actionBytes (ifAny (r .left) (Scheduled 1000 AnnounceDropped ∷ [])))
+    told-first (concatMap actionBytes (announceAction (ltb 0 (r .left)) false))
     (told-as (announce-bytes (s .args .instant .0) (s .args .h) (s .args .block .now) (s .pre .0) r (m .count-moved .ensures)) (s .pre .1))
 
-announce-if-any-requires : tie.Need-announce-if-any-requires
-announce-if-any-requires c κs =
-    let d = c .before .before .before in
+schedule-announce-dropped-requires : tie.Need-schedule-announce-dropped-requires
+schedule-announce-dropped-requires c κs =
+    let d = c .before .before .before .before in
     let m = d .before .before .before .before in
     let s = m .before .before .before in
     let r = m .count-moved .result in
@@ -45,12 +46,12 @@ same-length c = search needs
 returns : tie.Need-returns
 returns c =
     let e = c .before .before in
-    let d = e .before .before .before .before in
+    let d = e .before .before .before .before .before in
     let m = d .before .before .before .before in
     let s = m .before .before .before in
     let r = m .count-moved .result in
     written-as (sym (announce-bytes (s .args .instant .0) (s .args .h) (s .args .block .now) (s .pre .0) r (m .count-moved .ensures)))
-    (written-then (d .dispatch-if-any .ensures) (e .announce-if-any .ensures))
+    (written-then (d .dispatch-if-any .ensures) (e .schedule-announce-dropped .ensures))
 
 pub announce-actions-spec : {M : Type 1} → statement M
 announce-actions-spec =
@@ -59,6 +60,6 @@ announce-actions-spec =
     count-moved-requires
     add-queued
     dispatch-if-any-requires
-    announce-if-any-requires
+    schedule-announce-dropped-requires
     same-length
     returns)

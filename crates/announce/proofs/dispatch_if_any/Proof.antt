@@ -15,8 +15,8 @@ returns c =
     let a = c .before .before .before .args in
     written-as (sym (none-bytes (a .n) (dispatchAction (stateOf (a .h) (a .block .now))) (c .if1 .taken))) (written-none (a .out .now) (a .at))
 
-dispatch-action-requires : tie.Need-dispatch-action-requires
-dispatch-action-requires c κs =
+schedule-dispatch-requires : tie.Need-schedule-dispatch-requires
+schedule-dispatch-requires c κs =
     let s = c .before .before .before .before in
     told-as (some-bytes (s .args .n) (dispatchAction (stateOf (s .args .h) (s .args .block .now))) (c .before .if1 .left)) (s .pre)
 
@@ -27,13 +27,13 @@ returns-2 : tie.Need-returns-2
 returns-2 c =
     let m = c .before .before in
     let a = m .before .before .before .before .before .args in
-    written-as (sym (some-bytes (a .n) (dispatchAction (stateOf (a .h) (a .block .now))) (m .before .before .if1 .left))) (m .dispatch-action .ensures)
+    written-as (sym (some-bytes (a .n) (dispatchAction (stateOf (a .h) (a .block .now))) (m .before .before .if1 .left))) (m .schedule-dispatch .ensures)
 
 pub dispatch-if-any-spec : {M : Type 1} → statement M
 dispatch-if-any-spec =
     tie.close
     (tie.spec
     returns
-    dispatch-action-requires
+    schedule-dispatch-requires
     same-length
     returns-2)

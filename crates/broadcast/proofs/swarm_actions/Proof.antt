@@ -15,8 +15,8 @@ use borrow.Author.Needs.{needs}
 use Rattle.broadcast.proofs.swarm_actions.Statement.{statement}
 use Rattle.broadcast.proofs.swarm_actions.Tie as tie
 
-dispatch-action-requires : tie.Need-dispatch-action-requires
-dispatch-action-requires c κs =
+schedule-dispatch-requires : tie.Need-schedule-dispatch-requires
+schedule-dispatch-requires c κs =
     let s = c .before .before .before .before in
     let a = s .args in
     let st = stateOf (a .h) (a .block .now) in
@@ -25,7 +25,7 @@ dispatch-action-requires c κs =
 
 eager-push-requires : tie.Need-eager-push-requires
 eager-push-requires c κs =
-    let d = c .before .before .before .dispatch-action in
+    let d = c .before .before .before .schedule-dispatch in
     let s = c .before .before .before .before .before .before .before .before in
     let a = s .args in
     (pushing (a .h) (a .block .now) Nothing (s .pre .0) tt, told-then (d .ensures) (told-as (swarm-bytes (a .instant .0) (a .rooms .now) (idOf (a .id)) (a .content .now) (a .h) (a .block .now)) (s .pre .1)))
@@ -36,10 +36,10 @@ same-length c = search needs
 returns : tie.Need-returns
 returns c =
     let e = c .before .before .eager-push in
-    let d = c .before .before .before .before .before .before .dispatch-action in
+    let d = c .before .before .before .before .before .before .schedule-dispatch in
     let s = c .before .before .before .before .before .before .before .before .before .before .before in
     let a = s .args in
     written-as (sym (swarm-bytes (a .instant .0) (a .rooms .now) (idOf (a .id)) (a .content .now) (a .h) (a .block .now))) (written-then (d .ensures) (e .ensures))
 
 pub swarm-actions-spec : {M : Type 1} → statement M
-swarm-actions-spec = tie.close (tie.spec dispatch-action-requires eager-push-requires same-length returns)
+swarm-actions-spec = tie.close (tie.spec schedule-dispatch-requires eager-push-requires same-length returns)

@@ -70,14 +70,14 @@ returns-3 c =
     added (a .link) (idOf (a .id)) (a .round .0) (a .h) (a .block .now) (asks d) (scan d) (scanned d (q .before .before .if4 .taken)) (d .before .before .before .before .before .if1 .left) (d .before .before .before .if2 .left) refl
     (q .push-dropped .result) (q .push-dropped .last .1 .0) (q .push-dropped .ensures)
 
-note-cached-requires : tie.Need-note-cached-requires
-note-cached-requires c κs = asks (c .before .before)
+note-dropped-requires : tie.Need-note-dropped-requires
+note-dropped-requires c κs = asks (c .before .before)
 
 same-length-2 : tie.Need-same-length-2
 same-length-2 c = search needs
 
 returns-4 : tie.Need-returns-4
-returns-4 c = c .before .before .note-cached .ensures
+returns-4 c = c .before .before .note-dropped .ensures
 
 same-length-3 : tie.Need-same-length-3
 same-length-3 c = search needs
@@ -98,7 +98,7 @@ note-one-spec =
     push-dropped-requires
     same-length
     returns-3
-    note-cached-requires
+    note-dropped-requires
     same-length-2
     returns-4
     same-length-3

@@ -25,8 +25,8 @@ eager-push-requires c κs =
       told-first _ (told-first _ (told-first _ (told-as (new-bytes (a .instant .0) (stateOf (a .h) (a .block .now)) (a .rooms .now) (a .sender) (idOf (a .id)) (a .content .now) (a .round .0) (c .before .grafted-then .result) (c .before .grafted-then .ensures)) (s .pre .1)))),
     )
 
-dispatch-action-requires : tie.Need-dispatch-action-requires
-dispatch-action-requires c κs =
+schedule-dispatch-requires : tie.Need-schedule-dispatch-requires
+schedule-dispatch-requires c κs =
     let s = c .before .before .before .before .before .before .before .before .before .before in
     let a = s .args in
     told-then (c .before .before .before .eager-push .ensures) (told-first _ (told-first _ (told-as (new-bytes (a .instant .0) (stateOf (a .h) (a .block .now)) (a .rooms .now) (a .sender) (idOf (a .id)) (a .content .now) (a .round .0) (c .before .before .before .before .before .grafted-then .result) (c .before .before .before .before .before .grafted-then .ensures)) (s .pre .1))))
@@ -35,13 +35,13 @@ optimise-actions-requires : tie.Need-optimise-actions-requires
 optimise-actions-requires c κs =
     let s = c .before .before .before .before .before .before .before .before .before .before .before .before .before .before in
     let a = s .args in
-    (s .pre .0, told-then (written-then (c .before .before .before .before .before .before .before .eager-push .ensures) (c .before .before .before .dispatch-action .ensures)) (told-first _ (told-as (new-bytes (a .instant .0) (stateOf (a .h) (a .block .now)) (a .rooms .now) (a .sender) (idOf (a .id)) (a .content .now) (a .round .0) (c .before .before .before .before .before .before .before .before .before .grafted-then .result) (c .before .before .before .before .before .before .before .before .before .grafted-then .ensures)) (s .pre .1))))
+    (s .pre .0, told-then (written-then (c .before .before .before .before .before .before .before .eager-push .ensures) (c .before .before .before .schedule-dispatch .ensures)) (told-first _ (told-as (new-bytes (a .instant .0) (stateOf (a .h) (a .block .now)) (a .rooms .now) (a .sender) (idOf (a .id)) (a .content .now) (a .round .0) (c .before .before .before .before .before .before .before .before .before .grafted-then .result) (c .before .before .before .before .before .before .before .before .before .grafted-then .ensures)) (s .pre .1))))
 
 emit-requires : tie.Need-emit-requires
 emit-requires c κs =
     let s = c .before .before .before .before .before .before .before .before .before .before .before .before .before .before .before .before .before .before in
     let a = s .args in
-    told-then (written-then (written-then (c .before .before .before .before .before .before .before .before .before .before .before .eager-push .ensures) (c .before .before .before .before .before .before .before .dispatch-action .ensures)) (c .before .before .before .optimise-actions .ensures)) (told-as (new-bytes (a .instant .0) (stateOf (a .h) (a .block .now)) (a .rooms .now) (a .sender) (idOf (a .id)) (a .content .now) (a .round .0) (c .before .before .before .before .before .before .before .before .before .before .before .before .before .grafted-then .result) (c .before .before .before .before .before .before .before .before .before .before .before .before .before .grafted-then .ensures)) (s .pre .1))
+    told-then (written-then (written-then (c .before .before .before .before .before .before .before .before .before .before .before .eager-push .ensures) (c .before .before .before .before .before .before .before .schedule-dispatch .ensures)) (c .before .before .before .optimise-actions .ensures)) (told-as (new-bytes (a .instant .0) (stateOf (a .h) (a .block .now)) (a .rooms .now) (a .sender) (idOf (a .id)) (a .content .now) (a .round .0) (c .before .before .before .before .before .before .before .before .before .before .before .before .before .grafted-then .result) (c .before .before .before .before .before .before .before .before .before .before .before .before .before .grafted-then .ensures)) (s .pre .1))
 
 same-length : tie.Need-same-length
 same-length c = search needs
@@ -50,7 +50,7 @@ returns : tie.Need-returns
 returns c =
     let s = c .before .before .before .before .before .before .before .before .before .before .before .before .before .before .before .before .before .before .before .before .before in
     let a = s .args in
-    written-as (sym (new-bytes (a .instant .0) (stateOf (a .h) (a .block .now)) (a .rooms .now) (a .sender) (idOf (a .id)) (a .content .now) (a .round .0) (c .before .before .before .before .before .before .before .before .before .before .before .before .before .before .before .before .grafted-then .result) (c .before .before .before .before .before .before .before .before .before .before .before .before .before .before .before .before .grafted-then .ensures))) (written-then (written-then (written-then (c .before .before .before .before .before .before .before .before .before .before .before .before .before .before .eager-push .ensures) (c .before .before .before .before .before .before .before .before .before .before .dispatch-action .ensures)) (c .before .before .before .before .before .before .optimise-actions .ensures)) (c .before .before .emit .ensures))
+    written-as (sym (new-bytes (a .instant .0) (stateOf (a .h) (a .block .now)) (a .rooms .now) (a .sender) (idOf (a .id)) (a .content .now) (a .round .0) (c .before .before .before .before .before .before .before .before .before .before .before .before .before .before .before .before .grafted-then .result) (c .before .before .before .before .before .before .before .before .before .before .before .before .before .before .before .before .grafted-then .ensures))) (written-then (written-then (written-then (c .before .before .before .before .before .before .before .before .before .before .before .before .before .before .eager-push .ensures) (c .before .before .before .before .before .before .before .before .before .before .schedule-dispatch .ensures)) (c .before .before .before .before .before .before .optimise-actions .ensures)) (c .before .before .emit .ensures))
 
 pub new-actions-spec : {M : Type 1} → statement M
 new-actions-spec =
@@ -59,7 +59,7 @@ new-actions-spec =
     add-next
     grafted-then-requires
     eager-push-requires
-    dispatch-action-requires
+    schedule-dispatch-requires
     optimise-actions-requires
     emit-requires
     same-length

@@ -9,7 +9,7 @@ use Rattle.lists.specs.Map.{keys, insert}
 use Rattle.protocol.specs.Links.{eager, linkUp}
 use Rattle.protocol.specs.State.{withLinks}
 use Rattle.block.specs.View.{stateOf}
-use Rattle.block.proofs.LinkLaws.{count-peers, neighbour-between}
+use Rattle.block.proofs.LinkLaws.{count-peers, neighbour-between, eager-marked}
 use native.Mathlib.Omega.{arith}
 use borrow.Author.Needs.{needs}
 use Rattle.neighbours.proofs.on_neighbor_up.Statement.{statement}
@@ -35,8 +35,8 @@ find-link-requires c κs = search needs
 enum-known-f : tie.Need-enum-known-f
 enum-known-f c = search needs
 
-set-mark-requires : tie.Need-set-mark-requires
-set-mark-requires c κs =
+add-eager-requires : tie.Need-add-eager-requires
+add-eager-requires c κs =
     let f = c .before .before in
     let s = f .before .before .before .before .before in
     (s .pre .0, s .pre .1, omega (arith, here f .within, count-peers (s .args .h) (s .args .block .now)))
@@ -59,7 +59,7 @@ unfolding linkUp
 returns c =
     let f = c .before .before .before .before .before in
     let s = f .before .before .before .before .before in
-    let g = c .before .before .set-mark .ensures in
+    let g = eager-marked (s .args .h) (s .args .block .now) (f .f .given .0 .0) (s .pre .1) (omega (arith, here f .within, count-peers (s .args .h) (s .args .block .now))) (c .before .before .add-eager .ensures) in
     let st = stateOf (s .args .h) (s .args .block .now) in
     record { state = g .state ∙ ap (λ (k : ℕ). withLinks (insert k eager (st .links)) st) (here f .same); sound = g .sound }
 
@@ -75,7 +75,7 @@ on-neighbor-up-spec =
     (tie.spec
     find-link-requires
     enum-known-f
-    set-mark-requires
+    add-eager-requires
     enum-known-f-2
     insert-link-requires
     same-length

@@ -17,8 +17,8 @@ returns c =
     let s = c .before .before .before .before in
     eager-still (s .args .h) (s .args .block .now) (s .pre .0) (s .pre .1) (s .args .link) (s .pre .2) (c .before .eager-at .result) (c .before .eager-at .ensures) (c .if1 .taken)
 
-set-mark-requires : tie.Need-set-mark-requires
-set-mark-requires c κs = search needs
+add-eager-requires : tie.Need-add-eager-requires
+add-eager-requires c κs = search needs
 
 same-length-2 : tie.Need-same-length-2
 same-length-2 c = search needs
@@ -27,7 +27,7 @@ returns-2 : tie.Need-returns-2
 returns-2 c =
     let e = c .before .before .before .before .before in
     let s = c .before .before .before .before .before .before .before .before in
-    eager-goes (s .args .h) (s .args .block .now) (s .pre .0) (s .pre .1) (s .args .link) (s .pre .2) (e .eager-at .result) (e .eager-at .ensures) (c .before .before .before .before .if1 .left) (c .before .before .set-mark .ensures)
+    eager-goes (s .args .h) (s .args .block .now) (s .pre .0) (s .pre .1) (s .args .link) (s .pre .2) (e .eager-at .result) (e .eager-at .ensures) (c .before .before .before .before .if1 .left) (c .before .before .add-eager .ensures)
 
 pub make-eager-spec : {M : Type 1} → statement M
 make-eager-spec =
@@ -36,6 +36,6 @@ make-eager-spec =
     eager-at-requires
     same-length
     returns
-    set-mark-requires
+    add-eager-requires
     same-length-2
     returns-2)

@@ -24,8 +24,8 @@ leave-first-requires c κs =
     let s = c .before .before .before .before .before in
     (s .pre .0 .stands .sound, missing-up (s .args .h) (s .args .block .now) (s .pre .0 .stands), low s, some-hops (s .args .h) (s .args .block .now) (s .pre .0 .stands) (s .args .i) (low s))
 
-set-mark-requires : tie.Need-set-mark-requires
-set-mark-requires c κs =
+add-eager-requires : tie.Need-add-eager-requires
+add-eager-requires c κs =
     let s = c .before .before .before .before .before .before .before .before .before in
     let a = s .args in
     let l = c .before .before .before .leave-first in
@@ -46,7 +46,7 @@ note-graft-requires c κs =
     let a = s .args in
     let l = c .before .before .before .before .before .before .before .before .before .leave-first in
     let f = c .before .before .before .before .before .before .before .before .before .before .before .before .announcer-at in
-    let k = c .before .before .before .before .before .set-mark in (
+    let k = c .before .before .before .before .before .add-eager in (
       grafting (a .h) (l .result) (a .block .now) (l .last .1 .0) (s .pre .0 .stands) (idOf (a .id)) (a .i) (s .pre .2) (f .result) (f .ensures) (l .ensures) (k .last .1 .0) (k .ensures),
       omega (arith, f .ensures .below, left-links (a .h) (l .result) (a .block .now) (l .last .1 .0) (s .pre .0 .stands) (idOf (a .id)) (a .i) (s .pre .2) (f .result) (f .ensures) (l .ensures)),
       most (a .h) (l .result) (a .block .now) (l .last .1 .0) (s .pre .0 .stands) (idOf (a .id)) (a .i) (s .pre .2) (f .result) (f .ensures) (l .ensures) (k .last .1 .0) (k .ensures) (a .instant .0) (s .pre .0 .fits),
@@ -54,7 +54,7 @@ note-graft-requires c κs =
 
 same-length : tie.Need-same-length
 same-length c =
-    c .before .before .note-graft .kept .1 .0 ∙ c .before .before .before .before .before .before .before .before .set-mark .kept .1 .0 ∙ c .before .before .before .before .before .before .before .before .before .before .before .before .leave-first .kept .1 .0
+    c .before .before .note-graft .kept .1 .0 ∙ c .before .before .before .before .before .before .before .before .add-eager .kept .1 .0 ∙ c .before .before .before .before .before .before .before .before .before .before .before .before .leave-first .kept .1 .0
 
 returns : tie.Need-returns
 returns c =
@@ -62,7 +62,7 @@ returns c =
     let a = s .args in
     let l = c .before .before .before .before .before .before .before .before .before .before .before .before .leave-first in
     let f = c .before .before .before .before .before .before .before .before .before .before .before .before .before .before .before .announcer-at in
-    let k = c .before .before .before .before .before .before .before .before .set-mark in
+    let k = c .before .before .before .before .before .before .before .before .add-eager in
     let g = c .before .before .note-graft .ensures in
     record {
       state = g .state ∙ asked (a .h) (l .result) (a .block .now) (l .last .1 .0) (s .pre .0 .stands) (idOf (a .id)) (a .i) (s .pre .2) (f .result) (f .ensures) (l .ensures) (k .last .1 .0) (k .ensures) (a .instant .0);
@@ -75,7 +75,7 @@ ask-first-spec =
     (tie.spec
     announcer-at-requires
     leave-first-requires
-    set-mark-requires
+    add-eager-requires
     add-expires
     note-graft-requires
     same-length

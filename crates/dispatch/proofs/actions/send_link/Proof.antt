@@ -145,8 +145,8 @@ module _ (m : tie.After-min Inv-loop μ-loop) where
   taken-is : taken ≡ kthTaken nth (p s) (brought s)
   taken-is = sym (kth-link (st s) (s .args .rooms .now) nth (s .args .link) (links-up (s .args .h) (s .args .block .now) (s .pre .0)) (omega (arith, count-links (s .args .h) (s .args .block .now), s .pre .1)) nth-small)
 
-send-chunk-requires : tie.Need-send-chunk-requires Inv-loop μ-loop
-send-chunk-requires c κs =
+send-ihave-requires : tie.Need-send-ihave-requires Inv-loop μ-loop
+send-ihave-requires c κs =
     let m = c .before in (
       s m .pre .0,
       s m .pre .1,
@@ -172,12 +172,12 @@ loop-again : tie.Need-loop-again Inv-loop μ-loop
 loop-again c =
     let f = c .before .before in
     let m = f .before .before in
-    let r = f .send-chunk .ensures in (
+    let r = f .send-ihave .ensures in (
       omega (arith, ap length (r .rest), length-drop (count m) (hs m), left-is m),
       omega (arith, r .within, count-queue (s m .args .h) (s m .args .block .now) (s m .pre .0 .sound)),
       omega (arith, m .before .before .loop .inv .2, count-some m, count-few m, left-is m),
       search needs,
-      link-next (m .before .before .loop .inv .4) (count m) (taken m) (some m) (numbers (s m) .some) (count-is m) (taken-is m) (f .send-chunk .last .1 .1 .1 .1 .1 .1 .1 .1 .0) (f .send-chunk .result .at) (f .send-chunk .result .flag) (toSend (s m .args .link) (f .send-chunk .result .row) (st (s m))) (r .written) (r .flags) (r .rest),
+      link-next (m .before .before .loop .inv .4) (count m) (taken m) (some m) (numbers (s m) .some) (count-is m) (taken-is m) (f .send-ihave .last .1 .1 .1 .1 .1 .1 .1 .1 .0) (f .send-ihave .result .at) (f .send-ihave .result .flag) (toSend (s m .args .link) (f .send-ihave .result .row) (st (s m))) (r .written) (r .flags) (r .rest),
     )
 
 same-length : tie.Need-same-length Inv-loop μ-loop
@@ -202,7 +202,7 @@ send-link-spec =
     count-queued-requires
     loop-holds
     min-requires
-    send-chunk-requires
+    send-ihave-requires
     sub-left
     add-nth
     loop-less

@@ -56,8 +56,8 @@ returns c =
     let a = s .args in
     reply-taken (a .rooms .now) (a .link) (idOf (a .id)) (a .h) (a .block .now) (s .pre) (f .f .given .0 .0) (here f) (sym (c .before .is-taken .ensures) ∙ c .if1 .taken)
 
-note-cached-requires : tie.Need-note-cached-requires
-note-cached-requires c κs =
+note-dropped-requires : tie.Need-note-dropped-requires
+note-dropped-requires c κs =
     let k = c .before .before in
     let f = k .before .before .before .before in
     let s = f .before .before .before .before .before in
@@ -78,7 +78,7 @@ returns-2 c =
     let s = f .before .before .before .before .before in
     let a = s .args in
     reply-noted (a .rooms .now) (a .link) (idOf (a .id)) (a .h) (a .block .now) (s .pre) (f .f .given .0 .0) (here f) (k .before .cached-round .result .0) (k .before .cached-round .ensures) (sym (k .is-taken .ensures) ∙ v .before .before .if1 .left)
-    (v .note-cached .result) (v .note-cached .last .1 .0) (v .note-cached .ensures)
+    (v .note-dropped .result) (v .note-dropped .last .1 .0) (v .note-dropped .ensures)
 
 same-length-3 : tie.Need-same-length-3
 same-length-3 c = search needs
@@ -100,7 +100,7 @@ reply-spec =
     is-taken-requires
     same-length
     returns
-    note-cached-requires
+    note-dropped-requires
     enum-told
     same-length-2
     returns-2

@@ -1,20 +1,23 @@
--- `reply::send_one` meets its contract: the send, and behind it the record's timer or nothing.
+-- `reply::send_one` meets its contract: the send, and behind it `schedule_announce_dropped`.
 -- Assumes nothing.
-use mathlib.Core.Path.{_≡_}
-use mathlib.Core.Bool.{Bool, true, false}
+use mathlib.Core.Path.{_≡_, refl}
+use mathlib.Core.Bool.{not}
 use mathlib.Core.List.{List, [], _∷_}
 use Prim.Native.Nat.{ℕ}
 use native.Mathlib.Omega.{arith}
 use borrow.Author.Needs.{needs}
+use Rattle.lists.specs.Base.{isEmpty}
 use Rattle.rows.specs.Ident.{idOf}
 use Rattle.postcard.specs.Message.{Message, Gossip, Swarm}
 use Rattle.output.specs.Written.{Written}
 use Rattle.protocol.specs.State.{State}
+use Rattle.decide.specs.Rooms.{backPeers}
 use Rattle.block.specs.View.{stateOf}
 use Rattle.block.specs.LinkSteps.{peerAt}
+use Rattle.steps.specs.Rooms.{roomsIn}
 use Rattle.eager.specs.Sent.{sentBytes}
-use Rattle.eager.proofs.SendLaws.{push-taken, push-flagged, push-told, push-timed}
-use Rattle.eager.proofs.ReplyLaws.{one-told, one-sent, one-taken, one-held}
+use Rattle.eager.proofs.SendLaws.{push-told, push-timed}
+use Rattle.eager.proofs.ReplyLaws.{one-told, one-sent, one-noted}
 use Rattle.eager.proofs.reply.send_one.Statement.{statement}
 use Rattle.eager.proofs.reply.send_one.Tie as tie
 
@@ -28,9 +31,9 @@ module _ (s : tie.Start) where
   abbrev msg : Message
   msg = Gossip (idOf (s .args .id)) (s .args .content .now) (Swarm (s .args .round .0))
 
-  flag : (b : Bool) → s .args .h .live .«announce_dropped_scheduled» ≡ b → st .timers .announce ≡ b
+  flag : s .args .h .live .«announce_dropped_scheduled» ≡ st .timers .announce
   unfolding stateOf
-  flag b e = e
+  flag = refl
 
 peer-at-requires : tie.Need-peer-at-requires
 peer-at-requires c κs =
@@ -59,51 +62,32 @@ sent w =
     one-sent (a .rooms .now) (a .link) (a .h) (a .block .now) (s .pre .0) (msg s) (k .before .peer-at .result) (k .before .peer-at .ensures) (k .is-taken .result) (k .is-taken .ensures)
     (a .out .now) (a .at) (w .send-gossip .last .0) (w .send-gossip .result) (w .send-gossip .ensures)
 
+-- whether it was handed back
+noted : (w : tie.After-send-gossip) → not (w .before .before .is-taken .result) ≡ not (isEmpty (backPeers (roomsIn (st (w .before .before .before .before .before .before .before)) (w .before .before .before .before .before .before .before .args .rooms .now)) (ps (w .before .before .before .before .before .before .before))))
+noted w =
+    let k = w .before .before in
+    let s = k .before .before .before .before .before in
+    let a = s .args in
+    one-noted (a .rooms .now) (a .link) (a .h) (a .block .now) (s .pre .0) (msg s) (k .before .peer-at .result) (k .before .peer-at .ensures) (k .is-taken .result) (k .is-taken .ensures)
+
+schedule-announce-dropped-requires : tie.Need-schedule-announce-dropped-requires
+schedule-announce-dropped-requires c κs =
+    let w = c .before .before .before in
+    let s = w .before .before .before .before .before .before .before in
+    let a = s .args in
+    push-told (a .rooms .now) (msg s) (ps s) (st s) (a .out .now) (a .at) (w .send-gossip .last .0) (w .send-gossip .result) (sent w) _ _ (noted w) (flag s) (s .pre .1)
+
 same-length : tie.Need-same-length
 same-length c = search needs
 
 returns : tie.Need-returns
 returns c =
-    let w = c .before .before .before in
-    let k = w .before .before in
-    let s = k .before .before .before .before .before in
-    let a = s .args in
-    push-taken (a .rooms .now) (msg s) (ps s) (st s) (a .out .now) (a .at) (w .send-gossip .last .0) (w .send-gossip .result) (sent w)
-    (one-taken (a .rooms .now) (a .link) (a .h) (a .block .now) (s .pre .0) (msg s) (k .before .peer-at .result) (k .before .peer-at .ensures) (k .is-taken .result) (k .is-taken .ensures) (c .if1 .taken))
-
-same-length-2 : tie.Need-same-length-2
-same-length-2 c = search needs
-
-returns-2 : tie.Need-returns-2
-returns-2 c =
-    let w = c .before .before .before .before in
+    let v = c .before .before in
+    let w = v .before .before .before .before in
     let s = w .before .before .before .before .before .before .before in
     let a = s .args in
-    push-flagged (a .rooms .now) (msg s) (ps s) (st s) (a .out .now) (a .at) (w .send-gossip .last .0) (w .send-gossip .result) (sent w) (flag s true (c .if2 .taken))
-
-schedule-requires : tie.Need-schedule-requires
-schedule-requires c κs =
-    let w = c .before .before .before .before .before in
-    let k = w .before .before in
-    let s = k .before .before .before .before .before in
-    let a = s .args in
-    push-told (a .rooms .now) (msg s) (ps s) (st s) (a .out .now) (a .at) (w .send-gossip .last .0) (w .send-gossip .result) (sent w)
-    (one-held (a .rooms .now) (a .link) (a .h) (a .block .now) (s .pre .0) (msg s) (k .before .peer-at .result) (k .before .peer-at .ensures) (k .is-taken .result) (k .is-taken .ensures) (c .before .before .if1 .left))
-    (flag s false (c .before .if2 .left)) (s .pre .1)
-
-same-length-3 : tie.Need-same-length-3
-same-length-3 c = search needs
-
-returns-3 : tie.Need-returns-3
-returns-3 c =
-    let v = c .before .before in
-    let w = v .before .before .before .before .before .before in
-    let k = w .before .before in
-    let s = k .before .before .before .before .before in
-    let a = s .args in
-    push-timed (a .rooms .now) (msg s) (ps s) (st s) (a .out .now) (a .at) (w .send-gossip .last .0) (w .send-gossip .result) (sent w)
-    (one-held (a .rooms .now) (a .link) (a .h) (a .block .now) (s .pre .0) (msg s) (k .before .peer-at .result) (k .before .peer-at .ensures) (k .is-taken .result) (k .is-taken .ensures) (v .before .before .before .if1 .left))
-    (flag s false (v .before .before .if2 .left)) (v .schedule .last .0) (v .schedule .result) (v .schedule .ensures)
+    push-timed (a .rooms .now) (msg s) (ps s) (st s) (a .out .now) (a .at) (w .send-gossip .last .0) (w .send-gossip .result) (sent w) _ _ (noted w) (flag s)
+    (v .schedule-announce-dropped .last .1 .1 .0) (v .schedule-announce-dropped .result) (v .schedule-announce-dropped .ensures)
 
 pub send-one-spec : {M : Type 1} → statement M
 send-one-spec =
@@ -112,10 +96,6 @@ send-one-spec =
     peer-at-requires
     is-taken-requires
     send-gossip-requires
+    schedule-announce-dropped-requires
     same-length
-    returns
-    same-length-2
-    returns-2
-    schedule-requires
-    same-length-3
-    returns-3)
+    returns)

@@ -23,8 +23,8 @@ enum-told-2 c = search needs
 enum-known-step-2 : tie.Need-enum-known-step-2
 enum-known-step-2 c = search needs
 
-on-late-requires : tie.Need-on-late-requires
-on-late-requires c κs =
+on-late-graft-reply-requires : tie.Need-on-late-graft-reply-requires
+on-late-graft-reply-requires c κs =
     let s = c .before .before .before .before .before .before in
     (s .pre .stands, s .pre .begun)
 
@@ -88,8 +88,8 @@ on-dispatch-timer-requires c κs =
 enum-told-5 : tie.Need-enum-told-5
 enum-told-5 c = search needs
 
-evict-requires : tie.Need-evict-requires
-evict-requires c κs = search needs
+on-evict-cache-timer-requires : tie.Need-on-evict-cache-timer-requires
+on-evict-cache-timer-requires c κs = search needs
 
 enum-told-6 : tie.Need-enum-told-6
 enum-told-6 c = search needs
@@ -124,7 +124,7 @@ same-length-2 c = search needs
 returns-4 : tie.Need-returns-4
 returns-4 c =
     let s = c .before .before .before .before .before .before .before .before .before in
-    late-goes (s .pre) (c .before .before .before .before .before .step2 .given .1) (c .before .before .on-late .ensures)
+    late-goes (s .pre) (c .before .before .before .before .before .step2 .given .1) (c .before .before .on-late-graft-reply .ensures)
 
 same-length-3 : tie.Need-same-length-3
 same-length-3 c = search needs
@@ -185,7 +185,7 @@ same-length-9 c = search needs
 returns-12 : tie.Need-returns-12
 returns-12 c =
     let s = c .before .before .before .before .before .before .before .before in
-    evict-goes (s .pre) (c .before .before .before .before .enum-told5 .given .1) (c .before .before .evict .ensures)
+    evict-goes (s .pre) (c .before .before .before .before .enum-told5 .given .1) (c .before .before .on-evict-cache-timer .ensures)
 
 same-length-10 : tie.Need-same-length-10
 same-length-10 c = search needs
@@ -204,7 +204,7 @@ step-state-spec =
     new-swarm-requires
     enum-told-2
     enum-known-step-2
-    on-late-requires
+    on-late-graft-reply-requires
     enum-known-step-3
     on-prune-requires
     enum-known-step-4
@@ -219,7 +219,7 @@ step-state-spec =
     enum-told-4
     on-dispatch-timer-requires
     enum-told-5
-    evict-requires
+    on-evict-cache-timer-requires
     enum-told-6
     on-announce-dropped-timer-requires
     returns

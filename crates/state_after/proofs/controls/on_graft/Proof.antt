@@ -11,8 +11,8 @@ use borrow.Author.Needs.{needs}
 use Rattle.state_after.proofs.controls.on_graft.Statement.{statement}
 use Rattle.state_after.proofs.controls.on_graft.Tie as tie
 
-set-mark-requires : tie.Need-set-mark-requires
-set-mark-requires c κs = search needs
+add-eager-requires : tie.Need-add-eager-requires
+add-eager-requires c κs = search needs
 
 enum-known-wanted : tie.Need-enum-known-wanted
 enum-known-wanted c = search needs
@@ -22,7 +22,7 @@ reply-requires c κs =
     let s = c .before .before .before .before .before .before .before .before .before in
     let a = s .args in
     let step = subst (λ (w : Wanted). Step (graftedAt (a .rooms .now) (a .link) (wantedValue w)) (a .h) (a .block .now)) (c .before .before .wanted .given .1) (s .pre .0) in
-    graft-replies (a .h) (a .block .now) (s .pre .0 .stands) (a .link) (s .pre .1) (a .rooms .now) _ _ step (c .before .before .before .before .before .before .set-mark .ensures)
+    graft-replies (a .h) (a .block .now) (s .pre .0 .stands) (a .link) (s .pre .1) (a .rooms .now) _ _ step (c .before .before .before .before .before .before .add-eager .ensures)
 
 enum-told : tie.Need-enum-told
 enum-told c = search needs
@@ -34,7 +34,7 @@ returns : tie.Need-returns
 returns c =
     let s = c .before .before .before .before .before .before .before .before .before .before .before .before in
     let a = s .args in
-    let m = c .before .before .before .before .before .before .before .before .before .set-mark in
+    let m = c .before .before .before .before .before .before .before .before .before .add-eager in
     let k = c .before .before .reply in
     subst (λ (w : Wanted). Goes (graftedAt (a .rooms .now) (a .link) (wantedValue w)) (a .h) (a .block .now) (k .result) (k .last .1 .0)) (sym (c .before .before .before .before .before .wanted .given .1))
     (graft-goes (a .h) (a .block .now) (s .pre .0 .stands) (a .link) (s .pre .1) (a .rooms .now) _ (m .last .1 .0) (k .result) (k .last .1 .0) (m .ensures) (k .ensures))
@@ -46,7 +46,7 @@ returns-2 : tie.Need-returns-2
 returns-2 c =
     let s = c .before .before .before .before .before .before .before in
     let a = s .args in
-    let m = c .before .before .before .before .set-mark in
+    let m = c .before .before .before .before .add-eager in
     subst (λ (w : Wanted). Goes (graftedAt (a .rooms .now) (a .link) (wantedValue w)) (a .h) (a .block .now) (a .h) (m .last .1 .0)) (sym (c .enum-told .given .1))
     (eager-only (a .h) (a .block .now) (s .pre .0 .stands) (a .link) (s .pre .1) (a .rooms .now) (m .last .1 .0) (m .ensures))
 
@@ -54,7 +54,7 @@ pub on-graft-spec : {M : Type 1} → statement M
 on-graft-spec =
     tie.close
     (tie.spec
-    set-mark-requires
+    add-eager-requires
     enum-known-wanted
     reply-requires
     enum-told

@@ -9,17 +9,17 @@ use Rattle.state_after.proofs.swarms.broadcast_swarm.Tie as tie
 add-end : tie.Need-add-end
 add-end c = search needs
 
-sub-on-broadcast : tie.Need-sub-on-broadcast
-sub-on-broadcast c = search needs
+sub-broadcast : tie.Need-sub-broadcast
+sub-broadcast c = search needs
 
-part-on-broadcast-start : tie.Need-part-on-broadcast-start
-part-on-broadcast-start c = search needs
+part-broadcast-start : tie.Need-part-broadcast-start
+part-broadcast-start c = search needs
 
-part-on-broadcast-end : tie.Need-part-on-broadcast-end
-part-on-broadcast-end c = search needs
+part-broadcast-end : tie.Need-part-broadcast-end
+part-broadcast-end c = search needs
 
-on-broadcast-requires : tie.Need-on-broadcast-requires
-on-broadcast-requires c κs =
+broadcast-requires : tie.Need-broadcast-requires
+broadcast-requires c κs =
     let s = c .before .before .before .before in
     let a = s .args in
     (broadcast-lent (a .start) (a .len) (a .event .now) (a .rooms .now) (a .instant .0) (a .h) (a .block .now) (idOf (a .id)) (s .pre .0), s .pre .2)
@@ -31,7 +31,7 @@ returns : tie.Need-returns
 returns c =
     let s = c .before .before .before .before .before .before .before in
     let a = s .args in
-    let k = c .before .before .on-broadcast in
+    let k = c .before .before .broadcast in
     broadcast-held (a .start) (a .len) (a .event .now) (a .rooms .now) (a .instant .0) (a .h) (a .block .now) (idOf (a .id)) (k .result) (k .last .1 .0) (k .ensures)
 
 pub broadcast-swarm-spec : {M : Type 1} → statement M
@@ -39,9 +39,9 @@ broadcast-swarm-spec =
     tie.close
     (tie.spec
     add-end
-    sub-on-broadcast
-    part-on-broadcast-start
-    part-on-broadcast-end
-    on-broadcast-requires
+    sub-broadcast
+    part-broadcast-start
+    part-broadcast-end
+    broadcast-requires
     same-length
     returns)

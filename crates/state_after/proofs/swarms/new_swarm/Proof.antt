@@ -10,17 +10,17 @@ use Rattle.state_after.proofs.swarms.new_swarm.Tie as tie
 add-end : tie.Need-add-end
 add-end c = search needs
 
-sub-on-new : tie.Need-sub-on-new
-sub-on-new c = search needs
+sub-on-gossip : tie.Need-sub-on-gossip
+sub-on-gossip c = search needs
 
-part-on-new-start : tie.Need-part-on-new-start
-part-on-new-start c = search needs
+part-on-gossip-start : tie.Need-part-on-gossip-start
+part-on-gossip-start c = search needs
 
-part-on-new-end : tie.Need-part-on-new-end
-part-on-new-end c = search needs
+part-on-gossip-end : tie.Need-part-on-gossip-end
+part-on-gossip-end c = search needs
 
-on-new-requires : tie.Need-on-new-requires
-on-new-requires c κs =
+on-gossip-requires : tie.Need-on-gossip-requires
+on-gossip-requires c κs =
     let s = c .before .before .before .before in
     let a = s .args in (
       new-lent (a .start) (a .len) (a .event .now) (a .rooms .now) (a .instant .0) (a .h) (a .block .now) (a .sender) (idOf (a .id)) (a .round .0) (s .pre .0),
@@ -36,7 +36,7 @@ returns : tie.Need-returns
 returns c =
     let s = c .before .before .before .before .before .before .before in
     let a = s .args in
-    let k = c .before .before .on-new in
+    let k = c .before .before .on-gossip in
     new-held (a .start) (a .len) (a .event .now) (a .rooms .now) (a .instant .0) (a .h) (a .block .now) (a .sender) (idOf (a .id)) (a .round .0) (k .result) (k .last .1 .0) (k .ensures)
 
 pub new-swarm-spec : {M : Type 1} → statement M
@@ -44,9 +44,9 @@ new-swarm-spec =
     tie.close
     (tie.spec
     add-end
-    sub-on-new
-    part-on-new-start
-    part-on-new-end
-    on-new-requires
+    sub-on-gossip
+    part-on-gossip-start
+    part-on-gossip-end
+    on-gossip-requires
     same-length
     returns)

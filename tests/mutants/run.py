@@ -174,6 +174,8 @@ def main():
     assert ok, said
     beside = os.environ.get('BESIDE')
     if not beside:
+        # Debian's packages that the Rust is built of
+        subprocess.run([os.path.join(top, 'tests', 'rust', 'build.sh')], stdout=subprocess.DEVNULL, check=True)
         subprocess.run(['cargo', 'build', '--release', '--offline', '-j', '1', '--quiet'], cwd=os.path.join(top, 'tests', 'beside'), env=dict(os.environ, PLUMTREE_LIB_DIR=lib, PLUMTREE_LIB_KIND='dylib', CARGO_TARGET_DIR=target), check=True)
         beside = os.path.join(target, 'release', 'beside')
     for m in todo:

@@ -188,6 +188,46 @@ static inline struct plumtree_limits plumtree_small_limits(void)
 }
 
 /*
+ * Limits for a panel among others that take in `per_second` readings a second, of all panels together, of at most `content` bytes each, with
+ * the default durations: "received" holds an identifier for 91 seconds (90, and one until the next eviction), the cache a message for 31.
+ * What is announced, asked for, queued or recorded can be all that stands in the caches. A limit over its ceiling (more than 16 readings a
+ * second, say) is answered 3 by plumtree_create. Plain C, in this header.
+ */
+static inline struct plumtree_limits plumtree_limits_for(size_t neighbours, size_t per_second, size_t content)
+{
+    struct plumtree_limits l;
+    size_t cached = 31 * per_second, recorded = cached < 256 ? cached : 256;
+    l.neighbours = neighbours;
+    l.received = 91 * per_second;
+    l.cached = cached;
+    l.content = cached * content;
+    l.grafted = cached;
+    l.missing = cached;
+    l.timers = cached;
+    l.queued = neighbours * cached < PLUMTREE_CEILING_QUEUED ? neighbours * cached : PLUMTREE_CEILING_QUEUED;
+    l.dropped = neighbours * recorded < PLUMTREE_CEILING_DROPPED ? neighbours * recorded : PLUMTREE_CEILING_DROPPED;
+    return l;
+}
+
+/*
+ * An output of this length is never answered 14: a message to each neighbour and an emit, or 50 bytes for each queued announcement. Counted from
+ * the forms below and held against every call that tests/beside makes, not proved. 37,027 for panelrun's limits, 409,664 at the ceilings.
+ * Plain C, in this header.
+ */
+static inline size_t plumtree_output_size(struct plumtree_limits limits, uint64_t max_message_size)
+{
+    size_t sends = (limits.neighbours + 1) * ((size_t)max_message_size + 13);
+    size_t announcements = 50 * limits.queued;
+    return (sends < announcements ? announcements : sends) + 64;
+}
+
+/* The longest content that a broadcast sends to all panels (Swarm): 4,055 where M is 4,094. Three bytes more for Neighbors. Plain C. */
+static inline size_t plumtree_longest_content(uint64_t max_message_size)
+{
+    return (size_t)max_message_size - 39;
+}
+
+/*
  * WHAT IS LENT AND ANSWERED
  */
 

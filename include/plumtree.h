@@ -3,7 +3,8 @@
  *
  * Link libplumtree.a (`rt staticlib plumtree` writes target/staticlib/libplumtree.a, for x86-64 Linux). It needs memcpy, memmove and
  * memset of the C library and nothing else: it has no heap, no thread, no clock, no file, no variable of its own. What a panel knows
- * stands in one block of bytes that its owner lends to each call. examples/c/first_broadcast.c is a program to start from.
+ * stands in one block of bytes that its owner lends to each call. examples/c/first_broadcast.c is a program to start from, and
+ * examples/c/three_panels.c a host to copy.
  *
  *     cc -I include program.c target/staticlib/libplumtree.a
  *
@@ -18,8 +19,31 @@
  *   3. Carry out the actions that the call wrote, in their order: put the message of each send that was taken onto the link to its peer,
  *      start a timer for each schedule, hand the content of each emit to the panel's screen.
  *
- * A message goes over a link as the bytes it has in the send action. The panel at the other end gets it as an event: a byte 0, the
- * sender's number, and these bytes as they came, damaged or not.
+ * A message goes over a link as the bytes it has in the send action; the host frames them (up to M + 1 bytes). The panel at the other end
+ * gets it as an event: a byte 0, the sender's number, and these bytes as they came, damaged or not.
+ *
+ *
+ * WHAT A HOST HAS TO KNOW
+ *
+ *   - A message is known by its content. The same content broadcast again while it is known (message_id_retention, 90 s) is one message: no
+ *     panel emits it a second time, and who gets it again answers with a Prune. So a reading carries its panel's number and a sequence
+ *     number or a time.
+ *   - A link is told up at both ends. A neighbour is eager at first: it gets the reading itself. One that gets a reading twice answers with
+ *     a Prune and is lazy from then on: it gets the identifier alone, and asks (Graft) for what does not come otherwise.
+ *   - A neighbour that comes up gets what is taken in from then on. What it missed while it was down is not sent to it.
+ *   - Timers are the host's. Each that is scheduled is told once, when its delay has passed. EvictCache schedules itself anew, and comes
+ *     first with the first event that is neither up nor down; one told in addition goes on beside it for ever.
+ *   - A call that is refused has not happened. A timer, an up or a broadcast that was refused is told again later; a message that was refused is
+ *     lost as on a bad link. An IHave is taken or refused whole.
+ *   - Limits are for the traffic of all panels together (plumtree_limits_for). Those of panelrun carry 0.7 readings a second and 16 that
+ *     wait behind a full link, and are for trying out.
+ *   - Link room 0 hands back everything. Swarm readings and announcements are noted and announced later; a Graft, a Prune and a Neighbors
+ *     message are not noted. A Graft that the only announcer's link hands back is not sent again, unless the reading is announced anew: keep
+ *     room for one send where you can.
+ *   - Who keeps a panel over a restart keeps block, counts and the timers not told yet, with their times. Where these are lost, tell
+ *     DispatchLazyPush, EvictCache and AnnounceDropped once each; lost SendGraft timers can't be had back from the block.
+ *   - A clock that starts at 0 again keeps what was taken in before until it has passed the old times. Such a host adds an offset, or
+ *     makes a new panel.
  *
  *
  * WHAT A CALLER OWES
@@ -53,7 +77,7 @@
  *
  * A block is plain bytes: it can be copied, or kept and lent again later, with its counts. A call that is cut off (power, a killed process)
  * can leave it half written, and question 5 does not find every such block: whoever keeps a block over that goes on from a copy made
- * between two calls.
+ * between two calls. Question 5 is no checksum either: a block in a file wants one of its own.
  */
 #ifndef PLUMTREE_H
 #define PLUMTREE_H
@@ -99,7 +123,8 @@ enum plumtree_number {
     PLUMTREE_MESSAGE_TOO_LONG = 10,
     /* "Do the counts stay under 2^64?" */
     PLUMTREE_COUNTS_FULL = 11,
-    /* "Is it anything but a valid Swarm message of round 65,535, unreceived once a first event has evicted?" */
+    /* "Is it anything but a valid Swarm message of round 65,535, unreceived once a first event has evicted?" It is new here and has made
+     * 65,535 hops already: drop it. */
     PLUMTREE_NO_MORE_HOPS = 12,
     /* "Is the state after the call within every limit?" What the call frees counts as free. Entries that expire and neighbours that go down
      * make room; so do higher limits at creation. */
@@ -132,7 +157,7 @@ struct plumtree_settings {
 /* How much a panel can hold, each from 1 to its ceiling. The block's size follows from these. */
 struct plumtree_limits {
     size_t neighbours; /* N: neighbours */
-    size_t received;   /* R: identifiers of messages that came; twice as many expiry entries */
+    size_t received;   /* R: identifiers of messages that came; twice as many expiry entries (a repeated content takes one more each time) */
     size_t cached;     /* C: messages held for others to ask for; twice as many expiry entries */
     size_t content;    /* B: bytes of the contents of those */
     size_t grafted;    /* G: identifiers that were asked for; twice as many expiry entries */
@@ -171,7 +196,8 @@ static inline struct plumtree_settings plumtree_default_settings(uint64_t me)
     return s;
 }
 
-/* The limits of the program panelrun: "N 8, R 64, C 32, B 8,192, G S T 16, Q D 64". They need 58,880 bytes. Plain C, in this header. */
+/* The limits of the program panelrun: "N 8, R 64, C 32, B 8,192, G S T 16, Q D 64". They need 58,880 bytes and are for trying out (see WHAT A
+ * HOST HAS TO KNOW). Plain C, in this header. */
 static inline struct plumtree_limits plumtree_small_limits(void)
 {
     struct plumtree_limits l;
@@ -274,7 +300,7 @@ struct plumtree_answer plumtree_create(uint8_t *block, size_t block_length, stru
 /*
  * One event at the time `at`, in milliseconds. Asks 5 to 14 in their order, then does what document 01 says of the event.
  * `rooms` is the link room of this call; none (null, 0): every send is taken.
- * `output` takes the actions. 40,960 bytes are what panelrun lends; a host that is answered 14 calls again with more.
+ * `output` takes the actions: plumtree_output_size bytes are always enough; a host that lends less and is answered 14 calls again with more.
  */
 struct plumtree_answer plumtree_event(uint8_t *block, size_t block_length, struct plumtree_stats *counts, uint64_t at, const uint8_t *event,
                                       size_t event_length, const struct plumtree_link_room *rooms, size_t rooms_length, uint8_t *output,
@@ -311,19 +337,23 @@ struct plumtree_likeness plumtree_alike(const uint8_t *a, size_t a_length, const
  *               Prune    01
  *               Graft    02  00, or 01 and identifier  round
  *               IHave    03  count  (identifier  round) for each
- *     DELIVERY           00  round: Swarm, for all panels        01: Neighbors, for neighbours alone
+ *     DELIVERY           00  round: Swarm, for all panels        01: Neighbors, for eager neighbours alone
  *     TIMER              00  identifier: SendGraft    01: DispatchLazyPush    02: EvictCache    03: AnnounceDropped
  *
- * Send: the message is for that peer. Taken: put it onto the link. Handed back: the link had no room in this call (struct
- * plumtree_link_room); put nothing there, the panel has noted what it has to announce later. Its length is not written: it ends where its
- * fields end. It can be one byte longer than M: a round that goes from 127 to 128 takes a byte more.
+ * Send: the message is for that peer, which need not be a neighbour (a Prune goes to whoever sent a reading twice): without a link to it,
+ * drop the message. Taken: put it onto the link. Handed back: the link had no room in this call (struct plumtree_link_room); put nothing
+ * there. Of a Swarm Gossip and of an IHave the panel has noted the identifiers and announces them later, unless its record is full
+ * (docs/GUARANTEE.md, 3 d); of the other messages it has noted nothing. A message's length is not written: it ends where its fields
+ * end. It can be one byte longer than M: a round that goes from 127 to 128 takes a byte more.
  * Schedule: when `delay` milliseconds have passed, call with the event `02 TIMER`. A timer is never taken back. A timer whose event is refused
  * has not fired: tell it again, with a longer output (14) or later (13); what waits for it is not scheduled anew.
  * Emit: a new message, for the panel's own use; `peer` brought it, with this round. A panel's own broadcasts are not emitted.
  *
- * A broadcast that would be over M bytes on its way is accepted and sent to nobody. So a content has at most 4,055 bytes where M is 4,094 and
- * 471 where it is 510, three more for Neighbors: "Size is content + its length's groups + 37, or 34 for Neighbors." A Gossip whose
- * identifier is not that of its content is accepted, counted, and leads to nothing.
+ * Neighbors: sent once to the eager neighbours, announced to nobody, not sent on; who is lazy does not get it.
+ *
+ * A broadcast that would be over M bytes on its way is accepted and sent to nobody: look at its length first (plumtree_longest_content). So a
+ * content has at most 4,055 bytes where M is 4,094 and 471 where it is 510, three more for Neighbors: "Size is content + its length's groups
+ * + 37, or 34 for Neighbors." A Gossip whose identifier is not that of its content is accepted, counted, and leads to nothing.
  *
  * Examples, in hexadecimal: `03 02` neighbour 2 is up. `02 01` DispatchLazyPush fired. `00 05 01` a Prune from 5.
  * `01 05 31 34 35 32 43 00` broadcast of "1452C" to all panels. The action `02 E8 07 02`: schedule EvictCache in 1,000.

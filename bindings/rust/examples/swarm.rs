@@ -74,7 +74,7 @@ impl Swarm {
 /// How long a message takes between two panels.
 fn delay(a: u64, b: u64) -> u64 {
     let link = LINKS.iter().find(|l| (l.0, l.1) == (a, b) || (l.1, l.0) == (a, b));
-    link.expect("panels send to neighbours").2
+    link.expect("a link").2
 }
 
 fn simulate() -> Result<Vec<String>, Error> {

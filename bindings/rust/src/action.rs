@@ -9,17 +9,19 @@ use crate::{Delivery, Error, Message, Timer};
 pub enum Action<'a> {
     /// A message for a peer.
     Send {
-        /// Who it is for.
+        /// Who it is for. It need not be a neighbour: a Prune goes to whoever sent a reading twice. Without a link to it, drop the message.
         peer: u64,
         /// True: put the bytes onto the link. False: the link had no room in this call ([`LinkRoom`](crate::LinkRoom)) and handed it back; put
-        /// nothing there, the panel has noted what it has to announce later.
+        /// nothing there. Of a Swarm Gossip and of an IHave the panel has noted the identifiers and announces them later, unless its record is
+        /// full; of the other messages it has noted nothing.
         taken: bool,
         /// The message.
         message: Message<'a>,
         /// The message's bytes: what goes over the link. They can be one more than M, where a round has grown from 127 to 128.
         bytes: &'a [u8],
     },
-    /// Tell [`Event::Timer`](crate::Event::Timer) when the delay has passed. A timer is never taken back.
+    /// Tell [`Event::Timer`](crate::Event::Timer) once, when the delay has passed. A timer is never taken back; one whose event is refused is told
+    /// again.
     Schedule {
         /// Milliseconds from this call on.
         delay: u64,

@@ -9,7 +9,7 @@ use crate::{Error, Message, Timer};
 pub enum Scope {
     /// All panels.
     Swarm,
-    /// Neighbours alone.
+    /// The eager neighbours alone, once: announced to nobody, and not sent on.
     Neighbors,
 }
 

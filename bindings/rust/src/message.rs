@@ -15,7 +15,7 @@ pub enum Delivery {
         /// How many hops it has made.
         round: u16,
     },
-    /// To neighbours alone.
+    /// To the sender's eager neighbours alone.
     Neighbors,
 }
 

@@ -74,7 +74,7 @@ pub fn alike(a: &[u8], b: &[u8]) -> Result<bool, Error> {
 /// let mut panel = Panel::in_block(&mut memory[..], Settings::of_panel(1), limits)?;
 /// panel.event(0, &Event::Up(2), &[], &mut [])?;
 ///
-/// // The block and the counts are the panel: kept, it goes on from there.
+/// // Block and counts are kept, and it goes on from there. (Timers that were not told yet are the host's to keep.)
 /// let stats = panel.stats();
 /// let mut panel = Panel::resume(memory, stats);
 /// panel.event(5, &Event::Down(2), &[], &mut [])?;
@@ -111,15 +111,17 @@ impl<B: AsRef<[u8]> + AsMut<[u8]>> Panel<B> {
         Ok(Panel::resume(block, stats))
     }
 
-    /// A panel from a block and its counts as they were left. Nothing is asked here: each event asks whether the block is whole.
+    /// A panel from a block and its counts as they were left. Nothing is asked here: each event asks whether the block is whole, which is no
+    /// checksum. Timers that were not told yet are the host's to keep; where they are lost, tell DispatchLazyPush, EvictCache and
+    /// AnnounceDropped once each.
     pub fn resume(block: B, stats: Stats) -> Panel<B> {
         Panel { block, stats, event: Vec::new() }
     }
 
     /// One event at a time in milliseconds: questions 5 to 14. The actions stand in the output, in the order in which they are to be carried out.
     ///
-    /// `rooms` is the link room of this call; with none every send is taken. A call that is refused with [`Error::OutputTooShort`] goes through
-    /// with a longer output. Times may come in any order.
+    /// `rooms` is the link room of this call; with none every send is taken. An output of [`Limits::output_size`] is always enough; a call that is
+    /// refused with [`Error::OutputTooShort`] goes through with a longer one. Times may come in any order.
     pub fn event<'o>(&mut self, at: u64, event: &Event<'_>, rooms: &[LinkRoom], output: &'o mut [u8]) -> Result<Actions<'o>, Error> {
         self.event.clear();
         event.write(&mut self.event);

@@ -94,7 +94,59 @@ impl Limits {
         dropped: 4_096,
     };
 
-    /// The limits of the program panelrun; they need a block of 58,880 bytes.
+    /// The limits of the program panelrun; they need a block of 58,880 bytes. For trying out: they carry 0.7 readings a second, and 16 that
+    /// wait behind a full link ([`Limits::for_traffic`]).
     pub const SMALL: Limits =
         Limits { neighbours: 8, received: 64, cached: 32, content: 8_192, grafted: 16, missing: 16, timers: 16, queued: 64, dropped: 64 };
+
+    /// Limits for a panel among others that take in `per_second` readings a second, of all panels together, of at most `content` bytes each, with
+    /// the default durations: an identifier stays known for 91 seconds (90, and one until the next eviction), a message cached for 31. What is
+    /// announced, asked for, queued or recorded can be all that stands in the caches. A limit over its ceiling (more than 16 readings a
+    /// second, say) is refused at creation.
+    ///
+    /// ```
+    /// use plumtree::{Limits, Panel, Settings};
+    /// assert!(Panel::new(Settings::of_panel(1), Limits::for_traffic(8, 4, 256)).is_ok());
+    /// assert!(Panel::new(Settings::of_panel(1), Limits::for_traffic(8, 17, 256)).is_err());
+    /// ```
+    pub const fn for_traffic(neighbours: usize, per_second: usize, content: usize) -> Limits {
+        let cached = 31 * per_second;
+        Limits {
+            neighbours,
+            received: 91 * per_second,
+            cached,
+            content: cached * content,
+            grafted: cached,
+            missing: cached,
+            timers: cached,
+            queued: least(neighbours * cached, Limits::CEILINGS.queued),
+            dropped: least(neighbours * least(cached, 256), Limits::CEILINGS.dropped),
+        }
+    }
+
+    /// An output of this length is never refused as too short: a message to each neighbour and an emit, or 50 bytes for each queued announcement.
+    /// Counted from the forms of actions and held against every call that tests/beside makes, not proved.
+    ///
+    /// ```
+    /// assert_eq!(plumtree::Limits::SMALL.output_size(4_094), 37_027);
+    /// assert_eq!(plumtree::Limits::CEILINGS.output_size(4_094), 409_664);
+    /// ```
+    pub const fn output_size(&self, max_message_size: u64) -> usize {
+        let sends = (self.neighbours + 1) * (max_message_size as usize + 13);
+        let announcements = 50 * self.queued;
+        if sends < announcements {
+            announcements + 64
+        } else {
+            sends + 64
+        }
+    }
+}
+
+/// The lesser of two.
+const fn least(a: usize, b: usize) -> usize {
+    if a < b {
+        a
+    } else {
+        b
+    }
 }

@@ -1,5 +1,5 @@
--- How the block lays out its state: 2,048 bytes of header, then a table for each part of the state. Each table has one row to spare, so that what is
--- inserted or overwritten finds room in a full one; the spare rows lie in what document 01's need gives the header.
+-- How the block lays out its state: 2,048 bytes of header, then a table for each part of the state. Each table of rows (all but the contents) has one to spare, so
+-- that what is inserted or overwritten finds room in a full one; the spare rows lie in what document 01's need gives the header.
 -- Assumes nothing.
 use Prim.Native.Nat.{ℕ, _+_, _*_}
 use mathlib.Core.List.{List, [], _∷_}

@@ -2,24 +2,24 @@
 use Prim.Native.Nat.{ℕ}
 use mathlib.Core.Path.{_≡_, refl}
 use mathlib.Core.Bool.{true, false}
-use mathlib.Core.List.{List, [], _∷_}
+use mathlib.Core.List.{List, [], _∷_, _++_}
 use mathlib.Core.Option.{none}
 use lib.ListN.{replicate}
 use Rattle.lists.specs.Base.{_▷_, count, any, filter, member, concatMap, all, sum, ascending}
-use Rattle.lists.specs.Map.{lookup, insert, remove}
+use Rattle.lists.specs.Map.{lookup, insert, remove, insertKey, removeKey}
 use Rattle.postcard.specs.Number.{got, groups, numberBytes, numberLength, readRound, readGroups, lastGroup, readNumber, readBytes, readKind}
-use Rattle.postcard.specs.Message.{Swarm, toSwarm, toNeighbors, Gossip, Prune, Graft, DispatchLazyPush, Sent, Scheduled, messageBytes, timerBytes, actionBytes}
+use Rattle.postcard.specs.Message.{Swarm, toSwarm, toNeighbors, Gossip, Prune, Graft, IHave, DispatchLazyPush, Received, Sent, Scheduled, Emitted, messageBytes, timerBytes, actionBytes}
 use Rattle.postcard.specs.Decode.{readMessage, messageOf, readTimer, timerOf, eventOf, readEvent, ended, decodeEvent}
 use Rattle.time_cache.specs.TimeCache.{holds, put, addExpiry, get, valueOf, expiresAt, pop, due, later, popAll, expireUntil, expiresOnTime, inPopOrder}
 use Rattle.protocol.specs.Links.{eagerPeers, lazyPeers, eagerIn, marked, peersMarked, markIfThere, addEager, addLazy, linkUp}
 use Rattle.protocol.specs.State.{fresh, zeroCounts, sizeInRange, durationsInRange, limitsInRange, upTo}
 use Rattle.protocol.specs.Run.{Run, begin, act, send, hasRoom, useRoom}
 use Rattle.protocol.specs.Push.{scheduleDispatch, sendEach, handedBack, noteForEach, noteAfter, pushTo, eagerTargets, eagerPush, noteFor, lazyPush}
-use Rattle.protocol.specs.Gossips.{gossipSize, farCloser, leastFrom, graftUnlessEager, pruneBack, optimizeTree, updateLinks, markReceived, cacheAt, broadcastTo, broadcast}
+use Rattle.protocol.specs.Gossips.{gossipSize, hopsOf, announcers, peersOf, graftedFor, withFirst, setFirst, graftOut, forgetMissing, raiseHops, farCloser, leastFrom, graftUnlessEager, pruneBack, optimizeTree, forgetAndOptimise, updateLinks, markReceived, cacheAt, pushOn, takeIn, onNew, onGossip, broadcastTo, broadcast}
 use Rattle.protocol.specs.Ticks.{perMessage, queuedPeers, dispatchTo, clearDispatch, onDispatchTimer, evict, onEvictCacheTimer}
-use Rattle.protocol.specs.Control.{onPrune}
+use Rattle.protocol.specs.Control.{onPrune, addAnnouncer, announce, scheduleGraft, onAnnounced, onIHave}
 use Rattle.protocol.specs.Neighbours.{onNeighborUp}
-use Rattle.protocol.specs.Handle.{firstEvent, countMessage, oneControl, ifNeighbour, onTimer, onMessage, handleMessage, handle}
+use Rattle.protocol.specs.Handle.{firstEvent, countMessage, onePayload, oneControl, ifNeighbour, onTimer, onMessage, handleMessage, handle}
 use Rattle.protocol.specs.Whole.{contentHeld, cacheFits, fits, inRange, keysOnce, neighbours, notedOnce, recordWithin, flagsStand, whole}
 use Rattle.protocol.specs.Answer.{messageFits, countsBelow, countsStay, outputOf, lastTwo, tooFarMessage, tooFar, askOf, askRead, ask, askWhole}
 use Rattle.protocol.specs.Calls.{stateAfter, countsAfter}
@@ -38,6 +38,15 @@ panel M = begin (fresh (record {
   maxMessageSize = M;
   me = 1;
 }) panelLimits) zeroCounts []
+
+-- an identifier for every content: 9
+abbrev nine : List ℕ → ℕ
+nine content = 9
+
+-- with the neighbours 2, eager, and 3, lazy, of which 3 has announced the message at a round
+abbrev announcedAt : ℕ → Run
+announcedAt round =
+    panel 4094 ▷ onNeighborUp 2 ▷ onNeighborUp 3 ▷ onPrune 3 ▷ handle nine 0 (Received 3 (IHave (record { id = 9; round = round } ∷ [])))
 
 -- the bytes of a content of n zeros
 abbrev zeros : ℕ → List ℕ
@@ -63,10 +72,12 @@ pub record Worked (hash : List ℕ → ℕ) : Type 0 where
   pub read127 : readRound (0x7F ∷ []) ≡ got 127 []
   pub read128 : readRound (0x80 ∷ 0x01 ∷ []) ≡ got 128 []
   pub read65535 : readRound (0xFF ∷ 0xFF ∷ 0x03 ∷ []) ≡ got 65535 []
-  -- "Threshold 7, r = 9: announcer round 3 optimises, 4 doesn't"
-  pub optimises : (panel 4094 ▷ onNeighborUp 2 ▷ onNeighborUp 3 ▷ onPrune 3 ▷ optimizeTree 2 10 (record { peer = 3; round = 3 } ∷ [])) .actions
-      ≡ Sent 3 true (Graft none 3) ∷ Sent 2 true Prune ∷ []
-  pub doesNot : (panel 4094 ▷ onNeighborUp 2 ▷ onNeighborUp 3 ▷ onPrune 3 ▷ optimizeTree 2 10 (record { peer = 3; round = 4 } ∷ [])) .actions ≡ []
+  -- "Threshold 7, r = 9: announcer round 3 optimises, 4 doesn't": 3 announces the message, and then it comes from 2 at round 9
+  pub optimises : (announcedAt 3 ▷ handle nine 0 (Received 2 (Gossip 9 [] (Swarm 9)))) .actions
+      ≡ announcedAt 3 .actions
+      ++ (Scheduled 5 DispatchLazyPush ∷ Sent 3 true (Graft none 3) ∷ Sent 2 true Prune ∷ Emitted 2 [] (Swarm 9) ∷ [])
+  pub doesNot : (announcedAt 4 ▷ handle nine 0 (Received 2 (Gossip 9 [] (Swarm 9)))) .actions
+      ≡ announcedAt 4 .actions ++ (Scheduled 5 DispatchLazyPush ∷ Emitted 2 [] (Swarm 9) ∷ [])
   -- "Cached at 0: evicting at 29,999 keeps, 30,000 removes; put again at 10,000, evicting at 30,000 keeps"
   pub keeps : holds 9 ((panel 4094 ▷ cacheAt 0 9 [] 1 ▷ onEvictCacheTimer 29999) .state .cache) ≡ true
   pub removes : holds 9 ((panel 4094 ▷ cacheAt 0 9 [] 1 ▷ onEvictCacheTimer 30000) .state .cache) ≡ false
@@ -77,6 +88,8 @@ unfolding count any filter member lookup insert remove groups numberBytes number
     peersMarked eagerPeers lazyPeers eagerIn marked markIfThere addEager addLazy linkUp fresh zeroCounts act send hasRoom useRoom scheduleDispatch sendEach handedBack noteForEach
     noteAfter pushTo eagerTargets eagerPush noteFor lazyPush gossipSize farCloser leastFrom graftUnlessEager pruneBack optimizeTree updateLinks markReceived cacheAt broadcastTo broadcast
     perMessage evict onEvictCacheTimer onPrune onNeighborUp panelLimits
+    insertKey removeKey addAnnouncer announce scheduleGraft onAnnounced onIHave hopsOf announcers peersOf graftedFor withFirst setFirst graftOut forgetMissing raiseHops forgetAndOptimise pushOn takeIn onNew onGossip
+    firstEvent countMessage onePayload oneControl ifNeighbour onMessage handleMessage handle
 worked hash = record {
   size0 = refl;
   size127 = refl;

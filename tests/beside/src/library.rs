@@ -51,6 +51,11 @@ pub fn block_size(max: [u64; 9]) -> u64 {
     raw::block_size(limits(max)) as u64
 }
 
+/// The output that is always enough, by the binding's count.
+pub fn output_size(max: [u64; 9], m: u64) -> u64 {
+    limits(max).output_size(m) as u64
+}
+
 /// Creation: own peer number, M, the seven of `Config`, the nine limits.
 pub fn create(
     block: &mut [u8],

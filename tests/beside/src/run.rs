@@ -299,6 +299,11 @@ impl Pair {
         let a = library::event(block, &mut counts, now, event, rooms, self.out.part_mut());
         same("answer", u64::from(answer.number), a.number)?;
         same("length", answer.actions.len() as u64, a.length)?;
+        if let Some(s) = before.as_ref().filter(|s| within(s)) {
+            let enough = library::output_size(limits.max, s.m);
+            holds(a.length <= enough, "more actions than output_size")?;
+            holds(a.number != 14 || (limits.out as u64) < enough, "14 for an output of output_size")?;
+        }
         holds(a.kept, "wrote outside of the counts")?;
         holds(self.block.pads_kept(), "wrote outside of the block")?;
         holds(self.out.pads_kept(), "wrote outside of the output")?;
@@ -335,6 +340,11 @@ impl Pair {
         same("alike, the other way", (told.number, told.alike), library::alike(b, a))?;
         holds(self.block.part() == self.before, "alike changed the block")
     }
+}
+
+/// Whether each cached message came as one of at most M bytes, as in every state that calls lead to from a creation.
+fn within(s: &Snap) -> bool {
+    s.cache.iter().all(|c| c.content.len() as u64 + 37 <= s.m)
 }
 
 /// Grafted peers of an identifier are a map, the block has them ascending.

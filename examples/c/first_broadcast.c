@@ -49,9 +49,9 @@ static void print_delivery(uint8_t delivery, uint16_t round)
         printf(", Neighbors");
 }
 
-static void print_message(const struct message *m)
+static void print_message(const struct plumtree_message *m)
 {
-    struct reader entries = m->entries;
+    struct plumtree_reader entries = m->entries;
     uint64_t i;
     switch (m->kind) {
     case PLUMTREE_MESSAGE_GOSSIP:
@@ -73,8 +73,8 @@ static void print_message(const struct message *m)
         printf("IHave");
         for (i = 0; i < m->count; i++) {
             printf(i ? ", " : " ");
-            print_id(take_id(&entries));
-            printf(" round %u", take_round(&entries));
+            print_id(plumtree_take_id(&entries));
+            printf(" round %u", plumtree_take_round(&entries));
         }
         break;
     }
@@ -90,7 +90,7 @@ static void print_timer(const uint8_t *timer)
     }
 }
 
-static void print_action(const struct action *a)
+static void print_action(const struct plumtree_action *a)
 {
     printf("    ");
     switch (a->kind) {
@@ -117,18 +117,16 @@ static void tell(struct panel *p, const char *what, uint64_t at, const uint8_t *
                  const struct plumtree_link_room *rooms, size_t rooms_length)
 {
     struct plumtree_answer answer;
-    struct reader actions;
-    struct action action;
+    struct plumtree_reader actions;
+    struct plumtree_action action;
 
     answer = plumtree_event(p->block, p->block_length, &p->counts, at, event, event_length, rooms, rooms_length, p->output, sizeof p->output);
     if (answer.number != PLUMTREE_ACCEPTED)
         stop(what, answer.number);
 
     printf("%" PRIu64 " %s\n", at, what);
-    actions.bytes = p->output;
-    actions.left = answer.length;
-    actions.bad = false;
-    while (take_action(&actions, &action))
+    actions = plumtree_actions_of(p->output, answer.length);
+    while (plumtree_take_action(&actions, &action))
         print_action(&action);
     if (actions.bad)
         stop("the actions cannot be read", answer.number);
@@ -142,7 +140,6 @@ int main(void)
     struct plumtree_limits limits = plumtree_small_limits();
     struct plumtree_answer answer;
     uint8_t event[64];
-    uint8_t timer;
 
     /* The block, of the size that these limits need. */
     panel.block_length = plumtree_block_size(limits);
@@ -153,19 +150,16 @@ int main(void)
     if (answer.number != PLUMTREE_ACCEPTED)
         stop("create", answer.number);
 
-    tell(&panel, "neighbour 2 is up", 0, event, put_up(event, 2), NULL, 0);
-    tell(&panel, "neighbour 3 is up", 0, event, put_up(event, 3), NULL, 0);
+    tell(&panel, "neighbour 2 is up", 0, event, plumtree_put_up(event, 2), NULL, 0);
+    tell(&panel, "neighbour 3 is up", 0, event, plumtree_put_up(event, 3), NULL, 0);
 
     /* The reading goes to both; the link to 3 hands it back, so its identifier is recorded for 3. */
-    tell(&panel, "broadcast", 10, event, put_broadcast(event, reading, strlen(reading), PLUMTREE_DELIVERY_SWARM), full, 1);
+    tell(&panel, "broadcast", 10, event, plumtree_put_broadcast(event, reading, strlen(reading), PLUMTREE_DELIVERY_SWARM), full, 1);
 
     /* The timers that were scheduled fire: 3 gets the announcement, and may ask for the reading. */
-    timer = PLUMTREE_TIMER_DISPATCH_LAZY_PUSH;
-    tell(&panel, "DispatchLazyPush fires", 15, event, put_timer(event, &timer, 1), NULL, 0);
-    timer = PLUMTREE_TIMER_ANNOUNCE_DROPPED;
-    tell(&panel, "AnnounceDropped fires", 1010, event, put_timer(event, &timer, 1), NULL, 0);
-    timer = PLUMTREE_TIMER_DISPATCH_LAZY_PUSH;
-    tell(&panel, "DispatchLazyPush fires", 1015, event, put_timer(event, &timer, 1), NULL, 0);
+    tell(&panel, "DispatchLazyPush fires", 15, event, plumtree_put_tick(event, PLUMTREE_TIMER_DISPATCH_LAZY_PUSH), NULL, 0);
+    tell(&panel, "AnnounceDropped fires", 1010, event, plumtree_put_tick(event, PLUMTREE_TIMER_ANNOUNCE_DROPPED), NULL, 0);
+    tell(&panel, "DispatchLazyPush fires", 1015, event, plumtree_put_tick(event, PLUMTREE_TIMER_DISPATCH_LAZY_PUSH), NULL, 0);
 
     printf("payload messages received %" PRIu64 ", control messages received %" PRIu64 "\n", panel.counts.payload_messages_received,
            panel.counts.control_messages_received);

@@ -66,19 +66,15 @@ static bool same_counts(const struct plumtree_stats *a, const struct plumtree_st
 static uint8_t output[40960];
 
 /* An accepted event; its actions stand in `output`. */
-static struct reader tell(struct panel *p, uint64_t at, const uint8_t *event, size_t n)
+static struct plumtree_reader tell(struct panel *p, uint64_t at, const uint8_t *event, size_t n)
 {
-    struct reader r;
     uint8_t *exact = (uint8_t *)bytes(n, 0);
     struct plumtree_answer a;
     memcpy(exact, event, n);
     a = plumtree_event(p->block, p->block_length, p->counts, at, exact, n, NULL, 0, output, sizeof output);
     CHECK(a.number == PLUMTREE_ACCEPTED);
     free(exact);
-    r.bytes = output;
-    r.left = a.length;
-    r.bad = false;
-    return r;
+    return plumtree_actions_of(output, a.length);
 }
 
 /* An event that is refused with this number, and touches nothing. */
@@ -111,10 +107,10 @@ static void refused(struct panel *p, uint64_t at, const uint8_t *event, size_t n
 #define REFUSED(p, at, event, n, output_length, number) refused(p, at, event, n, output_length, number, __LINE__)
 
 /* The next action is to schedule a timer of this kind after this delay. */
-static void schedules(struct reader *r, uint8_t kind, uint64_t delay)
+static void schedules(struct plumtree_reader *r, uint8_t kind, uint64_t delay)
 {
-    struct action a;
-    CHECK(take_action(r, &a));
+    struct plumtree_action a;
+    CHECK(plumtree_take_action(r, &a));
     CHECK(a.kind == PLUMTREE_ACTION_SCHEDULE);
     CHECK(a.kind == PLUMTREE_ACTION_SCHEDULE && a.timer[0] == kind);
     CHECK(a.delay == delay);
@@ -127,8 +123,8 @@ static void settings_in_place(void)
 {
     struct plumtree_settings s = plumtree_default_settings(7);
     struct panel p;
-    struct reader r;
-    struct action a;
+    struct plumtree_reader r;
+    struct plumtree_action a;
     uint8_t event[64];
     uint8_t id[PLUMTREE_ID_BYTES];
     uint8_t message[64];
@@ -143,8 +139,8 @@ static void settings_in_place(void)
     s.config.message_id_retention = 3000;
     s.config.cache_evict_interval = 104;
     p = new_panel(s, plumtree_small_limits());
-    tell(&p, 0, event, put_up(event, 2));
-    tell(&p, 0, event, put_up(event, 7));
+    tell(&p, 0, event, plumtree_put_up(event, 2));
+    tell(&p, 0, event, plumtree_put_up(event, 7));
 
     r = tell(&p, 0, evict, sizeof evict);
     schedules(&r, PLUMTREE_TIMER_EVICT_CACHE, 104);
@@ -167,17 +163,17 @@ static void settings_in_place(void)
     event[1] = PLUMTREE_TIMER_SEND_GRAFT;
     memcpy(event + 2, id, sizeof id);
     r = tell(&p, 0, event, 34);
-    CHECK(take_action(&r, &a));
+    CHECK(plumtree_take_action(&r, &a));
     CHECK(a.kind == PLUMTREE_ACTION_SEND && a.peer == 2 && a.taken && a.message.kind == PLUMTREE_MESSAGE_GRAFT && a.message.round == 5);
     CHECK(a.message.id && memcmp(a.message.id, id, sizeof id) == 0);
     schedules(&r, PLUMTREE_TIMER_SEND_GRAFT, 102);
     CHECK(r.left == 0);
 
     /* A broadcast: sent to 2, and not to 7, which is the panel itself. */
-    n = put_broadcast(event, "hot", 3, PLUMTREE_DELIVERY_SWARM);
+    n = plumtree_put_broadcast(event, "hot", 3, PLUMTREE_DELIVERY_SWARM);
     r = tell(&p, 0, event, n);
     schedules(&r, PLUMTREE_TIMER_DISPATCH_LAZY_PUSH, 103);
-    while (take_action(&r, &a)) {
+    while (plumtree_take_action(&r, &a)) {
         CHECK(a.kind == PLUMTREE_ACTION_SEND && a.peer == 2);
         memcpy(message, a.message.bytes, a.message.length);
         message_length = a.message.length;
@@ -200,15 +196,15 @@ static void settings_in_place(void)
     CHECK(tell(&p, 2000, event, 37).left == 0);
 
     /* It is known until 3,000: from 2 it is answered by a Prune before, and is new then. */
-    n = put_received(event, 2, message, message_length);
+    n = plumtree_put_received(event, 2, message, message_length);
     tell(&p, 2999, evict, sizeof evict);
     r = tell(&p, 2999, event, n);
-    CHECK(take_action(&r, &a));
+    CHECK(plumtree_take_action(&r, &a));
     CHECK(a.kind == PLUMTREE_ACTION_SEND && a.message.kind == PLUMTREE_MESSAGE_PRUNE);
     tell(&p, 3000, evict, sizeof evict);
     r = tell(&p, 3000, event, n);
     sends = 0;
-    while (take_action(&r, &a))
+    while (plumtree_take_action(&r, &a))
         if (a.kind == PLUMTREE_ACTION_EMIT) {
             CHECK(a.peer == 2 && a.content_length == 3 && memcmp(a.content, "hot", 3) == 0);
             CHECK(a.delivery == PLUMTREE_DELIVERY_SWARM && a.round == 0);
@@ -225,8 +221,8 @@ static bool optimises(uint16_t threshold, uint8_t announced)
 {
     struct plumtree_settings s = plumtree_default_settings(1);
     struct panel p;
-    struct reader r;
-    struct action a;
+    struct plumtree_reader r;
+    struct plumtree_action a;
     uint8_t event[64];
     uint8_t message[64];
     size_t message_length = 0;
@@ -234,9 +230,9 @@ static bool optimises(uint16_t threshold, uint8_t announced)
 
     /* The bytes of a message, from a broadcast of another panel. */
     p = new_panel(s, plumtree_small_limits());
-    tell(&p, 0, event, put_up(event, 2));
-    r = tell(&p, 0, event, put_broadcast(event, "hot", 3, PLUMTREE_DELIVERY_SWARM));
-    while (take_action(&r, &a))
+    tell(&p, 0, event, plumtree_put_up(event, 2));
+    r = tell(&p, 0, event, plumtree_put_broadcast(event, "hot", 3, PLUMTREE_DELIVERY_SWARM));
+    while (plumtree_take_action(&r, &a))
         if (a.kind == PLUMTREE_ACTION_SEND) {
             memcpy(message, a.message.bytes, a.message.length);
             message_length = a.message.length;
@@ -245,8 +241,8 @@ static bool optimises(uint16_t threshold, uint8_t announced)
 
     s.config.optimization_threshold = threshold;
     p = new_panel(s, plumtree_small_limits());
-    tell(&p, 0, event, put_up(event, 2));
-    tell(&p, 0, event, put_up(event, 3));
+    tell(&p, 0, event, plumtree_put_up(event, 2));
+    tell(&p, 0, event, plumtree_put_up(event, 3));
     /* 3 is pruned, so that it is not eager. */
     event[0] = PLUMTREE_EVENT_RECEIVED;
     event[1] = 3;
@@ -258,8 +254,8 @@ static bool optimises(uint16_t threshold, uint8_t announced)
     event[36] = announced;
     tell(&p, 0, event, 37);
     message[message_length - 1] = 9;
-    r = tell(&p, 0, event, put_received(event, 2, message, message_length));
-    while (take_action(&r, &a))
+    r = tell(&p, 0, event, plumtree_put_received(event, 2, message, message_length));
+    while (plumtree_take_action(&r, &a))
         if (a.kind == PLUMTREE_ACTION_SEND && a.peer == 3 && a.message.kind == PLUMTREE_MESSAGE_GRAFT)
             graft = true;
     free_panel(p);
@@ -359,6 +355,30 @@ static void creations(void)
     m.dropped = 0;
     CHECK(plumtree_block_size(m) == 0);
     CREATION(n, s, m, PLUMTREE_LIMIT_OUT_OF_RANGE);
+
+    /* What the header counts for a host: the output, the longest content, the limits for a traffic. */
+    CHECK(plumtree_output_size(l, PLUMTREE_GREATEST_MESSAGE_SIZE) == 37027);
+    CHECK(plumtree_output_size(most, PLUMTREE_GREATEST_MESSAGE_SIZE) == 409664);
+    CHECK(plumtree_longest_content(PLUMTREE_GREATEST_MESSAGE_SIZE) == 4055);
+    CHECK(plumtree_longest_content(PLUMTREE_LEAST_MESSAGE_SIZE) == 471);
+    m = plumtree_limits_for(8, 4, 256);
+    CREATION(plumtree_block_size(m), s, m, PLUMTREE_ACCEPTED);
+    m = plumtree_limits_for(8, 17, 256);
+    CHECK(plumtree_block_size(m) == 0);
+    CREATION(2922496, s, m, PLUMTREE_LIMIT_OUT_OF_RANGE);
+}
+
+/* The most bytes of each event, as wire.h counts them. */
+static void event_lengths(void)
+{
+    static uint8_t content[471], event[12 + PLUMTREE_LEAST_MESSAGE_SIZE];
+    uint8_t timer[1 + PLUMTREE_ID_BYTES] = {PLUMTREE_TIMER_SEND_GRAFT};
+    CHECK(plumtree_put_received(event, UINT64_MAX, content, sizeof content) == 11 + sizeof content);
+    CHECK(plumtree_put_broadcast(event, content, sizeof content, PLUMTREE_DELIVERY_SWARM) == 4 + sizeof content);
+    CHECK(plumtree_put_timer(event, timer, sizeof timer) == 34);
+    CHECK(plumtree_put_tick(event, PLUMTREE_TIMER_EVICT_CACHE) == sizeof evict && memcmp(event, evict, sizeof evict) == 0);
+    CHECK(plumtree_put_up(event, UINT64_MAX) == 11);
+    CHECK(plumtree_put_down(event, UINT64_MAX) == 11);
 }
 
 static void events(void)
@@ -370,8 +390,8 @@ static void events(void)
     static const uint8_t prune[] = {PLUMTREE_EVENT_RECEIVED, 2, PLUMTREE_MESSAGE_PRUNE};
     struct plumtree_limits l = plumtree_small_limits();
     struct panel p, q;
-    struct reader r;
-    struct action a;
+    struct plumtree_reader r;
+    struct plumtree_action a;
     struct plumtree_likeness likeness;
     uint8_t event[4200];
     uint8_t message[64];
@@ -384,9 +404,9 @@ static void events(void)
     /* As the first event an eviction schedules itself twice. */
     REFUSED(&p, 0, evict, sizeof evict, 7, PLUMTREE_OUTPUT_TOO_SHORT);
     REFUSED(&p, 0, evict, sizeof evict, 0, PLUMTREE_OUTPUT_TOO_SHORT);
-    tell(&p, 0, event, put_up(event, 2));
-    tell(&p, 0, event, put_up(event, 3));
-    REFUSED(&p, 0, event, put_up(event, 4), 64, PLUMTREE_LIMIT_REACHED);
+    tell(&p, 0, event, plumtree_put_up(event, 2));
+    tell(&p, 0, event, plumtree_put_up(event, 3));
+    REFUSED(&p, 0, event, plumtree_put_up(event, 4), 64, PLUMTREE_LIMIT_REACHED);
 
     REFUSED(&p, ((uint64_t)1 << 62) + 1, evict, sizeof evict, 64, PLUMTREE_TIME_TOO_LATE);
     REFUSED(&p, 0, NULL, 0, 64, PLUMTREE_EVENT_CUT);
@@ -398,7 +418,7 @@ static void events(void)
     /* A Gossip of 4,095 bytes, and M is 4,094. */
     memset(event, 0, sizeof event);
     event[1] = 2;
-    n = put_number(event, 35, 4058) + 4058 + 2;
+    n = plumtree_put_number(event, 35, 4058) + 4058 + 2;
     CHECK(n == 2 + 4095);
     REFUSED(&p, 0, event, n, 64, PLUMTREE_MESSAGE_TOO_LONG);
 
@@ -410,15 +430,15 @@ static void events(void)
 
     /* A message of the last round: that of a broadcast, with its round put to 65,535. */
     q = new_panel(plumtree_default_settings(9), l);
-    tell(&q, 0, event, put_up(event, 1));
-    r = tell(&q, 0, event, put_broadcast(event, "hot", 3, PLUMTREE_DELIVERY_SWARM));
-    while (take_action(&r, &a))
+    tell(&q, 0, event, plumtree_put_up(event, 1));
+    r = tell(&q, 0, event, plumtree_put_broadcast(event, "hot", 3, PLUMTREE_DELIVERY_SWARM));
+    while (plumtree_take_action(&r, &a))
         if (a.kind == PLUMTREE_ACTION_SEND) {
             memcpy(message, a.message.bytes, a.message.length);
-            message_length = put_number(message, a.message.length - 1, 65535);
+            message_length = plumtree_put_number(message, a.message.length - 1, 65535);
         }
     CHECK(message_length == 41);
-    REFUSED(&p, 0, event, put_received(event, 9, message, message_length), 4096, PLUMTREE_NO_MORE_HOPS);
+    REFUSED(&p, 0, event, plumtree_put_received(event, 9, message, message_length), 4096, PLUMTREE_NO_MORE_HOPS);
 
     /* Alike: of itself, of another, of a block that is none. */
     likeness = plumtree_alike(p.block, p.block_length, p.block, p.block_length);
@@ -451,26 +471,24 @@ static void rooms(void)
     struct panel p = new_panel(plumtree_default_settings(1), plumtree_small_limits());
     struct plumtree_link_room *list = (struct plumtree_link_room *)bytes(3 * sizeof *list, 0xff);
     struct plumtree_answer answer;
-    struct reader r;
-    struct action a;
+    struct plumtree_reader r;
+    struct plumtree_action a;
     uint8_t event[16];
     size_t n;
     int sends = 0;
-    tell(&p, 0, event, put_up(event, 2));
-    tell(&p, 0, event, put_up(event, 3));
+    tell(&p, 0, event, plumtree_put_up(event, 2));
+    tell(&p, 0, event, plumtree_put_up(event, 3));
     list[0].peer = 300;
     list[0].room = 0;
     list[1].peer = 3;
     list[1].room = 0;
     list[2].peer = 3;
     list[2].room = 65535;
-    n = put_broadcast(event, "hot", 3, PLUMTREE_DELIVERY_SWARM);
+    n = plumtree_put_broadcast(event, "hot", 3, PLUMTREE_DELIVERY_SWARM);
     answer = plumtree_event(p.block, p.block_length, p.counts, 0, event, n, list, 3, output, sizeof output);
     CHECK(answer.number == PLUMTREE_ACCEPTED);
-    r.bytes = output;
-    r.left = answer.length;
-    r.bad = false;
-    while (take_action(&r, &a))
+    r = plumtree_actions_of(output, answer.length);
+    while (plumtree_take_action(&r, &a))
         if (a.kind == PLUMTREE_ACTION_SEND) {
             CHECK(a.taken == (a.peer == 2));
             sends++;
@@ -499,6 +517,7 @@ int main(void)
     CHECK(optimises(6, 4));
     limits_in_place();
     creations();
+    event_lengths();
     events();
     rooms();
     printf("%s\n", failed ? "calls from C: not as promised" : "calls from C: as promised");

@@ -1,5 +1,5 @@
 #!/usr/bin/env bash
-# The library called from C: the header by itself as C and C++, the first broadcast with what it prints, and each refusal, all under valgrind.
+# The library called from C: the headers by themselves as C and C++, the examples with what they print, and each refusal, all under valgrind.
 # PLUMTREE_LIB_DIR can name the directory of another libplumtree.a than the proved one.
 set -euo pipefail
 cd "$(dirname "$0")/../.."
@@ -12,11 +12,13 @@ mkdir -p "$out"
 strict="-Wall -Wextra -pedantic -Werror"
 under_valgrind="valgrind -q --error-exitcode=9 --leak-check=full --errors-for-leak-kinds=all"
 
-# The header by itself, as each language reads it.
-# shellcheck disable=SC2086
-for std in c99 c11 c17; do gcc -std=$std $strict -fsyntax-only -x c include/plumtree.h || die "plumtree.h as $std"; done
-# shellcheck disable=SC2086
-for std in c++11 c++17; do g++ -std=$std $strict -fsyntax-only -x c++ include/plumtree.h || die "plumtree.h as $std"; done
+# The headers by themselves, as each language reads them.
+for header in include/plumtree.h examples/c/wire.h; do
+    # shellcheck disable=SC2086
+    for std in c99 c11 c17; do gcc -std=$std $strict -I include -fsyntax-only -x c "$header" || die "$header as $std"; done
+    # shellcheck disable=SC2086
+    for std in c++11 c++17; do g++ -std=$std $strict -I include -fsyntax-only -x c++ "$header" || die "$header as $std"; done
+done
 
 # It needs memcpy, memmove and memset, and has no variable of its own, as the header says.
 needs=$(nm "$lib/libplumtree.a" | sed -n 's/^ *U //p' | sort -u)
@@ -24,10 +26,12 @@ makes=$(nm "$lib/libplumtree.a" | sed -n 's/^[0-9a-f]* [A-Z] //p' | sort -u)
 [ -z "$(comm -23 <(echo "$needs") <(printf '%s\n' "$makes" memcpy memmove memset | sort -u))" ] || die "libplumtree.a needs more than the header says: $needs"
 [ -z "$(nm "$lib/libplumtree.a" | grep -E ' [bBdDcC] ' || true)" ] || die "libplumtree.a has a variable of its own"
 
-# The first broadcast, as its comment builds it.
-# shellcheck disable=SC2086
-gcc -std=c99 -g $strict -I include -o "$out/first_broadcast" examples/c/first_broadcast.c "$lib/libplumtree.a"
-$under_valgrind "$out/first_broadcast" | diff examples/c/first_broadcast.expected -
+# The examples, as their comments build them.
+for example in first_broadcast three_panels; do
+    # shellcheck disable=SC2086
+    gcc -std=c99 -g $strict -I include -o "$out/$example" "examples/c/$example.c" "$lib/libplumtree.a"
+    $under_valgrind "$out/$example" | diff "examples/c/$example.expected" -
+done
 
 # Each refusal, and where the structs' fields are; as C and as C++.
 for flags in -O0 -O2; do
@@ -43,4 +47,4 @@ g++ -std=c++11 -g $strict -I include -I examples/c -o "$out/calls_cpp" -x c++ te
 # shellcheck disable=SC2086
 gcc -std=c99 -O2 $strict -pthread -I include -I examples/c -o "$out/stack" tests/c/stack.c "$lib/libplumtree.a"
 "$out/stack"
-echo "tests/c: the header, the first broadcast and each refusal are as promised"
+echo "tests/c: the headers, the examples and each refusal are as promised"

@@ -105,8 +105,8 @@ int main(void)
 {
     uint8_t message[4200];
     uint8_t timer[1 + PLUMTREE_ID_BYTES];
-    struct reader actions;
-    struct action action;
+    struct plumtree_reader actions;
+    struct plumtree_action action;
     size_t n = 0, of_create, of_alike, i;
     uint64_t peer;
 
@@ -122,12 +122,10 @@ int main(void)
 
     /* The longest message that goes out, from the panel's own broadcast; then it comes to a new one. */
     of_create = taken(create);
-    event_of(put_up(event, 3));
-    event_of(put_broadcast(event, content, 4055, PLUMTREE_DELIVERY_SWARM));
-    actions.bytes = output;
-    actions.left = answer.length;
-    actions.bad = false;
-    while (take_action(&actions, &action))
+    event_of(plumtree_put_up(event, 3));
+    event_of(plumtree_put_broadcast(event, content, 4055, PLUMTREE_DELIVERY_SWARM));
+    actions = plumtree_actions_of(output, answer.length);
+    while (plumtree_take_action(&actions, &action))
         if (action.kind == PLUMTREE_ACTION_SEND) {
             n = action.message.length;
             memcpy(message, action.message.bytes, n);
@@ -135,40 +133,37 @@ int main(void)
     taken(create);
 
     for (peer = 2; peer < 34; peer++)
-        event_of(put_up(event, peer));
-    event_of(put_received(event, 3, message, n));
-    event_of(put_received(event, 4, message, n));
+        event_of(plumtree_put_up(event, peer));
+    event_of(plumtree_put_received(event, 3, message, n));
+    event_of(plumtree_put_received(event, 4, message, n));
     for (i = 0; i < 400; i++) {
         memcpy(content, &i, sizeof i);
-        event_of(put_broadcast(event, content, 1000, PLUMTREE_DELIVERY_SWARM));
+        event_of(plumtree_put_broadcast(event, content, 1000, PLUMTREE_DELIVERY_SWARM));
     }
-    event_of(put_broadcast(event, content, (size_t)1 << 20, PLUMTREE_DELIVERY_SWARM));
-    event_of(put_broadcast(event, content, 1000, PLUMTREE_DELIVERY_NEIGHBORS));
+    event_of(plumtree_put_broadcast(event, content, (size_t)1 << 20, PLUMTREE_DELIVERY_SWARM));
+    event_of(plumtree_put_broadcast(event, content, 1000, PLUMTREE_DELIVERY_NEIGHBORS));
     message[0] = PLUMTREE_MESSAGE_PRUNE;
-    event_of(put_received(event, 5, message, 1));
+    event_of(plumtree_put_received(event, 5, message, 1));
     message[0] = PLUMTREE_MESSAGE_GRAFT;
     message[1] = message[2] = 0;
-    event_of(put_received(event, 5, message, 3));
+    event_of(plumtree_put_received(event, 5, message, 3));
     message[0] = PLUMTREE_MESSAGE_IHAVE;
-    n = put_number(message, 1, 116);
+    n = plumtree_put_number(message, 1, 116);
     for (i = 0; i < 116; i++) {
         memset(message + n, (int)i, PLUMTREE_ID_BYTES);
         n += PLUMTREE_ID_BYTES;
         message[n++] = 3;
     }
-    event_of(put_received(event, 6, message, n));
+    event_of(plumtree_put_received(event, 6, message, n));
     memset(timer, 9, sizeof timer);
     timer[0] = PLUMTREE_TIMER_SEND_GRAFT;
-    event_of(put_timer(event, timer, sizeof timer));
-    timer[0] = PLUMTREE_TIMER_DISPATCH_LAZY_PUSH;
-    event_of(put_timer(event, timer, 1));
-    timer[0] = PLUMTREE_TIMER_ANNOUNCE_DROPPED;
-    event_of(put_timer(event, timer, 1));
+    event_of(plumtree_put_timer(event, timer, sizeof timer));
+    event_of(plumtree_put_tick(event, PLUMTREE_TIMER_DISPATCH_LAZY_PUSH));
+    event_of(plumtree_put_tick(event, PLUMTREE_TIMER_ANNOUNCE_DROPPED));
     of_alike = taken(alike);
     at = 30000;
-    timer[0] = PLUMTREE_TIMER_EVICT_CACHE;
-    event_of(put_timer(event, timer, 1));
-    event_of(put_down(event, 5));
+    event_of(plumtree_put_tick(event, PLUMTREE_TIMER_EVICT_CACHE));
+    event_of(plumtree_put_down(event, 5));
 
     printf("stack: create %zu bytes, event at most %zu, alike %zu\n", of_create, most_of_events, of_alike);
     if (most_of_events == 0)

@@ -215,16 +215,17 @@ static inline struct plumtree_limits plumtree_small_limits(void)
 
 /*
  * Limits for a panel among others that take in `per_second` readings a second, of all panels together, of at most `content` bytes each, with
- * the default durations: "received" holds an identifier for 91 seconds (90, and one until the next eviction), the cache a message for 31.
- * What is announced, asked for, queued or recorded can be all that stands in the caches. A limit over its ceiling (more than 16 readings a
- * second, say) is answered 3 by plumtree_create. Plain C, in this header.
+ * the default durations: an identifier is known for 90 seconds and a message cached for 30, to which come one until the next eviction and
+ * two to spare, since timers fire late. The rate is the highest over any 33 seconds: a burst over the limits is lost, not delayed, where
+ * every panel has the same. What is announced, asked for, queued or recorded can be all that stands in the caches. A limit over its
+ * ceiling (more than 15 readings a second, say) is answered 3 by plumtree_create. Plain C, in this header.
  */
 static inline struct plumtree_limits plumtree_limits_for(size_t neighbours, size_t per_second, size_t content)
 {
     struct plumtree_limits l;
-    size_t cached = 31 * per_second, recorded = cached < 256 ? cached : 256;
+    size_t cached = 33 * per_second, recorded = cached < 256 ? cached : 256;
     l.neighbours = neighbours;
-    l.received = 91 * per_second;
+    l.received = 93 * per_second;
     l.cached = cached;
     l.content = cached * content;
     l.grafted = cached;

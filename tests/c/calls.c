@@ -363,7 +363,7 @@ static void creations(void)
     CHECK(plumtree_longest_content(PLUMTREE_LEAST_MESSAGE_SIZE) == 471);
     m = plumtree_limits_for(8, 4, 256);
     CREATION(plumtree_block_size(m), s, m, PLUMTREE_ACCEPTED);
-    m = plumtree_limits_for(8, 17, 256);
+    m = plumtree_limits_for(8, 16, 256);
     CHECK(plumtree_block_size(m) == 0);
     CREATION(2922496, s, m, PLUMTREE_LIMIT_OUT_OF_RANGE);
 }

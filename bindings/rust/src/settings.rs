@@ -100,20 +100,21 @@ impl Limits {
         Limits { neighbours: 8, received: 64, cached: 32, content: 8_192, grafted: 16, missing: 16, timers: 16, queued: 64, dropped: 64 };
 
     /// Limits for a panel among others that take in `per_second` readings a second, of all panels together, of at most `content` bytes each, with
-    /// the default durations: an identifier stays known for 91 seconds (90, and one until the next eviction), a message cached for 31. What is
-    /// announced, asked for, queued or recorded can be all that stands in the caches. A limit over its ceiling (more than 16 readings a
-    /// second, say) is refused at creation.
+    /// the default durations: an identifier is known for 90 seconds and a message cached for 30, to which come one until the next eviction and
+    /// two to spare, since timers fire late. The rate is the highest over any 33 seconds: a burst over the limits is lost, not delayed, where
+    /// every panel has the same. What is announced, asked for, queued or recorded can be all that stands in the caches. A limit over its
+    /// ceiling (more than 15 readings a second, say) is refused at creation.
     ///
     /// ```
     /// use plumtree::{Limits, Panel, Settings};
     /// assert!(Panel::new(Settings::of_panel(1), Limits::for_traffic(8, 4, 256)).is_ok());
-    /// assert!(Panel::new(Settings::of_panel(1), Limits::for_traffic(8, 17, 256)).is_err());
+    /// assert!(Panel::new(Settings::of_panel(1), Limits::for_traffic(8, 16, 256)).is_err());
     /// ```
     pub const fn for_traffic(neighbours: usize, per_second: usize, content: usize) -> Limits {
-        let cached = 31 * per_second;
+        let cached = 33 * per_second;
         Limits {
             neighbours,
-            received: 91 * per_second,
+            received: 93 * per_second,
             cached,
             content: cached * content,
             grafted: cached,

@@ -134,7 +134,8 @@ static void tell(struct panel *p, const char *what, uint64_t at, const uint8_t *
 
 int main(void)
 {
-    static const char reading[] = "burner 3: 1452 C";
+    /* the panel's number and a sequence number first: the same content twice is one message */
+    static const char reading[] = "1/17 burner 3: 1452 C";
     static const struct plumtree_link_room full[] = {{3, 0}};
     static struct panel panel;
     struct plumtree_limits limits = plumtree_small_limits();

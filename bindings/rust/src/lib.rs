@@ -17,8 +17,8 @@
 //! // At 0 milliseconds the neighbour 2 is up. That leads to no action.
 //! assert_eq!(panel.event(0, &Event::Up(2), &[], &mut output)?.count(), 0);
 //!
-//! // At 10 the panel's own reading goes out.
-//! let reading = Event::Broadcast { content: b"burner 3: 1452 C", scope: Scope::Swarm };
+//! // At 10 the panel's own reading goes out, with its number and a sequence number: the same content twice is one message.
+//! let reading = Event::Broadcast { content: b"1/17 burner 3: 1452 C", scope: Scope::Swarm };
 //! let mut lines = Vec::new();
 //! for action in panel.event(10, &reading, &[], &mut output)? {
 //!     match action {
@@ -32,7 +32,7 @@
 //!         Action::Emit { content, .. } => lines.push(format!("show {content:?}")),
 //!     }
 //! }
-//! assert_eq!(lines, ["EvictCache in 1000", "DispatchLazyPush in 5", "52 bytes to 2"]);
+//! assert_eq!(lines, ["EvictCache in 1000", "DispatchLazyPush in 5", "57 bytes to 2"]);
 //! # Ok(())
 //! # }
 //! ```

@@ -237,9 +237,9 @@ static inline struct plumtree_limits plumtree_limits_for(size_t neighbours, size
 }
 
 /*
- * An output of this length is never answered 14: a message to each neighbour and an emit, or 50 bytes for each queued announcement. Counted from
- * the forms below and held against every call that tests/beside makes, not proved. 37,027 for panelrun's limits, 409,664 at the ceilings.
- * Plain C, in this header.
+ * A panel that comes from a creation never answers 14 to an output of this length: a message to each neighbour and an emit, or 50 bytes for
+ * each queued announcement. Counted from the forms below and held against the calls of tests/beside, not proved. 37,027 for panelrun's
+ * limits, 409,664 at the ceilings. Plain C, in this header.
  */
 static inline size_t plumtree_output_size(struct plumtree_limits limits, uint64_t max_message_size)
 {

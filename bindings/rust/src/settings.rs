@@ -125,8 +125,8 @@ impl Limits {
         }
     }
 
-    /// An output of this length is never refused as too short: a message to each neighbour and an emit, or 50 bytes for each queued announcement.
-    /// Counted from the forms of actions and held against every call that tests/beside makes, not proved.
+    /// A panel that comes from a creation never refuses an output of this length as too short: a message to each neighbour and an emit, or 50
+    /// bytes for each queued announcement. Counted from the forms of actions and held against the calls of tests/beside, not proved.
     ///
     /// ```
     /// assert_eq!(plumtree::Limits::SMALL.output_size(4_094), 37_027);

@@ -25,25 +25,8 @@
  *
  * WHAT A HOST HAS TO KNOW
  *
- *   - A message is known by its content. The same content broadcast again while it is known (message_id_retention, 90 s) is one message: no
- *     panel emits it a second time, and who gets it again answers with a Prune. So a reading carries its panel's number and a sequence
- *     number or a time.
- *   - A link is told up at both ends. A neighbour is eager at first: it gets the reading itself. One that gets a reading twice answers with
- *     a Prune and is lazy from then on: it gets the identifier alone, and asks (Graft) for what does not come otherwise.
- *   - A neighbour that comes up gets what is taken in from then on. What it missed while it was down is not sent to it.
- *   - Timers are the host's. Each that is scheduled is told once, when its delay has passed. EvictCache schedules itself anew, and comes
- *     first with the first event that is neither up nor down; one told in addition goes on beside it for ever.
- *   - A call that is refused has not happened. A timer, an up or a broadcast that was refused is told again later; a message that was refused is
- *     lost as on a bad link. An IHave is taken or refused whole.
- *   - Limits are for the traffic of all panels together (plumtree_limits_for). Those of panelrun carry 0.7 readings a second and 16 that
- *     wait behind a full link, and are for trying out.
- *   - Link room 0 hands back everything. Swarm readings and announcements are noted and announced later; a Graft, a Prune and a Neighbors
- *     message are not noted. A Graft that the only announcer's link hands back is not sent again, unless the reading is announced anew: keep
- *     room for one send where you can.
- *   - Who keeps a panel over a restart keeps block, counts and the timers not told yet, with their times. Where these are lost, tell
- *     DispatchLazyPush, EvictCache and AnnounceDropped once each; lost SendGraft timers can't be had back from the block.
- *   - A clock that starts at 0 again keeps what was taken in before until it has passed the old times. Such a host adds an offset, or
- *     makes a new panel.
+ * It stands in docs/LINKING.md under these words: what a host loses readings by, how it counts room, which limits it takes, what it keeps. Here each
+ * call, event and action has, in a sentence, what loses readings there.
  *
  *
  * WHAT A CALLER OWES
@@ -77,7 +60,8 @@
  *
  * A block is plain bytes: it can be copied, or kept and lent again later, with its counts. A call that is cut off (power, a killed process)
  * can leave it half written, and question 5 does not find every such block: whoever keeps a block over that goes on from a copy made
- * between two calls. Question 5 is no checksum either: a block in a file wants one of its own.
+ * between two calls. Question 5 is no checksum either: a block in a file wants one of its own. With the block are kept the timers that have
+ * not been told: what waits for one that is lost is never sent. The panel still has its neighbours: one that is gone meanwhile is told down.
  */
 #ifndef PLUMTREE_H
 #define PLUMTREE_H
@@ -154,7 +138,8 @@ struct plumtree_settings {
     uint64_t me;               /* the panel's own peer number */
 };
 
-/* How much a panel can hold, each from 1 to its ceiling. The block's size follows from these. */
+/* How much a panel can hold, each from 1 to its ceiling. The block's size follows from these. They are for the readings of all panels together
+ * (plumtree_limits_for): a message that goes over one of them is refused, and lost unless it is announced anew. */
 struct plumtree_limits {
     size_t neighbours; /* N: neighbours */
     size_t received;   /* R: identifiers of messages that came; twice as many expiry entries (a repeated content takes one more each time) */
@@ -196,8 +181,8 @@ static inline struct plumtree_settings plumtree_default_settings(uint64_t me)
     return s;
 }
 
-/* The limits of the program panelrun: "N 8, R 64, C 32, B 8,192, G S T 16, Q D 64". They need 58,880 bytes and are for trying out (see WHAT A
- * HOST HAS TO KNOW). Plain C, in this header. */
+/* The limits of the program panelrun: "N 8, R 64, C 32, B 8,192, G S T 16, Q D 64". They need 58,880 bytes and are for trying out: they
+ * carry 0.7 readings a second of all panels together, and 16 that wait behind a full link. Plain C, in this header. */
 static inline struct plumtree_limits plumtree_small_limits(void)
 {
     struct plumtree_limits l;
@@ -266,7 +251,8 @@ struct plumtree_stats {
 };
 
 /* Link room: how many sends of this call the link to a peer takes. "The first entry for a peer counts, a peer without one has no bound, and
- * the k-th send of a call to a peer is taken when k <= room." */
+ * the k-th send of a call to a peer is taken when k <= room." Of a socket it is the free bytes, divided by M + 1 and the bytes of the host's
+ * framing, rounded down. A link that is broken and will come back has room 0: what a link is said to take and then loses is not sent again. */
 struct plumtree_link_room {
     uint64_t peer;
     uint16_t room;
@@ -299,7 +285,9 @@ struct plumtree_answer plumtree_create(uint8_t *block, size_t block_length, stru
                                        struct plumtree_limits limits);
 
 /*
- * One event at the time `at`, in milliseconds. Asks 5 to 14 in their order, then does what document 01 says of the event.
+ * One event at the time `at`, in milliseconds. Asks 5 to 14 in their order, then does what document 01 says of the event. One that is refused
+ * has not happened: a timer, an up, a down or a broadcast is told again later, since what waits for it waits on; a message is lost as on a bad
+ * link, an IHave whole. A clock that starts at 0 again keeps what was taken in before until it has passed the old times, and fills the limits.
  * `rooms` is the link room of this call; none (null, 0): every send is taken.
  * `output` takes the actions: plumtree_output_size bytes are always enough; a host that lends less and is answered 14 calls again with more.
  */
@@ -344,13 +332,23 @@ struct plumtree_likeness plumtree_alike(const uint8_t *a, size_t a_length, const
  * Send: the message is for that peer, which need not be a neighbour (a Prune goes to whoever sent a reading twice): without a link to it,
  * drop the message. Taken: put it onto the link. Handed back: the link had no room in this call (struct plumtree_link_room); put nothing
  * there. Of a Swarm Gossip and of an IHave the panel has noted the identifiers and announces them later, unless its record is full
- * (docs/GUARANTEE.md, 3 d); of the other messages it has noted nothing. A message's length is not written: it ends where its fields
- * end. It can be one byte longer than M: a round that goes from 127 to 128 takes a byte more.
- * Schedule: when `delay` milliseconds have passed, call with the event `02 TIMER`. A timer is never taken back. A timer whose event is refused
- * has not fired: tell it again, with a longer output (14) or later (13); what waits for it is not scheduled anew.
+ * (docs/GUARANTEE.md, 3 d); of the other messages it has noted nothing. A Graft that is handed back the host keeps, and puts onto the link when
+ * there is room: the panel does not ask this neighbour again, and where no other announces the reading it is lost. A message's length is not
+ * written: it ends where its fields end. It can be one byte longer than M: a round that goes from 127 to 128 takes a byte more.
+ * Schedule: when `delay` milliseconds have passed, call with the event `02 TIMER`, once. A timer is never taken back. One whose event is refused
+ * has not fired: tell it again, with a longer output (14) or later (13); what waits for it is not scheduled anew, and is lost without it.
+ * AnnounceDropped may be told before its time, and then not at it: as soon as a link has room again, or what waits for it is sent late, and
+ * lost when it is no longer cached. An EvictCache told in addition goes on beside the others for ever.
  * Emit: a new message, for the panel's own use; `peer` brought it, with this round. A panel's own broadcasts are not emitted.
  *
  * Neighbors: sent once to the eager neighbours, announced to nobody, not sent on; who is lazy does not get it.
+ *
+ * Up: told at both ends of a link. The neighbour gets what is taken in from then on, and not what came before.
+ * Down: what waits for the neighbour is forgotten, and it does not get what is taken in until it is up again; so a link that will come back is
+ * not told down, but has room 0.
+ * Broadcast: told while no neighbour is up it is accepted and reaches nobody: hold it back until one is. The same content told again while it
+ * is known (message_id_retention, 90 s) is one message, and nobody emits it a second time: a reading carries its panel's number and a
+ * sequence number or a time.
  *
  * A broadcast that would be over M bytes on its way is accepted and sent to nobody: look at its length first (plumtree_longest_content). So a
  * content has at most 4,055 bytes where M is 4,094 and 471 where it is 510, three more for Neighbors: "Size is content + its length's groups

@@ -2,6 +2,7 @@
 # tools/believe.py held against a reading, against README's numbers and against the kit. Usage, from the repository's top: tests/believe/test.py
 import os, re, shutil, subprocess, sys, tempfile
 
+sys.dont_write_bytecode = True
 sys.path.insert(0, "tools")
 import believe
 

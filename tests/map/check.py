@@ -37,7 +37,7 @@ def listed():
 
 def crates(page, layers):
     told, layer = {}, None
-    for first, crate, _ in table(page, "Crates"):
+    for first, crate, _ in table(page, "Layers and crates"):
         layer = first or layer
         told.setdefault(layer, []).extend(names(crate))
     for layer, own in layers.items():

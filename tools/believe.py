@@ -409,7 +409,7 @@ def exported(world):
 
 
 def named(world, key):
-    crate, file, name = key.split(".")
+    crate, file, name = (key.split(".") + ["", ""])[:3]
     found = world.file(crate, file)
     if not found or name not in found.names:
         sys.exit(f"there is no definition {key}")
@@ -456,6 +456,18 @@ def show_list(world, found):
             print(f"  {d.name}  {os.path.relpath(d.path, TOP)}:{d.first + d.above}")
 
 
+# The first comment of a file of definitions, and what the names stand for that it gives to others' in some of its definitions.
+def header(file, own):
+    yield from (l for l in file.header or [] if l != "-- Assumes nothing.")
+    used = {t for d in own if d.file == file.name for l in d.lines for t in tokens(l)}
+    for name, (module, other) in file.imports.items():
+        if name != other and name in used:
+            yield f"-- {name}: {other} of {module}"
+    for name, module in file.modules.items():
+        if any(t.startswith(name + ".") for t in used):
+            yield f"-- {name}: {module}"
+
+
 def show(world, found):
     for crate, own in ordered(world, found):
         print(f"==== {crate}\n")
@@ -464,8 +476,7 @@ def show(world, found):
             if d.path != path:
                 print(f"---- {os.path.relpath(d.path, TOP)}")
                 file = world.file(d.crate, d.file)
-                header = [l for l in file.header or [] if l != "-- Assumes nothing."] if file else []
-                print("\n".join(header) + "\n" * bool(header))
+                print("\n".join(header(file, own) if file else []) + "\n" * bool(file))
             if d.module and d.module != module:
                 print(d.module)
             path, module = d.path, d.module

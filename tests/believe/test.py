@@ -14,7 +14,7 @@ protocol.Demand3.metFull protocol.Alike.sameBag protocol.Panel.panelrun block.sr
 machine.Called.callOf plumtree.Calls.Made plumtree.Calls.entries plumtree.lib.plumtree_alike records.Running.closing panel.Runs.Runs
 """
 OUT = """
-rows.Part.Only rows.Sorted.Ascending refs.Once.Numbers postcard.Message.eventBytes postcard.Output.Room postcard.Output.Wrote postcard.Events.Decodes blake3.WordOrder.order
+rows.Part.Only rows.Sorted.Ascending refs.Once.Numbers postcard.Message.eventBytes postcard.Output.Room postcard.Events.Decodes blake3.WordOrder.order
 protocol.Demand3.Demand3 decide.Settled.settled block.Goes.Goes block.Sound.Sound steps.Stands.Stands kinds.Meaning.peerOf machine.Core.Begun machine.Core.coreRooms
 machine.Decided.decided machine.Outcomes.Asked plumtree.Rooms.Found plumtree.Peers.Sender records.Reading.Whole panel.Places.Inside
 """

@@ -69,19 +69,24 @@ def code(source, types):
     return uses + text
 
 
-# A file of definitions without those that are not told.
+# The definitions of a file that are told, with the `use` lines that they need.
 def definitions(world, found, file):
-    left = {n for d in file.definitions if d.key() not in found for n in range(d.first, d.first + len(d.lines))}
-    told = [l for d in file.definitions if d.key() in found for l in d.lines]
-    lines = []
-    for n, line in enumerate(open(file.path, encoding="utf-8").read().splitlines(), 1):
-        names = re.fullmatch(r"(.*use (Rattle\S+?)\.\{)(.*)\}", line)
-        module = re.fullmatch(r"use Rattle\S+ as (\S+)", line)
-        if names:
-            kept = [i for i in names[3].split(", ") if world.find(names[2], i.split(" as ")[0]) in found.values()]
-            lines += [names[1] + ", ".join(kept) + "}"] if kept else []
-        elif n not in left and not (module and not any(module[1] + "." in l for l in told)):
+    told = [d for d in file.definitions if d.key() in found]
+    lines, module = [], None
+    for line in open(file.path, encoding="utf-8").read().splitlines():
+        own = re.fullmatch(r"(.*use (Rattle\S+?)\.\{)(.*)\}", line)
+        other = re.fullmatch(r"use Rattle\S+ as (\S+)", line)
+        if own:
+            kept = [i for i in own[3].split(", ") if world.find(own[2], i.split(" as ")[0]) in found.values()]
+            lines += [own[1] + ", ".join(kept) + "}"] if kept else []
+        elif other:
+            lines += [line] if any(other[1] + "." in l for d in told for l in d.lines) else []
+        elif re.match(r"use ", line):
             lines.append(line)
+    for d in told:
+        lines += ["", d.module] if d.module and d.module != module else [""]
+        lines += [d.fixity] * bool(d.fixity) + d.lines
+        module = d.module
     return "\n".join(lines) + "\n"
 
 

@@ -1,5 +1,6 @@
 #!/usr/bin/env bash
-# The library called from C: the headers by themselves as C and C++, the examples with what they print, and each refusal, all under valgrind.
+# The library called from C: the headers by themselves as C and C++, the examples with what they print, each number's text, and each refusal,
+# all under valgrind.
 # PLUMTREE_LIB_DIR can name the directory of another libplumtree.a than the proved one.
 set -euo pipefail
 cd "$(dirname "$0")/../.."
@@ -32,6 +33,11 @@ for example in first_broadcast three_panels; do
     gcc -std=c99 -g $strict -I include -o "$out/$example" "examples/c/$example.c" "$lib/libplumtree.a"
     $under_valgrind "$out/$example" | diff "examples/c/$example.expected" -
 done
+
+# Each number's text, held against the lines that the binding's errors are held against.
+# shellcheck disable=SC2086
+gcc -std=c99 -g $strict -I include -o "$out/numbers" tests/c/numbers.c
+$under_valgrind "$out/numbers" | diff bindings/rust/tests/numbers.txt -
 
 # Each refusal, and where the structs' fields are; as C and as C++.
 for flags in -O0 -O2; do

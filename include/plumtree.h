@@ -79,43 +79,76 @@ extern "C" {
 /*
  * ANSWERS
  *
- * "Answer 0 is yes to all. The first no gives its number". Creation asks 1 to 4, an event 5 to 14, plumtree_alike 5.
+ * "Answer 0 is yes to all. The first no gives its number". Creation asks 1 to 4, an event 5 to 14, plumtree_alike 5. The questions stand in
+ * plumtree_number_text below.
  */
 enum plumtree_number {
     PLUMTREE_ACCEPTED = 0,
 
-    /* "Is M, `max_message_size`, from 510 to 4,094?" */
     PLUMTREE_MESSAGE_SIZE_OUT_OF_RANGE = 1,
-    /* "Is each of the six durations at most 2^40?" */
     PLUMTREE_DURATION_TOO_LONG = 2,
-    /* "Is each limit from 1 to its ceiling?" */
     PLUMTREE_LIMIT_OUT_OF_RANGE = 3,
-    /* "Has the lent block at least 4,096 + B + 160R + 256C + 640G + 512S + 64(N + T + Q + D) bytes?" (plumtree_block_size) */
+    /* plumtree_block_size says how many bytes it needs. */
     PLUMTREE_BLOCK_TOO_SHORT = 4,
 
-    /* "Is the block whole?" No: it was not created, was written by somebody else, or is shorter than its limits need. */
+    /* It was not created, was written by somebody else, or is shorter than its limits need. */
     PLUMTREE_BLOCK_NOT_WHOLE = 5,
-    /* "Is now <= 2^62?" */
     PLUMTREE_TIME_TOO_LATE = 6,
-    /* "Does each field end within the bytes?" */
     PLUMTREE_EVENT_CUT = 7,
-    /* "Is each kind known, each number in its width and shortest?" */
     PLUMTREE_EVENT_MALFORMED = 8,
-    /* "Do the bytes end there?" */
     PLUMTREE_EVENT_TOO_LONG = 9,
-    /* "Is a received message at most M bytes?" These are the bytes behind the peer's number. */
+    /* Its bytes are those behind the peer's number. */
     PLUMTREE_MESSAGE_TOO_LONG = 10,
-    /* "Do the counts stay under 2^64?" */
     PLUMTREE_COUNTS_FULL = 11,
-    /* "Is it anything but a valid Swarm message of round 65,535, unreceived once a first event has evicted?" It is new here and has made
-     * 65,535 hops already: drop it. */
+    /* Drop it. */
     PLUMTREE_NO_MORE_HOPS = 12,
-    /* "Is the state after the call within every limit?" What the call frees counts as free. Entries that expire and neighbours that go down
-     * make room; so do higher limits at creation. */
+    /* What the call frees counts as free. Entries that expire and neighbours that go down make room; so do higher limits at creation. */
     PLUMTREE_LIMIT_REACHED = 13,
-    /* "Do the actions fit the output?" Nothing has changed: the same call with a longer output goes through. */
+    /* Nothing has changed: the same call with a longer output goes through. */
     PLUMTREE_OUTPUT_TOO_SHORT = 14
 };
+
+/* An answer's number as text for people: what it means, then the question, in UTF-8. Plain C, in this header. */
+static inline const char *plumtree_number_text(uint8_t number)
+{
+    switch (number) {
+    case PLUMTREE_ACCEPTED:
+        return "accepted";
+    case PLUMTREE_MESSAGE_SIZE_OUT_OF_RANGE:
+        return "the message size M is out of range (question 1: \"Is M, `max_message_size`, from 510 to 4,094?\")";
+    case PLUMTREE_DURATION_TOO_LONG:
+        return "a duration is too long (question 2: \"Is each of the six durations at most 2^40?\")";
+    case PLUMTREE_LIMIT_OUT_OF_RANGE:
+        return "a limit is 0 or over its ceiling (question 3: \"Is each limit from 1 to its ceiling?\")";
+    case PLUMTREE_BLOCK_TOO_SHORT:
+        return "the block is too short for the limits (question 4: "
+               "\"Has the lent block at least 4,096 + B + 160R + 256C + 640G + 512S + 64(N + T + Q + D) bytes?\")";
+    case PLUMTREE_BLOCK_NOT_WHOLE:
+        return "the block holds no panel, or a damaged one (question 5: \"Is the block whole?\")";
+    case PLUMTREE_TIME_TOO_LATE:
+        return "the time is too late (question 6: \"Is now \342\211\244 2^62?\")";
+    case PLUMTREE_EVENT_CUT:
+        return "the event is cut (question 7: \"Does each field end within the bytes?\")";
+    case PLUMTREE_EVENT_MALFORMED:
+        return "the event has an unknown kind, or a number that is too wide or not shortest (question 8: "
+               "\"Is each kind known, each number in its width and shortest?\")";
+    case PLUMTREE_EVENT_TOO_LONG:
+        return "the event has bytes after its end (question 9: \"Do the bytes end there?\")";
+    case PLUMTREE_MESSAGE_TOO_LONG:
+        return "the received message is too long (question 10: \"Is a received message at most M bytes?\")";
+    case PLUMTREE_COUNTS_FULL:
+        return "a count would pass its greatest value (question 11: \"Do the counts stay under 2^64?\")";
+    case PLUMTREE_NO_MORE_HOPS:
+        return "the message is new here and has made 65,535 hops already (question 12: "
+               "\"Is it anything but a valid Swarm message of round 65,535, unreceived once a first event has evicted?\")";
+    case PLUMTREE_LIMIT_REACHED:
+        return "a limit is reached (question 13: \"Is the state after the call within every limit?\")";
+    case PLUMTREE_OUTPUT_TOO_SHORT:
+        return "the output is too short for the actions (question 14: \"Do the actions fit the output?\")";
+    default:
+        return "no answer of this library";
+    }
+}
 
 /*
  * SETTINGS AND LIMITS
@@ -176,7 +209,7 @@ static inline struct plumtree_settings plumtree_default_settings(uint64_t me)
     s.config.message_cache_retention = 30000;
     s.config.message_id_retention = 90000;
     s.config.cache_evict_interval = 1000;
-    s.max_message_size = 4094;
+    s.max_message_size = PLUMTREE_GREATEST_MESSAGE_SIZE;
     s.me = me;
     return s;
 }

@@ -1,6 +1,6 @@
 #!/usr/bin/env bash
-# The library called from C: the headers by themselves as C and C++, the examples with what they print, what a host loses readings by, and each
-# refusal, all under valgrind.
+# The library called from C: the headers by themselves as C and C++, the examples with what they print, what a host loses readings by, each
+# number's text, and each refusal, all under valgrind.
 # PLUMTREE_LIB_DIR can name the directory of another libplumtree.a than the proved one.
 set -euo pipefail
 cd "$(dirname "$0")/../.."
@@ -45,6 +45,11 @@ linking=$(cat docs/LINKING.md)
 for printed in examples/c/first_broadcast examples/c/three_panels tests/c/host_rules; do
     case $linking in *"$(sed 's/^/    /; s/ *$//' "$printed.expected")"*) ;; *) die "docs/LINKING.md does not show $printed.expected" ;; esac
 done
+
+# Each number's text, held against the lines that the binding's errors are held against.
+# shellcheck disable=SC2086
+gcc -std=c99 -g $strict -I include -o "$out/numbers" tests/c/numbers.c
+$under_valgrind "$out/numbers" | diff bindings/rust/tests/numbers.txt -
 
 # Each refusal, and where the structs' fields are; as C and as C++.
 for flags in -O0 -O2; do

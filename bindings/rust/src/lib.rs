@@ -24,7 +24,7 @@
 //!     match action {
 //!         // Put the bytes onto the link to the peer.
 //!         Action::Send { peer, taken: true, bytes, .. } => lines.push(format!("{} bytes to {peer}", bytes.len())),
-//!         // The link had no room (see LinkRoom): there is nothing to do, the panel announces the reading later.
+//!         // The link had no room (see LinkRoom): the panel announces a reading later by itself; a Graft is kept until there is room.
 //!         Action::Send { taken: false, .. } => {}
 //!         // When the delay has passed, tell Event::Timer(timer).
 //!         Action::Schedule { delay, timer } => lines.push(format!("{timer} in {delay}")),

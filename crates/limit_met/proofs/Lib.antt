@@ -1,0 +1,3 @@
+pub mod PastLaws
+pub mod StepLaws
+pub mod LimitLaws

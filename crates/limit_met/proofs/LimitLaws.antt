@@ -24,8 +24,10 @@ use Rattle.protocol.proofs.Consistent.{whole-consistent}
 use Rattle.protocol.proofs.WholeKept.{kept-handle}
 use Rattle.decide.specs.Settled.{tooFarBefore}
 use Rattle.decide.specs.SizesAfter.{sizesAfter}
-use Rattle.decide.proofs.Decide.{decide-12}
+use Rattle.decide.specs.Rooms.{firstRoom}
+use Rattle.decide.proofs.Decide.{decide-12, same-rooms}
 use Rattle.decide.proofs.EachEvent.{handle-sizes}
+use Rattle.decide.proofs.RoomsCall.{reached}
 use Rattle.block.specs.View.{stateOf}
 use Rattle.block.specs.Header.{headIn}
 use Rattle.block.specs.declared.head.Head.{Head}
@@ -140,6 +142,15 @@ module _ (block : List ℕ) (w : Wholly block) where
     where
       reads : (if is13 (askRead identifier s zeroCounts k (decoded e)) then pastAfter identifier s k (decoded e) else 0) ≡ told (limitPast (handle identifier (k .now) e (begin s zeroCounts (k .rooms)) .state)) (askOf identifier s zeroCounts k e)
       reads = unfold told askRead pastAfter in refl
+
+-- with other rooms that tell the same of the peers that the call can reach
+pub past-rooms : (rooms rooms′ : List Room) (now : ℕ) (e : Event) (s : State) → whole s ≡ true →
+    ((p : ℕ) → reached s e p ≡ true → firstRoom p rooms′ ≡ firstRoom p rooms) → eventPast rooms′ now e s ≡ eventPast rooms now e s
+unfolding eventPast
+past-rooms rooms rooms′ now e s w h =
+    if-both (not (messageFits (s .settings .maxMessageSize) e)) refl
+    (if-both (tooFarBefore identifier now e s) refl
+    (sym (after-sizes now e s rooms′ w) ∙ ap (λ (r : Run). limitPast (r .state)) (same-rooms identifier now e s zeroCounts rooms rooms′ w h) ∙ after-sizes now e s rooms w))
 
 -- an event that was read, with the link room in an array
 pub core-limit : (block bytes array : List ℕ) (g : Head) (now : ℕ) (e : CodeEvent) (p n : ℕ) → Wholly block → g ≡ headIn block → now ≤ 2 ^ 62 →

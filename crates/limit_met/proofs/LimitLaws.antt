@@ -1,4 +1,4 @@
--- What the code computes is what the definitions say (`limit-event` and the laws before it); a call that is answered 13, with any counts and any output, has met a limit (`met-13`), and one that has met a limit is answered 13 with the counts zero (`limit-13`).
+-- What the code computes is what the definitions say: question by question (`limit-5`, `limit-6`, `limit-fault`, `limit-event`), and with the link room in an array (`core-limit`).
 use Prim.Native.Nat.{ℕ, _^_, _≤_, _<_, zero-le}
 use mathlib.Core.Path.{_≡_, refl, sym, ap, subst, _∙_}
 use mathlib.Core.Bool.{Bool, true, false, not, _&&_}
@@ -11,7 +11,7 @@ use Rattle.lists.specs.Base.{if_then_else_}
 use Rattle.lists.proofs.Branches.{if-on, if-both, if-same}
 use Rattle.lists.proofs.MapLaws.{cases}
 use Rattle.blake3.specs.Blake3.{identifier}
-use Rattle.postcard.specs.Message.{Message, Gossip, Prune, Graft, IHave, Event, Received, Broadcast, Fired, Up, Down}
+use Rattle.postcard.specs.Message.{Gossip, Prune, Graft, IHave, Event, Received, Broadcast, Fired, Up, Down}
 use Rattle.postcard.specs.Decode.{Decoded, decoded, faulty, decodeEvent}
 use Rattle.postcard.specs.Events.{eventValue}
 use Rattle.postcard.specs.declared.message.Event.{Event as CodeEvent}
@@ -19,7 +19,7 @@ use Rattle.protocol.specs.State.{State, zeroCounts}
 use Rattle.protocol.specs.Run.{Run, Room, begin}
 use Rattle.protocol.specs.Handle.{firstEvent, countMessage, onePayload, oneControl, handle}
 use Rattle.protocol.specs.Whole.{fits, whole, longEnough, wholeState}
-use Rattle.protocol.specs.Answer.{Call, Answer, refuse, accept, messageFits, countsBelow, countsStay, tooFar, lastTwo, askOf, askRead, ask, outputOf}
+use Rattle.protocol.specs.Answer.{Call, Answer, refuse, messageFits, countsBelow, countsStay, tooFar, lastTwo, askOf, askRead, ask, outputOf}
 use Rattle.protocol.proofs.Consistent.{whole-consistent}
 use Rattle.protocol.proofs.WholeKept.{kept-handle}
 use Rattle.decide.specs.Settled.{tooFarBefore}
@@ -38,7 +38,7 @@ use Rattle.machine.specs.Core.{eventPeer, coreRooms}
 use Rattle.machine.proofs.CoreLaws.{begun-of, core-rooms}
 use Rattle.limit_met.specs.LimitMet.{limitPast, is13, asking, pastAfter, limitOf, limitMet}
 use Rattle.limit_met.specs.Decided.{sizesPast, eventPast}
-use Rattle.limit_met.proofs.PastLaws.{past-sizes, past-none, none-past}
+use Rattle.limit_met.proofs.PastLaws.{past-sizes, past-none}
 
 -- the state after an event is past the limit that the sizes tell
 pub after-sizes : (now : ℕ) (e : Event) (s : State) (rooms : List Room) → whole s ≡ true →
@@ -48,7 +48,7 @@ after-sizes now e s rooms w =
     ∙ rw (kept-handle identifier now e (begin s zeroCounts rooms) .limits, handle-sizes identifier now e (begin s zeroCounts rooms) (whole-consistent s w)) refl
 
 -- (11) counts of zero stay under 2^64
-zero-stays : (e : Event) → countsStay e zeroCounts ≡ true
+pub zero-stays : (e : Event) → countsStay e zeroCounts ≡ true
 unfolding countsStay countsBelow countMessage onePayload oneControl zeroCounts
 zero-stays (Received p (Gossip id content d)) = refl
 zero-stays (Received p Prune) = refl

@@ -12,7 +12,7 @@ use postcard::message::Timer;
 use postcard::units::Millis;
 use steps::Sizes;
 ghost use mathlib.Core.Path.{_≡_};
-ghost use lib.ListN.{length, getD};
+ghost use lib.ListN.{length};
 ghost use Prim.Native.Nat.{_+_, _≤_};
 ghost use Rattle.rows.specs.Part.{part};
 ghost use Rattle.blake3.specs.Blake3.{identifier};
@@ -26,7 +26,7 @@ ghost use Rattle.steps.specs.Stands.{Stands};
 ghost use Rattle.steps.specs.Rooms.{roomsIn};
 ghost use Rattle.steps.specs.Shared.{sizesValue};
 ghost use Rattle.kinds.specs.Meaning.{StepHeld};
-ghost use Rattle.machine.specs.Core.{eventPeer, coreRooms};
+ghost use Rattle.machine.specs.Core.{coreRooms};
 ghost use Rattle.limit_met.specs.LimitMet.{asking, limitMet};
 ghost use Rattle.limit_met.specs.Decided.{sizesPast, eventPast, stepPast};
 

@@ -35,8 +35,8 @@
  *
  *   - Each pointer is valid for its length: a const pointer for reading, the others for reading and writing, until the call returns.
  *     A pointer whose length is 0 may be null or any other value. `counts` is never null.
- *   - block, counts and output do not overlap each other, nor event nor rooms. (event and rooms may overlap, and the two blocks of
- *     plumtree_alike may be the same.)
+ *   - block, counts and output do not overlap each other, nor event nor rooms. (event and rooms may overlap, the two blocks of
+ *     plumtree_alike may be the same, and what plumtree_limit_met is lent may overlap.)
  *   - No other thread writes what is lent, nor reads what is not const, before the call returns. Calls on different panels may run at
  *     the same time.
  *   - Each lent part has fewer than 2^63 bytes. `counts` and `rooms` are aligned as C aligns them; bytes need no alignment.
@@ -102,7 +102,8 @@ enum plumtree_number {
     PLUMTREE_COUNTS_FULL = 11,
     /* Drop it. */
     PLUMTREE_NO_MORE_HOPS = 12,
-    /* What the call frees counts as free. Entries that expire and neighbours that go down make room; so do higher limits at creation. */
+    /* What the call frees counts as free. Entries that expire and neighbours that go down make room; so do higher limits at creation.
+     * plumtree_limit_met says which limit it is. */
     PLUMTREE_LIMIT_REACHED = 13,
     /* Nothing has changed: the same call with a longer output goes through. */
     PLUMTREE_OUTPUT_TOO_SHORT = 14
@@ -183,6 +184,20 @@ struct plumtree_limits {
     size_t timers;     /* T: identifiers whose graft timer is marked */
     size_t queued;     /* Q: announcements queued, over all neighbours */
     size_t dropped;    /* D: identifiers recorded since a link handed them back, over all neighbours */
+};
+
+/* Which limit a call met (plumtree_limit_met), in the order of struct plumtree_limits. */
+enum plumtree_limit {
+    PLUMTREE_LIMIT_NONE = 0,
+    PLUMTREE_LIMIT_NEIGHBOURS = 1,
+    PLUMTREE_LIMIT_RECEIVED = 2,
+    PLUMTREE_LIMIT_CACHED = 3,
+    PLUMTREE_LIMIT_CONTENT = 4,
+    PLUMTREE_LIMIT_GRAFTED = 5,
+    PLUMTREE_LIMIT_MISSING = 6,
+    PLUMTREE_LIMIT_TIMERS = 7,
+    PLUMTREE_LIMIT_QUEUED = 8,
+    PLUMTREE_LIMIT_DROPPED = 9
 };
 
 #define PLUMTREE_CEILING_NEIGHBOURS 32
@@ -333,6 +348,14 @@ struct plumtree_answer plumtree_event(uint8_t *block, size_t block_length, struc
  * record, announcer and expiry lists ignored, repeats counted". Comparing bytes says less: equal states can be laid out in different bytes.
  */
 struct plumtree_likeness plumtree_alike(const uint8_t *a, size_t a_length, const uint8_t *b, size_t b_length);
+
+/*
+ * Which limit a call met that is answered 13 (enum plumtree_limit): asked after the refusal, with what the call was lent. It is the first, in
+ * their order, that the state after the call would be past; an expiry entry counts to its cache. 0 (none) where the call, with the counts
+ * zero, is not answered 13. Nothing is written.
+ */
+uint8_t plumtree_limit_met(const uint8_t *block, size_t block_length, uint64_t at, const uint8_t *event, size_t event_length,
+                           const struct plumtree_link_room *rooms, size_t rooms_length);
 
 /*
  * EVENTS AND ACTIONS, BYTE BY BYTE

@@ -1,6 +1,6 @@
 /*
- * The library called from C: that the header's structs are where the library reads them, each refusal and that it touches nothing, null pointers
- * with length 0. Every lent part is a heap block of exactly its length, so that valgrind sees a step beyond it.
+ * The library called from C: that the header's structs are where the library reads them, each refusal and that it touches nothing, each limit that
+ * a call can meet, null pointers with length 0. Every lent part is a heap block of exactly its length, so that valgrind sees a step beyond it.
  */
 #include <stdio.h>
 #include <stdlib.h>
@@ -499,6 +499,150 @@ static void rooms(void)
     free_panel(p);
 }
 
+/* The limit that is told for an event at 0 with this link room, before the call and again after a refusal; the call is answered 13 exactly if one is. */
+static uint8_t met_with(struct panel *p, const uint8_t *event, size_t n, const struct plumtree_link_room *list, size_t length)
+{
+    uint8_t limit = plumtree_limit_met(p->block, p->block_length, 0, event, n, list, length);
+    struct plumtree_answer a = plumtree_event(p->block, p->block_length, p->counts, 0, event, n, list, length, output, sizeof output);
+    CHECK((a.number == PLUMTREE_LIMIT_REACHED) == (limit != PLUMTREE_LIMIT_NONE));
+    CHECK(a.number == PLUMTREE_ACCEPTED || plumtree_limit_met(p->block, p->block_length, 0, event, n, list, length) == limit);
+    return limit;
+}
+
+static uint8_t met(struct panel *p, const uint8_t *event, size_t n)
+{
+    return met_with(p, event, n, NULL, 0);
+}
+
+/* An IHave of two identifiers from 2; the timer of the first, or of the second. */
+static size_t two_announced(uint8_t *event)
+{
+    event[0] = PLUMTREE_EVENT_RECEIVED;
+    event[1] = 2;
+    event[2] = PLUMTREE_MESSAGE_IHAVE;
+    event[3] = 2;
+    memset(event + 4, 8, PLUMTREE_ID_BYTES);
+    event[36] = 5;
+    memset(event + 37, 9, PLUMTREE_ID_BYTES);
+    event[69] = 5;
+    return 70;
+}
+
+static size_t send_graft(uint8_t *event, int id)
+{
+    uint8_t timer[1 + PLUMTREE_ID_BYTES];
+    memset(timer, id, sizeof timer);
+    timer[0] = PLUMTREE_TIMER_SEND_GRAFT;
+    return plumtree_put_timer(event, timer, sizeof timer);
+}
+
+/* A panel with the neighbours 2 and 3 and these limits. */
+static struct panel two_neighbours(struct plumtree_limits l)
+{
+    struct panel p = new_panel(plumtree_default_settings(1), l);
+    uint8_t event[16];
+    CHECK(met(&p, event, plumtree_put_up(event, 2)) == PLUMTREE_LIMIT_NONE);
+    CHECK(met(&p, event, plumtree_put_up(event, 3)) == PLUMTREE_LIMIT_NONE);
+    return p;
+}
+
+/* Each of the nine limits, met by a call and told; the first in their order; none for a call that is accepted or refused by another question. */
+static void limits_met(void)
+{
+    static const uint8_t prune[] = {PLUMTREE_EVENT_RECEIVED, 2, PLUMTREE_MESSAGE_PRUNE};
+    static const uint8_t prune_3[] = {PLUMTREE_EVENT_RECEIVED, 3, PLUMTREE_MESSAGE_PRUNE};
+    struct plumtree_link_room none[2] = {{2, 0}, {3, 0}};
+    struct plumtree_limits l;
+    struct panel p;
+    uint8_t event[128];
+
+    l = plumtree_small_limits();
+    l.neighbours = 2;
+    p = two_neighbours(l);
+    CHECK(met(&p, event, plumtree_put_up(event, 4)) == PLUMTREE_LIMIT_NEIGHBOURS);
+    CHECK(met(&p, event, plumtree_put_up(event, 3)) == PLUMTREE_LIMIT_NONE);
+    CHECK(met(&p, event, plumtree_put_down(event, 3)) == PLUMTREE_LIMIT_NONE);
+    CHECK(met(&p, event, plumtree_put_up(event, 4)) == PLUMTREE_LIMIT_NONE);
+    free_panel(p);
+
+    /* One received and one cached: received comes first. The expiry entries of a content that is repeated count to received too. */
+    l = plumtree_small_limits();
+    l.received = 1;
+    p = two_neighbours(l);
+    CHECK(met(&p, event, plumtree_put_broadcast(event, "a", 1, PLUMTREE_DELIVERY_SWARM)) == PLUMTREE_LIMIT_NONE);
+    CHECK(met(&p, event, plumtree_put_broadcast(event, "b", 1, PLUMTREE_DELIVERY_SWARM)) == PLUMTREE_LIMIT_RECEIVED);
+    CHECK(met(&p, event, plumtree_put_broadcast(event, "a", 1, PLUMTREE_DELIVERY_SWARM)) == PLUMTREE_LIMIT_NONE);
+    CHECK(met(&p, event, plumtree_put_broadcast(event, "a", 1, PLUMTREE_DELIVERY_SWARM)) == PLUMTREE_LIMIT_RECEIVED);
+    free_panel(p);
+    l.cached = 1;
+    p = two_neighbours(l);
+    CHECK(met(&p, event, plumtree_put_broadcast(event, "a", 1, PLUMTREE_DELIVERY_SWARM)) == PLUMTREE_LIMIT_NONE);
+    CHECK(met(&p, event, plumtree_put_broadcast(event, "b", 1, PLUMTREE_DELIVERY_SWARM)) == PLUMTREE_LIMIT_RECEIVED);
+    free_panel(p);
+    l = plumtree_small_limits();
+    l.cached = 1;
+    p = two_neighbours(l);
+    CHECK(met(&p, event, plumtree_put_broadcast(event, "a", 1, PLUMTREE_DELIVERY_SWARM)) == PLUMTREE_LIMIT_NONE);
+    CHECK(met(&p, event, plumtree_put_broadcast(event, "b", 1, PLUMTREE_DELIVERY_SWARM)) == PLUMTREE_LIMIT_CACHED);
+    free_panel(p);
+
+    l = plumtree_small_limits();
+    l.content = 3;
+    p = two_neighbours(l);
+    CHECK(met(&p, event, plumtree_put_broadcast(event, "abc", 3, PLUMTREE_DELIVERY_SWARM)) == PLUMTREE_LIMIT_NONE);
+    CHECK(met(&p, event, plumtree_put_broadcast(event, "d", 1, PLUMTREE_DELIVERY_SWARM)) == PLUMTREE_LIMIT_CONTENT);
+    CHECK(met(&p, event, plumtree_put_broadcast(event, "d", 1, PLUMTREE_DELIVERY_NEIGHBORS)) == PLUMTREE_LIMIT_NONE);
+    free_panel(p);
+
+    l = plumtree_small_limits();
+    l.grafted = 1;
+    p = two_neighbours(l);
+    CHECK(met(&p, event, two_announced(event)) == PLUMTREE_LIMIT_NONE);
+    CHECK(met(&p, event, send_graft(event, 8)) == PLUMTREE_LIMIT_NONE);
+    CHECK(met(&p, event, send_graft(event, 9)) == PLUMTREE_LIMIT_GRAFTED);
+    free_panel(p);
+
+    l = plumtree_small_limits();
+    l.timers = 1;
+    p = two_neighbours(l);
+    CHECK(met(&p, event, two_announced(event)) == PLUMTREE_LIMIT_TIMERS);
+    free_panel(p);
+    l.missing = 1;
+    p = two_neighbours(l);
+    CHECK(met(&p, event, two_announced(event)) == PLUMTREE_LIMIT_MISSING);
+    free_panel(p);
+
+    l = plumtree_small_limits();
+    l.queued = 1;
+    p = two_neighbours(l);
+    CHECK(met(&p, prune, sizeof prune) == PLUMTREE_LIMIT_NONE);
+    CHECK(met(&p, prune_3, sizeof prune_3) == PLUMTREE_LIMIT_NONE);
+    CHECK(met(&p, event, plumtree_put_broadcast(event, "a", 1, PLUMTREE_DELIVERY_SWARM)) == PLUMTREE_LIMIT_QUEUED);
+    free_panel(p);
+
+    /* What is handed back is recorded: the limit is met by the link room. */
+    l = plumtree_small_limits();
+    l.dropped = 1;
+    p = two_neighbours(l);
+    CHECK(met_with(&p, event, plumtree_put_broadcast(event, "a", 1, PLUMTREE_DELIVERY_SWARM), none, 2) == PLUMTREE_LIMIT_DROPPED);
+    CHECK(met_with(&p, event, plumtree_put_broadcast(event, "a", 1, PLUMTREE_DELIVERY_SWARM), none, 1) == PLUMTREE_LIMIT_NONE);
+    CHECK(met(&p, event, plumtree_put_broadcast(event, "b", 1, PLUMTREE_DELIVERY_SWARM)) == PLUMTREE_LIMIT_NONE);
+    free_panel(p);
+
+    /* Other questions come first: no panel, a time too late, an event that is none. An output is not asked for. */
+    l = plumtree_small_limits();
+    l.neighbours = 2;
+    p = two_neighbours(l);
+    CHECK(plumtree_limit_met(NULL, 0, 0, event, plumtree_put_up(event, 4), NULL, 0) == PLUMTREE_LIMIT_NONE);
+    CHECK(plumtree_limit_met(p.block, p.block_length - 1, 0, event, plumtree_put_up(event, 4), NULL, 0) == PLUMTREE_LIMIT_NONE);
+    CHECK(plumtree_limit_met(p.block, p.block_length, ((uint64_t)1 << 62) + 1, event, plumtree_put_up(event, 4), NULL, 0) == PLUMTREE_LIMIT_NONE);
+    CHECK(plumtree_limit_met(p.block, p.block_length, (uint64_t)1 << 62, event, plumtree_put_up(event, 4), NULL, 0) == PLUMTREE_LIMIT_NEIGHBOURS);
+    CHECK(plumtree_limit_met(p.block, p.block_length, 0, NULL, 0, NULL, 0) == PLUMTREE_LIMIT_NONE);
+    CHECK(plumtree_limit_met(p.block, p.block_length, 0, event, plumtree_put_up(event, 4) - 1, NULL, 0) == PLUMTREE_LIMIT_NONE);
+    CHECK(plumtree_limit_met(p.block, p.block_length, 0, evict, sizeof evict, NULL, 0) == PLUMTREE_LIMIT_NONE);
+    free_panel(p);
+}
+
 int main(void)
 {
     CHECK(sizeof(struct plumtree_config) == 56);
@@ -520,6 +664,7 @@ int main(void)
     event_lengths();
     events();
     rooms();
+    limits_met();
     printf("%s\n", failed ? "calls from C: not as promised" : "calls from C: as promised");
     return failed;
 }

@@ -51,6 +51,13 @@ static void *alike(void *unused)
     return unused;
 }
 
+/* Which limit the event would meet: none. */
+static void *limit(void *unused)
+{
+    answer.number = plumtree_limit_met(block, block_length, at, event, event_length, NULL, 0);
+    return unused;
+}
+
 static void stop(const char *why)
 {
     printf("stack: %s\n", why);
@@ -82,12 +89,15 @@ static size_t taken(void *(*call)(void *))
     return d > nothing_takes ? d - nothing_takes : 0;
 }
 
-static size_t most_of_events;
+static size_t most_of_events, most_of_limits;
 
 static void event_of(size_t length)
 {
     size_t d;
     event_length = length;
+    d = taken(limit);
+    if (d > most_of_limits)
+        most_of_limits = d;
     d = taken(tell);
     if (d > most_of_events)
         most_of_events = d;
@@ -165,10 +175,10 @@ int main(void)
     event_of(plumtree_put_tick(event, PLUMTREE_TIMER_EVICT_CACHE));
     event_of(plumtree_put_down(event, 5));
 
-    printf("stack: create %zu bytes, event at most %zu, alike %zu\n", of_create, most_of_events, of_alike);
+    printf("stack: create %zu bytes, event at most %zu, alike %zu, limit_met at most %zu\n", of_create, most_of_events, of_alike, most_of_limits);
     if (most_of_events == 0)
         stop("nothing was measured");
-    if (of_create > SAID || most_of_events > SAID || of_alike > SAID)
+    if (of_create > SAID || most_of_events > SAID || of_alike > SAID || most_of_limits > SAID)
         stop("more than the header says");
     munmap(stack, STACK);
     free(block);

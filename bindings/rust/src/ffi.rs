@@ -50,6 +50,15 @@ extern "C" {
     ) -> Answer;
     #[cfg_attr(plumtree_missing, link_name = env!("PLUMTREE_MISSING"))]
     fn plumtree_alike(a: *const u8, a_length: usize, b: *const u8, b_length: usize) -> Likeness;
+    fn plumtree_limit_met(
+        block: *const u8,
+        block_length: usize,
+        at: u64,
+        event: *const u8,
+        event_length: usize,
+        rooms: *const LinkRoom,
+        rooms_length: usize,
+    ) -> u8;
 }
 
 /// How many bytes a block of these limits needs, or 0 where a limit is out of range.
@@ -89,4 +98,10 @@ pub fn event(block: &mut [u8], counts: &mut Stats, at: u64, event: &[u8], rooms:
 pub fn alike(a: &[u8], b: &[u8]) -> Likeness {
     // SAFETY: both are shared references, valid for reading; they may be the same.
     unsafe { plumtree_alike(a.as_ptr(), a.len(), b.as_ptr(), b.len()) }
+}
+
+/// Which limit a call met that is answered 13: its number, from 1 to 9, or 0 where the call, with the counts zero, is not answered 13.
+pub fn limit_met(block: &[u8], at: u64, event: &[u8], rooms: &[LinkRoom]) -> u8 {
+    // SAFETY: the three are shared references, valid for reading.
+    unsafe { plumtree_limit_met(block.as_ptr(), block.len(), at, event.as_ptr(), event.len(), rooms.as_ptr(), rooms.len()) }
 }

@@ -78,7 +78,7 @@
 //! A call that cannot be carried out is refused by one of the fourteen questions of the specification ([`Error`]); nothing has changed then.
 //!
 //! ```
-//! use plumtree::{Error, Event, Limits, Panel, Settings};
+//! use plumtree::{Error, Event, Limit, Limits, Panel, Settings};
 //!
 //! # fn main() -> Result<(), Error> {
 //! let limits = Limits { neighbours: 1, ..Limits::SMALL };
@@ -88,6 +88,7 @@
 //! assert_eq!(refused, Error::LimitReached);
 //! assert_eq!(refused.number(), 13);
 //! assert_eq!(refused.to_string(), "a limit is reached (question 13: \"Is the state after the call within every limit?\")");
+//! assert_eq!(panel.limit_met(0, &Event::Up(3), &[]), Some(Limit::Neighbours));
 //! # Ok(())
 //! # }
 //! ```
@@ -104,6 +105,7 @@ mod action;
 mod error;
 mod event;
 mod ffi;
+mod limit;
 mod message;
 mod panel;
 mod settings;
@@ -113,12 +115,13 @@ mod wire;
 pub use action::{Action, Actions};
 pub use error::Error;
 pub use event::{Event, Scope};
+pub use limit::Limit;
 pub use message::{Announced, Delivery, Id, Message, Timer};
 pub use panel::{alike, block_size, LinkRoom, Panel, Stats};
 pub use settings::{longest_content, Config, Limits, Settings, GREATEST_MESSAGE_SIZE, LEAST_MESSAGE_SIZE};
 pub use wire::{read_number, write_number};
 
-/// The library's four functions on slices, with their answers as numbers. For tests and for hosts that keep blocks in their own way.
+/// The library's five functions on slices, with their answers as numbers. For tests and for hosts that keep blocks in their own way.
 ///
 /// Each of them takes any bytes at all: what a call promises, it promises for every block, event, room and output.
 ///
@@ -142,5 +145,5 @@ pub use wire::{read_number, write_number};
 /// assert_eq!(raw::event(&mut block, &mut counts, 0, &[3], &[], &mut output).number, 7);
 /// ```
 pub mod raw {
-    pub use crate::ffi::{alike, block_size, create, event, Answer, Likeness};
+    pub use crate::ffi::{alike, block_size, create, event, limit_met, Answer, Likeness};
 }

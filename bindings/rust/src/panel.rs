@@ -1,6 +1,6 @@
 use std::fmt;
 
-use crate::{raw, Actions, Error, Event, Limits, Settings};
+use crate::{raw, Actions, Error, Event, Limit, Limits, Settings};
 
 /// The counts record, brought up to date by each accepted call.
 #[repr(C)]
@@ -141,6 +141,12 @@ impl<B: AsRef<[u8]> + AsMut<[u8]>> Panel<B> {
     /// ```
     pub fn event_bytes<'o>(&mut self, at: u64, event: &[u8], rooms: &[LinkRoom], output: &'o mut [u8]) -> Result<Actions<'o>, Error> {
         tell(self.block.as_mut(), &mut self.stats, at, event, rooms, output)
+    }
+
+    /// Which limit a call met that was refused with [`Error::LimitReached`], asked with what the call brought: the first, in their order, that the
+    /// state after the call would be past. None where the call, with the counts zero, is not refused so. Nothing changes.
+    pub fn limit_met(&self, at: u64, event: &Event<'_>, rooms: &[LinkRoom]) -> Option<Limit> {
+        Limit::from_number(raw::limit_met(self.block.as_ref(), at, &event.to_bytes(), rooms))
     }
 
     /// The counts.

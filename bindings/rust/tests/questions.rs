@@ -1,7 +1,7 @@
 //! Each question answered no once, through the library, with what a refusal promises: block, counts and output untouched.
 use plumtree::{
-    alike, block_size, longest_content, raw, Action, Announced, Delivery, Error, Event, Limits, LinkRoom, Message, Panel, Scope, Settings,
-    Stats, Timer, GREATEST_MESSAGE_SIZE, LEAST_MESSAGE_SIZE,
+    alike, block_size, longest_content, raw, Action, Announced, Delivery, Error, Event, Limit, Limits, LinkRoom, Message, Panel, Scope,
+    Settings, Stats, Timer, GREATEST_MESSAGE_SIZE, LEAST_MESSAGE_SIZE,
 };
 
 const LIMITS: [fn(&mut Limits) -> &mut usize; 9] = [
@@ -183,6 +183,8 @@ fn events() {
     // 13: a third neighbour where two are the limit.
     let mut two = panel(Limits { neighbours: 2, ..Limits::SMALL });
     refused(&mut two, 0, &Event::Up(4).to_bytes(), 64, Error::LimitReached);
+    assert_eq!(two.limit_met(0, &Event::Up(4), &[]), Some(Limit::Neighbours));
+    assert_eq!(two.limit_met(0, &Event::Up(3), &[]), None);
     two.event(0, &Event::Down(3), &[], &mut []).unwrap();
     two.event(0, &Event::Up(4), &[], &mut []).unwrap();
 
@@ -333,6 +335,46 @@ fn rooms() {
     // "The first entry for a peer counts".
     assert_eq!(taken(&[LinkRoom { peer: 2, room: 0 }, LinkRoom { peer: 2, room: u16::MAX }]), [(2, false), (3, true)]);
     assert_eq!(taken(&[LinkRoom { peer: 2, room: u16::MAX }, LinkRoom { peer: 2, room: 0 }]), [(2, true), (3, true)]);
+}
+
+/// Each limit is told by its number; what is handed back is recorded, so that link room can meet one.
+#[test]
+fn limits_met() {
+    for (i, limit) in Limit::ALL.into_iter().enumerate() {
+        assert_eq!(usize::from(limit.number()), i + 1);
+        assert_eq!(Limit::from_number(limit.number()), Some(limit));
+    }
+    assert_eq!([0, 10, 255].map(Limit::from_number), [None; 3]);
+    let full = [LinkRoom { peer: 2, room: 0 }, LinkRoom { peer: 3, room: 0 }];
+    let reading = Event::Broadcast { content: b"hot", scope: Scope::Swarm };
+    let two = vec![Announced { id: [8; 32], round: 5 }, Announced { id: [9; 32], round: 5 }];
+    let ihave = Event::Received { peer: 2, message: Message::IHave(two) };
+    let graft = |id| Event::Timer(Timer::SendGraft([id; 32]));
+    let prune = |peer| Event::Received { peer, message: Message::Prune };
+    let cases: [(Limit, Vec<Event>, Event, &[LinkRoom]); 9] = [
+        (Limit::Neighbours, vec![Event::Down(3)], Event::Up(3), &[]),
+        (Limit::Received, vec![reading.clone()], Event::Broadcast { content: b"hotter", scope: Scope::Swarm }, &[]),
+        (Limit::Cached, vec![reading.clone()], Event::Broadcast { content: b"hotter", scope: Scope::Swarm }, &[]),
+        (Limit::Content, vec![], reading.clone(), &[]),
+        (Limit::Grafted, vec![ihave.clone(), graft(8)], graft(9), &[]),
+        (Limit::Missing, vec![], ihave.clone(), &[]),
+        (Limit::Timers, vec![], ihave.clone(), &[]),
+        (Limit::Queued, vec![prune(2), prune(3)], reading.clone(), &[]),
+        (Limit::Dropped, vec![], reading.clone(), &full),
+    ];
+    for ((limit, before, event, rooms), field) in cases.into_iter().zip(LIMITS) {
+        let mut limits = Limits::SMALL;
+        *field(&mut limits) = 1;
+        let mut p = Panel::new(Settings::of_panel(1), limits).unwrap();
+        let mut output = [0; 4096];
+        let ups = if limit == Limit::Neighbours { vec![Event::Up(2)] } else { vec![Event::Up(2), Event::Up(3)] };
+        for e in ups.iter().chain(&before) {
+            assert_eq!(p.limit_met(0, e, &[]), None, "{limit}");
+            p.event(0, e, &[], &mut output).unwrap();
+        }
+        assert_eq!(p.limit_met(0, &event, rooms), Some(limit));
+        assert_eq!(p.event(0, &event, rooms, &mut output).unwrap_err(), Error::LimitReached, "{limit}");
+    }
 }
 
 #[test]

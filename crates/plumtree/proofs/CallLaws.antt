@@ -1,4 +1,4 @@
--- An event call asks the link room only of the peers to whom it can send; and what a refused call leaves of the counts.
+-- An event call, and the question which limit it met, ask the link room only of the peers to whom the call can send; and what a refused call leaves of the counts.
 use Prim.Native.Nat.{ℕ, suc, _≤_, _<_, _^_, zero-le}
 use native.Mathlib.Omega.{arith}
 use mathlib.Core.Path.{_≡_, refl, sym, ap, subst, _∙_}
@@ -35,6 +35,8 @@ use Rattle.machine.specs.Core.{peerIn, coreRooms}
 use Rattle.machine.specs.Decided.{decided}
 use Rattle.machine.proofs.CoreLaws.{answer-5, answer-6, answer-fault, answer-event, begun-of}
 use Rattle.machine.proofs.DecidedLaws.{decided-rooms}
+use Rattle.limit_met.specs.LimitMet.{asking, limitMet}
+use Rattle.limit_met.proofs.LimitLaws.{limit-5, limit-6, limit-fault, limit-event, past-rooms}
 use Rattle.plumtree.specs.declared.LinkRoom.{LinkRoom}
 use Rattle.plumtree.specs.Calls.{entries}
 use Rattle.plumtree.specs.Rooms.{Found}
@@ -99,6 +101,20 @@ module _ (block event : List ℕ) where
     finds = subst (λ (o : Outcome). Finds o (lent block c out) after n m) (same-answer given asked now _ (length out) v) (f .finds);
   }
 
+  read-limit : (given asked : List Room) (now : ℕ) (x : Decoded) → Wholly block → now ≤ 2 ^ 62 → decodeEvent event ≡ x → Serves given asked →
+      limitMet identifier (length block) (held block) (asking now event given) ≡ limitMet identifier (length block) (held block) (asking now event asked)
+  read-limit given asked now (faulty n) w early d v = limit-fault block w _ n early d ∙ sym (limit-fault block w _ n early d)
+  read-limit given asked now (decoded e) w early d v = limit-event block w _ e early d ∙ past-rooms asked given now e s (w .whole) (v .same w e d) ∙ sym (limit-event block w _ e early d)
+
+  same-limit : (given asked : List Room) (now : ℕ) → Serves given asked →
+      limitMet identifier (length block) (held block) (asking now event given) ≡ limitMet identifier (length block) (held block) (asking now event asked)
+  same-limit given asked now v =
+      cases (wholeBlock block)
+      (λ w. cases (leb now (2 ^ 62))
+      (λ l. read-limit given asked now (decodeEvent event) (wholly-of block w) (leb-true now (2 ^ 62) l) refl v)
+      (λ l. limit-6 block (wholly-of block w) _ (leb-false now (2 ^ 62) l) ∙ sym (limit-6 block (wholly-of block w) _ (leb-false now (2 ^ 62) l))))
+      (λ w. limit-5 block _ w ∙ sym (limit-5 block _ w))
+
   -- the array that the core was given, with the room of each link and of the sender
   module _ (array : List ℕ) (asked : List Room) (long : length array ≡ 34) (links : Wholly block → (i : ℕ) → i < length (s .links) → roomAt (getD array i 0) ≡ firstRoom (peerAt s i) asked)
       (sender : Wholly block → (q : ℕ) (m : Message) → decodeEvent event ≡ decoded (Received q m) → roomAt (getD array 32 0) ≡ firstRoom q asked) where
@@ -141,6 +157,12 @@ pub called-entries : (block event array : List ℕ) (rooms : List LinkRoom) (now
     Called (callOf now event (coreRooms block event array) out) (lent block c out) after n m → Called (callOf now event (entries rooms) out) (lent block c out) after n m
 called-entries block event array rooms now c out after n m long f =
     called-with block event (coreRooms block event array) (entries rooms) now c out after n m
+    (serves block event array (entries rooms) long (λ w i h. f .links (whole-is block w) i h) (λ w q k d. f .sender (whole-is block w) q k d))
+
+pub limit-entries : (block event array : List ℕ) (rooms : List LinkRoom) (now n : ℕ) → length array ≡ 34 → Found block event rooms array →
+    n ≡ limitMet identifier (length block) (held block) (asking now event (coreRooms block event array)) → n ≡ limitMet identifier (length block) (held block) (asking now event (entries rooms))
+limit-entries block event array rooms now n long f e =
+    e ∙ same-limit block event (coreRooms block event array) (entries rooms) now
     (serves block event array (entries rooms) long (λ w i h. f .links (whole-is block w) i h) (λ w q k d. f .sender (whole-is block w) q k d))
 
 -- no link is bounded

@@ -14,8 +14,10 @@ ghost use mathlib.Core.List.{[]};
 ghost use lib.ListN.{length};
 ghost use Rattle.protocol.specs.Alike.{alikeBlocks};
 ghost use Rattle.block.specs.View.{limitsOf};
+ghost use Rattle.blake3.specs.Blake3.{identifier};
 ghost use Rattle.whole.specs.Held.{held};
 ghost use Rattle.machine.specs.Called.{countsOf, lent, callOf, Called};
+ghost use Rattle.limit_met.specs.LimitMet.{asking, limitMet};
 ghost use Rattle.plumtree.specs.Calls.{blockSize, Made, entries, toldOf};
 
 // An entry of a call's link room: how many sends to the peer its link takes.
@@ -155,4 +157,19 @@ pub extern "C" fn plumtree_alike(a: &[u8], b: &[u8]) -> Likeness
             alike: false,
         },
     }
+}
+
+// Which limit a call met that is answered 13, asked with what the call brought: its number, from 1 for N to 9 for D; 0 if the call, with the counts zero, is not
+// answered 13. Nothing is written.
+#[no_mangle]
+pub extern "C" fn plumtree_limit_met(
+    block: &[u8],
+    at: Millis,
+    event: &[u8],
+    rooms: &[LinkRoom],
+) -> u8
+    ensures { λ r. ⌜ r ≡ limitMet identifier (length (now (block .entry))) (held (now (block .entry))) (asking (at .0) (now (event .entry)) (entries (now (rooms .entry)))) ⌝ }
+{
+    let found = rooms::rooms_of(block, event, rooms);
+    limit_met::limit_met(block, at, event, found)
 }

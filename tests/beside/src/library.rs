@@ -97,6 +97,12 @@ pub fn event(
     lent.answer(a)
 }
 
+/// Which limit a call meets, by its number; 0 where it meets none.
+pub fn limit_met(block: &[u8], now: u64, event: &[u8], rooms: &[(u64, u16)]) -> u64 {
+    let rooms: Vec<LinkRoom> = rooms.iter().map(|&(peer, room)| LinkRoom { peer, room }).collect();
+    raw::limit_met(block, now, event, &rooms).into()
+}
+
 /// Question 5, asked by a call whose time is over 2^62: the answer is 5, or 6 if the block is whole.
 pub fn whole(block: &mut [u8]) -> bool {
     let a = event(block, &mut [0; 3], u64::MAX, &[], &[], &mut []);

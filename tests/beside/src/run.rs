@@ -293,6 +293,11 @@ impl Pair {
             }
             None => Answer { number: 5, ..Answer::default() },
         };
+        // With the counts full a call is answered 11, and the question, which takes them as zero, is another one.
+        if answer.number != 11 {
+            let ours = library::limit_met(self.block.part(), now, event, rooms);
+            same("limit met", first_limit(answer.over), ours)?;
+        }
         self.out.set_len(limits.out);
         let mut counts = self.counts;
         let block = self.block.part_mut();
@@ -340,6 +345,12 @@ impl Pair {
         same("alike, the other way", (told.number, told.alike), library::alike(b, a))?;
         holds(self.block.part() == self.before, "alike changed the block")
     }
+}
+
+/// The first limit of those that the Rust's sizes are over, from 1; 0 if there is none. The numbers of expiry entries, bits 9 to 11, count to their caches.
+fn first_limit(over: u16) -> u64 {
+    const BITS: [u16; 9] = [1, 1 << 1 | 1 << 9, 1 << 2 | 1 << 10, 1 << 3, 1 << 4 | 1 << 11, 1 << 5, 1 << 6, 1 << 7, 1 << 8];
+    BITS.iter().position(|b| over & b != 0).map_or(0, |i| i as u64 + 1)
 }
 
 /// Whether each cached message came as one of at most M bytes, as in every state that calls lead to from a creation.

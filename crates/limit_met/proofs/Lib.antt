@@ -1,0 +1,4 @@
+pub mod PastLaws
+pub mod StepLaws
+pub mod LimitLaws
+pub mod Exactly

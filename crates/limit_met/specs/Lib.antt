@@ -1,0 +1,2 @@
+pub mod LimitMet
+pub mod Decided

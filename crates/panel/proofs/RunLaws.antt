@@ -12,12 +12,13 @@ use Rattle.postcard.specs.Wide.{Bytes}
 use Rattle.postcard.proofs.FieldBack.{bytes-drop}
 use Rattle.protocol.specs.State.{State, Counts, fresh, zeroCounts}
 use Rattle.protocol.specs.Panel.{panelSettings, panelLimits}
+use Rattle.records.specs.Reading.{Cut}
 use Rattle.records.specs.Running.{writes, endBytes, closing}
 use Rattle.records.proofs.Pieces.{record-takes}
 use Rattle.records.proofs.RunningLaws.{panelrun-writes, writes-never, writes-bad}
 use Rattle.machine.specs.Called.{countsOf}
-use Rattle.panel.specs.Turns.{Holds, Memory, Took, Waits, Turned}
-use Rattle.panel.specs.Runs.{Runs, answers, reads, ends, stops, inputOf, WritesPanelrun, Typed, Buffered, Next, Pieces, Run, HasRuns}
+use Rattle.panel.specs.Turns.{Holds, Memory, Took, Turned}
+use Rattle.panel.specs.Runs.{Runs, answers, reads, ends, stops, inputOf, WritesPanelrun, Typed, Buffered, Next, Readable, Run, HasRuns}
 use Rattle.panel.specs.declared.Answer.{Answer}
 use Rattle.panel.specs.declared.Turn.{Turn}
 use Rattle.panel.specs.declared.Turn.the-variants as told
@@ -29,10 +30,10 @@ unfolding concatMap
 runs-writes s _ _ _ _ _ h (answers m c unread after used a pieces wrote t r) =
     let g = took-goes m c unread after used a t s h in
     ap (λ (x : List ℕ). take (a .length) (after .reply) ++ x) (runs-writes (g .state) _ _ _ _ _ (g .holds) r) ∙ sym (g .output (inputOf pieces))
-runs-writes s _ _ _ _ _ h (reads m c unread after piece pieces wrote w r) =
-    runs-writes s _ _ _ _ _ (subst (λ (x : Memory). Holds (x .block) s) (sym (w .same)) h) r ∙ ap (writes identifier s c) (append-assoc unread piece (inputOf pieces))
-runs-writes s _ _ _ _ _ h (ends m c unread after w) = sym (ap (writes identifier s c) (append-nil unread) ∙ writes-never identifier s c unread (w .cut .yet))
-runs-writes s _ _ _ _ _ h (stops m c unread after pieces w) = sym (writes-bad identifier s c unread (inputOf pieces) (w .bad))
+runs-writes s _ _ _ _ _ h (reads m c unread piece pieces wrote w r) =
+    runs-writes s _ _ _ _ _ h r ∙ ap (writes identifier s c) (append-assoc unread piece (inputOf pieces))
+runs-writes s _ _ _ _ _ h (ends m c unread w) = sym (ap (writes identifier s c) (append-nil unread) ∙ writes-never identifier s c unread (w .yet))
+runs-writes s _ _ _ _ _ h (stops m c unread pieces w) = sym (writes-bad identifier s c unread (inputOf pieces) w)
 
 pub writes-panelrun : WritesPanelrun
 writes-panelrun = record {
@@ -44,15 +45,15 @@ module _ (f : Next) where
   -- by what the turn found
   by-turn : (m : Memory) (c : Counts) (unread : List ℕ) (pieces : List (List ℕ)) (t : Turn) → f .turn m c unread ≡ t → Turned m c unread (f .after m c unread) t
       → ((used : ℕ) (a : Answer) → f .turn m c unread ≡ told.Answered used a → Took m c unread (f .after m c unread) used a → Run (f .after m c unread) (countsOf (a .stats)) (drop used unread) pieces)
-      → (Waits m unread (f .after m c unread) → Run m c unread pieces) → Run m c unread pieces
+      → (Cut unread → Run m c unread pieces) → Run m c unread pieces
   by-turn m c unread pieces (told.Answered used a) e t more wait =
       let r = more used a e t in
       record { wrote = take (a .length) (f .after m c unread .reply) ++ r .wrote; runs = answers m c unread (f .after m c unread) used a pieces (r .wrote) t (r .runs) }
-  by-turn m c unread pieces told.Cut e w more wait = wait w
-  by-turn m c unread pieces told.Bad e s more wait = record { wrote = endBytes; runs = stops m c unread (f .after m c unread) pieces s }
+  by-turn m c unread pieces told.Cut e w more wait = wait (w .cut)
+  by-turn m c unread pieces told.Bad e s more wait = record { wrote = endBytes; runs = stops m c unread pieces (s .bad) }
 
   -- turns, until a record is cut
-  turns : (pieces : List (List ℕ)) → ((m : Memory) (c : Counts) (unread : List ℕ) → Typed m c → Buffered unread → Waits m unread (f .after m c unread) → Run m c unread pieces)
+  turns : (pieces : List (List ℕ)) → ((m : Memory) (c : Counts) (unread : List ℕ) → Typed m c → Buffered unread → Cut unread → Run m c unread pieces)
       → (fuel : ℕ) (m : Memory) (c : Counts) (unread : List ℕ) → Typed m c → Buffered unread → length unread ≤ fuel → Run m c unread pieces
   turns pieces wait zero m c unread ty bu h =
       by-turn m c unread pieces (f .turn m c unread) refl (f .turned m c unread ty bu)
@@ -68,13 +69,13 @@ module _ (f : Next) where
   unfolding Bytes
   buffered unread piece bu h b l = record { bytes = all-append _ unread piece (bu .bytes) b; few = omega (arith, length-append unread piece) }
 
-  run-of : (pieces : List (List ℕ)) → Pieces pieces → (m : Memory) (c : Counts) (unread : List ℕ) → Typed m c → Buffered unread → Run m c unread pieces
+  run-of : (pieces : List (List ℕ)) → Readable pieces → (m : Memory) (c : Counts) (unread : List ℕ) → Typed m c → Buffered unread → Run m c unread pieces
   run-of [] ok m c unread ty bu =
-      turns [] (λ m c unread ty bu w. record { wrote = closing unread; runs = ends m c unread (f .after m c unread) w }) (length unread) m c unread ty bu (omega arith)
+      turns [] (λ m c unread ty bu w. record { wrote = closing unread; runs = ends m c unread w }) (length unread) m c unread ty bu (omega arith)
   run-of (piece ∷ pieces) ok m c unread ty bu =
       turns (piece ∷ pieces)
-      (λ m c unread ty bu w. let r = run-of pieces (ok .2) (f .after m c unread) c (unread ++ piece) (subst (λ (x : Memory). Typed x c) (sym (w .same)) ty) (buffered unread piece bu (w .cut .few) (ok .0) (ok .1)) in
-      record { wrote = r .wrote; runs = reads m c unread (f .after m c unread) piece pieces (r .wrote) w (r .runs) })
+      (λ m c unread ty bu w. let r = run-of pieces (ok .2) m c (unread ++ piece) ty (buffered unread piece bu (w .few) (ok .0) (ok .1)) in
+      record { wrote = r .wrote; runs = reads m c unread piece pieces (r .wrote) w (r .runs) })
       (length unread) m c unread ty bu (omega arith)
 
 pub has-runs : HasRuns

@@ -149,8 +149,9 @@ step-goes before p buffer after r buffer′ i (waited c f o) g pieces wrote run 
     let w : Wrote [] (before .reply) 0 (after .reply) (r .reply) = subst (λ (x : Bool). Wrote (if x then [] else closing (unreadIn p buffer)) (before .reply) 0 (after .reply) (r .reply)) g (f .wrote) in
     let m : after ≡ before = same-memory o (w .out ∙ put-nil 0 (before .reply)) in
     subst (λ (x : List ℕ). Runs before (countsOf (p .stats)) (unreadIn p buffer) (f .refilled .came ∷ pieces) (x ++ wrote)) (sym (wrote-first w))
-    (reads before (countsOf (p .stats)) (unreadIn p buffer) after (f .refilled .came) pieces wrote (record { cut = c; same = m })
-    (subst (λ (x : List ℕ). Runs after (countsOf (p .stats)) x pieces wrote) (f .refilled .unread) (subst (λ (x : Stats). Runs after (countsOf x) (unreadIn r buffer′) pieces wrote) (f .refilled .counts) run)))
+    (reads before (countsOf (p .stats)) (unreadIn p buffer) (f .refilled .came) pieces wrote c
+    (subst (λ (x : List ℕ). Runs before (countsOf (p .stats)) x pieces wrote) (f .refilled .unread)
+    (subst (λ (x : Stats). Runs before (countsOf x) (unreadIn r buffer′) pieces wrote) (f .refilled .counts) (subst (λ (x : Memory). Runs x (countsOf (r .stats)) (unreadIn r buffer′) pieces wrote) m run))))
 step-goes before p buffer after r buffer′ i (stopped b d e w o) g pieces wrote run = true≢ (sym (d .goes) ∙ g)
 
 step-ends : (before : Memory) (p : Place) (buffer : List ℕ) (after : Memory) (r : Place) (buffer′ : List ℕ) → Stepped before p buffer after r buffer′ → r .«goes_on» ≡ false
@@ -158,9 +159,9 @@ step-ends : (before : Memory) (p : Place) (buffer : List ℕ) (after : Memory) (
 step-ends before p buffer after r buffer′ (answered used a t b e) g = true≢ (sym g ∙ b .goes)
 step-ends before p buffer after r buffer′ (waited c f o) g =
     let w : Wrote (closing (unreadIn p buffer)) (before .reply) 0 (after .reply) (r .reply) = subst (λ (x : Bool). Wrote (if x then [] else closing (unreadIn p buffer)) (before .reply) 0 (after .reply) (r .reply)) g (f .wrote) in
-    rw (wrote-first w) (ends before (countsOf (p .stats)) (unreadIn p buffer) before (record { cut = c; same = refl }))
+    rw (wrote-first w) (ends before (countsOf (p .stats)) (unreadIn p buffer) c)
 step-ends before p buffer after r buffer′ (stopped b d e w o) g =
-    rw (wrote-first w) (stops before (countsOf (p .stats)) (unreadIn p buffer) before [] (record { bad = b; same = refl }))
+    rw (wrote-first w) (stops before (countsOf (p .stats)) (unreadIn p buffer) [] b)
 
 pub steps-run : StepsRun
 steps-run = record { goes = step-goes; ends = step-ends }

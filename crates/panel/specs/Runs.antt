@@ -10,9 +10,10 @@ use Rattle.blake3.specs.Blake3.{identifier}
 use Rattle.postcard.specs.Wide.{Bytes}
 use Rattle.protocol.specs.State.{Counts, fresh, zeroCounts}
 use Rattle.protocol.specs.Panel.{panelSettings, panelLimits, panelrun}
+use Rattle.records.specs.Reading.{Cut, Bad}
 use Rattle.records.specs.Running.{endBytes, closing}
 use Rattle.machine.specs.Called.{countsOf}
-use Rattle.panel.specs.Turns.{Holds, Memory, Took, Waits, Stops, Turned}
+use Rattle.panel.specs.Turns.{Holds, Memory, Took, Turned}
 use Rattle.panel.specs.Places.{Inside, unreadIn, Stepped, answered, waited, stopped}
 use Rattle.panel.specs.declared.Answer.{Answer}
 use Rattle.panel.specs.declared.Turn.{Turn}
@@ -23,10 +24,10 @@ use Rattle.panel.specs.declared.stream.Place.{Place}
 pub data Runs : Memory → Counts → List ℕ → List (List ℕ) → List ℕ → Type 0 where
   answers : (m : Memory) (c : Counts) (unread : List ℕ) (after : Memory) (used : ℕ) (a : Answer) (pieces : List (List ℕ)) (wrote : List ℕ) → Took m c unread after used a →
       Runs after (countsOf (a .stats)) (drop used unread) pieces wrote → Runs m c unread pieces (take (a .length) (after .reply) ++ wrote)
-  reads : (m : Memory) (c : Counts) (unread : List ℕ) (after : Memory) (piece : List ℕ) (pieces : List (List ℕ)) (wrote : List ℕ) → Waits m unread after →
-      Runs after c (unread ++ piece) pieces wrote → Runs m c unread (piece ∷ pieces) wrote
-  ends : (m : Memory) (c : Counts) (unread : List ℕ) (after : Memory) → Waits m unread after → Runs m c unread [] (closing unread)
-  stops : (m : Memory) (c : Counts) (unread : List ℕ) (after : Memory) (pieces : List (List ℕ)) → Stops m unread after → Runs m c unread pieces endBytes
+  reads : (m : Memory) (c : Counts) (unread piece : List ℕ) (pieces : List (List ℕ)) (wrote : List ℕ) → Cut unread →
+      Runs m c (unread ++ piece) pieces wrote → Runs m c unread (piece ∷ pieces) wrote
+  ends : (m : Memory) (c : Counts) (unread : List ℕ) → Cut unread → Runs m c unread [] (closing unread)
+  stops : (m : Memory) (c : Counts) (unread : List ℕ) (pieces : List (List ℕ)) → Bad unread → Runs m c unread pieces endBytes
 
 -- the input
 abbrev pub inputOf : List (List ℕ) → List ℕ
@@ -72,9 +73,9 @@ pub record Next : Type 0 where
       Typed (after m c unread) (countsOf (a .stats))
 
 -- pieces that the buffer has room for behind a record that is cut
-abbrev pub Pieces : List (List ℕ) → Type 0
-Pieces [] = Unit {0}
-Pieces (piece ∷ pieces) = Bytes piece × (length piece ≤ 16365) × Pieces pieces
+abbrev pub Readable : List (List ℕ) → Type 0
+Readable [] = Unit {0}
+Readable (piece ∷ pieces) = Bytes piece × (length piece ≤ 16365) × Readable pieces
 
 -- a run of these pieces
 pub record Run (m : Memory) (c : Counts) (unread : List ℕ) (pieces : List (List ℕ)) : Type 0 where
@@ -83,4 +84,4 @@ pub record Run (m : Memory) (c : Counts) (unread : List ℕ) (pieces : List (Lis
 
 -- every input has a run, of any function that meets the contract of `next`
 pub record HasRuns : Type 0 where
-  pub always : Next → (m : Memory) (c : Counts) → Typed m c → (pieces : List (List ℕ)) → Pieces pieces → Run m c [] pieces
+  pub always : Next → (m : Memory) (c : Counts) → Typed m c → (pieces : List (List ℕ)) → Readable pieces → Run m c [] pieces

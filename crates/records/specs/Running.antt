@@ -20,7 +20,7 @@ answerBytes number actions = number ∷ numberBytes (length actions) ++ actions
 unfoldable pub endBytes : List ℕ
 endBytes = 7 ∷ 0 ∷ []
 
--- at the end of the input, with these bytes not answered: they are of a record that is cut; nothing where there are none
+-- what is written at the end of the input: unread bytes are a record that is cut; where there are none, nothing
 unfoldable pub closing : List ℕ → List ℕ
 closing [] = []
 closing (b ∷ bytes) = endBytes

@@ -106,7 +106,7 @@ pub fn put_answer(reply: &mut [u8; 40971], number: u8, out: &[u8], n: usize) -> 
     encode::put_bytes(reply, actions_at, &out[..n])
 }
 
-// "it writes 07 00 and ends".
+// Writes the end: "07 00".
 pub fn put_end(reply: &mut [u8; 40971]) -> usize
     ensures { λ r. ⌜ Wrote endBytes (now (reply .entry)) 0 (now (reply .exit)) r ⌝ }
 {
@@ -114,7 +114,7 @@ pub fn put_end(reply: &mut [u8; 40971]) -> usize
     number::put_byte(reply, at, 0)
 }
 
-// At the end of the input, with these bytes not answered: of a record that is cut; nothing where there are none.
+// At the end of the input: unread bytes are a record that is cut; where there are none, nothing is written.
 pub fn put_closing(reply: &mut [u8; 40971], unread: &[u8]) -> usize
     ensures { λ r. ⌜ Wrote (closing (now (unread .entry))) (now (reply .entry)) 0 (now (reply .exit)) r ⌝ }
 {

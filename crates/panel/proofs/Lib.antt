@@ -1,3 +1,4 @@
 pub mod TurnLaws
 pub mod RunLaws
 pub mod PlaceLaws
+pub mod StepLaws

@@ -4,6 +4,7 @@ use Prim.Native.Nat.{ℕ, _+_, _-_, _≤_}
 use mathlib.Core.Path.{_≡_, sym, ap, _∙_}
 use mathlib.Core.List.{List, _++_}
 use native.Mathlib.Omega.{arith}
+use lib.Dec.{ltb}
 use lib.ListN.{length, take, drop}
 use Rattle.rows.specs.Part.{part, put}
 use Rattle.rows.proofs.Parts.{length-part, length-put, take-put, part-put, part-add, loan-put, drop-take}
@@ -26,15 +27,17 @@ same-part xs ys at end h e =
     part-in at (end - at) ys ∙ ap (λ (m : ℕ). drop at (take m ys)) n ∙ ap (drop at) e ∙ ap (λ (m : ℕ). drop at (take m xs)) (sym n) ∙ sym (part-in at (end - at) xs)
 
 -- `more` bytes came
-pub read-more : (p r : Place) (before after : List ℕ) (more : ℕ) → Inside p before → r .at ≡ p .at → r .end ≡ p .end + more → p .end + more ≤ length before → length after ≡ length before
-    → take (p .end) after ≡ take (p .end) before → Refilled p before r after
-read-more p r before after more i a e f l s =
+pub read-more : (p r : Place) (before after : List ℕ) (more : ℕ) → Inside p before → r .at ≡ p .at → r .end ≡ p .end + more → r .stats ≡ p .stats → r .«goes_on» ≡ ltb 0 more
+    → p .end + more ≤ length before → length after ≡ length before → take (p .end) after ≡ take (p .end) before → Refilled p before r after
+read-more p r before after more i a e t g f l s =
     let o : p .at ≤ p .end = i .order in
     let n : r .end - r .at ≡ (p .end - p .at) + more = omega arith in
     record {
       within = record { long = l ∙ i .long; order = omega arith; inside = omega arith };
       came = part (p .at + (p .end - p .at)) more after;
       unread = rw (n, a) (part-add (p .at) (p .end - p .at) more after ∙ ap (λ (x : List ℕ). x ++ part (p .at + (p .end - p .at)) more after) (same-part before after (p .at) (p .end) o s));
+      counts = t;
+      goes = g ∙ ap (ltb 0) (sym (length-part (p .at + (p .end - p .at)) more after (omega arith)));
     }
 
 -- they were moved to the start
@@ -47,11 +50,11 @@ module _ (p q : Place) (before mid : List ℕ) (i : Inside p before) (a : q .at 
       let l : length mid ≡ length before = rw m (length-put 0 (part (p .at) (p .end - p .at) before) before (omega (arith, many, i .order, i .inside))) in
       record { long = l ∙ i .long; order = omega arith; inside = omega (arith, i .order, i .inside) }
 
-  pub moved-more : (r : Place) (after : List ℕ) → Refilled q mid r after → Refilled p before r after
-  moved-more r after f =
+  pub moved-more : (r : Place) (after : List ℕ) → Refilled q mid r after → q .stats ≡ p .stats → Refilled p before r after
+  moved-more r after f t =
       let n : q .end - q .at ≡ p .end - p .at = omega arith in
       let u : unreadIn q mid ≡ unreadIn p before = rw (n, a, m) (part-put 0 (p .end - p .at) (part (p .at) (p .end - p .at) before) before many (omega (arith, i .order, i .inside))) in
-      record { within = f .within; came = f .came; unread = f .unread ∙ ap (λ (x : List ℕ). x ++ f .came) u }
+      record { within = f .within; came = f .came; unread = f .unread ∙ ap (λ (x : List ℕ). x ++ f .came) u; counts = f .counts ∙ t; goes = f .goes }
 
 -- what is lent from `end` on comes back as long as it was: the bytes before stay
 pub behind-long : (xs ys : List ℕ) (end : ℕ) → end ≤ length xs → length ys ≡ length xs - end → length (take end xs ++ (ys ++ drop (length xs - end) (drop end xs))) ≡ length xs

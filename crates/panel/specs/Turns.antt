@@ -1,20 +1,21 @@
--- What a turn of `panelrun` leaves, and which part of the definition's output it writes.
+-- What a turn of `panelrun` does with the bytes that are read and not answered, and what it leaves.
 -- Assumes nothing.
-use Prim.Native.Nat.{ℕ, _≤_, _<_}
+use Prim.Native.Nat.{ℕ, _≤_}
 use mathlib.Core.Path.{_≡_}
 use mathlib.Core.Bool.{true}
-use mathlib.Core.List.{List, [], _∷_, _++_}
+use mathlib.Core.List.{List}
 use mathlib.Core.Option.{some}
 use lib.ListN.{length, take, drop}
-use Rattle.blake3.specs.Blake3.{identifier}
+use Rattle.postcard.specs.Number.{got}
+use Rattle.postcard.specs.Output.{Wrote}
 use Rattle.protocol.specs.State.{State, Counts}
 use Rattle.protocol.specs.Whole.{longEnough}
-use Rattle.protocol.specs.Answer.{Call, askWhole}
-use Rattle.protocol.specs.Calls.{stateAfter, countsAfter}
-use Rattle.protocol.specs.Panel.{written}
+use Rattle.protocol.specs.Answer.{Call}
+use Rattle.protocol.specs.Panel.{readRecord}
 use Rattle.whole.specs.Held.{held}
-use Rattle.records.specs.Running.{writes, closing}
-use Rattle.machine.specs.Called.{countsOf}
+use Rattle.records.specs.Reading.{Cut, Bad}
+use Rattle.records.specs.Running.{answerBytes}
+use Rattle.machine.specs.Called.{Lent, Called, countsOf}
 use Rattle.panel.specs.declared.Answer.{Answer}
 use Rattle.panel.specs.declared.Turn.{Turn}
 use Rattle.panel.specs.declared.Turn.the-variants as turn
@@ -24,47 +25,45 @@ pub record Holds (block : List ℕ) (s : State) : Type 0 where
   pub state : held block ≡ some s
   pub long : longEnough (length block) s ≡ true
 
--- the bytes of an answer: "answer byte, length, actions", the first two from the head, the last from the output
-abbrev pub answerBytes : Answer → List ℕ → List ℕ → List ℕ
-answerBytes a head out = take (a .head) head ++ take (a .length) out
+-- what is lent to a turn, before it or after it: the block, the output of its call, and the reply, whose first bytes are then written
+pub record Memory : Type 0 where
+  pub block : List ℕ
+  pub output : List ℕ
+  pub reply : List ℕ
 
--- the answer to the call k upon the state s with the counts c: bytes, block and counts are the definition's
-pub record Answers (s : State) (c : Counts) (k : Call) (block : List ℕ) (counts : Counts) (bytes : List ℕ) : Type 0 where
-  pub holds : Holds block (stateAfter s (askWhole identifier s c k))
-  pub after : counts ≡ countsAfter c (askWhole identifier s c k)
-  pub wrote : bytes ≡ written (askWhole identifier s c k)
+abbrev pub memory : List ℕ → List ℕ → List ℕ → Memory
+memory block output reply = record { block = block; output = output; reply = reply }
 
--- an answer: its bytes are there, and are right for every state that the block may have held
-pub record Answered (k : Call) (before : List ℕ) (c : Counts) (after head out : List ℕ) (a : Answer) : Type 0 where
-  pub headFits : a .head ≤ length head
-  pub outFits : a .length ≤ length out
-  pub answers : (s : State) → Holds before s → Answers s c k after (countsOf (a .stats)) (answerBytes a head out)
+-- what of it is lent to the call, with these counts
+abbrev pub callLent : Memory → Counts → Lent
+callLent m c = record { block = m .block; counts = c; output = m .output }
 
--- whatever input is still to come: what the definition writes from the state s on, for the unread bytes and that input, is `wrote`, and then what it writes from the state of the block on for the bytes that are left and that input
-pub record Goes (s : State) (c : Counts) (unread : List ℕ) (block : List ℕ) (counts : Counts) (wrote left : List ℕ) : Type 0 where
-  pub state : State
-  pub holds : Holds block state
-  pub output : (input : List ℕ) → writes identifier s c (unread ++ input) ≡ wrote ++ writes identifier state counts (left ++ input)
+-- the answer to a call: number, block, counts and output are those of an event call, and "answer byte, length, actions" stand at the start of the reply, of which nothing else has changed
+pub record Answered (k : Call) (before : Memory) (c : Counts) (after : Memory) (a : Answer) : Type 0 where
+  pub number : ℕ
+  pub outputLength : ℕ
+  pub called : Called k (callLent before c) (callLent after (countsOf (a .stats))) number outputLength
+  pub reply : Wrote (answerBytes number (take outputLength (after .output))) (before .reply) 0 (after .reply) (a .length)
 
--- a turn that answered a record of `used` bytes
-pub record Took (before : List ℕ) (c : Counts) (unread after head out : List ℕ) (used : ℕ) (a : Answer) : Type 0 where
+-- a turn that answered the first record, of `used` bytes
+pub record Took (before : Memory) (c : Counts) (unread : List ℕ) (after : Memory) (used : ℕ) (a : Answer) : Type 0 where
+  pub call : Call
   pub inside : used ≤ length unread
-  pub headFits : a .head ≤ length head
-  pub outFits : a .length ≤ length out
-  pub goes : (s : State) → Holds before s → Goes s c unread after (countsOf (a .stats)) (answerBytes a head out) (drop used unread)
+  pub reads : readRecord unread ≡ got call (drop used unread)
+  pub answered : Answered call before c after a
 
--- a turn that found a record that is cut so far: nothing has changed, the bytes are few, and if no more come, the definition writes 07 00, or nothing where there is no byte
-pub record Waits (before unread after : List ℕ) : Type 0 where
+-- a turn that found a record that is cut so far: nothing has changed
+pub record Waits (before : Memory) (unread : List ℕ) (after : Memory) : Type 0 where
+  pub cut : Cut unread
   pub same : after ≡ before
-  pub few : length unread < 16404
-  pub ends : (s : State) (c : Counts) → writes identifier s c unread ≡ closing unread
 
--- a turn that found bytes that begin no record: the definition writes 07 00, whatever else comes
-pub record Stops (unread : List ℕ) : Type 0 where
-  pub ends : (s : State) (c : Counts) (input : List ℕ) → writes identifier s c (unread ++ input) ≡ 7 ∷ 0 ∷ []
+-- a turn that found bytes that begin no record: nothing has changed
+pub record Stops (before : Memory) (unread : List ℕ) (after : Memory) : Type 0 where
+  pub bad : Bad unread
+  pub same : after ≡ before
 
--- what a turn tells, from the block before it to what it left
-abbrev pub Turned : List ℕ → Counts → List ℕ → List ℕ → List ℕ → List ℕ → Turn → Type 0
-Turned before c unread after head out (turn.Answered used a) = Took before c unread after head out used a
-Turned before c unread after head out turn.Cut = Waits before unread after
-Turned before c unread after head out turn.Bad = Stops unread
+-- what a turn tells, from what was lent before it to what it left
+abbrev pub Turned : Memory → Counts → List ℕ → Memory → Turn → Type 0
+Turned before c unread after (turn.Answered used a) = Took before c unread after used a
+Turned before c unread after turn.Cut = Waits before unread after
+Turned before c unread after turn.Bad = Stops before unread after

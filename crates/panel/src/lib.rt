@@ -13,9 +13,10 @@ ghost use mathlib.Core.Path.{_≡_};
 ghost use Rattle.protocol.specs.State.{fresh, zeroCounts};
 ghost use Rattle.protocol.specs.Panel.{panelSettings, panelLimits};
 ghost use Rattle.block.specs.View.{settingsOf, limitsOf};
+ghost use Rattle.whole.specs.Creation.{Accepted};
 ghost use Rattle.records.specs.Reading.{recordCall};
 ghost use Rattle.machine.specs.Called.{countsOf};
-ghost use Rattle.panel.specs.Turns.{Holds, Answered, Turned};
+ghost use Rattle.panel.specs.Turns.{memory, Answered, Turned};
 
 // "panel 1, default settings, M 4,094": the default settings are those of `Config::default`.
 fn settings() -> Settings
@@ -65,42 +66,37 @@ pub fn no_counts() -> Stats
     }
 }
 
-// A fresh panel in a block of as many bytes as question 4 asks.
+// A fresh panel in a block of as many bytes as question 4 asks: its creation is accepted.
 pub fn begin(block: &mut [u8; 58880])
-    ensures { λ _. ⌜ Holds (now (block .exit)) (fresh panelSettings panelLimits) ⌝ }
+    ensures { λ _. ⌜ Accepted (fresh panelSettings panelLimits) (now (block .entry)) (now (block .exit)) 0 ⌝ }
 {
     let settings = settings();
     let limits = limits();
     create::create(block, settings, limits);
 }
 
-// How many bytes of the head and of the output a record's answer has, and the counts after it.
+// How many bytes of the reply a record's answer has, and the counts after it.
 pub struct Answer {
-    pub head: usize,
     pub length: usize,
     pub stats: Stats,
 }
 
-// Answers a record, "link room unbounded": "writes answer byte, length, actions", the first two into `head`.
+// Answers a record, "link room unbounded": its actions go into `out`, and "answer byte, length, actions" into `reply`.
 pub fn answer_record(
     block: &mut [u8],
     c: Stats,
     instant: Millis,
     event: &[u8],
-    head: &mut [u8; 11],
     out: &mut [u8; 40960],
+    reply: &mut [u8; 40971],
 ) -> Answer
-    ensures { λ r. ⌜ Answered (recordCall (instant .0) (now (event .entry))) (now (block .entry)) (countsOf c) (now (block .exit)) (now (head .exit)) (now (out .exit)) r ⌝ }
+    ensures { λ r. ⌜ Answered (recordCall (instant .0) (now (event .entry))) (memory (now (block .entry)) (now (out .entry)) (now (reply .entry))) (countsOf c) (memory (now (block .exit)) (now (out .exit)) (now (reply .exit))) r ⌝ }
 {
     let o = plumtree::event_unbounded(block, c, instant, event, out);
-    let length = o.length;
+    let n = o.length;
     let stats = o.stats;
-    let n = records::put_head(head, o.number, length);
-    Answer {
-        head: n,
-        length,
-        stats,
-    }
+    let length = records::put_answer(reply, o.number, out, n);
+    Answer { length, stats }
 }
 
 // What the panel does with what has been read.
@@ -118,10 +114,10 @@ pub fn next(
     block: &mut [u8],
     c: Stats,
     bytes: &[u8],
-    head: &mut [u8; 11],
     out: &mut [u8; 40960],
+    reply: &mut [u8; 40971],
 ) -> Turn
-    ensures { λ r. ⌜ Turned (now (block .entry)) (countsOf c) (now (bytes .entry)) (now (block .exit)) (now (head .exit)) (now (out .exit)) r ⌝ }
+    ensures { λ r. ⌜ Turned (memory (now (block .entry)) (now (out .entry)) (now (reply .entry))) (countsOf c) (now (bytes .entry)) (memory (now (block .exit)) (now (out .exit)) (now (reply .exit))) r ⌝ }
 {
     let record = records::read_record(bytes);
     match record {
@@ -131,7 +127,7 @@ pub fn next(
             len,
         } => {
             let end = start + len;
-            let answer = answer_record(block, c, instant, &bytes[start..end], head, out);
+            let answer = answer_record(block, c, instant, &bytes[start..end], out, reply);
             Turn::Answered { used: end, answer }
         }
         Record::Cut => Turn::Cut,

@@ -11,7 +11,7 @@ use Rattle.protocol.specs.Answer.{Call, askWhole}
 use Rattle.protocol.specs.Calls.{stateAfter, countsAfter}
 use Rattle.protocol.specs.Panel.{Records, cut, record1, readRecord, orCut, readRecords, runRecords, written, panelSettings, panelLimits, panelrun}
 use Rattle.records.specs.Reading.{Never, Bad}
-use Rattle.records.specs.Running.{writes, closing}
+use Rattle.records.specs.Running.{writes, endBytes, closing}
 use Rattle.records.proofs.Pieces.{record-takes, bad-none}
 
 -- the records that are left do not depend on how many are allowed, once that is enough
@@ -59,12 +59,12 @@ module _ (hash : List ℕ → ℕ) (s : State) (c : Counts) where
 
   -- no record, and the input goes on or not: "it writes 07 00 and ends"
   pub writes-never : (input : List ℕ) → Never input → writes hash s c input ≡ closing input
-  unfolding writes runRecords readRecords closing
+  unfolding writes runRecords readRecords closing endBytes
   writes-never [] h = refl
   writes-never (b ∷ bytes) h = ap (runRecords hash s c) (first-cut b bytes h)
 
   -- bad bytes: 07 00, whatever follows
-  pub writes-bad : (bytes more : List ℕ) → Bad bytes → writes hash s c (bytes ++ more) ≡ 7 ∷ 0 ∷ []
+  pub writes-bad : (bytes more : List ℕ) → Bad bytes → writes hash s c (bytes ++ more) ≡ endBytes
   unfolding closing
   writes-bad [] more h = absurd (bad-none h)
   writes-bad (b ∷ bytes) more h = writes-never (b ∷ bytes ++ more) (h .always more)

@@ -5,9 +5,9 @@ use mathlib.Core.Path.{_≡_}
 use mathlib.Core.Bool.{Bool, true, false, _&&_}
 use mathlib.Core.List.{List, [], _∷_, _++_}
 use lib.Dec.{eqb}
-use lib.ListN.{length, take, drop}
+use lib.ListN.{length, drop}
 use Rattle.rows.specs.Part.{part}
-use Rattle.postcard.specs.Number.{got, numberBytes, readNumber}
+use Rattle.postcard.specs.Number.{got, readNumber}
 use Rattle.postcard.specs.Wide.{Bytes}
 use Rattle.protocol.specs.Answer.{Call}
 use Rattle.protocol.specs.Panel.{readRecord}
@@ -46,11 +46,6 @@ abbrev pub Tells : List ℕ → Record → Type 0
 Tells bytes (record′.Whole instant start len) = Whole bytes (instant .0) start len
 Tells bytes record′.Cut = Cut bytes
 Tells bytes record′.Bad = Bad bytes
-
--- "answer byte, length": the first `r` bytes of the head
-pub record Headed (number n : ℕ) (head : List ℕ) (r : ℕ) : Type 0 where
-  pub fits : r ≤ length head
-  pub bytes : take r head ≡ number ∷ numberBytes n
 
 -- the first bytes of a length, its last one not among them, that a length of at most 16,384 begins with: none, one, or 80 80
 unfoldable pub mayFit : List ℕ → Bool

@@ -1,10 +1,12 @@
-// The records of `panelrun`, "records of now, length, event", read from as many bytes of the input as are there; and what goes before a record's actions, "answer byte, length".
+// The records of `panelrun`, "records of now, length, event", read from as many bytes of the input as are there; and what it writes for one, "answer byte, length, actions".
 use number::NumberRead;
 use postcard::units::Millis;
 ghost use mathlib.Core.Path.{_≡_};
 ghost use Prim.Native.Nat.{_≤_};
-ghost use lib.ListN.{length, drop};
-ghost use Rattle.records.specs.Reading.{Tells, Headed, mayFit, Timed, Lengthed};
+ghost use lib.ListN.{length, take, drop};
+ghost use Rattle.postcard.specs.Output.{Wrote};
+ghost use Rattle.records.specs.Reading.{Tells, mayFit, Timed, Lengthed};
+ghost use Rattle.records.specs.Running.{answerBytes, endBytes, closing};
 
 // What the first bytes of the input tell of its first record.
 pub enum Record {
@@ -94,10 +96,30 @@ pub fn read_record(bytes: &[u8]) -> Record
     }
 }
 
-// What goes before the actions: "answer byte, length". Answers how many bytes it has.
-pub fn put_head(head: &mut [u8; 11], number: u8, length: usize) -> usize
-    ensures { λ r. ⌜ Headed number length (now (head .exit)) r ⌝ }
+// Writes an answer: "answer byte, length, actions", the last of which are the first `n` bytes of the output.
+pub fn put_answer(reply: &mut [u8; 40971], number: u8, out: &[u8], n: usize) -> usize
+    requires { ⌜ (n ≤ length (now out)) × (n ≤ 40960) ⌝ }
+    ensures { λ r. ⌜ Wrote (answerBytes number (take n (now (out .entry)))) (now (reply .entry)) 0 (now (reply .exit)) r ⌝ }
 {
-    let at = number::put_byte(head, 0, number);
-    number::put_number(head, at, length as u64)
+    let length_at = number::put_byte(reply, 0, number);
+    let actions_at = number::put_number(reply, length_at, n as u64);
+    encode::put_bytes(reply, actions_at, &out[..n])
+}
+
+// Writes the end: "07 00".
+pub fn put_end(reply: &mut [u8; 40971]) -> usize
+    ensures { λ r. ⌜ Wrote endBytes (now (reply .entry)) 0 (now (reply .exit)) r ⌝ }
+{
+    let at = number::put_byte(reply, 0, 7);
+    number::put_byte(reply, at, 0)
+}
+
+// At the end of the input: unread bytes are a record that is cut; where there are none, nothing is written.
+pub fn put_closing(reply: &mut [u8; 40971], unread: &[u8]) -> usize
+    ensures { λ r. ⌜ Wrote (closing (now (unread .entry))) (now (reply .entry)) 0 (now (reply .exit)) r ⌝ }
+{
+    if unread.len() == 0 {
+        return 0;
+    }
+    put_end(reply)
 }

@@ -1,6 +1,7 @@
 -- `next`: the first record is whole, cut so far, or bad.
 -- Assumes nothing.
-use Rattle.panel.proofs.TurnLaws.{took-slice, waits, stops}
+use Rattle.panel.proofs.TurnLaws.{took}
+use mathlib.Core.Path.{refl}
 use native.Mathlib.Omega.{arith}
 use borrow.Author.Needs.{needs}
 use Rattle.panel.proofs.next.Statement.{statement}
@@ -44,17 +45,13 @@ returns : tie.Need-returns
 returns c =
     let s = c .before .before .before .before .before .before .before .before .before .before .before .before .before in
     let w = rw (c .before .before .before .before .before .before .before .before .«record» .given .1) at (c .before .before .before .before .before .before .before .before .before .before .read-record .ensures) in
-    took-slice (s .args .block .now) _ (s .args .bytes .now) _ _ _ _ _ _ _ w (c .before .before .answer-record .ensures)
+    took _ _ (s .args .bytes .now) _ _ _ _ _ w (c .before .before .answer-record .ensures)
 
 returns-2 : tie.Need-returns-2
-returns-2 c =
-    let s = c .before .before .before .before .before in
-    waits (s .args .block .now) (s .args .bytes .now) (rw (c .enum-told .given .1) at (c .before .before .read-record .ensures))
+returns-2 c = record { cut = rw (c .enum-told .given .1) at (c .before .before .read-record .ensures); same = refl }
 
 returns-3 : tie.Need-returns-3
-returns-3 c =
-    let s = c .before .before .before .before .before in
-    stops (s .args .bytes .now) (rw (c .enum-told2 .given .1) at (c .before .before .read-record .ensures))
+returns-3 c = record { bad = rw (c .enum-told2 .given .1) at (c .before .before .read-record .ensures); same = refl }
 
 pub next-spec : {M : Type 1} → statement M
 next-spec =

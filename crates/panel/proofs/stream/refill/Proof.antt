@@ -36,7 +36,7 @@ same-length-2 c = search needs
 returns-2 : tie.Need-returns-2
 returns-2 c =
     let s = c .before .before .before .before .before .before .before .before .before .before .before .before in
-    moved-more (s .args .p) _ (s .args .buffer .now) (c .before .before .before .before .before .before .move-down .last .0) (s .pre .0) refl refl (c .before .before .before .before .before .before .move-down .ensures) _ _ (c .before .before .read-on2 .ensures)
+    moved-more (s .args .p) _ (s .args .buffer .now) (c .before .before .before .before .before .before .move-down .last .0) (s .pre .0) refl refl (c .before .before .before .before .before .before .move-down .ensures) _ _ (c .before .before .read-on2 .ensures) refl
 
 pub refill-spec : {M : Type 1} → statement M
 refill-spec =

@@ -1,12 +1,14 @@
--- `step`: the unread bytes stay in the buffer.
--- Assumes what `libc` says of `read` and `write`.
+-- `step`: by what the turn found.
+-- Assumes what `libc` says of `read`.
 use Prim.Native.Nat.{ℕ, _-_}
-use mathlib.Core.Path.{_≡_}
+use mathlib.Core.Path.{_≡_, refl}
 use mathlib.Core.List.{List}
 use lib.ListN.{length, take, drop}
-use Rattle.panel.specs.Places.{Inside}
+use Rattle.rows.specs.Part.{part}
+use Rattle.panel.specs.Places.{Inside, answered}
 use Rattle.panel.specs.declared.stream.Place.{Place}
 use Rattle.panel.proofs.PlaceLaws.{slice-long}
+use Rattle.panel.proofs.StepLaws.{step-waited, step-stopped}
 use native.Mathlib.Omega.{arith}
 use borrow.Author.Needs.{needs}
 use Rattle.panel.proofs.stream.step.Statement.{statement}
@@ -31,54 +33,49 @@ next-requires c κs = search needs
 enum-known-turn : tie.Need-enum-known-turn
 enum-known-turn c = search needs
 
-write-answer-requires : tie.Need-write-answer-requires
-write-answer-requires c κs =
-    let t = rw (c .before .before .before .before .before .turn .given .1) at (c .before .before .before .before .before .before .before .next .ensures) in
-    (t .headFits, t .outFits)
-
-add-t28 : tie.Need-add-t28
-add-t28 c =
-    let s = c .before .before .before .before .before .before .before .before .before .before .before .before .before .before .before .before .before in
-    let t = rw (c .before .before .before .before .before .before .before .turn .given .1) at (c .before .before .before .before .before .before .before .before .before .next .ensures) in
+add-behind : tie.Need-add-behind
+add-behind c =
+    let s = c .before .before .before .before .before .before .before .before .before .before .before .before in
+    let t = rw (c .before .before .turn .given .1) at (c .before .before .before .before .next .ensures) in
     omega (arith, t .inside, many (s .args .buffer .now) (s .args .p) (s .pre), s .pre .long, s .pre .order, s .pre .inside)
 
 enum-told : tie.Need-enum-told
 enum-told c = search needs
 
-refill-requires : tie.Need-refill-requires
-refill-requires c κs =
-    let s = c .before .before .before .before .before .before .before .before .before .before .before in
-    let w = rw (c .before .enum-told .given .1) at (c .before .before .before .next .ensures) in
-    (s .pre, omega (arith, w .few, many (s .args .buffer .now) (s .args .p) (s .pre)))
+read-or-close-requires : tie.Need-read-or-close-requires
+read-or-close-requires c κs =
+    let s = c .before .before .before .before .before .before .before .before .before .before .before .before in
+    let w = rw (c .before .before .enum-told .given .1) at (c .before .before .before .before .next .ensures) in
+    (s .pre, omega (arith, w .cut .few, many (s .args .buffer .now) (s .args .p) (s .pre)))
 
 enum-told-2 : tie.Need-enum-told-2
 enum-told-2 c = search needs
 
-write-end-requires : tie.Need-write-end-requires
-write-end-requires c κs = search needs
+put-end-requires : tie.Need-put-end-requires
+put-end-requires c κs = search needs
 
 same-length : tie.Need-same-length
 same-length c = search needs
 
+returns : tie.Need-returns
+unfolding part
+returns c =
+    let t = rw (c .before .before .turn .given .1) at (c .before .before .before .before .next .ensures) in
+    answered _ _ t (record { at = refl; end = refl; counts = refl; reply = refl; goes = refl }) refl
+
 same-length-2 : tie.Need-same-length-2
 same-length-2 c = search needs
 
-returns : tie.Need-returns
-returns c =
-    let s = c .before .before .before .before .before .before .before .before .before .before .before .before .before .before .before .before .before in
-    let t = rw (c .before .before .before .before .before .before .before .turn .given .1) at (c .before .before .before .before .before .before .before .before .before .next .ensures) in
-    record { long = s .pre .long; order = omega (arith, t .inside, many (s .args .buffer .now) (s .args .p) (s .pre), s .pre .order); inside = s .pre .inside }
+returns-2 : tie.Need-returns-2
+returns-2 c =
+    step-waited (rw (c .before .before .before .before .before .enum-told .given .1) at (c .before .before .before .before .before .before .before .next .ensures)) (c .before .before .read-or-close .ensures)
 
 same-length-3 : tie.Need-same-length-3
 same-length-3 c = search needs
 
-returns-2 : tie.Need-returns-2
-returns-2 c = c .before .before .refill .ensures .within
-
 returns-3 : tie.Need-returns-3
 returns-3 c =
-    let s = c .before .before .before .before .before .before .before .before .before .before .before in
-    record { long = s .pre .long; order = s .pre .order; inside = s .pre .inside }
+    step-stopped (rw (c .before .before .enum-told2 .given .1) at (c .before .before .before .before .next .ensures)) (record { at = refl; end = refl; counts = refl; goes = refl }) (c .put-end .ensures)
 
 pub step-spec : {M : Type 1} → statement M
 step-spec =
@@ -89,12 +86,11 @@ step-spec =
     part-next-end
     next-requires
     enum-known-turn
-    write-answer-requires
-    add-t28
+    add-behind
     enum-told
-    refill-requires
+    read-or-close-requires
     enum-told-2
-    write-end-requires
+    put-end-requires
     same-length
     returns
     same-length-2

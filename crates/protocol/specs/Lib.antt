@@ -11,5 +11,6 @@ pub mod Control
 pub mod Handle
 pub mod Calls
 pub mod Demand3
+pub mod Notings
 pub mod Alike
 pub mod Panel

@@ -25,25 +25,8 @@
  *
  * WHAT A HOST HAS TO KNOW
  *
- *   - A message is known by its content. The same content broadcast again while it is known (message_id_retention, 90 s) is one message: no
- *     panel emits it a second time, and who gets it again answers with a Prune. So a reading carries its panel's number and a sequence
- *     number or a time.
- *   - A link is told up at both ends. A neighbour is eager at first: it gets the reading itself. One that gets a reading twice answers with
- *     a Prune and is lazy from then on: it gets the identifier alone, and asks (Graft) for what does not come otherwise.
- *   - A neighbour that comes up gets what is taken in from then on. What it missed while it was down is not sent to it.
- *   - Timers are the host's. Each that is scheduled is told once, when its delay has passed. EvictCache schedules itself anew, and comes
- *     first with the first event that is neither up nor down; one told in addition goes on beside it for ever.
- *   - A call that is refused has not happened. A timer, an up or a broadcast that was refused is told again later; a message that was refused is
- *     lost as on a bad link. An IHave is taken or refused whole.
- *   - Limits are for the traffic of all panels together (plumtree_limits_for). Those of panelrun carry 0.7 readings a second and 16 that
- *     wait behind a full link, and are for trying out.
- *   - Link room 0 hands back everything. Swarm readings and announcements are noted and announced later; a Graft, a Prune and a Neighbors
- *     message are not noted. A Graft that the only announcer's link hands back is not sent again, unless the reading is announced anew: keep
- *     room for one send where you can.
- *   - Who keeps a panel over a restart keeps block, counts and the timers not told yet, with their times. Where these are lost, tell
- *     DispatchLazyPush, EvictCache and AnnounceDropped once each; lost SendGraft timers can't be had back from the block.
- *   - A clock that starts at 0 again keeps what was taken in before until it has passed the old times. Such a host adds an offset, or
- *     makes a new panel.
+ * It stands in docs/LINKING.md under these words: what a host loses readings by, how it counts room, which limits it takes, what it keeps. Here each
+ * call, event and action has, in a sentence, what loses readings there.
  *
  *
  * WHAT A CALLER OWES
@@ -77,7 +60,8 @@
  *
  * A block is plain bytes: it can be copied, or kept and lent again later, with its counts. A call that is cut off (power, a killed process)
  * can leave it half written, and question 5 does not find every such block: whoever keeps a block over that goes on from a copy made
- * between two calls. Question 5 is no checksum either: a block in a file wants one of its own.
+ * between two calls. Question 5 is no checksum either: a block in a file wants one of its own. With the block are kept the timers that have
+ * not been told: what waits for one that is lost is never sent. The panel still has its neighbours: one that is gone meanwhile is told down.
  */
 #ifndef PLUMTREE_H
 #define PLUMTREE_H
@@ -95,43 +79,76 @@ extern "C" {
 /*
  * ANSWERS
  *
- * "Answer 0 is yes to all. The first no gives its number". Creation asks 1 to 4, an event 5 to 14, plumtree_alike 5.
+ * "Answer 0 is yes to all. The first no gives its number". Creation asks 1 to 4, an event 5 to 14, plumtree_alike 5. The questions stand in
+ * plumtree_number_text below.
  */
 enum plumtree_number {
     PLUMTREE_ACCEPTED = 0,
 
-    /* "Is M, `max_message_size`, from 510 to 4,094?" */
     PLUMTREE_MESSAGE_SIZE_OUT_OF_RANGE = 1,
-    /* "Is each of the six durations at most 2^40?" */
     PLUMTREE_DURATION_TOO_LONG = 2,
-    /* "Is each limit from 1 to its ceiling?" */
     PLUMTREE_LIMIT_OUT_OF_RANGE = 3,
-    /* "Has the lent block at least 4,096 + B + 160R + 256C + 640G + 512S + 64(N + T + Q + D) bytes?" (plumtree_block_size) */
+    /* plumtree_block_size says how many bytes it needs. */
     PLUMTREE_BLOCK_TOO_SHORT = 4,
 
-    /* "Is the block whole?" No: it was not created, was written by somebody else, or is shorter than its limits need. */
+    /* It was not created, was written by somebody else, or is shorter than its limits need. */
     PLUMTREE_BLOCK_NOT_WHOLE = 5,
-    /* "Is now <= 2^62?" */
     PLUMTREE_TIME_TOO_LATE = 6,
-    /* "Does each field end within the bytes?" */
     PLUMTREE_EVENT_CUT = 7,
-    /* "Is each kind known, each number in its width and shortest?" */
     PLUMTREE_EVENT_MALFORMED = 8,
-    /* "Do the bytes end there?" */
     PLUMTREE_EVENT_TOO_LONG = 9,
-    /* "Is a received message at most M bytes?" These are the bytes behind the peer's number. */
+    /* Its bytes are those behind the peer's number. */
     PLUMTREE_MESSAGE_TOO_LONG = 10,
-    /* "Do the counts stay under 2^64?" */
     PLUMTREE_COUNTS_FULL = 11,
-    /* "Is it anything but a valid Swarm message of round 65,535, unreceived once a first event has evicted?" It is new here and has made
-     * 65,535 hops already: drop it. */
+    /* Drop it. */
     PLUMTREE_NO_MORE_HOPS = 12,
-    /* "Is the state after the call within every limit?" What the call frees counts as free. Entries that expire and neighbours that go down
-     * make room; so do higher limits at creation. */
+    /* What the call frees counts as free. Entries that expire and neighbours that go down make room; so do higher limits at creation. */
     PLUMTREE_LIMIT_REACHED = 13,
-    /* "Do the actions fit the output?" Nothing has changed: the same call with a longer output goes through. */
+    /* Nothing has changed: the same call with a longer output goes through. */
     PLUMTREE_OUTPUT_TOO_SHORT = 14
 };
+
+/* An answer's number as text for people: what it means, then the question, in UTF-8. Plain C, in this header. */
+static inline const char *plumtree_number_text(uint8_t number)
+{
+    switch (number) {
+    case PLUMTREE_ACCEPTED:
+        return "accepted";
+    case PLUMTREE_MESSAGE_SIZE_OUT_OF_RANGE:
+        return "the message size M is out of range (question 1: \"Is M, `max_message_size`, from 510 to 4,094?\")";
+    case PLUMTREE_DURATION_TOO_LONG:
+        return "a duration is too long (question 2: \"Is each of the six durations at most 2^40?\")";
+    case PLUMTREE_LIMIT_OUT_OF_RANGE:
+        return "a limit is 0 or over its ceiling (question 3: \"Is each limit from 1 to its ceiling?\")";
+    case PLUMTREE_BLOCK_TOO_SHORT:
+        return "the block is too short for the limits (question 4: "
+               "\"Has the lent block at least 4,096 + B + 160R + 256C + 640G + 512S + 64(N + T + Q + D) bytes?\")";
+    case PLUMTREE_BLOCK_NOT_WHOLE:
+        return "the block holds no panel, or a damaged one (question 5: \"Is the block whole?\")";
+    case PLUMTREE_TIME_TOO_LATE:
+        return "the time is too late (question 6: \"Is now \342\211\244 2^62?\")";
+    case PLUMTREE_EVENT_CUT:
+        return "the event is cut (question 7: \"Does each field end within the bytes?\")";
+    case PLUMTREE_EVENT_MALFORMED:
+        return "the event has an unknown kind, or a number that is too wide or not shortest (question 8: "
+               "\"Is each kind known, each number in its width and shortest?\")";
+    case PLUMTREE_EVENT_TOO_LONG:
+        return "the event has bytes after its end (question 9: \"Do the bytes end there?\")";
+    case PLUMTREE_MESSAGE_TOO_LONG:
+        return "the received message is too long (question 10: \"Is a received message at most M bytes?\")";
+    case PLUMTREE_COUNTS_FULL:
+        return "a count would pass its greatest value (question 11: \"Do the counts stay under 2^64?\")";
+    case PLUMTREE_NO_MORE_HOPS:
+        return "the message is new here and has made 65,535 hops already (question 12: "
+               "\"Is it anything but a valid Swarm message of round 65,535, unreceived once a first event has evicted?\")";
+    case PLUMTREE_LIMIT_REACHED:
+        return "a limit is reached (question 13: \"Is the state after the call within every limit?\")";
+    case PLUMTREE_OUTPUT_TOO_SHORT:
+        return "the output is too short for the actions (question 14: \"Do the actions fit the output?\")";
+    default:
+        return "no answer of this library";
+    }
+}
 
 /*
  * SETTINGS AND LIMITS
@@ -154,7 +171,8 @@ struct plumtree_settings {
     uint64_t me;               /* the panel's own peer number */
 };
 
-/* How much a panel can hold, each from 1 to its ceiling. The block's size follows from these. */
+/* How much a panel can hold, each from 1 to its ceiling. The block's size follows from these. They are for the readings of all panels together
+ * (plumtree_limits_for): a message that goes over one of them is refused, and lost unless it is announced anew. */
 struct plumtree_limits {
     size_t neighbours; /* N: neighbours */
     size_t received;   /* R: identifiers of messages that came; twice as many expiry entries (a repeated content takes one more each time) */
@@ -191,13 +209,13 @@ static inline struct plumtree_settings plumtree_default_settings(uint64_t me)
     s.config.message_cache_retention = 30000;
     s.config.message_id_retention = 90000;
     s.config.cache_evict_interval = 1000;
-    s.max_message_size = 4094;
+    s.max_message_size = PLUMTREE_GREATEST_MESSAGE_SIZE;
     s.me = me;
     return s;
 }
 
-/* The limits of the program panelrun: "N 8, R 64, C 32, B 8,192, G S T 16, Q D 64". They need 58,880 bytes and are for trying out (see WHAT A
- * HOST HAS TO KNOW). Plain C, in this header. */
+/* The limits of the program panelrun: "N 8, R 64, C 32, B 8,192, G S T 16, Q D 64". They need 58,880 bytes and are for trying out: they
+ * carry 0.7 readings a second of all panels together, and 16 that wait behind a full link. Plain C, in this header. */
 static inline struct plumtree_limits plumtree_small_limits(void)
 {
     struct plumtree_limits l;
@@ -266,7 +284,8 @@ struct plumtree_stats {
 };
 
 /* Link room: how many sends of this call the link to a peer takes. "The first entry for a peer counts, a peer without one has no bound, and
- * the k-th send of a call to a peer is taken when k <= room." */
+ * the k-th send of a call to a peer is taken when k <= room." Of a socket it is the free bytes, divided by M + 1 and the bytes of the host's
+ * framing, rounded down. A link that is broken and will come back has room 0: what a link is said to take and then loses is not sent again. */
 struct plumtree_link_room {
     uint64_t peer;
     uint16_t room;
@@ -299,7 +318,9 @@ struct plumtree_answer plumtree_create(uint8_t *block, size_t block_length, stru
                                        struct plumtree_limits limits);
 
 /*
- * One event at the time `at`, in milliseconds. Asks 5 to 14 in their order, then does what document 01 says of the event.
+ * One event at the time `at`, in milliseconds. Asks 5 to 14 in their order, then does what document 01 says of the event. One that is refused
+ * has not happened: a timer, an up, a down or a broadcast is told again later, since what waits for it waits on; a message is lost as on a bad
+ * link, an IHave whole. A clock that starts at 0 again keeps what was taken in before until it has passed the old times, and fills the limits.
  * `rooms` is the link room of this call; none (null, 0): every send is taken.
  * `output` takes the actions: plumtree_output_size bytes are always enough; a host that lends less and is answered 14 calls again with more.
  */
@@ -344,13 +365,23 @@ struct plumtree_likeness plumtree_alike(const uint8_t *a, size_t a_length, const
  * Send: the message is for that peer, which need not be a neighbour (a Prune goes to whoever sent a reading twice): without a link to it,
  * drop the message. Taken: put it onto the link. Handed back: the link had no room in this call (struct plumtree_link_room); put nothing
  * there. Of a Swarm Gossip and of an IHave the panel has noted the identifiers and announces them later, unless its record is full
- * (docs/GUARANTEE.md, 3 d); of the other messages it has noted nothing. A message's length is not written: it ends where its fields
- * end. It can be one byte longer than M: a round that goes from 127 to 128 takes a byte more.
- * Schedule: when `delay` milliseconds have passed, call with the event `02 TIMER`. A timer is never taken back. A timer whose event is refused
- * has not fired: tell it again, with a longer output (14) or later (13); what waits for it is not scheduled anew.
+ * (docs/GUARANTEE.md, 3 d); of the other messages it has noted nothing. A Graft that is handed back the host keeps, and puts onto the link when
+ * there is room: the panel does not ask this neighbour again, and where no other announces the reading it is lost. A message's length is not
+ * written: it ends where its fields end. It can be one byte longer than M: a round that goes from 127 to 128 takes a byte more.
+ * Schedule: when `delay` milliseconds have passed, call with the event `02 TIMER`, once. A timer is never taken back. One whose event is refused
+ * has not fired: tell it again, with a longer output (14) or later (13); what waits for it is not scheduled anew, and is lost without it.
+ * AnnounceDropped may be told before its time, and then not at it: as soon as a link has room again, or what waits for it is sent late, and
+ * lost when it is no longer cached. An EvictCache told in addition goes on beside the others for ever.
  * Emit: a new message, for the panel's own use; `peer` brought it, with this round. A panel's own broadcasts are not emitted.
  *
  * Neighbors: sent once to the eager neighbours, announced to nobody, not sent on; who is lazy does not get it.
+ *
+ * Up: told at both ends of a link. The neighbour gets what is taken in from then on, and not what came before.
+ * Down: what waits for the neighbour is forgotten, and it does not get what is taken in until it is up again; so a link that will come back is
+ * not told down, but has room 0.
+ * Broadcast: told while no neighbour is up it is accepted and reaches nobody: hold it back until one is. The same content told again while it
+ * is known (message_id_retention, 90 s) is one message, and nobody emits it a second time: a reading carries its panel's number and a
+ * sequence number or a time.
  *
  * A broadcast that would be over M bytes on its way is accepted and sent to nobody: look at its length first (plumtree_longest_content). So a
  * content has at most 4,055 bytes where M is 4,094 and 471 where it is 510, three more for Neighbors: "Size is content + its length's groups

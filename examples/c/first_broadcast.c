@@ -24,9 +24,9 @@ struct panel {
     uint8_t output[40960];
 };
 
-static void stop(const char *why, int number)
+static void stop(const char *what, const char *why)
 {
-    fprintf(stderr, "first_broadcast: %s: answer %d\n", why, number);
+    fprintf(stderr, "first_broadcast: %s: %s\n", what, why);
     exit(1);
 }
 
@@ -122,14 +122,14 @@ static void tell(struct panel *p, const char *what, uint64_t at, const uint8_t *
 
     answer = plumtree_event(p->block, p->block_length, &p->counts, at, event, event_length, rooms, rooms_length, p->output, sizeof p->output);
     if (answer.number != PLUMTREE_ACCEPTED)
-        stop(what, answer.number);
+        stop(what, plumtree_number_text(answer.number));
 
     printf("%" PRIu64 " %s\n", at, what);
     actions = plumtree_actions_of(p->output, answer.length);
     while (plumtree_take_action(&actions, &action))
         print_action(&action);
     if (actions.bad)
-        stop("the actions cannot be read", answer.number);
+        stop(what, "the actions cannot be read");
 }
 
 int main(void)
@@ -146,10 +146,10 @@ int main(void)
     panel.block_length = plumtree_block_size(limits);
     panel.block = (uint8_t *)calloc(1, panel.block_length);
     if (!panel.block)
-        stop("no memory", 0);
+        stop("create", "no memory");
     answer = plumtree_create(panel.block, panel.block_length, &panel.counts, plumtree_default_settings(1), limits);
     if (answer.number != PLUMTREE_ACCEPTED)
-        stop("create", answer.number);
+        stop("create", plumtree_number_text(answer.number));
 
     tell(&panel, "neighbour 2 is up", 0, event, plumtree_put_up(event, 2), NULL, 0);
     tell(&panel, "neighbour 3 is up", 0, event, plumtree_put_up(event, 3), NULL, 0);

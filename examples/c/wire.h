@@ -80,6 +80,16 @@ static inline size_t plumtree_put_tick(uint8_t *out, enum plumtree_timer_kind ki
     return 2;
 }
 
+/*
+ * The room of a link whose socket has so many bytes free, where the host puts `framing` bytes to each message: as many sends as fit, each of them as
+ * long as a message can be (M + 1). It is counted anew before each call.
+ */
+static inline uint16_t plumtree_room_of(size_t free_bytes, uint64_t max_message_size, size_t framing)
+{
+    uint64_t sends = free_bytes / (max_message_size + 1 + framing);
+    return sends < UINT16_MAX ? (uint16_t)sends : UINT16_MAX;
+}
+
 /* READING */
 
 struct plumtree_reader {

@@ -1,6 +1,6 @@
 #!/usr/bin/env bash
-# The binding for Rust: its tests and examples, its documentation's examples, the reader on two runs of panelrun, and its tests
-# under valgrind.
+# The binding for Rust, from a copy elsewhere: its tests and examples, its documentation's examples, the reader on two runs of panelrun, what it
+# does without the archive, and its tests under valgrind.
 # PLUMTREE_LIB_DIR can name the directory of another libplumtree.a than the proved one.
 set -euo pipefail
 cd "$(dirname "$0")/../.."
@@ -11,7 +11,11 @@ need_library
 export CARGO_TARGET_DIR="$PWD/target/bindings"
 out=$CARGO_TARGET_DIR/gate
 mkdir -p "$out"
+copy=$(mktemp -d)
+trap 'rm -rf "$copy"' EXIT
 cd bindings/rust
+cp -R Cargo.toml build.rs src tests examples "$copy"
+cd "$copy"
 
 # `unsafe` stands in one module.
 [ "$(grep -rl 'unsafe {' src)" = src/ffi.rs ] || die "unsafe outside src/ffi.rs"
@@ -23,11 +27,18 @@ if cargo clippy --version >/dev/null 2>&1; then
     cargo clippy --offline -q --all-targets -- -D warnings
 fi
 
-# The reader, on document 01's example and on a longer run.
+# Without the archive all of it is checked, the library is built, and the reader runs, on document 01's example and on a longer run. A program that
+# calls the library is not linked, and the message says what is missing.
+none=$out/none
+without() { PLUMTREE_LIB_DIR=$none cargo "$1" --offline -q --target-dir "$out/without" "${@:2}"; }
+without check --all-targets
+without build --lib
 for run in worked longer; do
-    files=../../tests/bindings/$run
-    cargo run --offline -q --example read -- $files.input $files.output | diff $files.expected -
+    without run --example read -- tests/runs/$run.input tests/runs/$run.output | diff tests/runs/$run.expected -
 done
+if without build --example swarm >"$out/without.log" 2>&1; then die "linked without the archive"; fi
+grep -q "there is no $none/libplumtree.a: run \`rt staticlib plumtree\`, or set PLUMTREE_LIB_DIR to" "$out/without.log" ||
+    { cat "$out/without.log"; die "the linker's message does not say what is missing"; }
 
 # The questions again, under valgrind.
 cargo test --offline -q --test questions --no-run --message-format=json 2>/dev/null | sed -n 's/.*"executable":"\([^"]*questions[^"]*\)".*/\1/p' >"$out/questions"

@@ -1,5 +1,6 @@
 #!/usr/bin/env bash
-# The library called from C: the headers by themselves as C and C++, the examples with what they print, and each refusal, all under valgrind.
+# The library called from C: the headers by themselves as C and C++, the examples with what they print, what a host loses readings by, each
+# number's text, and each refusal, all under valgrind.
 # PLUMTREE_LIB_DIR can name the directory of another libplumtree.a than the proved one.
 set -euo pipefail
 cd "$(dirname "$0")/../.."
@@ -33,6 +34,23 @@ for example in first_broadcast three_panels; do
     $under_valgrind "$out/$example" | diff "examples/c/$example.expected" -
 done
 
+# What a host loses readings by: the tables of docs/LINKING.md; one series of breaks under valgrind.
+# shellcheck disable=SC2086
+gcc -std=c99 -O2 -g $strict -I include -I examples/c -o "$out/host_rules" tests/c/host_rules.c "$lib/libplumtree.a"
+"$out/host_rules" | diff tests/c/host_rules.expected -
+$under_valgrind "$out/host_rules" 1 >/dev/null
+
+# docs/LINKING.md shows what they print.
+linking=$(cat docs/LINKING.md)
+for printed in examples/c/first_broadcast examples/c/three_panels tests/c/host_rules; do
+    case $linking in *"$(sed 's/^/    /; s/ *$//' "$printed.expected")"*) ;; *) die "docs/LINKING.md does not show $printed.expected" ;; esac
+done
+
+# Each number's text, held against the lines that the binding's errors are held against.
+# shellcheck disable=SC2086
+gcc -std=c99 -g $strict -I include -o "$out/numbers" tests/c/numbers.c
+$under_valgrind "$out/numbers" | diff bindings/rust/tests/numbers.txt -
+
 # Each refusal, and where the structs' fields are; as C and as C++.
 for flags in -O0 -O2; do
     # shellcheck disable=SC2086
@@ -47,4 +65,4 @@ g++ -std=c++11 -g $strict -I include -I examples/c -o "$out/calls_cpp" -x c++ te
 # shellcheck disable=SC2086
 gcc -std=c99 -O2 $strict -pthread -I include -I examples/c -o "$out/stack" tests/c/stack.c "$lib/libplumtree.a"
 "$out/stack"
-echo "tests/c: the headers, the examples and each refusal are as promised"
+echo "tests/c: the headers, the examples, the rules of a host and each refusal are as promised"

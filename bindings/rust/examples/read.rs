@@ -5,7 +5,7 @@
 //! ```
 //!
 //! The input is records of now, length, event; the output is answer byte, length, actions for each of them. An event's line begins with its
-//! time. Below it, indented, stand its actions, or the question that refused it.
+//! time. Below it, indented, stand its actions, or why it was refused.
 use std::env;
 use std::fs;
 use std::process::ExitCode;
@@ -25,7 +25,7 @@ fn read(mut input: &[u8], mut output: &[u8]) -> Vec<String> {
                 input = rest;
             }
             Err(e) => {
-                lines.push(format!("no record, and the end: {} byte(s) from here on ({e})", input.len()));
+                lines.push(format!("no record, and the end: {} byte(s) from here on: {e}", input.len()));
                 input = &[];
             }
         }
@@ -83,7 +83,7 @@ fn event_text(event: &[u8]) -> String {
 fn answer_lines(number: u8, mut actions: &[u8], lines: &mut Vec<String>) {
     match (number, Error::from_number(number)) {
         (0, _) => {}
-        (_, Some(e)) => lines.push(format!("    refused by {e}")),
+        (_, Some(e)) => lines.push(format!("    refused: {e}")),
         (n, None) => lines.push(format!("    {n} is no answer")),
     }
     while !actions.is_empty() {
@@ -140,13 +140,13 @@ mod tests {
         let output = [7, 0, 8, 0, 7, 0, 7, 0];
         let lines = [
             "0 no event: ",
-            "    refused by question 7: Does each field end within the bytes?",
+            "    refused: the event is cut (question 7: \"Does each field end within the bytes?\")",
             "7 no event: 09",
-            "    refused by question 8: Is each kind known, each number in its width and shortest?",
+            "    refused: the event has an unknown kind, or a number that is too wide or not shortest (question 8: \"Is each kind known, each number in its width and shortest?\")",
             "7 no event: 0380",
-            "    refused by question 7: Does each field end within the bytes?",
-            "no record, and the end: 3 byte(s) from here on (question 7: Does each field end within the bytes?)",
-            "    refused by question 7: Does each field end within the bytes?",
+            "    refused: the event is cut (question 7: \"Does each field end within the bytes?\")",
+            "no record, and the end: 3 byte(s) from here on: the event is cut (question 7: \"Does each field end within the bytes?\")",
+            "    refused: the event is cut (question 7: \"Does each field end within the bytes?\")",
         ];
         assert_eq!(read(&input, &output), lines);
     }
@@ -159,6 +159,9 @@ mod tests {
         assert_eq!(read(&[0, 2, 3, 2], &[15, 1, 9]), lines);
         // A length of 16,385 ends the program, whatever follows.
         let lines = read(&[0, 0x81, 0x80, 0x01], &[7, 0]);
-        assert_eq!(lines[0], "no record, and the end: 4 byte(s) from here on (question 7: Does each field end within the bytes?)");
+        assert_eq!(
+            lines[0],
+            "no record, and the end: 4 byte(s) from here on: the event is cut (question 7: \"Does each field end within the bytes?\")"
+        );
     }
 }

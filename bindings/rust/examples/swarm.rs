@@ -86,6 +86,7 @@ fn simulate() -> Result<Vec<String>, Error> {
     let mut lines = Vec::new();
     for (at, content) in [(1000, "burner 3: 1452 C"), (2000, "burner 3: 1455 C"), (3000, "burner 3: 1449 C"), (4000, "burner 3: 1451 C")] {
         if at == 3000 {
+            // Down at both ends, since this link does not come back. One that will has room 0 until it does, and is not told down.
             swarm.plan(at, 3, &Event::Down(4));
             swarm.plan(at, 4, &Event::Down(3));
             lines.push("the link between 3 and 4 breaks".to_string());

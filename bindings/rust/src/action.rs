@@ -13,7 +13,7 @@ pub enum Action<'a> {
         peer: u64,
         /// True: put the bytes onto the link. False: the link had no room in this call ([`LinkRoom`](crate::LinkRoom)) and handed it back; put
         /// nothing there. Of a Swarm Gossip and of an IHave the panel has noted the identifiers and announces them later, unless its record is
-        /// full; of the other messages it has noted nothing.
+        /// full; of the other messages it has noted nothing. Keep a Graft, and put it on the link when there is room.
         taken: bool,
         /// The message.
         message: Message<'a>,

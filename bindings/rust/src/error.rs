@@ -1,61 +1,68 @@
 use std::fmt;
 
-/// The question that was answered no; "The first no gives its number". Nothing has changed then: neither block, counts nor output.
-///
-/// Creation asks 1 to 4, an event 5 to 14, [`alike`](crate::alike) 5. The readers of this crate ([`Event::read`](crate::Event::read),
-/// [`Action::read`](crate::Action::read)) use 7, 8 and 9.
-#[repr(u8)]
-#[derive(Clone, Copy, Debug, PartialEq, Eq, Hash, PartialOrd, Ord)]
-pub enum Error {
-    /// 1: "Is M, `max_message_size`, from 510 to 4,094?"
-    MessageSizeOutOfRange = 1,
-    /// 2: "Is each of the six durations at most 2^40?"
-    DurationTooLong = 2,
-    /// 3: "Is each limit from 1 to its ceiling?"
-    LimitOutOfRange = 3,
-    /// 4: "Has the lent block at least 4,096 + B + 160R + 256C + 640G + 512S + 64(N + T + Q + D) bytes?"
-    BlockTooShort = 4,
-    /// 5: "Is the block whole?" No: it was not created, was written by somebody else, or is shorter than its limits need.
-    BlockNotWhole = 5,
-    /// 6: "Is now ≤ 2^62?"
-    TimeTooLate = 6,
-    /// 7: "Does each field end within the bytes?"
-    EventCut = 7,
-    /// 8: "Is each kind known, each number in its width and shortest?"
-    EventMalformed = 8,
-    /// 9: "Do the bytes end there?"
-    EventTooLong = 9,
-    /// 10: "Is a received message at most M bytes?"
-    MessageTooLong = 10,
-    /// 11: "Do the counts stay under 2^64?"
-    CountsFull = 11,
-    /// 12: "Is it anything but a valid Swarm message of round 65,535, unreceived once a first event has evicted?"
-    NoMoreHops = 12,
-    /// 13: "Is the state after the call within every limit?" What the call frees counts as free.
-    LimitReached = 13,
-    /// 14: "Do the actions fit the output?" The same call with a longer output goes through.
-    OutputTooShort = 14,
+/// The questions, each once: its number, what a no means, its words, and what else is to be known.
+macro_rules! questions {
+    ($($name:ident = $number:literal, $meaning:literal, $question:literal $(, $more:literal)?;)*) => {
+        /// The question that was answered no; "The first no gives its number". Nothing has changed then: neither block, counts nor output.
+        ///
+        /// Creation asks 1 to 4, an event 5 to 14, [`alike`](crate::alike) 5. The readers of this crate ([`Event::read`](crate::Event::read),
+        /// [`Action::read`](crate::Action::read)) use 7, 8 and 9.
+        #[repr(u8)]
+        #[derive(Clone, Copy, Debug, PartialEq, Eq, Hash, PartialOrd, Ord)]
+        pub enum Error {
+            $(
+                #[doc = concat!($number, ": ", $meaning, ". \"", $question, "\"" $(, " ", $more)?)]
+                $name = $number,
+            )*
+        }
+
+        impl Error {
+            /// All fourteen, in their order.
+            pub const ALL: [Error; 14] = [$(Error::$name),*];
+
+            /// What the refusal means.
+            pub fn meaning(self) -> &'static str {
+                match self {
+                    $(Error::$name => $meaning,)*
+                }
+            }
+
+            /// The question, in the specification's words.
+            pub fn question(self) -> &'static str {
+                match self {
+                    $(Error::$name => $question,)*
+                }
+            }
+        }
+    };
+}
+
+questions! {
+    MessageSizeOutOfRange = 1, "the message size M is out of range", "Is M, `max_message_size`, from 510 to 4,094?";
+    DurationTooLong = 2, "a duration is too long", "Is each of the six durations at most 2^40?";
+    LimitOutOfRange = 3, "a limit is 0 or over its ceiling", "Is each limit from 1 to its ceiling?";
+    BlockTooShort = 4, "the block is too short for the limits",
+        "Has the lent block at least 4,096 + B + 160R + 256C + 640G + 512S + 64(N + T + Q + D) bytes?",
+        "[`block_size`](crate::block_size) says how many.";
+    BlockNotWhole = 5, "the block holds no panel, or a damaged one", "Is the block whole?",
+        "No: it was not created, was written by somebody else, or is shorter than its limits need.";
+    TimeTooLate = 6, "the time is too late", "Is now ≤ 2^62?";
+    EventCut = 7, "the event is cut", "Does each field end within the bytes?";
+    EventMalformed = 8, "the event has an unknown kind, or a number that is too wide or not shortest",
+        "Is each kind known, each number in its width and shortest?";
+    EventTooLong = 9, "the event has bytes after its end", "Do the bytes end there?";
+    MessageTooLong = 10, "the received message is too long", "Is a received message at most M bytes?",
+        "These are the bytes behind the peer's number.";
+    CountsFull = 11, "a count would pass its greatest value", "Do the counts stay under 2^64?";
+    NoMoreHops = 12, "the message is new here and has made 65,535 hops already",
+        "Is it anything but a valid Swarm message of round 65,535, unreceived once a first event has evicted?", "Drop it.";
+    LimitReached = 13, "a limit is reached", "Is the state after the call within every limit?",
+        "What the call frees counts as free. Entries that expire and neighbours that go down make room; so do higher limits at creation.";
+    OutputTooShort = 14, "the output is too short for the actions", "Do the actions fit the output?",
+        "The same call with a longer output goes through.";
 }
 
 impl Error {
-    /// All fourteen, in their order.
-    pub const ALL: [Error; 14] = [
-        Error::MessageSizeOutOfRange,
-        Error::DurationTooLong,
-        Error::LimitOutOfRange,
-        Error::BlockTooShort,
-        Error::BlockNotWhole,
-        Error::TimeTooLate,
-        Error::EventCut,
-        Error::EventMalformed,
-        Error::EventTooLong,
-        Error::MessageTooLong,
-        Error::CountsFull,
-        Error::NoMoreHops,
-        Error::LimitReached,
-        Error::OutputTooShort,
-    ];
-
     /// The error of a number from 1 to 14.
     pub fn from_number(number: u8) -> Option<Error> {
         let place = usize::from(number).checked_sub(1)?;
@@ -67,26 +74,6 @@ impl Error {
         self as u8
     }
 
-    /// The question, in the specification's words.
-    pub fn question(self) -> &'static str {
-        match self {
-            Error::MessageSizeOutOfRange => "Is M, `max_message_size`, from 510 to 4,094?",
-            Error::DurationTooLong => "Is each of the six durations at most 2^40?",
-            Error::LimitOutOfRange => "Is each limit from 1 to its ceiling?",
-            Error::BlockTooShort => "Has the lent block at least 4,096 + B + 160R + 256C + 640G + 512S + 64(N + T + Q + D) bytes?",
-            Error::BlockNotWhole => "Is the block whole?",
-            Error::TimeTooLate => "Is now ≤ 2^62?",
-            Error::EventCut => "Does each field end within the bytes?",
-            Error::EventMalformed => "Is each kind known, each number in its width and shortest?",
-            Error::EventTooLong => "Do the bytes end there?",
-            Error::MessageTooLong => "Is a received message at most M bytes?",
-            Error::CountsFull => "Do the counts stay under 2^64?",
-            Error::NoMoreHops => "Is it anything but a valid Swarm message of round 65,535, unreceived once a first event has evicted?",
-            Error::LimitReached => "Is the state after the call within every limit?",
-            Error::OutputTooShort => "Do the actions fit the output?",
-        }
-    }
-
     /// What the library's number means: nothing, or an error.
     pub(crate) fn check(number: u8) -> Result<(), Error> {
         match number {
@@ -96,9 +83,10 @@ impl Error {
     }
 }
 
+/// For people: what it means, then the question. `plumtree_number_text` of include/plumtree.h says the same words.
 impl fmt::Display for Error {
     fn fmt(&self, f: &mut fmt::Formatter<'_>) -> fmt::Result {
-        write!(f, "question {}: {}", self.number(), self.question())
+        write!(f, "{} (question {}: \"{}\")", self.meaning(), self.number(), self.question())
     }
 }
 

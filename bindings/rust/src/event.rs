@@ -39,7 +39,7 @@ pub enum Event<'a> {
         /// The bytes, as they came.
         bytes: &'a [u8],
     },
-    /// The panel's own message is to go out. A message of more than M bytes is accepted and not sent.
+    /// The panel's own message is to go out. A content over [`longest_content`](crate::longest_content) is accepted and sent to nobody.
     Broadcast {
         /// The content.
         content: &'a [u8],

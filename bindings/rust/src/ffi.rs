@@ -29,9 +29,13 @@ pub struct Likeness {
     pub alike: bool,
 }
 
+#[cfg_attr(plumtree_missing, allow(clashing_extern_declarations))]
 extern "C" {
+    #[cfg_attr(plumtree_missing, link_name = env!("PLUMTREE_MISSING"))]
     fn plumtree_block_size(limits: Limits) -> usize;
+    #[cfg_attr(plumtree_missing, link_name = env!("PLUMTREE_MISSING"))]
     fn plumtree_create(block: *mut u8, block_length: usize, counts: *mut Stats, settings: Settings, limits: Limits) -> Answer;
+    #[cfg_attr(plumtree_missing, link_name = env!("PLUMTREE_MISSING"))]
     fn plumtree_event(
         block: *mut u8,
         block_length: usize,
@@ -44,6 +48,7 @@ extern "C" {
         output: *mut u8,
         output_length: usize,
     ) -> Answer;
+    #[cfg_attr(plumtree_missing, link_name = env!("PLUMTREE_MISSING"))]
     fn plumtree_alike(a: *const u8, a_length: usize, b: *const u8, b_length: usize) -> Likeness;
 }
 

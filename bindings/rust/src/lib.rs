@@ -24,7 +24,7 @@
 //!     match action {
 //!         // Put the bytes onto the link to the peer.
 //!         Action::Send { peer, taken: true, bytes, .. } => lines.push(format!("{} bytes to {peer}", bytes.len())),
-//!         // The link had no room (see LinkRoom): there is nothing to do, the panel announces the reading later.
+//!         // The link had no room (see LinkRoom): the panel announces a reading later by itself; a Graft is kept until there is room.
 //!         Action::Send { taken: false, .. } => {}
 //!         // When the delay has passed, tell Event::Timer(timer).
 //!         Action::Schedule { delay, timer } => lines.push(format!("{timer} in {delay}")),
@@ -87,7 +87,7 @@
 //! let refused = panel.event(0, &Event::Up(3), &[], &mut []).unwrap_err();
 //! assert_eq!(refused, Error::LimitReached);
 //! assert_eq!(refused.number(), 13);
-//! assert_eq!(refused.to_string(), "question 13: Is the state after the call within every limit?");
+//! assert_eq!(refused.to_string(), "a limit is reached (question 13: \"Is the state after the call within every limit?\")");
 //! # Ok(())
 //! # }
 //! ```
@@ -95,7 +95,8 @@
 //! # Linking
 //!
 //! `rt staticlib plumtree` writes `target/staticlib/libplumtree.a`, where this crate looks for it; the variable `PLUMTREE_LIB_DIR` names another
-//! directory. The archive is for x86-64 Linux.
+//! directory. Without it the crate is built and checked, and a program that calls the library is not linked: the linker's message says what is
+//! missing. The archive is for x86-64 Linux.
 #![deny(unsafe_code)]
 #![warn(missing_docs)]
 
@@ -114,7 +115,7 @@ pub use error::Error;
 pub use event::{Event, Scope};
 pub use message::{Announced, Delivery, Id, Message, Timer};
 pub use panel::{alike, block_size, LinkRoom, Panel, Stats};
-pub use settings::{Config, Limits, Settings};
+pub use settings::{longest_content, Config, Limits, Settings, GREATEST_MESSAGE_SIZE, LEAST_MESSAGE_SIZE};
 pub use wire::{read_number, write_number};
 
 /// The library's four functions on slices, with their answers as numbers. For tests and for hosts that keep blocks in their own way.

@@ -1,3 +1,21 @@
+/// The least M that a panel can be given.
+pub const LEAST_MESSAGE_SIZE: u64 = 510;
+
+/// The greatest M that a panel can be given.
+pub const GREATEST_MESSAGE_SIZE: u64 = 4_094;
+
+/// The longest content that a broadcast to all panels ([`Scope::Swarm`](crate::Scope::Swarm)) sends: a longer one is accepted and sent to nobody. Three
+/// bytes more for [`Scope::Neighbors`](crate::Scope::Neighbors).
+///
+/// ```
+/// use plumtree::{longest_content, GREATEST_MESSAGE_SIZE, LEAST_MESSAGE_SIZE};
+/// assert_eq!(longest_content(GREATEST_MESSAGE_SIZE), 4_055);
+/// assert_eq!(longest_content(LEAST_MESSAGE_SIZE), 471);
+/// ```
+pub const fn longest_content(max_message_size: u64) -> usize {
+    (max_message_size as usize).saturating_sub(39)
+}
+
 /// The times of a panel and its threshold: the original's `Config`. Durations are in milliseconds, at most 2^40 each.
 #[repr(C)]
 #[derive(Clone, Copy, Debug, PartialEq, Eq, Hash)]
@@ -43,7 +61,7 @@ impl Default for Config {
 pub struct Settings {
     /// The times and the threshold.
     pub config: Config,
-    /// M, from 510 to 4,094: the most bytes of a message.
+    /// M, from [`LEAST_MESSAGE_SIZE`] to [`GREATEST_MESSAGE_SIZE`]: the most bytes of a message.
     pub max_message_size: u64,
     /// The panel's own peer number.
     pub me: u64,
@@ -52,7 +70,7 @@ pub struct Settings {
 impl Settings {
     /// The default settings (M 4,094) for a panel of this number.
     pub const fn of_panel(me: u64) -> Settings {
-        Settings { config: Config::DEFAULT, max_message_size: 4_094, me }
+        Settings { config: Config::DEFAULT, max_message_size: GREATEST_MESSAGE_SIZE, me }
     }
 }
 

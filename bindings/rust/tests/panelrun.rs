@@ -1,4 +1,4 @@
-//! The library on the inputs of tests/bindings, as the program panelrun runs it: what it answers is the stored output.
+//! The library on the inputs of tests/runs, as the program panelrun runs it: what it answers is the stored output.
 use std::fs;
 use std::path::Path;
 
@@ -36,7 +36,7 @@ fn panelrun(mut input: &[u8]) -> Vec<u8> {
 
 #[test]
 fn stored_runs() {
-    let dir = Path::new(env!("CARGO_MANIFEST_DIR")).join("../../tests/bindings");
+    let dir = Path::new(env!("CARGO_MANIFEST_DIR")).join("tests/runs");
     for name in ["worked", "longer"] {
         let file = |end: &str| fs::read(dir.join(name).with_extension(end)).unwrap();
         assert!(!file("output").is_empty());

@@ -1,6 +1,7 @@
 //! Each question answered no once, through the library, with what a refusal promises: block, counts and output untouched.
 use plumtree::{
-    alike, block_size, raw, Action, Announced, Delivery, Error, Event, Limits, LinkRoom, Message, Panel, Scope, Settings, Stats, Timer,
+    alike, block_size, longest_content, raw, Action, Announced, Delivery, Error, Event, Limits, LinkRoom, Message, Panel, Scope, Settings,
+    Stats, Timer, GREATEST_MESSAGE_SIZE, LEAST_MESSAGE_SIZE,
 };
 
 const LIMITS: [fn(&mut Limits) -> &mut usize; 9] = [
@@ -57,7 +58,9 @@ fn creation() {
     let settings = Settings::of_panel(1);
     let limits = Limits::SMALL;
     let length = need(limits);
-    for (m, number) in [(509, 1), (510, 0), (4094, 0), (4095, 1), (u64::MAX, 1)] {
+    for (m, number) in
+        [(LEAST_MESSAGE_SIZE - 1, 1), (LEAST_MESSAGE_SIZE, 0), (GREATEST_MESSAGE_SIZE, 0), (GREATEST_MESSAGE_SIZE + 1, 1), (u64::MAX, 1)]
+    {
         assert_eq!(create(length, Settings { max_message_size: m, ..settings }, limits), number, "M {m}");
     }
     for (i, field) in DURATIONS.iter().enumerate() {
@@ -208,6 +211,25 @@ fn a_byte_more_than_m() {
     assert_eq!(Panel::new(settings, Limits::SMALL).unwrap().event(0, &event, &[], &mut [0; 4096]).unwrap_err(), Error::MessageTooLong);
 }
 
+/// The longest content goes to both neighbours, a byte more to nobody.
+#[test]
+fn longest_contents() {
+    let sends = |max_message_size, length, scope| {
+        let mut p = Panel::new(Settings { max_message_size, ..Settings::of_panel(1) }, Limits::SMALL).unwrap();
+        let mut output = vec![0; Limits::SMALL.output_size(max_message_size)];
+        for peer in [2, 3] {
+            p.event(0, &Event::Up(peer), &[], &mut output).unwrap();
+        }
+        let event = Event::Broadcast { content: &vec![7; length], scope };
+        p.event(0, &event, &[], &mut output).unwrap().filter(|a| matches!(a, Action::Send { .. })).count()
+    };
+    for m in [LEAST_MESSAGE_SIZE, GREATEST_MESSAGE_SIZE] {
+        for (scope, longest) in [(Scope::Swarm, longest_content(m)), (Scope::Neighbors, longest_content(m) + 3)] {
+            assert_eq!((sends(m, longest, scope), sends(m, longest + 1, scope)), (2, 0), "M {m}, {scope:?}");
+        }
+    }
+}
+
 #[test]
 fn what_is_beyond_the_length_stays() {
     let mut p = panel(Limits::SMALL);
@@ -335,4 +357,17 @@ fn error_numbers() {
     }
     assert_eq!(Error::from_number(0), None);
     assert_eq!(Error::from_number(15), None);
+}
+
+/// The header's words for each number (tests/c/gate.sh holds `plumtree_number_text` against the same lines).
+#[test]
+fn error_texts() {
+    for line in include_str!("numbers.txt").lines() {
+        let (number, text) = line.split_once(' ').unwrap();
+        match (number.parse().unwrap(), Error::from_number(number.parse().unwrap())) {
+            (0, None) => assert_eq!(text, "accepted"),
+            (_, Some(e)) => assert_eq!(text, e.to_string()),
+            (_, None) => assert_eq!(text, "no answer of this library"),
+        }
+    }
 }

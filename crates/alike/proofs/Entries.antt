@@ -60,7 +60,7 @@ kept-pair true false p q = refl
 kept-pair false true p q = refl
 kept-pair false false p q = refl
 
-pub kept-same : (x y : Sender) → x .round ≡ 0 → y .round ≡ 0 → sameOption sameHop (firstOf x) (firstOf y) ≡ sameOption eqb (keptOf x) (keptOf y)
+pub kept-same : (x y : Sender) → x .round .0 ≡ 0 → y .round .0 ≡ 0 → sameOption sameHop (firstOf x) (firstOf y) ≡ sameOption eqb (keptOf x) (keptOf y)
 kept-same x y e f =
     (λ k. sameOption sameHop (onlyIf (x .there) (record { peer = x .peer; round = e k })) (onlyIf (y .there) (record { peer = y .peer; round = f k })))
     ∙ kept-pair (x .there) (y .there) (x .peer) (y .peer)

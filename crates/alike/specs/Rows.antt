@@ -64,7 +64,7 @@ rowsOf CachedRows v = v .cached
 
 -- the `first` of a grafted message
 abbrev pub firstOf : Sender → Option Hop
-firstOf z = onlyIf (z .there) (record { peer = z .peer; round = z .round })
+firstOf z = onlyIf (z .there) (record { peer = z .peer; round = z .round .0 })
 
 -- the `kept` of a grafted message
 abbrev pub keptOf : Sender → Option ℕ

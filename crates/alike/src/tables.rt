@@ -8,6 +8,7 @@ use block::links;
 use block::time_caches;
 use caches::cached;
 use caches::grafted;
+use postcard::units::Round;
 use rows::id;
 use rows::id::Id;
 use rows::word;
@@ -44,7 +45,7 @@ pub enum Table {
 pub struct Sender {
     pub there: bool,
     pub peer: u64,
-    pub round: u64,
+    pub round: Round,
 }
 
 // Whether two flags agree.
@@ -104,14 +105,14 @@ fn first_at(h: Head, block: &[u8], i: usize) -> Sender
     Sender {
         there: flag != 0,
         peer,
-        round,
+        round: Round(round as u16),
     }
 }
 
 // The `kept` of grafted message i.
 fn kept_at(h: Head, block: &[u8], i: usize) -> Sender
     requires { ⌜ Sound h (now block) × (i < h .live .grafted) ⌝ }
-    ensures { λ r. ⌜ (r .round ≡ 0) × (keptOf r ≡ graftsAt (stateOf h (now (block .entry))) i .kept) ⌝ }
+    ensures { λ r. ⌜ (r .round .0 ≡ 0) × (keptOf r ≡ graftsAt (stateOf h (now (block .entry))) i .kept) ⌝ }
 {
     let a = head::grafted_at(h.limits) + 119 * i;
     let flag = block[a + 13];
@@ -119,7 +120,7 @@ fn kept_at(h: Head, block: &[u8], i: usize) -> Sender
     Sender {
         there: flag != 0,
         peer,
-        round: 0,
+        round: Round(0),
     }
 }
 
@@ -132,7 +133,7 @@ fn same_sender(x: Sender, y: Sender) -> bool
             if x.peer != y.peer {
                 return false;
             }
-            return x.round == y.round;
+            return x.round.0 == y.round.0;
         }
         return false;
     }

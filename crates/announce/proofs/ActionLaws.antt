@@ -1,9 +1,9 @@
 -- The sizes and actions of AnnounceDropped, by the numbers of what moves and what stays.
 -- Assumes nothing.
 use mathlib.Core.Path.{_≡_, refl, sym, ap, _∙_}
-use mathlib.Core.Bool.{Bool, false, not, _&&_}
+use mathlib.Core.Bool.{Bool, false, not}
 use mathlib.Core.List.{List, [], _∷_, _++_}
-use Prim.Native.Nat.{ℕ, zero, suc, _+_, _≤_}
+use Prim.Native.Nat.{ℕ, _+_, _≤_}
 use borrow.Author.Tests.{eq-eqb, ne-eqb, lt-ltb}
 use native.Mathlib.Omega.{arith}
 use lib.Dec.{ltb, eqb}
@@ -12,14 +12,15 @@ use Rattle.lists.specs.Base.{if_then_else_, isEmpty, concatMap}
 use Rattle.lists.proofs.Branches.{if-on, if-same}
 use Rattle.lists.proofs.ListLaws.{length-filter, count-length}
 use Rattle.time_cache.specs.TimeCache.{holds}
-use Rattle.postcard.specs.Message.{Action, Scheduled, AnnounceDropped, actionBytes}
+use Rattle.postcard.specs.Message.{Action, actionBytes}
 use Rattle.protocol.specs.State.{State}
 use Rattle.protocol.specs.Ticks.{oldest, younger, stillCached}
 use Rattle.decide.proofs.AnnounceDropped.{moved-all}
 use Rattle.decide.specs.Sizes.{sizesOf, sizedQueued, sizedRecorded}
 use Rattle.decide.specs.SizesAfter.{announceSizes}
 use Rattle.decide.specs.Settled.{settled}
-use Rattle.decide.specs.ActionsAfter.{dispatchAction, announceAction, announceActions}
+use Rattle.decide.specs.ActionsAfter.{dispatchAction, announceActions}
+use Rattle.decide.specs.RecordGrowth.{announceAction}
 use Rattle.block.specs.View.{stateOf}
 use Rattle.block.specs.declared.head.Head.{Head}
 use Rattle.block.proofs.NoteLaws.{count-queue, count-dropped}
@@ -39,17 +40,13 @@ pub some-bytes : (n : ℕ) (acts : List Action) → (n ≡ 0 → ⊥) → concat
 unfolding ifAny
 some-bytes n acts e = ap (λ (b : Bool). concatMap actionBytes (if b then [] else acts)) (ne-eqb n 0 e)
 
--- a record of that length makes its timer due, the flag being clear
-pub if-announce : (n : ℕ) → ifAny n (Scheduled 1000 AnnounceDropped ∷ []) ≡ announceAction (ltb 0 n) false
-unfolding ifAny announceAction
-if-announce zero = refl
-if-announce (suc n) =
-    ap (λ (b : Bool). if b then [] else Scheduled 1000 AnnounceDropped ∷ []) (ne-eqb (suc n) 0 (λ z. omega arith))
-    ∙ ap (λ (b : Bool). if b && not false then Scheduled 1000 AnnounceDropped ∷ [] else []) (sym (lt-ltb 0 (suc n) (omega arith)))
-
 empty-length : {A : Type 0} (l : List A) → isEmpty l ≡ eqb (length l) 0
 empty-length [] = sym (eq-eqb 0 0 refl)
 empty-length (x ∷ l) = sym (ne-eqb (length (x ∷ l)) 0 (λ z. omega arith))
+
+filled-length : {A : Type 0} (l : List A) → not (isEmpty l) ≡ ltb 0 (length l)
+filled-length [] = refl
+filled-length (x ∷ l) = sym (lt-ltb 0 (length (x ∷ l)) (omega arith))
 
 -- a first event leaves the queue as it is
 settled-queue : (instant : ℕ) (s : State) → settled instant s .queue ≡ s .queue
@@ -65,15 +62,15 @@ module _ (instant : ℕ) (s : State) (r : Moved) (is : MovedIs (settled instant 
       empty-length (t .queue ++ oldest [] (stillCached t))
       ∙ ap (λ (n : ℕ). eqb n 0) (length-append (t .queue) (oldest [] (stillCached t)) ∙ (λ k. length (settled-queue instant s k) + sym (is .moved) k))
 
-  recorded : isEmpty (younger [] (stillCached t)) ≡ eqb (r .left) 0
-  recorded = empty-length (younger [] (stillCached t)) ∙ ap (λ (n : ℕ). eqb n 0) (sym (is .left))
+  recorded : not (isEmpty (younger [] (stillCached t))) ≡ ltb 0 (r .left)
+  recorded = filled-length (younger [] (stillCached t)) ∙ ap (λ (n : ℕ). ltb 0 n) (sym (is .left))
 
   settled-bytes : concatMap actionBytes (announceActions (settled instant s))
-      ≡ concatMap actionBytes (ifAny (length (s .queue) + r .moved) (dispatchAction s)) ++ concatMap actionBytes (ifAny (r .left) (Scheduled 1000 AnnounceDropped ∷ []))
+      ≡ concatMap actionBytes (ifAny (length (s .queue) + r .moved) (dispatchAction s)) ++ concatMap actionBytes (announceAction (ltb 0 (r .left)) false)
   unfolding announceActions ifAny
   settled-bytes =
-      (λ k. concatMap actionBytes ((if standing k then [] else settled-dispatch instant s k) ++ (if recorded k then [] else Scheduled 1000 AnnounceDropped ∷ [])))
-      ∙ actions-then (ifAny (length (s .queue) + r .moved) (dispatchAction s)) (ifAny (r .left) (Scheduled 1000 AnnounceDropped ∷ []))
+      (λ k. concatMap actionBytes ((if standing k then [] else settled-dispatch instant s k) ++ announceAction (recorded k) false))
+      ∙ actions-then (ifAny (length (s .queue) + r .moved) (dispatchAction s)) (announceAction (ltb 0 (r .left)) false)
 
   settled-sized : sizedQueued (length (s .queue) + r .moved) (sizedRecorded (r .left) (sizesOf (settled instant s))) ≡ announceSizes (settled instant s)
   unfolding announceSizes
@@ -108,7 +105,7 @@ module _ (instant : ℕ) (h : Head) (xs : List ℕ) (asks : Stands h xs) (r : Mo
       ≡ concatMap actionBytes (ifAny (h .live .queued + r .moved) (dispatchAction (stateOf h xs))) ++ concatMap actionBytes (announceAction (ltb 0 (r .left)) false)
   announce-bytes =
       settled-bytes instant (stateOf h xs) r is
-      ∙ (λ k. concatMap actionBytes (ifAny (queued k) (dispatchAction (stateOf h xs))) ++ concatMap actionBytes (if-announce (r .left) k))
+      ∙ (λ k. concatMap actionBytes (ifAny (queued k) (dispatchAction (stateOf h xs))) ++ concatMap actionBytes (announceAction (ltb 0 (r .left)) false))
 
   pub announce-sized : sizedQueued (h .live .queued + r .moved) (sizedRecorded (r .left) (sizesOf (settled instant (stateOf h xs)))) ≡ announceSizes (settled instant (stateOf h xs))
   announce-sized =

@@ -142,13 +142,13 @@ fn call(
     block: &mut [u8],
     out: &mut [u8],
     c: Stats,
-    now: u64,
+    instant: Millis,
     event: &[u8],
     rooms: [u64; 34],
     lent: usize,
 ) -> Outcome {
     let m = least(lent, out.len());
-    event::event_core(block, c, Millis(now), event, rooms, &mut out[0..m])
+    event::event_core(block, c, instant, event, rooms, &mut out[0..m])
 }
 
 // What became of an event call of the sample: whether it agrees, where the next record stands, the counts.
@@ -163,7 +163,7 @@ pub fn event_at(block: &mut [u8], out: &mut [u8], c: Stats, b: &[u8], at: usize)
     requires { ⌜ at ≤ length (now b) ⌝ }
 {
     let n = b.len();
-    let now = read::eight(b, at);
+    let instant = Millis(read::eight(b, at));
     let x = read::ahead(at, 8, n);
     let bounds = read::ahead(x, 4, n);
     let bounds_end = read::ahead(bounds, read::four(b, x), n);
@@ -178,7 +178,7 @@ pub fn event_at(block: &mut [u8], out: &mut [u8], c: Stats, b: &[u8], at: usize)
     let counts = counts_at(b, actions_end);
     let next = read::ahead(actions_end, 24, n);
     let rooms = rooms_of(&b[bounds..bounds_end]);
-    let o = call(block, out, c, now, &b[event..event_end], rooms, lent);
+    let o = call(block, out, c, instant, &b[event..event_end], rooms, lent);
     let same = agrees(o, out, number, &b[actions..actions_end], counts);
     let after = o.stats;
     Replayed {

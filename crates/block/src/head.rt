@@ -64,13 +64,6 @@ pub struct Head {
     pub live: Live,
 }
 
-// Where the links start.
-pub fn links_at() -> usize
-    ensures { λ r. ⌜ r ≡ 2048 ⌝ }
-{
-    2048
-}
-
 // Where the received entries start.
 pub fn received_at(l: Limits) -> usize
     requires { ⌜ Ceilings (limitsOf l) ⌝ }

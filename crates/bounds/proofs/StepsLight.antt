@@ -1,7 +1,7 @@
 -- The actions of each kind of step but a dispatch are few and short: contents of an event at most 4,094 bytes, cached ones at most 1,048,576.
 -- Assumes nothing.
 use Prim.Native.Nat.{ℕ, suc, _+_, _*_, _≤_}
-use mathlib.Core.Bool.{Bool, not, _&&_, _||_}
+use mathlib.Core.Bool.{Bool, false, not, _&&_, _||_}
 use mathlib.Core.List.{List, [], _∷_, _++_, map}
 use mathlib.Core.Option.{Option, none, some}
 use native.Mathlib.Omega.{arith}
@@ -19,7 +19,7 @@ use Rattle.protocol.specs.Push.{eagerTargets}
 use Rattle.protocol.specs.Gossips.{announcers, graftedFor, graftOut, leastFrom, farCloser, Late, duplicate, repeated, faster}
 use Rattle.protocol.specs.Ticks.{oldest, younger, stillCached}
 use Rattle.decide.specs.Rooms.{kthTaken, firstSend, backPeers}
-use Rattle.decide.specs.RecordGrowth.{noteAction, pushActions}
+use Rattle.decide.specs.RecordGrowth.{announceAction, pushActions}
 use Rattle.decide.specs.Settled.{settledActions}
 use Rattle.decide.specs.SizesAfter.{newIds, knownTimer, contentLength}
 use Rattle.decide.specs.ActionsAfter.{evictActions, dispatchAction, announceActions, replyActions, graftActions, askActions, sendGraftActions, ihaveActions, broadcastActions, lateActions, optimiseActions, newActions}
@@ -39,16 +39,16 @@ timer-light : (s : State) → Light 44 (dispatchAction s)
 unfolding dispatchAction
 timer-light s = light-if (s .timers .dispatch) light-none (light-one (scheduled-few (s .settings .dispatchTimeout) DispatchLazyPush))
 
+record-light : (stands flag : Bool) → Light 44 (announceAction stands flag)
+unfolding announceAction
+record-light stands flag = light-if (stands && not flag) (light-one (scheduled-few 1000 AnnounceDropped)) light-none
+
 pub announce-light : (s : State) → Light 88 (announceActions s)
 unfolding announceActions
 announce-light s =
     light-then
     (light-if (isEmpty (s .queue ++ oldest [] (stillCached s))) light-none (timer-light s))
-    (light-if (isEmpty (younger [] (stillCached s))) light-none (light-one (scheduled-few 1000 AnnounceDropped)))
-
-note-light : (back : List ℕ) (flag : Bool) → Light 44 (noteAction back flag)
-unfolding noteAction
-note-light back flag = light-if (isEmpty back || flag) light-none (light-one (scheduled-few 1000 AnnounceDropped))
+    (record-light (not (isEmpty (younger [] (stillCached s)))) false)
 
 -- the same Gossip to each of these peers, at most m bytes each
 sends-light : (rooms : List Room) (id : ℕ) (content : List ℕ) (d : Delivery) (ps : List ℕ) (m : ℕ) → 66 + length content ≤ m
@@ -59,7 +59,7 @@ sends-light rooms id content d ps m h = light-each (firstSend rooms (Gossip id c
 push-light : (rooms : List Room) (id : ℕ) (content : List ℕ) (d : Delivery) (ps : List ℕ) (flag : Bool) (m : ℕ) → 66 + length content ≤ m
     → Light (length ps * m + 44) (pushActions rooms (Gossip id content d) ps flag)
 unfolding pushActions
-push-light rooms id content d ps flag m h = light-then (sends-light rooms id content d ps m h) (note-light (backPeers rooms ps) flag)
+push-light rooms id content d ps flag m h = light-then (sends-light rooms id content d ps m h) (record-light (not (isEmpty (backPeers rooms ps))) flag)
 
 reply-light : (rooms : List Room) (sender id : ℕ) (o : Option Cached) (s : State) → contentLength o ≤ 1048576 → Light 1100000 (replyActions rooms sender id o s)
 unfolding replyActions contentLength

@@ -15,12 +15,13 @@ use Rattle.protocol.specs.Gossips.{onLateGraftReply, onGossip, gossipSize, broa
 use Rattle.protocol.specs.Handle.{firstEvent, countMessage, ifNeighbour, onTimer, onMessage, handleMessage, handle}
 use Rattle.protocol.specs.Whole.{whole, fits}
 use Rattle.protocol.specs.Answer.{outputOf}
+use Rattle.protocol.specs.Consistent.{Consistent}
 use Rattle.decide.specs.Sizes.{sizesOf, fitSizes}
 use Rattle.decide.specs.Lengths.{actionLength}
 use Rattle.decide.specs.Settled.{settled, settledActions}
 use Rattle.decide.specs.SizesAfter.{broadcastSizes, gossipSizes, messageSizes, timerSizes, sizesAfter}
 use Rattle.decide.specs.ActionsAfter.{broadcastActions, gossipActions, messageActions, timerActions, actionsAfter}
-use Rattle.protocol.proofs.Consistent.{Consistent, whole-consistent}
+use Rattle.protocol.proofs.Consistent.{whole-consistent}
 use Rattle.protocol.proofs.WholeKept.{kept-firstEvent, kept-handle}
 use Rattle.lists.proofs.Branches.{if-on, if-same}
 use Rattle.decide.proofs.LengthLaws.{length-output}

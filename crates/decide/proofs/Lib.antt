@@ -15,7 +15,6 @@ pub mod EachEvent
 pub mod RoomsSteps
 pub mod RoomsCall
 pub mod Decide
-pub mod BeforeFirstEvent
 pub mod BackPart
 pub mod StateLaws
 pub mod StateAfterLaws

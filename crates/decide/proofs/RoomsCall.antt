@@ -19,16 +19,17 @@ use Rattle.protocol.specs.Gossips.{announcers, graftedFor, graftOut, leastFrom,
 use Rattle.protocol.specs.Ticks.{perMessage, queuedPeers, oldest, younger, stillCached}
 use Rattle.protocol.specs.Handle.{handle}
 use Rattle.protocol.specs.Whole.{whole}
+use Rattle.protocol.specs.Consistent.{Consistent}
 use Rattle.decide.specs.Rooms.{firstSend, backPeers}
 use Rattle.decide.specs.Settled.{settled, settledActions}
-use Rattle.decide.specs.RecordGrowth.{cachedIn, noteAction, pushActions}
+use Rattle.decide.specs.RecordGrowth.{cachedIn, announceAction, pushActions}
 use Rattle.decide.specs.Pieces.{Piece, pieceTaken, pieceActions}
 use Rattle.decide.specs.SizesAfter.{newIds, knownTimer}
 use Rattle.decide.specs.ActionsAfter.{evictActions, dispatchAction, announceActions, replyActions, graftActions, askActions, sendGraftActions, ihaveActions, broadcastActions, lateActions, optimiseActions, newActions, dispatchActions, gossipActions, messageActions, timerActions, actionsAfter}
 use Rattle.lists.proofs.MapLaws.{cases, true≢, and-right, all-head, all-tail, all-cons}
 use Rattle.lists.proofs.Lists.{or-left, or-right}
 use Rattle.lists.proofs.ListLaws.{all-append, all-imp, all-map, all-each}
-use Rattle.protocol.proofs.Consistent.{Consistent, whole-consistent}
+use Rattle.protocol.proofs.Consistent.{whole-consistent}
 use Rattle.protocol.proofs.ConsistentTables.{queued-near}
 use Rattle.protocol.proofs.WholeKept.{known-announcers, kept-firstEvent}
 use Rattle.lists.proofs.Branches.{if-on, if-same}
@@ -79,13 +80,13 @@ module _ (P : ℕ → Bool) where
   unfolding Within firstSend
   firsts rooms m ps h = all-map (sendIn P) (firstSend rooms m) ps ∙ unfold firstSend in h
 
-  noting : (back : List ℕ) (flag : Bool) → Within P (noteAction back flag)
-  unfolding noteAction
-  noting back flag = branch (isEmpty back || flag) [] _ nil (cons (Scheduled 1000 AnnounceDropped) [] refl nil)
+  noting : (stands flag : Bool) → Within P (announceAction stands flag)
+  unfolding announceAction
+  noting stands flag = branch (stands && not flag) _ [] (cons (Scheduled 1000 AnnounceDropped) [] refl nil) nil
 
   pushed : (rooms : List Room) (m : Message) (ps : List ℕ) (flag : Bool) → all P ps ≡ true → Within P (pushActions rooms m ps flag)
   unfolding pushActions
-  pushed rooms m ps flag h = append _ _ (firsts rooms m ps h) (noting (backPeers rooms ps) flag)
+  pushed rooms m ps flag h = append _ _ (firsts rooms m ps h) (noting (not (isEmpty (backPeers rooms ps))) flag)
 
   settling : (s : State) → Within P (settledActions s)
   unfolding settledActions
@@ -97,7 +98,7 @@ module _ (P : ℕ → Bool) where
 
   announcing : (s : State) → Within P (announceActions s)
   unfolding announceActions
-  announcing s = append _ _ (branch (isEmpty (s .queue ++ oldest [] (stillCached s))) [] _ nil (dispatching s)) (branch (isEmpty (younger [] (stillCached s))) [] _ nil (cons _ [] refl nil))
+  announcing s = append _ _ (branch (isEmpty (s .queue ++ oldest [] (stillCached s))) [] _ nil (dispatching s)) (noting (not (isEmpty (younger [] (stillCached s)))) false)
 
   -- the announcers are within
   least-in : (best : Hop) (hs : List Hop) → P (best .peer) ≡ true → all (λ h. P (h .peer)) hs ≡ true → P (leastFrom best hs .peer) ≡ true

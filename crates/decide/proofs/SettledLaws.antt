@@ -9,20 +9,20 @@ use lib.Dec.{ltb}
 use lib.ListN.{length}
 use Rattle.lists.specs.Base.{if_then_else_, isSome, filter, count, sum, ascending}
 use Rattle.lists.specs.Map.{keys, lookup}
-use Rattle.time_cache.specs.TimeCache.{Timed, Cache, valueOf, get, holds, expireUntil, laterCache}
+use Rattle.time_cache.specs.TimeCache.{Timed, Cache, valueOf, get, holds, expireUntil, laterCache, Timely}
 use Rattle.postcard.specs.Message.{EvictCache, Action, Scheduled}
 use Rattle.protocol.specs.State.{State, Cached}
 use Rattle.protocol.specs.Run.{Run, act}
 use Rattle.protocol.specs.Ticks.{evict, onEvictCacheTimer}
 use Rattle.protocol.specs.Handle.{firstEvent}
 use Rattle.protocol.specs.Whole.{contentHeld}
+use Rattle.protocol.specs.Consistent.{CoreOf}
 use Rattle.decide.specs.Sizes.{sizesOf}
 use Rattle.decide.specs.Settled.{aliveAt, aliveValue, settled, settledActions}
 use Rattle.decide.specs.SizesAfter.{evictSizes, settledSizes}
 use Rattle.lists.proofs.MapLaws.{cases}
 use Rattle.lists.proofs.ListLaws.{length-filter}
-use Rattle.time_cache.proofs.Timely.{Timely, expire-is-filter}
-use Rattle.protocol.proofs.Consistent.{CoreOf}
+use Rattle.time_cache.proofs.Timely.{expire-is-filter}
 use Rattle.lists.proofs.Branches.{if-on, if-both, if-same}
 use Rattle.lists.proofs.KeyLaws.{passes, lookup-filter}
 
@@ -97,19 +97,7 @@ settled-sizes now s =
     ∙ if-both (s .init) refl
     (rw (length-later now (s .received), expiry-later now (s .received), length-later now (s .cache), expiry-later now (s .cache), content-later now (s .cache), length-later now (s .grafted), expiry-later now (s .grafted)) refl)
 
--- the questions on the settled state, of the state before: `received`, the message cache and the grafted table
+-- the question on the settled state, of the state before: `received`
 pub settled-received : (now id : ℕ) (s : State) → CoreOf s → holds id (settled now s .received) ≡ (if s .init then holds id (s .received) else aliveAt now (lookup id (s .received .entries)))
 unfolding settled
 settled-received now id s c = if-on (λ (x : State). holds id (x .received)) (s .init) _ _ ∙ if-both (s .init) refl (holds-later now id (s .received) (c .receivedOn))
-
-pub settled-cached : (now id : ℕ) (s : State) → CoreOf s → get id (settled now s .cache) ≡ (if s .init then get id (s .cache) else aliveValue now (lookup id (s .cache .entries)))
-unfolding settled
-settled-cached now id s c = if-on (λ (x : State). get id (x .cache)) (s .init) _ _ ∙ if-both (s .init) refl (get-later now id (s .cache) (c .cacheOn .up))
-
-pub settled-holds : (now id : ℕ) (s : State) → CoreOf s → holds id (settled now s .cache) ≡ (if s .init then holds id (s .cache) else aliveAt now (lookup id (s .cache .entries)))
-unfolding settled
-settled-holds now id s c = if-on (λ (x : State). holds id (x .cache)) (s .init) _ _ ∙ if-both (s .init) refl (holds-later now id (s .cache) (c .cacheOn))
-
-pub settled-grafted : (now id : ℕ) (s : State) → CoreOf s → get id (settled now s .grafted) ≡ (if s .init then get id (s .grafted) else aliveValue now (lookup id (s .grafted .entries)))
-unfolding settled
-settled-grafted now id s c = if-on (λ (x : State). get id (x .grafted)) (s .init) _ _ ∙ if-both (s .init) refl (get-later now id (s .grafted) (c .graftedOn .up))

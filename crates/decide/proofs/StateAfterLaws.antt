@@ -19,8 +19,8 @@ use Rattle.protocol.specs.Ticks.{oldest, younger, moveOldest, stillCached, disp
 use Rattle.protocol.specs.Neighbours.{onNeighborUp, onNeighborDown}
 use Rattle.protocol.specs.Handle.{firstEvent, countMessage, ifNeighbour, onTimer, onMessage, handleMessage, handle}
 use Rattle.protocol.specs.Whole.{whole}
-use Rattle.protocol.proofs.Consistent.{Consistent, whole-consistent}
-use Rattle.protocol.proofs.RecordBounds.{Flagged}
+use Rattle.protocol.specs.Consistent.{Flagged, Consistent}
+use Rattle.protocol.proofs.Consistent.{whole-consistent}
 use Rattle.protocol.proofs.WholeKept.{kept-firstEvent}
 use Rattle.protocol.proofs.LinkSteps.{has-mark}
 use Rattle.lists.proofs.Branches.{if-on, if-both}

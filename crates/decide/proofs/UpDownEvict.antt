@@ -15,12 +15,12 @@ use Rattle.protocol.specs.Gossips.{updateLinks}
 use Rattle.protocol.specs.Ticks.{evict, onEvictCacheTimer}
 use Rattle.protocol.specs.Neighbours.{onNeighborUp, onNeighborDown, withoutAnnouncer, forgetAnnouncer, withoutNotes, withoutGraft, forgetGrafted, forgetPeer}
 use Rattle.protocol.specs.Whole.{contentHeld}
+use Rattle.protocol.specs.Consistent.{CoreOf}
 use Rattle.decide.specs.Sizes.{sizesOf}
 use Rattle.decide.specs.SizesAfter.{upSizes, downSizes, evictSizes}
 use Rattle.decide.specs.ActionsAfter.{evictActions, dispatchAction}
 use Rattle.lists.proofs.MapLaws.{cases}
 use Rattle.lists.proofs.ListLaws.{length-filter}
-use Rattle.protocol.proofs.Consistent.{CoreOf}
 use Rattle.lists.proofs.Branches.{if-on, if-both, if-same}
 use Rattle.decide.proofs.TableSizes.{length-insert, length-remove}
 use Rattle.decide.proofs.SettledLaws.{length-later, expiry-later, content-later, evicted}

@@ -1,6 +1,6 @@
 -- The actions of an event, as functions of the state before it; `s` is the state that a first event leaves (`settled`) unless a comment says otherwise. Proved equal (`decide-actions`).
 use Prim.Native.Nat.{ℕ, suc}
-use mathlib.Core.Bool.{Bool, not, _&&_}
+use mathlib.Core.Bool.{false, not, _&&_}
 use mathlib.Core.List.{List, [], _∷_, _++_, map}
 use mathlib.Core.Option.{Option, none, some}
 use lib.Dec.{ltb, eqb}
@@ -17,7 +17,7 @@ use Rattle.protocol.specs.Gossips.{announcers, graftedFor, graftOut, leastFrom,
 use Rattle.protocol.specs.Ticks.{perMessage, queuedPeers, oldest, younger, stillCached}
 use Rattle.decide.specs.Rooms.{kthTaken, firstSend}
 use Rattle.decide.specs.Settled.{settled, settledActions}
-use Rattle.decide.specs.RecordGrowth.{cachedIn, pushActions}
+use Rattle.decide.specs.RecordGrowth.{cachedIn, announceAction, pushActions}
 use Rattle.decide.specs.Pieces.{pieces, pieceActions}
 use Rattle.decide.specs.SizesAfter.{newIds, knownTimer}
 
@@ -29,15 +29,11 @@ evictActions s = Scheduled (s .settings .cacheEvictInterval) EvictCache ∷ []
 unfoldable pub dispatchAction : State → List Action
 dispatchAction s = if s .timers .dispatch then [] else Scheduled (s .settings .dispatchTimeout) DispatchLazyPush ∷ []
 
--- `schedule_announce_dropped`: "a nonempty record and a clear flag schedule AnnounceDropped (1,000)"
-unfoldable pub announceAction : Bool → Bool → List Action
-announceAction stands flag = if stands && not flag then Scheduled 1000 AnnounceDropped ∷ [] else []
-
--- AnnounceDropped: dispatch if a queue stands, then itself if a record does
+-- AnnounceDropped: dispatch if a queue stands, then itself if a record does; its flag is clear
 unfoldable pub announceActions : State → List Action
 announceActions s =
     (if isEmpty (s .queue ++ oldest [] (stillCached s)) then [] else dispatchAction s)
-    ++ (if isEmpty (younger [] (stillCached s)) then [] else Scheduled 1000 AnnounceDropped ∷ [])
+    ++ announceAction (not (isEmpty (younger [] (stillCached s)))) false
 
 -- the reply to a Graft, given what is cached for the identifier
 unfoldable pub replyActions : List Room → ℕ → ℕ → Option Cached → State → List Action

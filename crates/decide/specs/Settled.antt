@@ -4,11 +4,11 @@ use mathlib.Core.Bool.{Bool, true, false, not, _&&_}
 use mathlib.Core.List.{List, [], _∷_}
 use mathlib.Core.Option.{Option, none, some}
 use lib.Dec.{ltb, eqb}
-use Rattle.lists.specs.Base.{if_then_else_, filter}
+use Rattle.lists.specs.Base.{if_then_else_}
 use Rattle.lists.specs.Map.{lookup}
 use Rattle.time_cache.specs.TimeCache.{Timed, holds, laterCache}
 use Rattle.postcard.specs.Message.{Gossip, Prune, Graft, IHave, EvictCache, Event, Received, Broadcast, Fired, Up, Down, Action, Scheduled}
-use Rattle.protocol.specs.State.{State, Note, withInit, withReceived, withGrafted, withCache}
+use Rattle.protocol.specs.State.{State, withInit, withReceived, withGrafted, withCache}
 use Rattle.protocol.specs.Answer.{lastRound}
 
 -- is there, and expires later
@@ -46,11 +46,3 @@ module _ (hash : List ℕ → ℕ) where
   tooFarBefore now (Fired t) s = false
   tooFarBefore now (Up p) s = false
   tooFarBefore now (Down p) s = false
-
--- cached once a first event has evicted
-unfoldable pub cachedBefore : ℕ → State → ℕ → Bool
-cachedBefore now s id = if s .init then holds id (s .cache) else aliveAt now (lookup id (s .cache .entries))
-
--- the recorded entries that are cached then
-unfoldable pub standingBefore : ℕ → State → List Note
-standingBefore now s = filter (λ n. cachedBefore now s (n .id)) (s .dropped)

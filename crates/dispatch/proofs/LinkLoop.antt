@@ -19,7 +19,7 @@ use Rattle.protocol.specs.State.{State, Note, sizeInRange, withQueue, withDispa
 use Rattle.protocol.specs.Run.{Room}
 use Rattle.protocol.specs.Whole.{fits}
 use Rattle.protocol.specs.Ticks.{perMessage, queuedFor, queuedPeers}
-use Rattle.protocol.proofs.Consistent.{Ranged}
+use Rattle.protocol.specs.Consistent.{Ranged}
 use Rattle.decide.specs.Rooms.{firstRoom}
 use Rattle.decide.specs.RecordGrowth.{cachedIn, Batch, addNotes, addBatches}
 use Rattle.decide.specs.Pieces.{dispatchBatches, backPart}

@@ -15,7 +15,7 @@ use Rattle.postcard.specs.Message.{Ihave}
 use Rattle.protocol.specs.Links.{Links, isNeighbour}
 use Rattle.protocol.specs.State.{Note}
 use Rattle.protocol.specs.Ticks.{queuedFor, queuedPeers}
-use Rattle.protocol.proofs.Consistent.{byNeighbour}
+use Rattle.protocol.specs.Consistent.{byNeighbour}
 use Rattle.protocol.proofs.ConsistentTables.{queued-near}
 use Rattle.decide.specs.RecordGrowth.{Batch, addNotes, addBatches}
 use Rattle.decide.specs.Pieces.{Piece, peerPieces, pieces}

@@ -13,7 +13,7 @@ use Rattle.lists.specs.Map.{keys}
 use Rattle.time_cache.specs.TimeCache.{holds}
 use Rattle.protocol.specs.State.{State, Note, withDropped, withAnnounceScheduled}
 use Rattle.protocol.specs.Push.{forPeer, notes, recordFull}
-use Rattle.protocol.proofs.RecordBounds.{Flagged}
+use Rattle.protocol.specs.Consistent.{Flagged}
 use Rattle.decide.specs.RecordGrowth.{addNote}
 use Rattle.decide.specs.StateAfter.{recordedState}
 use Rattle.decide.proofs.StateLaws.{flag-stands}

@@ -18,7 +18,7 @@ use Rattle.protocol.specs.Run.{Room}
 use Rattle.protocol.specs.Ticks.{chunks, queuedFor}
 use Rattle.decide.specs.Rooms.{kthTaken}
 use Rattle.decide.specs.Pieces.{Piece, numbered, peerPieces, pieces, pieceTaken, pieceActions}
-use Rattle.decide.specs.ActionsAfter.{announceAction}
+use Rattle.decide.specs.RecordGrowth.{announceAction}
 use Rattle.output.specs.Written.{Told, Written}
 use Rattle.output.proofs.WrittenLaws.{written-none, written-then, told-first, told-then}
 use Rattle.dispatch.specs.Sends.{someHeld, quiet, timerAfter, oneSend, flagAfter, flagAfterAll}

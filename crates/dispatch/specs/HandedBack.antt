@@ -9,7 +9,7 @@ use Rattle.lists.specs.Base.{any, count}
 use Rattle.protocol.specs.State.{State, Note}
 use Rattle.protocol.specs.Push.{forPeer, notes}
 use Rattle.protocol.specs.Ticks.{queuedFor}
-use Rattle.protocol.proofs.RecordBounds.{Flagged}
+use Rattle.protocol.specs.Consistent.{Flagged}
 use Rattle.decide.specs.RecordGrowth.{cachedIn, addNotes}
 use Rattle.decide.specs.StateAfter.{recordedState}
 use Rattle.block.specs.View.{stateOf}

@@ -17,7 +17,7 @@ use Rattle.time_cache.specs.TimeCache.{holds}
 use Rattle.postcard.specs.Message.{Ihave}
 use Rattle.protocol.specs.State.{State, Note, withDropped, withAnnounceScheduled}
 use Rattle.protocol.specs.Push.{forPeer, notes, recordFull, eagerTargets}
-use Rattle.protocol.proofs.RecordBounds.{Flagged}
+use Rattle.protocol.specs.Consistent.{Flagged}
 use Rattle.decide.specs.Rooms.{backPeers}
 use Rattle.decide.specs.RecordGrowth.{cachedIn, addNote, addNotes, Batch, addBatches, batchesFor}
 use Rattle.decide.specs.StateAfter.{recordedState, pushedState}

@@ -13,11 +13,9 @@ use Rattle.output.proofs.WrittenLaws.{written-none, written-then, told-first, t
 use Rattle.protocol.specs.State.{State}
 use Rattle.protocol.specs.Push.{eagerTargets}
 use Rattle.decide.specs.Rooms.{firstSend, backPeers}
-use Rattle.decide.specs.RecordGrowth.{noteAction, pushActions}
-use Rattle.decide.specs.ActionsAfter.{announceAction}
+use Rattle.decide.specs.RecordGrowth.{announceAction, pushActions}
 use Rattle.block.specs.LinkSteps.{peerAt}
 use Rattle.steps.specs.Rooms.{roomsIn}
-use Rattle.ticks.proofs.TickLaws.{noted-announce}
 use Rattle.eager.specs.Targets.{isTarget}
 use Rattle.eager.specs.Sent.{sentBytes, pushBytes}
 use Rattle.eager.proofs.TargetLaws.{Roomed, first, rest, first-none, first-in, first-out, first-rest, backsTo, backs-none, backs-held, backs-taken, backs-out}
@@ -121,16 +119,16 @@ module _ (array : List ℕ) (m : Message) (ps : List ℕ) (s : State) where
   abbrev sent : List ℕ
   sent = sentBytes array m ps s
 
-  pushed : pushBytes array m ps s ≡ sent ++ concatMap actionBytes (noteAction backs (s .timers .announce))
+  pushed : pushBytes array m ps s ≡ sent ++ concatMap actionBytes (announceAction (not (isEmpty backs)) (s .timers .announce))
   unfolding pushActions
-  pushed = bytes-append actionBytes (map (firstSend (roomsIn s array) m) ps) (noteAction backs (s .timers .announce))
+  pushed = bytes-append actionBytes (map (firstSend (roomsIn s array) m) ps) (announceAction (not (isEmpty backs)) (s .timers .announce))
 
   pub push-first : (at : ℕ) → Told (pushBytes array m ps s) at → Told sent at
-  push-first at t = told-first (concatMap actionBytes (noteAction backs (s .timers .announce))) (subst (λ (b : List ℕ). Told b at) pushed t)
+  push-first at t = told-first (concatMap actionBytes (announceAction (not (isEmpty backs)) (s .timers .announce))) (subst (λ (b : List ℕ). Told b at) pushed t)
 
   module _ (before : List ℕ) (at : ℕ) (after : List ℕ) (to : ℕ) (w : Written sent before at after to) (back flag : Bool) (eb : back ≡ not (isEmpty backs)) (ef : flag ≡ s .timers .announce) where
     timed : pushBytes array m ps s ≡ sent ++ concatMap actionBytes (announceAction back flag)
-    timed = pushed ∙ ap (λ (l : List Action). sent ++ concatMap actionBytes l) (noted-announce backs (s .timers .announce) ∙ sym (λ k. announceAction (eb k) (ef k)))
+    timed = pushed ∙ sym (λ k. sent ++ concatMap actionBytes (announceAction (eb k) (ef k)))
 
     pub push-told : Told (pushBytes array m ps s) at → Told (concatMap actionBytes (announceAction back flag)) to
     push-told t = told-then w (subst (λ (b : List ℕ). Told b at) timed t)

@@ -9,7 +9,7 @@ use Rattle.time_cache.specs.TimeCache.{get}
 use Rattle.postcard.specs.Message.{actionBytes}
 use Rattle.protocol.specs.State.{State, Cached}
 use Rattle.protocol.specs.Run.{Room}
-use Rattle.protocol.proofs.RecordBounds.{Flagged}
+use Rattle.protocol.specs.Consistent.{Flagged}
 use Rattle.decide.specs.Rooms.{backPeers}
 use Rattle.decide.specs.RecordGrowth.{pushGains}
 use Rattle.decide.specs.StateAfter.{replyState}

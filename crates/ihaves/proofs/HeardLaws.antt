@@ -18,7 +18,7 @@ use Rattle.protocol.specs.State.{State, Hop}
 use Rattle.protocol.specs.Gossips.{announcers}
 use Rattle.protocol.specs.Control.{addAnnouncer}
 use Rattle.protocol.specs.Whole.{announcersWhole, fits}
-use Rattle.protocol.proofs.Consistent.{Consistent, Ranged}
+use Rattle.protocol.specs.Consistent.{Consistent, Ranged}
 use Rattle.protocol.proofs.ConsistentSteps.{core-missing, core-timers}
 use Rattle.protocol.proofs.ConsistentTables.{Announcers, of-announcers, announcers-add, ascending-insertKey}
 use Rattle.protocol.proofs.WholeKept.{known-announcers}

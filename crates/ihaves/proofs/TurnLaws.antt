@@ -12,7 +12,7 @@ use Rattle.postcard.specs.Message.{Ihave}
 use Rattle.protocol.specs.Links.{Links, isNeighbour}
 use Rattle.protocol.specs.State.{State}
 use Rattle.protocol.specs.Whole.{fits}
-use Rattle.protocol.proofs.Consistent.{Consistent, Ranged}
+use Rattle.protocol.specs.Consistent.{Consistent, Ranged}
 use Rattle.decide.specs.StateAfter.{announcedState, ihaveState}
 use Rattle.block.specs.View.{stateOf}
 use Rattle.block.specs.Sound.{Sound}

@@ -35,7 +35,7 @@ use Rattle.protocol.specs.State.{State, Counts, sizeInRange}
 use Rattle.protocol.specs.Run.{Room}
 use Rattle.protocol.specs.Answer.{lastRound}
 use Rattle.protocol.specs.Ticks.{evict}
-use Rattle.protocol.proofs.Consistent.{CoreOf, Ranged}
+use Rattle.protocol.specs.Consistent.{CoreOf, Ranged}
 use Rattle.block.specs.LinkSteps.{peerAt}
 use Rattle.block.specs.View.{stateOf}
 use Rattle.block.specs.declared.head.Head.{Head}

@@ -16,7 +16,7 @@ use Rattle.protocol.specs.State.{State, Note, Hop, Grafts}
 use Rattle.protocol.specs.Push.{forPeer}
 use Rattle.protocol.specs.Whole.{neighbours, announcersWhole, graftsWhole}
 use Rattle.protocol.specs.Neighbours.{withoutAnnouncer, forgetAnnouncer, withoutNotes, withoutGraft, forgetGrafted, forgetPeer}
-use Rattle.protocol.proofs.Consistent.{byNeighbour, CoreOf}
+use Rattle.protocol.specs.Consistent.{byNeighbour, CoreOf}
 use Rattle.neighbours.proofs.LoweredRefs.{remove-filter}
 
 module _ (p : ℕ) (l : Links) (away : isNeighbour p l ≡ false) where

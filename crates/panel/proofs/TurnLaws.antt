@@ -25,8 +25,7 @@ use Rattle.records.specs.Reading.{recordCall, Whole, Cut, Bad}
 use Rattle.records.proofs.Pieces.{record-stays}
 use Rattle.records.proofs.RunningLaws.{writes-record, writes-never, writes-bad}
 use Rattle.records.proofs.Heads.{put-first}
-use Rattle.machine.specs.Called.{Lent, Finds, Called, countsOf, lent}
-use Rattle.machine.specs.Core.{callOf}
+use Rattle.machine.specs.Called.{Lent, Finds, Called, countsOf, lent, callOf}
 use Rattle.machine.specs.declared.Stats.{Stats}
 use Rattle.panel.specs.Turns.{Holds, Answered, Took, Waits, Stops}
 use Rattle.panel.specs.declared.Answer.{Answer as Parts}

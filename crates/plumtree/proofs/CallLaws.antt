@@ -30,13 +30,14 @@ use Rattle.steps.proofs.StandsLaws.{links-up}
 use Rattle.whole.specs.Held.{held, wholeHeld, wholeBlock}
 use Rattle.whole.proofs.HeldLaws.{Wholly, wholly-of}
 use Rattle.machine.specs.declared.Stats.{Stats}
-use Rattle.machine.specs.Called.{countsOf, Lent, lent, Finds, Called}
-use Rattle.machine.specs.Core.{peerIn, coreRooms, callOf}
+use Rattle.machine.specs.Called.{countsOf, Lent, lent, callOf, Finds, Called}
+use Rattle.machine.specs.Core.{peerIn, coreRooms}
 use Rattle.machine.specs.Decided.{decided}
 use Rattle.machine.proofs.CoreLaws.{answer-5, answer-6, answer-fault, answer-event, begun-of}
 use Rattle.machine.proofs.DecidedLaws.{decided-rooms}
 use Rattle.plumtree.specs.declared.LinkRoom.{LinkRoom}
-use Rattle.plumtree.specs.Rooms.{entries, Found}
+use Rattle.plumtree.specs.Calls.{entries}
+use Rattle.plumtree.specs.Rooms.{Found}
 use Rattle.plumtree.proofs.PeerLaws.{few-links}
 use Rattle.plumtree.proofs.RoomLaws.{unbounded-at}
 

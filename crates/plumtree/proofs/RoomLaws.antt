@@ -16,7 +16,8 @@ use Rattle.steps.specs.Rooms.{roomAt}
 use Rattle.whole.proofs.HeldLaws.{wholly-of}
 use Rattle.plumtree.specs.declared.LinkRoom.{LinkRoom}
 use Rattle.plumtree.specs.declared.rooms.Room.{Room}
-use Rattle.plumtree.specs.Rooms.{entries, roomOf, roomPlace, Found}
+use Rattle.plumtree.specs.Calls.{entries}
+use Rattle.plumtree.specs.Rooms.{roomOf, roomPlace, Found}
 use Rattle.plumtree.specs.Peers.{PeerIn, Places}
 use Rattle.plumtree.proofs.PeerLaws.{few-links, link-peer}
 

@@ -1,17 +1,19 @@
--- What the exported calls answer, beside an event call (`Called` of `machine`).
+-- What the exported calls are lent and answer, beside an event call (`Called` of `machine`).
 -- Assumes nothing.
 use Prim.Native.Nat.{ℕ}
 use mathlib.Core.Path.{_≡_}
 use mathlib.Core.Bool.{false}
-use mathlib.Core.List.{List}
+use mathlib.Core.List.{List, map}
 use lib.ListN.{length}
 use Rattle.lists.specs.Base.{if_then_else_}
 use Rattle.protocol.specs.State.{Counts, Created, created, notCreated, create, limitsInRange, blockNeed, Limits as PanelLimits}
+use Rattle.protocol.specs.Run.{Room}
 use Rattle.protocol.specs.Alike.{Likeness, notWhole, likeness}
 use Rattle.block.specs.View.{settingsOf, limitsOf}
 use Rattle.block.specs.declared.head.Settings.{Settings}
 use Rattle.block.specs.declared.head.Limits.{Limits}
 use Rattle.whole.specs.Creation.{Creation}
+use Rattle.plumtree.specs.declared.LinkRoom.{LinkRoom}
 use Rattle.plumtree.specs.declared.Likeness.{Likeness as Told}
 
 -- the bytes that question 4 asks for; 0 where question 3 is answered no
@@ -28,6 +30,10 @@ pub record Made (c : Settings) (l : Limits) (block : List ℕ) (counts : Counts)
   pub creation : Creation c l block block′ answer
   pub left : counts′ ≡ countsLeft (create (settingsOf c) (limitsOf l) (length block)) counts
   pub long : outputLength ≡ 0
+
+-- the lent entries, as the definitions have them
+unfoldable pub entries : List LinkRoom → List Room
+entries rooms = map (λ e. record { peer = e .peer; room = e .room }) rooms
 
 -- *Alike*: "5 for either", or 0 with yes or no
 unfoldable pub toldOf : Likeness → Told

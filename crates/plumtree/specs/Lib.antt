@@ -1,4 +1,4 @@
-pub mod Rooms
-pub mod Peers
 pub mod Calls
 pub mod Chain
+pub mod Rooms
+pub mod Peers

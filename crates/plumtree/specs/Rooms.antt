@@ -3,25 +3,21 @@
 use Prim.Native.Nat.{ℕ, zero, suc, _<_}
 use mathlib.Core.Path.{_≡_}
 use mathlib.Core.Bool.{true}
-use mathlib.Core.List.{List, map}
+use mathlib.Core.List.{List}
 use mathlib.Core.Option.{Option, none, some}
 use lib.ListN.{length, getD}
 use Rattle.postcard.specs.Message.{Message, Received}
 use Rattle.postcard.specs.Decode.{decoded, decodeEvent}
-use Rattle.protocol.specs.Run.{Room}
 use Rattle.decide.specs.Rooms.{firstRoom}
 use Rattle.block.specs.LinkSteps.{peerAt}
 use Rattle.block.specs.View.{stateOf}
 use Rattle.block.specs.Header.{headIn}
 use Rattle.steps.specs.Rooms.{roomAt}
 use Rattle.whole.specs.Held.{wholeBlock}
+use Rattle.plumtree.specs.Calls.{entries}
 use Rattle.plumtree.specs.declared.LinkRoom.{LinkRoom}
 use Rattle.plumtree.specs.declared.rooms.Room.{Room as PeerRoom}
 use Rattle.plumtree.specs.declared.rooms.Room.the-variants.{Unbounded, Bounded}
-
--- the lent entries, as the definitions have them
-unfoldable pub entries : List LinkRoom → List Room
-entries rooms = map (λ e. record { peer = e .peer; room = e .room }) rooms
 
 -- a peer's room, as the definitions have it; `none`: no bound
 abbrev pub roomOf : PeerRoom → Option ℕ

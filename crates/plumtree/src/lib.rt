@@ -15,10 +15,8 @@ ghost use lib.ListN.{length};
 ghost use Rattle.protocol.specs.Alike.{alikeBlocks};
 ghost use Rattle.block.specs.View.{limitsOf};
 ghost use Rattle.whole.specs.Held.{held};
-ghost use Rattle.machine.specs.Called.{countsOf, lent, Called};
-ghost use Rattle.machine.specs.Core.{callOf};
-ghost use Rattle.plumtree.specs.Calls.{blockSize, Made, toldOf};
-ghost use Rattle.plumtree.specs.Rooms.{entries};
+ghost use Rattle.machine.specs.Called.{countsOf, lent, callOf, Called};
+ghost use Rattle.plumtree.specs.Calls.{blockSize, Made, entries, toldOf};
 
 // An entry of a call's link room: how many sends to the peer its link takes.
 #[repr(C)]

@@ -6,7 +6,8 @@ ghost use Prim.Native.Nat.{_<_};
 ghost use lib.ListN.{replicate};
 ghost use Rattle.decide.specs.Rooms.{firstRoom};
 ghost use Rattle.steps.specs.Rooms.{roomAt};
-ghost use Rattle.plumtree.specs.Rooms.{entries, roomOf, roomPlace, Found};
+ghost use Rattle.plumtree.specs.Calls.{entries};
+ghost use Rattle.plumtree.specs.Rooms.{roomOf, roomPlace, Found};
 
 // How many sends a peer's link takes.
 pub enum Room {

@@ -8,7 +8,7 @@ use lib.Dec.{eqb}
 use borrow.Author.Tests.{not-true}
 use Rattle.lists.specs.Base.{if_then_else_, isEmpty, all, any, filter, ascending, member}
 use Rattle.lists.specs.Map.{Map, keys}
-use Rattle.time_cache.specs.TimeCache.{Cache, get, holds, replace, expireUntil, laterCache}
+use Rattle.time_cache.specs.TimeCache.{Cache, get, holds, replace, expireUntil, laterCache, Timely}
 use Rattle.protocol.specs.Links.{eager, lazy, Links, isNeighbour, lazyPeers, isLazy, addEager, addLazy}
 use Rattle.postcard.specs.Message.{Ihave, Message, Action, Scheduled}
 use Rattle.protocol.specs.State.{State, Counts, Note, Hop, Grafts, Cached, withInit, withQueue}
@@ -18,15 +18,15 @@ use Rattle.protocol.specs.Gossips.{markReceived, cacheAt, withFirst, set
 use Rattle.protocol.specs.Control.{scheduleGraft, unmark}
 use Rattle.protocol.specs.Ticks.{evict, onEvictCacheTimer}
 use Rattle.protocol.specs.Whole.{announcersWhole, graftsWhole, notedOnce}
+use Rattle.protocol.specs.Consistent.{Within, Flagged, Core, CoreOf, Consistent, byNeighbour}
 use Rattle.lists.proofs.MapLaws.{and-left, and-right, all-cons, ascending-remove}
 use Rattle.lists.proofs.Lists.{or-right}
 use Rattle.lists.proofs.ListLaws.{all-append, all-filter, all-remove-entry}
 use Rattle.protocol.proofs.Walk.{Sending, Steps, walk-if}
 use Rattle.protocol.proofs.RecordOnly.{only-noteEach, only-noteOne, only-schedule}
-use Rattle.time_cache.proofs.Timely.{Timely, timely-put, timely-replace, timely-expire, expire-is-filter}
-use Rattle.protocol.proofs.Consistent.{Core, CoreOf, Consistent, byNeighbour}
+use Rattle.time_cache.proofs.Timely.{timely-put, timely-replace, timely-expire, expire-is-filter}
 use Rattle.protocol.proofs.ConsistentTables.{Wider, wider-mark, ascending-mark, wider-notes, wider-announcers, wider-grafts, marked-near, near-noteFor, noted-more, ascending-insertKey, ascending-removeKey, grafted-get, grafts-replace}
-use Rattle.protocol.proofs.RecordBounds.{Within, Flagged, within-more}
+use Rattle.protocol.proofs.RecordBounds.{within-more}
 
 -- the relation between a run before and a run after
 pub record Kept (r r′ : Run) : Type 0 where

@@ -16,10 +16,11 @@ use Rattle.protocol.specs.Gossips.{markReceived, cacheAt, withFirst, set
 use Rattle.protocol.specs.Control.{announce, scheduleGraft, noteGraft, leaveAnnouncers, unmark}
 use Rattle.protocol.specs.Ticks.{moveOldest, stillCached, dispatchIfQueued, onAnnounceDroppedTimer, evict, onEvictCacheTimer}
 use Rattle.protocol.specs.Demand3.{dispatchTick, announceTick, isTick, schedulesTick}
+use Rattle.protocol.specs.Consistent.{Within, Flagged}
 use Rattle.lists.proofs.MapLaws.{cases, true≢}
 use Rattle.lists.proofs.Lists.{or-left, or-right, any-left, any-right, any-one}
 use Rattle.protocol.proofs.Walk.{Sending, Steps}
-use Rattle.protocol.proofs.RecordBounds.{Within, Flagged, within-filter, within-younger, within-more}
+use Rattle.protocol.proofs.RecordBounds.{within-filter, within-younger, within-more}
 
 -- counting
 

@@ -10,6 +10,7 @@ pub mod Ticks
 pub mod Control
 pub mod Handle
 pub mod Calls
+pub mod Consistent
 pub mod Demand3
 pub mod Notings
 pub mod Alike

@@ -7,7 +7,7 @@ use mathlib.Core.List.{List}
 use lib.ListN.{length}
 use Rattle.time_cache.specs.TimeCache.{holds}
 use Rattle.protocol.specs.State.{State, Note}
-use Rattle.protocol.proofs.RecordBounds.{Flagged}
+use Rattle.protocol.specs.Consistent.{Flagged}
 use Rattle.decide.specs.RecordGrowth.{cachedIn, addNote}
 use Rattle.decide.specs.StateAfter.{recordedState}
 use Rattle.block.specs.View.{stateOf}

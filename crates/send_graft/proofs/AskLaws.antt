@@ -21,7 +21,7 @@ use Rattle.protocol.specs.State.{State, Hop, durationsInRange, withLinks, withM
 use Rattle.protocol.specs.Gossips.{announcers}
 use Rattle.protocol.specs.Control.{withGraft}
 use Rattle.protocol.specs.Whole.{cacheFits, fits, announcersWhole, graftsWhole}
-use Rattle.protocol.proofs.Consistent.{Consistent, Ranged}
+use Rattle.protocol.specs.Consistent.{Consistent, Ranged}
 use Rattle.protocol.proofs.ConsistentSteps.{core-timers}
 use Rattle.protocol.proofs.ConsistentTables.{ascending-removeKey, wider-insert, wider-grafts, to-announcers}
 use Rattle.decide.specs.StateAfter.{askedState, sendGraftState}

@@ -138,15 +138,7 @@ fn empty_gossip_size(scope: Scope) -> usize
     }
 }
 
-// `max_gossip_size`, the largest size of a Gossip with `len` bytes of content: "content + its length's groups + 37, or 34 for Neighbors".
-pub fn max_gossip_size(len: usize, scope: Scope) -> usize
-    requires { ⌜ len ≤ 2 ^ 62 ⌝ }
-    ensures { λ r. ⌜ r ≡ gossipSize len (scopeValue scope) ⌝ }
-{
-    empty_gossip_size(scope) - 1 + number_size(len as u64) + len
-}
-
-// Whether a broadcast of this content, of any length, is sent: its size is at most M.
+// Whether a broadcast of this content, of any length, is sent: its size (`max_gossip_size`), "content + its length's groups + 37, or 34 for Neighbors", is at most M.
 pub fn broadcast_fits(len: usize, scope: Scope, max: usize) -> bool
     ensures { λ r. ⌜ r ≡ leb (gossipSize len (scopeValue scope)) max ⌝ }
 {

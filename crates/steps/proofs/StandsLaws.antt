@@ -1,8 +1,7 @@
 -- What the functions of the tables ask, out of `Stands`.
 use mathlib.Core.List.{List}
 use Prim.Native.Nat.{ℕ}
-use Rattle.time_cache.specs.TimeCache.{Cache}
-use Rattle.time_cache.proofs.Timely.{Timely}
+use Rattle.time_cache.specs.TimeCache.{Cache, Timely}
 use Rattle.block.specs.View.{stateOf}
 use Rattle.block.specs.LinkSteps.{LinksAscend}
 use Rattle.block.specs.MissingSteps.{MissingAscend}

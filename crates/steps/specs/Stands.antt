@@ -6,7 +6,7 @@ use mathlib.Core.Bool.{true}
 use mathlib.Core.List.{List}
 use Rattle.protocol.specs.State.{State}
 use Rattle.protocol.specs.Whole.{fits}
-use Rattle.protocol.proofs.Consistent.{Consistent, Ranged}
+use Rattle.protocol.specs.Consistent.{Consistent, Ranged}
 use Rattle.block.specs.View.{stateOf}
 use Rattle.block.specs.Sound.{Sound}
 use Rattle.block.specs.declared.head.Head.{Head}

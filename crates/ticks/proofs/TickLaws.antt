@@ -4,13 +4,13 @@ use mathlib.Core.Path.{_≡_, refl, ap, _∙_}
 use mathlib.Core.Bool.{Bool, true, false, not, _&&_}
 use mathlib.Core.List.{List, [], _∷_}
 use Prim.Native.Nat.{ℕ}
-use Rattle.lists.specs.Base.{if_then_else_, isEmpty, concatMap}
+use Rattle.lists.specs.Base.{if_then_else_, concatMap}
 use Rattle.lists.proofs.Branches.{if-on, if-same}
 use Rattle.postcard.specs.Message.{Scheduled, DispatchLazyPush, EvictCache, AnnounceDropped, actionBytes}
 use Rattle.protocol.specs.State.{State}
 use Rattle.decide.specs.Settled.{settled, settledActions}
-use Rattle.decide.specs.RecordGrowth.{noteAction}
-use Rattle.decide.specs.ActionsAfter.{evictActions, dispatchAction, announceAction}
+use Rattle.decide.specs.RecordGrowth.{announceAction}
+use Rattle.decide.specs.ActionsAfter.{evictActions, dispatchAction}
 use Rattle.block.specs.View.{stateOf}
 use Rattle.block.specs.declared.head.Head.{Head}
 use Rattle.ticks.proofs.ActionLaws.{no-action, one-action}
@@ -57,13 +57,6 @@ module _ (stands flag : Bool) where
   pub announce-due : stands ≡ true → flag ≡ false → concatMap actionBytes (announceAction stands flag) ≡ actionBytes (Scheduled 1000 AnnounceDropped)
   unfolding announceAction
   announce-due b f = (λ k. concatMap actionBytes (announceAction (b k) (f k))) ∙ one-action (Scheduled 1000 AnnounceDropped)
-
--- a message that is noted for anybody makes a record stand
-pub noted-announce : (back : List ℕ) (flag : Bool) → noteAction back flag ≡ announceAction (not (isEmpty back)) flag
-unfolding noteAction announceAction
-noted-announce [] flag = refl
-noted-announce (p ∷ ps) true = refl
-noted-announce (p ∷ ps) false = refl
 
 module _ (instant : ℕ) (s : State) where
   pub settled-dispatch : dispatchAction (settled instant s) ≡ dispatchAction s

@@ -6,7 +6,8 @@ ghost use Rattle.lists.specs.Base.{concatMap};
 ghost use Rattle.postcard.specs.Message.{actionBytes};
 ghost use Rattle.block.specs.View.{stateOf};
 ghost use Rattle.decide.specs.Settled.{settledActions};
-ghost use Rattle.decide.specs.ActionsAfter.{evictActions, dispatchAction, announceAction};
+ghost use Rattle.decide.specs.RecordGrowth.{announceAction};
+ghost use Rattle.decide.specs.ActionsAfter.{evictActions, dispatchAction};
 ghost use Rattle.output.specs.Written.{Told, Written};
 
 // `schedule_dispatch`, the actions half: "schedules dispatch unless flagged".

@@ -12,11 +12,11 @@ use lib.ListN.{length, drop, length-map}
 use Rattle.lists.specs.Base.{filter}
 use Rattle.lists.proofs.ListLaws.{all-map, all-filter-imp}
 use Rattle.refs.specs.Refs.{Ref, ref, places, names, lowered, left}
-use Rattle.time_cache.specs.TimeCache.{Cache, expireUntil, expiredKeys}
+use Rattle.time_cache.specs.TimeCache.{Cache, expireUntil, expiredKeys, Timely}
 use Rattle.time_cache.specs.Tables.{ExpiryRow, expiryRows, expiryOf, Cut, Held, held, entryOf, cacheOf, refsAt, rowsAt, cacheAt, Lies, resized, Sound}
 use Rattle.time_cache.specs.Steps.{Drops, Leaves, Expires}
 use Rattle.time_cache.specs.declared.cache.TimeBoundCache.{TimeBoundCache}
-use Rattle.time_cache.proofs.Timely.{Timely, timely-expire}
+use Rattle.time_cache.proofs.Timely.{timely-expire}
 use Rattle.time_cache.proofs.Removed.{expired-count}
 use Rattle.time_cache.proofs.Orders.{below, below-of}
 use Rattle.time_cache.proofs.TableLaws.{timely-of, expire-cut}

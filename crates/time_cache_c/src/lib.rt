@@ -145,10 +145,10 @@ pub extern "C" fn time_cache_insert(
     w1: u64,
     w2: u64,
     w3: u64,
-    expires: u64,
+    expires: Millis,
     out: &mut [u64; 4],
 ) -> bool
-    ensures { λ r. ⌜ Done (Ready (handed a s n b t m) (now (block .entry))) (ToldInsert (handed a s n b t m) (keyOf w0 w1 w2 w3) expires (now (block .entry)) (now (block .exit)) (now (out .exit))) (now (block .entry)) (now (block .exit)) (now (out .entry)) (now (out .exit)) r ⌝ }
+    ensures { λ r. ⌜ Done (Ready (handed a s n b t m) (now (block .entry))) (ToldInsert (handed a s n b t m) (keyOf w0 w1 w2 w3) (expires .0) (now (block .entry)) (now (block .exit)) (now (out .exit))) (now (block .entry)) (now (block .exit)) (now (out .entry)) (now (out .exit)) r ⌝ }
 {
     let c = TimeBoundCache {
         entries: Table {
@@ -166,7 +166,7 @@ pub extern "C" fn time_cache_insert(
     if !ok {
         return false;
     }
-    let r = c.insert(block, Id { w0, w1, w2, w3 }, Millis(expires));
+    let r = c.insert(block, Id { w0, w1, w2, w3 }, expires);
     let after = r.cache;
     *out = [
         after.entries.len as u64,
@@ -187,10 +187,10 @@ pub extern "C" fn time_cache_expire_until(
     b: usize,
     t: usize,
     m: usize,
-    instant: u64,
+    instant: Millis,
     out: &mut [u64; 3],
 ) -> bool
-    ensures { λ r. ⌜ Done (Whole (handed a s n b t m) (now (block .entry))) (ToldExpire (handed a s n b t m) instant (now (block .entry)) (now (block .exit)) (now (out .exit))) (now (block .entry)) (now (block .exit)) (now (out .entry)) (now (out .exit)) r ⌝ }
+    ensures { λ r. ⌜ Done (Whole (handed a s n b t m) (now (block .entry))) (ToldExpire (handed a s n b t m) (instant .0) (now (block .entry)) (now (block .exit)) (now (out .exit))) (now (block .entry)) (now (block .exit)) (now (out .entry)) (now (out .exit)) r ⌝ }
 {
     let c = TimeBoundCache {
         entries: Table {
@@ -208,7 +208,7 @@ pub extern "C" fn time_cache_expire_until(
     if !ok {
         return false;
     }
-    let r = c.expire_until(block, Millis(instant));
+    let r = c.expire_until(block, instant);
     let after = r.cache;
     *out = [
         after.entries.len as u64,
@@ -268,9 +268,9 @@ pub extern "C" fn time_cache_contains_later(
     w1: u64,
     w2: u64,
     w3: u64,
-    instant: u64,
+    instant: Millis,
 ) -> bool
-    ensures { λ r. ⌜ Tells (Whole (handed a s n b t m) (now (block .entry)) × (holds (keyOf w0 w1 w2 w3) (laterCache instant (cacheAt (handed a s n b t m) (now (block .entry)))) ≡ true)) r ⌝ }
+    ensures { λ r. ⌜ Tells (Whole (handed a s n b t m) (now (block .entry)) × (holds (keyOf w0 w1 w2 w3) (laterCache (instant .0) (cacheAt (handed a s n b t m) (now (block .entry)))) ≡ true)) r ⌝ }
 {
     let c = TimeBoundCache {
         entries: Table {
@@ -288,7 +288,7 @@ pub extern "C" fn time_cache_contains_later(
     if !ok {
         return false;
     }
-    c.contains_later(block, Id { w0, w1, w2, w3 }, Millis(instant))
+    c.contains_later(block, Id { w0, w1, w2, w3 }, instant)
 }
 
 // `entries_later`.
@@ -301,9 +301,9 @@ pub extern "C" fn time_cache_entries_later(
     b: usize,
     t: usize,
     m: usize,
-    instant: u64,
+    instant: Millis,
 ) -> usize
-    ensures { λ r. ⌜ Said (Whole (handed a s n b t m) (now (block .entry))) (length (laterCache instant (cacheAt (handed a s n b t m) (now (block .entry))) .entries)) r ⌝ }
+    ensures { λ r. ⌜ Said (Whole (handed a s n b t m) (now (block .entry))) (length (laterCache (instant .0) (cacheAt (handed a s n b t m) (now (block .entry))) .entries)) r ⌝ }
 {
     let c = TimeBoundCache {
         entries: Table {
@@ -321,7 +321,7 @@ pub extern "C" fn time_cache_entries_later(
     if !ok {
         return 0;
     }
-    c.entries_later(block, Millis(instant))
+    c.entries_later(block, instant)
 }
 
 // `rows_later`.
@@ -334,9 +334,9 @@ pub extern "C" fn time_cache_rows_later(
     b: usize,
     t: usize,
     m: usize,
-    instant: u64,
+    instant: Millis,
 ) -> usize
-    ensures { λ r. ⌜ Said (Whole (handed a s n b t m) (now (block .entry))) (length (laterCache instant (cacheAt (handed a s n b t m) (now (block .entry))) .expiry)) r ⌝ }
+    ensures { λ r. ⌜ Said (Whole (handed a s n b t m) (now (block .entry))) (length (laterCache (instant .0) (cacheAt (handed a s n b t m) (now (block .entry))) .expiry)) r ⌝ }
 {
     let c = TimeBoundCache {
         entries: Table {
@@ -354,5 +354,5 @@ pub extern "C" fn time_cache_rows_later(
     if !ok {
         return 0;
     }
-    c.rows_later(block, Millis(instant))
+    c.rows_later(block, instant)
 }

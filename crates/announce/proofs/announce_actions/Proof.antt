@@ -6,7 +6,7 @@ use lib.Dec.{ltb}
 use native.Mathlib.Omega.{arith}
 use Rattle.lists.specs.Base.{concatMap}
 use Rattle.postcard.specs.Message.{actionBytes}
-use Rattle.decide.specs.ActionsAfter.{announceAction}
+use Rattle.decide.specs.RecordGrowth.{announceAction}
 use Rattle.output.proofs.WrittenLaws.{written-then, told-first, told-then}
 use Rattle.ticks.proofs.ActionLaws.{told-as, written-as}
 use Rattle.announce.proofs.ActionLaws.{queued-few, announce-bytes}

@@ -50,11 +50,12 @@ use denote.Exit.{yes}
 use Rattle.postcard.specs.declared.units.Millis.{Millis}
 use Rattle.machine.specs.declared.Stats.{Stats}
 use Rattle.machine.specs.declared.event.Outcome.{Outcome}
-use Rattle.machine.specs.Called.{Lent, lent, Called}
-use Rattle.machine.specs.Core.{coreRooms, callOf}
+use Rattle.machine.specs.Called.{Lent, lent, callOf, Called}
+use Rattle.machine.specs.Core.{coreRooms}
 use Rattle.plumtree.specs.declared.LinkRoom.{LinkRoom}
 use Rattle.plumtree.specs.declared.Answer.{Answer}
-use Rattle.plumtree.specs.Rooms.{entries, Found}
+use Rattle.plumtree.specs.Calls.{entries}
+use Rattle.plumtree.specs.Rooms.{Found}
 use Rattle.plumtree.proofs.Shared.{LentShared, lends-shared, shared-back}
 use Rattle.plumtree.proofs.RoomLaws.{not-eq}
 use Rattle.plumtree.proofs.CallLaws.{called-entries, called-kept}

@@ -37,6 +37,9 @@ add-load2 c = search needs
 load2-requires : tie.Need-load2-requires
 load2-requires c κs = search needs
 
+cast-t13 : tie.Need-cast-t13
+cast-t13 c = search needs
+
 returns : tie.Need-returns
 returns c =
     let g = c .before .before .before in
@@ -58,4 +61,5 @@ first-at-spec =
     load-requires
     add-load2
     load2-requires
+    cast-t13
     returns)

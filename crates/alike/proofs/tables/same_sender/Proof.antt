@@ -14,7 +14,7 @@ use Rattle.alike.proofs.tables.same_sender.Statement.{statement}
 use Rattle.alike.proofs.tables.same_sender.Tie as tie
 
 abbrev hopOf : Sender → Hop
-hopOf z = record { peer = z .peer; round = z .round }
+hopOf z = record { peer = z .peer; round = z .round .0 }
 
 returns : tie.Need-returns
 unfolding sameOption sameHop

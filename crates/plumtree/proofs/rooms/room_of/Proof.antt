@@ -51,7 +51,8 @@ use Rattle.plumtree.specs.declared.LinkRoom.{LinkRoom}
 use Rattle.plumtree.specs.declared.rooms.Room.{Room}
 use Rattle.plumtree.specs.declared.rooms.Room.the-variants.{Unbounded, Bounded}
 use Rattle.decide.specs.Rooms.{firstRoom}
-use Rattle.plumtree.specs.Rooms.{entries, roomOf}
+use Rattle.plumtree.specs.Calls.{entries}
+use Rattle.plumtree.specs.Rooms.{roomOf}
 use Rattle.plumtree.proofs.Turns.{tests, unless}
 use Rattle.plumtree.proofs.RoomLaws.{From, hit-here, not-here, none-left}
 use Rattle.plumtree.proofs.LinkRoom as T

@@ -56,7 +56,8 @@ use Rattle.plumtree.specs.declared.LinkRoom.{LinkRoom}
 use Rattle.plumtree.specs.declared.rooms.Room.{Room}
 use Rattle.decide.specs.Rooms.{firstRoom}
 use Rattle.steps.specs.Rooms.{roomAt}
-use Rattle.plumtree.specs.Rooms.{entries, roomOf, roomPlace, Found}
+use Rattle.plumtree.specs.Calls.{entries}
+use Rattle.plumtree.specs.Rooms.{roomOf, roomPlace, Found}
 use Rattle.plumtree.specs.Peers.{PeerIn, Places}
 use Rattle.plumtree.proofs.Turns.{tests}
 use Rattle.plumtree.proofs.RoomLaws.{Upto, upto-none, upto-next, upto-found}

@@ -30,11 +30,12 @@ use Rattle.lists.proofs.MapLaws.{cases, true≢, and-right, all-head, all-tail,
 use Rattle.lists.proofs.Lists.{or-left, or-right}
 use Rattle.lists.proofs.ListLaws.{all-append, all-imp, all-map, all-each}
 use Rattle.protocol.proofs.Consistent.{whole-consistent}
+use Rattle.protocol.proofs.ConsistentTables.{queued-near}
 use Rattle.protocol.proofs.WholeKept.{known-announcers, kept-firstEvent}
 use Rattle.lists.proofs.Branches.{if-on, if-same}
 use Rattle.decide.proofs.SettledLaws.{first-state}
 use Rattle.decide.proofs.PushLaws.{targets-near}
-use Rattle.decide.proofs.Dispatch.{near-pieces, queued-near}
+use Rattle.decide.proofs.Dispatch.{near-pieces}
 use Rattle.decide.proofs.EachEvent.{decide-actions}
 use Rattle.decide.proofs.RoomsSteps.{withRooms, toPeer, sentTo, AgreeOn, fair-handle}
 

@@ -16,9 +16,9 @@ use Rattle.protocol.specs.Links.{Links, isNeighbour}
 use Rattle.protocol.specs.State.{Note}
 use Rattle.protocol.specs.Ticks.{queuedFor, queuedPeers}
 use Rattle.protocol.specs.Consistent.{byNeighbour}
+use Rattle.protocol.proofs.ConsistentTables.{queued-near}
 use Rattle.decide.specs.RecordGrowth.{Batch, addNotes, addBatches}
 use Rattle.decide.specs.Pieces.{Piece, peerPieces, pieces}
-use Rattle.decide.proofs.Dispatch.{queued-near}
 use Rattle.steps.proofs.RoomsLaws.{has-member}
 use Rattle.dispatch.proofs.QueueLaws.{notes-none}
 

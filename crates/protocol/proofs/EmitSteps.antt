@@ -13,7 +13,7 @@ use Rattle.protocol.specs.Handle.{firstEvent}
 use Rattle.protocol.specs.Demand3.{isEmit}
 use Rattle.lists.proofs.Lists.{any-append, any-right, any-one}
 
-any-skip : {A : Type 0} (f : A → Bool) (xs : List A) (x : A) → f x ≡ false → any f (xs ++ (x ∷ [])) ≡ any f xs
+pub any-skip : {A : Type 0} (f : A → Bool) (xs : List A) (x : A) → f x ≡ false → any f (xs ++ (x ∷ [])) ≡ any f xs
 any-skip f xs x h = any-append f xs (x ∷ []) ∙ rw (any-one f x, h) (or-none (any f xs))
   where
     or-none : (b : Bool) → (b || false) ≡ b

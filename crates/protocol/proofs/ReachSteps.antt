@@ -72,7 +72,7 @@ full-more p ns n f = on (or-cases (leb 256 (count (forPeer p) ns)) (leb 4096 (le
     on (inr h) = or-right (leb 256 (count (forPeer p) (ns ++ (n ∷ [])))) (leb 4096 (length (ns ++ (n ∷ []))))
         (le-leb 4096 (length (ns ++ (n ∷ []))) (omega (arith, leb-true 4096 (length ns) h, length-append ns (n ∷ []))))
 
-grows-noteOne : (p : ℕ) (h : Ihave) (r : Run) → Grows r (noteOne p h r)
+pub grows-noteOne : (p : ℕ) (h : Ihave) (r : Run) → Grows r (noteOne p h r)
 unfolding noteOne recordAlso
 grows-noteOne p h r =
     walk-if Grows (not (recordFull p (r .state .dropped)) && holds (h .id) (r .state .cache) && not (any (notes p (h .id)) (r .state .dropped)))

@@ -1,5 +1,4 @@
--- Demand 3: what holds after every list of event calls from a fresh panel. "Everything about the past is read from the list of calls and the actions they answered":
--- from the event of each accepted call, its actions, and the state after it.
+-- Demand 3: what holds after every list of event calls from a fresh panel. What is said of the past is read from the event of each accepted call, its actions, and the state after it.
 use Prim.Native.Nat.{ℕ, _≤_}
 use mathlib.Core.Path.{_≡_}
 use mathlib.Core.Bool.{Bool, true, false, not, _&&_}
@@ -174,7 +173,7 @@ unfoldable pub leftOut : ℕ → ℕ → State → Bool
 leftOut p id s = holds id (s .cache) && not (any (notes p id) (s .dropped)) && recordFull p (s .dropped)
 
 -- "It met a full record when its payload or announcement, sent to this neighbour, was handed back and `note_dropped` came to it for this neighbour while this neighbour had
--- 256 or all had 4,096": `note_dropped` adds each cached identifier it comes to but for a full record, so that one is left out after the call
+-- 256 or all had 4,096": `note_dropped` adds each cached identifier it comes to but for a full record, so that one is left out after the call. That it is so of every call: `MetFullExact`
 unfoldable pub metFull : ℕ → ℕ → Answer → Bool
 metFull p id (refuse n) = false
 metFull p id (accept e r) = any (sends p (carries id) wasHandedBack) (r .actions) && leftOut p id (r .state)

@@ -12,5 +12,6 @@ pub mod Handle
 pub mod Calls
 pub mod Consistent
 pub mod Demand3
+pub mod Notings
 pub mod Alike
 pub mod Panel

@@ -21,8 +21,8 @@ use Rattle.records.specs.Running.{endBytes, closing}
 use Rattle.records.proofs.Replies.{wrote-first, wrote-none, closing-few, end-few}
 use Rattle.machine.specs.Called.{countsOf}
 use Rattle.machine.specs.declared.Stats.{Stats}
-use Rattle.panel.specs.Turns.{Holds, Memory, memory, Took, Waits, Stops}
-use Rattle.panel.specs.Places.{Inside, unreadIn, Refilled, ReadOrClosed, Behind, Ended, OnlyReply, Stepped, answered, waited, stopped}
+use Rattle.panel.specs.Turns.{Holds, Memory, memory, Waits, Stops}
+use Rattle.panel.specs.Places.{Inside, unreadIn, Refilled, ReadOrClosed, Ended, OnlyReply, Stepped, answered, waited, stopped}
 use Rattle.panel.specs.Runs.{Runs, answers, reads, ends, stops, piecesRead, StepsRun}
 use Rattle.panel.specs.declared.stream.Place.{Place}
 use Rattle.panel.proofs.TurnLaws.{out-long, took-fits}

@@ -1,10 +1,6 @@
 -- `put_closing`: nothing, or the end.
 -- Assumes nothing.
-use mathlib.Core.Path.{sym, subst}
-use mathlib.Core.List.{List}
-use Prim.Native.Nat.{ℕ}
 use native.Mathlib.Omega.{arith}
-use Rattle.postcard.specs.Output.{Wrote}
 use Rattle.records.proofs.Replies.{wrote-none, closing-none, closing-some}
 use borrow.Author.Needs.{needs}
 use Rattle.records.proofs.put_closing.Statement.{statement}

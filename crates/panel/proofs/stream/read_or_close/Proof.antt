@@ -1,7 +1,6 @@
 -- `read_or_close`: more came, or the input has ended.
 -- Assumes what `libc` says of `read`.
 use mathlib.Core.Path.{refl}
-use native.Mathlib.Omega.{arith}
 use Rattle.panel.proofs.StepLaws.{same, went-on, closed}
 use borrow.Author.Needs.{needs}
 use Rattle.panel.proofs.stream.read_or_close.Statement.{statement}

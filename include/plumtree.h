@@ -40,7 +40,8 @@
  *   - No other thread writes what is lent, nor reads what is not const, before the call returns. Calls on different panels may run at
  *     the same time.
  *   - Each lent part has fewer than 2^63 bytes. `counts` and `rooms` are aligned as C aligns them; bytes need no alignment.
- *   - What is lent has been written once, block, counts and output too (calloc or memset will do). Padding does not matter.
+ *   - What is lent has been written once, block, counts and output too (calloc or memset will do). Padding does not matter; after a call it can
+ *     hold anything, so who keeps the counts keeps the three numbers.
  *   - The thread has 64 KiB of stack left. (Measured at the ceilings, tests/c/stack.c, and not proved: no proof speaks of the stack.)
  *
  * Nothing else is asked. There is no order of calls to keep and no event that must not come: a call that cannot be carried out is refused.

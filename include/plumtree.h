@@ -335,7 +335,7 @@ struct plumtree_answer plumtree_create(uint8_t *block, size_t block_length, stru
 
 /*
  * One event at the time `at`, in milliseconds. Asks 5 to 14 in their order, then does what document 01 says of the event. One that is refused
- * has not happened: a timer, an up, a down or a broadcast is told again later, since what waits for it waits on; a message is lost as on a bad
+ * has not happened: a timer, an up or a broadcast is told again later, since what waits for it waits on; a message is lost as on a bad
  * link, an IHave whole. A clock that starts at 0 again keeps what was taken in before until it has passed the old times, and fills the limits.
  * `rooms` is the link room of this call; none (null, 0): every send is taken.
  * `output` takes the actions: plumtree_output_size bytes are always enough; a host that lends less and is answered 14 calls again with more.
@@ -400,7 +400,7 @@ uint8_t plumtree_limit_met(const uint8_t *block, size_t block_length, uint64_t a
  *
  * Neighbors: sent once to the eager neighbours, announced to nobody, not sent on; who is lazy does not get it.
  *
- * Up: told at both ends of a link. The neighbour gets what is taken in from then on, and not what came before.
+ * Up: told at both ends of a link. Who is whose neighbour is the host's business: three each are a good choice. The neighbour gets what is taken in from then on, and not what came before.
  * Down: what waits for the neighbour is forgotten, and it does not get what is taken in until it is up again; so a link that will come back is
  * not told down, but has room 0.
  * Broadcast: told while no neighbour is up it is accepted and reaches nobody: hold it back until one is. The same content told again while it

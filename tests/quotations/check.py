@@ -1,8 +1,8 @@
 #!/usr/bin/env python3
 # Every quotation stands word for word in one of the stored texts: document 01, document 02, demand 3, the sentences of the Rust that are quoted. Usage, from the repository's top:
 # tests/quotations/check.py [FILE ...], all files that have quotations if none is named. It fails at the first that is nowhere, and tells how many it looked at.
-#   Quotations: what stands between double quotes in a comment of the crates and of include/plumtree.h, in a string of include/plumtree.h, and in docs/PROOFS.md and
-#   docs/GUARANTEE.md, where a block quote is one too. Comment lines that follow each other are one text.
+#   Quotations: what stands between double quotes in a comment of the crates and of include/plumtree.h, in a string of include/plumtree.h, and in README.md
+#   and the documents but docs/BENCHMARKS.md, where a block quote is one too and program text is none. Comment lines that follow each other are one text.
 #   Word for word: but for backquotes, asterisks and line ends; <= is ≤. An ellipsis (… or ..) or words in [brackets] stand for others, and the parts around them come in that order.
 #   exceptions.txt has what stands between quotation marks and is no quotation.
 import glob, re, sys
@@ -45,11 +45,20 @@ def of_c(text):
         yield text[: m.start()].count("\n") + 1, printed(m["string"]) if m["string"] else comment
 
 
+# The lines of a document, those of program text left empty: indented by four, or between fences.
+def without_programs(text):
+    fenced = False
+    for line in text.splitlines():
+        fence = line.startswith("```")
+        yield "" if fenced or fence or line.startswith("    ") else line
+        fenced ^= fence
+
+
 # The quotations of a file, each with a line's number.
 def quotations(path):
     text = read(path)
     if path.endswith(".md"):
-        parts = [(n, f'"{line[1:].strip()}"' if line.startswith(">") else line) for n, line in enumerate(text.splitlines(), 1)]
+        parts = [(n, f'"{line[1:].strip()}"' if line.startswith(">") else line) for n, line in enumerate(without_programs(text), 1)]
     elif path.endswith(".h"):
         parts = of_c(text)
     else:
@@ -78,7 +87,7 @@ def main(named):
         glob.glob("crates/*/specs/**/*.antt", recursive=True)
         + glob.glob("crates/*/proofs/**/*.antt", recursive=True)
         + glob.glob("crates/*/src/**/*.rt", recursive=True)
-    ) + ["include/plumtree.h", "docs/PROOFS.md", "docs/GUARANTEE.md"]
+    ) + ["include/plumtree.h", "README.md"] + sorted(set(glob.glob("docs/*.md")) - {"docs/BENCHMARKS.md"})
     texts = [plain(read(f"{HERE}/{name}.txt")) for name in ("document-01", "document-02", "demand-3", "rust")]
     reasons = dict(line.split("\t") for line in read(f"{HERE}/exceptions.txt").splitlines() if not line.startswith("#"))
     looked, excepted = 0, set()

@@ -50,6 +50,7 @@ extern "C" {
     ) -> Answer;
     #[cfg_attr(plumtree_missing, link_name = env!("PLUMTREE_MISSING"))]
     fn plumtree_alike(a: *const u8, a_length: usize, b: *const u8, b_length: usize) -> Likeness;
+    #[cfg_attr(plumtree_missing, link_name = env!("PLUMTREE_MISSING"))]
     fn plumtree_limit_met(
         block: *const u8,
         block_length: usize,

@@ -4,7 +4,7 @@ use std::path::Path;
 
 use plumtree::{raw, read_number, write_number, Error, Limits, Panel, Settings};
 
-/// "Records of now, length, event": the next one, and the bytes after it.
+/// "records of now, length, event": the next one, and the bytes after it.
 fn record(bytes: &[u8]) -> Result<(u64, &[u8], &[u8]), Error> {
     let (at, bytes) = read_number(bytes)?;
     let (length, bytes) = read_number(bytes)?;

@@ -186,7 +186,7 @@ fn event_limit(
 }
 
 // The limit that a call met that is answered 13, with the link room of each link by its number, and at 32 that of the event's peer; 0 if the call, with the counts
-// zero, is not answered 13. Its time is that of the call up to question 13.
+// zero, is not answered 13. It takes as long as the call does up to question 13.
 pub fn limit_met(block: &[u8], instant: Millis, event: &[u8], rooms: [u64; 34]) -> u8
     ensures { λ r. ⌜ r ≡ limitMet identifier (length (now (block .entry))) (held (now (block .entry))) (asking (instant .0) (now (event .entry)) (coreRooms (now (block .entry)) (now (event .entry)) rooms)) ⌝ }
 {

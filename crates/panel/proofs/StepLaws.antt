@@ -6,7 +6,6 @@ use mathlib.Core.Bool.{Bool, true, false}
 use mathlib.Core.List.{List, [], _∷_, _++_, append-assoc, append-nil}
 use native.Mathlib.Omega.{arith}
 use borrow.Author.Tests.{ltb-false}
-use lib.Dec.{ltb}
 use lib.ListN.{length, take, drop}
 use lib.Seq.{drop-drop}
 use Rattle.lists.proofs.MapLaws.{true≢}
@@ -17,6 +16,7 @@ use Rattle.postcard.specs.Output.{Wrote}
 use Rattle.postcard.proofs.Writes.{wrote-long}
 use Rattle.protocol.specs.State.{Counts, fresh, zeroCounts}
 use Rattle.protocol.specs.Panel.{panelSettings, panelLimits}
+use Rattle.records.specs.Reading.{Bad}
 use Rattle.records.specs.Running.{endBytes, closing}
 use Rattle.records.proofs.Replies.{wrote-first, wrote-none, closing-few, end-few}
 use Rattle.machine.specs.Called.{countsOf}
@@ -154,17 +154,20 @@ step-goes before p buffer after r buffer′ i (waited c f o) g pieces wrote run 
     (subst (λ (x : Stats). Runs before (countsOf x) (unreadIn r buffer′) pieces wrote) (f .refilled .counts) (subst (λ (x : Memory). Runs x (countsOf (r .stats)) (unreadIn r buffer′) pieces wrote) m run))))
 step-goes before p buffer after r buffer′ i (stopped b d e w o) g pieces wrote run = true≢ (sym (d .goes) ∙ g)
 
+step-stops : (before : Memory) (p : Place) (buffer : List ℕ) (after : Memory) (r : Place) → Bad (unreadIn p buffer) → Wrote endBytes (before .reply) 0 (after .reply) (r .reply)
+    → (pieces : List (List ℕ)) → Runs before (countsOf (p .stats)) (unreadIn p buffer) pieces (take (r .reply) (after .reply))
+step-stops before p buffer after r b w pieces = rw (wrote-first w) (stops before (countsOf (p .stats)) (unreadIn p buffer) pieces b)
+
 step-ends : (before : Memory) (p : Place) (buffer : List ℕ) (after : Memory) (r : Place) (buffer′ : List ℕ) → Stepped before p buffer after r buffer′ → r .«goes_on» ≡ false
     → Runs before (countsOf (p .stats)) (unreadIn p buffer) [] (take (r .reply) (after .reply))
 step-ends before p buffer after r buffer′ (answered used a t b e) g = true≢ (sym g ∙ b .goes)
 step-ends before p buffer after r buffer′ (waited c f o) g =
     let w : Wrote (closing (unreadIn p buffer)) (before .reply) 0 (after .reply) (r .reply) = subst (λ (x : Bool). Wrote (if x then [] else closing (unreadIn p buffer)) (before .reply) 0 (after .reply) (r .reply)) g (f .wrote) in
     rw (wrote-first w) (ends before (countsOf (p .stats)) (unreadIn p buffer) c)
-step-ends before p buffer after r buffer′ (stopped b d e w o) g =
-    rw (wrote-first w) (stops before (countsOf (p .stats)) (unreadIn p buffer) [] b)
+step-ends before p buffer after r buffer′ (stopped b d e w o) g = step-stops before p buffer after r b w []
 
 pub steps-run : StepsRun
-steps-run = record { goes = step-goes; ends = step-ends }
+steps-run = record { goes = step-goes; ends = step-ends; stops = step-stops }
 
 -- a run from a fresh panel so far: `wrote` was left to be written for `pieces`, and whatever run follows goes on from there
 pub record Sofar (m : Memory) (p : Place) (buffer : List ℕ) : Type 0 where

@@ -7,6 +7,7 @@ use mathlib.Core.List.{List, [], _∷_, _++_}
 use lib.ListN.{length, take, drop}
 use Rattle.lists.specs.Base.{concatMap}
 use Rattle.blake3.specs.Blake3.{identifier}
+use Rattle.postcard.specs.Output.{Wrote}
 use Rattle.postcard.specs.Wide.{Bytes}
 use Rattle.protocol.specs.State.{Counts, fresh, zeroCounts}
 use Rattle.protocol.specs.Panel.{panelSettings, panelLimits, panelrun}
@@ -44,15 +45,17 @@ piecesRead (answered used a took behind same) = []
 piecesRead (waited cut read only) = read .refilled .came ∷ []
 piecesRead (stopped bad ended same wrote only) = []
 
--- a step of the program is a turn of a run: what it leaves to be written comes first; a step that does not go on ends it, at the end of the input or whatever else comes
+-- a step of the program is a turn of a run: what it leaves to be written comes first; a step that does not go on ends it where no piece follows, and one that stopped (`stopped`) whatever else comes
 pub record StepsRun : Type 0 where
   pub goes : (before : Memory) (p : Place) (buffer : List ℕ) (after : Memory) (r : Place) (buffer′ : List ℕ) → Inside p buffer → (s : Stepped before p buffer after r buffer′) →
       r .«goes_on» ≡ true → (pieces : List (List ℕ)) (wrote : List ℕ) → Runs after (countsOf (r .stats)) (unreadIn r buffer′) pieces wrote →
       Runs before (countsOf (p .stats)) (unreadIn p buffer) (piecesRead s ++ pieces) (take (r .reply) (after .reply) ++ wrote)
   pub ends : (before : Memory) (p : Place) (buffer : List ℕ) (after : Memory) (r : Place) (buffer′ : List ℕ) → Stepped before p buffer after r buffer′ → r .«goes_on» ≡ false →
       Runs before (countsOf (p .stats)) (unreadIn p buffer) [] (take (r .reply) (after .reply))
+  pub stops : (before : Memory) (p : Place) (buffer : List ℕ) (after : Memory) (r : Place) → Bad (unreadIn p buffer) → Wrote endBytes (before .reply) 0 (after .reply) (r .reply) →
+      (pieces : List (List ℕ)) → Runs before (countsOf (p .stats)) (unreadIn p buffer) pieces (take (r .reply) (after .reply))
 
--- memory and counts as the types of `next` have them
+-- memory and counts as `run` has them: 58,880 bytes, as question 4 asks of panelrun's limits; 40,960 of output; a reply of 40,971, which holds a byte, a number of at most ten, and the output
 pub record Typed (m : Memory) (c : Counts) : Type 0 where
   pub block : (length (m .block) ≡ 58880) × Bytes (m .block)
   pub output : (length (m .output) ≡ 40960) × Bytes (m .output)
@@ -64,7 +67,7 @@ pub record Buffered (unread : List ℕ) : Type 0 where
   pub bytes : Bytes unread
   pub few : length unread ≤ 32768
 
--- a function that meets the contract of `next`, for all that its types admit
+-- a function that meets the contract of `next`, for all that `run` lends it
 pub record Next : Type 0 where
   pub after : Memory → Counts → List ℕ → Memory
   pub turn : Memory → Counts → List ℕ → Turn
@@ -72,7 +75,7 @@ pub record Next : Type 0 where
   pub typed : (m : Memory) (c : Counts) (unread : List ℕ) → Typed m c → Buffered unread → (used : ℕ) (a : Answer) → turn m c unread ≡ told.Answered used a →
       Typed (after m c unread) (countsOf (a .stats))
 
--- pieces that the buffer has room for behind a record that is cut
+-- pieces for which the buffer has room behind every record that is cut; every input can be read so, and the program's own pieces may be longer
 abbrev pub Readable : List (List ℕ) → Type 0
 Readable [] = Unit {0}
 Readable (piece ∷ pieces) = Bytes piece × (length piece ≤ 16365) × Readable pieces

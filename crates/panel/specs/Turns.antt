@@ -31,6 +31,7 @@ pub record Memory : Type 0 where
   pub output : List ℕ
   pub reply : List ℕ
 
+-- the same, part by part
 abbrev pub memory : List ℕ → List ℕ → List ℕ → Memory
 memory block output reply = record { block = block; output = output; reply = reply }
 

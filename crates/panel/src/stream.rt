@@ -1,4 +1,4 @@
-// The program `panelrun`: from standard input to standard output, record by record. What a step leaves to be written is its contract's word; what is read and written, the C library's.
+// The program `panelrun`: from standard input to standard output, record by record. The contract of `step` says what it leaves to be written; what is read and written is left to the C library.
 use crate::Turn;
 use libc::STDIN_FILENO;
 use libc::STDOUT_FILENO;

@@ -173,7 +173,7 @@ unfoldable pub leftOut : ℕ → ℕ → State → Bool
 leftOut p id s = holds id (s .cache) && not (any (notes p id) (s .dropped)) && recordFull p (s .dropped)
 
 -- "It met a full record when its payload or announcement, sent to this neighbour, was handed back and `note_dropped` came to it for this neighbour while this neighbour had
--- 256 or all had 4,096": `note_dropped` adds each cached identifier it comes to but for a full record, so that one is left out after the call. That it is so of every call: `MetFullExact`
+-- 256 or all had 4,096": `note_dropped` adds each cached identifier it comes to but for a full record, so that one is left out after the call. How it goes together with the words, of every call: `MetFullExact`
 unfoldable pub metFull : ℕ → ℕ → Answer → Bool
 metFull p id (refuse n) = false
 metFull p id (accept e r) = any (sends p (carries id) wasHandedBack) (r .actions) && leftOut p id (r .state)

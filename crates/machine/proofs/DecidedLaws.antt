@@ -2,12 +2,12 @@
 use Prim.Native.Nat.{ℕ}
 use mathlib.Core.Path.{_≡_, refl, sym, ap, _∙_}
 use mathlib.Core.Bool.{Bool, true, not}
-use mathlib.Core.List.{List}
+use mathlib.Core.List.{List, []}
 use lib.Dec.{leb}
 use lib.ListN.{length}
 use Rattle.lists.specs.Base.{if_then_else_}
 use Rattle.lists.proofs.Branches.{if-on, if-both}
-use Rattle.postcard.specs.Message.{Event}
+use Rattle.postcard.specs.Message.{Event, Up, Down}
 use Rattle.protocol.specs.State.{State, Counts}
 use Rattle.protocol.specs.Run.{Run, Room, begin}
 use Rattle.protocol.specs.Handle.{firstEvent, handle}
@@ -40,11 +40,11 @@ module _ (hash : List ℕ → ℕ) where
       rw (decide-13 hash now e s c rooms w, decide-actions hash now e s c rooms w, decide-state hash now e s c rooms w, decide-counts hash now e s c rooms w) refl
 
   -- questions 10 to 14
-  pub decided-ask : (s : State) (c : Counts) (k : Call) (e : Event) → whole s ≡ true → outcome (askOf hash s c k e) ≡ decided hash (k .rooms) (k .now) e s c (k .output)
+  pub decided-ask : (s : State) (c : Counts) (k : Call) (e : Event) → whole s ≡ true → outcome (askOf hash s c k e) ≡ decided hash (k .rooms) (k .now) (k .event) e s c (k .output)
   unfolding askOf decided outcome
   decided-ask s c k e w =
-      if-on outcome (not (messageFits (s .settings .maxMessageSize) e)) _ _
-      ∙ if-both (not (messageFits (s .settings .maxMessageSize) e)) refl
+      if-on outcome (not (messageFits (s .settings .maxMessageSize) (k .event) e)) _ _
+      ∙ if-both (not (messageFits (s .settings .maxMessageSize) (k .event) e)) refl
       (if-on outcome (not (countsStay e c)) _ _
       ∙ if-both (not (countsStay e c)) refl
       (if-on outcome (tooFar hash e (firstEvent (k .now) (begin s c (k .rooms)) .state)) _ _
@@ -59,3 +59,12 @@ module _ (hash : List ℕ → ℕ) where
     where
       same : foundOf output (withRooms (handle hash now e (begin s c rooms′) .rooms) (handle hash now e (begin s c rooms))) ≡ foundOf output (handle hash now e (begin s c rooms))
       same = unfold foundOf outputOf in refl
+
+  -- question 10 asks nothing of up and down: their bytes do not matter
+  pub up-bytes : (bytes : List ℕ) (rooms : List Room) (now p : ℕ) (s : State) (c : Counts) (output : ℕ) → decided hash rooms now [] (Up p) s c output ≡ decided hash rooms now bytes (Up p) s c output
+  unfolding decided messageFits
+  up-bytes bytes rooms now p s c output = refl
+
+  pub down-bytes : (bytes : List ℕ) (rooms : List Room) (now p : ℕ) (s : State) (c : Counts) (output : ℕ) → decided hash rooms now [] (Down p) s c output ≡ decided hash rooms now bytes (Down p) s c output
+  unfolding decided messageFits
+  down-bytes bytes rooms now p s c output = refl

@@ -54,8 +54,8 @@ found-yes o s c bytes before after long e a = subst (λ (x : Outcome). Finds x b
 
 -- the definitions' outcome
 pub step-decided : (bytes : List ℕ) (rooms : List Room) (now : ℕ) (r : Step) (s : State) (e : Event) (c : Counts) (output : ℕ) → Means bytes now s r e →
-    messageFits (s .settings .maxMessageSize) e ≡ true → countsStay e c ≡ true →
-    decided identifier rooms now e s c output ≡ stepOutcome bytes rooms now r s (countedFor e c) output
+    messageFits (s .settings .maxMessageSize) bytes e ≡ true → countsStay e c ≡ true →
+    decided identifier rooms now bytes e s c output ≡ stepOutcome bytes rooms now r s (countedFor e c) output
 unfolding decided lastDecided stepOutcome bytesAfter stepBytes
 step-decided bytes rooms now r s e c output m fits stay =
     rw (fits, stay, m .far, m .sizes rooms, m .actions rooms, m .state rooms, m .counts c) (last _ _ _ _ (stepFar r) (fitSizes (s .limits) (stepSizes bytes rooms now r (settled now s))) (leb (length (concatMap actionBytes (settledActions s ++ stepActions bytes rooms r (settled now s)))) output))

@@ -7,14 +7,15 @@ use mathlib.Core.Bool.{Bool, true, false, _&&_}
 use mathlib.Core.List.{List, [], _++_}
 use mathlib.Core.Option.{some}
 use lib.Dec.{leb, ltb}
-use lib.ListN.{length, getD}
+use lib.ListN.{length, getD, drop-of-length-le}
 use borrow.Author.Tests.{le-leb, lt-leb, leb-true, lt-ltb, le-ltb, ltb-true, ltb-false}
 use Rattle.lists.specs.Base.{if_then_else_, concatMap}
 use Rattle.lists.proofs.MapLaws.{cases, and-left, and-intro}
 use Rattle.rows.specs.Part.{put}
 use Rattle.rows.proofs.Parts.{put-nil}
 use Rattle.blake3.specs.Blake3.{identifier}
-use Rattle.postcard.specs.Message.{Event, Received, Up, Down, messageBytes}
+use Rattle.postcard.specs.Message.{Event, Received, Up, Down}
+use Rattle.postcard.specs.Decode.{messagePart}
 use Rattle.postcard.specs.Events.{messageValue, Sized}
 use Rattle.postcard.specs.declared.message.Message.{Message}
 use Rattle.postcard.specs.declared.message.Message.the-variants as messages
@@ -209,35 +210,41 @@ stay-control p q h =
     (λ t. t ∙ sym (and-intro (lt-ltb p (2 ^ 64) h) (lt-ltb (q + 1) (2 ^ 64) (omega (arith, ltb-true q 18446744073709551615 t)))))
     (λ f. f ∙ sym (ap (λ (b : Bool). ltb p (2 ^ 64) && b) (le-ltb (q + 1) (2 ^ 64) (omega (arith, ltb-false q 18446744073709551615 f))) ∙ and-no (ltb p (2 ^ 64))))
 
+-- the size is that of the message's bytes as received
+received-size : (bytes : List ℕ) (size : ℕ) (m : Message) → Sized bytes (length bytes) size m → size ≡ length (messagePart bytes)
+received-size bytes size m sized =
+    let l : length bytes ≤ length bytes = omega arith in
+    omega (arith, sized .counts, ap length (drop-of-length-le bytes l))
+
 -- a received message: questions 10 and 11
-module _ (h : Head) (block bytes : List ℕ) (rooms : List Room) (now peer size : ℕ) (m : Message) (c : Counts) (output : ℕ) (sized : Sized bytes size m) where
+module _ (h : Head) (block bytes : List ℕ) (rooms : List Room) (now peer size : ℕ) (m : Message) (c : Counts) (output : ℕ) (sized : Sized bytes (length bytes) size m) where
   abbrev t : State
   t = stateOf h block
 
   abbrev event : Event
   event = Received peer (messageValue bytes m)
 
-  pub message-10 : h .settings .«max_message_size» < size → decided identifier rooms now event t c output ≡ refused 10
+  pub message-10 : h .settings .«max_message_size» < size → decided identifier rooms now bytes event t c output ≡ refused 10
   unfolding decided messageFits stateOf
-  message-10 l = rw (lt-leb (length (messageBytes (messageValue bytes m))) (h .settings .«max_message_size») (omega (arith, l, sized .counts))) refl
+  message-10 l = rw (lt-leb (length (messagePart bytes)) (h .settings .«max_message_size») (omega (arith, l, received-size bytes size m sized))) refl
 
-  pub message-fits : size ≤ h .settings .«max_message_size» → messageFits (t .settings .maxMessageSize) event ≡ true
+  pub message-fits : size ≤ h .settings .«max_message_size» → messageFits (t .settings .maxMessageSize) bytes event ≡ true
   unfolding messageFits stateOf
-  message-fits l = le-leb (length (messageBytes (messageValue bytes m))) (h .settings .«max_message_size») (omega (arith, l, sized .counts))
+  message-fits l = le-leb (length (messagePart bytes)) (h .settings .«max_message_size») (omega (arith, l, received-size bytes size m sized))
 
   pub message-stays : (b : Bool) → countsBelow (countedAs (isPayload m) c) ≡ b → countsStay event c ≡ b
   unfolding countsStay
   message-stays b e = ap countsBelow (sym (counted-message bytes m c)) ∙ e
 
-  pub message-11 : size ≤ h .settings .«max_message_size» → countsBelow (countedAs (isPayload m) c) ≡ false → decided identifier rooms now event t c output ≡ refused 11
+  pub message-11 : size ≤ h .settings .«max_message_size» → countsBelow (countedAs (isPayload m) c) ≡ false → decided identifier rooms now bytes event t c output ≡ refused 11
   unfolding decided
   message-11 l e = rw (message-fits l, message-stays false e) refl
 
 -- the outcome of a step is that of its event
 pub step-finds : (h : Head) (block bytes array : List ℕ) (now : ℕ) (r : Step) (e : Event) (c counted : Counts) (output : ℕ) (before after : Lent) (n m : ℕ) → Means bytes now (stateOf h block) r e →
-    messageFits (stateOf h block .settings .maxMessageSize) e ≡ true → countsStay e c ≡ true → counted ≡ countedFor e c →
+    messageFits (stateOf h block .settings .maxMessageSize) bytes e ≡ true → countsStay e c ≡ true → counted ≡ countedFor e c →
     Finds (stepOutcome bytes (roomsIn (stateOf h block) array) now r (stateOf h block) counted output) before after n m →
-    Finds (decided identifier (roomsIn (stateOf h block) array) now e (stateOf h block) c output) before after n m
+    Finds (decided identifier (roomsIn (stateOf h block) array) now bytes e (stateOf h block) c output) before after n m
 step-finds h block bytes array now r e c counted output before after n m means fit stay q f =
     subst (λ (o : Outcome). Finds o before after n m)
     (ap (λ (x : Counts). stepOutcome bytes (roomsIn (stateOf h block) array) now r (stateOf h block) x output) q ∙ sym (step-decided bytes (roomsIn (stateOf h block) array) now r (stateOf h block) e c output means fit stay)) f
@@ -251,15 +258,15 @@ module _ (h : Head) (block : List ℕ) (rooms : List Room) (now p : ℕ) (c : Co
   abbrev u : State
   u = stateOf h block
 
-  pub up-13 : fitSizes (limitsOf (h .limits)) (upSizes p u) ≡ false → decided identifier rooms now (Up p) u c output ≡ refused 13
+  pub up-13 : fitSizes (limitsOf (h .limits)) (upSizes p u) ≡ false → decided identifier rooms now [] (Up p) u c output ≡ refused 13
   unfolding decided lastDecided bytesAfter messageFits countsStay tooFarBefore sizesAfter actionsAfter stateAfter countsAfterCall stateOf
   up-13 e = rw e refl
 
-  pub up-0 : fitSizes (limitsOf (h .limits)) (upSizes p u) ≡ true → decided identifier rooms now (Up p) u c output ≡ accepted (withLinks (linkUp p (u .links)) u) c []
+  pub up-0 : fitSizes (limitsOf (h .limits)) (upSizes p u) ≡ true → decided identifier rooms now [] (Up p) u c output ≡ accepted (withLinks (linkUp p (u .links)) u) c []
   unfolding decided lastDecided bytesAfter messageFits countsStay tooFarBefore sizesAfter actionsAfter stateAfter countsAfterCall stateOf concatMap
   up-0 e = both _ _ _ (fitSizes (limitsOf (h .limits)) (upSizes p u)) (leb 0 output) e (le-leb 0 output (omega arith))
 
-  pub down-0 : Sound h block → decided identifier rooms now (Down p) u c output ≡ accepted (forgetPeer p u) c []
+  pub down-0 : Sound h block → decided identifier rooms now [] (Down p) u c output ≡ accepted (forgetPeer p u) c []
   unfolding decided lastDecided bytesAfter messageFits countsStay tooFarBefore sizesAfter actionsAfter stateAfter countsAfterCall stateOf concatMap
   down-0 sound = both _ _ _ (fitSizes (limitsOf (h .limits)) (downSizes p u)) (leb 0 output) (fit-down p h block sound) (le-leb 0 output (omega arith))
 

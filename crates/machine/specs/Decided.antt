@@ -31,10 +31,10 @@ module _ (hash : List ℕ → ℕ) where
       else refused 14
       else refused 13
 
-  -- (10), (11), (12), then the last two
-  unfoldable pub decided : List Room → ℕ → Event → State → Counts → ℕ → Outcome
-  decided rooms now e s c output =
-      if not (messageFits (s .settings .maxMessageSize) e) then refused 10
+  -- (10) of the event's bytes, (11), (12), then the last two
+  unfoldable pub decided : List Room → ℕ → List ℕ → Event → State → Counts → ℕ → Outcome
+  decided rooms now bytes e s c output =
+      if not (messageFits (s .settings .maxMessageSize) bytes e) then refused 10
       else if not (countsStay e c) then refused 11
       else if tooFarBefore hash now e s then refused 12
       else lastDecided rooms now e s c output

@@ -73,10 +73,10 @@ module _ (block event : List ℕ) where
   pub record Serves (given asked : List Room) : Type 0 where
     pub same : Wholly block → (e : Event) → decodeEvent event ≡ decoded e → (p : ℕ) → reached s e p ≡ true → firstRoom p given ≡ firstRoom p asked
 
-  other-rooms : (given asked : List Room) (now : ℕ) (e : Event) (c : Counts) (output : ℕ) → Wholly block → decodeEvent event ≡ decoded e → Serves given asked → decided identifier given now e s c output ≡ decided identifier asked now e s c output
+  other-rooms : (given asked : List Room) (now : ℕ) (e : Event) (c : Counts) (output : ℕ) → Wholly block → decodeEvent event ≡ decoded e → Serves given asked → decided identifier given now event e s c output ≡ decided identifier asked now event e s c output
   unfolding decided
   other-rooms given asked now e c output w d v =
-      ap (λ (o : Outcome). if not (messageFits (s .settings .maxMessageSize) e) then refused 10 else (if not (countsStay e c) then refused 11 else (if tooFarBefore identifier now e s then refused 12 else o)))
+      ap (λ (o : Outcome). if not (messageFits (s .settings .maxMessageSize) event e) then refused 10 else (if not (countsStay e c) then refused 11 else (if tooFarBefore identifier now e s then refused 12 else o)))
       (decided-rooms identifier asked given now e s c output (w .whole) (v .same w e d))
 
   read-rooms : (given asked : List Room) (now : ℕ) (c : Counts) (output : ℕ) (x : Decoded) → Wholly block → now ≤ 2 ^ 62 → decodeEvent event ≡ x → Serves given asked →

@@ -71,5 +71,5 @@ pub record Astray : Type 0 where
       length ((panel [] ▷ recorded 65 ▷ Handle.handle nine 0 (Fired AnnounceDropped) ▷ Handle.handle nine 0 (Fired DispatchLazyPush) ▷ Handle.handle nine 0 (Fired AnnounceDropped)) .state .queue) ≡ 1
 
 pub astray : Astray
-unfolding Base.filter Base.count Base.any Base.all Base.member Base.sum Base.concatMap Base.ascending Base.once Control.addAnnouncer Control.announce Control.scheduleGraft Control.onAnnounced Control.onIHave Control.onPrune Control.replyWith Control.reply Control.onGraft Control.lower Control.withGraft Control.noteGraft Control.leaveAnnouncers Control.askFirst Control.unmark Control.onSendGraftTimer Gossips.markReceived Gossips.cacheAt Gossips.hopsOf Gossips.announcers Gossips.peersOf Gossips.graftedFor Gossips.withFirst Gossips.setFirst Gossips.graftOut Gossips.forgetMissing Gossips.raiseHops Gossips.leastFrom Gossips.farCloser Gossips.updateLinks Gossips.graftUnlessEager Gossips.pruneBack Gossips.optimizeTree Gossips.forgetAndOptimise Gossips.pushOn Gossips.takeIn Gossips.sameAs Gossips.noMoreHops Gossips.lateFrom Gossips.lateKind Gossips.withKept Gossips.setKept Gossips.onDuplicate Gossips.onLateGraftReply Gossips.onNew Gossips.gossipSize Gossips.onGossip Gossips.broadcastTo Gossips.broadcast Handle.firstEvent Handle.onePayload Handle.oneControl Handle.countMessage Handle.ifNeighbour Handle.onTimer Handle.onMessage Handle.handleMessage Handle.handle Links.peersMarked Links.eagerPeers Links.lazyPeers Links.marked Links.eagerIn Links.markIfThere Links.addEager Links.addLazy Links.linkUp Links.linkDown Map.lookup Map.insert Map.remove Map.insertKey Map.removeKey Message.contentBytes Message.deliveryBytes Message.scopeByte Message.ihaveBytes Message.optionalIdBytes Message.messageBytes Message.timerBytes Message.eventBytes Message.takenByte Message.actionBytes Neighbours.onNeighborUp Neighbours.withoutAnnouncer Neighbours.forgetAnnouncer Neighbours.withoutNotes Neighbours.withoutGraft Neighbours.forgetGrafted Neighbours.forgetPeer Neighbours.onNeighborDown Number.groups Number.numberBytes Number.numberLength Number.bigEndian Number.idBytes Number.fromBigEndian Number.readKind Number.readBytes Number.readId Number.lastGroup Number.readGroups Number.readRound Number.readNumber Push.scheduleDispatch Push.scheduleAnnounceDropped Push.recordFull Push.recordAlso Push.noteOne Push.noteEach Push.noteDropped Push.sendEach Push.handedBack Push.noteForEach Push.eagerTargets Push.noteAfter Push.pushTo Push.eagerPush Push.noteFor Push.lazyPush Push.sendIhave Run.act Run.hasRoom Run.useRoom Run.send State.fresh State.zeroCounts State.sizeInRange State.durationsInRange State.upTo State.limitsInRange State.blockNeed State.create Ticks.perMessage Ticks.chunks Ticks.queuedFor Ticks.queuedPeers Ticks.sendChunks Ticks.dispatchTo Ticks.clearDispatch Ticks.onDispatchTimer Ticks.oldest Ticks.younger Ticks.moveOldest Ticks.stillCached Ticks.dispatchIfQueued Ticks.onAnnounceDroppedTimer Ticks.evict Ticks.onEvictCacheTimer TimeCache.valueOf TimeCache.get TimeCache.addExpiry TimeCache.put TimeCache.withValue TimeCache.replace TimeCache.expiresAt TimeCache.pop TimeCache.due TimeCache.later TimeCache.popAll TimeCache.popped TimeCache.expireUntil TimeCache.expiredKeys
+unfolding Base.filter Base.count Base.any Base.all Base.member Base.sum Base.concatMap Base.ascending Base.once Control.addAnnouncer Control.announce Control.scheduleGraft Control.onAnnounced Control.onIHave Control.onPrune Control.replyWith Control.reply Control.onGraft Control.lower Control.withGraft Control.noteGraft Control.leaveAnnouncers Control.askFirst Control.unmark Control.onSendGraftTimer Gossips.markReceived Gossips.cacheAt Gossips.hopsOf Gossips.announcers Gossips.peersOf Gossips.graftedFor Gossips.withFirst Gossips.setFirst Gossips.graftOut Gossips.forgetMissing Gossips.raiseHops Gossips.leastFrom Gossips.farCloser Gossips.updateLinks Gossips.graftUnlessEager Gossips.pruneBack Gossips.optimizeTree Gossips.forgetAndOptimise Gossips.pushOn Gossips.takeIn Gossips.sameAs Gossips.noMoreHops Gossips.lateFrom Gossips.lateKind Gossips.withKept Gossips.setKept Gossips.onDuplicate Gossips.onLateGraftReply Gossips.onNew Gossips.gossipSize Gossips.onGossip Gossips.broadcastTo Gossips.broadcast Handle.firstEvent Handle.onePayload Handle.oneControl Handle.countMessage Handle.ifNeighbour Handle.onTimer Handle.onMessage Handle.handleMessage Handle.handle Links.peersMarked Links.eagerPeers Links.lazyPeers Links.marked Links.eagerIn Links.markIfThere Links.addEager Links.addLazy Links.linkUp Links.linkDown Map.lookup Map.insert Map.remove Map.insertKey Map.removeKey Message.contentBytes Message.deliveryBytes Message.scopeByte Message.ihaveBytes Message.optionalIdBytes Message.messageBytes Message.timerBytes Message.eventBytes Message.takenByte Message.actionBytes Neighbours.onNeighborUp Neighbours.withoutAnnouncer Neighbours.forgetAnnouncer Neighbours.withoutNotes Neighbours.withoutGraft Neighbours.forgetGrafted Neighbours.forgetPeer Neighbours.onNeighborDown Number.groups Number.numberBytes Number.numberLength Number.bigEndian Number.idBytes Number.fromBigEndian Number.readKind Number.kindNumber Number.readPadded Number.readBytes Number.readId Number.lastGroup Number.readGroups Number.readRound Number.readNumber Push.scheduleDispatch Push.scheduleAnnounceDropped Push.recordFull Push.recordAlso Push.noteOne Push.noteEach Push.noteDropped Push.sendEach Push.handedBack Push.noteForEach Push.eagerTargets Push.noteAfter Push.pushTo Push.eagerPush Push.noteFor Push.lazyPush Push.sendIhave Run.act Run.hasRoom Run.useRoom Run.send State.fresh State.zeroCounts State.sizeInRange State.durationsInRange State.upTo State.limitsInRange State.blockNeed State.create Ticks.perMessage Ticks.chunks Ticks.queuedFor Ticks.queuedPeers Ticks.sendChunks Ticks.dispatchTo Ticks.clearDispatch Ticks.onDispatchTimer Ticks.oldest Ticks.younger Ticks.moveOldest Ticks.stillCached Ticks.dispatchIfQueued Ticks.onAnnounceDroppedTimer Ticks.evict Ticks.onEvictCacheTimer TimeCache.valueOf TimeCache.get TimeCache.addExpiry TimeCache.put TimeCache.withValue TimeCache.replace TimeCache.expiresAt TimeCache.pop TimeCache.due TimeCache.later TimeCache.popAll TimeCache.popped TimeCache.expireUntil TimeCache.expiredKeys
 astray = record { gossip = refl; queued = refl; stranger = refl; strangerLinks = refl; ticks64 = refl; ticks1 = refl }

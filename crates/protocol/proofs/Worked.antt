@@ -7,9 +7,9 @@ use mathlib.Core.Option.{none}
 use lib.ListN.{replicate}
 use Rattle.lists.specs.Base.{_▷_, count, any, filter, member, concatMap, all, sum, ascending}
 use Rattle.lists.specs.Map.{lookup, insert, remove, insertKey, removeKey}
-use Rattle.postcard.specs.Number.{got, groups, numberBytes, numberLength, readRound, readGroups, lastGroup, readNumber, readBytes, readKind}
+use Rattle.postcard.specs.Number.{got, groups, numberBytes, numberLength, readRound, readGroups, lastGroup, readNumber, readPadded, kindNumber, readBytes, readKind}
 use Rattle.postcard.specs.Message.{Swarm, toSwarm, toNeighbors, Gossip, Prune, Graft, IHave, DispatchLazyPush, Received, Sent, Scheduled, Emitted, messageBytes, timerBytes, actionBytes}
-use Rattle.postcard.specs.Decode.{readMessage, messageOf, readTimer, timerOf, eventOf, readEvent, ended, decodeEvent}
+use Rattle.postcard.specs.Decode.{messagePart, messageKind, readMessage, messageOf, readTimer, timerOf, eventOf, readEvent, ended, decodeEvent}
 use Rattle.time_cache.specs.TimeCache.{holds, put, addExpiry, get, valueOf, expiresAt, pop, due, later, popAll, expireUntil, expiresOnTime, inPopOrder}
 use Rattle.protocol.specs.Links.{eagerPeers, lazyPeers, eagerIn, marked, peersMarked, markIfThere, addEager, addLazy, linkUp}
 use Rattle.protocol.specs.State.{fresh, zeroCounts, sizeInRange, durationsInRange, limitsInRange, upTo}
@@ -116,7 +116,7 @@ worked hash = record {
 pub panelrun-example : (hash : List ℕ → ℕ) →
     panelrun hash (0x00 ∷ 0x02 ∷ 0x03 ∷ 0x02 ∷ 0x00 ∷ 0x02 ∷ 0x02 ∷ 0x01 ∷ 0x00 ∷ 0x03 ∷ 0x00 ∷ 0x05 ∷ 0x01 ∷ [])
     ≡ 0x00 ∷ 0x00 ∷ 0x00 ∷ 0x04 ∷ 0x02 ∷ 0xE8 ∷ 0x07 ∷ 0x02 ∷ 0x00 ∷ 0x00 ∷ []
-unfolding panelrun runRecords readRecords orCut readRecord readLengthed written readNumber readBytes readGroups lastGroup readKind askWhole ask askRead askOf lastTwo
+unfolding panelrun runRecords readRecords orCut readRecord readLengthed written readNumber readBytes readGroups lastGroup readKind kindNumber messageKind messagePart askWhole ask askRead askOf lastTwo
     tooFar tooFarMessage messageFits countsStay countsBelow outputOf concatMap actionBytes timerBytes messageBytes numberBytes groups decodeEvent ended readEvent eventOf readTimer timerOf readMessage messageOf
     stateAfter countsAfter handle handleMessage onMessage ifNeighbour onTimer countMessage oneControl firstEvent onEvictCacheTimer evict expireUntil due later popAll
     onDispatchTimer dispatchTo queuedPeers clearDispatch perMessage onNeighborUp updateLinks linkUp lookup insert act

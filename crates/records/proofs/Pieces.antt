@@ -37,7 +37,7 @@ last-stays first top b rest more =
     (λ p. cases (eqb b 0 && not first) (λ q. rw (p, q) (λ o. refl)) (λ q. rw (p, q) refl))
     (λ p. rw p (λ o. refl))
 
-groups-stay : (first : Bool) (left top : ℕ) (bytes more : List ℕ) → Stays more (readGroups first left top bytes) (readGroups first left top (bytes ++ more))
+groups-stay : (first : Bool) (left top : ℕ) (bytes more : List ℕ) → Stays more (readGroups false first left top bytes) (readGroups false first left top (bytes ++ more))
 unfolding Stays readGroups
 groups-stay first zero top [] more = λ o. absurd (o refl)
 groups-stay first zero top (b ∷ bytes) more = last-stays first top b bytes more
@@ -45,7 +45,7 @@ groups-stay first (suc left) top [] more = λ o. absurd (o refl)
 groups-stay first (suc left) top (b ∷ bytes) more =
     cases (ltb b 128)
     (λ p. rw p (last-stays first 127 b bytes more))
-    (λ p. rw p (stays-then more (readGroups false left top bytes) (readGroups false left top (bytes ++ more)) (λ high rest. got ((b - 128) + 128 * high) rest)
+    (λ p. rw p (stays-then more (readGroups false false left top bytes) (readGroups false false left top (bytes ++ more)) (λ high rest. got ((b - 128) + 128 * high) rest)
     (groups-stay false left top bytes more) (λ a rest. refl)))
 
 number-stays : (bytes more : List ℕ) → Stays more (readNumber bytes) (readNumber (bytes ++ more))
@@ -79,7 +79,7 @@ unfolding Short
 more-short left b bytes f (got a rest) h = omega arith
 more-short left b bytes f (fault n) h = λ e. let k : length bytes ≤ left = h e in omega arith
 
-groups-short : (first : Bool) (left top : ℕ) (bytes : List ℕ) → Short left bytes (readGroups first left top bytes)
+groups-short : (first : Bool) (left top : ℕ) (bytes : List ℕ) → Short left bytes (readGroups false first left top bytes)
 unfolding Short readGroups
 groups-short first zero top [] = λ e. omega arith
 groups-short first zero top (b ∷ bytes) = last-short first zero top b bytes
@@ -87,7 +87,7 @@ groups-short first (suc left) top [] = λ e. omega arith
 groups-short first (suc left) top (b ∷ bytes) =
     cases (ltb b 128)
     (λ p. rw p (last-short first (suc left) 127 b bytes))
-    (λ p. rw p (more-short left b bytes (λ high. (b - 128) + 128 * high) (readGroups false left top bytes) (groups-short false left top bytes)))
+    (λ p. rw p (more-short left b bytes (λ high. (b - 128) + 128 * high) (readGroups false false left top bytes) (groups-short false left top bytes)))
 
 -- a number takes at most ten bytes
 pub number-short : (bytes : List ℕ) {n : ℕ} {rest : List ℕ} → readNumber bytes ≡ got n rest → length bytes ≤ length rest + 10
@@ -118,9 +118,9 @@ more-cut f (fault n) h = h
 -- a number that one byte 1 more completes
 record Completes (first : Bool) (left top : ℕ) (bytes : List ℕ) : Type 0 where
   value : ℕ
-  reads : readGroups first left top (bytes ++ (1 ∷ [])) ≡ got value []
+  reads : readGroups false first left top (bytes ++ (1 ∷ [])) ≡ got value []
 
-groups-complete : (first : Bool) (left top : ℕ) (bytes : List ℕ) → 1 ≤ top → readGroups first left top bytes ≡ fault 7 → Completes first left top bytes
+groups-complete : (first : Bool) (left top : ℕ) (bytes : List ℕ) → 1 ≤ top → readGroups false first left top bytes ≡ fault 7 → Completes first left top bytes
 unfolding readGroups lastGroup
 groups-complete first zero top [] h e = record { value = 1; reads = rw (le-leb 1 top h) refl }
 groups-complete first zero top (b ∷ bytes) h e = absurd (last-whole first top b bytes e)
@@ -128,31 +128,31 @@ groups-complete first (suc left) top [] h e = record { value = 1; reads = refl }
 groups-complete first (suc left) top (b ∷ bytes) h e =
     cases (ltb b 128)
     (λ p. absurd (last-whole first 127 b bytes (rw p at e)))
-    (λ p. let k = groups-complete false left top bytes h (more-cut (λ high. (b - 128) + 128 * high) (readGroups false left top bytes) (rw p at e)) in
+    (λ p. let k = groups-complete false left top bytes h (more-cut (λ high. (b - 128) + 128 * high) (readGroups false false left top bytes) (rw p at e)) in
     record { value = (b - 128) + 128 * k .value; reads = rw (p, k .reads) refl })
 
 -- a number that is cut, without its first byte
 record Peeled (left top b : ℕ) (bytes : List ℕ) : Type 0 where
   goes-on : 128 ≤ b
-  cut : readGroups false left top bytes ≡ fault 7
+  cut : readGroups false false left top bytes ≡ fault 7
 
-peel : (first : Bool) (left top b : ℕ) (bytes : List ℕ) → readGroups first (suc left) top (b ∷ bytes) ≡ fault 7 → Peeled left top b bytes
+peel : (first : Bool) (left top b : ℕ) (bytes : List ℕ) → readGroups false first (suc left) top (b ∷ bytes) ≡ fault 7 → Peeled left top b bytes
 unfolding readGroups
 peel first left top b bytes e =
     cases (ltb b 128)
     (λ p. absurd (last-whole first 127 b bytes (rw p at e)))
-    (λ p. record { goes-on = ltb-false b 128 p; cut = more-cut (λ high. (b - 128) + 128 * high) (readGroups false left top bytes) (rw p at e) })
+    (λ p. record { goes-on = ltb-false b 128 p; cut = more-cut (λ high. (b - 128) + 128 * high) (readGroups false false left top bytes) (rw p at e) })
 
 -- a number that was read, without its first byte
 record Opened (left top b n : ℕ) (bytes rest : List ℕ) : Type 0 where
   high : ℕ
-  reads : readGroups false left top bytes ≡ got high rest
+  reads : readGroups false false left top bytes ≡ got high rest
   value : n ≡ (b - 128) + 128 * high
 
-unpeel : (first : Bool) (left top b n : ℕ) (bytes rest : List ℕ) → 128 ≤ b → readGroups first (suc left) top (b ∷ bytes) ≡ got n rest → Opened left top b n bytes rest
+unpeel : (first : Bool) (left top b n : ℕ) (bytes rest : List ℕ) → 128 ≤ b → readGroups false first (suc left) top (b ∷ bytes) ≡ got n rest → Opened left top b n bytes rest
 unfolding readGroups
 unpeel first left top b n bytes rest h e =
-    let j = joined (readGroups false left top bytes) (λ high end. got ((b - 128) + 128 * high) end) n rest (rw (le-ltb b 128 h) at e) in
+    let j = joined (readGroups false false left top bytes) (λ high end. got ((b - 128) + 128 * high) end) n rest (rw (le-ltb b 128 h) at e) in
     record { high = j .value; reads = j .before ∙ ap (λ (x : List ℕ). got (j .value) x) (got-rest (j .after)); value = sym (got-value (j .after)) }
 
 -- "shortest": groups after the first make no 0
@@ -172,7 +172,7 @@ last-positive top b n bytes rest h =
     positive zero z = absurd (z refl)
     positive (suc n) z = omega arith
 
-groups-positive : (left top n : ℕ) (bytes rest : List ℕ) → readGroups false left top bytes ≡ got n rest → 1 ≤ n
+groups-positive : (left top n : ℕ) (bytes rest : List ℕ) → readGroups false false left top bytes ≡ got n rest → 1 ≤ n
 unfolding readGroups
 groups-positive zero top n [] rest h = not-got h
 groups-positive zero top n (b ∷ bytes) rest h = last-positive top b n bytes rest h
@@ -230,7 +230,7 @@ unfolding Takes
 more-takes b bytes f (got a rest) h = omega arith
 more-takes b bytes f (fault n) h = tt
 
-groups-take : (first : Bool) (left top : ℕ) (bytes : List ℕ) → Takes bytes (readGroups first left top bytes)
+groups-take : (first : Bool) (left top : ℕ) (bytes : List ℕ) → Takes bytes (readGroups false first left top bytes)
 unfolding Takes readGroups
 groups-take first zero top [] = tt
 groups-take first zero top (b ∷ bytes) = last-takes first top b bytes
@@ -238,7 +238,7 @@ groups-take first (suc left) top [] = tt
 groups-take first (suc left) top (b ∷ bytes) =
     cases (ltb b 128)
     (λ p. rw p (last-takes first 127 b bytes))
-    (λ p. rw p (more-takes b bytes (λ high. (b - 128) + 128 * high) (readGroups false left top bytes) (groups-take false left top bytes)))
+    (λ p. rw p (more-takes b bytes (λ high. (b - 128) + 128 * high) (readGroups false false left top bytes) (groups-take false left top bytes)))
 
 number-takes : (bytes : List ℕ) {n : ℕ} {rest : List ℕ} → readNumber bytes ≡ got n rest → length rest < length bytes
 unfolding readNumber Takes

@@ -133,6 +133,13 @@ mod tests {
         assert_eq!(read(&input, &output), lines);
     }
 
+    /// Padded numbers in a message that came: the kind, then the round.
+    #[test]
+    fn a_padded_message() {
+        let input = [0x00, 0x07, 0x00, 0x02, 0x82, 0x00, 0x00, 0x80, 0x00];
+        assert_eq!(read(&input, &[0x00, 0x00]), ["0 from 2: Graft, round 0"]);
+    }
+
     #[test]
     fn refused_and_cut() {
         // An empty event, an unknown kind, a peer that is cut; then a record that is cut.

@@ -1,7 +1,7 @@
 use std::fmt;
 
 use crate::text;
-use crate::wire::Reader;
+use crate::wire::{Reader, Spelling};
 use crate::{Delivery, Error, Message, Timer};
 
 /// What a call asks of the host.
@@ -41,7 +41,7 @@ pub enum Action<'a> {
 
 impl<'a> Action<'a> {
     /// Reads an action from the left and answers it with the bytes after it; [`Error::EventCut`] or [`Error::EventMalformed`] where
-    /// the bytes begin with none.
+    /// the bytes begin with none. The library writes every number in its shortest form, and no other is read here.
     ///
     /// ```
     /// use plumtree::{Action, Timer};
@@ -54,14 +54,18 @@ impl<'a> Action<'a> {
         let mut r = Reader(bytes);
         let action = match r.byte()? {
             1 => {
-                let peer = r.number(64)?;
+                let peer = r.number(Spelling::Shortest)?;
                 let taken = !r.flag()?;
                 let from = r.0;
-                let message = Message::take(&mut r)?;
+                let message = Message::take(&mut r, Spelling::Shortest)?;
                 Action::Send { peer, taken, message, bytes: &from[..from.len() - r.0.len()] }
             }
-            2 => Action::Schedule { delay: r.number(64)?, timer: Timer::take(&mut r)? },
-            3 => Action::Emit { peer: r.number(64)?, content: r.content()?, delivery: Delivery::take(&mut r)? },
+            2 => Action::Schedule { delay: r.number(Spelling::Shortest)?, timer: Timer::take(&mut r)? },
+            3 => Action::Emit {
+                peer: r.number(Spelling::Shortest)?,
+                content: r.content(Spelling::Shortest)?,
+                delivery: Delivery::take(&mut r, Spelling::Shortest)?,
+            },
             _ => return Err(Error::EventMalformed),
         };
         Ok((action, r.0))

@@ -49,10 +49,11 @@ questions! {
     TimeTooLate = 6, "the time is too late", "Is now ≤ 2^62?";
     EventCut = 7, "the event is cut", "Does each field end within the bytes?";
     EventMalformed = 8, "the event has an unknown kind, or a number that is too wide or not shortest",
-        "Is each kind known, each number in its width and shortest?";
+        "Is each kind known, each number in its width and shortest?",
+        "Inside a received message a number may be padded ([`Message::read`](crate::Message::read)).";
     EventTooLong = 9, "the event has bytes after its end", "Do the bytes end there?";
     MessageTooLong = 10, "the received message is too long", "Is a received message at most M bytes?",
-        "These are the bytes behind the peer's number.";
+        "These are the bytes behind the peer's number, as they came.";
     CountsFull = 11, "a count would pass its greatest value", "Do the counts stay under 2^64?";
     NoMoreHops = 12, "the message is new here and has made 65,535 hops already",
         "Is it anything but a valid Swarm message of round 65,535, unreceived once a first event has evicted?", "Drop it.";

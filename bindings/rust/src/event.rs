@@ -1,7 +1,7 @@
 use std::fmt;
 
 use crate::text;
-use crate::wire::{write_number, Reader};
+use crate::wire::{write_number, Reader, Spelling};
 use crate::{Error, Message, Timer};
 
 /// Who a broadcast is for.
@@ -36,7 +36,7 @@ pub enum Event<'a> {
     ReceivedBytes {
         /// Who sent them.
         peer: u64,
-        /// The bytes, as they came.
+        /// The bytes, as they came. Numbers in them may be padded ([`Message::read`]), and M bounds the bytes as they are.
         bytes: &'a [u8],
     },
     /// The panel's own message is to go out. A content over [`longest_content`](crate::longest_content) is accepted and sent to nobody.
@@ -57,26 +57,26 @@ pub enum Event<'a> {
 
 impl<'a> Event<'a> {
     /// Reads an event that is these bytes: questions 7, 8 and 9 of them, answered as the library does. A message is read as
-    /// [`Event::Received`].
+    /// [`Event::Received`]; its numbers may be padded ([`Message::read`]), the event's own may not.
     pub fn read(bytes: &'a [u8]) -> Result<Event<'a>, Error> {
         let mut r = Reader(bytes);
         let event = match r.byte()? {
-            0 => Event::Received { peer: r.number(64)?, message: Message::take(&mut r)? },
+            0 => Event::Received { peer: r.number(Spelling::Shortest)?, message: Message::take(&mut r, Spelling::Padded)? },
             1 => {
-                let content = r.content()?;
+                let content = r.content(Spelling::Shortest)?;
                 let scope = if r.flag()? { Scope::Neighbors } else { Scope::Swarm };
                 Event::Broadcast { content, scope }
             }
             2 => Event::Timer(Timer::take(&mut r)?),
-            3 => Event::Up(r.number(64)?),
-            4 => Event::Down(r.number(64)?),
+            3 => Event::Up(r.number(Spelling::Shortest)?),
+            4 => Event::Down(r.number(Spelling::Shortest)?),
             _ => return Err(Error::EventMalformed),
         };
         r.end()?;
         Ok(event)
     }
 
-    /// Appends the event's bytes.
+    /// Appends the event's bytes: numbers in their shortest form, but for [`Event::ReceivedBytes`], which stand as they came.
     pub fn write(&self, out: &mut Vec<u8>) {
         match self {
             Event::Received { peer, message } => {

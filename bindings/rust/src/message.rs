@@ -1,7 +1,7 @@
 use std::fmt;
 
 use crate::text;
-use crate::wire::{write_number, Reader};
+use crate::wire::{write_number, Reader, Spelling};
 use crate::Error;
 
 /// The identifier of a message: BLAKE3 of its content.
@@ -54,23 +54,25 @@ pub enum Message<'a> {
 }
 
 impl<'a> Message<'a> {
-    /// Reads a message that is these bytes: questions 7, 8 and 9 of them.
+    /// Reads a message that is these bytes, as the library reads one that came: questions 7, 8 and 9 of them. Kinds, lengths, counts and rounds
+    /// may be padded: a kind to five bytes, a length or a count to ten, a round to three.
     ///
     /// ```
     /// use plumtree::{Error, Message};
     /// assert_eq!(Message::read(&[2, 0, 3]), Ok(Message::Graft { id: None, round: 3 }));
+    /// assert_eq!(Message::read(&[2, 0, 0x83, 0x00]), Ok(Message::Graft { id: None, round: 3 }));
     /// assert_eq!(Message::read(&[2, 0]), Err(Error::EventCut));
     /// assert_eq!(Message::read(&[2, 2, 3]), Err(Error::EventMalformed));
     /// assert_eq!(Message::read(&[1, 0]), Err(Error::EventTooLong));
     /// ```
     pub fn read(bytes: &'a [u8]) -> Result<Message<'a>, Error> {
         let mut r = Reader(bytes);
-        let message = Message::take(&mut r)?;
+        let message = Message::take(&mut r, Spelling::Padded)?;
         r.end()?;
         Ok(message)
     }
 
-    /// Appends the message's bytes, as they go over a link.
+    /// Appends the message's bytes, as they go over a link: numbers in their shortest form.
     pub fn write(&self, out: &mut Vec<u8>) {
         match self {
             Message::Gossip { id, content, delivery } => {
@@ -100,27 +102,28 @@ impl<'a> Message<'a> {
         }
     }
 
-    /// The message's bytes, as they go over a link.
+    /// The message's bytes, as they go over a link: numbers in their shortest form.
     pub fn to_bytes(&self) -> Vec<u8> {
         let mut out = Vec::new();
         self.write(&mut out);
         out
     }
 
-    pub(crate) fn take(r: &mut Reader<'a>) -> Result<Message<'a>, Error> {
-        match r.byte()? {
-            0 => Ok(Message::Gossip { id: r.id()?, content: r.content()?, delivery: Delivery::take(r)? }),
+    /// A message whose numbers stand in these forms. Its kind is judged at its last byte.
+    pub(crate) fn take(r: &mut Reader<'a>, spelling: Spelling) -> Result<Message<'a>, Error> {
+        match r.kind(spelling)? {
+            0 => Ok(Message::Gossip { id: r.id()?, content: r.content(spelling)?, delivery: Delivery::take(r, spelling)? }),
             1 => Ok(Message::Prune),
             2 => {
                 let id = if r.flag()? { Some(r.id()?) } else { None };
-                Ok(Message::Graft { id, round: r.round()? })
+                Ok(Message::Graft { id, round: r.round(spelling)? })
             }
             3 => {
                 // Entry by entry: a count can be any number, the bytes end.
-                let count = r.number(64)?;
+                let count = r.number(spelling)?;
                 let mut list = Vec::new();
                 for _ in 0..count {
-                    list.push(Announced { id: r.id()?, round: r.round()? });
+                    list.push(Announced { id: r.id()?, round: r.round(spelling)? });
                 }
                 Ok(Message::IHave(list))
             }
@@ -140,11 +143,11 @@ impl Delivery {
         }
     }
 
-    pub(crate) fn take(r: &mut Reader<'_>) -> Result<Delivery, Error> {
-        if r.flag()? {
-            Ok(Delivery::Neighbors)
-        } else {
-            Ok(Delivery::Swarm { round: r.round()? })
+    pub(crate) fn take(r: &mut Reader<'_>, spelling: Spelling) -> Result<Delivery, Error> {
+        match r.kind(spelling)? {
+            0 => Ok(Delivery::Swarm { round: r.round(spelling)? }),
+            1 => Ok(Delivery::Neighbors),
+            _ => Err(Error::EventMalformed),
         }
     }
 }

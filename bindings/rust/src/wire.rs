@@ -24,8 +24,17 @@ pub fn write_number(out: &mut Vec<u8>, mut value: u64) {
 /// ```
 pub fn read_number(bytes: &[u8]) -> Result<(u64, &[u8]), Error> {
     let mut r = Reader(bytes);
-    let value = r.number(64)?;
+    let value = r.number(Spelling::Shortest)?;
     Ok((value, r.0))
+}
+
+/// Which forms of a number are read.
+#[derive(Clone, Copy, PartialEq, Eq)]
+pub(crate) enum Spelling {
+    /// The shortest alone: an event's own fields, and actions.
+    Shortest,
+    /// Padded ones too, up to the number's greatest length: inside a received message.
+    Padded,
 }
 
 /// What is left to read.
@@ -44,7 +53,7 @@ impl<'a> Reader<'a> {
     }
 
     /// A number of so many bits. "A number's last allowed byte, if it goes on or is too large, is 8."
-    pub(crate) fn number(&mut self, bits: u32) -> Result<u64, Error> {
+    fn groups(&mut self, bits: u32, spelling: Spelling) -> Result<u64, Error> {
         let mut value = 0;
         let mut shift = 0;
         loop {
@@ -53,7 +62,7 @@ impl<'a> Reader<'a> {
             if left < 8 && b >> left != 0 {
                 return Err(Error::EventMalformed);
             }
-            if b == 0 && shift > 0 {
+            if b == 0 && shift > 0 && spelling == Spelling::Shortest {
                 return Err(Error::EventMalformed);
             }
             value |= u64::from(b & 127) << shift;
@@ -64,16 +73,26 @@ impl<'a> Reader<'a> {
         }
     }
 
-    pub(crate) fn round(&mut self) -> Result<u16, Error> {
-        Ok(self.number(16)? as u16)
+    /// A peer, a time, a length or a count.
+    pub(crate) fn number(&mut self, spelling: Spelling) -> Result<u64, Error> {
+        self.groups(64, spelling)
+    }
+
+    /// A message's or a delivery's kind, not judged yet.
+    pub(crate) fn kind(&mut self, spelling: Spelling) -> Result<u64, Error> {
+        self.groups(32, spelling)
+    }
+
+    pub(crate) fn round(&mut self, spelling: Spelling) -> Result<u16, Error> {
+        Ok(self.groups(16, spelling)? as u16)
     }
 
     pub(crate) fn id(&mut self) -> Result<[u8; 32], Error> {
         Ok(self.take(32)?.try_into().expect("32 bytes"))
     }
 
-    pub(crate) fn content(&mut self) -> Result<&'a [u8], Error> {
-        let n = self.number(64)?;
+    pub(crate) fn content(&mut self, spelling: Spelling) -> Result<&'a [u8], Error> {
+        let n = self.number(spelling)?;
         self.take(n)
     }
 

@@ -165,6 +165,11 @@ fn events() {
     refused(&mut p, 0, &long(4057, 128), 40_960, Error::MessageTooLong);
     let mut output = vec![0; 40_960];
     assert!(p.event_bytes(0, &long(4057, 127), &[], &mut output).is_ok());
+    // By its bytes as they came: with round 127 as FF 00 it is one too long.
+    let mut padded = long(4057, 127);
+    *padded.last_mut().unwrap() = 0xff;
+    padded.push(0x00);
+    refused(&mut p, 0, &padded, 40_960, Error::MessageTooLong);
 
     // 11: of either count.
     p.stats_mut().control_messages_received = u64::MAX;
@@ -211,6 +216,37 @@ fn a_byte_more_than_m() {
     assert_eq!(bytes.len(), 511);
     let event = Event::ReceivedBytes { peer: 2, bytes };
     assert_eq!(Panel::new(settings, Limits::SMALL).unwrap().event(0, &event, &[], &mut [0; 4096]).unwrap_err(), Error::MessageTooLong);
+}
+
+/// Messages with padded numbers lead to the same actions, counts and state as in their shortest form: what is sent and emitted is shortest.
+#[test]
+fn padded_messages() {
+    let hot = gossip(b"hot", 0);
+    let Ok(Message::Gossip { id, .. }) = Message::read(&hot) else { panic!("a Gossip") };
+    let pairs = [
+        // The message's kind, the content's length, the delivery's kind and the round; a round of a message that was received.
+        (hot.clone(), [&[0x80, 0x00], &id[..], &[0x83, 0x80, 0x00], b"hot", &[0x80, 0x80, 0x80, 0x80, 0x00, 0x80, 0x80, 0x00]].concat()),
+        (hot.clone(), [&hot[..hot.len() - 1], &[0x80, 0x00]].concat()),
+        // A Graft for it, which is answered; a count and two rounds of an IHave.
+        ([&[2, 1], &id[..], &[1]].concat(), [&[0x82, 0x00, 1], &id[..], &[0x81, 0x00]].concat()),
+        (
+            [&[3, 2], &[8; 32][..], &[5], &[9; 32], &[6]].concat(),
+            [&[3, 0x82, 0x00], &[8; 32][..], &[0x85, 0x00], &[9; 32], &[0x86, 0x80, 0x00]].concat(),
+        ),
+        (vec![1], vec![0x81, 0x80, 0x80, 0x80, 0x00]),
+    ];
+    let (mut a, mut b) = (panel(Limits::SMALL), panel(Limits::SMALL));
+    for (shortest, padded) in &pairs {
+        let actions = |p: &mut Panel, bytes| {
+            let mut output = [0; 4096];
+            p.event(1, &Event::ReceivedBytes { peer: 2, bytes }, &[], &mut output).unwrap().bytes().to_vec()
+        };
+        assert_eq!(Message::read(padded).unwrap().to_bytes(), *shortest);
+        assert_eq!(actions(&mut a, shortest), actions(&mut b, padded));
+        assert_eq!(a.stats(), b.stats());
+        assert_eq!(a.alike(&b), Ok(true));
+    }
+    assert_eq!((a.stats().payload_messages_received, a.stats().control_messages_received), (2, 3));
 }
 
 /// The longest content goes to both neighbours, a byte more to nobody.

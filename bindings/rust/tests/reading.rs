@@ -1,4 +1,5 @@
-//! The readers and writers of this crate beside the library's: they agree on every event of at most two bytes, and on events that were damaged.
+//! The readers and writers of this crate beside the library's: they agree on every event of at most two bytes, on events that were damaged, and on
+//! each number of a message in each of its lengths.
 use plumtree::{Action, Announced, Delivery, Error, Event, Limits, LinkRoom, Message, Panel, Scope, Settings, Timer};
 
 /// The library's answer to an event where it is 7, 8 or 9; none where the event was read.
@@ -9,11 +10,15 @@ fn library(p: &mut Panel, event: &[u8], output: &mut [u8]) -> Option<Error> {
     }
 }
 
-/// This crate's answer. What it reads it writes back to the same bytes.
+/// This crate's answer. What it reads it writes back to the same bytes, or, of a message with padded numbers, to fewer that are read as the same.
 fn crates(event: &[u8]) -> Option<Error> {
     match Event::read(event) {
         Ok(e) => {
-            assert_eq!(e.to_bytes(), event);
+            let shortest = e.to_bytes();
+            if shortest != event {
+                assert!(matches!(e, Event::Received { .. }) && shortest.len() < event.len(), "{event:02x?}");
+                assert_eq!(Event::read(&shortest), Ok(e));
+            }
             None
         }
         Err(e) => Some(e),
@@ -87,7 +92,7 @@ impl Rng {
         }
     }
 
-    /// A bit, a byte, a cut, bytes at the end, or a number that is not shortest.
+    /// A bit, a byte, a cut, bytes at the end, a padded number, or one that is too wide.
     fn damage(&mut self, bytes: &mut Vec<u8>) {
         let at = self.below(bytes.len());
         match self.below(6) {
@@ -151,6 +156,135 @@ fn sent_bytes() {
     }
     assert!(left.is_empty());
     assert_eq!(sends, [(2, true), (3, false), (300, true)]);
+}
+
+/// A number in so many bytes.
+fn spelt(value: u64, length: usize) -> Vec<u8> {
+    let group = |i: usize| if 7 * i < 64 { (value >> (7 * i)) as u8 & 127 } else { 0 };
+    (0..length).map(|i| if i + 1 < length { group(i) | 128 } else { group(i) }).collect()
+}
+
+/// The width of a number: its greatest length, and what its last byte then is at most.
+type Width = (usize, u8);
+
+const ROUND: Width = (3, 0x03);
+const KIND: Width = (5, 0x0f);
+const NUMBER: Width = (10, 0x01);
+
+const ID: [u8; 32] = [9; 32];
+
+/// Each number of a message: the bytes of an event before it, the number, its width, and the bytes after it.
+fn numbers_of_messages() -> Vec<(Vec<u8>, u64, Width, Vec<u8>)> {
+    let gossip = |rest: &[u8]| [&[0, 2, 0], &ID[..], rest].concat();
+    let entry = |rest: &[u8]| [&ID[..], rest].concat();
+    let message_kinds = [(0, gossip(&[1, b'x', 1])[3..].to_vec()), (1, vec![]), (2, vec![0, 7]), (3, vec![0])];
+    let mut all: Vec<_> = message_kinds.into_iter().map(|(kind, rest)| (vec![0, 2], kind, KIND, rest)).collect();
+    all.push((gossip(&[1, b'x']), 0, KIND, vec![7]));
+    all.push((gossip(&[1, b'x']), 1, KIND, vec![]));
+    all.push((gossip(&[]), 3, NUMBER, vec![b'x', b'y', b'z', 1]));
+    all.push((vec![0, 2, 3], 2, NUMBER, [entry(&[7]), entry(&[8])].concat()));
+    for round in [0, 7, 300, 65_535] {
+        all.push((gossip(&[1, b'x', 0]), round, ROUND, vec![]));
+        all.push((vec![0, 2, 2, 0], round, ROUND, vec![]));
+        all.push(([&[0, 2, 2, 1], &ID[..]].concat(), round, ROUND, vec![]));
+        all.push(([&[0, 2, 3, 2], &ID[..]].concat(), round, ROUND, entry(&[8])));
+    }
+    all
+}
+
+/// In every length up to its greatest a number of a message is read, as the same; there it is refused if it goes on or is too large; where the
+/// bytes end before it does it is cut.
+#[test]
+fn padded_messages() {
+    let mut p = Panel::new(Settings::of_panel(1), Limits::SMALL).unwrap();
+    let mut output = vec![0; 40_960];
+    let mut answers = |event: &[u8], answer: Option<Error>| {
+        assert_eq!(crates(event), answer, "{event:02x?}");
+        assert_eq!(library(&mut p, event, &mut output), answer, "{event:02x?}");
+    };
+    for (before, value, (greatest, top), after) in numbers_of_messages() {
+        let event = |number: &[u8]| [&before[..], number, &after].concat();
+        let mut shortest = Vec::new();
+        plumtree::write_number(&mut shortest, value);
+        for length in shortest.len()..=greatest {
+            let padded = event(&spelt(value, length));
+            answers(&padded, None);
+            assert_eq!(Event::read(&padded), Event::read(&event(&shortest)));
+        }
+        for length in 0..greatest {
+            answers(&[&before[..], &vec![0x80; length]].concat(), Some(Error::EventCut));
+        }
+        for last in [top + 1, 0x7f, 0x80, 0x80 | top, 0xff] {
+            let wide = [vec![0x80; greatest - 1], vec![last]].concat();
+            answers(&event(&wide), Some(Error::EventMalformed));
+            answers(&[&before[..], &wide].concat(), Some(Error::EventMalformed));
+        }
+        let over = spelt(value, greatest + 1);
+        answers(&event(&over), Some(Error::EventMalformed));
+    }
+}
+
+/// A kind is judged at its last byte, and no sooner; a Graft's byte 0 or 1 is no number; an event's own fields have one form.
+#[test]
+fn padded_or_not() {
+    use Error::{EventCut, EventMalformed};
+    let mut p = Panel::new(Settings::of_panel(1), Limits::SMALL).unwrap();
+    let mut output = vec![0; 40_960];
+    for (event, answer) in [
+        // Message kinds.
+        (&[0, 2, 0x04][..], Some(EventMalformed)),
+        (&[0, 2, 0x84], Some(EventCut)),
+        (&[0, 2, 0x84, 0x00], Some(EventMalformed)),
+        (&[0, 2, 0x81, 0x80, 0x80, 0x80, 0x00], None),
+        (&[0, 2, 0x81, 0x80, 0x80, 0x80, 0x01], Some(EventMalformed)),
+        (&[0, 2, 0x81, 0x80, 0x80, 0x80, 0x0f], Some(EventMalformed)),
+        (&[0, 2, 0x81, 0x80, 0x80, 0x80, 0x80], Some(EventMalformed)),
+        // Rounds.
+        (&[0, 2, 2, 0, 0x80, 0x00], None),
+        (&[0, 2, 2, 0, 0x80, 0x80, 0x00], None),
+        (&[0, 2, 2, 0, 0x80, 0x80], Some(EventCut)),
+        (&[0, 2, 2, 0, 0x80, 0x80, 0x80], Some(EventMalformed)),
+        (&[0, 2, 2, 0, 0x80, 0x80, 0x04], Some(EventMalformed)),
+        // A Graft's byte 0 or 1.
+        (&[0, 2, 2, 0x80, 0x00, 0], Some(EventMalformed)),
+        (&[0, 2, 2, 0x80], Some(EventMalformed)),
+        // The event's kind, peers, a broadcast's length and byte, a timer's kind.
+        (&[0x80, 0x00, 2, 1], Some(EventMalformed)),
+        (&[0, 0x82, 0x00, 1], Some(EventMalformed)),
+        (&[3, 0x82, 0x00], Some(EventMalformed)),
+        (&[4, 0x82, 0x00], Some(EventMalformed)),
+        (&[1, 0x81, 0x00, 0x41, 0], Some(EventMalformed)),
+        (&[1, 1, 0x41, 0x80, 0x00], Some(EventMalformed)),
+        (&[2, 0x81, 0x00], Some(EventMalformed)),
+    ] {
+        assert_eq!(crates(event), answer, "{event:02x?}");
+        assert_eq!(library(&mut p, event, &mut output), answer, "{event:02x?}");
+    }
+}
+
+/// Of actions the shortest form alone is read, inside messages too.
+#[test]
+fn padded_actions() {
+    // The bytes of an action; which of them are numbers.
+    let gossip = [&[1, 2, 0, 0], &ID[..], &[1, b'x', 0, 7]].concat();
+    let ihave = [&[1, 2, 0, 3, 1], &ID[..], &[7]].concat();
+    for (action, places) in [
+        (&gossip[..], &[1, 3, 36, 38, 39][..]),
+        (&[1, 2, 1, 1], &[1, 3]),
+        (&[1, 2, 0, 2, 0, 7], &[1, 3, 5]),
+        (&ihave, &[1, 3, 4, 37]),
+        (&[2, 5, 1], &[1]),
+        (&[3, 2, 1, b'x', 0, 7], &[1, 2, 4, 5]),
+        (&[3, 2, 1, b'x', 1], &[1, 2, 4]),
+    ] {
+        let (_, rest) = Action::read(action).unwrap();
+        assert!(rest.is_empty());
+        for &at in places {
+            let mut padded = action.to_vec();
+            padded.splice(at..=at, [action[at] | 0x80, 0x00]);
+            assert_eq!(Action::read(&padded), Err(Error::EventMalformed), "{padded:02x?}");
+        }
+    }
 }
 
 #[test]

@@ -44,12 +44,14 @@ fn read_event(bytes: &[u8], m: usize) -> Result<Ev, u8> {
     Ok(ev)
 }
 
+/// Reads an event's fields: a received message in plain Postcard, all else shortest. `size` becomes
+/// the number of the message's bytes as received.
 fn read_kinds(de: &mut De<'_>, size: &mut usize) -> Result<Ev, Error> {
     Ok(match de.byte()? {
         0 => {
             let peer = de.number(64)?;
             let before = de.rest.len();
-            let message = de.read::<plumtree::Message>()?;
+            let message = de.read_plain::<plumtree::Message>()?;
             *size = before - de.rest.len();
             Ev::In(InEvent::RecvMessage(peer, message))
         }

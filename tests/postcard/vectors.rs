@@ -1,11 +1,13 @@
 //! Makes the events that `crates/postcard_vectors` replays, and what each holds.
 //!
 //! `types.rs` has the message types of `plumtree.rs` with their serde derives (make_vectors.py takes them out). Events are written by `Serialize` and read by
-//! `Deserialize`, so the kinds and the order of the fields are the Rust's; `postcard` is the stand-in that reads as strictly as document 01.
+//! `Deserialize`, so the kinds and the order of the fields are the Rust's; `postcard` is the stand-in, which reads plain Postcard inside a received
+//! message and shortest numbers elsewhere.
 //! Writes the two files named on the command line: an event to a line, and what it holds to a line.
 use bytes::Bytes;
 use postcard::{put_number, to_vec, De, Error};
 use serde::{Deserialize, Serialize};
+use std::collections::HashSet;
 use std::fmt::Write;
 
 include!("types.rs");
@@ -43,7 +45,7 @@ fn read_kinds(de: &mut De<'_>) -> Result<(Event, usize), Error> {
         0 => {
             let peer = de.number(64)?;
             let before = de.rest.len();
-            let message = de.read()?;
+            let message = de.read_plain()?;
             return Ok((Event::Received(peer, message), before - de.rest.len()));
         }
         1 => Event::Broadcast(de.read()?, de.read()?),
@@ -120,9 +122,10 @@ fn message_words(m: &Message) -> String {
     }
 }
 
-/// The two files, and how many cases there are of each answer.
+/// The two files, each event once, and how many cases there are of each answer.
 #[derive(Default)]
 struct Cases {
+    seen: HashSet<Vec<u8>>,
     events: String,
     answers: String,
     counts: [usize; 4],
@@ -131,14 +134,16 @@ struct Cases {
 impl Cases {
     fn add(&mut self, bytes: &[u8]) -> Result<Event, u8> {
         assert!(bytes.len() <= 4_096);
-        let spelt: String = bytes.iter().map(|b| format!("{b:02x}")).collect();
-        writeln!(self.events, "{:04x} {spelt}", bytes.len()).unwrap();
         let answer = read(bytes);
-        match &answer {
-            Ok((event, size)) => writeln!(self.answers, "{}", words(event, *size)).unwrap(),
-            Err(n) => writeln!(self.answers, "{n}").unwrap(),
+        if self.seen.insert(bytes.to_vec()) {
+            let spelt: String = bytes.iter().map(|b| format!("{b:02x}")).collect();
+            writeln!(self.events, "{:04x} {spelt}", bytes.len()).unwrap();
+            match &answer {
+                Ok((event, size)) => writeln!(self.answers, "{}", words(event, *size)).unwrap(),
+                Err(n) => writeln!(self.answers, "{n}").unwrap(),
+            }
+            self.counts[answer.as_ref().map_or_else(|n| *n as usize - 6, |_| 0)] += 1;
         }
-        self.counts[answer.as_ref().map_or_else(|n| *n as usize - 6, |_| 0)] += 1;
         answer.map(|(event, _)| event)
     }
 
@@ -147,9 +152,12 @@ impl Cases {
         assert!(self.add(bytes).err() == Some(n), "{} is not {n}", hex(bytes));
     }
 
+    fn read_as(&mut self, bytes: &[u8], event: &Event) {
+        assert!(self.add(bytes).ok().as_ref() == Some(event), "{}", hex(bytes));
+    }
+
     fn accept(&mut self, event: &Event) {
-        let bytes = write(event);
-        assert!(self.add(&bytes).ok().as_ref() == Some(event), "{}", hex(&bytes));
+        self.read_as(&write(event), event);
     }
 }
 
@@ -158,12 +166,18 @@ impl Cases {
 enum Field {
     /// A kind byte, and how many kinds there are.
     Kind(u8, u8),
-    Id(u8),
-    /// A number, and its width.
+    /// An identifier or a content.
+    Bytes(Vec<u8>),
+    /// A number in its shortest form, and its width.
     Number(u64, u32),
-    /// The bytes of a content.
-    Content(Vec<u8>),
+    /// A number of a message, which may be padded, and its width.
+    Padded(u64, u32),
+    /// A message's or delivery's kind, which may be padded, and how many kinds there are.
+    PaddedKind(u64, u64),
 }
+
+/// The bits of a message's or delivery's kind.
+const KIND_BITS: u32 = 32;
 
 fn number(v: u64) -> Vec<u8> {
     let mut out = Vec::new();
@@ -171,24 +185,38 @@ fn number(v: u64) -> Vec<u8> {
     out
 }
 
+/// The number in so many bytes.
+fn padded(v: u64, length: usize) -> Vec<u8> {
+    let mut out = number(v);
+    if out.len() < length {
+        *out.last_mut().unwrap() |= 0x80;
+        out.resize(length - 1, 0x80);
+        out.push(0);
+    }
+    out
+}
+
+/// The greatest length of a number of so many bits.
+fn greatest(bits: u32) -> usize {
+    (bits as usize).div_ceil(7)
+}
+
 fn spelt(f: &Field) -> Vec<u8> {
     match f {
         Field::Kind(k, _) => vec![*k],
-        Field::Id(b) => (0..32).map(|i| b.wrapping_add(i)).collect(),
-        Field::Number(v, _) => number(*v),
-        Field::Content(c) => c.clone(),
+        Field::Bytes(b) => b.clone(),
+        Field::Number(v, _) | Field::Padded(v, _) | Field::PaddedKind(v, _) => number(*v),
     }
 }
 
-/// Spellings of a number that are refused, with the answer.
+/// Spellings of a number that are cut or too wide, with the answer.
 fn bad_numbers(bits: u32) -> Vec<(Vec<u8>, u8)> {
-    let last = (bits as usize).div_ceil(7);
+    let last = greatest(bits);
     let top = 1u8 << (bits as usize - 7 * (last - 1));
     let mut all = Vec::new();
     for k in 1..last {
         all.push((vec![0x80; k], 7));
         all.push((vec![0xff; k], 7));
-        all.push(([vec![0x80; k], vec![0]].concat(), 8));
     }
     for end in [top, 0x7f, 0x80, 0x80 + top - 1, 0xff] {
         all.push(([vec![0xff; last - 1], vec![end]].concat(), 8));
@@ -196,10 +224,35 @@ fn bad_numbers(bits: u32) -> Vec<(Vec<u8>, u8)> {
     all
 }
 
-/// Each refusal at each field of an event.
+/// Padded spellings where the number must be shortest.
+fn not_shortest(bits: u32) -> Vec<(Vec<u8>, u8)> {
+    (2..=greatest(bits)).map(|length| (padded(0, length), 8)).collect()
+}
+
+/// A number of a message with a byte over its greatest length.
+fn one_over(v: u64, bits: u32) -> (Vec<u8>, u8) {
+    (padded(v, greatest(bits) + 1), 8)
+}
+
+/// Kinds that are not known, of each length; each is judged at its last byte.
+fn unknown_kinds(kinds: u64) -> Vec<(Vec<u8>, u8)> {
+    let mut all = Vec::new();
+    for length in 1..=greatest(KIND_BITS) {
+        for unknown in [kinds, 0x7f] {
+            all.push((padded(unknown, length), 8));
+        }
+    }
+    for unknown in [0x80, 1 << 28, (1 << 28) + 1, (1 << KIND_BITS) - 1] {
+        all.push((number(unknown), 8));
+    }
+    all.push((vec![0x80 | kinds as u8], 7));
+    all
+}
+
+/// Each refusal at each field of an event, and each length in which a number of a message is read.
 fn refusals(cases: &mut Cases, fields: &[Field]) {
     let whole: Vec<u8> = fields.iter().flat_map(spelt).collect();
-    assert!(cases.add(&whole).is_ok());
+    let event = cases.add(&whole).unwrap_or_else(|n| panic!("{} is {n}", hex(&whole)));
     for cut in 0..whole.len() {
         cases.refuse(&whole[..cut], 7);
     }
@@ -208,49 +261,84 @@ fn refusals(cases: &mut Cases, fields: &[Field]) {
     for (i, f) in fields.iter().enumerate() {
         let before: Vec<u8> = fields[..i].iter().flat_map(spelt).collect();
         let after: Vec<u8> = fields[i + 1..].iter().flat_map(spelt).collect();
-        match f {
-            Field::Kind(_, kinds) => {
-                for bad in [*kinds, 0x7f, 0x80, 0xff] {
-                    cases.refuse(&[&before[..], &[bad], &after].concat(), 8);
-                    cases.refuse(&[&before[..], &[bad]].concat(), 8);
-                }
+        let (bad, lengths) = match f {
+            Field::Kind(_, kinds) => ([*kinds, 0x7f, 0x80, 0xff].map(|bad| (vec![bad], 8)).to_vec(), vec![]),
+            Field::Bytes(_) => (vec![], vec![]),
+            Field::Number(_, bits) => ([bad_numbers(*bits), not_shortest(*bits)].concat(), vec![]),
+            Field::Padded(v, bits) => ([bad_numbers(*bits), vec![one_over(*v, *bits)]].concat(), lengths(*v, *bits)),
+            Field::PaddedKind(v, kinds) => {
+                ([bad_numbers(KIND_BITS), vec![one_over(*v, KIND_BITS)], unknown_kinds(*kinds)].concat(), lengths(*v, KIND_BITS))
             }
-            Field::Number(_, bits) => {
-                for (bad, n) in bad_numbers(*bits) {
-                    cases.refuse(&[before.clone(), bad.clone()].concat(), n);
-                    if n == 8 {
-                        cases.refuse(&[before.clone(), bad, after.clone()].concat(), n);
-                    }
-                }
+        };
+        for (bad, n) in bad {
+            cases.refuse(&[before.clone(), bad.clone()].concat(), n);
+            if n == 8 {
+                cases.refuse(&[before.clone(), bad, after.clone()].concat(), n);
             }
-            Field::Id(_) | Field::Content(_) => {}
+        }
+        for good in lengths {
+            cases.read_as(&[before.clone(), good, after.clone()].concat(), &event);
         }
     }
+}
+
+/// The padded spellings of a number.
+fn lengths(v: u64, bits: u32) -> Vec<Vec<u8>> {
+    (number(v).len() + 1..=greatest(bits)).map(|length| padded(v, length)).collect()
 }
 
 /// An event of each kind, field by field.
 fn shapes() -> Vec<Vec<Field>> {
     use Field::*;
-    let received = |rest: &[Field]| [&[Kind(0, 5), Number(300, 64)], rest].concat();
-    let content = || [Number(3, 64), Content(vec![7, 8, 9])];
-    let gossip = |rest: &[Field]| received(&[&[Kind(0, 4), Id(16)], &content()[..], rest].concat());
-    let broadcast = |scope: u8| [&[Kind(1, 5)], &content()[..], &[Kind(scope, 2)]].concat();
+    let id = |first: u8| Bytes((0..32).map(|i| first.wrapping_add(i)).collect());
+    let content = || Bytes(vec![7, 8, 9]);
+    let received = |message: &[Field]| [&[Kind(0, 5), Number(300, 64)], message].concat();
+    let gossip = |delivery: &[Field]| received(&[&[PaddedKind(0, 4), id(16), Padded(3, 64), content()], delivery].concat());
+    let broadcast = |scope: u8| vec![Kind(1, 5), Number(3, 64), content(), Kind(scope, 2)];
     vec![
-        gossip(&[Kind(0, 2), Number(20_000, 16)]),
-        gossip(&[Kind(1, 2)]),
-        received(&[Kind(1, 4)]),
-        received(&[Kind(2, 4), Kind(0, 2), Number(128, 16)]),
-        received(&[Kind(2, 4), Kind(1, 2), Id(48), Number(65_535, 16)]),
-        received(&[Kind(3, 4), Number(2, 64), Id(80), Number(1, 16), Id(112), Number(16_384, 16)]),
+        gossip(&[PaddedKind(0, 2), Padded(20_000, 16)]),
+        gossip(&[PaddedKind(0, 2), Padded(0, 16)]),
+        gossip(&[PaddedKind(1, 2)]),
+        received(&[PaddedKind(1, 4)]),
+        received(&[PaddedKind(2, 4), Kind(0, 2), Padded(128, 16)]),
+        received(&[PaddedKind(2, 4), Kind(0, 2), Padded(0, 16)]),
+        received(&[PaddedKind(2, 4), Kind(1, 2), id(48), Padded(65_535, 16)]),
+        received(&[PaddedKind(3, 4), Padded(2, 64), id(80), Padded(1, 16), id(112), Padded(16_384, 16)]),
+        received(&[PaddedKind(3, 4), Padded(0, 64)]),
         broadcast(0),
         broadcast(1),
-        vec![Kind(2, 5), Kind(0, 4), Id(144)],
+        vec![Kind(2, 5), Kind(0, 4), id(144)],
         vec![Kind(2, 5), Kind(1, 4)],
         vec![Kind(2, 5), Kind(2, 4)],
         vec![Kind(2, 5), Kind(3, 4)],
         vec![Kind(3, 5), Number(1 << 40, 64)],
         vec![Kind(4, 5), Number(127, 64)],
     ]
+}
+
+/// The fields of a message.
+fn fields_of(message: &Message) -> Vec<Field> {
+    use Field::*;
+    let id = |id: &MessageId| Bytes(id.0.to_vec());
+    let round = |r: Round| Padded(r.0.into(), 16);
+    match message {
+        Message::Gossip(g) => {
+            let mut fields = vec![PaddedKind(0, 4), id(&g.id), Padded(g.content.len() as u64, 64), Bytes(g.content.to_vec())];
+            match g.scope {
+                DeliveryScope::Swarm(r) => fields.extend([PaddedKind(0, 2), round(r)]),
+                DeliveryScope::Neighbors => fields.push(PaddedKind(1, 2)),
+            }
+            fields
+        }
+        Message::Prune => vec![PaddedKind(1, 4)],
+        Message::Graft(Graft { id: None, round: r }) => vec![PaddedKind(2, 4), Kind(0, 2), round(*r)],
+        Message::Graft(Graft { id: Some(wanted), round: r }) => vec![PaddedKind(2, 4), Kind(1, 2), id(wanted), round(*r)],
+        Message::IHave(list) => {
+            let mut fields = vec![PaddedKind(3, 4), Padded(list.len() as u64, 64)];
+            list.iter().for_each(|h| fields.extend([id(&h.id), round(h.round)]));
+            fields
+        }
+    }
 }
 
 /// Numbers at the edges of each count of groups: peers, and rounds.
@@ -308,7 +396,8 @@ fn worked(cases: &mut Cases) {
 fn too_long(cases: &mut Cases) {
     let id = [1u8; 32];
     let whole = [&id[..], &[5]].concat();
-    let wrong = [&id[..], &[0x80, 0]].concat();
+    let wrong = [&id[..], &[0x80, 0x80, 0x80]].concat();
+    let longer = [&id[..], &[0x80, 0]].concat();
     for count in [1, 2, 3, 127, 128, 1 << 32, 1 << 63, u64::MAX - 1, u64::MAX] {
         let head = [vec![0, 2, 3], number(count)].concat();
         // no announcement, or the first cut
@@ -321,6 +410,10 @@ fn too_long(cases: &mut Cases) {
         if count > 1 {
             cases.refuse(&[&head[..], &whole, &wrong].concat(), 8);
             cases.refuse(&[&head[..], &whole].concat(), 7);
+            cases.refuse(&[&head[..], &longer].concat(), 7);
+        }
+        if count > 2 {
+            cases.refuse(&[&head[..], &whole, &longer].concat(), 7);
         }
     }
     for len in [1, 2, 3, 127, 128, 1 << 32, 1 << 63, u64::MAX - 1, u64::MAX] {
@@ -396,6 +489,14 @@ impl Random {
             _ => Event::Down(self.wide(64)),
         }
     }
+    /// The bytes of a field; a number that may be padded is, to any length up to its greatest.
+    fn spelt(&mut self, f: &Field) -> Vec<u8> {
+        match f {
+            Field::Padded(v, bits) => padded(*v, 1 + self.below(greatest(*bits) as u64) as usize),
+            Field::PaddedKind(v, _) => padded(*v, 1 + self.below(greatest(KIND_BITS) as u64) as usize),
+            _ => spelt(f),
+        }
+    }
     /// The bytes with something wrong: a byte changed, taken out or put in, a cut, or more at the end.
     fn damage(&mut self, bytes: &mut Vec<u8>) {
         let i = self.below(bytes.len() as u64) as usize;
@@ -429,8 +530,15 @@ fn main() {
             let _ = cases.add(&bytes);
         }
     }
+    for _ in 0..300 {
+        let (peer, message) = (random.wide(64), random.message());
+        let fields = fields_of(&message);
+        assert!(fields.iter().flat_map(spelt).eq(to_vec(&message).unwrap()));
+        let bytes: Vec<u8> = fields.iter().flat_map(|f| random.spelt(f)).collect();
+        cases.read_as(&[vec![0], number(peer), bytes].concat(), &Event::Received(peer, message));
+    }
     std::fs::write(&args[1], &cases.events).unwrap();
     std::fs::write(&args[2], &cases.answers).unwrap();
     let [read, seven, eight, nine] = cases.counts;
-    println!("{chosen} chosen, 2400 random: {read} read, {seven} of 7, {eight} of 8, {nine} of 9");
+    println!("{chosen} chosen, others random: {read} read, {seven} of 7, {eight} of 8, {nine} of 9");
 }

@@ -1,7 +1,8 @@
 #!/usr/bin/env python3
 """The Rust's answers as a theorem about the definitions.
 
-    sample.py extra                         a few sections by hand, for SCRIPT: counts at their end, a full record, `kept`
+    sample.py extra                         a few sections by hand, for SCRIPT: counts at their end, a full record, `kept`,
+                                            padded numbers
     sample.py choose SCRIPT ANSWERS CALLS   from a long script and the Rust's answers to it, choose short sections that
                                             together show every kind of call and answer, and write both to CALLS
     sample.py module CALLS > MODULE         the module in which the definitions are computed on CALLS and compared
@@ -18,6 +19,8 @@ root = os.path.join(os.path.dirname(os.path.abspath(__file__)), "..", "..")
 sys.path.insert(0, os.path.join(root, "tests", "rust"))
 CEILINGS = [32, 2048, 512, 1048576, 512, 512, 512, 8192, 4096]
 OUTPUT = 1000000
+# Of the sections that are not by hand, so many calls and the rest of the section with the last of them.
+DRAWN = 543
 SPECS = {
     "Rattle.lists.specs.": ["Base", "Map"],
     "Rattle.postcard.specs.": ["Number", "Message", "Decode"],
@@ -53,21 +56,21 @@ def read_number(bytes_, at):
 
 def message_seen(bytes_, at):
     """What a message is, and where it ends."""
-    kind = bytes_[at]
+    kind, at = read_number(bytes_, at)
     if kind == 0:
-        n, at = read_number(bytes_, at + 33)
-        at += n
-        if bytes_[at] == 1:
-            return ("gossip", "neighbors"), at + 1
-        _, at = read_number(bytes_, at + 1)
+        n, at = read_number(bytes_, at + 32)
+        delivery, at = read_number(bytes_, at + n)
+        if delivery == 1:
+            return ("gossip", "neighbors"), at
+        _, at = read_number(bytes_, at)
         return ("gossip", "swarm"), at
     if kind == 1:
-        return ("prune",), at + 1
+        return ("prune",), at
     if kind == 2:
-        named = bytes_[at + 1]
-        _, at = read_number(bytes_, at + 2 + 32 * named)
+        named = bytes_[at]
+        _, at = read_number(bytes_, at + 1 + 32 * named)
         return ("graft", named), at
-    n, at = read_number(bytes_, at + 1)
+    n, at = read_number(bytes_, at)
     for _ in range(n):
         _, at = read_number(bytes_, at + 32)
     return ("ihave", min(n, 2)), at
@@ -161,19 +164,19 @@ def choose(script, answers, target):
     pool = [b for s in whole if not always(s) for b in beginnings(s) if small(b)]
     shows = [features(s) for s in pool]
     left = set().union(*shows)
-    total, calls = len(left), sum(map(calls_of, chosen))
+    total, calls = len(left), 0
     while left:
         best = max(range(len(pool)), key=lambda i: len(shows[i] & left) / (12 + calls_of(pool[i])))
         left -= shows[best]
         chosen.append(pool[best])
         calls += calls_of(pool[best])
-        if calls > 560:
+        if calls > DRAWN:
             break
     with open(target, "w") as f:
         for s in chosen:
             for c, a in s:
                 f.write(c + "\t" + a + "\n")
-    print("%d sections, %d calls, %d of %d features" % (len(chosen), calls, total - len(left), total), file=sys.stderr)
+    print("%d sections, %d calls, %d of %d features" % (len(chosen), sum(map(calls_of, chosen)), total - len(left), total), file=sys.stderr)
 
 
 # Sections by hand.
@@ -216,6 +219,33 @@ def extra():
     ev(81, gen.send_graft(i))
     for p in (3, 2, 2):
         ev(90, gen.recv(p, gen.gossip(i, x, 3)))
+    print("dump")
+    # The same list twice, second with a padded number in each message: the same answers and states.
+    other, lost = gen.blake3(b"clinker"), gen.blake3(b"lost")
+    for size in (1, 2):
+        print(panel)
+        print("stats 0 0 0")
+        ev(0, gen.up(2))
+        ev(0, gen.up(3))
+        for now, p, message in [
+                (1, 2, gen.gossip(i, x, 0, hops=size)), (2, 3, gen.gossip(other, b"clinker", 3, length=size)),
+                (3, 3, gen.gossip(gen.blake3(b"near"), b"near", None, delivery=size)), (4, 3, gen.gossip(i, x, 0, kind=size)),
+                (5, 2, gen.graft(i, 0, hops=size)), (6, 3, gen.graft(other, 4, kind=size)), (7, 2, gen.ihave([(lost, 3), (i, 9)], hops=size)),
+                (8, 3, gen.ihave([(lost, 2)], count=size)), (9, 5, gen.prune(size))]:
+            ev(now, gen.recv(p, message))
+        print("dump")
+    # Over M by padding alone; the greatest lengths, and one byte over; a kind is judged at its last byte; an event's own fields are shortest.
+    print("new 1 510 80 40 5 7 30000 90000 1000")
+    print("stats 0 0 0")
+    ev(0, gen.up(2))
+    y = b"y" * 473
+    for message in [
+            gen.gossip(gen.blake3(y), y, 127, hops=2), gen.gossip(gen.blake3(y), y, 127), gen.gossip(i, x, 0, 5, 10, 5, 3), gen.prune(6),
+            gen.gossip(i, x, None, delivery=6), gen.gossip(i, x, None, length=11), gen.ihave([], count=11), gen.graft(None, 0, hops=4)]:
+        ev(1, gen.recv(2, message))
+    for event in ["000284", "00028400", "00028180808001", "00028180808000", "000202008080", "00020200808004", "000202800000", "80000201", "00820001",
+                  "038200", "0181004100", "0101418000", "028100"]:
+        ev(2, bytes.fromhex(event))
     print("dump")
 
 
@@ -329,9 +359,10 @@ def contents(hexa):
             n, at = read_number(e, 1)
         elif e[0] == 0:
             _, at = read_number(e, 1)
-            if e[at] != 0:
+            kind, at = read_number(e, at)
+            if kind != 0:
                 return
-            n, at = read_number(e, at + 33)
+            n, at = read_number(e, at + 32)
         else:
             return
         if at + n <= len(e):

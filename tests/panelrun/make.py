@@ -76,6 +76,16 @@ def long_input():
     call(140, gen.recv(2, gen.graft(lost, 3)))
     call(141, gen.recv(3, gen.prune()))
     call(150, gen.ANNOUNCE)
+    # Padded numbers: a round, all at their greatest length, each other one; a byte over; a kind that is judged at its last byte.
+    mill = blake3(b"mill 2")
+    call(160, gen.recv(2, gen.gossip(mill, b"mill 2", 0, hops=2)))
+    call(161, gen.recv(3, gen.gossip(mill, b"mill 2", 0, 5, 10, 5, 3)))
+    call(162, gen.recv(3, gen.gossip(blake3(b"mill 3"), b"mill 3", None, 2, 2, 2)))
+    call(163, gen.recv(2, gen.graft(mill, 1, 2, 2)))
+    call(164, gen.recv(5, gen.ihave([(blake3(b"mill 4"), 4), (mill, 128)], 2, 2, 3)))
+    call(165, gen.recv(5, gen.prune(5)))
+    for over in [gen.prune(6), gen.graft(None, 0, hops=4), gen.ihave([], count=11), gen.gossip(mill, b"mill 2", 0, length=11), b"\x84", b"\x84\0"]:
+        call(166, gen.recv(2, over))
     # Broadcasts: small, for neighbours, the largest that is sent, larger, and as large as an event can be.
     call(200, gen.broadcast(b"kiln 1 stop"))
     call(201, gen.broadcast(b"kiln 2 stop", False))
@@ -86,8 +96,10 @@ def long_input():
     # More content than B.
     call(206, gen.broadcast(r.randbytes(4055)))
     call(207, gen.recv(2, gen.gossip(blake3(b"x" * 4000), b"x" * 4000, 0)))
-    # A message over M, and as long as an event can be; bytes after the end; nothing at all.
+    # A message over M, by its content or by padding alone, and as long as an event can be; bytes after the end; nothing at all.
     call(208, gen.recv(2, gen.gossip(blake3(b"y" * 4060), b"y" * 4060, 0)))
+    call(208, gen.recv(2, gen.gossip(blake3(b"y" * 4057), b"y" * 4057, 0)))
+    call(208, gen.recv(2, gen.gossip(blake3(b"y" * 4057), b"y" * 4057, 0, hops=2)))
     call(209, gen.recv(2, gen.gossip(blake3(b"z" * 16343), b"z" * 16343, 65534)))
     call(210, gen.recv(3, gen.gossip(blake3(b"w"), b"w", 0)) + b"\0" * 16000)
     call(211, b"")

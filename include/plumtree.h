@@ -96,9 +96,10 @@ enum plumtree_number {
     PLUMTREE_BLOCK_NOT_WHOLE = 5,
     PLUMTREE_TIME_TOO_LATE = 6,
     PLUMTREE_EVENT_CUT = 7,
+    /* Shortest are an event's own numbers; inside a received message they may be padded (EVENTS AND ACTIONS, BYTE BY BYTE). */
     PLUMTREE_EVENT_MALFORMED = 8,
     PLUMTREE_EVENT_TOO_LONG = 9,
-    /* Its bytes are those behind the peer's number. */
+    /* Its bytes are those behind the peer's number, as they came. */
     PLUMTREE_MESSAGE_TOO_LONG = 10,
     PLUMTREE_COUNTS_FULL = 11,
     /* Drop it. */
@@ -361,9 +362,15 @@ uint8_t plumtree_limit_met(const uint8_t *block, size_t block_length, uint64_t a
 /*
  * EVENTS AND ACTIONS, BYTE BY BYTE
  *
- * A number is written in groups of seven bits, the lowest group first, with the high bit (0x80) set on every byte but the last. Only the
- * shortest form is read: 0 is 00, 127 is 7F, 128 is 80 01, 300 is AC 02, 65,535 is FF FF 03. A round has 16 bits (at most 3 bytes); a peer, a
- * time, a length and a count have 64 (at most 10). An identifier is 32 bytes as they are: BLAKE3 of the content. A kind is one byte.
+ * A number is written in groups of seven bits, the lowest group first, with the high bit (0x80) set on every byte but the last, in its
+ * shortest form: 0 is 00, 127 is 7F, 128 is 80 01, 300 is AC 02, 65,535 is FF FF 03. A round has 16 bits (at most 3 bytes); a peer, a time, a
+ * length and a count have 64 (at most 10). An identifier is 32 bytes as they are: BLAKE3 of the content. A kind is one byte.
+ *
+ * Of an event's own fields (its kind, a peer, a broadcast's length and last byte, a TIMER) nothing else is read. Inside the MESSAGE of a received
+ * message a number may be padded with groups of 0, as the Postcard specification lets a reader accept it: a round to 3 bytes, a length or a
+ * count to 10, and a message's or delivery's kind, which is a number of 32 bits there, to 5. So round 0 is 00, 80 00 or 80 80 00. A kind is
+ * judged at its last byte: 84 is cut (7), 84 00 unknown (8). A Graft's byte 00 or 01 is no number. Question 10 counts the message's bytes as
+ * they came: a padded one can be over M where its shortest form is not. What a panel writes is shortest, whatever came.
  *
  * An event:
  *

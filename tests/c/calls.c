@@ -388,6 +388,8 @@ static void events(void)
     static const uint8_t longer[] = {PLUMTREE_EVENT_UP, 0x80, 0x00};
     static const uint8_t more[] = {PLUMTREE_EVENT_UP, 4, 0};
     static const uint8_t prune[] = {PLUMTREE_EVENT_RECEIVED, 2, PLUMTREE_MESSAGE_PRUNE};
+    static const uint8_t padded[] = {PLUMTREE_EVENT_RECEIVED, 2, PLUMTREE_MESSAGE_GRAFT, 0, 0x80, 0x00};
+    static const uint8_t over[] = {PLUMTREE_EVENT_RECEIVED, 2, PLUMTREE_MESSAGE_GRAFT, 0, 0x80, 0x80, 0x80, 0x00};
     struct plumtree_limits l = plumtree_small_limits();
     struct panel p, q;
     struct plumtree_reader r;
@@ -420,6 +422,17 @@ static void events(void)
     event[1] = 2;
     n = plumtree_put_number(event, 35, 4058) + 4058 + 2;
     CHECK(n == 2 + 4095);
+    REFUSED(&p, 0, event, n, 64, PLUMTREE_MESSAGE_TOO_LONG);
+
+    /* Inside a message a round may be padded, to three bytes; one that makes 4,095 bytes of 4,094 is too long. */
+    tell(&p, 0, padded, sizeof padded);
+    CHECK(p.counts->control_messages_received == 1);
+    REFUSED(&p, 0, over, sizeof over, 64, PLUMTREE_EVENT_MALFORMED);
+    n = plumtree_put_number(event, 35, 4057) + 4057 + 2;
+    CHECK(n == 2 + 4094);
+    tell(&p, 0, event, n);
+    event[n - 1] = 0x80;
+    event[n++] = 0x00;
     REFUSED(&p, 0, event, n, 64, PLUMTREE_MESSAGE_TOO_LONG);
 
     p.counts->control_messages_received = UINT64_MAX;

@@ -9,6 +9,7 @@ use postcard::message::Scope;
 use postcard::message::Timer;
 use postcard::message::Wanted;
 use rows::id::Id;
+ghost use lib.ListN.{length};
 ghost use Rattle.postcard.specs.Events.{Listed, MessageHeld, EventHeld, ihavesFrom};
 
 fn word(text: &[u8]) {
@@ -132,7 +133,7 @@ fn scope(s: Scope) {
 
 // An event: of a received message its peer and its size first.
 pub fn event(bytes: &[u8], e: Event)
-    requires { ⌜ EventHeld (now bytes) e ⌝ }
+    requires { ⌜ EventHeld (now bytes) (length (now bytes)) e ⌝ }
 {
     match e {
         Event::Received {

@@ -230,8 +230,8 @@ fn not_shortest(bits: u32) -> Vec<(Vec<u8>, u8)> {
 }
 
 /// A number of a message with a byte over its greatest length.
-fn one_over(v: u64, bits: u32) -> (Vec<u8>, u8) {
-    (padded(v, greatest(bits) + 1), 8)
+fn one_over(v: u64, bits: u32) -> Vec<(Vec<u8>, u8)> {
+    vec![(padded(v, greatest(bits) + 1), 8)]
 }
 
 /// Kinds that are not known, of each length; each is judged at its last byte.
@@ -249,6 +249,27 @@ fn unknown_kinds(kinds: u64) -> Vec<(Vec<u8>, u8)> {
     all
 }
 
+/// Spellings of a field that are refused, with the answer.
+fn refused(f: &Field) -> Vec<(Vec<u8>, u8)> {
+    match f {
+        Field::Kind(_, kinds) => [*kinds, 0x7f, 0x80, 0xff].map(|byte| (vec![byte], 8)).to_vec(),
+        Field::Bytes(_) => vec![],
+        Field::Number(_, bits) => [bad_numbers(*bits), not_shortest(*bits)].concat(),
+        Field::Padded(v, bits) => [bad_numbers(*bits), one_over(*v, *bits)].concat(),
+        Field::PaddedKind(v, kinds) => [bad_numbers(KIND_BITS), one_over(*v, KIND_BITS), unknown_kinds(*kinds)].concat(),
+    }
+}
+
+/// Padded spellings of a field that are read: each length up to the greatest.
+fn read_padded(f: &Field) -> Vec<Vec<u8>> {
+    let (v, bits) = match f {
+        Field::Padded(v, bits) => (*v, *bits),
+        Field::PaddedKind(v, _) => (*v, KIND_BITS),
+        _ => return vec![],
+    };
+    (number(v).len() + 1..=greatest(bits)).map(|length| padded(v, length)).collect()
+}
+
 /// Each refusal at each field of an event, and each length in which a number of a message is read.
 fn refusals(cases: &mut Cases, fields: &[Field]) {
     let whole: Vec<u8> = fields.iter().flat_map(spelt).collect();
@@ -261,30 +282,16 @@ fn refusals(cases: &mut Cases, fields: &[Field]) {
     for (i, f) in fields.iter().enumerate() {
         let before: Vec<u8> = fields[..i].iter().flat_map(spelt).collect();
         let after: Vec<u8> = fields[i + 1..].iter().flat_map(spelt).collect();
-        let (bad, lengths) = match f {
-            Field::Kind(_, kinds) => ([*kinds, 0x7f, 0x80, 0xff].map(|bad| (vec![bad], 8)).to_vec(), vec![]),
-            Field::Bytes(_) => (vec![], vec![]),
-            Field::Number(_, bits) => ([bad_numbers(*bits), not_shortest(*bits)].concat(), vec![]),
-            Field::Padded(v, bits) => ([bad_numbers(*bits), vec![one_over(*v, *bits)]].concat(), lengths(*v, *bits)),
-            Field::PaddedKind(v, kinds) => {
-                ([bad_numbers(KIND_BITS), vec![one_over(*v, KIND_BITS)], unknown_kinds(*kinds)].concat(), lengths(*v, KIND_BITS))
-            }
-        };
-        for (bad, n) in bad {
+        for (bad, n) in refused(f) {
             cases.refuse(&[before.clone(), bad.clone()].concat(), n);
             if n == 8 {
                 cases.refuse(&[before.clone(), bad, after.clone()].concat(), n);
             }
         }
-        for good in lengths {
+        for good in read_padded(f) {
             cases.read_as(&[before.clone(), good, after.clone()].concat(), &event);
         }
     }
-}
-
-/// The padded spellings of a number.
-fn lengths(v: u64, bits: u32) -> Vec<Vec<u8>> {
-    (number(v).len() + 1..=greatest(bits)).map(|length| padded(v, length)).collect()
 }
 
 /// An event of each kind, field by field.

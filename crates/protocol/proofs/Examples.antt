@@ -10,6 +10,7 @@ use Rattle.postcard.specs.Number as Number
 use Rattle.postcard.specs.Number.{idBytes}
 use Rattle.postcard.specs.Message as Message
 use Rattle.postcard.specs.Decode as Decode
+use Rattle.postcard.specs.Decode.{decoded, decodeEvent}
 use Rattle.time_cache.specs.TimeCache as TimeCache
 use Rattle.protocol.specs.State as State
 use Rattle.protocol.specs.Run as Run
@@ -92,15 +93,13 @@ announcing = free (Up 2) ∷ shut 2 broadcast ∷ free (Fired AnnounceDropped) �
 abbrev dispatched : List Call
 dispatched = free (Up 2) ∷ shut 2 broadcast ∷ free (Fired AnnounceDropped) ∷ free (Fired DispatchLazyPush) ∷ []
 
--- two spellings: up 2, up 3, the message from 2; in the second list its kind, its length, its delivery's kind and its round are padded by a byte each
-abbrev plain : List Call
-plain = free (Up 2) ∷ free (Up 3) ∷ free (gossip 2) ∷ []
+-- the message from 2 with its kind, its length, its delivery's kind and its round padded by a byte each
+abbrev spelled : List ℕ
+spelled = 0x00 ∷ 0x02 ∷ 0x80 ∷ 0x00 ∷ idBytes 9 ++ (0x81 ∷ 0x00 ∷ 0x07 ∷ 0x80 ∷ 0x00 ∷ 0x83 ∷ 0x00 ∷ [])
 
+-- up 2, up 3, the message from 2 so spelled
 abbrev padded : List Call
-padded =
-    free (Up 2) ∷ free (Up 3)
-    ∷ record { now = 0; event = 0x00 ∷ 0x02 ∷ 0x80 ∷ 0x00 ∷ idBytes 9 ++ (0x81 ∷ 0x00 ∷ 0x07 ∷ 0x80 ∷ 0x00 ∷ 0x83 ∷ 0x00 ∷ []); rooms = []; output = 40960 }
-    ∷ []
+padded = free (Up 2) ∷ free (Up 3) ∷ record { now = 0; event = spelled; rooms = []; output = 40960 } ∷ []
 
 pub record Examples : Type 0 where
   -- 2 was told up and stays eager; 3, lazy by its Prune, is gone
@@ -129,8 +128,8 @@ pub record Examples : Type 0 where
   -- dispatch fired: its announcement was taken
   pub announced4 : which (sent 2 (carries 9) wasTaken) dispatched ≡ false ∷ false ∷ false ∷ true ∷ []
   pub empty4 : after dispatched .state .queue ≡ []
-  -- both spellings lead to the same answers, actions, counts and state; the message went on to 3
-  pub spellings3 : after padded ≡ after plain
+  -- both spellings are read as the same event, so they lead to the same (`same-meaning`); the message went on to 3
+  pub spellings3 : decodeEvent spelled ≡ decoded (gossip 2)
   pub sent3 : which (sent 3 (carries 9) wasTaken) padded ≡ false ∷ false ∷ true ∷ []
 
 pub examples : Examples

@@ -1,7 +1,6 @@
 pub mod State
 pub mod Run
 pub mod Answer
-pub mod SameMeaning
 pub mod Whole
 pub mod Links
 pub mod Neighbours
@@ -11,6 +10,7 @@ pub mod Ticks
 pub mod Control
 pub mod Handle
 pub mod Calls
+pub mod SameMeaning
 pub mod Consistent
 pub mod Demand3
 pub mod Notings

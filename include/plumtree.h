@@ -407,7 +407,8 @@ uint8_t plumtree_limit_met(const uint8_t *block, size_t block_length, uint64_t a
  *
  * Neighbors: sent once to the eager neighbours, announced to nobody, not sent on; who is lazy does not get it.
  *
- * Up: told at both ends of a link. Who is whose neighbour is the host's business: three each are a good choice. The neighbour gets what is taken in from then on, and not what came before.
+ * Up: told at both ends of a link. Who is whose neighbour is the host's business: three each are a good choice. The neighbour gets what is
+ * taken in from then on, and not what came before.
  * Down: what waits for the neighbour is forgotten, and it does not get what is taken in until it is up again; so a link that will come back is
  * not told down, but has room 0.
  * Broadcast: told while no neighbour is up it is accepted and reaches nobody: hold it back until one is. The same content told again while it

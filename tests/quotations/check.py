@@ -1,8 +1,9 @@
 #!/usr/bin/env python3
 # Every quotation stands word for word in one of the stored texts: document 01, document 02, demand 3, the sentences of the Rust that are quoted. Usage, from the repository's top:
 # tests/quotations/check.py [FILE ...], all files that have quotations if none is named. It fails at the first that is nowhere, and tells how many it looked at.
-#   Quotations: what stands between double quotes in a comment of the crates and of include/plumtree.h, in a string of include/plumtree.h, and in README.md
-#   and the documents but docs/BENCHMARKS.md, where a block quote is one too and program text is none. Comment lines that follow each other are one text.
+#   Quotations: what stands between double quotes in a comment of the crates and of C and Rust (but for the original Rust and its stand-ins, tests/rust), in a string of
+#   include/plumtree.h, and in README.md, the tests' README.md and the documents but docs/BENCHMARKS.md, where a block quote is one too. Program text in a document or between the
+#   fences of a comment is none. Comment lines that follow each other are one text.
 #   Word for word: but for backquotes, asterisks and line ends; <= is ≤. An ellipsis (… or ..) or words in [brackets] stand for others, and the parts around them come in that order.
 #   exceptions.txt has what stands between quotation marks and is no quotation.
 import glob, re, sys
@@ -38,29 +39,39 @@ def printed(literals):
     return re.sub(r"((?:\\[0-7]{3})+)", lambda m: bytes(int(o, 8) for o in m[1].split("\\")[1:]).decode(), text).replace('\\"', '"')
 
 
-def of_c(text):
+# The comments of a file of C, and its strings where they are for people to read.
+def of_c(text, strings):
     pattern = r'/\*(?P<comment>.*?)\*/|//(?P<line>[^\n]*)|(?P<string>"(?:[^"\\\n]|\\.)*"(?:\s*"(?:[^"\\\n]|\\.)*")*)'
     for m in re.finditer(pattern, text, re.S):
-        comment = re.sub(r"\n\s*\*", "\n", m["comment"] or m["line"] or "")
-        yield text[: m.start()].count("\n") + 1, printed(m["string"]) if m["string"] else comment
+        if strings or not m["string"]:
+            comment = re.sub(r"\n\s*\*", "\n", m["comment"] or m["line"] or "")
+            yield text[: m.start()].count("\n") + 1, printed(m["string"]) if m["string"] else comment
 
 
-# The lines of a document, those of program text left empty: indented by four, or between fences.
-def without_programs(text):
+# Lines that begin with a mark, those of program text left empty: indented by four behind it, or between fences.
+def without_programs(lines, mark):
     fenced = False
-    for line in text.splitlines():
-        fence = line.startswith("```")
-        yield "" if fenced or fence or line.startswith("    ") else line
+    for line in lines:
+        fence = line.startswith(mark + "```")
+        yield "" if fenced or fence or line.startswith(mark + "    ") else line
         fenced ^= fence
+
+
+# The comments of a file of Rust.
+def of_rust(text):
+    lines = [re.sub(r"^\s*//[/!]? ?", "// ", line) for line in text.splitlines()]
+    return marked("\n".join(without_programs(lines, "// ")), "//")
 
 
 # The quotations of a file, each with a line's number.
 def quotations(path):
     text = read(path)
     if path.endswith(".md"):
-        parts = [(n, f'"{line[1:].strip()}"' if line.startswith(">") else line) for n, line in enumerate(without_programs(text), 1)]
-    elif path.endswith(".h"):
-        parts = of_c(text)
+        parts = [(n, f'"{line[1:].strip()}"' if line.startswith(">") else line) for n, line in enumerate(without_programs(text.splitlines(), ""), 1)]
+    elif path.endswith((".c", ".h")):
+        parts = of_c(text, path == "include/plumtree.h")
+    elif path.endswith(".rs"):
+        parts = of_rust(text)
     else:
         parts = marked(text, "//" if path.endswith(".rt") else "--")
     for n, part in parts:
@@ -87,7 +98,13 @@ def main(named):
         glob.glob("crates/*/specs/**/*.antt", recursive=True)
         + glob.glob("crates/*/proofs/**/*.antt", recursive=True)
         + glob.glob("crates/*/src/**/*.rt", recursive=True)
-    ) + ["include/plumtree.h", "README.md"] + sorted(set(glob.glob("docs/*.md")) - {"docs/BENCHMARKS.md"})
+        + glob.glob("include/*.h")
+        + glob.glob("examples/c/*.[ch]")
+        + glob.glob("tests/*/*.c")
+        + [f for f in glob.glob("**/*.rs", recursive=True) if not re.match("(.*/)?target/|tests/rust/(seed|standins)/", f)]
+        + glob.glob("tests/*/README.md")
+        + list(set(glob.glob("docs/*.md")) - {"docs/BENCHMARKS.md"})
+    ) + ["README.md"]
     texts = [plain(read(f"{HERE}/{name}.txt")) for name in ("document-01", "document-02", "demand-3", "rust")]
     reasons = dict(line.split("\t") for line in read(f"{HERE}/exceptions.txt").splitlines() if not line.startswith("#"))
     looked, excepted = 0, set()

@@ -1,5 +1,5 @@
 #!/usr/bin/env bash
-# Each quotation in the crates, the header and the documents of proofs stands word for word in what it quotes; and a wrong one is found.
+# Each quotation in the crates, in C and Rust and in the documents stands word for word in what it quotes; and a wrong one is found.
 set -eu
 cd "$(dirname "$0")/../.."
 . tools/setup.sh

@@ -40,16 +40,16 @@ pub enum Message<'a> {
         /// How far it goes.
         delivery: Delivery,
     },
-    /// "Send me announcements, no payload."
+    /// Asks for announcements in place of payload.
     Prune,
-    /// "Send me payload", with the message that is asked for, if any.
+    /// Asks for payload, and for one message, if it names one.
     Graft {
         /// The identifier of the message that is asked for.
         id: Option<Id>,
         /// The round at which it was announced.
         round: u16,
     },
-    /// "I have these."
+    /// Announces messages that the sender has.
     IHave(Vec<Announced>),
 }
 

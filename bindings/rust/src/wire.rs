@@ -52,7 +52,7 @@ impl<'a> Reader<'a> {
         Ok(self.take(1)?[0])
     }
 
-    /// A number of so many bits. "A number's last allowed byte, if it goes on or is too large, is 8."
+    /// A number of so many bits: "a number's last allowed byte, if it goes on or is too large, is 8".
     fn groups(&mut self, bits: u32, spelling: Spelling) -> Result<u64, Error> {
         let mut value = 0;
         let mut shift = 0;

@@ -80,21 +80,6 @@ module _ {A : Type 0} where
   count-same f g w [] = refl
   count-same f g w (x ∷ xs) = rw (w x) (cases (g x) (λ p. rw p (ap suc (count-same f g w xs))) (λ p. rw p (count-same f g w xs)))
 
-  pub filter-same : (f g : A → Bool) → ((x : A) → f x ≡ g x) → (xs : List A) → filter f xs ≡ filter g xs
-  unfolding filter
-  filter-same f g w [] = refl
-  filter-same f g w (x ∷ xs) = rw (w x) (cases (g x) (λ p. rw p (ap (λ (l : List A). x ∷ l) (filter-same f g w xs))) (λ p. rw p (filter-same f g w xs)))
-
-  pub any-same : (f g : A → Bool) → ((x : A) → f x ≡ g x) → (xs : List A) → any f xs ≡ any g xs
-  unfolding any
-  any-same f g w [] = refl
-  any-same f g w (x ∷ xs) = rw (w x) (cases (g x) (λ p. rw p) (λ p. rw p (any-same f g w xs)))
-
-  pub any-false : (f : A → Bool) → ((x : A) → f x ≡ false) → (xs : List A) → any f xs ≡ false
-  unfolding any
-  any-false f w [] = refl
-  any-false f w (x ∷ xs) = rw (w x) (any-false f w xs)
-
   -- of a list without it nothing is in a part
   pub any-filter-false : (f g : A → Bool) (xs : List A) → any f xs ≡ false → any f (filter g xs) ≡ false
   unfolding any filter

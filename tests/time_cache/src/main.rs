@@ -137,7 +137,7 @@ impl Block {
         (self.n, self.m) = (out[0] as usize, out[1] as usize);
         Some(out[2] as usize)
     }
-    /// The keys that an expiry removes, in order: the rows pop one by one, "and a key is removed only if its present
+    /// The keys that an expiry removes, in order: the rows pop one by one, and "it removes a key only if its present
     /// expiry equals the popped time".
     fn expired_keys(&self, instant: u64) -> Vec<Key> {
         let mut present: BTreeMap<Key, u64> =

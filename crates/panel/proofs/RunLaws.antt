@@ -6,10 +6,12 @@ use mathlib.Core.List.{List, [], _∷_, _++_, append-assoc, append-nil}
 use native.Mathlib.Omega.{arith}
 use lib.ListN.{length, take, drop, length-drop, length-append}
 use Rattle.lists.specs.Base.{all, concatMap}
-use Rattle.lists.proofs.ListLaws.{all-append}
+use lib.Dec.{ltb}
+use Rattle.lists.proofs.MapLaws.{and-intro}
+use Rattle.lists.proofs.ListLaws.{all-head, all-append}
 use Rattle.blake3.specs.Blake3.{identifier}
 use Rattle.postcard.specs.Wide.{Bytes}
-use Rattle.postcard.proofs.FieldBack.{bytes-drop}
+use Rattle.postcard.proofs.FieldBack.{bytes-tail, bytes-drop}
 use Rattle.protocol.specs.State.{State, Counts, fresh, zeroCounts}
 use Rattle.protocol.specs.Panel.{panelSettings, panelLimits}
 use Rattle.records.specs.Reading.{Cut}
@@ -18,7 +20,7 @@ use Rattle.records.proofs.Pieces.{record-takes}
 use Rattle.records.proofs.RunningLaws.{panelrun-writes, writes-never, writes-bad}
 use Rattle.machine.specs.Called.{countsOf}
 use Rattle.panel.specs.Turns.{Holds, Memory, Took, Turned}
-use Rattle.panel.specs.Runs.{Runs, answers, reads, ends, stops, inputOf, WritesPanelrun, Typed, Buffered, Next, Readable, Run, HasRuns}
+use Rattle.panel.specs.Runs.{Runs, answers, reads, ends, stops, inputOf, WritesPanelrun, Typed, Buffered, Next, Readable, Run, InputRun, HasRuns}
 use Rattle.panel.specs.declared.Answer.{Answer}
 use Rattle.panel.specs.declared.Turn.{Turn}
 use Rattle.panel.specs.declared.Turn.the-variants as told
@@ -78,6 +80,28 @@ module _ (f : Next) where
       record { wrote = r .wrote; runs = reads m c unread piece pieces (r .wrote) w (r .runs) })
       (length unread) m c unread ty bu (omega arith)
 
+-- an input byte by byte
+singles : List ℕ → List (List ℕ)
+singles [] = []
+singles (b ∷ bytes) = (b ∷ []) ∷ singles bytes
+
+singles-joined : (bytes : List ℕ) → inputOf (singles bytes) ≡ bytes
+unfolding singles concatMap
+singles-joined [] = refl
+singles-joined (b ∷ bytes) = ap (λ (x : List ℕ). b ∷ x) (singles-joined bytes)
+
+singles-readable : (bytes : List ℕ) → Bytes bytes → Readable (singles bytes)
+unfolding singles Bytes all
+singles-readable [] y = tt
+singles-readable (b ∷ bytes) y = (and-intro (all-head (λ x. ltb x 256) b bytes y) refl, omega arith, singles-readable bytes (bytes-tail b bytes y))
+
 pub has-runs : HasRuns
 unfolding Bytes all
-has-runs = record { always = λ f m c ty pieces ok. run-of f pieces ok m c [] ty (record { bytes = refl; few = omega arith }) }
+has-runs = record {
+  always = λ f m c ty pieces ok. run-of f pieces ok m c [] ty (record { bytes = refl; few = omega arith });
+  inputs = λ f m c ty input y. record {
+    pieces = singles input;
+    joined = singles-joined input;
+    run = run-of f (singles input) (singles-readable input y) m c [] ty (record { bytes = refl; few = omega arith });
+  };
+}

@@ -75,7 +75,7 @@ pub record Next : Type 0 where
   pub typed : (m : Memory) (c : Counts) (unread : List ℕ) → Typed m c → Buffered unread → (used : ℕ) (a : Answer) → turn m c unread ≡ told.Answered used a →
       Typed (after m c unread) (countsOf (a .stats))
 
--- pieces for which the buffer has room behind every record that is cut; every input can be read so, and the program's own pieces may be longer
+-- pieces for which the buffer has room behind every record that is cut; the program's own pieces may be longer
 abbrev pub Readable : List (List ℕ) → Type 0
 Readable [] = Unit {0}
 Readable (piece ∷ pieces) = Bytes piece × (length piece ≤ 16365) × Readable pieces
@@ -85,6 +85,13 @@ pub record Run (m : Memory) (c : Counts) (unread : List ℕ) (pieces : List (Lis
   pub wrote : List ℕ
   pub runs : Runs m c unread pieces wrote
 
--- every input has a run, of any function that meets the contract of `next`
+-- a run of an input, read in some pieces
+pub record InputRun (m : Memory) (c : Counts) (input : List ℕ) : Type 0 where
+  pub pieces : List (List ℕ)
+  pub joined : inputOf pieces ≡ input
+  pub run : Run m c [] pieces
+
+-- every input has a run, in any pieces that can be read and so in some, of any function that meets the contract of `next`
 pub record HasRuns : Type 0 where
   pub always : Next → (m : Memory) (c : Counts) → Typed m c → (pieces : List (List ℕ)) → Readable pieces → Run m c [] pieces
+  pub inputs : Next → (m : Memory) (c : Counts) → Typed m c → (input : List ℕ) → Bytes input → InputRun m c input

@@ -74,11 +74,6 @@ module _ {A : Type 0} (f : A → ℕ) where
       let t : take (i + 1) l ≡ take i l ++ (getD l i d ∷ []) = ap (λ (n : ℕ). take n l) (add-one i) ∙ take-suc l i d h in
       ap (sum f) t ∙ omega (arith, sum-append (take i l) (getD l i d ∷ []))
 
-sum-map : {A B : Type 0} (f : B → ℕ) (g : A → B) (l : List A) → sum f (map g l) ≡ sum (λ x. f (g x)) l
-unfolding sum
-sum-map f g [] = refl
-sum-map f g (x ∷ l) = ap (λ (n : ℕ). f (g x) + n) (sum-map f g l)
-
 -- where each content ends
 ends-by : (a : ℕ) (rs : List (List ℕ)) (e : ℕ) → Adjoining a rs e → a ≤ e
 ends-by a rs e done = omega arith

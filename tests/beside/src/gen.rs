@@ -1,5 +1,6 @@
 //! Random lists of calls. A list is determined by its seed and the Rust's answers.
 mod brink;
+mod spell;
 
 use std::collections::HashMap;
 
@@ -63,6 +64,7 @@ pub struct World {
     now: u64,
     step: u64,
     bad: f64,
+    padded: f64,
     tight: f64,
     damage: f64,
     alike: f64,
@@ -237,6 +239,7 @@ impl World {
             now,
             step,
             bad: if big { 0.5 } else { r.pick(&[0.0, 2.0, 6.0]) },
+            padded: if big { 2.0 } else { r.pick(&[0.0, 4.0, 20.0]) },
             tight: match profile {
                 Profile::Drops | Profile::Full | Profile::Fill | Profile::Ceilings => 85.0,
                 Profile::Record | Profile::Brink => 85.0,
@@ -614,6 +617,10 @@ impl World {
         if self.r.chance(self.bad) {
             return self.damaged(e, s);
         }
+        if self.r.chance(self.padded) {
+            let p = self.peer(s);
+            return if self.r.chance(12.0) { self.padded_to_m(p) } else { self.padded(e) };
+        }
         e
     }
 
@@ -634,12 +641,7 @@ impl World {
             "down" => wire::down(p),
             "gossip" => self.gossip(s, p),
             "ihave" => self.ihave(s, p),
-            "graft" => {
-                let id = self.id_of(s.cache.iter().map(|c| c.id).collect());
-                let round = self.round();
-                let id = if self.r.chance(15.0) { None } else { Some(&id) };
-                wire::recv(p, &wire::graft(id, round))
-            }
+            "graft" => self.graft(s, p),
             "prune" => wire::recv(p, &wire::prune()),
             "broadcast" => {
                 let k = self.r.index(self.contents.len());
@@ -714,6 +716,13 @@ impl World {
         wire::recv(from, &wire::gossip(&id, &content, round))
     }
 
+    fn graft(&mut self, s: &Snap, p: u64) -> Vec<u8> {
+        let id = self.id_of(s.cache.iter().map(|c| c.id).collect());
+        let round = self.round();
+        let id = if self.r.chance(15.0) { None } else { Some(&id) };
+        wire::recv(p, &wire::graft(id, round))
+    }
+
     fn ihave(&mut self, s: &Snap, p: u64) -> Vec<u8> {
         let most = self.m as usize / 34;
         let k = self.r.pick(&[0, 1, 1, 1, 1, 2, 3, 5, 10, most]);
@@ -784,7 +793,7 @@ impl World {
         let r = &mut self.r;
         let i = r.index(e.len());
         let mut v = e.clone();
-        match r.below(10) {
+        match r.below(13) {
             0 => {
                 v.truncate(r.index(e.len() + 1));
                 v
@@ -804,7 +813,7 @@ impl World {
                 v
             }
             4 => {
-                // The peer or length not shortest, or too wide.
+                // The peer, or a broadcast's length, not shortest or too wide.
                 let bad: [&[u8]; 6] = [
                     &[0x80, 0],
                     &[0x81, 0x80, 0],
@@ -847,6 +856,16 @@ impl World {
                 let round = r.pick(&[0, 127, 128, 16383, 16384, 65534, 65535]);
                 let id = if r.chance(50.0) { identifier(&body) } else { id };
                 wire::recv(p, &wire::gossip(&id, &body, Some(round)))
+            }
+            9..=11 => {
+                // A number of a message.
+                let message = match r.below(5) {
+                    0 | 1 => self.gossip(s, p),
+                    2 => self.ihave(s, p),
+                    3 => self.graft(s, p),
+                    _ => e,
+                };
+                self.misspelled(message)
             }
             _ => match r.below(5) {
                 0 => {

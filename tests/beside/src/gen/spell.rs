@@ -1,0 +1,104 @@
+//! Received messages with their numbers spelled in other ways than the shortest.
+use oracle::identifier;
+
+use super::World;
+use crate::wire::{self, Field, Spelled};
+
+/// Numbers that are no message's kind, or no delivery's; the lowest byte or group of some is one.
+const NO_KINDS: [u64; 12] =
+    [2, 3, 4, 5, 127, 128, 129, 256, 1 << 14, 1 << 28, (1 << 28) + 1, (1 << 32) - 1];
+
+impl World {
+    /// One of the numbers, each field as often as the others.
+    fn one_of(&mut self, numbers: &[Spelled]) -> usize {
+        let there = |f: &Field| numbers.iter().any(|n| n.field == *f);
+        let fields: Vec<Field> = Field::INSIDE.into_iter().filter(there).collect();
+        let field = self.r.pick(&fields);
+        let those = |i: &usize| numbers[*i].field == field;
+        let those: Vec<usize> = (0..numbers.len()).filter(those).collect();
+        self.r.pick(&those)
+    }
+
+    /// A length that the number can have, its greatest more often than others.
+    fn length_of(&mut self, n: &Spelled) -> usize {
+        let (most, _) = n.field.longest();
+        let any = n.long + self.r.index(most + 1 - n.long);
+        self.r.pick(&[most, any, any])
+    }
+
+    /// The event with one number of its message padded, or many. One without a message stays.
+    pub(super) fn padded(&mut self, e: Vec<u8>) -> Vec<u8> {
+        let Some(read) = wire::received(&e) else {
+            return e;
+        };
+        let mut long: Vec<usize> = read.numbers.iter().map(|n| n.long).collect();
+        if self.r.chance(50.0) {
+            let i = self.one_of(&read.numbers);
+            long[i] = self.length_of(&read.numbers[i]);
+        } else {
+            for (k, n) in long.iter_mut().zip(&read.numbers) {
+                if self.r.chance(50.0) {
+                    *k = self.length_of(n);
+                }
+            }
+        }
+        spelled(e, &read.numbers, &long)
+    }
+
+    /// A message whose shortest form has M bytes or up to 19 less, padded to M bytes or a few more.
+    pub(super) fn padded_to_m(&mut self, peer: u64) -> Vec<u8> {
+        let m = self.m as usize;
+        let message = if self.r.chance(50.0) {
+            let body = vec![self.r.next() as u8; m - 37 - self.r.index(20)];
+            let id = if self.r.chance(50.0) { identifier(&body) } else { self.id() };
+            wire::gossip(&id, &body, Some(self.r.below(12) as u16))
+        } else {
+            let list: Vec<_> = (0..(m - 2) / 33).map(|_| (self.id(), self.round() % 128)).collect();
+            wire::ihave(&list)
+        };
+        let e = wire::recv(peer, &message);
+        let numbers = wire::received(&e).expect("a message").numbers;
+        let mut long: Vec<usize> = numbers.iter().map(|n| n.long).collect();
+        let size = m + self.r.pick(&[0, 0, 1, 1, 2]);
+        for _ in message.len()..size {
+            let open = |i: &usize| long[*i] < numbers[*i].field.longest().0;
+            let open: Vec<usize> = (0..long.len()).filter(open).collect();
+            if !open.is_empty() {
+                long[self.r.pick(&open)] += 1;
+            }
+        }
+        spelled(e, &numbers, &long)
+    }
+
+    /// The event with a number of its message of any length up to one byte over the greatest, its
+    /// last byte too large, cut, or a kind that there is none of.
+    pub(super) fn misspelled(&mut self, e: Vec<u8>) -> Vec<u8> {
+        let Some(read) = wire::received(&e) else {
+            return e;
+        };
+        let n = read.numbers[self.one_of(&read.numbers)];
+        let (most, top) = n.field.longest();
+        let value = match n.field.kinds() {
+            Some(all) if self.r.chance(60.0) => self.r.pick(&NO_KINDS).max(all),
+            _ => n.value,
+        };
+        let any = 1 + self.r.index(most + 1);
+        let long = self.r.pick(&[any, most, most + 1]);
+        let mut bytes = wire::spelling(value, long);
+        if long == most && self.r.chance(50.0) {
+            bytes[most - 1] = self.r.pick(&[top + 1, top + 1, 127, 128, 255]);
+        }
+        let mut v = n.replaced(&e, &bytes);
+        if self.r.chance(40.0) {
+            v.truncate(n.at + self.r.index(bytes.len()));
+        }
+        v
+    }
+}
+
+/// The event with its message's numbers in so many bytes each: from the last on, so that the places
+/// of the others stay.
+fn spelled(e: Vec<u8>, numbers: &[Spelled], long: &[usize]) -> Vec<u8> {
+    let all = numbers.iter().zip(long).rev();
+    all.fold(e, |e, (n, k)| n.replaced(&e, &wire::spelling(n.value, *k)))
+}

@@ -64,7 +64,7 @@ pub struct World {
     now: u64,
     step: u64,
     bad: f64,
-    padded: f64,
+    respelled: f64,
     tight: f64,
     damage: f64,
     alike: f64,
@@ -239,7 +239,7 @@ impl World {
             now,
             step,
             bad: if big { 0.5 } else { r.pick(&[0.0, 2.0, 6.0]) },
-            padded: if big { 2.0 } else { r.pick(&[0.0, 4.0, 20.0]) },
+            respelled: if big { 2.0 } else { r.pick(&[0.0, 4.0, 20.0]) },
             tight: match profile {
                 Profile::Drops | Profile::Full | Profile::Fill | Profile::Ceilings => 85.0,
                 Profile::Record | Profile::Brink => 85.0,
@@ -617,9 +617,8 @@ impl World {
         if self.r.chance(self.bad) {
             return self.damaged(e, s);
         }
-        if self.r.chance(self.padded) {
-            let p = self.peer(s);
-            return if self.r.chance(12.0) { self.padded_to_m(p) } else { self.padded(e) };
+        if self.r.chance(self.respelled) {
+            return self.respelled(e, s);
         }
         e
     }
@@ -793,7 +792,7 @@ impl World {
         let r = &mut self.r;
         let i = r.index(e.len());
         let mut v = e.clone();
-        match r.below(13) {
+        match r.below(10) {
             0 => {
                 v.truncate(r.index(e.len() + 1));
                 v
@@ -814,7 +813,9 @@ impl World {
             }
             4 => {
                 // The peer, or a broadcast's length, not shortest or too wide.
-                let bad: [&[u8]; 6] = [
+                let longer = [e[1] | 128, 0];
+                let bad: [&[u8]; 7] = [
+                    &longer,
                     &[0x80, 0],
                     &[0x81, 0x80, 0],
                     &[255, 255, 255, 255, 255, 255, 255, 255, 255, 2],
@@ -856,16 +857,6 @@ impl World {
                 let round = r.pick(&[0, 127, 128, 16383, 16384, 65534, 65535]);
                 let id = if r.chance(50.0) { identifier(&body) } else { id };
                 wire::recv(p, &wire::gossip(&id, &body, Some(round)))
-            }
-            9..=11 => {
-                // A number of a message.
-                let message = match r.below(5) {
-                    0 | 1 => self.gossip(s, p),
-                    2 => self.ihave(s, p),
-                    3 => self.graft(s, p),
-                    _ => e,
-                };
-                self.misspelled(message)
             }
             _ => match r.below(5) {
                 0 => {

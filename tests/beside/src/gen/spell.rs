@@ -1,5 +1,5 @@
 //! Received messages with their numbers spelled in other ways than the shortest.
-use oracle::identifier;
+use oracle::{identifier, snap::Snap};
 
 use super::World;
 use crate::wire::{self, Field, Spelled};
@@ -8,7 +8,31 @@ use crate::wire::{self, Field, Spelled};
 const NO_KINDS: [u64; 12] =
     [2, 3, 4, 5, 127, 128, 129, 256, 1 << 14, 1 << 28, (1 << 28) + 1, (1 << 32) - 1];
 
+/// The bytes of a Gossip beside its content: kind, identifier, a length of two bytes, delivery with a
+/// round of one.
+const BESIDE_CONTENT: usize = 37;
+/// Those of an IHave beside its entries, and of an entry with a round of one byte.
+const BESIDE_ENTRIES: usize = 2;
+const ENTRY: usize = 33;
+
 impl World {
+    /// The event with its message spelled otherwise, or another message that is.
+    pub(super) fn respelled(&mut self, e: Vec<u8>, s: &Snap) -> Vec<u8> {
+        let p = self.peer(s);
+        match self.r.below(10) {
+            0 => self.padded_to_m(p),
+            1 => {
+                let message = self.gossip(s, p);
+                self.misspelled(message)
+            }
+            2 => {
+                let message = if self.r.chance(50.0) { self.ihave(s, p) } else { self.graft(s, p) };
+                self.misspelled(message)
+            }
+            _ => self.padded(e),
+        }
+    }
+
     /// One of the numbers, each field as often as the others.
     fn one_of(&mut self, numbers: &[Spelled]) -> usize {
         let there = |f: &Field| numbers.iter().any(|n| n.field == *f);
@@ -27,7 +51,7 @@ impl World {
     }
 
     /// The event with one number of its message padded, or many. One without a message stays.
-    pub(super) fn padded(&mut self, e: Vec<u8>) -> Vec<u8> {
+    fn padded(&mut self, e: Vec<u8>) -> Vec<u8> {
         let Some(read) = wire::received(&e) else {
             return e;
         };
@@ -45,21 +69,26 @@ impl World {
         spelled(e, &read.numbers, &long)
     }
 
-    /// A message whose shortest form has M bytes or up to 19 less, padded to M bytes or a few more.
-    pub(super) fn padded_to_m(&mut self, peer: u64) -> Vec<u8> {
+    /// A message whose shortest form has M bytes or some less.
+    fn nearly_m(&mut self) -> Vec<u8> {
         let m = self.m as usize;
-        let message = if self.r.chance(50.0) {
-            let body = vec![self.r.next() as u8; m - 37 - self.r.index(20)];
+        if self.r.chance(50.0) {
+            let body = vec![self.r.next() as u8; m - BESIDE_CONTENT - self.r.index(20)];
             let id = if self.r.chance(50.0) { identifier(&body) } else { self.id() };
-            wire::gossip(&id, &body, Some(self.r.below(12) as u16))
-        } else {
-            let list: Vec<_> = (0..(m - 2) / 33).map(|_| (self.id(), self.round() % 128)).collect();
-            wire::ihave(&list)
-        };
+            return wire::gossip(&id, &body, Some(self.r.below(12) as u16));
+        }
+        let n = (m - BESIDE_ENTRIES) / ENTRY;
+        let list: Vec<_> = (0..n).map(|_| (self.id(), self.round() % 128)).collect();
+        wire::ihave(&list)
+    }
+
+    /// Such a message padded at random to M bytes or a few more, as far as its numbers go.
+    fn padded_to_m(&mut self, peer: u64) -> Vec<u8> {
+        let message = self.nearly_m();
         let e = wire::recv(peer, &message);
         let numbers = wire::received(&e).expect("a message").numbers;
         let mut long: Vec<usize> = numbers.iter().map(|n| n.long).collect();
-        let size = m + self.r.pick(&[0, 0, 1, 1, 2]);
+        let size = self.m as usize + self.r.pick(&[0, 0, 1, 1, 2]);
         for _ in message.len()..size {
             let open = |i: &usize| long[*i] < numbers[*i].field.longest().0;
             let open: Vec<usize> = (0..long.len()).filter(open).collect();
@@ -70,22 +99,28 @@ impl World {
         spelled(e, &numbers, &long)
     }
 
+    /// The number's own value, or one that its message cannot have: no kind, or more than follows.
+    fn value_for(&mut self, n: &Spelled) -> u64 {
+        match (n.field, n.field.kinds()) {
+            (_, Some(all)) if self.r.chance(60.0) => self.r.pick(&NO_KINDS).max(all),
+            (Field::Length | Field::Count, _) if self.r.chance(20.0) => {
+                self.r.pick(&[u64::MAX, 1 << 63, n.value + (1 << 32)])
+            }
+            _ => n.value,
+        }
+    }
+
     /// The event with a number of its message of any length up to one byte over the greatest, its
-    /// last byte too large, cut, or a kind that there is none of.
-    pub(super) fn misspelled(&mut self, e: Vec<u8>) -> Vec<u8> {
-        let Some(read) = wire::received(&e) else {
-            return e;
-        };
+    /// last byte too large, cut, or of another value.
+    fn misspelled(&mut self, e: Vec<u8>) -> Vec<u8> {
+        let read = wire::received(&e).expect("a message");
         let n = read.numbers[self.one_of(&read.numbers)];
         let (most, top) = n.field.longest();
-        let value = match n.field.kinds() {
-            Some(all) if self.r.chance(60.0) => self.r.pick(&NO_KINDS).max(all),
-            _ => n.value,
-        };
+        let value = self.value_for(&n);
         let any = 1 + self.r.index(most + 1);
         let long = self.r.pick(&[any, most, most + 1]);
         let mut bytes = wire::spelling(value, long);
-        if long == most && self.r.chance(50.0) {
+        if bytes.len() == most && self.r.chance(50.0) {
             bytes[most - 1] = self.r.pick(&[top + 1, top + 1, 127, 128, 255]);
         }
         let mut v = n.replaced(&e, &bytes);

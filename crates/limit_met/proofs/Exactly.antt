@@ -39,11 +39,11 @@ other : (o : Outcome) (n : ℕ) → numberOf o ≡ n → (n ≡ 13 → ⊥) → 
 unfolding numberOf
 other o n e ne q = ne (sym e ∙ ap numberOf q)
 
-module _ (rooms : List Room) (now : ℕ) (e : Event) (s : State) (output : ℕ) where
-  decided-met : (c : Counts) → decided identifier rooms now e s c output ≡ refused 13 → eventPast rooms now e s ≡ 0 → ⊥
+module _ (rooms : List Room) (now : ℕ) (bytes : List ℕ) (e : Event) (s : State) (output : ℕ) where
+  decided-met : (c : Counts) → decided identifier rooms now bytes e s c output ≡ refused 13 → eventPast rooms now bytes e s ≡ 0 → ⊥
   unfolding decided lastDecided eventPast numberOf
   decided-met c a z =
-      cases (messageFits (s .settings .maxMessageSize) e)
+      cases (messageFits (s .settings .maxMessageSize) bytes e)
       (λ m. cases (countsStay e c)
       (λ t. cases (tooFarBefore identifier now e s)
       (λ f. other (refused 12) 12 refl (λ q. omega (arith, q)) (rw (m, t, f) at a))
@@ -55,10 +55,10 @@ module _ (rooms : List Room) (now : ℕ) (e : Event) (s : State) (output : ℕ) 
       (λ t. other (refused 11) 11 refl (λ q. omega (arith, q)) (rw (m, t) at a)))
       (λ m. other (refused 10) 10 refl (λ q. omega (arith, q)) (rw m at a))
 
-  decided-13 : (eventPast rooms now e s ≡ 0 → ⊥) → decided identifier rooms now e s zeroCounts output ≡ refused 13
+  decided-13 : (eventPast rooms now bytes e s ≡ 0 → ⊥) → decided identifier rooms now bytes e s zeroCounts output ≡ refused 13
   unfolding decided lastDecided eventPast
   decided-13 z =
-      cases (messageFits (s .settings .maxMessageSize) e)
+      cases (messageFits (s .settings .maxMessageSize) bytes e)
       (λ m. cases (tooFarBefore identifier now e s)
       (λ f. absurd (z (rw (m, f) refl)))
       (λ f. cases (fitSizes (s .limits) (sizesAfter identifier rooms now e s))
@@ -81,7 +81,7 @@ module _ (block : List ℕ) (k : Call) where
   unfolding numberOf
   read-met c (faulty n) w l q a z = not-fault n (ap faultOf (sym q) ∙ decode-faults (k .event)) (ap numberOf (sym (answer-fault block w c k n l q) ∙ a))
   read-met c (decoded e) w l q a z =
-      decided-met (k .rooms) (k .now) e (stateOf (headIn block) block) (k .output) c (sym (answer-event block w c k e l q) ∙ a) (sym (limit-event block w asked e l q) ∙ z)
+      decided-met (k .rooms) (k .now) (k .event) e (stateOf (headIn block) block) (k .output) c (sym (answer-event block w c k e l q) ∙ a) (sym (limit-event block w asked e l q) ∙ z)
 
   pub met-13 : (c : Counts) → answerBlock identifier (length block) (held block) c k ≡ refused 13 → met ≡ 0 → ⊥
   unfolding numberOf
@@ -94,7 +94,7 @@ module _ (block : List ℕ) (k : Call) where
 
   read-13 : (d : Decoded) → Wholly block → k .now ≤ 2 ^ 62 → decodeEvent (k .event) ≡ d → (met ≡ 0 → ⊥) → answerBlock identifier (length block) (held block) zeroCounts k ≡ refused 13
   read-13 (faulty n) w l q z = absurd (z (limit-fault block w asked n l q))
-  read-13 (decoded e) w l q z = answer-event block w zeroCounts k e l q ∙ decided-13 (k .rooms) (k .now) e (stateOf (headIn block) block) (k .output) (λ p. z (limit-event block w asked e l q ∙ p))
+  read-13 (decoded e) w l q z = answer-event block w zeroCounts k e l q ∙ decided-13 (k .rooms) (k .now) (k .event) e (stateOf (headIn block) block) (k .output) (λ p. z (limit-event block w asked e l q ∙ p))
 
   pub limit-13 : (met ≡ 0 → ⊥) → answerBlock identifier (length block) (held block) zeroCounts k ≡ refused 13
   limit-13 z =

@@ -73,11 +73,11 @@ told-last output e r =
 
 -- (10) to (14)
 told-event : (s : State) (k : Call) (e : Event) → whole s ≡ true →
-    told (limitPast (handle identifier (k .now) e (begin s zeroCounts (k .rooms)) .state)) (askOf identifier s zeroCounts k e) ≡ eventPast (k .rooms) (k .now) e s
+    told (limitPast (handle identifier (k .now) e (begin s zeroCounts (k .rooms)) .state)) (askOf identifier s zeroCounts k e) ≡ eventPast (k .rooms) (k .now) (k .event) e s
 unfolding askOf eventPast told is13
 told-event s k e w =
-    if-on (told x) (not (messageFits (s .settings .maxMessageSize) e)) _ _
-    ∙ if-both (not (messageFits (s .settings .maxMessageSize) e)) refl
+    if-on (told x) (not (messageFits (s .settings .maxMessageSize) (k .event) e)) _ _
+    ∙ if-both (not (messageFits (s .settings .maxMessageSize) (k .event) e)) refl
     (ap (λ (b : Bool). told x (if not b then refuse 11 else later)) (zero-stays e)
     ∙ if-on (told x) (tooFar identifier e (firstEvent (k .now) (begin s zeroCounts (k .rooms)) .state)) _ _
     ∙ ap (λ (b : Bool). if b then 0 else told x (lastTwo (k .output) e run)) (decide-12 identifier (k .now) e s zeroCounts (k .rooms) w)
@@ -137,27 +137,27 @@ module _ (block : List ℕ) (w : Wholly block) where
       none-read = unfold pastAfter in if-same (is13 (askRead identifier s zeroCounts k (faulty n))) refl refl
 
   -- (10) to (13)
-  pub limit-event : (k : Call) (e : Event) → k .now ≤ 2 ^ 62 → decodeEvent (k .event) ≡ decoded e → limitMet identifier (length block) (held block) k ≡ eventPast (k .rooms) (k .now) e s
+  pub limit-event : (k : Call) (e : Event) → k .now ≤ 2 ^ 62 → decodeEvent (k .event) ≡ decoded e → limitMet identifier (length block) (held block) k ≡ eventPast (k .rooms) (k .now) (k .event) e s
   limit-event k e l q = limit-read k (decoded e) l q ∙ reads ∙ told-event s k e (w .whole)
     where
       reads : (if is13 (askRead identifier s zeroCounts k (decoded e)) then pastAfter identifier s k (decoded e) else 0) ≡ told (limitPast (handle identifier (k .now) e (begin s zeroCounts (k .rooms)) .state)) (askOf identifier s zeroCounts k e)
       reads = unfold told askRead pastAfter in refl
 
 -- with other rooms that tell the same of the peers that the call can reach
-pub past-rooms : (rooms rooms′ : List Room) (now : ℕ) (e : Event) (s : State) → whole s ≡ true →
-    ((p : ℕ) → reached s e p ≡ true → firstRoom p rooms′ ≡ firstRoom p rooms) → eventPast rooms′ now e s ≡ eventPast rooms now e s
+pub past-rooms : (rooms rooms′ : List Room) (now : ℕ) (bytes : List ℕ) (e : Event) (s : State) → whole s ≡ true →
+    ((p : ℕ) → reached s e p ≡ true → firstRoom p rooms′ ≡ firstRoom p rooms) → eventPast rooms′ now bytes e s ≡ eventPast rooms now bytes e s
 unfolding eventPast
-past-rooms rooms rooms′ now e s w h =
-    if-both (not (messageFits (s .settings .maxMessageSize) e)) refl
+past-rooms rooms rooms′ now bytes e s w h =
+    if-both (not (messageFits (s .settings .maxMessageSize) bytes e)) refl
     (if-both (tooFarBefore identifier now e s) refl
     (sym (after-sizes now e s rooms′ w) ∙ ap (λ (r : Run). limitPast (r .state)) (same-rooms identifier now e s zeroCounts rooms rooms′ w h) ∙ after-sizes now e s rooms w))
 
 -- an event that was read, with the link room in an array
 pub core-limit : (block bytes array : List ℕ) (g : Head) (now : ℕ) (e : CodeEvent) (p n : ℕ) → Wholly block → g ≡ headIn block → now ≤ 2 ^ 62 →
     decodeEvent bytes ≡ decoded (eventValue bytes e) → p ≡ eventPeer e →
-    n ≡ eventPast (roomsIn (stateOf g block) (set array 33 p)) now (eventValue bytes e) (stateOf g block) →
+    n ≡ eventPast (roomsIn (stateOf g block) (set array 33 p)) now bytes (eventValue bytes e) (stateOf g block) →
     n ≡ limitMet identifier (length block) (held block) (asking now bytes (coreRooms block bytes array))
 core-limit block bytes array g now e p n w same early d q f =
-    subst (λ (x : Head). n ≡ eventPast (roomsIn (stateOf x block) (set array 33 p)) now (eventValue bytes e) (stateOf x block)) same f
-    ∙ ap (λ (rs : List Room). eventPast rs now (eventValue bytes e) (stateOf (headIn block) block)) (sym (core-rooms block bytes array e p d q))
+    subst (λ (x : Head). n ≡ eventPast (roomsIn (stateOf x block) (set array 33 p)) now bytes (eventValue bytes e) (stateOf x block)) same f
+    ∙ ap (λ (rs : List Room). eventPast rs now bytes (eventValue bytes e) (stateOf (headIn block) block)) (sym (core-rooms block bytes array e p d q))
     ∙ sym (limit-event block w (asking now bytes (coreRooms block bytes array)) (eventValue bytes e) early d)

@@ -33,10 +33,10 @@ sizesPast l z =
     else if not (leb (z .recorded) (l .D)) then 9
     else 0
 
--- (10), (12), (13) of an event that was read; counts of zero stay under 2^64
-unfoldable pub eventPast : List Room → ℕ → Event → State → ℕ
-eventPast rooms now e s =
-    if not (messageFits (s .settings .maxMessageSize) e) then 0
+-- (10) of the event's bytes, (12), (13) of the event that was read; counts of zero stay under 2^64
+unfoldable pub eventPast : List Room → ℕ → List ℕ → Event → State → ℕ
+eventPast rooms now bytes e s =
+    if not (messageFits (s .settings .maxMessageSize) bytes e) then 0
     else if tooFarBefore identifier now e s then 0
     else sizesPast (s .limits) (sizesAfter identifier rooms now e s)
 

@@ -12,6 +12,7 @@ use postcard::message::Timer;
 use postcard::units::Millis;
 use steps::Sizes;
 ghost use mathlib.Core.Path.{_≡_};
+ghost use mathlib.Core.List.{[]};
 ghost use lib.ListN.{length};
 ghost use Prim.Native.Nat.{_+_, _≤_};
 ghost use Rattle.rows.specs.Part.{part};
@@ -105,8 +106,8 @@ fn message_limit(
     size: usize,
     m: Message,
 ) -> u8
-    requires { ⌜ Stands h (now block) × Sized (now event) size m ⌝ }
-    ensures { λ r. ⌜ r ≡ eventPast (roomsIn (stateOf h (now (block .entry))) (now (rooms .entry))) (instant .0) (Received peer (messageValue (now (event .entry)) m)) (stateOf h (now (block .entry))) ⌝ }
+    requires { ⌜ Stands h (now block) × Sized (now event) (length (now event)) size m ⌝ }
+    ensures { λ r. ⌜ r ≡ eventPast (roomsIn (stateOf h (now (block .entry))) (now (rooms .entry))) (instant .0) (now (event .entry)) (Received peer (messageValue (now (event .entry)) m)) (stateOf h (now (block .entry))) ⌝ }
 {
     if h.settings.max_message_size < size as u64 {
         return 0;
@@ -127,7 +128,7 @@ fn broadcast_limit(
     scope: Scope,
 ) -> u8
     requires { ⌜ Stands h (now block) × (start + len ≤ length (now event)) ⌝ }
-    ensures { λ r. ⌜ r ≡ eventPast (roomsIn (stateOf h (now (block .entry))) (now (rooms .entry))) (instant .0) (Broadcast (part start len (now (event .entry))) (scopeValue scope)) (stateOf h (now (block .entry))) ⌝ }
+    ensures { λ r. ⌜ r ≡ eventPast (roomsIn (stateOf h (now (block .entry))) (now (rooms .entry))) (instant .0) (now (event .entry)) (Broadcast (part start len (now (event .entry))) (scopeValue scope)) (stateOf h (now (block .entry))) ⌝ }
 {
     let step = kinds::broadcast_step(h, block, instant, event, start, len, scope);
     step_limit(h, block, instant, event, rooms, step)
@@ -143,7 +144,7 @@ fn timer_limit(
     t: Timer,
 ) -> u8
     requires { ⌜ Stands h (now block) ⌝ }
-    ensures { λ r. ⌜ r ≡ eventPast (roomsIn (stateOf h (now (block .entry))) (now (rooms .entry))) (instant .0) (Fired (timerValue t)) (stateOf h (now (block .entry))) ⌝ }
+    ensures { λ r. ⌜ r ≡ eventPast (roomsIn (stateOf h (now (block .entry))) (now (rooms .entry))) (instant .0) (now (event .entry)) (Fired (timerValue t)) (stateOf h (now (block .entry))) ⌝ }
 {
     let step = kinds::timer_step(h, block, instant, event, t);
     step_limit(h, block, instant, event, rooms, step)
@@ -152,7 +153,7 @@ fn timer_limit(
 // A neighbour told up: the numbers of entries with its link.
 fn up_limit(h: Head, block: &[u8], instant: Millis, rooms: &[u64; 34], peer: u64) -> u8
     requires { ⌜ Stands h (now block) ⌝ }
-    ensures { λ r. ⌜ r ≡ eventPast (roomsIn (stateOf h (now (block .entry))) (now (rooms .entry))) (instant .0) (Up peer) (stateOf h (now (block .entry))) ⌝ }
+    ensures { λ r. ⌜ r ≡ eventPast (roomsIn (stateOf h (now (block .entry))) (now (rooms .entry))) (instant .0) [] (Up peer) (stateOf h (now (block .entry))) ⌝ }
 {
     let sizes = sizes::up_sizes(h, block, peer);
     limit_past(h.limits, sizes)
@@ -167,8 +168,8 @@ fn event_limit(
     rooms: &[u64; 34],
     e: Event,
 ) -> u8
-    requires { ⌜ Stands h (now block) × EventHeld (now event) e ⌝ }
-    ensures { λ r. ⌜ r ≡ eventPast (roomsIn (stateOf h (now (block .entry))) (now (rooms .entry))) (instant .0) (eventValue (now (event .entry)) e) (stateOf h (now (block .entry))) ⌝ }
+    requires { ⌜ Stands h (now block) × EventHeld (now event) (length (now event)) e ⌝ }
+    ensures { λ r. ⌜ r ≡ eventPast (roomsIn (stateOf h (now (block .entry))) (now (rooms .entry))) (instant .0) (now (event .entry)) (eventValue (now (event .entry)) e) (stateOf h (now (block .entry))) ⌝ }
 {
     match e {
         Event::Received {

@@ -216,6 +216,16 @@ received-size bytes size m sized =
     let l : length bytes ≤ length bytes = omega arith in
     omega (arith, sized .counts, ap length (drop-of-length-le bytes l))
 
+-- question 10, of a received message
+module _ (h : Head) (block bytes : List ℕ) (peer size : ℕ) (m : Message) (sized : Sized bytes (length bytes) size m) where
+  pub message-fits : size ≤ h .settings .«max_message_size» → messageFits (stateOf h block .settings .maxMessageSize) bytes (Received peer (messageValue bytes m)) ≡ true
+  unfolding messageFits stateOf
+  message-fits l = le-leb (length (messagePart bytes)) (h .settings .«max_message_size») (omega (arith, l, received-size bytes size m sized))
+
+  pub message-long : h .settings .«max_message_size» < size → messageFits (stateOf h block .settings .maxMessageSize) bytes (Received peer (messageValue bytes m)) ≡ false
+  unfolding messageFits stateOf
+  message-long l = lt-leb (length (messagePart bytes)) (h .settings .«max_message_size») (omega (arith, l, received-size bytes size m sized))
+
 -- a received message: questions 10 and 11
 module _ (h : Head) (block bytes : List ℕ) (rooms : List Room) (now peer size : ℕ) (m : Message) (c : Counts) (output : ℕ) (sized : Sized bytes (length bytes) size m) where
   abbrev t : State
@@ -225,12 +235,8 @@ module _ (h : Head) (block bytes : List ℕ) (rooms : List Room) (now peer size 
   event = Received peer (messageValue bytes m)
 
   pub message-10 : h .settings .«max_message_size» < size → decided identifier rooms now bytes event t c output ≡ refused 10
-  unfolding decided messageFits stateOf
-  message-10 l = rw (lt-leb (length (messagePart bytes)) (h .settings .«max_message_size») (omega (arith, l, received-size bytes size m sized))) refl
-
-  pub message-fits : size ≤ h .settings .«max_message_size» → messageFits (t .settings .maxMessageSize) bytes event ≡ true
-  unfolding messageFits stateOf
-  message-fits l = le-leb (length (messagePart bytes)) (h .settings .«max_message_size») (omega (arith, l, received-size bytes size m sized))
+  unfolding decided
+  message-10 l = rw (message-long h block bytes peer size m sized l) refl
 
   pub message-stays : (b : Bool) → countsBelow (countedAs (isPayload m) c) ≡ b → countsStay event c ≡ b
   unfolding countsStay
@@ -238,7 +244,7 @@ module _ (h : Head) (block bytes : List ℕ) (rooms : List Room) (now peer size 
 
   pub message-11 : size ≤ h .settings .«max_message_size» → countsBelow (countedAs (isPayload m) c) ≡ false → decided identifier rooms now bytes event t c output ≡ refused 11
   unfolding decided
-  message-11 l e = rw (message-fits l, message-stays false e) refl
+  message-11 l e = rw (message-fits h block bytes peer size m sized l, message-stays false e) refl
 
 -- the outcome of a step is that of its event
 pub step-finds : (h : Head) (block bytes array : List ℕ) (now : ℕ) (r : Step) (e : Event) (c counted : Counts) (output : ℕ) (before after : Lent) (n m : ℕ) → Means bytes now (stateOf h block) r e →

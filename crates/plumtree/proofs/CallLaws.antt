@@ -104,7 +104,7 @@ module _ (block event : List ℕ) where
   read-limit : (given asked : List Room) (now : ℕ) (x : Decoded) → Wholly block → now ≤ 2 ^ 62 → decodeEvent event ≡ x → Serves given asked →
       limitMet identifier (length block) (held block) (asking now event given) ≡ limitMet identifier (length block) (held block) (asking now event asked)
   read-limit given asked now (faulty n) w early d v = limit-fault block w _ n early d ∙ sym (limit-fault block w _ n early d)
-  read-limit given asked now (decoded e) w early d v = limit-event block w _ e early d ∙ past-rooms asked given now e s (w .whole) (v .same w e d) ∙ sym (limit-event block w _ e early d)
+  read-limit given asked now (decoded e) w early d v = limit-event block w _ e early d ∙ past-rooms asked given now event e s (w .whole) (v .same w e d) ∙ sym (limit-event block w _ e early d)
 
   same-limit : (given asked : List Room) (now : ℕ) → Serves given asked →
       limitMet identifier (length block) (held block) (asking now event given) ≡ limitMet identifier (length block) (held block) (asking now event asked)

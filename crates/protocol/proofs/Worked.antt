@@ -7,7 +7,7 @@ use mathlib.Core.Option.{none}
 use lib.ListN.{replicate}
 use Rattle.lists.specs.Base.{_▷_, count, any, filter, member, concatMap, all, sum, ascending}
 use Rattle.lists.specs.Map.{lookup, insert, remove, insertKey, removeKey}
-use Rattle.postcard.specs.Number.{got, groups, numberBytes, numberLength, readRound, readGroups, lastGroup, readNumber, readPadded, kindNumber, readBytes, readKind}
+use Rattle.postcard.specs.Number.{got, groups, numberBytes, numberLength, readRound, readGroups, lastGroup, readNumber, kindNumber, readBytes, readKind}
 use Rattle.postcard.specs.Message.{Swarm, toSwarm, toNeighbors, Gossip, Prune, Graft, IHave, DispatchLazyPush, Received, Sent, Scheduled, Emitted, messageBytes, timerBytes, actionBytes}
 use Rattle.postcard.specs.Decode.{messagePart, messageKind, readMessage, messageOf, readTimer, timerOf, eventOf, readEvent, ended, decodeEvent}
 use Rattle.time_cache.specs.TimeCache.{holds, put, addExpiry, get, valueOf, expiresAt, pop, due, later, popAll, expireUntil, expiresOnTime, inPopOrder}

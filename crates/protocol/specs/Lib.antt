@@ -1,6 +1,7 @@
 pub mod State
 pub mod Run
 pub mod Answer
+pub mod SameMeaning
 pub mod Whole
 pub mod Links
 pub mod Neighbours

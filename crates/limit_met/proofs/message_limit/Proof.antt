@@ -5,7 +5,8 @@ use Rattle.postcard.specs.Message.{Received}
 use Rattle.postcard.specs.Events.{messageValue}
 use Rattle.block.specs.View.{stateOf}
 use Rattle.steps.specs.Rooms.{roomsIn}
-use Rattle.limit_met.proofs.StepLaws.{step-event, long-past, message-fits}
+use Rattle.machine.proofs.RunLaws.{message-fits}
+use Rattle.limit_met.proofs.StepLaws.{step-event, long-past}
 use borrow.Author.Needs.{needs}
 use Rattle.limit_met.proofs.message_limit.Statement.{statement}
 use Rattle.limit_met.proofs.message_limit.Tie as tie

@@ -813,9 +813,7 @@ impl World {
             }
             4 => {
                 // The peer, or a broadcast's length, not shortest or too wide.
-                let longer = [e[1] | 128, 0];
-                let bad: [&[u8]; 7] = [
-                    &longer,
+                let bad: [&[u8]; 6] = [
                     &[0x80, 0],
                     &[0x81, 0x80, 0],
                     &[255, 255, 255, 255, 255, 255, 255, 255, 255, 2],

@@ -8,7 +8,7 @@ use oracle::{
 
 use crate::{
     block, likeness,
-    wire::{self, Action, Field, Message, Reading, Stop},
+    wire::{self, Action, Field, Message, Spelled, Stop},
 };
 
 /// Every path that a run is meant to hit.
@@ -161,6 +161,13 @@ pub const ALL: &[&str] = &[
     "room of a stranger",
     "room: more entries than links",
     "room for some of a peer's sends",
+    "event kind: 8 at its last allowed byte",
+    "peer: 8 at its last allowed byte",
+    "peer: 8 since it is padded",
+    "broadcast length: 8 at its last allowed byte",
+    "broadcast length: 8 since it is padded",
+    "broadcast byte: 8 at its last allowed byte",
+    "timer kind: 8 at its last allowed byte",
     "message kind: padded",
     "message kind: of its greatest length",
     "message kind: 8 at its last allowed byte",
@@ -271,22 +278,20 @@ impl Paths {
         }
     }
 
-    /// How a received message is spelled. The reader of wire.rs must agree with the answer.
+    /// How an event is spelled. The reader of wire.rs must agree with the answer.
     pub fn spelled(&mut self, before: Option<&Snap>, event: &[u8], answer: &Answer) {
-        let (Some(b), Some(read)) = (before, wire::received(event)) else {
+        let Some(b) = before.filter(|_| answer.number != 6) else {
             return;
         };
-        if answer.number == 6 {
-            return;
-        }
-        let no = read.stop.map_or(if read.left > 0 { 9 } else { 0 }, Stop::question);
-        let told = if answer.number < 10 { answer.number } else { 0 };
-        assert_eq!(no, told, "{}", hex::encode(event));
+        let read = wire::reading(event);
+        let told = Some(answer.number).filter(|n| (7..10).contains(n));
+        assert_eq!(read.question, told, "{}", hex::encode(event));
         match read.stop {
-            None if no == 0 => self.padding(b.m as usize, &read, answer.number),
+            None => self.padding(b.m as usize, event.len(), &read.message(), answer.number),
             Some(Stop::Long(f)) => {
                 self.hit_named(format!("{}: 8 at its last allowed byte", f.name()))
             }
+            Some(Stop::Padded(f)) => self.hit_named(format!("{}: 8 since it is padded", f.name())),
             Some(Stop::Cut(f, part)) if f.kinds().is_some_and(|all| part >= all) => {
                 self.hit_named(format!("{}: cut, unknown so far", f.name()))
             }
@@ -297,16 +302,20 @@ impl Paths {
         }
     }
 
-    /// The numbers of a message that is read to its end, and how many bytes it has.
-    fn padding(&mut self, m: usize, read: &Reading, number: u8) {
-        let more: usize = read.numbers.iter().map(|n| n.long - n.shortest()).sum();
-        self.hit_if(number == 10 && read.read - more <= m, "10 by padding alone");
-        if number != 0 || more == 0 {
+    /// The numbers of a message, and how many bytes it has: up to the end of the event.
+    fn padding(&mut self, m: usize, end: usize, numbers: &[Spelled], answer: u8) {
+        let more: usize = numbers.iter().map(|n| n.long - n.shortest()).sum();
+        if more == 0 {
             return;
         }
-        self.hit_if(read.read == m, "M bytes by padding");
+        let size = end - numbers[0].at;
+        self.hit_if(answer == 10 && size - more <= m, "10 by padding alone");
+        if answer != 0 {
+            return;
+        }
+        self.hit_if(size == m, "M bytes by padding");
         for f in Field::INSIDE {
-            let those = || read.numbers.iter().filter(|n| n.field == f && n.long > n.shortest());
+            let those = || numbers.iter().filter(|n| n.field == f && n.long > n.shortest());
             if those().next().is_some() {
                 self.hit_named(format!("{}: padded", f.name()));
             }

@@ -1,4 +1,4 @@
-//! Events written, actions and received messages read, in document 01's encoding.
+//! Events written, events and actions read, in document 01's encoding.
 use oracle::snap::Id;
 
 pub fn number(out: &mut Vec<u8>, mut v: u64) {
@@ -120,12 +120,17 @@ pub enum Action {
     Emit,
 }
 
-/// A number by where it stands. Those of a message may be padded, but for the byte before a Graft's
-/// identifier, which has one byte.
+/// A number by where it stands, a byte too. Those of a message may be padded, but for the byte before
+/// a Graft's identifier.
 #[derive(Clone, Copy, PartialEq, Eq, Debug)]
 pub enum Field {
-    /// A peer or a time: in no message.
-    Outside,
+    EventKind,
+    Peer,
+    BroadcastLength,
+    BroadcastByte,
+    TimerKind,
+    /// In actions only.
+    Delay,
     MessageKind,
     DeliveryKind,
     Length,
@@ -151,7 +156,12 @@ impl Field {
 
     pub fn name(self) -> &'static str {
         match self {
-            Field::Outside => "peer or time",
+            Field::EventKind => "event kind",
+            Field::Peer => "peer",
+            Field::BroadcastLength => "broadcast length",
+            Field::BroadcastByte => "broadcast byte",
+            Field::TimerKind => "timer kind",
+            Field::Delay => "delay",
             Field::MessageKind => "message kind",
             Field::DeliveryKind => "delivery kind",
             Field::Length => "length",
@@ -166,10 +176,13 @@ impl Field {
     /// The greatest length in bytes, and the largest last byte of a number of that length.
     pub fn longest(self) -> (usize, u8) {
         match self {
-            Field::Outside | Field::Length | Field::Count => (10, 1),
+            Field::EventKind => (1, 4),
+            Field::TimerKind => (1, 3),
+            Field::Peer | Field::Delay | Field::BroadcastLength => (10, 1),
+            Field::Length | Field::Count => (10, 1),
             Field::MessageKind | Field::DeliveryKind => (5, 15),
             Field::DeliveryRound | Field::GraftRound | Field::EntryRound => (3, 3),
-            Field::Presence => (1, 1),
+            Field::Presence | Field::BroadcastByte => (1, 1),
         }
     }
 
@@ -195,7 +208,8 @@ pub struct Spelled {
 impl Spelled {
     /// The length of its shortest form.
     pub fn shortest(&self) -> usize {
-        num(self.value).len()
+        let bits = u64::BITS - self.value.leading_zeros();
+        bits.max(1).div_ceil(7) as usize
     }
 
     /// The event with other bytes in the number's place.
@@ -204,7 +218,7 @@ impl Spelled {
     }
 }
 
-/// Why a message is not read to its end.
+/// Why an event is not read to its end.
 #[derive(Clone, Copy, PartialEq, Debug)]
 pub enum Stop {
     /// The bytes end outside of a number.
@@ -213,6 +227,8 @@ pub enum Stop {
     Cut(Field, u64),
     /// A number's last allowed byte goes on or is too large.
     Long(Field),
+    /// A number outside of a message is not shortest.
+    Padded(Field),
     /// A kind that there is none of, of so many bytes.
     Unknown(Field, usize),
 }
@@ -222,7 +238,7 @@ impl Stop {
     pub fn question(self) -> u8 {
         match self {
             Stop::End | Stop::Cut(..) => 7,
-            Stop::Long(_) | Stop::Unknown(..) => 8,
+            Stop::Long(_) | Stop::Padded(_) | Stop::Unknown(..) => 8,
         }
     }
 }
@@ -244,7 +260,7 @@ impl<'a> Reader<'a> {
         self.at += 1;
         Ok(b)
     }
-    /// A number up to its greatest length, padded or not.
+    /// A number up to its greatest length, padded only inside a message.
     fn number(&mut self, field: Field) -> Got<u64> {
         let (most, top) = field.longest();
         let at = self.at;
@@ -255,6 +271,9 @@ impl<'a> Reader<'a> {
                 break;
             }
             value |= u64::from(b & 127) << (7 * i);
+            if b == 0 && i > 0 && !Field::INSIDE.contains(&field) {
+                return Err(Stop::Padded(field));
+            }
             if b < 128 {
                 self.numbers.push(Spelled { field, at, long: i + 1, value });
                 return Ok(value);
@@ -279,8 +298,8 @@ impl<'a> Reader<'a> {
     fn id(&mut self) -> Got<Id> {
         Ok(self.take(32)?.try_into().unwrap())
     }
-    fn content(&mut self) -> Got<Vec<u8>> {
-        let n = self.number(Field::Length)?;
+    fn content(&mut self, length: Field) -> Got<Vec<u8>> {
+        let n = self.number(length)?;
         Ok(self.take(n as usize)?.to_vec())
     }
     fn delivery(&mut self) -> Got<Option<u16>> {
@@ -296,7 +315,7 @@ impl<'a> Reader<'a> {
         Ok(match self.kind(Field::MessageKind)? {
             0 => Message::Gossip {
                 id: self.id()?,
-                content: self.content()?,
+                content: self.content(Field::Length)?,
                 round: self.delivery()?,
             },
             1 => Message::Prune,
@@ -312,33 +331,51 @@ impl<'a> Reader<'a> {
         })
     }
     fn timer(&mut self) -> Got<Timer> {
-        Ok(match self.byte()? {
+        Ok(match self.number(Field::TimerKind)? {
             0 => Timer::SendGraft(self.id()?),
             1 => Timer::Dispatch,
             2 => Timer::Evict,
-            3 => Timer::Announce,
-            _ => panic!("a timer's kind"),
+            _ => Timer::Announce,
         })
     }
     fn action(&mut self) -> Got<Action> {
         Ok(match self.byte()? {
             1 => Action::Send {
-                peer: self.number(Field::Outside)?,
+                peer: self.number(Field::Peer)?,
                 back: self.byte()? == 1,
                 message: self.message()?,
             },
             2 => {
-                self.number(Field::Outside)?;
+                self.number(Field::Delay)?;
                 Action::Schedule(self.timer()?)
             }
             3 => {
-                self.number(Field::Outside)?;
-                self.content()?;
+                self.number(Field::Peer)?;
+                self.content(Field::Length)?;
                 self.delivery()?;
                 Action::Emit
             }
             _ => panic!("an action's kind"),
         })
+    }
+    fn event(&mut self) -> Got<()> {
+        match self.number(Field::EventKind)? {
+            0 => {
+                self.number(Field::Peer)?;
+                self.message()?;
+            }
+            1 => {
+                self.content(Field::BroadcastLength)?;
+                self.number(Field::BroadcastByte)?;
+            }
+            2 => {
+                self.timer()?;
+            }
+            _ => {
+                self.number(Field::Peer)?;
+            }
+        }
+        Ok(())
     }
 }
 
@@ -352,29 +389,26 @@ pub fn actions(bytes: &[u8]) -> Vec<Action> {
     v
 }
 
-/// A received message as it is spelled.
+/// An event as it is spelled.
 pub struct Reading {
     /// Its numbers, up to where reading stops.
     pub numbers: Vec<Spelled>,
-    /// Why it stops; none at the end of the message.
+    /// The first of questions 7 to 9 that is answered no, and why reading stops, if it does.
+    pub question: Option<u8>,
     pub stop: Option<Stop>,
-    /// The message's bytes that were read, and those behind them.
-    pub read: usize,
-    pub left: usize,
 }
 
-/// The message of an event; none if the event has none, or its peer isn't one.
-pub fn received(event: &[u8]) -> Option<Reading> {
+impl Reading {
+    /// The numbers of its message.
+    pub fn message(&self) -> Vec<Spelled> {
+        let inside = |n: &&Spelled| Field::INSIDE.contains(&n.field);
+        self.numbers.iter().filter(inside).copied().collect()
+    }
+}
+
+pub fn reading(event: &[u8]) -> Reading {
     let mut r = Reader::new(event);
-    if r.byte() != Ok(0) {
-        return None;
-    }
-    r.number(Field::Outside).ok()?;
-    let peer = r.numbers.pop()?;
-    if peer.long > peer.shortest() {
-        return None;
-    }
-    let from = r.at;
-    let stop = r.message().err();
-    Some(Reading { numbers: r.numbers, stop, read: r.at - from, left: event.len() - r.at })
+    let stop = r.event().err();
+    let left = Some(9).filter(|_| r.at < event.len());
+    Reading { question: stop.map(Stop::question).or(left), numbers: r.numbers, stop }
 }

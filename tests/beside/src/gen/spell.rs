@@ -1,4 +1,4 @@
-//! Received messages with their numbers spelled in other ways than the shortest.
+//! Events whose numbers are spelled in other ways than the shortest.
 use oracle::{identifier, snap::Snap};
 
 use super::World;
@@ -16,7 +16,7 @@ const BESIDE_ENTRIES: usize = 2;
 const ENTRY: usize = 33;
 
 impl World {
-    /// The event with its message spelled otherwise, or another message that is.
+    /// The event spelled otherwise, or another one that is.
     pub(super) fn respelled(&mut self, e: Vec<u8>, s: &Snap) -> Vec<u8> {
         let p = self.peer(s);
         match self.r.below(10) {
@@ -29,8 +29,22 @@ impl World {
                 let message = if self.r.chance(50.0) { self.ihave(s, p) } else { self.graft(s, p) };
                 self.misspelled(message)
             }
+            3 => self.own_padded(e),
             _ => self.padded(e),
         }
+    }
+
+    /// The event with a number of its own, which must be shortest, one byte longer: its kind, what
+    /// follows it, or the last byte of a broadcast.
+    fn own_padded(&mut self, mut e: Vec<u8>) -> Vec<u8> {
+        let last = if e[0] == 1 { e.len() - 1 } else { 1 };
+        let mut at = self.r.pick(&[0, 1, last]);
+        while e[at] >= 128 {
+            at += 1;
+        }
+        e[at] |= 128;
+        e.insert(at + 1, 0);
+        e
     }
 
     /// One of the numbers, each field as often as the others.
@@ -52,21 +66,22 @@ impl World {
 
     /// The event with one number of its message padded, or many. One without a message stays.
     fn padded(&mut self, e: Vec<u8>) -> Vec<u8> {
-        let Some(read) = wire::received(&e) else {
+        let numbers = wire::reading(&e).message();
+        if numbers.is_empty() {
             return e;
-        };
-        let mut long: Vec<usize> = read.numbers.iter().map(|n| n.long).collect();
+        }
+        let mut long: Vec<usize> = numbers.iter().map(|n| n.long).collect();
         if self.r.chance(50.0) {
-            let i = self.one_of(&read.numbers);
-            long[i] = self.length_of(&read.numbers[i]);
+            let i = self.one_of(&numbers);
+            long[i] = self.length_of(&numbers[i]);
         } else {
-            for (k, n) in long.iter_mut().zip(&read.numbers) {
+            for (k, n) in long.iter_mut().zip(&numbers) {
                 if self.r.chance(50.0) {
                     *k = self.length_of(n);
                 }
             }
         }
-        spelled(e, &read.numbers, &long)
+        spelled(e, &numbers, &long)
     }
 
     /// A message whose shortest form has M bytes or some less.
@@ -86,7 +101,7 @@ impl World {
     fn padded_to_m(&mut self, peer: u64) -> Vec<u8> {
         let message = self.nearly_m();
         let e = wire::recv(peer, &message);
-        let numbers = wire::received(&e).expect("a message").numbers;
+        let numbers = wire::reading(&e).message();
         let mut long: Vec<usize> = numbers.iter().map(|n| n.long).collect();
         let size = self.m as usize + self.r.pick(&[0, 0, 1, 1, 2]);
         for _ in message.len()..size {
@@ -113,8 +128,8 @@ impl World {
     /// The event with a number of its message of any length up to one byte over the greatest, its
     /// last byte too large, cut, or of another value.
     fn misspelled(&mut self, e: Vec<u8>) -> Vec<u8> {
-        let read = wire::received(&e).expect("a message");
-        let n = read.numbers[self.one_of(&read.numbers)];
+        let numbers = wire::reading(&e).message();
+        let n = numbers[self.one_of(&numbers)];
         let (most, top) = n.field.longest();
         let value = self.value_for(&n);
         let any = 1 + self.r.index(most + 1);

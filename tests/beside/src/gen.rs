@@ -1,5 +1,6 @@
 //! Random lists of calls. A list is determined by its seed and the Rust's answers.
 mod brink;
+mod spell;
 
 use std::collections::HashMap;
 
@@ -63,6 +64,7 @@ pub struct World {
     now: u64,
     step: u64,
     bad: f64,
+    respelled: f64,
     tight: f64,
     damage: f64,
     alike: f64,
@@ -237,6 +239,7 @@ impl World {
             now,
             step,
             bad: if big { 0.5 } else { r.pick(&[0.0, 2.0, 6.0]) },
+            respelled: if big { 2.0 } else { r.pick(&[0.0, 4.0, 20.0]) },
             tight: match profile {
                 Profile::Drops | Profile::Full | Profile::Fill | Profile::Ceilings => 85.0,
                 Profile::Record | Profile::Brink => 85.0,
@@ -614,6 +617,9 @@ impl World {
         if self.r.chance(self.bad) {
             return self.damaged(e, s);
         }
+        if self.r.chance(self.respelled) {
+            return self.respelled(e, s);
+        }
         e
     }
 
@@ -634,12 +640,7 @@ impl World {
             "down" => wire::down(p),
             "gossip" => self.gossip(s, p),
             "ihave" => self.ihave(s, p),
-            "graft" => {
-                let id = self.id_of(s.cache.iter().map(|c| c.id).collect());
-                let round = self.round();
-                let id = if self.r.chance(15.0) { None } else { Some(&id) };
-                wire::recv(p, &wire::graft(id, round))
-            }
+            "graft" => self.graft(s, p),
             "prune" => wire::recv(p, &wire::prune()),
             "broadcast" => {
                 let k = self.r.index(self.contents.len());
@@ -712,6 +713,13 @@ impl World {
         }
         let round = if self.r.chance(10.0) { None } else { Some(round) };
         wire::recv(from, &wire::gossip(&id, &content, round))
+    }
+
+    fn graft(&mut self, s: &Snap, p: u64) -> Vec<u8> {
+        let id = self.id_of(s.cache.iter().map(|c| c.id).collect());
+        let round = self.round();
+        let id = if self.r.chance(15.0) { None } else { Some(&id) };
+        wire::recv(p, &wire::graft(id, round))
     }
 
     fn ihave(&mut self, s: &Snap, p: u64) -> Vec<u8> {
@@ -804,7 +812,7 @@ impl World {
                 v
             }
             4 => {
-                // The peer or length not shortest, or too wide.
+                // The peer, or a broadcast's length, not shortest or too wide.
                 let bad: [&[u8]; 6] = [
                     &[0x80, 0],
                     &[0x81, 0x80, 0],

@@ -199,6 +199,7 @@ fn run_list(
             let before = call.before.as_ref();
             paths.call(before, seen.as_ref(), *now, &call.answer, out, after, damaged);
             paths.rooms(before, rooms, &call.answer);
+            paths.spelled(before, event, &call.answer);
             if !damaged {
                 world.heard(&call);
             }

@@ -8,7 +8,7 @@ use oracle::{
 
 use crate::{
     block, likeness,
-    wire::{self, Action, Message},
+    wire::{self, Action, Field, Message, Spelled, Stop},
 };
 
 /// Every path that a run is meant to hit.
@@ -161,6 +161,41 @@ pub const ALL: &[&str] = &[
     "room of a stranger",
     "room: more entries than links",
     "room for some of a peer's sends",
+    "event kind: 8 at its last allowed byte",
+    "peer: 8 at its last allowed byte",
+    "peer: 8 since it is padded",
+    "broadcast length: 8 at its last allowed byte",
+    "broadcast length: 8 since it is padded",
+    "broadcast byte: 8 at its last allowed byte",
+    "timer kind: 8 at its last allowed byte",
+    "message kind: padded",
+    "message kind: of its greatest length",
+    "message kind: 8 at its last allowed byte",
+    "message kind: cut, unknown so far",
+    "message kind: unknown at a later byte",
+    "delivery kind: padded",
+    "delivery kind: of its greatest length",
+    "delivery kind: 8 at its last allowed byte",
+    "delivery kind: cut, unknown so far",
+    "delivery kind: unknown at a later byte",
+    "length: padded",
+    "length: of its greatest length",
+    "length: 8 at its last allowed byte",
+    "count: padded",
+    "count: of its greatest length",
+    "count: 8 at its last allowed byte",
+    "delivery round: padded",
+    "delivery round: of its greatest length",
+    "delivery round: 8 at its last allowed byte",
+    "Graft round: padded",
+    "Graft round: of its greatest length",
+    "Graft round: 8 at its last allowed byte",
+    "IHave round: padded",
+    "IHave round: of its greatest length",
+    "IHave round: 8 at its last allowed byte",
+    "presence byte: 8 at its last allowed byte",
+    "M bytes by padding",
+    "10 by padding alone",
     "creation 0",
     "creation 1",
     "creation 2",
@@ -206,10 +241,14 @@ impl Paths {
         *self.faults.entry(why).or_default() += 1;
     }
 
+    /// A path whose name is put together.
+    fn hit_named(&mut self, name: String) {
+        self.hit(ALL.iter().find(|n| **n == name).unwrap_or_else(|| panic!("{name}")));
+    }
+
     /// A creation with this answer.
     pub fn creation(&mut self, number: u64) {
-        let name = ALL.iter().find(|n| **n == format!("creation {number}"));
-        self.hit(name.expect("an answer of a creation"));
+        self.hit_named(format!("creation {number}"));
     }
 
     /// A question of *alike*.
@@ -236,6 +275,53 @@ impl Paths {
             self.hit_if(stranger && !mine.is_empty(), "room of a stranger");
             let both = [true, false].map(|back| sends.contains(&(*p, back)));
             self.hit_if(both == [true, true], "room for some of a peer's sends");
+        }
+    }
+
+    /// How an event is spelled. The reader of wire.rs must agree with the answer.
+    pub fn spelled(&mut self, before: Option<&Snap>, event: &[u8], answer: &Answer) {
+        let Some(b) = before.filter(|_| answer.number != 6) else {
+            return;
+        };
+        let read = wire::reading(event);
+        let told = Some(answer.number).filter(|n| (7..10).contains(n));
+        assert_eq!(read.question, told, "{}", hex::encode(event));
+        match read.stop {
+            None => self.padding(b.m as usize, event.len(), &read.message(), answer.number),
+            Some(Stop::Long(f)) => {
+                self.hit_named(format!("{}: 8 at its last allowed byte", f.name()))
+            }
+            Some(Stop::Padded(f)) => self.hit_named(format!("{}: 8 since it is padded", f.name())),
+            Some(Stop::Cut(f, part)) if f.kinds().is_some_and(|all| part >= all) => {
+                self.hit_named(format!("{}: cut, unknown so far", f.name()))
+            }
+            Some(Stop::Unknown(f, 2..)) => {
+                self.hit_named(format!("{}: unknown at a later byte", f.name()))
+            }
+            _ => {}
+        }
+    }
+
+    /// The numbers of a message, and how many bytes it has: up to the end of the event.
+    fn padding(&mut self, m: usize, end: usize, numbers: &[Spelled], answer: u8) {
+        let more: usize = numbers.iter().map(|n| n.long - n.shortest()).sum();
+        if more == 0 {
+            return;
+        }
+        let size = end - numbers[0].at;
+        self.hit_if(answer == 10 && size - more <= m, "10 by padding alone");
+        if answer != 0 {
+            return;
+        }
+        self.hit_if(size == m, "M bytes by padding");
+        for f in Field::INSIDE {
+            let those = || numbers.iter().filter(|n| n.field == f && n.long > n.shortest());
+            if those().next().is_some() {
+                self.hit_named(format!("{}: padded", f.name()));
+            }
+            if those().any(|n| n.long == f.longest().0) {
+                self.hit_named(format!("{}: of its greatest length", f.name()));
+            }
         }
     }
 

@@ -157,6 +157,7 @@ fn candidate(seed: u64, n: u64) -> Option<(Vec<Cmd>, Paths)> {
                     return None;
                 }
                 paths.call(before, seen.as_ref(), *now, &call.answer, out, after, false);
+                paths.spelled(before, event, &call.answer);
                 world.heard(&call);
             } else {
                 pair.run(&c).ok()?;

@@ -1,4 +1,4 @@
-//! Events written, actions read, in document 01's encoding.
+//! Events written, events and actions read, in document 01's encoding.
 use oracle::snap::Id;
 
 pub fn number(out: &mut Vec<u8>, mut v: u64) {
@@ -12,6 +12,16 @@ pub fn number(out: &mut Vec<u8>, mut v: u64) {
 fn num(v: u64) -> Vec<u8> {
     let mut out = Vec::new();
     number(&mut out, v);
+    out
+}
+
+/// A number in so many bytes, or in its shortest form if that has more.
+pub fn spelling(v: u64, long: usize) -> Vec<u8> {
+    let mut out = num(v);
+    while out.len() < long {
+        *out.last_mut().unwrap() |= 128;
+        out.push(0);
+    }
     out
 }
 
@@ -110,89 +120,295 @@ pub enum Action {
     Emit,
 }
 
-struct Reader<'a>(&'a [u8]);
+/// A number by where it stands, a byte too. Those of a message may be padded, but for the byte before
+/// a Graft's identifier.
+#[derive(Clone, Copy, PartialEq, Eq, Debug)]
+pub enum Field {
+    EventKind,
+    Peer,
+    BroadcastLength,
+    BroadcastByte,
+    TimerKind,
+    /// In actions only.
+    Delay,
+    MessageKind,
+    DeliveryKind,
+    Length,
+    Count,
+    DeliveryRound,
+    GraftRound,
+    EntryRound,
+    Presence,
+}
 
-impl Reader<'_> {
-    fn byte(&mut self) -> u8 {
-        let b = self.0[0];
-        self.0 = &self.0[1..];
-        b
-    }
-    fn number(&mut self) -> u64 {
-        let mut v = 0;
-        let mut s = 0;
-        loop {
-            let b = self.byte();
-            v |= u64::from(b & 127) << s;
-            s += 7;
-            if b < 128 {
-                return v;
-            }
+impl Field {
+    /// Those of a message.
+    pub const INSIDE: [Field; 8] = [
+        Field::MessageKind,
+        Field::DeliveryKind,
+        Field::Length,
+        Field::Count,
+        Field::DeliveryRound,
+        Field::GraftRound,
+        Field::EntryRound,
+        Field::Presence,
+    ];
+
+    pub fn name(self) -> &'static str {
+        match self {
+            Field::EventKind => "event kind",
+            Field::Peer => "peer",
+            Field::BroadcastLength => "broadcast length",
+            Field::BroadcastByte => "broadcast byte",
+            Field::TimerKind => "timer kind",
+            Field::Delay => "delay",
+            Field::MessageKind => "message kind",
+            Field::DeliveryKind => "delivery kind",
+            Field::Length => "length",
+            Field::Count => "count",
+            Field::DeliveryRound => "delivery round",
+            Field::GraftRound => "Graft round",
+            Field::EntryRound => "IHave round",
+            Field::Presence => "presence byte",
         }
     }
-    fn take(&mut self, n: usize) -> Vec<u8> {
-        let v = self.0[..n].to_vec();
-        self.0 = &self.0[n..];
-        v
+
+    /// The greatest length in bytes, and the largest last byte of a number of that length.
+    pub fn longest(self) -> (usize, u8) {
+        match self {
+            Field::EventKind => (1, 4),
+            Field::TimerKind => (1, 3),
+            Field::Peer | Field::Delay | Field::BroadcastLength => (10, 1),
+            Field::Length | Field::Count => (10, 1),
+            Field::MessageKind | Field::DeliveryKind => (5, 15),
+            Field::DeliveryRound | Field::GraftRound | Field::EntryRound => (3, 3),
+            Field::Presence | Field::BroadcastByte => (1, 1),
+        }
     }
-    fn id(&mut self) -> Id {
-        self.take(32).try_into().unwrap()
-    }
-    fn content(&mut self) -> Vec<u8> {
-        let n = self.number() as usize;
-        self.take(n)
-    }
-    fn delivery(&mut self) -> Option<u16> {
-        match self.byte() {
-            0 => Some(self.number() as u16),
+
+    /// How many kinds there are, where it is one.
+    pub fn kinds(self) -> Option<u64> {
+        match self {
+            Field::MessageKind => Some(4),
+            Field::DeliveryKind => Some(2),
             _ => None,
         }
     }
-    fn message(&mut self) -> Message {
-        match self.byte() {
-            0 => Message::Gossip { id: self.id(), content: self.content(), round: self.delivery() },
-            1 => Message::Prune,
-            2 => {
-                let id = if self.byte() == 1 { Some(self.id()) } else { None };
-                Message::Graft { id, round: self.number() as u16 }
-            }
-            3 => {
-                let n = self.number();
-                Message::IHave((0..n).map(|_| (self.id(), self.number() as u16)).collect())
-            }
-            _ => panic!("a message's kind"),
+}
+
+/// A number as it stands in an event.
+#[derive(Clone, Copy, Debug)]
+pub struct Spelled {
+    pub field: Field,
+    pub at: usize,
+    pub long: usize,
+    pub value: u64,
+}
+
+impl Spelled {
+    /// The length of its shortest form.
+    pub fn shortest(&self) -> usize {
+        let bits = u64::BITS - self.value.leading_zeros();
+        bits.max(1).div_ceil(7) as usize
+    }
+
+    /// The event with other bytes in the number's place.
+    pub fn replaced(&self, event: &[u8], bytes: &[u8]) -> Vec<u8> {
+        [&event[..self.at], bytes, &event[self.at + self.long..]].concat()
+    }
+}
+
+/// Why an event is not read to its end.
+#[derive(Clone, Copy, PartialEq, Debug)]
+pub enum Stop {
+    /// The bytes end outside of a number.
+    End,
+    /// They end inside one, whose groups so far make this.
+    Cut(Field, u64),
+    /// A number's last allowed byte goes on or is too large.
+    Long(Field),
+    /// A number outside of a message is not shortest.
+    Padded(Field),
+    /// A kind that there is none of, of so many bytes.
+    Unknown(Field, usize),
+}
+
+impl Stop {
+    /// The question that is answered no.
+    pub fn question(self) -> u8 {
+        match self {
+            Stop::End | Stop::Cut(..) => 7,
+            Stop::Long(_) | Stop::Padded(_) | Stop::Unknown(..) => 8,
         }
     }
-    fn timer(&mut self) -> Timer {
-        match self.byte() {
-            0 => Timer::SendGraft(self.id()),
+}
+
+type Got<T> = Result<T, Stop>;
+
+struct Reader<'a> {
+    bytes: &'a [u8],
+    at: usize,
+    numbers: Vec<Spelled>,
+}
+
+impl<'a> Reader<'a> {
+    fn new(bytes: &'a [u8]) -> Reader<'a> {
+        Reader { bytes, at: 0, numbers: Vec::new() }
+    }
+    fn byte(&mut self) -> Got<u8> {
+        let b = *self.bytes.get(self.at).ok_or(Stop::End)?;
+        self.at += 1;
+        Ok(b)
+    }
+    /// A number up to its greatest length, padded only inside a message.
+    fn number(&mut self, field: Field) -> Got<u64> {
+        let (most, top) = field.longest();
+        let at = self.at;
+        let mut value = 0;
+        for i in 0..most {
+            let b = self.byte().map_err(|_| Stop::Cut(field, value))?;
+            if i + 1 == most && b > top {
+                break;
+            }
+            value |= u64::from(b & 127) << (7 * i);
+            if b == 0 && i > 0 && !Field::INSIDE.contains(&field) {
+                return Err(Stop::Padded(field));
+            }
+            if b < 128 {
+                self.numbers.push(Spelled { field, at, long: i + 1, value });
+                return Ok(value);
+            }
+        }
+        Err(Stop::Long(field))
+    }
+    /// A kind, judged at its last byte.
+    fn kind(&mut self, field: Field) -> Got<u64> {
+        let at = self.at;
+        let k = self.number(field)?;
+        if field.kinds().is_some_and(|all| k >= all) {
+            return Err(Stop::Unknown(field, self.at - at));
+        }
+        Ok(k)
+    }
+    fn take(&mut self, n: usize) -> Got<&'a [u8]> {
+        let v = self.bytes[self.at..].get(..n).ok_or(Stop::End)?;
+        self.at += n;
+        Ok(v)
+    }
+    fn id(&mut self) -> Got<Id> {
+        Ok(self.take(32)?.try_into().unwrap())
+    }
+    fn content(&mut self, length: Field) -> Got<Vec<u8>> {
+        let n = self.number(length)?;
+        Ok(self.take(n as usize)?.to_vec())
+    }
+    fn delivery(&mut self) -> Got<Option<u16>> {
+        Ok(match self.kind(Field::DeliveryKind)? {
+            0 => Some(self.number(Field::DeliveryRound)? as u16),
+            _ => None,
+        })
+    }
+    fn entry(&mut self) -> Got<(Id, u16)> {
+        Ok((self.id()?, self.number(Field::EntryRound)? as u16))
+    }
+    fn message(&mut self) -> Got<Message> {
+        Ok(match self.kind(Field::MessageKind)? {
+            0 => Message::Gossip {
+                id: self.id()?,
+                content: self.content(Field::Length)?,
+                round: self.delivery()?,
+            },
+            1 => Message::Prune,
+            2 => {
+                let there = self.number(Field::Presence)? == 1;
+                let id = if there { Some(self.id()?) } else { None };
+                Message::Graft { id, round: self.number(Field::GraftRound)? as u16 }
+            }
+            _ => {
+                let n = self.number(Field::Count)?;
+                Message::IHave((0..n).map(|_| self.entry()).collect::<Got<_>>()?)
+            }
+        })
+    }
+    fn timer(&mut self) -> Got<Timer> {
+        Ok(match self.number(Field::TimerKind)? {
+            0 => Timer::SendGraft(self.id()?),
             1 => Timer::Dispatch,
             2 => Timer::Evict,
-            3 => Timer::Announce,
-            _ => panic!("a timer's kind"),
+            _ => Timer::Announce,
+        })
+    }
+    fn action(&mut self) -> Got<Action> {
+        Ok(match self.byte()? {
+            1 => Action::Send {
+                peer: self.number(Field::Peer)?,
+                back: self.byte()? == 1,
+                message: self.message()?,
+            },
+            2 => {
+                self.number(Field::Delay)?;
+                Action::Schedule(self.timer()?)
+            }
+            3 => {
+                self.number(Field::Peer)?;
+                self.content(Field::Length)?;
+                self.delivery()?;
+                Action::Emit
+            }
+            _ => panic!("an action's kind"),
+        })
+    }
+    fn event(&mut self) -> Got<()> {
+        match self.number(Field::EventKind)? {
+            0 => {
+                self.number(Field::Peer)?;
+                self.message()?;
+            }
+            1 => {
+                self.content(Field::BroadcastLength)?;
+                self.number(Field::BroadcastByte)?;
+            }
+            2 => {
+                self.timer()?;
+            }
+            _ => {
+                self.number(Field::Peer)?;
+            }
         }
+        Ok(())
     }
 }
 
 /// The actions that the Rust's side wrote.
 pub fn actions(bytes: &[u8]) -> Vec<Action> {
-    let mut r = Reader(bytes);
+    let mut r = Reader::new(bytes);
     let mut v = Vec::new();
-    while !r.0.is_empty() {
-        v.push(match r.byte() {
-            1 => Action::Send { peer: r.number(), back: r.byte() == 1, message: r.message() },
-            2 => {
-                r.number();
-                Action::Schedule(r.timer())
-            }
-            3 => {
-                r.number();
-                r.content();
-                r.delivery();
-                Action::Emit
-            }
-            _ => panic!("an action's kind"),
-        });
+    while r.at < bytes.len() {
+        v.push(r.action().expect("an action"));
     }
     v
+}
+
+/// An event as it is spelled.
+pub struct Reading {
+    /// Its numbers, up to where reading stops.
+    pub numbers: Vec<Spelled>,
+    /// The first of questions 7 to 9 that is answered no, and why reading stops, if it does.
+    pub question: Option<u8>,
+    pub stop: Option<Stop>,
+}
+
+impl Reading {
+    /// The numbers of its message.
+    pub fn message(&self) -> Vec<Spelled> {
+        let inside = |n: &&Spelled| Field::INSIDE.contains(&n.field);
+        self.numbers.iter().filter(inside).copied().collect()
+    }
+}
+
+pub fn reading(event: &[u8]) -> Reading {
+    let mut r = Reader::new(event);
+    let stop = r.event().err();
+    let left = Some(9).filter(|_| r.at < event.len());
+    Reading { question: stop.map(Stop::question).or(left), numbers: r.numbers, stop }
 }

@@ -1,0 +1,154 @@
+//! Events whose numbers are spelled in other ways than the shortest.
+use oracle::{identifier, snap::Snap};
+
+use super::World;
+use crate::wire::{self, Field, Spelled};
+
+/// Numbers that are no message's kind, or no delivery's; the lowest byte or group of some is one.
+const NO_KINDS: [u64; 12] =
+    [2, 3, 4, 5, 127, 128, 129, 256, 1 << 14, 1 << 28, (1 << 28) + 1, (1 << 32) - 1];
+
+/// The bytes of a Gossip beside its content: kind, identifier, a length of two bytes, delivery with a
+/// round of one.
+const BESIDE_CONTENT: usize = 37;
+/// Those of an IHave beside its entries, and of an entry with a round of one byte.
+const BESIDE_ENTRIES: usize = 2;
+const ENTRY: usize = 33;
+
+impl World {
+    /// The event spelled otherwise, or another one that is.
+    pub(super) fn respelled(&mut self, e: Vec<u8>, s: &Snap) -> Vec<u8> {
+        let p = self.peer(s);
+        match self.r.below(10) {
+            0 => self.padded_to_m(p),
+            1 => {
+                let message = self.gossip(s, p);
+                self.misspelled(message)
+            }
+            2 => {
+                let message = if self.r.chance(50.0) { self.ihave(s, p) } else { self.graft(s, p) };
+                self.misspelled(message)
+            }
+            3 => self.own_padded(e),
+            _ => self.padded(e),
+        }
+    }
+
+    /// The event with a number of its own, which must be shortest, one byte longer: its kind, what
+    /// follows it, or the last byte of a broadcast.
+    fn own_padded(&mut self, mut e: Vec<u8>) -> Vec<u8> {
+        let last = if e[0] == 1 { e.len() - 1 } else { 1 };
+        let mut at = self.r.pick(&[0, 1, last]);
+        while e[at] >= 128 {
+            at += 1;
+        }
+        e[at] |= 128;
+        e.insert(at + 1, 0);
+        e
+    }
+
+    /// One of the numbers, each field as often as the others.
+    fn one_of(&mut self, numbers: &[Spelled]) -> usize {
+        let there = |f: &Field| numbers.iter().any(|n| n.field == *f);
+        let fields: Vec<Field> = Field::INSIDE.into_iter().filter(there).collect();
+        let field = self.r.pick(&fields);
+        let those = |i: &usize| numbers[*i].field == field;
+        let those: Vec<usize> = (0..numbers.len()).filter(those).collect();
+        self.r.pick(&those)
+    }
+
+    /// A length that the number can have, its greatest more often than others.
+    fn length_of(&mut self, n: &Spelled) -> usize {
+        let (most, _) = n.field.longest();
+        let any = n.long + self.r.index(most + 1 - n.long);
+        self.r.pick(&[most, any, any])
+    }
+
+    /// The event with one number of its message padded, or many. One without a message stays.
+    fn padded(&mut self, e: Vec<u8>) -> Vec<u8> {
+        let numbers = wire::reading(&e).message();
+        if numbers.is_empty() {
+            return e;
+        }
+        let mut long: Vec<usize> = numbers.iter().map(|n| n.long).collect();
+        if self.r.chance(50.0) {
+            let i = self.one_of(&numbers);
+            long[i] = self.length_of(&numbers[i]);
+        } else {
+            for (k, n) in long.iter_mut().zip(&numbers) {
+                if self.r.chance(50.0) {
+                    *k = self.length_of(n);
+                }
+            }
+        }
+        spelled(e, &numbers, &long)
+    }
+
+    /// A message whose shortest form has M bytes or some less.
+    fn nearly_m(&mut self) -> Vec<u8> {
+        let m = self.m as usize;
+        if self.r.chance(50.0) {
+            let body = vec![self.r.next() as u8; m - BESIDE_CONTENT - self.r.index(20)];
+            let id = if self.r.chance(50.0) { identifier(&body) } else { self.id() };
+            return wire::gossip(&id, &body, Some(self.r.below(12) as u16));
+        }
+        let n = (m - BESIDE_ENTRIES) / ENTRY;
+        let list: Vec<_> = (0..n).map(|_| (self.id(), self.round() % 128)).collect();
+        wire::ihave(&list)
+    }
+
+    /// Such a message padded at random to M bytes or a few more, as far as its numbers go.
+    fn padded_to_m(&mut self, peer: u64) -> Vec<u8> {
+        let message = self.nearly_m();
+        let e = wire::recv(peer, &message);
+        let numbers = wire::reading(&e).message();
+        let mut long: Vec<usize> = numbers.iter().map(|n| n.long).collect();
+        let size = self.m as usize + self.r.pick(&[0, 0, 1, 1, 2]);
+        for _ in message.len()..size {
+            let open = |i: &usize| long[*i] < numbers[*i].field.longest().0;
+            let open: Vec<usize> = (0..long.len()).filter(open).collect();
+            if !open.is_empty() {
+                long[self.r.pick(&open)] += 1;
+            }
+        }
+        spelled(e, &numbers, &long)
+    }
+
+    /// The number's own value, or one that its message cannot have: no kind, or more than follows.
+    fn value_for(&mut self, n: &Spelled) -> u64 {
+        match (n.field, n.field.kinds()) {
+            (_, Some(all)) if self.r.chance(60.0) => self.r.pick(&NO_KINDS).max(all),
+            (Field::Length | Field::Count, _) if self.r.chance(20.0) => {
+                self.r.pick(&[u64::MAX, 1 << 63, n.value + (1 << 32)])
+            }
+            _ => n.value,
+        }
+    }
+
+    /// The event with a number of its message of any length up to one byte over the greatest, its
+    /// last byte too large, cut, or of another value.
+    fn misspelled(&mut self, e: Vec<u8>) -> Vec<u8> {
+        let numbers = wire::reading(&e).message();
+        let n = numbers[self.one_of(&numbers)];
+        let (most, top) = n.field.longest();
+        let value = self.value_for(&n);
+        let any = 1 + self.r.index(most + 1);
+        let long = self.r.pick(&[any, most, most + 1]);
+        let mut bytes = wire::spelling(value, long);
+        if bytes.len() == most && self.r.chance(50.0) {
+            bytes[most - 1] = self.r.pick(&[top + 1, top + 1, 127, 128, 255]);
+        }
+        let mut v = n.replaced(&e, &bytes);
+        if self.r.chance(40.0) {
+            v.truncate(n.at + self.r.index(bytes.len()));
+        }
+        v
+    }
+}
+
+/// The event with its message's numbers in so many bytes each: from the last on, so that the places
+/// of the others stay.
+fn spelled(e: Vec<u8>, numbers: &[Spelled], long: &[usize]) -> Vec<u8> {
+    let all = numbers.iter().zip(long).rev();
+    all.fold(e, |e, (n, k)| n.replaced(&e, &wire::spelling(n.value, *k)))
+}

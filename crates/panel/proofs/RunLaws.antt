@@ -20,7 +20,7 @@ use Rattle.records.proofs.Pieces.{record-takes}
 use Rattle.records.proofs.RunningLaws.{panelrun-writes, writes-never, writes-bad}
 use Rattle.machine.specs.Called.{countsOf}
 use Rattle.panel.specs.Turns.{Holds, Memory, Took, Turned}
-use Rattle.panel.specs.Runs.{Runs, answers, reads, ends, stops, inputOf, WritesPanelrun, Typed, Buffered, Next, Readable, Run, InputRun, HasRuns}
+use Rattle.panel.specs.Runs.{Runs, answers, reads, ends, stops, inputOf, WritesPanelrun, Typed, Buffered, Next, Readable, Run, HasRuns}
 use Rattle.panel.specs.declared.Answer.{Answer}
 use Rattle.panel.specs.declared.Turn.{Turn}
 use Rattle.panel.specs.declared.Turn.the-variants as told

@@ -7,8 +7,8 @@ use native.Mathlib.Omega.{arith}
 use lib.ListN.{length, take, drop, length-drop, length-append}
 use Rattle.lists.specs.Base.{all, concatMap}
 use lib.Dec.{ltb}
-use Rattle.lists.proofs.MapLaws.{and-intro}
-use Rattle.lists.proofs.ListLaws.{all-head, all-append}
+use Rattle.lists.proofs.MapLaws.{all-head, all-cons}
+use Rattle.lists.proofs.ListLaws.{all-append}
 use Rattle.blake3.specs.Blake3.{identifier}
 use Rattle.postcard.specs.Wide.{Bytes}
 use Rattle.postcard.proofs.FieldBack.{bytes-tail, bytes-drop}
@@ -93,7 +93,7 @@ singles-joined (b ∷ bytes) = ap (λ (x : List ℕ). b ∷ x) (singles-joined b
 singles-readable : (bytes : List ℕ) → Bytes bytes → Readable (singles bytes)
 unfolding singles Bytes all
 singles-readable [] y = tt
-singles-readable (b ∷ bytes) y = (and-intro (all-head (λ x. ltb x 256) b bytes y) refl, omega arith, singles-readable bytes (bytes-tail b bytes y))
+singles-readable (b ∷ bytes) y = (all-cons (λ x. ltb x 256) b [] (all-head (λ x. ltb x 256) b bytes y) refl, omega arith, singles-readable bytes (bytes-tail b bytes y))
 
 pub has-runs : HasRuns
 unfolding Bytes all

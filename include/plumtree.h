@@ -35,7 +35,7 @@
  *
  *   - Each pointer is valid for its length: a const pointer for reading, the others for reading and writing, until the call returns.
  *     A pointer whose length is 0 may be null or any other value. `counts` is never null.
- *   - block, counts and output do not overlap each other, nor event nor rooms. (event and rooms may overlap, the two blocks of
+ *   - block, counts and output do not overlap each other, nor event, rooms or message. (event and rooms may overlap, the two blocks of
  *     plumtree_alike may be the same, and what plumtree_limit_met is lent may overlap.)
  *   - No other thread writes what is lent, nor reads what is not const, before the call returns. Calls on different panels may run at
  *     the same time.
@@ -51,10 +51,10 @@
  *
  *   - It returns, and touches nothing but block, counts and output, within their lengths.
  *   - Answer number 0: it was accepted. The block holds the state after the call, the counts are brought up to date, the first `length`
- *     bytes of the output hold the actions, and the bytes after them keep their old content.
+ *     bytes of the output hold the actions (of plumtree_rewrite the message), and the bytes after them keep their old content.
  *   - Any other number: "The first no gives its number and output length 0; block, counts record and output are untouched."
  *   - Each call is a function of what is lent: from the same block, counts, time, event, rooms and output length come the same answer,
- *     actions and state.
+ *     actions and state; of plumtree_rewrite, from the same message and output length the same answer and bytes.
  *   - Over a list of calls, from a creation on: no neighbour is passed over (docs/GUARANTEE.md). That speaks of lists in which each call
  *     gets block and counts as the one before left them. Times may go back, calls may be refused, links may hand back what they like.
  *   - From an accepted creation on, no call is answered 5 as long as nobody else writes the block.
@@ -80,8 +80,8 @@ extern "C" {
 /*
  * ANSWERS
  *
- * "Answer 0 is yes to all. The first no gives its number". Creation asks 1 to 4, an event 5 to 14, plumtree_alike 5. The questions stand in
- * plumtree_number_text below.
+ * "Answer 0 is yes to all. The first no gives its number". Creation asks 1 to 4, an event 5 to 14, plumtree_alike 5, plumtree_rewrite 7, 8, 9
+ * and 14. The questions stand in plumtree_number_text below. Those of plumtree_rewrite are asked of the message it is lent, and 14 of what it writes.
  */
 enum plumtree_number {
     PLUMTREE_ACCEPTED = 0,
@@ -96,7 +96,7 @@ enum plumtree_number {
     PLUMTREE_BLOCK_NOT_WHOLE = 5,
     PLUMTREE_TIME_TOO_LATE = 6,
     PLUMTREE_EVENT_CUT = 7,
-    /* Shortest are an event's own numbers; inside a received message they may be padded (EVENTS AND ACTIONS, BYTE BY BYTE). */
+    /* Shortest are an event's own numbers; inside a message they may be padded (EVENTS AND ACTIONS, BYTE BY BYTE). */
     PLUMTREE_EVENT_MALFORMED = 8,
     PLUMTREE_EVENT_TOO_LONG = 9,
     /* Its bytes are those behind the peer's number, as they came. */
@@ -131,12 +131,12 @@ static inline const char *plumtree_number_text(uint8_t number)
     case PLUMTREE_TIME_TOO_LATE:
         return "the time is too late (question 6: \"Is now \342\211\244 2^62?\")";
     case PLUMTREE_EVENT_CUT:
-        return "the event is cut (question 7: \"Does each field end within the bytes?\")";
+        return "the bytes end within a field (question 7: \"Does each field end within the bytes?\")";
     case PLUMTREE_EVENT_MALFORMED:
-        return "the event has an unknown kind, or a number that is too wide or not shortest (question 8: "
+        return "a kind is unknown, or a number is too wide or not shortest (question 8: "
                "\"Is each kind known, each number in its width and shortest?\")";
     case PLUMTREE_EVENT_TOO_LONG:
-        return "the event has bytes after its end (question 9: \"Do the bytes end there?\")";
+        return "there are bytes after the end (question 9: \"Do the bytes end there?\")";
     case PLUMTREE_MESSAGE_TOO_LONG:
         return "the received message is too long (question 10: \"Is a received message at most M bytes?\")";
     case PLUMTREE_COUNTS_FULL:
@@ -147,7 +147,7 @@ static inline const char *plumtree_number_text(uint8_t number)
     case PLUMTREE_LIMIT_REACHED:
         return "a limit is reached (question 13: \"Is the state after the call within every limit?\")";
     case PLUMTREE_OUTPUT_TOO_SHORT:
-        return "the output is too short for the actions (question 14: \"Do the actions fit the output?\")";
+        return "the output is too short (question 14: \"Do the actions fit the output?\")";
     default:
         return "no answer of this library";
     }
@@ -308,7 +308,7 @@ struct plumtree_link_room {
     uint16_t room;
 };
 
-/* A call's answer: the number (enum plumtree_number) and how many bytes of actions stand in the output. */
+/* A call's answer: the number (enum plumtree_number) and how many bytes the call wrote into the output: actions, or a message (plumtree_rewrite). */
 struct plumtree_answer {
     uint8_t number;
     size_t length;
@@ -360,6 +360,16 @@ uint8_t plumtree_limit_met(const uint8_t *block, size_t block_length, uint64_t a
                            const struct plumtree_link_room *rooms, size_t rooms_length);
 
 /*
+ * Writes a message in its shortest form, as panels write it: for an archive that files messages by their bytes. The message is lent alone, as it
+ * stands behind the kind and the peer of an event, or behind the byte 00 or 01 of a send. It is read as one that came, so padded numbers are let
+ * through. Asks 7, 8, 9, then 14 of the shortest form's length. A refusal leaves the output untouched; an output as long as the message is always
+ * enough. Two messages are rewritten to equal bytes exactly when they have the same meaning: the same kind, identifiers, content, delivery and
+ * rounds, an IHave's entries in the same order with the same repeats. So a message that was rewritten is rewritten to itself.
+ * There is no block and no M: a message of any length is taken. The identifier is not held against the content. message and output do not overlap.
+ */
+struct plumtree_answer plumtree_rewrite(const uint8_t *message, size_t message_length, uint8_t *output, size_t output_length);
+
+/*
  * EVENTS AND ACTIONS, BYTE BY BYTE
  *
  * A number is written in groups of seven bits, the lowest group first, with the high bit (0x80) set on every byte but the last, in its
@@ -367,10 +377,10 @@ uint8_t plumtree_limit_met(const uint8_t *block, size_t block_length, uint64_t a
  * length and a count have 64 (at most 10). An identifier is 32 bytes as they are: BLAKE3 of the content. A kind is one byte.
  *
  * Of an event's own fields (its kind, a peer, a broadcast's length and last byte, a TIMER) nothing else is read. Inside the MESSAGE of a received
- * message a number may be padded with groups of 0, as the Postcard specification lets a reader accept it: a round to 3 bytes, a length or a
- * count to 10, and a message's or delivery's kind, which is a number of 32 bits there, to 5. So round 0 is 00, 80 00 or 80 80 00. A kind is
- * judged at its last byte: 84 is cut (7), 84 00 unknown (8). A Graft's byte 00 or 01 is no number. Question 10 counts the message's bytes as
- * they came: a padded one can be over M where its shortest form is not. What a panel writes is shortest, whatever came.
+ * message, or one lent to plumtree_rewrite, a number may be padded with groups of 0, as the Postcard specification lets a reader accept it: a round
+ * to 3 bytes, a length or a count to 10, and a message's or delivery's kind, which is a number of 32 bits there, to 5. So round 0 is 00, 80 00 or
+ * 80 80 00. A kind is judged at its last byte: 84 is cut (7), 84 00 unknown (8). A Graft's byte 00 or 01 is no number. Question 10 counts the
+ * message's bytes as they came: a padded one can be over M where its shortest form is not. What a panel writes is shortest, whatever came.
  *
  * An event:
  *

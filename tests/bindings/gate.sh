@@ -11,10 +11,12 @@ need_library
 export CARGO_TARGET_DIR="$PWD/target/bindings"
 out=$CARGO_TARGET_DIR/gate
 mkdir -p "$out"
+root=$PWD
 copy=$(mktemp -d)
 trap 'rm -rf "$copy"' EXIT
 cd bindings/rust
 cp -R Cargo.toml build.rs src tests examples "$copy"
+export PLUMTREE_EVENTS=$root/crates/postcard_vectors/stdin
 cd "$copy"
 
 # `unsafe` stands in one module.

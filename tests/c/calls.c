@@ -1,6 +1,7 @@
 /*
  * The library called from C: that the header's structs are where the library reads them, each refusal and that it touches nothing, each limit that
- * a call can meet, null pointers with length 0. Every lent part is a heap block of exactly its length, so that valgrind sees a step beyond it.
+ * a call can meet, messages rewritten, null pointers with length 0. Every lent part is a heap block of exactly its length, so that valgrind sees a
+ * step beyond it.
  */
 #include <stdio.h>
 #include <stdlib.h>
@@ -656,6 +657,114 @@ static void limits_met(void)
     free_panel(p);
 }
 
+/* A message rewritten into an output of this length: answered with this number and left so, by its first `n` bytes; the rest is untouched, and so is
+ * the message. */
+static void rewritten(const uint8_t *message, size_t message_length, size_t output_length, uint8_t number, const uint8_t *left, size_t n, int line)
+{
+    uint8_t *exact = (uint8_t *)bytes(message_length, 0);
+    uint8_t *out = (uint8_t *)bytes(output_length, 0x5a);
+    struct plumtree_answer a;
+    size_t i;
+    if (message_length)
+        memcpy(exact, message, message_length);
+    a = plumtree_rewrite(message_length ? exact : NULL, message_length, output_length ? out : NULL, output_length);
+    if (a.number != number || a.length != n) {
+        printf("calls.c:%d: answer %d with %zu bytes and not %d with %zu\n", line, a.number, a.length, number, n);
+        failed = 1;
+    }
+    CHECK(n == 0 || memcmp(out, left, n) == 0);
+    for (i = n; i < output_length; i++)
+        CHECK(out[i] == 0x5a);
+    CHECK(message_length == 0 || memcmp(exact, message, message_length) == 0);
+    free(exact);
+    free(out);
+}
+
+/* A message whose shortest form is this: in an output as long as the message, in a longer one and in the shortest; in one byte less there is no room;
+ * and the shortest form's is itself. */
+static void shortest(const uint8_t *message, size_t message_length, const uint8_t *form, size_t n, int line)
+{
+    rewritten(message, message_length, message_length, PLUMTREE_ACCEPTED, form, n, line);
+    rewritten(message, message_length, message_length + 8, PLUMTREE_ACCEPTED, form, n, line);
+    rewritten(message, message_length, n, PLUMTREE_ACCEPTED, form, n, line);
+    rewritten(message, message_length, n - 1, PLUMTREE_OUTPUT_TOO_SHORT, NULL, 0, line);
+    rewritten(form, n, n, PLUMTREE_ACCEPTED, form, n, line);
+}
+
+#define SHORTEST(message, n, form, m) shortest(message, n, form, m, __LINE__)
+
+/* A message that is refused, with room and without. */
+static void not_rewritten(const uint8_t *message, size_t n, uint8_t number, int line)
+{
+    rewritten(message, n, n + 64, number, NULL, 0, line);
+    rewritten(message, n, 0, number, NULL, 0, line);
+}
+
+#define NOT_REWRITTEN(message, n, number) not_rewritten(message, n, number, __LINE__)
+
+static size_t add(uint8_t *out, size_t at, const char *what, size_t n)
+{
+    memcpy(out + at, what, n);
+    return at + n;
+}
+
+static size_t add_id(uint8_t *out, size_t at, int id)
+{
+    memset(out + at, id, PLUMTREE_ID_BYTES);
+    return at + PLUMTREE_ID_BYTES;
+}
+
+/* Rewriting from C: each kind of message with each of its numbers padded, and the refusals. */
+static void rewriting(void)
+{
+    static const uint8_t prune[] = {0x81, 0x80, 0x80, 0x80, 0x00}, graft[] = {0x82, 0x00, 0, 0x80, 0x80, 0x00};
+    static const uint8_t prune_form[] = {1}, graft_form[] = {2, 0, 0};
+    static const uint8_t event[] = {PLUMTREE_EVENT_RECEIVED, 2, PLUMTREE_MESSAGE_PRUNE}, unknown[] = {0x84, 0x00};
+    static const uint8_t over[] = {2, 0, 0x80, 0x80, 0x80, 0x00}, flag[] = {2, 0x80, 0, 0}, more[] = {0x81, 0x00, 0x00};
+    uint8_t *padded = (uint8_t *)bytes(70050, 7), *form = (uint8_t *)bytes(70050, 7);
+    size_t n, m, i;
+
+    SHORTEST(prune, sizeof prune, prune_form, sizeof prune_form);
+    SHORTEST(graft, sizeof graft, graft_form, sizeof graft_form);
+
+    /* There is no M: a content of 70,000 bytes. The identifier is not the content's. */
+    n = plumtree_put_number(padded, add_id(padded, add(padded, 0, "\x00", 1), 9), 70000) + 70000;
+    n = add(padded, n, "\x80\x00\x87\x00", 4);
+    m = plumtree_put_number(form, add_id(form, add(form, 0, "\x00", 1), 9), 70000) + 70000;
+    m = add(form, m, "\x00\x07", 2);
+    CHECK(n == 70040 && m == 70038);
+    SHORTEST(padded, n, form, m);
+
+    /* A Gossip: kind, length, delivery's kind and round. */
+    n = add_id(padded, add(padded, 0, "\x80\x00", 2), 9);
+    n = add(padded, n, "\x83\x80\x80\x80\x80\x80\x80\x80\x80\x00" "hot" "\x80\x80\x80\x80\x00" "\xac\x82\x00", 21);
+    m = add_id(form, add(form, 0, "\x00", 1), 9);
+    m = add(form, m, "\x03" "hot" "\x00\xac\x02", 7);
+    SHORTEST(padded, n, form, m);
+    for (i = 0; i < n; i++)
+        NOT_REWRITTEN(padded, i, PLUMTREE_EVENT_CUT);
+
+    /* An IHave: its order stays, and what stands twice. */
+    n = add(padded, 0, "\x03\x83\x00", 3);
+    m = add(form, 0, "\x03\x03", 2);
+    for (i = 0; i < 3; i++) {
+        n = add(padded, add_id(padded, n, i == 1 ? 8 : 9), "\x85\x00", 2);
+        m = add(form, add_id(form, m, i == 1 ? 8 : 9), "\x05", 1);
+    }
+    SHORTEST(padded, n, form, m);
+
+    /* An event is no message: its peer is read as an identifier. */
+    NOT_REWRITTEN(NULL, 0, PLUMTREE_EVENT_CUT);
+    NOT_REWRITTEN(event, sizeof event, PLUMTREE_EVENT_CUT);
+    NOT_REWRITTEN(unknown, 1, PLUMTREE_EVENT_CUT);
+    NOT_REWRITTEN(unknown, sizeof unknown, PLUMTREE_EVENT_MALFORMED);
+    NOT_REWRITTEN(over, sizeof over, PLUMTREE_EVENT_MALFORMED);
+    NOT_REWRITTEN(flag, sizeof flag, PLUMTREE_EVENT_MALFORMED);
+    NOT_REWRITTEN(more, sizeof more, PLUMTREE_EVENT_TOO_LONG);
+    free(padded);
+    free(form);
+}
+
 int main(void)
 {
     CHECK(sizeof(struct plumtree_config) == 56);
@@ -678,6 +787,7 @@ int main(void)
     events();
     rooms();
     limits_met();
+    rewriting();
     printf("%s\n", failed ? "calls from C: not as promised" : "calls from C: as promised");
     return failed;
 }

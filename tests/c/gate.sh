@@ -28,7 +28,7 @@ makes=$(nm "$lib/libplumtree.a" | sed -n 's/^[0-9a-f]* [A-Z] //p' | sort -u)
 [ -z "$(nm "$lib/libplumtree.a" | grep -E ' [bBdDcC] ' || true)" ] || die "libplumtree.a has a variable of its own"
 
 # The examples, as their comments build them.
-for example in first_broadcast three_panels; do
+for example in first_broadcast three_panels archive; do
     # shellcheck disable=SC2086
     gcc -std=c99 -g $strict -I include -o "$out/$example" "examples/c/$example.c" "$lib/libplumtree.a"
     $under_valgrind "$out/$example" | diff "examples/c/$example.expected" -
@@ -42,7 +42,7 @@ $under_valgrind "$out/host_rules" 1 >/dev/null
 
 # docs/LINKING.md shows what they print.
 linking=$(cat docs/LINKING.md)
-for printed in examples/c/first_broadcast examples/c/three_panels tests/c/host_rules; do
+for printed in examples/c/first_broadcast examples/c/three_panels examples/c/archive tests/c/host_rules; do
     case $linking in *"$(sed 's/^/    /; s/ *$//' "$printed.expected")"*) ;; *) die "docs/LINKING.md does not show $printed.expected" ;; esac
 done
 

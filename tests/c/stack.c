@@ -58,6 +58,13 @@ static void *limit(void *unused)
     return unused;
 }
 
+/* What stands in `event` is a message here. */
+static void *rewritten(void *unused)
+{
+    answer = plumtree_rewrite(event, event_length, output, output_length);
+    return unused;
+}
+
 static void stop(const char *why)
 {
     printf("stack: %s\n", why);
@@ -89,18 +96,29 @@ static size_t taken(void *(*call)(void *))
     return d > nothing_takes ? d - nothing_takes : 0;
 }
 
-static size_t most_of_events, most_of_limits;
+static size_t most_of_events, most_of_limits, most_of_rewrites;
+
+static void measure(size_t *most_of, void *(*call)(void *))
+{
+    size_t d = taken(call);
+    if (d > *most_of)
+        *most_of = d;
+}
 
 static void event_of(size_t length)
 {
-    size_t d;
     event_length = length;
-    d = taken(limit);
-    if (d > most_of_limits)
-        most_of_limits = d;
-    d = taken(tell);
-    if (d > most_of_events)
-        most_of_events = d;
+    measure(&most_of_limits, limit);
+    measure(&most_of_events, tell);
+}
+
+/* An event in which a message comes from a peer, and the message rewritten. */
+static void received(uint64_t from, const uint8_t *message, size_t n)
+{
+    event_of(plumtree_put_received(event, from, message, n));
+    memcpy(event, message, n);
+    event_length = n;
+    measure(&most_of_rewrites, rewritten);
 }
 
 static uint8_t *area(size_t n)
@@ -144,8 +162,8 @@ int main(void)
 
     for (peer = 2; peer < 34; peer++)
         event_of(plumtree_put_up(event, peer));
-    event_of(plumtree_put_received(event, 3, message, n));
-    event_of(plumtree_put_received(event, 4, message, n));
+    received(3, message, n);
+    received(4, message, n);
     for (i = 0; i < 400; i++) {
         memcpy(content, &i, sizeof i);
         event_of(plumtree_put_broadcast(event, content, 1000, PLUMTREE_DELIVERY_SWARM));
@@ -153,10 +171,10 @@ int main(void)
     event_of(plumtree_put_broadcast(event, content, (size_t)1 << 20, PLUMTREE_DELIVERY_SWARM));
     event_of(plumtree_put_broadcast(event, content, 1000, PLUMTREE_DELIVERY_NEIGHBORS));
     message[0] = PLUMTREE_MESSAGE_PRUNE;
-    event_of(plumtree_put_received(event, 5, message, 1));
+    received(5, message, 1);
     message[0] = PLUMTREE_MESSAGE_GRAFT;
     message[1] = message[2] = 0;
-    event_of(plumtree_put_received(event, 5, message, 3));
+    received(5, message, 3);
     message[0] = PLUMTREE_MESSAGE_IHAVE;
     n = plumtree_put_number(message, 1, 116);
     for (i = 0; i < 116; i++) {
@@ -164,7 +182,7 @@ int main(void)
         n += PLUMTREE_ID_BYTES;
         message[n++] = 3;
     }
-    event_of(plumtree_put_received(event, 6, message, n));
+    received(6, message, n);
     memset(timer, 9, sizeof timer);
     timer[0] = PLUMTREE_TIMER_SEND_GRAFT;
     event_of(plumtree_put_timer(event, timer, sizeof timer));
@@ -175,10 +193,11 @@ int main(void)
     event_of(plumtree_put_tick(event, PLUMTREE_TIMER_EVICT_CACHE));
     event_of(plumtree_put_down(event, 5));
 
-    printf("stack: create %zu bytes, event at most %zu, alike %zu, limit_met at most %zu\n", of_create, most_of_events, of_alike, most_of_limits);
-    if (most_of_events == 0)
+    printf("stack: create %zu bytes, event at most %zu, alike %zu, limit_met at most %zu, rewrite at most %zu\n", of_create, most_of_events, of_alike,
+           most_of_limits, most_of_rewrites);
+    if (most_of_events == 0 || most_of_rewrites == 0)
         stop("nothing was measured");
-    if (of_create > SAID || most_of_events > SAID || of_alike > SAID || most_of_limits > SAID)
+    if (of_create > SAID || most_of_events > SAID || of_alike > SAID || most_of_limits > SAID || most_of_rewrites > SAID)
         stop("more than the header says");
     munmap(stack, STACK);
     free(block);

@@ -17,6 +17,7 @@ void unproved_create(struct answer *, const struct slice *, void *, const struct
 void unproved_event(struct answer *, const struct slice *, void *, const u64 *, const struct slice *, const struct slice *, const struct slice *);
 void unproved_alike(struct likeness *, const struct slice *, const struct slice *);
 u8 unproved_limit_met(const struct slice *, const u64 *, const struct slice *, const struct slice *);
+void unproved_rewrite(struct answer *, const struct slice *, const struct slice *);
 
 size plumtree_block_size(struct limits l) { return unproved_block_size(&l); }
 
@@ -45,4 +46,11 @@ struct likeness plumtree_alike(const u8 *a, size a_length, const u8 *b, size b_l
 u8 plumtree_limit_met(const u8 *block, size block_length, u64 at, const u8 *event, size event_length, const void *rooms, size rooms_length) {
     struct slice b = { block, block_length }, e = { event, event_length }, l = { rooms, rooms_length };
     return unproved_limit_met(&b, &at, &e, &l);
+}
+
+struct answer plumtree_rewrite(const u8 *message, size message_length, u8 *output, size output_length) {
+    struct slice m = { message, message_length }, o = { output, output_length };
+    struct answer r;
+    unproved_rewrite(&r, &m, &o);
+    return r;
 }

@@ -2,8 +2,8 @@
 //!
 //! `types.rs` has the message types of `plumtree.rs` with their serde derives (make_vectors.py takes them out). Events are written by `Serialize` and read by
 //! `Deserialize`, so the kinds and the order of the fields are the Rust's; `postcard` is the stand-in, which reads plain Postcard inside a received
-//! message and shortest numbers elsewhere.
-//! Writes the two files named on the command line: an event to a line, and what it holds to a line.
+//! message and shortest numbers elsewhere. A message is rewritten by reading it so and writing it by `Serialize`.
+//! Writes the two files named on the command line: an event to a line, and what it holds to a line, with the message that it brings rewritten.
 use bytes::Bytes;
 use postcard::{put_number, to_vec, De, Error};
 use serde::{Deserialize, Serialize};
@@ -61,6 +61,28 @@ fn read_kinds(de: &mut De<'_>) -> Result<(Event, usize), Error> {
         _ => return Err(Error::Bad),
     };
     Ok((event, 0))
+}
+
+/// The bytes of a received message: those behind the event's kind and peer, where these are read.
+fn message_part(event: &[u8]) -> Option<&[u8]> {
+    let mut de = De::new(event);
+    if de.byte().ok()? != 0 {
+        return None;
+    }
+    de.number(64).ok()?;
+    Some(de.rest)
+}
+
+/// The bytes of a message in their shortest form, or the number of the question that is answered no.
+fn rewrite(message: &[u8]) -> Result<Vec<u8>, u8> {
+    let mut de = De::new(message);
+    let read: Message = de.read_plain().map_err(question)?;
+    if !de.rest.is_empty() {
+        return Err(9);
+    }
+    let shortest = to_vec(&read).unwrap();
+    assert!(shortest.len() <= message.len());
+    Ok(shortest)
 }
 
 fn write(event: &Event) -> Vec<u8> {
@@ -138,10 +160,16 @@ impl Cases {
         if self.seen.insert(bytes.to_vec()) {
             let spelt: String = bytes.iter().map(|b| format!("{b:02x}")).collect();
             writeln!(self.events, "{:04x} {spelt}", bytes.len()).unwrap();
-            match &answer {
-                Ok((event, size)) => writeln!(self.answers, "{}", words(event, *size)).unwrap(),
-                Err(n) => writeln!(self.answers, "{n}").unwrap(),
+            let mut line = match &answer {
+                Ok((event, size)) => words(event, *size),
+                Err(n) => n.to_string(),
+            };
+            if let Some(message) = message_part(bytes) {
+                let rewritten = rewrite(message);
+                assert_eq!(rewritten.as_ref().err(), answer.as_ref().err());
+                write!(line, "; {}", rewritten.map_or_else(|n| n.to_string(), |shortest| hex(&shortest))).unwrap();
             }
+            writeln!(self.answers, "{line}").unwrap();
             self.counts[answer.as_ref().map_or_else(|n| *n as usize - 6, |_| 0)] += 1;
         }
         answer.map(|(event, _)| event)
@@ -518,6 +546,31 @@ impl Random {
     }
 }
 
+/// A message with each number in a random length.
+fn pad(cases: &mut Cases, random: &mut Random, peer: u64, message: &Message) {
+    let fields = fields_of(message);
+    assert!(fields.iter().flat_map(spelt).eq(to_vec(message).unwrap()));
+    let bytes: Vec<u8> = fields.iter().flat_map(|f| random.spelt(f)).collect();
+    cases.read_as(&[vec![0], number(peer), bytes].concat(), &Event::Received(peer, message.clone()));
+}
+
+/// Messages that differ in the order of their entries, in how often one stands there, or in a round; and long ones. Each in several spellings.
+fn spellings(cases: &mut Cases, random: &mut Random) {
+    let entry = |id: u8, round: u16| IHave { id: MessageId([id; 32]), round: Round(round) };
+    let lists = [vec![entry(8, 5), entry(9, 6)], vec![entry(9, 6), entry(8, 5)], vec![entry(8, 5), entry(8, 5)], vec![entry(8, 5), entry(9, 6), entry(8, 5)]];
+    let mut messages: Vec<Message> = lists.into_iter().map(Message::IHave).collect();
+    for round in [0, 127, 128] {
+        messages.push(Message::Graft(Graft { id: None, round: Round(round) }));
+        messages.push(gossip(3, DeliveryScope::Swarm(Round(round))));
+    }
+    messages.extend([gossip(300, DeliveryScope::Neighbors), gossip(4_000, DeliveryScope::Swarm(Round(300))), announcements(110, 300)]);
+    for message in &messages {
+        for _ in 0..6 {
+            pad(cases, random, 2, message);
+        }
+    }
+}
+
 fn main() {
     let args: Vec<String> = std::env::args().collect();
     let mut cases = Cases::default();
@@ -539,11 +592,9 @@ fn main() {
     }
     for _ in 0..300 {
         let (peer, message) = (random.wide(64), random.message());
-        let fields = fields_of(&message);
-        assert!(fields.iter().flat_map(spelt).eq(to_vec(&message).unwrap()));
-        let bytes: Vec<u8> = fields.iter().flat_map(|f| random.spelt(f)).collect();
-        cases.read_as(&[vec![0], number(peer), bytes].concat(), &Event::Received(peer, message));
+        pad(&mut cases, &mut random, peer, &message);
     }
+    spellings(&mut cases, &mut random);
     std::fs::write(&args[1], &cases.events).unwrap();
     std::fs::write(&args[2], &cases.answers).unwrap();
     let [read, seven, eight, nine] = cases.counts;

@@ -147,13 +147,13 @@ mod tests {
         let output = [7, 0, 8, 0, 7, 0, 7, 0];
         let lines = [
             "0 no event: ",
-            "    refused: the event is cut (question 7: \"Does each field end within the bytes?\")",
+            "    refused: the bytes end within a field (question 7: \"Does each field end within the bytes?\")",
             "7 no event: 09",
-            "    refused: the event has an unknown kind, or a number that is too wide or not shortest (question 8: \"Is each kind known, each number in its width and shortest?\")",
+            "    refused: a kind is unknown, or a number is too wide or not shortest (question 8: \"Is each kind known, each number in its width and shortest?\")",
             "7 no event: 0380",
-            "    refused: the event is cut (question 7: \"Does each field end within the bytes?\")",
-            "no record, and the end: 3 byte(s) from here on: the event is cut (question 7: \"Does each field end within the bytes?\")",
-            "    refused: the event is cut (question 7: \"Does each field end within the bytes?\")",
+            "    refused: the bytes end within a field (question 7: \"Does each field end within the bytes?\")",
+            "no record, and the end: 3 byte(s) from here on: the bytes end within a field (question 7: \"Does each field end within the bytes?\")",
+            "    refused: the bytes end within a field (question 7: \"Does each field end within the bytes?\")",
         ];
         assert_eq!(read(&input, &output), lines);
     }
@@ -168,7 +168,7 @@ mod tests {
         let lines = read(&[0, 0x81, 0x80, 0x01], &[7, 0]);
         assert_eq!(
             lines[0],
-            "no record, and the end: 4 byte(s) from here on: the event is cut (question 7: \"Does each field end within the bytes?\")"
+            "no record, and the end: 4 byte(s) from here on: the bytes end within a field (question 7: \"Does each field end within the bytes?\")"
         );
     }
 }

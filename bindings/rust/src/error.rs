@@ -5,8 +5,8 @@ macro_rules! questions {
     ($($name:ident = $number:literal, $meaning:literal, $question:literal $(, $more:literal)?;)*) => {
         /// The question that was answered no; "The first no gives its number". Nothing has changed then: neither block, counts nor output.
         ///
-        /// Creation asks 1 to 4, an event 5 to 14, [`alike`](crate::alike) 5. The readers of this crate ([`Event::read`](crate::Event::read),
-        /// [`Action::read`](crate::Action::read)) use 7, 8 and 9.
+        /// Creation asks 1 to 4, an event 5 to 14, [`alike`](crate::alike) 5, [`rewrite`](crate::rewrite) 7, 8, 9 and 14. The readers of this crate
+        /// ([`Event::read`](crate::Event::read), [`Message::read`](crate::Message::read), [`Action::read`](crate::Action::read)) use 7, 8 and 9.
         #[repr(u8)]
         #[derive(Clone, Copy, Debug, PartialEq, Eq, Hash, PartialOrd, Ord)]
         pub enum Error {
@@ -47,11 +47,11 @@ questions! {
     BlockNotWhole = 5, "the block holds no panel, or a damaged one", "Is the block whole?",
         "No: it was not created, was written by somebody else, or is shorter than its limits need.";
     TimeTooLate = 6, "the time is too late", "Is now ≤ 2^62?";
-    EventCut = 7, "the event is cut", "Does each field end within the bytes?";
-    EventMalformed = 8, "the event has an unknown kind, or a number that is too wide or not shortest",
+    EventCut = 7, "the bytes end within a field", "Does each field end within the bytes?";
+    EventMalformed = 8, "a kind is unknown, or a number is too wide or not shortest",
         "Is each kind known, each number in its width and shortest?",
-        "Inside a received message a number may be padded ([`Message::read`](crate::Message::read)).";
-    EventTooLong = 9, "the event has bytes after its end", "Do the bytes end there?";
+        "Inside a message a number may be padded ([`Message::read`](crate::Message::read)).";
+    EventTooLong = 9, "there are bytes after the end", "Do the bytes end there?";
     MessageTooLong = 10, "the received message is too long", "Is a received message at most M bytes?",
         "These are the bytes behind the peer's number, as they came.";
     CountsFull = 11, "a count would pass its greatest value", "Do the counts stay under 2^64?";
@@ -59,7 +59,7 @@ questions! {
         "Is it anything but a valid Swarm message of round 65,535, unreceived once a first event has evicted?", "Drop it.";
     LimitReached = 13, "a limit is reached", "Is the state after the call within every limit?",
         "What the call frees counts as free. Entries that expire and neighbours that go down make room; so do higher limits at creation.";
-    OutputTooShort = 14, "the output is too short for the actions", "Do the actions fit the output?",
+    OutputTooShort = 14, "the output is too short", "Do the actions fit the output?",
         "The same call with a longer output goes through.";
 }
 

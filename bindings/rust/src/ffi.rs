@@ -15,7 +15,7 @@ use crate::{Limits, LinkRoom, Settings, Stats};
 pub struct Answer {
     /// 0, or the number of the first question that is answered no.
     pub number: u8,
-    /// How many bytes of actions stand in the output; 0 where the number is not 0.
+    /// How many bytes the call wrote into the output, actions or a message; 0 where the number is not 0.
     pub length: usize,
 }
 
@@ -60,6 +60,8 @@ extern "C" {
         rooms: *const LinkRoom,
         rooms_length: usize,
     ) -> u8;
+    #[cfg_attr(plumtree_missing, link_name = env!("PLUMTREE_MISSING"))]
+    fn plumtree_rewrite(message: *const u8, message_length: usize, output: *mut u8, output_length: usize) -> Answer;
 }
 
 /// How many bytes a block of these limits needs, or 0 where a limit is out of range.
@@ -105,4 +107,12 @@ pub fn alike(a: &[u8], b: &[u8]) -> Likeness {
 pub fn limit_met(block: &[u8], at: u64, event: &[u8], rooms: &[LinkRoom]) -> u8 {
     // SAFETY: the three are shared references, valid for reading.
     unsafe { plumtree_limit_met(block.as_ptr(), block.len(), at, event.as_ptr(), event.len(), rooms.as_ptr(), rooms.len()) }
+}
+
+/// A message in its shortest form: questions 7, 8, 9 and 14. The first `length` bytes of the output are the message. A refused call leaves the output
+/// as it is.
+pub fn rewrite(message: &[u8], output: &mut [u8]) -> Answer {
+    // SAFETY: `output` is an exclusive reference, so valid for the call and apart from `message`, which is valid for reading and which nobody writes
+    // before the call returns.
+    unsafe { plumtree_rewrite(message.as_ptr(), message.len(), output.as_mut_ptr(), output.len()) }
 }

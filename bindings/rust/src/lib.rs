@@ -116,14 +116,14 @@ pub use action::{Action, Actions};
 pub use error::Error;
 pub use event::{Event, Scope};
 pub use limit::Limit;
-pub use message::{Announced, Delivery, Id, Message, Timer};
+pub use message::{rewrite, Announced, Delivery, Id, Message, Timer};
 pub use panel::{alike, block_size, LinkRoom, Panel, Stats};
 pub use settings::{longest_content, Config, Limits, Settings, GREATEST_MESSAGE_SIZE, LEAST_MESSAGE_SIZE};
 pub use wire::{read_number, write_number};
 
-/// The library's five functions on slices, with their answers as numbers. For tests and for hosts that keep blocks in their own way.
+/// The library's six functions on slices, with their answers as numbers. For tests and for hosts that keep blocks in their own way.
 ///
-/// Each of them takes any bytes at all: what a call promises, it promises for every block, event, room and output.
+/// Each of them takes any bytes at all: what a call promises, it promises for every block, event, room, message and output.
 ///
 /// ```
 /// use plumtree::{raw, Limits, Settings, Stats};
@@ -145,5 +145,5 @@ pub use wire::{read_number, write_number};
 /// assert_eq!(raw::event(&mut block, &mut counts, 0, &[3], &[], &mut output).number, 7);
 /// ```
 pub mod raw {
-    pub use crate::ffi::{alike, block_size, create, event, limit_met, Answer, Likeness};
+    pub use crate::ffi::{alike, block_size, create, event, limit_met, rewrite, Answer, Likeness};
 }

@@ -2,7 +2,7 @@ use std::fmt;
 
 use crate::text;
 use crate::wire::{write_number, Reader, Spelling};
-use crate::Error;
+use crate::{raw, Error};
 
 /// The identifier of a message: BLAKE3 of its content.
 pub type Id = [u8; 32];
@@ -130,6 +130,34 @@ impl<'a> Message<'a> {
             _ => Err(Error::EventMalformed),
         }
     }
+}
+
+/// Writes a message in its shortest form at the start of the output, by the library, and answers how many bytes it has. The message is lent alone, as
+/// [`Event::ReceivedBytes`](crate::Event::ReceivedBytes) and [`Action::Send`](crate::Action::Send) have it. Questions 7, 8 and 9 are asked of it, as
+/// [`Message::read`] does, then 14 of the shortest form; a refusal leaves the output untouched. An output as long as the message is always enough.
+///
+/// Two messages are rewritten to equal bytes exactly when they have the same meaning, which is when [`Message::read`] reads them as equal: a works
+/// archive that files messages by these bytes has each once. A message of any length is taken, and its identifier is not held against its content.
+///
+/// ```
+/// use plumtree::{rewrite, Error, Message};
+/// # fn main() -> Result<(), Error> {
+/// // A Graft of round 0, as a panel of another maker writes it.
+/// let came = [2, 0, 0x80, 0x00];
+/// let mut output = vec![0; came.len()];
+/// let length = rewrite(&came, &mut output)?;
+/// assert_eq!(output[..length], [2, 0, 0]);
+/// assert_eq!(output[..length], Message::read(&came)?.to_bytes());
+///
+/// assert_eq!(rewrite(&[2, 0, 0x80], &mut output), Err(Error::EventCut));
+/// assert_eq!(rewrite(&came, &mut [0; 2]), Err(Error::OutputTooShort));
+/// # Ok(())
+/// # }
+/// ```
+pub fn rewrite(message: &[u8], output: &mut [u8]) -> Result<usize, Error> {
+    let answer = raw::rewrite(message, output);
+    Error::check(answer.number)?;
+    Ok(answer.length)
 }
 
 impl Delivery {

@@ -1,7 +1,7 @@
 //! Each question answered no once, through the library, with what a refusal promises: block, counts and output untouched.
 use plumtree::{
-    alike, block_size, longest_content, raw, Action, Announced, Delivery, Error, Event, Limit, Limits, LinkRoom, Message, Panel, Scope,
-    Settings, Stats, Timer, GREATEST_MESSAGE_SIZE, LEAST_MESSAGE_SIZE,
+    alike, block_size, longest_content, raw, rewrite, Action, Announced, Delivery, Error, Event, Limit, Limits, LinkRoom, Message, Panel,
+    Scope, Settings, Stats, Timer, GREATEST_MESSAGE_SIZE, LEAST_MESSAGE_SIZE,
 };
 
 const LIMITS: [fn(&mut Limits) -> &mut usize; 9] = [
@@ -247,6 +247,51 @@ fn padded_messages() {
         assert_eq!(a.alike(&b), Ok(true));
     }
     assert_eq!((a.stats().payload_messages_received, a.stats().control_messages_received), (2, 3));
+}
+
+/// 7, 8, 9 and 14 of a message that is rewritten; the output is touched only where it is written, and only as far.
+#[test]
+fn rewriting() {
+    let rewritten = |message: &[u8], length| {
+        let mut output = vec![0x5a; length];
+        let answer = rewrite(message, &mut output);
+        (answer, output)
+    };
+    let prune = [0x81, 0x80, 0x80, 0x80, 0x00];
+    assert_eq!(rewritten(&prune, 5), (Ok(1), vec![1, 0x5a, 0x5a, 0x5a, 0x5a]));
+    assert_eq!(rewritten(&prune, 1), (Ok(1), vec![1]));
+    assert_eq!(rewritten(&[1], 1), (Ok(1), vec![1]));
+    assert_eq!(rewritten(&[2, 0, 0x80, 0x80, 0x00], 3), (Ok(3), vec![2, 0, 0]));
+    // Two entries are two messages in the other order; an entry that stands twice stays so.
+    let ihave = |count: &[u8], entries: &[(u8, &[u8])]| {
+        let entries: Vec<u8> = entries.iter().flat_map(|(id, round)| [&[*id; 32], *round].concat()).collect();
+        [&[3], count, &entries].concat()
+    };
+    for (padded, shortest) in [
+        (ihave(&[0x82, 0x00], &[(8, &[0x85, 0x00]), (9, &[6])]), ihave(&[2], &[(8, &[5]), (9, &[6])])),
+        (ihave(&[2], &[(9, &[6]), (8, &[0x85, 0x80, 0x00])]), ihave(&[2], &[(9, &[6]), (8, &[5])])),
+        (ihave(&[2], &[(8, &[5]), (8, &[0x85, 0x00])]), ihave(&[2], &[(8, &[5]), (8, &[5])])),
+    ] {
+        assert_eq!(rewritten(&padded, shortest.len()), (Ok(shortest.len()), shortest.clone()));
+        assert_eq!(rewritten(&padded, shortest.len() - 1), (Err(Error::OutputTooShort), vec![0x5a; shortest.len() - 1]));
+    }
+    // The first no gives its number, so 14 is the last. An event is no message: its peer is read as an identifier.
+    for (message, error) in [
+        (&[][..], Error::EventCut),
+        (&[0x81], Error::EventCut),
+        (&[2, 0, 0x80, 0x80], Error::EventCut),
+        (&Event::Received { peer: 2, message: Message::Prune }.to_bytes(), Error::EventCut),
+        (&[4], Error::EventMalformed),
+        (&[0x81, 0x80, 0x80, 0x80, 0x80], Error::EventMalformed),
+        (&[2, 0, 0x80, 0x80, 0x80, 0x00], Error::EventMalformed),
+        (&[2, 0x80, 0x00, 0x00], Error::EventMalformed),
+        (&[1, 0], Error::EventTooLong),
+        (&[0x81, 0x00, 0x00], Error::EventTooLong),
+    ] {
+        assert_eq!(rewritten(message, 64), (Err(error), vec![0x5a; 64]), "{message:02x?}");
+        assert_eq!(rewritten(message, 0), (Err(error), vec![]), "{message:02x?}");
+    }
+    assert_eq!(rewritten(&prune, 0), (Err(Error::OutputTooShort), vec![]));
 }
 
 /// The longest content goes to both neighbours, a byte more to nobody.

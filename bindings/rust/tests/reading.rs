@@ -1,6 +1,10 @@
 //! The readers and writers of this crate beside the library's: they agree on every event of at most two bytes, on events that were damaged, and on
-//! each number of a message in each of its lengths.
-use plumtree::{Action, Announced, Delivery, Error, Event, Limits, LinkRoom, Message, Panel, Scope, Settings, Timer};
+//! each number of a message in each of its lengths. `rewrite` and [`Message::read`] with [`Message::to_bytes`] agree on the messages of these events
+//! and of those that are stored for crates/postcard_vectors.
+use std::collections::HashSet;
+use std::{env, fs};
+
+use plumtree::{rewrite, Action, Announced, Delivery, Error, Event, Limits, LinkRoom, Message, Panel, Scope, Settings, Timer};
 
 /// The library's answer to an event where it is 7, 8 or 9; none where the event was read.
 fn library(p: &mut Panel, event: &[u8], output: &mut [u8]) -> Option<Error> {
@@ -25,11 +29,51 @@ fn crates(event: &[u8]) -> Option<Error> {
     }
 }
 
+/// What rewriting a message into an output of this length, full of 5a, answers and leaves.
+fn rewritten(message: &[u8], length: usize) -> (Result<usize, Error>, Vec<u8>) {
+    let mut output = vec![0x5a; length];
+    (rewrite(message, &mut output), output)
+}
+
+/// Rewriting a message: as this crate reads and writes it, in an output as long as the message, in a longer one and in the shortest; 14 in one byte
+/// less; twice; and a refusal, with room and without. What it is rewritten to, or why not.
+fn rewrites(message: &[u8]) -> Result<Vec<u8>, Error> {
+    let answer = Message::read(message).map(|m| m.to_bytes());
+    match &answer {
+        Ok(shortest) => {
+            let n = shortest.len();
+            for length in [n, message.len(), message.len() + 3] {
+                let left = [&shortest[..], &vec![0x5a; length - n]].concat();
+                assert_eq!(rewritten(message, length), (Ok(n), left), "{message:02x?}");
+            }
+            assert_eq!(rewritten(message, n - 1), (Err(Error::OutputTooShort), vec![0x5a; n - 1]), "{message:02x?}");
+            assert_eq!(rewritten(shortest, n), (Ok(n), shortest.clone()), "{message:02x?}");
+        }
+        Err(e) => {
+            for length in [0, message.len() + 3] {
+                assert_eq!(rewritten(message, length), (Err(*e), vec![0x5a; length]), "{message:02x?}");
+            }
+        }
+    }
+    answer
+}
+
+/// The bytes of an event's message: those behind its kind and peer, if it has these.
+fn message_of(event: &[u8]) -> Option<&[u8]> {
+    match event.split_first() {
+        Some((0, rest)) => plumtree::read_number(rest).ok().map(|(_, message)| message),
+        _ => None,
+    }
+}
+
 #[test]
 fn short_events() {
     let mut p = Panel::new(Settings::of_panel(1), Limits::SMALL).unwrap();
     let mut output = vec![0; 40_960];
-    let mut same = |event: &[u8]| assert_eq!(library(&mut p, event, &mut output), crates(event), "{event:02x?}");
+    let mut same = |bytes: &[u8]| {
+        assert_eq!(library(&mut p, bytes, &mut output), crates(bytes), "{bytes:02x?}");
+        let _ = rewrites(bytes);
+    };
     same(&[]);
     for a in 0..=255 {
         same(&[a]);
@@ -92,6 +136,48 @@ impl Rng {
         }
     }
 
+    /// A message's bytes, each number in a random length up to its greatest.
+    fn padded(&mut self, message: &Message) -> Vec<u8> {
+        let mut out = Vec::new();
+        let mut number = |out: &mut Vec<u8>, value: u64, (greatest, _): Width| {
+            let mut shortest = Vec::new();
+            plumtree::write_number(&mut shortest, value);
+            let length = shortest.len() + self.below(greatest - shortest.len() + 1);
+            out.extend(spelt(value, length));
+        };
+        match message {
+            Message::Gossip { id, content, delivery } => {
+                number(&mut out, 0, KIND);
+                out.extend(id);
+                number(&mut out, content.len() as u64, NUMBER);
+                out.extend(*content);
+                match delivery {
+                    Delivery::Swarm { round } => {
+                        number(&mut out, 0, KIND);
+                        number(&mut out, (*round).into(), ROUND);
+                    }
+                    Delivery::Neighbors => number(&mut out, 1, KIND),
+                }
+            }
+            Message::Prune => number(&mut out, 1, KIND),
+            Message::Graft { id, round } => {
+                number(&mut out, 2, KIND);
+                out.push(id.is_some().into());
+                out.extend(id.iter().flatten());
+                number(&mut out, (*round).into(), ROUND);
+            }
+            Message::IHave(list) => {
+                number(&mut out, 3, KIND);
+                number(&mut out, list.len() as u64, NUMBER);
+                for Announced { id, round } in list {
+                    out.extend(id);
+                    number(&mut out, (*round).into(), ROUND);
+                }
+            }
+        }
+        out
+    }
+
     /// A bit, a byte, a cut, bytes at the end, a padded number, or one that is too wide.
     fn damage(&mut self, bytes: &mut Vec<u8>) {
         let at = self.below(bytes.len());
@@ -127,6 +213,9 @@ fn damaged_events() {
         }
         let answer = crates(&bytes);
         assert_eq!(library(&mut p, &bytes, &mut output), answer, "{bytes:02x?}");
+        if let Some(message) = message_of(&bytes) {
+            assert_eq!(rewrites(message).err(), answer);
+        }
         met[answer.map_or(0, |e| usize::from(e.number()) - 6)] += 1;
     }
     assert!(met.iter().all(|n| *n > 1000), "read, 7, 8, 9: {met:?}");
@@ -201,6 +290,7 @@ fn padded_messages() {
     let mut answers = |event: &[u8], answer: Option<Error>| {
         assert_eq!(crates(event), answer, "{event:02x?}");
         assert_eq!(library(&mut p, event, &mut output), answer, "{event:02x?}");
+        assert_eq!(rewrites(&event[2..]).err(), answer);
     };
     for (before, value, (greatest, top), after) in numbers_of_messages() {
         let event = |number: &[u8]| [&before[..], number, &after].concat();
@@ -210,6 +300,7 @@ fn padded_messages() {
             let padded = event(&spelt(value, length));
             answers(&padded, None);
             assert_eq!(Event::read(&padded), Event::read(&event(&shortest)));
+            assert_eq!(rewrites(&padded[2..]).unwrap(), event(&shortest)[2..]);
         }
         for length in 0..greatest {
             answers(&[&before[..], &vec![0x80; length]].concat(), Some(Error::EventCut));
@@ -221,6 +312,55 @@ fn padded_messages() {
         }
         let over = spelt(value, greatest + 1);
         answers(&event(&over), Some(Error::EventMalformed));
+    }
+}
+
+/// The events that are stored for crates/postcard_vectors, which were read by the original Rust. The variable PLUMTREE_EVENTS names the file where the
+/// binding stands elsewhere.
+fn stored_events() -> Vec<Vec<u8>> {
+    let file = env::var("PLUMTREE_EVENTS").unwrap_or(concat!(env!("CARGO_MANIFEST_DIR"), "/../../crates/postcard_vectors/stdin").into());
+    let text = fs::read_to_string(&file).unwrap_or_else(|e| panic!("{file}: {e}"));
+    let byte = |line: &str, at: usize| u8::from_str_radix(&line[at..at + 2], 16).unwrap();
+    text.lines().map(|line| (5..line.len()).step_by(2).map(|at| byte(line, at)).collect()).collect()
+}
+
+/// The messages of the stored events are rewritten as this crate writes them, and so are they with their numbers padded at random; two of them to
+/// equal bytes exactly where they are equal.
+#[test]
+fn stored_messages() {
+    let events = stored_events();
+    let mut r = Rng(0x2545_f491_4f6c_dd1d);
+    let mut refused = [0; 3];
+    let (mut messages, mut files, mut pairs) = (HashSet::new(), HashSet::new(), HashSet::new());
+    for came in events.iter().filter_map(|event| message_of(event)) {
+        let shortest = match rewrites(came) {
+            Ok(bytes) => bytes,
+            Err(e) => {
+                refused[usize::from(e.number()) - 7] += 1;
+                continue;
+            }
+        };
+        let message = Message::read(came).unwrap();
+        for _ in 0..8 {
+            assert_eq!(rewrites(&r.padded(&message)).as_ref(), Ok(&shortest), "{came:02x?}");
+        }
+        messages.insert(message.clone());
+        files.insert(shortest.clone());
+        pairs.insert((message, shortest));
+    }
+    assert_eq!((messages.len(), files.len()), (pairs.len(), pairs.len()));
+    assert!(pairs.len() > 1000 && refused.iter().all(|n| *n > 50), "{} read; 7, 8, 9: {refused:?}", pairs.len());
+}
+
+/// There is no M: a content of 70,000 bytes, and an IHave of 2,000 entries, of which some stand twice.
+#[test]
+fn long_messages() {
+    let mut r = Rng(0x9e37_79b9_7f4a_7c15);
+    let content: Vec<u8> = (0..70_000).map(|_| r.next() as u8).collect();
+    let list = (0..2_000).map(|i| Announced { id: [i as u8; 32], round: i % 256 }).collect();
+    for message in [Message::Gossip { id: ID, content: &content, delivery: Delivery::Swarm { round: 7 } }, Message::IHave(list)] {
+        assert_eq!(rewrites(&r.padded(&message)), Ok(message.to_bytes()));
+        assert_eq!(rewrites(&message.to_bytes()[..60_000]), Err(Error::EventCut));
     }
 }
 

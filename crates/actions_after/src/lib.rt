@@ -23,7 +23,7 @@ ghost use Rattle.rows.specs.Part.{part};
 ghost use Rattle.rows.specs.Ident.{idOf};
 ghost use Rattle.postcard.specs.Message.{Neighbors, Emitted, actionBytes};
 ghost use Rattle.postcard.specs.Values.{wantedValue, scopeValue};
-ghost use Rattle.output.specs.Written.{Told, Written};
+ghost use Rattle.output.specs.Written.{Tellable, Written};
 ghost use Rattle.block.specs.View.{stateOf};
 ghost use Rattle.steps.specs.Stands.{Stands};
 ghost use Rattle.broadcast.specs.Broadcasts.{broadcastBytes};
@@ -44,7 +44,7 @@ pub fn graft_actions<'a>(
     wanted: Wanted,
 ) -> usize
     requires { ⌜ Stands h (now block) × (link < length (stateOf h (now block) .links)) ⌝ }
-    requires { ⌜ Told (graftBytes (instant .0) (now rooms) link (wantedValue wanted) (stateOf h (now block))) at ⌝ }
+    requires { ⌜ Tellable (graftBytes (instant .0) (now rooms) link (wantedValue wanted) (stateOf h (now block))) at ⌝ }
     ensures { λ r. ⌜ Written (graftBytes (instant .0) (now (rooms .entry)) link (wantedValue wanted) (stateOf h (now (block .entry)))) (now (out .entry)) at (now (out .exit)) r ⌝ }
 {
     match wanted {
@@ -66,7 +66,7 @@ fn emit_neighbors<'a>(
     start: usize,
     len: usize,
 ) -> usize
-    requires { ⌜ ContentHeld (now event) start len × Told (concatMap actionBytes (Emitted sender (part start len (now event)) Neighbors ∷ [])) at ⌝ }
+    requires { ⌜ ContentHeld (now event) start len × Tellable (concatMap actionBytes (Emitted sender (part start len (now event)) Neighbors ∷ [])) at ⌝ }
     ensures { λ r. ⌜ Written (concatMap actionBytes (Emitted sender (part start len (now (event .entry))) Neighbors ∷ [])) (now (out .entry)) at (now (out .exit)) r ⌝ }
 {
     let content = content::content_part(event, block, Content::InEvent { start, len });
@@ -89,7 +89,7 @@ fn new_swarm<'a>(
     round: Round,
 ) -> usize
     requires { ⌜ Stands h (now block) × ContentHeld (now event) start len × (eqb (round .0) 65535 ≡ false) ⌝ }
-    requires { ⌜ Told (newBytes (instant .0) (now rooms) sender (idOf id) (part start len (now event)) (round .0) (stateOf h (now block))) at ⌝ }
+    requires { ⌜ Tellable (newBytes (instant .0) (now rooms) sender (idOf id) (part start len (now event)) (round .0) (stateOf h (now block))) at ⌝ }
     ensures { λ r. ⌜ Written (newBytes (instant .0) (now (rooms .entry)) sender (idOf id) (part start len (now (event .entry))) (round .0) (stateOf h (now (block .entry)))) (now (out .entry)) at (now (out .exit)) r ⌝ }
 {
     let content = content::content_part(event, block, Content::InEvent { start, len });
@@ -122,7 +122,7 @@ fn send_broadcast<'a>(
     scope: Scope,
 ) -> usize
     requires { ⌜ Stands h (now block) × ContentHeld (now event) start len ⌝ }
-    requires { ⌜ Told (broadcastBytes (instant .0) (now rooms) (idOf id) (part start len (now event)) (scopeValue scope) (stateOf h (now block))) at ⌝ }
+    requires { ⌜ Tellable (broadcastBytes (instant .0) (now rooms) (idOf id) (part start len (now event)) (scopeValue scope) (stateOf h (now block))) at ⌝ }
     ensures { λ r. ⌜ Written (broadcastBytes (instant .0) (now (rooms .entry)) (idOf id) (part start len (now (event .entry))) (scopeValue scope) (stateOf h (now (block .entry)))) (now (out .entry)) at (now (out .exit)) r ⌝ }
 {
     let content = content::content_part(event, block, Content::InEvent { start, len });
@@ -141,7 +141,7 @@ pub fn step_actions<'a>(
     at: usize,
 ) -> usize
     requires { ⌜ Stands h (now block) × StepHeld (now event) (stateOf h (now block)) step × SenderIs (getD (now rooms) 33 0) step × (stepFar step ≡ false) ⌝ }
-    requires { ⌜ Told (stepBytes (now event) (instant .0) (now rooms) step (stateOf h (now block))) at ⌝ }
+    requires { ⌜ Tellable (stepBytes (now event) (instant .0) (now rooms) step (stateOf h (now block))) at ⌝ }
     ensures { λ r. ⌜ Written (stepBytes (now (event .entry)) (instant .0) (now (rooms .entry)) step (stateOf h (now (block .entry)))) (now (out .entry)) at (now (out .exit)) r ⌝ }
 {
     match step {
@@ -229,7 +229,7 @@ pub fn call_actions<'a>(
     out: &mut [u8],
 ) -> usize
     requires { ⌜ Stands h (now block) × StepHeld (now event) (stateOf h (now block)) step × SenderIs (getD (now rooms) 33 0) step × (stepFar step ≡ false) ⌝ }
-    requires { ⌜ Told (callBytes (now event) (instant .0) (now rooms) step (stateOf h (now block))) 0 ⌝ }
+    requires { ⌜ Tellable (callBytes (now event) (instant .0) (now rooms) step (stateOf h (now block))) 0 ⌝ }
     ensures { λ r. ⌜ Written (callBytes (now (event .entry)) (instant .0) (now (rooms .entry)) step (stateOf h (now (block .entry)))) (now (out .entry)) 0 (now (out .exit)) r ⌝ }
 {
     let at = ticks::first_event_actions(h, block, out, 0);

@@ -14,7 +14,7 @@ ghost use Prim.Native.Nat.{_+_, _<_};
 ghost use Rattle.lists.specs.Base.{concatMap};
 ghost use Rattle.rows.specs.Ident.{idOf};
 ghost use Rattle.postcard.specs.Message.{actionBytes};
-ghost use Rattle.output.specs.Written.{Told, Written};
+ghost use Rattle.output.specs.Written.{Tellable, Written};
 ghost use Rattle.block.specs.View.{stateOf};
 ghost use Rattle.block.specs.Sound.{Sound};
 ghost use Rattle.block.specs.Goes.{Goes};
@@ -136,7 +136,7 @@ pub fn announce_sizes(h: Head, block: &[u8], instant: Millis) -> Sizes
 
 // "schedules dispatch if a queue stands": n is how long it is.
 fn dispatch_if_any(n: usize, h: Head, block: &[u8], out: &mut [u8], at: usize) -> usize
-    requires { ⌜ Told (concatMap actionBytes (ifAny n (dispatchAction (stateOf h (now block))))) at ⌝ }
+    requires { ⌜ Tellable (concatMap actionBytes (ifAny n (dispatchAction (stateOf h (now block))))) at ⌝ }
     ensures { λ r. ⌜ Written (concatMap actionBytes (ifAny n (dispatchAction (stateOf h (now (block .entry)))))) (now (out .entry)) at (now (out .exit)) r ⌝ }
 {
     if n == 0 {
@@ -148,7 +148,7 @@ fn dispatch_if_any(n: usize, h: Head, block: &[u8], out: &mut [u8], at: usize) -
 // `on_announce_dropped_timer`, the actions half: "schedules dispatch if a queue stands, then itself if a record does, each unless flagged". Its own flag was just
 // cleared.
 pub fn announce_actions(h: Head, block: &[u8], instant: Millis, out: &mut [u8], at: usize) -> usize
-    requires { ⌜ Stands h (now block) × Told (concatMap actionBytes (announceActions (settled (instant .0) (stateOf h (now block))))) at ⌝ }
+    requires { ⌜ Stands h (now block) × Tellable (concatMap actionBytes (announceActions (settled (instant .0) (stateOf h (now block))))) at ⌝ }
     ensures { λ r. ⌜ Written (concatMap actionBytes (announceActions (settled (instant .0) (stateOf h (now (block .entry)))))) (now (out .entry)) at (now (out .exit)) r ⌝ }
 {
     let m = count_moved(h, block, instant);

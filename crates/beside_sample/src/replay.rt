@@ -8,7 +8,7 @@ ghost use Prim.Native.Nat.{_≤_};
 ghost use lib.ListN.{length};
 
 // How many calls and states there were, and how many of them differ from the Rust's; where the next record stands; the counts.
-pub struct Told {
+pub struct Tally {
     pub calls: u64,
     pub states: u64,
     pub different: u64,
@@ -24,7 +24,7 @@ fn judged(different: u64, same: bool) -> u64 {
     num::wrapping_add_u64(different, 1)
 }
 
-fn creation(t: Told, block: &mut [u8], b: &[u8], at: usize) -> Told
+fn creation(t: Tally, block: &mut [u8], b: &[u8], at: usize) -> Tally
     requires { ⌜ at ≤ length (now b) ⌝ }
 {
     let same = calls::create_at(block, b, at);
@@ -33,7 +33,7 @@ fn creation(t: Told, block: &mut [u8], b: &[u8], at: usize) -> Told
         control_messages_received: 0,
         max_last_delivery_hop: 0,
     };
-    Told {
+    Tally {
         calls: t.calls,
         states: t.states,
         different: judged(t.different, same),
@@ -42,11 +42,11 @@ fn creation(t: Told, block: &mut [u8], b: &[u8], at: usize) -> Told
     }
 }
 
-fn given_counts(t: Told, b: &[u8], at: usize) -> Told
+fn given_counts(t: Tally, b: &[u8], at: usize) -> Tally
     requires { ⌜ at ≤ length (now b) ⌝ }
 {
     let counts = calls::counts_at(b, at);
-    Told {
+    Tally {
         calls: t.calls,
         states: t.states,
         different: t.different,
@@ -55,13 +55,13 @@ fn given_counts(t: Told, b: &[u8], at: usize) -> Told
     }
 }
 
-fn call(t: Told, block: &mut [u8], out: &mut [u8], b: &[u8], at: usize) -> Told
+fn call(t: Tally, block: &mut [u8], out: &mut [u8], b: &[u8], at: usize) -> Tally
     requires { ⌜ at ≤ length (now b) ⌝ }
 {
     let c = t.counts;
     let r = calls::event_at(block, out, c, b, at);
     let counts = r.counts;
-    Told {
+    Tally {
         calls: num::wrapping_add_u64(t.calls, 1),
         states: t.states,
         different: judged(t.different, r.same),
@@ -70,12 +70,12 @@ fn call(t: Told, block: &mut [u8], out: &mut [u8], b: &[u8], at: usize) -> Told
     }
 }
 
-fn compare(t: Told, block: &[u8], other: &mut [u8], b: &[u8], at: usize) -> Told
+fn compare(t: Tally, block: &[u8], other: &mut [u8], b: &[u8], at: usize) -> Tally
     requires { ⌜ at ≤ length (now b) ⌝ }
 {
     let r = state::state_at(block, other, b, at);
     let counts = t.counts;
-    Told {
+    Tally {
         calls: t.calls,
         states: num::wrapping_add_u64(t.states, 1),
         different: judged(t.different, r.same),
@@ -85,7 +85,7 @@ fn compare(t: Told, block: &[u8], other: &mut [u8], b: &[u8], at: usize) -> Told
 }
 
 // One record: its kind, then what it holds. A kind that there is none of is a difference, and ends the sample.
-fn record(t: Told, block: &mut [u8], other: &mut [u8], out: &mut [u8], b: &[u8]) -> Told {
+fn record(t: Tally, block: &mut [u8], other: &mut [u8], out: &mut [u8], b: &[u8]) -> Tally {
     let n = b.len();
     let kind = read::byte(b, t.next);
     let counts = t.counts;
@@ -98,7 +98,7 @@ fn record(t: Told, block: &mut [u8], other: &mut [u8], out: &mut [u8], b: &[u8])
         1 => given_counts(t, b, at),
         2 => call(t, block, out, b, at),
         3 => compare(t, block, other, b, at),
-        _ => Told {
+        _ => Tally {
             calls: t.calls,
             states: t.states,
             different: judged(t.different, false),
@@ -109,11 +109,11 @@ fn record(t: Told, block: &mut [u8], other: &mut [u8], out: &mut [u8], b: &[u8])
 }
 
 // Every record. The block and the output have all that the sample's lists ask for.
-pub fn replay(b: &[u8]) -> Told {
+pub fn replay(b: &[u8]) -> Tally {
     let mut block = [0u8; 65536];
     let mut other = [0u8; 65536];
     let mut out = [0u8; 65536];
-    let mut t = Told {
+    let mut t = Tally {
         calls: 0,
         states: 0,
         different: 0,

@@ -16,7 +16,7 @@ use Rattle.postcard.proofs.AnnouncementLaws.{listed-length}
 use Rattle.protocol.specs.State.{State}
 use Rattle.protocol.specs.Run.{Room}
 use Rattle.protocol.specs.Gossips.{lateKind}
-use Rattle.output.specs.Written.{Told}
+use Rattle.output.specs.Written.{Tellable}
 use Rattle.block.specs.View.{stateOf}
 use Rattle.block.specs.LinkSteps.{peerAt}
 use Rattle.block.specs.declared.head.Head.{Head}
@@ -68,5 +68,5 @@ module _ (h : Head) (block bytes : List ℕ) (rooms : List Room) (now : ℕ) (r 
       light-then (settled-light s) (step-light bytes rooms s r (settled now s) small held) in
       omega (arith, length-actions (settledActions s ++ stepActions bytes rooms r (settled now s)), both .most)
 
-  pub step-told : Told (concatMap actionBytes (settledActions (stateOf h block) ++ stepActions bytes rooms r (settled now (stateOf h block)))) 0
+  pub step-told : Tellable (concatMap actionBytes (settledActions (stateOf h block) ++ stepActions bytes rooms r (settled now (stateOf h block)))) 0
   step-told = record { small = omega (arith, step-length) }

@@ -15,7 +15,7 @@ ghost use Prim.Native.Nat.{_^_, _≤_, _<_};
 ghost use Rattle.rows.specs.Ident.{idOf};
 ghost use Rattle.postcard.specs.Message.{toSwarm, toNeighbors};
 ghost use Rattle.postcard.specs.Values.{scopeValue};
-ghost use Rattle.output.specs.Written.{Told, Written};
+ghost use Rattle.output.specs.Written.{Tellable, Written};
 ghost use Rattle.block.specs.View.{stateOf};
 ghost use Rattle.block.specs.Goes.{Goes};
 ghost use Rattle.steps.specs.Stands.{Stands, Step};
@@ -57,7 +57,7 @@ fn swarm_actions(
     content: &[u8],
 ) -> usize
     requires { ⌜ Stands h (now block) ⌝ }
-    requires { ⌜ Told (broadcastBytes (instant .0) (now rooms) (idOf id) (now content) toSwarm (stateOf h (now block))) at ⌝ }
+    requires { ⌜ Tellable (broadcastBytes (instant .0) (now rooms) (idOf id) (now content) toSwarm (stateOf h (now block))) at ⌝ }
     ensures { λ r. ⌜ Written (broadcastBytes (instant .0) (now (rooms .entry)) (idOf id) (now (content .entry)) toSwarm (stateOf h (now (block .entry)))) (now (out .entry)) at (now (out .exit)) r ⌝ }
 {
     let me = h.settings.me;
@@ -81,7 +81,7 @@ fn neighbors_actions(
     content: &[u8],
 ) -> usize
     requires { ⌜ Stands h (now block) ⌝ }
-    requires { ⌜ Told (broadcastBytes (instant .0) (now rooms) (idOf id) (now content) toNeighbors (stateOf h (now block))) at ⌝ }
+    requires { ⌜ Tellable (broadcastBytes (instant .0) (now rooms) (idOf id) (now content) toNeighbors (stateOf h (now block))) at ⌝ }
     ensures { λ r. ⌜ Written (broadcastBytes (instant .0) (now (rooms .entry)) (idOf id) (now (content .entry)) toNeighbors (stateOf h (now (block .entry)))) (now (out .entry)) at (now (out .exit)) r ⌝ }
 {
     let me = h.settings.me;
@@ -116,7 +116,7 @@ pub fn broadcast_actions(
     scope: Scope,
 ) -> usize
     requires { ⌜ Stands h (now block) ⌝ }
-    requires { ⌜ Told (broadcastBytes (instant .0) (now rooms) (idOf id) (now content) (scopeValue scope) (stateOf h (now block))) at ⌝ }
+    requires { ⌜ Tellable (broadcastBytes (instant .0) (now rooms) (idOf id) (now content) (scopeValue scope) (stateOf h (now block))) at ⌝ }
     ensures { λ r. ⌜ Written (broadcastBytes (instant .0) (now (rooms .entry)) (idOf id) (now (content .entry)) (scopeValue scope) (stateOf h (now (block .entry)))) (now (out .entry)) at (now (out .exit)) r ⌝ }
 {
     match scope {

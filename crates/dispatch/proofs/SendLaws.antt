@@ -19,8 +19,8 @@ use Rattle.protocol.specs.Ticks.{chunks, queuedFor}
 use Rattle.decide.specs.Rooms.{kthTaken}
 use Rattle.decide.specs.Pieces.{Piece, numbered, peerPieces, pieces, pieceTaken, pieceActions}
 use Rattle.decide.specs.RecordGrowth.{announceAction}
-use Rattle.output.specs.Written.{Told, Written}
-use Rattle.output.proofs.WrittenLaws.{written-none, written-then, told-first, told-then}
+use Rattle.output.specs.Written.{Tellable, Written}
+use Rattle.output.proofs.WrittenLaws.{written-none, written-then, tellable-first, tellable-then}
 use Rattle.dispatch.specs.Sends.{someHeld, quiet, timerAfter, oneSend, flagAfter, flagAfterAll}
 
 bytes-append : {A : Type 0} (f : A → List ℕ) (xs ys : List A) → concatMap f (xs ++ ys) ≡ concatMap f xs ++ concatMap f ys
@@ -54,8 +54,8 @@ module _ {held : ℕ → Bool} {whole : List ℕ} {found : Bool} {after : List I
   split : whole ≡ en .sofar ++ (ihaveBytes x ++ concatMap ihaveBytes (take m hs))
   split = en .bytes ∙ ap (λ (n : ℕ). en .sofar ++ concatMap ihaveBytes (take n (x ∷ hs))) e ∙ ap (λ (l : List ℕ). en .sofar ++ l) (bytes-cons ihaveBytes x (take m hs))
 
-  pub enter-told : Told whole start → Told (ihaveBytes x) at
-  enter-told t = told-first (concatMap ihaveBytes (take m hs)) (told-then (en .written) (subst (λ (w : List ℕ). Told w start) split t))
+  pub enter-told : Tellable whole start → Tellable (ihaveBytes x) at
+  enter-told t = tellable-first (concatMap ihaveBytes (take m hs)) (tellable-then (en .written) (subst (λ (w : List ℕ). Tellable w start) split t))
 
   pub enter-next : (out′ : List ℕ) (at′ : ℕ) (b : Bool) → Written (ihaveBytes x) out at out′ at′ → held (x .id) ≡ b → Entering held whole found after before start out′ at′ hs m (if b then true else cached)
   enter-next out′ at′ b w h = record {
@@ -106,18 +106,18 @@ module _ (held : ℕ → Bool) (taken flag : Bool) (p count : ℕ) (hs : List Ih
       ∙ ap (λ (l : List ℕ). l ++ concatMap actionBytes (timerAfter (quiet held taken flag hs))) (sent-ihave-listed p taken hs ∙ ap (λ (n : ℕ). (sendHead p taken ++ ihaveHead n) ++ concatMap ihaveBytes hs) counted)
       ∙ append-assoc headOf (concatMap ihaveBytes hs) (concatMap actionBytes (timerAfter (quiet held taken flag hs)))
 
-  module _ {start : ℕ} (t : Told sendBytes start) where
-    again : Told (headOf ++ (concatMap ihaveBytes hs ++ concatMap actionBytes (timerAfter (quiet held taken flag hs)))) start
-    again = subst (λ (l : List ℕ). Told l start) chunk-bytes t
+  module _ {start : ℕ} (t : Tellable sendBytes start) where
+    again : Tellable (headOf ++ (concatMap ihaveBytes hs ++ concatMap actionBytes (timerAfter (quiet held taken flag hs)))) start
+    again = subst (λ (l : List ℕ). Tellable l start) chunk-bytes t
 
-    pub chunk-head : Told headOf start
-    chunk-head = told-first (concatMap ihaveBytes hs ++ concatMap actionBytes (timerAfter (quiet held taken flag hs))) again
+    pub chunk-head : Tellable headOf start
+    chunk-head = tellable-first (concatMap ihaveBytes hs ++ concatMap actionBytes (timerAfter (quiet held taken flag hs))) again
 
-    pub chunk-entries : {before out : List ℕ} {a : ℕ} → Written headOf before start out a → Told (concatMap ihaveBytes hs) a
-    chunk-entries w = told-first (concatMap actionBytes (timerAfter (quiet held taken flag hs))) (told-then w again)
+    pub chunk-entries : {before out : List ℕ} {a : ℕ} → Written headOf before start out a → Tellable (concatMap ihaveBytes hs) a
+    chunk-entries w = tellable-first (concatMap actionBytes (timerAfter (quiet held taken flag hs))) (tellable-then w again)
 
-    pub chunk-timer : {before out out′ : List ℕ} {a b : ℕ} → Written headOf before start out a → Written (concatMap ihaveBytes hs) out a out′ b → {acts : List Action} → timerAfter (quiet held taken flag hs) ≡ acts → Told (concatMap actionBytes acts) b
-    chunk-timer {b = b} w v e = subst (λ (l : List Action). Told (concatMap actionBytes l) b) e (told-then v (told-then w again))
+    pub chunk-timer : {before out out′ : List ℕ} {a b : ℕ} → Written headOf before start out a → Written (concatMap ihaveBytes hs) out a out′ b → {acts : List Action} → timerAfter (quiet held taken flag hs) ≡ acts → Tellable (concatMap actionBytes acts) b
+    chunk-timer {b = b} w v e = subst (λ (l : List Action). Tellable (concatMap actionBytes l) b) e (tellable-then v (tellable-then w again))
 
   pub chunk-quiet : {before out out′ : List ℕ} {start a b : ℕ} → Written headOf before start out a → Written (concatMap ihaveBytes hs) out a out′ b → quiet held taken flag hs ≡ true → Written sendBytes before start out′ b
   chunk-quiet {before} {out} {out′} {start} {a} {b} w v e =
@@ -283,8 +283,8 @@ module _ {held : ℕ → Bool} {rooms : List Room} {p k : ℕ} {whole : List ℕ
     split-link : whole ≡ li .sofar ++ (concatMap actionBytes sent ++ concatMap actionBytes (pieceActions held rooms (flagAfter held taken flag (take count hs)) later))
     split-link = li .bytes ∙ ap (λ (l : List ℕ). li .sofar ++ l) (ap (concatMap actionBytes) acts-are ∙ bytes-append actionBytes sent (pieceActions held rooms (flagAfter held taken flag (take count hs)) later))
 
-    pub link-told : Told whole start → Told (concatMap actionBytes sent) at
-    link-told w = told-first (concatMap actionBytes (pieceActions held rooms (flagAfter held taken flag (take count hs)) later)) (told-then (li .written) (subst (λ (l : List ℕ). Told l start) split-link w))
+    pub link-told : Tellable whole start → Tellable (concatMap actionBytes sent) at
+    link-told w = tellable-first (concatMap actionBytes (pieceActions held rooms (flagAfter held taken flag (take count hs)) later)) (tellable-then (li .written) (subst (λ (l : List ℕ). Tellable l start) split-link w))
 
     pub link-next : (out′ : List ℕ) (at′ : ℕ) (flag′ : Bool) (rest : List Ihave) → Written (concatMap actionBytes sent) out at out′ at′ → flag′ ≡ flagAfter held taken flag (take count hs) → rest ≡ drop count hs
         → Linking held rooms p k whole final before start out′ at′ rest (nth + 1) flag′
@@ -338,8 +338,8 @@ module _ {held : ℕ → Bool} {rooms : List Room} {k : ℕ} {queue : List Note}
         ∙ ap (λ (l : List ℕ). go .sofar ++ l) (ap (concatMap actionBytes) (sends-append held rooms flag own (pieces qs k queue))
         ∙ bytes-append actionBytes (pieceActions held rooms flag own) (pieceActions held rooms (flagAfterAll held rooms flag own) (pieces qs k queue)))
 
-    pub going-told : Told whole start → Told (concatMap actionBytes (pieceActions held rooms flag own)) at
-    going-told t = told-first (concatMap actionBytes (pieceActions held rooms (flagAfterAll held rooms flag own) (pieces qs k queue))) (told-then (go .written) (subst (λ (l : List ℕ). Told l start) split-all t))
+    pub going-told : Tellable whole start → Tellable (concatMap actionBytes (pieceActions held rooms flag own)) at
+    going-told t = tellable-first (concatMap actionBytes (pieceActions held rooms (flagAfterAll held rooms flag own) (pieces qs k queue))) (tellable-then (go .written) (subst (λ (l : List ℕ). Tellable l start) split-all t))
 
     pub going-next : (out′ : List ℕ) (at′ : ℕ) (flag′ : Bool) → Written (concatMap actionBytes (pieceActions held rooms flag own)) out at out′ at′ → flag′ ≡ flagAfterAll held rooms flag own
         → Going held rooms k queue whole before start out′ at′ qs flag′

@@ -13,7 +13,7 @@ ghost use Rattle.protocol.specs.Ticks.{perMessage, queuedFor};
 ghost use Rattle.decide.specs.Settled.{settled};
 ghost use Rattle.decide.specs.Pieces.{peerPieces, pieceActions};
 ghost use Rattle.decide.specs.ActionsAfter.{dispatchActions};
-ghost use Rattle.output.specs.Written.{Told, Written};
+ghost use Rattle.output.specs.Written.{Tellable, Written};
 ghost use Rattle.block.specs.View.{stateOf};
 ghost use Rattle.block.specs.LinkSteps.{peerAt};
 ghost use Rattle.steps.specs.Rooms.{roomsIn};
@@ -70,7 +70,7 @@ fn put_entries(
     out: &mut [u8],
     from: usize,
 ) -> Chunk
-    requires { ⌜ Stands h (now block) × (link < h .live .links) × (row ≤ h .live .queued) × (count ≤ length (toSend link row (stateOf h (now block)))) × Told (concatMap ihaveBytes (take count (toSend link row (stateOf h (now block))))) from ⌝ }
+    requires { ⌜ Stands h (now block) × (link < h .live .links) × (row ≤ h .live .queued) × (count ≤ length (toSend link row (stateOf h (now block)))) × Tellable (concatMap ihaveBytes (take count (toSend link row (stateOf h (now block))))) from ⌝ }
     ensures { λ r. ⌜ EntriesPut (heldThen (instant .0) (stateOf h (now (block .entry)))) (peerAt (stateOf h (now (block .entry))) link) (stateOf h (now (block .entry)) .queue) (toSend link row (stateOf h (now (block .entry)))) count (now (out .entry)) from (now (out .exit)) r ⌝ }
 {
     let mut at = from;
@@ -108,7 +108,7 @@ fn send_ihave(
     out: &mut [u8],
     from: usize,
 ) -> Sending
-    requires { ⌜ Stands h (now block) × (link < h .live .links) × (row ≤ h .live .queued) × (count ≤ length (toSend link row (stateOf h (now block)))) × Told (concatMap actionBytes (oneSend (heldThen (instant .0) (stateOf h (now block))) taken flag (peerAt (stateOf h (now block)) link) (take count (toSend link row (stateOf h (now block)))))) from ⌝ }
+    requires { ⌜ Stands h (now block) × (link < h .live .links) × (row ≤ h .live .queued) × (count ≤ length (toSend link row (stateOf h (now block)))) × Tellable (concatMap actionBytes (oneSend (heldThen (instant .0) (stateOf h (now block))) taken flag (peerAt (stateOf h (now block)) link) (take count (toSend link row (stateOf h (now block)))))) from ⌝ }
     ensures { λ r. ⌜ PieceSent (heldThen (instant .0) (stateOf h (now (block .entry)))) (peerAt (stateOf h (now (block .entry))) link) (stateOf h (now (block .entry)) .queue) (toSend link row (stateOf h (now (block .entry)))) count taken flag (now (out .entry)) from (now (out .exit)) r ⌝ }
 {
     let p = links::peer_at(h, block, link);
@@ -148,7 +148,7 @@ fn send_link(
     out: &mut [u8],
     from: usize,
 ) -> Sends
-    requires { ⌜ Stands h (now block) × (link < h .live .links) × Told (concatMap actionBytes (pieceActions (heldThen (instant .0) (stateOf h (now block))) (roomsIn (stateOf h (now block)) (now rooms)) flagged (peerPieces (perMessage (stateOf h (now block) .settings .maxMessageSize)) (stateOf h (now block) .queue) (peerAt (stateOf h (now block)) link)))) from ⌝ }
+    requires { ⌜ Stands h (now block) × (link < h .live .links) × Tellable (concatMap actionBytes (pieceActions (heldThen (instant .0) (stateOf h (now block))) (roomsIn (stateOf h (now block)) (now rooms)) flagged (peerPieces (perMessage (stateOf h (now block) .settings .maxMessageSize)) (stateOf h (now block) .queue) (peerAt (stateOf h (now block)) link)))) from ⌝ }
     ensures { λ r. ⌜ PeerSent (heldThen (instant .0) (stateOf h (now (block .entry)))) (roomsIn (stateOf h (now (block .entry))) (now (rooms .entry))) (peerAt (stateOf h (now (block .entry))) link) (perMessage (stateOf h (now (block .entry)) .settings .maxMessageSize)) (stateOf h (now (block .entry)) .queue) flagged (now (out .entry)) from (now (out .exit)) r ⌝ }
 {
     let k = serialized_size::chunk_len(h.settings.max_message_size as usize);
@@ -181,7 +181,7 @@ pub fn dispatch_actions(
     out: &mut [u8],
     from: usize,
 ) -> usize
-    requires { ⌜ Stands h (now block) × Told (concatMap actionBytes (dispatchActions (roomsIn (stateOf h (now block)) (now rooms)) (settled (instant .0) (stateOf h (now block))))) from ⌝ }
+    requires { ⌜ Stands h (now block) × Tellable (concatMap actionBytes (dispatchActions (roomsIn (stateOf h (now block)) (now rooms)) (settled (instant .0) (stateOf h (now block))))) from ⌝ }
     ensures { λ r. ⌜ Written (concatMap actionBytes (dispatchActions (roomsIn (stateOf h (now (block .entry))) (now (rooms .entry))) (settled (instant .0) (stateOf h (now (block .entry)))))) (now (out .entry)) from (now (out .exit)) r ⌝ }
 {
     let n = h.live.links;

@@ -16,7 +16,7 @@ use Rattle.time_cache.specs.TimeCache.{Timed, get, valueOf}
 use Rattle.time_cache.proofs.MapPlaces.{lookup-here, lookup-between}
 use Rattle.time_cache.proofs.Orders.{up-of}
 use Rattle.postcard.specs.Message.{Message, Gossip, Swarm, Sent, actionBytes}
-use Rattle.output.specs.Written.{Told, Written}
+use Rattle.output.specs.Written.{Tellable, Written}
 use Rattle.protocol.specs.State.{State, Note, Cached}
 use Rattle.protocol.specs.Run.{Room}
 use Rattle.decide.specs.Sizes.{sizesOf, sizedRecorded}
@@ -85,8 +85,8 @@ module _ (array : List ℕ) (l : ℕ) (h : Head) (xs : List ℕ) (ok : Replying 
     unfolding firstSend
     same-bytes = bytes-one actionBytes (firstSend (roomsIn s array) m p) ∙ sym (λ k. actionBytes (Sent (eq k) ((et ∙ sym first-room) k) m))
 
-    pub one-told : (at : ℕ) → Told (pushBytes array m (p ∷ []) s) at → Told (actionBytes (Sent q taken m)) at
-    one-told at t = subst (λ (b : List ℕ). Told b at) same-bytes (push-first array m (p ∷ []) s at t)
+    pub one-told : (at : ℕ) → Tellable (pushBytes array m (p ∷ []) s) at → Tellable (actionBytes (Sent q taken m)) at
+    one-told at t = subst (λ (b : List ℕ). Tellable b at) same-bytes (push-first array m (p ∷ []) s at t)
 
     pub one-sent : (before : List ℕ) (at : ℕ) (after : List ℕ) (to : ℕ) → Written (actionBytes (Sent q taken m)) before at after to → Written (sentBytes array m (p ∷ []) s) before at after to
     one-sent before at after to w = subst (λ (b : List ℕ). Written b before at after to) (sym same-bytes) w

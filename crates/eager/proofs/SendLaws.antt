@@ -8,8 +8,8 @@ use lib.Dec.{leb}
 use lib.ListN.{length, getD}
 use Rattle.lists.specs.Base.{isEmpty, concatMap}
 use Rattle.postcard.specs.Message.{Message, Action, Sent, actionBytes}
-use Rattle.output.specs.Written.{Told, Written}
-use Rattle.output.proofs.WrittenLaws.{written-none, written-then, told-first, told-then}
+use Rattle.output.specs.Written.{Tellable, Written}
+use Rattle.output.proofs.WrittenLaws.{written-none, written-then, tellable-first, tellable-then}
 use Rattle.protocol.specs.State.{State}
 use Rattle.protocol.specs.Push.{eagerTargets}
 use Rattle.decide.specs.Rooms.{firstSend, backPeers}
@@ -87,12 +87,12 @@ module _ (sender : ℕ) (skip array : List ℕ) (m : Message) (s : State) (befor
           ∙ sent-more array m s (first sender skip s i) (peerAt s i)
           ∙ ap (λ (a : Action). sentBytes array m (first sender skip s i) s ++ actionBytes a) (sym same-send)
 
-      pub sends-told : Told (sentBytes array m (eagerTargets sender skip s) s) at → Told (actionBytes (Sent p taken m)) to
+      pub sends-told : Tellable (sentBytes array m (eagerTargets sender skip s) s) at → Tellable (actionBytes (Sent p taken m)) to
       sends-told t =
           let whole : sentBytes array m (eagerTargets sender skip s) s ≡ sentBytes array m (first sender skip s (i + 1)) s ++ sentBytes array m (rest sender skip s (i + 1)) s =
           ap (λ (ps : List ℕ). sentBytes array m ps s) (first-rest sender skip s (i + 1)) ∙ sent-append array m s (first sender skip s (i + 1)) (rest sender skip s (i + 1)) in
-          told-then (so .written)
-          (subst (λ (b : List ℕ). Told b at) more (told-first (sentBytes array m (rest sender skip s (i + 1)) s) (subst (λ (b : List ℕ). Told b at) whole t)))
+          tellable-then (so .written)
+          (subst (λ (b : List ℕ). Tellable b at) more (tellable-first (sentBytes array m (rest sender skip s (i + 1)) s) (subst (λ (b : List ℕ). Tellable b at) whole t)))
 
       module _ (after′ : List ℕ) (to′ : ℕ) (w : Written (actionBytes (Sent p taken m)) after to after′ to′) where
         next : Written (sentBytes array m (first sender skip s (i + 1)) s) before at after′ to′
@@ -123,15 +123,15 @@ module _ (array : List ℕ) (m : Message) (ps : List ℕ) (s : State) where
   unfolding pushActions
   pushed = bytes-append actionBytes (map (firstSend (roomsIn s array) m) ps) (announceAction (not (isEmpty backs)) (s .timers .announce))
 
-  pub push-first : (at : ℕ) → Told (pushBytes array m ps s) at → Told sent at
-  push-first at t = told-first (concatMap actionBytes (announceAction (not (isEmpty backs)) (s .timers .announce))) (subst (λ (b : List ℕ). Told b at) pushed t)
+  pub push-first : (at : ℕ) → Tellable (pushBytes array m ps s) at → Tellable sent at
+  push-first at t = tellable-first (concatMap actionBytes (announceAction (not (isEmpty backs)) (s .timers .announce))) (subst (λ (b : List ℕ). Tellable b at) pushed t)
 
   module _ (before : List ℕ) (at : ℕ) (after : List ℕ) (to : ℕ) (w : Written sent before at after to) (back flag : Bool) (eb : back ≡ not (isEmpty backs)) (ef : flag ≡ s .timers .announce) where
     timed : pushBytes array m ps s ≡ sent ++ concatMap actionBytes (announceAction back flag)
     timed = pushed ∙ sym (λ k. sent ++ concatMap actionBytes (announceAction (eb k) (ef k)))
 
-    pub push-told : Told (pushBytes array m ps s) at → Told (concatMap actionBytes (announceAction back flag)) to
-    push-told t = told-then w (subst (λ (b : List ℕ). Told b at) timed t)
+    pub push-told : Tellable (pushBytes array m ps s) at → Tellable (concatMap actionBytes (announceAction back flag)) to
+    push-told t = tellable-then w (subst (λ (b : List ℕ). Tellable b at) timed t)
 
     pub push-timed : (after′ : List ℕ) (to′ : ℕ) → Written (concatMap actionBytes (announceAction back flag)) after to after′ to′ → Written (pushBytes array m ps s) before at after′ to′
     push-timed after′ to′ v = subst (λ (b : List ℕ). Written b before at after′ to′) (sym timed) (written-then w v)

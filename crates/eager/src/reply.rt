@@ -16,7 +16,7 @@ ghost use mathlib.Core.Path.{_≡_};
 ghost use mathlib.Core.List.{[], _∷_};
 ghost use Rattle.rows.specs.Ident.{idOf};
 ghost use Rattle.postcard.specs.Message.{Gossip, Swarm};
-ghost use Rattle.output.specs.Written.{Told, Written};
+ghost use Rattle.output.specs.Written.{Tellable, Written};
 ghost use Rattle.block.specs.View.{stateOf};
 ghost use Rattle.block.specs.Goes.{Goes};
 ghost use Rattle.block.specs.LinkSteps.{peerAt};
@@ -82,7 +82,7 @@ fn send_one(
     round: Round,
 ) -> usize
     requires { ⌜ Replying h (now block) link ⌝ }
-    requires { ⌜ Told (pushBytes (now rooms) (Gossip (idOf id) (now content) (Swarm (round .0))) (peerAt (stateOf h (now block)) link ∷ []) (stateOf h (now block))) at ⌝ }
+    requires { ⌜ Tellable (pushBytes (now rooms) (Gossip (idOf id) (now content) (Swarm (round .0))) (peerAt (stateOf h (now block)) link ∷ []) (stateOf h (now block))) at ⌝ }
     ensures { λ r. ⌜ Written (pushBytes (now (rooms .entry)) (Gossip (idOf id) (now (content .entry)) (Swarm (round .0))) (peerAt (stateOf h (now (block .entry))) link ∷ []) (stateOf h (now (block .entry)))) (now (out .entry)) at (now (out .exit)) r ⌝ }
 {
     let peer = links::peer_at(h, block, link);
@@ -105,7 +105,7 @@ pub fn reply_sends<'a>(
     held: Held,
 ) -> usize
     requires { ⌜ Replying h (now block) link × HeldBelow (h .live .cached) held ⌝ }
-    requires { ⌜ Told (replyBytes (now rooms) link (idOf id) held (stateOf h (now block))) at ⌝ }
+    requires { ⌜ Tellable (replyBytes (now rooms) link (idOf id) held (stateOf h (now block))) at ⌝ }
     ensures { λ r. ⌜ Written (replyBytes (now (rooms .entry)) link (idOf id) held (stateOf h (now (block .entry)))) (now (out .entry)) at (now (out .exit)) r ⌝ }
 {
     match held {

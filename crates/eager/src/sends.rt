@@ -9,7 +9,7 @@ use rows::id::Id;
 ghost use Rattle.rows.specs.Ident.{idOf};
 ghost use Rattle.postcard.specs.Message.{Gossip, Swarm};
 ghost use Rattle.postcard.specs.Values.{deliveryValue};
-ghost use Rattle.output.specs.Written.{Told, Written};
+ghost use Rattle.output.specs.Written.{Tellable, Written};
 ghost use Rattle.block.specs.View.{stateOf};
 ghost use Rattle.eager.specs.Targets.{Pushing, targetsOf, backsOf};
 ghost use Rattle.eager.specs.Sent.{sentBytes, pushBytes, SentTo};
@@ -33,7 +33,7 @@ pub fn push_sends(
     delivery: Delivery,
 ) -> Pushed
     requires { ⌜ Pushing h (now block) (push .skip) ⌝ }
-    requires { ⌜ Told (sentBytes (now rooms) (Gossip (idOf id) (now content) (deliveryValue delivery)) (targetsOf (push .sender) (push .skip) (stateOf h (now block))) (stateOf h (now block))) at ⌝ }
+    requires { ⌜ Tellable (sentBytes (now rooms) (Gossip (idOf id) (now content) (deliveryValue delivery)) (targetsOf (push .sender) (push .skip) (stateOf h (now block))) (stateOf h (now block))) at ⌝ }
     ensures { λ r. ⌜ SentTo (sentBytes (now (rooms .entry)) (Gossip (idOf id) (now (content .entry)) (deliveryValue delivery)) (targetsOf (push .sender) (push .skip) (stateOf h (now (block .entry)))) (stateOf h (now (block .entry)))) (backsOf (push .sender) (push .skip) (now (rooms .entry)) (stateOf h (now (block .entry)))) (now (out .entry)) at (now (out .exit)) r ⌝ }
 {
     let n = h.live.links;
@@ -70,7 +70,7 @@ pub fn eager_push(
     round: Round,
 ) -> usize
     requires { ⌜ Pushing h (now block) (push .skip) ⌝ }
-    requires { ⌜ Told (pushBytes (now rooms) (Gossip (idOf id) (now content) (Swarm (round .0))) (targetsOf (push .sender) (push .skip) (stateOf h (now block))) (stateOf h (now block))) at ⌝ }
+    requires { ⌜ Tellable (pushBytes (now rooms) (Gossip (idOf id) (now content) (Swarm (round .0))) (targetsOf (push .sender) (push .skip) (stateOf h (now block))) (stateOf h (now block))) at ⌝ }
     ensures { λ r. ⌜ Written (pushBytes (now (rooms .entry)) (Gossip (idOf id) (now (content .entry)) (Swarm (round .0))) (targetsOf (push .sender) (push .skip) (stateOf h (now (block .entry)))) (stateOf h (now (block .entry)))) (now (out .entry)) at (now (out .exit)) r ⌝ }
 {
     let p = push_sends(

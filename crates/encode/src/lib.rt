@@ -84,7 +84,7 @@ pub fn put_gossip(out: &mut [u8], at: usize, id: Id, content: &[u8], delivery: D
 }
 
 // Writes a message: "1 Prune".
-fn put_prune(out: &mut [u8], at: usize) -> usize
+pub fn put_prune(out: &mut [u8], at: usize) -> usize
     requires { ⌜ Room (messageBytes Prune) at (now out) ⌝ }
     ensures { λ r. ⌜ Wrote (messageBytes Prune) (now (out .entry)) at (now (out .exit)) r ⌝ }
 {
@@ -92,7 +92,7 @@ fn put_prune(out: &mut [u8], at: usize) -> usize
 }
 
 // Writes a message: "2 Graft (byte 0, or 1 and identifier; round)".
-fn put_graft(out: &mut [u8], at: usize, wanted: Wanted, round: Round) -> usize
+pub fn put_graft(out: &mut [u8], at: usize, wanted: Wanted, round: Round) -> usize
     requires { ⌜ Room (messageBytes (Graft (wantedValue wanted) (round .0))) at (now out) ⌝ }
     ensures { λ r. ⌜ Wrote (messageBytes (Graft (wantedValue wanted) (round .0))) (now (out .entry)) at (now (out .exit)) r ⌝ }
 {
@@ -102,7 +102,7 @@ fn put_graft(out: &mut [u8], at: usize, wanted: Wanted, round: Round) -> usize
 }
 
 // Writes the beginning of a message: "3 IHave (count, ..". `put_ihave` for each entry makes it whole.
-fn put_ihave_head(out: &mut [u8], at: usize, count: usize) -> usize
+pub fn put_ihave_head(out: &mut [u8], at: usize, count: usize) -> usize
     requires { ⌜ Room (ihaveHead count) at (now out) ⌝ }
     ensures { λ r. ⌜ Wrote (ihaveHead count) (now (out .entry)) at (now (out .exit)) r ⌝ }
 {

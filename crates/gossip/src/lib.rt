@@ -12,7 +12,7 @@ ghost use Rattle.rows.specs.Ident.{idOf};
 ghost use Rattle.postcard.specs.Message.{actionBytes};
 ghost use Rattle.decide.specs.Settled.{settled};
 ghost use Rattle.decide.specs.ActionsAfter.{newActions};
-ghost use Rattle.output.specs.Written.{Told, Written};
+ghost use Rattle.output.specs.Written.{Tellable, Written};
 ghost use Rattle.block.specs.View.{stateOf};
 ghost use Rattle.steps.specs.Stands.{Stands};
 ghost use Rattle.steps.specs.Rooms.{roomsIn};
@@ -32,7 +32,7 @@ pub fn new_actions(
     round: Round,
 ) -> usize
     requires { ⌜ Stands h (now block) × (round .0 < 65535) ⌝ }
-    requires { ⌜ Told (concatMap actionBytes (newActions (roomsIn (stateOf h (now block)) (now rooms)) sender (idOf id) (now content) (round .0) (settled (instant .0) (stateOf h (now block))))) at ⌝ }
+    requires { ⌜ Tellable (concatMap actionBytes (newActions (roomsIn (stateOf h (now block)) (now rooms)) sender (idOf id) (now content) (round .0) (settled (instant .0) (stateOf h (now block))))) at ⌝ }
     ensures { λ r. ⌜ Written (concatMap actionBytes (newActions (roomsIn (stateOf h (now (block .entry))) (now (rooms .entry))) sender (idOf id) (now (content .entry)) (round .0) (settled (instant .0) (stateOf h (now (block .entry)))))) (now (out .entry)) at (now (out .exit)) r ⌝ }
 {
     let next = round.0 + 1;

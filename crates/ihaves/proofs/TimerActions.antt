@@ -11,8 +11,8 @@ use Rattle.postcard.specs.Message.{Ihave, Scheduled, SendGraft, actionBytes}
 use Rattle.protocol.specs.State.{State}
 use Rattle.decide.specs.SizesAfter.{newIds, knownTimer}
 use Rattle.decide.specs.ActionsAfter.{ihaveActions}
-use Rattle.output.specs.Written.{Told, Written}
-use Rattle.output.proofs.WrittenLaws.{written-none, written-then, told-first, told-then}
+use Rattle.output.specs.Written.{Tellable, Written}
+use Rattle.output.proofs.WrittenLaws.{written-none, written-then, tellable-first, tellable-then}
 use Rattle.ihaves.specs.New.{isOld, isNew}
 use Rattle.ihaves.proofs.NewLaws.{new-more, laterIds, new-rest}
 
@@ -88,8 +88,8 @@ module _ (s : State) where
       schedule-skip e = subst (λ (l : List ℕ). Written l o at o′ next) (sym (old x (take i hs) (take (i + 1) hs) taken e)) so
 
       module _ (e : isNew (knownTimer s) (take i hs) (x .id) ≡ true) where
-        pub schedule-told : Told (scheduled s hs) at → Told (actionBytes (Scheduled d (SendGraft (x .id)))) next
-        schedule-told t = told-then so (told-first (timerBytes d (laterIds (knownTimer s) (i + 1) hs)) (subst (λ (l : List ℕ). Told l at) all t))
+        pub schedule-told : Tellable (scheduled s hs) at → Tellable (actionBytes (Scheduled d (SendGraft (x .id)))) next
+        schedule-told t = tellable-then so (tellable-first (timerBytes d (laterIds (knownTimer s) (i + 1) hs)) (subst (λ (l : List ℕ). Tellable l at) all t))
           where
             all : scheduled s hs ≡ (scheduled s (take i hs) ++ actionBytes (Scheduled d (SendGraft (x .id)))) ++ timerBytes d (laterIds (knownTimer s) (i + 1) hs)
             all =

@@ -21,7 +21,7 @@ ghost use Rattle.postcard.specs.Events.{ihavesFrom, Listed};
 ghost use Rattle.decide.specs.Settled.{settled};
 ghost use Rattle.decide.specs.SizesAfter.{knownTimer};
 ghost use Rattle.decide.specs.ActionsAfter.{ihaveActions};
-ghost use Rattle.output.specs.Written.{Told, Written};
+ghost use Rattle.output.specs.Written.{Tellable, Written};
 ghost use Rattle.block.specs.View.{stateOf};
 ghost use Rattle.block.specs.Sound.{Sound};
 ghost use Rattle.block.specs.Goes.{Goes};
@@ -261,7 +261,7 @@ pub fn ihave_actions(
     start: usize,
     count: usize,
 ) -> usize
-    requires { ⌜ Stands h (now block) × Listed (now event) start count (ihavesFrom (now event) start count) × Told (concatMap actionBytes (ihaveActions (ihavesFrom (now event) start count) (settled (instant .0) (stateOf h (now block))))) at ⌝ }
+    requires { ⌜ Stands h (now block) × Listed (now event) start count (ihavesFrom (now event) start count) × Tellable (concatMap actionBytes (ihaveActions (ihavesFrom (now event) start count) (settled (instant .0) (stateOf h (now block))))) at ⌝ }
     ensures { λ r. ⌜ Written (concatMap actionBytes (ihaveActions (ihavesFrom (now (event .entry)) start count) (settled (instant .0) (stateOf h (now (block .entry)))))) (now (out .entry)) at (now (out .exit)) r ⌝ }
 {
     let delay = h.settings.config.graft_timeout_1;

@@ -22,7 +22,7 @@ ghost use Rattle.protocol.specs.Gossips.{noMoreHops, lateFrom};
 ghost use Rattle.decide.specs.Settled.{settled};
 ghost use Rattle.decide.specs.Rooms.{kthTaken};
 ghost use Rattle.decide.specs.ActionsAfter.{lateActions};
-ghost use Rattle.output.specs.Written.{Told, Written};
+ghost use Rattle.output.specs.Written.{Tellable, Written};
 ghost use Rattle.block.specs.View.{stateOf};
 ghost use Rattle.block.specs.Goes.{Goes};
 ghost use Rattle.block.specs.LinkSteps.{peerAt};
@@ -173,7 +173,7 @@ pub fn late_actions(
     delivery: Delivery,
 ) -> usize
     requires { ⌜ Stands h (now block) × (sender ≡ getD (now rooms) 33 0) ⌝ }
-    requires { ⌜ Told (concatMap actionBytes (lateActions (roomsIn (stateOf h (now block)) (now rooms)) sender (lateAs sender (deliveryValue delivery) (idOf id) (settled (instant .0) (stateOf h (now block)))))) at ⌝ }
+    requires { ⌜ Tellable (concatMap actionBytes (lateActions (roomsIn (stateOf h (now block)) (now rooms)) sender (lateAs sender (deliveryValue delivery) (idOf id) (settled (instant .0) (stateOf h (now block)))))) at ⌝ }
     ensures { λ r. ⌜ Written (concatMap actionBytes (lateActions (roomsIn (stateOf h (now (block .entry))) (now (rooms .entry))) sender (lateAs sender (deliveryValue delivery) (idOf id) (settled (instant .0) (stateOf h (now (block .entry))))))) (now (out .entry)) at (now (out .exit)) r ⌝ }
 {
     let k = late_kind(h, block, instant, sender, id, delivery);

@@ -67,7 +67,7 @@ module _ (rooms : List Room) (now : ℕ) (bytes : List ℕ) (e : Event) (s : Sta
       (λ m. absurd (z (rw m refl)))
 
 -- a fault of the decoder is not 13
-not-fault : (n : ℕ) → faultOf (faulty n) ≡ true → n ≡ 13 → ⊥
+not-fault : (n : ℕ) → faultOf {A = Event} (faulty n) ≡ true → n ≡ 13 → ⊥
 not-fault n h q = omega (arith, leb-true n 9 (and-right (leb 7 n) (leb n 9) h), q)
 
 module _ (block : List ℕ) (k : Call) where
@@ -77,7 +77,7 @@ module _ (block : List ℕ) (k : Call) where
   abbrev met : ℕ
   met = limitMet identifier (length block) (held block) (asking (k .now) (k .event) (k .rooms))
 
-  read-met : (c : Counts) (d : Decoded) → Wholly block → k .now ≤ 2 ^ 62 → decodeEvent (k .event) ≡ d → answerBlock identifier (length block) (held block) c k ≡ refused 13 → met ≡ 0 → ⊥
+  read-met : (c : Counts) (d : Decoded Event) → Wholly block → k .now ≤ 2 ^ 62 → decodeEvent (k .event) ≡ d → answerBlock identifier (length block) (held block) c k ≡ refused 13 → met ≡ 0 → ⊥
   unfolding numberOf
   read-met c (faulty n) w l q a z = not-fault n (ap faultOf (sym q) ∙ decode-faults (k .event)) (ap numberOf (sym (answer-fault block w c k n l q) ∙ a))
   read-met c (decoded e) w l q a z =
@@ -92,7 +92,7 @@ module _ (block : List ℕ) (k : Call) where
       (λ l. other (refused 6) 6 refl (λ q. omega (arith, q)) (sym (answer-6 block (wholly-of block w) c k (leb-false (k .now) (2 ^ 62) l)) ∙ a)))
       (λ w. other (refused 5) 5 refl (λ q. omega (arith, q)) (sym (answer-5 block c k w) ∙ a))
 
-  read-13 : (d : Decoded) → Wholly block → k .now ≤ 2 ^ 62 → decodeEvent (k .event) ≡ d → (met ≡ 0 → ⊥) → answerBlock identifier (length block) (held block) zeroCounts k ≡ refused 13
+  read-13 : (d : Decoded Event) → Wholly block → k .now ≤ 2 ^ 62 → decodeEvent (k .event) ≡ d → (met ≡ 0 → ⊥) → answerBlock identifier (length block) (held block) zeroCounts k ≡ refused 13
   read-13 (faulty n) w l q z = absurd (z (limit-fault block w asked n l q))
   read-13 (decoded e) w l q z = answer-event block w zeroCounts k e l q ∙ decided-13 (k .rooms) (k .now) (k .event) e (stateOf (headIn block) block) (k .output) (λ p. z (limit-event block w asked e l q ∙ p))
 

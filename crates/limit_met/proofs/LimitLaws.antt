@@ -125,9 +125,9 @@ module _ (block : List ℕ) (w : Wholly block) where
   unfolding limitOf ask is13
   limit-6 k l = limit-whole k ∙ rw (lt-leb (k .now) (2 ^ 62) l) refl
 
-  limit-read : (k : Call) (d : Decoded) → k .now ≤ 2 ^ 62 → decodeEvent (k .event) ≡ d → limitMet identifier (length block) (held block) k ≡ (if is13 (askRead identifier s zeroCounts k d) then pastAfter identifier s k d else 0)
+  limit-read : (k : Call) (d : Decoded Event) → k .now ≤ 2 ^ 62 → decodeEvent (k .event) ≡ d → limitMet identifier (length block) (held block) k ≡ (if is13 (askRead identifier s zeroCounts k d) then pastAfter identifier s k d else 0)
   unfolding limitOf ask
-  limit-read k d l e = limit-whole k ∙ rw (le-leb (k .now) (2 ^ 62) l) (ap (λ (x : Decoded). if is13 (askRead identifier s zeroCounts k x) then pastAfter identifier s k x else 0) e)
+  limit-read k d l e = limit-whole k ∙ rw (le-leb (k .now) (2 ^ 62) l) (ap (λ (x : Decoded Event). if is13 (askRead identifier s zeroCounts k x) then pastAfter identifier s k x else 0) e)
 
   -- (7) to (9)
   pub limit-fault : (k : Call) (n : ℕ) → k .now ≤ 2 ^ 62 → decodeEvent (k .event) ≡ faulty n → limitMet identifier (length block) (held block) k ≡ 0

@@ -7,6 +7,7 @@ use mathlib.Core.Option.{Option, none, some}
 use lib.Dec.{leb, eqb}
 use lib.ListN.{length}
 use Rattle.lists.specs.Base.{if_then_else_}
+use Rattle.postcard.specs.Message.{Event}
 use Rattle.postcard.specs.Decode.{Decoded, decoded, faulty, decodeEvent}
 use Rattle.protocol.specs.State.{State, zeroCounts}
 use Rattle.protocol.specs.Run.{Room, begin}
@@ -39,7 +40,7 @@ asking now event rooms = record { now = now; event = event; rooms = rooms; outpu
 
 module _ (hash : List ℕ → ℕ) where
   -- the limit that the state after the event is past
-  unfoldable pub pastAfter : State → Call → Decoded → ℕ
+  unfoldable pub pastAfter : State → Call → Decoded Event → ℕ
   pastAfter s k (faulty n) = 0
   pastAfter s k (decoded e) = limitPast (handle hash (k .now) e (begin s zeroCounts (k .rooms)) .state)
 

@@ -27,7 +27,7 @@ use Rattle.protocol.specs.Handle.{countMessage}
 use Rattle.protocol.specs.Whole.{fits, whole}
 use Rattle.protocol.specs.Answer.{messageFits, countsBelow, countsStay, Outcome, refused, accepted}
 use Rattle.protocol.proofs.WholeKept.{kept-handle}
-use Rattle.output.specs.Written.{Told, Written}
+use Rattle.output.specs.Written.{Tellable, Written}
 use Rattle.block.specs.View.{limitsOf, stateOf}
 use Rattle.block.specs.Sound.{Sound}
 use Rattle.block.specs.Goes.{Goes}
@@ -126,7 +126,7 @@ module _ (h : Head) (block bytes array : List ℕ) (now : ℕ) (r : Step) (asked
   abbrev writes : List ℕ
   writes = stepBytes bytes rooms now r s
 
-  pub run-told : Told writes 0
+  pub run-told : Tellable writes 0
   unfolding stepBytes
   run-told = step-told h block bytes rooms now r (asked .stands) (asked .held)
 

@@ -22,7 +22,7 @@ ghost use Rattle.postcard.specs.Message.{actionBytes};
 ghost use Rattle.protocol.specs.Gossips.{announcers};
 ghost use Rattle.decide.specs.Settled.{settled};
 ghost use Rattle.decide.specs.StateAfter.{optimisedLinks, closedState};
-ghost use Rattle.output.specs.Written.{Told, Written};
+ghost use Rattle.output.specs.Written.{Tellable, Written};
 ghost use Rattle.block.specs.View.{stateOf};
 ghost use Rattle.block.specs.Sound.{Sound};
 ghost use Rattle.block.specs.Goes.{Goes};
@@ -163,7 +163,7 @@ fn send_optimise(
     best: Hop,
 ) -> usize
     requires { ⌜ Stands h (now block) × (link < h .live .links) × (best .link < h .live .links) ⌝ }
-    requires { ⌜ Told (concatMap actionBytes (bestActions (roomsIn (stateOf h (now block)) (now rooms)) (peerAt (stateOf h (now block)) link) (hop (peerAt (stateOf h (now block)) (best .link)) (best .round .0)) (stateOf h (now block)))) at ⌝ }
+    requires { ⌜ Tellable (concatMap actionBytes (bestActions (roomsIn (stateOf h (now block)) (now rooms)) (peerAt (stateOf h (now block)) link) (hop (peerAt (stateOf h (now block)) (best .link)) (best .round .0)) (stateOf h (now block)))) at ⌝ }
     ensures { λ r. ⌜ Written (concatMap actionBytes (bestActions (roomsIn (stateOf h (now (block .entry))) (now (rooms .entry))) (peerAt (stateOf h (now (block .entry))) link) (hop (peerAt (stateOf h (now (block .entry))) (best .link)) (best .round .0)) (stateOf h (now (block .entry))))) (now (out .entry)) at (now (out .exit)) r ⌝ }
 {
     let near = best.link;
@@ -198,7 +198,7 @@ pub fn optimise_actions(
     round: Round,
 ) -> usize
     requires { ⌜ Stands h (now block) × (round .0 < 65535) ⌝ }
-    requires { ⌜ Told (concatMap actionBytes (optimiseOn (roomsIn (stateOf h (now block)) (now rooms)) (idOf id) sender (round .0) (settled (instant .0) (stateOf h (now block))))) at ⌝ }
+    requires { ⌜ Tellable (concatMap actionBytes (optimiseOn (roomsIn (stateOf h (now block)) (now rooms)) (idOf id) sender (round .0) (settled (instant .0) (stateOf h (now block))))) at ⌝ }
     ensures { λ r. ⌜ Written (concatMap actionBytes (optimiseOn (roomsIn (stateOf h (now (block .entry))) (now (rooms .entry))) (idOf id) sender (round .0) (settled (instant .0) (stateOf h (now (block .entry)))))) (now (out .entry)) at (now (out .exit)) r ⌝ }
 {
     let w = wants_optimise(h, block, instant, sender, id, round);

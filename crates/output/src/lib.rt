@@ -14,7 +14,7 @@ ghost use Rattle.rows.specs.Ident.{idOf};
 ghost use Rattle.postcard.specs.Message.{Gossip, Prune, Graft, Sent, Scheduled, Emitted, ihaveBytes, actionBytes};
 ghost use Rattle.postcard.specs.Values.{deliveryValue, wantedValue, timerValue};
 ghost use Rattle.postcard.specs.Output.{sendHead, ihaveHead};
-ghost use Rattle.output.specs.Written.{Told, Written};
+ghost use Rattle.output.specs.Written.{Tellable, Written};
 
 // Whether an output of `len` bytes has room for n bytes at `at`.
 fn has_room(len: usize, at: usize, n: usize) -> bool
@@ -36,7 +36,7 @@ pub fn send_gossip(
     content: &[u8],
     delivery: Delivery,
 ) -> usize
-    requires { ⌜ Told (actionBytes (Sent peer taken (Gossip (idOf id) (now content) (deliveryValue delivery)))) at ⌝ }
+    requires { ⌜ Tellable (actionBytes (Sent peer taken (Gossip (idOf id) (now content) (deliveryValue delivery)))) at ⌝ }
     ensures { λ r. ⌜ Written (actionBytes (Sent peer taken (Gossip (idOf id) (now (content .entry)) (deliveryValue delivery)))) (now (out .entry)) at (now (out .exit)) r ⌝ }
 {
     let n = serialized_size::send_size(peer, serialized_size::gossip_size(content.len(), delivery));
@@ -49,7 +49,7 @@ pub fn send_gossip(
 
 // A send of a Prune.
 pub fn send_prune(out: &mut [u8], at: usize, peer: u64, taken: bool) -> usize
-    requires { ⌜ Told (actionBytes (Sent peer taken Prune)) at ⌝ }
+    requires { ⌜ Tellable (actionBytes (Sent peer taken Prune)) at ⌝ }
     ensures { λ r. ⌜ Written (actionBytes (Sent peer taken Prune)) (now (out .entry)) at (now (out .exit)) r ⌝ }
 {
     let n = serialized_size::send_size(peer, serialized_size::prune_size());
@@ -69,7 +69,7 @@ pub fn send_graft(
     wanted: Wanted,
     round: Round,
 ) -> usize
-    requires { ⌜ Told (actionBytes (Sent peer taken (Graft (wantedValue wanted) (round .0)))) at ⌝ }
+    requires { ⌜ Tellable (actionBytes (Sent peer taken (Graft (wantedValue wanted) (round .0)))) at ⌝ }
     ensures { λ r. ⌜ Written (actionBytes (Sent peer taken (Graft (wantedValue wanted) (round .0)))) (now (out .entry)) at (now (out .exit)) r ⌝ }
 {
     let n = serialized_size::send_size(peer, serialized_size::graft_size(wanted, round));
@@ -82,7 +82,7 @@ pub fn send_graft(
 
 // The beginning of a send of an IHave of `count` entries; `ihave` for each entry makes it whole.
 pub fn send_ihave(out: &mut [u8], at: usize, peer: u64, taken: bool, count: usize) -> usize
-    requires { ⌜ Told (sendHead peer taken ++ ihaveHead count) at ⌝ }
+    requires { ⌜ Tellable (sendHead peer taken ++ ihaveHead count) at ⌝ }
     ensures { λ r. ⌜ Written (sendHead peer taken ++ ihaveHead count) (now (out .entry)) at (now (out .exit)) r ⌝ }
 {
     let n = 3 + serialized_size::number_size(peer) + serialized_size::number_size(count as u64);
@@ -95,7 +95,7 @@ pub fn send_ihave(out: &mut [u8], at: usize, peer: u64, taken: bool, count: usiz
 
 // An entry of an IHave.
 pub fn ihave(out: &mut [u8], at: usize, id: Id, round: Round) -> usize
-    requires { ⌜ Told (ihaveBytes (record { id = idOf id; round = round .0 })) at ⌝ }
+    requires { ⌜ Tellable (ihaveBytes (record { id = idOf id; round = round .0 })) at ⌝ }
     ensures { λ r. ⌜ Written (ihaveBytes (record { id = idOf id; round = round .0 })) (now (out .entry)) at (now (out .exit)) r ⌝ }
 {
     let n = serialized_size::ihave_size(round);
@@ -108,7 +108,7 @@ pub fn ihave(out: &mut [u8], at: usize, id: Id, round: Round) -> usize
 
 // "2 schedule (delay, timer)".
 pub fn schedule(out: &mut [u8], at: usize, delay: Millis, timer: Timer) -> usize
-    requires { ⌜ Told (actionBytes (Scheduled (delay .0) (timerValue timer))) at ⌝ }
+    requires { ⌜ Tellable (actionBytes (Scheduled (delay .0) (timerValue timer))) at ⌝ }
     ensures { λ r. ⌜ Written (actionBytes (Scheduled (delay .0) (timerValue timer))) (now (out .entry)) at (now (out .exit)) r ⌝ }
 {
     let n = serialized_size::schedule_size(delay, timer);
@@ -121,7 +121,7 @@ pub fn schedule(out: &mut [u8], at: usize, delay: Millis, timer: Timer) -> usize
 
 // "3 emit (peer, length, content, delivery)".
 pub fn emit(out: &mut [u8], at: usize, peer: u64, content: &[u8], delivery: Delivery) -> usize
-    requires { ⌜ Told (actionBytes (Emitted peer (now content) (deliveryValue delivery))) at ⌝ }
+    requires { ⌜ Tellable (actionBytes (Emitted peer (now content) (deliveryValue delivery))) at ⌝ }
     ensures { λ r. ⌜ Written (actionBytes (Emitted peer (now (content .entry)) (deliveryValue delivery))) (now (out .entry)) at (now (out .exit)) r ⌝ }
 {
     let n = serialized_size::emit_size(peer, content.len(), delivery);

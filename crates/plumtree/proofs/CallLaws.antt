@@ -79,7 +79,7 @@ module _ (block event : List ℕ) where
       ap (λ (o : Outcome). if not (messageFits (s .settings .maxMessageSize) event e) then refused 10 else (if not (countsStay e c) then refused 11 else (if tooFarBefore identifier now e s then refused 12 else o)))
       (decided-rooms identifier asked given now e s c output (w .whole) (v .same w e d))
 
-  read-rooms : (given asked : List Room) (now : ℕ) (c : Counts) (output : ℕ) (x : Decoded) → Wholly block → now ≤ 2 ^ 62 → decodeEvent event ≡ x → Serves given asked →
+  read-rooms : (given asked : List Room) (now : ℕ) (c : Counts) (output : ℕ) (x : Decoded Event) → Wholly block → now ≤ 2 ^ 62 → decodeEvent event ≡ x → Serves given asked →
       answerBlock identifier (length block) (held block) c (record { now = now; event = event; rooms = given; output = output })
       ≡ answerBlock identifier (length block) (held block) c (record { now = now; event = event; rooms = asked; output = output })
   read-rooms given asked now c output (faulty n) w early d v = answer-fault block w c _ n early d ∙ sym (answer-fault block w c _ n early d)
@@ -101,7 +101,7 @@ module _ (block event : List ℕ) where
     finds = subst (λ (o : Outcome). Finds o (lent block c out) after n m) (same-answer given asked now _ (length out) v) (f .finds);
   }
 
-  read-limit : (given asked : List Room) (now : ℕ) (x : Decoded) → Wholly block → now ≤ 2 ^ 62 → decodeEvent event ≡ x → Serves given asked →
+  read-limit : (given asked : List Room) (now : ℕ) (x : Decoded Event) → Wholly block → now ≤ 2 ^ 62 → decodeEvent event ≡ x → Serves given asked →
       limitMet identifier (length block) (held block) (asking now event given) ≡ limitMet identifier (length block) (held block) (asking now event asked)
   read-limit given asked now (faulty n) w early d v = limit-fault block w _ n early d ∙ sym (limit-fault block w _ n early d)
   read-limit given asked now (decoded e) w early d v = limit-event block w _ e early d ∙ past-rooms asked given now event e s (w .whole) (v .same w e d) ∙ sym (limit-event block w _ e early d)
@@ -142,7 +142,7 @@ module _ (block event : List ℕ) where
     reach (Received q m) p w d h =
         cases (isNeighbour p (s .links)) (λ n. link-same p (peerIn (decodeEvent event)) w n)
         (λ n. let e : p ≡ q = eqb-true p q (rw n at h) in
-        ap (λ (x : Decoded). firstRoom p (roomsIn s (set array 33 (peerIn x)))) d
+        ap (λ (x : Decoded Event). firstRoom p (roomsIn s (set array 33 (peerIn x)))) d
         ∙ (rw e (stranger-same q m w (rw e at n) d)))
     reach (Broadcast content scope) p w d h = link-same p (peerIn (decodeEvent event)) w (alone (isNeighbour p (s .links)) h)
     reach (Fired t) p w d h = link-same p (peerIn (decodeEvent event)) w (alone (isNeighbour p (s .links)) h)

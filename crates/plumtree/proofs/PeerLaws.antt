@@ -82,7 +82,7 @@ from-bytes [] q h = absurd h
 from-bytes (k ∷ rest) q h = cases (ltb k 5) (λ e. from-kind k rest q (rw e at h)) (λ e. absurd (rw e at h))
 
 -- the event that was read to the end
-abbrev Is : Decoded → ℕ → Type 0
+abbrev Is : Decoded Event → ℕ → Type 0
 Is (decoded (Received p m)) q = p ≡ q
 Is (decoded (Broadcast content scope)) q = ⊥
 Is (decoded (Fired t)) q = ⊥
@@ -102,7 +102,7 @@ from-ended (fault n) q h = h
 
 pub starts : (bytes : List ℕ) (q : ℕ) (m : Message) → decodeEvent bytes ≡ decoded (Received q m) → Starts bytes q
 unfolding decodeEvent
-starts bytes q m e = from-bytes bytes q (from-ended (readEvent bytes) q (subst (λ (d : Decoded). Is d q) (sym e) refl))
+starts bytes q m e = from-bytes bytes q (from-ended (readEvent bytes) q (subst (λ (d : Decoded Event). Is d q) (sym e) refl))
 
 module _ (block : List ℕ) (w : Wholly block) where
   pub few-links : length (stateOf (headIn block) block .links) ≤ 32

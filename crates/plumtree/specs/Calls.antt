@@ -14,7 +14,7 @@ use Rattle.block.specs.declared.head.Settings.{Settings}
 use Rattle.block.specs.declared.head.Limits.{Limits}
 use Rattle.whole.specs.Creation.{Creation}
 use Rattle.plumtree.specs.declared.LinkRoom.{LinkRoom}
-use Rattle.plumtree.specs.declared.Likeness.{Likeness as Told}
+use Rattle.plumtree.specs.declared.Likeness.{Likeness as LikenessAnswer}
 
 -- the bytes that question 4 asks for; 0 where question 3 is answered no
 unfoldable pub blockSize : PanelLimits → ℕ
@@ -36,6 +36,6 @@ unfoldable pub entries : List LinkRoom → List Room
 entries rooms = map (λ e. record { peer = e .peer; room = e .room }) rooms
 
 -- *Alike*: "5 for either", or 0 with yes or no
-unfoldable pub toldOf : Likeness → Told
+unfoldable pub toldOf : Likeness → LikenessAnswer
 toldOf notWhole = record { number = 5; alike = false }
 toldOf (likeness b) = record { number = 0; alike = b }

@@ -8,10 +8,12 @@ use machine::Stats;
 use machine::event;
 use machine::event::Outcome;
 use postcard::units::Millis;
+use rewrite::Rewritten;
 use whole::create;
 ghost use mathlib.Core.Path.{_≡_};
 ghost use mathlib.Core.List.{[]};
 ghost use lib.ListN.{length};
+ghost use Rattle.rewrite.specs.RewriteCalls.{Rewrites};
 ghost use Rattle.protocol.specs.Alike.{alikeBlocks};
 ghost use Rattle.block.specs.View.{limitsOf};
 ghost use Rattle.blake3.specs.Blake3.{identifier};
@@ -172,4 +174,16 @@ pub extern "C" fn plumtree_limit_met(
 {
     let found = rooms::rooms_of(block, event, rooms);
     limit_met::limit_met(block, at, event, found)
+}
+
+// Request b, "a writer that reads any message the reader takes and writes its shortest form into a lent buffer": questions 7, 8, 9 and 14. The message is lent alone, without an event's kind and peer.
+#[no_mangle]
+pub extern "C" fn plumtree_rewrite(message: &[u8], output: &mut [u8]) -> Answer
+    ensures { λ r. ⌜ Rewrites (now (message .entry)) (now (output .entry)) (now (output .exit)) (r .number) (r .length) ⌝ }
+{
+    let written = rewrite::rewrite(message, output);
+    match written {
+        Rewritten::Shortest(length) => Answer { number: 0, length },
+        Rewritten::Fault(number) => Answer { number, length: 0 },
+    }
 }

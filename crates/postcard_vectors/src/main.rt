@@ -1,9 +1,11 @@
 // Replays stored events. Standard input has an event to a line: how many bytes it has, in four hexadecimal digits, a space, and the bytes in hexadecimal. For
-// each this writes a line with what `decode_event` reads. What must come out is the file `stdout`. tests/postcard says how both were made.
+// each this writes a line with what `decode_event` reads, and of a received message, behind a semicolon, what `rewrite` writes. What must come out is the file
+// `stdout`. tests/postcard says how both were made.
 use libc::STDIN_FILENO;
 use libc::STDOUT_FILENO;
 use postcard::message::Decoded;
 
+mod shortest;
 mod show;
 
 ghost use Prim.Native.Nat.{_≤_, _<_};
@@ -44,6 +46,7 @@ fn replay(event: &[u8]) {
         Decoded::Event(value) => show::event(event, value),
         Decoded::Fault(n) => show::number(n as u64),
     }
+    shortest::of_event(event);
     io::write_all(STDOUT_FILENO, b"\n");
 }
 

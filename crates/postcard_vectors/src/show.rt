@@ -12,7 +12,7 @@ use rows::id::Id;
 ghost use lib.ListN.{length};
 ghost use Rattle.postcard.specs.Events.{Listed, MessageHeld, EventHeld, ihavesFrom};
 
-fn word(text: &[u8]) {
+pub fn word(text: &[u8]) {
     io::write_all(STDOUT_FILENO, text);
 }
 
@@ -31,7 +31,7 @@ fn wide(b: u8) -> u64 {
     b as u64
 }
 
-fn content(bytes: &[u8]) {
+pub fn content(bytes: &[u8]) {
     if bytes.len() == 0 {
         word(b"-");
         return;

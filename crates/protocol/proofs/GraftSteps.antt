@@ -445,14 +445,14 @@ sorted-forget q (e ∷ m) o =
     cases (isEmpty (withoutAnnouncer q (e .value))) (λ p. rw p ih) (λ p. rw p (and-intro (all-forget (ltb (e .key)) q m above) ih))
 
 -- what "down" leaves
-pub record Leaves (q : ℕ) (s s′ : State) : Type 0 where
+pub record ForgetsPeer (q : ℕ) (s s′ : State) : Type 0 where
   pub sorted : Sorted s′
   pub announcing : (p id : ℕ) → any (hopOf p) (announcers id s′) ≡ true → (eqb p q ≡ false) × (any (hopOf p) (announcers id s) ≡ true)
   pub grafting : (p id : ℕ) → has p (graftedFor id s′) ≡ true → (eqb p q ≡ false) × (has p (graftedFor id s) ≡ true)
 
-pub leaves : (q : ℕ) (s : State) → ascending (keys (s .missing)) ≡ true → Leaves q s (forgetPeer q s)
+pub forgets-peer : (q : ℕ) (s : State) → ascending (keys (s .missing)) ≡ true → ForgetsPeer q s (forgetPeer q s)
 unfolding forgetPeer announcers graftedFor forgetGrafted get
-leaves q s o = record {
+forgets-peer q s o = record {
   sorted = sorted-forget q (s .missing) o;
   announcing = λ p id h. announcing-down p q id (s .missing) o h;
   grafting = λ p id h. grafting-down p q id (s .grafted .entries) h;

@@ -19,7 +19,7 @@ ghost use Rattle.lists.specs.Map.{keys};
 ghost use Rattle.rows.specs.Ident.{idOf};
 ghost use Rattle.rows.specs.Sorted.{Here};
 ghost use Rattle.postcard.specs.Message.{actionBytes};
-ghost use Rattle.output.specs.Written.{Told, Written};
+ghost use Rattle.output.specs.Written.{Tellable, Written};
 ghost use Rattle.protocol.specs.Gossips.{announcers};
 ghost use Rattle.block.specs.View.{stateOf};
 ghost use Rattle.block.specs.Goes.{Goes};
@@ -75,7 +75,7 @@ fn ask_actions(
     at: usize,
     id: Id,
 ) -> usize
-    requires { ⌜ Stands h (now block) × (i < h .live .missing) × Told (concatMap actionBytes (askActions (roomsIn (stateOf h (now block)) (now rooms)) (idOf id) (hopsAt (stateOf h (now block)) i) (stateOf h (now block)))) at ⌝ }
+    requires { ⌜ Stands h (now block) × (i < h .live .missing) × Tellable (concatMap actionBytes (askActions (roomsIn (stateOf h (now block)) (now rooms)) (idOf id) (hopsAt (stateOf h (now block)) i) (stateOf h (now block)))) at ⌝ }
     ensures { λ r. ⌜ Written (concatMap actionBytes (askActions (roomsIn (stateOf h (now (block .entry))) (now (rooms .entry))) (idOf id) (hopsAt (stateOf h (now (block .entry))) i) (stateOf h (now (block .entry))))) (now (out .entry)) at (now (out .exit)) r ⌝ }
 {
     let first = missing::announcer_at(h, block, i, 0);
@@ -97,7 +97,7 @@ pub fn send_graft_actions(
     at: usize,
     id: Id,
 ) -> usize
-    requires { ⌜ Stands h (now block) × Told (concatMap actionBytes (sendGraftActions (roomsIn (stateOf h (now block)) (now rooms)) (idOf id) (settled (instant .0) (stateOf h (now block))))) at ⌝ }
+    requires { ⌜ Stands h (now block) × Tellable (concatMap actionBytes (sendGraftActions (roomsIn (stateOf h (now block)) (now rooms)) (idOf id) (settled (instant .0) (stateOf h (now block))))) at ⌝ }
     ensures { λ r. ⌜ Written (concatMap actionBytes (sendGraftActions (roomsIn (stateOf h (now (block .entry))) (now (rooms .entry))) (idOf id) (settled (instant .0) (stateOf h (now (block .entry)))))) (now (out .entry)) at (now (out .exit)) r ⌝ }
 {
     let received = settled::received_then(h, block, instant, id);

@@ -8,7 +8,7 @@ use postcard::units::Round;
 ghost use mathlib.Core.Path.{_≡_};
 ghost use mathlib.Core.Bool.{Bool};
 ghost use mathlib.Core.List.{List};
-ghost use Prim.Native.Nat.{ℕ, _+_, _^_, _≤_};
+ghost use Prim.Native.Nat.{ℕ, _+_, _^_, _≤_, _<_};
 ghost use lib.Dec.{leb};
 ghost use lib.ListN.{length};
 ghost use Rattle.postcard.specs.Number.{numberLength};
@@ -38,7 +38,7 @@ fn round_size(round: Round) -> usize
 
 // The size of a content of `len` bytes: its length's groups, and its bytes.
 fn content_size(len: usize) -> usize
-    requires { ⌜ len ≤ 2 ^ 62 ⌝ }
+    requires { ⌜ numberLength len + len < 2 ^ 64 ⌝ }
     ensures { λ r. ⌜ r ≡ numberLength len + len ⌝ }
 {
     number_size(len as u64) + len
@@ -66,7 +66,7 @@ fn wanted_size(wanted: Wanted) -> usize
 
 // The size of a Gossip with `len` bytes of content.
 pub fn gossip_size(len: usize, delivery: Delivery) -> usize
-    requires { ⌜ len ≤ 2 ^ 62 ⌝ }
+    requires { ⌜ 33 + (numberLength len + len) + length (deliveryBytes (deliveryValue delivery)) < 2 ^ 64 ⌝ }
     ensures { λ r. ⌜ ((id : ℕ) (content : List ℕ) → length content ≡ len → r ≡ length (messageBytes (Gossip id content (deliveryValue delivery)))) ⌝ }
 {
     33 + content_size(len) + delivery_size(delivery)

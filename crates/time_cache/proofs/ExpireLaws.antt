@@ -14,7 +14,7 @@ use Rattle.lists.proofs.ListLaws.{all-map, all-filter-imp}
 use Rattle.refs.specs.Refs.{Ref, ref, places, names, lowered, left}
 use Rattle.time_cache.specs.TimeCache.{Cache, expireUntil, expiredKeys, Timely}
 use Rattle.time_cache.specs.Tables.{ExpiryRow, expiryRows, expiryOf, Cut, Held, held, entryOf, cacheOf, refsAt, rowsAt, cacheAt, Lies, resized, Sound}
-use Rattle.time_cache.specs.Steps.{Drops, Leaves, Expires}
+use Rattle.time_cache.specs.Steps.{Drops, DropsEntries, Expires}
 use Rattle.time_cache.specs.declared.cache.TimeBoundCache.{TimeBoundCache}
 use Rattle.time_cache.proofs.Timely.{timely-expire}
 use Rattle.time_cache.proofs.Removed.{expired-count}
@@ -40,7 +40,7 @@ left-none [] = refl
 left-none (r ∷ es) = rw (le-leb 0 (r .place) (omega arith)) (λ j. ref (sub-zero (r .place) j) (r .own) ∷ left-none es j)
 
 module _ (c : TimeBoundCache) (t k : ℕ) (xs ys zs : List ℕ) (q : ℕ) (l : Lies c xs) (s : Sound c xs) (cut : Cut (cacheAt c xs .expiry) t k)
-    (d : Drops c k xs ys) (ly : length ys ≡ length xs) (e : Leaves c k ys q zs) (lz : length zs ≡ length ys) where
+    (d : Drops c k xs ys) (ly : length ys ≡ length xs) (e : DropsEntries c k ys q zs) (lz : length zs ≡ length ys) where
   abbrev n : ℕ
   n = c .entries .len
 
@@ -131,7 +131,7 @@ expires-none c t xs l s cut =
       rows = ap (λ (x : ℕ). rowsAt (resized n x c) xs) (sub-zero m);
       only = only-same (c .expiry .at) (m * c .expiry .stride) xs (l .within);
     } in
-    let e : Leaves c 0 xs n xs = record {
+    let e : DropsEntries c 0 xs n xs = record {
       count = omega arith;
       refs = sym (left-none (refsAt c xs));
       only = only-same (c .entries .at) (n * c .entries .stride) xs (omega (arith, l .apart, l .within));

@@ -84,7 +84,7 @@ pub record Drops (c : TimeBoundCache) (k : ℕ) (xs ys : List ℕ) : Type 0 wher
   pub only : Only (c .expiry .at) (c .expiry .len * c .expiry .stride) xs ys
 
 -- the rows of places that do not name the first k rows are left, r in number, and nothing else has changed
-pub record Leaves (c : TimeBoundCache) (k : ℕ) (xs : List ℕ) (r : ℕ) (ys : List ℕ) : Type 0 where
+pub record DropsEntries (c : TimeBoundCache) (k : ℕ) (xs : List ℕ) (r : ℕ) (ys : List ℕ) : Type 0 where
   pub count : r ≤ c .entries .len
   pub refs : refsAt (resized r (c .expiry .len) c) ys ≡ left k (refsAt c xs)
   pub only : Only (c .entries .at) (c .entries .len * c .entries .stride) xs ys

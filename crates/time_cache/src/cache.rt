@@ -17,7 +17,7 @@ ghost use Rattle.rows.specs.Sorted.{FoundIs};
 ghost use Rattle.refs.specs.Refs.{ref, places, Below, moved};
 ghost use Rattle.time_cache.specs.TimeCache.{holds, laterCache};
 ghost use Rattle.time_cache.specs.Tables.{refsAt, rowsAt, cacheAt, rowAt, named, resized, Cut, Lies, Room, Sound, sound};
-ghost use Rattle.time_cache.specs.Steps.{refAt, GotIs, Opens, Places, Gap, Inserts, Drops, Leaves, Expires};
+ghost use Rattle.time_cache.specs.Steps.{refAt, GotIs, Opens, Places, Gap, Inserts, Drops, DropsEntries, Expires};
 
 // A table in a block: `len` rows of `stride` bytes each, the first at `at`.
 pub struct Table {
@@ -291,7 +291,7 @@ impl TimeBoundCache {
     // returns how many are left.
     fn drop_entries(self, block: &mut [u8], k: usize) -> usize
         requires { ⌜ Lies self (now block) ⌝ }
-        ensures { λ r. ⌜ Leaves self k (now (block .entry)) r (now (block .exit)) ⌝ }
+        ensures { λ r. ⌜ DropsEntries self k (now (block .entry)) r (now (block .exit)) ⌝ }
     {
         let a = self.entries.at;
         let s = self.entries.stride;

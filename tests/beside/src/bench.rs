@@ -1,18 +1,19 @@
-//! Times per call, the library's beside those of the Rust's `handle`.
+//! Times per call, the library's beside those of the Rust's `handle`, and of its reading and writing
+//! of a message.
 //!
 //! Each call starts from the same state, given back before it outside of the time taken; the least
 //! of many is told.
-use std::time::Instant;
+use std::{hint::black_box, time::Instant};
 
 use oracle::{
     identifier,
     snap::{Cached, Grafted, Id, Snap},
-    Panel,
+    Message, Panel,
 };
 
 use crate::{
     block::{self, CEILINGS},
-    gen::PANELRUN,
+    gen::{spell, PANELRUN},
     library,
     rng::Rng,
     wire,
@@ -315,6 +316,53 @@ pub fn run(only: Option<&str>) {
             }
             println!("{line}");
         }
+    }
+    rewriting(only);
+}
+
+/// Messages rewritten, from their shortest form and from a padded one: the Rust's reading and
+/// writing beside the library's.
+fn rewriting(only: Option<&str>) {
+    const CALLS: u32 = 100;
+    println!("\nrewriting: nanoseconds a call; the Rust's reading and serde's writing, the library, their ratio");
+    println!("{:34}|{:^27}|{:^27}", "", "shortest", "padded");
+    let r = &mut Rng::new(5);
+    let id = some_id(r);
+    let list: Vec<(Id, u16)> = (0..110).map(|_| (some_id(r), 3)).collect();
+    let messages = [
+        ("rewrite Prune", wire::prune()),
+        ("rewrite Graft with identifier", wire::graft(Some(&id), 3)),
+        ("rewrite Gossip, 100 B", wire::gossip(&id, &r.bytes(100), Some(3))),
+        ("rewrite Gossip, 4,000 B", wire::gossip(&id, &r.bytes(4_000), Some(3))),
+        ("rewrite Gossip, 70,000 B", wire::gossip(&id, &r.bytes(70_000), Some(3))),
+        ("rewrite IHave of 110", wire::ihave(&list)),
+    ];
+    for (name, message) in messages {
+        if only.is_some_and(|o| !name.contains(o)) {
+            continue;
+        }
+        let padded = spell::padded(r, &message, &wire::message(&message).1.numbers);
+        let mut line = format!("{name:34}");
+        for came in [&message, &padded] {
+            let mut out = vec![0; came.len()];
+            let (mut rust, mut ours) = (f64::MAX, f64::MAX);
+            let each = |i: Instant| i.elapsed().as_nanos() as f64 / f64::from(CALLS);
+            for _ in 0..400 {
+                let i = Instant::now();
+                for _ in 0..CALLS {
+                    black_box(Message::read(black_box(came)).unwrap().to_bytes());
+                }
+                rust = rust.min(each(i));
+                let i = Instant::now();
+                for _ in 0..CALLS {
+                    black_box(library::rewrite(black_box(came), &mut out));
+                }
+                ours = ours.min(each(i));
+            }
+            assert!(out.starts_with(&message));
+            line += &format!("|{rust:>9.0} {ours:>9.0} {:>6.1}x ", ours / rust);
+        }
+        println!("{line}");
     }
 }
 

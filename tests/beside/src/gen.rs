@@ -1,6 +1,7 @@
 //! Random lists of calls. A list is determined by its seed and the Rust's answers.
 mod brink;
-mod spell;
+mod rewrite;
+pub mod spell;
 
 use std::collections::HashMap;
 
@@ -8,6 +9,8 @@ use oracle::{
     identifier,
     snap::{Cached, Grafted, Id, Notes, Snap},
 };
+
+pub use rewrite::Rewrites;
 
 use crate::{
     block::{self, Layout, CEILINGS},
@@ -54,7 +57,7 @@ pub struct World {
     profile: Profile,
     pub calls: usize,
     me: u64,
-    m: u64,
+    pub m: u64,
     cfg: [u64; 7],
     max: [u64; 9],
     peers: Vec<u64>,

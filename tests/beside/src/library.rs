@@ -110,6 +110,12 @@ pub fn whole(block: &mut [u8]) -> bool {
     a.number == 6
 }
 
+/// A message in its shortest form: the number and the length.
+pub fn rewrite(message: &[u8], out: &mut [u8]) -> (u64, u64) {
+    let a = raw::rewrite(message, out);
+    (a.number.into(), a.length as u64)
+}
+
 /// *Alike*: the number, and yes or no.
 pub fn alike(a: &[u8], b: &[u8]) -> (u64, bool) {
     let r = raw::alike(a, b);

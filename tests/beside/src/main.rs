@@ -6,6 +6,7 @@ mod gen;
 mod library;
 mod likeness;
 mod paths;
+mod rewriting;
 mod rng;
 mod run;
 mod sample;
@@ -18,17 +19,18 @@ use std::{
     time::{Duration, Instant},
 };
 
-use gen::World;
+use gen::{Rewrites, World};
 use paths::Paths;
 use run::Pair;
 use script::Cmd;
 
 const HELP: &str = "\
 beside [--seed N] [--calls N] [--seconds N] [--from LIST] [--damage PERCENT] [--brief] [--every-path] [--no-shrink]
-    random lists of calls on both, compared after each call; --brief: no table, only the paths never
+    random lists of calls and rewrites on both, compared after each; --brief: no table, only the paths never
     taken; --every-path: such a path is a failure
 beside --short
-    every event of at most two bytes, and of three that begin with a kind
+    every event of at most two bytes, and of three that begin with a kind; every message of at most
+    three bytes, rewritten
 beside --script FILE
     the commands of a file (- for stdin) on both
 beside --sample FILE [--seed N] [--calls N]
@@ -165,6 +167,7 @@ fn run_list(
     if let Some(percent) = damage {
         world.set_damage(percent);
     }
+    let mut rewrites = Rewrites::of(seed, number, world.m);
     let mut pair = Pair::default();
     let mut calls = 0;
     log.begin(number, before);
@@ -172,8 +175,10 @@ fn run_list(
     for c in world.begin() {
         pair.run(log.push(c))?;
     }
+    rewrite(rewrites.begin(), &mut pair, paths, log)?;
     while calls < world.calls as u64 {
         let mut damaged = false;
+        let mut behind = Vec::new();
         for c in world.next(&pair) {
             let c = log.push(c);
             damaged = match c {
@@ -202,10 +207,26 @@ fn run_list(
             paths.spelled(before, event, &call.answer);
             if !damaged {
                 world.heard(&call);
+                behind = rewrites.behind(event, &call.answer.actions);
             }
         }
+        rewrite(behind, &mut pair, paths, log)?;
     }
     Ok(calls)
+}
+
+/// Runs rewrites.
+fn rewrite(
+    list: Vec<Cmd>,
+    pair: &mut Pair,
+    paths: &mut Paths,
+    log: &mut Log,
+) -> Result<(), String> {
+    for c in list {
+        pair.run(log.push(c))?;
+        paths.rewritten(&mut pair.rewriter);
+    }
+    Ok(())
 }
 
 /// What a run is asked for.
@@ -247,7 +268,11 @@ fn work(job: &Job, mut log: Log) -> ExitCode {
     print!("{}", paths.table(job.brief));
     let t = start.elapsed().as_secs_f64();
     let lists = number - job.from;
-    println!("seed {}: {done} calls in {lists} lists, 0 different, {t:.0} s", job.seed);
+    let rewrites = paths.rewrites;
+    println!(
+        "seed {}: {done} calls and {rewrites} rewrites in {lists} lists, 0 different, {t:.0} s",
+        job.seed
+    );
     if job.every_path && paths.never() > 0 {
         println!("paths that no call took: {}", paths.never());
         return ExitCode::from(1);
@@ -279,6 +304,35 @@ fn short(mut log: Log) -> ExitCode {
         }
     }
     println!("short events: {n} commands, 0 different");
+    short_messages(log)
+}
+
+/// Every message of at most three bytes, rewritten.
+fn short_messages(mut log: Log) -> ExitCode {
+    let mut pair = Pair::default();
+    let mut n = 0;
+    for x in 0..=65535u16 {
+        let two = x.to_be_bytes();
+        let mut messages: Vec<Vec<u8>> = (0..=255).map(|c| vec![two[0], two[1], c]).collect();
+        messages.push(two.to_vec());
+        if x < 256 {
+            messages.push(vec![two[1]]);
+        }
+        if x == 0 {
+            messages.push(vec![]);
+        }
+        log.begin(0, 0);
+        for message in messages {
+            n += 1;
+            if let Err(why) = pair.run(log.push(Cmd::Rewrite { message, room: 2 })) {
+                report(0, 0, 0, log.list, &why);
+                return ExitCode::from(1);
+            }
+        }
+        pair.rewriter.about.clear();
+    }
+    let rewrites = pair.rewriter.calls;
+    println!("short messages: {n} in {rewrites} rewrites, 0 different");
     ExitCode::SUCCESS
 }
 

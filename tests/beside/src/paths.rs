@@ -8,6 +8,7 @@ use oracle::{
 
 use crate::{
     block, likeness,
+    rewriting::{self, Rewriter},
     wire::{self, Action, Field, Message, Spelled, Stop},
 };
 
@@ -208,6 +209,8 @@ pub const ALL: &[&str] = &[
 pub struct Paths {
     hits: BTreeMap<&'static str, u64>,
     faults: BTreeMap<&'static str, u64>,
+    /// Calls of `plumtree_rewrite`.
+    pub rewrites: u64,
 }
 
 fn find<'a>(notes: &'a Notes, peer: u64) -> &'a [(Id, u16)] {
@@ -254,6 +257,15 @@ impl Paths {
     /// A question of *alike*.
     pub fn alike(&mut self, about: &'static str) {
         *self.faults.entry(about).or_default() += 1;
+    }
+
+    /// Rewrites, and what they were about.
+    pub fn rewritten(&mut self, r: &mut Rewriter) {
+        self.rewrites += std::mem::take(&mut r.calls);
+        for name in r.about.drain(..) {
+            debug_assert!(rewriting::ABOUT.contains(&name), "{name}");
+            *self.faults.entry(name).or_default() += 1;
+        }
     }
 
     /// The link room of a call.
@@ -727,7 +739,8 @@ impl Paths {
         let calls = ALL.iter().map(|k| (n(&self.hits, k), k.to_string()));
         let faults = block::FAULTS.iter().map(|k| (n(&self.faults, k), format!("not whole: {k}")));
         let alike = likeness::ABOUT.iter().map(|k| (n(&self.faults, k), k.to_string()));
-        calls.chain(faults).chain(alike).collect()
+        let rewritten = rewriting::ABOUT.iter().map(|k| (n(&self.faults, k), k.to_string()));
+        calls.chain(faults).chain(alike).chain(rewritten).collect()
     }
 
     /// How many paths no call took.

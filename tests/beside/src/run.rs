@@ -1,34 +1,34 @@
 //! Runs commands on both, the Rust and the library, and compares after each.
 use oracle::{snap::Snap, Answer, Limits, Panel};
 
-use crate::{block, library, likeness, rng::Rng, script::Cmd};
+use crate::{block, library, likeness, rewriting::Rewriter, rng::Rng, script::Cmd};
 
 /// Bytes kept around everything that is lent.
 const PAD: usize = 64;
-const PATTERN: u8 = 0xa5;
+pub const PATTERN: u8 = 0xa5;
 
 /// A lent part between two pads.
-struct Lent {
+pub struct Lent {
     bytes: Vec<u8>,
     len: usize,
 }
 
 impl Lent {
-    fn new(len: usize) -> Lent {
+    pub fn new(len: usize) -> Lent {
         Lent { bytes: vec![PATTERN; len + 2 * PAD], len }
     }
-    fn set_len(&mut self, len: usize) {
+    pub fn set_len(&mut self, len: usize) {
         self.bytes.clear();
         self.bytes.resize(len + 2 * PAD, PATTERN);
         self.len = len;
     }
-    fn part(&self) -> &[u8] {
+    pub fn part(&self) -> &[u8] {
         &self.bytes[PAD..PAD + self.len]
     }
-    fn part_mut(&mut self) -> &mut [u8] {
+    pub fn part_mut(&mut self) -> &mut [u8] {
         &mut self.bytes[PAD..PAD + self.len]
     }
-    fn pads_kept(&self) -> bool {
+    pub fn pads_kept(&self) -> bool {
         let p = |v: &[u8]| v.iter().all(|b| *b == PATTERN);
         p(&self.bytes[..PAD]) && p(&self.bytes[PAD + self.len..])
     }
@@ -64,11 +64,12 @@ pub struct Pair {
     out: Lent,
     saved: Option<Saved>,
     garbage: Rng,
+    pub rewriter: Rewriter,
 }
 
-type Same<T> = Result<T, String>;
+pub type Same<T> = Result<T, String>;
 
-fn same<T: PartialEq + std::fmt::Debug>(what: &str, rust: T, ours: T) -> Same<()> {
+pub fn same<T: PartialEq + std::fmt::Debug>(what: &str, rust: T, ours: T) -> Same<()> {
     if rust == ours {
         Ok(())
     } else {
@@ -76,7 +77,7 @@ fn same<T: PartialEq + std::fmt::Debug>(what: &str, rust: T, ours: T) -> Same<()
     }
 }
 
-fn holds(yes: bool, what: &str) -> Same<()> {
+pub fn holds(yes: bool, what: &str) -> Same<()> {
     if yes {
         Ok(())
     } else {
@@ -111,6 +112,7 @@ impl Default for Pair {
             out: Lent::new(0),
             saved: None,
             garbage: Rng::new(7),
+            rewriter: Rewriter::default(),
         }
     }
 }
@@ -156,6 +158,7 @@ impl Pair {
                 Ok(None)
             }
             Cmd::Event { now, rooms, event } => self.event(*now, rooms, event).map(Some),
+            Cmd::Rewrite { message, room } => self.rewriter.run(message, *room).map(|()| None),
             Cmd::Alike { max, text } => self.alike(max, text).map(|()| None),
             Cmd::Poke(v) => {
                 self.save();

@@ -1,4 +1,4 @@
-//! Lists of calls, and their text: the oracle's commands (tests/rust/README.md), with `alike`,
+//! Lists of calls and rewrites, and their text: the oracle's commands (tests/rust/README.md), with `alike`,
 //! `poke`, `cut` and `undo` for the block, which the oracle has none of.
 use std::fmt::Write;
 
@@ -23,6 +23,11 @@ pub enum Cmd {
         rooms: Vec<(u64, u16)>,
         event: Vec<u8>,
     },
+    /// A message alone, to be rewritten into an output of so many bytes.
+    Rewrite {
+        message: Vec<u8>,
+        room: usize,
+    },
     /// *Alike*, of the block and one with these limits and this state.
     Alike {
         max: [u64; 9],
@@ -41,6 +46,14 @@ fn hex_or_dash(b: &[u8]) -> String {
         "-".into()
     } else {
         hex::encode(b)
+    }
+}
+
+fn unhex(s: &str) -> Option<Vec<u8>> {
+    if s == "-" {
+        Some(vec![])
+    } else {
+        hex::decode(s).ok()
     }
 }
 
@@ -66,6 +79,7 @@ impl Cmd {
                 let rooms = list(rooms, |(p, r)| format!("{p}:{r}"));
                 format!("ev {now} {rooms} {}", hex_or_dash(event))
             }
+            Cmd::Rewrite { message, room } => format!("rewrite {} {room}", hex_or_dash(message)),
             Cmd::Alike { max, text } => format!("alike {} {text}", words(max)),
             Cmd::Poke(v) => format!("poke {}", list(v, |(i, b)| format!("{i}:{b}"))),
             Cmd::Cut(n) => format!("cut {n}"),
@@ -101,11 +115,9 @@ impl Cmd {
             "ev" => Cmd::Event {
                 now: w.get(1)?.parse().ok()?,
                 rooms: pairs(w.get(2)?)?.iter().map(|e| (e.0, e.1 as u16)).collect(),
-                event: match *w.get(3)? {
-                    "-" => vec![],
-                    h => hex::decode(h).ok()?,
-                },
+                event: unhex(w.get(3)?)?,
             },
+            "rewrite" => Cmd::Rewrite { message: unhex(w.get(1)?)?, room: w.get(2)?.parse().ok()? },
             "alike" => Cmd::Alike {
                 max: w
                     .get(1..10)?

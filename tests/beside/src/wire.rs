@@ -64,6 +64,16 @@ pub fn ihave(list: &[(Id, u16)]) -> Vec<u8> {
     o
 }
 
+/// A message in its shortest form.
+pub fn message_bytes(m: &Message) -> Vec<u8> {
+    match m {
+        Message::Gossip { id, content, round } => gossip(id, content, *round),
+        Message::Prune => prune(),
+        Message::Graft { id, round } => graft(id.as_ref(), *round),
+        Message::IHave(list) => ihave(list),
+    }
+}
+
 pub fn recv(peer: u64, message: &[u8]) -> Vec<u8> {
     let mut o = vec![0];
     number(&mut o, peer);
@@ -97,7 +107,7 @@ pub fn down(peer: u64) -> Vec<u8> {
     [vec![4], num(peer)].concat()
 }
 
-#[derive(Clone, Debug)]
+#[derive(Clone, Debug, PartialEq)]
 pub enum Message {
     Gossip { id: Id, content: Vec<u8>, round: Option<u16> },
     Prune,
@@ -196,7 +206,7 @@ impl Field {
     }
 }
 
-/// A number as it stands in an event.
+/// A number as it stands in an event or a message.
 #[derive(Clone, Copy, Debug)]
 pub struct Spelled {
     pub field: Field,
@@ -212,13 +222,13 @@ impl Spelled {
         bits.max(1).div_ceil(7) as usize
     }
 
-    /// The event with other bytes in the number's place.
-    pub fn replaced(&self, event: &[u8], bytes: &[u8]) -> Vec<u8> {
-        [&event[..self.at], bytes, &event[self.at + self.long..]].concat()
+    /// The bytes with others in the number's place.
+    pub fn replaced(&self, all: &[u8], bytes: &[u8]) -> Vec<u8> {
+        [&all[..self.at], bytes, &all[self.at + self.long..]].concat()
     }
 }
 
-/// Why an event is not read to its end.
+/// Why an event or a message is not read to its end.
 #[derive(Clone, Copy, PartialEq, Debug)]
 pub enum Stop {
     /// The bytes end outside of a number.
@@ -249,11 +259,13 @@ struct Reader<'a> {
     bytes: &'a [u8],
     at: usize,
     numbers: Vec<Spelled>,
+    /// Where the last message begins.
+    message: usize,
 }
 
 impl<'a> Reader<'a> {
     fn new(bytes: &'a [u8]) -> Reader<'a> {
-        Reader { bytes, at: 0, numbers: Vec::new() }
+        Reader { bytes, at: 0, numbers: Vec::new(), message: 0 }
     }
     fn byte(&mut self) -> Got<u8> {
         let b = *self.bytes.get(self.at).ok_or(Stop::End)?;
@@ -312,6 +324,7 @@ impl<'a> Reader<'a> {
         Ok((self.id()?, self.number(Field::EntryRound)? as u16))
     }
     fn message(&mut self) -> Got<Message> {
+        self.message = self.at;
         Ok(match self.kind(Field::MessageKind)? {
             0 => Message::Gossip {
                 id: self.id()?,
@@ -389,7 +402,28 @@ pub fn actions(bytes: &[u8]) -> Vec<Action> {
     v
 }
 
-/// An event as it is spelled.
+/// The bytes of the messages that the actions send.
+pub fn sent(actions: &[u8]) -> Vec<&[u8]> {
+    let mut r = Reader::new(actions);
+    let mut v = Vec::new();
+    while r.at < actions.len() {
+        if let Action::Send { .. } = r.action().expect("an action") {
+            v.push(&actions[r.message..r.at]);
+        }
+    }
+    v
+}
+
+/// What follows the peer of a received message, whatever it is.
+pub fn received(event: &[u8]) -> Option<&[u8]> {
+    let mut r = Reader::new(event);
+    if r.number(Field::EventKind) != Ok(0) || r.number(Field::Peer).is_err() {
+        return None;
+    }
+    Some(&event[r.at..])
+}
+
+/// An event or a message as it is spelled.
 pub struct Reading {
     /// Its numbers, up to where reading stops.
     pub numbers: Vec<Spelled>,
@@ -406,9 +440,23 @@ impl Reading {
     }
 }
 
+impl Reader<'_> {
+    fn told(self, stop: Option<Stop>) -> Reading {
+        let left = Some(9).filter(|_| self.at < self.bytes.len());
+        Reading { question: stop.map(Stop::question).or(left), numbers: self.numbers, stop }
+    }
+}
+
 pub fn reading(event: &[u8]) -> Reading {
     let mut r = Reader::new(event);
     let stop = r.event().err();
-    let left = Some(9).filter(|_| r.at < event.len());
-    Reading { question: stop.map(Stop::question).or(left), numbers: r.numbers, stop }
+    r.told(stop)
+}
+
+/// A message alone: what it is, if it is one, and how it is spelled.
+pub fn message(bytes: &[u8]) -> (Option<Message>, Reading) {
+    let mut r = Reader::new(bytes);
+    let found = r.message();
+    let read = r.told(found.as_ref().err().copied());
+    (found.ok().filter(|_| read.question.is_none()), read)
 }

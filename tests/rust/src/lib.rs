@@ -315,6 +315,36 @@ impl Panel {
     }
 }
 
+/// A message alone, read in plain Postcard. Two are equal where the Rust's values are.
+#[derive(Clone, Debug, PartialEq, Eq)]
+pub struct Message(plumtree::Message);
+
+impl Message {
+    /// Reads a message; the error is the number of the first question (7 to 9) answered no.
+    pub fn read(bytes: &[u8]) -> Result<Message, u8> {
+        let mut de = De::new(bytes);
+        let message = de.read_plain().map_err(question)?;
+        if !de.rest.is_empty() {
+            return Err(9);
+        }
+        Ok(Message(message))
+    }
+
+    /// As the Rust's serde writes it.
+    pub fn to_bytes(&self) -> Vec<u8> {
+        postcard::to_vec(&self.0).unwrap()
+    }
+}
+
+/// The message in its shortest form; the error is the number of the first question (7 to 9, 14) answered no.
+fn rewrite(message: &[u8], room: usize) -> Result<Vec<u8>, u8> {
+    let form = Message::read(message)?.to_bytes();
+    if form.len() > room {
+        return Err(14);
+    }
+    Ok(form)
+}
+
 /// The identifier of a content.
 pub fn identifier(content: &[u8]) -> snap::Id {
     *MessageId::from_content(content).as_bytes()
@@ -486,6 +516,13 @@ impl Oracle {
                     _ => return None,
                 };
                 plumtree::max_gossip_size(len.parse().ok()?, scope).to_string()
+            }
+            "rewrite" => {
+                let [_, message, room] = words else { return None };
+                match rewrite(&unhex(message)?, room.parse().ok()?) {
+                    Ok(form) => format!("ok {}", hex::encode(form)),
+                    Err(no) => format!("bad {no}"),
+                }
             }
             "panel" => hex_or_dash(&panel(&unhex(words.get(1)?)?)),
             _ => return None,

@@ -3,9 +3,9 @@
 use mathlib.Core.Path.{sym}
 use mathlib.Core.List.{List}
 use Prim.Native.Nat.{ℕ}
-use Rattle.output.proofs.WrittenLaws.{written-then, told-first, told-then}
+use Rattle.output.proofs.WrittenLaws.{written-then, tellable-first, tellable-then}
 use Rattle.block.specs.View.{stateOf}
-use Rattle.ticks.proofs.ActionLaws.{told-as, written-as}
+use Rattle.ticks.proofs.ActionLaws.{tellable-as, written-as}
 use Rattle.actions_after.specs.After.{stepBytes}
 use Rattle.actions_after.proofs.AfterLaws.{of-call}
 use borrow.Author.Needs.{needs}
@@ -20,13 +20,13 @@ first-event-actions-requires : tie.Need-first-event-actions-requires
 first-event-actions-requires c κs =
     let s = c .before .before .before .before in
     let a = s .args in
-    told-first (bytes s) (told-as (of-call (a .event .now) (a .instant .0) (a .rooms .now) (stateOf (a .h) (a .block .now)) (a .step)) (s .pre .1))
+    tellable-first (bytes s) (tellable-as (of-call (a .event .now) (a .instant .0) (a .rooms .now) (stateOf (a .h) (a .block .now)) (a .step)) (s .pre .1))
 
 step-actions-requires : tie.Need-step-actions-requires
 step-actions-requires c κs =
     let s = c .before .before .before .before .before .before .before .before in
     let a = s .args in
-    (s .pre .0, told-then (c .before .before .before .first-event-actions .ensures) (told-as (of-call (a .event .now) (a .instant .0) (a .rooms .now) (stateOf (a .h) (a .block .now)) (a .step)) (s .pre .1)))
+    (s .pre .0, tellable-then (c .before .before .before .first-event-actions .ensures) (tellable-as (of-call (a .event .now) (a .instant .0) (a .rooms .now) (stateOf (a .h) (a .block .now)) (a .step)) (s .pre .1)))
 
 same-length : tie.Need-same-length
 same-length c = search needs

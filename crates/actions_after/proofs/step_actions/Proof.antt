@@ -8,7 +8,7 @@ use lib.ListN.{getD}
 use Rattle.protocol.specs.State.{State}
 use Rattle.output.proofs.WrittenLaws.{written-none}
 use Rattle.block.specs.View.{stateOf}
-use Rattle.ticks.proofs.ActionLaws.{told-as, written-as}
+use Rattle.ticks.proofs.ActionLaws.{tellable-as, written-as}
 use Rattle.kinds.specs.Meaning.{StepHeld, stepFar}
 use Rattle.kinds.specs.declared.Step.{Step}
 use Rattle.actions_after.specs.After.{stepBytes}
@@ -47,7 +47,7 @@ new-swarm-requires c κs =
     let s = c .before .before .before .before .before .before .before in
     let a = s .args in
     let g = c .before .before .step .given in
-    ((s .pre .0 .0, held s (g .1), not-far _ _ _ _ _ (far s (g .1))), told-as (ap (bytes s) (g .1) ∙ of-new (a .event .now) (a .instant .0) (a .rooms .now) (st s) (g .0 .0) (g .0 .1 .0) (g .0 .1 .1 .0) (g .0 .1 .1 .1 .0) (g .0 .1 .1 .1 .1 .0)) (s .pre .1))
+    ((s .pre .0 .0, held s (g .1), not-far _ _ _ _ _ (far s (g .1))), tellable-as (ap (bytes s) (g .1) ∙ of-new (a .event .now) (a .instant .0) (a .rooms .now) (st s) (g .0 .0) (g .0 .1 .0) (g .0 .1 .1 .0) (g .0 .1 .1 .1 .0) (g .0 .1 .1 .1 .1 .0)) (s .pre .1))
 
 enum-known-step-2 : tie.Need-enum-known-step-2
 enum-known-step-2 c = search needs
@@ -57,7 +57,7 @@ emit-neighbors-requires c κs =
     let s = c .before .before .before .before .before .before .before in
     let a = s .args in
     let g = c .before .before .step2 .given in
-    (held s (g .1), told-as (ap (bytes s) (g .1) ∙ of-neighbors (a .event .now) (a .instant .0) (a .rooms .now) (st s) (g .0 .0) (g .0 .1 .0) (g .0 .1 .1 .0)) (s .pre .1))
+    (held s (g .1), tellable-as (ap (bytes s) (g .1) ∙ of-neighbors (a .event .now) (a .instant .0) (a .rooms .now) (st s) (g .0 .0) (g .0 .1 .0) (g .0 .1 .1 .0)) (s .pre .1))
 
 enum-known-step-3 : tie.Need-enum-known-step-3
 enum-known-step-3 c = search needs
@@ -67,7 +67,7 @@ late-actions-requires c κs =
     let s = c .before .before .before .before .before .before .before in
     let a = s .args in
     let g = c .before .before .step3 .given in
-    ((s .pre .0 .0, sender s (g .1)), told-as (ap (bytes s) (g .1) ∙ of-late (a .event .now) (a .instant .0) (a .rooms .now) (st s) (g .0 .0) (g .0 .1 .0) (g .0 .1 .1 .0)) (s .pre .1))
+    ((s .pre .0 .0, sender s (g .1)), tellable-as (ap (bytes s) (g .1) ∙ of-late (a .event .now) (a .instant .0) (a .rooms .now) (st s) (g .0 .0) (g .0 .1 .0) (g .0 .1 .1 .0)) (s .pre .1))
 
 enum-told-2 : tie.Need-enum-told-2
 enum-told-2 c = search needs
@@ -80,7 +80,7 @@ graft-actions-requires c κs =
     let s = c .before .before .before .before .before .before .before in
     let a = s .args in
     let g = c .before .before .step4 .given in
-    ((s .pre .0 .0, held s (g .1)), told-as (ap (bytes s) (g .1) ∙ of-graft (a .event .now) (a .instant .0) (a .rooms .now) (st s) (g .0 .0) (g .0 .1 .0)) (s .pre .1))
+    ((s .pre .0 .0, held s (g .1)), tellable-as (ap (bytes s) (g .1) ∙ of-graft (a .event .now) (a .instant .0) (a .rooms .now) (st s) (g .0 .0) (g .0 .1 .0)) (s .pre .1))
 
 enum-known-step-5 : tie.Need-enum-known-step-5
 enum-known-step-5 c = search needs
@@ -90,7 +90,7 @@ ihave-actions-requires c κs =
     let s = c .before .before .before .before .before .before .before in
     let a = s .args in
     let g = c .before .before .step5 .given in
-    (s .pre .0 .0, held s (g .1) .listed, told-as (ap (bytes s) (g .1) ∙ of-ihave (a .event .now) (a .instant .0) (a .rooms .now) (st s) (g .0 .0) (g .0 .1 .0) (g .0 .1 .1 .0)) (s .pre .1))
+    (s .pre .0 .0, held s (g .1) .listed, tellable-as (ap (bytes s) (g .1) ∙ of-ihave (a .event .now) (a .instant .0) (a .rooms .now) (st s) (g .0 .0) (g .0 .1 .0) (g .0 .1 .1 .0)) (s .pre .1))
 
 enum-known-step-6 : tie.Need-enum-known-step-6
 enum-known-step-6 c = search needs
@@ -100,7 +100,7 @@ send-broadcast-requires c κs =
     let s = c .before .before .before .before .before .before .before in
     let a = s .args in
     let g = c .before .before .step6 .given in
-    ((s .pre .0 .0, held s (g .1)), told-as (ap (bytes s) (g .1) ∙ of-broadcast-swarm (a .event .now) (a .instant .0) (a .rooms .now) (st s) (g .0 .0) (g .0 .1 .0) (g .0 .1 .1 .0)) (s .pre .1))
+    ((s .pre .0 .0, held s (g .1)), tellable-as (ap (bytes s) (g .1) ∙ of-broadcast-swarm (a .event .now) (a .instant .0) (a .rooms .now) (st s) (g .0 .0) (g .0 .1 .0) (g .0 .1 .1 .0)) (s .pre .1))
 
 enum-known-step-7 : tie.Need-enum-known-step-7
 enum-known-step-7 c = search needs
@@ -110,7 +110,7 @@ send-broadcast-requires-2 c κs =
     let s = c .before .before .before .before .before .before .before in
     let a = s .args in
     let g = c .before .before .step7 .given in
-    ((s .pre .0 .0, held s (g .1)), told-as (ap (bytes s) (g .1) ∙ of-broadcast-neighbors (a .event .now) (a .instant .0) (a .rooms .now) (st s) (g .0 .0) (g .0 .1 .0) (g .0 .1 .1 .0)) (s .pre .1))
+    ((s .pre .0 .0, held s (g .1)), tellable-as (ap (bytes s) (g .1) ∙ of-broadcast-neighbors (a .event .now) (a .instant .0) (a .rooms .now) (st s) (g .0 .0) (g .0 .1 .0) (g .0 .1 .1 .0)) (s .pre .1))
 
 enum-known-step-8 : tie.Need-enum-known-step-8
 enum-known-step-8 c = search needs
@@ -120,7 +120,7 @@ send-graft-actions-requires c κs =
     let s = c .before .before .before .before .before .before .before in
     let a = s .args in
     let g = c .before .before .step8 .given in
-    (s .pre .0 .0, told-as (ap (bytes s) (g .1) ∙ of-send-graft (a .event .now) (a .instant .0) (a .rooms .now) (st s) (g .0 .0)) (s .pre .1))
+    (s .pre .0 .0, tellable-as (ap (bytes s) (g .1) ∙ of-send-graft (a .event .now) (a .instant .0) (a .rooms .now) (st s) (g .0 .0)) (s .pre .1))
 
 enum-told-3 : tie.Need-enum-told-3
 enum-told-3 c = search needs
@@ -130,7 +130,7 @@ dispatch-actions-requires c κs =
     let s = c .before .before .before .before .before .before in
     let a = s .args in
     let g = c .before .enum-told3 .given in
-    (s .pre .0 .0, told-as (ap (bytes s) (g .1) ∙ of-dispatch (a .event .now) (a .instant .0) (a .rooms .now) (st s)) (s .pre .1))
+    (s .pre .0 .0, tellable-as (ap (bytes s) (g .1) ∙ of-dispatch (a .event .now) (a .instant .0) (a .rooms .now) (st s)) (s .pre .1))
 
 enum-told-4 : tie.Need-enum-told-4
 enum-told-4 c = search needs
@@ -140,7 +140,7 @@ evict-actions-requires c κs =
     let s = c .before .before .before .before .before .before in
     let a = s .args in
     let g = c .before .enum-told4 .given in
-    told-as (ap (bytes s) (g .1) ∙ of-evict (a .event .now) (a .instant .0) (a .rooms .now) (st s)) (s .pre .1)
+    tellable-as (ap (bytes s) (g .1) ∙ of-evict (a .event .now) (a .instant .0) (a .rooms .now) (st s)) (s .pre .1)
 
 enum-told-5 : tie.Need-enum-told-5
 enum-told-5 c = search needs
@@ -150,7 +150,7 @@ announce-actions-requires c κs =
     let s = c .before .before .before .before .before .before in
     let a = s .args in
     let g = c .before .enum-told5 .given in
-    (s .pre .0 .0, told-as (ap (bytes s) (g .1) ∙ of-announce (a .event .now) (a .instant .0) (a .rooms .now) (st s)) (s .pre .1))
+    (s .pre .0 .0, tellable-as (ap (bytes s) (g .1) ∙ of-announce (a .event .now) (a .instant .0) (a .rooms .now) (st s)) (s .pre .1))
 
 returns : tie.Need-returns
 returns c =

@@ -7,8 +7,8 @@ use native.Mathlib.Omega.{arith}
 use Rattle.lists.specs.Base.{concatMap}
 use Rattle.postcard.specs.Message.{actionBytes}
 use Rattle.decide.specs.RecordGrowth.{announceAction}
-use Rattle.output.proofs.WrittenLaws.{written-then, told-first, told-then}
-use Rattle.ticks.proofs.ActionLaws.{told-as, written-as}
+use Rattle.output.proofs.WrittenLaws.{written-then, tellable-first, tellable-then}
+use Rattle.ticks.proofs.ActionLaws.{tellable-as, written-as}
 use Rattle.announce.proofs.ActionLaws.{queued-few, announce-bytes}
 use borrow.Author.Needs.{needs}
 use Rattle.announce.proofs.announce_actions.Statement.{statement}
@@ -28,8 +28,8 @@ dispatch-if-any-requires c κs =
     let m = c .before .before .before in
     let s = m .before .before .before in
     let r = m .count-moved .result in
-    told-first (concatMap actionBytes (announceAction (ltb 0 (r .left)) false))
-    (told-as (announce-bytes (s .args .instant .0) (s .args .h) (s .args .block .now) (s .pre .0) r (m .count-moved .ensures)) (s .pre .1))
+    tellable-first (concatMap actionBytes (announceAction (ltb 0 (r .left)) false))
+    (tellable-as (announce-bytes (s .args .instant .0) (s .args .h) (s .args .block .now) (s .pre .0) r (m .count-moved .ensures)) (s .pre .1))
 
 schedule-announce-dropped-requires : tie.Need-schedule-announce-dropped-requires
 schedule-announce-dropped-requires c κs =
@@ -37,8 +37,8 @@ schedule-announce-dropped-requires c κs =
     let m = d .before .before .before .before in
     let s = m .before .before .before in
     let r = m .count-moved .result in
-    told-then (d .dispatch-if-any .ensures)
-    (told-as (announce-bytes (s .args .instant .0) (s .args .h) (s .args .block .now) (s .pre .0) r (m .count-moved .ensures)) (s .pre .1))
+    tellable-then (d .dispatch-if-any .ensures)
+    (tellable-as (announce-bytes (s .args .instant .0) (s .args .h) (s .args .block .now) (s .pre .0) r (m .count-moved .ensures)) (s .pre .1))
 
 same-length : tie.Need-same-length
 same-length c = search needs

@@ -4,7 +4,7 @@ use mathlib.Core.Path.{sym}
 use Rattle.decide.specs.ActionsAfter.{dispatchAction}
 use Rattle.block.specs.View.{stateOf}
 use Rattle.output.proofs.WrittenLaws.{written-none}
-use Rattle.ticks.proofs.ActionLaws.{told-as, written-as}
+use Rattle.ticks.proofs.ActionLaws.{tellable-as, written-as}
 use Rattle.announce.proofs.ActionLaws.{none-bytes, some-bytes}
 use borrow.Author.Needs.{needs}
 use Rattle.announce.proofs.dispatch_if_any.Statement.{statement}
@@ -18,7 +18,7 @@ returns c =
 schedule-dispatch-requires : tie.Need-schedule-dispatch-requires
 schedule-dispatch-requires c κs =
     let s = c .before .before .before .before in
-    told-as (some-bytes (s .args .n) (dispatchAction (stateOf (s .args .h) (s .args .block .now))) (c .before .if1 .left)) (s .pre)
+    tellable-as (some-bytes (s .args .n) (dispatchAction (stateOf (s .args .h) (s .args .block .now))) (c .before .if1 .left)) (s .pre)
 
 same-length : tie.Need-same-length
 same-length c = search needs

@@ -7,7 +7,7 @@ use Rattle.rows.specs.Ident.{idOf}
 use Rattle.postcard.specs.Values.{scopeValue}
 use Rattle.postcard.specs.declared.message.Scope.{Scope}
 use Rattle.block.specs.View.{stateOf}
-use Rattle.ticks.proofs.ActionLaws.{told-as, written-as}
+use Rattle.ticks.proofs.ActionLaws.{tellable-as, written-as}
 use Rattle.broadcast.specs.Broadcasts.{broadcastBytes}
 use borrow.Author.Needs.{needs}
 use Rattle.broadcast.proofs.broadcast_actions.Statement.{statement}
@@ -27,7 +27,7 @@ enum-told c = search needs
 swarm-actions-requires : tie.Need-swarm-actions-requires
 swarm-actions-requires c κs =
     let s = c .before .before .before .before .before .before in
-    (s .pre .0, told-as (as-found s _ (c .before .enum-told .given .1)) (s .pre .1))
+    (s .pre .0, tellable-as (as-found s _ (c .before .enum-told .given .1)) (s .pre .1))
 
 enum-told-2 : tie.Need-enum-told-2
 enum-told-2 c = search needs
@@ -35,7 +35,7 @@ enum-told-2 c = search needs
 neighbors-actions-requires : tie.Need-neighbors-actions-requires
 neighbors-actions-requires c κs =
     let s = c .before .before .before .before .before .before in
-    (s .pre .0, told-as (as-found s _ (c .before .enum-told2 .given .1)) (s .pre .1))
+    (s .pre .0, tellable-as (as-found s _ (c .before .enum-told2 .given .1)) (s .pre .1))
 
 same-length : tie.Need-same-length
 same-length c = search needs

@@ -3,7 +3,7 @@
 use mathlib.Core.Path.{sym}
 use Rattle.rows.specs.Ident.{idOf}
 use Rattle.steps.specs.declared.Held.the-variants.{Nothing}
-use Rattle.ticks.proofs.ActionLaws.{told-as, written-as}
+use Rattle.ticks.proofs.ActionLaws.{tellable-as, written-as}
 use Rattle.eager.proofs.CallLaws.{pushing}
 use Rattle.broadcast.proofs.ActionLaws.{near-bytes}
 use borrow.Author.Needs.{needs}
@@ -14,7 +14,7 @@ push-sends-requires : tie.Need-push-sends-requires
 push-sends-requires c κs =
     let s = c .before .before .before .before in
     let a = s .args in
-    (pushing (a .h) (a .block .now) Nothing (s .pre .0) tt, told-as (near-bytes (a .instant .0) (a .rooms .now) (idOf (a .id)) (a .content .now) (a .h) (a .block .now)) (s .pre .1))
+    (pushing (a .h) (a .block .now) Nothing (s .pre .0) tt, tellable-as (near-bytes (a .instant .0) (a .rooms .now) (idOf (a .id)) (a .content .now) (a .h) (a .block .now)) (s .pre .1))
 
 same-length : tie.Need-same-length
 same-length c = search needs

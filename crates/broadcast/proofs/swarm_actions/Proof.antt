@@ -5,8 +5,8 @@ use Rattle.rows.specs.Ident.{idOf}
 use Rattle.postcard.specs.Message.{Gossip, Swarm}
 use Rattle.block.specs.View.{stateOf}
 use Rattle.steps.specs.declared.Held.the-variants.{Nothing}
-use Rattle.output.proofs.WrittenLaws.{written-then, told-first, told-then}
-use Rattle.ticks.proofs.ActionLaws.{told-as, written-as}
+use Rattle.output.proofs.WrittenLaws.{written-then, tellable-first, tellable-then}
+use Rattle.ticks.proofs.ActionLaws.{tellable-as, written-as}
 use Rattle.eager.specs.Targets.{targetsOf}
 use Rattle.eager.specs.Sent.{pushBytes}
 use Rattle.eager.proofs.CallLaws.{pushing}
@@ -20,15 +20,15 @@ schedule-dispatch-requires c κs =
     let s = c .before .before .before .before in
     let a = s .args in
     let st = stateOf (a .h) (a .block .now) in
-    told-first (pushBytes (a .rooms .now) (Gossip (idOf (a .id)) (a .content .now) (Swarm 0)) (targetsOf (a .h .settings .me) Nothing st) st)
-    (told-as (swarm-bytes (a .instant .0) (a .rooms .now) (idOf (a .id)) (a .content .now) (a .h) (a .block .now)) (s .pre .1))
+    tellable-first (pushBytes (a .rooms .now) (Gossip (idOf (a .id)) (a .content .now) (Swarm 0)) (targetsOf (a .h .settings .me) Nothing st) st)
+    (tellable-as (swarm-bytes (a .instant .0) (a .rooms .now) (idOf (a .id)) (a .content .now) (a .h) (a .block .now)) (s .pre .1))
 
 eager-push-requires : tie.Need-eager-push-requires
 eager-push-requires c κs =
     let d = c .before .before .before .schedule-dispatch in
     let s = c .before .before .before .before .before .before .before .before in
     let a = s .args in
-    (pushing (a .h) (a .block .now) Nothing (s .pre .0) tt, told-then (d .ensures) (told-as (swarm-bytes (a .instant .0) (a .rooms .now) (idOf (a .id)) (a .content .now) (a .h) (a .block .now)) (s .pre .1)))
+    (pushing (a .h) (a .block .now) Nothing (s .pre .0) tt, tellable-then (d .ensures) (tellable-as (swarm-bytes (a .instant .0) (a .rooms .now) (idOf (a .id)) (a .content .now) (a .h) (a .block .now)) (s .pre .1)))
 
 same-length : tie.Need-same-length
 same-length c = search needs

@@ -14,7 +14,7 @@ use Rattle.decide.specs.Settled.{settled}
 use Rattle.decide.specs.SizesAfter.{knownTimer}
 use Rattle.block.specs.View.{stateOf}
 use Rattle.block.specs.declared.head.Head.{Head}
-use Rattle.output.specs.Written.{Told, Written}
+use Rattle.output.specs.Written.{Tellable, Written}
 use Rattle.ihaves.specs.Heard.{ihave}
 use Rattle.ihaves.specs.New.{isNew}
 use Rattle.ihaves.proofs.NewLaws.{settled-settings}
@@ -102,7 +102,7 @@ schedule-requires c κs =
     let d = c .before .before in
     let s = at-start d in
     let l = d .before .before .before .before .loop in
-    subst (λ (n : ℕ). Told (actionBytes (Scheduled n (SendGraft (x d .id)))) (l .next)) (same-delay d)
+    subst (λ (n : ℕ). Tellable (actionBytes (Scheduled n (SendGraft (x d .id)))) (l .next)) (same-delay d)
     (schedule-told (then d) (all d) (s .args .out .now) (s .args .at) (l .i) (l .out) (l .next) (l .inv .2) (x d) (taken d) (wants d true (c .before .if1 .taken)) (s .pre .2))
 
 loop-less : tie.Need-loop-less Inv-loop μ-loop

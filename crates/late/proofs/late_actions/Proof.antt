@@ -13,7 +13,7 @@ use Rattle.late.specs.declared.Late.{Late}
 use Rattle.late.specs.declared.Late.the-variants.{Faster}
 use Rattle.output.proofs.WrittenLaws.{written-none}
 use Rattle.steps.specs.Rooms.{roomsIn}
-use Rattle.ticks.proofs.ActionLaws.{told-as, written-as}
+use Rattle.ticks.proofs.ActionLaws.{tellable-as, written-as}
 use Rattle.late.proofs.LateLaws.{link-here, taken-link, prune-sender, prune-first, prune-none}
 use native.Mathlib.Omega.{arith}
 use borrow.Author.Needs.{needs}
@@ -39,7 +39,7 @@ send-prune-requires : tie.Need-send-prune-requires
 send-prune-requires c κs =
     let s = c .before .before .before .before .before .before .before in
     let a = s .args in
-    told-as (sym (prune-sender (roomsIn (stateOf (a .h) (a .block .now)) (a .rooms .now)) (a .sender) (lateAs (a .sender) (deliveryValue (a .delivery)) (idOf (a .id)) (settled (a .instant .0) (stateOf (a .h) (a .block .now)))) (c .before .first-taken .result) (c .before .first-taken .ensures) ((subst (λ (k : Late). LateIs (a .h) (a .block .now) (lateAs (a .sender) (deliveryValue (a .delivery)) (idOf (a .id)) (settled (a .instant .0) (stateOf (a .h) (a .block .now)))) k) (c .before .before .enum-told .given .1) (c .before .before .before .before .late-kind .ensures)) .same))) (s .pre .1)
+    tellable-as (sym (prune-sender (roomsIn (stateOf (a .h) (a .block .now)) (a .rooms .now)) (a .sender) (lateAs (a .sender) (deliveryValue (a .delivery)) (idOf (a .id)) (settled (a .instant .0) (stateOf (a .h) (a .block .now)))) (c .before .first-taken .result) (c .before .first-taken .ensures) ((subst (λ (k : Late). LateIs (a .h) (a .block .now) (lateAs (a .sender) (deliveryValue (a .delivery)) (idOf (a .id)) (settled (a .instant .0) (stateOf (a .h) (a .block .now)))) k) (c .before .before .enum-told .given .1) (c .before .before .before .before .late-kind .ensures)) .same))) (s .pre .1)
 
 enum-told-2 : tie.Need-enum-told-2
 enum-told-2 c = search needs
@@ -68,7 +68,7 @@ send-prune-requires-2 c κs =
     let s = c .before .before .before .before .before .before .before .before .before in
     let a = s .args in
     let l = k .before .k .given .0 .0 in
-    told-as (sym (prune-first (roomsIn (stateOf (a .h) (a .block .now)) (a .rooms .now)) (a .sender) (lateAs (a .sender) (deliveryValue (a .delivery)) (idOf (a .id)) (settled (a .instant .0) (stateOf (a .h) (a .block .now)))) (peerAt (stateOf (a .h) (a .block .now)) l) (c .before .before .peer-at .result) (leb 1 (getD (a .rooms .now) l 0)) (c .before .before .peer-at .ensures) (taken-link (a .h) (a .block .now) (a .rooms .now) (s .pre .0 .0) (peerAt (stateOf (a .h) (a .block .now)) l) l (link-here (a .h) (a .block .now) l (found k .below))) (found k .same))) (s .pre .1)
+    tellable-as (sym (prune-first (roomsIn (stateOf (a .h) (a .block .now)) (a .rooms .now)) (a .sender) (lateAs (a .sender) (deliveryValue (a .delivery)) (idOf (a .id)) (settled (a .instant .0) (stateOf (a .h) (a .block .now)))) (peerAt (stateOf (a .h) (a .block .now)) l) (c .before .before .peer-at .result) (leb 1 (getD (a .rooms .now) l 0)) (c .before .before .peer-at .ensures) (taken-link (a .h) (a .block .now) (a .rooms .now) (s .pre .0 .0) (peerAt (stateOf (a .h) (a .block .now)) l) l (link-here (a .h) (a .block .now) l (found k .below))) (found k .same))) (s .pre .1)
 
 same-length : tie.Need-same-length
 same-length c = search needs

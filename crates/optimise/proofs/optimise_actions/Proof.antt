@@ -18,7 +18,7 @@ use Rattle.lists.specs.Base.{concatMap}
 use Rattle.postcard.specs.Message.{actionBytes}
 use Rattle.output.proofs.WrittenLaws.{written-none}
 use Rattle.steps.specs.Rooms.{roomsIn}
-use Rattle.ticks.proofs.ActionLaws.{told-as, written-as}
+use Rattle.ticks.proofs.ActionLaws.{tellable-as, written-as}
 use Rattle.optimise.specs.Best.{bestActions, optimiseOn}
 use Rattle.optimise.proofs.OptimiseLaws.{optimise-best, optimise-none, optimise-away}
 use native.Mathlib.Omega.{arith}
@@ -69,7 +69,7 @@ send-optimise-requires c κs =
     let k = c .before in
     let s = c .before .before .before .before .before .before .before .before .before .before .before .before in
     let a = s .args in
-    (((s .pre .0 .0), omega (arith, want-found (k .before .before .before .before .before) .here .within, count-peers (a .h) (a .block .now)), best-found k .below), told-as (sym (all-bytes k)) (s .pre .1))
+    (((s .pre .0 .0), omega (arith, want-found (k .before .before .before .before .before) .here .within, count-peers (a .h) (a .block .now)), best-found k .below), tellable-as (sym (all-bytes k)) (s .pre .1))
 
 enum-told : tie.Need-enum-told
 enum-told c = search needs

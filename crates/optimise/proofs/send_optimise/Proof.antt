@@ -2,8 +2,8 @@
 -- Assumes nothing.
 use mathlib.Core.Path.{refl, sym}
 use Prim.Native.Nat.{_-_}
-use Rattle.output.proofs.WrittenLaws.{written-then, told-first, told-then}
-use Rattle.ticks.proofs.ActionLaws.{told-as, written-as}
+use Rattle.output.proofs.WrittenLaws.{written-then, tellable-first, tellable-then}
+use Rattle.ticks.proofs.ActionLaws.{tellable-as, written-as}
 use Rattle.optimise.proofs.OptimiseLaws.{best-eager, best-else, best-same, best-other}
 use borrow.Author.Needs.{needs}
 use Rattle.optimise.proofs.send_optimise.Statement.{statement}
@@ -25,7 +25,7 @@ send-prune-requires : tie.Need-send-prune-requires
 send-prune-requires c κs =
     let s = c .before .before .before .before .before .before .before in
     let a = s .args in
-    told-as (sym (best-eager (a .h) (a .block .now) (a .rooms .now) (s .pre .0 .0) (a .link) (a .best .link) (s .pre .0 .1) (s .pre .0 .2) (a .best .round .0) (c .before .before .before .eager-at .result) (c .before .before .before .eager-at .ensures) (c .before .before .if1 .taken) (c .before .before .before .before .peer-at .result) (c .before .before .before .before .peer-at .ensures))) (s .pre .1)
+    tellable-as (sym (best-eager (a .h) (a .block .now) (a .rooms .now) (s .pre .0 .0) (a .link) (a .best .link) (s .pre .0 .1) (s .pre .0 .2) (a .best .round .0) (c .before .before .before .eager-at .result) (c .before .before .before .eager-at .ensures) (c .before .before .if1 .taken) (c .before .before .before .before .peer-at .result) (c .before .before .before .before .peer-at .ensures))) (s .pre .1)
 
 same-length : tie.Need-same-length
 same-length c = search needs
@@ -49,7 +49,7 @@ send-graft-requires : tie.Need-send-graft-requires
 send-graft-requires c κs =
     let s = c .before .before .before .before .before .before .before .before .before in
     let a = s .args in
-    told-first _ (told-as (best-else (a .h) (a .block .now) (a .rooms .now) (s .pre .0 .0) (a .link) (a .best .link) (s .pre .0 .1) (s .pre .0 .2) (a .best .round .0) (c .before .before .before .before .before .eager-at .result) (c .before .before .before .before .before .eager-at .ensures) (c .before .before .before .before .if1 .left) _ refl (c .before .before .before .before .before .before .peer-at .result) (c .before .before .before .peer-at2 .result) (c .before .before .before .before .before .before .peer-at .ensures) (c .before .before .before .peer-at2 .ensures)) (s .pre .1))
+    tellable-first _ (tellable-as (best-else (a .h) (a .block .now) (a .rooms .now) (s .pre .0 .0) (a .link) (a .best .link) (s .pre .0 .1) (s .pre .0 .2) (a .best .round .0) (c .before .before .before .before .before .eager-at .result) (c .before .before .before .before .before .eager-at .ensures) (c .before .before .before .before .if1 .left) _ refl (c .before .before .before .before .before .before .peer-at .result) (c .before .before .before .peer-at2 .result) (c .before .before .before .before .before .before .peer-at .ensures) (c .before .before .before .peer-at2 .ensures)) (s .pre .1))
 
 mul-taken-2 : tie.Need-mul-taken-2
 mul-taken-2 c = search needs
@@ -61,7 +61,7 @@ send-prune-requires-2 : tie.Need-send-prune-requires-2
 send-prune-requires-2 c κs =
     let s = c .before .before .before .before .before .before .before .before .before .before .before .before .before .before .before in
     let a = s .args in
-    told-then (c .before .before .before .before .before .send-graft .ensures) (told-as (best-same (a .h) (a .block .now) (a .rooms .now) (s .pre .0 .0) (a .link) (a .best .link) (s .pre .0 .1) (s .pre .0 .2) (a .best .round .0) (c .before .before .before .before .before .before .before .before .before .before .before .eager-at .result) (c .before .before .before .before .before .before .before .before .before .before .before .eager-at .ensures) (c .before .before .before .before .before .before .before .before .before .before .if1 .left) (c .before .before .if2 .taken) (c .before .before .before .before .before .before .before .before .before .before .before .before .peer-at .result) (c .before .before .before .before .before .before .before .before .before .peer-at2 .result) (c .before .before .before .before .before .before .before .before .before .before .before .before .peer-at .ensures) (c .before .before .before .before .before .before .before .before .before .peer-at2 .ensures)) (s .pre .1))
+    tellable-then (c .before .before .before .before .before .send-graft .ensures) (tellable-as (best-same (a .h) (a .block .now) (a .rooms .now) (s .pre .0 .0) (a .link) (a .best .link) (s .pre .0 .1) (s .pre .0 .2) (a .best .round .0) (c .before .before .before .before .before .before .before .before .before .before .before .eager-at .result) (c .before .before .before .before .before .before .before .before .before .before .before .eager-at .ensures) (c .before .before .before .before .before .before .before .before .before .before .if1 .left) (c .before .before .if2 .taken) (c .before .before .before .before .before .before .before .before .before .before .before .before .peer-at .result) (c .before .before .before .before .before .before .before .before .before .peer-at2 .result) (c .before .before .before .before .before .before .before .before .before .before .before .before .peer-at .ensures) (c .before .before .before .before .before .before .before .before .before .peer-at2 .ensures)) (s .pre .1))
 
 same-length-2 : tie.Need-same-length-2
 same-length-2 c = search needs
@@ -82,7 +82,7 @@ send-prune-requires-3 : tie.Need-send-prune-requires-3
 send-prune-requires-3 c κs =
     let s = c .before .before .before .before .before .before .before .before .before .before .before .before .before .before .before in
     let a = s .args in
-    told-then (c .before .before .before .before .before .send-graft .ensures) (told-as (best-other (a .h) (a .block .now) (a .rooms .now) (s .pre .0 .0) (a .link) (a .best .link) (s .pre .0 .1) (s .pre .0 .2) (a .best .round .0) (c .before .before .before .before .before .before .before .before .before .before .before .eager-at .result) (c .before .before .before .before .before .before .before .before .before .before .before .eager-at .ensures) (c .before .before .before .before .before .before .before .before .before .before .if1 .left) (c .before .before .if2 .left) (c .before .before .before .before .before .before .before .before .before .before .before .before .peer-at .result) (c .before .before .before .before .before .before .before .before .before .peer-at2 .result) (c .before .before .before .before .before .before .before .before .before .before .before .before .peer-at .ensures) (c .before .before .before .before .before .before .before .before .before .peer-at2 .ensures)) (s .pre .1))
+    tellable-then (c .before .before .before .before .before .send-graft .ensures) (tellable-as (best-other (a .h) (a .block .now) (a .rooms .now) (s .pre .0 .0) (a .link) (a .best .link) (s .pre .0 .1) (s .pre .0 .2) (a .best .round .0) (c .before .before .before .before .before .before .before .before .before .before .before .eager-at .result) (c .before .before .before .before .before .before .before .before .before .before .before .eager-at .ensures) (c .before .before .before .before .before .before .before .before .before .before .if1 .left) (c .before .before .if2 .left) (c .before .before .before .before .before .before .before .before .before .before .before .before .peer-at .result) (c .before .before .before .before .before .before .before .before .before .peer-at2 .result) (c .before .before .before .before .before .before .before .before .before .before .before .before .peer-at .ensures) (c .before .before .before .before .before .before .before .before .before .peer-at2 .ensures)) (s .pre .1))
 
 same-length-3 : tie.Need-same-length-3
 same-length-3 c = search needs

@@ -24,6 +24,9 @@ cast-number c = search needs
 number-requires : tie.Need-number-requires
 number-requires c κs = search needs
 
+of-event-requires : tie.Need-of-event-requires
+of-event-requires c κs = search needs
+
 slice-aggregate-write-all : tie.Need-slice-aggregate-write-all
 slice-aggregate-write-all c = search needs
 
@@ -43,6 +46,7 @@ replay-spec =
     enum-known-decoded-2
     cast-number
     number-requires
+    of-event-requires
     slice-aggregate-write-all
     write-all-requires
     returns)

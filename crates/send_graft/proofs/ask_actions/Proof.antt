@@ -3,8 +3,8 @@
 use mathlib.Core.Path.{sym}
 use Rattle.rows.specs.Ident.{idOf}
 use Rattle.postcard.specs.Message.{Scheduled, SendGraft, actionBytes}
-use Rattle.output.proofs.WrittenLaws.{written-then, told-first, told-then}
-use Rattle.ticks.proofs.ActionLaws.{told-as, written-as}
+use Rattle.output.proofs.WrittenLaws.{written-then, tellable-first, tellable-then}
+use Rattle.ticks.proofs.ActionLaws.{tellable-as, written-as}
 use Rattle.send_graft.proofs.AskLaws.{some-hops}
 use Rattle.send_graft.proofs.ReadLaws.{ask-bytes}
 use borrow.Author.Needs.{needs}
@@ -31,8 +31,8 @@ send-graft-requires c κs =
     let a = s .args in
     let f = c .before .before .before .announcer-at in
     let p = c .before .before .peer-at in
-    told-first (actionBytes (Scheduled (a .h .settings .config .«graft_timeout_2» .0) (SendGraft (idOf (a .id)))))
-    (told-as (ask-bytes (a .h) (a .block .now) (s .pre .0) (a .i) (idOf (a .id)) (s .pre .1) (a .rooms .now) (f .result) (f .ensures) (p .result) (p .ensures)) (s .pre .2))
+    tellable-first (actionBytes (Scheduled (a .h .settings .config .«graft_timeout_2» .0) (SendGraft (idOf (a .id)))))
+    (tellable-as (ask-bytes (a .h) (a .block .now) (s .pre .0) (a .i) (idOf (a .id)) (s .pre .1) (a .rooms .now) (f .result) (f .ensures) (p .result) (p .ensures)) (s .pre .2))
 
 schedule-requires : tie.Need-schedule-requires
 schedule-requires c κs =
@@ -40,7 +40,7 @@ schedule-requires c κs =
     let a = s .args in
     let f = c .before .before .before .before .before .before .before .before .announcer-at in
     let p = c .before .before .before .before .before .before .before .peer-at in
-    told-then (c .before .before .before .before .send-graft .ensures) (told-as (ask-bytes (a .h) (a .block .now) (s .pre .0) (a .i) (idOf (a .id)) (s .pre .1) (a .rooms .now) (f .result) (f .ensures) (p .result) (p .ensures)) (s .pre .2))
+    tellable-then (c .before .before .before .before .send-graft .ensures) (tellable-as (ask-bytes (a .h) (a .block .now) (s .pre .0) (a .i) (idOf (a .id)) (s .pre .1) (a .rooms .now) (f .result) (f .ensures) (p .result) (p .ensures)) (s .pre .2))
 
 same-length : tie.Need-same-length
 same-length c = search needs

@@ -13,7 +13,7 @@ use Rattle.block.proofs.AnnounceLaws.{announcers-here}
 use Rattle.output.proofs.WrittenLaws.{written-none}
 use Rattle.steps.specs.Rooms.{roomsIn}
 use Rattle.steps.proofs.StandsLaws.{missing-up}
-use Rattle.ticks.proofs.ActionLaws.{told-as, written-as}
+use Rattle.ticks.proofs.ActionLaws.{tellable-as, written-as}
 use Rattle.send_graft.proofs.ReadLaws.{none-sent, asks-sent, nobody-sent}
 use native.Mathlib.Omega.{arith}
 use borrow.Author.Needs.{needs}
@@ -45,7 +45,7 @@ ask-actions-requires c κs =
     let here : Here (keys (st .missing)) (idOf (a .id)) (f .0 .0) = subst (λ (x : Found). FoundIs (keys (st .missing)) (idOf (a .id)) x) (f .1) (c .before .before .before .before .find-missing .ensures) in (
       s .pre .0,
       omega (arith, here .within, count-missed (a .h) (a .block .now)),
-      told-as (asks-sent (a .instant .0) st (roomsIn st (a .rooms .now)) (idOf (a .id)) (hopsAt st (f .0 .0)) (sym (c .before .before .before .before .before .before .received-then .ensures) ∙ c .before .before .before .before .before .if1 .left) (announcers-here st (idOf (a .id)) (f .0 .0) (up-of (keys (st .missing)) (missing-up (a .h) (a .block .now) (s .pre .0))) here)) (s .pre .1),
+      tellable-as (asks-sent (a .instant .0) st (roomsIn st (a .rooms .now)) (idOf (a .id)) (hopsAt st (f .0 .0)) (sym (c .before .before .before .before .before .before .received-then .ensures) ∙ c .before .before .before .before .before .if1 .left) (announcers-here st (idOf (a .id)) (f .0 .0) (up-of (keys (st .missing)) (missing-up (a .h) (a .block .now) (s .pre .0))) here)) (s .pre .1),
     )
 
 enum-told : tie.Need-enum-told

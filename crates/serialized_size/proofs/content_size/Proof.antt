@@ -2,7 +2,6 @@
 -- Assumes nothing.
 use native.Mathlib.Omega.{arith}
 use borrow.Author.Needs.{needs}
-use Rattle.postcard.proofs.Lengths.{number-few}
 use Rattle.serialized_size.proofs.content_size.Statement.{statement}
 use Rattle.serialized_size.proofs.content_size.Tie as tie
 
@@ -10,7 +9,7 @@ number-size-requires : tie.Need-number-size-requires
 number-size-requires c κs = search needs
 
 add-result : tie.Need-add-result
-add-result c = omega (arith, number-few (c .before .args .len), c .number-size .ensures)
+add-result c = omega (arith, c .number-size .ensures, c .before .pre)
 
 returns : tie.Need-returns
 returns c = search needs

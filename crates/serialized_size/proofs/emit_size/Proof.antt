@@ -16,7 +16,7 @@ add-result : tie.Need-add-result
 add-result c = omega (arith, number-few (c .before .args .peer), c .number-size .ensures)
 
 content-size-requires : tie.Need-content-size-requires
-content-size-requires c κs = search needs
+content-size-requires c κs = omega (arith, number-few (c .before .args .len), c .before .pre)
 
 add-result-2 : tie.Need-add-result-2
 add-result-2 c =

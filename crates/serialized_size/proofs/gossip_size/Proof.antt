@@ -5,15 +5,15 @@ use native.Mathlib.Omega.{arith}
 use borrow.Author.Needs.{needs}
 use Rattle.postcard.specs.Number.{numberLength}
 use Rattle.postcard.specs.Values.{deliveryValue}
-use Rattle.postcard.proofs.Lengths.{number-few, delivery-few, length-content, length-gossip}
+use Rattle.postcard.proofs.Lengths.{length-content, length-gossip}
 use Rattle.serialized_size.proofs.gossip_size.Statement.{statement}
 use Rattle.serialized_size.proofs.gossip_size.Tie as tie
 
 content-size-requires : tie.Need-content-size-requires
-content-size-requires c κs = search needs
+content-size-requires c κs = omega (arith, c .pre)
 
 add-result : tie.Need-add-result
-add-result c = omega (arith, number-few (c .before .args .len), c .content-size .ensures, c .before .pre)
+add-result c = omega (arith, c .content-size .ensures, c .before .pre)
 
 delivery-size-requires : tie.Need-delivery-size-requires
 delivery-size-requires c κs = search needs
@@ -21,7 +21,7 @@ delivery-size-requires c κs = search needs
 add-result-2 : tie.Need-add-result-2
 add-result-2 c =
     let s = c .before .before in
-    omega (arith, number-few (s .args .len), delivery-few (deliveryValue (s .args .delivery)), c .before .content-size .ensures, c .delivery-size .ensures, s .pre)
+    omega (arith, c .before .content-size .ensures, c .delivery-size .ensures, s .pre)
 
 returns : tie.Need-returns
 returns c = λ id content e.

@@ -1,7 +1,7 @@
 -- `evict_actions` meets its contract: one timer.
 -- Assumes nothing.
 use mathlib.Core.Path.{sym}
-use Rattle.ticks.proofs.ActionLaws.{told-as, written-as}
+use Rattle.ticks.proofs.ActionLaws.{tellable-as, written-as}
 use Rattle.ticks.proofs.TickLaws.{evict-due}
 use borrow.Author.Needs.{needs}
 use Rattle.ticks.proofs.evict_actions.Statement.{statement}
@@ -10,7 +10,7 @@ use Rattle.ticks.proofs.evict_actions.Tie as tie
 schedule-requires : tie.Need-schedule-requires
 schedule-requires c κs =
     let s = c .before .before .before .before in
-    told-as (evict-due (s .args .h) (s .args .block .now)) (s .pre)
+    tellable-as (evict-due (s .args .h) (s .args .block .now)) (s .pre)
 
 same-length : tie.Need-same-length
 same-length c = search needs

@@ -2,7 +2,7 @@
 -- Assumes nothing.
 use mathlib.Core.Path.{sym}
 use Rattle.output.proofs.WrittenLaws.{written-none}
-use Rattle.ticks.proofs.ActionLaws.{told-as, written-as}
+use Rattle.ticks.proofs.ActionLaws.{tellable-as, written-as}
 use Rattle.ticks.proofs.TickLaws.{first-none, first-due}
 use borrow.Author.Needs.{needs}
 use Rattle.ticks.proofs.first_event_actions.Statement.{statement}
@@ -16,7 +16,7 @@ returns c =
 evict-actions-requires : tie.Need-evict-actions-requires
 evict-actions-requires c κs =
     let s = c .before .before .before .before in
-    told-as (first-due (s .args .h) (s .args .block .now) (c .before .if1 .left)) (s .pre)
+    tellable-as (first-due (s .args .h) (s .args .block .now) (c .before .if1 .left)) (s .pre)
 
 same-length : tie.Need-same-length
 same-length c = search needs

@@ -1,8 +1,11 @@
-//! Events whose numbers are spelled in other ways than the shortest.
+//! Events and messages whose numbers are spelled in other ways than the shortest.
 use oracle::{identifier, snap::Snap};
 
 use super::World;
-use crate::wire::{self, Field, Spelled};
+use crate::{
+    rng::Rng,
+    wire::{self, Field, Spelled},
+};
 
 /// Numbers that are no message's kind, or no delivery's; the lowest byte or group of some is one.
 const NO_KINDS: [u64; 12] =
@@ -47,41 +50,10 @@ impl World {
         e
     }
 
-    /// One of the numbers, each field as often as the others.
-    fn one_of(&mut self, numbers: &[Spelled]) -> usize {
-        let there = |f: &Field| numbers.iter().any(|n| n.field == *f);
-        let fields: Vec<Field> = Field::INSIDE.into_iter().filter(there).collect();
-        let field = self.r.pick(&fields);
-        let those = |i: &usize| numbers[*i].field == field;
-        let those: Vec<usize> = (0..numbers.len()).filter(those).collect();
-        self.r.pick(&those)
-    }
-
-    /// A length that the number can have, its greatest more often than others.
-    fn length_of(&mut self, n: &Spelled) -> usize {
-        let (most, _) = n.field.longest();
-        let any = n.long + self.r.index(most + 1 - n.long);
-        self.r.pick(&[most, any, any])
-    }
-
     /// The event with one number of its message padded, or many. One without a message stays.
     fn padded(&mut self, e: Vec<u8>) -> Vec<u8> {
         let numbers = wire::reading(&e).message();
-        if numbers.is_empty() {
-            return e;
-        }
-        let mut long: Vec<usize> = numbers.iter().map(|n| n.long).collect();
-        if self.r.chance(50.0) {
-            let i = self.one_of(&numbers);
-            long[i] = self.length_of(&numbers[i]);
-        } else {
-            for (k, n) in long.iter_mut().zip(&numbers) {
-                if self.r.chance(50.0) {
-                    *k = self.length_of(n);
-                }
-            }
-        }
-        spelled(e, &numbers, &long)
+        padded(&mut self.r, &e, &numbers)
     }
 
     /// A message whose shortest form has M bytes or some less.
@@ -111,44 +83,91 @@ impl World {
                 long[self.r.pick(&open)] += 1;
             }
         }
-        spelled(e, &numbers, &long)
+        spelled(&e, &numbers, &long)
     }
 
-    /// The number's own value, or one that its message cannot have: no kind, or more than follows.
-    fn value_for(&mut self, n: &Spelled) -> u64 {
-        match (n.field, n.field.kinds()) {
-            (_, Some(all)) if self.r.chance(60.0) => self.r.pick(&NO_KINDS).max(all),
-            (Field::Length | Field::Count, _) if self.r.chance(20.0) => {
-                self.r.pick(&[u64::MAX, 1 << 63, n.value + (1 << 32)])
-            }
-            _ => n.value,
-        }
-    }
-
-    /// The event with a number of its message of any length up to one byte over the greatest, its
-    /// last byte too large, cut, or of another value.
+    /// The event with a number of its message misspelled.
     fn misspelled(&mut self, e: Vec<u8>) -> Vec<u8> {
         let numbers = wire::reading(&e).message();
-        let n = numbers[self.one_of(&numbers)];
-        let (most, top) = n.field.longest();
-        let value = self.value_for(&n);
-        let any = 1 + self.r.index(most + 1);
-        let long = self.r.pick(&[any, most, most + 1]);
-        let mut bytes = wire::spelling(value, long);
-        if bytes.len() == most && self.r.chance(50.0) {
-            bytes[most - 1] = self.r.pick(&[top + 1, top + 1, 127, 128, 255]);
-        }
-        let mut v = n.replaced(&e, &bytes);
-        if self.r.chance(40.0) {
-            v.truncate(n.at + self.r.index(bytes.len()));
-        }
-        v
+        misspelled(&mut self.r, &e, &numbers)
     }
 }
 
-/// The event with its message's numbers in so many bytes each: from the last on, so that the places
-/// of the others stay.
-fn spelled(e: Vec<u8>, numbers: &[Spelled], long: &[usize]) -> Vec<u8> {
-    let all = numbers.iter().zip(long).rev();
-    all.fold(e, |e, (n, k)| n.replaced(&e, &wire::spelling(n.value, *k)))
+/// One of the numbers, each field as often as the others.
+fn one_of(r: &mut Rng, numbers: &[Spelled]) -> usize {
+    let there = |f: &Field| numbers.iter().any(|n| n.field == *f);
+    let fields: Vec<Field> = Field::INSIDE.into_iter().filter(there).collect();
+    let field = r.pick(&fields);
+    let those = |i: &usize| numbers[*i].field == field;
+    let those: Vec<usize> = (0..numbers.len()).filter(those).collect();
+    r.pick(&those)
+}
+
+/// A length that the number can have, its greatest more often than others.
+fn length_of(r: &mut Rng, n: &Spelled) -> usize {
+    let (most, _) = n.field.longest();
+    let any = n.long + r.index(most + 1 - n.long);
+    r.pick(&[most, any, any])
+}
+
+/// The bytes, of an event or a message, with one of these numbers padded, or many.
+pub fn padded(r: &mut Rng, bytes: &[u8], numbers: &[Spelled]) -> Vec<u8> {
+    if numbers.is_empty() {
+        return bytes.to_vec();
+    }
+    let mut long: Vec<usize> = numbers.iter().map(|n| n.long).collect();
+    if r.chance(50.0) {
+        let i = one_of(r, numbers);
+        long[i] = length_of(r, &numbers[i]);
+    } else {
+        for (k, n) in long.iter_mut().zip(numbers) {
+            if r.chance(50.0) {
+                *k = length_of(r, n);
+            }
+        }
+    }
+    spelled(bytes, numbers, &long)
+}
+
+/// The number's own value, or one that its message cannot have: no kind, or more than follows.
+fn value_for(r: &mut Rng, n: &Spelled) -> u64 {
+    match (n.field, n.field.kinds()) {
+        (_, Some(all)) if r.chance(60.0) => r.pick(&NO_KINDS).max(all),
+        (Field::Length | Field::Count, _) if r.chance(20.0) => {
+            r.pick(&[u64::MAX, 1 << 63, n.value + (1 << 32)])
+        }
+        _ => n.value,
+    }
+}
+
+/// The bytes with one of these numbers of any length up to one byte over the greatest, its last byte
+/// too large, cut, or of another value.
+pub(super) fn misspelled(r: &mut Rng, all: &[u8], numbers: &[Spelled]) -> Vec<u8> {
+    let n = numbers[one_of(r, numbers)];
+    let (most, top) = n.field.longest();
+    let value = value_for(r, &n);
+    let any = 1 + r.index(most + 1);
+    let long = r.pick(&[any, most, most + 1]);
+    let mut bytes = wire::spelling(value, long);
+    if bytes.len() == most && r.chance(50.0) {
+        bytes[most - 1] = r.pick(&[top + 1, top + 1, 127, 128, 255]);
+    }
+    let mut v = n.replaced(all, &bytes);
+    if r.chance(40.0) {
+        v.truncate(n.at + r.index(bytes.len()));
+    }
+    v
+}
+
+/// The bytes with these numbers, in the order in which they stand, in so many bytes each.
+fn spelled(bytes: &[u8], numbers: &[Spelled], long: &[usize]) -> Vec<u8> {
+    let mut v = Vec::with_capacity(bytes.len() + 10);
+    let mut at = 0;
+    for (n, k) in numbers.iter().zip(long) {
+        v.extend_from_slice(&bytes[at..n.at]);
+        v.extend(wire::spelling(n.value, *k));
+        at = n.at + n.long;
+    }
+    v.extend_from_slice(&bytes[at..]);
+    v
 }

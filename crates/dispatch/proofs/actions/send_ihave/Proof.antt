@@ -10,7 +10,7 @@ use lib.Seq.{length-take-le}
 use Rattle.lists.specs.Base.{concatMap}
 use Rattle.postcard.specs.Message.{Ihave, actionBytes}
 use Rattle.protocol.specs.State.{State}
-use Rattle.output.specs.Written.{Told, Written}
+use Rattle.output.specs.Written.{Tellable, Written}
 use Rattle.block.specs.View.{stateOf}
 use Rattle.block.specs.LinkSteps.{peerAt}
 use Rattle.dispatch.specs.Sends.{heldThen, toSend, oneSend}
@@ -32,8 +32,8 @@ module _ (s : tie.Start) where
   counted : length hs ≡ s .args .count
   counted = length-take-le (s .args .count) (toSend (s .args .link) (s .args .row) st) (s .pre .3)
 
-  told : (p : ℕ) → p ≡ peerAt st (s .args .link) → Told (concatMap actionBytes (oneSend held (s .args .taken) (s .args .flag) p hs)) (s .args .from)
-  told p e = subst (λ (n : ℕ). Told (concatMap actionBytes (oneSend held (s .args .taken) (s .args .flag) n hs)) (s .args .from)) (sym e) (s .pre .4)
+  told : (p : ℕ) → p ≡ peerAt st (s .args .link) → Tellable (concatMap actionBytes (oneSend held (s .args .taken) (s .args .flag) p hs)) (s .args .from)
+  told p e = subst (λ (n : ℕ). Tellable (concatMap actionBytes (oneSend held (s .args .taken) (s .args .flag) n hs)) (s .args .from)) (sym e) (s .pre .4)
 
   for-peer : (p : ℕ) (out : List ℕ) (r : ℕ) → p ≡ peerAt st (s .args .link) → Written (concatMap actionBytes (oneSend held (s .args .taken) (s .args .flag) p hs)) (s .args .out .now) (s .args .from) out r
       → Written (concatMap actionBytes (oneSend held (s .args .taken) (s .args .flag) (peerAt st (s .args .link)) hs)) (s .args .out .now) (s .args .from) out r

@@ -8,7 +8,7 @@ use borrow.Author.Needs.{needs}
 use Rattle.rows.specs.Ident.{idOf}
 use Rattle.rows.specs.Part.{part}
 use Rattle.postcard.specs.Message.{Gossip, Swarm}
-use Rattle.output.specs.Written.{Told, Written}
+use Rattle.output.specs.Written.{Tellable, Written}
 use Rattle.output.proofs.WrittenLaws.{written-none}
 use Rattle.protocol.specs.State.{State}
 use Rattle.block.specs.View.{stateOf}
@@ -92,7 +92,7 @@ send-one-requires : tie.Need-send-one-requires
 send-one-requires c κs =
     let p = c .before in
     let d = p .before in
-    (s d .pre .0 .0, subst (λ (b : List ℕ). Told b (s d .args .at)) (sym (same d (p .content-part .result .now) (p .content-part .ensures))) (s d .pre .1))
+    (s d .pre .0 .0, subst (λ (b : List ℕ). Tellable b (s d .args .at)) (sym (same d (p .content-part .result .now) (p .content-part .ensures))) (s d .pre .1))
 
 enum-told : tie.Need-enum-told
 enum-told c = search needs

@@ -1,0 +1,2 @@
+pub mod RewriteLaws
+pub mod RewriteCalls

@@ -1,4 +1,6 @@
 #!/usr/bin/env bash
-# The stored identifiers beside Debian's b3sum. That the program writes them is for `rt ci`.
+# The stored identifiers beside Debian's b3sum, and a look at the compiled code. That the program writes the stored ones is for `rt ci`.
 set -eu
-exec "$(dirname "$0")/compare.sh" stored
+here=$(dirname "$0")
+"$here/compare.sh" stored
+"$here/look.sh"

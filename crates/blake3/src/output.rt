@@ -1,8 +1,6 @@
 // The eight output words as 32 bytes.
-use crate::compress::ChainingValue;
 ghost use mathlib.Core.Path.{_≡_};
 ghost use Rattle.blake3.specs.Blake3.{bytesOf};
-ghost use Rattle.blake3.specs.Shape.{valueOf};
 
 // A word as a number of 64 bits.
 fn wide(x: u32) -> u64
@@ -12,19 +10,9 @@ fn wide(x: u32) -> u64
 }
 
 // The bytes of the words, of each the lowest first.
-pub fn bytes(h: ChainingValue) -> [u8; 32]
-    ensures { λ r. ⌜ r ≡ bytesOf (valueOf h) ⌝ }
+pub fn bytes(w: [u32; 8]) -> [u8; 32]
+    ensures { λ r. ⌜ r ≡ bytesOf w ⌝ }
 {
-    let w = [
-        h.a.w0,
-        h.a.w1,
-        h.a.w2,
-        h.a.w3,
-        h.b.w0,
-        h.b.w1,
-        h.b.w2,
-        h.b.w3,
-    ];
     let mut out = [0u8; 32];
     let mut i = 0;
     while i < 8 {

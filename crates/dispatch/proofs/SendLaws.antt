@@ -103,7 +103,7 @@ module _ (held : ℕ → Bool) (taken flag : Bool) (p count : ℕ) (hs : List Ih
   chunk-bytes : sendBytes ≡ headOf ++ (concatMap ihaveBytes hs ++ concatMap actionBytes (timerAfter (quiet held taken flag hs)))
   chunk-bytes =
       bytes-cons actionBytes (Sent p taken (IHave hs)) (timerAfter (quiet held taken flag hs))
-      ∙ ap (λ (l : List ℕ). l ++ concatMap actionBytes (timerAfter (quiet held taken flag hs))) (sent-ihave-listed p taken hs ∙ ap (λ (n : ℕ). (sendHead p taken ++ ihaveHead n) ++ concatMap ihaveBytes hs) counted)
+      ∙ ap (λ (l : List ℕ). l ++ concatMap actionBytes (timerAfter (quiet held taken flag hs))) (sent-ihave-listed p taken hs count counted)
       ∙ append-assoc headOf (concatMap ihaveBytes hs) (concatMap actionBytes (timerAfter (quiet held taken flag hs)))
 
   module _ {start : ℕ} (t : Tellable sendBytes start) where

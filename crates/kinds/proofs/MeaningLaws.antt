@@ -15,7 +15,7 @@ use Rattle.lists.proofs.MapLaws.{and-right}
 use Rattle.rows.specs.Part.{part}
 use Rattle.rows.specs.Ident.{idOf}
 use Rattle.rows.specs.declared.id.Id.{Id}
-use Rattle.rows.proofs.Parts.{length-part}
+use Rattle.rows.proofs.Parts.{length-part, part-between}
 use Rattle.blake3.specs.Blake3.{identifier}
 use Rattle.time_cache.specs.TimeCache.{holds}
 use Rattle.postcard.specs.Message.{Delivery, Swarm, Neighbors, Scope, toSwarm, toNeighbors, Ihave, Message, Gossip, Prune, Graft, IHave, Received, Broadcast, Fired, SendGraft, DispatchLazyPush, EvictCache, AnnounceDropped, ihaveBytes, messageBytes}
@@ -375,10 +375,7 @@ over-of bytes h xs start len scope b w e =
 
 -- the hash of a part of the event, which the code lends from its start to its end
 pub hash-part : (start len n : ℕ) (bytes : List ℕ) → n ≡ identifier (take (start + len - start) (drop start bytes)) → n ≡ identifier (part start len bytes)
-unfolding part
-hash-part start len n bytes e =
-    let q : start + len - start ≡ len = omega arith in
-    e ∙ ap (λ (k : ℕ). identifier (take k (drop start bytes))) q
+hash-part start len n bytes e = e ∙ ap identifier (part-between start len bytes)
 
 -- the test of the code, of the content
 pub valid-of : (b : Bool) (n m k : ℕ) → b ≡ eqb n k → n ≡ m → eqb m k ≡ b

@@ -7,11 +7,10 @@ use mathlib.Core.List.{List, [], _∷_, _++_, append-assoc, append-nil}
 use native.Mathlib.Omega.{arith}
 use borrow.Author.Tests.{ltb-false}
 use lib.ListN.{length, take, drop}
-use lib.Seq.{drop-drop}
 use Rattle.lists.proofs.MapLaws.{true≢}
 use Rattle.lists.specs.Base.{if_then_else_}
 use Rattle.rows.specs.Part.{part}
-use Rattle.rows.proofs.Parts.{length-part, put-nil, drop-take}
+use Rattle.rows.proofs.Parts.{length-part, put-nil, drop-part}
 use Rattle.postcard.specs.Output.{Wrote}
 use Rattle.postcard.proofs.Writes.{wrote-long}
 use Rattle.protocol.specs.State.{Counts, fresh, zeroCounts}
@@ -130,10 +129,9 @@ same-memory o e = λ k. record { block = o .block k; output = o .output k; reply
 
 -- what is left unread behind a record
 behind-unread : (at end used : ℕ) (buffer : List ℕ) → used ≤ end - at → part (at + used) (end - (at + used)) buffer ≡ drop used (part at (end - at) buffer)
-unfolding part
 behind-unread at end used buffer h =
-    let n : end - at ≡ used + (end - (at + used)) = omega arith in
-    sym (ap (λ (k : ℕ). drop used (take k (drop at buffer))) n ∙ drop-take used (end - (at + used)) (drop at buffer) ∙ ap (take (end - (at + used))) (drop-drop used at buffer))
+    let n : end - (at + used) ≡ end - at - used = omega arith in
+    ap (λ (k : ℕ). part (at + used) k buffer) n ∙ sym (drop-part at used (end - at) buffer h)
 
 step-goes : (before : Memory) (p : Place) (buffer : List ℕ) (after : Memory) (r : Place) (buffer′ : List ℕ) → Inside p buffer → (s : Stepped before p buffer after r buffer′) → r .«goes_on» ≡ true
     → (pieces : List (List ℕ)) (wrote : List ℕ) → Runs after (countsOf (r .stats)) (unreadIn r buffer′) pieces wrote

@@ -9,7 +9,7 @@ use native.Mathlib.Nat.{min-le-left}
 use native.Mathlib.Omega.{arith}
 use lib.ListN.{length, take, drop, length-take}
 use Rattle.rows.specs.Part.{part}
-use Rattle.rows.proofs.Parts.{length-put}
+use Rattle.rows.proofs.Parts.{length-put, part-between}
 use Rattle.blake3.specs.Blake3.{identifier}
 use Rattle.postcard.specs.Number.{groups, numberBytes}
 use Rattle.postcard.specs.Output.{Wrote}
@@ -93,15 +93,12 @@ answered-record now event block c output block′ output′ number n reply reply
 -- a turn that answers a whole record, whose event was lent as a slice
 pub took : (before : Memory) (c : Counts) (unread : List ℕ) (after : Memory) (now start len : ℕ) (a : Parts) → Whole unread now start len
     → Answered (recordCall now (take (start + len - start) (drop start unread))) before c after a → Took before c unread after (start + len) a
-unfolding part
-took before c unread after now start len a w f =
-    let n : start + len - start ≡ len = omega arith in
-    record {
-      call = recordCall now (part start len unread);
-      inside = w .inside;
-      reads = w .reads;
-      answered = subst (λ (m : ℕ). Answered (recordCall now (take m (drop start unread))) before c after a) n f;
-    }
+took before c unread after now start len a w f = record {
+  call = recordCall now (part start len unread);
+  inside = w .inside;
+  reads = w .reads;
+  answered = subst (λ (event : List ℕ). Answered (recordCall now event) before c after a) (part-between start len unread) f;
+}
 
 -- the bytes that a turn leaves to be written
 pub took-reply : {before : Memory} {c : Counts} {unread : List ℕ} {after : Memory} {used : ℕ} {a : Parts} (t : Took before c unread after used a)

@@ -4,29 +4,21 @@
 use Prim.Native.Nat.{ℕ, _≤_, _<_}
 use mathlib.Core.Path.{_≡_, refl, sym, ap, _∙_}
 use mathlib.Core.Bool.{true, false, _&&_, _||_}
-use mathlib.Core.List.{List, [], _∷_, append-nil}
+use mathlib.Core.List.{List, [], append-nil}
 use native.Mathlib.Omega.{arith}
 use borrow.Author.Tests.{le-leb, lt-leb, leb-true, leb-false}
 use lib.Dec.{leb, eqb}
 use lib.ListN.{length}
 use Rattle.lists.specs.Base.{Exactly}
 use Rattle.lists.proofs.MapLaws.{cases, true≢}
-use Rattle.postcard.specs.Number.{Read, got, fault}
 use Rattle.postcard.specs.Message.{Message, messageBytes}
 use Rattle.postcard.specs.Decode.{readMessage, Decoded, decoded, faulty, ended, meaning}
 use Rattle.postcard.specs.Wide.{Bytes, MessageWide}
 use Rattle.postcard.specs.Told.{refused, told, fitted}
 use Rattle.postcard.specs.Rewrite.{rewriteOf, rewrite, ShortestForm, OneSpelling}
 use Rattle.postcard.proofs.DecodeWritten.{read-message}
-use Rattle.postcard.proofs.DecodeBack.{message-short}
+use Rattle.postcard.proofs.DecodeBack.{ended-all, message-short}
 use Rattle.postcard.proofs.DecodeFaults.{faultOf, message-faults}
-
--- what ended well was read to the end
-ended-all : (r : Read Message) (m : Message) → ended r ≡ decoded m → r ≡ got m []
-unfolding ended
-ended-all (got n []) m h = let z : n ≡ m = cc in rw z
-ended-all (got n (b ∷ rest)) m h = let z : false ≡ true = cc in true≢ z
-ended-all (fault n) m h = let z : false ≡ true = cc in true≢ z
 
 -- a message that has a meaning is in its widths, and is no shorter than its shortest form
 meaning-wide : (bs : List ℕ) (m : Message) → Bytes bs → meaning bs ≡ decoded m → MessageWide m × (length (messageBytes m) ≤ length bs)

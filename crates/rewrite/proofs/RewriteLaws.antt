@@ -8,13 +8,14 @@ use lib.ListN.{length, take, drop, length-append, drop-of-length-le}
 use Rattle.lists.specs.Base.{concatMap}
 use Rattle.postcard.specs.Message.{Delivery, Ihave, Message, Gossip, IHave, deliveryBytes, ihaveBytes, messageBytes}
 use Rattle.rows.specs.Part.{part}
-use Rattle.rows.proofs.Parts.{length-part}
+use Rattle.rows.proofs.Parts.{length-part, part-between}
 use Rattle.postcard.specs.Number.{numberLength}
 use Rattle.postcard.specs.Decode.{decoded, faulty, meaning}
 use Rattle.postcard.specs.Output.{Room, Wrote, ihaveHead}
 use Rattle.postcard.specs.Told.{Leaves, fitted}
 use Rattle.postcard.specs.Rewrite.{rewriteOf, rewrite}
 use Rattle.postcard.proofs.Lengths.{length-gossip, length-content}
+use Rattle.postcard.proofs.Listed.{ihave-listed}
 use borrow.Author.Tests.{le-leb, lt-leb}
 use Rattle.postcard.proofs.Writes.{Writing, start, room-left, room-first, room-then, wrote-then, write-on, written}
 
@@ -56,31 +57,23 @@ gossip-small bytes id start len d w s b =
     omega (arith, s, b, length-gossip id (part start len bytes) d, length-content (part start len bytes), n, ap numberLength n)
 
 -- the content as the code has it, the part that ends at its start and its length
-taken : (start len : ℕ) (bytes : List ℕ) → take (start + len - start) (drop start bytes) ≡ part start len bytes
-unfolding part
-taken start len bytes = let q : start + len - start ≡ len = omega arith in ap (λ (k : ℕ). take k (drop start bytes)) q
-
 pub gossip-room : (bytes o : List ℕ) (id start len : ℕ) (d : Delivery) → Room (messageBytes (Gossip id (part start len bytes) d)) 0 o → Room (messageBytes (Gossip id (take (start + len - start) (drop start bytes)) d)) 0 o
-gossip-room bytes o id start len d room = subst (λ (l : List ℕ). Room (messageBytes (Gossip id l d)) 0 o) (sym (taken start len bytes)) room
+gossip-room bytes o id start len d room = subst (λ (l : List ℕ). Room (messageBytes (Gossip id l d)) 0 o) (sym (part-between start len bytes)) room
 
 pub gossip-wrote : (bytes o o′ : List ℕ) (id start len r : ℕ) (d : Delivery) → Wrote (messageBytes (Gossip id (take (start + len - start) (drop start bytes)) d)) o 0 o′ r → Wrote (messageBytes (Gossip id (part start len bytes) d)) o 0 o′ r
-gossip-wrote bytes o o′ id start len r d w = subst (λ (l : List ℕ). Wrote (messageBytes (Gossip id l d)) o 0 o′ r) (taken start len bytes) w
+gossip-wrote bytes o o′ id start len r d w = subst (λ (l : List ℕ). Wrote (messageBytes (Gossip id l d)) o 0 o′ r) (part-between start len bytes) w
 
 -- an IHave is its beginning and its entries
-ihave-parts : (hs : List Ihave) (count : ℕ) → length hs ≡ count → messageBytes (IHave hs) ≡ ihaveHead count ++ concatMap ihaveBytes hs
-unfolding messageBytes ihaveHead
-ihave-parts hs count e = rw e refl
-
 pub head-room : (hs : List Ihave) (count : ℕ) (o : List ℕ) → length hs ≡ count → Room (messageBytes (IHave hs)) 0 o → Room (ihaveHead count) 0 o
-head-room hs count o e room = room-first (concatMap ihaveBytes hs) (subst (λ (l : List ℕ). Room l 0 o) (ihave-parts hs count e) room)
+head-room hs count o e room = room-first (concatMap ihaveBytes hs) (subst (λ (l : List ℕ). Room l 0 o) (ihave-listed hs count e) room)
 
 pub entries-room : (hs : List Ihave) (count m : ℕ) (o o′ : List ℕ) → length hs ≡ count → Room (messageBytes (IHave hs)) 0 o → Wrote (ihaveHead count) o 0 o′ m → Room (concatMap ihaveBytes hs) m o′
-entries-room hs count m o o′ e room w = room-then w (subst (λ (l : List ℕ). Room l 0 o) (ihave-parts hs count e) room)
+entries-room hs count m o o′ e room w = room-then w (subst (λ (l : List ℕ). Room l 0 o) (ihave-listed hs count e) room)
 
 pub ihave-wrote : (hs : List Ihave) (count m r : ℕ) (o o′ o″ : List ℕ) → length hs ≡ count → Room (messageBytes (IHave hs)) 0 o → Wrote (ihaveHead count) o 0 o′ m → Wrote (concatMap ihaveBytes hs) o′ m o″ r →
     Wrote (messageBytes (IHave hs)) o 0 o″ r
 ihave-wrote hs count m r o o′ o″ e room w v =
-    subst (λ (l : List ℕ). Wrote l o 0 o″ r) (sym (ihave-parts hs count e)) (wrote-then w v (subst (λ (l : List ℕ). Room l 0 o) (ihave-parts hs count e) room))
+    subst (λ (l : List ℕ). Wrote l o 0 o″ r) (sym (ihave-listed hs count e)) (wrote-then w v (subst (λ (l : List ℕ). Room l 0 o) (ihave-listed hs count e) room))
 
 -- what the caller finds
 pub finds-refused : (bytes before : List ℕ) (n : ℕ) → faulty n ≡ meaning bytes → Leaves (rewrite bytes (length before)) before before n 0

@@ -106,8 +106,8 @@ module _ {bytes array : List ℕ} {instant : ℕ} {r : Step} {h : Head} {xs : Li
     pub ihave-low : l < h .live .links
     ihave-low = low-link l (known e .held .there)
 
-    pub ihave-listed : Listed bytes start count (ihavesFrom bytes start count)
-    ihave-listed = known e .held .listed
+    pub ihave-entries : Listed bytes start count (ihavesFrom bytes start count)
+    ihave-entries = known e .held .listed
 
     pub ihave-asks : Asks (heardFrom l (ihavesFrom bytes start count)) h xs
     unfolding stepState

@@ -12,7 +12,7 @@ use Rattle.lists.specs.Base.{all}
 use Rattle.lists.proofs.MapLaws.{cases, true≢}
 use Rattle.rows.specs.Part.{part}
 use Rattle.rows.specs.Rows.{rows}
-use Rattle.rows.proofs.Parts.{part-part, length-part}
+use Rattle.rows.proofs.Parts.{part-part, length-part, part-between}
 use Rattle.rows.proofs.Rows.{getD-rows, row-end}
 use Rattle.time_cache.proofs.Orders.{all-at}
 
@@ -82,9 +82,8 @@ pub list-at : (s n i o k : ℕ) (b : List ℕ) → o + k ≡ s → i < n → n *
     → take (i * s + o + k - (i * s + o)) (drop (i * s + o) b) ≡ drop o (getD (rows s n b) i [])
 unfolding part
 list-at s n i o k b w l h =
-    let m : i * s + o + k - (i * s + o) ≡ k = omega arith in
     let lr : length (part (i * s) s b) ≡ s = length-part (i * s) s b (omega (arith, row-end s n i l)) in
-    ap (λ (j : ℕ). take j (drop (i * s + o) b)) m
+    part-between (i * s + o) k b
     ∙ sym (part-part o k (i * s) s b (omega arith))
     ∙ take-all k (drop o (part (i * s) s b)) (omega (arith, length-drop o (part (i * s) s b)))
     ∙ ap (drop o) (sym (getD-rows s n i [] b l))

@@ -4,13 +4,13 @@ use mathlib.Core.Path.{_≡_, sym, ap, _∙_}
 use mathlib.Core.Bool.{Bool, true, _&&_}
 use mathlib.Core.List.{List, [], _∷_, map}
 use Prim.Native.Nat.{ℕ, _+_, _-_, _*_, _≤_, _<_}
-use native.Mathlib.Omega.{arith}
 use lib.ListN.{length, take, drop, getD, length-drop}
 use lib.Seq.{take-take}
 use Rattle.lists.specs.Base.{all, ascending}
 use Rattle.lists.specs.Map.{keys}
 use Rattle.rows.specs.Part.{part}
 use Rattle.rows.specs.Rows.{rows}
+use Rattle.rows.proofs.Parts.{part-between}
 use Rattle.rows.specs.Sorted.{keyOf, keys as rowKeys}
 use Rattle.refs.specs.Refs.{Ref, refOf, refs, places}
 use Rattle.time_cache.specs.TimeCache.{Cache, inPopOrder}
@@ -61,8 +61,7 @@ module _ (l : Limits) (xs : List ℕ) where
   pub bytes-lent : (t n a : ℕ) → t < 15 → n ≤ getD (sizes l) t 0 → a ≡ place l t → take (a + n - a) (drop a xs) ≡ take n (table l t xs)
   unfolding part
   bytes-lent t n a h w e =
-      let size : a + n - a ≡ n = omega arith in
-      (λ k. take (size k) (drop (e k) xs))
+      part-between a n xs ∙ ap (λ (b : ℕ). part b n xs) e
       ∙ sym (ap (take n) (cut-part (sizes l) t xs h) ∙ take-take n (getD (sizes l) t 0) (drop (place l t) xs) w)
 
   pub cache-sound : {A : Type 0} (value : List ℕ → List ℕ → A) (i s n j t m : ℕ) → i < 15 → n * s ≤ getD (sizes l) i 0 → j < 15 → m * t ≤ getD (sizes l) j 0

@@ -1,11 +1,8 @@
 -- `hash`: the identifier in the 32 bytes.
 -- Assumes nothing.
 use mathlib.Core.Path.{ap, _∙_}
-use mathlib.Core.List.{List}
-use Prim.Native.Nat.{ℕ}
-use Rattle.rows.specs.Part.{part}
-use Rattle.rows.specs.Digits.{beNat, leBytes}
-use Rattle.blake3.specs.Blake3.{blake3, identifier, bytesOf}
+use Rattle.blake3.specs.Blake3.{blake3, bytesOf}
+use Rattle.blake3.proofs.Sizes.{loaded-identifier}
 use borrow.Author.Needs.{needs}
 use Rattle.blake3.proofs.hash.Statement.{statement}
 use Rattle.blake3.proofs.hash.Tie as tie
@@ -23,11 +20,10 @@ load-id-requires : tie.Need-load-id-requires
 load-id-requires c κs = search needs
 
 returns : tie.Need-returns
-unfolding blake3 identifier bytesOf part leBytes
+unfolding blake3
 returns c =
     c .load-id .ensures
-    ∙ ap (λ (l : List ℕ). beNat (part 0 32 l)) (c .before .before .bytes .ensures)
-    ∙ ap (λ (l : List ℕ). beNat (bytesOf l)) (c .before .before .before .root .ensures)
+    ∙ loaded-identifier (c .before .before .before .before .before .args .content .now) _ (c .before .before .bytes .ensures ∙ ap bytesOf (c .before .before .before .root .ensures))
 
 pub hash-spec : {M : Type 1} → statement M
 hash-spec =

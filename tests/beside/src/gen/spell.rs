@@ -134,7 +134,7 @@ fn value_for(r: &mut Rng, n: &Spelled) -> u64 {
     match (n.field, n.field.kinds()) {
         (_, Some(all)) if r.chance(60.0) => r.pick(&NO_KINDS).max(all),
         (Field::Length | Field::Count, _) if r.chance(20.0) => {
-            r.pick(&[u64::MAX, 1 << 63, n.value + (1 << 32)])
+            r.pick(&[u64::MAX, 1 << 63, n.value.saturating_add(1 << 32)])
         }
         _ => n.value,
     }

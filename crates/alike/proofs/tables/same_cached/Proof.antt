@@ -20,6 +20,7 @@ use Rattle.lists.specs.Map.{Entry}
 use Rattle.time_cache.specs.TimeCache.{Timed}
 use Rattle.protocol.specs.State.{Cached}
 use Rattle.rows.specs.Part.{part}
+use Rattle.rows.proofs.Parts.{part-between}
 use Rattle.block.specs.Layout.{place}
 use Rattle.caches.specs.CachedReads.{cachedAt, ContentIs}
 use Rattle.caches.specs.declared.cached.Content.{Content}
@@ -31,10 +32,7 @@ use Rattle.alike.proofs.tables.same_cached.Tie as tie
 -- the content that is lent
 content-lent : (h : Head) (xs : List ℕ) (i : ℕ) (r : Content) (b : ℕ) → b ≡ place (limitsOf (h .limits)) 6 → ContentIs h xs i r
     → take (b + r .start + r .len - (b + r .start)) (drop (b + r .start) xs) ≡ cachedAt (stateOf h xs) i .content
-unfolding part
-content-lent h xs i r b e w =
-    let z : b + r .start + r .len - (b + r .start) ≡ r .len = omega arith in
-    (λ k. take (z k) (drop (e k + r .start) xs)) ∙ sym (w .same)
+content-lent h xs i r b e w = part-between (b + r .start) (r .len) xs ∙ ap (λ (a : ℕ). part (a + r .start) (r .len) xs) e ∙ sym (w .same)
 
 -- what the comparison of keys told
 module _ (d : tie.After-same-key) where

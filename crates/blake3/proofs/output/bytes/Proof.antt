@@ -61,7 +61,7 @@ loop-again c =
 returns : tie.Need-returns Inv-loop μ-loop
 returns c =
     let l = c .before .loop in
-    store-end (replicate 32 0) (l .out) _ (l .i) (omega arith) refl (l .inv .1)
+    store-end (replicate 32 0) (l .out) _ (l .i) (omega arith) (omega arith) (l .inv .1)
 
 pub bytes-spec : {M : Type 1} → statement M
 bytes-spec =

@@ -5,7 +5,7 @@ use mathlib.Core.List.{List, _++_}
 use Prim.Native.Nat.{ℕ, _+_, _-_, _*_, _≤_}
 use lib.ListN.{length, getD, take, drop}
 use Rattle.rows.specs.Part.{part, put}
-use Rattle.rows.proofs.Parts.{length-part, length-put, loan-put, getD-part}
+use Rattle.rows.proofs.Parts.{length-part, length-put, part-between, loan-put, getD-part}
 use Rattle.rows.proofs.Rows.{row-end}
 use Rattle.refs.proofs.Shifts.{done, done-start, done-all}
 use Rattle.neighbours.specs.Lowered.{listedOf, listed, lowerListed}
@@ -63,8 +63,7 @@ module _ (c : tie.In-loop Inv-loop μ-loop) where
   at = c .before .loop .k * s .args .stride + s .args .o
 
   lent : take (at + 97 - at) (drop at b) ≡ part at 97 b
-  unfolding part
-  lent = let z : at + 97 - at ≡ 97 = omega arith in ap (λ (w : ℕ). take w (drop at b)) z
+  lent = part-between at 97 b
 
   counted : getD b at 0 ≤ 32
   counted =

@@ -1,6 +1,6 @@
 -- `after::step_state` meets its contract: each arm is its step.
 -- Assumes nothing.
-use Rattle.state_after.proofs.StepLaws.{new-asks, new-held, new-near, new-goes, late-goes, prune-low, prune-goes, graft-low, graft-asks, graft-steps, ihave-low, ihave-listed, ihave-asks, ihave-goes, broadcast-held, broadcast-asks, broadcast-goes, send-graft-asks, send-graft-goes, dispatch-asks, dispatch-goes, evict-goes, announce-asks, announce-steps, nothing-goes, neighbors-goes, broadcast-neighbors-goes}
+use Rattle.state_after.proofs.StepLaws.{new-asks, new-held, new-near, new-goes, late-goes, prune-low, prune-goes, graft-low, graft-asks, graft-steps, ihave-low, ihave-entries, ihave-asks, ihave-goes, broadcast-held, broadcast-asks, broadcast-goes, send-graft-asks, send-graft-goes, dispatch-asks, dispatch-goes, evict-goes, announce-asks, announce-steps, nothing-goes, neighbors-goes, broadcast-neighbors-goes}
 use borrow.Author.Needs.{needs}
 use Rattle.state_after.proofs.after.step_state.Statement.{statement}
 use Rattle.state_after.proofs.after.step_state.Tie as tie
@@ -53,7 +53,7 @@ on-ihave-requires : tie.Need-on-ihave-requires
 on-ihave-requires c κs =
     let s = c .before .before .before .before .before .before in
     let e = c .before .before .step5 .given .1 in
-    (ihave-asks (s .pre) e, ihave-low (s .pre) e, ihave-listed (s .pre) e)
+    (ihave-asks (s .pre) e, ihave-low (s .pre) e, ihave-entries (s .pre) e)
 
 enum-known-step-6 : tie.Need-enum-known-step-6
 enum-known-step-6 c = search needs

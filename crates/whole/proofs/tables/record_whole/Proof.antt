@@ -3,13 +3,13 @@
 use mathlib.Core.Path.{_≡_, sym, ap, _∙_, subst}
 use mathlib.Core.Bool.{Bool, true}
 use mathlib.Core.List.{List, [], _∷_}
-use Prim.Native.Nat.{ℕ, _+_, _-_, _<_}
+use Prim.Native.Nat.{ℕ, _+_, _-_}
 use native.Mathlib.Omega.{arith}
 use borrow.Author.Needs.{needs}
 use lib.Dec.{lit<}
-use lib.ListN.{length, take, drop, length-drop}
-use lib.Seq.{length-take-le}
+use lib.ListN.{length, take, drop}
 use Rattle.rows.specs.Rows.{rows}
+use Rattle.rows.proofs.Parts.{length-part, part-between}
 use Rattle.refs.specs.Refs.{Below}
 use Rattle.notes.specs.Chains.{TellsOnce}
 use Rattle.time_cache.proofs.Orders.{below-of}
@@ -152,10 +152,9 @@ once-requires c κs =
     let xs = s .args .block .now in
     let at = c .before .before .before .before .before .before .before .before .before .dropped-at in
     let rows-at = c .before .before .dropped-rows-at in
-    let size : at .result + h .live .dropped - at .result ≡ h .live .dropped = omega arith in
     let long : length (take (at .result + h .live .dropped - at .result) (drop (at .result) xs)) ≡ h .live .dropped =
-    ap (λ (k : ℕ). length (take k (drop (at .result) xs))) size
-    ∙ length-take-le (h .live .dropped) (drop (at .result) xs) (omega (arith, length-drop (at .result) xs, at .ensures, s .pre .0 .within .dropped, s .pre .0 .long)) in (
+    ap length (part-between (at .result) (h .live .dropped) xs)
+    ∙ length-part (at .result) (h .live .dropped) xs (omega (arith, at .ensures, s .pre .0 .within .dropped, s .pre .0 .long)) in (
       omega (arith, s .pre .0 .ceilings .D, s .pre .0 .within .dropped),
       omega arith,
       omega (arith, length-open (rows-at .result) xs, rows-at .ensures, s .pre .0 .within .dropped, s .pre .0 .long),

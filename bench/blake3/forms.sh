@@ -55,8 +55,8 @@ forms() {
         git -C "$root" archive "$commit" crates/blake3/src | tar -x -C "$work/$commit"
         finish "$commit"
     done
-    for change in "$here"/forms/*.patch; do
-        change "$(basename "$change" .patch)" "$(basename "$change" .patch)"
+    for p in "$here"/forms/*.patch; do
+        change "$(basename "$p" .patch)" "$(basename "$p" .patch)"
     done
     change loop_each_use loop_of_rounds each_use
 }

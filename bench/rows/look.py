@@ -5,7 +5,13 @@
 # The functions of crates/rows are compiled into their callers, so their names are gone; a move is found as a loop. A loop is a jump back, and it
 # is innermost if no other lies in it. An innermost loop that stores whole vector registers is a move of rows: nothing else there stores so many
 # bytes. move_up goes from the end, its step is negative; move_down goes from the start.
-import re, sys
+import os
+import re
+import sys
+
+sys.dont_write_bytecode = True
+sys.path.insert(0, os.path.join(os.path.dirname(os.path.abspath(__file__)), '..', '..', 'tools'))
+from disassembly import read
 
 # the moves of rows in each function's source, and which way they go
 MOVES = {
@@ -17,20 +23,8 @@ STORE = re.compile(r'mov[bwlq]?\s+[%$][^(]*,[^(]*\(%(?!rsp)')
 STEP = re.compile(r'(add|sub)\s+\$0x([0-9a-f]+),(%\w+)$')
 
 
-def read(lines):
-    functions, code = {}, []
-    for line in lines:
-        m = re.match(r'[0-9a-f]+ <(.+)>:$', line)
-        if m:
-            code = functions.setdefault(m.group(1), [])
-        m = re.match(r'\s*([0-9a-f]+):\s+(\S.*)$', line)
-        if m:
-            code.append((int(m.group(1), 16), m.group(2).strip()))
-    return functions
-
-
 def innermost(code):
-    jumps = ((at, re.match(r'j\w+\s+([0-9a-f]+) <', text)) for at, text in code)
+    jumps = ((at, re.match(r'j\w+\s+([0-9a-f]+) <', text)) for at, text, _ in code)
     loops = {(int(m.group(1), 16), at) for at, m in jumps if m and int(m.group(1), 16) <= at}
     return [l for l in sorted(loops) if not any(o != l and l[0] <= o[0] and o[1] <= l[1] for o in loops)]
 
@@ -47,16 +41,16 @@ ok = True
 for name, code in read(sys.stdin).items():
     moves, others, copied = [], 0, set()
     for first, last in innermost(code):
-        body = [text for at, text in code if first <= at <= last]
+        body = [text for at, text, _ in code if first <= at <= last]
         vector = sum(1 for text in body if VECTOR.match(text))
         if vector:
             moves.append((first, last, 16 * vector, direction(body)))
         if vector or any(STORE.match(text) for text in body):
             others += not vector
-            copied.update(at for at, _ in code if first <= at <= last)
-    calls = sum(1 for _, text in code if 'R_X86_64' in text and 'memmove' in text)
-    swaps = sum(1 for _, text in code if text.startswith('bswap'))
-    single = [text for at, text in code if at not in copied and re.match(r'movzb\w\s+[^%]*\((?!%rsp)', text)]
+            copied.update(at for at, _, _ in code if first <= at <= last)
+    calls = sum(1 for _, _, named in code if named == 'memmove')
+    swaps = sum(1 for _, text, _ in code if text.startswith('bswap'))
+    single = [text for at, text, _ in code if at not in copied and re.match(r'movzb\w\s+[^%]*\((?!%rsp)', text)]
     print('%s: %d byte swaps, %d loads of one byte outside loops that store, %d calls of memmove' % (name, swaps, len(single), calls))
     for first, last, size, way in moves:
         print('  loop %x-%x: vector code, %d bytes a turn, %s' % (first, last, size, way))

@@ -8,8 +8,13 @@
 #   3. it loads from nowhere but its own frame, the chaining value and the words, each word by one load of four bytes;
 #   4. it is reached by calls alone, and at each %rsi is an address in the caller's own frame: the words are not in the content.
 # What a register or a slot of the frame holds is followed along every path: it is known to be one of these addresses, or it is not.
+import os
 import re
 import sys
+
+sys.dont_write_bytecode = True
+sys.path.insert(0, os.path.join(os.path.dirname(os.path.abspath(__file__)), '..', '..', 'tools'))
+from disassembly import read
 
 ROUNDS = 'blake3::compress::compress_in_place'
 ROTATIONS = 7 * 8 * 4
@@ -19,21 +24,10 @@ CALLER_SAVED = 'rax rcx rdx rsi rdi r8 r9 r10 r11'.split()
 MEMORY = re.compile(r'(-?(?:0x)?[0-9a-f]*)\((%\w+)?(?:,(%\w+))?(?:,\d)?\)')
 
 
-# the functions: for each its instructions, as [place, name, operands, what a relocation names]
-def read(lines):
-    functions, code = {}, []
-    for line in lines:
-        m = re.match(r'[0-9a-f]+ <(.+)>:$', line)
-        if m:
-            code = functions.setdefault(m.group(1), [])
-        m = re.match(r'\s*([0-9a-f]+):\s+(R_X86_64\S+)\s+(\S+)', line)
-        if m and code:
-            code[-1][3] = re.sub(r'^\.text\.|[-+]0x[0-9a-f]+$', '', m.group(3))
-            continue
-        m = re.match(r'\s*([0-9a-f]+):\s+([a-z]\w*(?: [a-z]\w*)*?)(?:\s+([^#]*?))?\s*(?:#.*)?$', line)
-        if m:
-            code.append([int(m.group(1), 16), m.group(2), operands(m.group(3) or ''), None])
-    return functions
+# an instruction as [place, name, operands, what a relocation names]; a comment of objdump's is left out
+def instruction(place, text, relocation):
+    m = re.match(r'([a-z]\w*(?: [a-z]\w*)*?)(?:\s+([^#]*?))?\s*(?:#.*)?$', text)
+    return [place, m.group(1), operands(m.group(2) or ''), relocation] if m else [place, text, [], relocation]
 
 
 # the operands of an instruction, by the commas that are not in brackets
@@ -160,7 +154,7 @@ def look_at_calls(name, code):
     return len(named), ['%s, %x: the words are not known to be in the frame' % (name, code[i][0]) for i in bad]
 
 
-functions = read(sys.stdin)
+functions = {name: [instruction(*c) for c in code] for name, code in read(sys.stdin).items()}
 wrong, made = [], 0
 for name, code in functions.items():
     want = ROTATIONS if name == ROUNDS else 0

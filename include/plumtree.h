@@ -4,11 +4,11 @@
  * Link libplumtree.a (`rt staticlib plumtree` writes target/staticlib/libplumtree.a, for x86-64 Linux). It needs memcpy, memmove and
  * memset of the C library and nothing else: it has no heap, no thread, no clock, no file, no variable of its own. What a panel knows
  * stands in one block of bytes that its owner lends to each call. examples/c/first_broadcast.c is a program to start from, and
- * examples/c/three_panels.c a host to copy.
+ * examples/c/three_panels.c a host to copy; archive.c and commissioning.c beside them show plumtree_rewrite, plumtree_save and plumtree_return.
  *
  *     cc -I include program.c target/staticlib/libplumtree.a
  *
- * The specification is called "document 01" here; its words stand in quotes.
+ * The specification is called "document 01" here, and what customers asked for since "document 02"; their words stand in quotes.
  *
  *
  * WHAT A HOST DOES
@@ -35,13 +35,13 @@
  *
  *   - Each pointer is valid for its length: a const pointer for reading, the others for reading and writing, until the call returns.
  *     A pointer whose length is 0 may be null or any other value. `counts` is never null.
- *   - block, counts and output do not overlap each other, nor event, rooms or message. (event and rooms may overlap, the two blocks of
+ *   - block, counts, output and area do not overlap each other, nor event, rooms or message. (event and rooms may overlap, the two blocks of
  *     plumtree_alike may be the same, and what plumtree_limit_met is lent may overlap.)
  *   - No other thread writes what is lent, nor reads what is not const, before the call returns. Calls on different panels may run at
- *     the same time.
+ *     the same time; so may returns from one area, but nothing beside a saving into it.
  *   - Each lent part has fewer than 2^63 bytes. `counts` and `rooms` are aligned as C aligns them; bytes need no alignment.
- *   - What is lent has been written once, block, counts and output too (calloc or memset will do). Padding does not matter; after a call it can
- *     hold anything, so who keeps the counts keeps the three numbers.
+ *   - What is lent has been written once, block, counts, output and area too (calloc or memset will do). Padding does not matter; after a call it
+ *     can hold anything, so who keeps the counts keeps the three numbers.
  *   - The thread has 64 KiB of stack left. (Measured at the ceilings, tests/c/stack.c, and not proved: no proof speaks of the stack.)
  *
  * Nothing else is asked. There is no order of calls to keep and no event that must not come: a call that cannot be carried out is refused.
@@ -49,20 +49,31 @@
  *
  * WHAT A CALL PROMISES
  *
- *   - It returns, and touches nothing but block, counts and output, within their lengths.
+ *   - It returns, and touches nothing but block, counts and output, and plumtree_save nothing but the area, within their lengths.
  *   - Answer number 0: it was accepted. The block holds the state after the call, the counts are brought up to date, the first `length`
- *     bytes of the output hold the actions (of plumtree_rewrite the message), and the bytes after them keep their old content.
- *   - Any other number: "The first no gives its number and output length 0; block, counts record and output are untouched."
+ *     bytes of the output hold the actions (of plumtree_rewrite the message), and the bytes after them keep their old content. An accepted
+ *     saving changes the area alone, an accepted return block and counts alone; their length is 0.
+ *   - Any other number: "The first no gives its number and output length 0; block, counts record and output are untouched." And "Neither a return
+ *     nor a refusal changes the area."
  *   - Each call is a function of what is lent: from the same block, counts, time, event, rooms and output length come the same answer,
- *     actions and state; of plumtree_rewrite, from the same message and output length the same answer and bytes.
+ *     actions and state; of plumtree_rewrite, from the same message and output length the same answer and bytes; of plumtree_save, from the same
+ *     block, counts, area and name the same answer and area; of plumtree_return, from the same block, area and name the same answer, block and,
+ *     where it is accepted, counts.
  *   - Over a list of calls, from a creation on: no neighbour is passed over (docs/GUARANTEE.md). That speaks of lists in which each call
  *     gets block and counts as the one before left them. Times may go back, calls may be refused, links may hand back what they like.
- *   - From an accepted creation on, no call is answered 5 as long as nobody else writes the block.
+ *   - "From a return on, the list of calls that the guarantees speak about is the one up to the saving, followed by the calls since the return."
+ *     That speaks of an area that "starts as zeros" and that savings alone have written.
+ *   - From an accepted creation on, no call is answered 5 as long as nobody else writes the block: a return brings back a whole one.
  *
  * A block is plain bytes: it can be copied, or kept and lent again later, with its counts. A call that is cut off (power, a killed process)
  * can leave it half written, and question 5 does not find every such block: whoever keeps a block over that goes on from a copy made
  * between two calls. Question 5 is no checksum either: a block in a file wants one of its own. With the block are kept the timers that have
  * not been told: what waits for one that is lost is never sent. The panel still has its neighbours: one that is gone meanwhile is told down.
+ *
+ * An area is plain bytes too. A saving that is cut off can leave it half written: then mostly every call upon it is answered 17, but a state that
+ * is damaged and not found so can stand in it; whoever keeps an area over that goes on from a copy made between two calls. A return that is cut off
+ * can leave the block half written, and the area as it was: plumtree_create makes the block a panel, and the return is made again. Question 17 is
+ * no checksum, as question 5 is none: it does not find a bit that is turned in kept counts, or in a kept block that stays whole.
  */
 #ifndef PLUMTREE_H
 #define PLUMTREE_H
@@ -81,7 +92,9 @@ extern "C" {
  * ANSWERS
  *
  * "Answer 0 is yes to all. The first no gives its number". Creation asks 1 to 4, an event 5 to 14, plumtree_alike 5, plumtree_rewrite 7, 8, 9
- * and 14. The questions stand in plumtree_number_text below. Those of plumtree_rewrite are asked of the message it is lent, and 14 of what it writes.
+ * and 14, plumtree_save 5, 17, 16 and plumtree_return 5, 17, 15, each in this order. The questions stand in plumtree_number_text below: 1 to 14 are
+ * document 01's, 15 to 17 document 02's, which has no question in words but what is answered so. Those of plumtree_rewrite are asked of the message
+ * it is lent, and 14 of what it writes. Question 5 of plumtree_return is asked of the block as it is lent.
  */
 enum plumtree_number {
     PLUMTREE_ACCEPTED = 0,
@@ -108,7 +121,14 @@ enum plumtree_number {
      * plumtree_limit_met says which limit it is. */
     PLUMTREE_LIMIT_REACHED = 13,
     /* Nothing has changed: the same call with a longer output goes through. */
-    PLUMTREE_OUTPUT_TOO_SHORT = 14
+    PLUMTREE_OUTPUT_TOO_SHORT = 14,
+
+    /* Names are compared over all eight bytes. */
+    PLUMTREE_NAME_NOT_KEPT = 15,
+    /* Save under one of the four names, or into another area. */
+    PLUMTREE_NAMES_FULL = 16,
+    /* It is shorter than plumtree_area_size says, did not start as zeros, was written by somebody else, or keeps blocks of another length. */
+    PLUMTREE_AREA_NOT_WHOLE = 17
 };
 
 /* An answer's number as text for people: what it means, then the question, in UTF-8. Plain C, in this header. */
@@ -148,6 +168,13 @@ static inline const char *plumtree_number_text(uint8_t number)
         return "a limit is reached (question 13: \"Is the state after the call within every limit?\")";
     case PLUMTREE_OUTPUT_TOO_SHORT:
         return "the output is too short (question 14: \"Do the actions fit the output?\")";
+    case PLUMTREE_NAME_NOT_KEPT:
+        return "no state is kept under this name (question 15: \"Returning to a name not kept\")";
+    case PLUMTREE_NAMES_FULL:
+        return "four states are kept under other names (question 16: \"saving a fifth name\")";
+    case PLUMTREE_AREA_NOT_WHOLE:
+        return "the area is too short, damaged, or of blocks of another length (question 17: "
+               "\"an area too short, or one that savings of blocks of this length couldn't have left\")";
     default:
         return "no answer of this library";
     }
@@ -368,6 +395,48 @@ uint8_t plumtree_limit_met(const uint8_t *block, size_t block_length, uint64_t a
  * There is no block and no M: a message of any length is taken. The identifier is not held against the content. message and output do not overlap.
  */
 struct plumtree_answer plumtree_rewrite(const uint8_t *message, size_t message_length, uint8_t *output, size_t output_length);
+
+/* How many bytes an area for blocks of this length needs: "four times the block and 256 bytes more". 0 where that is no size_t. Plain C, in this
+ * header. */
+static inline size_t plumtree_area_size(size_t block_length)
+{
+    return block_length <= ((size_t)-1 - 256) / 4 ? 4 * block_length + 256 : 0;
+}
+
+/* The name of these eight bytes, as plumtree_save and plumtree_return take it: a number of which the first byte is the lowest. Exactly eight are
+ * read: pad a shorter name with blanks. Plain C, in this header. */
+static inline uint64_t plumtree_name(const char bytes[8])
+{
+    uint64_t name = 0;
+    int i;
+    for (i = 7; i >= 0; i--)
+        name = name << 8 | (uint8_t)bytes[i];
+    return name;
+}
+
+/*
+ * A saving: keeps block and counts under a name in `area`, a second lent part of at least plumtree_area_size bytes that starts as zeros. "Up to four
+ * states are kept"; "Any name is allowed, and saving under a used one replaces it." Eight zeros are a name too, and all eight bytes are compared.
+ * Asks 5, 17, 16. An accepted saving changes the area alone, a refused one nothing.
+ * 17 is answered exactly if the area is shorter than plumtree_area_size says, or if no list of accepted savings of blocks of this length leaves it
+ * from zeros. What such a list leaves: the names differ, each kept block is whole, and every byte that no kept state uses is 0, but for the one that
+ * says how many there are. Use an area with blocks of one length: a saving of another length is answered 17, or, where savings of that length could
+ * have left the same bytes, makes the area one of that length. Several panels may share it: a name is the area's, not the panel's. Nothing takes a
+ * name out: who wants an empty area lends zeros.
+ * The host keeps its timers beside the area, with the name: they do not come back with a return (docs/LINKING.md, Named states).
+ */
+struct plumtree_answer plumtree_save(const uint8_t *block, size_t block_length, struct plumtree_stats counts, uint8_t *area, size_t area_length,
+                                     uint64_t name);
+
+/*
+ * A return: "Returning brings back block and counts in full", byte for byte as they were saved last under this name, with the own peer number, the
+ * settings, the limits and the neighbours of then. Asks 5, 17, 15; 5 of the block as it is lent, so a damaged one is created first. An accepted
+ * return changes block and counts alone, a refused one nothing.
+ * The panel has forgotten what happened since the saving. The host takes back the timers that it kept with the name, in place of those that wait,
+ * tells which neighbours came or went since, and goes on with its clock and its readings' numbers (docs/LINKING.md, Named states).
+ */
+struct plumtree_answer plumtree_return(uint8_t *block, size_t block_length, struct plumtree_stats *counts, const uint8_t *area, size_t area_length,
+                                       uint64_t name);
 
 /*
  * EVENTS AND ACTIONS, BYTE BY BYTE

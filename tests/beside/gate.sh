@@ -1,5 +1,5 @@
 #!/usr/bin/env bash
-# Runs the proved library beside the Rust: 220,000 calls, compared after each, and the messages of these calls rewritten. The first run's seed is fixed, and it takes every path of
+# Runs the proved library beside the Rust: 220,000 calls, compared after each, the messages of these calls rewritten, and states saved and returned to between them. The first run's seed is fixed, and it takes every path of
 # the table; the second's is printed, and SEED sets it. Then 2,000 calls under valgrind.
 set -eu
 cd "$(dirname "$0")/../.."

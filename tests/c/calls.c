@@ -1,6 +1,6 @@
 /*
  * The library called from C: that the header's structs are where the library reads them, each refusal and that it touches nothing, each limit that
- * a call can meet, messages rewritten, null pointers with length 0. Every lent part is a heap block of exactly its length, so that valgrind sees a
+ * a call can meet, messages rewritten, states saved and returned to, null pointers with length 0. Every lent part is a heap block of exactly its length, so that valgrind sees a
  * step beyond it.
  */
 #include <stdio.h>
@@ -765,6 +765,101 @@ static void rewriting(void)
     free(form);
 }
 
+/* A saving with this answer; it touches the area alone, and where it is refused nothing. */
+static void saving(const struct panel *p, uint8_t *area, size_t area_length, uint64_t name, uint8_t number, int line)
+{
+    uint8_t *block = (uint8_t *)bytes(p->block_length, 0), *before = (uint8_t *)bytes(area_length, 0);
+    struct plumtree_stats counts = *p->counts;
+    struct plumtree_answer a;
+    if (p->block_length)
+        memcpy(block, p->block, p->block_length);
+    if (area_length)
+        memcpy(before, area, area_length);
+    a = plumtree_save(p->block_length ? p->block : NULL, p->block_length, *p->counts, area, area_length, name);
+    if (a.number != number) {
+        printf("calls.c:%d: a saving answers %d and not %d\n", line, a.number, number);
+        failed = 1;
+    }
+    CHECK(a.length == 0);
+    CHECK(memcmp(block, p->block, p->block_length) == 0);
+    CHECK(same_counts(&counts, p->counts));
+    CHECK((a.number == 0) == (area_length != 0 && memcmp(before, area, area_length) != 0));
+    free(block);
+    free(before);
+}
+
+#define SAVING(p, area, n, name, number) saving(p, area, n, name, number, __LINE__)
+
+/* A return that is refused with this number and touches nothing. */
+static void not_returning(struct panel *p, const uint8_t *area, size_t area_length, uint64_t name, uint8_t number, int line)
+{
+    uint8_t *block = (uint8_t *)bytes(p->block_length, 0), *before = (uint8_t *)bytes(area_length, 0);
+    struct plumtree_stats counts = *p->counts;
+    struct plumtree_answer a;
+    if (p->block_length)
+        memcpy(block, p->block, p->block_length);
+    if (area_length)
+        memcpy(before, area, area_length);
+    a = plumtree_return(p->block_length ? p->block : NULL, p->block_length, p->counts, area, area_length, name);
+    if (a.number != number) {
+        printf("calls.c:%d: a return answers %d and not %d\n", line, a.number, number);
+        failed = 1;
+    }
+    CHECK(a.length == 0);
+    CHECK(memcmp(block, p->block, p->block_length) == 0);
+    CHECK(same_counts(&counts, p->counts));
+    CHECK(area_length == 0 || memcmp(before, area, area_length) == 0);
+    free(block);
+    free(before);
+}
+
+#define NOT_RETURNING(p, area, n, name, number) not_returning(p, area, n, name, number, __LINE__)
+
+/* States saved and returned to: each refusal, in its order. tests/c/states.c has more. */
+static void states(void)
+{
+    struct panel p = new_panel(plumtree_default_settings(1), plumtree_small_limits());
+    struct panel q = new_panel(plumtree_default_settings(7), plumtree_small_limits()), none = q;
+    size_t n = p.block_length, long_enough = plumtree_area_size(n);
+    uint8_t *area = (uint8_t *)bytes(long_enough, 0), *tiny = (uint8_t *)bytes(10, 0), event[16];
+    struct plumtree_answer a;
+    uint64_t name;
+    tell(&p, 0, event, plumtree_put_up(event, 2));
+    p.counts->payload_messages_received = 11;
+    p.counts->control_messages_received = 12;
+    p.counts->max_last_delivery_hop = 13;
+    CHECK(long_enough == 235776);
+    NOT_RETURNING(&p, area, long_enough, 0, PLUMTREE_NAME_NOT_KEPT);
+    SAVING(&p, area, long_enough - 1, 0, PLUMTREE_AREA_NOT_WHOLE);
+    SAVING(&p, tiny, 10, 0, PLUMTREE_AREA_NOT_WHOLE);
+    SAVING(&p, NULL, 0, 0, PLUMTREE_AREA_NOT_WHOLE);
+    NOT_RETURNING(&p, NULL, 0, 0, PLUMTREE_AREA_NOT_WHOLE);
+    SAVING(&p, area, long_enough, 0, PLUMTREE_ACCEPTED);
+    for (name = 1; name < 4; name++)
+        SAVING(&q, area, long_enough, name, PLUMTREE_ACCEPTED);
+    SAVING(&q, area, long_enough, 4, PLUMTREE_NAMES_FULL);
+    NOT_RETURNING(&q, area, long_enough, 4, PLUMTREE_NAME_NOT_KEPT);
+    none.block_length = n - 1;
+    SAVING(&none, area, long_enough, 0, PLUMTREE_BLOCK_NOT_WHOLE);
+    NOT_RETURNING(&none, area, long_enough, 0, PLUMTREE_BLOCK_NOT_WHOLE);
+    none.block_length = 0;
+    SAVING(&none, NULL, 0, 0, PLUMTREE_BLOCK_NOT_WHOLE);
+    NOT_RETURNING(&none, NULL, 0, 0, PLUMTREE_BLOCK_NOT_WHOLE);
+    area[255] = 5;
+    SAVING(&q, area, long_enough, 4, PLUMTREE_AREA_NOT_WHOLE);
+    NOT_RETURNING(&q, area, long_enough, 4, PLUMTREE_AREA_NOT_WHOLE);
+    area[255] = 4;
+    a = plumtree_return(q.block, n, q.counts, area, long_enough, 0);
+    CHECK(a.number == PLUMTREE_ACCEPTED && a.length == 0);
+    CHECK(memcmp(p.block, q.block, n) == 0);
+    CHECK(same_counts(p.counts, q.counts));
+    CHECK(q.counts->payload_messages_received == 11 && q.counts->control_messages_received == 12 && q.counts->max_last_delivery_hop == 13);
+    free(area);
+    free(tiny);
+    free_panel(p);
+    free_panel(q);
+}
+
 int main(void)
 {
     CHECK(sizeof(struct plumtree_config) == 56);
@@ -788,6 +883,7 @@ int main(void)
     rooms();
     limits_met();
     rewriting();
+    states();
     printf("%s\n", failed ? "calls from C: not as promised" : "calls from C: as promised");
     return failed;
 }

@@ -20,8 +20,9 @@ static const struct plumtree_limits most = {PLUMTREE_CEILING_NEIGHBOURS, PLUMTRE
                                             PLUMTREE_CEILING_CONTENT,    PLUMTREE_CEILING_GRAFTED,  PLUMTREE_CEILING_MISSING,
                                             PLUMTREE_CEILING_TIMERS,     PLUMTREE_CEILING_QUEUED,   PLUMTREE_CEILING_DROPPED};
 
-static uint8_t *stack, *block, *output, *event, *content;
-static size_t block_length, event_length;
+static uint8_t *stack, *block, *output, *event, *content, *kept;
+static size_t block_length, event_length, kept_length;
+static uint64_t name;
 static const size_t output_length = (size_t)1 << 22;
 static uint64_t at;
 static struct plumtree_stats counts;
@@ -65,6 +66,19 @@ static void *rewritten(void *unused)
     return unused;
 }
 
+/* Into an area that keeps up to four states, and back. */
+static void *save(void *unused)
+{
+    answer = plumtree_save(block, block_length, counts, kept, kept_length, name);
+    return unused;
+}
+
+static void *go_back(void *unused)
+{
+    answer = plumtree_return(block, block_length, &counts, kept, kept_length, name);
+    return unused;
+}
+
 static void stop(const char *why)
 {
     printf("stack: %s\n", why);
@@ -96,7 +110,7 @@ static size_t taken(void *(*call)(void *))
     return d > nothing_takes ? d - nothing_takes : 0;
 }
 
-static size_t most_of_events, most_of_limits, most_of_rewrites;
+static size_t most_of_events, most_of_limits, most_of_rewrites, most_of_saves, most_of_returns;
 
 static void measure(size_t *most_of, void *(*call)(void *))
 {
@@ -143,6 +157,8 @@ int main(void)
     output = area(output_length);
     event = area((size_t)1 << 21);
     content = area((size_t)1 << 20);
+    kept_length = plumtree_area_size(block_length);
+    kept = area(kept_length);
     stack = (uint8_t *)mmap(NULL, STACK, PROT_READ | PROT_WRITE, MAP_PRIVATE | MAP_ANONYMOUS, -1, 0);
     if (stack == (uint8_t *)MAP_FAILED)
         stop("no memory");
@@ -189,20 +205,28 @@ int main(void)
     event_of(plumtree_put_tick(event, PLUMTREE_TIMER_DISPATCH_LAZY_PUSH));
     event_of(plumtree_put_tick(event, PLUMTREE_TIMER_ANNOUNCE_DROPPED));
     of_alike = taken(alike);
+    for (name = 0; name < 4; name++) {
+        measure(&most_of_saves, save);
+        measure(&most_of_returns, go_back);
+    }
+    name = 0;
+    measure(&most_of_saves, save);
     at = 30000;
     event_of(plumtree_put_tick(event, PLUMTREE_TIMER_EVICT_CACHE));
     event_of(plumtree_put_down(event, 5));
 
-    printf("stack: create %zu bytes, event at most %zu, alike %zu, limit_met at most %zu, rewrite at most %zu\n", of_create, most_of_events, of_alike,
-           most_of_limits, most_of_rewrites);
-    if (most_of_events == 0 || most_of_rewrites == 0)
+    printf("stack: create %zu bytes, event at most %zu, alike %zu, limit_met at most %zu, rewrite at most %zu, save at most %zu, return at most %zu\n",
+           of_create, most_of_events, of_alike, most_of_limits, most_of_rewrites, most_of_saves, most_of_returns);
+    if (most_of_events == 0 || most_of_rewrites == 0 || most_of_saves == 0 || most_of_returns == 0)
         stop("nothing was measured");
-    if (of_create > SAID || most_of_events > SAID || of_alike > SAID || most_of_limits > SAID || most_of_rewrites > SAID)
+    if (of_create > SAID || most_of_events > SAID || of_alike > SAID || most_of_limits > SAID || most_of_rewrites > SAID || most_of_saves > SAID ||
+        most_of_returns > SAID)
         stop("more than the header says");
     munmap(stack, STACK);
     free(block);
     free(output);
     free(event);
     free(content);
+    free(kept);
     return 0;
 }

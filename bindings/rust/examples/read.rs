@@ -79,12 +79,12 @@ fn event_text(event: &[u8]) -> String {
     }
 }
 
-/// The actions, or why there are none.
+/// The actions, or why there are none. An event is answered by no number over 14.
 fn answer_lines(number: u8, mut actions: &[u8], lines: &mut Vec<String>) {
     match (number, Error::from_number(number)) {
         (0, _) => {}
-        (_, Some(e)) => lines.push(format!("    refused: {e}")),
-        (n, None) => lines.push(format!("    {n} is no answer")),
+        (_, Some(e)) if e <= Error::OutputTooShort => lines.push(format!("    refused: {e}")),
+        (n, _) => lines.push(format!("    {n} is no answer")),
     }
     while !actions.is_empty() {
         match Action::read(actions) {

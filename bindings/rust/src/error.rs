@@ -3,9 +3,10 @@ use std::fmt;
 /// The questions, each once: its number, what a no means, its words, and what else is to be known.
 macro_rules! questions {
     ($($name:ident = $number:literal, $meaning:literal, $question:literal $(, $more:literal)?;)*) => {
-        /// The question that was answered no; "The first no gives its number". Nothing has changed then: neither block, counts nor output.
+        /// The question that was answered no; "The first no gives its number". Nothing has changed then: neither block, counts, output nor area.
         ///
-        /// Creation asks 1 to 4, an event 5 to 14, [`alike`](crate::alike) 5, [`rewrite`](crate::rewrite) 7, 8, 9 and 14. The readers of this crate
+        /// Creation asks 1 to 4, an event 5 to 14, [`alike`](crate::alike) 5, [`rewrite`](crate::rewrite) 7, 8, 9 and 14,
+        /// [`save`](crate::Panel::save) 5, 17, 16 and [`go_back`](crate::Panel::go_back) 5, 17, 15, each in this order. The readers of this crate
         /// ([`Event::read`](crate::Event::read), [`Message::read`](crate::Message::read), [`Action::read`](crate::Action::read)) use 7, 8 and 9.
         #[repr(u8)]
         #[derive(Clone, Copy, Debug, PartialEq, Eq, Hash, PartialOrd, Ord)]
@@ -17,8 +18,8 @@ macro_rules! questions {
         }
 
         impl Error {
-            /// All fourteen, in their order.
-            pub const ALL: [Error; 14] = [$(Error::$name),*];
+            /// All seventeen, in their order.
+            pub const ALL: [Error; 17] = [$(Error::$name),*];
 
             /// What the refusal means.
             pub fn meaning(self) -> &'static str {
@@ -27,7 +28,7 @@ macro_rules! questions {
                 }
             }
 
-            /// The question, in the specification's words.
+            /// The question, in the specification's words; of 15 to 17 what is answered so, in the words of the request that adds them.
             pub fn question(self) -> &'static str {
                 match self {
                     $(Error::$name => $question,)*
@@ -61,16 +62,23 @@ questions! {
         "What the call frees counts as free. Entries that expire and neighbours that go down make room; so do higher limits at creation.";
     OutputTooShort = 14, "the output is too short", "Do the actions fit the output?",
         "The same call with a longer output goes through.";
+    NameNotKept = 15, "no state is kept under this name", "Returning to a name not kept",
+        "Names are compared over all eight bytes.";
+    NamesFull = 16, "four states are kept under other names", "saving a fifth name",
+        "Save under one of the four names, or into another [`Area`](crate::Area).";
+    AreaNotWhole = 17, "the area is too short, damaged, or of blocks of another length",
+        "an area too short, or one that savings of blocks of this length couldn't have left",
+        "[`Area::for_panel`](crate::Area::for_panel) makes one of the right length.";
 }
 
 impl Error {
-    /// The error of a number from 1 to 14.
+    /// The error of a number from 1 to 17.
     pub fn from_number(number: u8) -> Option<Error> {
         let place = usize::from(number).checked_sub(1)?;
         Error::ALL.get(place).copied()
     }
 
-    /// Its number, from 1 to 14.
+    /// Its number, from 1 to 17.
     pub fn number(self) -> u8 {
         self as u8
     }
@@ -79,7 +87,7 @@ impl Error {
     pub(crate) fn check(number: u8) -> Result<(), Error> {
         match number {
             0 => Ok(()),
-            n => Err(Error::from_number(n).expect("the library answers 0 to 14")),
+            n => Err(Error::from_number(n).expect("the library answers 0 to 17")),
         }
     }
 }

@@ -62,6 +62,10 @@ extern "C" {
     ) -> u8;
     #[cfg_attr(plumtree_missing, link_name = env!("PLUMTREE_MISSING"))]
     fn plumtree_rewrite(message: *const u8, message_length: usize, output: *mut u8, output_length: usize) -> Answer;
+    #[cfg_attr(plumtree_missing, link_name = env!("PLUMTREE_MISSING"))]
+    fn plumtree_save(block: *const u8, block_length: usize, counts: Stats, area: *mut u8, area_length: usize, name: u64) -> Answer;
+    #[cfg_attr(plumtree_missing, link_name = env!("PLUMTREE_MISSING"))]
+    fn plumtree_return(block: *mut u8, block_length: usize, counts: *mut Stats, area: *const u8, area_length: usize, name: u64) -> Answer;
 }
 
 /// How many bytes a block of these limits needs, or 0 where a limit is out of range.
@@ -115,4 +119,20 @@ pub fn rewrite(message: &[u8], output: &mut [u8]) -> Answer {
     // SAFETY: `output` is an exclusive reference, so valid for the call and apart from `message`, which is valid for reading and which nobody writes
     // before the call returns.
     unsafe { plumtree_rewrite(message.as_ptr(), message.len(), output.as_mut_ptr(), output.len()) }
+}
+
+/// A saving of block and counts into the area under a name, the number of its eight bytes, the first one lowest: questions 5, 17 and 16. The length is
+/// 0. A refused call leaves the area as it is.
+pub fn save(block: &[u8], counts: Stats, area: &mut [u8], name: u64) -> Answer {
+    // SAFETY: `area` is an exclusive reference, so valid for the call and apart from `block`, which is valid for reading and which nobody writes before
+    // the call returns.
+    unsafe { plumtree_save(block.as_ptr(), block.len(), counts, area.as_mut_ptr(), area.len(), name) }
+}
+
+/// A return (`plumtree_return`) to the block and counts that the area keeps under a name: questions 5, of the block as it is lent, 17 and 15. The length
+/// is 0. A refused call leaves block and counts as they are.
+pub fn go_back(block: &mut [u8], counts: &mut Stats, area: &[u8], name: u64) -> Answer {
+    // SAFETY: `block` and `counts` are exclusive references, so valid for the call and apart from each other and from `area`, which is valid for
+    // reading and which nobody writes before the call returns.
+    unsafe { plumtree_return(block.as_mut_ptr(), block.len(), counts, area.as_ptr(), area.len(), name) }
 }

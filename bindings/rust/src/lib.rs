@@ -73,9 +73,53 @@
 //! # }
 //! ```
 //!
+//! # Named states
+//!
+//! A fitter saves a panel under a name, tries another link plan, and goes back: [`Panel::save`], [`Panel::go_back`]. Up to four states are kept in an
+//! [`Area`]. The timers are the host's, so it keeps them with the name.
+//!
+//! ```
+//! use plumtree::{Action, Area, Event, Limits, Panel, Scope, Settings, Timer};
+//!
+//! # fn main() -> Result<(), plumtree::Error> {
+//! let mut panel = Panel::new(Settings::of_panel(1), Limits::SMALL)?;
+//! let mut area = Area::for_panel(&panel);
+//! let mut output = vec![0; 40960];
+//!
+//! // Plan A: the neighbour 2. The timers wait, each with the time at which it is to be told.
+//! panel.event(0, &Event::Up(2), &[], &mut output)?;
+//! let mut timers = Vec::new();
+//! for action in panel.event(10, &Event::Broadcast { content: b"1/17", scope: Scope::Swarm }, &[], &mut output)? {
+//!     if let Action::Schedule { delay, timer } = action {
+//!         timers.push((10 + delay, timer));
+//!     }
+//! }
+//!
+//! // Saved at 12; the timers are kept beside the area, each with the time left.
+//! panel.save(&mut area, *b"plan A  ")?;
+//! let plan_a: Vec<(u64, Timer)> = timers.iter().map(|(at, timer)| (at - 12, *timer)).collect();
+//!
+//! // Plan B: the neighbour 3 in its place.
+//! panel.event(20, &Event::Down(2), &[], &mut output)?;
+//! panel.event(20, &Event::Up(3), &[], &mut output)?;
+//! panel.save(&mut area, *b"plan B  ")?;
+//!
+//! // Back at 500: the timers of plan A take the place of those that wait.
+//! panel.go_back(&area, *b"plan A  ")?;
+//! timers = plan_a.iter().map(|(left, timer)| (500 + left, *timer)).collect();
+//! assert_eq!(timers, [(1498, Timer::EvictCache), (503, Timer::DispatchLazyPush)]);
+//!
+//! // The neighbour is 2 again. Clock and sequence number go on.
+//! let actions = panel.event(501, &Event::Broadcast { content: b"1/18", scope: Scope::Swarm }, &[], &mut output)?;
+//! let peers = actions.filter_map(|action| if let Action::Send { peer, .. } = action { Some(peer) } else { None });
+//! assert_eq!(peers.collect::<Vec<_>>(), [2]);
+//! # Ok(())
+//! # }
+//! ```
+//!
 //! # Refusals
 //!
-//! A call that cannot be carried out is refused by one of the fourteen questions of the specification ([`Error`]); nothing has changed then.
+//! A call that cannot be carried out is refused by one of seventeen questions ([`Error`]); nothing has changed then.
 //!
 //! ```
 //! use plumtree::{Error, Event, Limit, Limits, Panel, Settings};
@@ -102,6 +146,7 @@
 #![warn(missing_docs)]
 
 mod action;
+mod area;
 mod error;
 mod event;
 mod ffi;
@@ -113,6 +158,7 @@ mod text;
 mod wire;
 
 pub use action::{Action, Actions};
+pub use area::{area_size, Area};
 pub use error::Error;
 pub use event::{Event, Scope};
 pub use limit::Limit;
@@ -121,9 +167,9 @@ pub use panel::{alike, block_size, LinkRoom, Panel, Stats};
 pub use settings::{longest_content, Config, Limits, Settings, GREATEST_MESSAGE_SIZE, LEAST_MESSAGE_SIZE};
 pub use wire::{read_number, write_number};
 
-/// The library's six functions on slices, with their answers as numbers. For tests and for hosts that keep blocks in their own way.
+/// The library's eight functions on slices, with their answers as numbers. For tests and for hosts that keep blocks in their own way.
 ///
-/// Each of them takes any bytes at all: what a call promises, it promises for every block, event, room, message and output.
+/// Each of them takes any bytes at all: what a call promises, it promises for every block, event, room, message, output and area.
 ///
 /// ```
 /// use plumtree::{raw, Limits, Settings, Stats};
@@ -145,5 +191,5 @@ pub use wire::{read_number, write_number};
 /// assert_eq!(raw::event(&mut block, &mut counts, 0, &[3], &[], &mut output).number, 7);
 /// ```
 pub mod raw {
-    pub use crate::ffi::{alike, block_size, create, event, limit_met, rewrite, Answer, Likeness};
+    pub use crate::ffi::{alike, block_size, create, event, go_back, limit_met, rewrite, save, Answer, Likeness};
 }

@@ -1,6 +1,6 @@
 use std::fmt;
 
-use crate::{raw, Actions, Error, Event, Limit, Limits, Settings};
+use crate::{raw, Actions, Area, Error, Event, Limit, Limits, Settings};
 
 /// The counts record, brought up to date by each accepted call.
 #[repr(C)]
@@ -147,6 +147,57 @@ impl<B: AsRef<[u8]> + AsMut<[u8]>> Panel<B> {
     /// state after the call would be past. None where the call, with the counts zero, is not refused so. Nothing changes.
     pub fn limit_met(&self, at: u64, event: &Event<'_>, rooms: &[LinkRoom]) -> Option<Limit> {
         Limit::from_number(raw::limit_met(self.block.as_ref(), at, &event.to_bytes(), rooms))
+    }
+
+    /// A saving: keeps block and counts under a name in the area. "Up to four states are kept"; "Any name is allowed, and saving under a used one
+    /// replaces it." Questions 5, 17 and 16. The area alone changes, and nothing where the saving is refused.
+    ///
+    /// The host keeps its timers that were not told yet beside the area, each with the time left, and the Grafts that wait for room: they do not stand
+    /// in the block (docs/LINKING.md, *Named states*).
+    ///
+    /// ```
+    /// use plumtree::{Area, Error, Limits, Panel, Settings};
+    /// # fn main() -> Result<(), Error> {
+    /// let panel = Panel::new(Settings::of_panel(1), Limits::SMALL)?;
+    /// let mut area = Area::for_panel(&panel);
+    /// for name in [*b"plan A  ", *b"plan B  ", *b"plan C  ", [0; 8]] {
+    ///     panel.save(&mut area, name)?;
+    /// }
+    /// assert_eq!(panel.save(&mut area, *b"plan D  "), Err(Error::NamesFull));
+    /// panel.save(&mut area, *b"plan B  ")?;
+    /// # Ok(())
+    /// # }
+    /// ```
+    pub fn save(&self, area: &mut Area, name: [u8; 8]) -> Result<(), Error> {
+        Error::check(raw::save(self.block.as_ref(), self.stats, area.bytes_mut(), u64::from_le_bytes(name)).number)
+    }
+
+    /// A return: "Returning brings back block and counts in full", as they were saved last under this name, with the settings, the limits and the
+    /// neighbours of then. Questions 5, of the block as it is, 17 and 15. Block and counts alone change, and nothing where the return is refused.
+    ///
+    /// "From a return on, the list of calls that the guarantees speak about is the one up to the saving, followed by the calls since the return." The
+    /// host takes back the timers that it kept with the name, in place of those that wait, and tells which neighbours came or went since the saving.
+    /// Its clock and the sequence number of its readings go on (docs/LINKING.md, *Named states*).
+    ///
+    /// ```
+    /// use plumtree::{Area, Error, Event, Limits, Panel, Settings};
+    /// # fn main() -> Result<(), Error> {
+    /// let mut panel = Panel::new(Settings::of_panel(1), Limits::SMALL)?;
+    /// panel.event(0, &Event::Up(2), &[], &mut [])?;
+    /// let mut area = Area::for_panel(&panel);
+    /// panel.save(&mut area, *b"plan A  ")?;
+    /// let before = panel.clone();
+    ///
+    /// panel.event(10, &Event::Up(3), &[], &mut [])?;
+    /// panel.event(10, &Event::Down(2), &[], &mut [])?;
+    /// assert_eq!(panel.go_back(&area, *b"plan B  "), Err(Error::NameNotKept));
+    /// panel.go_back(&area, *b"plan A  ")?;
+    /// assert_eq!((panel.block(), panel.stats()), (before.block(), before.stats()));
+    /// # Ok(())
+    /// # }
+    /// ```
+    pub fn go_back(&mut self, area: &Area, name: [u8; 8]) -> Result<(), Error> {
+        Error::check(raw::go_back(self.block.as_mut(), &mut self.stats, area.as_bytes(), u64::from_le_bytes(name)).number)
     }
 
     /// The counts.

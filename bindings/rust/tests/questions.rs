@@ -1,7 +1,7 @@
-//! Each question answered no once, through the library, with what a refusal promises: block, counts and output untouched.
+//! Each question answered no once, through the library, with what a refusal promises: block, counts, output and area untouched.
 use plumtree::{
-    alike, block_size, longest_content, raw, rewrite, Action, Announced, Delivery, Error, Event, Limit, Limits, LinkRoom, Message, Panel,
-    Scope, Settings, Stats, Timer, GREATEST_MESSAGE_SIZE, LEAST_MESSAGE_SIZE,
+    alike, area_size, block_size, longest_content, raw, rewrite, Action, Announced, Area, Delivery, Error, Event, Limit, Limits, LinkRoom,
+    Message, Panel, Scope, Settings, Stats, Timer, GREATEST_MESSAGE_SIZE, LEAST_MESSAGE_SIZE,
 };
 
 const LIMITS: [fn(&mut Limits) -> &mut usize; 9] = [
@@ -472,6 +472,261 @@ fn alike_and_not() {
     assert_eq!(a.alike(&b), Ok(false));
 }
 
+/// A saving, and a return: what changes is what is promised. The answer.
+fn saves(p: &Panel, area: &mut Area, name: [u8; 8]) -> Result<(), Error> {
+    let before = (p.block().to_vec(), p.stats(), area.clone());
+    let answer = p.save(area, name);
+    assert!(p.block() == before.0 && p.stats() == before.1, "a saving changes the area alone");
+    assert_eq!(area.as_bytes().len(), before.2.as_bytes().len());
+    assert!(answer.is_ok() || *area == before.2, "a refusal changes nothing");
+    answer
+}
+
+fn goes_back(p: &mut Panel, area: &Area, name: [u8; 8]) -> Result<(), Error> {
+    let before = (p.block().to_vec(), p.stats(), area.clone());
+    let answer = p.go_back(area, name);
+    assert!(*area == before.2, "a return does not change the area");
+    assert!(answer.is_ok() || (p.block() == before.0 && p.stats() == before.1), "a refusal changes nothing");
+    answer
+}
+
+fn same(a: &Panel, b: &Panel) -> bool {
+    a.block() == b.block() && a.stats() == b.stats()
+}
+
+/// Where these bytes stand first.
+fn place_of(bytes: &[u8], part: &[u8]) -> usize {
+    bytes.windows(part.len()).position(|w| w == part).unwrap()
+}
+
+/// Panels of one length in different states: the neighbours 2 and 3, so many control messages from 2 and, from the second on, a reading broadcast.
+fn states() -> [Panel; 5] {
+    [0, 1, 2, 3, 4].map(|i: u8| {
+        let mut p = panel(Limits::SMALL);
+        let mut output = [0; 4096];
+        for _ in 0..i {
+            p.event(0, &Event::Received { peer: 2, message: Message::Prune }, &[], &mut output).unwrap();
+        }
+        if i > 0 {
+            p.event(0, &Event::Broadcast { content: &[i], scope: Scope::Swarm }, &[], &mut output).unwrap();
+        }
+        p
+    })
+}
+
+/// "Returning brings back block and counts in full", under any name, eight zeros too, and by all eight bytes; "saving under a used one replaces it".
+#[test]
+fn named_states() {
+    let kept = states();
+    let mut p = kept[4].clone();
+    let mut area = Area::for_panel(&p);
+    assert_eq!(area.as_bytes().len(), 4 * p.block().len() + 256);
+    assert!(area.as_bytes().iter().all(|b| *b == 0));
+    // An area of zeros keeps nothing, not even under zeros.
+    assert_eq!(goes_back(&mut p, &area, [0; 8]), Err(Error::NameNotKept));
+
+    let names = [[0; 8], *b"plan A  ", *b"plan A \0", *b"Plan A  "];
+    for (i, name) in names.into_iter().enumerate() {
+        assert_eq!(goes_back(&mut p, &area, name), Err(Error::NameNotKept));
+        assert_eq!(saves(&kept[i], &mut area, name), Ok(()));
+    }
+    for (i, name) in names.into_iter().enumerate().rev() {
+        assert_eq!(goes_back(&mut p, &area, name), Ok(()));
+        assert!(same(&p, &kept[i]));
+    }
+    // A fifth name, and one that is not kept.
+    assert_eq!(saves(&p, &mut area, *b"plan B  "), Err(Error::NamesFull));
+    assert_eq!(goes_back(&mut p, &area, *b"plan B  "), Err(Error::NameNotKept));
+    // A used name is replaced where four are kept, and the others stay.
+    assert_eq!(saves(&kept[4], &mut area, names[1]), Ok(()));
+    for (name, i) in names.into_iter().zip([0, 4, 2, 3]) {
+        assert_eq!(goes_back(&mut p, &area, name), Ok(()));
+        assert!(same(&p, &kept[i]));
+    }
+    // The counts come back whatever they are.
+    p.stats_mut().payload_messages_received = u64::MAX;
+    p.stats_mut().control_messages_received = u64::MAX - 1;
+    p.stats_mut().max_last_delivery_hop = u16::MAX;
+    let full = p.clone();
+    assert_eq!(saves(&p, &mut area, names[0]), Ok(()));
+    assert_eq!(goes_back(&mut p, &area, names[2]), Ok(()));
+    assert_eq!(goes_back(&mut p, &area, names[0]), Ok(()));
+    assert!(same(&p, &full));
+    // Its bytes are the area.
+    let again = Area::from_bytes(area.clone().into_bytes());
+    assert!(again == area && again.as_bytes() == area.as_bytes());
+}
+
+/// From a return on the panel does what it would have done from the saving on, whatever was told in between.
+#[test]
+fn as_if_nothing_had_been_told_since() {
+    let full = [LinkRoom { peer: 3, room: 0 }];
+    let reading = |n: u8| [b'1', b'/', n];
+    let tell = |p: &mut Panel, at, event: &Event| {
+        let mut output = [0; 4096];
+        p.event(at, event, &full, &mut output).unwrap().bytes().to_vec()
+    };
+    let since = |p: &mut Panel| {
+        let mut actions = Vec::new();
+        for at in [40, 50] {
+            actions.push(tell(p, at, &Event::Timer(Timer::AnnounceDropped)));
+            actions.push(tell(p, at, &Event::Timer(Timer::DispatchLazyPush)));
+            actions.push(tell(p, at, &Event::Broadcast { content: &reading(at as u8), scope: Scope::Swarm }));
+        }
+        actions
+    };
+    let mut p = panel(Limits::SMALL);
+    tell(&mut p, 10, &Event::Broadcast { content: &reading(1), scope: Scope::Swarm });
+    let mut area = Area::for_panel(&p);
+    p.save(&mut area, *b"plan A  ").unwrap();
+    let mut other = p.clone();
+
+    for event in [Event::Up(4), Event::Down(3), Event::Broadcast { content: &reading(2), scope: Scope::Swarm }] {
+        tell(&mut p, 20, &event);
+    }
+    assert_eq!(p.alike(&other), Ok(false));
+    p.go_back(&area, *b"plan A  ").unwrap();
+    assert_eq!(since(&mut p), since(&mut other));
+    assert!(same(&p, &other));
+}
+
+/// A name is the area's: panels of one length share it, and a return brings along the own peer number of the panel that saved.
+#[test]
+fn shared_areas() {
+    let limits = Limits::SMALL;
+    let mut memory = vec![0xa5; block_size(limits).unwrap()];
+    let mut one = Panel::in_block(&mut memory[..], Settings::of_panel(1), limits).unwrap();
+    let mut two = Panel::new(Settings { max_message_size: 510, ..Settings::of_panel(2) }, limits).unwrap();
+    let (first, second) = (one.block().to_vec(), two.block().to_vec());
+    let mut area = Area::for_panel(&one);
+    one.save(&mut area, *b"1 plan A").unwrap();
+    two.save(&mut area, *b"2 plan A").unwrap();
+    for peer in [2, 3] {
+        one.event(0, &Event::Up(peer), &[], &mut []).unwrap();
+        two.event(0, &Event::Up(peer), &[], &mut []).unwrap();
+    }
+    one.go_back(&area, *b"1 plan A").unwrap();
+    two.go_back(&area, *b"2 plan A").unwrap();
+    assert!(one.block() == first && two.block() == second);
+    one.go_back(&area, *b"2 plan A").unwrap();
+    assert!(one.block() == second);
+}
+
+/// 5, 17, 16 for a saving and 5, 17, 15 for a return: each once, alone and before those that come after it.
+#[test]
+fn refused_savings_and_returns() {
+    let p = panel(Limits::SMALL);
+    let n = p.block().len();
+    let mut full = Area::for_panel(&p);
+    for name in 1..=4 {
+        p.save(&mut full, [name; 8]).unwrap();
+    }
+    let both = |p: &Panel, bytes: &[u8], name: u8| {
+        let area = Area::from_bytes(bytes.to_vec());
+        (saves(p, &mut area.clone(), [name; 8]), goes_back(&mut p.clone(), &area, [name; 8]))
+    };
+    let wrong = |error| (Err(error), Err(error));
+
+    // 5: a block that never was a panel's, is cut, is damaged; whatever the area.
+    let mut damaged = p.block().to_vec();
+    damaged[..64].fill(0xff);
+    for block in [vec![0; n], p.block()[..n - 1].to_vec(), damaged, Vec::new()] {
+        let lent = Panel::resume(block, p.stats());
+        for area in [full.as_bytes(), &full.as_bytes()[1..], &[]] {
+            assert_eq!(both(&lent, area, 1), wrong(Error::BlockNotWhole));
+            assert_eq!(both(&lent, area, 5), wrong(Error::BlockNotWhole));
+        }
+    }
+
+    // 17: too short by a byte, or by more. One that is longer will do, as long as zeros stand behind.
+    for length in [0, 1, 255, 256, 257, 256 + n, area_size(n).unwrap() - 1] {
+        assert_eq!(both(&p, &vec![0; length], 1), wrong(Error::AreaNotWhole), "{length}");
+        assert_eq!(both(&p, &full.as_bytes()[..length], 1), wrong(Error::AreaNotWhole), "{length}");
+    }
+    let mut long = full.as_bytes().to_vec();
+    long.resize(long.len() + 100, 0);
+    assert_eq!(both(&p, &long, 1), (Ok(()), Ok(())));
+    *long.last_mut().unwrap() = 1;
+    assert_eq!(both(&p, &long, 1), wrong(Error::AreaNotWhole));
+
+    // Bytes that no saving left: an area that did not start as zeros, a byte more, a name twice, a kept block that is damaged, a fifth state.
+    assert_eq!(both(&p, &vec![0xa5; area_size(n).unwrap()], 1), wrong(Error::AreaNotWhole));
+    let mut area = Area::for_panel(&p);
+    p.save(&mut area, [1; 8]).unwrap();
+    for place in [100, 254, 255, 256 + n, 4 * n + 255] {
+        let mut bytes = area.as_bytes().to_vec();
+        bytes[place] ^= 0x80;
+        assert_eq!(both(&p, &bytes, 1), wrong(Error::AreaNotWhole), "{place}");
+    }
+    let mut bytes = full.as_bytes().to_vec();
+    let second = place_of(&bytes, &[2; 8]);
+    bytes[second..second + 8].fill(1);
+    assert_eq!(both(&p, &bytes, 1), wrong(Error::AreaNotWhole));
+    let mut bytes = area.as_bytes().to_vec();
+    let kept = place_of(&bytes, p.block());
+    bytes[kept..kept + 64].fill(0xff);
+    assert_eq!(both(&p, &bytes, 1), wrong(Error::AreaNotWhole));
+    let mut bytes = [full.as_bytes(), p.block()].concat();
+    let (third, fourth) = (place_of(&bytes, &[3; 8]), place_of(&bytes, &[4; 8]));
+    let fifth = fourth + (fourth - third);
+    bytes[fifth..fifth + 8].fill(5);
+    assert_eq!(bytes[255], 4);
+    bytes[255] = 5;
+    assert_eq!(both(&p, &bytes, 1), wrong(Error::AreaNotWhole));
+    assert_eq!(both(&p, &bytes, 5), wrong(Error::AreaNotWhole));
+
+    // Blocks of another length: the area is too short for them, or theirs do not stand there.
+    let longer = panel(Limits { received: Limits::SMALL.received + 1, ..Limits::SMALL });
+    assert_eq!(both(&longer, full.as_bytes(), 1), wrong(Error::AreaNotWhole));
+    let mut theirs = Area::for_panel(&longer);
+    assert_eq!(saves(&longer, &mut theirs, [1; 8]), Ok(()));
+    assert_eq!(both(&p, theirs.as_bytes(), 1), wrong(Error::AreaNotWhole));
+    // An area without states serves every block that it is long enough for. So does one that savings of such blocks could have left: a block that is
+    // longer than its limits need, with zeros at the end, is there as a shorter one with zeros behind.
+    assert_eq!(saves(&p, &mut Area::for_panel(&longer), [1; 8]), Ok(()));
+    let zeros_behind = Panel::in_block(vec![0; n + 9], Settings::of_panel(1), Limits::SMALL).unwrap();
+    let mut theirs = Area::for_panel(&zeros_behind);
+    assert_eq!(saves(&zeros_behind, &mut theirs, [1; 8]), Ok(()));
+    assert_eq!(both(&p, theirs.as_bytes(), 1), (Ok(()), Ok(())));
+    assert_eq!(saves(&zeros_behind, &mut theirs, [2; 8]), Ok(()));
+    assert_eq!(both(&p, theirs.as_bytes(), 1), wrong(Error::AreaNotWhole));
+
+    // 16 and 15.
+    assert_eq!(both(&p, full.as_bytes(), 5), (Err(Error::NamesFull), Err(Error::NameNotKept)));
+    assert_eq!(both(&p, full.as_bytes(), 4), (Ok(()), Ok(())));
+
+    // "length 0", of each answer.
+    let (mut block, mut counts) = (p.block().to_vec(), p.stats());
+    for (number, name, short) in [(0, 1, 0), (16, 5, 0), (17, 1, 1)] {
+        let mut bytes = full.as_bytes()[short..].to_vec();
+        let answer = raw::save(p.block(), p.stats(), &mut bytes, u64::from_le_bytes([name; 8]));
+        assert_eq!((answer.number, answer.length), (number, 0));
+    }
+    for (number, name, short) in [(0, 1, 0), (15, 5, 0), (17, 1, 1)] {
+        let answer = raw::go_back(&mut block, &mut counts, &full.as_bytes()[short..], u64::from_le_bytes([name; 8]));
+        assert_eq!((answer.number, answer.length), (number, 0));
+    }
+}
+
+/// Question 17 is no checksum: kept counts, and a kept block that stays whole, come back as they stand in the area.
+#[test]
+fn no_checksum() {
+    let mut p = panel(Limits::SMALL);
+    p.stats_mut().payload_messages_received = 0x0123_4567_89ab_cdef;
+    let mut area = Area::for_panel(&p);
+    p.save(&mut area, *b"plan A  ").unwrap();
+    let mut bytes = area.into_bytes();
+    let (counts, block) = (place_of(&bytes, &0x0123_4567_89ab_cdef_u64.to_le_bytes()), place_of(&bytes, p.block()));
+    bytes[counts] = 0;
+    // A setting.
+    bytes[block] ^= 1;
+    let mut expected = p.block().to_vec();
+    expected[0] ^= 1;
+    p.go_back(&Area::from_bytes(bytes), *b"plan A  ").unwrap();
+    assert_eq!(p.stats().payload_messages_received, 0x0123_4567_89ab_cd00);
+    assert!(p.block() == expected);
+}
+
 #[test]
 fn error_numbers() {
     for (i, e) in Error::ALL.iter().enumerate() {
@@ -479,7 +734,7 @@ fn error_numbers() {
         assert_eq!(Error::from_number(e.number()), Some(*e));
     }
     assert_eq!(Error::from_number(0), None);
-    assert_eq!(Error::from_number(15), None);
+    assert_eq!(Error::from_number(18), None);
 }
 
 /// The header's words for each number (tests/c/gate.sh holds `plumtree_number_text` against the same lines).

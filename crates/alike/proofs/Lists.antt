@@ -12,8 +12,8 @@ use lib.ListN.{length, getD}
 use Rattle.lists.specs.Base.{if_then_else_, all, count}
 use Rattle.lists.proofs.MapLaws.{cases, true≢, and-intro}
 use Rattle.lists.proofs.ListLaws.{all-map, count-same}
+use Rattle.lists.proofs.Places.{all-at}
 use Rattle.time_cache.specs.TimeCache.{Expiry}
-use Rattle.time_cache.proofs.Orders.{all-at}
 use Rattle.protocol.specs.State.{Note, Hop}
 use mathlib.Core.Option.{none}
 use Rattle.protocol.specs.Links.{Mark, eager, lazy, isEager}

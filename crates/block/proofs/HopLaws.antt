@@ -9,7 +9,7 @@ use lib.Seq.{take-append-le, take-take, drop-drop, getD-drop}
 use Rattle.rows.specs.Part.{part, put}
 use Rattle.rows.specs.Digits.{leBytes}
 use Rattle.rows.specs.Rows.{rows}
-use Rattle.rows.proofs.Parts.{put-inside, part-put, put-over, part-part, part-before, length-part, length-put, drop-put, take-put, drop-take, getD-part, set-put, put-drop}
+use Rattle.rows.proofs.Parts.{put-inside, put-within, part-part, part-before, length-part, length-put, drop-put, take-put, drop-take, getD-part, set-put, put-drop}
 use Rattle.rows.proofs.Rows.{rows-same}
 use Rattle.rows.proofs.Digits.{length-leBytes}
 use Rattle.refs.specs.Refs.{Below}
@@ -21,13 +21,6 @@ use Rattle.refs.proofs.Numbered.{numbered-at, numbered-push, numbered-same, num
 use Rattle.block.proofs.NoteLaws.{below-snoc}
 
 -- puts inside the k elements from a
-pub put-nested : (a k o : ℕ) (ys list xs : List ℕ) → length list ≡ k → o + length ys ≤ k → a + k ≤ length xs → put (a + o) ys (put a list xs) ≡ put a (put o ys list) xs
-put-nested a k o ys list xs e h g =
-    let n : length (put a list xs) ≡ length xs = length-put a list xs (omega arith) in
-    put-inside a o k ys (put a list xs) h (omega arith)
-    ∙ ap (λ (z : List ℕ). put a (put o ys z) (put a list xs)) (part-put a k list xs e g)
-    ∙ put-over a list (put o ys list) xs (sym (length-put o ys list (omega arith))) (omega arith)
-
 pub three-nested : (a k o p q : ℕ) (ys zs ws xs : List ℕ) → o + length ys ≤ k → p + length zs ≤ k → q + length ws ≤ k → a + k ≤ length xs
     → put (a + q) ws (put (a + p) zs (put (a + o) ys xs)) ≡ put a (put q ws (put p zs (put o ys (part a k xs)))) xs
 three-nested a k o p q ys zs ws xs ho hp hq g =
@@ -35,8 +28,8 @@ three-nested a k o p q ys zs ws xs ho hp hq g =
     let l1 : length (put o ys (part a k xs)) ≡ k = length-put o ys (part a k xs) (omega arith) ∙ l0 in
     let l2 : length (put p zs (put o ys (part a k xs))) ≡ k = length-put p zs (put o ys (part a k xs)) (omega arith) ∙ l1 in
     ap (λ (z : List ℕ). put (a + q) ws (put (a + p) zs z)) (put-inside a o k ys xs ho g)
-    ∙ ap (put (a + q) ws) (put-nested a k p zs (put o ys (part a k xs)) xs l1 hp g)
-    ∙ put-nested a k q ws (put p zs (put o ys (part a k xs))) xs l2 hq g
+    ∙ ap (put (a + q) ws) (put-within a p zs (put o ys (part a k xs)) xs (omega arith) (omega arith))
+    ∙ put-within a q ws (put p zs (put o ys (part a k xs))) xs (omega arith) (omega arith)
 
 first-put : (x : ℕ) (list : List ℕ) → byteAt 0 (put 0 (x ∷ []) list) ≡ x
 unfolding put

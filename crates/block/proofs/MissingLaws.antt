@@ -14,7 +14,7 @@ use Rattle.rows.specs.Digits.{leNat, beNat, beBytes}
 use Rattle.rows.specs.Rows.{rows, opened, closed}
 use Rattle.rows.specs.Sorted.{keyOf, Between, Here}
 use Rattle.rows.specs.Sorted.{keys as rowKeys}
-use Rattle.rows.proofs.Parts.{length-part, length-put, part-before, part-part, put-put-next, set-put, getD-part, put-drop}
+use Rattle.rows.proofs.Parts.{length-part, length-put, part-before, part-part, put-put-next, set-put, getD-part, put-drop, put-all}
 use Rattle.rows.proofs.Rows.{rows-field}
 use Rattle.rows.proofs.Digits.{length-beBytes, beNat-beBytes, leNat-leBytes}
 use Rattle.lists.specs.Map.{Map, Entry, entry, keys, insert, remove}
@@ -34,7 +34,7 @@ use Rattle.block.specs.MissingSteps.{MissingAscend, hop, missedAt, hopsA
 use Rattle.block.specs.declared.head.Head.{Head}
 use Rattle.block.specs.declared.hops.Hop.{Hop as LinkHop}
 use Rattle.block.proofs.Cut.{within}
-use Rattle.block.proofs.Tables.{frame, length-table, length-view, view-at, view-set, field-in, keys-table, put-all}
+use Rattle.block.proofs.Tables.{frame, length-table, length-view, view-at, view-set, field-in, keys-table}
 use Rattle.block.proofs.RowLaws.{opened-frame, closed-frame, rows-insert, rows-remove, view-insert, view-remove, gapRow}
 use Rattle.block.proofs.KeyPlaces.{remove-here}
 use Rattle.block.proofs.Each.{Each, OfRow, each-gap, each-out, each-put, each-numbered, numbered-each}

@@ -1,10 +1,10 @@
 -- What a put in one table does to the tables, and a row more to a table's view.
 -- Assumes nothing.
 use mathlib.Core.Path.{_≡_, refl, sym, ap, _∙_}
-use mathlib.Core.List.{List, [], _∷_, _++_, map, append-nil}
+use mathlib.Core.List.{List, [], _∷_, map}
 use Prim.Native.Nat.{ℕ, zero, suc, _+_, _-_, _*_, _≤_, _<_}
 use native.Mathlib.Omega.{arith}
-use lib.ListN.{length, take, drop, getD, set, length-map, List·getD-map, drop-of-length-le, length-drop}
+use lib.ListN.{length, take, drop, getD, set, length-map, List·getD-map, length-drop}
 use lib.Seq.{take-take, take-all}
 use native.Mathlib.Nat.{not-suc-le-zero, le-of-suc-le-suc}
 use Rattle.rows.specs.Part.{part, put}
@@ -12,7 +12,7 @@ use Rattle.rows.specs.Rows.{rows}
 use Rattle.rows.specs.Sorted.{keyOf, keys}
 use Rattle.rows.proofs.Rows.{getD-rows, length-rows, rows-same, rows-field}
 use Rattle.rows.proofs.Views.{map-put}
-use Rattle.rows.proofs.Parts.{part-part, getD-part}
+use Rattle.rows.proofs.Parts.{part-part, getD-part, put-all}
 use Rattle.protocol.specs.State.{Limits, blockNeed}
 use Rattle.block.specs.Cut.{total}
 use Rattle.block.specs.Layout.{sizes, place, tables, table}
@@ -53,10 +53,6 @@ field-in l t s i o k xs ht ho hi =
     part-part o k (i * s) s (table l t xs) ho
     ∙ ap (part (i * s + o) k) (cut-part (sizes l) t xs ht)
     ∙ part-part (i * s + o) k (place l t) (getD (sizes l) t 0) xs (omega arith)
-
-pub put-all : (zs ts : List ℕ) → length zs ≡ length ts → put 0 zs ts ≡ zs
-unfolding put
-put-all zs ts e = ap (λ (l : List ℕ). zs ++ l) (drop-of-length-le ts {i = length zs} (omega arith)) ∙ append-nil zs
 
 -- a change of the whole of table i
 pub frame-whole : (l : Limits) (i : ℕ) (xs ys : List ℕ) → i < 15 → total (sizes l) ≤ length xs → length ys ≡ length xs

@@ -12,7 +12,7 @@ use Rattle.rows.specs.Part.{part, put}
 use Rattle.rows.specs.Digits.{beNat, beBytes}
 use Rattle.rows.specs.Rows.{opened, closed}
 use Rattle.rows.specs.Sorted.{keys, keyOf, Between}
-use Rattle.rows.proofs.Parts.{length-part, length-put}
+use Rattle.rows.proofs.Parts.{length-part, length-put, put-all}
 use Rattle.rows.proofs.Rows.{length-opened}
 use Rattle.rows.proofs.Digits.{length-beBytes, beNat-beBytes}
 use Rattle.lists.specs.Map.{insertKey, removeKey}
@@ -27,7 +27,7 @@ use Rattle.block.specs.Heads.{withTimerCount}
 use Rattle.block.specs.TimerSteps.{TimersAscend, timerAlso, timerOutAt}
 use Rattle.block.specs.declared.head.Head.{Head}
 use Rattle.block.proofs.Cut.{within}
-use Rattle.block.proofs.Tables.{length-table, length-view, keys-table, put-all}
+use Rattle.block.proofs.Tables.{length-table, length-view, keys-table}
 use Rattle.block.proofs.RowLaws.{opened-frame, closed-frame, view-insert, view-remove}
 use Rattle.block.proofs.KeyPlaces.{insertKey-between, removeKey-here}
 

@@ -6,6 +6,7 @@ use block::time_caches;
 use caches::cached;
 use postcard::units::Millis;
 use postcard::units::Round;
+use rows::bytes;
 use rows::id::Id;
 use rows::table;
 use rows::table::Found;
@@ -133,7 +134,7 @@ fn resize_row(mut h: Head, block: &mut [u8], p: usize, content: &[u8]) -> Head
     let behind = h.live.contents - a - len;
     move_bytes(block, e + a + len, e + a + k, behind);
     shift_rows(h, block, p + 1, k, len);
-    encode::put_bytes(block, e + a, content);
+    bytes::copy_bytes(block, e + a, content);
     let b = head::cached_rows_at(h.limits) + 48 * p;
     word::store_le(block, b + 44, 4, k as u64);
     let all = h.live.contents - len + k;

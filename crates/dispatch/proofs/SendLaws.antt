@@ -10,6 +10,7 @@ use lib.Seq.{take-all}
 use lib.Dec.{leb}
 use borrow.Author.Tests.{leb-true, leb-false}
 use Rattle.lists.specs.Base.{if_then_else_, any, concatMap}
+use Rattle.lists.proofs.ListLaws.{concat-append}
 use Rattle.postcard.specs.Message.{Ihave, IHave, AnnounceDropped, Action, Sent, Scheduled, ihaveBytes, actionBytes}
 use Rattle.postcard.specs.Output.{sendHead, ihaveHead}
 use Rattle.postcard.proofs.Listed.{sent-ihave-listed}
@@ -22,11 +23,6 @@ use Rattle.decide.specs.RecordGrowth.{announceAction}
 use Rattle.output.specs.Written.{Tellable, Written}
 use Rattle.output.proofs.WrittenLaws.{written-none, written-then, tellable-first, tellable-then}
 use Rattle.dispatch.specs.Sends.{someHeld, quiet, timerAfter, oneSend, flagAfter, flagAfterAll}
-
-bytes-append : {A : Type 0} (f : A → List ℕ) (xs ys : List A) → concatMap f (xs ++ ys) ≡ concatMap f xs ++ concatMap f ys
-unfolding concatMap
-bytes-append f [] ys = refl
-bytes-append f (x ∷ xs) ys = ap (λ (l : List ℕ). f x ++ l) (bytes-append f xs ys) ∙ sym (append-assoc (f x) (concatMap f xs) (concatMap f ys))
 
 bytes-cons : {A : Type 0} (f : A → List ℕ) (x : A) (xs : List A) → concatMap f (x ∷ xs) ≡ f x ++ concatMap f xs
 unfolding concatMap
@@ -281,7 +277,7 @@ module _ {held : ℕ → Bool} {rooms : List Room} {p k : ℕ} {whole : List ℕ
         ∙ (λ i. oneSend held (sym t i) flag p (take count hs) ++ pieceActions held rooms (flagAfter held (sym t i) flag (take count hs)) later)
 
     split-link : whole ≡ li .sofar ++ (concatMap actionBytes sent ++ concatMap actionBytes (pieceActions held rooms (flagAfter held taken flag (take count hs)) later))
-    split-link = li .bytes ∙ ap (λ (l : List ℕ). li .sofar ++ l) (ap (concatMap actionBytes) acts-are ∙ bytes-append actionBytes sent (pieceActions held rooms (flagAfter held taken flag (take count hs)) later))
+    split-link = li .bytes ∙ ap (λ (l : List ℕ). li .sofar ++ l) (ap (concatMap actionBytes) acts-are ∙ concat-append actionBytes sent (pieceActions held rooms (flagAfter held taken flag (take count hs)) later))
 
     pub link-told : Tellable whole start → Tellable (concatMap actionBytes sent) at
     link-told w = tellable-first (concatMap actionBytes (pieceActions held rooms (flagAfter held taken flag (take count hs)) later)) (tellable-then (li .written) (subst (λ (l : List ℕ). Tellable l start) split-link w))
@@ -336,7 +332,7 @@ module _ {held : ℕ → Bool} {rooms : List Room} {k : ℕ} {queue : List Note}
     split-all =
         go .bytes ∙ ap (λ (l : List ℕ). go .sofar ++ concatMap actionBytes (pieceActions held rooms flag (pieces l k queue))) e
         ∙ ap (λ (l : List ℕ). go .sofar ++ l) (ap (concatMap actionBytes) (sends-append held rooms flag own (pieces qs k queue))
-        ∙ bytes-append actionBytes (pieceActions held rooms flag own) (pieceActions held rooms (flagAfterAll held rooms flag own) (pieces qs k queue)))
+        ∙ concat-append actionBytes (pieceActions held rooms flag own) (pieceActions held rooms (flagAfterAll held rooms flag own) (pieces qs k queue)))
 
     pub going-told : Tellable whole start → Tellable (concatMap actionBytes (pieceActions held rooms flag own)) at
     going-told t = tellable-first (concatMap actionBytes (pieceActions held rooms (flagAfterAll held rooms flag own) (pieces qs k queue))) (tellable-then (go .written) (subst (λ (l : List ℕ). Tellable l start) split-all t))

@@ -10,6 +10,7 @@ use lib.Dec.{leb}
 use lib.ListN.{length, getD}
 use Rattle.lists.specs.Base.{isEmpty, isSome, concatMap}
 use Rattle.lists.specs.Map.{Entry, entry, keys, lookup}
+use Rattle.lists.proofs.ListLaws.{concat-one}
 use Rattle.rows.specs.Part.{part}
 use Rattle.rows.specs.Sorted.{Here, Between}
 use Rattle.time_cache.specs.TimeCache.{Timed, get, valueOf}
@@ -44,7 +45,7 @@ use Rattle.eager.specs.Reply.{heldCached, Replying, Replies, repliedStat
 use Rattle.eager.proofs.TargetLaws.{back-held, back-taken}
 use Rattle.eager.proofs.GainLaws.{gains-one, gains-none}
 use Rattle.eager.proofs.BackLaws.{for-one, for-none, recorded-same}
-use Rattle.eager.proofs.SendLaws.{bytes-one, push-first}
+use Rattle.eager.proofs.SendLaws.{push-first}
 
 -- whether the link hands it back
 
@@ -83,7 +84,7 @@ module _ (array : List ℕ) (l : ℕ) (h : Head) (xs : List ℕ) (ok : Replying 
   module _ (m : Message) (q : ℕ) (eq : q ≡ p) (taken : Bool) (et : taken ≡ leb 1 (getD array l 0)) where
     same-bytes : sentBytes array m (p ∷ []) s ≡ actionBytes (Sent q taken m)
     unfolding firstSend
-    same-bytes = bytes-one actionBytes (firstSend (roomsIn s array) m p) ∙ sym (λ k. actionBytes (Sent (eq k) ((et ∙ sym first-room) k) m))
+    same-bytes = concat-one actionBytes (firstSend (roomsIn s array) m p) ∙ sym (λ k. actionBytes (Sent (eq k) ((et ∙ sym first-room) k) m))
 
     pub one-told : (at : ℕ) → Tellable (pushBytes array m (p ∷ []) s) at → Tellable (actionBytes (Sent q taken m)) at
     one-told at t = subst (λ (b : List ℕ). Tellable b at) same-bytes (push-first array m (p ∷ []) s at t)

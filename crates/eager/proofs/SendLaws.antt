@@ -2,11 +2,12 @@
 -- Assumes nothing.
 use mathlib.Core.Path.{_≡_, refl, sym, ap, _∙_, subst}
 use mathlib.Core.Bool.{Bool, true, false, not}
-use mathlib.Core.List.{List, [], _∷_, _++_, map, append-nil, append-assoc}
+use mathlib.Core.List.{List, [], _∷_, _++_, map}
 use Prim.Native.Nat.{ℕ, _+_, _<_}
 use lib.Dec.{leb}
 use lib.ListN.{length, getD}
 use Rattle.lists.specs.Base.{isEmpty, concatMap}
+use Rattle.lists.proofs.ListLaws.{concat-append, concat-one}
 use Rattle.postcard.specs.Message.{Message, Action, Sent, actionBytes}
 use Rattle.output.specs.Written.{Tellable, Written}
 use Rattle.output.proofs.WrittenLaws.{written-none, written-then, tellable-first, tellable-then}
@@ -20,17 +21,6 @@ use Rattle.eager.specs.Targets.{isTarget}
 use Rattle.eager.specs.Sent.{sentBytes, pushBytes}
 use Rattle.eager.proofs.TargetLaws.{Roomed, first, rest, first-none, first-in, first-out, first-rest, backsTo, backs-none, backs-held, backs-taken, backs-out}
 
--- bytes of actions one after the other
-
-bytes-append : {A : Type 0} (f : A → List ℕ) (xs ys : List A) → concatMap f (xs ++ ys) ≡ concatMap f xs ++ concatMap f ys
-unfolding concatMap
-bytes-append f [] ys = refl
-bytes-append f (x ∷ xs) ys = ap (λ (l : List ℕ). f x ++ l) (bytes-append f xs ys) ∙ sym (append-assoc (f x) (concatMap f xs) (concatMap f ys))
-
-pub bytes-one : {A : Type 0} (f : A → List ℕ) (x : A) → concatMap f (x ∷ []) ≡ f x
-unfolding concatMap
-bytes-one f x = append-nil (f x)
-
 map-more : {A B : Type 0} (f : A → B) (xs ys : List A) → map f (xs ++ ys) ≡ map f xs ++ map f ys
 map-more f [] ys = refl
 map-more f (x ∷ xs) ys = ap (λ (l : List _). f x ∷ l) (map-more f xs ys)
@@ -43,11 +33,11 @@ module _ (array : List ℕ) (m : Message) (s : State) where
   send p = firstSend (roomsIn s array) m p
 
   sent-append : (ps qs : List ℕ) → bytes (ps ++ qs) ≡ bytes ps ++ bytes qs
-  sent-append ps qs = ap (concatMap actionBytes) (map-more send ps qs) ∙ bytes-append actionBytes (map send ps) (map send qs)
+  sent-append ps qs = ap (concatMap actionBytes) (map-more send ps qs) ∙ concat-append actionBytes (map send ps) (map send qs)
 
   -- one peer more
   sent-more : (ps : List ℕ) (p : ℕ) → bytes (ps ++ (p ∷ [])) ≡ bytes ps ++ actionBytes (send p)
-  sent-more ps p = sent-append ps (p ∷ []) ∙ ap (λ (l : List ℕ). bytes ps ++ l) (bytes-one actionBytes (send p))
+  sent-more ps p = sent-append ps (p ∷ []) ∙ ap (λ (l : List ℕ). bytes ps ++ l) (concat-one actionBytes (send p))
 
   sent-none : bytes [] ≡ []
   unfolding concatMap
@@ -121,7 +111,7 @@ module _ (array : List ℕ) (m : Message) (ps : List ℕ) (s : State) where
 
   pushed : pushBytes array m ps s ≡ sent ++ concatMap actionBytes (announceAction (not (isEmpty backs)) (s .timers .announce))
   unfolding pushActions
-  pushed = bytes-append actionBytes (map (firstSend (roomsIn s array) m) ps) (announceAction (not (isEmpty backs)) (s .timers .announce))
+  pushed = concat-append actionBytes (map (firstSend (roomsIn s array) m) ps) (announceAction (not (isEmpty backs)) (s .timers .announce))
 
   pub push-first : (at : ℕ) → Tellable (pushBytes array m ps s) at → Tellable sent at
   push-first at t = tellable-first (concatMap actionBytes (announceAction (not (isEmpty backs)) (s .timers .announce))) (subst (λ (b : List ℕ). Tellable b at) pushed t)

@@ -14,7 +14,8 @@ use Rattle.lists.specs.Base.{if_then_else_, filter, member, all, ascending}
 use Rattle.lists.specs.Map.{Map, Entry, entry, keys}
 use Rattle.lists.proofs.MapLaws.{cases, and-left, and-right, all-head, all-tail, all-cons}
 use Rattle.lists.proofs.ListLaws.{all-filter}
-use Rattle.time_cache.proofs.Orders.{at-all, up-of}
+use Rattle.lists.proofs.Places.{at-all}
+use Rattle.time_cache.proofs.Orders.{up-of}
 use Rattle.protocol.specs.Links.{Mark, eager, lazy, Links, isEager, peersMarked, eagerPeers}
 use Rattle.protocol.specs.State.{State}
 use Rattle.protocol.specs.Run.{Room}

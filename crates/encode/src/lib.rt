@@ -4,6 +4,7 @@ use postcard::message::Timer;
 use postcard::message::Wanted;
 use postcard::units::Millis;
 use postcard::units::Round;
+use rows::bytes;
 use rows::id;
 use rows::id::Id;
 ghost use mathlib.Core.List.{[], _∷_, _++_};
@@ -27,12 +28,8 @@ pub fn put_bytes(out: &mut [u8], at: usize, bytes: &[u8]) -> usize
     requires { ⌜ Room (now bytes) at (now out) ⌝ }
     ensures { λ r. ⌜ Wrote (now (bytes .entry)) (now (out .entry)) at (now (out .exit)) r ⌝ }
 {
-    let mut i = 0;
-    while i < bytes.len() {
-        out[at + i] = bytes[i];
-        i += 1;
-    }
-    at + i
+    bytes::copy_bytes(out, at, bytes);
+    at + bytes.len()
 }
 
 // Writes a content: its length, then its bytes.

@@ -13,9 +13,10 @@ use Rattle.lists.specs.Base.{isSome, all, any, member, once, ascending}
 use Rattle.lists.specs.Map.{Map, Entry, entry, keys, insert, has}
 use Rattle.lists.proofs.MapLaws.{and-left, and-right, and-intro, all-head, all-tail}
 use Rattle.lists.proofs.ListLaws.{all-map}
+use Rattle.lists.proofs.Places.{all-at}
 use Rattle.rows.specs.Sorted.{Ascending, Here, Between}
 use Rattle.time_cache.specs.TimeCache.{Timed}
-use Rattle.time_cache.proofs.Orders.{up-of, all-at}
+use Rattle.time_cache.proofs.Orders.{up-of}
 use Rattle.time_cache.proofs.MapPlaces.{lookup-here, lookup-between}
 use Rattle.protocol.specs.Links.{isNeighbour}
 use Rattle.protocol.specs.State.{State, Grafts}

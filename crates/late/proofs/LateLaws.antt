@@ -13,9 +13,10 @@ use Rattle.lists.specs.Base.{if_then_else_, all, ascending, concatMap}
 use Rattle.lists.specs.Map.{Map, keys, has, lookup}
 use Rattle.lists.proofs.MapLaws.{cases, true≢, and-right, all-head, all-tail}
 use Rattle.lists.proofs.Branches.{if-on, if-same}
+use Rattle.lists.proofs.Places.{all-at}
 use Rattle.rows.specs.Sorted.{Ascending, Here, Between}
 use Rattle.time_cache.specs.TimeCache.{get, replace}
-use Rattle.time_cache.proofs.Orders.{up-of, all-at}
+use Rattle.time_cache.proofs.Orders.{up-of}
 use Rattle.postcard.specs.Message.{Delivery, Prune, Sent, actionBytes}
 use Rattle.protocol.specs.Links.{Links, lazy, isNeighbour, eagerIn, addLazy}
 use Rattle.protocol.specs.State.{State, Hop, Grafts, withGrafted}

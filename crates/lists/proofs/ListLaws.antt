@@ -1,14 +1,14 @@
--- Laws of `all`, `any`, `filter`, `count` and `length` on lists, and of the tests of a map's entries.
+-- Laws of `all`, `any`, `filter`, `count`, `length` and `concatMap` on lists, and of the tests of a map's entries.
 use Prim.Native.Nat.{ℕ, suc, _+_, _≤_}
-use mathlib.Core.Path.{_≡_, refl, sym, ap}
+use mathlib.Core.Path.{_≡_, refl, sym, ap, _∙_}
 use mathlib.Core.Bool.{Bool, true, false, not, _&&_, _||_}
-use mathlib.Core.List.{List, [], _∷_, _++_, map}
+use mathlib.Core.List.{List, [], _∷_, _++_, map, append-assoc, append-nil}
 use mathlib.Core.Option.{some}
 use native.Mathlib.Omega.{arith}
 use lib.Dec.{ltb, eqb}
 use lib.ListN.{length}
 use borrow.Author.Tests.{eqb-true}
-use Rattle.lists.specs.Base.{all, any, filter, count, ascending, isSome}
+use Rattle.lists.specs.Base.{all, any, filter, count, concatMap, ascending, isSome}
 use Rattle.lists.specs.Map.{Map, Entry, entry, keys, lookup, insert, remove, has}
 use Rattle.lists.proofs.MapLaws.{cases, true≢, and-left, and-right, and-intro, all-head, all-tail, all-cons, lookup-insert-same, lookup-insert-other, lookup-remove-same, lookup-remove-other}
 
@@ -79,6 +79,16 @@ module _ {A : Type 0} where
   unfolding count
   count-same f g w [] = refl
   count-same f g w (x ∷ xs) = rw (w x) (cases (g x) (λ p. rw p (ap suc (count-same f g w xs))) (λ p. rw p (count-same f g w xs)))
+
+  -- the bytes of some and then others, and of one
+  pub concat-append : (f : A → List ℕ) (xs ys : List A) → concatMap f (xs ++ ys) ≡ concatMap f xs ++ concatMap f ys
+  unfolding concatMap
+  concat-append f [] ys = refl
+  concat-append f (x ∷ xs) ys = ap (λ (l : List ℕ). f x ++ l) (concat-append f xs ys) ∙ sym (append-assoc (f x) (concatMap f xs) (concatMap f ys))
+
+  pub concat-one : (f : A → List ℕ) (x : A) → concatMap f (x ∷ []) ≡ f x
+  unfolding concatMap
+  concat-one f x = append-nil (f x)
 
   -- of a list without it nothing is in a part
   pub any-filter-false : (f g : A → Bool) (xs : List A) → any f xs ≡ false → any f (filter g xs) ≡ false

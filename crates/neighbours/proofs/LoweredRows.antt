@@ -10,13 +10,13 @@ use Rattle.lists.specs.Base.{filter}
 use Rattle.lists.proofs.ListLaws.{filter-map}
 use Rattle.rows.specs.Part.{part, put}
 use Rattle.rows.specs.Rows.{rows, differs}
-use Rattle.rows.proofs.Parts.{length-part, take-put, getD-part, drop-take, put-cons, loan-put, put-drop}
+use Rattle.rows.proofs.Parts.{length-part, take-put, getD-part, drop-take, put-cons, loan-put, put-drop, put-all}
 use Rattle.rows.proofs.Rows.{row-end}
 use Rattle.refs.specs.Refs.{ref}
 use Rattle.refs.proofs.Shifts.{done, done-read, done-more}
 use Rattle.block.specs.View.{byteAt, hopsIn}
 use Rattle.refs.specs.Numbers.{numbered, lowerAll, entries}
-use Rattle.block.proofs.Tables.{put-all, view-at, view-set, length-view}
+use Rattle.block.proofs.Tables.{view-at, view-set, length-view}
 use Rattle.refs.proofs.Numbered.{length-numbered}
 use Rattle.neighbours.specs.Lowered.{Listed, listedOf, listed, lowerListed, announced}
 

@@ -16,9 +16,10 @@ use Rattle.lists.specs.Base.{if_then_else_, isEmpty, once}
 use Rattle.lists.specs.Map.{Entry, entry, keys}
 use Rattle.lists.proofs.MapLaws.{cases, true≢, and-left}
 use Rattle.lists.proofs.Branches.{if-on, if-same}
+use Rattle.lists.proofs.Places.{all-at}
 use Rattle.rows.specs.Sorted.{Here, Between}
 use Rattle.time_cache.specs.TimeCache.{get}
-use Rattle.time_cache.proofs.Orders.{up-of, all-at}
+use Rattle.time_cache.proofs.Orders.{up-of}
 use Rattle.time_cache.proofs.MapPlaces.{lookup-here, lookup-between}
 use Rattle.protocol.specs.Links.{isNeighbour}
 use Rattle.protocol.specs.State.{State, Hop, Grafts}

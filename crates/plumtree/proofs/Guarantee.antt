@@ -26,9 +26,9 @@ use Rattle.plumtree.proofs.CreationLaws.{made, made-zero}
 use Rattle.plumtree.specs.Chain.{Seen, Chain, done, next, seenOf, Guaranteed, Guarantee}
 
 -- the block holds this state, and is long enough for it
-record Holds (block : List ℕ) (s : State) : Type 0 where
-  state : held block ≡ some s
-  long : longEnough (length block) s ≡ true
+pub record Holds (block : List ℕ) (s : State) : Type 0 where
+  pub state : held block ≡ some s
+  pub long : longEnough (length block) s ≡ true
 
 -- after one call
 record After (s : State) (c : Counts) (a : Answer) (after : Lent) (number long : ℕ) : Type 0 where
@@ -74,7 +74,7 @@ ended _ s _ _ _ _ _ h (next block c k output after number long f ks seen last la
     (ended (after .block) (stateAfter s (askWhole identifier s c k)) (after .counts) ks seen last lastCounts (g .holds) more) in
     record { state = w .state; counts = w .counts; answers = rw (g .seen, w .answers) refl }
 
-created-holds : (c : Settings) (l : Limits) (before block : List ℕ) → Creation c l before block 0 → Holds block (fresh (settingsOf c) (limitsOf l))
+pub created-holds : (c : Settings) (l : Limits) (before block : List ℕ) → Creation c l before block 0 → Holds block (fresh (settingsOf c) (limitsOf l))
 created-holds c l before block m =
     let e = made c l before block m in
     let a : Accepted (fresh (settingsOf c) (limitsOf l)) before block 0 = subst (λ (x : Created). Creates x before block 0) e m in

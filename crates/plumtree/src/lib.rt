@@ -9,6 +9,7 @@ use machine::event;
 use machine::event::Outcome;
 use postcard::units::Millis;
 use rewrite::Rewritten;
+use states::Returned;
 use whole::create;
 ghost use mathlib.Core.Path.{_≡_};
 ghost use mathlib.Core.List.{[]};
@@ -19,6 +20,7 @@ ghost use Rattle.block.specs.View.{limitsOf};
 ghost use Rattle.blake3.specs.Blake3.{identifier};
 ghost use Rattle.whole.specs.Held.{held};
 ghost use Rattle.machine.specs.Called.{countsOf, lent, callOf, Called};
+ghost use Rattle.states.specs.Calls.{Saves, Returns};
 ghost use Rattle.limit_met.specs.LimitMet.{asking, limitMet};
 ghost use Rattle.plumtree.specs.Calls.{blockSize, Made, entries, toldOf};
 
@@ -185,5 +187,66 @@ pub extern "C" fn plumtree_rewrite(message: &[u8], output: &mut [u8]) -> Answer
     match written {
         Rewritten::Shortest(length) => Answer { number: 0, length },
         Rewritten::Fault(number) => Answer { number, length: 0 },
+    }
+}
+
+// Request d, a saving: "Up to four states are kept in a second lent area under eight-byte names." Questions 5, 17 and 16. The name is the number of its eight bytes, the first one lowest.
+#[no_mangle]
+pub extern "C" fn plumtree_save(block: &[u8], counts: Stats, area: &mut [u8], name: u64) -> Answer
+    ensures { λ r. ⌜ Saves (now (block .entry)) (countsOf counts) (now (area .entry)) name (now (area .exit)) (r .number) (r .length) ⌝ }
+{
+    let c = states::Counts {
+        payload: counts.payload_messages_received,
+        control: counts.control_messages_received,
+        hops: counts.max_last_delivery_hop,
+    };
+    let number = states::save(block, c, area, name);
+    Answer { number, length: 0 }
+}
+
+// A return with the counts by value.
+pub fn return_core(block: &mut [u8], c: Stats, area: &[u8], name: u64) -> Outcome
+    ensures { λ r. ⌜ Returns (now (block .entry)) (countsOf c) (now (area .entry)) name (now (block .exit)) (countsOf (r .stats)) (r .number) (r .length) ⌝ }
+{
+    let back = states::go_back(block, area, name);
+    match back {
+        Returned::Refused(number) => Outcome {
+            number,
+            length: 0,
+            stats: c,
+        },
+        Returned::Brought(kept) => {
+            let stats = Stats {
+                payload_messages_received: kept.payload,
+                control_messages_received: kept.control,
+                max_last_delivery_hop: kept.hops,
+            };
+            Outcome {
+                number: 0,
+                length: 0,
+                stats,
+            }
+        }
+    }
+}
+
+// Request d, a return: "Returning brings back block and counts in full." Questions 5, 17 and 15.
+#[no_mangle]
+pub extern "C" fn plumtree_return(
+    block: &mut [u8],
+    counts: &mut Stats,
+    area: &[u8],
+    name: u64,
+) -> Answer
+    ensures { λ r. ⌜ Returns (now (block .entry)) (countsOf (now (counts .entry))) (now (area .entry)) name (now (block .exit)) (countsOf (now (counts .exit))) (r .number) (r .length) ⌝ }
+{
+    let c = *counts;
+    let back = return_core(block, c, area, name);
+    if back.number == 0 {
+        *counts = back.stats;
+    }
+    Answer {
+        number: back.number,
+        length: back.length,
     }
 }

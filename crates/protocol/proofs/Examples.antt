@@ -95,6 +95,10 @@ announcing = free (Up 2) ∷ shut 2 broadcast ∷ free (Fired AnnounceDropped) �
 abbrev dispatched : List Call
 dispatched = free (Up 2) ∷ shut 2 broadcast ∷ free (Fired AnnounceDropped) ∷ free (Fired DispatchLazyPush) ∷ []
 
+-- up 2, up 3: the list after up 2, a saving, the broadcast that is handed back, a return and up 3
+abbrev returned : List Call
+returned = free (Up 2) ∷ free (Up 3) ∷ []
+
 -- the message from 2 with its kind, its length, its delivery's kind and its round padded by a byte each
 abbrev spelled : List ℕ
 spelled = 0x00 ∷ 0x02 ∷ 0x80 ∷ 0x00 ∷ idBytes 9 ++ (0x81 ∷ 0x00 ∷ 0x07 ∷ 0x80 ∷ 0x00 ∷ 0x83 ∷ 0x00 ∷ [])
@@ -133,6 +137,10 @@ pub record Examples : Type 0 where
   -- dispatch fired: its announcement was taken
   pub announced4 : which (sent 2 (carries 9) wasTaken) dispatched ≡ false ∷ false ∷ false ∷ true ∷ []
   pub empty4 : after dispatched .state .queue ≡ []
+  -- the broadcast is no part of the list: it is not cached, and nothing stands recorded
+  pub forgotten : holds 9 (after returned .state .cache) ≡ false
+  pub nothing : after returned .state .dropped ≡ []
+  pub both : eagerPeers (after returned .state .links) ≡ 2 ∷ 3 ∷ []
   -- both spellings are read as the same event, within M; the message went on to 3
   pub spelled3 : decodeEvent spelled ≡ decoded (gossip 2)
   pub spelled3′ : decodeEvent (eventBytes (gossip 2)) ≡ decoded (gossip 2)
@@ -141,7 +149,7 @@ pub record Examples : Type 0 where
 
 pub examples : Examples
 unfolding Base.filter Base.count Base.any Base.all Base.member Base.sum Base.concatMap Base.ascending Base.once Map.lookup Map.insert Map.remove Map.insertKey Map.removeKey Number.groups Number.numberBytes Number.numberLength Number.bigEndian Number.idBytes Number.fromBigEndian Number.readKind Number.kindNumber Number.readPadded Number.readBytes Number.readId Number.lastGroup Number.readGroups Number.readRound Number.readNumber Message.contentBytes Message.deliveryBytes Message.scopeByte Message.ihaveBytes Message.optionalIdBytes Message.messageBytes Message.timerBytes Message.eventBytes Message.takenByte Message.actionBytes Decode.readContent Decode.deliveryOf Decode.readDelivery Decode.scopeOf Decode.optionalIdOf Decode.readIhave Decode.readIhaves Decode.messageOf Decode.readMessage Decode.messageKind Decode.deliveryKind Decode.readPaddedContent Decode.messagePart Decode.timerOf Decode.readTimer Decode.eventOf Decode.readEvent Decode.ended Decode.decodeEvent TimeCache.valueOf TimeCache.get TimeCache.addExpiry TimeCache.put TimeCache.withValue TimeCache.replace TimeCache.expiresAt TimeCache.pop TimeCache.due TimeCache.later TimeCache.popAll TimeCache.popped TimeCache.expireUntil TimeCache.expiredKeys TimeCache.expiresOnTime TimeCache.inPopOrder TimeCache.laterCache State.fresh State.zeroCounts State.sizeInRange State.durationsInRange State.upTo State.limitsInRange State.blockNeed State.create Run.act Run.hasRoom Run.useRoom Run.send Answer.messageFits Answer.countsBelow Answer.countsStay Answer.lastRound Answer.outputOf Answer.lastTwo Answer.tooFarMessage Answer.tooFar Answer.askOf Answer.askRead Answer.ask Answer.askWhole Answer.outcome Answer.answerOf Answer.answerBlock Whole.contentHeld Whole.cacheFits Whole.fits Whole.inRange Whole.keysOnce Whole.neighbours Whole.announcersWhole Whole.graftsWhole Whole.notedOnce Whole.recordWithin Whole.flagsStand Whole.whole Whole.longEnough Whole.wholeState Links.peersMarked Links.eagerPeers Links.lazyPeers Links.marked Links.eagerIn Links.markIfThere Links.addEager Links.addLazy Links.linkUp Links.linkDown Neighbours.onNeighborUp Neighbours.withoutAnnouncer Neighbours.forgetAnnouncer Neighbours.withoutNotes Neighbours.withoutGraft Neighbours.forgetGrafted Neighbours.forgetPeer Neighbours.onNeighborDown Push.scheduleDispatch Push.scheduleAnnounceDropped Push.recordFull Push.recordAlso Push.noteOne Push.noteEach Push.noteDropped Push.sendEach Push.handedBack Push.noteForEach Push.eagerTargets Push.noteAfter Push.pushTo Push.eagerPush Push.noteFor Push.lazyPush Push.sendIhave Gossips.markReceived Gossips.cacheAt Gossips.hopsOf Gossips.announcers Gossips.peersOf Gossips.graftedFor Gossips.withFirst Gossips.setFirst Gossips.graftOut Gossips.forgetMissing Gossips.raiseHops Gossips.leastFrom Gossips.farCloser Gossips.updateLinks Gossips.graftUnlessEager Gossips.pruneBack Gossips.optimizeTree Gossips.forgetAndOptimise Gossips.pushOn Gossips.takeIn Gossips.sameAs Gossips.noMoreHops Gossips.lateFrom Gossips.lateKind Gossips.withKept Gossips.setKept Gossips.onDuplicate Gossips.onLateGraftReply Gossips.onNew Gossips.gossipSize Gossips.onGossip Gossips.broadcastTo Gossips.broadcast Ticks.perMessage Ticks.chunks Ticks.queuedFor Ticks.queuedPeers Ticks.sendChunks Ticks.dispatchTo Ticks.clearDispatch Ticks.onDispatchTimer Ticks.oldest Ticks.younger Ticks.moveOldest Ticks.stillCached Ticks.dispatchIfQueued Ticks.onAnnounceDroppedTimer Ticks.evict Ticks.onEvictCacheTimer Control.addAnnouncer Control.announce Control.scheduleGraft Control.onAnnounced Control.onIHave Control.onPrune Control.replyWith Control.reply Control.onGraft Control.lower Control.withGraft Control.noteGraft Control.leaveAnnouncers Control.askFirst Control.unmark Control.onSendGraftTimer Handle.firstEvent Handle.onePayload Handle.oneControl Handle.countMessage Handle.ifNeighbour Handle.onTimer Handle.onMessage Handle.handleMessage Handle.handle Calls.stateAfter Calls.countsAfter Calls.prepend Calls.runCalls Demand3.byEvent Demand3.byAction Demand3.isUp Demand3.isDown Demand3.tellsDown Demand3.upAfterCall Demand3.upAfter Demand3.toldUp Demand3.isEmit Demand3.tookGossip Demand3.tookBroadcast Demand3.tookByEvent Demand3.took Demand3.isOf Demand3.lists Demand3.announcesIn Demand3.announced Demand3.isGraftFor Demand3.carries Demand3.sends Demand3.sent Demand3.leftOut Demand3.metFull Demand3.isTick Demand3.schedulesTick Demand3.scheduled Demand3.firesTick Demand3.fired Panel.panelSettings Panel.panelLimits Panel.readLengthed Panel.readRecord Panel.written Panel.orCut Panel.readRecords Panel.runRecords Panel.panelrun
-examples = record { up2 = refl; eager2 = refl; up3 = refl; lazy3 = refl; cached2 = refl; from2 = refl; announced3 = refl; grafted4 = refl; took5 = refl; nothing5 = refl; payload2 = refl; back2 = refl; recorded2 = refl; timer2 = refl; fired3 = refl; queued3 = refl; dispatch3 = refl; announced4 = refl; empty4 = refl; spelled3 = refl; spelled3′ = refl; fits3 = refl; sent3 = refl }
+examples = record { up2 = refl; eager2 = refl; up3 = refl; lazy3 = refl; cached2 = refl; from2 = refl; announced3 = refl; grafted4 = refl; took5 = refl; nothing5 = refl; payload2 = refl; back2 = refl; recorded2 = refl; timer2 = refl; fired3 = refl; queued3 = refl; dispatch3 = refl; announced4 = refl; empty4 = refl; forgotten = refl; nothing = refl; both = refl; spelled3 = refl; spelled3′ = refl; fits3 = refl; sent3 = refl }
 
 -- so both lists lead to the same answers, actions, counts and state
 pub spellings : after padded ≡ after plain

@@ -10,10 +10,11 @@ use lib.ListN.{length, drop, getD, length-map}
 use Rattle.lists.specs.Base.{if_then_else_, isEmpty, all, ascending}
 use Rattle.lists.specs.Map.{Entry, entry, keys, insert, remove, removeKey}
 use Rattle.lists.proofs.MapLaws.{true≢, and-left, and-right, ascending-insert}
+use Rattle.lists.proofs.Places.{all-at}
 use Rattle.rows.specs.Sorted.{Here, Between}
 use Rattle.rows.proofs.Views.{map-put}
 use Rattle.time_cache.specs.TimeCache.{get, holds}
-use Rattle.time_cache.proofs.Orders.{up-of, all-at}
+use Rattle.time_cache.proofs.Orders.{up-of}
 use Rattle.time_cache.proofs.MapPlaces.{insert-here}
 use Rattle.time_cache.proofs.WriteLaws.{put-getD-same}
 use Rattle.protocol.specs.Links.{Mark, eager, Links, isNeighbour, markIfThere, addEager}

@@ -10,11 +10,11 @@ use lib.ListN.{length, take, drop, getD, length-drop}
 use lib.Seq.{take-suc, take-all}
 use Rattle.lists.specs.Base.{all}
 use Rattle.lists.proofs.MapLaws.{cases, true≢}
+use Rattle.lists.proofs.Places.{all-at}
 use Rattle.rows.specs.Part.{part}
 use Rattle.rows.specs.Rows.{rows}
 use Rattle.rows.proofs.Parts.{part-part, length-part, part-between}
 use Rattle.rows.proofs.Rows.{getD-rows, row-end}
-use Rattle.time_cache.proofs.Orders.{all-at}
 
 pub and-true : (a : Bool) → (a && true) ≡ a
 and-true true = refl

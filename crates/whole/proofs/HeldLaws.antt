@@ -10,10 +10,11 @@ use borrow.Author.Tests.{leb-true, eqb-true}
 use lib.Dec.{leb, eqb}
 use lib.ListN.{length, take, drop, getD}
 use Rattle.lists.proofs.MapLaws.{cases, true≢, and-left, and-right}
+use Rattle.lists.proofs.Places.{all-at}
 use Rattle.rows.specs.Part.{part}
 use Rattle.rows.specs.Rows.{rows}
 use Rattle.rows.proofs.Rows.{length-rows, getD-rows}
-use Rattle.time_cache.proofs.Orders.{all-at, below-of}
+use Rattle.time_cache.proofs.Orders.{below-of}
 use Rattle.protocol.specs.State.{Limits, limitsInRange, upTo, blockNeed}
 use Rattle.protocol.specs.Whole.{contentHeld, whole}
 use Rattle.block.specs.Layout.{tables}

@@ -4,15 +4,16 @@ use mathlib.Core.Path.{_≡_, refl, sym, ap, _∙_, subst}
 use mathlib.Core.Logic.{_⊎_, inl, inr}
 use mathlib.Core.Bool.{Bool, true, false, not, _&&_}
 use mathlib.Core.List.{List, [], _∷_, map}
-use Prim.Native.Nat.{ℕ, zero, suc, _+_, _-_, _≤_, _<_, zero-le, suc-le-suc}
-use native.Mathlib.Nat.{eq-or-lt-of-le, le-of-suc-le-suc, not-suc-le-zero}
+use Prim.Native.Nat.{ℕ, _+_, _-_, _≤_, _<_, zero-le}
+use native.Mathlib.Nat.{eq-or-lt-of-le}
 use native.Mathlib.Omega.{arith}
-use borrow.Author.Tests.{ltb-true, lt-ltb, le-ltb, eq-eqb, ne-eqb, not-true}
+use borrow.Author.Tests.{ltb-true, lt-ltb, le-ltb, eq-eqb, ne-eqb}
 use lib.Dec.{ltb, eqb}
 use lib.ListN.{length, getD}
 use Rattle.lists.specs.Base.{all, member, ascending, once}
 use Rattle.lists.specs.Map.{keys}
-use Rattle.lists.proofs.MapLaws.{cases, true≢, and-left, and-right, and-intro, all-head, all-tail}
+use Rattle.lists.proofs.MapLaws.{cases, and-left, and-right, and-intro, all-head, all-tail}
+use Rattle.lists.proofs.Places.{once-of, of-once}
 use Rattle.rows.proofs.Ids.{tri}
 use Rattle.rows.proofs.Sorted.{AscendTo, ascend-start, ascend-more, ascend-done, ascend-not}
 use Rattle.refs.specs.Once.{TellsNumbers}
@@ -76,33 +77,7 @@ module _ (m : ℕ) (b : List ℕ) (j least : ℕ) (c : Climb m b j least) where
       sym (and-intro (of-below m b (record { below = λ i l. c .low .to i (omega arith) }))
       (of-up b (ascend-done b j (length b) refl h (c .up))))
 
--- each once, by the places
-member-not : (n : ℕ) (xs : List ℕ) → ((i : ℕ) → i < length xs → n ≡ getD xs i 0 → ⊥) → member n xs ≡ false
-unfolding member
-member-not n [] h = refl
-member-not n (x ∷ xs) h = rw (ne-eqb n x (h 0 (suc-le-suc zero-le))) (member-not n xs (λ i l. h (suc i) (suc-le-suc l)))
-
-not-member : (n : ℕ) (xs : List ℕ) → member n xs ≡ false → (i : ℕ) → i < length xs → n ≡ getD xs i 0 → ⊥
-unfolding member
-not-member n [] h i l e = not-suc-le-zero l
-not-member n (x ∷ xs) h zero l e = true≢ (sym (rw (eq-eqb n x e) at h))
-not-member n (x ∷ xs) h (suc i) l e =
-    cases (eqb n x) (λ p. true≢ (sym (rw p at h))) (λ p. not-member n xs (rw p at h) i (le-of-suc-le-suc l) e)
-
-once-of : (xs : List ℕ) → ((p q : ℕ) → p < q → q < length xs → getD xs p 0 ≡ getD xs q 0 → ⊥) → once xs ≡ true
-unfolding once
-once-of [] h = refl
-once-of (x ∷ xs) h =
-    and-intro (ap not (member-not x xs (λ i l e. h 0 (suc i) (suc-le-suc zero-le) (suc-le-suc l) e)))
-    (once-of xs (λ p q l g e. h (suc p) (suc q) (suc-le-suc l) (suc-le-suc g) e))
-
-of-once : (xs : List ℕ) → once xs ≡ true → (p q : ℕ) → p < q → q < length xs → getD xs p 0 ≡ getD xs q 0 → ⊥
-unfolding once
-of-once [] h p q l g e = not-suc-le-zero g
-of-once (x ∷ xs) h p zero l g e = not-suc-le-zero l
-of-once (x ∷ xs) h zero (suc q) l g e = not-member x xs (not-true (member x xs) (and-left (not (member x xs)) (once xs) h)) q (le-of-suc-le-suc g) e
-of-once (x ∷ xs) h (suc p) (suc q) l g e = of-once xs (and-right (not (member x xs)) (once xs) h) p q (le-of-suc-le-suc l) (le-of-suc-le-suc g) e
-
+-- below a number, and each once
 pub tells-numbers : (m : ℕ) (xs : List ℕ) (r : Bool) → TellsNumbers m xs r → r ≡ (allBelow m xs && once xs)
 tells-numbers m xs true n = sym (and-intro (of-below m xs (record { below = n .below })) (once-of xs (n .once)))
 tells-numbers m xs false n =

@@ -16,6 +16,7 @@ use Rattle.lists.specs.Base.{all, any, count, ascending}
 use Rattle.lists.specs.Map.{keys}
 use Rattle.lists.proofs.MapLaws.{cases, true≢, and-left, and-right, and-intro, all-head, all-tail}
 use Rattle.lists.proofs.ListLaws.{all-map, count-append, count-length}
+use Rattle.lists.proofs.Places.{at-all}
 use Rattle.rows.specs.Part.{part}
 use Rattle.rows.specs.Digits.{beNat}
 use Rattle.rows.specs.Rows.{rows}
@@ -24,7 +25,7 @@ use Rattle.rows.proofs.Parts.{part-part}
 use Rattle.rows.proofs.Rows.{length-rows, getD-rows}
 use Rattle.notes.specs.Chains.{Once, TellsOnce, idAt as noteId}
 use Rattle.time_cache.proofs.CacheLaws.{eqb-sym}
-use Rattle.time_cache.proofs.Orders.{at-all, below-of}
+use Rattle.time_cache.proofs.Orders.{below-of}
 use Rattle.protocol.specs.Links.{Links}
 use Rattle.protocol.specs.State.{Note}
 use Rattle.protocol.specs.Push.{forPeer, notes}

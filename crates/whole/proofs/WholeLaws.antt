@@ -1,7 +1,7 @@
 -- Question 5 is the tests of the header's numbers and of the tables: each follows from the others.
 -- Assumes nothing.
 use mathlib.Core.Path.{_≡_, refl, sym, ap, _∙_, subst}
-use mathlib.Core.Bool.{Bool, true, _&&_, _||_}
+use mathlib.Core.Bool.{Bool, true, false, _&&_, _||_}
 use mathlib.Core.List.{List, [], _∷_, map}
 use mathlib.Core.Option.{none, some}
 use Prim.Native.Nat.{ℕ, zero, suc, _-_, _*_, _≤_, _<_, zero-le}
@@ -12,7 +12,7 @@ use lib.ListN.{length, take, drop, length-map}
 use lib.Seq.{take-take}
 use Rattle.lists.specs.Base.{if_then_else_, isEmpty, all, ascending}
 use Rattle.lists.specs.Map.{keys}
-use Rattle.lists.proofs.MapLaws.{and-intro}
+use Rattle.lists.proofs.MapLaws.{cases, true≢, and-left, and-right, and-intro}
 use Rattle.rows.specs.Part.{part}
 use Rattle.rows.specs.Digits.{leNat}
 use Rattle.rows.specs.Rows.{rows}
@@ -51,6 +51,22 @@ low-bytes (suc k) (b ∷ bs) = omega (arith, low-bytes k bs)
 half-word : (at : ℕ) (xs : List ℕ) → halfWordAt at xs ≤ wordAt at xs
 unfolding part
 half-word at xs = subst (λ (n : ℕ). n ≤ wordAt at xs) (ap leNat (take-take 2 8 (drop at xs) (omega arith))) (low-bytes 2 (take 8 (drop at xs)))
+
+-- so that of a state that is held is a round
+pub held-round : (block : List ℕ) (s : State) → held block ≡ some s → s .settings .optimizationThreshold ≤ 65535
+unfolding held hasHeader stateOf
+held-round block s e =
+    cases (hasHeader block && holdsWith (headIn block) block)
+    (λ t. let a : some (stateOf (headIn block) block) ≡ some s = rw t at e in
+    let b : stateOf (headIn block) block ≡ s = cc in
+    let r : wordAt 24 block ≤ 65535 =
+    leb-true (wordAt 24 block) 65535
+    (and-right (leb 2048 (length block)) (leb (wordAt 24 block) 65535) (and-left (hasHeader block) (holdsWith (headIn block) block) t)) in
+    subst (λ (x : State). x .settings .optimizationThreshold ≤ 65535) b (omega (arith, half-word 24 block)))
+    (λ t. let z : none ≡ some s = rw t at e in absurd (none-some s z))
+  where
+    none-some : (x : State) → none ≡ some x → ⊥
+    none-some x z = let y : false ≡ true = cc in true≢ y
 
 -- how many entries and expiry entries a cache has
 module _ {A : Type 0} (value : List ℕ → List ℕ → A) (s n : ℕ) (e : List ℕ) (t m : ℕ) (x : List ℕ) where

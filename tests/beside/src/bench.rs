@@ -1,5 +1,5 @@
 //! Times per call, the library's beside those of the Rust's `handle`, and of its reading and writing
-//! of a message.
+//! of a message; of savings and returns, beside a copy of the block.
 //!
 //! Each call starts from the same state, given back before it outside of the time taken; the least
 //! of many is told.
@@ -318,6 +318,85 @@ pub fn run(only: Option<&str>) {
         }
     }
     rewriting(only);
+    for (title, max) in [("panelrun's limits", PANELRUN), ("the ceilings", CEILINGS)] {
+        states(only, title, &max);
+    }
+}
+
+/// A call upon an area, or what it is held against.
+#[derive(Clone, Copy)]
+enum Named {
+    Save(u64),
+    Return(u64),
+    /// Question 5 of the block alone.
+    Whole,
+    /// A copy of the block's bytes alone.
+    Copy,
+}
+
+/// States saved and returned to, in areas that keep none or four (under the names 1 to 4).
+fn states(only: Option<&str>, title: &str, max: &[u64; 9]) {
+    const CASES: [(&str, u64, Named, u64); 8] = [
+        ("named states, question 5 alone", 0, Named::Whole, 0),
+        ("named states, a copy of the block", 0, Named::Copy, 0),
+        ("named states, save, none kept", 0, Named::Save(1), 0),
+        ("named states, save, four kept", 4, Named::Save(4), 0),
+        ("named states, a fifth name", 4, Named::Save(5), 16),
+        ("named states, return, none kept", 0, Named::Return(4), 15),
+        ("named states, return, four kept", 4, Named::Return(4), 0),
+        ("named states, a name not kept", 4, Named::Return(5), 15),
+    ];
+    if !CASES.iter().any(|c| only.is_none_or(|o| c.0.contains(o))) {
+        return;
+    }
+    let need = block::need(max);
+    println!("\nnamed states, {title}: nanoseconds a call; a block of {need} bytes");
+    println!("{:36}|{:^12}|{:^12}|{:^12}", "", "empty", "quarter", "full");
+    let runs = if *max == CEILINGS { 60 } else { 400 };
+    for (name, kept, call, number) in CASES {
+        if only.is_some_and(|o| !name.contains(o)) {
+            continue;
+        }
+        let mut line = format!("{name:36}");
+        for share in [(0, 4), (1, 4), (1, 1)] {
+            let t = state(max, &filled(max, share).snap, kept, call, number, runs);
+            line += &format!("|{t:>11.0} ");
+        }
+        println!("{line}");
+    }
+}
+
+/// The least time of a call that is answered with this number.
+fn state(max: &[u64; 9], s: &Snap, kept: u64, call: Named, number: u64, runs: usize) -> f64 {
+    let base = clock();
+    let mut start = vec![0; block::need(max)];
+    block::write(&mut Rng::new(3), &mut start, max, s);
+    let mut full = vec![0; 4 * start.len() + 256];
+    for name in 1..=kept {
+        assert_eq!(library::save(&start, [name; 3], &mut full, name), (0, 0));
+    }
+    let (mut b, mut area) = (start.clone(), full.clone());
+    let mut least = f64::MAX;
+    for _ in 0..runs {
+        area.copy_from_slice(&full);
+        b.copy_from_slice(&start);
+        assert!(library::whole(&mut b));
+        let mut counts = [7; 3];
+        let i = Instant::now();
+        let answer = match call {
+            Named::Save(name) => library::save(&b, counts, &mut area, name).0,
+            Named::Return(name) => library::go_back(&mut b, &mut counts, &area, name).number,
+            Named::Whole => u64::from(!library::whole(&mut b)),
+            Named::Copy => {
+                area[256..256 + b.len()].copy_from_slice(black_box(&b));
+                0
+            }
+        };
+        least = least.min(i.elapsed().as_nanos() as f64 - base);
+        black_box(&mut area);
+        assert_eq!(answer, number);
+    }
+    least
 }
 
 /// Messages rewritten, from their shortest form and from a padded one: the Rust's reading and

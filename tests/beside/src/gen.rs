@@ -2,6 +2,7 @@
 mod brink;
 mod rewrite;
 pub mod spell;
+mod states;
 
 use std::collections::HashMap;
 
@@ -11,6 +12,7 @@ use oracle::{
 };
 
 pub use rewrite::Rewrites;
+pub use states::States;
 
 use crate::{
     block::{self, Layout, CEILINGS},
@@ -447,6 +449,13 @@ impl World {
         }
         v.push(call);
         v
+    }
+
+    /// Takes notice of a return: the panel can have another number, other settings and limits.
+    pub fn goes_on(&mut self, pair: &Pair) {
+        let s = pair.snap.as_ref().expect("a whole block");
+        (self.me, self.m, self.cfg) = (s.me, s.m, s.cfg);
+        self.max = pair.limits.max;
     }
 
     /// Takes notice of what was answered: what was sent may be replied to, timers may fire.

@@ -116,6 +116,20 @@ pub fn rewrite(message: &[u8], out: &mut [u8]) -> (u64, u64) {
     (a.number.into(), a.length as u64)
 }
 
+/// A saving: the number and the length.
+pub fn save(block: &[u8], counts: [u64; 3], area: &mut [u8], name: u64) -> (u64, u64) {
+    let a = raw::save(block, Lent::new(&counts).counts, area, name);
+    (a.number.into(), a.length as u64)
+}
+
+/// A return.
+pub fn go_back(block: &mut [u8], counts: &mut [u64; 3], area: &[u8], name: u64) -> Answer {
+    let mut lent = Lent::new(counts);
+    let a = raw::go_back(block, &mut lent.counts, area, name);
+    *counts = lent.told();
+    lent.answer(a)
+}
+
 /// *Alike*: the number, and yes or no.
 pub fn alike(a: &[u8], b: &[u8]) -> (u64, bool) {
     let r = raw::alike(a, b);

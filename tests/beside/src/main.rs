@@ -11,6 +11,7 @@ mod rng;
 mod run;
 mod sample;
 mod script;
+mod states;
 mod wire;
 
 use std::{
@@ -19,14 +20,14 @@ use std::{
     time::{Duration, Instant},
 };
 
-use gen::{Rewrites, World};
+use gen::{Rewrites, States, World};
 use paths::Paths;
 use run::Pair;
 use script::Cmd;
 
 const HELP: &str = "\
 beside [--seed N] [--calls N] [--seconds N] [--from LIST] [--damage PERCENT] [--brief] [--every-path] [--no-shrink]
-    random lists of calls and rewrites on both, compared after each; --brief: no table, only the paths never
+    random lists of calls, rewrites, savings and returns on both, compared after each; --brief: no table, only the paths never
     taken; --every-path: such a path is a failure
 beside --short
     every event of at most two bytes, and of three that begin with a kind; every message of at most
@@ -168,6 +169,7 @@ fn run_list(
         world.set_damage(percent);
     }
     let mut rewrites = Rewrites::of(seed, number, world.m);
+    let mut states = States::of(seed, number);
     let mut pair = Pair::default();
     let mut calls = 0;
     log.begin(number, before);
@@ -176,6 +178,7 @@ fn run_list(
         pair.run(log.push(c))?;
     }
     rewrite(rewrites.begin(), &mut pair, paths, log)?;
+    keep(states.begin(&pair), &mut pair, paths, log)?;
     while calls < world.calls as u64 {
         let mut damaged = false;
         let mut behind = Vec::new();
@@ -211,8 +214,19 @@ fn run_list(
             }
         }
         rewrite(behind, &mut pair, paths, log)?;
+        keep(states.behind(&pair), &mut pair, paths, log)?;
+        world.goes_on(&pair);
     }
     Ok(calls)
+}
+
+/// Runs savings and returns.
+fn keep(list: Vec<Cmd>, pair: &mut Pair, paths: &mut Paths, log: &mut Log) -> Result<(), String> {
+    for c in list {
+        pair.run(log.push(c))?;
+        paths.kept(&mut pair.keeper);
+    }
+    Ok(())
 }
 
 /// Runs rewrites.
@@ -268,9 +282,9 @@ fn work(job: &Job, mut log: Log) -> ExitCode {
     print!("{}", paths.table(job.brief));
     let t = start.elapsed().as_secs_f64();
     let lists = number - job.from;
-    let rewrites = paths.rewrites;
+    let (rewrites, states) = (paths.rewrites, paths.states);
     println!(
-        "seed {}: {done} calls and {rewrites} rewrites in {lists} lists, 0 different, {t:.0} s",
+        "seed {}: {done} calls and {rewrites} rewrites, {states} savings and returns, in {lists} lists, 0 different, {t:.0} s",
         job.seed
     );
     if job.every_path && paths.never() > 0 {

@@ -9,6 +9,7 @@ use oracle::{
 use crate::{
     block, likeness,
     rewriting::{self, Rewriter},
+    states::{self, Keeper},
     wire::{self, Action, Field, Message, Spelled, Stop},
 };
 
@@ -211,6 +212,8 @@ pub struct Paths {
     faults: BTreeMap<&'static str, u64>,
     /// Calls of `plumtree_rewrite`.
     pub rewrites: u64,
+    /// Calls of `plumtree_save` and `plumtree_return`.
+    pub states: u64,
 }
 
 fn find<'a>(notes: &'a Notes, peer: u64) -> &'a [(Id, u16)] {
@@ -264,6 +267,15 @@ impl Paths {
         self.rewrites += std::mem::take(&mut r.calls);
         for name in r.about.drain(..) {
             debug_assert!(rewriting::ABOUT.contains(&name), "{name}");
+            *self.faults.entry(name).or_default() += 1;
+        }
+    }
+
+    /// Savings and returns, and what they were about.
+    pub fn kept(&mut self, k: &mut Keeper) {
+        self.states += std::mem::take(&mut k.calls);
+        for name in k.about.drain(..) {
+            debug_assert!(states::ABOUT.contains(&name), "{name}");
             *self.faults.entry(name).or_default() += 1;
         }
     }
@@ -740,7 +752,8 @@ impl Paths {
         let faults = block::FAULTS.iter().map(|k| (n(&self.faults, k), format!("not whole: {k}")));
         let alike = likeness::ABOUT.iter().map(|k| (n(&self.faults, k), k.to_string()));
         let rewritten = rewriting::ABOUT.iter().map(|k| (n(&self.faults, k), k.to_string()));
-        calls.chain(faults).chain(alike).chain(rewritten).collect()
+        let kept = states::ABOUT.iter().map(|k| (n(&self.faults, k), k.to_string()));
+        calls.chain(faults).chain(alike).chain(rewritten).chain(kept).collect()
     }
 
     /// How many paths no call took.

@@ -1,7 +1,13 @@
 //! Runs commands on both, the Rust and the library, and compares after each.
 use oracle::{snap::Snap, Answer, Limits, Panel};
 
-use crate::{block, library, likeness, rewriting::Rewriter, rng::Rng, script::Cmd};
+use crate::{
+    block, library, likeness,
+    rewriting::Rewriter,
+    rng::Rng,
+    script::Cmd,
+    states::{Asked, Keeper},
+};
 
 /// Bytes kept around everything that is lent.
 const PAD: usize = 64;
@@ -11,16 +17,21 @@ pub const PATTERN: u8 = 0xa5;
 pub struct Lent {
     bytes: Vec<u8>,
     len: usize,
+    pad: u8,
 }
 
 impl Lent {
     pub fn new(len: usize) -> Lent {
-        Lent { bytes: vec![PATTERN; len + 2 * PAD], len }
+        Lent { bytes: vec![PATTERN; len + 2 * PAD], len, pad: PATTERN }
     }
     pub fn set_len(&mut self, len: usize) {
+        self.set_padded(len, PATTERN);
+    }
+    /// With pads of another byte, for what a step beyond the part would read.
+    pub fn set_padded(&mut self, len: usize, pad: u8) {
         self.bytes.clear();
-        self.bytes.resize(len + 2 * PAD, PATTERN);
-        self.len = len;
+        self.bytes.resize(len + 2 * PAD, pad);
+        (self.len, self.pad) = (len, pad);
     }
     pub fn part(&self) -> &[u8] {
         &self.bytes[PAD..PAD + self.len]
@@ -29,7 +40,7 @@ impl Lent {
         &mut self.bytes[PAD..PAD + self.len]
     }
     pub fn pads_kept(&self) -> bool {
-        let p = |v: &[u8]| v.iter().all(|b| *b == PATTERN);
+        let p = |v: &[u8]| v.iter().all(|b| *b == self.pad);
         p(&self.bytes[..PAD]) && p(&self.bytes[PAD + self.len..])
     }
 }
@@ -65,6 +76,8 @@ pub struct Pair {
     saved: Option<Saved>,
     garbage: Rng,
     pub rewriter: Rewriter,
+    /// The area and what was saved into it.
+    pub keeper: Keeper,
 }
 
 pub type Same<T> = Result<T, String>;
@@ -113,6 +126,7 @@ impl Default for Pair {
             saved: None,
             garbage: Rng::new(7),
             rewriter: Rewriter::default(),
+            keeper: Keeper::default(),
         }
     }
 }
@@ -189,7 +203,58 @@ impl Pair {
                 self.limits = s.limits;
                 Ok(None)
             }
+            Cmd::Area(n) => {
+                self.keeper.begin(*n);
+                Ok(None)
+            }
+            Cmd::Save(name) => {
+                let panel = self.snap.is_some().then_some(self.panel.as_ref()).flatten();
+                let asked = Asked { block: &mut self.block, counts: self.counts, panel };
+                self.keeper.save(asked, false, *name).map(|()| None)
+            }
+            Cmd::SaveOther { name, counts, max, text } => {
+                self.save_other(*name, *counts, max, text).map(|()| None)
+            }
+            Cmd::Return(name) => self.go_back(*name).map(|()| None),
+            Cmd::PokeArea(v) => {
+                self.keeper.poke(v);
+                Ok(None)
+            }
+            Cmd::CutArea(n) => {
+                self.keeper.cut(*n);
+                Ok(None)
+            }
+            Cmd::UndoArea => self.keeper.undo().map(|()| None),
         }
+    }
+
+    /// A saving of another panel's state, in a block as long as this one.
+    fn save_other(&mut self, name: u64, counts: [u64; 3], max: &[u64; 9], text: &str) -> Same<()> {
+        let mut panel = Panel::load(text).ok_or("script: not a state")?;
+        panel.set_counts(counts);
+        if block::need(max) > self.block.len {
+            return Err("script: another panel does not fit".into());
+        }
+        let mut second = Lent::new(self.block.len);
+        self.garbage.fill(second.part_mut());
+        block::write(&mut self.garbage, second.part_mut(), max, &sorted(panel.snap()));
+        let whole = block::read(second.part()).is_ok();
+        let asked = Asked { block: &mut second, counts, panel: whole.then_some(&panel) };
+        self.keeper.save(asked, true, name)
+    }
+
+    /// A return: the Rust goes on from its copy of the time of the saving.
+    fn go_back(&mut self, name: u64) -> Same<()> {
+        let panel = self.snap.is_some().then_some(self.panel.as_ref()).flatten();
+        let asked = Asked { block: &mut self.block, counts: self.counts, panel };
+        let Some(back) = self.keeper.go_back(asked, name)? else {
+            return Ok(());
+        };
+        self.panel = Some(back.panel);
+        self.counts = back.counts;
+        self.limits.max = block::limits(self.block.part());
+        self.fault = None;
+        self.settle()
     }
 
     fn create(&mut self) -> Same<()> {
@@ -332,6 +397,7 @@ impl Pair {
             holds(self.block.part()[need..] == self.before[need..], "wrote past the need")?;
             self.settle()?;
         }
+        self.keeper.event(answer.number == 0);
         Ok(Call { before, answer })
     }
 

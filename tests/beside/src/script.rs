@@ -1,5 +1,6 @@
 //! Lists of calls and rewrites, and their text: the oracle's commands (tests/rust/README.md), with `alike`,
-//! `poke`, `cut` and `undo` for the block, which the oracle has none of.
+//! `poke`, `cut` and `undo` for the block, which the oracle has none of, and `area`, `save`, `saveother`, `return`,
+//! `pokearea`, `cutarea` and `undoarea` for named states.
 use std::fmt::Write;
 
 #[derive(Clone, Debug, PartialEq)]
@@ -39,6 +40,25 @@ pub enum Cmd {
     Cut(usize),
     /// Takes back the last poke or cut and what came after it.
     Undo,
+    /// A new area of so many zeros.
+    Area(usize),
+    /// Saves the panel under this name.
+    Save(u64),
+    /// Saves another panel under this name: its counts, limits and state, in a block as long as this one.
+    SaveOther {
+        name: u64,
+        counts: [u64; 3],
+        max: [u64; 9],
+        text: String,
+    },
+    /// Returns to this name.
+    Return(u64),
+    /// Changes bytes of the area.
+    PokeArea(Vec<(usize, u8)>),
+    /// Lends only so many bytes of the area.
+    CutArea(usize),
+    /// Takes back what was done to the area, and what came after it.
+    UndoArea,
 }
 
 fn hex_or_dash(b: &[u8]) -> String {
@@ -84,6 +104,15 @@ impl Cmd {
             Cmd::Poke(v) => format!("poke {}", list(v, |(i, b)| format!("{i}:{b}"))),
             Cmd::Cut(n) => format!("cut {n}"),
             Cmd::Undo => "undo".into(),
+            Cmd::Area(n) => format!("area {n}"),
+            Cmd::Save(name) => format!("save {name}"),
+            Cmd::SaveOther { name, counts, max, text } => {
+                format!("saveother {name} {} {} {text}", words(counts), words(max))
+            }
+            Cmd::Return(name) => format!("return {name}"),
+            Cmd::PokeArea(v) => format!("pokearea {}", list(v, |(i, b)| format!("{i}:{b}"))),
+            Cmd::CutArea(n) => format!("cutarea {n}"),
+            Cmd::UndoArea => "undoarea".into(),
         }
     }
 
@@ -100,6 +129,12 @@ impl Cmd {
                     Some((a.parse().ok()?, b.parse().ok()?))
                 })
                 .collect()
+        };
+        let some = |from: usize, to: usize| -> Option<Vec<u64>> {
+            w.get(from..to)?.iter().map(|x| x.parse().ok()).collect()
+        };
+        let pokes = || -> Option<Vec<(usize, u8)>> {
+            Some(pairs(w.get(1)?)?.iter().map(|e| (e.0 as usize, e.1 as u8)).collect())
         };
         Some(match *w.first()? {
             "new" => {
@@ -118,19 +153,22 @@ impl Cmd {
                 event: unhex(w.get(3)?)?,
             },
             "rewrite" => Cmd::Rewrite { message: unhex(w.get(1)?)?, room: w.get(2)?.parse().ok()? },
-            "alike" => Cmd::Alike {
-                max: w
-                    .get(1..10)?
-                    .iter()
-                    .map(|x| x.parse().ok())
-                    .collect::<Option<Vec<u64>>>()?
-                    .try_into()
-                    .ok()?,
-                text: w.get(10..)?.join(" "),
-            },
-            "poke" => {
-                Cmd::Poke(pairs(w.get(1)?)?.iter().map(|e| (e.0 as usize, e.1 as u8)).collect())
+            "alike" => {
+                Cmd::Alike { max: some(1, 10)?.try_into().ok()?, text: w.get(10..)?.join(" ") }
             }
+            "poke" => Cmd::Poke(pokes()?),
+            "area" => Cmd::Area(*nums()?.first()? as usize),
+            "save" => Cmd::Save(*nums()?.first()?),
+            "saveother" => Cmd::SaveOther {
+                name: w.get(1)?.parse().ok()?,
+                counts: some(2, 5)?.try_into().ok()?,
+                max: some(5, 14)?.try_into().ok()?,
+                text: w.get(14..)?.join(" "),
+            },
+            "return" => Cmd::Return(*nums()?.first()?),
+            "pokearea" => Cmd::PokeArea(pokes()?),
+            "cutarea" => Cmd::CutArea(*nums()?.first()? as usize),
+            "undoarea" => Cmd::UndoArea,
             "cut" => Cmd::Cut(*nums()?.first()? as usize),
             "undo" => Cmd::Undo,
             _ => return None,

@@ -10,7 +10,7 @@ use borrow.Author.Tests.{eq-eqb, ne-eqb}
 use Rattle.alike.specs.Elements.{Element, element, sameElement, elementOf, bagOf}
 use Rattle.block.specs.View.{stateOf}
 use Rattle.lists.specs.Base.{count}
-use Rattle.time_cache.proofs.Orders.{at-all}
+use Rattle.lists.proofs.Places.{at-all}
 use borrow.Author.Count.{below-more}
 use Rattle.alike.proofs.Lists.{all-no}
 use native.Mathlib.Omega.{arith}

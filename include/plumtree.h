@@ -4,7 +4,8 @@
  * Link libplumtree.a (`rt staticlib plumtree` writes target/staticlib/libplumtree.a, for x86-64 Linux). It needs memcpy, memmove and
  * memset of the C library and nothing else: it has no heap, no thread, no clock, no file, no variable of its own. What a panel knows
  * stands in one block of bytes that its owner lends to each call. examples/c/first_broadcast.c is a program to start from, and
- * examples/c/three_panels.c a host to copy; archive.c and commissioning.c beside them show plumtree_rewrite, plumtree_save and plumtree_return.
+ * examples/c/three_panels.c a host to copy; beside them archive.c shows plumtree_rewrite, commissioning.c plumtree_save and plumtree_return, and
+ * commissioning_sheet.c plumtree_alike.
  *
  *     cc -I include program.c target/staticlib/libplumtree.a
  *
@@ -59,6 +60,8 @@
  *     actions and state; of plumtree_rewrite, from the same message and output length the same answer and bytes; of plumtree_save, from the same
  *     block, counts, area and name the same answer and area; of plumtree_return, from the same block, area and name the same answer, block and,
  *     where it is accepted, counts.
+ *   - "from alike blocks and equal counts, the same list of events, times, link room and output space gives the same answers and actions"
+ *     (plumtree_alike).
  *   - Over a list of calls, from a creation on: no neighbour is passed over (docs/GUARANTEE.md). That speaks of lists in which each call
  *     gets block and counts as the one before left them. Times may go back, calls may be refused, links may hand back what they like.
  *   - "From a return on, the list of calls that the guarantees speak about is the one up to the saving, followed by the calls since the return."
@@ -341,7 +344,7 @@ struct plumtree_answer {
     size_t length;
 };
 
-/* Whether two blocks are alike; number 5, and then alike is false, where either is not whole. */
+/* Whether two blocks are alike (plumtree_alike); number 5, and then alike is false, where either is not whole. */
 struct plumtree_likeness {
     uint8_t number;
     bool alike;
@@ -373,8 +376,12 @@ struct plumtree_answer plumtree_event(uint8_t *block, size_t block_length, struc
                                       size_t output_length);
 
 /*
- * Whether two blocks hold the same: "yes exactly when own peer number, settings, limits, sets, flags and maps agree, order inside queue,
- * record, announcer and expiry lists ignored, repeats counted". Comparing bytes says less: equal states can be laid out in different bytes.
+ * Whether two blocks hold the same: "yes exactly when own peer number, settings, limits, sets, flags and maps agree". It "also compares the order of
+ * announcers, queues and records, and the order of expiry entries of one time". Each neighbour has a queue and a record of its own: how the rows of
+ * different neighbours are interleaved in the block is not compared, nor the length of the blocks, nor bytes that hold nothing. Comparing bytes says
+ * less: alike blocks can be laid out in different bytes. Asks 5 of either block, and nothing else; nothing is written.
+ * From alike blocks and equal counts the same calls give the same answers, refusals too, and the same actions; then the blocks are alike and the counts
+ * equal again. The counts are no part of the block, and are compared by the host (docs/LINKING.md, What a commissioning sheet can rely on).
  */
 struct plumtree_likeness plumtree_alike(const uint8_t *a, size_t a_length, const uint8_t *b, size_t b_length);
 

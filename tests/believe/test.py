@@ -10,12 +10,12 @@ import believe
 IN = """
 lists.Base.if_then_else_ lists.Map.insert rows.Digits.leNat postcard.Number._then_ postcard.Decode.decodeEvent postcard.Sizes.perMessage postcard.Told.Leaves postcard.Rewrite.rewrite postcard.src.units.Round
 time_cache.TimeCache.expireUntil blake3.Blake3.compressed protocol.State.create protocol.Whole.wholeState protocol.Gossips.optimizeTree protocol.Answer.answerBlock
-protocol.Demand3.metFull protocol.Alike.sameBag protocol.Panel.panelrun block.src.head.Config block.Header.headIn block.View.stateOf whole.Held.held states.Kept.keep states.Area.areaHolds states.Calls.Saves machine.Called.Finds
+protocol.Demand3.metFull protocol.Alike.sameNotes protocol.Panel.panelrun block.src.head.Config block.Header.headIn block.View.stateOf whole.Held.held states.Kept.keep states.Area.areaHolds states.Calls.Saves machine.Called.Finds
 machine.Called.callOf plumtree.Calls.Made plumtree.Calls.entries plumtree.lib.plumtree_alike records.Running.closing panel.Runs.Runs
 """
 OUT = """
 rows.Part.Only rows.Sorted.Ascending refs.Once.Numbers postcard.Message.eventBytes postcard.Output.Room postcard.Events.Decodes postcard.Rewrite.ShortestForm rewrite.Answers.numberOf blake3.WordOrder.order
-protocol.Demand3.Demand3 decide.Settled.settled block.Goes.Goes block.Sound.Sound states.Area.LeftBy states.Calls.Placed histories.History.Step steps.Stands.Stands kinds.Meaning.peerOf machine.Core.Begun machine.Core.coreRooms
+protocol.Demand3.Demand3 protocol.AlikeUnordered.sameBag decide.Settled.settled alike.Notes.NextOf block.Goes.Goes block.Sound.Sound states.Area.LeftBy states.Calls.Placed alike_calls.Peerwise.Like histories.History.Step histories.Sheet.SameSeen steps.Stands.Stands kinds.Meaning.peerOf machine.Core.Begun machine.Core.coreRooms
 machine.Decided.decided machine.Outcomes.Asked plumtree.Rooms.Found plumtree.Peers.Sender records.Reading.Whole panel.Places.Inside
 """
 

@@ -1,6 +1,6 @@
 #!/usr/bin/env bash
 # The library called from C: the headers by themselves as C and C++, the examples with what they print, what a host loses readings by, each
-# number's text, each refusal, and named states beside a model, all under valgrind.
+# number's text, each refusal, which panels are alike, and named states beside a model, all under valgrind.
 # PLUMTREE_LIB_DIR can name the directory of another libplumtree.a than the proved one.
 set -euo pipefail
 cd "$(dirname "$0")/../.."
@@ -28,7 +28,7 @@ makes=$(nm "$lib/libplumtree.a" | sed -n 's/^[0-9a-f]* [A-Z] //p' | sort -u)
 [ -z "$(nm "$lib/libplumtree.a" | grep -E ' [bBdDcC] ' || true)" ] || die "libplumtree.a has a variable of its own"
 
 # The examples, as their comments build them.
-for example in first_broadcast three_panels archive commissioning; do
+for example in first_broadcast three_panels archive commissioning commissioning_sheet; do
     # shellcheck disable=SC2086
     gcc -std=c99 -g $strict -I include -o "$out/$example" "examples/c/$example.c" "$lib/libplumtree.a"
     $under_valgrind "$out/$example" | diff "examples/c/$example.expected" -
@@ -42,7 +42,7 @@ $under_valgrind "$out/host_rules" 1 >/dev/null
 
 # docs/LINKING.md shows what they print.
 linking=$(cat docs/LINKING.md)
-for printed in examples/c/first_broadcast examples/c/three_panels examples/c/archive examples/c/commissioning tests/c/host_rules; do
+for printed in examples/c/first_broadcast examples/c/three_panels examples/c/archive examples/c/commissioning examples/c/commissioning_sheet tests/c/host_rules; do
     case $linking in *"$(sed 's/^/    /; s/ *$//' "$printed.expected")"*) ;; *) die "docs/LINKING.md does not show $printed.expected" ;; esac
 done
 
@@ -61,6 +61,11 @@ done
 g++ -std=c++11 -g $strict -I include -I examples/c -o "$out/calls_cpp" -x c++ tests/c/calls.c -x none "$lib/libplumtree.a"
 "$out/calls_cpp" >/dev/null
 
+# Whether two panels are alike, in each order that is seen and each that is not.
+# shellcheck disable=SC2086
+gcc -std=c99 -g $strict -I include -I examples/c -o "$out/alike" tests/c/alike.c "$lib/libplumtree.a"
+$under_valgrind "$out/alike"
+
 # Named states beside a model: the histories and every bit of an area changed; fewer of both under valgrind.
 # shellcheck disable=SC2086
 gcc -std=c99 -O2 -g $strict -I include -I examples/c -o "$out/states" tests/c/states.c "$lib/libplumtree.a"
@@ -71,4 +76,4 @@ $under_valgrind "$out/states" 12000 397 >/dev/null
 # shellcheck disable=SC2086
 gcc -std=c99 -O2 $strict -pthread -I include -I examples/c -o "$out/stack" tests/c/stack.c "$lib/libplumtree.a"
 "$out/stack"
-echo "tests/c: the headers, the examples, the rules of a host, each refusal and named states are as promised"
+echo "tests/c: the headers, the examples, the rules of a host, each refusal, which panels are alike and named states are as promised"

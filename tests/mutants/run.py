@@ -86,7 +86,7 @@ def judge(beside, lib):
     if m:
         why = m.group(2)
         why = re.sub(r'^creation: me .*: ([^:]*)$', r'creation: \1', why)
-        why = re.sub(r'[:,] the Rust.*', '', why)
+        why = re.sub(r'[:,] the (Rust|model).*', '', why)
         why = re.sub(r'(answer|creation).*', r'\1', why) if why.startswith(('answer', 'creation')) else why
         return 'caught', m.group(1), why.strip(' :').replace('|', '/')[:70]
     m = re.search(r'seed \d+: (\d+) calls .* 0 different', out)

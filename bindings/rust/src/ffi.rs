@@ -101,7 +101,7 @@ pub fn event(block: &mut [u8], counts: &mut Stats, at: u64, event: &[u8], rooms:
     }
 }
 
-/// Whether two blocks are alike: the same state, the order inside queue, record, announcer and expiry lists ignored.
+/// Whether two blocks are alike: they hold the same, each list in its order ([`alike`](crate::alike)).
 pub fn alike(a: &[u8], b: &[u8]) -> Likeness {
     // SAFETY: both are shared references, valid for reading; they may be the same.
     unsafe { plumtree_alike(a.as_ptr(), a.len(), b.as_ptr(), b.len()) }

@@ -54,8 +54,35 @@ pub fn block_size(limits: Limits) -> Option<usize> {
     }
 }
 
-/// Whether two blocks hold the same: "yes exactly when own peer number, settings, limits, sets, flags and maps agree, order inside queue, record,
-/// announcer and expiry lists ignored, repeats counted". [`Error::BlockNotWhole`] for either.
+/// Whether two blocks hold the same: "yes exactly when own peer number, settings, limits, sets, flags and maps agree". It "also compares the order of
+/// announcers, queues and records, and the order of expiry entries of one time". Each neighbour has a queue and a record of its own: how the rows of
+/// different neighbours are interleaved in the block is not compared, nor the length of the blocks. [`Error::BlockNotWhole`] for either.
+///
+/// From alike blocks and equal counts the same calls give the same answers, refusals too, and the same actions; then the blocks are alike and the
+/// counts equal again. So a commissioning sheet that was taken with one panel serves for the other.
+///
+/// ```
+/// use plumtree::{Error, Event, Limits, LinkRoom, Panel, Scope, Settings};
+///
+/// # fn main() -> Result<(), Error> {
+/// // The link to 2 hands back two readings, each told at its time.
+/// let panel = |readings: [(u64, &[u8]); 2]| -> Result<Panel, Error> {
+///     let mut panel = Panel::new(Settings::of_panel(1), Limits::SMALL)?;
+///     let mut output = vec![0; 40960];
+///     panel.event(0, &Event::Up(2), &[], &mut output)?;
+///     for (at, content) in readings {
+///         panel.event(at, &Event::Broadcast { content, scope: Scope::Swarm }, &[LinkRoom { peer: 2, room: 0 }], &mut output)?;
+///     }
+///     Ok(panel)
+/// };
+/// let one = panel([(5, b"1/17"), (10, b"1/18")])?;
+/// assert!(one.alike(&panel([(5, b"1/17"), (10, b"1/18")])?)?);
+///
+/// // The clock was set back in between: the same identifiers stand recorded for 2, in another order, and are announced in that order.
+/// assert!(!one.alike(&panel([(10, b"1/18"), (5, b"1/17")])?)?);
+/// # Ok(())
+/// # }
+/// ```
 pub fn alike(a: &[u8], b: &[u8]) -> Result<bool, Error> {
     let answer = raw::alike(a, b);
     Error::check(answer.number)?;
@@ -225,7 +252,7 @@ impl<B: AsRef<[u8]> + AsMut<[u8]>> Panel<B> {
         (self.block, self.stats)
     }
 
-    /// Whether two panels hold the same, the counts apart: [`alike`].
+    /// Whether two panels hold the same, the counts apart: [`alike`]. With equal counts too ([`Panel::stats`]), the same calls give the same.
     pub fn alike<C: AsRef<[u8]>>(&self, other: &Panel<C>) -> Result<bool, Error> {
         alike(self.block.as_ref(), other.block.as_ref())
     }

@@ -12,9 +12,11 @@ use Rattle.lists.specs.Base.{if_then_else_}
 use Rattle.lists.proofs.MapLaws.{and-left, and-right, and-intro}
 use Rattle.protocol.specs.State.{State, limitsInRange, blockNeed}
 use Rattle.protocol.specs.Whole.{whole, longEnough, wholeState}
+use Rattle.protocol.proofs.Consistent.{whole-consistent}
 use Rattle.protocol.specs.Alike.{notWhole, likenessOf}
 use Rattle.block.specs.View.{limitsOf, stateOf}
 use Rattle.block.specs.Layout.{tables}
+use Rattle.block.specs.LinkSteps.{LinksAscend}
 use Rattle.block.specs.Header.{wordAt, headIn}
 use Rattle.block.specs.declared.head.Head.{Head}
 use Rattle.whole.specs.Held.{hasHeader, hasTables, countsWithin, laidOut, holdsWith, held, wholeHeld, wholeBlock}
@@ -37,6 +39,9 @@ module _ (xs : List ℕ) (w : Wholly xs) where
   pub has-header : 2048 ≤ length xs
   unfolding hasHeader
   has-header = leb-true 2048 (length xs) (and-left (leb 2048 (length xs)) (leb (wordAt 24 xs) 65535) (w .header))
+
+  pub links-ascend : LinksAscend (headIn xs) xs
+  links-ascend = whole-consistent (stateOf (headIn xs) xs) (w .whole) .core .linksUp
 
   long : longEnough (length xs) (stateOf (headIn xs) xs) ≡ true
   unfolding longEnough stateOf holdsWith hasTables

@@ -22,25 +22,18 @@ use Rattle.time_cache.specs.declared.cache.TimeBoundCache.{TimeBoundCache}
 use Rattle.protocol.specs.Links.{Mark, eager}
 use Rattle.protocol.specs.State.{State, Limits, Hop, Grafts}
 use Rattle.block.specs.Layout.{sizes, place, table}
-use Rattle.block.specs.View.{limitsOf, stateOf, byteAt, halfAt, idAt, flagOf, onlyIf, missedOf, missingIn, timersIn, notesIn, graftsOf, noteOf}
+use Rattle.block.specs.View.{limitsOf, stateOf, byteAt, halfAt, idAt, flagOf, onlyIf, missedOf, missingIn, timersIn, graftsOf}
 use Rattle.block.specs.Fit.{Fit}
 use Rattle.block.specs.Sound.{Sound}
 use Rattle.block.specs.LinkSteps.{linkAt, peerAt}
-use Rattle.block.specs.MissingSteps.{missedAt, hopsAt}
+use Rattle.block.specs.MissingSteps.{missedAt}
 use Rattle.block.specs.declared.head.Head.{Head}
-use Rattle.block.proofs.Tables.{view-at, field-in, byte-in, length-table, length-view}
-use Rattle.refs.proofs.Numbered.{length-numbered}
+use Rattle.block.proofs.Tables.{view-at, field-in, byte-in, length-view}
 use Rattle.block.specs.TimeCaches.{cacheFrom}
 use Rattle.caches.specs.GraftSteps.{graftsAt}
 use Rattle.caches.proofs.CacheLaws.{refs-in, rows-in}
 use Rattle.caches.proofs.GraftLaws.{grafted-entry}
-use Rattle.block.proofs.MissingLaws.{missed-few, missed-count}
-use Rattle.caches.proofs.ReceivedLaws.{count-received-rows}
-use Rattle.caches.proofs.GraftedLaws.{count-grafted-rows}
-use Rattle.caches.proofs.CachedLaws.{count-cached-rows}
-use Rattle.alike.specs.Elements.{element, noteElement, hopElement, expiryElement, bagOf, InState}
-use Rattle.alike.specs.declared.bags.Bag.{Bag}
-use Rattle.alike.specs.declared.bags.Bag.the-variants.{Queue, Record, Received, Grafted, Cached, Announcers}
+use Rattle.alike.specs.Elements.{element, expiryElement}
 
 -- timer i, and the identifier of missing message i
 pub timer-read : (h : Head) (xs : List ℕ) (i a : ℕ) → Fit h xs → i < h .live .timers → a ≡ place (limitsOf (h .limits)) 10
@@ -66,19 +59,7 @@ missed-read h xs i a fit q e =
 pub peer-key : (s : State) (i : ℕ) → peerAt s i ≡ linkAt s i .key
 peer-key s i = List·getD-map (λ (e : Entry Mark). e .key) (s .links) i (entry 0 eager)
 
--- the notes
-pub count-queue : (h : Head) (xs : List ℕ) → Fit h xs → length (stateOf h xs .queue) ≡ h .live .queued
-unfolding stateOf notesIn
-count-queue h xs fit =
-    let l : Limits = limitsOf (h .limits) in
-    length-numbered (noteOf (keys (stateOf h xs .links))) 34 (h .live .queued) (table l 11 xs) (table l 12 xs) (omega (arith, length-table l 11 xs (lit< tt) (fit .long), fit .within .queued))
-
-pub count-dropped : (h : Head) (xs : List ℕ) → Fit h xs → length (stateOf h xs .dropped) ≡ h .live .dropped
-unfolding stateOf notesIn
-count-dropped h xs fit =
-    let l : Limits = limitsOf (h .limits) in
-    length-numbered (noteOf (keys (stateOf h xs .links))) 34 (h .live .dropped) (table l 13 xs) (table l 14 xs) (omega (arith, length-table l 13 xs (lit< tt) (fit .long), fit .within .dropped))
-
+-- how many missing messages and timers there are
 pub count-missing : (h : Head) (xs : List ℕ) → length (stateOf h xs .missing) ≡ h .live .missing
 unfolding stateOf missingIn
 count-missing h xs = length-view (missedOf (keys (stateOf h xs .links))) 129 (h .live .missing) (table (limitsOf (h .limits)) 9 xs)
@@ -164,12 +145,3 @@ place-below c xs m i b h =
     let es : List Ref = refsAt c xs in
     let le : length es ≡ c .entries .len = length-refs (c .entries .stride) (c .entries .len) (drop (c .entries .at) xs) in
     omega (arith, b .below i (omega (arith, le, length-map es (λ (r : Ref). r .place))), getD-map-in (λ (r : Ref). r .place) es i 0 (ref 0 []) (omega (arith, le)))
-
--- no list has more than 8,192 elements
-pub bag-few : (bag : Bag) (h : Head) (xs : List ℕ) → Sound h xs → InState bag (h .live) → length (bagOf bag (stateOf h xs)) ≤ 8192
-bag-few Queue h xs sound q = omega (arith, length-map (stateOf h xs .queue) noteElement, count-queue h xs (sound .fit), sound .fit)
-bag-few Record h xs sound q = omega (arith, length-map (stateOf h xs .dropped) noteElement, count-dropped h xs (sound .fit), sound .fit)
-bag-few Received h xs sound q = omega (arith, length-map (stateOf h xs .received .expiry) expiryElement, count-received-rows h xs (sound .fit), sound .fit)
-bag-few Grafted h xs sound q = omega (arith, length-map (stateOf h xs .grafted .expiry) expiryElement, count-grafted-rows h xs (sound .fit), sound .fit)
-bag-few Cached h xs sound q = omega (arith, length-map (stateOf h xs .cache .expiry) expiryElement, count-cached-rows h xs (sound .fit), sound .fit)
-bag-few (Announcers i) h xs sound q = omega (arith, length-map (hopsAt (stateOf h xs) i) hopElement, missed-few h xs sound i q, missed-count h xs sound i q)

@@ -16,7 +16,7 @@ use Rattle.time_cache.specs.Steps.{refAt}
 use Rattle.time_cache.specs.declared.cache.TimeBoundCache.{TimeBoundCache}
 use Rattle.protocol.specs.Links.{eager}
 use Rattle.protocol.specs.State.{State, Limits, Grafts, Cached}
-use Rattle.protocol.specs.Alike.{sameBag, sameMap, sameOption, sameMark, sameHop, sameGrafts, sameCached, sameUnit}
+use Rattle.protocol.specs.Alike.{sameList, sameMap, sameOption, sameMark, sameHop, sameGrafts, sameCached, sameUnit}
 use Rattle.block.specs.Layout.{table}
 use Rattle.block.specs.View.{stateOf, limitsOf, onlyIf, receivedIn, graftedIn, cachedIn, nothingOf, graftsOf, cachedOf}
 use Rattle.block.specs.Fit.{Fit}
@@ -33,11 +33,11 @@ use Rattle.alike.specs.Rows.{sameEntry, sameTimed, receivedAt, cachedEnt
 use Rattle.alike.specs.declared.tables.Table.{Table}
 use Rattle.alike.specs.declared.tables.Table.the-variants.{Links, Missing, Timers, Received, Grafted, Cached as CachedRows}
 use Rattle.alike.specs.declared.tables.Sender.{Sender}
-use Rattle.alike.proofs.Lists.{and-yes, list-yes, list-no, list-length}
+use Rattle.alike.proofs.Lists.{and-yes, no-round, list-yes, list-no, list-length}
 use Rattle.alike.proofs.BlockReads.{entry-read, place-read, count-missing, count-timers}
 
 -- key and expiry first, then the value
-swap : (t k v : Bool) → ((t && k && true) && v) ≡ (k && (t && v))
+swap : (t k v : Bool) → ((t && k) && v) ≡ (k && (t && v))
 swap true true v = refl
 swap true false v = refl
 swap false true v = refl
@@ -47,9 +47,8 @@ abbrev pub keyOf : {A : Type 0} → Entry (Timed A) → Element
 keyOf x = element (x .value .expires) (x .key) 0
 
 pub entry-same : {A : Type 0} (same : A → A → Bool) (x y : Entry (Timed A)) → sameEntry (sameTimed same) x y ≡ (sameElement (keyOf x) (keyOf y) && same (x .value .value) (y .value .value))
-unfolding sameElement
 entry-same same x y =
-    sym (ap (λ (b : Bool). (eqb (x .value .expires) (y .value .expires) && eqb (x .key) (y .key) && b) && same (x .value .value) (y .value .value)) (eq-eqb 0 0 refl)
+    sym (ap (λ (b : Bool). b && same (x .value .value) (y .value .value)) (no-round (x .value .expires) (y .value .expires) (x .key) (y .key))
     ∙ swap (eqb (x .value .expires) (y .value .expires)) (eqb (x .key) (y .key)) (same (x .value .value) (y .value .value)))
 
 -- `kept` has no round
@@ -124,7 +123,7 @@ module _ (ha : Head) (a : List ℕ) (hb : Head) (b : List ℕ) (fa : Fit ha a) (
   pub rows-yes : (t : Table) → rowsOf t (ha .live) ≡ rowsOf t (hb .live) → ((k : ℕ) → k < rowsOf t (ha .live) → sameRow t s u k ≡ true) → sameRows t s u ≡ true
   unfolding sameMap
   rows-yes Links e h = list-yes (sameEntry sameMark) (entry 0 eager) (s .links) (u .links) (count-links ha a ∙ e ∙ sym (count-links hb b)) (λ k q. h k (omega (arith, q, count-links ha a)))
-  rows-yes Missing e h = list-yes (sameEntry (sameBag sameHop)) (entry 0 []) (s .missing) (u .missing) (count-missing ha a ∙ e ∙ sym (count-missing hb b)) (λ k q. h k (omega (arith, q, count-missing ha a)))
+  rows-yes Missing e h = list-yes (sameEntry (sameList sameHop)) (entry 0 []) (s .missing) (u .missing) (count-missing ha a ∙ e ∙ sym (count-missing hb b)) (λ k q. h k (omega (arith, q, count-missing ha a)))
   rows-yes Timers e h = list-yes eqb 0 (s .timers .graft) (u .timers .graft) (count-timers ha a ∙ e ∙ sym (count-timers hb b)) (λ k q. h k (omega (arith, q, count-timers ha a)))
   rows-yes Received e h = list-yes (sameEntry (sameTimed sameUnit)) noReceived (s .received .entries) (u .received .entries) (count-received ha a fa ∙ e ∙ sym (count-received hb b fb)) (λ k q. h k (omega (arith, q, count-received ha a fa)))
   rows-yes Grafted e h = list-yes (sameEntry (sameTimed sameGrafts)) noGrafted (s .grafted .entries) (u .grafted .entries) (count-grafted ha a fa ∙ e ∙ sym (count-grafted hb b fb)) (λ k q. h k (omega (arith, q, count-grafted ha a fa)))
@@ -133,7 +132,7 @@ module _ (ha : Head) (a : List ℕ) (hb : Head) (b : List ℕ) (fa : Fit ha a) (
   pub rows-no : (t : Table) (k : ℕ) → k < rowsOf t (ha .live) → k < rowsOf t (hb .live) → sameRow t s u k ≡ false → sameRows t s u ≡ false
   unfolding sameMap
   rows-no Links k p q e = list-no (sameEntry sameMark) (entry 0 eager) (s .links) (u .links) k (omega (arith, count-links ha a)) (omega (arith, count-links hb b)) e
-  rows-no Missing k p q e = list-no (sameEntry (sameBag sameHop)) (entry 0 []) (s .missing) (u .missing) k (omega (arith, count-missing ha a)) (omega (arith, count-missing hb b)) e
+  rows-no Missing k p q e = list-no (sameEntry (sameList sameHop)) (entry 0 []) (s .missing) (u .missing) k (omega (arith, count-missing ha a)) (omega (arith, count-missing hb b)) e
   rows-no Timers k p q e = list-no eqb 0 (s .timers .graft) (u .timers .graft) k (omega (arith, count-timers ha a)) (omega (arith, count-timers hb b)) e
   rows-no Received k p q e = list-no (sameEntry (sameTimed sameUnit)) noReceived (s .received .entries) (u .received .entries) k (omega (arith, count-received ha a fa)) (omega (arith, count-received hb b fb)) e
   rows-no Grafted k p q e = list-no (sameEntry (sameTimed sameGrafts)) noGrafted (s .grafted .entries) (u .grafted .entries) k (omega (arith, count-grafted ha a fa)) (omega (arith, count-grafted hb b fb)) e
@@ -142,7 +141,7 @@ module _ (ha : Head) (a : List ℕ) (hb : Head) (b : List ℕ) (fa : Fit ha a) (
   pub rows-length : (t : Table) → (rowsOf t (ha .live) ≡ rowsOf t (hb .live) → ⊥) → sameRows t s u ≡ false
   unfolding sameMap
   rows-length Links n = list-length (sameEntry sameMark) (entry 0 eager) (s .links) (u .links) (λ e. n (sym (count-links ha a) ∙ e ∙ count-links hb b))
-  rows-length Missing n = list-length (sameEntry (sameBag sameHop)) (entry 0 []) (s .missing) (u .missing) (λ e. n (sym (count-missing ha a) ∙ e ∙ count-missing hb b))
+  rows-length Missing n = list-length (sameEntry (sameList sameHop)) (entry 0 []) (s .missing) (u .missing) (λ e. n (sym (count-missing ha a) ∙ e ∙ count-missing hb b))
   rows-length Timers n = list-length eqb 0 (s .timers .graft) (u .timers .graft) (λ e. n (sym (count-timers ha a) ∙ e ∙ count-timers hb b))
   rows-length Received n = list-length (sameEntry (sameTimed sameUnit)) noReceived (s .received .entries) (u .received .entries) (λ e. n (sym (count-received ha a fa) ∙ e ∙ count-received hb b fb))
   rows-length Grafted n = list-length (sameEntry (sameTimed sameGrafts)) noGrafted (s .grafted .entries) (u .grafted .entries) (λ e. n (sym (count-grafted ha a fa) ∙ e ∙ count-grafted hb b fb))

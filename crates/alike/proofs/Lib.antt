@@ -1,6 +1,6 @@
--- Laws on plain values. Lists: lists and bags by their elements. Walks: elements chained by buckets. BlockReads: what is read from a block. Entries: rows of the tables. Answers: the answer.
+-- Laws on plain values. Lists: lists by their elements. ByLink: the notes of a link. BlockReads: what is read from a block. Entries: rows of the tables. Answers: the answer.
 pub mod Lists
-pub mod Walks
+pub mod ByLink
 pub mod BlockReads
 pub mod Entries
 pub mod Answers

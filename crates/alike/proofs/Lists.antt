@@ -1,25 +1,32 @@
--- Lists and bags, compared by their elements.
+-- Lists, compared by their elements.
 -- Assumes nothing.
 use mathlib.Core.Path.{_≡_, refl, sym, ap, _∙_}
+use mathlib.Core.Logic.{_⊎_, inl, inr}
 use mathlib.Core.Bool.{Bool, true, false, not, _&&_, Bool·beq}
 use mathlib.Core.List.{List, [], _∷_, map}
-use Prim.Native.Nat.{ℕ, zero, suc, _<_, zero-le, suc-le-suc}
+use mathlib.Core.Option.{none}
+use Prim.Native.Nat.{ℕ, zero, suc, _+_, _-_, _≤_, _<_, zero-le, suc-le-suc}
 use native.Mathlib.Nat.{le-of-suc-le-suc, not-suc-le-zero}
 use native.Mathlib.Omega.{arith}
-use borrow.Author.Tests.{eq-eqb}
+use borrow.Author.Tests.{eq-eqb, eqb-true}
 use lib.Dec.{eqb}
 use lib.ListN.{length, getD}
-use Rattle.lists.specs.Base.{if_then_else_, all, count}
-use Rattle.lists.proofs.MapLaws.{cases, true≢, and-intro}
-use Rattle.lists.proofs.ListLaws.{all-map, count-same}
-use Rattle.lists.proofs.Places.{all-at}
+use Rattle.lists.specs.Base.{if_then_else_}
+use Rattle.lists.specs.Map.{Map, keys}
+use Rattle.lists.proofs.MapLaws.{true≢, and-left, and-right, and-intro}
+use Rattle.rows.specs.Part.{part}
+use Rattle.rows.specs.Digits.{leNat, leBytes}
+use Rattle.rows.proofs.Digits.{Bytes, leBytes-leNat}
+use Rattle.rows.proofs.Parts.{length-part, getD-part}
+use Rattle.rows.proofs.Turns.{part-bytes}
+use Rattle.refs.proofs.Shifts.{low-or-high}
 use Rattle.time_cache.specs.TimeCache.{Expiry}
-use Rattle.protocol.specs.State.{Note, Hop}
-use mathlib.Core.Option.{none}
 use Rattle.protocol.specs.Links.{Mark, eager, lazy, isEager}
+use Rattle.protocol.specs.State.{Hop}
+use Rattle.protocol.specs.Alike.{sameList, sameMap, sameOption, sameMark, sameHop, sameExpiry}
 use Rattle.block.specs.View.{flagOf, onlyIf}
-use Rattle.protocol.specs.Alike.{sameList, sameBag, sameOption, sameMark, sameNote, sameHop, sameExpiry}
-use Rattle.alike.specs.Elements.{sameElement, noteElement, hopElement, expiryElement}
+use Rattle.alike.specs.Elements.{element, sameElement, hopElement, graftElement, expiryElement}
+use Rattle.alike.specs.Rows.{sameEntry, SameUpTo}
 
 -- one of two tests is false
 pub and-no : (a b : Bool) → b ≡ false → (a && b) ≡ false
@@ -64,61 +71,49 @@ module _ {A : Type 0} (p : A → A → Bool) (d : A) where
   list-length (x ∷ xs) [] n = refl
   list-length (x ∷ xs) (y ∷ ys) n = and-no (p x y) (sameList p xs ys) (list-length xs ys (λ e. n (ap suc e)))
 
--- a test that one element does not pass
-pub all-no : {A : Type 0} (f : A → Bool) (d : A) (xs : List A) (i : ℕ) → i < length xs → f (getD xs i d) ≡ false → all f xs ≡ false
-all-no f d xs i h e = cases (all f xs) (λ t. true≢ (sym e ∙ all-at f d xs t i h)) (λ t. t)
+-- lists of elements that stand for others
+list-map : {A B : Type 0} (s : B → B → Bool) (t : A → A → Bool) (f : A → B) → ((x y : A) → s (f x) (f y) ≡ t x y) → (xs ys : List A) → sameList s (map f xs) (map f ys) ≡ sameList t xs ys
+unfolding sameList
+list-map s t f e [] [] = refl
+list-map s t f e [] (y ∷ ys) = refl
+list-map s t f e (x ∷ xs) [] = refl
+list-map s t f e (x ∷ xs) (y ∷ ys) = λ k. e x y k && list-map s t f e xs ys k
 
-all-same : {A : Type 0} (f g : A → Bool) → ((x : A) → f x ≡ g x) → (xs : List A) → all f xs ≡ all g xs
-unfolding all
-all-same f g e [] = refl
-all-same f g e (x ∷ xs) = λ k. if e x k then all-same f g e xs k else false
+-- an element without identifier, and one without round
+no-id : (p q r u : ℕ) → sameElement (element p 0 r) (element q 0 u) ≡ (eqb p q && eqb r u)
+unfolding sameElement
+no-id p q r u = ap (λ (t : Bool). eqb p q && t && eqb r u) (eq-eqb 0 0 refl) ∙ and-mid (eqb p q) (eqb r u)
+  where
+    and-mid : (a b : Bool) → (a && true && b) ≡ (a && b)
+    and-mid true b = refl
+    and-mid false b = refl
 
-count-step : (b : Bool) (m n : ℕ) → m ≡ n → (if b then suc m else m) ≡ (if b then suc n else n)
-count-step b m n e = ap (λ (k : ℕ). if b then suc k else k) e
+pub no-round : (t u k l : ℕ) → sameElement (element t k 0) (element u l 0) ≡ (eqb t u && eqb k l)
+unfolding sameElement
+no-round t u k l = ap (λ (b : Bool). eqb t u && eqb k l && b) (eq-eqb 0 0 refl) ∙ and-yes (eqb t u && eqb k l)
 
-count-map : {A B : Type 0} (g : B → Bool) (f : A → B) (xs : List A) → count g (map f xs) ≡ count (λ x. g (f x)) xs
-unfolding count
-count-map g f [] = refl
-count-map g f (x ∷ xs) = count-step (g (f x)) (count g (map f xs)) (count (λ x. g (f x)) xs) (count-map g f xs)
+pub list-hops : (xs ys : List Hop) → sameList sameElement (map hopElement xs) (map hopElement ys) ≡ sameList sameHop xs ys
+unfolding sameHop
+list-hops xs ys = list-map sameElement sameHop hopElement (λ x y. no-id (x .peer) (y .peer) (x .round) (y .round)) xs ys
 
--- bags of elements that stand for others
-module _ {A B : Type 0} (s : B → B → Bool) (t : A → A → Bool) (f : A → B) (e : (x y : A) → s (f x) (f y) ≡ t x y) where
-  counts : (x : A) (xs : List A) → count (s (f x)) (map f xs) ≡ count (t x) xs
-  counts x xs = count-map (s (f x)) f xs ∙ count-same (λ y. s (f x) (f y)) (t x) (e x) xs
+pub list-grafts : (xs ys : Map ℕ) → sameList sameElement (map graftElement xs) (map graftElement ys) ≡ sameMap eqb xs ys
+unfolding sameMap
+list-grafts xs ys = list-map sameElement (sameEntry eqb) graftElement (λ x y. no-id (x .key) (y .key) (x .value) (y .value)) xs ys
 
-  bag-half : (zs xs ys : List A) → all (λ z. eqb (count (s z) (map f xs)) (count (s z) (map f ys))) (map f zs) ≡ all (λ z. eqb (count (t z) xs) (count (t z) ys)) zs
-  bag-half zs xs ys =
-      all-map (λ z. eqb (count (s z) (map f xs)) (count (s z) (map f ys))) f zs
-      ∙ all-same (λ z. eqb (count (s (f z)) (map f xs)) (count (s (f z)) (map f ys))) (λ z. eqb (count (t z) xs) (count (t z) ys)) (λ z. λ k. eqb (counts z xs k) (counts z ys k)) zs
+pub list-expiry : (xs ys : List Expiry) → sameList sameElement (map expiryElement xs) (map expiryElement ys) ≡ sameList sameExpiry xs ys
+unfolding sameExpiry
+list-expiry xs ys = list-map sameElement sameExpiry expiryElement (λ x y. no-round (x .time) (y .time) (x .key) (y .key)) xs ys
 
-  pub bag-map : (xs ys : List A) → sameBag s (map f xs) (map f ys) ≡ sameBag t xs ys
-  unfolding sameBag
-  bag-map xs ys = λ k. bag-half xs xs ys k && bag-half ys xs ys k
-
-same-note : (x y : Note) → sameElement (noteElement x) (noteElement y) ≡ sameNote x y
-unfolding sameElement sameNote
-same-note x y = refl
-
-and-mid : (a b : Bool) → (a && true && b) ≡ (a && b)
-and-mid true b = refl
-and-mid false b = refl
-
-same-hop : (x y : Hop) → sameElement (hopElement x) (hopElement y) ≡ sameHop x y
-unfolding sameElement sameHop
-same-hop x y = ap (λ (t : Bool). eqb (x .peer) (y .peer) && t && eqb (x .round) (y .round)) (eq-eqb 0 0 refl) ∙ and-mid (eqb (x .peer) (y .peer)) (eqb (x .round) (y .round))
-
-same-expiry : (x y : Expiry) → sameElement (expiryElement x) (expiryElement y) ≡ sameExpiry x y
-unfolding sameElement sameExpiry
-same-expiry x y = ap (λ (t : Bool). eqb (x .time) (y .time) && eqb (x .key) (y .key) && t) (eq-eqb 0 0 refl) ∙ and-yes (eqb (x .time) (y .time) && eqb (x .key) (y .key))
-
-pub bag-notes : (xs ys : List Note) → sameBag sameElement (map noteElement xs) (map noteElement ys) ≡ sameBag sameNote xs ys
-bag-notes xs ys = bag-map sameElement sameNote noteElement same-note xs ys
-
-pub bag-hops : (xs ys : List Hop) → sameBag sameElement (map hopElement xs) (map hopElement ys) ≡ sameBag sameHop xs ys
-bag-hops xs ys = bag-map sameElement sameHop hopElement same-hop xs ys
-
-pub bag-expiry : (xs ys : List Expiry) → sameBag sameElement (map expiryElement xs) (map expiryElement ys) ≡ sameBag sameExpiry xs ys
-bag-expiry xs ys = bag-map sameElement sameExpiry expiryElement same-expiry xs ys
+-- maps that agree have the same keys
+pub same-keys : {A : Type 0} (same : A → A → Bool) (m n : Map A) → sameMap same m n ≡ true → keys m ≡ keys n
+unfolding sameMap sameList
+same-keys same [] [] h = refl
+same-keys same [] (e ∷ n) h = true≢ h
+same-keys same (d ∷ m) [] h = true≢ h
+same-keys same (d ∷ m) (e ∷ n) h =
+    let here : Bool = sameEntry same d e in
+    let rest : Bool = sameMap same m n in
+    λ k. eqb-true (d .key) (e .key) (and-left (eqb (d .key) (e .key)) (same (d .value) (e .value)) (and-left here rest h)) k ∷ same-keys same m n (and-right here rest h) k
 
 -- a flag in a byte
 pub flag-is : (b : ℕ) → not (eqb b 0) ≡ flagOf b
@@ -140,3 +135,20 @@ mark-same eager eager = refl
 mark-same eager lazy = refl
 mark-same lazy eager = refl
 mark-same lazy lazy = refl
+
+-- words of bytes that agree
+module _ (i : ℕ) (xs ys : List ℕ) (bytes : Bytes xs) (bytes′ : Bytes ys) (h : i + 8 ≤ length xs) (h′ : i + 8 ≤ length ys) (e : leNat (part i 8 xs) ≡ leNat (part i 8 ys)) where
+  word-same : part i 8 xs ≡ part i 8 ys
+  word-same =
+      let l : length (part i 8 xs) ≡ length (part i 8 ys) = length-part i 8 xs h ∙ sym (length-part i 8 ys h′) in
+      sym (leBytes-leNat (part i 8 xs) (part-bytes i 8 xs bytes)) ∙ (λ k. leBytes (l k) (e k)) ∙ leBytes-leNat (part i 8 ys) (part-bytes i 8 ys bytes′)
+
+  pub same-word : SameUpTo i xs ys → SameUpTo (i + 8) xs ys
+  same-word s k m = go (low-or-high i k)
+    where
+      go : (k < i) ⊎ (i ≤ k) → getD xs k 0 ≡ getD ys k 0
+      go (inl q) = s k q
+      go (inr q) =
+          let z : i + (k - i) ≡ k = omega arith in
+          ap (λ (n : ℕ). getD xs n 0) (sym z) ∙ sym (getD-part i 8 (k - i) 0 xs (omega arith)) ∙ ap (λ (l : List ℕ). getD l (k - i) 0) word-same ∙ getD-part i 8 (k - i) 0 ys (omega arith)
+          ∙ ap (λ (n : ℕ). getD ys n 0) z

@@ -1,5 +1,5 @@
 -- What the comparison of two blocks is said by.
 pub mod Elements
-pub mod Chains
+pub mod Notes
 pub mod Rows
 pub mod Answer

@@ -1,15 +1,16 @@
 -- The tables of a state that are kept in order: one row of each compared, and all of them.
 -- Assumes nothing.
-use Prim.Native.Nat.{ℕ}
+use Prim.Native.Nat.{ℕ, _<_}
 use mathlib.Core.Bool.{Bool, _&&_}
-use mathlib.Core.List.{[]}
+use mathlib.Core.Path.{_≡_}
+use mathlib.Core.List.{List, []}
 use mathlib.Core.Option.{Option}
 use lib.Dec.{eqb}
 use lib.ListN.{getD}
 use Rattle.lists.specs.Map.{Entry, entry}
 use Rattle.time_cache.specs.TimeCache.{Timed}
 use Rattle.protocol.specs.State.{State, Hop, Cached}
-use Rattle.protocol.specs.Alike.{sameList, sameBag, sameMap, sameMark, sameHop, sameGrafts, sameCached, sameUnit}
+use Rattle.protocol.specs.Alike.{sameList, sameMap, sameMark, sameHop, sameGrafts, sameCached, sameUnit}
 use Rattle.block.specs.View.{onlyIf}
 use Rattle.block.specs.LinkSteps.{linkAt}
 use Rattle.block.specs.MissingSteps.{missedAt}
@@ -38,7 +39,7 @@ cachedEntry s i = getD (s .cache .entries) i (entry 0 (record { expires = 0; val
 -- row i of a table of two states
 abbrev pub sameRow : Table → State → State → ℕ → Bool
 sameRow Links s t i = sameEntry sameMark (linkAt s i) (linkAt t i)
-sameRow Missing s t i = sameEntry (sameBag sameHop) (missedAt s i) (missedAt t i)
+sameRow Missing s t i = sameEntry (sameList sameHop) (missedAt s i) (missedAt t i)
 sameRow Timers s t i = eqb (getD (s .timers .graft) i 0) (getD (t .timers .graft) i 0)
 sameRow Received s t i = sameEntry (sameTimed sameUnit) (receivedAt s i) (receivedAt t i)
 sameRow Grafted s t i = sameEntry (sameTimed sameGrafts) (graftedAt s i) (graftedAt t i)
@@ -47,7 +48,7 @@ sameRow CachedRows s t i = sameEntry (sameTimed sameCached) (cachedEntry s i) (c
 -- all rows of it
 abbrev pub sameRows : Table → State → State → Bool
 sameRows Links s t = sameMap sameMark (s .links) (t .links)
-sameRows Missing s t = sameMap (sameBag sameHop) (s .missing) (t .missing)
+sameRows Missing s t = sameMap (sameList sameHop) (s .missing) (t .missing)
 sameRows Timers s t = sameList eqb (s .timers .graft) (t .timers .graft)
 sameRows Received s t = sameMap (sameTimed sameUnit) (s .received .entries) (t .received .entries)
 sameRows Grafted s t = sameMap (sameTimed sameGrafts) (s .grafted .entries) (t .grafted .entries)
@@ -69,3 +70,7 @@ firstOf z = onlyIf (z .there) (record { peer = z .peer; round = z .round .0 })
 -- the `kept` of a grafted message
 abbrev pub keptOf : Sender → Option ℕ
 keptOf z = onlyIf (z .there) (z .peer)
+
+-- the first n numbers agree
+abbrev pub SameUpTo : ℕ → List ℕ → List ℕ → Type 0
+SameUpTo n xs ys = (k : ℕ) → k < n → getD xs k 0 ≡ getD ys k 0

@@ -1,13 +1,15 @@
-// *Alike*, of two blocks: "yes exactly when own peer number, settings, limits, sets, flags and maps agree, order inside queue, record, announcer and expiry
-// lists ignored, repeats counted".
-mod bags;
+// *Alike*, of two blocks: "yes exactly when own peer number, settings, limits, sets, flags and maps agree". It "also compares the order of announcers, queues and
+// records, and the order of expiry entries of one time".
+mod by_link;
+mod sequences;
 mod tables;
 
-use bags::Bag;
 use block::head::Head;
 use block::head::Limits;
 use block::head::Settings;
 use block::header;
+use by_link::Notes;
+use sequences::Sequence;
 use tables::Table;
 ghost use mathlib.Core.Path.{_≡_};
 ghost use mathlib.Core.Bool.{_&&_};
@@ -15,6 +17,7 @@ ghost use lib.ListN.{length};
 ghost use Rattle.protocol.specs.Alike.{sameSettings, sameLimits, sameTables, sameCaches, sameFlags, alike, alikeBlocks};
 ghost use Rattle.block.specs.View.{settingsOf, limitsOf, stateOf};
 ghost use Rattle.block.specs.Sound.{Sound};
+ghost use Rattle.block.specs.LinkSteps.{LinksAscend};
 ghost use Rattle.whole.specs.Held.{held};
 ghost use Rattle.alike.specs.Answer.{answered};
 
@@ -89,18 +92,18 @@ fn same_flags(ha: Head, a: &[u8], hb: Head, b: &[u8]) -> bool
 
 // "sets .. and maps": links, queue, record, announcers, graft timers.
 fn same_tables(ha: Head, a: &[u8], hb: Head, b: &[u8]) -> bool
-    requires { ⌜ Sound ha (now a) × Sound hb (now b) ⌝ }
+    requires { ⌜ Sound ha (now a) × LinksAscend ha (now a) × Sound hb (now b) × LinksAscend hb (now b) ⌝ }
     ensures { λ r. ⌜ r ≡ sameTables (stateOf ha (now (a .entry))) (stateOf hb (now (b .entry))) ⌝ }
 {
     let links = tables::same_rows(Table::Links, ha, a, hb, b);
     if !links {
         return false;
     }
-    let queue = bags::same_bag(Bag::Queue, ha, a, hb, b);
+    let queue = by_link::same_notes(Notes::Queue, ha, a, hb, b);
     if !queue {
         return false;
     }
-    let record = bags::same_bag(Bag::Record, ha, a, hb, b);
+    let record = by_link::same_notes(Notes::Record, ha, a, hb, b);
     if !record {
         return false;
     }
@@ -120,28 +123,28 @@ fn same_caches(ha: Head, a: &[u8], hb: Head, b: &[u8]) -> bool
     if !received {
         return false;
     }
-    let received_rows = bags::same_bag(Bag::Received, ha, a, hb, b);
-    if !received_rows {
+    let received_expiry = sequences::same_sequence(Sequence::ReceivedExpiry, ha, a, hb, b);
+    if !received_expiry {
         return false;
     }
     let grafted = tables::same_rows(Table::Grafted, ha, a, hb, b);
     if !grafted {
         return false;
     }
-    let grafted_rows = bags::same_bag(Bag::Grafted, ha, a, hb, b);
-    if !grafted_rows {
+    let grafted_expiry = sequences::same_sequence(Sequence::GraftedExpiry, ha, a, hb, b);
+    if !grafted_expiry {
         return false;
     }
     let cached = tables::same_rows(Table::Cached, ha, a, hb, b);
     if !cached {
         return false;
     }
-    bags::same_bag(Bag::Cached, ha, a, hb, b)
+    sequences::same_sequence(Sequence::CachedExpiry, ha, a, hb, b)
 }
 
 // The states of two blocks.
 fn same_states(ha: Head, a: &[u8], hb: Head, b: &[u8]) -> bool
-    requires { ⌜ Sound ha (now a) × Sound hb (now b) ⌝ }
+    requires { ⌜ Sound ha (now a) × LinksAscend ha (now a) × Sound hb (now b) × LinksAscend hb (now b) ⌝ }
     ensures { λ r. ⌜ r ≡ alike (stateOf ha (now (a .entry))) (stateOf hb (now (b .entry))) ⌝ }
 {
     let settings = same_settings(ha.settings, hb.settings);

@@ -1,13 +1,12 @@
 // The tables that are kept in order: links, missing messages, graft timers, and the entries of the three time caches. They are compared row by row.
-use crate::bags;
-use crate::bags::Bag;
+use crate::sequences;
+use crate::sequences::Sequence;
 use block::head;
 use block::head::Head;
 use block::head::Live;
 use block::links;
 use block::time_caches;
 use caches::cached;
-use caches::grafted;
 use postcard::units::Round;
 use rows::id;
 use rows::id::Id;
@@ -15,21 +14,21 @@ use rows::word;
 use time_cache::cache::TimeBoundCache;
 ghost use mathlib.Core.Path.{_≡_};
 ghost use mathlib.Core.Bool.{Bool·beq};
-ghost use Prim.Native.Nat.{_<_};
+ghost use Prim.Native.Nat.{_≤_, _<_};
 ghost use lib.Dec.{eqb};
-ghost use lib.ListN.{getD};
+ghost use lib.ListN.{length, getD};
 ghost use Rattle.rows.specs.Ident.{idOf};
 ghost use Rattle.refs.specs.Refs.{places, Below};
 ghost use Rattle.time_cache.specs.Tables.{Lies, refsAt, rowsAt, rowAt, expiryOf};
 ghost use Rattle.time_cache.specs.Steps.{refAt};
-ghost use Rattle.protocol.specs.Alike.{sameList, sameMap, sameOption, sameHop};
+ghost use Rattle.protocol.specs.Alike.{sameList, sameOption, sameHop};
 ghost use Rattle.block.specs.View.{stateOf};
 ghost use Rattle.block.specs.Fit.{Fit};
 ghost use Rattle.block.specs.Sound.{Sound};
 ghost use Rattle.block.specs.MissingSteps.{missedAt};
 ghost use Rattle.caches.specs.GraftSteps.{graftsAt};
 ghost use Rattle.alike.specs.Elements.{sameElement, expiryElement};
-ghost use Rattle.alike.specs.Rows.{sameRow, sameRows, rowsOf, firstOf, keptOf};
+ghost use Rattle.alike.specs.Rows.{sameRow, sameRows, rowsOf, firstOf, keptOf, SameUpTo};
 
 // One of the tables.
 pub enum Table {
@@ -58,14 +57,32 @@ pub fn same_flag(x: bool, y: bool) -> bool
     !y
 }
 
-// Whether two lists of bytes agree.
+// A place up to which two lists of one length agree, told by words: fewer than eight bytes before their end, or at a word that differs.
+fn same_words(a: &[u8], b: &[u8]) -> usize
+    requires { ⌜ length (now a) ≡ length (now b) ⌝ }
+    ensures { λ r. ⌜ (r ≤ length (now (a .entry))) × SameUpTo r (now (a .entry)) (now (b .entry)) ⌝ }
+{
+    let n = a.len();
+    let mut i = 0;
+    while 8 <= n - i {
+        let x = word::load(a, i);
+        let y = word::load(b, i);
+        if x != y {
+            return i;
+        }
+        i += 8;
+    }
+    i
+}
+
+// Whether two lists of bytes agree: word by word, and the rest byte by byte.
 fn same_bytes(a: &[u8], b: &[u8]) -> bool
     ensures { λ r. ⌜ r ≡ sameList eqb (now (a .entry)) (now (b .entry)) ⌝ }
 {
     if a.len() != b.len() {
         return false;
     }
-    let mut i = 0;
+    let mut i = same_words(a, b);
     while i < a.len() {
         if a[i] != b[i] {
             return false;
@@ -140,33 +157,6 @@ fn same_sender(x: Sender, y: Sender) -> bool
     !y.there
 }
 
-// Whether the peers grafted for message i agree.
-fn same_peers(ha: Head, a: &[u8], hb: Head, b: &[u8], i: usize) -> bool
-    requires { ⌜ Sound ha (now a) × (i < ha .live .grafted) × Sound hb (now b) × (i < hb .live .grafted) ⌝ }
-    ensures { λ r. ⌜ r ≡ sameMap eqb (graftsAt (stateOf ha (now (a .entry))) i .peers) (graftsAt (stateOf hb (now (b .entry))) i .peers) ⌝ }
-{
-    let n = grafted::graft_count(ha, a, i);
-    let m = grafted::graft_count(hb, b, i);
-    if n != m {
-        return false;
-    }
-    let mut j = 0;
-    while j < n {
-        let x = grafted::graft_at(ha, a, i, j);
-        let y = grafted::graft_at(hb, b, i, j);
-        let p = links::peer_at(ha, a, x.link);
-        let q = links::peer_at(hb, b, y.link);
-        if p != q {
-            return false;
-        }
-        if x.round.0 != y.round.0 {
-            return false;
-        }
-        j += 1;
-    }
-    true
-}
-
 // Whether entry i of one time cache and entry i of another have the same key and expiry.
 fn same_key(c: TimeBoundCache, a: &[u8], d: TimeBoundCache, b: &[u8], i: usize) -> bool
     requires { ⌜ Lies c (now a) × Below (c .expiry .len) (places (refsAt c (now a))) × (i < c .entries .len) ⌝ }
@@ -175,9 +165,9 @@ fn same_key(c: TimeBoundCache, a: &[u8], d: TimeBoundCache, b: &[u8], i: usize) 
 {
     let p = c.place(a, i);
     let q = d.place(b, i);
-    let x = bags::row_item(c, a, p);
-    let y = bags::row_item(d, b, q);
-    bags::same(x, y)
+    let x = sequences::row_item(c, a, p);
+    let y = sequences::row_item(d, b, q);
+    sequences::same(x, y)
 }
 
 // Link i: peer and mark.
@@ -195,7 +185,7 @@ fn same_link(ha: Head, a: &[u8], hb: Head, b: &[u8], i: usize) -> bool
     same_flag(x, y)
 }
 
-// Missing message i: identifier and announcers.
+// Missing message i: identifier and announcers, "the order of announcers" too.
 fn same_missed(ha: Head, a: &[u8], hb: Head, b: &[u8], i: usize) -> bool
     requires { ⌜ Sound ha (now a) × (i < ha .live .missing) × Sound hb (now b) × (i < hb .live .missing) ⌝ }
     ensures { λ r. ⌜ r ≡ sameRow Table.Missing (stateOf ha (now (a .entry))) (stateOf hb (now (b .entry))) i ⌝ }
@@ -206,7 +196,7 @@ fn same_missed(ha: Head, a: &[u8], hb: Head, b: &[u8], i: usize) -> bool
     if !s {
         return false;
     }
-    bags::same_bag(Bag::Announcers(i), ha, a, hb, b)
+    sequences::same_sequence(Sequence::Announcers(i), ha, a, hb, b)
 }
 
 // Graft timer i.
@@ -252,7 +242,7 @@ fn same_grafted(ha: Head, a: &[u8], hb: Head, b: &[u8], i: usize) -> bool
     if !kept {
         return false;
     }
-    same_peers(ha, a, hb, b, i)
+    sequences::same_sequence(Sequence::GraftedPeers(i), ha, a, hb, b)
 }
 
 // Cached message i: identifier, expiry, content and round.

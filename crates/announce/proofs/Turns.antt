@@ -14,7 +14,7 @@ use lib.Seq.{getD-set-same, getD-set-other, length-take-le}
 use Rattle.lists.specs.Base.{if_then_else_, filter, count}
 use Rattle.lists.proofs.Branches.{if-on}
 use Rattle.lists.proofs.MapLaws.{cases}
-use Rattle.lists.proofs.ListLaws.{count-append, count-length, length-filter}
+use Rattle.lists.proofs.ListLaws.{filter-append, count-append, count-length, length-filter}
 use Rattle.rows.specs.Sorted.{Ascending}
 use Rattle.rows.proofs.Ids.{tri}
 use Rattle.lists.proofs.Firsts.{filter-more}
@@ -88,12 +88,6 @@ module _ (xs : List Note) (n : Note) where
 
 pub younger-few : (xs : List Note) → length (younger [] xs) ≤ length xs
 younger-few xs = omega (arith, moved-all [] xs)
-
-filter-append : {A : Type 0} (f : A → Bool) (l m : List A) → filter f (l ++ m) ≡ filter f l ++ filter f m
-unfolding filter
-filter-append f [] m = refl
-filter-append f (x ∷ l) m =
-    ap (λ t. if f x then x ∷ t else t) (filter-append f l m) ∙ sym (if-on (λ t. t ++ filter f m) (f x) (x ∷ filter f l) (filter f l))
 
 -- of a record, with the test that an identifier is still cached
 module _ (held : ℕ → Bool) (ds : List Note) where

@@ -12,7 +12,7 @@ use lib.Seq.{drop-append-le}
 use Rattle.lists.specs.Base.{if_then_else_, filter, any}
 use Rattle.lists.specs.Map.{keys}
 use Rattle.lists.proofs.MapLaws.{cases}
-use Rattle.lists.proofs.ListLaws.{length-filter, count-length}
+use Rattle.lists.proofs.ListLaws.{filter-append, length-filter, count-length}
 use Rattle.lists.proofs.Firsts.{filter-more}
 use Rattle.time_cache.proofs.Orders.{up-of}
 use Rattle.postcard.specs.Message.{Ihave}
@@ -64,11 +64,6 @@ queued-passed p n ns e = rw e refl
 pub queued-few : (p : ℕ) (ns : List Note) → length (queuedFor p ns) ≤ length ns
 unfolding queuedFor
 queued-few p ns = omega (arith, length-map (filter (forPeer p) ns) ihaveOf, length-filter (forPeer p) ns, count-length (forPeer p) ns)
-
-filter-append : {A : Type 0} (f : A → Bool) (l m : List A) → filter f (l ++ m) ≡ filter f l ++ filter f m
-unfolding filter
-filter-append f [] m = refl
-filter-append f (x ∷ l) m = cases (f x) (λ t. rw t (ap (λ (r : List _). x ∷ r) (filter-append f l m))) (λ t. rw t (filter-append f l m))
 
 pub queued-append : (p : ℕ) (ms ns : List Note) → queuedFor p (ms ++ ns) ≡ queuedFor p ms ++ queuedFor p ns
 unfolding queuedFor

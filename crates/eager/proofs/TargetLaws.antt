@@ -13,7 +13,7 @@ use lib.Seq.{take-suc, take-all, getD-take, length-take-le}
 use Rattle.lists.specs.Base.{if_then_else_, filter, member, all, ascending}
 use Rattle.lists.specs.Map.{Map, Entry, entry, keys}
 use Rattle.lists.proofs.MapLaws.{cases, and-left, and-right, all-head, all-tail, all-cons}
-use Rattle.lists.proofs.ListLaws.{all-filter}
+use Rattle.lists.proofs.ListLaws.{filter-append, all-filter}
 use Rattle.lists.proofs.Places.{at-all}
 use Rattle.time_cache.proofs.Orders.{up-of}
 use Rattle.protocol.specs.Links.{Mark, eager, lazy, Links, isEager, peersMarked, eagerPeers}
@@ -38,11 +38,6 @@ unfolding peersMarked
 marked-append f [] m = refl
 marked-append f (e ∷ l) m =
     ap (λ (t : List ℕ). if f (e .value) then e .key ∷ t else t) (marked-append f l m) ∙ if-append (f (e .value)) (e .key) (peersMarked f l) (peersMarked f m)
-
-filter-append : {A : Type 0} (f : A → Bool) (l m : List A) → filter f (l ++ m) ≡ filter f l ++ filter f m
-unfolding filter
-filter-append f [] m = refl
-filter-append f (x ∷ l) m = ap (λ t. if f x then x ∷ t else t) (filter-append f l m) ∙ if-append (f x) x (filter f l) (filter f m)
 
 -- the array has the room of each link
 pub record Roomed (s : State) (array : List ℕ) : Type 0 where

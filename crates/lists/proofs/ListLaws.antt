@@ -46,6 +46,11 @@ module _ {A : Type 0} where
   filter-all f [] h = refl
   filter-all f (x ∷ xs) h = rw (all-head f x xs h) (ap (λ (l : List A). x ∷ l) (filter-all f xs (all-tail f x xs h)))
 
+  pub filter-append : (f : A → Bool) (xs ys : List A) → filter f (xs ++ ys) ≡ filter f xs ++ filter f ys
+  unfolding filter
+  filter-append f [] ys = refl
+  filter-append f (x ∷ xs) ys = cases (f x) (λ t. rw t (ap (λ (l : List A). x ∷ l) (filter-append f xs ys))) (λ t. rw t (filter-append f xs ys))
+
   pub filter-map : {B : Type 0} (q : A → Bool) (f : B → A) (xs : List B) → filter q (map f xs) ≡ map f (filter (λ (x : B). q (f x)) xs)
   unfolding filter
   filter-map q f [] = refl
@@ -73,12 +78,6 @@ module _ {A : Type 0} where
   unfolding count
   count-length f [] = omega arith
   count-length f (x ∷ xs) = cases (f x) (λ p. rw p (omega (arith, count-length f xs))) (λ p. rw p (omega (arith, count-length f xs)))
-
-  -- tests that agree count alike
-  pub count-same : (f g : A → Bool) → ((x : A) → f x ≡ g x) → (xs : List A) → count f xs ≡ count g xs
-  unfolding count
-  count-same f g w [] = refl
-  count-same f g w (x ∷ xs) = rw (w x) (cases (g x) (λ p. rw p (ap suc (count-same f g w xs))) (λ p. rw p (count-same f g w xs)))
 
   -- the bytes of some and then others, and of one
   pub concat-append : (f : A → List ℕ) (xs ys : List A) → concatMap f (xs ++ ys) ≡ concatMap f xs ++ concatMap f ys

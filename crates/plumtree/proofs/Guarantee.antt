@@ -58,21 +58,21 @@ after-of s c k (accept v r) block output after number long e h f = record {
 }
 
 -- after a list of them
-record Ended (s : State) (c : Counts) (ks : List Call) (seen : List Seen) (last : List ℕ) (lastCounts : Counts) : Type 0 where
-  state : held last ≡ some (runCalls identifier s c ks .state)
-  counts : lastCounts ≡ runCalls identifier s c ks .counts
-  answers : seen ≡ map seenOf (runCalls identifier s c ks .answers)
+pub record Ended (s : State) (c : Counts) (ks : List Call) (seen : List Seen) (last : List ℕ) (lastCounts : Counts) : Type 0 where
+  pub holds : Holds last (runCalls identifier s c ks .state)
+  pub counts : lastCounts ≡ runCalls identifier s c ks .counts
+  pub answers : seen ≡ map seenOf (runCalls identifier s c ks .answers)
 
-ended : (block : List ℕ) (s : State) (c : Counts) (ks : List Call) (seen : List Seen) (last : List ℕ) (lastCounts : Counts) → Holds block s → Chain block c ks seen last lastCounts → Ended s c ks seen last lastCounts
+pub ended : (block : List ℕ) (s : State) (c : Counts) (ks : List Call) (seen : List Seen) (last : List ℕ) (lastCounts : Counts) → Holds block s → Chain block c ks seen last lastCounts → Ended s c ks seen last lastCounts
 unfolding runCalls prepend
-ended _ s _ _ _ _ _ h (done block c) = record { state = h .state; counts = refl; answers = refl }
+ended _ s _ _ _ _ _ h (done block c) = record { holds = h; counts = refl; answers = refl }
 ended _ s _ _ _ _ _ h (next block c k output after number long f ks seen last lastCounts more) =
     let o : answerBlock identifier (length block) (held block) c k ≡ outcome (askWhole identifier s c k) =
     ap (λ (x : Option State). answerBlock identifier (length block) x c k) (h .state) ∙ answer-long identifier (length block) s c k (h .long) in
     let g = after-of s c k (askWhole identifier s c k) block output after number long refl h (subst (λ (x : Outcome). Finds x (record { block = block; counts = c; output = output }) after number long) o (f .finds)) in
     let w = subst (λ (x : Counts). Ended (stateAfter s (askWhole identifier s c k)) x ks seen last lastCounts) (g .counts)
     (ended (after .block) (stateAfter s (askWhole identifier s c k)) (after .counts) ks seen last lastCounts (g .holds) more) in
-    record { state = w .state; counts = w .counts; answers = rw (g .seen, w .answers) refl }
+    record { holds = w .holds; counts = w .counts; answers = rw (g .seen, w .answers) refl }
 
 pub created-holds : (c : Settings) (l : Limits) (before block : List ℕ) → Creation c l before block 0 → Holds block (fresh (settingsOf c) (limitsOf l))
 created-holds c l before block m =
@@ -91,7 +91,7 @@ guaranteed c l before old block counts long m ks seen last lastCounts chain =
     let zero : counts ≡ zeroCounts = m .left ∙ made-zero c l before block old (m .creation) in
     let w = ended block (fresh (settingsOf c) (limitsOf l)) zeroCounts ks seen last lastCounts h (subst (λ (x : Counts). Chain block x ks seen last lastCounts) zero chain) in
     record {
-      state = w .state;
+      state = w .holds .state;
       counts = w .counts;
       answers = w .answers;
       holds = demand3 identifier .always (settingsOf c) (limitsOf l) (length before) (fresh (settingsOf c) (limitsOf l)) zeroCounts (made c l before block (m .creation)) ks;

@@ -15,4 +15,5 @@ pub mod Consistent
 pub mod Demand3
 pub mod Notings
 pub mod Alike
+pub mod AlikeUnordered
 pub mod Panel

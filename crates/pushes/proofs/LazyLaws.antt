@@ -13,6 +13,7 @@ use lib.Seq.{take-suc, take-all}
 use lib.ListN.{take-append-drop}
 use Rattle.lists.specs.Base.{if_then_else_, filter}
 use Rattle.lists.specs.Map.{Entry, entry}
+use Rattle.lists.proofs.ListLaws.{filter-append}
 use Rattle.protocol.specs.Links.{Mark, eager, lazy, Links, isEager, isLazy, peersMarked, lazyPeers}
 use Rattle.protocol.specs.State.{State, Note, withQueue, withDispatchScheduled}
 use Rattle.protocol.specs.Push.{noteFor}
@@ -38,11 +39,6 @@ unfolding peersMarked
 marked-append f [] m = refl
 marked-append f (e ∷ l) m =
     ap (λ (t : List ℕ). if f (e .value) then e .key ∷ t else t) (marked-append f l m) ∙ if-append (f (e .value)) (e .key) (peersMarked f l) (peersMarked f m)
-
-filter-append : {A : Type 0} (f : A → Bool) (l m : List A) → filter f (l ++ m) ≡ filter f l ++ filter f m
-unfolding filter
-filter-append f [] m = refl
-filter-append f (x ∷ l) m = ap (λ t. if f x then x ∷ t else t) (filter-append f l m) ∙ if-append (f x) x (filter f l) (filter f m)
 
 noteFor-append : (ps qs : List ℕ) (id round : ℕ) → noteFor (ps ++ qs) id round ≡ noteFor ps id round ++ noteFor qs id round
 unfolding noteFor

@@ -2442,17 +2442,17 @@ agrees : Section → List Bool
 agrees x = compare (runCalls hash (x .begin) (x .counts) (x .calls)) x
 
 rust-sample-1 : map agrees (section1 ∷ section2 ∷ section3 ∷ section4 ∷ section5 ∷ section6 ∷ section7 ∷ section8 ∷ section9 ∷ section10 ∷ section11 ∷ section12 ∷ section13 ∷ section14 ∷ section15 ∷ section16 ∷ section17 ∷ section18 ∷ []) ≡ replicate 18 (true ∷ true ∷ true ∷ [])
-unfolding agrees hash names named section1 section2 section3 section4 section5 section6 section7 section8 section9 section10 section11 section12 section13 section14 section15 section16 section17 section18 Base.filter Base.count Base.any Base.all Base.member Base.sum Base.concatMap Base.ascending Base.once Map.lookup Map.insert Map.remove Map.insertKey Map.removeKey Number.groups Number.numberBytes Number.numberLength Number.bigEndian Number.idBytes Number.fromBigEndian Number.readKind Number.readBytes Number.readId Number.lastGroup Number.readGroups Number.readNumber Number.readPadded Number.readRound Number.kindNumber Message.contentBytes Message.deliveryBytes Message.scopeByte Message.ihaveBytes Message.optionalIdBytes Message.messageBytes Message.timerBytes Message.eventBytes Message.takenByte Message.actionBytes Decode.readContent Decode.readPaddedContent Decode.deliveryOf Decode.deliveryKind Decode.readDelivery Decode.scopeOf Decode.optionalIdOf Decode.readOptionalId Decode.readIhave Decode.readIhaves Decode.ihavesIn Decode.messageOf Decode.messageKind Decode.readMessage Decode.timerOf Decode.readTimer Decode.eventOf Decode.readEvent Decode.messagePart Decode.ended Decode.decodeEvent TimeCache.valueOf TimeCache.get TimeCache.addExpiry TimeCache.put TimeCache.withValue TimeCache.replace TimeCache.expiresAt TimeCache.pop TimeCache.due TimeCache.later TimeCache.popAll TimeCache.popped TimeCache.expireUntil TimeCache.expiredKeys TimeCache.expiresOnTime TimeCache.inPopOrder TimeCache.laterCache State.fresh State.zeroCounts State.sizeInRange State.durationsInRange State.upTo State.limitsInRange State.blockNeed State.create Run.act Run.hasRoom Run.useRoom Run.send Answer.messageFits Answer.countsBelow Answer.countsStay Answer.lastRound Answer.outputOf Answer.lastTwo Answer.tooFarMessage Answer.tooFar Answer.askOf Answer.askRead Answer.ask Answer.askWhole Answer.outcome Answer.answerOf Answer.answerBlock Whole.contentHeld Whole.cacheFits Whole.fits Whole.inRange Whole.keysOnce Whole.neighbours Whole.announcersWhole Whole.graftsWhole Whole.notedOnce Whole.recordWithin Whole.flagsStand Whole.whole Whole.longEnough Whole.wholeState Links.peersMarked Links.eagerPeers Links.lazyPeers Links.marked Links.eagerIn Links.markIfThere Links.addEager Links.addLazy Links.linkUp Links.linkDown Neighbours.onNeighborUp Neighbours.withoutAnnouncer Neighbours.forgetAnnouncer Neighbours.withoutNotes Neighbours.withoutGraft Neighbours.forgetGrafted Neighbours.forgetPeer Neighbours.onNeighborDown Push.scheduleDispatch Push.scheduleAnnounceDropped Push.recordFull Push.recordAlso Push.noteOne Push.noteEach Push.noteDropped Push.sendEach Push.handedBack Push.noteForEach Push.eagerTargets Push.noteAfter Push.pushTo Push.eagerPush Push.noteFor Push.lazyPush Push.sendIhave Gossips.markReceived Gossips.cacheAt Gossips.hopsOf Gossips.announcers Gossips.peersOf Gossips.graftedFor Gossips.withFirst Gossips.setFirst Gossips.graftOut Gossips.forgetMissing Gossips.raiseHops Gossips.leastFrom Gossips.farCloser Gossips.updateLinks Gossips.graftUnlessEager Gossips.pruneBack Gossips.optimizeTree Gossips.forgetAndOptimise Gossips.pushOn Gossips.takeIn Gossips.sameAs Gossips.noMoreHops Gossips.lateFrom Gossips.lateKind Gossips.withKept Gossips.setKept Gossips.onDuplicate Gossips.onLateGraftReply Gossips.onNew Gossips.onGossip Gossips.broadcastTo Gossips.broadcast Gossips.gossipSize Ticks.chunks Ticks.queuedFor Ticks.queuedPeers Ticks.sendChunks Ticks.dispatchTo Ticks.clearDispatch Ticks.onDispatchTimer Ticks.oldest Ticks.younger Ticks.moveOldest Ticks.stillCached Ticks.dispatchIfQueued Ticks.onAnnounceDroppedTimer Ticks.evict Ticks.onEvictCacheTimer Ticks.perMessage Control.addAnnouncer Control.announce Control.scheduleGraft Control.onAnnounced Control.onIHave Control.onPrune Control.replyWith Control.reply Control.onGraft Control.lower Control.withGraft Control.noteGraft Control.leaveAnnouncers Control.askFirst Control.unmark Control.onSendGraftTimer Handle.firstEvent Handle.onePayload Handle.oneControl Handle.countMessage Handle.ifNeighbour Handle.onTimer Handle.onMessage Handle.handleMessage Handle.handle Calls.stateAfter Calls.countsAfter Calls.prepend Calls.runCalls Alike.sameList Alike.sameBag Alike.sameOption Alike.sameMap Alike.sameMark Alike.sameHop Alike.sameNote Alike.sameExpiry Alike.sameGrafts Alike.sameCached Alike.sameUnit Alike.sameCache Alike.sameSettings Alike.sameLimits Alike.sameTables Alike.sameCaches Alike.sameFlags Alike.alike Alike.likenessOf Alike.alikeBlocks
+unfolding agrees hash names named section1 section2 section3 section4 section5 section6 section7 section8 section9 section10 section11 section12 section13 section14 section15 section16 section17 section18 Base.filter Base.count Base.any Base.all Base.member Base.sum Base.concatMap Base.ascending Base.once Map.lookup Map.insert Map.remove Map.insertKey Map.removeKey Number.groups Number.numberBytes Number.numberLength Number.bigEndian Number.idBytes Number.fromBigEndian Number.readKind Number.readBytes Number.readId Number.lastGroup Number.readGroups Number.readNumber Number.readPadded Number.readRound Number.kindNumber Message.contentBytes Message.deliveryBytes Message.scopeByte Message.ihaveBytes Message.optionalIdBytes Message.messageBytes Message.timerBytes Message.eventBytes Message.takenByte Message.actionBytes Decode.readContent Decode.readPaddedContent Decode.deliveryOf Decode.deliveryKind Decode.readDelivery Decode.scopeOf Decode.optionalIdOf Decode.readOptionalId Decode.readIhave Decode.readIhaves Decode.ihavesIn Decode.messageOf Decode.messageKind Decode.readMessage Decode.timerOf Decode.readTimer Decode.eventOf Decode.readEvent Decode.messagePart Decode.ended Decode.decodeEvent Decode.meaning TimeCache.valueOf TimeCache.get TimeCache.addExpiry TimeCache.put TimeCache.withValue TimeCache.replace TimeCache.expiresAt TimeCache.pop TimeCache.due TimeCache.later TimeCache.popAll TimeCache.popped TimeCache.expireUntil TimeCache.expiredKeys TimeCache.expiresOnTime TimeCache.inPopOrder TimeCache.laterCache State.fresh State.zeroCounts State.sizeInRange State.durationsInRange State.upTo State.limitsInRange State.blockNeed State.create Run.act Run.hasRoom Run.useRoom Run.send Answer.messageFits Answer.countsBelow Answer.countsStay Answer.lastRound Answer.outputOf Answer.lastTwo Answer.tooFarMessage Answer.tooFar Answer.askOf Answer.askRead Answer.ask Answer.askWhole Answer.outcome Answer.answerOf Answer.answerBlock Whole.contentHeld Whole.cacheFits Whole.fits Whole.inRange Whole.keysOnce Whole.neighbours Whole.announcersWhole Whole.graftsWhole Whole.notedOnce Whole.recordWithin Whole.flagsStand Whole.whole Whole.longEnough Whole.wholeState Links.peersMarked Links.eagerPeers Links.lazyPeers Links.marked Links.eagerIn Links.markIfThere Links.addEager Links.addLazy Links.linkUp Links.linkDown Neighbours.onNeighborUp Neighbours.withoutAnnouncer Neighbours.forgetAnnouncer Neighbours.withoutNotes Neighbours.withoutGraft Neighbours.forgetGrafted Neighbours.forgetPeer Neighbours.onNeighborDown Push.scheduleDispatch Push.scheduleAnnounceDropped Push.recordFull Push.recordAlso Push.noteOne Push.noteEach Push.noteDropped Push.sendEach Push.handedBack Push.noteForEach Push.eagerTargets Push.noteAfter Push.pushTo Push.eagerPush Push.noteFor Push.lazyPush Push.sendIhave Gossips.markReceived Gossips.cacheAt Gossips.hopsOf Gossips.announcers Gossips.peersOf Gossips.graftedFor Gossips.withFirst Gossips.setFirst Gossips.graftOut Gossips.forgetMissing Gossips.raiseHops Gossips.leastFrom Gossips.farCloser Gossips.updateLinks Gossips.graftUnlessEager Gossips.pruneBack Gossips.optimizeTree Gossips.forgetAndOptimise Gossips.pushOn Gossips.takeIn Gossips.sameAs Gossips.noMoreHops Gossips.lateFrom Gossips.lateKind Gossips.withKept Gossips.setKept Gossips.onDuplicate Gossips.onLateGraftReply Gossips.onNew Gossips.onGossip Gossips.broadcastTo Gossips.broadcast Gossips.gossipSize Ticks.chunks Ticks.queuedFor Ticks.queuedPeers Ticks.sendChunks Ticks.dispatchTo Ticks.clearDispatch Ticks.onDispatchTimer Ticks.oldest Ticks.younger Ticks.moveOldest Ticks.stillCached Ticks.dispatchIfQueued Ticks.onAnnounceDroppedTimer Ticks.evict Ticks.onEvictCacheTimer Ticks.perMessage Control.addAnnouncer Control.announce Control.scheduleGraft Control.onAnnounced Control.onIHave Control.onPrune Control.replyWith Control.reply Control.onGraft Control.lower Control.withGraft Control.noteGraft Control.leaveAnnouncers Control.askFirst Control.unmark Control.onSendGraftTimer Handle.firstEvent Handle.onePayload Handle.oneControl Handle.countMessage Handle.ifNeighbour Handle.onTimer Handle.onMessage Handle.handleMessage Handle.handle Calls.stateAfter Calls.countsAfter Calls.prepend Calls.runCalls Alike.sameList Alike.sameOption Alike.sameMap Alike.sameMark Alike.sameHop Alike.sameNote Alike.sameNotes Alike.sameExpiry Alike.sameGrafts Alike.sameCached Alike.sameUnit Alike.sameCache Alike.sameSettings Alike.sameLimits Alike.sameTables Alike.sameCaches Alike.sameFlags Alike.alike Alike.likenessOf Alike.alikeBlocks
 rust-sample-1 = refl
 
 rust-sample-2 : map agrees (section19 ∷ section20 ∷ section21 ∷ section22 ∷ section23 ∷ section24 ∷ section25 ∷ section26 ∷ section27 ∷ section28 ∷ section29 ∷ section30 ∷ section31 ∷ section32 ∷ []) ≡ replicate 14 (true ∷ true ∷ true ∷ [])
-unfolding agrees hash names named section19 section20 section21 section22 section23 section24 section25 section26 section27 section28 section29 section30 section31 section32 Base.filter Base.count Base.any Base.all Base.member Base.sum Base.concatMap Base.ascending Base.once Map.lookup Map.insert Map.remove Map.insertKey Map.removeKey Number.groups Number.numberBytes Number.numberLength Number.bigEndian Number.idBytes Number.fromBigEndian Number.readKind Number.readBytes Number.readId Number.lastGroup Number.readGroups Number.readNumber Number.readPadded Number.readRound Number.kindNumber Message.contentBytes Message.deliveryBytes Message.scopeByte Message.ihaveBytes Message.optionalIdBytes Message.messageBytes Message.timerBytes Message.eventBytes Message.takenByte Message.actionBytes Decode.readContent Decode.readPaddedContent Decode.deliveryOf Decode.deliveryKind Decode.readDelivery Decode.scopeOf Decode.optionalIdOf Decode.readOptionalId Decode.readIhave Decode.readIhaves Decode.ihavesIn Decode.messageOf Decode.messageKind Decode.readMessage Decode.timerOf Decode.readTimer Decode.eventOf Decode.readEvent Decode.messagePart Decode.ended Decode.decodeEvent TimeCache.valueOf TimeCache.get TimeCache.addExpiry TimeCache.put TimeCache.withValue TimeCache.replace TimeCache.expiresAt TimeCache.pop TimeCache.due TimeCache.later TimeCache.popAll TimeCache.popped TimeCache.expireUntil TimeCache.expiredKeys TimeCache.expiresOnTime TimeCache.inPopOrder TimeCache.laterCache State.fresh State.zeroCounts State.sizeInRange State.durationsInRange State.upTo State.limitsInRange State.blockNeed State.create Run.act Run.hasRoom Run.useRoom Run.send Answer.messageFits Answer.countsBelow Answer.countsStay Answer.lastRound Answer.outputOf Answer.lastTwo Answer.tooFarMessage Answer.tooFar Answer.askOf Answer.askRead Answer.ask Answer.askWhole Answer.outcome Answer.answerOf Answer.answerBlock Whole.contentHeld Whole.cacheFits Whole.fits Whole.inRange Whole.keysOnce Whole.neighbours Whole.announcersWhole Whole.graftsWhole Whole.notedOnce Whole.recordWithin Whole.flagsStand Whole.whole Whole.longEnough Whole.wholeState Links.peersMarked Links.eagerPeers Links.lazyPeers Links.marked Links.eagerIn Links.markIfThere Links.addEager Links.addLazy Links.linkUp Links.linkDown Neighbours.onNeighborUp Neighbours.withoutAnnouncer Neighbours.forgetAnnouncer Neighbours.withoutNotes Neighbours.withoutGraft Neighbours.forgetGrafted Neighbours.forgetPeer Neighbours.onNeighborDown Push.scheduleDispatch Push.scheduleAnnounceDropped Push.recordFull Push.recordAlso Push.noteOne Push.noteEach Push.noteDropped Push.sendEach Push.handedBack Push.noteForEach Push.eagerTargets Push.noteAfter Push.pushTo Push.eagerPush Push.noteFor Push.lazyPush Push.sendIhave Gossips.markReceived Gossips.cacheAt Gossips.hopsOf Gossips.announcers Gossips.peersOf Gossips.graftedFor Gossips.withFirst Gossips.setFirst Gossips.graftOut Gossips.forgetMissing Gossips.raiseHops Gossips.leastFrom Gossips.farCloser Gossips.updateLinks Gossips.graftUnlessEager Gossips.pruneBack Gossips.optimizeTree Gossips.forgetAndOptimise Gossips.pushOn Gossips.takeIn Gossips.sameAs Gossips.noMoreHops Gossips.lateFrom Gossips.lateKind Gossips.withKept Gossips.setKept Gossips.onDuplicate Gossips.onLateGraftReply Gossips.onNew Gossips.onGossip Gossips.broadcastTo Gossips.broadcast Gossips.gossipSize Ticks.chunks Ticks.queuedFor Ticks.queuedPeers Ticks.sendChunks Ticks.dispatchTo Ticks.clearDispatch Ticks.onDispatchTimer Ticks.oldest Ticks.younger Ticks.moveOldest Ticks.stillCached Ticks.dispatchIfQueued Ticks.onAnnounceDroppedTimer Ticks.evict Ticks.onEvictCacheTimer Ticks.perMessage Control.addAnnouncer Control.announce Control.scheduleGraft Control.onAnnounced Control.onIHave Control.onPrune Control.replyWith Control.reply Control.onGraft Control.lower Control.withGraft Control.noteGraft Control.leaveAnnouncers Control.askFirst Control.unmark Control.onSendGraftTimer Handle.firstEvent Handle.onePayload Handle.oneControl Handle.countMessage Handle.ifNeighbour Handle.onTimer Handle.onMessage Handle.handleMessage Handle.handle Calls.stateAfter Calls.countsAfter Calls.prepend Calls.runCalls Alike.sameList Alike.sameBag Alike.sameOption Alike.sameMap Alike.sameMark Alike.sameHop Alike.sameNote Alike.sameExpiry Alike.sameGrafts Alike.sameCached Alike.sameUnit Alike.sameCache Alike.sameSettings Alike.sameLimits Alike.sameTables Alike.sameCaches Alike.sameFlags Alike.alike Alike.likenessOf Alike.alikeBlocks
+unfolding agrees hash names named section19 section20 section21 section22 section23 section24 section25 section26 section27 section28 section29 section30 section31 section32 Base.filter Base.count Base.any Base.all Base.member Base.sum Base.concatMap Base.ascending Base.once Map.lookup Map.insert Map.remove Map.insertKey Map.removeKey Number.groups Number.numberBytes Number.numberLength Number.bigEndian Number.idBytes Number.fromBigEndian Number.readKind Number.readBytes Number.readId Number.lastGroup Number.readGroups Number.readNumber Number.readPadded Number.readRound Number.kindNumber Message.contentBytes Message.deliveryBytes Message.scopeByte Message.ihaveBytes Message.optionalIdBytes Message.messageBytes Message.timerBytes Message.eventBytes Message.takenByte Message.actionBytes Decode.readContent Decode.readPaddedContent Decode.deliveryOf Decode.deliveryKind Decode.readDelivery Decode.scopeOf Decode.optionalIdOf Decode.readOptionalId Decode.readIhave Decode.readIhaves Decode.ihavesIn Decode.messageOf Decode.messageKind Decode.readMessage Decode.timerOf Decode.readTimer Decode.eventOf Decode.readEvent Decode.messagePart Decode.ended Decode.decodeEvent Decode.meaning TimeCache.valueOf TimeCache.get TimeCache.addExpiry TimeCache.put TimeCache.withValue TimeCache.replace TimeCache.expiresAt TimeCache.pop TimeCache.due TimeCache.later TimeCache.popAll TimeCache.popped TimeCache.expireUntil TimeCache.expiredKeys TimeCache.expiresOnTime TimeCache.inPopOrder TimeCache.laterCache State.fresh State.zeroCounts State.sizeInRange State.durationsInRange State.upTo State.limitsInRange State.blockNeed State.create Run.act Run.hasRoom Run.useRoom Run.send Answer.messageFits Answer.countsBelow Answer.countsStay Answer.lastRound Answer.outputOf Answer.lastTwo Answer.tooFarMessage Answer.tooFar Answer.askOf Answer.askRead Answer.ask Answer.askWhole Answer.outcome Answer.answerOf Answer.answerBlock Whole.contentHeld Whole.cacheFits Whole.fits Whole.inRange Whole.keysOnce Whole.neighbours Whole.announcersWhole Whole.graftsWhole Whole.notedOnce Whole.recordWithin Whole.flagsStand Whole.whole Whole.longEnough Whole.wholeState Links.peersMarked Links.eagerPeers Links.lazyPeers Links.marked Links.eagerIn Links.markIfThere Links.addEager Links.addLazy Links.linkUp Links.linkDown Neighbours.onNeighborUp Neighbours.withoutAnnouncer Neighbours.forgetAnnouncer Neighbours.withoutNotes Neighbours.withoutGraft Neighbours.forgetGrafted Neighbours.forgetPeer Neighbours.onNeighborDown Push.scheduleDispatch Push.scheduleAnnounceDropped Push.recordFull Push.recordAlso Push.noteOne Push.noteEach Push.noteDropped Push.sendEach Push.handedBack Push.noteForEach Push.eagerTargets Push.noteAfter Push.pushTo Push.eagerPush Push.noteFor Push.lazyPush Push.sendIhave Gossips.markReceived Gossips.cacheAt Gossips.hopsOf Gossips.announcers Gossips.peersOf Gossips.graftedFor Gossips.withFirst Gossips.setFirst Gossips.graftOut Gossips.forgetMissing Gossips.raiseHops Gossips.leastFrom Gossips.farCloser Gossips.updateLinks Gossips.graftUnlessEager Gossips.pruneBack Gossips.optimizeTree Gossips.forgetAndOptimise Gossips.pushOn Gossips.takeIn Gossips.sameAs Gossips.noMoreHops Gossips.lateFrom Gossips.lateKind Gossips.withKept Gossips.setKept Gossips.onDuplicate Gossips.onLateGraftReply Gossips.onNew Gossips.onGossip Gossips.broadcastTo Gossips.broadcast Gossips.gossipSize Ticks.chunks Ticks.queuedFor Ticks.queuedPeers Ticks.sendChunks Ticks.dispatchTo Ticks.clearDispatch Ticks.onDispatchTimer Ticks.oldest Ticks.younger Ticks.moveOldest Ticks.stillCached Ticks.dispatchIfQueued Ticks.onAnnounceDroppedTimer Ticks.evict Ticks.onEvictCacheTimer Ticks.perMessage Control.addAnnouncer Control.announce Control.scheduleGraft Control.onAnnounced Control.onIHave Control.onPrune Control.replyWith Control.reply Control.onGraft Control.lower Control.withGraft Control.noteGraft Control.leaveAnnouncers Control.askFirst Control.unmark Control.onSendGraftTimer Handle.firstEvent Handle.onePayload Handle.oneControl Handle.countMessage Handle.ifNeighbour Handle.onTimer Handle.onMessage Handle.handleMessage Handle.handle Calls.stateAfter Calls.countsAfter Calls.prepend Calls.runCalls Alike.sameList Alike.sameOption Alike.sameMap Alike.sameMark Alike.sameHop Alike.sameNote Alike.sameNotes Alike.sameExpiry Alike.sameGrafts Alike.sameCached Alike.sameUnit Alike.sameCache Alike.sameSettings Alike.sameLimits Alike.sameTables Alike.sameCaches Alike.sameFlags Alike.alike Alike.likenessOf Alike.alikeBlocks
 rust-sample-2 = refl
 
 rust-sample-3 : map agrees (section33 ∷ section34 ∷ section35 ∷ section36 ∷ section37 ∷ []) ≡ replicate 5 (true ∷ true ∷ true ∷ [])
-unfolding agrees hash names named section33 section34 section35 section36 section37 Base.filter Base.count Base.any Base.all Base.member Base.sum Base.concatMap Base.ascending Base.once Map.lookup Map.insert Map.remove Map.insertKey Map.removeKey Number.groups Number.numberBytes Number.numberLength Number.bigEndian Number.idBytes Number.fromBigEndian Number.readKind Number.readBytes Number.readId Number.lastGroup Number.readGroups Number.readNumber Number.readPadded Number.readRound Number.kindNumber Message.contentBytes Message.deliveryBytes Message.scopeByte Message.ihaveBytes Message.optionalIdBytes Message.messageBytes Message.timerBytes Message.eventBytes Message.takenByte Message.actionBytes Decode.readContent Decode.readPaddedContent Decode.deliveryOf Decode.deliveryKind Decode.readDelivery Decode.scopeOf Decode.optionalIdOf Decode.readOptionalId Decode.readIhave Decode.readIhaves Decode.ihavesIn Decode.messageOf Decode.messageKind Decode.readMessage Decode.timerOf Decode.readTimer Decode.eventOf Decode.readEvent Decode.messagePart Decode.ended Decode.decodeEvent TimeCache.valueOf TimeCache.get TimeCache.addExpiry TimeCache.put TimeCache.withValue TimeCache.replace TimeCache.expiresAt TimeCache.pop TimeCache.due TimeCache.later TimeCache.popAll TimeCache.popped TimeCache.expireUntil TimeCache.expiredKeys TimeCache.expiresOnTime TimeCache.inPopOrder TimeCache.laterCache State.fresh State.zeroCounts State.sizeInRange State.durationsInRange State.upTo State.limitsInRange State.blockNeed State.create Run.act Run.hasRoom Run.useRoom Run.send Answer.messageFits Answer.countsBelow Answer.countsStay Answer.lastRound Answer.outputOf Answer.lastTwo Answer.tooFarMessage Answer.tooFar Answer.askOf Answer.askRead Answer.ask Answer.askWhole Answer.outcome Answer.answerOf Answer.answerBlock Whole.contentHeld Whole.cacheFits Whole.fits Whole.inRange Whole.keysOnce Whole.neighbours Whole.announcersWhole Whole.graftsWhole Whole.notedOnce Whole.recordWithin Whole.flagsStand Whole.whole Whole.longEnough Whole.wholeState Links.peersMarked Links.eagerPeers Links.lazyPeers Links.marked Links.eagerIn Links.markIfThere Links.addEager Links.addLazy Links.linkUp Links.linkDown Neighbours.onNeighborUp Neighbours.withoutAnnouncer Neighbours.forgetAnnouncer Neighbours.withoutNotes Neighbours.withoutGraft Neighbours.forgetGrafted Neighbours.forgetPeer Neighbours.onNeighborDown Push.scheduleDispatch Push.scheduleAnnounceDropped Push.recordFull Push.recordAlso Push.noteOne Push.noteEach Push.noteDropped Push.sendEach Push.handedBack Push.noteForEach Push.eagerTargets Push.noteAfter Push.pushTo Push.eagerPush Push.noteFor Push.lazyPush Push.sendIhave Gossips.markReceived Gossips.cacheAt Gossips.hopsOf Gossips.announcers Gossips.peersOf Gossips.graftedFor Gossips.withFirst Gossips.setFirst Gossips.graftOut Gossips.forgetMissing Gossips.raiseHops Gossips.leastFrom Gossips.farCloser Gossips.updateLinks Gossips.graftUnlessEager Gossips.pruneBack Gossips.optimizeTree Gossips.forgetAndOptimise Gossips.pushOn Gossips.takeIn Gossips.sameAs Gossips.noMoreHops Gossips.lateFrom Gossips.lateKind Gossips.withKept Gossips.setKept Gossips.onDuplicate Gossips.onLateGraftReply Gossips.onNew Gossips.onGossip Gossips.broadcastTo Gossips.broadcast Gossips.gossipSize Ticks.chunks Ticks.queuedFor Ticks.queuedPeers Ticks.sendChunks Ticks.dispatchTo Ticks.clearDispatch Ticks.onDispatchTimer Ticks.oldest Ticks.younger Ticks.moveOldest Ticks.stillCached Ticks.dispatchIfQueued Ticks.onAnnounceDroppedTimer Ticks.evict Ticks.onEvictCacheTimer Ticks.perMessage Control.addAnnouncer Control.announce Control.scheduleGraft Control.onAnnounced Control.onIHave Control.onPrune Control.replyWith Control.reply Control.onGraft Control.lower Control.withGraft Control.noteGraft Control.leaveAnnouncers Control.askFirst Control.unmark Control.onSendGraftTimer Handle.firstEvent Handle.onePayload Handle.oneControl Handle.countMessage Handle.ifNeighbour Handle.onTimer Handle.onMessage Handle.handleMessage Handle.handle Calls.stateAfter Calls.countsAfter Calls.prepend Calls.runCalls Alike.sameList Alike.sameBag Alike.sameOption Alike.sameMap Alike.sameMark Alike.sameHop Alike.sameNote Alike.sameExpiry Alike.sameGrafts Alike.sameCached Alike.sameUnit Alike.sameCache Alike.sameSettings Alike.sameLimits Alike.sameTables Alike.sameCaches Alike.sameFlags Alike.alike Alike.likenessOf Alike.alikeBlocks
+unfolding agrees hash names named section33 section34 section35 section36 section37 Base.filter Base.count Base.any Base.all Base.member Base.sum Base.concatMap Base.ascending Base.once Map.lookup Map.insert Map.remove Map.insertKey Map.removeKey Number.groups Number.numberBytes Number.numberLength Number.bigEndian Number.idBytes Number.fromBigEndian Number.readKind Number.readBytes Number.readId Number.lastGroup Number.readGroups Number.readNumber Number.readPadded Number.readRound Number.kindNumber Message.contentBytes Message.deliveryBytes Message.scopeByte Message.ihaveBytes Message.optionalIdBytes Message.messageBytes Message.timerBytes Message.eventBytes Message.takenByte Message.actionBytes Decode.readContent Decode.readPaddedContent Decode.deliveryOf Decode.deliveryKind Decode.readDelivery Decode.scopeOf Decode.optionalIdOf Decode.readOptionalId Decode.readIhave Decode.readIhaves Decode.ihavesIn Decode.messageOf Decode.messageKind Decode.readMessage Decode.timerOf Decode.readTimer Decode.eventOf Decode.readEvent Decode.messagePart Decode.ended Decode.decodeEvent Decode.meaning TimeCache.valueOf TimeCache.get TimeCache.addExpiry TimeCache.put TimeCache.withValue TimeCache.replace TimeCache.expiresAt TimeCache.pop TimeCache.due TimeCache.later TimeCache.popAll TimeCache.popped TimeCache.expireUntil TimeCache.expiredKeys TimeCache.expiresOnTime TimeCache.inPopOrder TimeCache.laterCache State.fresh State.zeroCounts State.sizeInRange State.durationsInRange State.upTo State.limitsInRange State.blockNeed State.create Run.act Run.hasRoom Run.useRoom Run.send Answer.messageFits Answer.countsBelow Answer.countsStay Answer.lastRound Answer.outputOf Answer.lastTwo Answer.tooFarMessage Answer.tooFar Answer.askOf Answer.askRead Answer.ask Answer.askWhole Answer.outcome Answer.answerOf Answer.answerBlock Whole.contentHeld Whole.cacheFits Whole.fits Whole.inRange Whole.keysOnce Whole.neighbours Whole.announcersWhole Whole.graftsWhole Whole.notedOnce Whole.recordWithin Whole.flagsStand Whole.whole Whole.longEnough Whole.wholeState Links.peersMarked Links.eagerPeers Links.lazyPeers Links.marked Links.eagerIn Links.markIfThere Links.addEager Links.addLazy Links.linkUp Links.linkDown Neighbours.onNeighborUp Neighbours.withoutAnnouncer Neighbours.forgetAnnouncer Neighbours.withoutNotes Neighbours.withoutGraft Neighbours.forgetGrafted Neighbours.forgetPeer Neighbours.onNeighborDown Push.scheduleDispatch Push.scheduleAnnounceDropped Push.recordFull Push.recordAlso Push.noteOne Push.noteEach Push.noteDropped Push.sendEach Push.handedBack Push.noteForEach Push.eagerTargets Push.noteAfter Push.pushTo Push.eagerPush Push.noteFor Push.lazyPush Push.sendIhave Gossips.markReceived Gossips.cacheAt Gossips.hopsOf Gossips.announcers Gossips.peersOf Gossips.graftedFor Gossips.withFirst Gossips.setFirst Gossips.graftOut Gossips.forgetMissing Gossips.raiseHops Gossips.leastFrom Gossips.farCloser Gossips.updateLinks Gossips.graftUnlessEager Gossips.pruneBack Gossips.optimizeTree Gossips.forgetAndOptimise Gossips.pushOn Gossips.takeIn Gossips.sameAs Gossips.noMoreHops Gossips.lateFrom Gossips.lateKind Gossips.withKept Gossips.setKept Gossips.onDuplicate Gossips.onLateGraftReply Gossips.onNew Gossips.onGossip Gossips.broadcastTo Gossips.broadcast Gossips.gossipSize Ticks.chunks Ticks.queuedFor Ticks.queuedPeers Ticks.sendChunks Ticks.dispatchTo Ticks.clearDispatch Ticks.onDispatchTimer Ticks.oldest Ticks.younger Ticks.moveOldest Ticks.stillCached Ticks.dispatchIfQueued Ticks.onAnnounceDroppedTimer Ticks.evict Ticks.onEvictCacheTimer Ticks.perMessage Control.addAnnouncer Control.announce Control.scheduleGraft Control.onAnnounced Control.onIHave Control.onPrune Control.replyWith Control.reply Control.onGraft Control.lower Control.withGraft Control.noteGraft Control.leaveAnnouncers Control.askFirst Control.unmark Control.onSendGraftTimer Handle.firstEvent Handle.onePayload Handle.oneControl Handle.countMessage Handle.ifNeighbour Handle.onTimer Handle.onMessage Handle.handleMessage Handle.handle Calls.stateAfter Calls.countsAfter Calls.prepend Calls.runCalls Alike.sameList Alike.sameOption Alike.sameMap Alike.sameMark Alike.sameHop Alike.sameNote Alike.sameNotes Alike.sameExpiry Alike.sameGrafts Alike.sameCached Alike.sameUnit Alike.sameCache Alike.sameSettings Alike.sameLimits Alike.sameTables Alike.sameCaches Alike.sameFlags Alike.alike Alike.likenessOf Alike.alikeBlocks
 rust-sample-3 = refl
 
 rust-sample-4 : map agrees (section38 ∷ section39 ∷ section40 ∷ []) ≡ replicate 3 (true ∷ true ∷ true ∷ [])
-unfolding agrees hash names named section38 section39 section40 Base.filter Base.count Base.any Base.all Base.member Base.sum Base.concatMap Base.ascending Base.once Map.lookup Map.insert Map.remove Map.insertKey Map.removeKey Number.groups Number.numberBytes Number.numberLength Number.bigEndian Number.idBytes Number.fromBigEndian Number.readKind Number.readBytes Number.readId Number.lastGroup Number.readGroups Number.readNumber Number.readPadded Number.readRound Number.kindNumber Message.contentBytes Message.deliveryBytes Message.scopeByte Message.ihaveBytes Message.optionalIdBytes Message.messageBytes Message.timerBytes Message.eventBytes Message.takenByte Message.actionBytes Decode.readContent Decode.readPaddedContent Decode.deliveryOf Decode.deliveryKind Decode.readDelivery Decode.scopeOf Decode.optionalIdOf Decode.readOptionalId Decode.readIhave Decode.readIhaves Decode.ihavesIn Decode.messageOf Decode.messageKind Decode.readMessage Decode.timerOf Decode.readTimer Decode.eventOf Decode.readEvent Decode.messagePart Decode.ended Decode.decodeEvent TimeCache.valueOf TimeCache.get TimeCache.addExpiry TimeCache.put TimeCache.withValue TimeCache.replace TimeCache.expiresAt TimeCache.pop TimeCache.due TimeCache.later TimeCache.popAll TimeCache.popped TimeCache.expireUntil TimeCache.expiredKeys TimeCache.expiresOnTime TimeCache.inPopOrder TimeCache.laterCache State.fresh State.zeroCounts State.sizeInRange State.durationsInRange State.upTo State.limitsInRange State.blockNeed State.create Run.act Run.hasRoom Run.useRoom Run.send Answer.messageFits Answer.countsBelow Answer.countsStay Answer.lastRound Answer.outputOf Answer.lastTwo Answer.tooFarMessage Answer.tooFar Answer.askOf Answer.askRead Answer.ask Answer.askWhole Answer.outcome Answer.answerOf Answer.answerBlock Whole.contentHeld Whole.cacheFits Whole.fits Whole.inRange Whole.keysOnce Whole.neighbours Whole.announcersWhole Whole.graftsWhole Whole.notedOnce Whole.recordWithin Whole.flagsStand Whole.whole Whole.longEnough Whole.wholeState Links.peersMarked Links.eagerPeers Links.lazyPeers Links.marked Links.eagerIn Links.markIfThere Links.addEager Links.addLazy Links.linkUp Links.linkDown Neighbours.onNeighborUp Neighbours.withoutAnnouncer Neighbours.forgetAnnouncer Neighbours.withoutNotes Neighbours.withoutGraft Neighbours.forgetGrafted Neighbours.forgetPeer Neighbours.onNeighborDown Push.scheduleDispatch Push.scheduleAnnounceDropped Push.recordFull Push.recordAlso Push.noteOne Push.noteEach Push.noteDropped Push.sendEach Push.handedBack Push.noteForEach Push.eagerTargets Push.noteAfter Push.pushTo Push.eagerPush Push.noteFor Push.lazyPush Push.sendIhave Gossips.markReceived Gossips.cacheAt Gossips.hopsOf Gossips.announcers Gossips.peersOf Gossips.graftedFor Gossips.withFirst Gossips.setFirst Gossips.graftOut Gossips.forgetMissing Gossips.raiseHops Gossips.leastFrom Gossips.farCloser Gossips.updateLinks Gossips.graftUnlessEager Gossips.pruneBack Gossips.optimizeTree Gossips.forgetAndOptimise Gossips.pushOn Gossips.takeIn Gossips.sameAs Gossips.noMoreHops Gossips.lateFrom Gossips.lateKind Gossips.withKept Gossips.setKept Gossips.onDuplicate Gossips.onLateGraftReply Gossips.onNew Gossips.onGossip Gossips.broadcastTo Gossips.broadcast Gossips.gossipSize Ticks.chunks Ticks.queuedFor Ticks.queuedPeers Ticks.sendChunks Ticks.dispatchTo Ticks.clearDispatch Ticks.onDispatchTimer Ticks.oldest Ticks.younger Ticks.moveOldest Ticks.stillCached Ticks.dispatchIfQueued Ticks.onAnnounceDroppedTimer Ticks.evict Ticks.onEvictCacheTimer Ticks.perMessage Control.addAnnouncer Control.announce Control.scheduleGraft Control.onAnnounced Control.onIHave Control.onPrune Control.replyWith Control.reply Control.onGraft Control.lower Control.withGraft Control.noteGraft Control.leaveAnnouncers Control.askFirst Control.unmark Control.onSendGraftTimer Handle.firstEvent Handle.onePayload Handle.oneControl Handle.countMessage Handle.ifNeighbour Handle.onTimer Handle.onMessage Handle.handleMessage Handle.handle Calls.stateAfter Calls.countsAfter Calls.prepend Calls.runCalls Alike.sameList Alike.sameBag Alike.sameOption Alike.sameMap Alike.sameMark Alike.sameHop Alike.sameNote Alike.sameExpiry Alike.sameGrafts Alike.sameCached Alike.sameUnit Alike.sameCache Alike.sameSettings Alike.sameLimits Alike.sameTables Alike.sameCaches Alike.sameFlags Alike.alike Alike.likenessOf Alike.alikeBlocks
+unfolding agrees hash names named section38 section39 section40 Base.filter Base.count Base.any Base.all Base.member Base.sum Base.concatMap Base.ascending Base.once Map.lookup Map.insert Map.remove Map.insertKey Map.removeKey Number.groups Number.numberBytes Number.numberLength Number.bigEndian Number.idBytes Number.fromBigEndian Number.readKind Number.readBytes Number.readId Number.lastGroup Number.readGroups Number.readNumber Number.readPadded Number.readRound Number.kindNumber Message.contentBytes Message.deliveryBytes Message.scopeByte Message.ihaveBytes Message.optionalIdBytes Message.messageBytes Message.timerBytes Message.eventBytes Message.takenByte Message.actionBytes Decode.readContent Decode.readPaddedContent Decode.deliveryOf Decode.deliveryKind Decode.readDelivery Decode.scopeOf Decode.optionalIdOf Decode.readOptionalId Decode.readIhave Decode.readIhaves Decode.ihavesIn Decode.messageOf Decode.messageKind Decode.readMessage Decode.timerOf Decode.readTimer Decode.eventOf Decode.readEvent Decode.messagePart Decode.ended Decode.decodeEvent Decode.meaning TimeCache.valueOf TimeCache.get TimeCache.addExpiry TimeCache.put TimeCache.withValue TimeCache.replace TimeCache.expiresAt TimeCache.pop TimeCache.due TimeCache.later TimeCache.popAll TimeCache.popped TimeCache.expireUntil TimeCache.expiredKeys TimeCache.expiresOnTime TimeCache.inPopOrder TimeCache.laterCache State.fresh State.zeroCounts State.sizeInRange State.durationsInRange State.upTo State.limitsInRange State.blockNeed State.create Run.act Run.hasRoom Run.useRoom Run.send Answer.messageFits Answer.countsBelow Answer.countsStay Answer.lastRound Answer.outputOf Answer.lastTwo Answer.tooFarMessage Answer.tooFar Answer.askOf Answer.askRead Answer.ask Answer.askWhole Answer.outcome Answer.answerOf Answer.answerBlock Whole.contentHeld Whole.cacheFits Whole.fits Whole.inRange Whole.keysOnce Whole.neighbours Whole.announcersWhole Whole.graftsWhole Whole.notedOnce Whole.recordWithin Whole.flagsStand Whole.whole Whole.longEnough Whole.wholeState Links.peersMarked Links.eagerPeers Links.lazyPeers Links.marked Links.eagerIn Links.markIfThere Links.addEager Links.addLazy Links.linkUp Links.linkDown Neighbours.onNeighborUp Neighbours.withoutAnnouncer Neighbours.forgetAnnouncer Neighbours.withoutNotes Neighbours.withoutGraft Neighbours.forgetGrafted Neighbours.forgetPeer Neighbours.onNeighborDown Push.scheduleDispatch Push.scheduleAnnounceDropped Push.recordFull Push.recordAlso Push.noteOne Push.noteEach Push.noteDropped Push.sendEach Push.handedBack Push.noteForEach Push.eagerTargets Push.noteAfter Push.pushTo Push.eagerPush Push.noteFor Push.lazyPush Push.sendIhave Gossips.markReceived Gossips.cacheAt Gossips.hopsOf Gossips.announcers Gossips.peersOf Gossips.graftedFor Gossips.withFirst Gossips.setFirst Gossips.graftOut Gossips.forgetMissing Gossips.raiseHops Gossips.leastFrom Gossips.farCloser Gossips.updateLinks Gossips.graftUnlessEager Gossips.pruneBack Gossips.optimizeTree Gossips.forgetAndOptimise Gossips.pushOn Gossips.takeIn Gossips.sameAs Gossips.noMoreHops Gossips.lateFrom Gossips.lateKind Gossips.withKept Gossips.setKept Gossips.onDuplicate Gossips.onLateGraftReply Gossips.onNew Gossips.onGossip Gossips.broadcastTo Gossips.broadcast Gossips.gossipSize Ticks.chunks Ticks.queuedFor Ticks.queuedPeers Ticks.sendChunks Ticks.dispatchTo Ticks.clearDispatch Ticks.onDispatchTimer Ticks.oldest Ticks.younger Ticks.moveOldest Ticks.stillCached Ticks.dispatchIfQueued Ticks.onAnnounceDroppedTimer Ticks.evict Ticks.onEvictCacheTimer Ticks.perMessage Control.addAnnouncer Control.announce Control.scheduleGraft Control.onAnnounced Control.onIHave Control.onPrune Control.replyWith Control.reply Control.onGraft Control.lower Control.withGraft Control.noteGraft Control.leaveAnnouncers Control.askFirst Control.unmark Control.onSendGraftTimer Handle.firstEvent Handle.onePayload Handle.oneControl Handle.countMessage Handle.ifNeighbour Handle.onTimer Handle.onMessage Handle.handleMessage Handle.handle Calls.stateAfter Calls.countsAfter Calls.prepend Calls.runCalls Alike.sameList Alike.sameOption Alike.sameMap Alike.sameMark Alike.sameHop Alike.sameNote Alike.sameNotes Alike.sameExpiry Alike.sameGrafts Alike.sameCached Alike.sameUnit Alike.sameCache Alike.sameSettings Alike.sameLimits Alike.sameTables Alike.sameCaches Alike.sameFlags Alike.alike Alike.likenessOf Alike.alikeBlocks
 rust-sample-4 = refl

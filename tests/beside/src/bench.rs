@@ -1,5 +1,5 @@
 //! Times per call, the library's beside those of the Rust's `handle`, and of its reading and writing
-//! of a message; of savings and returns, beside a copy of the block.
+//! of a message; of *alike*, beside question 5; of savings and returns, beside a copy of the block.
 //!
 //! Each call starts from the same state, given back before it outside of the time taken; the least
 //! of many is told.
@@ -12,7 +12,7 @@ use oracle::{
 };
 
 use crate::{
-    block::{self, CEILINGS},
+    block::{self, Interleaving, CEILINGS},
     gen::{spell, PANELRUN},
     library,
     rng::Rng,
@@ -288,13 +288,18 @@ fn measure(max: &[u64; 9], s: &Snap, case: &Case, runs: usize) -> Times {
     t
 }
 
+const LIMITS: [(&str, [u64; 9]); 2] = [("panelrun's limits", PANELRUN), ("the ceilings", CEILINGS)];
+
 pub fn run(only: Option<&str>) {
-    for (title, max) in [("panelrun's limits", PANELRUN), ("the ceilings", CEILINGS)] {
-        println!("\n{title}: nanoseconds a call; the Rust's `handle`, the library, their ratio, and question 5 alone");
-        println!("{:34}|{:^34}|{:^34}|{:^34}", "", "empty", "quarter", "full");
+    for (title, max) in LIMITS {
         let fills: Vec<Filled> =
             [(0, 4), (1, 4), (1, 1)].iter().map(|share| filled(&max, *share)).collect();
         let names: Vec<&str> = cases(&fills[2]).iter().map(|c| c.name).collect();
+        if !names.iter().any(|name| only.is_none_or(|o| name.contains(o))) {
+            continue;
+        }
+        println!("\n{title}: nanoseconds a call; the Rust's `handle`, the library, their ratio, and question 5 alone");
+        println!("{:34}|{:^34}|{:^34}|{:^34}", "", "empty", "quarter", "full");
         for name in names {
             if only.is_some_and(|o| !name.contains(o)) {
                 continue;
@@ -318,9 +323,119 @@ pub fn run(only: Option<&str>) {
         }
     }
     rewriting(only);
-    for (title, max) in [("panelrun's limits", PANELRUN), ("the ceilings", CEILINGS)] {
+    for (title, max) in LIMITS {
+        alike(only, title, &max);
+    }
+    for (title, max) in LIMITS {
         states(only, title, &max);
     }
+}
+
+/// *Alike* of two blocks with one state, as long as it can be: links, queue and record at their limits, or at a share of them.
+fn alike(only: Option<&str>, title: &str, max: &[u64; 9]) {
+    use Interleaving::{Peers, Random, Turns};
+    const CASES: [(&str, Interleaving, Interleaving, Notes); 9] = [
+        ("alike, no notes", Turns, Turns, Notes::None),
+        ("alike, notes of the links in turn", Turns, Turns, Notes::Each),
+        ("alike, notes link by link", Peers, Peers, Notes::Each),
+        ("alike, in turn and link by link", Turns, Peers, Notes::Each),
+        ("alike, notes at random", Random, Random, Notes::Each),
+        ("alike, in turn, no other table", Turns, Turns, Notes::Alone),
+        ("alike, at random, no other table", Random, Random, Notes::Alone),
+        ("alike, at random, every link listed", Random, Random, Notes::All),
+        ("alike, notes of one link", Peers, Peers, Notes::One),
+    ];
+    const WHOLE: &str = "alike, question 5 of both alone";
+    let wanted = |name: &str| only.is_none_or(|o| name.contains(o));
+    if !wanted(WHOLE) && !CASES.iter().any(|c| wanted(c.0)) {
+        return;
+    }
+    println!("\nalike, {title}: nanoseconds a call");
+    println!("{:36}|{:^12}|{:^12}|{:^12}", "", "empty", "quarter", "full");
+    let runs = if *max == CEILINGS { 200 } else { 2000 };
+    let shares = [(0, 4), (1, 4), (1, 1)];
+    if wanted(WHOLE) {
+        let of = |share| same_state(max, &noted(max, share, Notes::Each), [Turns; 2], runs, false);
+        println!("{WHOLE:36}|{}", shares.map(|s| format!("{:>11.0} ", of(s))).join("|"));
+    }
+    for (name, first, second, notes) in CASES {
+        if wanted(name) {
+            let of =
+                |share| same_state(max, &noted(max, share, notes), [first, second], runs, true);
+            println!("{name:36}|{}", shares.map(|s| format!("{:>11.0} ", of(s))).join("|"));
+        }
+    }
+}
+
+/// Whose notes queue and record hold: nobody's, the same identifiers for each link, or those of one link. `Alone` is `Each` with the other tables but the links empty; `All` is `Each` with every
+/// link an announcer of each missing message and a peer of each grafted one.
+#[derive(Clone, Copy, PartialEq)]
+enum Notes {
+    None,
+    Each,
+    Alone,
+    All,
+    One,
+}
+
+/// The tables at a share of their limits, and links, queue and record at it to the last; of one link the record has at most 256.
+fn noted(max: &[u64; 9], share: (u64, u64), whose: Notes) -> Snap {
+    let r = &mut Rng::new(9);
+    let others = if whose == Notes::Alone { (0, 4) } else { share };
+    let mut s = filled(max, others).snap;
+    let part = |limit: u64| (limit * share.0 / share.1) as usize;
+    let links = part(max[0]).max(2);
+    while s.eager.len() + s.lazy.len() < links {
+        s.lazy.push(5000 + s.lazy.len() as u64);
+    }
+    let mut all: Vec<u64> = s.eager.iter().chain(&s.lazy).copied().collect();
+    all.sort();
+    let ids: Vec<Id> = (0..part(max[7])).map(|_| some_id(r)).collect();
+    let notes = |count: usize, most: usize| -> Vec<(u64, Vec<(Id, u16)>)> {
+        let peers = match whose {
+            Notes::None => return vec![],
+            Notes::Each | Notes::Alone | Notes::All => &all[..],
+            Notes::One => &all[links / 2..=links / 2],
+        };
+        let each = (count / peers.len()).min(most);
+        let list: Vec<(Id, u16)> = ids[..each].iter().map(|id| (*id, 3)).collect();
+        peers.iter().filter(|_| each > 0).map(|p| (*p, list.clone())).collect()
+    };
+    s.queue = notes(part(max[7]), usize::MAX);
+    s.dropped = notes(part(max[8]), 256);
+    (s.dispatch, s.announce) = (true, true);
+    if whose == Notes::All {
+        while s.missing.len() < part(max[5]) {
+            s.missing.push((some_id(r), vec![]));
+        }
+        s.missing.sort();
+        let hops: Vec<(u64, u16)> = all.iter().map(|p| (*p, 5)).collect();
+        s.missing.iter_mut().for_each(|e| e.1 = hops.clone());
+        s.grafted.iter_mut().for_each(|g| g.peers = hops.clone());
+    }
+    s
+}
+
+/// The least time of *alike* of two blocks with this state, interleaved so; or of question 5 of both.
+fn same_state(max: &[u64; 9], s: &Snap, how: [Interleaving; 2], runs: usize, alike: bool) -> f64 {
+    let base = clock();
+    let [mut a, mut b] = [(3, how[0]), (4, how[1])].map(|(seed, how)| {
+        let mut block = vec![0; block::need(max)];
+        block::write_interleaved(&mut Rng::new(seed), &mut block, max, s, Some(how));
+        block
+    });
+    assert_eq!(library::alike(&a, &b), (0, true));
+    let mut least = f64::MAX;
+    for _ in 0..runs {
+        let i = Instant::now();
+        let yes = match alike {
+            true => black_box(library::alike(black_box(&a), black_box(&b))).1,
+            false => library::whole(black_box(&mut a)) && library::whole(black_box(&mut b)),
+        };
+        least = least.min(i.elapsed().as_nanos() as f64 - base);
+        assert!(yes);
+    }
+    least
 }
 
 /// A call upon an area, or what it is held against.
@@ -403,8 +518,6 @@ fn state(max: &[u64; 9], s: &Snap, kept: u64, call: Named, number: u64, runs: us
 /// writing beside the library's.
 fn rewriting(only: Option<&str>) {
     const CALLS: u32 = 100;
-    println!("\nrewriting: nanoseconds a call; the Rust's reading and serde's writing, the library, their ratio");
-    println!("{:34}|{:^27}|{:^27}", "", "shortest", "padded");
     let r = &mut Rng::new(5);
     let id = some_id(r);
     let list: Vec<(Id, u16)> = (0..110).map(|_| (some_id(r), 3)).collect();
@@ -416,6 +529,11 @@ fn rewriting(only: Option<&str>) {
         ("rewrite Gossip, 70,000 B", wire::gossip(&id, &r.bytes(70_000), Some(3))),
         ("rewrite IHave of 110", wire::ihave(&list)),
     ];
+    if !messages.iter().any(|m| only.is_none_or(|o| m.0.contains(o))) {
+        return;
+    }
+    println!("\nrewriting: nanoseconds a call; the Rust's reading and serde's writing, the library, their ratio");
+    println!("{:34}|{:^27}|{:^27}", "", "shortest", "padded");
     for (name, message) in messages {
         if only.is_some_and(|o| !name.contains(o)) {
             continue;

@@ -296,6 +296,23 @@ pub fn read(b: &[u8]) -> Read<Snap> {
     })
 }
 
+/// The link numbers of the queue's notes and of the record's: how the notes of different peers are interleaved.
+pub fn interleaved(b: &[u8]) -> [Vec<u8>; 2] {
+    let at = Layout::of(&limits(b));
+    let n = live(b).map(|x| x as usize);
+    [b[at.queue_numbers..][..n[10]].to_vec(), b[at.dropped_numbers..][..n[11]].to_vec()]
+}
+
+/// The expiry rows that the entries of the three caches name.
+pub fn places_named(b: &[u8]) -> Vec<u64> {
+    let at = Layout::of(&limits(b));
+    let n = live(b).map(|x| x as usize);
+    let tables = [(at.received, 2, n[1]), (at.cached, 4, n[3]), (at.grafted, 119, n[6])];
+    let of =
+        |(at, stride, n): (usize, usize, usize)| (0..n).map(move |i| le(b, at + stride * i, 2));
+    tables.into_iter().flat_map(of).collect()
+}
+
 /// One of the rows of this time and identifier.
 fn place(r: &mut Rng, rows: &[(u64, Id)], time: u64, id: &Id) -> usize {
     let v: Vec<usize> =
@@ -311,14 +328,38 @@ fn mark(r: &mut Rng, yes: bool) -> u8 {
     }
 }
 
-/// All peers' notes in one row, each peer's in their order.
-fn mixed(r: &mut Rng, v: &Notes, peers: &[u64]) -> Vec<(usize, Id, u16)> {
+/// How the notes of different peers are interleaved.
+#[derive(Clone, Copy, PartialEq)]
+pub enum Interleaving {
+    /// Peer by peer, as a dispatch notes what is handed back.
+    Peers,
+    /// One of each peer in turn, as broadcasts do.
+    Turns,
+    /// At random.
+    Random,
+}
+
+/// All peers' notes in one row, each peer's in their order. Without an interleaving one is drawn.
+fn mixed(
+    r: &mut Rng,
+    how: Option<Interleaving>,
+    v: &Notes,
+    peers: &[u64],
+) -> Vec<(usize, Id, u16)> {
+    let drawn = || if r.chance(70.0) { Interleaving::Random } else { Interleaving::Peers };
+    let how = how.unwrap_or_else(drawn);
     let mut order: Vec<usize> = Vec::new();
     for (k, e) in v.iter().enumerate() {
         order.extend(std::iter::repeat_n(k, e.1.len()));
     }
-    if r.chance(70.0) {
-        r.shuffle(&mut order);
+    match how {
+        Interleaving::Peers => {}
+        Interleaving::Turns => {
+            let longest = v.iter().map(|e| e.1.len()).max().unwrap_or(0);
+            let turn = |i: usize| (0..v.len()).filter(move |k| v[*k].1.len() > i);
+            order = (0..longest).flat_map(turn).collect();
+        }
+        Interleaving::Random => r.shuffle(&mut order),
     }
     let mut next = vec![0; v.len()];
     let mut out = Vec::new();
@@ -333,6 +374,17 @@ fn mixed(r: &mut Rng, v: &Notes, peers: &[u64]) -> Vec<(usize, Id, u16)> {
 
 /// Writes a whole state into a block. What the layout leaves free keeps its bytes.
 pub fn write(r: &mut Rng, b: &mut [u8], l: &[u64; 9], s: &Snap) {
+    write_interleaved(r, b, l, s, None);
+}
+
+/// The same, with this interleaving of the queue and of the record.
+pub fn write_interleaved(
+    r: &mut Rng,
+    b: &mut [u8],
+    l: &[u64; 9],
+    s: &Snap,
+    how: Option<Interleaving>,
+) {
     let at = Layout::of(l);
     let mut peers: Vec<u64> = s.eager.iter().chain(&s.lazy).copied().collect();
     peers.sort();
@@ -403,8 +455,8 @@ pub fn write(r: &mut Rng, b: &mut [u8], l: &[u64; 9], s: &Snap) {
     for (i, id) in s.timers.iter().enumerate() {
         b[at.timers + 32 * i..][..32].copy_from_slice(id);
     }
-    let queue = mixed(r, &s.queue, &peers);
-    let dropped = mixed(r, &s.dropped, &peers);
+    let queue = mixed(r, how, &s.queue, &peers);
+    let dropped = mixed(r, how, &s.dropped, &peers);
     for (v, numbers, rows) in
         [(&queue, at.queue_numbers, at.queue), (&dropped, at.dropped_numbers, at.dropped)]
     {

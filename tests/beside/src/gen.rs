@@ -1,6 +1,7 @@
 //! Random lists of calls. A list is determined by its seed and the Rust's answers.
 mod brink;
 mod rewrite;
+mod second;
 pub mod spell;
 mod states;
 
@@ -12,6 +13,7 @@ use oracle::{
 };
 
 pub use rewrite::Rewrites;
+pub use second::Seconds;
 pub use states::States;
 
 use crate::{
@@ -52,6 +54,8 @@ pub enum Profile {
     Ceilings,
     /// From a loaded state that is one or two calls from a limit (brink.rs).
     Brink,
+    /// Two panels, by two lists of calls (second.rs).
+    ByCalls,
 }
 
 pub struct World {
@@ -87,10 +91,13 @@ fn full_record(numbers: &[u8]) -> Option<u8> {
 }
 
 impl World {
-    /// List `list` of a run: one in eight is on the brink of a limit.
+    /// List `list` of a run: one in eight is on the brink of a limit, one in sixteen begins with two panels.
     pub fn of(seed: u64, list: u64) -> World {
         if list % 8 == 5 {
             return World::with(World::start(seed, list), Profile::Brink);
+        }
+        if list % 16 == 11 {
+            return World::with(World::start(seed, list), Profile::ByCalls);
         }
         World::new(seed, list)
     }
@@ -151,9 +158,11 @@ impl World {
             Profile::Record => 300,
             Profile::Ceilings => 600,
             Profile::Drops => r.pick(&[20, 90]),
+            Profile::ByCalls => 16,
             _ => r.pick(&[1, 2, 4, 8, 16, 40]),
         };
-        let contents: Vec<_> = (0..n).map(|k| World::content(&mut r, m, k, big)).collect();
+        let small = big || profile == Profile::ByCalls;
+        let contents: Vec<_> = (0..n).map(|k| World::content(&mut r, m, k, small)).collect();
         let mut ids: Vec<Id> = contents.iter().map(|c| identifier(c)).collect();
         let content_of = ids.iter().enumerate().map(|(i, id)| (*id, i)).collect();
         // A part of the identifiers comes from nothing that is ever sent.
@@ -231,6 +240,7 @@ impl World {
                 Profile::First => r.pick(&[2, 4, 10]),
                 Profile::Record => 8,
                 Profile::Brink => 6,
+                Profile::ByCalls => r.pick(&[10, 30, 60]),
                 _ => r.pick(&[20, 60, 150, 300]),
             },
             me,
@@ -357,8 +367,10 @@ impl World {
 
     /// The commands that begin the list.
     pub fn begin(&mut self) -> Vec<Cmd> {
-        if self.profile == Profile::Brink {
-            return self.begin_on_brink();
+        match self.profile {
+            Profile::Brink => return self.begin_on_brink(),
+            Profile::ByCalls => return self.begin_by_calls(),
+            _ => {}
         }
         let mut v = vec![Cmd::New { me: self.me, m: self.m, cfg: self.cfg }];
         self.out = self.outputs();

@@ -11,6 +11,7 @@ mod rng;
 mod run;
 mod sample;
 mod script;
+mod second;
 mod states;
 mod wire;
 
@@ -20,7 +21,7 @@ use std::{
     time::{Duration, Instant},
 };
 
-use gen::{Rewrites, States, World};
+use gen::{Rewrites, Seconds, States, World};
 use paths::Paths;
 use run::Pair;
 use script::Cmd;
@@ -170,15 +171,22 @@ fn run_list(
     }
     let mut rewrites = Rewrites::of(seed, number, world.m);
     let mut states = States::of(seed, number);
+    let mut seconds = Seconds::of(seed, number);
     let mut pair = Pair::default();
     let mut calls = 0;
     log.begin(number, before);
     paths.creation(create::check(seed ^ number)?);
     for c in world.begin() {
-        pair.run(log.push(c))?;
+        let c = log.push(c);
+        pair.run(c)?;
+        paths.seconds(&mut pair);
+        if let Cmd::Together(kind) = c {
+            paths.by_calls(*kind)?;
+        }
     }
     rewrite(rewrites.begin(), &mut pair, paths, log)?;
     keep(states.begin(&pair), &mut pair, paths, log)?;
+    go_along(seconds.begin(&pair), &mut pair, paths, log)?;
     while calls < world.calls as u64 {
         let mut damaged = false;
         let mut behind = Vec::new();
@@ -201,6 +209,7 @@ fn run_list(
             };
             let seen = pair.panel().see(event);
             let call = pair.run(c)?.expect("an event");
+            paths.seconds(&mut pair);
             calls += 1;
             let after = pair.snap.as_ref();
             let out = pair.limits.out;
@@ -215,9 +224,24 @@ fn run_list(
         }
         rewrite(behind, &mut pair, paths, log)?;
         keep(states.behind(&pair), &mut pair, paths, log)?;
+        go_along(seconds.behind(&pair), &mut pair, paths, log)?;
         world.goes_on(&pair);
     }
     Ok(calls)
+}
+
+/// Begins with second panels.
+fn go_along(
+    list: Vec<Cmd>,
+    pair: &mut Pair,
+    paths: &mut Paths,
+    log: &mut Log,
+) -> Result<(), String> {
+    for c in list {
+        pair.run(log.push(c))?;
+        paths.seconds(pair);
+    }
+    Ok(())
 }
 
 /// Runs savings and returns.
@@ -283,6 +307,7 @@ fn work(job: &Job, mut log: Log) -> ExitCode {
     let t = start.elapsed().as_secs_f64();
     let lists = number - job.from;
     let (rewrites, states) = (paths.rewrites, paths.states);
+    println!("{}", paths.second_panels());
     println!(
         "seed {}: {done} calls and {rewrites} rewrites, {states} savings and returns, in {lists} lists, 0 different, {t:.0} s",
         job.seed

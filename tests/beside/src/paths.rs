@@ -9,6 +9,8 @@ use oracle::{
 use crate::{
     block, likeness,
     rewriting::{self, Rewriter},
+    run::Pair,
+    second::{self, Apart, BY_CALLS},
     states::{self, Keeper},
     wire::{self, Action, Field, Message, Spelled, Stop},
 };
@@ -214,6 +216,11 @@ pub struct Paths {
     pub rewrites: u64,
     /// Calls of `plumtree_save` and `plumtree_return`.
     pub states: u64,
+    /// Second panels that were alike, and the calls that they and the first went through.
+    alike: (u64, u64),
+    /// Second panels in another order.
+    apart: Apart,
+    last: &'static str,
 }
 
 fn find<'a>(notes: &'a Notes, peer: u64) -> &'a [(Id, u16)] {
@@ -278,6 +285,45 @@ impl Paths {
             debug_assert!(states::ABOUT.contains(&name), "{name}");
             *self.faults.entry(name).or_default() += 1;
         }
+    }
+
+    /// What became of the second panel.
+    pub fn seconds(&mut self, pair: &mut Pair) {
+        if let Some(about) = pair.likeness.take() {
+            self.alike(about);
+            self.last = about;
+        }
+        let s = &mut pair.seconds;
+        self.alike.0 += std::mem::take(&mut s.alike);
+        self.alike.1 += std::mem::take(&mut s.calls);
+        for (list, more) in std::mem::take(&mut s.apart) {
+            let n = self.apart.entry(list).or_default();
+            (0..3).for_each(|i| n[i] += more[i]);
+        }
+        for name in s.about.drain(..) {
+            *self.faults.entry(name).or_default() += 1;
+            self.last = name;
+        }
+    }
+
+    /// Two lists of calls of this kind led to what they should.
+    pub fn by_calls(&self, kind: usize) -> Result<(), String> {
+        match self.last == BY_CALLS[kind].0 {
+            true => Ok(()),
+            false => Err(format!("{}: {}", BY_CALLS[kind].0, self.last)),
+        }
+    }
+
+    /// How many second panels there were, and what became of them.
+    pub fn second_panels(&self) -> String {
+        let (pairs, calls) = self.alike;
+        let mut o = format!("second panels: {pairs} alike went through {calls} calls, 0 different");
+        for (list, [all, chosen, followed]) in &self.apart {
+            o += &format!(
+                "\n    {list} in another order: {all}, told apart by chosen calls {chosen}, by those that followed {followed}"
+            );
+        }
+        o
     }
 
     /// The link room of a call.
@@ -753,7 +799,9 @@ impl Paths {
         let alike = likeness::ABOUT.iter().map(|k| (n(&self.faults, k), k.to_string()));
         let rewritten = rewriting::ABOUT.iter().map(|k| (n(&self.faults, k), k.to_string()));
         let kept = states::ABOUT.iter().map(|k| (n(&self.faults, k), k.to_string()));
-        calls.chain(faults).chain(alike).chain(rewritten).chain(kept).collect()
+        let seconds = second::ABOUT.iter().copied().chain(second::by_calls());
+        let seconds = seconds.map(|k| (n(&self.faults, k), k.to_string()));
+        calls.chain(faults).chain(alike).chain(rewritten).chain(kept).chain(seconds).collect()
     }
 
     /// How many paths no call took.

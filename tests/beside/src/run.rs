@@ -2,16 +2,23 @@
 use oracle::{snap::Snap, Answer, Limits, Panel};
 
 use crate::{
-    block, library, likeness,
+    block, library,
+    likeness::{self, List},
     rewriting::Rewriter,
     rng::Rng,
     script::Cmd,
+    second::{self, First, Seconds},
     states::{Asked, Keeper},
 };
 
 /// Bytes kept around everything that is lent.
 const PAD: usize = 64;
 pub const PATTERN: u8 = 0xa5;
+
+/// Whether each byte is this one: the first is, and each is as the one before it.
+pub fn all_are(v: &[u8], byte: u8) -> bool {
+    v.first().is_none_or(|b| *b == byte && v[1..] == v[..v.len() - 1])
+}
 
 /// A lent part between two pads.
 pub struct Lent {
@@ -40,7 +47,7 @@ impl Lent {
         &mut self.bytes[PAD..PAD + self.len]
     }
     pub fn pads_kept(&self) -> bool {
-        let p = |v: &[u8]| v.iter().all(|b| *b == self.pad);
+        let p = |v: &[u8]| all_are(v, self.pad);
         p(&self.bytes[..PAD]) && p(&self.bytes[PAD + self.len..])
     }
 }
@@ -78,6 +85,8 @@ pub struct Pair {
     pub rewriter: Rewriter,
     /// The area and what was saved into it.
     pub keeper: Keeper,
+    /// The second panel.
+    pub seconds: Seconds,
 }
 
 pub type Same<T> = Result<T, String>;
@@ -127,6 +136,7 @@ impl Default for Pair {
             garbage: Rng::new(7),
             rewriter: Rewriter::default(),
             keeper: Keeper::default(),
+            seconds: Seconds::default(),
         }
     }
 }
@@ -145,7 +155,8 @@ impl Pair {
     pub fn run(&mut self, cmd: &Cmd) -> Same<Option<Call>> {
         match cmd {
             Cmd::New { me, m, cfg } => {
-                *self = Pair::default();
+                let seconds = std::mem::take(&mut self.seconds).created();
+                *self = Pair { seconds, ..Pair::default() };
                 self.settings = Some((*me, *m, *cfg));
                 self.garbage = Rng::new(*me ^ *m ^ cfg[4]);
                 Ok(None)
@@ -168,6 +179,7 @@ impl Pair {
             }
             Cmd::Counts(c) => {
                 self.counts = *c;
+                self.seconds.end();
                 self.panel.as_mut().ok_or("script: no panel")?.set_counts(*c);
                 Ok(None)
             }
@@ -225,7 +237,49 @@ impl Pair {
                 Ok(None)
             }
             Cmd::UndoArea => self.keeper.undo().map(|()| None),
+            Cmd::Second(seed) => self.second(*seed, None).map(|()| None),
+            Cmd::Reordered(list, seed) => {
+                let list = likeness::LISTS.get(*list).ok_or("script: no such list")?;
+                self.second(*seed, Some(*list)).map(|()| None)
+            }
+            Cmd::Aside => {
+                self.seconds.put_aside(self.block.part(), self.counts);
+                Ok(None)
+            }
+            Cmd::Together(kind) => self.together(*kind).map(|()| None),
         }
+    }
+
+    /// A second panel with this state, or with one of its lists in another order.
+    fn second(&mut self, seed: u64, list: Option<List>) -> Same<()> {
+        let mut snap = self.snap.clone().ok_or("script: a block that is not whole")?;
+        let mut r = Rng::new(seed);
+        if list.is_some_and(|list| !likeness::reorder(&mut r, &mut snap, list)) {
+            return Ok(());
+        }
+        let mut block = vec![0; block::need(&self.limits.max) + r.pick(&[0, 1, 50, 3000])];
+        r.fill(&mut block);
+        block::write(&mut r, &mut block, &self.limits.max, &snap);
+        let first =
+            First { block: self.block.part(), counts: self.counts, number: 0, actions: &[] };
+        let told = self.seconds.goes_along(first, &block, self.counts)?;
+        self.likeness = Some(told.about);
+        holds(told.unordered, "second panel: not alike in the old way")?;
+        holds(told.alike == list.is_none(), "second panel: not as it was written")
+    }
+
+    /// The panel that was put aside and this one, by two lists of calls of this kind.
+    fn together(&mut self, kind: usize) -> Same<()> {
+        let (name, alike, about) = second::BY_CALLS.get(kind).ok_or("script: no such lists")?;
+        let first =
+            First { block: self.block.part(), counts: self.counts, number: 0, actions: &[] };
+        let told = self.seconds.together(first)?;
+        self.likeness = Some(told.about);
+        let should = told.unordered && told.alike == *alike && told.about == *about;
+        if should && self.seconds.is_there() {
+            self.seconds.about.push(name);
+        }
+        Ok(())
     }
 
     /// A saving of another panel's state, in a block as long as this one.
@@ -250,6 +304,7 @@ impl Pair {
         let Some(back) = self.keeper.go_back(asked, name)? else {
             return Ok(());
         };
+        self.seconds.end();
         self.panel = Some(back.panel);
         self.counts = back.counts;
         self.limits.max = block::limits(self.block.part());
@@ -297,6 +352,7 @@ impl Pair {
         self.fill(len);
         let (r, l) = (&mut self.garbage, &self.limits.max);
         block::write(r, &mut self.block.bytes[PAD..PAD + len], l, &snap);
+        self.seconds.end();
         self.panel = Some(panel);
         self.counts = [0; 3];
         self.settle()
@@ -386,7 +442,7 @@ impl Pair {
             let (a, b) = (hex::encode(&answer.actions), hex::encode(&out[..n]));
             return Err(format!("actions:\n  the Rust    {a}\n  the library {b}"));
         }
-        holds(out[n..].iter().all(|b| *b == PATTERN), "wrote beyond the length")?;
+        holds(all_are(&out[n..], PATTERN), "wrote beyond the length")?;
         if answer.number != 0 {
             same("counts of a refused call", self.counts, counts)?;
             holds(self.block.part() == self.before, "a refused call changed the block")?;
@@ -397,6 +453,12 @@ impl Pair {
             holds(self.block.part()[need..] == self.before[need..], "wrote past the need")?;
             self.settle()?;
         }
+        if self.saved.is_none() {
+            let (block, number) = (self.block.part(), answer.number.into());
+            let first = First { block, counts: self.counts, number, actions: &answer.actions };
+            let asked = second::Asked { now, rooms, event, out: limits.out };
+            self.seconds.event(first, asked)?;
+        }
         self.keeper.event(answer.number == 0);
         Ok(Call { before, answer })
     }
@@ -406,12 +468,16 @@ impl Pair {
         let other = Panel::load(text).ok_or("script: not a state")?;
         let mut second = Lent::new(block::need(max));
         self.garbage.fill(second.part_mut());
+        let as_before = *max == self.limits.max && second.len <= self.block.len;
+        if as_before && self.garbage.chance(50.0) {
+            // What the state leaves free are the bytes of this block, rows behind shorter lists too.
+            let n = second.len;
+            second.part_mut().copy_from_slice(&self.block.part()[..n]);
+        }
         block::write(&mut self.garbage, second.part_mut(), max, &sorted(other.snap()));
         let (a, b) = (self.block.part(), second.part());
-        let told = likeness::told(a, b);
+        let told = second::asked_both_ways(a, b)?;
         self.likeness = Some(told.about);
-        same("alike", (told.number, told.alike), library::alike(a, b))?;
-        same("alike, the other way", (told.number, told.alike), library::alike(b, a))?;
         holds(self.block.part() == self.before, "alike changed the block")
     }
 }

@@ -3,12 +3,23 @@ use std::collections::BTreeSet;
 
 use oracle::{snap::Snap, Limits, Panel};
 
-use crate::{block, gen::World, library, likeness, paths::Paths, rng::Rng, run::Pair, script::Cmd};
+use crate::{
+    block,
+    gen::World,
+    library,
+    likeness::{self, LISTS},
+    paths::Paths,
+    rng::Rng,
+    run::Pair,
+    script::Cmd,
+};
 
 /// The longest block and output of the sample: the program that replays it has no more.
 const MOST: usize = 65536;
 /// A state stands behind so many accepted calls, and behind the last of a list.
 const EVERY: usize = 6;
+/// So many of the states have a queue whose order could be another; so many a record, announcers, expiry rows of one time.
+const ORDERS: usize = 4;
 
 fn low(o: &mut Vec<u8>, v: u64, bytes: usize) {
     o.extend(&v.to_le_bytes()[..bytes]);
@@ -122,11 +133,28 @@ fn records(list: &[Cmd]) -> Vec<u8> {
     o
 }
 
-/// Runs a list without loads and damage; answers its commands and paths.
-fn candidate(seed: u64, n: u64) -> Option<(Vec<Cmd>, Paths)> {
+/// How many of these states have a list whose order could be another, for each kind of list.
+fn orders(states: &[Snap]) -> [usize; 6] {
+    LISTS.map(|list| {
+        let other = |s: &&Snap| likeness::reorder(&mut Rng::new(1), &mut (*s).clone(), list);
+        states.iter().filter(other).count()
+    })
+}
+
+/// A list with its paths and the orders of its states.
+struct Candidate {
+    list: Vec<Cmd>,
+    paths: Paths,
+    orders: [usize; 6],
+}
+
+/// Runs a list without loads and damage.
+fn candidate(seed: u64, n: u64) -> Option<Candidate> {
     let mut world = World::new(seed, n);
     let mut pair = Pair::default();
     let mut paths = Paths::default();
+    let mut states = Vec::new();
+    let mut accepted = 0;
     let mut list = world.begin();
     if list.iter().any(|c| matches!(c, Cmd::Load(_))) || world.calls > 60 {
         return None;
@@ -159,40 +187,55 @@ fn candidate(seed: u64, n: u64) -> Option<(Vec<Cmd>, Paths)> {
                 paths.call(before, seen.as_ref(), *now, &call.answer, out, after, false);
                 paths.spelled(before, event, &call.answer);
                 world.heard(&call);
+                if call.answer.number == 0 {
+                    accepted += 1;
+                    if accepted % EVERY == 0 {
+                        states.extend(pair.snap.clone());
+                    }
+                }
             } else {
                 pair.run(&c).ok()?;
             }
             list.push(c);
         }
     }
-    Some((list, paths))
+    states.extend(pair.snap.clone());
+    Some(Candidate { list, paths, orders: orders(&states) })
 }
 
-/// Lists that together take as many paths as possible, in few calls.
+/// Lists that together take as many paths as possible, and have states with orders to compare, in few calls.
 pub fn write(file: &str, seed: u64, calls: usize) {
     let mut had = BTreeSet::new();
+    let mut orders = [0; 6];
     let mut out = Vec::new();
     let mut total = 0;
     let found: Vec<_> = (0..3000).filter_map(|n| candidate(seed, n)).collect();
     loop {
-        // The list with the most new paths for its bytes.
-        let gain = |p: &Paths| p.names().filter(|n| !had.contains(n)).count();
+        // The list with the most new paths and orders for its bytes.
+        let gain = |c: &Candidate| {
+            let more = |i: usize| c.orders[i].min(ORDERS.saturating_sub(orders[i]));
+            c.paths.names().filter(|n| !had.contains(n)).count() + (0..6).map(more).sum::<usize>()
+        };
         let best = found
             .iter()
-            .map(|(l, p)| (gain(p) as f64 / (500.0 + records(l).len() as f64), gain(p), l, p))
+            .map(|c| (gain(c) as f64 / (500.0 + records(&c.list).len() as f64), gain(c), c))
             .max_by(|a, b| a.0.total_cmp(&b.0));
-        let Some((_, 1.., list, paths)) = best else {
+        let Some((_, 1.., c)) = best else {
             break;
         };
-        total += list.iter().filter(|c| matches!(c, Cmd::Event { .. })).count();
-        had.extend(paths.names());
-        out.extend(records(list));
+        total += c.list.iter().filter(|c| matches!(c, Cmd::Event { .. })).count();
+        had.extend(c.paths.names());
+        (0..6).for_each(|i| orders[i] += c.orders[i]);
+        out.extend(records(&c.list));
         if total >= calls {
             break;
         }
     }
     std::fs::write(file, &out).unwrap();
     println!("{file}: {total} calls, {} bytes, {} paths", out.len(), had.len());
+    for (list, n) in LISTS.iter().zip(orders) {
+        println!("states in which the order of {} is compared: {n}", list.name());
+    }
 }
 
 struct Reader<'a>(&'a [u8]);

@@ -1,6 +1,6 @@
 //! Lists of calls and rewrites, and their text: the oracle's commands (tests/rust/README.md), with `alike`,
-//! `poke`, `cut` and `undo` for the block, which the oracle has none of, and `area`, `save`, `saveother`, `return`,
-//! `pokearea`, `cutarea` and `undoarea` for named states.
+//! `poke`, `cut` and `undo` for the block, which the oracle has none of, `area`, `save`, `saveother`, `return`,
+//! `pokearea`, `cutarea` and `undoarea` for named states, and `second`, `reordered`, `aside` and `together` for a second panel.
 use std::fmt::Write;
 
 #[derive(Clone, Debug, PartialEq)]
@@ -59,6 +59,14 @@ pub enum Cmd {
     CutArea(usize),
     /// Takes back what was done to the area, and what came after it.
     UndoArea,
+    /// A second panel with this state and these counts, in another block, drawn by a seed; the calls behind it go to both.
+    Second(u64),
+    /// The same, with one list of this kind in another order.
+    Reordered(usize, u64),
+    /// Puts the panel aside; another one is created next.
+    Aside,
+    /// The panel that was put aside is the second one from here on. The number says of which kind the two lists of calls are.
+    Together(usize),
 }
 
 fn hex_or_dash(b: &[u8]) -> String {
@@ -113,6 +121,10 @@ impl Cmd {
             Cmd::PokeArea(v) => format!("pokearea {}", list(v, |(i, b)| format!("{i}:{b}"))),
             Cmd::CutArea(n) => format!("cutarea {n}"),
             Cmd::UndoArea => "undoarea".into(),
+            Cmd::Second(seed) => format!("second {seed}"),
+            Cmd::Reordered(list, seed) => format!("reordered {list} {seed}"),
+            Cmd::Aside => "aside".into(),
+            Cmd::Together(kind) => format!("together {kind}"),
         }
     }
 
@@ -169,6 +181,10 @@ impl Cmd {
             "pokearea" => Cmd::PokeArea(pokes()?),
             "cutarea" => Cmd::CutArea(*nums()?.first()? as usize),
             "undoarea" => Cmd::UndoArea,
+            "second" => Cmd::Second(*nums()?.first()?),
+            "reordered" => Cmd::Reordered(w.get(1)?.parse().ok()?, w.get(2)?.parse().ok()?),
+            "aside" => Cmd::Aside,
+            "together" => Cmd::Together(w.get(1)?.parse().ok()?),
             "cut" => Cmd::Cut(*nums()?.first()? as usize),
             "undo" => Cmd::Undo,
             _ => return None,

@@ -10,9 +10,10 @@ use Rattle.protocol.specs.State.{State}
 use Rattle.protocol.specs.Whole.{wholeState}
 use Rattle.protocol.specs.Alike.{likeness, likenessOf, alike, alikeBlocks}
 use Rattle.block.specs.Sound.{Sound}
+use Rattle.block.specs.LinkSteps.{LinksAscend}
 use Rattle.whole.specs.Held.{held}
 use Rattle.whole.proofs.HeldLaws.{wholly-of}
-use Rattle.alike.proofs.Answers.{not-whole, has-header, whole-state, second-not}
+use Rattle.alike.proofs.Answers.{not-whole, has-header, links-ascend, whole-state, second-not}
 use borrow.Author.Needs.{needs}
 use Rattle.alike.proofs.alike.Statement.{statement}
 use Rattle.alike.proofs.alike.Tie as tie
@@ -50,7 +51,11 @@ same-states-requires c κs =
     let s = c .before .before .before .before .before .before .before .before in
     let a = s .args .a .now in
     let b = s .args .b .now in
-    (subst (λ (h : Head). Sound h a) (sym (c .before .load-head .ensures)) (wholly-of a (yes (c .before .before .before .before .before .is-whole .ensures) (c .before .before .before .before .if1 .left)) .sound), subst (λ (h : Head). Sound h b) (sym (c .load-head2 .ensures)) (wholly-of b (yes (c .before .before .before .is-whole2 .ensures) (c .before .before .if2 .left)) .sound))
+    let wa = wholly-of a (yes (c .before .before .before .before .before .is-whole .ensures) (c .before .before .before .before .if1 .left)) in
+    let wb = wholly-of b (yes (c .before .before .before .is-whole2 .ensures) (c .before .before .if2 .left)) in
+    let x = subst (λ (h : Head). Sound h a × LinksAscend h a) (sym (c .before .load-head .ensures)) (wa .sound, links-ascend a wa) in
+    let y = subst (λ (h : Head). Sound h b × LinksAscend h b) (sym (c .load-head2 .ensures)) (wb .sound, links-ascend b wb) in
+    (x .0, x .1, y .0, y .1)
 
 returns-3 : tie.Need-returns-3
 unfolding alikeBlocks likenessOf

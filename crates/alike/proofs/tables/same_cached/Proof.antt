@@ -53,10 +53,10 @@ module _ (d : tie.After-same-key) where
       d .same-key .ensures ∙ (λ k. sameElement (x k) (y k))
 
 cached-cache-requires : tie.Need-cached-cache-requires
-cached-cache-requires c κs = let s = c .before .before in s .pre .0 .fit .ceilings
+cached-cache-requires c κs = search needs
 
 cached-cache-requires-2 : tie.Need-cached-cache-requires-2
-cached-cache-requires-2 c κs = let s = c .before .before .before in s .pre .2 .fit .ceilings
+cached-cache-requires-2 c κs = search needs
 
 same-key-requires : tie.Need-same-key-requires
 same-key-requires c κs =
@@ -72,10 +72,10 @@ returns c =
     sym (entry-same sameCached (p d) (q d) ∙ and-no-left (sameElement (keyOf (p d)) (keyOf (q d))) (sameCached (p d .value .value) (q d .value .value)) (no (key-told d) (c .if1 .taken)))
 
 cached-round-requires : tie.Need-cached-round-requires
-cached-round-requires c κs = let s = c .before .before .before .before .before .before in (s .pre .0, s .pre .1)
+cached-round-requires c κs = search needs
 
 cached-round-requires-2 : tie.Need-cached-round-requires-2
-cached-round-requires-2 c κs = let s = c .before .before .before .before .before .before .before in (s .pre .2, s .pre .3)
+cached-round-requires-2 c κs = search needs
 
 returns-2 : tie.Need-returns-2
 unfolding sameCached
@@ -87,10 +87,10 @@ returns-2 c =
     sym (entry-same sameCached (p d) (q d) ∙ and-no (sameElement (keyOf (p d)) (keyOf (q d))) (sameCached x y) (and-no (sameList eqb (x .content) (y .content)) (eqb (x .round) (y .round)) rounds))
 
 cached-content-requires : tie.Need-cached-content-requires
-cached-content-requires c κs = let s = c .before .before .before .before .before .before .before .before .before .before .before in (s .pre .0, s .pre .1)
+cached-content-requires c κs = search needs
 
 cached-content-requires-2 : tie.Need-cached-content-requires-2
-cached-content-requires-2 c κs = let s = c .before .before .before .before .before .before .before .before .before .before .before .before in (s .pre .2, s .pre .3)
+cached-content-requires-2 c κs = search needs
 
 contents-at-requires : tie.Need-contents-at-requires
 contents-at-requires c κs = let s = c .before .before .before .before .before .before .before .before .before .before .before .before .before in s .pre .0 .fit .ceilings

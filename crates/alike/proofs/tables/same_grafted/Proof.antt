@@ -6,7 +6,7 @@ use lib.Dec.{eqb}
 use Rattle.whole.proofs.Tests.{no, yes}
 use Rattle.block.specs.View.{stateOf}
 use Rattle.protocol.specs.Alike.{sameMap, sameOption, sameHop, sameGrafts}
-use Rattle.alike.proofs.Lists.{and-no, and-no-left}
+use Rattle.alike.proofs.Lists.{and-no, and-no-left, list-grafts}
 use Rattle.alike.specs.Elements.{sameElement}
 use Rattle.time_cache.specs.declared.cache.TimeBoundCache.{TimeBoundCache}
 use Rattle.alike.proofs.Entries.{keyOf, entry-same, kept-same, Asks, keyAt, grafted-asks, grafted-key}
@@ -47,10 +47,10 @@ module _ (d : tie.After-same-key) where
   M = sameMap eqb (p .value .value .peers) (q .value .value .peers)
 
 grafted-cache-requires : tie.Need-grafted-cache-requires
-grafted-cache-requires c κs = let s = c .before .before in s .pre .0 .fit .ceilings
+grafted-cache-requires c κs = search needs
 
 grafted-cache-requires-2 : tie.Need-grafted-cache-requires-2
-grafted-cache-requires-2 c κs = let s = c .before .before .before in s .pre .2 .fit .ceilings
+grafted-cache-requires-2 c κs = search needs
 
 same-key-requires : tie.Need-same-key-requires
 same-key-requires c κs =
@@ -66,10 +66,10 @@ returns c =
     sym (entry-same sameGrafts (p d) (q d) ∙ and-no-left (sameElement (keyOf (p d)) (keyOf (q d))) (G d) (no (key-told d) (c .if1 .taken)))
 
 first-at-requires : tie.Need-first-at-requires
-first-at-requires c κs = let s = c .before .before .before .before .before .before in (s .pre .0, s .pre .1)
+first-at-requires c κs = search needs
 
 first-at-requires-2 : tie.Need-first-at-requires-2
-first-at-requires-2 c κs = let s = c .before .before .before .before .before .before .before in (s .pre .2, s .pre .3)
+first-at-requires-2 c κs = search needs
 
 same-sender-requires : tie.Need-same-sender-requires
 same-sender-requires c κs = search needs
@@ -82,10 +82,10 @@ returns-2 c =
     (ap (λ (t : Bool). t && K d && M d) (sym (λ k. sameOption sameHop (c .before .before .before .first-at .ensures k) (c .before .before .first-at2 .ensures k)) ∙ no (c .before .same-sender .ensures) (c .if2 .taken))))
 
 kept-at-requires : tie.Need-kept-at-requires
-kept-at-requires c κs = let s = c .before .before .before .before .before .before .before .before .before .before in (s .pre .0, s .pre .1)
+kept-at-requires c κs = search needs
 
 kept-at-requires-2 : tie.Need-kept-at-requires-2
-kept-at-requires-2 c κs = let s = c .before .before .before .before .before .before .before .before .before .before .before in (s .pre .2, s .pre .3)
+kept-at-requires-2 c κs = search needs
 
 same-sender-requires-2 : tie.Need-same-sender-requires-2
 same-sender-requires-2 c κs = search needs
@@ -100,8 +100,8 @@ returns-3 c =
     let kept = sym (kept-same (x .result) (y .result) (x .ensures .0) (y .ensures .0) ∙ (λ k. sameOption eqb (x .ensures .1 k) (y .ensures .1 k))) ∙ no (c .before .same-sender2 .ensures) (c .if3 .taken) in
     sym (entry-same sameGrafts (p d) (q d) ∙ and-no (sameElement (keyOf (p d)) (keyOf (q d))) (G d) (λ k. first k && kept k && M d))
 
-same-peers-requires : tie.Need-same-peers-requires
-same-peers-requires c κs = let s = c .before .before .before .before .before .before .before .before .before .before .before .before .before .before in (s .pre .0, s .pre .1, s .pre .2, s .pre .3)
+same-sequence-requires : tie.Need-same-sequence-requires
+same-sequence-requires c κs = let p = c .before .before .before .before .before .before .before .before .before .before .before .before .before .before .pre in search needs
 
 returns-4 : tie.Need-returns-4
 unfolding sameGrafts
@@ -111,7 +111,8 @@ returns-4 c =
     let y = c .before .before .before .kept-at2 in
     let first = sym (λ k. sameOption sameHop (c .before .before .before .before .before .before .before .before .first-at .ensures k) (c .before .before .before .before .before .before .before .first-at2 .ensures k)) ∙ yes (c .before .before .before .before .before .before .same-sender .ensures) (c .before .before .before .before .before .if2 .left) in
     let kept = sym (kept-same (x .result) (y .result) (x .ensures .0) (y .ensures .0) ∙ (λ k. sameOption eqb (x .ensures .1 k) (y .ensures .1 k))) ∙ yes (c .before .before .same-sender2 .ensures) (c .before .if3 .left) in
-    c .same-peers .ensures ∙ sym (entry-same sameGrafts (p d) (q d) ∙ (λ k. yes (key-told d) (c .before .before .before .before .before .before .before .before .before .if1 .left) k && (first k && kept k && M d)))
+    c .same-sequence .ensures ∙ list-grafts (p d .value .value .peers) (q d .value .value .peers)
+    ∙ sym (entry-same sameGrafts (p d) (q d) ∙ (λ k. yes (key-told d) (c .before .before .before .before .before .before .before .before .before .if1 .left) k && (first k && kept k && M d)))
 
 pub same-grafted-spec : {M : Type 1} → statement M
 same-grafted-spec =
@@ -129,5 +130,5 @@ same-grafted-spec =
     kept-at-requires-2
     same-sender-requires-2
     returns-3
-    same-peers-requires
+    same-sequence-requires
     returns-4)

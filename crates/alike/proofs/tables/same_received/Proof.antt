@@ -8,14 +8,15 @@ use Rattle.alike.specs.Rows.{receivedAt}
 use Rattle.alike.specs.Elements.{sameElement}
 use Rattle.time_cache.specs.declared.cache.TimeBoundCache.{TimeBoundCache}
 use Rattle.alike.proofs.Entries.{keyOf, entry-same, Asks, keyAt, received-asks, received-key}
+use borrow.Author.Needs.{needs}
 use Rattle.alike.proofs.tables.same_received.Statement.{statement}
 use Rattle.alike.proofs.tables.same_received.Tie as tie
 
 received-cache-requires : tie.Need-received-cache-requires
-received-cache-requires c κs = let s = c .before .before in s .pre .0 .fit .ceilings
+received-cache-requires c κs = search needs
 
 received-cache-requires-2 : tie.Need-received-cache-requires-2
-received-cache-requires-2 c κs = let s = c .before .before .before in s .pre .2 .fit .ceilings
+received-cache-requires-2 c κs = search needs
 
 same-key-requires : tie.Need-same-key-requires
 same-key-requires c κs =

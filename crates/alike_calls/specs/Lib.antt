@@ -1,0 +1,3 @@
+pub mod AlikeFiner
+pub mod CommissioningSheet
+pub mod Peerwise

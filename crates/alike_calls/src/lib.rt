@@ -1,0 +1,1 @@
+// Nothing runs here: request e, what alike says of two lists of calls.

@@ -127,40 +127,33 @@ tells-cache {A} same w x y h =
     one : (u v : Timed A) → (eqb (u .expires) (v .expires) && same (u .value) (v .value)) ≡ true → u ≡ v
     one u v k = let (a, b) = both k in ap (timed {A = A}) (eqb-true (u .expires) (v .expires) a) ⊛ w (u .value) (v .value) b
 
+-- nine numbers, compared one after the other
+nine : {A : Type 0} (make : ℕ → ℕ → ℕ → ℕ → ℕ → ℕ → ℕ → ℕ → ℕ → A) (a b c d e f g i j a′ b′ c′ d′ e′ f′ g′ i′ j′ : ℕ) →
+    (eqb a a′ && eqb b b′ && eqb c c′ && eqb d d′ && eqb e e′ && eqb f f′ && eqb g g′ && eqb i i′ && eqb j j′) ≡ true → make a b c d e f g i j ≡ make a′ b′ c′ d′ e′ f′ g′ i′ j′
+nine make a b c d e f g i j a′ b′ c′ d′ e′ f′ g′ i′ j′ h =
+    let (h₈, t₉) = both h in
+    let (h₇, t₈) = both h₈ in
+    let (h₆, t₇) = both h₇ in
+    let (h₅, t₆) = both h₆ in
+    let (h₄, t₅) = both h₅ in
+    let (h₃, t₄) = both h₄ in
+    let (h₂, t₃) = both h₃ in
+    let (t₁, t₂) = both h₂ in
+    ap make (eqb-true a a′ t₁) ⊛ eqb-true b b′ t₂ ⊛ eqb-true c c′ t₃ ⊛ eqb-true d d′ t₄ ⊛ eqb-true e e′ t₅ ⊛ eqb-true f f′ t₆ ⊛ eqb-true g g′ t₇ ⊛ eqb-true i i′ t₈ ⊛ eqb-true j j′ t₉
+
 settings : ℕ → ℕ → ℕ → ℕ → ℕ → ℕ → ℕ → ℕ → ℕ → Settings
 settings a b c d e f g i j = record { graftTimeout1 = a; graftTimeout2 = b; dispatchTimeout = c; optimizationThreshold = d; messageCacheRetention = e; messageIdRetention = f; cacheEvictInterval = g; maxMessageSize = i; me = j }
 
 tells-settings : Tells sameSettings
 unfolding sameSettings settings
-tells-settings x y h =
-    let (h₈, j) = both h in
-    let (h₇, i) = both h₈ in
-    let (h₆, g) = both h₇ in
-    let (h₅, f) = both h₆ in
-    let (h₄, e) = both h₅ in
-    let (h₃, d) = both h₄ in
-    let (h₂, c) = both h₃ in
-    let (a, b) = both h₂ in
-    ap settings (eqb-true (x .graftTimeout1) (y .graftTimeout1) a) ⊛ eqb-true (x .graftTimeout2) (y .graftTimeout2) b ⊛ eqb-true (x .dispatchTimeout) (y .dispatchTimeout) c
-    ⊛ eqb-true (x .optimizationThreshold) (y .optimizationThreshold) d ⊛ eqb-true (x .messageCacheRetention) (y .messageCacheRetention) e ⊛ eqb-true (x .messageIdRetention) (y .messageIdRetention) f
-    ⊛ eqb-true (x .cacheEvictInterval) (y .cacheEvictInterval) g ⊛ eqb-true (x .maxMessageSize) (y .maxMessageSize) i ⊛ eqb-true (x .me) (y .me) j
+tells-settings x y h = nine settings (x .graftTimeout1) (x .graftTimeout2) (x .dispatchTimeout) (x .optimizationThreshold) (x .messageCacheRetention) (x .messageIdRetention) (x .cacheEvictInterval) (x .maxMessageSize) (x .me) (y .graftTimeout1) (y .graftTimeout2) (y .dispatchTimeout) (y .optimizationThreshold) (y .messageCacheRetention) (y .messageIdRetention) (y .cacheEvictInterval) (y .maxMessageSize) (y .me) h
 
 limits : ℕ → ℕ → ℕ → ℕ → ℕ → ℕ → ℕ → ℕ → ℕ → Limits
 limits a b c d e f g i j = record { N = a; R = b; C = c; B = d; G = e; S = f; T = g; Q = i; D = j }
 
 tells-limits : Tells sameLimits
 unfolding sameLimits limits
-tells-limits x y h =
-    let (h₈, j) = both h in
-    let (h₇, i) = both h₈ in
-    let (h₆, g) = both h₇ in
-    let (h₅, f) = both h₆ in
-    let (h₄, e) = both h₅ in
-    let (h₃, d) = both h₄ in
-    let (h₂, c) = both h₃ in
-    let (a, b) = both h₂ in
-    ap limits (eqb-true (x .N) (y .N) a) ⊛ eqb-true (x .R) (y .R) b ⊛ eqb-true (x .C) (y .C) c ⊛ eqb-true (x .B) (y .B) d ⊛ eqb-true (x .G) (y .G) e ⊛ eqb-true (x .S) (y .S) f
-    ⊛ eqb-true (x .T) (y .T) g ⊛ eqb-true (x .Q) (y .Q) i ⊛ eqb-true (x .D) (y .D) j
+tells-limits x y h = nine limits (x .N) (x .R) (x .C) (x .B) (x .G) (x .S) (x .T) (x .Q) (x .D) (y .N) (y .R) (y .C) (y .B) (y .G) (y .S) (y .T) (y .Q) (y .D) h
 
 -- a test of peers that each entry's peer passes: this peer passes it, or nothing stands for it
 at-peer : (p : ℕ) (f : ℕ → Bool) (ns : List Note) → all (λ n. f (n .peer)) ns ≡ true → (f p ≡ true) ⊎ (ofPeer p ns ≡ [])

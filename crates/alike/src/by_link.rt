@@ -14,7 +14,7 @@ use block::note::Note;
 use rows::id;
 
 // The queue, or the record.
-#[derive(Drop)]
+#[derive(Clone, Copy)]
 pub enum Notes {
     Queue,
     Record,

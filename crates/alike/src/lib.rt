@@ -1,5 +1,6 @@
 // *Alike*, of two blocks: "yes exactly when own peer number, settings, limits, sets, flags and maps agree". It "also compares the order of announcers, queues and
 // records, and the order of expiry entries of one time".
+#![tactic(auto)]
 mod by_link;
 mod sequences;
 mod tables;
@@ -19,7 +20,7 @@ use sequences::Sequence;
 use tables::Table;
 
 // The answer: 5 for either block, or yes or no.
-#[derive(Drop)]
+#[derive(Clone, Copy)]
 pub enum Answer {
     NotWhole,
     Yes,

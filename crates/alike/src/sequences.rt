@@ -16,7 +16,7 @@ use rows::id::Id;
 use time_cache::cache::TimeBoundCache;
 
 // One of the lists; of the announcers, those of missing message i; of the grafted peers, those of grafted message i.
-#[derive(Drop)]
+#[derive(Clone, Copy)]
 pub enum Sequence {
     ReceivedExpiry,
     GraftedExpiry,
@@ -26,7 +26,7 @@ pub enum Sequence {
 }
 
 // An element: time and identifier of an expiry entry, peer and round of an announcer or a grafted peer. What it has not is 0.
-#[derive(Drop)]
+#[derive(Clone, Copy)]
 pub struct Item {
     pub a: u64,
     pub id: Id,

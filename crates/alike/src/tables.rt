@@ -25,7 +25,7 @@ use rows::{id, word};
 use time_cache::cache::TimeBoundCache;
 
 // One of the tables.
-#[derive(Drop)]
+#[derive(Clone, Copy)]
 pub enum Table {
     Links,
     Missing,
@@ -36,7 +36,7 @@ pub enum Table {
 }
 
 // The `first` of a grafted message, or its `kept`, which has no round: 0.
-#[derive(Drop)]
+#[derive(Clone, Copy)]
 pub struct Sender {
     pub there: bool,
     pub peer: u64,

@@ -1,1 +1,2 @@
 // Nothing runs here: request e, what alike says of two lists of calls.
+#![tactic(auto)]

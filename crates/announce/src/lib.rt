@@ -1,4 +1,5 @@
 // AnnounceDropped (document 01, "Ticks"): the record's entries that are still cached go to the queue again.
+#![tactic(auto)]
 ghost use Rattle.std.specs.Prelude.{◌≡◌, ◌+◌, ◌<◌};
 ghost use Rattle.lists.specs.Base.{concatMap};
 ghost use Rattle.rows.specs.Ident.{id_of};
@@ -25,7 +26,7 @@ use rows::{id, word};
 use steps::Sizes;
 
 // How many entries of the record AnnounceDropped moves to the queue, and how many it leaves.
-#[derive(Drop)]
+#[derive(Clone, Copy)]
 pub struct Moved {
     pub moved: usize,
     pub left: usize,

@@ -148,7 +148,7 @@ fn call(
 }
 
 // What became of an event call of the sample: whether it agrees, where the next record stands, the counts.
-#[derive(Drop)]
+#[derive(Clone, Copy)]
 pub struct Replayed {
     pub same: bool,
     pub next: usize,

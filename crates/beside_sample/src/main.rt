@@ -1,5 +1,6 @@
 // Replays the Rust's answers (tests/beside/README.md, "The sample") on the library: of each call the number, the length, the actions and the
 // counts, and the states between the calls.
+#![tactic(auto)]
 mod calls;
 mod read;
 mod replay;

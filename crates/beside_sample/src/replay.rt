@@ -6,7 +6,7 @@ use machine::Stats;
 use std::num;
 
 // How many calls and states there were, and how many of them differ from the Rust's; where the next record stands; the counts.
-#[derive(Drop)]
+#[derive(Clone, Copy)]
 pub struct Tally {
     pub calls: u64,
     pub states: u64,

@@ -5,7 +5,7 @@ use crate::read;
 use alike::Answer;
 
 // What became of a state: whether the block is alike, and where the next record stands.
-#[derive(Drop)]
+#[derive(Clone, Copy)]
 pub struct Compared {
     pub same: bool,
     pub next: usize,

@@ -1,5 +1,6 @@
 // The BLAKE3 of contents whose byte i is i % 251, a line 'LENGTH HEX' for each: first the lengths of BLAKE3's own test vectors, by
 // `hash`, and then every length from 0 to 2,100, by `hash_into`.
+#![tactic(auto)]
 use libc::STDOUT_FILENO;
 use rows::id::Id;
 

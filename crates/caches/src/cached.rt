@@ -17,7 +17,7 @@ use rows::table::Found;
 use rows::word;
 
 // Where the content of a cached message stands among the contents: table 6.
-#[derive(Drop)]
+#[derive(Clone, Copy)]
 pub struct Content {
     pub start: usize,
     pub len: usize,

@@ -19,7 +19,7 @@ use block::{links, note};
 use postcard::units::Millis;
 
 // The entries of one IHave: the place after them, the entry of the queue behind the last of them, and whether one of their identifiers is cached.
-#[derive(Drop)]
+#[derive(Clone, Copy)]
 pub struct Chunk {
     pub at: usize,
     pub row: usize,
@@ -27,7 +27,7 @@ pub struct Chunk {
 }
 
 // One IHave: the place after it and its timer, the entry of the queue behind its last, and the flag of the record's timer.
-#[derive(Drop)]
+#[derive(Clone, Copy)]
 pub struct Sending {
     pub at: usize,
     pub row: usize,
@@ -35,7 +35,7 @@ pub struct Sending {
 }
 
 // The IHaves to one link: the place after them, and the flag of the record's timer.
-#[derive(Drop)]
+#[derive(Clone, Copy)]
 pub struct Sends {
     pub at: usize,
     pub flag: bool,

@@ -1,4 +1,5 @@
 // DispatchLazyPush: "Dispatch empties the queue, peers ascending, IHave of at most (M − 6) / 35, rounded down; handed back are noted".
+#![tactic(auto)]
 pub mod actions;
 pub mod gains;
 pub mod marks;

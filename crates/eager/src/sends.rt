@@ -16,7 +16,7 @@ use postcard::units::Round;
 use rows::id::Id;
 
 // Where the output goes on, and whether any send was handed back.
-#[derive(Drop)]
+#[derive(Clone, Copy)]
 pub struct Pushed {
     pub at: usize,
     pub back: bool,

@@ -11,7 +11,7 @@ use grafts::reads;
 use steps::Held;
 
 // A push: from whom, and the grafted entry whose peers it skips.
-#[derive(Drop)]
+#[derive(Clone, Copy)]
 pub struct Push {
     pub sender: u64,
     pub skip: Held,

@@ -25,7 +25,7 @@ use rows::table::Found;
 use rows::{table, word};
 
 // The header after a new entry, and the number of the entry.
-#[derive(Drop)]
+#[derive(Clone, Copy)]
 pub struct Entered {
     pub head: Head,
     pub entry: usize,

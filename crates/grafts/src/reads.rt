@@ -19,7 +19,7 @@ use rows::word;
 use steps::Held;
 
 // The sender and the round of the first copy.
-#[derive(Drop)]
+#[derive(Clone, Copy)]
 pub enum First {
     Hop(u64, Round),
     Nothing,

@@ -1,4 +1,5 @@
 // An IHave from a neighbour: document 01, "IHave, Graft, Prune". Its entries are read where they stand in the event, one after the other.
+#![tactic(auto)]
 ghost use Rattle.std.specs.Prelude.{◌≡◌, ◌≤◌, ◌<◌, length};
 ghost use Rattle.lists.specs.Base.{if◌then◌else◌, any, all, member, concatMap};
 ghost use Rattle.lists.specs.Map.{has};
@@ -28,7 +29,7 @@ use rows::id::Id;
 use rows::table::Found;
 
 // How many entries an IHave adds to the missing messages, and to the graft timers.
-#[derive(Drop)]
+#[derive(Clone, Copy)]
 pub struct NewIds {
     pub missing: usize,
     pub timers: usize,

@@ -1,4 +1,5 @@
 // A copy of a message received before: document 01, "Received before: late Graft reply (`on_late_graft_reply`), else a neighbour sender goes lazy, and Prune".
+#![tactic(auto)]
 ghost use Rattle.std.specs.Prelude.{◌≡◌, true, ◌<◌, get_or};
 ghost use Rattle.lists.specs.Base.{concatMap};
 ghost use Rattle.rows.specs.Ident.{id_of};
@@ -29,7 +30,7 @@ use rows::table::Found;
 use steps::Held;
 
 // What a copy of a message received before is; with the link of the first sender where that one goes lazy.
-#[derive(Drop)]
+#[derive(Clone, Copy)]
 pub enum Late {
     Duplicate,
     Repeated,

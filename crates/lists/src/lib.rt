@@ -1,1 +1,2 @@
 // Nothing runs here: lists, maps by number, and their laws.
+#![tactic(auto)]

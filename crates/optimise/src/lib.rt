@@ -1,4 +1,5 @@
 // What ends a new Swarm message: document 01, "drop graft-timer mark and announcers; optimise as `on_gossip` says".
+#![tactic(auto)]
 ghost use Rattle.std.specs.Prelude.{◌≡◌, true, ◌<◌, length};
 ghost use Rattle.lists.specs.Base.{concatMap};
 ghost use Rattle.lists.specs.Map.{keys};
@@ -28,7 +29,7 @@ use rows::table::Found;
 use steps::Held;
 
 // The announcer that the tree is optimised by, if there is one.
-#[derive(Drop)]
+#[derive(Clone, Copy)]
 pub enum Best {
     Closer(Hop),
     Nothing,

@@ -1,4 +1,5 @@
 // The panel of the program `panelrun`, and its answer to the first record of what has been read.
+#![tactic(auto)]
 pub mod stream;
 
 ghost use Rattle.std.specs.Prelude.{◌≡◌};
@@ -74,7 +75,7 @@ pub fn begin(block: &mut [u8; 58880])
 }
 
 // How many bytes of the reply a record's answer has, and the counts after it.
-#[derive(Drop)]
+#[derive(Clone, Copy)]
 pub struct Answer {
     pub length: usize,
     pub stats: Stats,
@@ -99,7 +100,7 @@ pub fn answer_record(
 }
 
 // What the panel does with what has been read.
-#[derive(Drop)]
+#[derive(Clone, Copy)]
 pub enum Turn {
     // It has answered the first record, of `used` bytes.
     Answered { used: usize, answer: Answer },

@@ -9,7 +9,7 @@ use machine::Stats;
 use rows::table;
 
 // Where the program is: the counts, the unread bytes of the buffer, from `at` to `end`, how many bytes of the reply are to be written, and whether it goes on.
-#[derive(Drop)]
+#[derive(Clone, Copy)]
 pub struct Place {
     pub stats: Stats,
     pub at: usize,

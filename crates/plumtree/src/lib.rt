@@ -1,4 +1,5 @@
 // Document 01's calls upon a lent block, as C and Rust link them.
+#![tactic(auto)]
 mod peers;
 mod rooms;
 
@@ -23,7 +24,7 @@ use whole::create;
 
 // An entry of a call's link room: how many sends to the peer its link takes.
 #[repr(C)]
-#[derive(Drop)]
+#[derive(Clone, Copy)]
 pub struct LinkRoom {
     pub peer: u64,
     pub room: u16,
@@ -31,7 +32,7 @@ pub struct LinkRoom {
 
 // What a call answers: its number, and the length of the output.
 #[repr(C)]
-#[derive(Drop)]
+#[derive(Clone, Copy)]
 pub struct Answer {
     pub number: u8,
     pub length: usize,
@@ -39,7 +40,7 @@ pub struct Answer {
 
 // What *Alike* answers: 5 if either block is not whole; else 0, and yes or no.
 #[repr(C)]
-#[derive(Drop)]
+#[derive(Clone, Copy)]
 pub struct Likeness {
     pub number: u8,
     pub alike: bool,

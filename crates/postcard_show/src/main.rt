@@ -1,5 +1,6 @@
 // A reading as it crosses a link: the event in which a panel receives it, what is read from those bytes, and the action that sends it on. Each in
 // hexadecimal, with document 01's bytes.
+#![tactic(auto)]
 ghost use Rattle.std.specs.Prelude.{◌≡◌, ◌≤◌, length};
 
 use libc::STDOUT_FILENO;

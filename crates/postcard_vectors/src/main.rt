@@ -1,6 +1,7 @@
 // Replays stored events. Standard input has an event to a line: how many bytes it has, in four hexadecimal digits, a space, and the bytes in hexadecimal. For
 // each this writes a line with what `decode_event` reads, and of a received message, behind a semicolon, what `rewrite` writes. What must come out is the file
 // `stdout`. tests/postcard says how both were made.
+#![tactic(auto)]
 use libc::{STDIN_FILENO, STDOUT_FILENO};
 use postcard::message::Decoded;
 

@@ -1,4 +1,5 @@
 // The records of `panelrun`, "records of now, length, event", read from as many bytes of the input as are there; and what it writes for one, "answer byte, length, actions".
+#![tactic(auto)]
 ghost use Rattle.std.specs.Prelude.{◌≡◌, ◌≤◌, length, take, drop};
 ghost use Rattle.postcard.specs.Output.{Wrote};
 ghost use Rattle.records.specs.Reading.{Tells, mayFit, Timed, Lengthed};
@@ -8,7 +9,7 @@ use number::NumberRead;
 use postcard::units::Millis;
 
 // What the first bytes of the input tell of its first record.
-#[derive(Drop)]
+#[derive(Clone, Copy)]
 pub enum Record {
     // It is there: its time, and where its event starts and how long that is. The next record follows the event.
     Whole {

@@ -1,4 +1,5 @@
 // A message rewritten in its shortest form: "a writer that reads any message the reader takes and writes its shortest form into a lent buffer".
+#![tactic(auto)]
 ghost use Rattle.std.specs.Prelude.{◌≡◌, ◌≤◌, length};
 ghost use Rattle.lists.specs.Base.{concatMap};
 ghost use Rattle.postcard.specs.Message.{ihaveBytes, messageBytes};
@@ -12,7 +13,7 @@ use decode::{MessageDecoded, field};
 use postcard::message::Message;
 
 // What rewriting answers: how many bytes it wrote, or the question that is answered no.
-#[derive(Drop)]
+#[derive(Clone, Copy)]
 pub enum Rewritten {
     Shortest(usize),
     Fault(u8),

@@ -1,4 +1,5 @@
 // SendGraft (document 01, "SendGraft"): a message that is still missing is asked of the first who announced it.
+#![tactic(auto)]
 ghost use Rattle.std.specs.Prelude.{◌≡◌, ◌^◌, ◌≤◌, ◌<◌};
 ghost use Rattle.lists.specs.Base.{concatMap};
 ghost use Rattle.lists.specs.Map.{keys};

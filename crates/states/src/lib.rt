@@ -1,4 +1,5 @@
 // Request d, named states: "Up to four states are kept in a second lent area under eight-byte names."
+#![tactic(auto)]
 ghost use Rattle.std.specs.Prelude.{◌≡◌, ◌++◌, ◌+◌, ◌*◌, ◌-◌, ◌≤◌, ◌<◌, length};
 ghost use Rattle.rows.specs.Part.{put};
 ghost use Rattle.rows.specs.Digits.{le_bytes};
@@ -20,7 +21,7 @@ const KEPT: usize = 255;
 const STATES: usize = 4;
 
 // The counts of a kept state.
-#[derive(Drop)]
+#[derive(Clone, Copy)]
 pub struct Counts {
     pub payload: u64,
     pub control: u64,
@@ -28,7 +29,7 @@ pub struct Counts {
 }
 
 // What a return answers: the number of a refusal, or the counts that it brings back.
-#[derive(Drop)]
+#[derive(Clone, Copy)]
 pub enum Returned {
     Refused(u8),
     Brought(Counts),

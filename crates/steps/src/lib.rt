@@ -1,14 +1,15 @@
 // What the functions of a call share.
+#![tactic(auto)]
 
 // The number of an entry in its table, or none.
-#[derive(Drop)]
+#[derive(Clone, Copy)]
 pub enum Held {
     At(usize),
     Nothing,
 }
 
 // The numbers of entries that question 13 looks at, in document 01's order: links, received, cached with the bytes of its contents, grafted, missing, graft timers, queue, record.
-#[derive(Drop)]
+#[derive(Clone, Copy)]
 pub struct Sizes {
     pub links: usize,
     pub received: usize,

@@ -16,7 +16,7 @@ use rows::table::Found;
 use rows::{table, word};
 
 // A table in a block: `len` rows of `stride` bytes each, the first at `at`.
-#[derive(Drop)]
+#[derive(Clone, Copy)]
 pub struct Table {
     pub at: usize,
     pub stride: usize,
@@ -24,21 +24,21 @@ pub struct Table {
 }
 
 // `TimeBoundCache`: its entries, in the order of their keys, and its expiry rows, in the order in which they pop.
-#[derive(Drop)]
+#[derive(Clone, Copy)]
 pub struct TimeBoundCache {
     pub entries: Table,
     pub expiry: Table,
 }
 
 // A key's entry and the row that it names, by their numbers.
-#[derive(Drop)]
+#[derive(Clone, Copy)]
 pub enum Got {
     There(usize, usize),
     Nothing,
 }
 
 // The cache after an insert, and where the key's entry and its row stand.
-#[derive(Drop)]
+#[derive(Clone, Copy)]
 pub struct Inserted {
     pub cache: TimeBoundCache,
     pub entry: usize,
@@ -46,7 +46,7 @@ pub struct Inserted {
 }
 
 // The cache after `expire_until`, and how many keys it removed.
-#[derive(Drop)]
+#[derive(Clone, Copy)]
 pub struct Expired {
     pub cache: TimeBoundCache,
     pub removed: usize,

@@ -1,4 +1,5 @@
 // Question 5, "Is the block whole?", and creation.
+#![tactic(auto)]
 pub mod create;
 mod tables;
 

@@ -135,7 +135,7 @@ like-noteOne p h (like r q d q' d' e f) =
 like-noteEach : {a b : Run} (p : ℕ) (hs : List Ihave) → Like a b → Like (noteEach p hs a) (noteEach p hs b)
 unfolding noteEach
 like-noteEach p [] l = l
-like-noteEach p (h ∷ hs) l = like-noteEach p hs (like-noteOne p h l)
+like-noteEach {a = a} {b = b} p (h ∷ hs) l = like-noteEach {a = noteOne p h a} {b = noteOne p h b} p hs (like-noteOne p h l)
 
 like-noteDropped : {a b : Run} (p : ℕ) (hs : List Ihave) → Like a b → Like (noteDropped p hs a) (noteDropped p hs b)
 unfolding noteDropped
@@ -145,7 +145,7 @@ like-noteDropped p hs (like r q d q' d' e f) =
 like-noteForEach : {a b : Run} (ps : List ℕ) (h : Ihave) → Like a b → Like (noteForEach ps h a) (noteForEach ps h b)
 unfolding noteForEach
 like-noteForEach [] h l = l
-like-noteForEach (p ∷ ps) h l = like-noteForEach ps h (like-noteDropped p (h ∷ []) l)
+like-noteForEach {a = a} {b = b} (p ∷ ps) h l = like-noteForEach {a = noteDropped p (h ∷ []) a} {b = noteDropped p (h ∷ []) b} ps h (like-noteDropped p (h ∷ []) l)
 
 like-noteAfter : {a b : Run} (ps : List ℕ) (id : ℕ) (d : Delivery) → Like a b → Like (noteAfter ps id d a) (noteAfter ps id d b)
 unfolding noteAfter
@@ -157,7 +157,7 @@ like-noteAfter ps id Neighbors l = l
 like-sendEach : {a b : Run} (ps : List ℕ) (m : Message) → Like a b → Like (sendEach ps m a) (sendEach ps m b)
 unfolding sendEach
 like-sendEach [] m l = l
-like-sendEach (p ∷ ps) m l = like-sendEach ps m (like-send p m l)
+like-sendEach {a = a} {b = b} (p ∷ ps) m l = like-sendEach {a = send p m a} {b = send p m b} ps m (like-send p m l)
 
 takes_same : {a b : Run} (p : ℕ) → Like a b → takes p a ≡ takes p b
 takes_same p (like r q d q' d' e f) = refl
@@ -165,7 +165,7 @@ takes_same p (like r q d q' d' e f) = refl
 handedBack-same : {a b : Run} (ps : List ℕ) (m : Message) → Like a b → handedBack ps m a ≡ handedBack ps m b
 unfolding handedBack
 handedBack-same [] m l = refl
-handedBack-same (p ∷ ps) m l = rw (takes_same p l, handedBack-same ps m (like-send p m l))
+handedBack-same {a = a} {b = b} (p ∷ ps) m l = rw (takes_same p l, handedBack-same {a = send p m a} {b = send p m b} ps m (like-send p m l))
 
 like-pushTo : {a b : Run} (ps : List ℕ) (id : ℕ) (content : List ℕ) (d : Delivery) → Like a b → Like (pushTo ps id content d a) (pushTo ps id content d b)
 unfolding pushTo
@@ -247,7 +247,7 @@ like-onAnnounced sender h (like r q d q' d' e f) =
 like-onIHave : {a b : Run} (sender : ℕ) (hs : List Ihave) → Like a b → Like (onIHave sender hs a) (onIHave sender hs b)
 unfolding onIHave
 like-onIHave sender [] l = l
-like-onIHave sender (h ∷ hs) l = like-onIHave sender hs (like-onAnnounced sender h l)
+like-onIHave {a = a} {b = b} sender (h ∷ hs) l = like-onIHave {a = onAnnounced sender h a} {b = onAnnounced sender h b} sender hs (like-onAnnounced sender h l)
 
 like-onPrune : {a b : Run} (sender : ℕ) → Like a b → Like (onPrune sender a) (onPrune sender b)
 unfolding onPrune
@@ -287,7 +287,7 @@ like-onSendGraftTimer now id (like r q d q' d' e f) =
 like-sendChunks : {a b : Run} (p : ℕ) (cs : List (List Ihave)) → Like a b → Like (sendChunks p cs a) (sendChunks p cs b)
 unfolding sendChunks
 like-sendChunks p [] l = l
-like-sendChunks p (hs ∷ cs) l = like-sendChunks p cs (like-sendIhave p hs l)
+like-sendChunks {a = a} {b = b} p (hs ∷ cs) l = like-sendChunks {a = sendIhave p hs a} {b = sendIhave p hs b} p cs (like-sendIhave p hs l)
 
 queuedFor-same : {xs ys : List Note} (p : ℕ) → Peerwise xs ys → queuedFor p xs ≡ queuedFor p ys
 unfolding queuedFor
@@ -296,8 +296,9 @@ queuedFor-same p h = rw (h.same p)
 like-dispatchTo : {a b : Run} (ps : List ℕ) (k : ℕ) (xs ys : List Note) → Peerwise xs ys → Like a b → Like (dispatchTo ps k xs a) (dispatchTo ps k ys b)
 unfolding dispatchTo
 like-dispatchTo [] k xs ys h l = l
-like-dispatchTo (p ∷ ps) k xs ys h l =
-    rw (peerwise-length xs ys h, queuedFor-same p h) (like-dispatchTo ps k xs ys h (like-sendChunks p (chunks (length ys) k (queuedFor p ys)) l))
+like-dispatchTo {a = a} {b = b} (p ∷ ps) k xs ys h l =
+    rw (peerwise-length xs ys h, queuedFor-same p h)
+    (like-dispatchTo {a = sendChunks p (chunks (length ys) k (queuedFor p ys)) a} {b = sendChunks p (chunks (length ys) k (queuedFor p ys)) b} ps k xs ys h (like-sendChunks p (chunks (length ys) k (queuedFor p ys)) l))
 
 like-onDispatchTimer : {a b : Run} → Like a b → Like (onDispatchTimer a) (onDispatchTimer b)
 unfolding onDispatchTimer

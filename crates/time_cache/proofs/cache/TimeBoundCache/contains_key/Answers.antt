@@ -1,0 +1,21 @@
+-- `contains_key`: what the search found.
+use mathlib.Core.Path.{sym, ap, subst}
+use Rattle.lists.specs.Base.{is_some}
+use Rattle.rows.specs.Ident.{id_of}
+use Rattle.rows.specs.Sorted.{FoundIs}
+use Rattle.rows.specs.declared.table.Found.{Found}
+use Rattle.time_cache.specs.Tables.{named, refsAt, rows_at}
+use Rattle.time_cache.proofs.ReadLaws.{found_here, found_none}
+use Rattle.time_cache.proofs.cache.TimeBoundCache.contains_key.Goals as goal
+
+pub returns-in-At : goal.returns-in-At
+returns-in-At c =
+    let k = c.args.self in
+    let xs = c.args.block.now in
+    sym (ap is_some (found_here k xs c.requires.1 (id_of c.args.key) _ (subst (λ (f : Found). FoundIs (named (rows_at k xs) (refsAt k xs)) (id_of c.args.key) f) c.in-At.is c.find-f.ensures)))
+
+pub returns-in-Before : goal.returns-in-Before
+returns-in-Before c =
+    let k = c.args.self in
+    let xs = c.args.block.now in
+    sym (ap is_some (found_none k xs (id_of c.args.key) _ (subst (λ (f : Found). FoundIs (named (rows_at k xs) (refsAt k xs)) (id_of c.args.key) f) c.in-Before.is c.find-f.ensures)))

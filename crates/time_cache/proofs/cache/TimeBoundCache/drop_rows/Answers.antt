@@ -1,0 +1,42 @@
+-- `drop_rows`: `drop_expiry` in the expiry rows, lent.
+use mathlib.Core.Path.{◌≡◌, ap, ◌∙◌}
+use Prim.Native.Nat.{ℕ, ◌+◌, ◌-◌, ◌*◌, ◌≤◌}
+use lib.ListN.{length, drop}
+use Rattle.rows.specs.Part.{part}
+use Rattle.rows.proofs.Parts.{length_part}
+use Rattle.rows.proofs.Rows.{mul-up}
+use Rattle.time_cache.proofs.LoanLaws.{expiry-lent, expiry-back, size_of, only-back}
+use native.Mathlib.Omega.{arith}
+use Rattle.time_cache.proofs.cache.TimeBoundCache.drop_rows.Goals as goal
+use Rattle.time_cache.proofs.cache.TimeBoundCache.drop_rows.Goals.{Start}
+
+-- the size of what is lent
+lent : (s : Start) → let c = s.args.self in let k = c.expiry.len * c.expiry.stride in
+    (c.expiry.at + k ≤ length s.args.block.now) × (length (part c.expiry.at (c.expiry.at + k - c.expiry.at) s.args.block.now) ≡ k)
+lent s =
+    let c = s.args.self in
+    let k = c.expiry.len * c.expiry.stride in
+    let w : c.expiry.at + k ≤ length s.args.block.now = s.requires.0.within in
+    (w, ap (λ (j : ℕ). length (part c.expiry.at j s.args.block.now)) (size_of c.expiry.at k) ∙ length_part c.expiry.at k s.args.block.now w)
+
+pub drop_expiry-requires : goal.drop_expiry-requires
+unfolding part
+drop_expiry-requires c = (c.requires.1, omega (arith, (lent (goal.at.drop_expiry-requires c).Start).1))
+
+pub returns : goal.returns
+unfolding part
+returns c =
+    let k = c.args.self in
+    let xs = c.args.block.now in
+    let b = k.expiry.at in
+    let t = k.expiry.stride in
+    let m = k.expiry.len in
+    let z = m * t in
+    let zs = c.drop_expiry.new.x in
+    let lz : length zs ≡ z = c.drop_expiry.auto.x ∙ (lent (goal.at.returns c).Start).1 in
+    record {
+      rows = expiry-back t (m - c.args.k) b (b + z - b) zs xs (omega (arith, lz, mul-up t (m - c.args.k) m (omega arith))) (omega (arith, (lent (goal.at.returns c).Start).0))
+          ∙ c.drop_expiry.ensures
+          ∙ ap (drop c.args.k) (expiry-lent t m b (b + z - b) xs (omega (arith, size_of b z)));
+      only = only-back b z (b + z - b) zs xs (size_of b z) lz (lent (goal.at.returns c).Start).0;
+    }

@@ -1,0 +1,16 @@
+-- `entries_later`: the entries that name no row that is due.
+use mathlib.Core.Path.{sym, ap, ◌∙◌}
+use Rattle.lists.specs.Base.{count}
+use Rattle.refs.specs.Refs.{names}
+use Rattle.time_cache.proofs.BlockLaws.{refs-open, entries-long}
+use Rattle.time_cache.proofs.ReadLaws.{count_entries}
+use Rattle.time_cache.proofs.cache.TimeBoundCache.entries_later.Goals as goal
+
+pub count_from-requires : goal.count_from-requires
+count_from-requires c = (c.requires.0.entryWide, entries-long c.args.self c.args.block.now c.requires.0)
+
+pub returns : goal.returns
+returns c =
+    c.count_from.ensures
+    ∙ ap (count (names c.due-k.result)) (refs-open c.args.self c.args.block.now)
+    ∙ sym (count_entries c.args.self c.args.block.now c.requires.1 c.args.instant.0 c.due-k.result c.due-k.ensures)

@@ -1,0 +1,24 @@
+-- `expires`: the time at the start of an expiry row.
+use mathlib.Core.Path.{sym, ◌∙◌}
+use Prim.Native.Nat.{◌+◌, ◌*◌, ◌≤◌}
+use Rattle.rows.proofs.Rows.{row-end}
+use Rattle.time_cache.proofs.ReadLaws.{time-of}
+use native.Mathlib.Omega.{arith}
+use Rattle.time_cache.proofs.cache.TimeBoundCache.expires.Goals as goal
+use Rattle.time_cache.proofs.cache.TimeBoundCache.expires.Goals.{Start}
+
+-- the row lies in the block
+room : (s : Start) → s.args.p * s.args.self.expiry.stride + s.args.self.expiry.stride ≤ s.args.self.expiry.len * s.args.self.expiry.stride
+room s = row-end s.args.self.expiry.stride s.args.self.expiry.len s.args.p s.requires.1
+
+pub overflow_mul-at : goal.overflow_mul-at
+overflow_mul-at c = omega (arith, room (goal.at.overflow_mul-at c).Start, c.requires.0)
+
+pub overflow_add-at : goal.overflow_add-at
+overflow_add-at c = omega (arith, room (goal.at.overflow_add-at c).Start, c.requires.0)
+
+pub load-requires : goal.load-requires
+load-requires c = omega (arith, room (goal.at.load-requires c).Start, c.requires.0)
+
+pub returns : goal.returns
+returns c = c.load.ensures ∙ sym (time-of c.args.self c.args.block.now c.requires.0 c.args.p c.requires.1)

@@ -1,0 +1,121 @@
+-- `insert`: the search, the new row, the places, and the key's entry. What was found says which way; `InsertLaws` puts the steps together.
+use mathlib.Core.Path.{◌≡◌, sym, ◌∙◌, subst}
+use mathlib.Core.List.{List, [], ◌∷◌}
+use Prim.Native.Nat.{ℕ, ◌+◌, ◌*◌, ◌≤◌, ◌<◌}
+use native.Mathlib.Nat.{mul_comm, one-mul}
+use lib.ListN.{length, length-map}
+use Rattle.rows.specs.Ident.{id_of}
+use Rattle.rows.specs.Part.{put}
+use Rattle.rows.specs.Sorted.{FoundIs, Between}
+use Rattle.rows.specs.declared.table.Found.{Found}
+use Rattle.rows.proofs.Rows.{mul-up}
+use Rattle.refs.specs.Refs.{Ref, ref, places, Below}
+use Rattle.time_cache.specs.Tables.{expiryOf, named, cacheOf, refsAt, rows_at, row_at, resized, Lies}
+use Rattle.time_cache.specs.Steps.{ref_at, Inserts, Places}
+use Rattle.time_cache.specs.declared.cache.TimeBoundCache.{TimeBoundCache}
+use Rattle.time_cache.proofs.ReadLaws.{length-es, length-rs, found_within}
+use Rattle.time_cache.proofs.LoanLaws.{refs-before}
+use Rattle.time_cache.proofs.InsertLaws.{lies-kept, room-lies, inserts-over, inserts-between}
+use native.Mathlib.Omega.{arith}
+use Rattle.time_cache.proofs.cache.TimeBoundCache.insert.Goals as goal
+use Rattle.time_cache.proofs.cache.TimeBoundCache.insert.Goals.{After-due-i, After-move_places}
+
+-- the place of the new row is among the rows
+low : (d : After-due-i) → d.due-i.result ≤ d.args.self.expiry.len
+unfolding cacheOf
+low d =
+    omega (arith, d.due-i.ensures.within, length-map (rows_at d.args.self d.args.block.now) expiryOf, length-rs d.args.self d.args.block.now)
+
+-- after the places moved: the lengths, and the tables
+same : (d : After-move_places) → length d.move_places.new.block ≡ length d.args.block.now
+same d = d.move_places.auto.block ∙ d.open_row.auto.block
+
+here : (d : After-move_places) → Lies d.args.self d.move_places.new.block
+here d = lies-kept d.args.self d.args.block.now d.move_places.new.block (same d) (room-lies d.args.self d.args.block.now d.requires.0)
+
+-- what was found
+what : (d : After-move_places) (f : Found) → d.find-f.result ≡ f → FoundIs (named (rows_at d.args.self d.args.block.now) (refsAt d.args.self d.args.block.now)) (id_of d.args.key) f
+what d f e =
+    subst (λ (g : Found). FoundIs (named (rows_at d.args.self d.args.block.now) (refsAt d.args.self d.args.block.now)) (id_of d.args.key) g) e d.find-f.ensures
+
+-- a key that is not there goes before one of the entries, or behind all
+within : (d : After-move_places) (j : ℕ) → Between (named (rows_at d.args.self d.args.block.now) (refsAt d.args.self d.args.block.now)) (id_of d.args.key) j → j ≤ d.args.self.entries.len
+unfolding named
+within d j b =
+    omega (arith, b.within, length-map (refsAt d.args.self d.args.block.now) (λ (r : Ref). (row_at (rows_at d.args.self d.args.block.now) r.place).key), length-es d.args.self d.args.block.now)
+
+pub find-f-requires : goal.find-f-requires
+find-f-requires c = (room-lies c.args.self c.args.block.now c.requires.0, c.requires.1)
+
+pub due-i-requires : goal.due-i-requires
+due-i-requires c = (room-lies c.args.self c.args.block.now c.requires.0, c.requires.1)
+
+pub overflow_add-m : goal.overflow_add-m
+overflow_add-m c = omega (arith, c.requires.0.few)
+
+pub open_row-requires : goal.open_row-requires
+open_row-requires c = (c.requires.0, omega (arith, low (goal.at.open_row-requires c).After-due-i))
+
+pub move_places-requires : goal.move_places-requires
+move_places-requires c =
+    let k = c.args.self in
+    let xs = c.args.block.now in
+    let l = room-lies k xs c.requires.0 in (
+      lies-kept k xs c.open_row.new.block c.open_row.auto.block l,
+      subst (λ (es : List Ref). Below k.expiry.len (places es))
+          (sym (refs-before k.entries.stride k.entries.len k.entries.at k.expiry.at ((k.expiry.len + 1) * k.expiry.stride) xs c.open_row.new.block l.apart c.requires.0.within c.open_row.auto.block c.open_row.ensures.only))
+          c.requires.1.below,
+    )
+
+pub store_place-requires : goal.store_place-requires
+store_place-requires c =
+    (here (goal.at.store_place-requires c).After-move_places, found_within c.args.self c.args.block.now (id_of c.args.key) _ (what (goal.at.store_place-requires c).After-move_places _ c.in-At.is), omega (arith, low (goal.at.store_place-requires c).After-due-i, c.requires.0.few))
+
+pub open_entry-requires : goal.open_entry-requires
+open_entry-requires c =
+    let w = within (goal.at.open_entry-requires c).After-move_places _ (what (goal.at.open_entry-requires c).After-move_places _ c.in-Before.is) in
+    (lies-kept (resized (c.args.self.entries.len + 1) (c.args.self.expiry.len + 1) c.args.self) c.args.block.now c.move_places.new.block (same (goal.at.open_entry-requires c).After-move_places) c.requires.0, omega (arith, w))
+
+pub overflow_add-n : goal.overflow_add-n
+overflow_add-n c =
+    let k = c.args.self.entries in
+    omega (arith, c.requires.0.apart, c.requires.0.within, mul_comm (k.len + 1) k.stride, mul-up (k.len + 1) 1 k.stride (omega (arith, c.requires.0.entryWide)), one-mul (k.len + 1))
+
+pub store_place-requires-in-Before : goal.store_place-requires-in-Before
+store_place-requires-in-Before c =
+    let k = c.args.self in
+    let w = within (goal.at.store_place-requires-in-Before c).After-move_places _ (what (goal.at.store_place-requires-in-Before c).After-move_places _ c.in-Before.is) in
+    subst (λ (r : TimeBoundCache). Lies r c.open_entry.new.block × (c.in-Before.j < r.entries.len) × (c.due-i.result < 65536)) (sym c.resized-cache-in-Before.ensures) (
+      lies-kept (resized (k.entries.len + 1) (k.expiry.len + 1) k) c.args.block.now c.open_entry.new.block (c.open_entry.auto.block ∙ same (goal.at.store_place-requires-in-Before c).After-move_places) c.requires.0,
+      omega (arith, w),
+      omega (arith, low (goal.at.store_place-requires-in-Before c).After-due-i, c.requires.0.few),
+    )
+
+pub shape_of-block-in-At : goal.shape_of-block-in-At
+shape_of-block-in-At c = c.store_place.auto.block ∙ same (goal.at.shape_of-block-in-At c).After-move_places
+
+pub returns-in-At : goal.returns-in-At
+returns-in-At c =
+    let k = c.args.self in
+    subst (λ (r : TimeBoundCache). Inserts k (id_of c.args.key) c.args.expires.0 c.args.block.now (record { cache = r; entry = c.in-At.j; row = c.due-i.result }) c.store_place.new.block) (sym c.resized-cache.ensures)
+    (inserts-over k (id_of c.args.key) c.args.expires.0 c.due-i.result c.args.block.now c.open_row.new.block c.move_places.new.block c.requires.0 c.requires.1 c.due-i.ensures
+    c.open_row.ensures c.open_row.auto.block c.move_places.ensures c.move_places.auto.block _ c.store_place.new.block c.store_place.auto.block (what (goal.at.returns-in-At c).After-move_places _ c.in-At.is) c.store_place.ensures)
+
+pub shape_of-block-in-Before : goal.shape_of-block-in-Before
+shape_of-block-in-Before c = c.store_place-in-Before.auto.block ∙ c.open_entry.auto.block ∙ same (goal.at.shape_of-block-in-Before c).After-move_places
+
+pub returns-in-Before : goal.returns-in-Before
+returns-in-Before c =
+    let k = c.args.self in
+    let j = c.in-Before.j in
+    let i = c.due-i.result in
+    let big = (k.entries.len + 1) * k.entries.stride in
+    let grown = resized (k.entries.len + 1) (k.expiry.len + 1) k in
+    let vs = c.open_entry.new.block in
+    let ws = c.store_place-in-Before.new.block in
+    let e : c.resized-cache-in-Before.result ≡ grown = c.resized-cache-in-Before.ensures in
+    subst (λ (r : TimeBoundCache). Inserts k (id_of c.args.key) c.args.expires.0 c.args.block.now (record { cache = r; entry = j; row = i }) ws) (sym e)
+    (inserts-between k (id_of c.args.key) c.args.expires.0 i c.args.block.now c.open_row.new.block c.move_places.new.block c.requires.0 c.requires.1 c.due-i.ensures
+    c.open_row.ensures c.open_row.auto.block c.move_places.ensures c.move_places.auto.block j vs ws c.open_entry.auto.block c.store_place-in-Before.auto.block
+    (what (goal.at.returns-in-Before c).After-move_places _ c.in-Before.is) c.open_entry.ensures
+    (subst (λ (r : TimeBoundCache). Places r (put j (ref i (ref_at (refsAt r vs) j).own ∷ []) (refsAt r vs)) (r.entries.len * r.entries.stride) vs ws) e c.store_place-in-Before.ensures))

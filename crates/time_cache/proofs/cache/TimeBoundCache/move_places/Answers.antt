@@ -1,0 +1,67 @@
+-- `move_places`: `make_room` in the entries, lent; or nothing, where no place is that high.
+use mathlib.Core.Path.{◌≡◌, sym, ap, ◌∙◌, subst}
+use mathlib.Core.List.{List, map}
+use Prim.Native.Nat.{ℕ, ◌+◌, ◌-◌, ◌*◌, ◌≤◌}
+use lib.ListN.{length}
+use Rattle.rows.specs.Part.{part}
+use Rattle.rows.proofs.Parts.{length_part}
+use Rattle.refs.specs.Refs.{Ref, refs, places, Below, moved}
+use Rattle.time_cache.specs.Tables.{refsAt}
+use Rattle.time_cache.proofs.Orders.{of-below}
+use Rattle.time_cache.proofs.TableLaws.{moved_none}
+use Rattle.time_cache.proofs.LoanLaws.{refs-lent, refs-back, size_of, only-back, only_same}
+use native.Mathlib.Omega.{arith}
+use Rattle.time_cache.proofs.cache.TimeBoundCache.move_places.Goals as goal
+use Rattle.time_cache.proofs.cache.TimeBoundCache.move_places.Goals.{Start}
+
+-- the size of what is lent
+lent : (s : Start) → let c = s.args.self in let k = c.entries.len * c.entries.stride in
+    (c.entries.at + k ≤ length s.args.block.now) × (length (part c.entries.at (c.entries.at + k - c.entries.at) s.args.block.now) ≡ k)
+    × (refs c.entries.stride c.entries.len (part c.entries.at (c.entries.at + k - c.entries.at) s.args.block.now) ≡ refsAt c s.args.block.now)
+unfolding part
+lent s =
+    let c = s.args.self in
+    let k = c.entries.len * c.entries.stride in
+    let xs = s.args.block.now in
+    let e : c.entries.at + k - c.entries.at ≡ k = size_of c.entries.at k in
+    let w : c.entries.at + k ≤ length xs = omega (arith, s.requires.0.apart, s.requires.0.within) in (
+      w,
+      ap (λ (j : ℕ). length (part c.entries.at j xs)) e ∙ length_part c.entries.at k xs w,
+      refs-lent c.entries.stride c.entries.len c.entries.at (c.entries.at + k - c.entries.at) xs (omega (arith, e)),
+    )
+
+pub returns-then-m-i : goal.returns-then-m-i
+returns-then-m-i c =
+    let k = c.args.self in
+    let xs = c.args.block.now in
+    record {
+      refs = sym (moved_none c.args.i k.expiry.len (refsAt k xs) c.if-m-i.true (of-below k.expiry.len _ c.requires.1));
+      only = only_same k.entries.at (k.entries.len * k.entries.stride) xs (lent (goal.at.returns-then-m-i c).Start).0;
+    }
+
+pub make_room-requires : goal.make_room-requires
+unfolding part
+make_room-requires c =
+    let k = c.args.self in (
+      c.requires.0.entryWide,
+      omega (arith, (lent (goal.at.make_room-requires c).Start).1),
+      record {
+        below = λ j h. omega (arith, c.requires.0.few, (subst (λ (es : List Ref). Below k.expiry.len (places es)) (sym (lent (goal.at.make_room-requires c).Start).2) c.requires.1).below j h);
+      },
+    )
+
+pub returns : goal.returns
+unfolding part
+returns c =
+    let k = c.args.self in
+    let xs = c.args.block.now in
+    let a = k.entries.at in
+    let z = k.entries.len * k.entries.stride in
+    let zs = c.make_room.new.e in
+    let lz : length zs ≡ z = c.make_room.auto.e ∙ (lent (goal.at.returns c).Start).1 in
+    record {
+      refs = refs-back k.entries.stride k.entries.len a (a + z - a) zs xs (omega (arith, lz)) (omega (arith, (lent (goal.at.returns c).Start).0))
+          ∙ c.make_room.ensures
+          ∙ ap (map (moved c.args.i)) (lent (goal.at.returns c).Start).2;
+      only = only-back a z (a + z - a) zs xs (size_of a z) lz (lent (goal.at.returns c).Start).0;
+    }

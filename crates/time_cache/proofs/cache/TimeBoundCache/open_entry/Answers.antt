@@ -1,0 +1,60 @@
+-- `open_entry`: `insert_row` in the entries, lent with room for one more.
+use mathlib.Core.Path.{◌≡◌, ap, ◌∙◌}
+use mathlib.Core.List.{List, ◌∷◌, ◌++◌}
+use Prim.Native.Nat.{ℕ, ◌+◌, ◌-◌, ◌*◌, ◌≤◌}
+use native.Mathlib.Nat.{mul_comm, one-mul}
+use lib.ListN.{length, take, drop}
+use Rattle.rows.specs.Part.{part}
+use Rattle.rows.proofs.Parts.{length_part}
+use Rattle.rows.proofs.Rows.{mul-more, mul-up}
+use Rattle.refs.specs.Refs.{Ref, refOf, refs}
+use Rattle.refs.proofs.Places.{refs-opened}
+use Rattle.time_cache.proofs.LoanLaws.{refs-lent, refs-back, size_of, only-back}
+use native.Mathlib.Omega.{arith}
+use Rattle.time_cache.proofs.cache.TimeBoundCache.open_entry.Goals as goal
+use Rattle.time_cache.proofs.cache.TimeBoundCache.open_entry.Goals.{Start}
+
+-- the size of what is lent
+lent : (s : Start) → let c = s.args.self in let k = (c.entries.len + 1) * c.entries.stride in
+    (c.entries.at + k ≤ length s.args.block.now) × (length (part c.entries.at (c.entries.at + k - c.entries.at) s.args.block.now) ≡ k) × (c.entries.len * c.entries.stride ≤ k)
+lent s =
+    let c = s.args.self in
+    let k = (c.entries.len + 1) * c.entries.stride in
+    let e : c.entries.at + k - c.entries.at ≡ k = size_of c.entries.at k in
+    let w : c.entries.at + k ≤ length s.args.block.now = omega (arith, s.requires.0.apart, s.requires.0.within) in (
+      w,
+      ap (λ (j : ℕ). length (part c.entries.at j s.args.block.now)) e ∙ length_part c.entries.at k s.args.block.now w,
+      omega (arith, mul-more c.entries.stride c.entries.len),
+    )
+
+pub overflow_add-e : goal.overflow_add-e
+overflow_add-e c =
+    let k = c.args.self.entries in
+    omega (arith, (lent (goal.at.overflow_add-e c).Start).0, mul_comm (k.len + 1) k.stride, mul-up (k.len + 1) 1 k.stride (omega (arith, c.requires.0.entryWide)), one-mul (k.len + 1))
+
+pub insert_row-requires : goal.insert_row-requires
+unfolding part
+insert_row-requires c =
+    (c.requires.1, omega (arith, (lent (goal.at.insert_row-requires c).Start).1))
+
+pub returns : goal.returns
+unfolding part
+returns c =
+    let k = c.args.self in
+    let xs = c.args.block.now in
+    let a = k.entries.at in
+    let w = k.entries.stride in
+    let n = k.entries.len in
+    let z = (n + 1) * w in
+    let j = c.args.j in
+    let zs = c.insert_row.new.b in
+    let lz : length zs ≡ z = c.insert_row.auto.b ∙ (lent (goal.at.returns c).Start).1 in
+    let old : List ℕ = part a (a + z - a) xs in
+    record {
+      gap = refOf (part (j * w) w old);
+      refs = refs-back w (n + 1) a (a + z - a) zs xs (omega (arith, lz)) (omega (arith, (lent (goal.at.returns c).Start).0))
+          ∙ ap (refs w (n + 1)) c.insert_row.ensures
+          ∙ refs-opened w n j old c.requires.1 (omega (arith, (lent (goal.at.returns c).Start).1))
+          ∙ ap (λ (es : List Ref). take j es ++ (refOf (part (j * w) w old) ∷ drop j es)) (refs-lent w n a (a + z - a) xs (omega (arith, size_of a z, (lent (goal.at.returns c).Start).2)));
+      only = only-back a z (a + z - a) zs xs (size_of a z) lz (lent (goal.at.returns c).Start).0;
+    }

@@ -1,0 +1,45 @@
+-- `store_place`: the two bytes at the start of the entry's row.
+use mathlib.Core.Path.{sym, ap, ◌∙◌, subst}
+use Rattle.rows.specs.Part.{Only}
+use mathlib.Core.List.{List, []}
+use Prim.Native.Nat.{ℕ, ◌+◌, ◌*◌, ◌≤◌}
+use lib.ListN.{drop, length-drop}
+use Rattle.rows.specs.Digits.{le_bytes}
+use Rattle.rows.proofs.Parts.{put-drop}
+use Rattle.rows.proofs.Digits.{length-leBytes}
+use Rattle.refs.specs.Refs.{ref, refs}
+use Rattle.refs.proofs.Places.{store-place}
+use Rattle.rows.proofs.Rows.{row-end}
+use Rattle.time_cache.proofs.LoanLaws.{only-put}
+use native.Mathlib.Omega.{arith}
+use Rattle.time_cache.proofs.cache.TimeBoundCache.store_place.Goals as goal
+use Rattle.time_cache.proofs.cache.TimeBoundCache.store_place.Goals.{Start}
+
+-- the row lies in the block
+room : (s : Start) → s.args.j * s.args.self.entries.stride + s.args.self.entries.stride ≤ s.args.self.entries.len * s.args.self.entries.stride
+room s = row-end s.args.self.entries.stride s.args.self.entries.len s.args.j s.requires.1
+
+pub overflow_mul-at : goal.overflow_mul-at
+overflow_mul-at c = omega (arith, room (goal.at.overflow_mul-at c).Start, c.requires.0)
+
+pub overflow_add-at : goal.overflow_add-at
+overflow_add-at c = omega (arith, room (goal.at.overflow_add-at c).Start, c.requires.0)
+
+pub store_le-requires : goal.store_le-requires
+store_le-requires c = omega (arith, room (goal.at.store_le-requires c).Start, c.requires.0)
+
+pub returns : goal.returns
+returns c =
+    let k = c.args.self in
+    let xs = c.args.block.now in
+    let a = k.entries.at in
+    let w = k.entries.stride in
+    let n = k.entries.len in
+    let j = c.args.j in
+    let i = c.args.i in
+    record {
+      refs = ap (λ (ys : List ℕ). refs w n (drop a ys)) c.store_le.ensures
+          ∙ ap (refs w n) (put-drop a (j * w) (le_bytes 2 i) xs (omega (arith, c.requires.0)))
+          ∙ store-place w n j i (ref 0 []) (drop a xs) c.requires.0.entryWide c.requires.1 (omega (arith, length-drop a xs, c.requires.0)) c.requires.2;
+      only = subst (λ (ys : List ℕ). Only a (n * w) xs ys) (sym c.store_le.ensures) (only-put a (j * w) (n * w) (le_bytes 2 i) xs (omega (arith, length-leBytes 2 i, room (goal.at.returns c).Start, c.requires.0)) (omega (arith, c.requires.0)));
+    }

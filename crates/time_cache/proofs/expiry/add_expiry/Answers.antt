@@ -1,0 +1,39 @@
+-- `add_expiry`: a gap, and the row's time and identifier in it.
+use mathlib.Core.Path.{ap, ◌∙◌}
+use Prim.Native.Nat.{◌+◌, ◌*◌, ◌≤◌}
+use Rattle.rows.specs.Part.{put}
+use Rattle.rows.specs.Digits.{le_bytes, beBytes}
+use Rattle.rows.specs.Ident.{id_of}
+use Rattle.rows.proofs.Ids.{id-lt}
+use Rattle.rows.proofs.Rows.{row-end}
+use Rattle.time_cache.specs.Tables.{expiryRows}
+use Rattle.time_cache.proofs.ExpiryLaws.{row-added}
+use native.Mathlib.Omega.{arith}
+use Rattle.time_cache.proofs.expiry.add_expiry.Goals as goal
+use Rattle.time_cache.proofs.expiry.add_expiry.Goals.{Start}
+
+-- the row lies in the slice
+room : (s : Start) → s.args.i * s.args.stride + s.args.stride ≤ (s.args.m + 1) * s.args.stride
+room s = row-end s.args.stride (s.args.m + 1) s.args.i (omega (arith, s.requires.1))
+
+pub overflow_mul-at : goal.overflow_mul-at
+overflow_mul-at c = omega (arith, room (goal.at.overflow_mul-at c).Start, c.requires.2)
+
+pub store-requires : goal.store-requires
+store-requires c = omega (arith, room (goal.at.store-requires c).Start, c.requires, c.insert_row.auto.b)
+
+pub overflow_add-at : goal.overflow_add-at
+overflow_add-at c = omega (arith, room (goal.at.overflow_add-at c).Start, c.requires)
+
+pub store_id-requires : goal.store_id-requires
+store_id-requires c =
+    omega (arith, room (goal.at.store_id-requires c).Start, c.requires, c.insert_row.auto.b, c.store.auto.b)
+
+pub returns : goal.returns
+returns c =
+    let a = c.args in
+    ap (expiryRows a.stride (a.m + 1)) (c.store_id.ensures
+    ∙ ap (put (a.i * a.stride + 8) (beBytes 32 (id_of a.key))) (c.store.ensures
+    ∙ ap (put (a.i * a.stride) (le_bytes 8 a.time.0)) c.insert_row.ensures))
+    ∙ row-added a.stride a.m a.i a.time.0 (id_of a.key) a.x.now c.requires.0 c.requires.1 c.requires.2 (omega (arith, c.well_formed))
+    (id-lt a.key.w0 a.key.w1 a.key.w2 a.key.w3 (omega (arith, c.well_formed)) (omega (arith, c.well_formed)) (omega (arith, c.well_formed)) (omega (arith, c.well_formed)))

@@ -1,0 +1,73 @@
+-- `due`: the cut lies between lo and hi. The measure is hi - lo.
+use mathlib.Core.Path.{◌≡◌, sym, ◌∙◌}
+use mathlib.Core.List.{map}
+use Prim.Native.Nat.{◌+◌, ◌-◌, ◌*◌, ◌/◌, ◌≤◌, ◌<◌}
+use lib.ListN.{get_or}
+use Rattle.rows.proofs.Rows.{row-end}
+use Rattle.time_cache.specs.Tables.{expiryRows, expiryOf, noExpiry}
+use Rattle.time_cache.proofs.Orders.{rising-of}
+use Rattle.time_cache.proofs.ExpiryLaws.{length-expiries, expiry-time, around-start, around-up, around-down, around-done}
+use native.Mathlib.Omega.{arith}
+use Rattle.time_cache.proofs.expiry.due.Goals as goal
+use Rattle.time_cache.proofs.expiry.due.Goals.{After-load-t, In-loop-lo}
+
+-- the row in the middle lies in the slice
+inside : (c : In-loop-lo)
+    → (c.loop-lo.lo + (c.loop-lo.hi - c.loop-lo.lo) / 2 < c.loop-lo.hi)
+    × (c.loop-lo.lo + (c.loop-lo.hi - c.loop-lo.lo) / 2 < c.args.m)
+inside c =
+    let a = c.args in
+    let l = c.loop-lo in
+    (omega arith, omega (arith, l.invariant.hi-end, length-expiries a.stride a.m a.x.now))
+
+room : (c : In-loop-lo)
+    → (c.loop-lo.lo + (c.loop-lo.hi - c.loop-lo.lo) / 2) * c.args.stride + c.args.stride
+    ≤ c.args.m * c.args.stride
+room c =
+    let a = c.args in
+    let l = c.loop-lo in
+    row-end a.stride a.m (l.lo + (l.hi - l.lo) / 2) (inside c).1
+
+-- the time that was read
+was : (c : After-load-t)
+    → c.load-t.result ≡ (get_or (map expiryOf (expiryRows c.args.stride c.args.m c.args.x.now)) (c.loop-lo.lo + (c.loop-lo.hi - c.loop-lo.lo) / 2) noExpiry).time
+was c =
+    let l = c.loop-lo in
+    c.load-t.ensures ∙ sym (expiry-time c.args.stride c.args.m (l.lo + (l.hi - l.lo) / 2) c.args.x.now c.requires.0 (inside (goal.at.After-load-t c).In-loop-lo).1)
+
+pub loop-lo-init : goal.loop-lo-init
+loop-lo-init c =
+    let a = c.args in
+    around-start (map expiryOf (expiryRows a.stride a.m a.x.now)) a.time.0 a.m (length-expiries a.stride a.m a.x.now)
+
+pub overflow_add-mid : goal.overflow_add-mid
+overflow_add-mid c = omega (arith, inside c)
+
+pub overflow_mul-mid : goal.overflow_mul-mid
+overflow_mul-mid c = omega (arith, room c)
+
+pub load-t-requires : goal.load-t-requires
+load-t-requires c = omega (arith, room c)
+
+pub overflow_add-lo : goal.overflow_add-lo
+overflow_add-lo c = omega (arith, inside (goal.at.overflow_add-lo c).In-loop-lo)
+
+pub loop-lo-preserved-then-t-time : goal.loop-lo-preserved-then-t-time
+loop-lo-preserved-then-t-time c =
+    let l = c.loop-lo in
+    let xs = map expiryOf (expiryRows c.args.stride c.args.m c.args.x.now) in
+    around-up xs c.args.time.0 l.lo l.hi (l.lo + (l.hi - l.lo) / 2) (rising-of xs c.requires.2) l.invariant (omega arith) (inside (goal.at.loop-lo-preserved-then-t-time c).In-loop-lo).0
+    (omega (arith, was (goal.at.loop-lo-preserved-then-t-time c).After-load-t, c.if-t-time.true))
+
+pub loop-lo-preserved : goal.loop-lo-preserved
+loop-lo-preserved c =
+    let l = c.loop-lo in
+    let xs = map expiryOf (expiryRows c.args.stride c.args.m c.args.x.now) in
+    around-down xs c.args.time.0 l.lo l.hi (l.lo + (l.hi - l.lo) / 2) (rising-of xs c.requires.2) l.invariant (omega arith) (inside (goal.at.loop-lo-preserved c).In-loop-lo).0
+    (omega (arith, was (goal.at.loop-lo-preserved c).After-load-t, c.if-t-time.false))
+
+pub returns : goal.returns
+returns c =
+    let l = c.loop-lo in
+    let a = c.args in
+    around-done (map expiryOf (expiryRows a.stride a.m a.x.now)) a.time.0 l.lo l.hi l.invariant c.loop-lo-test.false

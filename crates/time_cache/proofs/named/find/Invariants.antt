@@ -1,0 +1,12 @@
+-- `find`: lo and hi bracket the key; the key that the middle names settles one side. The measure is hi - lo.
+use Prim.Native.Nat.{◌-◌}
+use Rattle.rows.specs.Ident.{id_of}
+use Rattle.rows.proofs.Sorted.{Bracket}
+use Rattle.time_cache.proofs.NamedLaws.{keysIn}
+use Rattle.time_cache.proofs.named.find.Given as goal
+
+abbrev pub invariant-loop-lo : goal.invariant-loop-lo
+invariant-loop-lo l = Bracket (keysIn l.stride l.n l.e l.width l.m l.x) (id_of l.key) l.lo l.hi
+
+abbrev pub decreases-loop-lo : goal.decreases-loop-lo
+decreases-loop-lo l = l.hi - l.lo

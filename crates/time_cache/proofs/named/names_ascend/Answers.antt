@@ -1,0 +1,154 @@
+-- `names_ascend`: the first i places name rows, and the keys of these ascend (`Seen`); p is the last of them. The measure is n - i.
+use mathlib.Core.Path.{◌≡◌, sym, ap, ◌∙◌}
+use mathlib.Core.List.{List}
+use Prim.Native.Nat.{ℕ, ◌+◌, ◌-◌, ◌*◌, ◌≤◌, ◌<◌}
+use native.Mathlib.Nat.{zero-mul}
+use lib.ListN.{length, get_or}
+use Rattle.rows.specs.Part.{part}
+use Rattle.rows.specs.Digits.{leNat}
+use Rattle.rows.specs.Ident.{id_of}
+use Rattle.rows.proofs.Sorted.{lt_of, not-lt-of, le-of-same, le-of-above}
+use Rattle.rows.proofs.Ids.{of-less, of-equal, of-greater}
+use Rattle.rows.proofs.Rows.{row-end}
+use Rattle.time_cache.proofs.NamedLaws.{keysIn, place_read, named_end, named-key, seen_one, seen_more, seen_all, seen_none, not_named, not-up}
+use native.Mathlib.Omega.{arith}
+use Rattle.time_cache.proofs.named.names_ascend.Goals as goal
+use Rattle.time_cache.proofs.named.names_ascend.Goals.{After-load_id-b, Else-m-q, In-loop-i, Start}
+
+-- the first place, and the one in the loop, lie in their slice
+first : (s : Start) (h : 0 < s.args.n) → 0 * s.args.stride + s.args.stride ≤ s.args.n * s.args.stride
+first s h = row-end s.args.stride s.args.n 0 h
+
+first-at : (s : ℕ) → 0 ≡ 0 * s
+first-at s = sym (zero-mul s)
+
+room : (c : In-loop-i) → c.loop-i.i * c.args.stride + c.args.stride ≤ c.args.n * c.args.stride
+room c = row-end c.args.stride c.args.n c.loop-i.i c.loop-i-test.true
+
+abbrev ks : In-loop-i → List ℕ
+ks c = let a = c.args in keysIn a.stride a.n a.e.now a.width a.m a.x.now
+
+-- the rows that the two places name lie in the other
+there : (c : Else-m-q) → let a = c.args in
+    (c.loop-i.p * a.width + a.width ≤ length a.x.now) × (c.load2-q.result * a.width + a.width ≤ length a.x.now)
+there c =
+    let a = c.args in
+    let l = c.loop-i in
+    let h = c.loop-i-test.true in (
+      named_end a.stride a.n a.e.now a.width a.m a.x.now (l.i - 1) (omega (arith, h)) c.requires.0 l.p l.invariant.2 l.invariant.1 c.requires.2 c.requires.3,
+      named_end a.stride a.n a.e.now a.width a.m a.x.now l.i h c.requires.0 c.load2-q.result c.load2-q.ensures.0 (omega (arith, c.if-m-q.false)) c.requires.2 c.requires.3,
+    )
+
+-- the keys that were read
+read : (c : After-load_id-b)
+    → (id_of c.load_id-a.result ≡ get_or (ks (goal.at.After-load_id-b c).In-loop-i) (c.loop-i.i - 1) 0)
+    × (id_of c.load_id-b.result ≡ get_or (ks (goal.at.After-load_id-b c).In-loop-i) c.loop-i.i 0)
+read c =
+    let a = c.args in
+    let l = c.loop-i in
+    let h = c.loop-i-test.true in (
+      named-key a.stride a.n a.e.now a.width a.m a.x.now (l.i - 1) (omega (arith, h)) c.requires.0 l.p l.invariant.2 l.invariant.1 c.requires.2 c.requires.3 (id_of c.load_id-a.result) c.load_id-a.ensures,
+      named-key a.stride a.n a.e.now a.width a.m a.x.now l.i h c.requires.0 c.load2-q.result c.load2-q.ensures.0 (omega (arith, c.if-m-q.false)) c.requires.2 c.requires.3 (id_of c.load_id-b.result) c.load_id-b.ensures,
+    )
+
+pub returns-then-n-eq0 : goal.returns-then-n-eq0
+returns-then-n-eq0 c =
+    let a = c.args in
+    seen_none a.stride a.n a.e.now a.width a.m a.x.now c.if-n-eq0.true
+
+pub load2-p-requires : goal.load2-p-requires
+load2-p-requires c = omega (arith, first (goal.at.load2-p-requires c).Start (omega (arith, c.if-n-eq0.false)), c.requires.0, c.requires.1, zero-mul c.args.stride)
+
+pub returns-then-m-p : goal.returns-then-m-p
+returns-then-m-p c =
+    let a = c.args in
+    let z : 0 < a.n = omega (arith, c.if-n-eq0.false) in
+    not_named a.stride a.n a.e.now a.width a.m a.x.now 0 c.load2-p.result z
+    (place_read a.stride a.n a.e.now a.width a.m a.x.now 0 z c.requires.0 c.load2-p.result (c.load2-p.ensures.0 ∙ ap (λ (q : ℕ). leNat (part q 2 a.e.now)) (first-at a.stride))) c.if-m-p.true
+
+pub loop-i-init : goal.loop-i-init
+loop-i-init c =
+    let a = c.args in
+    let z : 0 < a.n = omega (arith, c.if-n-eq0.false) in
+    let b : c.load2-p.result < a.m = omega (arith, c.if-m-p.false) in
+    let r : c.load2-p.result ≡ leNat (part (0 * a.stride) 2 a.e.now) = c.load2-p.ensures.0 ∙ ap (λ (q : ℕ). leNat (part q 2 a.e.now)) (first-at a.stride) in
+    let k : 0 ≡ 1 - 1 = omega arith in (
+      omega arith,
+      b,
+      r ∙ ap (λ (q : ℕ). leNat (part (q * a.stride) 2 a.e.now)) k,
+      seen_one a.stride a.n a.e.now a.width a.m a.x.now c.load2-p.result z
+          (place_read a.stride a.n a.e.now a.width a.m a.x.now 0 z c.requires.0 c.load2-p.result r) b,
+    )
+
+pub overflow_mul-i : goal.overflow_mul-i
+overflow_mul-i c = omega (arith, room c, c.requires.1)
+
+pub load2-q-requires : goal.load2-q-requires
+load2-q-requires c = omega (arith, room c, c.requires.0, c.requires.1)
+
+pub returns-then-m-q : goal.returns-then-m-q
+returns-then-m-q c =
+    let a = c.args in
+    let l = c.loop-i in
+    let h = c.loop-i-test.true in
+    not_named a.stride a.n a.e.now a.width a.m a.x.now l.i c.load2-q.result h
+    (place_read a.stride a.n a.e.now a.width a.m a.x.now l.i h c.requires.0 c.load2-q.result c.load2-q.ensures.0) c.if-m-q.true
+
+pub overflow_mul-p : goal.overflow_mul-p
+overflow_mul-p c = omega (arith, (there c).0)
+
+pub overflow_add-p : goal.overflow_add-p
+overflow_add-p c = omega (arith, (there c).0, c.requires.2)
+
+pub load_id-a-requires : goal.load_id-a-requires
+load_id-a-requires c = omega (arith, (there c).0, c.requires.2)
+
+pub overflow_mul-q : goal.overflow_mul-q
+overflow_mul-q c = omega (arith, (there (goal.at.overflow_mul-q c).Else-m-q).1)
+
+pub overflow_add-q : goal.overflow_add-q
+overflow_add-q c = omega (arith, (there (goal.at.overflow_add-q c).Else-m-q).1, c.requires.2)
+
+pub load_id-b-requires : goal.load_id-b-requires
+load_id-b-requires c = omega (arith, (there (goal.at.load_id-b-requires c).Else-m-q).1, c.requires.2)
+
+pub loop-i-preserved : goal.loop-i-preserved
+loop-i-preserved c =
+    let a = c.args in
+    let l = c.loop-i in
+    let x = id_of c.load_id-a.result in
+    let y = id_of c.load_id-b.result in
+    let q = c.load2-q.result in
+    let h = c.loop-i-test.true in
+    let b : q < a.m = omega (arith, c.if-m-q.false) in
+    let k : l.i ≡ l.i + 1 - 1 = omega arith in (
+      omega arith,
+      b,
+      c.load2-q.ensures.0 ∙ ap (λ (j : ℕ). leNat (part (j * a.stride) 2 a.e.now)) k,
+      seen_more a.stride a.n a.e.now a.width a.m a.x.now l.i q l.invariant.0 l.invariant.3
+          (place_read a.stride a.n a.e.now a.width a.m a.x.now l.i h c.requires.0 q c.load2-q.ensures.0) b
+          (lt_of x y (get_or (ks (goal.at.loop-i-preserved c).In-loop-i) (l.i - 1) 0) (get_or (ks (goal.at.loop-i-preserved c).In-loop-i) l.i 0) (read (goal.at.loop-i-preserved c).After-load_id-b).0 (read (goal.at.loop-i-preserved c).After-load_id-b).1 (of-less x y (sym c.in-Less.is ∙ c.compare-o.ensures))),
+    )
+
+pub returns-in-Equal : goal.returns-in-Equal
+returns-in-Equal c =
+    let a = c.args in
+    let l = c.loop-i in
+    let x = id_of c.load_id-a.result in
+    let y = id_of c.load_id-b.result in
+    not-up a.stride a.n a.e.now a.width a.m a.x.now l.i l.invariant.0 c.loop-i-test.true
+    (not-lt-of x y (get_or (ks (goal.at.returns-in-Equal c).In-loop-i) (l.i - 1) 0) (get_or (ks (goal.at.returns-in-Equal c).In-loop-i) l.i 0) (read (goal.at.returns-in-Equal c).After-load_id-b).0 (read (goal.at.returns-in-Equal c).After-load_id-b).1 (le-of-same x y (of-equal x y (sym c.in-Equal.is ∙ c.compare-o.ensures))))
+
+pub returns-in-Greater : goal.returns-in-Greater
+returns-in-Greater c =
+    let a = c.args in
+    let l = c.loop-i in
+    let x = id_of c.load_id-a.result in
+    let y = id_of c.load_id-b.result in
+    not-up a.stride a.n a.e.now a.width a.m a.x.now l.i l.invariant.0 c.loop-i-test.true
+    (not-lt-of x y (get_or (ks (goal.at.returns-in-Greater c).In-loop-i) (l.i - 1) 0) (get_or (ks (goal.at.returns-in-Greater c).In-loop-i) l.i 0) (read (goal.at.returns-in-Greater c).After-load_id-b).0 (read (goal.at.returns-in-Greater c).After-load_id-b).1 (le-of-above x y (of-greater x y (sym c.in-Greater.is ∙ c.compare-o.ensures))))
+
+pub returns : goal.returns
+returns c =
+    let a = c.args in
+    seen_all a.stride a.n a.e.now a.width a.m a.x.now c.loop-i.i c.loop-i.invariant.3 c.loop-i-test.false

@@ -1,0 +1,13 @@
+-- `names_ascend`: the first i places name rows, and the keys of these ascend (`Seen`); p is the last of them. The measure is n - i.
+use mathlib.Core.Path.{◌≡◌}
+use Prim.Native.Nat.{◌-◌, ◌*◌, ◌<◌}
+use Rattle.rows.specs.Part.{part}
+use Rattle.rows.specs.Digits.{leNat}
+use Rattle.time_cache.proofs.NamedLaws.{Seen}
+use Rattle.time_cache.proofs.named.names_ascend.Given as goal
+
+abbrev pub invariant-loop-i : goal.invariant-loop-i
+invariant-loop-i l = (0 < l.i) × (l.p < l.m) × (l.p ≡ leNat (part ((l.i - 1) * l.stride) 2 l.e)) × Seen l.stride l.n l.e l.width l.m l.x l.i
+
+abbrev pub decreases-loop-i : goal.decreases-loop-i
+decreases-loop-i l = l.n - l.i

@@ -1,0 +1,34 @@
+-- `graft_list`: the count, then the numbers.
+use mathlib.Core.Path.{◌≡◌, sym, ap, ◌∙◌}
+use mathlib.Core.Bool.{Bool, true, ◌&&◌}
+use mathlib.Core.List.{[], ◌∷◌}
+use Prim.Native.Nat.{ℕ, ◌+◌, ◌-◌}
+use native.Mathlib.Omega.{arith}
+use borrow.Author.Tests.{le-leb, lt-leb}
+use lib.Dec.{leb}
+use lib.ListN.{take, drop, get_or}
+use Rattle.lists.specs.Base.{ascending}
+use Rattle.whole.specs.Held.{all_below, numbersName}
+use Rattle.whole.specs.Parts.{graftList}
+use Rattle.whole.proofs.Tests.{stops}
+use Rattle.whole.proofs.tables.graft_list.Goals as goal
+
+pub returns-then-n-gt32 : goal.returns-then-n-gt32
+unfolding graftList numbersName
+returns-then-n-gt32 c =
+    let list = c.args.list.now in
+    let ns = take (get_or list 0 0) (drop 1 list) in
+    sym (stops (leb (get_or list 0 0) 32) (all_below c.args.m ns ∷ ascending ns ∷ []) 0 (lt-leb (get_or list 0 0) 32 (omega (arith, c.if-n-gt32.true, c.wide-n.ensures))))
+
+pub returns : goal.returns
+unfolding graftList numbersName
+returns c =
+    let list = c.args.list.now in
+    let m = c.args.m in
+    let ns = take (get_or list 0 0) (drop 1 list) in
+    let w = c.wide-n in
+    let few : leb (get_or list 0 0) 32 ≡ true = le-leb (get_or list 0 0) 32 (omega (arith, c.if-n-gt32.false, w.ensures)) in
+    let size : 1 + w.result - 1 ≡ get_or list 0 0 = omega (arith, w.ensures) in
+    c.numbers_ascend.ensures
+    ∙ ap (λ (n : ℕ). all_below m (take n (drop 1 list)) && ascending (take n (drop 1 list))) size
+    ∙ ap (λ (t : Bool). t && all_below m ns && ascending ns) (sym few)

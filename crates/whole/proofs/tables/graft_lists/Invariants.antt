@@ -1,0 +1,15 @@
+-- `graft_lists`: the lists of the first i rows pass. The measure is n - i.
+use mathlib.Core.Path.{◌≡◌}
+use mathlib.Core.Bool.{true}
+use Prim.Native.Nat.{◌-◌}
+use lib.ListN.{take, drop}
+use Rattle.lists.specs.Base.{all}
+use Rattle.rows.specs.Rows.{rows}
+use Rattle.whole.specs.Parts.{graftList}
+use Rattle.whole.proofs.tables.graft_lists.Given as goal
+
+abbrev pub invariant-loop-i : goal.invariant-loop-i
+invariant-loop-i l = all (λ row. graftList l.m (drop 22 row)) (take l.i (rows 119 l.n l.b)) ≡ true
+
+abbrev pub decreases-loop-i : goal.decreases-loop-i
+decreases-loop-i l = l.n - l.i

@@ -1,0 +1,12 @@
+-- `links_whole`: the first i peers ascend; a turn compares neighbours. The measure is n - i.
+use Prim.Native.Nat.{◌-◌, ◌<◌}
+use Rattle.lists.specs.Map.{keys}
+use Rattle.rows.proofs.Sorted.{AscendTo}
+use Rattle.block.specs.View.{state_of}
+use Rattle.whole.proofs.tables.links_whole.Given as goal
+
+abbrev pub invariant-loop-i : goal.invariant-loop-i
+invariant-loop-i l = (0 < l.i) × AscendTo (keys (state_of l.h l.block).links) l.i
+
+abbrev pub decreases-loop-i : goal.decreases-loop-i
+decreases-loop-i l = l.n - l.i

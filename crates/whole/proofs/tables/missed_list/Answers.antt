@@ -1,0 +1,47 @@
+-- `missed_list`: the count, then the numbers.
+use mathlib.Core.Path.{◌≡◌, sym, ap, ◌∙◌}
+use mathlib.Core.Bool.{Bool, true, ◌&&◌}
+use mathlib.Core.List.{[], ◌∷◌}
+use Prim.Native.Nat.{ℕ, ◌+◌, ◌-◌}
+use native.Mathlib.Omega.{arith}
+use borrow.Author.Tests.{le-leb, lt-leb, lt-ltb, le-ltb}
+use lib.Dec.{leb, ltb}
+use lib.ListN.{take, drop, get_or}
+use Rattle.lists.specs.Base.{once}
+use Rattle.whole.specs.Held.{all_below, numbersName}
+use Rattle.whole.specs.Parts.{missedList}
+use Rattle.whole.proofs.Tests.{stops}
+use Rattle.whole.proofs.NumberLaws.{tells-numbers}
+use Rattle.whole.proofs.tables.missed_list.Goals as goal
+
+pub returns-then-n-gt32 : goal.returns-then-n-gt32
+unfolding missedList numbersName
+returns-then-n-gt32 c =
+    let list = c.args.list.now in
+    let ns = take (get_or list 0 0) (drop 1 list) in
+    sym (stops (leb (get_or list 0 0) 32) (all_below c.args.m ns ∷ (ltb 0 (get_or list 0 0) && once ns) ∷ []) 0 (lt-leb (get_or list 0 0) 32 (omega (arith, c.if-n-gt32.true, c.wide-n.ensures))))
+
+pub returns-then-n-lt1 : goal.returns-then-n-lt1
+unfolding missedList numbersName
+returns-then-n-lt1 c =
+    let list = c.args.list.now in
+    let ns = take (get_or list 0 0) (drop 1 list) in
+    sym (stops (leb (get_or list 0 0) 32) (all_below c.args.m ns ∷ (ltb 0 (get_or list 0 0) && once ns) ∷ []) 2
+    (ap (λ (t : Bool). t && once ns) (le-ltb 0 (get_or list 0 0) (omega (arith, c.if-n-lt1.true, c.wide-n.ensures)))))
+
+pub numbers-requires : goal.numbers-requires
+numbers-requires c = c.requires.1
+
+pub returns : goal.returns
+unfolding missedList numbersName
+returns c =
+    let list = c.args.list.now in
+    let m = c.args.m in
+    let ns = take (get_or list 0 0) (drop 1 list) in
+    let w = c.wide-n in
+    let few : leb (get_or list 0 0) 32 ≡ true = le-leb (get_or list 0 0) 32 (omega (arith, c.if-n-gt32.false, w.ensures)) in
+    let some : ltb 0 (get_or list 0 0) ≡ true = lt-ltb 0 (get_or list 0 0) (omega (arith, c.if-n-lt1.false, w.ensures)) in
+    let size : 1 + w.result - 1 ≡ get_or list 0 0 = omega (arith, w.ensures) in
+    tells-numbers m (take (1 + w.result - 1) (drop 1 list)) c.numbers.result c.numbers.ensures
+    ∙ ap (λ (n : ℕ). all_below m (take n (drop 1 list)) && once (take n (drop 1 list))) size
+    ∙ (λ k. sym few k && all_below m ns && (sym some k && once ns))

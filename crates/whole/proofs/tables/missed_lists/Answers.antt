@@ -1,0 +1,57 @@
+-- `missed_lists`: the lists of the first i rows pass. The measure is n - i.
+use mathlib.Core.Path.{◌≡◌, refl, sym, ap, ◌∙◌}
+use mathlib.Core.List.{[]}
+use Prim.Native.Nat.{◌+◌, ◌-◌, ◌*◌, ◌≤◌}
+use native.Mathlib.Omega.{arith}
+use lib.ListN.{length, drop, get_or}
+use Rattle.rows.specs.Rows.{rows}
+use Rattle.rows.proofs.Rows.{length-rows, row-end}
+use Rattle.whole.specs.Held.{allLists}
+use Rattle.whole.specs.Parts.{missedList}
+use Rattle.whole.proofs.AllLaws.{all_none, all_keep, all-not, all_done, list_at}
+use Rattle.whole.proofs.tables.missed_lists.Goals as goal
+use Rattle.whole.proofs.tables.missed_lists.Goals.{After-missed_list-ok, In-loop-i}
+
+-- row i lies in the slice
+room : (c : In-loop-i) → c.loop-i.i * 129 + 129 ≤ length c.args.b.now
+room c = omega (arith, row-end 129 c.args.n c.loop-i.i c.loop-i-test.true, c.requires.0)
+
+-- what the test told of row i
+told : (c : After-missed_list-ok)
+    → c.missed_list-ok.result ≡ missedList c.args.m (drop 32 (get_or (rows 129 c.args.n c.args.b.now) c.loop-i.i []))
+told c =
+    c.missed_list-ok.ensures ∙ ap (missedList c.args.m) (list_at 129 c.args.n c.loop-i.i 32 97 c.args.b.now refl c.loop-i-test.true c.requires.0)
+
+pub loop-i-init : goal.loop-i-init
+loop-i-init c = all_none (λ row. missedList c.args.m (drop 32 row)) (rows 129 c.args.n c.args.b.now)
+
+pub overflow_mul-a : goal.overflow_mul-a
+overflow_mul-a c = omega (arith, room c)
+
+pub overflow_add-a : goal.overflow_add-a
+overflow_add-a c = omega (arith, room c)
+
+pub overflow_add-e : goal.overflow_add-e
+overflow_add-e c = omega (arith, room c)
+
+pub loop-i-preserved : goal.loop-i-preserved
+loop-i-preserved c =
+    let l = c.loop-i in
+    let rs = rows 129 c.args.n c.args.b.now in
+    all_keep (λ row. missedList c.args.m (drop 32 row)) rs l.i [] (omega (arith, c.loop-i-test.true, length-rows 129 c.args.n c.args.b.now))
+    (sym (told (goal.at.loop-i-preserved c).After-missed_list-ok) ∙ c.if-ok.true)
+    ∙ l.invariant
+
+pub returns-else-ok : goal.returns-else-ok
+unfolding allLists
+returns-else-ok c =
+    let l = c.loop-i in
+    let rs = rows 129 c.args.n c.args.b.now in
+    all-not (λ row. missedList c.args.m (drop 32 row)) rs l.i [] (omega (arith, c.loop-i-test.true, length-rows 129 c.args.n c.args.b.now))
+    (sym (told (goal.at.returns-else-ok c).After-missed_list-ok) ∙ c.if-ok.false)
+
+pub returns : goal.returns
+unfolding allLists
+returns c =
+    let rs = rows 129 c.args.n c.args.b.now in
+    sym (sym (all_done (λ row. missedList c.args.m (drop 32 row)) rs c.loop-i.i (omega (arith, c.loop-i-test.false, length-rows 129 c.args.n c.args.b.now))) ∙ c.loop-i.invariant)

@@ -1,0 +1,15 @@
+-- `missed_lists`: the lists of the first i rows pass. The measure is n - i.
+use mathlib.Core.Path.{◌≡◌}
+use mathlib.Core.Bool.{true}
+use Prim.Native.Nat.{◌-◌}
+use lib.ListN.{take, drop}
+use Rattle.lists.specs.Base.{all}
+use Rattle.rows.specs.Rows.{rows}
+use Rattle.whole.specs.Parts.{missedList}
+use Rattle.whole.proofs.tables.missed_lists.Given as goal
+
+abbrev pub invariant-loop-i : goal.invariant-loop-i
+invariant-loop-i l = all (λ row. missedList l.m (drop 32 row)) (take l.i (rows 129 l.n l.b)) ≡ true
+
+abbrev pub decreases-loop-i : goal.decreases-loop-i
+decreases-loop-i l = l.n - l.i

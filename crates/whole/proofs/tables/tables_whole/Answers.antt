@@ -1,0 +1,111 @@
+-- `tables_whole`: each table's test, in order.
+use mathlib.Core.Path.{ap}
+use mathlib.Core.Bool.{not}
+use mathlib.Core.Path.{sym, ◌∙◌}
+use mathlib.Core.Bool.{Bool}
+use mathlib.Core.List.{List, [], ◌∷◌, ◌++◌}
+use Prim.Native.Nat.{ℕ, ◌+◌}
+use Rattle.block.specs.LinkSteps.{LinksAscend}
+use Rattle.block.specs.declared.head.Head.{Head}
+use Rattle.whole.specs.Parts.{linksWhole, receivedWhole, cachedWhole, graftedWhole, missingWhole, timersWhole, queueWhole, recordWhole, tablesWhole}
+use Rattle.whole.proofs.Tests.{stops, ends, from_each, no, yes}
+use Rattle.whole.proofs.tables.tables_whole.Goals as goal
+use Rattle.whole.proofs.tables.tables_whole.Goals.{Else-not-links}
+
+-- the tests between the first and the last
+abbrev between : Head → List ℕ → List Bool
+between h xs = receivedWhole h xs ∷ cachedWhole h xs ∷ graftedWhole h xs ∷ missingWhole h xs ∷ timersWhole h xs ∷ queueWhole h xs ∷ []
+
+-- past the first test the links ascend
+links-up : (c : Else-not-links) → LinksAscend c.args.h c.args.block.now
+unfolding linksWhole
+links-up c = yes c.links_whole-links.ensures (ap not c.if-not-links.false)
+
+pub links_whole-links-requires : goal.links_whole-links-requires
+links_whole-links-requires c = c.requires
+
+pub returns-then-not-links : goal.returns-then-not-links
+unfolding tablesWhole
+returns-then-not-links c =
+    let a = c.args in
+    let h = a.h in
+    let xs = a.block.now in
+    sym (stops (linksWhole h xs) (between h xs ++ (recordWhole h xs ∷ [])) 0 (no c.links_whole-links.ensures (ap not c.if-not-links.true)))
+
+pub received_whole-received-requires : goal.received_whole-received-requires
+received_whole-received-requires c = c.requires
+
+pub returns-then-not-received : goal.returns-then-not-received
+unfolding tablesWhole
+returns-then-not-received c =
+    let a = c.args in
+    let h = a.h in
+    let xs = a.block.now in
+    sym (stops (linksWhole h xs) (between h xs ++ (recordWhole h xs ∷ [])) 1 (no c.received_whole-received.ensures (ap not c.if-not-received.true)))
+
+pub cached_whole-cached-requires : goal.cached_whole-cached-requires
+cached_whole-cached-requires c = c.requires
+
+pub returns-then-not-cached : goal.returns-then-not-cached
+unfolding tablesWhole
+returns-then-not-cached c =
+    let a = c.args in
+    let h = a.h in
+    let xs = a.block.now in
+    sym (stops (linksWhole h xs) (between h xs ++ (recordWhole h xs ∷ [])) 2 (no c.cached_whole-cached.ensures (ap not c.if-not-cached.true)))
+
+pub grafted_whole-grafted-requires : goal.grafted_whole-grafted-requires
+grafted_whole-grafted-requires c = (c.requires, links-up (goal.at.grafted_whole-grafted-requires c).Else-not-links)
+
+pub returns-then-not-grafted : goal.returns-then-not-grafted
+unfolding tablesWhole
+returns-then-not-grafted c =
+    let a = c.args in
+    let h = a.h in
+    let xs = a.block.now in
+    sym (stops (linksWhole h xs) (between h xs ++ (recordWhole h xs ∷ [])) 3 (no c.grafted_whole-grafted.ensures (ap not c.if-not-grafted.true)))
+
+pub missing_whole-missing-requires : goal.missing_whole-missing-requires
+missing_whole-missing-requires c = (c.requires, links-up (goal.at.missing_whole-missing-requires c).Else-not-links)
+
+pub returns-then-not-missing : goal.returns-then-not-missing
+unfolding tablesWhole
+returns-then-not-missing c =
+    let a = c.args in
+    let h = a.h in
+    let xs = a.block.now in
+    sym (stops (linksWhole h xs) (between h xs ++ (recordWhole h xs ∷ [])) 4 (no c.missing_whole-missing.ensures (ap not c.if-not-missing.true)))
+
+pub timers_whole-timers-requires : goal.timers_whole-timers-requires
+timers_whole-timers-requires c = c.requires
+
+pub returns-then-not-timers : goal.returns-then-not-timers
+unfolding tablesWhole
+returns-then-not-timers c =
+    let a = c.args in
+    let h = a.h in
+    let xs = a.block.now in
+    sym (stops (linksWhole h xs) (between h xs ++ (recordWhole h xs ∷ [])) 5 (no c.timers_whole-timers.ensures (ap not c.if-not-timers.true)))
+
+pub queue_whole-queue-requires : goal.queue_whole-queue-requires
+queue_whole-queue-requires c = c.requires
+
+pub returns-then-not-queue : goal.returns-then-not-queue
+unfolding tablesWhole
+returns-then-not-queue c =
+    let a = c.args in
+    let h = a.h in
+    let xs = a.block.now in
+    sym (stops (linksWhole h xs) (between h xs ++ (recordWhole h xs ∷ [])) 6 (no c.queue_whole-queue.ensures (ap not c.if-not-queue.true)))
+
+pub record_whole-requires : goal.record_whole-requires
+record_whole-requires c = (c.requires, links-up (goal.at.record_whole-requires c).Else-not-links)
+
+pub returns : goal.returns
+unfolding tablesWhole
+returns c =
+    let a = c.args in
+    let h = a.h in
+    let xs = a.block.now in
+    c.record_whole.ensures
+    ∙ sym (ends (linksWhole h xs) (between h xs) (recordWhole h xs) (from_each (linksWhole h xs) (between h xs) (yes c.links_whole-links.ensures (ap not c.if-not-links.false), (yes c.received_whole-received.ensures (ap not c.if-not-received.false), (yes c.cached_whole-cached.ensures (ap not c.if-not-cached.false), (yes c.grafted_whole-grafted.ensures (ap not c.if-not-grafted.false), (yes c.missing_whole-missing.ensures (ap not c.if-not-missing.false), (yes c.timers_whole-timers.ensures (ap not c.if-not-timers.false), (yes c.queue_whole-queue.ensures (ap not c.if-not-queue.false), tt)))))))))

@@ -114,6 +114,9 @@ returns c =
     let copy : c.copy_bytes.new.out ≡ part from n (area h) =
     c.copy_bytes.ensures ∙ ap (λ (m : ℕ). put 0 (take m (drop from (area h))) (block h)) size
     ∙ put_all (part from n (area h)) (block h) (length_part from n (area h) (omega (arith, ends (goal.at.returns c).Else-i-kept, fits h))) in
-    λ old. subst (λ (t : List ℕ). Returns (block h) old (area h) (name h) t (countsOf c.row_Counts.result) 0 0) (sym copy)
-    (subst (λ (k : Counts). Returns (block h) old (area h) (name h) (part from n (area h)) k 0 0) (sym c.row_Counts.ensures)
+    λ old. subst (λ (t : List ℕ). Returns (block h) old (area h) (name h) t (countsOf c.row_counts-c.result) 0 0) (sym copy)
+    (subst (λ (k : Counts). Returns (block h) old (area h) (name h) (part from n (area h)) k 0 0) (sym c.row_counts-c.ensures)
     (returns-0 (block h) old (area h) (name h) (whole h) (holds h) (slot (goal.at.returns c).Else-i-kept) c.place_of-i.ensures (there (goal.at.returns c).Else-i-kept)))
+
+pub slice_bounds-copy_bytes-end : goal.slice_bounds-copy_bytes-end
+slice_bounds-copy_bytes-end c = omega (arith, ends (goal.at.slice_bounds-copy_bytes-end c).Else-i-kept, fits (held (goal.at.slice_bounds-copy_bytes-end c).Else-i-kept))

@@ -71,7 +71,7 @@ module _ (d : After-put_row) where
   abbrev at : Else-slot-eq-STATES
   at = (goal.at.After-put_row d).Else-slot-eq-STATES
 
-  long-row : length d.put_row.auto.area ≡ length (area (held at))
+  long-row : length d.put_row.new.area ≡ length (area (held at))
   unfolding rowBytes
   long-row = ap length d.put_row.ensures ∙ length-put (26 * slot at) (rowBytes (x (held at))) (area (held at)) (omega (arith, length-row (x (held at)), room at, fits (held at)))
 
@@ -82,10 +82,10 @@ module _ (d : After-copy_bytes) where
   abbrev at' : Else-slot-eq-STATES
   at' = (goal.at.After-copy_bytes d).Else-slot-eq-STATES
 
-  long-block : length d.copy_bytes.auto.out ≡ length (area (held at'))
+  long-block : length d.copy_bytes.new.out ≡ length (area (held at'))
   long-block =
       ap length d.copy_bytes.ensures
-      ∙ length-put (256 + length (block (held at')) * slot at') (block (held at')) rowed.put-row.last.0 (omega (arith, long-row rowed, ends at', fits (held at')))
+      ∙ length-put (256 + length (block (held at')) * slot at') (block (held at')) rowed.put_row.new.area (omega (arith, long-row rowed, ends at', fits (held at')))
       ∙ long-row rowed
 
 pub returns-then-not-whole : goal.returns-then-not-whole
@@ -147,6 +147,6 @@ returns c =
     let v : ℕ = c.kept_after.result in
     let after : set c.copy_bytes.new.out 255 v ≡ put 255 (v ∷ []) (put (256 + n * slot (goal.at.returns c).Else-slot-eq-STATES) (block h) (put (26 * slot (goal.at.returns c).Else-slot-eq-STATES) (rowBytes (x h)) (area h))) =
     set-put 255 v c.copy_bytes.new.out (omega (arith, long-block (goal.at.returns c).After-copy_bytes, fits h))
-    ∙ ap (put 255 (v ∷ [])) (c.copy_bytes.ensures ∙ ap (put (256 + n * slot (goal.at.returns c).Else-slot-eq-STATES) (block h)) (rowed (goal.at.returns c).After-copy_bytes).put-row.ensures) in
+    ∙ ap (put 255 (v ∷ [])) (c.copy_bytes.ensures ∙ ap (put (256 + n * slot (goal.at.returns c).Else-slot-eq-STATES) (block h)) (rowed (goal.at.returns c).After-copy_bytes).put_row.ensures) in
     subst (λ (t : List ℕ). Saves (block h) (counts h) (area h) (name h) t 0 0) (sym after)
     (saves-0 (block h) (counts h) (area h) (name h) (whole h) (holds h) (slot (goal.at.returns c).Else-slot-eq-STATES) v c.place_of-slot.ensures (room (goal.at.returns c).Else-slot-eq-STATES) c.kept_after.ensures)

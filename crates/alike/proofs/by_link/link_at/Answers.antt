@@ -1,0 +1,24 @@
+-- `by_link::link_at`: of the queue, or of the record.
+use mathlib.Core.Path.{sym, subst}
+use Prim.Native.Nat.{◌<◌}
+use Rattle.block.specs.View.{state_of}
+use Rattle.block.specs.NoteSteps.{LinkIs}
+use Rattle.alike.specs.Notes.{notesOf, count_of}
+use Rattle.alike.specs.declared.by_link.Notes.{Notes}
+use Rattle.alike.proofs.by_link.link_at.Goals as goal
+
+pub queued_link_at-requires : goal.queued_link_at-requires
+queued_link_at-requires c =
+    (c.requires.0, subst (λ (o : Notes). c.args.i < count_of o c.args.h.live) c.in-Queue.is c.requires.1)
+
+pub dropped_link_at-requires : goal.dropped_link_at-requires
+dropped_link_at-requires c =
+    (c.requires.0, subst (λ (o : Notes). c.args.i < count_of o c.args.h.live) c.in-Record.is c.requires.1)
+
+pub returns-in-Queue : goal.returns-in-Queue
+returns-in-Queue c =
+    subst (λ (o : Notes). LinkIs c.args.h c.args.block.now (notesOf o (state_of c.args.h c.args.block.now)) c.args.i c.queued_link_at.result) (sym c.in-Queue.is) c.queued_link_at.ensures
+
+pub returns-in-Record : goal.returns-in-Record
+returns-in-Record c =
+    subst (λ (o : Notes). LinkIs c.args.h c.args.block.now (notesOf o (state_of c.args.h c.args.block.now)) c.args.i c.dropped_link_at.result) (sym c.in-Record.is) c.dropped_link_at.ensures

@@ -1,0 +1,88 @@
+-- `by_link::next_of`: no note from `from` up to i is for the link. The measure is n - i.
+use mathlib.Core.Path.{◌≡◌, refl, sym, ap, ◌∙◌}
+use mathlib.Core.Bool.{true, false}
+use mathlib.Core.List.{List}
+use Prim.Native.Nat.{ℕ, ◌-◌, ◌<◌}
+use native.Mathlib.Omega.{arith}
+use borrow.Author.Tests.{eq-eqb, ne_eqb}
+use lib.ListN.{length, drop, get_or}
+use Rattle.lists.specs.Base.{filter}
+use Rattle.lists.specs.Map.{keys}
+use Rattle.time_cache.proofs.Orders.{up_of}
+use Rattle.protocol.specs.State.{State, Note}
+use Rattle.protocol.specs.Push.{forPeer}
+use Rattle.block.specs.View.{state_of}
+use Rattle.block.specs.LinkSteps.{peerAt}
+use Rattle.block.specs.NoteSteps.{note}
+use Rattle.block.proofs.LinkLaws.{count-peers}
+use Rattle.block.proofs.Scans.{keys-apart}
+use Rattle.alike.specs.Notes.{notesOf}
+use Rattle.alike.proofs.ByLink.{count-of, other-first}
+use borrow.Author.Rules.{rules}
+use Rattle.alike.proofs.by_link.next_of.Goals as goal
+use Rattle.alike.proofs.by_link.next_of.Goals.{After-count-n, After-link_at-l, Start}
+
+pub loop-i-init : goal.loop-i-init
+loop-i-init c = (search rules, omega (arith, c.count-n.ensures, c.requires.3), refl)
+
+pub link_at-l-requires : goal.link_at-l-requires
+link_at-l-requires c = (c.requires.0, omega (arith, c.loop-i-test.true, c.count-n.ensures))
+
+-- note i, whose link number was read
+module _ (d : After-link_at-l) where
+  abbrev f : After-count-n
+  f = (goal.at.After-link_at-l d).After-count-n
+
+  abbrev s : Start
+  s = f.before.before
+
+  abbrev st : State
+  st = state_of s.args.h s.args.block.now
+
+  abbrev ns : List Note
+  ns = notesOf s.args.of st
+
+  abbrev p : ℕ
+  p = peerAt st s.args.link
+
+  abbrev i : ℕ
+  i = d.loop-i.i
+
+  abbrev e : Note
+  e = get_or ns i (note 0 0 0)
+
+  here : i < length ns
+  here = omega (arith, count-of s.args.of s.args.h s.args.block.now s.requires.0, d.loop-i-test.true, f.count.ensures)
+
+  is-for : d.link_at-l.result ≡ s.args.link → forPeer p e ≡ true
+  is-for t = eq-eqb e.peer p (d.link_at-l.ensures.peer ∙ ap (peerAt st) t)
+
+  is-not : (d.link_at-l.result ≡ s.args.link → ⊥) → forPeer p e ≡ false
+  is-not t =
+      let k : length (keys st.links) ≡ s.args.h.live.links = count-peers s.args.h s.args.block.now in
+      let r : d.link_at-l.result < s.args.h.live.links = d.link_at-l.ensures.below in
+      ne_eqb e.peer p (λ z. keys-apart (keys st.links) d.link_at-l.result s.args.link (up_of (keys st.links) s.requires.1) (omega arith) (omega (arith, s.requires.2)) t (sym d.link_at-l.ensures.peer ∙ z))
+
+pub returns-then-l-link : goal.returns-then-l-link
+returns-then-l-link c =
+    let v = c.loop-i.invariant in
+    let w = here (goal.at.returns-then-l-link c).After-link_at-l in
+    record { after = v.0; within = omega (arith, w); passed = v.2; found = λ h. is-for (goal.at.returns-then-l-link c).After-link_at-l c.if-l-link.true }
+
+pub loop-i-preserved : goal.loop-i-preserved
+loop-i-preserved c =
+    let v = c.loop-i.invariant in
+    (search rules, search rules, v.2 ∙ other-first (p (goal.at.loop-i-preserved c).After-link_at-l) (ns (goal.at.loop-i-preserved c).After-link_at-l) (i (goal.at.loop-i-preserved c).After-link_at-l) (here (goal.at.loop-i-preserved c).After-link_at-l) (is-not (goal.at.loop-i-preserved c).After-link_at-l c.if-l-link.false))
+
+pub returns : goal.returns
+returns c =
+    let l = c.loop-i in
+    let a = c.args in
+    let n = count-of a.of a.h a.block.now c.requires.0 in
+    let at : l.i ≡ c.count-n.result = omega (arith, c.loop-i-test.false, l.invariant.1) in
+    record {
+      after = omega (arith, l.invariant.0, l.invariant.1);
+      within = omega (arith, n, c.count-n.ensures);
+      passed = l.invariant.2 ∙ ap (λ (k : ℕ). filter (forPeer (peerAt (state_of a.h a.block.now) a.link)) (drop k (notesOf a.of (state_of a.h a.block.now)))) at;
+      found = λ h. absurd (omega (arith, n, c.count-n.ensures, h));
+    }

@@ -1,0 +1,142 @@
+-- `by_link::same_for`: the notes before the two cursors agree. The measure is n - i.
+use mathlib.Core.Bool.{not}
+use mathlib.Core.Path.{◌≡◌, sym, ap, ◌∙◌, subst}
+use mathlib.Core.List.{List}
+use Prim.Native.Nat.{ℕ, ◌+◌, ◌-◌, ◌<◌}
+use native.Mathlib.Omega.{arith}
+use lib.Dec.{leb}
+use lib.ListN.{length, get_or}
+use Rattle.whole.proofs.Tests.{no, yes}
+use Rattle.protocol.specs.State.{State, Note}
+use Rattle.protocol.specs.Alike.{sameNote}
+use Rattle.block.specs.View.{state_of}
+use Rattle.block.specs.LinkSteps.{peerAt}
+use Rattle.block.specs.NoteSteps.{note}
+use Rattle.block.specs.declared.note.Note.{Note as LinkNote}
+use Rattle.alike.specs.Notes.{notesOf, count_of, NextOf}
+use Rattle.alike.proofs.ByLink.{count-of, Cursors, cursors-start, cursors-short, cursors-differ, cursors-more, cursors-end, same-inside}
+use borrow.Author.Rules.{rules}
+use Rattle.alike.proofs.by_link.same_for.Goals as goal
+use Rattle.alike.proofs.by_link.same_for.Goals.{After-same_note-s, At-loop-i, In-loop-i, Start}
+
+-- the two lists, their lengths, and the peer
+module _ (s : Start) where
+  abbrev sa : State
+  sa = state_of s.args.ha s.args.a.now
+
+  abbrev sb : State
+  sb = state_of s.args.hb s.args.b.now
+
+  abbrev p : ℕ
+  p = peerAt sa s.args.link
+
+  abbrev xs : List Note
+  xs = notesOf s.args.of sa
+
+  abbrev ys : List Note
+  ys = notesOf s.args.of sb
+
+  many_xs : length xs ≡ count_of s.args.of s.args.ha.live
+  many_xs = count-of s.args.of s.args.ha s.args.a.now s.requires.sound.0
+
+  many-ys : length ys ≡ count_of s.args.of s.args.hb.live
+  many-ys = count-of s.args.of s.args.hb s.args.b.now s.requires.sound.3
+
+  -- what was found in the second list, of the one peer
+  in-second : (from r : ℕ) → NextOf (peerAt sb s.args.link) from ys r → NextOf p from ys r
+  in-second from r h = subst (λ (q : ℕ). NextOf q from ys r) (sym s.requires.link_value) h
+
+pub next_of-i-requires : goal.next_of-i-requires
+next_of-i-requires c = (c.requires.sound.0, c.requires.sound.1, c.requires.sound.2, search rules)
+
+pub next_of-j-requires : goal.next_of-j-requires
+next_of-j-requires c = (c.requires.sound.3, c.requires.sound.4, c.requires.sound.5, search rules)
+
+pub loop-i-init : goal.loop-i-init
+loop-i-init c =
+    cursors-start (p (goal.at.loop-i-init c).Start) (xs (goal.at.loop-i-init c).Start) (ys (goal.at.loop-i-init c).Start) c.next_of-i.result c.next_of-j.result c.next_of-i.ensures (in-second (goal.at.loop-i-init c).Start 0 c.next_of-j.result c.next_of-j.ensures)
+
+-- in the loop
+module _ (d : In-loop-i) where
+  abbrev l : At-loop-i
+  l = (goal.at.In-loop-i d).At-loop-i
+
+  abbrev s₁ : Start
+  s₁ = l.before.before.before.before.before.before.before
+
+  n-is : l.before.before.before.before.count.result ≡ count_of s₁.args.of s₁.args.ha.live
+  n-is = l.before.before.before.before.count.ensures
+
+  m-is : l.before.before.before.count2.result ≡ count_of s₁.args.of s₁.args.hb.live
+  m-is = l.before.before.before.count2.ensures
+
+  more-xs : l.loop.i < length (xs s₁)
+  more-xs = omega (arith, many_xs s₁, n-is, d.loop-i-test.true)
+
+pub returns-then-m-j : goal.returns-then-m-j
+returns-then-m-j c =
+    let s = s₁ (goal.at.returns-then-m-j c).In-loop-i in
+    cursors-short (p s) (xs s) (ys s) c.loop-i.i c.loop-i.j c.loop-i.invariant (more-xs (goal.at.returns-then-m-j c).In-loop-i) (omega (arith, many-ys s, m-is (goal.at.returns-then-m-j c).In-loop-i, c.if-m-j.true))
+
+pub note_at-x-requires : goal.note_at-x-requires
+note_at-x-requires c = ((s₁ (goal.at.note_at-x-requires c).In-loop-i).requires.0.0, omega (arith, n-is (goal.at.note_at-x-requires c).In-loop-i, c.loop-i-test.true))
+
+pub note_at-y-requires : goal.note_at-y-requires
+note_at-y-requires c = ((s₁ (goal.at.note_at-y-requires c).In-loop-i).requires.0.3, omega (arith, m-is (goal.at.note_at-y-requires c).In-loop-i, c.if-m-j.false))
+
+-- the two notes that were read
+module _ (e : After-same_note-s) where
+  abbrev d₁ : In-loop-i
+  d₁ = (goal.at.After-same_note-s e).In-loop-i
+
+  abbrev s₂ : Start
+  s₂ = s₁ d₁
+
+  abbrev i₁ : ℕ
+  i₁ = d₁.before.loop.i
+
+  abbrev j₁ : ℕ
+  j₁ = d₁.before.loop.j
+
+  abbrev inv : Cursors (p s₂) (xs s₂) (ys s₂) i₁ j₁
+  inv = d₁.before.loop.invariant
+
+  more-ys : j₁ < length (ys s₂)
+  more-ys = omega (arith, many-ys s₂, m-is d₁, e.if-m-j.false)
+
+  compared : sameNote (get_or (xs s₂) i₁ (note 0 0 0)) (get_or (ys s₂) j₁ (note 0 0 0)) ≡ e.same_note-s.result
+  compared =
+      let x : LinkNote = e.note_at-x.result in
+      let y : LinkNote = e.note_at-y.result in
+      let u = e.note_at-x.ensures.same in
+      let v = e.note_at-y.ensures.same in
+      same-inside (p s₂) (get_or (xs s₂) i₁ (note 0 0 0)) (get_or (ys s₂) j₁ (note 0 0 0)) x y (inv.atFirst (more-xs d₁)) (inv.atSecond more-ys)
+      (ap (λ (n : Note). n.id) u) (ap (λ (n : Note). n.round) u) (ap (λ (n : Note). n.id) v) (ap (λ (n : Note). n.round) v)
+      ∙ sym e.same_note-s.ensures
+
+pub returns-then-not-s : goal.returns-then-not-s
+returns-then-not-s c =
+    let s = s₂ (goal.at.returns-then-not-s c).After-same_note-s in
+    cursors-differ (p s) (xs s) (ys s) (i₁ (goal.at.returns-then-not-s c).After-same_note-s) (j₁ (goal.at.returns-then-not-s c).After-same_note-s) (inv (goal.at.returns-then-not-s c).After-same_note-s) (more-xs (d₁ (goal.at.returns-then-not-s c).After-same_note-s)) (more-ys (goal.at.returns-then-not-s c).After-same_note-s) (no (sym (compared (goal.at.returns-then-not-s c).After-same_note-s)) (ap not c.if-not-s.true))
+
+pub next_of-i-requires-in-loop-i : goal.next_of-i-requires-in-loop-i
+next_of-i-requires-in-loop-i c = let d = d₁ (goal.at.next_of-i-requires-in-loop-i c).After-same_note-s in let s = s₁ d in (s.requires.sound.0, s.requires.sound.1, s.requires.sound.2, omega (arith, n-is d, d.loop-test.taken))
+
+pub next_of-j-requires-in-loop-i : goal.next_of-j-requires-in-loop-i
+next_of-j-requires-in-loop-i c = let s = s₂ (goal.at.next_of-j-requires-in-loop-i c).After-same_note-s in (s.requires.sound.3, s.requires.sound.4, s.requires.sound.5, omega (arith, m-is (d₁ (goal.at.next_of-j-requires-in-loop-i c).After-same_note-s), c.if-m-j.false))
+
+pub loop-i-smaller : goal.loop-i-smaller
+loop-i-smaller c = omega (arith, c.next_of-i-in-loop-i.ensures.after, (d₁ (goal.at.loop-i-smaller c).After-same_note-s).loop-test.taken)
+
+pub loop-i-preserved : goal.loop-i-preserved
+loop-i-preserved c =
+    let s = s₂ (goal.at.loop-i-preserved c).After-same_note-s in
+    cursors-more (p s) (xs s) (ys s) (i₁ (goal.at.loop-i-preserved c).After-same_note-s) (j₁ (goal.at.loop-i-preserved c).After-same_note-s) (inv (goal.at.loop-i-preserved c).After-same_note-s) (more-xs (d₁ (goal.at.loop-i-preserved c).After-same_note-s)) (more-ys (goal.at.loop-i-preserved c).After-same_note-s) (yes (sym (compared (goal.at.loop-i-preserved c).After-same_note-s)) (ap not c.if-not-s.false)) c.next_of-i-in-loop-i.result c.next_of-j-in-loop-i.result
+    c.next_of-i-in-loop-i.ensures (in-second s (j₁ (goal.at.loop-i-preserved c).After-same_note-s + 1) c.next_of-j-in-loop-i.result c.next_of-j-in-loop-i.ensures)
+
+pub returns : goal.returns
+returns c =
+    let n = c.count-n.ensures in
+    let m = c.count-m.ensures in
+    ap (λ (k : ℕ). leb k c.loop-i.j) (m ∙ sym (many-ys (goal.at.returns c).Start))
+    ∙ cursors-end (p (goal.at.returns c).Start) (xs (goal.at.returns c).Start) (ys (goal.at.returns c).Start) c.loop-i.i c.loop-i.j c.loop-i.invariant (omega (arith, many_xs (goal.at.returns c).Start, n, c.loop-i-test.false))

@@ -1,0 +1,14 @@
+-- `by_link::same_notes`: the notes of the first l links agree. The measure is n - l.
+use mathlib.Core.Path.{◌≡◌}
+use mathlib.Core.Bool.{true}
+use Prim.Native.Nat.{ℕ, ◌-◌, ◌≤◌, ◌<◌}
+use Rattle.block.specs.View.{state_of}
+use Rattle.block.specs.LinkSteps.{peerAt}
+use Rattle.alike.specs.Notes.{notesOf, sameFor}
+use Rattle.alike.proofs.by_link.same_notes.Given as goal
+
+abbrev pub invariant-loop-l : goal.invariant-loop-l
+invariant-loop-l l = (l.l ≤ l.n) × ((k : ℕ) → k < l.l → sameFor (peerAt (state_of l.ha l.a) k) (notesOf l.of (state_of l.ha l.a)) (notesOf l.of (state_of l.hb l.b)) ≡ true)
+
+abbrev pub decreases-loop-l : goal.decreases-loop-l
+decreases-loop-l l = l.n - l.l

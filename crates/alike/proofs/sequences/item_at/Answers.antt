@@ -1,0 +1,140 @@
+-- `sequences::item_at`: by the list.
+use mathlib.Core.Path.{◌≡◌, sym, ap, ◌∙◌, subst}
+use mathlib.Core.List.{List}
+use Prim.Native.Nat.{ℕ, ◌<◌}
+use lib.Dec.{lit<}
+use lib.ListN.{length, get_or, length-map, get_or-map}
+use Rattle.alike.specs.Elements.{Element, element, hopElement, graftElement, expiryElement, sequenceOf, InState}
+use Rattle.block.specs.View.{state_of, limitsOf, receivedIn, graftedIn, cachedIn, nothingOf, graftsOf, cachedOf}
+use Rattle.block.specs.declared.head.Head.{Head}
+use Rattle.block.specs.MissingSteps.{hop, hopsAt}
+use Rattle.caches.specs.GraftSteps.{graftsAt}
+use Rattle.caches.proofs.ReceivedLaws.{received-lies, count-received-rows}
+use Rattle.caches.proofs.GraftedLaws.{grafted-lies, count-grafted-rows}
+use Rattle.caches.proofs.CachedLaws.{cached-lies, count-cached-rows}
+use Rattle.alike.specs.declared.sequences.Sequence.{Sequence}
+use Rattle.alike.specs.declared.sequences.Sequence.TheVariants.{ReceivedExpiry, GraftedExpiry, CachedExpiry}
+use Rattle.lists.specs.Map.{entry, keys}
+use Rattle.time_cache.specs.Tables.{Lies, rows_at, row_at, expiryOf}
+use Rattle.time_cache.specs.declared.cache.TimeBoundCache.{TimeBoundCache}
+use Rattle.block.specs.Layout.{table}
+use Rattle.block.specs.Fit.{Fit}
+use Rattle.block.specs.TimeCaches.{receivedCache, graftedCache, cachedCache}
+use Rattle.alike.proofs.BlockReads.{expiry-read}
+use native.Mathlib.Omega.{arith}
+use Rattle.alike.proofs.sequences.item_at.Goals as goal
+use Rattle.alike.proofs.sequences.item_at.Goals.{Start}
+
+-- element j of a list, and that there is one
+abbrev item_of : Head → List ℕ → ℕ → Sequence → Element
+item_of h xs j q = get_or (sequenceOf q (state_of h xs)) j (element 0 0 0)
+
+abbrev There : Head → List ℕ → ℕ → Sequence → Type 0
+There h xs j q = j < length (sequenceOf q (state_of h xs))
+
+-- expiry row j of a time cache
+abbrev row_of : List ℕ → ℕ → TimeBoundCache → Element
+row_of xs j t = expiryElement (expiryOf (row_at (rows_at t xs) j))
+
+-- what a read of the row asks
+abbrev RowAsks : List ℕ → ℕ → TimeBoundCache → Type 0
+RowAsks xs j t = Lies t xs × (j < t.expiry.len)
+
+-- the rows of the three time caches
+module _ (h : Head) (xs : List ℕ) (f : Fit h xs) (j : ℕ) where
+  received-row-asks : There h xs j ReceivedExpiry → RowAsks xs j (receivedCache h)
+  received-row-asks q = (received-lies h xs f, omega (arith, length-map (state_of h xs).received.expiry expiryElement, count-received-rows h xs f))
+
+  received-row : There h xs j ReceivedExpiry → item_of h xs j ReceivedExpiry ≡ row_of xs j (receivedCache h)
+  unfolding state_of receivedIn
+  received-row q = expiry-read (limitsOf h.limits) 2 2 h.live.received 3 40 h.live.received_rows xs (lit< tt) (omega (arith, f)) (lit< tt) (omega (arith, f)) nothingOf j (received-row-asks q).1
+
+  grafted-row-asks : There h xs j GraftedExpiry → RowAsks xs j (graftedCache h)
+  grafted-row-asks q = (grafted-lies h xs f, omega (arith, length-map (state_of h xs).grafted.expiry expiryElement, count-grafted-rows h xs f))
+
+  grafted-row : There h xs j GraftedExpiry → item_of h xs j GraftedExpiry ≡ row_of xs j (graftedCache h)
+  unfolding state_of graftedIn
+  grafted-row q = expiry-read (limitsOf h.limits) 7 119 h.live.grafted 8 40 h.live.grafted_rows xs (lit< tt) (omega (arith, f)) (lit< tt) (omega (arith, f)) (graftsOf (keys (state_of h xs).links)) j (grafted-row-asks q).1
+
+  cached-row-asks : There h xs j CachedExpiry → RowAsks xs j (cachedCache h)
+  cached-row-asks q = (cached-lies h xs f, omega (arith, length-map (state_of h xs).cache.expiry expiryElement, count-cached-rows h xs f))
+
+  cached-row : There h xs j CachedExpiry → item_of h xs j CachedExpiry ≡ row_of xs j (cachedCache h)
+  unfolding state_of cachedIn
+  cached-row q = expiry-read (limitsOf h.limits) 4 4 h.live.cached 5 48 h.live.cached_rows xs (lit< tt) (omega (arith, f)) (lit< tt) (omega (arith, f)) (cachedOf (table (limitsOf h.limits) 6 xs)) j (cached-row-asks q).1
+
+-- of the list that was told: there is an element j, and there is such a list
+there : (s : Start) (q : Sequence) → s.args.of ≡ q → There s.args.h s.args.block.now s.args.j q
+there s q e = subst (There s.args.h s.args.block.now s.args.j) e s.requires.2
+
+inside : (s : Start) (q : Sequence) → s.args.of ≡ q → InState q s.args.h.live
+inside s q e = subst (λ (q : Sequence). InState q s.args.h.live) e s.requires.1
+
+pub row_item-requires : goal.row_item-requires
+row_item-requires c =
+    let a = c.args in
+    subst (RowAsks a.block.now a.j) (sym c.received_cache-c.ensures) (received-row-asks a.h a.block.now c.requires.0.fit a.j (there (goal.at.row_item-requires c).Start ReceivedExpiry c.in-ReceivedExpiry.is))
+
+pub row_item-requires-in-GraftedExpiry : goal.row_item-requires-in-GraftedExpiry
+row_item-requires-in-GraftedExpiry c =
+    let a = c.args in
+    subst (RowAsks a.block.now a.j) (sym c.grafted_cache-c.ensures) (grafted-row-asks a.h a.block.now c.requires.0.fit a.j (there (goal.at.row_item-requires-in-GraftedExpiry c).Start GraftedExpiry c.in-GraftedExpiry.is))
+
+pub row_item-requires-in-CachedExpiry : goal.row_item-requires-in-CachedExpiry
+row_item-requires-in-CachedExpiry c =
+    let a = c.args in
+    subst (RowAsks a.block.now a.j) (sym c.cached_cache-c.ensures) (cached-row-asks a.h a.block.now c.requires.0.fit a.j (there (goal.at.row_item-requires-in-CachedExpiry c).Start CachedExpiry c.in-CachedExpiry.is))
+
+pub announcer_at-hop-requires : goal.announcer_at-hop-requires
+announcer_at-hop-requires c =
+    let told = c.in-Announcers.given in
+    (c.requires.0, inside (goal.at.announcer_at-hop-requires c).Start _ told.1, omega (arith, there (goal.at.announcer_at-hop-requires c).Start _ told.1, length-map (hopsAt (state_of c.args.h c.args.block.now) told.0.0) hopElement))
+
+pub hop_item-requires : goal.hop_item-requires
+hop_item-requires c = (c.requires.0, c.announcer_at-hop.ensures.below)
+
+pub graft_at-hop-requires : goal.graft_at-hop-requires
+graft_at-hop-requires c =
+    let told = c.in-GraftedPeers.given in
+    (c.requires.0, inside (goal.at.graft_at-hop-requires c).Start _ told.1, omega (arith, there (goal.at.graft_at-hop-requires c).Start _ told.1, length-map (graftsAt (state_of c.args.h c.args.block.now) told.0.0).peers graftElement))
+
+pub hop_item-requires-in-GraftedPeers : goal.hop_item-requires-in-GraftedPeers
+hop_item-requires-in-GraftedPeers c = (c.requires.0, c.graft_at-hop.ensures.below)
+
+pub returns-in-ReceivedExpiry : goal.returns-in-ReceivedExpiry
+returns-in-ReceivedExpiry c =
+    let a = c.args in
+    let told = c.in-ReceivedExpiry.is in
+    c.row_item.ensures
+    ∙ ap (row_of a.block.now a.j) c.received_cache-c.ensures
+    ∙ sym (ap (item_of a.h a.block.now a.j) told ∙ received-row a.h a.block.now c.requires.0.fit a.j (there (goal.at.returns-in-ReceivedExpiry c).Start ReceivedExpiry told))
+
+pub returns-in-GraftedExpiry : goal.returns-in-GraftedExpiry
+returns-in-GraftedExpiry c =
+    let a = c.args in
+    let told = c.in-GraftedExpiry.is in
+    c.row_item-in-GraftedExpiry.ensures
+    ∙ ap (row_of a.block.now a.j) c.grafted_cache-c.ensures
+    ∙ sym (ap (item_of a.h a.block.now a.j) told ∙ grafted-row a.h a.block.now c.requires.0.fit a.j (there (goal.at.returns-in-GraftedExpiry c).Start GraftedExpiry told))
+
+pub returns-in-CachedExpiry : goal.returns-in-CachedExpiry
+returns-in-CachedExpiry c =
+    let a = c.args in
+    let told = c.in-CachedExpiry.is in
+    c.row_item-in-CachedExpiry.ensures
+    ∙ ap (row_of a.block.now a.j) c.cached_cache-c.ensures
+    ∙ sym (ap (item_of a.h a.block.now a.j) told ∙ cached-row a.h a.block.now c.requires.0.fit a.j (there (goal.at.returns-in-CachedExpiry c).Start CachedExpiry told))
+
+pub returns-in-Announcers : goal.returns-in-Announcers
+returns-in-Announcers c =
+    let a = c.args in
+    let told = c.in-Announcers.given in
+    c.hop_item.ensures
+    ∙ sym (ap (item_of a.h a.block.now a.j) told.1 ∙ get_or-map hopElement (hopsAt (state_of a.h a.block.now) told.0.0) a.j (hop 0 0) ∙ ap hopElement c.announcer_at-hop.ensures.same)
+
+pub returns-in-GraftedPeers : goal.returns-in-GraftedPeers
+returns-in-GraftedPeers c =
+    let a = c.args in
+    let told = c.in-GraftedPeers.given in
+    c.hop_item-in-GraftedPeers.ensures
+    ∙ sym (ap (item_of a.h a.block.now a.j) told.1 ∙ get_or-map graftElement (graftsAt (state_of a.h a.block.now) told.0.0).peers a.j (entry 0 0) ∙ ap graftElement c.graft_at-hop.ensures.same)

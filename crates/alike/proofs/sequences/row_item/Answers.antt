@@ -1,0 +1,34 @@
+-- `sequences::row_item`: time and key of the row.
+use mathlib.Core.Path.{◌∙◌}
+use Prim.Native.Nat.{◌+◌, ◌*◌, ◌≤◌}
+use lib.ListN.{length}
+use Rattle.alike.specs.Elements.{element}
+use Rattle.rows.proofs.Rows.{row-end}
+use Rattle.alike.proofs.BlockReads.{key-read}
+use native.Mathlib.Omega.{arith}
+use Rattle.alike.proofs.sequences.row_item.Goals as goal
+use Rattle.alike.proofs.sequences.row_item.Goals.{Start}
+
+-- row p lies in the block
+room : (s : Start)
+    → (s.args.c.expiry.at + s.args.p * s.args.c.expiry.stride + s.args.c.expiry.stride ≤ length s.args.block.now) × (40 ≤ s.args.c.expiry.stride)
+room s =
+    let t = s.args.c in
+    (omega (arith, row-end t.expiry.stride t.expiry.len s.args.p s.requires.1, s.requires.0.within), s.requires.0.expiryWide)
+
+pub overflow_mul-at : goal.overflow_mul-at
+overflow_mul-at c = omega (arith, room (goal.at.overflow_mul-at c).Start)
+
+pub overflow_add-at : goal.overflow_add-at
+overflow_add-at c = omega (arith, room (goal.at.overflow_add-at c).Start)
+
+pub overflow_add-at-2 : goal.overflow_add-at-2
+overflow_add-at-2 c = omega (arith, room (goal.at.overflow_add-at-2 c).Start)
+
+pub load_id-id-requires : goal.load_id-id-requires
+load_id-id-requires c = omega (arith, room (goal.at.load_id-id-requires c).Start)
+
+pub returns : goal.returns
+returns c =
+    let t = c.args.c in
+    λ k. element (c.expires-time.ensures k) ((c.load_id-id.ensures ∙ key-read t.expiry.stride t.expiry.len c.args.p t.expiry.at c.args.block.now c.requires.1 c.requires.0.expiryWide) k) 0

@@ -1,0 +1,73 @@
+-- `sequences::same_sequence`: the first j elements agree. The measure is n - j.
+use mathlib.Core.Path.{ap}
+use mathlib.Core.Bool.{not}
+use mathlib.Core.Path.{◌≡◌, sym, ◌∙◌}
+use mathlib.Core.Bool.{true}
+use mathlib.Core.List.{List}
+use Prim.Native.Nat.{ℕ, ◌-◌, ◌<◌}
+use lib.ListN.{length, get_or}
+use Rattle.whole.proofs.Tests.{no, yes}
+use Rattle.block.specs.View.{state_of}
+use Rattle.alike.specs.Elements.{Element, element, sameElement, sequenceOf}
+use Rattle.alike.proofs.Lists.{list-yes, list-no, list_length}
+use borrow.Author.Count.{below_more}
+use native.Mathlib.Omega.{arith}
+use borrow.Author.Rules.{rules}
+use Rattle.alike.proofs.sequences.same_sequence.Goals as goal
+use Rattle.alike.proofs.sequences.same_sequence.Goals.{After-same-s, Start}
+
+-- element k of both agrees
+abbrev Agree : List Element → List Element → ℕ → Type 0
+Agree xs ys k = sameElement (get_or xs k (element 0 0 0)) (get_or ys k (element 0 0 0)) ≡ true
+
+-- the two lists
+module _ (s : Start) where
+  abbrev A : List Element
+  A = sequenceOf s.args.of (state_of s.args.ha s.args.a.now)
+
+  abbrev B : List Element
+  B = sequenceOf s.args.of (state_of s.args.hb s.args.b.now)
+
+-- element j of both, as it was read
+module _ (d : After-same-s) where
+  abbrev start : Start
+  start = (goal.at.After-same-s d).Start
+
+  abbrev at : ℕ
+  at = d.loop-j.j
+
+  in_a : at < length (A start)
+  in_a = omega (arith, d.loop-j-test.true, d.size-n.ensures)
+
+  in_b : at < length (B start)
+  in_b = omega (arith, d.loop-j-test.true, d.size-m.ensures, d.if-n-m.false)
+
+  compared : d.same-s.result ≡ sameElement (get_or (A start) at (element 0 0 0)) (get_or (B start) at (element 0 0 0))
+  compared = d.same-s.ensures ∙ (λ k. sameElement (d.item_at-x.ensures k) (d.item_at-y.ensures k))
+
+pub returns-then-n-m : goal.returns-then-n-m
+returns-then-n-m c =
+    sym (list_length sameElement (element 0 0 0) (A (goal.at.returns-then-n-m c).Start) (B (goal.at.returns-then-n-m c).Start) (λ e. c.if-n-m.true (c.size-n.ensures ∙ e ∙ sym c.size-m.ensures)))
+
+pub loop-j-init : goal.loop-j-init
+loop-j-init c = (search rules, λ k h. absurd (omega (arith, h)))
+
+pub item_at-x-requires : goal.item_at-x-requires
+item_at-x-requires c = (search rules, search rules, omega (arith, c.loop-j-test.true, c.size-n.ensures))
+
+pub item_at-y-requires : goal.item_at-y-requires
+item_at-y-requires c = (search rules, search rules, omega (arith, c.loop-j-test.true, c.if-n-m.false, c.size-n.ensures, c.size-m.ensures))
+
+pub returns-then-not-s : goal.returns-then-not-s
+returns-then-not-s c =
+    sym (list-no sameElement (element 0 0 0) (A (start (goal.at.returns-then-not-s c).After-same-s)) (B (start (goal.at.returns-then-not-s c).After-same-s)) (at (goal.at.returns-then-not-s c).After-same-s) (in_a (goal.at.returns-then-not-s c).After-same-s) (in_b (goal.at.returns-then-not-s c).After-same-s) (no (compared (goal.at.returns-then-not-s c).After-same-s) (ap not c.if-not-s.true)))
+
+pub loop-j-preserved : goal.loop-j-preserved
+loop-j-preserved c =
+    (search rules, below_more (Agree (A (start (goal.at.loop-j-preserved c).After-same-s)) (B (start (goal.at.loop-j-preserved c).After-same-s))) (at (goal.at.loop-j-preserved c).After-same-s) c.loop-j.invariant.1 (yes (compared (goal.at.loop-j-preserved c).After-same-s) (ap not c.if-not-s.false)))
+
+pub returns : goal.returns
+returns c =
+    let n = c.size-n.ensures in
+    sym (list-yes sameElement (element 0 0 0) (A (goal.at.returns c).Start) (B (goal.at.returns c).Start) (sym n ∙ c.if-n-m.false ∙ c.size-m.ensures)
+    (λ k h. c.loop-j.invariant.1 k (omega (arith, h, n, c.loop-j-test.false))))

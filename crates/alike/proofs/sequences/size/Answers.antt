@@ -1,0 +1,47 @@
+-- `sequences::size`: the number that the header has, or the count of the list.
+use mathlib.Core.Path.{sym, ap, ◌∙◌, subst}
+use lib.ListN.{length, length-map}
+use Rattle.alike.specs.Elements.{hopElement, graftElement, expiryElement, sequenceOf, InState}
+use Rattle.block.specs.View.{state_of}
+use Rattle.caches.specs.GraftSteps.{graftsAt}
+use Rattle.caches.proofs.ReceivedLaws.{count-received-rows}
+use Rattle.caches.proofs.GraftedLaws.{count-grafted-rows}
+use Rattle.caches.proofs.CachedLaws.{count-cached-rows}
+use Rattle.alike.specs.declared.sequences.Sequence.{Sequence}
+use Rattle.block.specs.MissingSteps.{hopsAt}
+use Rattle.alike.proofs.sequences.size.Goals as goal
+
+pub announcers_of-requires : goal.announcers_of-requires
+announcers_of-requires c =
+    (c.requires.0, subst (λ (q : Sequence). InState q c.args.h.live) c.in-Announcers.is c.requires.1)
+
+pub graft_count-requires : goal.graft_count-requires
+graft_count-requires c =
+    (c.requires.0, subst (λ (q : Sequence). InState q c.args.h.live) c.in-GraftedPeers.is c.requires.1)
+
+pub returns-in-ReceivedExpiry : goal.returns-in-ReceivedExpiry
+returns-in-ReceivedExpiry c =
+    let st = state_of c.args.h c.args.block.now in
+    sym (ap (λ (q : Sequence). length (sequenceOf q st)) c.in-ReceivedExpiry.is ∙ length-map st.received.expiry expiryElement ∙ count-received-rows c.args.h c.args.block.now c.requires.0.fit)
+
+pub returns-in-GraftedExpiry : goal.returns-in-GraftedExpiry
+returns-in-GraftedExpiry c =
+    let st = state_of c.args.h c.args.block.now in
+    sym (ap (λ (q : Sequence). length (sequenceOf q st)) c.in-GraftedExpiry.is ∙ length-map st.grafted.expiry expiryElement ∙ count-grafted-rows c.args.h c.args.block.now c.requires.0.fit)
+
+pub returns-in-CachedExpiry : goal.returns-in-CachedExpiry
+returns-in-CachedExpiry c =
+    let st = state_of c.args.h c.args.block.now in
+    sym (ap (λ (q : Sequence). length (sequenceOf q st)) c.in-CachedExpiry.is ∙ length-map st.cache.expiry expiryElement ∙ count-cached-rows c.args.h c.args.block.now c.requires.0.fit)
+
+pub returns-in-Announcers : goal.returns-in-Announcers
+returns-in-Announcers c =
+    let st = state_of c.args.h c.args.block.now in
+    let told = c.in-Announcers.given in
+    c.announcers_of.ensures.0 ∙ sym (ap (λ (q : Sequence). length (sequenceOf q st)) told.1 ∙ length-map (hopsAt st told.0.0) hopElement)
+
+pub returns-in-GraftedPeers : goal.returns-in-GraftedPeers
+returns-in-GraftedPeers c =
+    let st = state_of c.args.h c.args.block.now in
+    let told = c.in-GraftedPeers.given in
+    c.graft_count.ensures.0 ∙ sym (ap (λ (q : Sequence). length (sequenceOf q st)) told.1 ∙ length-map (graftsAt st told.0.0).peers graftElement)

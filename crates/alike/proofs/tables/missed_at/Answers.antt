@@ -1,0 +1,7 @@
+-- `tables::missed_at`: the row of the message.
+use mathlib.Core.Path.{◌∙◌}
+use Rattle.alike.proofs.BlockReads.{missed-read}
+use Rattle.alike.proofs.tables.missed_at.Goals as goal
+
+pub returns : goal.returns
+returns c = c.load_id.ensures ∙ missed-read c.args.h c.args.block.now c.args.i c.missing_at-a.result c.requires.0 c.requires.1 c.missing_at-a.ensures

@@ -1,0 +1,41 @@
+-- `tables::same_sender`: by whether they are there.
+use mathlib.Core.Path.{sym, ap, ◌∙◌}
+use mathlib.Core.Bool.{Bool, ◌&&◌}
+use lib.Dec.{eqb}
+use borrow.Author.Tests.{eq-eqb, ne_eqb}
+use Rattle.protocol.specs.Alike.{sameOption, sameHop}
+use Rattle.alike.proofs.Lists.{and-no-left, none-there}
+use Rattle.alike.specs.Rows.{first_of}
+use Rattle.protocol.specs.State.{Hop}
+use Rattle.alike.specs.declared.tables.Sender.{Sender}
+use Rattle.block.specs.View.{only_if}
+use Rattle.alike.proofs.tables.same_sender.Goals as goal
+
+abbrev hopOf : Sender → Hop
+hopOf z = record { peer = z.peer; round = z.round.0 }
+
+pub returns-then-x-y : goal.returns-then-x-y
+unfolding sameOption sameHop
+returns-then-x-y c =
+    let x = hopOf c.args.x in
+    let y = hopOf c.args.y in
+    sym ((λ k. sameOption sameHop (only_if (c.if-x.true k) x) (only_if (c.if-y.true k) y))
+    ∙ and-no-left (eqb x.peer y.peer) (eqb x.round y.round) (ne_eqb x.peer y.peer c.if-x-y.true))
+
+pub returns-then-y : goal.returns-then-y
+unfolding sameOption sameHop
+returns-then-y c =
+    let x = hopOf c.args.x in
+    let y = hopOf c.args.y in
+    sym ((λ k. sameOption sameHop (only_if (c.if-x.true k) x) (only_if (c.if-y.true k) y))
+    ∙ ap (λ (t : Bool). t && eqb x.round y.round) (eq-eqb x.peer y.peer c.if-x-y.false))
+
+pub returns-then-x : goal.returns-then-x
+unfolding sameOption
+returns-then-x c =
+    sym (λ k. sameOption sameHop (only_if (c.if-x.true k) (hopOf c.args.x)) (only_if (c.if-y.false k) (hopOf c.args.y)))
+
+pub returns : goal.returns
+unfolding sameOption
+returns c =
+    sym ((λ k. sameOption sameHop (only_if (c.if-x.false k) (hopOf c.args.x)) (first_of c.args.y)) ∙ none-there c.args.y.there (hopOf c.args.y))

@@ -1,0 +1,7 @@
+-- `tables::timer_at`: the row of the timer.
+use mathlib.Core.Path.{◌∙◌}
+use Rattle.alike.proofs.BlockReads.{timer-read}
+use Rattle.alike.proofs.tables.timer_at.Goals as goal
+
+pub returns : goal.returns
+returns c = c.load_id.ensures ∙ timer-read c.args.h c.args.block.now c.args.i c.timers_at-a.result c.requires.0 c.requires.1 c.timers_at-a.ensures

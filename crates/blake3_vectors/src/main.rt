@@ -1,7 +1,7 @@
 // The BLAKE3 of contents whose byte i is i % 251, a line 'LENGTH HEX' for each: first the lengths of BLAKE3's own test vectors, by
 // `hash`, and then every length from 0 to 2,100, by `hash_into`.
 #![tactic(auto)]
-use libc::STDOUT_FILENO;
+
 use rows::id::Id;
 
 const LENGTHS: [usize; 35] = [
@@ -11,61 +11,53 @@ const LENGTHS: [usize; 35] = [
 
 // Fills b with i % 251.
 fn fill(b: &mut [u8]) {
-    let mut i = 0;
-    while i < b.len() {
+    for i in 0..b.len() {
         b[i] = (i % 251) as u8;
-        i += 1;
     }
 }
 
-fn print_line(n: usize, id: Id) {
-    io::print_decimal(STDOUT_FILENO, n as u64);
-    io::write_all(STDOUT_FILENO, b" ");
-    io::print_hex(STDOUT_FILENO, id.w0, 16);
-    io::print_hex(STDOUT_FILENO, id.w1, 16);
-    io::print_hex(STDOUT_FILENO, id.w2, 16);
-    io::print_hex(STDOUT_FILENO, id.w3, 16);
-    io::write_all(STDOUT_FILENO, b"\n");
+// Writes a line; a write that fails is left at that.
+fn print_line(rt: &impl Print, n: usize, id: Id) {
+    let _ = println!(rt;
+        "{n} {:016x}{:016x}{:016x}{:016x}",
+        id.w0, id.w1, id.w2, id.w3
+    );
 }
 
 // The line of the first n bytes of b, by `hash`.
-fn show(b: &[u8], n: usize) {
+fn show(rt: &impl Print, b: &[u8], n: usize) {
     if n <= b.len() {
-        print_line(n, blake3::hash(&b[..n]));
+        print_line(rt, n, blake3::hash(&b[..n]));
     }
 }
 
 // The same by `hash_into`.
-fn show_into(b: &[u8], n: usize) {
+fn show_into(rt: &impl Print, b: &[u8], n: usize) {
     if n <= b.len() {
         let mut out = [0u8; 32];
         blake3::hash_into(&b[..n], &mut out);
-        print_line(n, rows::id::load_id(&out, 0));
+        print_line(rt, n, rows::id::load_id(&out, 0));
     }
 }
 
 // The lengths of BLAKE3's own test vectors.
-fn vectors(b: &[u8]) {
+fn vectors(rt: &impl Print, b: &[u8]) {
     let t = LENGTHS;
-    let mut i = 0;
-    while i < 35 {
-        show(b, t[i]);
-        i += 1;
+    for n in t {
+        show(rt, b, n);
     }
 }
 
 // Every length from 0 to 2,100.
-fn lengths(b: &[u8]) {
-    let mut n = 0;
-    while n <= 2100 {
-        show_into(b, n);
-        n += 1;
+fn lengths(rt: &impl Print, b: &[u8]) {
+    for n in 0..2101 {
+        show_into(rt, b, n);
     }
 }
 
-fn main() {
+fn main(rt: HostRuntime) {
     let mut b = [0u8; 102400];
     fill(&mut b);
-    vectors(&b);
-    lengths(&b);
+    vectors(&rt, &b);
+    lengths(&rt, &b);
 }

@@ -1,5 +1,3 @@
-pub mod Turns
-pub mod Shared
 pub mod RoomLaws
 pub mod PeerLaws
 pub mod CallLaws

@@ -1,9 +1,9 @@
 // A reading as it crosses a link: the event in which a panel receives it, what is read from those bytes, and the action that sends it on. Each in
 // hexadecimal, with document 01's bytes.
 #![tactic(auto)]
+
 ghost use Rattle.std.specs.Prelude.{◌≡◌, ◌≤◌, length};
 
-use libc::STDOUT_FILENO;
 use postcard::message::{Decoded, Delivery, Event, Message};
 use postcard::units::Round;
 use rows::id::Id;
@@ -12,22 +12,29 @@ fn wide(b: u8) -> u64 {
     b as u64
 }
 
+// Writes bytes; a write that fails is left at that.
+fn word(rt: &impl Print, text: &[u8]) {
+    let _ = rt.write_all(text);
+}
+
+// Writes a byte in two hexadecimal digits.
+fn byte(rt: &impl Print, v: u64) {
+    let _ = print!(rt; "{v:02x}");
+}
+
 // Writes a label and then the bytes.
-fn show(label: &[u8], bytes: &[u8]) {
-    io::write_all(STDOUT_FILENO, label);
-    let mut i = 0;
-    while i < bytes.len() {
-        io::print_hex(STDOUT_FILENO, wide(bytes[i]), 2);
-        i += 1;
+fn show(rt: &impl Print, label: &[u8], bytes: &[u8]) {
+    word(rt, label);
+    for b in bytes {
+        byte(rt, wide(*b));
     }
-    io::write_all(STDOUT_FILENO, b"\n");
+    word(rt, b"\n");
 }
 
 // Writes a label and then a number.
-fn show_number(label: &[u8], v: u64) {
-    io::write_all(STDOUT_FILENO, label);
-    io::print_decimal(STDOUT_FILENO, v);
-    io::write_all(STDOUT_FILENO, b"\n");
+fn show_number(rt: &impl Print, label: &[u8], v: u64) {
+    word(rt, label);
+    let _ = println!(rt; "{v}");
 }
 
 // "0 received message": from peer 5, a Gossip of round 0. Answers how many bytes it has.
@@ -49,20 +56,21 @@ fn write_action(out: &mut [u8], id: Id, content: &[u8]) -> usize
 }
 
 // What is read from a message: its kind in words.
-fn show_message(m: Message) {
+fn show_message(rt: &impl Print, m: Message) {
     match m {
         Message::Gossip {
             id: _,
             start: _,
             len,
             delivery: _,
-        } => show_number(b"a Gossip, bytes of content: ", len as u64),
-        Message::Prune => show(b"a Prune", b""),
+        } => show_number(rt, b"a Gossip, bytes of content: ", len as u64),
+        Message::Prune => show(rt, b"a Prune", b""),
         Message::Graft {
             wanted: _,
             round: _,
-        } => show(b"a Graft", b""),
+        } => show(rt, b"a Graft", b""),
         Message::IHave { start: _, count } => show_number(
+            rt,
             b"an IHave, announcements: ",
             count as u64,
         ),
@@ -70,40 +78,40 @@ fn show_message(m: Message) {
 }
 
 // What is read from an event.
-fn show_event(e: Event) {
+fn show_event(rt: &impl Print, e: Event) {
     match e {
         Event::Received {
             peer,
             size: _,
             message,
         } => {
-            show_number(b"read     from peer ", peer);
-            io::write_all(STDOUT_FILENO, b"         ");
-            show_message(message);
+            show_number(rt, b"read     from peer ", peer);
+            word(rt, b"         ");
+            show_message(rt, message);
         }
         Event::Broadcast {
             start: _,
             len: _,
             scope: _,
-        } => show(b"read     a broadcast", b""),
-        Event::Timer(_) => show(b"read     a timer", b""),
-        Event::Up(peer) => show_number(b"read     up ", peer),
-        Event::Down(peer) => show_number(b"read     down ", peer),
+        } => show(rt, b"read     a broadcast", b""),
+        Event::Timer(_) => show(rt, b"read     a timer", b""),
+        Event::Up(peer) => show_number(rt, b"read     up ", peer),
+        Event::Down(peer) => show_number(rt, b"read     down ", peer),
     }
 }
 
-fn main() {
+fn main(rt: HostRuntime) {
     let content = b"burner 3: 1452 C";
     let id = blake3::hash(content);
     let mut event = [0u8; 96];
     let n = write_event(&mut event, id, content);
-    show(b"event    ", &event[..n]);
+    show(&rt, b"event    ", &event[..n]);
     let decoded = decode::decode_event(&event[..n]);
     match decoded {
-        Decoded::Event(e) => show_event(e),
-        Decoded::Fault(q) => show_number(b"refused  ", q as u64),
+        Decoded::Event(e) => show_event(&rt, e),
+        Decoded::Fault(q) => show_number(&rt, b"refused  ", q as u64),
     }
     let mut out = [0u8; 128];
     let m = write_action(&mut out, id, content);
-    show(b"action   ", &out[..m]);
+    show(&rt, b"action   ", &out[..m]);
 }

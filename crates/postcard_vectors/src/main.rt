@@ -2,8 +2,9 @@
 // each this writes a line with what `decode_event` reads, and of a received message, behind a semicolon, what `rewrite` writes. What must come out is the file
 // `stdout`. tests/postcard says how both were made.
 #![tactic(auto)]
-use libc::{STDIN_FILENO, STDOUT_FILENO};
+
 use postcard::message::Decoded;
+use std::io::Read;
 
 mod shortest;
 mod show;
@@ -39,27 +40,42 @@ fn fill(event: &mut [u8], digits: &[u8]) -> usize
 }
 
 // One line of the output.
-fn replay(event: &[u8]) {
+fn replay(rt: &impl Print, event: &[u8]) {
     let decoded = decode::decode_event(event);
     match decoded {
-        Decoded::Event(value) => show::event(event, value),
-        Decoded::Fault(n) => show::number(n as u64),
+        Decoded::Event(value) => show::event(rt, event, value),
+        Decoded::Fault(n) => show::number(rt, n as u64),
     }
-    shortest::of_event(event);
-    io::write_all(STDOUT_FILENO, b"\n");
+    shortest::of_event(rt, event);
+    show::word(rt, b"\n");
 }
 
 // The event that the digits spell, of at most 4,096 bytes.
-fn replay_digits(digits: &[u8]) {
+fn replay_digits(rt: &impl Print, digits: &[u8]) {
     let mut event = [0u8; 4096];
     let n = fill(&mut event, digits);
-    replay(&event[..n]);
+    replay(rt, &event[..n]);
+}
+
+// Reads until the buffer is full, the input ends or a read fails, and answers how many bytes it put at the buffer's start.
+fn read_full(input: &mut impl Read, buffer: &mut [u8]) -> usize
+    ensures { result ≤ length buffer.new }
+{
+    let mut done = 0;
+    while done < buffer.len() {
+        let n = input.read(&mut buffer[done..]).unwrap_or(0);
+        if n == 0 {
+            return done;
+        }
+        done += n;
+    }
+    done
 }
 
 // Reads as many digits as there is room for, and replays their event.
-fn replay_line(line: &mut [u8]) {
-    io::read_full(STDIN_FILENO, line);
-    replay_digits(line);
+fn replay_line(input: &mut impl Read, rt: &impl Print, line: &mut [u8]) {
+    read_full(input, line);
+    replay_digits(rt, line);
 }
 
 // The number of bytes at the head of a line.
@@ -72,9 +88,9 @@ fn size_of(head: &[u8; 5]) -> usize
 }
 
 // Reads a line and replays it; answers whether there was one.
-fn replay_next() -> bool {
+fn replay_next(input: &mut impl Read, rt: &impl Print) -> bool {
     let mut head = [0u8; 5];
-    let got = io::read_full(STDIN_FILENO, &mut head);
+    let got = read_full(input, &mut head);
     if got < 5 {
         return false;
     }
@@ -83,14 +99,16 @@ fn replay_next() -> bool {
     if line.len() < end {
         return false;
     }
-    replay_line(&mut line[..end]);
+    replay_line(input, rt, &mut line[..end]);
     true
 }
 
-// A proved loop has to end, and nothing says that the input does: the turns are counted down from a number that no run uses up.
-fn main() {
-    let mut turns = u64::MAX;
-    while turns > 0 && replay_next() {
-        turns -= 1;
+// Nothing says that the input ends, and a proved loop has to: this one makes more turns than any run uses up.
+fn main(rt: HostRuntime) {
+    let mut input = rt.stdin();
+    for _ in 0..u64::MAX {
+        if !replay_next(&mut input, &rt) {
+            return;
+        }
     }
 }

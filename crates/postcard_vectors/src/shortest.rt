@@ -4,16 +4,16 @@ use number::NumberRead;
 use rewrite::Rewritten;
 
 // The message rewritten, or the question that is answered no.
-fn message(bytes: &[u8], out: &mut [u8]) {
+fn message(rt: &impl Print, bytes: &[u8], out: &mut [u8]) {
     let written = rewrite::rewrite(bytes, out);
     match written {
-        Rewritten::Shortest(n) => show::content(&out[..n]),
-        Rewritten::Fault(n) => show::number(n as u64),
+        Rewritten::Shortest(n) => show::content(rt, &out[..n]),
+        Rewritten::Fault(n) => show::number(rt, n as u64),
     }
 }
 
 // A received message, of at most 4,096 bytes as the events are, which stands behind the event's kind and peer, rewritten into an output as long as it is. Nothing for other events, and where no peer is read.
-pub fn of_event(event: &[u8]) {
+pub fn of_event(rt: &impl Print, event: &[u8]) {
     if event.len() == 0 {
         return;
     }
@@ -28,8 +28,8 @@ pub fn of_event(event: &[u8]) {
             if out.len() < n {
                 return;
             }
-            show::word(b"; ");
-            message(&event[next..], &mut out[..n]);
+            show::word(rt, b"; ");
+            message(rt, &event[next..], &mut out[..n]);
         }
         NumberRead::Fault(_) => {}
     }

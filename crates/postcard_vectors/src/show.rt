@@ -4,80 +4,80 @@ ghost use Rattle.postcard.specs.Events.{Listed, MessageHeld, EventHeld, ihavesFr
 
 use decode::field;
 use decode::field::Announced;
-use libc::STDOUT_FILENO;
 use postcard::message::{Delivery, Event, Message, Scope, Timer, Wanted};
 use rows::id::Id;
 
-pub fn word(text: &[u8]) {
-    io::write_all(STDOUT_FILENO, text);
+// Writes bytes. Here and below a write that fails is left at that.
+pub fn word(rt: &impl Print, text: &[u8]) {
+    let _ = rt.write_all(text);
 }
 
-pub fn number(v: u64) {
-    io::print_decimal(STDOUT_FILENO, v);
+pub fn number(rt: &impl Print, v: u64) {
+    let _ = print!(rt; "{v}");
 }
 
-fn identifier(id: Id) {
-    io::print_hex(STDOUT_FILENO, id.w0, 16);
-    io::print_hex(STDOUT_FILENO, id.w1, 16);
-    io::print_hex(STDOUT_FILENO, id.w2, 16);
-    io::print_hex(STDOUT_FILENO, id.w3, 16);
+fn identifier(rt: &impl Print, id: Id) {
+    let _ = print!(rt; "{:016x}{:016x}{:016x}{:016x}", id.w0, id.w1, id.w2, id.w3);
 }
 
 fn wide(b: u8) -> u64 {
     b as u64
 }
 
-pub fn content(bytes: &[u8]) {
+// Writes a byte in two hexadecimal digits.
+fn byte(rt: &impl Print, v: u64) {
+    let _ = print!(rt; "{v:02x}");
+}
+
+pub fn content(rt: &impl Print, bytes: &[u8]) {
     if bytes.len() == 0 {
-        word(b"-");
+        word(rt, b"-");
         return;
     }
-    let mut i = 0;
-    while i < bytes.len() {
-        io::print_hex(STDOUT_FILENO, wide(bytes[i]), 2);
-        i += 1;
+    for b in bytes {
+        byte(rt, wide(*b));
     }
 }
 
-fn delivery(d: Delivery) {
+fn delivery(rt: &impl Print, d: Delivery) {
     match d {
         Delivery::Swarm(round) => {
-            word(b" Swarm ");
-            number(round.0 as u64);
+            word(rt, b" Swarm ");
+            number(rt, round.0 as u64);
         }
-        Delivery::Neighbors => word(b" Neighbors"),
+        Delivery::Neighbors => word(rt, b" Neighbors"),
     }
 }
 
-fn wanted(w: Wanted) {
+fn wanted(rt: &impl Print, w: Wanted) {
     match w {
-        Wanted::Nothing => word(b"-"),
-        Wanted::Message(id) => identifier(id),
+        Wanted::Nothing => word(rt, b"-"),
+        Wanted::Message(id) => identifier(rt, id),
     }
 }
 
-fn announcement(a: Announced) {
-    word(b" ");
-    identifier(a.id);
-    word(b" ");
-    number(a.round.0 as u64);
+fn announcement(rt: &impl Print, a: Announced) {
+    word(rt, b" ");
+    identifier(rt, a.id);
+    word(rt, b" ");
+    number(rt, a.round.0 as u64);
 }
 
 // The announcements, one after the other.
-fn announcements(bytes: &[u8], start: usize, count: usize)
+fn announcements(rt: &impl Print, bytes: &[u8], start: usize, count: usize)
     requires { Listed bytes.now start count (ihavesFrom bytes.now start count) }
 {
     let mut place = start;
     let mut i = 0;
     while i < count {
         let one = field::next_ihave(bytes, place);
-        announcement(one);
+        announcement(rt, one);
         place = one.next;
         i += 1;
     }
 }
 
-fn message(bytes: &[u8], m: Message)
+fn message(rt: &impl Print, bytes: &[u8], m: Message)
     requires { MessageHeld bytes.now m }
 {
     match m {
@@ -87,48 +87,48 @@ fn message(bytes: &[u8], m: Message)
             len,
             delivery: d,
         } => {
-            word(b"Gossip ");
-            identifier(id);
-            word(b" ");
+            word(rt, b"Gossip ");
+            identifier(rt, id);
+            word(rt, b" ");
             let end = start + len;
-            content(&bytes[start..end]);
-            delivery(d);
+            content(rt, &bytes[start..end]);
+            delivery(rt, d);
         }
-        Message::Prune => word(b"Prune"),
+        Message::Prune => word(rt, b"Prune"),
         Message::Graft { wanted: w, round } => {
-            word(b"Graft ");
-            wanted(w);
-            word(b" ");
-            number(round.0 as u64);
+            word(rt, b"Graft ");
+            wanted(rt, w);
+            word(rt, b" ");
+            number(rt, round.0 as u64);
         }
         Message::IHave { start, count } => {
-            word(b"IHave");
-            announcements(bytes, start, count);
+            word(rt, b"IHave");
+            announcements(rt, bytes, start, count);
         }
     }
 }
 
-fn timer(t: Timer) {
+fn timer(rt: &impl Print, t: Timer) {
     match t {
         Timer::SendGraft(id) => {
-            word(b"SendGraft ");
-            identifier(id);
+            word(rt, b"SendGraft ");
+            identifier(rt, id);
         }
-        Timer::DispatchLazyPush => word(b"DispatchLazyPush"),
-        Timer::EvictCache => word(b"EvictCache"),
-        Timer::AnnounceDropped => word(b"AnnounceDropped"),
+        Timer::DispatchLazyPush => word(rt, b"DispatchLazyPush"),
+        Timer::EvictCache => word(rt, b"EvictCache"),
+        Timer::AnnounceDropped => word(rt, b"AnnounceDropped"),
     }
 }
 
-fn scope(s: Scope) {
+fn scope(rt: &impl Print, s: Scope) {
     match s {
-        Scope::Swarm => word(b" Swarm"),
-        Scope::Neighbors => word(b" Neighbors"),
+        Scope::Swarm => word(rt, b" Swarm"),
+        Scope::Neighbors => word(rt, b" Neighbors"),
     }
 }
 
 // An event: of a received message its peer and its size first.
-pub fn event(bytes: &[u8], e: Event)
+pub fn event(rt: &impl Print, bytes: &[u8], e: Event)
     requires { EventHeld bytes.now (length bytes.now) e }
 {
     match e {
@@ -137,31 +137,31 @@ pub fn event(bytes: &[u8], e: Event)
             size,
             message: m,
         } => {
-            word(b"Received ");
-            number(peer);
-            word(b" ");
-            number(size as u64);
-            word(b" ");
-            message(bytes, m);
+            word(rt, b"Received ");
+            number(rt, peer);
+            word(rt, b" ");
+            number(rt, size as u64);
+            word(rt, b" ");
+            message(rt, bytes, m);
         }
         Event::Broadcast {
             start,
             len,
             scope: s,
         } => {
-            word(b"Broadcast ");
+            word(rt, b"Broadcast ");
             let end = start + len;
-            content(&bytes[start..end]);
-            scope(s);
+            content(rt, &bytes[start..end]);
+            scope(rt, s);
         }
-        Event::Timer(t) => timer(t),
+        Event::Timer(t) => timer(rt, t),
         Event::Up(peer) => {
-            word(b"Up ");
-            number(peer);
+            word(rt, b"Up ");
+            number(rt, peer);
         }
         Event::Down(peer) => {
-            word(b"Down ");
-            number(peer);
+            word(rt, b"Down ");
+            number(rt, peer);
         }
     }
 }

@@ -45,14 +45,14 @@ returns-then-not-links c = stopped (goal.at.returns-then-not-links c).Start 0 (n
 
 pub same_notes-queue-requires : goal.same_notes-queue-requires
 same_notes-queue-requires c =
-    (c.requires, same_keys sameMark (x (goal.at.same_notes-queue-requires c).Start).links (y (goal.at.same_notes-queue-requires c).Start).links (yes c.same_rows-links.ensures (ap not c.if-not-links.false)))
+    record { sound = c.requires; a_value = same_keys sameMark (x (goal.at.same_notes-queue-requires c).Start).links (y (goal.at.same_notes-queue-requires c).Start).links (yes c.same_rows-links.ensures (ap not c.if-not-links.false)) }
 
 pub returns-then-not-queue : goal.returns-then-not-queue
 returns-then-not-queue c = stopped (goal.at.returns-then-not-queue c).Start 1 (no c.same_notes-queue.ensures (ap not c.if-not-queue.true))
 
 pub same_notes-record-requires : goal.same_notes-record-requires
 same_notes-record-requires c =
-    (c.requires, same_keys sameMark (x (goal.at.same_notes-record-requires c).Start).links (y (goal.at.same_notes-record-requires c).Start).links (yes c.same_rows-links.ensures (ap not c.if-not-links.false)))
+    record { sound = c.requires; a_value = same_keys sameMark (x (goal.at.same_notes-record-requires c).Start).links (y (goal.at.same_notes-record-requires c).Start).links (yes c.same_rows-links.ensures (ap not c.if-not-links.false)) }
 
 pub returns-then-not-record : goal.returns-then-not-record
 returns-then-not-record c = stopped (goal.at.returns-then-not-record c).Start 2 (no c.same_notes-record.ensures (ap not c.if-not-record.true))

@@ -25,10 +25,7 @@ new d = sym d.is_received-received.ensures ∙ d.if-received.false
 pub announce-g-requires : goal.announce-g-requires
 announce-g-requires c =
     let a = c.args in
-    let st = c.requires.0.stands in (
-      (st.sound, links-up a.h a.block.now st, missing-up a.h a.block.now st, c.requires.1),
-      announces a.link (id_of a.id) a.round.0 a.h a.block.now c.requires.0 c.requires.1 (new c),
-    )
+    let st = c.requires.0.stands in record { sound = (st.sound, links-up a.h a.block.now st, missing-up a.h a.block.now st, c.requires.1); announces = announces a.link (id_of a.id) a.round.0 a.h a.block.now c.requires.0 c.requires.1 (new c) }
 
 pub mark_timer-requires : goal.mark_timer-requires
 mark_timer-requires c =

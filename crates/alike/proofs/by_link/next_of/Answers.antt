@@ -34,7 +34,7 @@ module _ (d : After-link_at-l) where
   f = (goal.at.After-link_at-l d).After-count-n
 
   abbrev s : Start
-  s = f.before.before
+  s = (goal.at.After-count-n f).Start
 
   abbrev st : State
   st = state_of s.args.h s.args.block.now
@@ -52,7 +52,7 @@ module _ (d : After-link_at-l) where
   e = get_or ns i (note 0 0 0)
 
   here : i < length ns
-  here = omega (arith, count-of s.args.of s.args.h s.args.block.now s.requires.0, d.loop-i-test.true, f.count.ensures)
+  here = omega (arith, count-of s.args.of s.args.h s.args.block.now s.requires.0, d.loop-i-test.true, f.count-n.ensures)
 
   is-for : d.link_at-l.result ≡ s.args.link → forPeer p e ≡ true
   is-for t = eq-eqb e.peer p (d.link_at-l.ensures.peer ∙ ap (peerAt st) t)

@@ -62,15 +62,15 @@ module _ (d : In-loop-i) where
   l = (goal.at.In-loop-i d).At-loop-i
 
   abbrev s₁ : Start
-  s₁ = l.before.before.before.before.before.before.before
+  s₁ = (goal.at.At-loop-i l).Start
 
-  n-is : l.before.before.before.before.count.result ≡ count_of s₁.args.of s₁.args.ha.live
-  n-is = l.before.before.before.before.count.ensures
+  n-is : l.count-n.result ≡ count_of s₁.args.of s₁.args.ha.live
+  n-is = l.count-n.ensures
 
-  m-is : l.before.before.before.count2.result ≡ count_of s₁.args.of s₁.args.hb.live
-  m-is = l.before.before.before.count2.ensures
+  m-is : l.count-m.result ≡ count_of s₁.args.of s₁.args.hb.live
+  m-is = l.count-m.ensures
 
-  more-xs : l.loop.i < length (xs s₁)
+  more-xs : l.loop-i.i < length (xs s₁)
   more-xs = omega (arith, many_xs s₁, n-is, d.loop-i-test.true)
 
 pub returns-then-m-j : goal.returns-then-m-j
@@ -79,10 +79,10 @@ returns-then-m-j c =
     cursors-short (p s) (xs s) (ys s) c.loop-i.i c.loop-i.j c.loop-i.invariant (more-xs (goal.at.returns-then-m-j c).In-loop-i) (omega (arith, many-ys s, m-is (goal.at.returns-then-m-j c).In-loop-i, c.if-m-j.true))
 
 pub note_at-x-requires : goal.note_at-x-requires
-note_at-x-requires c = ((s₁ (goal.at.note_at-x-requires c).In-loop-i).requires.0.0, omega (arith, n-is (goal.at.note_at-x-requires c).In-loop-i, c.loop-i-test.true))
+note_at-x-requires c = ((s₁ (goal.at.note_at-x-requires c).In-loop-i).requires.sound.0, omega (arith, n-is (goal.at.note_at-x-requires c).In-loop-i, c.loop-i-test.true))
 
 pub note_at-y-requires : goal.note_at-y-requires
-note_at-y-requires c = ((s₁ (goal.at.note_at-y-requires c).In-loop-i).requires.0.3, omega (arith, m-is (goal.at.note_at-y-requires c).In-loop-i, c.if-m-j.false))
+note_at-y-requires c = ((s₁ (goal.at.note_at-y-requires c).In-loop-i).requires.sound.3, omega (arith, m-is (goal.at.note_at-y-requires c).In-loop-i, c.if-m-j.false))
 
 -- the two notes that were read
 module _ (e : After-same_note-s) where
@@ -93,13 +93,13 @@ module _ (e : After-same_note-s) where
   s₂ = s₁ d₁
 
   abbrev i₁ : ℕ
-  i₁ = d₁.before.loop.i
+  i₁ = d₁.loop-i.i
 
   abbrev j₁ : ℕ
-  j₁ = d₁.before.loop.j
+  j₁ = d₁.loop-i.j
 
   abbrev inv : Cursors (p s₂) (xs s₂) (ys s₂) i₁ j₁
-  inv = d₁.before.loop.invariant
+  inv = d₁.loop-i.invariant
 
   more-ys : j₁ < length (ys s₂)
   more-ys = omega (arith, many-ys s₂, m-is d₁, e.if-m-j.false)
@@ -120,13 +120,13 @@ returns-then-not-s c =
     cursors-differ (p s) (xs s) (ys s) (i₁ (goal.at.returns-then-not-s c).After-same_note-s) (j₁ (goal.at.returns-then-not-s c).After-same_note-s) (inv (goal.at.returns-then-not-s c).After-same_note-s) (more-xs (d₁ (goal.at.returns-then-not-s c).After-same_note-s)) (more-ys (goal.at.returns-then-not-s c).After-same_note-s) (no (sym (compared (goal.at.returns-then-not-s c).After-same_note-s)) (ap not c.if-not-s.true))
 
 pub next_of-i-requires-in-loop-i : goal.next_of-i-requires-in-loop-i
-next_of-i-requires-in-loop-i c = let d = d₁ (goal.at.next_of-i-requires-in-loop-i c).After-same_note-s in let s = s₁ d in (s.requires.sound.0, s.requires.sound.1, s.requires.sound.2, omega (arith, n-is d, d.loop-test.taken))
+next_of-i-requires-in-loop-i c = let d = d₁ (goal.at.next_of-i-requires-in-loop-i c).After-same_note-s in let s = s₁ d in (s.requires.sound.0, s.requires.sound.1, s.requires.sound.2, omega (arith, n-is d, d.loop-i-test.true))
 
 pub next_of-j-requires-in-loop-i : goal.next_of-j-requires-in-loop-i
 next_of-j-requires-in-loop-i c = let s = s₂ (goal.at.next_of-j-requires-in-loop-i c).After-same_note-s in (s.requires.sound.3, s.requires.sound.4, s.requires.sound.5, omega (arith, m-is (d₁ (goal.at.next_of-j-requires-in-loop-i c).After-same_note-s), c.if-m-j.false))
 
 pub loop-i-smaller : goal.loop-i-smaller
-loop-i-smaller c = omega (arith, c.next_of-i-in-loop-i.ensures.after, (d₁ (goal.at.loop-i-smaller c).After-same_note-s).loop-test.taken)
+loop-i-smaller c = omega (arith, c.next_of-i-in-loop-i.ensures.after, (d₁ (goal.at.loop-i-smaller c).After-same_note-s).loop-i-test.true)
 
 pub loop-i-preserved : goal.loop-i-preserved
 loop-i-preserved c =

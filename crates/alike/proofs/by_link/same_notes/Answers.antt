@@ -38,7 +38,7 @@ loop-l-init c = (search rules, λ k h. absurd (omega (arith, h)))
 pub same_for-s-requires : goal.same_for-s-requires
 same_for-s-requires c =
     let h = c.loop-l-test.true in
-    ((c.requires.sound.0, c.requires.sound.1, h, c.requires.sound.2, c.requires.sound.3, omega (arith, h, same-many (goal.at.same_for-s-requires c).Start)), same-peer (goal.at.same_for-s-requires c).Start c.loop-l.l)
+    record { sound = (c.requires.sound.0, c.requires.sound.1, h, c.requires.sound.2, c.requires.sound.3, omega (arith, h, same-many (goal.at.same_for-s-requires c).Start)); link_value = same-peer (goal.at.same_for-s-requires c).Start c.loop-l.l }
 
 pub returns-then-not-s : goal.returns-then-not-s
 returns-then-not-s c =

@@ -87,16 +87,14 @@ row_item-requires-in-CachedExpiry c =
 
 pub announcer_at-hop-requires : goal.announcer_at-hop-requires
 announcer_at-hop-requires c =
-    let told = c.in-Announcers.given in
-    (c.requires.0, inside (goal.at.announcer_at-hop-requires c).Start _ told.1, omega (arith, there (goal.at.announcer_at-hop-requires c).Start _ told.1, length-map (hopsAt (state_of c.args.h c.args.block.now) told.0.0) hopElement))
+    (c.requires.0, inside (goal.at.announcer_at-hop-requires c).Start _ c.in-Announcers.is, omega (arith, there (goal.at.announcer_at-hop-requires c).Start _ c.in-Announcers.is, length-map (hopsAt (state_of c.args.h c.args.block.now) c.in-Announcers.i) hopElement))
 
 pub hop_item-requires : goal.hop_item-requires
 hop_item-requires c = (c.requires.0, c.announcer_at-hop.ensures.below)
 
 pub graft_at-hop-requires : goal.graft_at-hop-requires
 graft_at-hop-requires c =
-    let told = c.in-GraftedPeers.given in
-    (c.requires.0, inside (goal.at.graft_at-hop-requires c).Start _ told.1, omega (arith, there (goal.at.graft_at-hop-requires c).Start _ told.1, length-map (graftsAt (state_of c.args.h c.args.block.now) told.0.0).peers graftElement))
+    (c.requires.0, inside (goal.at.graft_at-hop-requires c).Start _ c.in-GraftedPeers.is, omega (arith, there (goal.at.graft_at-hop-requires c).Start _ c.in-GraftedPeers.is, length-map (graftsAt (state_of c.args.h c.args.block.now) c.in-GraftedPeers.i).peers graftElement))
 
 pub hop_item-requires-in-GraftedPeers : goal.hop_item-requires-in-GraftedPeers
 hop_item-requires-in-GraftedPeers c = (c.requires.0, c.graft_at-hop.ensures.below)
@@ -128,13 +126,11 @@ returns-in-CachedExpiry c =
 pub returns-in-Announcers : goal.returns-in-Announcers
 returns-in-Announcers c =
     let a = c.args in
-    let told = c.in-Announcers.given in
     c.hop_item.ensures
-    ∙ sym (ap (item_of a.h a.block.now a.j) told.1 ∙ get_or-map hopElement (hopsAt (state_of a.h a.block.now) told.0.0) a.j (hop 0 0) ∙ ap hopElement c.announcer_at-hop.ensures.same)
+    ∙ sym (ap (item_of a.h a.block.now a.j) c.in-Announcers.is ∙ get_or-map hopElement (hopsAt (state_of a.h a.block.now) c.in-Announcers.i) a.j (hop 0 0) ∙ ap hopElement c.announcer_at-hop.ensures.same)
 
 pub returns-in-GraftedPeers : goal.returns-in-GraftedPeers
 returns-in-GraftedPeers c =
     let a = c.args in
-    let told = c.in-GraftedPeers.given in
     c.hop_item-in-GraftedPeers.ensures
-    ∙ sym (ap (item_of a.h a.block.now a.j) told.1 ∙ get_or-map graftElement (graftsAt (state_of a.h a.block.now) told.0.0).peers a.j (entry 0 0) ∙ ap graftElement c.graft_at-hop.ensures.same)
+    ∙ sym (ap (item_of a.h a.block.now a.j) c.in-GraftedPeers.is ∙ get_or-map graftElement (graftsAt (state_of a.h a.block.now) c.in-GraftedPeers.i).peers a.j (entry 0 0) ∙ ap graftElement c.graft_at-hop.ensures.same)

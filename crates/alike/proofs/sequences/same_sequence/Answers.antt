@@ -13,12 +13,9 @@ use Rattle.alike.proofs.Lists.{list-yes, list-no, list_length}
 use borrow.Author.Count.{below_more}
 use native.Mathlib.Omega.{arith}
 use borrow.Author.Rules.{rules}
+use Rattle.alike.proofs.sequences.same_sequence.Invariants.{Agree}
 use Rattle.alike.proofs.sequences.same_sequence.Goals as goal
 use Rattle.alike.proofs.sequences.same_sequence.Goals.{After-same-s, Start}
-
--- element k of both agrees
-abbrev Agree : List Element → List Element → ℕ → Type 0
-Agree xs ys k = sameElement (get_or xs k (element 0 0 0)) (get_or ys k (element 0 0 0)) ≡ true
 
 -- the two lists
 module _ (s : Start) where

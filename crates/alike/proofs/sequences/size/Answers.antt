@@ -37,11 +37,9 @@ returns-in-CachedExpiry c =
 pub returns-in-Announcers : goal.returns-in-Announcers
 returns-in-Announcers c =
     let st = state_of c.args.h c.args.block.now in
-    let told = c.in-Announcers.given in
-    c.announcers_of.ensures.0 ∙ sym (ap (λ (q : Sequence). length (sequenceOf q st)) told.1 ∙ length-map (hopsAt st told.0.0) hopElement)
+    c.announcers_of.ensures.0 ∙ sym (ap (λ (q : Sequence). length (sequenceOf q st)) c.in-Announcers.is ∙ length-map (hopsAt st c.in-Announcers.i) hopElement)
 
 pub returns-in-GraftedPeers : goal.returns-in-GraftedPeers
 returns-in-GraftedPeers c =
     let st = state_of c.args.h c.args.block.now in
-    let told = c.in-GraftedPeers.given in
-    c.graft_count.ensures.0 ∙ sym (ap (λ (q : Sequence). length (sequenceOf q st)) told.1 ∙ length-map (graftsAt st told.0.0).peers graftElement)
+    c.graft_count.ensures.0 ∙ sym (ap (λ (q : Sequence). length (sequenceOf q st)) c.in-GraftedPeers.is ∙ length-map (graftsAt st c.in-GraftedPeers.i).peers graftElement)

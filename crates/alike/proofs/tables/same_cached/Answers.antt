@@ -53,10 +53,7 @@ module _ (d : After-same_key-key) where
 
 pub same_key-key-requires : goal.same_key-key-requires
 same_key-key-requires c =
-    let a = c.args in (
-      subst (λ (t : TimeBoundCache). Asks t a.a.now a.i) (sym c.cached_cache-c.ensures) (cached-asks a.ha a.a.now c.requires.0 a.i c.requires.1),
-      subst (λ (t : TimeBoundCache). Asks t a.b.now a.i) (sym c.cached_cache-d.ensures) (cached-asks a.hb a.b.now c.requires.2 a.i c.requires.3),
-    )
+    let a = c.args in record { lies = subst (λ (t : TimeBoundCache). Asks t a.a.now a.i) (sym c.cached_cache-c.ensures) (cached-asks a.ha a.a.now c.requires.0 a.i c.requires.1); lies_2 = subst (λ (t : TimeBoundCache). Asks t a.b.now a.i) (sym c.cached_cache-d.ensures) (cached-asks a.hb a.b.now c.requires.2 a.i c.requires.3) }
 
 pub returns-then-not-key : goal.returns-then-not-key
 returns-then-not-key c =
@@ -87,6 +84,12 @@ overflow_add-ys c = omega (arith, c.contents_at-2.ensures, c.cached_content-y.en
 
 pub overflow_add-ye : goal.overflow_add-ye
 overflow_add-ye c = omega (arith, c.contents_at-2.ensures, c.cached_content-y.ensures.within, c.requires.2.fit)
+
+pub slice_bounds-same_bytes-end : goal.slice_bounds-same_bytes-end
+slice_bounds-same_bytes-end c = omega (arith, c.contents_at.ensures, c.cached_content-x.ensures.within, c.requires.0.fit)
+
+pub slice_bounds-same_bytes-end-2 : goal.slice_bounds-same_bytes-end-2
+slice_bounds-same_bytes-end-2 c = omega (arith, c.contents_at-2.ensures, c.cached_content-y.ensures.within, c.requires.2.fit)
 
 pub returns : goal.returns
 unfolding sameCached

@@ -48,10 +48,7 @@ module _ (d : After-same_key-key) where
 
 pub same_key-key-requires : goal.same_key-key-requires
 same_key-key-requires c =
-    let a = c.args in (
-      subst (λ (t : TimeBoundCache). Asks t a.a.now a.i) (sym c.grafted_cache-c.ensures) (grafted-asks a.ha a.a.now c.requires.0 a.i c.requires.1),
-      subst (λ (t : TimeBoundCache). Asks t a.b.now a.i) (sym c.grafted_cache-d.ensures) (grafted-asks a.hb a.b.now c.requires.2 a.i c.requires.3),
-    )
+    let a = c.args in record { lies = subst (λ (t : TimeBoundCache). Asks t a.a.now a.i) (sym c.grafted_cache-c.ensures) (grafted-asks a.ha a.a.now c.requires.0 a.i c.requires.1); lies_2 = subst (λ (t : TimeBoundCache). Asks t a.b.now a.i) (sym c.grafted_cache-d.ensures) (grafted-asks a.hb a.b.now c.requires.2 a.i c.requires.3) }
 
 pub returns-then-not-key : goal.returns-then-not-key
 returns-then-not-key c =

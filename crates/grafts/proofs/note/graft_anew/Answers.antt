@@ -15,7 +15,6 @@ use Rattle.grafts.specs.NoteSteps.{noGrafts}
 use Rattle.grafts.proofs.EntryLaws.{none_yet, anew-goes}
 use native.Mathlib.Omega.{arith}
 use Rattle.grafts.proofs.note.graft_anew.Goals as goal
-use Rattle.grafts.proofs.note.graft_anew.Goals.{After-slice_known-1}
 
 pub overflow_mul-at : goal.overflow_mul-at
 overflow_mul-at c =
@@ -47,6 +46,6 @@ returns c =
     let xs = a.block.now in
     let ys = c.enter_graft-e.new.block in
     let e = ap (λ (n : ℕ). n + 119 * c.enter_graft-e.result.entry + 22) c.grafted_at.ensures in
-    subst (Goes (λ s. withGrafted (put_in (id_of a.id) (record { first = noGrafts.first; kept = noGrafts.kept; peers = entry (peerAt (goal.at.returns c).After-slice_known-1 a.link) a.round.0 ∷ [] }) a.expires.0 c.grafted) (goal.at.returns c).After-slice_known-1) a.h xs c.enter_graft-e.result.head)
+    subst (Goes (λ s. withGrafted (put_in (id_of a.id) (record { first = noGrafts.first; kept = noGrafts.kept; peers = entry (peerAt s a.link) a.round.0 ∷ [] }) a.expires.0 s.grafted) s) a.h xs c.enter_graft-e.result.head)
     (sym (c.push_hop.ensures ∙ (λ k. put (e k) (pushedHop a.link a.round.0 (part (e k) 97 ys)) ys)))
     (anew-goes a.h xs ys (id_of a.id) a.expires.0 a.link a.round.0 c.enter_graft-e.result c.requires.1 c.enter_graft-e.ensures c.requires.2 (omega (arith, c.well_formed)))

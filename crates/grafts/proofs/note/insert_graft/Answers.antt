@@ -14,7 +14,6 @@ use Rattle.grafts.proofs.PeerLaws.{peers-few}
 use Rattle.grafts.proofs.NoteLaws.{insert-goes}
 use native.Mathlib.Omega.{arith}
 use Rattle.grafts.proofs.note.insert_graft.Goals as goal
-use Rattle.grafts.proofs.note.insert_graft.Goals.{After-slice_known-1}
 
 pub insert_hop-requires : goal.insert_hop-requires
 insert_hop-requires c =
@@ -31,6 +30,6 @@ returns c =
     let a = c.args in
     let xs = a.block.now in
     let e = ap (λ (n : ℕ). n + 119 * a.i + 22) c.grafted_at.ensures in
-    subst (Goes (λ s. peersTo a.i (peersWith a.i (peerAt (goal.at.returns c).After-slice_known-1 a.link) a.round.0 (goal.at.returns c).After-slice_known-1) (goal.at.returns c).After-slice_known-1) a.h xs a.h)
+    subst (Goes (λ s. peersTo a.i (peersWith a.i (peerAt s a.link) a.round.0 s) s) a.h xs a.h)
     (sym (c.insert_hop.ensures ∙ (λ k. put (e k) (insertedHop a.j a.link a.round.0 (part (e k) 97 xs)) xs)))
     (insert-goes a.h xs c.requires.0 a.i c.requires.1 a.link a.round.0 c.requires.2 (omega (arith, c.well_formed)) a.j c.requires.3)

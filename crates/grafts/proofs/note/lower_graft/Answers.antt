@@ -51,6 +51,6 @@ returns c =
     let xs = a.block.now in
     let k = c.graft_at-k in
     let e = ap (λ (n : ℕ). n + 119 * a.i + 22 + 33 + 2 * a.j) c.grafted_at.ensures in
-    subst (Goes (λ s. peersTo a.i (peersWith a.i (peerAt (goal.at.returns c).Start a.link) a.round.0 (goal.at.returns c).Start) (goal.at.returns c).Start) a.h xs a.h)
+    subst (Goes (λ s. peersTo a.i (peersWith a.i (peerAt s a.link) a.round.0 s) s) a.h xs a.h)
     (sym (c.store_le.ensures ∙ ap (λ (n : ℕ). put n (le_bytes 2 a.round.0) xs) e))
     (lower-goes a.h xs c.requires.0 a.i c.requires.1 a.link a.round.0 c.requires.2 (omega (arith, c.well_formed)) a.j c.requires.3 k.result.round.0 (ap (λ (y : Entry ℕ). y.value) k.ensures.same) (omega (arith, c.if-k-round.false)))

@@ -21,17 +21,15 @@ pub returns-then-within : goal.returns-then-within
 returns-then-within c =
     let a = c.args in
     let st = state_of a.h a.block.now in
-    let g = c.in-At.given in
-    out-away (peerAt st a.sender) a.round.0 (graftsAt st g.0.0).peers c.is_grafted-there.result (sym c.grafted_within-within.ensures ∙ c.if-within.true) c.is_grafted-there.ensures
-    ∙ ap (λ (x : Held). graftOut (peerAt st a.sender) a.round.0 (heldPeers st x)) (sym g.1)
+    out-away (peerAt st a.sender) a.round.0 (graftsAt st c.in-At.i).peers c.is_grafted-there.result (sym c.grafted_within-within.ensures ∙ c.if-within.true) c.is_grafted-there.ensures
+    ∙ ap (λ (x : Held). graftOut (peerAt st a.sender) a.round.0 (heldPeers st x)) (sym c.in-At.is)
 
 pub returns-else-within : goal.returns-else-within
 returns-else-within c =
     let a = c.args in
     let st = state_of a.h a.block.now in
-    let g = c.in-At.given in
-    out_none (peerAt st a.sender) a.round.0 (graftsAt st g.0.0).peers (sym c.grafted_within-within.ensures ∙ c.if-within.false)
-    ∙ ap (λ (x : Held). graftOut (peerAt st a.sender) a.round.0 (heldPeers st x)) (sym g.1)
+    out_none (peerAt st a.sender) a.round.0 (graftsAt st c.in-At.i).peers (sym c.grafted_within-within.ensures ∙ c.if-within.false)
+    ∙ ap (λ (x : Held). graftOut (peerAt st a.sender) a.round.0 (heldPeers st x)) (sym c.in-At.is)
 
 pub returns-in-Nothing : goal.returns-in-Nothing
 returns-in-Nothing c =

@@ -1,6 +1,7 @@
 // *Alike*, of two blocks: "yes exactly when own peer number, settings, limits, sets, flags and maps agree". It "also compares the order of announcers, queues and
 // records, and the order of expiry entries of one time".
 #![tactic(auto)]
+
 mod by_link;
 mod sequences;
 mod tables;

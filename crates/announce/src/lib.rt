@@ -1,5 +1,6 @@
 // AnnounceDropped (document 01, "Ticks"): the record's entries that are still cached go to the queue again.
 #![tactic(auto)]
+
 ghost use Rattle.std.specs.Prelude.{◌≡◌, ◌+◌, ◌<◌};
 ghost use Rattle.lists.specs.Base.{concatMap};
 ghost use Rattle.rows.specs.Ident.{id_of};

@@ -1,5 +1,6 @@
 // A broadcast that is sent: document 01, "Broadcast".
 #![tactic(auto)]
+
 ghost use Rattle.std.specs.Prelude.{◌^◌, ◌≤◌, ◌<◌};
 ghost use Rattle.rows.specs.Ident.{id_of};
 ghost use Rattle.postcard.specs.Message.{toSwarm, toNeighbors};

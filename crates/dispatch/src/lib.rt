@@ -1,5 +1,6 @@
 // DispatchLazyPush: "Dispatch empties the queue, peers ascending, IHave of at most (M − 6) / 35, rounded down; handed back are noted".
 #![tactic(auto)]
+
 pub mod actions;
 pub mod gains;
 pub mod marks;

@@ -1,5 +1,6 @@
 // Writing into a lent output at a place: each function returns the place after what it wrote. Document 01, "Numbers and messages (Postcard)".
 #![tactic(auto)]
+
 ghost use Rattle.std.specs.Prelude.{[], ◌∷◌, ◌++◌};
 ghost use Rattle.rows.specs.Ident.{id_of};
 ghost use Rattle.postcard.specs.Number.{idBytes};

@@ -1,5 +1,6 @@
 // What a new Swarm message sends: document 01, "Gossip".
 #![tactic(auto)]
+
 ghost use Rattle.std.specs.Prelude.{◌<◌};
 ghost use Rattle.lists.specs.Base.{concatMap};
 ghost use Rattle.rows.specs.Ident.{id_of};

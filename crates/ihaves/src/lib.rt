@@ -1,5 +1,6 @@
 // An IHave from a neighbour: document 01, "IHave, Graft, Prune". Its entries are read where they stand in the event, one after the other.
 #![tactic(auto)]
+
 ghost use Rattle.std.specs.Prelude.{◌≡◌, ◌≤◌, ◌<◌, length};
 ghost use Rattle.lists.specs.Base.{if◌then◌else◌, any, all, member, concatMap};
 ghost use Rattle.lists.specs.Map.{has};

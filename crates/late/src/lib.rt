@@ -1,5 +1,6 @@
 // A copy of a message received before: document 01, "Received before: late Graft reply (`on_late_graft_reply`), else a neighbour sender goes lazy, and Prune".
 #![tactic(auto)]
+
 ghost use Rattle.std.specs.Prelude.{◌≡◌, true, ◌<◌, get_or};
 ghost use Rattle.lists.specs.Base.{concatMap};
 ghost use Rattle.rows.specs.Ident.{id_of};

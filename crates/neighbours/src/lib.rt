@@ -1,5 +1,6 @@
 // A neighbour comes or goes (document 01, "Sets"): the links, and the numbers of the links after it wherever they stand.
 #![tactic(auto)]
+
 pub mod lower;
 pub mod renumber;
 

@@ -1,5 +1,6 @@
 // A new Swarm message: document 01, "Gossip".
 #![tactic(auto)]
+
 ghost use Rattle.std.specs.Prelude.{◌≡◌, true, ◌^◌, ◌≤◌, ◌<◌};
 ghost use Rattle.rows.specs.Ident.{id_of};
 ghost use Rattle.decide.specs.StateAfter.{firstSetState};

@@ -1,5 +1,6 @@
 // What ends a new Swarm message: document 01, "drop graft-timer mark and announcers; optimise as `on_gossip` says".
 #![tactic(auto)]
+
 ghost use Rattle.std.specs.Prelude.{◌≡◌, true, ◌<◌, length};
 ghost use Rattle.lists.specs.Base.{concatMap};
 ghost use Rattle.lists.specs.Map.{keys};

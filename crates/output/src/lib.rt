@@ -1,6 +1,7 @@
 // The actions of a call, written where the output has room. Each function tells the place after its action whether it was written or not, so that the
 // same functions measure (question 14), lent an empty output, and write.
 #![tactic(auto)]
+
 ghost use Rattle.std.specs.Prelude.{◌≡◌, ◌+◌, leb, ◌++◌};
 ghost use Rattle.rows.specs.Ident.{id_of};
 ghost use Rattle.postcard.specs.Message.{Gossip, Prune, Graft, Sent, Scheduled, Emitted, ihaveBytes, actionBytes};

@@ -1,5 +1,6 @@
 // The pushes of a message that is taken in: document 01, "Gossip" and "Broadcast".
 #![tactic(auto)]
+
 ghost use Rattle.std.specs.Prelude.{◌+◌, ◌≤◌, length};
 ghost use Rattle.rows.specs.Ident.{id_of};
 ghost use Rattle.block.specs.View.{state_of};

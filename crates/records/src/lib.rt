@@ -1,5 +1,6 @@
 // The records of `panelrun`, "records of now, length, event", read from as many bytes of the input as are there; and what it writes for one, "answer byte, length, actions".
 #![tactic(auto)]
+
 ghost use Rattle.std.specs.Prelude.{◌≡◌, ◌≤◌, length, take, drop};
 ghost use Rattle.postcard.specs.Output.{Wrote};
 ghost use Rattle.records.specs.Reading.{Tells, mayFit, Timed, Lengthed};

@@ -1,5 +1,6 @@
 // A message rewritten in its shortest form: "a writer that reads any message the reader takes and writes its shortest form into a lent buffer".
 #![tactic(auto)]
+
 ghost use Rattle.std.specs.Prelude.{◌≡◌, ◌≤◌, length};
 ghost use Rattle.lists.specs.Base.{concatMap};
 ghost use Rattle.postcard.specs.Message.{ihaveBytes, messageBytes};

@@ -1,5 +1,6 @@
 // SendGraft (document 01, "SendGraft"): a message that is still missing is asked of the first who announced it.
 #![tactic(auto)]
+
 ghost use Rattle.std.specs.Prelude.{◌≡◌, ◌^◌, ◌≤◌, ◌<◌};
 ghost use Rattle.lists.specs.Base.{concatMap};
 ghost use Rattle.lists.specs.Map.{keys};

@@ -1,5 +1,6 @@
 // How many bytes a number, a message, a timer and an action take, without writing them: question 14 asks it before anything is written.
 #![tactic(auto)]
+
 ghost use Rattle.std.specs.Prelude.{◌≡◌, Bool, List, ℕ, ◌+◌, ◌^◌, ◌≤◌, ◌<◌, leb, length};
 ghost use Rattle.postcard.specs.Number.{numberLength};
 ghost use Rattle.postcard.specs.Message.{Message, Gossip, Prune, Graft, Sent, Scheduled, Emitted, deliveryBytes, optionalIdBytes, ihaveBytes, messageBytes, timerBytes, actionBytes};

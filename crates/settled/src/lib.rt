@@ -1,6 +1,7 @@
 // What a first event finds once it has evicted, read from the block as it stands before: document 01, "the first other event evicts and schedules EvictCache
 // before anything else". Where `init` is set, nothing is evicted.
 #![tactic(auto)]
+
 ghost use Rattle.std.specs.Prelude.{◌≡◌, ◌&&◌, ◌*◌, ◌≤◌, ◌<◌, leb, get_or};
 ghost use Rattle.lists.specs.Base.{sum};
 ghost use Rattle.rows.specs.Ident.{id_of};

@@ -1,5 +1,6 @@
 // Question 13: the numbers of entries after a call, counted before anything is changed.
 #![tactic(auto)]
+
 ghost use Rattle.std.specs.Prelude.{◌≡◌, ◌≤◌, ◌<◌};
 ghost use Rattle.rows.specs.Ident.{id_of};
 ghost use Rattle.block.specs.View.{state_of};

@@ -1,5 +1,6 @@
 // Request d, named states: "Up to four states are kept in a second lent area under eight-byte names."
 #![tactic(auto)]
+
 ghost use Rattle.std.specs.Prelude.{◌≡◌, ◌++◌, ◌+◌, ◌*◌, ◌-◌, ◌≤◌, ◌<◌, length};
 ghost use Rattle.rows.specs.Part.{put};
 ghost use Rattle.rows.specs.Digits.{le_bytes};

@@ -1,5 +1,6 @@
 // The actions that schedule a timer by a flag and a setting alone.
 #![tactic(auto)]
+
 ghost use Rattle.lists.specs.Base.{concatMap};
 ghost use Rattle.postcard.specs.Message.{actionBytes};
 ghost use Rattle.block.specs.View.{state_of};

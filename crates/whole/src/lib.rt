@@ -1,5 +1,6 @@
 // Question 5, "Is the block whole?", and creation.
 #![tactic(auto)]
+
 pub mod create;
 mod tables;
 

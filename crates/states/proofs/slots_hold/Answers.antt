@@ -46,13 +46,12 @@ returns-then-not-whole c = λ h.
 
 pub loop-i-preserved : goal.loop-i-preserved
 unfolding name_at
-loop-i-preserved c =
-    (
-      search rules,
-      slots-more c.args.n c.loop-i.i c.args.area.now c.loop-i.invariant.1
-          (λ j h e. c.place_of-first.ensures.before j (omega (arith, c.if-first-i.false)) (e ∙ sym c.load-name.ensures))
-          (sym (read (goal.at.loop-i-preserved c).After-is_whole-whole) ∙ not-false _ (ap not c.if-not-whole.false)),
-    )
+loop-i-preserved c = (
+  search rules,
+  slots-more c.args.n c.loop-i.i c.args.area.now c.loop-i.invariant.1
+      (λ j h e. c.place_of-first.ensures.before j (omega (arith, c.if-first-i.false)) (e ∙ sym c.load-name.ensures))
+      (sym (read (goal.at.loop-i-preserved c).After-is_whole-whole) ∙ not-false _ (ap not c.if-not-whole.false)),
+)
 
 pub returns : goal.returns
 returns c =

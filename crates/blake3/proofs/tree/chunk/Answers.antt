@@ -19,8 +19,7 @@ loop-left-init c =
 
 pub loop-left-preserved : goal.loop-left-preserved
 loop-left-preserved c =
-    let l = c.loop-left in
-    (
+    let l = c.loop-left in (
       omega arith,
       omega arith,
       search rules,

@@ -63,12 +63,11 @@ pub loop-i-preserved-then-l-link : goal.loop-i-preserved-then-l-link
 loop-i-preserved-then-l-link c = (search rules, mine-count (goal.at.loop-i-preserved-then-l-link c).After-queued_link_at-l c.if-l-link.true)
 
 pub loop-i-preserved : goal.loop-i-preserved
-loop-i-preserved c =
-    (
-      search rules,
-      c.loop-i.invariant.1
-          ∙ sym (ap length (heard-other (s (goal.at.loop-i-preserved c).After-queued_link_at-l).args.link (s (goal.at.loop-i-preserved c).After-queued_link_at-l).args.h (xs (goal.at.loop-i-preserved c).After-queued_link_at-l) (s (goal.at.loop-i-preserved c).After-queued_link_at-l).requires.0 (i (goal.at.loop-i-preserved c).After-queued_link_at-l) (more (goal.at.loop-i-preserved c).After-queued_link_at-l) c.queued_link_at-l.result c.queued_link_at-l.ensures (s (goal.at.loop-i-preserved c).After-queued_link_at-l).requires.1 c.if-l-link.false)),
-    )
+loop-i-preserved c = (
+  search rules,
+  c.loop-i.invariant.1
+      ∙ sym (ap length (heard-other (s (goal.at.loop-i-preserved c).After-queued_link_at-l).args.link (s (goal.at.loop-i-preserved c).After-queued_link_at-l).args.h (xs (goal.at.loop-i-preserved c).After-queued_link_at-l) (s (goal.at.loop-i-preserved c).After-queued_link_at-l).requires.0 (i (goal.at.loop-i-preserved c).After-queued_link_at-l) (more (goal.at.loop-i-preserved c).After-queued_link_at-l) c.queued_link_at-l.result c.queued_link_at-l.ensures (s (goal.at.loop-i-preserved c).After-queued_link_at-l).requires.1 c.if-l-link.false)),
+)
 
 pub returns : goal.returns
 returns c =

@@ -54,12 +54,11 @@ send_link-s-requires c =
     ((s (goal.at.send_link-s-requires c).In-loop-l).requires.0, more (goal.at.send_link-s-requires c).In-loop-l, going-told (drop (l (goal.at.send_link-s-requires c).In-loop-l) (keys (st (goal.at.send_link-s-requires c).In-loop-l).links)) c.loop-l.invariant.2 (peerAt (st (goal.at.send_link-s-requires c).In-loop-l) (l (goal.at.send_link-s-requires c).In-loop-l)) (drop (l (goal.at.send_link-s-requires c).In-loop-l + 1) (keys (st (goal.at.send_link-s-requires c).In-loop-l).links)) (next-is (goal.at.send_link-s-requires c).In-loop-l) (s (goal.at.send_link-s-requires c).In-loop-l).requires.1)
 
 pub loop-l-preserved : goal.loop-l-preserved
-loop-l-preserved c =
-    (
-      omega (arith, more (goal.at.loop-l-preserved c).In-loop-l),
-      search rules,
-      going_next (drop (l (goal.at.loop-l-preserved c).In-loop-l) (keys (st (goal.at.loop-l-preserved c).In-loop-l).links)) c.loop-l.invariant.2 (peerAt (st (goal.at.loop-l-preserved c).In-loop-l) (l (goal.at.loop-l-preserved c).In-loop-l)) (drop (l (goal.at.loop-l-preserved c).In-loop-l + 1) (keys (st (goal.at.loop-l-preserved c).In-loop-l).links)) (next-is (goal.at.loop-l-preserved c).In-loop-l) c.send_link-s.new.out c.send_link-s.result.at c.send_link-s.result.flag c.send_link-s.ensures.written c.send_link-s.ensures.flags,
-    )
+loop-l-preserved c = (
+  omega (arith, more (goal.at.loop-l-preserved c).In-loop-l),
+  search rules,
+  going_next (drop (l (goal.at.loop-l-preserved c).In-loop-l) (keys (st (goal.at.loop-l-preserved c).In-loop-l).links)) c.loop-l.invariant.2 (peerAt (st (goal.at.loop-l-preserved c).In-loop-l) (l (goal.at.loop-l-preserved c).In-loop-l)) (drop (l (goal.at.loop-l-preserved c).In-loop-l + 1) (keys (st (goal.at.loop-l-preserved c).In-loop-l).links)) (next-is (goal.at.loop-l-preserved c).In-loop-l) c.send_link-s.new.out c.send_link-s.result.at c.send_link-s.result.flag c.send_link-s.ensures.written c.send_link-s.ensures.flags,
+)
 
 pub returns : goal.returns
 returns c =

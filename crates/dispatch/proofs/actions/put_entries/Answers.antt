@@ -93,23 +93,21 @@ pub loop-left-smaller-then-held : goal.loop-left-smaller-then-held
 loop-left-smaller-then-held c = omega (arith, stands_at (d (goal.at.loop-left-smaller-then-held c).After-queued_at-q))
 
 pub loop-left-preserved-then-held : goal.loop-left-preserved-then-held
-loop-left-preserved-then-held c =
-    (
-      omega (arith, stands_at (d (goal.at.loop-left-preserved-then-held c).After-queued_at-q)),
-      search rules,
-      enter-next (here (goal.at.loop-left-preserved-then-held c).After-queued_at-q) (after (goal.at.loop-left-preserved-then-held c).After-queued_at-q) (left (goal.at.loop-left-preserved-then-held c).After-queued_at-q - 1) (entering (goal.at.loop-left-preserved-then-held c).After-queued_at-q) (one_less (goal.at.loop-left-preserved-then-held c).After-queued_at-q) c.ihave-at.new.out c.ihave-at.result true c.ihave-at.ensures (sym c.is_cached_then-held.ensures ∙ c.if-held.true),
-    )
+loop-left-preserved-then-held c = (
+  omega (arith, stands_at (d (goal.at.loop-left-preserved-then-held c).After-queued_at-q)),
+  search rules,
+  enter-next (here (goal.at.loop-left-preserved-then-held c).After-queued_at-q) (after (goal.at.loop-left-preserved-then-held c).After-queued_at-q) (left (goal.at.loop-left-preserved-then-held c).After-queued_at-q - 1) (entering (goal.at.loop-left-preserved-then-held c).After-queued_at-q) (one_less (goal.at.loop-left-preserved-then-held c).After-queued_at-q) c.ihave-at.new.out c.ihave-at.result true c.ihave-at.ensures (sym c.is_cached_then-held.ensures ∙ c.if-held.true),
+)
 
 pub loop-left-smaller-else-held : goal.loop-left-smaller-else-held
 loop-left-smaller-else-held c = omega (arith, stands_at (d (goal.at.loop-left-smaller-else-held c).After-queued_at-q))
 
 pub loop-left-preserved-else-held : goal.loop-left-preserved-else-held
-loop-left-preserved-else-held c =
-    (
-      omega (arith, stands_at (d (goal.at.loop-left-preserved-else-held c).After-queued_at-q)),
-      search rules,
-      enter-next (here (goal.at.loop-left-preserved-else-held c).After-queued_at-q) (after (goal.at.loop-left-preserved-else-held c).After-queued_at-q) (left (goal.at.loop-left-preserved-else-held c).After-queued_at-q - 1) (entering (goal.at.loop-left-preserved-else-held c).After-queued_at-q) (one_less (goal.at.loop-left-preserved-else-held c).After-queued_at-q) c.ihave-at.new.out c.ihave-at.result false c.ihave-at.ensures (sym c.is_cached_then-held.ensures ∙ c.if-held.false),
-    )
+loop-left-preserved-else-held c = (
+  omega (arith, stands_at (d (goal.at.loop-left-preserved-else-held c).After-queued_at-q)),
+  search rules,
+  enter-next (here (goal.at.loop-left-preserved-else-held c).After-queued_at-q) (after (goal.at.loop-left-preserved-else-held c).After-queued_at-q) (left (goal.at.loop-left-preserved-else-held c).After-queued_at-q - 1) (entering (goal.at.loop-left-preserved-else-held c).After-queued_at-q) (one_less (goal.at.loop-left-preserved-else-held c).After-queued_at-q) c.ihave-at.new.out c.ihave-at.result false c.ihave-at.ensures (sym c.is_cached_then-held.ensures ∙ c.if-held.false),
+)
 
 pub loop-left-smaller : goal.loop-left-smaller
 loop-left-smaller c = omega (arith, stands_at (goal.at.loop-left-smaller c).In-loop-left)

@@ -124,14 +124,13 @@ module _ (m : After-min-count) where
   taken_is = sym (kth-link (st s) s.args.rooms.now nth s.args.link (links-up s.args.h s.args.block.now s.requires.0) (omega (arith, count-links s.args.h s.args.block.now, s.requires.1)) nth-small)
 
 pub send_ihave-s-requires : goal.send_ihave-s-requires
-send_ihave-s-requires c =
-    (
-      (s (goal.at.send_ihave-s-requires c).After-min-count).requires.0,
-      (s (goal.at.send_ihave-s-requires c).After-min-count).requires.1,
-      c.loop-left.invariant.1,
-      count-few (goal.at.send_ihave-s-requires c).After-min-count,
-      link-told c.loop-left.invariant.4 (count (goal.at.send_ihave-s-requires c).After-min-count) (taken (goal.at.send_ihave-s-requires c).After-min-count) (some (goal.at.send_ihave-s-requires c).After-min-count) (numbers (s (goal.at.send_ihave-s-requires c).After-min-count)).some (count-is (goal.at.send_ihave-s-requires c).After-min-count) (taken_is (goal.at.send_ihave-s-requires c).After-min-count) (s (goal.at.send_ihave-s-requires c).After-min-count).requires.2,
-    )
+send_ihave-s-requires c = (
+  (s (goal.at.send_ihave-s-requires c).After-min-count).requires.0,
+  (s (goal.at.send_ihave-s-requires c).After-min-count).requires.1,
+  c.loop-left.invariant.1,
+  count-few (goal.at.send_ihave-s-requires c).After-min-count,
+  link-told c.loop-left.invariant.4 (count (goal.at.send_ihave-s-requires c).After-min-count) (taken (goal.at.send_ihave-s-requires c).After-min-count) (some (goal.at.send_ihave-s-requires c).After-min-count) (numbers (s (goal.at.send_ihave-s-requires c).After-min-count)).some (count-is (goal.at.send_ihave-s-requires c).After-min-count) (taken_is (goal.at.send_ihave-s-requires c).After-min-count) (s (goal.at.send_ihave-s-requires c).After-min-count).requires.2,
+)
 
 pub overflow_sub-left : goal.overflow_sub-left
 overflow_sub-left c =

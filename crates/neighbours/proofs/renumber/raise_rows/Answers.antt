@@ -69,8 +69,7 @@ raise_numbers-requires c =
 pub loop-k-preserved : goal.loop-k-preserved
 loop-k-preserved c =
     let k = c.count-c in
-    let l = c.loop-k in
-    (
+    let l = c.loop-k in (
       search rules,
       ap (rows c.args.stride c.args.n) c.raise_numbers.ensures
           ∙ rows_more c.args.i c.args.o c.args.stride c.args.n c.args.b.now l.b l.k c.requires.0 c.loop-k-test.true c.requires.1 l.invariant.2 l.invariant.1 k.result k.ensures.0 (few (goal.at.loop-k-preserved c).In-loop-k),

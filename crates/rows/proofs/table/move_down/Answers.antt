@@ -14,8 +14,7 @@ loop-i-init c = (search rules, sym (put-nil c.args.to c.args.b.now), refl)
 
 pub loop-i-preserved : goal.loop-i-preserved
 loop-i-preserved c =
-    let l = c.loop-i in
-    (
+    let l = c.loop-i in (
       search rules,
       move-down-step c.args.b.now l.b c.args.from c.args.to l.i 0 (omega arith) (omega arith) l.invariant.1,
       simp length-set l.invariant.2,

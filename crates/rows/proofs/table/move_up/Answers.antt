@@ -14,8 +14,7 @@ loop-i-init c = (search rules, move_start c.args.b.now c.args.from c.args.to c.a
 
 pub loop-i-preserved : goal.loop-i-preserved
 loop-i-preserved c =
-    let l = c.loop-i in
-    (
+    let l = c.loop-i in (
       search rules,
       move-up-step c.args.b.now l.b c.args.from c.args.to c.args.k l.i 0 (omega arith) (omega arith) (omega arith) (omega arith) l.invariant.1,
       simp length-set l.invariant.2,

@@ -17,8 +17,7 @@ loop-i-init c = (search rules, sym (put-nil c.args.at c.args.b.now), sym (div-on
 
 pub loop-i-preserved : goal.loop-i-preserved
 loop-i-preserved c =
-    let l = c.loop-i in
-    (
+    let l = c.loop-i in (
       search rules,
       le_write c.args.b.now l.b c.args.at l.i c.args.v l.w (omega arith) l.invariant.1 l.invariant.2,
       div-next l.i (l.i + 1) c.args.v l.w refl l.invariant.2,

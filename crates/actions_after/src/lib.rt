@@ -1,6 +1,7 @@
 // The actions of a call, from the block as it stands before it: document 01, "the first other event evicts and schedules EvictCache before anything else", then
 // the step of the event.
 #![tactic(auto)]
+
 ghost use Rattle.std.specs.Prelude.{◌≡◌, false, [], ◌∷◌, ◌<◌, eqb, length, get_or};
 ghost use Rattle.lists.specs.Base.{concatMap};
 ghost use Rattle.rows.specs.Part.{part};

@@ -1,5 +1,6 @@
 // BLAKE3 for a program in C or Rust to link: bench/blake3 calls it.
 #![tactic(auto)]
+
 ghost use Rattle.std.specs.Prelude.{◌≡◌};
 ghost use Rattle.blake3.specs.Blake3.{blake3};
 

@@ -1,5 +1,6 @@
 // Which limit a call met that is answered 13: the questions of an event call, with the counts zero, asked of a block that is only read.
 #![tactic(auto)]
+
 ghost use Rattle.std.specs.Prelude.{◌≡◌, [], length, ◌+◌, ◌≤◌};
 ghost use Rattle.rows.specs.Part.{part};
 ghost use Rattle.blake3.specs.Blake3.{identifier};

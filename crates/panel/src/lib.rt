@@ -1,5 +1,6 @@
 // The panel of the program `panelrun`, and its answer to the first record of what has been read.
 #![tactic(auto)]
+
 pub mod stream;
 
 ghost use Rattle.std.specs.Prelude.{◌≡◌};

@@ -1,5 +1,8 @@
 // The program `panelrun` of document 01, run on the document's own example.
 #![tactic(auto)]
-fn main() {
-    panel::stream::run();
+
+fn main(rt: HostRuntime) {
+    let mut input = rt.stdin();
+    let mut output = rt.stdout();
+    panel::stream::run(&mut input, &mut output);
 }

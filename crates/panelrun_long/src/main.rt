@@ -1,5 +1,8 @@
 // The program `panelrun` on a longer input; what it must write was written by the Rust (tests/panelrun).
 #![tactic(auto)]
-fn main() {
-    panel::stream::run();
+
+fn main(rt: HostRuntime) {
+    let mut input = rt.stdin();
+    let mut output = rt.stdout();
+    panel::stream::run(&mut input, &mut output);
 }

@@ -1,5 +1,6 @@
 // Document 01's calls upon a lent block, as C and Rust link them.
 #![tactic(auto)]
+
 mod peers;
 mod rooms;
 

@@ -1,5 +1,6 @@
 // Question 13 of an event: the numbers of entries after its step, from the block as it stands before the call.
 #![tactic(auto)]
+
 ghost use Rattle.std.specs.Prelude.{◌≡◌, ◌≤◌, ◌<◌, length};
 ghost use Rattle.lists.specs.Base.{member};
 ghost use Rattle.lists.specs.Map.{has};

@@ -1,6 +1,7 @@
 // Time caches for a program in Rust to link: tests/time_cache runs them beside the Rust's own. No function asks anything of its caller: each
 // tests the tables first, and answers no, or 0, and changes nothing where they do not lie in the block, are not sound, or have no room.
 #![tactic(auto)]
+
 ghost use Rattle.std.specs.Prelude.{◌≡◌, true, ◌+◌, ◌*◌, ◌≤◌, ◌<◌, length};
 ghost use Rattle.time_cache.specs.TimeCache.{holds, laterCache};
 ghost use Rattle.time_cache.specs.Tables.{cacheAt, Lies, Room};

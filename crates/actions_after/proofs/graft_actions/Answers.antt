@@ -29,10 +29,13 @@ pub reply_sends-requires : goal.reply_sends-requires
 reply_sends-requires c =
     let a = c.args in
     let t = c.cached_then-held in
-    let id = id_of c.in-Message.id in record { replying = (
+    let id = id_of c.in-Message.id in record {
+      replying = (
         replying a.h a.block.now a.link c.requires.stands.0 c.requires.stands.1,
         held-there a.h a.block.now id (get id (settled a.instant.0 (st (goal.at.reply_sends-requires c).Start)).cache) t.result c.requires.stands.0.sound.fit t.ensures,
-      ); tellable = tellable-as (ap (bytes (goal.at.reply_sends-requires c).Start) c.in-Message.is ∙ sym (graft-reply a.instant.0 a.rooms.now a.link (st (goal.at.reply_sends-requires c).Start) id t.result t.ensures)) c.requires.tellable }
+      );
+      tellable = tellable-as (ap (bytes (goal.at.reply_sends-requires c).Start) c.in-Message.is ∙ sym (graft-reply a.instant.0 a.rooms.now a.link (st (goal.at.reply_sends-requires c).Start) id t.result t.ensures)) c.requires.tellable;
+    }
 
 pub returns-in-Nothing : goal.returns-in-Nothing
 returns-in-Nothing c =

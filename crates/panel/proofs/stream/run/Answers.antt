@@ -1,0 +1,37 @@
+-- `run` is safe and ends.
+use Prim.Native.Nat.{ℕ}
+use mathlib.Core.Bool.{Bool, true, false, not}
+use mathlib.Core.Path.{◌≡◌, refl, sym}
+use lib.ListN.{length-replicate}
+use lib.Seq.{length-take-le}
+use Rattle.panel.proofs.TurnLaws.{begun-holds}
+use Rattle.panel.proofs.StepLaws.{stepped-inside, stepped-fits, stepped-long, sofar-start, sofar-more}
+use native.Mathlib.Omega.{arith}
+use Rattle.panel.proofs.stream.run.Goals as goal
+
+pub steps-init : goal.steps-init
+steps-init g c = (
+  record { long = length-replicate {A = ℕ} 32768 0; order = omega arith; inside = omega arith },
+  record { output = length-replicate {A = ℕ} 40960 0; reply = length-replicate {A = ℕ} 40971 0 },
+  sofar-start _ _ _ (begun-holds _ _ (length-replicate {A = ℕ} 58880 0) c.begin.ensures) c.no_counts-stats.ensures refl refl,
+)
+
+-- what is to be written lies in the reply
+pub slice_bounds-reply-end : goal.slice_bounds-reply-end
+slice_bounds-reply-end g c =
+    let h = c.steps.invariant.1 in
+    omega (arith, stepped-fits h c.step-p.ensures, (stepped-long h c.step-p.ensures).reply)
+
+pub slice_bounds-write_on-end : goal.slice_bounds-write_on-end
+slice_bounds-write_on-end g c =
+    let h = c.steps.invariant.1 in
+    sym (length-take-le _ _ (omega (arith, stepped-fits h c.step-p.ensures, (stepped-long h c.step-p.ensures).reply)))
+
+on : (b : Bool) → not b ≡ false → b ≡ true
+on true e = refl
+on false e = sym e
+
+pub steps-preserved : goal.steps-preserved
+steps-preserved g c =
+    let t = c.step-p.ensures in
+    (stepped-inside c.steps.invariant.0 t, stepped-long c.steps.invariant.1 t, sofar-more c.steps.invariant.0 t (on _ c.if-not-p.false) c.steps.invariant.2)

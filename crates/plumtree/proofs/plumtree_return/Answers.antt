@@ -1,0 +1,9 @@
+-- `plumtree_return`: the counts that a return brought back are stored; a refused one has left them.
+use Rattle.machine.specs.Called.{countsOf}
+use Rattle.states.proofs.Accepted.{returned-kept}
+use Rattle.plumtree.proofs.plumtree_return.Goals as goal
+
+pub returns-else-back-eq0 : goal.returns-else-back-eq0
+returns-else-back-eq0 c =
+    let back = c.return_core-back in
+    returned-kept c.args.block.now (countsOf c.args.counts.now) c.args.area.now c.args.name back.new.block (countsOf back.result.stats) back.result.number back.result.length c.if-back-eq0.false back.ensures

@@ -1,7 +1,23 @@
-// The sample's numbers, low byte first, and its places. Where the sample ends early a number is 0, and no place is past the end.
-ghost use Rattle.std.specs.Prelude.{◌≤◌};
+// The sample, its numbers, low byte first, and its places. Where the sample ends early a number is 0, and no place is past the end.
+ghost use Rattle.std.specs.Prelude.{◌≤◌, length};
 
 use rows::word;
+use std::io::Read;
+
+// Reads until the buffer is full, the input ends or a read fails, and answers how many bytes it put at the buffer's start.
+pub fn full(input: &mut impl Read, buffer: &mut [u8]) -> usize
+    ensures { result ≤ length buffer.new }
+{
+    let mut done = 0;
+    while done < buffer.len() {
+        let n = input.read(&mut buffer[done..]).unwrap_or(0);
+        if n == 0 {
+            return done;
+        }
+        done += n;
+    }
+    done
+}
 
 // The place k bytes behind another, at most the end.
 pub fn ahead(at: usize, k: usize, end: usize) -> usize

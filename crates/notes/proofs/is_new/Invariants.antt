@@ -1,0 +1,11 @@
+-- `is_new`: a walk along the chain (`Walk`). The measure is the place on it.
+use Prim.Native.Nat.{◌-◌}
+use Rattle.rows.specs.Ident.{id_of}
+use Rattle.notes.proofs.Walks.{Walk}
+use Rattle.notes.proofs.is_new.Given as goal
+
+abbrev pub invariant-loop-j : goal.invariant-loop-j
+invariant-loop-j l = Walk l.c l.b l.i l.l (id_of l.x) l.j
+
+abbrev pub decreases-loop-j : goal.decreases-loop-j
+decreases-loop-j l = l.j

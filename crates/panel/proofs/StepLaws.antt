@@ -123,6 +123,10 @@ module _ {before : Memory} {p : Place} {buffer : List ℕ} {after : Memory} {r :
     reply = wrote-long w (record { fits = omega (arith, end-few, h.reply) }) ∙ h.reply;
   }
 
+  -- so it lies in the reply that the step leaves
+  pub stepped-in : Stepped before p buffer after r buffer' → r.reply ≤ length after.reply
+  stepped-in s = omega (arith, stepped-fits s, (stepped-long s).reply)
+
 -- memory of which only the reply has changed
 same_memory : {before after : Memory} → OnlyReply before after → after.reply ≡ before.reply → after ≡ before
 same_memory o e = λ k. record { block = o.block k; output = o.output k; reply = e k }

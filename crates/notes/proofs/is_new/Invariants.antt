@@ -1,5 +1,4 @@
 -- `is_new`: a walk along the chain (`Walk`). The measure is the place on it.
-use Prim.Native.Nat.{◌-◌}
 use Rattle.rows.specs.Ident.{id_of}
 use Rattle.notes.proofs.Walks.{Walk}
 use Rattle.notes.proofs.is_new.Given as goal

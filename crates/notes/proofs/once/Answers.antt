@@ -1,7 +1,7 @@
 -- `once`: the first i notes stand once, and are chained by buckets. The measure is n - i.
 use mathlib.Core.Path.{◌≡◌, refl, sym, ap, ◌∙◌, subst}
 use mathlib.Core.Bool.{Bool}
-use Prim.Native.Nat.{ℕ, ◌+◌, ◌-◌, ◌%◌, ◌<◌}
+use Prim.Native.Nat.{ℕ, ◌+◌, ◌%◌, ◌<◌}
 use lib.ListN.{get_or, set, length-set}
 use Rattle.rows.specs.Ident.{id_of}
 use Rattle.notes.specs.Chains.{id_at, bucketOf, bucket, Latest, TellsNew, Once}

@@ -1,7 +1,7 @@
 -- `make_room`: the first j rows are renamed, the others are as they were. The measure is n - j.
 use mathlib.Core.Path.{◌≡◌, refl, sym, ap, ◌∙◌}
 use mathlib.Core.List.{List, [], ◌∷◌}
-use Prim.Native.Nat.{ℕ, ◌+◌, ◌-◌, ◌*◌, ◌≤◌, ◌<◌}
+use Prim.Native.Nat.{ℕ, ◌+◌, ◌*◌, ◌≤◌, ◌<◌}
 use lib.ListN.{get_or}
 use Rattle.rows.specs.Part.{put}
 use Rattle.refs.specs.Refs.{Ref, ref, refs, shifted, moved}

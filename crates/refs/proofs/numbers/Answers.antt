@@ -1,6 +1,5 @@
 -- `numbers`: a flag stands for each number of the first j. The measure is what is left of the length.
 use mathlib.Core.Path.{refl}
-use Prim.Native.Nat.{◌-◌}
 use Rattle.refs.specs.Once.{Numbers}
 use Rattle.refs.proofs.Flags.{seen_start, seen_more, seen_all, seen_twice}
 use native.Mathlib.Omega.{arith}

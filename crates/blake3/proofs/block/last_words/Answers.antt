@@ -1,5 +1,5 @@
 -- `last_words`. The loop's invariant: the first i bytes stand over the front of 64 zeros. The measure is what is left of the bytes.
-use Rattle.std.proofs.Common.{◌≡◌, ℕ, ◌-◌, refl, ap, ◌∙◌, arith, length-set, rules}
+use Rattle.std.proofs.Common.{◌≡◌, ℕ, refl, ap, ◌∙◌, arith, length-set, rules}
 use Rattle.rows.specs.Part.{part}
 use Rattle.rows.proofs.Parts.{length_part}
 use Rattle.blake3.specs.Blake3.{blockWords}

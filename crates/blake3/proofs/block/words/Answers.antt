@@ -1,5 +1,5 @@
 -- `words`. The loop's invariant: the first i words are loaded. The measure is what is left of the sixteen.
-use Rattle.std.proofs.Common.{◌-◌, set, refl, ap, ◌∙◌, arith, length-set, rules}
+use Rattle.std.proofs.Common.{set, refl, ap, ◌∙◌, arith, length-set, rules}
 use Rattle.rows.specs.Part.{part}
 use Rattle.blake3.proofs.Loads.{word-step, words-start, words-end}
 use Rattle.blake3.proofs.block.words.Goals as goal

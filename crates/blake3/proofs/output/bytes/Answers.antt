@@ -1,5 +1,5 @@
 -- `bytes`. The loop's invariant: the bytes of the first i words are stored. The measure is what is left of the words.
-use Rattle.std.proofs.Common.{ℕ, ◌-◌, ◌*◌, replicate, sym, refl, ap, ◌∙◌, arith, rules}
+use Rattle.std.proofs.Common.{ℕ, ◌*◌, replicate, sym, refl, ap, ◌∙◌, arith, rules}
 use Rattle.rows.specs.Part.{put}
 use Rattle.rows.specs.Digits.{le_bytes}
 use Rattle.rows.proofs.Parts.{put-nil}

@@ -5,7 +5,7 @@ use mathlib.Core.Path.{◌≡◌, refl, sym}
 use lib.ListN.{length-replicate}
 use lib.Seq.{length-take-le}
 use Rattle.panel.proofs.TurnLaws.{begun-holds}
-use Rattle.panel.proofs.StepLaws.{stepped-inside, stepped-fits, stepped-long, sofar-start, sofar-more}
+use Rattle.panel.proofs.StepLaws.{stepped-inside, stepped-long, stepped-in, sofar-start, sofar-more}
 use native.Mathlib.Omega.{arith}
 use Rattle.panel.proofs.stream.run.Goals as goal
 
@@ -18,14 +18,10 @@ steps-init g c = (
 
 -- what is to be written lies in the reply
 pub slice_bounds-reply-end : goal.slice_bounds-reply-end
-slice_bounds-reply-end g c =
-    let h = c.steps.invariant.1 in
-    omega (arith, stepped-fits h c.step-p.ensures, (stepped-long h c.step-p.ensures).reply)
+slice_bounds-reply-end g c = stepped-in c.steps.invariant.1 c.step-p.ensures
 
 pub slice_bounds-write_on-end : goal.slice_bounds-write_on-end
-slice_bounds-write_on-end g c =
-    let h = c.steps.invariant.1 in
-    sym (length-take-le _ _ (omega (arith, stepped-fits h c.step-p.ensures, (stepped-long h c.step-p.ensures).reply)))
+slice_bounds-write_on-end g c = sym (length-take-le _ _ (stepped-in c.steps.invariant.1 c.step-p.ensures))
 
 on : (b : Bool) → not b ≡ false → b ≡ true
 on true e = refl

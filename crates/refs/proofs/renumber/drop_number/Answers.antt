@@ -1,7 +1,7 @@
 -- `renumber::drop_number`: of the first j entries, those that are left stand first (`Going`). The measure is n - j.
 use mathlib.Core.Path.{refl, sym, ◌∙◌, subst}
 use mathlib.Core.List.{List, []}
-use Prim.Native.Nat.{ℕ, ◌+◌, ◌-◌, ◌*◌, ◌≤◌}
+use Prim.Native.Nat.{ℕ, ◌+◌, ◌*◌, ◌≤◌}
 use lib.ListN.{set, length-set}
 use Rattle.rows.proofs.Rows.{mul-up, row-end}
 use Rattle.refs.specs.Refs.{ref}

@@ -1,7 +1,7 @@
 -- `renumber::raise_numbers`: the first j numbers are raised, the rest is as it was. The measure is n - j.
 use mathlib.Core.Path.{◌≡◌, refl, ap, ◌∙◌}
 use mathlib.Core.List.{List}
-use Prim.Native.Nat.{ℕ, ◌+◌, ◌-◌, ◌<◌}
+use Prim.Native.Nat.{ℕ, ◌+◌, ◌<◌}
 use lib.ListN.{get_or, set, length-set}
 use Rattle.refs.specs.Refs.{shifted}
 use Rattle.rows.proofs.Parts.{get_d_part, length_part}

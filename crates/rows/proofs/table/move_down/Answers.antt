@@ -1,6 +1,6 @@
 -- `move_down`: the slice is what it was with the first i bytes from `from` put at `to`. The byte that a turn reads lies after that put. The measure is k - i.
 use mathlib.Core.Path.{◌≡◌, refl, sym, ap, ◌∙◌}
-use Prim.Native.Nat.{ℕ, ◌-◌}
+use Prim.Native.Nat.{ℕ}
 use lib.ListN.{length-set}
 use Rattle.rows.specs.Part.{part, put}
 use Rattle.rows.proofs.Parts.{move-down-step, put-nil}

@@ -1,7 +1,7 @@
 -- `in_order`: the first i times rise, and the last of them is `last`. The measure is m - i.
 use mathlib.Core.Path.{◌≡◌, sym, ◌∙◌}
 use mathlib.Core.List.{map}
-use Prim.Native.Nat.{◌+◌, ◌-◌, ◌*◌, ◌≤◌}
+use Prim.Native.Nat.{◌+◌, ◌*◌, ◌≤◌}
 use lib.ListN.{get_or}
 use Rattle.rows.proofs.Rows.{row-end}
 use Rattle.time_cache.specs.Tables.{expiryRows, expiryOf, noExpiry}

@@ -8,7 +8,7 @@ use Prim.Native.Nat.{ℕ, ◌≤◌}
 use borrow.Author.Tests.{leb-true}
 use lib.Dec.{leb}
 use lib.ListN.{length}
-use Rattle.lists.specs.Base.{if◌then◌else◌}
+use Rattle.std.specs.Prelude.{if◌then◌else◌}
 use Rattle.lists.proofs.MapLaws.{and_left, and_right, and_intro}
 use Rattle.protocol.specs.State.{State, limitsInRange, blockNeed}
 use Rattle.protocol.specs.Whole.{whole, longEnough, wholeState}

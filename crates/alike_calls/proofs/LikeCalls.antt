@@ -6,7 +6,8 @@ use mathlib.Core.Bool.{Bool, true, false, not, ◌&&◌}
 use mathlib.Core.List.{List, [], ◌∷◌}
 use lib.Dec.{leb, eqb}
 use lib.ListN.{length}
-use Rattle.lists.specs.Base.{if◌then◌else◌, concatMap}
+use Rattle.std.specs.Prelude.{if◌then◌else◌}
+use Rattle.lists.specs.Base.{concatMap}
 use Rattle.lists.proofs.MapLaws.{true≢}
 use Rattle.time_cache.specs.TimeCache.{Cache, holds}
 use Rattle.postcard.specs.Message.{Message, Gossip, Prune, Graft, IHave, Event, Received, Broadcast, Fired, Up, Down, Action, actionBytes}

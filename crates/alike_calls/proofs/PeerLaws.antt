@@ -9,7 +9,8 @@ use lib.Dec.{ltb, eqb}
 use lib.ListN.{length, length-append, take, drop}
 use lib.Seq.{take-nil, drop-nil}
 use borrow.Author.Tests.{ltb-true, ltb-false, eqb-true, eq-eqb}
-use Rattle.lists.specs.Base.{if◌then◌else◌, is_empty, filter, count, any, all, member, ascending}
+use Rattle.std.specs.Prelude.{if◌then◌else◌}
+use Rattle.lists.specs.Base.{is_empty, filter, count, any, all, member, ascending}
 use Rattle.lists.specs.Map.{insertKey}
 use Rattle.lists.proofs.MapLaws.{cases, true≢, and_left, and_right, all_head, all_tail}
 use Rattle.lists.proofs.KeyLaws.{eqb-sym}

@@ -11,7 +11,8 @@ use borrow.Author.Tests.{eq-eqb, ne_eqb, lt-ltb, le-ltb}
 use lib.Dec.{ltb}
 use lib.ListN.{length, take, drop, get_or, set, replicate, length-set, take-append-drop}
 use lib.Seq.{get_or-set_same, get_or-set_other, length-take-le}
-use Rattle.lists.specs.Base.{if◌then◌else◌, filter, count}
+use Rattle.std.specs.Prelude.{if◌then◌else◌}
+use Rattle.lists.specs.Base.{filter, count}
 use Rattle.lists.proofs.Branches.{if-on}
 use Rattle.lists.proofs.MapLaws.{cases}
 use Rattle.lists.proofs.ListLaws.{filter-append, count-append, count-length, length-filter}

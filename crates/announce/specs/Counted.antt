@@ -1,7 +1,6 @@
 -- What AnnounceDropped moves and leaves, as numbers, and the actions by these numbers.
 -- Assumes nothing.
-use Rattle.std.specs.Prelude.{ℕ, ◌≡◌, List, [], eqb, length}
-use Rattle.lists.specs.Base.{if◌then◌else◌}
+use Rattle.std.specs.Prelude.{ℕ, ◌≡◌, List, [], eqb, length, if◌then◌else◌}
 use Rattle.postcard.specs.Message.{Action}
 use Rattle.protocol.specs.State.{State}
 use Rattle.protocol.specs.Ticks.{oldest, younger, stillCached}

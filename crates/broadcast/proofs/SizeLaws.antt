@@ -8,7 +8,8 @@ use native.Mathlib.Omega.{arith}
 use borrow.Author.Tests.{leb-false}
 use lib.Dec.{leb}
 use lib.ListN.{length, replicate, length-replicate}
-use Rattle.lists.specs.Base.{if◌then◌else◌, count, any}
+use Rattle.std.specs.Prelude.{if◌then◌else◌}
+use Rattle.lists.specs.Base.{count, any}
 use Rattle.protocol.specs.State.{State, Note}
 use Rattle.protocol.specs.Push.{forPeer, notes, eagerTargets}
 use Rattle.decide.specs.Sizes.{Sizes, sizesOf, sizedRecorded}

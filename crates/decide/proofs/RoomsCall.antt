@@ -7,7 +7,8 @@ use mathlib.Core.Option.{Option, none, some}
 use lib.Dec.{ltb, eqb}
 use lib.ListN.{length}
 use borrow.Author.Tests.{eqb-true, eq-eqb}
-use Rattle.lists.specs.Base.{if◌then◌else◌, is_empty, is_some, all, any}
+use Rattle.std.specs.Prelude.{if◌then◌else◌}
+use Rattle.lists.specs.Base.{is_empty, is_some, all, any}
 use Rattle.lists.specs.Map.{keys, lookup, has}
 use Rattle.time_cache.specs.TimeCache.{get, holds}
 use Rattle.protocol.specs.Links.{Mark, Links, isNeighbour, isEager, marked, eagerIn}

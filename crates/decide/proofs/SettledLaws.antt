@@ -7,7 +7,8 @@ use mathlib.Core.Option.{Option, none, some}
 use native.Mathlib.Omega.{arith}
 use lib.Dec.{ltb}
 use lib.ListN.{length}
-use Rattle.lists.specs.Base.{if◌then◌else◌, is_some, filter, count, sum, ascending}
+use Rattle.std.specs.Prelude.{if◌then◌else◌}
+use Rattle.lists.specs.Base.{is_some, filter, count, sum, ascending}
 use Rattle.lists.specs.Map.{keys, lookup}
 use Rattle.time_cache.specs.TimeCache.{Timed, Cache, value_of, get, holds, expireUntil, laterCache, Timely}
 use Rattle.postcard.specs.Message.{EvictCache, Action, Scheduled}

@@ -4,7 +4,8 @@ use mathlib.Core.Path.{◌≡◌, refl, sym, ap, ◌∙◌}
 use mathlib.Core.Bool.{Bool, true, not}
 use mathlib.Core.List.{List, [], ◌∷◌, ◌++◌, append-nil}
 use lib.ListN.{length, length-map}
-use Rattle.lists.specs.Base.{if◌then◌else◌, is_empty, count, ascending}
+use Rattle.std.specs.Prelude.{if◌then◌else◌}
+use Rattle.lists.specs.Base.{is_empty, count, ascending}
 use Rattle.lists.specs.Map.{Map, keys}
 use Rattle.protocol.specs.Links.{eager, linkUp, linkDown}
 use Rattle.postcard.specs.Message.{DispatchLazyPush, Action, Scheduled}

@@ -1,7 +1,7 @@
 -- The actions of an event, as functions of the state before it; `s` is the state that a first event leaves (`settled`) unless a comment says otherwise. Proved equal (`decide-actions`).
-use Rattle.std.specs.Prelude.{ℕ, suc, false, not, ◌&&◌, List, [], ◌∷◌, ◌++◌, map, ltb, eqb, length}
+use Rattle.std.specs.Prelude.{ℕ, suc, false, not, ◌&&◌, List, [], ◌∷◌, ◌++◌, map, ltb, eqb, length, if◌then◌else◌}
 use Rattle.std.proofs.Math.Option.{Option, none, some}
-use Rattle.lists.specs.Base.{if◌then◌else◌, is_empty}
+use Rattle.lists.specs.Base.{is_empty}
 use Rattle.lists.specs.Map.{keys}
 use Rattle.time_cache.specs.TimeCache.{holds, get}
 use Rattle.protocol.specs.Links.{isNeighbour, eagerIn}

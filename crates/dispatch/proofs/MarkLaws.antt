@@ -11,7 +11,8 @@ use borrow.Author.Tests.{eqb-true, eqb-false, eq-eqb}
 use lib.Dec.{eqb}
 use lib.ListN.{length, take, get_or, set, length-set, length-append}
 use lib.Seq.{take-suc, get_or-set_same, get_or-set_other}
-use Rattle.lists.specs.Base.{if◌then◌else◌, any, count}
+use Rattle.std.specs.Prelude.{if◌then◌else◌}
+use Rattle.lists.specs.Base.{any, count}
 use Rattle.lists.proofs.MapLaws.{cases, true≢, and_left, and_right}
 use Rattle.lists.proofs.Lists.{any_append, any-one, or_cases}
 use Rattle.lists.proofs.ListLaws.{count-append}

@@ -9,7 +9,8 @@ use lib.ListN.{length, take, drop, length-drop, drop_of_length-le}
 use lib.Seq.{take_all}
 use lib.Dec.{leb}
 use borrow.Author.Tests.{leb-true, leb-false}
-use Rattle.lists.specs.Base.{if◌then◌else◌, any, concatMap}
+use Rattle.std.specs.Prelude.{if◌then◌else◌}
+use Rattle.lists.specs.Base.{any, concatMap}
 use Rattle.lists.proofs.ListLaws.{concat-append}
 use Rattle.postcard.specs.Message.{Ihave, IHave, AnnounceDropped, Action, Sent, Scheduled, ihaveBytes, actionBytes}
 use Rattle.postcard.specs.Output.{sendHead, ihaveHead}

@@ -1,7 +1,7 @@
 -- The sends of a dispatch, one IHave after another.
 -- Assumes nothing.
-use Rattle.std.specs.Prelude.{ℕ, ◌≤◌, ◌≡◌, Bool, true, not, ◌||◌, List, [], ◌∷◌, length, take, drop}
-use Rattle.lists.specs.Base.{if◌then◌else◌, any, concatMap}
+use Rattle.std.specs.Prelude.{ℕ, ◌≤◌, ◌≡◌, Bool, true, not, ◌||◌, List, [], ◌∷◌, length, take, drop, if◌then◌else◌}
+use Rattle.lists.specs.Base.{any, concatMap}
 use Rattle.postcard.specs.Message.{Ihave, IHave, AnnounceDropped, Action, Sent, Scheduled, ihaveBytes, actionBytes}
 use Rattle.protocol.specs.State.{State, Note}
 use Rattle.protocol.specs.Run.{Room}

@@ -1,6 +1,5 @@
 // How much the record grows in a dispatch, read from the block as it stands before a first event evicts: question 13 asks it.
-ghost use Rattle.std.specs.Prelude.{◌≡◌, false, ◌&&◌, [], ◌+◌, ◌≤◌, ◌<◌, min, ltb, eqb, drop, get_or};
-ghost use Rattle.lists.specs.Base.{if◌then◌else◌};
+ghost use Rattle.std.specs.Prelude.{◌≡◌, false, ◌&&◌, [], ◌+◌, ◌≤◌, ◌<◌, min, ltb, eqb, drop, get_or, if◌then◌else◌};
 ghost use Rattle.rows.specs.Ident.{id_of};
 ghost use Rattle.protocol.specs.Ticks.{queuedFor};
 ghost use Rattle.decide.specs.RecordGrowth.{cachedIn, eligible, peerGain};

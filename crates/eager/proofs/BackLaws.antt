@@ -8,7 +8,8 @@ use native.Mathlib.Omega.{arith}
 use borrow.Author.Tests.{not-true, not-false, le-leb, lt-leb}
 use lib.Dec.{eqb, leb}
 use lib.ListN.{length, length-append}
-use Rattle.lists.specs.Base.{if◌then◌else◌, is_empty, any, count, member}
+use Rattle.std.specs.Prelude.{if◌then◌else◌}
+use Rattle.lists.specs.Base.{is_empty, any, count, member}
 use Rattle.lists.proofs.MapLaws.{cases, true≢, and_left, and_right}
 use Rattle.lists.proofs.KeyLaws.{eqb-sym}
 use Rattle.lists.proofs.Lists.{any_append, or-false-left, or-false-right}

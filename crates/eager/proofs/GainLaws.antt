@@ -8,7 +8,8 @@ use native.Mathlib.Omega.{arith}
 use borrow.Author.Tests.{not-true, not-false, le-leb, lt-leb}
 use lib.Dec.{leb}
 use lib.ListN.{length}
-use Rattle.lists.specs.Base.{if◌then◌else◌, count, any}
+use Rattle.std.specs.Prelude.{if◌then◌else◌}
+use Rattle.lists.specs.Base.{count, any}
 use Rattle.lists.proofs.MapLaws.{cases, and_left, and_right}
 use Rattle.lists.proofs.Lists.{or-false-left, or-false-right}
 use Rattle.protocol.specs.State.{State, Note}

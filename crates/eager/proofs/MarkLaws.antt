@@ -9,7 +9,7 @@ use native.Mathlib.Numerals.{add-one}
 use borrow.Author.Tests.{ltb-true, ltb-false}
 use lib.Dec.{ltb}
 use lib.ListN.{length, get_or}
-use Rattle.lists.specs.Base.{if◌then◌else◌}
+use Rattle.std.specs.Prelude.{if◌then◌else◌}
 use Rattle.lists.proofs.MapLaws.{cases}
 use Rattle.protocol.specs.State.{State, Note, withDropped}
 use Rattle.decide.specs.RecordGrowth.{pushGains}

@@ -10,7 +10,8 @@ use borrow.Author.Tests.{not-true, not-false, ltb-true, lt-ltb, ne_eqb}
 use lib.Dec.{eqb, leb, ltb}
 use lib.ListN.{length, take, drop, get_or, take-append-drop, length-map, get_or-map}
 use lib.Seq.{take-suc, take_all, get_or-take, length-take-le}
-use Rattle.lists.specs.Base.{if◌then◌else◌, filter, member, all, ascending}
+use Rattle.std.specs.Prelude.{if◌then◌else◌}
+use Rattle.lists.specs.Base.{filter, member, all, ascending}
 use Rattle.lists.specs.Map.{Map, Entry, entry, keys}
 use Rattle.lists.proofs.MapLaws.{cases, and_left, and_right, all_head, all_tail, all_cons}
 use Rattle.lists.proofs.ListLaws.{filter-append, all_filter}

@@ -1,7 +1,7 @@
 -- One pass over the record for all links that hand a push back.
 -- Assumes nothing.
-use Rattle.std.specs.Prelude.{ℕ, ◌+◌, ◌<◌, ◌≡◌, Bool, not, ◌&&◌, ◌||◌, List, [], ◌∷◌, leb, ltb, length, get_or}
-use Rattle.lists.specs.Base.{if◌then◌else◌, count, any}
+use Rattle.std.specs.Prelude.{ℕ, ◌+◌, ◌<◌, ◌≡◌, Bool, not, ◌&&◌, ◌||◌, List, [], ◌∷◌, leb, ltb, length, get_or, if◌then◌else◌}
+use Rattle.lists.specs.Base.{count, any}
 use Rattle.protocol.specs.State.{State, Note}
 use Rattle.protocol.specs.Push.{forPeer, notes}
 use Rattle.block.specs.LinkSteps.{peerAt}

@@ -8,7 +8,7 @@ use mathlib.Core.Option.{some}
 use borrow.Author.Tests.{eqb-true, eqb-false, le-leb}
 use lib.Dec.{eqb}
 use lib.ListN.{length, get_or, take, replicate, length-replicate}
-use Rattle.lists.specs.Base.{if◌then◌else◌}
+use Rattle.std.specs.Prelude.{if◌then◌else◌}
 use Rattle.lists.specs.Map.{Entry, lookup}
 use Rattle.lists.proofs.MapLaws.{cases, true≢}
 use Rattle.protocol.specs.State.{Counts, Created, created, notCreated, create, fresh, zeroCounts, Settings as PanelSettings, Limits as PanelLimits}

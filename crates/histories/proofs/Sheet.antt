@@ -6,7 +6,8 @@ use mathlib.Core.Bool.{Bool, true, false, ◌&&◌}
 use mathlib.Core.List.{List, [], ◌∷◌, map}
 use mathlib.Core.Option.{Option, none, some}
 use lib.ListN.{length}
-use Rattle.lists.specs.Base.{if◌then◌else◌, concatMap}
+use Rattle.std.specs.Prelude.{if◌then◌else◌}
+use Rattle.lists.specs.Base.{concatMap}
 use Rattle.lists.proofs.MapLaws.{cases, true≢, and_left, and_right, and_intro}
 use Rattle.postcard.specs.Message.{Action, actionBytes}
 use Rattle.blake3.specs.Blake3.{identifier}

@@ -1,9 +1,8 @@
 -- Request d, over time: panels with blocks of one length, and the areas that they share.
 -- "From a return on, the list of calls that the guarantees speak about is the one up to the saving, followed by the calls since the return."
 -- Assumes nothing.
-use Rattle.std.specs.Prelude.{ℕ, ◌+◌, ◌*◌, ◌≤◌, ◌≡◌, Bool, true, List, [], ◌∷◌, ◌++◌, map, eqb, length, take, replicate}
+use Rattle.std.specs.Prelude.{ℕ, ◌+◌, ◌*◌, ◌≤◌, ◌≡◌, Bool, true, List, [], ◌∷◌, ◌++◌, map, eqb, length, take, replicate, if◌then◌else◌}
 use Rattle.std.proofs.Math.Option.{Option, none, some}
-use Rattle.lists.specs.Base.{if◌then◌else◌}
 use Rattle.lists.specs.Map.{Entry, entry, lookup}
 use Rattle.protocol.specs.State.{Counts}
 use Rattle.protocol.specs.Answer.{Call}

@@ -7,7 +7,7 @@ use Prim.Native.Nat.{ℕ, ◌+◌, ◌≤◌}
 use native.Mathlib.Omega.{arith}
 use lib.ListN.{length, take, length-take}
 use lib.Seq.{take_all}
-use Rattle.lists.specs.Base.{if◌then◌else◌}
+use Rattle.std.specs.Prelude.{if◌then◌else◌}
 use Rattle.postcard.specs.Message.{Ihave}
 use Rattle.protocol.specs.State.{State}
 use Rattle.decide.specs.SizesAfter.{newIds, knownMissing, knownTimer}

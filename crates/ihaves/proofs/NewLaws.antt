@@ -7,7 +7,8 @@ use Prim.Native.Nat.{ℕ, ◌+◌, ◌≤◌, zero-le, suc-le-suc}
 use native.Mathlib.Omega.{arith}
 use lib.Dec.{eqb}
 use lib.ListN.{length, take, drop, length-append, take-append-drop}
-use Rattle.lists.specs.Base.{if◌then◌else◌, any, member}
+use Rattle.std.specs.Prelude.{if◌then◌else◌}
+use Rattle.lists.specs.Base.{any, member}
 use Rattle.lists.specs.Map.{has}
 use Rattle.lists.proofs.MapLaws.{cases}
 use Rattle.lists.proofs.Branches.{if-on, if-same}

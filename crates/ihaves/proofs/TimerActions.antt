@@ -6,7 +6,8 @@ use mathlib.Core.List.{List, [], ◌∷◌, ◌++◌, map, append-nil, append_as
 use Prim.Native.Nat.{ℕ, ◌+◌, ◌≤◌}
 use lib.ListN.{length, take}
 use lib.Seq.{take_all}
-use Rattle.lists.specs.Base.{if◌then◌else◌, concatMap}
+use Rattle.std.specs.Prelude.{if◌then◌else◌}
+use Rattle.lists.specs.Base.{concatMap}
 use Rattle.postcard.specs.Message.{Ihave, Scheduled, SendGraft, actionBytes}
 use Rattle.protocol.specs.State.{State}
 use Rattle.decide.specs.SizesAfter.{newIds, knownTimer}

@@ -1,7 +1,7 @@
 -- The state after an IHave from the peer of a link, and after each entry of it.
 -- Assumes nothing.
-use Rattle.std.specs.Prelude.{ℕ, List}
-use Rattle.lists.specs.Base.{if◌then◌else◌, member}
+use Rattle.std.specs.Prelude.{ℕ, List, if◌then◌else◌}
+use Rattle.lists.specs.Base.{member}
 use Rattle.postcard.specs.Message.{Ihave}
 use Rattle.protocol.specs.State.{State}
 use Rattle.decide.specs.StateAfter.{announcedState, ihaveState}

@@ -1,7 +1,7 @@
 -- What an IHave adds: the identifiers that are not known, each at its first place in the message.
 -- Assumes nothing.
-use Rattle.std.specs.Prelude.{ℕ, ◌≡◌, Bool, not, ◌||◌, List, [], eqb, length}
-use Rattle.lists.specs.Base.{if◌then◌else◌, any}
+use Rattle.std.specs.Prelude.{ℕ, ◌≡◌, Bool, not, ◌||◌, List, [], eqb, length, if◌then◌else◌}
+use Rattle.lists.specs.Base.{any}
 use Rattle.time_cache.specs.TimeCache.{holds}
 use Rattle.postcard.specs.Message.{Ihave}
 use Rattle.protocol.specs.State.{State}

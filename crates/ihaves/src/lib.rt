@@ -1,8 +1,8 @@
 // An IHave from a neighbour: document 01, "IHave, Graft, Prune". Its entries are read where they stand in the event, one after the other.
 #![tactic(auto)]
 
-ghost use Rattle.std.specs.Prelude.{◌≡◌, ◌≤◌, ◌<◌, length};
-ghost use Rattle.lists.specs.Base.{if◌then◌else◌, any, all, member, concatMap};
+ghost use Rattle.std.specs.Prelude.{◌≡◌, ◌≤◌, ◌<◌, length, if◌then◌else◌};
+ghost use Rattle.lists.specs.Base.{any, all, member, concatMap};
 ghost use Rattle.lists.specs.Map.{has};
 ghost use Rattle.rows.specs.Ident.{id_of};
 ghost use Rattle.postcard.specs.Message.{actionBytes};

@@ -1,7 +1,6 @@
 -- The counts after a call, as a function of the counts and the state before it. Proved equal to those of `handle` (proofs/Counted.antt).
 -- Assumes nothing.
-use Rattle.std.specs.Prelude.{ℕ, suc, max, not, List, eqb}
-use Rattle.lists.specs.Base.{if◌then◌else◌}
+use Rattle.std.specs.Prelude.{ℕ, suc, max, not, List, eqb, if◌then◌else◌}
 use Rattle.time_cache.specs.TimeCache.{holds}
 use Rattle.postcard.specs.Message.{Swarm, Neighbors, Message, Gossip, Prune, Graft, IHave, Event, Received, Broadcast, Fired, Up, Down}
 use Rattle.protocol.specs.State.{State, Counts}

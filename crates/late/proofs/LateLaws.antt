@@ -9,7 +9,8 @@ use native.Mathlib.Omega.{arith}
 use borrow.Author.Tests.{eq-eqb, ne_eqb, eqb-true}
 use lib.Dec.{eqb, leb}
 use lib.ListN.{get_or, length-map}
-use Rattle.lists.specs.Base.{if◌then◌else◌, all, ascending, concatMap}
+use Rattle.std.specs.Prelude.{if◌then◌else◌}
+use Rattle.lists.specs.Base.{all, ascending, concatMap}
 use Rattle.lists.specs.Map.{Map, keys, has, lookup}
 use Rattle.lists.proofs.MapLaws.{cases, true≢, and_right, all_head, all_tail}
 use Rattle.lists.proofs.Branches.{if-on, if-same}

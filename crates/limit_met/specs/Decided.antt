@@ -1,7 +1,6 @@
 -- The limit that is met, as a function of the state before the call: what the code computes. Proved equal to `limitMet` (proofs/LimitLaws.antt).
 -- Assumes nothing.
-use Rattle.std.specs.Prelude.{ℕ, ◌*◌, not, List, leb}
-use Rattle.lists.specs.Base.{if◌then◌else◌}
+use Rattle.std.specs.Prelude.{ℕ, ◌*◌, not, List, leb, if◌then◌else◌}
 use Rattle.blake3.specs.Blake3.{identifier}
 use Rattle.postcard.specs.Message.{Event}
 use Rattle.protocol.specs.State.{State, Limits}

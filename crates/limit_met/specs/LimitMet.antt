@@ -1,8 +1,7 @@
 -- Which limit a call met that is answered 13: document 01, question 13.
 -- Assumes nothing.
-use Rattle.std.specs.Prelude.{ℕ, Bool, false, not, List, leb, eqb, length}
+use Rattle.std.specs.Prelude.{ℕ, Bool, false, not, List, leb, eqb, length, if◌then◌else◌}
 use Rattle.std.proofs.Math.Option.{Option, none, some}
-use Rattle.lists.specs.Base.{if◌then◌else◌}
 use Rattle.postcard.specs.Message.{Event}
 use Rattle.postcard.specs.Decode.{Decoded, decoded, faulty, decodeEvent}
 use Rattle.protocol.specs.State.{State, zeroCounts}

@@ -1,17 +1,17 @@
 -- A function of an `if`, and two `if`s with equal branches.
 use mathlib.Core.Path.{◌≡◌, refl}
 use mathlib.Core.Bool.{Bool, true, false}
-use Rattle.lists.specs.Base.{if◌then◌else◌}
+use Rattle.std.specs.Prelude.{if◌then◌else◌}
 
 -- a function of a branch
-pub if-on {ℓ κ} : {A : Type ℓ} {B : Type κ} (f : A → B) (b : Bool) (x y : A) → f (if b then x else y) ≡ (if b then f x else f y)
+pub if-on : {A B : Type 0} (f : A → B) (b : Bool) (x y : A) → f (if b then x else y) ≡ (if b then f x else f y)
 if-on f true x y = refl
 if-on f false x y = refl
 
-pub if-both {ℓ} : {A : Type ℓ} (b : Bool) {x y u v : A} → x ≡ u → y ≡ v → (if b then x else y) ≡ (if b then u else v)
+pub if-both : {A : Type 0} (b : Bool) {x y u v : A} → x ≡ u → y ≡ v → (if b then x else y) ≡ (if b then u else v)
 if-both true p q = p
 if-both false p q = q
 
-pub if-same {ℓ} : {A : Type ℓ} (b : Bool) {x y u : A} → x ≡ u → y ≡ u → (if b then x else y) ≡ u
+pub if-same : {A : Type 0} (b : Bool) {x y u : A} → x ≡ u → y ≡ u → (if b then x else y) ≡ u
 if-same true p q = p
 if-same false p q = q

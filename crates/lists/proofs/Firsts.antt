@@ -7,7 +7,8 @@ use native.Mathlib.Numerals.{add-one}
 use native.Mathlib.Omega.{arith}
 use lib.ListN.{length, get_or, take}
 use lib.Seq.{take-suc}
-use Rattle.lists.specs.Base.{if◌then◌else◌, filter, count}
+use Rattle.std.specs.Prelude.{if◌then◌else◌}
+use Rattle.lists.specs.Base.{filter, count}
 
 module _ {A : Type 0} (q : A → Bool) where
   abbrev pub only : A → List A

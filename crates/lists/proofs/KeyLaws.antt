@@ -7,7 +7,8 @@ use mathlib.Core.Option.{Option, none, some}
 use native.Mathlib.Omega.{arith}
 use lib.Dec.{ltb, eqb}
 use borrow.Author.Tests.{ltb-true, lt-ltb, eqb-true, eqb-false, eq-eqb, ne_eqb}
-use Rattle.lists.specs.Base.{if◌then◌else◌, all, filter, ascending}
+use Rattle.std.specs.Prelude.{if◌then◌else◌}
+use Rattle.lists.specs.Base.{all, filter, ascending}
 use Rattle.lists.specs.Map.{Map, Entry, entry, keys, lookup, remove}
 use Rattle.lists.proofs.MapLaws.{cases, and_left, and_right, all_head, all_tail}
 use Rattle.lists.proofs.ListLaws.{keys-filter-all}

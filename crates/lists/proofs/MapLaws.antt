@@ -7,7 +7,8 @@ use mathlib.Core.Option.{Option, none, some}
 use native.Mathlib.Omega.{arith}
 use lib.Dec.{ltb, eqb}
 use borrow.Author.Tests.{ltb-true, ltb-false, eqb-true, eqb-false, eq-eqb, lt-ltb}
-use Rattle.lists.specs.Base.{if◌then◌else◌, all, ascending}
+use Rattle.std.specs.Prelude.{if◌then◌else◌}
+use Rattle.lists.specs.Base.{all, ascending}
 use Rattle.lists.specs.Map.{Map, keys, lookup, insert, remove}
 
 -- by the two values of a test

@@ -1,7 +1,7 @@
 -- Maps by number (a peer or an identifier), and sets of numbers: lists whose keys strictly ascend.
-use Rattle.std.specs.Prelude.{ℕ, Bool, List, [], ◌∷◌, map, ltb, eqb}
+use Rattle.std.specs.Prelude.{ℕ, Bool, List, [], ◌∷◌, map, ltb, eqb, if◌then◌else◌}
 use Rattle.std.proofs.Math.Option.{Option, none, some}
-use Rattle.lists.specs.Base.{if◌then◌else◌, is_some}
+use Rattle.lists.specs.Base.{is_some}
 
 -- a key and its value
 pub record Entry (A : Type 0) : Type 0 where

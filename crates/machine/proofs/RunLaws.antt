@@ -9,7 +9,8 @@ use mathlib.Core.Option.{some}
 use lib.Dec.{leb, ltb}
 use lib.ListN.{length, get_or, drop_of_length-le}
 use borrow.Author.Tests.{le-leb, lt-leb, leb-true, lt-ltb, le-ltb, ltb-true, ltb-false}
-use Rattle.lists.specs.Base.{if◌then◌else◌, concatMap}
+use Rattle.std.specs.Prelude.{if◌then◌else◌}
+use Rattle.lists.specs.Base.{concatMap}
 use Rattle.lists.proofs.MapLaws.{cases, and_left, and_intro}
 use Rattle.rows.specs.Part.{put}
 use Rattle.rows.proofs.Parts.{put-nil}

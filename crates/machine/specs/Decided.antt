@@ -1,8 +1,8 @@
 -- Questions 10 to 14 and what an accepted call leaves, as functions of the state before the call and the link room as it was brought: what the code computes. Proved equal to the definitions of
 -- `protocol` (proofs/DecidedLaws.antt).
 -- Assumes nothing.
-use Rattle.std.specs.Prelude.{ℕ, not, List, leb, length}
-use Rattle.lists.specs.Base.{if◌then◌else◌, concatMap}
+use Rattle.std.specs.Prelude.{ℕ, not, List, leb, length, if◌then◌else◌}
+use Rattle.lists.specs.Base.{concatMap}
 use Rattle.postcard.specs.Message.{Event, actionBytes}
 use Rattle.protocol.specs.State.{State, Counts}
 use Rattle.protocol.specs.Run.{Room}

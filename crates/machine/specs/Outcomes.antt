@@ -1,7 +1,7 @@
 -- What the caller finds of a step: questions 12, 13 and 14, then the step. Proved equal to the definitions' outcome for the event whose step it is (proofs/OutcomeLaws.antt).
 -- Assumes nothing.
-use Rattle.std.specs.Prelude.{ℕ, ◌^◌, ◌≤◌, ◌≡◌, not, List, ◌++◌, leb, length, get_or}
-use Rattle.lists.specs.Base.{if◌then◌else◌, concatMap}
+use Rattle.std.specs.Prelude.{ℕ, ◌^◌, ◌≤◌, ◌≡◌, not, List, ◌++◌, leb, length, get_or, if◌then◌else◌}
+use Rattle.lists.specs.Base.{concatMap}
 use Rattle.postcard.specs.Message.{actionBytes}
 use Rattle.protocol.specs.State.{State, Counts, blockNeed}
 use Rattle.protocol.specs.Run.{Room}

@@ -10,7 +10,8 @@ use native.Mathlib.Omega.{arith}
 use borrow.Author.Tests.{eq-eqb, ne_eqb, eqb-false, eqb-true}
 use lib.Dec.{eqb}
 use lib.ListN.{length, take, get_or, length-map}
-use Rattle.lists.specs.Base.{if◌then◌else◌, filter}
+use Rattle.std.specs.Prelude.{if◌then◌else◌}
+use Rattle.lists.specs.Base.{filter}
 use Rattle.lists.specs.Map.{Map, Entry, entry, remove}
 use Rattle.lists.proofs.MapLaws.{cases, true≢}
 use Rattle.lists.proofs.ListLaws.{length-filter, count-length}

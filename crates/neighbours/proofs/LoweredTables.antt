@@ -10,7 +10,8 @@ use borrow.Author.Tests.{eq-eqb, ne_eqb}
 use lib.Dec.{eqb}
 use lib.ListN.{length, take, drop, get_or}
 use lib.Seq.{drop-drop, get_or-drop, take-take}
-use Rattle.lists.specs.Base.{if◌then◌else◌, filter, is_empty}
+use Rattle.std.specs.Prelude.{if◌then◌else◌}
+use Rattle.lists.specs.Base.{filter, is_empty}
 use Rattle.lists.specs.Map.{Map, Entry, entry}
 use Rattle.rows.specs.Part.{part}
 use Rattle.rows.specs.Digits.{leNat, beNat}

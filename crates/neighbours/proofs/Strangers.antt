@@ -6,7 +6,8 @@ use mathlib.Core.List.{List, [], ◌∷◌, map}
 use Prim.Native.Nat.{ℕ}
 use borrow.Author.Tests.{eqb-true, not-true}
 use lib.Dec.{eqb}
-use Rattle.lists.specs.Base.{if◌then◌else◌, is_empty, all, once, ascending}
+use Rattle.std.specs.Prelude.{if◌then◌else◌}
+use Rattle.lists.specs.Base.{is_empty, all, once, ascending}
 use Rattle.lists.specs.Map.{Map, Entry, entry, keys, remove}
 use Rattle.lists.proofs.MapLaws.{cases, true≢, and_left, and_right, all_head, all_tail}
 use Rattle.lists.proofs.ListLaws.{all-imp, all_map, filter-all}

@@ -9,7 +9,7 @@ use native.Mathlib.Omega.{arith}
 use borrow.Author.Tests.{leb-true}
 use lib.Dec.{leb}
 use lib.ListN.{length, length-append}
-use Rattle.lists.specs.Base.{if◌then◌else◌}
+use Rattle.std.specs.Prelude.{if◌then◌else◌}
 use Rattle.lists.proofs.MapLaws.{and_left, and_right}
 use Rattle.time_cache.specs.TimeCache.{Cache, get, holds}
 use Rattle.protocol.specs.Links.{Links, isNeighbour}

@@ -10,7 +10,8 @@ use native.Mathlib.Omega.{arith}
 use borrow.Author.Tests.{eq-eqb, ne_eqb}
 use lib.Dec.{leb, eqb}
 use lib.ListN.{length, get_or, length-map}
-use Rattle.lists.specs.Base.{if◌then◌else◌, ascending, concatMap}
+use Rattle.std.specs.Prelude.{if◌then◌else◌}
+use Rattle.lists.specs.Base.{ascending, concatMap}
 use Rattle.lists.specs.Map.{keys}
 use Rattle.lists.proofs.Branches.{if-on, if-both, if-same}
 use Rattle.rows.specs.Sorted.{Here}

@@ -1,8 +1,7 @@
 -- Which announcer the tree is optimised by, for which sender, and what follows.
 -- Assumes nothing.
-use Rattle.std.specs.Prelude.{ℕ, suc, ◌<◌, ◌≡◌, Bool, true, false, not, ◌&&◌, List, [], ◌∷◌, eqb}
+use Rattle.std.specs.Prelude.{ℕ, suc, ◌<◌, ◌≡◌, Bool, true, false, not, ◌&&◌, List, [], ◌∷◌, eqb, if◌then◌else◌}
 use Rattle.std.proofs.Math.Option.{Option, none, some}
-use Rattle.lists.specs.Base.{if◌then◌else◌}
 use Rattle.rows.specs.Sorted.{Here}
 use Rattle.postcard.specs.Message.{Prune, Graft, Action, Sent}
 use Rattle.protocol.specs.Links.{Links, isNeighbour, eagerIn, addEager}

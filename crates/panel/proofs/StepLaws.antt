@@ -8,7 +8,7 @@ use native.Mathlib.Omega.{arith}
 use borrow.Author.Tests.{ltb-false}
 use lib.ListN.{length, take, drop}
 use Rattle.lists.proofs.MapLaws.{true≢}
-use Rattle.lists.specs.Base.{if◌then◌else◌}
+use Rattle.std.specs.Prelude.{if◌then◌else◌}
 use Rattle.rows.specs.Part.{part}
 use Rattle.rows.proofs.Parts.{length_part, put-nil, drop-part}
 use Rattle.postcard.specs.Output.{Wrote}

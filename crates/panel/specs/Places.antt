@@ -1,7 +1,6 @@
 -- The unread bytes in the buffer, and a step of the program.
 -- Assumes nothing.
-use Rattle.std.specs.Prelude.{ℕ, ◌+◌, ◌-◌, ◌≤◌, ◌≡◌, true, false, List, [], ◌++◌, ltb, length}
-use Rattle.lists.specs.Base.{if◌then◌else◌}
+use Rattle.std.specs.Prelude.{ℕ, ◌+◌, ◌-◌, ◌≤◌, ◌≡◌, true, false, List, [], ◌++◌, ltb, length, if◌then◌else◌}
 use Rattle.rows.specs.Part.{part}
 use Rattle.postcard.specs.Output.{Wrote}
 use Rattle.records.specs.Reading.{Cut, Bad}

@@ -6,7 +6,8 @@ use mathlib.Core.List.{List, [], ◌∷◌}
 use mathlib.Core.Option.{Option, none, some}
 use lib.Dec.{eqb}
 use borrow.Author.Tests.{not-true}
-use Rattle.lists.specs.Base.{if◌then◌else◌, is_empty, all, any, filter, ascending, member}
+use Rattle.std.specs.Prelude.{if◌then◌else◌}
+use Rattle.lists.specs.Base.{is_empty, all, any, filter, ascending, member}
 use Rattle.lists.specs.Map.{Map, keys}
 use Rattle.time_cache.specs.TimeCache.{Cache, get, holds, replace, expireUntil, laterCache, Timely}
 use Rattle.protocol.specs.Links.{eager, lazy, Links, isNeighbour, lazyPeers, isLazy, addEager, addLazy}

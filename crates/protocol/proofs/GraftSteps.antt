@@ -8,7 +8,8 @@ use mathlib.Core.Logic.{◌⊎◌, inl, inr}
 use native.Mathlib.Omega.{arith}
 use lib.Dec.{ltb, eqb}
 use borrow.Author.Tests.{eqb-true, ne_eqb, ltb-true}
-use Rattle.lists.specs.Base.{if◌then◌else◌, is_some, is_empty, any, all, filter, member, ascending}
+use Rattle.std.specs.Prelude.{if◌then◌else◌}
+use Rattle.lists.specs.Base.{is_some, is_empty, any, all, filter, member, ascending}
 use Rattle.lists.specs.Map.{Map, keys, lookup, has, insert, remove}
 use Rattle.time_cache.specs.TimeCache.{Cache, Timed, Expiry, value_of, get, holds, put, withValue, replace, expiresAt, pop, popAll, due, expireUntil}
 use Rattle.postcard.specs.Message.{Ihave, Graft, SendGraft, Action, Sent, Scheduled}

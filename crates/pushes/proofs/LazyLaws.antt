@@ -11,7 +11,8 @@ use lib.Dec.{eqb}
 use lib.ListN.{length, take, drop, get_or, length-append, get_or-map}
 use lib.Seq.{take-suc, take_all}
 use lib.ListN.{take-append-drop}
-use Rattle.lists.specs.Base.{if◌then◌else◌, filter}
+use Rattle.std.specs.Prelude.{if◌then◌else◌}
+use Rattle.lists.specs.Base.{filter}
 use Rattle.lists.specs.Map.{Entry, entry}
 use Rattle.lists.proofs.ListLaws.{filter-append}
 use Rattle.protocol.specs.Links.{Mark, eager, lazy, Links, isEager, isLazy, peersMarked, lazyPeers}

@@ -1,8 +1,8 @@
 -- Link numbers of one byte, with rows beside them: after a link came in at i, those from i on are one higher; after link i went, i is dropped and those above it
 -- are one lower.
 -- Assumes nothing.
-use Rattle.std.specs.Prelude.{Bool, not, List, [], ◌∷◌, map, ℕ, ◌-◌, ltb, eqb, take, drop}
-use Rattle.lists.specs.Base.{if◌then◌else◌, filter}
+use Rattle.std.specs.Prelude.{Bool, not, List, [], ◌∷◌, map, ℕ, ◌-◌, ltb, eqb, take, drop, if◌then◌else◌}
+use Rattle.lists.specs.Base.{filter}
 use Rattle.rows.specs.Part.{part, put}
 use Rattle.rows.specs.Rows.{rows}
 use Rattle.refs.specs.Refs.{Ref, ref, shifted}

@@ -25,7 +25,7 @@ use Rattle.protocol.specs.Control as Control
 use Rattle.protocol.specs.Handle as Handle
 use Rattle.protocol.specs.Calls as Calls
 use Rattle.protocol.specs.Alike as Alike
-use Rattle.lists.specs.Base.{if◌then◌else◌}
+use Rattle.std.specs.Prelude.{if◌then◌else◌}
 use Rattle.lists.specs.Map.{entry}
 use Rattle.postcard.specs.Number.{bigEndian}
 use Rattle.protocol.specs.Links.{eager, lazy}

@@ -7,7 +7,8 @@ use Prim.Native.Nat.{ℕ, ◌+◌, ◌*◌, ◌^◌, ◌≤◌, ◌<◌}
 use native.Mathlib.Omega.{arith}
 use borrow.Author.Tests.{leb-true}
 use lib.ListN.{length, drop, get_or, length-map}
-use Rattle.lists.specs.Base.{if◌then◌else◌, is_empty, all, ascending}
+use Rattle.std.specs.Prelude.{if◌then◌else◌}
+use Rattle.lists.specs.Base.{is_empty, all, ascending}
 use Rattle.lists.specs.Map.{Entry, entry, keys, insert, remove, removeKey}
 use Rattle.lists.proofs.MapLaws.{true≢, and_left, and_right, ascending-insert}
 use Rattle.lists.proofs.Places.{all-at}

@@ -11,7 +11,8 @@ use native.Mathlib.Omega.{arith}
 use borrow.Author.Tests.{ne_eqb}
 use lib.Dec.{leb, ltb}
 use lib.ListN.{length, drop, get_or}
-use Rattle.lists.specs.Base.{if◌then◌else◌, is_some, is_empty, member, concatMap}
+use Rattle.std.specs.Prelude.{if◌then◌else◌}
+use Rattle.lists.specs.Base.{is_some, is_empty, member, concatMap}
 use Rattle.lists.specs.Map.{Map, Entry, keys, lookup}
 use Rattle.lists.proofs.Branches.{if-on, if-same}
 use Rattle.lists.proofs.ListLaws.{length-filter, count-length}

@@ -1,7 +1,7 @@
 -- What SendGraft does where the message is not received.
 -- Assumes nothing.
-use Rattle.std.specs.Prelude.{ℕ, ◌-◌, length, drop}
-use Rattle.lists.specs.Base.{if◌then◌else◌, is_empty}
+use Rattle.std.specs.Prelude.{ℕ, ◌-◌, length, drop, if◌then◌else◌}
+use Rattle.lists.specs.Base.{is_empty}
 use Rattle.protocol.specs.State.{State}
 use Rattle.protocol.specs.Gossips.{announcers}
 use Rattle.block.specs.MissingSteps.{hopsAt}

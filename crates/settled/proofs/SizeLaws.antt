@@ -9,7 +9,8 @@ use native.Mathlib.Omega.{arith}
 use borrow.Author.Tests.{not-true, not-false}
 use lib.Dec.{leb, ltb}
 use lib.ListN.{length, get_or, take}
-use Rattle.lists.specs.Base.{if◌then◌else◌, sum}
+use Rattle.std.specs.Prelude.{if◌then◌else◌}
+use Rattle.lists.specs.Base.{sum}
 use Rattle.lists.specs.Map.{Map}
 use Rattle.rows.proofs.Parts.{length_part}
 use Rattle.time_cache.specs.TimeCache.{Timed, laterCache}

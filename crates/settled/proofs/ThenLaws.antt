@@ -8,7 +8,7 @@ use mathlib.Core.Option.{none, some}
 use native.Mathlib.Omega.{arith}
 use lib.Dec.{ltb, lit<}
 use lib.ListN.{length, get_or, length-map}
-use Rattle.lists.specs.Base.{if◌then◌else◌}
+use Rattle.std.specs.Prelude.{if◌then◌else◌}
 use Rattle.lists.specs.Map.{Map, Entry, entry, lookup}
 use Rattle.lists.proofs.MapLaws.{cases}
 use Rattle.lists.proofs.Branches.{if-on, if-both}

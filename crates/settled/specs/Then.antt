@@ -1,8 +1,7 @@
 -- What is read of an entry that a first event's eviction may remove.
 -- Assumes nothing.
-use Rattle.std.specs.Prelude.{ℕ, Bool, [], ltb, length}
+use Rattle.std.specs.Prelude.{ℕ, Bool, [], ltb, length, if◌then◌else◌}
 use Rattle.std.proofs.Math.Option.{none}
-use Rattle.lists.specs.Base.{if◌then◌else◌}
 use Rattle.lists.specs.Map.{Entry, entry}
 use Rattle.time_cache.specs.TimeCache.{Timed, Cache, laterCache}
 use Rattle.time_cache.specs.Tables.{Held, held}

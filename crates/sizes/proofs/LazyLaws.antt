@@ -9,7 +9,8 @@ use native.Mathlib.Omega.{arith}
 use borrow.Author.Tests.{eq-eqb, ne_eqb}
 use lib.Dec.{eqb}
 use lib.ListN.{length, take, get_or-map}
-use Rattle.lists.specs.Base.{if◌then◌else◌, filter, sum}
+use Rattle.std.specs.Prelude.{if◌then◌else◌}
+use Rattle.lists.specs.Base.{filter, sum}
 use Rattle.lists.specs.Map.{Entry, entry}
 use Rattle.protocol.specs.Links.{Mark, eager, lazy, Links, isEager, isLazy, peersMarked, lazyPeers}
 use Rattle.block.specs.View.{state_of}

@@ -10,7 +10,8 @@ use borrow.Author.Tests.{le-leb, eqb-true, eqb-false}
 use lib.Dec.{eqb}
 use lib.ListN.{length, get_or, take, replicate, length-replicate, get_or-replicate, set, length-map, get_or-map}
 use lib.Seq.{take-suc, take-length, length-take-le, get_or-take, drop-length, set-get_or}
-use Rattle.lists.specs.Base.{if◌then◌else◌, concatMap}
+use Rattle.std.specs.Prelude.{if◌then◌else◌}
+use Rattle.lists.specs.Base.{concatMap}
 use Rattle.lists.specs.Map.{Entry, entry}
 use Rattle.lists.proofs.MapLaws.{cases, true≢, and_intro}
 use Rattle.lists.proofs.Places.{at_all, once-of}

@@ -1,9 +1,9 @@
 -- Request d, the second lent area, byte by byte: what it keeps, question 17, and what a saving and a return answer.
 -- In front stand 256 bytes: a row of 26 for each state kept (name 8, payload 8, control 8, hops 2), zeros, and in the last byte how many are kept. The blocks follow, then zeros.
 -- Assumes nothing.
-use Rattle.std.specs.Prelude.{ℕ, zero, suc, ◌+◌, ◌*◌, ◌^◌, ◌≤◌, ◌<◌, ◌≡◌, Bool, true, not, ◌&&◌, List, [], ◌∷◌, ◌++◌, leb, eqb, length, get_or, replicate}
+use Rattle.std.specs.Prelude.{ℕ, zero, suc, ◌+◌, ◌*◌, ◌^◌, ◌≤◌, ◌<◌, ◌≡◌, Bool, true, not, ◌&&◌, List, [], ◌∷◌, ◌++◌, leb, eqb, length, get_or, replicate, if◌then◌else◌}
 use Rattle.std.proofs.Math.Option.{Option, none, some}
-use Rattle.lists.specs.Base.{if◌then◌else◌, Exactly, all, once, concatMap}
+use Rattle.lists.specs.Base.{Exactly, all, once, concatMap}
 use Rattle.lists.specs.Map.{Entry, entry, keys, lookup, has}
 use Rattle.rows.specs.Part.{part, put}
 use Rattle.rows.specs.Digits.{leNat, le_bytes}

@@ -1,7 +1,6 @@
 -- Request d: what an area keeps, "Up to four states .. under eight-byte names", in the order in which the names were first saved.
 -- Assumes nothing.
-use Rattle.std.specs.Prelude.{List, [], ◌∷◌, eqb, ℕ}
-use Rattle.lists.specs.Base.{if◌then◌else◌}
+use Rattle.std.specs.Prelude.{List, [], ◌∷◌, eqb, ℕ, if◌then◌else◌}
 use Rattle.lists.specs.Map.{Entry}
 use Rattle.protocol.specs.State.{Counts}
 

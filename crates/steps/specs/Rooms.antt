@@ -1,8 +1,8 @@
 -- The link room of a call as an array of 34 numbers: the room of each link, by its number, from 0 on; at 32 the room of the event's peer, which is the number at 33, where it has no link. 65,536 and more is no bound.
 -- Assumes nothing.
-use Rattle.std.specs.Prelude.{ℕ, List, [], ◌∷◌, ◌++◌, ltb, get_or}
+use Rattle.std.specs.Prelude.{ℕ, List, [], ◌∷◌, ◌++◌, ltb, get_or, if◌then◌else◌}
 use Rattle.std.proofs.Math.Option.{Option, none, some}
-use Rattle.lists.specs.Base.{if◌then◌else◌, member}
+use Rattle.lists.specs.Base.{member}
 use Rattle.lists.specs.Map.{keys}
 use Rattle.protocol.specs.State.{State}
 use Rattle.protocol.specs.Run.{Room}

@@ -4,7 +4,8 @@ use mathlib.Core.Path.{◌≡◌, refl, ap, ◌∙◌}
 use mathlib.Core.Bool.{Bool, true, false, not, ◌&&◌}
 use mathlib.Core.List.{List, [], ◌∷◌}
 use Prim.Native.Nat.{ℕ}
-use Rattle.lists.specs.Base.{if◌then◌else◌, concatMap}
+use Rattle.std.specs.Prelude.{if◌then◌else◌}
+use Rattle.lists.specs.Base.{concatMap}
 use Rattle.lists.proofs.Branches.{if-on, if-same}
 use Rattle.postcard.specs.Message.{Scheduled, DispatchLazyPush, EvictCache, AnnounceDropped, actionBytes}
 use Rattle.protocol.specs.State.{State}

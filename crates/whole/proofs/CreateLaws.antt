@@ -9,7 +9,8 @@ use native.Mathlib.Omega.{arith}
 use borrow.Author.Tests.{le-leb, lt-leb, leb-true, leb-false}
 use lib.Dec.{leb, leb-zero, lit<}
 use lib.ListN.{length, drop}
-use Rattle.lists.specs.Base.{if◌then◌else◌, all, sum}
+use Rattle.std.specs.Prelude.{if◌then◌else◌}
+use Rattle.lists.specs.Base.{all, sum}
 use Rattle.lists.proofs.MapLaws.{cases, and_intro}
 use Rattle.rows.specs.Part.{put}
 use Rattle.rows.specs.Rows.{rows}

@@ -10,7 +10,8 @@ use borrow.Author.Tests.{leb-true, le-leb, eqb-true, eq-eqb, ne_eqb}
 use lib.Dec.{leb, eqb, lit<}
 use lib.ListN.{length, take, drop, length-map}
 use lib.Seq.{take-take}
-use Rattle.lists.specs.Base.{if◌then◌else◌, is_empty, all, ascending}
+use Rattle.std.specs.Prelude.{if◌then◌else◌}
+use Rattle.lists.specs.Base.{is_empty, all, ascending}
 use Rattle.lists.specs.Map.{keys}
 use Rattle.lists.proofs.MapLaws.{cases, true≢, and_left, and_right, and_intro}
 use Rattle.rows.specs.Part.{part}

@@ -1,8 +1,8 @@
 -- What a block holds: the state that its bytes stand for, or nothing where they stand for none. Question 5 of document 01 is asked of that state.
 -- Assumes nothing.
-use Rattle.std.specs.Prelude.{ℕ, ◌+◌, ◌*◌, Bool, false, ◌&&◌, List, [], ◌∷◌, leb, ltb, eqb, length, take, drop, get_or}
+use Rattle.std.specs.Prelude.{ℕ, ◌+◌, ◌*◌, Bool, false, ◌&&◌, List, [], ◌∷◌, leb, ltb, eqb, length, take, drop, get_or, if◌then◌else◌}
 use Rattle.std.proofs.Math.Option.{Option, none, some}
-use Rattle.lists.specs.Base.{if◌then◌else◌, all}
+use Rattle.lists.specs.Base.{all}
 use Rattle.rows.specs.Rows.{rows}
 use Rattle.refs.specs.Refs.{refs, places}
 use Rattle.protocol.specs.State.{State, Limits, limitsInRange, blockNeed}

@@ -3,7 +3,7 @@ use mathlib.Core.Path.{◌≡◌, sym, ap, ◌∙◌}
 use mathlib.Core.Bool.{Bool, true}
 use Prim.Native.Nat.{ℕ}
 use Rattle.rows.specs.Ident.{id_of}
-use Rattle.lists.specs.Base.{if◌then◌else◌}
+use Rattle.std.specs.Prelude.{if◌then◌else◌}
 use Rattle.postcard.specs.Events.{ihavesFrom}
 use Rattle.block.specs.View.{state_of}
 use Rattle.ihaves.proofs.NewLaws.{missing-received, missing-before, missing-else, timer-received, timer-before, timer-else}

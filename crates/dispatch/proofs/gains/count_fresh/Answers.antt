@@ -10,7 +10,8 @@ use mathlib.Core.Path.{◌≡◌, refl, sym, ap, ◌∙◌, subst}
 use lib.ListN.{length, drop, get_or, set, length-append}
 use lib.Seq.{drop-nil}
 use Rattle.rows.specs.Ident.{id_of}
-use Rattle.lists.specs.Base.{if◌then◌else◌, any}
+use Rattle.std.specs.Prelude.{if◌then◌else◌}
+use Rattle.lists.specs.Base.{any}
 use Rattle.postcard.specs.Message.{Ihave}
 use Rattle.protocol.specs.Push.{notes}
 use Rattle.decide.specs.RecordGrowth.{cachedIn, eligible}

@@ -1,7 +1,7 @@
 -- `gains::one_if` meets its contract.
 use mathlib.Core.Bool.{Bool}
 use mathlib.Core.Path.{sym, ap}
-use Rattle.lists.specs.Base.{if◌then◌else◌}
+use Rattle.std.specs.Prelude.{if◌then◌else◌}
 use Rattle.dispatch.proofs.gains.one_if.Goals as goal
 
 pub returns-then-yes : goal.returns-then-yes

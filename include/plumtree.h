@@ -1,7 +1,7 @@
 /*
  * plumtree.h: the state machine of the kiln panel broadcast, for C and C++.
  *
- * Link libplumtree.a (`rt staticlib plumtree` writes target/staticlib/libplumtree.a, for x86-64 Linux). It needs memcpy, memmove and
+ * Link libplumtree.a (`tools/staticlib.sh plumtree` writes target/staticlib/libplumtree.a, for x86-64 Linux). It needs memcpy, memmove and
  * memset of the C library and nothing else: it has no heap, no thread, no clock, no file, no variable of its own. What a panel knows
  * stands in one block of bytes that its owner lends to each call. examples/c/first_broadcast.c is a program to start from, and
  * examples/c/three_panels.c a host to copy; beside them archive.c shows plumtree_rewrite, commissioning.c plumtree_save and plumtree_return, and

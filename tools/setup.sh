@@ -24,26 +24,52 @@ need_packages() {
 }
 
 # The panel's static library: PLUMTREE_LIB_DIR is afterwards the directory that has it. Without that variable it is target/staticlib, and the
-# library is written there unless it is younger than its proof.
+# library is written there unless it is already that of these sources.
 need_library() {
     if [ -z "${PLUMTREE_LIB_DIR:-}" ]; then
+        tools/staticlib.sh plumtree || die "tools/staticlib.sh plumtree failed"
         PLUMTREE_LIB_DIR=target/staticlib
-        if ! [ "$PLUMTREE_LIB_DIR/libplumtree.a" -nt target/stamp/plumtree ]; then
-            need_rt
-            rt staticlib plumtree >/dev/null || die "rt staticlib plumtree failed"
-        fi
     fi
     [ -e "$PLUMTREE_LIB_DIR/libplumtree.a" ] || die "no libplumtree.a in $PLUMTREE_LIB_DIR"
     PLUMTREE_LIB_DIR=$(cd "$PLUMTREE_LIB_DIR" && pwd)
     export PLUMTREE_LIB_DIR
 }
 
+# The crates of a file like crates.txt, lowest first; with a name, those that it reaches, itself last.
+reached() { # FILE [NAME]
+    awk -v from="${2:-}" '
+        { sub(/#.*/, "") }
+        /:/ { i = index($0, ":"); split($0, words, /[ \t:]+/); order[++all] = words[1]; needs[words[1]] = substr($0, i + 1) }
+        function visit(name,    uses, k, n) {
+            if (!(name in needs) || name in seen) return
+            seen[name] = 1
+            n = split(needs[name], uses, " ")
+            for (k = 1; k <= n; k++) visit(uses[k])
+            print name
+        }
+        END { if (from != "") visit(from); else for (i = 1; i <= all; i++) visit(order[i]) }' "$1"
+}
+
+# The crates that a test needs. One that PORTING-LEFT.md names may be out of the tree: a test that needs it is left out.
+need_crates() {
+    local c missing=
+    for c in "$@"; do
+        if [ -z "$(reached crates.txt "$c")" ]; then
+            grep -qsw -- "$c" PORTING-LEFT.md || die "there is no crate $c, and PORTING-LEFT.md does not name it"
+            missing="$missing $c"
+        fi
+    done
+    [ -n "$missing" ] || return 0
+    echo "left out: not here yet (PORTING-LEFT.md):$missing"
+    return 1
+}
+
 # A crate folder that crates.txt does not list is an error.
 every_crate_listed() {
     local d n
-    for d in crates/*/; do
-        n=$(basename "$d")
-        grep -q "^$n:" crates.txt || die "crates/$n is not listed in crates.txt"
+    for d in crates/*/src; do
+        n=$(basename "$(dirname "$d")")
+        [ -n "$(reached crates.txt "$n")" ] || die "crates/$n is not listed in crates.txt"
     done
 }
 

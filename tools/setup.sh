@@ -24,9 +24,10 @@ need_packages() {
 }
 
 # The panel's static library: PLUMTREE_LIB_DIR is afterwards the directory that has it. Without that variable it is target/staticlib, and the
-# library is written there unless it is already that of these sources.
+# library is written there unless it is already that of these sources. Where its crate is out of the tree there is none.
 need_library() {
     if [ -z "${PLUMTREE_LIB_DIR:-}" ]; then
+        need_crates plumtree || return 1
         tools/staticlib.sh plumtree || die "tools/staticlib.sh plumtree failed"
         PLUMTREE_LIB_DIR=target/staticlib
     fi

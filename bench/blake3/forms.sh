@@ -2,7 +2,7 @@
 # Times of the identifier in several forms, which take turns:
 #     bench/blake3/forms.sh [SECONDS for each size]       # its code as it stands, and with the changes of forms/, all of crates/blake3/src
 #     bench/blake3/forms.sh SECONDS COMMIT ..             # and that code as it was at each commit
-#     bench/blake3/forms.sh SECONDS NAME=ARCHIVE ..       # these archives alone, as `rt staticlib blake3_c` writes them
+#     bench/blake3/forms.sh SECONDS NAME=ARCHIVE ..       # these archives alone, as `tools/staticlib.sh blake3_c` writes them
 # The first two are built without proofs, for the measurement alone. Needs rustc, patch and cc.
 set -eu
 here=$(cd "$(dirname "$0")" && pwd)

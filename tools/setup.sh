@@ -82,3 +82,8 @@ have_rust() {
     echo "left out: no cargo of 1.82 or later here, so the original Rust is not run beside the library"
     return 1
 }
+
+# For a test that reads the whole of the tree.
+need_all_crates() {
+    [ ! -e PORTING-LEFT.md ] || { echo "left out: some crates are not here yet (PORTING-LEFT.md)"; return 1; }
+}

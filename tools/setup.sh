@@ -51,6 +51,19 @@ reached() { # FILE [NAME]
         END { if (from != "") visit(from); else for (i = 1; i <= all; i++) visit(order[i]) }' "$1"
 }
 
+# What these crates are made of, as a number.
+sources_sum() { # NAME ..
+    local c
+    {
+        rt version
+        cat tools/staticlib.sh
+        for c in "$@"; do
+            grep -E "^$c[ :]" crates.txt
+            find "crates/$c" -path "crates/$c/out" -prune -o \( -name '*.rt' -o -name '*.antt' \) -print | LC_ALL=C sort | xargs -r -d '\n' sha256sum
+        done
+    } | sha256sum
+}
+
 # The crates that a test needs. One that PORTING-LEFT.md names may be out of the tree: a test that needs it is left out.
 need_crates() {
     local c missing=

@@ -1,8 +1,8 @@
 #!/usr/bin/env bash
 # Writes a crate's static library: tools/staticlib.sh NAME. It is target/staticlib/libNAME.a, for x86-64 Linux. It proves what is not proved yet, and does nothing where the
 # library is that of these sources.
-# For rt a crate that others use is none of which it makes an archive. So the archive is made of a copy of the crate and those it reaches, which begins with what was kept of them
-# here; a copy below target/ would be a source that no check reads.
+# rt makes no archive of a crate that others use. So the compiler makes it, which checks the crate once more, over the libraries below: those that `rt lib` makes, or, where
+# the sources are those of the last `rt ci` that ./test ran, the ones of that run.
 set -euo pipefail
 cd "$(dirname "$0")/.."
 . tools/setup.sh
@@ -12,38 +12,33 @@ name=$1
 mapfile -t crates < <(reached crates.txt "$name")
 [ ${#crates[@]} -gt 0 ] || die "crates.txt has no crate $name"
 need_rt
-archive=target/staticlib/lib$name.a
+archive=$PWD/target/staticlib/lib$name.a
+sum=$(sources_sum "${crates[@]}")
+if [ -e "$archive" ] && [ "$(cat "$archive.sum" 2>/dev/null)" = "$sum" ]; then exit; fi
 
-# What the archive is made of.
-made_of() {
-    local c
-    rt version
-    cat tools/staticlib.sh
-    for c in "${crates[@]}"; do
-        grep -E "^$c[ :]" crates.txt
-        find "crates/$c/src" "crates/$c/specs" "crates/$c/proofs" -type f -exec sha256sum {} + 2>/dev/null | sort -k 2 || true
-    done
-}
-sum=$(made_of | sha256sum)
-[ -e "$archive" ] && [ "$(cat "$archive.sum" 2>/dev/null)" = "$sum" ] && exit
+below=("${crates[@]::${#crates[@]}-1}")
+proved=1
+for c in "${below[@]}"; do [ -d "crates/$c/out/rlib/$c.rlib" ] || proved=; done
+[ "$(cat target/log/ci.sum 2>/dev/null)" = "$(sources_sum $(reached crates.txt))" ] || proved=
+cd "crates/$name"
+if [ -z "$proved" ]; then rt lib 2>&1 | building || die "$name is not proved"; fi
 
-copy=$(mktemp -d)
-trap 'rm -rf "$copy"' EXIT
-for c in "${crates[@]}"; do
-    mkdir -p "$copy/crates/$c/out"
-    for part in src specs proofs; do
-        if [ -d "crates/$c/$part" ]; then cp -R "crates/$c/$part" "$copy/crates/$c"; fi
-    done
-    # rt writes no file of a library a second time, so the copy can share them.
-    if [ -d "crates/$c/out/rlib" ]; then cp -Rl "crates/$c/out/rlib" "$copy/crates/$c/out" 2>/dev/null || cp -R "crates/$c/out/rlib" "$copy/crates/$c/out"; fi
+work=$(mktemp -d)
+trap 'rm -rf "$work"' EXIT
+kit=$(dirname "$(rt doc)")
+words=(--crate-name "$name" src/lib.rt --crate-type staticlib --cpu=x86-64 --links "$name=" --jobs 2 -o "$work/lib$name.a")
+words+=(--antt-project "$kit/rattle/logic/antt-project.json" --logic-built "$kit/logic_built" --toolchain "$kit/toolchain")
+words+=(--extern "std=$kit/rlibs/std.rlib" -L "dependency=$kit/rlibs")
+for c in "${below[@]}"; do
+    words+=(-L "dependency=../$c/out/rlib")
+    if grep -qE "^$name( +staticlib)? *:([^#]* )?$c( |\$)" ../../crates.txt; then words+=(--extern "$c=../$c/out/rlib/$c.rlib"); fi
 done
-rm -rf "$copy/crates/$name/out/rlib"
-if [ -d "crates/$name/out/incremental" ]; then cp -R "crates/$name/out/incremental" "$copy/crates/$name/out"; fi
-sed -E "s/^$name( +staticlib)? *:/$name staticlib:/" crates.txt >"$copy/all"
-for c in "${crates[@]}"; do grep -E "^$c[ :]" "$copy/all"; done >"$copy/crates.txt"
-rm "$copy/all"
-
-(cd "$copy/crates/$name" && rt lib --cpu=x86-64) 2>&1 | building || die "$name is not proved"
-mkdir -p target/staticlib
-cp "$copy/crates/$name/out/lib$name.a" "$archive"
+# what was kept of this crate's own proof
+if [ -d out/incremental ]; then
+    cp -R out/incremental "$work"
+    words+=(--incremental "$work/incremental")
+fi
+"$kit/bin/rattle" build "${words[@]}" >"$work/said" 2>&1 || { cat "$work/said"; die "lib$name.a is not built"; }
+mkdir -p "${archive%/*}"
+mv "$work/lib$name.a" "$archive"
 echo "$sum" >"$archive.sum"

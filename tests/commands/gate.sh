@@ -17,13 +17,18 @@ touch "$repo/crates/panelrun/must-fail/one.edit"
 # what it reads. No cargo is found.
 cat >"$work/bin/rt" <<END
 #!/bin/sh
-if [ "\$*" = run ]; then
+case "\$*" in
+run)
     cat "$work/says" >&2
     cat
-else
-    [ "\$*" = ci ] && [ -e crates.txt ] || exit 9
+    ;;
+ci)
+    [ -e crates.txt ] || exit 9
     cat "$work/says"
-fi
+    ;;
+version) exec echo a stand-in ;;
+*) exit 9 ;;
+esac
 exit \$(cat "$work/status")
 END
 printf '#!/bin/sh\nexit 1\n' >"$work/bin/cargo"

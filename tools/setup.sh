@@ -51,6 +51,11 @@ reached() { # FILE [NAME]
         END { if (from != "") visit(from); else for (i = 1; i <= all; i++) visit(order[i]) }' "$1"
 }
 
+# Are the sources those that the last `rt ci` of ./test passed? Then what it built is in crates/NAME/out.
+as_rt_ci_passed() {
+    [ "$(cat target/log/ci.sum 2>/dev/null)" = "$(sources_sum $(reached crates.txt))" ]
+}
+
 # What these crates are made of, as a number.
 sources_sum() { # NAME ..
     local c

@@ -19,7 +19,7 @@ if [ -e "$archive" ] && [ "$(cat "$archive.sum" 2>/dev/null)" = "$sum" ]; then e
 below=("${crates[@]::${#crates[@]}-1}")
 proved=1
 for c in "${below[@]}"; do [ -d "crates/$c/out/rlib/$c.rlib" ] || proved=; done
-[ "$(cat target/log/ci.sum 2>/dev/null)" = "$(sources_sum $(reached crates.txt))" ] || proved=
+as_rt_ci_passed || proved=
 cd "crates/$name"
 if [ -z "$proved" ]; then rt lib 2>&1 | building || die "$name is not proved"; fi
 

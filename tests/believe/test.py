@@ -8,7 +8,7 @@ import believe
 
 # By reading: what must be among them, and what must not (it exists, and serves proofs or functions inside the library).
 IN = """
-lists.Base.if◌then◌else◌ lists.Map.insert rows.Digits.leNat postcard.Number.◌then◌ postcard.Decode.decodeEvent postcard.Sizes.perMessage postcard.Told.Leaves postcard.Rewrite.rewrite postcard.src.units.Round
+lists.Base.is_some lists.Map.insert rows.Digits.leNat postcard.Number.◌then◌ postcard.Decode.decodeEvent postcard.Sizes.perMessage postcard.Told.Leaves postcard.Rewrite.rewrite postcard.src.units.Round
 time_cache.TimeCache.expireUntil blake3.Blake3.compressed protocol.State.create protocol.Whole.wholeState protocol.Gossips.optimizeTree protocol.Answer.answerBlock
 protocol.Demand3.metFull protocol.Alike.sameNotes protocol.Panel.panelrun block.src.head.Config block.Header.headIn block.View.state_of whole.Held.held states.Kept.keep states.Area.areaHolds states.Calls.Saves machine.Called.Finds
 machine.Called.call_of plumtree.Calls.Made plumtree.Calls.entries plumtree.lib.plumtree_alike records.Running.closing panel.Runs.Runs

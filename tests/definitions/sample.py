@@ -424,12 +424,11 @@ def unfoldings():
 
 
 PRELUDE = """-- The Rust's answers to lists of calls, which the definitions give too: outputs, answer numbers, states and counts. Written by tests/definitions/sample.py from calls.txt beside it.
-use Rattle.std.specs.Prelude.{ℕ, ◌≡◌, Bool, true, false, ◌&&◌, List, [], ◌∷◌, map, eqb}
+use Rattle.std.specs.Prelude.{ℕ, ◌≡◌, Bool, true, false, ◌&&◌, if◌then◌else◌, List, [], ◌∷◌, map, eqb}
 use Rattle.std.proofs.Common.{refl}
 use Rattle.std.proofs.Math.Option.{none, some}
 use Rattle.std.proofs.Math.ListN.{replicate}
 %s
-use Rattle.lists.specs.Base.{if◌then◌else◌}
 use Rattle.lists.specs.Map.{entry}
 use Rattle.postcard.specs.Number.{bigEndian}
 use Rattle.protocol.specs.Links.{eager, lazy}

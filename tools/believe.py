@@ -10,10 +10,10 @@ import os, re, signal, sys
 TOP = os.path.dirname(os.path.dirname(os.path.abspath(__file__)))
 CONTRACTS = ("plumtree", "lib")
 STATEMENTS = ["plumtree.Chain.Guarantee", "panel.Runs.WritesPanelrun"]
-KIT = ("Prim.", "mathlib.", "lib.", "borrow.", "std.")
+KIT = "Rattle.std."
 # Words of the logic and of contracts; fields of a lent value; types of the code; and the constructors of the kit's libraries: on the left of a clause any other plain name is a variable.
-WORDS = set("Type Unit tt ⊥ → : = ; , in × _ now ⌜ ⌝".split())
-KIT_FIELDS = {"entry", "exit"}
+WORDS = set("Type Unit tt ⊥ → : = ; , in × _".split())
+KIT_FIELDS = {"now", "old", "new"}
 PRIMITIVE = set("u8 u16 u32 u64 usize bool".split())
 KIT_CONSTRUCTORS = set("true false none some [] ∷ zero suc refl".split())
 HEAD = r"(?:(?:unfoldable|abbrev) )?pub (?:(record|data) )?(\S+)"
@@ -55,7 +55,7 @@ def closing(ts, i):
 
 
 def plain(t):
-    return re.fullmatch(r"[^\W\d][\w′-]*|«\w+»|_", t) is not None
+    return re.fullmatch(r"[^\W\d][\w'-]*|«\w+»|_", t) is not None
 
 
 # The names of a group `(x y : A)`; nothing if it is another group.
@@ -149,7 +149,7 @@ class Names:
         self.world, self.file, self.d = world, file, definition
         self.parts = {}  # of a mixfix name: which name, which of its parts, of how many
         for n in [*file.imports, *file.names]:
-            parts = [p for p in n.split("_") if p] if "_" in n and not n.startswith("«") else []
+            parts = [p for p in n.split("◌") if p] if "◌" in n else []
             for k, p in enumerate(parts):
                 self.parts.setdefault(p, []).append((n, k, len(parts)))
 
@@ -179,6 +179,10 @@ class Names:
     def name(self, t, bound, opened):
         if t in bound or t in WORDS or re.fullmatch(r"\d+|0x[0-9a-f]+", t):
             return
+        first, *fields = t.split(".")
+        if fields and first not in self.file.modules:
+            self.d.projected.update(fields)
+            return self.name(first, bound, opened) if first else None
         n = self.operator(t, opened) if t in self.parts else t
         found = self.resolved(n) if n else None
         if found is None:
@@ -223,8 +227,6 @@ class Names:
             elif t == "let":
                 i += 1
                 bound.add(ts[i])
-            elif t.startswith("."):
-                self.d.projected.add(t[1:])
             elif t != "record":
                 self.name(t, bound, opened)
             i += 1
@@ -236,7 +238,7 @@ class Names:
     # A clause: on its left, beside the name itself, constructors and variables.
     def clause(self, ts, bound):
         k = ts.index("=")
-        own = [p for p in self.d.name.split("_") if p] if "_" in self.d.name else [self.d.name]
+        own = [p for p in self.d.name.split("◌") if p]
         bound = set(bound)
         for t in ts[:k]:
             if self.constructor(t) or t in self.parts and not plain(t) and t not in own:
@@ -294,8 +296,8 @@ class Source(File):
             if line.startswith("ghost use "):
                 self.use(line)
             elif line.startswith("use "):
-                *where, name = line[4:].rstrip(";").split("::")
-                self.uses[name] = where
+                *where, names = re.sub(r"[{} ]", "", line[4:].rstrip(";")).split("::")
+                self.uses.update({name: where for name in names.split(",")})
 
     # From the comment above the line that the pattern finds, to the line before one that `last` finds, or of a type with it.
     def declared(self, pattern, last, kind, name):
@@ -336,7 +338,7 @@ class Source(File):
         signature = code.split(name + "(", 1)[1]
         types = re.findall(r"\w+", re.sub(r"\w+: ", "", signature))
         self.types(world, d, [w for w in types if w not in PRIMITIVE | {"mut"}])
-        Names(world, self, d).walk(tokens(promise.strip().removesuffix("}")), re.findall(r"(\w+): ", signature))
+        Names(world, self, d).walk(tokens(promise.strip().removesuffix("}")), ["result", *re.findall(r"(\w+): ", signature)])
         return d
 
 
@@ -390,11 +392,11 @@ class World:
     def find(self, module, name):
         if module.startswith(KIT):
             return f"{module}.{name}"
-        m = re.fullmatch(r"Rattle·(\w+)(?:·specs)?\.specs\.(declared\.)?(.+)", module)
+        m = re.fullmatch(r"Rattle\.(\w+)\.specs\.(declared\.)?(.+)", module)
         if not m:
             return None
         if m[2]:
-            *where, own = m[3].removesuffix(".the-variants").split(".")
+            *where, own = m[3].removesuffix(".TheVariants").split(".")
             found = self.type_at(m[1], where, own)
             return found if found and name in [own, *found.constructors] else None
         file = self.file(m[1], m[3])

@@ -24,26 +24,71 @@ need_packages() {
 }
 
 # The panel's static library: PLUMTREE_LIB_DIR is afterwards the directory that has it. Without that variable it is target/staticlib, and the
-# library is written there unless it is younger than its proof.
+# library is written there unless it is already that of these sources. Where its crate is out of the tree there is none.
 need_library() {
     if [ -z "${PLUMTREE_LIB_DIR:-}" ]; then
+        need_crates plumtree || return 1
+        tools/staticlib.sh plumtree || die "tools/staticlib.sh plumtree failed"
         PLUMTREE_LIB_DIR=target/staticlib
-        if ! [ "$PLUMTREE_LIB_DIR/libplumtree.a" -nt target/stamp/plumtree ]; then
-            need_rt
-            rt staticlib plumtree >/dev/null || die "rt staticlib plumtree failed"
-        fi
     fi
     [ -e "$PLUMTREE_LIB_DIR/libplumtree.a" ] || die "no libplumtree.a in $PLUMTREE_LIB_DIR"
     PLUMTREE_LIB_DIR=$(cd "$PLUMTREE_LIB_DIR" && pwd)
     export PLUMTREE_LIB_DIR
 }
 
+# The crates of a file like crates.txt, lowest first; with a name, those that it reaches, itself last.
+reached() { # FILE [NAME]
+    awk -v from="${2:-}" '
+        { sub(/#.*/, "") }
+        /:/ { i = index($0, ":"); split($0, words, /[ \t:]+/); order[++all] = words[1]; needs[words[1]] = substr($0, i + 1) }
+        function visit(name,    uses, k, n) {
+            if (!(name in needs) || name in seen) return
+            seen[name] = 1
+            n = split(needs[name], uses, " ")
+            for (k = 1; k <= n; k++) visit(uses[k])
+            print name
+        }
+        END { if (from != "") visit(from); else for (i = 1; i <= all; i++) visit(order[i]) }' "$1"
+}
+
+# Are the sources those that the last `rt ci` of ./test passed? Then what it built is in crates/NAME/out.
+as_rt_ci_passed() {
+    [ "$(cat target/log/ci.sum 2>/dev/null)" = "$(sources_sum $(reached crates.txt))" ]
+}
+
+# What these crates are made of, as a number.
+sources_sum() { # NAME ..
+    local c
+    {
+        rt version
+        cat tools/staticlib.sh
+        for c in "$@"; do
+            grep -E "^$c[ :]" crates.txt
+            find "crates/$c" -path "crates/$c/out" -prune -o \( -name '*.rt' -o -name '*.antt' \) -print | LC_ALL=C sort | xargs -r -d '\n' sha256sum
+        done
+    } | sha256sum
+}
+
+# The crates that a test needs. One that PORTING-LEFT.md names may be out of the tree: a test that needs it is left out.
+need_crates() {
+    local c missing=
+    for c in "$@"; do
+        if [ -z "$(reached crates.txt "$c")" ]; then
+            grep -qsw -- "$c" PORTING-LEFT.md || die "there is no crate $c, and PORTING-LEFT.md does not name it"
+            missing="$missing $c"
+        fi
+    done
+    [ -n "$missing" ] || return 0
+    echo "left out: not here yet (PORTING-LEFT.md):$missing"
+    return 1
+}
+
 # A crate folder that crates.txt does not list is an error.
 every_crate_listed() {
     local d n
-    for d in crates/*/; do
-        n=$(basename "$d")
-        grep -q "^$n:" crates.txt || die "crates/$n is not listed in crates.txt"
+    for d in crates/*/src; do
+        n=$(basename "$(dirname "$d")")
+        [ -n "$(reached crates.txt "$n")" ] || die "crates/$n is not listed in crates.txt"
     done
 }
 
@@ -54,4 +99,9 @@ have_rust() {
     [ -n "$v" ] && [ "$v" -ge 82 ] && return 0
     echo "left out: no cargo of 1.82 or later here, so the original Rust is not run beside the library"
     return 1
+}
+
+# For a test that reads the whole of the tree.
+need_all_crates() {
+    [ ! -e PORTING-LEFT.md ] || { echo "left out: some crates are not here yet (PORTING-LEFT.md)"; return 1; }
 }

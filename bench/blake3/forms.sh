@@ -2,8 +2,9 @@
 # Times of the identifier in several forms, which take turns:
 #     bench/blake3/forms.sh [SECONDS for each size]       # its code as it stands, and with the changes of forms/, all of crates/blake3/src
 #     bench/blake3/forms.sh SECONDS COMMIT ..             # and that code as it was at each commit
-#     bench/blake3/forms.sh SECONDS NAME=ARCHIVE ..       # these archives alone, as `rt staticlib blake3_c` writes them
-# The first two are built without proofs, for the measurement alone. Needs rustc, patch and cc.
+#     bench/blake3/forms.sh SECONDS NAME=ARCHIVE ..       # these archives alone, as `tools/staticlib.sh blake3_c` writes them
+# The first two are built without proofs, for the measurement alone: LLVM is told less there than of a proved crate, so their times compare the forms with each other only.
+# A commit before the code was brought to this kit is not built. Needs rustc, patch and cc.
 set -eu
 here=$(cd "$(dirname "$0")" && pwd)
 root=$(cd "$here/../.." && pwd)
@@ -22,7 +23,7 @@ begin() {
 
 # the library of them
 finish() {
-    bash "$root/tests/mutants/build.sh" "$work/$1" "$work/$1.so" blake3_c
+    CHECKS=no bash "$root/tests/mutants/build.sh" "$work/$1" "$work/$1.so" blake3_c
     libraries="$libraries $1=$work/$1.so"
 }
 

@@ -5,8 +5,7 @@
 set -eu
 cd "$(dirname "$0")/../.."
 . tools/setup.sh
-need_rt
 have_rust || exit 1
-need_library
-LIBRARY=${PLUMTREE_LIB_DIR:-$PWD/target/staticlib} tests/beside/build.sh fair
+need_library || exit 1
+LIBRARY=$PLUMTREE_LIB_DIR tests/beside/build.sh fair
 exec tests/target/fair/beside --bench "$@"

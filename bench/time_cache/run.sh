@@ -3,7 +3,7 @@
 set -eu
 here=$(cd "$(dirname "$0")" && pwd)
 root=$(cd "$here/../.." && pwd)
-(cd "$root" && rt staticlib time_cache_c) >/dev/null 2>&1
+"$root/tools/staticlib.sh" time_cache_c >/dev/null
 lib=$root/target/staticlib/libtime_cache_c.a
 echo "functions left as calls: $(nm "$lib" | grep -ci ' t .*load' || true) loads, $(nm "$lib" | grep -ci ' t .*\(compare\|same\)' || true) comparisons"
 mkdir -p "$root/target/bench"

@@ -27,7 +27,7 @@ fn main() {
     } else {
         println!("cargo:rustc-cfg=plumtree_missing");
         println!(
-            "cargo:rustc-env=PLUMTREE_MISSING=there is no {}: run `rt staticlib plumtree`, or set PLUMTREE_LIB_DIR to the directory of {name}",
+            "cargo:rustc-env=PLUMTREE_MISSING=there is no {}: run `tools/staticlib.sh plumtree`, or set PLUMTREE_LIB_DIR to the directory of {name}",
             library.display()
         );
     }

@@ -2,7 +2,7 @@
  * A first broadcast. Panel 1 is told that its neighbours 2 and 3 are up and broadcasts a reading; the link to 3 has no room. Then its timers
  * fire, and the reading is announced to 3. Each event is printed, and below it the actions that it led to.
  *
- *     rt staticlib plumtree
+ *     tools/staticlib.sh plumtree
  *     cc -Wall -Wextra -pedantic -I include -o first_broadcast examples/c/first_broadcast.c target/staticlib/libplumtree.a
  *     ./first_broadcast
  *

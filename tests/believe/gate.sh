@@ -3,6 +3,7 @@
 set -eu
 cd "$(dirname "$0")/../.."
 . tools/setup.sh
-need_packages python3
 need_rt
+need_crates plumtree panel || exit 0
+need_packages python3
 python3 tests/believe/test.py

@@ -8,13 +8,13 @@ import believe
 
 # By reading: what must be among them, and what must not (it exists, and serves proofs or functions inside the library).
 IN = """
-lists.Base.if_then_else_ lists.Map.insert rows.Digits.leNat postcard.Number._then_ postcard.Decode.decodeEvent postcard.Sizes.perMessage postcard.Told.Leaves postcard.Rewrite.rewrite postcard.src.units.Round
+lists.Base.is_some lists.Map.insert rows.Digits.leNat postcard.Number.◌then◌ postcard.Decode.decodeEvent postcard.Sizes.perMessage postcard.Told.Leaves postcard.Rewrite.rewrite postcard.src.units.Round
 time_cache.TimeCache.expireUntil blake3.Blake3.compressed protocol.State.create protocol.Whole.wholeState protocol.Gossips.optimizeTree protocol.Answer.answerBlock
-protocol.Demand3.metFull protocol.Alike.sameNotes protocol.Panel.panelrun block.src.head.Config block.Header.headIn block.View.stateOf whole.Held.held states.Kept.keep states.Area.areaHolds states.Calls.Saves machine.Called.Finds
-machine.Called.callOf plumtree.Calls.Made plumtree.Calls.entries plumtree.lib.plumtree_alike records.Running.closing panel.Runs.Runs
+protocol.Demand3.metFull protocol.Alike.sameNotes protocol.Panel.panelrun block.src.head.Config block.Header.headIn block.View.state_of whole.Held.held states.Kept.keep states.Area.areaHolds states.Calls.Saves machine.Called.Finds
+machine.Called.call_of plumtree.Calls.Made plumtree.Calls.entries plumtree.lib.plumtree_alike records.Running.closing panel.Runs.Runs
 """
 OUT = """
-rows.Part.Only rows.Sorted.Ascending refs.Once.Numbers postcard.Message.eventBytes postcard.Output.Room postcard.Events.Decodes postcard.Rewrite.ShortestForm rewrite.Answers.numberOf blake3.WordOrder.order
+rows.Part.Only rows.Sorted.Ascending refs.Once.Numbers postcard.Message.eventBytes postcard.Output.Room postcard.Events.Decodes postcard.Rewrite.ShortestForm rewrite.Answers.number_of blake3.WordOrder.order
 protocol.Demand3.Demand3 protocol.AlikeUnordered.sameBag decide.Settled.settled alike.Notes.NextOf block.Goes.Goes block.Sound.Sound states.Area.LeftBy states.Calls.Placed alike_calls.Peerwise.Like histories.History.Step histories.Sheet.SameSeen steps.Stands.Stands kinds.Meaning.peerOf machine.Core.Begun machine.Core.coreRooms
 machine.Decided.decided machine.Outcomes.Asked plumtree.Rooms.Found plumtree.Peers.Sender records.Reading.Whole panel.Places.Inside
 """
@@ -77,7 +77,8 @@ def definitions(world, found, file):
         own = re.fullmatch(r"(.*use (Rattle\S+?)\.\{)(.*)\}", line)
         other = re.fullmatch(r"use Rattle\S+ as (\S+)", line)
         if own:
-            kept = [i for i in own[3].split(", ") if world.find(own[2], i.split(" as ")[0]) in found.values()]
+            kit = own[2].startswith(believe.KIT)
+            kept = [i for i in own[3].split(", ") if kit or world.find(own[2], i.split(" as ")[0]) in found.values()]
             lines += [own[1] + ", ".join(kept) + "}"] if kept else []
         elif other:
             lines += [line] if any(other[1] + "." in l for d in told for l in d.lines) else []
@@ -93,7 +94,7 @@ def definitions(world, found, file):
 def taken_by_the_kit(world, found):
     with tempfile.TemporaryDirectory() as top:
         alone(world, found, top)
-        said = subprocess.run(["rt", "check"], cwd=top, stdout=subprocess.PIPE, stderr=subprocess.STDOUT, text=True)
+        said = subprocess.run(["rt", "all", "check"], cwd=top, stdout=subprocess.PIPE, stderr=subprocess.STDOUT, text=True)
         if said.returncode:
             sys.exit(said.stdout + "the definitions that tools/believe.py tells do not stand alone")
         return said.stdout.splitlines()[-1]

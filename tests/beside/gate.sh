@@ -5,11 +5,11 @@ set -eu
 cd "$(dirname "$0")/../.."
 . tools/setup.sh
 have_rust || exit 0
+need_library || exit 0
 need_packages valgrind
-rt staticlib plumtree >/dev/null
-LIBRARY=$PWD/target/staticlib tests/beside/build.sh
+LIBRARY=$PLUMTREE_LIB_DIR tests/beside/build.sh
 beside=tests/target/release/beside
-$beside --check crates/beside_sample/stdin
+if need_crates beside_sample; then $beside --check crates/beside_sample/stdin; fi
 $beside --brief --seed 7 --calls 160000 --every-path
 $beside --brief --seed "${SEED:-$(date +%s)}" --calls 60000
 

@@ -14,8 +14,7 @@ fi
 if [ "${1:-}" = stored ]; then
     cp "$root/crates/blake3_vectors/stdout" "$work/ours"
 else
-    (cd "$root" && rt check blake3_vectors) >"$work/log" 2>&1 || { cat "$work/log"; echo "blake3: blake3_vectors is not proved"; exit 1; }
-    "$root/target/bin/blake3_vectors" >"$work/ours"
+    (cd "$root/crates/blake3_vectors" && rt run </dev/null) >"$work/ours" 2>"$work/log" || { cat "$work/log"; echo "blake3: blake3_vectors is not proved"; exit 1; }
 fi
 
 # the lengths of BLAKE3's own test vectors, and then 0 to 2,100

@@ -7,7 +7,7 @@ cd "$(dirname "$0")/../.."
 . tools/setup.sh
 need_packages binutils python3
 if [ -z "$archive" ]; then
-    need_library
+    need_library || exit 0
     archive=$PLUMTREE_LIB_DIR/libplumtree.a
 fi
 work=$(mktemp -d)

@@ -1,13 +1,11 @@
 #!/usr/bin/env bash
-# The library called from C: the headers by themselves as C and C++, the examples with what they print, what a host loses readings by, each
-# number's text, each refusal, which panels are alike, and named states beside a model, all under valgrind.
+# The library called from C: the headers by themselves as C and C++, each number's text, the examples with what they print, what a host loses
+# readings by, each refusal, which panels are alike, and named states beside a model, all under valgrind.
 # PLUMTREE_LIB_DIR can name the directory of another libplumtree.a than the proved one.
 set -euo pipefail
 cd "$(dirname "$0")/../.."
 . tools/setup.sh
 need_packages gcc g++ libc6-dev valgrind
-need_library
-lib=$PLUMTREE_LIB_DIR
 out=target/c
 mkdir -p "$out"
 strict="-Wall -Wextra -pedantic -Werror"
@@ -20,6 +18,20 @@ for header in include/plumtree.h examples/c/wire.h; do
     # shellcheck disable=SC2086
     for std in c++11 c++17; do g++ -std=$std $strict -I include -fsyntax-only -x c++ "$header" || die "$header as $std"; done
 done
+
+# docs/LINKING.md shows what the examples print.
+linking=$(cat docs/LINKING.md)
+for printed in examples/c/first_broadcast examples/c/three_panels examples/c/archive examples/c/commissioning examples/c/commissioning_sheet tests/c/host_rules; do
+    case $linking in *"$(sed 's/^/    /; s/ *$//' "$printed.expected")"*) ;; *) die "docs/LINKING.md does not show $printed.expected" ;; esac
+done
+
+# Each number's text, held against the lines that the binding's errors are held against.
+# shellcheck disable=SC2086
+gcc -std=c99 -g $strict -I include -o "$out/numbers" tests/c/numbers.c
+$under_valgrind "$out/numbers" | diff bindings/rust/tests/numbers.txt -
+
+need_library || exit 0
+lib=$PLUMTREE_LIB_DIR
 
 # It needs memcpy, memmove and memset, and has no variable of its own, as the header says.
 needs=$(nm "$lib/libplumtree.a" | sed -n 's/^ *U //p' | sort -u)
@@ -39,17 +51,6 @@ done
 gcc -std=c99 -O2 -g $strict -I include -I examples/c -o "$out/host_rules" tests/c/host_rules.c "$lib/libplumtree.a"
 "$out/host_rules" | diff tests/c/host_rules.expected -
 $under_valgrind "$out/host_rules" 1 >/dev/null
-
-# docs/LINKING.md shows what they print.
-linking=$(cat docs/LINKING.md)
-for printed in examples/c/first_broadcast examples/c/three_panels examples/c/archive examples/c/commissioning examples/c/commissioning_sheet tests/c/host_rules; do
-    case $linking in *"$(sed 's/^/    /; s/ *$//' "$printed.expected")"*) ;; *) die "docs/LINKING.md does not show $printed.expected" ;; esac
-done
-
-# Each number's text, held against the lines that the binding's errors are held against.
-# shellcheck disable=SC2086
-gcc -std=c99 -g $strict -I include -o "$out/numbers" tests/c/numbers.c
-$under_valgrind "$out/numbers" | diff bindings/rust/tests/numbers.txt -
 
 # Each refusal, and where the structs' fields are; as C and as C++.
 for flags in -O0 -O2; do

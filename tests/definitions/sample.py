@@ -22,14 +22,14 @@ OUTPUT = 1000000
 # Of the sections that are not by hand, so many calls and the rest of the section with the last of them.
 DRAWN = 543
 SPECS = {
-    "Rattle·lists.specs.": ["Base", "Map"],
-    "Rattle·postcard.specs.": ["Number", "Message", "Decode"],
-    "Rattle·time_cache.specs.": ["TimeCache"],
-    "Rattle·protocol.specs.": ["State", "Run", "Answer", "Whole", "Links", "Neighbours", "Push", "Gossips", "Ticks",
+    "Rattle.lists.specs.": ["Base", "Map"],
+    "Rattle.postcard.specs.": ["Number", "Message", "Decode"],
+    "Rattle.time_cache.specs.": ["TimeCache"],
+    "Rattle.protocol.specs.": ["State", "Run", "Answer", "Whole", "Links", "Neighbours", "Push", "Gossips", "Ticks",
                                      "Control", "Handle", "Calls", "Alike"],
 }
-CRATE = {"Rattle·lists.specs.": "lists", "Rattle·postcard.specs.": "postcard", "Rattle·time_cache.specs.": "time_cache",
-         "Rattle·protocol.specs.": "protocol"}
+CRATE = {"Rattle.lists.specs.": "lists", "Rattle.postcard.specs.": "postcard", "Rattle.time_cache.specs.": "time_cache",
+         "Rattle.protocol.specs.": "protocol"}
 
 
 # Sections: a panel, and the calls upon it.
@@ -424,23 +424,19 @@ def unfoldings():
 
 
 PRELUDE = """-- The Rust's answers to lists of calls, which the definitions give too: outputs, answer numbers, states and counts. Written by tests/definitions/sample.py from calls.txt beside it.
-use Prim.Native.Nat.{ℕ}
-use mathlib.Core.Path.{_≡_, refl}
-use mathlib.Core.Bool.{Bool, true, false, _&&_}
-use mathlib.Core.List.{List, [], _∷_, map}
-use mathlib.Core.Option.{none, some}
-use lib.Dec.{eqb}
-use lib.ListN.{replicate}
+use Rattle.std.specs.Prelude.{ℕ, ◌≡◌, Bool, true, false, ◌&&◌, if◌then◌else◌, List, [], ◌∷◌, map, eqb}
+use Rattle.std.proofs.Common.{refl}
+use Rattle.std.proofs.Math.Option.{none, some}
+use Rattle.std.proofs.Math.ListN.{replicate}
 %s
-use Rattle·lists.specs.Base.{if_then_else_}
-use Rattle·lists.specs.Map.{entry}
-use Rattle·postcard.specs.Number.{bigEndian}
-use Rattle·protocol.specs.Links.{eager, lazy}
-use Rattle·protocol.specs.State.{State, Settings, Limits, Counts, Hop, Note, fresh}
-use Rattle·protocol.specs.Run.{Room}
-use Rattle·protocol.specs.Answer.{Call, Answer, refuse, accept, outputOf}
-use Rattle·protocol.specs.Calls.{Ran, runCalls}
-use Rattle·protocol.specs.Alike.{sameList, alike}
+use Rattle.lists.specs.Map.{entry}
+use Rattle.postcard.specs.Number.{bigEndian}
+use Rattle.protocol.specs.Links.{eager, lazy}
+use Rattle.protocol.specs.State.{State, Settings, Limits, Counts, Hop, Note, fresh}
+use Rattle.protocol.specs.Run.{Room}
+use Rattle.protocol.specs.Answer.{Call, Answer, refuse, accept, outputOf}
+use Rattle.protocol.specs.Calls.{Ran, runCalls}
+use Rattle.protocol.specs.Alike.{same_list, alike}
 
 -- the bytes of a number, the first highest
 abbrev bytes : ℕ → ℕ → List ℕ
@@ -490,10 +486,10 @@ abbrev sameSaid : Said → Said → Bool
 sameSaid (no m) (no n) = eqb m n
 sameSaid (no m) (yes b) = false
 sameSaid (yes a) (no n) = false
-sameSaid (yes a) (yes b) = sameList eqb a b
+sameSaid (yes a) (yes b) = same_list eqb a b
 
 abbrev sameCounts : Counts → Counts → Bool
-sameCounts a b = eqb (a .payload) (b .payload) && eqb (a .control) (b .control) && eqb (a .hops) (b .hops)
+sameCounts a b = eqb a.payload b.payload && eqb a.control b.control && eqb a.hops b.hops
 
 -- a panel, calls upon it, and what the Rust made of them
 record Section : Type 0 where
@@ -512,11 +508,11 @@ record Named : Type 0 where
 -- the identifier of a content of the sample, as BLAKE3 gives it
 named : List Named → List ℕ → ℕ
 named [] content = 0
-named (n ∷ ns) content = if sameList eqb (n .content) content then n .id else named ns content
+named (n ∷ ns) content = if same_list eqb n.content content then n.id else named ns content
 
 -- answers, state and counts agree
 abbrev compare : Ran → Section → List Bool
-compare r x = sameList sameSaid (map said (r .answers)) (x .answers) ∷ alike (r .state) (x .end) ∷ sameCounts (r .counts) (x .endCounts) ∷ []
+compare r x = same_list sameSaid (map said r.answers) x.answers ∷ alike r.state x.end ∷ sameCounts r.counts x.endCounts ∷ []
 
 """
 
@@ -535,7 +531,7 @@ def module(calls):
     out.append("""
 
 agrees : Section → List Bool
-agrees x = compare (runCalls hash (x .begin) (x .counts) (x .calls)) x
+agrees x = compare (runCalls hash x.begin x.counts x.calls) x
 """)
     # The checker bounds the steps of one theorem.
     groups, calls = [[]], 0

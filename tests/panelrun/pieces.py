@@ -1,8 +1,8 @@
 #!/usr/bin/env python3
 """The program `panelrun` beside the Rust, on inputs in pieces: run by hand.
 
-    rt check panelrun && tests/rust/build.sh
-    tests/panelrun/pieces.py [PROGRAM]      # default: target/bin/panelrun
+    (cd crates/panelrun && rt run <stdin) && tests/rust/build.sh
+    tests/panelrun/pieces.py [PROGRAM]      # default: crates/panelrun/out/panelrun
 
 Each check stops at the first difference. What the program must write is what the Rust writes
 (make.py, `panel`), and it must have written a record's answer before it is given the next record.
@@ -19,7 +19,7 @@ HERE = pathlib.Path(__file__).resolve().parent
 sys.path.insert(0, str(HERE))
 from make import ORACLE, drawn, gen, long_input, panel, record  # noqa: E402
 
-PROGRAM = sys.argv[1] if len(sys.argv) > 1 else str(HERE.parent.parent / "target" / "bin" / "panelrun")
+PROGRAM = sys.argv[1] if len(sys.argv) > 1 else str(HERE.parent.parent / "crates" / "panelrun" / "out" / "panelrun")
 
 
 def fed(data, sizes):

@@ -139,7 +139,7 @@
 //!
 //! # Linking
 //!
-//! `rt staticlib plumtree` writes `target/staticlib/libplumtree.a`, where this crate looks for it; the variable `PLUMTREE_LIB_DIR` names another
+//! `tools/staticlib.sh plumtree` writes `target/staticlib/libplumtree.a`, where this crate looks for it; the variable `PLUMTREE_LIB_DIR` names another
 //! directory. Without it the crate is built and checked, and a program that calls the library is not linked: the linker's message says what is
 //! missing. The archive is for x86-64 Linux.
 #![deny(unsafe_code)]

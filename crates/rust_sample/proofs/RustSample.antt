@@ -1,11 +1,8 @@
 -- The Rust's answers to lists of calls, which the definitions give too: outputs, answer numbers, states and counts. Written by tests/definitions/sample.py from calls.txt beside it.
-use Prim.Native.Nat.{ℕ}
-use mathlib.Core.Path.{◌≡◌, refl}
-use mathlib.Core.Bool.{Bool, true, false, ◌&&◌}
-use mathlib.Core.List.{List, [], ◌∷◌, map}
-use mathlib.Core.Option.{none, some}
-use lib.Dec.{eqb}
-use lib.ListN.{replicate}
+use Rattle.std.specs.Prelude.{ℕ, ◌≡◌, Bool, true, false, ◌&&◌, if◌then◌else◌, List, [], ◌∷◌, map, eqb}
+use Rattle.std.proofs.Common.{refl}
+use Rattle.std.proofs.Math.Option.{none, some}
+use Rattle.std.proofs.Math.ListN.{replicate}
 use Rattle.lists.specs.Base as Base
 use Rattle.lists.specs.Map as Map
 use Rattle.postcard.specs.Number as Number
@@ -25,7 +22,6 @@ use Rattle.protocol.specs.Control as Control
 use Rattle.protocol.specs.Handle as Handle
 use Rattle.protocol.specs.Calls as Calls
 use Rattle.protocol.specs.Alike as Alike
-use Rattle.std.specs.Prelude.{if◌then◌else◌}
 use Rattle.lists.specs.Map.{entry}
 use Rattle.postcard.specs.Number.{bigEndian}
 use Rattle.protocol.specs.Links.{eager, lazy}

@@ -2,3 +2,4 @@ pub mod TurnLaws
 pub mod RunLaws
 pub mod PlaceLaws
 pub mod StepLaws
+pub mod StreamLaws

@@ -21,13 +21,13 @@ part_in : (at j : ℕ) (xs : List ℕ) → part at j xs ≡ drop at (take (at + 
 unfolding part
 part_in at j xs = sym (drop-take at j xs)
 
-same-part : (xs ys : List ℕ) (at end : ℕ) → at ≤ end → take end ys ≡ take end xs → part at (end - at) ys ≡ part at (end - at) xs
+pub same-part : (xs ys : List ℕ) (at end : ℕ) → at ≤ end → take end ys ≡ take end xs → part at (end - at) ys ≡ part at (end - at) xs
 same-part xs ys at end h e =
     let n : at + (end - at) ≡ end = omega arith in
     part_in at (end - at) ys ∙ ap (λ (m : ℕ). drop at (take m ys)) n ∙ ap (drop at) e ∙ ap (λ (m : ℕ). drop at (take m xs)) (sym n) ∙ sym (part_in at (end - at) xs)
 
 -- `more` bytes came
-pub read_more : (p r : Place) (before after : List ℕ) (more : ℕ) → Inside p before → r.at ≡ p.at → r.end ≡ p.end + more → r.stats ≡ p.stats → r.goes_on ≡ ltb 0 more
+unfoldable pub read_more : (p r : Place) (before after : List ℕ) (more : ℕ) → Inside p before → r.at ≡ p.at → r.end ≡ p.end + more → r.stats ≡ p.stats → r.goes_on ≡ ltb 0 more
     → p.end + more ≤ length before → length after ≡ length before → take p.end after ≡ take p.end before → Refilled p before r after
 read_more p r before after more i a e t g f l s =
     let o : p.at ≤ p.end = i.order in
@@ -42,7 +42,7 @@ read_more p r before after more i a e t g f l s =
 
 -- they were moved to the start
 module _ (p q : Place) (before mid : List ℕ) (i : Inside p before) (a : q.at ≡ 0) (e : q.end ≡ p.end - p.at) (m : mid ≡ put 0 (part p.at (p.end - p.at) before) before) where
-  many : length (part p.at (p.end - p.at) before) ≡ p.end - p.at
+  pub many : length (part p.at (p.end - p.at) before) ≡ p.end - p.at
   many = length_part p.at (p.end - p.at) before (omega (arith, i.order, i.inside))
 
   pub moved_inside : Inside q mid
@@ -50,7 +50,7 @@ module _ (p q : Place) (before mid : List ℕ) (i : Inside p before) (a : q.at �
       let l : length mid ≡ length before = rw m (length-put 0 (part p.at (p.end - p.at) before) before (omega (arith, many, i.order, i.inside))) in
       record { long = l ∙ i.long; order = omega arith; inside = omega (arith, i.order, i.inside) }
 
-  pub moved_more : (r : Place) (after : List ℕ) → Refilled q mid r after → q.stats ≡ p.stats → Refilled p before r after
+  unfoldable pub moved_more : (r : Place) (after : List ℕ) → Refilled q mid r after → q.stats ≡ p.stats → Refilled p before r after
   moved_more r after f t =
       let n : q.end - q.at ≡ p.end - p.at = omega arith in
       let u : unreadIn q mid ≡ unreadIn p before = rw (n, a, m) (part-put 0 (p.end - p.at) (part p.at (p.end - p.at) before) before many (omega (arith, i.order, i.inside))) in

@@ -37,7 +37,7 @@ pub same : {r r' : Place} → r'.at ≡ r.at → r'.end ≡ r.end → r'.stats �
 same a e c g = record { at = a; end = e; counts = c; goes = g }
 
 module _ {p : Place} {before : List ℕ} {r : Place} {after : List ℕ} (f : Refilled p before r after) where
-  refilled-as : (r' : Place) → Same r r' → Refilled p before r' after
+  unfoldable pub refilled-as : (r' : Place) → Same r r' → Refilled p before r' after
   refilled-as r' s = record {
     within = record { long = f.within.long; order = omega (arith, f.within.order, s.at, s.end); inside = omega (arith, f.within.inside, s.end) };
     came = f.came;
@@ -47,22 +47,22 @@ module _ {p : Place} {before : List ℕ} {r : Place} {after : List ℕ} (f : Ref
   }
 
   -- no byte came
-  none_came : r.goes_on ≡ false → f.came ≡ []
+  pub none_came : r.goes_on ≡ false → f.came ≡ []
   none_came e = empty f.came (omega (arith, ltb-false 0 (length f.came) (sym f.goes ∙ e)))
     where
       empty : (xs : List ℕ) → length xs ≤ 0 → xs ≡ []
       empty [] h = refl
       empty (x ∷ xs) h = absurd (omega arith)
 
-  unread-same : r.goes_on ≡ false → unreadIn r after ≡ unreadIn p before
+  pub unread-same : r.goes_on ≡ false → unreadIn r after ≡ unreadIn p before
   unread-same e = f.unread ∙ ap (λ (x : List ℕ). unreadIn p before ++ x) (none_came e) ∙ append-nil (unreadIn p before)
 
   -- more came: nothing is to be written
-  pub went_on : (reply : List ℕ) (r' : Place) → r.goes_on ≡ true → Same r r' → r'.reply ≡ 0 → ReadOrClosed p before reply r' after reply
+  unfoldable pub went_on : (reply : List ℕ) (r' : Place) → r.goes_on ≡ true → Same r r' → r'.reply ≡ 0 → ReadOrClosed p before reply r' after reply
   went_on reply r' g s n = record { refilled = refilled-as r' s; wrote = rw (s.goes ∙ g, n) (wrote_none reply) }
 
   -- the input has ended
-  pub closed : (reply reply' : List ℕ) (r' : Place) → r.goes_on ≡ false → Same r r' → Wrote (closing (take (r.end - r.at) (drop r.at after))) reply 0 reply' r'.reply
+  unfoldable pub closed : (reply reply' : List ℕ) (r' : Place) → r.goes_on ≡ false → Same r r' → Wrote (closing (take (r.end - r.at) (drop r.at after))) reply 0 reply' r'.reply
       → ReadOrClosed p before reply r' after reply'
   unfolding part
   closed reply reply' r' g s w = record { refilled = refilled-as r' s; wrote = rw (s.goes ∙ g) (subst (λ (u : List ℕ). Wrote (closing u) reply 0 reply' r'.reply) (unread-same g) w) }
@@ -77,7 +77,7 @@ module _ {before : Memory} {p : Place} {buffer : List ℕ} where
       (record { block = ap (λ (m : Memory). m.block) w.same; output = ap (λ (m : Memory). m.output) w.same })
 
   -- the turn found no record
-  pub step-stopped : {mid : Memory} {reply : List ℕ} {r : Place} → Stops before (take (p.end - p.at) (drop p.at buffer)) mid → Ended p r
+  unfoldable pub step-stopped : {mid : Memory} {reply : List ℕ} {r : Place} → Stops before (take (p.end - p.at) (drop p.at buffer)) mid → Ended p r
       → Wrote endBytes mid.reply 0 reply r.reply → Stepped before p buffer (memory mid.block mid.output reply) r buffer
   unfolding part
   step-stopped {mid} {reply} {r} b e w =
@@ -137,7 +137,7 @@ behind-unread at end used buffer h =
     let n : end - (at + used) ≡ end - at - used = omega arith in
     ap (λ (k : ℕ). part (at + used) k buffer) n ∙ sym (drop-part at used (end - at) buffer h)
 
-step-goes : (before : Memory) (p : Place) (buffer : List ℕ) (after : Memory) (r : Place) (buffer' : List ℕ) → Inside p buffer → (s : Stepped before p buffer after r buffer') → r.goes_on ≡ true
+pub step-goes : (before : Memory) (p : Place) (buffer : List ℕ) (after : Memory) (r : Place) (buffer' : List ℕ) → Inside p buffer → (s : Stepped before p buffer after r buffer') → r.goes_on ≡ true
     → (pieces : List (List ℕ)) (wrote : List ℕ) → Runs after (countsOf r.stats) (unreadIn r buffer') pieces wrote
     → Runs before (countsOf p.stats) (unreadIn p buffer) (piecesRead s ++ pieces) (take r.reply after.reply ++ wrote)
 step-goes before p buffer after r buffer' i (answered used a t b e) g pieces wrote run =
@@ -156,11 +156,11 @@ step-goes before p buffer after r buffer' i (waited c f o) g pieces wrote run =
     (subst (λ (x : Stats). Runs before (countsOf x) (unreadIn r buffer') pieces wrote) f.refilled.counts (subst (λ (x : Memory). Runs x (countsOf r.stats) (unreadIn r buffer') pieces wrote) m run))))
 step-goes before p buffer after r buffer' i (stopped b d e w o) g pieces wrote run = true≢ (sym d.goes ∙ g)
 
-step-stops : (before : Memory) (p : Place) (buffer : List ℕ) (after : Memory) (r : Place) → Bad (unreadIn p buffer) → Wrote endBytes before.reply 0 after.reply r.reply
+pub step-stops : (before : Memory) (p : Place) (buffer : List ℕ) (after : Memory) (r : Place) → Bad (unreadIn p buffer) → Wrote endBytes before.reply 0 after.reply r.reply
     → (pieces : List (List ℕ)) → Runs before (countsOf p.stats) (unreadIn p buffer) pieces (take r.reply after.reply)
 step-stops before p buffer after r b w pieces = rw (wrote-first w) (stops before (countsOf p.stats) (unreadIn p buffer) pieces b)
 
-step-ends : (before : Memory) (p : Place) (buffer : List ℕ) (after : Memory) (r : Place) (buffer' : List ℕ) → Stepped before p buffer after r buffer' → r.goes_on ≡ false
+pub step-ends : (before : Memory) (p : Place) (buffer : List ℕ) (after : Memory) (r : Place) (buffer' : List ℕ) → Stepped before p buffer after r buffer' → r.goes_on ≡ false
     → Runs before (countsOf p.stats) (unreadIn p buffer) [] (take r.reply after.reply)
 step-ends before p buffer after r buffer' (answered used a t b e) g = true≢ (sym g ∙ b.goes)
 step-ends before p buffer after r buffer' (waited c f o) g =
@@ -179,7 +179,7 @@ pub record Sofar (m : Memory) (p : Place) (buffer : List ℕ) : Type 0 where
   pub wrote : List ℕ
   pub on : (more : List (List ℕ)) (rest : List ℕ) → Runs m (countsOf p.stats) (unreadIn p buffer) more rest → Runs start zeroCounts [] (pieces ++ more) (wrote ++ rest)
 
-pub sofar-start : (m : Memory) (p : Place) (buffer : List ℕ) → Holds m.block (fresh panelSettings panelLimits) → countsOf p.stats ≡ zeroCounts → p.at ≡ 0 → p.end ≡ 0 → Sofar m p buffer
+unfoldable pub sofar-start : (m : Memory) (p : Place) (buffer : List ℕ) → Holds m.block (fresh panelSettings panelLimits) → countsOf p.stats ≡ zeroCounts → p.at ≡ 0 → p.end ≡ 0 → Sofar m p buffer
 unfolding part
 sofar-start m p buffer h c a e = record {
   start = m;
@@ -190,7 +190,7 @@ sofar-start m p buffer h c a e = record {
       subst (λ (x : List ℕ). Runs m zeroCounts x more rest) u (subst (λ (x : Counts). Runs m x (unreadIn p buffer) more rest) c r);
 }
 
-pub sofar-more : {before : Memory} {p : Place} {buffer : List ℕ} {after : Memory} {r : Place} {buffer' : List ℕ} → Inside p buffer → (s : Stepped before p buffer after r buffer') → r.goes_on ≡ true
+unfoldable pub sofar-more : {before : Memory} {p : Place} {buffer : List ℕ} {after : Memory} {r : Place} {buffer' : List ℕ} → Inside p buffer → (s : Stepped before p buffer after r buffer') → r.goes_on ≡ true
     → Sofar before p buffer → Sofar after r buffer'
 sofar-more {before} {p} {buffer} {after} {r} {buffer'} i s g f = record {
   start = f.start;

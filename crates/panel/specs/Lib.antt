@@ -1,3 +1,4 @@
 pub mod Turns
 pub mod Runs
 pub mod Places
+pub mod Streams

@@ -1,6 +1,7 @@
 -- `refill`: the unread bytes stay, at the start of the buffer where it was full.
 use mathlib.Core.Path.{refl}
-use Rattle.panel.proofs.PlaceLaws.{moved_inside, moved_more}
+use Rattle.panel.proofs.PlaceLaws.{moved_inside}
+use Rattle.panel.proofs.StreamLaws.{fed-moved}
 use native.Mathlib.Omega.{arith}
 use Rattle.panel.proofs.stream.refill.Goals as goal
 
@@ -21,4 +22,4 @@ read_on-requires-2 g c =
 
 pub returns : goal.returns
 returns g c =
-    moved_more c.args.p _ c.args.buffer.now c.move_down.new.b c.requires.0 refl refl c.move_down.ensures _ _ c.read_on-2.ensures refl
+    fed-moved c.args.p _ c.args.buffer.now c.move_down.new.b c.requires.0 refl refl c.move_down.ensures _ _ _ _ c.read_on-2.ensures refl

@@ -3,11 +3,10 @@ use Prim.Native.Nat.{ℕ, ◌-◌}
 use mathlib.Core.Path.{◌≡◌, refl}
 use mathlib.Core.List.{List}
 use lib.ListN.{length, take, drop}
-use Rattle.rows.specs.Part.{part}
-use Rattle.panel.specs.Places.{Inside, answered}
+use Rattle.panel.specs.Places.{Inside}
 use Rattle.panel.specs.declared.stream.Place.{Place}
 use Rattle.panel.proofs.PlaceLaws.{slice-long}
-use Rattle.panel.proofs.StepLaws.{step-waited, step-stopped}
+use Rattle.panel.proofs.StreamLaws.{fed-answered, fed-waited, fed-stopped}
 use native.Mathlib.Omega.{arith}
 use Rattle.panel.proofs.stream.step.Goals as goal
 
@@ -24,13 +23,12 @@ read_or_close-requires g c =
     (c.requires, omega (arith, c.in-Cut.ensures.cut.few, many c.args.buffer.now c.args.p c.requires))
 
 pub returns-in-Answered : goal.returns-in-Answered
-unfolding part
 returns-in-Answered g c =
-    answered _ _ c.in-Answered.ensures (record { at = refl; end = refl; counts = refl; reply = refl; goes = refl }) refl
+    fed-answered _ c.in-Answered.ensures (record { at = refl; end = refl; counts = refl; reply = refl; goes = refl })
 
 pub returns-in-Cut : goal.returns-in-Cut
-returns-in-Cut g c = step-waited c.in-Cut.ensures c.read_or_close.ensures
+returns-in-Cut g c = fed-waited c.in-Cut.ensures c.read_or_close.ensures
 
 pub returns-in-Bad : goal.returns-in-Bad
 returns-in-Bad g c =
-    step-stopped c.in-Bad.ensures (record { at = refl; end = refl; counts = refl; goes = refl }) c.put_end.ensures
+    fed-stopped _ c.in-Bad.ensures (record { at = refl; end = refl; counts = refl; goes = refl }) c.put_end.ensures

@@ -68,7 +68,7 @@ def sources(copy):
 
 
 def build(copy, so):
-    r = subprocess.run(['bash', os.path.join(here, 'build.sh'), copy, so], env=dict(os.environ, OPT='-O0'), capture_output=True, text=True)
+    r = subprocess.run(['bash', os.path.join(here, 'build.sh'), copy, so], env=dict(os.environ, OPT='-O1', CHECKS='no'), capture_output=True, text=True)
     return r.returncode == 0, r.stderr
 
 

@@ -253,7 +253,7 @@ created-from n p f c l block' counts' answer long m = cases (eqb answer 0) on-ye
     on-no t = let u = made-not c l p.block p.counts block' counts' answer long (eqb-false answer 0 t) m in rw t (same_from n p.list u.0 u.1 f)
 
 -- one step
-step : (n : ℕ) {p p' : Panel} {a a' : Area} → Left n p → Keeps n a → Step p a p' a' → Left n p' × Keeps n a'
+step : (n : ℕ) {p : Panel} {a : Area} {p' : Panel} {a' : Area} → Left n p → Keeps n a → Step p a p' a' → Left n p' × Keeps n a'
 step n f k (creates p a c l block' counts' answer long m) = (created-from n p f c l block' counts' answer long m, k)
 step n f k (calls p a j output after answer long g) = (called-from n p.list p.block p.counts f j output after answer long g, k)
 step n f k (saves p a name area' answer long w s) = (f, saved-keeps n p a f k name area' answer long w s)

@@ -7,7 +7,7 @@ use native.Mathlib.Omega.{arith}
 use lib.Dec.{ltb}
 use lib.ListN.{length, take, drop}
 use Rattle.rows.specs.Part.{part, put}
-use Rattle.rows.proofs.Parts.{length_part, length-put, take_put, part-put, part-add, loan-put, drop-take}
+use Rattle.rows.proofs.Parts.{length_part, length-put, part-put, part-add, drop-take}
 use Rattle.panel.specs.Places.{Inside, unreadIn, Refilled}
 use Rattle.panel.specs.declared.stream.Place.{Place}
 
@@ -55,10 +55,3 @@ module _ (p q : Place) (before mid : List ℕ) (i : Inside p before) (a : q.at �
       let n : q.end - q.at ≡ p.end - p.at = omega arith in
       let u : unreadIn q mid ≡ unreadIn p before = rw (n, a, m) (part-put 0 (p.end - p.at) (part p.at (p.end - p.at) before) before many (omega (arith, i.order, i.inside))) in
       record { within = f.within; came = f.came; unread = f.unread ∙ ap (λ (x : List ℕ). x ++ f.came) u; counts = f.counts ∙ t; goes = f.goes }
-
--- what is lent from `end` on comes back as long as it was: the bytes before stay
-pub behind-long : (xs ys : List ℕ) (end : ℕ) → end ≤ length xs → length ys ≡ length xs - end → length (take end xs ++ (ys ++ drop (length xs - end) (drop end xs))) ≡ length xs
-behind-long xs ys end h l = ap length (loan-put end (length xs - end) ys xs l) ∙ length-put end ys xs (omega arith)
-
-pub behind-same : (xs ys : List ℕ) (end : ℕ) → end ≤ length xs → length ys ≡ length xs - end → take end (take end xs ++ (ys ++ drop (length xs - end) (drop end xs))) ≡ take end xs
-behind-same xs ys end h l = ap (take end) (loan-put end (length xs - end) ys xs l) ∙ take_put end end ys xs (omega arith) h

@@ -20,7 +20,7 @@ use Rattle.records.specs.Running.{endBytes, closing}
 use Rattle.records.proofs.Replies.{wrote-first, wrote_none, closing-few, end-few}
 use Rattle.machine.specs.Called.{countsOf}
 use Rattle.machine.specs.declared.Stats.{Stats}
-use Rattle.panel.specs.Turns.{Holds, Memory, memory, Waits, Stops}
+use Rattle.panel.specs.Turns.{Holds, Memory, memory, Stops}
 use Rattle.panel.specs.Places.{Inside, unreadIn, Refilled, ReadOrClosed, Ended, OnlyReply, Stepped, answered, waited, stopped}
 use Rattle.panel.specs.Runs.{Runs, answers, reads, ends, stops, piecesRead, StepsRun}
 use Rattle.panel.specs.declared.stream.Place.{Place}
@@ -68,14 +68,6 @@ module _ {p : Place} {before : List ℕ} {r : Place} {after : List ℕ} (f : Ref
   closed reply reply' r' g s w = record { refilled = refilled-as r' s; wrote = rw (s.goes ∙ g) (subst (λ (u : List ℕ). Wrote (closing u) reply 0 reply' r'.reply) (unread-same g) w) }
 
 module _ {before : Memory} {p : Place} {buffer : List ℕ} where
-  -- the turn found a record that is cut
-  pub step-waited : {mid : Memory} {reply : List ℕ} {r : Place} {buffer' : List ℕ} → Waits before (take (p.end - p.at) (drop p.at buffer)) mid
-      → ReadOrClosed p buffer mid.reply r buffer' reply → Stepped before p buffer (memory mid.block mid.output reply) r buffer'
-  unfolding part
-  step-waited {mid} {reply} {r} {buffer'} w f =
-      waited w.cut (subst (λ (x : List ℕ). ReadOrClosed p buffer x r buffer' reply) (ap (λ (m : Memory). m.reply) w.same) f)
-      (record { block = ap (λ (m : Memory). m.block) w.same; output = ap (λ (m : Memory). m.output) w.same })
-
   -- the turn found no record
   unfoldable pub step-stopped : {mid : Memory} {reply : List ℕ} {r : Place} → Stops before (take (p.end - p.at) (drop p.at buffer)) mid → Ended p r
       → Wrote endBytes mid.reply 0 reply r.reply → Stepped before p buffer (memory mid.block mid.output reply) r buffer

@@ -30,8 +30,15 @@ def read_list(path):
 
 
 def code_of(text, function):
-    """Where the function's code begins and ends in the file's text; the contract is not the code."""
-    start = re.search(r'\bfn ' + function + r'\b', text)
+    """Where the function's code begins and ends in the file's text; the contract is not the code. A method of an impl is TYPE::NAME."""
+    begin = 0
+    if '::' in function:
+        of, function = function.split('::')
+        impl = re.search(r'^impl\b.* for ' + re.escape(of) + r'(<[^>]*>)? \{$', text, re.M)
+        if not impl:
+            return 0, 0
+        begin = impl.end()
+    start = re.compile(r'\bfn ' + function + r'\b').search(text, begin)
     if not start:
         return 0, 0
     following = re.compile(r'^\s*(pub(\(crate\))? )?(extern "C" )?fn ', re.M).search(text, start.end())

@@ -10,23 +10,24 @@ use Rattle.block.specs.declared.head.Settings.{Settings}
 use Rattle.block.specs.declared.head.Limits.{Limits}
 use Rattle.states.specs.Kept.{keep}
 use Rattle.plumtree.specs.Chain.{Seen}
-use Rattle.histories.specs.History.{begun, further, Panel, Saved, savedAs, listReturned}
+use Rattle.plumtree.specs.CallList.{fresh_list, with_call}
+use Rattle.histories.specs.History.{Panel, Saved, savedAs, listReturned}
 
 module _ (c : Settings) (l : Limits) (block : List ℕ) (counts : Counts) (first second third : Call) (seen : Seen) where
   -- the panel after the first call, as it is saved
   abbrev early : Panel
-  early = record { block = block; counts = counts; list = further first seen (begun c l) }
+  early = record { block = block; counts = counts; list = with_call first seen (fresh_list c l) }
 
   -- and after the second
   abbrev later : Panel
-  later = record { block = block; counts = counts; list = further second seen early.list }
+  later = record { block = block; counts = counts; list = with_call second seen early.list }
 
   abbrev saved : List (Entry Saved)
   saved = keep (savedAs 1 early) []
 
   -- the list after a return to this name with this answer, and the third call
   abbrev since : ℕ → ℕ → List (Entry Saved) → List Call
-  since answer name ss = (further third seen (listReturned answer name ss later.list)).calls
+  since answer name ss = (with_call third seen (listReturned answer name ss later.list)).calls
 
   pub record HistoryExamples : Type 0 where
     -- "the one up to the saving, followed by the calls since the return"

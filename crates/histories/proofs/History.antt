@@ -33,7 +33,8 @@ use Rattle.plumtree.specs.Calls.{Made, countsLeft}
 use Rattle.plumtree.specs.Chain.{Seen, Chain, done, next, Guaranteed}
 use Rattle.plumtree.proofs.CreationLaws.{made}
 use Rattle.plumtree.proofs.Guarantee.{created-holds, guarantee}
-use Rattle.histories.specs.History.{CallList, begun, further, Panel, Saved, Area, keptOf, wasAccepted, savedAs, listSaved, listReturned, Step, creates, calls, saves, returns, History, begins, opens, joins, goes, Histories}
+use Rattle.plumtree.specs.CallList.{CallList, fresh_list, with_call}
+use Rattle.histories.specs.History.{Panel, Saved, Area, keptOf, wasAccepted, savedAs, listSaved, listReturned, Step, creates, calls, saves, returns, History, begins, opens, joins, goes, Histories}
 
 -- block and counts are what this list of calls left, from an accepted creation; the block has n bytes
 record From (n : ℕ) (s : CallList) (block : List ℕ) (counts : Counts) : Type 0 where
@@ -51,7 +52,7 @@ same_from : (n : ℕ) (s : CallList) {block block' : List ℕ} {counts counts' :
 same_from n s {block} {block'} {counts} {counts'} b c f = subst (λ (x : List ℕ). From n s x counts') (sym b) (subst (From n s block) (sym c) f)
 
 -- a fresh panel
-fresh-from : (n : ℕ) (c : Settings) (l : Limits) (before : List ℕ) (old : Counts) (block : List ℕ) (counts : Counts) (long : ℕ) → Made c l before old block counts 0 long → length block ≡ n → From n (begun c l) block counts
+fresh-from : (n : ℕ) (c : Settings) (l : Limits) (before : List ℕ) (old : Counts) (block : List ℕ) (counts : Counts) (long : ℕ) → Made c l before old block counts 0 long → length block ≡ n → From n (fresh_list c l) block counts
 fresh-from n c l before old block counts long m e = record { before = before; old = old; first = block; zeroed = counts; long = long; made = m; chain = done block counts; size = e }
 
 module _ (n : ℕ) (s : CallList) (block : List ℕ) (counts : Counts) (g : From n s block counts) where
@@ -89,7 +90,7 @@ same-long k before after number long f = by (answerBlock identifier (length befo
     by (accepted s c bytes) g = g.blockLong
 
 called-from : (n : ℕ) (s : CallList) (block : List ℕ) (counts : Counts) → From n s block counts → (k : Call) (output : List ℕ) (after : Lent) (number long : ℕ) →
-    Called k (record { block = block; counts = counts; output = output }) after number long → From n (further k (record { number = number; bytes = take long after.output }) s) after.block after.counts
+    Called k (record { block = block; counts = counts; output = output }) after number long → From n (with_call k (record { number = number; bytes = take long after.output }) s) after.block after.counts
 called-from n s block counts g k output after number long f = record {
   before = g.before;
   old = g.old;
@@ -238,11 +239,11 @@ returned-from n p a f k name block' counts' answer long r = cases (eqb answer 0)
 
 -- a creation in the panel's block
 created-from : (n : ℕ) (p : Panel) → From n p.list p.block p.counts → (c : Settings) (l : Limits) (block' : List ℕ) (counts' : Counts) (answer long : ℕ) →
-    Made c l p.block p.counts block' counts' answer long → From n (if wasAccepted answer then begun c l else p.list) block' counts'
+    Made c l p.block p.counts block' counts' answer long → From n (if wasAccepted answer then fresh_list c l else p.list) block' counts'
 created-from n p f c l block' counts' answer long m = cases (eqb answer 0) on-yes on-no
   where
     From' : Type 0
-    From' = From n (if eqb answer 0 then begun c l else p.list) block' counts'
+    From' = From n (if eqb answer 0 then fresh_list c l else p.list) block' counts'
 
     on-yes : eqb answer 0 ≡ true → From'
     on-yes t =
@@ -272,7 +273,7 @@ inv n (opens ps areas h long) =
     (i.0, and _ areas z i.1)
 inv n (joins ps areas h c l before old block counts long m e) =
     let i = inv n h in
-    (and (record { block = block; counts = counts; list = begun c l }) ps (fresh-from n c l before old block counts long m e) i.0, i.1)
+    (and (record { block = block; counts = counts; list = fresh_list c l }) ps (fresh-from n c l before old block counts long m e) i.0, i.1)
 inv n (goes front p behind left a right h p' a' g) =
     let i = inv n h in
     let s = step n (one (Left n) front p behind i.0) (one (Keeps n) left a right i.1) g in

@@ -15,21 +15,7 @@ use Rattle.states.specs.Calls.{Saves, Returns}
 use Rattle.machine.specs.Called.{Lent, Called}
 use Rattle.plumtree.specs.Calls.{Made}
 use Rattle.plumtree.specs.Chain.{Seen, Guaranteed}
-
--- a list of event calls from a creation with these settings and limits, and what was seen of each
-pub record CallList : Type 0 where
-  pub settings : Settings
-  pub limits : Limits
-  pub calls : List Call
-  pub seen : List Seen
-
--- "The list starts from block and counts as an accepted creation left them"
-abbrev pub begun : Settings → Limits → CallList
-begun c l = record { settings = c; limits = l; calls = []; seen = [] }
-
--- one call more, refused or not
-abbrev pub further : Call → Seen → CallList → CallList
-further k v s = record { settings = s.settings; limits = s.limits; calls = s.calls ++ (k ∷ []); seen = s.seen ++ (v ∷ []) }
+use Rattle.plumtree.specs.CallList.{CallList, fresh_list, with_call}
 
 -- a panel at a moment: its block and counts, and the list that the guarantees speak about
 pub record Panel : Type 0 where
@@ -72,10 +58,10 @@ listReturned answer name saved now = if wasAccepted answer then listSaved (looku
 pub data Step : Panel → Area → Panel → Area → Type 0 where
   -- a creation in the panel's block begins a new list
   creates : (p : Panel) (a : Area) (c : Settings) (l : Limits) (block' : List ℕ) (counts' : Counts) (answer long : ℕ) → Made c l p.block p.counts block' counts' answer long →
-      Step p a (record { block = block'; counts = counts'; list = if wasAccepted answer then begun c l else p.list }) a
+      Step p a (record { block = block'; counts = counts'; list = if wasAccepted answer then fresh_list c l else p.list }) a
   -- an event call is one more of the list
   calls : (p : Panel) (a : Area) (k : Call) (output : List ℕ) (after : Lent) (answer long : ℕ) → Called k (record { block = p.block; counts = p.counts; output = output }) after answer long →
-      Step p a (record { block = after.block; counts = after.counts; list = further k (record { number = answer; bytes = take long after.output }) p.list }) a
+      Step p a (record { block = after.block; counts = after.counts; list = with_call k (record { number = answer; bytes = take long after.output }) p.list }) a
   -- a saving leaves the panel, and its list is kept under the name
   saves : (p : Panel) (a : Area) (name : ℕ) (area' : List ℕ) (answer long : ℕ) → InWidth name p.counts → Saves p.block p.counts a.bytes name area' answer long →
       Step p a p (record { bytes = area'; saved = if wasAccepted answer then keep (savedAs name p) a.saved else a.saved })
@@ -89,10 +75,10 @@ pub data History (n : ℕ) : List Panel → List Area → Type 0 where
   begins : History n [] []
   -- an area is lent first as zeros, of any length
   opens : (ps : List Panel) (areas : List Area) → History n ps areas → (long : ℕ) → History n ps (record { bytes = replicate long 0; saved = [] } ∷ areas)
-  -- a further panel is created
+  -- a with_call panel is created
   joins : (ps : List Panel) (areas : List Area) → History n ps areas →
       (c : Settings) (l : Limits) (before : List ℕ) (old : Counts) (block : List ℕ) (counts : Counts) (long : ℕ) → Made c l before old block counts 0 long → length block ≡ n →
-      History n (record { block = block; counts = counts; list = begun c l } ∷ ps) areas
+      History n (record { block = block; counts = counts; list = fresh_list c l } ∷ ps) areas
   -- one of the panels makes a call, with one of the areas where it takes one; "for that list only savings write it"
   goes : (front : List Panel) (p : Panel) (behind : List Panel) (left : List Area) (a : Area) (right : List Area) → History n (front ++ (p ∷ behind)) (left ++ (a ∷ right)) →
       (p' : Panel) (a' : Area) → Step p a p' a' → History n (front ++ (p' ∷ behind)) (left ++ (a' ∷ right))

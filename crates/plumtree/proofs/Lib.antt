@@ -3,3 +3,4 @@ pub mod PeerLaws
 pub mod CallLaws
 pub mod CreationLaws
 pub mod Guarantee
+pub mod ListLaws

@@ -1,19 +1,25 @@
 // Document 01's calls upon a lent block, as C and Rust link them.
 #![tactic(auto)]
 
+pub mod laws;
 mod peers;
 mod rooms;
 
-ghost use Rattle.std.specs.Prelude.{◌≡◌, [], length};
+ghost use Rattle.std.specs.Prelude.{◌≡◌, [], length, take};
 ghost use Rattle.rewrite.specs.RewriteCalls.{Rewrites};
 ghost use Rattle.protocol.specs.Alike.{alikeBlocks};
 ghost use Rattle.block.specs.View.{limitsOf};
 ghost use Rattle.blake3.specs.Blake3.{identifier};
 ghost use Rattle.whole.specs.Held.{held};
 ghost use Rattle.machine.specs.Called.{countsOf, lent, call_of, Called};
+ghost use Rattle.std.proofs.Math.Option.{some};
+ghost use Rattle.lists.specs.Map.{lookup};
+ghost use Rattle.states.specs.Kept.{Kept};
+ghost use Rattle.states.specs.Area.{keptIn};
 ghost use Rattle.states.specs.Calls.{Saves, Returns};
 ghost use Rattle.limit_met.specs.LimitMet.{asking, limitMet};
 ghost use Rattle.plumtree.specs.Calls.{blockSize, Made, entries, toldOf};
+ghost use Rattle.plumtree.specs.CallList.{CallList, fresh_list, with_call, LeadsTo};
 
 use block::head::{Limits, Settings};
 use machine::event::Outcome;
@@ -91,7 +97,8 @@ pub extern "C" fn plumtree_create(
     settings: Settings,
     limits: Limits,
 ) -> Answer
-    ensures { Made settings limits block.old (countsOf counts.old) block.new (countsOf counts.new) result.number result.length }
+    ensures made { Made settings limits block.old (countsOf counts.old) block.new (countsOf counts.new) result.number result.length }
+    ensures begins { result.number ≡ 0 → LeadsTo (fresh_list settings limits) block.new (countsOf counts.new) }
 {
     let c = *counts;
     let made = create_core(block, c, settings, limits);
@@ -129,7 +136,9 @@ pub extern "C" fn plumtree_event(
     rooms: &[LinkRoom],
     output: &mut [u8],
 ) -> Answer
-    ensures { Called (call_of at.0 event.now (entries rooms.now) output.old) (lent block.old counts.old output.old) (lent block.new counts.new output.new) result.number result.length }
+    ensures called { Called (call_of at.0 event.now (entries rooms.now) output.old) (lent block.old counts.old output.old) (lent block.new counts.new output.new) result.number result.length }
+    ensures continues { (h : CallList) → LeadsTo h block.old (countsOf counts.old) →
+        LeadsTo (with_call (call_of at.0 event.now (entries rooms.now) output.old) (record { number = result.number; bytes = take result.length output.new }) h) block.new (countsOf counts.new) }
 {
     let found = rooms::rooms_of(block, event, rooms);
     let c = *counts;
@@ -240,7 +249,8 @@ pub extern "C" fn plumtree_return(
     area: &[u8],
     name: u64,
 ) -> Answer
-    ensures { Returns block.old (countsOf counts.old) area.now name block.new (countsOf counts.new) result.number result.length }
+    ensures returns { Returns block.old (countsOf counts.old) area.now name block.new (countsOf counts.new) result.number result.length }
+    ensures since_saved { result.number ≡ 0 → (h : CallList) → ((k : Kept) → lookup name (keptIn (length block.old) area.now) ≡ some k → LeadsTo h k.block k.counts) → LeadsTo h block.new (countsOf counts.new) }
 {
     let c = *counts;
     let back = return_core(block, c, area, name);

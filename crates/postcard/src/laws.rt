@@ -1,0 +1,13 @@
+// What holds of the definitions, a theorem each. Nothing runs: a contract is proved, and so these are.
+ghost use Rattle.postcard.specs.Spellings.{TakesSpellings};
+ghost use Rattle.postcard.specs.Rewrite.{OneSpelling};
+
+// Each spelling of a message is read as that message, and whatever is read as a message stands there in one of its spellings.
+pub fn reader_takes_the_spellings()
+    ensures { TakesSpellings }
+{}
+
+// Rewriting writes the shortest form, one for each meaning.
+pub fn rewriting_leaves_one_spelling()
+    ensures { OneSpelling }
+{}

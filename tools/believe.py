@@ -366,17 +366,24 @@ class World:
         return found
 
     def modules(self, crate):
-        path = f"{TOP}/crates/{crate}/specs/Lib.antt"
-        return re.findall(r"pub mod (\w+)", open(path).read()) if os.path.exists(path) else []
+        def inside(path, folder):
+            found = []
+            for name in re.findall(r"^pub mod (\w+)", open(path).read(), re.M) if os.path.exists(path) else []:
+                own = f"{TOP}/crates/{crate}/specs/{folder}{name}"
+                found += [f"{folder}{name}".replace("/", ".")] + (inside(f"{own}.antt", f"{folder}{name}/") if os.path.isdir(own) else [])
+            return found
+
+        return inside(f"{TOP}/crates/{crate}/specs/Lib.antt", "")
 
     def file(self, crate, name):
-        path = f"{TOP}/crates/{crate}/specs/{name}.antt"
+        path = f"{TOP}/crates/{crate}/specs/{name.replace('.', '/')}.antt"
         if (crate, name) not in self.files:
             self.files[crate, name] = File(crate, name, path) if os.path.exists(path) else None
         return self.files[crate, name]
 
     def source(self, crate, name):
         path = f"{TOP}/crates/{crate}/src/{name}.rt"
+        path = path if os.path.exists(path) else f"{TOP}/crates/{crate}/src/{name}/mod.rt"
         if (crate, name) not in self.sources:
             self.sources[crate, name] = Source(crate, name, path) if os.path.exists(path) else None
         return self.sources[crate, name]
@@ -411,7 +418,8 @@ def exported(world):
 
 
 def named(world, key):
-    crate, file, name = (key.split(".") + ["", ""])[:3]
+    crate, *file, name = key.split(".")
+    file = ".".join(file)
     found = world.file(crate, file)
     if not found or name not in found.names:
         sys.exit(f"there is no definition {key}")

@@ -2,7 +2,7 @@
 # Times of the identifier in several forms, which take turns:
 #     bench/blake3/forms.sh [SECONDS for each size]       # its code as it stands, and with the changes of forms/, all of crates/blake3/src
 #     bench/blake3/forms.sh SECONDS COMMIT ..             # and that code as it was at each commit
-#     bench/blake3/forms.sh SECONDS NAME=ARCHIVE ..       # these archives alone, as `tools/staticlib.sh blake3_c` writes them
+#     bench/blake3/forms.sh SECONDS NAME=ARCHIVE ..       # these archives alone, as `tools/staticlib.sh exports` writes them
 # The first two are built without proofs, for the measurement alone: LLVM is told less there than of a proved crate, so their times compare the forms with each other only.
 # A commit before the code was brought to this kit is not built. Needs rustc, patch and cc.
 set -eu
@@ -18,12 +18,12 @@ libraries=
 begin() {
     mkdir -p "$work/$1/crates"
     cp "$root/crates.txt" "$work/$1/"
-    cp -r "$root/crates/lists" "$root/crates/rows" "$root/crates/blake3" "$root/crates/blake3_c" "$work/$1/crates/"
+    for c in storage time_cache postcard blake3 exports; do cp -r "$root/crates/$c" "$work/$1/crates/"; done
 }
 
 # the library of them
 finish() {
-    CHECKS=no bash "$root/tests/mutants/build.sh" "$work/$1" "$work/$1.so" blake3_c
+    CHECKS=no bash "$root/tests/mutants/build.sh" "$work/$1" "$work/$1.so" exports
     libraries="$libraries $1=$work/$1.so"
 }
 

@@ -8,7 +8,7 @@ if ! dpkg-query -W -f='${Status}\n' librust-blake3-dev 2>/dev/null | grep -q 'in
     apt-get update >/dev/null
     apt-get install -y --no-install-recommends librust-blake3-dev >/dev/null
 fi
-"$root/tools/staticlib.sh" blake3_c >/dev/null
+"$root/tools/staticlib.sh" exports >/dev/null
 export CARGO_TARGET_DIR="$root/target/bench/blake3"
 export RUSTFLAGS="-L native=$root/target/staticlib -A warnings"
 cd "$here"

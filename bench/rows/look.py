@@ -1,8 +1,8 @@
 #!/usr/bin/env python3
-# Reads `objdump -dr` of libtime_cache_c.a and prints, for each function, what became of the moves of rows and of the loads of words. Fails where
+# Reads `objdump -dr` of libexports.a and prints, for each function, what became of the moves of rows and of the loads of words. Fails where
 # a move is not vector code or a word is put together from bytes.
 #
-# The functions of crates/rows are compiled into their callers, so their names are gone; a move is found as a loop. A loop is a jump back, and it
+# The functions of crates/storage/src/rows are compiled into their callers, so their names are gone; a move is found as a loop. A loop is a jump back, and it
 # is innermost if no other lies in it. An innermost loop that stores whole vector registers is a move of rows: nothing else there stores so many
 # bytes. move_up goes from the end, its step is negative; move_down goes from the start.
 import os

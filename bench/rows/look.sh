@@ -3,8 +3,8 @@
 set -eu
 here=$(cd "$(dirname "$0")" && pwd)
 root=$(cd "$here/../.." && pwd)
-"$root/tools/staticlib.sh" time_cache_c >/dev/null
-lib=$root/target/staticlib/libtime_cache_c.a
+"$root/tools/staticlib.sh" exports >/dev/null
+lib=$root/target/staticlib/libexports.a
 left=$(nm "$lib" | grep -cE ' [tT] .*(load_id|load_high|compare|same|move_up|move_down|insert_row|remove_rows)' || true)
 echo "functions of rows left as calls: $left"
 [ "$left" -eq 0 ]

@@ -2,7 +2,7 @@
 //! before its work, as `is_sound` does, so a call's time has that test in it.
 use std::time::Instant;
 
-#[link(name = "time_cache_c", kind = "static")]
+#[link(name = "exports", kind = "static")]
 extern "C" {
     fn time_cache_is_sound(p: *const u8, l: usize, a: usize, s: usize, n: usize, b: usize, t: usize, m: usize) -> bool;
     fn time_cache_insert(

@@ -8,15 +8,15 @@ import believe
 
 # By reading: what must be among them, and what must not (it exists, and serves proofs or functions inside the library).
 IN = """
-lists.Base.is_some lists.Map.insert rows.Digits.leNat postcard.Number.◌then◌ postcard.Decode.decodeEvent postcard.Sizes.perMessage postcard.Told.Leaves postcard.Rewrite.rewrite postcard.src.units.Round
+storage.Lists.Base.is_some storage.Lists.Map.insert storage.Rows.Digits.leNat postcard.Number.◌then◌ postcard.Decode.decodeEvent postcard.Sizes.perMessage postcard.Told.Leaves postcard.Rewrite.rewrite postcard.src.units.Round
 time_cache.TimeCache.expireUntil blake3.Blake3.compressed protocol.State.create protocol.Whole.wholeState protocol.Gossips.optimizeTree protocol.Answer.answerBlock
-protocol.Demand3.metFull protocol.Alike.sameNotes protocol.Panel.panelrun block.src.head.Config block.Header.headIn block.View.state_of whole.Held.held states.Kept.keep states.Area.areaHolds states.Calls.Saves machine.Called.Finds
-machine.Called.call_of plumtree.Calls.Made plumtree.Calls.entries plumtree.lib.plumtree_alike records.Running.closing panel.Runs.Runs
+protocol.Demand3.metFull protocol.Alike.sameNotes protocol.Panel.panelrun block.src.head.Config block.Header.headIn block.View.state_of whole.Held.held whole.States.Kept.keep whole.States.Area.areaHolds whole.States.Calls.Saves machine.Called.Finds
+machine.Called.call_of plumtree.Calls.Made plumtree.Calls.entries plumtree.lib.plumtree_alike panel.Records.Running.closing panel.Runs.Runs
 """
 OUT = """
-rows.Part.Only rows.Sorted.Ascending refs.Once.Numbers postcard.Message.eventBytes postcard.Output.Room postcard.Events.Decodes postcard.Rewrite.ShortestForm rewrite.Answers.number_of blake3.WordOrder.order
-protocol.Demand3.Demand3 protocol.AlikeUnordered.sameBag decide.Settled.settled alike.Notes.NextOf block.Goes.Goes block.Sound.Sound states.Area.LeftBy states.Calls.Placed alike_calls.Peerwise.Like histories.History.Step histories.Sheet.SameSeen steps.Stands.Stands kinds.Meaning.peerOf machine.Core.Begun machine.Core.coreRooms
-machine.Decided.decided machine.Outcomes.Asked plumtree.Rooms.Found plumtree.Peers.Sender records.Reading.Whole panel.Places.Inside
+storage.Rows.Part.Only storage.Rows.Sorted.Ascending storage.Refs.Once.Numbers postcard.Message.eventBytes postcard.Output.Room postcard.Events.Decodes postcard.Rewrite.ShortestForm wire.Rewrite.Answers.number_of blake3.WordOrder.order
+protocol.Demand3.Demand3 protocol.AlikeUnordered.sameBag decide.Settled.settled alike.Notes.NextOf block.Goes.Goes block.Sound.Sound whole.States.Area.LeftBy whole.States.Calls.Placed protocol.AlikeCalls.Peerwise.Like plumtree.Histories.History.Step plumtree.Histories.Sheet.SameSeen steps.Stands.Stands machine.Kinds.Meaning.peerOf machine.Core.Begun machine.Core.coreRooms
+machine.Decided.decided machine.Outcomes.Asked plumtree.Rooms.Found plumtree.Peers.Sender panel.Records.Reading.Whole panel.Places.Inside
 """
 
 
@@ -55,10 +55,16 @@ def alone(world, found, top):
             with open(f"{src}/{module}.rt", "a") as out:
                 out.write(code(world.source(crate, module), ds))
         files = [f for f in world.modules(crate) if any(d.file == f for d in own)]
-        with open(f"{specs}/Lib.antt", "w") as lib:
-            lib.writelines(f"pub mod {f}\n" for f in files)
+        # a file in a folder is declared by the file of the folder's name
+        folders = {f[: f.rindex(".")] for f in files if "." in f}
+        for folder in ["", *sorted(folders)]:
+            own_path = f"{specs}/{folder.replace('.', '/') or 'Lib'}.antt"
+            within = [f for f in dict.fromkeys([*files, *sorted(folders)]) if f.rpartition(".")[0] == folder]
+            os.makedirs(f"{specs}/{folder.replace('.', '/')}", exist_ok=True)
+            with open(own_path, "w") as lib:
+                lib.writelines(f"pub mod {f.rpartition('.')[2]}\n" for f in within)
         for f in files:
-            with open(f"{specs}/{f}.antt", "w") as out:
+            with open(f"{specs}/{f.replace('.', '/')}.antt", "w") as out:
                 out.write(definitions(world, found, world.file(crate, f)))
 
 

@@ -22,14 +22,14 @@ OUTPUT = 1000000
 # Of the sections that are not by hand, so many calls and the rest of the section with the last of them.
 DRAWN = 543
 SPECS = {
-    "Rattle.lists.specs.": ["Base", "Map"],
+    "Rattle.storage.specs.Lists.": ["Base", "Map"],
     "Rattle.postcard.specs.": ["Number", "Message", "Decode"],
     "Rattle.time_cache.specs.": ["TimeCache"],
     "Rattle.protocol.specs.": ["State", "Run", "Answer", "Whole", "Links", "Neighbours", "Push", "Gossips", "Ticks",
                                      "Control", "Handle", "Calls", "Alike"],
 }
-CRATE = {"Rattle.lists.specs.": "lists", "Rattle.postcard.specs.": "postcard", "Rattle.time_cache.specs.": "time_cache",
-         "Rattle.protocol.specs.": "protocol"}
+CRATE = {"Rattle.storage.specs.Lists.": "storage/specs/Lists", "Rattle.postcard.specs.": "postcard/specs", "Rattle.time_cache.specs.": "time_cache/specs",
+         "Rattle.protocol.specs.": "protocol/specs"}
 
 
 # Sections: a panel, and the calls upon it.
@@ -416,7 +416,7 @@ def section_term(number, section, identify):
 def unfoldings():
     for prefix, mods in SPECS.items():
         for m in mods:
-            text = open("%s/crates/%s/specs/%s.antt" % (root, CRATE[prefix], m)).read()
+            text = open("%s/crates/%s/%s.antt" % (root, CRATE[prefix], m)).read()
             passed_on = re.findall(r"^unfoldable pub use \S+\.\{(.*)\}", text, re.M)
             for name in re.findall(r"^\s*unfoldable pub (\S+) :", text, re.M) + ", ".join(passed_on).split(", "):
                 if name:
@@ -429,7 +429,7 @@ use Rattle.std.proofs.Common.{refl}
 use Rattle.std.proofs.Math.Option.{none, some}
 use Rattle.std.proofs.Math.ListN.{replicate}
 %s
-use Rattle.lists.specs.Map.{entry}
+use Rattle.storage.specs.Lists.Map.{entry}
 use Rattle.postcard.specs.Number.{bigEndian}
 use Rattle.protocol.specs.Links.{eager, lazy}
 use Rattle.protocol.specs.State.{State, Settings, Limits, Counts, Hop, Note, fresh}

@@ -1,5 +1,5 @@
 //! Puts the seed file, byte for byte, in front of the additions that read private fields, and links the
-//! static library: `libtime_cache_c.a` in the directory that the variable LIBRARY names.
+//! static library: `libexports.a` in the directory that the variable LIBRARY names.
 use std::{env, fs, path::Path};
 
 fn main() {
@@ -17,12 +17,12 @@ fn main() {
         format!("#[path = {:?}] pub(crate) mod util;\n", to.display().to_string()),
     )
     .unwrap();
-    let dir = env::var("LIBRARY").expect("LIBRARY names the directory of libtime_cache_c.a");
+    let dir = env::var("LIBRARY").expect("LIBRARY names the directory of libexports.a");
     for p in [&seed, &extra] {
         println!("cargo:rerun-if-changed={}", p.display());
     }
     println!("cargo:rerun-if-env-changed=LIBRARY");
-    println!("cargo:rerun-if-changed={dir}/libtime_cache_c.a");
+    println!("cargo:rerun-if-changed={dir}/libexports.a");
     println!("cargo:rustc-link-search=native={dir}");
-    println!("cargo:rustc-link-lib=static=time_cache_c");
+    println!("cargo:rustc-link-lib=static=exports");
 }

@@ -3,11 +3,11 @@
 set -eu
 cd "$(dirname "$0")/../.."
 . tools/setup.sh
-need_crates time_cache_c || exit 0
+need_crates exports || exit 0
 have_rust || exit 0
 need_packages librust-hex-dev librust-indexmap-dev
 (cd tests/rust/seed && sha256sum -c --quiet SHA256SUMS)
-tools/staticlib.sh time_cache_c
+tools/staticlib.sh exports
 cd tests/time_cache
 LIBRARY=$PWD/../../target/staticlib cargo build --release --offline -j 1 --quiet
 ../target/release/time_cache_beside "${SEED:-$(date +%s)}" "${LISTS:-2000}"

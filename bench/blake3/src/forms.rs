@@ -15,7 +15,7 @@ type HashInto = unsafe extern "C" fn(*const u8, usize, *mut [u8; 32]);
 // The function of a library, which stays open.
 fn open(file: &str) -> HashInto {
     let file = CString::new(file).expect("a path");
-    // SAFETY: both are strings with a last byte 0; the symbol is crates/blake3_c's function, which has this type.
+    // SAFETY: both are strings with a last byte 0; the symbol is the function of crates/exports, which has this type.
     unsafe {
         let library = dlopen(file.as_ptr(), RTLD_NOW);
         assert!(!library.is_null(), "{file:?} can't be opened");

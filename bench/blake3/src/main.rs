@@ -1,9 +1,9 @@
 // Times of the identifier beside Debian's blake3 crate, portable and with its vector code: bench_blake3 [SECONDS for each size].
 mod turns;
 
-#[link(name = "blake3_c", kind = "static")]
+#[link(name = "exports", kind = "static")]
 extern "C" {
-    // crates/blake3_c. A slice is passed as its pointer and its length.
+    // crates/exports. A slice is passed as its pointer and its length.
     fn blake3_hash_into(content: *const u8, len: usize, out: *mut [u8; 32]);
 }
 

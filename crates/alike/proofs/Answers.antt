@@ -9,7 +9,7 @@ use borrow.Author.Tests.{leb-true}
 use lib.Dec.{leb}
 use lib.ListN.{length}
 use Rattle.std.specs.Prelude.{if◌then◌else◌}
-use Rattle.lists.proofs.MapLaws.{and_left, and_right, and_intro}
+use Rattle.storage.proofs.ListsLaws.MapLaws.{and_left, and_right, and_intro}
 use Rattle.protocol.specs.State.{State, limitsInRange, blockNeed}
 use Rattle.protocol.specs.Whole.{whole, longEnough, wholeState}
 use Rattle.protocol.proofs.Consistent.{whole-consistent}

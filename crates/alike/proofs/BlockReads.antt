@@ -7,14 +7,14 @@ use native.Mathlib.Omega.{arith}
 use lib.Dec.{lit<}
 use lib.ListN.{length, take, drop, get_or, length-map, get_or-map}
 use lib.Seq.{drop-drop, get_or-drop}
-use Rattle.lists.specs.Map.{Entry, entry, keys}
-use Rattle.rows.specs.Part.{part}
-use Rattle.rows.specs.Digits.{leNat, beNat}
-use Rattle.rows.specs.Rows.{field_of}
-use Rattle.rows.proofs.Parts.{part-part}
+use Rattle.storage.specs.Lists.Map.{Entry, entry, keys}
+use Rattle.storage.specs.Rows.Part.{part}
+use Rattle.storage.specs.Rows.Digits.{leNat, beNat}
+use Rattle.storage.specs.Rows.Rows.{field_of}
+use Rattle.storage.proofs.RowsLaws.Parts.{part-part}
 use Rattle.time_cache.proofs.ExpiryLaws.{row-at}
-use Rattle.refs.specs.Refs.{Ref, ref, refOf, refs, places, Below}
-use Rattle.refs.proofs.Places.{getD-map-in, length-refs, ref-at}
+use Rattle.storage.specs.Refs.Refs.{Ref, ref, refOf, refs, places, Below}
+use Rattle.storage.proofs.RefsLaws.Places.{getD-map-in, length-refs, ref-at}
 use Rattle.time_cache.specs.TimeCache.{Timed}
 use Rattle.time_cache.specs.Tables.{ExpiryRow, expiryRowOf, expiryRows, expiryOf, no_row, row_at, entry_of, cacheOf, cacheIn, refsAt, rows_at}
 use Rattle.time_cache.specs.Steps.{ref_at}
@@ -30,9 +30,9 @@ use Rattle.block.specs.MissingSteps.{missedAt}
 use Rattle.block.specs.declared.head.Head.{Head}
 use Rattle.block.proofs.Tables.{view-at, field_in, byte-in, length-view}
 use Rattle.block.specs.TimeCaches.{cacheFrom}
-use Rattle.caches.specs.GraftSteps.{graftsAt}
-use Rattle.caches.proofs.CacheLaws.{refs-in, rows_in}
-use Rattle.caches.proofs.GraftLaws.{grafted-entry}
+use Rattle.block.specs.Caches.GraftSteps.{graftsAt}
+use Rattle.block.proofs.CachesLaws.CacheLaws.{refs-in, rows_in}
+use Rattle.block.proofs.CachesLaws.GraftLaws.{grafted-entry}
 use Rattle.alike.specs.Elements.{element, expiryElement}
 
 -- timer i, and the identifier of missing message i

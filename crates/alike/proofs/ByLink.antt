@@ -10,16 +10,16 @@ use borrow.Author.Tests.{eqb-true, eq-eqb, leb-true, leb-false}
 use lib.Dec.{eqb, leb}
 use lib.ListN.{length, drop, get_or, drop_of_length-le}
 use lib.Seq.{drop-cons}
-use Rattle.lists.specs.Base.{filter}
-use Rattle.lists.proofs.MapLaws.{cases, true≢}
-use Rattle.lists.proofs.ListLaws.{all_append}
-use Rattle.lists.proofs.Places.{at_all}
-use Rattle.rows.specs.Ident.{id_of}
+use Rattle.storage.specs.Lists.Base.{filter}
+use Rattle.storage.proofs.ListsLaws.MapLaws.{cases, true≢}
+use Rattle.storage.proofs.ListsLaws.ListLaws.{all_append}
+use Rattle.storage.proofs.ListsLaws.Places.{at_all}
+use Rattle.storage.specs.Rows.Ident.{id_of}
 use Rattle.protocol.specs.State.{Note}
 use Rattle.protocol.specs.Push.{forPeer}
 use Rattle.protocol.specs.Alike.{same_list, sameNote, sameNotes}
-use Rattle.alike_calls.proofs.Reflect.{tells-notes}
-use Rattle.alike_calls.proofs.Stay.{list-refl, note-refl}
+use Rattle.protocol.proofs.AlikeCallsLaws.Reflect.{tells-notes}
+use Rattle.protocol.proofs.AlikeCallsLaws.Stay.{list-refl, note-refl}
 use Rattle.block.specs.View.{state_of}
 use Rattle.block.specs.Sound.{Sound}
 use Rattle.block.specs.LinkSteps.{peerAt}

@@ -8,8 +8,8 @@ use Prim.Native.Nat.{ℕ, ◌<◌}
 use native.Mathlib.Omega.{arith}
 use borrow.Author.Tests.{eq-eqb}
 use lib.Dec.{eqb, lit<}
-use Rattle.lists.specs.Map.{Entry, entry, keys}
-use Rattle.refs.specs.Refs.{places, Below}
+use Rattle.storage.specs.Lists.Map.{Entry, entry, keys}
+use Rattle.storage.specs.Refs.Refs.{places, Below}
 use Rattle.time_cache.specs.TimeCache.{Timed}
 use Rattle.time_cache.specs.Tables.{Lies, rows_at, refsAt, row_at, expiryOf}
 use Rattle.time_cache.specs.Steps.{ref_at}
@@ -24,10 +24,10 @@ use Rattle.block.specs.Sound.{Sound}
 use Rattle.block.specs.declared.head.Head.{Head}
 use Rattle.block.proofs.LinkLaws.{count-links}
 use Rattle.block.specs.TimeCaches.{receivedCache, graftedCache, cachedCache}
-use Rattle.caches.specs.GraftSteps.{graftedAt}
-use Rattle.caches.proofs.ReceivedLaws.{received-lies, count-received}
-use Rattle.caches.proofs.GraftedLaws.{grafted-lies, count-grafted}
-use Rattle.caches.proofs.CachedLaws.{cached-lies, count-cached}
+use Rattle.block.specs.Caches.GraftSteps.{graftedAt}
+use Rattle.block.proofs.CachesLaws.ReceivedLaws.{received-lies, count-received}
+use Rattle.block.proofs.CachesLaws.GraftedLaws.{grafted-lies, count-grafted}
+use Rattle.block.proofs.CachesLaws.CachedLaws.{cached-lies, count-cached}
 use Rattle.alike.specs.Elements.{Element, element, sameElement, expiryElement}
 use Rattle.alike.specs.Rows.{sameEntry, sameTimed, receivedAt, cachedEntry, sameRow, same_rows, rows_of, first_of, keptOf}
 use Rattle.alike.specs.declared.tables.Table.{Table}

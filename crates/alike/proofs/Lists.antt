@@ -12,14 +12,14 @@ use borrow.Author.Tests.{eq-eqb, eqb-true}
 use lib.Dec.{eqb}
 use lib.ListN.{length, get_or}
 use Rattle.std.specs.Prelude.{if◌then◌else◌}
-use Rattle.lists.specs.Map.{Map, keys}
-use Rattle.lists.proofs.MapLaws.{true≢, and_left, and_right, and_intro}
-use Rattle.rows.specs.Part.{part}
-use Rattle.rows.specs.Digits.{leNat, le_bytes}
-use Rattle.rows.proofs.Digits.{Bytes, leBytes-leNat}
-use Rattle.rows.proofs.Parts.{length_part, get_d_part}
-use Rattle.rows.proofs.Turns.{part_bytes}
-use Rattle.refs.proofs.Shifts.{low_or_high}
+use Rattle.storage.specs.Lists.Map.{Map, keys}
+use Rattle.storage.proofs.ListsLaws.MapLaws.{true≢, and_left, and_right, and_intro}
+use Rattle.storage.specs.Rows.Part.{part}
+use Rattle.storage.specs.Rows.Digits.{leNat, le_bytes}
+use Rattle.storage.proofs.RowsLaws.Digits.{Bytes, leBytes-leNat}
+use Rattle.storage.proofs.RowsLaws.Parts.{length_part, get_d_part}
+use Rattle.storage.proofs.RowsLaws.Turns.{part_bytes}
+use Rattle.storage.proofs.RefsLaws.Shifts.{low_or_high}
 use Rattle.time_cache.specs.TimeCache.{Expiry}
 use Rattle.protocol.specs.Links.{Mark, eager, lazy, isEager}
 use Rattle.protocol.specs.State.{Hop}

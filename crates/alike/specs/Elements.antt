@@ -2,13 +2,13 @@
 -- a grafted peer a peer and a round.
 -- Assumes nothing.
 use Rattle.std.specs.Prelude.{ℕ, ◌<◌, Bool, ◌&&◌, List, map, eqb}
-use Rattle.lists.specs.Map.{Entry}
-use Rattle.rows.specs.Ident.{id_of}
+use Rattle.storage.specs.Lists.Map.{Entry}
+use Rattle.storage.specs.Rows.Ident.{id_of}
 use Rattle.time_cache.specs.TimeCache.{Expiry}
 use Rattle.protocol.specs.State.{State, Hop}
 use Rattle.block.specs.MissingSteps.{hopsAt}
 use Rattle.block.specs.declared.head.Live.{Live}
-use Rattle.caches.specs.GraftSteps.{graftsAt}
+use Rattle.block.specs.Caches.GraftSteps.{graftsAt}
 use Rattle.alike.specs.declared.sequences.Sequence.{Sequence}
 use Rattle.alike.specs.declared.sequences.Sequence.TheVariants.{ReceivedExpiry, GraftedExpiry, CachedExpiry, Announcers, GraftedPeers}
 use Rattle.alike.specs.declared.sequences.Item.{Item}

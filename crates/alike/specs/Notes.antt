@@ -1,8 +1,8 @@
 -- Queue and record, of which the notes of each link are compared.
 -- Assumes nothing.
 use Rattle.std.specs.Prelude.{ℕ, ◌≤◌, ◌<◌, ◌≡◌, Bool, true, ◌&&◌, List, eqb, length, drop, get_or}
-use Rattle.lists.specs.Base.{filter}
-use Rattle.rows.specs.Ident.{id_of}
+use Rattle.storage.specs.Lists.Base.{filter}
+use Rattle.storage.specs.Rows.Ident.{id_of}
 use Rattle.protocol.specs.State.{State, Note}
 use Rattle.protocol.specs.Push.{forPeer}
 use Rattle.protocol.specs.Alike.{same_list, sameNote}

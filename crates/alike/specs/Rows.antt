@@ -2,7 +2,7 @@
 -- Assumes nothing.
 use Rattle.std.specs.Prelude.{ℕ, ◌<◌, Bool, ◌&&◌, ◌≡◌, List, [], eqb, get_or}
 use Rattle.std.proofs.Math.Option.{Option}
-use Rattle.lists.specs.Map.{Entry, entry}
+use Rattle.storage.specs.Lists.Map.{Entry, entry}
 use Rattle.time_cache.specs.TimeCache.{Timed}
 use Rattle.protocol.specs.State.{State, Hop, Cached}
 use Rattle.protocol.specs.Alike.{same_list, sameMap, sameMark, sameHop, sameGrafts, sameCached, sameUnit}
@@ -10,7 +10,7 @@ use Rattle.block.specs.View.{only_if}
 use Rattle.block.specs.LinkSteps.{link_at}
 use Rattle.block.specs.MissingSteps.{missedAt}
 use Rattle.block.specs.declared.head.Live.{Live}
-use Rattle.caches.specs.GraftSteps.{graftedAt}
+use Rattle.block.specs.Caches.GraftSteps.{graftedAt}
 use Rattle.alike.specs.declared.tables.Table.{Table}
 use Rattle.alike.specs.declared.tables.Table.TheVariants.{Links, Missing, Timers, Received, Grafted, Cached as CachedRows}
 use Rattle.alike.specs.declared.tables.Sender.{Sender}

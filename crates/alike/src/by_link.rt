@@ -1,6 +1,6 @@
 // Queue and record: the notes of each link are compared in their order. How those of different links are interleaved is not compared.
 ghost use Rattle.std.specs.Prelude.{◌≡◌, ◌≤◌, ◌<◌};
-ghost use Rattle.lists.specs.Map.{keys};
+ghost use Rattle.storage.specs.Lists.Map.{keys};
 ghost use Rattle.protocol.specs.Alike.{sameNotes};
 ghost use Rattle.block.specs.View.{state_of};
 ghost use Rattle.block.specs.Sound.{Sound};
@@ -11,7 +11,7 @@ ghost use Rattle.alike.specs.Notes.{notesOf, count_of, sameInside, sameFor, Next
 use block::head::{Head, Live};
 use block::note;
 use block::note::Note;
-use rows::id;
+use storage::rows::id;
 
 // The queue, or the record.
 #[derive(Clone, Copy)]

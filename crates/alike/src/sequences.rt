@@ -7,12 +7,12 @@ ghost use Rattle.block.specs.Sound.{Sound};
 ghost use Rattle.block.specs.LinkSteps.{peerAt};
 ghost use Rattle.alike.specs.Elements.{element, sameElement, expiryElement, elementOf, sequenceOf, InState};
 
+use block::caches::grafted;
 use block::head::Head;
 use block::hops::Hop;
 use block::{links, missing, time_caches};
-use caches::grafted;
-use rows::id;
-use rows::id::Id;
+use storage::rows::id;
+use storage::rows::id::Id;
 use time_cache::cache::TimeBoundCache;
 
 // One of the lists; of the announcers, those of missing message i; of the grafted peers, those of grafted message i.

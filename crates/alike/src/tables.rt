@@ -1,8 +1,8 @@
 // The tables that are kept in order: links, missing messages, graft timers, and the entries of the three time caches. They are compared row by row.
 ghost use Rattle.std.specs.Prelude.{◌≡◌, ◌≤◌, ◌<◌, eqb, length, get_or};
 ghost use Rattle.std.specs.Bool.{beq};
-ghost use Rattle.rows.specs.Ident.{id_of};
-ghost use Rattle.refs.specs.Refs.{places, Below};
+ghost use Rattle.storage.specs.Rows.Ident.{id_of};
+ghost use Rattle.storage.specs.Refs.Refs.{places, Below};
 ghost use Rattle.time_cache.specs.Tables.{Lies, refsAt, rows_at, row_at, expiryOf};
 ghost use Rattle.time_cache.specs.Steps.{ref_at};
 ghost use Rattle.protocol.specs.Alike.{same_list, sameOption, sameHop};
@@ -10,18 +10,18 @@ ghost use Rattle.block.specs.View.{state_of};
 ghost use Rattle.block.specs.Fit.{Fit};
 ghost use Rattle.block.specs.Sound.{Sound};
 ghost use Rattle.block.specs.MissingSteps.{missedAt};
-ghost use Rattle.caches.specs.GraftSteps.{graftsAt};
+ghost use Rattle.block.specs.Caches.GraftSteps.{graftsAt};
 ghost use Rattle.alike.specs.Elements.{sameElement, expiryElement};
 ghost use Rattle.alike.specs.Rows.{sameRow, same_rows, rows_of, first_of, keptOf, SameUpTo};
 
 use crate::sequences;
 use crate::sequences::Sequence;
+use block::caches::cached;
 use block::head::{Head, Live};
 use block::{head, links, time_caches};
-use caches::cached;
 use postcard::units::Round;
-use rows::id::Id;
-use rows::{id, word};
+use storage::rows::id::Id;
+use storage::rows::{id, word};
 use time_cache::cache::TimeBoundCache;
 
 // One of the tables.

@@ -6,7 +6,7 @@ use block::head::{Config, Limits, Settings};
 use machine::event::Outcome;
 use machine::{Stats, event};
 use postcard::units::{Millis, Round};
-use rows::word;
+use storage::rows::word;
 use whole::create;
 
 // The counts that stand at a place.

@@ -1,8 +1,8 @@
 // The sample, its numbers, low byte first, and its places. Where the sample ends early a number is 0, and no place is past the end.
 ghost use Rattle.std.specs.Prelude.{◌≤◌, length};
 
-use rows::word;
 use std::io::Read;
+use storage::rows::word;
 
 // Reads until the buffer is full, the input ends or a read fails, and answers how many bytes it put at the buffer's start.
 pub fn full(input: &mut impl Read, buffer: &mut [u8]) -> usize

@@ -3,7 +3,7 @@
 use mathlib.Core.Path.{◌≡◌, refl}
 use mathlib.Core.List.{List, [], ◌∷◌}
 use Prim.Native.Nat.{ℕ, zero, suc, ◌+◌, ◌%◌}
-use Rattle.rows.specs.Digits.{leNat, le_bytes, beFrom}
+use Rattle.storage.specs.Rows.Digits.{leNat, le_bytes, beFrom}
 use Rattle.blake3.specs.Blake3 as B
 
 -- n bytes, counted from i

@@ -2,7 +2,8 @@
 // `hash`, and then every length from 0 to 2,100, by `hash_into`.
 #![tactic(auto)]
 
-use rows::id::Id;
+use storage::rows;
+use storage::rows::id::Id;
 
 const LENGTHS: [usize; 35] = [
     0, 1, 2, 3, 4, 5, 6, 7, 8, 63, 64, 65, 127, 128, 129, 1023, 1024, 1025, 2048, 2049, 3072, 3073,

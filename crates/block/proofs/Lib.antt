@@ -16,3 +16,4 @@ pub mod MissingLaws
 pub mod AnnounceLaws
 pub mod GoesLaws
 pub mod Few
+pub mod CachesLaws

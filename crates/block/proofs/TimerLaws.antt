@@ -8,14 +8,14 @@ use native.Mathlib.Omega.{arith}
 use lib.Dec.{lit<}
 use lib.ListN.{length, take, drop, get_or, set}
 use lib.Seq.{take_all}
-use Rattle.rows.specs.Part.{part, put}
-use Rattle.rows.specs.Digits.{beNat, beBytes}
-use Rattle.rows.specs.Rows.{opened, closed}
-use Rattle.rows.specs.Sorted.{keys, key_of, Between}
-use Rattle.rows.proofs.Parts.{length_part, length-put, put_all}
-use Rattle.rows.proofs.Rows.{length-opened}
-use Rattle.rows.proofs.Digits.{length-beBytes, beNat-beBytes}
-use Rattle.lists.specs.Map.{insertKey, removeKey}
+use Rattle.storage.specs.Rows.Part.{part, put}
+use Rattle.storage.specs.Rows.Digits.{beNat, beBytes}
+use Rattle.storage.specs.Rows.Rows.{opened, closed}
+use Rattle.storage.specs.Rows.Sorted.{keys, key_of, Between}
+use Rattle.storage.proofs.RowsLaws.Parts.{length_part, length-put, put_all}
+use Rattle.storage.proofs.RowsLaws.Rows.{length-opened}
+use Rattle.storage.proofs.RowsLaws.Digits.{length-beBytes, beNat-beBytes}
+use Rattle.storage.specs.Lists.Map.{insertKey, removeKey}
 use Rattle.time_cache.proofs.Orders.{up_of}
 use Rattle.protocol.specs.State.{Limits, withGraftTimers}
 use Rattle.block.specs.Layout.{sizes, place, tables, table}

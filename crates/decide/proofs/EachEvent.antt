@@ -6,7 +6,7 @@ use mathlib.Core.List.{List, [], ◌++◌, append-nil, append_assoc}
 use lib.Dec.{ltb, eqb}
 use lib.ListN.{length}
 use Rattle.std.specs.Prelude.{if◌then◌else◌}
-use Rattle.lists.specs.Base.{sum}
+use Rattle.storage.specs.Lists.Base.{sum}
 use Rattle.time_cache.specs.TimeCache.{holds}
 use Rattle.protocol.specs.Links.{isNeighbour}
 use Rattle.postcard.specs.Message.{Delivery, Swarm, Neighbors, Scope, Message, Gossip, Prune, Graft, IHave, Timer, SendGraft, DispatchLazyPush, EvictCache, AnnounceDropped, Event, Received, Broadcast, Fired, Up, Down, Action}
@@ -24,7 +24,7 @@ use Rattle.decide.specs.SizesAfter.{broadcastSizes, gossipSizes, messageSizes, t
 use Rattle.decide.specs.ActionsAfter.{broadcastActions, gossipActions, messageActions, timerActions, actionsAfter}
 use Rattle.protocol.proofs.Consistent.{whole-consistent}
 use Rattle.protocol.proofs.WholeKept.{kept-firstEvent, kept-handle}
-use Rattle.lists.proofs.Branches.{if-on, if-same}
+use Rattle.storage.proofs.ListsLaws.Branches.{if-on, if-same}
 use Rattle.decide.proofs.LengthLaws.{length-output}
 use Rattle.decide.proofs.TableSizes.{fits-sizes}
 use Rattle.decide.proofs.SettledLaws.{first-state, first-actions, first-rooms}

@@ -5,7 +5,7 @@ use mathlib.Core.List.{List, [], ◌∷◌, ◌++◌}
 use mathlib.Core.Option.{Option, none, some}
 use native.Mathlib.Omega.{arith}
 use lib.ListN.{length, length-append}
-use Rattle.lists.specs.Base.{sum, concatMap}
+use Rattle.storage.specs.Lists.Base.{sum, concatMap}
 use Rattle.postcard.specs.Number.{numberBytes, numberLength, bigEndian, idBytes}
 use Rattle.postcard.specs.Message.{Delivery, Swarm, Neighbors, Ihave, Message, Gossip, Prune, Graft, IHave, Timer, SendGraft, DispatchLazyPush, EvictCache, AnnounceDropped, Action, Sent, Scheduled, Emitted, contentBytes, deliveryBytes, ihaveBytes, optionalIdBytes, messageBytes, timerBytes, takenByte, actionBytes}
 use Rattle.protocol.specs.Run.{Run}

@@ -8,8 +8,8 @@ use lib.Dec.{ltb, eqb}
 use lib.ListN.{length}
 use borrow.Author.Tests.{eqb-true, eq-eqb}
 use Rattle.std.specs.Prelude.{if◌then◌else◌}
-use Rattle.lists.specs.Base.{is_empty, is_some, all, any}
-use Rattle.lists.specs.Map.{keys, lookup, has}
+use Rattle.storage.specs.Lists.Base.{is_empty, is_some, all, any}
+use Rattle.storage.specs.Lists.Map.{keys, lookup, has}
 use Rattle.time_cache.specs.TimeCache.{get, holds}
 use Rattle.protocol.specs.Links.{Mark, Links, isNeighbour, isEager, marked, eagerIn}
 use Rattle.postcard.specs.Message.{Delivery, Swarm, Neighbors, Scope, toSwarm, toNeighbors, Message, Gossip, Prune, Graft, IHave, Timer, SendGraft, DispatchLazyPush, EvictCache, AnnounceDropped, Event, Received, Broadcast, Fired, Up, Down, Action, Sent, Scheduled, Emitted}
@@ -27,13 +27,13 @@ use Rattle.decide.specs.RecordGrowth.{cachedIn, announceAction, pushActions}
 use Rattle.decide.specs.Pieces.{Piece, pieceTaken, pieceActions}
 use Rattle.decide.specs.SizesAfter.{newIds, knownTimer}
 use Rattle.decide.specs.ActionsAfter.{evictActions, dispatchAction, announceActions, replyActions, graftActions, askActions, sendGraftActions, ihaveActions, broadcastActions, lateActions, optimiseActions, newActions, dispatchActions, gossipActions, messageActions, timerActions, actionsAfter}
-use Rattle.lists.proofs.MapLaws.{cases, true≢, and_right, all_head, all_tail, all_cons}
-use Rattle.lists.proofs.Lists.{or_left, or_right}
-use Rattle.lists.proofs.ListLaws.{all_append, all-imp, all_map, all-each}
+use Rattle.storage.proofs.ListsLaws.MapLaws.{cases, true≢, and_right, all_head, all_tail, all_cons}
+use Rattle.storage.proofs.ListsLaws.Lists.{or_left, or_right}
+use Rattle.storage.proofs.ListsLaws.ListLaws.{all_append, all-imp, all_map, all-each}
 use Rattle.protocol.proofs.Consistent.{whole-consistent}
 use Rattle.protocol.proofs.ConsistentTables.{queued-near}
 use Rattle.protocol.proofs.WholeKept.{known-announcers, kept-firstEvent}
-use Rattle.lists.proofs.Branches.{if-on, if-same}
+use Rattle.storage.proofs.ListsLaws.Branches.{if-on, if-same}
 use Rattle.decide.proofs.SettledLaws.{first-state}
 use Rattle.decide.proofs.PushLaws.{targets-near}
 use Rattle.decide.proofs.Dispatch.{near-pieces}

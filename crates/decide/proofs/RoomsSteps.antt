@@ -8,8 +8,8 @@ use lib.Dec.{ltb, eqb}
 use lib.ListN.{length}
 use borrow.Author.Tests.{eq-eqb, eqb-true}
 use Rattle.std.specs.Prelude.{if◌then◌else◌}
-use Rattle.lists.specs.Base.{is_empty, any, member}
-use Rattle.lists.specs.Map.{keys}
+use Rattle.storage.specs.Lists.Base.{is_empty, any, member}
+use Rattle.storage.specs.Lists.Map.{keys}
 use Rattle.time_cache.specs.TimeCache.{get, holds}
 use Rattle.protocol.specs.Links.{Links, isNeighbour, eagerIn, addEager, addLazy, linkUp}
 use Rattle.postcard.specs.Message.{Delivery, Swarm, Neighbors, Scope, toSwarm, toNeighbors, Ihave, Message, Gossip, Prune, Graft, IHave, Timer, SendGraft, DispatchLazyPush, EvictCache, AnnounceDropped, Event, Received, Broadcast, Fired, Up, Down, Action, Sent, Scheduled, Emitted}
@@ -22,8 +22,8 @@ use Rattle.protocol.specs.Ticks.{perMessage, queuedPeers, chunks, queuedFor, sen
 use Rattle.protocol.specs.Neighbours.{onNeighborUp, onNeighborDown}
 use Rattle.protocol.specs.Handle.{firstEvent, countMessage, ifNeighbour, onTimer, onMessage, handleMessage, handle}
 use Rattle.decide.specs.Rooms.{kthTaken}
-use Rattle.lists.proofs.MapLaws.{cases}
-use Rattle.lists.proofs.Lists.{any_left, any-right}
+use Rattle.storage.proofs.ListsLaws.MapLaws.{cases}
+use Rattle.storage.proofs.ListsLaws.Lists.{any_left, any-right}
 use Rattle.decide.proofs.RoomLaws.{has_first, kth-used-same, kth-used-other}
 
 -- the same run with other rooms left

@@ -8,8 +8,8 @@ use native.Mathlib.Omega.{arith}
 use lib.Dec.{ltb}
 use lib.ListN.{length}
 use Rattle.std.specs.Prelude.{if◌then◌else◌}
-use Rattle.lists.specs.Base.{is_some, filter, count, sum, ascending}
-use Rattle.lists.specs.Map.{keys, lookup}
+use Rattle.storage.specs.Lists.Base.{is_some, filter, count, sum, ascending}
+use Rattle.storage.specs.Lists.Map.{keys, lookup}
 use Rattle.time_cache.specs.TimeCache.{Timed, Cache, value_of, get, holds, expireUntil, laterCache, Timely}
 use Rattle.postcard.specs.Message.{EvictCache, Action, Scheduled}
 use Rattle.protocol.specs.State.{State, Cached}
@@ -21,11 +21,11 @@ use Rattle.protocol.specs.Consistent.{CoreOf}
 use Rattle.decide.specs.Sizes.{sizesOf}
 use Rattle.decide.specs.Settled.{aliveAt, aliveValue, settled, settledActions}
 use Rattle.decide.specs.SizesAfter.{evictSizes, settledSizes}
-use Rattle.lists.proofs.MapLaws.{cases}
-use Rattle.lists.proofs.ListLaws.{length-filter}
+use Rattle.storage.proofs.ListsLaws.MapLaws.{cases}
+use Rattle.storage.proofs.ListsLaws.ListLaws.{length-filter}
 use Rattle.time_cache.proofs.Timely.{expire-is-filter}
-use Rattle.lists.proofs.Branches.{if-on, if-both, if-same}
-use Rattle.lists.proofs.KeyLaws.{passes, lookup-filter}
+use Rattle.storage.proofs.ListsLaws.Branches.{if-on, if-both, if-same}
+use Rattle.storage.proofs.ListsLaws.KeyLaws.{passes, lookup-filter}
 
 module _ {A : Type 0} where
   -- `holds` after eviction, of the cache before

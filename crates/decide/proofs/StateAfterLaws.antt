@@ -7,7 +7,7 @@ use mathlib.Core.Option.{Option, none, some}
 use lib.Dec.{ltb, eqb}
 use lib.ListN.{length}
 use Rattle.std.specs.Prelude.{if◌then◌else◌}
-use Rattle.lists.specs.Base.{is_empty, member, all, once}
+use Rattle.storage.specs.Lists.Base.{is_empty, member, all, once}
 use Rattle.time_cache.specs.TimeCache.{get, holds}
 use Rattle.postcard.specs.Message.{Delivery, Swarm, Neighbors, Scope, toSwarm, toNeighbors, Ihave, Message, Gossip, Prune, Graft, IHave, Timer, SendGraft, DispatchLazyPush, EvictCache, AnnounceDropped, Event, Received, Broadcast, Fired, Up, Down}
 use Rattle.protocol.specs.Links.{eager, isNeighbour, addLazy, addEager}
@@ -24,7 +24,7 @@ use Rattle.protocol.specs.Consistent.{Flagged, Consistent}
 use Rattle.protocol.proofs.Consistent.{whole-consistent}
 use Rattle.protocol.proofs.WholeKept.{kept-firstEvent}
 use Rattle.protocol.proofs.LinkSteps.{has-mark}
-use Rattle.lists.proofs.Branches.{if-on, if-both}
+use Rattle.storage.proofs.ListsLaws.Branches.{if-on, if-both}
 use Rattle.decide.specs.StateAfter.{firstState, pushedState, lazyState, takenState, lateState, broadcastState, announcedState, ihaveState, replyState, graftState, askedState, sendGraftState, announceState, timerState, gossipState, messageState, stateAfter}
 use Rattle.decide.proofs.SettledLaws.{first-rooms}
 use Rattle.decide.proofs.Broadcast.{lazy-rooms}

@@ -5,8 +5,8 @@ use mathlib.Core.Bool.{Bool, true, not}
 use mathlib.Core.List.{List, [], ◌∷◌, ◌++◌, append-nil}
 use lib.ListN.{length, length-map}
 use Rattle.std.specs.Prelude.{if◌then◌else◌}
-use Rattle.lists.specs.Base.{is_empty, count, ascending}
-use Rattle.lists.specs.Map.{Map, keys}
+use Rattle.storage.specs.Lists.Base.{is_empty, count, ascending}
+use Rattle.storage.specs.Lists.Map.{Map, keys}
 use Rattle.protocol.specs.Links.{eager, linkUp, linkDown}
 use Rattle.postcard.specs.Message.{DispatchLazyPush, Action, Scheduled}
 use Rattle.protocol.specs.State.{State, Hop, withDispatchScheduled}
@@ -20,9 +20,9 @@ use Rattle.protocol.specs.Consistent.{CoreOf}
 use Rattle.decide.specs.Sizes.{sizesOf}
 use Rattle.decide.specs.SizesAfter.{upSizes, downSizes, evictSizes}
 use Rattle.decide.specs.ActionsAfter.{evictActions, dispatchAction}
-use Rattle.lists.proofs.MapLaws.{cases}
-use Rattle.lists.proofs.ListLaws.{length-filter}
-use Rattle.lists.proofs.Branches.{if-on, if-both, if-same}
+use Rattle.storage.proofs.ListsLaws.MapLaws.{cases}
+use Rattle.storage.proofs.ListsLaws.ListLaws.{length-filter}
+use Rattle.storage.proofs.ListsLaws.Branches.{if-on, if-both, if-same}
 use Rattle.decide.proofs.TableSizes.{length-insert, length-remove}
 use Rattle.decide.proofs.SettledLaws.{length-later, expiry-later, content-later, evicted}
 

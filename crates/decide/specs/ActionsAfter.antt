@@ -1,8 +1,8 @@
 -- The actions of an event, as functions of the state before it; `s` is the state that a first event leaves (`settled`) unless a comment says otherwise. Proved equal (`decide-actions`).
 use Rattle.std.specs.Prelude.{ℕ, suc, false, not, ◌&&◌, List, [], ◌∷◌, ◌++◌, map, ltb, eqb, length, if◌then◌else◌}
 use Rattle.std.proofs.Math.Option.{Option, none, some}
-use Rattle.lists.specs.Base.{is_empty}
-use Rattle.lists.specs.Map.{keys}
+use Rattle.storage.specs.Lists.Base.{is_empty}
+use Rattle.storage.specs.Lists.Map.{keys}
 use Rattle.time_cache.specs.TimeCache.{holds, get}
 use Rattle.protocol.specs.Links.{isNeighbour, eagerIn}
 use Rattle.postcard.specs.Message.{Delivery, Swarm, Neighbors, Scope, toSwarm, toNeighbors, Ihave, Message, Gossip, Prune, Graft, IHave, Timer, SendGraft, DispatchLazyPush, EvictCache, AnnounceDropped, Event, Received, Broadcast, Fired, Up, Down, Action, Sent, Scheduled, Emitted}

@@ -1,7 +1,7 @@
 -- The length of an action, without its bytes (question 14). Proved equal to that of `actionBytes`.
 use Rattle.std.specs.Prelude.{ℕ, ◌+◌, length}
 use Rattle.std.proofs.Math.Option.{Option, none, some}
-use Rattle.lists.specs.Base.{sum}
+use Rattle.storage.specs.Lists.Base.{sum}
 use Rattle.postcard.specs.Number.{numberLength}
 use Rattle.postcard.specs.Message.{Delivery, Swarm, Neighbors, Message, Gossip, Prune, Graft, IHave, Timer, SendGraft, DispatchLazyPush, EvictCache, AnnounceDropped, Action, Sent, Scheduled, Emitted}
 

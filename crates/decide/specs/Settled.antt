@@ -1,7 +1,7 @@
 -- A first event's eviction in advance: what it leaves, and the tests of what it leaves, read from the state before the call. Proved equal to `firstEvent`.
 use Rattle.std.specs.Prelude.{ℕ, Bool, true, false, not, ◌&&◌, List, [], ◌∷◌, ltb, eqb, if◌then◌else◌}
 use Rattle.std.proofs.Math.Option.{Option, none, some}
-use Rattle.lists.specs.Map.{lookup}
+use Rattle.storage.specs.Lists.Map.{lookup}
 use Rattle.time_cache.specs.TimeCache.{Timed, holds, laterCache}
 use Rattle.postcard.specs.Message.{Gossip, Prune, Graft, IHave, EvictCache, Event, Received, Broadcast, Fired, Up, Down, Action, Scheduled}
 use Rattle.protocol.specs.State.{State, withInit, withReceived, withGrafted, withCache}

@@ -6,7 +6,7 @@ use mathlib.Core.List.{List, []}
 use lib.Dec.{leb}
 use lib.ListN.{length}
 use Rattle.std.specs.Prelude.{if◌then◌else◌}
-use Rattle.lists.proofs.Branches.{if-on, if-both}
+use Rattle.storage.proofs.ListsLaws.Branches.{if-on, if-both}
 use Rattle.postcard.specs.Message.{Event, Up, Down}
 use Rattle.protocol.specs.State.{State, Counts}
 use Rattle.protocol.specs.Run.{Run, Room, begin}
@@ -21,7 +21,7 @@ use Rattle.decide.proofs.StateAfterLaws.{decide-state}
 use Rattle.decide.proofs.RoomsSteps.{withRooms}
 use Rattle.decide.proofs.RoomsCall.{reached}
 use Rattle.machine.specs.Decided.{bytesAfter, lastDecided, decided}
-use Rattle.kinds.proofs.Counted.{decide-counts}
+use Rattle.machine.proofs.KindsLaws.Counted.{decide-counts}
 
 module _ (hash : List ℕ → ℕ) where
   -- what the caller finds of a run

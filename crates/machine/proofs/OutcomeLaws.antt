@@ -6,7 +6,7 @@ use mathlib.Core.List.{List, ◌++◌}
 use lib.Dec.{leb}
 use lib.ListN.{length}
 use Rattle.std.specs.Prelude.{if◌then◌else◌}
-use Rattle.lists.specs.Base.{concatMap}
+use Rattle.storage.specs.Lists.Base.{concatMap}
 use Rattle.blake3.specs.Blake3.{identifier}
 use Rattle.postcard.specs.Message.{Event, actionBytes}
 use Rattle.protocol.specs.State.{State, Counts}
@@ -14,8 +14,8 @@ use Rattle.protocol.specs.Run.{Room}
 use Rattle.protocol.specs.Answer.{messageFits, countsStay, Outcome, refused, accepted}
 use Rattle.decide.specs.Sizes.{fitSizes}
 use Rattle.decide.specs.Settled.{settled, settledActions}
-use Rattle.kinds.specs.Meaning.{stepSizes, stepActions, stepState, stepFar, stepCounts, countedFor, Means}
-use Rattle.kinds.specs.declared.Step.{Step}
+use Rattle.machine.specs.Kinds.Meaning.{stepSizes, stepActions, stepState, stepFar, stepCounts, countedFor, Means}
+use Rattle.machine.specs.declared.kinds.Step.{Step}
 use Rattle.machine.specs.Decided.{bytesAfter, lastDecided, decided}
 use Rattle.machine.specs.Outcomes.{stepBytes, stepOutcome}
 use Rattle.machine.specs.Called.{Lent, Accepted, Finds}

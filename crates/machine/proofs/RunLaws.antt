@@ -10,10 +10,10 @@ use lib.Dec.{leb, ltb}
 use lib.ListN.{length, get_or, drop_of_length-le}
 use borrow.Author.Tests.{le-leb, lt-leb, leb-true, lt-ltb, le-ltb, ltb-true, ltb-false}
 use Rattle.std.specs.Prelude.{if◌then◌else◌}
-use Rattle.lists.specs.Base.{concatMap}
-use Rattle.lists.proofs.MapLaws.{cases, and_left, and_intro}
-use Rattle.rows.specs.Part.{put}
-use Rattle.rows.proofs.Parts.{put-nil}
+use Rattle.storage.specs.Lists.Base.{concatMap}
+use Rattle.storage.proofs.ListsLaws.MapLaws.{cases, and_left, and_intro}
+use Rattle.storage.specs.Rows.Part.{put}
+use Rattle.storage.proofs.RowsLaws.Parts.{put-nil}
 use Rattle.blake3.specs.Blake3.{identifier}
 use Rattle.postcard.specs.Message.{Event, Received, Up, Down}
 use Rattle.postcard.specs.Decode.{messagePart}
@@ -28,7 +28,7 @@ use Rattle.protocol.specs.Handle.{countMessage}
 use Rattle.protocol.specs.Whole.{fits, whole}
 use Rattle.protocol.specs.Answer.{messageFits, countsBelow, countsStay, Outcome, refused, accepted}
 use Rattle.protocol.proofs.WholeKept.{kept-handle}
-use Rattle.output.specs.Written.{Tellable, Written}
+use Rattle.wire.specs.Output.Written.{Tellable, Written}
 use Rattle.block.specs.View.{limitsOf, state_of}
 use Rattle.block.specs.Sound.{Sound}
 use Rattle.block.specs.Goes.{Goes}
@@ -46,11 +46,11 @@ use Rattle.steps.specs.Stands.{Stands}
 use Rattle.steps.specs.Rooms.{roomsIn}
 use Rattle.steps.specs.Shared.{sizesValue}
 use Rattle.steps.specs.declared.Sizes.{Sizes as CodeSizes}
-use Rattle.settled.proofs.FewLaws.{fit-down, stands-whole}
-use Rattle.kinds.specs.Counted.{raised, countsAfterCall}
-use Rattle.kinds.specs.Meaning.{stepSizes, stepState, stepFar, stepCounts, countedFor, Means, SenderIs, peerOf}
-use Rattle.kinds.specs.declared.Step.{Step}
-use Rattle.bounds.proofs.StepTold.{step-told}
+use Rattle.steps.proofs.SettledLaws.FewLaws.{fit-down, stands-whole}
+use Rattle.machine.specs.Kinds.Counted.{raised, countsAfterCall}
+use Rattle.machine.specs.Kinds.Meaning.{stepSizes, stepState, stepFar, stepCounts, countedFor, Means, SenderIs, peerOf}
+use Rattle.machine.specs.declared.kinds.Step.{Step}
+use Rattle.machine.proofs.BoundsLaws.StepTold.{step-told}
 use Rattle.whole.specs.Held.{held}
 use Rattle.machine.specs.declared.Stats.{Stats}
 use Rattle.machine.specs.declared.event.Outcome.{Outcome as Answered}

@@ -2,7 +2,7 @@
 -- `protocol` (proofs/DecidedLaws.antt).
 -- Assumes nothing.
 use Rattle.std.specs.Prelude.{ℕ, not, List, leb, length, if◌then◌else◌}
-use Rattle.lists.specs.Base.{concatMap}
+use Rattle.storage.specs.Lists.Base.{concatMap}
 use Rattle.postcard.specs.Message.{Event, actionBytes}
 use Rattle.protocol.specs.State.{State, Counts}
 use Rattle.protocol.specs.Run.{Room}
@@ -12,7 +12,7 @@ use Rattle.decide.specs.Settled.{tooFarBefore}
 use Rattle.decide.specs.SizesAfter.{sizesAfter}
 use Rattle.decide.specs.ActionsAfter.{actionsAfter}
 use Rattle.decide.specs.StateAfter.{stateAfter}
-use Rattle.kinds.specs.Counted.{countsAfterCall}
+use Rattle.machine.specs.Kinds.Counted.{countsAfterCall}
 
 module _ (hash : List ℕ → ℕ) where
   -- the bytes of the call's actions

@@ -1,7 +1,7 @@
 -- What the caller finds of a step: questions 12, 13 and 14, then the step. Proved equal to the definitions' outcome for the event whose step it is (proofs/OutcomeLaws.antt).
 -- Assumes nothing.
 use Rattle.std.specs.Prelude.{ℕ, ◌^◌, ◌≤◌, ◌≡◌, not, List, ◌++◌, leb, length, get_or, if◌then◌else◌}
-use Rattle.lists.specs.Base.{concatMap}
+use Rattle.storage.specs.Lists.Base.{concatMap}
 use Rattle.postcard.specs.Message.{actionBytes}
 use Rattle.protocol.specs.State.{State, Counts, blockNeed}
 use Rattle.protocol.specs.Run.{Room}
@@ -12,8 +12,8 @@ use Rattle.decide.specs.Settled.{settled, settledActions}
 use Rattle.block.specs.View.{state_of, limitsOf}
 use Rattle.block.specs.declared.head.Head.{Head}
 use Rattle.steps.specs.Stands.{Stands}
-use Rattle.kinds.specs.Meaning.{stepSizes, stepActions, stepState, stepFar, stepCounts, StepHeld, SenderIs}
-use Rattle.kinds.specs.declared.Step.{Step}
+use Rattle.machine.specs.Kinds.Meaning.{stepSizes, stepActions, stepState, stepFar, stepCounts, StepHeld, SenderIs}
+use Rattle.machine.specs.declared.kinds.Step.{Step}
 
 -- the bytes of the call's actions
 unfoldable pub stepBytes : List ℕ → List Room → ℕ → Step → State → List ℕ

@@ -3,3 +3,4 @@ pub mod RunLaws
 pub mod PlaceLaws
 pub mod StepLaws
 pub mod StreamLaws
+pub mod RecordsLaws

@@ -6,8 +6,8 @@ use mathlib.Core.List.{List, ◌++◌}
 use native.Mathlib.Omega.{arith}
 use lib.Dec.{ltb}
 use lib.ListN.{length, take, drop}
-use Rattle.rows.specs.Part.{part, put}
-use Rattle.rows.proofs.Parts.{length_part, length-put, part-put, part-add, drop-take}
+use Rattle.storage.specs.Rows.Part.{part, put}
+use Rattle.storage.proofs.RowsLaws.Parts.{length_part, length-put, part-put, part-add, drop-take}
 use Rattle.panel.specs.Places.{Inside, unreadIn, Refilled}
 use Rattle.panel.specs.declared.stream.Place.{Place}
 

@@ -5,19 +5,19 @@ use mathlib.Core.Path.{◌≡◌, refl, sym, ap, ◌∙◌}
 use mathlib.Core.List.{List, [], ◌∷◌, ◌++◌, append_assoc, append-nil}
 use native.Mathlib.Omega.{arith}
 use lib.ListN.{length, take, drop, length-drop, length-append}
-use Rattle.lists.specs.Base.{all, concatMap}
+use Rattle.storage.specs.Lists.Base.{all, concatMap}
 use lib.Dec.{ltb}
-use Rattle.lists.proofs.MapLaws.{all_head, all_cons}
-use Rattle.lists.proofs.ListLaws.{all_append}
+use Rattle.storage.proofs.ListsLaws.MapLaws.{all_head, all_cons}
+use Rattle.storage.proofs.ListsLaws.ListLaws.{all_append}
 use Rattle.blake3.specs.Blake3.{identifier}
 use Rattle.postcard.specs.Wide.{Bytes}
 use Rattle.postcard.proofs.FieldBack.{bytes-tail, bytes_drop}
 use Rattle.protocol.specs.State.{State, Counts, fresh, zeroCounts}
 use Rattle.protocol.specs.Panel.{panelSettings, panelLimits}
-use Rattle.records.specs.Reading.{Cut}
-use Rattle.records.specs.Running.{writes, endBytes, closing}
-use Rattle.records.proofs.Pieces.{record-takes}
-use Rattle.records.proofs.RunningLaws.{panelrun-writes, writes-never, writes-bad}
+use Rattle.panel.specs.Records.Reading.{Cut}
+use Rattle.panel.specs.Records.Running.{writes, endBytes, closing}
+use Rattle.panel.proofs.RecordsLaws.Pieces.{record-takes}
+use Rattle.panel.proofs.RecordsLaws.RunningLaws.{panelrun-writes, writes-never, writes-bad}
 use Rattle.machine.specs.Called.{countsOf}
 use Rattle.panel.specs.Turns.{Holds, Memory, Took, Turned}
 use Rattle.panel.specs.Runs.{Runs, answers, reads, ends, stops, input_of, WritesPanelrun, Typed, Buffered, Next, Readable, Run, HasRuns}

@@ -7,17 +7,17 @@ use mathlib.Core.List.{List, [], ◌∷◌, ◌++◌, append_assoc, append-nil}
 use native.Mathlib.Omega.{arith}
 use borrow.Author.Tests.{ltb-false}
 use lib.ListN.{length, take, drop}
-use Rattle.lists.proofs.MapLaws.{true≢}
+use Rattle.storage.proofs.ListsLaws.MapLaws.{true≢}
 use Rattle.std.specs.Prelude.{if◌then◌else◌}
-use Rattle.rows.specs.Part.{part}
-use Rattle.rows.proofs.Parts.{length_part, put-nil, drop-part}
+use Rattle.storage.specs.Rows.Part.{part}
+use Rattle.storage.proofs.RowsLaws.Parts.{length_part, put-nil, drop-part}
 use Rattle.postcard.specs.Output.{Wrote}
 use Rattle.postcard.proofs.Writes.{wrote-long}
 use Rattle.protocol.specs.State.{Counts, fresh, zeroCounts}
 use Rattle.protocol.specs.Panel.{panelSettings, panelLimits}
-use Rattle.records.specs.Reading.{Bad}
-use Rattle.records.specs.Running.{endBytes, closing}
-use Rattle.records.proofs.Replies.{wrote-first, wrote_none, closing-few, end-few}
+use Rattle.panel.specs.Records.Reading.{Bad}
+use Rattle.panel.specs.Records.Running.{endBytes, closing}
+use Rattle.panel.proofs.RecordsLaws.Replies.{wrote-first, wrote_none, closing-few, end-few}
 use Rattle.machine.specs.Called.{countsOf}
 use Rattle.machine.specs.declared.Stats.{Stats}
 use Rattle.panel.specs.Turns.{Holds, Memory, memory, Stops}

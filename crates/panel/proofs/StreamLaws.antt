@@ -6,16 +6,16 @@ use lib.Dec.{ltb}
 use borrow.Author.Tests.{ltb-false}
 use Rattle.std.specs.Io.KnownBytes.{Consumes, Appends, IsAtEnd}
 use Rattle.std.proofs.KnownBytes.{Consumes-nil, Consumes-trans, Appends-nil, Appends-trans}
-use Rattle.lists.specs.Base.{concatMap}
-use Rattle.lists.proofs.ListLaws.{concat-append, concat-one}
-use Rattle.lists.proofs.MapLaws.{true≢}
-use Rattle.rows.specs.Part.{part, put}
+use Rattle.storage.specs.Lists.Base.{concatMap}
+use Rattle.storage.proofs.ListsLaws.ListLaws.{concat-append, concat-one}
+use Rattle.storage.proofs.ListsLaws.MapLaws.{true≢}
+use Rattle.storage.specs.Rows.Part.{part, put}
 use Rattle.blake3.specs.Blake3.{identifier}
 use Rattle.postcard.specs.Output.{Wrote}
 use Rattle.protocol.specs.State.{fresh, zeroCounts}
 use Rattle.protocol.specs.Panel.{panelSettings, panelLimits, panelrun}
-use Rattle.records.specs.Reading.{Cut}
-use Rattle.records.specs.Running.{endBytes, closing}
+use Rattle.panel.specs.Records.Reading.{Cut}
+use Rattle.panel.specs.Records.Running.{endBytes, closing}
 use Rattle.machine.specs.Called.{countsOf}
 use Rattle.panel.specs.Turns.{Holds, Memory, memory, Took, Waits, Stops}
 use Rattle.panel.specs.Places.{Inside, unreadIn, Behind, Ended, Stepped, answered, waited, stopped}

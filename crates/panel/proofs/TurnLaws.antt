@@ -8,8 +8,8 @@ use mathlib.Core.Option.{Option}
 use native.Mathlib.Nat.{min-le_left}
 use native.Mathlib.Omega.{arith}
 use lib.ListN.{length, take, drop, length-take}
-use Rattle.rows.specs.Part.{part}
-use Rattle.rows.proofs.Parts.{length-put, part-between}
+use Rattle.storage.specs.Rows.Part.{part}
+use Rattle.storage.proofs.RowsLaws.Parts.{length-put, part-between}
 use Rattle.blake3.specs.Blake3.{identifier}
 use Rattle.postcard.specs.Number.{groups, numberBytes}
 use Rattle.postcard.specs.Output.{Wrote}
@@ -24,11 +24,11 @@ use Rattle.block.specs.declared.head.Settings.{Settings}
 use Rattle.block.specs.declared.head.Limits.{Limits}
 use Rattle.whole.specs.Held.{held}
 use Rattle.whole.specs.Creation.{Creation, Creates, Accepted}
-use Rattle.records.specs.Reading.{recordCall, Whole}
-use Rattle.records.specs.Running.{writes, answerBytes}
-use Rattle.records.proofs.Pieces.{record-stays}
-use Rattle.records.proofs.RunningLaws.{writes-record}
-use Rattle.records.proofs.Replies.{put_first, wrote-first, answer-few}
+use Rattle.panel.specs.Records.Reading.{recordCall, Whole}
+use Rattle.panel.specs.Records.Running.{writes, answerBytes}
+use Rattle.panel.proofs.RecordsLaws.Pieces.{record-stays}
+use Rattle.panel.proofs.RecordsLaws.RunningLaws.{writes-record}
+use Rattle.panel.proofs.RecordsLaws.Replies.{put_first, wrote-first, answer-few}
 use Rattle.machine.specs.Called.{Lent, Finds, Called, countsOf, lent, call_of}
 use Rattle.machine.specs.declared.Stats.{Stats}
 use Rattle.panel.specs.Turns.{Holds, Memory, memory, callLent, Answered, Took}

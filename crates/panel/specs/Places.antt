@@ -1,10 +1,10 @@
 -- The unread bytes in the buffer, and a step of the program.
 -- Assumes nothing.
 use Rattle.std.specs.Prelude.{ℕ, ◌+◌, ◌-◌, ◌≤◌, ◌≡◌, true, false, List, [], ◌++◌, ltb, length, if◌then◌else◌}
-use Rattle.rows.specs.Part.{part}
+use Rattle.storage.specs.Rows.Part.{part}
 use Rattle.postcard.specs.Output.{Wrote}
-use Rattle.records.specs.Reading.{Cut, Bad}
-use Rattle.records.specs.Running.{endBytes, closing}
+use Rattle.panel.specs.Records.Reading.{Cut, Bad}
+use Rattle.panel.specs.Records.Running.{endBytes, closing}
 use Rattle.machine.specs.Called.{countsOf}
 use Rattle.panel.specs.Turns.{Memory, Took}
 use Rattle.panel.specs.declared.Answer.{Answer}

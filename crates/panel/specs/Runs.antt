@@ -1,14 +1,14 @@
 -- A whole run of `panelrun`: turn after turn, and pieces of the input, of any length, read where a turn finds a record that is cut.
 -- Assumes nothing.
 use Rattle.std.specs.Prelude.{ℕ, ◌^◌, ◌≤◌, ◌<◌, ◌≡◌, true, false, List, [], ◌∷◌, ◌++◌, length, take, drop}
-use Rattle.lists.specs.Base.{concatMap}
+use Rattle.storage.specs.Lists.Base.{concatMap}
 use Rattle.blake3.specs.Blake3.{identifier}
 use Rattle.postcard.specs.Output.{Wrote}
 use Rattle.postcard.specs.Wide.{Bytes}
 use Rattle.protocol.specs.State.{Counts, fresh, zeroCounts}
 use Rattle.protocol.specs.Panel.{panelSettings, panelLimits, panelrun}
-use Rattle.records.specs.Reading.{Cut, Bad}
-use Rattle.records.specs.Running.{endBytes, closing}
+use Rattle.panel.specs.Records.Reading.{Cut, Bad}
+use Rattle.panel.specs.Records.Running.{endBytes, closing}
 use Rattle.machine.specs.Called.{countsOf}
 use Rattle.panel.specs.Turns.{Holds, Memory, Took, Turned}
 use Rattle.panel.specs.Places.{Inside, unreadIn, Stepped, answered, waited, stopped}

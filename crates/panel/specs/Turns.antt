@@ -9,8 +9,8 @@ use Rattle.protocol.specs.Whole.{longEnough}
 use Rattle.protocol.specs.Answer.{Call}
 use Rattle.protocol.specs.Panel.{readRecord}
 use Rattle.whole.specs.Held.{held}
-use Rattle.records.specs.Reading.{Cut, Bad}
-use Rattle.records.specs.Running.{answerBytes}
+use Rattle.panel.specs.Records.Reading.{Cut, Bad}
+use Rattle.panel.specs.Records.Running.{answerBytes}
 use Rattle.machine.specs.Called.{Lent, Called, countsOf}
 use Rattle.panel.specs.declared.Answer.{Answer}
 use Rattle.panel.specs.declared.Turn.{Turn}

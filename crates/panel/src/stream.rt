@@ -7,10 +7,10 @@ ghost use Rattle.panel.specs.Turns.{memory};
 ghost use Rattle.panel.specs.Places.{Inside};
 ghost use Rattle.panel.specs.Streams.{Fed, FedOrClosed, FedStep};
 
-use crate::Turn;
+use crate::{Turn, records};
 use machine::Stats;
-use rows::table;
 use std::io::{Read, Write};
+use storage::rows::table;
 
 // Where the program is: the counts, the unread bytes of the buffer, from `at` to `end`, how many bytes of the reply are to be written, whether it goes on, and whether a read failed.
 #[derive(Clone, Copy)]

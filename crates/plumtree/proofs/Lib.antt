@@ -4,3 +4,4 @@ pub mod CallLaws
 pub mod CreationLaws
 pub mod Guarantee
 pub mod ListLaws
+pub mod HistoriesLaws

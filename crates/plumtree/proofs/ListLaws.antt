@@ -4,11 +4,11 @@ use mathlib.Core.Path.{◌≡◌, sym, subst}
 use mathlib.Core.List.{List, [], ◌∷◌, ◌++◌}
 use mathlib.Core.Option.{some}
 use lib.ListN.{length, take}
-use Rattle.lists.specs.Map.{lookup}
-use Rattle.states.specs.Kept.{Kept}
-use Rattle.states.specs.Area.{keptIn}
-use Rattle.states.specs.Calls.{Returns}
-use Rattle.states.proofs.Accepted.{brought}
+use Rattle.storage.specs.Lists.Map.{lookup}
+use Rattle.whole.specs.States.Kept.{Kept}
+use Rattle.whole.specs.States.Area.{keptIn}
+use Rattle.whole.specs.States.Calls.{Returns}
+use Rattle.whole.proofs.StatesLaws.Accepted.{brought}
 use Rattle.protocol.specs.State.{Counts}
 use Rattle.protocol.specs.Answer.{Call}
 use Rattle.block.specs.declared.head.Settings.{Settings}

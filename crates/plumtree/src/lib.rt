@@ -1,33 +1,35 @@
 // Document 01's calls upon a lent block, as C and Rust link them.
 #![tactic(auto)]
 
+pub mod histories;
 pub mod laws;
 mod peers;
 mod rooms;
 
 ghost use Rattle.std.specs.Prelude.{◌≡◌, [], length, take};
-ghost use Rattle.rewrite.specs.RewriteCalls.{Rewrites};
+ghost use Rattle.wire.specs.Rewrite.RewriteCalls.{Rewrites};
 ghost use Rattle.protocol.specs.Alike.{alikeBlocks};
 ghost use Rattle.block.specs.View.{limitsOf};
 ghost use Rattle.blake3.specs.Blake3.{identifier};
 ghost use Rattle.whole.specs.Held.{held};
 ghost use Rattle.machine.specs.Called.{countsOf, lent, call_of, Called};
 ghost use Rattle.std.proofs.Math.Option.{some};
-ghost use Rattle.lists.specs.Map.{lookup};
-ghost use Rattle.states.specs.Kept.{Kept};
-ghost use Rattle.states.specs.Area.{keptIn};
-ghost use Rattle.states.specs.Calls.{Saves, Returns};
-ghost use Rattle.limit_met.specs.LimitMet.{asking, limitMet};
+ghost use Rattle.storage.specs.Lists.Map.{lookup};
+ghost use Rattle.whole.specs.States.Kept.{Kept};
+ghost use Rattle.whole.specs.States.Area.{keptIn};
+ghost use Rattle.whole.specs.States.Calls.{Saves, Returns};
+ghost use Rattle.machine.specs.LimitMet.LimitMet.{asking, limitMet};
 ghost use Rattle.plumtree.specs.Calls.{blockSize, Made, entries, toldOf};
 ghost use Rattle.plumtree.specs.CallList.{CallList, fresh_list, with_call, LeadsTo};
 
 use block::head::{Limits, Settings};
 use machine::event::Outcome;
-use machine::{Stats, event};
+use machine::{Stats, event, limit_met};
 use postcard::units::Millis;
-use rewrite::Rewritten;
-use states::Returned;
-use whole::create;
+use whole::states::Returned;
+use whole::{create, states};
+use wire::rewrite;
+use wire::rewrite::Rewritten;
 
 // An entry of a call's link room: how many sends to the peer its link takes.
 #[repr(C)]

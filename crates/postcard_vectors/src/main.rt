@@ -5,6 +5,7 @@
 
 use postcard::message::Decoded;
 use std::io::Read;
+use wire::decode;
 
 mod shortest;
 mod show;

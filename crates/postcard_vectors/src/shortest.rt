@@ -1,7 +1,8 @@
 // Writes the shortest form of the message that an event holds, in hexadecimal.
 use crate::show;
-use number::NumberRead;
-use rewrite::Rewritten;
+use wire::number::NumberRead;
+use wire::rewrite::Rewritten;
+use wire::{number, rewrite};
 
 // The message rewritten, or the question that is answered no.
 fn message(rt: &impl Print, bytes: &[u8], out: &mut [u8]) {

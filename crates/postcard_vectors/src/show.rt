@@ -2,10 +2,10 @@
 ghost use Rattle.std.specs.Prelude.{length};
 ghost use Rattle.postcard.specs.Events.{Listed, MessageHeld, EventHeld, ihavesFrom};
 
-use decode::field;
-use decode::field::Announced;
 use postcard::message::{Delivery, Event, Message, Scope, Timer, Wanted};
-use rows::id::Id;
+use storage::rows::id::Id;
+use wire::decode::field;
+use wire::decode::field::Announced;
 
 // Writes bytes. Here and below a write that fails is left at that.
 pub fn word(rt: &impl Print, text: &[u8]) {

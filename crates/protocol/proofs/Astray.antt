@@ -4,12 +4,12 @@ use mathlib.Core.Path.{◌≡◌, refl}
 use mathlib.Core.Bool.{true, false}
 use mathlib.Core.List.{List, [], ◌∷◌}
 use lib.ListN.{length}
-use Rattle.lists.specs.Base as Base
+use Rattle.storage.specs.Lists.Base as Base
 use Rattle.protocol.specs.Control as Control
 use Rattle.protocol.specs.Gossips as Gossips
 use Rattle.protocol.specs.Handle as Handle
 use Rattle.protocol.specs.Links as Links
-use Rattle.lists.specs.Map as Map
+use Rattle.storage.specs.Lists.Map as Map
 use Rattle.postcard.specs.Message as Message
 use Rattle.protocol.specs.Neighbours as Neighbours
 use Rattle.postcard.specs.Number as Number
@@ -18,7 +18,7 @@ use Rattle.protocol.specs.Run as Run
 use Rattle.protocol.specs.State as State
 use Rattle.protocol.specs.Ticks as Ticks
 use Rattle.time_cache.specs.TimeCache as TimeCache
-use Rattle.lists.specs.Base.{◌▷◌}
+use Rattle.storage.specs.Lists.Base.{◌▷◌}
 use Rattle.postcard.specs.Message.{Swarm, Gossip, IHave, DispatchLazyPush, EvictCache, AnnounceDropped, Received, Fired, Sent, Scheduled, Emitted}
 use Rattle.protocol.specs.Run.{Run, Room, begin}
 

@@ -7,8 +7,8 @@ use mathlib.Core.Option.{Option, none, some}
 use lib.Dec.{eqb}
 use borrow.Author.Tests.{not-true}
 use Rattle.std.specs.Prelude.{if◌then◌else◌}
-use Rattle.lists.specs.Base.{is_empty, all, any, filter, ascending, member}
-use Rattle.lists.specs.Map.{Map, keys}
+use Rattle.storage.specs.Lists.Base.{is_empty, all, any, filter, ascending, member}
+use Rattle.storage.specs.Lists.Map.{Map, keys}
 use Rattle.time_cache.specs.TimeCache.{Cache, get, holds, replace, expireUntil, laterCache, Timely}
 use Rattle.protocol.specs.Links.{eager, lazy, Links, isNeighbour, lazyPeers, isLazy, addEager, addLazy}
 use Rattle.postcard.specs.Message.{Ihave, Message, Action, Scheduled}
@@ -20,9 +20,9 @@ use Rattle.protocol.specs.Control.{scheduleGraft, unmark}
 use Rattle.protocol.specs.Ticks.{evict, onEvictCacheTimer}
 use Rattle.protocol.specs.Whole.{announcersWhole, graftsWhole, notedOnce}
 use Rattle.protocol.specs.Consistent.{Within, Flagged, Core, CoreOf, Consistent, byNeighbour}
-use Rattle.lists.proofs.MapLaws.{and_left, and_right, all_cons, ascending-remove}
-use Rattle.lists.proofs.Lists.{or_right}
-use Rattle.lists.proofs.ListLaws.{all_append, all_filter, all-remove-entry}
+use Rattle.storage.proofs.ListsLaws.MapLaws.{and_left, and_right, all_cons, ascending-remove}
+use Rattle.storage.proofs.ListsLaws.Lists.{or_right}
+use Rattle.storage.proofs.ListsLaws.ListLaws.{all_append, all_filter, all-remove-entry}
 use Rattle.protocol.proofs.Walk.{Sending, Steps, walk-if}
 use Rattle.protocol.proofs.RecordOnly.{only-noteEach, only-noteOne, only-schedule}
 use Rattle.time_cache.proofs.Timely.{timely-put, timely-replace, timely-expire, expire-is-filter}

@@ -4,7 +4,7 @@ use mathlib.Core.Path.{◌≡◌, refl, ◌∙◌}
 use mathlib.Core.Bool.{Bool, true, false, ◌||◌}
 use mathlib.Core.List.{List, [], ◌∷◌, ◌++◌}
 use Rattle.std.specs.Prelude.{if◌then◌else◌}
-use Rattle.lists.specs.Base.{any}
+use Rattle.storage.specs.Lists.Base.{any}
 use Rattle.postcard.specs.Message.{Delivery, Emitted}
 use Rattle.protocol.specs.State.{withInit}
 use Rattle.protocol.specs.Run.{Run, withState, act, send}
@@ -12,7 +12,7 @@ use Rattle.protocol.specs.Gossips.{updateLinks, pruneBack, Late, duplicate, repe
 use Rattle.protocol.specs.Ticks.{onEvictCacheTimer}
 use Rattle.protocol.specs.Handle.{firstEvent}
 use Rattle.protocol.specs.Demand3.{isEmit}
-use Rattle.lists.proofs.Lists.{any_append, any-right, any-one}
+use Rattle.storage.proofs.ListsLaws.Lists.{any_append, any-right, any-one}
 
 pub any-skip : {A : Type 0} (f : A → Bool) (xs : List A) (x : A) → f x ≡ false → any f (xs ++ (x ∷ [])) ≡ any f xs
 any-skip f xs x h = any_append f xs (x ∷ []) ∙ rw (any-one f x, h) (or-none (any f xs))

@@ -4,8 +4,8 @@ use mathlib.Core.Path.{◌≡◌, refl}
 use mathlib.Core.Bool.{Bool, true, false}
 use mathlib.Core.List.{List, [], ◌∷◌, ◌++◌, map}
 use mathlib.Core.Option.{none, some}
-use Rattle.lists.specs.Base as Base
-use Rattle.lists.specs.Map as Map
+use Rattle.storage.specs.Lists.Base as Base
+use Rattle.storage.specs.Lists.Map as Map
 use Rattle.postcard.specs.Number as Number
 use Rattle.postcard.specs.Number.{idBytes}
 use Rattle.postcard.specs.Message as Message
@@ -26,7 +26,7 @@ use Rattle.protocol.specs.Handle as Handle
 use Rattle.protocol.specs.Calls as Calls
 use Rattle.protocol.specs.Demand3 as Demand3
 use Rattle.protocol.specs.Panel as Panel
-use Rattle.lists.specs.Base.{any, member}
+use Rattle.storage.specs.Lists.Base.{any, member}
 use Rattle.postcard.specs.Message.{Swarm, toSwarm, Gossip, Prune, IHave, SendGraft, DispatchLazyPush, AnnounceDropped, Event, Received, Broadcast, Fired, Up, Down, eventBytes}
 use Rattle.time_cache.specs.TimeCache.{holds}
 use Rattle.protocol.specs.Links.{eagerPeers, lazyPeers}

@@ -9,8 +9,8 @@ use native.Mathlib.Omega.{arith}
 use lib.Dec.{ltb, eqb}
 use borrow.Author.Tests.{eqb-true, ne_eqb, ltb-true}
 use Rattle.std.specs.Prelude.{if◌then◌else◌}
-use Rattle.lists.specs.Base.{is_some, is_empty, any, all, filter, member, ascending}
-use Rattle.lists.specs.Map.{Map, keys, lookup, has, insert, remove}
+use Rattle.storage.specs.Lists.Base.{is_some, is_empty, any, all, filter, member, ascending}
+use Rattle.storage.specs.Lists.Map.{Map, keys, lookup, has, insert, remove}
 use Rattle.time_cache.specs.TimeCache.{Cache, Timed, Expiry, value_of, get, holds, put, withValue, replace, expiresAt, pop, popAll, due, expireUntil}
 use Rattle.postcard.specs.Message.{Ihave, Graft, SendGraft, Action, Sent, Scheduled}
 use Rattle.protocol.specs.State.{State, Hop, Grafts}
@@ -21,9 +21,9 @@ use Rattle.protocol.specs.Control.{addAnnouncer, announce, scheduleGraft, onAnno
 use Rattle.protocol.specs.Ticks.{moveOldest, stillCached, dispatchIfQueued, onAnnounceDroppedTimer, clearDispatch, onDispatchTimer, evict, onEvictCacheTimer}
 use Rattle.protocol.specs.Neighbours.{withoutAnnouncer, forgetAnnouncer, withoutGraft, forgetGrafted, forgetPeer}
 use Rattle.protocol.specs.Demand3.{lists, isGraftFor, takenOrHandedBack, sends}
-use Rattle.lists.proofs.MapLaws.{cases, true≢, and_left, and_right, and_intro, all_head, all_tail, all_cons, ascending-insert, ascending-remove, lookup-insert-same, lookup-insert-other, lookup-remove-same, lookup-remove-other}
-use Rattle.lists.proofs.Lists.{or_cases, any_append, any_left, any-right, any-one}
-use Rattle.lists.proofs.KeyLaws.{eqb-sym}
+use Rattle.storage.proofs.ListsLaws.MapLaws.{cases, true≢, and_left, and_right, and_intro, all_head, all_tail, all_cons, ascending-insert, ascending-remove, lookup-insert-same, lookup-insert-other, lookup-remove-same, lookup-remove-other}
+use Rattle.storage.proofs.ListsLaws.Lists.{or_cases, any_append, any_left, any-right, any-one}
+use Rattle.storage.proofs.ListsLaws.KeyLaws.{eqb-sym}
 use Rattle.protocol.proofs.Invariant.{hopOf}
 use Rattle.protocol.proofs.Walk.{Sending, Steps, walk-dispatchTo}
 use Rattle.protocol.proofs.RecordOnly.{RecordOnly, only-noteDropped, only-schedule}

@@ -5,7 +5,7 @@ use mathlib.Core.Bool.{Bool, false, not, ◌&&◌, ◌||◌}
 use mathlib.Core.List.{List, [], ◌∷◌}
 use mathlib.Core.Option.{none, some}
 use lib.Dec.{eqb}
-use Rattle.lists.specs.Base.{is_empty, any, member}
+use Rattle.storage.specs.Lists.Base.{is_empty, any, member}
 use Rattle.time_cache.specs.TimeCache.{holds, get}
 use Rattle.postcard.specs.Message.{Delivery, Ihave, Message, Prune, Graft, Sent, Scheduled, Emitted, Timer}
 use Rattle.protocol.specs.Links.{isNeighbour, eagerIn}
@@ -17,8 +17,8 @@ use Rattle.protocol.specs.Control.{announce, scheduleGraft, onAnnounced, onIHave
 use Rattle.protocol.specs.Ticks.{stillCached, moveOldest, dispatchIfQueued, onAnnounceDroppedTimer, onEvictCacheTimer}
 use Rattle.protocol.specs.Handle.{firstEvent, ifNeighbour}
 use Rattle.protocol.specs.Demand3.{carries, sends, wasHandedBack}
-use Rattle.lists.proofs.MapLaws.{cases}
-use Rattle.lists.proofs.Lists.{any_append, any-one}
+use Rattle.storage.proofs.ListsLaws.MapLaws.{cases}
+use Rattle.storage.proofs.ListsLaws.Lists.{any_append, any-one}
 use Rattle.protocol.proofs.EmitSteps.{any-skip}
 use Rattle.protocol.proofs.Walk.{walk-if}
 

@@ -6,8 +6,8 @@ use mathlib.Core.List.{List, []}
 use mathlib.Core.Option.{Option, none, some}
 use lib.Dec.{eqb}
 use borrow.Author.Tests.{eqb-true}
-use Rattle.lists.specs.Base.{ascending, is_some, is_empty, member}
-use Rattle.lists.specs.Map.{insert, keys}
+use Rattle.storage.specs.Lists.Base.{ascending, is_some, is_empty, member}
+use Rattle.storage.specs.Lists.Map.{insert, keys}
 use Rattle.protocol.specs.Links.{Mark, eager, lazy, Links, isNeighbour, markIfThere, addEager, addLazy}
 use Rattle.postcard.specs.Message.{Delivery, Scope, Message, Gossip, Prune, Graft, IHave, Timer, SendGraft, DispatchLazyPush, EvictCache, AnnounceDropped, Emitted}
 use Rattle.protocol.specs.State.{State, Hop, Grafts, withQueue}
@@ -17,7 +17,7 @@ use Rattle.protocol.specs.Gossips.{markReceived, cacheAt, withFirst, setFirst, f
 use Rattle.protocol.specs.Control.{announce, scheduleGraft, noteGraft, leaveAnnouncers, unmark}
 use Rattle.protocol.specs.Ticks.{clearDispatch, onDispatchTimer, moveOldest, stillCached, dispatchIfQueued, onAnnounceDroppedTimer, evict, onEvictCacheTimer}
 use Rattle.protocol.specs.Handle.{firstEvent, ifNeighbour, onTimer, onMessage, handleMessage}
-use Rattle.lists.proofs.MapLaws.{cases, lookup-insert-same, lookup-insert-other, ascending-insert}
+use Rattle.storage.proofs.ListsLaws.MapLaws.{cases, lookup-insert-same, lookup-insert-other, ascending-insert}
 use Rattle.protocol.proofs.Walk.{Sending, Steps, walk-if, walk-dispatchTo, walk-firstEvent, walk-onGossip, walk-broadcast, walk-onPrune, walk-onGraft, walk-onIHave, walk-onSendGraftTimer}
 use Rattle.protocol.proofs.RecordOnly.{only-noteDropped, only-schedule}
 

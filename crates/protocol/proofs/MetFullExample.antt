@@ -3,8 +3,8 @@ use Prim.Native.Nat.{ℕ, zero, suc, ◌+◌}
 use mathlib.Core.Path.{◌≡◌, refl}
 use mathlib.Core.Bool.{true, false}
 use mathlib.Core.List.{List, [], ◌∷◌, map}
-use Rattle.lists.specs.Base as Base
-use Rattle.lists.specs.Map as Map
+use Rattle.storage.specs.Lists.Base as Base
+use Rattle.storage.specs.Lists.Map as Map
 use Rattle.postcard.specs.Number as Number
 use Rattle.time_cache.specs.TimeCache as TimeCache
 use Rattle.protocol.specs.State as State
@@ -18,7 +18,7 @@ use Rattle.protocol.specs.Whole as Whole
 use Rattle.protocol.specs.Demand3 as Demand3
 use Rattle.protocol.specs.Panel as Panel
 use Rattle.protocol.specs.Notings as Notings
-use Rattle.lists.specs.Map.{entry}
+use Rattle.storage.specs.Lists.Map.{entry}
 use Rattle.postcard.specs.Message.{toSwarm, Event, Broadcast}
 use Rattle.protocol.specs.Links.{eager}
 use Rattle.protocol.specs.State.{State, Note, fresh, withLinks, withDropped, withAnnounceScheduled, zeroCounts}

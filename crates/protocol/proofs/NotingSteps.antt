@@ -8,7 +8,7 @@ use mathlib.Core.Logic.{◌⊎◌, inl, inr}
 use lib.Dec.{eqb}
 use borrow.Author.Tests.{eqb-true, eq-eqb, not-true}
 use Rattle.std.specs.Prelude.{if◌then◌else◌}
-use Rattle.lists.specs.Base.{any, member}
+use Rattle.storage.specs.Lists.Base.{any, member}
 use Rattle.time_cache.specs.TimeCache.{holds}
 use Rattle.postcard.specs.Message.{Ihave, Message}
 use Rattle.protocol.specs.Links.{isNeighbour}
@@ -17,8 +17,8 @@ use Rattle.protocol.specs.Run.{Run, send, takes}
 use Rattle.protocol.specs.Push.{notes, recordFull, recordAlso, noteOne, scheduleAnnounceDropped}
 use Rattle.protocol.specs.Demand3.{lists, carries, leftOut}
 use Rattle.protocol.specs.Notings.{Coming, Account, plain, noteOne', noteEach', noteDropped', noteForEach'}
-use Rattle.lists.proofs.MapLaws.{cases, true≢, and_left, and_right, and_intro}
-use Rattle.lists.proofs.Lists.{or_cases, or_left, or_right, any_append, any_left, any-right, any_none, any-one}
+use Rattle.storage.proofs.ListsLaws.MapLaws.{cases, true≢, and_left, and_right, and_intro}
+use Rattle.storage.proofs.ListsLaws.Lists.{or_cases, or_left, or_right, any_append, any_left, any-right, any_none, any-one}
 use Rattle.protocol.proofs.RecordOnly.{only-noteOne, only-noteDropped}
 use Rattle.protocol.proofs.ReachSteps.{grows-noteOne}
 use Rattle.protocol.proofs.HandedBack.{back, Calm, back-send, calm-scheduleAnnounceDropped, silent-noteOne, silent-noteDropped}

@@ -9,8 +9,8 @@ use native.Mathlib.Omega.{arith}
 use lib.Dec.{leb}
 use lib.ListN.{length, length-append}
 use borrow.Author.Tests.{leb-true, le-leb}
-use Rattle.lists.specs.Base.{is_empty, any, count, member}
-use Rattle.lists.specs.Map.{lookup}
+use Rattle.storage.specs.Lists.Base.{is_empty, any, count, member}
+use Rattle.storage.specs.Lists.Map.{lookup}
 use Rattle.time_cache.specs.TimeCache.{Timed, Cache, holds, popAll, due, expireUntil}
 use Rattle.protocol.specs.Links.{isNeighbour}
 use Rattle.postcard.specs.Message.{Ihave, Message, Action, Sent, Scheduled, Event}
@@ -22,9 +22,9 @@ use Rattle.protocol.specs.Control.{announce, scheduleGraft, noteGraft, leaveAnno
 use Rattle.protocol.specs.Ticks.{evict, onEvictCacheTimer}
 use Rattle.protocol.specs.Answer.{accept}
 use Rattle.protocol.specs.Demand3.{byAction, carries, sends, wasTaken, wasHandedBack, sent, leftOut, metFull}
-use Rattle.lists.proofs.MapLaws.{cases, true≢}
-use Rattle.lists.proofs.Lists.{or_cases, or_left, or_right, any_left}
-use Rattle.lists.proofs.ListLaws.{count-append}
+use Rattle.storage.proofs.ListsLaws.MapLaws.{cases, true≢}
+use Rattle.storage.proofs.ListsLaws.Lists.{or_cases, or_left, or_right, any_left}
+use Rattle.storage.proofs.ListsLaws.ListLaws.{count-append}
 use Rattle.protocol.proofs.Invariant.{Same, Stands, Settled, wasSent, wasFull, queuedNow, recordedNow}
 use Rattle.protocol.proofs.Walk.{Sending, Steps, walk-if}
 use Rattle.protocol.proofs.GraftSteps.{lookup-popAll}

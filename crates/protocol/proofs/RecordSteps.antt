@@ -6,7 +6,7 @@ use mathlib.Core.List.{List, [], ◌∷◌, ◌++◌}
 use mathlib.Core.Option.{Option, none, some}
 use mathlib.Core.Logic.{◌⊎◌, inl, inr}
 use Rattle.std.specs.Prelude.{if◌then◌else◌}
-use Rattle.lists.specs.Base.{is_empty, any, member}
+use Rattle.storage.specs.Lists.Base.{is_empty, any, member}
 use Rattle.time_cache.specs.TimeCache.{holds}
 use Rattle.protocol.specs.Links.{isNeighbour}
 use Rattle.postcard.specs.Message.{Delivery, Ihave, Message, DispatchLazyPush, AnnounceDropped, Action, Sent, Scheduled, Emitted}
@@ -18,8 +18,8 @@ use Rattle.protocol.specs.Control.{announce, scheduleGraft, noteGraft, leaveAnno
 use Rattle.protocol.specs.Ticks.{moveOldest, stillCached, dispatchIfQueued, onAnnounceDroppedTimer, evict, onEvictCacheTimer}
 use Rattle.protocol.specs.Demand3.{dispatchTick, announceTick, isTick, schedulesTick}
 use Rattle.protocol.specs.Consistent.{Within, Flagged}
-use Rattle.lists.proofs.MapLaws.{cases, true≢}
-use Rattle.lists.proofs.Lists.{or_left, or_right, any_left, any-right, any-one}
+use Rattle.storage.proofs.ListsLaws.MapLaws.{cases, true≢}
+use Rattle.storage.proofs.ListsLaws.Lists.{or_left, or_right, any_left, any-right, any-one}
 use Rattle.protocol.proofs.Walk.{Sending, Steps}
 use Rattle.protocol.proofs.RecordBounds.{within-filter, within-younger, within_more}
 

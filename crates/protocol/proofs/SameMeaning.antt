@@ -7,7 +7,7 @@ use mathlib.Core.List.{List}
 use mathlib.Core.Option.{Option, none, some}
 use lib.Dec.{leb}
 use Rattle.std.specs.Prelude.{if◌then◌else◌}
-use Rattle.lists.proofs.Branches.{if-both}
+use Rattle.storage.proofs.ListsLaws.Branches.{if-both}
 use Rattle.postcard.specs.Message.{Event}
 use Rattle.postcard.specs.Decode.{decoded, decodeEvent}
 use Rattle.protocol.specs.State.{State, Settings, Counts}

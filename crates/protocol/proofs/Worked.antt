@@ -5,8 +5,8 @@ use mathlib.Core.Bool.{true, false}
 use mathlib.Core.List.{List, [], ◌∷◌, ◌++◌}
 use mathlib.Core.Option.{none}
 use lib.ListN.{replicate}
-use Rattle.lists.specs.Base.{◌▷◌, count, any, filter, member, concatMap, all, sum, ascending}
-use Rattle.lists.specs.Map.{lookup, insert, remove, insertKey, removeKey}
+use Rattle.storage.specs.Lists.Base.{◌▷◌, count, any, filter, member, concatMap, all, sum, ascending}
+use Rattle.storage.specs.Lists.Map.{lookup, insert, remove, insertKey, removeKey}
 use Rattle.postcard.specs.Number.{got, groups, numberBytes, numberLength, readRound, readGroups, lastGroup, readNumber, kindNumber, readBytes, readKind}
 use Rattle.postcard.specs.Message.{Swarm, toSwarm, toNeighbors, Gossip, Prune, Graft, IHave, DispatchLazyPush, Received, Sent, Scheduled, Emitted, messageBytes, timerBytes, actionBytes}
 use Rattle.postcard.specs.Decode.{messagePart, messageKind, readMessage, messageOf, readTimer, timerOf, eventOf, readEvent, ended, decodeEvent}

@@ -1,7 +1,7 @@
 -- *Alike* as document 01 has it: "order inside queue, record, announcer and expiry lists ignored, repeats counted".
 -- Document 02, request e, holds the new one against it: "Two blocks alike in the new way are alike in the old way."
 use Rattle.std.specs.Prelude.{Bool, ◌&&◌, List, eqb}
-use Rattle.lists.specs.Base.{all, count}
+use Rattle.storage.specs.Lists.Base.{all, count}
 use Rattle.time_cache.specs.TimeCache.{Cache}
 use Rattle.protocol.specs.State.{State}
 use Rattle.protocol.specs.Alike.{same_list, sameMap, sameMark, sameHop, sameNote, sameExpiry, sameGrafts, sameCached, sameUnit, sameSettings, sameLimits, sameFlags}

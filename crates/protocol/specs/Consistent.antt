@@ -1,7 +1,7 @@
 -- `whole` (question 5) as records, without the limits (question 13): what each step of a call finds and keeps. Proved to be `whole` with `fits` (`whole-consistent`, `whole-ranged`, `consistent-whole`).
 use Rattle.std.specs.Prelude.{ℕ, ◌≤◌, ◌≡◌, Bool, true, ◌||◌, List, leb, length}
-use Rattle.lists.specs.Base.{is_empty, all, count, ascending}
-use Rattle.lists.specs.Map.{Map, keys}
+use Rattle.storage.specs.Lists.Base.{is_empty, all, count, ascending}
+use Rattle.storage.specs.Lists.Map.{Map, keys}
 use Rattle.time_cache.specs.TimeCache.{Cache, Timely}
 use Rattle.protocol.specs.Links.{Links, isNeighbour}
 use Rattle.protocol.specs.State.{State, Note, Hop, Grafts, Cached, sizeInRange, durationsInRange, limitsInRange}

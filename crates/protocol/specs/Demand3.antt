@@ -1,7 +1,7 @@
 -- Demand 3: what holds after every list of event calls from a fresh panel. What is said of the past is read from the event of each accepted call, its actions, and the state after it.
 use Rattle.std.specs.Prelude.{ℕ, ◌≤◌, ◌≡◌, Bool, true, false, not, ◌&&◌, List, [], ◌∷◌, ◌++◌, leb, eqb, length, if◌then◌else◌}
 use Rattle.std.proofs.Math.Option.{Option, none, some}
-use Rattle.lists.specs.Base.{any, count, member}
+use Rattle.storage.specs.Lists.Base.{any, count, member}
 use Rattle.postcard.specs.Message.{Swarm, Neighbors, Scope, toSwarm, toNeighbors, Ihave, Message, Gossip, Prune, Graft, IHave, Timer, SendGraft, DispatchLazyPush, EvictCache, AnnounceDropped, Event, Received, Broadcast, Fired, Up, Down, Action, Sent, Scheduled, Emitted}
 use Rattle.time_cache.specs.TimeCache.{holds}
 use Rattle.protocol.specs.Links.{eagerPeers, lazyPeers}

@@ -17,3 +17,4 @@ pub mod Notings
 pub mod Alike
 pub mod AlikeUnordered
 pub mod Panel
+pub mod AlikeCalls

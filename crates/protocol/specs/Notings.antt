@@ -2,8 +2,8 @@
 -- name, line for line, with the account; a step in which nothing is noted is the protocol's own (`plain`). `MetFullExact` says that the run is `handle`'s, and what the account has to do with `metFull`.
 use Rattle.std.specs.Prelude.{ℕ, suc, ◌≡◌, true, false, not, List, [], ◌∷◌, ◌++◌, ◌⊎◌, ltb, eqb, length, if◌then◌else◌}
 use Rattle.std.proofs.Math.Option.{Option, none, some}
-use Rattle.lists.specs.Base.{◌▷◌, any}
-use Rattle.lists.specs.Map.{keys}
+use Rattle.storage.specs.Lists.Base.{◌▷◌, any}
+use Rattle.storage.specs.Lists.Map.{keys}
 use Rattle.time_cache.specs.TimeCache.{get, holds}
 use Rattle.postcard.specs.Message.{Delivery, Swarm, Neighbors, Scope, toSwarm, toNeighbors, Ihave, Message, Gossip, Prune, Graft, IHave, Timer, SendGraft, DispatchLazyPush, EvictCache, AnnounceDropped, Event, Received, Broadcast, Fired, Up, Down}
 use Rattle.protocol.specs.Links.{isNeighbour, addEager}

@@ -1,7 +1,7 @@
 -- Document 01, "Ticks": `on_dispatch_timer`, `on_announce_dropped_timer`, `on_evict_cache_timer`.
 use Rattle.std.specs.Prelude.{ℕ, zero, suc, false, List, [], ◌∷◌, ◌++◌, map, ltb, length, take, drop, if◌then◌else◌}
-use Rattle.lists.specs.Base.{◌▷◌, is_empty, filter, count}
-use Rattle.lists.specs.Map.{insertKey}
+use Rattle.storage.specs.Lists.Base.{◌▷◌, is_empty, filter, count}
+use Rattle.storage.specs.Lists.Map.{insertKey}
 use Rattle.time_cache.specs.TimeCache.{holds, expireUntil}
 use Rattle.postcard.specs.Message.{Ihave, EvictCache}
 unfoldable pub use Rattle.postcard.specs.Sizes.{perMessage}

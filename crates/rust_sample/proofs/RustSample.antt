@@ -3,8 +3,8 @@ use Rattle.std.specs.Prelude.{ℕ, ◌≡◌, Bool, true, false, ◌&&◌, if◌
 use Rattle.std.proofs.Common.{refl}
 use Rattle.std.proofs.Math.Option.{none, some}
 use Rattle.std.proofs.Math.ListN.{replicate}
-use Rattle.lists.specs.Base as Base
-use Rattle.lists.specs.Map as Map
+use Rattle.storage.specs.Lists.Base as Base
+use Rattle.storage.specs.Lists.Map as Map
 use Rattle.postcard.specs.Number as Number
 use Rattle.postcard.specs.Message as Message
 use Rattle.postcard.specs.Decode as Decode
@@ -22,7 +22,7 @@ use Rattle.protocol.specs.Control as Control
 use Rattle.protocol.specs.Handle as Handle
 use Rattle.protocol.specs.Calls as Calls
 use Rattle.protocol.specs.Alike as Alike
-use Rattle.lists.specs.Map.{entry}
+use Rattle.storage.specs.Lists.Map.{entry}
 use Rattle.postcard.specs.Number.{bigEndian}
 use Rattle.protocol.specs.Links.{eager, lazy}
 use Rattle.protocol.specs.State.{State, Settings, Limits, Counts, Hop, Note, fresh}

@@ -1,2 +1,9 @@
 pub mod StandsLaws
 pub mod RoomsLaws
+pub mod SettledLaws
+pub mod SizesBeforeLaws
+pub mod GraftsLaws
+pub mod ContentsLaws
+pub mod NeighboursLaws
+pub mod TicksLaws
+pub mod PushesLaws

@@ -9,9 +9,9 @@ use mathlib.Core.Option.{none}
 use lib.Dec.{leb, ltb, eqb}
 use lib.ListN.{length, get_or, length-map}
 use borrow.Author.Tests.{ltb-true, ltb-false, eq-eqb, ne_eqb, le-leb}
-use Rattle.lists.specs.Base.{all, ascending, member}
-use Rattle.lists.specs.Map.{Map, keys, lookup, has}
-use Rattle.lists.proofs.MapLaws.{cases, true≢, and_left, and_right, all_head, all_tail}
+use Rattle.storage.specs.Lists.Base.{all, ascending, member}
+use Rattle.storage.specs.Lists.Map.{Map, keys, lookup, has}
+use Rattle.storage.proofs.ListsLaws.MapLaws.{cases, true≢, and_left, and_right, all_head, all_tail}
 use Rattle.protocol.specs.Links.{isNeighbour}
 use Rattle.protocol.specs.State.{State}
 use Rattle.protocol.specs.Run.{Room}

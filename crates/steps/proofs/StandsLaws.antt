@@ -7,7 +7,7 @@ use Rattle.block.specs.LinkSteps.{LinksAscend}
 use Rattle.block.specs.MissingSteps.{MissingAscend}
 use Rattle.block.specs.TimerSteps.{TimersAscend}
 use Rattle.block.specs.declared.head.Head.{Head}
-use Rattle.caches.specs.InBlock.{InOrder}
+use Rattle.block.specs.Caches.InBlock.{InOrder}
 use Rattle.steps.specs.Stands.{Stands}
 
 pub in_order : {A : Type 0} (c : Cache A) → Timely c → InOrder c

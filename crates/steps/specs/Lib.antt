@@ -1,3 +1,10 @@
 pub mod Stands
 pub mod Rooms
 pub mod Shared
+pub mod Settled
+pub mod SizesBefore
+pub mod Grafts
+pub mod Contents
+pub mod Neighbours
+pub mod Ticks
+pub mod Pushes

@@ -2,8 +2,8 @@
 -- Assumes nothing.
 use Rattle.std.specs.Prelude.{ℕ, List, [], ◌∷◌, ◌++◌, ltb, get_or, if◌then◌else◌}
 use Rattle.std.proofs.Math.Option.{Option, none, some}
-use Rattle.lists.specs.Base.{member}
-use Rattle.lists.specs.Map.{keys}
+use Rattle.storage.specs.Lists.Base.{member}
+use Rattle.storage.specs.Lists.Map.{keys}
 use Rattle.protocol.specs.State.{State}
 use Rattle.protocol.specs.Run.{Room}
 

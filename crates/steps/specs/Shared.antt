@@ -2,7 +2,7 @@
 -- Assumes nothing.
 use Rattle.std.specs.Prelude.{ℕ, ◌<◌, ◌≡◌, length, get_or}
 use Rattle.std.proofs.Math.Option.{Option, none, some}
-use Rattle.lists.specs.Map.{Map, Entry}
+use Rattle.storage.specs.Lists.Map.{Map, Entry}
 use Rattle.time_cache.specs.TimeCache.{Timed}
 use Rattle.decide.specs.Sizes.{Sizes}
 use Rattle.steps.specs.declared.Held.{Held}

@@ -1,6 +1,14 @@
 // What the functions of a call share.
 #![tactic(auto)]
 
+pub mod contents;
+pub mod grafts;
+pub mod neighbours;
+pub mod pushes;
+pub mod settled;
+pub mod sizes_before;
+pub mod ticks;
+
 // The number of an entry in its table, or none.
 #[derive(Clone, Copy)]
 pub enum Held {

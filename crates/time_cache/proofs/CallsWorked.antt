@@ -4,7 +4,7 @@ use Prim.Native.Nat.{ℕ}
 use mathlib.Core.Path.{◌≡◌, refl}
 use mathlib.Core.Bool.{true, false}
 use mathlib.Core.List.{[], ◌∷◌}
-use Rattle.lists.specs.Map.{lookup, insert, remove}
+use Rattle.storage.specs.Lists.Map.{lookup, insert, remove}
 use Rattle.time_cache.specs.TimeCache.{Cache, emptyCache, holds, addExpiry, put, expiresAt, pop, due, later, popAll, popped, expireUntil, expiredKeys}
 
 -- a message that is kept for 30,000 ms, cached at 0, and put again at 10,000

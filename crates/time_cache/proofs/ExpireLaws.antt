@@ -9,9 +9,9 @@ use native.Mathlib.Omega.{arith}
 use borrow.Author.Tests.{ltb-true, lt-ltb, le-leb, leb-true}
 use lib.Dec.{ltb}
 use lib.ListN.{length, drop, length-map}
-use Rattle.lists.specs.Base.{filter}
-use Rattle.lists.proofs.ListLaws.{all_map, all-filter-imp}
-use Rattle.refs.specs.Refs.{Ref, ref, places, names, lowered, left}
+use Rattle.storage.specs.Lists.Base.{filter}
+use Rattle.storage.proofs.ListsLaws.ListLaws.{all_map, all-filter-imp}
+use Rattle.storage.specs.Refs.Refs.{Ref, ref, places, names, lowered, left}
 use Rattle.time_cache.specs.TimeCache.{Cache, expireUntil, expiredKeys, Timely}
 use Rattle.time_cache.specs.Tables.{ExpiryRow, expiryRows, expiryOf, Cut, Held, held, entry_of, cacheOf, refsAt, rows_at, cacheAt, Lies, resized, Sound}
 use Rattle.time_cache.specs.Steps.{Drops, DropsEntries, Expires}

@@ -9,15 +9,15 @@ use native.Mathlib.Omega.{arith}
 use lib.Dec.{ltb}
 use lib.ListN.{length, take, drop, length-map, length-drop}
 use lib.Seq.{drop-drop}
-use Rattle.lists.specs.Base.{is_some, filter, count}
-use Rattle.lists.specs.Map.{Entry, keys, lookup}
-use Rattle.lists.proofs.MapLaws.{cases}
-use Rattle.lists.proofs.ListLaws.{length-filter}
-use Rattle.rows.specs.Part.{part}
-use Rattle.rows.specs.Digits.{leNat}
-use Rattle.rows.specs.Sorted.{Between, Here}
-use Rattle.refs.specs.Refs.{Ref, ref, places, names, lowered, left}
-use Rattle.refs.proofs.Places.{getD-map-in, length-refs, place_in}
+use Rattle.storage.specs.Lists.Base.{is_some, filter, count}
+use Rattle.storage.specs.Lists.Map.{Entry, keys, lookup}
+use Rattle.storage.proofs.ListsLaws.MapLaws.{cases}
+use Rattle.storage.proofs.ListsLaws.ListLaws.{length-filter}
+use Rattle.storage.specs.Rows.Part.{part}
+use Rattle.storage.specs.Rows.Digits.{leNat}
+use Rattle.storage.specs.Rows.Sorted.{Between, Here}
+use Rattle.storage.specs.Refs.Refs.{Ref, ref, places, names, lowered, left}
+use Rattle.storage.proofs.RefsLaws.Places.{getD-map-in, length-refs, place_in}
 use Rattle.time_cache.specs.TimeCache.{Timed, laterCache, holds}
 use Rattle.time_cache.specs.Tables.{ExpiryRow, expiryOf, row_at, named, Cut, Held, held, entry_of, cacheOf, refsAt, rows_at, cacheAt, Lies, Sound}
 use Rattle.time_cache.specs.Steps.{ref_at, held_at, GotAt}

@@ -9,13 +9,13 @@ use native.Mathlib.Omega.{arith}
 use borrow.Author.Tests.{eq-eqb, le-ltb}
 use lib.Dec.{ltb, eqb}
 use lib.ListN.{length, get_or, length-map}
-use Rattle.lists.specs.Base.{is_some}
-use Rattle.lists.specs.Map.{Map, Entry, keys, lookup, insert, remove}
-use Rattle.lists.proofs.MapLaws.{cases, lookup-insert-same}
-use Rattle.lists.proofs.ListLaws.{filter_map}
+use Rattle.storage.specs.Lists.Base.{is_some}
+use Rattle.storage.specs.Lists.Map.{Map, Entry, keys, lookup, insert, remove}
+use Rattle.storage.proofs.ListsLaws.MapLaws.{cases, lookup-insert-same}
+use Rattle.storage.proofs.ListsLaws.ListLaws.{filter_map}
 use Rattle.time_cache.specs.TimeCache.{Timed, Expiry, Cache, value_of, get, holds, put as put_in, withValue, replace, expiresAt, pop, due, later, popAll, expireUntil, laterCache}
 use Rattle.time_cache.specs.Tables.{ExpiryRow, expiryOf, Held, held, entry_of, cacheOf, readAs, valuesAs}
-use Rattle.refs.specs.Refs.{Ref}
+use Rattle.storage.specs.Refs.Refs.{Ref}
 
 -- values that are read from the bytes
 pub values-read : {A : Type 0} (value : List ℕ → List ℕ → A) (es : List Ref) (xs : List ExpiryRow) → valuesAs (λ h. value h.own h.rest) (cacheOf held es xs) ≡ cacheOf value es xs

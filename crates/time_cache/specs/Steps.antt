@@ -2,13 +2,13 @@
 -- Assumes nothing.
 use Rattle.std.specs.Prelude.{◌≡◌, List, [], ◌∷◌, ◌++◌, map, ℕ, ◌+◌, ◌-◌, ◌*◌, ◌≤◌, ◌<◌, length, get_or, take, drop}
 use Rattle.std.proofs.Math.Option.{none, some}
-use Rattle.lists.specs.Map.{lookup}
-use Rattle.rows.specs.Part.{put}
-use Rattle.rows.specs.Part.{Only}
-use Rattle.rows.specs.Sorted.{FoundIs}
-use Rattle.rows.specs.declared.table.Found.{Found}
-use Rattle.rows.specs.declared.table.Found.TheVariants.{At, Before}
-use Rattle.refs.specs.Refs.{Ref, ref, moved, left}
+use Rattle.storage.specs.Lists.Map.{lookup}
+use Rattle.storage.specs.Rows.Part.{put}
+use Rattle.storage.specs.Rows.Part.{Only}
+use Rattle.storage.specs.Rows.Sorted.{FoundIs}
+use Rattle.storage.specs.declared.rows.table.Found.{Found}
+use Rattle.storage.specs.declared.rows.table.Found.TheVariants.{At, Before}
+use Rattle.storage.specs.Refs.Refs.{Ref, ref, moved, left}
 use Rattle.time_cache.specs.TimeCache.{put as put_in, expireUntil, expiredKeys}
 use Rattle.time_cache.specs.Tables.{expiryRow, row_at, named, Held, held, refsAt, rows_at, cacheAt, resized, Sound, OnlyTwo}
 use Rattle.time_cache.specs.declared.cache.TimeBoundCache.{TimeBoundCache}

@@ -1,19 +1,19 @@
 // Time caches (`TimeBoundCache`): document 01, "Time caches".
 ghost use Rattle.std.specs.Prelude.{◌≡◌, map, ◌∷◌, [], ◌*◌, ◌≤◌, ◌<◌, length};
-ghost use Rattle.rows.specs.Ident.{id_of};
-ghost use Rattle.rows.specs.Part.{put};
-ghost use Rattle.rows.specs.Sorted.{FoundIs};
-ghost use Rattle.refs.specs.Refs.{ref, places, Below, moved};
+ghost use Rattle.storage.specs.Rows.Ident.{id_of};
+ghost use Rattle.storage.specs.Rows.Part.{put};
+ghost use Rattle.storage.specs.Rows.Sorted.{FoundIs};
+ghost use Rattle.storage.specs.Refs.Refs.{ref, places, Below, moved};
 ghost use Rattle.time_cache.specs.TimeCache.{holds, laterCache};
 ghost use Rattle.time_cache.specs.Tables.{refsAt, rows_at, cacheAt, row_at, named, resized, Cut, Lies, Room, Sound, sound};
 ghost use Rattle.time_cache.specs.Steps.{ref_at, GotIs, Opens, Places, Gap, Inserts, Drops, DropsEntries, Expires};
 
 use crate::{expiry, named};
 use postcard::units::Millis;
-use refs;
-use rows::id::Id;
-use rows::table::Found;
-use rows::{table, word};
+use storage::refs;
+use storage::rows::id::Id;
+use storage::rows::table::Found;
+use storage::rows::{table, word};
 
 // A table in a block: `len` rows of `stride` bytes each, the first at `at`.
 #[derive(Clone, Copy)]

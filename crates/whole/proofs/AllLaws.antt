@@ -8,13 +8,13 @@ use native.Mathlib.Numerals.{add-one}
 use native.Mathlib.Omega.{arith}
 use lib.ListN.{length, take, drop, get_or, length-drop}
 use lib.Seq.{take-suc, take_all}
-use Rattle.lists.specs.Base.{all}
-use Rattle.lists.proofs.MapLaws.{cases, true≢}
-use Rattle.lists.proofs.Places.{all-at}
-use Rattle.rows.specs.Part.{part}
-use Rattle.rows.specs.Rows.{rows}
-use Rattle.rows.proofs.Parts.{part-part, length_part, part-between}
-use Rattle.rows.proofs.Rows.{get_d_rows, row-end}
+use Rattle.storage.specs.Lists.Base.{all}
+use Rattle.storage.proofs.ListsLaws.MapLaws.{cases, true≢}
+use Rattle.storage.proofs.ListsLaws.Places.{all-at}
+use Rattle.storage.specs.Rows.Part.{part}
+use Rattle.storage.specs.Rows.Rows.{rows}
+use Rattle.storage.proofs.RowsLaws.Parts.{part-part, length_part, part-between}
+use Rattle.storage.proofs.RowsLaws.Rows.{get_d_rows, row-end}
 
 pub and-true : (a : Bool) → (a && true) ≡ a
 and-true true = refl

@@ -11,15 +11,15 @@ use borrow.Author.Tests.{eq-eqb, ne_eqb, ltb-true}
 use lib.Dec.{eqb, ltb, lit<}
 use lib.ListN.{length, take, drop, get_or, drop_of_length-le}
 use lib.Seq.{drop-cons, drop-drop, take-suc}
-use Rattle.lists.specs.Base.{sum}
-use Rattle.lists.proofs.MapLaws.{all_head, all_tail}
-use Rattle.rows.specs.Part.{part}
-use Rattle.rows.specs.Digits.{leNat}
-use Rattle.rows.specs.Rows.{rows}
-use Rattle.rows.proofs.Parts.{part-part, length_part}
-use Rattle.rows.proofs.Rows.{length-rows, get_d_rows}
-use Rattle.refs.specs.Refs.{Ref, refs, places}
-use Rattle.refs.proofs.Places.{getD-map-in}
+use Rattle.storage.specs.Lists.Base.{sum}
+use Rattle.storage.proofs.ListsLaws.MapLaws.{all_head, all_tail}
+use Rattle.storage.specs.Rows.Part.{part}
+use Rattle.storage.specs.Rows.Digits.{leNat}
+use Rattle.storage.specs.Rows.Rows.{rows}
+use Rattle.storage.proofs.RowsLaws.Parts.{part-part, length_part}
+use Rattle.storage.proofs.RowsLaws.Rows.{length-rows, get_d_rows}
+use Rattle.storage.specs.Refs.Refs.{Ref, refs, places}
+use Rattle.storage.proofs.RefsLaws.Places.{getD-map-in}
 use Rattle.time_cache.specs.Tables.{ExpiryRow, expiryRowOf, expiryRows, row_at, expiryRow, entry_of, cacheOf}
 use Rattle.protocol.specs.State.{Limits}
 use Rattle.protocol.specs.Whole.{contentHeld}

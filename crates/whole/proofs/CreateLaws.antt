@@ -10,19 +10,19 @@ use borrow.Author.Tests.{le-leb, lt-leb, leb-true, leb-false}
 use lib.Dec.{leb, leb-zero, lit<}
 use lib.ListN.{length, drop}
 use Rattle.std.specs.Prelude.{if◌then◌else◌}
-use Rattle.lists.specs.Base.{all, sum}
-use Rattle.lists.proofs.MapLaws.{cases, and_intro}
-use Rattle.rows.specs.Part.{put}
-use Rattle.rows.specs.Rows.{rows}
-use Rattle.rows.proofs.Parts.{length-put, drop-put}
-use Rattle.refs.specs.Refs.{refs}
+use Rattle.storage.specs.Lists.Base.{all, sum}
+use Rattle.storage.proofs.ListsLaws.MapLaws.{cases, and_intro}
+use Rattle.storage.specs.Rows.Part.{put}
+use Rattle.storage.specs.Rows.Rows.{rows}
+use Rattle.storage.proofs.RowsLaws.Parts.{length-put, drop-put}
+use Rattle.storage.specs.Refs.Refs.{refs}
 use Rattle.time_cache.specs.Tables.{cacheOf, expiryRows}
 use Rattle.protocol.specs.State.{Limits, Settings, Created, created, notCreated, create, fresh, zeroCounts, sizeInRange, durationsInRange, limitsInRange, blockNeed}
 use Rattle.protocol.specs.Whole.{contentHeld}
 use Rattle.protocol.proofs.CreatedWhole.{fresh-whole}
 use Rattle.block.specs.Layout.{tables}
 use Rattle.block.specs.View.{settingsOf, limitsOf, state_of, linksIn, notesIn, missingIn, receivedIn, graftedIn, cachedIn, timersIn}
-use Rattle.refs.specs.Numbers.{numbered, pairs}
+use Rattle.storage.specs.Refs.Numbers.{numbered, pairs}
 use Rattle.block.specs.Header.{word_at, headBytes, Stored}
 use Rattle.block.specs.declared.head.Head.{Head}
 use Rattle.block.specs.declared.head.Settings.{Settings as HeadSettings}

@@ -9,11 +9,11 @@ use native.Mathlib.Omega.{arith}
 use borrow.Author.Tests.{leb-true, eqb-true}
 use lib.Dec.{leb, eqb}
 use lib.ListN.{length, take, drop, get_or}
-use Rattle.lists.proofs.MapLaws.{cases, true≢, and_left, and_right}
-use Rattle.lists.proofs.Places.{all-at}
-use Rattle.rows.specs.Part.{part}
-use Rattle.rows.specs.Rows.{rows}
-use Rattle.rows.proofs.Rows.{length-rows, get_d_rows}
+use Rattle.storage.proofs.ListsLaws.MapLaws.{cases, true≢, and_left, and_right}
+use Rattle.storage.proofs.ListsLaws.Places.{all-at}
+use Rattle.storage.specs.Rows.Part.{part}
+use Rattle.storage.specs.Rows.Rows.{rows}
+use Rattle.storage.proofs.RowsLaws.Rows.{length-rows, get_d_rows}
 use Rattle.time_cache.proofs.Orders.{below_of}
 use Rattle.protocol.specs.State.{Limits, limitsInRange, up_to, blockNeed}
 use Rattle.protocol.specs.Whole.{contentHeld, whole}

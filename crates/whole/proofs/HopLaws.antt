@@ -10,25 +10,25 @@ use borrow.Author.Tests.{leb-true, lt-ltb, le-ltb}
 use lib.Dec.{leb, ltb, lit<}
 use lib.ListN.{length, take, drop, get_or, length-drop}
 use lib.Seq.{drop-drop}
-use Rattle.lists.specs.Base.{is_empty, all, ascending, once}
-use Rattle.lists.specs.Map.{Entry, keys}
-use Rattle.lists.proofs.MapLaws.{and_left, and_right}
-use Rattle.lists.proofs.ListLaws.{all_map}
-use Rattle.rows.specs.Rows.{rows}
-use Rattle.rows.proofs.Parts.{length_part}
-use Rattle.rows.proofs.Rows.{length-rows, get_d_rows, row-end}
-use Rattle.refs.specs.Refs.{refOf, refs}
+use Rattle.storage.specs.Lists.Base.{is_empty, all, ascending, once}
+use Rattle.storage.specs.Lists.Map.{Entry, keys}
+use Rattle.storage.proofs.ListsLaws.MapLaws.{and_left, and_right}
+use Rattle.storage.proofs.ListsLaws.ListLaws.{all_map}
+use Rattle.storage.specs.Rows.Rows.{rows}
+use Rattle.storage.proofs.RowsLaws.Parts.{length_part}
+use Rattle.storage.proofs.RowsLaws.Rows.{length-rows, get_d_rows, row-end}
+use Rattle.storage.specs.Refs.Refs.{refOf, refs}
 use Rattle.time_cache.specs.Tables.{ExpiryRow, expiryRows, entry_of, cacheOf}
 use Rattle.protocol.specs.Links.{Links}
 use Rattle.protocol.specs.State.{Hop}
 use Rattle.protocol.specs.Whole.{neighbours, announcersWhole, graftsWhole}
 use Rattle.block.specs.View.{limitsOf, byte_at, peerOf, hopsIn, hopOf, hopsOf, missedOf, missingIn, roundOf, graftsOf, graftedIn, state_of}
-use Rattle.refs.specs.Numbers.{pairs, numbered}
+use Rattle.storage.specs.Refs.Numbers.{pairs, numbered}
 use Rattle.block.specs.Fit.{Fit}
 use Rattle.block.specs.LinkSteps.{LinksAscend}
 use Rattle.block.specs.declared.head.Head.{Head}
 use Rattle.block.proofs.LinkLaws.{count-peers}
-use Rattle.refs.proofs.Numbered.{length-numbered}
+use Rattle.storage.proofs.RefsLaws.Numbered.{length-numbered}
 use Rattle.block.proofs.Tables.{length-table}
 use Rattle.whole.specs.Held.{all_below, numbersName, allLists}
 use Rattle.whole.specs.Parts.{table_of, graftList, missedList}

@@ -6,13 +6,13 @@ use mathlib.Core.List.{List, [], ◌∷◌, map}
 use Prim.Native.Nat.{ℕ, ◌+◌, ◌-◌, ◌*◌, ◌≤◌, ◌<◌}
 use lib.ListN.{length, take, drop, get_or, length-drop}
 use lib.Seq.{take-take}
-use Rattle.lists.specs.Base.{all, ascending}
-use Rattle.lists.specs.Map.{keys}
-use Rattle.rows.specs.Part.{part}
-use Rattle.rows.specs.Rows.{rows}
-use Rattle.rows.proofs.Parts.{part-between}
-use Rattle.rows.specs.Sorted.{key_of, keys as rowKeys}
-use Rattle.refs.specs.Refs.{Ref, refOf, refs, places}
+use Rattle.storage.specs.Lists.Base.{all, ascending}
+use Rattle.storage.specs.Lists.Map.{keys}
+use Rattle.storage.specs.Rows.Part.{part}
+use Rattle.storage.specs.Rows.Rows.{rows}
+use Rattle.storage.proofs.RowsLaws.Parts.{part-between}
+use Rattle.storage.specs.Rows.Sorted.{key_of, keys as rowKeys}
+use Rattle.storage.specs.Refs.Refs.{Ref, refOf, refs, places}
 use Rattle.time_cache.specs.TimeCache.{Cache, inPopOrder}
 use Rattle.time_cache.specs.Tables.{ExpiryRow, expiryRowOf, expiryRows, cacheOf, cacheIn, held, sound}
 use Rattle.time_cache.proofs.TableLaws.{keys-named}

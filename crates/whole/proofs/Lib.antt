@@ -10,3 +10,4 @@ pub mod NumberLaws
 pub mod HopLaws
 pub mod RecordLaws
 pub mod WholeLaws
+pub mod StatesLaws

@@ -10,14 +10,14 @@ use native.Mathlib.Omega.{arith}
 use borrow.Author.Tests.{ltb-true, lt-ltb, le-ltb, eq-eqb, ne_eqb}
 use lib.Dec.{ltb, eqb}
 use lib.ListN.{length, get_or}
-use Rattle.lists.specs.Base.{all, member, ascending, once}
-use Rattle.lists.specs.Map.{keys}
-use Rattle.lists.proofs.MapLaws.{cases, and_left, and_right, and_intro, all_head, all_tail}
-use Rattle.lists.proofs.Places.{once-of, of-once}
-use Rattle.rows.proofs.Ids.{tri}
-use Rattle.rows.proofs.Sorted.{AscendTo, ascend-start, ascend-more, ascend-done, ascend-not}
-use Rattle.refs.specs.Once.{TellsNumbers}
-use Rattle.refs.proofs.Places.{BelowTo, below_more}
+use Rattle.storage.specs.Lists.Base.{all, member, ascending, once}
+use Rattle.storage.specs.Lists.Map.{keys}
+use Rattle.storage.proofs.ListsLaws.MapLaws.{cases, and_left, and_right, and_intro, all_head, all_tail}
+use Rattle.storage.proofs.ListsLaws.Places.{once-of, of-once}
+use Rattle.storage.proofs.RowsLaws.Ids.{tri}
+use Rattle.storage.proofs.RowsLaws.Sorted.{AscendTo, ascend-start, ascend-more, ascend-done, ascend-not}
+use Rattle.storage.specs.Refs.Once.{TellsNumbers}
+use Rattle.storage.proofs.RefsLaws.Places.{BelowTo, below_more}
 use Rattle.time_cache.proofs.Orders.{up_of, of-up, below_of, of-below}
 use Rattle.protocol.specs.Links.{Links}
 use Rattle.protocol.specs.Whole.{neighbours}

@@ -12,18 +12,18 @@ use borrow.Author.Tests.{ltb-true, le-leb, lt-leb, eqb-true, eq-eqb, ne_eqb, not
 use lib.Dec.{leb, ltb, eqb, lit<}
 use lib.ListN.{length, take, drop, get_or, set, replicate, length-set, take-append-drop}
 use lib.Seq.{take-suc, take_all, length-take-le, get_or-set_same, get_or-set_other}
-use Rattle.lists.specs.Base.{all, any, count, ascending}
-use Rattle.lists.specs.Map.{keys}
-use Rattle.lists.proofs.MapLaws.{cases, true≢, and_left, and_right, and_intro, all_head, all_tail}
-use Rattle.lists.proofs.ListLaws.{all_map, count-append, count-length}
-use Rattle.lists.proofs.Places.{at_all}
-use Rattle.rows.specs.Part.{part}
-use Rattle.rows.specs.Digits.{beNat}
-use Rattle.rows.specs.Rows.{rows}
-use Rattle.rows.proofs.Ids.{tri}
-use Rattle.rows.proofs.Parts.{part-part}
-use Rattle.rows.proofs.Rows.{length-rows, get_d_rows}
-use Rattle.notes.specs.Chains.{Once, TellsOnce, id_at as noteId}
+use Rattle.storage.specs.Lists.Base.{all, any, count, ascending}
+use Rattle.storage.specs.Lists.Map.{keys}
+use Rattle.storage.proofs.ListsLaws.MapLaws.{cases, true≢, and_left, and_right, and_intro, all_head, all_tail}
+use Rattle.storage.proofs.ListsLaws.ListLaws.{all_map, count-append, count-length}
+use Rattle.storage.proofs.ListsLaws.Places.{at_all}
+use Rattle.storage.specs.Rows.Part.{part}
+use Rattle.storage.specs.Rows.Digits.{beNat}
+use Rattle.storage.specs.Rows.Rows.{rows}
+use Rattle.storage.proofs.RowsLaws.Ids.{tri}
+use Rattle.storage.proofs.RowsLaws.Parts.{part-part}
+use Rattle.storage.proofs.RowsLaws.Rows.{length-rows, get_d_rows}
+use Rattle.storage.specs.Notes.Chains.{Once, TellsOnce, id_at as noteId}
 use Rattle.time_cache.proofs.CacheLaws.{eqb-sym}
 use Rattle.time_cache.proofs.Orders.{below_of}
 use Rattle.protocol.specs.Links.{Links}
@@ -31,13 +31,13 @@ use Rattle.protocol.specs.State.{Note}
 use Rattle.protocol.specs.Push.{forPeer, notes}
 use Rattle.protocol.specs.Whole.{notedOnce, recordWithin}
 use Rattle.block.specs.View.{limitsOf, peerOf, id_at, note_of, notesIn, state_of}
-use Rattle.refs.specs.Numbers.{pairs, numbered}
+use Rattle.storage.specs.Refs.Numbers.{pairs, numbered}
 use Rattle.block.specs.Fit.{Fit}
 use Rattle.block.specs.LinkSteps.{LinksAscend}
 use Rattle.block.specs.NoteSteps.{note}
 use Rattle.block.specs.declared.head.Head.{Head}
 use Rattle.block.proofs.LinkLaws.{count-peers}
-use Rattle.refs.proofs.Numbered.{length-numbered, pairs-at}
+use Rattle.storage.proofs.RefsLaws.Numbered.{length-numbered, pairs-at}
 use Rattle.block.proofs.Tables.{length-table}
 use Rattle.whole.specs.Held.{all_below}
 use Rattle.whole.specs.Parts.{table_of, few, recordWhole}

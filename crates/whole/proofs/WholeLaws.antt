@@ -11,15 +11,15 @@ use lib.Dec.{leb, eqb, lit<}
 use lib.ListN.{length, take, drop, length-map}
 use lib.Seq.{take-take}
 use Rattle.std.specs.Prelude.{if◌then◌else◌}
-use Rattle.lists.specs.Base.{is_empty, all, ascending}
-use Rattle.lists.specs.Map.{keys}
-use Rattle.lists.proofs.MapLaws.{cases, true≢, and_left, and_right, and_intro}
-use Rattle.rows.specs.Part.{part}
-use Rattle.rows.specs.Digits.{leNat}
-use Rattle.rows.specs.Rows.{rows}
-use Rattle.rows.proofs.Rows.{length-rows}
-use Rattle.refs.specs.Refs.{refs, places}
-use Rattle.refs.proofs.Places.{length-refs}
+use Rattle.storage.specs.Lists.Base.{is_empty, all, ascending}
+use Rattle.storage.specs.Lists.Map.{keys}
+use Rattle.storage.proofs.ListsLaws.MapLaws.{cases, true≢, and_left, and_right, and_intro}
+use Rattle.storage.specs.Rows.Part.{part}
+use Rattle.storage.specs.Rows.Digits.{leNat}
+use Rattle.storage.specs.Rows.Rows.{rows}
+use Rattle.storage.proofs.RowsLaws.Rows.{length-rows}
+use Rattle.storage.specs.Refs.Refs.{refs, places}
+use Rattle.storage.proofs.RefsLaws.Places.{length-refs}
 use Rattle.time_cache.specs.TimeCache.{expiresOnTime, inPopOrder}
 use Rattle.time_cache.specs.Tables.{expiryRowOf, expiryRows, expiryOf, entry_of, cacheOf, cacheIn}
 use Rattle.time_cache.proofs.TableLaws.{on-time}
@@ -27,13 +27,13 @@ use Rattle.protocol.specs.State.{State, Limits, Note, sizeInRange, durationsInRa
 use Rattle.protocol.specs.Whole.{contentHeld, cacheFits, fits, in_range, keysOnce, neighbours, announcersWhole, graftsWhole, notedOnce, recordWithin, flagsStand, whole}
 use Rattle.block.specs.Layout.{tables}
 use Rattle.block.specs.View.{settingsOf, limitsOf, state_of, peerOf, note_of, notesIn, missedOf, missingIn, id_at, timersIn, nothingOf, receivedIn, cachedOf, cachedIn, graftsOf, graftedIn}
-use Rattle.refs.specs.Numbers.{numbered}
+use Rattle.storage.specs.Refs.Numbers.{numbered}
 use Rattle.block.specs.Fit.{Fit, Within}
 use Rattle.block.specs.Header.{word_at, halfWordAt, headIn}
 use Rattle.block.specs.declared.head.Head.{Head}
 use Rattle.block.specs.declared.head.Live.{Live}
 use Rattle.block.proofs.LinkLaws.{count-links, count-peers}
-use Rattle.refs.proofs.Numbered.{length-numbered}
+use Rattle.storage.proofs.RefsLaws.Numbered.{length-numbered}
 use Rattle.block.proofs.Tables.{length-view, length-table}
 use Rattle.whole.specs.Held.{hasHeader, hasTables, countsWithin, all_below, placesName, numbersName, allLists, adjoin, laidOut, holdsWith, held, wholeHeld, wholeBlock}
 use Rattle.whole.specs.Parts.{table_of, cacheWhole, linksWhole, receivedWhole, cachedWhole, graftedWhole, missingWhole, timersWhole, queueWhole, recordWhole, tablesWhole, flagsWith}

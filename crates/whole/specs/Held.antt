@@ -2,9 +2,9 @@
 -- Assumes nothing.
 use Rattle.std.specs.Prelude.{ℕ, ◌+◌, ◌*◌, Bool, false, ◌&&◌, List, [], ◌∷◌, leb, ltb, eqb, length, take, drop, get_or, if◌then◌else◌}
 use Rattle.std.proofs.Math.Option.{Option, none, some}
-use Rattle.lists.specs.Base.{all}
-use Rattle.rows.specs.Rows.{rows}
-use Rattle.refs.specs.Refs.{refs, places}
+use Rattle.storage.specs.Lists.Base.{all}
+use Rattle.storage.specs.Rows.Rows.{rows}
+use Rattle.storage.specs.Refs.Refs.{refs, places}
 use Rattle.protocol.specs.State.{State, Limits, limitsInRange, blockNeed}
 use Rattle.protocol.specs.Whole.{contentHeld, whole}
 use Rattle.block.specs.Layout.{tables}

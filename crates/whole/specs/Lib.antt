@@ -1,3 +1,4 @@
 pub mod Held
 pub mod Creation
 pub mod Parts
+pub mod States

@@ -1,9 +1,9 @@
 -- Question 5, table by table: what each test of the code tells. Together these are `wholeBlock` (proofs/WholeLaws.antt).
 -- Assumes nothing.
 use Rattle.std.specs.Prelude.{ℕ, Bool, ◌&&◌, ◌||◌, List, [], leb, ltb, eqb, take, drop, get_or}
-use Rattle.lists.specs.Base.{all, count, ascending, once}
-use Rattle.lists.specs.Map.{keys}
-use Rattle.rows.specs.Rows.{rows}
+use Rattle.storage.specs.Lists.Base.{all, count, ascending, once}
+use Rattle.storage.specs.Lists.Map.{keys}
+use Rattle.storage.specs.Rows.Rows.{rows}
 use Rattle.time_cache.specs.TimeCache.{Cache, inPopOrder}
 use Rattle.protocol.specs.Whole.{contentHeld, announcersWhole, graftsWhole, notedOnce, recordWithin}
 use Rattle.block.specs.Layout.{table}

@@ -2,6 +2,7 @@
 #![tactic(auto)]
 
 pub mod create;
+pub mod states;
 mod tables;
 
 ghost use Rattle.std.specs.Prelude.{◌≡◌, ◌||◌, eqb};
@@ -12,7 +13,7 @@ ghost use Rattle.whole.specs.Parts.{flagsWith};
 
 use block::head::{Limits, Live};
 use block::header;
-use rows::word;
+use storage::rows::word;
 
 // "numbers of entries in range": no table has more rows than its limit; "Expiry entries: 2R, 2C, 2G".
 fn counts_within(l: Limits, v: Live) -> bool

@@ -1,9 +1,9 @@
 // Question 5 of the tables: one pass over each, and no search. Where a number names a row by its place, that it does is all that is tested:
 // peers are then neighbours, and each cache entry has an expiry entry of its time, by the layout.
 ghost use Rattle.std.specs.Prelude.{◌≡◌, ◌&&◌, ◌+◌, ◌*◌, ◌≤◌, ◌<◌, length};
-ghost use Rattle.lists.specs.Base.{ascending, sum};
-ghost use Rattle.rows.specs.Rows.{rows};
-ghost use Rattle.refs.specs.Refs.{refs, places, Below};
+ghost use Rattle.storage.specs.Lists.Base.{ascending, sum};
+ghost use Rattle.storage.specs.Rows.Rows.{rows};
+ghost use Rattle.storage.specs.Refs.Refs.{refs, places, Below};
 ghost use Rattle.block.specs.Fit.{Fit};
 ghost use Rattle.block.specs.LinkSteps.{LinksAscend};
 ghost use Rattle.whole.specs.Held.{all_below, adjoin, allLists};
@@ -11,9 +11,8 @@ ghost use Rattle.whole.specs.Parts.{length_at, graftList, missedList, few, links
 
 use block::head::Head;
 use block::{head, links, time_caches};
-use notes;
-use refs;
-use rows::{table, word};
+use storage::rows::{table, word};
+use storage::{notes, refs};
 
 // A byte as a number that can be an index.
 fn wide(x: u8) -> usize

@@ -1,6 +1,6 @@
 -- `plumtree_return`: the counts that a return brought back are stored; a refused one has left them.
 use Rattle.machine.specs.Called.{countsOf}
-use Rattle.states.proofs.Accepted.{returned-kept}
+use Rattle.whole.proofs.StatesLaws.Accepted.{returned-kept}
 use Rattle.plumtree.proofs.ListLaws.{returned-leads}
 use Rattle.plumtree.proofs.plumtree_return.Goals as goal
 

@@ -9,7 +9,7 @@ use native.Mathlib.Omega.{arith}
 use borrow.Author.Tests.{le-leb, lt-leb}
 use lib.Dec.{leb}
 use lib.ListN.{length}
-use Rattle.lists.proofs.MapLaws.{and_intro}
+use Rattle.storage.proofs.ListsLaws.MapLaws.{and_intro}
 use Rattle.protocol.specs.State.{sizeInRange, durationsInRange, limitsInRange, blockNeed}
 use Rattle.block.specs.View.{settingsOf, limitsOf}
 use Rattle.block.specs.Header.{word_at, headIn}

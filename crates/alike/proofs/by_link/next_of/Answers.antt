@@ -6,8 +6,8 @@ use Prim.Native.Nat.{ℕ, ◌-◌, ◌<◌}
 use native.Mathlib.Omega.{arith}
 use borrow.Author.Tests.{eq-eqb, ne_eqb}
 use lib.ListN.{length, drop, get_or}
-use Rattle.lists.specs.Base.{filter}
-use Rattle.lists.specs.Map.{keys}
+use Rattle.storage.specs.Lists.Base.{filter}
+use Rattle.storage.specs.Lists.Map.{keys}
 use Rattle.time_cache.proofs.Orders.{up_of}
 use Rattle.protocol.specs.State.{State, Note}
 use Rattle.protocol.specs.Push.{forPeer}

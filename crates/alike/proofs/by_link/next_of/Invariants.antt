@@ -2,7 +2,7 @@
 use mathlib.Core.Path.{◌≡◌}
 use Prim.Native.Nat.{◌-◌, ◌≤◌}
 use lib.ListN.{drop}
-use Rattle.lists.specs.Base.{filter}
+use Rattle.storage.specs.Lists.Base.{filter}
 use Rattle.protocol.specs.Push.{forPeer}
 use Rattle.block.specs.View.{state_of}
 use Rattle.block.specs.LinkSteps.{peerAt}

@@ -8,13 +8,13 @@ use Rattle.alike.specs.Elements.{Element, element, hopElement, graftElement, exp
 use Rattle.block.specs.View.{state_of, limitsOf, receivedIn, graftedIn, cachedIn, nothingOf, graftsOf, cachedOf}
 use Rattle.block.specs.declared.head.Head.{Head}
 use Rattle.block.specs.MissingSteps.{hop, hopsAt}
-use Rattle.caches.specs.GraftSteps.{graftsAt}
-use Rattle.caches.proofs.ReceivedLaws.{received-lies, count-received-rows}
-use Rattle.caches.proofs.GraftedLaws.{grafted-lies, count-grafted-rows}
-use Rattle.caches.proofs.CachedLaws.{cached-lies, count-cached-rows}
+use Rattle.block.specs.Caches.GraftSteps.{graftsAt}
+use Rattle.block.proofs.CachesLaws.ReceivedLaws.{received-lies, count-received-rows}
+use Rattle.block.proofs.CachesLaws.GraftedLaws.{grafted-lies, count-grafted-rows}
+use Rattle.block.proofs.CachesLaws.CachedLaws.{cached-lies, count-cached-rows}
 use Rattle.alike.specs.declared.sequences.Sequence.{Sequence}
 use Rattle.alike.specs.declared.sequences.Sequence.TheVariants.{ReceivedExpiry, GraftedExpiry, CachedExpiry}
-use Rattle.lists.specs.Map.{entry, keys}
+use Rattle.storage.specs.Lists.Map.{entry, keys}
 use Rattle.time_cache.specs.Tables.{Lies, rows_at, row_at, expiryOf}
 use Rattle.time_cache.specs.declared.cache.TimeBoundCache.{TimeBoundCache}
 use Rattle.block.specs.Layout.{table}

@@ -3,7 +3,7 @@ use mathlib.Core.Path.{◌∙◌}
 use Prim.Native.Nat.{◌+◌, ◌*◌, ◌≤◌}
 use lib.ListN.{length}
 use Rattle.alike.specs.Elements.{element}
-use Rattle.rows.proofs.Rows.{row-end}
+use Rattle.storage.proofs.RowsLaws.Rows.{row-end}
 use Rattle.alike.proofs.BlockReads.{key-read}
 use native.Mathlib.Omega.{arith}
 use Rattle.alike.proofs.sequences.row_item.Goals as goal

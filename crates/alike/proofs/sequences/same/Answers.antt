@@ -6,7 +6,7 @@ use lib.Dec.{eqb}
 use borrow.Author.Tests.{eq-eqb, ne_eqb}
 use Rattle.whole.proofs.Tests.{no, yes}
 use Rattle.alike.specs.Elements.{sameElement}
-use Rattle.rows.specs.Ident.{id_of}
+use Rattle.storage.specs.Rows.Ident.{id_of}
 use Rattle.alike.proofs.sequences.same.Goals as goal
 
 pub returns-then-x-y : goal.returns-then-x-y

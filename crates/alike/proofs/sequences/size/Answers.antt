@@ -3,10 +3,10 @@ use mathlib.Core.Path.{sym, ap, ◌∙◌, subst}
 use lib.ListN.{length, length-map}
 use Rattle.alike.specs.Elements.{hopElement, graftElement, expiryElement, sequenceOf, InState}
 use Rattle.block.specs.View.{state_of}
-use Rattle.caches.specs.GraftSteps.{graftsAt}
-use Rattle.caches.proofs.ReceivedLaws.{count-received-rows}
-use Rattle.caches.proofs.GraftedLaws.{count-grafted-rows}
-use Rattle.caches.proofs.CachedLaws.{count-cached-rows}
+use Rattle.block.specs.Caches.GraftSteps.{graftsAt}
+use Rattle.block.proofs.CachesLaws.ReceivedLaws.{count-received-rows}
+use Rattle.block.proofs.CachesLaws.GraftedLaws.{count-grafted-rows}
+use Rattle.block.proofs.CachesLaws.CachedLaws.{count-cached-rows}
 use Rattle.alike.specs.declared.sequences.Sequence.{Sequence}
 use Rattle.block.specs.MissingSteps.{hopsAt}
 use Rattle.alike.proofs.sequences.size.Goals as goal

@@ -16,14 +16,14 @@ use Rattle.alike.specs.Rows.{cachedEntry}
 use Rattle.alike.specs.Elements.{sameElement}
 use Rattle.time_cache.specs.declared.cache.TimeBoundCache.{TimeBoundCache}
 use Rattle.alike.proofs.Entries.{key_of, entry-same, Asks, key_at, cached-asks, cached-key}
-use Rattle.lists.specs.Map.{Entry}
+use Rattle.storage.specs.Lists.Map.{Entry}
 use Rattle.time_cache.specs.TimeCache.{Timed}
 use Rattle.protocol.specs.State.{Cached}
-use Rattle.rows.specs.Part.{part}
-use Rattle.rows.proofs.Parts.{part-between}
+use Rattle.storage.specs.Rows.Part.{part}
+use Rattle.storage.proofs.RowsLaws.Parts.{part-between}
 use Rattle.block.specs.Layout.{place}
-use Rattle.caches.specs.CachedReads.{cachedAt, ContentIs}
-use Rattle.caches.specs.declared.cached.Content.{Content}
+use Rattle.block.specs.Caches.CachedReads.{cachedAt, ContentIs}
+use Rattle.block.specs.declared.caches.cached.Content.{Content}
 use native.Mathlib.Omega.{arith}
 use Rattle.alike.proofs.tables.same_cached.Goals as goal
 use Rattle.alike.proofs.tables.same_cached.Goals.{After-same_key-key, Start}

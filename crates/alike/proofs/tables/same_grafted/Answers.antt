@@ -10,10 +10,10 @@ use Rattle.alike.proofs.Lists.{and_no, and-no-left, list-grafts}
 use Rattle.alike.specs.Elements.{sameElement}
 use Rattle.time_cache.specs.declared.cache.TimeBoundCache.{TimeBoundCache}
 use Rattle.alike.proofs.Entries.{key_of, entry-same, kept_same, Asks, key_at, grafted-asks, grafted-key}
-use Rattle.lists.specs.Map.{Entry}
+use Rattle.storage.specs.Lists.Map.{Entry}
 use Rattle.time_cache.specs.TimeCache.{Timed}
 use Rattle.protocol.specs.State.{Grafts}
-use Rattle.caches.specs.GraftSteps.{graftedAt}
+use Rattle.block.specs.Caches.GraftSteps.{graftedAt}
 use borrow.Author.Rules.{rules}
 use Rattle.alike.proofs.tables.same_grafted.Goals as goal
 use Rattle.alike.proofs.tables.same_grafted.Goals.{After-same_key-key, Start}

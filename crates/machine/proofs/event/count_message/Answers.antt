@@ -4,7 +4,7 @@ use mathlib.Core.Path.{sym, ap, ◌∙◌}
 use mathlib.Core.Bool.{Bool}
 use lib.Dec.{ltb}
 use borrow.Author.Tests.{ltb-true}
-use Rattle.lists.proofs.MapLaws.{and_left, and_right}
+use Rattle.storage.proofs.ListsLaws.MapLaws.{and_left, and_right}
 use Rattle.protocol.specs.Handle.{onePayload, oneControl}
 use Rattle.protocol.specs.Answer.{countsBelow}
 use Rattle.machine.specs.Called.{countsOf}

@@ -9,7 +9,7 @@ use Rattle.postcard.specs.Events.{decodedValue, DecodedHeld}
 use Rattle.postcard.specs.declared.message.Decoded.{Decoded}
 use Rattle.protocol.specs.Answer.{answerBlock}
 use Rattle.block.specs.declared.head.Head.{Head}
-use Rattle.settled.proofs.SizeLaws.{yes, no}
+use Rattle.steps.proofs.SettledLaws.SizeLaws.{yes, no}
 use Rattle.whole.specs.Held.{held}
 use Rattle.whole.proofs.HeldLaws.{wholly_of}
 use Rattle.machine.specs.Called.{countsOf, lent, call_of}

@@ -3,11 +3,11 @@ use mathlib.Core.Path.{refl}
 use lib.ListN.{length}
 use Rattle.block.specs.View.{state_of}
 use Rattle.machine.specs.Called.{countsOf, lent}
-use Rattle.rows.specs.Part.{part}
+use Rattle.storage.specs.Rows.Part.{part}
 use Rattle.postcard.specs.Message.{Broadcast}
 use Rattle.postcard.specs.Values.{scopeValue}
 use Rattle.protocol.specs.Answer.{messageFits, countsStay}
-use Rattle.kinds.specs.Meaning.{countedFor}
+use Rattle.machine.specs.Kinds.Meaning.{countedFor}
 use Rattle.machine.proofs.RunLaws.{asked_of, step-finds}
 use Rattle.machine.proofs.event.handle_broadcast.Goals as goal
 

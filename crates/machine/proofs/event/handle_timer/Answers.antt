@@ -6,7 +6,7 @@ use Rattle.machine.specs.Called.{countsOf, lent}
 use Rattle.postcard.specs.Message.{Fired}
 use Rattle.postcard.specs.Values.{timerValue}
 use Rattle.protocol.specs.Answer.{messageFits, countsStay}
-use Rattle.kinds.specs.Meaning.{countedFor}
+use Rattle.machine.specs.Kinds.Meaning.{countedFor}
 use Rattle.machine.proofs.RunLaws.{asked_of, step-finds}
 use Rattle.machine.proofs.event.handle_timer.Goals as goal
 

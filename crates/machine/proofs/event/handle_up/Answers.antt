@@ -6,7 +6,7 @@ use lib.ListN.{length}
 use Rattle.blake3.specs.Blake3.{identifier}
 use Rattle.block.specs.View.{state_of}
 use Rattle.steps.specs.Rooms.{roomsIn}
-use Rattle.settled.proofs.SizeLaws.{yes, no}
+use Rattle.steps.proofs.SettledLaws.SizeLaws.{yes, no}
 use Rattle.machine.specs.Called.{countsOf}
 use Rattle.machine.specs.Decided.{decided}
 use Rattle.postcard.specs.Message.{Up}

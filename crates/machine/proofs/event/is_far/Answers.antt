@@ -1,6 +1,6 @@
 -- `is_far`: by the step.
 use mathlib.Core.Path.{sym, ap}
-use Rattle.kinds.specs.Meaning.{stepFar}
+use Rattle.machine.specs.Kinds.Meaning.{stepFar}
 use Rattle.machine.proofs.event.is_far.Goals as goal
 
 pub returns-in-NewSwarm : goal.returns-in-NewSwarm

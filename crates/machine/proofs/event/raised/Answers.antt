@@ -3,8 +3,8 @@ use mathlib.Core.Path.{◌≡◌, sym, ap, ◌∙◌}
 use mathlib.Core.Bool.{false}
 use lib.Dec.{eqb}
 use borrow.Author.Tests.{eqb-false}
-use Rattle.kinds.specs.Meaning.{stepFar, stepCounts}
-use Rattle.kinds.specs.declared.Step.{Step}
+use Rattle.machine.specs.Kinds.Meaning.{stepFar, stepCounts}
+use Rattle.machine.specs.declared.kinds.Step.{Step}
 use Rattle.machine.specs.Called.{countsOf}
 use Rattle.machine.proofs.RunLaws.{raise-not, raise-up}
 use native.Mathlib.Omega.{arith}

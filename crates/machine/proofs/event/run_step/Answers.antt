@@ -6,7 +6,7 @@ use mathlib.Core.List.{List}
 use lib.ListN.{length}
 use Rattle.block.specs.View.{state_of}
 use Rattle.steps.specs.Rooms.{roomsIn}
-use Rattle.settled.proofs.SizeLaws.{yes, no}
+use Rattle.steps.proofs.SettledLaws.SizeLaws.{yes, no}
 use Rattle.machine.specs.Called.{countsOf, lent, Finds}
 use Rattle.machine.specs.Outcomes.{stepBytes, stepOutcome}
 use Rattle.machine.proofs.OutcomeLaws.{outcome-12, outcome-13, outcome-14}

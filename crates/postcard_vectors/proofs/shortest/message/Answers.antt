@@ -4,7 +4,7 @@ use native.Mathlib.Omega.{arith}
 use mathlib.Core.Path.{◌≡◌, ◌∙◌, ap}
 use mathlib.Core.List.{List}
 use lib.ListN.{length}
-use Rattle.rows.proofs.Parts.{length-put}
+use Rattle.storage.proofs.RowsLaws.Parts.{length-put}
 use Rattle.postcard.specs.Told.{Told, refused, told, Leaves}
 use Rattle.postcard.specs.Rewrite.{rewrite}
 use Rattle.postcard_vectors.proofs.shortest.message.Goals as goal

@@ -1,11 +1,11 @@
 -- `add_expiry`: a gap, and the row's time and identifier in it.
 use mathlib.Core.Path.{ap, ◌∙◌}
 use Prim.Native.Nat.{◌+◌, ◌*◌, ◌≤◌}
-use Rattle.rows.specs.Part.{put}
-use Rattle.rows.specs.Digits.{le_bytes, beBytes}
-use Rattle.rows.specs.Ident.{id_of}
-use Rattle.rows.proofs.Ids.{id-lt}
-use Rattle.rows.proofs.Rows.{row-end}
+use Rattle.storage.specs.Rows.Part.{put}
+use Rattle.storage.specs.Rows.Digits.{le_bytes, beBytes}
+use Rattle.storage.specs.Rows.Ident.{id_of}
+use Rattle.storage.proofs.RowsLaws.Ids.{id-lt}
+use Rattle.storage.proofs.RowsLaws.Rows.{row-end}
 use Rattle.time_cache.specs.Tables.{expiryRows}
 use Rattle.time_cache.proofs.ExpiryLaws.{row-added}
 use native.Mathlib.Omega.{arith}

@@ -3,7 +3,7 @@ use mathlib.Core.Path.{◌≡◌, sym, ◌∙◌}
 use mathlib.Core.List.{map}
 use Prim.Native.Nat.{◌+◌, ◌-◌, ◌*◌, ◌/◌, ◌≤◌, ◌<◌}
 use lib.ListN.{get_or}
-use Rattle.rows.proofs.Rows.{row-end}
+use Rattle.storage.proofs.RowsLaws.Rows.{row-end}
 use Rattle.time_cache.specs.Tables.{expiryRows, expiryOf, noExpiry}
 use Rattle.time_cache.proofs.Orders.{rising-of}
 use Rattle.time_cache.proofs.ExpiryLaws.{length-expiries, expiry-time, around-start, around-up, around-down, around-done}

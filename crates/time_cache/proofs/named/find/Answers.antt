@@ -3,10 +3,10 @@ use mathlib.Core.Path.{◌≡◌, sym, ◌∙◌, subst}
 use mathlib.Core.List.{List}
 use Prim.Native.Nat.{ℕ, ◌+◌, ◌-◌, ◌*◌, ◌/◌, ◌≤◌, ◌<◌}
 use lib.ListN.{length, get_or}
-use Rattle.rows.specs.Ident.{id_of}
-use Rattle.rows.proofs.Sorted.{bracket-start, bracket-up, bracket-down, bracket-done}
-use Rattle.rows.proofs.Ids.{of-less, of-equal, of-greater}
-use Rattle.rows.proofs.Rows.{row-end}
+use Rattle.storage.specs.Rows.Ident.{id_of}
+use Rattle.storage.proofs.RowsLaws.Sorted.{bracket-start, bracket-up, bracket-down, bracket-done}
+use Rattle.storage.proofs.RowsLaws.Ids.{of-less, of-equal, of-greater}
+use Rattle.storage.proofs.RowsLaws.Rows.{row-end}
 use Rattle.time_cache.proofs.NamedLaws.{keysIn, length-named, named-below, named_end, named-key}
 use native.Mathlib.Omega.{arith}
 use Rattle.time_cache.proofs.named.find.Goals as goal

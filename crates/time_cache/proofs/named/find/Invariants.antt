@@ -1,7 +1,7 @@
 -- `find`: lo and hi bracket the key; the key that the middle names settles one side. The measure is hi - lo.
 use Prim.Native.Nat.{◌-◌}
-use Rattle.rows.specs.Ident.{id_of}
-use Rattle.rows.proofs.Sorted.{Bracket}
+use Rattle.storage.specs.Rows.Ident.{id_of}
+use Rattle.storage.proofs.RowsLaws.Sorted.{Bracket}
 use Rattle.time_cache.proofs.NamedLaws.{keysIn}
 use Rattle.time_cache.proofs.named.find.Given as goal
 

@@ -4,12 +4,12 @@ use mathlib.Core.List.{List}
 use Prim.Native.Nat.{ℕ, ◌+◌, ◌-◌, ◌*◌, ◌≤◌, ◌<◌}
 use native.Mathlib.Nat.{zero-mul}
 use lib.ListN.{length, get_or}
-use Rattle.rows.specs.Part.{part}
-use Rattle.rows.specs.Digits.{leNat}
-use Rattle.rows.specs.Ident.{id_of}
-use Rattle.rows.proofs.Sorted.{lt_of, not-lt-of, le-of-same, le-of-above}
-use Rattle.rows.proofs.Ids.{of-less, of-equal, of-greater}
-use Rattle.rows.proofs.Rows.{row-end}
+use Rattle.storage.specs.Rows.Part.{part}
+use Rattle.storage.specs.Rows.Digits.{leNat}
+use Rattle.storage.specs.Rows.Ident.{id_of}
+use Rattle.storage.proofs.RowsLaws.Sorted.{lt_of, not-lt-of, le-of-same, le-of-above}
+use Rattle.storage.proofs.RowsLaws.Ids.{of-less, of-equal, of-greater}
+use Rattle.storage.proofs.RowsLaws.Rows.{row-end}
 use Rattle.time_cache.proofs.NamedLaws.{keysIn, place_read, named_end, named-key, seen_one, seen_more, seen_all, seen_none, not_named, not-up}
 use native.Mathlib.Omega.{arith}
 use Rattle.time_cache.proofs.named.names_ascend.Goals as goal

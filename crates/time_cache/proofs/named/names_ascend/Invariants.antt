@@ -1,8 +1,8 @@
 -- `names_ascend`: the first i places name rows, and the keys of these ascend (`Seen`); p is the last of them. The measure is n - i.
 use mathlib.Core.Path.{◌≡◌}
 use Prim.Native.Nat.{◌-◌, ◌*◌, ◌<◌}
-use Rattle.rows.specs.Part.{part}
-use Rattle.rows.specs.Digits.{leNat}
+use Rattle.storage.specs.Rows.Part.{part}
+use Rattle.storage.specs.Rows.Digits.{leNat}
 use Rattle.time_cache.proofs.NamedLaws.{Seen}
 use Rattle.time_cache.proofs.named.names_ascend.Given as goal
 

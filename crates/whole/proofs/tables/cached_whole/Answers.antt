@@ -7,9 +7,9 @@ use Prim.Native.Nat.{ℕ, ◌-◌}
 use native.Mathlib.Omega.{arith}
 use lib.Dec.{eqb, lit<}
 use lib.ListN.{length, take, drop}
-use Rattle.lists.specs.Base.{sum}
-use Rattle.rows.specs.Rows.{rows}
-use Rattle.refs.specs.Refs.{Ref, Below, refs, places}
+use Rattle.storage.specs.Lists.Base.{sum}
+use Rattle.storage.specs.Rows.Rows.{rows}
+use Rattle.storage.specs.Refs.Refs.{Ref, Below, refs, places}
 use Rattle.time_cache.specs.Tables.{Lies, sound}
 use Rattle.time_cache.specs.declared.cache.TimeBoundCache.{TimeBoundCache}
 use Rattle.time_cache.proofs.Orders.{below_of}

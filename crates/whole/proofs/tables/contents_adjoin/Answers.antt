@@ -2,8 +2,8 @@
 use mathlib.Core.Path.{sym, ◌∙◌}
 use Prim.Native.Nat.{◌-◌}
 use native.Mathlib.Omega.{arith}
-use Rattle.rows.specs.Rows.{rows}
-use Rattle.rows.proofs.Rows.{length-rows}
+use Rattle.storage.specs.Rows.Rows.{rows}
+use Rattle.storage.proofs.RowsLaws.Rows.{length-rows}
 use Rattle.whole.proofs.ContentLaws.{four-at, adjoin-more, adjoin-not, adjoin-end}
 use Rattle.whole.proofs.tables.contents_adjoin.Goals as goal
 

@@ -2,7 +2,7 @@
 use mathlib.Core.Path.{◌≡◌}
 use Prim.Native.Nat.{◌-◌}
 use lib.ListN.{drop}
-use Rattle.rows.specs.Rows.{rows}
+use Rattle.storage.specs.Rows.Rows.{rows}
 use Rattle.whole.specs.Held.{adjoin}
 use Rattle.whole.proofs.tables.contents_adjoin.Given as goal
 

@@ -7,7 +7,7 @@ use native.Mathlib.Omega.{arith}
 use borrow.Author.Tests.{le-leb, lt-leb}
 use lib.Dec.{leb}
 use lib.ListN.{take, drop, get_or}
-use Rattle.lists.specs.Base.{ascending}
+use Rattle.storage.specs.Lists.Base.{ascending}
 use Rattle.whole.specs.Held.{all_below, numbersName}
 use Rattle.whole.specs.Parts.{graftList}
 use Rattle.whole.proofs.Tests.{stops}

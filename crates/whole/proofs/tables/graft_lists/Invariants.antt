@@ -3,8 +3,8 @@ use mathlib.Core.Path.{◌≡◌}
 use mathlib.Core.Bool.{true}
 use Prim.Native.Nat.{◌-◌}
 use lib.ListN.{take, drop}
-use Rattle.lists.specs.Base.{all}
-use Rattle.rows.specs.Rows.{rows}
+use Rattle.storage.specs.Lists.Base.{all}
+use Rattle.storage.specs.Rows.Rows.{rows}
 use Rattle.whole.specs.Parts.{graftList}
 use Rattle.whole.proofs.tables.graft_lists.Given as goal
 

@@ -6,11 +6,11 @@ use mathlib.Core.List.{List, [], ◌∷◌}
 use Prim.Native.Nat.{ℕ, ◌-◌, ◌<◌}
 use native.Mathlib.Omega.{arith}
 use lib.Dec.{lit<}
-use Rattle.lists.specs.Base.{all}
+use Rattle.storage.specs.Lists.Base.{all}
 use Rattle.time_cache.specs.Tables.{Lies, sound}
 use Rattle.time_cache.specs.declared.cache.TimeBoundCache.{TimeBoundCache}
 use Rattle.protocol.specs.Whole.{graftsWhole}
-use Rattle.lists.specs.Map.{keys}
+use Rattle.storage.specs.Lists.Map.{keys}
 use Rattle.block.specs.View.{limitsOf, state_of, graftedIn, graftsOf}
 use Rattle.block.specs.Fit.{Fit}
 use Rattle.block.specs.declared.head.Head.{Head}

@@ -3,8 +3,8 @@ use mathlib.Core.Bool.{true, false}
 use Prim.Native.Nat.{◌-◌}
 use native.Mathlib.Omega.{arith}
 use borrow.Author.Rules.{rules}
-use Rattle.lists.specs.Map.{keys}
-use Rattle.rows.proofs.Sorted.{ascend-start, ascend-more, ascend-done, ascend-not}
+use Rattle.storage.specs.Lists.Map.{keys}
+use Rattle.storage.proofs.RowsLaws.Sorted.{ascend-start, ascend-more, ascend-done, ascend-not}
 use Rattle.time_cache.proofs.Orders.{tells-ascending}
 use Rattle.block.specs.View.{state_of}
 use Rattle.block.proofs.LinkLaws.{count-peers}

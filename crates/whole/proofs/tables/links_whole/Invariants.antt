@@ -1,7 +1,7 @@
 -- `links_whole`: the first i peers ascend; a turn compares neighbours. The measure is n - i.
 use Prim.Native.Nat.{◌-◌, ◌<◌}
-use Rattle.lists.specs.Map.{keys}
-use Rattle.rows.proofs.Sorted.{AscendTo}
+use Rattle.storage.specs.Lists.Map.{keys}
+use Rattle.storage.proofs.RowsLaws.Sorted.{AscendTo}
 use Rattle.block.specs.View.{state_of}
 use Rattle.whole.proofs.tables.links_whole.Given as goal
 

@@ -7,7 +7,7 @@ use native.Mathlib.Omega.{arith}
 use borrow.Author.Tests.{le-leb, lt-leb, lt-ltb, le-ltb}
 use lib.Dec.{leb, ltb}
 use lib.ListN.{take, drop, get_or}
-use Rattle.lists.specs.Base.{once}
+use Rattle.storage.specs.Lists.Base.{once}
 use Rattle.whole.specs.Held.{all_below, numbersName}
 use Rattle.whole.specs.Parts.{missedList}
 use Rattle.whole.proofs.Tests.{stops}

@@ -4,8 +4,8 @@ use mathlib.Core.List.{[]}
 use Prim.Native.Nat.{◌+◌, ◌-◌, ◌*◌, ◌≤◌}
 use native.Mathlib.Omega.{arith}
 use lib.ListN.{length, drop, get_or}
-use Rattle.rows.specs.Rows.{rows}
-use Rattle.rows.proofs.Rows.{length-rows, row-end}
+use Rattle.storage.specs.Rows.Rows.{rows}
+use Rattle.storage.proofs.RowsLaws.Rows.{length-rows, row-end}
 use Rattle.whole.specs.Held.{allLists}
 use Rattle.whole.specs.Parts.{missedList}
 use Rattle.whole.proofs.AllLaws.{all_none, all_keep, all-not, all_done, list_at}

@@ -7,10 +7,10 @@ use Prim.Native.Nat.{ℕ, ◌-◌, ◌<◌}
 use native.Mathlib.Omega.{arith}
 use lib.Dec.{lit<}
 use lib.ListN.{length, take, drop}
-use Rattle.lists.specs.Base.{all, ascending}
-use Rattle.lists.specs.Map.{keys}
-use Rattle.rows.specs.Rows.{rows}
-use Rattle.rows.specs.Sorted.{key_of, keys as rowKeys}
+use Rattle.storage.specs.Lists.Base.{all, ascending}
+use Rattle.storage.specs.Lists.Map.{keys}
+use Rattle.storage.specs.Rows.Rows.{rows}
+use Rattle.storage.specs.Rows.Sorted.{key_of, keys as rowKeys}
 use Rattle.time_cache.proofs.Orders.{tells-ascending}
 use Rattle.protocol.specs.Whole.{announcersWhole}
 use Rattle.block.specs.View.{limitsOf, id_at, missedOf, missingIn, state_of}

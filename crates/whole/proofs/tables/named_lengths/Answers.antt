@@ -5,10 +5,10 @@ use native.Mathlib.Omega.{arith}
 use borrow.Author.Rules.{rules}
 use lib.ListN.{get_or}
 use lib.Seq.{take_all}
-use Rattle.lists.specs.Base.{sum}
-use Rattle.rows.specs.Rows.{rows}
-use Rattle.refs.specs.Refs.{refs, places}
-use Rattle.refs.proofs.Places.{length-places, place_at}
+use Rattle.storage.specs.Lists.Base.{sum}
+use Rattle.storage.specs.Rows.Rows.{rows}
+use Rattle.storage.specs.Refs.Refs.{refs, places}
+use Rattle.storage.proofs.RefsLaws.Places.{length-places, place_at}
 use Rattle.whole.specs.Parts.{length_at}
 use Rattle.whole.proofs.ContentLaws.{four-at, sum_more}
 use Rattle.whole.proofs.tables.named_lengths.Goals as goal

@@ -2,9 +2,9 @@
 use mathlib.Core.Path.{◌≡◌}
 use Prim.Native.Nat.{◌-◌, ◌*◌, ◌≤◌}
 use lib.ListN.{take}
-use Rattle.lists.specs.Base.{sum}
-use Rattle.rows.specs.Rows.{rows}
-use Rattle.refs.specs.Refs.{refs, places}
+use Rattle.storage.specs.Lists.Base.{sum}
+use Rattle.storage.specs.Rows.Rows.{rows}
+use Rattle.storage.specs.Refs.Refs.{refs, places}
 use Rattle.whole.specs.Parts.{length_at}
 use Rattle.whole.proofs.tables.named_lengths.Given as goal
 

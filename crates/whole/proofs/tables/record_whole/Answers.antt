@@ -7,10 +7,10 @@ use Prim.Native.Nat.{ℕ, ◌+◌, ◌-◌}
 use native.Mathlib.Omega.{arith}
 use lib.Dec.{lit<}
 use lib.ListN.{length, take, drop}
-use Rattle.rows.specs.Rows.{rows}
-use Rattle.rows.proofs.Parts.{length_part, part-between}
-use Rattle.refs.specs.Refs.{Below}
-use Rattle.notes.specs.Chains.{TellsOnce}
+use Rattle.storage.specs.Rows.Rows.{rows}
+use Rattle.storage.proofs.RowsLaws.Parts.{length_part, part-between}
+use Rattle.storage.specs.Refs.Refs.{Below}
+use Rattle.storage.specs.Notes.Chains.{TellsOnce}
 use Rattle.time_cache.proofs.Orders.{below_of}
 use Rattle.protocol.specs.Whole.{notedOnce, recordWithin}
 use Rattle.block.specs.Layout.{place}

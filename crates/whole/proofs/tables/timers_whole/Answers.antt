@@ -5,8 +5,8 @@ use Prim.Native.Nat.{ℕ, ◌-◌, ◌<◌}
 use native.Mathlib.Omega.{arith}
 use lib.Dec.{lit<}
 use lib.ListN.{length, take, drop}
-use Rattle.lists.specs.Base.{ascending}
-use Rattle.rows.specs.Sorted.{key_of, keys}
+use Rattle.storage.specs.Lists.Base.{ascending}
+use Rattle.storage.specs.Rows.Sorted.{key_of, keys}
 use Rattle.time_cache.proofs.Orders.{tells-ascending}
 use Rattle.block.specs.View.{limitsOf, id_at, timersIn, state_of}
 use Rattle.block.specs.declared.head.Head.{Head}

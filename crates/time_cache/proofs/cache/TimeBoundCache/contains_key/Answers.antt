@@ -1,9 +1,9 @@
 -- `contains_key`: what the search found.
 use mathlib.Core.Path.{sym, ap, subst}
-use Rattle.lists.specs.Base.{is_some}
-use Rattle.rows.specs.Ident.{id_of}
-use Rattle.rows.specs.Sorted.{FoundIs}
-use Rattle.rows.specs.declared.table.Found.{Found}
+use Rattle.storage.specs.Lists.Base.{is_some}
+use Rattle.storage.specs.Rows.Ident.{id_of}
+use Rattle.storage.specs.Rows.Sorted.{FoundIs}
+use Rattle.storage.specs.declared.rows.table.Found.{Found}
 use Rattle.time_cache.specs.Tables.{named, refsAt, rows_at}
 use Rattle.time_cache.proofs.ReadLaws.{found_here, found_none}
 use Rattle.time_cache.proofs.cache.TimeBoundCache.contains_key.Goals as goal

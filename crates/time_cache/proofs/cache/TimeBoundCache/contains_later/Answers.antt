@@ -1,7 +1,7 @@
 -- `contains_later`: what `get` found, and the time of the row.
 use mathlib.Core.Path.{sym, ap, subst, ◌∙◌}
 use lib.Dec.{ltb}
-use Rattle.rows.specs.Ident.{id_of}
+use Rattle.storage.specs.Rows.Ident.{id_of}
 use Rattle.time_cache.specs.Steps.{GotIs}
 use Rattle.time_cache.specs.declared.cache.Got.{Got}
 use Rattle.time_cache.proofs.ReadLaws.{holds_later, not-later}

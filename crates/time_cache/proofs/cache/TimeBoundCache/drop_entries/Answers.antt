@@ -2,10 +2,10 @@
 use mathlib.Core.Path.{◌≡◌, ap, ◌∙◌}
 use Prim.Native.Nat.{ℕ, ◌+◌, ◌-◌, ◌*◌, ◌≤◌}
 use lib.ListN.{length}
-use Rattle.rows.specs.Part.{part}
-use Rattle.rows.proofs.Parts.{length_part}
-use Rattle.rows.proofs.Rows.{mul-up}
-use Rattle.refs.specs.Refs.{left}
+use Rattle.storage.specs.Rows.Part.{part}
+use Rattle.storage.proofs.RowsLaws.Parts.{length_part}
+use Rattle.storage.proofs.RowsLaws.Rows.{mul-up}
+use Rattle.storage.specs.Refs.Refs.{left}
 use Rattle.time_cache.proofs.LoanLaws.{refs-lent, refs-back, size_of, only-back}
 use native.Mathlib.Omega.{arith}
 use Rattle.time_cache.proofs.cache.TimeBoundCache.drop_entries.Goals as goal

@@ -2,9 +2,9 @@
 use mathlib.Core.Path.{◌≡◌, ap, ◌∙◌}
 use Prim.Native.Nat.{ℕ, ◌+◌, ◌-◌, ◌*◌, ◌≤◌}
 use lib.ListN.{length, drop}
-use Rattle.rows.specs.Part.{part}
-use Rattle.rows.proofs.Parts.{length_part}
-use Rattle.rows.proofs.Rows.{mul-up}
+use Rattle.storage.specs.Rows.Part.{part}
+use Rattle.storage.proofs.RowsLaws.Parts.{length_part}
+use Rattle.storage.proofs.RowsLaws.Rows.{mul-up}
 use Rattle.time_cache.proofs.LoanLaws.{expiry-lent, expiry-back, size_of, only-back}
 use native.Mathlib.Omega.{arith}
 use Rattle.time_cache.proofs.cache.TimeBoundCache.drop_rows.Goals as goal

@@ -1,7 +1,7 @@
 -- `entries_later`: the entries that name no row that is due.
 use mathlib.Core.Path.{sym, ap, ◌∙◌}
-use Rattle.lists.specs.Base.{count}
-use Rattle.refs.specs.Refs.{names}
+use Rattle.storage.specs.Lists.Base.{count}
+use Rattle.storage.specs.Refs.Refs.{names}
 use Rattle.time_cache.proofs.BlockLaws.{refs-open, entries-long}
 use Rattle.time_cache.proofs.ReadLaws.{count_entries}
 use Rattle.time_cache.proofs.cache.TimeBoundCache.entries_later.Goals as goal

@@ -2,8 +2,8 @@
 use mathlib.Core.Path.{sym, subst}
 use mathlib.Core.List.{List}
 use Prim.Native.Nat.{ℕ}
-use Rattle.rows.specs.Ident.{id_of}
-use Rattle.rows.specs.Sorted.{Ascending, FoundIs}
+use Rattle.storage.specs.Rows.Ident.{id_of}
+use Rattle.storage.specs.Rows.Sorted.{Ascending, FoundIs}
 use Rattle.time_cache.specs.Tables.{named}
 use Rattle.time_cache.proofs.BlockLaws.{refs-open, rows-open, names-open, sound-up}
 use Rattle.time_cache.proofs.cache.TimeBoundCache.find.Goals as goal

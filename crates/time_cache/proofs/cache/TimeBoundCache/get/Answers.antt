@@ -1,8 +1,8 @@
 -- `get`: what the search found, and the place that stands there.
 use mathlib.Core.Path.{subst}
-use Rattle.rows.specs.Ident.{id_of}
-use Rattle.rows.specs.Sorted.{FoundIs}
-use Rattle.rows.specs.declared.table.Found.{Found}
+use Rattle.storage.specs.Rows.Ident.{id_of}
+use Rattle.storage.specs.Rows.Sorted.{FoundIs}
+use Rattle.storage.specs.declared.rows.table.Found.{Found}
 use Rattle.time_cache.specs.Tables.{named, refsAt, rows_at}
 use Rattle.time_cache.proofs.ReadLaws.{found_within, found_none, got-at}
 use Rattle.time_cache.proofs.cache.TimeBoundCache.get.Goals as goal

@@ -4,12 +4,12 @@ use mathlib.Core.List.{List, [], ◌∷◌}
 use Prim.Native.Nat.{ℕ, ◌+◌, ◌*◌, ◌≤◌, ◌<◌}
 use native.Mathlib.Nat.{mul_comm, one-mul}
 use lib.ListN.{length, length-map}
-use Rattle.rows.specs.Ident.{id_of}
-use Rattle.rows.specs.Part.{put}
-use Rattle.rows.specs.Sorted.{FoundIs, Between}
-use Rattle.rows.specs.declared.table.Found.{Found}
-use Rattle.rows.proofs.Rows.{mul-up}
-use Rattle.refs.specs.Refs.{Ref, ref, places, Below}
+use Rattle.storage.specs.Rows.Ident.{id_of}
+use Rattle.storage.specs.Rows.Part.{put}
+use Rattle.storage.specs.Rows.Sorted.{FoundIs, Between}
+use Rattle.storage.specs.declared.rows.table.Found.{Found}
+use Rattle.storage.proofs.RowsLaws.Rows.{mul-up}
+use Rattle.storage.specs.Refs.Refs.{Ref, ref, places, Below}
 use Rattle.time_cache.specs.Tables.{expiryOf, named, cacheOf, refsAt, rows_at, row_at, resized, Lies}
 use Rattle.time_cache.specs.Steps.{ref_at, Inserts, Places}
 use Rattle.time_cache.specs.declared.cache.TimeBoundCache.{TimeBoundCache}

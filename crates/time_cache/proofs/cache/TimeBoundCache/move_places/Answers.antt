@@ -3,9 +3,9 @@ use mathlib.Core.Path.{◌≡◌, sym, ap, ◌∙◌, subst}
 use mathlib.Core.List.{List, map}
 use Prim.Native.Nat.{ℕ, ◌+◌, ◌-◌, ◌*◌, ◌≤◌}
 use lib.ListN.{length}
-use Rattle.rows.specs.Part.{part}
-use Rattle.rows.proofs.Parts.{length_part}
-use Rattle.refs.specs.Refs.{Ref, refs, places, Below, moved}
+use Rattle.storage.specs.Rows.Part.{part}
+use Rattle.storage.proofs.RowsLaws.Parts.{length_part}
+use Rattle.storage.specs.Refs.Refs.{Ref, refs, places, Below, moved}
 use Rattle.time_cache.specs.Tables.{refsAt}
 use Rattle.time_cache.proofs.Orders.{of-below}
 use Rattle.time_cache.proofs.TableLaws.{moved_none}

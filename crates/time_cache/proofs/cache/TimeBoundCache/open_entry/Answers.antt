@@ -4,11 +4,11 @@ use mathlib.Core.List.{List, ◌∷◌, ◌++◌}
 use Prim.Native.Nat.{ℕ, ◌+◌, ◌-◌, ◌*◌, ◌≤◌}
 use native.Mathlib.Nat.{mul_comm, one-mul}
 use lib.ListN.{length, take, drop}
-use Rattle.rows.specs.Part.{part}
-use Rattle.rows.proofs.Parts.{length_part}
-use Rattle.rows.proofs.Rows.{mul-more, mul-up}
-use Rattle.refs.specs.Refs.{Ref, refOf, refs}
-use Rattle.refs.proofs.Places.{refs-opened}
+use Rattle.storage.specs.Rows.Part.{part}
+use Rattle.storage.proofs.RowsLaws.Parts.{length_part}
+use Rattle.storage.proofs.RowsLaws.Rows.{mul-more, mul-up}
+use Rattle.storage.specs.Refs.Refs.{Ref, refOf, refs}
+use Rattle.storage.proofs.RefsLaws.Places.{refs-opened}
 use Rattle.time_cache.proofs.LoanLaws.{refs-lent, refs-back, size_of, only-back}
 use native.Mathlib.Omega.{arith}
 use Rattle.time_cache.proofs.cache.TimeBoundCache.open_entry.Goals as goal

@@ -3,10 +3,10 @@ use mathlib.Core.Path.{◌≡◌, ap, ◌∙◌}
 use mathlib.Core.List.{List, ◌∷◌, ◌++◌}
 use Prim.Native.Nat.{ℕ, ◌+◌, ◌-◌, ◌*◌, ◌≤◌}
 use lib.ListN.{length, take, drop}
-use Rattle.rows.specs.Part.{part}
-use Rattle.rows.specs.Ident.{id_of}
-use Rattle.rows.proofs.Parts.{length_part}
-use Rattle.rows.proofs.Rows.{mul-more}
+use Rattle.storage.specs.Rows.Part.{part}
+use Rattle.storage.specs.Rows.Ident.{id_of}
+use Rattle.storage.proofs.RowsLaws.Parts.{length_part}
+use Rattle.storage.proofs.RowsLaws.Rows.{mul-more}
 use Rattle.time_cache.specs.Tables.{ExpiryRow, expiryRow, expiryRows}
 use Rattle.time_cache.proofs.LoanLaws.{expiry-lent, expiry-back, size_of, only-back}
 use native.Mathlib.Omega.{arith}

@@ -1,15 +1,15 @@
 -- `store_place`: the two bytes at the start of the entry's row.
 use mathlib.Core.Path.{sym, ap, ◌∙◌, subst}
-use Rattle.rows.specs.Part.{Only}
+use Rattle.storage.specs.Rows.Part.{Only}
 use mathlib.Core.List.{List, []}
 use Prim.Native.Nat.{ℕ, ◌+◌, ◌*◌, ◌≤◌}
 use lib.ListN.{drop, length-drop}
-use Rattle.rows.specs.Digits.{le_bytes}
-use Rattle.rows.proofs.Parts.{put-drop}
-use Rattle.rows.proofs.Digits.{length-leBytes}
-use Rattle.refs.specs.Refs.{ref, refs}
-use Rattle.refs.proofs.Places.{store-place}
-use Rattle.rows.proofs.Rows.{row-end}
+use Rattle.storage.specs.Rows.Digits.{le_bytes}
+use Rattle.storage.proofs.RowsLaws.Parts.{put-drop}
+use Rattle.storage.proofs.RowsLaws.Digits.{length-leBytes}
+use Rattle.storage.specs.Refs.Refs.{ref, refs}
+use Rattle.storage.proofs.RefsLaws.Places.{store-place}
+use Rattle.storage.proofs.RowsLaws.Rows.{row-end}
 use Rattle.time_cache.proofs.LoanLaws.{only-put}
 use native.Mathlib.Omega.{arith}
 use Rattle.time_cache.proofs.cache.TimeBoundCache.store_place.Goals as goal

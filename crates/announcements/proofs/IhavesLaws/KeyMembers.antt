@@ -1,0 +1,36 @@
+-- What the place of a key says of the set: whether it is there.
+-- Assumes nothing.
+use mathlib.Core.Path.{◌≡◌, refl, sym}
+use mathlib.Core.Bool.{true, false}
+use mathlib.Core.List.{List, [], ◌∷◌}
+use Prim.Native.Nat.{ℕ, zero, suc, ◌<◌, zero-le, suc-le-suc}
+use native.Mathlib.Nat.{not-suc-le-zero}
+use native.Mathlib.Omega.{arith}
+use borrow.Author.Tests.{eq-eqb, ne_eqb, ltb-true, ltb-false}
+use lib.Dec.{ltb, eqb}
+use lib.ListN.{length, get_or}
+use Rattle.storage.specs.Lists.Base.{member}
+use Rattle.storage.proofs.ListsLaws.MapLaws.{cases}
+use Rattle.storage.specs.Rows.Sorted.{Here, Between}
+
+at-member : (k i : ℕ) (ks : List ℕ) → i < length ks → get_or ks i 0 ≡ k → member k ks ≡ true
+unfolding member
+at-member k i [] w e = absurd (not-suc-le-zero w)
+at-member k zero (x ∷ ks) w e = rw (eq-eqb k x (sym e)) refl
+at-member k (suc i) (x ∷ ks) w e =
+    cases (eqb k x) (λ t. rw t refl) (λ t. rw t (at-member k i ks (omega arith) e))
+
+no_member : (k : ℕ) (ks : List ℕ) → ((j : ℕ) → j < length ks → get_or ks j 0 ≡ k → ⊥) → member k ks ≡ false
+unfolding member
+no_member k [] h = refl
+no_member k (x ∷ ks) h =
+    rw (ne_eqb k x (λ e. h 0 (suc-le-suc zero-le) (sym e))) (no_member k ks (λ j w e. h (suc j) (suc-le-suc w) e))
+
+pub member-here : (k i : ℕ) (ks : List ℕ) → Here ks k i → member k ks ≡ true
+member-here k i ks h = at-member k i ks h.within h.same
+
+pub member-between : (k i : ℕ) (ks : List ℕ) → Between ks k i → member k ks ≡ false
+member-between k i ks b =
+    no_member k ks (λ j w e. cases (ltb j i)
+    (λ t. omega (arith, b.below j (ltb-true j i t)))
+    (λ t. omega (arith, b.above j (ltb-false j i t) w)))

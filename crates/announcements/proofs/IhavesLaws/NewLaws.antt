@@ -1,0 +1,158 @@
+-- The identifiers of a message that are not known, entry by entry.
+-- Assumes nothing.
+use mathlib.Core.Path.{◌≡◌, refl, sym, ap, ◌∙◌}
+use mathlib.Core.Bool.{Bool, true, false, not, ◌||◌}
+use mathlib.Core.List.{List, [], ◌∷◌, ◌++◌}
+use Prim.Native.Nat.{ℕ, ◌+◌, ◌≤◌, zero-le, suc-le-suc}
+use native.Mathlib.Omega.{arith}
+use lib.Dec.{eqb}
+use lib.ListN.{length, take, drop, length-append, take-append-drop}
+use Rattle.std.specs.Prelude.{if◌then◌else◌}
+use Rattle.storage.specs.Lists.Base.{any, member}
+use Rattle.storage.specs.Lists.Map.{has}
+use Rattle.storage.proofs.ListsLaws.MapLaws.{cases}
+use Rattle.storage.proofs.ListsLaws.Branches.{if-on, if-same}
+use Rattle.time_cache.specs.TimeCache.{holds}
+use Rattle.postcard.specs.Message.{Ihave}
+use Rattle.protocol.specs.State.{State}
+use Rattle.decide.specs.Settled.{settled}
+use Rattle.decide.specs.SizesAfter.{newIds, knownMissing, knownTimer}
+use Rattle.announcements.specs.Ihaves.New.{isFor, isOld, isNew}
+
+-- the identifiers of these entries, the last first, before those seen
+unfoldable pub back : List Ihave → List ℕ → List ℕ
+back [] seen = seen
+back (x ∷ xs) seen = back xs (x.id ∷ seen)
+
+either : (a b c : Bool) → (a || (if b then true else c)) ≡ ((if b then true else a) || c)
+either true true c = refl
+either true false c = refl
+either false true c = refl
+either false false c = refl
+
+back-member : (i : ℕ) (xs : List Ihave) (seen : List ℕ) → member i (back xs seen) ≡ (any (isFor i) xs || member i seen)
+unfolding back member any
+back-member i [] seen = refl
+back-member i (x ∷ xs) seen = back-member i xs (x.id ∷ seen) ∙ either (any (isFor i) xs) (eqb i x.id) (member i seen)
+
+module _ (known : ℕ → Bool) where
+  new-append : (seen : List ℕ) (xs ys : List Ihave) → newIds known seen (xs ++ ys) ≡ newIds known seen xs ++ newIds known (back xs seen) ys
+  unfolding newIds back
+  new-append seen [] ys = refl
+  new-append seen (x ∷ xs) ys =
+      cases (known x.id || member x.id seen)
+      (λ e. rw e (new-append (x.id ∷ seen) xs ys))
+      (λ e. rw e (ap (λ (l : List ℕ). x.id ∷ l) (new-append (x.id ∷ seen) xs ys)))
+
+  -- what one entry adds
+  new-one : (x : Ihave) (xs : List Ihave) → newIds known (back xs []) (x ∷ []) ≡ (if isOld known xs x.id then [] else x.id ∷ [])
+  unfolding newIds member
+  new-one x xs = ap (λ (b : Bool). if known x.id || b then [] else x.id ∷ []) (back-member x.id xs [] ∙ no_more (any (isFor x.id) xs))
+    where
+      no_more : (b : Bool) → (b || member x.id []) ≡ b
+      no_more true = refl
+      no_more false = unfold member in refl
+
+  pub new-more : (x : Ihave) (xs : List Ihave) → newIds known [] (xs ++ (x ∷ [])) ≡ newIds known [] xs ++ (if isOld known xs x.id then [] else x.id ∷ [])
+  new-more x xs = new-append [] xs (x ∷ []) ∙ ap (λ (l : List ℕ). newIds known [] xs ++ l) (new-one x xs)
+
+  -- no more than there are entries
+  new-few : (seen : List ℕ) (hs : List Ihave) → length (newIds known seen hs) ≤ length hs
+  unfolding newIds
+  new-few seen [] = zero-le
+  new-few seen (h ∷ hs) =
+      cases (known h.id || member h.id seen)
+      (λ e. rw e (omega (arith, new-few (h.id ∷ seen) hs)))
+      (λ e. rw e (suc-le-suc (new-few (h.id ∷ seen) hs)))
+
+  pub new-few-all : (hs : List Ihave) → length (newIds known [] hs) ≤ length hs
+  new-few-all hs = new-few [] hs
+
+  -- the number of them, after one entry more
+  pub count-more : (n m : ℕ) (x : Ihave) (xs ys : List Ihave) → n ≡ length (newIds known [] xs) → m ≡ (if isOld known xs x.id then 0 else 1) → ys ≡ xs ++ (x ∷ []) → n + m ≡ length (newIds known [] ys)
+  count-more n m x xs ys e f t =
+      (λ k. e k + f k) ∙ ap (λ (z : ℕ). length (newIds known [] xs) + z) (long (isOld known xs x.id))
+      ∙ sym (ap (λ (l : List Ihave). length (newIds known [] l)) t ∙ ap length (new-more x xs) ∙ length-append (newIds known [] xs) _)
+    where
+      long : (b : Bool) → (if b then 0 else 1) ≡ length (if b then [] else x.id ∷ [])
+      long true = refl
+      long false = refl
+
+  -- the rest of them, after the first i entries
+  unfoldable pub laterIds : ℕ → List Ihave → List ℕ
+  laterIds i hs = newIds known (back (take i hs) []) (drop i hs)
+
+  pub new-rest : (i : ℕ) (hs : List Ihave) → newIds known [] hs ≡ newIds known [] (take i hs) ++ laterIds i hs
+  unfolding laterIds
+  new-rest i hs = ap (newIds known []) (sym (take-append-drop i hs)) ∙ new-append [] (take i hs) (drop i hs)
+
+-- what the settled state has as it was
+module _ (now : ℕ) (s : State) where
+  settled-missing : (settled now s).missing ≡ s.missing
+  unfolding settled
+  settled-missing = if-on (λ (x : State). x.missing) s.init _ _ ∙ if-same s.init refl refl
+
+  settled-timers : (settled now s).timers.graft ≡ s.timers.graft
+  unfolding settled
+  settled-timers = if-on (λ (x : State). x.timers.graft) s.init _ _ ∙ if-same s.init refl refl
+
+  pub settled-settings : (settled now s).settings ≡ s.settings
+  unfolding settled
+  settled-settings = if-on (λ (x : State). x.settings) s.init _ _ ∙ if-same s.init refl refl
+
+-- an identifier that is known, by the tests of the code
+module _ (now : ℕ) (s : State) (before : List Ihave) (i : ℕ) where
+  abbrev t : State
+  t = settled now s
+
+  first : (a b c : Bool) → a ≡ true → ((a || b) || c) ≡ true
+  first a b c e = ap (λ (z : Bool). (z || b) || c) e
+
+  second : (a b c : Bool) → b ≡ true → ((a || b) || c) ≡ true
+  second true b c e = refl
+  second false b c e = ap (λ (z : Bool). z || c) e
+
+  third : (a b c : Bool) → c ≡ true → ((a || b) || c) ≡ true
+  third true b c e = refl
+  third false true c e = refl
+  third false false c e = e
+
+  others : (a b c : Bool) → a ≡ false → c ≡ false → ((a || b) || c) ≡ b
+  others a b c e f = (λ k. (e k || b) || f k) ∙ last b
+    where
+      last : (b : Bool) → (b || false) ≡ b
+      last true = refl
+      last false = refl
+
+  pub missing-received : holds i t.received ≡ true → isOld (knownMissing t) before i ≡ true
+  unfolding knownMissing
+  missing-received e = first (holds i t.received) (has i t.missing) (any (isFor i) before) e
+
+  pub missing-before : any (isFor i) before ≡ true → isOld (knownMissing t) before i ≡ true
+  unfolding knownMissing
+  missing-before e = third (holds i t.received) (has i t.missing) (any (isFor i) before) e
+
+  pub missing-else : holds i t.received ≡ false → any (isFor i) before ≡ false → isOld (knownMissing t) before i ≡ has i s.missing
+  unfolding knownMissing
+  missing-else e f = others (holds i t.received) (has i t.missing) (any (isFor i) before) e f ∙ ap (has i) (settled-missing now s)
+
+  pub timer-received : holds i t.received ≡ true → isOld (knownTimer t) before i ≡ true
+  unfolding knownTimer
+  timer-received e = first (holds i t.received) (member i t.timers.graft) (any (isFor i) before) e
+
+  pub timer-marked : member i s.timers.graft ≡ true → isOld (knownTimer t) before i ≡ true
+  unfolding knownTimer
+  timer-marked e = second (holds i t.received) (member i t.timers.graft) (any (isFor i) before) (ap (member i) (settled-timers now s) ∙ e)
+
+  pub timer-before : any (isFor i) before ≡ true → isOld (knownTimer t) before i ≡ true
+  unfolding knownTimer
+  timer-before e = third (holds i t.received) (member i t.timers.graft) (any (isFor i) before) e
+
+  pub timer-else : holds i t.received ≡ false → any (isFor i) before ≡ false → isOld (knownTimer t) before i ≡ member i s.timers.graft
+  unfolding knownTimer
+  timer-else e f = others (holds i t.received) (member i t.timers.graft) (any (isFor i) before) e f ∙ ap (member i) (settled-timers now s)
+
+  -- neither received nor marked
+  pub timer-open : holds i t.received ≡ false → member i s.timers.graft ≡ false → isNew (knownTimer t) before i ≡ not (any (isFor i) before)
+  unfolding knownTimer
+  timer-open e f = (λ k. not ((e k || (ap (member i) (settled-timers now s) ∙ f) k) || any (isFor i) before))

@@ -1,0 +1,4 @@
+pub mod IhavesLaws
+pub mod SendGraftLaws
+pub mod DispatchLaws
+pub mod AnnounceLaws

@@ -1,0 +1,4 @@
+pub mod Ihaves
+pub mod SendGraft
+pub mod Dispatch
+pub mod Announce

@@ -1,0 +1,202 @@
+// The actions of a dispatch, read from the block as it stands before a first event evicts.
+ghost use Rattle.std.specs.Prelude.{◌≡◌, ◌≤◌, ◌<◌, length, take};
+ghost use Rattle.storage.specs.Lists.Base.{concatMap};
+ghost use Rattle.postcard.specs.Message.{ihaveBytes, actionBytes};
+ghost use Rattle.protocol.specs.Ticks.{perMessage, queuedFor};
+ghost use Rattle.decide.specs.Settled.{settled};
+ghost use Rattle.decide.specs.Pieces.{peerPieces, pieceActions};
+ghost use Rattle.decide.specs.ActionsAfter.{dispatchActions};
+ghost use Rattle.wire.specs.Output.Written.{Tellable, Written};
+ghost use Rattle.block.specs.View.{state_of};
+ghost use Rattle.block.specs.LinkSteps.{peerAt};
+ghost use Rattle.steps.specs.Rooms.{roomsIn};
+ghost use Rattle.steps.specs.Stands.{Stands};
+ghost use Rattle.announcements.specs.Dispatch.Sends.{heldThen, toSend, oneSend, EntriesPut, PieceSent, PeerSent};
+
+use crate::dispatch::gains;
+use block::head::Head;
+use block::{links, note};
+use postcard::units::Millis;
+use steps::{settled, ticks};
+use wire::{output, serialized_size};
+
+// The entries of one IHave: the place after them, the entry of the queue behind the last of them, and whether one of their identifiers is cached.
+#[derive(Clone, Copy)]
+pub struct Chunk {
+    pub at: usize,
+    pub row: usize,
+    pub cached: bool,
+}
+
+// One IHave: the place after it and its timer, the entry of the queue behind its last, and the flag of the record's timer.
+#[derive(Clone, Copy)]
+pub struct Sending {
+    pub at: usize,
+    pub row: usize,
+    pub flag: bool,
+}
+
+// The IHaves to one link: the place after them, and the flag of the record's timer.
+#[derive(Clone, Copy)]
+pub struct Sends {
+    pub at: usize,
+    pub flag: bool,
+}
+
+// How many identifiers are queued for a link: one pass over the queue's column of link numbers.
+fn count_queued(h: Head, block: &[u8], link: usize) -> usize
+    requires { Stands h block.now × (link < h.live.links) }
+    ensures { result ≡ length (queuedFor (peerAt (state_of h block.now) link) (state_of h block.now).queue) }
+{
+    let n = h.live.queued;
+    let mut found = 0;
+    let mut i = 0;
+    while i < n {
+        let j = i;
+        let l = note::queued_link_at(h, block, j);
+        i += 1;
+        if l == link {
+            found += 1;
+        }
+    }
+    found
+}
+
+// Writes the next `count` entries that are queued for a link, from entry `row` of the queue on.
+fn put_entries(
+    h: Head,
+    block: &[u8],
+    instant: Millis,
+    link: usize,
+    row: usize,
+    count: usize,
+    out: &mut [u8],
+    from: usize,
+) -> Chunk
+    requires { Stands h block.now × (link < h.live.links) × (row ≤ h.live.queued) × (count ≤ length (toSend link row (state_of h block.now))) × Tellable (concatMap ihaveBytes (take count (toSend link row (state_of h block.now)))) from }
+    ensures { EntriesPut (heldThen instant.0 (state_of h block.now)) (peerAt (state_of h block.now) link) (state_of h block.now).queue (toSend link row (state_of h block.now)) count out.old from out.new result }
+{
+    let mut at = from;
+    let mut cached = false;
+    let mut left = count;
+    let mut i = row;
+    while 0 < left {
+        let j = i;
+        let l = note::queued_link_at(h, block, j);
+        i += 1;
+        if l == link {
+            left -= 1;
+            let q = note::queued_at(h, block, j);
+            at = output::ihave(out, at, q.id, q.round);
+            let held = settled::is_cached_then(h, block, instant, q.id);
+            if held {
+                cached = true;
+            }
+        }
+    }
+    Chunk { at, row: i, cached }
+}
+
+// `send_ihave`, the actions half: the next `count` entries to a link as one IHave; "handed back are noted", and where one of them is cached the record stands, so that
+// `schedule_announce_dropped` follows.
+fn send_ihave(
+    h: Head,
+    block: &[u8],
+    instant: Millis,
+    link: usize,
+    row: usize,
+    count: usize,
+    taken: bool,
+    flag: bool,
+    out: &mut [u8],
+    from: usize,
+) -> Sending
+    requires { Stands h block.now × (link < h.live.links) × (row ≤ h.live.queued) × (count ≤ length (toSend link row (state_of h block.now))) × Tellable (concatMap actionBytes (oneSend (heldThen instant.0 (state_of h block.now)) taken flag (peerAt (state_of h block.now) link) (take count (toSend link row (state_of h block.now))))) from }
+    ensures { PieceSent (heldThen instant.0 (state_of h block.now)) (peerAt (state_of h block.now) link) (state_of h block.now).queue (toSend link row (state_of h block.now)) count taken flag out.old from out.new result }
+{
+    let p = links::peer_at(h, block, link);
+    let a = output::send_ihave(out, from, p, taken, count);
+    let c = put_entries(h, block, instant, link, row, count, out, a);
+    if taken {
+        return Sending {
+            at: c.at,
+            row: c.row,
+            flag,
+        };
+    }
+    let b = ticks::schedule_announce_dropped(c.cached, flag, out, c.at);
+    if c.cached {
+        return Sending {
+            at: b,
+            row: c.row,
+            flag: true,
+        };
+    }
+    Sending {
+        at: b,
+        row: c.row,
+        flag,
+    }
+}
+
+// The IHaves to one link, "of at most (M − 6) / 35" entries each. Its time is that of two passes over the queue, and of a look-up in the message cache for each
+// entry that is queued for the link.
+fn send_link(
+    h: Head,
+    block: &[u8],
+    instant: Millis,
+    rooms: &[u64; 34],
+    link: usize,
+    flagged: bool,
+    out: &mut [u8],
+    from: usize,
+) -> Sends
+    requires { Stands h block.now × (link < h.live.links) × Tellable (concatMap actionBytes (pieceActions (heldThen instant.0 (state_of h block.now)) (roomsIn (state_of h block.now) rooms.now) flagged (peerPieces (perMessage (state_of h block.now).settings.maxMessageSize) (state_of h block.now).queue (peerAt (state_of h block.now) link)))) from }
+    ensures { PeerSent (heldThen instant.0 (state_of h block.now)) (roomsIn (state_of h block.now) rooms.now) (peerAt (state_of h block.now) link) (perMessage (state_of h block.now).settings.maxMessageSize) (state_of h block.now).queue flagged out.old from out.new result }
+{
+    let k = serialized_size::chunk_len(h.settings.max_message_size as usize);
+    let room = rooms[link];
+    let total = count_queued(h, block, link);
+    let mut at = from;
+    let mut flag = flagged;
+    let mut row = 0;
+    let mut left = total;
+    let mut nth: u64 = 1;
+    while 0 < left {
+        let count = gains::min(k, left);
+        let taken = nth <= room;
+        let s = send_ihave(h, block, instant, link, row, count, taken, flag, out, at);
+        at = s.at;
+        row = s.row;
+        flag = s.flag;
+        left = left - count;
+        nth += 1;
+    }
+    Sends { at, flag }
+}
+
+// `on_dispatch_timer`, the actions half: the IHaves, "peers ascending" being the links in order. Its time is that of `send_link` for each link.
+pub fn dispatch_actions(
+    h: Head,
+    block: &[u8],
+    instant: Millis,
+    rooms: &[u64; 34],
+    out: &mut [u8],
+    from: usize,
+) -> usize
+    requires { Stands h block.now × Tellable (concatMap actionBytes (dispatchActions (roomsIn (state_of h block.now) rooms.now) (settled instant.0 (state_of h block.now)))) from }
+    ensures { Written (concatMap actionBytes (dispatchActions (roomsIn (state_of h block.now) rooms.now) (settled instant.0 (state_of h block.now)))) out.old from out.new result }
+{
+    let n = h.live.links;
+    let mut at = from;
+    let mut flag = h.live.announce_dropped_scheduled;
+    let mut l = 0;
+    while l < n {
+        let link = l;
+        l += 1;
+        let s = send_link(h, block, instant, rooms, link, flag, out, at);
+        at = s.at;
+        flag = s.flag;
+    }
+    at
+}

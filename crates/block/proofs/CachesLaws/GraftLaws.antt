@@ -1,0 +1,117 @@
+-- One grafted message: its bytes as the view reads them, and what a write of its `first` or `kept` does to the state.
+-- Assumes nothing.
+use mathlib.Core.Path.{◌≡◌, sym, ap, ◌∙◌, subst}
+use mathlib.Core.List.{List, []}
+use mathlib.Core.Option.{none}
+use Prim.Native.Nat.{ℕ, ◌+◌, ◌*◌, ◌≤◌, ◌<◌}
+use native.Mathlib.Omega.{arith}
+use lib.Dec.{lit<}
+use lib.ListN.{length, take, drop, get_or, length-drop}
+use lib.Seq.{take_all, get_or-drop, get_or-take, length-take-le}
+use Rattle.storage.specs.Lists.Map.{Map, Entry, entry}
+use Rattle.storage.specs.Rows.Part.{part}
+use Rattle.storage.specs.Rows.Digits.{leNat}
+use Rattle.storage.proofs.RowsLaws.Parts.{length_part, part-part, get_d_part}
+use Rattle.storage.specs.Refs.Refs.{Ref, ref, refs}
+use Rattle.storage.proofs.RefsLaws.Places.{getD-map-in, length-refs}
+use Rattle.time_cache.specs.TimeCache.{Timed}
+use Rattle.time_cache.specs.Tables.{ExpiryRow, expiryRows, entry_of, cacheOf}
+use Rattle.time_cache.specs.Steps.{ref_at}
+use Rattle.protocol.specs.State.{Limits, Grafts}
+use Rattle.block.specs.Layout.{place, table}
+use Rattle.block.specs.View.{state_of, limitsOf, byte_at, hopsIn, roundOf, graftsOf, graftedIn}
+use Rattle.block.specs.Sound.{Numbered, Sound}
+use Rattle.block.specs.HopSteps.{HopIn}
+use Rattle.block.specs.declared.head.Head.{Head}
+use Rattle.block.specs.declared.hops.Hop.{Hop as LinkHop}
+use Rattle.block.proofs.Tables.{length-table, field_in}
+use Rattle.block.proofs.HopLaws.{count-hops, hop-in}
+use Rattle.block.specs.Caches.GraftSteps.{graftedAt, graftsAt, GraftIs}
+use Rattle.block.proofs.CachesLaws.GraftedLaws.{peersOf, own-list}
+
+module _ (h : Head) (xs : List ℕ) (sound : Sound h xs) (i : ℕ) (q : i < h.live.grafted) where
+  abbrev l : Limits
+  l = limitsOf h.limits
+
+  abbrev n : ℕ
+  n = h.live.grafted
+
+  abbrev tab : List ℕ
+  tab = table l 7 xs
+
+  abbrev ps : List ℕ
+  ps = peersOf h xs
+
+  abbrev es : List Ref
+  es = refs 119 n tab
+
+  abbrev rs : List ExpiryRow
+  rs = expiryRows 40 h.live.grafted_rows (table l 8 xs)
+
+  abbrev row : List ℕ
+  row = part (i * 119) 119 tab
+
+  -- where its list stands, and the list
+  abbrev pub peersPlace : ℕ
+  peersPlace = place l 7 + 119 * i + 22
+
+  abbrev pub list : List ℕ
+  list = part peersPlace 97 xs
+
+  long7 : length tab ≡ 119 * (l.G + 1)
+  long7 = length-table l 7 xs (lit< tt) sound.fit.long
+
+  row-long : length row ≡ 119
+  row-long = length_part (i * 119) 119 tab (omega (arith, long7, sound.fit.within.grafted))
+
+  pub list-long : length list ≡ 97
+  list-long = length_part peersPlace 97 xs (omega (arith, sound.fit.long, sound.fit.within.grafted))
+
+  list-in : drop 22 row ≡ list
+  unfolding part
+  list-in =
+      let a : place l 7 + (i * 119 + 22) ≡ peersPlace = omega arith in
+      sym (take_all 97 (drop 22 row) (omega (arith, length-drop 22 row, row-long)))
+      ∙ field_in l 7 119 i 22 97 xs (lit< tt) (omega arith) (omega (arith, sound.fit.within.grafted))
+      ∙ ap (λ (b : ℕ). part b 97 xs) a
+
+  pub grafted-entry : graftedAt (state_of h xs) i ≡ entry_of (graftsOf ps) rs (ref_at es i)
+  unfolding state_of graftedIn cacheOf
+  grafted-entry = getD-map-in (entry_of (graftsOf ps) rs) es i (entry 0 (record { expires = 0; value = record { first = none; kept = none; peers = [] } })) (ref 0 []) (omega (arith, length-refs 119 n tab))
+
+  pub peers-row : (graftsAt (state_of h xs) i).peers ≡ hopsIn (roundOf ps) list
+  unfolding graftsOf
+  peers-row = ap (λ (e : Entry (Timed Grafts)). e.value.value.peers) grafted-entry ∙ ap (hopsIn (roundOf ps)) (own-list h.live.links n tab i q ∙ list-in)
+
+  pub list-numbered : Numbered h.live.links list
+  list-numbered = subst (Numbered h.live.links) list-in (sound.laid.grafts.each i q)
+
+  first_byte : byte_at 0 list ≡ get_or xs peersPlace 0
+  first_byte =
+      let z : peersPlace + 0 ≡ peersPlace = omega arith in
+      get_d_part peersPlace 97 0 0 xs (omega arith) ∙ ap (λ (o : ℕ). get_or xs o 0) z
+
+  pub graft-many : get_or xs peersPlace 0 ≡ length (graftsAt (state_of h xs) i).peers
+  graft-many = sym (ap length peers-row ∙ count-hops list list-long (roundOf ps) list-numbered.few ∙ first_byte)
+
+  pub graft-few : get_or xs peersPlace 0 ≤ 32
+  graft-few = omega (arith, list-numbered.few, first_byte)
+
+  -- peer j
+  pub graft-hop : (j : ℕ) (r : LinkHop) → j < length (graftsAt (state_of h xs) i).peers → HopIn peersPlace j xs r → GraftIs h xs (graftsAt (state_of h xs) i).peers j r
+  unfolding state_of roundOf
+  graft-hop j r g e =
+      let k : ℕ = byte_at 0 list in
+      let jk : j < k = omega (arith, ap length peers-row, count-hops list list-long (roundOf ps) list-numbered.few) in
+      let few : k ≤ 32 = list-numbered.few in
+      let a : peersPlace + (1 + j) ≡ peersPlace + 1 + j = omega arith in
+      let b : peersPlace + (33 + 2 * j) ≡ peersPlace + 33 + 2 * j = omega arith in
+      let link : get_or list (1 + j) 0 ≡ r.link = get_d_part peersPlace 97 (1 + j) 0 xs (omega arith) ∙ ap (λ (o : ℕ). get_or xs o 0) a ∙ sym e.link in
+      let round : leNat (part (33 + 2 * j) 2 list) ≡ r.round.0 = ap leNat (part-part (33 + 2 * j) 2 peersPlace 97 xs (omega arith) ∙ ap (λ (o : ℕ). part o 2 xs) b) ∙ sym e.round in
+      let at : get_or (take k (drop 1 list)) j 0 < h.live.links = list-numbered.below.below j (omega (arith, length-take-le k (drop 1 list) (omega (arith, length-drop 1 list, list-long)))) in
+      record {
+        below = subst (λ (v : ℕ). v < h.live.links) (get_or-take k (drop 1 list) j 0 jk ∙ get_or-drop 1 list j 0 ∙ link) at;
+        same = ap (λ (hs : Map ℕ). get_or hs j (entry 0 0)) peers-row
+            ∙ hop-in list list-long (roundOf ps) j (entry 0 0) jk few
+            ∙ (λ z. entry (get_or ps (link z) 0) (round z));
+      }

@@ -1,0 +1,147 @@
+-- The received messages: their tables, and what an insert and `expire_until` do to the state.
+-- Assumes nothing.
+use mathlib.Core.Path.{◌≡◌, sym, ap, ◌∙◌, subst}
+use mathlib.Core.List.{List}
+use Prim.Native.Nat.{ℕ, ◌+◌, ◌*◌, ◌≤◌, ◌<◌}
+use native.Mathlib.Omega.{arith}
+use lib.Dec.{lit<}
+use lib.ListN.{length, set}
+use Rattle.storage.specs.Refs.Refs.{Ref, places, Below}
+use Rattle.time_cache.specs.TimeCache.{Cache, put as put_in, expireUntil, holds}
+use Rattle.time_cache.specs.Tables.{cacheAt, Lies, Room, Sound as SoundCache, OnlyTwo, valuesAs}
+use Rattle.time_cache.specs.Steps.{held_at, Inserts, Expires}
+use Rattle.time_cache.specs.declared.cache.TimeBoundCache.{TimeBoundCache}
+use Rattle.time_cache.specs.declared.cache.Inserted.{Inserted}
+use Rattle.time_cache.specs.declared.cache.Expired.{Expired}
+use Rattle.time_cache.proofs.ValueLaws.{holds_as}
+use Rattle.protocol.specs.State.{Limits, withReceived}
+use Rattle.block.specs.Layout.{place, tables, table}
+use Rattle.block.specs.View.{state_of, view_of, limitsOf, receivedIn, nothingOf}
+use Rattle.block.specs.Fit.{Fit}
+use Rattle.block.specs.Sound.{Laid, Sound}
+use Rattle.block.specs.Goes.{Goes}
+use Rattle.block.specs.Heads.{withReceivedCounts}
+use Rattle.block.specs.declared.head.Head.{Head}
+use Rattle.block.specs.TimeCaches.{cacheFrom, receivedCache}
+use Rattle.block.specs.Caches.InBlock.{InOrder, AtMost, receivedAlso, receivedLeft}
+use Rattle.block.proofs.CachesLaws.CacheLaws.{asValue, cache-in, sound-in, refs-in, count_entries, count-expiry, frame-pair, expired-in, inserted-in}
+
+module _ (h : Head) (xs : List ℕ) (fit : Fit h xs) where
+  abbrev l : Limits
+  l = limitsOf h.limits
+
+  abbrev n : ℕ
+  n = h.live.received
+
+  abbrev m : ℕ
+  m = h.live.received_rows
+
+  pub received-lies : Lies (receivedCache h) xs
+  received-lies = record { entryWide = omega arith; expiryWide = omega arith; apart = omega arith; within = omega arith; few = omega arith }
+
+  pub received-room : Room (receivedCache h) xs
+  received-room = record { entryWide = omega arith; expiryWide = omega arith; apart = omega arith; within = omega arith; few = omega arith }
+
+  pub received_as : valuesAs (asValue nothingOf) (cacheAt (receivedCache h) xs) ≡ (state_of h xs).received
+  unfolding state_of receivedIn
+  received_as = cache-in l 2 2 n 3 40 m xs (lit< tt) (omega arith) (lit< tt) (omega arith) nothingOf
+
+  pub received-holds : (k : ℕ) → holds k (cacheAt (receivedCache h) xs) ≡ holds k (state_of h xs).received
+  received-holds k = sym (holds_as (asValue nothingOf) k (cacheAt (receivedCache h) xs)) ∙ ap (holds k) received_as
+
+  pub count-received : length (state_of h xs).received.entries ≡ n
+  unfolding state_of receivedIn
+  count-received = count_entries l 2 2 n 3 40 m xs (lit< tt) (omega arith) (lit< tt) (omega arith) nothingOf
+
+  pub count-received-rows : length (state_of h xs).received.expiry ≡ m
+  unfolding state_of receivedIn
+  count-received-rows = count-expiry l 2 2 n 3 40 m xs (lit< tt) (omega arith) (lit< tt) (omega arith) nothingOf
+
+pub received-sound : (h : Head) (xs : List ℕ) → Sound h xs → InOrder (state_of h xs).received → SoundCache (receivedCache h) xs
+unfolding state_of receivedIn
+received-sound h xs sound o =
+    sound-in (limitsOf h.limits) 2 2 h.live.received 3 40 h.live.received_rows xs (lit< tt) (omega (arith, sound.fit)) (lit< tt) (omega (arith, sound.fit)) nothingOf sound.laid.received o
+
+-- other rows in the two tables
+module _ (h : Head) (xs ys : List ℕ) (sound : Sound h xs) (n' m' k g : ℕ) where
+  abbrev lim : Limits
+  lim = limitsOf h.limits
+
+  abbrev new : Head
+  new = withReceivedCounts n' m' h
+
+  module _ (hk : k ≤ 2 * (lim.R + 1)) (hg : g ≤ 40 * (2 * lim.R + 1)) (e : length ys ≡ length xs) (o : OnlyTwo (place lim 2) k (place lim 3) g xs ys) where
+    framed : tables lim ys ≡ set (set (tables lim xs) 3 (table lim 3 ys)) 2 (table lim 2 ys)
+    framed = frame-pair lim 2 3 k g xs ys (lit< tt) (lit< tt) (omega arith) hk hg sound.fit.long e o
+
+    pub received-state : state_of new ys ≡ withReceived (receivedIn n' (table lim 2 ys) m' (table lim 3 ys)) (state_of h xs)
+    unfolding state_of
+    received-state = ap (view_of new) framed
+
+    pub received-laid : n' ≤ lim.R → m' ≤ 2 * lim.R → SoundCache (receivedCache new) ys → Sound new ys
+    received-laid hn hm s = record {
+      fit = record { ceilings = sound.fit.ceilings; within = omega (arith, sound.fit.within); long = omega (arith, e, sound.fit.long) };
+      laid = subst (Laid new) (sym framed) (record {
+        received = subst (λ (es : List Ref). Below m' (places es)) (refs-in lim 2 2 n' 3 40 m' ys (lit< tt) (omega arith) (lit< tt) (omega arith)) s.below;
+        cached = sound.laid.cached;
+        grafted = sound.laid.grafted;
+        contents = sound.laid.contents;
+        used = sound.laid.used;
+        grafts = sound.laid.grafts;
+        missing = sound.laid.missing;
+        queue = sound.laid.queue;
+        dropped = sound.laid.dropped;
+      });
+    }
+
+-- `expire_until`
+pub received-expired : (h : Head) (xs ys : List ℕ) (instant : ℕ) (r : Expired) → Sound h xs → length ys ≡ length xs → Expires (receivedCache h) instant xs r ys
+    → Goes (receivedLeft instant) h xs (withReceivedCounts r.cache.entries.len r.cache.expiry.len h) ys
+unfolding receivedIn state_of
+received-expired h xs ys instant r sound e x =
+    let l : Limits = limitsOf h.limits in
+    let n : ℕ = h.live.received in
+    let m : ℕ = h.live.received_rows in
+    let n' : ℕ = r.cache.entries.len in
+    let m' : ℕ = r.cache.expiry.len in
+    let hn : n' ≤ l.R = omega (arith, x.count, sound.fit.within.received) in
+    let hm : m' ≤ 2 * l.R = omega (arith, x.fewer, sound.fit.within.receivedRows) in
+    let at : cacheAt (cacheFrom l 2 2 n' 3 40 m') ys ≡ expireUntil instant (cacheAt (receivedCache h) xs) = sym (ap (λ (c : TimeBoundCache). cacheAt c ys) x.sized) ∙ x.cache in
+    record {
+      state =
+          received-state h xs ys sound n' m' (n * 2) (m * 40) (omega (arith, sound.fit.within)) (omega (arith, sound.fit.within)) e x.only
+          ∙ ap (λ (c : Cache (Unit {0})). withReceived c (state_of h xs))
+          (expired-in l 2 2 n 3 40 m xs ys (lit< tt) (omega (arith, sound.fit.within)) (lit< tt) (omega (arith, sound.fit.within)) n' m' (omega arith) (omega arith) nothingOf instant at);
+      sound =
+          received-laid h xs ys sound n' m' (n * 2) (m * 40) (omega (arith, sound.fit.within)) (omega (arith, sound.fit.within)) e x.only hn hm
+          (subst (λ (c : TimeBoundCache). SoundCache c ys) x.sized x.sound);
+    }
+
+-- an insert
+pub received-inserted : (h : Head) (xs ys : List ℕ) (id expires : ℕ) (r : Inserted) → Sound h xs → length ys ≡ length xs
+    → AtMost h.limits.received (put_in id tt expires (state_of h xs).received) → Inserts (receivedCache h) id expires xs r ys
+    → Goes (receivedAlso id expires) h xs (withReceivedCounts r.cache.entries.len r.cache.expiry.len h) ys
+unfolding receivedIn state_of
+received-inserted h xs ys id expires r sound e most x =
+    let l : Limits = limitsOf h.limits in
+    let n : ℕ = h.live.received in
+    let m : ℕ = h.live.received_rows in
+    let n' : ℕ = r.cache.entries.len in
+    let m' : ℕ = r.cache.expiry.len in
+    let one : m' ≡ m + 1 = ap (λ (c : TimeBoundCache). c.expiry.len) x.sized in
+    let sized : r.cache ≡ cacheFrom l 2 2 n' 3 40 m' = x.sized ∙ (λ k. cacheFrom l 2 2 n' 3 40 (sym one k)) in
+    let wn : n' * 2 ≤ 2 * (l.R + 1) = omega (arith, x.count, sound.fit.within.received) in
+    let wm : m' * 40 ≤ 40 * (2 * l.R + 1) = omega (arith, one, sound.fit.within.receivedRows) in
+    let at : cacheAt (cacheFrom l 2 2 n' 3 40 m') ys ≡ put_in id (held_at r.cache r.entry r.row ys) expires (cacheAt (receivedCache h) xs) = sym (ap (λ (c : TimeBoundCache). cacheAt c ys) sized) ∙ x.cache in
+    let all : receivedIn n' (table l 2 ys) m' (table l 3 ys) ≡ put_in id tt expires (state_of h xs).received =
+    inserted-in l 2 2 n 3 40 m xs ys (lit< tt) (omega (arith, sound.fit.within)) (lit< tt) (omega (arith, sound.fit.within)) n' m' wn wm nothingOf id expires (held_at r.cache r.entry r.row ys) at in
+    let hn : n' ≤ l.R = omega (arith, most.entries, sym (count_entries l 2 2 n' 3 40 m' ys (lit< tt) wn (lit< tt) wm nothingOf) ∙ ap (λ (c : Cache (Unit {0})). length c.entries) all) in
+    let hm : m' ≤ 2 * l.R = omega (arith, most.expiry, sym (count-expiry l 2 2 n' 3 40 m' ys (lit< tt) wn (lit< tt) wm nothingOf) ∙ ap (λ (c : Cache (Unit {0})). length c.expiry) all) in
+    record {
+      state =
+          received-state h xs ys sound n' m' ((n + 1) * 2) ((m + 1) * 40) (omega (arith, sound.fit.within)) (omega (arith, sound.fit.within)) e x.only
+          ∙ ap (λ (c : Cache (Unit {0})). withReceived c (state_of h xs)) all;
+      sound =
+          received-laid h xs ys sound n' m' ((n + 1) * 2) ((m + 1) * 40) (omega (arith, sound.fit.within)) (omega (arith, sound.fit.within)) e x.only hn hm
+          (subst (λ (c : TimeBoundCache). SoundCache c ys) sized x.sound);
+    }

@@ -1,0 +1,51 @@
+-- `cached::cached_content` meets its contract: start and length are those of the content in the view.
+use mathlib.Core.Path.{◌≡◌, sym, ap, ◌∙◌, subst}
+use Prim.Native.Nat.{◌<◌}
+use native.Mathlib.Omega.{arith}
+use Rattle.time_cache.specs.Tables.{Lies, refsAt}
+use Rattle.time_cache.specs.Steps.{ref_at}
+use Rattle.time_cache.specs.declared.cache.TimeBoundCache.{TimeBoundCache}
+use Rattle.block.specs.TimeCaches.{cachedCache}
+use Rattle.block.proofs.CachesLaws.CachedLaws.{cached-lies}
+use Rattle.block.proofs.CachesLaws.ContentReads.{place-below, content-is}
+use Rattle.block.proofs.caches.cached.cached_content.Goals as goal
+use Rattle.block.proofs.caches.cached.cached_content.Goals.{After-cached_rows_at, Start}
+
+-- the row that the entry names
+module _ (d : After-cached_rows_at) where
+  abbrev s : Start
+  s = (goal.at.After-cached_rows_at d).Start
+
+  names : d.place-p.result ≡ (ref_at (refsAt (cachedCache s.args.h) s.args.block.now) s.args.i).place
+  names = d.place-p.ensures ∙ ap (λ (t : TimeBoundCache). (ref_at (refsAt t s.args.block.now) s.args.i).place) d.cached_cache-c.ensures
+
+  low : d.place-p.result < s.args.h.live.cached_rows
+  low = omega (arith, names, place-below s.args.h s.args.block.now s.requires.0 s.args.i s.requires.1)
+
+pub place-p-requires : goal.place-p-requires
+place-p-requires c =
+    let a = c.args in
+    subst (λ (t : TimeBoundCache). Lies t a.block.now × (a.i < t.entries.len)) (sym c.cached_cache-c.ensures) (cached-lies a.h a.block.now c.requires.0.fit, c.requires.1)
+
+pub overflow_mul-a : goal.overflow_mul-a
+overflow_mul-a c = omega (arith, low c, (s c).requires.0.fit)
+
+pub overflow_add-a : goal.overflow_add-a
+overflow_add-a c = omega (arith, low c, (s c).requires.0.fit, c.cached_rows_at.ensures)
+
+pub overflow_add-a-2 : goal.overflow_add-a-2
+overflow_add-a-2 c = omega (arith, low c, (s c).requires.0.fit, c.cached_rows_at.ensures)
+
+pub load4-start-requires : goal.load4-start-requires
+load4-start-requires c = omega (arith, low c, (s c).requires.0.fit, c.cached_rows_at.ensures)
+
+pub overflow_add-a-3 : goal.overflow_add-a-3
+overflow_add-a-3 c = omega (arith, low (goal.at.overflow_add-a-3 c).After-cached_rows_at, (s (goal.at.overflow_add-a-3 c).After-cached_rows_at).requires.0.fit, c.cached_rows_at.ensures)
+
+pub load4-len-requires : goal.load4-len-requires
+load4-len-requires c = omega (arith, low (goal.at.load4-len-requires c).After-cached_rows_at, (s (goal.at.load4-len-requires c).After-cached_rows_at).requires.0.fit, c.cached_rows_at.ensures)
+
+pub returns : goal.returns
+returns c =
+    let a = (s (goal.at.returns c).After-cached_rows_at).args in
+    content-is a.h a.block.now (s (goal.at.returns c).After-cached_rows_at).requires.0 a.i (s (goal.at.returns c).After-cached_rows_at).requires.1 _ c.place-p.result c.cached_rows_at.result (names (goal.at.returns c).After-cached_rows_at) c.cached_rows_at.ensures c.load4-start.ensures.0 c.load4-len.ensures.0

@@ -1,0 +1,27 @@
+-- `cached::cached_later` meets its contract: what is later is read from the bytes as from the view.
+use mathlib.Core.Path.{sym, ap, ◌∙◌, subst}
+use lib.ListN.{length}
+use Rattle.time_cache.specs.TimeCache.{laterCache}
+use Rattle.time_cache.specs.Tables.{Lies, Sound, cacheAt}
+use Rattle.time_cache.specs.declared.cache.TimeBoundCache.{TimeBoundCache}
+use Rattle.block.specs.View.{state_of}
+use Rattle.block.specs.Layout.{table}
+use Rattle.block.specs.View.{limitsOf, cachedOf}
+use Rattle.block.specs.TimeCaches.{cachedCache}
+use Rattle.block.proofs.CachesLaws.CacheLaws.{asValue, entries-later}
+use Rattle.block.proofs.CachesLaws.CachedLaws.{cached-lies, cached-sound, cached-as}
+use Rattle.block.proofs.caches.cached.cached_later.Goals as goal
+
+pub entries_later-requires : goal.entries_later-requires
+entries_later-requires c =
+    let h = c.args.h in
+    let xs = c.args.block.now in
+    subst (λ (t : TimeBoundCache). Lies t xs × Sound t xs) (sym c.cached_cache-c.ensures) (cached-lies h xs c.requires.0.fit, cached-sound h xs c.requires.0 c.requires.1)
+
+pub returns : goal.returns
+returns c =
+    let h = c.args.h in
+    let xs = c.args.block.now in
+    c.entries_later.ensures
+    ∙ ap (λ (t : TimeBoundCache). length (laterCache c.args.instant.0 (cacheAt t xs)).entries) c.cached_cache-c.ensures
+    ∙ entries-later (asValue (cachedOf (table (limitsOf h.limits) 6 xs))) (cacheAt (cachedCache h) xs) (state_of h xs).cache (cached-as h xs c.requires.0.fit) c.args.instant.0

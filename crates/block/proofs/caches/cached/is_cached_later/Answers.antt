@@ -1,0 +1,27 @@
+-- `cached::is_cached_later` meets its contract: what is later is read from the bytes as from the view.
+use mathlib.Core.Path.{sym, ap, ◌∙◌, subst}
+use Rattle.storage.specs.Rows.Ident.{id_of}
+use Rattle.time_cache.specs.TimeCache.{holds, laterCache}
+use Rattle.time_cache.specs.Tables.{Lies, Sound, cacheAt}
+use Rattle.time_cache.specs.declared.cache.TimeBoundCache.{TimeBoundCache}
+use Rattle.block.specs.View.{state_of}
+use Rattle.block.specs.Layout.{table}
+use Rattle.block.specs.View.{limitsOf, cachedOf}
+use Rattle.block.specs.TimeCaches.{cachedCache}
+use Rattle.block.proofs.CachesLaws.CacheLaws.{asValue, holds_later}
+use Rattle.block.proofs.CachesLaws.CachedLaws.{cached-lies, cached-sound, cached-as}
+use Rattle.block.proofs.caches.cached.is_cached_later.Goals as goal
+
+pub contains_later-requires : goal.contains_later-requires
+contains_later-requires c =
+    let h = c.args.h in
+    let xs = c.args.block.now in
+    subst (λ (t : TimeBoundCache). Lies t xs × Sound t xs) (sym c.cached_cache-c.ensures) (cached-lies h xs c.requires.0.fit, cached-sound h xs c.requires.0 c.requires.1)
+
+pub returns : goal.returns
+returns c =
+    let h = c.args.h in
+    let xs = c.args.block.now in
+    c.contains_later.ensures
+    ∙ ap (λ (t : TimeBoundCache). holds (id_of c.args.id) (laterCache c.args.instant.0 (cacheAt t xs))) c.cached_cache-c.ensures
+    ∙ holds_later (asValue (cachedOf (table (limitsOf h.limits) 6 xs))) (cacheAt (cachedCache h) xs) (state_of h xs).cache (cached-as h xs c.requires.0.fit) c.args.instant.0 (id_of c.args.id)

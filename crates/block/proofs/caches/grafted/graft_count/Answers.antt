@@ -1,0 +1,12 @@
+-- `grafted::graft_count` meets its contract: the byte read is the number of grafted peers of the view.
+use mathlib.Core.Path.{sym, ap, ◌∙◌, subst}
+use Prim.Native.Nat.{ℕ, ◌+◌, ◌*◌, ◌≤◌}
+use lib.ListN.{get_or}
+use Rattle.block.proofs.CachesLaws.GraftLaws.{graft-many, graft-few}
+use Rattle.block.proofs.caches.grafted.graft_count.Goals as goal
+
+pub returns : goal.returns
+returns c =
+    let a = c.args in
+    let e = c.count.ensures.0 ∙ ap (λ (n : ℕ). get_or a.block.now (n + 119 * a.i + 22) 0) c.grafted_at.ensures in
+    (e ∙ graft-many a.h a.block.now c.requires.0 a.i c.requires.1, subst (λ (n : ℕ). n ≤ 32) (sym e) (graft-few a.h a.block.now c.requires.0 a.i c.requires.1))

@@ -1,0 +1,26 @@
+-- `received::received_rows_later` meets its contract: what is later is read from the bytes as from the view.
+use mathlib.Core.Path.{sym, ap, ◌∙◌, subst}
+use lib.ListN.{length}
+use Rattle.time_cache.specs.TimeCache.{laterCache}
+use Rattle.time_cache.specs.Tables.{Lies, Sound, cacheAt}
+use Rattle.time_cache.specs.declared.cache.TimeBoundCache.{TimeBoundCache}
+use Rattle.block.specs.View.{state_of}
+use Rattle.block.specs.View.{nothingOf}
+use Rattle.block.specs.TimeCaches.{receivedCache}
+use Rattle.block.proofs.CachesLaws.CacheLaws.{asValue, rows-later}
+use Rattle.block.proofs.CachesLaws.ReceivedLaws.{received-lies, received-sound, received_as}
+use Rattle.block.proofs.caches.received.received_rows_later.Goals as goal
+
+pub rows_later-requires : goal.rows_later-requires
+rows_later-requires c =
+    let h = c.args.h in
+    let xs = c.args.block.now in
+    subst (λ (t : TimeBoundCache). Lies t xs × Sound t xs) (sym c.received_cache-c.ensures) (received-lies h xs c.requires.0.fit, received-sound h xs c.requires.0 c.requires.1)
+
+pub returns : goal.returns
+returns c =
+    let h = c.args.h in
+    let xs = c.args.block.now in
+    c.rows_later.ensures
+    ∙ ap (λ (t : TimeBoundCache). length (laterCache c.args.instant.0 (cacheAt t xs)).expiry) c.received_cache-c.ensures
+    ∙ rows-later (asValue nothingOf) (cacheAt (receivedCache h) xs) (state_of h xs).received (received_as h xs c.requires.0.fit) c.args.instant.0

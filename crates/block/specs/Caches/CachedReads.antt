@@ -1,0 +1,19 @@
+-- What is read from a cached message.
+-- Assumes nothing.
+use Rattle.std.specs.Prelude.{ℕ, ◌+◌, ◌≤◌, ◌≡◌, List, [], get_or}
+use Rattle.storage.specs.Lists.Map.{entry}
+use Rattle.storage.specs.Rows.Part.{part}
+use Rattle.protocol.specs.State.{State, Cached}
+use Rattle.block.specs.Layout.{place}
+use Rattle.block.specs.View.{state_of, limitsOf}
+use Rattle.block.specs.declared.head.Head.{Head}
+use Rattle.block.specs.declared.caches.cached.Content.{Content}
+
+-- cached message i
+abbrev pub cachedAt : State → ℕ → Cached
+cachedAt s i = (get_or s.cache.entries i (entry 0 (record { expires = 0; value = record { content = []; round = 0 } }))).value.value
+
+-- the content of cached message i, as it stands among the contents
+pub record ContentIs (h : Head) (block : List ℕ) (i : ℕ) (r : Content) : Type 0 where
+  pub within : r.start + r.len ≤ h.live.contents
+  pub same : (cachedAt (state_of h block) i).content ≡ part (place (limitsOf h.limits) 6 + r.start) r.len block

@@ -1,0 +1,99 @@
+// `grafted`: an entry is a place, first, kept, and the grafted peers with their rounds; a row is a time and an identifier.
+ghost use Rattle.std.specs.Prelude.{◌≡◌, ◌≤◌, ◌<◌, length};
+ghost use Rattle.storage.specs.Lists.Map.{keys};
+ghost use Rattle.storage.specs.Rows.Ident.{id_of};
+ghost use Rattle.storage.specs.Rows.Sorted.{FoundIs};
+ghost use Rattle.time_cache.specs.TimeCache.{laterCache};
+ghost use Rattle.block.specs.View.{state_of};
+ghost use Rattle.block.specs.Sound.{Sound};
+ghost use Rattle.block.specs.Goes.{Goes};
+ghost use Rattle.block.specs.Caches.InBlock.{InOrder, graftedLeft};
+ghost use Rattle.block.specs.Caches.GraftSteps.{graftsAt, GraftIs, first_at, kept_at};
+
+use crate::head::Head;
+use crate::hops::Hop;
+use crate::{head, hops, time_caches};
+use postcard::units::{Millis, Round};
+use storage::rows::id::Id;
+use storage::rows::table::Found;
+use storage::rows::word;
+
+// Where an identifier stands among the grafted messages, or before which it would stand.
+pub fn find_grafted(h: Head, block: &[u8], id: Id) -> Found
+    requires { Sound h block.now × InOrder (state_of h block.now).grafted }
+    ensures { FoundIs (keys (state_of h block.now).grafted.entries) (id_of id) result }
+{
+    let c = time_caches::grafted_cache(h);
+    c.find(block, id)
+}
+
+// `expire_until` of the grafted messages.
+pub fn expire_grafted(mut h: Head, block: &mut [u8], instant: Millis) -> Head
+    requires { Sound h block.old × InOrder (state_of h block.old).grafted }
+    ensures { Goes (graftedLeft instant.0) h block.old result block.new }
+{
+    let c = time_caches::grafted_cache(h);
+    let e = c.expire_until(block, instant);
+    let n = e.cache.entries.len;
+    let m = e.cache.expiry.len;
+    h.live.grafted = n;
+    h.live.grafted_rows = m;
+    h
+}
+
+// How many peers are grafted for the grafted message i.
+pub fn graft_count(h: Head, block: &[u8], i: usize) -> usize
+    requires { Sound h block.now × (i < h.live.grafted) }
+    ensures { (result ≡ length (graftsAt (state_of h block.now) i).peers) × (result ≤ 32) }
+{
+    let at = head::grafted_at(h.limits) + 119 * i + 22;
+    hops::count(block, at)
+}
+
+// Peer j of the grafted message i, by the number of its link, and its round.
+pub fn graft_at(h: Head, block: &[u8], i: usize, j: usize) -> Hop
+    requires { Sound h block.now × (i < h.live.grafted) × (j < length (graftsAt (state_of h block.now) i).peers) }
+    ensures { GraftIs h block.now (graftsAt (state_of h block.now) i).peers j result }
+{
+    let at = head::grafted_at(h.limits) + 119 * i + 22;
+    hops::hop_at(block, at, j)
+}
+
+// "set a grafted entry's `first` to sender and r": of the grafted message i.
+pub fn set_first(h: Head, block: &mut [u8], i: usize, peer: u64, round: Round)
+    requires { Sound h block.old × InOrder (state_of h block.old).grafted × (i < h.live.grafted) }
+    ensures { Goes (first_at i peer round.0) h block.old h block.new }
+{
+    let a = head::grafted_at(h.limits) + 119 * i;
+    block[a + 2] = 1;
+    word::store(block, a + 3, peer);
+    word::store_le(block, a + 11, 2, round.0 as u64);
+}
+
+// The entry's `kept` is the sender: of the grafted message i.
+pub fn set_kept(h: Head, block: &mut [u8], i: usize, peer: u64)
+    requires { Sound h block.old × InOrder (state_of h block.old).grafted × (i < h.live.grafted) }
+    ensures { Goes (kept_at i peer) h block.old h block.new }
+{
+    let a = head::grafted_at(h.limits) + 119 * i;
+    block[a + 13] = 1;
+    word::store(block, a + 14, peer);
+}
+
+// How many of the grafted messages `expire_until` leaves.
+pub fn grafted_later(h: Head, block: &[u8], instant: Millis) -> usize
+    requires { Sound h block.now × InOrder (state_of h block.now).grafted }
+    ensures { result ≡ length (laterCache instant.0 (state_of h block.now).grafted).entries }
+{
+    let c = time_caches::grafted_cache(h);
+    c.entries_later(block, instant)
+}
+
+// How many expiry entries of the grafted messages `expire_until` leaves.
+pub fn grafted_rows_later(h: Head, block: &[u8], instant: Millis) -> usize
+    requires { Sound h block.now × InOrder (state_of h block.now).grafted }
+    ensures { result ≡ length (laterCache instant.0 (state_of h block.now).grafted).expiry }
+{
+    let c = time_caches::grafted_cache(h);
+    c.rows_later(block, instant)
+}

@@ -1,7 +1,0 @@
--- `cached::len_of` meets its contract: the length is read from the row.
-use Rattle.contents.proofs.Shifts.{len_read}
-use Rattle.contents.proofs.cached.len_of.Goals as goal
-
-pub returns : goal.returns
-returns c =
-    len_read c.args.h c.args.block.now c.requires.0 c.args.p c.cached_rows_at.result c.load4-len.result c.requires.1 c.cached_rows_at.ensures c.load4-len.ensures.0

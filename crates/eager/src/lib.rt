@@ -1,8 +1,0 @@
-// The eager push of a message that is taken in, and the reply to a Graft: document 01, "Gossip", "Broadcast" and `on_graft`.
-#![tactic(auto)]
-
-pub mod back;
-pub mod reply;
-pub mod scan;
-pub mod sends;
-pub mod target;

@@ -1,0 +1,53 @@
+-- What the tests of the tables tell.
+-- Assumes nothing.
+use mathlib.Core.Path.{◌≡◌, sym, ◌∙◌}
+use mathlib.Core.Bool.{Bool, true, false, ◌&&◌, not}
+use mathlib.Core.List.{List}
+use Prim.Native.Nat.{ℕ}
+use lib.Dec.{ltb}
+use Rattle.storage.specs.Lists.Base.{all, ascending}
+use Rattle.storage.specs.Lists.Map.{keys}
+use Rattle.storage.proofs.ListsLaws.MapLaws.{true≢, and_left, and_right, and_intro}
+use Rattle.storage.specs.Refs.Refs.{places}
+use Rattle.time_cache.specs.TimeCache.{inPopOrder}
+use Rattle.time_cache.specs.Tables.{refsAt, cacheAt, Sound, sound}
+use Rattle.time_cache.specs.declared.cache.TimeBoundCache.{TimeBoundCache}
+use Rattle.time_cache.proofs.Orders.{below_of, of-below}
+use Rattle.exports.specs.TimeCacheC.Handed.{Tells}
+
+module _ (c : TimeBoundCache) (xs : List ℕ) where
+  pub sound-of : sound c xs ≡ true → Sound c xs
+  unfolding sound
+  sound-of h =
+      let names = all (λ p. ltb p c.expiry.len) (places (refsAt c xs)) in
+      let up = ascending (keys (cacheAt c xs).entries) in
+      let order = inPopOrder (cacheAt c xs).expiry in
+      let both = and_left (names && up) order h in
+      record {
+        below = below_of c.expiry.len (places (refsAt c xs)) (and_left names up both);
+        up = and_right names up both;
+        order = and_right (names && up) order h;
+      }
+
+  pub of-sound : Sound c xs → sound c xs ≡ true
+  unfolding sound
+  of-sound s = and_intro (and_intro (of-below c.expiry.len (places (refsAt c xs)) s.below) s.up) s.order
+
+  -- the test of soundness, where P holds
+  pub tells-sound : (P : Type 0) → P → (r : Bool) → r ≡ sound c xs → Tells (P × Sound c xs) r
+  tells-sound P p true e = (p, sound-of (sym e))
+  tells-sound P p false e = λ q. true≢ (e ∙ of-sound q.1)
+
+-- a test that answers b, where P holds
+pub tells-and : (P : Type 0) → P → (b r : Bool) → r ≡ b → Tells (P × (b ≡ true)) r
+tells-and P p b true e = (p, sym e)
+tells-and P p b false e = λ q. true≢ (e ∙ q.1)
+
+-- what a test tells, by the branch that was taken
+pub tells-no : (P : Type 0) (r : Bool) → not r ≡ true → Tells P r → P → ⊥
+tells-no P true h t = true≢ h
+tells-no P false h t = t
+
+pub tells-yes : (P : Type 0) (r : Bool) → not r ≡ false → Tells P r → P
+tells-yes P true h t = t
+tells-yes P false h t = true≢ (sym h)

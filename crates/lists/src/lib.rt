@@ -1,2 +1,0 @@
-// Nothing runs here: lists, maps by number, and their laws.
-#![tactic(auto)]

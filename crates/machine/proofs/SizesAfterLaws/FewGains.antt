@@ -1,0 +1,45 @@
+-- The record stays within 4,096 entries, whatever is handed back.
+-- Assumes nothing.
+use mathlib.Core.Path.{◌≡◌, refl}
+use mathlib.Core.Bool.{Bool, true, false, ◌||◌}
+use mathlib.Core.List.{List, [], ◌∷◌}
+use mathlib.Core.Option.{Option, none, some}
+use Prim.Native.Nat.{ℕ, ◌+◌, ◌≤◌}
+use native.Mathlib.Omega.{arith}
+use borrow.Author.Tests.{leb-false}
+use lib.Dec.{leb}
+use lib.ListN.{length}
+use Rattle.std.specs.Prelude.{if◌then◌else◌}
+use Rattle.storage.specs.Lists.Base.{count, any}
+use Rattle.protocol.specs.State.{State, Note, Cached}
+use Rattle.protocol.specs.Run.{Room}
+use Rattle.protocol.specs.Push.{forPeer, notes}
+use Rattle.decide.specs.Rooms.{backPeers}
+use Rattle.decide.specs.RecordGrowth.{pushGain, pushGains}
+use Rattle.payloads.specs.Eager.Reply.{replyGains}
+
+-- "unless … all have 4,096"
+gain-few : (id : ℕ) (ds : List Note) (extra p : ℕ) → length ds + extra ≤ 4096 → length ds + (pushGain id ds extra p + extra) ≤ 4096
+unfolding pushGain
+gain-few id ds extra p h = on (leb 256 (count (forPeer p) ds)) (leb 4096 (length ds + extra)) (any (notes p id) ds) refl
+  where
+    on : (x y z : Bool) → leb 4096 (length ds + extra) ≡ y → length ds + ((if x || y || z then 0 else 1) + extra) ≤ 4096
+    on true y z e = omega (arith, h)
+    on false true z e = omega (arith, h)
+    on false false true e = omega (arith, h)
+    on false false false e = omega (arith, h, leb-false 4096 (length ds + extra) e)
+
+-- a push
+gains-few : (id : ℕ) (ds : List Note) (extra : ℕ) (ps : List ℕ) → length ds + extra ≤ 4096 → length ds + extra + pushGains id ds extra ps ≤ 4096
+unfolding pushGains
+gains-few id ds extra [] h = omega (arith, h)
+gains-few id ds extra (p ∷ ps) h = omega (arith, gains-few id ds (pushGain id ds extra p + extra) ps (gain-few id ds extra p h))
+
+pub push-few : (id : ℕ) (ds : List Note) (ps : List ℕ) → length ds ≤ 4096 → pushGains id ds 0 ps ≤ 4096
+push-few id ds ps h = omega (arith, gains-few id ds 0 ps (omega (arith, h)))
+
+-- a reply
+pub reply-few : (rooms : List Room) (sender id : ℕ) (c : Option Cached) (s : State) → length s.dropped ≤ 4096 → replyGains rooms sender id c s ≤ 4096
+unfolding replyGains
+reply-few rooms sender id none s h = omega arith
+reply-few rooms sender id (some c) s h = push-few id s.dropped (backPeers rooms (sender ∷ [])) h

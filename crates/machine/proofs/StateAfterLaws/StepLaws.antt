@@ -1,0 +1,160 @@
+-- What each step asks, out of what all ask, and the state after it.
+-- Assumes nothing.
+use mathlib.Core.Path.{◌≡◌, refl, sym, subst}
+use mathlib.Core.Bool.{false}
+use mathlib.Core.List.{List}
+use Prim.Native.Nat.{ℕ, ◌<◌}
+use native.Mathlib.Omega.{arith}
+use lib.Dec.{eqb}
+use lib.ListN.{length}
+use Rattle.storage.specs.Rows.Part.{part}
+use Rattle.storage.specs.Rows.Ident.{id_of}
+use Rattle.storage.specs.declared.rows.id.Id.{Id}
+use Rattle.postcard.specs.Values.{deliveryValue, wantedValue}
+use Rattle.postcard.specs.Events.{ihavesFrom, Listed}
+use Rattle.postcard.specs.declared.message.Delivery.{Delivery}
+use Rattle.postcard.specs.declared.message.Wanted.{Wanted}
+use Rattle.postcard.specs.declared.units.Round.{Round}
+use Rattle.protocol.specs.Ticks.{evict}
+use Rattle.decide.specs.StateAfter.{sendGraftState, dispatchState, announceState}
+use Rattle.block.specs.View.{state_of}
+use Rattle.block.specs.Goes.{Goes}
+use Rattle.block.specs.declared.head.Head.{Head}
+use Rattle.block.proofs.LinkLaws.{count-links}
+use Rattle.steps.specs.Rooms.{roomsIn}
+use Rattle.steps.specs.Stands.{Step as Asks}
+use Rattle.announcements.specs.Ihaves.Heard.{heardFrom}
+use Rattle.payloads.specs.Late.Kinds.{lateAfter}
+use Rattle.machine.specs.Kinds.Meaning.{stepState, stepFar, ContentHeld}
+use Rattle.machine.specs.declared.kinds.Step.{Step}
+use Rattle.machine.specs.declared.kinds.Step.TheVariants as step
+use Rattle.machine.specs.StateAfter.Controls.{prunedAt, graftedAt}
+use Rattle.payloads.specs.Broadcast.Broadcasts.{broadcastIn}
+use Rattle.payloads.specs.NewGossip.News.{newIn}
+use Rattle.machine.specs.StateAfter.StepAfter.{steppedIn, Stepping}
+
+-- `r` is the step, `e` what the match tells of it
+module _ {bytes array : List ℕ} {instant : ℕ} {r : Step} {h : Head} {xs : List ℕ} (a : Stepping bytes array instant r h xs) where
+  known : {t : Step} → r ≡ t → Stepping bytes array instant t h xs
+  known e = subst (λ (x : Step). Stepping bytes array instant x h xs) e a
+
+  told : {t : Step} {g : Head} {ys : List ℕ} → r ≡ t → Goes (steppedIn bytes array instant t) h xs g ys → Goes (steppedIn bytes array instant r) h xs g ys
+  told {t} {g} {ys} e d = subst (λ (x : Step). Goes (steppedIn bytes array instant x) h xs g ys) (sym e) d
+
+  -- steps that change nothing
+  pub nothing-goes : r ≡ step.Nothing → Goes (steppedIn bytes array instant r) h xs h xs
+  unfolding stepState
+  nothing-goes e = told e (record { state = refl; sound = a.stands.sound })
+
+  pub neighbors-goes : {sender start len : ℕ} → r ≡ step.NewNeighbors sender start len → Goes (steppedIn bytes array instant r) h xs h xs
+  unfolding stepState
+  neighbors-goes e = told e (record { state = refl; sound = a.stands.sound })
+
+  pub broadcast-neighbors-goes : {id : Id} {start len : ℕ} → r ≡ step.BroadcastNeighbors id start len → Goes (steppedIn bytes array instant r) h xs h xs
+  unfolding stepState
+  broadcast-neighbors-goes e = told e (record { state = refl; sound = a.stands.sound })
+
+  -- a number of a link is below the header's
+  low-link : (l : ℕ) → l < length (state_of h xs).links → l < h.live.links
+  low-link l q = omega (arith, count-links h xs)
+
+  -- a new Swarm message
+  module _ {sender : ℕ} {id : Id} {start len : ℕ} {round : Round} (e : r ≡ step.NewSwarm sender id start len round) where
+    pub new-asks : Asks (newIn instant array sender (id_of id) (part start len bytes) round.0) h xs
+    unfolding stepState
+    new-asks = record { stands = a.stands; fits = (known e).fits }
+
+    pub new-held : ContentHeld bytes start len
+    new-held = (known e).held
+
+    pub new-near : eqb round.0 65535 ≡ false
+    unfolding stepFar
+    new-near = (known e).near
+
+    pub new-goes : {g : Head} {ys : List ℕ} → Goes (newIn instant array sender (id_of id) (part start len bytes) round.0) h xs g ys → Goes (steppedIn bytes array instant r) h xs g ys
+    unfolding stepState
+    new-goes d = told e (record { state = d.state; sound = d.sound })
+
+  -- a copy of a message received before
+  pub late-goes : {sender : ℕ} {id : Id} {d : Delivery} {g : Head} {ys : List ℕ} → r ≡ step.Late sender id d → Goes (lateAfter sender (deliveryValue d) (id_of id)) h xs g ys → Goes (steppedIn bytes array instant r) h xs g ys
+  unfolding stepState
+  late-goes e d = told e (record { state = d.state; sound = d.sound })
+
+  -- a Prune
+  pub prune-low : {l : ℕ} → r ≡ step.Prune l → l < h.live.links
+  prune-low {l} e = low-link l (known e).held
+
+  pub prune-goes : {l : ℕ} {g : Head} {ys : List ℕ} → r ≡ step.Prune l → Goes (prunedAt l) h xs g ys → Goes (steppedIn bytes array instant r) h xs g ys
+  unfolding stepState
+  prune-goes e d = told e (record { state = d.state; sound = d.sound })
+
+  -- a Graft
+  module _ {l : ℕ} {w : Wanted} (e : r ≡ step.Graft l w) where
+    pub graft-low : l < h.live.links
+    graft-low = low-link l (known e).held
+
+    pub graft-asks : Asks (graftedAt array l (wantedValue w)) h xs
+    unfolding stepState
+    graft-asks = record { stands = a.stands; fits = (known e).fits }
+
+    pub graft-steps : {g : Head} {ys : List ℕ} → Goes (graftedAt array l (wantedValue w)) h xs g ys → Goes (steppedIn bytes array instant r) h xs g ys
+    unfolding stepState
+    graft-steps d = told e (record { state = d.state; sound = d.sound })
+
+  -- an IHave
+  module _ {l start count : ℕ} (e : r ≡ step.IHave l start count) where
+    pub ihave-low : l < h.live.links
+    ihave-low = low-link l (known e).held.there
+
+    pub ihave-entries : Listed bytes start count (ihavesFrom bytes start count)
+    ihave-entries = (known e).held.listed
+
+    pub ihave-asks : Asks (heardFrom l (ihavesFrom bytes start count)) h xs
+    unfolding stepState
+    ihave-asks = record { stands = a.stands; fits = (known e).fits }
+
+    pub ihave-goes : {g : Head} {ys : List ℕ} → Goes (heardFrom l (ihavesFrom bytes start count)) h xs g ys → Goes (steppedIn bytes array instant r) h xs g ys
+    unfolding stepState
+    ihave-goes d = told e (record { state = d.state; sound = d.sound })
+
+  -- a Swarm broadcast
+  module _ {id : Id} {start len : ℕ} (e : r ≡ step.BroadcastSwarm id start len) where
+    pub broadcast-held : ContentHeld bytes start len
+    broadcast-held = (known e).held
+
+    pub broadcast-asks : Asks (broadcastIn instant array (id_of id) (part start len bytes)) h xs
+    unfolding stepState
+    broadcast-asks = record { stands = a.stands; fits = (known e).fits }
+
+    pub broadcast-goes : {g : Head} {ys : List ℕ} → Goes (broadcastIn instant array (id_of id) (part start len bytes)) h xs g ys → Goes (steppedIn bytes array instant r) h xs g ys
+    unfolding stepState
+    broadcast-goes d = told e (record { state = d.state; sound = d.sound })
+
+  -- the timers
+  pub send-graft-asks : {id : Id} → r ≡ step.SendGraft id → Asks (sendGraftState instant (id_of id)) h xs
+  unfolding stepState
+  send-graft-asks e = record { stands = a.stands; fits = (known e).fits }
+
+  pub send-graft-goes : {id : Id} {g : Head} {ys : List ℕ} → r ≡ step.SendGraft id → Goes (sendGraftState instant (id_of id)) h xs g ys → Goes (steppedIn bytes array instant r) h xs g ys
+  unfolding stepState
+  send-graft-goes e d = told e (record { state = d.state; sound = d.sound })
+
+  pub dispatch-asks : r ≡ step.DispatchLazyPush → Asks (dispatchState (roomsIn (state_of h xs) array)) h xs
+  unfolding stepState
+  dispatch-asks e = record { stands = a.stands; fits = (known e).fits }
+
+  pub dispatch-goes : {g : Head} {ys : List ℕ} → r ≡ step.DispatchLazyPush → Goes (dispatchState (roomsIn (state_of h xs) array)) h xs g ys → Goes (steppedIn bytes array instant r) h xs g ys
+  unfolding stepState
+  dispatch-goes e d = told e (record { state = d.state; sound = d.sound })
+
+  pub evict-goes : {g : Head} {ys : List ℕ} → r ≡ step.EvictCache → Goes (evict instant) h xs g ys → Goes (steppedIn bytes array instant r) h xs g ys
+  unfolding stepState
+  evict-goes e d = told e (record { state = d.state; sound = d.sound })
+
+  pub announce-asks : r ≡ step.AnnounceDropped → Asks announceState h xs
+  unfolding stepState
+  announce-asks e = record { stands = a.stands; fits = (known e).fits }
+
+  pub announce-steps : {g : Head} {ys : List ℕ} → r ≡ step.AnnounceDropped → Goes announceState h xs g ys → Goes (steppedIn bytes array instant r) h xs g ys
+  unfolding stepState
+  announce-steps e d = told e (record { state = d.state; sound = d.sound })

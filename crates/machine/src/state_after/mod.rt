@@ -1,0 +1,4 @@
+// The state after the step of an event.
+pub mod after;
+pub mod controls;
+pub mod swarms;

@@ -1,0 +1,507 @@
+-- Reading in pieces: what is read stays so whatever bytes follow, and what a record that is cut still lacks.
+-- Assumes nothing.
+use Prim.Native.Nat.{ℕ, zero, suc, ◌+◌, ◌*◌, ◌-◌, ◌≤◌, ◌<◌}
+use mathlib.Core.Path.{◌≡◌, refl, sym, ap, subst, ◌∙◌}
+use mathlib.Core.Bool.{Bool, true, false, not, ◌&&◌}
+use mathlib.Core.List.{List, [], ◌∷◌, ◌++◌, append_assoc}
+use native.Mathlib.Omega.{arith}
+use native.Mathlib.Nat.{add-zero}
+use lib.Dec.{leb, ltb, eqb}
+use lib.ListN.{length, take, drop, get_or, length-append, length-drop}
+use lib.Seq.{take-append-le, drop-append-le, drop-drop, get_or-drop}
+use borrow.Author.Tests.{ltb-true, ltb-false, leb-true, eqb-true, eqb-false, le-ltb, le-leb}
+use Rattle.storage.specs.Lists.Base.{all}
+use Rattle.storage.proofs.ListsLaws.MapLaws.{cases, true≢, and_left, and_right}
+use Rattle.storage.specs.Rows.Part.{part}
+use Rattle.postcard.specs.Number.{Read, got, fault, ◌then◌, readBytes, lastGroup, readGroups, readNumber}
+use Rattle.postcard.specs.Wide.{Bytes}
+use Rattle.postcard.proofs.FieldBack.{bytes-head, bytes_drop, joined, not-got, got-value, got-rest}
+use Rattle.protocol.specs.Answer.{Call}
+use Rattle.protocol.specs.Panel.{readLengthed, readRecord}
+use Rattle.panel.specs.Records.Reading.{recordCall, Whole, Never, Bad, Cut, mayFit, Timed, Lengthed}
+
+-- reading `r` of some bytes, and `s` of the same with `more` after them: what was read stays read, and so does every fault but 7
+Stays : {A : Type 0} → List ℕ → Read A → Read A → Type 0
+Stays more (got a rest) s = s ≡ got a (rest ++ more)
+Stays more (fault n) s = (n ≡ 7 → ⊥) → s ≡ fault n
+
+stays_then : {A B : Type 0} (more : List ℕ) (r s : Read A) (f : A → List ℕ → Read B) → Stays more r s → ((a : A) (rest : List ℕ) → Stays more (f a rest) (f a (rest ++ more))) → Stays more (r then f) (s then f)
+unfolding Stays
+stays_then more (got a rest) s f h k = rw h (k a rest)
+stays_then more (fault n) s f h k = λ other. ap (λ (x : Read _). x then f) (h other)
+
+last-stays : (first : Bool) (top b : ℕ) (rest more : List ℕ) → Stays more (lastGroup first top b rest) (lastGroup first top b (rest ++ more))
+unfolding Stays lastGroup
+last-stays first top b rest more =
+    cases (leb b top)
+    (λ p. cases (eqb b 0 && not first) (λ q. rw (p, q) (λ o. refl)) (λ q. rw (p, q) refl))
+    (λ p. rw p (λ o. refl))
+
+groups-stay : (first : Bool) (left top : ℕ) (bytes more : List ℕ) → Stays more (readGroups false first left top bytes) (readGroups false first left top (bytes ++ more))
+unfolding Stays readGroups
+groups-stay first zero top [] more = λ o. absurd (o refl)
+groups-stay first zero top (b ∷ bytes) more = last-stays first top b bytes more
+groups-stay first (suc left) top [] more = λ o. absurd (o refl)
+groups-stay first (suc left) top (b ∷ bytes) more =
+    cases (ltb b 128)
+    (λ p. rw p (last-stays first 127 b bytes more))
+    (λ p. rw p (stays_then more (readGroups false false left top bytes) (readGroups false false left top (bytes ++ more)) (λ high rest. got ((b - 128) + 128 * high) rest)
+    (groups-stay false left top bytes more) (λ a rest. refl)))
+
+number-stays : (bytes more : List ℕ) → Stays more (readNumber bytes) (readNumber (bytes ++ more))
+unfolding readNumber
+number-stays bytes more = groups-stay true 9 1 bytes more
+
+-- a number that was read stays
+pub number-got : (bytes more : List ℕ) {n : ℕ} {rest : List ℕ} → readNumber bytes ≡ got n rest → readNumber (bytes ++ more) ≡ got n (rest ++ more)
+unfolding Stays
+number-got bytes more h = rw h at (number-stays bytes more)
+
+-- a number that is too wide or not shortest stays so
+pub number-bad : (bytes more : List ℕ) {n : ℕ} → readNumber bytes ≡ fault n → (n ≡ 7 → ⊥) → readNumber (bytes ++ more) ≡ fault n
+unfolding Stays
+number-bad bytes more h o = (rw h at (number-stays bytes more)) o
+
+-- how many bytes are passed: at most one more than `left` by a number that was read, at most `left` by one that is cut
+Short : {A : Type 0} → ℕ → List ℕ → Read A → Type 0
+Short left bytes (got a rest) = length bytes ≤ length rest + suc left
+Short left bytes (fault n) = n ≡ 7 → length bytes ≤ left
+
+last-short : (first : Bool) (left top b : ℕ) (bytes : List ℕ) → Short left (b ∷ bytes) (lastGroup first top b bytes)
+unfolding Short lastGroup
+last-short first left top b bytes =
+    cases (leb b top)
+    (λ p. cases (eqb b 0 && not first) (λ q. rw (p, q) (λ e. omega arith)) (λ q. rw (p, q) (omega arith)))
+    (λ p. rw p (λ e. omega arith))
+
+more-short : (left b : ℕ) (bytes : List ℕ) (f : ℕ → ℕ) (r : Read ℕ) → Short left bytes r → Short (suc left) (b ∷ bytes) (r then λ high rest. got (f high) rest)
+unfolding Short
+more-short left b bytes f (got a rest) h = omega arith
+more-short left b bytes f (fault n) h = λ e. let k : length bytes ≤ left = h e in omega arith
+
+groups-short : (first : Bool) (left top : ℕ) (bytes : List ℕ) → Short left bytes (readGroups false first left top bytes)
+unfolding Short readGroups
+groups-short first zero top [] = λ e. omega arith
+groups-short first zero top (b ∷ bytes) = last-short first zero top b bytes
+groups-short first (suc left) top [] = λ e. omega arith
+groups-short first (suc left) top (b ∷ bytes) =
+    cases (ltb b 128)
+    (λ p. rw p (last-short first (suc left) 127 b bytes))
+    (λ p. rw p (more-short left b bytes (λ high. (b - 128) + 128 * high) (readGroups false false left top bytes) (groups-short false left top bytes)))
+
+-- a number takes at most ten bytes
+pub number_short : (bytes : List ℕ) {n : ℕ} {rest : List ℕ} → readNumber bytes ≡ got n rest → length bytes ≤ length rest + 10
+unfolding readNumber Short
+number_short bytes h = rw h at (groups-short true 9 1 bytes)
+
+-- and nine when it is cut
+pub cut_short : (bytes : List ℕ) → readNumber bytes ≡ fault 7 → length bytes ≤ 9
+unfolding readNumber Short
+cut_short bytes h = (rw h at (groups-short true 9 1 bytes)) refl
+
+-- a last group is no cut
+last-whole : (first : Bool) (top b : ℕ) (bytes : List ℕ) → lastGroup first top b bytes ≡ fault 7 → ⊥
+unfolding lastGroup
+last-whole first top b bytes h =
+    cases (leb b top)
+    (λ p. cases (eqb b 0 && not first) (λ q. eight (rw (p, q) at h)) (λ q. not-got (sym (rw (p, q) at h))))
+    (λ p. eight (rw p at h))
+  where
+    eight : ◌≡◌ {A = Read ℕ} (fault 8) (fault 7) → ⊥
+    eight e = let z : ◌≡◌ {A = ℕ} 8 7 = cc in omega arith
+
+-- a cut number's groups after the first are cut too
+more_cut : (f : ℕ → ℕ) (r : Read ℕ) → (r then λ high rest. got (f high) rest) ≡ fault 7 → r ≡ fault 7
+more_cut f (got a rest) h = not-got (sym h)
+more_cut f (fault n) h = h
+
+-- a number that one byte 1 more completes
+record Completes (first : Bool) (left top : ℕ) (bytes : List ℕ) : Type 0 where
+  value : ℕ
+  reads : readGroups false first left top (bytes ++ (1 ∷ [])) ≡ got value []
+
+groups-complete : (first : Bool) (left top : ℕ) (bytes : List ℕ) → 1 ≤ top → readGroups false first left top bytes ≡ fault 7 → Completes first left top bytes
+unfolding readGroups lastGroup
+groups-complete first zero top [] h e = record { value = 1; reads = rw (le-leb 1 top h) refl }
+groups-complete first zero top (b ∷ bytes) h e = absurd (last-whole first top b bytes e)
+groups-complete first (suc left) top [] h e = record { value = 1; reads = refl }
+groups-complete first (suc left) top (b ∷ bytes) h e =
+    cases (ltb b 128)
+    (λ p. absurd (last-whole first 127 b bytes (rw p at e)))
+    (λ p. let k = groups-complete false left top bytes h (more_cut (λ high. (b - 128) + 128 * high) (readGroups false false left top bytes) (rw p at e)) in
+    record { value = (b - 128) + 128 * k.value; reads = rw (p, k.reads) refl })
+
+-- a number that is cut, without its first byte
+record Peeled (left top b : ℕ) (bytes : List ℕ) : Type 0 where
+  goes_on : 128 ≤ b
+  cut : readGroups false false left top bytes ≡ fault 7
+
+peel : (first : Bool) (left top b : ℕ) (bytes : List ℕ) → readGroups false first (suc left) top (b ∷ bytes) ≡ fault 7 → Peeled left top b bytes
+unfolding readGroups
+peel first left top b bytes e =
+    cases (ltb b 128)
+    (λ p. absurd (last-whole first 127 b bytes (rw p at e)))
+    (λ p. record { goes_on = ltb-false b 128 p; cut = more_cut (λ high. (b - 128) + 128 * high) (readGroups false false left top bytes) (rw p at e) })
+
+-- a number that was read, without its first byte
+record Opened (left top b n : ℕ) (bytes rest : List ℕ) : Type 0 where
+  high : ℕ
+  reads : readGroups false false left top bytes ≡ got high rest
+  value : n ≡ (b - 128) + 128 * high
+
+unpeel : (first : Bool) (left top b n : ℕ) (bytes rest : List ℕ) → 128 ≤ b → readGroups false first (suc left) top (b ∷ bytes) ≡ got n rest → Opened left top b n bytes rest
+unfolding readGroups
+unpeel first left top b n bytes rest h e =
+    let j = joined (readGroups false false left top bytes) (λ high end. got ((b - 128) + 128 * high) end) n rest (rw (le-ltb b 128 h) at e) in
+    record { high = j.value; reads = j.before ∙ ap (λ (x : List ℕ). got j.value x) (got-rest j.after); value = sym (got-value j.after) }
+
+-- "shortest": groups after the first make no 0
+last_positive : (top b n : ℕ) (bytes rest : List ℕ) → lastGroup false top b bytes ≡ got n rest → 1 ≤ n
+unfolding lastGroup
+last_positive top b n bytes rest h =
+    cases (leb b top)
+    (λ p. cases (eqb b 0)
+    (λ q. not-got (rw (p, q) at h))
+    (λ q. let k : got b bytes ≡ got n rest = rw (p, q) at h in
+    let v : b ≡ n = cc in
+    let z : n ≡ 0 → ⊥ = λ e. eqb-false b 0 q (v ∙ e) in
+    positive n z))
+    (λ p. not-got (rw p at h))
+  where
+    positive : (n : ℕ) → (n ≡ 0 → ⊥) → 1 ≤ n
+    positive zero z = absurd (z refl)
+    positive (suc n) z = omega arith
+
+groups-positive : (left top n : ℕ) (bytes rest : List ℕ) → readGroups false false left top bytes ≡ got n rest → 1 ≤ n
+unfolding readGroups
+groups-positive zero top n [] rest h = not-got h
+groups-positive zero top n (b ∷ bytes) rest h = last_positive top b n bytes rest h
+groups-positive (suc left) top n [] rest h = not-got h
+groups-positive (suc left) top n (b ∷ bytes) rest h =
+    cases (ltb b 128)
+    (λ p. last_positive 127 b n bytes rest (rw p at h))
+    (λ p. let o = unpeel false left top b n bytes rest (ltb-false b 128 p) h in
+    omega (arith, o.value, groups-positive left top o.high bytes rest o.reads))
+
+-- a length that is cut, and begins as none of at most 16,384 does, is larger
+pub too_long : (bytes more : List ℕ) (n : ℕ) (rest : List ℕ) → readNumber bytes ≡ fault 7 → mayFit bytes ≡ false → readNumber (bytes ++ more) ≡ got n rest → 16384 < n
+unfolding readNumber mayFit
+too_long [] more n rest h f e = true≢ (sym f)
+too_long (a ∷ []) more n rest h f e = true≢ (sym f)
+too_long (a ∷ b ∷ []) more n rest h f e =
+    let p = peel true 8 1 a (b ∷ []) h in
+    let q = peel false 7 1 b [] p.cut in
+    let o = unpeel true 8 1 a n (b ∷ more) rest p.goes_on e in
+    let u = unpeel false 7 1 b o.high more rest q.goes_on o.reads in
+    let v = groups-positive 7 1 u.high more rest u.reads in
+    cases (eqb a 128)
+    (λ x. cases (eqb b 128)
+    (λ y. true≢ (sym (rw (x, y) at f)))
+    (λ y. let z : b ≡ 128 → ⊥ = eqb-false b 128 y in
+    let w : 128 < b = above b q.goes_on z in
+    omega (arith, o.value, u.value, v, p.goes_on)))
+    (λ x. let z : a ≡ 128 → ⊥ = eqb-false a 128 x in
+    let w : 128 < a = above a p.goes_on z in
+    omega (arith, o.value, u.value, v, q.goes_on))
+  where
+    above : (k : ℕ) → 128 ≤ k → (k ≡ 128 → ⊥) → 128 < k
+    above k h z = cases (ltb 128 k) (λ t. ltb-true 128 k t) (λ t. absurd (z (omega (arith, ltb-false 128 k t))))
+too_long (a ∷ b ∷ c ∷ bytes) more n rest h f e =
+    let p = peel true 8 1 a (b ∷ c ∷ bytes) h in
+    let q = peel false 7 1 b (c ∷ bytes) p.cut in
+    let r = peel false 6 1 c bytes q.cut in
+    let o = unpeel true 8 1 a n (b ∷ c ∷ bytes ++ more) rest p.goes_on e in
+    let u = unpeel false 7 1 b o.high (c ∷ bytes ++ more) rest q.goes_on o.reads in
+    let w = unpeel false 6 1 c u.high (bytes ++ more) rest r.goes_on u.reads in
+    let v = groups-positive 6 1 w.high (bytes ++ more) rest w.reads in
+    omega (arith, o.value, u.value, w.value, v)
+
+-- a number takes a byte at least
+Takes : {A : Type 0} → List ℕ → Read A → Type 0
+Takes bytes (got a rest) = length rest < length bytes
+Takes bytes (fault n) = Unit {0}
+
+last-takes : (first : Bool) (top b : ℕ) (bytes : List ℕ) → Takes (b ∷ bytes) (lastGroup first top b bytes)
+unfolding Takes lastGroup
+last-takes first top b bytes = cases (leb b top) (λ p. cases (eqb b 0 && not first) (λ q. rw (p, q) tt) (λ q. rw (p, q) (omega arith))) (λ p. rw p tt)
+
+more-takes : (b : ℕ) (bytes : List ℕ) (f : ℕ → ℕ) (r : Read ℕ) → Takes bytes r → Takes (b ∷ bytes) (r then λ high rest. got (f high) rest)
+unfolding Takes
+more-takes b bytes f (got a rest) h = omega arith
+more-takes b bytes f (fault n) h = tt
+
+groups-take : (first : Bool) (left top : ℕ) (bytes : List ℕ) → Takes bytes (readGroups false first left top bytes)
+unfolding Takes readGroups
+groups-take first zero top [] = tt
+groups-take first zero top (b ∷ bytes) = last-takes first top b bytes
+groups-take first (suc left) top [] = tt
+groups-take first (suc left) top (b ∷ bytes) =
+    cases (ltb b 128)
+    (λ p. rw p (last-takes first 127 b bytes))
+    (λ p. rw p (more-takes b bytes (λ high. (b - 128) + 128 * high) (readGroups false false left top bytes) (groups-take false left top bytes)))
+
+number-takes : (bytes : List ℕ) {n : ℕ} {rest : List ℕ} → readNumber bytes ≡ got n rest → length rest < length bytes
+unfolding readNumber Takes
+number-takes bytes h = rw h at (groups-take true 9 1 bytes)
+
+-- as many zeros
+zeros : ℕ → List ℕ
+zeros zero = []
+zeros (suc n) = 0 ∷ zeros n
+
+length-zeros : (n : ℕ) → length (zeros n) ≡ n
+unfolding zeros
+length-zeros zero = refl
+length-zeros (suc n) = ap suc (length-zeros n)
+
+zeros-wide : (n : ℕ) → Bytes (zeros n)
+unfolding zeros Bytes all
+zeros-wide zero = refl
+zeros-wide (suc n) = zeros-wide n
+
+-- a length of at most 16,384 and as many bytes: what is added to bytes that begin it
+record Filled (bytes : List ℕ) : Type 0 where
+  more : List ℕ
+  wide : Bytes more
+  n : ℕ
+  left : List ℕ
+  reads : readNumber (bytes ++ more) ≡ got n left
+  small : n ≤ 16384
+  enough : n ≤ length left
+
+fill : (bytes : List ℕ) → Bytes bytes → readNumber bytes ≡ fault 7 → mayFit bytes ≡ true → Filled bytes
+unfolding readNumber readGroups lastGroup mayFit Bytes all
+fill [] w h f = record { more = 0 ∷ []; wide = refl; n = 0; left = []; reads = refl; small = omega arith; enough = omega arith }
+fill (a ∷ []) w h f =
+    let p = peel true 8 1 a [] h in
+    let n : ℕ = (a - 128) + 128 * 1 in
+    record {
+      more = 1 ∷ zeros n;
+      wide = zeros-wide n;
+      n = n;
+      left = zeros n;
+      reads = rw (le-ltb a 128 p.goes_on) refl;
+      small = omega (arith, bytes-head a [] w);
+      enough = omega (arith, length-zeros n);
+    }
+fill (a ∷ b ∷ []) w h f =
+    let p = peel true 8 1 a (b ∷ []) h in
+    let q = peel false 7 1 b [] p.cut in
+    let n : ℕ = (a - 128) + 128 * ((b - 128) + 128 * 1) in
+    let x : a ≡ 128 = eqb-true a 128 (and_left (eqb a 128) (eqb b 128) f) in
+    let y : b ≡ 128 = eqb-true b 128 (and_right (eqb a 128) (eqb b 128) f) in
+    record {
+      more = 1 ∷ zeros n;
+      wide = zeros-wide n;
+      n = n;
+      left = zeros n;
+      reads = rw (le-ltb a 128 p.goes_on, le-ltb b 128 q.goes_on) refl;
+      small = omega arith;
+      enough = omega (arith, length-zeros n);
+    }
+fill (a ∷ b ∷ c ∷ bytes) w h f = true≢ f
+
+-- a time, a length of at most 16,384 and as many bytes are a record
+pub record_of : (bytes : List ℕ) {t n : ℕ} {rest left : List ℕ} → readNumber bytes ≡ got t rest → readNumber rest ≡ got n left → n ≤ 16384 → n ≤ length left
+    → readRecord bytes ≡ got (recordCall t (take n left)) (drop n left)
+unfolding readRecord readLengthed readBytes
+record_of bytes {n} {left} e l s h = rw (e, l, le-leb n 16384 s, le-leb n (length left) h) refl
+
+-- and nothing else is
+record Parts (bytes : List ℕ) (k : Call) (end : List ℕ) : Type 0 where
+  t : ℕ
+  n : ℕ
+  rest : List ℕ
+  left : List ℕ
+  time : readNumber bytes ≡ got t rest
+  long : readNumber rest ≡ got n left
+  small : n ≤ 16384
+  enough : n ≤ length left
+  call : recordCall t (take n left) ≡ k
+  after : drop n left ≡ end
+
+parts : (bytes : List ℕ) (k : Call) (end : List ℕ) → readRecord bytes ≡ got k end → Parts bytes k end
+unfolding readRecord readLengthed readBytes
+parts bytes k end h =
+    let j = joined (readNumber bytes) _ k end h in
+    let l = joined (readNumber j.middle) _ k end j.after in
+    cases (leb l.value 16384)
+    (λ p. cases (leb l.value (length l.middle))
+    (λ q. let g : got (recordCall j.value (take l.value l.middle)) (drop l.value l.middle) ≡ got k end = rw (p, q) at l.after in
+    record {
+      t = j.value;
+      n = l.value;
+      rest = j.middle;
+      left = l.middle;
+      time = j.before;
+      long = l.before;
+      small = leb-true l.value 16384 p;
+      enough = leb-true l.value (length l.middle) q;
+      call = got-value g;
+      after = got-rest g;
+    })
+    (λ q. not-got (rw (p, q) at l.after)))
+    (λ p. not-got (rw p at l.after))
+
+-- a record that was read stays, whatever follows
+pub record-stays : (bytes more : List ℕ) {k : Call} {end : List ℕ} → readRecord bytes ≡ got k end → readRecord (bytes ++ more) ≡ got k (end ++ more)
+record-stays bytes more {k} {end} h =
+    let p = parts bytes k end h in
+    let r : readRecord (bytes ++ more) ≡ got (recordCall p.t (take p.n (p.left ++ more))) (drop p.n (p.left ++ more))
+    = record_of (bytes ++ more) (number-got bytes more p.time) (number-got p.rest more p.long) p.small (rw length-append (omega (arith, p.enough))) in
+    r ∙ rw (take-append-le p.n p.left more p.enough, drop-append-le p.n p.left more p.enough, p.call, p.after) refl
+
+-- bad bytes stay bad
+pub bad-stays : (bytes more : List ℕ) → Bad bytes → Bad (bytes ++ more)
+bad-stays bytes more b = record { always = λ m. rw append_assoc (b.always (more ++ m)) }
+
+-- a record takes at least two bytes
+pub record-takes : (bytes : List ℕ) (k : Call) (end : List ℕ) → readRecord bytes ≡ got k end → length end < length bytes
+record-takes bytes k end h =
+    let p = parts bytes k end h in
+    omega (arith, number-takes bytes p.time, number-takes p.rest p.long, length-drop p.n p.left, ap length p.after)
+
+-- no record: what it would be made of is not there
+never-of : (bytes : List ℕ) → ((t n : ℕ) (rest left : List ℕ) → readNumber bytes ≡ got t rest → readNumber rest ≡ got n left → n ≤ 16384 → n ≤ length left → ⊥) → Never bytes
+never-of bytes f = record { never = λ k end h. let p = parts bytes k end h in f p.t p.n p.rest p.left p.time p.long p.small p.enough }
+
+same_rest : {r : Read ℕ} {a b : ℕ} {x y : List ℕ} → r ≡ got a x → r ≡ got b y → x ≡ y
+same_rest p q = got-rest (sym p ∙ q)
+
+same-value : {r : Read ℕ} {a b : ℕ} {x y : List ℕ} → r ≡ got a x → r ≡ got b y → a ≡ b
+same-value p q = got-value (sym p ∙ q)
+
+-- a time that is too wide or not shortest
+pub bad-time : (bytes : List ℕ) (n : ℕ) → readNumber bytes ≡ fault n → (n ≡ 7 → ⊥) → Bad bytes
+bad-time bytes n h o = record { always = λ more. never-of (bytes ++ more) (λ t m rest left e l s k. not-got (sym (number-bad bytes more h o) ∙ e)) }
+
+-- a length that is
+pub bad-length : (bytes : List ℕ) (t at n : ℕ) → Timed bytes t at → readNumber (drop at bytes) ≡ fault n → (n ≡ 7 → ⊥) → Bad bytes
+bad-length bytes t at n d h o = record {
+  always = λ more. never-of (bytes ++ more)
+      (λ u m rest left e l s k. let q : rest ≡ drop at bytes ++ more = same_rest e (number-got bytes more d.time) in
+      let b : readNumber (drop at bytes ++ more) ≡ got m left = rw q at l in
+      not-got (sym (number-bad (drop at bytes) more h o) ∙ b));
+}
+
+-- a length that is cut and will be over 16,384
+pub bad-fit : (bytes : List ℕ) (t at : ℕ) → Timed bytes t at → readNumber (drop at bytes) ≡ fault 7 → mayFit (drop at bytes) ≡ false → Bad bytes
+bad-fit bytes t at d h f = record {
+  always = λ more. never-of (bytes ++ more)
+      (λ u m rest left e l s k. let q : rest ≡ drop at bytes ++ more = same_rest e (number-got bytes more d.time) in
+      let b : readNumber (drop at bytes ++ more) ≡ got m left = rw q at l in
+      omega (arith, s, too_long (drop at bytes) more m left h f b));
+}
+
+-- "an event over 16,384 bytes"
+pub bad-event : (bytes : List ℕ) (t n start : ℕ) → Lengthed bytes t n start → 16384 < n → Bad bytes
+bad-event bytes t n start d h = record {
+  always = λ more. never-of (bytes ++ more)
+      (λ u m rest left e l s k. let q : rest ≡ drop d.at bytes ++ more = same_rest e (number-got bytes more d.timed.time) in
+      let b : readNumber (drop d.at bytes ++ more) ≡ got m left = rw q at l in
+      let v : n ≡ m = same-value (number-got (drop d.at bytes) more d.long) b in
+      omega (arith, s, v, h));
+}
+
+-- a time that is cut
+pub cut-time : (bytes : List ℕ) → readNumber bytes ≡ fault 7 → Cut bytes
+unfolding readNumber readGroups lastGroup Bytes all
+cut-time bytes h =
+    let c = groups-complete true 9 1 bytes (omega arith) h in
+    let e : readNumber (bytes ++ (1 ∷ 0 ∷ [])) ≡ got c.value (0 ∷ []) = subst (λ (x : List ℕ). readNumber x ≡ got c.value (0 ∷ [])) (append_assoc bytes (1 ∷ []) (0 ∷ [])) (number-got (bytes ++ (1 ∷ [])) (0 ∷ []) c.reads) in
+    record {
+      yet = never-of bytes (λ t n rest left e l s k. not-got (sym h ∙ e));
+      more = 1 ∷ 0 ∷ [];
+      wide = refl;
+      call = recordCall c.value [];
+      rest = [];
+      reads = record_of (bytes ++ (1 ∷ 0 ∷ [])) e refl (omega arith) (omega arith);
+      few = omega (arith, cut_short bytes h);
+    }
+
+-- the time takes at most ten bytes
+timed-few : (bytes : List ℕ) (t at : ℕ) → Timed bytes t at → at ≤ 10
+timed-few bytes t at d = omega (arith, d.inside, number_short bytes d.time, length-drop at bytes)
+
+-- a length that is cut, and may be at most 16,384
+pub cut-length : (bytes : List ℕ) (t at : ℕ) → Bytes bytes → Timed bytes t at → readNumber (drop at bytes) ≡ fault 7 → mayFit (drop at bytes) ≡ true → Cut bytes
+cut-length bytes t at w d h f =
+    let g = fill (drop at bytes) (bytes_drop at bytes w) h f in
+    record {
+      yet = never-of bytes
+          (λ u m rest left e l s k. let q : rest ≡ drop at bytes = same_rest e d.time in
+          let b : readNumber (drop at bytes) ≡ got m left = rw q at l in
+          not-got (sym h ∙ b));
+      more = g.more;
+      wide = g.wide;
+      call = recordCall t (take g.n g.left);
+      rest = drop g.n g.left;
+      reads = record_of (bytes ++ g.more) (number-got bytes g.more d.time) g.reads g.small g.enough;
+      few = omega (arith, d.inside, timed-few bytes t at d, cut_short (drop at bytes) h, length-drop at bytes);
+    }
+
+-- an event that is cut
+pub cut-event : (bytes : List ℕ) (t n start : ℕ) → Lengthed bytes t n start → n ≤ 16384 → length bytes - start < n → Cut bytes
+cut-event bytes t n start d h less =
+    let z : length (drop start bytes) ≡ length bytes - start = length-drop start bytes in
+    record {
+      yet = never-of bytes
+          (λ u m rest left e l s k. let q : rest ≡ drop d.at bytes = same_rest e d.timed.time in
+          let b : readNumber (drop d.at bytes) ≡ got m left = rw q at l in
+          let v : n ≡ m = same-value d.long b in
+          let y : drop start bytes ≡ left = same_rest d.long b in
+          omega (arith, k, v, less, ap length y));
+      more = zeros n;
+      wide = zeros-wide n;
+      call = recordCall t (take n (drop start bytes ++ zeros n));
+      rest = drop n (drop start bytes ++ zeros n);
+      reads = record_of (bytes ++ zeros n) (number-got bytes (zeros n) d.timed.time) (number-got (drop d.at bytes) (zeros n) d.long) h (rw length-append (omega (arith, length-zeros n)));
+      few = omega (arith, less, d.inside, d.timed.inside, timed-few bytes t d.at d.timed, number_short (drop d.at bytes) d.long, length-drop d.at bytes);
+    }
+
+-- a whole record
+pub whole : (bytes : List ℕ) (t n start : ℕ) → Lengthed bytes t n start → n ≤ 16384 → n ≤ length bytes - start → Whole bytes t start n
+unfolding part
+whole bytes t n start d h l =
+    let z : length (drop start bytes) ≡ length bytes - start = length-drop start bytes in
+    record {
+      inside = omega (arith, d.inside);
+      reads = rw (← drop-drop n start bytes) (record_of bytes d.timed.time d.long h (omega arith));
+    }
+
+-- what `mayFit` asks, by how many bytes there are
+short-fits : (xs : List ℕ) → length xs < 2 → mayFit xs ≡ true
+unfolding mayFit
+short-fits [] h = refl
+short-fits (a ∷ []) h = refl
+short-fits (a ∷ b ∷ xs) h = absurd (omega arith)
+
+long-fits : (xs : List ℕ) → 2 < length xs → mayFit xs ≡ false
+unfolding mayFit
+long-fits [] h = absurd (omega arith)
+long-fits (a ∷ []) h = absurd (omega arith)
+long-fits (a ∷ b ∷ []) h = absurd (omega arith)
+long-fits (a ∷ b ∷ c ∷ xs) h = refl
+
+two-fit : (xs : List ℕ) → length xs ≡ 2 → mayFit xs ≡ (eqb (get_or xs 0 0) 128 && eqb (get_or xs 1 0) 128)
+unfolding mayFit
+two-fit [] h = absurd (omega arith)
+two-fit (a ∷ []) h = absurd (omega arith)
+two-fit (a ∷ b ∷ []) h = refl
+two-fit (a ∷ b ∷ c ∷ xs) h = absurd (omega arith)
+
+-- the same of the bytes from a place on
+module _ (bytes : List ℕ) (at : ℕ) where
+  pub fit-short : length bytes - at < 2 → mayFit (drop at bytes) ≡ true
+  fit-short h = short-fits (drop at bytes) (omega (arith, length-drop at bytes))
+
+  pub fit-long : 2 < length bytes - at → mayFit (drop at bytes) ≡ false
+  fit-long h = long-fits (drop at bytes) (omega (arith, length-drop at bytes))
+
+  pub fit-two : length bytes - at ≡ 2 → mayFit (drop at bytes) ≡ (eqb (get_or bytes at 0) 128 && eqb (get_or bytes (at + 1) 0) 128)
+  fit-two h = two-fit (drop at bytes) (omega (arith, length-drop at bytes)) ∙ rw (get_or-drop at bytes 0 0, get_or-drop at bytes 1 0, add-zero at) refl
+
+-- where there is no byte, one can follow
+pub bad-none : Bad [] → ⊥
+unfolding readRecord readLengthed readBytes readNumber readGroups lastGroup
+bad-none b = (b.always (0 ∷ 0 ∷ [])).never (recordCall 0 []) [] refl

@@ -1,0 +1,42 @@
+-- `keep` meets its contract: the sender is kept where there is a grafted message, and the link goes lazy.
+use mathlib.Core.Path.{subst}
+use Rattle.storage.specs.Rows.Ident.{id_of}
+use Rattle.block.specs.View.{state_of}
+use Rattle.time_cache.specs.TimeCache.{get}
+use Rattle.decide.specs.Settled.{settled}
+use Rattle.steps.specs.Shared.{HeldAt, HeldIs}
+use Rattle.steps.specs.declared.Held.{Held}
+use Rattle.steps.proofs.StandsLaws.{grafted-order}
+use Rattle.steps.specs.Settled.Then.{noGrafts}
+use Rattle.payloads.proofs.LateLaws.LateLaws.{held_below, kept_goes, kept-none, kept-links-up}
+use Rattle.payloads.proofs.late.keep.Goals as goal
+use Rattle.payloads.proofs.late.keep.Goals.{In-At}
+
+-- the grafted message that was found
+entry-held : (c : In-At) → HeldAt noGrafts (state_of c.args.h c.args.block.now).grafted.entries (id_of c.args.id) (get (id_of c.args.id) (settled c.args.instant.0 (state_of c.args.h c.args.block.now)).grafted) c.in-At.g
+entry-held c =
+    let a = c.args in
+    let st = state_of a.h a.block.now in
+    subst (λ (o : Held). HeldIs noGrafts st.grafted.entries (id_of a.id) (get (id_of a.id) (settled a.instant.0 st).grafted) o) c.in-At.is c.grafted_then-held.ensures
+
+pub set_kept-requires : goal.set_kept-requires
+set_kept-requires c =
+    let a = c.args in
+    (c.requires.0.sound, grafted-order a.h a.block.now c.requires.0, held_below a.h a.block.now c.requires.0 (id_of a.id) _ c.in-At.g (entry-held (goal.at.set_kept-requires c).In-At))
+
+pub set_mark-requires : goal.set_mark-requires
+set_mark-requires c =
+    (c.set_kept.ensures.sound, kept-links-up c.in-At.g c.args.sender c.requires.0 c.set_kept.ensures, c.requires.2)
+
+pub returns-in-At : goal.returns-in-At
+returns-in-At c =
+    let a = c.args in
+    kept_goes a.h a.block.now c.requires.0 c.requires.1 a.instant.0 a.sender (id_of a.id) a.link c.requires.2 c.in-At.g (entry-held (goal.at.returns-in-At c).In-At) c.set_kept.ensures c.set_mark.ensures
+
+pub returns-in-Nothing : goal.returns-in-Nothing
+returns-in-Nothing c =
+    let a = c.args in
+    let st = state_of a.h a.block.now in
+    kept-none a.h a.block.now c.requires.0 c.requires.1 a.instant.0 a.sender (id_of a.id) a.link c.requires.2
+    (subst (λ (o : Held). HeldIs noGrafts st.grafted.entries (id_of a.id) (get (id_of a.id) (settled a.instant.0 st).grafted) o) c.in-Nothing.is c.grafted_then-held.ensures)
+    c.set_mark-in-Nothing.ensures

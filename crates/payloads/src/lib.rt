@@ -1,0 +1,9 @@
+// The steps that carry contents: a message taken in, a copy of one received before, a broadcast, and the reply to a Graft.
+#![tactic(auto)]
+
+pub mod broadcast;
+pub mod eager;
+pub mod gossip;
+pub mod late;
+pub mod new_gossip;
+pub mod optimise;

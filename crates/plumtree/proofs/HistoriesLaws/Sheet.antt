@@ -1,0 +1,108 @@
+-- The commissioning sheet over blocks: each chain goes through the states of the definitions, and these answer the same.
+-- Assumes nothing.
+use Prim.Native.Nat.{ℕ}
+use mathlib.Core.Path.{◌≡◌, refl, sym, ap, subst, ◌∙◌}
+use mathlib.Core.Bool.{Bool, true, false, ◌&&◌}
+use mathlib.Core.List.{List, [], ◌∷◌, map}
+use mathlib.Core.Option.{Option, none, some}
+use lib.ListN.{length}
+use Rattle.std.specs.Prelude.{if◌then◌else◌}
+use Rattle.storage.specs.Lists.Base.{concatMap}
+use Rattle.storage.proofs.ListsLaws.MapLaws.{cases, true≢, and_left, and_right, and_intro}
+use Rattle.postcard.specs.Message.{Action, actionBytes}
+use Rattle.blake3.specs.Blake3.{identifier}
+use Rattle.protocol.specs.State.{State, Counts}
+use Rattle.protocol.specs.Whole.{whole, longEnough, wholeState}
+use Rattle.protocol.specs.Answer.{Call, Answer, refuse, accept, outputOf}
+use Rattle.protocol.specs.Calls.{Ran, runCalls}
+use Rattle.protocol.specs.Alike.{alike, likeness, likenessOf, alikeBlocks}
+use Rattle.whole.specs.Held.{held}
+use Rattle.plumtree.specs.Chain.{Seen, Chain, seenOf}
+use Rattle.plumtree.proofs.Guarantee.{Holds, ended}
+use Rattle.protocol.specs.AlikeCalls.CommissioningSheet.{number_of, actionsOf}
+use Rattle.protocol.proofs.AlikeCallsLaws.LikeCalls.{commissioning-sheet}
+use Rattle.plumtree.specs.Histories.Sheet.{ToldAlike, SameSeen, CommissioningSheetOfBlocks}
+
+-- what is seen of a call is its number and the bytes of its actions
+seen_by : (a : Answer) → seenOf a ≡ record { number = number_of a; bytes = concatMap actionBytes (actionsOf a) }
+unfolding seenOf number_of actionsOf outputOf concatMap
+seen_by (refuse n) = refl
+seen_by (accept e r) = refl
+
+seen_same : (xs ys : List Answer) → map number_of xs ≡ map number_of ys → map actionsOf xs ≡ map actionsOf ys → map seenOf xs ≡ map seenOf ys
+seen_same [] [] m l = refl
+seen_same [] (b ∷ ys) m l = let z : false ≡ true = cc in true≢ z
+seen_same (a ∷ xs) [] m l = let z : false ≡ true = cc in true≢ z
+seen_same (a ∷ xs) (b ∷ ys) m l =
+    let n : number_of a ≡ number_of b = cc in
+    let x : actionsOf a ≡ actionsOf b = cc in
+    let one : seenOf a ≡ seenOf b = seen_by a ∙ (λ k. record { number = n k; bytes = concatMap actionBytes (x k) }) ∙ sym (seen_by b) in
+    let more : map seenOf xs ≡ map seenOf ys = seen_same xs ys (cc) (cc) in
+    λ k. one k ∷ more k
+
+-- a block that holds a whole state
+record HoldsWhole (block : List ℕ) (s : State) : Type 0 where
+  holds : Holds block s
+  whole : whole s ≡ true
+
+holds-whole : (block : List ℕ) (o : Option State) (s : State) → held block ≡ o → wholeState (length block) o ≡ some s → HoldsWhole block s
+unfolding wholeState
+holds-whole block none s e h = let z : false ≡ true = cc in true≢ z
+holds-whole block (some t) s e h =
+    cases (longEnough (length block) t && whole t)
+    (λ w. let k : some t ≡ some s = rw w at h in
+    let q : t ≡ s = cc in
+    rw (← q) (record { holds = record { state = e; long = and_left (longEnough (length block) t) (whole t) w }; whole = and_right (longEnough (length block) t) (whole t) w }))
+    (λ w. let k : none ≡ some s = rw w at h in let z : false ≡ true = cc in true≢ z)
+
+whole-held : (block : List ℕ) (s : State) → HoldsWhole block s → wholeState (length block) (held block) ≡ some s
+unfolding wholeState
+whole-held block s h =
+    ap (wholeState (length block)) h.holds.state
+    ∙ ap (λ (b : Bool). if b then some s else none) (and_intro {a = longEnough (length block) s} {b = whole s} h.holds.long h.whole)
+
+-- the two states of blocks that are told alike, and back
+record Pair (a b : List ℕ) : Type 0 where
+  first : State
+  second : State
+  one : HoldsWhole a first
+  two : HoldsWhole b second
+  same : alike first second ≡ true
+
+pair : (a b : List ℕ) (x y : Option State) → wholeState (length a) (held a) ≡ x → wholeState (length b) (held b) ≡ y → likenessOf x y ≡ likeness true → Pair a b
+unfolding likenessOf
+pair a b none y e f h = let z : false ≡ true = cc in true≢ z
+pair a b (some s) none e f h = let z : false ≡ true = cc in true≢ z
+pair a b (some s) (some t) e f h = record { first = s; second = t; one = holds-whole a (held a) s refl e; two = holds-whole b (held b) t refl f; same = let k : alike s t ≡ true = cc in k }
+
+told : (a b : List ℕ) → Pair a b → ToldAlike a b
+unfolding alikeBlocks likenessOf
+told a b p = (λ k. likenessOf (whole-held a p.first p.one k) (whole-held b p.second p.two k)) ∙ ap likeness p.same
+
+sheets : (a b : List ℕ) (c : Counts) → Pair a b → (ks : List Call) (seen seen' : List Seen) (last last' : List ℕ) (n n' : Counts) → Chain a c ks seen last n → Chain b c ks seen' last' n' →
+    SameSeen seen seen' last last' n n'
+sheets a b c p ks seen seen' last last' n n' x y =
+    let u = ended a p.first c ks seen last n p.one.holds x in
+    let v = ended b p.second c ks seen' last' n' p.two.holds y in
+    let w = (commissioning-sheet identifier).always p.first p.second c c p.one.whole p.two.whole p.same refl ks in
+    let r : Ran = runCalls identifier p.first c ks in
+    let q : Ran = runCalls identifier p.second c ks in
+    record {
+      seen = u.answers ∙ seen_same r.answers q.answers w.numbers w.actions ∙ sym v.answers;
+      counts = u.counts ∙ w.counts ∙ sym v.counts;
+      blocks = told last last' (record {
+        first = r.state;
+        second = q.state;
+        one = record { holds = u.holds; whole = w.first };
+        two = record { holds = v.holds; whole = w.second };
+        same = w.states;
+      });
+    }
+
+-- the sheet
+pub commissioning-sheet-of-blocks : CommissioningSheetOfBlocks
+unfolding alikeBlocks
+commissioning-sheet-of-blocks = record {
+  always = λ a b c d h e ks seen seen' last last' n n' x y.
+      sheets a b c (pair a b (wholeState (length a) (held a)) (wholeState (length b) (held b)) refl refl h) ks seen seen' last last' n n' x (subst (λ (z : Counts). Chain b z ks seen' last' n') (sym e) y);
+}

@@ -1,0 +1,13 @@
+// What holds of every history of panels and areas, a theorem each. Nothing runs: a contract is proved, and so these are.
+ghost use Rattle.plumtree.specs.Histories.History.{Histories};
+ghost use Rattle.plumtree.specs.Histories.Sheet.{CommissioningSheetOfBlocks};
+
+// "From a return on, the list of calls that the guarantees speak about is the one up to the saving, followed by the calls since the return."
+pub fn guarantees_follow_savings_and_returns()
+    ensures { Histories }
+{}
+
+// Over blocks: from blocks that are told alike and equal counts, the same calls give the same answers and actions.
+pub fn alike_blocks_answer_alike()
+    ensures { CommissioningSheetOfBlocks }
+{}

@@ -1,0 +1,142 @@
+-- "the same list of events, times, link room and output space gives the same answers and actions": each call keeps two states that differ in the interleaving alone so, and no question sees the interleaving.
+-- Assumes nothing.
+use Prim.Native.Nat.{ℕ, ◌^◌}
+use mathlib.Core.Path.{◌≡◌, refl, sym, ap, subst, ◌∙◌}
+use mathlib.Core.Bool.{Bool, true, false, not, ◌&&◌}
+use mathlib.Core.List.{List, [], ◌∷◌}
+use lib.Dec.{leb, eqb}
+use lib.ListN.{length}
+use Rattle.std.specs.Prelude.{if◌then◌else◌}
+use Rattle.storage.specs.Lists.Base.{concatMap}
+use Rattle.storage.proofs.ListsLaws.MapLaws.{true≢}
+use Rattle.time_cache.specs.TimeCache.{Cache, holds}
+use Rattle.postcard.specs.Message.{Message, Gossip, Prune, Graft, IHave, Event, Received, Broadcast, Fired, Up, Down, Action, actionBytes}
+use Rattle.postcard.specs.Decode.{Decoded, decoded, faulty, decodeEvent}
+use Rattle.protocol.specs.State.{State, Settings, Counts}
+use Rattle.protocol.specs.Run.{Run, begin}
+use Rattle.protocol.specs.Handle.{firstEvent}
+use Rattle.protocol.specs.Whole.{fits, contentHeld, whole}
+use Rattle.protocol.specs.Answer.{Call, Answer, refuse, accept, messageFits, countsStay, lastRound, tooFar, tooFarMessage, outputOf, lastTwo, askOf, askRead, ask, askWhole}
+use Rattle.protocol.specs.Calls.{runCalls, stateAfter, countsAfter, prepend}
+use Rattle.protocol.proofs.NeverFive.{never-five}
+use Rattle.protocol.specs.AlikeCalls.Peerwise.{Like, like, LikeStates}
+use Rattle.protocol.specs.AlikeCalls.CommissioningSheet.{number_of, actionsOf, SameAfter, CommissioningSheet}
+use Rattle.protocol.proofs.AlikeCallsLaws.PeerLaws.{peerwise-length}
+use Rattle.protocol.proofs.AlikeCallsLaws.LikeSteps.{like-firstEvent, like-handle}
+use Rattle.protocol.proofs.AlikeCallsLaws.Reflect.{alike-like}
+use Rattle.protocol.proofs.AlikeCallsLaws.Stay.{like-alike}
+
+-- what two such runs have the same
+
+states-like : {a b : Run} → Like a b → LikeStates a.state b.state
+states-like (like r q d q' d' e f) = λ c rooms. like (begin r.state c rooms) q d q' d' e f
+
+actions-same : {a b : Run} → Like a b → a.actions ≡ b.actions
+actions-same (like r q d q' d' e f) = refl
+
+counts_same : {a b : Run} → Like a b → a.counts ≡ b.counts
+counts_same (like r q d q' d' e f) = refl
+
+settings-same : {a b : Run} → Like a b → a.state.settings ≡ b.state.settings
+settings-same (like r q d q' d' e f) = refl
+
+received-same : {a b : Run} → Like a b → a.state.received ≡ b.state.received
+received-same (like r q d q' d' e f) = refl
+
+fits-same : {a b : Run} → Like a b → fits a.state ≡ fits b.state
+unfolding fits contentHeld
+fits-same (like r q d q' d' e f) = rw (peerwise-length q q' e, peerwise-length d d' f)
+
+-- both refused with one number, or both accepted
+data LikeAnswers : Answer → Answer → Type 0 where
+  both-refuse : (n : ℕ) → LikeAnswers (refuse n) (refuse n)
+  both-accept : (e : Event) (a b : Run) → Like a b → LikeAnswers (accept e a) (accept e b)
+
+-- a question that both answer the same
+like-question : {x y u v : Answer} (t t' : Bool) → t ≡ t' → LikeAnswers x u → LikeAnswers y v → LikeAnswers (if t then x else y) (if t' then u else v)
+like-question true true e l m = l
+like-question false false e l m = m
+like-question true false e l m = true≢ (sym e)
+like-question false true e l m = true≢ e
+
+like-lastTwo : {a b : Run} (output : ℕ) (e : Event) → Like a b → LikeAnswers (lastTwo output e a) (lastTwo output e b)
+unfolding lastTwo outputOf
+like-lastTwo {a} {b} output e l =
+    like-question (fits a.state) (fits b.state) (fits-same l)
+    (like-question (leb (length (outputOf a)) output) (leb (length (outputOf b)) output) (ap (λ (xs : List Action). leb (length (concatMap actionBytes xs)) output) (actions-same l))
+    (both-accept e a b l) (both-refuse 14))
+    (both-refuse 13)
+
+module _ (hash : List ℕ → ℕ) where
+  tooFarMessage-same : (m : Message) (s t : State) → s.received ≡ t.received → tooFarMessage hash m s ≡ tooFarMessage hash m t
+  unfolding tooFarMessage
+  tooFarMessage-same (Gossip id content d) s t e = ap (λ (c : Cache (Unit {0})). eqb (hash content) id && lastRound d && not (holds id c)) e
+  tooFarMessage-same Prune s t e = refl
+  tooFarMessage-same (Graft wanted round) s t e = refl
+  tooFarMessage-same (IHave hs) s t e = refl
+
+  tooFar-same : (v : Event) (s t : State) → s.received ≡ t.received → tooFar hash v s ≡ tooFar hash v t
+  unfolding tooFar
+  tooFar-same (Received p m) s t e = tooFarMessage-same m s t e
+  tooFar-same (Broadcast content scope) s t e = refl
+  tooFar-same (Fired x) s t e = refl
+  tooFar-same (Up p) s t e = refl
+  tooFar-same (Down p) s t e = refl
+
+  like-askOf : (s t : State) (c : Counts) (k : Call) (v : Event) → LikeStates s t → LikeAnswers (askOf hash s c k v) (askOf hash t c k v)
+  unfolding askOf
+  like-askOf s t c k v l =
+      let m = l c k.rooms in
+      like-question (not (messageFits s.settings.maxMessageSize k.event v)) (not (messageFits t.settings.maxMessageSize k.event v))
+      (ap (λ (x : Settings). not (messageFits x.maxMessageSize k.event v)) (settings-same m)) (both-refuse 10)
+      (like-question (not (countsStay v c)) (not (countsStay v c)) refl (both-refuse 11)
+      (like-question (tooFar hash v (firstEvent k.now (begin s c k.rooms)).state) (tooFar hash v (firstEvent k.now (begin t c k.rooms)).state)
+      (tooFar-same v _ _ (received-same (like-firstEvent k.now m))) (both-refuse 12)
+      (like-lastTwo k.output v (like-handle hash k.now v m))))
+
+  like-askRead : (s t : State) (c : Counts) (k : Call) (d : Decoded Event) → LikeStates s t → LikeAnswers (askRead hash s c k d) (askRead hash t c k d)
+  unfolding askRead
+  like-askRead s t c k (faulty n) l = both-refuse n
+  like-askRead s t c k (decoded v) l = like-askOf s t c k v l
+
+  like-ask : (s t : State) (c : Counts) (k : Call) → LikeStates s t → LikeAnswers (ask hash s c k) (ask hash t c k)
+  unfolding ask
+  like-ask s t c k l = like-question (leb k.now (2 ^ 62)) (leb k.now (2 ^ 62)) refl (like-askRead s t c k (decodeEvent k.event) l) (both-refuse 6)
+
+  like-askWhole : (s t : State) (c : Counts) (k : Call) → whole s ≡ true → whole t ≡ true → LikeStates s t → LikeAnswers (askWhole hash s c k) (askWhole hash t c k)
+  unfolding askWhole
+  like-askWhole s t c k w x l = like-question (whole s) (whole t) (w ∙ sym x) (like-ask s t c k l) (both-refuse 5)
+
+  -- an accepted call leaves a whole state
+  whole-after : (s : State) (c : Counts) (k : Call) → whole s ≡ true → whole (stateAfter s (askWhole hash s c k)) ≡ true
+  unfolding runCalls prepend
+  whole-after s c k w = (never-five hash s c (k ∷ []) w).1
+
+  -- after one call
+  record LikeAfter (s t : State) (c : Counts) (a b : Answer) : Type 0 where
+    number : number_of a ≡ number_of b
+    actions : actionsOf a ≡ actionsOf b
+    counts : countsAfter c a ≡ countsAfter c b
+    states : LikeStates (stateAfter s a) (stateAfter t b)
+
+  like-after : (s t : State) (c : Counts) (a b : Answer) → LikeStates s t → LikeAnswers a b → LikeAfter s t c a b
+  unfolding number_of actionsOf stateAfter countsAfter
+  like-after s t c _ _ l (both-refuse n) = record { number = refl; actions = refl; counts = refl; states = l }
+  like-after s t c _ _ l (both-accept e a b m) = record { number = refl; actions = actions-same m; counts = counts_same m; states = states-like m }
+
+  -- after a list
+  same_after : (s t : State) (c : Counts) → whole s ≡ true → whole t ≡ true → LikeStates s t → (ks : List Call) → SameAfter (runCalls hash s c ks) (runCalls hash t c ks)
+  unfolding runCalls prepend
+  same_after s t c w x l [] = record { numbers = refl; actions = refl; counts = refl; first = w; second = x; states = like-alike s t l }
+  same_after s t c w x l (k ∷ ks) =
+      let a = askWhole hash s c k in
+      let b = askWhole hash t c k in
+      let y = like-after s t c a b l (like-askWhole s t c k w x l) in
+      let z = subst (λ (d : Counts). SameAfter (runCalls hash (stateAfter s a) (countsAfter c a) ks) (runCalls hash (stateAfter t b) d ks)) y.counts
+      (same_after (stateAfter s a) (stateAfter t b) (countsAfter c a) (whole-after s c k w) (whole-after t c k x) y.states ks) in
+      record { numbers = rw (y.number, z.numbers); actions = rw (y.actions, z.actions); counts = z.counts; first = z.first; second = z.second; states = z.states }
+
+  pub commissioning-sheet : CommissioningSheet hash
+  commissioning-sheet = record {
+    always = λ s t c d w x h e ks. subst (λ (n : Counts). SameAfter (runCalls hash s c ks) (runCalls hash t n ks)) e (same_after s t c w x (alike-like s t h) ks);
+  }

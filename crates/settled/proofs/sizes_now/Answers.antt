@@ -1,7 +1,0 @@
--- `sizes_now`: the header's numbers are those of the state.
-use mathlib.Core.Path.{refl}
-use Rattle.settled.proofs.SizeLaws.{sizes-live}
-use Rattle.settled.proofs.sizes_now.Goals as goal
-
-pub returns : goal.returns
-returns c = sizes-live c.args.h c.args.block.now c.requires.sound _ refl refl refl refl refl refl refl refl refl refl refl refl

@@ -1,0 +1,120 @@
+-- The grafted peers of a message: in order, neighbours, and no more than the links.
+-- Assumes nothing.
+use mathlib.Core.Path.{◌≡◌, refl, sym, ap, ◌∙◌}
+use mathlib.Core.Bool.{Bool, true, false, not, ◌&&◌}
+use mathlib.Core.List.{List, [], ◌∷◌}
+use mathlib.Core.Option.{Option, none}
+use Prim.Native.Nat.{ℕ, ◌≤◌, ◌<◌}
+use native.Mathlib.Omega.{arith}
+use borrow.Author.Tests.{ltb-true, ne_eqb}
+use lib.Dec.{leb, ltb}
+use lib.ListN.{length, get_or, length-map, get_or-map}
+use Rattle.storage.specs.Lists.Base.{is_some, all, any, member, once, ascending}
+use Rattle.storage.specs.Lists.Map.{Map, Entry, entry, keys, insert, has}
+use Rattle.storage.proofs.ListsLaws.MapLaws.{and_left, and_right, and_intro, all_head, all_tail}
+use Rattle.storage.proofs.ListsLaws.ListLaws.{all_map}
+use Rattle.storage.proofs.ListsLaws.Places.{all-at}
+use Rattle.storage.specs.Rows.Sorted.{Ascending, Here, Between}
+use Rattle.time_cache.specs.TimeCache.{Timed}
+use Rattle.time_cache.proofs.Orders.{up_of}
+use Rattle.time_cache.proofs.MapPlaces.{lookup-here, lookup-between}
+use Rattle.protocol.specs.Links.{isNeighbour}
+use Rattle.protocol.specs.State.{State, Grafts}
+use Rattle.protocol.specs.Gossips.{peersOf, graftOut}
+use Rattle.protocol.specs.Whole.{graftsWhole}
+use Rattle.protocol.proofs.ConsistentTables.{Grafted, to-grafted, grafted-insert}
+use Rattle.block.specs.View.{state_of}
+use Rattle.block.specs.Fit.{Fit}
+use Rattle.block.specs.LinkSteps.{peerAt}
+use Rattle.block.specs.declared.head.Head.{Head}
+use Rattle.block.proofs.LinkLaws.{count-links, count-peers, neighbour-here}
+use Rattle.block.proofs.Few.{once-few}
+use Rattle.block.proofs.AnnounceLaws.{insert-long}
+use Rattle.block.specs.Caches.GraftSteps.{graftedAt, graftsAt}
+use Rattle.block.proofs.CachesLaws.GraftedLaws.{count-grafted}
+use Rattle.steps.specs.Shared.{HeldIs}
+use Rattle.steps.specs.Stands.{Stands}
+use Rattle.steps.specs.declared.Held.{Held}
+use Rattle.steps.specs.declared.Held.TheVariants.{At, Nothing}
+use Rattle.steps.proofs.StandsLaws.{links-up, grafted-order}
+use Rattle.steps.specs.Grafts.Reads.{Grafting, HeldBelow, heldPeers}
+
+-- what the functions of the grafts ask, out of `Stands`
+pub stands-grafting : (h : Head) (xs : List ℕ) → Stands h xs → Grafting h xs
+stands-grafting h xs s = record { sound = s.sound; linksUp = links-up h xs s; order = grafted-order h xs s; whole = s.consistent.core.grafting }
+
+-- numbers that ascend stand once
+above-out : (x : ℕ) (xs : List ℕ) → all (ltb x) xs ≡ true → member x xs ≡ false
+unfolding member
+above-out x [] h = refl
+above-out x (y ∷ ys) h = rw (ne_eqb x y (λ e. omega (arith, ltb-true x y (all_head (ltb x) y ys h)))) (above-out x ys (all_tail (ltb x) y ys h))
+
+ascending-once : (ks : List ℕ) → ascending ks ≡ true → once ks ≡ true
+unfolding ascending once
+ascending-once [] h = refl
+ascending-once (x ∷ xs) h =
+    and_intro (ap not (above-out x xs (and_left (all (ltb x) xs) (ascending xs) h))) (ascending-once xs (and_right (all (ltb x) xs) (ascending xs) h))
+
+-- the peer of a link is a neighbour
+pub link_near : (h : Head) (xs : List ℕ) (link : ℕ) → Grafting h xs → link < h.live.links → isNeighbour (peerAt (state_of h xs) link) (state_of h xs).links ≡ true
+link_near h xs link g q =
+    neighbour-here (peerAt (state_of h xs) link) link (state_of h xs).links (up_of (keys (state_of h xs).links) g.linksUp) (record { within = omega (arith, count-peers h xs); same = refl })
+
+module _ (h : Head) (xs : List ℕ) (g : Grafting h xs) (i : ℕ) (q : i < h.live.grafted) where
+  abbrev st : State
+  st = state_of h xs
+
+  abbrev peers : Map ℕ
+  peers = (graftsAt st i).peers
+
+  grafts-whole : Grafted st.links peers
+  grafts-whole =
+      let d : Entry (Timed Grafts) = entry 0 (record { expires = 0; value = record { first = none; kept = none; peers = [] } }) in
+      to-grafted st.links (graftedAt st i) (all-at (graftsWhole st.links) d st.grafted.entries g.whole i (omega (arith, count-grafted h xs g.sound.fit)))
+
+  pub peers-up : Ascending (keys peers)
+  peers-up = up_of (keys peers) grafts-whole.up
+
+  pub key-at : (j : ℕ) → get_or (keys peers) j 0 ≡ (get_or peers j (entry 0 0)).key
+  key-at j = get_or-map (λ (e : Entry ℕ). e.key) peers j (entry 0 0)
+
+  -- a peer of a link that is not among them finds room
+  pub peers-few : (link j : ℕ) → link < h.live.links → Between (keys peers) (peerAt st link) j → length peers < 32
+  peers-few link j ql b =
+      let p : ℕ = peerAt st link in
+      let m : Map ℕ = insert p 0 peers in
+      let w : Grafted st.links m = grafted-insert st.links p 0 peers (link_near h xs link g ql) grafts-whole in
+      let most : length (keys m) ≤ length st.links = once-few st.links (keys m) (ascending-once (keys m) w.up) (all_map (λ n. has n st.links) (λ (e : Entry ℕ). e.key) m ∙ w.near) in
+      omega (arith, most, length-map m (λ (e : Entry ℕ). e.key), insert-long p j 0 0 peers peers-up b, count-links h xs, g.sound.fit.within.links, g.sound.fit.ceilings.N)
+
+-- what a search for a peer tells
+pub has_here : (p j : ℕ) (m : Map ℕ) → Ascending (keys m) → Here (keys m) p j → true ≡ has p m
+has_here p j m up h = sym (ap is_some (lookup-here p j (entry 0 0) m up h))
+
+pub has-between : (p j : ℕ) (m : Map ℕ) → Between (keys m) p j → false ≡ has p m
+has-between p j m b = sym (ap is_some (lookup-between p j m b))
+
+-- a graft is out
+pub out-away : (sender round : ℕ) (m : Map ℕ) (t : Bool) → any (λ e. leb e.value round) m ≡ true → t ≡ has sender m → not t ≡ graftOut sender round m
+unfolding graftOut
+out-away sender round m t w e = ap not e ∙ ap (λ (b : Bool). b && not (has sender m)) (sym w)
+
+pub out_none : (sender round : ℕ) (m : Map ℕ) → any (λ e. leb e.value round) m ≡ false → false ≡ graftOut sender round m
+unfolding graftOut
+out_none sender round m w = ap (λ (b : Bool). b && not (has sender m)) (sym w)
+
+pub out-empty : (sender round : ℕ) → false ≡ graftOut sender round []
+unfolding graftOut any
+out-empty sender round = refl
+
+-- the peers of the entry that was found
+pub held-peers : (s : State) (id : ℕ) (found : Option Grafts) (r : Held) → HeldIs (entry 0 (record { expires = 0; value = record { first = none; kept = none; peers = [] } })) s.grafted.entries id found r → heldPeers s r ≡ peersOf found
+unfolding peersOf
+held-peers s id found (At i) h = sym (ap peersOf h.value)
+held-peers s id found Nothing h = sym (ap peersOf h)
+
+-- the entry that was found is one of those in the block
+pub held_below : (h : Head) (xs : List ℕ) (id : ℕ) (found : Option Grafts) (r : Held) → Fit h xs
+    → HeldIs (entry 0 (record { expires = 0; value = record { first = none; kept = none; peers = [] } })) (state_of h xs).grafted.entries id found r → HeldBelow h.live.grafted r
+held_below h xs id found (At i) fit x = omega (arith, x.below, count-grafted h xs fit)
+held_below h xs id found Nothing fit x = tt

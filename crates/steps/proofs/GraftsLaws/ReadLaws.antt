@@ -1,0 +1,87 @@
+-- What the bytes of a grafted message say: its `first` and its `kept`.
+-- Assumes nothing.
+use mathlib.Core.Path.{◌≡◌, sym, ap, ◌∙◌}
+use mathlib.Core.Bool.{Bool, true, false}
+use mathlib.Core.List.{List, []}
+use mathlib.Core.Option.{Option, none, some}
+use Prim.Native.Nat.{ℕ, ◌+◌, ◌*◌, ◌≤◌, ◌<◌}
+use native.Mathlib.Omega.{arith}
+use borrow.Author.Tests.{eq-eqb, ne_eqb}
+use lib.Dec.{lit<, eqb}
+use lib.ListN.{take, drop, get_or}
+use lib.Seq.{drop-drop, get_or-drop}
+use Rattle.std.specs.Prelude.{if◌then◌else◌}
+use Rattle.storage.specs.Lists.Map.{Entry}
+use Rattle.storage.specs.Rows.Part.{part}
+use Rattle.storage.specs.Rows.Digits.{leNat}
+use Rattle.storage.specs.Rows.Rows.{field_of}
+use Rattle.storage.specs.Refs.Refs.{Ref, ref, refOf, refs}
+use Rattle.storage.proofs.RefsLaws.Places.{ref-at}
+use Rattle.time_cache.specs.TimeCache.{Timed}
+use Rattle.time_cache.specs.Steps.{ref_at}
+use Rattle.protocol.specs.State.{Limits, Grafts}
+use Rattle.protocol.specs.Gossips.{sameAs}
+use Rattle.block.specs.Layout.{place, table}
+use Rattle.block.specs.View.{state_of, limitsOf, byte_at, halfAt, flagOf, only_if, graftsOf}
+use Rattle.block.specs.Sound.{Sound}
+use Rattle.block.specs.MissingSteps.{hop}
+use Rattle.block.specs.declared.head.Head.{Head}
+use Rattle.block.proofs.Tables.{field_in, byte-in}
+use Rattle.block.specs.Caches.GraftSteps.{graftsAt}
+use Rattle.block.proofs.CachesLaws.GraftLaws.{grafted-entry}
+
+module _ (h : Head) (xs : List ℕ) (sound : Sound h xs) (i : ℕ) (q : i < h.live.grafted) (a : ℕ) (at : a ≡ place (limitsOf h.limits) 7 + 119 * i) where
+  abbrev l : Limits
+  l = limitsOf h.limits
+
+  abbrev own : List ℕ
+  own = (ref_at (refs 119 h.live.grafted (table l 7 xs)) i).own
+
+  own_row : own ≡ drop 2 (part (i * 119) 119 (table l 7 xs))
+  unfolding refOf
+  own_row = ap (λ (r : Ref). r.own) (ref-at 119 h.live.grafted i (ref 0 []) (table l 7 xs) q)
+
+  own-byte : (o : ℕ) → 2 + o < 119 → byte_at o own ≡ get_or xs (a + (2 + o)) 0
+  own-byte o w =
+      let e : place l 7 + (i * 119 + (2 + o)) ≡ a + (2 + o) = omega (arith, at) in
+      ap (λ (b : List ℕ). get_or b o 0) own_row
+      ∙ get_or-drop 2 (part (i * 119) 119 (table l 7 xs)) o 0
+      ∙ byte-in l 7 119 i (2 + o) xs (lit< tt) w (omega (arith, sound.fit.within.grafted))
+      ∙ ap (λ (n : ℕ). get_or xs n 0) e
+
+  own-part : (o k : ℕ) → 2 + o + k ≤ 119 → part o k own ≡ part (a + (2 + o)) k xs
+  unfolding part
+  own-part o k w =
+      let e : place l 7 + (i * 119 + (2 + o)) ≡ a + (2 + o) = omega (arith, at) in
+      let z : o + 2 ≡ 2 + o = omega arith in
+      ap (part o k) own_row
+      ∙ ap (take k) (drop-drop o 2 (part (i * 119) 119 (table l 7 xs)))
+      ∙ field_in l 7 119 i (2 + o) k xs (lit< tt) w (omega (arith, sound.fit.within.grafted))
+      ∙ ap (λ (n : ℕ). part n k xs) e
+
+  pub read_first : (graftsAt (state_of h xs) i).first ≡ only_if (flagOf (get_or xs (a + 2) 0)) (hop (leNat (part (a + 3) 8 xs)) (leNat (part (a + 11) 2 xs)))
+  unfolding graftsOf field_of halfAt
+  read_first =
+      ap (λ (e : Entry (Timed Grafts)). e.value.value.first) (grafted-entry h xs sound i q)
+      ∙ (λ k. only_if (flagOf (own-byte 0 (omega arith) k)) (hop (leNat (own-part 1 8 (omega arith) k)) (leNat (own-part 9 2 (omega arith) k))))
+
+  pub read_kept : (graftsAt (state_of h xs) i).kept ≡ only_if (flagOf (get_or xs (a + 13) 0)) (leNat (part (a + 14) 8 xs))
+  unfolding graftsOf field_of
+  read_kept =
+      ap (λ (e : Entry (Timed Grafts)). e.value.value.kept) (grafted-entry h xs sound i q)
+      ∙ (λ k. only_if (flagOf (own-byte 11 (omega arith) k)) (leNat (own-part 12 8 (omega arith) k)))
+
+-- a flag that is 0, and one that is not
+pub flag-none : {A : Type 0} (b : ℕ) (v : A) → b ≡ 0 → only_if (flagOf b) v ≡ none
+flag-none b v e = ap (λ (t : Bool). only_if (if t then false else true) v) (eq-eqb b 0 e)
+
+pub flag-some : {A : Type 0} (b : ℕ) (v : A) → (b ≡ 0 → ⊥) → only_if (flagOf b) v ≡ some v
+flag-some b v e = ap (λ (t : Bool). only_if (if t then false else true) v) (ne_eqb b 0 e)
+
+pub same_none : (p : ℕ) (o : Option ℕ) → o ≡ none → false ≡ sameAs p o
+unfolding sameAs
+same_none p o e = sym (ap (sameAs p) e)
+
+pub same_some : (p k : ℕ) (o : Option ℕ) → o ≡ some k → eqb p k ≡ sameAs p o
+unfolding sameAs
+same_some p k o e = sym (ap (sameAs p) e)

@@ -1,0 +1,157 @@
+-- The numbers of entries of a state that stands, and of what a first event, EvictCache and neighbour down leave of it: within the limits, and so within document 01's ceilings.
+-- Assumes nothing.
+use Prim.Native.Nat.{ℕ, ◌≤◌}
+use mathlib.Core.Path.{◌≡◌, refl, sym, ◌∙◌, subst}
+use mathlib.Core.Bool.{true}
+use mathlib.Core.List.{List}
+use native.Mathlib.Omega.{arith}
+use borrow.Author.Tests.{le-leb}
+use Rattle.storage.proofs.ListsLaws.MapLaws.{cases, and_intro}
+use Rattle.protocol.specs.State.{State}
+use Rattle.protocol.specs.Whole.{fits, whole}
+use Rattle.protocol.proofs.Consistent.{consistent-whole}
+use Rattle.block.specs.View.{state_of, limitsOf}
+use Rattle.block.specs.Fit.{Fit}
+use Rattle.block.specs.Sound.{Sound}
+use Rattle.block.specs.declared.head.Head.{Head}
+use Rattle.decide.specs.Sizes.{Sizes, sizesOf, fitSizes}
+use Rattle.decide.specs.SizesAfter.{downSizes}
+use Rattle.decide.specs.Settled.{settled}
+use Rattle.decide.proofs.Decide.{Below, fit-below, down-below, evict-below}
+use Rattle.decide.proofs.TableSizes.{fits-sizes}
+use Rattle.steps.specs.Stands.{Stands}
+use Rattle.steps.proofs.SettledLaws.SizeLaws.{sizes-live, sizes-still, sizes-evicted}
+
+-- within the ceilings
+pub record Few (z : Sizes) : Type 0 where
+  pub links : z.links ≤ 32
+  pub received : z.received ≤ 2048
+  pub receivedExpiry : z.receivedExpiry ≤ 4096
+  pub cached : z.cached ≤ 512
+  pub cachedExpiry : z.cachedExpiry ≤ 1024
+  pub content : z.content ≤ 1048576
+  pub grafted : z.grafted ≤ 512
+  pub graftedExpiry : z.graftedExpiry ≤ 1024
+  pub missing : z.missing ≤ 512
+  pub timers : z.timers ≤ 512
+  pub queued : z.queued ≤ 8192
+  pub recorded : z.recorded ≤ 4096
+
+few-below : (z y : Sizes) → Below z y → Few y → Few z
+few-below z y b f = record {
+  links = omega (arith, b.links, f.links);
+  received = omega (arith, b.received, f.received);
+  receivedExpiry = omega (arith, b.receivedExpiry, f.receivedExpiry);
+  cached = omega (arith, b.cached, f.cached);
+  cachedExpiry = omega (arith, b.cachedExpiry, f.cachedExpiry);
+  content = omega (arith, b.content, f.content);
+  grafted = omega (arith, b.grafted, f.grafted);
+  graftedExpiry = omega (arith, b.graftedExpiry, f.graftedExpiry);
+  missing = omega (arith, b.missing, f.missing);
+  timers = omega (arith, b.timers, f.timers);
+  queued = omega (arith, b.queued, f.queued);
+  recorded = omega (arith, b.recorded, f.recorded);
+}
+
+-- the header's numbers
+abbrev liveSizes : Head → Sizes
+liveSizes h = record {
+  links = h.live.links;
+  received = h.live.received;
+  receivedExpiry = h.live.received_rows;
+  cached = h.live.cached;
+  cachedExpiry = h.live.cached_rows;
+  content = h.live.contents;
+  grafted = h.live.grafted;
+  graftedExpiry = h.live.grafted_rows;
+  missing = h.live.missing;
+  timers = h.live.timers;
+  queued = h.live.queued;
+  recorded = h.live.dropped;
+}
+
+module _ (h : Head) (xs : List ℕ) (sound : Sound h xs) where
+  live : liveSizes h ≡ sizesOf (state_of h xs)
+  live = sizes-live h xs sound (liveSizes h) refl refl refl refl refl refl refl refl refl refl refl refl
+
+  few-live : Fit h xs → Few (liveSizes h)
+  few-live f = record {
+    links = omega (arith, f.within.links, f.ceilings.N);
+    received = omega (arith, f.within.received, f.ceilings.R);
+    receivedExpiry = omega (arith, f.within.receivedRows, f.ceilings.R);
+    cached = omega (arith, f.within.cached, f.ceilings.C);
+    cachedExpiry = omega (arith, f.within.cachedRows, f.ceilings.C);
+    content = omega (arith, f.within.contents, f.ceilings.B);
+    grafted = omega (arith, f.within.grafted, f.ceilings.G);
+    graftedExpiry = omega (arith, f.within.graftedRows, f.ceilings.G);
+    missing = omega (arith, f.within.missing, f.ceilings.S);
+    timers = omega (arith, f.within.timers, f.ceilings.T);
+    queued = omega (arith, f.within.queued, f.ceilings.Q);
+    recorded = omega (arith, f.within.dropped, f.ceilings.D);
+  }
+
+  pub few-now : Few (sizesOf (state_of h xs))
+  few-now = subst Few live (few-live sound.fit)
+
+  -- question 13 of the numbers as they stand
+  fit-live : Fit h xs → fitSizes (limitsOf h.limits) (liveSizes h) ≡ true
+  unfolding fitSizes
+  fit-live f =
+      and_intro (and_intro (and_intro (and_intro (and_intro (and_intro (and_intro (and_intro
+      (le-leb _ _ f.within.links)
+      (and_intro (le-leb _ _ f.within.received) (le-leb _ _ f.within.receivedRows)))
+      (and_intro (le-leb _ _ f.within.cached) (le-leb _ _ f.within.cachedRows)))
+      (le-leb _ _ f.within.contents))
+      (and_intro (le-leb _ _ f.within.grafted) (le-leb _ _ f.within.graftedRows)))
+      (le-leb _ _ f.within.missing))
+      (le-leb _ _ f.within.timers))
+      (le-leb _ _ f.within.queued))
+      (le-leb _ _ f.within.dropped)
+
+  pub fit-now : fitSizes (limitsOf h.limits) (sizesOf (state_of h xs)) ≡ true
+  fit-now = subst (λ (z : Sizes). fitSizes (limitsOf h.limits) z ≡ true) live (fit-live sound.fit)
+
+  pub sound-fits : fits (state_of h xs) ≡ true
+  unfolding state_of
+  sound-fits = fits-sizes (state_of h xs) ∙ fit-now
+
+-- a first event's work: nothing grows
+settled-below : (now : ℕ) (s : State) → Below (sizesOf (settled now s)) (sizesOf s)
+settled-below now s =
+    cases s.init
+    (λ e. subst (λ (z : Sizes). Below z (sizesOf s)) (sym (sizes-still now s e)) (all_same (sizesOf s)))
+    (λ e. subst (λ (z : Sizes). Below z (sizesOf s)) (sym (sizes-evicted now s e)) (evict-below now s))
+  where
+    same : (n : ℕ) → n ≤ n
+    same n = omega arith
+
+    all_same : (z : Sizes) → Below z z
+    all_same z = record {
+      links = same _;
+      received = same _;
+      receivedExpiry = same _;
+      cached = same _;
+      cachedExpiry = same _;
+      content = same _;
+      grafted = same _;
+      graftedExpiry = same _;
+      missing = same _;
+      timers = same _;
+      queued = same _;
+      recorded = same _;
+    }
+
+module _ (now : ℕ) (h : Head) (xs : List ℕ) (sound : Sound h xs) where
+  abbrev s : State
+  s = state_of h xs
+
+  pub few-then : Few (sizesOf (settled now s))
+  few-then = few-below (sizesOf (settled now s)) (sizesOf s) (settled-below now s) (few-now h xs sound)
+
+-- neighbour down is never answered 13
+pub fit-down : (p : ℕ) (h : Head) (xs : List ℕ) → Sound h xs → fitSizes (limitsOf h.limits) (downSizes p (state_of h xs)) ≡ true
+fit-down p h xs sound = fit-below (limitsOf h.limits) (downSizes p (state_of h xs)) (sizesOf (state_of h xs)) (down-below p (state_of h xs)) (fit-now h xs sound)
+
+-- what stands is whole
+pub stands-whole : (h : Head) (xs : List ℕ) → Stands h xs → whole (state_of h xs) ≡ true
+stands-whole h xs s = consistent-whole (state_of h xs) s.consistent s.ranged (sound-fits h xs s.sound)

@@ -1,0 +1,182 @@
+-- The numbers of entries, as they stand and as eviction leaves them, and a sum over the entries as a loop makes it.
+-- Assumes nothing.
+use Prim.Native.Nat.{ℕ, zero, suc, ◌+◌, ◌*◌, ◌≤◌, ◌<◌}
+use mathlib.Core.Path.{◌≡◌, refl, sym, ap, ◌∙◌}
+use mathlib.Core.Bool.{Bool, true, false, not, ◌&&◌}
+use mathlib.Core.List.{List, [], ◌∷◌}
+use native.Mathlib.Numerals.{add-one}
+use native.Mathlib.Omega.{arith}
+use borrow.Author.Tests.{not-true, not-false}
+use lib.Dec.{leb, ltb}
+use lib.ListN.{length, get_or, take}
+use Rattle.std.specs.Prelude.{if◌then◌else◌}
+use Rattle.storage.specs.Lists.Base.{sum}
+use Rattle.storage.specs.Lists.Map.{Map}
+use Rattle.storage.proofs.RowsLaws.Parts.{length_part}
+use Rattle.time_cache.specs.TimeCache.{Timed, laterCache}
+use Rattle.protocol.specs.State.{State, Cached}
+use Rattle.protocol.specs.Whole.{contentHeld}
+use Rattle.block.specs.Layout.{place}
+use Rattle.block.specs.View.{state_of, limitsOf}
+use Rattle.block.specs.Sound.{Sound}
+use Rattle.block.specs.declared.head.Head.{Head}
+use Rattle.block.specs.declared.head.Limits.{Limits}
+use Rattle.block.proofs.LinkLaws.{count-links}
+use Rattle.block.proofs.MissingLaws.{count-missing}
+use Rattle.block.proofs.TimerLaws.{count-timers}
+use Rattle.block.proofs.NoteLaws.{count-queue, count-dropped}
+use Rattle.block.specs.Caches.CachedReads.{cachedAt, ContentIs}
+use Rattle.block.specs.declared.caches.cached.Content.{Content}
+use Rattle.block.proofs.CachesLaws.ReceivedLaws.{count-received, count-received-rows}
+use Rattle.block.proofs.CachesLaws.CachedLaws.{count-cached, count-cached-rows}
+use Rattle.block.proofs.CachesLaws.GraftedLaws.{count-grafted, count-grafted-rows}
+use Rattle.decide.specs.Sizes.{Sizes, sizesOf}
+use Rattle.decide.specs.SizesAfter.{evictSizes, settledSizes}
+use Rattle.decide.specs.Settled.{settled}
+use Rattle.decide.proofs.SettledLaws.{length-later, expiry-later, settled-sizes}
+use Rattle.steps.specs.declared.Sizes.{Sizes as CodeSizes}
+use Rattle.steps.specs.Settled.Then.{noCached, laterBytes}
+
+-- a sum over the first entries, one more
+pub sum-next : {A : Type 0} (f : A → ℕ) (d : A) (i : ℕ) (m : List A) → i < length m → sum f (take (suc i) m) ≡ sum f (take i m) + f (get_or m i d)
+unfolding sum
+sum-next f d i [] h = absurd (omega arith)
+sum-next f d zero (x ∷ m) h = omega arith
+sum-next f d (suc i) (x ∷ m) h = omega (arith, sum-next f d i m (omega arith))
+
+pub sum-all : {A : Type 0} (f : A → ℕ) (i : ℕ) (m : List A) → length m ≤ i → sum f (take i m) ≡ sum f m
+unfolding sum
+sum-all f zero [] h = refl
+sum-all f (suc i) [] h = refl
+sum-all f zero (x ∷ m) h = absurd (omega arith)
+sum-all f (suc i) (x ∷ m) h = ap (λ (n : ℕ). f x + n) (sum-all f i m (omega arith))
+
+module _ (h : Head) (xs : List ℕ) (sound : Sound h xs) where
+  -- the header's numbers are those of the state
+  contents-held : h.live.contents ≡ contentHeld (state_of h xs)
+  unfolding state_of contentHeld
+  contents-held = sym sound.laid.used
+
+  pub sizes-live : (z : Sizes) → z.links ≡ h.live.links → z.received ≡ h.live.received → z.receivedExpiry ≡ h.live.received_rows → z.cached ≡ h.live.cached → z.cachedExpiry ≡ h.live.cached_rows
+      → z.content ≡ h.live.contents → z.grafted ≡ h.live.grafted → z.graftedExpiry ≡ h.live.grafted_rows → z.missing ≡ h.live.missing → z.timers ≡ h.live.timers → z.queued ≡ h.live.queued → z.recorded ≡ h.live.dropped
+      → z ≡ sizesOf (state_of h xs)
+  unfolding sizesOf
+  sizes-live z a b c d e f g i j k l m = λ p. record {
+    links = (a ∙ sym (count-links h xs)) p;
+    received = (b ∙ sym (count-received h xs sound.fit)) p;
+    receivedExpiry = (c ∙ sym (count-received-rows h xs sound.fit)) p;
+    cached = (d ∙ sym (count-cached h xs sound.fit)) p;
+    cachedExpiry = (e ∙ sym (count-cached-rows h xs sound.fit)) p;
+    content = (f ∙ contents-held) p;
+    grafted = (g ∙ sym (count-grafted h xs sound.fit)) p;
+    graftedExpiry = (i ∙ sym (count-grafted-rows h xs sound.fit)) p;
+    missing = (j ∙ sym (count-missing h xs)) p;
+    timers = (k ∙ sym (count-timers h xs)) p;
+    queued = (l ∙ sym (count-queue h xs sound)) p;
+    recorded = (m ∙ sym (count-dropped h xs sound)) p;
+  }
+
+-- the bytes of the first i contents that expire later
+abbrev pub Bytes : ℕ → Head → List ℕ → ℕ → ℕ → Type 0
+Bytes now h xs i total = total ≡ sum (laterBytes now) (take i (state_of h xs).cache.entries)
+
+module _ (now : ℕ) (h : Head) (xs : List ℕ) (sound : Sound h xs) where
+  abbrev es : Map (Timed Cached)
+  es = (state_of h xs).cache.entries
+
+  pub bytes-start : Bytes now h xs 0 0
+  unfolding sum
+  bytes-start = start es
+    where
+      start : (m : Map (Timed Cached)) → 0 ≡ sum (laterBytes now) (take 0 m)
+      start [] = refl
+      start (x ∷ m) = refl
+
+  -- the length of a content
+  pub length-content : (i : ℕ) (r : Content) → ContentIs h xs i r → length (cachedAt (state_of h xs) i).content ≡ r.len
+  length-content i r c =
+      ap length c.same ∙ length_part (place (limitsOf h.limits) 6 + r.start) r.len xs (omega (arith, c.within, sound.fit.within, sound.fit.long))
+
+  module _ (i total : ℕ) (q : i < h.live.cached) (b : Bytes now h xs i total) (t : ℕ) (e : t ≡ (get_or es i noCached).value.expires) where
+    next : Bytes now h xs (i + 1) (total + laterBytes now (get_or es i noCached))
+    next =
+        rw (add-one i) (ap (λ (n : ℕ). n + laterBytes now (get_or es i noCached)) b ∙ sym (sum-next (laterBytes now) noCached i es (omega (arith, count-cached h xs sound.fit))))
+
+    pub bytes-later : (r : Content) → ContentIs h xs i r → ltb now t ≡ true → Bytes now h xs (i + 1) (total + r.len)
+    bytes-later r c k =
+        let f : laterBytes now (get_or es i noCached) ≡ r.len = ap (λ (a : Bool). if a then length (cachedAt (state_of h xs) i).content else 0) (sym (ap (ltb now) e) ∙ k) ∙ length-content i r c in
+        ap (λ (n : ℕ). total + n) (sym f) ∙ next
+
+    pub bytes-gone : ltb now t ≡ false → Bytes now h xs (i + 1) total
+    bytes-gone k =
+        let f : laterBytes now (get_or es i noCached) ≡ 0 = ap (λ (a : Bool). if a then length (cachedAt (state_of h xs) i).content else 0) (sym (ap (ltb now) e) ∙ k) in
+        let z : total ≡ total + laterBytes now (get_or es i noCached) = omega (arith, f) in
+        z ∙ next
+
+  pub bytes-end : (i total : ℕ) → h.live.cached ≤ i → Bytes now h xs i total → total ≡ sum (laterBytes now) es
+  bytes-end i total q b = b ∙ sum-all (laterBytes now) i es (omega (arith, count-cached h xs sound.fit))
+
+  pub sizes-later : (z : Sizes) → z.links ≡ h.live.links → z.received ≡ length (laterCache now (state_of h xs).received).entries → z.receivedExpiry ≡ length (laterCache now (state_of h xs).received).expiry
+      → z.cached ≡ length (laterCache now (state_of h xs).cache).entries → z.cachedExpiry ≡ length (laterCache now (state_of h xs).cache).expiry → z.content ≡ sum (laterBytes now) es
+      → z.grafted ≡ length (laterCache now (state_of h xs).grafted).entries → z.graftedExpiry ≡ length (laterCache now (state_of h xs).grafted).expiry
+      → z.missing ≡ h.live.missing → z.timers ≡ h.live.timers → z.queued ≡ h.live.queued → z.recorded ≡ h.live.dropped
+      → z ≡ evictSizes now (state_of h xs)
+  unfolding evictSizes sizesOf
+  sizes-later z a b c d e f g i j k l m = λ p. record {
+    links = (a ∙ sym (count-links h xs)) p;
+    received = (b ∙ length-later now (state_of h xs).received) p;
+    receivedExpiry = (c ∙ expiry-later now (state_of h xs).received) p;
+    cached = (d ∙ length-later now (state_of h xs).cache) p;
+    cachedExpiry = (e ∙ expiry-later now (state_of h xs).cache) p;
+    content = f p;
+    grafted = (g ∙ length-later now (state_of h xs).grafted) p;
+    graftedExpiry = (i ∙ expiry-later now (state_of h xs).grafted) p;
+    missing = (j ∙ sym (count-missing h xs)) p;
+    timers = (k ∙ sym (count-timers h xs)) p;
+    queued = (l ∙ sym (count-queue h xs sound)) p;
+    recorded = (m ∙ sym (count-dropped h xs sound)) p;
+  }
+
+-- the sizes of the settled state, where `init` is set and where it is not
+module _ (now : ℕ) (s : State) where
+  pub sizes-still : s.init ≡ true → sizesOf (settled now s) ≡ sizesOf s
+  unfolding settledSizes
+  sizes-still e = settled-sizes now s ∙ rw e refl
+
+  pub sizes-evicted : s.init ≡ false → sizesOf (settled now s) ≡ evictSizes now s
+  unfolding settledSizes
+  sizes-evicted e = settled-sizes now s ∙ rw e refl
+
+-- the tests of question 13, in order
+abbrev pub test : Limits → CodeSizes → ℕ → Bool
+test l z i =
+    get_or
+    (leb z.links l.neighbours
+    ∷ (leb z.received l.received && leb z.received_rows (2 * l.received))
+    ∷ (leb z.cached l.cached && leb z.cached_rows (2 * l.cached))
+    ∷ leb z.contents l.content
+    ∷ (leb z.grafted l.grafted && leb z.grafted_rows (2 * l.grafted))
+    ∷ leb z.missing l.missing
+    ∷ leb z.timers l.timers
+    ∷ leb z.queued l.queued
+    ∷ leb z.dropped l.dropped
+    ∷ [])
+    i true
+
+-- two tests: the first fails, the second fails, the first holds
+pub no-first : {a : Bool} (b : Bool) → a ≡ false → (a && b) ≡ false
+no-first b e = ap (λ (x : Bool). x && b) e
+
+pub no_last : (a : Bool) {b : Bool} → b ≡ false → (a && b) ≡ false
+no_last true e = e
+no_last false e = refl
+
+pub yes-first : {a : Bool} (b : Bool) → a ≡ true → (a && b) ≡ b
+yes-first b e = ap (λ (x : Bool). x && b) e
+
+-- what a function's answer r tells of the test t that it is
+pub no : {r t : Bool} → r ≡ t → not r ≡ true → t ≡ false
+no {r} e h = sym e ∙ not-true r h
+
+pub yes : {r t : Bool} → r ≡ t → not r ≡ false → t ≡ true
+yes {r} e h = sym e ∙ not-false r h

@@ -1,0 +1,75 @@
+-- Eviction twice at one instant is eviction once; the numbers after neighbour up.
+-- Assumes nothing.
+use Prim.Native.Nat.{ℕ, suc, ◌+◌}
+use mathlib.Core.Path.{◌≡◌, refl, sym, ap, ◌∙◌}
+use mathlib.Core.Bool.{Bool, true, false}
+use mathlib.Core.List.{List, [], ◌∷◌}
+use native.Mathlib.Numerals.{add-one}
+use native.Mathlib.Omega.{arith}
+use lib.Dec.{ltb}
+use lib.ListN.{length}
+use Rattle.std.specs.Prelude.{if◌then◌else◌}
+use Rattle.storage.specs.Lists.Base.{is_some, filter, count, sum}
+use Rattle.storage.specs.Lists.Map.{keys}
+use Rattle.storage.proofs.ListsLaws.MapLaws.{cases}
+use Rattle.storage.specs.Rows.Sorted.{Ascending, Here, Between}
+use Rattle.time_cache.specs.TimeCache.{laterCache}
+use Rattle.time_cache.proofs.MapPlaces.{lookup-here, lookup-between}
+use Rattle.protocol.specs.Links.{eager, isNeighbour}
+use Rattle.protocol.specs.State.{State}
+use Rattle.decide.specs.Sizes.{Sizes, sizesOf, sizedLinks, grown}
+use Rattle.decide.specs.SizesAfter.{evictSizes, upSizes}
+use Rattle.decide.specs.Settled.{settled}
+use Rattle.steps.proofs.SettledLaws.ThenLaws.{settled-still}
+
+module _ {A : Type 0} (f : A → Bool) where
+  -- what is counted twice is counted once
+  count-again : (xs : List A) → count f (filter f xs) ≡ count f xs
+  unfolding count filter
+  count-again [] = refl
+  count-again (x ∷ xs) = cases (f x) (λ p. rw p (rw p (ap suc (count-again xs)))) (λ p. rw p (count-again xs))
+
+  sum-again : (g : A → ℕ) (xs : List A) → sum (λ x. if f x then g x else 0) (filter f xs) ≡ sum (λ x. if f x then g x else 0) xs
+  unfolding sum filter
+  sum-again g [] = refl
+  sum-again g (x ∷ xs) = cases (f x) (λ p. rw p (rw p (ap (λ (n : ℕ). g x + n) (sum-again g xs)))) (λ p. rw p (omega (arith, sum-again g xs)))
+
+again : (now : ℕ) (s : State) → s.init ≡ false → evictSizes now (settled now s) ≡ evictSizes now s
+unfolding evictSizes sizesOf settled laterCache
+again now s e = rw e (λ p. record {
+  links = length s.links;
+  received = count-again (λ x. ltb now x.value.expires) s.received.entries p;
+  receivedExpiry = count-again (λ x. ltb now x.time) s.received.expiry p;
+  cached = count-again (λ x. ltb now x.value.expires) s.cache.entries p;
+  cachedExpiry = count-again (λ x. ltb now x.time) s.cache.expiry p;
+  content = sum-again (λ x. ltb now x.value.expires) (λ x. length x.value.value.content) s.cache.entries p;
+  grafted = count-again (λ x. ltb now x.value.expires) s.grafted.entries p;
+  graftedExpiry = count-again (λ x. ltb now x.time) s.grafted.expiry p;
+  missing = length s.missing;
+  timers = length s.timers.graft;
+  queued = length s.queue;
+  recorded = length s.dropped;
+})
+
+pub evict-again : (now : ℕ) (s : State) → evictSizes now (settled now s) ≡ evictSizes now s
+evict-again now s = cases s.init (λ e. ap (evictSizes now) (settled-still now s e)) (again now s)
+
+-- neighbour up, by where the peer stands
+module _ (p : ℕ) (s : State) where
+  pub up-there : (i : ℕ) → Ascending (keys s.links) → Here (keys s.links) p i → (z : Sizes) → z ≡ sizesOf s → z ≡ upSizes p s
+  unfolding upSizes sizesOf grown
+  up-there i a h z e =
+      let t : isNeighbour p s.links ≡ true = ap is_some (lookup-here p i (record { key = 0; value = eager }) s.links a h) in
+      e ∙ (λ k. sizedLinks (grown (sym t k) (length s.links)) (sizesOf s))
+
+  one_more : sizedLinks ((sizesOf s).links + 1) (sizesOf s) ≡ sizedLinks (suc (length s.links)) (sizesOf s)
+  unfolding sizesOf
+  one_more = ap (λ (n : ℕ). sizedLinks n (sizesOf s)) (add-one (length s.links))
+
+  pub up-new : (i : ℕ) → Between (keys s.links) p i → (z : Sizes) → z ≡ sizesOf s → sizedLinks (z.links + 1) z ≡ upSizes p s
+  unfolding upSizes grown
+  up-new i b z e =
+      let t : isNeighbour p s.links ≡ false = ap is_some (lookup-between p i s.links b) in
+      ap (λ (y : Sizes). sizedLinks (y.links + 1) y) e
+      ∙ one_more
+      ∙ (λ k. sizedLinks (grown (sym t k) (length s.links)) (sizesOf s))

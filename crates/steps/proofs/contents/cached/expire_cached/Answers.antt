@@ -1,0 +1,34 @@
+-- `cached::expire_cached` meets its contract: the two tables are left to `expire_until`, and the contents that are left move to the front.
+use mathlib.Core.Path.{sym, ◌∙◌, subst}
+use Rattle.time_cache.specs.Tables.{Lies, Sound}
+use Rattle.time_cache.specs.Steps.{Expires}
+use Rattle.time_cache.specs.declared.cache.TimeBoundCache.{TimeBoundCache}
+use Rattle.block.specs.Heads.{withCachedCounts}
+use Rattle.block.proofs.CachesLaws.CachedLaws.{cached-lies, cached-sound}
+use Rattle.steps.proofs.ContentsLaws.Closing.{ExpiredAhead, expired-ahead}
+use Rattle.steps.proofs.contents.cached.expire_cached.Goals as goal
+use Rattle.steps.proofs.contents.cached.expire_cached.Goals.{After-expire_until-e, Start}
+
+-- what the two tables leave
+module _ (d : After-expire_until-e) where
+  abbrev s : Start
+  s = (goal.at.After-expire_until-e d).Start
+
+  expired : ExpiredAhead s.args.h s.args.block.now s.args.instant.0 (withCachedCounts d.expire_until-e.result.cache.entries.len d.expire_until-e.result.cache.expiry.len s.args.h.live.contents s.args.h) d.expire_until-e.new.block
+  expired =
+      expired-ahead s.args.h s.args.block.now d.expire_until-e.new.block s.args.instant.0 d.expire_until-e.result s.requires.0 s.requires.1 d.expire_until-e.auto.block
+      (subst (λ (t : TimeBoundCache). Expires t s.args.instant.0 s.args.block.now d.expire_until-e.result d.expire_until-e.new.block) d.cached_cache-c.ensures d.expire_until-e.ensures)
+
+pub expire_until-e-requires : goal.expire_until-e-requires
+expire_until-e-requires c =
+    let h = c.args.h in
+    let xs = c.args.block.now in
+    subst (λ (t : TimeBoundCache). Lies t xs × Sound t xs) (sym c.cached_cache-c.ensures) (cached-lies h xs c.requires.0.fit, cached-sound h xs c.requires.0 c.requires.1)
+
+pub close_contents-requires : goal.close_contents-requires
+close_contents-requires c = (expired (goal.at.close_contents-requires c).After-expire_until-e).ahead
+
+pub returns : goal.returns
+returns c =
+    let g = c.close_contents.ensures in
+    record { state = g.state ∙ (expired (goal.at.returns c).After-expire_until-e).state; sound = g.sound }

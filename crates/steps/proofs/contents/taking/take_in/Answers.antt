@@ -1,0 +1,37 @@
+-- `taking::take_in` meets its contract: the message is marked received, and then cached.
+use native.Mathlib.Omega.{arith}
+use Rattle.storage.specs.Rows.Ident.{id_of}
+use Rattle.steps.proofs.StandsLaws.{received-order}
+use Rattle.steps.specs.Contents.Taking.{forgottenAt, uncachedAt}
+use Rattle.steps.proofs.ContentsLaws.Takings.{times-fit, order-then, most-then, bytes-then, taken-goes}
+use Rattle.steps.proofs.contents.taking.take_in.Goals as goal
+
+pub overflow_add-forgotten : goal.overflow_add-forgotten
+overflow_add-forgotten c =
+    omega (arith, c.requires.early, (times-fit c.args.h c.args.block.now c.requires.stands).0)
+
+pub overflow_add-uncached : goal.overflow_add-uncached
+overflow_add-uncached c =
+    omega (arith, c.requires.early, (times-fit c.args.h c.args.block.now c.requires.stands).1)
+
+pub insert_received-a-requires : goal.insert_received-a-requires
+insert_received-a-requires c =
+    (c.requires.stands.sound, received-order c.args.h c.args.block.now c.requires.stands, c.requires.received)
+
+pub insert_cached-requires : goal.insert_cached-requires
+insert_cached-requires c =
+    let a = c.args in
+    let k = id_of a.id in
+    let t = forgottenAt a.instant.0 a.h in
+    let e = uncachedAt a.instant.0 a.h in (
+      c.insert_received-a.ensures.sound,
+      order-then k t a.h c.insert_received-a.result a.block.now c.insert_received-a.new.block c.insert_received-a.ensures c.requires.stands,
+      most-then k t a.h c.insert_received-a.result a.block.now c.insert_received-a.new.block c.insert_received-a.ensures a.content.now a.round.0 e c.requires.cached,
+      bytes-then k t a.h c.insert_received-a.result a.block.now c.insert_received-a.new.block c.insert_received-a.ensures a.content.now a.round.0 e c.requires.bytes,
+    )
+
+pub returns : goal.returns
+returns c =
+    let a = c.args in
+    taken-goes a.instant.0 (id_of a.id) a.content.now a.round.0 a.h c.insert_received-a.result c.insert_cached.result a.block.now c.insert_received-a.new.block c.insert_cached.new.block
+    c.insert_received-a.ensures c.insert_cached.ensures

@@ -1,0 +1,14 @@
+-- `reads::find_graft` meets its contract: the peers before j are below the peer of the link, since links ascend by their peers.
+use Prim.Native.Nat.{ℕ, ◌-◌, ◌≤◌, ◌<◌}
+use lib.ListN.{get_or}
+use Rattle.storage.specs.Lists.Map.{keys}
+use Rattle.block.specs.View.{state_of}
+use Rattle.block.specs.LinkSteps.{peerAt}
+use Rattle.block.specs.Caches.GraftSteps.{graftsAt}
+use Rattle.steps.proofs.grafts.reads.find_graft.Given as goal
+
+abbrev pub invariant-loop-j : goal.invariant-loop-j
+invariant-loop-j l = (l.j ≤ l.n) × ((k : ℕ) → k < l.j → get_or (keys (graftsAt (state_of l.h l.block) l.i).peers) k 0 < peerAt (state_of l.h l.block) l.link)
+
+abbrev pub decreases-loop-j : goal.decreases-loop-j
+decreases-loop-j l = l.n - l.j

@@ -1,0 +1,60 @@
+-- `reads::grafted_within` meets its contract: no peer passed is grafted over so few hops.
+use mathlib.Core.Path.{◌≡◌, refl, sym, ap, ◌∙◌}
+use mathlib.Core.Bool.{Bool}
+use Prim.Native.Nat.{ℕ, ◌-◌, ◌<◌}
+use borrow.Author.Tests.{le-leb, lt-leb}
+use lib.Dec.{leb}
+use lib.ListN.{length, take, get_or}
+use lib.Seq.{take_all}
+use Rattle.storage.specs.Lists.Base.{any}
+use Rattle.storage.specs.Lists.Map.{Map, Entry, entry}
+use Rattle.block.specs.View.{state_of}
+use Rattle.block.proofs.Scans.{any_found, any-drop}
+use Rattle.block.specs.Caches.GraftSteps.{graftsAt}
+use native.Mathlib.Omega.{arith}
+use borrow.Author.Rules.{rules}
+use Rattle.steps.proofs.grafts.reads.grafted_within.Goals as goal
+use Rattle.steps.proofs.grafts.reads.grafted_within.Goals.{After-graft_at-k, Start}
+
+pub loop-j-init : goal.loop-j-init
+unfolding any
+loop-j-init c = (search rules, refl)
+
+pub graft_at-k-requires : goal.graft_at-k-requires
+graft_at-k-requires c =
+    (c.requires.0, c.requires.1, omega (arith, c.graft_count-n.ensures.0, c.loop-j-test.true))
+
+-- the peer that was read
+module _ (d : After-graft_at-k) where
+  abbrev s : Start
+  s = (goal.at.After-graft_at-k d).Start
+
+  abbrev ps : Map ℕ
+  ps = (graftsAt (state_of s.args.h s.args.block.now) s.args.i).peers
+
+  abbrev j : ℕ
+  j = d.loop-j.j
+
+  abbrev test : Entry ℕ → Bool
+  test e = leb e.value s.args.round.0
+
+  here : j < length ps
+  here = omega (arith, d.graft_count-n.ensures.0, d.loop-j-test.true)
+
+  value : (get_or ps j (entry 0 0)).value ≡ d.graft_at-k.result.round.0
+  value = ap (λ (e : Entry ℕ). e.value) d.graft_at-k.ensures.same
+
+pub returns-then-k-round : goal.returns-then-k-round
+returns-then-k-round c =
+    sym (any_found (test (goal.at.returns-then-k-round c).After-graft_at-k) (j (goal.at.returns-then-k-round c).After-graft_at-k) (entry 0 0) (ps (goal.at.returns-then-k-round c).After-graft_at-k) (here (goal.at.returns-then-k-round c).After-graft_at-k) (ap (λ (n : ℕ). leb n (s (goal.at.returns-then-k-round c).After-graft_at-k).args.round.0) (value (goal.at.returns-then-k-round c).After-graft_at-k) ∙ le-leb c.graft_at-k.result.round.0 (s (goal.at.returns-then-k-round c).After-graft_at-k).args.round.0 c.if-k-round.true))
+
+pub loop-j-preserved : goal.loop-j-preserved
+loop-j-preserved c =
+    (search rules, any-drop (test (goal.at.loop-j-preserved c).After-graft_at-k) (j (goal.at.loop-j-preserved c).After-graft_at-k) (entry 0 0) (ps (goal.at.loop-j-preserved c).After-graft_at-k) (here (goal.at.loop-j-preserved c).After-graft_at-k) (ap (λ (n : ℕ). leb n (s (goal.at.loop-j-preserved c).After-graft_at-k).args.round.0) (value (goal.at.loop-j-preserved c).After-graft_at-k) ∙ lt-leb c.graft_at-k.result.round.0 (s (goal.at.loop-j-preserved c).After-graft_at-k).args.round.0 (omega (arith, c.if-k-round.false))) ∙ c.loop-j.invariant.1)
+
+pub returns : goal.returns
+returns c =
+    let l = c.loop-j in
+    let m = (graftsAt (state_of c.args.h c.args.block.now) c.args.i).peers in
+    let all : take l.j m ≡ m = take_all l.j m (omega (arith, c.graft_count-n.ensures.0, c.loop-j-test.false)) in
+    sym (sym (ap (any (λ (e : Entry ℕ). leb e.value c.args.round.0)) all) ∙ l.invariant.1)

@@ -1,0 +1,8 @@
+-- `lower::keep_announced`: the rows that are retained, with their lists.
+use Rattle.steps.proofs.NeighboursLaws.LoweredRows.{kept-announced}
+use Rattle.steps.proofs.neighbours.lower.keep_announced.Goals as goal
+
+pub returns : goal.returns
+returns c =
+    let a = c.args in
+    (c.retain.ensures.0, kept-announced a.n c.retain.result a.b.now c.retain.new.b c.retain.ensures.1)

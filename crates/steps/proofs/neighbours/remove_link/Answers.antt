@@ -1,0 +1,23 @@
+-- `remove_link`: the link numbers are lowered, then the rows after the link move down.
+use mathlib.Core.Path.{sym, subst}
+use mathlib.Core.List.{List}
+use Prim.Native.Nat.{ℕ, ◌-◌}
+use lib.ListN.{get_or}
+use Rattle.storage.specs.Lists.Map.{keys}
+use Rattle.protocol.specs.Neighbours.{forgetPeer}
+use Rattle.block.specs.View.{state_of}
+use Rattle.block.specs.Goes.{Goes}
+use Rattle.block.specs.Heads.{withLinkCount}
+use Rattle.steps.proofs.NeighboursLaws.LinkOut.{link-out}
+use Rattle.steps.proofs.neighbours.remove_link.Goals as goal
+
+pub returns : goal.returns
+returns c =
+    let a = c.args in
+    let h = a.h in
+    let xs = a.block.now in
+    let r = c.lower_links-r.result in
+    let n = r.live.links in
+    subst (λ (zs : List ℕ). Goes (forgetPeer (get_or (keys (state_of h xs).links) a.i 0)) h xs (withLinkCount (n - 1) r) zs)
+    (sym c.move_down.ensures)
+    (link-out h xs c.requires.1 a.i c.requires.2 r c.lower_links-r.new.block c.lower_links-r.ensures)

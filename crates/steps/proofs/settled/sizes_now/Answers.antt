@@ -1,0 +1,7 @@
+-- `sizes_now`: the header's numbers are those of the state.
+use mathlib.Core.Path.{refl}
+use Rattle.steps.proofs.SettledLaws.SizeLaws.{sizes-live}
+use Rattle.steps.proofs.settled.sizes_now.Goals as goal
+
+pub returns : goal.returns
+returns c = sizes-live c.args.h c.args.block.now c.requires.sound _ refl refl refl refl refl refl refl refl refl refl refl refl

@@ -1,0 +1,16 @@
+-- `sizes_then`: with `init` set the numbers stand, and else those of what is later.
+use mathlib.Core.Path.{sym, ◌∙◌}
+use Rattle.block.specs.View.{state_of}
+use Rattle.steps.proofs.SettledLaws.ThenLaws.{init-of}
+use Rattle.steps.proofs.SettledLaws.SizeLaws.{sizes-still, sizes-evicted}
+use Rattle.steps.proofs.settled.sizes_then.Goals as goal
+
+pub returns-then-h : goal.returns-then-h
+returns-then-h c =
+    let a = c.args in
+    c.sizes_now.ensures ∙ sym (sizes-still a.instant.0 (state_of a.h a.block.now) (init-of a.h a.block.now ∙ c.if-h.true))
+
+pub returns : goal.returns
+returns c =
+    let a = c.args in
+    c.later_sizes.ensures ∙ sym (sizes-evicted a.instant.0 (state_of a.h a.block.now) (init-of a.h a.block.now ∙ c.if-h.false))

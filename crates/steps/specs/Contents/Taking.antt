@@ -1,0 +1,26 @@
+-- What is asked when a message is taken in.
+-- Assumes nothing.
+use Rattle.std.specs.Prelude.{ℕ, ◌+◌, ◌≤◌, ◌^◌, List}
+use Rattle.time_cache.specs.TimeCache.{put}
+use Rattle.block.specs.View.{state_of}
+use Rattle.block.specs.Sound.{held}
+use Rattle.block.specs.declared.head.Head.{Head}
+use Rattle.block.specs.Caches.InBlock.{AtMost}
+use Rattle.steps.specs.Stands.{Stands}
+use Rattle.steps.specs.Contents.CacheSteps.{message}
+
+-- when a message that is taken in at an instant is forgotten
+abbrev pub forgottenAt : ℕ → Head → ℕ
+forgottenAt instant h = instant + h.settings.config.message_id_retention.0
+
+-- when its content is forgotten
+abbrev pub uncachedAt : ℕ → Head → ℕ
+uncachedAt instant h = instant + h.settings.config.message_cache_retention.0
+
+-- the message caches with it are within their limits
+pub record TakesIn (instant id : ℕ) (content : List ℕ) (round : ℕ) (h : Head) (block : List ℕ) : Type 0 where
+  pub stands : Stands h block
+  pub early : instant ≤ 2 ^ 62
+  pub received : AtMost h.limits.received (put id tt (forgottenAt instant h) (state_of h block).received)
+  pub cached : AtMost h.limits.cached (put id (message content round) (uncachedAt instant h) (state_of h block).cache)
+  pub bytes : held (put id (message content round) (uncachedAt instant h) (state_of h block).cache).entries ≤ h.limits.content

@@ -1,0 +1,83 @@
+-- The tables and the whole block after link i went: its number is dropped wherever it stands, and those above it are one lower.
+-- Assumes nothing.
+use Rattle.std.specs.Prelude.{◌≡◌, Bool, not, List, ◌++◌, map, ℕ, ◌+◌, ◌-◌, ◌*◌, suc, ◌≤◌, ◌<◌, eqb, length, take, drop, get_or}
+use Rattle.storage.specs.Lists.Base.{filter}
+use Rattle.storage.specs.Lists.Map.{keys}
+use Rattle.storage.specs.Rows.Part.{part, Only}
+use Rattle.storage.specs.Rows.Rows.{rows}
+use Rattle.storage.specs.Refs.Refs.{Ref, ref}
+use Rattle.protocol.specs.State.{State, withMissing, withQueue, withDropped, withGrafted}
+use Rattle.protocol.specs.Neighbours.{forgetAnnouncer, withoutNotes, forgetGrafted}
+use Rattle.block.specs.Layout.{tables}
+use Rattle.block.specs.View.{byte_at, hopsIn, limitsOf, viewWith, state_of}
+use Rattle.storage.specs.Refs.Numbers.{lowerAll, entries}
+use Rattle.block.specs.Fit.{Fit}
+use Rattle.block.specs.Sound.{Laid}
+use Rattle.block.specs.Heads.{withLinkCount}
+use Rattle.block.specs.declared.head.Head.{Head}
+
+-- peers without the one at i
+abbrev pub withoutPeer : ℕ → List ℕ → List ℕ
+withoutPeer i ps = take i ps ++ drop (suc i) ps
+
+-- a row that ends with a list: what stands before the list, how many the list has, and its numbers with their rounds
+pub record Listed : Type 0 where
+  pub head : List ℕ
+  pub count : ℕ
+  pub hops : List Ref
+
+-- the list of the row stands at o
+unfoldable pub listed_of : ℕ → List ℕ → Listed
+listed_of o row = record { head = take o row; count = byte_at o row; hops = hopsIn ref (drop o row) }
+
+-- n rows of s bytes
+unfoldable pub listed : ℕ → ℕ → ℕ → List ℕ → List Listed
+listed o s n bytes = map (listed_of o) (rows s n bytes)
+
+-- the row after link i went
+abbrev pub lowerListed : ℕ → Listed → Listed
+lowerListed i r = record { head = r.head; count = length (lowerAll i r.hops); hops = lowerAll i r.hops }
+
+-- the list of the row is not empty
+abbrev pub announced : Listed → Bool
+announced r = not (eqb r.count 0)
+
+-- the lists at o of n rows of s bytes have at most 32 each
+pub record AllFew (o s n : ℕ) (bytes : List ℕ) : Type 0 where
+  pub each : (j : ℕ) → j < n → get_or bytes (j * s + o) 0 ≤ 32
+
+-- the lists at o of the n rows of s bytes in the k bytes at a are lowered, and nothing else has changed
+pub record LoweredIn (i a k s n o : ℕ) (xs ys : List ℕ) : Type 0 where
+  pub rows : listed o s n (part a k ys) ≡ map (lowerListed i) (listed o s n (part a k xs))
+  pub only : Only a k xs ys
+  pub long : length ys ≡ length xs
+
+-- of the n missing messages in the k bytes at a those that are still announced are left, r in number, with their lists lowered
+pub record MissedIn (i a k n : ℕ) (xs ys : List ℕ) (r : ℕ) : Type 0 where
+  pub few : r ≤ n
+  pub rows : listed 32 129 r (part a k ys) ≡ filter announced (map (lowerListed i) (listed 32 129 n (part a k xs)))
+  pub only : Only a k xs ys
+  pub long : length ys ≡ length xs
+
+-- of the n numbers at the start of the k bytes at a, and the n rows of 34 bytes at o of these, r are left
+pub record NotesIn (i a k o n : ℕ) (xs ys : List ℕ) (r : ℕ) : Type 0 where
+  pub few : r ≤ n
+  pub left : entries o 34 r (part a k ys) ≡ lowerAll i (entries o 34 n (part a k xs))
+  pub only : Only a k xs ys
+  pub long : length ys ≡ length xs
+
+-- without a peer's announcements, notes and grafts; the links are as they were
+abbrev pub withoutTraces : ℕ → State → State
+withoutTraces p s =
+    withGrafted (forgetGrafted p s.grafted)
+    (withDropped (withoutNotes p s.dropped)
+    (withQueue (withoutNotes p s.queue)
+    (withMissing (forgetAnnouncer p s.missing) s)))
+
+-- the link numbers of the whole block are lowered: without the peer at i they stand for what they stood for, where its traces are gone, and they are below
+-- one link less
+pub record LoweredLinks (i : ℕ) (h : Head) (xs : List ℕ) (r : Head) (ys : List ℕ) : Type 0 where
+  pub same : viewWith (withoutPeer i (keys (state_of h xs).links)) r (tables (limitsOf r.limits) ys) ≡ withoutTraces (get_or (keys (state_of h xs).links) i 0) (state_of h xs)
+  pub links : r.live.links ≡ h.live.links
+  pub fit : Fit r ys
+  pub laid : Laid (withLinkCount (r.live.links - 1) r) (tables (limitsOf r.limits) ys)

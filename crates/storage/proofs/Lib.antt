@@ -1,0 +1,4 @@
+pub mod RowsLaws
+pub mod RefsLaws
+pub mod NotesLaws
+pub mod ListsLaws

@@ -1,0 +1,145 @@
+-- An identifier as four words, and its bytes; the order of the words is that of the numbers.
+-- Assumes nothing.
+use mathlib.Core.Path.{◌≡◌, refl, sym, ap, ◌∙◌}
+use mathlib.Core.Logic.{◌⊎◌, inl, inr}
+use mathlib.Core.Bool.{Bool, true, false}
+use mathlib.Core.List.{List, ◌++◌}
+use Prim.Native.Nat.{ℕ, zero, suc, ◌+◌, ◌*◌, ◌/◌, ◌%◌, ◌^◌, ◌≤◌, ◌<◌}
+use native.Mathlib.Nat.{mul_assoc, pow-suc, eq-or-lt_of_le}
+use native.Mathlib.Omega.{arith}
+use lib.ListN.{length}
+use lib.Arith.{digits_div, digits_lt}
+use borrow.Author.Tests.{lt-ltb, le-ltb, eq-eqb, ne_eqb, ltb-true, ltb-false}
+use lib.Dec.{ltb, eqb}
+use Rattle.storage.specs.Rows.Part.{part, put}
+use Rattle.storage.specs.Rows.Digits.{beNat, beBytes}
+use Rattle.storage.specs.Rows.Ident.{order_of}
+use Rattle.storage.specs.declared.rows.id.Order.TheVariants.{Less, Equal, Greater}
+use Rattle.storage.proofs.RowsLaws.Parts.{part-add, length_part, put-put-next}
+use Rattle.storage.proofs.RowsLaws.Digits.{beFrom-append, beFrom-high, beBytes-add, length-beBytes}
+
+-- k bytes and a word after them
+pub word_after : (at k : ℕ) (b : List ℕ) → at + k + 8 ≤ length b → beNat (part at (k + 8) b) ≡ beNat (part at k b) * 2 ^ 64 + beNat (part (at + k) 8 b)
+word_after at k b h =
+    ap beNat (part-add at k 8 b)
+    ∙ beFrom-append 0 (part at k b) (part (at + k) 8 b)
+    ∙ beFrom-high (beNat (part at k b)) (part (at + k) 8 b)
+    ∙ ap (λ (n : ℕ). beNat (part at k b) * 256 ^ n + beNat (part (at + k) 8 b)) (length_part (at + k) 8 b h)
+
+-- the low k bytes do not see what stands above them
+pub beBytes-low : (k q r : ℕ) → beBytes k (q * 256 ^ k + r) ≡ beBytes k r
+unfolding beBytes
+beBytes-low zero q r = refl
+beBytes-low (suc k) q r =
+    let e : q * 256 ^ suc k ≡ q * 256 ^ k * 256 = ap (λ (n : ℕ). q * n) (pow-suc 256 k) ∙ sym (mul_assoc q (256 ^ k) 256) in
+    let d : (q * 256 ^ suc k + r) / 256 ≡ q * 256 ^ k + r / 256 = omega arith in
+    let m : (q * 256 ^ suc k + r) % 256 ≡ r % 256 = omega arith in
+    rw (d, m, beBytes-low k q (r / 256))
+
+-- m bytes and a word after them
+pub bytes_after : (m q w : ℕ) → w < 2 ^ 64 → beBytes (m + 8) (q * 2 ^ 64 + w) ≡ beBytes m q ++ beBytes 8 w
+bytes_after m q w h = beBytes-add m 8 (q * 2 ^ 64 + w) ∙ (λ k. beBytes m (digits_div q h k) ++ beBytes-low 8 q w k)
+
+pub less : (a b : ℕ) → a < b → Less ≡ order_of a b
+less a b h = sym (simp (lt-ltb a b h))
+
+pub greater : (a b : ℕ) → b < a → Greater ≡ order_of a b
+greater a b h = sym (simp (le-ltb a b (omega arith), ne_eqb a b (λ e. omega arith)))
+
+pub equal : (a b : ℕ) → a ≡ b → Equal ≡ order_of a b
+equal a b h = sym (simp (le-ltb a b (omega arith), eq-eqb a b h))
+
+-- the four words that are read are the identifier's
+pub read-id : (b : List ℕ) (at w0 w1 w2 w3 : ℕ) → at + 32 ≤ length b
+    → w0 ≡ beNat (part at 8 b) → w1 ≡ beNat (part (at + 8) 8 b) → w2 ≡ beNat (part (at + 16) 8 b) → w3 ≡ beNat (part (at + 24) 8 b)
+    → ((w0 * 2 ^ 64 + w1) * 2 ^ 64 + w2) * 2 ^ 64 + w3 ≡ beNat (part at 32 b)
+read-id b at w0 w1 w2 w3 h e0 e1 e2 e3 =
+    rw (e0, e1, e2, e3, ← word_after at 8 b (omega arith), ← word_after at 16 b (omega arith)) (sym (word_after at 24 b (omega arith)))
+
+-- the four words that are written are the identifier's bytes
+pub write-id : (b : List ℕ) (at w0 w1 w2 w3 : ℕ) → at + 32 ≤ length b → w1 < 2 ^ 64 → w2 < 2 ^ 64 → w3 < 2 ^ 64
+    → put (at + 24) (beBytes 8 w3) (put (at + 16) (beBytes 8 w2) (put (at + 8) (beBytes 8 w1) (put at (beBytes 8 w0) b)))
+    ≡ put at (beBytes 32 (((w0 * 2 ^ 64 + w1) * 2 ^ 64 + w2) * 2 ^ 64 + w3)) b
+write-id b at w0 w1 w2 w3 h l1 l2 l3 =
+    let two : ℕ = w0 * 2 ^ 64 + w1 in
+    let three : ℕ = two * 2 ^ 64 + w2 in
+    ap (λ (t : List ℕ). put (at + 24) (beBytes 8 w3) (put (at + 16) (beBytes 8 w2) t)) (next 8 w0 w1 l1 (omega arith))
+    ∙ ap (λ (t : List ℕ). put (at + 24) (beBytes 8 w3) t) (next 16 two w2 l2 (omega arith))
+    ∙ next 24 three w3 l3 (omega arith)
+  where
+    next : (m q w : ℕ) → w < 2 ^ 64 → at + m + 8 ≤ length b → put (at + m) (beBytes 8 w) (put at (beBytes m q) b) ≡ put at (beBytes (m + 8) (q * 2 ^ 64 + w)) b
+    next m q w l f =
+        put-put-next at (at + m) (beBytes m q) (beBytes 8 w) b (omega (arith, length-beBytes m q)) (omega (arith, length-beBytes 8 w))
+        ∙ ap (λ (t : List ℕ). put at t b) (sym (bytes_after m q w l))
+
+-- a number of four words, and its order by the first word that differs
+abbrev pub four : ℕ → ℕ → ℕ → ℕ → ℕ
+four w0 w1 w2 w3 = ((w0 * 2 ^ 64 + w1) * 2 ^ 64 + w2) * 2 ^ 64 + w3
+
+pub id-lt : (w0 w1 w2 w3 : ℕ) → w0 < 2 ^ 64 → w1 < 2 ^ 64 → w2 < 2 ^ 64 → w3 < 2 ^ 64 → four w0 w1 w2 w3 < 256 ^ 32
+id-lt w0 w1 w2 w3 h0 h1 h2 h3 = digits_lt (digits_lt (digits_lt h0 h1) h2) h3
+
+high_lt : (h g l m : ℕ) → h < g → l < 2 ^ 64 → h * 2 ^ 64 + l < g * 2 ^ 64 + m
+high_lt h g l m p q = omega arith
+
+low-lt : (h g l m : ℕ) → h ≡ g → l < m → h * 2 ^ 64 + l < g * 2 ^ 64 + m
+low-lt h g l m p q = omega arith
+
+module _ (a0 a1 a2 a3 b0 b1 b2 b3 : ℕ) (l1 : a1 < 2 ^ 64) (l2 : a2 < 2 ^ 64) (l3 : a3 < 2 ^ 64) where
+  pub first-lt : a0 < b0 → four a0 a1 a2 a3 < four b0 b1 b2 b3
+  first-lt h = high_lt _ _ a3 b3 (high_lt _ _ a2 b2 (high_lt a0 b0 a1 b1 h l1) l2) l3
+
+  pub second_lt : a0 ≡ b0 → a1 < b1 → four a0 a1 a2 a3 < four b0 b1 b2 b3
+  second_lt e0 h = high_lt _ _ a3 b3 (high_lt _ _ a2 b2 (low-lt a0 b0 a1 b1 e0 h) l2) l3
+
+  pub third-lt : a0 ≡ b0 → a1 ≡ b1 → a2 < b2 → four a0 a1 a2 a3 < four b0 b1 b2 b3
+  third-lt e0 e1 h = high_lt _ _ a3 b3 (low-lt _ _ a2 b2 (λ k. e0 k * 2 ^ 64 + e1 k) h) l3
+
+  pub fourth-lt : a0 ≡ b0 → a1 ≡ b1 → a2 ≡ b2 → a3 < b3 → four a0 a1 a2 a3 < four b0 b1 b2 b3
+  fourth-lt e0 e1 e2 h = low-lt _ _ a3 b3 (λ k. (e0 k * 2 ^ 64 + e1 k) * 2 ^ 64 + e2 k) h
+
+pub four-eq : (a0 a1 a2 a3 b0 b1 b2 b3 : ℕ) → a0 ≡ b0 → a1 ≡ b1 → a2 ≡ b2 → a3 ≡ b3 → four a0 a1 a2 a3 ≡ four b0 b1 b2 b3
+four-eq a0 a1 a2 a3 b0 b1 b2 b3 e0 e1 e2 e3 = λ k. four (e0 k) (e1 k) (e2 k) (e3 k)
+
+-- of two numbers, which is below which
+pub tri : (a b : ℕ) → (a < b) ⊎ ((a ≡ b) ⊎ (b < a))
+tri a b = go (ltb a b) refl
+  where
+    else-go : (b ≡ a) ⊎ (b < a) → (a < b) ⊎ ((a ≡ b) ⊎ (b < a))
+    else-go (inl e) = inr (inl (sym e))
+    else-go (inr h) = inr (inr h)
+
+    go : (t : Bool) → ltb a b ≡ t → (a < b) ⊎ ((a ≡ b) ⊎ (b < a))
+    go true e = inl (ltb-true a b e)
+    go false e = else-go (eq-or-lt_of_le (ltb-false a b e))
+
+-- what an answer of the order says
+pub of-less : (a b : ℕ) → Less ≡ order_of a b → a < b
+of-less a b e = go (tri a b)
+  where
+    go : (a < b) ⊎ ((a ≡ b) ⊎ (b < a)) → a < b
+    go (inl h) = h
+    go (inr (inl h)) = let z : ◌≡◌ {A = ℕ} 0 1 = cc (equal a b h) in absurd (omega arith)
+    go (inr (inr h)) = let z : ◌≡◌ {A = ℕ} 0 1 = cc (greater a b h) in absurd (omega arith)
+
+pub of-equal : (a b : ℕ) → Equal ≡ order_of a b → a ≡ b
+of-equal a b e = go (tri a b)
+  where
+    go : (a < b) ⊎ ((a ≡ b) ⊎ (b < a)) → a ≡ b
+    go (inl h) = let z : ◌≡◌ {A = ℕ} 0 1 = cc (less a b h) in absurd (omega arith)
+    go (inr (inl h)) = h
+    go (inr (inr h)) = let z : ◌≡◌ {A = ℕ} 0 1 = cc (greater a b h) in absurd (omega arith)
+
+pub of-greater : (a b : ℕ) → Greater ≡ order_of a b → b < a
+of-greater a b e = go (tri a b)
+  where
+    go : (a < b) ⊎ ((a ≡ b) ⊎ (b < a)) → b < a
+    go (inl h) = let z : ◌≡◌ {A = ℕ} 0 1 = cc (less a b h) in absurd (omega arith)
+    go (inr (inl h)) = let z : ◌≡◌ {A = ℕ} 0 1 = cc (equal a b h) in absurd (omega arith)
+    go (inr (inr h)) = h
+
+pub differ-less : (a b : ℕ) → a < b → eqb a b ≡ false
+differ-less a b h = ne_eqb a b (λ e. omega arith)
+
+pub differ-greater : (a b : ℕ) → b < a → eqb a b ≡ false
+differ-greater a b h = ne_eqb a b (λ e. omega arith)

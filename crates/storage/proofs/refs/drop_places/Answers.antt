@@ -1,0 +1,121 @@
+-- `drop_places`: of the first i rows, those that are left stand first (`Going`). The measure is n - i.
+use mathlib.Core.Path.{◌≡◌, refl, sym, ap, ◌∙◌, subst}
+use mathlib.Core.List.{List, [], ◌∷◌}
+use Prim.Native.Nat.{ℕ, ◌+◌, ◌-◌, ◌*◌, ◌≤◌, ◌<◌}
+use borrow.Author.Tests.{le-leb, lt-leb}
+use lib.Dec.{leb}
+use lib.ListN.{length, get_or}
+use Rattle.storage.specs.Rows.Part.{put}
+use Rattle.storage.specs.Rows.Digits.{le_bytes}
+use Rattle.storage.specs.Refs.Refs.{Ref, ref, refs, names, lowered, left}
+use Rattle.storage.proofs.RefsLaws.Places.{length-refs, place_in, refs-first}
+use Rattle.storage.proofs.RowsLaws.Rows.{row-end, mul-up}
+use Rattle.storage.proofs.RefsLaws.Left.{row_moved}
+use Rattle.storage.proofs.RowsLaws.Kept.{Going, going_start, going-read, going-keep, going_drop, going_done}
+use native.Mathlib.Omega.{arith}
+use Rattle.storage.proofs.refs.drop_places.Goals as goal
+use Rattle.storage.proofs.refs.drop_places.Goals.{After-load2-p, In-loop-i}
+
+-- the row that is read, and the row that it goes to, lie in the slice
+room : (c : In-loop-i)
+    → (c.loop-i.i * c.args.stride + c.args.stride
+    ≤ c.args.n * c.args.stride)
+    × (c.loop-i.j * c.args.stride + c.args.stride
+    ≤ c.args.n * c.args.stride)
+    × (c.loop-i.j * c.args.stride ≤ c.loop-i.i * c.args.stride)
+room c =
+    let l = c.loop-i in (
+      row-end c.args.stride c.args.n l.i c.loop-i-test.true,
+      row-end c.args.stride c.args.n l.j (omega (arith, c.loop-i-test.true, l.invariant.0.behind)),
+      mul-up c.args.stride l.j l.i l.invariant.0.behind,
+    )
+
+-- the row that is read is as it was
+was : (c : In-loop-i)
+    → get_or (refs c.args.stride c.args.n c.loop-i.e) c.loop-i.i (ref 0 [])
+    ≡ get_or (refs c.args.stride c.args.n c.args.e.now) c.loop-i.i (ref 0 [])
+was c =
+    let l = c.loop-i in
+    going-read (names c.args.k) (lowered c.args.k) (ref 0 []) (refs c.args.stride c.args.n c.args.e.now) (refs c.args.stride c.args.n l.e) l.j l.i l.invariant.0
+
+-- its place
+place : (c : After-load2-p)
+    → c.load2-p.result ≡ (get_or (refs c.args.stride c.args.n c.args.e.now) c.loop-i.i (ref 0 [])).place
+place c =
+    let l = c.loop-i in
+    c.load2-p.ensures.0
+    ∙ sym (place_in c.args.stride c.args.n l.i (ref 0 []) l.e c.requires.0 c.loop-i-test.true)
+    ∙ ap (λ (x : Ref). x.place) (was (goal.at.After-load2-p c).In-loop-i)
+
+inside : (c : In-loop-i) → c.loop-i.i < length (refs c.args.stride c.args.n c.args.e.now)
+inside c = omega (arith, c.loop-i-test.true, length-refs c.args.stride c.args.n c.args.e.now)
+
+pub loop-i-init : goal.loop-i-init
+loop-i-init c = (going_start (names c.args.k) (lowered c.args.k) (ref 0 []) (refs c.args.stride c.args.n c.args.e.now), refl)
+
+pub overflow_mul-from : goal.overflow_mul-from
+overflow_mul-from c = omega (arith, (room c).0)
+
+pub load2-p-requires : goal.load2-p-requires
+load2-p-requires c = omega (arith, (room c).0, c.loop-i.invariant.1)
+
+pub overflow_mul-to : goal.overflow_mul-to
+overflow_mul-to c = omega (arith, (room (goal.at.overflow_mul-to c).In-loop-i).1)
+
+pub overflow_add-j : goal.overflow_add-j
+overflow_add-j c = omega (arith, c.loop-i.invariant.0.behind)
+
+pub overflow_add-from : goal.overflow_add-from
+overflow_add-from c = omega (arith, (room (goal.at.overflow_add-from c).In-loop-i).0)
+
+pub overflow_add-to : goal.overflow_add-to
+overflow_add-to c = omega (arith, (room (goal.at.overflow_add-to c).In-loop-i).1)
+
+pub move_down-requires : goal.move_down-requires
+move_down-requires c =
+    let l = c.loop-i in
+    (omega (arith, (room (goal.at.move_down-requires c).In-loop-i).2), omega (arith, (room (goal.at.move_down-requires c).In-loop-i).0, l.invariant.1))
+
+pub store_le-requires : goal.store_le-requires
+store_le-requires c =
+    omega (arith, (room (goal.at.store_le-requires c).In-loop-i).1, c.loop-i.invariant.1, c.move_down.auto.b)
+
+pub loop-i-preserved-then-k-p : goal.loop-i-preserved-then-k-p
+loop-i-preserved-then-k-p c =
+    let l = c.loop-i in
+    let a = c.args in
+    let rs = refs a.stride a.n a.e.now in
+    let es = refs a.stride a.n l.e in
+    let x = c.load2-p.result in
+    let h = c.loop-i-test.true in
+    let e : refs a.stride a.n c.store_le.new.b ≡ put l.j (lowered a.k (get_or rs l.i (ref 0 [])) ∷ []) es =
+    ap (refs a.stride a.n) (c.store_le.ensures ∙ ap (put (l.j * a.stride) (le_bytes 2 (x - a.k))) c.move_down.ensures)
+    ∙ row_moved a.stride a.n l.i l.j (x - a.k) (ref 0 []) l.e c.requires.0 h (omega (arith, h, l.invariant.0.behind)) (omega (arith, l.invariant.1)) (omega (arith, c.load2-p.ensures.1))
+    ∙ ap (λ (y : Ref). put l.j (ref (x - a.k) y.own ∷ []) es) (was (goal.at.loop-i-preserved-then-k-p c).In-loop-i)
+    ∙ ap (λ (y : ℕ). put l.j (ref (y - a.k) (get_or rs l.i (ref 0 [])).own ∷ []) es) (place (goal.at.loop-i-preserved-then-k-p c).After-load2-p) in (
+      subst (λ (q : List Ref). Going (names a.k) (lowered a.k) (ref 0 []) rs q (l.j + 1) (l.i + 1)) (sym e)
+          (going-keep (names a.k) (lowered a.k) (ref 0 []) rs es l.j l.i l.invariant.0 (inside (goal.at.loop-i-preserved-then-k-p c).In-loop-i) (ap (leb a.k) (sym (place (goal.at.loop-i-preserved-then-k-p c).After-load2-p)) ∙ le-leb a.k x c.if-k-p.true)),
+      c.store_le.auto.b ∙ c.move_down.auto.b ∙ l.invariant.1,
+    )
+
+pub loop-i-preserved : goal.loop-i-preserved
+loop-i-preserved c =
+    let l = c.loop-i in
+    let a = c.args in
+    let rs = refs a.stride a.n a.e.now in
+    (going_drop (names a.k) (lowered a.k) (ref 0 []) rs (refs a.stride a.n l.e) l.j l.i l.invariant.0 (inside (goal.at.loop-i-preserved c).In-loop-i) (ap (leb a.k) (sym (place (goal.at.loop-i-preserved c).After-load2-p)) ∙ lt-leb a.k c.load2-p.result c.if-k-p.false), l.invariant.1)
+
+pub shape_of-e : goal.shape_of-e
+shape_of-e c = c.loop-i.invariant.1
+
+pub returns : goal.returns
+unfolding left
+returns c =
+    let l = c.loop-i in
+    let a = c.args in
+    let k = length-refs a.stride a.n a.e.now in
+    let j : l.j ≤ a.n = omega (arith, l.invariant.0.behind, l.invariant.0.within, k) in (
+      j,
+      refs-first a.stride l.j a.n l.e j
+          ∙ going_done (names a.k) (lowered a.k) (ref 0 []) (refs a.stride a.n a.e.now) (refs a.stride a.n l.e) l.j l.i l.invariant.0 (omega (arith, k, c.loop-i-test.false)),
+    )

@@ -1,0 +1,14 @@
+-- `load`: the two halves, by `leNat-part`.
+use Rattle.storage.proofs.RowsLaws.Turns.{leNat-part}
+use native.Mathlib.Omega.{arith}
+use Rattle.storage.proofs.rows.word.load.Goals as goal
+
+pub overflow_mul-result : goal.overflow_mul-result
+overflow_mul-result c = record { fits = omega (arith, c.load4-2.ensures) }
+
+pub overflow_add-result : goal.overflow_add-result
+overflow_add-result c = record { fits = omega (arith, c.load4.ensures, c.load4-2.ensures) }
+
+pub returns : goal.returns
+returns c =
+    omega (arith, leNat-part c.args.at 4 4 c.args.b.now (omega arith), c.load4.ensures, c.load4-2.ensures)

@@ -1,0 +1,4 @@
+pub mod Rows
+pub mod Refs
+pub mod Notes
+pub mod Lists

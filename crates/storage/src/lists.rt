@@ -1,0 +1,1 @@
+// Nothing runs here: lists, maps by number, and their laws.

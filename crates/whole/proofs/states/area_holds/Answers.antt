@@ -1,0 +1,65 @@
+-- `area_holds`: each test is a part of question 17 (`Holds`).
+use mathlib.Core.Path.{ap}
+use mathlib.Core.Bool.{not}
+use mathlib.Core.Path.{sym}
+use mathlib.Core.List.{List}
+use Prim.Native.Nat.{ℕ, ◌+◌, ◌*◌, ◌-◌}
+use native.Mathlib.Omega.{arith}
+use borrow.Author.Tests.{not-true, not-false}
+use lib.ListN.{length, get_or}
+use Rattle.whole.specs.States.Area.{kept, areaHolds}
+use Rattle.whole.specs.States.Calls.{Zeros, SlotsHold}
+use Rattle.whole.proofs.StatesLaws.Leaves.{told-yes, told-no, told_same}
+use Rattle.whole.proofs.StatesLaws.Slots.{slot-start}
+use Rattle.whole.proofs.StatesLaws.HoldsLaws.{of-holds, holds_not}
+use Rattle.whole.proofs.states.area_holds.Goals as goal
+
+pub returns-then-area-lt-FRONT : goal.returns-then-area-lt-FRONT
+returns-then-area-lt-FRONT c = sym (holds_not c.args.n c.args.area.now (λ h. omega (arith, h.long)))
+
+pub returns-then-area-n : goal.returns-then-area-n
+returns-then-area-n c = sym (holds_not c.args.n c.args.area.now (λ h. omega (arith, h.long)))
+
+pub overflow_cast-kept : goal.overflow_cast-kept
+overflow_cast-kept c = omega (arith, c.shared_slice_known-2-1.given 255)
+
+pub returns-then-kept-gt-STATES : goal.returns-then-kept-gt-STATES
+unfolding kept
+returns-then-kept-gt-STATES c = sym (holds_not c.args.n c.args.area.now (λ h. omega (arith, h.few)))
+
+pub returns-then-not-slots : goal.returns-then-not-slots
+unfolding kept
+returns-then-not-slots c =
+    let k : ℕ = get_or c.args.area.now 255 0 in
+    sym (holds_not c.args.n c.args.area.now (λ h. told-no (SlotsHold c.args.n k c.args.area.now) c.slots_hold-slots.result c.slots_hold-slots.ensures (not-true _ (ap not c.if-not-slots.true)) h.slots))
+
+pub returns-then-not-spare : goal.returns-then-not-spare
+unfolding kept
+returns-then-not-spare c =
+    let k : ℕ = get_or c.args.area.now 255 0 in
+    sym (holds_not c.args.n c.args.area.now (λ h. told-no (Zeros (26 * k) 255 c.args.area.now) c.zeros-spare.result c.zeros-spare.ensures (not-true _ (ap not c.if-not-spare.true)) h.spare))
+
+pub overflow_mul-n : goal.overflow_mul-n
+overflow_mul-n c = let e = slot-start c.args.n (get_or c.args.area.now 255 0) 4 (omega arith) in record { fits = omega arith }
+
+pub overflow_add-n : goal.overflow_add-n
+overflow_add-n c = let e = slot-start c.args.n (get_or c.args.area.now 255 0) 4 (omega arith) in omega arith
+
+pub zeros-requires : goal.zeros-requires
+zeros-requires c = let e = slot-start c.args.n (get_or c.args.area.now 255 0) 4 (omega arith) in (omega arith, omega arith)
+
+pub returns : goal.returns
+unfolding kept
+returns c =
+    let n : ℕ = c.args.n in
+    let area : List ℕ = c.args.area.now in
+    let k : ℕ = get_or area 255 0 in
+    told_same (Zeros (256 + n * k) (length area) area) (areaHolds n area) c.zeros.result c.zeros.ensures
+    (λ z. of-holds n area (λ i. omega (arith, c.shared_slice_known-1.given i)) (record {
+      long = omega arith;
+      few = omega arith;
+      slots = told-yes (SlotsHold n k area) c.slots_hold-slots.result c.slots_hold-slots.ensures (not-false _ (ap not c.if-not-slots.false));
+      spare = told-yes (Zeros (26 * k) 255 area) c.zeros-spare.result c.zeros-spare.ensures (not-false _ (ap not c.if-not-spare.false));
+      rest = z;
+    }))
+    (λ z. holds_not n area (λ h. z h.rest))

@@ -1,0 +1,17 @@
+-- `put_row`: four puts, each where the one before it ends, are one.
+use mathlib.Core.Path.{ap, ◌∙◌}
+use Prim.Native.Nat.{◌+◌}
+use Rattle.storage.specs.Rows.Part.{put}
+use Rattle.storage.specs.Rows.Digits.{le_bytes}
+use Rattle.storage.proofs.RowsLaws.Digits.{length-leBytes}
+use Rattle.whole.proofs.StatesLaws.Leaves.{four-puts}
+use Rattle.whole.proofs.states.put_row.Goals as goal
+
+pub returns : goal.returns
+returns c =
+    c.store_le.ensures
+    ∙ ap (put (c.args.at + 24) (le_bytes 2 c.args.c.hops)) (c.store-3.ensures
+    ∙ ap (put (c.args.at + 16) (le_bytes 8 c.args.c.control)) (c.store-2.ensures
+    ∙ ap (put (c.args.at + 8) (le_bytes 8 c.args.c.payload)) c.store.ensures))
+    ∙ four-puts c.args.area.now c.args.at (le_bytes 8 c.args.name) (le_bytes 8 c.args.c.payload) (le_bytes 8 c.args.c.control) (le_bytes 2 c.args.c.hops)
+    (length-leBytes 8 c.args.name) (length-leBytes 8 c.args.c.payload) (length-leBytes 8 c.args.c.control) (length-leBytes 2 c.args.c.hops) c.requires

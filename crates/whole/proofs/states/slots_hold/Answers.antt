@@ -1,0 +1,59 @@
+-- `slots_hold`: the first i names differ, and the first i blocks are whole. The measure is what is left.
+use mathlib.Core.Bool.{not}
+use mathlib.Core.Path.{◌≡◌, sym, ap, ◌∙◌, subst}
+use Prim.Native.Nat.{ℕ, ◌+◌, ◌*◌, ◌-◌}
+use native.Mathlib.Omega.{arith}
+use borrow.Author.Rules.{rules}
+use borrow.Author.Tests.{not-true, not-false}
+use lib.ListN.{take, drop}
+use Rattle.storage.proofs.ListsLaws.MapLaws.{true≢}
+use Rattle.storage.specs.Rows.Part.{part}
+use Rattle.whole.specs.Held.{wholeBlock}
+use Rattle.whole.specs.States.Area.{name_at}
+use Rattle.whole.specs.States.Calls.{SlotsHold}
+use Rattle.whole.proofs.StatesLaws.Leaves.{slots-more}
+use Rattle.whole.proofs.StatesLaws.Slots.{slot-end}
+use Rattle.whole.proofs.states.slots_hold.Goals as goal
+use Rattle.whole.proofs.states.slots_hold.Goals.{After-is_whole-whole}
+
+-- the slot that was asked is the part
+read : (c : After-is_whole-whole) → c.is_whole-whole.result ≡ wholeBlock (part (256 + c.args.n * c.loop-i.i) c.args.n c.args.area.now)
+unfolding part
+read c =
+    let from : ℕ = 256 + c.args.n * c.loop-i.i in
+    let e : from + c.args.n - from ≡ c.args.n = omega arith in
+    c.is_whole-whole.ensures ∙ ap (λ (m : ℕ). wholeBlock (take m (drop from c.args.area.now))) e
+
+pub loop-i-init : goal.loop-i-init
+loop-i-init c = (search rules, record { names = λ p q l h e. omega arith; wholes = λ i h. absurd (omega arith) })
+
+pub returns-then-first-i : goal.returns-then-first-i
+unfolding name_at
+returns-then-first-i c = λ h. h.names _ _ c.if-first-i.true (omega arith) (c.place_of-first.ensures.found c.if-first-i.true ∙ c.load-name.ensures)
+
+pub overflow_mul-from : goal.overflow_mul-from
+overflow_mul-from c = let e = slot-end c.args.n c.loop-i.i 4 (omega arith) in record { fits = omega arith }
+
+pub overflow_add-from : goal.overflow_add-from
+overflow_add-from c = let e = slot-end c.args.n c.loop-i.i 4 (omega arith) in omega arith
+
+pub overflow_add-to : goal.overflow_add-to
+overflow_add-to c = let e = slot-end c.args.n c.loop-i.i 4 (omega arith) in omega arith
+
+pub returns-then-not-whole : goal.returns-then-not-whole
+returns-then-not-whole c = λ h.
+    true≢ (sym (not-true _ (ap not c.if-not-whole.true)) ∙ read (goal.at.returns-then-not-whole c).After-is_whole-whole ∙ h.wholes c.loop-i.i (omega arith))
+
+pub loop-i-preserved : goal.loop-i-preserved
+unfolding name_at
+loop-i-preserved c = (
+  search rules,
+  slots-more c.args.n c.loop-i.i c.args.area.now c.loop-i.invariant.1
+      (λ j h e. c.place_of-first.ensures.before j (omega (arith, c.if-first-i.false)) (e ∙ sym c.load-name.ensures))
+      (sym (read (goal.at.loop-i-preserved c).After-is_whole-whole) ∙ not-false _ (ap not c.if-not-whole.false)),
+)
+
+pub returns : goal.returns
+returns c =
+    let e : c.loop-i.i ≡ c.args.k = omega arith in
+    subst (λ (m : ℕ). SlotsHold c.args.n m c.args.area.now) e c.loop-i.invariant.1

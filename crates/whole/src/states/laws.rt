@@ -1,0 +1,7 @@
+// What holds of every area, a theorem each. Nothing runs: a contract is proved, and so these are.
+ghost use Rattle.whole.specs.States.Area.{AreaExact};
+
+// Question 17 is answered yes exactly of the areas that savings of blocks of this length left.
+pub fn areas_are_exact()
+    ensures { AreaExact }
+{}

@@ -1,0 +1,5 @@
+pub mod NumberLaws
+pub mod DecodeLaws
+pub mod EncodeLaws
+pub mod OutputLaws
+pub mod RewriteLaws

@@ -1,0 +1,7 @@
+-- `read_number`: ten groups, the last up to 1.
+use Rattle.postcard.specs.Number.{readNumber}
+use Rattle.wire.proofs.number.read_number.Goals as goal
+
+pub returns : goal.returns
+unfolding readNumber
+returns c = c.read_groups.ensures

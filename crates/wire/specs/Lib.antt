@@ -1,0 +1,5 @@
+pub mod Number
+pub mod Decode
+pub mod Encode
+pub mod Output
+pub mod Rewrite

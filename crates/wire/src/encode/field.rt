@@ -1,0 +1,106 @@
+// The fields that messages, timers and actions are made of.
+#![tactic(auto, unfolding(postcard::specs::Message::contentBytes, postcard::specs::Message::deliveryBytes, postcard::specs::Message::optionalIdBytes, postcard::specs::Message::timerBytes), using(crate::encode::proofs::HeldLaws::after_append, crate::encode::proofs::HeldLaws::room_after, crate::encode::proofs::HeldLaws::length_both, crate::encode::proofs::HeldLaws::id_long, crate::encode::proofs::IdLaws::id_words))]
+
+ghost use Rattle.std.specs.Prelude.{◌≡◌, [], ◌∷◌, ◌++◌, List, ℕ};
+ghost use Rattle.storage.specs.Rows.Ident.{id_of};
+ghost use Rattle.postcard.specs.Number.{numberBytes, idBytes};
+ghost use Rattle.postcard.specs.Message.{contentBytes, deliveryBytes, optionalIdBytes, timerBytes};
+ghost use Rattle.postcard.specs.Values.{deliveryValue, wantedValue, timerValue};
+
+use crate::encode::Encode;
+use crate::encode::sink::Sink;
+use postcard::message::{Delivery, Timer, Wanted};
+use postcard::units::Round;
+use storage::rows::id::Id;
+
+// A number of 16 or 64 bits: "Groups of seven bits, low first, high bit on all but the last".
+impl Encode for u64 {
+    ghost bytes = { numberBytes };
+
+    fn encode<S: Sink>(&self, out: &mut S) {
+        let mut w = *self;
+        while 128 <= w {
+            out.byte((w % 128 + 128) as u8);
+            w /= 128;
+        }
+        out.byte(w as u8);
+    }
+}
+
+// "round 16 bits".
+impl Encode for Round {
+    ghost bytes = { λ r. numberBytes r.0 };
+
+    fn encode<S: Sink>(&self, out: &mut S) {
+        (self.0 as u64).encode(out);
+    }
+}
+
+// "identifier 32 bytes".
+impl Encode for Id {
+    ghost bytes = { λ i. idBytes (id_of i) };
+
+    fn encode<S: Sink>(&self, out: &mut S) {
+        out.bytes(&self.w0.to_be_bytes());
+        out.bytes(&self.w1.to_be_bytes());
+        out.bytes(&self.w2.to_be_bytes());
+        out.bytes(&self.w3.to_be_bytes());
+    }
+}
+
+// A content: its length, then its bytes.
+impl Encode for &[u8] {
+    ghost bytes = { λ s. contentBytes s.now };
+
+    fn encode<S: Sink>(&self, out: &mut S) {
+        (self.len() as u64).encode(out);
+        out.bytes(self);
+    }
+}
+
+// "Delivery: 0 Swarm and round, 1 Neighbors".
+impl Encode for Delivery {
+    ghost bytes = { λ d. deliveryBytes (deliveryValue d) };
+
+    fn encode<S: Sink>(&self, out: &mut S) {
+        match self {
+            Delivery::Swarm(round) => {
+                out.byte(0);
+                round.encode(out);
+            }
+            Delivery::Neighbors => out.byte(1),
+        }
+    }
+}
+
+// "byte 0, or 1 and identifier" of a Graft.
+impl Encode for Wanted {
+    ghost bytes = { λ w. optionalIdBytes (wantedValue w) };
+
+    fn encode<S: Sink>(&self, out: &mut S) {
+        match self {
+            Wanted::Nothing => out.byte(0),
+            Wanted::Message(id) => {
+                out.byte(1);
+                id.encode(out);
+            }
+        }
+    }
+}
+
+// "Timers: 0 SendGraft with identifier, 1 DispatchLazyPush, 2 EvictCache, 3 AnnounceDropped".
+impl Encode for Timer {
+    ghost bytes = { λ t. timerBytes (timerValue t) };
+
+    fn encode<S: Sink>(&self, out: &mut S) {
+        match self {
+            Timer::SendGraft(id) => {
+                out.byte(0);
+                id.encode(out);
+            }
+            Timer::DispatchLazyPush => out.byte(1),
+            Timer::EvictCache => out.byte(2),
+            Timer::AnnounceDropped => out.byte(3),
+        }
+    }
+}

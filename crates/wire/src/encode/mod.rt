@@ -1,0 +1,40 @@
+// What is written, field by field, from the left: document 01, "Numbers and messages (Postcard)".
+ghost use Rattle.std.specs.Prelude.{◌≡◌, ◌^◌, ◌<◌, List, ℕ, length};
+ghost use Rattle.postcard.specs.Output.{Room, Wrote};
+ghost use Rattle.wire.specs.Encode.Held.{after, RoomFor};
+
+pub mod action;
+pub mod field;
+pub mod message;
+pub mod sink;
+
+use crate::encode::sink::{Counter, Sink, Writer};
+
+// What has bytes. One walk writes them to whatever sink, so that what is measured is what is written.
+pub trait Encode {
+    ghost bytes: { Self → List ℕ };
+
+    fn encode<S: Sink>(&self, out: &mut S)
+        requires { RoomFor (bytes self.now) (S.held out.old) }
+        ensures { S.held out.new ≡ after (bytes self.now) (S.held out.old) };
+}
+
+// How many bytes it takes: question 14 asks it before anything is written.
+pub fn size<E: Encode>(value: &E) -> usize
+    requires { length (E.bytes value.now) < 2 ^ 64 }
+    ensures { result ≡ length (E.bytes value.now) }
+{
+    let mut counter = Counter { count: 0 };
+    value.encode(&mut counter);
+    counter.count
+}
+
+// Writes it at a place of the output, and tells the place after it.
+pub fn put<E: Encode>(out: &mut [u8], at: usize, value: &E) -> usize
+    requires { Room (E.bytes value.now) at out.old }
+    ensures { Wrote (E.bytes value.now) out.old at out.new result }
+{
+    let mut writer = Writer { out, at };
+    value.encode(&mut writer);
+    writer.at
+}

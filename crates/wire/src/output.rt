@@ -1,0 +1,126 @@
+// The actions of a call, written where the output has room. Each function tells the place after its action whether it was written or not, so that the
+// same functions measure (question 14), lent an empty output, and write.
+ghost use Rattle.std.specs.Prelude.{◌≡◌, ◌+◌, ◌++◌};
+ghost use Rattle.storage.specs.Rows.Ident.{id_of};
+ghost use Rattle.postcard.specs.Message as message;
+ghost use Rattle.postcard.specs.Message.{Sent, Scheduled, Emitted, ihaveBytes, actionBytes};
+ghost use Rattle.postcard.specs.Values.{deliveryValue, wantedValue, timerValue};
+ghost use Rattle.postcard.specs.Output.{sendHead, ihaveHead};
+ghost use Rattle.wire.specs.Output.Written.{Tellable, Written};
+
+use crate::encode;
+use crate::encode::Encode;
+use crate::encode::action::{Emit, Schedule, Send};
+use crate::encode::message::{Gossip, Graft, Ihave, IhaveHead, Prune};
+use postcard::message::{Delivery, Timer, Wanted};
+use postcard::units::{Millis, Round};
+use storage::rows::id::Id;
+
+// Writes it where there is room.
+fn write<E: Encode>(out: &mut [u8], at: usize, value: &E) -> usize
+    requires { Tellable (E.bytes value.now) at }
+    ensures { Written (E.bytes value.now) out.old at out.new result }
+{
+    let n = encode::size(value);
+    if at <= out.len() && n <= out.len() - at {
+        return encode::put(out, at, value);
+    }
+    at + n
+}
+
+// "1 send (peer, byte 0 taken or 1 handed back, message)", of whatever message.
+fn send<M: Encode + Copy>(out: &mut [u8], at: usize, peer: u64, taken: bool, message: M) -> usize
+    requires { Tellable (sendHead peer taken ++ M.bytes message) at }
+    ensures { Written (sendHead peer taken ++ M.bytes message) out.old at out.new result }
+{
+    let action = Send {
+        peer,
+        taken,
+        message,
+    };
+    write(out, at, &action)
+}
+
+// A send of a Gossip.
+#[tactic(auto, using(postcard::proofs::Listed::sent_head))]
+pub fn send_gossip(
+    out: &mut [u8],
+    at: usize,
+    peer: u64,
+    taken: bool,
+    id: Id,
+    content: &[u8],
+    delivery: Delivery,
+) -> usize
+    requires { Tellable (actionBytes (Sent peer taken (message.Gossip (id_of id) content.now (deliveryValue delivery)))) at }
+    ensures { Written (actionBytes (Sent peer taken (message.Gossip (id_of id) content.now (deliveryValue delivery)))) out.old at out.new result }
+{
+    let gossip = Gossip {
+        id,
+        content,
+        delivery,
+    };
+    send(out, at, peer, taken, gossip)
+}
+
+// A send of a Prune.
+#[tactic(auto, using(postcard::proofs::Listed::sent_head))]
+pub fn send_prune(out: &mut [u8], at: usize, peer: u64, taken: bool) -> usize
+    requires { Tellable (actionBytes (Sent peer taken message.Prune)) at }
+    ensures { Written (actionBytes (Sent peer taken message.Prune)) out.old at out.new result }
+{
+    send(out, at, peer, taken, Prune)
+}
+
+// A send of a Graft.
+#[tactic(auto, using(postcard::proofs::Listed::sent_head))]
+pub fn send_graft(
+    out: &mut [u8],
+    at: usize,
+    peer: u64,
+    taken: bool,
+    wanted: Wanted,
+    round: Round,
+) -> usize
+    requires { Tellable (actionBytes (Sent peer taken (message.Graft (wantedValue wanted) round.0))) at }
+    ensures { Written (actionBytes (Sent peer taken (message.Graft (wantedValue wanted) round.0))) out.old at out.new result }
+{
+    send(out, at, peer, taken, Graft { wanted, round })
+}
+
+// The beginning of a send of an IHave of `count` entries; `ihave` for each entry makes it whole.
+pub fn send_ihave(out: &mut [u8], at: usize, peer: u64, taken: bool, count: usize) -> usize
+    requires { Tellable (sendHead peer taken ++ ihaveHead count) at }
+    ensures { Written (sendHead peer taken ++ ihaveHead count) out.old at out.new result }
+{
+    send(out, at, peer, taken, IhaveHead { count })
+}
+
+// An entry of an IHave.
+pub fn ihave(out: &mut [u8], at: usize, id: Id, round: Round) -> usize
+    requires { Tellable (ihaveBytes (record { id = id_of id; round = round.0 })) at }
+    ensures { Written (ihaveBytes (record { id = id_of id; round = round.0 })) out.old at out.new result }
+{
+    write(out, at, &Ihave { id, round })
+}
+
+// "2 schedule (delay, timer)".
+pub fn schedule(out: &mut [u8], at: usize, delay: Millis, timer: Timer) -> usize
+    requires { Tellable (actionBytes (Scheduled delay.0 (timerValue timer))) at }
+    ensures { Written (actionBytes (Scheduled delay.0 (timerValue timer))) out.old at out.new result }
+{
+    write(out, at, &Schedule { delay, timer })
+}
+
+// "3 emit (peer, length, content, delivery)".
+pub fn emit(out: &mut [u8], at: usize, peer: u64, content: &[u8], delivery: Delivery) -> usize
+    requires { Tellable (actionBytes (Emitted peer content.now (deliveryValue delivery))) at }
+    ensures { Written (actionBytes (Emitted peer content.now (deliveryValue delivery))) out.old at out.new result }
+{
+    let emitted = Emit {
+        peer,
+        content,
+        delivery,
+    };
+    write(out, at, &emitted)
+}

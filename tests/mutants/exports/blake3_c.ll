@@ -1,7 +1,0 @@
-
-; The C interface of crates/blake3_c, as exports/plumtree.c has that of plumtree. In LLVM's language, so that the function is compiled into it, as in the archive of
-; tools/staticlib.sh.
-define void @blake3_hash_into(ptr %content, i64 %length, ptr %out) {
-  call void @unproved_blake3_hash_into(ptr %content, i64 %length, ptr %out)
-  ret void
-}

@@ -1,7 +1,6 @@
 // Document 01's calls upon a lent block, as C and Rust link them.
 #![tactic(auto)]
 
-pub mod histories;
 pub mod laws;
 mod peers;
 mod rooms;

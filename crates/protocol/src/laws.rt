@@ -1,8 +1,10 @@
-// What holds of the definitions, a theorem each. Nothing runs: a contract is proved, and so these are.
+// The theorems over the definitions, each the contract of a function. Nothing runs: a contract is proved, and so these are.
 ghost use Rattle.std.specs.Prelude.{ℕ, List};
 ghost use Rattle.protocol.specs.Demand3.{Demand3};
 ghost use Rattle.protocol.specs.Notings.{MetFullExact};
 ghost use Rattle.protocol.specs.SameMeaning.{SameMeaning};
+ghost use Rattle.protocol.specs.AlikeCalls.AlikeFiner.{AlikeFiner};
+ghost use Rattle.protocol.specs.AlikeCalls.CommissioningSheet.{CommissioningSheet};
 
 // Whatever the identifier function: "for every list of event calls (…; refused ones too) from a fresh panel, after it this holds".
 pub fn no_neighbour_passed_over()
@@ -17,4 +19,14 @@ pub fn met_full_is_exact()
 // Two spellings of one event lead to the same answers and states.
 pub fn spellings_have_one_meaning()
     ensures { (hash : List ℕ → ℕ) → SameMeaning hash }
+{}
+
+// "Two blocks alike in the new way are alike in the old way."
+pub fn alike_is_finer()
+    ensures { AlikeFiner }
+{}
+
+// "from alike blocks and equal counts, the same list of events, times, link room and output space gives the same answers and actions".
+pub fn alike_panels_answer_alike()
+    ensures { (hash : List ℕ → ℕ) → CommissioningSheet hash }
 {}

@@ -2,6 +2,7 @@
 #![tactic(auto)]
 
 pub mod create;
+pub mod laws;
 pub mod states;
 mod tables;
 

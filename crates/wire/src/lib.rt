@@ -3,6 +3,7 @@
 
 pub mod decode;
 pub mod encode;
+pub mod laws;
 pub mod number;
 pub mod output;
 pub mod rewrite;

@@ -3,7 +3,6 @@ ghost use Rattle.wire.specs.Rewrite.Answers.{number_of, length_of};
 ghost use Rattle.wire.specs.Rewrite.RewriteCalls.{Rewrites};
 
 pub mod found;
-pub mod laws;
 
 use crate::decode::MessageDecoded;
 use crate::rewrite::found::Found;

@@ -1,6 +1,4 @@
 // Request d, named states: "Up to four states are kept in a second lent area under eight-byte names."
-pub mod laws;
-
 ghost use Rattle.std.specs.Prelude.{◌≡◌, ◌++◌, ◌+◌, ◌*◌, ◌-◌, ◌≤◌, ◌<◌, length};
 ghost use Rattle.storage.specs.Rows.Part.{put};
 ghost use Rattle.storage.specs.Rows.Digits.{le_bytes};

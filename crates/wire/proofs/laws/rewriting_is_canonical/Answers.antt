@@ -1,5 +1,5 @@
 use Rattle.wire.proofs.RewriteLaws.RewriteCalls.{rewrite-calls}
-use Rattle.wire.proofs.rewrite.laws.rewriting_is_canonical.Goals as goal
+use Rattle.wire.proofs.laws.rewriting_is_canonical.Goals as goal
 
 pub returns : goal.returns
 returns c = rewrite-calls

@@ -1,2 +1,0 @@
-// Nothing runs here: alike states stay alike, each theorem the contract of a function in `laws`.
-pub mod laws;

@@ -1,15 +1,17 @@
 #!/usr/bin/env python3
-# What a reader has to believe: the definitions that the contracts of the exported functions (crates/plumtree/src/lib.rt), `Guarantee` and `WritesPanelrun` rest on, each with
-# its sentence, crate by crate from the lowest up; then what they assume of the kit, and their number. Usage, from anywhere: tools/believe.py [--list | --count] [NAME ...]
+# What a reader has to believe: the definitions that the contracts of the exported functions (crates/plumtree/src/lib.rt) and the main theorems (the contracts in crates/*/src/laws.rt)
+# rest on, each with its sentence, crate by crate from the lowest up; then what they assume of the kit, and their number.
+# Usage, from anywhere: tools/believe.py [--list | --count | --theorems] [NAME ...]
 #   --list    names and places alone
+#   --theorems  the main theorems' functions alone, as CRATE::laws::NAME
 #   --count   the numbers alone
-#   NAME      starts from these definitions (CRATE.FILE.NAME, as machine.Called.Called) instead
+#   NAME      starts from these definitions (CRATE.FILE.NAME, as machine.Called.Called) or contracts (as plumtree.lib.plumtree_event) instead
 # It fails where a name cannot be told, since it would then leave something out. tests/believe holds it against the kit.
 import os, re, signal, sys
 
 TOP = os.path.dirname(os.path.dirname(os.path.abspath(__file__)))
 CONTRACTS = ("plumtree", "lib")
-STATEMENTS = ["plumtree.Chain.Guarantee", "panel.Runs.WritesPanelrun"]
+LAWS = "laws"
 KIT = "Rattle.std."
 # Words of the logic and of contracts; fields of a lent value; types of the code; and the constructors of the kit's libraries: on the left of a clause any other plain name is a variable.
 WORDS = set("Type Unit tt ⊥ → : = ; , in × _".split())
@@ -333,12 +335,14 @@ class Source(File):
                 problems.append(f"{d.key()}: the type {w} cannot be told")
 
     def contract(self, world, name):
-        d = self.declared(rf'pub extern "C" fn {name}\(', r"^{", "contract", name)
-        code, _, promise = " ".join(l.strip() for l in d.lines[d.above :]).partition("ensures {")
-        signature = code.split(name + "(", 1)[1]
+        d = self.declared(rf'pub (extern "C" )?fn {name}\(', r"^{", "contract", name)
+        head, *clauses = re.split(r"^ *ensures (?:\w+ )?(?={)", "\n".join(d.lines[d.above :]), flags=re.M)
+        signature = " ".join(head.split()).split(name + "(", 1)[1]
         types = re.findall(r"\w+", re.sub(r"\w+: ", "", signature))
         self.types(world, d, [w for w in types if w not in PRIMITIVE | {"mut"}])
-        Names(world, self, d).walk(tokens(promise.strip().removesuffix("}")), ["result", *re.findall(r"(\w+): ", signature)])
+        for promise in clauses:
+            ts = tokens(promise)
+            Names(world, self, d).walk(ts[1 : closing(ts, 0)], ["result", *re.findall(r"(\w+): ", signature)])
         return d
 
 
@@ -417,9 +421,21 @@ def exported(world):
     return [source.contract(world, n) for n in re.findall(r'^pub extern "C" fn (\w+)\(', "\n".join(source.lines), re.M)]
 
 
+# The main theorems: each is the contract of a function of its crate's `laws`.
+def theorems(world):
+    sources = [source for crate in world.order() if (source := world.source(crate, LAWS))]
+    return [source.contract(world, n) for source in sources for n in re.findall(r"^pub fn (\w+)\(\)", "\n".join(source.lines), re.M)]
+
+
+def told(theorem):
+    return f"{theorem.crate}::{theorem.file}::{theorem.name}"
+
+
 def named(world, key):
     crate, *file, name = key.split(".")
     file = ".".join(file)
+    if file in (CONTRACTS[1], LAWS) and world.source(crate, file):
+        return world.source(crate, file).contract(world, name)
     found = world.file(crate, file)
     if not found or name not in found.names:
         sys.exit(f"there is no definition {key}")
@@ -443,7 +459,7 @@ def closure(world, roots):
 
 
 def believed(world, keys=()):
-    return closure(world, [named(world, k) for k in keys] if keys else exported(world) + [named(world, k) for k in STATEMENTS])
+    return closure(world, [named(world, k) for k in keys] if keys else exported(world) + theorems(world))
 
 
 # ---- what is printed
@@ -512,9 +528,11 @@ def count(found):
 def main(words):
     signal.signal(signal.SIGPIPE, signal.SIG_DFL)
     options = [w for w in words if w.startswith("--")]
-    if len(options) > 1 or set(options) - {"--list", "--count"}:
-        sys.exit("usage: tools/believe.py [--list | --count] [NAME ...]")
+    if len(options) > 1 or set(options) - {"--list", "--count", "--theorems"}:
+        sys.exit("usage: tools/believe.py [--list | --count | --theorems] [NAME ...]")
     world = World()
+    if options == ["--theorems"]:
+        return print("\n".join(told(d) for d in theorems(world)))
     found = believed(world, [w for w in words if w not in options])
     if not options:
         show(world, found)

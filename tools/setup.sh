@@ -24,10 +24,9 @@ need_packages() {
 }
 
 # The panel's static library: PLUMTREE_LIB_DIR is afterwards the directory that has it. Without that variable it is target/staticlib, and the
-# library is written there unless it is already that of these sources. Where its crate is out of the tree there is none.
+# library is written there unless it is already that of these sources.
 need_library() {
     if [ -z "${PLUMTREE_LIB_DIR:-}" ]; then
-        need_crates plumtree || return 1
         tools/staticlib.sh plumtree || die "tools/staticlib.sh plumtree failed"
         PLUMTREE_LIB_DIR=target/staticlib
     fi
@@ -69,20 +68,6 @@ sources_sum() { # NAME ..
     } | sha256sum
 }
 
-# The crates that a test needs. One that PORTING-LEFT.md names may be out of the tree: a test that needs it is left out.
-need_crates() {
-    local c missing=
-    for c in "$@"; do
-        if [ -z "$(reached crates.txt "$c")" ]; then
-            grep -qsw -- "$c" PORTING-LEFT.md || die "there is no crate $c, and PORTING-LEFT.md does not name it"
-            missing="$missing $c"
-        fi
-    done
-    [ -n "$missing" ] || return 0
-    echo "left out: not here yet (PORTING-LEFT.md):$missing"
-    return 1
-}
-
 # A crate folder that crates.txt does not list is an error.
 every_crate_listed() {
     local d n
@@ -99,9 +84,4 @@ have_rust() {
     [ -n "$v" ] && [ "$v" -ge 82 ] && return 0
     echo "left out: no cargo of 1.82 or later here, so the original Rust is not run beside the library"
     return 1
-}
-
-# For a test that reads the whole of the tree.
-need_all_crates() {
-    [ ! -e PORTING-LEFT.md ] || { echo "left out: some crates are not here yet (PORTING-LEFT.md)"; return 1; }
 }

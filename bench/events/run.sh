@@ -6,6 +6,6 @@ set -eu
 cd "$(dirname "$0")/../.."
 . tools/setup.sh
 have_rust || exit 1
-need_library || exit 1
+need_library
 LIBRARY=$PLUMTREE_LIB_DIR tests/beside/build.sh fair
 exec tests/target/fair/beside --bench "$@"

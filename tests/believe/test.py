@@ -12,11 +12,12 @@ storage.Lists.Base.is_some storage.Lists.Map.insert storage.Rows.Digits.leNat po
 time_cache.TimeCache.expireUntil blake3.Blake3.compressed protocol.State.create protocol.Whole.wholeState protocol.Gossips.optimizeTree protocol.Answer.answerBlock
 protocol.Demand3.metFull protocol.Alike.sameNotes protocol.Panel.panelrun block.src.head.Config block.Header.headIn block.View.state_of whole.Held.held whole.States.Kept.keep whole.States.Area.areaHolds whole.States.Calls.Saves machine.Called.Finds
 machine.Called.call_of plumtree.Calls.Made plumtree.Calls.entries plumtree.lib.plumtree_alike panel.Records.Running.closing panel.Runs.Runs
+protocol.Demand3.Demand3 protocol.AlikeUnordered.sameBag plumtree.CallList.LeadsTo plumtree.Histories.History.Step protocol.laws.no_neighbour_passed_over postcard.Rewrite.ShortestForm whole.States.Area.LeftBy
 """
 OUT = """
-storage.Rows.Part.Only storage.Rows.Sorted.Ascending storage.Refs.Once.Numbers postcard.Message.eventBytes postcard.Output.Room postcard.Events.Decodes postcard.Rewrite.ShortestForm wire.Rewrite.Answers.number_of blake3.WordOrder.order
-protocol.Demand3.Demand3 protocol.AlikeUnordered.sameBag decide.Settled.settled alike.Notes.NextOf block.Goes.Goes block.Sound.Sound whole.States.Area.LeftBy whole.States.Calls.Placed protocol.AlikeCalls.Peerwise.Like plumtree.Histories.History.Step plumtree.Histories.Sheet.SameSeen steps.Stands.Stands machine.Kinds.Meaning.peerOf machine.Core.Begun machine.Core.coreRooms
-machine.Decided.decided machine.Outcomes.Asked plumtree.Rooms.Found plumtree.Peers.Sender panel.Records.Reading.Whole panel.Places.Inside
+storage.Rows.Part.Only storage.Rows.Sorted.Ascending storage.Refs.Once.Numbers postcard.Message.eventBytes postcard.Output.Room postcard.Events.Decodes wire.Rewrite.Answers.number_of blake3.WordOrder.order
+decide.Settled.settled alike.Notes.NextOf block.Goes.Goes block.Sound.Sound whole.States.Calls.Placed protocol.AlikeCalls.Peerwise.Like steps.Stands.Stands machine.Kinds.Meaning.peerOf machine.Core.Begun machine.Core.coreRooms
+machine.Decided.decided machine.Outcomes.Asked plumtree.Rooms.Found plumtree.Peers.Sender panel.Records.Reading.Whole
 """
 
 
@@ -34,6 +35,14 @@ def readme(found):
     told = re.match(r"\d+ definitions, [\d,]+ lines", believe.count(found))[0]
     if told not in open("README.md").read():
         sys.exit(f"README.md has to say: {told}")
+
+
+# README's list of the main theorems is that of the functions of `laws`.
+def theorems_listed(world):
+    here = {believe.told(d) for d in believe.theorems(world)}
+    listed = set(re.findall(r"^\| `(\w+::laws::\w+)` \|", open("README.md").read(), re.M))
+    if here != listed:
+        sys.exit(f"README.md's list of main theorems: missing {sorted(here - listed)}, too many {sorted(listed - here)}")
 
 
 # The definitions alone, as a repository of their own: the kit takes them, so nothing that they rest on is left out.
@@ -127,6 +136,7 @@ def main():
         sys.exit("\n".join(believe.problems))
     by_reading(world, found)
     readme(found)
+    theorems_listed(world)
     fails()
     said = taken_by_the_kit(world, found)
     print(f"tests/believe: {believe.count(found)}; alone: {said}")

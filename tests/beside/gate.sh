@@ -5,11 +5,11 @@ set -eu
 cd "$(dirname "$0")/../.."
 . tools/setup.sh
 have_rust || exit 0
-need_library || exit 0
+need_library
 need_packages valgrind
 LIBRARY=$PLUMTREE_LIB_DIR tests/beside/build.sh
 beside=tests/target/release/beside
-if need_crates beside_sample; then $beside --check crates/beside_sample/stdin; fi
+$beside --check crates/beside_sample/stdin
 $beside --brief --seed 7 --calls 160000 --every-path
 $beside --brief --seed "${SEED:-$(date +%s)}" --calls 60000
 

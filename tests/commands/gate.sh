@@ -132,31 +132,6 @@ $last
 FAILED: tests/own/gate.sh
 END
 
-# One that needs a crate: it is left out where PORTING-LEFT.md names the crate, and fails where nothing does.
-cat >"$repo/tests/own/gate.sh" <<'END'
-. tools/setup.sh
-need_crates apart later || exit 0
-echo "it runs"
-END
-shows test 1 <<END
-$begins
-$ran
-$last
-== [1 of 1, 0m00s] tests/own/gate.sh
-there is no crate later, and PORTING-LEFT.md does not name it
-FAILED: tests/own/gate.sh
-END
-echo '- later, panelrun_long: not yet' >"$repo/PORTING-LEFT.md"
-shows test 0 <<END
-$begins
-$ran
-$last
-== [1 of 1, 0m00s] tests/own/gate.sh
-left out: not here yet (PORTING-LEFT.md): later
-$last
-END
-rm "$repo/PORTING-LEFT.md"
-
 # An edit that shows nothing, one that is not refused, and a crate that is not proved.
 bad='rt: must-fail panelrun/one.edit: BAD EDIT: its text stands nowhere'
 says 0 < <(printf '%s\n' "$proved" "$bad" "$ran" '3 passed, 0 failed')

@@ -3,6 +3,5 @@
 set -eu
 cd "$(dirname "$0")/../.."
 . tools/setup.sh
-need_all_crates || exit 0
 need_packages python3
 python3 tests/map/check.py

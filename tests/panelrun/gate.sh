@@ -3,7 +3,6 @@
 set -eu
 cd "$(dirname "$0")/../.."
 . tools/setup.sh
-need_crates panelrun panelrun_long || exit 0
 have_rust || exit 0
 need_packages python3
 [ -x tests/target/release/oracle ] || tests/rust/build.sh

@@ -3,7 +3,6 @@
 set -eu
 cd "$(dirname "$0")/../.."
 . tools/setup.sh
-need_crates exports || exit 0
 have_rust || exit 0
 need_packages librust-hex-dev librust-indexmap-dev
 (cd tests/rust/seed && sha256sum -c --quiet SHA256SUMS)

@@ -109,7 +109,7 @@ pub struct Answer<'a> {
 impl<'a> Encode for Answer<'a> {
     ghost bytes = { λ a. answerBytes a.number a.actions.now };
 
-    #[tactic(auto, unfolding(crate::records::specs::Running::answerBytes, postcard::specs::Message::contentBytes), using(encode::proofs::HeldLaws::after_append, encode::proofs::HeldLaws::room_after, encode::proofs::HeldLaws::length_both))]
+    #[tactic(auto, unfolding(crate::specs::Records::Running::answerBytes, postcard::specs::Message::contentBytes), using(crate::proofs::EncodeLaws::HeldLaws::after_append, crate::proofs::EncodeLaws::HeldLaws::room_after, crate::proofs::EncodeLaws::HeldLaws::length_both))]
     fn encode<S: Sink>(&self, out: &mut S) {
         out.byte(self.number);
         self.actions.encode(out);
@@ -129,7 +129,7 @@ pub fn put_answer(reply: &mut [u8; 40971], number: u8, out: &[u8], n: usize) -> 
 }
 
 // Writes the end: "07 00".
-#[tactic(auto, unfolding(crate::records::specs::Running::endBytes, crate::records::specs::Running::answerBytes))]
+#[tactic(auto, unfolding(crate::specs::Records::Running::endBytes, crate::specs::Records::Running::answerBytes))]
 pub fn put_end(reply: &mut [u8; 40971]) -> usize
     ensures { Wrote endBytes reply.old 0 reply.new result }
 {

@@ -1,5 +1,5 @@
 // Actions: document 01, "1 send (peer, byte 0 taken or 1 handed back, message); 2 schedule (delay, timer); 3 emit (peer, length, content, delivery)".
-#![tactic(auto, unfolding(postcard::specs::Message::takenByte, postcard::specs::Output::sendHead, postcard::specs::Message::actionBytes), using(crate::encode::proofs::HeldLaws::after_append, crate::encode::proofs::HeldLaws::room_after, crate::encode::proofs::HeldLaws::length_both))]
+#![tactic(auto, unfolding(postcard::specs::Message::takenByte, postcard::specs::Output::sendHead, postcard::specs::Message::actionBytes), using(crate::proofs::EncodeLaws::HeldLaws::after_append, crate::proofs::EncodeLaws::HeldLaws::room_after, crate::proofs::EncodeLaws::HeldLaws::length_both))]
 
 ghost use Rattle.std.specs.Prelude.{◌≡◌, [], ◌∷◌, ◌++◌};
 ghost use Rattle.postcard.specs.Message.{Scheduled, Emitted, takenByte, actionBytes};

@@ -1,5 +1,5 @@
 // The fields that messages, timers and actions are made of.
-#![tactic(auto, unfolding(postcard::specs::Message::contentBytes, postcard::specs::Message::deliveryBytes, postcard::specs::Message::optionalIdBytes, postcard::specs::Message::timerBytes), using(crate::encode::proofs::HeldLaws::after_append, crate::encode::proofs::HeldLaws::room_after, crate::encode::proofs::HeldLaws::length_both, crate::encode::proofs::HeldLaws::id_long, crate::encode::proofs::IdLaws::id_words))]
+#![tactic(auto, unfolding(postcard::specs::Message::contentBytes, postcard::specs::Message::deliveryBytes, postcard::specs::Message::optionalIdBytes, postcard::specs::Message::timerBytes), using(crate::proofs::EncodeLaws::HeldLaws::after_append, crate::proofs::EncodeLaws::HeldLaws::room_after, crate::proofs::EncodeLaws::HeldLaws::length_both, crate::proofs::EncodeLaws::HeldLaws::id_long, crate::proofs::EncodeLaws::IdLaws::id_words))]
 
 ghost use Rattle.std.specs.Prelude.{◌≡◌, [], ◌∷◌, ◌++◌, List, ℕ};
 ghost use Rattle.storage.specs.Rows.Ident.{id_of};

@@ -1,5 +1,5 @@
 // Messages: document 01, "Numbers and messages (Postcard)".
-#![tactic(auto, unfolding(postcard::specs::Message::messageBytes, postcard::specs::Output::ihaveHead, postcard::specs::Message::ihaveBytes), using(crate::encode::proofs::HeldLaws::after_append, crate::encode::proofs::HeldLaws::room_after, crate::encode::proofs::HeldLaws::length_both))]
+#![tactic(auto, unfolding(postcard::specs::Message::messageBytes, postcard::specs::Output::ihaveHead, postcard::specs::Message::ihaveBytes), using(crate::proofs::EncodeLaws::HeldLaws::after_append, crate::proofs::EncodeLaws::HeldLaws::room_after, crate::proofs::EncodeLaws::HeldLaws::length_both))]
 
 ghost use Rattle.std.specs.Prelude.{◌≡◌, [], ◌∷◌, ◌++◌};
 ghost use Rattle.storage.specs.Rows.Ident.{id_of};

@@ -25,12 +25,12 @@ pub struct Counter {
 impl Sink for Counter {
     ghost held = { λ c. counted c.count };
 
-    #[tactic(auto, unfolding(crate::encode::specs::Held::after, crate::encode::specs::Held::room_of))]
+    #[tactic(auto, unfolding(crate::specs::Encode::Held::after, crate::specs::Encode::Held::room_of))]
     fn byte(&mut self, _b: u8) {
         self.count += 1;
     }
 
-    #[tactic(auto, unfolding(crate::encode::specs::Held::after, crate::encode::specs::Held::room_of))]
+    #[tactic(auto, unfolding(crate::specs::Encode::Held::after, crate::specs::Encode::Held::room_of))]
     fn bytes(&mut self, bytes: &[u8]) {
         self.count += bytes.len();
     }
@@ -47,13 +47,13 @@ pub struct Writer<'a> {
 impl<'a> Sink for Writer<'a> {
     ghost held = { λ w. written (take w.at w.out.now) (drop w.at w.out.now) w.out.ghost_name };
 
-    #[tactic(auto, unfolding(crate::encode::specs::Held::room_of), using(crate::encode::proofs::HeldLaws::set_after))]
+    #[tactic(auto, unfolding(crate::specs::Encode::Held::room_of), using(crate::proofs::EncodeLaws::HeldLaws::set_after))]
     fn byte(&mut self, b: u8) {
         self.out[self.at] = b;
         self.at += 1;
     }
 
-    #[tactic(auto, unfolding(crate::encode::specs::Held::room_of), using(crate::encode::proofs::HeldLaws::copy_after))]
+    #[tactic(auto, unfolding(crate::specs::Encode::Held::room_of), using(crate::proofs::EncodeLaws::HeldLaws::copy_after))]
     fn bytes(&mut self, bytes: &[u8]) {
         let start = self.at;
         let end = start + bytes.len();

@@ -9,7 +9,7 @@
  *
  *     cc -I include program.c target/staticlib/libplumtree.a
  *
- * The specification is called "document 01" here, and what customers asked for since "document 02"; their words stand in quotes.
+ * The specification is docs/SPECIFICATION.md, with what customers asked for since as its last sections; its words stand in quotes.
  *
  *
  * WHAT A HOST DOES
@@ -96,7 +96,7 @@ extern "C" {
  *
  * "Answer 0 is yes to all. The first no gives its number". Creation asks 1 to 4, an event 5 to 14, plumtree_alike 5, plumtree_rewrite 7, 8, 9
  * and 14, plumtree_save 5, 17, 16 and plumtree_return 5, 17, 15, each in this order. The questions stand in plumtree_number_text below: 1 to 14 are
- * document 01's, 15 to 17 document 02's, which has no question in words but what is answered so. Those of plumtree_rewrite are asked of the message
+ * the specification's from the first, 15 to 17 those of "Named states", which has no question in words but what is answered so. Those of plumtree_rewrite are asked of the message
  * it is lent, and 14 of what it writes. Question 5 of plumtree_return is asked of the block as it is lent.
  */
 enum plumtree_number {
@@ -365,7 +365,7 @@ struct plumtree_answer plumtree_create(uint8_t *block, size_t block_length, stru
                                        struct plumtree_limits limits);
 
 /*
- * One event at the time `at`, in milliseconds. Asks 5 to 14 in their order, then does what document 01 says of the event. One that is refused
+ * One event at the time `at`, in milliseconds. Asks 5 to 14 in their order, then does what the specification says of the event. One that is refused
  * has not happened: a timer, an up or a broadcast is told again later, since what waits for it waits on; a message is lost as on a bad
  * link, an IHave whole. A clock that starts at 0 again keeps what was taken in before until it has passed the old times, and fills the limits.
  * `rooms` is the link room of this call; none (null, 0): every send is taken.

@@ -8,15 +8,15 @@ import believe
 
 # By reading: what must be among them, and what must not (it exists, and serves proofs or functions inside the library).
 IN = """
-storage.Lists.Base.is_some storage.Lists.Map.insert storage.Rows.Digits.leNat postcard.Number.◌then◌ postcard.Decode.decodeEvent postcard.Sizes.perMessage postcard.Told.Leaves postcard.Rewrite.rewrite postcard.src.units.Round
-time_cache.TimeCache.expireUntil blake3.Blake3.compressed protocol.State.create protocol.Whole.wholeState protocol.Gossips.optimizeTree protocol.Answer.answerBlock
-protocol.Demand3.metFull protocol.Alike.sameNotes protocol.Panel.panelrun block.src.head.Config block.Header.headIn block.View.state_of whole.Held.held whole.States.Kept.keep whole.States.Area.areaHolds whole.States.Calls.Saves machine.Called.Finds
+storage.Lists.Base.is_some storage.Lists.Map.insert storage.Rows.Digits.le_nat postcard.Number.◌then◌ postcard.Decode.decode_event postcard.Sizes.per_message postcard.Told.Leaves postcard.Rewrite.rewrite postcard.src.units.Round
+time_cache.TimeCache.expire_until blake3.Blake3.compressed protocol.State.create protocol.Whole.whole_state protocol.Gossips.optimize_tree protocol.Answer.answer_block
+protocol.NoNeighbourPassedOver.met_full protocol.Alike.same_notes protocol.Panel.panelrun block.src.head.Config block.Header.head_in block.View.state_of whole.Held.held whole.States.Kept.keep whole.States.Area.area_holds whole.States.Calls.Saves machine.Called.Finds
 machine.Called.call_of plumtree.Calls.Made plumtree.Calls.entries plumtree.lib.plumtree_alike panel.Records.Running.closing panel.Runs.Runs
-protocol.Demand3.Demand3 protocol.AlikeUnordered.sameBag plumtree.CallList.LeadsTo plumtree.Histories.History.Step protocol.laws.no_neighbour_passed_over postcard.Rewrite.ShortestForm whole.States.Area.LeftBy
+protocol.NoNeighbourPassedOver.NoNeighbourPassedOver protocol.AlikeUnordered.same_bag plumtree.CallList.LeadsTo plumtree.Histories.History.Step protocol.laws.no_neighbour_passed_over postcard.Rewrite.ShortestForm whole.States.Area.LeftBy
 """
 OUT = """
-storage.Rows.Part.Only storage.Rows.Sorted.Ascending storage.Refs.Once.Numbers postcard.Message.eventBytes postcard.Output.Room postcard.Events.Decodes wire.Rewrite.Answers.number_of blake3.WordOrder.order
-decide.Settled.settled alike.Notes.NextOf block.Goes.Goes block.Sound.Sound whole.States.Calls.Placed protocol.AlikeCalls.Peerwise.Like steps.Stands.Stands machine.Kinds.Meaning.peerOf machine.Core.Begun machine.Core.coreRooms
+storage.Rows.Part.Only storage.Rows.Sorted.Ascending storage.Refs.Once.Numbers postcard.Message.event_bytes postcard.Output.Room postcard.Events.Decodes wire.Rewrite.Answers.number_of blake3.WordOrder.order
+decide.Settled.settled alike.Notes.NextOf block.Goes.Goes block.Sound.Sound whole.States.Calls.Placed protocol.AlikeCalls.Peerwise.Like steps.Stands.Stands machine.Kinds.Meaning.peer_of machine.Core.Begun machine.Core.core_rooms
 machine.Decided.decided machine.Outcomes.Asked plumtree.Rooms.Found plumtree.Peers.Sender panel.Records.Reading.Whole
 """
 
@@ -125,7 +125,7 @@ def fails():
         text = open(path, encoding="utf-8").read()
         open(path, "w", encoding="utf-8").write(text.replace("leb 510", "least 510"))
         said = subprocess.run([sys.executable, f"{top}/tools/believe.py", "--count"], stdout=subprocess.DEVNULL, stderr=subprocess.PIPE, text=True)
-        if said.returncode != 1 or "protocol.State.sizeInRange: the name least cannot be told" not in said.stderr:
+        if said.returncode != 1 or "protocol.State.size_in_range: the name least cannot be told" not in said.stderr:
             sys.exit("tools/believe.py does not tell a name that is nowhere")
 
 

@@ -24,7 +24,7 @@ cd "$copy"
 
 export RUSTFLAGS="-D warnings"
 
-# Without the archive all of it is checked, the library is built, and the reader runs, on document 01's example and on a longer run. A program that
+# Without the archive all of it is checked, the library is built, and the reader runs, on the specification's example and on a longer run. A program that
 # calls the library is not linked, and the message says what is missing.
 none=$out/none
 without() { PLUMTREE_LIB_DIR=$none cargo "$1" --offline -q --target-dir "$out/without" "${@:2}"; }

@@ -205,7 +205,7 @@ static bool announces(const struct panel *p, uint8_t content)
 }
 
 /*
- * Document 02: "Two panels were shown as alike and sent different identifiers on the next ticks, since their records held the same ones in another order." At the next
+ * The specification: "Two panels were shown as alike and sent different identifiers on the next ticks, since their records held the same ones in another order." At the next
  * ticks 64 go out, and the last one waits.
  */
 static void customers_case(void)

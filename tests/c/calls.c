@@ -872,7 +872,7 @@ int main(void)
     CHECK(sizeof(struct plumtree_answer) == 16);
     CHECK(sizeof(struct plumtree_likeness) == 2);
     settings_in_place();
-    /* Document 01: "Threshold 7, r = 9: announcer round 3 optimises, 4 doesn't." */
+    /* The specification: "Threshold 7, r = 9: announcer round 3 optimises, 4 doesn't." */
     CHECK(optimises(7, 3));
     CHECK(!optimises(7, 4));
     CHECK(optimises(6, 4));

@@ -1,6 +1,6 @@
 /*
  * Named states from C: plumtree_save and plumtree_return beside a plain model, which keeps at most four names with their counts and blocks in the order of
- * first saving, lays an area out by itself and asks 5, 17, 16 and 15 by itself. Three parts: each reading of request d as a case of its own; random
+ * first saving, lays an area out by itself and asks 5, 17, 16 and 15 by itself. Three parts: each reading of "Named states" as a case of its own; random
  * histories of panels and areas; every bit of an area changed. Every lent part is a heap block of exactly its length, so that valgrind sees a step beyond it.
  *
  *     states [STEPS [STRIDE]]     so many steps of the histories (60,000), and each STRIDE-th bit of the areas (1)
@@ -119,7 +119,7 @@ struct panel {
     bool whole;
 };
 
-/* Document 01's question 4, by itself: "4,096 + B + 160R + 256C + 640G + 512S + 64(N + T + Q + D)". */
+/* The specification's question 4, by itself: "4,096 + B + 160R + 256C + 640G + 512S + 64(N + T + Q + D)". */
 static size_t need_of(struct plumtree_limits l)
 {
     return 4096 + l.content + 160 * l.received + 256 * l.cached + 640 * l.grafted + 512 * l.missing +

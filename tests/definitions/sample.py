@@ -408,7 +408,7 @@ def section_term(number, section, identify):
         "  calls = %s;" % ("\n      ∷ ".join(["(%s)" % c for c in calls] + ["[]"])),
         "  answers = %s;" % ("\n      ∷ ".join(["(%s)" % a for a in answers] + ["[]"])),
         "  end = %s;" % state(end, settings, lim),
-        "  endCounts = %s;" % last,
+        "  end_counts = %s;" % last,
         "}",
     ])
 
@@ -430,28 +430,28 @@ use Rattle.std.proofs.Math.Option.{none, some}
 use Rattle.std.proofs.Math.ListN.{replicate}
 %s
 use Rattle.storage.specs.Lists.Map.{entry}
-use Rattle.postcard.specs.Number.{bigEndian}
+use Rattle.postcard.specs.Number.{big_endian}
 use Rattle.protocol.specs.Links.{eager, lazy}
 use Rattle.protocol.specs.State.{State, Settings, Limits, Counts, Hop, Note, fresh}
 use Rattle.protocol.specs.Run.{Room}
-use Rattle.protocol.specs.Answer.{Call, Answer, refuse, accept, outputOf}
-use Rattle.protocol.specs.Calls.{Ran, runCalls}
+use Rattle.protocol.specs.Answer.{Call, Answer, refuse, accept, output_of}
+use Rattle.protocol.specs.Calls.{Ran, run_calls}
 use Rattle.protocol.specs.Alike.{same_list, alike}
 
 -- the bytes of a number, the first highest
 abbrev bytes : ℕ → ℕ → List ℕ
-bytes n x = bigEndian n x
+bytes n x = big_endian n x
 
 abbrev settings : ℕ → ℕ → ℕ → ℕ → ℕ → ℕ → ℕ → ℕ → ℕ → Settings
 settings a b c d e f g m me = record {
-  graftTimeout1 = a;
-  graftTimeout2 = b;
-  dispatchTimeout = c;
-  optimizationThreshold = d;
-  messageCacheRetention = e;
-  messageIdRetention = f;
-  cacheEvictInterval = g;
-  maxMessageSize = m;
+  graft_timeout_1 = a;
+  graft_timeout_2 = b;
+  dispatch_timeout = c;
+  optimization_threshold = d;
+  message_cache_retention = e;
+  message_id_retention = f;
+  cache_evict_interval = g;
+  max_message_size = m;
   me = me;
 }
 
@@ -480,16 +480,16 @@ data Said : Type 0 where
 
 abbrev said : Answer → Said
 said (refuse n) = no n
-said (accept e r) = yes (outputOf r)
+said (accept e r) = yes (output_of r)
 
-abbrev sameSaid : Said → Said → Bool
-sameSaid (no m) (no n) = eqb m n
-sameSaid (no m) (yes b) = false
-sameSaid (yes a) (no n) = false
-sameSaid (yes a) (yes b) = same_list eqb a b
+abbrev same_said : Said → Said → Bool
+same_said (no m) (no n) = eqb m n
+same_said (no m) (yes b) = false
+same_said (yes a) (no n) = false
+same_said (yes a) (yes b) = same_list eqb a b
 
-abbrev sameCounts : Counts → Counts → Bool
-sameCounts a b = eqb a.payload b.payload && eqb a.control b.control && eqb a.hops b.hops
+abbrev same_counts : Counts → Counts → Bool
+same_counts a b = eqb a.payload b.payload && eqb a.control b.control && eqb a.hops b.hops
 
 -- a panel, calls upon it, and what the Rust made of them
 record Section : Type 0 where
@@ -498,7 +498,7 @@ record Section : Type 0 where
   calls : List Call
   answers : List Said
   end : State
-  endCounts : Counts
+  end_counts : Counts
 
 -- a content and its identifier
 record Named : Type 0 where
@@ -512,7 +512,7 @@ named (n ∷ ns) content = if same_list eqb n.content content then n.id else nam
 
 -- answers, state and counts agree
 abbrev compare : Ran → Section → List Bool
-compare r x = same_list sameSaid (map said r.answers) x.answers ∷ alike r.state x.end ∷ sameCounts r.counts x.endCounts ∷ []
+compare r x = same_list same_said (map said r.answers) x.answers ∷ alike r.state x.end ∷ same_counts r.counts x.end_counts ∷ []
 
 """
 
@@ -531,7 +531,7 @@ def module(calls):
     out.append("""
 
 agrees : Section → List Bool
-agrees x = compare (runCalls hash x.begin x.counts x.calls) x
+agrees x = compare (run_calls hash x.begin x.counts x.calls) x
 """)
     # The checker bounds the steps of one theorem.
     groups, calls = [[]], 0

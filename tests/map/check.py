@@ -72,7 +72,7 @@ def words(page):
 
 
 def requests(page, every):
-    rows, known = table(page, "Requests of document 02"), set(every)
+    rows, known = table(page, "Changes asked for"), set(every)
     need([row[0].split()[0] for row in rows] == list("abcdefghijklmn"), "the requests are not a to n")
     for request, changed, new in rows:
         for crate in names(changed):

@@ -5,7 +5,7 @@
     make.py check    # compares them, and those of crates/panelrun, with the Rust's answer
 
 Both run the oracle (tests/rust/build.sh), whose command `panel` gives what `panelrun` writes: the
-Rust's state machine, with document 01's questions and panelrun's settings and limits around it.
+Rust's state machine, with the specification's questions and panelrun's settings and limits around it.
 """
 import collections
 import pathlib

@@ -189,7 +189,7 @@ impl Cases {
     }
 }
 
-/// The fields of an event, as document 01 names them.
+/// The fields of an event, as the specification names them.
 #[derive(Clone)]
 enum Field {
     /// A kind byte, and how many kinds there are.
@@ -403,7 +403,7 @@ fn announcements(n: usize, round: u16) -> Message {
     Message::IHave((0..n).map(|i| IHave { id: MessageId([i as u8; 32]), round: Round(round) }).collect())
 }
 
-/// The worked calls of document 01 that speak of bytes read: sizes, rounds, and the events of panelrun's example.
+/// The worked calls of the specification that speak of bytes read: sizes, rounds, and the events of panelrun's example.
 fn worked(cases: &mut Cases) {
     let top = DeliveryScope::Swarm(Round(65_535));
     for (len, scope, size) in [(0, top, 38), (127, top, 165), (128, top, 167), (0, DeliveryScope::Neighbors, 35), (471, top, 510), (472, top, 511)] {

@@ -1,8 +1,8 @@
 #!/usr/bin/env python3
-# Every quotation stands word for word in one of the stored texts: document 01, document 02, demand 3, the sentences of the Rust that are quoted. Usage, from the repository's top:
+# Every quotation stands word for word in docs/SPECIFICATION.md, or in rust.txt, the sentences of the Rust that are quoted. Usage, from the repository's top:
 # tests/quotations/check.py [FILE ...], all files that have quotations if none is named. It fails at the first that is nowhere, and tells how many it looked at.
 #   Quotations: what stands between double quotes in a comment of the crates and of C and Rust (but for the original Rust and its stand-ins, tests/rust), in a string of
-#   include/plumtree.h, and in README.md, the tests' README.md and the documents but docs/BENCHMARKS.md, where a block quote is one too. Program text in a document or between the
+#   include/plumtree.h, and in README.md, the tests' README.md and the documents but docs/BENCHMARKS.md and docs/SPECIFICATION.md, where a block quote is one too. Program text in a document or between the
 #   fences of a comment is none. Comment lines that follow each other are one text.
 #   Word for word: but for backquotes, asterisks and line ends; <= is ≤. An ellipsis (… or ..) or words in [brackets] stand for others, and the parts around them come in that order.
 #   exceptions.txt has what stands between quotation marks and is no quotation.
@@ -103,9 +103,9 @@ def main(named):
         + glob.glob("tests/*/*.c")
         + [f for f in glob.glob("**/*.rs", recursive=True) if not re.match("(.*/)?target/|tests/rust/(seed|standins)/", f)]
         + glob.glob("tests/*/README.md")
-        + list(set(glob.glob("docs/*.md")) - {"docs/BENCHMARKS.md"})
+        + list(set(glob.glob("docs/*.md")) - {"docs/BENCHMARKS.md", "docs/SPECIFICATION.md"})
     ) + ["README.md"]
-    texts = [plain(read(f"{HERE}/{name}.txt")) for name in ("document-01", "document-02", "demand-3", "rust")]
+    texts = [plain(read(f)) for f in ("docs/SPECIFICATION.md", f"{HERE}/rust.txt")]
     reasons = dict(line.split("\t") for line in read(f"{HERE}/exceptions.txt").splitlines() if not line.startswith("#"))
     looked, excepted = 0, set()
     for path in files:

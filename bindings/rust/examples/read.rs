@@ -124,7 +124,7 @@ fn main() -> ExitCode {
 mod tests {
     use super::read;
 
-    /// Document 01: "up 2, dispatch tick, Prune from 5".
+    /// The specification: "up 2, dispatch tick, Prune from 5".
     #[test]
     fn the_worked_call() {
         let input = [0x00, 0x02, 0x03, 0x02, 0x00, 0x02, 0x02, 0x01, 0x00, 0x03, 0x00, 0x05, 0x01];

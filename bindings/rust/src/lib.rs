@@ -178,7 +178,7 @@ pub use wire::{read_number, write_number};
 /// let mut counts = Stats::default();
 /// assert_eq!(raw::create(&mut block, &mut counts, Settings::of_panel(1), Limits::SMALL).number, 0);
 ///
-/// // Document 01's example: up 2, dispatch tick, Prune from 5.
+/// // The specification's example: up 2, dispatch tick, Prune from 5.
 /// let mut output = [0; 64];
 /// let up = raw::event(&mut block, &mut counts, 0, &[3, 2], &[], &mut output);
 /// assert_eq!((up.number, up.length), (0, 0));

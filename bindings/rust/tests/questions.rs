@@ -43,7 +43,7 @@ fn create(length: usize, settings: Settings, limits: Limits) -> u8 {
     answer.number
 }
 
-/// Document 01's sum.
+/// The specification's sum.
 fn need(l: Limits) -> usize {
     4096 + l.content
         + 160 * l.received

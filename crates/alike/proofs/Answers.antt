@@ -10,55 +10,55 @@ use lib.Dec.{leb}
 use lib.ListN.{length}
 use Rattle.std.specs.Prelude.{if◌then◌else◌}
 use Rattle.storage.proofs.ListsLaws.MapLaws.{and_left, and_right, and_intro}
-use Rattle.protocol.specs.State.{State, limitsInRange, blockNeed}
-use Rattle.protocol.specs.Whole.{whole, longEnough, wholeState}
+use Rattle.protocol.specs.State.{State, limits_in_range, block_need}
+use Rattle.protocol.specs.Whole.{whole, long_enough, whole_state}
 use Rattle.protocol.proofs.Consistent.{whole-consistent}
-use Rattle.protocol.specs.Alike.{notWhole, likenessOf}
-use Rattle.block.specs.View.{limitsOf, state_of}
+use Rattle.protocol.specs.Alike.{not_whole, likeness_of}
+use Rattle.block.specs.View.{limits_of, state_of}
 use Rattle.block.specs.Layout.{tables}
 use Rattle.block.specs.LinkSteps.{LinksAscend}
-use Rattle.block.specs.Header.{word_at, headIn}
+use Rattle.block.specs.Header.{word_at, head_in}
 use Rattle.block.specs.declared.head.Head.{Head}
-use Rattle.whole.specs.Held.{hasHeader, hasTables, countsWithin, laidOut, holdsWith, held, wholeHeld, wholeBlock}
+use Rattle.whole.specs.Held.{has_header, has_tables, counts_within, laid_out, holds_with, held, whole_held, whole_block}
 use Rattle.whole.proofs.HeldLaws.{Wholly}
 use Rattle.whole.proofs.Tests.{conj}
 use Rattle.alike.proofs.Lists.{and_no}
 
 -- a block that is not whole
-no-state : (n : ℕ) (o : Option State) → wholeHeld o ≡ false → wholeState n o ≡ none
-unfolding wholeHeld wholeState
+no-state : (n : ℕ) (o : Option State) → whole_held o ≡ false → whole_state n o ≡ none
+unfolding whole_held whole_state
 no-state n none e = refl
-no-state n (some s) e = ap (λ (b : Bool). if b then some s else none) (and_no (longEnough n s) (whole s) e)
+no-state n (some s) e = ap (λ (b : Bool). if b then some s else none) (and_no (long_enough n s) (whole s) e)
 
-pub not-whole : (xs : List ℕ) → wholeBlock xs ≡ false → wholeState (length xs) (held xs) ≡ none
-unfolding wholeBlock
+pub not-whole : (xs : List ℕ) → whole_block xs ≡ false → whole_state (length xs) (held xs) ≡ none
+unfolding whole_block
 not-whole xs e = no-state (length xs) (held xs) e
 
 -- a whole block
 module _ (xs : List ℕ) (w : Wholly xs) where
   pub has-header : 2048 ≤ length xs
-  unfolding hasHeader
+  unfolding has_header
   has-header = leb-true 2048 (length xs) (and_left (leb 2048 (length xs)) (leb (word_at 24 xs) 65535) w.header)
 
-  pub links-ascend : LinksAscend (headIn xs) xs
-  links-ascend = (whole-consistent (state_of (headIn xs) xs) w.whole).core.linksUp
+  pub links-ascend : LinksAscend (head_in xs) xs
+  links-ascend = (whole-consistent (state_of (head_in xs) xs) w.whole).core.links_up
 
-  long : longEnough (length xs) (state_of (headIn xs) xs) ≡ true
-  unfolding longEnough state_of holdsWith hasTables
+  long : long_enough (length xs) (state_of (head_in xs) xs) ≡ true
+  unfolding long_enough state_of holds_with has_tables
   long =
-      let h : Head = headIn xs in
-      and_right (limitsInRange (limitsOf h.limits)) (leb (blockNeed (limitsOf h.limits)) (length xs))
-      (and_left (hasTables (limitsOf h.limits) xs) (countsWithin (limitsOf h.limits) h.live)
-      (and_left (hasTables (limitsOf h.limits) xs && countsWithin (limitsOf h.limits) h.live) (laidOut h (tables (limitsOf h.limits) xs)) w.holds))
+      let h : Head = head_in xs in
+      and_right (limits_in_range (limits_of h.limits)) (leb (block_need (limits_of h.limits)) (length xs))
+      (and_left (has_tables (limits_of h.limits) xs) (counts_within (limits_of h.limits) h.live)
+      (and_left (has_tables (limits_of h.limits) xs && counts_within (limits_of h.limits) h.live) (laid_out h (tables (limits_of h.limits) xs)) w.holds))
 
-  pub whole-state : wholeState (length xs) (held xs) ≡ some (state_of (headIn xs) xs)
-  unfolding wholeState
+  pub whole-state : whole_state (length xs) (held xs) ≡ some (state_of (head_in xs) xs)
+  unfolding whole_state
   whole-state =
-      let s : State = state_of (headIn xs) xs in
-      ap (wholeState (length xs)) w.state ∙ ap (λ (b : Bool). if b then some s else none) (and_intro {a = longEnough (length xs) s} {b = whole s} long w.whole)
+      let s : State = state_of (head_in xs) xs in
+      ap (whole_state (length xs)) w.state ∙ ap (λ (b : Bool). if b then some s else none) (and_intro {a = long_enough (length xs) s} {b = whole s} long w.whole)
 
-pub second-not : (o : Option State) → likenessOf o none ≡ notWhole
-unfolding likenessOf
+pub second-not : (o : Option State) → likeness_of o none ≡ not_whole
+unfolding likeness_of
 second-not none = refl
 second-not (some s) = refl
 

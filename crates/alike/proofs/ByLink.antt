@@ -16,124 +16,124 @@ use Rattle.storage.proofs.ListsLaws.ListLaws.{all_append}
 use Rattle.storage.proofs.ListsLaws.Places.{at_all}
 use Rattle.storage.specs.Rows.Ident.{id_of}
 use Rattle.protocol.specs.State.{Note}
-use Rattle.protocol.specs.Push.{forPeer}
-use Rattle.protocol.specs.Alike.{same_list, sameNote, sameNotes}
+use Rattle.protocol.specs.Push.{for_peer}
+use Rattle.protocol.specs.Alike.{same_list, same_note, same_notes}
 use Rattle.protocol.proofs.AlikeCallsLaws.Reflect.{tells-notes}
 use Rattle.protocol.proofs.AlikeCallsLaws.Stay.{list-refl, note-refl}
 use Rattle.block.specs.View.{state_of}
 use Rattle.block.specs.Sound.{Sound}
-use Rattle.block.specs.LinkSteps.{peerAt}
+use Rattle.block.specs.LinkSteps.{peer_at}
 use Rattle.block.specs.NoteSteps.{note, LinkIs}
 use Rattle.block.specs.declared.head.Head.{Head}
 use Rattle.block.specs.declared.note.Note.{Note as LinkNote}
 use Rattle.block.proofs.NoteLaws.{count-queue, count-dropped, queue-link, record-link}
-use Rattle.alike.specs.Notes.{notesOf, count_of, sameInside, sameFor, NextOf}
+use Rattle.alike.specs.Notes.{notes_of, count_of, same_inside, same_for, NextOf}
 use Rattle.alike.specs.declared.by_link.Notes.{Notes}
 use Rattle.alike.specs.declared.by_link.Notes.TheVariants.{Queue, Record}
 
 -- how many notes there are, and that each is for a link
-pub count-of : (of : Notes) (h : Head) (xs : List ℕ) → Sound h xs → length (notesOf of (state_of h xs)) ≡ count_of of h.live
+pub count-of : (of : Notes) (h : Head) (xs : List ℕ) → Sound h xs → length (notes_of of (state_of h xs)) ≡ count_of of h.live
 count-of Queue h xs sound = count-queue h xs sound
 count-of Record h xs sound = count-dropped h xs sound
 
-link-of : (of : Notes) (h : Head) (xs : List ℕ) → Sound h xs → (i : ℕ) → i < count_of of h.live → (r : ℕ) × LinkIs h xs (notesOf of (state_of h xs)) i r
+link-of : (of : Notes) (h : Head) (xs : List ℕ) → Sound h xs → (i : ℕ) → i < count_of of h.live → (r : ℕ) × LinkIs h xs (notes_of of (state_of h xs)) i r
 link-of Queue h xs sound i q = (_, queue-link h xs sound i q)
 link-of Record h xs sound i q = (_, record-link h xs sound i q)
 
 -- a note for another peer is passed, one for the peer is the first of those that are left
 module _ (p : ℕ) (ns : List Note) (i : ℕ) (h : i < length ns) where
-  pub other-first : forPeer p (get_or ns i (note 0 0 0)) ≡ false → filter (forPeer p) (drop i ns) ≡ filter (forPeer p) (drop (i + 1) ns)
+  pub other-first : for_peer p (get_or ns i (note 0 0 0)) ≡ false → filter (for_peer p) (drop i ns) ≡ filter (for_peer p) (drop (i + 1) ns)
   unfolding filter
-  other-first e = ap (filter (forPeer p)) (drop-cons ns i (note 0 0 0) h) ∙ rw (e, add-one)
+  other-first e = ap (filter (for_peer p)) (drop-cons ns i (note 0 0 0) h) ∙ rw (e, add-one)
 
-  own_first : forPeer p (get_or ns i (note 0 0 0)) ≡ true → filter (forPeer p) (drop i ns) ≡ get_or ns i (note 0 0 0) ∷ filter (forPeer p) (drop (i + 1) ns)
+  own_first : for_peer p (get_or ns i (note 0 0 0)) ≡ true → filter (for_peer p) (drop i ns) ≡ get_or ns i (note 0 0 0) ∷ filter (for_peer p) (drop (i + 1) ns)
   unfolding filter
-  own_first e = ap (filter (forPeer p)) (drop-cons ns i (note 0 0 0) h) ∙ rw (e, add-one)
+  own_first e = ap (filter (for_peer p)) (drop-cons ns i (note 0 0 0) h) ∙ rw (e, add-one)
 
-none_left : (p : ℕ) (ns : List Note) (i : ℕ) → length ns ≤ i → filter (forPeer p) (drop i ns) ≡ []
+none_left : (p : ℕ) (ns : List Note) (i : ℕ) → length ns ≤ i → filter (for_peer p) (drop i ns) ≡ []
 unfolding filter
-none_left p ns i h = ap (filter (forPeer p)) (drop_of_length-le ns h)
+none_left p ns i h = ap (filter (for_peer p)) (drop_of_length-le ns h)
 
 -- a cursor in each list, at a note for the peer or at the end; the notes from there on are still to be compared
 pub record Cursors (p : ℕ) (xs ys : List Note) (i j : ℕ) : Type 0 where
   pub first : i ≤ length xs
   pub second : j ≤ length ys
-  pub atFirst : i < length xs → forPeer p (get_or xs i (note 0 0 0)) ≡ true
-  pub atSecond : j < length ys → forPeer p (get_or ys j (note 0 0 0)) ≡ true
-  pub left : sameFor p xs ys ≡ same_list sameNote (filter (forPeer p) (drop i xs)) (filter (forPeer p) (drop j ys))
+  pub at_first : i < length xs → for_peer p (get_or xs i (note 0 0 0)) ≡ true
+  pub at_second : j < length ys → for_peer p (get_or ys j (note 0 0 0)) ≡ true
+  pub left : same_for p xs ys ≡ same_list same_note (filter (for_peer p) (drop i xs)) (filter (for_peer p) (drop j ys))
 
 module _ (p : ℕ) (xs ys : List Note) where
   abbrev Xs : ℕ → List Note
-  Xs i = filter (forPeer p) (drop i xs)
+  Xs i = filter (for_peer p) (drop i xs)
 
   abbrev Ys : ℕ → List Note
-  Ys j = filter (forPeer p) (drop j ys)
+  Ys j = filter (for_peer p) (drop j ys)
 
   pub cursors-start : (i j : ℕ) → NextOf p 0 xs i → NextOf p 0 ys j → Cursors p xs ys i j
-  cursors-start i j a b = record { first = a.within; second = b.within; atFirst = a.found; atSecond = b.found; left = λ k. same_list sameNote (a.passed k) (b.passed k) }
+  cursors-start i j a b = record { first = a.within; second = b.within; at_first = a.found; at_second = b.found; left = λ k. same_list same_note (a.passed k) (b.passed k) }
 
   module _ (i j : ℕ) (c : Cursors p xs ys i j) where
     -- the first list has one more
     module _ (h : i < length xs) where
       opened : Xs i ≡ get_or xs i (note 0 0 0) ∷ Xs (i + 1)
-      opened = own_first p xs i h (c.atFirst h)
+      opened = own_first p xs i h (c.at_first h)
 
-      pub cursors-short : length ys ≤ j → false ≡ sameFor p xs ys
+      pub cursors-short : length ys ≤ j → false ≡ same_for p xs ys
       unfolding same_list
-      cursors-short g = sym (c.left ∙ (λ k. same_list sameNote (opened k) (none_left p ys j g k)))
+      cursors-short g = sym (c.left ∙ (λ k. same_list same_note (opened k) (none_left p ys j g k)))
 
       -- and the second too
       module _ (g : j < length ys) where
-        here : sameFor p xs ys ≡ (sameNote (get_or xs i (note 0 0 0)) (get_or ys j (note 0 0 0)) && same_list sameNote (Xs (i + 1)) (Ys (j + 1)))
+        here : same_for p xs ys ≡ (same_note (get_or xs i (note 0 0 0)) (get_or ys j (note 0 0 0)) && same_list same_note (Xs (i + 1)) (Ys (j + 1)))
         unfolding same_list
-        here = c.left ∙ (λ k. same_list sameNote (opened k) (own_first p ys j g (c.atSecond g) k))
+        here = c.left ∙ (λ k. same_list same_note (opened k) (own_first p ys j g (c.at_second g) k))
 
-        pub cursors-differ : sameNote (get_or xs i (note 0 0 0)) (get_or ys j (note 0 0 0)) ≡ false → false ≡ sameFor p xs ys
-        cursors-differ e = sym (here ∙ ap (λ (t : Bool). t && same_list sameNote (Xs (i + 1)) (Ys (j + 1))) e)
+        pub cursors-differ : same_note (get_or xs i (note 0 0 0)) (get_or ys j (note 0 0 0)) ≡ false → false ≡ same_for p xs ys
+        cursors-differ e = sym (here ∙ ap (λ (t : Bool). t && same_list same_note (Xs (i + 1)) (Ys (j + 1))) e)
 
-        pub cursors-more : sameNote (get_or xs i (note 0 0 0)) (get_or ys j (note 0 0 0)) ≡ true → (i' j' : ℕ) → NextOf p (i + 1) xs i' → NextOf p (j + 1) ys j' → Cursors p xs ys i' j'
+        pub cursors-more : same_note (get_or xs i (note 0 0 0)) (get_or ys j (note 0 0 0)) ≡ true → (i' j' : ℕ) → NextOf p (i + 1) xs i' → NextOf p (j + 1) ys j' → Cursors p xs ys i' j'
         cursors-more e i' j' a b = record {
           first = a.within;
           second = b.within;
-          atFirst = a.found;
-          atSecond = b.found;
-          left = here ∙ ap (λ (t : Bool). t && same_list sameNote (Xs (i + 1)) (Ys (j + 1))) e ∙ (λ k. same_list sameNote (a.passed k) (b.passed k));
+          at_first = a.found;
+          at_second = b.found;
+          left = here ∙ ap (λ (t : Bool). t && same_list same_note (Xs (i + 1)) (Ys (j + 1))) e ∙ (λ k. same_list same_note (a.passed k) (b.passed k));
         }
 
     -- the first list has no more
-    pub cursors-end : length xs ≤ i → leb (length ys) j ≡ sameFor p xs ys
+    pub cursors-end : length xs ≤ i → leb (length ys) j ≡ same_for p xs ys
     unfolding same_list
     cursors-end h =
         cases (leb (length ys) j)
-        (λ t. t ∙ sym (c.left ∙ (λ k. same_list sameNote (none_left p xs i h k) (none_left p ys j (leb-true (length ys) j t) k))))
-        (λ t. let g : j < length ys = leb-false (length ys) j t in t ∙ sym (c.left ∙ (λ k. same_list sameNote (none_left p xs i h k) (own_first p ys j g (c.atSecond g) k))))
+        (λ t. t ∙ sym (c.left ∙ (λ k. same_list same_note (none_left p xs i h k) (none_left p ys j (leb-true (length ys) j t) k))))
+        (λ t. let g : j < length ys = leb-false (length ys) j t in t ∙ sym (c.left ∙ (λ k. same_list same_note (none_left p xs i h k) (own_first p ys j g (c.at_second g) k))))
 
 -- two notes for one peer
-pub same-inside : (p : ℕ) (m n : Note) (x y : LinkNote) → forPeer p m ≡ true → forPeer p n ≡ true → m.id ≡ id_of x.id → m.round ≡ x.round.0 → n.id ≡ id_of y.id → n.round ≡ y.round.0 →
-    sameNote m n ≡ sameInside x y
-unfolding sameNote
+pub same-inside : (p : ℕ) (m n : Note) (x y : LinkNote) → for_peer p m ≡ true → for_peer p n ≡ true → m.id ≡ id_of x.id → m.round ≡ x.round.0 → n.id ≡ id_of y.id → n.round ≡ y.round.0 →
+    same_note m n ≡ same_inside x y
+unfolding same_note
 same-inside p m n x y a b e f g h =
     let z : eqb m.peer n.peer ≡ true = eq-eqb m.peer n.peer (eqb-true m.peer p a ∙ sym (eqb-true n.peer p b)) in
     λ k. z k && eqb (e k) (g k) && eqb (f k) (h k)
 
 -- the notes of one peer differ
-pub notes-no : (p : ℕ) (xs ys : List Note) → sameFor p xs ys ≡ false → sameNotes xs ys ≡ false
+pub notes-no : (p : ℕ) (xs ys : List Note) → same_for p xs ys ≡ false → same_notes xs ys ≡ false
 notes-no p xs ys e =
-    cases (sameNotes xs ys)
-    (λ t. true≢ (sym e ∙ (λ k. same_list sameNote ((tells-notes xs ys t).same p k) (filter (forPeer p) ys)) ∙ list-refl sameNote note-refl (filter (forPeer p) ys)))
+    cases (same_notes xs ys)
+    (λ t. true≢ (sym e ∙ (λ k. same_list same_note ((tells-notes xs ys t).same p k) (filter (for_peer p) ys)) ∙ list-refl same_note note-refl (filter (for_peer p) ys)))
     (λ t. t)
 
 -- the notes of every link agree
 module _ (of : Notes) (ha : Head) (a : List ℕ) (hb : Head) (b : List ℕ) (sound : Sound ha a) (sound' : Sound hb b) where
   abbrev xs : List Note
-  xs = notesOf of (state_of ha a)
+  xs = notes_of of (state_of ha a)
 
   abbrev ys : List Note
-  ys = notesOf of (state_of hb b)
+  ys = notes_of of (state_of hb b)
 
-  pub notes-yes : ((l : ℕ) → l < ha.live.links → sameFor (peerAt (state_of ha a) l) xs ys ≡ true) → ((l : ℕ) → l < hb.live.links → sameFor (peerAt (state_of hb b) l) xs ys ≡ true) → sameNotes xs ys ≡ true
-  unfolding sameNotes
+  pub notes-yes : ((l : ℕ) → l < ha.live.links → same_for (peer_at (state_of ha a) l) xs ys ≡ true) → ((l : ℕ) → l < hb.live.links → same_for (peer_at (state_of hb b) l) xs ys ≡ true) → same_notes xs ys ≡ true
+  unfolding same_notes
   notes-yes f g =
-      all_append (λ n. sameFor n.peer xs ys) xs ys
-      (at_all (λ n. sameFor n.peer xs ys) (note 0 0 0) xs (λ i h. let (r, k) = link-of of ha a sound i (omega (arith, h, count-of of ha a sound)) in ap (λ (q : ℕ). sameFor q xs ys) k.peer ∙ f r k.below))
-      (at_all (λ n. sameFor n.peer xs ys) (note 0 0 0) ys (λ i h. let (r, k) = link-of of hb b sound' i (omega (arith, h, count-of of hb b sound')) in ap (λ (q : ℕ). sameFor q xs ys) k.peer ∙ g r k.below))
+      all_append (λ n. same_for n.peer xs ys) xs ys
+      (at_all (λ n. same_for n.peer xs ys) (note 0 0 0) xs (λ i h. let (r, k) = link-of of ha a sound i (omega (arith, h, count-of of ha a sound)) in ap (λ (q : ℕ). same_for q xs ys) k.peer ∙ f r k.below))
+      (at_all (λ n. same_for n.peer xs ys) (note 0 0 0) ys (λ i h. let (r, k) = link-of of hb b sound' i (omega (arith, h, count-of of hb b sound')) in ap (λ (q : ℕ). same_for q xs ys) k.peer ∙ g r k.below))

@@ -15,18 +15,18 @@ use Rattle.std.specs.Prelude.{if◌then◌else◌}
 use Rattle.storage.specs.Lists.Map.{Map, keys}
 use Rattle.storage.proofs.ListsLaws.MapLaws.{true≢, and_left, and_right, and_intro}
 use Rattle.storage.specs.Rows.Part.{part}
-use Rattle.storage.specs.Rows.Digits.{leNat, le_bytes}
-use Rattle.storage.proofs.RowsLaws.Digits.{Bytes, leBytes-leNat}
+use Rattle.storage.specs.Rows.Digits.{le_nat, le_bytes}
+use Rattle.storage.proofs.RowsLaws.Digits.{Bytes, le_bytes-le_nat}
 use Rattle.storage.proofs.RowsLaws.Parts.{length_part, get_d_part}
 use Rattle.storage.proofs.RowsLaws.Turns.{part_bytes}
 use Rattle.storage.proofs.RefsLaws.Shifts.{low_or_high}
 use Rattle.time_cache.specs.TimeCache.{Expiry}
-use Rattle.protocol.specs.Links.{Mark, eager, lazy, isEager}
+use Rattle.protocol.specs.Links.{Mark, eager, lazy, is_eager}
 use Rattle.protocol.specs.State.{Hop}
-use Rattle.protocol.specs.Alike.{same_list, sameMap, sameOption, sameMark, sameHop, sameExpiry}
-use Rattle.block.specs.View.{flagOf, only_if}
-use Rattle.alike.specs.Elements.{element, sameElement, hopElement, graftElement, expiryElement}
-use Rattle.alike.specs.Rows.{sameEntry, SameUpTo}
+use Rattle.protocol.specs.Alike.{same_list, same_map, same_option, same_mark, same_hop, same_expiry}
+use Rattle.block.specs.View.{flag_of, only_if}
+use Rattle.alike.specs.Elements.{element, same_element, hop_element, graft_element, expiry_element}
+use Rattle.alike.specs.Rows.{same_entry, SameUpTo}
 
 -- one of two tests is false
 pub and_no : (a b : Bool) → b ≡ false → (a && b) ≡ false
@@ -80,43 +80,43 @@ list-map s t f e (x ∷ xs) [] = refl
 list-map s t f e (x ∷ xs) (y ∷ ys) = λ k. e x y k && list-map s t f e xs ys k
 
 -- an element without identifier, and one without round
-no-id : (p q r u : ℕ) → sameElement (element p 0 r) (element q 0 u) ≡ (eqb p q && eqb r u)
-unfolding sameElement
+no-id : (p q r u : ℕ) → same_element (element p 0 r) (element q 0 u) ≡ (eqb p q && eqb r u)
+unfolding same_element
 no-id p q r u = ap (λ (t : Bool). eqb p q && t && eqb r u) (eq-eqb 0 0 refl) ∙ and-mid (eqb p q) (eqb r u)
   where
     and-mid : (a b : Bool) → (a && true && b) ≡ (a && b)
     and-mid true b = refl
     and-mid false b = refl
 
-pub no-round : (t u k l : ℕ) → sameElement (element t k 0) (element u l 0) ≡ (eqb t u && eqb k l)
-unfolding sameElement
+pub no-round : (t u k l : ℕ) → same_element (element t k 0) (element u l 0) ≡ (eqb t u && eqb k l)
+unfolding same_element
 no-round t u k l = ap (λ (b : Bool). eqb t u && eqb k l && b) (eq-eqb 0 0 refl) ∙ and_yes (eqb t u && eqb k l)
 
-pub list-hops : (xs ys : List Hop) → same_list sameElement (map hopElement xs) (map hopElement ys) ≡ same_list sameHop xs ys
-unfolding sameHop
-list-hops xs ys = list-map sameElement sameHop hopElement (λ x y. no-id x.peer y.peer x.round y.round) xs ys
+pub list-hops : (xs ys : List Hop) → same_list same_element (map hop_element xs) (map hop_element ys) ≡ same_list same_hop xs ys
+unfolding same_hop
+list-hops xs ys = list-map same_element same_hop hop_element (λ x y. no-id x.peer y.peer x.round y.round) xs ys
 
-pub list-grafts : (xs ys : Map ℕ) → same_list sameElement (map graftElement xs) (map graftElement ys) ≡ sameMap eqb xs ys
-unfolding sameMap
-list-grafts xs ys = list-map sameElement (sameEntry eqb) graftElement (λ x y. no-id x.key y.key x.value y.value) xs ys
+pub list-grafts : (xs ys : Map ℕ) → same_list same_element (map graft_element xs) (map graft_element ys) ≡ same_map eqb xs ys
+unfolding same_map
+list-grafts xs ys = list-map same_element (same_entry eqb) graft_element (λ x y. no-id x.key y.key x.value y.value) xs ys
 
-pub list-expiry : (xs ys : List Expiry) → same_list sameElement (map expiryElement xs) (map expiryElement ys) ≡ same_list sameExpiry xs ys
-unfolding sameExpiry
-list-expiry xs ys = list-map sameElement sameExpiry expiryElement (λ x y. no-round x.time y.time x.key y.key) xs ys
+pub list-expiry : (xs ys : List Expiry) → same_list same_element (map expiry_element xs) (map expiry_element ys) ≡ same_list same_expiry xs ys
+unfolding same_expiry
+list-expiry xs ys = list-map same_element same_expiry expiry_element (λ x y. no-round x.time y.time x.key y.key) xs ys
 
 -- maps that agree have the same keys
-pub same_keys : {A : Type 0} (same : A → A → Bool) (m n : Map A) → sameMap same m n ≡ true → keys m ≡ keys n
-unfolding sameMap same_list
+pub same_keys : {A : Type 0} (same : A → A → Bool) (m n : Map A) → same_map same m n ≡ true → keys m ≡ keys n
+unfolding same_map same_list
 same_keys same [] [] h = refl
 same_keys same [] (e ∷ n) h = true≢ h
 same_keys same (d ∷ m) [] h = true≢ h
 same_keys same (d ∷ m) (e ∷ n) h =
-    let here : Bool = sameEntry same d e in
-    let rest : Bool = sameMap same m n in
+    let here : Bool = same_entry same d e in
+    let rest : Bool = same_map same m n in
     λ k. eqb-true d.key e.key (and_left (eqb d.key e.key) (same d.value e.value) (and_left here rest h)) k ∷ same_keys same m n (and_right here rest h) k
 
 -- a flag in a byte
-pub flag_is : (b : ℕ) → not (eqb b 0) ≡ flagOf b
+pub flag_is : (b : ℕ) → not (eqb b 0) ≡ flag_of b
 flag_is b = go (eqb b 0)
   where
     go : (t : Bool) → not t ≡ (if t then false else true)
@@ -124,24 +124,24 @@ flag_is b = go (eqb b 0)
     go false = refl
 
 -- of senders, none is there but perhaps the second
-pub none-there : (b : Bool) (q : Hop) → sameOption sameHop none (only_if b q) ≡ not b
-unfolding sameOption
+pub none-there : (b : Bool) (q : Hop) → same_option same_hop none (only_if b q) ≡ not b
+unfolding same_option
 none-there true q = refl
 none-there false q = refl
 
-pub mark-same : (m n : Mark) → beq (isEager m) (isEager n) ≡ sameMark m n
-unfolding sameMark
+pub mark-same : (m n : Mark) → beq (is_eager m) (is_eager n) ≡ same_mark m n
+unfolding same_mark
 mark-same eager eager = refl
 mark-same eager lazy = refl
 mark-same lazy eager = refl
 mark-same lazy lazy = refl
 
 -- words of bytes that agree
-module _ (i : ℕ) (xs ys : List ℕ) (bytes : Bytes xs) (bytes' : Bytes ys) (h : i + 8 ≤ length xs) (h' : i + 8 ≤ length ys) (e : leNat (part i 8 xs) ≡ leNat (part i 8 ys)) where
+module _ (i : ℕ) (xs ys : List ℕ) (bytes : Bytes xs) (bytes' : Bytes ys) (h : i + 8 ≤ length xs) (h' : i + 8 ≤ length ys) (e : le_nat (part i 8 xs) ≡ le_nat (part i 8 ys)) where
   word_same : part i 8 xs ≡ part i 8 ys
   word_same =
       let l : length (part i 8 xs) ≡ length (part i 8 ys) = length_part i 8 xs h ∙ sym (length_part i 8 ys h') in
-      sym (leBytes-leNat (part i 8 xs) (part_bytes i 8 xs bytes)) ∙ (λ k. le_bytes (l k) (e k)) ∙ leBytes-leNat (part i 8 ys) (part_bytes i 8 ys bytes')
+      sym (le_bytes-le_nat (part i 8 xs) (part_bytes i 8 xs bytes)) ∙ (λ k. le_bytes (l k) (e k)) ∙ le_bytes-le_nat (part i 8 ys) (part_bytes i 8 ys bytes')
 
   pub same_word : SameUpTo i xs ys → SameUpTo (i + 8) xs ys
   same_word s k m = go (low_or_high i k)

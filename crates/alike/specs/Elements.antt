@@ -6,9 +6,9 @@ use Rattle.storage.specs.Lists.Map.{Entry}
 use Rattle.storage.specs.Rows.Ident.{id_of}
 use Rattle.time_cache.specs.TimeCache.{Expiry}
 use Rattle.protocol.specs.State.{State, Hop}
-use Rattle.block.specs.MissingSteps.{hopsAt}
+use Rattle.block.specs.MissingSteps.{hops_at}
 use Rattle.block.specs.declared.head.Live.{Live}
-use Rattle.block.specs.Caches.GraftSteps.{graftsAt}
+use Rattle.block.specs.Caches.GraftSteps.{grafts_at}
 use Rattle.alike.specs.declared.sequences.Sequence.{Sequence}
 use Rattle.alike.specs.declared.sequences.Sequence.TheVariants.{ReceivedExpiry, GraftedExpiry, CachedExpiry, Announcers, GraftedPeers}
 use Rattle.alike.specs.declared.sequences.Item.{Item}
@@ -24,32 +24,32 @@ abbrev pub element : ℕ → ℕ → ℕ → Element
 element a i b = record { a = a; id = i; b = b }
 
 -- the three numbers agree
-unfoldable pub sameElement : Element → Element → Bool
-sameElement x y = eqb x.a y.a && eqb x.id y.id && eqb x.b y.b
+unfoldable pub same_element : Element → Element → Bool
+same_element x y = eqb x.a y.a && eqb x.id y.id && eqb x.b y.b
 
 -- an expiry entry
-abbrev pub expiryElement : Expiry → Element
-expiryElement x = element x.time x.key 0
+abbrev pub expiry_element : Expiry → Element
+expiry_element x = element x.time x.key 0
 
 -- an announcer
-abbrev pub hopElement : Hop → Element
-hopElement h = element h.peer 0 h.round
+abbrev pub hop_element : Hop → Element
+hop_element h = element h.peer 0 h.round
 
 -- a grafted peer
-abbrev pub graftElement : Entry ℕ → Element
-graftElement e = element e.key 0 e.value
+abbrev pub graft_element : Entry ℕ → Element
+graft_element e = element e.key 0 e.value
 
 -- what the code's item stands for
-abbrev pub elementOf : Item → Element
-elementOf i = element i.a (id_of i.id) i.b
+abbrev pub element_of : Item → Element
+element_of i = element i.a (id_of i.id) i.b
 
 -- the elements of one of the lists
-abbrev pub sequenceOf : Sequence → State → List Element
-sequenceOf ReceivedExpiry s = map expiryElement s.received.expiry
-sequenceOf GraftedExpiry s = map expiryElement s.grafted.expiry
-sequenceOf CachedExpiry s = map expiryElement s.cache.expiry
-sequenceOf (Announcers i) s = map hopElement (hopsAt s i)
-sequenceOf (GraftedPeers i) s = map graftElement (graftsAt s i).peers
+abbrev pub sequence_of : Sequence → State → List Element
+sequence_of ReceivedExpiry s = map expiry_element s.received.expiry
+sequence_of GraftedExpiry s = map expiry_element s.grafted.expiry
+sequence_of CachedExpiry s = map expiry_element s.cache.expiry
+sequence_of (Announcers i) s = map hop_element (hops_at s i)
+sequence_of (GraftedPeers i) s = map graft_element (grafts_at s i).peers
 
 -- there is such a list
 abbrev pub InState : Sequence → Live → Type 0

@@ -5,49 +5,49 @@ use Rattle.std.proofs.Math.Option.{Option}
 use Rattle.storage.specs.Lists.Map.{Entry, entry}
 use Rattle.time_cache.specs.TimeCache.{Timed}
 use Rattle.protocol.specs.State.{State, Hop, Cached}
-use Rattle.protocol.specs.Alike.{same_list, sameMap, sameMark, sameHop, sameGrafts, sameCached, sameUnit}
+use Rattle.protocol.specs.Alike.{same_list, same_map, same_mark, same_hop, same_grafts, same_cached, same_unit}
 use Rattle.block.specs.View.{only_if}
 use Rattle.block.specs.LinkSteps.{link_at}
-use Rattle.block.specs.MissingSteps.{missedAt}
+use Rattle.block.specs.MissingSteps.{missed_at}
 use Rattle.block.specs.declared.head.Live.{Live}
-use Rattle.block.specs.Caches.GraftSteps.{graftedAt}
+use Rattle.block.specs.Caches.GraftSteps.{grafted_at}
 use Rattle.alike.specs.declared.tables.Table.{Table}
 use Rattle.alike.specs.declared.tables.Table.TheVariants.{Links, Missing, Timers, Received, Grafted, Cached as CachedRows}
 use Rattle.alike.specs.declared.tables.Sender.{Sender}
 
 -- two entries of maps
-abbrev pub sameEntry : {A : Type 0} → (A → A → Bool) → Entry A → Entry A → Bool
-sameEntry same d e = eqb d.key e.key && same d.value e.value
+abbrev pub same_entry : {A : Type 0} → (A → A → Bool) → Entry A → Entry A → Bool
+same_entry same d e = eqb d.key e.key && same d.value e.value
 
 -- two values of time caches
-abbrev pub sameTimed : {A : Type 0} → (A → A → Bool) → Timed A → Timed A → Bool
-sameTimed same x y = eqb x.expires y.expires && same x.value y.value
+abbrev pub same_timed : {A : Type 0} → (A → A → Bool) → Timed A → Timed A → Bool
+same_timed same x y = eqb x.expires y.expires && same x.value y.value
 
 -- received message i with its expiry
-abbrev pub receivedAt : State → ℕ → Entry (Timed (Unit {0}))
-receivedAt s i = get_or s.received.entries i (entry 0 (record { expires = 0; value = tt }))
+abbrev pub received_at : State → ℕ → Entry (Timed (Unit {0}))
+received_at s i = get_or s.received.entries i (entry 0 (record { expires = 0; value = tt }))
 
 -- cached message i with its expiry
-abbrev pub cachedEntry : State → ℕ → Entry (Timed Cached)
-cachedEntry s i = get_or s.cache.entries i (entry 0 (record { expires = 0; value = record { content = []; round = 0 } }))
+abbrev pub cached_entry : State → ℕ → Entry (Timed Cached)
+cached_entry s i = get_or s.cache.entries i (entry 0 (record { expires = 0; value = record { content = []; round = 0 } }))
 
 -- row i of a table of two states
-abbrev pub sameRow : Table → State → State → ℕ → Bool
-sameRow Links s t i = sameEntry sameMark (link_at s i) (link_at t i)
-sameRow Missing s t i = sameEntry (same_list sameHop) (missedAt s i) (missedAt t i)
-sameRow Timers s t i = eqb (get_or s.timers.graft i 0) (get_or t.timers.graft i 0)
-sameRow Received s t i = sameEntry (sameTimed sameUnit) (receivedAt s i) (receivedAt t i)
-sameRow Grafted s t i = sameEntry (sameTimed sameGrafts) (graftedAt s i) (graftedAt t i)
-sameRow CachedRows s t i = sameEntry (sameTimed sameCached) (cachedEntry s i) (cachedEntry t i)
+abbrev pub same_row : Table → State → State → ℕ → Bool
+same_row Links s t i = same_entry same_mark (link_at s i) (link_at t i)
+same_row Missing s t i = same_entry (same_list same_hop) (missed_at s i) (missed_at t i)
+same_row Timers s t i = eqb (get_or s.timers.graft i 0) (get_or t.timers.graft i 0)
+same_row Received s t i = same_entry (same_timed same_unit) (received_at s i) (received_at t i)
+same_row Grafted s t i = same_entry (same_timed same_grafts) (grafted_at s i) (grafted_at t i)
+same_row CachedRows s t i = same_entry (same_timed same_cached) (cached_entry s i) (cached_entry t i)
 
 -- all rows of it
 abbrev pub same_rows : Table → State → State → Bool
-same_rows Links s t = sameMap sameMark s.links t.links
-same_rows Missing s t = sameMap (same_list sameHop) s.missing t.missing
+same_rows Links s t = same_map same_mark s.links t.links
+same_rows Missing s t = same_map (same_list same_hop) s.missing t.missing
 same_rows Timers s t = same_list eqb s.timers.graft t.timers.graft
-same_rows Received s t = sameMap (sameTimed sameUnit) s.received.entries t.received.entries
-same_rows Grafted s t = sameMap (sameTimed sameGrafts) s.grafted.entries t.grafted.entries
-same_rows CachedRows s t = sameMap (sameTimed sameCached) s.cache.entries t.cache.entries
+same_rows Received s t = same_map (same_timed same_unit) s.received.entries t.received.entries
+same_rows Grafted s t = same_map (same_timed same_grafts) s.grafted.entries t.grafted.entries
+same_rows CachedRows s t = same_map (same_timed same_cached) s.cache.entries t.cache.entries
 
 -- how many rows it has
 abbrev pub rows_of : Table → Live → ℕ
@@ -63,8 +63,8 @@ abbrev pub first_of : Sender → Option Hop
 first_of z = only_if z.there (record { peer = z.peer; round = z.round.0 })
 
 -- the `kept` of a grafted message
-abbrev pub keptOf : Sender → Option ℕ
-keptOf z = only_if z.there z.peer
+abbrev pub kept_of : Sender → Option ℕ
+kept_of z = only_if z.there z.peer
 
 -- the first n numbers agree
 abbrev pub SameUpTo : ℕ → List ℕ → List ℕ → Type 0

@@ -1,12 +1,12 @@
 // Queue and record: the notes of each link are compared in their order. How those of different links are interleaved is not compared.
 ghost use Rattle.std.specs.Prelude.{◌≡◌, ◌≤◌, ◌<◌};
 ghost use Rattle.storage.specs.Lists.Map.{keys};
-ghost use Rattle.protocol.specs.Alike.{sameNotes};
+ghost use Rattle.protocol.specs.Alike.{same_notes};
 ghost use Rattle.block.specs.View.{state_of};
 ghost use Rattle.block.specs.Sound.{Sound};
-ghost use Rattle.block.specs.LinkSteps.{LinksAscend, peerAt};
+ghost use Rattle.block.specs.LinkSteps.{LinksAscend, peer_at};
 ghost use Rattle.block.specs.NoteSteps.{LinkIs, NoteIs};
-ghost use Rattle.alike.specs.Notes.{notesOf, count_of, sameInside, sameFor, NextOf};
+ghost use Rattle.alike.specs.Notes.{notes_of, count_of, same_inside, same_for, NextOf};
 
 use block::head::{Head, Live};
 use block::note;
@@ -33,7 +33,7 @@ fn count(of: Notes, v: Live) -> usize
 // The link number of note i.
 fn link_at(of: Notes, h: Head, block: &[u8], i: usize) -> usize
     requires { Sound h block.now × (i < count_of of h.live) }
-    ensures { LinkIs h block.now (notesOf of (state_of h block.now)) i result }
+    ensures { LinkIs h block.now (notes_of of (state_of h block.now)) i result }
 {
     match of {
         Notes::Queue => note::queued_link_at(h, block, i),
@@ -44,7 +44,7 @@ fn link_at(of: Notes, h: Head, block: &[u8], i: usize) -> usize
 // Note i.
 fn note_at(of: Notes, h: Head, block: &[u8], i: usize) -> Note
     requires { Sound h block.now × (i < count_of of h.live) }
-    ensures { NoteIs h block.now (notesOf of (state_of h block.now)) i result }
+    ensures { NoteIs h block.now (notes_of of (state_of h block.now)) i result }
 {
     match of {
         Notes::Queue => note::queued_at(h, block, i),
@@ -55,7 +55,7 @@ fn note_at(of: Notes, h: Head, block: &[u8], i: usize) -> Note
 // The first note from `from` on that is for the link; where there is none, the number of notes.
 fn next_of(of: Notes, h: Head, block: &[u8], link: usize, from: usize) -> usize
     requires { Sound h block.now × LinksAscend h block.now × (link < h.live.links) × (from ≤ count_of of h.live) }
-    ensures { NextOf (peerAt (state_of h block.now) link) from (notesOf of (state_of h block.now)) result }
+    ensures { NextOf (peer_at (state_of h block.now) link) from (notes_of of (state_of h block.now)) result }
 {
     let n = count(of, h.live);
     let mut i = from;
@@ -71,7 +71,7 @@ fn next_of(of: Notes, h: Head, block: &[u8], link: usize, from: usize) -> usize
 
 // Whether two notes for one peer have the same identifier and round.
 fn same_note(x: Note, y: Note) -> bool
-    ensures { result ≡ sameInside x y }
+    ensures { result ≡ same_inside x y }
 {
     let s = id::same(x.id, y.id);
     if !s {
@@ -83,8 +83,8 @@ fn same_note(x: Note, y: Note) -> bool
 // Whether the notes for a link agree, in their order: a cursor in each block goes from one to the next.
 fn same_for(of: Notes, ha: Head, a: &[u8], hb: Head, b: &[u8], link: usize) -> bool
     requires sound { Sound ha a.now × LinksAscend ha a.now × (link < ha.live.links) × Sound hb b.now × LinksAscend hb b.now × (link < hb.live.links) }
-    requires link_value { peerAt (state_of ha a.now) link ≡ peerAt (state_of hb b.now) link }
-    ensures { result ≡ sameFor (peerAt (state_of ha a.now) link) (notesOf of (state_of ha a.now)) (notesOf of (state_of hb b.now)) }
+    requires link_value { peer_at (state_of ha a.now) link ≡ peer_at (state_of hb b.now) link }
+    ensures { result ≡ same_for (peer_at (state_of ha a.now) link) (notes_of of (state_of ha a.now)) (notes_of of (state_of hb b.now)) }
 {
     let n = count(of, ha.live);
     let m = count(of, hb.live);
@@ -110,7 +110,7 @@ fn same_for(of: Notes, ha: Head, a: &[u8], hb: Head, b: &[u8], link: usize) -> b
 pub fn same_notes(of: Notes, ha: Head, a: &[u8], hb: Head, b: &[u8]) -> bool
     requires sound { Sound ha a.now × LinksAscend ha a.now × Sound hb b.now × LinksAscend hb b.now }
     requires a_value { keys (state_of ha a.now).links ≡ keys (state_of hb b.now).links }
-    ensures { result ≡ sameNotes (notesOf of (state_of ha a.now)) (notesOf of (state_of hb b.now)) }
+    ensures { result ≡ same_notes (notes_of of (state_of ha a.now)) (notes_of of (state_of hb b.now)) }
 {
     let n = ha.live.links;
     let mut l = 0;

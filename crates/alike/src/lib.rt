@@ -7,8 +7,8 @@ mod sequences;
 mod tables;
 
 ghost use Rattle.std.specs.Prelude.{◌≡◌, ◌&&◌, length};
-ghost use Rattle.protocol.specs.Alike.{sameSettings, sameLimits, sameTables, sameCaches, sameFlags, alike, alikeBlocks};
-ghost use Rattle.block.specs.View.{settingsOf, limitsOf, state_of};
+ghost use Rattle.protocol.specs.Alike.{same_settings, same_limits, same_tables, same_caches, same_flags, alike, alike_blocks};
+ghost use Rattle.block.specs.View.{settings_of, limits_of, state_of};
 ghost use Rattle.block.specs.Sound.{Sound};
 ghost use Rattle.block.specs.LinkSteps.{LinksAscend};
 ghost use Rattle.whole.specs.Held.{held};
@@ -40,7 +40,7 @@ fn both(x: bool, y: bool) -> bool
 
 // "own peer number, settings"
 fn same_settings(a: Settings, b: Settings) -> bool
-    ensures { result ≡ sameSettings (settingsOf a) (settingsOf b) }
+    ensures { result ≡ same_settings (settings_of a) (settings_of b) }
 {
     let c = a.config;
     let d = b.config;
@@ -65,7 +65,7 @@ fn same_settings(a: Settings, b: Settings) -> bool
 
 // "limits"
 fn same_limits(a: Limits, b: Limits) -> bool
-    ensures { result ≡ sameLimits (limitsOf a) (limitsOf b) }
+    ensures { result ≡ same_limits (limits_of a) (limits_of b) }
 {
     let received = both(a.neighbours == b.neighbours, a.received == b.received);
     let cached = both(received, a.cached == b.cached);
@@ -79,7 +79,7 @@ fn same_limits(a: Limits, b: Limits) -> bool
 
 // "flags"
 fn same_flags(ha: Head, a: &[u8], hb: Head, b: &[u8]) -> bool
-    ensures { result ≡ sameFlags (state_of ha a.now) (state_of hb b.now) }
+    ensures { result ≡ same_flags (state_of ha a.now) (state_of hb b.now) }
 {
     let v = ha.live;
     let w = hb.live;
@@ -93,7 +93,7 @@ fn same_flags(ha: Head, a: &[u8], hb: Head, b: &[u8]) -> bool
 // "sets .. and maps": links, queue, record, announcers, graft timers.
 fn same_tables(ha: Head, a: &[u8], hb: Head, b: &[u8]) -> bool
     requires { Sound ha a.now × LinksAscend ha a.now × Sound hb b.now × LinksAscend hb b.now }
-    ensures { result ≡ sameTables (state_of ha a.now) (state_of hb b.now) }
+    ensures { result ≡ same_tables (state_of ha a.now) (state_of hb b.now) }
 {
     let links = tables::same_rows(Table::Links, ha, a, hb, b);
     if !links {
@@ -117,7 +117,7 @@ fn same_tables(ha: Head, a: &[u8], hb: Head, b: &[u8]) -> bool
 // "maps": the three time caches.
 fn same_caches(ha: Head, a: &[u8], hb: Head, b: &[u8]) -> bool
     requires { Sound ha a.now × Sound hb b.now }
-    ensures { result ≡ sameCaches (state_of ha a.now) (state_of hb b.now) }
+    ensures { result ≡ same_caches (state_of ha a.now) (state_of hb b.now) }
 {
     let received = tables::same_rows(Table::Received, ha, a, hb, b);
     if !received {
@@ -168,7 +168,7 @@ fn same_states(ha: Head, a: &[u8], hb: Head, b: &[u8]) -> bool
 
 // *Alike*.
 pub fn alike(a: &[u8], b: &[u8]) -> Answer
-    ensures { answered result ≡ alikeBlocks (length a.now) (held a.now) (length b.now) (held b.now) }
+    ensures { answered result ≡ alike_blocks (length a.now) (held a.now) (length b.now) (held b.now) }
 {
     let first = whole::is_whole(a);
     if !first {

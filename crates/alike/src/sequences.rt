@@ -1,11 +1,11 @@
 // Expiry entries, announcers and grafted peers: lists that are compared element by element, in their order.
 ghost use Rattle.std.specs.Prelude.{◌≡◌, ◌<◌, length, get_or};
-ghost use Rattle.time_cache.specs.Tables.{Lies, rows_at, row_at, expiryOf};
+ghost use Rattle.time_cache.specs.Tables.{Lies, rows_at, row_at, expiry_of};
 ghost use Rattle.protocol.specs.Alike.{same_list};
 ghost use Rattle.block.specs.View.{state_of};
 ghost use Rattle.block.specs.Sound.{Sound};
-ghost use Rattle.block.specs.LinkSteps.{peerAt};
-ghost use Rattle.alike.specs.Elements.{element, sameElement, expiryElement, elementOf, sequenceOf, InState};
+ghost use Rattle.block.specs.LinkSteps.{peer_at};
+ghost use Rattle.alike.specs.Elements.{element, same_element, expiry_element, element_of, sequence_of, InState};
 
 use block::caches::grafted;
 use block::head::Head;
@@ -35,7 +35,7 @@ pub struct Item {
 
 // Whether two elements are the same.
 pub fn same(x: Item, y: Item) -> bool
-    ensures { result ≡ sameElement (elementOf x) (elementOf y) }
+    ensures { result ≡ same_element (element_of x) (element_of y) }
 {
     if x.a != y.a {
         return false;
@@ -50,7 +50,7 @@ pub fn same(x: Item, y: Item) -> bool
 // Expiry row p of a time cache.
 pub fn row_item(c: TimeBoundCache, block: &[u8], p: usize) -> Item
     requires { Lies c block.now × (p < c.expiry.len) }
-    ensures { elementOf result ≡ expiryElement (expiryOf (row_at (rows_at c block.now) p)) }
+    ensures { element_of result ≡ expiry_element (expiry_of (row_at (rows_at c block.now) p)) }
 {
     let time = c.expires(block, p);
     let at = c.expiry.at + p * c.expiry.stride;
@@ -65,7 +65,7 @@ pub fn row_item(c: TimeBoundCache, block: &[u8], p: usize) -> Item
 // A peer and a round, by the number of the peer's link.
 fn hop_item(h: Head, block: &[u8], hop: Hop) -> Item
     requires { Sound h block.now × (hop.link < h.live.links) }
-    ensures { elementOf result ≡ element (peerAt (state_of h block.now) hop.link) 0 hop.round.0 }
+    ensures { element_of result ≡ element (peer_at (state_of h block.now) hop.link) 0 hop.round.0 }
 {
     let peer = links::peer_at(h, block, hop.link);
     let round = hop.round.0 as u64;
@@ -85,7 +85,7 @@ fn hop_item(h: Head, block: &[u8], hop: Hop) -> Item
 // How many elements a list has.
 fn size(of: Sequence, h: Head, block: &[u8]) -> usize
     requires { Sound h block.now × InState of h.live }
-    ensures { result ≡ length (sequenceOf of (state_of h block.now)) }
+    ensures { result ≡ length (sequence_of of (state_of h block.now)) }
 {
     match of {
         Sequence::ReceivedExpiry => h.live.received_rows,
@@ -98,8 +98,8 @@ fn size(of: Sequence, h: Head, block: &[u8]) -> usize
 
 // Element j of a list.
 fn item_at(of: Sequence, h: Head, block: &[u8], j: usize) -> Item
-    requires { Sound h block.now × InState of h.live × (j < length (sequenceOf of (state_of h block.now))) }
-    ensures { elementOf result ≡ get_or (sequenceOf of (state_of h block.now)) j (element 0 0 0) }
+    requires { Sound h block.now × InState of h.live × (j < length (sequence_of of (state_of h block.now))) }
+    ensures { element_of result ≡ get_or (sequence_of of (state_of h block.now)) j (element 0 0 0) }
 {
     match of {
         Sequence::ReceivedExpiry => {
@@ -128,7 +128,7 @@ fn item_at(of: Sequence, h: Head, block: &[u8], j: usize) -> Item
 // Whether the lists of two blocks agree, element by element.
 pub fn same_sequence(of: Sequence, ha: Head, a: &[u8], hb: Head, b: &[u8]) -> bool
     requires { Sound ha a.now × InState of ha.live × Sound hb b.now × InState of hb.live }
-    ensures { result ≡ same_list sameElement (sequenceOf of (state_of ha a.now)) (sequenceOf of (state_of hb b.now)) }
+    ensures { result ≡ same_list same_element (sequence_of of (state_of ha a.now)) (sequence_of of (state_of hb b.now)) }
 {
     let n = size(of, ha, a);
     let m = size(of, hb, b);

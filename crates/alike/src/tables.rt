@@ -3,16 +3,16 @@ ghost use Rattle.std.specs.Prelude.{◌≡◌, ◌≤◌, ◌<◌, eqb, length, 
 ghost use Rattle.std.specs.Bool.{beq};
 ghost use Rattle.storage.specs.Rows.Ident.{id_of};
 ghost use Rattle.storage.specs.Refs.Refs.{places, Below};
-ghost use Rattle.time_cache.specs.Tables.{Lies, refsAt, rows_at, row_at, expiryOf};
+ghost use Rattle.time_cache.specs.Tables.{Lies, refs_at, rows_at, row_at, expiry_of};
 ghost use Rattle.time_cache.specs.Steps.{ref_at};
-ghost use Rattle.protocol.specs.Alike.{same_list, sameOption, sameHop};
+ghost use Rattle.protocol.specs.Alike.{same_list, same_option, same_hop};
 ghost use Rattle.block.specs.View.{state_of};
 ghost use Rattle.block.specs.Fit.{Fit};
 ghost use Rattle.block.specs.Sound.{Sound};
-ghost use Rattle.block.specs.MissingSteps.{missedAt};
-ghost use Rattle.block.specs.Caches.GraftSteps.{graftsAt};
-ghost use Rattle.alike.specs.Elements.{sameElement, expiryElement};
-ghost use Rattle.alike.specs.Rows.{sameRow, same_rows, rows_of, first_of, keptOf, SameUpTo};
+ghost use Rattle.block.specs.MissingSteps.{missed_at};
+ghost use Rattle.block.specs.Caches.GraftSteps.{grafts_at};
+ghost use Rattle.alike.specs.Elements.{same_element, expiry_element};
+ghost use Rattle.alike.specs.Rows.{same_row, same_rows, rows_of, first_of, kept_of, SameUpTo};
 
 use crate::sequences;
 use crate::sequences::Sequence;
@@ -100,7 +100,7 @@ fn timer_at(h: Head, block: &[u8], i: usize) -> Id
 // The identifier of missing message i.
 fn missed_at(h: Head, block: &[u8], i: usize) -> Id
     requires { Fit h block.now × (i < h.live.missing) }
-    ensures { id_of result ≡ (missedAt (state_of h block.now) i).key }
+    ensures { id_of result ≡ (missed_at (state_of h block.now) i).key }
 {
     let a = head::missing_at(h.limits);
     id::load_id(block, a + 129 * i)
@@ -109,7 +109,7 @@ fn missed_at(h: Head, block: &[u8], i: usize) -> Id
 // The `first` of grafted message i.
 fn first_at(h: Head, block: &[u8], i: usize) -> Sender
     requires { Sound h block.now × (i < h.live.grafted) }
-    ensures { first_of result ≡ (graftsAt (state_of h block.now) i).first }
+    ensures { first_of result ≡ (grafts_at (state_of h block.now) i).first }
 {
     let a = head::grafted_at(h.limits) + 119 * i;
     let flag = block[a + 2];
@@ -125,7 +125,7 @@ fn first_at(h: Head, block: &[u8], i: usize) -> Sender
 // The `kept` of grafted message i.
 fn kept_at(h: Head, block: &[u8], i: usize) -> Sender
     requires { Sound h block.now × (i < h.live.grafted) }
-    ensures { (result.round.0 ≡ 0) × (keptOf result ≡ (graftsAt (state_of h block.now) i).kept) }
+    ensures { (result.round.0 ≡ 0) × (kept_of result ≡ (grafts_at (state_of h block.now) i).kept) }
 {
     let a = head::grafted_at(h.limits) + 119 * i;
     let flag = block[a + 13];
@@ -139,7 +139,7 @@ fn kept_at(h: Head, block: &[u8], i: usize) -> Sender
 
 // Whether two senders agree.
 fn same_sender(x: Sender, y: Sender) -> bool
-    ensures { result ≡ sameOption sameHop (first_of x) (first_of y) }
+    ensures { result ≡ same_option same_hop (first_of x) (first_of y) }
 {
     if x.there {
         if y.there {
@@ -155,9 +155,9 @@ fn same_sender(x: Sender, y: Sender) -> bool
 
 // Whether entry i of one time cache and entry i of another have the same key and expiry.
 fn same_key(c: TimeBoundCache, a: &[u8], d: TimeBoundCache, b: &[u8], i: usize) -> bool
-    requires lies { Lies c a.now × Below c.expiry.len (places (refsAt c a.now)) × (i < c.entries.len) }
-    requires lies_2 { Lies d b.now × Below d.expiry.len (places (refsAt d b.now)) × (i < d.entries.len) }
-    ensures { result ≡ sameElement (expiryElement (expiryOf (row_at (rows_at c a.now) (ref_at (refsAt c a.now) i).place))) (expiryElement (expiryOf (row_at (rows_at d b.now) (ref_at (refsAt d b.now) i).place))) }
+    requires lies { Lies c a.now × Below c.expiry.len (places (refs_at c a.now)) × (i < c.entries.len) }
+    requires lies_2 { Lies d b.now × Below d.expiry.len (places (refs_at d b.now)) × (i < d.entries.len) }
+    ensures { result ≡ same_element (expiry_element (expiry_of (row_at (rows_at c a.now) (ref_at (refs_at c a.now) i).place))) (expiry_element (expiry_of (row_at (rows_at d b.now) (ref_at (refs_at d b.now) i).place))) }
 {
     let p = c.place(a, i);
     let q = d.place(b, i);
@@ -169,7 +169,7 @@ fn same_key(c: TimeBoundCache, a: &[u8], d: TimeBoundCache, b: &[u8], i: usize) 
 // Link i: peer and mark.
 fn same_link(ha: Head, a: &[u8], hb: Head, b: &[u8], i: usize) -> bool
     requires { Sound ha a.now × (i < ha.live.links) × Sound hb b.now × (i < hb.live.links) }
-    ensures { result ≡ sameRow Table.Links (state_of ha a.now) (state_of hb b.now) i }
+    ensures { result ≡ same_row Table.Links (state_of ha a.now) (state_of hb b.now) i }
 {
     let p = links::peer_at(ha, a, i);
     let q = links::peer_at(hb, b, i);
@@ -184,7 +184,7 @@ fn same_link(ha: Head, a: &[u8], hb: Head, b: &[u8], i: usize) -> bool
 // Missing message i: identifier and announcers, "the order of announcers" too.
 fn same_missed(ha: Head, a: &[u8], hb: Head, b: &[u8], i: usize) -> bool
     requires { Sound ha a.now × (i < ha.live.missing) × Sound hb b.now × (i < hb.live.missing) }
-    ensures { result ≡ sameRow Table.Missing (state_of ha a.now) (state_of hb b.now) i }
+    ensures { result ≡ same_row Table.Missing (state_of ha a.now) (state_of hb b.now) i }
 {
     let x = missed_at(ha, a, i);
     let y = missed_at(hb, b, i);
@@ -198,7 +198,7 @@ fn same_missed(ha: Head, a: &[u8], hb: Head, b: &[u8], i: usize) -> bool
 // Graft timer i.
 fn same_timer(ha: Head, a: &[u8], hb: Head, b: &[u8], i: usize) -> bool
     requires { Sound ha a.now × (i < ha.live.timers) × Sound hb b.now × (i < hb.live.timers) }
-    ensures { result ≡ sameRow Table.Timers (state_of ha a.now) (state_of hb b.now) i }
+    ensures { result ≡ same_row Table.Timers (state_of ha a.now) (state_of hb b.now) i }
 {
     let x = timer_at(ha, a, i);
     let y = timer_at(hb, b, i);
@@ -208,7 +208,7 @@ fn same_timer(ha: Head, a: &[u8], hb: Head, b: &[u8], i: usize) -> bool
 // Received message i: identifier and expiry.
 fn same_received(ha: Head, a: &[u8], hb: Head, b: &[u8], i: usize) -> bool
     requires { Sound ha a.now × (i < ha.live.received) × Sound hb b.now × (i < hb.live.received) }
-    ensures { result ≡ sameRow Table.Received (state_of ha a.now) (state_of hb b.now) i }
+    ensures { result ≡ same_row Table.Received (state_of ha a.now) (state_of hb b.now) i }
 {
     let c = time_caches::received_cache(ha);
     let d = time_caches::received_cache(hb);
@@ -218,7 +218,7 @@ fn same_received(ha: Head, a: &[u8], hb: Head, b: &[u8], i: usize) -> bool
 // Grafted message i: identifier, expiry, `first`, `kept` and peers.
 fn same_grafted(ha: Head, a: &[u8], hb: Head, b: &[u8], i: usize) -> bool
     requires { Sound ha a.now × (i < ha.live.grafted) × Sound hb b.now × (i < hb.live.grafted) }
-    ensures { result ≡ sameRow Table.Grafted (state_of ha a.now) (state_of hb b.now) i }
+    ensures { result ≡ same_row Table.Grafted (state_of ha a.now) (state_of hb b.now) i }
 {
     let c = time_caches::grafted_cache(ha);
     let d = time_caches::grafted_cache(hb);
@@ -244,7 +244,7 @@ fn same_grafted(ha: Head, a: &[u8], hb: Head, b: &[u8], i: usize) -> bool
 // Cached message i: identifier, expiry, content and round.
 fn same_cached(ha: Head, a: &[u8], hb: Head, b: &[u8], i: usize) -> bool
     requires { Sound ha a.now × (i < ha.live.cached) × Sound hb b.now × (i < hb.live.cached) }
-    ensures { result ≡ sameRow Table.Cached (state_of ha a.now) (state_of hb b.now) i }
+    ensures { result ≡ same_row Table.Cached (state_of ha a.now) (state_of hb b.now) i }
 {
     let c = time_caches::cached_cache(ha);
     let d = time_caches::cached_cache(hb);
@@ -269,7 +269,7 @@ fn same_cached(ha: Head, a: &[u8], hb: Head, b: &[u8], i: usize) -> bool
 // Row i of a table.
 fn same_row(t: Table, ha: Head, a: &[u8], hb: Head, b: &[u8], i: usize) -> bool
     requires { Sound ha a.now × (i < rows_of t ha.live) × Sound hb b.now × (i < rows_of t hb.live) }
-    ensures { result ≡ sameRow t (state_of ha a.now) (state_of hb b.now) i }
+    ensures { result ≡ same_row t (state_of ha a.now) (state_of hb b.now) i }
 {
     match t {
         Table::Links => same_link(ha, a, hb, b, i),

@@ -1,20 +1,20 @@
-// AnnounceDropped (document 01, "Ticks"): the record's entries that are still cached go to the queue again.
+// AnnounceDropped (the specification, "Ticks"): the record's entries that are still cached go to the queue again.
 ghost use Rattle.std.specs.Prelude.{◌≡◌, ◌+◌, ◌<◌};
-ghost use Rattle.storage.specs.Lists.Base.{concatMap};
+ghost use Rattle.storage.specs.Lists.Base.{concat_map};
 ghost use Rattle.storage.specs.Rows.Ident.{id_of};
-ghost use Rattle.postcard.specs.Message.{actionBytes};
+ghost use Rattle.postcard.specs.Message.{action_bytes};
 ghost use Rattle.wire.specs.Output.Written.{Tellable, Written};
 ghost use Rattle.block.specs.View.{state_of};
 ghost use Rattle.block.specs.Sound.{Sound};
 ghost use Rattle.block.specs.Goes.{Goes};
 ghost use Rattle.decide.specs.Settled.{settled};
-ghost use Rattle.decide.specs.SizesAfter.{announceSizes};
-ghost use Rattle.decide.specs.StateAfter.{announceState};
-ghost use Rattle.decide.specs.ActionsAfter.{dispatchAction, announceActions};
+ghost use Rattle.decide.specs.SizesAfter.{announce_sizes};
+ghost use Rattle.decide.specs.StateAfter.{announce_state};
+ghost use Rattle.decide.specs.ActionsAfter.{dispatch_action, announce_actions};
 ghost use Rattle.steps.specs.Stands.{Stands, Step};
-ghost use Rattle.steps.specs.Shared.{sizesValue};
-ghost use Rattle.announcements.specs.Announce.Moves.{movedState, dropInstead};
-ghost use Rattle.announcements.specs.Announce.Counted.{MovedIs, ifAny};
+ghost use Rattle.steps.specs.Shared.{sizes_value};
+ghost use Rattle.announcements.specs.Announce.Moves.{moved_state, drop_instead};
+ghost use Rattle.announcements.specs.Announce.Counted.{MovedIs, if_any};
 
 use block::caches::cached;
 use block::head::Head;
@@ -34,7 +34,7 @@ pub struct Moved {
 // Stores a note in place k of the record, over what stood there.
 fn store_dropped(h: Head, block: &mut [u8], k: usize, link: usize, id: Id, round: Round)
     requires { Sound h block.old × (k < h.live.dropped) × (link < h.live.links) }
-    ensures { Goes (dropInstead k link (id_of id) round.0) h block.old h block.new }
+    ensures { Goes (drop_instead k link (id_of id) round.0) h block.old h block.new }
 {
     let at = head::dropped_at(h.limits) + k;
     let row = head::dropped_rows_at(h.limits) + 34 * k;
@@ -46,8 +46,8 @@ fn store_dropped(h: Head, block: &mut [u8], k: usize, link: usize, id: Id, round
 // "drops uncached identifiers, moves the oldest 64 per peer to its queue". Its time is that of one pass over the record, with a search of the message
 // cache for each entry.
 fn move_oldest(h: Head, block: &mut [u8]) -> Head
-    requires { Step announceState h block.old }
-    ensures { Goes movedState h block.old result block.new }
+    requires { Step announce_state h block.old }
+    ensures { Goes moved_state h block.old result block.new }
 {
     let n = h.live.dropped;
     let mut seen = [0u16; 32];
@@ -76,8 +76,8 @@ fn move_oldest(h: Head, block: &mut [u8]) -> Head
 
 // `on_announce_dropped_timer`, the state half: "drops uncached identifiers, moves the oldest 64 per peer to its queue", and the flags of what it "then schedules".
 pub fn on_announce_dropped_timer(h: Head, block: &mut [u8]) -> Head
-    requires { Step announceState h block.old }
-    ensures { Goes announceState h block.old result block.new }
+    requires { Step announce_state h block.old }
+    ensures { Goes announce_state h block.old result block.new }
 {
     let mut g = move_oldest(h, block);
     let stands = 0 < g.live.dropped;
@@ -121,7 +121,7 @@ pub fn count_moved(h: Head, block: &[u8], instant: Millis) -> Moved
 // Question 13 of AnnounceDropped: the numbers of entries after it.
 pub fn announce_sizes(h: Head, block: &[u8], instant: Millis) -> Sizes
     requires { Stands h block.now }
-    ensures { sizesValue result ≡ announceSizes (settled instant.0 (state_of h block.now)) }
+    ensures { sizes_value result ≡ announce_sizes (settled instant.0 (state_of h block.now)) }
 {
     let mut z = settled::sizes_then(h, block, instant);
     let m = count_moved(h, block, instant);
@@ -134,8 +134,8 @@ pub fn announce_sizes(h: Head, block: &[u8], instant: Millis) -> Sizes
 
 // "schedules dispatch if a queue stands": n is how long it is.
 fn dispatch_if_any(n: usize, h: Head, block: &[u8], out: &mut [u8], at: usize) -> usize
-    requires { Tellable (concatMap actionBytes (ifAny n (dispatchAction (state_of h block.now)))) at }
-    ensures { Written (concatMap actionBytes (ifAny n (dispatchAction (state_of h block.now)))) out.old at out.new result }
+    requires { Tellable (concat_map action_bytes (if_any n (dispatch_action (state_of h block.now)))) at }
+    ensures { Written (concat_map action_bytes (if_any n (dispatch_action (state_of h block.now)))) out.old at out.new result }
 {
     if n == 0 {
         return at;
@@ -146,8 +146,8 @@ fn dispatch_if_any(n: usize, h: Head, block: &[u8], out: &mut [u8], at: usize) -
 // `on_announce_dropped_timer`, the actions half: "schedules dispatch if a queue stands, then itself if a record does, each unless flagged". Its own flag was just
 // cleared.
 pub fn announce_actions(h: Head, block: &[u8], instant: Millis, out: &mut [u8], at: usize) -> usize
-    requires { Stands h block.now × Tellable (concatMap actionBytes (announceActions (settled instant.0 (state_of h block.now)))) at }
-    ensures { Written (concatMap actionBytes (announceActions (settled instant.0 (state_of h block.now)))) out.old at out.new result }
+    requires { Stands h block.now × Tellable (concat_map action_bytes (announce_actions (settled instant.0 (state_of h block.now)))) at }
+    ensures { Written (concat_map action_bytes (announce_actions (settled instant.0 (state_of h block.now)))) out.old at out.new result }
 {
     let m = count_moved(h, block, instant);
     let queued = h.live.queued + m.moved;

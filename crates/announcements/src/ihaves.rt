@@ -1,21 +1,21 @@
-// An IHave from a neighbour: document 01, "IHave, Graft, Prune". Its entries are read where they stand in the event, one after the other.
+// An IHave from a neighbour: the specification, "IHave, Graft, Prune". Its entries are read where they stand in the event, one after the other.
 ghost use Rattle.std.specs.Prelude.{◌≡◌, ◌≤◌, ◌<◌, length, if◌then◌else◌};
-ghost use Rattle.storage.specs.Lists.Base.{any, all, member, concatMap};
+ghost use Rattle.storage.specs.Lists.Base.{any, all, member, concat_map};
 ghost use Rattle.storage.specs.Lists.Map.{has};
 ghost use Rattle.storage.specs.Rows.Ident.{id_of};
-ghost use Rattle.postcard.specs.Message.{actionBytes};
-ghost use Rattle.postcard.specs.Events.{ihavesFrom, Listed};
+ghost use Rattle.postcard.specs.Message.{action_bytes};
+ghost use Rattle.postcard.specs.Events.{ihaves_from, Listed};
 ghost use Rattle.decide.specs.Settled.{settled};
-ghost use Rattle.decide.specs.SizesAfter.{knownTimer};
-ghost use Rattle.decide.specs.ActionsAfter.{ihaveActions};
+ghost use Rattle.decide.specs.SizesAfter.{known_timer};
+ghost use Rattle.decide.specs.ActionsAfter.{ihave_actions};
 ghost use Rattle.wire.specs.Output.Written.{Tellable, Written};
 ghost use Rattle.block.specs.View.{state_of};
 ghost use Rattle.block.specs.Sound.{Sound};
 ghost use Rattle.block.specs.Goes.{Goes};
 ghost use Rattle.block.specs.TimerSteps.{TimersAscend};
 ghost use Rattle.steps.specs.Stands.{Stands, Step};
-ghost use Rattle.announcements.specs.Ihaves.Heard.{timerMarked, announcedFrom, heardFrom};
-ghost use Rattle.announcements.specs.Ihaves.New.{isFor, isNew, isReceived, NewOf, NewIn};
+ghost use Rattle.announcements.specs.Ihaves.Heard.{timer_marked, announced_from, heard_from};
+ghost use Rattle.announcements.specs.Ihaves.New.{is_for, is_new, is_received, NewOf, NewIn};
 
 use block::caches::received;
 use block::head::Head;
@@ -38,8 +38,8 @@ pub struct NewIds {
 
 // A SendGraft timer is marked for an identifier, unless one is.
 fn mark_timer(h: Head, block: &mut [u8], id: Id) -> Head
-    requires { Sound h block.old × TimersAscend h block.old × (length (timerMarked (id_of id) (state_of h block.old)).timers.graft ≤ (state_of h block.old).limits.T) }
-    ensures { Goes (timerMarked (id_of id)) h block.old result block.new }
+    requires { Sound h block.old × TimersAscend h block.old × (length (timer_marked (id_of id) (state_of h block.old)).timers.graft ≤ (state_of h block.old).limits.T) }
+    ensures { Goes (timer_marked (id_of id)) h block.old result block.new }
 {
     let f = timers::find_timer(h, block, id);
     match f {
@@ -50,8 +50,8 @@ fn mark_timer(h: Head, block: &mut [u8], id: Id) -> Head
 
 // One entry of an IHave from the peer of a link: a message that is not received gets the peer among its announcers, once, and a timer.
 fn on_announced(h: Head, block: &mut [u8], id: Id, round: Round, link: usize) -> Head
-    requires { Step (announcedFrom link (id_of id) round.0) h block.old × (link < h.live.links) }
-    ensures { Goes (announcedFrom link (id_of id) round.0) h block.old result block.new }
+    requires { Step (announced_from link (id_of id) round.0) h block.old × (link < h.live.links) }
+    ensures { Goes (announced_from link (id_of id) round.0) h block.old result block.new }
 {
     let received = received::is_received(h, block, id);
     if received {
@@ -70,8 +70,8 @@ pub fn on_ihave(
     count: usize,
     link: usize,
 ) -> Head
-    requires { Step (heardFrom link (ihavesFrom event.now start count)) h block.old × (link < h.live.links) × Listed event.now start count (ihavesFrom event.now start count) }
-    ensures { Goes (heardFrom link (ihavesFrom event.now start count)) h block.old result block.new }
+    requires { Step (heard_from link (ihaves_from event.now start count)) h block.old × (link < h.live.links) × Listed event.now start count (ihaves_from event.now start count) }
+    ensures { Goes (heard_from link (ihaves_from event.now start count)) h block.old result block.new }
 {
     let mut g = h;
     let mut place = start;
@@ -95,8 +95,8 @@ pub fn all_received(
     start: usize,
     count: usize,
 ) -> bool
-    requires { Stands h block.now × Listed event.now start count (ihavesFrom event.now start count) }
-    ensures { result ≡ all (isReceived (settled instant.0 (state_of h block.now))) (ihavesFrom event.now start count) }
+    requires { Stands h block.now × Listed event.now start count (ihaves_from event.now start count) }
+    ensures { result ≡ all (is_received (settled instant.0 (state_of h block.now))) (ihaves_from event.now start count) }
 {
     let mut place = start;
     let mut i = 0;
@@ -138,8 +138,8 @@ fn has_timer(h: Head, block: &[u8], id: Id) -> bool
 
 // Whether one of the first `count` entries has the identifier. Its time is that of one pass over them: a message of 4,094 bytes has at most 124.
 fn stands_before(event: &[u8], start: usize, count: usize, id: Id) -> bool
-    requires { Listed event.now start count (ihavesFrom event.now start count) }
-    ensures { result ≡ any (isFor (id_of id)) (ihavesFrom event.now start count) }
+    requires { Listed event.now start count (ihaves_from event.now start count) }
+    ensures { result ≡ any (is_for (id_of id)) (ihaves_from event.now start count) }
 {
     let mut place = start;
     let mut i = 0;
@@ -172,8 +172,8 @@ fn new_of(
     count: usize,
     id: Id,
 ) -> NewIds
-    requires { Stands h block.now × Listed event.now start count (ihavesFrom event.now start count) }
-    ensures { NewOf (settled instant.0 (state_of h block.now)) (ihavesFrom event.now start count) (id_of id) result }
+    requires { Stands h block.now × Listed event.now start count (ihaves_from event.now start count) }
+    ensures { NewOf (settled instant.0 (state_of h block.now)) (ihaves_from event.now start count) (id_of id) result }
 {
     let received = settled::received_then(h, block, instant, id);
     if received {
@@ -206,8 +206,8 @@ pub fn ihave_sizes(
     start: usize,
     count: usize,
 ) -> NewIds
-    requires { Stands h block.now × Listed event.now start count (ihavesFrom event.now start count) }
-    ensures { NewIn (settled instant.0 (state_of h block.now)) (ihavesFrom event.now start count) result }
+    requires { Stands h block.now × Listed event.now start count (ihaves_from event.now start count) }
+    ensures { NewIn (settled instant.0 (state_of h block.now)) (ihaves_from event.now start count) result }
 {
     let mut missing = 0;
     let mut timers = 0;
@@ -234,8 +234,8 @@ fn wants_timer(
     count: usize,
     id: Id,
 ) -> bool
-    requires { Stands h block.now × Listed event.now start count (ihavesFrom event.now start count) }
-    ensures { result ≡ isNew (knownTimer (settled instant.0 (state_of h block.now))) (ihavesFrom event.now start count) (id_of id) }
+    requires { Stands h block.now × Listed event.now start count (ihaves_from event.now start count) }
+    ensures { result ≡ is_new (known_timer (settled instant.0 (state_of h block.now))) (ihaves_from event.now start count) (id_of id) }
 {
     let received = settled::received_then(h, block, instant, id);
     if received {
@@ -261,8 +261,8 @@ pub fn ihave_actions(
     start: usize,
     count: usize,
 ) -> usize
-    requires { Stands h block.now × Listed event.now start count (ihavesFrom event.now start count) × Tellable (concatMap actionBytes (ihaveActions (ihavesFrom event.now start count) (settled instant.0 (state_of h block.now)))) at }
-    ensures { Written (concatMap actionBytes (ihaveActions (ihavesFrom event.now start count) (settled instant.0 (state_of h block.now)))) out.old at out.new result }
+    requires { Stands h block.now × Listed event.now start count (ihaves_from event.now start count) × Tellable (concat_map action_bytes (ihave_actions (ihaves_from event.now start count) (settled instant.0 (state_of h block.now)))) at }
+    ensures { Written (concat_map action_bytes (ihave_actions (ihaves_from event.now start count) (settled instant.0 (state_of h block.now)))) out.old at out.new result }
 {
     let delay = h.settings.config.graft_timeout_1;
     let mut next = at;

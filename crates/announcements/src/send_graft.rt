@@ -1,23 +1,23 @@
-// SendGraft (document 01, "SendGraft"): a message that is still missing is asked of the first who announced it.
+// SendGraft (the specification, "SendGraft"): a message that is still missing is asked of the first who announced it.
 ghost use Rattle.std.specs.Prelude.{◌≡◌, ◌^◌, ◌≤◌, ◌<◌};
-ghost use Rattle.storage.specs.Lists.Base.{concatMap};
+ghost use Rattle.storage.specs.Lists.Base.{concat_map};
 ghost use Rattle.storage.specs.Lists.Map.{keys};
 ghost use Rattle.storage.specs.Rows.Ident.{id_of};
 ghost use Rattle.storage.specs.Rows.Sorted.{Here};
-ghost use Rattle.postcard.specs.Message.{actionBytes};
+ghost use Rattle.postcard.specs.Message.{action_bytes};
 ghost use Rattle.wire.specs.Output.Written.{Tellable, Written};
 ghost use Rattle.protocol.specs.Gossips.{announcers};
 ghost use Rattle.block.specs.View.{state_of};
 ghost use Rattle.block.specs.Goes.{Goes};
-ghost use Rattle.block.specs.MissingSteps.{hopsAt};
+ghost use Rattle.block.specs.MissingSteps.{hops_at};
 ghost use Rattle.decide.specs.Settled.{settled};
-ghost use Rattle.decide.specs.StateAfter.{sendGraftState};
-ghost use Rattle.decide.specs.SizesAfter.{unmarkedSizes, askSizes, sendGraftSizes};
-ghost use Rattle.decide.specs.ActionsAfter.{askActions, sendGraftActions};
+ghost use Rattle.decide.specs.StateAfter.{send_graft_state};
+ghost use Rattle.decide.specs.SizesAfter.{unmarked_sizes, ask_sizes, send_graft_sizes};
+ghost use Rattle.decide.specs.ActionsAfter.{ask_actions, send_graft_actions};
 ghost use Rattle.steps.specs.Stands.{Stands, Step};
-ghost use Rattle.steps.specs.Rooms.{roomsIn};
-ghost use Rattle.steps.specs.Shared.{sizesValue};
-ghost use Rattle.announcements.specs.SendGraft.Asks.{askedFirst, missingLeft};
+ghost use Rattle.steps.specs.Rooms.{rooms_in};
+ghost use Rattle.steps.specs.Shared.{sizes_value};
+ghost use Rattle.announcements.specs.SendGraft.Asks.{asked_first, missing_left};
 
 use block::caches::received;
 use block::head::Head;
@@ -33,8 +33,8 @@ use wire::output;
 // The first who announced the missing message i is asked: it leaves the announcers, becomes eager, and is grafted for the message. Its time is that of an
 // insert into a time cache.
 fn ask_first(h: Head, block: &mut [u8], i: usize, instant: Millis, id: Id) -> Head
-    requires { Step (askedFirst instant.0 (id_of id)) h block.old × (instant.0 ≤ 2 ^ 62) × Here (keys (state_of h block.old).missing) (id_of id) i }
-    ensures { Goes (askedFirst instant.0 (id_of id)) h block.old result block.new }
+    requires { Step (asked_first instant.0 (id_of id)) h block.old × (instant.0 ≤ 2 ^ 62) × Here (keys (state_of h block.old).missing) (id_of id) i }
+    ensures { Goes (asked_first instant.0 (id_of id)) h block.old result block.new }
 {
     let first = missing::announcer_at(h, block, i, 0);
     let link = first.link;
@@ -47,8 +47,8 @@ fn ask_first(h: Head, block: &mut [u8], i: usize, instant: Millis, id: Id) -> He
 
 // `on_send_graft_timer`, the state half: the mark goes; unless the message is received, its first announcer is asked. Its time is that of an insert into a time cache.
 pub fn on_send_graft_timer(h: Head, block: &mut [u8], instant: Millis, id: Id) -> Head
-    requires { Step (sendGraftState instant.0 (id_of id)) h block.old × (instant.0 ≤ 2 ^ 62) }
-    ensures { Goes (sendGraftState instant.0 (id_of id)) h block.old result block.new }
+    requires { Step (send_graft_state instant.0 (id_of id)) h block.old × (instant.0 ≤ 2 ^ 62) }
+    ensures { Goes (send_graft_state instant.0 (id_of id)) h block.old result block.new }
 {
     let a = timers::forget_timer(h, block, id);
     let received = received::is_received(a, block, id);
@@ -72,8 +72,8 @@ fn ask_actions(
     at: usize,
     id: Id,
 ) -> usize
-    requires { Stands h block.now × (i < h.live.missing) × Tellable (concatMap actionBytes (askActions (roomsIn (state_of h block.now) rooms.now) (id_of id) (hopsAt (state_of h block.now) i) (state_of h block.now))) at }
-    ensures { Written (concatMap actionBytes (askActions (roomsIn (state_of h block.now) rooms.now) (id_of id) (hopsAt (state_of h block.now) i) (state_of h block.now))) out.old at out.new result }
+    requires { Stands h block.now × (i < h.live.missing) × Tellable (concat_map action_bytes (ask_actions (rooms_in (state_of h block.now) rooms.now) (id_of id) (hops_at (state_of h block.now) i) (state_of h block.now))) at }
+    ensures { Written (concat_map action_bytes (ask_actions (rooms_in (state_of h block.now) rooms.now) (id_of id) (hops_at (state_of h block.now) i) (state_of h block.now))) out.old at out.new result }
 {
     let first = missing::announcer_at(h, block, i, 0);
     let link = first.link;
@@ -94,8 +94,8 @@ pub fn send_graft_actions(
     at: usize,
     id: Id,
 ) -> usize
-    requires { Stands h block.now × Tellable (concatMap actionBytes (sendGraftActions (roomsIn (state_of h block.now) rooms.now) (id_of id) (settled instant.0 (state_of h block.now)))) at }
-    ensures { Written (concatMap actionBytes (sendGraftActions (roomsIn (state_of h block.now) rooms.now) (id_of id) (settled instant.0 (state_of h block.now)))) out.old at out.new result }
+    requires { Stands h block.now × Tellable (concat_map action_bytes (send_graft_actions (rooms_in (state_of h block.now) rooms.now) (id_of id) (settled instant.0 (state_of h block.now)))) at }
+    ensures { Written (concat_map action_bytes (send_graft_actions (rooms_in (state_of h block.now) rooms.now) (id_of id) (settled instant.0 (state_of h block.now)))) out.old at out.new result }
 {
     let received = settled::received_then(h, block, instant, id);
     if received {
@@ -111,7 +111,7 @@ pub fn send_graft_actions(
 // The numbers of entries once the timer mark is gone.
 fn unmarked_sizes(h: Head, block: &[u8], instant: Millis, id: Id) -> Sizes
     requires { Stands h block.now }
-    ensures { sizesValue result ≡ unmarkedSizes (id_of id) (settled instant.0 (state_of h block.now)) }
+    ensures { sizes_value result ≡ unmarked_sizes (id_of id) (settled instant.0 (state_of h block.now)) }
 {
     let mut z = settled::sizes_then(h, block, instant);
     let f = timers::find_timer(h, block, id);
@@ -128,7 +128,7 @@ fn unmarked_sizes(h: Head, block: &[u8], instant: Millis, id: Id) -> Sizes
 // How many messages are missing once the first announcer of the missing message i has left.
 fn missing_left(h: Head, block: &[u8], i: usize) -> usize
     requires { Stands h block.now × (i < h.live.missing) }
-    ensures { result ≡ missingLeft i (state_of h block.now) }
+    ensures { result ≡ missing_left i (state_of h block.now) }
 {
     let n = missing::announcers_of(h, block, i);
     if n == 1 {
@@ -139,8 +139,8 @@ fn missing_left(h: Head, block: &[u8], i: usize) -> usize
 
 // The numbers of entries after the first announcer of the missing message i was asked; z has those before it.
 fn ask_sizes(h: Head, block: &[u8], z: Sizes, i: usize, instant: Millis, id: Id) -> Sizes
-    requires { Stands h block.now × Here (keys (state_of h block.now).missing) (id_of id) i × (sizesValue z ≡ unmarkedSizes (id_of id) (settled instant.0 (state_of h block.now))) }
-    ensures { sizesValue result ≡ askSizes (id_of id) (announcers (id_of id) (state_of h block.now)) (settled instant.0 (state_of h block.now)) }
+    requires { Stands h block.now × Here (keys (state_of h block.now).missing) (id_of id) i × (sizes_value z ≡ unmarked_sizes (id_of id) (settled instant.0 (state_of h block.now))) }
+    ensures { sizes_value result ≡ ask_sizes (id_of id) (announcers (id_of id) (state_of h block.now)) (settled instant.0 (state_of h block.now)) }
 {
     let left = missing_left(h, block, i);
     let mut y = z;
@@ -161,7 +161,7 @@ fn ask_sizes(h: Head, block: &[u8], z: Sizes, i: usize, instant: Millis, id: Id)
 // Question 13 of SendGraft: the numbers of entries after it, once a first event has evicted.
 pub fn send_graft_sizes(h: Head, block: &[u8], instant: Millis, id: Id) -> Sizes
     requires { Stands h block.now }
-    ensures { sizesValue result ≡ sendGraftSizes (id_of id) (settled instant.0 (state_of h block.now)) }
+    ensures { sizes_value result ≡ send_graft_sizes (id_of id) (settled instant.0 (state_of h block.now)) }
 {
     let z = unmarked_sizes(h, block, instant, id);
     let received = settled::received_then(h, block, instant, id);

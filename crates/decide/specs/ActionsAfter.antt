@@ -4,121 +4,121 @@ use Rattle.std.proofs.Math.Option.{Option, none, some}
 use Rattle.storage.specs.Lists.Base.{is_empty}
 use Rattle.storage.specs.Lists.Map.{keys}
 use Rattle.time_cache.specs.TimeCache.{holds, get}
-use Rattle.protocol.specs.Links.{isNeighbour, eagerIn}
-use Rattle.postcard.specs.Message.{Delivery, Swarm, Neighbors, Scope, toSwarm, toNeighbors, Ihave, Message, Gossip, Prune, Graft, IHave, Timer, SendGraft, DispatchLazyPush, EvictCache, AnnounceDropped, Event, Received, Broadcast, Fired, Up, Down, Action, Sent, Scheduled, Emitted}
+use Rattle.protocol.specs.Links.{is_neighbour, eager_in}
+use Rattle.postcard.specs.Message.{Delivery, Swarm, Neighbors, Scope, to_swarm, to_neighbors, Ihave, Message, Gossip, Prune, Graft, IHave, Timer, SendGraft, DispatchLazyPush, EvictCache, AnnounceDropped, Event, Received, Broadcast, Fired, Up, Down, Action, Sent, Scheduled, Emitted}
 use Rattle.protocol.specs.State.{State, Hop, Cached}
 use Rattle.protocol.specs.Run.{Room}
-use Rattle.protocol.specs.Push.{eagerTargets}
-use Rattle.protocol.specs.Gossips.{announcers, graftedFor, graftOut, leastFrom, farCloser, Late, duplicate, repeated, faster, lateKind, gossipSize}
-use Rattle.protocol.specs.Ticks.{perMessage, queuedPeers, oldest, younger, stillCached}
-use Rattle.decide.specs.Rooms.{kthTaken, firstSend}
-use Rattle.decide.specs.Settled.{settled, settledActions}
-use Rattle.decide.specs.RecordGrowth.{cachedIn, announceAction, pushActions}
-use Rattle.decide.specs.Pieces.{pieces, pieceActions}
-use Rattle.decide.specs.SizesAfter.{newIds, knownTimer}
+use Rattle.protocol.specs.Push.{eager_targets}
+use Rattle.protocol.specs.Gossips.{announcers, grafted_for, graft_out, least_from, far_closer, Late, duplicate, repeated, faster, late_kind, gossip_size}
+use Rattle.protocol.specs.Ticks.{per_message, queued_peers, oldest, younger, still_cached}
+use Rattle.decide.specs.Rooms.{kth_taken, first_send}
+use Rattle.decide.specs.Settled.{settled, settled_actions}
+use Rattle.decide.specs.RecordGrowth.{cached_in, announce_action, push_actions}
+use Rattle.decide.specs.Pieces.{pieces, piece_actions}
+use Rattle.decide.specs.SizesAfter.{new_ids, known_timer}
 
 -- EvictCache
-unfoldable pub evictActions : State → List Action
-evictActions s = Scheduled s.settings.cacheEvictInterval EvictCache ∷ []
+unfoldable pub evict_actions : State → List Action
+evict_actions s = Scheduled s.settings.cache_evict_interval EvictCache ∷ []
 
 -- a dispatch timer, unless flagged
-unfoldable pub dispatchAction : State → List Action
-dispatchAction s = if s.timers.dispatch then [] else Scheduled s.settings.dispatchTimeout DispatchLazyPush ∷ []
+unfoldable pub dispatch_action : State → List Action
+dispatch_action s = if s.timers.dispatch then [] else Scheduled s.settings.dispatch_timeout DispatchLazyPush ∷ []
 
 -- AnnounceDropped: dispatch if a queue stands, then itself if a record does; its flag is clear
-unfoldable pub announceActions : State → List Action
-announceActions s =
-    (if is_empty (s.queue ++ oldest [] (stillCached s)) then [] else dispatchAction s)
-    ++ announceAction (not (is_empty (younger [] (stillCached s)))) false
+unfoldable pub announce_actions : State → List Action
+announce_actions s =
+    (if is_empty (s.queue ++ oldest [] (still_cached s)) then [] else dispatch_action s)
+    ++ announce_action (not (is_empty (younger [] (still_cached s)))) false
 
 -- the reply to a Graft, given what is cached for the identifier
-unfoldable pub replyActions : List Room → ℕ → ℕ → Option Cached → State → List Action
-replyActions rooms sender id none s = []
-replyActions rooms sender id (some c) s = pushActions rooms (Gossip id c.content (Swarm c.round)) (sender ∷ []) s.timers.announce
+unfoldable pub reply_actions : List Room → ℕ → ℕ → Option Cached → State → List Action
+reply_actions rooms sender id none s = []
+reply_actions rooms sender id (some c) s = push_actions rooms (Gossip id c.content (Swarm c.round)) (sender ∷ []) s.timers.announce
 
 -- Graft from a neighbour
-unfoldable pub graftActions : List Room → ℕ → Option ℕ → State → List Action
-graftActions rooms sender none s = []
-graftActions rooms sender (some id) s = replyActions rooms sender id (get id s.cache) s
+unfoldable pub graft_actions : List Room → ℕ → Option ℕ → State → List Action
+graft_actions rooms sender none s = []
+graft_actions rooms sender (some id) s = reply_actions rooms sender id (get id s.cache) s
 
 -- the first announcer is asked
-unfoldable pub askActions : List Room → ℕ → List Hop → State → List Action
-askActions rooms id [] s = []
-askActions rooms id (h ∷ hs) s = firstSend rooms (Graft (some id) h.round) h.peer ∷ Scheduled s.settings.graftTimeout2 (SendGraft id) ∷ []
+unfoldable pub ask_actions : List Room → ℕ → List Hop → State → List Action
+ask_actions rooms id [] s = []
+ask_actions rooms id (h ∷ hs) s = first_send rooms (Graft (some id) h.round) h.peer ∷ Scheduled s.settings.graft_timeout_2 (SendGraft id) ∷ []
 
 -- SendGraft
-unfoldable pub sendGraftActions : List Room → ℕ → State → List Action
-sendGraftActions rooms id s = if holds id s.received then [] else askActions rooms id (announcers id s) s
+unfoldable pub send_graft_actions : List Room → ℕ → State → List Action
+send_graft_actions rooms id s = if holds id s.received then [] else ask_actions rooms id (announcers id s) s
 
 -- IHave from a neighbour: one timer for each identifier that had none
-unfoldable pub ihaveActions : List Ihave → State → List Action
-ihaveActions hs s = map (λ i. Scheduled s.settings.graftTimeout1 (SendGraft i)) (newIds (knownTimer s) [] hs)
+unfoldable pub ihave_actions : List Ihave → State → List Action
+ihave_actions hs s = map (λ i. Scheduled s.settings.graft_timeout_1 (SendGraft i)) (new_ids (known_timer s) [] hs)
 
 -- a broadcast of size at most M
-unfoldable pub broadcastActions : List Room → ℕ → List ℕ → Scope → State → List Action
-broadcastActions rooms id content toSwarm s =
-    dispatchAction s ++ pushActions rooms (Gossip id content (Swarm 0)) (eagerTargets s.settings.me [] s) s.timers.announce
-broadcastActions rooms id content toNeighbors s = map (firstSend rooms (Gossip id content Neighbors)) (eagerTargets s.settings.me [] s)
+unfoldable pub broadcast_actions : List Room → ℕ → List ℕ → Scope → State → List Action
+broadcast_actions rooms id content to_swarm s =
+    dispatch_action s ++ push_actions rooms (Gossip id content (Swarm 0)) (eager_targets s.settings.me [] s) s.timers.announce
+broadcast_actions rooms id content to_neighbors s = map (first_send rooms (Gossip id content Neighbors)) (eager_targets s.settings.me [] s)
 
 -- "Received before"
-unfoldable pub lateActions : List Room → ℕ → Late → List Action
-lateActions rooms sender duplicate = firstSend rooms Prune sender ∷ []
-lateActions rooms sender repeated = []
-lateActions rooms sender (faster first) = firstSend rooms Prune first ∷ []
+unfoldable pub late_actions : List Room → ℕ → Late → List Action
+late_actions rooms sender duplicate = first_send rooms Prune sender ∷ []
+late_actions rooms sender repeated = []
+late_actions rooms sender (faster first) = first_send rooms Prune first ∷ []
 
 -- "Graft without identifier unless eager, then sender lazy, Prune": the Prune is the second send to the sender if the Graft went there too
-unfoldable pub optimiseActions : List Room → ℕ → ℕ → List Hop → State → List Action
-optimiseActions rooms sender round [] s = []
-optimiseActions rooms sender round (h ∷ hs) s =
-    if farCloser s.settings.optimizationThreshold round (leastFrom h hs).round then
-    if eagerIn (leastFrom h hs).peer s.links then firstSend rooms Prune sender ∷ []
-    else firstSend rooms (Graft none (leastFrom h hs).round) (leastFrom h hs).peer
-    ∷ Sent sender (kthTaken (if eqb sender (leastFrom h hs).peer then 2 else 1) sender rooms) Prune ∷ []
+unfoldable pub optimise_actions : List Room → ℕ → ℕ → List Hop → State → List Action
+optimise_actions rooms sender round [] s = []
+optimise_actions rooms sender round (h ∷ hs) s =
+    if far_closer s.settings.optimization_threshold round (least_from h hs).round then
+    if eager_in (least_from h hs).peer s.links then first_send rooms Prune sender ∷ []
+    else first_send rooms (Graft none (least_from h hs).round) (least_from h hs).peer
+    ∷ Sent sender (kth_taken (if eqb sender (least_from h hs).peer then 2 else 1) sender rooms) Prune ∷ []
     else []
 
 -- a new Swarm message of round `round`
-unfoldable pub newActions : List Room → ℕ → ℕ → List ℕ → ℕ → State → List Action
-newActions rooms sender id content round s =
-    pushActions rooms (Gossip id content (Swarm (suc round))) (eagerTargets sender (keys (graftedFor id s)) s) s.timers.announce
-    ++ dispatchAction s
-    ++ (if isNeighbour sender s.links && not (graftOut sender round (graftedFor id s)) then optimiseActions rooms sender (suc round) (announcers id s) s else [])
+unfoldable pub new_actions : List Room → ℕ → ℕ → List ℕ → ℕ → State → List Action
+new_actions rooms sender id content round s =
+    push_actions rooms (Gossip id content (Swarm (suc round))) (eager_targets sender (keys (grafted_for id s)) s) s.timers.announce
+    ++ dispatch_action s
+    ++ (if is_neighbour sender s.links && not (graft_out sender round (grafted_for id s)) then optimise_actions rooms sender (suc round) (announcers id s) s else [])
     ++ (Emitted sender content (Swarm round) ∷ [])
 
 -- DispatchLazyPush
-unfoldable pub dispatchActions : List Room → State → List Action
-dispatchActions rooms s = pieceActions (cachedIn s.cache) rooms s.timers.announce (pieces (queuedPeers s.queue) (perMessage s.settings.maxMessageSize) s.queue)
+unfoldable pub dispatch_actions : List Room → State → List Action
+dispatch_actions rooms s = piece_actions (cached_in s.cache) rooms s.timers.announce (pieces (queued_peers s.queue) (per_message s.settings.max_message_size) s.queue)
 
 module _ (hash : List ℕ → ℕ) where
   -- a Gossip, valid or not, received before or new
-  unfoldable pub gossipActions : List Room → ℕ → ℕ → List ℕ → Delivery → State → List Action
-  gossipActions rooms sender id content (Swarm round) s =
+  unfoldable pub gossip_actions : List Room → ℕ → ℕ → List ℕ → Delivery → State → List Action
+  gossip_actions rooms sender id content (Swarm round) s =
       if not (eqb (hash content) id) then []
-      else if holds id s.received then lateActions rooms sender (lateKind sender (Swarm round) s.links (get id s.grafted))
-      else newActions rooms sender id content round s
-  gossipActions rooms sender id content Neighbors s =
+      else if holds id s.received then late_actions rooms sender (late_kind sender (Swarm round) s.links (get id s.grafted))
+      else new_actions rooms sender id content round s
+  gossip_actions rooms sender id content Neighbors s =
       if not (eqb (hash content) id) then []
-      else if holds id s.received then lateActions rooms sender (lateKind sender Neighbors s.links (get id s.grafted))
+      else if holds id s.received then late_actions rooms sender (late_kind sender Neighbors s.links (get id s.grafted))
       else Emitted sender content Neighbors ∷ []
 
   -- a received message; "from strangers are counted only"
-  unfoldable pub messageActions : List Room → ℕ → Message → State → List Action
-  messageActions rooms sender (Gossip id content d) s = gossipActions rooms sender id content d s
-  messageActions rooms sender Prune s = []
-  messageActions rooms sender (Graft wanted round) s = if isNeighbour sender s.links then graftActions rooms sender wanted s else []
-  messageActions rooms sender (IHave hs) s = if isNeighbour sender s.links then ihaveActions hs s else []
+  unfoldable pub message_actions : List Room → ℕ → Message → State → List Action
+  message_actions rooms sender (Gossip id content d) s = gossip_actions rooms sender id content d s
+  message_actions rooms sender Prune s = []
+  message_actions rooms sender (Graft wanted round) s = if is_neighbour sender s.links then graft_actions rooms sender wanted s else []
+  message_actions rooms sender (IHave hs) s = if is_neighbour sender s.links then ihave_actions hs s else []
 
   -- a timer
-  unfoldable pub timerActions : List Room → Timer → State → List Action
-  timerActions rooms (SendGraft id) s = sendGraftActions rooms id s
-  timerActions rooms DispatchLazyPush s = dispatchActions rooms s
-  timerActions rooms EvictCache s = evictActions s
-  timerActions rooms AnnounceDropped s = announceActions s
+  unfoldable pub timer_actions : List Room → Timer → State → List Action
+  timer_actions rooms (SendGraft id) s = send_graft_actions rooms id s
+  timer_actions rooms DispatchLazyPush s = dispatch_actions rooms s
+  timer_actions rooms EvictCache s = evict_actions s
+  timer_actions rooms AnnounceDropped s = announce_actions s
 
   -- the actions of the call, of the state before it (question 14)
-  unfoldable pub actionsAfter : List Room → ℕ → Event → State → List Action
-  actionsAfter rooms now (Received p m) s = settledActions s ++ messageActions rooms p m (settled now s)
-  actionsAfter rooms now (Broadcast content scope) s =
-      settledActions s ++ (if ltb s.settings.maxMessageSize (gossipSize (length content) scope) then [] else broadcastActions rooms (hash content) content scope (settled now s))
-  actionsAfter rooms now (Fired t) s = settledActions s ++ timerActions rooms t (settled now s)
-  actionsAfter rooms now (Up p) s = []
-  actionsAfter rooms now (Down p) s = []
+  unfoldable pub actions_after : List Room → ℕ → Event → State → List Action
+  actions_after rooms now (Received p m) s = settled_actions s ++ message_actions rooms p m (settled now s)
+  actions_after rooms now (Broadcast content scope) s =
+      settled_actions s ++ (if ltb s.settings.max_message_size (gossip_size (length content) scope) then [] else broadcast_actions rooms (hash content) content scope (settled now s))
+  actions_after rooms now (Fired t) s = settled_actions s ++ timer_actions rooms t (settled now s)
+  actions_after rooms now (Up p) s = []
+  actions_after rooms now (Down p) s = []

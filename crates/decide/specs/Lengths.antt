@@ -1,36 +1,36 @@
--- The length of an action, without its bytes (question 14). Proved equal to that of `actionBytes`.
+-- The length of an action, without its bytes (question 14). Proved equal to that of `action_bytes`.
 use Rattle.std.specs.Prelude.{ℕ, ◌+◌, length}
 use Rattle.std.proofs.Math.Option.{Option, none, some}
 use Rattle.storage.specs.Lists.Base.{sum}
-use Rattle.postcard.specs.Number.{numberLength}
+use Rattle.postcard.specs.Number.{number_length}
 use Rattle.postcard.specs.Message.{Delivery, Swarm, Neighbors, Message, Gossip, Prune, Graft, IHave, Timer, SendGraft, DispatchLazyPush, EvictCache, AnnounceDropped, Action, Sent, Scheduled, Emitted}
 
 -- of a delivery
-unfoldable pub deliveryLength : Delivery → ℕ
-deliveryLength (Swarm r) = 1 + numberLength r
-deliveryLength Neighbors = 1
+unfoldable pub delivery_length : Delivery → ℕ
+delivery_length (Swarm r) = 1 + number_length r
+delivery_length Neighbors = 1
 
 -- of a Graft's optional identifier
-unfoldable pub wantedLength : Option ℕ → ℕ
-wantedLength none = 1
-wantedLength (some id) = 33
+unfoldable pub wanted_length : Option ℕ → ℕ
+wanted_length none = 1
+wanted_length (some id) = 33
 
 -- of a message
-unfoldable pub messageLength : Message → ℕ
-messageLength (Gossip id content d) = 33 + numberLength (length content) + length content + deliveryLength d
-messageLength Prune = 1
-messageLength (Graft wanted r) = 1 + wantedLength wanted + numberLength r
-messageLength (IHave hs) = 1 + numberLength (length hs) + sum (λ h. 32 + numberLength h.round) hs
+unfoldable pub message_length : Message → ℕ
+message_length (Gossip id content d) = 33 + number_length (length content) + length content + delivery_length d
+message_length Prune = 1
+message_length (Graft wanted r) = 1 + wanted_length wanted + number_length r
+message_length (IHave hs) = 1 + number_length (length hs) + sum (λ h. 32 + number_length h.round) hs
 
 -- of a timer
-unfoldable pub timerLength : Timer → ℕ
-timerLength (SendGraft id) = 33
-timerLength DispatchLazyPush = 1
-timerLength EvictCache = 1
-timerLength AnnounceDropped = 1
+unfoldable pub timer_length : Timer → ℕ
+timer_length (SendGraft id) = 33
+timer_length DispatchLazyPush = 1
+timer_length EvictCache = 1
+timer_length AnnounceDropped = 1
 
 -- of an action
-unfoldable pub actionLength : Action → ℕ
-actionLength (Sent p taken m) = 2 + numberLength p + messageLength m
-actionLength (Scheduled delay t) = 1 + numberLength delay + timerLength t
-actionLength (Emitted p content d) = 1 + numberLength p + numberLength (length content) + length content + deliveryLength d
+unfoldable pub action_length : Action → ℕ
+action_length (Sent p taken m) = 2 + number_length p + message_length m
+action_length (Scheduled delay t) = 1 + number_length delay + timer_length t
+action_length (Emitted p content d) = 1 + number_length p + number_length (length content) + length content + delivery_length d

@@ -1,44 +1,44 @@
--- A first event's eviction in advance: what it leaves, and the tests of what it leaves, read from the state before the call. Proved equal to `firstEvent`.
+-- A first event's eviction in advance: what it leaves, and the tests of what it leaves, read from the state before the call. Proved equal to `first_event`.
 use Rattle.std.specs.Prelude.{ℕ, Bool, true, false, not, ◌&&◌, List, [], ◌∷◌, ltb, eqb, if◌then◌else◌}
 use Rattle.std.proofs.Math.Option.{Option, none, some}
 use Rattle.storage.specs.Lists.Map.{lookup}
-use Rattle.time_cache.specs.TimeCache.{Timed, holds, laterCache}
+use Rattle.time_cache.specs.TimeCache.{Timed, holds, later_cache}
 use Rattle.postcard.specs.Message.{Gossip, Prune, Graft, IHave, EvictCache, Event, Received, Broadcast, Fired, Up, Down, Action, Scheduled}
-use Rattle.protocol.specs.State.{State, withInit, withReceived, withGrafted, withCache}
-use Rattle.protocol.specs.Answer.{lastRound}
+use Rattle.protocol.specs.State.{State, with_init, with_received, with_grafted, with_cache}
+use Rattle.protocol.specs.Answer.{last_round}
 
 -- is there, and expires later
-unfoldable pub aliveAt : {A : Type 0} → ℕ → Option (Timed A) → Bool
-aliveAt now none = false
-aliveAt now (some t) = ltb now t.expires
+unfoldable pub alive_at : {A : Type 0} → ℕ → Option (Timed A) → Bool
+alive_at now none = false
+alive_at now (some t) = ltb now t.expires
 
 -- its value, if it expires later
-unfoldable pub aliveValue : {A : Type 0} → ℕ → Option (Timed A) → Option A
-aliveValue now none = none
-aliveValue now (some t) = if ltb now t.expires then some t.value else none
+unfoldable pub alive_value : {A : Type 0} → ℕ → Option (Timed A) → Option A
+alive_value now none = none
+alive_value now (some t) = if ltb now t.expires then some t.value else none
 
--- the state after `firstEvent`
+-- the state after `first_event`
 unfoldable pub settled : ℕ → State → State
 settled now s =
     if s.init then s
-    else withInit true (withGrafted (laterCache now s.grafted) (withReceived (laterCache now s.received) (withCache (laterCache now s.cache) s)))
+    else with_init true (with_grafted (later_cache now s.grafted) (with_received (later_cache now s.received) (with_cache (later_cache now s.cache) s)))
 
 -- its action
-unfoldable pub settledActions : State → List Action
-settledActions s = if s.init then [] else Scheduled s.settings.cacheEvictInterval EvictCache ∷ []
+unfoldable pub settled_actions : State → List Action
+settled_actions s = if s.init then [] else Scheduled s.settings.cache_evict_interval EvictCache ∷ []
 
 -- question 12 of the state before: "unreceived once a first event has evicted"
-unfoldable pub receivedBefore : ℕ → State → ℕ → Bool
-receivedBefore now s id = if s.init then holds id s.received else aliveAt now (lookup id s.received.entries)
+unfoldable pub received_before : ℕ → State → ℕ → Bool
+received_before now s id = if s.init then holds id s.received else alive_at now (lookup id s.received.entries)
 
 module _ (hash : List ℕ → ℕ) where
   -- a valid Swarm message of round 65,535, unreceived then
-  unfoldable pub tooFarBefore : ℕ → Event → State → Bool
-  tooFarBefore now (Received p (Gossip id content d)) s = eqb (hash content) id && lastRound d && not (receivedBefore now s id)
-  tooFarBefore now (Received p Prune) s = false
-  tooFarBefore now (Received p (Graft wanted round)) s = false
-  tooFarBefore now (Received p (IHave hs)) s = false
-  tooFarBefore now (Broadcast content scope) s = false
-  tooFarBefore now (Fired t) s = false
-  tooFarBefore now (Up p) s = false
-  tooFarBefore now (Down p) s = false
+  unfoldable pub too_far_before : ℕ → Event → State → Bool
+  too_far_before now (Received p (Gossip id content d)) s = eqb (hash content) id && last_round d && not (received_before now s id)
+  too_far_before now (Received p Prune) s = false
+  too_far_before now (Received p (Graft wanted round)) s = false
+  too_far_before now (Received p (IHave hs)) s = false
+  too_far_before now (Broadcast content scope) s = false
+  too_far_before now (Fired t) s = false
+  too_far_before now (Up p) s = false
+  too_far_before now (Down p) s = false

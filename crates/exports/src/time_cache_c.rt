@@ -1,8 +1,8 @@
 // Time caches for a program in Rust to link: tests/time_cache runs them beside the Rust's own. No function asks anything of its caller: each
 // tests the tables first, and answers no, or 0, and changes nothing where they do not lie in the block, are not sound, or have no room.
 ghost use Rattle.std.specs.Prelude.{◌≡◌, true, ◌+◌, ◌*◌, ◌≤◌, ◌<◌, length};
-ghost use Rattle.time_cache.specs.TimeCache.{holds, laterCache};
-ghost use Rattle.time_cache.specs.Tables.{cacheAt, Lies, Room};
+ghost use Rattle.time_cache.specs.TimeCache.{holds, later_cache};
+ghost use Rattle.time_cache.specs.Tables.{cache_at, Lies, Room};
 ghost use Rattle.exports.specs.TimeCacheC.Handed.{handed, key_of, Whole, Ready, Tells, Said, Done, ToldInsert, ToldExpire};
 
 use postcard::units::Millis;
@@ -230,7 +230,7 @@ pub extern "C" fn time_cache_contains_key(
     w2: u64,
     w3: u64,
 ) -> bool
-    ensures { Tells (Whole (handed a s n b t m) block.now × (holds (key_of w0 w1 w2 w3) (cacheAt (handed a s n b t m) block.now) ≡ true)) result }
+    ensures { Tells (Whole (handed a s n b t m) block.now × (holds (key_of w0 w1 w2 w3) (cache_at (handed a s n b t m) block.now) ≡ true)) result }
 {
     let c = TimeBoundCache {
         entries: Table {
@@ -267,7 +267,7 @@ pub extern "C" fn time_cache_contains_later(
     w3: u64,
     instant: Millis,
 ) -> bool
-    ensures { Tells (Whole (handed a s n b t m) block.now × (holds (key_of w0 w1 w2 w3) (laterCache instant.0 (cacheAt (handed a s n b t m) block.now)) ≡ true)) result }
+    ensures { Tells (Whole (handed a s n b t m) block.now × (holds (key_of w0 w1 w2 w3) (later_cache instant.0 (cache_at (handed a s n b t m) block.now)) ≡ true)) result }
 {
     let c = TimeBoundCache {
         entries: Table {
@@ -300,7 +300,7 @@ pub extern "C" fn time_cache_entries_later(
     m: usize,
     instant: Millis,
 ) -> usize
-    ensures { Said (Whole (handed a s n b t m) block.now) (length (laterCache instant.0 (cacheAt (handed a s n b t m) block.now)).entries) result }
+    ensures { Said (Whole (handed a s n b t m) block.now) (length (later_cache instant.0 (cache_at (handed a s n b t m) block.now)).entries) result }
 {
     let c = TimeBoundCache {
         entries: Table {
@@ -333,7 +333,7 @@ pub extern "C" fn time_cache_rows_later(
     m: usize,
     instant: Millis,
 ) -> usize
-    ensures { Said (Whole (handed a s n b t m) block.now) (length (laterCache instant.0 (cacheAt (handed a s n b t m) block.now)).expiry) result }
+    ensures { Said (Whole (handed a s n b t m) block.now) (length (later_cache instant.0 (cache_at (handed a s n b t m) block.now)).expiry) result }
 {
     let c = TimeBoundCache {
         entries: Table {

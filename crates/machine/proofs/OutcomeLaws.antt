@@ -6,44 +6,44 @@ use mathlib.Core.List.{List, ◌++◌}
 use lib.Dec.{leb}
 use lib.ListN.{length}
 use Rattle.std.specs.Prelude.{if◌then◌else◌}
-use Rattle.storage.specs.Lists.Base.{concatMap}
+use Rattle.storage.specs.Lists.Base.{concat_map}
 use Rattle.blake3.specs.Blake3.{identifier}
-use Rattle.postcard.specs.Message.{Event, actionBytes}
+use Rattle.postcard.specs.Message.{Event, action_bytes}
 use Rattle.protocol.specs.State.{State, Counts}
 use Rattle.protocol.specs.Run.{Room}
-use Rattle.protocol.specs.Answer.{messageFits, countsStay, Outcome, refused, accepted}
-use Rattle.decide.specs.Sizes.{fitSizes}
-use Rattle.decide.specs.Settled.{settled, settledActions}
-use Rattle.machine.specs.Kinds.Meaning.{stepSizes, stepActions, stepState, stepFar, stepCounts, countedFor, Means}
+use Rattle.protocol.specs.Answer.{message_fits, counts_stay, Outcome, refused, accepted}
+use Rattle.decide.specs.Sizes.{fit_sizes}
+use Rattle.decide.specs.Settled.{settled, settled_actions}
+use Rattle.machine.specs.Kinds.Meaning.{step_sizes, step_actions, step_state, step_far, step_counts, counted_for, Means}
 use Rattle.machine.specs.declared.kinds.Step.{Step}
-use Rattle.machine.specs.Decided.{bytesAfter, lastDecided, decided}
-use Rattle.machine.specs.Outcomes.{stepBytes, stepOutcome}
+use Rattle.machine.specs.Decided.{bytes_after, last_decided, decided}
+use Rattle.machine.specs.Outcomes.{step_bytes, step_outcome}
 use Rattle.machine.specs.Called.{Lent, Accepted, Finds}
 
 module _ (bytes : List ℕ) (rooms : List Room) (now : ℕ) (r : Step) (s : State) (c : Counts) (output : ℕ) where
   abbrev outcome : Outcome
-  outcome = stepOutcome bytes rooms now r s c output
+  outcome = step_outcome bytes rooms now r s c output
 
   abbrev fit : Bool
-  fit = fitSizes s.limits (stepSizes bytes rooms now r (settled now s))
+  fit = fit_sizes s.limits (step_sizes bytes rooms now r (settled now s))
 
   abbrev room : Bool
-  room = leb (length (stepBytes bytes rooms now r s)) output
+  room = leb (length (step_bytes bytes rooms now r s)) output
 
-  pub outcome-12 : stepFar r ≡ true → outcome ≡ refused 12
-  unfolding stepOutcome
+  pub outcome-12 : step_far r ≡ true → outcome ≡ refused 12
+  unfolding step_outcome
   outcome-12 p = rw p refl
 
-  pub outcome-13 : stepFar r ≡ false → fit ≡ false → outcome ≡ refused 13
-  unfolding stepOutcome
+  pub outcome-13 : step_far r ≡ false → fit ≡ false → outcome ≡ refused 13
+  unfolding step_outcome
   outcome-13 p q = rw (p, q) refl
 
-  pub outcome-14 : stepFar r ≡ false → fit ≡ true → room ≡ false → outcome ≡ refused 14
-  unfolding stepOutcome
+  pub outcome-14 : step_far r ≡ false → fit ≡ true → room ≡ false → outcome ≡ refused 14
+  unfolding step_outcome
   outcome-14 p q t = rw (p, q, t) refl
 
-  pub outcome-0 : stepFar r ≡ false → fit ≡ true → room ≡ true → outcome ≡ accepted (stepState bytes rooms now r (settled now s)) (stepCounts r c) (stepBytes bytes rooms now r s)
-  unfolding stepOutcome
+  pub outcome-0 : step_far r ≡ false → fit ≡ true → room ≡ true → outcome ≡ accepted (step_state bytes rooms now r (settled now s)) (step_counts r c) (step_bytes bytes rooms now r s)
+  unfolding step_outcome
   outcome-0 p q t = rw (p, q, t) refl
 
 -- a refusal changes nothing
@@ -55,11 +55,11 @@ found-yes o s c bytes before after long e a = subst (λ (x : Outcome). Finds x b
 
 -- the definitions' outcome
 pub step-decided : (bytes : List ℕ) (rooms : List Room) (now : ℕ) (r : Step) (s : State) (e : Event) (c : Counts) (output : ℕ) → Means bytes now s r e →
-    messageFits s.settings.maxMessageSize bytes e ≡ true → countsStay e c ≡ true →
-    decided identifier rooms now bytes e s c output ≡ stepOutcome bytes rooms now r s (countedFor e c) output
-unfolding decided lastDecided stepOutcome bytesAfter stepBytes
+    message_fits s.settings.max_message_size bytes e ≡ true → counts_stay e c ≡ true →
+    decided identifier rooms now bytes e s c output ≡ step_outcome bytes rooms now r s (counted_for e c) output
+unfolding decided last_decided step_outcome bytes_after step_bytes
 step-decided bytes rooms now r s e c output m fits stay =
-    rw (fits, stay, m.far, m.sizes rooms, m.actions rooms, m.state rooms, m.counts c) (last _ _ _ _ (stepFar r) (fitSizes s.limits (stepSizes bytes rooms now r (settled now s))) (leb (length (concatMap actionBytes (settledActions s ++ stepActions bytes rooms r (settled now s)))) output))
+    rw (fits, stay, m.far, m.sizes rooms, m.actions rooms, m.state rooms, m.counts c) (last _ _ _ _ (step_far r) (fit_sizes s.limits (step_sizes bytes rooms now r (settled now s))) (leb (length (concat_map action_bytes (settled_actions s ++ step_actions bytes rooms r (settled now s)))) output))
   where
     last : (x y z w : Outcome) (a b d : Bool) → (if a then x else if b then if d then w else z else y) ≡ (if a then x else if not b then y else if not d then z else w)
     last x y z w true b d = refl

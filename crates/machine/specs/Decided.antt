@@ -2,35 +2,35 @@
 -- `protocol` (proofs/DecidedLaws.antt).
 -- Assumes nothing.
 use Rattle.std.specs.Prelude.{ℕ, not, List, leb, length, if◌then◌else◌}
-use Rattle.storage.specs.Lists.Base.{concatMap}
-use Rattle.postcard.specs.Message.{Event, actionBytes}
+use Rattle.storage.specs.Lists.Base.{concat_map}
+use Rattle.postcard.specs.Message.{Event, action_bytes}
 use Rattle.protocol.specs.State.{State, Counts}
 use Rattle.protocol.specs.Run.{Room}
-use Rattle.protocol.specs.Answer.{messageFits, countsStay, Outcome, refused, accepted}
-use Rattle.decide.specs.Sizes.{fitSizes}
-use Rattle.decide.specs.Settled.{tooFarBefore}
-use Rattle.decide.specs.SizesAfter.{sizesAfter}
-use Rattle.decide.specs.ActionsAfter.{actionsAfter}
-use Rattle.decide.specs.StateAfter.{stateAfter}
-use Rattle.machine.specs.Kinds.Counted.{countsAfterCall}
+use Rattle.protocol.specs.Answer.{message_fits, counts_stay, Outcome, refused, accepted}
+use Rattle.decide.specs.Sizes.{fit_sizes}
+use Rattle.decide.specs.Settled.{too_far_before}
+use Rattle.decide.specs.SizesAfter.{sizes_after}
+use Rattle.decide.specs.ActionsAfter.{actions_after}
+use Rattle.decide.specs.StateAfter.{state_after}
+use Rattle.machine.specs.Kinds.Counted.{counts_after_call}
 
 module _ (hash : List ℕ → ℕ) where
   -- the bytes of the call's actions
-  unfoldable pub bytesAfter : List Room → ℕ → Event → State → List ℕ
-  bytesAfter rooms now e s = concatMap actionBytes (actionsAfter hash rooms now e s)
+  unfoldable pub bytes_after : List Room → ℕ → Event → State → List ℕ
+  bytes_after rooms now e s = concat_map action_bytes (actions_after hash rooms now e s)
 
   -- (13), (14)
-  unfoldable pub lastDecided : List Room → ℕ → Event → State → Counts → ℕ → Outcome
-  lastDecided rooms now e s c output =
-      if fitSizes s.limits (sizesAfter hash rooms now e s) then
-      if leb (length (bytesAfter rooms now e s)) output then accepted (stateAfter hash rooms now e s) (countsAfterCall hash now e s c) (bytesAfter rooms now e s)
+  unfoldable pub last_decided : List Room → ℕ → Event → State → Counts → ℕ → Outcome
+  last_decided rooms now e s c output =
+      if fit_sizes s.limits (sizes_after hash rooms now e s) then
+      if leb (length (bytes_after rooms now e s)) output then accepted (state_after hash rooms now e s) (counts_after_call hash now e s c) (bytes_after rooms now e s)
       else refused 14
       else refused 13
 
   -- (10) of the event's bytes, (11), (12), then the last two
   unfoldable pub decided : List Room → ℕ → List ℕ → Event → State → Counts → ℕ → Outcome
   decided rooms now bytes e s c output =
-      if not (messageFits s.settings.maxMessageSize bytes e) then refused 10
-      else if not (countsStay e c) then refused 11
-      else if tooFarBefore hash now e s then refused 12
-      else lastDecided rooms now e s c output
+      if not (message_fits s.settings.max_message_size bytes e) then refused 10
+      else if not (counts_stay e c) then refused 11
+      else if too_far_before hash now e s then refused 12
+      else last_decided rooms now e s c output

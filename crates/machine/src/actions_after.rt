@@ -1,17 +1,17 @@
-// The actions of a call, from the block as it stands before it: document 01, "the first other event evicts and schedules EvictCache before anything else", then
+// The actions of a call, from the block as it stands before it: the specification, "the first other event evicts and schedules EvictCache before anything else", then
 // the step of the event.
 ghost use Rattle.std.specs.Prelude.{◌≡◌, false, [], ◌∷◌, ◌<◌, eqb, length, get_or};
-ghost use Rattle.storage.specs.Lists.Base.{concatMap};
+ghost use Rattle.storage.specs.Lists.Base.{concat_map};
 ghost use Rattle.storage.specs.Rows.Part.{part};
 ghost use Rattle.storage.specs.Rows.Ident.{id_of};
-ghost use Rattle.postcard.specs.Message.{Neighbors, Emitted, actionBytes};
-ghost use Rattle.postcard.specs.Values.{wantedValue, scopeValue};
+ghost use Rattle.postcard.specs.Message.{Neighbors, Emitted, action_bytes};
+ghost use Rattle.postcard.specs.Values.{wanted_value, scope_value};
 ghost use Rattle.wire.specs.Output.Written.{Tellable, Written};
 ghost use Rattle.block.specs.View.{state_of};
 ghost use Rattle.steps.specs.Stands.{Stands};
-ghost use Rattle.payloads.specs.Broadcast.Broadcasts.{broadcastBytes};
-ghost use Rattle.machine.specs.Kinds.Meaning.{ContentHeld, StepHeld, stepFar, SenderIs};
-ghost use Rattle.machine.specs.ActionsAfter.After.{graftBytes, newBytes, stepBytes, callBytes};
+ghost use Rattle.payloads.specs.Broadcast.Broadcasts.{broadcast_bytes};
+ghost use Rattle.machine.specs.Kinds.Meaning.{ContentHeld, StepHeld, step_far, SenderIs};
+ghost use Rattle.machine.specs.ActionsAfter.After.{graft_bytes, new_bytes, step_bytes, call_bytes};
 
 use crate::kinds::Step;
 use announcements::dispatch::actions;
@@ -41,8 +41,8 @@ pub fn graft_actions<'a>(
     wanted: Wanted,
 ) -> usize
     requires stands { Stands h block.now × (link < length (state_of h block.now).links) }
-    requires tellable { Tellable (graftBytes instant.0 rooms.now link (wantedValue wanted) (state_of h block.now)) at }
-    ensures { Written (graftBytes instant.0 rooms.now link (wantedValue wanted) (state_of h block.now)) out.old at out.new result }
+    requires tellable { Tellable (graft_bytes instant.0 rooms.now link (wanted_value wanted) (state_of h block.now)) at }
+    ensures { Written (graft_bytes instant.0 rooms.now link (wanted_value wanted) (state_of h block.now)) out.old at out.new result }
 {
     match wanted {
         Wanted::Nothing => at,
@@ -63,8 +63,8 @@ fn emit_neighbors<'a>(
     start: usize,
     len: usize,
 ) -> usize
-    requires { ContentHeld event.now start len × Tellable (concatMap actionBytes (Emitted sender (part start len event.now) Neighbors ∷ [])) at }
-    ensures { Written (concatMap actionBytes (Emitted sender (part start len event.now) Neighbors ∷ [])) out.old at out.new result }
+    requires { ContentHeld event.now start len × Tellable (concat_map action_bytes (Emitted sender (part start len event.now) Neighbors ∷ [])) at }
+    ensures { Written (concat_map action_bytes (Emitted sender (part start len event.now) Neighbors ∷ [])) out.old at out.new result }
 {
     let content = content::content_part(event, block, Content::InEvent { start, len });
     output::emit(out, at, sender, content, Delivery::Neighbors)
@@ -86,8 +86,8 @@ fn new_swarm<'a>(
     round: Round,
 ) -> usize
     requires stands { Stands h block.now × ContentHeld event.now start len × (eqb round.0 65535 ≡ false) }
-    requires tellable { Tellable (newBytes instant.0 rooms.now sender (id_of id) (part start len event.now) round.0 (state_of h block.now)) at }
-    ensures { Written (newBytes instant.0 rooms.now sender (id_of id) (part start len event.now) round.0 (state_of h block.now)) out.old at out.new result }
+    requires tellable { Tellable (new_bytes instant.0 rooms.now sender (id_of id) (part start len event.now) round.0 (state_of h block.now)) at }
+    ensures { Written (new_bytes instant.0 rooms.now sender (id_of id) (part start len event.now) round.0 (state_of h block.now)) out.old at out.new result }
 {
     let content = content::content_part(event, block, Content::InEvent { start, len });
     gossip::new_actions(
@@ -110,8 +110,8 @@ fn send_broadcast<'a>(
     scope: Scope,
 ) -> usize
     requires stands { Stands h block.now × ContentHeld event.now start len }
-    requires tellable { Tellable (broadcastBytes instant.0 rooms.now (id_of id) (part start len event.now) (scopeValue scope) (state_of h block.now)) at }
-    ensures { Written (broadcastBytes instant.0 rooms.now (id_of id) (part start len event.now) (scopeValue scope) (state_of h block.now)) out.old at out.new result }
+    requires tellable { Tellable (broadcast_bytes instant.0 rooms.now (id_of id) (part start len event.now) (scope_value scope) (state_of h block.now)) at }
+    ensures { Written (broadcast_bytes instant.0 rooms.now (id_of id) (part start len event.now) (scope_value scope) (state_of h block.now)) out.old at out.new result }
 {
     let content = content::content_part(event, block, Content::InEvent { start, len });
     broadcast::broadcast_actions(h, block, instant, rooms, out, at, id, content, scope)
@@ -128,9 +128,9 @@ pub fn step_actions<'a>(
     out: &mut [u8],
     at: usize,
 ) -> usize
-    requires stands { Stands h block.now × StepHeld event.now (state_of h block.now) step × SenderIs (get_or rooms.now 33 0) step × (stepFar step ≡ false) }
-    requires tellable { Tellable (stepBytes event.now instant.0 rooms.now step (state_of h block.now)) at }
-    ensures { Written (stepBytes event.now instant.0 rooms.now step (state_of h block.now)) out.old at out.new result }
+    requires stands { Stands h block.now × StepHeld event.now (state_of h block.now) step × SenderIs (get_or rooms.now 33 0) step × (step_far step ≡ false) }
+    requires tellable { Tellable (step_bytes event.now instant.0 rooms.now step (state_of h block.now)) at }
+    ensures { Written (step_bytes event.now instant.0 rooms.now step (state_of h block.now)) out.old at out.new result }
 {
     match step {
         Step::Nothing => at,
@@ -205,9 +205,9 @@ pub fn call_actions<'a>(
     step: Step,
     out: &mut [u8],
 ) -> usize
-    requires stands { Stands h block.now × StepHeld event.now (state_of h block.now) step × SenderIs (get_or rooms.now 33 0) step × (stepFar step ≡ false) }
-    requires tellable { Tellable (callBytes event.now instant.0 rooms.now step (state_of h block.now)) 0 }
-    ensures { Written (callBytes event.now instant.0 rooms.now step (state_of h block.now)) out.old 0 out.new result }
+    requires stands { Stands h block.now × StepHeld event.now (state_of h block.now) step × SenderIs (get_or rooms.now 33 0) step × (step_far step ≡ false) }
+    requires tellable { Tellable (call_bytes event.now instant.0 rooms.now step (state_of h block.now)) 0 }
+    ensures { Written (call_bytes event.now instant.0 rooms.now step (state_of h block.now)) out.old 0 out.new result }
 {
     let at = ticks::first_event_actions(h, block, out, 0);
     step_actions(h, block, instant, rooms, event, step, out, at)

@@ -1,12 +1,12 @@
 // What an event does once a first event's work is done: the step, with what was found out about it from the block before anything is changed.
 ghost use Rattle.std.specs.Prelude.{◌+◌, ◌≤◌, length};
 ghost use Rattle.storage.specs.Rows.Part.{part};
-ghost use Rattle.postcard.specs.Message.{Received, Broadcast, Fired, Gossip, IHave, messageBytes};
-ghost use Rattle.postcard.specs.Values.{deliveryValue, scopeValue, timerValue};
-ghost use Rattle.postcard.specs.Events.{ihavesFrom, messageValue, MessageHeld};
+ghost use Rattle.postcard.specs.Message.{Received, Broadcast, Fired, Gossip, IHave, message_bytes};
+ghost use Rattle.postcard.specs.Values.{delivery_value, scope_value, timer_value};
+ghost use Rattle.postcard.specs.Events.{ihaves_from, message_value, MessageHeld};
 ghost use Rattle.storage.specs.Rows.Ident.{id_of};
 ghost use Rattle.block.specs.View.{state_of};
-ghost use Rattle.block.specs.LinkSteps.{peerAt};
+ghost use Rattle.block.specs.LinkSteps.{peer_at};
 ghost use Rattle.steps.specs.Stands.{Stands};
 ghost use Rattle.machine.specs.Kinds.Meaning.{ListHeld, Means};
 
@@ -87,8 +87,8 @@ fn gossip_step(
     len: usize,
     delivery: Delivery,
 ) -> Step
-    requires { Stands h block.now × (start + len ≤ length event.now) × (length (messageBytes (Gossip (id_of id) (part start len event.now) (deliveryValue delivery))) ≤ h.settings.max_message_size) }
-    ensures { Means event.now instant.0 (state_of h block.now) result (Received sender (Gossip (id_of id) (part start len event.now) (deliveryValue delivery))) }
+    requires { Stands h block.now × (start + len ≤ length event.now) × (length (message_bytes (Gossip (id_of id) (part start len event.now) (delivery_value delivery))) ≤ h.settings.max_message_size) }
+    ensures { Means event.now instant.0 (state_of h block.now) result (Received sender (Gossip (id_of id) (part start len event.now) (delivery_value delivery))) }
 {
     let end = start + len;
     let real = blake3::hash(&event[start..end]);
@@ -128,7 +128,7 @@ fn ihave_step(
     count: usize,
 ) -> Step
     requires { Stands h block.now × ListHeld event.now (state_of h block.now) link start count }
-    ensures { Means event.now instant.0 (state_of h block.now) result (Received (peerAt (state_of h block.now) link) (IHave (ihavesFrom event.now start count))) }
+    ensures { Means event.now instant.0 (state_of h block.now) result (Received (peer_at (state_of h block.now) link) (IHave (ihaves_from event.now start count))) }
 {
     let known = ihaves::all_received(h, block, instant, event, start, count);
     if known {
@@ -146,8 +146,8 @@ pub fn message_step(
     sender: u64,
     m: Message,
 ) -> Step
-    requires { Stands h block.now × MessageHeld event.now m × (length (messageBytes (messageValue event.now m)) ≤ h.settings.max_message_size) }
-    ensures { Means event.now instant.0 (state_of h block.now) result (Received sender (messageValue event.now m)) }
+    requires { Stands h block.now × MessageHeld event.now m × (length (message_bytes (message_value event.now m)) ≤ h.settings.max_message_size) }
+    ensures { Means event.now instant.0 (state_of h block.now) result (Received sender (message_value event.now m)) }
 {
     let f = links::find_link(h, block, sender);
     match m {
@@ -183,7 +183,7 @@ pub fn broadcast_step(
     scope: Scope,
 ) -> Step
     requires { Stands h block.now × (start + len ≤ length event.now) }
-    ensures { Means event.now instant.0 (state_of h block.now) result (Broadcast (part start len event.now) (scopeValue scope)) }
+    ensures { Means event.now instant.0 (state_of h block.now) result (Broadcast (part start len event.now) (scope_value scope)) }
 {
     let fits = serialized_size::broadcast_fits(len, scope, h.settings.max_message_size as usize);
     if !fits {
@@ -200,7 +200,7 @@ pub fn broadcast_step(
 // The step of a timer.
 pub fn timer_step(h: Head, block: &[u8], instant: Millis, event: &[u8], t: Timer) -> Step
     requires { Stands h block.now }
-    ensures { Means event.now instant.0 (state_of h block.now) result (Fired (timerValue t)) }
+    ensures { Means event.now instant.0 (state_of h block.now) result (Fired (timer_value t)) }
 {
     match t {
         Timer::SendGraft(id) => Step::SendGraft(id),

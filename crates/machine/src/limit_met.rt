@@ -3,18 +3,18 @@ ghost use Rattle.std.specs.Prelude.{◌≡◌, [], length, ◌+◌, ◌≤◌};
 ghost use Rattle.storage.specs.Rows.Part.{part};
 ghost use Rattle.blake3.specs.Blake3.{identifier};
 ghost use Rattle.postcard.specs.Message.{Received, Broadcast, Fired, Up};
-ghost use Rattle.postcard.specs.Values.{scopeValue, timerValue};
-ghost use Rattle.postcard.specs.Events.{messageValue, eventValue, Sized, EventHeld};
-ghost use Rattle.block.specs.View.{state_of, limitsOf};
+ghost use Rattle.postcard.specs.Values.{scope_value, timer_value};
+ghost use Rattle.postcard.specs.Events.{message_value, event_value, Sized, EventHeld};
+ghost use Rattle.block.specs.View.{state_of, limits_of};
 ghost use Rattle.block.specs.Fit.{Ceilings};
 ghost use Rattle.whole.specs.Held.{held};
 ghost use Rattle.steps.specs.Stands.{Stands};
-ghost use Rattle.steps.specs.Rooms.{roomsIn};
-ghost use Rattle.steps.specs.Shared.{sizesValue};
+ghost use Rattle.steps.specs.Rooms.{rooms_in};
+ghost use Rattle.steps.specs.Shared.{sizes_value};
 ghost use Rattle.machine.specs.Kinds.Meaning.{StepHeld};
-ghost use Rattle.machine.specs.Core.{coreRooms};
-ghost use Rattle.machine.specs.LimitMet.LimitMet.{asking, limitMet};
-ghost use Rattle.machine.specs.LimitMet.Decided.{sizesPast, eventPast, stepPast};
+ghost use Rattle.machine.specs.Core.{core_rooms};
+ghost use Rattle.machine.specs.LimitMet.LimitMet.{asking, limit_met};
+ghost use Rattle.machine.specs.LimitMet.Decided.{sizes_past, event_past, step_past};
 
 use crate::kinds::Step;
 use crate::{event, kinds, sizes_after};
@@ -27,8 +27,8 @@ use wire::decode;
 
 // The first limit that these numbers of entries are past, in the order of the ceilings; 0 if they are within every one. "Expiry entries: 2R, 2C, 2G".
 fn limit_past(l: Limits, z: Sizes) -> u8
-    requires { Ceilings (limitsOf l) }
-    ensures { result ≡ sizesPast (limitsOf l) (sizesValue z) }
+    requires { Ceilings (limits_of l) }
+    ensures { result ≡ sizes_past (limits_of l) (sizes_value z) }
 {
     if l.neighbours < z.links {
         return 1;
@@ -79,7 +79,7 @@ fn step_limit(
     step: Step,
 ) -> u8
     requires { Stands h block.now × StepHeld event.now (state_of h block.now) step }
-    ensures { result ≡ stepPast event.now (roomsIn (state_of h block.now) rooms.now) instant.0 step (state_of h block.now) }
+    ensures { result ≡ step_past event.now (rooms_in (state_of h block.now) rooms.now) instant.0 step (state_of h block.now) }
 {
     let far = event::is_far(step);
     if far {
@@ -101,7 +101,7 @@ fn message_limit(
     m: Message,
 ) -> u8
     requires { Stands h block.now × Sized event.now (length event.now) size m }
-    ensures { result ≡ eventPast (roomsIn (state_of h block.now) rooms.now) instant.0 event.now (Received peer (messageValue event.now m)) (state_of h block.now) }
+    ensures { result ≡ event_past (rooms_in (state_of h block.now) rooms.now) instant.0 event.now (Received peer (message_value event.now m)) (state_of h block.now) }
 {
     if h.settings.max_message_size < size as u64 {
         return 0;
@@ -122,7 +122,7 @@ fn broadcast_limit(
     scope: Scope,
 ) -> u8
     requires { Stands h block.now × (start + len ≤ length event.now) }
-    ensures { result ≡ eventPast (roomsIn (state_of h block.now) rooms.now) instant.0 event.now (Broadcast (part start len event.now) (scopeValue scope)) (state_of h block.now) }
+    ensures { result ≡ event_past (rooms_in (state_of h block.now) rooms.now) instant.0 event.now (Broadcast (part start len event.now) (scope_value scope)) (state_of h block.now) }
 {
     let step = kinds::broadcast_step(h, block, instant, event, start, len, scope);
     step_limit(h, block, instant, event, rooms, step)
@@ -138,7 +138,7 @@ fn timer_limit(
     t: Timer,
 ) -> u8
     requires { Stands h block.now }
-    ensures { result ≡ eventPast (roomsIn (state_of h block.now) rooms.now) instant.0 event.now (Fired (timerValue t)) (state_of h block.now) }
+    ensures { result ≡ event_past (rooms_in (state_of h block.now) rooms.now) instant.0 event.now (Fired (timer_value t)) (state_of h block.now) }
 {
     let step = kinds::timer_step(h, block, instant, event, t);
     step_limit(h, block, instant, event, rooms, step)
@@ -147,7 +147,7 @@ fn timer_limit(
 // A neighbour told up: the numbers of entries with its link.
 fn up_limit(h: Head, block: &[u8], instant: Millis, rooms: &[u64; 34], peer: u64) -> u8
     requires { Stands h block.now }
-    ensures { result ≡ eventPast (roomsIn (state_of h block.now) rooms.now) instant.0 [] (Up peer) (state_of h block.now) }
+    ensures { result ≡ event_past (rooms_in (state_of h block.now) rooms.now) instant.0 [] (Up peer) (state_of h block.now) }
 {
     let sizes = sizes_before::up_sizes(h, block, peer);
     limit_past(h.limits, sizes)
@@ -163,7 +163,7 @@ fn event_limit(
     e: Event,
 ) -> u8
     requires { Stands h block.now × EventHeld event.now (length event.now) e }
-    ensures { result ≡ eventPast (roomsIn (state_of h block.now) rooms.now) instant.0 event.now (eventValue event.now e) (state_of h block.now) }
+    ensures { result ≡ event_past (rooms_in (state_of h block.now) rooms.now) instant.0 event.now (event_value event.now e) (state_of h block.now) }
 {
     match e {
         Event::Received {
@@ -183,7 +183,7 @@ fn event_limit(
 // The limit that a call met that is answered 13, with the link room of each link by its number, and at 32 that of the event's peer; 0 if the call, with the counts
 // zero, is not answered 13. It takes as long as the call does up to question 13.
 pub fn limit_met(block: &[u8], instant: Millis, event: &[u8], rooms: [u64; 34]) -> u8
-    ensures { result ≡ limitMet identifier (length block.now) (held block.now) (asking instant.0 event.now (coreRooms block.now event.now rooms)) }
+    ensures { result ≡ limit_met identifier (length block.now) (held block.now) (asking instant.0 event.now (core_rooms block.now event.now rooms)) }
 {
     let whole = whole::is_whole(block);
     if !whole {

@@ -4,18 +4,18 @@ ghost use Rattle.storage.specs.Lists.Base.{member};
 ghost use Rattle.storage.specs.Lists.Map.{has};
 ghost use Rattle.storage.specs.Rows.Ident.{id_of};
 ghost use Rattle.time_cache.specs.TimeCache.{get};
-ghost use Rattle.postcard.specs.Values.{wantedValue};
-ghost use Rattle.postcard.specs.Events.{ihavesFrom, Listed};
+ghost use Rattle.postcard.specs.Values.{wanted_value};
+ghost use Rattle.postcard.specs.Events.{ihaves_from, Listed};
 ghost use Rattle.block.specs.View.{state_of};
-ghost use Rattle.block.specs.LinkSteps.{peerAt};
+ghost use Rattle.block.specs.LinkSteps.{peer_at};
 ghost use Rattle.decide.specs.Settled.{settled};
 ghost use Rattle.decide.specs.Sizes.{shrunk};
-ghost use Rattle.decide.specs.SizesAfter.{replySizes, graftSizes, ihaveSizes};
+ghost use Rattle.decide.specs.SizesAfter.{reply_sizes, graft_sizes, ihave_sizes};
 ghost use Rattle.steps.specs.Stands.{Stands};
-ghost use Rattle.steps.specs.Rooms.{roomsIn};
-ghost use Rattle.steps.specs.Shared.{sizesValue};
+ghost use Rattle.steps.specs.Rooms.{rooms_in};
+ghost use Rattle.steps.specs.Shared.{sizes_value};
 ghost use Rattle.steps.specs.Grafts.Reads.{HeldBelow};
-ghost use Rattle.machine.specs.Kinds.Meaning.{StepHeld, stepSizes};
+ghost use Rattle.machine.specs.Kinds.Meaning.{StepHeld, step_sizes};
 ghost use Rattle.machine.specs.SizesAfter.Pushed.{PushedIs, NewIs};
 
 use crate::kinds::Step;
@@ -43,7 +43,7 @@ fn reply_sizes(
     id: Id,
 ) -> Sizes
     requires { Stands h block.now × (link < h.live.links) }
-    ensures { sizesValue result ≡ replySizes (roomsIn (state_of h block.now) rooms.now) (peerAt (state_of h block.now) link) (id_of id) (get (id_of id) (settled instant.0 (state_of h block.now)).cache) (settled instant.0 (state_of h block.now)) }
+    ensures { sizes_value result ≡ reply_sizes (rooms_in (state_of h block.now) rooms.now) (peer_at (state_of h block.now) link) (id_of id) (get (id_of id) (settled instant.0 (state_of h block.now)).cache) (settled instant.0 (state_of h block.now)) }
 {
     let mut z = settled::sizes_then(h, block, instant);
     let held = settled::cached_then(h, block, instant, id);
@@ -63,7 +63,7 @@ pub fn graft_sizes(
     wanted: Wanted,
 ) -> Sizes
     requires { Stands h block.now × (link < h.live.links) }
-    ensures { sizesValue result ≡ graftSizes (roomsIn (state_of h block.now) rooms.now) (peerAt (state_of h block.now) link) (wantedValue wanted) (settled instant.0 (state_of h block.now)) }
+    ensures { sizes_value result ≡ graft_sizes (rooms_in (state_of h block.now) rooms.now) (peer_at (state_of h block.now) link) (wanted_value wanted) (settled instant.0 (state_of h block.now)) }
 {
     match wanted {
         Wanted::Message(id) => reply_sizes(h, block, instant, rooms, link, id),
@@ -80,8 +80,8 @@ pub fn ihave_step_sizes(
     start: usize,
     count: usize,
 ) -> Sizes
-    requires { Stands h block.now × Listed event.now start count (ihavesFrom event.now start count) × (count ≤ 4094) }
-    ensures { sizesValue result ≡ ihaveSizes (ihavesFrom event.now start count) (settled instant.0 (state_of h block.now)) }
+    requires { Stands h block.now × Listed event.now start count (ihaves_from event.now start count) × (count ≤ 4094) }
+    ensures { sizes_value result ≡ ihave_sizes (ihaves_from event.now start count) (settled instant.0 (state_of h block.now)) }
 {
     let mut z = settled::sizes_then(h, block, instant);
     let new = ihaves::ihave_sizes(h, block, instant, event, start, count);
@@ -171,7 +171,7 @@ pub fn step_sizes(
     step: Step,
 ) -> Sizes
     requires { Stands h block.now × StepHeld event.now (state_of h block.now) step }
-    ensures { sizesValue result ≡ stepSizes event.now (roomsIn (state_of h block.now) rooms.now) instant.0 step (settled instant.0 (state_of h block.now)) }
+    ensures { sizes_value result ≡ step_sizes event.now (rooms_in (state_of h block.now) rooms.now) instant.0 step (settled instant.0 (state_of h block.now)) }
 {
     match step {
         Step::Nothing => settled::sizes_then(h, block, instant),

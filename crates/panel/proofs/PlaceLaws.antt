@@ -8,7 +8,7 @@ use lib.Dec.{ltb}
 use lib.ListN.{length, take, drop}
 use Rattle.storage.specs.Rows.Part.{part, put}
 use Rattle.storage.proofs.RowsLaws.Parts.{length_part, length-put, part-put, part-add, drop-take}
-use Rattle.panel.specs.Places.{Inside, unreadIn, Refilled}
+use Rattle.panel.specs.Places.{Inside, unread_in, Refilled}
 use Rattle.panel.specs.declared.stream.Place.{Place}
 
 -- how many they are, as a slice
@@ -53,5 +53,5 @@ module _ (p q : Place) (before mid : List ℕ) (i : Inside p before) (a : q.at �
   unfoldable pub moved_more : (r : Place) (after : List ℕ) → Refilled q mid r after → q.stats ≡ p.stats → Refilled p before r after
   moved_more r after f t =
       let n : q.end - q.at ≡ p.end - p.at = omega arith in
-      let u : unreadIn q mid ≡ unreadIn p before = rw (n, a, m) (part-put 0 (p.end - p.at) (part p.at (p.end - p.at) before) before many (omega (arith, i.order, i.inside))) in
+      let u : unread_in q mid ≡ unread_in p before = rw (n, a, m) (part-put 0 (p.end - p.at) (part p.at (p.end - p.at) before) before many (omega (arith, i.order, i.inside))) in
       record { within = f.within; came = f.came; unread = f.unread ∙ ap (λ (x : List ℕ). x ++ f.came) u; counts = f.counts ∙ t; goes = f.goes }

@@ -6,20 +6,20 @@ use lib.Dec.{ltb}
 use borrow.Author.Tests.{ltb-false}
 use Rattle.std.specs.Io.KnownBytes.{Consumes, Appends, IsAtEnd}
 use Rattle.std.proofs.KnownBytes.{Consumes-nil, Consumes-trans, Appends-nil, Appends-trans}
-use Rattle.storage.specs.Lists.Base.{concatMap}
+use Rattle.storage.specs.Lists.Base.{concat_map}
 use Rattle.storage.proofs.ListsLaws.ListLaws.{concat-append, concat-one}
 use Rattle.storage.proofs.ListsLaws.MapLaws.{true≢}
 use Rattle.storage.specs.Rows.Part.{part, put}
 use Rattle.blake3.specs.Blake3.{identifier}
 use Rattle.postcard.specs.Output.{Wrote}
-use Rattle.protocol.specs.State.{fresh, zeroCounts}
-use Rattle.protocol.specs.Panel.{panelSettings, panelLimits, panelrun}
+use Rattle.protocol.specs.State.{fresh, zero_counts}
+use Rattle.protocol.specs.Panel.{panel_settings, panel_limits, panelrun}
 use Rattle.panel.specs.Records.Reading.{Cut}
-use Rattle.panel.specs.Records.Running.{endBytes, closing}
-use Rattle.machine.specs.Called.{countsOf}
+use Rattle.panel.specs.Records.Running.{end_bytes, closing}
+use Rattle.machine.specs.Called.{counts_of}
 use Rattle.panel.specs.Turns.{Holds, Memory, memory, Took, Waits, Stops}
-use Rattle.panel.specs.Places.{Inside, unreadIn, Behind, Ended, Stepped, answered, waited, stopped}
-use Rattle.panel.specs.Runs.{Runs, input_of, piecesRead}
+use Rattle.panel.specs.Places.{Inside, unread_in, Behind, Ended, Stepped, answered, waited, stopped}
+use Rattle.panel.specs.Runs.{Runs, input_of, pieces_read}
 use Rattle.panel.specs.Streams.{Fed, FedOrClosed, FedStep, WholeRead}
 use Rattle.panel.specs.declared.Answer.{Answer}
 use Rattle.panel.specs.declared.stream.Place.{Place}
@@ -59,13 +59,13 @@ module _ {p : Place} {before : List ℕ} {r : Place} {after : List ℕ} {left le
 
 module _ {before : Memory} {p : Place} {buffer : List ℕ} where
   -- the turn answered a record
-  pub fed-answered : {after : Memory} {used : ℕ} {a : Answer} {r : Place} (left : Option (List ℕ)) → Took before (countsOf p.stats) (take (p.end - p.at) (drop p.at buffer)) after used a
+  pub fed-answered : {after : Memory} {used : ℕ} {a : Answer} {r : Place} (left : Option (List ℕ)) → Took before (counts_of p.stats) (take (p.end - p.at) (drop p.at buffer)) after used a
       → Behind p used a r → FedStep before p buffer after r buffer left left
-  unfolding part concatMap
+  unfolding part concat_map
   fed-answered left t b = record { stepped = answered _ _ t b refl; taken = Consumes-nil left; ended = λ q z. tt }
 
   -- the turn found a record that is cut
-  cut_first : {r : Place} {buffer' reply : List ℕ} {left left' : Option (List ℕ)} → Cut (unreadIn p buffer) → FedOrClosed p buffer before.reply r buffer' reply left left'
+  cut_first : {r : Place} {buffer' reply : List ℕ} {left left' : Option (List ℕ)} → Cut (unread_in p buffer) → FedOrClosed p buffer before.reply r buffer' reply left left'
       → FedStep before p buffer (memory before.block before.output reply) r buffer' left left'
   cut_first {left = left} {left'} c f = record {
     stepped = waited c f.read (record { block = refl; output = refl });
@@ -81,19 +81,19 @@ module _ {before : Memory} {p : Place} {buffer : List ℕ} where
 
   -- the turn found no record
   pub fed-stopped : {mid : Memory} {reply : List ℕ} {r : Place} (left : Option (List ℕ)) → Stops before (take (p.end - p.at) (drop p.at buffer)) mid → Ended p r
-      → Wrote endBytes mid.reply 0 reply r.reply → FedStep before p buffer (memory mid.block mid.output reply) r buffer left left
-  unfolding step-stopped concatMap
+      → Wrote end_bytes mid.reply 0 reply r.reply → FedStep before p buffer (memory mid.block mid.output reply) r buffer left left
+  unfolding step-stopped concat_map
   fed-stopped left b e w = record { stepped = step-stopped b e w; taken = Consumes-nil left; ended = λ q z. tt }
 
 -- a run of the input that is left, where a step does not go on
 record Finish (before : Memory) (p : Place) (buffer : List ℕ) (left wrote : List ℕ) : Type 0 where
   more : List (List ℕ)
   joined : input_of more ≡ left
-  runs : Runs before (countsOf p.stats) (unreadIn p buffer) more wrote
+  runs : Runs before (counts_of p.stats) (unread_in p buffer) more wrote
 
 finish : {before : Memory} {p : Place} {buffer : List ℕ} {after : Memory} {r : Place} {buffer' : List ℕ} (s : Stepped before p buffer after r buffer') (left : List ℕ) (left' : Option (List ℕ))
-    → Consumes (Some left) left' (input_of (piecesRead s)) → WholeRead s left' → r.goes_on ≡ false → Finish before p buffer left (take r.reply after.reply)
-unfolding concatMap
+    → Consumes (Some left) left' (input_of (pieces_read s)) → WholeRead s left' → r.goes_on ≡ false → Finish before p buffer left (take r.reply after.reply)
+unfolding concat_map
 finish (answered used a t b e) left left' h w g = true≢ (sym g ∙ b.goes)
 finish (waited c f o) left None h w g = absurd h
 finish {before} {p} {buffer} {after} {r} {buffer'} (waited c f o) left (Some rest) h w g = record {
@@ -113,9 +113,9 @@ pub record FedSofar (m : Memory) (p : Place) (buffer : List ℕ) (left left' hel
   pub taken : Consumes left left' (input_of sofar.pieces)
   pub given : Appends held held' sofar.wrote
 
-pub fed-start : (m : Memory) (p : Place) (buffer : List ℕ) (left held : Option (List ℕ)) → Holds m.block (fresh panelSettings panelLimits) → countsOf p.stats ≡ zeroCounts → p.at ≡ 0 → p.end ≡ 0
+pub fed-start : (m : Memory) (p : Place) (buffer : List ℕ) (left held : Option (List ℕ)) → Holds m.block (fresh panel_settings panel_limits) → counts_of p.stats ≡ zero_counts → p.at ≡ 0 → p.end ≡ 0
     → FedSofar m p buffer left left held held
-unfolding sofar-start concatMap
+unfolding sofar-start concat_map
 fed-start m p buffer left held h c a e = record { sofar = sofar-start m p buffer h c a e; taken = Consumes-nil left; given = Appends-nil held }
 
 module _ {before : Memory} {p : Place} {buffer : List ℕ} {after : Memory} {r : Place} {buffer' : List ℕ} {left left' left'' held held' held'' : Option (List ℕ)} (i : Inside p buffer)
@@ -124,7 +124,7 @@ module _ {before : Memory} {p : Place} {buffer : List ℕ} {after : Memory} {r :
   unfolding sofar-more
   fed-goes g = record {
     sofar = sofar-more i s.stepped g f.sofar;
-    taken = subst (Consumes left left'') (sym (concat-append (λ (piece : List ℕ). piece) f.sofar.pieces (piecesRead s.stepped))) (Consumes-trans left left' left'' _ _ f.taken s.taken);
+    taken = subst (Consumes left left'') (sym (concat-append (λ (piece : List ℕ). piece) f.sofar.pieces (pieces_read s.stepped))) (Consumes-trans left left' left'' _ _ f.taken s.taken);
     given = Appends-trans held held' held'' _ _ f.given w;
   }
 

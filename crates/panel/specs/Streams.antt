@@ -4,7 +4,7 @@ use Rattle.std.specs.Prelude.{ℕ, ◌≡◌, ⊤, false, Option, List}
 use Rattle.std.specs.Io.KnownBytes.{Consumes, IsAtEnd}
 use Rattle.panel.specs.Turns.{Memory}
 use Rattle.panel.specs.Places.{Refilled, ReadOrClosed, Stepped, answered, waited, stopped}
-use Rattle.panel.specs.Runs.{input_of, piecesRead}
+use Rattle.panel.specs.Runs.{input_of, pieces_read}
 use Rattle.panel.specs.declared.stream.Place.{Place}
 
 -- the input was read on, and what came was taken from it; where none came and no read failed it has ended
@@ -28,5 +28,5 @@ WholeRead (stopped bad ended same wrote only) left = ⊤
 -- a step of the program, which took from the input the pieces that it read; where it read on and does not go on, and no read failed, the input has ended
 pub record FedStep (before : Memory) (p : Place) (buffer : List ℕ) (after : Memory) (r : Place) (buffer' : List ℕ) (left left' : Option (List ℕ)) : Type 0 where
   pub stepped : Stepped before p buffer after r buffer'
-  pub taken : Consumes left left' (input_of (piecesRead stepped))
+  pub taken : Consumes left left' (input_of (pieces_read stepped))
   pub ended : r.failed ≡ false → r.goes_on ≡ false → WholeRead stepped left'

@@ -1,8 +1,8 @@
 // The records of `panelrun`, "records of now, length, event", read from as many bytes of the input as are there; and what it writes for one, "answer byte, length, actions".
 ghost use Rattle.std.specs.Prelude.{◌≡◌, ◌≤◌, length, take, drop};
 ghost use Rattle.postcard.specs.Output.{Wrote};
-ghost use Rattle.panel.specs.Records.Reading.{Tells, mayFit, Timed, Lengthed};
-ghost use Rattle.panel.specs.Records.Running.{answerBytes, endBytes, closing};
+ghost use Rattle.panel.specs.Records.Reading.{Tells, may_fit, Timed, Lengthed};
+ghost use Rattle.panel.specs.Records.Running.{answer_bytes, end_bytes, closing};
 
 use postcard::units::Millis;
 use wire::encode::Encode;
@@ -28,7 +28,7 @@ pub enum Record {
 // "an event over 16,384 bytes": may the length whose first bytes stand from `at` to the end, its last one not among them, still be at most that? Of three bytes, 80 80 01 alone is.
 fn may_fit(bytes: &[u8], at: usize) -> bool
     requires { at ≤ length bytes.now }
-    ensures { result ≡ mayFit (drop at bytes.now) }
+    ensures { result ≡ may_fit (drop at bytes.now) }
 {
     let n = bytes.len() - at;
     if n < 2 {
@@ -107,9 +107,9 @@ pub struct Answer<'a> {
 }
 
 impl<'a> Encode for Answer<'a> {
-    ghost bytes = { λ a. answerBytes a.number a.actions.now };
+    ghost bytes = { λ a. answer_bytes a.number a.actions.now };
 
-    #[tactic(auto, unfolding(crate::specs::Records::Running::answerBytes, postcard::specs::Message::contentBytes), using(crate::proofs::EncodeLaws::HeldLaws::after_append, crate::proofs::EncodeLaws::HeldLaws::room_after, crate::proofs::EncodeLaws::HeldLaws::length_both))]
+    #[tactic(auto, unfolding(crate::specs::Records::Running::answer_bytes, postcard::specs::Message::content_bytes), using(crate::proofs::EncodeLaws::HeldLaws::after_append, crate::proofs::EncodeLaws::HeldLaws::room_after, crate::proofs::EncodeLaws::HeldLaws::length_both))]
     fn encode<S: Sink>(&self, out: &mut S) {
         out.byte(self.number);
         self.actions.encode(out);
@@ -119,7 +119,7 @@ impl<'a> Encode for Answer<'a> {
 // Writes an answer, whose actions are the first `n` bytes of the output.
 pub fn put_answer(reply: &mut [u8; 40971], number: u8, out: &[u8], n: usize) -> usize
     requires { (n ≤ length out.now) × (n ≤ 40960) }
-    ensures { Wrote (answerBytes number (take n out.now)) reply.old 0 reply.new result }
+    ensures { Wrote (answer_bytes number (take n out.now)) reply.old 0 reply.new result }
 {
     let answer = Answer {
         number,
@@ -129,9 +129,9 @@ pub fn put_answer(reply: &mut [u8; 40971], number: u8, out: &[u8], n: usize) -> 
 }
 
 // Writes the end: "07 00".
-#[tactic(auto, unfolding(crate::specs::Records::Running::endBytes, crate::specs::Records::Running::answerBytes))]
+#[tactic(auto, unfolding(crate::specs::Records::Running::end_bytes, crate::specs::Records::Running::answer_bytes))]
 pub fn put_end(reply: &mut [u8; 40971]) -> usize
-    ensures { Wrote endBytes reply.old 0 reply.new result }
+    ensures { Wrote end_bytes reply.old 0 reply.new result }
 {
     let end = Answer {
         number: 7,

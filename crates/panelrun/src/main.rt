@@ -1,4 +1,4 @@
-// The program `panelrun` of document 01, run on the document's own example.
+// The program `panelrun` of the specification, run on the document's own example.
 #![tactic(auto)]
 
 fn main(rt: HostRuntime) {

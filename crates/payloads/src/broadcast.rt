@@ -1,13 +1,13 @@
-// A broadcast that is sent: document 01, "Broadcast".
+// A broadcast that is sent: the specification, "Broadcast".
 ghost use Rattle.std.specs.Prelude.{◌^◌, ◌≤◌, ◌<◌};
 ghost use Rattle.storage.specs.Rows.Ident.{id_of};
-ghost use Rattle.postcard.specs.Message.{toSwarm, toNeighbors};
-ghost use Rattle.postcard.specs.Values.{scopeValue};
+ghost use Rattle.postcard.specs.Message.{to_swarm, to_neighbors};
+ghost use Rattle.postcard.specs.Values.{scope_value};
 ghost use Rattle.wire.specs.Output.Written.{Tellable, Written};
 ghost use Rattle.block.specs.View.{state_of};
 ghost use Rattle.block.specs.Goes.{Goes};
 ghost use Rattle.steps.specs.Stands.{Stands, Step};
-ghost use Rattle.payloads.specs.Broadcast.Broadcasts.{broadcastIn, broadcastBytes, BroadcastIs};
+ghost use Rattle.payloads.specs.Broadcast.Broadcasts.{broadcast_in, broadcast_bytes, BroadcastIs};
 
 use crate::eager::target::Push;
 use crate::eager::{back, sends};
@@ -29,8 +29,8 @@ pub fn broadcast(
     id: Id,
     content: &[u8],
 ) -> Head
-    requires { Step (broadcastIn instant.0 rooms.now (id_of id) content.now) h block.old × (instant.0 ≤ 2 ^ 62) }
-    ensures { Goes (broadcastIn instant.0 rooms.now (id_of id) content.now) h block.old result block.new }
+    requires { Step (broadcast_in instant.0 rooms.now (id_of id) content.now) h block.old × (instant.0 ≤ 2 ^ 62) }
+    ensures { Goes (broadcast_in instant.0 rooms.now (id_of id) content.now) h block.old result block.new }
 {
     let me = h.settings.me;
     let a = taking::take_in(h, block, instant, id, content, Round(0));
@@ -54,8 +54,8 @@ fn swarm_actions(
     content: &[u8],
 ) -> usize
     requires stands { Stands h block.now }
-    requires tellable { Tellable (broadcastBytes instant.0 rooms.now (id_of id) content.now toSwarm (state_of h block.now)) at }
-    ensures { Written (broadcastBytes instant.0 rooms.now (id_of id) content.now toSwarm (state_of h block.now)) out.old at out.new result }
+    requires tellable { Tellable (broadcast_bytes instant.0 rooms.now (id_of id) content.now to_swarm (state_of h block.now)) at }
+    ensures { Written (broadcast_bytes instant.0 rooms.now (id_of id) content.now to_swarm (state_of h block.now)) out.old at out.new result }
 {
     let me = h.settings.me;
     let to = ticks::schedule_dispatch(h, block, out, at);
@@ -78,8 +78,8 @@ fn neighbors_actions(
     content: &[u8],
 ) -> usize
     requires stands { Stands h block.now }
-    requires tellable { Tellable (broadcastBytes instant.0 rooms.now (id_of id) content.now toNeighbors (state_of h block.now)) at }
-    ensures { Written (broadcastBytes instant.0 rooms.now (id_of id) content.now toNeighbors (state_of h block.now)) out.old at out.new result }
+    requires tellable { Tellable (broadcast_bytes instant.0 rooms.now (id_of id) content.now to_neighbors (state_of h block.now)) at }
+    ensures { Written (broadcast_bytes instant.0 rooms.now (id_of id) content.now to_neighbors (state_of h block.now)) out.old at out.new result }
 {
     let me = h.settings.me;
     let push = Push {
@@ -113,8 +113,8 @@ pub fn broadcast_actions(
     scope: Scope,
 ) -> usize
     requires stands { Stands h block.now }
-    requires tellable { Tellable (broadcastBytes instant.0 rooms.now (id_of id) content.now (scopeValue scope) (state_of h block.now)) at }
-    ensures { Written (broadcastBytes instant.0 rooms.now (id_of id) content.now (scopeValue scope) (state_of h block.now)) out.old at out.new result }
+    requires tellable { Tellable (broadcast_bytes instant.0 rooms.now (id_of id) content.now (scope_value scope) (state_of h block.now)) at }
+    ensures { Written (broadcast_bytes instant.0 rooms.now (id_of id) content.now (scope_value scope) (state_of h block.now)) out.old at out.new result }
 {
     match scope {
         Scope::Swarm => swarm_actions(h, block, instant, rooms, out, at, id, content),

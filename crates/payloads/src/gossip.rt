@@ -1,14 +1,14 @@
-// What a new Swarm message sends: document 01, "Gossip".
+// What a new Swarm message sends: the specification, "Gossip".
 ghost use Rattle.std.specs.Prelude.{◌<◌};
-ghost use Rattle.storage.specs.Lists.Base.{concatMap};
+ghost use Rattle.storage.specs.Lists.Base.{concat_map};
 ghost use Rattle.storage.specs.Rows.Ident.{id_of};
-ghost use Rattle.postcard.specs.Message.{actionBytes};
+ghost use Rattle.postcard.specs.Message.{action_bytes};
 ghost use Rattle.decide.specs.Settled.{settled};
-ghost use Rattle.decide.specs.ActionsAfter.{newActions};
+ghost use Rattle.decide.specs.ActionsAfter.{new_actions};
 ghost use Rattle.wire.specs.Output.Written.{Tellable, Written};
 ghost use Rattle.block.specs.View.{state_of};
 ghost use Rattle.steps.specs.Stands.{Stands};
-ghost use Rattle.steps.specs.Rooms.{roomsIn};
+ghost use Rattle.steps.specs.Rooms.{rooms_in};
 
 use crate::eager::sends;
 use crate::eager::target::Push;
@@ -35,8 +35,8 @@ pub fn new_actions(
     round: Round,
 ) -> usize
     requires stands { Stands h block.now × (round.0 < 65535) }
-    requires tellable { Tellable (concatMap actionBytes (newActions (roomsIn (state_of h block.now) rooms.now) sender (id_of id) content.now round.0 (settled instant.0 (state_of h block.now)))) at }
-    ensures { Written (concatMap actionBytes (newActions (roomsIn (state_of h block.now) rooms.now) sender (id_of id) content.now round.0 (settled instant.0 (state_of h block.now)))) out.old at out.new result }
+    requires tellable { Tellable (concat_map action_bytes (new_actions (rooms_in (state_of h block.now) rooms.now) sender (id_of id) content.now round.0 (settled instant.0 (state_of h block.now)))) at }
+    ensures { Written (concat_map action_bytes (new_actions (rooms_in (state_of h block.now) rooms.now) sender (id_of id) content.now round.0 (settled instant.0 (state_of h block.now)))) out.old at out.new result }
 {
     let next = round.0 + 1;
     let skip = settled::grafted_then(h, block, instant, id);

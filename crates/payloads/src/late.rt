@@ -1,21 +1,21 @@
-// A copy of a message received before: document 01, "Received before: late Graft reply (`on_late_graft_reply`), else a neighbour sender goes lazy, and Prune".
+// A copy of a message received before: the specification, "Received before: late Graft reply (`on_late_graft_reply`), else a neighbour sender goes lazy, and Prune".
 ghost use Rattle.std.specs.Prelude.{◌≡◌, true, ◌<◌, get_or};
-ghost use Rattle.storage.specs.Lists.Base.{concatMap};
+ghost use Rattle.storage.specs.Lists.Base.{concat_map};
 ghost use Rattle.storage.specs.Rows.Ident.{id_of};
-ghost use Rattle.postcard.specs.Message.{actionBytes};
-ghost use Rattle.postcard.specs.Values.{deliveryValue};
-ghost use Rattle.protocol.specs.Gossips.{noMoreHops, lateFrom};
+ghost use Rattle.postcard.specs.Message.{action_bytes};
+ghost use Rattle.postcard.specs.Values.{delivery_value};
+ghost use Rattle.protocol.specs.Gossips.{no_more_hops, late_from};
 ghost use Rattle.decide.specs.Settled.{settled};
-ghost use Rattle.decide.specs.Rooms.{kthTaken};
-ghost use Rattle.decide.specs.ActionsAfter.{lateActions};
+ghost use Rattle.decide.specs.Rooms.{kth_taken};
+ghost use Rattle.decide.specs.ActionsAfter.{late_actions};
 ghost use Rattle.wire.specs.Output.Written.{Tellable, Written};
 ghost use Rattle.block.specs.View.{state_of};
 ghost use Rattle.block.specs.Goes.{Goes};
-ghost use Rattle.block.specs.LinkSteps.{peerAt};
-ghost use Rattle.block.specs.Caches.GraftSteps.{graftsAt};
+ghost use Rattle.block.specs.LinkSteps.{peer_at};
+ghost use Rattle.block.specs.Caches.GraftSteps.{grafts_at};
 ghost use Rattle.steps.specs.Stands.{Stands};
-ghost use Rattle.steps.specs.Rooms.{roomsIn};
-ghost use Rattle.payloads.specs.Late.Kinds.{LateIs, lateAs, firstKind, replyKind, keptState, lateAfter};
+ghost use Rattle.steps.specs.Rooms.{rooms_in};
+ghost use Rattle.payloads.specs.Late.Kinds.{LateIs, late_as, first_kind, reply_kind, kept_state, late_after};
 
 use block::caches::grafted;
 use block::head::Head;
@@ -39,7 +39,7 @@ pub enum Late {
 
 // `no_more_hops`.
 fn no_more_hops(delivery: Delivery, first: Round) -> bool
-    ensures { result ≡ noMoreHops (deliveryValue delivery) first.0 }
+    ensures { result ≡ no_more_hops (delivery_value delivery) first.0 }
 {
     match delivery {
         Delivery::Swarm(round) => round.0 <= first.0,
@@ -50,7 +50,7 @@ fn no_more_hops(delivery: Delivery, first: Round) -> bool
 // Whether the first sender goes lazy: it is eager, and not among the peers of the grafted message g.
 fn from_first(h: Head, block: &[u8], g: usize, peer: u64) -> Late
     requires { Stands h block.now × (g < h.live.grafted) }
-    ensures { LateIs h block.now (firstKind (state_of h block.now).links (graftsAt (state_of h block.now) g) peer) result }
+    ensures { LateIs h block.now (first_kind (state_of h block.now).links (grafts_at (state_of h block.now) g) peer) result }
 {
     let f = links::find_link(h, block, peer);
     match f {
@@ -81,7 +81,7 @@ fn late_reply(
     delivery: Delivery,
 ) -> Late
     requires { Stands h block.now × (g < h.live.grafted) × (link < h.live.links) }
-    ensures { LateIs h block.now (replyKind (peerAt (state_of h block.now) link) (deliveryValue delivery) (state_of h block.now).links (graftsAt (state_of h block.now) g) peer round.0) result }
+    ensures { LateIs h block.now (reply_kind (peer_at (state_of h block.now) link) (delivery_value delivery) (state_of h block.now).links (grafts_at (state_of h block.now) g) peer round.0) result }
 {
     let sender = links::peer_at(h, block, link);
     if peer == sender {
@@ -105,7 +105,7 @@ fn late_reply(
 // `on_late_graft_reply`, once the grafted message g and the link of the sender are found.
 fn late_from(h: Head, block: &[u8], g: usize, link: usize, delivery: Delivery) -> Late
     requires { Stands h block.now × (g < h.live.grafted) × (link < h.live.links) }
-    ensures { LateIs h block.now (lateFrom (peerAt (state_of h block.now) link) (deliveryValue delivery) (state_of h block.now).links (graftsAt (state_of h block.now) g) (graftsAt (state_of h block.now) g).first) result }
+    ensures { LateIs h block.now (late_from (peer_at (state_of h block.now) link) (delivery_value delivery) (state_of h block.now).links (grafts_at (state_of h block.now) g) (grafts_at (state_of h block.now) g).first) result }
 {
     let first = reads::graft_first(h, block, g);
     match first {
@@ -131,7 +131,7 @@ pub fn late_kind(
     delivery: Delivery,
 ) -> Late
     requires { Stands h block.now }
-    ensures { LateIs h block.now (lateAs sender (deliveryValue delivery) (id_of id) (settled instant.0 (state_of h block.now))) result }
+    ensures { LateIs h block.now (late_as sender (delivery_value delivery) (id_of id) (settled instant.0 (state_of h block.now))) result }
 {
     let held = settled::grafted_then(h, block, instant, id);
     match held {
@@ -149,7 +149,7 @@ pub fn late_kind(
 // Whether the first send to the event's peer is taken: by the room of its link, or that of a stranger.
 fn first_taken(h: Head, block: &[u8], rooms: &[u64; 34], peer: u64) -> bool
     requires { Stands h block.now × (peer ≡ get_or rooms.now 33 0) }
-    ensures { result ≡ kthTaken 1 peer (roomsIn (state_of h block.now) rooms.now) }
+    ensures { result ≡ kth_taken 1 peer (rooms_in (state_of h block.now) rooms.now) }
 {
     let f = links::find_link(h, block, peer);
     match f {
@@ -172,8 +172,8 @@ pub fn late_actions(
     delivery: Delivery,
 ) -> usize
     requires stands { Stands h block.now × (sender ≡ get_or rooms.now 33 0) }
-    requires tellable { Tellable (concatMap actionBytes (lateActions (roomsIn (state_of h block.now) rooms.now) sender (lateAs sender (deliveryValue delivery) (id_of id) (settled instant.0 (state_of h block.now))))) at }
-    ensures { Written (concatMap actionBytes (lateActions (roomsIn (state_of h block.now) rooms.now) sender (lateAs sender (deliveryValue delivery) (id_of id) (settled instant.0 (state_of h block.now))))) out.old at out.new result }
+    requires tellable { Tellable (concat_map action_bytes (late_actions (rooms_in (state_of h block.now) rooms.now) sender (late_as sender (delivery_value delivery) (id_of id) (settled instant.0 (state_of h block.now))))) at }
+    ensures { Written (concat_map action_bytes (late_actions (rooms_in (state_of h block.now) rooms.now) sender (late_as sender (delivery_value delivery) (id_of id) (settled instant.0 (state_of h block.now))))) out.old at out.new result }
 {
     let k = late_kind(h, block, instant, sender, id, delivery);
     match k {
@@ -193,7 +193,7 @@ pub fn late_actions(
 // A faster reply: the sender is kept, and the first sender goes lazy.
 fn keep(h: Head, block: &mut [u8], instant: Millis, sender: u64, id: Id, link: usize)
     requires { Stands h block.old × (h.live.init ≡ true) × (link < h.live.links) }
-    ensures { Goes (keptState sender (id_of id) link) h block.old h block.new }
+    ensures { Goes (kept_state sender (id_of id) link) h block.old h block.new }
 {
     let held = settled::grafted_then(h, block, instant, id);
     match held {
@@ -218,7 +218,7 @@ pub fn on_late_graft_reply(
     delivery: Delivery,
 )
     requires { Stands h block.old × (h.live.init ≡ true) }
-    ensures { Goes (lateAfter sender (deliveryValue delivery) (id_of id)) h block.old h block.new }
+    ensures { Goes (late_after sender (delivery_value delivery) (id_of id)) h block.old h block.new }
 {
     let k = late_kind(h, block, instant, sender, id, delivery);
     match k {

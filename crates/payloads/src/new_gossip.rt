@@ -1,10 +1,10 @@
-// A new Swarm message: document 01, "Gossip".
+// A new Swarm message: the specification, "Gossip".
 ghost use Rattle.std.specs.Prelude.{◌≡◌, true, ◌^◌, ◌≤◌, ◌<◌};
 ghost use Rattle.storage.specs.Rows.Ident.{id_of};
-ghost use Rattle.decide.specs.StateAfter.{firstSetState};
+ghost use Rattle.decide.specs.StateAfter.{first_set_state};
 ghost use Rattle.block.specs.Goes.{Goes};
 ghost use Rattle.steps.specs.Stands.{Stands, Step};
-ghost use Rattle.payloads.specs.NewGossip.News.{pushedOnIn, newIn, PushesOn};
+ghost use Rattle.payloads.specs.NewGossip.News.{pushed_on_in, new_in, PushesOn};
 
 use crate::eager::back;
 use crate::eager::target::Push;
@@ -19,7 +19,7 @@ use storage::rows::id::Id;
 // "set a grafted entry's `first` to sender and r", where a first event's work is done. Its time is that of a look-up by halving.
 fn set_first_of(h: Head, block: &mut [u8], instant: Millis, sender: u64, id: Id, round: Round)
     requires { Stands h block.old × (h.live.init ≡ true) }
-    ensures { Goes (firstSetState (id_of id) sender round.0) h block.old h block.new }
+    ensures { Goes (first_set_state (id_of id) sender round.0) h block.old h block.new }
 {
     let held = settled::grafted_then(h, block, instant, id);
     match held {
@@ -42,7 +42,7 @@ fn push_on(
     round: Round,
 ) -> Head
     requires { PushesOn h block.old rooms.now sender (id_of id) round.0 }
-    ensures { Goes (pushedOnIn rooms.now sender (id_of id) round.0) h block.old result block.new }
+    ensures { Goes (pushed_on_in rooms.now sender (id_of id) round.0) h block.old result block.new }
 {
     let skip = settled::grafted_then(h, block, instant, id);
     let push = Push { sender, skip };
@@ -62,8 +62,8 @@ pub fn on_gossip(
     content: &[u8],
     round: Round,
 ) -> Head
-    requires { Step (newIn instant.0 rooms.now sender (id_of id) content.now round.0) h block.old × (h.live.init ≡ true) × (round.0 < 65535) × (instant.0 ≤ 2 ^ 62) }
-    ensures { Goes (newIn instant.0 rooms.now sender (id_of id) content.now round.0) h block.old result block.new }
+    requires { Step (new_in instant.0 rooms.now sender (id_of id) content.now round.0) h block.old × (h.live.init ≡ true) × (round.0 < 65535) × (instant.0 ≤ 2 ^ 62) }
+    ensures { Goes (new_in instant.0 rooms.now sender (id_of id) content.now round.0) h block.old result block.new }
 {
     let next = round.0 + 1;
     let a = taking::take_in(h, block, instant, id, content, Round(next));

@@ -1,21 +1,21 @@
-// What ends a new Swarm message: document 01, "drop graft-timer mark and announcers; optimise as `on_gossip` says".
+// What ends a new Swarm message: the specification, "drop graft-timer mark and announcers; optimise as `on_gossip` says".
 ghost use Rattle.std.specs.Prelude.{◌≡◌, true, ◌<◌, length};
-ghost use Rattle.storage.specs.Lists.Base.{concatMap};
+ghost use Rattle.storage.specs.Lists.Base.{concat_map};
 ghost use Rattle.storage.specs.Lists.Map.{keys};
 ghost use Rattle.storage.specs.Rows.Ident.{id_of};
-ghost use Rattle.postcard.specs.Message.{actionBytes};
+ghost use Rattle.postcard.specs.Message.{action_bytes};
 ghost use Rattle.protocol.specs.Gossips.{announcers};
 ghost use Rattle.decide.specs.Settled.{settled};
-ghost use Rattle.decide.specs.StateAfter.{optimisedLinks, closedState};
+ghost use Rattle.decide.specs.StateAfter.{optimised_links, closed_state};
 ghost use Rattle.wire.specs.Output.Written.{Tellable, Written};
 ghost use Rattle.block.specs.View.{state_of};
 ghost use Rattle.block.specs.Sound.{Sound};
 ghost use Rattle.block.specs.Goes.{Goes};
-ghost use Rattle.block.specs.LinkSteps.{LinksAscend, peerAt, linked};
-ghost use Rattle.block.specs.MissingSteps.{hop, hopsAt};
+ghost use Rattle.block.specs.LinkSteps.{LinksAscend, peer_at, linked};
+ghost use Rattle.block.specs.MissingSteps.{hop, hops_at};
 ghost use Rattle.steps.specs.Stands.{Stands};
-ghost use Rattle.steps.specs.Rooms.{roomsIn};
-ghost use Rattle.payloads.specs.Optimise.Best.{LeastIs, nearest, BestIs, wanted, WantedIs, unlessEager, optimisedOn, bestActions, optimiseOn};
+ghost use Rattle.steps.specs.Rooms.{rooms_in};
+ghost use Rattle.payloads.specs.Optimise.Best.{LeastIs, nearest, BestIs, wanted, WantedIs, unless_eager, optimised_on, best_actions, optimise_on};
 
 use block::head::Head;
 use block::hops::Hop;
@@ -37,8 +37,8 @@ pub enum Best {
 
 // "First announcer of least round": one pass over the announcers of the missing message i, at most 32.
 fn least_announcer(h: Head, block: &[u8], i: usize) -> Hop
-    requires { Sound h block.now × (i < h.live.missing) × (0 < length (hopsAt (state_of h block.now) i)) }
-    ensures { LeastIs h block.now (hopsAt (state_of h block.now) i) result }
+    requires { Sound h block.now × (i < h.live.missing) × (0 < length (hops_at (state_of h block.now) i)) }
+    ensures { LeastIs h block.now (hops_at (state_of h block.now) i) result }
 {
     let n = missing::announcers_of(h, block, i);
     let mut best = missing::announcer_at(h, block, i, 0);
@@ -57,7 +57,7 @@ fn least_announcer(h: Head, block: &[u8], i: usize) -> Hop
 // announcers of a message.
 fn closer(h: Head, block: &[u8], id: Id, round: Round) -> Best
     requires { Stands h block.now }
-    ensures { BestIs h block.now (nearest (state_of h block.now).settings.optimizationThreshold round.0 (announcers (id_of id) (state_of h block.now))) result }
+    ensures { BestIs h block.now (nearest (state_of h block.now).settings.optimization_threshold round.0 (announcers (id_of id) (state_of h block.now))) result }
 {
     let f = missing::find_missing(h, block, id);
     match f {
@@ -98,7 +98,7 @@ fn wants_optimise(h: Head, block: &[u8], instant: Millis, sender: u64, id: Id, r
 // "Graft .. unless eager": the peer of a link is eager.
 fn make_eager(h: Head, block: &mut [u8], link: usize)
     requires { Sound h block.old × LinksAscend h block.old × (link < h.live.links) }
-    ensures { Goes (λ s. linked (unlessEager (peerAt s link)) s) h block.old h block.new }
+    ensures { Goes (λ s. linked (unless_eager (peer_at s link)) s) h block.old h block.new }
 {
     let eager = links::eager_at(h, block, link);
     if eager {
@@ -110,7 +110,7 @@ fn make_eager(h: Head, block: &mut [u8], link: usize)
 // `optimize_tree`, the state half: the announcer goes eager "unless eager", "then sender lazy".
 fn optimize_tree(h: Head, block: &mut [u8], sender: u64, best: Hop)
     requires { Sound h block.old × LinksAscend h block.old × (best.link < h.live.links) }
-    ensures { Goes (λ s. linked (optimisedLinks sender (hop (peerAt s best.link) best.round.0)) s) h block.old h block.new }
+    ensures { Goes (λ s. linked (optimised_links sender (hop (peer_at s best.link) best.round.0)) s) h block.old h block.new }
 {
     let link = best.link;
     make_eager(h, block, link);
@@ -120,7 +120,7 @@ fn optimize_tree(h: Head, block: &mut [u8], sender: u64, best: Hop)
 // The links after a new Swarm message of a round, where a first event's work is done.
 fn maybe_optimize(h: Head, block: &mut [u8], instant: Millis, sender: u64, id: Id, round: Round)
     requires { Stands h block.old × (h.live.init ≡ true) × (round.0 < 65535) }
-    ensures { Goes (optimisedOn (id_of id) sender round.0) h block.old h block.new }
+    ensures { Goes (optimised_on (id_of id) sender round.0) h block.old h block.new }
 {
     let w = wants_optimise(h, block, instant, sender, id, round);
     match w {
@@ -142,7 +142,7 @@ fn maybe_optimize(h: Head, block: &mut [u8], instant: Millis, sender: u64, id: I
 // moving the rows behind those that go.
 pub fn close(h: Head, block: &mut [u8], instant: Millis, sender: u64, id: Id, round: Round) -> Head
     requires { Stands h block.old × (h.live.init ≡ true) × (round.0 < 65535) }
-    ensures { Goes (closedState (id_of id) sender round.0) h block.old result block.new }
+    ensures { Goes (closed_state (id_of id) sender round.0) h block.old result block.new }
 {
     maybe_optimize(h, block, instant, sender, id, round);
     let g = timers::forget_timer(h, block, id);
@@ -160,8 +160,8 @@ fn send_optimise(
     best: Hop,
 ) -> usize
     requires stands { Stands h block.now × (link < h.live.links) × (best.link < h.live.links) }
-    requires tellable { Tellable (concatMap actionBytes (bestActions (roomsIn (state_of h block.now) rooms.now) (peerAt (state_of h block.now) link) (hop (peerAt (state_of h block.now) best.link) best.round.0) (state_of h block.now))) at }
-    ensures { Written (concatMap actionBytes (bestActions (roomsIn (state_of h block.now) rooms.now) (peerAt (state_of h block.now) link) (hop (peerAt (state_of h block.now) best.link) best.round.0) (state_of h block.now))) out.old at out.new result }
+    requires tellable { Tellable (concat_map action_bytes (best_actions (rooms_in (state_of h block.now) rooms.now) (peer_at (state_of h block.now) link) (hop (peer_at (state_of h block.now) best.link) best.round.0) (state_of h block.now))) at }
+    ensures { Written (concat_map action_bytes (best_actions (rooms_in (state_of h block.now) rooms.now) (peer_at (state_of h block.now) link) (hop (peer_at (state_of h block.now) best.link) best.round.0) (state_of h block.now))) out.old at out.new result }
 {
     let near = best.link;
     let sender = links::peer_at(h, block, link);
@@ -195,8 +195,8 @@ pub fn optimise_actions(
     round: Round,
 ) -> usize
     requires stands { Stands h block.now × (round.0 < 65535) }
-    requires tellable { Tellable (concatMap actionBytes (optimiseOn (roomsIn (state_of h block.now) rooms.now) (id_of id) sender round.0 (settled instant.0 (state_of h block.now)))) at }
-    ensures { Written (concatMap actionBytes (optimiseOn (roomsIn (state_of h block.now) rooms.now) (id_of id) sender round.0 (settled instant.0 (state_of h block.now)))) out.old at out.new result }
+    requires tellable { Tellable (concat_map action_bytes (optimise_on (rooms_in (state_of h block.now) rooms.now) (id_of id) sender round.0 (settled instant.0 (state_of h block.now)))) at }
+    ensures { Written (concat_map action_bytes (optimise_on (rooms_in (state_of h block.now) rooms.now) (id_of id) sender round.0 (settled instant.0 (state_of h block.now)))) out.old at out.new result }
 {
     let w = wants_optimise(h, block, instant, sender, id, round);
     match w {

@@ -6,7 +6,7 @@ use mathlib.Core.Option.{some}
 use lib.ListN.{length, take}
 use Rattle.storage.specs.Lists.Map.{lookup}
 use Rattle.whole.specs.States.Kept.{Kept}
-use Rattle.whole.specs.States.Area.{keptIn}
+use Rattle.whole.specs.States.Area.{kept_in}
 use Rattle.whole.specs.States.Calls.{Returns}
 use Rattle.whole.proofs.StatesLaws.Accepted.{brought}
 use Rattle.protocol.specs.State.{Counts}
@@ -62,7 +62,7 @@ same-leads {h} {h'} {block} {block'} {counts} e b g = subst (λ (x : CallList). 
 
 -- an accepted return brings back what was saved under the name, and so the list up to the saving
 pub returned-leads : (block : List ℕ) (counts : Counts) (area : List ℕ) (name : ℕ) (block' : List ℕ) (counts' : Counts) (number long : ℕ) → Returns block counts area name block' counts' number long → number ≡ 0
-    → (h : CallList) → ((k : Kept) → lookup name (keptIn (length block) area) ≡ some k → LeadsTo h k.block k.counts) → LeadsTo h block' counts'
+    → (h : CallList) → ((k : Kept) → lookup name (kept_in (length block) area) ≡ some k → LeadsTo h k.block k.counts) → LeadsTo h block' counts'
 returned-leads block counts area name block' counts' number long r e h f =
     let b = brought block counts area name block' counts' long (subst (λ (n : ℕ). Returns block counts area name block' counts' n long) e r) in
     subst (λ (x : Counts). LeadsTo h block' x) (sym b.counts-is) (subst (λ (x : List ℕ). LeadsTo h x b.it.counts) (sym b.block-is) (f b.it b.there))

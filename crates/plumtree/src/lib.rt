@@ -1,4 +1,4 @@
-// Document 01's calls upon a lent block, as C and Rust link them.
+// The specification's calls upon a lent block, as C and Rust link them.
 #![tactic(auto)]
 
 pub mod laws;
@@ -7,18 +7,18 @@ mod rooms;
 
 ghost use Rattle.std.specs.Prelude.{◌≡◌, [], length, take};
 ghost use Rattle.wire.specs.Rewrite.RewriteCalls.{Rewrites};
-ghost use Rattle.protocol.specs.Alike.{alikeBlocks};
-ghost use Rattle.block.specs.View.{limitsOf};
+ghost use Rattle.protocol.specs.Alike.{alike_blocks};
+ghost use Rattle.block.specs.View.{limits_of};
 ghost use Rattle.blake3.specs.Blake3.{identifier};
 ghost use Rattle.whole.specs.Held.{held};
-ghost use Rattle.machine.specs.Called.{countsOf, lent, call_of, Called};
+ghost use Rattle.machine.specs.Called.{counts_of, lent, call_of, Called};
 ghost use Rattle.std.proofs.Math.Option.{some};
 ghost use Rattle.storage.specs.Lists.Map.{lookup};
 ghost use Rattle.whole.specs.States.Kept.{Kept};
-ghost use Rattle.whole.specs.States.Area.{keptIn};
+ghost use Rattle.whole.specs.States.Area.{kept_in};
 ghost use Rattle.whole.specs.States.Calls.{Saves, Returns};
-ghost use Rattle.machine.specs.LimitMet.LimitMet.{asking, limitMet};
-ghost use Rattle.plumtree.specs.Calls.{blockSize, Made, entries, toldOf};
+ghost use Rattle.machine.specs.LimitMet.LimitMet.{asking, limit_met};
+ghost use Rattle.plumtree.specs.Calls.{block_size, Made, entries, told_of};
 ghost use Rattle.plumtree.specs.CallList.{CallList, fresh_list, with_call, LeadsTo};
 
 use block::head::{Limits, Settings};
@@ -57,7 +57,7 @@ pub struct Likeness {
 // The bytes that a block with these limits must have, question 4; 0 where question 3, "Is each limit from 1 to its ceiling?", is answered no.
 #[unsafe(no_mangle)]
 pub extern "C" fn plumtree_block_size(limits: Limits) -> usize
-    ensures { result ≡ blockSize (limitsOf limits) }
+    ensures { result ≡ block_size (limits_of limits) }
 {
     let range = create::limits_in_range(limits);
     if !range {
@@ -68,7 +68,7 @@ pub extern "C" fn plumtree_block_size(limits: Limits) -> usize
 
 // A creation, with the counts by value: zero once it is accepted.
 pub fn create_core(block: &mut [u8], c: Stats, settings: Settings, limits: Limits) -> Outcome
-    ensures { Made settings limits block.old (countsOf c) block.new (countsOf result.stats) result.number result.length }
+    ensures { Made settings limits block.old (counts_of c) block.new (counts_of result.stats) result.number result.length }
 {
     let number = create::create(block, settings, limits);
     if number == 0 {
@@ -98,8 +98,8 @@ pub extern "C" fn plumtree_create(
     settings: Settings,
     limits: Limits,
 ) -> Answer
-    ensures made { Made settings limits block.old (countsOf counts.old) block.new (countsOf counts.new) result.number result.length }
-    ensures begins { result.number ≡ 0 → LeadsTo (fresh_list settings limits) block.new (countsOf counts.new) }
+    ensures made { Made settings limits block.old (counts_of counts.old) block.new (counts_of counts.new) result.number result.length }
+    ensures begins { result.number ≡ 0 → LeadsTo (fresh_list settings limits) block.new (counts_of counts.new) }
 {
     let c = *counts;
     let made = create_core(block, c, settings, limits);
@@ -138,8 +138,8 @@ pub extern "C" fn plumtree_event(
     output: &mut [u8],
 ) -> Answer
     ensures called { Called (call_of at.0 event.now (entries rooms.now) output.old) (lent block.old counts.old output.old) (lent block.new counts.new output.new) result.number result.length }
-    ensures continues { (h : CallList) → LeadsTo h block.old (countsOf counts.old) →
-        LeadsTo (with_call (call_of at.0 event.now (entries rooms.now) output.old) (record { number = result.number; bytes = take result.length output.new }) h) block.new (countsOf counts.new) }
+    ensures continues { (h : CallList) → LeadsTo h block.old (counts_of counts.old) →
+        LeadsTo (with_call (call_of at.0 event.now (entries rooms.now) output.old) (record { number = result.number; bytes = take result.length output.new }) h) block.new (counts_of counts.new) }
 {
     let found = rooms::rooms_of(block, event, rooms);
     let c = *counts;
@@ -156,7 +156,7 @@ pub extern "C" fn plumtree_event(
 // *Alike*, "of two blocks (5 for either)".
 #[unsafe(no_mangle)]
 pub extern "C" fn plumtree_alike(a: &[u8], b: &[u8]) -> Likeness
-    ensures { result ≡ toldOf (alikeBlocks (length a.now) (held a.now) (length b.now) (held b.now)) }
+    ensures { result ≡ told_of (alike_blocks (length a.now) (held a.now) (length b.now) (held b.now)) }
 {
     let answer = alike::alike(a, b);
     match answer {
@@ -184,13 +184,13 @@ pub extern "C" fn plumtree_limit_met(
     event: &[u8],
     rooms: &[LinkRoom],
 ) -> u8
-    ensures { result ≡ limitMet identifier (length block.now) (held block.now) (asking at.0 event.now (entries rooms.now)) }
+    ensures { result ≡ limit_met identifier (length block.now) (held block.now) (asking at.0 event.now (entries rooms.now)) }
 {
     let found = rooms::rooms_of(block, event, rooms);
     limit_met::limit_met(block, at, event, found)
 }
 
-// Request b, "a writer that reads any message the reader takes and writes its shortest form into a lent buffer": questions 7, 8, 9 and 14. The message is lent alone, without an event's kind and peer.
+// "The shortest form", "a writer that reads any message the reader takes and writes its shortest form into a lent buffer": questions 7, 8, 9 and 14. The message is lent alone, without an event's kind and peer.
 #[unsafe(no_mangle)]
 pub extern "C" fn plumtree_rewrite(message: &[u8], output: &mut [u8]) -> Answer
     ensures { Rewrites message.now output.old output.new result.number result.length }
@@ -202,10 +202,10 @@ pub extern "C" fn plumtree_rewrite(message: &[u8], output: &mut [u8]) -> Answer
     }
 }
 
-// Request d, a saving: "Up to four states are kept in a second lent area under eight-byte names." Questions 5, 17 and 16. The name is the number of its eight bytes, the first one lowest.
+// "Named states", a saving: "Up to four states are kept in a second lent area under eight-byte names." Questions 5, 17 and 16. The name is the number of its eight bytes, the first one lowest.
 #[unsafe(no_mangle)]
 pub extern "C" fn plumtree_save(block: &[u8], counts: Stats, area: &mut [u8], name: u64) -> Answer
-    ensures { Saves block.now (countsOf counts) area.old name area.new result.number result.length }
+    ensures { Saves block.now (counts_of counts) area.old name area.new result.number result.length }
 {
     let c = states::Counts {
         payload: counts.payload_messages_received,
@@ -218,7 +218,7 @@ pub extern "C" fn plumtree_save(block: &[u8], counts: Stats, area: &mut [u8], na
 
 // A return with the counts by value.
 pub fn return_core(block: &mut [u8], c: Stats, area: &[u8], name: u64) -> Outcome
-    ensures { Returns block.old (countsOf c) area.now name block.new (countsOf result.stats) result.number result.length }
+    ensures { Returns block.old (counts_of c) area.now name block.new (counts_of result.stats) result.number result.length }
 {
     let back = states::go_back(block, area, name);
     match back {
@@ -242,7 +242,7 @@ pub fn return_core(block: &mut [u8], c: Stats, area: &[u8], name: u64) -> Outcom
     }
 }
 
-// Request d, a return: "Returning brings back block and counts in full." Questions 5, 17 and 15.
+// "Named states", a return: "Returning brings back block and counts in full." Questions 5, 17 and 15.
 #[unsafe(no_mangle)]
 pub extern "C" fn plumtree_return(
     block: &mut [u8],
@@ -250,8 +250,8 @@ pub extern "C" fn plumtree_return(
     area: &[u8],
     name: u64,
 ) -> Answer
-    ensures returns { Returns block.old (countsOf counts.old) area.now name block.new (countsOf counts.new) result.number result.length }
-    ensures since_saved { result.number ≡ 0 → (h : CallList) → ((k : Kept) → lookup name (keptIn (length block.old) area.now) ≡ some k → LeadsTo h k.block k.counts) → LeadsTo h block.new (countsOf counts.new) }
+    ensures returns { Returns block.old (counts_of counts.old) area.now name block.new (counts_of counts.new) result.number result.length }
+    ensures since_saved { result.number ≡ 0 → (h : CallList) → ((k : Kept) → lookup name (kept_in (length block.old) area.now) ≡ some k → LeadsTo h k.block k.counts) → LeadsTo h block.new (counts_of counts.new) }
 {
     let c = *counts;
     let back = return_core(block, c, area, name);

@@ -1,6 +1,6 @@
 // Writes what an event holds, in words; contents and identifiers in hexadecimal.
 ghost use Rattle.std.specs.Prelude.{length};
-ghost use Rattle.postcard.specs.Events.{Listed, MessageHeld, EventHeld, ihavesFrom};
+ghost use Rattle.postcard.specs.Events.{Listed, MessageHeld, EventHeld, ihaves_from};
 
 use postcard::message::{Delivery, Event, Message, Scope, Timer, Wanted};
 use storage::rows::id::Id;
@@ -65,7 +65,7 @@ fn announcement(rt: &impl Print, a: Announced) {
 
 // The announcements, one after the other.
 fn announcements(rt: &impl Print, bytes: &[u8], start: usize, count: usize)
-    requires { Listed bytes.now start count (ihavesFrom bytes.now start count) }
+    requires { Listed bytes.now start count (ihaves_from bytes.now start count) }
 {
     let mut place = start;
     let mut i = 0;

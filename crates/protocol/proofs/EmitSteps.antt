@@ -6,12 +6,12 @@ use mathlib.Core.List.{List, [], ◌∷◌, ◌++◌}
 use Rattle.std.specs.Prelude.{if◌then◌else◌}
 use Rattle.storage.specs.Lists.Base.{any}
 use Rattle.postcard.specs.Message.{Delivery, Emitted}
-use Rattle.protocol.specs.State.{withInit}
-use Rattle.protocol.specs.Run.{Run, withState, act, send}
-use Rattle.protocol.specs.Gossips.{updateLinks, pruneBack, Late, duplicate, repeated, faster, setKept, onDuplicate}
-use Rattle.protocol.specs.Ticks.{onEvictCacheTimer}
-use Rattle.protocol.specs.Handle.{firstEvent}
-use Rattle.protocol.specs.Demand3.{isEmit}
+use Rattle.protocol.specs.State.{with_init}
+use Rattle.protocol.specs.Run.{Run, with_state, act, send}
+use Rattle.protocol.specs.Gossips.{update_links, prune_back, Late, duplicate, repeated, faster, set_kept, on_duplicate}
+use Rattle.protocol.specs.Ticks.{on_evict_cache_timer}
+use Rattle.protocol.specs.Handle.{first_event}
+use Rattle.protocol.specs.NoNeighbourPassedOver.{is_emit}
 use Rattle.storage.proofs.ListsLaws.Lists.{any_append, any-right, any-one}
 
 pub any-skip : {A : Type 0} (f : A → Bool) (xs : List A) (x : A) → f x ≡ false → any f (xs ++ (x ∷ [])) ≡ any f xs
@@ -23,26 +23,26 @@ any-skip f xs x h = any_append f xs (x ∷ []) ∙ rw (any-one f x, h) (or-none 
 
 -- no emit more
 abbrev pub Quiet : Run → Run → Type 0
-Quiet r r' = any isEmit r'.actions ≡ any isEmit r.actions
+Quiet r r' = any is_emit r'.actions ≡ any is_emit r.actions
 
 quiet_if : (r x y : Run) (b : Bool) → Quiet r x → Quiet r y → Quiet r (if b then x else y)
 quiet_if r x y true p q = p
 quiet_if r x y false p q = q
 
-pub quiet-first : (now : ℕ) (r : Run) → Quiet r (firstEvent now r)
-unfolding firstEvent onEvictCacheTimer act isEmit
-quiet-first now r = quiet_if r r (onEvictCacheTimer now (withState (withInit true r.state) r)) r.state.init refl (any-skip isEmit r.actions _ refl)
+pub quiet-first : (now : ℕ) (r : Run) → Quiet r (first_event now r)
+unfolding first_event on_evict_cache_timer act is_emit
+quiet-first now r = quiet_if r r (on_evict_cache_timer now (with_state (with_init true r.state) r)) r.state.init refl (any-skip is_emit r.actions _ refl)
 
-quiet-pruneBack : (p : ℕ) (r : Run) → Quiet r (pruneBack p r)
-unfolding pruneBack updateLinks send isEmit
-quiet-pruneBack p r = any-skip isEmit r.actions _ refl
+quiet-prune_back : (p : ℕ) (r : Run) → Quiet r (prune_back p r)
+unfolding prune_back update_links send is_emit
+quiet-prune_back p r = any-skip is_emit r.actions _ refl
 
-pub quiet-duplicate : (p id : ℕ) (l : Late) (r : Run) → Quiet r (onDuplicate p id l r)
-unfolding onDuplicate setKept
-quiet-duplicate p id duplicate r = quiet-pruneBack p r
+pub quiet-duplicate : (p id : ℕ) (l : Late) (r : Run) → Quiet r (on_duplicate p id l r)
+unfolding on_duplicate set_kept
+quiet-duplicate p id duplicate r = quiet-prune_back p r
 quiet-duplicate p id repeated r = refl
-quiet-duplicate p id (faster first) r = quiet-pruneBack first (setKept id p r)
+quiet-duplicate p id (faster first) r = quiet-prune_back first (set_kept id p r)
 
-pub emits : (p : ℕ) (content : List ℕ) (d : Delivery) (r : Run) → any isEmit (act (Emitted p content d) r).actions ≡ true
-unfolding act isEmit
-emits p content d r = any-right isEmit r.actions _ (any-one isEmit (Emitted p content d))
+pub emits : (p : ℕ) (content : List ℕ) (d : Delivery) (r : Run) → any is_emit (act (Emitted p content d) r).actions ≡ true
+unfolding act is_emit
+emits p content d r = any-right is_emit r.actions _ (any-one is_emit (Emitted p content d))

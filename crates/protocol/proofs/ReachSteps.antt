@@ -1,4 +1,4 @@
--- Demand 3, third sentence, of one event: a step never loses an identifier for a peer. Where it leaves queue or record it goes out, or comes back to a full record.
+-- The guarantee, third sentence, of one event: a step never loses an identifier for a peer. Where it leaves queue or record it goes out, or comes back to a full record.
 use Prim.Native.Nat.{ℕ}
 use mathlib.Core.Path.{◌≡◌, refl}
 use mathlib.Core.Bool.{Bool, true, false, not, ◌&&◌, ◌||◌}
@@ -11,30 +11,30 @@ use lib.ListN.{length, length-append}
 use borrow.Author.Tests.{leb-true, le-leb}
 use Rattle.storage.specs.Lists.Base.{is_empty, any, count, member}
 use Rattle.storage.specs.Lists.Map.{lookup}
-use Rattle.time_cache.specs.TimeCache.{Timed, Cache, holds, popAll, due, expireUntil}
-use Rattle.protocol.specs.Links.{isNeighbour}
+use Rattle.time_cache.specs.TimeCache.{Timed, Cache, holds, pop_all, due, expire_until}
+use Rattle.protocol.specs.Links.{is_neighbour}
 use Rattle.postcard.specs.Message.{Ihave, Message, Action, Sent, Scheduled, Event}
 use Rattle.protocol.specs.State.{Hop, Note, Grafts}
-use Rattle.protocol.specs.Run.{Run, withState, act, send, takes}
-use Rattle.protocol.specs.Push.{forPeer, notes, scheduleDispatch, scheduleAnnounceDropped, recordFull, recordAlso, noteOne, noteEach, noteDropped, lazyPush}
-use Rattle.protocol.specs.Gossips.{markReceived, withFirst, setFirst, forgetMissing, updateLinks, withKept, setKept}
-use Rattle.protocol.specs.Control.{announce, scheduleGraft, noteGraft, leaveAnnouncers, unmark}
-use Rattle.protocol.specs.Ticks.{evict, onEvictCacheTimer}
+use Rattle.protocol.specs.Run.{Run, with_state, act, send, takes}
+use Rattle.protocol.specs.Push.{for_peer, notes, schedule_dispatch, schedule_announce_dropped, record_full, record_also, note_one, note_each, note_dropped, lazy_push}
+use Rattle.protocol.specs.Gossips.{mark_received, with_first, set_first, forget_missing, update_links, with_kept, set_kept}
+use Rattle.protocol.specs.Control.{announce, schedule_graft, note_graft, leave_announcers, unmark}
+use Rattle.protocol.specs.Ticks.{evict, on_evict_cache_timer}
 use Rattle.protocol.specs.Answer.{accept}
-use Rattle.protocol.specs.Demand3.{byAction, carries, sends, wasTaken, wasHandedBack, sent, leftOut, metFull}
+use Rattle.protocol.specs.NoNeighbourPassedOver.{by_action, carries, sends, was_taken, was_handed_back, sent, left_out, met_full}
 use Rattle.storage.proofs.ListsLaws.MapLaws.{cases, true≢}
 use Rattle.storage.proofs.ListsLaws.Lists.{or_cases, or_left, or_right, any_left}
 use Rattle.storage.proofs.ListsLaws.ListLaws.{count-append}
-use Rattle.protocol.proofs.Invariant.{Same, Stands, Settled, wasSent, wasFull, queuedNow, recordedNow}
+use Rattle.protocol.proofs.Invariant.{Same, Stands, Settled, was_sent, was_full, queued_now, recorded_now}
 use Rattle.protocol.proofs.Walk.{Sending, Steps, walk-if}
-use Rattle.protocol.proofs.GraftSteps.{lookup-popAll}
+use Rattle.protocol.proofs.GraftSteps.{lookup-pop_all}
 
 -- queue, record and actions only grow, and the cache only shrinks
 pub record Grows (r r' : Run) : Type 0 where
   pub queue : (f : Note → Bool) → any f r.state.queue ≡ true → any f r'.state.queue ≡ true
   pub dropped : (f : Note → Bool) → any f r.state.dropped ≡ true → any f r'.state.dropped ≡ true
   pub actions : (f : Action → Bool) → any f r.actions ≡ true → any f r'.actions ≡ true
-  pub full : (p : ℕ) → recordFull p r.state.dropped ≡ true → recordFull p r'.state.dropped ≡ true
+  pub full : (p : ℕ) → record_full p r.state.dropped ≡ true → record_full p r'.state.dropped ≡ true
   pub cached : (id : ℕ) → Same id r.state.cache r'.state.cache
 
 pub grows-refl : (r : Run) → Grows r r
@@ -62,76 +62,76 @@ unfolding send
 grows-send p m r = record { queue = λ f h. h; dropped = λ f h. h; actions = λ f h. any_left f r.actions (Sent p (takes p r) m ∷ []) h; full = λ p h. h; cached = λ id v h. h }
 
 -- a full record stays full with one more
-full-more : (p : ℕ) (ns : List Note) (n : Note) → recordFull p ns ≡ true → recordFull p (ns ++ (n ∷ [])) ≡ true
-unfolding recordFull
-full-more p ns n f = on (or_cases (leb 256 (count (forPeer p) ns)) (leb 4096 (length ns)) f)
+full-more : (p : ℕ) (ns : List Note) (n : Note) → record_full p ns ≡ true → record_full p (ns ++ (n ∷ [])) ≡ true
+unfolding record_full
+full-more p ns n f = on (or_cases (leb 256 (count (for_peer p) ns)) (leb 4096 (length ns)) f)
   where
-    on : (leb 256 (count (forPeer p) ns) ≡ true) ⊎ (leb 4096 (length ns) ≡ true) → (leb 256 (count (forPeer p) (ns ++ (n ∷ []))) || leb 4096 (length (ns ++ (n ∷ [])))) ≡ true
-    on (inl h) = or_left (leb 256 (count (forPeer p) (ns ++ (n ∷ [])))) (leb 4096 (length (ns ++ (n ∷ []))))
-        (le-leb 256 (count (forPeer p) (ns ++ (n ∷ []))) (omega (arith, leb-true 256 (count (forPeer p) ns) h, count-append (forPeer p) ns (n ∷ []))))
-    on (inr h) = or_right (leb 256 (count (forPeer p) (ns ++ (n ∷ [])))) (leb 4096 (length (ns ++ (n ∷ []))))
+    on : (leb 256 (count (for_peer p) ns) ≡ true) ⊎ (leb 4096 (length ns) ≡ true) → (leb 256 (count (for_peer p) (ns ++ (n ∷ []))) || leb 4096 (length (ns ++ (n ∷ [])))) ≡ true
+    on (inl h) = or_left (leb 256 (count (for_peer p) (ns ++ (n ∷ [])))) (leb 4096 (length (ns ++ (n ∷ []))))
+        (le-leb 256 (count (for_peer p) (ns ++ (n ∷ []))) (omega (arith, leb-true 256 (count (for_peer p) ns) h, count-append (for_peer p) ns (n ∷ []))))
+    on (inr h) = or_right (leb 256 (count (for_peer p) (ns ++ (n ∷ [])))) (leb 4096 (length (ns ++ (n ∷ []))))
         (le-leb 4096 (length (ns ++ (n ∷ []))) (omega (arith, leb-true 4096 (length ns) h, length-append ns (n ∷ []))))
 
-pub grows-noteOne : (p : ℕ) (h : Ihave) (r : Run) → Grows r (noteOne p h r)
-unfolding noteOne recordAlso
-grows-noteOne p h r =
-    walk-if Grows (not (recordFull p r.state.dropped) && holds h.id r.state.cache && not (any (notes p h.id) r.state.dropped))
+pub grows-note_one : (p : ℕ) (h : Ihave) (r : Run) → Grows r (note_one p h r)
+unfolding note_one record_also
+grows-note_one p h r =
+    walk-if Grows (not (record_full p r.state.dropped) && holds h.id r.state.cache && not (any (notes p h.id) r.state.dropped))
     (record { queue = λ f h. h; dropped = λ f h. any_left f r.state.dropped _ h; actions = λ f h. h; full = λ q f. full-more q r.state.dropped _ f; cached = λ id v h. h })
     (grows-refl r)
 
-pub grows-noteEach : (p : ℕ) (hs : List Ihave) (r : Run) → Grows r (noteEach p hs r)
-unfolding noteEach
-grows-noteEach p [] r = grows-refl r
-grows-noteEach p (h ∷ hs) r = grows-trans r (noteOne p h r) _ (grows-noteOne p h r) (grows-noteEach p hs (noteOne p h r))
+pub grows-note_each : (p : ℕ) (hs : List Ihave) (r : Run) → Grows r (note_each p hs r)
+unfolding note_each
+grows-note_each p [] r = grows-refl r
+grows-note_each p (h ∷ hs) r = grows-trans r (note_one p h r) _ (grows-note_one p h r) (grows-note_each p hs (note_one p h r))
 
-pub grows-scheduleAnnounceDropped : (r : Run) → Grows r (scheduleAnnounceDropped r)
-unfolding scheduleAnnounceDropped act
-grows-scheduleAnnounceDropped r =
+pub grows-schedule_announce_dropped : (r : Run) → Grows r (schedule_announce_dropped r)
+unfolding schedule_announce_dropped act
+grows-schedule_announce_dropped r =
     walk-if Grows (is_empty r.state.dropped || r.state.timers.announce) (grows-refl r)
     (record { queue = λ f h. h; dropped = λ f h. h; actions = λ f h. any_left f r.actions _ h; full = λ p h. h; cached = λ id v h. h })
 
-pub grows-scheduleDispatch : (r : Run) → Grows r (scheduleDispatch r)
-unfolding scheduleDispatch act
-grows-scheduleDispatch r =
+pub grows-schedule_dispatch : (r : Run) → Grows r (schedule_dispatch r)
+unfolding schedule_dispatch act
+grows-schedule_dispatch r =
     walk-if Grows r.state.timers.dispatch (grows-refl r)
     (record { queue = λ f h. h; dropped = λ f h. h; actions = λ f h. any_left f r.actions _ h; full = λ p h. h; cached = λ id v h. h })
 
-pub grows-noteDropped : (p : ℕ) (hs : List Ihave) (r : Run) → Grows r (noteDropped p hs r)
-unfolding noteDropped
-grows-noteDropped p hs r =
-    walk-if Grows (isNeighbour p r.state.links) (grows-trans r (noteEach p hs r) _ (grows-noteEach p hs r) (grows-scheduleAnnounceDropped (noteEach p hs r))) (grows-refl r)
+pub grows-note_dropped : (p : ℕ) (hs : List Ihave) (r : Run) → Grows r (note_dropped p hs r)
+unfolding note_dropped
+grows-note_dropped p hs r =
+    walk-if Grows (is_neighbour p r.state.links) (grows-trans r (note_each p hs r) _ (grows-note_each p hs r) (grows-schedule_announce_dropped (note_each p hs r))) (grows-refl r)
 
-pub grows-lazyPush : (id round sender : ℕ) (r : Run) → Grows r (lazyPush id round sender r)
-unfolding lazyPush
-grows-lazyPush id round sender r =
-    grows-trans r _ _ (record { queue = λ f h. any_left f r.state.queue _ h; dropped = λ f h. h; actions = λ f h. h; full = λ p h. h; cached = λ id v h. h }) (grows-scheduleDispatch _)
+pub grows-lazy_push : (id round sender : ℕ) (r : Run) → Grows r (lazy_push id round sender r)
+unfolding lazy_push
+grows-lazy_push id round sender r =
+    grows-trans r _ _ (record { queue = λ f h. any_left f r.state.queue _ h; dropped = λ f h. h; actions = λ f h. h; full = λ p h. h; cached = λ id v h. h }) (grows-schedule_dispatch _)
 
-grows-scheduleGraft : (id : ℕ) (r : Run) → Grows r (scheduleGraft id r)
-unfolding scheduleGraft act
-grows-scheduleGraft id r =
+grows-schedule_graft : (id : ℕ) (r : Run) → Grows r (schedule_graft id r)
+unfolding schedule_graft act
+grows-schedule_graft id r =
     walk-if Grows (member id r.state.timers.graft) (grows-refl r)
     (record { queue = λ f h. h; dropped = λ f h. h; actions = λ f h. any_left f r.actions _ h; full = λ p h. h; cached = λ id v h. h })
 
-grows-first : (id : ℕ) (h : Hop) (o : Option Grafts) (r : Run) → Grows r (withState (withFirst id h o r.state) r)
-unfolding withFirst
+grows-first : (id : ℕ) (h : Hop) (o : Option Grafts) (r : Run) → Grows r (with_state (with_first id h o r.state) r)
+unfolding with_first
 grows-first id h none r = alike refl refl refl refl
 grows-first id h (some g) r = alike refl refl refl refl
 
-grows-kept : (id p : ℕ) (o : Option Grafts) (r : Run) → Grows r (withState (withKept id p o r.state) r)
-unfolding withKept
+grows-kept : (id p : ℕ) (o : Option Grafts) (r : Run) → Grows r (with_state (with_kept id p o r.state) r)
+unfolding with_kept
 grows-kept id p none r = alike refl refl refl refl
 grows-kept id p (some g) r = alike refl refl refl refl
 
-lookup-expire : {A : Type 0} (id now : ℕ) (v : Timed A) (c : Cache A) → lookup id (expireUntil now c).entries ≡ some v → lookup id c.entries ≡ some v
-unfolding expireUntil
-lookup-expire id now v c h = on (lookup-popAll id (due now c.expiry) c.entries)
+lookup-expire : {A : Type 0} (id now : ℕ) (v : Timed A) (c : Cache A) → lookup id (expire_until now c).entries ≡ some v → lookup id c.entries ≡ some v
+unfolding expire_until
+lookup-expire id now v c h = on (lookup-pop_all id (due now c.expiry) c.entries)
   where
-    on : (lookup id (popAll (due now c.expiry) c.entries) ≡ lookup id c.entries) ⊎ (lookup id (popAll (due now c.expiry) c.entries) ≡ none) → lookup id c.entries ≡ some v
+    on : (lookup id (pop_all (due now c.expiry) c.entries) ≡ lookup id c.entries) ⊎ (lookup id (pop_all (due now c.expiry) c.entries) ≡ none) → lookup id c.entries ≡ some v
     on (inl e) = rw e at h
     on (inr e) = let z : false ≡ true = cc in true≢ z
 
-grows-evict : (now : ℕ) (r : Run) → Grows r (onEvictCacheTimer now r)
-unfolding onEvictCacheTimer evict act
+grows-evict : (now : ℕ) (r : Run) → Grows r (on_evict_cache_timer now r)
+unfolding on_evict_cache_timer evict act
 grows-evict now r = record {
   queue = λ f h. h;
   dropped = λ f h. h;
@@ -141,22 +141,22 @@ grows-evict now r = record {
 }
 
 pub grows-sending : Sending Grows
-grows-sending = record { stays = grows-refl; follows = grows-trans; sends = grows-send; notes = grows-noteDropped }
+grows-sending = record { stays = grows-refl; follows = grows-trans; sends = grows-send; notes = grows-note_dropped }
 
 pub grows-steps : Steps Grows
-unfolding updateLinks markReceived setFirst setKept forgetMissing unmark
+unfolding update_links mark_received set_first set_kept forget_missing unmark
 grows-steps = record {
   sending = grows-sending;
   schedules = λ d t r. grows-act (Scheduled d t) r;
-  queues = grows-lazyPush;
-  marksEager = λ p r. alike refl refl refl refl;
-  marksLazy = λ p r. alike refl refl refl refl;
+  queues = grows-lazy_push;
+  marks_eager = λ p r. alike refl refl refl refl;
+  marks_lazy = λ p r. alike refl refl refl refl;
   receives = λ now id r. alike refl refl refl refl;
-  setsFirst = λ id sender round r. grows-first id _ _ r;
+  sets_first = λ id sender round r. grows-first id _ _ r;
   keeps = λ id p r. grows-kept id p _ r;
   forgets = λ id r. alike refl refl refl refl;
   counts = λ c r. alike refl refl refl refl;
-  schedulesGraft = grows-scheduleGraft;
+  schedules_graft = grows-schedule_graft;
   unmarks = λ id r. alike refl refl refl refl;
   evicts = grows-evict;
   begins = λ r. alike refl refl refl refl;
@@ -166,36 +166,36 @@ pub grows-announces : (id : ℕ) (h : Hop) (r : Run) → Grows r (announce id h 
 unfolding announce
 grows-announces id h r = alike refl refl refl refl
 
-pub grows-leaves : (id : ℕ) (hs : List Hop) (r : Run) → Grows r (leaveAnnouncers id hs r)
-unfolding leaveAnnouncers
+pub grows-leaves : (id : ℕ) (hs : List Hop) (r : Run) → Grows r (leave_announcers id hs r)
+unfolding leave_announcers
 grows-leaves id hs r = alike refl refl refl refl
 
-pub grows-grafts : (now id : ℕ) (h : Hop) (r : Run) → Grows r (noteGraft now id h r)
-unfolding noteGraft
+pub grows-grafts : (now id : ℕ) (h : Hop) (r : Run) → Grows r (note_graft now id h r)
+unfolding note_graft
 grows-grafts now id h r = alike refl refl refl refl
 
 -- an identifier that a run has for a peer
 
 pub data Got (p id : ℕ) (r : Run) : Type 0 where
-  wentOut : any (sends p (carries id) wasTaken) r.actions ≡ true → Got p id r
-  cameBack : any (sends p (carries id) wasHandedBack) r.actions ≡ true → recordFull p r.state.dropped ≡ true → Got p id r
-  inQueue : any (notes p id) r.state.queue ≡ true → Got p id r
-  inRecord : any (notes p id) r.state.dropped ≡ true → Got p id r
+  went_out : any (sends p (carries id) was_taken) r.actions ≡ true → Got p id r
+  came_back : any (sends p (carries id) was_handed_back) r.actions ≡ true → record_full p r.state.dropped ≡ true → Got p id r
+  in_queue : any (notes p id) r.state.queue ≡ true → Got p id r
+  in_record : any (notes p id) r.state.dropped ≡ true → Got p id r
 
 pub got-grows : {p id : ℕ} {r r' : Run} → Grows r r' → Got p id r → Got p id r'
-got-grows {p} {id} g (wentOut h) = wentOut (g.actions (sends p (carries id) wasTaken) h)
-got-grows {p} {id} g (cameBack h k) = cameBack (g.actions (sends p (carries id) wasHandedBack) h) (g.full p k)
-got-grows {p} {id} g (inQueue h) = inQueue (g.queue (notes p id) h)
-got-grows {p} {id} g (inRecord h) = inRecord (g.dropped (notes p id) h)
+got-grows {p} {id} g (went_out h) = went_out (g.actions (sends p (carries id) was_taken) h)
+got-grows {p} {id} g (came_back h k) = came_back (g.actions (sends p (carries id) was_handed_back) h) (g.full p k)
+got-grows {p} {id} g (in_queue h) = in_queue (g.queue (notes p id) h)
+got-grows {p} {id} g (in_record h) = in_record (g.dropped (notes p id) h)
 
 -- at the end of a call, of an identifier that is cached then
 pub got-settled : (p id : ℕ) (e : Event) (r : Run) → holds id r.state.cache ≡ true → Got p id r → Settled p id (accept e r) r.state
-unfolding sent byAction metFull leftOut
-got-settled p id e r held (wentOut h) = wasSent h
-got-settled p id e r held (cameBack h k) = cases (any (notes p id) r.state.dropped) (λ q. recordedNow q) (λ q. wasFull (rw (h, held, q, k)))
-got-settled p id e r held (inQueue h) = queuedNow h
-got-settled p id e r held (inRecord h) = recordedNow h
+unfolding sent by_action met_full left_out
+got-settled p id e r held (went_out h) = was_sent h
+got-settled p id e r held (came_back h k) = cases (any (notes p id) r.state.dropped) (λ q. recorded_now q) (λ q. was_full (rw (h, held, q, k)))
+got-settled p id e r held (in_queue h) = queued_now h
+got-settled p id e r held (in_record h) = recorded_now h
 
 pub stands-got : (p id : ℕ) (r : Run) → Stands p id r.state → Got p id r
-stands-got p id r (inl h) = inQueue h
-stands-got p id r (inr h) = inRecord h
+stands-got p id r (inl h) = in_queue h
+stands-got p id r (inr h) = in_record h

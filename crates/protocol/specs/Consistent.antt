@@ -3,40 +3,40 @@ use Rattle.std.specs.Prelude.{ℕ, ◌≤◌, ◌≡◌, Bool, true, ◌||◌, L
 use Rattle.storage.specs.Lists.Base.{is_empty, all, count, ascending}
 use Rattle.storage.specs.Lists.Map.{Map, keys}
 use Rattle.time_cache.specs.TimeCache.{Cache, Timely}
-use Rattle.protocol.specs.Links.{Links, isNeighbour}
-use Rattle.protocol.specs.State.{State, Note, Hop, Grafts, Cached, sizeInRange, durationsInRange, limitsInRange}
-use Rattle.protocol.specs.Push.{forPeer}
-use Rattle.protocol.specs.Whole.{announcersWhole, graftsWhole, notedOnce}
+use Rattle.protocol.specs.Links.{Links, is_neighbour}
+use Rattle.protocol.specs.State.{State, Note, Hop, Grafts, Cached, size_in_range, durations_in_range, limits_in_range}
+use Rattle.protocol.specs.Push.{for_peer}
+use Rattle.protocol.specs.Whole.{announcers_whole, grafts_whole, noted_once}
 
 -- "records within 256 and 4,096"
 pub record Within (ns : List Note) : Type 0 where
-  pub each : (p : ℕ) → count (forPeer p) ns ≤ 256
-  pub inAll : length ns ≤ 4096
+  pub each : (p : ℕ) → count (for_peer p) ns ≤ 256
+  pub in_all : length ns ≤ 4096
 
 -- "a queue or record stands only with its flag"
 abbrev pub Flagged : List Note → Bool → Type 0
 Flagged ns flag = (is_empty ns || flag) ≡ true
 
 -- of a neighbour
-abbrev pub byNeighbour : Links → Note → Bool
-byNeighbour l n = isNeighbour n.peer l
+abbrev pub by_neighbour : Links → Note → Bool
+by_neighbour l n = is_neighbour n.peer l
 
 -- all but the flags
 pub record Core (links : Links) (queue dropped : List Note) (missing : Map (List Hop)) (received : Cache (Unit {0})) (grafted : Cache Grafts) (cache : Cache Cached) (timers : List ℕ) : Type 0 where
   -- "keys once" (and, here, ascending)
-  pub linksUp : ascending (keys links) ≡ true
-  pub missingUp : ascending (keys missing) ≡ true
-  pub timersUp : ascending timers ≡ true
+  pub links_up : ascending (keys links) ≡ true
+  pub missing_up : ascending (keys missing) ≡ true
+  pub timers_up : ascending timers ≡ true
   -- the time caches
-  pub receivedOn : Timely received
-  pub graftedOn : Timely grafted
-  pub cacheOn : Timely cache
+  pub received_on : Timely received
+  pub grafted_on : Timely grafted
+  pub cache_on : Timely cache
   -- "queued, dropped, announcing and grafted peers are neighbours, once per identifier among announcers, grafted and dropped"
-  pub queued : all (byNeighbour links) queue ≡ true
-  pub recorded : all (byNeighbour links) dropped ≡ true
-  pub announcing : all (announcersWhole links) missing ≡ true
-  pub grafting : all (graftsWhole links) grafted.entries ≡ true
-  pub noted : notedOnce dropped ≡ true
+  pub queued : all (by_neighbour links) queue ≡ true
+  pub recorded : all (by_neighbour links) dropped ≡ true
+  pub announcing : all (announcers_whole links) missing ≡ true
+  pub grafting : all (grafts_whole links) grafted.entries ≡ true
+  pub noted : noted_once dropped ≡ true
   pub within : Within dropped
 
 -- of a state; a change of settings, limits, flags leaves it the same type
@@ -46,12 +46,12 @@ CoreOf s = Core s.links s.queue s.dropped s.missing s.received s.grafted s.cache
 -- with the flags of queue and record
 pub record Consistent (s : State) : Type 0 where
   pub core : CoreOf s
-  pub queueFlag : Flagged s.queue s.timers.dispatch
-  pub recordFlag : Flagged s.dropped s.timers.announce
+  pub queue_flag : Flagged s.queue s.timers.dispatch
+  pub record_flag : Flagged s.dropped s.timers.announce
 
 -- "settings, limits and numbers of entries in range", the numbers of entries apart; the threshold is a 16-bit number
 pub record Ranged (s : State) : Type 0 where
-  pub size : sizeInRange s.settings ≡ true
-  pub durations : durationsInRange s.settings ≡ true
-  pub threshold : leb s.settings.optimizationThreshold 65535 ≡ true
-  pub limits : limitsInRange s.limits ≡ true
+  pub size : size_in_range s.settings ≡ true
+  pub durations : durations_in_range s.settings ≡ true
+  pub threshold : leb s.settings.optimization_threshold 65535 ≡ true
+  pub limits : limits_in_range s.limits ≡ true

@@ -12,7 +12,7 @@ pub mod Handle
 pub mod Calls
 pub mod SameMeaning
 pub mod Consistent
-pub mod Demand3
+pub mod NoNeighbourPassedOver
 pub mod Notings
 pub mod Alike
 pub mod AlikeUnordered

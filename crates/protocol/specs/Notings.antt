@@ -1,23 +1,23 @@
 -- "`note_dropped` came to it for this neighbour while this neighbour had 256 or all had 4,096": an account of the notings of a call, kept beside its run. A name with ' is the step of that
--- name, line for line, with the account; a step in which nothing is noted is the protocol's own (`plain`). `MetFullExact` says that the run is `handle`'s, and what the account has to do with `metFull`.
+-- name, line for line, with the account; a step in which nothing is noted is the protocol's own (`plain`). `MetFullExact` says that the run is `handle`'s, and what the account has to do with `met_full`.
 use Rattle.std.specs.Prelude.{ℕ, suc, ◌≡◌, true, false, not, List, [], ◌∷◌, ◌++◌, ◌⊎◌, ltb, eqb, length, if◌then◌else◌}
 use Rattle.std.proofs.Math.Option.{Option, none, some}
 use Rattle.storage.specs.Lists.Base.{◌▷◌, any}
 use Rattle.storage.specs.Lists.Map.{keys}
 use Rattle.time_cache.specs.TimeCache.{get, holds}
-use Rattle.postcard.specs.Message.{Delivery, Swarm, Neighbors, Scope, toSwarm, toNeighbors, Ihave, Message, Gossip, Prune, Graft, IHave, Timer, SendGraft, DispatchLazyPush, EvictCache, AnnounceDropped, Event, Received, Broadcast, Fired, Up, Down}
-use Rattle.protocol.specs.Links.{isNeighbour, addEager}
-use Rattle.protocol.specs.State.{State, Counts, Note, Cached, withQueue}
-use Rattle.protocol.specs.Run.{Run, Room, begin, withState, withCounts, takes, send, emit}
-use Rattle.protocol.specs.Push.{notes, recordFull, scheduleAnnounceDropped, noteOne, sendEach, handedBack, eagerTargets, lazyPush}
-use Rattle.protocol.specs.Gossips.{markReceived, cacheAt, graftedFor, setFirst, raiseHops, updateLinks, forgetAndOptimise, onLateGraftReply, gossipSize}
-use Rattle.protocol.specs.Control.{onIHave, onPrune, onSendGraftTimer}
-use Rattle.protocol.specs.Ticks.{perMessage, chunks, queuedFor, queuedPeers, clearDispatch, onAnnounceDroppedTimer, onEvictCacheTimer}
-use Rattle.protocol.specs.Neighbours.{onNeighborUp, onNeighborDown}
-use Rattle.protocol.specs.Handle.{firstEvent, countMessage, ifNeighbour, handle}
+use Rattle.postcard.specs.Message.{Delivery, Swarm, Neighbors, Scope, to_swarm, to_neighbors, Ihave, Message, Gossip, Prune, Graft, IHave, Timer, SendGraft, DispatchLazyPush, EvictCache, AnnounceDropped, Event, Received, Broadcast, Fired, Up, Down}
+use Rattle.protocol.specs.Links.{is_neighbour, add_eager}
+use Rattle.protocol.specs.State.{State, Counts, Note, Cached, with_queue}
+use Rattle.protocol.specs.Run.{Run, Room, begin, with_state, with_counts, takes, send, emit}
+use Rattle.protocol.specs.Push.{notes, record_full, schedule_announce_dropped, note_one, send_each, handed_back, eager_targets, lazy_push}
+use Rattle.protocol.specs.Gossips.{mark_received, cache_at, grafted_for, set_first, raise_hops, update_links, forget_and_optimise, on_late_graft_reply, gossip_size}
+use Rattle.protocol.specs.Control.{on_ihave, on_prune, on_send_graft_timer}
+use Rattle.protocol.specs.Ticks.{per_message, chunks, queued_for, queued_peers, clear_dispatch, on_announce_dropped_timer, on_evict_cache_timer}
+use Rattle.protocol.specs.Neighbours.{on_neighbor_up, on_neighbor_down}
+use Rattle.protocol.specs.Handle.{first_event, count_message, if_neighbour, handle}
 use Rattle.protocol.specs.Whole.{whole}
 use Rattle.protocol.specs.Answer.{accept}
-use Rattle.protocol.specs.Demand3.{carries, sends, wasHandedBack, metFull}
+use Rattle.protocol.specs.NoNeighbourPassedOver.{carries, sends, was_handed_back, met_full}
 
 -- `note_dropped` comes to an identifier for a neighbour: the state as it stands then
 pub record Coming : Type 0 where
@@ -35,149 +35,149 @@ abbrev pub plain : (Run → Run) → Account → Account
 plain step a = record { run = step a.run; comings = a.comings }
 
 -- it comes to one identifier: the only step by which the account grows
-unfoldable pub noteOne' : ℕ → Ihave → Account → Account
-noteOne' p h a = record { run = noteOne p h a.run; comings = a.comings ++ (record { peer = p; id = h.id; state = a.run.state } ∷ []) }
+unfoldable pub note_one' : ℕ → Ihave → Account → Account
+note_one' p h a = record { run = note_one p h a.run; comings = a.comings ++ (record { peer = p; id = h.id; state = a.run.state } ∷ []) }
 
--- `noteEach`
-unfoldable pub noteEach' : ℕ → List Ihave → Account → Account
-noteEach' p [] a = a
-noteEach' p (h ∷ hs) a = noteEach' p hs (noteOne' p h a)
+-- `note_each`
+unfoldable pub note_each' : ℕ → List Ihave → Account → Account
+note_each' p [] a = a
+note_each' p (h ∷ hs) a = note_each' p hs (note_one' p h a)
 
--- `noteDropped`
-unfoldable pub noteDropped' : ℕ → List Ihave → Account → Account
-noteDropped' p hs a = if isNeighbour p a.run.state.links then plain scheduleAnnounceDropped (noteEach' p hs a) else a
+-- `note_dropped`
+unfoldable pub note_dropped' : ℕ → List Ihave → Account → Account
+note_dropped' p hs a = if is_neighbour p a.run.state.links then plain schedule_announce_dropped (note_each' p hs a) else a
 
--- `noteForEach`
-unfoldable pub noteForEach' : List ℕ → Ihave → Account → Account
-noteForEach' [] h a = a
-noteForEach' (p ∷ ps) h a = noteForEach' ps h (noteDropped' p (h ∷ []) a)
+-- `note_for_each`
+unfoldable pub note_for_each' : List ℕ → Ihave → Account → Account
+note_for_each' [] h a = a
+note_for_each' (p ∷ ps) h a = note_for_each' ps h (note_dropped' p (h ∷ []) a)
 
--- `noteAfter`
-unfoldable pub noteAfter' : List ℕ → ℕ → Delivery → Account → Account
-noteAfter' back id (Swarm round) a = noteForEach' back (record { id = id; round = round }) a
-noteAfter' back id Neighbors a = a
+-- `note_after`
+unfoldable pub note_after' : List ℕ → ℕ → Delivery → Account → Account
+note_after' back id (Swarm round) a = note_for_each' back (record { id = id; round = round }) a
+note_after' back id Neighbors a = a
 
--- `pushTo`
-unfoldable pub pushTo' : List ℕ → ℕ → List ℕ → Delivery → Account → Account
-pushTo' peers id content d a =
-    a ▷ plain (sendEach peers (Gossip id content d)) ▷ noteAfter' (handedBack peers (Gossip id content d) a.run) id d
+-- `push_to`
+unfoldable pub push_to' : List ℕ → ℕ → List ℕ → Delivery → Account → Account
+push_to' peers id content d a =
+    a ▷ plain (send_each peers (Gossip id content d)) ▷ note_after' (handed_back peers (Gossip id content d) a.run) id d
 
--- `eagerPush`
-unfoldable pub eagerPush' : ℕ → List ℕ → Delivery → ℕ → List ℕ → Account → Account
-eagerPush' id content d sender skip a = pushTo' (eagerTargets sender skip a.run.state) id content d a
+-- `eager_push`
+unfoldable pub eager_push' : ℕ → List ℕ → Delivery → ℕ → List ℕ → Account → Account
+eager_push' id content d sender skip a = push_to' (eager_targets sender skip a.run.state) id content d a
 
--- `sendIhave`
-unfoldable pub sendIhave' : ℕ → List Ihave → Account → Account
-sendIhave' p hs a = if takes p a.run then plain (send p (IHave hs)) a else noteDropped' p hs (plain (send p (IHave hs)) a)
+-- `send_ihave`
+unfoldable pub send_ihave' : ℕ → List Ihave → Account → Account
+send_ihave' p hs a = if takes p a.run then plain (send p (IHave hs)) a else note_dropped' p hs (plain (send p (IHave hs)) a)
 
--- `pushOn`
-unfoldable pub pushOn' : ℕ → List ℕ → ℕ → ℕ → Account → Account
-pushOn' id content round sender a = eagerPush' id content (Swarm round) sender (keys (graftedFor id a.run.state)) a
+-- `push_on`
+unfoldable pub push_on' : ℕ → List ℕ → ℕ → ℕ → Account → Account
+push_on' id content round sender a = eager_push' id content (Swarm round) sender (keys (grafted_for id a.run.state)) a
 
--- `takeIn`
-unfoldable pub takeIn' : ℕ → ℕ → ℕ → List ℕ → ℕ → Account → Account
-takeIn' now sender id content round a =
-    a ▷ plain (markReceived now id)
-    ▷ plain (cacheAt now id content (suc round))
-    ▷ plain (setFirst id sender round)
-    ▷ pushOn' id content (suc round) sender
-    ▷ plain (lazyPush id (suc round) sender)
-    ▷ plain (forgetAndOptimise id sender round)
-    ▷ plain (raiseHops (suc round))
+-- `take_in`
+unfoldable pub take_in' : ℕ → ℕ → ℕ → List ℕ → ℕ → Account → Account
+take_in' now sender id content round a =
+    a ▷ plain (mark_received now id)
+    ▷ plain (cache_at now id content (suc round))
+    ▷ plain (set_first id sender round)
+    ▷ push_on' id content (suc round) sender
+    ▷ plain (lazy_push id (suc round) sender)
+    ▷ plain (forget_and_optimise id sender round)
+    ▷ plain (raise_hops (suc round))
 
--- `onNew`
-unfoldable pub onNew' : ℕ → ℕ → ℕ → List ℕ → Delivery → Account → Account
-onNew' now sender id content (Swarm round) a = a ▷ takeIn' now sender id content round ▷ plain (emit sender content (Swarm round))
-onNew' now sender id content Neighbors a = a ▷ plain (emit sender content Neighbors)
+-- `on_new`
+unfoldable pub on_new' : ℕ → ℕ → ℕ → List ℕ → Delivery → Account → Account
+on_new' now sender id content (Swarm round) a = a ▷ take_in' now sender id content round ▷ plain (emit sender content (Swarm round))
+on_new' now sender id content Neighbors a = a ▷ plain (emit sender content Neighbors)
 
--- `replyWith`
-unfoldable pub replyWith' : ℕ → ℕ → Option Cached → Account → Account
-replyWith' sender id none a = a
-replyWith' sender id (some c) a =
+-- `reply_with`
+unfoldable pub reply_with' : ℕ → ℕ → Option Cached → Account → Account
+reply_with' sender id none a = a
+reply_with' sender id (some c) a =
     if takes sender a.run then plain (send sender (Gossip id c.content (Swarm c.round))) a
-    else (a ▷ plain (send sender (Gossip id c.content (Swarm c.round))) ▷ noteDropped' sender (record { id = id; round = c.round } ∷ []))
+    else (a ▷ plain (send sender (Gossip id c.content (Swarm c.round))) ▷ note_dropped' sender (record { id = id; round = c.round } ∷ []))
 
 -- `reply`
 unfoldable pub reply' : ℕ → Option ℕ → Account → Account
 reply' sender none a = a
-reply' sender (some id) a = replyWith' sender id (get id a.run.state.cache) a
+reply' sender (some id) a = reply_with' sender id (get id a.run.state.cache) a
 
--- `onGraft`
-unfoldable pub onGraft' : ℕ → Option ℕ → Account → Account
-onGraft' sender wanted a = a ▷ plain (updateLinks (addEager sender)) ▷ reply' sender wanted
+-- `on_graft`
+unfoldable pub on_graft' : ℕ → Option ℕ → Account → Account
+on_graft' sender wanted a = a ▷ plain (update_links (add_eager sender)) ▷ reply' sender wanted
 
--- `sendChunks`
-unfoldable pub sendChunks' : ℕ → List (List Ihave) → Account → Account
-sendChunks' p [] a = a
-sendChunks' p (hs ∷ rest) a = sendChunks' p rest (sendIhave' p hs a)
+-- `send_chunks`
+unfoldable pub send_chunks' : ℕ → List (List Ihave) → Account → Account
+send_chunks' p [] a = a
+send_chunks' p (hs ∷ rest) a = send_chunks' p rest (send_ihave' p hs a)
 
--- `dispatchTo`
-unfoldable pub dispatchTo' : List ℕ → ℕ → List Note → Account → Account
-dispatchTo' [] k ns a = a
-dispatchTo' (p ∷ ps) k ns a = dispatchTo' ps k ns (sendChunks' p (chunks (length ns) k (queuedFor p ns)) a)
+-- `dispatch_to`
+unfoldable pub dispatch_to' : List ℕ → ℕ → List Note → Account → Account
+dispatch_to' [] k ns a = a
+dispatch_to' (p ∷ ps) k ns a = dispatch_to' ps k ns (send_chunks' p (chunks (length ns) k (queued_for p ns)) a)
 
--- `onDispatchTimer`
-unfoldable pub onDispatchTimer' : Account → Account
-onDispatchTimer' a =
-    a ▷ plain (withState (withQueue [] a.run.state))
-    ▷ dispatchTo' (queuedPeers a.run.state.queue) (perMessage a.run.state.settings.maxMessageSize) a.run.state.queue
-    ▷ plain clearDispatch
+-- `on_dispatch_timer`
+unfoldable pub on_dispatch_timer' : Account → Account
+on_dispatch_timer' a =
+    a ▷ plain (with_state (with_queue [] a.run.state))
+    ▷ dispatch_to' (queued_peers a.run.state.queue) (per_message a.run.state.settings.max_message_size) a.run.state.queue
+    ▷ plain clear_dispatch
 
--- `ifNeighbour`
-unfoldable pub ifNeighbour' : ℕ → (Account → Account) → Account → Account
-ifNeighbour' p step a = if isNeighbour p a.run.state.links then step a else a
+-- `if_neighbour`
+unfoldable pub if_neighbour' : ℕ → (Account → Account) → Account → Account
+if_neighbour' p step a = if is_neighbour p a.run.state.links then step a else a
 
--- `onTimer`
-unfoldable pub onTimer' : ℕ → Timer → Account → Account
-onTimer' now (SendGraft id) a = plain (onSendGraftTimer now id) a
-onTimer' now DispatchLazyPush a = onDispatchTimer' a
-onTimer' now EvictCache a = plain (onEvictCacheTimer now) a
-onTimer' now AnnounceDropped a = plain onAnnounceDroppedTimer a
+-- `on_timer`
+unfoldable pub on_timer' : ℕ → Timer → Account → Account
+on_timer' now (SendGraft id) a = plain (on_send_graft_timer now id) a
+on_timer' now DispatchLazyPush a = on_dispatch_timer' a
+on_timer' now EvictCache a = plain (on_evict_cache_timer now) a
+on_timer' now AnnounceDropped a = plain on_announce_dropped_timer a
 
 module _ (hash : List ℕ → ℕ) where
-  -- `onGossip`
-  unfoldable pub onGossip' : ℕ → ℕ → ℕ → List ℕ → Delivery → Account → Account
-  onGossip' now sender id content d a =
+  -- `on_gossip`
+  unfoldable pub on_gossip' : ℕ → ℕ → ℕ → List ℕ → Delivery → Account → Account
+  on_gossip' now sender id content d a =
       if not (eqb (hash content) id) then a
-      else if holds id a.run.state.received then plain (onLateGraftReply sender id d) a
-      else onNew' now sender id content d a
+      else if holds id a.run.state.received then plain (on_late_graft_reply sender id d) a
+      else on_new' now sender id content d a
 
-  -- `broadcastTo`
-  unfoldable pub broadcastTo' : ℕ → List ℕ → Scope → Account → Account
-  broadcastTo' now content toSwarm a =
-      a ▷ plain (markReceived now (hash content))
-      ▷ plain (cacheAt now (hash content) content 0)
-      ▷ plain (lazyPush (hash content) 0 a.run.state.settings.me)
-      ▷ eagerPush' (hash content) content (Swarm 0) a.run.state.settings.me []
-  broadcastTo' now content toNeighbors a = a ▷ eagerPush' (hash content) content Neighbors a.run.state.settings.me []
+  -- `broadcast_to`
+  unfoldable pub broadcast_to' : ℕ → List ℕ → Scope → Account → Account
+  broadcast_to' now content to_swarm a =
+      a ▷ plain (mark_received now (hash content))
+      ▷ plain (cache_at now (hash content) content 0)
+      ▷ plain (lazy_push (hash content) 0 a.run.state.settings.me)
+      ▷ eager_push' (hash content) content (Swarm 0) a.run.state.settings.me []
+  broadcast_to' now content to_neighbors a = a ▷ eager_push' (hash content) content Neighbors a.run.state.settings.me []
 
   -- `broadcast`
   unfoldable pub broadcast' : ℕ → List ℕ → Scope → Account → Account
   broadcast' now content scope a =
-      if ltb a.run.state.settings.maxMessageSize (gossipSize (length content) scope) then a else broadcastTo' now content scope a
+      if ltb a.run.state.settings.max_message_size (gossip_size (length content) scope) then a else broadcast_to' now content scope a
 
-  -- `onMessage`
-  unfoldable pub onMessage' : ℕ → ℕ → Message → Account → Account
-  onMessage' now sender (Gossip id content d) a = onGossip' now sender id content d a
-  onMessage' now sender Prune a = plain (ifNeighbour sender (onPrune sender)) a
-  onMessage' now sender (Graft wanted round) a = ifNeighbour' sender (onGraft' sender wanted) a
-  onMessage' now sender (IHave hs) a = plain (ifNeighbour sender (onIHave sender hs)) a
+  -- `on_message`
+  unfoldable pub on_message' : ℕ → ℕ → Message → Account → Account
+  on_message' now sender (Gossip id content d) a = on_gossip' now sender id content d a
+  on_message' now sender Prune a = plain (if_neighbour sender (on_prune sender)) a
+  on_message' now sender (Graft wanted round) a = if_neighbour' sender (on_graft' sender wanted) a
+  on_message' now sender (IHave hs) a = plain (if_neighbour sender (on_ihave sender hs)) a
 
-  -- `handleMessage`
-  unfoldable pub handleMessage' : ℕ → ℕ → Message → Account → Account
-  handleMessage' now sender m a = a ▷ plain (withCounts (countMessage m a.run.counts)) ▷ onMessage' now sender m
+  -- `handle_message`
+  unfoldable pub handle_message' : ℕ → ℕ → Message → Account → Account
+  handle_message' now sender m a = a ▷ plain (with_counts (count_message m a.run.counts)) ▷ on_message' now sender m
 
   -- `handle`
   unfoldable pub handle' : ℕ → Event → Account → Account
-  handle' now (Received p m) a = a ▷ plain (firstEvent now) ▷ handleMessage' now p m
-  handle' now (Broadcast content scope) a = a ▷ plain (firstEvent now) ▷ broadcast' now content scope
-  handle' now (Fired t) a = a ▷ plain (firstEvent now) ▷ onTimer' now t
-  handle' now (Up p) a = plain (onNeighborUp p) a
-  handle' now (Down p) a = plain (onNeighborDown p) a
+  handle' now (Received p m) a = a ▷ plain (first_event now) ▷ handle_message' now p m
+  handle' now (Broadcast content scope) a = a ▷ plain (first_event now) ▷ broadcast' now content scope
+  handle' now (Fired t) a = a ▷ plain (first_event now) ▷ on_timer' now t
+  handle' now (Up p) a = plain (on_neighbor_up p) a
+  handle' now (Down p) a = plain (on_neighbor_down p) a
 
   -- what `note_dropped` came to in the event of a call
-  abbrev pub comingsIn : State → Counts → List Room → ℕ → Event → List Coming
-  comingsIn s n rooms now e = (handle' now e (record { run = begin s n rooms; comings = [] })).comings
+  abbrev pub comings_in : State → Counts → List Room → ℕ → Event → List Coming
+  comings_in s n rooms now e = (handle' now e (record { run = begin s n rooms; comings = [] })).comings
 
 -- "`note_dropped` came to it for this neighbour while this neighbour had 256 or all had 4,096"
 pub record CameWhileFull (p id : ℕ) (comings : List Coming) : Type 0 where
@@ -185,17 +185,17 @@ pub record CameWhileFull (p id : ℕ) (comings : List Coming) : Type 0 where
   pub it : Coming
   pub after : List Coming
   pub split : comings ≡ before ++ (it ∷ after)
-  pub samePeer : it.peer ≡ p
-  pub sameId : it.id ≡ id
-  pub full : recordFull p it.state.dropped ≡ true
+  pub same_peer : it.peer ≡ p
+  pub same_id : it.id ≡ id
+  pub full : record_full p it.state.dropped ≡ true
 
--- `follows`: the account's run is `handle`'s. Of every event upon every whole state (a call upon another is refused with 5), for each neighbour and identifier: `came`: where `metFull` holds, it so came in that
--- call; `met`: where it so came, the payload or announcement was handed back there in that call, and `metFull` holds, or it stood recorded for this neighbour already when it came, or was not cached then
+-- `follows`: the account's run is `handle`'s. Of every event upon every whole state (a call upon another is refused with 5), for each neighbour and identifier: `came`: where `met_full` holds, it so came in that
+-- call; `met`: where it so came, the payload or announcement was handed back there in that call, and `met_full` holds, or it stood recorded for this neighbour already when it came, or was not cached then
 pub record MetFullExact (hash : List ℕ → ℕ) : Type 0 where
   pub follows : (now : ℕ) (e : Event) (a : Account) → (handle' hash now e a).run ≡ handle hash now e a.run
   pub came : (s : State) (n : Counts) (rooms : List Room) (now : ℕ) (e : Event) → whole s ≡ true → (p id : ℕ) →
-      metFull p id (accept e (handle hash now e (begin s n rooms))) ≡ true → CameWhileFull p id (comingsIn hash s n rooms now e)
-  pub met : (s : State) (n : Counts) (rooms : List Room) (now : ℕ) (e : Event) → whole s ≡ true → (p id : ℕ) → (c : CameWhileFull p id (comingsIn hash s n rooms now e)) →
-      (any (sends p (carries id) wasHandedBack) (handle hash now e (begin s n rooms)).actions ≡ true)
-      × ((metFull p id (accept e (handle hash now e (begin s n rooms))) ≡ true)
+      met_full p id (accept e (handle hash now e (begin s n rooms))) ≡ true → CameWhileFull p id (comings_in hash s n rooms now e)
+  pub met : (s : State) (n : Counts) (rooms : List Room) (now : ℕ) (e : Event) → whole s ≡ true → (p id : ℕ) → (c : CameWhileFull p id (comings_in hash s n rooms now e)) →
+      (any (sends p (carries id) was_handed_back) (handle hash now e (begin s n rooms)).actions ≡ true)
+      × ((met_full p id (accept e (handle hash now e (begin s n rooms))) ≡ true)
       ⊎ ((any (notes p id) c.it.state.dropped ≡ true) ⊎ (holds id c.it.state.cache ≡ false)))

@@ -1,13 +1,13 @@
--- Document 01, "Ticks": `on_dispatch_timer`, `on_announce_dropped_timer`, `on_evict_cache_timer`.
+-- The specification, "Ticks": `on_dispatch_timer`, `on_announce_dropped_timer`, `on_evict_cache_timer`.
 use Rattle.std.specs.Prelude.{ℕ, zero, suc, false, List, [], ◌∷◌, ◌++◌, map, ltb, length, take, drop, if◌then◌else◌}
 use Rattle.storage.specs.Lists.Base.{◌▷◌, is_empty, filter, count}
-use Rattle.storage.specs.Lists.Map.{insertKey}
-use Rattle.time_cache.specs.TimeCache.{holds, expireUntil}
+use Rattle.storage.specs.Lists.Map.{insert_key}
+use Rattle.time_cache.specs.TimeCache.{holds, expire_until}
 use Rattle.postcard.specs.Message.{Ihave, EvictCache}
-unfoldable pub use Rattle.postcard.specs.Sizes.{perMessage}
-use Rattle.protocol.specs.State.{State, Note, withQueue, withDropped, withCache, withReceived, withGrafted, withDispatchScheduled, withAnnounceScheduled}
-use Rattle.protocol.specs.Run.{Run, withState, schedule}
-use Rattle.protocol.specs.Push.{forPeer, sendIhave, scheduleDispatch, scheduleAnnounceDropped}
+unfoldable pub use Rattle.postcard.specs.Sizes.{per_message}
+use Rattle.protocol.specs.State.{State, Note, with_queue, with_dropped, with_cache, with_received, with_grafted, with_dispatch_scheduled, with_announce_scheduled}
+use Rattle.protocol.specs.Run.{Run, with_state, schedule}
+use Rattle.protocol.specs.Push.{for_peer, send_ihave, schedule_dispatch, schedule_announce_dropped}
 
 -- the list in pieces of at most `k`, at most `pieces` of them
 unfoldable pub chunks : ℕ → ℕ → List Ihave → List (List Ihave)
@@ -16,69 +16,69 @@ chunks (suc pieces) k [] = []
 chunks (suc pieces) k (h ∷ hs) = take k (h ∷ hs) ∷ chunks pieces k (drop k (h ∷ hs))
 
 -- what is queued for the peer, in order
-unfoldable pub queuedFor : ℕ → List Note → List Ihave
-queuedFor p ns = map (λ n. record { id = n.id; round = n.round }) (filter (forPeer p) ns)
+unfoldable pub queued_for : ℕ → List Note → List Ihave
+queued_for p ns = map (λ n. record { id = n.id; round = n.round }) (filter (for_peer p) ns)
 
 -- "peers ascending": those for whom something is queued
-unfoldable pub queuedPeers : List Note → List ℕ
-queuedPeers [] = []
-queuedPeers (n ∷ ns) = insertKey n.peer (queuedPeers ns)
+unfoldable pub queued_peers : List Note → List ℕ
+queued_peers [] = []
+queued_peers (n ∷ ns) = insert_key n.peer (queued_peers ns)
 
 -- each message in turn; "handed back are noted"
-unfoldable pub sendChunks : ℕ → List (List Ihave) → Run → Run
-sendChunks p [] r = r
-sendChunks p (hs ∷ rest) r = sendChunks p rest (sendIhave p hs r)
+unfoldable pub send_chunks : ℕ → List (List Ihave) → Run → Run
+send_chunks p [] r = r
+send_chunks p (hs ∷ rest) r = send_chunks p rest (send_ihave p hs r)
 
 -- each peer in turn, with all that is queued for it
-unfoldable pub dispatchTo : List ℕ → ℕ → List Note → Run → Run
-dispatchTo [] k ns r = r
-dispatchTo (p ∷ ps) k ns r = dispatchTo ps k ns (sendChunks p (chunks (length ns) k (queuedFor p ns)) r)
+unfoldable pub dispatch_to : List ℕ → ℕ → List Note → Run → Run
+dispatch_to [] k ns r = r
+dispatch_to (p ∷ ps) k ns r = dispatch_to ps k ns (send_chunks p (chunks (length ns) k (queued_for p ns)) r)
 
 -- the flag goes at the end
-unfoldable pub clearDispatch : Run → Run
-clearDispatch r = r ▷ withState (withDispatchScheduled false r.state)
+unfoldable pub clear_dispatch : Run → Run
+clear_dispatch r = r ▷ with_state (with_dispatch_scheduled false r.state)
 
 -- `on_dispatch_timer`: "Dispatch empties the queue"
-unfoldable pub onDispatchTimer : Run → Run
-onDispatchTimer r =
-    r ▷ withState (withQueue [] r.state)
-    ▷ dispatchTo (queuedPeers r.state.queue) (perMessage r.state.settings.maxMessageSize) r.state.queue
-    ▷ clearDispatch
+unfoldable pub on_dispatch_timer : Run → Run
+on_dispatch_timer r =
+    r ▷ with_state (with_queue [] r.state)
+    ▷ dispatch_to (queued_peers r.state.queue) (per_message r.state.settings.max_message_size) r.state.queue
+    ▷ clear_dispatch
 
 -- "the oldest 64 per peer": `seen` are the entries passed so far
 unfoldable pub oldest : List Note → List Note → List Note
 oldest seen [] = []
-oldest seen (n ∷ ns) = if ltb (count (forPeer n.peer) seen) 64 then n ∷ oldest (n ∷ seen) ns else oldest (n ∷ seen) ns
+oldest seen (n ∷ ns) = if ltb (count (for_peer n.peer) seen) 64 then n ∷ oldest (n ∷ seen) ns else oldest (n ∷ seen) ns
 
 -- the others
 unfoldable pub younger : List Note → List Note → List Note
 younger seen [] = []
-younger seen (n ∷ ns) = if ltb (count (forPeer n.peer) seen) 64 then younger (n ∷ seen) ns else n ∷ younger (n ∷ seen) ns
+younger seen (n ∷ ns) = if ltb (count (for_peer n.peer) seen) 64 then younger (n ∷ seen) ns else n ∷ younger (n ∷ seen) ns
 
 -- "drops uncached identifiers, moves the oldest 64 per peer to its queue"
-unfoldable pub moveOldest : List Note → State → State
-moveOldest standing s =
-    s ▷ withQueue (s.queue ++ oldest [] standing) ▷ withDropped (younger [] standing) ▷ withAnnounceScheduled false
+unfoldable pub move_oldest : List Note → State → State
+move_oldest standing s =
+    s ▷ with_queue (s.queue ++ oldest [] standing) ▷ with_dropped (younger [] standing) ▷ with_announce_scheduled false
 
 -- the recorded identifiers that are still cached
-unfoldable pub stillCached : State → List Note
-stillCached s = filter (λ n. holds n.id s.cache) s.dropped
+unfoldable pub still_cached : State → List Note
+still_cached s = filter (λ n. holds n.id s.cache) s.dropped
 
 -- "schedules dispatch if a queue stands"
-unfoldable pub dispatchIfQueued : Run → Run
-dispatchIfQueued r = if is_empty r.state.queue then r else scheduleDispatch r
+unfoldable pub dispatch_if_queued : Run → Run
+dispatch_if_queued r = if is_empty r.state.queue then r else schedule_dispatch r
 
 -- `on_announce_dropped_timer`
-unfoldable pub onAnnounceDroppedTimer : Run → Run
-onAnnounceDroppedTimer r =
-    r ▷ withState (moveOldest (stillCached r.state) r.state) ▷ dispatchIfQueued ▷ scheduleAnnounceDropped
+unfoldable pub on_announce_dropped_timer : Run → Run
+on_announce_dropped_timer r =
+    r ▷ with_state (move_oldest (still_cached r.state) r.state) ▷ dispatch_if_queued ▷ schedule_announce_dropped
 
 -- "EvictCache expires message cache, received and grafted, in that order"
 unfoldable pub evict : ℕ → State → State
 evict now s =
-    s ▷ withCache (expireUntil now s.cache) ▷ withReceived (expireUntil now s.received) ▷ withGrafted (expireUntil now s.grafted)
+    s ▷ with_cache (expire_until now s.cache) ▷ with_received (expire_until now s.received) ▷ with_grafted (expire_until now s.grafted)
 
 -- `on_evict_cache_timer`: "then schedules itself"
-unfoldable pub onEvictCacheTimer : ℕ → Run → Run
-onEvictCacheTimer now r =
-    r ▷ withState (evict now r.state) ▷ schedule r.state.settings.cacheEvictInterval EvictCache
+unfoldable pub on_evict_cache_timer : ℕ → Run → Run
+on_evict_cache_timer now r =
+    r ▷ with_state (evict now r.state) ▷ schedule r.state.settings.cache_evict_interval EvictCache

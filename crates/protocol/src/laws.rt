@@ -1,6 +1,6 @@
 // The theorems over the definitions, each the contract of a function. Nothing runs: a contract is proved, and so these are.
 ghost use Rattle.std.specs.Prelude.{ℕ, List};
-ghost use Rattle.protocol.specs.Demand3.{Demand3};
+ghost use Rattle.protocol.specs.NoNeighbourPassedOver.{NoNeighbourPassedOver};
 ghost use Rattle.protocol.specs.Notings.{MetFullExact};
 ghost use Rattle.protocol.specs.SameMeaning.{SameMeaning};
 ghost use Rattle.protocol.specs.AlikeCalls.AlikeFiner.{AlikeFiner};
@@ -8,7 +8,7 @@ ghost use Rattle.protocol.specs.AlikeCalls.CommissioningSheet.{CommissioningShee
 
 // Whatever the identifier function: "for every list of event calls (…; refused ones too) from a fresh panel, after it this holds".
 pub fn no_neighbour_passed_over()
-    ensures { (hash : List ℕ → ℕ) → Demand3 hash }
+    ensures { (hash : List ℕ → ℕ) → NoNeighbourPassedOver hash }
 {}
 
 // "It met a full record when …": what a call's actions and state tell of it is exactly what `note_dropped` came to.

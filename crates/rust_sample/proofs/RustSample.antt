@@ -23,28 +23,28 @@ use Rattle.protocol.specs.Handle as Handle
 use Rattle.protocol.specs.Calls as Calls
 use Rattle.protocol.specs.Alike as Alike
 use Rattle.storage.specs.Lists.Map.{entry}
-use Rattle.postcard.specs.Number.{bigEndian}
+use Rattle.postcard.specs.Number.{big_endian}
 use Rattle.protocol.specs.Links.{eager, lazy}
 use Rattle.protocol.specs.State.{State, Settings, Limits, Counts, Hop, Note, fresh}
 use Rattle.protocol.specs.Run.{Room}
-use Rattle.protocol.specs.Answer.{Call, Answer, refuse, accept, outputOf}
-use Rattle.protocol.specs.Calls.{Ran, runCalls}
+use Rattle.protocol.specs.Answer.{Call, Answer, refuse, accept, output_of}
+use Rattle.protocol.specs.Calls.{Ran, run_calls}
 use Rattle.protocol.specs.Alike.{same_list, alike}
 
 -- the bytes of a number, the first highest
 abbrev bytes : ℕ → ℕ → List ℕ
-bytes n x = bigEndian n x
+bytes n x = big_endian n x
 
 abbrev settings : ℕ → ℕ → ℕ → ℕ → ℕ → ℕ → ℕ → ℕ → ℕ → Settings
 settings a b c d e f g m me = record {
-  graftTimeout1 = a;
-  graftTimeout2 = b;
-  dispatchTimeout = c;
-  optimizationThreshold = d;
-  messageCacheRetention = e;
-  messageIdRetention = f;
-  cacheEvictInterval = g;
-  maxMessageSize = m;
+  graft_timeout_1 = a;
+  graft_timeout_2 = b;
+  dispatch_timeout = c;
+  optimization_threshold = d;
+  message_cache_retention = e;
+  message_id_retention = f;
+  cache_evict_interval = g;
+  max_message_size = m;
   me = me;
 }
 
@@ -73,16 +73,16 @@ data Said : Type 0 where
 
 abbrev said : Answer → Said
 said (refuse n) = no n
-said (accept e r) = yes (outputOf r)
+said (accept e r) = yes (output_of r)
 
-abbrev sameSaid : Said → Said → Bool
-sameSaid (no m) (no n) = eqb m n
-sameSaid (no m) (yes b) = false
-sameSaid (yes a) (no n) = false
-sameSaid (yes a) (yes b) = same_list eqb a b
+abbrev same_said : Said → Said → Bool
+same_said (no m) (no n) = eqb m n
+same_said (no m) (yes b) = false
+same_said (yes a) (no n) = false
+same_said (yes a) (yes b) = same_list eqb a b
 
-abbrev sameCounts : Counts → Counts → Bool
-sameCounts a b = eqb a.payload b.payload && eqb a.control b.control && eqb a.hops b.hops
+abbrev same_counts : Counts → Counts → Bool
+same_counts a b = eqb a.payload b.payload && eqb a.control b.control && eqb a.hops b.hops
 
 -- a panel, calls upon it, and what the Rust made of them
 record Section : Type 0 where
@@ -91,7 +91,7 @@ record Section : Type 0 where
   calls : List Call
   answers : List Said
   end : State
-  endCounts : Counts
+  end_counts : Counts
 
 -- a content and its identifier
 record Named : Type 0 where
@@ -105,7 +105,7 @@ named (n ∷ ns) content = if same_list eqb n.content content then n.id else nam
 
 -- answers, state and counts agree
 abbrev compare : Ran → Section → List Bool
-compare r x = same_list sameSaid (map said r.answers) x.answers ∷ alike r.state x.end ∷ sameCounts r.counts x.endCounts ∷ []
+compare r x = same_list same_said (map said r.answers) x.answers ∷ alike r.state x.end ∷ same_counts r.counts x.end_counts ∷ []
 
 names : List Named
 names =
@@ -260,7 +260,7 @@ section1 = record {
     timers = record { graft = []; dispatch = true; announce = false };
     init = true;
   };
-  endCounts = (counts 18446744073709551615 18446744073709551615 8);
+  end_counts = (counts 18446744073709551615 18446744073709551615 8);
 }
 
 -- 4 calls
@@ -303,7 +303,7 @@ section2 = record {
     timers = record { graft = []; dispatch = true; announce = false };
     init = true;
   };
-  endCounts = (counts 0 2 0);
+  end_counts = (counts 0 2 0);
 }
 
 -- 7 calls
@@ -340,7 +340,7 @@ section3 = record {
     timers = record { graft = []; dispatch = true; announce = false };
     init = true;
   };
-  endCounts = (counts 3 1 4);
+  end_counts = (counts 3 1 4);
 }
 
 -- 11 calls
@@ -385,7 +385,7 @@ section4 = record {
     timers = record { graft = 0x60cab5f9ced81f5890d6c6daee6ad18f28e5b9388a7241e3dc79b7e9723a98ec ∷ []; dispatch = true; announce = false };
     init = true;
   };
-  endCounts = (counts 4 5 4);
+  end_counts = (counts 4 5 4);
 }
 
 -- 11 calls
@@ -430,7 +430,7 @@ section5 = record {
     timers = record { graft = 0x60cab5f9ced81f5890d6c6daee6ad18f28e5b9388a7241e3dc79b7e9723a98ec ∷ []; dispatch = true; announce = false };
     init = true;
   };
-  endCounts = (counts 4 5 4);
+  end_counts = (counts 4 5 4);
 }
 
 -- 22 calls
@@ -497,7 +497,7 @@ section6 = record {
     timers = record { graft = []; dispatch = true; announce = false };
     init = true;
   };
-  endCounts = (counts 2 1 128);
+  end_counts = (counts 2 1 128);
 }
 
 -- 16 calls
@@ -552,7 +552,7 @@ section7 = record {
     timers = record { graft = []; dispatch = true; announce = true };
     init = true;
   };
-  endCounts = (counts 1 4 4);
+  end_counts = (counts 1 4 4);
 }
 
 -- 16 calls
@@ -607,7 +607,7 @@ section8 = record {
     timers = record { graft = []; dispatch = false; announce = false };
     init = true;
   };
-  endCounts = (counts 5 3 15);
+  end_counts = (counts 5 3 15);
 }
 
 -- 16 calls
@@ -662,7 +662,7 @@ section9 = record {
     timers = record { graft = []; dispatch = false; announce = false };
     init = true;
   };
-  endCounts = (counts 1 2 0);
+  end_counts = (counts 1 2 0);
 }
 
 -- 16 calls
@@ -717,7 +717,7 @@ section10 = record {
     timers = record { graft = 0x15487b2beb1d468884325577b4df29205068c6079944ca5cbdc73eec95f1029d ∷ 0x8e491eff4a34bad6e5fb1f6b83c4a09b8a6683b61fc1e9d3702c3fee2df277f3 ∷ 0x90f5ed5e1513b11be4e541776c6a454c1196e0fa1310f0addd61868daf1fae4f ∷ 0xa1defabffa87e20b72abf3c54c1e4394e8abffec9fb2e689e36b96db62eda8e8 ∷ 0xaf272a8d2a77feaef8412c12800855cec1367fe6a1660b3d3cc92785772f77b8 ∷ []; dispatch = true; announce = false };
     init = true;
   };
-  endCounts = (counts 5 4 9);
+  end_counts = (counts 5 4 9);
 }
 
 -- 4 calls
@@ -748,7 +748,7 @@ section11 = record {
     timers = record { graft = []; dispatch = true; announce = false };
     init = true;
   };
-  endCounts = (counts 1 0 7);
+  end_counts = (counts 1 0 7);
 }
 
 -- 12 calls
@@ -795,7 +795,7 @@ section12 = record {
     timers = record { graft = []; dispatch = true; announce = false };
     init = true;
   };
-  endCounts = (counts 2 7 13);
+  end_counts = (counts 2 7 13);
 }
 
 -- 8 calls
@@ -834,7 +834,7 @@ section13 = record {
     timers = record { graft = []; dispatch = true; announce = false };
     init = true;
   };
-  endCounts = (counts 0 3 0);
+  end_counts = (counts 0 3 0);
 }
 
 -- 12 calls
@@ -881,7 +881,7 @@ section14 = record {
     timers = record { graft = []; dispatch = false; announce = true };
     init = true;
   };
-  endCounts = (counts 1 3 7);
+  end_counts = (counts 1 3 7);
 }
 
 -- 12 calls
@@ -928,7 +928,7 @@ section15 = record {
     timers = record { graft = []; dispatch = true; announce = true };
     init = true;
   };
-  endCounts = (counts 1 3 6);
+  end_counts = (counts 1 3 6);
 }
 
 -- 8 calls
@@ -967,7 +967,7 @@ section16 = record {
     timers = record { graft = []; dispatch = true; announce = true };
     init = true;
   };
-  endCounts = (counts 1 1 6);
+  end_counts = (counts 1 1 6);
 }
 
 -- 4 calls
@@ -998,7 +998,7 @@ section17 = record {
     timers = record { graft = []; dispatch = false; announce = false };
     init = true;
   };
-  endCounts = (counts 0 0 0);
+  end_counts = (counts 0 0 0);
 }
 
 -- 12 calls
@@ -1045,7 +1045,7 @@ section18 = record {
     timers = record { graft = []; dispatch = false; announce = false };
     init = true;
   };
-  endCounts = (counts 0 1 0);
+  end_counts = (counts 0 1 0);
 }
 
 -- 8 calls
@@ -1084,7 +1084,7 @@ section19 = record {
     timers = record { graft = []; dispatch = true; announce = false };
     init = true;
   };
-  endCounts = (counts 1 1 10);
+  end_counts = (counts 1 1 10);
 }
 
 -- 8 calls
@@ -1123,7 +1123,7 @@ section20 = record {
     timers = record { graft = []; dispatch = false; announce = false };
     init = true;
   };
-  endCounts = (counts 0 1 0);
+  end_counts = (counts 0 1 0);
 }
 
 -- 16 calls
@@ -1178,7 +1178,7 @@ section21 = record {
     timers = record { graft = []; dispatch = true; announce = false };
     init = true;
   };
-  endCounts = (counts 5 3 128);
+  end_counts = (counts 5 3 128);
 }
 
 -- 16 calls
@@ -1233,7 +1233,7 @@ section22 = record {
     timers = record { graft = []; dispatch = true; announce = true };
     init = true;
   };
-  endCounts = (counts 0 3 0);
+  end_counts = (counts 0 3 0);
 }
 
 -- 8 calls
@@ -1272,7 +1272,7 @@ section23 = record {
     timers = record { graft = []; dispatch = false; announce = false };
     init = true;
   };
-  endCounts = (counts 1 0 0);
+  end_counts = (counts 1 0 0);
 }
 
 -- 44 calls
@@ -1383,7 +1383,7 @@ section24 = record {
     timers = record { graft = 0x1b92792f394a38d7da33d828057e12c60bcb7c0c860a999565bb4942871c4045 ∷ []; dispatch = false; announce = true };
     init = true;
   };
-  endCounts = (counts 10 14 65534);
+  end_counts = (counts 10 14 65534);
 }
 
 -- 20 calls
@@ -1446,7 +1446,7 @@ section25 = record {
     timers = record { graft = []; dispatch = true; announce = true };
     init = true;
   };
-  endCounts = (counts 4 1 65535);
+  end_counts = (counts 4 1 65535);
 }
 
 -- 4 calls
@@ -1477,7 +1477,7 @@ section26 = record {
     timers = record { graft = []; dispatch = true; announce = false };
     init = true;
   };
-  endCounts = (counts 1 0 4);
+  end_counts = (counts 1 0 4);
 }
 
 -- 4 calls
@@ -1508,7 +1508,7 @@ section27 = record {
     timers = record { graft = 0x1be0500681ef2cae3e3bd0eb9e5e33e4016d802d270f20be4b3bb5f37dfd08ac ∷ 0xd5f652feeb36a3dbebe7d78a221737eff671092c3041b83bc395954c0a41dcdf ∷ []; dispatch = false; announce = false };
     init = true;
   };
-  endCounts = (counts 0 1 0);
+  end_counts = (counts 0 1 0);
 }
 
 -- 4 calls
@@ -1539,7 +1539,7 @@ section28 = record {
     timers = record { graft = []; dispatch = false; announce = false };
     init = true;
   };
-  endCounts = (counts 0 0 0);
+  end_counts = (counts 0 0 0);
 }
 
 -- 4 calls
@@ -1570,7 +1570,7 @@ section29 = record {
     timers = record { graft = []; dispatch = false; announce = false };
     init = true;
   };
-  endCounts = (counts 1 1 0);
+  end_counts = (counts 1 1 0);
 }
 
 -- 4 calls
@@ -1601,7 +1601,7 @@ section30 = record {
     timers = record { graft = []; dispatch = false; announce = false };
     init = true;
   };
-  endCounts = (counts 0 1 0);
+  end_counts = (counts 0 1 0);
 }
 
 -- 24 calls
@@ -1672,7 +1672,7 @@ section31 = record {
     timers = record { graft = []; dispatch = true; announce = false };
     init = true;
   };
-  endCounts = (counts 2 6 3);
+  end_counts = (counts 2 6 3);
 }
 
 -- 8 calls
@@ -1711,7 +1711,7 @@ section32 = record {
     timers = record { graft = []; dispatch = false; announce = false };
     init = false;
   };
-  endCounts = (counts 0 0 0);
+  end_counts = (counts 0 0 0);
 }
 
 -- 48 calls
@@ -1830,7 +1830,7 @@ section33 = record {
     timers = record { graft = []; dispatch = false; announce = true };
     init = true;
   };
-  endCounts = (counts 9 16 129);
+  end_counts = (counts 9 16 129);
 }
 
 -- 12 calls
@@ -1877,7 +1877,7 @@ section34 = record {
     timers = record { graft = []; dispatch = true; announce = false };
     init = true;
   };
-  endCounts = (counts 2 2 9);
+  end_counts = (counts 2 2 9);
 }
 
 -- 48 calls
@@ -1996,7 +1996,7 @@ section35 = record {
     timers = record { graft = 0xe5bfef4ba7a9d0179f30f0636b0f4d7de6ef32ed11bbf509094b6edb836297e1 ∷ []; dispatch = true; announce = true };
     init = true;
   };
-  endCounts = (counts 9 7 15);
+  end_counts = (counts 9 7 15);
 }
 
 -- 48 calls
@@ -2115,7 +2115,7 @@ section36 = record {
     timers = record { graft = []; dispatch = true; announce = false };
     init = true;
   };
-  endCounts = (counts 6 18 9);
+  end_counts = (counts 6 18 9);
 }
 
 -- 24 calls
@@ -2186,7 +2186,7 @@ section37 = record {
     timers = record { graft = []; dispatch = true; announce = true };
     init = true;
   };
-  endCounts = (counts 8 7 11);
+  end_counts = (counts 8 7 11);
 }
 
 -- 24 calls
@@ -2257,7 +2257,7 @@ section38 = record {
     timers = record { graft = []; dispatch = true; announce = true };
     init = true;
   };
-  endCounts = (counts 7 4 8);
+  end_counts = (counts 7 4 8);
 }
 
 -- 28 calls
@@ -2336,7 +2336,7 @@ section39 = record {
     timers = record { graft = []; dispatch = true; announce = true };
     init = true;
   };
-  endCounts = (counts 5 9 127);
+  end_counts = (counts 5 9 127);
 }
 
 -- 36 calls
@@ -2431,24 +2431,24 @@ section40 = record {
     timers = record { graft = 0x8559cc6c78c5c9ba7bd3ec8dfa872d4292a37930f80832323c52fa94751c8b65 ∷ []; dispatch = false; announce = true };
     init = true;
   };
-  endCounts = (counts 6 11 15);
+  end_counts = (counts 6 11 15);
 }
 
 agrees : Section → List Bool
-agrees x = compare (runCalls hash x.begin x.counts x.calls) x
+agrees x = compare (run_calls hash x.begin x.counts x.calls) x
 
 rust-sample-1 : map agrees (section1 ∷ section2 ∷ section3 ∷ section4 ∷ section5 ∷ section6 ∷ section7 ∷ section8 ∷ section9 ∷ section10 ∷ section11 ∷ section12 ∷ section13 ∷ section14 ∷ section15 ∷ section16 ∷ section17 ∷ section18 ∷ []) ≡ replicate 18 (true ∷ true ∷ true ∷ [])
-unfolding agrees hash names named section1 section2 section3 section4 section5 section6 section7 section8 section9 section10 section11 section12 section13 section14 section15 section16 section17 section18 Base.filter Base.count Base.any Base.all Base.member Base.sum Base.concatMap Base.ascending Base.once Map.lookup Map.insert Map.remove Map.insertKey Map.removeKey Number.groups Number.numberBytes Number.numberLength Number.bigEndian Number.idBytes Number.fromBigEndian Number.readKind Number.readBytes Number.readId Number.lastGroup Number.readGroups Number.readNumber Number.readPadded Number.readRound Number.kindNumber Message.contentBytes Message.deliveryBytes Message.scopeByte Message.ihaveBytes Message.optionalIdBytes Message.messageBytes Message.timerBytes Message.eventBytes Message.takenByte Message.actionBytes Decode.readContent Decode.readPaddedContent Decode.deliveryOf Decode.deliveryKind Decode.readDelivery Decode.scope_of Decode.optionalIdOf Decode.readOptionalId Decode.readIhave Decode.readIhaves Decode.ihavesIn Decode.messageOf Decode.messageKind Decode.readMessage Decode.timerOf Decode.readTimer Decode.eventOf Decode.readEvent Decode.messagePart Decode.ended Decode.decodeEvent Decode.meaning TimeCache.value_of TimeCache.get TimeCache.addExpiry TimeCache.put TimeCache.withValue TimeCache.replace TimeCache.expiresAt TimeCache.pop TimeCache.due TimeCache.later TimeCache.popAll TimeCache.popped TimeCache.expireUntil TimeCache.expiredKeys TimeCache.expiresOnTime TimeCache.inPopOrder TimeCache.laterCache State.fresh State.zeroCounts State.sizeInRange State.durationsInRange State.up_to State.limitsInRange State.blockNeed State.create Run.act Run.hasRoom Run.useRoom Run.send Answer.messageFits Answer.countsBelow Answer.countsStay Answer.lastRound Answer.outputOf Answer.lastTwo Answer.tooFarMessage Answer.tooFar Answer.askOf Answer.askRead Answer.ask Answer.askWhole Answer.outcome Answer.answer_of Answer.answerBlock Whole.contentHeld Whole.cacheFits Whole.fits Whole.in_range Whole.keysOnce Whole.neighbours Whole.announcersWhole Whole.graftsWhole Whole.notedOnce Whole.recordWithin Whole.flagsStand Whole.whole Whole.longEnough Whole.wholeState Links.peersMarked Links.eagerPeers Links.lazyPeers Links.marked Links.eagerIn Links.markIfThere Links.addEager Links.addLazy Links.linkUp Links.linkDown Neighbours.onNeighborUp Neighbours.withoutAnnouncer Neighbours.forgetAnnouncer Neighbours.withoutNotes Neighbours.withoutGraft Neighbours.forgetGrafted Neighbours.forgetPeer Neighbours.onNeighborDown Push.scheduleDispatch Push.scheduleAnnounceDropped Push.recordFull Push.recordAlso Push.noteOne Push.noteEach Push.noteDropped Push.sendEach Push.handedBack Push.noteForEach Push.eagerTargets Push.noteAfter Push.pushTo Push.eagerPush Push.noteFor Push.lazyPush Push.sendIhave Gossips.markReceived Gossips.cacheAt Gossips.hopsOf Gossips.announcers Gossips.peersOf Gossips.graftedFor Gossips.withFirst Gossips.setFirst Gossips.graftOut Gossips.forgetMissing Gossips.raiseHops Gossips.leastFrom Gossips.farCloser Gossips.updateLinks Gossips.graftUnlessEager Gossips.pruneBack Gossips.optimizeTree Gossips.forgetAndOptimise Gossips.pushOn Gossips.takeIn Gossips.sameAs Gossips.noMoreHops Gossips.lateFrom Gossips.lateKind Gossips.withKept Gossips.setKept Gossips.onDuplicate Gossips.onLateGraftReply Gossips.onNew Gossips.onGossip Gossips.broadcastTo Gossips.broadcast Gossips.gossipSize Ticks.chunks Ticks.queuedFor Ticks.queuedPeers Ticks.sendChunks Ticks.dispatchTo Ticks.clearDispatch Ticks.onDispatchTimer Ticks.oldest Ticks.younger Ticks.moveOldest Ticks.stillCached Ticks.dispatchIfQueued Ticks.onAnnounceDroppedTimer Ticks.evict Ticks.onEvictCacheTimer Ticks.perMessage Control.addAnnouncer Control.announce Control.scheduleGraft Control.onAnnounced Control.onIHave Control.onPrune Control.replyWith Control.reply Control.onGraft Control.lower Control.withGraft Control.noteGraft Control.leaveAnnouncers Control.askFirst Control.unmark Control.onSendGraftTimer Handle.firstEvent Handle.onePayload Handle.oneControl Handle.countMessage Handle.ifNeighbour Handle.onTimer Handle.onMessage Handle.handleMessage Handle.handle Calls.stateAfter Calls.countsAfter Calls.prepend Calls.runCalls Alike.same_list Alike.sameOption Alike.sameMap Alike.sameMark Alike.sameHop Alike.sameNote Alike.sameNotes Alike.sameExpiry Alike.sameGrafts Alike.sameCached Alike.sameUnit Alike.sameCache Alike.sameSettings Alike.sameLimits Alike.sameTables Alike.sameCaches Alike.sameFlags Alike.alike Alike.likenessOf Alike.alikeBlocks
+unfolding agrees hash names named section1 section2 section3 section4 section5 section6 section7 section8 section9 section10 section11 section12 section13 section14 section15 section16 section17 section18 Base.filter Base.count Base.any Base.all Base.member Base.sum Base.concat_map Base.ascending Base.once Map.lookup Map.insert Map.remove Map.insert_key Map.remove_key Number.groups Number.number_bytes Number.number_length Number.big_endian Number.id_bytes Number.from_big_endian Number.read_kind Number.read_bytes Number.read_id Number.last_group Number.read_groups Number.read_number Number.read_padded Number.read_round Number.kind_number Message.content_bytes Message.delivery_bytes Message.scope_byte Message.ihave_bytes Message.optional_id_bytes Message.message_bytes Message.timer_bytes Message.event_bytes Message.taken_byte Message.action_bytes Decode.read_content Decode.read_padded_content Decode.delivery_of Decode.delivery_kind Decode.read_delivery Decode.scope_of Decode.optional_id_of Decode.read_optional_id Decode.read_ihave Decode.read_ihaves Decode.ihaves_in Decode.message_of Decode.message_kind Decode.read_message Decode.timer_of Decode.read_timer Decode.event_of Decode.read_event Decode.message_part Decode.ended Decode.decode_event Decode.meaning TimeCache.value_of TimeCache.get TimeCache.add_expiry TimeCache.put TimeCache.with_value TimeCache.replace TimeCache.expires_at TimeCache.pop TimeCache.due TimeCache.later TimeCache.pop_all TimeCache.popped TimeCache.expire_until TimeCache.expired_keys TimeCache.expires_on_time TimeCache.in_pop_order TimeCache.later_cache State.fresh State.zero_counts State.size_in_range State.durations_in_range State.up_to State.limits_in_range State.block_need State.create Run.act Run.has_room Run.use_room Run.send Answer.message_fits Answer.counts_below Answer.counts_stay Answer.last_round Answer.output_of Answer.last_two Answer.too_far_message Answer.too_far Answer.ask_of Answer.ask_read Answer.ask Answer.ask_whole Answer.outcome Answer.answer_of Answer.answer_block Whole.content_held Whole.cache_fits Whole.fits Whole.in_range Whole.keys_once Whole.neighbours Whole.announcers_whole Whole.grafts_whole Whole.noted_once Whole.record_within Whole.flags_stand Whole.whole Whole.long_enough Whole.whole_state Links.peers_marked Links.eager_peers Links.lazy_peers Links.marked Links.eager_in Links.mark_if_there Links.add_eager Links.add_lazy Links.link_up Links.link_down Neighbours.on_neighbor_up Neighbours.without_announcer Neighbours.forget_announcer Neighbours.without_notes Neighbours.without_graft Neighbours.forget_grafted Neighbours.forget_peer Neighbours.on_neighbor_down Push.schedule_dispatch Push.schedule_announce_dropped Push.record_full Push.record_also Push.note_one Push.note_each Push.note_dropped Push.send_each Push.handed_back Push.note_for_each Push.eager_targets Push.note_after Push.push_to Push.eager_push Push.note_for Push.lazy_push Push.send_ihave Gossips.mark_received Gossips.cache_at Gossips.hops_of Gossips.announcers Gossips.peers_of Gossips.grafted_for Gossips.with_first Gossips.set_first Gossips.graft_out Gossips.forget_missing Gossips.raise_hops Gossips.least_from Gossips.far_closer Gossips.update_links Gossips.graft_unless_eager Gossips.prune_back Gossips.optimize_tree Gossips.forget_and_optimise Gossips.push_on Gossips.take_in Gossips.same_as Gossips.no_more_hops Gossips.late_from Gossips.late_kind Gossips.with_kept Gossips.set_kept Gossips.on_duplicate Gossips.on_late_graft_reply Gossips.on_new Gossips.on_gossip Gossips.broadcast_to Gossips.broadcast Gossips.gossip_size Ticks.chunks Ticks.queued_for Ticks.queued_peers Ticks.send_chunks Ticks.dispatch_to Ticks.clear_dispatch Ticks.on_dispatch_timer Ticks.oldest Ticks.younger Ticks.move_oldest Ticks.still_cached Ticks.dispatch_if_queued Ticks.on_announce_dropped_timer Ticks.evict Ticks.on_evict_cache_timer Ticks.per_message Control.add_announcer Control.announce Control.schedule_graft Control.on_announced Control.on_ihave Control.on_prune Control.reply_with Control.reply Control.on_graft Control.lower Control.with_graft Control.note_graft Control.leave_announcers Control.ask_first Control.unmark Control.on_send_graft_timer Handle.first_event Handle.one_payload Handle.one_control Handle.count_message Handle.if_neighbour Handle.on_timer Handle.on_message Handle.handle_message Handle.handle Calls.state_after Calls.counts_after Calls.prepend Calls.run_calls Alike.same_list Alike.same_option Alike.same_map Alike.same_mark Alike.same_hop Alike.same_note Alike.same_notes Alike.same_expiry Alike.same_grafts Alike.same_cached Alike.same_unit Alike.same_cache Alike.same_settings Alike.same_limits Alike.same_tables Alike.same_caches Alike.same_flags Alike.alike Alike.likeness_of Alike.alike_blocks
 rust-sample-1 = refl
 
 rust-sample-2 : map agrees (section19 ∷ section20 ∷ section21 ∷ section22 ∷ section23 ∷ section24 ∷ section25 ∷ section26 ∷ section27 ∷ section28 ∷ section29 ∷ section30 ∷ section31 ∷ section32 ∷ []) ≡ replicate 14 (true ∷ true ∷ true ∷ [])
-unfolding agrees hash names named section19 section20 section21 section22 section23 section24 section25 section26 section27 section28 section29 section30 section31 section32 Base.filter Base.count Base.any Base.all Base.member Base.sum Base.concatMap Base.ascending Base.once Map.lookup Map.insert Map.remove Map.insertKey Map.removeKey Number.groups Number.numberBytes Number.numberLength Number.bigEndian Number.idBytes Number.fromBigEndian Number.readKind Number.readBytes Number.readId Number.lastGroup Number.readGroups Number.readNumber Number.readPadded Number.readRound Number.kindNumber Message.contentBytes Message.deliveryBytes Message.scopeByte Message.ihaveBytes Message.optionalIdBytes Message.messageBytes Message.timerBytes Message.eventBytes Message.takenByte Message.actionBytes Decode.readContent Decode.readPaddedContent Decode.deliveryOf Decode.deliveryKind Decode.readDelivery Decode.scope_of Decode.optionalIdOf Decode.readOptionalId Decode.readIhave Decode.readIhaves Decode.ihavesIn Decode.messageOf Decode.messageKind Decode.readMessage Decode.timerOf Decode.readTimer Decode.eventOf Decode.readEvent Decode.messagePart Decode.ended Decode.decodeEvent Decode.meaning TimeCache.value_of TimeCache.get TimeCache.addExpiry TimeCache.put TimeCache.withValue TimeCache.replace TimeCache.expiresAt TimeCache.pop TimeCache.due TimeCache.later TimeCache.popAll TimeCache.popped TimeCache.expireUntil TimeCache.expiredKeys TimeCache.expiresOnTime TimeCache.inPopOrder TimeCache.laterCache State.fresh State.zeroCounts State.sizeInRange State.durationsInRange State.up_to State.limitsInRange State.blockNeed State.create Run.act Run.hasRoom Run.useRoom Run.send Answer.messageFits Answer.countsBelow Answer.countsStay Answer.lastRound Answer.outputOf Answer.lastTwo Answer.tooFarMessage Answer.tooFar Answer.askOf Answer.askRead Answer.ask Answer.askWhole Answer.outcome Answer.answer_of Answer.answerBlock Whole.contentHeld Whole.cacheFits Whole.fits Whole.in_range Whole.keysOnce Whole.neighbours Whole.announcersWhole Whole.graftsWhole Whole.notedOnce Whole.recordWithin Whole.flagsStand Whole.whole Whole.longEnough Whole.wholeState Links.peersMarked Links.eagerPeers Links.lazyPeers Links.marked Links.eagerIn Links.markIfThere Links.addEager Links.addLazy Links.linkUp Links.linkDown Neighbours.onNeighborUp Neighbours.withoutAnnouncer Neighbours.forgetAnnouncer Neighbours.withoutNotes Neighbours.withoutGraft Neighbours.forgetGrafted Neighbours.forgetPeer Neighbours.onNeighborDown Push.scheduleDispatch Push.scheduleAnnounceDropped Push.recordFull Push.recordAlso Push.noteOne Push.noteEach Push.noteDropped Push.sendEach Push.handedBack Push.noteForEach Push.eagerTargets Push.noteAfter Push.pushTo Push.eagerPush Push.noteFor Push.lazyPush Push.sendIhave Gossips.markReceived Gossips.cacheAt Gossips.hopsOf Gossips.announcers Gossips.peersOf Gossips.graftedFor Gossips.withFirst Gossips.setFirst Gossips.graftOut Gossips.forgetMissing Gossips.raiseHops Gossips.leastFrom Gossips.farCloser Gossips.updateLinks Gossips.graftUnlessEager Gossips.pruneBack Gossips.optimizeTree Gossips.forgetAndOptimise Gossips.pushOn Gossips.takeIn Gossips.sameAs Gossips.noMoreHops Gossips.lateFrom Gossips.lateKind Gossips.withKept Gossips.setKept Gossips.onDuplicate Gossips.onLateGraftReply Gossips.onNew Gossips.onGossip Gossips.broadcastTo Gossips.broadcast Gossips.gossipSize Ticks.chunks Ticks.queuedFor Ticks.queuedPeers Ticks.sendChunks Ticks.dispatchTo Ticks.clearDispatch Ticks.onDispatchTimer Ticks.oldest Ticks.younger Ticks.moveOldest Ticks.stillCached Ticks.dispatchIfQueued Ticks.onAnnounceDroppedTimer Ticks.evict Ticks.onEvictCacheTimer Ticks.perMessage Control.addAnnouncer Control.announce Control.scheduleGraft Control.onAnnounced Control.onIHave Control.onPrune Control.replyWith Control.reply Control.onGraft Control.lower Control.withGraft Control.noteGraft Control.leaveAnnouncers Control.askFirst Control.unmark Control.onSendGraftTimer Handle.firstEvent Handle.onePayload Handle.oneControl Handle.countMessage Handle.ifNeighbour Handle.onTimer Handle.onMessage Handle.handleMessage Handle.handle Calls.stateAfter Calls.countsAfter Calls.prepend Calls.runCalls Alike.same_list Alike.sameOption Alike.sameMap Alike.sameMark Alike.sameHop Alike.sameNote Alike.sameNotes Alike.sameExpiry Alike.sameGrafts Alike.sameCached Alike.sameUnit Alike.sameCache Alike.sameSettings Alike.sameLimits Alike.sameTables Alike.sameCaches Alike.sameFlags Alike.alike Alike.likenessOf Alike.alikeBlocks
+unfolding agrees hash names named section19 section20 section21 section22 section23 section24 section25 section26 section27 section28 section29 section30 section31 section32 Base.filter Base.count Base.any Base.all Base.member Base.sum Base.concat_map Base.ascending Base.once Map.lookup Map.insert Map.remove Map.insert_key Map.remove_key Number.groups Number.number_bytes Number.number_length Number.big_endian Number.id_bytes Number.from_big_endian Number.read_kind Number.read_bytes Number.read_id Number.last_group Number.read_groups Number.read_number Number.read_padded Number.read_round Number.kind_number Message.content_bytes Message.delivery_bytes Message.scope_byte Message.ihave_bytes Message.optional_id_bytes Message.message_bytes Message.timer_bytes Message.event_bytes Message.taken_byte Message.action_bytes Decode.read_content Decode.read_padded_content Decode.delivery_of Decode.delivery_kind Decode.read_delivery Decode.scope_of Decode.optional_id_of Decode.read_optional_id Decode.read_ihave Decode.read_ihaves Decode.ihaves_in Decode.message_of Decode.message_kind Decode.read_message Decode.timer_of Decode.read_timer Decode.event_of Decode.read_event Decode.message_part Decode.ended Decode.decode_event Decode.meaning TimeCache.value_of TimeCache.get TimeCache.add_expiry TimeCache.put TimeCache.with_value TimeCache.replace TimeCache.expires_at TimeCache.pop TimeCache.due TimeCache.later TimeCache.pop_all TimeCache.popped TimeCache.expire_until TimeCache.expired_keys TimeCache.expires_on_time TimeCache.in_pop_order TimeCache.later_cache State.fresh State.zero_counts State.size_in_range State.durations_in_range State.up_to State.limits_in_range State.block_need State.create Run.act Run.has_room Run.use_room Run.send Answer.message_fits Answer.counts_below Answer.counts_stay Answer.last_round Answer.output_of Answer.last_two Answer.too_far_message Answer.too_far Answer.ask_of Answer.ask_read Answer.ask Answer.ask_whole Answer.outcome Answer.answer_of Answer.answer_block Whole.content_held Whole.cache_fits Whole.fits Whole.in_range Whole.keys_once Whole.neighbours Whole.announcers_whole Whole.grafts_whole Whole.noted_once Whole.record_within Whole.flags_stand Whole.whole Whole.long_enough Whole.whole_state Links.peers_marked Links.eager_peers Links.lazy_peers Links.marked Links.eager_in Links.mark_if_there Links.add_eager Links.add_lazy Links.link_up Links.link_down Neighbours.on_neighbor_up Neighbours.without_announcer Neighbours.forget_announcer Neighbours.without_notes Neighbours.without_graft Neighbours.forget_grafted Neighbours.forget_peer Neighbours.on_neighbor_down Push.schedule_dispatch Push.schedule_announce_dropped Push.record_full Push.record_also Push.note_one Push.note_each Push.note_dropped Push.send_each Push.handed_back Push.note_for_each Push.eager_targets Push.note_after Push.push_to Push.eager_push Push.note_for Push.lazy_push Push.send_ihave Gossips.mark_received Gossips.cache_at Gossips.hops_of Gossips.announcers Gossips.peers_of Gossips.grafted_for Gossips.with_first Gossips.set_first Gossips.graft_out Gossips.forget_missing Gossips.raise_hops Gossips.least_from Gossips.far_closer Gossips.update_links Gossips.graft_unless_eager Gossips.prune_back Gossips.optimize_tree Gossips.forget_and_optimise Gossips.push_on Gossips.take_in Gossips.same_as Gossips.no_more_hops Gossips.late_from Gossips.late_kind Gossips.with_kept Gossips.set_kept Gossips.on_duplicate Gossips.on_late_graft_reply Gossips.on_new Gossips.on_gossip Gossips.broadcast_to Gossips.broadcast Gossips.gossip_size Ticks.chunks Ticks.queued_for Ticks.queued_peers Ticks.send_chunks Ticks.dispatch_to Ticks.clear_dispatch Ticks.on_dispatch_timer Ticks.oldest Ticks.younger Ticks.move_oldest Ticks.still_cached Ticks.dispatch_if_queued Ticks.on_announce_dropped_timer Ticks.evict Ticks.on_evict_cache_timer Ticks.per_message Control.add_announcer Control.announce Control.schedule_graft Control.on_announced Control.on_ihave Control.on_prune Control.reply_with Control.reply Control.on_graft Control.lower Control.with_graft Control.note_graft Control.leave_announcers Control.ask_first Control.unmark Control.on_send_graft_timer Handle.first_event Handle.one_payload Handle.one_control Handle.count_message Handle.if_neighbour Handle.on_timer Handle.on_message Handle.handle_message Handle.handle Calls.state_after Calls.counts_after Calls.prepend Calls.run_calls Alike.same_list Alike.same_option Alike.same_map Alike.same_mark Alike.same_hop Alike.same_note Alike.same_notes Alike.same_expiry Alike.same_grafts Alike.same_cached Alike.same_unit Alike.same_cache Alike.same_settings Alike.same_limits Alike.same_tables Alike.same_caches Alike.same_flags Alike.alike Alike.likeness_of Alike.alike_blocks
 rust-sample-2 = refl
 
 rust-sample-3 : map agrees (section33 ∷ section34 ∷ section35 ∷ section36 ∷ section37 ∷ []) ≡ replicate 5 (true ∷ true ∷ true ∷ [])
-unfolding agrees hash names named section33 section34 section35 section36 section37 Base.filter Base.count Base.any Base.all Base.member Base.sum Base.concatMap Base.ascending Base.once Map.lookup Map.insert Map.remove Map.insertKey Map.removeKey Number.groups Number.numberBytes Number.numberLength Number.bigEndian Number.idBytes Number.fromBigEndian Number.readKind Number.readBytes Number.readId Number.lastGroup Number.readGroups Number.readNumber Number.readPadded Number.readRound Number.kindNumber Message.contentBytes Message.deliveryBytes Message.scopeByte Message.ihaveBytes Message.optionalIdBytes Message.messageBytes Message.timerBytes Message.eventBytes Message.takenByte Message.actionBytes Decode.readContent Decode.readPaddedContent Decode.deliveryOf Decode.deliveryKind Decode.readDelivery Decode.scope_of Decode.optionalIdOf Decode.readOptionalId Decode.readIhave Decode.readIhaves Decode.ihavesIn Decode.messageOf Decode.messageKind Decode.readMessage Decode.timerOf Decode.readTimer Decode.eventOf Decode.readEvent Decode.messagePart Decode.ended Decode.decodeEvent Decode.meaning TimeCache.value_of TimeCache.get TimeCache.addExpiry TimeCache.put TimeCache.withValue TimeCache.replace TimeCache.expiresAt TimeCache.pop TimeCache.due TimeCache.later TimeCache.popAll TimeCache.popped TimeCache.expireUntil TimeCache.expiredKeys TimeCache.expiresOnTime TimeCache.inPopOrder TimeCache.laterCache State.fresh State.zeroCounts State.sizeInRange State.durationsInRange State.up_to State.limitsInRange State.blockNeed State.create Run.act Run.hasRoom Run.useRoom Run.send Answer.messageFits Answer.countsBelow Answer.countsStay Answer.lastRound Answer.outputOf Answer.lastTwo Answer.tooFarMessage Answer.tooFar Answer.askOf Answer.askRead Answer.ask Answer.askWhole Answer.outcome Answer.answer_of Answer.answerBlock Whole.contentHeld Whole.cacheFits Whole.fits Whole.in_range Whole.keysOnce Whole.neighbours Whole.announcersWhole Whole.graftsWhole Whole.notedOnce Whole.recordWithin Whole.flagsStand Whole.whole Whole.longEnough Whole.wholeState Links.peersMarked Links.eagerPeers Links.lazyPeers Links.marked Links.eagerIn Links.markIfThere Links.addEager Links.addLazy Links.linkUp Links.linkDown Neighbours.onNeighborUp Neighbours.withoutAnnouncer Neighbours.forgetAnnouncer Neighbours.withoutNotes Neighbours.withoutGraft Neighbours.forgetGrafted Neighbours.forgetPeer Neighbours.onNeighborDown Push.scheduleDispatch Push.scheduleAnnounceDropped Push.recordFull Push.recordAlso Push.noteOne Push.noteEach Push.noteDropped Push.sendEach Push.handedBack Push.noteForEach Push.eagerTargets Push.noteAfter Push.pushTo Push.eagerPush Push.noteFor Push.lazyPush Push.sendIhave Gossips.markReceived Gossips.cacheAt Gossips.hopsOf Gossips.announcers Gossips.peersOf Gossips.graftedFor Gossips.withFirst Gossips.setFirst Gossips.graftOut Gossips.forgetMissing Gossips.raiseHops Gossips.leastFrom Gossips.farCloser Gossips.updateLinks Gossips.graftUnlessEager Gossips.pruneBack Gossips.optimizeTree Gossips.forgetAndOptimise Gossips.pushOn Gossips.takeIn Gossips.sameAs Gossips.noMoreHops Gossips.lateFrom Gossips.lateKind Gossips.withKept Gossips.setKept Gossips.onDuplicate Gossips.onLateGraftReply Gossips.onNew Gossips.onGossip Gossips.broadcastTo Gossips.broadcast Gossips.gossipSize Ticks.chunks Ticks.queuedFor Ticks.queuedPeers Ticks.sendChunks Ticks.dispatchTo Ticks.clearDispatch Ticks.onDispatchTimer Ticks.oldest Ticks.younger Ticks.moveOldest Ticks.stillCached Ticks.dispatchIfQueued Ticks.onAnnounceDroppedTimer Ticks.evict Ticks.onEvictCacheTimer Ticks.perMessage Control.addAnnouncer Control.announce Control.scheduleGraft Control.onAnnounced Control.onIHave Control.onPrune Control.replyWith Control.reply Control.onGraft Control.lower Control.withGraft Control.noteGraft Control.leaveAnnouncers Control.askFirst Control.unmark Control.onSendGraftTimer Handle.firstEvent Handle.onePayload Handle.oneControl Handle.countMessage Handle.ifNeighbour Handle.onTimer Handle.onMessage Handle.handleMessage Handle.handle Calls.stateAfter Calls.countsAfter Calls.prepend Calls.runCalls Alike.same_list Alike.sameOption Alike.sameMap Alike.sameMark Alike.sameHop Alike.sameNote Alike.sameNotes Alike.sameExpiry Alike.sameGrafts Alike.sameCached Alike.sameUnit Alike.sameCache Alike.sameSettings Alike.sameLimits Alike.sameTables Alike.sameCaches Alike.sameFlags Alike.alike Alike.likenessOf Alike.alikeBlocks
+unfolding agrees hash names named section33 section34 section35 section36 section37 Base.filter Base.count Base.any Base.all Base.member Base.sum Base.concat_map Base.ascending Base.once Map.lookup Map.insert Map.remove Map.insert_key Map.remove_key Number.groups Number.number_bytes Number.number_length Number.big_endian Number.id_bytes Number.from_big_endian Number.read_kind Number.read_bytes Number.read_id Number.last_group Number.read_groups Number.read_number Number.read_padded Number.read_round Number.kind_number Message.content_bytes Message.delivery_bytes Message.scope_byte Message.ihave_bytes Message.optional_id_bytes Message.message_bytes Message.timer_bytes Message.event_bytes Message.taken_byte Message.action_bytes Decode.read_content Decode.read_padded_content Decode.delivery_of Decode.delivery_kind Decode.read_delivery Decode.scope_of Decode.optional_id_of Decode.read_optional_id Decode.read_ihave Decode.read_ihaves Decode.ihaves_in Decode.message_of Decode.message_kind Decode.read_message Decode.timer_of Decode.read_timer Decode.event_of Decode.read_event Decode.message_part Decode.ended Decode.decode_event Decode.meaning TimeCache.value_of TimeCache.get TimeCache.add_expiry TimeCache.put TimeCache.with_value TimeCache.replace TimeCache.expires_at TimeCache.pop TimeCache.due TimeCache.later TimeCache.pop_all TimeCache.popped TimeCache.expire_until TimeCache.expired_keys TimeCache.expires_on_time TimeCache.in_pop_order TimeCache.later_cache State.fresh State.zero_counts State.size_in_range State.durations_in_range State.up_to State.limits_in_range State.block_need State.create Run.act Run.has_room Run.use_room Run.send Answer.message_fits Answer.counts_below Answer.counts_stay Answer.last_round Answer.output_of Answer.last_two Answer.too_far_message Answer.too_far Answer.ask_of Answer.ask_read Answer.ask Answer.ask_whole Answer.outcome Answer.answer_of Answer.answer_block Whole.content_held Whole.cache_fits Whole.fits Whole.in_range Whole.keys_once Whole.neighbours Whole.announcers_whole Whole.grafts_whole Whole.noted_once Whole.record_within Whole.flags_stand Whole.whole Whole.long_enough Whole.whole_state Links.peers_marked Links.eager_peers Links.lazy_peers Links.marked Links.eager_in Links.mark_if_there Links.add_eager Links.add_lazy Links.link_up Links.link_down Neighbours.on_neighbor_up Neighbours.without_announcer Neighbours.forget_announcer Neighbours.without_notes Neighbours.without_graft Neighbours.forget_grafted Neighbours.forget_peer Neighbours.on_neighbor_down Push.schedule_dispatch Push.schedule_announce_dropped Push.record_full Push.record_also Push.note_one Push.note_each Push.note_dropped Push.send_each Push.handed_back Push.note_for_each Push.eager_targets Push.note_after Push.push_to Push.eager_push Push.note_for Push.lazy_push Push.send_ihave Gossips.mark_received Gossips.cache_at Gossips.hops_of Gossips.announcers Gossips.peers_of Gossips.grafted_for Gossips.with_first Gossips.set_first Gossips.graft_out Gossips.forget_missing Gossips.raise_hops Gossips.least_from Gossips.far_closer Gossips.update_links Gossips.graft_unless_eager Gossips.prune_back Gossips.optimize_tree Gossips.forget_and_optimise Gossips.push_on Gossips.take_in Gossips.same_as Gossips.no_more_hops Gossips.late_from Gossips.late_kind Gossips.with_kept Gossips.set_kept Gossips.on_duplicate Gossips.on_late_graft_reply Gossips.on_new Gossips.on_gossip Gossips.broadcast_to Gossips.broadcast Gossips.gossip_size Ticks.chunks Ticks.queued_for Ticks.queued_peers Ticks.send_chunks Ticks.dispatch_to Ticks.clear_dispatch Ticks.on_dispatch_timer Ticks.oldest Ticks.younger Ticks.move_oldest Ticks.still_cached Ticks.dispatch_if_queued Ticks.on_announce_dropped_timer Ticks.evict Ticks.on_evict_cache_timer Ticks.per_message Control.add_announcer Control.announce Control.schedule_graft Control.on_announced Control.on_ihave Control.on_prune Control.reply_with Control.reply Control.on_graft Control.lower Control.with_graft Control.note_graft Control.leave_announcers Control.ask_first Control.unmark Control.on_send_graft_timer Handle.first_event Handle.one_payload Handle.one_control Handle.count_message Handle.if_neighbour Handle.on_timer Handle.on_message Handle.handle_message Handle.handle Calls.state_after Calls.counts_after Calls.prepend Calls.run_calls Alike.same_list Alike.same_option Alike.same_map Alike.same_mark Alike.same_hop Alike.same_note Alike.same_notes Alike.same_expiry Alike.same_grafts Alike.same_cached Alike.same_unit Alike.same_cache Alike.same_settings Alike.same_limits Alike.same_tables Alike.same_caches Alike.same_flags Alike.alike Alike.likeness_of Alike.alike_blocks
 rust-sample-3 = refl
 
 rust-sample-4 : map agrees (section38 ∷ section39 ∷ section40 ∷ []) ≡ replicate 3 (true ∷ true ∷ true ∷ [])
-unfolding agrees hash names named section38 section39 section40 Base.filter Base.count Base.any Base.all Base.member Base.sum Base.concatMap Base.ascending Base.once Map.lookup Map.insert Map.remove Map.insertKey Map.removeKey Number.groups Number.numberBytes Number.numberLength Number.bigEndian Number.idBytes Number.fromBigEndian Number.readKind Number.readBytes Number.readId Number.lastGroup Number.readGroups Number.readNumber Number.readPadded Number.readRound Number.kindNumber Message.contentBytes Message.deliveryBytes Message.scopeByte Message.ihaveBytes Message.optionalIdBytes Message.messageBytes Message.timerBytes Message.eventBytes Message.takenByte Message.actionBytes Decode.readContent Decode.readPaddedContent Decode.deliveryOf Decode.deliveryKind Decode.readDelivery Decode.scope_of Decode.optionalIdOf Decode.readOptionalId Decode.readIhave Decode.readIhaves Decode.ihavesIn Decode.messageOf Decode.messageKind Decode.readMessage Decode.timerOf Decode.readTimer Decode.eventOf Decode.readEvent Decode.messagePart Decode.ended Decode.decodeEvent Decode.meaning TimeCache.value_of TimeCache.get TimeCache.addExpiry TimeCache.put TimeCache.withValue TimeCache.replace TimeCache.expiresAt TimeCache.pop TimeCache.due TimeCache.later TimeCache.popAll TimeCache.popped TimeCache.expireUntil TimeCache.expiredKeys TimeCache.expiresOnTime TimeCache.inPopOrder TimeCache.laterCache State.fresh State.zeroCounts State.sizeInRange State.durationsInRange State.up_to State.limitsInRange State.blockNeed State.create Run.act Run.hasRoom Run.useRoom Run.send Answer.messageFits Answer.countsBelow Answer.countsStay Answer.lastRound Answer.outputOf Answer.lastTwo Answer.tooFarMessage Answer.tooFar Answer.askOf Answer.askRead Answer.ask Answer.askWhole Answer.outcome Answer.answer_of Answer.answerBlock Whole.contentHeld Whole.cacheFits Whole.fits Whole.in_range Whole.keysOnce Whole.neighbours Whole.announcersWhole Whole.graftsWhole Whole.notedOnce Whole.recordWithin Whole.flagsStand Whole.whole Whole.longEnough Whole.wholeState Links.peersMarked Links.eagerPeers Links.lazyPeers Links.marked Links.eagerIn Links.markIfThere Links.addEager Links.addLazy Links.linkUp Links.linkDown Neighbours.onNeighborUp Neighbours.withoutAnnouncer Neighbours.forgetAnnouncer Neighbours.withoutNotes Neighbours.withoutGraft Neighbours.forgetGrafted Neighbours.forgetPeer Neighbours.onNeighborDown Push.scheduleDispatch Push.scheduleAnnounceDropped Push.recordFull Push.recordAlso Push.noteOne Push.noteEach Push.noteDropped Push.sendEach Push.handedBack Push.noteForEach Push.eagerTargets Push.noteAfter Push.pushTo Push.eagerPush Push.noteFor Push.lazyPush Push.sendIhave Gossips.markReceived Gossips.cacheAt Gossips.hopsOf Gossips.announcers Gossips.peersOf Gossips.graftedFor Gossips.withFirst Gossips.setFirst Gossips.graftOut Gossips.forgetMissing Gossips.raiseHops Gossips.leastFrom Gossips.farCloser Gossips.updateLinks Gossips.graftUnlessEager Gossips.pruneBack Gossips.optimizeTree Gossips.forgetAndOptimise Gossips.pushOn Gossips.takeIn Gossips.sameAs Gossips.noMoreHops Gossips.lateFrom Gossips.lateKind Gossips.withKept Gossips.setKept Gossips.onDuplicate Gossips.onLateGraftReply Gossips.onNew Gossips.onGossip Gossips.broadcastTo Gossips.broadcast Gossips.gossipSize Ticks.chunks Ticks.queuedFor Ticks.queuedPeers Ticks.sendChunks Ticks.dispatchTo Ticks.clearDispatch Ticks.onDispatchTimer Ticks.oldest Ticks.younger Ticks.moveOldest Ticks.stillCached Ticks.dispatchIfQueued Ticks.onAnnounceDroppedTimer Ticks.evict Ticks.onEvictCacheTimer Ticks.perMessage Control.addAnnouncer Control.announce Control.scheduleGraft Control.onAnnounced Control.onIHave Control.onPrune Control.replyWith Control.reply Control.onGraft Control.lower Control.withGraft Control.noteGraft Control.leaveAnnouncers Control.askFirst Control.unmark Control.onSendGraftTimer Handle.firstEvent Handle.onePayload Handle.oneControl Handle.countMessage Handle.ifNeighbour Handle.onTimer Handle.onMessage Handle.handleMessage Handle.handle Calls.stateAfter Calls.countsAfter Calls.prepend Calls.runCalls Alike.same_list Alike.sameOption Alike.sameMap Alike.sameMark Alike.sameHop Alike.sameNote Alike.sameNotes Alike.sameExpiry Alike.sameGrafts Alike.sameCached Alike.sameUnit Alike.sameCache Alike.sameSettings Alike.sameLimits Alike.sameTables Alike.sameCaches Alike.sameFlags Alike.alike Alike.likenessOf Alike.alikeBlocks
+unfolding agrees hash names named section38 section39 section40 Base.filter Base.count Base.any Base.all Base.member Base.sum Base.concat_map Base.ascending Base.once Map.lookup Map.insert Map.remove Map.insert_key Map.remove_key Number.groups Number.number_bytes Number.number_length Number.big_endian Number.id_bytes Number.from_big_endian Number.read_kind Number.read_bytes Number.read_id Number.last_group Number.read_groups Number.read_number Number.read_padded Number.read_round Number.kind_number Message.content_bytes Message.delivery_bytes Message.scope_byte Message.ihave_bytes Message.optional_id_bytes Message.message_bytes Message.timer_bytes Message.event_bytes Message.taken_byte Message.action_bytes Decode.read_content Decode.read_padded_content Decode.delivery_of Decode.delivery_kind Decode.read_delivery Decode.scope_of Decode.optional_id_of Decode.read_optional_id Decode.read_ihave Decode.read_ihaves Decode.ihaves_in Decode.message_of Decode.message_kind Decode.read_message Decode.timer_of Decode.read_timer Decode.event_of Decode.read_event Decode.message_part Decode.ended Decode.decode_event Decode.meaning TimeCache.value_of TimeCache.get TimeCache.add_expiry TimeCache.put TimeCache.with_value TimeCache.replace TimeCache.expires_at TimeCache.pop TimeCache.due TimeCache.later TimeCache.pop_all TimeCache.popped TimeCache.expire_until TimeCache.expired_keys TimeCache.expires_on_time TimeCache.in_pop_order TimeCache.later_cache State.fresh State.zero_counts State.size_in_range State.durations_in_range State.up_to State.limits_in_range State.block_need State.create Run.act Run.has_room Run.use_room Run.send Answer.message_fits Answer.counts_below Answer.counts_stay Answer.last_round Answer.output_of Answer.last_two Answer.too_far_message Answer.too_far Answer.ask_of Answer.ask_read Answer.ask Answer.ask_whole Answer.outcome Answer.answer_of Answer.answer_block Whole.content_held Whole.cache_fits Whole.fits Whole.in_range Whole.keys_once Whole.neighbours Whole.announcers_whole Whole.grafts_whole Whole.noted_once Whole.record_within Whole.flags_stand Whole.whole Whole.long_enough Whole.whole_state Links.peers_marked Links.eager_peers Links.lazy_peers Links.marked Links.eager_in Links.mark_if_there Links.add_eager Links.add_lazy Links.link_up Links.link_down Neighbours.on_neighbor_up Neighbours.without_announcer Neighbours.forget_announcer Neighbours.without_notes Neighbours.without_graft Neighbours.forget_grafted Neighbours.forget_peer Neighbours.on_neighbor_down Push.schedule_dispatch Push.schedule_announce_dropped Push.record_full Push.record_also Push.note_one Push.note_each Push.note_dropped Push.send_each Push.handed_back Push.note_for_each Push.eager_targets Push.note_after Push.push_to Push.eager_push Push.note_for Push.lazy_push Push.send_ihave Gossips.mark_received Gossips.cache_at Gossips.hops_of Gossips.announcers Gossips.peers_of Gossips.grafted_for Gossips.with_first Gossips.set_first Gossips.graft_out Gossips.forget_missing Gossips.raise_hops Gossips.least_from Gossips.far_closer Gossips.update_links Gossips.graft_unless_eager Gossips.prune_back Gossips.optimize_tree Gossips.forget_and_optimise Gossips.push_on Gossips.take_in Gossips.same_as Gossips.no_more_hops Gossips.late_from Gossips.late_kind Gossips.with_kept Gossips.set_kept Gossips.on_duplicate Gossips.on_late_graft_reply Gossips.on_new Gossips.on_gossip Gossips.broadcast_to Gossips.broadcast Gossips.gossip_size Ticks.chunks Ticks.queued_for Ticks.queued_peers Ticks.send_chunks Ticks.dispatch_to Ticks.clear_dispatch Ticks.on_dispatch_timer Ticks.oldest Ticks.younger Ticks.move_oldest Ticks.still_cached Ticks.dispatch_if_queued Ticks.on_announce_dropped_timer Ticks.evict Ticks.on_evict_cache_timer Ticks.per_message Control.add_announcer Control.announce Control.schedule_graft Control.on_announced Control.on_ihave Control.on_prune Control.reply_with Control.reply Control.on_graft Control.lower Control.with_graft Control.note_graft Control.leave_announcers Control.ask_first Control.unmark Control.on_send_graft_timer Handle.first_event Handle.one_payload Handle.one_control Handle.count_message Handle.if_neighbour Handle.on_timer Handle.on_message Handle.handle_message Handle.handle Calls.state_after Calls.counts_after Calls.prepend Calls.run_calls Alike.same_list Alike.same_option Alike.same_map Alike.same_mark Alike.same_hop Alike.same_note Alike.same_notes Alike.same_expiry Alike.same_grafts Alike.same_cached Alike.same_unit Alike.same_cache Alike.same_settings Alike.same_limits Alike.same_tables Alike.same_caches Alike.same_flags Alike.alike Alike.likeness_of Alike.alike_blocks
 rust-sample-4 = refl

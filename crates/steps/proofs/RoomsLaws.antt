@@ -12,17 +12,17 @@ use borrow.Author.Tests.{ltb-true, ltb-false, eq-eqb, ne_eqb, le-leb}
 use Rattle.storage.specs.Lists.Base.{all, ascending, member}
 use Rattle.storage.specs.Lists.Map.{Map, keys, lookup, has}
 use Rattle.storage.proofs.ListsLaws.MapLaws.{cases, true≢, and_left, and_right, all_head, all_tail}
-use Rattle.protocol.specs.Links.{isNeighbour}
+use Rattle.protocol.specs.Links.{is_neighbour}
 use Rattle.protocol.specs.State.{State}
 use Rattle.protocol.specs.Run.{Room}
-use Rattle.block.specs.LinkSteps.{peerAt}
-use Rattle.decide.specs.Rooms.{kthTaken, firstRoom, room_for}
+use Rattle.block.specs.LinkSteps.{peer_at}
+use Rattle.decide.specs.Rooms.{kth_taken, first_room, room_for}
 use Rattle.decide.proofs.Decide.{kth-room}
-use Rattle.steps.specs.Rooms.{room_at, roomEntry, roomEntries, strangerEntry, roomsIn}
+use Rattle.steps.specs.Rooms.{room_at, room_entry, room_entries, stranger_entry, rooms_in}
 
 -- links with the same peers stand for the same link room
-pub same-rooms-in : (s t : State) (array : List ℕ) → keys s.links ≡ keys t.links → roomsIn s array ≡ roomsIn t array
-unfolding roomsIn
+pub same-rooms-in : (s t : State) (array : List ℕ) → keys s.links ≡ keys t.links → rooms_in s array ≡ rooms_in t array
+unfolding rooms_in
 same-rooms-in s t array e = rw e refl
 
 -- a key is there where it is one of the keys
@@ -51,8 +51,8 @@ member-at zero (x ∷ xs) h = rw (eq-eqb x x refl) refl
 member-at (suc i) (x ∷ xs) h = cases (eqb (get_or xs i 0) x) (λ p. rw p refl) (λ p. rw p (member-at i xs (omega arith)))
 
 -- of a peer with no link, the entries of the links say nothing
-first-skip : (p : ℕ) (ps ns : List ℕ) (more : List Room) → member p ps ≡ false → firstRoom p (roomEntries ps ns ++ more) ≡ firstRoom p more
-unfolding firstRoom roomEntries roomEntry member
+first-skip : (p : ℕ) (ps ns : List ℕ) (more : List Room) → member p ps ≡ false → first_room p (room_entries ps ns ++ more) ≡ first_room p more
+unfolding first_room room_entries room_entry member
 first-skip p [] ns more h = refl
 first-skip p (x ∷ xs) [] more h = cases (eqb p x) (λ e. true≢ (sym (rw e at h))) (λ e. rw e (first-skip p xs [] more (rw e at h)))
 first-skip p (x ∷ xs) (n ∷ ns) more h =
@@ -60,9 +60,9 @@ first-skip p (x ∷ xs) (n ∷ ns) more h =
     (λ e. cases (ltb n 65536) (λ q. rw q (rw e (first-skip p xs ns more (rw e at h)))) (λ q. rw q (first-skip p xs ns more (rw e at h))))
 
 -- of a peer with a link, the number beside it
-first_entry : (i : ℕ) (ps ns : List ℕ) (more : List Room) → ascending ps ≡ true → i < length ps → firstRoom (get_or ps i 0) more ≡ none
-    → firstRoom (get_or ps i 0) (roomEntries ps ns ++ more) ≡ room_at (get_or ns i 0)
-unfolding firstRoom roomEntries roomEntry ascending room_at
+first_entry : (i : ℕ) (ps ns : List ℕ) (more : List Room) → ascending ps ≡ true → i < length ps → first_room (get_or ps i 0) more ≡ none
+    → first_room (get_or ps i 0) (room_entries ps ns ++ more) ≡ room_at (get_or ns i 0)
+unfolding first_room room_entries room_entry ascending room_at
 first_entry i [] ns more a h m = absurd (not-suc-le-zero h)
 first_entry zero (x ∷ xs) [] more a h m = rw (eq-eqb x x refl) refl
 first_entry (suc i) (x ∷ xs) [] more a h m =
@@ -81,16 +81,16 @@ first_entry (suc i) (x ∷ xs) (n ∷ ns) more a h m =
     cases (ltb n 65536) (λ q. rw q (rw e r)) (λ q. rw q r)
 
 -- of a peer with a link, the entry of the event's peer says nothing
-first-stranger-other : (p : ℕ) (ps array : List ℕ) → member p ps ≡ true → firstRoom p (strangerEntry ps array) ≡ none
-unfolding firstRoom strangerEntry roomEntry
+first-stranger-other : (p : ℕ) (ps array : List ℕ) → member p ps ≡ true → first_room p (stranger_entry ps array) ≡ none
+unfolding first_room stranger_entry room_entry
 first-stranger-other p ps array h =
     cases (member (get_or array 33 0) ps) (λ q. rw q refl)
     (λ q. rw q (cases (ltb (get_or array 32 0) 65536)
     (λ r. rw r (rw (ne_eqb p (get_or array 33 0) (λ e. true≢ (sym q ∙ ap (λ (n : ℕ). member n ps) (sym e) ∙ h))) refl))
     (λ r. rw r refl)))
 
-first-stranger-same : (ps array : List ℕ) → member (get_or array 33 0) ps ≡ false → firstRoom (get_or array 33 0) (strangerEntry ps array) ≡ room_at (get_or array 32 0)
-unfolding firstRoom strangerEntry roomEntry room_at
+first-stranger-same : (ps array : List ℕ) → member (get_or array 33 0) ps ≡ false → first_room (get_or array 33 0) (stranger_entry ps array) ≡ room_at (get_or array 32 0)
+unfolding first_room stranger_entry room_entry room_at
 first-stranger-same ps array h =
     rw h (cases (ltb (get_or array 32 0) 65536) (λ r. rw r (rw (eq-eqb (get_or array 33 0) (get_or array 33 0) refl) refl)) (λ r. rw r refl))
 
@@ -101,27 +101,27 @@ room-for k n h = cases (ltb n 65536) (λ q. rw q refl) (λ q. rw q (sym (le-leb 
 
 module _ (s : State) (array : List ℕ) where
   -- the room of link i
-  pub first-link : (i : ℕ) → ascending (keys s.links) ≡ true → i < length s.links → firstRoom (peerAt s i) (roomsIn s array) ≡ room_at (get_or array i 0)
-  unfolding roomsIn
+  pub first-link : (i : ℕ) → ascending (keys s.links) ≡ true → i < length s.links → first_room (peer_at s i) (rooms_in s array) ≡ room_at (get_or array i 0)
+  unfolding rooms_in
   first-link i a h =
       let b : i < length (keys s.links) = omega (arith, length-map s.links (λ e. e.key)) in
-      first_entry i (keys s.links) array (strangerEntry (keys s.links) array) a b
-      (first-stranger-other (peerAt s i) (keys s.links) array (member-at i (keys s.links) b))
+      first_entry i (keys s.links) array (stranger_entry (keys s.links) array) a b
+      (first-stranger-other (peer_at s i) (keys s.links) array (member-at i (keys s.links) b))
 
   -- "the k-th send of a call to a peer is taken when k ≤ room", of link i
-  pub kth-link : (k i : ℕ) → ascending (keys s.links) ≡ true → i < length s.links → k ≤ 65536 → kthTaken k (peerAt s i) (roomsIn s array) ≡ leb k (get_or array i 0)
-  kth-link k i a h f = kth-room k (peerAt s i) (roomsIn s array) ∙ ap (room_for k) (first-link i a h) ∙ room-for k (get_or array i 0) f
+  pub kth-link : (k i : ℕ) → ascending (keys s.links) ≡ true → i < length s.links → k ≤ 65536 → kth_taken k (peer_at s i) (rooms_in s array) ≡ leb k (get_or array i 0)
+  kth-link k i a h f = kth-room k (peer_at s i) (rooms_in s array) ∙ ap (room_for k) (first-link i a h) ∙ room-for k (get_or array i 0) f
 
-  pub first-at : (i : ℕ) → ascending (keys s.links) ≡ true → i < length s.links → i < length array → firstRoom (peerAt s i) (roomsIn s array) ≡ room_at (get_or array i 0)
+  pub first-at : (i : ℕ) → ascending (keys s.links) ≡ true → i < length s.links → i < length array → first_room (peer_at s i) (rooms_in s array) ≡ room_at (get_or array i 0)
   first-at i a h l = first-link i a h
 
   -- the room of the event's peer, where it has no link
-  pub first-stranger : (p : ℕ) → isNeighbour p s.links ≡ false → p ≡ get_or array 33 0 → firstRoom p (roomsIn s array) ≡ room_at (get_or array 32 0)
-  unfolding roomsIn
+  pub first-stranger : (p : ℕ) → is_neighbour p s.links ≡ false → p ≡ get_or array 33 0 → first_room p (rooms_in s array) ≡ room_at (get_or array 32 0)
+  unfolding rooms_in
   first-stranger p n e =
       let q : member p (keys s.links) ≡ false = sym (has-member p s.links) ∙ n in
-      first-skip p (keys s.links) array (strangerEntry (keys s.links) array) q
+      first-skip p (keys s.links) array (stranger_entry (keys s.links) array) q
       ∙ rw e (first-stranger-same (keys s.links) array (rw e at q))
 
-  pub kth-stranger : (k p : ℕ) → isNeighbour p s.links ≡ false → p ≡ get_or array 33 0 → k ≤ 65536 → kthTaken k p (roomsIn s array) ≡ leb k (get_or array 32 0)
-  kth-stranger k p n e f = kth-room k p (roomsIn s array) ∙ ap (room_for k) (first-stranger p n e) ∙ room-for k (get_or array 32 0) f
+  pub kth-stranger : (k p : ℕ) → is_neighbour p s.links ≡ false → p ≡ get_or array 33 0 → k ≤ 65536 → kth_taken k p (rooms_in s array) ≡ leb k (get_or array 32 0)
+  kth-stranger k p n e f = kth-room k p (rooms_in s array) ∙ ap (room_for k) (first-stranger p n e) ∙ room-for k (get_or array 32 0) f

@@ -15,19 +15,19 @@ in_order c t = record { up = t.up; order = t.order }
 
 module _ (h : Head) (block : List ℕ) (s : Stands h block) where
   pub links-up : LinksAscend h block
-  links-up = s.consistent.core.linksUp
+  links-up = s.consistent.core.links_up
 
   pub missing-up : MissingAscend h block
-  missing-up = s.consistent.core.missingUp
+  missing-up = s.consistent.core.missing_up
 
   pub timers-up : TimersAscend h block
-  timers-up = s.consistent.core.timersUp
+  timers-up = s.consistent.core.timers_up
 
   pub received-order : InOrder (state_of h block).received
-  received-order = in_order (state_of h block).received s.consistent.core.receivedOn
+  received-order = in_order (state_of h block).received s.consistent.core.received_on
 
   pub cached-order : InOrder (state_of h block).cache
-  cached-order = in_order (state_of h block).cache s.consistent.core.cacheOn
+  cached-order = in_order (state_of h block).cache s.consistent.core.cache_on
 
   pub grafted-order : InOrder (state_of h block).grafted
-  grafted-order = in_order (state_of h block).grafted s.consistent.core.graftedOn
+  grafted-order = in_order (state_of h block).grafted s.consistent.core.grafted_on

@@ -12,19 +12,19 @@ unfoldable pub room_at : ℕ → Option ℕ
 room_at n = if ltb n 65536 then some n else none
 
 -- the entry of a peer, if it has a bound
-unfoldable pub roomEntry : ℕ → ℕ → List Room
-roomEntry p n = if ltb n 65536 then record { peer = p; room = n } ∷ [] else []
+unfoldable pub room_entry : ℕ → ℕ → List Room
+room_entry p n = if ltb n 65536 then record { peer = p; room = n } ∷ [] else []
 
 -- the entries of peers and the numbers beside them; 0 stands beside those behind the last number
-unfoldable pub roomEntries : List ℕ → List ℕ → List Room
-roomEntries [] ns = []
-roomEntries (p ∷ ps) [] = roomEntry p 0 ++ roomEntries ps []
-roomEntries (p ∷ ps) (n ∷ ns) = roomEntry p n ++ roomEntries ps ns
+unfoldable pub room_entries : List ℕ → List ℕ → List Room
+room_entries [] ns = []
+room_entries (p ∷ ps) [] = room_entry p 0 ++ room_entries ps []
+room_entries (p ∷ ps) (n ∷ ns) = room_entry p n ++ room_entries ps ns
 
 -- the entry of the event's peer, which stands there where it has no link
-unfoldable pub strangerEntry : List ℕ → List ℕ → List Room
-strangerEntry peers array = if member (get_or array 33 0) peers then [] else roomEntry (get_or array 33 0) (get_or array 32 0)
+unfoldable pub stranger_entry : List ℕ → List ℕ → List Room
+stranger_entry peers array = if member (get_or array 33 0) peers then [] else room_entry (get_or array 33 0) (get_or array 32 0)
 
 -- the link room that the array stands for, of a state with these links
-unfoldable pub roomsIn : State → List ℕ → List Room
-roomsIn s array = roomEntries (keys s.links) array ++ strangerEntry (keys s.links) array
+unfoldable pub rooms_in : State → List ℕ → List Room
+rooms_in s array = room_entries (keys s.links) array ++ stranger_entry (keys s.links) array

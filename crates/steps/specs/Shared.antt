@@ -21,16 +21,16 @@ HeldIs d m id found (At i) = HeldAt d m id found i
 HeldIs d m id found Nothing = found ≡ none
 
 -- the numbers of entries
-abbrev pub sizesValue : CodeSizes → Sizes
-sizesValue z = record {
+abbrev pub sizes_value : CodeSizes → Sizes
+sizes_value z = record {
   links = z.links;
   received = z.received;
-  receivedExpiry = z.received_rows;
+  received_expiry = z.received_rows;
   cached = z.cached;
-  cachedExpiry = z.cached_rows;
+  cached_expiry = z.cached_rows;
   content = z.contents;
   grafted = z.grafted;
-  graftedExpiry = z.grafted_rows;
+  grafted_expiry = z.grafted_rows;
   missing = z.missing;
   timers = z.timers;
   queued = z.queued;

@@ -16,7 +16,7 @@ pub enum Held {
     Nothing,
 }
 
-// The numbers of entries that question 13 looks at, in document 01's order: links, received, cached with the bytes of its contents, grafted, missing, graft timers, queue, record.
+// The numbers of entries that question 13 looks at, in the specification's order: links, received, cached with the bytes of its contents, grafted, missing, graft timers, queue, record.
 #[derive(Clone, Copy)]
 pub struct Sizes {
     pub links: usize,

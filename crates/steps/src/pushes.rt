@@ -1,12 +1,12 @@
-// The pushes of a message that is taken in: document 01, "Gossip" and "Broadcast".
+// The pushes of a message that is taken in: the specification, "Gossip" and "Broadcast".
 ghost use Rattle.std.specs.Prelude.{◌+◌, ◌≤◌, length};
 ghost use Rattle.storage.specs.Rows.Ident.{id_of};
 ghost use Rattle.block.specs.View.{state_of};
 ghost use Rattle.block.specs.Sound.{Sound};
 ghost use Rattle.block.specs.Goes.{Goes};
-ghost use Rattle.decide.specs.StateAfter.{lazyState};
-ghost use Rattle.steps.specs.Pushes.Lazy.{lazyNotes};
-ghost use Rattle.steps.specs.Pushes.Noted.{notedState, Notes};
+ghost use Rattle.decide.specs.StateAfter.{lazy_state};
+ghost use Rattle.steps.specs.Pushes.Lazy.{lazy_notes};
+ghost use Rattle.steps.specs.Pushes.Noted.{noted_state, Notes};
 
 use block::head::Head;
 use block::{links, note};
@@ -15,8 +15,8 @@ use storage::rows::id::Id;
 
 // `lazy_push`, the state half: "Lazy push skips only the sender and always schedules dispatch unless flagged". Its time is that of one pass over the links.
 pub fn lazy_push(h: Head, block: &mut [u8], id: Id, round: Round, sender: u64) -> Head
-    requires { Sound h block.old × (h.live.queued + length (lazyNotes (id_of id) round.0 sender (state_of h block.old).links) ≤ h.limits.queued) }
-    ensures { Goes (lazyState (id_of id) round.0 sender) h block.old result block.new }
+    requires { Sound h block.old × (h.live.queued + length (lazy_notes (id_of id) round.0 sender (state_of h block.old).links) ≤ h.limits.queued) }
+    ensures { Goes (lazy_state (id_of id) round.0 sender) h block.old result block.new }
 {
     let n = h.live.links;
     let mut g = h;
@@ -40,7 +40,7 @@ pub fn lazy_push(h: Head, block: &mut [u8], id: Id, round: Round, sender: u64) -
 // its flag. Its time is that of one pass over the record's column of link numbers.
 pub fn note_dropped(h: Head, block: &mut [u8], link: usize, id: Id, round: Round) -> Head
     requires { Notes h block.old link (id_of id) round.0 }
-    ensures { Goes (notedState link (id_of id) round.0) h block.old result block.new }
+    ensures { Goes (noted_state link (id_of id) round.0) h block.old result block.new }
 {
     let scan = note::scan_dropped(h, block, link, id);
     if 256 <= scan.count {

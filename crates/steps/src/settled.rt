@@ -1,18 +1,18 @@
-// What a first event finds once it has evicted, read from the block as it stands before: document 01, "the first other event evicts and schedules EvictCache
+// What a first event finds once it has evicted, read from the block as it stands before: the specification, "the first other event evicts and schedules EvictCache
 // before anything else". Where `init` is set, nothing is evicted.
 ghost use Rattle.std.specs.Prelude.{◌≡◌, ◌&&◌, ◌*◌, ◌≤◌, ◌<◌, leb, get_or};
 ghost use Rattle.storage.specs.Lists.Base.{sum};
 ghost use Rattle.storage.specs.Rows.Ident.{id_of};
 ghost use Rattle.time_cache.specs.TimeCache.{holds, get};
-ghost use Rattle.time_cache.specs.Tables.{cacheAt, Lies, Sound};
-ghost use Rattle.block.specs.View.{state_of, limitsOf};
+ghost use Rattle.time_cache.specs.Tables.{cache_at, Lies, Sound};
+ghost use Rattle.block.specs.View.{state_of, limits_of};
 ghost use Rattle.block.specs.Fit.{Ceilings};
-ghost use Rattle.decide.specs.Sizes.{sizesOf, fitSizes};
-ghost use Rattle.decide.specs.SizesAfter.{evictSizes};
+ghost use Rattle.decide.specs.Sizes.{sizes_of, fit_sizes};
+ghost use Rattle.decide.specs.SizesAfter.{evict_sizes};
 ghost use Rattle.decide.specs.Settled.{settled};
 ghost use Rattle.steps.specs.Stands.{Stands};
-ghost use Rattle.steps.specs.Shared.{HeldIs, sizesValue};
-ghost use Rattle.steps.specs.Settled.Then.{no_held, noCached, noGrafts, leftThen, laterBytes};
+ghost use Rattle.steps.specs.Shared.{HeldIs, sizes_value};
+ghost use Rattle.steps.specs.Settled.Then.{no_held, no_cached, no_grafts, left_then, later_bytes};
 
 use crate::{Held, Sizes};
 use block::caches::{cached, grafted, received};
@@ -47,7 +47,7 @@ pub fn is_cached_then(h: Head, block: &[u8], instant: Millis, id: Id) -> bool
 // When the cached message i expires: the time of the row that its entry names.
 fn cached_expires(h: Head, block: &[u8], i: usize) -> Millis
     requires { Stands h block.now × (i < h.live.cached) }
-    ensures { result.0 ≡ (get_or (state_of h block.now).cache.entries i noCached).value.expires }
+    ensures { result.0 ≡ (get_or (state_of h block.now).cache.entries i no_cached).value.expires }
 {
     let c = time_caches::cached_cache(h);
     let p = c.place(block, i);
@@ -57,7 +57,7 @@ fn cached_expires(h: Head, block: &[u8], i: usize) -> Millis
 // The entry of a key that is there then, by its number in the cache as it stands.
 fn held_then(c: TimeBoundCache, block: &[u8], init: bool, instant: Millis, id: Id) -> Held
     requires { Lies c block.now × Sound c block.now }
-    ensures { HeldIs no_held (cacheAt c block.now).entries (id_of id) (get (id_of id) (leftThen init instant.0 (cacheAt c block.now))) result }
+    ensures { HeldIs no_held (cache_at c block.now).entries (id_of id) (get (id_of id) (left_then init instant.0 (cache_at c block.now))) result }
 {
     let g = c.get(block, id);
     match g {
@@ -78,7 +78,7 @@ fn held_then(c: TimeBoundCache, block: &[u8], init: bool, instant: Millis, id: I
 // The cached message of an identifier, if it is there then, by its number in the cache as it stands.
 pub fn cached_then(h: Head, block: &[u8], instant: Millis, id: Id) -> Held
     requires { Stands h block.now }
-    ensures { HeldIs noCached (state_of h block.now).cache.entries (id_of id) (get (id_of id) (settled instant.0 (state_of h block.now)).cache) result }
+    ensures { HeldIs no_cached (state_of h block.now).cache.entries (id_of id) (get (id_of id) (settled instant.0 (state_of h block.now)).cache) result }
 {
     let c = time_caches::cached_cache(h);
     held_then(c, block, h.live.init, instant, id)
@@ -87,7 +87,7 @@ pub fn cached_then(h: Head, block: &[u8], instant: Millis, id: Id) -> Held
 // The grafted message of an identifier, if it is there then, by its number among the grafted messages as they stand.
 pub fn grafted_then(h: Head, block: &[u8], instant: Millis, id: Id) -> Held
     requires { Stands h block.now }
-    ensures { HeldIs noGrafts (state_of h block.now).grafted.entries (id_of id) (get (id_of id) (settled instant.0 (state_of h block.now)).grafted) result }
+    ensures { HeldIs no_grafts (state_of h block.now).grafted.entries (id_of id) (get (id_of id) (settled instant.0 (state_of h block.now)).grafted) result }
 {
     let c = time_caches::grafted_cache(h);
     held_then(c, block, h.live.init, instant, id)
@@ -96,7 +96,7 @@ pub fn grafted_then(h: Head, block: &[u8], instant: Millis, id: Id) -> Held
 // The numbers of entries as they stand.
 pub fn sizes_now(h: Head, block: &[u8]) -> Sizes
     requires { Stands h block.now }
-    ensures { sizesValue result ≡ sizesOf (state_of h block.now) }
+    ensures { sizes_value result ≡ sizes_of (state_of h block.now) }
 {
     Sizes {
         links: h.live.links,
@@ -117,7 +117,7 @@ pub fn sizes_now(h: Head, block: &[u8]) -> Sizes
 // The bytes of the contents that expire later. Its time is that of one pass over the cached messages.
 fn contents_later(h: Head, block: &[u8], instant: Millis) -> usize
     requires { Stands h block.now }
-    ensures { result ≡ sum (laterBytes instant.0) (state_of h block.now).cache.entries }
+    ensures { result ≡ sum (later_bytes instant.0) (state_of h block.now).cache.entries }
 {
     let n = h.live.cached;
     let mut total = 0;
@@ -136,7 +136,7 @@ fn contents_later(h: Head, block: &[u8], instant: Millis) -> usize
 // The numbers of entries that eviction leaves. Its time is that of one pass over the entries of each time cache.
 pub fn later_sizes(h: Head, block: &[u8], instant: Millis) -> Sizes
     requires { Stands h block.now }
-    ensures { sizesValue result ≡ evictSizes instant.0 (state_of h block.now) }
+    ensures { sizes_value result ≡ evict_sizes instant.0 (state_of h block.now) }
 {
     let received = received::received_later(h, block, instant);
     let received_rows = received::received_rows_later(h, block, instant);
@@ -164,7 +164,7 @@ pub fn later_sizes(h: Head, block: &[u8], instant: Millis) -> Sizes
 // The numbers of entries then: at once where `init` is set.
 pub fn sizes_then(h: Head, block: &[u8], instant: Millis) -> Sizes
     requires { Stands h block.now }
-    ensures { sizesValue result ≡ sizesOf (settled instant.0 (state_of h block.now)) }
+    ensures { sizes_value result ≡ sizes_of (settled instant.0 (state_of h block.now)) }
 {
     if h.live.init {
         return sizes_now(h, block);
@@ -185,8 +185,8 @@ fn cache_fits(limit: usize, entries: usize, rows: usize) -> bool
 
 // (13) "Is the state after the call within every limit?", of the numbers of entries after it.
 pub fn fit(l: Limits, z: Sizes) -> bool
-    requires { Ceilings (limitsOf l) }
-    ensures { result ≡ fitSizes (limitsOf l) (sizesValue z) }
+    requires { Ceilings (limits_of l) }
+    ensures { result ≡ fit_sizes (limits_of l) (sizes_value z) }
 {
     if l.neighbours < z.links {
         return false;

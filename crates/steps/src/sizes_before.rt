@@ -3,11 +3,11 @@ ghost use Rattle.std.specs.Prelude.{◌≡◌, ◌≤◌, ◌<◌};
 ghost use Rattle.storage.specs.Rows.Ident.{id_of};
 ghost use Rattle.block.specs.View.{state_of};
 ghost use Rattle.decide.specs.Sizes.{grown};
-ghost use Rattle.decide.specs.SizesAfter.{evictSizes, upSizes};
+ghost use Rattle.decide.specs.SizesAfter.{evict_sizes, up_sizes};
 ghost use Rattle.decide.specs.Settled.{settled};
 ghost use Rattle.steps.specs.Stands.{Stands};
-ghost use Rattle.steps.specs.Shared.{sizesValue};
-ghost use Rattle.steps.specs.SizesBefore.Counts.{lazyCount, taken_of, TakenIs};
+ghost use Rattle.steps.specs.Shared.{sizes_value};
+ghost use Rattle.steps.specs.SizesBefore.Counts.{lazy_count, taken_of, TakenIs};
 
 use crate::{Held, Sizes, settled};
 use block::caches::cached;
@@ -20,7 +20,7 @@ use storage::rows::table::Found;
 // EvictCache: what expires later stays, also where a first event has evicted at the same instant. Its time is that of one pass over the entries of each time cache.
 pub fn evict_sizes(h: Head, block: &[u8], instant: Millis) -> Sizes
     requires { Stands h block.now }
-    ensures { sizesValue result ≡ evictSizes instant.0 (settled instant.0 (state_of h block.now)) }
+    ensures { sizes_value result ≡ evict_sizes instant.0 (settled instant.0 (state_of h block.now)) }
 {
     settled::later_sizes(h, block, instant)
 }
@@ -28,7 +28,7 @@ pub fn evict_sizes(h: Head, block: &[u8], instant: Millis) -> Sizes
 // Neighbour up: one link more, unless it is there.
 pub fn up_sizes(h: Head, block: &[u8], peer: u64) -> Sizes
     requires { Stands h block.now }
-    ensures { sizesValue result ≡ upSizes peer (state_of h block.now) }
+    ensures { sizes_value result ≡ up_sizes peer (state_of h block.now) }
 {
     let mut z = settled::sizes_now(h, block);
     let f = links::find_link(h, block, peer);
@@ -44,7 +44,7 @@ pub fn up_sizes(h: Head, block: &[u8], peer: u64) -> Sizes
 // How many peers a lazy push goes to: "Lazy push skips only the sender". Its time is that of one pass over the links.
 pub fn lazy_count(h: Head, block: &[u8], sender: u64) -> usize
     requires { Stands h block.now }
-    ensures { (result ≡ lazyCount sender (state_of h block.now).links) × (result ≤ 32) }
+    ensures { (result ≡ lazy_count sender (state_of h block.now).links) × (result ≤ 32) }
 {
     let n = h.live.links;
     let mut count = 0;

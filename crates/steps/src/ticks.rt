@@ -1,10 +1,10 @@
 // The actions that schedule a timer by a flag and a setting alone.
-ghost use Rattle.storage.specs.Lists.Base.{concatMap};
-ghost use Rattle.postcard.specs.Message.{actionBytes};
+ghost use Rattle.storage.specs.Lists.Base.{concat_map};
+ghost use Rattle.postcard.specs.Message.{action_bytes};
 ghost use Rattle.block.specs.View.{state_of};
-ghost use Rattle.decide.specs.Settled.{settledActions};
-ghost use Rattle.decide.specs.RecordGrowth.{announceAction};
-ghost use Rattle.decide.specs.ActionsAfter.{evictActions, dispatchAction};
+ghost use Rattle.decide.specs.Settled.{settled_actions};
+ghost use Rattle.decide.specs.RecordGrowth.{announce_action};
+ghost use Rattle.decide.specs.ActionsAfter.{evict_actions, dispatch_action};
 ghost use Rattle.wire.specs.Output.Written.{Tellable, Written};
 
 use block::head::Head;
@@ -14,8 +14,8 @@ use wire::output;
 
 // `schedule_dispatch`, the actions half: "schedules dispatch unless flagged".
 pub fn schedule_dispatch(h: Head, block: &[u8], out: &mut [u8], at: usize) -> usize
-    requires { Tellable (concatMap actionBytes (dispatchAction (state_of h block.now))) at }
-    ensures { Written (concatMap actionBytes (dispatchAction (state_of h block.now))) out.old at out.new result }
+    requires { Tellable (concat_map action_bytes (dispatch_action (state_of h block.now))) at }
+    ensures { Written (concat_map action_bytes (dispatch_action (state_of h block.now))) out.old at out.new result }
 {
     if h.live.dispatch_timer_scheduled {
         return at;
@@ -27,8 +27,8 @@ pub fn schedule_dispatch(h: Head, block: &[u8], out: &mut [u8], at: usize) -> us
 // `schedule_announce_dropped`, the actions half: "a nonempty record and a clear flag schedule AnnounceDropped (1,000)". `stands` tells whether anything was to be
 // noted, or is left: a record that stood before has its flag.
 pub fn schedule_announce_dropped(stands: bool, flag: bool, out: &mut [u8], at: usize) -> usize
-    requires { Tellable (concatMap actionBytes (announceAction stands flag)) at }
-    ensures { Written (concatMap actionBytes (announceAction stands flag)) out.old at out.new result }
+    requires { Tellable (concat_map action_bytes (announce_action stands flag)) at }
+    ensures { Written (concat_map action_bytes (announce_action stands flag)) out.old at out.new result }
 {
     if flag {
         return at;
@@ -41,8 +41,8 @@ pub fn schedule_announce_dropped(stands: bool, flag: bool, out: &mut [u8], at: u
 
 // `on_evict_cache_timer`, the actions half: "then schedules itself".
 pub fn evict_actions(h: Head, block: &[u8], out: &mut [u8], at: usize) -> usize
-    requires { Tellable (concatMap actionBytes (evictActions (state_of h block.now))) at }
-    ensures { Written (concatMap actionBytes (evictActions (state_of h block.now))) out.old at out.new result }
+    requires { Tellable (concat_map action_bytes (evict_actions (state_of h block.now))) at }
+    ensures { Written (concat_map action_bytes (evict_actions (state_of h block.now))) out.old at out.new result }
 {
     let delay = h.settings.config.cache_evict_interval;
     output::schedule(out, at, delay, Timer::EvictCache)
@@ -50,8 +50,8 @@ pub fn evict_actions(h: Head, block: &[u8], out: &mut [u8], at: usize) -> usize
 
 // "the first other event evicts and schedules EvictCache before anything else".
 pub fn first_event_actions(h: Head, block: &[u8], out: &mut [u8], at: usize) -> usize
-    requires { Tellable (concatMap actionBytes (settledActions (state_of h block.now))) at }
-    ensures { Written (concatMap actionBytes (settledActions (state_of h block.now))) out.old at out.new result }
+    requires { Tellable (concat_map action_bytes (settled_actions (state_of h block.now))) at }
+    ensures { Written (concat_map action_bytes (settled_actions (state_of h block.now))) out.old at out.new result }
 {
     if h.live.init {
         return at;

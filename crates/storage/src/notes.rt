@@ -3,7 +3,7 @@
 // its chain alone.
 ghost use Rattle.std.specs.Prelude.{◌≡◌, ◌+◌, ◌*◌, ◌≤◌, ◌<◌, length, get_or};
 ghost use Rattle.storage.specs.Rows.Ident.{id_of};
-ghost use Rattle.storage.specs.Notes.Chains.{id_at, bucketOf, Latest, Chained, TellsNew, TellsBoth, TellsOnce};
+ghost use Rattle.storage.specs.Notes.Chains.{id_at, bucket_of, Latest, Chained, TellsNew, TellsBoth, TellsOnce};
 
 use crate::rows::id;
 use crate::rows::id::Id;
@@ -17,7 +17,7 @@ fn wide(x: u16) -> usize
 
 // The bucket of an identifier and a number. The last word has the identifier's last bits.
 fn bucket_of(x: Id, l: u8) -> usize
-    ensures { result ≡ bucketOf (id_of x) l }
+    ensures { result ≡ bucket_of (id_of x) l }
 {
     let w = x.w3;
     ((w % 1024 + 32 * (l as u64)) % 1024) as usize
@@ -41,7 +41,7 @@ fn both(c: &[u8], b: &[u8], p: usize, l: u8, x: Id) -> bool
 
 // Whether no row before i has this number and identifier, `from` being the start of its bucket's chain.
 fn is_new(c: &[u8], b: &[u8], next: &[u16; 4096], i: usize, l: u8, x: Id, from: usize) -> bool
-    requires { (i ≤ 4096) × (i ≤ length c.now) × (i * 34 ≤ length b.now) × Latest c.now b.now i (bucketOf (id_of x) l) from × Chained c.now b.now i next.now }
+    requires { (i ≤ 4096) × (i ≤ length c.now) × (i * 34 ≤ length b.now) × Latest c.now b.now i (bucket_of (id_of x) l) from × Chained c.now b.now i next.now }
     ensures { TellsNew c.now b.now i l (id_of x) result }
 {
     let mut j = from;

@@ -12,8 +12,8 @@ use lib.ListN.{length, drop, length-map}
 use Rattle.storage.specs.Lists.Base.{filter}
 use Rattle.storage.proofs.ListsLaws.ListLaws.{all_map, all-filter-imp}
 use Rattle.storage.specs.Refs.Refs.{Ref, ref, places, names, lowered, left}
-use Rattle.time_cache.specs.TimeCache.{Cache, expireUntil, expiredKeys, Timely}
-use Rattle.time_cache.specs.Tables.{ExpiryRow, expiryRows, expiryOf, Cut, Held, held, entry_of, cacheOf, refsAt, rows_at, cacheAt, Lies, resized, Sound}
+use Rattle.time_cache.specs.TimeCache.{Cache, expire_until, expired_keys, Timely}
+use Rattle.time_cache.specs.Tables.{ExpiryRow, expiry_rows, expiry_of, Cut, Held, held, entry_of, cache_of, refs_at, rows_at, cache_at, Lies, resized, Sound}
 use Rattle.time_cache.specs.Steps.{Drops, DropsEntries, Expires}
 use Rattle.time_cache.specs.declared.cache.TimeBoundCache.{TimeBoundCache}
 use Rattle.time_cache.proofs.Timely.{timely-expire}
@@ -39,7 +39,7 @@ unfolding left filter
 left-none [] = refl
 left-none (r ∷ es) = rw (le-leb 0 r.place (omega arith)) (λ j. ref (sub-zero r.place j) r.own ∷ left-none es j)
 
-module _ (c : TimeBoundCache) (t k : ℕ) (xs ys zs : List ℕ) (q : ℕ) (l : Lies c xs) (s : Sound c xs) (cut : Cut (cacheAt c xs).expiry t k)
+module _ (c : TimeBoundCache) (t k : ℕ) (xs ys zs : List ℕ) (q : ℕ) (l : Lies c xs) (s : Sound c xs) (cut : Cut (cache_at c xs).expiry t k)
     (d : Drops c k xs ys) (ly : length ys ≡ length xs) (e : DropsEntries c k ys q zs) (lz : length zs ≡ length ys) where
   abbrev n : ℕ
   n = c.entries.len
@@ -60,7 +60,7 @@ module _ (c : TimeBoundCache) (t k : ℕ) (xs ys zs : List ℕ) (q : ℕ) (l : L
   wide = m * c.expiry.stride
 
   abbrev es : List Ref
-  es = refsAt c xs
+  es = refs_at c xs
 
   abbrev rs : List ExpiryRow
   rs = rows_at c xs
@@ -68,37 +68,37 @@ module _ (c : TimeBoundCache) (t k : ℕ) (xs ys zs : List ℕ) (q : ℕ) (l : L
   abbrev r : TimeBoundCache
   r = resized q (m - k) c
 
-  cut' : Cut (map expiryOf rs) t k
-  unfolding cacheOf
+  cut' : Cut (map expiry_of rs) t k
+  unfolding cache_of
   cut' = cut
 
   km : k ≤ m
-  km = omega (arith, cut'.within, length-map rs expiryOf, length-rs c xs)
+  km = omega (arith, cut'.within, length-map rs expiry_of, length-rs c xs)
 
   low : below (length rs) (places es) ≡ true
   low = sound-below c xs s
 
-  refs-now : refsAt r zs ≡ left k es
+  refs-now : refs_at r zs ≡ left k es
   refs-now = e.refs ∙ ap (left k) (refs-before c.entries.stride n a b wide xs ys l.apart l.within ly d.only)
 
   rows-now : rows_at r zs ≡ drop k rs
-  rows-now = ap (expiryRows c.expiry.stride (m - k)) (drop-behind a big b ys zs l.apart (omega (arith, l.within)) lz e.only) ∙ d.rows
+  rows-now = ap (expiry_rows c.expiry.stride (m - k)) (drop-behind a big b ys zs l.apart (omega (arith, l.within)) lz e.only) ∙ d.rows
 
-  cache-now : cacheAt r zs ≡ expireUntil t (cacheAt c xs)
-  cache-now = (λ z. cacheOf held (refs-now z) (rows-now z)) ∙ expire-cut held t k es rs cut' low s.up s.order
+  cache-now : cache_at r zs ≡ expire_until t (cache_at c xs)
+  cache-now = (λ z. cache_of held (refs-now z) (rows-now z)) ∙ expire-cut held t k es rs cut' low s.up s.order
 
-  timely-now : Timely (cacheAt r zs)
-  timely-now = subst (λ (x : Cache Held). Timely x) (sym cache-now) (timely-expire t (cacheAt c xs) (timely-of held es rs low s.up s.order))
+  timely-now : Timely (cache_at r zs)
+  timely-now = subst (λ (x : Cache Held). Timely x) (sym cache-now) (timely-expire t (cache_at c xs) (timely-of held es rs low s.up s.order))
 
   -- as many entries as rows of places
-  count-of : (c : TimeBoundCache) (xs : List ℕ) → length (cacheAt c xs).entries ≡ c.entries.len
-  unfolding cacheOf
-  count-of c xs = length-map (refsAt c xs) (entry_of held (rows_at c xs)) ∙ length-es c xs
+  count-of : (c : TimeBoundCache) (xs : List ℕ) → length (cache_at c xs).entries ≡ c.entries.len
+  unfolding cache_of
+  count-of c xs = length-map (refs_at c xs) (entry_of held (rows_at c xs)) ∙ length-es c xs
 
-  gone : q + length (expiredKeys t (cacheAt c xs)) ≡ n
+  gone : q + length (expired_keys t (cache_at c xs)) ≡ n
   gone =
-      ap (λ (x : ℕ). x + length (expiredKeys t (cacheAt c xs))) (sym (count-of r zs) ∙ ap (λ (x : Cache Held). length x.entries) cache-now)
-      ∙ expired-count t (cacheAt c xs) s.up ∙ count-of c xs
+      ap (λ (x : ℕ). x + length (expired_keys t (cache_at c xs))) (sym (count-of r zs) ∙ ap (λ (x : Cache Held). length x.entries) cache-now)
+      ∙ expired-count t (cache_at c xs) s.up ∙ count-of c xs
 
   back : k ≡ m - (m - k)
   back = omega (arith, km)
@@ -110,7 +110,7 @@ module _ (c : TimeBoundCache) (t k : ℕ) (xs ys zs : List ℕ) (q : ℕ) (l : L
     removes = omega (arith, gone);
     cache = cache-now;
     sound = record {
-      below = below_of (m - k) (places (refsAt r zs)) (ap (λ (x : List Ref). below (m - k) (places x)) refs-now ∙ ap (λ (x : ℕ). below (x - k) (places (left k es))) (sym (length-rs c xs)) ∙ left_below k (length rs) es low);
+      below = below_of (m - k) (places (refs_at r zs)) (ap (λ (x : List Ref). below (m - k) (places x)) refs-now ∙ ap (λ (x : ℕ). below (x - k) (places (left k es))) (sym (length-rs c xs)) ∙ left_below k (length rs) es low);
       up = timely-now.up;
       order = timely-now.order;
     };
@@ -121,7 +121,7 @@ module _ (c : TimeBoundCache) (t k : ℕ) (xs ys zs : List ℕ) (q : ℕ) (l : L
   }
 
 -- where no row is due
-pub expires-none : (c : TimeBoundCache) (t : ℕ) (xs : List ℕ) → Lies c xs → Sound c xs → Cut (cacheAt c xs).expiry t 0
+pub expires-none : (c : TimeBoundCache) (t : ℕ) (xs : List ℕ) → Lies c xs → Sound c xs → Cut (cache_at c xs).expiry t 0
     → Expires c t xs (record { cache = resized c.entries.len c.expiry.len c; removed = 0 }) xs
 expires-none c t xs l s cut =
     let n : ℕ = c.entries.len in
@@ -133,7 +133,7 @@ expires-none c t xs l s cut =
     } in
     let e : DropsEntries c 0 xs n xs = record {
       count = omega arith;
-      refs = sym (left-none (refsAt c xs));
+      refs = sym (left-none (refs_at c xs));
       only = only_same c.entries.at (n * c.entries.stride) xs (omega (arith, l.apart, l.within));
     } in
     subst (λ (x : ℕ). Expires c t xs (record { cache = resized n m c; removed = x }) xs) z

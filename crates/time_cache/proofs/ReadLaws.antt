@@ -14,12 +14,12 @@ use Rattle.storage.specs.Lists.Map.{Entry, keys, lookup}
 use Rattle.storage.proofs.ListsLaws.MapLaws.{cases}
 use Rattle.storage.proofs.ListsLaws.ListLaws.{length-filter}
 use Rattle.storage.specs.Rows.Part.{part}
-use Rattle.storage.specs.Rows.Digits.{leNat}
+use Rattle.storage.specs.Rows.Digits.{le_nat}
 use Rattle.storage.specs.Rows.Sorted.{Between, Here}
 use Rattle.storage.specs.Refs.Refs.{Ref, ref, places, names, lowered, left}
-use Rattle.storage.proofs.RefsLaws.Places.{getD-map-in, length-refs, place_in}
-use Rattle.time_cache.specs.TimeCache.{Timed, laterCache, holds}
-use Rattle.time_cache.specs.Tables.{ExpiryRow, expiryOf, row_at, named, Cut, Held, held, entry_of, cacheOf, refsAt, rows_at, cacheAt, Lies, Sound}
+use Rattle.storage.proofs.RefsLaws.Places.{get_or-map-in, length-refs, place_in}
+use Rattle.time_cache.specs.TimeCache.{Timed, later_cache, holds}
+use Rattle.time_cache.specs.Tables.{ExpiryRow, expiry_of, row_at, named, Cut, Held, held, entry_of, cache_of, refs_at, rows_at, cache_at, Lies, Sound}
 use Rattle.time_cache.specs.Steps.{ref_at, held_at, GotAt}
 use Rattle.time_cache.specs.declared.cache.TimeBoundCache.{TimeBoundCache}
 use Rattle.time_cache.proofs.Timely.{later-filter}
@@ -27,7 +27,7 @@ use Rattle.time_cache.proofs.Orders.{below, of-below, up_of}
 use Rattle.time_cache.proofs.MapPlaces.{lookup-here, lookup-between, passes, lookup-filter}
 use Rattle.time_cache.proofs.Cuts.{cut_later}
 use Rattle.time_cache.proofs.TableLaws.{keys-named, entries-left}
-use Rattle.time_cache.proofs.ExpiryLaws.{length-expiryRows, time-at}
+use Rattle.time_cache.proofs.ExpiryLaws.{length-expiry_rows, time-at}
 
 part-drop : (a o k : ℕ) (xs : List ℕ) → part o k (drop a xs) ≡ part (a + o) k xs
 unfolding part
@@ -35,18 +35,18 @@ part-drop a o k xs = ap (take k) (drop-drop o a xs)
 
 module _ (c : TimeBoundCache) (xs : List ℕ) where
   -- the place in entry i and the time in row p, as they lie in the block
-  pub place_of : Lies c xs → (i : ℕ) → i < c.entries.len → (ref_at (refsAt c xs) i).place ≡ leNat (part (c.entries.at + i * c.entries.stride) 2 xs)
+  pub place_of : Lies c xs → (i : ℕ) → i < c.entries.len → (ref_at (refs_at c xs) i).place ≡ le_nat (part (c.entries.at + i * c.entries.stride) 2 xs)
   place_of l i h =
-      place_in c.entries.stride c.entries.len i (ref 0 []) (drop c.entries.at xs) l.entryWide h
-      ∙ ap leNat (part-drop c.entries.at (i * c.entries.stride) 2 xs)
+      place_in c.entries.stride c.entries.len i (ref 0 []) (drop c.entries.at xs) l.entry_wide h
+      ∙ ap le_nat (part-drop c.entries.at (i * c.entries.stride) 2 xs)
 
-  pub time-of : Lies c xs → (p : ℕ) → p < c.expiry.len → (row_at (rows_at c xs) p).time ≡ leNat (part (c.expiry.at + p * c.expiry.stride) 8 xs)
+  pub time-of : Lies c xs → (p : ℕ) → p < c.expiry.len → (row_at (rows_at c xs) p).time ≡ le_nat (part (c.expiry.at + p * c.expiry.stride) 8 xs)
   time-of l p h =
-      time-at c.expiry.stride c.expiry.len p (drop c.expiry.at xs) l.expiryWide h
-      ∙ ap leNat (part-drop c.expiry.at (p * c.expiry.stride) 8 xs)
+      time-at c.expiry.stride c.expiry.len p (drop c.expiry.at xs) l.expiry_wide h
+      ∙ ap le_nat (part-drop c.expiry.at (p * c.expiry.stride) 8 xs)
 
   abbrev pub es : List Ref
-  es = refsAt c xs
+  es = refs_at c xs
 
   abbrev pub rs : List ExpiryRow
   rs = rows_at c xs
@@ -55,9 +55,9 @@ module _ (c : TimeBoundCache) (xs : List ℕ) where
   length-es = length-refs c.entries.stride c.entries.len (drop c.entries.at xs)
 
   pub length-rs : length rs ≡ c.expiry.len
-  length-rs = length-expiryRows c.expiry.stride c.expiry.len (drop c.expiry.at xs)
+  length-rs = length-expiry_rows c.expiry.stride c.expiry.len (drop c.expiry.at xs)
 
-  keys-are : named rs es ≡ keys (cacheAt c xs).entries
+  keys-are : named rs es ≡ keys (cache_at c xs).entries
   keys-are = sym (keys-named held es rs)
 
   pub sound-below : Sound c xs → below (length rs) (places es) ≡ true
@@ -69,15 +69,15 @@ module _ (c : TimeBoundCache) (xs : List ℕ) where
 
   -- where the key was found, and where it was not
   pub found_here : Sound c xs → (k i : ℕ) → Here (named rs es) k i
-      → lookup k (cacheAt c xs).entries ≡ some (record { expires = (row_at rs (ref_at es i).place).time; value = held_at c i (ref_at es i).place xs })
-  unfolding cacheOf
+      → lookup k (cache_at c xs).entries ≡ some (record { expires = (row_at rs (ref_at es i).place).time; value = held_at c i (ref_at es i).place xs })
+  unfolding cache_of
   found_here s k i h =
       let d : Entry (Timed Held) = entry_of held rs (ref 0 []) in
       lookup-here k i d (map (entry_of held rs) es) (up_of (keys (map (entry_of held rs) es)) s.up) (subst (λ (ks : List ℕ). Here ks k i) keys-are h)
-      ∙ ap (λ (e : Entry (Timed Held)). some e.value) (getD-map-in (entry_of held rs) es i d (ref 0 []) (omega (arith, found_within k i h, length-es)))
+      ∙ ap (λ (e : Entry (Timed Held)). some e.value) (get_or-map-in (entry_of held rs) es i d (ref 0 []) (omega (arith, found_within k i h, length-es)))
 
-  pub found_none : (k i : ℕ) → Between (named rs es) k i → lookup k (cacheAt c xs).entries ≡ none
-  found_none k i b = lookup-between k i (cacheAt c xs).entries (subst (λ (ks : List ℕ). Between ks k i) keys-are b)
+  pub found_none : (k i : ℕ) → Between (named rs es) k i → lookup k (cache_at c xs).entries ≡ none
+  found_none k i b = lookup-between k i (cache_at c xs).entries (subst (λ (ks : List ℕ). Between ks k i) keys-are b)
 
   pub got-at : Sound c xs → (k i p : ℕ) → Here (named rs es) k i → p ≡ (ref_at es i).place → GotAt c xs k i p
   unfolding named
@@ -85,22 +85,22 @@ module _ (c : TimeBoundCache) (xs : List ℕ) where
       let w : i < c.entries.len = found_within k i h in
       record {
         entry = w;
-        row = omega (arith, e, getD-map-in (λ (r : Ref). r.place) es i 0 (ref 0 []) (omega (arith, length-es)), s.below.below i (omega (arith, length-map es (λ (r : Ref). r.place), length-es)));
+        row = omega (arith, e, get_or-map-in (λ (r : Ref). r.place) es i 0 (ref 0 []) (omega (arith, length-es)), s.below.below i (omega (arith, length-map es (λ (r : Ref). r.place), length-es)));
         names = sym e;
         key = ap (λ (q : ℕ). (row_at rs q).key) e
-            ∙ sym (getD-map-in (λ (r : Ref). (row_at rs r.place).key) es i 0 (ref 0 []) (omega (arith, length-es))) ∙ h.same;
+            ∙ sym (get_or-map-in (λ (r : Ref). (row_at rs r.place).key) es i 0 (ref 0 []) (omega (arith, length-es))) ∙ h.same;
         value = found_here s k i h ∙ ap (λ (q : ℕ). some (record { expires = (row_at rs q).time; value = held_at c i q xs })) (sym e);
       }
 
   -- what is later than an instant
-  pub count-rows : Sound c xs → (t k : ℕ) → Cut (cacheAt c xs).expiry t k → length (laterCache t (cacheAt c xs)).expiry ≡ c.expiry.len - k
-  unfolding laterCache cacheOf
+  pub count-rows : Sound c xs → (t k : ℕ) → Cut (cache_at c xs).expiry t k → length (later_cache t (cache_at c xs)).expiry ≡ c.expiry.len - k
+  unfolding later_cache cache_of
   count-rows s t k u =
-      ap length (sym (later-filter t (map expiryOf rs) s.order) ∙ cut_later (map expiryOf rs) t k u)
-      ∙ length-drop k (map expiryOf rs) ∙ ap (λ (m : ℕ). m - k) (length-map rs expiryOf ∙ length-rs)
+      ap length (sym (later-filter t (map expiry_of rs) s.order) ∙ cut_later (map expiry_of rs) t k u)
+      ∙ length-drop k (map expiry_of rs) ∙ ap (λ (m : ℕ). m - k) (length-map rs expiry_of ∙ length-rs)
 
-  pub count_entries : Sound c xs → (t k : ℕ) → Cut (cacheAt c xs).expiry t k → length (laterCache t (cacheAt c xs)).entries ≡ count (names k) es
-  unfolding laterCache cacheOf left
+  pub count_entries : Sound c xs → (t k : ℕ) → Cut (cache_at c xs).expiry t k → length (later_cache t (cache_at c xs)).entries ≡ count (names k) es
+  unfolding later_cache cache_of left
   count_entries s t k u =
       ap length (sym (entries-left held t k es rs u (sound-below s)))
       ∙ length-map (map (lowered k) (filter (names k) es)) (entry_of held (drop k rs))
@@ -108,13 +108,13 @@ module _ (c : TimeBoundCache) (xs : List ℕ) where
       ∙ length-filter (names k) es
 
   -- a key that is later than an instant
-  pub holds_later : Sound c xs → (k t : ℕ) (v : Timed Held) → lookup k (cacheAt c xs).entries ≡ some v → holds k (laterCache t (cacheAt c xs)) ≡ ltb t v.expires
-  unfolding laterCache passes
+  pub holds_later : Sound c xs → (k t : ℕ) (v : Timed Held) → lookup k (cache_at c xs).entries ≡ some v → holds k (later_cache t (cache_at c xs)) ≡ ltb t v.expires
+  unfolding later_cache passes
   holds_later s k t v e =
-      ap is_some (lookup-filter (λ d. ltb t d.value.expires) k (cacheAt c xs).entries s.up ∙ ap (passes (λ d. ltb t d.value.expires) k) e)
+      ap is_some (lookup-filter (λ d. ltb t d.value.expires) k (cache_at c xs).entries s.up ∙ ap (passes (λ d. ltb t d.value.expires) k) e)
       ∙ cases (ltb t v.expires) (λ p. rw p refl) (λ p. rw p refl)
 
-  pub not-later : Sound c xs → (k t : ℕ) → lookup k (cacheAt c xs).entries ≡ none → holds k (laterCache t (cacheAt c xs)) ≡ false
-  unfolding laterCache passes
+  pub not-later : Sound c xs → (k t : ℕ) → lookup k (cache_at c xs).entries ≡ none → holds k (later_cache t (cache_at c xs)) ≡ false
+  unfolding later_cache passes
   not-later s k t e =
-      ap is_some (lookup-filter (λ d. ltb t d.value.expires) k (cacheAt c xs).entries s.up ∙ ap (passes (λ d. ltb t d.value.expires) k) e)
+      ap is_some (lookup-filter (λ d. ltb t d.value.expires) k (cache_at c xs).entries s.up ∙ ap (passes (λ d. ltb t d.value.expires) k) e)

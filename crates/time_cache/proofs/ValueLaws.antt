@@ -13,103 +13,103 @@ use Rattle.storage.specs.Lists.Base.{is_some}
 use Rattle.storage.specs.Lists.Map.{Map, Entry, keys, lookup, insert, remove}
 use Rattle.storage.proofs.ListsLaws.MapLaws.{cases, lookup-insert-same}
 use Rattle.storage.proofs.ListsLaws.ListLaws.{filter_map}
-use Rattle.time_cache.specs.TimeCache.{Timed, Expiry, Cache, value_of, get, holds, put as put_in, withValue, replace, expiresAt, pop, due, later, popAll, expireUntil, laterCache}
-use Rattle.time_cache.specs.Tables.{ExpiryRow, expiryOf, Held, held, entry_of, cacheOf, readAs, valuesAs}
+use Rattle.time_cache.specs.TimeCache.{Timed, Expiry, Cache, value_of, get, holds, put as put_in, with_value, replace, expires_at, pop, due, later, pop_all, expire_until, later_cache}
+use Rattle.time_cache.specs.Tables.{ExpiryRow, expiry_of, Held, held, entry_of, cache_of, read_as, values_as}
 use Rattle.storage.specs.Refs.Refs.{Ref}
 
 -- values that are read from the bytes
-pub values-read : {A : Type 0} (value : List ℕ → List ℕ → A) (es : List Ref) (xs : List ExpiryRow) → valuesAs (λ h. value h.own h.rest) (cacheOf held es xs) ≡ cacheOf value es xs
-unfolding valuesAs cacheOf
-values-read value es xs = λ j. record { entries = map-map (readAs (λ (h : Held). value h.own h.rest)) (entry_of held xs) es j; expiry = map expiryOf xs }
+pub values-read : {A : Type 0} (value : List ℕ → List ℕ → A) (es : List Ref) (xs : List ExpiryRow) → values_as (λ h. value h.own h.rest) (cache_of held es xs) ≡ cache_of value es xs
+unfolding values_as cache_of
+values-read value es xs = λ j. record { entries = map-map (read_as (λ (h : Held). value h.own h.rest)) (entry_of held xs) es j; expiry = map expiry_of xs }
 
 -- a value that may be missing
-unfoldable pub optionAs : {A B : Type 0} → (A → B) → Option A → Option B
-optionAs f none = none
-optionAs f (some a) = some (f a)
+unfoldable pub option_as : {A B : Type 0} → (A → B) → Option A → Option B
+option_as f none = none
+option_as f (some a) = some (f a)
 
 module _ {A B : Type 0} (f : A → B) where
   -- a value and its expiry
-  abbrev timedAs : Timed A → Timed B
-  timedAs v = record { expires = v.expires; value = f v.value }
+  abbrev timed_as : Timed A → Timed B
+  timed_as v = record { expires = v.expires; value = f v.value }
 
-  lookup-as : (k : ℕ) (m : Map (Timed A)) → lookup k (map (readAs f) m) ≡ optionAs timedAs (lookup k m)
-  unfolding lookup optionAs
+  lookup-as : (k : ℕ) (m : Map (Timed A)) → lookup k (map (read_as f) m) ≡ option_as timed_as (lookup k m)
+  unfolding lookup option_as
   lookup-as k [] = refl
   lookup-as k (e ∷ m) = cases (eqb k e.key) (λ p. rw p refl) (λ p. rw p (lookup-as k m))
 
-  insert-as : (k : ℕ) (v : Timed A) (m : Map (Timed A)) → map (readAs f) (insert k v m) ≡ insert k (timedAs v) (map (readAs f) m)
+  insert-as : (k : ℕ) (v : Timed A) (m : Map (Timed A)) → map (read_as f) (insert k v m) ≡ insert k (timed_as v) (map (read_as f) m)
   unfolding insert
   insert-as k v [] = refl
   insert-as k v (e ∷ m) =
       cases (ltb k e.key) (λ p. rw p refl)
-      (λ p. rw p (cases (eqb k e.key) (λ q. rw q refl) (λ q. rw q (ap (λ (l : Map (Timed B)). readAs f e ∷ l) (insert-as k v m)))))
+      (λ p. rw p (cases (eqb k e.key) (λ q. rw q refl) (λ q. rw q (ap (λ (l : Map (Timed B)). read_as f e ∷ l) (insert-as k v m)))))
 
-  remove-as : (k : ℕ) (m : Map (Timed A)) → map (readAs f) (remove k m) ≡ remove k (map (readAs f) m)
+  remove-as : (k : ℕ) (m : Map (Timed A)) → map (read_as f) (remove k m) ≡ remove k (map (read_as f) m)
   unfolding remove
   remove-as k [] = refl
-  remove-as k (e ∷ m) = cases (eqb k e.key) (λ p. rw p (remove-as k m)) (λ p. rw p (ap (λ (l : Map (Timed B)). readAs f e ∷ l) (remove-as k m)))
+  remove-as k (e ∷ m) = cases (eqb k e.key) (λ p. rw p (remove-as k m)) (λ p. rw p (ap (λ (l : Map (Timed B)). read_as f e ∷ l) (remove-as k m)))
 
-  expires-as : (t : ℕ) (o : Option (Timed A)) → expiresAt t (optionAs timedAs o) ≡ expiresAt t o
-  unfolding expiresAt optionAs
+  expires-as : (t : ℕ) (o : Option (Timed A)) → expires_at t (option_as timed_as o) ≡ expires_at t o
+  unfolding expires_at option_as
   expires-as t none = refl
   expires-as t (some v) = refl
 
-  pop-as : (x : Expiry) (m : Map (Timed A)) → map (readAs f) (pop x m) ≡ pop x (map (readAs f) m)
+  pop-as : (x : Expiry) (m : Map (Timed A)) → map (read_as f) (pop x m) ≡ pop x (map (read_as f) m)
   unfolding pop
   pop-as x m =
-      let e : expiresAt x.time (lookup x.key (map (readAs f) m)) ≡ expiresAt x.time (lookup x.key m) = ap (expiresAt x.time) (lookup-as x.key m) ∙ expires-as x.time (lookup x.key m) in
-      cases (expiresAt x.time (lookup x.key m))
+      let e : expires_at x.time (lookup x.key (map (read_as f) m)) ≡ expires_at x.time (lookup x.key m) = ap (expires_at x.time) (lookup-as x.key m) ∙ expires-as x.time (lookup x.key m) in
+      cases (expires_at x.time (lookup x.key m))
       (λ p. rw (e, p) (remove-as x.key m))
       (λ p. rw (e, p) refl)
 
-  popAll-as : (xs : List Expiry) (m : Map (Timed A)) → map (readAs f) (popAll xs m) ≡ popAll xs (map (readAs f) m)
-  unfolding popAll
-  popAll-as [] m = refl
-  popAll-as (x ∷ xs) m = popAll-as xs (pop x m) ∙ ap (popAll xs) (pop-as x m)
+  pop_all-as : (xs : List Expiry) (m : Map (Timed A)) → map (read_as f) (pop_all xs m) ≡ pop_all xs (map (read_as f) m)
+  unfolding pop_all
+  pop_all-as [] m = refl
+  pop_all-as (x ∷ xs) m = pop_all-as xs (pop x m) ∙ ap (pop_all xs) (pop-as x m)
 
-  isSome-as : (o : Option (Timed A)) → is_some (optionAs timedAs o) ≡ is_some o
-  unfolding optionAs
-  isSome-as none = refl
-  isSome-as (some v) = refl
+  is_some-as : (o : Option (Timed A)) → is_some (option_as timed_as o) ≡ is_some o
+  unfolding option_as
+  is_some-as none = refl
+  is_some-as (some v) = refl
 
-  pub keys-as : (c : Cache A) → keys (valuesAs f c).entries ≡ keys c.entries
-  unfolding valuesAs
-  keys-as c = map-map (λ (e : Entry (Timed B)). e.key) (readAs f) c.entries
+  pub keys-as : (c : Cache A) → keys (values_as f c).entries ≡ keys c.entries
+  unfolding values_as
+  keys-as c = map-map (λ (e : Entry (Timed B)). e.key) (read_as f) c.entries
 
-  pub holds_as : (k : ℕ) (c : Cache A) → holds k (valuesAs f c) ≡ holds k c
-  unfolding valuesAs
-  holds_as k c = ap is_some (lookup-as k c.entries) ∙ isSome-as (lookup k c.entries)
+  pub holds_as : (k : ℕ) (c : Cache A) → holds k (values_as f c) ≡ holds k c
+  unfolding values_as
+  holds_as k c = ap is_some (lookup-as k c.entries) ∙ is_some-as (lookup k c.entries)
 
-  value_as : (o : Option (Timed A)) → value_of (optionAs timedAs o) ≡ optionAs f (value_of o)
-  unfolding value_of optionAs
+  value_as : (o : Option (Timed A)) → value_of (option_as timed_as o) ≡ option_as f (value_of o)
+  unfolding value_of option_as
   value_as none = refl
   value_as (some v) = refl
 
-  pub get-as : (k : ℕ) (c : Cache A) → get k (valuesAs f c) ≡ optionAs f (get k c)
-  unfolding valuesAs get
+  pub get-as : (k : ℕ) (c : Cache A) → get k (values_as f c) ≡ option_as f (get k c)
+  unfolding values_as get
   get-as k c = ap value_of (lookup-as k c.entries) ∙ value_as (lookup k c.entries)
 
-  pub put_as : (k : ℕ) (v : A) (t : ℕ) (c : Cache A) → valuesAs f (put_in k v t c) ≡ put_in k (f v) t (valuesAs f c)
-  unfolding valuesAs put_in
+  pub put_as : (k : ℕ) (v : A) (t : ℕ) (c : Cache A) → values_as f (put_in k v t c) ≡ put_in k (f v) t (values_as f c)
+  unfolding values_as put_in
   put_as k v t c = λ j. record { entries = insert-as k (record { expires = t; value = v }) c.entries j; expiry = (put_in k v t c).expiry }
 
-  pub expire-as : (t : ℕ) (c : Cache A) → valuesAs f (expireUntil t c) ≡ expireUntil t (valuesAs f c)
-  unfolding valuesAs expireUntil
-  expire-as t c = λ j. record { entries = popAll-as (due t c.expiry) c.entries j; expiry = later t c.expiry }
+  pub expire-as : (t : ℕ) (c : Cache A) → values_as f (expire_until t c) ≡ expire_until t (values_as f c)
+  unfolding values_as expire_until
+  expire-as t c = λ j. record { entries = pop_all-as (due t c.expiry) c.entries j; expiry = later t c.expiry }
 
-  pub later-as : (t : ℕ) (c : Cache A) → valuesAs f (laterCache t c) ≡ laterCache t (valuesAs f c)
-  unfolding valuesAs laterCache
-  later-as t c = λ j. record { entries = sym (filter_map (λ (e : Entry (Timed B)). ltb t e.value.expires) (readAs f) c.entries) j; expiry = (laterCache t c).expiry }
+  pub later-as : (t : ℕ) (c : Cache A) → values_as f (later_cache t c) ≡ later_cache t (values_as f c)
+  unfolding values_as later_cache
+  later-as t c = λ j. record { entries = sym (filter_map (λ (e : Entry (Timed B)). ltb t e.value.expires) (read_as f) c.entries) j; expiry = (later_cache t c).expiry }
 
-  pub length-as : (c : Cache A) → length (valuesAs f c).entries ≡ length c.entries
-  unfolding valuesAs
-  length-as c = length-map c.entries (readAs f)
+  pub length-as : (c : Cache A) → length (values_as f c).entries ≡ length c.entries
+  unfolding values_as
+  length-as c = length-map c.entries (read_as f)
 
 -- values that are read another way, and come out the same
-pub values_same : {A : Type 0} (v w : List ℕ → List ℕ → A) (xs ys : List ExpiryRow) → map expiryOf xs ≡ map expiryOf ys → (es : List Ref)
+pub values_same : {A : Type 0} (v w : List ℕ → List ℕ → A) (xs ys : List ExpiryRow) → map expiry_of xs ≡ map expiry_of ys → (es : List Ref)
     → ((i : ℕ) → i < length es → entry_of v xs (get_or es i (record { place = 0; own = [] })) ≡ entry_of w ys (get_or es i (record { place = 0; own = [] })))
-    → cacheOf v es xs ≡ cacheOf w es ys
-unfolding cacheOf
+    → cache_of v es xs ≡ cache_of w es ys
+unfolding cache_of
 values_same {A} v w xs ys e es h = λ j. record { entries = go es h j; expiry = e j }
   where
     go : (es : List Ref) → ((i : ℕ) → i < length es → entry_of v xs (get_or es i (record { place = 0; own = [] })) ≡ entry_of w ys (get_or es i (record { place = 0; own = [] })))
@@ -130,11 +130,11 @@ module _ {A : Type 0} where
       (λ q. rw q (rw p (rw q (ap (λ (l : Map (Timed A)). e ∷ l) (insert-twice k v w m)))))))
 
   pub replace-put : (k : ℕ) (v w : A) (t : ℕ) (c : Cache A) → replace k w (put_in k v t c) ≡ put_in k w t c
-  unfolding replace put_in withValue
+  unfolding replace put_in with_value
   replace-put k v w t c =
       let a : Timed A = record { expires = t; value = v } in
       let b : Timed A = record { expires = t; value = w } in
       λ j. record {
-        entries = (ap (λ (o : Option (Timed A)). withValue k w o (insert k a c.entries)) (lookup-insert-same k a c.entries) ∙ insert-twice k a b c.entries) j;
+        entries = (ap (λ (o : Option (Timed A)). with_value k w o (insert k a c.entries)) (lookup-insert-same k a c.entries) ∙ insert-twice k a b c.entries) j;
         expiry = (put_in k w t c).expiry;
       }

@@ -1,11 +1,11 @@
-// Time caches (`TimeBoundCache`): document 01, "Time caches".
+// Time caches (`TimeBoundCache`): the specification, "Time caches".
 ghost use Rattle.std.specs.Prelude.{◌≡◌, map, ◌∷◌, [], ◌*◌, ◌≤◌, ◌<◌, length};
 ghost use Rattle.storage.specs.Rows.Ident.{id_of};
 ghost use Rattle.storage.specs.Rows.Part.{put};
 ghost use Rattle.storage.specs.Rows.Sorted.{FoundIs};
 ghost use Rattle.storage.specs.Refs.Refs.{ref, places, Below, moved};
-ghost use Rattle.time_cache.specs.TimeCache.{holds, laterCache};
-ghost use Rattle.time_cache.specs.Tables.{refsAt, rows_at, cacheAt, row_at, named, resized, Cut, Lies, Room, Sound, sound};
+ghost use Rattle.time_cache.specs.TimeCache.{holds, later_cache};
+ghost use Rattle.time_cache.specs.Tables.{refs_at, rows_at, cache_at, row_at, named, resized, Cut, Lies, Room, Sound, sound};
 ghost use Rattle.time_cache.specs.Steps.{ref_at, GotIs, Opens, Places, Gap, Inserts, Drops, DropsEntries, Expires};
 
 use crate::{expiry, named};
@@ -74,7 +74,7 @@ impl TimeBoundCache {
     // Where the key's entry stands, or would stand.
     pub fn find(self, block: &[u8], key: Id) -> Found
         requires { Lies self block.now × Sound self block.now }
-        ensures { FoundIs (named (rows_at self block.now) (refsAt self block.now)) (id_of key) result }
+        ensures { FoundIs (named (rows_at self block.now) (refs_at self block.now)) (id_of key) result }
     {
         let a = self.entries.at;
         let s = self.entries.stride;
@@ -88,7 +88,7 @@ impl TimeBoundCache {
     // How many rows are due at an instant: "entries with time ≤ the instant".
     pub(crate) fn due(self, block: &[u8], instant: Millis) -> usize
         requires { Lies self block.now × Sound self block.now }
-        ensures { Cut (cacheAt self block.now).expiry instant.0 result }
+        ensures { Cut (cache_at self block.now).expiry instant.0 result }
     {
         let b = self.expiry.at;
         let t = self.expiry.stride;
@@ -99,7 +99,7 @@ impl TimeBoundCache {
     // How many expiry rows are later than an instant: those that `expire_until` leaves.
     pub fn rows_later(self, block: &[u8], instant: Millis) -> usize
         requires { Lies self block.now × Sound self block.now }
-        ensures { result ≡ length (laterCache instant.0 (cacheAt self block.now)).expiry }
+        ensures { result ≡ length (later_cache instant.0 (cache_at self block.now)).expiry }
     {
         self.expiry.len - self.due(block, instant)
     }
@@ -107,7 +107,7 @@ impl TimeBoundCache {
     // How many entries expire later than an instant: those that `expire_until` leaves.
     pub fn entries_later(self, block: &[u8], instant: Millis) -> usize
         requires { Lies self block.now × Sound self block.now }
-        ensures { result ≡ length (laterCache instant.0 (cacheAt self block.now)).entries }
+        ensures { result ≡ length (later_cache instant.0 (cache_at self block.now)).entries }
     {
         let k = self.due(block, instant);
         let a = self.entries.at;
@@ -117,7 +117,7 @@ impl TimeBoundCache {
     // The row that entry i names.
     pub fn place(self, block: &[u8], i: usize) -> usize
         requires { Lies self block.now × (i < self.entries.len) }
-        ensures { result ≡ (ref_at (refsAt self block.now) i).place }
+        ensures { result ≡ (ref_at (refs_at self block.now) i).place }
     {
         let at = self.entries.at + i * self.entries.stride;
         word::load2(block, at) as usize
@@ -135,7 +135,7 @@ impl TimeBoundCache {
     // `contains_key`: whether the key has an entry.
     pub fn contains_key(self, block: &[u8], key: Id) -> bool
         requires { Lies self block.now × Sound self block.now }
-        ensures { result ≡ holds (id_of key) (cacheAt self block.now) }
+        ensures { result ≡ holds (id_of key) (cache_at self block.now) }
     {
         let f = self.find(block, key);
         match f {
@@ -162,7 +162,7 @@ impl TimeBoundCache {
     // Whether the key has an entry that expires later than an instant: one that `expire_until` leaves.
     pub fn contains_later(self, block: &[u8], key: Id, instant: Millis) -> bool
         requires { Lies self block.now × Sound self block.now }
-        ensures { result ≡ holds (id_of key) (laterCache instant.0 (cacheAt self block.now)) }
+        ensures { result ≡ holds (id_of key) (later_cache instant.0 (cache_at self block.now)) }
     {
         let g = self.get(block, key);
         match g {
@@ -206,8 +206,8 @@ impl TimeBoundCache {
 
     // Renames the rows that entries name, after a row was put in at i: nothing where it is the last, as it is unless the clock went back.
     fn move_places(self, block: &mut [u8], i: usize)
-        requires { Lies self block.old × Below self.expiry.len (places (refsAt self block.old)) }
-        ensures { Places self (map (moved i) (refsAt self block.old)) (self.entries.len * self.entries.stride) block.old block.new }
+        requires { Lies self block.old × Below self.expiry.len (places (refs_at self block.old)) }
+        ensures { Places self (map (moved i) (refs_at self block.old)) (self.entries.len * self.entries.stride) block.old block.new }
     {
         let m = self.expiry.len;
         if m <= i {
@@ -223,7 +223,7 @@ impl TimeBoundCache {
     // Has entry j name row i.
     fn store_place(self, block: &mut [u8], j: usize, i: usize)
         requires { Lies self block.old × (j < self.entries.len) × (i < 65536) }
-        ensures { Places self (put j (ref i (ref_at (refsAt self block.old) j).own ∷ []) (refsAt self block.old)) (self.entries.len * self.entries.stride) block.old block.new }
+        ensures { Places self (put j (ref i (ref_at (refs_at self block.old) j).own ∷ []) (refs_at self block.old)) (self.entries.len * self.entries.stride) block.old block.new }
     {
         let at = self.entries.at + j * self.entries.stride;
         word::store_le(block, at, 2, i as u64);

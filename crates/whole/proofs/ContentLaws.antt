@@ -14,40 +14,40 @@ use lib.Seq.{drop-cons, drop-drop, take-suc}
 use Rattle.storage.specs.Lists.Base.{sum}
 use Rattle.storage.proofs.ListsLaws.MapLaws.{all_head, all_tail}
 use Rattle.storage.specs.Rows.Part.{part}
-use Rattle.storage.specs.Rows.Digits.{leNat}
+use Rattle.storage.specs.Rows.Digits.{le_nat}
 use Rattle.storage.specs.Rows.Rows.{rows}
 use Rattle.storage.proofs.RowsLaws.Parts.{part-part, length_part}
 use Rattle.storage.proofs.RowsLaws.Rows.{length-rows, get_d_rows}
 use Rattle.storage.specs.Refs.Refs.{Ref, refs, places}
-use Rattle.storage.proofs.RefsLaws.Places.{getD-map-in}
-use Rattle.time_cache.specs.Tables.{ExpiryRow, expiryRowOf, expiryRows, row_at, expiryRow, entry_of, cacheOf}
+use Rattle.storage.proofs.RefsLaws.Places.{get_or-map-in}
+use Rattle.time_cache.specs.Tables.{ExpiryRow, expiry_row_of, expiry_rows, row_at, expiry_row, entry_of, cache_of}
 use Rattle.protocol.specs.State.{Limits}
-use Rattle.protocol.specs.Whole.{contentHeld}
-use Rattle.block.specs.View.{limitsOf, fourAt, contentOf, cachedOf, cachedIn, state_of}
+use Rattle.protocol.specs.Whole.{content_held}
+use Rattle.block.specs.View.{limits_of, four_at, content_of, cached_of, cached_in, state_of}
 use Rattle.block.specs.Fit.{Fit}
 use Rattle.block.specs.Sound.{Adjoining, done, next}
 use Rattle.block.specs.declared.head.Head.{Head}
 use Rattle.block.proofs.Tables.{length-table}
-use Rattle.whole.specs.Held.{all_below, placesName, adjoin}
+use Rattle.whole.specs.Held.{all_below, places_name, adjoin}
 use Rattle.whole.specs.Parts.{length_at, table_of}
 use Rattle.whole.proofs.HeldLaws.{adjoining-of}
 
 -- the number in four bytes of row i, as it lies in the table
-pub four-at : (s n i o : ℕ) (b : List ℕ) → o + 4 ≤ s → i < n → leNat (part (i * s + o) 4 b) ≡ fourAt o (get_or (rows s n b) i [])
-unfolding fourAt
-four-at s n i o b w l = ap leNat (sym (part-part o 4 (i * s) s b w) ∙ ap (part o 4) (sym (get_d_rows s n i [] b l)))
+pub four-at : (s n i o : ℕ) (b : List ℕ) → o + 4 ≤ s → i < n → le_nat (part (i * s + o) 4 b) ≡ four_at o (get_or (rows s n b) i [])
+unfolding four_at
+four-at s n i o b w l = ap le_nat (sym (part-part o 4 (i * s) s b w) ∙ ap (part o 4) (sym (get_d_rows s n i [] b l)))
 
-module _ (rs : List (List ℕ)) (at i e start : ℕ) (l : i < length rs) (s : start ≡ fourAt 40 (get_or rs i [])) where
+module _ (rs : List (List ℕ)) (at i e start : ℕ) (l : i < length rs) (s : start ≡ four_at 40 (get_or rs i [])) where
   -- the rows from i on begin with row i
   opens : drop i rs ≡ get_or rs i [] ∷ drop (i + 1) rs
   opens = drop-cons rs i [] l ∙ ap (λ (n : ℕ). get_or rs i [] ∷ drop n rs) (sym (add-one i))
 
   -- a row that starts where the one before it ends
-  pub adjoin-more : (len : ℕ) → start ≡ at → len ≡ fourAt 44 (get_or rs i []) → adjoin (start + len) (drop (i + 1) rs) e ≡ adjoin at (drop i rs) e
+  pub adjoin-more : (len : ℕ) → start ≡ at → len ≡ four_at 44 (get_or rs i []) → adjoin (start + len) (drop (i + 1) rs) e ≡ adjoin at (drop i rs) e
   unfolding adjoin
   adjoin-more len h g =
       sym (ap (λ (t : List (List ℕ)). adjoin at t e) opens
-      ∙ ap (λ (t : Bool). t && adjoin (at + fourAt 44 (get_or rs i [])) (drop (i + 1) rs) e) (eq-eqb (fourAt 40 (get_or rs i [])) at (sym s ∙ h))
+      ∙ ap (λ (t : Bool). t && adjoin (at + four_at 44 (get_or rs i [])) (drop (i + 1) rs) e) (eq-eqb (four_at 40 (get_or rs i [])) at (sym s ∙ h))
       ∙ (λ k. adjoin (sym h k + sym g k) (drop (i + 1) rs) e))
 
   -- a row that starts elsewhere
@@ -55,7 +55,7 @@ module _ (rs : List (List ℕ)) (at i e start : ℕ) (l : i < length rs) (s : st
   unfolding adjoin
   adjoin-not h =
       ap (λ (t : List (List ℕ)). adjoin at t e) opens
-      ∙ ap (λ (t : Bool). t && adjoin (at + fourAt 44 (get_or rs i [])) (drop (i + 1) rs) e) (ne_eqb (fourAt 40 (get_or rs i [])) at (λ q. h (s ∙ q)))
+      ∙ ap (λ (t : Bool). t && adjoin (at + four_at 44 (get_or rs i [])) (drop (i + 1) rs) e) (ne_eqb (four_at 40 (get_or rs i [])) at (λ q. h (s ∙ q)))
 
 pub adjoin-end : (rs : List (List ℕ)) (at i e : ℕ) → length rs ≤ i → adjoin at (drop i rs) e ≡ eqb at e
 unfolding adjoin
@@ -77,48 +77,48 @@ module _ {A : Type 0} (f : A → ℕ) where
 -- where each content ends
 ends_by : (a : ℕ) (rs : List (List ℕ)) (e : ℕ) → Adjoining a rs e → a ≤ e
 ends_by a rs e done = omega arith
-ends_by a rs e (next row more s rest) = omega (arith, ends_by (a + fourAt 44 row) more e rest)
+ends_by a rs e (next row more s rest) = omega (arith, ends_by (a + four_at 44 row) more e rest)
 
-ends-within : (a : ℕ) (rs : List (List ℕ)) (e i : ℕ) → Adjoining a rs e → i < length rs → fourAt 40 (get_or rs i []) + fourAt 44 (get_or rs i []) ≤ e
+ends-within : (a : ℕ) (rs : List (List ℕ)) (e i : ℕ) → Adjoining a rs e → i < length rs → four_at 40 (get_or rs i []) + four_at 44 (get_or rs i []) ≤ e
 ends-within a rs e i done h = absurd (not-suc-le-zero h)
-ends-within a rs e zero (next row more s rest) h = omega (arith, ends_by (a + fourAt 44 row) more e rest)
-ends-within a rs e (suc i) (next row more s rest) h = ends-within (a + fourAt 44 row) more e i rest (le_of_suc-le-suc h)
+ends-within a rs e zero (next row more s rest) h = omega (arith, ends_by (a + four_at 44 row) more e rest)
+ends-within a rs e (suc i) (next row more s rest) h = ends-within (a + four_at 44 row) more e i rest (le_of_suc-le-suc h)
 
 -- start and length of a row's content stand after its identifier
-start-of : (row : List ℕ) → fourAt 0 (drop 40 row) ≡ fourAt 40 row
-unfolding fourAt part
+start-of : (row : List ℕ) → four_at 0 (drop 40 row) ≡ four_at 40 row
+unfolding four_at part
 start-of row = refl
 
-length-of : (row : List ℕ) → fourAt 4 (drop 40 row) ≡ fourAt 44 row
-unfolding fourAt part
-length-of row = ap (λ (t : List ℕ). leNat (take 4 t)) (drop-drop 4 40 row)
+length-of : (row : List ℕ) → four_at 4 (drop 40 row) ≡ four_at 44 row
+unfolding four_at part
+length-of row = ap (λ (t : List ℕ). le_nat (take 4 t)) (drop-drop 4 40 row)
 
 module _ (store : List ℕ) (rs : List (List ℕ)) (used : ℕ) (a : Adjoining 0 rs used) (w : used ≤ length store) where
-  content-length : (p : ℕ) → p < length rs → length (contentOf store (row_at (map expiryRowOf rs) p).rest) ≡ length_at rs p
-  unfolding contentOf expiryRowOf
+  content-length : (p : ℕ) → p < length rs → length (content_of store (row_at (map expiry_row_of rs) p).rest) ≡ length_at rs p
+  unfolding content_of expiry_row_of
   content-length p h =
       let row : List ℕ = get_or rs p [] in
-      let r : row_at (map expiryRowOf rs) p ≡ expiryRowOf row = getD-map-in expiryRowOf rs p (expiryRow 0 0 []) [] h in
-      ap (λ (x : ExpiryRow). length (contentOf store x.rest)) r
+      let r : row_at (map expiry_row_of rs) p ≡ expiry_row_of row = get_or-map-in expiry_row_of rs p (expiry_row 0 0 []) [] h in
+      ap (λ (x : ExpiryRow). length (content_of store x.rest)) r
       ∙ (λ k. length (part (start-of row k) (length-of row k) store))
-      ∙ length_part (fourAt 40 row) (fourAt 44 row) store (omega (arith, ends-within 0 rs used p a h))
+      ∙ length_part (four_at 40 row) (four_at 44 row) store (omega (arith, ends-within 0 rs used p a h))
 
   -- the contents of the entries that places name
   pub content-sum : (es : List Ref) → all_below (length rs) (places es) ≡ true
-      → sum (λ e. length e.value.value.content) (map (entry_of (cachedOf store) (map expiryRowOf rs)) es) ≡ sum (length_at rs) (places es)
-  unfolding sum cachedOf
+      → sum (λ e. length e.value.value.content) (map (entry_of (cached_of store) (map expiry_row_of rs)) es) ≡ sum (length_at rs) (places es)
+  unfolding sum cached_of
   content-sum [] b = refl
   content-sum (r ∷ es) b =
       let h : r.place < length rs = ltb-true r.place (length rs) (all_head (λ p. ltb p (length rs)) r.place (places es) b) in
       λ k. content-length r.place h k + content-sum es (all_tail (λ p. ltb p (length rs)) r.place (places es) b) k
 
 -- the contents of the cached messages
-pub content-held : (h : Head) (xs : List ℕ) → Fit h xs → placesName h.live.cached_rows 4 h.live.cached (table_of h 4 xs) ≡ true
+pub content-held : (h : Head) (xs : List ℕ) → Fit h xs → places_name h.live.cached_rows 4 h.live.cached (table_of h 4 xs) ≡ true
     → adjoin 0 (rows 48 h.live.cached_rows (table_of h 5 xs)) h.live.contents ≡ true
-    → contentHeld (state_of h xs) ≡ sum (length_at (rows 48 h.live.cached_rows (table_of h 5 xs))) (places (refs 4 h.live.cached (table_of h 4 xs)))
-unfolding contentHeld state_of cachedIn cacheOf expiryRows
+    → content_held (state_of h xs) ≡ sum (length_at (rows 48 h.live.cached_rows (table_of h 5 xs))) (places (refs 4 h.live.cached (table_of h 4 xs)))
+unfolding content_held state_of cached_in cache_of expiry_rows
 content-held h xs fit b a =
-    let l : Limits = limitsOf h.limits in
+    let l : Limits = limits_of h.limits in
     let rs : List (List ℕ) = rows 48 h.live.cached_rows (table_of h 5 xs) in
     let es : List Ref = refs 4 h.live.cached (table_of h 4 xs) in
     content-sum (table_of h 6 xs) rs h.live.contents (adjoining-of 0 rs h.live.contents a)

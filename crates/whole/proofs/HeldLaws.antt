@@ -15,49 +15,49 @@ use Rattle.storage.specs.Rows.Part.{part}
 use Rattle.storage.specs.Rows.Rows.{rows}
 use Rattle.storage.proofs.RowsLaws.Rows.{length-rows, get_d_rows}
 use Rattle.time_cache.proofs.Orders.{below_of}
-use Rattle.protocol.specs.State.{Limits, limitsInRange, up_to, blockNeed}
-use Rattle.protocol.specs.Whole.{contentHeld, whole}
+use Rattle.protocol.specs.State.{Limits, limits_in_range, up_to, block_need}
+use Rattle.protocol.specs.Whole.{content_held, whole}
 use Rattle.block.specs.Layout.{tables}
-use Rattle.block.specs.View.{limitsOf, byte_at, fourAt, view_of, state_of}
+use Rattle.block.specs.View.{limits_of, byte_at, four_at, view_of, state_of}
 use Rattle.block.specs.Fit.{Ceilings, Within, Fit}
 use Rattle.block.specs.Sound.{Numbered, AllNumbered, Adjoining, done, next, Laid, Sound}
-use Rattle.block.specs.Header.{headIn}
+use Rattle.block.specs.Header.{head_in}
 use Rattle.block.specs.declared.head.Head.{Head}
 use Rattle.block.specs.declared.head.Live.{Live}
 use Rattle.block.proofs.Tables.{within-need}
-use Rattle.whole.specs.Held.{hasHeader, hasTables, countsWithin, all_below, placesName, numbersName, allLists, adjoin, laidOut, holdsWith, held, wholeHeld, wholeBlock}
+use Rattle.whole.specs.Held.{has_header, has_tables, counts_within, all_below, places_name, numbers_name, all_lists, adjoin, laid_out, holds_with, held, whole_held, whole_block}
 use Rattle.whole.proofs.Tests.{each}
 
-pub numbered_of : (m : ℕ) (list : List ℕ) → numbersName m list ≡ true → Numbered m list
-unfolding numbersName
+pub numbered_of : (m : ℕ) (list : List ℕ) → numbers_name m list ≡ true → Numbered m list
+unfolding numbers_name
 numbered_of m list h =
     let few : Bool = leb (byte_at 0 list) 32 in
     let low : Bool = all_below m (take (byte_at 0 list) (drop 1 list)) in
     record { few = leb-true (byte_at 0 list) 32 (and_left few low h); below = below_of m (take (byte_at 0 list) (drop 1 list)) (and_right few low h) }
 
-pub all-numbered-of : (m o s n : ℕ) (bytes : List ℕ) → allLists (numbersName m) o s n bytes ≡ true → AllNumbered m o s n bytes
-unfolding allLists
+pub all-numbered-of : (m o s n : ℕ) (bytes : List ℕ) → all_lists (numbers_name m) o s n bytes ≡ true → AllNumbered m o s n bytes
+unfolding all_lists
 all-numbered-of m o s n bytes h = record {
   each = λ i l. numbered_of m (drop o (part (i * s) s bytes))
-      (subst (λ (row : List ℕ). numbersName m (drop o row) ≡ true) (get_d_rows s n i [] bytes l)
-      (all-at (λ row. numbersName m (drop o row)) [] (rows s n bytes) h i (omega (arith, length-rows s n bytes))));
+      (subst (λ (row : List ℕ). numbers_name m (drop o row) ≡ true) (get_d_rows s n i [] bytes l)
+      (all-at (λ row. numbers_name m (drop o row)) [] (rows s n bytes) h i (omega (arith, length-rows s n bytes))));
 }
 
 pub adjoining-of : (a : ℕ) (rs : List (List ℕ)) (e : ℕ) → adjoin a rs e ≡ true → Adjoining a rs e
 unfolding adjoin
 adjoining-of a [] e h = subst (λ (n : ℕ). Adjoining a [] n) (eqb-true a e h) done
 adjoining-of a (row ∷ more) e h =
-    let here : Bool = eqb (fourAt 40 row) a in
-    let rest : Bool = adjoin (a + fourAt 44 row) more e in
-    next row more (eqb-true (fourAt 40 row) a (and_left here rest h)) (adjoining-of (a + fourAt 44 row) more e (and_right here rest h))
+    let here : Bool = eqb (four_at 40 row) a in
+    let rest : Bool = adjoin (a + four_at 44 row) more e in
+    next row more (eqb-true (four_at 40 row) a (and_left here rest h)) (adjoining-of (a + four_at 44 row) more e (and_right here rest h))
 
 -- limits in range are within their ceilings
 up-to : (c n : ℕ) → up_to c n ≡ true → n ≤ c
 unfolding up_to
 up-to c n h = leb-true n c (and_right (leb 1 n) (leb n c) h)
 
-pub ceilings-of : (l : Limits) → limitsInRange l ≡ true → Ceilings l
-unfolding limitsInRange
+pub ceilings-of : (l : Limits) → limits_in_range l ≡ true → Ceilings l
+unfolding limits_in_range
 ceilings-of l h =
     let e = each (up_to 32 l.N) (up_to 2048 l.R ∷ up_to 512 l.C ∷ up_to 1048576 l.B ∷ up_to 512 l.G ∷ up_to 512 l.S ∷ up_to 512 l.T ∷ up_to 8192 l.Q ∷ up_to 4096 l.D ∷ []) h in
     record {
@@ -73,8 +73,8 @@ ceilings-of l h =
     }
 
 -- row counts within the limits
-pub within_of : (l : Limits) (v : Live) → countsWithin l v ≡ true → Within l v
-unfolding countsWithin
+pub within_of : (l : Limits) (v : Live) → counts_within l v ≡ true → Within l v
+unfolding counts_within
 within_of l v h =
     let e = each (leb v.links l.N)
     (leb v.received l.R
@@ -92,12 +92,12 @@ within_of l v h =
     record {
       links = leb-true v.links l.N e.0;
       received = leb-true v.received l.R e.1.0;
-      receivedRows = leb-true v.received_rows (2 * l.R) e.1.1.0;
+      received_rows = leb-true v.received_rows (2 * l.R) e.1.1.0;
       cached = leb-true v.cached l.C e.1.1.1.0;
-      cachedRows = leb-true v.cached_rows (2 * l.C) e.1.1.1.1.0;
+      cached_rows = leb-true v.cached_rows (2 * l.C) e.1.1.1.1.0;
       contents = leb-true v.contents l.B e.1.1.1.1.1.0;
       grafted = leb-true v.grafted l.G e.1.1.1.1.1.1.0;
-      graftedRows = leb-true v.grafted_rows (2 * l.G) e.1.1.1.1.1.1.1.0;
+      grafted_rows = leb-true v.grafted_rows (2 * l.G) e.1.1.1.1.1.1.1.0;
       missing = leb-true v.missing l.S e.1.1.1.1.1.1.1.1.0;
       timers = leb-true v.timers l.T e.1.1.1.1.1.1.1.1.1.0;
       queued = leb-true v.queued l.Q e.1.1.1.1.1.1.1.1.1.1.0;
@@ -105,31 +105,31 @@ within_of l v h =
     }
 
 -- the tables lie in the block
-pub fit_of : (h : Head) (block : List ℕ) → hasTables (limitsOf h.limits) block ≡ true → countsWithin (limitsOf h.limits) h.live ≡ true → Fit h block
-unfolding hasTables
+pub fit_of : (h : Head) (block : List ℕ) → has_tables (limits_of h.limits) block ≡ true → counts_within (limits_of h.limits) h.live ≡ true → Fit h block
+unfolding has_tables
 fit_of h block a b =
-    let l : Limits = limitsOf h.limits in
-    let range : Bool = limitsInRange l in
-    let long : Bool = leb (blockNeed l) (length block) in
+    let l : Limits = limits_of h.limits in
+    let range : Bool = limits_in_range l in
+    let long : Bool = leb (block_need l) (length block) in
     record {
       ceilings = ceilings-of l (and_left range long a);
       within = within_of l h.live b;
-      long = omega (arith, within-need l, leb-true (blockNeed l) (length block) (and_right range long a));
+      long = omega (arith, within-need l, leb-true (block_need l) (length block) (and_right range long a));
     }
 
-pub laid_of : (h : Head) (t : List (List ℕ)) → laidOut h t ≡ true → Laid h t
-unfolding laidOut contentHeld
+pub laid_of : (h : Head) (t : List (List ℕ)) → laid_out h t ≡ true → Laid h t
+unfolding laid_out content_held
 laid_of h t a =
     let v : Live = h.live in
-    let e = each (placesName v.received_rows 2 v.received (get_or t 2 []))
-    (placesName v.cached_rows 4 v.cached (get_or t 4 [])
-    ∷ placesName v.grafted_rows 119 v.grafted (get_or t 7 [])
-    ∷ allLists (numbersName v.links) 22 119 v.grafted (get_or t 7 [])
-    ∷ allLists (numbersName v.links) 32 129 v.missing (get_or t 9 [])
+    let e = each (places_name v.received_rows 2 v.received (get_or t 2 []))
+    (places_name v.cached_rows 4 v.cached (get_or t 4 [])
+    ∷ places_name v.grafted_rows 119 v.grafted (get_or t 7 [])
+    ∷ all_lists (numbers_name v.links) 22 119 v.grafted (get_or t 7 [])
+    ∷ all_lists (numbers_name v.links) 32 129 v.missing (get_or t 9 [])
     ∷ all_below v.links (take v.queued (get_or t 11 []))
     ∷ all_below v.links (take v.dropped (get_or t 13 []))
     ∷ adjoin 0 (rows 48 v.cached_rows (get_or t 5 [])) v.contents
-    ∷ eqb (contentHeld (view_of h t)) v.contents
+    ∷ eqb (content_held (view_of h t)) v.contents
     ∷ []) a in
     record {
       received = below_of _ _ e.0;
@@ -143,29 +143,29 @@ laid_of h t a =
       dropped = below_of _ _ e.1.1.1.1.1.1.0;
     }
 
-pub sound-of : (h : Head) (block : List ℕ) → holdsWith h block ≡ true → Sound h block
-unfolding holdsWith
+pub sound-of : (h : Head) (block : List ℕ) → holds_with h block ≡ true → Sound h block
+unfolding holds_with
 sound-of h block a =
-    let l : Limits = limitsOf h.limits in
-    let e = each (hasTables l block) (countsWithin l h.live ∷ laidOut h (tables l block) ∷ []) a in
+    let l : Limits = limits_of h.limits in
+    let e = each (has_tables l block) (counts_within l h.live ∷ laid_out h (tables l block) ∷ []) a in
     record { fit = fit_of h block e.0 e.1.0; laid = laid_of h (tables l block) e.1.1.0 }
 
 -- a block that is whole: it holds the state of its tables, and that state is whole
 pub record Wholly (block : List ℕ) : Type 0 where
-  pub header : hasHeader block ≡ true
-  pub holds : holdsWith (headIn block) block ≡ true
-  pub sound : Sound (headIn block) block
-  pub state : held block ≡ some (state_of (headIn block) block)
-  pub whole : whole (state_of (headIn block) block) ≡ true
+  pub header : has_header block ≡ true
+  pub holds : holds_with (head_in block) block ≡ true
+  pub sound : Sound (head_in block) block
+  pub state : held block ≡ some (state_of (head_in block) block)
+  pub whole : whole (state_of (head_in block) block) ≡ true
 
-pub wholly_of : (block : List ℕ) → wholeBlock block ≡ true → Wholly block
-unfolding wholeBlock wholeHeld held
+pub wholly_of : (block : List ℕ) → whole_block block ≡ true → Wholly block
+unfolding whole_block whole_held held
 wholly_of block w =
-    cases (hasHeader block && holdsWith (headIn block) block)
+    cases (has_header block && holds_with (head_in block) block)
     (λ p. record {
-      header = and_left (hasHeader block) (holdsWith (headIn block) block) p;
-      holds = and_right (hasHeader block) (holdsWith (headIn block) block) p;
-      sound = sound-of (headIn block) block (and_right (hasHeader block) (holdsWith (headIn block) block) p);
+      header = and_left (has_header block) (holds_with (head_in block) block) p;
+      holds = and_right (has_header block) (holds_with (head_in block) block) p;
+      sound = sound-of (head_in block) block (and_right (has_header block) (holds_with (head_in block) block) p);
       state = rw p;
       whole = rw p at w;
     })

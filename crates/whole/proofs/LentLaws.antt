@@ -11,19 +11,19 @@ use Rattle.storage.specs.Lists.Map.{keys}
 use Rattle.storage.specs.Rows.Part.{part}
 use Rattle.storage.specs.Rows.Rows.{rows}
 use Rattle.storage.proofs.RowsLaws.Parts.{part-between}
-use Rattle.storage.specs.Rows.Sorted.{key_of, keys as rowKeys}
-use Rattle.storage.specs.Refs.Refs.{Ref, refOf, refs, places}
-use Rattle.time_cache.specs.TimeCache.{Cache, inPopOrder}
-use Rattle.time_cache.specs.Tables.{ExpiryRow, expiryRowOf, expiryRows, cacheOf, cacheIn, held, sound}
+use Rattle.storage.specs.Rows.Sorted.{key_of, keys as row_keys}
+use Rattle.storage.specs.Refs.Refs.{Ref, ref_of, refs, places}
+use Rattle.time_cache.specs.TimeCache.{Cache, in_pop_order}
+use Rattle.time_cache.specs.Tables.{ExpiryRow, expiry_row_of, expiry_rows, cache_of, cache_in, held, sound}
 use Rattle.time_cache.proofs.TableLaws.{keys-named}
 use Rattle.time_cache.proofs.BlockLaws.{open-end}
 use Rattle.protocol.specs.State.{Limits}
 use Rattle.block.specs.Layout.{sizes, place, table}
 use Rattle.block.proofs.Cut.{cut-part}
 use Rattle.block.proofs.Tables.{rows-table}
-use Rattle.whole.specs.Held.{all_below, placesName, allLists}
-use Rattle.block.specs.TimeCaches.{cacheFrom}
-use Rattle.whole.specs.Parts.{cacheWhole}
+use Rattle.whole.specs.Held.{all_below, places_name, all_lists}
+use Rattle.block.specs.TimeCaches.{cache_from}
+use Rattle.whole.specs.Parts.{cache_whole}
 use Rattle.whole.proofs.Tests.{each}
 
 -- how long a part without an end is
@@ -33,11 +33,11 @@ length-open a xs = ap length (open-end a xs) ∙ length-drop a xs
 module _ (l : Limits) (xs : List ℕ) where
   refs-table : (i s n : ℕ) → i < 15 → n * s ≤ get_or (sizes l) i 0 → refs s n (drop (place l i) xs) ≡ refs s n (table l i xs)
   unfolding refs
-  refs-table i s n h w = ap (map refOf) (sym (rows-table l i s n xs h w))
+  refs-table i s n h w = ap (map ref_of) (sym (rows-table l i s n xs h w))
 
-  rows-expiry : (j t m : ℕ) → j < 15 → m * t ≤ get_or (sizes l) j 0 → expiryRows t m (drop (place l j) xs) ≡ expiryRows t m (table l j xs)
-  unfolding expiryRows
-  rows-expiry j t m h w = ap (map expiryRowOf) (sym (rows-table l j t m xs h w))
+  rows-expiry : (j t m : ℕ) → j < 15 → m * t ≤ get_or (sizes l) j 0 → expiry_rows t m (drop (place l j) xs) ≡ expiry_rows t m (table l j xs)
+  unfolding expiry_rows
+  rows-expiry j t m h w = ap (map expiry_row_of) (sym (rows-table l j t m xs h w))
 
   -- a table that is lent from its start to the block's end
   pub rows-lent : (t s n a : ℕ) → t < 15 → n * s ≤ get_or (sizes l) t 0 → a ≡ place l t → rows s n (take (length xs - a) (drop a xs)) ≡ rows s n (table l t xs)
@@ -45,16 +45,16 @@ module _ (l : Limits) (xs : List ℕ) where
 
   pub refs-lent : (t s n a : ℕ) → t < 15 → n * s ≤ get_or (sizes l) t 0 → a ≡ place l t → refs s n (take (length xs - a) (drop a xs)) ≡ refs s n (table l t xs)
   unfolding refs
-  refs-lent t s n a h w e = ap (map refOf) (rows-lent t s n a h w e)
+  refs-lent t s n a h w e = ap (map ref_of) (rows-lent t s n a h w e)
 
   pub lists-lent : (f : List ℕ → Bool) (o t s n a : ℕ) → t < 15 → n * s ≤ get_or (sizes l) t 0 → a ≡ place l t
-      → allLists f o s n (take (length xs - a) (drop a xs)) ≡ allLists f o s n (table l t xs)
-  unfolding allLists
+      → all_lists f o s n (take (length xs - a) (drop a xs)) ≡ all_lists f o s n (table l t xs)
+  unfolding all_lists
   lists-lent f o t s n a h w e = ap (all (λ row. f (drop o row))) (rows-lent t s n a h w e)
 
   pub keys-lent : (t s n a : ℕ) → t < 15 → n * s ≤ get_or (sizes l) t 0 → a ≡ place l t
-      → rowKeys s n (take (length xs - a) (drop a xs)) ≡ rowKeys s n (table l t xs)
-  unfolding rowKeys
+      → row_keys s n (take (length xs - a) (drop a xs)) ≡ row_keys s n (table l t xs)
+  unfolding row_keys
   keys-lent t s n a h w e = ap (map key_of) (rows-lent t s n a h w e)
 
   -- the first n bytes of a table
@@ -65,17 +65,17 @@ module _ (l : Limits) (xs : List ℕ) where
       ∙ sym (ap (take n) (cut-part (sizes l) t xs h) ∙ take-take n (get_or (sizes l) t 0) (drop (place l t) xs) w)
 
   pub cache-sound : {A : Type 0} (value : List ℕ → List ℕ → A) (i s n j t m : ℕ) → i < 15 → n * s ≤ get_or (sizes l) i 0 → j < 15 → m * t ≤ get_or (sizes l) j 0
-      → sound (cacheFrom l i s n j t m) xs ≡ cacheWhole m s n (table l i xs) (cacheIn value s n (table l i xs) t m (table l j xs))
-  unfolding sound cacheWhole cacheOf
+      → sound (cache_from l i s n j t m) xs ≡ cache_whole m s n (table l i xs) (cache_in value s n (table l i xs) t m (table l j xs))
+  unfolding sound cache_whole cache_of
   cache-sound value i s n j t m hi wi hj wj =
       let es : List Ref = refs s n (table l i xs) in
-      let rs : List ExpiryRow = expiryRows t m (table l j xs) in
+      let rs : List ExpiryRow = expiry_rows t m (table l j xs) in
       (λ k. all_below m (places (refs-table i s n hi wi k))
-      && ascending (keys (cacheOf held (refs-table i s n hi wi k) (rows-expiry j t m hj wj k)).entries)
-      && inPopOrder (cacheOf held (refs-table i s n hi wi k) (rows-expiry j t m hj wj k)).expiry)
-      ∙ ap (λ (ks : List ℕ). all_below m (places es) && ascending ks && inPopOrder (cacheOf held es rs).expiry) (keys-named held es rs ∙ sym (keys-named value es rs))
+      && ascending (keys (cache_of held (refs-table i s n hi wi k) (rows-expiry j t m hj wj k)).entries)
+      && in_pop_order (cache_of held (refs-table i s n hi wi k) (rows-expiry j t m hj wj k)).expiry)
+      ∙ ap (λ (ks : List ℕ). all_below m (places es) && ascending ks && in_pop_order (cache_of held es rs).expiry) (keys-named held es rs ∙ sym (keys-named value es rs))
 
 -- the places of a cache that passes its test name rows
-pub cache-below : {A : Type 0} (m s n : ℕ) (entries : List ℕ) (c : Cache A) → cacheWhole m s n entries c ≡ true → placesName m s n entries ≡ true
-unfolding cacheWhole
-cache-below m s n entries c h = (each (placesName m s n entries) (ascending (keys c.entries) ∷ inPopOrder c.expiry ∷ []) h).0
+pub cache-below : {A : Type 0} (m s n : ℕ) (entries : List ℕ) (c : Cache A) → cache_whole m s n entries c ≡ true → places_name m s n entries ≡ true
+unfolding cache_whole
+cache-below m s n entries c h = (each (places_name m s n entries) (ascending (keys c.entries) ∷ in_pop_order c.expiry ∷ []) h).0

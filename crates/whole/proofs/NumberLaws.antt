@@ -21,7 +21,7 @@ use Rattle.storage.proofs.RefsLaws.Places.{BelowTo, below_more}
 use Rattle.time_cache.proofs.Orders.{up_of, of-up, below_of, of-below}
 use Rattle.protocol.specs.Links.{Links}
 use Rattle.protocol.specs.Whole.{neighbours}
-use Rattle.block.specs.View.{peerOf}
+use Rattle.block.specs.View.{peer_of}
 use Rattle.block.proofs.LinkLaws.{neighbour-here}
 use Rattle.whole.specs.Held.{all_below}
 use Rattle.whole.proofs.AllLaws.{cons-all}
@@ -92,21 +92,21 @@ module _ (l : Links) (up : ascending (keys l) ≡ true) where
   abbrev m : ℕ
   m = length ps
 
-  same-order : (a b : ℕ) → a < m → b < m → ltb (peerOf ps a) (peerOf ps b) ≡ ltb a b
+  same-order : (a b : ℕ) → a < m → b < m → ltb (peer_of ps a) (peer_of ps b) ≡ ltb a b
   same-order a b ha hb = by_place (tri a b)
     where
-      by_place : (a < b) ⊎ ((a ≡ b) ⊎ (b < a)) → ltb (peerOf ps a) (peerOf ps b) ≡ ltb a b
-      by_place (inl h) = lt-ltb (peerOf ps a) (peerOf ps b) ((up_of ps up).up a b h hb) ∙ sym (lt-ltb a b h)
-      by_place (inr (inl h)) = le-ltb (peerOf ps a) (peerOf ps b) (omega (arith, ap (peerOf ps) h)) ∙ sym (le-ltb a b (omega arith))
-      by_place (inr (inr h)) = le-ltb (peerOf ps a) (peerOf ps b) (omega (arith, (up_of ps up).up b a h ha)) ∙ sym (le-ltb a b (omega arith))
+      by_place : (a < b) ⊎ ((a ≡ b) ⊎ (b < a)) → ltb (peer_of ps a) (peer_of ps b) ≡ ltb a b
+      by_place (inl h) = lt-ltb (peer_of ps a) (peer_of ps b) ((up_of ps up).up a b h hb) ∙ sym (lt-ltb a b h)
+      by_place (inr (inl h)) = le-ltb (peer_of ps a) (peer_of ps b) (omega (arith, ap (peer_of ps) h)) ∙ sym (le-ltb a b (omega arith))
+      by_place (inr (inr h)) = le-ltb (peer_of ps a) (peer_of ps b) (omega (arith, (up_of ps up).up b a h ha)) ∙ sym (le-ltb a b (omega arith))
 
-  pub same-peer : (a b : ℕ) → a < m → b < m → eqb (peerOf ps a) (peerOf ps b) ≡ eqb a b
+  pub same-peer : (a b : ℕ) → a < m → b < m → eqb (peer_of ps a) (peer_of ps b) ≡ eqb a b
   same-peer a b ha hb = by_place (tri a b)
     where
-      by_place : (a < b) ⊎ ((a ≡ b) ⊎ (b < a)) → eqb (peerOf ps a) (peerOf ps b) ≡ eqb a b
-      by_place (inl h) = ne_eqb (peerOf ps a) (peerOf ps b) (λ q. omega (arith, (up_of ps up).up a b h hb)) ∙ sym (ne_eqb a b (λ q. omega arith))
-      by_place (inr (inl h)) = eq-eqb (peerOf ps a) (peerOf ps b) (ap (peerOf ps) h) ∙ sym (eq-eqb a b h)
-      by_place (inr (inr h)) = ne_eqb (peerOf ps a) (peerOf ps b) (λ q. omega (arith, (up_of ps up).up b a h ha)) ∙ sym (ne_eqb a b (λ q. omega arith))
+      by_place : (a < b) ⊎ ((a ≡ b) ⊎ (b < a)) → eqb (peer_of ps a) (peer_of ps b) ≡ eqb a b
+      by_place (inl h) = ne_eqb (peer_of ps a) (peer_of ps b) (λ q. omega (arith, (up_of ps up).up a b h hb)) ∙ sym (ne_eqb a b (λ q. omega arith))
+      by_place (inr (inl h)) = eq-eqb (peer_of ps a) (peer_of ps b) (ap (peer_of ps) h) ∙ sym (eq-eqb a b h)
+      by_place (inr (inr h)) = ne_eqb (peer_of ps a) (peer_of ps b) (λ q. omega (arith, (up_of ps up).up b a h ha)) ∙ sym (ne_eqb a b (λ q. omega arith))
 
   first-low : (n : ℕ) (ns : List ℕ) → all_below m (n ∷ ns) ≡ true → n < m
   first-low n ns b = ltb-true n m (all_head (λ k. ltb k m) n ns b)
@@ -115,34 +115,34 @@ module _ (l : Links) (up : ascending (keys l) ≡ true) where
   rest-low n ns b = all_tail (λ k. ltb k m) n ns b
 
   -- they are neighbours
-  pub peers-neighbours : (ns : List ℕ) → all_below m ns ≡ true → neighbours l (map (peerOf ps) ns) ≡ true
+  pub peers-neighbours : (ns : List ℕ) → all_below m ns ≡ true → neighbours l (map (peer_of ps) ns) ≡ true
   unfolding neighbours all
   peers-neighbours [] b = refl
   peers-neighbours (n ∷ ns) b =
-      rw (neighbour-here (peerOf ps n) n l (up_of ps up) (record { within = first-low n ns b; same = refl })) (peers-neighbours ns (rest-low n ns b))
+      rw (neighbour-here (peer_of ps n) n l (up_of ps up) (record { within = first-low n ns b; same = refl })) (peers-neighbours ns (rest-low n ns b))
 
-  above_same : (n : ℕ) (ns : List ℕ) → n < m → all_below m ns ≡ true → all (ltb (peerOf ps n)) (map (peerOf ps) ns) ≡ all (ltb n) ns
+  above_same : (n : ℕ) (ns : List ℕ) → n < m → all_below m ns ≡ true → all (ltb (peer_of ps n)) (map (peer_of ps) ns) ≡ all (ltb n) ns
   unfolding all
   above_same n [] h b = refl
   above_same n (k ∷ ns) h b =
-      cons-all (ltb (peerOf ps n)) (peerOf ps k) (map (peerOf ps) ns)
+      cons-all (ltb (peer_of ps n)) (peer_of ps k) (map (peer_of ps) ns)
       ∙ (λ i. same-order n k h (first-low k ns b) i && above_same n ns h (rest-low k ns b) i)
       ∙ sym (cons-all (ltb n) k ns)
 
   -- they ascend where the numbers do
-  pub peers-ascend : (ns : List ℕ) → all_below m ns ≡ true → ascending (map (peerOf ps) ns) ≡ ascending ns
+  pub peers-ascend : (ns : List ℕ) → all_below m ns ≡ true → ascending (map (peer_of ps) ns) ≡ ascending ns
   unfolding ascending
   peers-ascend [] b = refl
   peers-ascend (n ∷ ns) b = λ i. above_same n ns (first-low n ns b) (rest-low n ns b) i && peers-ascend ns (rest-low n ns b) i
 
-  member-same : (n : ℕ) (ns : List ℕ) → n < m → all_below m ns ≡ true → member (peerOf ps n) (map (peerOf ps) ns) ≡ member n ns
+  member-same : (n : ℕ) (ns : List ℕ) → n < m → all_below m ns ≡ true → member (peer_of ps n) (map (peer_of ps) ns) ≡ member n ns
   unfolding member
   member-same n [] h b = refl
   member-same n (k ∷ ns) h b =
       rw (same-peer n k h (first-low k ns b)) (cases (eqb n k) (λ p. rw p) (λ p. rw p (member-same n ns h (rest-low k ns b))))
 
   -- each stands once where the numbers do
-  pub peers-once : (ns : List ℕ) → all_below m ns ≡ true → once (map (peerOf ps) ns) ≡ once ns
+  pub peers-once : (ns : List ℕ) → all_below m ns ≡ true → once (map (peer_of ps) ns) ≡ once ns
   unfolding once
   peers-once [] b = refl
   peers-once (n ∷ ns) b = λ i. not (member-same n ns (first-low n ns b) (rest-low n ns b) i) && peers-once ns (rest-low n ns b) i

@@ -18,19 +18,19 @@ use Rattle.storage.proofs.ListsLaws.MapLaws.{cases, true≢, and_left, and_right
 use Rattle.storage.proofs.ListsLaws.ListLaws.{all_map, count-append, count-length}
 use Rattle.storage.proofs.ListsLaws.Places.{at_all}
 use Rattle.storage.specs.Rows.Part.{part}
-use Rattle.storage.specs.Rows.Digits.{beNat}
+use Rattle.storage.specs.Rows.Digits.{be_nat}
 use Rattle.storage.specs.Rows.Rows.{rows}
 use Rattle.storage.proofs.RowsLaws.Ids.{tri}
 use Rattle.storage.proofs.RowsLaws.Parts.{part-part}
 use Rattle.storage.proofs.RowsLaws.Rows.{length-rows, get_d_rows}
-use Rattle.storage.specs.Notes.Chains.{Once, TellsOnce, id_at as noteId}
+use Rattle.storage.specs.Notes.Chains.{Once, TellsOnce, id_at as note_id}
 use Rattle.time_cache.proofs.CacheLaws.{eqb-sym}
 use Rattle.time_cache.proofs.Orders.{below_of}
 use Rattle.protocol.specs.Links.{Links}
 use Rattle.protocol.specs.State.{Note}
-use Rattle.protocol.specs.Push.{forPeer, notes}
-use Rattle.protocol.specs.Whole.{notedOnce, recordWithin}
-use Rattle.block.specs.View.{limitsOf, peerOf, id_at, note_of, notesIn, state_of}
+use Rattle.protocol.specs.Push.{for_peer, notes}
+use Rattle.protocol.specs.Whole.{noted_once, record_within}
+use Rattle.block.specs.View.{limits_of, peer_of, id_at, note_of, notes_in, state_of}
 use Rattle.storage.specs.Refs.Numbers.{pairs, numbered}
 use Rattle.block.specs.Fit.{Fit}
 use Rattle.block.specs.LinkSteps.{LinksAscend}
@@ -40,7 +40,7 @@ use Rattle.block.proofs.LinkLaws.{count-peers}
 use Rattle.storage.proofs.RefsLaws.Numbered.{length-numbered, pairs-at}
 use Rattle.block.proofs.Tables.{length-table}
 use Rattle.whole.specs.Held.{all_below}
-use Rattle.whole.specs.Parts.{table_of, few, recordWhole}
+use Rattle.whole.specs.Parts.{table_of, few, record_whole}
 use Rattle.whole.proofs.AllLaws.{and-true, all-not, cons-all}
 use Rattle.whole.proofs.NumberLaws.{same-peer}
 use Rattle.whole.proofs.HopLaws.{pairs-map}
@@ -154,10 +154,10 @@ count_map f g (x ∷ l) = cases (f (g x)) (λ p. rw p (ap suc (count_map f g l))
 at_most : List ℕ → Bool
 at_most qs = all (λ p. leb (count (λ q. eqb q p) qs) 256) qs
 
-notes-at-most : (ds : List Note) → all (λ d. leb (count (forPeer d.peer) ds) 256) ds ≡ at_most (map (λ d. d.peer) ds)
+notes-at-most : (ds : List Note) → all (λ d. leb (count (for_peer d.peer) ds) 256) ds ≡ at_most (map (λ d. d.peer) ds)
 unfolding at_most
 notes-at-most ds =
-    all_same (λ d. leb (count (forPeer d.peer) ds) 256) (λ d. leb (count (λ q. eqb q d.peer) (map (λ e. e.peer) ds)) 256) (note 0 0 0) ds
+    all_same (λ d. leb (count (for_peer d.peer) ds) 256) (λ d. leb (count (λ q. eqb q d.peer) (map (λ e. e.peer) ds)) 256) (note 0 0 0) ds
     (λ i h. ap (λ (n : ℕ). leb n 256) (sym (count_map (λ q. eqb q (get_or ds i (note 0 0 0)).peer) (λ (e : Note). e.peer) ds)))
     ∙ sym (all_map (λ p. leb (count (λ q. eqb q p) (map (λ (e : Note). e.peer) ds)) 256) (λ (e : Note). e.peer) ds)
 
@@ -165,19 +165,19 @@ module _ (l : Links) (up : ascending (keys l) ≡ true) where
   abbrev ps : List ℕ
   ps = keys l
 
-  count_same : (k : ℕ) (ns : List ℕ) → k < length ps → all_below (length ps) ns ≡ true → count (λ q. eqb q (peerOf ps k)) (map (peerOf ps) ns) ≡ count (eqb k) ns
+  count_same : (k : ℕ) (ns : List ℕ) → k < length ps → all_below (length ps) ns ≡ true → count (λ q. eqb q (peer_of ps k)) (map (peer_of ps) ns) ≡ count (eqb k) ns
   unfolding count
   count_same k [] h b = refl
   count_same k (n ∷ ns) h b =
       let low : n < length ps = ltb-true n (length ps) (all_head (λ j. ltb j (length ps)) n ns b) in
-      let rest : count (λ q. eqb q (peerOf ps k)) (map (peerOf ps) ns) ≡ count (eqb k) ns = count_same k ns h (all_tail (λ j. ltb j (length ps)) n ns b) in
+      let rest : count (λ q. eqb q (peer_of ps k)) (map (peer_of ps) ns) ≡ count (eqb k) ns = count_same k ns h (all_tail (λ j. ltb j (length ps)) n ns b) in
       rw (same-peer l up n k low h ∙ eqb-sym n k) (cases (eqb k n) (λ p. rw p (ap suc rest)) (λ p. rw p rest))
 
-  peers-at-most : (ns : List ℕ) → all_below (length ps) ns ≡ true → at_most (map (peerOf ps) ns) ≡ few ns
+  peers-at-most : (ns : List ℕ) → all_below (length ps) ns ≡ true → at_most (map (peer_of ps) ns) ≡ few ns
   unfolding at_most few
   peers-at-most ns b =
-      all_map (λ p. leb (count (λ q. eqb q p) (map (peerOf ps) ns)) 256) (peerOf ps) ns
-      ∙ all_same (λ k. leb (count (λ q. eqb q (peerOf ps k)) (map (peerOf ps) ns)) 256) (λ k. leb (count (eqb k) ns) 256) 0 ns
+      all_map (λ p. leb (count (λ q. eqb q p) (map (peer_of ps) ns)) 256) (peer_of ps) ns
+      ∙ all_same (λ k. leb (count (λ q. eqb q (peer_of ps k)) (map (peer_of ps) ns)) 256) (λ k. leb (count (eqb k) ns) 256) 0 ns
       (λ i h. ap (λ (n : ℕ). leb n 256) (count_same (get_or ns i 0) ns ((below_of (length ps) ns b).below i h) b))
 
 -- no two notes have the same peer and identifier, by the places
@@ -206,21 +206,21 @@ apart-one d e n =
 one_apart : (d e : Note) → notes d.peer d.id e ≡ false → d.peer ≡ e.peer → d.id ≡ e.id → ⊥
 one_apart d e n p i = true≢ (sym n ∙ and_intro (eq-eqb e.peer d.peer (sym p)) (eq-eqb e.id d.id (sym i)))
 
-noted_of : (ds : List Note) → Apart ds → notedOnce ds ≡ true
-unfolding notedOnce
+noted_of : (ds : List Note) → Apart ds → noted_once ds ≡ true
+unfolding noted_once
 noted_of [] a = refl
 noted_of (d ∷ ds) a =
     and_intro
     (ap not (any-not (notes d.peer d.id) (note 0 0 0) ds (λ i h. apart-one d (get_or ds i (note 0 0 0)) (a.apart 0 (suc i) (suc-le-suc zero-le) (suc-le-suc h)))))
     (noted_of ds (record { apart = λ p q h l. a.apart (suc p) (suc q) (suc-le-suc h) (suc-le-suc l) }))
 
-of-noted : (ds : List Note) → notedOnce ds ≡ true → Apart ds
-unfolding notedOnce
+of-noted : (ds : List Note) → noted_once ds ≡ true → Apart ds
+unfolding noted_once
 of-noted [] n = record { apart = λ p q h l e g. not-suc-le-zero l }
-of-noted (d ∷ ds) n = record { apart = go (of-noted ds (and_right (not (any (notes d.peer d.id) ds)) (notedOnce ds) n)) }
+of-noted (d ∷ ds) n = record { apart = go (of-noted ds (and_right (not (any (notes d.peer d.id) ds)) (noted_once ds) n)) }
   where
     none : any (notes d.peer d.id) ds ≡ false
-    none = not-true (any (notes d.peer d.id) ds) (and_left (not (any (notes d.peer d.id) ds)) (notedOnce ds) n)
+    none = not-true (any (notes d.peer d.id) ds) (and_left (not (any (notes d.peer d.id) ds)) (noted_once ds) n)
 
     go : Apart ds → (p q : ℕ) → p < q → q < suc (length ds)
         → (get_or (d ∷ ds) p (note 0 0 0)).peer ≡ (get_or (d ∷ ds) q (note 0 0 0)).peer → (get_or (d ∷ ds) p (note 0 0 0)).id ≡ (get_or (d ∷ ds) q (note 0 0 0)).id → ⊥
@@ -229,11 +229,11 @@ of-noted (d ∷ ds) n = record { apart = go (of-noted ds (and_right (not (any (n
     go rest (suc p) (suc q) l m e g = rest.apart p q (le_of_suc-le-suc l) (le_of_suc-le-suc m) e g
 
 -- the identifier of row i
-note-id : (n i : ℕ) (b : List ℕ) → i < n → noteId b i ≡ id_at 0 (get_or (rows 34 n b) i [])
-unfolding noteId id_at
+note-id : (n i : ℕ) (b : List ℕ) → i < n → note_id b i ≡ id_at 0 (get_or (rows 34 n b) i [])
+unfolding note_id id_at
 note-id n i b h =
     let z : i * 34 + 0 ≡ i * 34 = add-zero (i * 34) in
-    ap beNat (ap (λ (a : ℕ). part a 32 b) (sym z) ∙ sym (part-part 0 32 (i * 34) 34 b (omega arith)) ∙ ap (part 0 32) (sym (get_d_rows 34 n i [] b h)))
+    ap be_nat (ap (λ (a : ℕ). part a 32 b) (sym z) ∙ sym (part-part 0 32 (i * 34) 34 b (omega arith)) ∙ ap (part 0 32) (sym (get_d_rows 34 n i [] b h)))
 
 module _ (h : Head) (xs : List ℕ) (fit : Fit h xs) (up : LinksAscend h xs) where
   abbrev ls : Links
@@ -252,25 +252,25 @@ module _ (h : Head) (xs : List ℕ) (fit : Fit h xs) (up : LinksAscend h xs) whe
   ds = (state_of h xs).dropped
 
   numbers-length : length ns ≡ n
-  numbers-length = length-take-le n (table_of h 13 xs) (omega (arith, fit.within.dropped, length-table (limitsOf h.limits) 13 xs (lit< tt) fit.long))
+  numbers-length = length-take-le n (table_of h 13 xs) (omega (arith, fit.within.dropped, length-table (limits_of h.limits) 13 xs (lit< tt) fit.long))
 
   record-count : length ds ≡ n
-  unfolding state_of notesIn
+  unfolding state_of notes_in
   record-count =
-      length-numbered (note_of (keys ls)) 34 n (table_of h 13 xs) (table_of h 14 xs) (omega (arith, fit.within.dropped, length-table (limitsOf h.limits) 13 xs (lit< tt) fit.long))
+      length-numbered (note_of (keys ls)) 34 n (table_of h 13 xs) (table_of h 14 xs) (omega (arith, fit.within.dropped, length-table (limits_of h.limits) 13 xs (lit< tt) fit.long))
 
-  record-peers : map (λ d. d.peer) ds ≡ map (peerOf (keys ls)) ns
-  unfolding state_of notesIn numbered note_of
+  record-peers : map (λ d. d.peer) ds ≡ map (peer_of (keys ls)) ns
+  unfolding state_of notes_in numbered note_of
   record-peers =
-      pairs-map (note_of (keys ls)) (λ (d : Note). d.peer) (peerOf (keys ls)) (λ k r. refl) ns rs (omega (arith, numbers-length, length-rows 34 n (table_of h 14 xs)))
+      pairs-map (note_of (keys ls)) (λ (d : Note). d.peer) (peer_of (keys ls)) (λ k r. refl) ns rs (omega (arith, numbers-length, length-rows 34 n (table_of h 14 xs)))
 
   module _ (b : all_below h.live.links ns ≡ true) where
     low : all_below (length (keys ls)) ns ≡ true
     low = subst (λ (m : ℕ). all_below m ns ≡ true) (sym (count-peers h xs)) b
 
     -- "records within 256 and 4,096"
-    pub record-few : few ns ≡ recordWithin ds
-    unfolding recordWithin
+    pub record-few : few ns ≡ record_within ds
+    unfolding record_within
     record-few =
         let long : leb (length ds) 4096 ≡ true = le-leb (length ds) 4096 (omega (arith, record-count, fit.within.dropped, fit.ceilings.D)) in
         sym ((λ k. notes-at-most ds k && long k)
@@ -280,10 +280,10 @@ module _ (h : Head) (xs : List ℕ) (fit : Fit h xs) (up : LinksAscend h xs) whe
 
     -- note i
     note-at : (i : ℕ) → i < n → get_or ds i (note 0 0 0) ≡ note_of (keys ls) (get_or ns i 0) (get_or rs i [])
-    unfolding state_of notesIn numbered
+    unfolding state_of notes_in numbered
     note-at i q = pairs-at (note_of (keys ls)) ns rs i (note 0 0 0) (omega (arith, numbers-length)) (omega (arith, length-rows 34 n (table_of h 14 xs)))
 
-    peer-at : (i : ℕ) → i < n → (get_or ds i (note 0 0 0)).peer ≡ peerOf (keys ls) (get_or ns i 0)
+    peer-at : (i : ℕ) → i < n → (get_or ds i (note 0 0 0)).peer ≡ peer_of (keys ls) (get_or ns i 0)
     unfolding note_of
     peer-at i q = ap (λ (d : Note). d.peer) (note-at i q)
 
@@ -295,7 +295,7 @@ module _ (h : Head) (xs : List ℕ) (fit : Fit h xs) (up : LinksAscend h xs) whe
     number-low i q = (below_of (length (keys ls)) ns low).below i (omega (arith, numbers-length))
 
     module _ (bytes : List ℕ) (e : rows 34 n bytes ≡ rs) where
-      same_id : (i : ℕ) → i < n → noteId bytes i ≡ (get_or ds i (note 0 0 0)).id
+      same_id : (i : ℕ) → i < n → note_id bytes i ≡ (get_or ds i (note 0 0 0)).id
       same_id i q = note-id n i bytes q ∙ ap (λ (t : List (List ℕ)). id_at 0 (get_or t i [])) e ∙ sym (id-at i q)
 
       once-apart : Once ns bytes n → Apart ds
@@ -305,32 +305,32 @@ module _ (h : Head) (xs : List ℕ) (fit : Fit h xs) (up : LinksAscend h xs) whe
           go p q l m a d =
               let hq : q < n = omega (arith, record-count) in
               let hp : p < n = omega arith in
-              let peers : peerOf (keys ls) (get_or ns p 0) ≡ peerOf (keys ls) (get_or ns q 0) = sym (peer-at p hp) ∙ a ∙ peer-at q hq in
+              let peers : peer_of (keys ls) (get_or ns p 0) ≡ peer_of (keys ls) (get_or ns q 0) = sym (peer-at p hp) ∙ a ∙ peer-at q hq in
               let number : get_or ns p 0 ≡ get_or ns q 0 = eqb-true (get_or ns p 0) (get_or ns q 0)
-              (sym (same-peer ls up (get_or ns p 0) (get_or ns q 0) (number-low p hp) (number-low q hq)) ∙ eq-eqb (peerOf (keys ls) (get_or ns p 0)) (peerOf (keys ls) (get_or ns q 0)) peers) in
+              (sym (same-peer ls up (get_or ns p 0) (get_or ns q 0) (number-low p hp) (number-low q hq)) ∙ eq-eqb (peer_of (keys ls) (get_or ns p 0)) (peer_of (keys ls) (get_or ns q 0)) peers) in
               o.once p q l hq number (same_id p hp ∙ d ∙ sym (same_id q hq))
 
       apart-once : Apart ds → Once ns bytes n
       apart-once a = record { once = go }
         where
-          go : (p q : ℕ) → p < q → q < n → get_or ns p 0 ≡ get_or ns q 0 → noteId bytes p ≡ noteId bytes q → ⊥
+          go : (p q : ℕ) → p < q → q < n → get_or ns p 0 ≡ get_or ns q 0 → note_id bytes p ≡ note_id bytes q → ⊥
           go p q l m d i =
               let hp : p < n = omega arith in
-              a.apart p q l (omega (arith, record-count)) (peer-at p hp ∙ ap (peerOf (keys ls)) d ∙ sym (peer-at q m)) (sym (same_id p hp) ∙ i ∙ same_id q m)
+              a.apart p q l (omega (arith, record-count)) (peer-at p hp ∙ ap (peer_of (keys ls)) d ∙ sym (peer-at q m)) (sym (same_id p hp) ∙ i ∙ same_id q m)
 
       -- "once per identifier among .. dropped"
-      pub record-once : (r : Bool) → TellsOnce ns bytes n r → r ≡ notedOnce ds
+      pub record-once : (r : Bool) → TellsOnce ns bytes n r → r ≡ noted_once ds
       record-once true o = sym (noted_of ds (once-apart o))
-      record-once false o = cases (notedOnce ds) (λ p. absurd (o (apart-once (of-noted ds p)))) (λ p. sym p)
+      record-once false o = cases (noted_once ds) (λ p. absurd (o (apart-once (of-noted ds p)))) (λ p. sym p)
 
 -- an empty record
-empty : (m : ℕ) (ps c b : List ℕ) → true ≡ (all_below m (take 0 c) && recordWithin (notesIn ps 0 c b) && notedOnce (notesIn ps 0 c b))
-unfolding notesIn numbered pairs recordWithin notedOnce all
+empty : (m : ℕ) (ps c b : List ℕ) → true ≡ (all_below m (take 0 c) && record_within (notes_in ps 0 c b) && noted_once (notes_in ps 0 c b))
+unfolding notes_in numbered pairs record_within noted_once all
 empty m ps c b = refl
 
-pub record-none : (h : Head) (xs : List ℕ) → h.live.dropped ≡ 0 → true ≡ recordWhole h xs
-unfolding recordWhole state_of
+pub record-none : (h : Head) (xs : List ℕ) → h.live.dropped ≡ 0 → true ≡ record_whole h xs
+unfolding record_whole state_of
 record-none h xs e =
-    subst (λ (d : ℕ). true ≡ (all_below h.live.links (take d (table_of h 13 xs)) && recordWithin (notesIn (keys (state_of h xs).links) d (table_of h 13 xs) (table_of h 14 xs))
-    && notedOnce (notesIn (keys (state_of h xs).links) d (table_of h 13 xs) (table_of h 14 xs)))) (sym e)
+    subst (λ (d : ℕ). true ≡ (all_below h.live.links (take d (table_of h 13 xs)) && record_within (notes_in (keys (state_of h xs).links) d (table_of h 13 xs) (table_of h 14 xs))
+    && noted_once (notes_in (keys (state_of h xs).links) d (table_of h 13 xs) (table_of h 14 xs)))) (sym e)
     (empty h.live.links (keys (state_of h xs).links) (table_of h 13 xs) (table_of h 14 xs))

@@ -1,9 +1,9 @@
--- What a creation leaves: document 01, questions 1 to 4.
+-- What a creation leaves: the specification, questions 1 to 4.
 -- Assumes nothing.
 use Rattle.std.specs.Prelude.{ℕ, ◌≡◌, false, List, length, drop}
 use Rattle.std.proofs.Math.Option.{some}
-use Rattle.protocol.specs.State.{State, Created, created, notCreated, create}
-use Rattle.block.specs.View.{settingsOf, limitsOf}
+use Rattle.protocol.specs.State.{State, Created, created, not_created, create}
+use Rattle.block.specs.View.{settings_of, limits_of}
 use Rattle.block.specs.declared.head.Settings.{Settings}
 use Rattle.block.specs.declared.head.Limits.{Limits}
 use Rattle.block.specs.declared.head.Live.{Live}
@@ -23,16 +23,16 @@ pub record Accepted (s : State) (before after : List ℕ) (r : ℕ) : Type 0 whe
 
 -- what a creation leaves, by its answer in the definitions
 abbrev pub Creates : Created → List ℕ → List ℕ → ℕ → Type 0
-Creates (notCreated n) before after r = Refused n before after r
+Creates (not_created n) before after r = Refused n before after r
 Creates (created s counts) before after r = Accepted s before after r
 
 -- a creation with these settings and limits, from the block before to the block after and the answer r
 abbrev pub Creation : Settings → Limits → List ℕ → List ℕ → ℕ → Type 0
-Creation c l before after r = Creates (create (settingsOf c) (limitsOf l) (length before)) before after r
+Creation c l before after r = Creates (create (settings_of c) (limits_of l) (length before)) before after r
 
 -- the header's numbers of `State::new`: no row of any table is in use, and every flag is clear
-abbrev pub freshLive : Live
-freshLive = record {
+abbrev pub fresh_live : Live
+fresh_live = record {
   links = 0;
   received = 0;
   received_rows = 0;

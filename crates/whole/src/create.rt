@@ -1,9 +1,9 @@
-// Creation: document 01, questions 1 to 4, and the state of `State::new`.
+// Creation: the specification, questions 1 to 4, and the state of `State::new`.
 ghost use Rattle.std.specs.Prelude.{◌≡◌, ◌^◌, leb};
-ghost use Rattle.protocol.specs.State.{sizeInRange, durationsInRange, up_to, limitsInRange, blockNeed};
-ghost use Rattle.block.specs.View.{settingsOf, limitsOf};
+ghost use Rattle.protocol.specs.State.{size_in_range, durations_in_range, up_to, limits_in_range, block_need};
+ghost use Rattle.block.specs.View.{settings_of, limits_of};
 ghost use Rattle.block.specs.Fit.{Ceilings};
-ghost use Rattle.whole.specs.Creation.{Creation, freshLive};
+ghost use Rattle.whole.specs.Creation.{Creation, fresh_live};
 
 use block::head::{Head, Limits, Live, Settings};
 use block::header;
@@ -11,7 +11,7 @@ use postcard::units::Millis;
 
 // (1) "Is M, `max_message_size`, from 510 to 4,094?"
 pub(crate) fn size_in_range(s: Settings) -> bool
-    ensures { result ≡ sizeInRange (settingsOf s) }
+    ensures { result ≡ size_in_range (settings_of s) }
 {
     if s.max_message_size < 510 {
         return false;
@@ -28,7 +28,7 @@ fn short(d: Millis) -> bool
 
 // (2) "Is each of the six durations at most 2^40?"
 pub(crate) fn durations_in_range(s: Settings) -> bool
-    ensures { result ≡ durationsInRange (settingsOf s) }
+    ensures { result ≡ durations_in_range (settings_of s) }
 {
     let c = s.config;
     let graft_1 = short(c.graft_timeout_1);
@@ -66,7 +66,7 @@ fn up_to(ceiling: usize, n: usize) -> bool
 
 // (3) "Is each limit from 1 to its ceiling?"
 pub fn limits_in_range(l: Limits) -> bool
-    ensures { result ≡ limitsInRange (limitsOf l) }
+    ensures { result ≡ limits_in_range (limits_of l) }
 {
     let n = up_to(32, l.neighbours);
     if !n {
@@ -105,8 +105,8 @@ pub fn limits_in_range(l: Limits) -> bool
 
 // (4) "4,096 + B + 160R + 256C + 640G + 512S + 64(N + T + Q + D) bytes"
 pub fn block_need(l: Limits) -> usize
-    requires { Ceilings (limitsOf l) }
-    ensures { result ≡ blockNeed (limitsOf l) }
+    requires { Ceilings (limits_of l) }
+    ensures { result ≡ block_need (limits_of l) }
 {
     4096 + l.content
         + 160 * l.received
@@ -118,7 +118,7 @@ pub fn block_need(l: Limits) -> usize
 
 // The number of rows of each table of `State::new`, and its flags.
 fn fresh() -> Live
-    ensures { result ≡ freshLive }
+    ensures { result ≡ fresh_live }
 {
     Live {
         links: 0,

@@ -7,10 +7,10 @@ pub mod states;
 mod tables;
 
 ghost use Rattle.std.specs.Prelude.{◌≡◌, ◌||◌, eqb};
-ghost use Rattle.block.specs.View.{limitsOf};
+ghost use Rattle.block.specs.View.{limits_of};
 ghost use Rattle.block.specs.Fit.{Ceilings};
-ghost use Rattle.whole.specs.Held.{countsWithin, wholeBlock};
-ghost use Rattle.whole.specs.Parts.{flagsWith};
+ghost use Rattle.whole.specs.Held.{counts_within, whole_block};
+ghost use Rattle.whole.specs.Parts.{flags_with};
 
 use block::head::{Limits, Live};
 use block::header;
@@ -18,8 +18,8 @@ use storage::rows::word;
 
 // "numbers of entries in range": no table has more rows than its limit; "Expiry entries: 2R, 2C, 2G".
 fn counts_within(l: Limits, v: Live) -> bool
-    requires { Ceilings (limitsOf l) }
-    ensures { result ≡ countsWithin (limitsOf l) v }
+    requires { Ceilings (limits_of l) }
+    ensures { result ≡ counts_within (limits_of l) v }
 {
     if l.neighbours < v.links {
         return false;
@@ -69,7 +69,7 @@ fn stands(n: usize, flag: bool) -> bool
 
 // "a queue or record stands only with its flag"
 fn flags_stand(v: Live) -> bool
-    ensures { result ≡ flagsWith v }
+    ensures { result ≡ flags_with v }
 {
     let queue = stands(v.queued, v.dispatch_timer_scheduled);
     if !queue {
@@ -80,7 +80,7 @@ fn flags_stand(v: Live) -> bool
 
 // (5) "Is the block whole?"
 pub fn is_whole(block: &[u8]) -> bool
-    ensures { result ≡ wholeBlock block.now }
+    ensures { result ≡ whole_block block.now }
 {
     if block.len() < 2048 {
         return false;

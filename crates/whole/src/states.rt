@@ -1,9 +1,9 @@
-// Request d, named states: "Up to four states are kept in a second lent area under eight-byte names."
+// "Named states": "Up to four states are kept in a second lent area under eight-byte names."
 ghost use Rattle.std.specs.Prelude.{◌≡◌, ◌++◌, ◌+◌, ◌*◌, ◌-◌, ◌≤◌, ◌<◌, length};
 ghost use Rattle.storage.specs.Rows.Part.{put};
 ghost use Rattle.storage.specs.Rows.Digits.{le_bytes};
-ghost use Rattle.whole.specs.States.Area.{areaHolds, countsAt};
-ghost use Rattle.whole.specs.States.Calls.{Tells, Zeros, Placed, SlotsHold, Saves, GoesBack, countsOf};
+ghost use Rattle.whole.specs.States.Area.{area_holds, counts_at};
+ghost use Rattle.whole.specs.States.Calls.{Tells, Zeros, Placed, SlotsHold, Saves, GoesBack, counts_of};
 
 use storage::rows::{bytes, word};
 
@@ -106,7 +106,7 @@ fn slots_hold(area: &[u8], n: usize, k: usize) -> bool
 
 // (17) Whether the area is long enough, and savings of blocks of n bytes could have left it: "four times the block and 256 bytes more" is asked without a product.
 fn area_holds(area: &[u8], n: usize) -> bool
-    ensures { result ≡ areaHolds n area.now }
+    ensures { result ≡ area_holds n area.now }
 {
     if area.len() < FRONT {
         return false;
@@ -154,7 +154,7 @@ fn put_row(area: &mut [u8], at: usize, name: u64, c: Counts)
 // The counts of the row at `at`.
 fn row_counts(area: &[u8], at: usize) -> Counts
     requires { at + 26 ≤ length area.now }
-    ensures { countsOf result ≡ countsAt area.now at }
+    ensures { counts_of result ≡ counts_at area.now at }
 {
     let payload = word::load(area, at + 8);
     let control = word::load(area, at + 16);
@@ -168,7 +168,7 @@ fn row_counts(area: &[u8], at: usize) -> Counts
 
 // A saving, "asked in the order 5, 17, 16": it changes the area alone, and only where it is accepted.
 pub fn save(block: &[u8], c: Counts, area: &mut [u8], name: u64) -> u8
-    ensures { Saves block.now (countsOf c) area.old name area.new result 0 }
+    ensures { Saves block.now (counts_of c) area.old name area.new result 0 }
 {
     let whole = crate::is_whole(block);
     if !whole {

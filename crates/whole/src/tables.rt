@@ -6,8 +6,8 @@ ghost use Rattle.storage.specs.Rows.Rows.{rows};
 ghost use Rattle.storage.specs.Refs.Refs.{refs, places, Below};
 ghost use Rattle.block.specs.Fit.{Fit};
 ghost use Rattle.block.specs.LinkSteps.{LinksAscend};
-ghost use Rattle.whole.specs.Held.{all_below, adjoin, allLists};
-ghost use Rattle.whole.specs.Parts.{length_at, graftList, missedList, few, linksWhole, receivedWhole, cachedWhole, graftedWhole, missingWhole, timersWhole, queueWhole, recordWhole, tablesWhole};
+ghost use Rattle.whole.specs.Held.{all_below, adjoin, all_lists};
+ghost use Rattle.whole.specs.Parts.{length_at, graft_list, missed_list, few, links_whole, received_whole, cached_whole, grafted_whole, missing_whole, timers_whole, queue_whole, record_whole, tables_whole};
 
 use block::head::Head;
 use block::{head, links, time_caches};
@@ -24,7 +24,7 @@ fn wide(x: u8) -> usize
 // "keys once": the peers of the links ascend.
 pub fn links_whole(h: Head, block: &[u8]) -> bool
     requires { Fit h block.now }
-    ensures { result ≡ linksWhole h block.now }
+    ensures { result ≡ links_whole h block.now }
 {
     let n = h.live.links;
     let mut i = 1;
@@ -43,7 +43,7 @@ pub fn links_whole(h: Head, block: &[u8]) -> bool
 // Received messages: places name rows, keys once, rows in pop order.
 pub fn received_whole(h: Head, block: &[u8]) -> bool
     requires { Fit h block.now }
-    ensures { result ≡ receivedWhole h block.now }
+    ensures { result ≡ received_whole h block.now }
 {
     let c = time_caches::received_cache(h);
     c.is_sound(block)
@@ -87,7 +87,7 @@ fn named_lengths(e: &[u8], n: usize, b: &[u8], m: usize) -> u64
 // Cached messages: places name rows, keys once, rows in pop order; contents adjoin, and those of the entries are all that is used of the store.
 pub fn cached_whole(h: Head, block: &[u8]) -> bool
     requires { Fit h block.now }
-    ensures { result ≡ cachedWhole h block.now }
+    ensures { result ≡ cached_whole h block.now }
 {
     let c = time_caches::cached_cache(h);
     let sound = c.is_sound(block);
@@ -128,7 +128,7 @@ fn numbers_ascend(b: &[u8], m: usize) -> bool
 // A list of link numbers and rounds: at most 32 numbers, below m, that ascend.
 fn graft_list(list: &[u8], m: usize) -> bool
     requires { length list.now ≡ 97 }
-    ensures { result ≡ graftList m list.now }
+    ensures { result ≡ graft_list m list.now }
 {
     let n = wide(list[0]);
     if 32 < n {
@@ -141,7 +141,7 @@ fn graft_list(list: &[u8], m: usize) -> bool
 // The lists of n grafted entries are such lists.
 fn graft_lists(b: &[u8], n: usize, m: usize) -> bool
     requires { n * 119 ≤ length b.now }
-    ensures { result ≡ allLists (graftList m) 22 119 n b.now }
+    ensures { result ≡ all_lists (graft_list m) 22 119 n b.now }
 {
     let mut i = 0;
     while i < n {
@@ -160,7 +160,7 @@ fn graft_lists(b: &[u8], n: usize, m: usize) -> bool
 // Grafted messages: places name rows, keys once, rows in pop order; "grafted peers are neighbours, once per identifier".
 pub fn grafted_whole(h: Head, block: &[u8]) -> bool
     requires { Fit h block.now × LinksAscend h block.now }
-    ensures { result ≡ graftedWhole h block.now }
+    ensures { result ≡ grafted_whole h block.now }
 {
     let c = time_caches::grafted_cache(h);
     let sound = c.is_sound(block);
@@ -174,7 +174,7 @@ pub fn grafted_whole(h: Head, block: &[u8]) -> bool
 // A list of link numbers and rounds: at least 1 number and at most 32, below m, each once.
 fn missed_list(list: &[u8], m: usize) -> bool
     requires { (length list.now ≡ 97) × (m ≤ 32) }
-    ensures { result ≡ missedList m list.now }
+    ensures { result ≡ missed_list m list.now }
 {
     let n = wide(list[0]);
     if 32 < n {
@@ -190,7 +190,7 @@ fn missed_list(list: &[u8], m: usize) -> bool
 // The lists of n missing messages are such lists.
 fn missed_lists(b: &[u8], n: usize, m: usize) -> bool
     requires { (n * 129 ≤ length b.now) × (m ≤ 32) }
-    ensures { result ≡ allLists (missedList m) 32 129 n b.now }
+    ensures { result ≡ all_lists (missed_list m) 32 129 n b.now }
 {
     let mut i = 0;
     while i < n {
@@ -209,7 +209,7 @@ fn missed_lists(b: &[u8], n: usize, m: usize) -> bool
 // Missing messages: keys once; "announcing .. peers are neighbours, once per identifier", and "none of these lists empty".
 pub fn missing_whole(h: Head, block: &[u8]) -> bool
     requires { Fit h block.now × LinksAscend h block.now }
-    ensures { result ≡ missingWhole h block.now }
+    ensures { result ≡ missing_whole h block.now }
 {
     let a = head::missing_at(h.limits);
     let n = h.live.missing;
@@ -223,7 +223,7 @@ pub fn missing_whole(h: Head, block: &[u8]) -> bool
 // Graft timers: keys once.
 pub fn timers_whole(h: Head, block: &[u8]) -> bool
     requires { Fit h block.now }
-    ensures { result ≡ timersWhole h block.now }
+    ensures { result ≡ timers_whole h block.now }
 {
     let a = head::timers_at(h.limits);
     table::ascending(&block[a..], 32, h.live.timers)
@@ -248,7 +248,7 @@ fn numbers_below(b: &[u8], m: u8) -> bool
 // The queue: "queued .. peers are neighbours".
 pub fn queue_whole(h: Head, block: &[u8]) -> bool
     requires { Fit h block.now }
-    ensures { result ≡ queueWhole h block.now }
+    ensures { result ≡ queue_whole h block.now }
 {
     let a = head::queue_at(h.limits);
     let e = a + h.live.queued;
@@ -281,7 +281,7 @@ fn few_each(b: &[u8]) -> bool
 // The record: "dropped .. peers are neighbours, once per identifier", and "records within 256 and 4,096".
 pub fn record_whole(h: Head, block: &[u8]) -> bool
     requires { Fit h block.now × LinksAscend h block.now }
-    ensures { result ≡ recordWhole h block.now }
+    ensures { result ≡ record_whole h block.now }
 {
     let n = h.live.dropped;
     if n == 0 {
@@ -305,7 +305,7 @@ pub fn record_whole(h: Head, block: &[u8]) -> bool
 // All tables: the links first, since elsewhere peers are told by the numbers of their links.
 pub fn tables_whole(h: Head, block: &[u8]) -> bool
     requires { Fit h block.now }
-    ensures { result ≡ tablesWhole h block.now }
+    ensures { result ≡ tables_whole h block.now }
 {
     let links = links_whole(h, block);
     if !links {

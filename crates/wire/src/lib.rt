@@ -1,4 +1,4 @@
-// Document 01, "Numbers and messages (Postcard)", carried out: numbers, messages and events read, written, measured and rewritten; the actions of a call written.
+// The specification, "Numbers and messages (Postcard)", carried out: numbers, messages and events read, written, measured and rewritten; the actions of a call written.
 #![tactic(auto)]
 
 pub mod decode;

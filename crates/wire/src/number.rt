@@ -1,8 +1,8 @@
-// Numbers in groups of seven bits, low first, high bit on all but the last: document 01, "Numbers and messages (Postcard)".
+// Numbers in groups of seven bits, low first, high bit on all but the last: the specification, "Numbers and messages (Postcard)".
 ghost use Rattle.std.specs.Prelude.{◌≡◌, true, ◌+◌, ◌*◌, ◌^◌, ◌≤◌, ◌<◌, eqb, drop};
-ghost use Rattle.postcard.specs.Number.{readGroups, readNumber, readPadded, kindNumber, readRound};
+ghost use Rattle.postcard.specs.Number.{read_groups, read_number, read_padded, kind_number, read_round};
 ghost use Rattle.postcard.specs.Place.{Reads};
-ghost use Rattle.wire.specs.Number.Readings.{number_at, roundAt, last_at};
+ghost use Rattle.wire.specs.Number.Readings.{number_at, round_at, last_at};
 
 use postcard::units::Round;
 
@@ -48,7 +48,7 @@ fn last_group(b: u64, least: u64, top: u64, low: u64, scale: u64, next: usize) -
 // `later` is the least last group after the first: 1 where only the shortest form is read, 0 where it may be padded.
 fn read_groups(bytes: &[u8], at: usize, more: usize, top: u64, later: u64) -> NumberRead
     requires { (0 < top) × (128 ^ more * (top + 1) ≤ 2 ^ 64) × (later ≤ 1) }
-    ensures { Reads bytes.now (number_at result) (readGroups (eqb later 0) true more top (drop at bytes.now)) }
+    ensures { Reads bytes.now (number_at result) (read_groups (eqb later 0) true more top (drop at bytes.now)) }
 {
     let mut low: u64 = 0;
     let mut scale: u64 = 1;
@@ -78,28 +78,28 @@ fn read_groups(bytes: &[u8], at: usize, more: usize, top: u64, later: u64) -> Nu
 
 // A number of 64 bits at `at` ("peer, time, length and count 64"), shortest: ten bytes at most, the tenth up to 1.
 pub fn read_number(bytes: &[u8], at: usize) -> NumberRead
-    ensures { Reads bytes.now (number_at result) (readNumber (drop at bytes.now)) }
+    ensures { Reads bytes.now (number_at result) (read_number (drop at bytes.now)) }
 {
     read_groups(bytes, at, 9, 1, 1)
 }
 
 // A length or a count of a message at `at`, which may be padded: ten bytes at most, the tenth up to 1.
 pub fn read_padded(bytes: &[u8], at: usize) -> NumberRead
-    ensures { Reads bytes.now (number_at result) (readPadded (drop at bytes.now)) }
+    ensures { Reads bytes.now (number_at result) (read_padded (drop at bytes.now)) }
 {
     read_groups(bytes, at, 9, 1, 0)
 }
 
 // The number of a message's or a delivery's kind at `at`, which may be padded: five bytes at most, the fifth up to 15. Whether it is known is asked of the number.
 pub fn read_kind(bytes: &[u8], at: usize) -> NumberRead
-    ensures { Reads bytes.now (number_at result) (kindNumber (drop at bytes.now)) }
+    ensures { Reads bytes.now (number_at result) (kind_number (drop at bytes.now)) }
 {
     read_groups(bytes, at, 4, 15, 0)
 }
 
 // A round at `at` ("round 16 bits"), which may be padded: three bytes at most, the third up to 3.
 pub fn read_round(bytes: &[u8], at: usize) -> RoundRead
-    ensures { Reads bytes.now (roundAt result) (readRound (drop at bytes.now)) }
+    ensures { Reads bytes.now (round_at result) (read_round (drop at bytes.now)) }
 {
     let number = read_groups(bytes, at, 2, 3, 0);
     match number {

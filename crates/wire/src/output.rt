@@ -3,9 +3,9 @@
 ghost use Rattle.std.specs.Prelude.{◌≡◌, ◌+◌, ◌++◌};
 ghost use Rattle.storage.specs.Rows.Ident.{id_of};
 ghost use Rattle.postcard.specs.Message as message;
-ghost use Rattle.postcard.specs.Message.{Sent, Scheduled, Emitted, ihaveBytes, actionBytes};
-ghost use Rattle.postcard.specs.Values.{deliveryValue, wantedValue, timerValue};
-ghost use Rattle.postcard.specs.Output.{sendHead, ihaveHead};
+ghost use Rattle.postcard.specs.Message.{Sent, Scheduled, Emitted, ihave_bytes, action_bytes};
+ghost use Rattle.postcard.specs.Values.{delivery_value, wanted_value, timer_value};
+ghost use Rattle.postcard.specs.Output.{send_head, ihave_head};
 ghost use Rattle.wire.specs.Output.Written.{Tellable, Written};
 
 use crate::encode;
@@ -30,8 +30,8 @@ fn write<E: Encode>(out: &mut [u8], at: usize, value: &E) -> usize
 
 // "1 send (peer, byte 0 taken or 1 handed back, message)", of whatever message.
 fn send<M: Encode + Copy>(out: &mut [u8], at: usize, peer: u64, taken: bool, message: M) -> usize
-    requires { Tellable (sendHead peer taken ++ M.bytes message) at }
-    ensures { Written (sendHead peer taken ++ M.bytes message) out.old at out.new result }
+    requires { Tellable (send_head peer taken ++ M.bytes message) at }
+    ensures { Written (send_head peer taken ++ M.bytes message) out.old at out.new result }
 {
     let action = Send {
         peer,
@@ -52,8 +52,8 @@ pub fn send_gossip(
     content: &[u8],
     delivery: Delivery,
 ) -> usize
-    requires { Tellable (actionBytes (Sent peer taken (message.Gossip (id_of id) content.now (deliveryValue delivery)))) at }
-    ensures { Written (actionBytes (Sent peer taken (message.Gossip (id_of id) content.now (deliveryValue delivery)))) out.old at out.new result }
+    requires { Tellable (action_bytes (Sent peer taken (message.Gossip (id_of id) content.now (delivery_value delivery)))) at }
+    ensures { Written (action_bytes (Sent peer taken (message.Gossip (id_of id) content.now (delivery_value delivery)))) out.old at out.new result }
 {
     let gossip = Gossip {
         id,
@@ -66,8 +66,8 @@ pub fn send_gossip(
 // A send of a Prune.
 #[tactic(auto, using(postcard::proofs::Listed::sent_head))]
 pub fn send_prune(out: &mut [u8], at: usize, peer: u64, taken: bool) -> usize
-    requires { Tellable (actionBytes (Sent peer taken message.Prune)) at }
-    ensures { Written (actionBytes (Sent peer taken message.Prune)) out.old at out.new result }
+    requires { Tellable (action_bytes (Sent peer taken message.Prune)) at }
+    ensures { Written (action_bytes (Sent peer taken message.Prune)) out.old at out.new result }
 {
     send(out, at, peer, taken, Prune)
 }
@@ -82,40 +82,40 @@ pub fn send_graft(
     wanted: Wanted,
     round: Round,
 ) -> usize
-    requires { Tellable (actionBytes (Sent peer taken (message.Graft (wantedValue wanted) round.0))) at }
-    ensures { Written (actionBytes (Sent peer taken (message.Graft (wantedValue wanted) round.0))) out.old at out.new result }
+    requires { Tellable (action_bytes (Sent peer taken (message.Graft (wanted_value wanted) round.0))) at }
+    ensures { Written (action_bytes (Sent peer taken (message.Graft (wanted_value wanted) round.0))) out.old at out.new result }
 {
     send(out, at, peer, taken, Graft { wanted, round })
 }
 
 // The beginning of a send of an IHave of `count` entries; `ihave` for each entry makes it whole.
 pub fn send_ihave(out: &mut [u8], at: usize, peer: u64, taken: bool, count: usize) -> usize
-    requires { Tellable (sendHead peer taken ++ ihaveHead count) at }
-    ensures { Written (sendHead peer taken ++ ihaveHead count) out.old at out.new result }
+    requires { Tellable (send_head peer taken ++ ihave_head count) at }
+    ensures { Written (send_head peer taken ++ ihave_head count) out.old at out.new result }
 {
     send(out, at, peer, taken, IhaveHead { count })
 }
 
 // An entry of an IHave.
 pub fn ihave(out: &mut [u8], at: usize, id: Id, round: Round) -> usize
-    requires { Tellable (ihaveBytes (record { id = id_of id; round = round.0 })) at }
-    ensures { Written (ihaveBytes (record { id = id_of id; round = round.0 })) out.old at out.new result }
+    requires { Tellable (ihave_bytes (record { id = id_of id; round = round.0 })) at }
+    ensures { Written (ihave_bytes (record { id = id_of id; round = round.0 })) out.old at out.new result }
 {
     write(out, at, &Ihave { id, round })
 }
 
 // "2 schedule (delay, timer)".
 pub fn schedule(out: &mut [u8], at: usize, delay: Millis, timer: Timer) -> usize
-    requires { Tellable (actionBytes (Scheduled delay.0 (timerValue timer))) at }
-    ensures { Written (actionBytes (Scheduled delay.0 (timerValue timer))) out.old at out.new result }
+    requires { Tellable (action_bytes (Scheduled delay.0 (timer_value timer))) at }
+    ensures { Written (action_bytes (Scheduled delay.0 (timer_value timer))) out.old at out.new result }
 {
     write(out, at, &Schedule { delay, timer })
 }
 
 // "3 emit (peer, length, content, delivery)".
 pub fn emit(out: &mut [u8], at: usize, peer: u64, content: &[u8], delivery: Delivery) -> usize
-    requires { Tellable (actionBytes (Emitted peer content.now (deliveryValue delivery))) at }
-    ensures { Written (actionBytes (Emitted peer content.now (deliveryValue delivery))) out.old at out.new result }
+    requires { Tellable (action_bytes (Emitted peer content.now (delivery_value delivery))) at }
+    ensures { Written (action_bytes (Emitted peer content.now (delivery_value delivery))) out.old at out.new result }
 {
     let emitted = Emit {
         peer,

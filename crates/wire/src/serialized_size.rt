@@ -1,24 +1,24 @@
-// Document 01's two sizes: whether a broadcast is sent, and how many entries an IHave takes.
+// The specification's two sizes: whether a broadcast is sent, and how many entries an IHave takes.
 ghost use Rattle.std.specs.Prelude.{◌≡◌, ◌≤◌, leb};
-ghost use Rattle.postcard.specs.Number.{numberLength};
-ghost use Rattle.postcard.specs.Values.{scopeValue};
-ghost use Rattle.postcard.specs.Sizes.{gossipSize, perMessage};
+ghost use Rattle.postcard.specs.Number.{number_length};
+ghost use Rattle.postcard.specs.Values.{scope_value};
+ghost use Rattle.postcard.specs.Sizes.{gossip_size, per_message};
 
 use crate::encode;
 use postcard::message::Scope;
 
 // "its length's groups": how many bytes a number takes.
-#[tactic(auto, unfolding(postcard::specs::Number::numberLength))]
+#[tactic(auto, unfolding(postcard::specs::Number::number_length))]
 fn number_size(v: u64) -> usize
-    ensures { result ≡ numberLength v }
+    ensures { result ≡ number_length v }
 {
     encode::size(&v)
 }
 
 // The largest size of a Gossip without content: the largest round takes three bytes.
-#[tactic(auto, unfolding(postcard::specs::Number::groups, postcard::specs::Number::numberBytes, postcard::specs::Number::numberLength, postcard::specs::Sizes::gossipSize))]
+#[tactic(auto, unfolding(postcard::specs::Number::groups, postcard::specs::Number::number_bytes, postcard::specs::Number::number_length, postcard::specs::Sizes::gossip_size))]
 fn empty_gossip_size(scope: Scope) -> usize
-    ensures { result ≡ gossipSize 0 (scopeValue scope) }
+    ensures { result ≡ gossip_size 0 (scope_value scope) }
 {
     match scope {
         Scope::Swarm => 38,
@@ -28,7 +28,7 @@ fn empty_gossip_size(scope: Scope) -> usize
 
 // Whether a broadcast of this content, of any length, is sent: its size (`max_gossip_size`), "content + its length's groups + 37, or 34 for Neighbors", is at most M.
 pub fn broadcast_fits(len: usize, scope: Scope, max: usize) -> bool
-    ensures { result ≡ leb (gossipSize len (scopeValue scope)) max }
+    ensures { result ≡ leb (gossip_size len (scope_value scope)) max }
 {
     let prefix = empty_gossip_size(scope) - 1 + number_size(len as u64);
     if max < prefix {
@@ -38,10 +38,10 @@ pub fn broadcast_fits(len: usize, scope: Scope, max: usize) -> bool
 }
 
 // How many entries an IHave takes at most: "(M − 6) / 35, rounded down".
-#[tactic(auto, unfolding(postcard::specs::Sizes::perMessage))]
+#[tactic(auto, unfolding(postcard::specs::Sizes::per_message))]
 pub fn chunk_len(max: usize) -> usize
     requires { 6 ≤ max }
-    ensures { result ≡ perMessage max }
+    ensures { result ≡ per_message max }
 {
     (max - 6) / 35
 }

@@ -5,7 +5,7 @@ use crate::{
     rng::Rng,
 };
 
-/// Document 01's questions 1 to 4.
+/// The specification's questions 1 to 4.
 fn expected(m: u64, cfg: [u64; 7], max: [u64; 9], len: usize) -> u64 {
     let durations = [cfg[0], cfg[1], cfg[2], cfg[4], cfg[5], cfg[6]];
     if !(510..=4094).contains(&m) {

@@ -1,4 +1,4 @@
-//! *Alike*, of documents 01 and 02, and a plain model of it; the older one of document 01 alone, which sees no order; and states that lie near another.
+//! *Alike*, and a plain model of it; the older one, which sees no order; and states that lie near another.
 use std::collections::BTreeMap;
 
 use oracle::snap::{Id, Notes, Snap};
@@ -12,7 +12,7 @@ use crate::{
 pub struct Told {
     pub number: u64,
     pub alike: bool,
-    /// As document 01 alone has it: order ignored.
+    /// As before "Order in alike": order ignored.
     pub unordered: bool,
     /// For the summary of paths.
     pub about: &'static str,
@@ -68,7 +68,7 @@ fn plain(s: &Snap) -> Snap {
     s
 }
 
-/// The first thing in which two states differ, order ignored: document 01's "own peer number, settings, limits, sets, flags and maps agree, order inside queue,
+/// The first thing in which two states differ, order ignored: the specification's "own peer number, settings, limits, sets, flags and maps agree, order inside queue,
 /// record, announcer and expiry lists ignored, repeats counted".
 fn unlike(a: &[u8], b: &[u8], x: &Snap, y: &Snap) -> Option<&'static str> {
     let (p, q) = (plain(x), plain(y));

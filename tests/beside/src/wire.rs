@@ -1,4 +1,4 @@
-//! Events written, events and actions read, in document 01's encoding.
+//! Events written, events and actions read, in the specification's encoding.
 use oracle::snap::Id;
 
 pub fn number(out: &mut Vec<u8>, mut v: u64) {

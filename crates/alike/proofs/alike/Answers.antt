@@ -7,8 +7,8 @@ use Rattle.block.specs.View.{state_of}
 use Rattle.block.specs.declared.head.Head.{Head}
 use mathlib.Core.Option.{Option}
 use Rattle.protocol.specs.State.{State}
-use Rattle.protocol.specs.Whole.{wholeState}
-use Rattle.protocol.specs.Alike.{likeness, likenessOf, alike, alikeBlocks}
+use Rattle.protocol.specs.Whole.{whole_state}
+use Rattle.protocol.specs.Alike.{likeness, likeness_of, alike, alike_blocks}
 use Rattle.block.specs.Sound.{Sound}
 use Rattle.block.specs.LinkSteps.{LinksAscend}
 use Rattle.whole.specs.Held.{held}
@@ -17,18 +17,18 @@ use Rattle.alike.proofs.Answers.{not-whole, has-header, links-ascend, whole-stat
 use Rattle.alike.proofs.alike.Goals as goal
 
 pub returns-then-not-first : goal.returns-then-not-first
-unfolding alikeBlocks likenessOf
+unfolding alike_blocks likeness_of
 returns-then-not-first c =
     let a = c.args.a.now in
     let b = c.args.b.now in
-    sym (ap (λ (o : Option State). likenessOf o (wholeState (length b) (held b))) (not-whole a (no c.is_whole-first.ensures (ap not c.if-not-first.true))))
+    sym (ap (λ (o : Option State). likeness_of o (whole_state (length b) (held b))) (not-whole a (no c.is_whole-first.ensures (ap not c.if-not-first.true))))
 
 pub returns-then-not-second : goal.returns-then-not-second
-unfolding alikeBlocks
+unfolding alike_blocks
 returns-then-not-second c =
     let a = c.args.a.now in
     let b = c.args.b.now in
-    sym (ap (likenessOf (wholeState (length a) (held a))) (not-whole b (no c.is_whole-second.ensures (ap not c.if-not-second.true))) ∙ second-not (wholeState (length a) (held a)))
+    sym (ap (likeness_of (whole_state (length a) (held a))) (not-whole b (no c.is_whole-second.ensures (ap not c.if-not-second.true))) ∙ second-not (whole_state (length a) (held a)))
 
 pub load_head-ha-requires : goal.load_head-ha-requires
 load_head-ha-requires c = has-header c.args.a.now (wholly_of c.args.a.now (yes c.is_whole-first.ensures (ap not c.if-not-first.false)))
@@ -47,21 +47,21 @@ same_states-yes-requires c =
     (x.0, x.1, y.0, y.1)
 
 pub returns-then-yes : goal.returns-then-yes
-unfolding alikeBlocks likenessOf
+unfolding alike_blocks likeness_of
 returns-then-yes c =
     let a = c.args.a.now in
     let b = c.args.b.now in
     let wa = wholly_of a (yes c.is_whole-first.ensures (ap not c.if-not-first.false)) in
     let wb = wholly_of b (yes c.is_whole-second.ensures (ap not c.if-not-second.false)) in
     let same = sym c.if-yes.true ∙ c.same_states-yes.ensures ∙ (λ k. alike (state_of (c.load_head-ha.ensures k) a) (state_of (c.load_head-hb.ensures k) b)) in
-    sym ((λ k. likenessOf (whole-state a wa k) (whole-state b wb k)) ∙ ap likeness (sym same))
+    sym ((λ k. likeness_of (whole-state a wa k) (whole-state b wb k)) ∙ ap likeness (sym same))
 
 pub returns : goal.returns
-unfolding alikeBlocks likenessOf
+unfolding alike_blocks likeness_of
 returns c =
     let a = c.args.a.now in
     let b = c.args.b.now in
     let wa = wholly_of a (yes c.is_whole-first.ensures (ap not c.if-not-first.false)) in
     let wb = wholly_of b (yes c.is_whole-second.ensures (ap not c.if-not-second.false)) in
     let same = sym c.if-yes.false ∙ c.same_states-yes.ensures ∙ (λ k. alike (state_of (c.load_head-ha.ensures k) a) (state_of (c.load_head-hb.ensures k) b)) in
-    sym ((λ k. likenessOf (whole-state a wa k) (whole-state b wb k)) ∙ ap likeness (sym same))
+    sym ((λ k. likeness_of (whole-state a wa k) (whole-state b wb k)) ∙ ap likeness (sym same))

@@ -9,9 +9,9 @@ use lib.ListN.{get_or}
 use Rattle.whole.proofs.Tests.{Each, no, yes, stops, ends, from_each}
 use Rattle.block.specs.View.{state_of}
 use Rattle.protocol.specs.State.{State}
-use Rattle.protocol.specs.Alike.{same_list, sameMap, sameExpiry, sameCache, sameUnit, sameGrafts, sameCached, sameCaches}
+use Rattle.protocol.specs.Alike.{same_list, same_map, same_expiry, same_cache, same_unit, same_grafts, same_cached, same_caches}
 use Rattle.alike.proofs.Lists.{list-expiry}
-use Rattle.alike.specs.Rows.{sameTimed}
+use Rattle.alike.specs.Rows.{same_timed}
 use Rattle.alike.proofs.Answers.{six}
 use Rattle.alike.proofs.same_caches.Goals as goal
 use Rattle.alike.proofs.same_caches.Goals.{Start}
@@ -25,32 +25,32 @@ module _ (s : Start) where
   y = state_of s.args.hb s.args.b.now
 
   abbrev R : Bool
-  R = sameMap (sameTimed sameUnit) x.received.entries y.received.entries
+  R = same_map (same_timed same_unit) x.received.entries y.received.entries
 
   abbrev RE : Bool
-  RE = same_list sameExpiry x.received.expiry y.received.expiry
+  RE = same_list same_expiry x.received.expiry y.received.expiry
 
   abbrev G : Bool
-  G = sameMap (sameTimed sameGrafts) x.grafted.entries y.grafted.entries
+  G = same_map (same_timed same_grafts) x.grafted.entries y.grafted.entries
 
   abbrev GE : Bool
-  GE = same_list sameExpiry x.grafted.expiry y.grafted.expiry
+  GE = same_list same_expiry x.grafted.expiry y.grafted.expiry
 
   abbrev C : Bool
-  C = sameMap (sameTimed sameCached) x.cache.entries y.cache.entries
+  C = same_map (same_timed same_cached) x.cache.entries y.cache.entries
 
   abbrev CE : Bool
-  CE = same_list sameExpiry x.cache.expiry y.cache.expiry
+  CE = same_list same_expiry x.cache.expiry y.cache.expiry
 
   abbrev between : List Bool
   between = RE ∷ G ∷ GE ∷ C ∷ []
 
-  stopped : (i : ℕ) → get_or (R ∷ (between ++ (CE ∷ []))) i true ≡ false → false ≡ sameCaches x y
-  unfolding sameCaches sameCache
+  stopped : (i : ℕ) → get_or (R ∷ (between ++ (CE ∷ []))) i true ≡ false → false ≡ same_caches x y
+  unfolding same_caches same_cache
   stopped i h = sym (six R RE G GE C CE ∙ stops R (between ++ (CE ∷ [])) i h)
 
-  ended : Each (R ∷ between) → CE ≡ sameCaches x y
-  unfolding sameCaches sameCache
+  ended : Each (R ∷ between) → CE ≡ same_caches x y
+  unfolding same_caches same_cache
   ended h = sym (six R RE G GE C CE ∙ ends R between CE (from_each R between h))
 
 pub returns-then-not-received : goal.returns-then-not-received

@@ -9,7 +9,7 @@ use lib.ListN.{get_or}
 use Rattle.whole.proofs.Tests.{no, yes, stops}
 use Rattle.block.specs.View.{state_of}
 use Rattle.protocol.specs.State.{State}
-use Rattle.protocol.specs.Alike.{sameSettings, sameLimits, sameTables, sameCaches, sameFlags, alike}
+use Rattle.protocol.specs.Alike.{same_settings, same_limits, same_tables, same_caches, same_flags, alike}
 use Rattle.alike.proofs.Lists.{and_yes}
 use Rattle.alike.proofs.same_states.Goals as goal
 use Rattle.alike.proofs.same_states.Goals.{Start}
@@ -23,10 +23,10 @@ module _ (s : Start) where
   y = state_of s.args.hb s.args.b.now
 
   abbrev S : Bool
-  S = sameSettings x.settings y.settings
+  S = same_settings x.settings y.settings
 
   abbrev others : List Bool
-  others = sameLimits x.limits y.limits ∷ sameTables x y ∷ sameCaches x y ∷ sameFlags x y ∷ []
+  others = same_limits x.limits y.limits ∷ same_tables x y ∷ same_caches x y ∷ same_flags x y ∷ []
 
   stopped : (i : ℕ) → get_or (S ∷ others) i true ≡ false → false ≡ alike x y
   unfolding alike
@@ -51,6 +51,6 @@ unfolding alike state_of
 returns c =
     let same-settings = yes c.same_settings-settings.ensures (ap not c.if-not-settings.false) in
     let same-limits = yes c.same_limits-limits.ensures (ap not c.if-not-limits.false) in
-    let same_flags = yes c.same_flags-flags.ensures (ap not c.if-not-flags.false) in
-    let same_tables = yes c.same_tables-tables.ensures (ap not c.if-not-tables.false) in
-    c.same_caches.ensures ∙ sym ((λ k. same-settings k && same-limits k && same_tables k && sameCaches (x (goal.at.returns c).Start) (y (goal.at.returns c).Start) && same_flags k) ∙ and_yes (sameCaches (x (goal.at.returns c).Start) (y (goal.at.returns c).Start)))
+    let same-flags = yes c.same_flags-flags.ensures (ap not c.if-not-flags.false) in
+    let same-tables = yes c.same_tables-tables.ensures (ap not c.if-not-tables.false) in
+    c.same_caches.ensures ∙ sym ((λ k. same-settings k && same-limits k && same-tables k && same_caches (x (goal.at.returns c).Start) (y (goal.at.returns c).Start) && same-flags k) ∙ and_yes (same_caches (x (goal.at.returns c).Start) (y (goal.at.returns c).Start)))

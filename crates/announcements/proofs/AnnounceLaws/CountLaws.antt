@@ -14,7 +14,7 @@ use Rattle.storage.specs.Rows.Ident.{id_of}
 use Rattle.time_cache.specs.TimeCache.{holds}
 use Rattle.time_cache.proofs.Orders.{up_of}
 use Rattle.protocol.specs.State.{State, Note}
-use Rattle.protocol.specs.Ticks.{oldest, younger, stillCached}
+use Rattle.protocol.specs.Ticks.{oldest, younger, still_cached}
 use Rattle.decide.specs.Settled.{settled}
 use Rattle.block.specs.View.{state_of}
 use Rattle.block.specs.NoteSteps.{note, NoteIs}
@@ -123,9 +123,9 @@ module _ (instant : ℕ) (h : Head) (xs : List ℕ) where
         }
 
     pub count-end : h.live.dropped ≤ i → (r : Moved) → r.moved ≡ moved → r.left ≡ left → MovedIs (settled instant (state_of h xs)) r
-    unfolding stillCached
+    unfolding still_cached
     count-end q r a b =
-        let all : still i ≡ stillCached (settled instant s) =
+        let all : still i ≡ still_cached (settled instant s) =
         ap (filter (λ m. holds m.id (settled instant s).cache)) (take_all i ds (omega (arith, count-dropped h xs asks.sound)) ∙ sym (settled-dropped instant s)) in
         record {
           moved = a ∙ sym so.moved ∙ ap (λ (ns : List Note). length (oldest [] ns)) all;

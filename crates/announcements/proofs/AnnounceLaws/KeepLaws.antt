@@ -15,19 +15,19 @@ use Rattle.storage.proofs.RowsLaws.Parts.{part-inside, set-put}
 use Rattle.storage.proofs.RowsLaws.Rows.{rows-put-one, length-rows, take-rows}
 use Rattle.storage.proofs.RowsLaws.Ids.{tri}
 use Rattle.storage.specs.Refs.Refs.{Below}
-use Rattle.protocol.specs.State.{Limits, Note, withDropped}
+use Rattle.protocol.specs.State.{Limits, Note, with_dropped}
 use Rattle.block.specs.Layout.{tables, table}
-use Rattle.block.specs.View.{state_of, view_of, limitsOf, peerOf, note_of, notesIn, peersIn}
+use Rattle.block.specs.View.{state_of, view_of, limits_of, peer_of, note_of, notes_in, peers_in}
 use Rattle.storage.specs.Refs.Numbers.{pairs, numbered}
 use Rattle.block.specs.Fit.{Fit}
 use Rattle.block.specs.Sound.{Laid, Sound}
 use Rattle.block.specs.Goes.{Goes}
-use Rattle.block.specs.Heads.{withDroppedCount}
-use Rattle.block.specs.NoteSteps.{note, noteRow}
+use Rattle.block.specs.Heads.{with_dropped_count}
+use Rattle.block.specs.NoteSteps.{note, note_row}
 use Rattle.block.specs.declared.head.Head.{Head}
 use Rattle.block.proofs.Tables.{length-table}
 use Rattle.block.proofs.NoteLaws.{Columns, length-row, read-row, noted_in, noted-long, noted-frame}
-use Rattle.announcements.specs.Announce.Moves.{dropInstead}
+use Rattle.announcements.specs.Announce.Moves.{drop_instead}
 
 take-inside : (s o : ℕ) (ys xs : List ℕ) → o + length ys ≤ s → s ≤ length xs → take s (put o ys xs) ≡ put o ys (take s xs)
 unfolding part
@@ -80,7 +80,7 @@ module _ {A : Type 0} (f : ℕ → List ℕ → A) where
 
 module _ (h : Head) (xs : List ℕ) (sound : Sound h xs) where
   abbrev l1 : Limits
-  l1 = limitsOf h.limits
+  l1 = limits_of h.limits
 
   abbrev fit : Fit h xs
   fit = sound.fit
@@ -105,17 +105,17 @@ module _ (h : Head) (xs : List ℕ) (sound : Sound h xs) where
     room : k < l1.D
     room = omega (arith, fit.within.dropped)
 
-    view : (ps : List ℕ) → notesIn ps n (put k (x ∷ []) (table l1 13 xs)) (put (k * 34) (noteRow i r) (table l1 14 xs)) ≡ put k (note (peerOf ps x) i r ∷ []) (notesIn ps n (table l1 13 xs) (table l1 14 xs))
-    unfolding notesIn
+    view : (ps : List ℕ) → notes_in ps n (put k (x ∷ []) (table l1 13 xs)) (put (k * 34) (note_row i r) (table l1 14 xs)) ≡ put k (note (peer_of ps x) i r ∷ []) (notes_in ps n (table l1 13 xs) (table l1 14 xs))
+    unfolding notes_in
     view ps =
-        numbered-put (note_of ps) 34 n k (table l1 13 xs) (table l1 14 xs) x (noteRow i r) (length-row i r) q (omega (arith, numbers-long, fit.within.dropped)) (omega (arith, rows_long, fit.within.dropped))
-        ∙ ap (λ (y : Note). put k (y ∷ []) (notesIn ps n (table l1 13 xs) (table l1 14 xs))) (read-row ps x i r hi hr)
+        numbered-put (note_of ps) 34 n k (table l1 13 xs) (table l1 14 xs) x (note_row i r) (length-row i r) q (omega (arith, numbers-long, fit.within.dropped)) (omega (arith, rows_long, fit.within.dropped))
+        ∙ ap (λ (y : Note). put k (y ∷ []) (notes_in ps n (table l1 13 xs) (table l1 14 xs))) (read-row ps x i r hi hr)
 
-    pub instead-goes : Goes (dropInstead k x i r) h xs h (noted_in l1 13 k xs x i r)
+    pub instead-goes : Goes (drop_instead k x i r) h xs h (noted_in l1 13 k xs x i r)
     unfolding state_of
     instead-goes = record {
       state = ap (view_of h) (noted-frame l1 13 l1.D k xs recorded x i r room)
-          ∙ ap (λ (ns : List Note). withDropped ns (state_of h xs)) (view (peersIn h (tables l1 xs)));
+          ∙ ap (λ (ns : List Note). with_dropped ns (state_of h xs)) (view (peers_in h (tables l1 xs)));
       sound = record {
         fit = record {
           ceilings = fit.ceilings;
@@ -138,10 +138,10 @@ module _ (h : Head) (xs : List ℕ) (sound : Sound h xs) where
     }
 
   -- the first k entries
-  pub cut-goes : (k : ℕ) → k ≤ h.live.dropped → Goes (λ s. withDropped (take k s.dropped) s) h xs (withDroppedCount k h) xs
-  unfolding state_of notesIn
+  pub cut-goes : (k : ℕ) → k ≤ h.live.dropped → Goes (λ s. with_dropped (take k s.dropped) s) h xs (with_dropped_count k h) xs
+  unfolding state_of notes_in
   cut-goes k q = record {
-    state = ap (λ (ns : List Note). withDropped ns (state_of h xs)) (numbered-take (note_of (peersIn h (tables l1 xs))) 34 n k (table l1 13 xs) (table l1 14 xs) q);
+    state = ap (λ (ns : List Note). with_dropped ns (state_of h xs)) (numbered-take (note_of (peers_in h (tables l1 xs))) 34 n k (table l1 13 xs) (table l1 14 xs) q);
     sound = record {
       fit = record { ceilings = fit.ceilings; within = omega arith; long = fit.long };
       laid = record {

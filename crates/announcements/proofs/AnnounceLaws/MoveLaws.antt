@@ -14,18 +14,18 @@ use Rattle.storage.specs.Lists.Map.{keys}
 use Rattle.storage.proofs.ListsLaws.MapLaws.{and_left, and_right}
 use Rattle.storage.specs.Rows.Part.{part, put}
 use Rattle.storage.specs.Rows.Ident.{id_of}
-use Rattle.storage.proofs.RowsLaws.Parts.{put-nil, put-put-next, part-put, length-put, getD-put-after}
+use Rattle.storage.proofs.RowsLaws.Parts.{put-nil, put-put-next, part-put, length-put, get_or-put-after}
 use Rattle.time_cache.specs.TimeCache.{Cache, holds}
 use Rattle.time_cache.proofs.Orders.{up_of}
-use Rattle.protocol.specs.State.{State, Note, Cached, withQueue, withDropped, withDispatchScheduled, withAnnounceScheduled}
-use Rattle.protocol.specs.Ticks.{oldest, younger, stillCached}
+use Rattle.protocol.specs.State.{State, Note, Cached, with_queue, with_dropped, with_dispatch_scheduled, with_announce_scheduled}
+use Rattle.protocol.specs.Ticks.{oldest, younger, still_cached}
 use Rattle.protocol.specs.Whole.{fits}
-use Rattle.decide.specs.StateAfter.{announceState}
+use Rattle.decide.specs.StateAfter.{announce_state}
 use Rattle.block.specs.View.{state_of}
 use Rattle.block.specs.Sound.{Sound}
 use Rattle.block.specs.Goes.{Goes}
-use Rattle.block.specs.Heads.{withDroppedCount, withAnnounce, withDispatch}
-use Rattle.block.specs.NoteSteps.{note, noteFor, NoteIs, queueAlso}
+use Rattle.block.specs.Heads.{with_dropped_count, with_announce, with_dispatch}
+use Rattle.block.specs.NoteSteps.{note, note_for, NoteIs, queue_also}
 use Rattle.block.specs.declared.head.Head.{Head}
 use Rattle.block.specs.declared.note.Note.{Note as LinkNote}
 use Rattle.block.proofs.LinkLaws.{count-links, count-peers}
@@ -34,14 +34,14 @@ use Rattle.block.proofs.GoesLaws.{dispatch-goes, announce-goes}
 use Rattle.block.specs.Caches.InBlock.{InOrder}
 use Rattle.steps.specs.Stands.{Step}
 use Rattle.steps.proofs.StandsLaws.{links-up, cached-order}
-use Rattle.announcements.specs.Announce.Moves.{movedState, dropInstead}
+use Rattle.announcements.specs.Announce.Moves.{moved_state, drop_instead}
 use Rattle.announcements.proofs.AnnounceLaws.KeepLaws.{cut-goes}
 use Rattle.announcements.proofs.AnnounceLaws.Turns.{standing, standing-few, oldest-within, younger-few, Counts, counts_start, Read, seen_few, gone, counted, moves, moves-alone, stays, stays-alone}
 
 -- question 13 of the queue
-queue-fits : (s : State) → fits (announceState s) ≡ true → length (s.queue ++ oldest [] (stillCached s)) ≤ s.limits.Q
-unfolding fits announceState
-queue-fits s h = leb-true (length (s.queue ++ oldest [] (stillCached s))) s.limits.Q (search (and_left, and_right) depth 25)
+queue-fits : (s : State) → fits (announce_state s) ≡ true → length (s.queue ++ oldest [] (still_cached s)) ≤ s.limits.Q
+unfolding fits announce_state
+queue-fits s h = leb-true (length (s.queue ++ oldest [] (still_cached s))) s.limits.Q (search (and_left, and_right) depth 25)
 
 module _ (h : Head) (xs : List ℕ) where
   abbrev s : State
@@ -52,12 +52,12 @@ module _ (h : Head) (xs : List ℕ) where
   still i = standing (λ x. holds x (state_of h xs).cache) (state_of h xs).dropped i
 
   -- the oldest of them are behind the queue, the younger in the record's first places
-  abbrev pub passedState : ℕ → State → State
-  passedState i t = withDropped (put 0 (younger [] (still i)) t.dropped) (withQueue (t.queue ++ oldest [] (still i)) t)
+  abbrev pub passed_state : ℕ → State → State
+  passed_state i t = with_dropped (put 0 (younger [] (still i)) t.dropped) (with_queue (t.queue ++ oldest [] (still i)) t)
 
   pub record Sofar (i k : ℕ) (seen : List ℕ) (g : Head) (ys : List ℕ) : Type 0 where
     pub within : i ≤ h.live.dropped
-    pub goes : Goes (passedState i) h xs g ys
+    pub goes : Goes (passed_state i) h xs g ys
     pub kept : length (younger [] (still i)) ≡ k
     pub counts : Counts (keys (state_of h xs).links) seen (still i)
 
@@ -66,14 +66,14 @@ module _ (h : Head) (xs : List ℕ) where
   move_start sound seen e = record {
     within = zero-le;
     goes = record {
-      state = sym (λ t. withDropped (put-nil 0 s.dropped t) (withQueue (append-nil s.queue t) s));
+      state = sym (λ t. with_dropped (put-nil 0 s.dropped t) (with_queue (append-nil s.queue t) s));
       sound = sound;
     };
     kept = refl;
     counts = counts_start (keys s.links) seen e;
   }
 
-  module _ (asks : Step announceState h xs) (i k : ℕ) (seen : List ℕ) (g : Head) (ys : List ℕ) (so : Sofar i k seen g ys) where
+  module _ (asks : Step announce_state h xs) (i k : ℕ) (seen : List ℕ) (g : Head) (ys : List ℕ) (so : Sofar i k seen g ys) where
     abbrev sound : Sound h xs
     sound = asks.stands.sound
 
@@ -118,12 +118,12 @@ module _ (h : Head) (xs : List ℕ) where
       n = get_or ds i (note 0 0 0)
 
       -- the entry that is read stands in that place at entry
-      read : n ≡ noteFor s l id r.round.0
+      read : n ≡ note_for s l id r.round.0
       read =
-          sym (getD-put-after 0 i (note 0 0 0) (younger [] (still i)) ds (omega (arith, so.kept, kept-few)) zero-le)
+          sym (get_or-put-after 0 i (note 0 0 0) (younger [] (still i)) ds (omega (arith, so.kept, kept-few)) zero-le)
           ∙ sym (ap (λ (t : State). get_or t.dropped i (note 0 0 0)) so.goes.state)
           ∙ is.same
-          ∙ ap (λ (t : State). noteFor t l id r.round.0) so.goes.state
+          ∙ ap (λ (t : State). note_for t l id r.round.0) so.goes.state
 
       entry : Read (λ x. holds x s.cache) (keys s.links) ds i seen l id r.round.0
       entry = record {
@@ -145,7 +145,7 @@ module _ (h : Head) (xs : List ℕ) where
           record {
             within = omega arith;
             goes = record {
-              state = so.goes.state ∙ sym (λ t. withDropped (put 0 (younger [] (same t)) ds) (withQueue (s.queue ++ oldest [] (same t)) s));
+              state = so.goes.state ∙ sym (λ t. with_dropped (put 0 (younger [] (same t)) ds) (with_queue (s.queue ++ oldest [] (same t)) s));
               sound = so.goes.sound;
             };
             kept = ap (λ (ns : List Note). length (younger [] ns)) same ∙ so.kept;
@@ -156,7 +156,7 @@ module _ (h : Head) (xs : List ℕ) where
         -- one of the oldest 64
         module _ (t : get_or seen l 0 < 64) where
           pub move-room : g.live.queued < g.limits.queued
-          unfolding state_of stillCached
+          unfolding state_of still_cached
           move-room =
               omega (
                 arith,
@@ -167,21 +167,21 @@ module _ (h : Head) (xs : List ℕ) where
                 length-append (oldest [] (still i)) (n ∷ []),
                 ap length (moves entry e t),
                 oldest-within (λ x. holds x s.cache) ds (i + 1),
-                length-append s.queue (oldest [] (stillCached s)),
+                length-append s.queue (oldest [] (still_cached s)),
                 queue-fits s asks.fits,
               )
 
-          pub move-take : (g' : Head) (ys' : List ℕ) → Goes (queueAlso l id r.round.0) g ys g' ys' → Sofar (i + 1) k (set seen l (get_or seen l 0 + 1)) g' ys'
+          pub move-take : (g' : Head) (ys' : List ℕ) → Goes (queue_also l id r.round.0) g ys g' ys' → Sofar (i + 1) k (set seen l (get_or seen l 0 + 1)) g' ys'
           move-take g' ys' go =
-              let behind : (s.queue ++ oldest [] (still i)) ++ (noteFor s l id r.round.0 ∷ []) ≡ s.queue ++ oldest [] (still (i + 1)) =
-              append_assoc s.queue (oldest [] (still i)) (noteFor s l id r.round.0 ∷ [])
+              let behind : (s.queue ++ oldest [] (still i)) ++ (note_for s l id r.round.0 ∷ []) ≡ s.queue ++ oldest [] (still (i + 1)) =
+              append_assoc s.queue (oldest [] (still i)) (note_for s l id r.round.0 ∷ [])
               ∙ ap (λ (m : Note). s.queue ++ (oldest [] (still i) ++ (m ∷ []))) (sym read)
               ∙ ap (λ (ns : List Note). s.queue ++ ns) (sym (moves entry e t)) in
               record {
                 within = omega arith;
                 goes = record {
-                  state = go.state ∙ ap (queueAlso l id r.round.0) so.goes.state
-                      ∙ (λ k. withDropped (put 0 (sym (moves-alone entry e t) k) ds) (withQueue (behind k) s));
+                  state = go.state ∙ ap (queue_also l id r.round.0) so.goes.state
+                      ∙ (λ k. with_dropped (put 0 (sym (moves-alone entry e t) k) ds) (with_queue (behind k) s));
                   sound = go.sound;
                 };
                 kept = ap length (moves-alone entry e t) ∙ so.kept;
@@ -193,17 +193,17 @@ module _ (h : Head) (xs : List ℕ) where
           pub keep-room : k < g.live.dropped
           keep-room = omega (arith, count_same, kept-few)
 
-          pub move-keep : (ys' : List ℕ) → Goes (dropInstead k l id r.round.0) g ys g ys' → Sofar (i + 1) (k + 1) (set seen l (get_or seen l 0 + 1)) g ys'
+          pub move-keep : (ys' : List ℕ) → Goes (drop_instead k l id r.round.0) g ys g ys' → Sofar (i + 1) (k + 1) (set seen l (get_or seen l 0 + 1)) g ys'
           move-keep ys' go =
-              let first : put k (noteFor s l id r.round.0 ∷ []) (put 0 (younger [] (still i)) ds) ≡ put 0 (younger [] (still (i + 1))) ds =
+              let first : put k (note_for s l id r.round.0 ∷ []) (put 0 (younger [] (still i)) ds) ≡ put 0 (younger [] (still (i + 1))) ds =
               ap (λ (m : Note). put k (m ∷ []) (put 0 (younger [] (still i)) ds)) (sym read)
               ∙ put-put-next 0 k (younger [] (still i)) (n ∷ []) ds (omega (arith, so.kept)) (omega (arith, kept-few, count-dropped h xs sound))
               ∙ ap (λ (ns : List Note). put 0 ns ds) (sym (stays entry e t)) in
               record {
                 within = omega arith;
                 goes = record {
-                  state = go.state ∙ ap (dropInstead k l id r.round.0) so.goes.state
-                      ∙ (λ j. withDropped (first j) (withQueue (s.queue ++ sym (stays-alone entry e t) j) s));
+                  state = go.state ∙ ap (drop_instead k l id r.round.0) so.goes.state
+                      ∙ (λ j. with_dropped (first j) (with_queue (s.queue ++ sym (stays-alone entry e t) j) s));
                   sound = go.sound;
                 };
                 kept = ap length (stays entry e t) ∙ length-append (younger [] (still i)) (n ∷ []) ∙ ap (λ (m : ℕ). m + 1) so.kept;
@@ -211,16 +211,16 @@ module _ (h : Head) (xs : List ℕ) where
               }
 
     -- the record's first k entries are what is left
-    pub move-end : h.live.dropped ≤ i → Goes movedState h xs (withDroppedCount k g) ys
-    unfolding movedState stillCached part
+    pub move-end : h.live.dropped ≤ i → Goes moved_state h xs (with_dropped_count k g) ys
+    unfolding moved_state still_cached part
     move-end q =
         let c = cut-goes g ys so.goes.sound k (omega (arith, count_same, kept-few, so.within)) in
-        let all : still i ≡ stillCached s = ap (filter (λ m. holds m.id s.cache)) (take_all i ds (omega (arith, count-dropped h xs sound))) in
+        let all : still i ≡ still_cached s = ap (filter (λ m. holds m.id s.cache)) (take_all i ds (omega (arith, count-dropped h xs sound))) in
         let first : take k (put 0 (younger [] (still i)) ds) ≡ younger [] (still i) = part-put 0 k (younger [] (still i)) ds so.kept (omega (arith, in-ds, so.kept)) in
         record {
-          state = c.state ∙ ap (λ (t : State). withDropped (take k t.dropped) t) so.goes.state
-              ∙ (λ t. withDropped (first t) (withQueue (s.queue ++ oldest [] (still i)) s))
-              ∙ (λ t. withDropped (younger [] (all t)) (withQueue (s.queue ++ oldest [] (all t)) s));
+          state = c.state ∙ ap (λ (t : State). with_dropped (take k t.dropped) t) so.goes.state
+              ∙ (λ t. with_dropped (first t) (with_queue (s.queue ++ oldest [] (still i)) s))
+              ∙ (λ t. with_dropped (younger [] (all t)) (with_queue (s.queue ++ oldest [] (all t)) s));
           sound = c.sound;
         }
 
@@ -237,38 +237,38 @@ stands-flag : {A : Type 0} (l : List A) → ltb 0 (length l) ≡ not (is_empty l
 stands-flag [] = refl
 stands-flag (x ∷ l) = lt-ltb 0 (length (x ∷ l)) (omega arith)
 
-module _ (h : Head) (xs : List ℕ) (g : Head) (ys : List ℕ) (go : Goes movedState h xs g ys) (b : Bool) (e : b ≡ ltb 0 g.live.dropped) where
+module _ (h : Head) (xs : List ℕ) (g : Head) (ys : List ℕ) (go : Goes moved_state h xs g ys) (b : Bool) (e : b ≡ ltb 0 g.live.dropped) where
   abbrev s0 : State
   s0 = state_of h xs
 
-  flag : b ≡ not (is_empty (younger [] (stillCached s0)))
-  unfolding movedState
+  flag : b ≡ not (is_empty (younger [] (still_cached s0)))
+  unfolding moved_state
   flag =
-      e ∙ ap (ltb 0) (sym (count-dropped g ys go.sound) ∙ ap (λ (t : State). length t.dropped) go.state) ∙ stands-flag (younger [] (stillCached s0))
+      e ∙ ap (ltb 0) (sym (count-dropped g ys go.sound) ∙ ap (λ (t : State). length t.dropped) go.state) ∙ stands-flag (younger [] (still_cached s0))
 
-  long : g.live.queued ≡ length (s0.queue ++ oldest [] (stillCached s0))
-  unfolding movedState
+  long : g.live.queued ≡ length (s0.queue ++ oldest [] (still_cached s0))
+  unfolding moved_state
   long = sym (count-queue g ys go.sound) ∙ ap (λ (t : State). length t.queue) go.state
 
-  pub announced-none : g.live.queued ≡ 0 → Goes announceState h xs (withAnnounce b g) ys
-  unfolding movedState announceState
+  pub announced-none : g.live.queued ≡ 0 → Goes announce_state h xs (with_announce b g) ys
+  unfolding moved_state announce_state
   announced-none z =
       let a = announce-goes b g ys go.sound in
-      let none : is_empty (s0.queue ++ oldest [] (stillCached s0)) ≡ true = empty-is (s0.queue ++ oldest [] (stillCached s0)) (sym long ∙ z) in
+      let none : is_empty (s0.queue ++ oldest [] (still_cached s0)) ≡ true = empty-is (s0.queue ++ oldest [] (still_cached s0)) (sym long ∙ z) in
       record {
-        state = a.state ∙ ap (withAnnounceScheduled b) go.state
-            ∙ (λ t. withAnnounceScheduled (flag t) (withDispatchScheduled (not (sym none t) || s0.timers.dispatch) (withDropped (younger [] (stillCached s0)) (withQueue (s0.queue ++ oldest [] (stillCached s0)) s0))));
+        state = a.state ∙ ap (with_announce_scheduled b) go.state
+            ∙ (λ t. with_announce_scheduled (flag t) (with_dispatch_scheduled (not (sym none t) || s0.timers.dispatch) (with_dropped (younger [] (still_cached s0)) (with_queue (s0.queue ++ oldest [] (still_cached s0)) s0))));
         sound = a.sound;
       }
 
-  pub announced-some : (g.live.queued ≡ 0 → ⊥) → Goes announceState h xs (withDispatch true (withAnnounce b g)) ys
-  unfolding movedState announceState
+  pub announced-some : (g.live.queued ≡ 0 → ⊥) → Goes announce_state h xs (with_dispatch true (with_announce b g)) ys
+  unfolding moved_state announce_state
   announced-some z =
       let a = announce-goes b g ys go.sound in
-      let d = dispatch-goes true (withAnnounce b g) ys a.sound in
-      let some : is_empty (s0.queue ++ oldest [] (stillCached s0)) ≡ false = empty-not (s0.queue ++ oldest [] (stillCached s0)) (λ y. z (long ∙ y)) in
+      let d = dispatch-goes true (with_announce b g) ys a.sound in
+      let some : is_empty (s0.queue ++ oldest [] (still_cached s0)) ≡ false = empty-not (s0.queue ++ oldest [] (still_cached s0)) (λ y. z (long ∙ y)) in
       record {
-        state = d.state ∙ ap (withDispatchScheduled true) (a.state ∙ ap (withAnnounceScheduled b) go.state)
-            ∙ (λ t. withAnnounceScheduled (flag t) (withDispatchScheduled (not (sym some t) || s0.timers.dispatch) (withDropped (younger [] (stillCached s0)) (withQueue (s0.queue ++ oldest [] (stillCached s0)) s0))));
+        state = d.state ∙ ap (with_dispatch_scheduled true) (a.state ∙ ap (with_announce_scheduled b) go.state)
+            ∙ (λ t. with_announce_scheduled (flag t) (with_dispatch_scheduled (not (sym some t) || s0.timers.dispatch) (with_dropped (younger [] (still_cached s0)) (with_queue (s0.queue ++ oldest [] (still_cached s0)) s0))));
         sound = d.sound;
       }

@@ -20,56 +20,56 @@ use Rattle.storage.specs.Rows.Sorted.{Ascending}
 use Rattle.storage.proofs.RowsLaws.Ids.{tri}
 use Rattle.storage.proofs.ListsLaws.Firsts.{filter_more}
 use Rattle.protocol.specs.State.{Note}
-use Rattle.protocol.specs.Push.{forPeer}
+use Rattle.protocol.specs.Push.{for_peer}
 use Rattle.protocol.specs.Ticks.{oldest, younger}
 use Rattle.decide.proofs.AnnounceDropped.{moved_all}
 use Rattle.block.specs.NoteSteps.{note}
 use Rattle.block.proofs.Scans.{keys-apart}
 
 -- an entry passed counts in either part
-count-across : (p : ℕ) (m : Note) (seen xs : List Note) → count (forPeer p) (m ∷ seen) + count (forPeer p) xs ≡ count (forPeer p) seen + count (forPeer p) (m ∷ xs)
+count-across : (p : ℕ) (m : Note) (seen xs : List Note) → count (for_peer p) (m ∷ seen) + count (for_peer p) xs ≡ count (for_peer p) seen + count (for_peer p) (m ∷ xs)
 unfolding count
-count-across p m seen xs = cases (forPeer p m) (λ e. rw e (omega arith)) (λ e. rw e (omega arith))
+count-across p m seen xs = cases (for_peer p m) (λ e. rw e (omega arith)) (λ e. rw e (omega arith))
 
-none_passed : (p : ℕ) → 0 ≡ count (forPeer p) []
+none_passed : (p : ℕ) → 0 ≡ count (for_peer p) []
 unfolding count
 none_passed p = refl
 
 -- one entry more
 oldest-snoc : (seen xs : List Note) (n : Note)
-    → oldest seen (xs ++ (n ∷ [])) ≡ oldest seen xs ++ (if ltb (count (forPeer n.peer) seen + count (forPeer n.peer) xs) 64 then n ∷ [] else [])
+    → oldest seen (xs ++ (n ∷ [])) ≡ oldest seen xs ++ (if ltb (count (for_peer n.peer) seen + count (for_peer n.peer) xs) 64 then n ∷ [] else [])
 unfolding oldest
-oldest-snoc seen [] n = ap (λ (m : ℕ). if ltb m 64 then n ∷ [] else []) (sym (add-zero (count (forPeer n.peer) seen)) ∙ ap (λ (m : ℕ). count (forPeer n.peer) seen + m) (none_passed n.peer))
+oldest-snoc seen [] n = ap (λ (m : ℕ). if ltb m 64 then n ∷ [] else []) (sym (add-zero (count (for_peer n.peer) seen)) ∙ ap (λ (m : ℕ). count (for_peer n.peer) seen + m) (none_passed n.peer))
 oldest-snoc seen (m ∷ xs) n =
-    let more : List Note = if ltb (count (forPeer n.peer) seen + count (forPeer n.peer) (m ∷ xs)) 64 then n ∷ [] else [] in
-    ap (λ (t : List Note). if ltb (count (forPeer m.peer) seen) 64 then m ∷ t else t)
+    let more : List Note = if ltb (count (for_peer n.peer) seen + count (for_peer n.peer) (m ∷ xs)) 64 then n ∷ [] else [] in
+    ap (λ (t : List Note). if ltb (count (for_peer m.peer) seen) 64 then m ∷ t else t)
     (oldest-snoc (m ∷ seen) xs n ∙ ap (λ (k : ℕ). oldest (m ∷ seen) xs ++ (if ltb k 64 then n ∷ [] else [])) (count-across n.peer m seen xs))
-    ∙ sym (if-on (λ (t : List Note). t ++ more) (ltb (count (forPeer m.peer) seen) 64) (m ∷ oldest (m ∷ seen) xs) (oldest (m ∷ seen) xs))
+    ∙ sym (if-on (λ (t : List Note). t ++ more) (ltb (count (for_peer m.peer) seen) 64) (m ∷ oldest (m ∷ seen) xs) (oldest (m ∷ seen) xs))
 
 younger-snoc : (seen xs : List Note) (n : Note)
-    → younger seen (xs ++ (n ∷ [])) ≡ younger seen xs ++ (if ltb (count (forPeer n.peer) seen + count (forPeer n.peer) xs) 64 then [] else n ∷ [])
+    → younger seen (xs ++ (n ∷ [])) ≡ younger seen xs ++ (if ltb (count (for_peer n.peer) seen + count (for_peer n.peer) xs) 64 then [] else n ∷ [])
 unfolding younger
-younger-snoc seen [] n = ap (λ (m : ℕ). if ltb m 64 then [] else n ∷ []) (sym (add-zero (count (forPeer n.peer) seen)) ∙ ap (λ (m : ℕ). count (forPeer n.peer) seen + m) (none_passed n.peer))
+younger-snoc seen [] n = ap (λ (m : ℕ). if ltb m 64 then [] else n ∷ []) (sym (add-zero (count (for_peer n.peer) seen)) ∙ ap (λ (m : ℕ). count (for_peer n.peer) seen + m) (none_passed n.peer))
 younger-snoc seen (m ∷ xs) n =
-    let more : List Note = if ltb (count (forPeer n.peer) seen + count (forPeer n.peer) (m ∷ xs)) 64 then [] else n ∷ [] in
-    ap (λ (t : List Note). if ltb (count (forPeer m.peer) seen) 64 then t else m ∷ t)
+    let more : List Note = if ltb (count (for_peer n.peer) seen + count (for_peer n.peer) (m ∷ xs)) 64 then [] else n ∷ [] in
+    ap (λ (t : List Note). if ltb (count (for_peer m.peer) seen) 64 then t else m ∷ t)
     (younger-snoc (m ∷ seen) xs n ∙ ap (λ (k : ℕ). younger (m ∷ seen) xs ++ (if ltb k 64 then [] else n ∷ [])) (count-across n.peer m seen xs))
-    ∙ sym (if-on (λ (t : List Note). t ++ more) (ltb (count (forPeer m.peer) seen) 64) (younger (m ∷ seen) xs) (m ∷ younger (m ∷ seen) xs))
+    ∙ sym (if-on (λ (t : List Note). t ++ more) (ltb (count (for_peer m.peer) seen) 64) (younger (m ∷ seen) xs) (m ∷ younger (m ∷ seen) xs))
 
 -- the first entries' oldest are among the oldest
 oldest-fewer : (seen xs ys : List Note) → length (oldest seen xs) ≤ length (oldest seen (xs ++ ys))
 unfolding oldest
 oldest-fewer seen [] ys = zero-le
 oldest-fewer seen (m ∷ xs) ys =
-    cases (ltb (count (forPeer m.peer) seen) 64) (λ t. rw t (suc-le-suc (oldest-fewer (m ∷ seen) xs ys))) (λ t. rw t (oldest-fewer (m ∷ seen) xs ys))
+    cases (ltb (count (for_peer m.peer) seen) 64) (λ t. rw t (suc-le-suc (oldest-fewer (m ∷ seen) xs ys))) (λ t. rw t (oldest-fewer (m ∷ seen) xs ys))
 
 module _ (xs : List Note) (n : Note) where
   abbrev passed : ℕ
-  passed = count (forPeer n.peer) xs
+  passed = count (for_peer n.peer) xs
 
-  none_seen : count (forPeer n.peer) [] + passed ≡ passed
+  none_seen : count (for_peer n.peer) [] + passed ≡ passed
   unfolding count
-  none_seen = zero-add (count (forPeer n.peer) xs)
+  none_seen = zero-add (count (for_peer n.peer) xs)
 
   oldest-more : passed < 64 → oldest [] (xs ++ (n ∷ [])) ≡ oldest [] xs ++ (n ∷ [])
   oldest-more h = oldest-snoc [] xs n ∙ ap (λ (b : Bool). oldest [] xs ++ (if b then n ∷ [] else [])) (ap (λ (m : ℕ). ltb m 64) none_seen ∙ lt-ltb passed 64 h)
@@ -118,7 +118,7 @@ module _ (held : ℕ → Bool) (ds : List Note) where
 
 -- how many of these entries are for the peer of each link
 pub record Counts (ps seen : List ℕ) (xs : List Note) : Type 0 where
-  pub each : (l : ℕ) → l < length ps → get_or seen l 0 ≡ count (forPeer (get_or ps l 0)) xs
+  pub each : (l : ℕ) → l < length ps → get_or seen l 0 ≡ count (for_peer (get_or ps l 0)) xs
   pub long : length seen ≡ 32
 
 zeros : (n k : ℕ) → ◌≡◌ {A = ℕ} (get_or (replicate {A = ℕ} n 0) k 0) 0
@@ -131,37 +131,37 @@ unfolding count
 counts_start ps seen e = record { each = λ l h. ap (λ (s : List ℕ). get_or s l 0) e ∙ zeros 32 l; long = ap length e }
 
 module _ (ps seen : List ℕ) (xs : List Note) (c : Counts ps seen xs) (l : ℕ) (n : Note) (up : Ascending ps) (few : length ps ≤ 32) (h : l < length ps) (e : n.peer ≡ get_or ps l 0) where
-  count-here : get_or seen l 0 ≡ count (forPeer n.peer) xs
-  count-here = c.each l h ∙ ap (λ (p : ℕ). count (forPeer p) xs) (sym e)
+  count-here : get_or seen l 0 ≡ count (for_peer n.peer) xs
+  count-here = c.each l h ∙ ap (λ (p : ℕ). count (for_peer p) xs) (sym e)
 
-  abbrev seenWith : List ℕ
-  seenWith = set seen l (get_or seen l 0 + 1)
+  abbrev seen_with : List ℕ
+  seen_with = set seen l (get_or seen l 0 + 1)
 
-  same : count (forPeer (get_or ps l 0)) (xs ++ (n ∷ [])) ≡ count (forPeer (get_or ps l 0)) xs + 1
+  same : count (for_peer (get_or ps l 0)) (xs ++ (n ∷ [])) ≡ count (for_peer (get_or ps l 0)) xs + 1
   unfolding count
-  same = count-append (forPeer (get_or ps l 0)) xs (n ∷ []) ∙ ap (λ (b : Bool). count (forPeer (get_or ps l 0)) xs + (if b then 1 else 0)) (eq-eqb n.peer (get_or ps l 0) e)
+  same = count-append (for_peer (get_or ps l 0)) xs (n ∷ []) ∙ ap (λ (b : Bool). count (for_peer (get_or ps l 0)) xs + (if b then 1 else 0)) (eq-eqb n.peer (get_or ps l 0) e)
 
-  apart : (j : ℕ) → j < length ps → (j ≡ l → ⊥) → count (forPeer (get_or ps j 0)) (xs ++ (n ∷ [])) ≡ count (forPeer (get_or ps j 0)) xs
+  apart : (j : ℕ) → j < length ps → (j ≡ l → ⊥) → count (for_peer (get_or ps j 0)) (xs ++ (n ∷ [])) ≡ count (for_peer (get_or ps j 0)) xs
   unfolding count
   apart j q d =
-      count-append (forPeer (get_or ps j 0)) xs (n ∷ [])
-      ∙ ap (λ (b : Bool). count (forPeer (get_or ps j 0)) xs + (if b then 1 else 0)) (ne_eqb n.peer (get_or ps j 0) (λ z. keys-apart ps j l up q h d (sym z ∙ e)))
-      ∙ add-zero (count (forPeer (get_or ps j 0)) xs)
+      count-append (for_peer (get_or ps j 0)) xs (n ∷ [])
+      ∙ ap (λ (b : Bool). count (for_peer (get_or ps j 0)) xs + (if b then 1 else 0)) (ne_eqb n.peer (get_or ps j 0) (λ z. keys-apart ps j l up q h d (sym z ∙ e)))
+      ∙ add-zero (count (for_peer (get_or ps j 0)) xs)
 
-  counts-more : Counts ps seenWith (xs ++ (n ∷ []))
+  counts-more : Counts ps seen_with (xs ++ (n ∷ []))
   counts-more = record { each = λ j q. by-each j q (tri j l); long = length-set seen l (get_or seen l 0 + 1) ∙ c.long }
     where
-      other : (j : ℕ) → j < length ps → (j ≡ l → ⊥) → get_or seenWith j 0 ≡ count (forPeer (get_or ps j 0)) (xs ++ (n ∷ []))
+      other : (j : ℕ) → j < length ps → (j ≡ l → ⊥) → get_or seen_with j 0 ≡ count (for_peer (get_or ps j 0)) (xs ++ (n ∷ []))
       other j q d = get_or-set_other seen l j (get_or seen l 0 + 1) 0 d ∙ c.each j q ∙ sym (apart j q d)
 
-      by-each : (j : ℕ) → j < length ps → (j < l) ⊎ ((j ≡ l) ⊎ (l < j)) → get_or seenWith j 0 ≡ count (forPeer (get_or ps j 0)) (xs ++ (n ∷ []))
+      by-each : (j : ℕ) → j < length ps → (j < l) ⊎ ((j ≡ l) ⊎ (l < j)) → get_or seen_with j 0 ≡ count (for_peer (get_or ps j 0)) (xs ++ (n ∷ []))
       by-each j q (inl s) = other j q (λ t. omega arith)
       by-each j q (inr (inl s)) =
-          ap (λ (m : ℕ). get_or seenWith m 0) s
+          ap (λ (m : ℕ). get_or seen_with m 0) s
           ∙ get_or-set_same seen l (get_or seen l 0 + 1) 0 (omega (arith, c.long))
           ∙ ap (λ (m : ℕ). m + 1) (c.each l h)
           ∙ sym same
-          ∙ ap (λ (m : ℕ). count (forPeer (get_or ps m 0)) (xs ++ (n ∷ []))) (sym s)
+          ∙ ap (λ (m : ℕ). count (for_peer (get_or ps m 0)) (xs ++ (n ∷ []))) (sym s)
       by-each j q (inr (inr s)) = other j q (λ t. omega arith)
 
 -- entry i of the record is read: a note for link l; the entries before it are counted
@@ -186,11 +186,11 @@ module _ {held : ℕ → Bool} {ps : List ℕ} {ds : List Note} {i : ℕ} {seen 
   held-as : (b : Bool) → held id ≡ b → held at.id ≡ b
   held-as b e = ap (λ (m : Note). held m.id) x.same ∙ e
 
-  before : get_or seen l 0 ≡ count (forPeer at.peer) upto
+  before : get_or seen l 0 ≡ count (for_peer at.peer) upto
   before = count-here ps seen upto x.counts l at x.up x.few x.there (ap (λ (m : Note). m.peer) x.same)
 
   pub seen_few : get_or seen l 0 ≤ i
-  seen_few = omega (arith, before, count-length (forPeer at.peer) upto, standing-few held ds i (omega (arith, x.here)))
+  seen_few = omega (arith, before, count-length (for_peer at.peer) upto, standing-few held ds i (omega (arith, x.here)))
 
   -- it is not cached
   pub gone : held id ≡ false → with ≡ upto

@@ -8,17 +8,17 @@ use native.Mathlib.Omega.{arith}
 use borrow.Author.Tests.{ltb-true, eqb-true, eqb-false, eq-eqb, ne_eqb}
 use lib.Dec.{ltb, eqb}
 use Rattle.storage.specs.Lists.Base.{filter, all, member, ascending}
-use Rattle.storage.specs.Lists.Map.{keys, insertKey}
+use Rattle.storage.specs.Lists.Map.{keys, insert_key}
 use Rattle.storage.proofs.ListsLaws.MapLaws.{cases, true≢, and_left, and_right, all_head, all_tail}
 use Rattle.storage.proofs.ListsLaws.Lists.{or_left, or_right}
 use Rattle.postcard.specs.Message.{Ihave}
-use Rattle.protocol.specs.Links.{Links, isNeighbour}
+use Rattle.protocol.specs.Links.{Links, is_neighbour}
 use Rattle.protocol.specs.State.{Note}
-use Rattle.protocol.specs.Ticks.{queuedFor, queuedPeers}
-use Rattle.protocol.specs.Consistent.{byNeighbour}
+use Rattle.protocol.specs.Ticks.{queued_for, queued_peers}
+use Rattle.protocol.specs.Consistent.{by_neighbour}
 use Rattle.protocol.proofs.ConsistentTables.{queued-near}
-use Rattle.decide.specs.RecordGrowth.{Batch, addNotes, addBatches}
-use Rattle.decide.specs.Pieces.{Piece, peerPieces, pieces}
+use Rattle.decide.specs.RecordGrowth.{Batch, add_notes, add_batches}
+use Rattle.decide.specs.Pieces.{Piece, peer_pieces, pieces}
 use Rattle.steps.proofs.RoomsLaws.{has-member}
 use Rattle.announcements.proofs.DispatchLaws.QueueLaws.{notes-none}
 
@@ -77,39 +77,39 @@ outside k q qs b l = cases (member k (q ∷ qs)) (λ e. absurd (above k q qs b l
 -- batches of more peers, where those of the others are empty
 
 module _ (c : ℕ → Bool) (batch : ℕ → List Ihave) where
-  abbrev pub batchFor : ℕ → Batch
-  batchFor p = record { peer = p; ihaves = batch p }
+  abbrev pub batch_for : ℕ → Batch
+  batch_for p = record { peer = p; ihaves = batch p }
 
-  skip-empty : (k : ℕ) (bs : List Batch) (ds : List Note) → batch k ≡ [] → addBatches c (batchFor k ∷ bs) ds ≡ addBatches c bs ds
-  unfolding addBatches
-  skip-empty k bs ds e = ap (addBatches c bs) (ap (λ (hs : List Ihave). addNotes c k hs ds) e ∙ notes-none c k ds)
+  skip-empty : (k : ℕ) (bs : List Batch) (ds : List Note) → batch k ≡ [] → add_batches c (batch_for k ∷ bs) ds ≡ add_batches c bs ds
+  unfolding add_batches
+  skip-empty k bs ds e = ap (add_batches c bs) (ap (λ (hs : List Ihave). add_notes c k hs ds) e ∙ notes-none c k ds)
 
-  first-batch : (k : ℕ) (bs : List Batch) (ds : List Note) → addBatches c (batchFor k ∷ bs) ds ≡ addBatches c bs (addNotes c k (batch k) ds)
-  unfolding addBatches
+  first-batch : (k : ℕ) (bs : List Batch) (ds : List Note) → add_batches c (batch_for k ∷ bs) ds ≡ add_batches c bs (add_notes c k (batch k) ds)
+  unfolding add_batches
   first-batch k bs ds = refl
 
   pub batches-among : (ks qs : List ℕ) → ascending ks ≡ true → ascending qs ≡ true → ((x : ℕ) → member x qs ≡ true → member x ks ≡ true)
-      → ((x : ℕ) → member x ks ≡ true → member x qs ≡ false → batch x ≡ []) → (ds : List Note) → addBatches c (map batchFor ks) ds ≡ addBatches c (map batchFor qs) ds
+      → ((x : ℕ) → member x ks ≡ true → member x qs ≡ false → batch x ≡ []) → (ds : List Note) → add_batches c (map batch_for ks) ds ≡ add_batches c (map batch_for qs) ds
   batches-among [] [] a b within away ds = refl
   batches-among [] (q ∷ qs) a b within away ds = true≢ (unfold member in (within q (member-here q qs)))
   batches-among (k ∷ ks) [] a b within away ds =
-      skip-empty k (map batchFor ks) ds (away k (member-here k ks) (unfold member in refl))
+      skip-empty k (map batch_for ks) ds (away k (member-here k ks) (unfold member in refl))
       ∙ batches-among ks [] (ascending-rest k ks a) b (λ x m. true≢ (unfold member in m)) (λ x m n. away x (member-later x k ks m) n) ds
   batches-among (k ∷ ks) (q ∷ qs) a b within away ds =
       cases (eqb k q)
       (λ e.
       let s : k ≡ q = eqb-true k q e in
-      first-batch k (map batchFor ks) ds
+      first-batch k (map batch_for ks) ds
       ∙ batches-among ks qs (ascending-rest k ks a) (ascending-rest q qs b)
       (λ x m. member-tail x k ks (within x (member-later x q qs m)) (λ z. omega (arith, member-lt q x qs (ascending-above q qs b) m)))
       (λ x m n. away x (member-later x k ks m) (member-not x q qs (λ z. omega (arith, member-lt k x ks (ascending-above k ks a) m)) n))
-      (addNotes c k (batch k) ds)
-      ∙ ap (λ (x : ℕ). addBatches c (map batchFor qs) (addNotes c x (batch x) ds)) s
-      ∙ sym (first-batch q (map batchFor qs) ds))
+      (add_notes c k (batch k) ds)
+      ∙ ap (λ (x : ℕ). add_batches c (map batch_for qs) (add_notes c x (batch x) ds)) s
+      ∙ sym (first-batch q (map batch_for qs) ds))
       (λ e.
       let n : k ≡ q → ⊥ = eqb-false k q e in
       let l : k < q = member-lt k q ks (ascending-above k ks a) (member-tail q k ks (within q (member-here q qs)) (λ z. n (sym z))) in
-      skip-empty k (map batchFor ks) ds (away k (member-here k ks) (outside k q qs b l))
+      skip-empty k (map batch_for ks) ds (away k (member-here k ks) (outside k q qs b l))
       ∙ batches-among ks (q ∷ qs) (ascending-rest k ks a) b
       (λ x m. member-tail x k ks (within x m) (λ z. above k q qs b l x m z))
       (λ x m w. away x (member-later x k ks m) w)
@@ -118,16 +118,16 @@ module _ (c : ℕ → Bool) (batch : ℕ → List Ihave) where
 -- the IHaves to more peers, where there are none to the others
 
 module _ (k : ℕ) (ns : List Note) where
-  skip-pieces : (p : ℕ) (ps : List ℕ) → peerPieces k ns p ≡ [] → pieces (p ∷ ps) k ns ≡ pieces ps k ns
+  skip-pieces : (p : ℕ) (ps : List ℕ) → peer_pieces k ns p ≡ [] → pieces (p ∷ ps) k ns ≡ pieces ps k ns
   unfolding pieces
   skip-pieces p ps e = ap (λ (xs : List Piece). xs ++ pieces ps k ns) e
 
-  first_pieces : (p : ℕ) (ps : List ℕ) → pieces (p ∷ ps) k ns ≡ peerPieces k ns p ++ pieces ps k ns
+  first_pieces : (p : ℕ) (ps : List ℕ) → pieces (p ∷ ps) k ns ≡ peer_pieces k ns p ++ pieces ps k ns
   unfolding pieces
   first_pieces p ps = refl
 
   pub pieces-among : (ks qs : List ℕ) → ascending ks ≡ true → ascending qs ≡ true → ((x : ℕ) → member x qs ≡ true → member x ks ≡ true)
-      → ((x : ℕ) → member x ks ≡ true → member x qs ≡ false → peerPieces k ns x ≡ []) → pieces ks k ns ≡ pieces qs k ns
+      → ((x : ℕ) → member x ks ≡ true → member x qs ≡ false → peer_pieces k ns x ≡ []) → pieces ks k ns ≡ pieces qs k ns
   pieces-among [] [] a b within away = refl
   pieces-among [] (q ∷ qs) a b within away = true≢ (unfold member in (within q (member-here q qs)))
   pieces-among (j ∷ ks) [] a b within away =
@@ -138,10 +138,10 @@ module _ (k : ℕ) (ns : List Note) where
       (λ e.
       let s : j ≡ q = eqb-true j q e in
       first_pieces j ks
-      ∙ ap (λ (xs : List Piece). peerPieces k ns j ++ xs) (pieces-among ks qs (ascending-rest j ks a) (ascending-rest q qs b)
+      ∙ ap (λ (xs : List Piece). peer_pieces k ns j ++ xs) (pieces-among ks qs (ascending-rest j ks a) (ascending-rest q qs b)
       (λ x m. member-tail x j ks (within x (member-later x q qs m)) (λ z. omega (arith, member-lt q x qs (ascending-above q qs b) m)))
       (λ x m n. away x (member-later x j ks m) (member-not x q qs (λ z. omega (arith, member-lt j x ks (ascending-above j ks a) m)) n)))
-      ∙ ap (λ (x : ℕ). peerPieces k ns x ++ pieces qs k ns) s
+      ∙ ap (λ (x : ℕ). peer_pieces k ns x ++ pieces qs k ns) s
       ∙ sym (first_pieces q qs))
       (λ e.
       let n : j ≡ q → ⊥ = eqb-false j q e in
@@ -153,26 +153,26 @@ module _ (k : ℕ) (ns : List Note) where
 
 -- who has nothing queued
 
-member-insertKey : (j k : ℕ) (xs : List ℕ) → (eqb j k || member j xs) ≡ true → member j (insertKey k xs) ≡ true
-unfolding member insertKey
-member-insertKey j k [] h = cases (eqb j k) (λ e. rw e refl) (λ e. true≢ (rw e at h))
-member-insertKey j k (x ∷ xs) h =
+member-insert_key : (j k : ℕ) (xs : List ℕ) → (eqb j k || member j xs) ≡ true → member j (insert_key k xs) ≡ true
+unfolding member insert_key
+member-insert_key j k [] h = cases (eqb j k) (λ e. rw e refl) (λ e. true≢ (rw e at h))
+member-insert_key j k (x ∷ xs) h =
     cases (ltb k x) (λ l. rw l (cases (eqb j k) (λ e. rw e refl) (λ e. rw e (rw e at h))))
     (λ l. rw l (cases (eqb k x)
     (λ q. rw q (cases (eqb j k) (λ e. rw (eq-eqb j x (eqb-true j k e ∙ eqb-true k x q)) refl) (λ e. rw e at h)))
-    (λ q. rw q (cases (eqb j x) (λ e. rw e refl) (λ e. rw e (member-insertKey j k xs (rw e at h)))))))
+    (λ q. rw q (cases (eqb j x) (λ e. rw e refl) (λ e. rw e (member-insert_key j k xs (rw e at h)))))))
 
-pub nothing-queued : (p : ℕ) (ns : List Note) → member p (queuedPeers ns) ≡ false → queuedFor p ns ≡ []
-unfolding queuedFor filter
+pub nothing-queued : (p : ℕ) (ns : List Note) → member p (queued_peers ns) ≡ false → queued_for p ns ≡ []
+unfolding queued_for filter
 nothing-queued p [] m = refl
 nothing-queued p (n ∷ ns) m =
     cases (eqb n.peer p)
-    (λ e. true≢ (sym m ∙ unfold queuedPeers in (member-insertKey p n.peer (queuedPeers ns) (or_left (eqb p n.peer) (member p (queuedPeers ns)) (eq-eqb p n.peer (sym (eqb-true n.peer p e)))))))
-    (λ e. rw e (unfold queuedFor in (nothing-queued p ns (rest (member p (queuedPeers ns)) refl))))
+    (λ e. true≢ (sym m ∙ unfold queued_peers in (member-insert_key p n.peer (queued_peers ns) (or_left (eqb p n.peer) (member p (queued_peers ns)) (eq-eqb p n.peer (sym (eqb-true n.peer p e)))))))
+    (λ e. rw e (unfold queued_for in (nothing-queued p ns (rest (member p (queued_peers ns)) refl))))
   where
-    rest : (b : Bool) → member p (queuedPeers ns) ≡ b → b ≡ false
-    rest true e = true≢ (sym m ∙ unfold queuedPeers in (member-insertKey p n.peer (queuedPeers ns) (or_right (eqb p n.peer) (member p (queuedPeers ns)) e)))
+    rest : (b : Bool) → member p (queued_peers ns) ≡ b → b ≡ false
+    rest true e = true≢ (sym m ∙ unfold queued_peers in (member-insert_key p n.peer (queued_peers ns) (or_right (eqb p n.peer) (member p (queued_peers ns)) e)))
     rest false e = refl
 
-pub queued-among : (l : Links) (ns : List Note) → all (byNeighbour l) ns ≡ true → (x : ℕ) → member x (queuedPeers ns) ≡ true → member x (keys l) ≡ true
-queued-among l ns h x m = sym (has-member x l) ∙ all-member (λ p. isNeighbour p l) (queuedPeers ns) x (queued-near l ns h) m
+pub queued-among : (l : Links) (ns : List Note) → all (by_neighbour l) ns ≡ true → (x : ℕ) → member x (queued_peers ns) ≡ true → member x (keys l) ≡ true
+queued-among l ns h x m = sym (has-member x l) ∙ all-member (λ p. is_neighbour p l) (queued_peers ns) x (queued-near l ns h) m

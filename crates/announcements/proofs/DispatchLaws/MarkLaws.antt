@@ -18,8 +18,8 @@ use Rattle.storage.proofs.ListsLaws.Lists.{any_append, any-one, or_cases}
 use Rattle.storage.proofs.ListsLaws.ListLaws.{count-append}
 use Rattle.postcard.specs.Message.{Ihave}
 use Rattle.protocol.specs.State.{Note}
-use Rattle.protocol.specs.Push.{forPeer, notes, recordFull}
-use Rattle.decide.specs.RecordGrowth.{addNote}
+use Rattle.protocol.specs.Push.{for_peer, notes, record_full}
+use Rattle.decide.specs.RecordGrowth.{add_note}
 use Rattle.block.specs.NoteSteps.{note}
 use Rattle.announcements.specs.Dispatch.Gains.{among}
 use Rattle.announcements.specs.Dispatch.Marks.{low_of, Covers}
@@ -75,7 +75,7 @@ module _ (p : ℕ) where
   noted-mine : (n : Note) (ds : List Note) (j : ℕ) → any (notes p j) (ds ++ (n ∷ [])) ≡ true → (any (notes p j) ds ≡ true) ⊎ (j ≡ n.id)
   noted-mine n ds j h = ⊎_elim (λ a. inl a) (λ b. inr (sym (eqb-true n.id j (and_right (eqb n.peer p) (eqb n.id j) b)))) (noted-cases n ds j h)
 
-  noted_other : (n : Note) (ds : List Note) → forPeer p n ≡ false → (j : ℕ) → any (notes p j) (ds ++ (n ∷ [])) ≡ true → any (notes p j) ds ≡ true
+  noted_other : (n : Note) (ds : List Note) → for_peer p n ≡ false → (j : ℕ) → any (notes p j) (ds ++ (n ∷ [])) ≡ true → any (notes p j) ds ≡ true
   noted_other n ds e j h = ⊎_elim (λ a. a) (λ b. true≢ (sym e ∙ and_left (eqb n.peer p) (eqb n.id j) b)) (noted-cases n ds j h)
 
   -- row i of the record
@@ -86,7 +86,7 @@ module _ (p : ℕ) where
     pub row-mine : (j : ℕ) → any (notes p j) (take (i + 1) ds) ≡ true → (any (notes p j) (take i ds) ≡ true) ⊎ (j ≡ (get_or ds i (note 0 0 0)).id)
     row-mine j h = noted-mine (get_or ds i (note 0 0 0)) (take i ds) j (ap (any (notes p j)) (sym one_more) ∙ h)
 
-    pub row_other : forPeer p (get_or ds i (note 0 0 0)) ≡ false → (j : ℕ) → any (notes p j) (take (i + 1) ds) ≡ true → any (notes p j) (take i ds) ≡ true
+    pub row_other : for_peer p (get_or ds i (note 0 0 0)) ≡ false → (j : ℕ) → any (notes p j) (take (i + 1) ds) ≡ true → any (notes p j) (take i ds) ≡ true
     row_other e j h = noted_other (get_or ds i (note 0 0 0)) (take i ds) e j (ap (any (notes p j)) (sym one_more) ∙ h)
 
   -- after `note_dropped` of one identifier
@@ -94,23 +94,23 @@ module _ (p : ℕ) where
     abbrev n₁ : Note
     n₁ = record { peer = p; id = x.id; round = x.round }
 
-    pub added-known : (j : ℕ) → any (notes p j) (addNote held p x ds) ≡ true → (any (notes p j) ds ≡ true) ⊎ (j ≡ x.id)
-    unfolding addNote
-    added-known j h = on (not (recordFull p ds) && held x.id && not (any (notes p x.id) ds)) h
+    pub added-known : (j : ℕ) → any (notes p j) (add_note held p x ds) ≡ true → (any (notes p j) ds ≡ true) ⊎ (j ≡ x.id)
+    unfolding add_note
+    added-known j h = on (not (record_full p ds) && held x.id && not (any (notes p x.id) ds)) h
       where
         on : (b : Bool) → any (notes p j) (if b then ds ++ (n₁ ∷ []) else ds) ≡ true → (any (notes p j) ds ≡ true) ⊎ (j ≡ x.id)
         on true h = noted-mine n₁ ds j h
         on false h = inl h
 
-    pub added-count : count (forPeer p) (addNote held p x ds) + length ds ≡ count (forPeer p) ds + length (addNote held p x ds)
-    unfolding addNote
-    added-count = on (not (recordFull p ds) && held x.id && not (any (notes p x.id) ds))
+    pub added-count : count (for_peer p) (add_note held p x ds) + length ds ≡ count (for_peer p) ds + length (add_note held p x ds)
+    unfolding add_note
+    added-count = on (not (record_full p ds) && held x.id && not (any (notes p x.id) ds))
       where
-        one : count (forPeer p) (n₁ ∷ []) ≡ 1
+        one : count (for_peer p) (n₁ ∷ []) ≡ 1
         one = unfold count in (rw (eq-eqb p p refl) refl)
 
-        on : (b : Bool) → count (forPeer p) (if b then ds ++ (n₁ ∷ []) else ds) + length ds ≡ count (forPeer p) ds + length (if b then ds ++ (n₁ ∷ []) else ds)
-        on true = omega (arith, count-append (forPeer p) ds (n₁ ∷ []), one, length-append ds (n₁ ∷ []))
+        on : (b : Bool) → count (for_peer p) (if b then ds ++ (n₁ ∷ []) else ds) + length ds ≡ count (for_peer p) ds + length (if b then ds ++ (n₁ ∷ []) else ds)
+        on true = omega (arith, count-append (for_peer p) ds (n₁ ∷ []), one, length-append ds (n₁ ∷ []))
         on false = refl
 
 -- of what is handed back, one identifier more

@@ -17,9 +17,9 @@ use Rattle.storage.proofs.ListsLaws.Lists.{any_left, any-right, any-one, any_non
 use Rattle.storage.specs.Rows.Ident.{id_of}
 use Rattle.postcard.specs.Message.{Ihave}
 use Rattle.protocol.specs.State.{State, Note}
-use Rattle.protocol.specs.Ticks.{queuedFor}
+use Rattle.protocol.specs.Ticks.{queued_for}
 use Rattle.block.specs.View.{state_of}
-use Rattle.block.specs.LinkSteps.{peerAt}
+use Rattle.block.specs.LinkSteps.{peer_at}
 use Rattle.block.specs.NoteSteps.{note, LinkIs, NoteIs}
 use Rattle.block.specs.declared.head.Head.{Head}
 use Rattle.block.specs.declared.note.Note.{Note as LinkNote}
@@ -27,12 +27,12 @@ use Rattle.block.proofs.NoteLaws.{count-queue}
 use Rattle.steps.specs.Stands.{Stands}
 use Rattle.steps.proofs.StandsLaws.{links-up}
 use Rattle.announcements.specs.Dispatch.Gains.{among}
-use Rattle.announcements.specs.Dispatch.Sends.{toSend}
-use Rattle.announcements.proofs.DispatchLaws.QueueLaws.{ihaveOf, queued-more, queued-same, queued-none, queued-few, queued-append, queued-first, queued-passed, drop-late, drop-early, link-for, link-not}
+use Rattle.announcements.specs.Dispatch.Sends.{to_send}
+use Rattle.announcements.proofs.DispatchLaws.QueueLaws.{ihave_of, queued-more, queued-same, queued-none, queued-few, queued-append, queued-first, queued-passed, drop-late, drop-early, link-for, link-not}
 
 -- what is queued for the link among the first i entries
-abbrev pub heardBy : ℕ → Head → List ℕ → ℕ → List Ihave
-heardBy l h xs i = queuedFor (peerAt (state_of h xs) l) (take i (state_of h xs).queue)
+abbrev pub heard_by : ℕ → Head → List ℕ → ℕ → List Ihave
+heard_by l h xs i = queued_for (peer_at (state_of h xs) l) (take i (state_of h xs).queue)
 
 among-nothing : (k : ℕ) → among k [] ≡ false
 unfolding any
@@ -80,22 +80,22 @@ module _ (l : ℕ) (h : Head) (xs : List ℕ) where
   abbrev s : State
   s = state_of h xs
 
-  pub heard-none : heardBy l h xs 0 ≡ []
-  heard-none = queued-none (peerAt s l)
+  pub heard-none : heard_by l h xs 0 ≡ []
+  heard-none = queued-none (peer_at s l)
 
   module _ (t : Stands h xs) where
-    pub heard-count : (i : ℕ) → i ≤ h.live.queued → length (heardBy l h xs i) ≤ i
-    heard-count i q = omega (arith, queued-few (peerAt s l) (take i s.queue), length-take-le i s.queue (omega (arith, count-queue h xs t.sound)))
+    pub heard-count : (i : ℕ) → i ≤ h.live.queued → length (heard_by l h xs i) ≤ i
+    heard-count i q = omega (arith, queued-few (peer_at s l) (take i s.queue), length-take-le i s.queue (omega (arith, count-queue h xs t.sound)))
 
-    pub heard_all : (i : ℕ) → h.live.queued ≤ i → heardBy l h xs i ≡ queuedFor (peerAt s l) s.queue
-    heard_all i q = ap (queuedFor (peerAt s l)) (take_all i s.queue (omega (arith, count-queue h xs t.sound)))
+    pub heard_all : (i : ℕ) → h.live.queued ≤ i → heard_by l h xs i ≡ queued_for (peer_at s l) s.queue
+    heard_all i q = ap (queued_for (peer_at s l)) (take_all i s.queue (omega (arith, count-queue h xs t.sound)))
 
-    pub heard-on : (i e : ℕ) → i ≤ e → heardBy l h xs e ≡ heardBy l h xs i ++ queuedFor (peerAt s l) (take (e - i) (drop i s.queue))
+    pub heard-on : (i e : ℕ) → i ≤ e → heard_by l h xs e ≡ heard_by l h xs i ++ queued_for (peer_at s l) (take (e - i) (drop i s.queue))
     heard-on i e q =
         let n : e ≡ i + (e - i) = omega arith in
-        ap (λ (m : ℕ). queuedFor (peerAt s l) (take m s.queue)) n
-        ∙ ap (queuedFor (peerAt s l)) (take-add i (e - i) s.queue)
-        ∙ queued-append (peerAt s l) (take i s.queue) (take (e - i) (drop i s.queue))
+        ap (λ (m : ℕ). queued_for (peer_at s l) (take m s.queue)) n
+        ∙ ap (queued_for (peer_at s l)) (take-add i (e - i) s.queue)
+        ∙ queued-append (peer_at s l) (take i s.queue) (take (e - i) (drop i s.queue))
 
     -- entry i, as it was read
     module _ (i : ℕ) (q : i < h.live.queued) where
@@ -105,25 +105,25 @@ module _ (l : ℕ) (h : Head) (xs : List ℕ) where
       abbrev here : Note
       here = get_or s.queue i (note 0 0 0)
 
-      pub heard-other : (x : ℕ) → LinkIs h xs s.queue i x → l < h.live.links → (x ≡ l → ⊥) → heardBy l h xs (i + 1) ≡ heardBy l h xs i
-      heard-other x is m n = queued-same (peerAt s l) s.queue i within (link-not h xs s.queue i x l is (links-up h xs t) m n)
+      pub heard-other : (x : ℕ) → LinkIs h xs s.queue i x → l < h.live.links → (x ≡ l → ⊥) → heard_by l h xs (i + 1) ≡ heard_by l h xs i
+      heard-other x is m n = queued-same (peer_at s l) s.queue i within (link-not h xs s.queue i x l is (links-up h xs t) m n)
 
-      pub heard-mine : (x : ℕ) → LinkIs h xs s.queue i x → x ≡ l → heardBy l h xs (i + 1) ≡ heardBy l h xs i ++ (ihaveOf here ∷ [])
-      heard-mine x is e = queued-more (peerAt s l) s.queue i within (link-for h xs s.queue i x l is e)
+      pub heard-mine : (x : ℕ) → LinkIs h xs s.queue i x → x ≡ l → heard_by l h xs (i + 1) ≡ heard_by l h xs i ++ (ihave_of here ∷ [])
+      heard-mine x is e = queued-more (peer_at s l) s.queue i within (link-for h xs s.queue i x l is e)
 
-      pub heard-note : (x : LinkNote) → NoteIs h xs s.queue i x → ihaveOf here ≡ record { id = id_of x.id; round = x.round.0 }
-      heard-note x is = λ k. ihaveOf (is.same k)
+      pub heard-note : (x : LinkNote) → NoteIs h xs s.queue i x → ihave_of here ≡ record { id = id_of x.id; round = x.round.0 }
+      heard-note x is = λ k. ihave_of (is.same k)
 
       -- the same of what is still to be sent
       from-here : drop i s.queue ≡ here ∷ drop (i + 1) s.queue
       from-here = drop-cons s.queue i (note 0 0 0) within ∙ ap (λ (n : ℕ). here ∷ drop n s.queue) (sym (add-one i))
 
-      pub send-other : (x : ℕ) → LinkIs h xs s.queue i x → l < h.live.links → (x ≡ l → ⊥) → toSend l i s ≡ toSend l (i + 1) s
-      send-other x is m n = ap (queuedFor (peerAt s l)) from-here ∙ queued-passed (peerAt s l) here (drop (i + 1) s.queue) (link-not h xs s.queue i x l is (links-up h xs t) m n)
+      pub send-other : (x : ℕ) → LinkIs h xs s.queue i x → l < h.live.links → (x ≡ l → ⊥) → to_send l i s ≡ to_send l (i + 1) s
+      send-other x is m n = ap (queued_for (peer_at s l)) from-here ∙ queued-passed (peer_at s l) here (drop (i + 1) s.queue) (link-not h xs s.queue i x l is (links-up h xs t) m n)
 
-      pub send-mine : (x : ℕ) → LinkIs h xs s.queue i x → x ≡ l → toSend l i s ≡ ihaveOf here ∷ toSend l (i + 1) s
-      send-mine x is e = ap (queuedFor (peerAt s l)) from-here ∙ queued-first (peerAt s l) here (drop (i + 1) s.queue) (link-for h xs s.queue i x l is e)
+      pub send-mine : (x : ℕ) → LinkIs h xs s.queue i x → x ≡ l → to_send l i s ≡ ihave_of here ∷ to_send l (i + 1) s
+      send-mine x is e = ap (queued_for (peer_at s l)) from-here ∙ queued-first (peer_at s l) here (drop (i + 1) s.queue) (link-for h xs s.queue i x l is e)
 
     -- where something is to be sent, an entry stands
-    pub send-some : (i : ℕ) → 0 < length (toSend l i s) → i < h.live.queued
-    send-some i q = omega (arith, queued-few (peerAt s l) (drop i s.queue), length-drop i s.queue, count-queue h xs t.sound)
+    pub send-some : (i : ℕ) → 0 < length (to_send l i s) → i < h.live.queued
+    send-some i q = omega (arith, queued-few (peer_at s l) (drop i s.queue), length-drop i s.queue, count-queue h xs t.sound)

@@ -10,65 +10,65 @@ use lib.Seq.{take_all}
 use lib.Dec.{leb}
 use borrow.Author.Tests.{leb-true, leb-false}
 use Rattle.std.specs.Prelude.{if◌then◌else◌}
-use Rattle.storage.specs.Lists.Base.{any, concatMap}
+use Rattle.storage.specs.Lists.Base.{any, concat_map}
 use Rattle.storage.proofs.ListsLaws.ListLaws.{concat-append}
-use Rattle.postcard.specs.Message.{Ihave, IHave, AnnounceDropped, Action, Sent, Scheduled, ihaveBytes, actionBytes}
-use Rattle.postcard.specs.Output.{sendHead, ihaveHead}
+use Rattle.postcard.specs.Message.{Ihave, IHave, AnnounceDropped, Action, Sent, Scheduled, ihave_bytes, action_bytes}
+use Rattle.postcard.specs.Output.{send_head, ihave_head}
 use Rattle.postcard.proofs.Listed.{sent-ihave-listed}
 use Rattle.protocol.specs.State.{Note}
 use Rattle.protocol.specs.Run.{Room}
-use Rattle.protocol.specs.Ticks.{chunks, queuedFor}
-use Rattle.decide.specs.Rooms.{kthTaken}
-use Rattle.decide.specs.Pieces.{Piece, numbered, peerPieces, pieces, pieceTaken, pieceActions}
-use Rattle.decide.specs.RecordGrowth.{announceAction}
+use Rattle.protocol.specs.Ticks.{chunks, queued_for}
+use Rattle.decide.specs.Rooms.{kth_taken}
+use Rattle.decide.specs.Pieces.{Piece, numbered, peer_pieces, pieces, piece_taken, piece_actions}
+use Rattle.decide.specs.RecordGrowth.{announce_action}
 use Rattle.wire.specs.Output.Written.{Tellable, Written}
 use Rattle.wire.proofs.OutputLaws.WrittenLaws.{written_none, written_then, tellable-first, tellable-then}
-use Rattle.announcements.specs.Dispatch.Sends.{someHeld, quiet, timerAfter, oneSend, flagAfter, flagAfterAll}
+use Rattle.announcements.specs.Dispatch.Sends.{some_held, quiet, timer_after, one_send, flag_after, flag_after_all}
 
-bytes-cons : {A : Type 0} (f : A → List ℕ) (x : A) (xs : List A) → concatMap f (x ∷ xs) ≡ f x ++ concatMap f xs
-unfolding concatMap
+bytes-cons : {A : Type 0} (f : A → List ℕ) (x : A) (xs : List A) → concat_map f (x ∷ xs) ≡ f x ++ concat_map f xs
+unfolding concat_map
 bytes-cons f x xs = refl
 
-bytes-none : {A : Type 0} (f : A → List ℕ) → concatMap f [] ≡ []
-unfolding concatMap
+bytes-none : {A : Type 0} (f : A → List ℕ) → concat_map f [] ≡ []
+unfolding concat_map
 bytes-none f = refl
 
 -- the entries: `left` of hs are still to be written
 pub record Entering (held : ℕ → Bool) (whole : List ℕ) (found : Bool) (after : List Ihave) (before : List ℕ) (start : ℕ) (out : List ℕ) (at : ℕ) (hs : List Ihave) (left : ℕ) (cached : Bool) : Type 0 where
   pub sofar : List ℕ
-  pub bytes : whole ≡ sofar ++ concatMap ihaveBytes (take left hs)
+  pub bytes : whole ≡ sofar ++ concat_map ihave_bytes (take left hs)
   pub written : Written sofar before start out at
   pub enough : left ≤ length hs
   pub rest : drop left hs ≡ after
-  pub some : (cached || someHeld held (take left hs)) ≡ found
+  pub some : (cached || some_held held (take left hs)) ≡ found
 
 pub enter-start : (held : ℕ → Bool) (hs : List Ihave) (count : ℕ) (before : List ℕ) (start : ℕ) → count ≤ length hs
-    → Entering held (concatMap ihaveBytes (take count hs)) (someHeld held (take count hs)) (drop count hs) before start before start hs count false
+    → Entering held (concat_map ihave_bytes (take count hs)) (some_held held (take count hs)) (drop count hs) before start before start hs count false
 enter-start held hs count before start w = record { sofar = []; bytes = refl; written = written_none before start; enough = w; rest = refl; some = refl }
 
 module _ {held : ℕ → Bool} {whole : List ℕ} {found : Bool} {after : List Ihave} {before : List ℕ} {start : ℕ} {out : List ℕ} {at : ℕ} {left : ℕ} {cached : Bool} (x : Ihave) (hs : List Ihave) (m : ℕ)
     (en : Entering held whole found after before start out at (x ∷ hs) left cached) (e : left ≡ suc m) where
-  split : whole ≡ en.sofar ++ (ihaveBytes x ++ concatMap ihaveBytes (take m hs))
-  split = en.bytes ∙ ap (λ (n : ℕ). en.sofar ++ concatMap ihaveBytes (take n (x ∷ hs))) e ∙ ap (λ (l : List ℕ). en.sofar ++ l) (bytes-cons ihaveBytes x (take m hs))
+  split : whole ≡ en.sofar ++ (ihave_bytes x ++ concat_map ihave_bytes (take m hs))
+  split = en.bytes ∙ ap (λ (n : ℕ). en.sofar ++ concat_map ihave_bytes (take n (x ∷ hs))) e ∙ ap (λ (l : List ℕ). en.sofar ++ l) (bytes-cons ihave_bytes x (take m hs))
 
-  pub enter-told : Tellable whole start → Tellable (ihaveBytes x) at
-  enter-told t = tellable-first (concatMap ihaveBytes (take m hs)) (tellable-then en.written (subst (λ (w : List ℕ). Tellable w start) split t))
+  pub enter-told : Tellable whole start → Tellable (ihave_bytes x) at
+  enter-told t = tellable-first (concat_map ihave_bytes (take m hs)) (tellable-then en.written (subst (λ (w : List ℕ). Tellable w start) split t))
 
-  pub enter-next : (out' : List ℕ) (at' : ℕ) (b : Bool) → Written (ihaveBytes x) out at out' at' → held x.id ≡ b → Entering held whole found after before start out' at' hs m (if b then true else cached)
+  pub enter-next : (out' : List ℕ) (at' : ℕ) (b : Bool) → Written (ihave_bytes x) out at out' at' → held x.id ≡ b → Entering held whole found after before start out' at' hs m (if b then true else cached)
   enter-next out' at' b w h = record {
-    sofar = en.sofar ++ ihaveBytes x;
-    bytes = split ∙ sym (append_assoc en.sofar (ihaveBytes x) (concatMap ihaveBytes (take m hs)));
+    sofar = en.sofar ++ ihave_bytes x;
+    bytes = split ∙ sym (append_assoc en.sofar (ihave_bytes x) (concat_map ihave_bytes (take m hs)));
     written = written_then en.written w;
     enough = omega (arith, en.enough);
     rest = ap (λ (n : ℕ). drop n (x ∷ hs)) (sym e) ∙ en.rest;
-    some = by b cached h ∙ ap (λ (n : ℕ). cached || someHeld held (take n (x ∷ hs))) (sym e) ∙ en.some;
+    some = by b cached h ∙ ap (λ (n : ℕ). cached || some_held held (take n (x ∷ hs))) (sym e) ∙ en.some;
   }
     where
       or-true : (c : Bool) → (c || true) ≡ true
       or-true true = refl
       or-true false = refl
 
-      by : (b c : Bool) → held x.id ≡ b → ((if b then true else c) || someHeld held (take m hs)) ≡ (c || someHeld held (x ∷ take m hs))
+      by : (b c : Bool) → held x.id ≡ b → ((if b then true else c) || some_held held (take m hs)) ≡ (c || some_held held (x ∷ take m hs))
       by true c h = unfold any in (rw h (sym (or-true c)))
       by false c h = unfold any in (rw h refl)
 
@@ -76,88 +76,88 @@ module _ {held : ℕ → Bool} {whole : List ℕ} {found : Bool} {after : List I
     (en : Entering held whole found after before start out at hs left cached) (e : left ≡ 0) where
   pub enter-written : Written whole before start out at
   enter-written =
-      let w : whole ≡ en.sofar = en.bytes ∙ ap (λ (n : ℕ). en.sofar ++ concatMap ihaveBytes (take n hs)) e ∙ ap (λ (l : List ℕ). en.sofar ++ l) (bytes-none ihaveBytes) ∙ append-nil en.sofar in
+      let w : whole ≡ en.sofar = en.bytes ∙ ap (λ (n : ℕ). en.sofar ++ concat_map ihave_bytes (take n hs)) e ∙ ap (λ (l : List ℕ). en.sofar ++ l) (bytes-none ihave_bytes) ∙ append-nil en.sofar in
       subst (λ (l : List ℕ). Written l before start out at) (sym w) en.written
 
   pub enter-rest : hs ≡ after
   enter-rest = ap (λ (n : ℕ). drop n hs) (sym e) ∙ en.rest
 
   pub enter-some : cached ≡ found
-  enter-some = by cached ∙ ap (λ (n : ℕ). cached || someHeld held (take n hs)) (sym e) ∙ en.some
+  enter-some = by cached ∙ ap (λ (n : ℕ). cached || some_held held (take n hs)) (sym e) ∙ en.some
     where
-      by : (c : Bool) → c ≡ (c || someHeld held [])
+      by : (c : Bool) → c ≡ (c || some_held held [])
       by true = refl
       by false = unfold any in refl
 
 -- an IHave with the timer that follows it
 module _ (held : ℕ → Bool) (taken flag : Bool) (p count : ℕ) (hs : List Ihave) (counted : length hs ≡ count) where
   abbrev head_of : List ℕ
-  head_of = sendHead p taken ++ ihaveHead count
+  head_of = send_head p taken ++ ihave_head count
 
-  abbrev sendBytes : List ℕ
-  sendBytes = concatMap actionBytes (oneSend held taken flag p hs)
+  abbrev send_bytes : List ℕ
+  send_bytes = concat_map action_bytes (one_send held taken flag p hs)
 
-  chunk_bytes : sendBytes ≡ head_of ++ (concatMap ihaveBytes hs ++ concatMap actionBytes (timerAfter (quiet held taken flag hs)))
+  chunk_bytes : send_bytes ≡ head_of ++ (concat_map ihave_bytes hs ++ concat_map action_bytes (timer_after (quiet held taken flag hs)))
   chunk_bytes =
-      bytes-cons actionBytes (Sent p taken (IHave hs)) (timerAfter (quiet held taken flag hs))
-      ∙ ap (λ (l : List ℕ). l ++ concatMap actionBytes (timerAfter (quiet held taken flag hs))) (sent-ihave-listed p taken hs count counted)
-      ∙ append_assoc head_of (concatMap ihaveBytes hs) (concatMap actionBytes (timerAfter (quiet held taken flag hs)))
+      bytes-cons action_bytes (Sent p taken (IHave hs)) (timer_after (quiet held taken flag hs))
+      ∙ ap (λ (l : List ℕ). l ++ concat_map action_bytes (timer_after (quiet held taken flag hs))) (sent-ihave-listed p taken hs count counted)
+      ∙ append_assoc head_of (concat_map ihave_bytes hs) (concat_map action_bytes (timer_after (quiet held taken flag hs)))
 
-  module _ {start : ℕ} (t : Tellable sendBytes start) where
-    again : Tellable (head_of ++ (concatMap ihaveBytes hs ++ concatMap actionBytes (timerAfter (quiet held taken flag hs)))) start
+  module _ {start : ℕ} (t : Tellable send_bytes start) where
+    again : Tellable (head_of ++ (concat_map ihave_bytes hs ++ concat_map action_bytes (timer_after (quiet held taken flag hs)))) start
     again = subst (λ (l : List ℕ). Tellable l start) chunk_bytes t
 
     pub chunk-head : Tellable head_of start
-    chunk-head = tellable-first (concatMap ihaveBytes hs ++ concatMap actionBytes (timerAfter (quiet held taken flag hs))) again
+    chunk-head = tellable-first (concat_map ihave_bytes hs ++ concat_map action_bytes (timer_after (quiet held taken flag hs))) again
 
-    pub chunk-entries : {before out : List ℕ} {a : ℕ} → Written head_of before start out a → Tellable (concatMap ihaveBytes hs) a
-    chunk-entries w = tellable-first (concatMap actionBytes (timerAfter (quiet held taken flag hs))) (tellable-then w again)
+    pub chunk-entries : {before out : List ℕ} {a : ℕ} → Written head_of before start out a → Tellable (concat_map ihave_bytes hs) a
+    chunk-entries w = tellable-first (concat_map action_bytes (timer_after (quiet held taken flag hs))) (tellable-then w again)
 
-    pub chunk-timer : {before out out' : List ℕ} {a b : ℕ} → Written head_of before start out a → Written (concatMap ihaveBytes hs) out a out' b → {acts : List Action} → timerAfter (quiet held taken flag hs) ≡ acts → Tellable (concatMap actionBytes acts) b
-    chunk-timer {b = b} w v e = subst (λ (l : List Action). Tellable (concatMap actionBytes l) b) e (tellable-then v (tellable-then w again))
+    pub chunk-timer : {before out out' : List ℕ} {a b : ℕ} → Written head_of before start out a → Written (concat_map ihave_bytes hs) out a out' b → {acts : List Action} → timer_after (quiet held taken flag hs) ≡ acts → Tellable (concat_map action_bytes acts) b
+    chunk-timer {b = b} w v e = subst (λ (l : List Action). Tellable (concat_map action_bytes l) b) e (tellable-then v (tellable-then w again))
 
-  pub chunk-quiet : {before out out' : List ℕ} {start a b : ℕ} → Written head_of before start out a → Written (concatMap ihaveBytes hs) out a out' b → quiet held taken flag hs ≡ true → Written sendBytes before start out' b
+  pub chunk-quiet : {before out out' : List ℕ} {start a b : ℕ} → Written head_of before start out a → Written (concat_map ihave_bytes hs) out a out' b → quiet held taken flag hs ≡ true → Written send_bytes before start out' b
   chunk-quiet {before} {out} {out'} {start} {a} {b} w v e =
-      let s : sendBytes ≡ head_of ++ concatMap ihaveBytes hs = chunk_bytes ∙ ap (λ (still : Bool). head_of ++ (concatMap ihaveBytes hs ++ concatMap actionBytes (timerAfter still))) e ∙ ap (λ (l : List ℕ). head_of ++ (concatMap ihaveBytes hs ++ l)) (bytes-none actionBytes) ∙ ap (λ (l : List ℕ). head_of ++ l) (append-nil (concatMap ihaveBytes hs)) in
+      let s : send_bytes ≡ head_of ++ concat_map ihave_bytes hs = chunk_bytes ∙ ap (λ (still : Bool). head_of ++ (concat_map ihave_bytes hs ++ concat_map action_bytes (timer_after still))) e ∙ ap (λ (l : List ℕ). head_of ++ (concat_map ihave_bytes hs ++ l)) (bytes-none action_bytes) ∙ ap (λ (l : List ℕ). head_of ++ l) (append-nil (concat_map ihave_bytes hs)) in
       subst (λ (l : List ℕ). Written l before start out' b) (sym s) (written_then w v)
 
-  pub chunk-timed : {before out out' out'' : List ℕ} {start a b c : ℕ} → Written head_of before start out a → Written (concatMap ihaveBytes hs) out a out' b → {acts : List Action} → timerAfter (quiet held taken flag hs) ≡ acts
-      → Written (concatMap actionBytes acts) out' b out'' c → Written sendBytes before start out'' c
+  pub chunk-timed : {before out out' out'' : List ℕ} {start a b c : ℕ} → Written head_of before start out a → Written (concat_map ihave_bytes hs) out a out' b → {acts : List Action} → timer_after (quiet held taken flag hs) ≡ acts
+      → Written (concat_map action_bytes acts) out' b out'' c → Written send_bytes before start out'' c
   chunk-timed {before} {out} {out'} {out''} {start} {a} {b} {c} w v e u =
-      let s : sendBytes ≡ head_of ++ (concatMap ihaveBytes hs ++ concatMap actionBytes _) = chunk_bytes ∙ ap (λ (l : List Action). head_of ++ (concatMap ihaveBytes hs ++ concatMap actionBytes l)) e in
+      let s : send_bytes ≡ head_of ++ (concat_map ihave_bytes hs ++ concat_map action_bytes _) = chunk_bytes ∙ ap (λ (l : List Action). head_of ++ (concat_map ihave_bytes hs ++ concat_map action_bytes l)) e in
       subst (λ (l : List ℕ). Written l before start out'' c) (sym s) (written_then w (written_then v u))
 
 -- when no timer follows
 module _ (held : ℕ → Bool) (taken flag : Bool) (hs : List Ihave) where
   pub quiet-taken : taken ≡ true → quiet held taken flag hs ≡ true
-  quiet-taken e = λ k. e k || flag || not (someHeld held hs)
+  quiet-taken e = λ k. e k || flag || not (some_held held hs)
 
-  pub flag-taken : taken ≡ true → flag ≡ flagAfter held taken flag hs
+  pub flag-taken : taken ≡ true → flag ≡ flag_after held taken flag hs
   flag-taken e = λ k. if sym (quiet-taken e) k then flag else true
 
   -- one that is handed back makes a record stand, where any of it is cached
-  module _ (back : taken ≡ false) (cached : Bool) (seen : cached ≡ someHeld held hs) where
+  module _ (back : taken ≡ false) (cached : Bool) (seen : cached ≡ some_held held hs) where
     quiet-back : quiet held taken flag hs ≡ (flag || not cached)
     quiet-back = λ k. back k || flag || not (sym seen k)
 
-    pub back-announce : timerAfter (quiet held taken flag hs) ≡ announceAction cached flag
-    unfolding announceAction
-    back-announce = ap timerAfter quiet-back ∙ by cached flag
+    pub back-announce : timer_after (quiet held taken flag hs) ≡ announce_action cached flag
+    unfolding announce_action
+    back-announce = ap timer_after quiet-back ∙ by cached flag
       where
-        by : (c f : Bool) → timerAfter (f || not c) ≡ (if c && not f then Scheduled 1000 AnnounceDropped ∷ [] else [])
+        by : (c f : Bool) → timer_after (f || not c) ≡ (if c && not f then Scheduled 1000 AnnounceDropped ∷ [] else [])
         by true true = refl
         by true false = refl
         by false true = refl
         by false false = refl
 
-    pub flag-cached : cached ≡ true → true ≡ flagAfter held taken flag hs
+    pub flag-cached : cached ≡ true → true ≡ flag_after held taken flag hs
     flag-cached e = sym ((λ k. if (quiet-back ∙ (λ j. flag || not (e j))) k then flag else true) ∙ by flag)
       where
         by : (f : Bool) → (if f || not true then f else true) ≡ true
         by true = refl
         by false = refl
 
-    pub flag-none : cached ≡ false → flag ≡ flagAfter held taken flag hs
+    pub flag-none : cached ≡ false → flag ≡ flag_after held taken flag hs
     flag-none e = sym ((λ k. if (quiet-back ∙ (λ j. flag || not (e j))) k then flag else true) ∙ by flag)
       where
         by : (f : Bool) → (if f || not false then f else true) ≡ f
@@ -166,49 +166,49 @@ module _ (held : ℕ → Bool) (taken flag : Bool) (hs : List Ihave) where
 
 -- one piece and the others
 module _ (held : ℕ → Bool) (rooms : List Room) where
-  sends-one : (flag : Bool) (x : Piece) (xs : List Piece) → pieceActions held rooms flag (x ∷ xs) ≡ oneSend held (pieceTaken rooms x) flag x.peer x.ihaves ++ pieceActions held rooms (flagAfter held (pieceTaken rooms x) flag x.ihaves) xs
-  unfolding pieceActions
-  sends-one flag x xs = by (quiet held (pieceTaken rooms x) flag x.ihaves)
+  sends-one : (flag : Bool) (x : Piece) (xs : List Piece) → piece_actions held rooms flag (x ∷ xs) ≡ one_send held (piece_taken rooms x) flag x.peer x.ihaves ++ piece_actions held rooms (flag_after held (piece_taken rooms x) flag x.ihaves) xs
+  unfolding piece_actions
+  sends-one flag x xs = by (quiet held (piece_taken rooms x) flag x.ihaves)
     where
-      by : (b : Bool) → (Sent x.peer (pieceTaken rooms x) (IHave x.ihaves) ∷ (if b then pieceActions held rooms flag xs else Scheduled 1000 AnnounceDropped ∷ pieceActions held rooms true xs))
-          ≡ (Sent x.peer (pieceTaken rooms x) (IHave x.ihaves) ∷ timerAfter b) ++ pieceActions held rooms (if b then flag else true) xs
+      by : (b : Bool) → (Sent x.peer (piece_taken rooms x) (IHave x.ihaves) ∷ (if b then piece_actions held rooms flag xs else Scheduled 1000 AnnounceDropped ∷ piece_actions held rooms true xs))
+          ≡ (Sent x.peer (piece_taken rooms x) (IHave x.ihaves) ∷ timer_after b) ++ piece_actions held rooms (if b then flag else true) xs
       by true = refl
       by false = refl
 
-  sends_none : (flag : Bool) → pieceActions held rooms flag [] ≡ []
-  unfolding pieceActions
+  sends_none : (flag : Bool) → piece_actions held rooms flag [] ≡ []
+  unfolding piece_actions
   sends_none flag = refl
 
-  flags-one : (flag : Bool) (x : Piece) (xs : List Piece) → flagAfterAll held rooms flag (x ∷ xs) ≡ flagAfterAll held rooms (flagAfter held (pieceTaken rooms x) flag x.ihaves) xs
-  unfolding flagAfterAll
+  flags-one : (flag : Bool) (x : Piece) (xs : List Piece) → flag_after_all held rooms flag (x ∷ xs) ≡ flag_after_all held rooms (flag_after held (piece_taken rooms x) flag x.ihaves) xs
+  unfolding flag_after_all
   flags-one flag x xs = refl
 
-  flags-none : (flag : Bool) → flagAfterAll held rooms flag [] ≡ flag
-  unfolding flagAfterAll
+  flags-none : (flag : Bool) → flag_after_all held rooms flag [] ≡ flag
+  unfolding flag_after_all
   flags-none flag = refl
 
-  sends-append : (flag : Bool) (xs ys : List Piece) → pieceActions held rooms flag (xs ++ ys) ≡ pieceActions held rooms flag xs ++ pieceActions held rooms (flagAfterAll held rooms flag xs) ys
-  sends-append flag [] ys = (λ k. sym (sends_none flag) k ++ pieceActions held rooms (sym (flags-none flag) k) ys)
+  sends-append : (flag : Bool) (xs ys : List Piece) → piece_actions held rooms flag (xs ++ ys) ≡ piece_actions held rooms flag xs ++ piece_actions held rooms (flag_after_all held rooms flag xs) ys
+  sends-append flag [] ys = (λ k. sym (sends_none flag) k ++ piece_actions held rooms (sym (flags-none flag) k) ys)
   sends-append flag (x ∷ xs) ys =
-      let one = oneSend held (pieceTaken rooms x) flag x.peer x.ihaves in
-      let next = flagAfter held (pieceTaken rooms x) flag x.ihaves in
+      let one = one_send held (piece_taken rooms x) flag x.peer x.ihaves in
+      let next = flag_after held (piece_taken rooms x) flag x.ihaves in
       sends-one flag x (xs ++ ys)
       ∙ ap (λ (l : List Action). one ++ l) (sends-append next xs ys)
-      ∙ sym (append_assoc one (pieceActions held rooms next xs) (pieceActions held rooms (flagAfterAll held rooms next xs) ys))
-      ∙ (λ k. sym (sends-one flag x xs) k ++ pieceActions held rooms (sym (flags-one flag x xs) k) ys)
+      ∙ sym (append_assoc one (piece_actions held rooms next xs) (piece_actions held rooms (flag_after_all held rooms next xs) ys))
+      ∙ (λ k. sym (sends-one flag x xs) k ++ piece_actions held rooms (sym (flags-one flag x xs) k) ys)
 
 -- the IHaves to one link: hs are still to be sent, from the nth on
 pub record Linking (held : ℕ → Bool) (rooms : List Room) (p k : ℕ) (whole : List ℕ) (final : Bool) (before : List ℕ) (start : ℕ) (out : List ℕ) (at : ℕ) (hs : List Ihave) (nth : ℕ) (flag : Bool) : Type 0 where
   pub sofar : List ℕ
   pub fuel : ℕ
-  pub bytes : whole ≡ sofar ++ concatMap actionBytes (pieceActions held rooms flag (numbered p nth (chunks fuel k hs)))
+  pub bytes : whole ≡ sofar ++ concat_map action_bytes (piece_actions held rooms flag (numbered p nth (chunks fuel k hs)))
   pub written : Written sofar before start out at
-  pub flags : flagAfterAll held rooms flag (numbered p nth (chunks fuel k hs)) ≡ final
+  pub flags : flag_after_all held rooms flag (numbered p nth (chunks fuel k hs)) ≡ final
   pub enough : length hs ≤ fuel
 
-pub link_start : (held : ℕ → Bool) (rooms : List Room) (p k : ℕ) (queue : List Note) (flag : Bool) (before : List ℕ) (start : ℕ) → length (queuedFor p queue) ≤ length queue
-    → Linking held rooms p k (concatMap actionBytes (pieceActions held rooms flag (peerPieces k queue p))) (flagAfterAll held rooms flag (peerPieces k queue p)) before start before start (queuedFor p queue) 1 flag
-unfolding peerPieces
+pub link_start : (held : ℕ → Bool) (rooms : List Room) (p k : ℕ) (queue : List Note) (flag : Bool) (before : List ℕ) (start : ℕ) → length (queued_for p queue) ≤ length queue
+    → Linking held rooms p k (concat_map action_bytes (piece_actions held rooms flag (peer_pieces k queue p))) (flag_after_all held rooms flag (peer_pieces k queue p)) before start before start (queued_for p queue) 1 flag
+unfolding peer_pieces
 link_start held rooms p k queue flag before start w = record { sofar = []; fuel = length queue; bytes = refl; written = written_none before start; flags = refl; enough = w }
 
 chunk-first : (k fuel : ℕ) (hs : List Ihave) → 0 < length hs → length hs ≤ fuel → chunks fuel k hs ≡ take k hs ∷ chunks (fuel - 1) k (drop k hs)
@@ -254,9 +254,9 @@ module _ (k count : ℕ) (hs : List Ihave) (e : count ≡ min k (length hs)) whe
 module _ {held : ℕ → Bool} {rooms : List Room} {p k : ℕ} {whole : List ℕ} {final : Bool} {before : List ℕ} {start : ℕ} {out : List ℕ} {at : ℕ} {hs : List Ihave} {nth : ℕ} {flag : Bool}
     (li : Linking held rooms p k whole final before start out at hs nth flag) where
   -- one IHave more
-  module _ (count : ℕ) (taken : Bool) (some : 0 < length hs) (one : 1 ≤ k) (e : count ≡ min k (length hs)) (t : taken ≡ kthTaken nth p rooms) where
+  module _ (count : ℕ) (taken : Bool) (some : 0 < length hs) (one : 1 ≤ k) (e : count ≡ min k (length hs)) (t : taken ≡ kth_taken nth p rooms) where
     abbrev sent : List Action
-    sent = oneSend held taken flag p (take count hs)
+    sent = one_send held taken flag p (take count hs)
 
     abbrev later : List Piece
     later = numbered p (nth + 1) (chunks (li.fuel - 1) k (drop count hs))
@@ -270,32 +270,32 @@ module _ {held : ℕ → Bool} {rooms : List Room} {p k : ℕ} {whole : List ℕ
         plain : (n : ℕ) → suc n ≡ n + 1
         plain n = omega arith
 
-    acts-are : pieceActions held rooms flag (numbered p nth (chunks li.fuel k hs)) ≡ sent ++ pieceActions held rooms (flagAfter held taken flag (take count hs)) later
-    unfolding pieceTaken
+    acts-are : piece_actions held rooms flag (numbered p nth (chunks li.fuel k hs)) ≡ sent ++ piece_actions held rooms (flag_after held taken flag (take count hs)) later
+    unfolding piece_taken
     acts-are =
-        ap (pieceActions held rooms flag) pieces_are
+        ap (piece_actions held rooms flag) pieces_are
         ∙ sends-one held rooms flag (record { peer = p; nth = nth; ihaves = take count hs }) later
-        ∙ (λ i. oneSend held (sym t i) flag p (take count hs) ++ pieceActions held rooms (flagAfter held (sym t i) flag (take count hs)) later)
+        ∙ (λ i. one_send held (sym t i) flag p (take count hs) ++ piece_actions held rooms (flag_after held (sym t i) flag (take count hs)) later)
 
-    split-link : whole ≡ li.sofar ++ (concatMap actionBytes sent ++ concatMap actionBytes (pieceActions held rooms (flagAfter held taken flag (take count hs)) later))
-    split-link = li.bytes ∙ ap (λ (l : List ℕ). li.sofar ++ l) (ap (concatMap actionBytes) acts-are ∙ concat-append actionBytes sent (pieceActions held rooms (flagAfter held taken flag (take count hs)) later))
+    split-link : whole ≡ li.sofar ++ (concat_map action_bytes sent ++ concat_map action_bytes (piece_actions held rooms (flag_after held taken flag (take count hs)) later))
+    split-link = li.bytes ∙ ap (λ (l : List ℕ). li.sofar ++ l) (ap (concat_map action_bytes) acts-are ∙ concat-append action_bytes sent (piece_actions held rooms (flag_after held taken flag (take count hs)) later))
 
-    pub link-told : Tellable whole start → Tellable (concatMap actionBytes sent) at
-    link-told w = tellable-first (concatMap actionBytes (pieceActions held rooms (flagAfter held taken flag (take count hs)) later)) (tellable-then li.written (subst (λ (l : List ℕ). Tellable l start) split-link w))
+    pub link-told : Tellable whole start → Tellable (concat_map action_bytes sent) at
+    link-told w = tellable-first (concat_map action_bytes (piece_actions held rooms (flag_after held taken flag (take count hs)) later)) (tellable-then li.written (subst (λ (l : List ℕ). Tellable l start) split-link w))
 
-    pub link-next : (out' : List ℕ) (at' : ℕ) (flag' : Bool) (rest : List Ihave) → Written (concatMap actionBytes sent) out at out' at' → flag' ≡ flagAfter held taken flag (take count hs) → rest ≡ drop count hs
+    pub link-next : (out' : List ℕ) (at' : ℕ) (flag' : Bool) (rest : List Ihave) → Written (concat_map action_bytes sent) out at out' at' → flag' ≡ flag_after held taken flag (take count hs) → rest ≡ drop count hs
         → Linking held rooms p k whole final before start out' at' rest (nth + 1) flag'
-    unfolding pieceTaken
+    unfolding piece_taken
     link-next out' at' flag' rest w f r = record {
-      sofar = li.sofar ++ concatMap actionBytes sent;
+      sofar = li.sofar ++ concat_map action_bytes sent;
       fuel = li.fuel - 1;
-      bytes = split-link ∙ sym (append_assoc li.sofar (concatMap actionBytes sent) (concatMap actionBytes (pieceActions held rooms (flagAfter held taken flag (take count hs)) later)))
-          ∙ (λ i. (li.sofar ++ concatMap actionBytes sent) ++ concatMap actionBytes (pieceActions held rooms (sym f i) (numbered p (nth + 1) (chunks (li.fuel - 1) k (sym r i)))));
+      bytes = split-link ∙ sym (append_assoc li.sofar (concat_map action_bytes sent) (concat_map action_bytes (piece_actions held rooms (flag_after held taken flag (take count hs)) later)))
+          ∙ (λ i. (li.sofar ++ concat_map action_bytes sent) ++ concat_map action_bytes (piece_actions held rooms (sym f i) (numbered p (nth + 1) (chunks (li.fuel - 1) k (sym r i)))));
       written = written_then li.written w;
-      flags = (λ i. flagAfterAll held rooms (f i) (numbered p (nth + 1) (chunks (li.fuel - 1) k (r i))))
-          ∙ (λ i. flagAfterAll held rooms (flagAfter held (t i) flag (take count hs)) later)
+      flags = (λ i. flag_after_all held rooms (f i) (numbered p (nth + 1) (chunks (li.fuel - 1) k (r i))))
+          ∙ (λ i. flag_after_all held rooms (flag_after held (t i) flag (take count hs)) later)
           ∙ sym (flags-one held rooms flag (record { peer = p; nth = nth; ihaves = take count hs }) later)
-          ∙ ap (flagAfterAll held rooms flag) (sym pieces_are) ∙ li.flags;
+          ∙ ap (flag_after_all held rooms flag) (sym pieces_are) ∙ li.flags;
       enough = omega (arith, ap length r, length-drop count hs, li.enough);
     }
 
@@ -306,19 +306,19 @@ module _ {held : ℕ → Bool} {rooms : List Room} {p k : ℕ} {whole : List ℕ
 
     pub link-written : Written whole before start out at
     link-written =
-        let w : whole ≡ li.sofar = li.bytes ∙ ap (λ (l : List ℕ). li.sofar ++ l) (ap (λ (xs : List Piece). concatMap actionBytes (pieceActions held rooms flag xs)) no_pieces ∙ ap (concatMap actionBytes) (sends_none held rooms flag) ∙ bytes-none actionBytes) ∙ append-nil li.sofar in
+        let w : whole ≡ li.sofar = li.bytes ∙ ap (λ (l : List ℕ). li.sofar ++ l) (ap (λ (xs : List Piece). concat_map action_bytes (piece_actions held rooms flag xs)) no_pieces ∙ ap (concat_map action_bytes) (sends_none held rooms flag) ∙ bytes-none action_bytes) ∙ append-nil li.sofar in
         subst (λ (l : List ℕ). Written l before start out at) (sym w) li.written
 
     pub link-flag : flag ≡ final
-    link-flag = sym (ap (flagAfterAll held rooms flag) no_pieces ∙ flags-none held rooms flag) ∙ li.flags
+    link-flag = sym (ap (flag_after_all held rooms flag) no_pieces ∙ flags-none held rooms flag) ∙ li.flags
 
 -- the links: the peers ps are still to be sent to
 pub record Going (held : ℕ → Bool) (rooms : List Room) (k : ℕ) (queue : List Note) (whole before : List ℕ) (start : ℕ) (out : List ℕ) (at : ℕ) (ps : List ℕ) (flag : Bool) : Type 0 where
   pub sofar : List ℕ
-  pub bytes : whole ≡ sofar ++ concatMap actionBytes (pieceActions held rooms flag (pieces ps k queue))
+  pub bytes : whole ≡ sofar ++ concat_map action_bytes (piece_actions held rooms flag (pieces ps k queue))
   pub written : Written sofar before start out at
 
-pub going_start : (held : ℕ → Bool) (rooms : List Room) (k : ℕ) (queue : List Note) (whole before : List ℕ) (start : ℕ) (ps : List ℕ) (flag : Bool) → whole ≡ concatMap actionBytes (pieceActions held rooms flag (pieces ps k queue))
+pub going_start : (held : ℕ → Bool) (rooms : List Room) (k : ℕ) (queue : List Note) (whole before : List ℕ) (start : ℕ) (ps : List ℕ) (flag : Bool) → whole ≡ concat_map action_bytes (piece_actions held rooms flag (pieces ps k queue))
     → Going held rooms k queue whole before start before start ps flag
 going_start held rooms k queue whole before start ps flag e = record { sofar = []; bytes = e; written = written_none before start }
 
@@ -326,30 +326,30 @@ module _ {held : ℕ → Bool} {rooms : List Room} {k : ℕ} {queue : List Note}
     (go : Going held rooms k queue whole before start out at ps flag) where
   module _ (p : ℕ) (qs : List ℕ) (e : ps ≡ p ∷ qs) where
     abbrev own : List Piece
-    own = peerPieces k queue p
+    own = peer_pieces k queue p
 
-    split-all : whole ≡ go.sofar ++ (concatMap actionBytes (pieceActions held rooms flag own) ++ concatMap actionBytes (pieceActions held rooms (flagAfterAll held rooms flag own) (pieces qs k queue)))
+    split-all : whole ≡ go.sofar ++ (concat_map action_bytes (piece_actions held rooms flag own) ++ concat_map action_bytes (piece_actions held rooms (flag_after_all held rooms flag own) (pieces qs k queue)))
     unfolding pieces
     split-all =
-        go.bytes ∙ ap (λ (l : List ℕ). go.sofar ++ concatMap actionBytes (pieceActions held rooms flag (pieces l k queue))) e
-        ∙ ap (λ (l : List ℕ). go.sofar ++ l) (ap (concatMap actionBytes) (sends-append held rooms flag own (pieces qs k queue))
-        ∙ concat-append actionBytes (pieceActions held rooms flag own) (pieceActions held rooms (flagAfterAll held rooms flag own) (pieces qs k queue)))
+        go.bytes ∙ ap (λ (l : List ℕ). go.sofar ++ concat_map action_bytes (piece_actions held rooms flag (pieces l k queue))) e
+        ∙ ap (λ (l : List ℕ). go.sofar ++ l) (ap (concat_map action_bytes) (sends-append held rooms flag own (pieces qs k queue))
+        ∙ concat-append action_bytes (piece_actions held rooms flag own) (piece_actions held rooms (flag_after_all held rooms flag own) (pieces qs k queue)))
 
-    pub going-told : Tellable whole start → Tellable (concatMap actionBytes (pieceActions held rooms flag own)) at
-    going-told t = tellable-first (concatMap actionBytes (pieceActions held rooms (flagAfterAll held rooms flag own) (pieces qs k queue))) (tellable-then go.written (subst (λ (l : List ℕ). Tellable l start) split-all t))
+    pub going-told : Tellable whole start → Tellable (concat_map action_bytes (piece_actions held rooms flag own)) at
+    going-told t = tellable-first (concat_map action_bytes (piece_actions held rooms (flag_after_all held rooms flag own) (pieces qs k queue))) (tellable-then go.written (subst (λ (l : List ℕ). Tellable l start) split-all t))
 
-    pub going_next : (out' : List ℕ) (at' : ℕ) (flag' : Bool) → Written (concatMap actionBytes (pieceActions held rooms flag own)) out at out' at' → flag' ≡ flagAfterAll held rooms flag own
+    pub going_next : (out' : List ℕ) (at' : ℕ) (flag' : Bool) → Written (concat_map action_bytes (piece_actions held rooms flag own)) out at out' at' → flag' ≡ flag_after_all held rooms flag own
         → Going held rooms k queue whole before start out' at' qs flag'
     going_next out' at' flag' w f = record {
-      sofar = go.sofar ++ concatMap actionBytes (pieceActions held rooms flag own);
-      bytes = split-all ∙ sym (append_assoc go.sofar (concatMap actionBytes (pieceActions held rooms flag own)) (concatMap actionBytes (pieceActions held rooms (flagAfterAll held rooms flag own) (pieces qs k queue))))
-          ∙ (λ i. (go.sofar ++ concatMap actionBytes (pieceActions held rooms flag own)) ++ concatMap actionBytes (pieceActions held rooms (sym f i) (pieces qs k queue)));
+      sofar = go.sofar ++ concat_map action_bytes (piece_actions held rooms flag own);
+      bytes = split-all ∙ sym (append_assoc go.sofar (concat_map action_bytes (piece_actions held rooms flag own)) (concat_map action_bytes (piece_actions held rooms (flag_after_all held rooms flag own) (pieces qs k queue))))
+          ∙ (λ i. (go.sofar ++ concat_map action_bytes (piece_actions held rooms flag own)) ++ concat_map action_bytes (piece_actions held rooms (sym f i) (pieces qs k queue)));
       written = written_then go.written w;
     }
 
   pub going_end : ps ≡ [] → Written whole before start out at
   unfolding pieces
   going_end e =
-      let w : whole ≡ go.sofar = go.bytes ∙ ap (λ (l : List ℕ). go.sofar ++ concatMap actionBytes (pieceActions held rooms flag (pieces l k queue))) e
-      ∙ ap (λ (l : List ℕ). go.sofar ++ l) (ap (concatMap actionBytes) (sends_none held rooms flag) ∙ bytes-none actionBytes) ∙ append-nil go.sofar in
+      let w : whole ≡ go.sofar = go.bytes ∙ ap (λ (l : List ℕ). go.sofar ++ concat_map action_bytes (piece_actions held rooms flag (pieces l k queue))) e
+      ∙ ap (λ (l : List ℕ). go.sofar ++ l) (ap (concat_map action_bytes) (sends_none held rooms flag) ∙ bytes-none action_bytes) ∙ append-nil go.sofar in
       subst (λ (l : List ℕ). Written l before start out at) (sym w) go.written

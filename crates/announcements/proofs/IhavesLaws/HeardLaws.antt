@@ -7,34 +7,34 @@ use Prim.Native.Nat.{ℕ, ◌≤◌, ◌<◌}
 use native.Mathlib.Omega.{arith}
 use lib.ListN.{length, length-map}
 use Rattle.storage.specs.Lists.Base.{member, ascending}
-use Rattle.storage.specs.Lists.Map.{Map, keys, insert, insertKey}
+use Rattle.storage.specs.Lists.Map.{Map, keys, insert, insert_key}
 use Rattle.storage.proofs.ListsLaws.MapLaws.{cases, ascending-insert}
 use Rattle.storage.proofs.ListsLaws.ListLaws.{all_map, all-insert-entry}
 use Rattle.time_cache.specs.TimeCache.{holds}
 use Rattle.time_cache.proofs.Orders.{up_of}
 use Rattle.postcard.specs.Message.{Ihave}
-use Rattle.protocol.specs.Links.{isNeighbour}
+use Rattle.protocol.specs.Links.{is_neighbour}
 use Rattle.protocol.specs.State.{State, Hop}
 use Rattle.protocol.specs.Gossips.{announcers}
-use Rattle.protocol.specs.Control.{addAnnouncer}
-use Rattle.protocol.specs.Whole.{announcersWhole, fits}
+use Rattle.protocol.specs.Control.{add_announcer}
+use Rattle.protocol.specs.Whole.{announcers_whole, fits}
 use Rattle.protocol.specs.Consistent.{Consistent, Ranged}
 use Rattle.protocol.proofs.ConsistentSteps.{core-missing, core-timers}
-use Rattle.protocol.proofs.ConsistentTables.{Announcers, of-announcers, announcers-add, ascending-insertKey}
+use Rattle.protocol.proofs.ConsistentTables.{Announcers, of-announcers, announcers-add, ascending-insert_key}
 use Rattle.protocol.proofs.WholeKept.{known-announcers}
-use Rattle.decide.specs.StateAfter.{announcedState, ihaveState}
-use Rattle.block.specs.LinkSteps.{peerAt}
+use Rattle.decide.specs.StateAfter.{announced_state, ihave_state}
+use Rattle.block.specs.LinkSteps.{peer_at}
 use Rattle.block.specs.MissingSteps.{hop, announced}
 use Rattle.block.proofs.Few.{once-few}
 use Rattle.block.proofs.LinkLaws.{neighbour-here}
-use Rattle.announcements.specs.Ihaves.Heard.{timerMarked}
-use Rattle.announcements.proofs.IhavesLaws.Longer.{insert-longer, insertKey-longer, withHeard, fits-fewer}
+use Rattle.announcements.specs.Ihaves.Heard.{timer_marked}
+use Rattle.announcements.proofs.IhavesLaws.Longer.{insert-longer, insert_key-longer, with_heard, fits-fewer}
 
 -- from s to t the missing messages and the timers alone change, and grow
 pub record Hears (s t : State) : Type 0 where
   pub missing : Map (List Hop)
   pub timers : List ℕ
-  pub same : t ≡ withHeard missing timers s
+  pub same : t ≡ with_heard missing timers s
   pub more-missing : length s.missing ≤ length missing
   pub more-timers : length s.timers.graft ≤ length timers
 
@@ -45,7 +45,7 @@ hears-then : (s t u : State) → Hears s t → Hears t u → Hears s u
 hears-then s t u a b = record {
   missing = b.missing;
   timers = b.timers;
-  same = b.same ∙ ap (withHeard b.missing b.timers) a.same;
+  same = b.same ∙ ap (with_heard b.missing b.timers) a.same;
   more-missing = omega (arith, a.more-missing, b.more-missing, ap (λ (x : State). length x.missing) a.same);
   more-timers = omega (arith, a.more-timers, b.more-timers, ap (λ (x : State). length x.timers.graft) a.same);
 }
@@ -67,70 +67,70 @@ hears-fits s t a f = fits-fewer a.missing a.timers s a.more-missing a.more-timer
 
 -- a mark
 
-pub marked-hears : (id : ℕ) (s : State) → Hears s (timerMarked id s)
-unfolding timerMarked
+pub marked-hears : (id : ℕ) (s : State) → Hears s (timer_marked id s)
+unfolding timer_marked
 marked-hears id s =
     cases (member id s.timers.graft)
     (λ e. rw e (hears-still s))
-    (λ e. rw e (record { missing = s.missing; timers = insertKey id s.timers.graft; same = refl; more-missing = omega arith; more-timers = insertKey-longer id s.timers.graft }))
+    (λ e. rw e (record { missing = s.missing; timers = insert_key id s.timers.graft; same = refl; more-missing = omega arith; more-timers = insert_key-longer id s.timers.graft }))
 
-marked-consistent : (id : ℕ) (s : State) → Consistent s → Consistent (timerMarked id s)
-unfolding timerMarked
+marked-consistent : (id : ℕ) (s : State) → Consistent s → Consistent (timer_marked id s)
+unfolding timer_marked
 marked-consistent id s x =
     cases (member id s.timers.graft)
     (λ e. rw e x)
-    (λ e. rw e (record { core = core-timers (insertKey id s.timers.graft) s (ascending-insertKey id s.timers.graft x.core.timersUp) x.core; queueFlag = x.queueFlag; recordFlag = x.recordFlag }))
+    (λ e. rw e (record { core = core-timers (insert_key id s.timers.graft) s (ascending-insert_key id s.timers.graft x.core.timers_up) x.core; queue_flag = x.queue_flag; record_flag = x.record_flag }))
 
 -- an announcer
 
-module _ (id : ℕ) (h : Hop) (s : State) (x : Consistent s) (near : isNeighbour h.peer s.links ≡ true) where
-  adds : Announcers s.links (addAnnouncer h (announcers id s))
+module _ (id : ℕ) (h : Hop) (s : State) (x : Consistent s) (near : is_neighbour h.peer s.links ≡ true) where
+  adds : Announcers s.links (add_announcer h (announcers id s))
   adds =
       let k = known-announcers id s x in
       announcers-add s.links h (announcers id s) k.apiece k.near near
 
   -- each announces once, and is a neighbour
-  pub few-announcers : length (addAnnouncer h (announcers id s)) ≤ length s.links
+  pub few-announcers : length (add_announcer h (announcers id s)) ≤ length s.links
   few-announcers =
-      let hs : List Hop = addAnnouncer h (announcers id s) in
-      let few = once-few s.links (map (λ (y : Hop). y.peer) hs) adds.apiece (all_map (λ p. isNeighbour p s.links) (λ (y : Hop). y.peer) hs ∙ adds.near) in
+      let hs : List Hop = add_announcer h (announcers id s) in
+      let few = once-few s.links (map (λ (y : Hop). y.peer) hs) adds.apiece (all_map (λ p. is_neighbour p s.links) (λ (y : Hop). y.peer) hs ∙ adds.near) in
       omega (arith, few, length-map hs (λ (y : Hop). y.peer))
 
   announced-consistent : Consistent (announced id h s)
   announced-consistent = record {
-    core = core-missing _ s (ascending-insert id _ s.missing x.core.missingUp)
-        (all-insert-entry (announcersWhole s.links) id _ s.missing (of-announcers s.links id _ adds) x.core.announcing) x.core;
-    queueFlag = x.queueFlag;
-    recordFlag = x.recordFlag;
+    core = core-missing _ s (ascending-insert id _ s.missing x.core.missing_up)
+        (all-insert-entry (announcers_whole s.links) id _ s.missing (of-announcers s.links id _ adds) x.core.announcing) x.core;
+    queue_flag = x.queue_flag;
+    record_flag = x.record_flag;
   }
 
 announced-hears : (id : ℕ) (h : Hop) (s : State) → Hears s (announced id h s)
 announced-hears id h s = record {
-  missing = insert id (addAnnouncer h (announcers id s)) s.missing;
+  missing = insert id (add_announcer h (announcers id s)) s.missing;
   timers = s.timers.graft;
   same = refl;
-  more-missing = insert-longer id (addAnnouncer h (announcers id s)) s.missing;
+  more-missing = insert-longer id (add_announcer h (announcers id s)) s.missing;
   more-timers = omega arith;
 }
 
 -- an announcement, by what is received
 
-pub announced-received : (p : ℕ) (h : Ihave) (s : State) → holds h.id s.received ≡ true → announcedState p h s ≡ s
-unfolding announcedState
+pub announced-received : (p : ℕ) (h : Ihave) (s : State) → holds h.id s.received ≡ true → announced_state p h s ≡ s
+unfolding announced_state
 announced-received p h s e = rw e refl
 
-pub announced-missing : (p : ℕ) (h : Ihave) (s : State) → holds h.id s.received ≡ false → announcedState p h s ≡ timerMarked h.id (announced h.id (hop p h.round) s)
-unfolding announcedState timerMarked
+pub announced-missing : (p : ℕ) (h : Ihave) (s : State) → holds h.id s.received ≡ false → announced_state p h s ≡ timer_marked h.id (announced h.id (hop p h.round) s)
+unfolding announced_state timer_marked
 announced-missing p h s e = rw e refl
 
-pub one-hears : (p : ℕ) (h : Ihave) (s : State) → Hears s (announcedState p h s)
+pub one-hears : (p : ℕ) (h : Ihave) (s : State) → Hears s (announced_state p h s)
 one-hears p h s =
     cases (holds h.id s.received)
     (λ e. subst (λ (t : State). Hears s t) (sym (announced-received p h s e)) (hears-still s))
     (λ e. subst (λ (t : State). Hears s t) (sym (announced-missing p h s e))
     (hears-then s (announced h.id (hop p h.round) s) _ (announced-hears h.id (hop p h.round) s) (marked-hears h.id (announced h.id (hop p h.round) s))))
 
-pub one-consistent : (p : ℕ) (h : Ihave) (s : State) → isNeighbour p s.links ≡ true → Consistent s → Consistent (announcedState p h s)
+pub one-consistent : (p : ℕ) (h : Ihave) (s : State) → is_neighbour p s.links ≡ true → Consistent s → Consistent (announced_state p h s)
 one-consistent p h s n x =
     cases (holds h.id s.received)
     (λ e. subst (λ (t : State). Consistent t) (sym (announced-received p h s e)) x)
@@ -139,22 +139,22 @@ one-consistent p h s n x =
 
 -- all of an IHave
 
-pub ihave-append : (p : ℕ) (xs ys : List Ihave) (s : State) → ihaveState p (xs ++ ys) s ≡ ihaveState p ys (ihaveState p xs s)
-unfolding ihaveState
+pub ihave-append : (p : ℕ) (xs ys : List Ihave) (s : State) → ihave_state p (xs ++ ys) s ≡ ihave_state p ys (ihave_state p xs s)
+unfolding ihave_state
 ihave-append p [] ys s = refl
-ihave-append p (h ∷ xs) ys s = ihave-append p xs ys (announcedState p h s)
+ihave-append p (h ∷ xs) ys s = ihave-append p xs ys (announced_state p h s)
 
-pub ihave-hears : (p : ℕ) (hs : List Ihave) (s : State) → Hears s (ihaveState p hs s)
-unfolding ihaveState
+pub ihave-hears : (p : ℕ) (hs : List Ihave) (s : State) → Hears s (ihave_state p hs s)
+unfolding ihave_state
 ihave-hears p [] s = hears-still s
-ihave-hears p (h ∷ hs) s = hears-then s (announcedState p h s) _ (one-hears p h s) (ihave-hears p hs (announcedState p h s))
+ihave-hears p (h ∷ hs) s = hears-then s (announced_state p h s) _ (one-hears p h s) (ihave-hears p hs (announced_state p h s))
 
-pub ihave-consistent : (p : ℕ) (hs : List Ihave) (s : State) → isNeighbour p s.links ≡ true → Consistent s → Consistent (ihaveState p hs s)
-unfolding ihaveState
+pub ihave-consistent : (p : ℕ) (hs : List Ihave) (s : State) → is_neighbour p s.links ≡ true → Consistent s → Consistent (ihave_state p hs s)
+unfolding ihave_state
 ihave-consistent p [] s n x = x
 ihave-consistent p (h ∷ hs) s n x =
-    ihave-consistent p hs (announcedState p h s) (ap (isNeighbour p) (hears-links s (announcedState p h s) (one-hears p h s)) ∙ n) (one-consistent p h s n x)
+    ihave-consistent p hs (announced_state p h s) (ap (is_neighbour p) (hears-links s (announced_state p h s) (one-hears p h s)) ∙ n) (one-consistent p h s n x)
 
 -- the peer of a link is a neighbour
-pub link_near : (s : State) (l : ℕ) → ascending (keys s.links) ≡ true → l < length (keys s.links) → isNeighbour (peerAt s l) s.links ≡ true
-link_near s l up w = neighbour-here (peerAt s l) l s.links (up_of (keys s.links) up) (record { within = w; same = refl })
+pub link_near : (s : State) (l : ℕ) → ascending (keys s.links) ≡ true → l < length (keys s.links) → is_neighbour (peer_at s l) s.links ≡ true
+link_near s l up w = neighbour-here (peer_at s l) l s.links (up_of (keys s.links) up) (record { within = w; same = refl })

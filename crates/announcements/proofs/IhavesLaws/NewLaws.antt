@@ -16,8 +16,8 @@ use Rattle.time_cache.specs.TimeCache.{holds}
 use Rattle.postcard.specs.Message.{Ihave}
 use Rattle.protocol.specs.State.{State}
 use Rattle.decide.specs.Settled.{settled}
-use Rattle.decide.specs.SizesAfter.{newIds, knownMissing, knownTimer}
-use Rattle.announcements.specs.Ihaves.New.{isFor, isOld, isNew}
+use Rattle.decide.specs.SizesAfter.{new_ids, known_missing, known_timer}
+use Rattle.announcements.specs.Ihaves.New.{is_for, is_old, is_new}
 
 -- the identifiers of these entries, the last first, before those seen
 unfoldable pub back : List Ihave → List ℕ → List ℕ
@@ -30,14 +30,14 @@ either true false c = refl
 either false true c = refl
 either false false c = refl
 
-back-member : (i : ℕ) (xs : List Ihave) (seen : List ℕ) → member i (back xs seen) ≡ (any (isFor i) xs || member i seen)
+back-member : (i : ℕ) (xs : List Ihave) (seen : List ℕ) → member i (back xs seen) ≡ (any (is_for i) xs || member i seen)
 unfolding back member any
 back-member i [] seen = refl
-back-member i (x ∷ xs) seen = back-member i xs (x.id ∷ seen) ∙ either (any (isFor i) xs) (eqb i x.id) (member i seen)
+back-member i (x ∷ xs) seen = back-member i xs (x.id ∷ seen) ∙ either (any (is_for i) xs) (eqb i x.id) (member i seen)
 
 module _ (known : ℕ → Bool) where
-  new-append : (seen : List ℕ) (xs ys : List Ihave) → newIds known seen (xs ++ ys) ≡ newIds known seen xs ++ newIds known (back xs seen) ys
-  unfolding newIds back
+  new-append : (seen : List ℕ) (xs ys : List Ihave) → new_ids known seen (xs ++ ys) ≡ new_ids known seen xs ++ new_ids known (back xs seen) ys
+  unfolding new_ids back
   new-append seen [] ys = refl
   new-append seen (x ∷ xs) ys =
       cases (known x.id || member x.id seen)
@@ -45,46 +45,46 @@ module _ (known : ℕ → Bool) where
       (λ e. rw e (ap (λ (l : List ℕ). x.id ∷ l) (new-append (x.id ∷ seen) xs ys)))
 
   -- what one entry adds
-  new-one : (x : Ihave) (xs : List Ihave) → newIds known (back xs []) (x ∷ []) ≡ (if isOld known xs x.id then [] else x.id ∷ [])
-  unfolding newIds member
-  new-one x xs = ap (λ (b : Bool). if known x.id || b then [] else x.id ∷ []) (back-member x.id xs [] ∙ no_more (any (isFor x.id) xs))
+  new-one : (x : Ihave) (xs : List Ihave) → new_ids known (back xs []) (x ∷ []) ≡ (if is_old known xs x.id then [] else x.id ∷ [])
+  unfolding new_ids member
+  new-one x xs = ap (λ (b : Bool). if known x.id || b then [] else x.id ∷ []) (back-member x.id xs [] ∙ no_more (any (is_for x.id) xs))
     where
       no_more : (b : Bool) → (b || member x.id []) ≡ b
       no_more true = refl
       no_more false = unfold member in refl
 
-  pub new-more : (x : Ihave) (xs : List Ihave) → newIds known [] (xs ++ (x ∷ [])) ≡ newIds known [] xs ++ (if isOld known xs x.id then [] else x.id ∷ [])
-  new-more x xs = new-append [] xs (x ∷ []) ∙ ap (λ (l : List ℕ). newIds known [] xs ++ l) (new-one x xs)
+  pub new-more : (x : Ihave) (xs : List Ihave) → new_ids known [] (xs ++ (x ∷ [])) ≡ new_ids known [] xs ++ (if is_old known xs x.id then [] else x.id ∷ [])
+  new-more x xs = new-append [] xs (x ∷ []) ∙ ap (λ (l : List ℕ). new_ids known [] xs ++ l) (new-one x xs)
 
   -- no more than there are entries
-  new-few : (seen : List ℕ) (hs : List Ihave) → length (newIds known seen hs) ≤ length hs
-  unfolding newIds
+  new-few : (seen : List ℕ) (hs : List Ihave) → length (new_ids known seen hs) ≤ length hs
+  unfolding new_ids
   new-few seen [] = zero-le
   new-few seen (h ∷ hs) =
       cases (known h.id || member h.id seen)
       (λ e. rw e (omega (arith, new-few (h.id ∷ seen) hs)))
       (λ e. rw e (suc-le-suc (new-few (h.id ∷ seen) hs)))
 
-  pub new-few-all : (hs : List Ihave) → length (newIds known [] hs) ≤ length hs
+  pub new-few-all : (hs : List Ihave) → length (new_ids known [] hs) ≤ length hs
   new-few-all hs = new-few [] hs
 
   -- the number of them, after one entry more
-  pub count-more : (n m : ℕ) (x : Ihave) (xs ys : List Ihave) → n ≡ length (newIds known [] xs) → m ≡ (if isOld known xs x.id then 0 else 1) → ys ≡ xs ++ (x ∷ []) → n + m ≡ length (newIds known [] ys)
+  pub count-more : (n m : ℕ) (x : Ihave) (xs ys : List Ihave) → n ≡ length (new_ids known [] xs) → m ≡ (if is_old known xs x.id then 0 else 1) → ys ≡ xs ++ (x ∷ []) → n + m ≡ length (new_ids known [] ys)
   count-more n m x xs ys e f t =
-      (λ k. e k + f k) ∙ ap (λ (z : ℕ). length (newIds known [] xs) + z) (long (isOld known xs x.id))
-      ∙ sym (ap (λ (l : List Ihave). length (newIds known [] l)) t ∙ ap length (new-more x xs) ∙ length-append (newIds known [] xs) _)
+      (λ k. e k + f k) ∙ ap (λ (z : ℕ). length (new_ids known [] xs) + z) (long (is_old known xs x.id))
+      ∙ sym (ap (λ (l : List Ihave). length (new_ids known [] l)) t ∙ ap length (new-more x xs) ∙ length-append (new_ids known [] xs) _)
     where
       long : (b : Bool) → (if b then 0 else 1) ≡ length (if b then [] else x.id ∷ [])
       long true = refl
       long false = refl
 
   -- the rest of them, after the first i entries
-  unfoldable pub laterIds : ℕ → List Ihave → List ℕ
-  laterIds i hs = newIds known (back (take i hs) []) (drop i hs)
+  unfoldable pub later_ids : ℕ → List Ihave → List ℕ
+  later_ids i hs = new_ids known (back (take i hs) []) (drop i hs)
 
-  pub new-rest : (i : ℕ) (hs : List Ihave) → newIds known [] hs ≡ newIds known [] (take i hs) ++ laterIds i hs
-  unfolding laterIds
-  new-rest i hs = ap (newIds known []) (sym (take-append-drop i hs)) ∙ new-append [] (take i hs) (drop i hs)
+  pub new-rest : (i : ℕ) (hs : List Ihave) → new_ids known [] hs ≡ new_ids known [] (take i hs) ++ later_ids i hs
+  unfolding later_ids
+  new-rest i hs = ap (new_ids known []) (sym (take-append-drop i hs)) ∙ new-append [] (take i hs) (drop i hs)
 
 -- what the settled state has as it was
 module _ (now : ℕ) (s : State) where
@@ -124,35 +124,35 @@ module _ (now : ℕ) (s : State) (before : List Ihave) (i : ℕ) where
       last true = refl
       last false = refl
 
-  pub missing-received : holds i t.received ≡ true → isOld (knownMissing t) before i ≡ true
-  unfolding knownMissing
-  missing-received e = first (holds i t.received) (has i t.missing) (any (isFor i) before) e
+  pub missing-received : holds i t.received ≡ true → is_old (known_missing t) before i ≡ true
+  unfolding known_missing
+  missing-received e = first (holds i t.received) (has i t.missing) (any (is_for i) before) e
 
-  pub missing-before : any (isFor i) before ≡ true → isOld (knownMissing t) before i ≡ true
-  unfolding knownMissing
-  missing-before e = third (holds i t.received) (has i t.missing) (any (isFor i) before) e
+  pub missing-before : any (is_for i) before ≡ true → is_old (known_missing t) before i ≡ true
+  unfolding known_missing
+  missing-before e = third (holds i t.received) (has i t.missing) (any (is_for i) before) e
 
-  pub missing-else : holds i t.received ≡ false → any (isFor i) before ≡ false → isOld (knownMissing t) before i ≡ has i s.missing
-  unfolding knownMissing
-  missing-else e f = others (holds i t.received) (has i t.missing) (any (isFor i) before) e f ∙ ap (has i) (settled-missing now s)
+  pub missing-else : holds i t.received ≡ false → any (is_for i) before ≡ false → is_old (known_missing t) before i ≡ has i s.missing
+  unfolding known_missing
+  missing-else e f = others (holds i t.received) (has i t.missing) (any (is_for i) before) e f ∙ ap (has i) (settled-missing now s)
 
-  pub timer-received : holds i t.received ≡ true → isOld (knownTimer t) before i ≡ true
-  unfolding knownTimer
-  timer-received e = first (holds i t.received) (member i t.timers.graft) (any (isFor i) before) e
+  pub timer-received : holds i t.received ≡ true → is_old (known_timer t) before i ≡ true
+  unfolding known_timer
+  timer-received e = first (holds i t.received) (member i t.timers.graft) (any (is_for i) before) e
 
-  pub timer-marked : member i s.timers.graft ≡ true → isOld (knownTimer t) before i ≡ true
-  unfolding knownTimer
-  timer-marked e = second (holds i t.received) (member i t.timers.graft) (any (isFor i) before) (ap (member i) (settled-timers now s) ∙ e)
+  pub timer-marked : member i s.timers.graft ≡ true → is_old (known_timer t) before i ≡ true
+  unfolding known_timer
+  timer-marked e = second (holds i t.received) (member i t.timers.graft) (any (is_for i) before) (ap (member i) (settled-timers now s) ∙ e)
 
-  pub timer-before : any (isFor i) before ≡ true → isOld (knownTimer t) before i ≡ true
-  unfolding knownTimer
-  timer-before e = third (holds i t.received) (member i t.timers.graft) (any (isFor i) before) e
+  pub timer-before : any (is_for i) before ≡ true → is_old (known_timer t) before i ≡ true
+  unfolding known_timer
+  timer-before e = third (holds i t.received) (member i t.timers.graft) (any (is_for i) before) e
 
-  pub timer-else : holds i t.received ≡ false → any (isFor i) before ≡ false → isOld (knownTimer t) before i ≡ member i s.timers.graft
-  unfolding knownTimer
-  timer-else e f = others (holds i t.received) (member i t.timers.graft) (any (isFor i) before) e f ∙ ap (member i) (settled-timers now s)
+  pub timer-else : holds i t.received ≡ false → any (is_for i) before ≡ false → is_old (known_timer t) before i ≡ member i s.timers.graft
+  unfolding known_timer
+  timer-else e f = others (holds i t.received) (member i t.timers.graft) (any (is_for i) before) e f ∙ ap (member i) (settled-timers now s)
 
   -- neither received nor marked
-  pub timer-open : holds i t.received ≡ false → member i s.timers.graft ≡ false → isNew (knownTimer t) before i ≡ not (any (isFor i) before)
-  unfolding knownTimer
-  timer-open e f = (λ k. not ((e k || (ap (member i) (settled-timers now s) ∙ f) k) || any (isFor i) before))
+  pub timer-open : holds i t.received ≡ false → member i s.timers.graft ≡ false → is_new (known_timer t) before i ≡ not (any (is_for i) before)
+  unfolding known_timer
+  timer-open e f = (λ k. not ((e k || (ap (member i) (settled-timers now s) ∙ f) k) || any (is_for i) before))

@@ -12,42 +12,42 @@ use Rattle.storage.proofs.ListsLaws.MapLaws.{all_head, all_tail}
 use Rattle.storage.proofs.ListsLaws.ListLaws.{all-imp}
 use Rattle.postcard.specs.Message.{Ihave}
 use Rattle.protocol.specs.State.{State}
-use Rattle.decide.specs.Sizes.{sizesOf}
-use Rattle.decide.specs.SizesAfter.{newIds, knownMissing, knownTimer, ihaveSizes}
-use Rattle.decide.specs.ActionsAfter.{ihaveActions}
-use Rattle.decide.specs.StateAfter.{ihaveState}
-use Rattle.announcements.specs.Ihaves.New.{isReceived}
+use Rattle.decide.specs.Sizes.{sizes_of}
+use Rattle.decide.specs.SizesAfter.{new_ids, known_missing, known_timer, ihave_sizes}
+use Rattle.decide.specs.ActionsAfter.{ihave_actions}
+use Rattle.decide.specs.StateAfter.{ihave_state}
+use Rattle.announcements.specs.Ihaves.New.{is_received}
 use Rattle.announcements.proofs.IhavesLaws.HeardLaws.{announced-received}
 
 -- of known identifiers none is new
-new_none : (known : ℕ → Bool) (seen : List ℕ) (hs : List Ihave) → all (λ h. known h.id) hs ≡ true → newIds known seen hs ≡ []
-unfolding newIds
+new_none : (known : ℕ → Bool) (seen : List ℕ) (hs : List Ihave) → all (λ h. known h.id) hs ≡ true → new_ids known seen hs ≡ []
+unfolding new_ids
 new_none known seen [] a = refl
 new_none known seen (h ∷ hs) a =
     rw (all_head (λ h. known h.id) h hs a) (new_none known (h.id ∷ seen) hs (all_tail (λ h. known h.id) h hs a))
 
-module _ (s : State) (hs : List Ihave) (a : all (isReceived s) hs ≡ true) where
-  no-missing : newIds (knownMissing s) [] hs ≡ []
-  unfolding knownMissing
-  no-missing = new_none (knownMissing s) [] hs (all-imp (isReceived s) (λ h. knownMissing s h.id) (λ h e. ap (λ (b : Bool). b || has h.id s.missing) e) hs a)
+module _ (s : State) (hs : List Ihave) (a : all (is_received s) hs ≡ true) where
+  no-missing : new_ids (known_missing s) [] hs ≡ []
+  unfolding known_missing
+  no-missing = new_none (known_missing s) [] hs (all-imp (is_received s) (λ h. known_missing s h.id) (λ h e. ap (λ (b : Bool). b || has h.id s.missing) e) hs a)
 
-  no-timers : newIds (knownTimer s) [] hs ≡ []
-  unfolding knownTimer
-  no-timers = new_none (knownTimer s) [] hs (all-imp (isReceived s) (λ h. knownTimer s h.id) (λ h e. ap (λ (b : Bool). b || member h.id s.timers.graft) e) hs a)
+  no-timers : new_ids (known_timer s) [] hs ≡ []
+  unfolding known_timer
+  no-timers = new_none (known_timer s) [] hs (all-imp (is_received s) (λ h. known_timer s h.id) (λ h e. ap (λ (b : Bool). b || member h.id s.timers.graft) e) hs a)
 
-  pub received-sizes : ihaveSizes hs s ≡ sizesOf s
-  unfolding ihaveSizes sizesOf
+  pub received-sizes : ihave_sizes hs s ≡ sizes_of s
+  unfolding ihave_sizes sizes_of
   received-sizes = rw (no-missing, no-timers, add-zero (length s.missing), add-zero (length s.timers.graft)) refl
 
-  pub received-actions : ihaveActions hs s ≡ []
-  unfolding ihaveActions
+  pub received-actions : ihave_actions hs s ≡ []
+  unfolding ihave_actions
   received-actions = rw no-timers refl
 
-pub received-state : (p : ℕ) (s : State) (hs : List Ihave) → all (isReceived s) hs ≡ true → ihaveState p hs s ≡ s
-unfolding ihaveState
+pub received-state : (p : ℕ) (s : State) (hs : List Ihave) → all (is_received s) hs ≡ true → ihave_state p hs s ≡ s
+unfolding ihave_state
 received-state p s [] a = refl
 received-state p s (h ∷ hs) a =
-    ap (ihaveState p hs) (announced-received p h s (all_head (isReceived s) h hs a)) ∙ received-state p s hs (all_tail (isReceived s) h hs a)
+    ap (ihave_state p hs) (announced-received p h s (all_head (is_received s) h hs a)) ∙ received-state p s hs (all_tail (is_received s) h hs a)
 
 -- the pass: after i entries that are received, the rest decides
 module _ (f : Ihave → Bool) (hs : List Ihave) where

@@ -2,14 +2,14 @@
 -- Assumes nothing.
 use Rattle.std.specs.Prelude.{ℕ, [], ◌∷◌, ◌++◌}
 use Rattle.storage.specs.Rows.Part.{put}
-use Rattle.protocol.specs.State.{State, withQueue, withDropped}
-use Rattle.protocol.specs.Ticks.{oldest, younger, stillCached}
-use Rattle.block.specs.NoteSteps.{noteFor}
+use Rattle.protocol.specs.State.{State, with_queue, with_dropped}
+use Rattle.protocol.specs.Ticks.{oldest, younger, still_cached}
+use Rattle.block.specs.NoteSteps.{note_for}
 
 -- "drops uncached identifiers, moves the oldest 64 per peer to its queue"
-unfoldable pub movedState : State → State
-movedState s = withDropped (younger [] (stillCached s)) (withQueue (s.queue ++ oldest [] (stillCached s)) s)
+unfoldable pub moved_state : State → State
+moved_state s = with_dropped (younger [] (still_cached s)) (with_queue (s.queue ++ oldest [] (still_cached s)) s)
 
 -- another note in place k of the record
-abbrev pub dropInstead : ℕ → ℕ → ℕ → ℕ → State → State
-dropInstead k l i r s = withDropped (put k (noteFor s l i r ∷ []) s.dropped) s
+abbrev pub drop_instead : ℕ → ℕ → ℕ → ℕ → State → State
+drop_instead k l i r s = with_dropped (put k (note_for s l i r ∷ []) s.dropped) s

@@ -3,25 +3,25 @@
 use Rattle.std.specs.Prelude.{ℕ, ◌≤◌, ◌<◌, ◌≡◌, false, List, length, drop}
 use Rattle.storage.specs.Lists.Base.{any, count}
 use Rattle.protocol.specs.State.{State, Note}
-use Rattle.protocol.specs.Push.{forPeer, notes}
-use Rattle.protocol.specs.Ticks.{queuedFor}
+use Rattle.protocol.specs.Push.{for_peer, notes}
+use Rattle.protocol.specs.Ticks.{queued_for}
 use Rattle.protocol.specs.Consistent.{Flagged}
-use Rattle.decide.specs.RecordGrowth.{cachedIn, addNotes}
-use Rattle.decide.specs.StateAfter.{recordedState}
+use Rattle.decide.specs.RecordGrowth.{cached_in, add_notes}
+use Rattle.decide.specs.StateAfter.{recorded_state}
 use Rattle.block.specs.View.{state_of}
 use Rattle.block.specs.Sound.{Sound}
-use Rattle.block.specs.LinkSteps.{LinksAscend, peerAt}
+use Rattle.block.specs.LinkSteps.{LinksAscend, peer_at}
 use Rattle.block.specs.declared.head.Head.{Head}
 use Rattle.block.specs.Caches.InBlock.{InOrder}
 use Rattle.steps.specs.Pushes.Noted.{noted}
 
 -- the record with what is queued for the peer of a link noted, but for the first `skip`
-abbrev pub linkNoted : ℕ → ℕ → State → List Note
-linkNoted l skip s = addNotes (cachedIn s.cache) (peerAt s l) (drop skip (queuedFor (peerAt s l) s.queue)) s.dropped
+abbrev pub link_noted : ℕ → ℕ → State → List Note
+link_noted l skip s = add_notes (cached_in s.cache) (peer_at s l) (drop skip (queued_for (peer_at s l) s.queue)) s.dropped
 
 -- that record, which stands with its flag
-unfoldable pub linkNotedState : ℕ → ℕ → State → State
-linkNotedState l skip s = recordedState (linkNoted l skip s) s
+unfoldable pub link_noted_state : ℕ → ℕ → State → State
+link_noted_state l skip s = recorded_state (link_noted l skip s) s
 
 -- what noting asks of header and block: links and cached identifiers that ascend, and a record that stands with its flag
 pub record Ready (h : Head) (block : List ℕ) : Type 0 where
@@ -35,5 +35,5 @@ pub record MayNote (h : Head) (block : List ℕ) (l own mark id round : ℕ) : T
   pub ready : Ready h block
   pub link : l < h.live.links
   pub room : length (noted l id round (state_of h block)) ≤ h.limits.dropped
-  pub count : own ≡ count (forPeer (peerAt (state_of h block) l)) (state_of h block).dropped
-  pub clear : mark ≡ 0 → any (notes (peerAt (state_of h block) l) id) (state_of h block).dropped ≡ false
+  pub count : own ≡ count (for_peer (peer_at (state_of h block) l)) (state_of h block).dropped
+  pub clear : mark ≡ 0 → any (notes (peer_at (state_of h block) l) id) (state_of h block).dropped ≡ false

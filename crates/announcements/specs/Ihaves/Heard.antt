@@ -4,22 +4,22 @@ use Rattle.std.specs.Prelude.{ℕ, List, if◌then◌else◌}
 use Rattle.storage.specs.Lists.Base.{member}
 use Rattle.postcard.specs.Message.{Ihave}
 use Rattle.protocol.specs.State.{State}
-use Rattle.decide.specs.StateAfter.{announcedState, ihaveState}
-use Rattle.block.specs.LinkSteps.{peerAt}
-use Rattle.block.specs.TimerSteps.{timerAlso}
+use Rattle.decide.specs.StateAfter.{announced_state, ihave_state}
+use Rattle.block.specs.LinkSteps.{peer_at}
+use Rattle.block.specs.TimerSteps.{timer_also}
 
 -- an announcement of an identifier and a round
 abbrev pub ihave : ℕ → ℕ → Ihave
 ihave i r = record { id = i; round = r }
 
 -- a timer for an identifier, unless one is marked
-unfoldable pub timerMarked : ℕ → State → State
-timerMarked id s = if member id s.timers.graft then s else timerAlso id s
+unfoldable pub timer_marked : ℕ → State → State
+timer_marked id s = if member id s.timers.graft then s else timer_also id s
 
 -- one announcement by the peer of a link
-abbrev pub announcedFrom : ℕ → ℕ → ℕ → State → State
-announcedFrom l id r s = announcedState (peerAt s l) (ihave id r) s
+abbrev pub announced_from : ℕ → ℕ → ℕ → State → State
+announced_from l id r s = announced_state (peer_at s l) (ihave id r) s
 
 -- the announcements of an IHave from the peer of a link
-abbrev pub heardFrom : ℕ → List Ihave → State → State
-heardFrom l hs s = ihaveState (peerAt s l) hs s
+abbrev pub heard_from : ℕ → List Ihave → State → State
+heard_from l hs s = ihave_state (peer_at s l) hs s

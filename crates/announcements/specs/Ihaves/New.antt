@@ -5,31 +5,31 @@ use Rattle.storage.specs.Lists.Base.{any}
 use Rattle.time_cache.specs.TimeCache.{holds}
 use Rattle.postcard.specs.Message.{Ihave}
 use Rattle.protocol.specs.State.{State}
-use Rattle.decide.specs.SizesAfter.{newIds, knownMissing, knownTimer}
+use Rattle.decide.specs.SizesAfter.{new_ids, known_missing, known_timer}
 use Rattle.announcements.specs.declared.ihaves.NewIds.{NewIds}
 
 -- an entry of this identifier
-abbrev pub isFor : ℕ → Ihave → Bool
-isFor i h = eqb i h.id
+abbrev pub is_for : ℕ → Ihave → Bool
+is_for i h = eqb i h.id
 
 -- an identifier that is known, or stands before
-abbrev pub isOld : (ℕ → Bool) → List Ihave → ℕ → Bool
-isOld known before i = known i || any (isFor i) before
+abbrev pub is_old : (ℕ → Bool) → List Ihave → ℕ → Bool
+is_old known before i = known i || any (is_for i) before
 
 -- one that is neither
-abbrev pub isNew : (ℕ → Bool) → List Ihave → ℕ → Bool
-isNew known before i = not (isOld known before i)
+abbrev pub is_new : (ℕ → Bool) → List Ihave → ℕ → Bool
+is_new known before i = not (is_old known before i)
 
 -- an entry whose message is received
-abbrev pub isReceived : State → Ihave → Bool
-isReceived s h = holds h.id s.received
+abbrev pub is_received : State → Ihave → Bool
+is_received s h = holds h.id s.received
 
 -- what an entry of this identifier adds, after these
 pub record NewOf (s : State) (before : List Ihave) (i : ℕ) (r : NewIds) : Type 0 where
-  pub missing : r.missing ≡ (if isOld (knownMissing s) before i then 0 else 1)
-  pub timers : r.timers ≡ (if isOld (knownTimer s) before i then 0 else 1)
+  pub missing : r.missing ≡ (if is_old (known_missing s) before i then 0 else 1)
+  pub timers : r.timers ≡ (if is_old (known_timer s) before i then 0 else 1)
 
 -- what all of them add
 pub record NewIn (s : State) (hs : List Ihave) (r : NewIds) : Type 0 where
-  pub missing : r.missing ≡ length (newIds (knownMissing s) [] hs)
-  pub timers : r.timers ≡ length (newIds (knownTimer s) [] hs)
+  pub missing : r.missing ≡ length (new_ids (known_missing s) [] hs)
+  pub timers : r.timers ≡ length (new_ids (known_timer s) [] hs)

@@ -1,17 +1,17 @@
 // The actions of a dispatch, read from the block as it stands before a first event evicts.
 ghost use Rattle.std.specs.Prelude.{◌≡◌, ◌≤◌, ◌<◌, length, take};
-ghost use Rattle.storage.specs.Lists.Base.{concatMap};
-ghost use Rattle.postcard.specs.Message.{ihaveBytes, actionBytes};
-ghost use Rattle.protocol.specs.Ticks.{perMessage, queuedFor};
+ghost use Rattle.storage.specs.Lists.Base.{concat_map};
+ghost use Rattle.postcard.specs.Message.{ihave_bytes, action_bytes};
+ghost use Rattle.protocol.specs.Ticks.{per_message, queued_for};
 ghost use Rattle.decide.specs.Settled.{settled};
-ghost use Rattle.decide.specs.Pieces.{peerPieces, pieceActions};
-ghost use Rattle.decide.specs.ActionsAfter.{dispatchActions};
+ghost use Rattle.decide.specs.Pieces.{peer_pieces, piece_actions};
+ghost use Rattle.decide.specs.ActionsAfter.{dispatch_actions};
 ghost use Rattle.wire.specs.Output.Written.{Tellable, Written};
 ghost use Rattle.block.specs.View.{state_of};
-ghost use Rattle.block.specs.LinkSteps.{peerAt};
-ghost use Rattle.steps.specs.Rooms.{roomsIn};
+ghost use Rattle.block.specs.LinkSteps.{peer_at};
+ghost use Rattle.steps.specs.Rooms.{rooms_in};
 ghost use Rattle.steps.specs.Stands.{Stands};
-ghost use Rattle.announcements.specs.Dispatch.Sends.{heldThen, toSend, oneSend, EntriesPut, PieceSent, PeerSent};
+ghost use Rattle.announcements.specs.Dispatch.Sends.{held_then, to_send, one_send, EntriesPut, PieceSent, PeerSent};
 
 use crate::dispatch::gains;
 use block::head::Head;
@@ -46,7 +46,7 @@ pub struct Sends {
 // How many identifiers are queued for a link: one pass over the queue's column of link numbers.
 fn count_queued(h: Head, block: &[u8], link: usize) -> usize
     requires { Stands h block.now × (link < h.live.links) }
-    ensures { result ≡ length (queuedFor (peerAt (state_of h block.now) link) (state_of h block.now).queue) }
+    ensures { result ≡ length (queued_for (peer_at (state_of h block.now) link) (state_of h block.now).queue) }
 {
     let n = h.live.queued;
     let mut found = 0;
@@ -73,8 +73,8 @@ fn put_entries(
     out: &mut [u8],
     from: usize,
 ) -> Chunk
-    requires { Stands h block.now × (link < h.live.links) × (row ≤ h.live.queued) × (count ≤ length (toSend link row (state_of h block.now))) × Tellable (concatMap ihaveBytes (take count (toSend link row (state_of h block.now)))) from }
-    ensures { EntriesPut (heldThen instant.0 (state_of h block.now)) (peerAt (state_of h block.now) link) (state_of h block.now).queue (toSend link row (state_of h block.now)) count out.old from out.new result }
+    requires { Stands h block.now × (link < h.live.links) × (row ≤ h.live.queued) × (count ≤ length (to_send link row (state_of h block.now))) × Tellable (concat_map ihave_bytes (take count (to_send link row (state_of h block.now)))) from }
+    ensures { EntriesPut (held_then instant.0 (state_of h block.now)) (peer_at (state_of h block.now) link) (state_of h block.now).queue (to_send link row (state_of h block.now)) count out.old from out.new result }
 {
     let mut at = from;
     let mut cached = false;
@@ -111,8 +111,8 @@ fn send_ihave(
     out: &mut [u8],
     from: usize,
 ) -> Sending
-    requires { Stands h block.now × (link < h.live.links) × (row ≤ h.live.queued) × (count ≤ length (toSend link row (state_of h block.now))) × Tellable (concatMap actionBytes (oneSend (heldThen instant.0 (state_of h block.now)) taken flag (peerAt (state_of h block.now) link) (take count (toSend link row (state_of h block.now))))) from }
-    ensures { PieceSent (heldThen instant.0 (state_of h block.now)) (peerAt (state_of h block.now) link) (state_of h block.now).queue (toSend link row (state_of h block.now)) count taken flag out.old from out.new result }
+    requires { Stands h block.now × (link < h.live.links) × (row ≤ h.live.queued) × (count ≤ length (to_send link row (state_of h block.now))) × Tellable (concat_map action_bytes (one_send (held_then instant.0 (state_of h block.now)) taken flag (peer_at (state_of h block.now) link) (take count (to_send link row (state_of h block.now))))) from }
+    ensures { PieceSent (held_then instant.0 (state_of h block.now)) (peer_at (state_of h block.now) link) (state_of h block.now).queue (to_send link row (state_of h block.now)) count taken flag out.old from out.new result }
 {
     let p = links::peer_at(h, block, link);
     let a = output::send_ihave(out, from, p, taken, count);
@@ -151,8 +151,8 @@ fn send_link(
     out: &mut [u8],
     from: usize,
 ) -> Sends
-    requires { Stands h block.now × (link < h.live.links) × Tellable (concatMap actionBytes (pieceActions (heldThen instant.0 (state_of h block.now)) (roomsIn (state_of h block.now) rooms.now) flagged (peerPieces (perMessage (state_of h block.now).settings.maxMessageSize) (state_of h block.now).queue (peerAt (state_of h block.now) link)))) from }
-    ensures { PeerSent (heldThen instant.0 (state_of h block.now)) (roomsIn (state_of h block.now) rooms.now) (peerAt (state_of h block.now) link) (perMessage (state_of h block.now).settings.maxMessageSize) (state_of h block.now).queue flagged out.old from out.new result }
+    requires { Stands h block.now × (link < h.live.links) × Tellable (concat_map action_bytes (piece_actions (held_then instant.0 (state_of h block.now)) (rooms_in (state_of h block.now) rooms.now) flagged (peer_pieces (per_message (state_of h block.now).settings.max_message_size) (state_of h block.now).queue (peer_at (state_of h block.now) link)))) from }
+    ensures { PeerSent (held_then instant.0 (state_of h block.now)) (rooms_in (state_of h block.now) rooms.now) (peer_at (state_of h block.now) link) (per_message (state_of h block.now).settings.max_message_size) (state_of h block.now).queue flagged out.old from out.new result }
 {
     let k = serialized_size::chunk_len(h.settings.max_message_size as usize);
     let room = rooms[link];
@@ -184,8 +184,8 @@ pub fn dispatch_actions(
     out: &mut [u8],
     from: usize,
 ) -> usize
-    requires { Stands h block.now × Tellable (concatMap actionBytes (dispatchActions (roomsIn (state_of h block.now) rooms.now) (settled instant.0 (state_of h block.now)))) from }
-    ensures { Written (concatMap actionBytes (dispatchActions (roomsIn (state_of h block.now) rooms.now) (settled instant.0 (state_of h block.now)))) out.old from out.new result }
+    requires { Stands h block.now × Tellable (concat_map action_bytes (dispatch_actions (rooms_in (state_of h block.now) rooms.now) (settled instant.0 (state_of h block.now)))) from }
+    ensures { Written (concat_map action_bytes (dispatch_actions (rooms_in (state_of h block.now) rooms.now) (settled instant.0 (state_of h block.now)))) out.old from out.new result }
 {
     let n = h.live.links;
     let mut at = from;

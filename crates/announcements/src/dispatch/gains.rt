@@ -1,18 +1,18 @@
 // How much the record grows in a dispatch, read from the block as it stands before a first event evicts: question 13 asks it.
 ghost use Rattle.std.specs.Prelude.{◌≡◌, false, ◌&&◌, [], ◌+◌, ◌≤◌, ◌<◌, min, ltb, eqb, drop, get_or, if◌then◌else◌};
 ghost use Rattle.storage.specs.Rows.Ident.{id_of};
-ghost use Rattle.protocol.specs.Ticks.{queuedFor};
-ghost use Rattle.decide.specs.RecordGrowth.{cachedIn, eligible, peerGain};
+ghost use Rattle.protocol.specs.Ticks.{queued_for};
+ghost use Rattle.decide.specs.RecordGrowth.{cached_in, eligible, peer_gain};
 ghost use Rattle.decide.specs.Settled.{settled};
-ghost use Rattle.decide.specs.SizesAfter.{dispatchSizes};
+ghost use Rattle.decide.specs.SizesAfter.{dispatch_sizes};
 ghost use Rattle.block.specs.View.{state_of};
 ghost use Rattle.block.specs.Sound.{Sound};
 ghost use Rattle.block.specs.NoteSteps.{note};
-ghost use Rattle.block.specs.LinkSteps.{peerAt};
-ghost use Rattle.steps.specs.Rooms.{roomsIn};
-ghost use Rattle.steps.specs.Shared.{sizesValue};
+ghost use Rattle.block.specs.LinkSteps.{peer_at};
+ghost use Rattle.steps.specs.Rooms.{rooms_in};
+ghost use Rattle.steps.specs.Shared.{sizes_value};
 ghost use Rattle.steps.specs.Stands.{Stands};
-ghost use Rattle.announcements.specs.Dispatch.Gains.{handedTo, among, known, fresh, dispatchGains};
+ghost use Rattle.announcements.specs.Dispatch.Gains.{handed_to, among, known, fresh, dispatch_gains};
 
 use crate::dispatch::marks;
 use block::head::Head;
@@ -48,7 +48,7 @@ fn is_handed(h: Head, block: &[u8], skip: usize, seen: usize, j: usize, id: Id) 
 // Whether an identifier is handed back for the link before entry `end` of the queue. Its time is that of one pass over the queue's column of link numbers.
 fn is_again(h: Head, block: &[u8], link: usize, skip: usize, end: usize, id: Id) -> bool
     requires { Stands h block.now × (link < h.live.links) × (end ≤ h.live.queued) }
-    ensures { result ≡ among (id_of id) (handedTo link skip end (state_of h block.now)) }
+    ensures { result ≡ among (id_of id) (handed_to link skip end (state_of h block.now)) }
 {
     let mut seen = 0;
     let mut i = 0;
@@ -81,7 +81,7 @@ fn is_fresh(
     id: Id,
 ) -> bool
     requires { Stands h block.now × (link < h.live.links) × (end ≤ h.live.queued) × (mark ≡ 0 → known link skip end (state_of h block.now) (id_of id) ≡ false) }
-    ensures { result ≡ fresh (cachedIn (settled instant.0 (state_of h block.now)).cache) (peerAt (state_of h block.now) link) (state_of h block.now).dropped (handedTo link skip end (state_of h block.now)) (id_of id) }
+    ensures { result ≡ fresh (cached_in (settled instant.0 (state_of h block.now)).cache) (peer_at (state_of h block.now) link) (state_of h block.now).dropped (handed_to link skip end (state_of h block.now)) (id_of id) }
 {
     let held = settled::is_cached_then(h, block, instant, id);
     if held {
@@ -115,7 +115,7 @@ fn one_if(yes: bool) -> usize
 // and of `is_fresh` for each that is handed back.
 fn count_fresh(h: Head, block: &[u8], instant: Millis, link: usize, skip: usize) -> usize
     requires { Stands h block.now × (link < h.live.links) }
-    ensures { result ≡ eligible (cachedIn (settled instant.0 (state_of h block.now)).cache) (peerAt (state_of h block.now) link) (state_of h block.now).dropped [] (drop skip (queuedFor (peerAt (state_of h block.now) link) (state_of h block.now).queue)) }
+    ensures { result ≡ eligible (cached_in (settled instant.0 (state_of h block.now)).cache) (peer_at (state_of h block.now) link) (state_of h block.now).dropped [] (drop skip (queued_for (peer_at (state_of h block.now) link) (state_of h block.now).queue)) }
 {
     let mut marks = marks::mark_link(h, block, link);
     let n = h.live.queued;
@@ -152,7 +152,7 @@ fn link_gain(
     extra: usize,
 ) -> usize
     requires { Stands h block.now × (link < h.live.links) × (h.live.dropped + extra ≤ 4096) }
-    ensures { result ≡ peerGain (cachedIn (settled instant.0 (state_of h block.now)).cache) (peerAt (state_of h block.now) link) (state_of h block.now).dropped extra (drop skip (queuedFor (peerAt (state_of h block.now) link) (state_of h block.now).queue)) }
+    ensures { result ≡ peer_gain (cached_in (settled instant.0 (state_of h block.now)).cache) (peer_at (state_of h block.now) link) (state_of h block.now).dropped extra (drop skip (queued_for (peer_at (state_of h block.now) link) (state_of h block.now).queue)) }
 {
     let found = count_fresh(h, block, instant, link, skip);
     let any = Id {
@@ -170,7 +170,7 @@ fn link_gain(
 // By how much the record grows in a dispatch, links in order. Its time is that of `link_gain` for each link whose room is below the queue's length.
 pub fn dispatch_gains(h: Head, block: &[u8], instant: Millis, rooms: &[u64; 34]) -> usize
     requires { Stands h block.now }
-    ensures { result ≡ dispatchGains (cachedIn (settled instant.0 (state_of h block.now)).cache) (roomsIn (state_of h block.now) rooms.now) (state_of h block.now) }
+    ensures { result ≡ dispatch_gains (cached_in (settled instant.0 (state_of h block.now)).cache) (rooms_in (state_of h block.now) rooms.now) (state_of h block.now) }
 {
     let k = serialized_size::chunk_len(h.settings.max_message_size as usize);
     let queued = h.live.queued as u64;
@@ -192,7 +192,7 @@ pub fn dispatch_gains(h: Head, block: &[u8], instant: Millis, rooms: &[u64; 34])
 // The numbers of entries after a dispatch: the queue is empty, and the record has grown.
 pub fn dispatch_sizes(h: Head, block: &[u8], instant: Millis, rooms: &[u64; 34]) -> Sizes
     requires { Stands h block.now }
-    ensures { sizesValue result ≡ dispatchSizes (roomsIn (state_of h block.now) rooms.now) (settled instant.0 (state_of h block.now)) }
+    ensures { sizes_value result ≡ dispatch_sizes (rooms_in (state_of h block.now) rooms.now) (settled instant.0 (state_of h block.now)) }
 {
     let z = settled::sizes_then(h, block, instant);
     let gain = dispatch_gains(h, block, instant, rooms);

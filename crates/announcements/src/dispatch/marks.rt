@@ -5,7 +5,7 @@ ghost use Rattle.storage.specs.Lists.Base.{any};
 ghost use Rattle.protocol.specs.Push.{notes};
 ghost use Rattle.block.specs.View.{state_of};
 ghost use Rattle.block.specs.Sound.{Sound};
-ghost use Rattle.block.specs.LinkSteps.{LinksAscend, peerAt};
+ghost use Rattle.block.specs.LinkSteps.{LinksAscend, peer_at};
 ghost use Rattle.announcements.specs.Dispatch.Marks.{low_of, Covers};
 
 use block::head::Head;
@@ -22,7 +22,7 @@ pub fn low(id: Id) -> usize
 // The marks of what the record holds for a link: one pass over its column of link numbers.
 pub fn mark_link(h: Head, block: &[u8], link: usize) -> [u8; 4096]
     requires { Sound h block.now × LinksAscend h block.now × (link < h.live.links) }
-    ensures { Covers (λ id. any (notes (peerAt (state_of h block.now) link) id) (state_of h block.now).dropped) result }
+    ensures { Covers (λ id. any (notes (peer_at (state_of h block.now) link) id) (state_of h block.now).dropped) result }
 {
     let n = h.live.dropped;
     let mut marks = [0u8; 4096];

@@ -7,11 +7,11 @@ ghost use Rattle.std.specs.Prelude.{◌≤◌, ◌<◌, length};
 ghost use Rattle.storage.specs.Rows.Ident.{id_of};
 ghost use Rattle.block.specs.View.{state_of};
 ghost use Rattle.block.specs.Goes.{Goes};
-ghost use Rattle.decide.specs.StateAfter.{dispatchState};
-ghost use Rattle.steps.specs.Pushes.Noted.{notedState};
-ghost use Rattle.steps.specs.Rooms.{roomsIn};
+ghost use Rattle.decide.specs.StateAfter.{dispatch_state};
+ghost use Rattle.steps.specs.Pushes.Noted.{noted_state};
+ghost use Rattle.steps.specs.Rooms.{rooms_in};
 ghost use Rattle.steps.specs.Stands.{Step};
-ghost use Rattle.announcements.specs.Dispatch.HandedBack.{Ready, MayNote, linkNoted, linkNotedState};
+ghost use Rattle.announcements.specs.Dispatch.HandedBack.{Ready, MayNote, link_noted, link_noted_state};
 
 use block::caches::cached;
 use block::head::Head;
@@ -34,7 +34,7 @@ fn note_one(
     round: Round,
 ) -> Head
     requires { MayNote h block.old link own mark (id_of id) round.0 }
-    ensures { Goes (notedState link (id_of id) round.0) h block.old result block.new }
+    ensures { Goes (noted_state link (id_of id) round.0) h block.old result block.new }
 {
     if 256 <= own {
         return h;
@@ -57,8 +57,8 @@ fn note_one(
 // Notes what is handed back of the identifiers queued for one link: all behind the first `skip`. Its time is that of two passes over the record's and one over the
 // queue's column of link numbers, and of `note_one` for each that is handed back.
 fn note_link(h: Head, block: &mut [u8], link: usize, skip: usize) -> Head
-    requires { Ready h block.old × (link < h.live.links) × (length (linkNoted link skip (state_of h block.old)) ≤ h.limits.dropped) }
-    ensures { Goes (linkNotedState link skip) h block.old result block.new }
+    requires { Ready h block.old × (link < h.live.links) × (length (link_noted link skip (state_of h block.old)) ≤ h.limits.dropped) }
+    ensures { Goes (link_noted_state link skip) h block.old result block.new }
 {
     let any = Id {
         w0: 0,
@@ -98,8 +98,8 @@ fn note_link(h: Head, block: &mut [u8], link: usize, skip: usize) -> Head
 // ascending" are the links in order. Its time is that of one pass over the queue's column of link numbers for each link whose room is below the queue's length,
 // and of `note_one` for each identifier that is handed back.
 pub fn on_dispatch_timer(h: Head, block: &mut [u8], rooms: &[u64; 34]) -> Head
-    requires { Step (dispatchState (roomsIn (state_of h block.old) rooms.now)) h block.old }
-    ensures { Goes (dispatchState (roomsIn (state_of h block.old) rooms.now)) h block.old result block.new }
+    requires { Step (dispatch_state (rooms_in (state_of h block.old) rooms.now)) h block.old }
+    ensures { Goes (dispatch_state (rooms_in (state_of h block.old) rooms.now)) h block.old result block.new }
 {
     let k = serialized_size::chunk_len(h.settings.max_message_size as usize);
     let queued = h.live.queued as u64;

@@ -11,9 +11,9 @@ use Rattle.storage.specs.Rows.Part.{part}
 use Rattle.storage.specs.Rows.Rows.{rows}
 use Rattle.storage.proofs.RowsLaws.Rows.{length-rows}
 use Rattle.storage.proofs.RowsLaws.Parts.{part-put, length_part}
-use Rattle.storage.specs.Refs.Refs.{Ref, refOf, refs, places, Below}
-use Rattle.time_cache.specs.TimeCache.{Cache, put as put_in, expireUntil, inPopOrder, holds, laterCache}
-use Rattle.time_cache.specs.Tables.{expiryRowOf, expiryRows, expiryOf, Held, entry_of, cacheOf, cacheIn, refsAt, rows_at, cacheAt, valuesAs, Sound, OnlyTwo}
+use Rattle.storage.specs.Refs.Refs.{Ref, ref_of, refs, places, Below}
+use Rattle.time_cache.specs.TimeCache.{Cache, put as put_in, expire_until, in_pop_order, holds, later_cache}
+use Rattle.time_cache.specs.Tables.{expiry_row_of, expiry_rows, expiry_of, Held, entry_of, cache_of, cache_in, refs_at, rows_at, cache_at, values_as, Sound, OnlyTwo}
 use Rattle.time_cache.specs.declared.cache.TimeBoundCache.{TimeBoundCache}
 use Rattle.time_cache.proofs.ValueLaws.{values-read, keys-as, holds_as, put_as, expire-as, later-as, length-as}
 use Rattle.time_cache.proofs.LoanLaws.{halfway, length-halfway, only-second, two-wider}
@@ -21,38 +21,38 @@ use Rattle.protocol.specs.State.{Limits}
 use Rattle.block.specs.Layout.{sizes, place, tables, table, end}
 use Rattle.block.proofs.Cut.{cut-part, within}
 use Rattle.block.proofs.Tables.{rows-table, frame-whole}
-use Rattle.block.specs.TimeCaches.{cacheFrom}
+use Rattle.block.specs.TimeCaches.{cache_from}
 use Rattle.block.specs.Caches.InBlock.{InOrder}
 
 -- the bytes of an entry, read as a value
-abbrev pub asValue : {A : Type 0} → (List ℕ → List ℕ → A) → Held → A
-asValue value b = value b.own b.rest
+abbrev pub as_value : {A : Type 0} → (List ℕ → List ℕ → A) → Held → A
+as_value value b = value b.own b.rest
 
 module _ (l : Limits) (i s n j t m : ℕ) (xs : List ℕ) (hi : i < 15) (wi : n * s ≤ get_or (sizes l) i 0) (hj : j < 15) (wj : m * t ≤ get_or (sizes l) j 0) where
   abbrev c : TimeBoundCache
-  c = cacheFrom l i s n j t m
+  c = cache_from l i s n j t m
 
-  pub refs-in : refsAt c xs ≡ refs s n (table l i xs)
+  pub refs-in : refs_at c xs ≡ refs s n (table l i xs)
   unfolding refs
-  refs-in = ap (map refOf) (sym (rows-table l i s n xs hi wi))
+  refs-in = ap (map ref_of) (sym (rows-table l i s n xs hi wi))
 
-  pub rows_in : rows_at c xs ≡ expiryRows t m (table l j xs)
-  unfolding expiryRows
-  rows_in = ap (map expiryRowOf) (sym (rows-table l j t m xs hj wj))
+  pub rows_in : rows_at c xs ≡ expiry_rows t m (table l j xs)
+  unfolding expiry_rows
+  rows_in = ap (map expiry_row_of) (sym (rows-table l j t m xs hj wj))
 
   module _ {A : Type 0} (value : List ℕ → List ℕ → A) where
     -- the cache of the view
     abbrev pub viewed : Cache A
-    viewed = cacheIn value s n (table l i xs) t m (table l j xs)
+    viewed = cache_in value s n (table l i xs) t m (table l j xs)
 
-    pub cache-in : valuesAs (asValue value) (cacheAt c xs) ≡ viewed
-    cache-in = values-read value (refsAt c xs) (rows_at c xs) ∙ (λ k. cacheOf value (refs-in k) (rows_in k))
+    pub cache-in : values_as (as_value value) (cache_at c xs) ≡ viewed
+    cache-in = values-read value (refs_at c xs) (rows_at c xs) ∙ (λ k. cache_of value (refs-in k) (rows_in k))
 
-    pub keys_in : keys (cacheAt c xs).entries ≡ keys viewed.entries
-    keys_in = sym (keys-as (asValue value) (cacheAt c xs)) ∙ ap (λ (k : Cache A). keys k.entries) cache-in
+    pub keys_in : keys (cache_at c xs).entries ≡ keys viewed.entries
+    keys_in = sym (keys-as (as_value value) (cache_at c xs)) ∙ ap (λ (k : Cache A). keys k.entries) cache-in
 
-    pub expiry-in : (cacheAt c xs).expiry ≡ viewed.expiry
-    unfolding valuesAs
+    pub expiry-in : (cache_at c xs).expiry ≡ viewed.expiry
+    unfolding values_as
     expiry-in = ap (λ (k : Cache A). k.expiry) cache-in
 
     -- what the functions of a time cache ask for, from the layout and the state
@@ -60,17 +60,17 @@ module _ (l : Limits) (i s n j t m : ℕ) (xs : List ℕ) (hi : i < 15) (wi : n 
     sound-in b o = record {
       below = subst (λ (es : List Ref). Below m (places es)) (sym refs-in) b;
       up = ap ascending keys_in ∙ o.up;
-      order = ap inPopOrder expiry-in ∙ o.order;
+      order = ap in_pop_order expiry-in ∙ o.order;
     }
 
     -- its numbers of rows
     pub count_entries : length viewed.entries ≡ n
-    unfolding cacheOf refs
-    count_entries = length-map (refs s n (table l i xs)) (entry_of value (expiryRows t m (table l j xs))) ∙ length-map (rows s n (table l i xs)) refOf ∙ length-rows s n (table l i xs)
+    unfolding cache_of refs
+    count_entries = length-map (refs s n (table l i xs)) (entry_of value (expiry_rows t m (table l j xs))) ∙ length-map (rows s n (table l i xs)) ref_of ∙ length-rows s n (table l i xs)
 
     pub count-expiry : length viewed.expiry ≡ m
-    unfolding cacheOf expiryRows
-    count-expiry = length-map (expiryRows t m (table l j xs)) expiryOf ∙ length-map (rows t m (table l j xs)) expiryRowOf ∙ length-rows t m (table l j xs)
+    unfolding cache_of expiry_rows
+    count-expiry = length-map (expiry_rows t m (table l j xs)) expiry_of ∙ length-map (rows t m (table l j xs)) expiry_row_of ∙ length-rows t m (table l j xs)
 
 -- what changed in two tables alone, as tables
 pub frame-pair : (l : Limits) (i j k g : ℕ) (xs ys : List ℕ) → i < 15 → j < 15 → place l i + get_or (sizes l) i 0 ≤ place l j → k ≤ get_or (sizes l) i 0 → g ≤ get_or (sizes l) j 0
@@ -93,34 +93,34 @@ frame-pair l i j k g xs ys hi hj h wk wg long e o =
 -- after `expire_until`
 module _ (l : Limits) (i s n j t m : ℕ) (xs ys : List ℕ) (hi : i < 15) (wi : n * s ≤ get_or (sizes l) i 0) (hj : j < 15) (wj : m * t ≤ get_or (sizes l) j 0)
     (n' m' : ℕ) (wi' : n' * s ≤ get_or (sizes l) i 0) (wj' : m' * t ≤ get_or (sizes l) j 0) {A : Type 0} (value : List ℕ → List ℕ → A) where
-  pub expired-in : (instant : ℕ) → cacheAt (cacheFrom l i s n' j t m') ys ≡ expireUntil instant (cacheAt (cacheFrom l i s n j t m) xs)
-      → cacheIn value s n' (table l i ys) t m' (table l j ys) ≡ expireUntil instant (cacheIn value s n (table l i xs) t m (table l j xs))
+  pub expired-in : (instant : ℕ) → cache_at (cache_from l i s n' j t m') ys ≡ expire_until instant (cache_at (cache_from l i s n j t m) xs)
+      → cache_in value s n' (table l i ys) t m' (table l j ys) ≡ expire_until instant (cache_in value s n (table l i xs) t m (table l j xs))
   expired-in instant e =
       sym (cache-in l i s n' j t m' ys hi wi' hj wj' value)
-      ∙ ap (valuesAs (asValue value)) e
-      ∙ expire-as (asValue value) instant (cacheAt (cacheFrom l i s n j t m) xs)
-      ∙ ap (expireUntil instant) (cache-in l i s n j t m xs hi wi hj wj value)
+      ∙ ap (values_as (as_value value)) e
+      ∙ expire-as (as_value value) instant (cache_at (cache_from l i s n j t m) xs)
+      ∙ ap (expire_until instant) (cache-in l i s n j t m xs hi wi hj wj value)
 
   -- after an insert
-  pub inserted-in : (k instant : ℕ) (v : Held) → cacheAt (cacheFrom l i s n' j t m') ys ≡ put_in k v instant (cacheAt (cacheFrom l i s n j t m) xs)
-      → cacheIn value s n' (table l i ys) t m' (table l j ys) ≡ put_in k (asValue value v) instant (cacheIn value s n (table l i xs) t m (table l j xs))
+  pub inserted-in : (k instant : ℕ) (v : Held) → cache_at (cache_from l i s n' j t m') ys ≡ put_in k v instant (cache_at (cache_from l i s n j t m) xs)
+      → cache_in value s n' (table l i ys) t m' (table l j ys) ≡ put_in k (as_value value v) instant (cache_in value s n (table l i xs) t m (table l j xs))
   inserted-in k instant v e =
       sym (cache-in l i s n' j t m' ys hi wi' hj wj' value)
-      ∙ ap (valuesAs (asValue value)) e
-      ∙ put_as (asValue value) k v instant (cacheAt (cacheFrom l i s n j t m) xs)
-      ∙ ap (put_in k (asValue value v) instant) (cache-in l i s n j t m xs hi wi hj wj value)
+      ∙ ap (values_as (as_value value)) e
+      ∙ put_as (as_value value) k v instant (cache_at (cache_from l i s n j t m) xs)
+      ∙ ap (put_in k (as_value value v) instant) (cache-in l i s n j t m xs hi wi hj wj value)
 
 -- what is later than an instant, of the cache and of the view
-module _ {A B : Type 0} (f : A → B) (c : Cache A) (d : Cache B) (e : valuesAs f c ≡ d) (instant : ℕ) where
-  later-view : valuesAs f (laterCache instant c) ≡ laterCache instant d
-  later-view = later-as f instant c ∙ ap (laterCache instant) e
+module _ {A B : Type 0} (f : A → B) (c : Cache A) (d : Cache B) (e : values_as f c ≡ d) (instant : ℕ) where
+  later-view : values_as f (later_cache instant c) ≡ later_cache instant d
+  later-view = later-as f instant c ∙ ap (later_cache instant) e
 
-  pub holds_later : (k : ℕ) → holds k (laterCache instant c) ≡ holds k (laterCache instant d)
-  holds_later k = sym (holds_as f k (laterCache instant c)) ∙ ap (holds k) later-view
+  pub holds_later : (k : ℕ) → holds k (later_cache instant c) ≡ holds k (later_cache instant d)
+  holds_later k = sym (holds_as f k (later_cache instant c)) ∙ ap (holds k) later-view
 
-  pub entries-later : length (laterCache instant c).entries ≡ length (laterCache instant d).entries
-  entries-later = sym (length-as f (laterCache instant c)) ∙ ap (λ (k : Cache B). length k.entries) later-view
+  pub entries-later : length (later_cache instant c).entries ≡ length (later_cache instant d).entries
+  entries-later = sym (length-as f (later_cache instant c)) ∙ ap (λ (k : Cache B). length k.entries) later-view
 
-  pub rows-later : length (laterCache instant c).expiry ≡ length (laterCache instant d).expiry
-  unfolding valuesAs
+  pub rows-later : length (later_cache instant c).expiry ≡ length (later_cache instant d).expiry
+  unfolding values_as
   rows-later = ap (λ (k : Cache B). length k.expiry) later-view

@@ -8,22 +8,22 @@ use lib.Dec.{lit<}
 use lib.ListN.{length}
 use Rattle.storage.specs.Lists.Map.{keys}
 use Rattle.time_cache.specs.TimeCache.{holds}
-use Rattle.time_cache.specs.Tables.{held, cacheAt, refsAt, rows_at, named, Lies, Room, Sound as SoundCache, valuesAs}
+use Rattle.time_cache.specs.Tables.{held, cache_at, refs_at, rows_at, named, Lies, Room, Sound as SoundCache, values_as}
 use Rattle.time_cache.proofs.TableLaws.{keys-named}
 use Rattle.time_cache.proofs.ValueLaws.{holds_as}
 use Rattle.protocol.specs.State.{Limits}
 use Rattle.block.specs.Layout.{table}
-use Rattle.block.specs.View.{state_of, limitsOf, cachedIn, cachedOf}
+use Rattle.block.specs.View.{state_of, limits_of, cached_in, cached_of}
 use Rattle.block.specs.Fit.{Fit}
 use Rattle.block.specs.Sound.{Sound}
 use Rattle.block.specs.declared.head.Head.{Head}
-use Rattle.block.specs.TimeCaches.{cachedCache}
+use Rattle.block.specs.TimeCaches.{cached_cache}
 use Rattle.block.specs.Caches.InBlock.{InOrder}
-use Rattle.block.proofs.CachesLaws.CacheLaws.{asValue, cache-in, keys_in, sound-in, count_entries, count-expiry}
+use Rattle.block.proofs.CachesLaws.CacheLaws.{as_value, cache-in, keys_in, sound-in, count_entries, count-expiry}
 
 module _ (h : Head) (xs : List ℕ) (fit : Fit h xs) where
   abbrev l : Limits
-  l = limitsOf h.limits
+  l = limits_of h.limits
 
   abbrev n : ℕ
   n = h.live.cached
@@ -31,32 +31,32 @@ module _ (h : Head) (xs : List ℕ) (fit : Fit h xs) where
   abbrev m : ℕ
   m = h.live.cached_rows
 
-  pub cached-lies : Lies (cachedCache h) xs
-  cached-lies = record { entryWide = omega arith; expiryWide = omega arith; apart = omega arith; within = omega arith; few = omega arith }
+  pub cached-lies : Lies (cached_cache h) xs
+  cached-lies = record { entry_wide = omega arith; expiry_wide = omega arith; apart = omega arith; within = omega arith; few = omega arith }
 
-  pub cached-room : Room (cachedCache h) xs
-  cached-room = record { entryWide = omega arith; expiryWide = omega arith; apart = omega arith; within = omega arith; few = omega arith }
+  pub cached-room : Room (cached_cache h) xs
+  cached-room = record { entry_wide = omega arith; expiry_wide = omega arith; apart = omega arith; within = omega arith; few = omega arith }
 
-  pub cached-keys : named (rows_at (cachedCache h) xs) (refsAt (cachedCache h) xs) ≡ keys (state_of h xs).cache.entries
-  unfolding state_of cachedIn
-  cached-keys = sym (keys-named held (refsAt (cachedCache h) xs) (rows_at (cachedCache h) xs)) ∙ keys_in l 4 4 n 5 48 m xs (lit< tt) (omega arith) (lit< tt) (omega arith) (cachedOf (table (limitsOf h.limits) 6 xs))
+  pub cached-keys : named (rows_at (cached_cache h) xs) (refs_at (cached_cache h) xs) ≡ keys (state_of h xs).cache.entries
+  unfolding state_of cached_in
+  cached-keys = sym (keys-named held (refs_at (cached_cache h) xs) (rows_at (cached_cache h) xs)) ∙ keys_in l 4 4 n 5 48 m xs (lit< tt) (omega arith) (lit< tt) (omega arith) (cached_of (table (limits_of h.limits) 6 xs))
 
-  pub cached-as : valuesAs (asValue (cachedOf (table (limitsOf h.limits) 6 xs))) (cacheAt (cachedCache h) xs) ≡ (state_of h xs).cache
-  unfolding state_of cachedIn
-  cached-as = cache-in l 4 4 n 5 48 m xs (lit< tt) (omega arith) (lit< tt) (omega arith) (cachedOf (table (limitsOf h.limits) 6 xs))
+  pub cached-as : values_as (as_value (cached_of (table (limits_of h.limits) 6 xs))) (cache_at (cached_cache h) xs) ≡ (state_of h xs).cache
+  unfolding state_of cached_in
+  cached-as = cache-in l 4 4 n 5 48 m xs (lit< tt) (omega arith) (lit< tt) (omega arith) (cached_of (table (limits_of h.limits) 6 xs))
 
-  pub cached-holds : (k : ℕ) → holds k (cacheAt (cachedCache h) xs) ≡ holds k (state_of h xs).cache
-  cached-holds k = sym (holds_as (asValue (cachedOf (table (limitsOf h.limits) 6 xs))) k (cacheAt (cachedCache h) xs)) ∙ ap (holds k) cached-as
+  pub cached-holds : (k : ℕ) → holds k (cache_at (cached_cache h) xs) ≡ holds k (state_of h xs).cache
+  cached-holds k = sym (holds_as (as_value (cached_of (table (limits_of h.limits) 6 xs))) k (cache_at (cached_cache h) xs)) ∙ ap (holds k) cached-as
 
   pub count-cached : length (state_of h xs).cache.entries ≡ n
-  unfolding state_of cachedIn
-  count-cached = count_entries l 4 4 n 5 48 m xs (lit< tt) (omega arith) (lit< tt) (omega arith) (cachedOf (table (limitsOf h.limits) 6 xs))
+  unfolding state_of cached_in
+  count-cached = count_entries l 4 4 n 5 48 m xs (lit< tt) (omega arith) (lit< tt) (omega arith) (cached_of (table (limits_of h.limits) 6 xs))
 
   pub count-cached-rows : length (state_of h xs).cache.expiry ≡ m
-  unfolding state_of cachedIn
-  count-cached-rows = count-expiry l 4 4 n 5 48 m xs (lit< tt) (omega arith) (lit< tt) (omega arith) (cachedOf (table (limitsOf h.limits) 6 xs))
+  unfolding state_of cached_in
+  count-cached-rows = count-expiry l 4 4 n 5 48 m xs (lit< tt) (omega arith) (lit< tt) (omega arith) (cached_of (table (limits_of h.limits) 6 xs))
 
-pub cached-sound : (h : Head) (xs : List ℕ) → Sound h xs → InOrder (state_of h xs).cache → SoundCache (cachedCache h) xs
-unfolding state_of cachedIn
+pub cached-sound : (h : Head) (xs : List ℕ) → Sound h xs → InOrder (state_of h xs).cache → SoundCache (cached_cache h) xs
+unfolding state_of cached_in
 cached-sound h xs sound o =
-    sound-in (limitsOf h.limits) 4 4 h.live.cached 5 48 h.live.cached_rows xs (lit< tt) (omega (arith, sound.fit)) (lit< tt) (omega (arith, sound.fit)) (cachedOf (table (limitsOf h.limits) 6 xs)) sound.laid.cached o
+    sound-in (limits_of h.limits) 4 4 h.live.cached 5 48 h.live.cached_rows xs (lit< tt) (omega (arith, sound.fit)) (lit< tt) (omega (arith, sound.fit)) (cached_of (table (limits_of h.limits) 6 xs)) sound.laid.cached o

@@ -11,103 +11,103 @@ use lib.Seq.{take_all, take-append-le, drop_at}
 use Rattle.storage.specs.Lists.Map.{Map, Entry, entry, lookup, insert}
 use Rattle.storage.proofs.ListsLaws.MapLaws.{cases}
 use Rattle.storage.specs.Rows.Part.{part, put}
-use Rattle.storage.specs.Rows.Digits.{leNat, le_bytes}
+use Rattle.storage.specs.Rows.Digits.{le_nat, le_bytes}
 use Rattle.storage.specs.Rows.Rows.{field_of}
-use Rattle.storage.proofs.RowsLaws.Digits.{length-leBytes, leNat-leBytes}
-use Rattle.storage.proofs.RowsLaws.Parts.{length_part, length-put, part-put, part-part, get_d_part, part-before, part-after, getD-put-before, getD-put-after, drop-put, put-put-next, put-drop, set-put}
-use Rattle.storage.specs.Refs.Refs.{Ref, ref, refOf, refs}
+use Rattle.storage.proofs.RowsLaws.Digits.{length-le_bytes, le_nat-le_bytes}
+use Rattle.storage.proofs.RowsLaws.Parts.{length_part, length-put, part-put, part-part, get_d_part, part-before, part-after, get_or-put-before, get_or-put-after, drop-put, put-put-next, put-drop, set-put}
+use Rattle.storage.specs.Refs.Refs.{Ref, ref, ref_of, refs}
 use Rattle.storage.proofs.RefsLaws.Places.{ref-at, length-refs}
-use Rattle.time_cache.specs.TimeCache.{Timed, Cache, withValue, replace}
-use Rattle.time_cache.specs.Tables.{ExpiryRow, row_at, held, refsAt, rows_at, cacheAt, readAs, valuesAs, Lies, OnlyTwo, Sound as SoundCache}
+use Rattle.time_cache.specs.TimeCache.{Timed, Cache, with_value, replace}
+use Rattle.time_cache.specs.Tables.{ExpiryRow, row_at, held, refs_at, rows_at, cache_at, read_as, values_as, Lies, OnlyTwo, Sound as SoundCache}
 use Rattle.time_cache.specs.Steps.{ref_at}
 use Rattle.time_cache.specs.declared.cache.TimeBoundCache.{TimeBoundCache}
 use Rattle.time_cache.proofs.LoanLaws.{only_same, only-put, only-both}
 use Rattle.time_cache.proofs.WriteLaws.{own-stored, own-written, own-sound}
-use Rattle.protocol.specs.State.{Limits, State, Grafts, withGrafted}
+use Rattle.protocol.specs.State.{Limits, State, Grafts, with_grafted}
 use Rattle.block.specs.Layout.{place, table}
-use Rattle.block.specs.View.{state_of, limitsOf, halfAt, flagOf, only_if, hopsIn, roundOf, graftsOf, graftedIn}
+use Rattle.block.specs.View.{state_of, limits_of, half_at, flag_of, only_if, hops_in, round_of, grafts_of, grafted_in}
 use Rattle.block.specs.Sound.{Numbered, Sound}
 use Rattle.block.specs.Goes.{Goes}
 use Rattle.block.specs.declared.head.Head.{Head}
 use Rattle.block.proofs.Tables.{length-table}
-use Rattle.block.specs.TimeCaches.{graftedCache}
+use Rattle.block.specs.TimeCaches.{grafted_cache}
 use Rattle.block.specs.Caches.InBlock.{InOrder}
-use Rattle.block.specs.Caches.GraftSteps.{graftedAt, graftsAt, first_at, kept_at}
-use Rattle.block.proofs.CachesLaws.CacheLaws.{asValue, cache-in, refs-in, rows_in}
-use Rattle.block.proofs.CachesLaws.GraftedLaws.{peersOf, EachOwn, Listed, to-own, grafted-lies, grafted-sound, grafted-state, grafted-laid, grafted-as}
+use Rattle.block.specs.Caches.GraftSteps.{grafted_at, grafts_at, first_at, kept_at}
+use Rattle.block.proofs.CachesLaws.CacheLaws.{as_value, cache-in, refs-in, rows_in}
+use Rattle.block.proofs.CachesLaws.GraftedLaws.{peers_of, EachOwn, Listed, to-own, grafted-lies, grafted-sound, grafted-state, grafted-laid, grafted-as}
 use Rattle.block.proofs.CachesLaws.GraftLaws.{grafted-entry}
 
 -- the bytes of a `first` and of a `kept`
-abbrev pub firstBytes : ℕ → ℕ → List ℕ
-firstBytes p r = 1 ∷ (le_bytes 8 p ++ le_bytes 2 r)
+abbrev pub first_bytes : ℕ → ℕ → List ℕ
+first_bytes p r = 1 ∷ (le_bytes 8 p ++ le_bytes 2 r)
 
-abbrev pub keptBytes : ℕ → List ℕ
-keptBytes p = 1 ∷ le_bytes 8 p
+abbrev pub kept_bytes : ℕ → List ℕ
+kept_bytes p = 1 ∷ le_bytes 8 p
 
-pub length-first : (p r : ℕ) → length (firstBytes p r) ≡ 11
-length-first p r = omega (arith, length-append (le_bytes 8 p) (le_bytes 2 r), length-leBytes 8 p, length-leBytes 2 r)
+pub length-first : (p r : ℕ) → length (first_bytes p r) ≡ 11
+length-first p r = omega (arith, length-append (le_bytes 8 p) (le_bytes 2 r), length-le_bytes 8 p, length-le_bytes 2 r)
 
-pub length-kept : (p : ℕ) → length (keptBytes p) ≡ 9
-length-kept p = omega (arith, length-leBytes 8 p)
+pub length-kept : (p : ℕ) → length (kept_bytes p) ≡ 9
+length-kept p = omega (arith, length-le_bytes 8 p)
 
 module _ (ps own rest : List ℕ) (long : length own ≡ 117) where
   abbrev old : Grafts
-  old = graftsOf ps own rest
+  old = grafts_of ps own rest
 
   pub first-value : (p r : ℕ) → p < 256 ^ 8 → r < 256 ^ 2
-      → graftsOf ps (put 0 (firstBytes p r) own) rest ≡ record { first = some (record { peer = p; round = r }); kept = old.kept; peers = old.peers }
-  unfolding graftsOf field_of halfAt part
+      → grafts_of ps (put 0 (first_bytes p r) own) rest ≡ record { first = some (record { peer = p; round = r }); kept = old.kept; peers = old.peers }
+  unfolding grafts_of field_of half_at part
   first-value p r hp hr =
-      let bs : List ℕ = firstBytes p r in
+      let bs : List ℕ = first_bytes p r in
       let new : List ℕ = put 0 bs own in
       let lb : length bs ≡ 11 = length-first p r in
       let all : part 0 11 new ≡ bs = part-put 0 11 bs own lb (omega arith) in
       let b0 : get_or new 0 0 ≡ 1 = sym (get_d_part 0 11 0 0 new (omega arith)) ∙ ap (λ (z : List ℕ). get_or z 0 0) all in
-      let f1 : part 1 8 new ≡ le_bytes 8 p = sym (part-part 1 8 0 11 new (omega arith)) ∙ ap (part 1 8) all ∙ take-append-le 8 (le_bytes 8 p) (le_bytes 2 r) (omega (arith, length-leBytes 8 p)) ∙ take_all 8 (le_bytes 8 p) (omega (arith, length-leBytes 8 p)) in
-      let h9 : part 9 2 new ≡ le_bytes 2 r = sym (part-part 9 2 0 11 new (omega arith)) ∙ ap (part 9 2) all ∙ ap (take 2) (drop_at (le_bytes 8 p) (le_bytes 2 r) 8 (length-leBytes 8 p)) ∙ take_all 2 (le_bytes 2 r) (omega (arith, length-leBytes 2 r)) in
-      let b11 : get_or new 11 0 ≡ get_or own 11 0 = getD-put-after 0 11 0 bs own (omega arith) (omega arith) in
+      let f1 : part 1 8 new ≡ le_bytes 8 p = sym (part-part 1 8 0 11 new (omega arith)) ∙ ap (part 1 8) all ∙ take-append-le 8 (le_bytes 8 p) (le_bytes 2 r) (omega (arith, length-le_bytes 8 p)) ∙ take_all 8 (le_bytes 8 p) (omega (arith, length-le_bytes 8 p)) in
+      let h9 : part 9 2 new ≡ le_bytes 2 r = sym (part-part 9 2 0 11 new (omega arith)) ∙ ap (part 9 2) all ∙ ap (take 2) (drop_at (le_bytes 8 p) (le_bytes 2 r) 8 (length-le_bytes 8 p)) ∙ take_all 2 (le_bytes 2 r) (omega (arith, length-le_bytes 2 r)) in
+      let b11 : get_or new 11 0 ≡ get_or own 11 0 = get_or-put-after 0 11 0 bs own (omega arith) (omega arith) in
       let f12 : part 12 8 new ≡ part 12 8 own = part-after 12 8 0 bs own (omega arith) (omega arith) in
       let d20 : drop 20 new ≡ drop 20 own = drop-put 20 0 bs own (omega arith) (omega arith) in
       λ z. record {
-        first = only_if (flagOf (b0 z)) (record { peer = (ap leNat f1 ∙ leNat-leBytes 8 p hp) z; round = (ap leNat h9 ∙ leNat-leBytes 2 r hr) z });
-        kept = only_if (flagOf (b11 z)) (leNat (f12 z));
-        peers = hopsIn (roundOf ps) (d20 z);
+        first = only_if (flag_of (b0 z)) (record { peer = (ap le_nat f1 ∙ le_nat-le_bytes 8 p hp) z; round = (ap le_nat h9 ∙ le_nat-le_bytes 2 r hr) z });
+        kept = only_if (flag_of (b11 z)) (le_nat (f12 z));
+        peers = hops_in (round_of ps) (d20 z);
       }
 
-  pub kept-value : (p : ℕ) → p < 256 ^ 8 → graftsOf ps (put 11 (keptBytes p) own) rest ≡ record { first = old.first; kept = some p; peers = old.peers }
-  unfolding graftsOf field_of halfAt part
+  pub kept-value : (p : ℕ) → p < 256 ^ 8 → grafts_of ps (put 11 (kept_bytes p) own) rest ≡ record { first = old.first; kept = some p; peers = old.peers }
+  unfolding grafts_of field_of half_at part
   kept-value p hp =
-      let bs : List ℕ = keptBytes p in
+      let bs : List ℕ = kept_bytes p in
       let new : List ℕ = put 11 bs own in
       let lb : length bs ≡ 9 = length-kept p in
       let all : part 11 9 new ≡ bs = part-put 11 9 bs own lb (omega arith) in
-      let b0 : get_or new 0 0 ≡ get_or own 0 0 = getD-put-before 11 0 0 bs own (omega arith) (omega arith) in
+      let b0 : get_or new 0 0 ≡ get_or own 0 0 = get_or-put-before 11 0 0 bs own (omega arith) (omega arith) in
       let f1 : part 1 8 new ≡ part 1 8 own = part-before 1 8 11 bs own (omega arith) (omega arith) in
       let h9 : part 9 2 new ≡ part 9 2 own = part-before 9 2 11 bs own (omega arith) (omega arith) in
       let b11 : get_or new 11 0 ≡ 1 = sym (get_d_part 11 9 0 0 new (omega arith)) ∙ ap (λ (z : List ℕ). get_or z 0 0) all in
-      let f12 : part 12 8 new ≡ le_bytes 8 p = sym (part-part 1 8 11 9 new (omega arith)) ∙ ap (part 1 8) all ∙ take_all 8 (le_bytes 8 p) (omega (arith, length-leBytes 8 p)) in
+      let f12 : part 12 8 new ≡ le_bytes 8 p = sym (part-part 1 8 11 9 new (omega arith)) ∙ ap (part 1 8) all ∙ take_all 8 (le_bytes 8 p) (omega (arith, length-le_bytes 8 p)) in
       let d20 : drop 20 new ≡ drop 20 own = drop-put 20 11 bs own (omega arith) (omega arith) in
       λ z. record {
-        first = only_if (flagOf (b0 z)) (record { peer = leNat (f1 z); round = leNat (h9 z) });
-        kept = only_if (flagOf (b11 z)) ((ap leNat f12 ∙ leNat-leBytes 8 p hp) z);
-        peers = hopsIn (roundOf ps) (d20 z);
+        first = only_if (flag_of (b0 z)) (record { peer = le_nat (f1 z); round = le_nat (h9 z) });
+        kept = only_if (flag_of (b11 z)) ((ap le_nat f12 ∙ le_nat-le_bytes 8 p hp) z);
+        peers = hops_in (round_of ps) (d20 z);
       }
 
-  pub peers-value : (list : List ℕ) → length list ≡ 97 → graftsOf ps (put 20 list own) rest ≡ record { first = old.first; kept = old.kept; peers = hopsIn (roundOf ps) list }
-  unfolding graftsOf field_of halfAt part
+  pub peers-value : (list : List ℕ) → length list ≡ 97 → grafts_of ps (put 20 list own) rest ≡ record { first = old.first; kept = old.kept; peers = hops_in (round_of ps) list }
+  unfolding grafts_of field_of half_at part
   peers-value list e =
       let new : List ℕ = put 20 list own in
       let ln : length new ≡ 117 = length-put 20 list own (omega arith) ∙ long in
-      let b0 : get_or new 0 0 ≡ get_or own 0 0 = getD-put-before 20 0 0 list own (omega arith) (omega arith) in
+      let b0 : get_or new 0 0 ≡ get_or own 0 0 = get_or-put-before 20 0 0 list own (omega arith) (omega arith) in
       let f1 : part 1 8 new ≡ part 1 8 own = part-before 1 8 20 list own (omega arith) (omega arith) in
       let h9 : part 9 2 new ≡ part 9 2 own = part-before 9 2 20 list own (omega arith) (omega arith) in
-      let b11 : get_or new 11 0 ≡ get_or own 11 0 = getD-put-before 20 11 0 list own (omega arith) (omega arith) in
+      let b11 : get_or new 11 0 ≡ get_or own 11 0 = get_or-put-before 20 11 0 list own (omega arith) (omega arith) in
       let f12 : part 12 8 new ≡ part 12 8 own = part-before 12 8 20 list own (omega arith) (omega arith) in
       let d20 : drop 20 new ≡ list = sym (take_all 97 (drop 20 new) (omega (arith, length-drop 20 new, ln))) ∙ part-put 20 97 list own e (omega arith) in
       λ z. record {
-        first = only_if (flagOf (b0 z)) (record { peer = leNat (f1 z); round = leNat (h9 z) });
-        kept = only_if (flagOf (b11 z)) (leNat (f12 z));
-        peers = hopsIn (roundOf ps) (d20 z);
+        first = only_if (flag_of (b0 z)) (record { peer = le_nat (f1 z); round = le_nat (h9 z) });
+        kept = only_if (flag_of (b11 z)) (le_nat (f12 z));
+        peers = hops_in (round_of ps) (d20 z);
       }
 
   pub list_put : (list : List ℕ) → length list ≡ 97 → drop 20 (put 20 list own) ≡ list
@@ -117,34 +117,34 @@ module _ (ps own rest : List ℕ) (long : length own ≡ 117) where
 
 -- another value, read from the bytes
 module _ {A B : Type 0} (f : A → B) where
-  abbrev timedAs : Timed A → Timed B
-  timedAs v = record { expires = v.expires; value = f v.value }
+  abbrev timed_as : Timed A → Timed B
+  timed_as v = record { expires = v.expires; value = f v.value }
 
-  insert-as : (k : ℕ) (v : Timed A) (m : Map (Timed A)) → map (readAs f) (insert k v m) ≡ insert k (timedAs v) (map (readAs f) m)
+  insert-as : (k : ℕ) (v : Timed A) (m : Map (Timed A)) → map (read_as f) (insert k v m) ≡ insert k (timed_as v) (map (read_as f) m)
   unfolding insert
   insert-as k v [] = refl
   insert-as k v (e ∷ m) =
       cases (ltb k e.key) (λ p. rw p refl)
-      (λ p. rw p (cases (eqb k e.key) (λ q. rw q refl) (λ q. rw q (ap (λ (l : Map (Timed B)). readAs f e ∷ l) (insert-as k v m)))))
+      (λ p. rw p (cases (eqb k e.key) (λ q. rw q refl) (λ q. rw q (ap (λ (l : Map (Timed B)). read_as f e ∷ l) (insert-as k v m)))))
 
-  optionAs : Option (Timed A) → Option (Timed B)
-  optionAs none = none
-  optionAs (some a) = some (timedAs a)
+  option_as : Option (Timed A) → Option (Timed B)
+  option_as none = none
+  option_as (some a) = some (timed_as a)
 
-  lookup-as : (k : ℕ) (m : Map (Timed A)) → lookup k (map (readAs f) m) ≡ optionAs (lookup k m)
-  unfolding lookup optionAs
+  lookup-as : (k : ℕ) (m : Map (Timed A)) → lookup k (map (read_as f) m) ≡ option_as (lookup k m)
+  unfolding lookup option_as
   lookup-as k [] = refl
   lookup-as k (e ∷ m) = cases (eqb k e.key) (λ p. rw p refl) (λ p. rw p (lookup-as k m))
 
-  value_as : (k : ℕ) (v : A) (o : Option (Timed A)) (m : Map (Timed A)) → map (readAs f) (withValue k v o m) ≡ withValue k (f v) (optionAs o) (map (readAs f) m)
-  unfolding withValue optionAs
+  value_as : (k : ℕ) (v : A) (o : Option (Timed A)) (m : Map (Timed A)) → map (read_as f) (with_value k v o m) ≡ with_value k (f v) (option_as o) (map (read_as f) m)
+  unfolding with_value option_as
   value_as k v none m = refl
   value_as k v (some t) m = insert-as k (record { expires = t.expires; value = v }) m
 
-  pub replace-as : (k : ℕ) (v : A) (c : Cache A) → valuesAs f (replace k v c) ≡ replace k (f v) (valuesAs f c)
-  unfolding valuesAs replace
+  pub replace-as : (k : ℕ) (v : A) (c : Cache A) → values_as f (replace k v c) ≡ replace k (f v) (values_as f c)
+  unfolding values_as replace
   replace-as k v c = λ j. record {
-    entries = (value_as k v (lookup k c.entries) c.entries ∙ ap (λ (o : Option (Timed B)). withValue k (f v) o (map (readAs f) c.entries)) (sym (lookup-as k c.entries))) j;
+    entries = (value_as k v (lookup k c.entries) c.entries ∙ ap (λ (o : Option (Timed B)). with_value k (f v) o (map (read_as f) c.entries)) (sym (lookup-as k c.entries))) j;
     expiry = c.expiry;
   }
 
@@ -166,7 +166,7 @@ each-put P (suc i) r (e ∷ es) p a h = record { each = go (each-put P i r es p 
 -- bytes of grafted message i, after its place
 module _ (h : Head) (xs : List ℕ) (sound : Sound h xs) (order : InOrder (state_of h xs).grafted) (i : ℕ) (q : i < h.live.grafted) (o : ℕ) (bs : List ℕ) (w : o + length bs ≤ 117) where
   abbrev l : Limits
-  l = limitsOf h.limits
+  l = limits_of h.limits
 
   abbrev n : ℕ
   n = h.live.grafted
@@ -175,10 +175,10 @@ module _ (h : Head) (xs : List ℕ) (sound : Sound h xs) (order : InOrder (state
   m = h.live.grafted_rows
 
   abbrev c : TimeBoundCache
-  c = graftedCache h
+  c = grafted_cache h
 
   abbrev ps : List ℕ
-  ps = peersOf h xs
+  ps = peers_of h xs
 
   abbrev tab : List ℕ
   tab = table l 7 xs
@@ -187,7 +187,7 @@ module _ (h : Head) (xs : List ℕ) (sound : Sound h xs) (order : InOrder (state
   ys = put (place l 7 + (i * 119 + (2 + o))) bs xs
 
   abbrev pub r : Ref
-  r = ref_at (refsAt c xs) i
+  r = ref_at (refs_at c xs) i
 
   abbrev pub x : ExpiryRow
   x = row_at (rows_at c xs) r.place
@@ -196,13 +196,13 @@ module _ (h : Head) (xs : List ℕ) (sound : Sound h xs) (order : InOrder (state
   n-in = omega (arith, sound.fit.within.grafted)
 
   m-in : m * 40 ≤ 40 * (2 * l.G + 1)
-  m-in = omega (arith, sound.fit.within.graftedRows)
+  m-in = omega (arith, sound.fit.within.grafted_rows)
 
-  refs-same : refsAt c xs ≡ refs 119 n tab
+  refs-same : refs_at c xs ≡ refs 119 n tab
   refs-same = refs-in l 7 119 n 8 40 m xs (lit< tt) n-in (lit< tt) m-in
 
   pub own-long : length r.own ≡ 117
-  unfolding refOf
+  unfolding ref_of
   own-long =
       let lt : length tab ≡ 119 * (l.G + 1) = length-table l 7 xs (lit< tt) sound.fit.long in
       let row : List ℕ = part (i * 119) 119 tab in
@@ -210,12 +210,12 @@ module _ (h : Head) (xs : List ℕ) (sound : Sound h xs) (order : InOrder (state
       ap (λ (es : List Ref). length (ref_at es i).own) refs-same ∙ ap (λ (e : Ref). length e.own) (ref-at 119 n i (ref 0 []) tab q) ∙ length-drop 2 row ∙ (omega arith)
 
   -- the entry in the view
-  pub entry-same : graftedAt (state_of h xs) i ≡ entry x.key (record { expires = x.time; value = graftsOf ps r.own x.rest })
+  pub entry-same : grafted_at (state_of h xs) i ≡ entry x.key (record { expires = x.time; value = grafts_of ps r.own x.rest })
   entry-same =
       grafted-entry h xs sound i q
       ∙ (λ z. let e : Ref = ref_at (sym refs-same z) i in
       let y : ExpiryRow = row_at (sym (rows_in l 7 119 n 8 40 m xs (lit< tt) n-in (lit< tt) m-in) z) e.place in
-      entry y.key (record { expires = y.time; value = graftsOf ps e.own y.rest }))
+      entry y.key (record { expires = y.time; value = grafts_of ps e.own y.rest }))
 
   ys-long : length ys ≡ length xs
   ys-long = length-put (place l 7 + (i * 119 + (2 + o))) bs xs (omega (arith, n-in, sound.fit.long))
@@ -232,52 +232,52 @@ module _ (h : Head) (xs : List ℕ) (sound : Sound h xs) (order : InOrder (state
   lies : Lies c xs
   lies = grafted-lies h xs sound.fit
 
-  old-lists : EachOwn (Listed h.live.links) (refsAt c xs)
+  old-lists : EachOwn (Listed h.live.links) (refs_at c xs)
   old-lists = subst (EachOwn (Listed h.live.links)) (sym refs-same) (to-own h.live.links n tab sound.laid.grafts)
 
-  here : i < length (refsAt c xs)
+  here : i < length (refs_at c xs)
   here = omega (arith, length-refs 119 n (drop (place l 7) xs))
 
   -- a write before the list of peers leaves the list
   pub list-kept : o + length bs ≤ 20 → Listed h.live.links (put o bs r.own)
   list-kept v = subst (Numbered h.live.links) (sym (drop-put 20 o bs r.own v (omega (arith, own-long)))) (old-lists.each i here)
 
-  lists : Listed h.live.links (put o bs r.own) → EachOwn (Listed h.live.links) (refsAt c ys)
+  lists : Listed h.live.links (put o bs r.own) → EachOwn (Listed h.live.links) (refs_at c ys)
   lists listed =
-      let e : refsAt c ys ≡ put i (ref r.place (put o bs r.own) ∷ []) (refsAt c xs) =
+      let e : refs_at c ys ≡ put i (ref r.place (put o bs r.own) ∷ []) (refs_at c xs) =
       ap (refs 119 n) (put-drop (place l 7) (i * 119 + (2 + o)) bs xs (omega (arith, sound.fit.long)))
       ∙ own-stored 119 n i o bs (drop (place l 7) xs) (omega arith) q (omega (arith, length-drop (place l 7) xs, n-in, sound.fit.long)) in
       subst (EachOwn (Listed h.live.links)) (sym e)
-      (each-put (Listed h.live.links) i (ref r.place (put o bs r.own)) (refsAt c xs) listed old-lists here)
+      (each-put (Listed h.live.links) i (ref r.place (put o bs r.own)) (refs_at c xs) listed old-lists here)
 
-  pub own-goes : Listed h.live.links (put o bs r.own) → (g : Grafts) → graftsOf ps (put o bs r.own) x.rest ≡ g → Goes (λ t. withGrafted (replace (graftedAt t i).key g t.grafted) t) h xs h ys
-  unfolding state_of graftedIn
+  pub own-goes : Listed h.live.links (put o bs r.own) → (g : Grafts) → grafts_of ps (put o bs r.own) x.rest ≡ g → Goes (λ t. with_grafted (replace (grafted_at t i).key g t.grafted) t) h xs h ys
+  unfolding state_of grafted_in
   own-goes listed g e =
-      let k : x.key ≡ (graftedAt (state_of h xs) i).key = sym (ap (λ (z : Entry (Timed Grafts)). z.key) entry-same) in
-      let all : graftedIn ps n (table l 7 ys) m (table l 8 ys) ≡ replace (graftedAt (state_of h xs) i).key g (state_of h xs).grafted =
-      sym (cache-in l 7 119 n 8 40 m ys (lit< tt) n-in (lit< tt) m-in (graftsOf ps))
-      ∙ ap (valuesAs (asValue (graftsOf ps))) (own-written c xs s i q lies o bs (omega arith))
-      ∙ replace-as (asValue (graftsOf ps)) x.key (held (put o bs r.own) x.rest) (cacheAt c xs)
+      let k : x.key ≡ (grafted_at (state_of h xs) i).key = sym (ap (λ (z : Entry (Timed Grafts)). z.key) entry-same) in
+      let all : grafted_in ps n (table l 7 ys) m (table l 8 ys) ≡ replace (grafted_at (state_of h xs) i).key g (state_of h xs).grafted =
+      sym (cache-in l 7 119 n 8 40 m ys (lit< tt) n-in (lit< tt) m-in (grafts_of ps))
+      ∙ ap (values_as (as_value (grafts_of ps))) (own-written c xs s i q lies o bs (omega arith))
+      ∙ replace-as (as_value (grafts_of ps)) x.key (held (put o bs r.own) x.rest) (cache_at c xs)
       ∙ (λ z. replace (k z) (e z) (grafted-as h xs sound.fit z)) in
       record {
-        state = grafted-state h xs ys sound n m (119 * (l.G + 1)) 0 (omega arith) (omega arith) ys-long only ∙ ap (λ (t : Cache Grafts). withGrafted t (state_of h xs)) all;
-        sound = grafted-laid h xs ys sound n m (119 * (l.G + 1)) 0 (omega arith) (omega arith) ys-long only sound.fit.within.grafted sound.fit.within.graftedRows (own-sound c xs s i q lies o bs (omega arith)) (lists listed);
+        state = grafted-state h xs ys sound n m (119 * (l.G + 1)) 0 (omega arith) (omega arith) ys-long only ∙ ap (λ (t : Cache Grafts). with_grafted t (state_of h xs)) all;
+        sound = grafted-laid h xs ys sound n m (119 * (l.G + 1)) 0 (omega arith) (omega arith) ys-long only sound.fit.within.grafted sound.fit.within.grafted_rows (own-sound c xs s i q lies o bs (omega arith)) (lists listed);
       }
 
 -- the stores of a `first` and of a `kept`
-module _ (h : Head) (xs : List ℕ) (sound : Sound h xs) (order : InOrder (state_of h xs).grafted) (i : ℕ) (q : i < h.live.grafted) (a p : ℕ) (at : a ≡ place (limitsOf h.limits) 7 + 119 * i) (hp : p < 256 ^ 8) where
+module _ (h : Head) (xs : List ℕ) (sound : Sound h xs) (order : InOrder (state_of h xs).grafted) (i : ℕ) (q : i < h.live.grafted) (a p : ℕ) (at : a ≡ place (limits_of h.limits) 7 + 119 * i) (hp : p < 256 ^ 8) where
   abbrev lim : Limits
-  lim = limitsOf h.limits
+  lim = limits_of h.limits
 
   inside : a + 119 ≤ length xs
   inside = omega (arith, at, sound.fit.within.grafted, sound.fit.long)
 
   pub first_goes : (rd : ℕ) → rd < 256 ^ 2 → Goes (first_at i p rd) h xs h (put (a + 11) (le_bytes 2 rd) (put (a + 3) (le_bytes 8 p) (set xs (a + 2) 1)))
   first_goes rd hr =
-      let bs : List ℕ = firstBytes p rd in
+      let bs : List ℕ = first_bytes p rd in
       let w : 0 + length bs ≤ 117 = omega (arith, length-first p rd) in
-      let l8 : length (le_bytes 8 p) ≡ 8 = length-leBytes 8 p in
-      let l2 : length (le_bytes 2 rd) ≡ 2 = length-leBytes 2 rd in
+      let l8 : length (le_bytes 8 p) ≡ 8 = length-le_bytes 8 p in
+      let l2 : length (le_bytes 2 rd) ≡ 2 = length-le_bytes 2 rd in
       let e : a + 2 ≡ place lim 7 + (i * 119 + (2 + 0)) = omega (arith, at) in
       let one : put (a + 3) (le_bytes 8 p) (set xs (a + 2) 1) ≡ put (a + 2) (1 ∷ le_bytes 8 p) xs =
       ap (put (a + 3) (le_bytes 8 p)) (set-put (a + 2) 1 xs (omega (arith, inside))) ∙ put-put-next (a + 2) (a + 3) (1 ∷ []) (le_bytes 8 p) xs (omega arith) (omega (arith, inside)) in
@@ -285,46 +285,46 @@ module _ (h : Head) (xs : List ℕ) (sound : Sound h xs) (order : InOrder (state
       ap (put (a + 11) (le_bytes 2 rd)) one
       ∙ put-put-next (a + 2) (a + 11) (1 ∷ le_bytes 8 p) (le_bytes 2 rd) xs (omega (arith, l8)) (omega (arith, inside, l2))
       ∙ ap (λ (b : ℕ). put b bs xs) e in
-      let g : Grafts = record { first = some (record { peer = p; round = rd }); kept = (graftsAt (state_of h xs) i).kept; peers = (graftsAt (state_of h xs) i).peers } in
-      let same : graftsAt (state_of h xs) i ≡ graftsOf (peersOf h xs) (r h xs sound order i q 0 bs w).own (x h xs sound order i q 0 bs w).rest =
+      let g : Grafts = record { first = some (record { peer = p; round = rd }); kept = (grafts_at (state_of h xs) i).kept; peers = (grafts_at (state_of h xs) i).peers } in
+      let same : grafts_at (state_of h xs) i ≡ grafts_of (peers_of h xs) (r h xs sound order i q 0 bs w).own (x h xs sound order i q 0 bs w).rest =
       ap (λ (y : Entry (Timed Grafts)). y.value.value) (entry-same h xs sound order i q 0 bs w) in
       let go = own-goes h xs sound order i q 0 bs w (list-kept h xs sound order i q 0 bs w (omega (arith, length-first p rd))) g
-      (first-value (peersOf h xs) (r h xs sound order i q 0 bs w).own (x h xs sound order i q 0 bs w).rest (own-long h xs sound order i q 0 bs w) p rd hp hr
+      (first-value (peers_of h xs) (r h xs sound order i q 0 bs w).own (x h xs sound order i q 0 bs w).rest (own-long h xs sound order i q 0 bs w) p rd hp hr
       ∙ (λ z. record { first = some (record { peer = p; round = rd }); kept = (sym same z).kept; peers = (sym same z).peers })) in
       subst (Goes (first_at i p rd) h xs h) (sym two) (record { state = go.state; sound = go.sound })
 
   pub kept_goes : Goes (kept_at i p) h xs h (put (a + 14) (le_bytes 8 p) (set xs (a + 13) 1))
   kept_goes =
-      let bs : List ℕ = keptBytes p in
+      let bs : List ℕ = kept_bytes p in
       let w : 11 + length bs ≤ 117 = omega (arith, length-kept p) in
-      let l8 : length (le_bytes 8 p) ≡ 8 = length-leBytes 8 p in
+      let l8 : length (le_bytes 8 p) ≡ 8 = length-le_bytes 8 p in
       let e : a + 13 ≡ place lim 7 + (i * 119 + (2 + 11)) = omega (arith, at) in
       let one : put (a + 14) (le_bytes 8 p) (set xs (a + 13) 1) ≡ put (place lim 7 + (i * 119 + (2 + 11))) bs xs =
       ap (put (a + 14) (le_bytes 8 p)) (set-put (a + 13) 1 xs (omega (arith, inside)))
       ∙ put-put-next (a + 13) (a + 14) (1 ∷ []) (le_bytes 8 p) xs (omega arith) (omega (arith, inside))
       ∙ ap (λ (b : ℕ). put b bs xs) e in
-      let g : Grafts = record { first = (graftsAt (state_of h xs) i).first; kept = some p; peers = (graftsAt (state_of h xs) i).peers } in
-      let same : graftsAt (state_of h xs) i ≡ graftsOf (peersOf h xs) (r h xs sound order i q 11 bs w).own (x h xs sound order i q 11 bs w).rest =
+      let g : Grafts = record { first = (grafts_at (state_of h xs) i).first; kept = some p; peers = (grafts_at (state_of h xs) i).peers } in
+      let same : grafts_at (state_of h xs) i ≡ grafts_of (peers_of h xs) (r h xs sound order i q 11 bs w).own (x h xs sound order i q 11 bs w).rest =
       ap (λ (y : Entry (Timed Grafts)). y.value.value) (entry-same h xs sound order i q 11 bs w) in
       let go = own-goes h xs sound order i q 11 bs w (list-kept h xs sound order i q 11 bs w (omega (arith, length-kept p))) g
-      (kept-value (peersOf h xs) (r h xs sound order i q 11 bs w).own (x h xs sound order i q 11 bs w).rest (own-long h xs sound order i q 11 bs w) p hp
+      (kept-value (peers_of h xs) (r h xs sound order i q 11 bs w).own (x h xs sound order i q 11 bs w).rest (own-long h xs sound order i q 11 bs w) p hp
       ∙ (λ z. record { first = (sym same z).first; kept = some p; peers = (sym same z).peers })) in
       subst (Goes (kept_at i p) h xs h) (sym one) (record { state = go.state; sound = go.sound })
 
 -- the store of another list of peers
 module _ (h : Head) (xs : List ℕ) (sound : Sound h xs) (order : InOrder (state_of h xs).grafted) (i : ℕ) (q : i < h.live.grafted) where
   pub peers-goes : (list : List ℕ) → length list ≡ 97 → Numbered h.live.links list
-      → Goes (λ s. withGrafted (replace (graftedAt s i).key (record { first = (graftsAt s i).first; kept = (graftsAt s i).kept; peers = hopsIn (roundOf (peersOf h xs)) list }) s.grafted) s) h xs h (put (place (limitsOf h.limits) 7 + 119 * i + 22) list xs)
+      → Goes (λ s. with_grafted (replace (grafted_at s i).key (record { first = (grafts_at s i).first; kept = (grafts_at s i).kept; peers = hops_in (round_of (peers_of h xs)) list }) s.grafted) s) h xs h (put (place (limits_of h.limits) 7 + 119 * i + 22) list xs)
   peers-goes list long numbered =
-      let lim : Limits = limitsOf h.limits in
+      let lim : Limits = limits_of h.limits in
       let w : 20 + length list ≤ 117 = omega arith in
       let own : List ℕ = (r h xs sound order i q 20 list w).own in
       let rest : List ℕ = (x h xs sound order i q 20 list w).rest in
       let ol : length own ≡ 117 = own-long h xs sound order i q 20 list w in
       let e : place lim 7 + 119 * i + 22 ≡ place lim 7 + (i * 119 + (2 + 20)) = omega arith in
-      let g : Grafts = record { first = (graftsAt (state_of h xs) i).first; kept = (graftsAt (state_of h xs) i).kept; peers = hopsIn (roundOf (peersOf h xs)) list } in
-      let same : graftsAt (state_of h xs) i ≡ graftsOf (peersOf h xs) own rest = ap (λ (y : Entry (Timed Grafts)). y.value.value) (entry-same h xs sound order i q 20 list w) in
-      let go = own-goes h xs sound order i q 20 list w (subst (Numbered h.live.links) (sym (list_put (peersOf h xs) own rest ol list long)) numbered) g
-      (peers-value (peersOf h xs) own rest ol list long ∙ (λ z. record { first = (sym same z).first; kept = (sym same z).kept; peers = hopsIn (roundOf (peersOf h xs)) list })) in
-      let f : State → State = λ s. withGrafted (replace (graftedAt s i).key (record { first = (graftsAt s i).first; kept = (graftsAt s i).kept; peers = hopsIn (roundOf (peersOf h xs)) list }) s.grafted) s in
+      let g : Grafts = record { first = (grafts_at (state_of h xs) i).first; kept = (grafts_at (state_of h xs) i).kept; peers = hops_in (round_of (peers_of h xs)) list } in
+      let same : grafts_at (state_of h xs) i ≡ grafts_of (peers_of h xs) own rest = ap (λ (y : Entry (Timed Grafts)). y.value.value) (entry-same h xs sound order i q 20 list w) in
+      let go = own-goes h xs sound order i q 20 list w (subst (Numbered h.live.links) (sym (list_put (peers_of h xs) own rest ol list long)) numbered) g
+      (peers-value (peers_of h xs) own rest ol list long ∙ (λ z. record { first = (sym same z).first; kept = (sym same z).kept; peers = hops_in (round_of (peers_of h xs)) list })) in
+      let f : State → State = λ s. with_grafted (replace (grafted_at s i).key (record { first = (grafts_at s i).first; kept = (grafts_at s i).kept; peers = hops_in (round_of (peers_of h xs)) list }) s.grafted) s in
       subst (Goes f h xs h) (ap (λ (b : ℕ). put b list xs) (sym e)) (record { state = go.state; sound = go.sound })

@@ -12,29 +12,29 @@ use Rattle.std.specs.Prelude.{if◌then◌else◌}
 use Rattle.storage.specs.Lists.Base.{filter}
 use Rattle.storage.specs.Lists.Map.{keys}
 use Rattle.storage.specs.Rows.Part.{part}
-use Rattle.storage.specs.Refs.Refs.{Ref, ref, refOf, refs, places, Below, names, lowered, left}
+use Rattle.storage.specs.Refs.Refs.{Ref, ref, ref_of, refs, places, Below, names, lowered, left}
 use Rattle.storage.proofs.RefsLaws.Places.{ref-at, length-refs}
-use Rattle.time_cache.specs.TimeCache.{Cache, expireUntil}
-use Rattle.time_cache.specs.Tables.{held, cacheAt, refsAt, rows_at, named, Lies, Room, Sound as SoundCache, OnlyTwo, valuesAs}
+use Rattle.time_cache.specs.TimeCache.{Cache, expire_until}
+use Rattle.time_cache.specs.Tables.{held, cache_at, refs_at, rows_at, named, Lies, Room, Sound as SoundCache, OnlyTwo, values_as}
 use Rattle.time_cache.specs.Steps.{ref_at, Expires}
 use Rattle.time_cache.specs.declared.cache.TimeBoundCache.{TimeBoundCache}
 use Rattle.time_cache.specs.declared.cache.Expired.{Expired}
 use Rattle.time_cache.proofs.TableLaws.{keys-named}
-use Rattle.protocol.specs.State.{Limits, Grafts, withGrafted}
+use Rattle.protocol.specs.State.{Limits, Grafts, with_grafted}
 use Rattle.block.specs.Layout.{place, tables, table}
-use Rattle.block.specs.View.{state_of, view_of, limitsOf, graftedIn, graftsOf, peersIn}
+use Rattle.block.specs.View.{state_of, view_of, limits_of, grafted_in, grafts_of, peers_in}
 use Rattle.block.specs.Fit.{Fit}
 use Rattle.block.specs.Sound.{Numbered, AllNumbered, Laid, Sound}
 use Rattle.block.specs.Goes.{Goes}
-use Rattle.block.specs.Heads.{withGraftedCounts}
+use Rattle.block.specs.Heads.{with_grafted_counts}
 use Rattle.block.specs.declared.head.Head.{Head}
-use Rattle.block.specs.TimeCaches.{cacheFrom, graftedCache}
-use Rattle.block.specs.Caches.InBlock.{InOrder, graftedLeft}
-use Rattle.block.proofs.CachesLaws.CacheLaws.{asValue, cache-in, keys_in, sound-in, refs-in, count_entries, count-expiry, frame-pair, expired-in}
+use Rattle.block.specs.TimeCaches.{cache_from, grafted_cache}
+use Rattle.block.specs.Caches.InBlock.{InOrder, grafted_left}
+use Rattle.block.proofs.CachesLaws.CacheLaws.{as_value, cache-in, keys_in, sound-in, refs-in, count_entries, count-expiry, frame-pair, expired-in}
 
 -- the peers that link numbers stand for
-abbrev pub peersOf : Head → List ℕ → List ℕ
-peersOf h xs = peersIn h (tables (limitsOf h.limits) xs)
+abbrev pub peers_of : Head → List ℕ → List ℕ
+peers_of h xs = peers_in h (tables (limits_of h.limits) xs)
 
 -- what holds of the bytes after the place of each row
 module _ (P : List ℕ → Type 0) where
@@ -60,7 +60,7 @@ Listed m own = Numbered m (drop 20 own)
 
 module _ (m n : ℕ) (bytes : List ℕ) where
   pub own-list : (i : ℕ) → i < n → drop 20 (ref_at (refs 119 n bytes) i).own ≡ drop 22 (part (i * 119) 119 bytes)
-  unfolding refOf
+  unfolding ref_of
   own-list i h = ap (λ (r : Ref). drop 20 r.own) (ref-at 119 n i (ref 0 []) bytes h) ∙ drop-drop 20 2 (part (i * 119) 119 bytes)
 
   pub to-own : AllNumbered m 22 119 n bytes → EachOwn (Listed m) (refs 119 n bytes)
@@ -71,7 +71,7 @@ module _ (m n : ℕ) (bytes : List ℕ) where
 
 module _ (h : Head) (xs : List ℕ) (fit : Fit h xs) where
   abbrev l : Limits
-  l = limitsOf h.limits
+  l = limits_of h.limits
 
   abbrev n : ℕ
   n = h.live.grafted
@@ -79,50 +79,50 @@ module _ (h : Head) (xs : List ℕ) (fit : Fit h xs) where
   abbrev m : ℕ
   m = h.live.grafted_rows
 
-  pub grafted-lies : Lies (graftedCache h) xs
-  grafted-lies = record { entryWide = omega arith; expiryWide = omega arith; apart = omega arith; within = omega arith; few = omega arith }
+  pub grafted-lies : Lies (grafted_cache h) xs
+  grafted-lies = record { entry_wide = omega arith; expiry_wide = omega arith; apart = omega arith; within = omega arith; few = omega arith }
 
-  pub grafted-room : Room (graftedCache h) xs
-  grafted-room = record { entryWide = omega arith; expiryWide = omega arith; apart = omega arith; within = omega arith; few = omega arith }
+  pub grafted-room : Room (grafted_cache h) xs
+  grafted-room = record { entry_wide = omega arith; expiry_wide = omega arith; apart = omega arith; within = omega arith; few = omega arith }
 
-  pub grafted-keys : named (rows_at (graftedCache h) xs) (refsAt (graftedCache h) xs) ≡ keys (state_of h xs).grafted.entries
-  unfolding state_of graftedIn
-  grafted-keys = sym (keys-named held (refsAt (graftedCache h) xs) (rows_at (graftedCache h) xs)) ∙ keys_in l 7 119 n 8 40 m xs (lit< tt) (omega arith) (lit< tt) (omega arith) (graftsOf (peersOf h xs))
+  pub grafted-keys : named (rows_at (grafted_cache h) xs) (refs_at (grafted_cache h) xs) ≡ keys (state_of h xs).grafted.entries
+  unfolding state_of grafted_in
+  grafted-keys = sym (keys-named held (refs_at (grafted_cache h) xs) (rows_at (grafted_cache h) xs)) ∙ keys_in l 7 119 n 8 40 m xs (lit< tt) (omega arith) (lit< tt) (omega arith) (grafts_of (peers_of h xs))
 
-  pub grafted-as : valuesAs (asValue (graftsOf (peersOf h xs))) (cacheAt (graftedCache h) xs) ≡ (state_of h xs).grafted
-  unfolding state_of graftedIn
-  grafted-as = cache-in l 7 119 n 8 40 m xs (lit< tt) (omega arith) (lit< tt) (omega arith) (graftsOf (peersOf h xs))
+  pub grafted-as : values_as (as_value (grafts_of (peers_of h xs))) (cache_at (grafted_cache h) xs) ≡ (state_of h xs).grafted
+  unfolding state_of grafted_in
+  grafted-as = cache-in l 7 119 n 8 40 m xs (lit< tt) (omega arith) (lit< tt) (omega arith) (grafts_of (peers_of h xs))
 
   pub count-grafted : length (state_of h xs).grafted.entries ≡ n
-  unfolding state_of graftedIn
-  count-grafted = count_entries l 7 119 n 8 40 m xs (lit< tt) (omega arith) (lit< tt) (omega arith) (graftsOf (peersOf h xs))
+  unfolding state_of grafted_in
+  count-grafted = count_entries l 7 119 n 8 40 m xs (lit< tt) (omega arith) (lit< tt) (omega arith) (grafts_of (peers_of h xs))
 
   pub count-grafted-rows : length (state_of h xs).grafted.expiry ≡ m
-  unfolding state_of graftedIn
-  count-grafted-rows = count-expiry l 7 119 n 8 40 m xs (lit< tt) (omega arith) (lit< tt) (omega arith) (graftsOf (peersOf h xs))
+  unfolding state_of grafted_in
+  count-grafted-rows = count-expiry l 7 119 n 8 40 m xs (lit< tt) (omega arith) (lit< tt) (omega arith) (grafts_of (peers_of h xs))
 
-pub grafted-sound : (h : Head) (xs : List ℕ) → Sound h xs → InOrder (state_of h xs).grafted → SoundCache (graftedCache h) xs
-unfolding state_of graftedIn
+pub grafted-sound : (h : Head) (xs : List ℕ) → Sound h xs → InOrder (state_of h xs).grafted → SoundCache (grafted_cache h) xs
+unfolding state_of grafted_in
 grafted-sound h xs sound o =
-    sound-in (limitsOf h.limits) 7 119 h.live.grafted 8 40 h.live.grafted_rows xs (lit< tt) (omega (arith, sound.fit)) (lit< tt) (omega (arith, sound.fit)) (graftsOf (peersOf h xs)) sound.laid.grafted o
+    sound-in (limits_of h.limits) 7 119 h.live.grafted 8 40 h.live.grafted_rows xs (lit< tt) (omega (arith, sound.fit)) (lit< tt) (omega (arith, sound.fit)) (grafts_of (peers_of h xs)) sound.laid.grafted o
 
 -- other rows in the two tables
 module _ (h : Head) (xs ys : List ℕ) (sound : Sound h xs) (n' m' k g : ℕ) where
   abbrev lim : Limits
-  lim = limitsOf h.limits
+  lim = limits_of h.limits
 
   abbrev new : Head
-  new = withGraftedCounts n' m' h
+  new = with_grafted_counts n' m' h
 
   module _ (hk : k ≤ 119 * (lim.G + 1)) (hg : g ≤ 40 * (2 * lim.G + 1)) (e : length ys ≡ length xs) (o : OnlyTwo (place lim 7) k (place lim 8) g xs ys) where
     framed : tables lim ys ≡ set (set (tables lim xs) 8 (table lim 8 ys)) 7 (table lim 7 ys)
     framed = frame-pair lim 7 8 k g xs ys (lit< tt) (lit< tt) (omega arith) hk hg sound.fit.long e o
 
-    pub grafted-state : state_of new ys ≡ withGrafted (graftedIn (peersOf h xs) n' (table lim 7 ys) m' (table lim 8 ys)) (state_of h xs)
+    pub grafted-state : state_of new ys ≡ with_grafted (grafted_in (peers_of h xs) n' (table lim 7 ys) m' (table lim 8 ys)) (state_of h xs)
     unfolding state_of
     grafted-state = ap (view_of new) framed
 
-    pub grafted-laid : n' ≤ lim.G → m' ≤ 2 * lim.G → SoundCache (graftedCache new) ys → EachOwn (Listed h.live.links) (refsAt (graftedCache new) ys) → Sound new ys
+    pub grafted-laid : n' ≤ lim.G → m' ≤ 2 * lim.G → SoundCache (grafted_cache new) ys → EachOwn (Listed h.live.links) (refs_at (grafted_cache new) ys) → Sound new ys
     grafted-laid hn hm s a = record {
       fit = record { ceilings = sound.fit.ceilings; within = omega (arith, sound.fit.within); long = omega (arith, e, sound.fit.long) };
       laid = subst (Laid new) (sym framed) (record {
@@ -139,27 +139,27 @@ module _ (h : Head) (xs ys : List ℕ) (sound : Sound h xs) (n' m' k g : ℕ) wh
     }
 
 -- `expire_until`
-pub grafted-expired : (h : Head) (xs ys : List ℕ) (instant : ℕ) (r : Expired) → Sound h xs → length ys ≡ length xs → Expires (graftedCache h) instant xs r ys
-    → Goes (graftedLeft instant) h xs (withGraftedCounts r.cache.entries.len r.cache.expiry.len h) ys
-unfolding graftedIn state_of
+pub grafted-expired : (h : Head) (xs ys : List ℕ) (instant : ℕ) (r : Expired) → Sound h xs → length ys ≡ length xs → Expires (grafted_cache h) instant xs r ys
+    → Goes (grafted_left instant) h xs (with_grafted_counts r.cache.entries.len r.cache.expiry.len h) ys
+unfolding grafted_in state_of
 grafted-expired h xs ys instant r sound e x =
-    let l : Limits = limitsOf h.limits in
+    let l : Limits = limits_of h.limits in
     let n : ℕ = h.live.grafted in
     let m : ℕ = h.live.grafted_rows in
     let n' : ℕ = r.cache.entries.len in
     let m' : ℕ = r.cache.expiry.len in
     let hn : n' ≤ l.G = omega (arith, x.count, sound.fit.within.grafted) in
-    let hm : m' ≤ 2 * l.G = omega (arith, x.fewer, sound.fit.within.graftedRows) in
-    let at : cacheAt (cacheFrom l 7 119 n' 8 40 m') ys ≡ expireUntil instant (cacheAt (graftedCache h) xs) = sym (ap (λ (c : TimeBoundCache). cacheAt c ys) x.sized) ∙ x.cache in
-    let old : EachOwn (Listed h.live.links) (refsAt (graftedCache h) xs) =
+    let hm : m' ≤ 2 * l.G = omega (arith, x.fewer, sound.fit.within.grafted_rows) in
+    let at : cache_at (cache_from l 7 119 n' 8 40 m') ys ≡ expire_until instant (cache_at (grafted_cache h) xs) = sym (ap (λ (c : TimeBoundCache). cache_at c ys) x.sized) ∙ x.cache in
+    let old : EachOwn (Listed h.live.links) (refs_at (grafted_cache h) xs) =
     subst (EachOwn (Listed h.live.links)) (sym (refs-in l 7 119 n 8 40 m xs (lit< tt) (omega (arith, sound.fit.within)) (lit< tt) (omega (arith, sound.fit.within)))) (to-own h.live.links n (table l 7 xs) sound.laid.grafts) in
-    let lists : EachOwn (Listed h.live.links) (refsAt (cacheFrom l 7 119 n' 8 40 m') ys) =
-    subst (EachOwn (Listed h.live.links)) (sym x.refs ∙ ap (λ (c : TimeBoundCache). refsAt c ys) x.sized) (each_left (Listed h.live.links) (m - m') (refsAt (graftedCache h) xs) old) in
+    let lists : EachOwn (Listed h.live.links) (refs_at (cache_from l 7 119 n' 8 40 m') ys) =
+    subst (EachOwn (Listed h.live.links)) (sym x.refs ∙ ap (λ (c : TimeBoundCache). refs_at c ys) x.sized) (each_left (Listed h.live.links) (m - m') (refs_at (grafted_cache h) xs) old) in
     record {
       state =
           grafted-state h xs ys sound n' m' (n * 119) (m * 40) (omega (arith, sound.fit.within)) (omega (arith, sound.fit.within)) e x.only
-          ∙ ap (λ (c : Cache Grafts). withGrafted c (state_of h xs))
-          (expired-in l 7 119 n 8 40 m xs ys (lit< tt) (omega (arith, sound.fit.within)) (lit< tt) (omega (arith, sound.fit.within)) n' m' (omega arith) (omega arith) (graftsOf (peersOf h xs)) instant at);
+          ∙ ap (λ (c : Cache Grafts). with_grafted c (state_of h xs))
+          (expired-in l 7 119 n 8 40 m xs ys (lit< tt) (omega (arith, sound.fit.within)) (lit< tt) (omega (arith, sound.fit.within)) n' m' (omega arith) (omega arith) (grafts_of (peers_of h xs)) instant at);
       sound =
           grafted-laid h xs ys sound n' m' (n * 119) (m * 40) (omega (arith, sound.fit.within)) (omega (arith, sound.fit.within)) e x.only hn hm
           (subst (λ (c : TimeBoundCache). SoundCache c ys) x.sized x.sound) lists;

@@ -7,28 +7,28 @@ use native.Mathlib.Omega.{arith}
 use lib.Dec.{lit<}
 use lib.ListN.{length, set}
 use Rattle.storage.specs.Refs.Refs.{Ref, places, Below}
-use Rattle.time_cache.specs.TimeCache.{Cache, put as put_in, expireUntil, holds}
-use Rattle.time_cache.specs.Tables.{cacheAt, Lies, Room, Sound as SoundCache, OnlyTwo, valuesAs}
+use Rattle.time_cache.specs.TimeCache.{Cache, put as put_in, expire_until, holds}
+use Rattle.time_cache.specs.Tables.{cache_at, Lies, Room, Sound as SoundCache, OnlyTwo, values_as}
 use Rattle.time_cache.specs.Steps.{held_at, Inserts, Expires}
 use Rattle.time_cache.specs.declared.cache.TimeBoundCache.{TimeBoundCache}
 use Rattle.time_cache.specs.declared.cache.Inserted.{Inserted}
 use Rattle.time_cache.specs.declared.cache.Expired.{Expired}
 use Rattle.time_cache.proofs.ValueLaws.{holds_as}
-use Rattle.protocol.specs.State.{Limits, withReceived}
+use Rattle.protocol.specs.State.{Limits, with_received}
 use Rattle.block.specs.Layout.{place, tables, table}
-use Rattle.block.specs.View.{state_of, view_of, limitsOf, receivedIn, nothingOf}
+use Rattle.block.specs.View.{state_of, view_of, limits_of, received_in, nothing_of}
 use Rattle.block.specs.Fit.{Fit}
 use Rattle.block.specs.Sound.{Laid, Sound}
 use Rattle.block.specs.Goes.{Goes}
-use Rattle.block.specs.Heads.{withReceivedCounts}
+use Rattle.block.specs.Heads.{with_received_counts}
 use Rattle.block.specs.declared.head.Head.{Head}
-use Rattle.block.specs.TimeCaches.{cacheFrom, receivedCache}
-use Rattle.block.specs.Caches.InBlock.{InOrder, AtMost, receivedAlso, receivedLeft}
-use Rattle.block.proofs.CachesLaws.CacheLaws.{asValue, cache-in, sound-in, refs-in, count_entries, count-expiry, frame-pair, expired-in, inserted-in}
+use Rattle.block.specs.TimeCaches.{cache_from, received_cache}
+use Rattle.block.specs.Caches.InBlock.{InOrder, AtMost, received_also, received_left}
+use Rattle.block.proofs.CachesLaws.CacheLaws.{as_value, cache-in, sound-in, refs-in, count_entries, count-expiry, frame-pair, expired-in, inserted-in}
 
 module _ (h : Head) (xs : List ℕ) (fit : Fit h xs) where
   abbrev l : Limits
-  l = limitsOf h.limits
+  l = limits_of h.limits
 
   abbrev n : ℕ
   n = h.live.received
@@ -36,49 +36,49 @@ module _ (h : Head) (xs : List ℕ) (fit : Fit h xs) where
   abbrev m : ℕ
   m = h.live.received_rows
 
-  pub received-lies : Lies (receivedCache h) xs
-  received-lies = record { entryWide = omega arith; expiryWide = omega arith; apart = omega arith; within = omega arith; few = omega arith }
+  pub received-lies : Lies (received_cache h) xs
+  received-lies = record { entry_wide = omega arith; expiry_wide = omega arith; apart = omega arith; within = omega arith; few = omega arith }
 
-  pub received-room : Room (receivedCache h) xs
-  received-room = record { entryWide = omega arith; expiryWide = omega arith; apart = omega arith; within = omega arith; few = omega arith }
+  pub received-room : Room (received_cache h) xs
+  received-room = record { entry_wide = omega arith; expiry_wide = omega arith; apart = omega arith; within = omega arith; few = omega arith }
 
-  pub received_as : valuesAs (asValue nothingOf) (cacheAt (receivedCache h) xs) ≡ (state_of h xs).received
-  unfolding state_of receivedIn
-  received_as = cache-in l 2 2 n 3 40 m xs (lit< tt) (omega arith) (lit< tt) (omega arith) nothingOf
+  pub received_as : values_as (as_value nothing_of) (cache_at (received_cache h) xs) ≡ (state_of h xs).received
+  unfolding state_of received_in
+  received_as = cache-in l 2 2 n 3 40 m xs (lit< tt) (omega arith) (lit< tt) (omega arith) nothing_of
 
-  pub received-holds : (k : ℕ) → holds k (cacheAt (receivedCache h) xs) ≡ holds k (state_of h xs).received
-  received-holds k = sym (holds_as (asValue nothingOf) k (cacheAt (receivedCache h) xs)) ∙ ap (holds k) received_as
+  pub received-holds : (k : ℕ) → holds k (cache_at (received_cache h) xs) ≡ holds k (state_of h xs).received
+  received-holds k = sym (holds_as (as_value nothing_of) k (cache_at (received_cache h) xs)) ∙ ap (holds k) received_as
 
   pub count-received : length (state_of h xs).received.entries ≡ n
-  unfolding state_of receivedIn
-  count-received = count_entries l 2 2 n 3 40 m xs (lit< tt) (omega arith) (lit< tt) (omega arith) nothingOf
+  unfolding state_of received_in
+  count-received = count_entries l 2 2 n 3 40 m xs (lit< tt) (omega arith) (lit< tt) (omega arith) nothing_of
 
   pub count-received-rows : length (state_of h xs).received.expiry ≡ m
-  unfolding state_of receivedIn
-  count-received-rows = count-expiry l 2 2 n 3 40 m xs (lit< tt) (omega arith) (lit< tt) (omega arith) nothingOf
+  unfolding state_of received_in
+  count-received-rows = count-expiry l 2 2 n 3 40 m xs (lit< tt) (omega arith) (lit< tt) (omega arith) nothing_of
 
-pub received-sound : (h : Head) (xs : List ℕ) → Sound h xs → InOrder (state_of h xs).received → SoundCache (receivedCache h) xs
-unfolding state_of receivedIn
+pub received-sound : (h : Head) (xs : List ℕ) → Sound h xs → InOrder (state_of h xs).received → SoundCache (received_cache h) xs
+unfolding state_of received_in
 received-sound h xs sound o =
-    sound-in (limitsOf h.limits) 2 2 h.live.received 3 40 h.live.received_rows xs (lit< tt) (omega (arith, sound.fit)) (lit< tt) (omega (arith, sound.fit)) nothingOf sound.laid.received o
+    sound-in (limits_of h.limits) 2 2 h.live.received 3 40 h.live.received_rows xs (lit< tt) (omega (arith, sound.fit)) (lit< tt) (omega (arith, sound.fit)) nothing_of sound.laid.received o
 
 -- other rows in the two tables
 module _ (h : Head) (xs ys : List ℕ) (sound : Sound h xs) (n' m' k g : ℕ) where
   abbrev lim : Limits
-  lim = limitsOf h.limits
+  lim = limits_of h.limits
 
   abbrev new : Head
-  new = withReceivedCounts n' m' h
+  new = with_received_counts n' m' h
 
   module _ (hk : k ≤ 2 * (lim.R + 1)) (hg : g ≤ 40 * (2 * lim.R + 1)) (e : length ys ≡ length xs) (o : OnlyTwo (place lim 2) k (place lim 3) g xs ys) where
     framed : tables lim ys ≡ set (set (tables lim xs) 3 (table lim 3 ys)) 2 (table lim 2 ys)
     framed = frame-pair lim 2 3 k g xs ys (lit< tt) (lit< tt) (omega arith) hk hg sound.fit.long e o
 
-    pub received-state : state_of new ys ≡ withReceived (receivedIn n' (table lim 2 ys) m' (table lim 3 ys)) (state_of h xs)
+    pub received-state : state_of new ys ≡ with_received (received_in n' (table lim 2 ys) m' (table lim 3 ys)) (state_of h xs)
     unfolding state_of
     received-state = ap (view_of new) framed
 
-    pub received-laid : n' ≤ lim.R → m' ≤ 2 * lim.R → SoundCache (receivedCache new) ys → Sound new ys
+    pub received-laid : n' ≤ lim.R → m' ≤ 2 * lim.R → SoundCache (received_cache new) ys → Sound new ys
     received-laid hn hm s = record {
       fit = record { ceilings = sound.fit.ceilings; within = omega (arith, sound.fit.within); long = omega (arith, e, sound.fit.long) };
       laid = subst (Laid new) (sym framed) (record {
@@ -95,23 +95,23 @@ module _ (h : Head) (xs ys : List ℕ) (sound : Sound h xs) (n' m' k g : ℕ) wh
     }
 
 -- `expire_until`
-pub received-expired : (h : Head) (xs ys : List ℕ) (instant : ℕ) (r : Expired) → Sound h xs → length ys ≡ length xs → Expires (receivedCache h) instant xs r ys
-    → Goes (receivedLeft instant) h xs (withReceivedCounts r.cache.entries.len r.cache.expiry.len h) ys
-unfolding receivedIn state_of
+pub received-expired : (h : Head) (xs ys : List ℕ) (instant : ℕ) (r : Expired) → Sound h xs → length ys ≡ length xs → Expires (received_cache h) instant xs r ys
+    → Goes (received_left instant) h xs (with_received_counts r.cache.entries.len r.cache.expiry.len h) ys
+unfolding received_in state_of
 received-expired h xs ys instant r sound e x =
-    let l : Limits = limitsOf h.limits in
+    let l : Limits = limits_of h.limits in
     let n : ℕ = h.live.received in
     let m : ℕ = h.live.received_rows in
     let n' : ℕ = r.cache.entries.len in
     let m' : ℕ = r.cache.expiry.len in
     let hn : n' ≤ l.R = omega (arith, x.count, sound.fit.within.received) in
-    let hm : m' ≤ 2 * l.R = omega (arith, x.fewer, sound.fit.within.receivedRows) in
-    let at : cacheAt (cacheFrom l 2 2 n' 3 40 m') ys ≡ expireUntil instant (cacheAt (receivedCache h) xs) = sym (ap (λ (c : TimeBoundCache). cacheAt c ys) x.sized) ∙ x.cache in
+    let hm : m' ≤ 2 * l.R = omega (arith, x.fewer, sound.fit.within.received_rows) in
+    let at : cache_at (cache_from l 2 2 n' 3 40 m') ys ≡ expire_until instant (cache_at (received_cache h) xs) = sym (ap (λ (c : TimeBoundCache). cache_at c ys) x.sized) ∙ x.cache in
     record {
       state =
           received-state h xs ys sound n' m' (n * 2) (m * 40) (omega (arith, sound.fit.within)) (omega (arith, sound.fit.within)) e x.only
-          ∙ ap (λ (c : Cache (Unit {0})). withReceived c (state_of h xs))
-          (expired-in l 2 2 n 3 40 m xs ys (lit< tt) (omega (arith, sound.fit.within)) (lit< tt) (omega (arith, sound.fit.within)) n' m' (omega arith) (omega arith) nothingOf instant at);
+          ∙ ap (λ (c : Cache (Unit {0})). with_received c (state_of h xs))
+          (expired-in l 2 2 n 3 40 m xs ys (lit< tt) (omega (arith, sound.fit.within)) (lit< tt) (omega (arith, sound.fit.within)) n' m' (omega arith) (omega arith) nothing_of instant at);
       sound =
           received-laid h xs ys sound n' m' (n * 2) (m * 40) (omega (arith, sound.fit.within)) (omega (arith, sound.fit.within)) e x.only hn hm
           (subst (λ (c : TimeBoundCache). SoundCache c ys) x.sized x.sound);
@@ -119,28 +119,28 @@ received-expired h xs ys instant r sound e x =
 
 -- an insert
 pub received-inserted : (h : Head) (xs ys : List ℕ) (id expires : ℕ) (r : Inserted) → Sound h xs → length ys ≡ length xs
-    → AtMost h.limits.received (put_in id tt expires (state_of h xs).received) → Inserts (receivedCache h) id expires xs r ys
-    → Goes (receivedAlso id expires) h xs (withReceivedCounts r.cache.entries.len r.cache.expiry.len h) ys
-unfolding receivedIn state_of
+    → AtMost h.limits.received (put_in id tt expires (state_of h xs).received) → Inserts (received_cache h) id expires xs r ys
+    → Goes (received_also id expires) h xs (with_received_counts r.cache.entries.len r.cache.expiry.len h) ys
+unfolding received_in state_of
 received-inserted h xs ys id expires r sound e most x =
-    let l : Limits = limitsOf h.limits in
+    let l : Limits = limits_of h.limits in
     let n : ℕ = h.live.received in
     let m : ℕ = h.live.received_rows in
     let n' : ℕ = r.cache.entries.len in
     let m' : ℕ = r.cache.expiry.len in
     let one : m' ≡ m + 1 = ap (λ (c : TimeBoundCache). c.expiry.len) x.sized in
-    let sized : r.cache ≡ cacheFrom l 2 2 n' 3 40 m' = x.sized ∙ (λ k. cacheFrom l 2 2 n' 3 40 (sym one k)) in
+    let sized : r.cache ≡ cache_from l 2 2 n' 3 40 m' = x.sized ∙ (λ k. cache_from l 2 2 n' 3 40 (sym one k)) in
     let wn : n' * 2 ≤ 2 * (l.R + 1) = omega (arith, x.count, sound.fit.within.received) in
-    let wm : m' * 40 ≤ 40 * (2 * l.R + 1) = omega (arith, one, sound.fit.within.receivedRows) in
-    let at : cacheAt (cacheFrom l 2 2 n' 3 40 m') ys ≡ put_in id (held_at r.cache r.entry r.row ys) expires (cacheAt (receivedCache h) xs) = sym (ap (λ (c : TimeBoundCache). cacheAt c ys) sized) ∙ x.cache in
-    let all : receivedIn n' (table l 2 ys) m' (table l 3 ys) ≡ put_in id tt expires (state_of h xs).received =
-    inserted-in l 2 2 n 3 40 m xs ys (lit< tt) (omega (arith, sound.fit.within)) (lit< tt) (omega (arith, sound.fit.within)) n' m' wn wm nothingOf id expires (held_at r.cache r.entry r.row ys) at in
-    let hn : n' ≤ l.R = omega (arith, most.entries, sym (count_entries l 2 2 n' 3 40 m' ys (lit< tt) wn (lit< tt) wm nothingOf) ∙ ap (λ (c : Cache (Unit {0})). length c.entries) all) in
-    let hm : m' ≤ 2 * l.R = omega (arith, most.expiry, sym (count-expiry l 2 2 n' 3 40 m' ys (lit< tt) wn (lit< tt) wm nothingOf) ∙ ap (λ (c : Cache (Unit {0})). length c.expiry) all) in
+    let wm : m' * 40 ≤ 40 * (2 * l.R + 1) = omega (arith, one, sound.fit.within.received_rows) in
+    let at : cache_at (cache_from l 2 2 n' 3 40 m') ys ≡ put_in id (held_at r.cache r.entry r.row ys) expires (cache_at (received_cache h) xs) = sym (ap (λ (c : TimeBoundCache). cache_at c ys) sized) ∙ x.cache in
+    let all : received_in n' (table l 2 ys) m' (table l 3 ys) ≡ put_in id tt expires (state_of h xs).received =
+    inserted-in l 2 2 n 3 40 m xs ys (lit< tt) (omega (arith, sound.fit.within)) (lit< tt) (omega (arith, sound.fit.within)) n' m' wn wm nothing_of id expires (held_at r.cache r.entry r.row ys) at in
+    let hn : n' ≤ l.R = omega (arith, most.entries, sym (count_entries l 2 2 n' 3 40 m' ys (lit< tt) wn (lit< tt) wm nothing_of) ∙ ap (λ (c : Cache (Unit {0})). length c.entries) all) in
+    let hm : m' ≤ 2 * l.R = omega (arith, most.expiry, sym (count-expiry l 2 2 n' 3 40 m' ys (lit< tt) wn (lit< tt) wm nothing_of) ∙ ap (λ (c : Cache (Unit {0})). length c.expiry) all) in
     record {
       state =
           received-state h xs ys sound n' m' ((n + 1) * 2) ((m + 1) * 40) (omega (arith, sound.fit.within)) (omega (arith, sound.fit.within)) e x.only
-          ∙ ap (λ (c : Cache (Unit {0})). withReceived c (state_of h xs)) all;
+          ∙ ap (λ (c : Cache (Unit {0})). with_received c (state_of h xs)) all;
       sound =
           received-laid h xs ys sound n' m' ((n + 1) * 2) ((m + 1) * 40) (omega (arith, sound.fit.within)) (omega (arith, sound.fit.within)) e x.only hn hm
           (subst (λ (c : TimeBoundCache). SoundCache c ys) sized x.sound);

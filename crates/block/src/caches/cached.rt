@@ -3,11 +3,11 @@ ghost use Rattle.std.specs.Prelude.{◌≡◌, ◌<◌, length};
 ghost use Rattle.storage.specs.Lists.Map.{keys};
 ghost use Rattle.storage.specs.Rows.Ident.{id_of};
 ghost use Rattle.storage.specs.Rows.Sorted.{FoundIs};
-ghost use Rattle.time_cache.specs.TimeCache.{holds, laterCache};
+ghost use Rattle.time_cache.specs.TimeCache.{holds, later_cache};
 ghost use Rattle.block.specs.View.{state_of};
 ghost use Rattle.block.specs.Sound.{Sound};
 ghost use Rattle.block.specs.Caches.InBlock.{InOrder};
-ghost use Rattle.block.specs.Caches.CachedReads.{ContentIs, cachedAt};
+ghost use Rattle.block.specs.Caches.CachedReads.{ContentIs, cached_at};
 
 use crate::head::Head;
 use crate::{head, time_caches};
@@ -44,7 +44,7 @@ pub fn is_cached(h: Head, block: &[u8], id: Id) -> bool
 // How many of the cached messages `expire_until` leaves.
 pub fn cached_later(h: Head, block: &[u8], instant: Millis) -> usize
     requires { Sound h block.now × InOrder (state_of h block.now).cache }
-    ensures { result ≡ length (laterCache instant.0 (state_of h block.now).cache).entries }
+    ensures { result ≡ length (later_cache instant.0 (state_of h block.now).cache).entries }
 {
     let c = time_caches::cached_cache(h);
     c.entries_later(block, instant)
@@ -53,7 +53,7 @@ pub fn cached_later(h: Head, block: &[u8], instant: Millis) -> usize
 // How many expiry entries of the cached messages `expire_until` leaves.
 pub fn cached_rows_later(h: Head, block: &[u8], instant: Millis) -> usize
     requires { Sound h block.now × InOrder (state_of h block.now).cache }
-    ensures { result ≡ length (laterCache instant.0 (state_of h block.now).cache).expiry }
+    ensures { result ≡ length (later_cache instant.0 (state_of h block.now).cache).expiry }
 {
     let c = time_caches::cached_cache(h);
     c.rows_later(block, instant)
@@ -62,7 +62,7 @@ pub fn cached_rows_later(h: Head, block: &[u8], instant: Millis) -> usize
 // Whether `expire_until` leaves a message among the cached messages.
 pub fn is_cached_later(h: Head, block: &[u8], id: Id, instant: Millis) -> bool
     requires { Sound h block.now × InOrder (state_of h block.now).cache }
-    ensures { result ≡ holds (id_of id) (laterCache instant.0 (state_of h block.now).cache) }
+    ensures { result ≡ holds (id_of id) (later_cache instant.0 (state_of h block.now).cache) }
 {
     let c = time_caches::cached_cache(h);
     c.contains_later(block, id, instant)
@@ -87,7 +87,7 @@ pub fn cached_content(h: Head, block: &[u8], i: usize) -> Content
 // The round at which cached message i is sent on.
 pub fn cached_round(h: Head, block: &[u8], i: usize) -> Round
     requires { Sound h block.now × (i < h.live.cached) }
-    ensures { result.0 ≡ (cachedAt (state_of h block.now) i).round }
+    ensures { result.0 ≡ (cached_at (state_of h block.now) i).round }
 {
     let a = head::cached_at(h.limits) + 4 * i;
     let round = word::load2(block, a + 2);

@@ -3,12 +3,12 @@ ghost use Rattle.std.specs.Prelude.{◌≡◌, ◌≤◌, ◌<◌, length};
 ghost use Rattle.storage.specs.Lists.Map.{keys};
 ghost use Rattle.storage.specs.Rows.Ident.{id_of};
 ghost use Rattle.storage.specs.Rows.Sorted.{FoundIs};
-ghost use Rattle.time_cache.specs.TimeCache.{laterCache};
+ghost use Rattle.time_cache.specs.TimeCache.{later_cache};
 ghost use Rattle.block.specs.View.{state_of};
 ghost use Rattle.block.specs.Sound.{Sound};
 ghost use Rattle.block.specs.Goes.{Goes};
-ghost use Rattle.block.specs.Caches.InBlock.{InOrder, graftedLeft};
-ghost use Rattle.block.specs.Caches.GraftSteps.{graftsAt, GraftIs, first_at, kept_at};
+ghost use Rattle.block.specs.Caches.InBlock.{InOrder, grafted_left};
+ghost use Rattle.block.specs.Caches.GraftSteps.{grafts_at, GraftIs, first_at, kept_at};
 
 use crate::head::Head;
 use crate::hops::Hop;
@@ -30,7 +30,7 @@ pub fn find_grafted(h: Head, block: &[u8], id: Id) -> Found
 // `expire_until` of the grafted messages.
 pub fn expire_grafted(mut h: Head, block: &mut [u8], instant: Millis) -> Head
     requires { Sound h block.old × InOrder (state_of h block.old).grafted }
-    ensures { Goes (graftedLeft instant.0) h block.old result block.new }
+    ensures { Goes (grafted_left instant.0) h block.old result block.new }
 {
     let c = time_caches::grafted_cache(h);
     let e = c.expire_until(block, instant);
@@ -44,7 +44,7 @@ pub fn expire_grafted(mut h: Head, block: &mut [u8], instant: Millis) -> Head
 // How many peers are grafted for the grafted message i.
 pub fn graft_count(h: Head, block: &[u8], i: usize) -> usize
     requires { Sound h block.now × (i < h.live.grafted) }
-    ensures { (result ≡ length (graftsAt (state_of h block.now) i).peers) × (result ≤ 32) }
+    ensures { (result ≡ length (grafts_at (state_of h block.now) i).peers) × (result ≤ 32) }
 {
     let at = head::grafted_at(h.limits) + 119 * i + 22;
     hops::count(block, at)
@@ -52,8 +52,8 @@ pub fn graft_count(h: Head, block: &[u8], i: usize) -> usize
 
 // Peer j of the grafted message i, by the number of its link, and its round.
 pub fn graft_at(h: Head, block: &[u8], i: usize, j: usize) -> Hop
-    requires { Sound h block.now × (i < h.live.grafted) × (j < length (graftsAt (state_of h block.now) i).peers) }
-    ensures { GraftIs h block.now (graftsAt (state_of h block.now) i).peers j result }
+    requires { Sound h block.now × (i < h.live.grafted) × (j < length (grafts_at (state_of h block.now) i).peers) }
+    ensures { GraftIs h block.now (grafts_at (state_of h block.now) i).peers j result }
 {
     let at = head::grafted_at(h.limits) + 119 * i + 22;
     hops::hop_at(block, at, j)
@@ -83,7 +83,7 @@ pub fn set_kept(h: Head, block: &mut [u8], i: usize, peer: u64)
 // How many of the grafted messages `expire_until` leaves.
 pub fn grafted_later(h: Head, block: &[u8], instant: Millis) -> usize
     requires { Sound h block.now × InOrder (state_of h block.now).grafted }
-    ensures { result ≡ length (laterCache instant.0 (state_of h block.now).grafted).entries }
+    ensures { result ≡ length (later_cache instant.0 (state_of h block.now).grafted).entries }
 {
     let c = time_caches::grafted_cache(h);
     c.entries_later(block, instant)
@@ -92,7 +92,7 @@ pub fn grafted_later(h: Head, block: &[u8], instant: Millis) -> usize
 // How many expiry entries of the grafted messages `expire_until` leaves.
 pub fn grafted_rows_later(h: Head, block: &[u8], instant: Millis) -> usize
     requires { Sound h block.now × InOrder (state_of h block.now).grafted }
-    ensures { result ≡ length (laterCache instant.0 (state_of h block.now).grafted).expiry }
+    ensures { result ≡ length (later_cache instant.0 (state_of h block.now).grafted).expiry }
 {
     let c = time_caches::grafted_cache(h);
     c.rows_later(block, instant)

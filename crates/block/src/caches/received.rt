@@ -1,11 +1,11 @@
 // `received_messages`: an entry is a place, a row is a time and an identifier.
 ghost use Rattle.std.specs.Prelude.{◌≡◌, length};
 ghost use Rattle.storage.specs.Rows.Ident.{id_of};
-ghost use Rattle.time_cache.specs.TimeCache.{holds, put, laterCache};
+ghost use Rattle.time_cache.specs.TimeCache.{holds, put, later_cache};
 ghost use Rattle.block.specs.View.{state_of};
 ghost use Rattle.block.specs.Sound.{Sound};
 ghost use Rattle.block.specs.Goes.{Goes};
-ghost use Rattle.block.specs.Caches.InBlock.{InOrder, AtMost, receivedAlso, receivedLeft};
+ghost use Rattle.block.specs.Caches.InBlock.{InOrder, AtMost, received_also, received_left};
 
 use crate::head::Head;
 use crate::time_caches;
@@ -24,7 +24,7 @@ pub fn is_received(h: Head, block: &[u8], id: Id) -> bool
 // "mark received" until `expires`: requires that what it leaves is within the limits.
 pub fn insert_received(mut h: Head, block: &mut [u8], id: Id, expires: Millis) -> Head
     requires { Sound h block.old × InOrder (state_of h block.old).received × AtMost h.limits.received (put (id_of id) tt expires.0 (state_of h block.old).received) }
-    ensures { Goes (receivedAlso (id_of id) expires.0) h block.old result block.new }
+    ensures { Goes (received_also (id_of id) expires.0) h block.old result block.new }
 {
     let c = time_caches::received_cache(h);
     let e = c.insert(block, id, expires);
@@ -38,7 +38,7 @@ pub fn insert_received(mut h: Head, block: &mut [u8], id: Id, expires: Millis) -
 // `expire_until` of the received messages.
 pub fn expire_received(mut h: Head, block: &mut [u8], instant: Millis) -> Head
     requires { Sound h block.old × InOrder (state_of h block.old).received }
-    ensures { Goes (receivedLeft instant.0) h block.old result block.new }
+    ensures { Goes (received_left instant.0) h block.old result block.new }
 {
     let c = time_caches::received_cache(h);
     let e = c.expire_until(block, instant);
@@ -52,7 +52,7 @@ pub fn expire_received(mut h: Head, block: &mut [u8], instant: Millis) -> Head
 // How many of the received messages `expire_until` leaves.
 pub fn received_later(h: Head, block: &[u8], instant: Millis) -> usize
     requires { Sound h block.now × InOrder (state_of h block.now).received }
-    ensures { result ≡ length (laterCache instant.0 (state_of h block.now).received).entries }
+    ensures { result ≡ length (later_cache instant.0 (state_of h block.now).received).entries }
 {
     let c = time_caches::received_cache(h);
     c.entries_later(block, instant)
@@ -61,7 +61,7 @@ pub fn received_later(h: Head, block: &[u8], instant: Millis) -> usize
 // How many expiry entries of the received messages `expire_until` leaves.
 pub fn received_rows_later(h: Head, block: &[u8], instant: Millis) -> usize
     requires { Sound h block.now × InOrder (state_of h block.now).received }
-    ensures { result ≡ length (laterCache instant.0 (state_of h block.now).received).expiry }
+    ensures { result ≡ length (later_cache instant.0 (state_of h block.now).received).expiry }
 {
     let c = time_caches::received_cache(h);
     c.rows_later(block, instant)
@@ -70,7 +70,7 @@ pub fn received_rows_later(h: Head, block: &[u8], instant: Millis) -> usize
 // Whether `expire_until` leaves a message among the received messages.
 pub fn is_received_later(h: Head, block: &[u8], id: Id, instant: Millis) -> bool
     requires { Sound h block.now × InOrder (state_of h block.now).received }
-    ensures { result ≡ holds (id_of id) (laterCache instant.0 (state_of h block.now).received) }
+    ensures { result ≡ holds (id_of id) (later_cache instant.0 (state_of h block.now).received) }
 {
     let c = time_caches::received_cache(h);
     c.contains_later(block, id, instant)

@@ -9,8 +9,8 @@ use Rattle.storage.specs.Lists.Base.{all, ascending}
 use Rattle.storage.specs.Lists.Map.{keys}
 use Rattle.storage.proofs.ListsLaws.MapLaws.{true≢, and_left, and_right, and_intro}
 use Rattle.storage.specs.Refs.Refs.{places}
-use Rattle.time_cache.specs.TimeCache.{inPopOrder}
-use Rattle.time_cache.specs.Tables.{refsAt, cacheAt, Sound, sound}
+use Rattle.time_cache.specs.TimeCache.{in_pop_order}
+use Rattle.time_cache.specs.Tables.{refs_at, cache_at, Sound, sound}
 use Rattle.time_cache.specs.declared.cache.TimeBoundCache.{TimeBoundCache}
 use Rattle.time_cache.proofs.Orders.{below_of, of-below}
 use Rattle.exports.specs.TimeCacheC.Handed.{Tells}
@@ -19,19 +19,19 @@ module _ (c : TimeBoundCache) (xs : List ℕ) where
   pub sound-of : sound c xs ≡ true → Sound c xs
   unfolding sound
   sound-of h =
-      let names = all (λ p. ltb p c.expiry.len) (places (refsAt c xs)) in
-      let up = ascending (keys (cacheAt c xs).entries) in
-      let order = inPopOrder (cacheAt c xs).expiry in
+      let names = all (λ p. ltb p c.expiry.len) (places (refs_at c xs)) in
+      let up = ascending (keys (cache_at c xs).entries) in
+      let order = in_pop_order (cache_at c xs).expiry in
       let both = and_left (names && up) order h in
       record {
-        below = below_of c.expiry.len (places (refsAt c xs)) (and_left names up both);
+        below = below_of c.expiry.len (places (refs_at c xs)) (and_left names up both);
         up = and_right names up both;
         order = and_right (names && up) order h;
       }
 
   pub of-sound : Sound c xs → sound c xs ≡ true
   unfolding sound
-  of-sound s = and_intro (and_intro (of-below c.expiry.len (places (refsAt c xs)) s.below) s.up) s.order
+  of-sound s = and_intro (and_intro (of-below c.expiry.len (places (refs_at c xs)) s.below) s.up) s.order
 
   -- the test of soundness, where P holds
   pub tells-sound : (P : Type 0) → P → (r : Bool) → r ≡ sound c xs → Tells (P × Sound c xs) r

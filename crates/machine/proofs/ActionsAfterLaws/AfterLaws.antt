@@ -9,50 +9,50 @@ use native.Mathlib.Omega.{arith}
 use borrow.Author.Tests.{eqb-false}
 use lib.Dec.{eqb}
 use lib.ListN.{length, get_or}
-use Rattle.storage.specs.Lists.Base.{concatMap}
+use Rattle.storage.specs.Lists.Base.{concat_map}
 use Rattle.storage.specs.Lists.Map.{keys}
 use Rattle.storage.proofs.ListsLaws.Branches.{if-on, if-same}
 use Rattle.storage.specs.Rows.Part.{part}
 use Rattle.storage.specs.Rows.Ident.{id_of}
 use Rattle.storage.specs.declared.rows.id.Id.{Id}
 use Rattle.time_cache.specs.TimeCache.{get}
-use Rattle.postcard.specs.Message.{Neighbors, toSwarm, toNeighbors, Emitted, actionBytes}
-use Rattle.postcard.specs.Values.{deliveryValue, wantedValue}
-use Rattle.postcard.specs.Events.{ihavesFrom}
+use Rattle.postcard.specs.Message.{Neighbors, to_swarm, to_neighbors, Emitted, action_bytes}
+use Rattle.postcard.specs.Values.{delivery_value, wanted_value}
+use Rattle.postcard.specs.Events.{ihaves_from}
 use Rattle.postcard.specs.declared.message.Wanted.{Wanted}
 use Rattle.postcard.specs.declared.message.Delivery.{Delivery}
 use Rattle.postcard.specs.declared.units.Round.{Round}
 use Rattle.protocol.specs.Links.{Links}
 use Rattle.protocol.specs.State.{State, Cached}
 use Rattle.protocol.specs.Run.{Room}
-use Rattle.decide.specs.RecordGrowth.{pushActions}
-use Rattle.decide.specs.Settled.{settled, settledActions}
-use Rattle.decide.specs.ActionsAfter.{lateActions, replyActions, graftActions, ihaveActions, sendGraftActions, dispatchActions, evictActions, announceActions}
+use Rattle.decide.specs.RecordGrowth.{push_actions}
+use Rattle.decide.specs.Settled.{settled, settled_actions}
+use Rattle.decide.specs.ActionsAfter.{late_actions, reply_actions, graft_actions, ihave_actions, send_graft_actions, dispatch_actions, evict_actions, announce_actions}
 use Rattle.block.specs.View.{state_of}
 use Rattle.block.specs.Fit.{Fit}
-use Rattle.block.specs.LinkSteps.{peerAt}
+use Rattle.block.specs.LinkSteps.{peer_at}
 use Rattle.block.specs.declared.head.Head.{Head}
 use Rattle.block.proofs.LinkLaws.{count-links}
 use Rattle.block.proofs.CachesLaws.CachedLaws.{count-cached}
 use Rattle.steps.specs.Stands.{Stands}
-use Rattle.steps.specs.Rooms.{roomsIn}
+use Rattle.steps.specs.Rooms.{rooms_in}
 use Rattle.steps.specs.Shared.{HeldIs}
 use Rattle.steps.specs.declared.Held.{Held}
 use Rattle.steps.specs.declared.Held.TheVariants.{At, Nothing}
 use Rattle.steps.proofs.StandsLaws.{links-up}
-use Rattle.steps.specs.Settled.Then.{noCached}
+use Rattle.steps.specs.Settled.Then.{no_cached}
 use Rattle.steps.specs.Grafts.Reads.{HeldBelow}
 use Rattle.steps.proofs.TicksLaws.ActionLaws.{no-action, one-action, actions-then}
 use Rattle.steps.proofs.TicksLaws.TickLaws.{settled-evict}
-use Rattle.payloads.specs.Eager.Reply.{Replying, heldCached, replyBytes}
+use Rattle.payloads.specs.Eager.Reply.{Replying, held_cached, reply_bytes}
 use Rattle.payloads.proofs.EagerLaws.ReplyLaws.{held-cached}
-use Rattle.payloads.specs.Late.Kinds.{lateAs}
+use Rattle.payloads.specs.Late.Kinds.{late_as}
 use Rattle.payloads.proofs.LateLaws.LateLaws.{settled-links}
-use Rattle.payloads.specs.Broadcast.Broadcasts.{broadcastBytes}
-use Rattle.machine.specs.Kinds.Meaning.{stepActions, stepFar}
+use Rattle.payloads.specs.Broadcast.Broadcasts.{broadcast_bytes}
+use Rattle.machine.specs.Kinds.Meaning.{step_actions, step_far}
 use Rattle.machine.specs.declared.kinds.Step.{Step}
 use Rattle.machine.specs.declared.kinds.Step.TheVariants as step
-use Rattle.machine.specs.ActionsAfter.After.{graftBytes, newBytes, stepBytes, callBytes}
+use Rattle.machine.specs.ActionsAfter.After.{graft_bytes, new_bytes, step_bytes, call_bytes}
 
 -- a first event leaves the record's flag
 settled-flag : (instant : ℕ) (s : State) → (settled instant s).timers.announce ≡ s.timers.announce
@@ -60,98 +60,98 @@ unfolding settled
 settled-flag instant s = if-on (λ (x : State). x.timers.announce) s.init _ _ ∙ if-same s.init refl refl
 
 -- the reply reads the record's flag alone
-reply-settled : (rooms : List Room) (sender id instant : ℕ) (o : Option Cached) (s : State) → replyActions rooms sender id o s ≡ replyActions rooms sender id o (settled instant s)
-unfolding replyActions
+reply-settled : (rooms : List Room) (sender id instant : ℕ) (o : Option Cached) (s : State) → reply_actions rooms sender id o s ≡ reply_actions rooms sender id o (settled instant s)
+unfolding reply_actions
 reply-settled rooms sender id instant none s = refl
-reply-settled rooms sender id instant (some c) s = sym (ap (pushActions rooms _ (sender ∷ [])) (settled-flag instant s))
+reply-settled rooms sender id instant (some c) s = sym (ap (push_actions rooms _ (sender ∷ [])) (settled-flag instant s))
 
 module _ (instant : ℕ) (rooms : List ℕ) (link : ℕ) (s : State) where
   -- a Graft without identifier
-  pub graft-none : graftBytes instant rooms link none s ≡ []
-  unfolding graftActions
+  pub graft-none : graft_bytes instant rooms link none s ≡ []
+  unfolding graft_actions
   graft-none = no-action
 
   -- a Graft of a message, given what is cached for it once a first event has evicted
-  pub graft-reply : (id : ℕ) (held : Held) → HeldIs noCached s.cache.entries id (get id (settled instant s).cache) held → replyBytes rooms link id held s ≡ graftBytes instant rooms link (some id) s
-  unfolding graftActions
+  pub graft-reply : (id : ℕ) (held : Held) → HeldIs no_cached s.cache.entries id (get id (settled instant s).cache) held → reply_bytes rooms link id held s ≡ graft_bytes instant rooms link (some id) s
+  unfolding graft_actions
   graft-reply id held e =
-      ap (concatMap actionBytes)
-      (reply-settled (roomsIn s rooms) (peerAt s link) id instant (heldCached held s) s
-      ∙ sym (ap (λ (o : Option Cached). replyActions (roomsIn s rooms) (peerAt s link) id o (settled instant s)) (held-cached s id (get id (settled instant s).cache) held e)))
+      ap (concat_map action_bytes)
+      (reply-settled (rooms_in s rooms) (peer_at s link) id instant (held_cached held s) s
+      ∙ sym (ap (λ (o : Option Cached). reply_actions (rooms_in s rooms) (peer_at s link) id o (settled instant s)) (held-cached s id (get id (settled instant s).cache) held e)))
 
 -- the link and the cached message are there
 pub replying : (h : Head) (xs : List ℕ) (link : ℕ) → Stands h xs → link < length (state_of h xs).links → Replying h xs link
 replying h xs link stands q = record { sound = stands.sound; up = links-up h xs stands; link = omega (arith, q, count-links h xs) }
 
-pub held-there : (h : Head) (xs : List ℕ) (id : ℕ) (found : Option Cached) (held : Held) → Fit h xs → HeldIs noCached (state_of h xs).cache.entries id found held → HeldBelow h.live.cached held
+pub held-there : (h : Head) (xs : List ℕ) (id : ℕ) (found : Option Cached) (held : Held) → Fit h xs → HeldIs no_cached (state_of h xs).cache.entries id found held → HeldBelow h.live.cached held
 held-there h xs id found (At i) fit e = omega (arith, e.below, count-cached h xs fit)
 held-there h xs id found Nothing fit e = tt
 
 -- the actions of each step
 module _ (event : List ℕ) (instant : ℕ) (rooms : List ℕ) (s : State) where
   abbrev room : List Room
-  room = roomsIn s rooms
+  room = rooms_in s rooms
 
-  abbrev settledTo : State
-  settledTo = settled instant s
+  abbrev settled_to : State
+  settled_to = settled instant s
 
-  pub of-nothing : stepBytes event instant rooms step.Nothing s ≡ []
-  unfolding stepActions
+  pub of-nothing : step_bytes event instant rooms step.Nothing s ≡ []
+  unfolding step_actions
   of-nothing = no-action
 
-  pub of-prune : (link : ℕ) → stepBytes event instant rooms (step.Prune link) s ≡ []
-  unfolding stepActions
+  pub of-prune : (link : ℕ) → step_bytes event instant rooms (step.Prune link) s ≡ []
+  unfolding step_actions
   of-prune link = no-action
 
-  pub of-new : (sender : ℕ) (id : Id) (start len : ℕ) (round : Round) → stepBytes event instant rooms (step.NewSwarm sender id start len round) s ≡ newBytes instant rooms sender (id_of id) (part start len event) round.0 s
-  unfolding stepActions
+  pub of-new : (sender : ℕ) (id : Id) (start len : ℕ) (round : Round) → step_bytes event instant rooms (step.NewSwarm sender id start len round) s ≡ new_bytes instant rooms sender (id_of id) (part start len event) round.0 s
+  unfolding step_actions
   of-new sender id start len round = refl
 
-  pub of-neighbors : (sender start len : ℕ) → stepBytes event instant rooms (step.NewNeighbors sender start len) s ≡ concatMap actionBytes (Emitted sender (part start len event) Neighbors ∷ [])
-  unfolding stepActions
+  pub of-neighbors : (sender start len : ℕ) → step_bytes event instant rooms (step.NewNeighbors sender start len) s ≡ concat_map action_bytes (Emitted sender (part start len event) Neighbors ∷ [])
+  unfolding step_actions
   of-neighbors sender start len = refl
 
   pub of-late : (sender : ℕ) (id : Id) (d : Delivery)
-      → stepBytes event instant rooms (step.Late sender id d) s ≡ concatMap actionBytes (lateActions room sender (lateAs sender (deliveryValue d) (id_of id) settledTo))
-  unfolding stepActions
+      → step_bytes event instant rooms (step.Late sender id d) s ≡ concat_map action_bytes (late_actions room sender (late_as sender (delivery_value d) (id_of id) settled_to))
+  unfolding step_actions
   of-late sender id d = refl
 
-  pub of-graft : (link : ℕ) (w : Wanted) → stepBytes event instant rooms (step.Graft link w) s ≡ graftBytes instant rooms link (wantedValue w) s
-  unfolding stepActions
-  of-graft link w = ap (λ (m : Links). concatMap actionBytes (graftActions room (get_or (keys m) link 0) (wantedValue w) settledTo)) (settled-links instant s)
+  pub of-graft : (link : ℕ) (w : Wanted) → step_bytes event instant rooms (step.Graft link w) s ≡ graft_bytes instant rooms link (wanted_value w) s
+  unfolding step_actions
+  of-graft link w = ap (λ (m : Links). concat_map action_bytes (graft_actions room (get_or (keys m) link 0) (wanted_value w) settled_to)) (settled-links instant s)
 
-  pub of-ihave : (link start count : ℕ) → stepBytes event instant rooms (step.IHave link start count) s ≡ concatMap actionBytes (ihaveActions (ihavesFrom event start count) settledTo)
-  unfolding stepActions
+  pub of-ihave : (link start count : ℕ) → step_bytes event instant rooms (step.IHave link start count) s ≡ concat_map action_bytes (ihave_actions (ihaves_from event start count) settled_to)
+  unfolding step_actions
   of-ihave link start count = refl
 
-  pub of-broadcast-swarm : (id : Id) (start len : ℕ) → stepBytes event instant rooms (step.BroadcastSwarm id start len) s ≡ broadcastBytes instant rooms (id_of id) (part start len event) toSwarm s
-  unfolding stepActions
+  pub of-broadcast-swarm : (id : Id) (start len : ℕ) → step_bytes event instant rooms (step.BroadcastSwarm id start len) s ≡ broadcast_bytes instant rooms (id_of id) (part start len event) to_swarm s
+  unfolding step_actions
   of-broadcast-swarm id start len = refl
 
   pub of-broadcast-neighbors : (id : Id) (start len : ℕ)
-      → stepBytes event instant rooms (step.BroadcastNeighbors id start len) s ≡ broadcastBytes instant rooms (id_of id) (part start len event) toNeighbors s
-  unfolding stepActions
+      → step_bytes event instant rooms (step.BroadcastNeighbors id start len) s ≡ broadcast_bytes instant rooms (id_of id) (part start len event) to_neighbors s
+  unfolding step_actions
   of-broadcast-neighbors id start len = refl
 
-  pub of-send-graft : (id : Id) → stepBytes event instant rooms (step.SendGraft id) s ≡ concatMap actionBytes (sendGraftActions room (id_of id) settledTo)
-  unfolding stepActions
+  pub of-send-graft : (id : Id) → step_bytes event instant rooms (step.SendGraft id) s ≡ concat_map action_bytes (send_graft_actions room (id_of id) settled_to)
+  unfolding step_actions
   of-send-graft id = refl
 
-  pub of-dispatch : stepBytes event instant rooms step.DispatchLazyPush s ≡ concatMap actionBytes (dispatchActions room settledTo)
-  unfolding stepActions
+  pub of-dispatch : step_bytes event instant rooms step.DispatchLazyPush s ≡ concat_map action_bytes (dispatch_actions room settled_to)
+  unfolding step_actions
   of-dispatch = refl
 
-  pub of-evict : stepBytes event instant rooms step.EvictCache s ≡ concatMap actionBytes (evictActions s)
-  unfolding stepActions
-  of-evict = ap (concatMap actionBytes) (settled-evict instant s)
+  pub of-evict : step_bytes event instant rooms step.EvictCache s ≡ concat_map action_bytes (evict_actions s)
+  unfolding step_actions
+  of-evict = ap (concat_map action_bytes) (settled-evict instant s)
 
-  pub of-announce : stepBytes event instant rooms step.AnnounceDropped s ≡ concatMap actionBytes (announceActions settledTo)
-  unfolding stepActions
+  pub of-announce : step_bytes event instant rooms step.AnnounceDropped s ≡ concat_map action_bytes (announce_actions settled_to)
+  unfolding step_actions
   of-announce = refl
 
   -- a call: a first event's, then the step's
-  pub of-call : (r : Step) → callBytes event instant rooms r s ≡ concatMap actionBytes (settledActions s) ++ stepBytes event instant rooms r s
-  of-call r = actions-then (settledActions s) (stepActions event room r settledTo)
+  pub of-call : (r : Step) → call_bytes event instant rooms r s ≡ concat_map action_bytes (settled_actions s) ++ step_bytes event instant rooms r s
+  of-call r = actions-then (settled_actions s) (step_actions event room r settled_to)
 
 -- the round of a new message that is not too far
 pub near : (n : ℕ) → eqb n 65535 ≡ false → n < 65536 → n < 65535
@@ -159,10 +159,10 @@ near n e q =
     let f : n ≡ 65535 → ⊥ = eqb-false n 65535 e in
     omega (arith, f, q)
 
-pub not-far : (sender : ℕ) (id : Id) (start len : ℕ) (round : Round) → stepFar (step.NewSwarm sender id start len round) ≡ false → eqb round.0 65535 ≡ false
-unfolding stepFar
+pub not-far : (sender : ℕ) (id : Id) (start len : ℕ) (round : Round) → step_far (step.NewSwarm sender id start len round) ≡ false → eqb round.0 65535 ≡ false
+unfolding step_far
 not-far sender id start len round e = e
 
 -- a message that is emitted
-pub emit-one : (event : List ℕ) (sender start len : ℕ) → concatMap actionBytes (Emitted sender (part start len event) Neighbors ∷ []) ≡ actionBytes (Emitted sender (part start len event) Neighbors)
+pub emit-one : (event : List ℕ) (sender start len : ℕ) → concat_map action_bytes (Emitted sender (part start len event) Neighbors ∷ []) ≡ action_bytes (Emitted sender (part start len event) Neighbors)
 emit-one event sender start len = one-action (Emitted sender (part start len event) Neighbors)

@@ -11,7 +11,7 @@ use Rattle.std.specs.Prelude.{if◌then◌else◌}
 use Rattle.storage.specs.Lists.Base.{filter, sum}
 use Rattle.storage.proofs.ListsLaws.MapLaws.{cases}
 use Rattle.postcard.specs.Message.{Action}
-use Rattle.decide.specs.Lengths.{actionLength}
+use Rattle.decide.specs.Lengths.{action_length}
 
 -- sums of lengths
 module _ {A : Type 0} (f : A → ℕ) where
@@ -27,7 +27,7 @@ module _ {A : Type 0} (f : A → ℕ) where
 
 -- these actions have at most n bytes
 pub record Light (n : ℕ) (xs : List Action) : Type 0 where
-  pub most : sum actionLength xs ≤ n
+  pub most : sum action_length xs ≤ n
 
 pub light-none : {n : ℕ} → Light n []
 unfolding sum
@@ -36,22 +36,22 @@ light-none = record { most = omega arith }
 pub light-more : {m n : ℕ} {xs : List Action} → Light m xs → m ≤ n → Light n xs
 light-more l h = record { most = omega (arith, l.most) }
 
-pub light-cons : {m n : ℕ} {a : Action} {xs : List Action} → actionLength a ≤ m → Light n xs → Light (m + n) (a ∷ xs)
+pub light-cons : {m n : ℕ} {a : Action} {xs : List Action} → action_length a ≤ m → Light n xs → Light (m + n) (a ∷ xs)
 unfolding sum
 light-cons h l = record { most = omega (arith, l.most) }
 
-pub light-one : {n : ℕ} {a : Action} → actionLength a ≤ n → Light n (a ∷ [])
+pub light-one : {n : ℕ} {a : Action} → action_length a ≤ n → Light n (a ∷ [])
 unfolding sum
 light-one h = record { most = omega arith }
 
 pub light-then : {m n : ℕ} {xs ys : List Action} → Light m xs → Light n ys → Light (m + n) (xs ++ ys)
-light-then {m} {n} {xs} {ys} k l = record { most = omega (arith, sum-append actionLength xs ys, k.most, l.most) }
+light-then {m} {n} {xs} {ys} k l = record { most = omega (arith, sum-append action_length xs ys, k.most, l.most) }
 
 pub light-if : {n : ℕ} {xs ys : List Action} (b : Bool) → Light n xs → Light n ys → Light n (if b then xs else ys)
 light-if true k l = k
 light-if false k l = l
 
 -- one action of at most n bytes for each element
-pub light-each : {A : Type 0} (f : A → Action) (n : ℕ) → ((x : A) → actionLength (f x) ≤ n) → (xs : List A) → Light (length xs * n) (map f xs)
+pub light-each : {A : Type 0} (f : A → Action) (n : ℕ) → ((x : A) → action_length (f x) ≤ n) → (xs : List A) → Light (length xs * n) (map f xs)
 light-each f n h [] = light-none
 light-each f n h (x ∷ xs) = light-more (light-cons (h x) (light-each f n h xs)) (omega (arith, mul-more n (length xs)))

@@ -1,4 +1,4 @@
--- What bounds the actions of a step: the links, the queue and the contents of the state are within document 01's ceilings, also once a first event has evicted.
+-- What bounds the actions of a step: the links, the queue and the contents of the state are within the specification's ceilings, also once a first event has evicted.
 -- Assumes nothing.
 use Prim.Native.Nat.{ℕ, ◌≤◌}
 use mathlib.Core.Path.{◌≡◌}
@@ -12,12 +12,12 @@ use Rattle.storage.specs.Lists.Base.{member, sum}
 use Rattle.storage.specs.Lists.Map.{Map, lookup}
 use Rattle.storage.proofs.ListsLaws.MapLaws.{cases}
 use Rattle.storage.proofs.ListsLaws.ListLaws.{length-filter, count-length}
-use Rattle.time_cache.specs.TimeCache.{Timed, value_of, get, laterCache}
-use Rattle.protocol.specs.Links.{Mark, Links, isEager, peersMarked, eagerPeers}
-use Rattle.protocol.specs.State.{State, Cached, withInit, withReceived, withGrafted, withCache}
-use Rattle.protocol.specs.Push.{eagerTargets}
+use Rattle.time_cache.specs.TimeCache.{Timed, value_of, get, later_cache}
+use Rattle.protocol.specs.Links.{Mark, Links, is_eager, peers_marked, eager_peers}
+use Rattle.protocol.specs.State.{State, Cached, with_init, with_received, with_grafted, with_cache}
+use Rattle.protocol.specs.Push.{eager_targets}
 use Rattle.decide.specs.Settled.{settled}
-use Rattle.decide.specs.SizesAfter.{contentLength}
+use Rattle.decide.specs.SizesAfter.{content_length}
 use Rattle.block.specs.View.{state_of}
 use Rattle.block.specs.Sound.{Sound, held}
 use Rattle.block.specs.declared.head.Head.{Head}
@@ -42,10 +42,10 @@ small-block h block sound = record {
     used = unfold state_of in sound.laid.used
 
 pub small-settled : (now : ℕ) (s : State) → Small s → Small (settled now s)
-unfolding settled laterCache
+unfolding settled later_cache
 small-settled now s small = by s.init
   where
-    by : (b : Bool) → Small (if b then s else withInit true (withGrafted (laterCache now s.grafted) (withReceived (laterCache now s.received) (withCache (laterCache now s.cache) s))))
+    by : (b : Bool) → Small (if b then s else with_init true (with_grafted (later_cache now s.grafted) (with_received (later_cache now s.received) (with_cache (later_cache now s.cache) s))))
     by true = small
     by false = record {
       links = small.links;
@@ -54,24 +54,24 @@ small-settled now s small = by s.init
     }
 
 -- a cached content is one of the contents
-found-few : (id : ℕ) (m : Map (Timed Cached)) → contentLength (value_of (lookup id m)) ≤ held m
-unfolding contentLength value_of lookup sum
+found-few : (id : ℕ) (m : Map (Timed Cached)) → content_length (value_of (lookup id m)) ≤ held m
+unfolding content_length value_of lookup sum
 found-few id [] = omega arith
 found-few id (e ∷ m) = cases (eqb id e.key) (λ q. rw q (omega arith)) (λ q. rw q (omega (arith, found-few id m)))
 
-pub cached-few : (id : ℕ) (s : State) → Small s → contentLength (get id s.cache) ≤ 1048576
+pub cached-few : (id : ℕ) (s : State) → Small s → content_length (get id s.cache) ≤ 1048576
 unfolding get
 cached-few id s small = omega (arith, found-few id s.cache.entries, small.cached)
 
 -- there are no more eager peers than links
-marked-few : (f : Mark → Bool) (l : Links) → length (peersMarked f l) ≤ length l
-unfolding peersMarked
+marked-few : (f : Mark → Bool) (l : Links) → length (peers_marked f l) ≤ length l
+unfolding peers_marked
 marked-few f [] = omega arith
 marked-few f (e ∷ l) = cases (f e.value) (λ q. rw q (omega (arith, marked-few f l))) (λ q. rw q (omega (arith, marked-few f l)))
 
-pub targets-few : (sender : ℕ) (skip : List ℕ) (s : State) → Small s → length (eagerTargets sender skip s) ≤ 32
-unfolding eagerTargets eagerPeers
+pub targets-few : (sender : ℕ) (skip : List ℕ) (s : State) → Small s → length (eager_targets sender skip s) ≤ 32
+unfolding eager_targets eager_peers
 targets-few sender skip s small =
     let keep : ℕ → Bool = λ p. not (eqb p s.settings.me) && not (eqb p sender) && not (member p skip) in
-    let ps : List ℕ = peersMarked isEager s.links in
-    omega (arith, length-filter keep ps, count-length keep ps, marked-few isEager s.links, small.links)
+    let ps : List ℕ = peers_marked is_eager s.links in
+    omega (arith, length-filter keep ps, count-length keep ps, marked-few is_eager s.links, small.links)

@@ -10,22 +10,22 @@ use borrow.Author.Tests.{leb-true, leb-false}
 use Rattle.storage.proofs.ListsLaws.MapLaws.{cases, true≢, and_right}
 use Rattle.blake3.specs.Blake3.{identifier}
 use Rattle.postcard.specs.Message.{Event}
-use Rattle.postcard.specs.Decode.{Decoded, decoded, faulty, decodeEvent}
-use Rattle.postcard.proofs.DecodeFaults.{faultOf, decode-faults}
-use Rattle.protocol.specs.State.{State, Counts, zeroCounts}
+use Rattle.postcard.specs.Decode.{Decoded, decoded, faulty, decode_event}
+use Rattle.postcard.proofs.DecodeFaults.{fault_of, decode-faults}
+use Rattle.protocol.specs.State.{State, Counts, zero_counts}
 use Rattle.protocol.specs.Run.{Room}
-use Rattle.protocol.specs.Answer.{Call, Outcome, refused, accepted, messageFits, countsStay, answerBlock}
-use Rattle.decide.specs.Sizes.{fitSizes}
-use Rattle.decide.specs.Settled.{tooFarBefore}
-use Rattle.decide.specs.SizesAfter.{sizesAfter}
+use Rattle.protocol.specs.Answer.{Call, Outcome, refused, accepted, message_fits, counts_stay, answer_block}
+use Rattle.decide.specs.Sizes.{fit_sizes}
+use Rattle.decide.specs.Settled.{too_far_before}
+use Rattle.decide.specs.SizesAfter.{sizes_after}
 use Rattle.block.specs.View.{state_of}
-use Rattle.block.specs.Header.{headIn}
-use Rattle.whole.specs.Held.{held, wholeBlock}
+use Rattle.block.specs.Header.{head_in}
+use Rattle.whole.specs.Held.{held, whole_block}
 use Rattle.whole.proofs.HeldLaws.{Wholly, wholly_of}
-use Rattle.machine.specs.Decided.{bytesAfter, lastDecided, decided}
+use Rattle.machine.specs.Decided.{bytes_after, last_decided, decided}
 use Rattle.machine.proofs.CoreLaws.{answer-5, answer-6, answer-fault, answer-event}
-use Rattle.machine.specs.LimitMet.LimitMet.{asking, limitMet}
-use Rattle.machine.specs.LimitMet.Decided.{eventPast}
+use Rattle.machine.specs.LimitMet.LimitMet.{asking, limit_met}
+use Rattle.machine.specs.LimitMet.Decided.{event_past}
 use Rattle.machine.proofs.LimitMetLaws.PastLaws.{sizes-none, none-sizes}
 use Rattle.machine.proofs.LimitMetLaws.LimitLaws.{zero-stays, limit-5, limit-6, limit-fault, limit-event}
 
@@ -40,34 +40,34 @@ unfolding number_of
 other o n e ne q = ne (sym e ∙ ap number_of q)
 
 module _ (rooms : List Room) (now : ℕ) (bytes : List ℕ) (e : Event) (s : State) (output : ℕ) where
-  decided-met : (c : Counts) → decided identifier rooms now bytes e s c output ≡ refused 13 → eventPast rooms now bytes e s ≡ 0 → ⊥
-  unfolding decided lastDecided eventPast number_of
+  decided-met : (c : Counts) → decided identifier rooms now bytes e s c output ≡ refused 13 → event_past rooms now bytes e s ≡ 0 → ⊥
+  unfolding decided last_decided event_past number_of
   decided-met c a z =
-      cases (messageFits s.settings.maxMessageSize bytes e)
-      (λ m. cases (countsStay e c)
-      (λ t. cases (tooFarBefore identifier now e s)
+      cases (message_fits s.settings.max_message_size bytes e)
+      (λ m. cases (counts_stay e c)
+      (λ t. cases (too_far_before identifier now e s)
       (λ f. other (refused 12) 12 refl (λ q. omega (arith, q)) (rw (m, t, f) at a))
-      (λ f. cases (fitSizes s.limits (sizesAfter identifier rooms now e s))
-      (λ g. cases (leb (length (bytesAfter identifier rooms now e s)) output)
+      (λ f. cases (fit_sizes s.limits (sizes_after identifier rooms now e s))
+      (λ g. cases (leb (length (bytes_after identifier rooms now e s)) output)
       (λ b. other (accepted _ _ _) 0 refl (λ q. omega (arith, q)) (rw (m, t, f, g, b) at a))
       (λ b. other (refused 14) 14 refl (λ q. omega (arith, q)) (rw (m, t, f, g, b) at a)))
-      (λ g. true≢ (sym g ∙ none-sizes s.limits (sizesAfter identifier rooms now e s) (rw (m, f) at z)))))
+      (λ g. true≢ (sym g ∙ none-sizes s.limits (sizes_after identifier rooms now e s) (rw (m, f) at z)))))
       (λ t. other (refused 11) 11 refl (λ q. omega (arith, q)) (rw (m, t) at a)))
       (λ m. other (refused 10) 10 refl (λ q. omega (arith, q)) (rw m at a))
 
-  decided-13 : (eventPast rooms now bytes e s ≡ 0 → ⊥) → decided identifier rooms now bytes e s zeroCounts output ≡ refused 13
-  unfolding decided lastDecided eventPast
+  decided-13 : (event_past rooms now bytes e s ≡ 0 → ⊥) → decided identifier rooms now bytes e s zero_counts output ≡ refused 13
+  unfolding decided last_decided event_past
   decided-13 z =
-      cases (messageFits s.settings.maxMessageSize bytes e)
-      (λ m. cases (tooFarBefore identifier now e s)
+      cases (message_fits s.settings.max_message_size bytes e)
+      (λ m. cases (too_far_before identifier now e s)
       (λ f. absurd (z (rw (m, f) refl)))
-      (λ f. cases (fitSizes s.limits (sizesAfter identifier rooms now e s))
-      (λ g. absurd (z (rw (m, f) (sizes-none s.limits (sizesAfter identifier rooms now e s) g))))
+      (λ f. cases (fit_sizes s.limits (sizes_after identifier rooms now e s))
+      (λ g. absurd (z (rw (m, f) (sizes-none s.limits (sizes_after identifier rooms now e s) g))))
       (λ g. rw (m, zero-stays e, f, g) refl)))
       (λ m. absurd (z (rw m refl)))
 
 -- a fault of the decoder is not 13
-not-fault : (n : ℕ) → faultOf {A = Event} (faulty n) ≡ true → n ≡ 13 → ⊥
+not-fault : (n : ℕ) → fault_of {A = Event} (faulty n) ≡ true → n ≡ 13 → ⊥
 not-fault n h q = omega (arith, leb-true n 9 (and_right (leb 7 n) (leb n 9) h), q)
 
 module _ (block : List ℕ) (k : Call) where
@@ -75,31 +75,31 @@ module _ (block : List ℕ) (k : Call) where
   asked = asking k.now k.event k.rooms
 
   abbrev met : ℕ
-  met = limitMet identifier (length block) (held block) (asking k.now k.event k.rooms)
+  met = limit_met identifier (length block) (held block) (asking k.now k.event k.rooms)
 
-  read-met : (c : Counts) (d : Decoded Event) → Wholly block → k.now ≤ 2 ^ 62 → decodeEvent k.event ≡ d → answerBlock identifier (length block) (held block) c k ≡ refused 13 → met ≡ 0 → ⊥
+  read-met : (c : Counts) (d : Decoded Event) → Wholly block → k.now ≤ 2 ^ 62 → decode_event k.event ≡ d → answer_block identifier (length block) (held block) c k ≡ refused 13 → met ≡ 0 → ⊥
   unfolding number_of
-  read-met c (faulty n) w l q a z = not-fault n (ap faultOf (sym q) ∙ decode-faults k.event) (ap number_of (sym (answer-fault block w c k n l q) ∙ a))
+  read-met c (faulty n) w l q a z = not-fault n (ap fault_of (sym q) ∙ decode-faults k.event) (ap number_of (sym (answer-fault block w c k n l q) ∙ a))
   read-met c (decoded e) w l q a z =
-      decided-met k.rooms k.now k.event e (state_of (headIn block) block) k.output c (sym (answer-event block w c k e l q) ∙ a) (sym (limit-event block w asked e l q) ∙ z)
+      decided-met k.rooms k.now k.event e (state_of (head_in block) block) k.output c (sym (answer-event block w c k e l q) ∙ a) (sym (limit-event block w asked e l q) ∙ z)
 
-  pub met-13 : (c : Counts) → answerBlock identifier (length block) (held block) c k ≡ refused 13 → met ≡ 0 → ⊥
+  pub met-13 : (c : Counts) → answer_block identifier (length block) (held block) c k ≡ refused 13 → met ≡ 0 → ⊥
   unfolding number_of
   met-13 c a z =
-      cases (wholeBlock block)
+      cases (whole_block block)
       (λ w. cases (leb k.now (2 ^ 62))
-      (λ l. read-met c (decodeEvent k.event) (wholly_of block w) (leb-true k.now (2 ^ 62) l) refl a z)
+      (λ l. read-met c (decode_event k.event) (wholly_of block w) (leb-true k.now (2 ^ 62) l) refl a z)
       (λ l. other (refused 6) 6 refl (λ q. omega (arith, q)) (sym (answer-6 block (wholly_of block w) c k (leb-false k.now (2 ^ 62) l)) ∙ a)))
       (λ w. other (refused 5) 5 refl (λ q. omega (arith, q)) (sym (answer-5 block c k w) ∙ a))
 
-  read-13 : (d : Decoded Event) → Wholly block → k.now ≤ 2 ^ 62 → decodeEvent k.event ≡ d → (met ≡ 0 → ⊥) → answerBlock identifier (length block) (held block) zeroCounts k ≡ refused 13
+  read-13 : (d : Decoded Event) → Wholly block → k.now ≤ 2 ^ 62 → decode_event k.event ≡ d → (met ≡ 0 → ⊥) → answer_block identifier (length block) (held block) zero_counts k ≡ refused 13
   read-13 (faulty n) w l q z = absurd (z (limit-fault block w asked n l q))
-  read-13 (decoded e) w l q z = answer-event block w zeroCounts k e l q ∙ decided-13 k.rooms k.now k.event e (state_of (headIn block) block) k.output (λ p. z (limit-event block w asked e l q ∙ p))
+  read-13 (decoded e) w l q z = answer-event block w zero_counts k e l q ∙ decided-13 k.rooms k.now k.event e (state_of (head_in block) block) k.output (λ p. z (limit-event block w asked e l q ∙ p))
 
-  pub limit-13 : (met ≡ 0 → ⊥) → answerBlock identifier (length block) (held block) zeroCounts k ≡ refused 13
+  pub limit-13 : (met ≡ 0 → ⊥) → answer_block identifier (length block) (held block) zero_counts k ≡ refused 13
   limit-13 z =
-      cases (wholeBlock block)
+      cases (whole_block block)
       (λ w. cases (leb k.now (2 ^ 62))
-      (λ l. read-13 (decodeEvent k.event) (wholly_of block w) (leb-true k.now (2 ^ 62) l) refl z)
+      (λ l. read-13 (decode_event k.event) (wholly_of block w) (leb-true k.now (2 ^ 62) l) refl z)
       (λ l. absurd (z (limit-6 block (wholly_of block w) asked (leb-false k.now (2 ^ 62) l)))))
       (λ w. absurd (z (limit-5 block asked w)))

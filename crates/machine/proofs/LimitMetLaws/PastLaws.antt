@@ -9,26 +9,26 @@ use Rattle.std.specs.Prelude.{if◌then◌else◌}
 use Rattle.storage.proofs.ListsLaws.Branches.{if-both}
 use Rattle.storage.proofs.ListsLaws.MapLaws.{and_left, and_right, and_intro}
 use Rattle.protocol.specs.State.{State, Limits}
-use Rattle.protocol.specs.Whole.{contentHeld, cacheFits, fits}
-use Rattle.decide.specs.Sizes.{Sizes, sizesOf, fitSizes}
+use Rattle.protocol.specs.Whole.{content_held, cache_fits, fits}
+use Rattle.decide.specs.Sizes.{Sizes, sizes_of, fit_sizes}
 use Rattle.decide.proofs.TableSizes.{fits-sizes}
-use Rattle.machine.specs.LimitMet.LimitMet.{limitPast}
-use Rattle.machine.specs.LimitMet.Decided.{sizesPast}
+use Rattle.machine.specs.LimitMet.LimitMet.{limit_past}
+use Rattle.machine.specs.LimitMet.Decided.{sizes_past}
 
 -- a test of two
 both-tests : (a b : Bool) (x y : ℕ) → (if not (a && b) then x else y) ≡ (if not a then x else if not b then x else y)
 both-tests true b x y = refl
 both-tests false b x y = refl
 
-pub past-sizes : (s : State) → limitPast s ≡ sizesPast s.limits (sizesOf s)
-unfolding limitPast cacheFits sizesPast sizesOf
+pub past-sizes : (s : State) → limit_past s ≡ sizes_past s.limits (sizes_of s)
+unfolding limit_past cache_fits sizes_past sizes_of
 past-sizes s =
     if-both (not (leb (length s.links) s.limits.N)) refl
     (both-tests (leb (length s.received.entries) s.limits.R) (leb (length s.received.expiry) (2 * s.limits.R)) 2 _
     ∙ if-both (not (leb (length s.received.entries) s.limits.R)) refl (if-both (not (leb (length s.received.expiry) (2 * s.limits.R))) refl
     (both-tests (leb (length s.cache.entries) s.limits.C) (leb (length s.cache.expiry) (2 * s.limits.C)) 3 _
     ∙ if-both (not (leb (length s.cache.entries) s.limits.C)) refl (if-both (not (leb (length s.cache.expiry) (2 * s.limits.C))) refl
-    (if-both (not (leb (contentHeld s) s.limits.B)) refl
+    (if-both (not (leb (content_held s) s.limits.B)) refl
     (both-tests (leb (length s.grafted.entries) s.limits.G) (leb (length s.grafted.expiry) (2 * s.limits.G)) 5 _))))))
 
 -- a test that is passed
@@ -44,13 +44,13 @@ module _ (l : Limits) (z : Sizes) where
   r = leb z.received l.R
 
   abbrev r' : Bool
-  r' = leb z.receivedExpiry (2 * l.R)
+  r' = leb z.received_expiry (2 * l.R)
 
   abbrev c : Bool
   c = leb z.cached l.C
 
   abbrev c' : Bool
-  c' = leb z.cachedExpiry (2 * l.C)
+  c' = leb z.cached_expiry (2 * l.C)
 
   abbrev b : Bool
   b = leb z.content l.B
@@ -59,7 +59,7 @@ module _ (l : Limits) (z : Sizes) where
   g = leb z.grafted l.G
 
   abbrev g' : Bool
-  g' = leb z.graftedExpiry (2 * l.G)
+  g' = leb z.grafted_expiry (2 * l.G)
 
   abbrev m : Bool
   m = leb z.missing l.S
@@ -74,8 +74,8 @@ module _ (l : Limits) (z : Sizes) where
   d = leb z.recorded l.D
 
   -- numbers within every limit are past none
-  pub sizes-none : fitSizes l z ≡ true → sizesPast l z ≡ 0
-  unfolding fitSizes sizesPast
+  pub sizes-none : fit_sizes l z ≡ true → sizes_past l z ≡ 0
+  unfolding fit_sizes sizes_past
   sizes-none e =
       let e8 = and_left (n && (r && r') && (c && c') && b && (g && g') && m && t && q) d e in
       let e7 = and_left (n && (r && r') && (c && c') && b && (g && g') && m && t) q e8 in
@@ -103,8 +103,8 @@ module _ (l : Limits) (z : Sizes) where
       ) refl
 
   -- numbers that are past none are within every limit
-  pub none-sizes : sizesPast l z ≡ 0 → fitSizes l z ≡ true
-  unfolding fitSizes sizesPast
+  pub none-sizes : sizes_past l z ≡ 0 → fit_sizes l z ≡ true
+  unfolding fit_sizes sizes_past
   none-sizes e =
       let a1 = passed n 0 _ e in
       let a2 = passed r 1 _ a1.1 in
@@ -121,8 +121,8 @@ module _ (l : Limits) (z : Sizes) where
       and_intro (and_intro (and_intro (and_intro (and_intro (and_intro (and_intro (and_intro a1.0 (and_intro a2.0 a3.0)) (and_intro a4.0 a5.0)) a6.0) (and_intro a7.0 a8.0)) a9.0) a10.0) a11.0) a12.0
 
 -- "within every limit": past none
-pub past-none : (s : State) → fits s ≡ true → limitPast s ≡ 0
-past-none s e = past-sizes s ∙ sizes-none s.limits (sizesOf s) (sym (fits-sizes s) ∙ e)
+pub past-none : (s : State) → fits s ≡ true → limit_past s ≡ 0
+past-none s e = past-sizes s ∙ sizes-none s.limits (sizes_of s) (sym (fits-sizes s) ∙ e)
 
-pub none-past : (s : State) → limitPast s ≡ 0 → fits s ≡ true
-none-past s e = fits-sizes s ∙ none-sizes s.limits (sizesOf s) (sym (past-sizes s) ∙ e)
+pub none-past : (s : State) → limit_past s ≡ 0 → fits s ≡ true
+none-past s e = fits-sizes s ∙ none-sizes s.limits (sizes_of s) (sym (past-sizes s) ∙ e)

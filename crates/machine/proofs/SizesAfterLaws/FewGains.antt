@@ -13,15 +13,15 @@ use Rattle.std.specs.Prelude.{if◌then◌else◌}
 use Rattle.storage.specs.Lists.Base.{count, any}
 use Rattle.protocol.specs.State.{State, Note, Cached}
 use Rattle.protocol.specs.Run.{Room}
-use Rattle.protocol.specs.Push.{forPeer, notes}
-use Rattle.decide.specs.Rooms.{backPeers}
-use Rattle.decide.specs.RecordGrowth.{pushGain, pushGains}
-use Rattle.payloads.specs.Eager.Reply.{replyGains}
+use Rattle.protocol.specs.Push.{for_peer, notes}
+use Rattle.decide.specs.Rooms.{back_peers}
+use Rattle.decide.specs.RecordGrowth.{push_gain, push_gains}
+use Rattle.payloads.specs.Eager.Reply.{reply_gains}
 
 -- "unless … all have 4,096"
-gain-few : (id : ℕ) (ds : List Note) (extra p : ℕ) → length ds + extra ≤ 4096 → length ds + (pushGain id ds extra p + extra) ≤ 4096
-unfolding pushGain
-gain-few id ds extra p h = on (leb 256 (count (forPeer p) ds)) (leb 4096 (length ds + extra)) (any (notes p id) ds) refl
+gain-few : (id : ℕ) (ds : List Note) (extra p : ℕ) → length ds + extra ≤ 4096 → length ds + (push_gain id ds extra p + extra) ≤ 4096
+unfolding push_gain
+gain-few id ds extra p h = on (leb 256 (count (for_peer p) ds)) (leb 4096 (length ds + extra)) (any (notes p id) ds) refl
   where
     on : (x y z : Bool) → leb 4096 (length ds + extra) ≡ y → length ds + ((if x || y || z then 0 else 1) + extra) ≤ 4096
     on true y z e = omega (arith, h)
@@ -30,16 +30,16 @@ gain-few id ds extra p h = on (leb 256 (count (forPeer p) ds)) (leb 4096 (length
     on false false false e = omega (arith, h, leb-false 4096 (length ds + extra) e)
 
 -- a push
-gains-few : (id : ℕ) (ds : List Note) (extra : ℕ) (ps : List ℕ) → length ds + extra ≤ 4096 → length ds + extra + pushGains id ds extra ps ≤ 4096
-unfolding pushGains
+gains-few : (id : ℕ) (ds : List Note) (extra : ℕ) (ps : List ℕ) → length ds + extra ≤ 4096 → length ds + extra + push_gains id ds extra ps ≤ 4096
+unfolding push_gains
 gains-few id ds extra [] h = omega (arith, h)
-gains-few id ds extra (p ∷ ps) h = omega (arith, gains-few id ds (pushGain id ds extra p + extra) ps (gain-few id ds extra p h))
+gains-few id ds extra (p ∷ ps) h = omega (arith, gains-few id ds (push_gain id ds extra p + extra) ps (gain-few id ds extra p h))
 
-pub push-few : (id : ℕ) (ds : List Note) (ps : List ℕ) → length ds ≤ 4096 → pushGains id ds 0 ps ≤ 4096
+pub push-few : (id : ℕ) (ds : List Note) (ps : List ℕ) → length ds ≤ 4096 → push_gains id ds 0 ps ≤ 4096
 push-few id ds ps h = omega (arith, gains-few id ds 0 ps (omega (arith, h)))
 
 -- a reply
-pub reply-few : (rooms : List Room) (sender id : ℕ) (c : Option Cached) (s : State) → length s.dropped ≤ 4096 → replyGains rooms sender id c s ≤ 4096
-unfolding replyGains
+pub reply-few : (rooms : List Room) (sender id : ℕ) (c : Option Cached) (s : State) → length s.dropped ≤ 4096 → reply_gains rooms sender id c s ≤ 4096
+unfolding reply_gains
 reply-few rooms sender id none s h = omega arith
-reply-few rooms sender id (some c) s h = push-few id s.dropped (backPeers rooms (sender ∷ [])) h
+reply-few rooms sender id (some c) s h = push-few id s.dropped (back_peers rooms (sender ∷ [])) h

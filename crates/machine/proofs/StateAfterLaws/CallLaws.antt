@@ -8,30 +8,30 @@ use lib.ListN.{length}
 use Rattle.std.specs.Prelude.{if◌then◌else◌}
 use Rattle.storage.specs.Lists.Map.{keys}
 use Rattle.protocol.specs.Links.{Links}
-use Rattle.protocol.specs.State.{State, withInit}
+use Rattle.protocol.specs.State.{State, with_init}
 use Rattle.protocol.specs.Ticks.{evict}
 use Rattle.protocol.specs.Whole.{fits}
 use Rattle.decide.specs.Settled.{settled}
-use Rattle.decide.specs.StateAfter.{firstState}
+use Rattle.decide.specs.StateAfter.{first_state}
 use Rattle.block.specs.View.{state_of}
 use Rattle.block.specs.Goes.{Goes}
 use Rattle.block.specs.declared.head.Head.{Head}
-use Rattle.steps.specs.Rooms.{roomsIn}
+use Rattle.steps.specs.Rooms.{rooms_in}
 use Rattle.steps.proofs.RoomsLaws.{same-rooms-in}
 use Rattle.steps.proofs.SettledLaws.ThenLaws.{init-of}
 use Rattle.steps.proofs.ContentsLaws.StandsAfter.{stands_after, kept_of, kept-first}
-use Rattle.machine.specs.Kinds.Meaning.{stepState, StepHeld}
+use Rattle.machine.specs.Kinds.Meaning.{step_state, StepHeld}
 use Rattle.machine.specs.declared.kinds.Step.{Step}
 use Rattle.machine.specs.declared.kinds.Step.TheVariants as step
 use Rattle.machine.proofs.KindsLaws.MeaningLaws.{first-settled, settled-links}
-use Rattle.machine.specs.StateAfter.StepAfter.{steppedIn, calledIn, Stepping, Calling}
+use Rattle.machine.specs.StateAfter.StepAfter.{stepped_in, called_in, Stepping, Calling}
 
 -- the mark of a first event
-first-init : (instant : ℕ) (s : State) → (firstState instant s).init ≡ true
-unfolding firstState evict
+first-init : (instant : ℕ) (s : State) → (first_state instant s).init ≡ true
+unfolding first_state evict
 first-init instant s = on s.init refl
   where
-    on : (b : Bool) → s.init ≡ b → (if b then s else evict instant (withInit true s)).init ≡ true
+    on : (b : Bool) → s.init ≡ b → (if b then s else evict instant (with_init true s)).init ≡ true
     on true e = e
     on false e = refl
 
@@ -51,7 +51,7 @@ held_same bytes s t step.DispatchLazyPush e a = a
 held_same bytes s t step.EvictCache e a = a
 held_same bytes s t step.AnnounceDropped e a = a
 
-module _ (bytes array : List ℕ) (instant : ℕ) (r : Step) (h : Head) (xs : List ℕ) (asks : Calling bytes array instant r h xs) (g : Head) (ys : List ℕ) (first : Goes (firstState instant) h xs g ys) where
+module _ (bytes array : List ℕ) (instant : ℕ) (r : Step) (h : Head) (xs : List ℕ) (asks : Calling bytes array instant r h xs) (g : Head) (ys : List ℕ) (first : Goes (first_state instant) h xs g ys) where
   abbrev s : State
   s = state_of h xs
 
@@ -64,10 +64,10 @@ module _ (bytes array : List ℕ) (instant : ℕ) (r : Step) (h : Head) (xs : Li
   same-links : t.links ≡ s.links
   same-links = ap (λ (x : State). x.links) now-settled ∙ settled-links instant s
 
-  same_step : steppedIn bytes array instant r t ≡ calledIn bytes array instant r s
+  same_step : stepped_in bytes array instant r t ≡ called_in bytes array instant r s
   same_step =
-      let rooms : roomsIn t array ≡ roomsIn s array = same-rooms-in t s array (ap (λ (l : Links). keys l) same-links) in
-      λ k. stepState bytes (rooms k) instant r (now-settled k)
+      let rooms : rooms_in t array ≡ rooms_in s array = same-rooms-in t s array (ap (λ (l : Links). keys l) same-links) in
+      λ k. step_state bytes (rooms k) instant r (now-settled k)
 
   pub first-stepping : Stepping bytes array instant r g ys
   first-stepping = record {
@@ -79,5 +79,5 @@ module _ (bytes array : List ℕ) (instant : ℕ) (r : Step) (h : Head) (xs : Li
     fits = ap (λ (x : State). fits x) same_step ∙ asks.fits;
   }
 
-  pub call-goes : (f : Head) (zs : List ℕ) → Goes (steppedIn bytes array instant r) g ys f zs → Goes (calledIn bytes array instant r) h xs f zs
+  pub call-goes : (f : Head) (zs : List ℕ) → Goes (stepped_in bytes array instant r) g ys f zs → Goes (called_in bytes array instant r) h xs f zs
   call-goes f zs e = record { state = e.state ∙ same_step; sound = e.sound }

@@ -2,28 +2,28 @@
 -- Assumes nothing.
 use Rattle.std.specs.Prelude.{ℕ, List, ◌++◌}
 use Rattle.std.proofs.Math.Option.{Option}
-use Rattle.storage.specs.Lists.Base.{concatMap}
-use Rattle.postcard.specs.Message.{actionBytes}
+use Rattle.storage.specs.Lists.Base.{concat_map}
+use Rattle.postcard.specs.Message.{action_bytes}
 use Rattle.protocol.specs.State.{State}
-use Rattle.decide.specs.Settled.{settled, settledActions}
-use Rattle.decide.specs.ActionsAfter.{newActions, graftActions}
-use Rattle.block.specs.LinkSteps.{peerAt}
-use Rattle.steps.specs.Rooms.{roomsIn}
-use Rattle.machine.specs.Kinds.Meaning.{stepActions}
+use Rattle.decide.specs.Settled.{settled, settled_actions}
+use Rattle.decide.specs.ActionsAfter.{new_actions, graft_actions}
+use Rattle.block.specs.LinkSteps.{peer_at}
+use Rattle.steps.specs.Rooms.{rooms_in}
+use Rattle.machine.specs.Kinds.Meaning.{step_actions}
 use Rattle.machine.specs.declared.kinds.Step.{Step}
 
 -- the actions of a Graft from the neighbour of a link, once a first event has evicted
-abbrev pub graftBytes : ℕ → List ℕ → ℕ → Option ℕ → State → List ℕ
-graftBytes instant rooms link wanted s = concatMap actionBytes (graftActions (roomsIn s rooms) (peerAt s link) wanted (settled instant s))
+abbrev pub graft_bytes : ℕ → List ℕ → ℕ → Option ℕ → State → List ℕ
+graft_bytes instant rooms link wanted s = concat_map action_bytes (graft_actions (rooms_in s rooms) (peer_at s link) wanted (settled instant s))
 
 -- the actions of a new Swarm message, once a first event has evicted
-abbrev pub newBytes : ℕ → List ℕ → ℕ → ℕ → List ℕ → ℕ → State → List ℕ
-newBytes instant rooms sender id content round s = concatMap actionBytes (newActions (roomsIn s rooms) sender id content round (settled instant s))
+abbrev pub new_bytes : ℕ → List ℕ → ℕ → ℕ → List ℕ → ℕ → State → List ℕ
+new_bytes instant rooms sender id content round s = concat_map action_bytes (new_actions (rooms_in s rooms) sender id content round (settled instant s))
 
 -- the actions of a step, once a first event has evicted
-abbrev pub stepBytes : List ℕ → ℕ → List ℕ → Step → State → List ℕ
-stepBytes event instant rooms r s = concatMap actionBytes (stepActions event (roomsIn s rooms) r (settled instant s))
+abbrev pub step_bytes : List ℕ → ℕ → List ℕ → Step → State → List ℕ
+step_bytes event instant rooms r s = concat_map action_bytes (step_actions event (rooms_in s rooms) r (settled instant s))
 
 -- the actions of a call: those of a first event, then those of the step
-abbrev pub callBytes : List ℕ → ℕ → List ℕ → Step → State → List ℕ
-callBytes event instant rooms r s = concatMap actionBytes (settledActions s ++ stepActions event (roomsIn s rooms) r (settled instant s))
+abbrev pub call_bytes : List ℕ → ℕ → List ℕ → Step → State → List ℕ
+call_bytes event instant rooms r s = concat_map action_bytes (settled_actions s ++ step_actions event (rooms_in s rooms) r (settled instant s))

@@ -4,7 +4,7 @@ use Rattle.std.specs.Prelude.{ℕ, suc, max, not, List, eqb, if◌then◌else◌
 use Rattle.time_cache.specs.TimeCache.{holds}
 use Rattle.postcard.specs.Message.{Swarm, Neighbors, Message, Gossip, Prune, Graft, IHave, Event, Received, Broadcast, Fired, Up, Down}
 use Rattle.protocol.specs.State.{State, Counts}
-use Rattle.protocol.specs.Handle.{countMessage}
+use Rattle.protocol.specs.Handle.{count_message}
 use Rattle.decide.specs.Settled.{settled}
 
 -- "largest r + 1"
@@ -13,20 +13,20 @@ raised round c = record { payload = c.payload; control = c.control; hops = max c
 
 module _ (hash : List ℕ → ℕ) where
   -- a new Swarm message of round r raises the largest round to r + 1; `s` is the state that a first event leaves
-  unfoldable pub messageCounts : Message → State → Counts → Counts
-  messageCounts (Gossip id content (Swarm round)) s c =
+  unfoldable pub message_counts : Message → State → Counts → Counts
+  message_counts (Gossip id content (Swarm round)) s c =
       if not (eqb (hash content) id) then c
       else if holds id s.received then c
       else raised (suc round) c
-  messageCounts (Gossip id content Neighbors) s c = c
-  messageCounts Prune s c = c
-  messageCounts (Graft wanted round) s c = c
-  messageCounts (IHave hs) s c = c
+  message_counts (Gossip id content Neighbors) s c = c
+  message_counts Prune s c = c
+  message_counts (Graft wanted round) s c = c
+  message_counts (IHave hs) s c = c
 
   -- the counts after the call
-  unfoldable pub countsAfterCall : ℕ → Event → State → Counts → Counts
-  countsAfterCall now (Received p m) s c = messageCounts m (settled now s) (countMessage m c)
-  countsAfterCall now (Broadcast content scope) s c = c
-  countsAfterCall now (Fired t) s c = c
-  countsAfterCall now (Up p) s c = c
-  countsAfterCall now (Down p) s c = c
+  unfoldable pub counts_after_call : ℕ → Event → State → Counts → Counts
+  counts_after_call now (Received p m) s c = message_counts m (settled now s) (count_message m c)
+  counts_after_call now (Broadcast content scope) s c = c
+  counts_after_call now (Fired t) s c = c
+  counts_after_call now (Up p) s c = c
+  counts_after_call now (Down p) s c = c

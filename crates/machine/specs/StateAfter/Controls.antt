@@ -2,16 +2,16 @@
 -- Assumes nothing.
 use Rattle.std.specs.Prelude.{ℕ, List}
 use Rattle.std.proofs.Math.Option.{Option}
-use Rattle.protocol.specs.Links.{addLazy}
-use Rattle.protocol.specs.State.{State, withLinks}
-use Rattle.decide.specs.StateAfter.{graftState}
-use Rattle.block.specs.LinkSteps.{peerAt}
-use Rattle.steps.specs.Rooms.{roomsIn}
+use Rattle.protocol.specs.Links.{add_lazy}
+use Rattle.protocol.specs.State.{State, with_links}
+use Rattle.decide.specs.StateAfter.{graft_state}
+use Rattle.block.specs.LinkSteps.{peer_at}
+use Rattle.steps.specs.Rooms.{rooms_in}
 
 -- a Prune: the peer of link l is lazy
-abbrev pub prunedAt : ℕ → State → State
-prunedAt l s = withLinks (addLazy (peerAt s l) s.links) s
+abbrev pub pruned_at : ℕ → State → State
+pruned_at l s = with_links (add_lazy (peer_at s l) s.links) s
 
 -- a Graft: the peer of link l is eager, and gets the message that it wants
-abbrev pub graftedAt : List ℕ → ℕ → Option ℕ → State → State
-graftedAt array l wanted s = graftState (roomsIn s array) (peerAt s l) wanted s
+abbrev pub grafted_at : List ℕ → ℕ → Option ℕ → State → State
+grafted_at array l wanted s = graft_state (rooms_in s array) (peer_at s l) wanted s

@@ -1,6 +1,6 @@
 // The state after the step of an event, and after a first event's work and the step.
 ghost use Rattle.block.specs.Goes.{Goes};
-ghost use Rattle.machine.specs.StateAfter.StepAfter.{steppedIn, calledIn, Stepping, Calling};
+ghost use Rattle.machine.specs.StateAfter.StepAfter.{stepped_in, called_in, Stepping, Calling};
 
 use crate::kinds::Step;
 use crate::state_after::{controls, swarms};
@@ -20,7 +20,7 @@ pub fn step_state(
     step: Step,
 ) -> Head
     requires { Stepping event.now rooms.now instant.0 step h block.old }
-    ensures { Goes (steppedIn event.now rooms.now instant.0 step) h block.old result block.new }
+    ensures { Goes (stepped_in event.now rooms.now instant.0 step) h block.old result block.new }
 {
     match step {
         Step::Nothing => h,
@@ -79,7 +79,7 @@ pub fn call_state(
     step: Step,
 ) -> Head
     requires { Calling event.now rooms.now instant.0 step h block.old }
-    ensures { Goes (calledIn event.now rooms.now instant.0 step) h block.old result block.new }
+    ensures { Goes (called_in event.now rooms.now instant.0 step) h block.old result block.new }
 {
     let g = taking::first_event(h, block, instant);
     step_state(g, block, instant, rooms, event, step)

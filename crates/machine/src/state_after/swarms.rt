@@ -5,8 +5,8 @@ ghost use Rattle.storage.specs.Rows.Ident.{id_of};
 ghost use Rattle.block.specs.Goes.{Goes};
 ghost use Rattle.steps.specs.Stands.{Step};
 ghost use Rattle.machine.specs.Kinds.Meaning.{ContentHeld};
-ghost use Rattle.payloads.specs.Broadcast.Broadcasts.{broadcastIn};
-ghost use Rattle.payloads.specs.NewGossip.News.{newIn};
+ghost use Rattle.payloads.specs.Broadcast.Broadcasts.{broadcast_in};
+ghost use Rattle.payloads.specs.NewGossip.News.{new_in};
 
 use block::head::Head;
 use payloads::{broadcast, new_gossip};
@@ -26,8 +26,8 @@ pub fn new_swarm(
     len: usize,
     round: Round,
 ) -> Head
-    requires { Step (newIn instant.0 rooms.now sender (id_of id) (part start len event.now) round.0) h block.old × (h.live.init ≡ true) × ContentHeld event.now start len × (eqb round.0 65535 ≡ false) × (instant.0 ≤ 2 ^ 62) }
-    ensures { Goes (newIn instant.0 rooms.now sender (id_of id) (part start len event.now) round.0) h block.old result block.new }
+    requires { Step (new_in instant.0 rooms.now sender (id_of id) (part start len event.now) round.0) h block.old × (h.live.init ≡ true) × ContentHeld event.now start len × (eqb round.0 65535 ≡ false) × (instant.0 ≤ 2 ^ 62) }
+    ensures { Goes (new_in instant.0 rooms.now sender (id_of id) (part start len event.now) round.0) h block.old result block.new }
 {
     let end = start + len;
     new_gossip::on_gossip(
@@ -53,8 +53,8 @@ pub fn broadcast_swarm(
     start: usize,
     len: usize,
 ) -> Head
-    requires { Step (broadcastIn instant.0 rooms.now (id_of id) (part start len event.now)) h block.old × ContentHeld event.now start len × (instant.0 ≤ 2 ^ 62) }
-    ensures { Goes (broadcastIn instant.0 rooms.now (id_of id) (part start len event.now)) h block.old result block.new }
+    requires { Step (broadcast_in instant.0 rooms.now (id_of id) (part start len event.now)) h block.old × ContentHeld event.now start len × (instant.0 ≤ 2 ^ 62) }
+    ensures { Goes (broadcast_in instant.0 rooms.now (id_of id) (part start len event.now)) h block.old result block.new }
 {
     let end = start + len;
     broadcast::broadcast(h, block, instant, rooms, id, &event[start..end])

@@ -13,12 +13,12 @@ use borrow.Author.Tests.{ltb-true, ltb-false, leb-true, eqb-true, eqb-false, le-
 use Rattle.storage.specs.Lists.Base.{all}
 use Rattle.storage.proofs.ListsLaws.MapLaws.{cases, true≢, and_left, and_right}
 use Rattle.storage.specs.Rows.Part.{part}
-use Rattle.postcard.specs.Number.{Read, got, fault, ◌then◌, readBytes, lastGroup, readGroups, readNumber}
+use Rattle.postcard.specs.Number.{Read, got, fault, ◌then◌, read_bytes, last_group, read_groups, read_number}
 use Rattle.postcard.specs.Wide.{Bytes}
 use Rattle.postcard.proofs.FieldBack.{bytes-head, bytes_drop, joined, not-got, got-value, got-rest}
 use Rattle.protocol.specs.Answer.{Call}
-use Rattle.protocol.specs.Panel.{readLengthed, readRecord}
-use Rattle.panel.specs.Records.Reading.{recordCall, Whole, Never, Bad, Cut, mayFit, Timed, Lengthed}
+use Rattle.protocol.specs.Panel.{read_lengthed, read_record}
+use Rattle.panel.specs.Records.Reading.{record_call, Whole, Never, Bad, Cut, may_fit, Timed, Lengthed}
 
 -- reading `r` of some bytes, and `s` of the same with `more` after them: what was read stays read, and so does every fault but 7
 Stays : {A : Type 0} → List ℕ → Read A → Read A → Type 0
@@ -30,35 +30,35 @@ unfolding Stays
 stays_then more (got a rest) s f h k = rw h (k a rest)
 stays_then more (fault n) s f h k = λ other. ap (λ (x : Read _). x then f) (h other)
 
-last-stays : (first : Bool) (top b : ℕ) (rest more : List ℕ) → Stays more (lastGroup first top b rest) (lastGroup first top b (rest ++ more))
-unfolding Stays lastGroup
+last-stays : (first : Bool) (top b : ℕ) (rest more : List ℕ) → Stays more (last_group first top b rest) (last_group first top b (rest ++ more))
+unfolding Stays last_group
 last-stays first top b rest more =
     cases (leb b top)
     (λ p. cases (eqb b 0 && not first) (λ q. rw (p, q) (λ o. refl)) (λ q. rw (p, q) refl))
     (λ p. rw p (λ o. refl))
 
-groups-stay : (first : Bool) (left top : ℕ) (bytes more : List ℕ) → Stays more (readGroups false first left top bytes) (readGroups false first left top (bytes ++ more))
-unfolding Stays readGroups
+groups-stay : (first : Bool) (left top : ℕ) (bytes more : List ℕ) → Stays more (read_groups false first left top bytes) (read_groups false first left top (bytes ++ more))
+unfolding Stays read_groups
 groups-stay first zero top [] more = λ o. absurd (o refl)
 groups-stay first zero top (b ∷ bytes) more = last-stays first top b bytes more
 groups-stay first (suc left) top [] more = λ o. absurd (o refl)
 groups-stay first (suc left) top (b ∷ bytes) more =
     cases (ltb b 128)
     (λ p. rw p (last-stays first 127 b bytes more))
-    (λ p. rw p (stays_then more (readGroups false false left top bytes) (readGroups false false left top (bytes ++ more)) (λ high rest. got ((b - 128) + 128 * high) rest)
+    (λ p. rw p (stays_then more (read_groups false false left top bytes) (read_groups false false left top (bytes ++ more)) (λ high rest. got ((b - 128) + 128 * high) rest)
     (groups-stay false left top bytes more) (λ a rest. refl)))
 
-number-stays : (bytes more : List ℕ) → Stays more (readNumber bytes) (readNumber (bytes ++ more))
-unfolding readNumber
+number-stays : (bytes more : List ℕ) → Stays more (read_number bytes) (read_number (bytes ++ more))
+unfolding read_number
 number-stays bytes more = groups-stay true 9 1 bytes more
 
 -- a number that was read stays
-pub number-got : (bytes more : List ℕ) {n : ℕ} {rest : List ℕ} → readNumber bytes ≡ got n rest → readNumber (bytes ++ more) ≡ got n (rest ++ more)
+pub number-got : (bytes more : List ℕ) {n : ℕ} {rest : List ℕ} → read_number bytes ≡ got n rest → read_number (bytes ++ more) ≡ got n (rest ++ more)
 unfolding Stays
 number-got bytes more h = rw h at (number-stays bytes more)
 
 -- a number that is too wide or not shortest stays so
-pub number-bad : (bytes more : List ℕ) {n : ℕ} → readNumber bytes ≡ fault n → (n ≡ 7 → ⊥) → readNumber (bytes ++ more) ≡ fault n
+pub number-bad : (bytes more : List ℕ) {n : ℕ} → read_number bytes ≡ fault n → (n ≡ 7 → ⊥) → read_number (bytes ++ more) ≡ fault n
 unfolding Stays
 number-bad bytes more h o = (rw h at (number-stays bytes more)) o
 
@@ -67,8 +67,8 @@ Short : {A : Type 0} → ℕ → List ℕ → Read A → Type 0
 Short left bytes (got a rest) = length bytes ≤ length rest + suc left
 Short left bytes (fault n) = n ≡ 7 → length bytes ≤ left
 
-last-short : (first : Bool) (left top b : ℕ) (bytes : List ℕ) → Short left (b ∷ bytes) (lastGroup first top b bytes)
-unfolding Short lastGroup
+last-short : (first : Bool) (left top b : ℕ) (bytes : List ℕ) → Short left (b ∷ bytes) (last_group first top b bytes)
+unfolding Short last_group
 last-short first left top b bytes =
     cases (leb b top)
     (λ p. cases (eqb b 0 && not first) (λ q. rw (p, q) (λ e. omega arith)) (λ q. rw (p, q) (omega arith)))
@@ -79,29 +79,29 @@ unfolding Short
 more-short left b bytes f (got a rest) h = omega arith
 more-short left b bytes f (fault n) h = λ e. let k : length bytes ≤ left = h e in omega arith
 
-groups-short : (first : Bool) (left top : ℕ) (bytes : List ℕ) → Short left bytes (readGroups false first left top bytes)
-unfolding Short readGroups
+groups-short : (first : Bool) (left top : ℕ) (bytes : List ℕ) → Short left bytes (read_groups false first left top bytes)
+unfolding Short read_groups
 groups-short first zero top [] = λ e. omega arith
 groups-short first zero top (b ∷ bytes) = last-short first zero top b bytes
 groups-short first (suc left) top [] = λ e. omega arith
 groups-short first (suc left) top (b ∷ bytes) =
     cases (ltb b 128)
     (λ p. rw p (last-short first (suc left) 127 b bytes))
-    (λ p. rw p (more-short left b bytes (λ high. (b - 128) + 128 * high) (readGroups false false left top bytes) (groups-short false left top bytes)))
+    (λ p. rw p (more-short left b bytes (λ high. (b - 128) + 128 * high) (read_groups false false left top bytes) (groups-short false left top bytes)))
 
 -- a number takes at most ten bytes
-pub number_short : (bytes : List ℕ) {n : ℕ} {rest : List ℕ} → readNumber bytes ≡ got n rest → length bytes ≤ length rest + 10
-unfolding readNumber Short
+pub number_short : (bytes : List ℕ) {n : ℕ} {rest : List ℕ} → read_number bytes ≡ got n rest → length bytes ≤ length rest + 10
+unfolding read_number Short
 number_short bytes h = rw h at (groups-short true 9 1 bytes)
 
 -- and nine when it is cut
-pub cut_short : (bytes : List ℕ) → readNumber bytes ≡ fault 7 → length bytes ≤ 9
-unfolding readNumber Short
+pub cut_short : (bytes : List ℕ) → read_number bytes ≡ fault 7 → length bytes ≤ 9
+unfolding read_number Short
 cut_short bytes h = (rw h at (groups-short true 9 1 bytes)) refl
 
 -- a last group is no cut
-last-whole : (first : Bool) (top b : ℕ) (bytes : List ℕ) → lastGroup first top b bytes ≡ fault 7 → ⊥
-unfolding lastGroup
+last-whole : (first : Bool) (top b : ℕ) (bytes : List ℕ) → last_group first top b bytes ≡ fault 7 → ⊥
+unfolding last_group
 last-whole first top b bytes h =
     cases (leb b top)
     (λ p. cases (eqb b 0 && not first) (λ q. eight (rw (p, q) at h)) (λ q. not-got (sym (rw (p, q) at h))))
@@ -118,46 +118,46 @@ more_cut f (fault n) h = h
 -- a number that one byte 1 more completes
 record Completes (first : Bool) (left top : ℕ) (bytes : List ℕ) : Type 0 where
   value : ℕ
-  reads : readGroups false first left top (bytes ++ (1 ∷ [])) ≡ got value []
+  reads : read_groups false first left top (bytes ++ (1 ∷ [])) ≡ got value []
 
-groups-complete : (first : Bool) (left top : ℕ) (bytes : List ℕ) → 1 ≤ top → readGroups false first left top bytes ≡ fault 7 → Completes first left top bytes
-unfolding readGroups lastGroup
+groups-complete : (first : Bool) (left top : ℕ) (bytes : List ℕ) → 1 ≤ top → read_groups false first left top bytes ≡ fault 7 → Completes first left top bytes
+unfolding read_groups last_group
 groups-complete first zero top [] h e = record { value = 1; reads = rw (le-leb 1 top h) refl }
 groups-complete first zero top (b ∷ bytes) h e = absurd (last-whole first top b bytes e)
 groups-complete first (suc left) top [] h e = record { value = 1; reads = refl }
 groups-complete first (suc left) top (b ∷ bytes) h e =
     cases (ltb b 128)
     (λ p. absurd (last-whole first 127 b bytes (rw p at e)))
-    (λ p. let k = groups-complete false left top bytes h (more_cut (λ high. (b - 128) + 128 * high) (readGroups false false left top bytes) (rw p at e)) in
+    (λ p. let k = groups-complete false left top bytes h (more_cut (λ high. (b - 128) + 128 * high) (read_groups false false left top bytes) (rw p at e)) in
     record { value = (b - 128) + 128 * k.value; reads = rw (p, k.reads) refl })
 
 -- a number that is cut, without its first byte
 record Peeled (left top b : ℕ) (bytes : List ℕ) : Type 0 where
   goes_on : 128 ≤ b
-  cut : readGroups false false left top bytes ≡ fault 7
+  cut : read_groups false false left top bytes ≡ fault 7
 
-peel : (first : Bool) (left top b : ℕ) (bytes : List ℕ) → readGroups false first (suc left) top (b ∷ bytes) ≡ fault 7 → Peeled left top b bytes
-unfolding readGroups
+peel : (first : Bool) (left top b : ℕ) (bytes : List ℕ) → read_groups false first (suc left) top (b ∷ bytes) ≡ fault 7 → Peeled left top b bytes
+unfolding read_groups
 peel first left top b bytes e =
     cases (ltb b 128)
     (λ p. absurd (last-whole first 127 b bytes (rw p at e)))
-    (λ p. record { goes_on = ltb-false b 128 p; cut = more_cut (λ high. (b - 128) + 128 * high) (readGroups false false left top bytes) (rw p at e) })
+    (λ p. record { goes_on = ltb-false b 128 p; cut = more_cut (λ high. (b - 128) + 128 * high) (read_groups false false left top bytes) (rw p at e) })
 
 -- a number that was read, without its first byte
 record Opened (left top b n : ℕ) (bytes rest : List ℕ) : Type 0 where
   high : ℕ
-  reads : readGroups false false left top bytes ≡ got high rest
+  reads : read_groups false false left top bytes ≡ got high rest
   value : n ≡ (b - 128) + 128 * high
 
-unpeel : (first : Bool) (left top b n : ℕ) (bytes rest : List ℕ) → 128 ≤ b → readGroups false first (suc left) top (b ∷ bytes) ≡ got n rest → Opened left top b n bytes rest
-unfolding readGroups
+unpeel : (first : Bool) (left top b n : ℕ) (bytes rest : List ℕ) → 128 ≤ b → read_groups false first (suc left) top (b ∷ bytes) ≡ got n rest → Opened left top b n bytes rest
+unfolding read_groups
 unpeel first left top b n bytes rest h e =
-    let j = joined (readGroups false false left top bytes) (λ high end. got ((b - 128) + 128 * high) end) n rest (rw (le-ltb b 128 h) at e) in
+    let j = joined (read_groups false false left top bytes) (λ high end. got ((b - 128) + 128 * high) end) n rest (rw (le-ltb b 128 h) at e) in
     record { high = j.value; reads = j.before ∙ ap (λ (x : List ℕ). got j.value x) (got-rest j.after); value = sym (got-value j.after) }
 
 -- "shortest": groups after the first make no 0
-last_positive : (top b n : ℕ) (bytes rest : List ℕ) → lastGroup false top b bytes ≡ got n rest → 1 ≤ n
-unfolding lastGroup
+last_positive : (top b n : ℕ) (bytes rest : List ℕ) → last_group false top b bytes ≡ got n rest → 1 ≤ n
+unfolding last_group
 last_positive top b n bytes rest h =
     cases (leb b top)
     (λ p. cases (eqb b 0)
@@ -172,8 +172,8 @@ last_positive top b n bytes rest h =
     positive zero z = absurd (z refl)
     positive (suc n) z = omega arith
 
-groups-positive : (left top n : ℕ) (bytes rest : List ℕ) → readGroups false false left top bytes ≡ got n rest → 1 ≤ n
-unfolding readGroups
+groups-positive : (left top n : ℕ) (bytes rest : List ℕ) → read_groups false false left top bytes ≡ got n rest → 1 ≤ n
+unfolding read_groups
 groups-positive zero top n [] rest h = not-got h
 groups-positive zero top n (b ∷ bytes) rest h = last_positive top b n bytes rest h
 groups-positive (suc left) top n [] rest h = not-got h
@@ -184,8 +184,8 @@ groups-positive (suc left) top n (b ∷ bytes) rest h =
     omega (arith, o.value, groups-positive left top o.high bytes rest o.reads))
 
 -- a length that is cut, and begins as none of at most 16,384 does, is larger
-pub too_long : (bytes more : List ℕ) (n : ℕ) (rest : List ℕ) → readNumber bytes ≡ fault 7 → mayFit bytes ≡ false → readNumber (bytes ++ more) ≡ got n rest → 16384 < n
-unfolding readNumber mayFit
+pub too_long : (bytes more : List ℕ) (n : ℕ) (rest : List ℕ) → read_number bytes ≡ fault 7 → may_fit bytes ≡ false → read_number (bytes ++ more) ≡ got n rest → 16384 < n
+unfolding read_number may_fit
 too_long [] more n rest h f e = true≢ (sym f)
 too_long (a ∷ []) more n rest h f e = true≢ (sym f)
 too_long (a ∷ b ∷ []) more n rest h f e =
@@ -221,8 +221,8 @@ Takes : {A : Type 0} → List ℕ → Read A → Type 0
 Takes bytes (got a rest) = length rest < length bytes
 Takes bytes (fault n) = Unit {0}
 
-last-takes : (first : Bool) (top b : ℕ) (bytes : List ℕ) → Takes (b ∷ bytes) (lastGroup first top b bytes)
-unfolding Takes lastGroup
+last-takes : (first : Bool) (top b : ℕ) (bytes : List ℕ) → Takes (b ∷ bytes) (last_group first top b bytes)
+unfolding Takes last_group
 last-takes first top b bytes = cases (leb b top) (λ p. cases (eqb b 0 && not first) (λ q. rw (p, q) tt) (λ q. rw (p, q) (omega arith))) (λ p. rw p tt)
 
 more-takes : (b : ℕ) (bytes : List ℕ) (f : ℕ → ℕ) (r : Read ℕ) → Takes bytes r → Takes (b ∷ bytes) (r then λ high rest. got (f high) rest)
@@ -230,18 +230,18 @@ unfolding Takes
 more-takes b bytes f (got a rest) h = omega arith
 more-takes b bytes f (fault n) h = tt
 
-groups-take : (first : Bool) (left top : ℕ) (bytes : List ℕ) → Takes bytes (readGroups false first left top bytes)
-unfolding Takes readGroups
+groups-take : (first : Bool) (left top : ℕ) (bytes : List ℕ) → Takes bytes (read_groups false first left top bytes)
+unfolding Takes read_groups
 groups-take first zero top [] = tt
 groups-take first zero top (b ∷ bytes) = last-takes first top b bytes
 groups-take first (suc left) top [] = tt
 groups-take first (suc left) top (b ∷ bytes) =
     cases (ltb b 128)
     (λ p. rw p (last-takes first 127 b bytes))
-    (λ p. rw p (more-takes b bytes (λ high. (b - 128) + 128 * high) (readGroups false false left top bytes) (groups-take false left top bytes)))
+    (λ p. rw p (more-takes b bytes (λ high. (b - 128) + 128 * high) (read_groups false false left top bytes) (groups-take false left top bytes)))
 
-number-takes : (bytes : List ℕ) {n : ℕ} {rest : List ℕ} → readNumber bytes ≡ got n rest → length rest < length bytes
-unfolding readNumber Takes
+number-takes : (bytes : List ℕ) {n : ℕ} {rest : List ℕ} → read_number bytes ≡ got n rest → length rest < length bytes
+unfolding read_number Takes
 number-takes bytes h = rw h at (groups-take true 9 1 bytes)
 
 -- as many zeros
@@ -265,12 +265,12 @@ record Filled (bytes : List ℕ) : Type 0 where
   wide : Bytes more
   n : ℕ
   left : List ℕ
-  reads : readNumber (bytes ++ more) ≡ got n left
+  reads : read_number (bytes ++ more) ≡ got n left
   small : n ≤ 16384
   enough : n ≤ length left
 
-fill : (bytes : List ℕ) → Bytes bytes → readNumber bytes ≡ fault 7 → mayFit bytes ≡ true → Filled bytes
-unfolding readNumber readGroups lastGroup mayFit Bytes all
+fill : (bytes : List ℕ) → Bytes bytes → read_number bytes ≡ fault 7 → may_fit bytes ≡ true → Filled bytes
+unfolding read_number read_groups last_group may_fit Bytes all
 fill [] w h f = record { more = 0 ∷ []; wide = refl; n = 0; left = []; reads = refl; small = omega arith; enough = omega arith }
 fill (a ∷ []) w h f =
     let p = peel true 8 1 a [] h in
@@ -302,9 +302,9 @@ fill (a ∷ b ∷ []) w h f =
 fill (a ∷ b ∷ c ∷ bytes) w h f = true≢ f
 
 -- a time, a length of at most 16,384 and as many bytes are a record
-pub record_of : (bytes : List ℕ) {t n : ℕ} {rest left : List ℕ} → readNumber bytes ≡ got t rest → readNumber rest ≡ got n left → n ≤ 16384 → n ≤ length left
-    → readRecord bytes ≡ got (recordCall t (take n left)) (drop n left)
-unfolding readRecord readLengthed readBytes
+pub record_of : (bytes : List ℕ) {t n : ℕ} {rest left : List ℕ} → read_number bytes ≡ got t rest → read_number rest ≡ got n left → n ≤ 16384 → n ≤ length left
+    → read_record bytes ≡ got (record_call t (take n left)) (drop n left)
+unfolding read_record read_lengthed read_bytes
 record_of bytes {n} {left} e l s h = rw (e, l, le-leb n 16384 s, le-leb n (length left) h) refl
 
 -- and nothing else is
@@ -313,21 +313,21 @@ record Parts (bytes : List ℕ) (k : Call) (end : List ℕ) : Type 0 where
   n : ℕ
   rest : List ℕ
   left : List ℕ
-  time : readNumber bytes ≡ got t rest
-  long : readNumber rest ≡ got n left
+  time : read_number bytes ≡ got t rest
+  long : read_number rest ≡ got n left
   small : n ≤ 16384
   enough : n ≤ length left
-  call : recordCall t (take n left) ≡ k
+  call : record_call t (take n left) ≡ k
   after : drop n left ≡ end
 
-parts : (bytes : List ℕ) (k : Call) (end : List ℕ) → readRecord bytes ≡ got k end → Parts bytes k end
-unfolding readRecord readLengthed readBytes
+parts : (bytes : List ℕ) (k : Call) (end : List ℕ) → read_record bytes ≡ got k end → Parts bytes k end
+unfolding read_record read_lengthed read_bytes
 parts bytes k end h =
-    let j = joined (readNumber bytes) _ k end h in
-    let l = joined (readNumber j.middle) _ k end j.after in
+    let j = joined (read_number bytes) _ k end h in
+    let l = joined (read_number j.middle) _ k end j.after in
     cases (leb l.value 16384)
     (λ p. cases (leb l.value (length l.middle))
-    (λ q. let g : got (recordCall j.value (take l.value l.middle)) (drop l.value l.middle) ≡ got k end = rw (p, q) at l.after in
+    (λ q. let g : got (record_call j.value (take l.value l.middle)) (drop l.value l.middle) ≡ got k end = rw (p, q) at l.after in
     record {
       t = j.value;
       n = l.value;
@@ -344,10 +344,10 @@ parts bytes k end h =
     (λ p. not-got (rw p at l.after))
 
 -- a record that was read stays, whatever follows
-pub record-stays : (bytes more : List ℕ) {k : Call} {end : List ℕ} → readRecord bytes ≡ got k end → readRecord (bytes ++ more) ≡ got k (end ++ more)
+pub record-stays : (bytes more : List ℕ) {k : Call} {end : List ℕ} → read_record bytes ≡ got k end → read_record (bytes ++ more) ≡ got k (end ++ more)
 record-stays bytes more {k} {end} h =
     let p = parts bytes k end h in
-    let r : readRecord (bytes ++ more) ≡ got (recordCall p.t (take p.n (p.left ++ more))) (drop p.n (p.left ++ more))
+    let r : read_record (bytes ++ more) ≡ got (record_call p.t (take p.n (p.left ++ more))) (drop p.n (p.left ++ more))
     = record_of (bytes ++ more) (number-got bytes more p.time) (number-got p.rest more p.long) p.small (rw length-append (omega (arith, p.enough))) in
     r ∙ rw (take-append-le p.n p.left more p.enough, drop-append-le p.n p.left more p.enough, p.call, p.after) refl
 
@@ -356,13 +356,13 @@ pub bad-stays : (bytes more : List ℕ) → Bad bytes → Bad (bytes ++ more)
 bad-stays bytes more b = record { always = λ m. rw append_assoc (b.always (more ++ m)) }
 
 -- a record takes at least two bytes
-pub record-takes : (bytes : List ℕ) (k : Call) (end : List ℕ) → readRecord bytes ≡ got k end → length end < length bytes
+pub record-takes : (bytes : List ℕ) (k : Call) (end : List ℕ) → read_record bytes ≡ got k end → length end < length bytes
 record-takes bytes k end h =
     let p = parts bytes k end h in
     omega (arith, number-takes bytes p.time, number-takes p.rest p.long, length-drop p.n p.left, ap length p.after)
 
 -- no record: what it would be made of is not there
-never-of : (bytes : List ℕ) → ((t n : ℕ) (rest left : List ℕ) → readNumber bytes ≡ got t rest → readNumber rest ≡ got n left → n ≤ 16384 → n ≤ length left → ⊥) → Never bytes
+never-of : (bytes : List ℕ) → ((t n : ℕ) (rest left : List ℕ) → read_number bytes ≡ got t rest → read_number rest ≡ got n left → n ≤ 16384 → n ≤ length left → ⊥) → Never bytes
 never-of bytes f = record { never = λ k end h. let p = parts bytes k end h in f p.t p.n p.rest p.left p.time p.long p.small p.enough }
 
 same_rest : {r : Read ℕ} {a b : ℕ} {x y : List ℕ} → r ≡ got a x → r ≡ got b y → x ≡ y
@@ -372,24 +372,24 @@ same-value : {r : Read ℕ} {a b : ℕ} {x y : List ℕ} → r ≡ got a x → r
 same-value p q = got-value (sym p ∙ q)
 
 -- a time that is too wide or not shortest
-pub bad-time : (bytes : List ℕ) (n : ℕ) → readNumber bytes ≡ fault n → (n ≡ 7 → ⊥) → Bad bytes
+pub bad-time : (bytes : List ℕ) (n : ℕ) → read_number bytes ≡ fault n → (n ≡ 7 → ⊥) → Bad bytes
 bad-time bytes n h o = record { always = λ more. never-of (bytes ++ more) (λ t m rest left e l s k. not-got (sym (number-bad bytes more h o) ∙ e)) }
 
 -- a length that is
-pub bad-length : (bytes : List ℕ) (t at n : ℕ) → Timed bytes t at → readNumber (drop at bytes) ≡ fault n → (n ≡ 7 → ⊥) → Bad bytes
+pub bad-length : (bytes : List ℕ) (t at n : ℕ) → Timed bytes t at → read_number (drop at bytes) ≡ fault n → (n ≡ 7 → ⊥) → Bad bytes
 bad-length bytes t at n d h o = record {
   always = λ more. never-of (bytes ++ more)
       (λ u m rest left e l s k. let q : rest ≡ drop at bytes ++ more = same_rest e (number-got bytes more d.time) in
-      let b : readNumber (drop at bytes ++ more) ≡ got m left = rw q at l in
+      let b : read_number (drop at bytes ++ more) ≡ got m left = rw q at l in
       not-got (sym (number-bad (drop at bytes) more h o) ∙ b));
 }
 
 -- a length that is cut and will be over 16,384
-pub bad-fit : (bytes : List ℕ) (t at : ℕ) → Timed bytes t at → readNumber (drop at bytes) ≡ fault 7 → mayFit (drop at bytes) ≡ false → Bad bytes
+pub bad-fit : (bytes : List ℕ) (t at : ℕ) → Timed bytes t at → read_number (drop at bytes) ≡ fault 7 → may_fit (drop at bytes) ≡ false → Bad bytes
 bad-fit bytes t at d h f = record {
   always = λ more. never-of (bytes ++ more)
       (λ u m rest left e l s k. let q : rest ≡ drop at bytes ++ more = same_rest e (number-got bytes more d.time) in
-      let b : readNumber (drop at bytes ++ more) ≡ got m left = rw q at l in
+      let b : read_number (drop at bytes ++ more) ≡ got m left = rw q at l in
       omega (arith, s, too_long (drop at bytes) more m left h f b));
 }
 
@@ -398,22 +398,22 @@ pub bad-event : (bytes : List ℕ) (t n start : ℕ) → Lengthed bytes t n star
 bad-event bytes t n start d h = record {
   always = λ more. never-of (bytes ++ more)
       (λ u m rest left e l s k. let q : rest ≡ drop d.at bytes ++ more = same_rest e (number-got bytes more d.timed.time) in
-      let b : readNumber (drop d.at bytes ++ more) ≡ got m left = rw q at l in
+      let b : read_number (drop d.at bytes ++ more) ≡ got m left = rw q at l in
       let v : n ≡ m = same-value (number-got (drop d.at bytes) more d.long) b in
       omega (arith, s, v, h));
 }
 
 -- a time that is cut
-pub cut-time : (bytes : List ℕ) → readNumber bytes ≡ fault 7 → Cut bytes
-unfolding readNumber readGroups lastGroup Bytes all
+pub cut-time : (bytes : List ℕ) → read_number bytes ≡ fault 7 → Cut bytes
+unfolding read_number read_groups last_group Bytes all
 cut-time bytes h =
     let c = groups-complete true 9 1 bytes (omega arith) h in
-    let e : readNumber (bytes ++ (1 ∷ 0 ∷ [])) ≡ got c.value (0 ∷ []) = subst (λ (x : List ℕ). readNumber x ≡ got c.value (0 ∷ [])) (append_assoc bytes (1 ∷ []) (0 ∷ [])) (number-got (bytes ++ (1 ∷ [])) (0 ∷ []) c.reads) in
+    let e : read_number (bytes ++ (1 ∷ 0 ∷ [])) ≡ got c.value (0 ∷ []) = subst (λ (x : List ℕ). read_number x ≡ got c.value (0 ∷ [])) (append_assoc bytes (1 ∷ []) (0 ∷ [])) (number-got (bytes ++ (1 ∷ [])) (0 ∷ []) c.reads) in
     record {
       yet = never-of bytes (λ t n rest left e l s k. not-got (sym h ∙ e));
       more = 1 ∷ 0 ∷ [];
       wide = refl;
-      call = recordCall c.value [];
+      call = record_call c.value [];
       rest = [];
       reads = record_of (bytes ++ (1 ∷ 0 ∷ [])) e refl (omega arith) (omega arith);
       few = omega (arith, cut_short bytes h);
@@ -424,17 +424,17 @@ timed-few : (bytes : List ℕ) (t at : ℕ) → Timed bytes t at → at ≤ 10
 timed-few bytes t at d = omega (arith, d.inside, number_short bytes d.time, length-drop at bytes)
 
 -- a length that is cut, and may be at most 16,384
-pub cut-length : (bytes : List ℕ) (t at : ℕ) → Bytes bytes → Timed bytes t at → readNumber (drop at bytes) ≡ fault 7 → mayFit (drop at bytes) ≡ true → Cut bytes
+pub cut-length : (bytes : List ℕ) (t at : ℕ) → Bytes bytes → Timed bytes t at → read_number (drop at bytes) ≡ fault 7 → may_fit (drop at bytes) ≡ true → Cut bytes
 cut-length bytes t at w d h f =
     let g = fill (drop at bytes) (bytes_drop at bytes w) h f in
     record {
       yet = never-of bytes
           (λ u m rest left e l s k. let q : rest ≡ drop at bytes = same_rest e d.time in
-          let b : readNumber (drop at bytes) ≡ got m left = rw q at l in
+          let b : read_number (drop at bytes) ≡ got m left = rw q at l in
           not-got (sym h ∙ b));
       more = g.more;
       wide = g.wide;
-      call = recordCall t (take g.n g.left);
+      call = record_call t (take g.n g.left);
       rest = drop g.n g.left;
       reads = record_of (bytes ++ g.more) (number-got bytes g.more d.time) g.reads g.small g.enough;
       few = omega (arith, d.inside, timed-few bytes t at d, cut_short (drop at bytes) h, length-drop at bytes);
@@ -447,13 +447,13 @@ cut-event bytes t n start d h less =
     record {
       yet = never-of bytes
           (λ u m rest left e l s k. let q : rest ≡ drop d.at bytes = same_rest e d.timed.time in
-          let b : readNumber (drop d.at bytes) ≡ got m left = rw q at l in
+          let b : read_number (drop d.at bytes) ≡ got m left = rw q at l in
           let v : n ≡ m = same-value d.long b in
           let y : drop start bytes ≡ left = same_rest d.long b in
           omega (arith, k, v, less, ap length y));
       more = zeros n;
       wide = zeros-wide n;
-      call = recordCall t (take n (drop start bytes ++ zeros n));
+      call = record_call t (take n (drop start bytes ++ zeros n));
       rest = drop n (drop start bytes ++ zeros n);
       reads = record_of (bytes ++ zeros n) (number-got bytes (zeros n) d.timed.time) (number-got (drop d.at bytes) (zeros n) d.long) h (rw length-append (omega (arith, length-zeros n)));
       few = omega (arith, less, d.inside, d.timed.inside, timed-few bytes t d.at d.timed, number_short (drop d.at bytes) d.long, length-drop d.at bytes);
@@ -469,22 +469,22 @@ whole bytes t n start d h l =
       reads = rw (← drop-drop n start bytes) (record_of bytes d.timed.time d.long h (omega arith));
     }
 
--- what `mayFit` asks, by how many bytes there are
-short-fits : (xs : List ℕ) → length xs < 2 → mayFit xs ≡ true
-unfolding mayFit
+-- what `may_fit` asks, by how many bytes there are
+short-fits : (xs : List ℕ) → length xs < 2 → may_fit xs ≡ true
+unfolding may_fit
 short-fits [] h = refl
 short-fits (a ∷ []) h = refl
 short-fits (a ∷ b ∷ xs) h = absurd (omega arith)
 
-long-fits : (xs : List ℕ) → 2 < length xs → mayFit xs ≡ false
-unfolding mayFit
+long-fits : (xs : List ℕ) → 2 < length xs → may_fit xs ≡ false
+unfolding may_fit
 long-fits [] h = absurd (omega arith)
 long-fits (a ∷ []) h = absurd (omega arith)
 long-fits (a ∷ b ∷ []) h = absurd (omega arith)
 long-fits (a ∷ b ∷ c ∷ xs) h = refl
 
-two-fit : (xs : List ℕ) → length xs ≡ 2 → mayFit xs ≡ (eqb (get_or xs 0 0) 128 && eqb (get_or xs 1 0) 128)
-unfolding mayFit
+two-fit : (xs : List ℕ) → length xs ≡ 2 → may_fit xs ≡ (eqb (get_or xs 0 0) 128 && eqb (get_or xs 1 0) 128)
+unfolding may_fit
 two-fit [] h = absurd (omega arith)
 two-fit (a ∷ []) h = absurd (omega arith)
 two-fit (a ∷ b ∷ []) h = refl
@@ -492,16 +492,16 @@ two-fit (a ∷ b ∷ c ∷ xs) h = absurd (omega arith)
 
 -- the same of the bytes from a place on
 module _ (bytes : List ℕ) (at : ℕ) where
-  pub fit-short : length bytes - at < 2 → mayFit (drop at bytes) ≡ true
+  pub fit-short : length bytes - at < 2 → may_fit (drop at bytes) ≡ true
   fit-short h = short-fits (drop at bytes) (omega (arith, length-drop at bytes))
 
-  pub fit-long : 2 < length bytes - at → mayFit (drop at bytes) ≡ false
+  pub fit-long : 2 < length bytes - at → may_fit (drop at bytes) ≡ false
   fit-long h = long-fits (drop at bytes) (omega (arith, length-drop at bytes))
 
-  pub fit-two : length bytes - at ≡ 2 → mayFit (drop at bytes) ≡ (eqb (get_or bytes at 0) 128 && eqb (get_or bytes (at + 1) 0) 128)
+  pub fit-two : length bytes - at ≡ 2 → may_fit (drop at bytes) ≡ (eqb (get_or bytes at 0) 128 && eqb (get_or bytes (at + 1) 0) 128)
   fit-two h = two-fit (drop at bytes) (omega (arith, length-drop at bytes)) ∙ rw (get_or-drop at bytes 0 0, get_or-drop at bytes 1 0, add-zero at) refl
 
 -- where there is no byte, one can follow
 pub bad-none : Bad [] → ⊥
-unfolding readRecord readLengthed readBytes readNumber readGroups lastGroup
-bad-none b = (b.always (0 ∷ 0 ∷ [])).never (recordCall 0 []) [] refl
+unfolding read_record read_lengthed read_bytes read_number read_groups last_group
+bad-none b = (b.always (0 ∷ 0 ∷ [])).never (record_call 0 []) [] refl

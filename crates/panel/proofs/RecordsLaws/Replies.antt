@@ -8,10 +8,10 @@ use lib.ListN.{length, take, drop, length-append}
 use lib.Seq.{take-append_seam, length-take-le}
 use Rattle.storage.specs.Rows.Part.{put}
 use Rattle.storage.proofs.RowsLaws.Parts.{put-nil}
-use Rattle.postcard.specs.Number.{groups, numberBytes, numberLength}
+use Rattle.postcard.specs.Number.{groups, number_bytes, number_length}
 use Rattle.postcard.specs.Output.{Room, Wrote}
 use Rattle.postcard.proofs.Lengths.{number-few}
-use Rattle.panel.specs.Records.Running.{answerBytes, endBytes, closing}
+use Rattle.panel.specs.Records.Running.{answer_bytes, end_bytes, closing}
 
 -- what was put at the start stands there
 pub put_first : (bytes out : List ℕ) → take (length bytes) (put 0 bytes out) ≡ bytes
@@ -28,25 +28,25 @@ pub wrote_none : (out : List ℕ) → Wrote [] out 0 out 0
 wrote_none out = record { out = sym (put-nil 0 out); place = omega arith }
 
 -- a byte and a number take eleven bytes at most
-pub answer-few : (number : ℕ) (actions : List ℕ) → length (answerBytes number actions) ≤ 11 + length actions
-unfolding answerBytes numberLength
-answer-few number actions = omega (arith, length-append (numberBytes (length actions)) actions, number-few (length actions))
+pub answer-few : (number : ℕ) (actions : List ℕ) → length (answer_bytes number actions) ≤ 11 + length actions
+unfolding answer_bytes number_length
+answer-few number actions = omega (arith, length-append (number_bytes (length actions)) actions, number-few (length actions))
 
 -- the actions are the first `n` bytes of the output
 module _ (number n : ℕ) (out reply : List ℕ) (h : length reply ≡ 40971) (in-out : n ≤ length out) (few : n ≤ 40960) where
   actions-long : length (take n out) ≡ n
   actions-long = length-take-le n out in-out
 
-  pub answer-room : Room (answerBytes number (take n out)) 0 reply
+  pub answer-room : Room (answer_bytes number (take n out)) 0 reply
   answer-room = record { fits = omega (arith, answer-few number (take n out), actions-long) }
 
-pub end-room : (reply : List ℕ) → length reply ≡ 40971 → Room endBytes 0 reply
-unfolding endBytes
+pub end-room : (reply : List ℕ) → length reply ≡ 40971 → Room end_bytes 0 reply
+unfolding end_bytes
 end-room reply h = record { fits = omega (arith, h) }
 
 -- which is an answer without actions
-pub end-answer : answerBytes 7 [] ≡ endBytes
-unfolding answerBytes endBytes numberBytes groups
+pub end-answer : answer_bytes 7 [] ≡ end_bytes
+unfolding answer_bytes end_bytes number_bytes groups
 end-answer = refl
 
 -- the end of the input
@@ -55,14 +55,14 @@ unfolding closing
 closing-none [] h = refl
 closing-none (b ∷ bytes) h = absurd (omega arith)
 
-pub closing-some : (unread : List ℕ) → (length unread ≡ 0 → ⊥) → closing unread ≡ endBytes
+pub closing-some : (unread : List ℕ) → (length unread ≡ 0 → ⊥) → closing unread ≡ end_bytes
 unfolding closing
 closing-some [] h = absurd (h refl)
 closing-some (b ∷ bytes) h = refl
 
 -- the end takes two bytes
-pub end-few : length endBytes ≤ 2
-unfolding endBytes
+pub end-few : length end_bytes ≤ 2
+unfolding end_bytes
 end-few = omega arith
 
 pub closing-few : (unread : List ℕ) → length (closing unread) ≤ 2

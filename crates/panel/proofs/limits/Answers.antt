@@ -1,8 +1,8 @@
 -- `limits` are the definition's.
 use mathlib.Core.Path.{refl}
-use Rattle.protocol.specs.Panel.{panelLimits}
+use Rattle.protocol.specs.Panel.{panel_limits}
 use Rattle.panel.proofs.limits.Goals as goal
 
 pub returns : goal.returns
-unfolding panelLimits
+unfolding panel_limits
 returns c = refl

@@ -2,25 +2,25 @@
 -- Assumes nothing.
 use Rattle.std.specs.Prelude.{ℕ, ◌+◌, ◌≤◌, ◌<◌, ◌≡◌, Bool, true, false, ◌&&◌, List, [], ◌∷◌, ◌++◌, eqb, length, drop}
 use Rattle.storage.specs.Rows.Part.{part}
-use Rattle.postcard.specs.Number.{got, readNumber}
+use Rattle.postcard.specs.Number.{got, read_number}
 use Rattle.postcard.specs.Wide.{Bytes}
 use Rattle.protocol.specs.Answer.{Call}
-use Rattle.protocol.specs.Panel.{readRecord}
+use Rattle.protocol.specs.Panel.{read_record}
 use Rattle.panel.specs.declared.records.Record.{Record}
 use Rattle.panel.specs.declared.records.Record.TheVariants as record'
 
 -- the call of a record: "link room unbounded", "output 40,960"
-abbrev pub recordCall : ℕ → List ℕ → Call
-recordCall now event = record { now = now; event = event; rooms = []; output = 40960 }
+abbrev pub record_call : ℕ → List ℕ → Call
+record_call now event = record { now = now; event = event; rooms = []; output = 40960 }
 
 -- a whole record: the definition reads its time and its event, and what follows the event is left
 pub record Whole (bytes : List ℕ) (now start len : ℕ) : Type 0 where
   pub inside : start + len ≤ length bytes
-  pub reads : readRecord bytes ≡ got (recordCall now (part start len bytes)) (drop (start + len) bytes)
+  pub reads : read_record bytes ≡ got (record_call now (part start len bytes)) (drop (start + len) bytes)
 
 -- no record
 pub record Never (bytes : List ℕ) : Type 0 where
-  pub never : (k : Call) (rest : List ℕ) → readRecord bytes ≡ got k rest → ⊥
+  pub never : (k : Call) (rest : List ℕ) → read_record bytes ≡ got k rest → ⊥
 
 -- no record, whatever bytes follow
 pub record Bad (bytes : List ℕ) : Type 0 where
@@ -33,7 +33,7 @@ pub record Cut (bytes : List ℕ) : Type 0 where
   pub wide : Bytes more
   pub call : Call
   pub rest : List ℕ
-  pub reads : readRecord (bytes ++ more) ≡ got call rest
+  pub reads : read_record (bytes ++ more) ≡ got call rest
   pub few : length bytes < 16404
 
 -- what the answer tells of the bytes
@@ -43,20 +43,20 @@ Tells bytes record'.Cut = Cut bytes
 Tells bytes record'.Bad = Bad bytes
 
 -- the first bytes of a length, its last one not among them, that a length of at most 16,384 begins with: none, one, or 80 80
-unfoldable pub mayFit : List ℕ → Bool
-mayFit [] = true
-mayFit (a ∷ []) = true
-mayFit (a ∷ b ∷ []) = eqb a 128 && eqb b 128
-mayFit (a ∷ b ∷ c ∷ more) = false
+unfoldable pub may_fit : List ℕ → Bool
+may_fit [] = true
+may_fit (a ∷ []) = true
+may_fit (a ∷ b ∷ []) = eqb a 128 && eqb b 128
+may_fit (a ∷ b ∷ c ∷ more) = false
 
 -- the time was read, and `at` is the place after it
 pub record Timed (bytes : List ℕ) (now at : ℕ) : Type 0 where
   pub inside : at ≤ length bytes
-  pub time : readNumber bytes ≡ got now (drop at bytes)
+  pub time : read_number bytes ≡ got now (drop at bytes)
 
 -- then the length was read, and `start` is the place after that
 pub record Lengthed (bytes : List ℕ) (now n start : ℕ) : Type 0 where
   pub at : ℕ
   pub timed : Timed bytes now at
   pub inside : start ≤ length bytes
-  pub long : readNumber (drop at bytes) ≡ got n (drop start bytes)
+  pub long : read_number (drop at bytes) ≡ got n (drop start bytes)

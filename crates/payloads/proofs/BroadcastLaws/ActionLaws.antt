@@ -3,36 +3,36 @@
 use mathlib.Core.Path.{◌≡◌, refl, ap, ◌∙◌}
 use mathlib.Core.List.{List, [], ◌++◌}
 use Prim.Native.Nat.{ℕ}
-use Rattle.storage.specs.Lists.Base.{concatMap}
-use Rattle.postcard.specs.Message.{Swarm, Neighbors, Scope, toSwarm, toNeighbors, Gossip, actionBytes}
+use Rattle.storage.specs.Lists.Base.{concat_map}
+use Rattle.postcard.specs.Message.{Swarm, Neighbors, Scope, to_swarm, to_neighbors, Gossip, action_bytes}
 use Rattle.protocol.specs.State.{State}
-use Rattle.protocol.specs.Push.{eagerTargets}
-use Rattle.decide.specs.RecordGrowth.{pushActions}
-use Rattle.decide.specs.ActionsAfter.{dispatchAction, broadcastActions}
+use Rattle.protocol.specs.Push.{eager_targets}
+use Rattle.decide.specs.RecordGrowth.{push_actions}
+use Rattle.decide.specs.ActionsAfter.{dispatch_action, broadcast_actions}
 use Rattle.block.specs.View.{state_of}
 use Rattle.block.specs.declared.head.Head.{Head}
-use Rattle.steps.specs.Rooms.{roomsIn}
+use Rattle.steps.specs.Rooms.{rooms_in}
 use Rattle.steps.specs.declared.Held.TheVariants.{Nothing}
 use Rattle.steps.proofs.TicksLaws.ActionLaws.{actions-then}
-use Rattle.payloads.specs.Eager.Targets.{skippedIn, targetsOf}
-use Rattle.payloads.specs.Eager.Sent.{sentBytes, pushBytes}
+use Rattle.payloads.specs.Eager.Targets.{skipped_in, targets_of}
+use Rattle.payloads.specs.Eager.Sent.{sent_bytes, push_bytes}
 use Rattle.payloads.proofs.EagerLaws.CallLaws.{settled-as}
-use Rattle.payloads.specs.Broadcast.Broadcasts.{broadcastBytes}
+use Rattle.payloads.specs.Broadcast.Broadcasts.{broadcast_bytes}
 use Rattle.payloads.proofs.BroadcastLaws.StepLaws.{own-number}
 
 module _ (instant : ℕ) (array : List ℕ) (id : ℕ) (content : List ℕ) (s : State) where
-  settled-bytes : (scope : Scope) → broadcastBytes instant array id content scope s ≡ concatMap actionBytes (broadcastActions (roomsIn s array) id content scope s)
-  unfolding broadcastActions dispatchAction eagerTargets
-  settled-bytes toSwarm = settled-as instant s (λ (t : State). concatMap actionBytes (broadcastActions (roomsIn s array) id content toSwarm t)) refl
-  settled-bytes toNeighbors = settled-as instant s (λ (t : State). concatMap actionBytes (broadcastActions (roomsIn s array) id content toNeighbors t)) refl
+  settled-bytes : (scope : Scope) → broadcast_bytes instant array id content scope s ≡ concat_map action_bytes (broadcast_actions (rooms_in s array) id content scope s)
+  unfolding broadcast_actions dispatch_action eager_targets
+  settled-bytes to_swarm = settled-as instant s (λ (t : State). concat_map action_bytes (broadcast_actions (rooms_in s array) id content to_swarm t)) refl
+  settled-bytes to_neighbors = settled-as instant s (λ (t : State). concat_map action_bytes (broadcast_actions (rooms_in s array) id content to_neighbors t)) refl
 
-  swarm-of : concatMap actionBytes (broadcastActions (roomsIn s array) id content toSwarm s)
-      ≡ concatMap actionBytes (dispatchAction s) ++ pushBytes array (Gossip id content (Swarm 0)) (targetsOf s.settings.me Nothing s) s
-  unfolding broadcastActions skippedIn
-  swarm-of = actions-then (dispatchAction s) (pushActions (roomsIn s array) (Gossip id content (Swarm 0)) (eagerTargets s.settings.me [] s) s.timers.announce)
+  swarm-of : concat_map action_bytes (broadcast_actions (rooms_in s array) id content to_swarm s)
+      ≡ concat_map action_bytes (dispatch_action s) ++ push_bytes array (Gossip id content (Swarm 0)) (targets_of s.settings.me Nothing s) s
+  unfolding broadcast_actions skipped_in
+  swarm-of = actions-then (dispatch_action s) (push_actions (rooms_in s array) (Gossip id content (Swarm 0)) (eager_targets s.settings.me [] s) s.timers.announce)
 
-  near_of : concatMap actionBytes (broadcastActions (roomsIn s array) id content toNeighbors s) ≡ sentBytes array (Gossip id content Neighbors) (targetsOf s.settings.me Nothing s) s
-  unfolding broadcastActions skippedIn
+  near_of : concat_map action_bytes (broadcast_actions (rooms_in s array) id content to_neighbors s) ≡ sent_bytes array (Gossip id content Neighbors) (targets_of s.settings.me Nothing s) s
+  unfolding broadcast_actions skipped_in
   near_of = refl
 
 module _ (instant : ℕ) (array : List ℕ) (id : ℕ) (content : List ℕ) (h : Head) (xs : List ℕ) where
@@ -40,16 +40,16 @@ module _ (instant : ℕ) (array : List ℕ) (id : ℕ) (content : List ℕ) (h :
   s = state_of h xs
 
   -- Swarm: a dispatch timer unless flagged, then the push
-  pub swarm-bytes : broadcastBytes instant array id content toSwarm s
-      ≡ concatMap actionBytes (dispatchAction s) ++ pushBytes array (Gossip id content (Swarm 0)) (targetsOf h.settings.me Nothing s) s
+  pub swarm-bytes : broadcast_bytes instant array id content to_swarm s
+      ≡ concat_map action_bytes (dispatch_action s) ++ push_bytes array (Gossip id content (Swarm 0)) (targets_of h.settings.me Nothing s) s
   swarm-bytes =
-      settled-bytes instant array id content s toSwarm
+      settled-bytes instant array id content s to_swarm
       ∙ swarm-of instant array id content s
-      ∙ ap (λ (m : ℕ). concatMap actionBytes (dispatchAction s) ++ pushBytes array (Gossip id content (Swarm 0)) (targetsOf m Nothing s) s) (own-number h xs)
+      ∙ ap (λ (m : ℕ). concat_map action_bytes (dispatch_action s) ++ push_bytes array (Gossip id content (Swarm 0)) (targets_of m Nothing s) s) (own-number h xs)
 
   -- Neighbors: the push only
-  pub near-bytes : broadcastBytes instant array id content toNeighbors s ≡ sentBytes array (Gossip id content Neighbors) (targetsOf h.settings.me Nothing s) s
+  pub near-bytes : broadcast_bytes instant array id content to_neighbors s ≡ sent_bytes array (Gossip id content Neighbors) (targets_of h.settings.me Nothing s) s
   near-bytes =
-      settled-bytes instant array id content s toNeighbors
+      settled-bytes instant array id content s to_neighbors
       ∙ near_of instant array id content s
-      ∙ ap (λ (m : ℕ). sentBytes array (Gossip id content Neighbors) (targetsOf m Nothing s) s) (own-number h xs)
+      ∙ ap (λ (m : ℕ). sent_bytes array (Gossip id content Neighbors) (targets_of m Nothing s) s) (own-number h xs)

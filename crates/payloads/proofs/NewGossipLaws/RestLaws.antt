@@ -12,19 +12,19 @@ use lib.ListN.{length, length-append}
 use Rattle.std.specs.Prelude.{if◌then◌else◌}
 use Rattle.storage.proofs.ListsLaws.MapLaws.{and_left, and_right}
 use Rattle.time_cache.specs.TimeCache.{Cache, get, holds}
-use Rattle.protocol.specs.Links.{Links, isNeighbour}
-use Rattle.protocol.specs.State.{State, Limits, Note, Hop, Grafts, Cached, withLinks}
+use Rattle.protocol.specs.Links.{Links, is_neighbour}
+use Rattle.protocol.specs.State.{State, Limits, Note, Hop, Grafts, Cached, with_links}
 use Rattle.protocol.specs.Run.{Room}
-use Rattle.protocol.specs.Gossips.{announcers, graftedFor, graftOut, withFirst, leastFrom, farCloser}
-use Rattle.protocol.specs.Whole.{fits, cacheFits, contentHeld}
-use Rattle.decide.specs.StateAfter.{recordedState, pushedState, pushedOnState, lazyState, takenState, firstSetState, forgottenState, optimisedLinks, optimisedState, closedState, newState}
+use Rattle.protocol.specs.Gossips.{announcers, grafted_for, graft_out, with_first, least_from, far_closer}
+use Rattle.protocol.specs.Whole.{fits, cache_fits, content_held}
+use Rattle.decide.specs.StateAfter.{recorded_state, pushed_state, pushed_on_state, lazy_state, taken_state, first_set_state, forgotten_state, optimised_links, optimised_state, closed_state, new_state}
 use Rattle.decide.proofs.Broadcast.{holds-put}
-use Rattle.steps.specs.Pushes.Lazy.{lazyNotes}
+use Rattle.steps.specs.Pushes.Lazy.{lazy_notes}
 
 -- question 13, but for the queue and the record
 abbrev others : State → Bool
 others s =
-    leb (length s.links) s.limits.N && cacheFits s.limits.R s.received && cacheFits s.limits.C s.cache && leb (contentHeld s) s.limits.B && cacheFits s.limits.G s.grafted
+    leb (length s.links) s.limits.N && cache_fits s.limits.R s.received && cache_fits s.limits.C s.cache && leb (content_held s) s.limits.B && cache_fits s.limits.G s.grafted
     && leb (length s.missing) s.limits.S && leb (length s.timers.graft) s.limits.T
 
 -- what question 13 tells of the queue and the record
@@ -58,103 +58,103 @@ rest-if : (b : Bool) {s t u : State} → Rest s t → Rest s u → Rest s (if b 
 rest-if true x y = x
 rest-if false x y = y
 
-rest-links : (l : Links) (s : State) → Rest s (withLinks l s)
+rest-links : (l : Links) (s : State) → Rest s (with_links l s)
 rest-links l s = record { limits = refl; received = refl; cache = refl; queue = refl; dropped = refl }
 
-rest-tree : (sender round : ℕ) (hs : List Hop) (s : State) → Rest s (optimisedState sender round hs s)
-unfolding optimisedState
+rest-tree : (sender round : ℕ) (hs : List Hop) (s : State) → Rest s (optimised_state sender round hs s)
+unfolding optimised_state
 rest-tree sender round [] s = rest-still s
 rest-tree sender round (h ∷ hs) s =
-    rest-if (farCloser s.settings.optimizationThreshold round (leastFrom h hs).round) (rest-links (optimisedLinks sender (leastFrom h hs) s.links) s) (rest-still s)
+    rest-if (far_closer s.settings.optimization_threshold round (least_from h hs).round) (rest-links (optimised_links sender (least_from h hs) s.links) s) (rest-still s)
 
-rest-forgotten : (id : ℕ) (s : State) → Rest s (forgottenState id s)
-unfolding forgottenState
+rest-forgotten : (id : ℕ) (s : State) → Rest s (forgotten_state id s)
+unfolding forgotten_state
 rest-forgotten id s = record { limits = refl; received = refl; cache = refl; queue = refl; dropped = refl }
 
-rest-closed : (id sender round : ℕ) (s : State) → Rest s (closedState id sender round s)
-unfolding closedState
+rest-closed : (id sender round : ℕ) (s : State) → Rest s (closed_state id sender round s)
+unfolding closed_state
 rest-closed id sender round s =
-    rest-if (isNeighbour sender s.links && not (graftOut sender round (graftedFor id s)))
-    (rest_then (rest-forgotten id s) (rest-tree sender (suc round) (announcers id s) (forgottenState id s))) (rest-forgotten id s)
+    rest-if (is_neighbour sender s.links && not (graft_out sender round (grafted_for id s)))
+    (rest_then (rest-forgotten id s) (rest-tree sender (suc round) (announcers id s) (forgotten_state id s))) (rest-forgotten id s)
 
 -- `first` changes the grafted messages alone
 pub record FirstRest (s t : State) : Type 0 where
   pub rest : Rest s t
   pub links : t.links ≡ s.links
 
-first_by : (id : ℕ) (h : Hop) (o : Option Grafts) (s : State) → FirstRest s (withFirst id h o s)
-unfolding withFirst
+first_by : (id : ℕ) (h : Hop) (o : Option Grafts) (s : State) → FirstRest s (with_first id h o s)
+unfolding with_first
 first_by id h none s = record { rest = rest-still s; links = refl }
 first_by id h (some g) s = record { rest = record { limits = refl; received = refl; cache = refl; queue = refl; dropped = refl }; links = refl }
 
-rest-first : (id sender round : ℕ) (s : State) → FirstRest s (firstSetState id sender round s)
-unfolding firstSetState
+rest-first : (id sender round : ℕ) (s : State) → FirstRest s (first_set_state id sender round s)
+unfolding first_set_state
 rest-first id sender round s = first_by id (record { peer = sender; round = round }) (get id s.grafted) s
 
 -- the stages; `next` is the round that is sent on
 module _ (rooms : List Room) (instant sender id : ℕ) (content : List ℕ) (round next : ℕ) (s : State) where
   abbrev pub taken : State
-  taken = takenState instant id content next s
+  taken = taken_state instant id content next s
 
-  abbrev pub firstSet : State
-  firstSet = firstSetState id sender round taken
+  abbrev pub first_set : State
+  first_set = first_set_state id sender round taken
 
   abbrev pub pushed_on : State
-  pushed_on = pushedOnState rooms id next sender firstSet
+  pushed_on = pushed_on_state rooms id next sender first_set
 
   abbrev pub queued : State
-  queued = lazyState id next sender pushed_on
+  queued = lazy_state id next sender pushed_on
 
   abbrev pub end : State
-  end = closedState id sender round queued
+  end = closed_state id sender round queued
 
-  pub end-new : next ≡ suc round → end ≡ newState rooms instant sender id content round s
-  unfolding newState
+  pub end-new : next ≡ suc round → end ≡ new_state rooms instant sender id content round s
+  unfolding new_state
   end-new e =
-      ap (λ (n : ℕ). closedState id sender round (lazyState id n sender (pushedOnState rooms id n sender (firstSetState id sender round (takenState instant id content n s))))) e
+      ap (λ (n : ℕ). closed_state id sender round (lazy_state id n sender (pushed_on_state rooms id n sender (first_set_state id sender round (taken_state instant id content n s))))) e
 
   pub end-limits : end.limits ≡ taken.limits
-  unfolding lazyState pushedOnState pushedState recordedState
+  unfolding lazy_state pushed_on_state pushed_state recorded_state
   end-limits = (rest-closed id sender round queued).limits ∙ (rest-first id sender round taken).rest.limits
 
   pub end-received : end.received ≡ taken.received
-  unfolding lazyState pushedOnState pushedState recordedState
+  unfolding lazy_state pushed_on_state pushed_state recorded_state
   end-received = (rest-closed id sender round queued).received ∙ (rest-first id sender round taken).rest.received
 
   pub end-cache : end.cache ≡ taken.cache
-  unfolding lazyState pushedOnState pushedState recordedState
+  unfolding lazy_state pushed_on_state pushed_state recorded_state
   end-cache = (rest-closed id sender round queued).cache ∙ (rest-first id sender round taken).rest.cache
 
-  pub first-links : firstSet.links ≡ s.links
-  unfolding takenState
+  pub first-links : first_set.links ≡ s.links
+  unfolding taken_state
   first-links = (rest-first id sender round taken).links
 
-  pub first-limits : firstSet.limits ≡ s.limits
-  unfolding takenState
+  pub first-limits : first_set.limits ≡ s.limits
+  unfolding taken_state
   first-limits = (rest-first id sender round taken).rest.limits
 
-  pub first-cached : holds id firstSet.cache ≡ true
-  unfolding takenState
+  pub first-cached : holds id first_set.cache ≡ true
+  unfolding taken_state
   first-cached = ap (λ (c : Cache Cached). holds id c) (rest-first id sender round taken).rest.cache ∙ holds-put id _ _ s.cache
 
   same-limits : end.limits ≡ s.limits
-  unfolding takenState
+  unfolding taken_state
   same-limits = end-limits
 
   pub pushed-limits : pushed_on.limits ≡ s.limits
-  unfolding pushedOnState pushedState recordedState
+  unfolding pushed_on_state pushed_state recorded_state
   pushed-limits = first-limits
 
   end-record : end.dropped ≡ pushed_on.dropped
-  unfolding lazyState
+  unfolding lazy_state
   end-record = (rest-closed id sender round queued).dropped
 
-  end-queue : length end.queue ≡ length pushed_on.queue + length (lazyNotes id next sender pushed_on.links)
-  unfolding lazyState lazyNotes
+  end-queue : length end.queue ≡ length pushed_on.queue + length (lazy_notes id next sender pushed_on.links)
+  unfolding lazy_state lazy_notes
   end-queue = ap (λ (q : List Note). length q) (rest-closed id sender round queued).queue ∙ length-append pushed_on.queue _
 
   module _ (f : fits end ≡ true) where
-    pub queue-room : length pushed_on.queue + length (lazyNotes id next sender pushed_on.links) ≤ s.limits.Q
+    pub queue-room : length pushed_on.queue + length (lazy_notes id next sender pushed_on.links) ≤ s.limits.Q
     queue-room = omega (arith, queue-within end f, end-queue, ap (λ (l : Limits). l.Q) same-limits)
 
     pub record-room : length pushed_on.dropped ≤ s.limits.D

@@ -5,14 +5,14 @@ use Rattle.std.proofs.Math.Option.{none}
 use Rattle.storage.specs.Lists.Base.{member}
 use Rattle.storage.specs.Lists.Map.{entry, keys}
 use Rattle.time_cache.specs.TimeCache.{Cache}
-use Rattle.protocol.specs.Links.{isEager}
+use Rattle.protocol.specs.Links.{is_eager}
 use Rattle.protocol.specs.State.{State, Grafts}
-use Rattle.protocol.specs.Push.{eagerTargets}
-use Rattle.decide.specs.Rooms.{backPeers}
-use Rattle.block.specs.LinkSteps.{link_at, peerAt}
+use Rattle.protocol.specs.Push.{eager_targets}
+use Rattle.decide.specs.Rooms.{back_peers}
+use Rattle.block.specs.LinkSteps.{link_at, peer_at}
 use Rattle.block.specs.declared.head.Head.{Head}
 use Rattle.steps.specs.Grafts.Reads.{Grafting, HeldBelow}
-use Rattle.steps.specs.Rooms.{roomsIn}
+use Rattle.steps.specs.Rooms.{rooms_in}
 use Rattle.steps.specs.declared.Held.{Held}
 use Rattle.steps.specs.declared.Held.TheVariants.{At, Nothing}
 
@@ -22,23 +22,23 @@ pub record Pushing (h : Head) (block : List ℕ) (k : Held) : Type 0 where
   pub skip : HeldBelow h.live.grafted k
 
 -- "grafted peers": those of the entry, or none
-unfoldable pub skippedIn : Held → Cache Grafts → List ℕ
-skippedIn (At g) c = keys (get_or c.entries g (entry 0 (record { expires = 0; value = record { first = none; kept = none; peers = [] } }))).value.value.peers
-skippedIn Nothing c = []
+unfoldable pub skipped_in : Held → Cache Grafts → List ℕ
+skipped_in (At g) c = keys (get_or c.entries g (entry 0 (record { expires = 0; value = record { first = none; kept = none; peers = [] } }))).value.value.peers
+skipped_in Nothing c = []
 
 -- link i is eager, and neither the panel nor the sender nor among those skipped
-unfoldable pub isTarget : ℕ → List ℕ → State → ℕ → Bool
-isTarget sender skip s i =
-    isEager (link_at s i).value && (not (eqb (peerAt s i) s.settings.me) && not (eqb (peerAt s i) sender) && not (member (peerAt s i) skip))
+unfoldable pub is_target : ℕ → List ℕ → State → ℕ → Bool
+is_target sender skip s i =
+    is_eager (link_at s i).value && (not (eqb (peer_at s i) s.settings.me) && not (eqb (peer_at s i) sender) && not (member (peer_at s i) skip))
 
 -- link i is pushed to, and has no room
-unfoldable pub handsBack : ℕ → List ℕ → List ℕ → State → ℕ → Bool
-handsBack sender skip rooms s i = isTarget sender skip s i && not (leb 1 (get_or rooms i 0))
+unfoldable pub hands_back : ℕ → List ℕ → List ℕ → State → ℕ → Bool
+hands_back sender skip rooms s i = is_target sender skip s i && not (leb 1 (get_or rooms i 0))
 
 -- whom the push goes to
-abbrev pub targetsOf : ℕ → Held → State → List ℕ
-targetsOf sender skip s = eagerTargets sender (skippedIn skip s.grafted) s
+abbrev pub targets_of : ℕ → Held → State → List ℕ
+targets_of sender skip s = eager_targets sender (skipped_in skip s.grafted) s
 
 -- those of them that hand it back
-abbrev pub backsOf : ℕ → Held → List ℕ → State → List ℕ
-backsOf sender skip rooms s = backPeers (roomsIn s rooms) (targetsOf sender skip s)
+abbrev pub backs_of : ℕ → Held → List ℕ → State → List ℕ
+backs_of sender skip rooms s = back_peers (rooms_in s rooms) (targets_of sender skip s)

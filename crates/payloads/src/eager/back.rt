@@ -1,13 +1,13 @@
-// What is handed back of a push is noted: document 01, "Record".
+// What is handed back of a push is noted: the specification, "Record".
 ghost use Rattle.std.specs.Prelude.{◌≡◌, ◌<◌, ◌≤◌};
 ghost use Rattle.storage.specs.Rows.Ident.{id_of};
-ghost use Rattle.decide.specs.RecordGrowth.{pushGain, pushGains};
+ghost use Rattle.decide.specs.RecordGrowth.{push_gain, push_gains};
 ghost use Rattle.block.specs.View.{state_of};
 ghost use Rattle.block.specs.Sound.{Sound};
 ghost use Rattle.block.specs.Goes.{Goes};
-ghost use Rattle.block.specs.LinkSteps.{LinksAscend, peerAt};
-ghost use Rattle.payloads.specs.Eager.Targets.{Pushing, backsOf};
-ghost use Rattle.payloads.specs.Eager.Backs.{backState, NotesBack};
+ghost use Rattle.block.specs.LinkSteps.{LinksAscend, peer_at};
+ghost use Rattle.payloads.specs.Eager.Targets.{Pushing, backs_of};
+ghost use Rattle.payloads.specs.Eager.Backs.{back_state, NotesBack};
 
 use crate::eager::scan;
 use crate::eager::target::Push;
@@ -20,7 +20,7 @@ use storage::rows::id::Id;
 // 4,096", or it is there. Its time is that of one pass over the record's column of link numbers.
 pub fn push_gain(h: Head, block: &[u8], link: usize, id: Id, extra: usize) -> usize
     requires { Sound h block.now × LinksAscend h block.now × (link < h.live.links) × (extra ≤ 32) }
-    ensures { result ≡ pushGain (id_of id) (state_of h block.now).dropped extra (peerAt (state_of h block.now) link) }
+    ensures { result ≡ push_gain (id_of id) (state_of h block.now).dropped extra (peer_at (state_of h block.now) link) }
 {
     let scan = note::scan_dropped(h, block, link, id);
     if 256 <= scan.count {
@@ -39,7 +39,7 @@ pub fn push_gain(h: Head, block: &[u8], link: usize, id: Id, extra: usize) -> us
 // link numbers.
 pub fn push_gains(h: Head, block: &[u8], rooms: &[u64; 34], id: Id, push: Push) -> usize
     requires { Pushing h block.now push.skip }
-    ensures { result ≡ pushGains (id_of id) (state_of h block.now).dropped 0 (backsOf push.sender push.skip rooms.now (state_of h block.now)) }
+    ensures { result ≡ push_gains (id_of id) (state_of h block.now).dropped 0 (backs_of push.sender push.skip rooms.now (state_of h block.now)) }
 {
     let marks = scan::wants_note(h, block, rooms, push, id);
     let n = h.live.links;
@@ -69,7 +69,7 @@ pub fn note_back(
     round: Round,
 ) -> Head
     requires { NotesBack h block.old push.sender push.skip rooms.now (id_of id) round.0 }
-    ensures { Goes (backState push.sender push.skip rooms.now (id_of id) round.0) h block.old result block.new }
+    ensures { Goes (back_state push.sender push.skip rooms.now (id_of id) round.0) h block.old result block.new }
 {
     let marks = scan::wants_note(h, block, rooms, push, id);
     let n = h.live.links;

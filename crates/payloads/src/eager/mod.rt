@@ -1,4 +1,4 @@
-// The eager push of a message that is taken in, and the reply to a Graft: document 01, "Gossip", "Broadcast" and `on_graft`.
+// The eager push of a message that is taken in, and the reply to a Graft: the specification, "Gossip", "Broadcast" and `on_graft`.
 pub mod back;
 pub mod reply;
 pub mod scan;

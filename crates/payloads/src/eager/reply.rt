@@ -1,15 +1,15 @@
-// The reply to a Graft of a neighbour: the cached message, noted if it is handed back (document 01, `on_graft`).
+// The reply to a Graft of a neighbour: the cached message, noted if it is handed back (the specification, `on_graft`).
 ghost use Rattle.std.specs.Prelude.{◌≡◌, [], ◌∷◌};
 ghost use Rattle.storage.specs.Rows.Ident.{id_of};
 ghost use Rattle.postcard.specs.Message.{Gossip, Swarm};
 ghost use Rattle.wire.specs.Output.Written.{Tellable, Written};
 ghost use Rattle.block.specs.View.{state_of};
 ghost use Rattle.block.specs.Goes.{Goes};
-ghost use Rattle.block.specs.LinkSteps.{peerAt};
-ghost use Rattle.steps.specs.Rooms.{roomsIn};
-ghost use Rattle.payloads.specs.Eager.Sent.{pushBytes};
+ghost use Rattle.block.specs.LinkSteps.{peer_at};
+ghost use Rattle.steps.specs.Rooms.{rooms_in};
+ghost use Rattle.payloads.specs.Eager.Sent.{push_bytes};
 ghost use Rattle.steps.specs.Grafts.Reads.{HeldBelow};
-ghost use Rattle.payloads.specs.Eager.Reply.{heldCached, Replying, Replies, repliedState, replyGains, replyBytes};
+ghost use Rattle.payloads.specs.Eager.Reply.{held_cached, Replying, Replies, replied_state, reply_gains, reply_bytes};
 
 use crate::eager::{back, target};
 use block::caches::cached;
@@ -28,7 +28,7 @@ use wire::output;
 // record's column of link numbers.
 pub fn reply(h: Head, block: &mut [u8], rooms: &[u64; 34], link: usize, id: Id) -> Head
     requires { Replies h block.old rooms.now link (id_of id) }
-    ensures { Goes (repliedState rooms.now link (id_of id)) h block.old result block.new }
+    ensures { Goes (replied_state rooms.now link (id_of id)) h block.old result block.new }
 {
     let f = cached::find_cached(h, block, id);
     match f {
@@ -54,7 +54,7 @@ pub fn reply_gains(
     held: Held,
 ) -> usize
     requires { Replying h block.now link }
-    ensures { result ≡ replyGains (roomsIn (state_of h block.now) rooms.now) (peerAt (state_of h block.now) link) (id_of id) (heldCached held (state_of h block.now)) (state_of h block.now) }
+    ensures { result ≡ reply_gains (rooms_in (state_of h block.now) rooms.now) (peer_at (state_of h block.now) link) (id_of id) (held_cached held (state_of h block.now)) (state_of h block.now) }
 {
     match held {
         Held::At(_) => {
@@ -81,8 +81,8 @@ fn send_one(
     round: Round,
 ) -> usize
     requires replying { Replying h block.now link }
-    requires tellable { Tellable (pushBytes rooms.now (Gossip (id_of id) content.now (Swarm round.0)) (peerAt (state_of h block.now) link ∷ []) (state_of h block.now)) at }
-    ensures { Written (pushBytes rooms.now (Gossip (id_of id) content.now (Swarm round.0)) (peerAt (state_of h block.now) link ∷ []) (state_of h block.now)) out.old at out.new result }
+    requires tellable { Tellable (push_bytes rooms.now (Gossip (id_of id) content.now (Swarm round.0)) (peer_at (state_of h block.now) link ∷ []) (state_of h block.now)) at }
+    ensures { Written (push_bytes rooms.now (Gossip (id_of id) content.now (Swarm round.0)) (peer_at (state_of h block.now) link ∷ []) (state_of h block.now)) out.old at out.new result }
 {
     let peer = links::peer_at(h, block, link);
     let taken = target::is_taken(rooms, link);
@@ -104,8 +104,8 @@ pub fn reply_sends<'a>(
     held: Held,
 ) -> usize
     requires replying { Replying h block.now link × HeldBelow h.live.cached held }
-    requires tellable { Tellable (replyBytes rooms.now link (id_of id) held (state_of h block.now)) at }
-    ensures { Written (replyBytes rooms.now link (id_of id) held (state_of h block.now)) out.old at out.new result }
+    requires tellable { Tellable (reply_bytes rooms.now link (id_of id) held (state_of h block.now)) at }
+    ensures { Written (reply_bytes rooms.now link (id_of id) held (state_of h block.now)) out.old at out.new result }
 {
     match held {
         Held::At(i) => {

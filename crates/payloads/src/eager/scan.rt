@@ -4,7 +4,7 @@ ghost use Rattle.storage.specs.Rows.Ident.{id_of};
 ghost use Rattle.block.specs.View.{state_of};
 ghost use Rattle.block.specs.Sound.{Sound};
 ghost use Rattle.block.specs.LinkSteps.{LinksAscend};
-ghost use Rattle.payloads.specs.Eager.Targets.{Pushing, skippedIn};
+ghost use Rattle.payloads.specs.Eager.Targets.{Pushing, skipped_in};
 ghost use Rattle.payloads.specs.Eager.Scan.{Starts, SeenFor, Wants};
 
 use crate::eager::target;
@@ -17,7 +17,7 @@ use storage::rows::id::Id;
 // For each link 0 if it hands the push back, else 256. Its time is that of one pass over the links.
 fn starts(h: Head, block: &[u8], rooms: &[u64; 34], push: Push) -> [usize; 32]
     requires { Pushing h block.now push.skip }
-    ensures { Starts push.sender (skippedIn push.skip (state_of h block.now).grafted) rooms.now (state_of h block.now) h.live.links result }
+    ensures { Starts push.sender (skipped_in push.skip (state_of h block.now).grafted) rooms.now (state_of h block.now) h.live.links result }
 {
     let n = h.live.links;
     let mut marks = [0usize; 32];
@@ -65,7 +65,7 @@ fn seen_for(h: Head, block: &[u8], from: [usize; 32], id: Id) -> [usize; 32]
 // For each link a number below 256 if it gets a note of the identifier: it hands the push back, has fewer than 256 notes, and none of the identifier.
 pub fn wants_note(h: Head, block: &[u8], rooms: &[u64; 34], push: Push, id: Id) -> [usize; 32]
     requires { Pushing h block.now push.skip }
-    ensures { Wants push.sender (skippedIn push.skip (state_of h block.now).grafted) rooms.now (id_of id) (state_of h block.now) h.live.links result }
+    ensures { Wants push.sender (skipped_in push.skip (state_of h block.now).grafted) rooms.now (id_of id) (state_of h block.now) h.live.links result }
 {
     let marks = starts(h, block, rooms, push);
     seen_for(h, block, marks, id)

@@ -1,11 +1,11 @@
-// The sends of an eager push: document 01, "Eager push".
+// The sends of an eager push: the specification, "Eager push".
 ghost use Rattle.storage.specs.Rows.Ident.{id_of};
 ghost use Rattle.postcard.specs.Message.{Gossip, Swarm};
-ghost use Rattle.postcard.specs.Values.{deliveryValue};
+ghost use Rattle.postcard.specs.Values.{delivery_value};
 ghost use Rattle.wire.specs.Output.Written.{Tellable, Written};
 ghost use Rattle.block.specs.View.{state_of};
-ghost use Rattle.payloads.specs.Eager.Targets.{Pushing, targetsOf, backsOf};
-ghost use Rattle.payloads.specs.Eager.Sent.{sentBytes, pushBytes, SentTo};
+ghost use Rattle.payloads.specs.Eager.Targets.{Pushing, targets_of, backs_of};
+ghost use Rattle.payloads.specs.Eager.Sent.{sent_bytes, push_bytes, SentTo};
 
 use crate::eager::target;
 use crate::eager::target::Push;
@@ -37,8 +37,8 @@ pub fn push_sends(
     delivery: Delivery,
 ) -> Pushed
     requires pushing { Pushing h block.now push.skip }
-    requires tellable { Tellable (sentBytes rooms.now (Gossip (id_of id) content.now (deliveryValue delivery)) (targetsOf push.sender push.skip (state_of h block.now)) (state_of h block.now)) at }
-    ensures { SentTo (sentBytes rooms.now (Gossip (id_of id) content.now (deliveryValue delivery)) (targetsOf push.sender push.skip (state_of h block.now)) (state_of h block.now)) (backsOf push.sender push.skip rooms.now (state_of h block.now)) out.old at out.new result }
+    requires tellable { Tellable (sent_bytes rooms.now (Gossip (id_of id) content.now (delivery_value delivery)) (targets_of push.sender push.skip (state_of h block.now)) (state_of h block.now)) at }
+    ensures { SentTo (sent_bytes rooms.now (Gossip (id_of id) content.now (delivery_value delivery)) (targets_of push.sender push.skip (state_of h block.now)) (state_of h block.now)) (backs_of push.sender push.skip rooms.now (state_of h block.now)) out.old at out.new result }
 {
     let n = h.live.links;
     let mut to = at;
@@ -74,8 +74,8 @@ pub fn eager_push(
     round: Round,
 ) -> usize
     requires pushing { Pushing h block.now push.skip }
-    requires tellable { Tellable (pushBytes rooms.now (Gossip (id_of id) content.now (Swarm round.0)) (targetsOf push.sender push.skip (state_of h block.now)) (state_of h block.now)) at }
-    ensures { Written (pushBytes rooms.now (Gossip (id_of id) content.now (Swarm round.0)) (targetsOf push.sender push.skip (state_of h block.now)) (state_of h block.now)) out.old at out.new result }
+    requires tellable { Tellable (push_bytes rooms.now (Gossip (id_of id) content.now (Swarm round.0)) (targets_of push.sender push.skip (state_of h block.now)) (state_of h block.now)) at }
+    ensures { Written (push_bytes rooms.now (Gossip (id_of id) content.now (Swarm round.0)) (targets_of push.sender push.skip (state_of h block.now)) (state_of h block.now)) out.old at out.new result }
 {
     let p = push_sends(
         h,

@@ -2,8 +2,8 @@
 ghost use Rattle.std.specs.Prelude.{◌≡◌, ◌<◌, leb, get_or};
 ghost use Rattle.storage.specs.Lists.Base.{member};
 ghost use Rattle.block.specs.View.{state_of};
-ghost use Rattle.block.specs.LinkSteps.{peerAt};
-ghost use Rattle.payloads.specs.Eager.Targets.{Pushing, skippedIn, isTarget, handsBack};
+ghost use Rattle.block.specs.LinkSteps.{peer_at};
+ghost use Rattle.payloads.specs.Eager.Targets.{Pushing, skipped_in, is_target, hands_back};
 
 use block::head::Head;
 use block::links;
@@ -20,7 +20,7 @@ pub struct Push {
 // Whether a link is among the peers that the push skips for being grafted.
 fn is_skipped(h: Head, block: &[u8], skip: Held, link: usize) -> bool
     requires { Pushing h block.now skip × (link < h.live.links) }
-    ensures { result ≡ member (peerAt (state_of h block.now) link) (skippedIn skip (state_of h block.now).grafted) }
+    ensures { result ≡ member (peer_at (state_of h block.now) link) (skipped_in skip (state_of h block.now).grafted) }
 {
     match skip {
         Held::At(g) => reads::is_grafted(h, block, g, link),
@@ -32,7 +32,7 @@ fn is_skipped(h: Head, block: &[u8], skip: Held, link: usize) -> bool
 // the peers of the grafted entry.
 pub fn is_target(h: Head, block: &[u8], push: Push, i: usize) -> bool
     requires { Pushing h block.now push.skip × (i < h.live.links) }
-    ensures { result ≡ isTarget push.sender (skippedIn push.skip (state_of h block.now).grafted) (state_of h block.now) i }
+    ensures { result ≡ is_target push.sender (skipped_in push.skip (state_of h block.now).grafted) (state_of h block.now) i }
 {
     let eager = links::eager_at(h, block, i);
     if eager {
@@ -64,7 +64,7 @@ pub fn is_taken(rooms: &[u64; 34], i: usize) -> bool
 // Whether link i is pushed to and hands it back: "the k-th send of a call to a peer is taken when k ≤ room".
 pub fn hands_back(h: Head, block: &[u8], rooms: &[u64; 34], push: Push, i: usize) -> bool
     requires { Pushing h block.now push.skip × (i < h.live.links) }
-    ensures { result ≡ handsBack push.sender (skippedIn push.skip (state_of h block.now).grafted) rooms.now (state_of h block.now) i }
+    ensures { result ≡ hands_back push.sender (skipped_in push.skip (state_of h block.now).grafted) rooms.now (state_of h block.now) i }
 {
     let target = is_target(h, block, push, i);
     if target {

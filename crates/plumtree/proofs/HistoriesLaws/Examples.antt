@@ -11,7 +11,7 @@ use Rattle.block.specs.declared.head.Limits.{Limits}
 use Rattle.whole.specs.States.Kept.{keep}
 use Rattle.plumtree.specs.Chain.{Seen}
 use Rattle.plumtree.specs.CallList.{fresh_list, with_call}
-use Rattle.plumtree.specs.Histories.History.{Panel, Saved, savedAs, listReturned}
+use Rattle.plumtree.specs.Histories.History.{Panel, Saved, saved_as, list_returned}
 
 module _ (c : Settings) (l : Limits) (block : List ℕ) (counts : Counts) (first second third : Call) (seen : Seen) where
   -- the panel after the first call, as it is saved
@@ -23,11 +23,11 @@ module _ (c : Settings) (l : Limits) (block : List ℕ) (counts : Counts) (first
   later = record { block = block; counts = counts; list = with_call second seen early.list }
 
   abbrev saved : List (Entry Saved)
-  saved = keep (savedAs 1 early) []
+  saved = keep (saved_as 1 early) []
 
   -- the list after a return to this name with this answer, and the third call
   abbrev since : ℕ → ℕ → List (Entry Saved) → List Call
-  since answer name ss = (with_call third seen (listReturned answer name ss later.list)).calls
+  since answer name ss = (with_call third seen (list_returned answer name ss later.list)).calls
 
   pub record HistoryExamples : Type 0 where
     -- "the one up to the saving, followed by the calls since the return"
@@ -35,9 +35,9 @@ module _ (c : Settings) (l : Limits) (block : List ℕ) (counts : Counts) (first
     -- a return that is refused goes on with the list
     pub refused : since 15 2 saved ≡ first ∷ second ∷ third ∷ []
     -- saved again under the name after the second call
-    pub replaced : since 0 1 (keep (savedAs 1 later) saved) ≡ first ∷ second ∷ third ∷ []
+    pub replaced : since 0 1 (keep (saved_as 1 later) saved) ≡ first ∷ second ∷ third ∷ []
     -- saved then under another name
-    pub another : since 0 1 (keep (savedAs 2 later) saved) ≡ first ∷ third ∷ []
+    pub another : since 0 1 (keep (saved_as 2 later) saved) ≡ first ∷ third ∷ []
 
   pub history-examples : HistoryExamples
   unfolding keep lookup

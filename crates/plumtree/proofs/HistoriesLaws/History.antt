@@ -11,30 +11,30 @@ use lib.ListN.{length, get_or, take, replicate, length-replicate}
 use Rattle.std.specs.Prelude.{if◌then◌else◌}
 use Rattle.storage.specs.Lists.Map.{Entry, lookup}
 use Rattle.storage.proofs.ListsLaws.MapLaws.{cases, true≢}
-use Rattle.protocol.specs.State.{Counts, Created, created, notCreated, create, fresh, zeroCounts, Settings as PanelSettings, Limits as PanelLimits}
+use Rattle.protocol.specs.State.{Counts, Created, created, not_created, create, fresh, zero_counts, Settings as PanelSettings, Limits as PanelLimits}
 use Rattle.protocol.specs.Whole.{whole}
-use Rattle.protocol.specs.Answer.{Call, Outcome, refused, accepted, answerBlock}
-use Rattle.block.specs.View.{settingsOf, limitsOf}
+use Rattle.protocol.specs.Answer.{Call, Outcome, refused, accepted, answer_block}
+use Rattle.block.specs.View.{settings_of, limits_of}
 use Rattle.block.specs.declared.head.Settings.{Settings}
 use Rattle.block.specs.declared.head.Limits.{Limits}
 use Rattle.protocol.proofs.CreatedWhole.{created-whole}
 use Rattle.protocol.proofs.NeverFive.{never-five}
 use Rattle.blake3.specs.Blake3.{identifier}
-use Rattle.whole.specs.Held.{held, wholeHeld, wholeBlock}
+use Rattle.whole.specs.Held.{held, whole_held, whole_block}
 use Rattle.whole.proofs.WholeLaws.{held-round}
 use Rattle.whole.specs.Creation.{Creates}
 use Rattle.whole.specs.States.Kept.{Kept, keep}
-use Rattle.whole.specs.States.Area.{slots, kept, keptIn, areaHolds, InWidth, LeftBy, zeros}
+use Rattle.whole.specs.States.Area.{slots, kept, kept_in, area_holds, InWidth, LeftBy, zeros}
 use Rattle.whole.specs.States.Calls.{Saves, Returns}
 use Rattle.whole.proofs.StatesLaws.LeftBy.{area-exact}
 use Rattle.whole.proofs.StatesLaws.Accepted.{kept-after, left_after, saved-not, Found, brought, returned-there, returned-not}
 use Rattle.machine.specs.Called.{Lent, Finds, Called}
-use Rattle.plumtree.specs.Calls.{Made, countsLeft}
+use Rattle.plumtree.specs.Calls.{Made, counts_left}
 use Rattle.plumtree.specs.Chain.{Seen, Chain, done, next, Guaranteed}
 use Rattle.plumtree.proofs.CreationLaws.{made}
 use Rattle.plumtree.proofs.Guarantee.{created-holds, guarantee}
 use Rattle.plumtree.specs.CallList.{CallList, fresh_list, with_call}
-use Rattle.plumtree.specs.Histories.History.{Panel, Saved, Area, keptOf, wasAccepted, savedAs, listSaved, listReturned, Step, creates, calls, saves, returns, History, begins, opens, joins, goes, Histories}
+use Rattle.plumtree.specs.Histories.History.{Panel, Saved, Area, kept_of, was_accepted, saved_as, list_saved, list_returned, Step, creates, calls, saves, returns, History, begins, opens, joins, goes, Histories}
 
 -- block and counts are what this list of calls left, from an accepted creation; the block has n bytes
 record From (n : ℕ) (s : CallList) (block : List ℕ) (counts : Counts) : Type 0 where
@@ -61,16 +61,16 @@ module _ (n : ℕ) (s : CallList) (block : List ℕ) (counts : Counts) (g : From
   from-guaranteed = guarantee.always s.settings s.limits g.before g.old g.first g.zeroed g.long g.made s.calls s.seen block counts g.chain
 
   -- and the block is whole
-  from-whole : wholeBlock block ≡ true
-  unfolding wholeBlock wholeHeld fresh
+  from-whole : whole_block block ≡ true
+  unfolding whole_block whole_held fresh
   from-whole =
-      let c : PanelSettings = settingsOf s.settings in
-      let l : PanelLimits = limitsOf s.limits in
+      let c : PanelSettings = settings_of s.settings in
+      let l : PanelLimits = limits_of s.limits in
       let h = created-holds s.settings s.limits g.before g.first g.made.creation in
       let w : whole (fresh c l) ≡ true =
-      created-whole c l (length g.before) (fresh c l) zeroCounts (made s.settings s.limits g.before g.first g.made.creation)
-      (le-leb c.optimizationThreshold 65535 (held-round g.first (fresh c l) h.state)) in
-      ap wholeHeld from-guaranteed.state ∙ (never-five identifier (fresh c l) zeroCounts s.calls w).1
+      created-whole c l (length g.before) (fresh c l) zero_counts (made s.settings s.limits g.before g.first g.made.creation)
+      (le-leb c.optimization_threshold 65535 (held-round g.first (fresh c l) h.state)) in
+      ap whole_held from-guaranteed.state ∙ (never-five identifier (fresh c l) zero_counts s.calls w).1
 
 -- one call more at the end of a chain
 snoc : (block : List ℕ) (counts : Counts) (ks : List Call) (seen : List Seen) (last : List ℕ) (n : Counts) → Chain block counts ks seen last n →
@@ -83,11 +83,11 @@ snoc _ _ _ _ _ _ (next block counts j out mid m w g ks seen last n more) k outpu
 
 -- a call keeps the block's length
 same-long : (k : Call) (before after : Lent) (number long : ℕ) → Called k before after number long → length after.block ≡ length before.block
-same-long k before after number long f = by (answerBlock identifier (length before.block) (held before.block) before.counts k) f.finds
+same-long k before after number long f = by (answer_block identifier (length before.block) (held before.block) before.counts k) f.finds
   where
     by : (o : Outcome) → Finds o before after number long → length after.block ≡ length before.block
     by (refused n) g = ap length g.block
-    by (accepted s c bytes) g = g.blockLong
+    by (accepted s c bytes) g = g.block_long
 
 called-from : (n : ℕ) (s : CallList) (block : List ℕ) (counts : Counts) → From n s block counts → (k : Call) (output : List ℕ) (after : Lent) (number long : ℕ) →
     Called k (record { block = block; counts = counts; output = output }) after number long → From n (with_call k (record { number = number; bytes = take long after.output }) s) after.block after.counts
@@ -104,19 +104,19 @@ called-from n s block counts g k output after number long f = record {
 
 -- a creation keeps the block's length; a refused one leaves block and counts
 made-long : (c : Settings) (l : Limits) (block : List ℕ) (counts : Counts) (block' : List ℕ) (counts' : Counts) (answer long : ℕ) → Made c l block counts block' counts' answer long → length block' ≡ length block
-made-long c l block counts block' counts' answer long m = by (create (settingsOf c) (limitsOf l) (length block)) m.creation
+made-long c l block counts block' counts' answer long m = by (create (settings_of c) (limits_of l) (length block)) m.creation
   where
     by : (a : Created) → Creates a block block' answer → length block' ≡ length block
-    by (notCreated n) g = ap length g.block
+    by (not_created n) g = ap length g.block
     by (created s z) g = g.long
 
 made-not : (c : Settings) (l : Limits) (block : List ℕ) (counts : Counts) (block' : List ℕ) (counts' : Counts) (answer long : ℕ) → (answer ≡ 0 → ⊥) → Made c l block counts block' counts' answer long →
     (block' ≡ block) × (counts' ≡ counts)
-unfolding countsLeft
-made-not c l block counts block' counts' answer long ne m = by (create (settingsOf c) (limitsOf l) (length block)) m.creation m.left
+unfolding counts_left
+made-not c l block counts block' counts' answer long ne m = by (create (settings_of c) (limits_of l) (length block)) m.creation m.left
   where
-    by : (a : Created) → Creates a block block' answer → counts' ≡ countsLeft a counts → (block' ≡ block) × (counts' ≡ counts)
-    by (notCreated n) g e = (g.block, e)
+    by : (a : Created) → Creates a block block' answer → counts' ≡ counts_left a counts → (block' ≡ block) × (counts' ≡ counts)
+    by (not_created n) g e = (g.block, e)
     by (created s z) g e = absurd (ne g.number)
 
 -- each state kept is what its list left
@@ -129,10 +129,10 @@ unfolding keep
 each_keep n x [] f no_more = one_more x [] f no_more
 each_keep n x (s ∷ ss) f (one_more _ _ g e) = cases (eqb x.key s.key) (λ t. rw t (one_more x ss f e)) (λ t. rw t (one_more s (keep x ss) g (each_keep n x ss f e)))
 
-map-keep : (x : Entry Saved) (ss : List (Entry Saved)) → keep (keptOf x) (map keptOf ss) ≡ map keptOf (keep x ss)
+map-keep : (x : Entry Saved) (ss : List (Entry Saved)) → keep (kept_of x) (map kept_of ss) ≡ map kept_of (keep x ss)
 unfolding keep
 map-keep x [] = refl
-map-keep x (s ∷ ss) = cases (eqb x.key s.key) (λ t. rw t refl) (λ t. rw t (ap (λ (l : List (Entry Kept)). keptOf s ∷ l) (map-keep x ss)))
+map-keep x (s ∷ ss) = cases (eqb x.key s.key) (λ t. rw t refl) (λ t. rw t (ap (λ (l : List (Entry Kept)). kept_of s ∷ l) (map-keep x ss)))
 
 -- the state under a name has its list, which led to it
 record Stored (n name : ℕ) (ss : List (Entry Saved)) (k : Kept) : Type 0 where
@@ -141,7 +141,7 @@ record Stored (n name : ℕ) (ss : List (Entry Saved)) (k : Kept) : Type 0 where
   same : k ≡ it.kept
   from : From n it.list it.kept.block it.kept.counts
 
-stored : (n name : ℕ) (ss : List (Entry Saved)) (k : Kept) → Each n ss → lookup name (map keptOf ss) ≡ some k → Stored n name ss k
+stored : (n name : ℕ) (ss : List (Entry Saved)) (k : Kept) → Each n ss → lookup name (map kept_of ss) ≡ some k → Stored n name ss k
 unfolding lookup
 stored n name [] k no_more e = let z : false ≡ true = cc in true≢ z
 stored n name (s ∷ ss) k (one_more _ _ g more) e =
@@ -151,7 +151,7 @@ stored n name (s ∷ ss) k (one_more _ _ g more) e =
     record { it = s.value; there = rw t refl; same = b; from = g })
     (λ t. let m = stored n name ss k more (rw t at e) in record { it = m.it; there = rw t m.there; same = m.same; from = m.from })
 
-lookup-kept : (name : ℕ) (ss : List (Entry Saved)) (s : Saved) → lookup name ss ≡ some s → lookup name (map keptOf ss) ≡ some s.kept
+lookup-kept : (name : ℕ) (ss : List (Entry Saved)) (s : Saved) → lookup name ss ≡ some s → lookup name (map kept_of ss) ≡ some s.kept
 unfolding lookup
 lookup-kept name [] s e = let z : false ≡ true = cc in true≢ z
 lookup-kept name (x ∷ ss) s e =
@@ -178,7 +178,7 @@ Left n p = From n p.list p.block p.counts
 -- what holds of the area
 record Keeps (n : ℕ) (a : Area) : Type 0 where
   each : Each n a.saved
-  same : keptIn n a.bytes ≡ map keptOf a.saved
+  same : kept_in n a.bytes ≡ map kept_of a.saved
   left : 256 + n * 4 ≤ length a.bytes → LeftBy n a.bytes
 
 -- zeros keep nothing
@@ -187,45 +187,45 @@ nothing-kept zero i = refl
 nothing-kept (suc long) zero = refl
 nothing-kept (suc long) (suc i) = nothing-kept long i
 
-zeros-kept : (n long : ℕ) → keptIn n (replicate long 0) ≡ []
-unfolding keptIn kept slots
+zeros-kept : (n long : ℕ) → kept_in n (replicate long 0) ≡ []
+unfolding kept_in kept slots
 zeros-kept n long = rw (nothing-kept long 255) refl
 
 -- a saving
 saved-keeps : (n : ℕ) (p : Panel) (a : Area) → From n p.list p.block p.counts → Keeps n a → (name : ℕ) (area' : List ℕ) (answer long : ℕ) → InWidth name p.counts →
-    Saves p.block p.counts a.bytes name area' answer long → Keeps n (record { bytes = area'; saved = if wasAccepted answer then keep (savedAs name p) a.saved else a.saved })
+    Saves p.block p.counts a.bytes name area' answer long → Keeps n (record { bytes = area'; saved = if was_accepted answer then keep (saved_as name p) a.saved else a.saved })
 saved-keeps n p a f k name area' answer long w s = cases (eqb answer 0) on-yes on-no
   where
     Kept' : Type 0
-    Kept' = Keeps n (record { bytes = area'; saved = if eqb answer 0 then keep (savedAs name p) a.saved else a.saved })
+    Kept' = Keeps n (record { bytes = area'; saved = if eqb answer 0 then keep (saved_as name p) a.saved else a.saved })
 
     on-yes : eqb answer 0 ≡ true → Kept'
     on-yes t =
         let z : Saves p.block p.counts a.bytes name area' 0 long = subst (λ (x : ℕ). Saves p.block p.counts a.bytes name area' x long) (eqb-true answer 0 t) s in
         rw t (record {
-          each = each_keep n (savedAs name p) a.saved f k.each;
-          same = ap (λ (m : ℕ). keptIn m area') (sym f.size) ∙ kept-after p.block p.counts a.bytes name area' long w z
-              ∙ ap (keep (keptOf (savedAs name p))) (ap (λ (m : ℕ). keptIn m a.bytes) f.size ∙ k.same) ∙ map-keep (savedAs name p) a.saved;
+          each = each_keep n (saved_as name p) a.saved f k.each;
+          same = ap (λ (m : ℕ). kept_in m area') (sym f.size) ∙ kept-after p.block p.counts a.bytes name area' long w z
+              ∙ ap (keep (kept_of (saved_as name p))) (ap (λ (m : ℕ). kept_in m a.bytes) f.size ∙ k.same) ∙ map-keep (saved_as name p) a.saved;
           left = λ l. subst (λ (m : ℕ). LeftBy m area') f.size (left_after p.block p.counts a.bytes name area' long w z);
         })
 
     on-no : eqb answer 0 ≡ false → Kept'
     on-no t =
         let u : area' ≡ a.bytes = saved-not p.block p.counts a.bytes name area' answer long (eqb-false answer 0 t) s in
-        rw t (record { each = k.each; same = ap (keptIn n) u ∙ k.same; left = subst (λ (x : List ℕ). 256 + n * 4 ≤ length x → LeftBy n x) (sym u) k.left })
+        rw t (record { each = k.each; same = ap (kept_in n) u ∙ k.same; left = subst (λ (x : List ℕ). 256 + n * 4 ≤ length x → LeftBy n x) (sym u) k.left })
 
 -- what an accepted return brings back has its list
 returned-stored : (n : ℕ) (p : Panel) (a : Area) → From n p.list p.block p.counts → Keeps n a → (name : ℕ) {block' : List ℕ} {counts' : Counts} →
     (b : Found p.block a.bytes name block' counts') → Stored n name a.saved b.it
-returned-stored n p a f k name b = stored n name a.saved b.it k.each (ap (lookup name) (sym k.same ∙ ap (λ (m : ℕ). keptIn m a.bytes) (sym f.size)) ∙ b.there)
+returned-stored n p a f k name b = stored n name a.saved b.it k.each (ap (lookup name) (sym k.same ∙ ap (λ (m : ℕ). kept_in m a.bytes) (sym f.size)) ∙ b.there)
 
 -- a return
 returned-from : (n : ℕ) (p : Panel) (a : Area) → From n p.list p.block p.counts → Keeps n a → (name : ℕ) (block' : List ℕ) (counts' : Counts) (answer long : ℕ) →
-    Returns p.block p.counts a.bytes name block' counts' answer long → From n (listReturned answer name a.saved p.list) block' counts'
+    Returns p.block p.counts a.bytes name block' counts' answer long → From n (list_returned answer name a.saved p.list) block' counts'
 returned-from n p a f k name block' counts' answer long r = cases (eqb answer 0) on-yes on-no
   where
     From' : Type 0
-    From' = From n (if eqb answer 0 then listSaved (lookup name a.saved) p.list else p.list) block' counts'
+    From' = From n (if eqb answer 0 then list_saved (lookup name a.saved) p.list else p.list) block' counts'
 
     on-yes : eqb answer 0 ≡ true → From'
     on-yes t =
@@ -239,7 +239,7 @@ returned-from n p a f k name block' counts' answer long r = cases (eqb answer 0)
 
 -- a creation in the panel's block
 created-from : (n : ℕ) (p : Panel) → From n p.list p.block p.counts → (c : Settings) (l : Limits) (block' : List ℕ) (counts' : Counts) (answer long : ℕ) →
-    Made c l p.block p.counts block' counts' answer long → From n (if wasAccepted answer then fresh_list c l else p.list) block' counts'
+    Made c l p.block p.counts block' counts' answer long → From n (if was_accepted answer then fresh_list c l else p.list) block' counts'
 created-from n p f c l block' counts' answer long m = cases (eqb answer 0) on-yes on-no
   where
     From' : Type 0
@@ -284,7 +284,7 @@ histories = record {
   always = λ n front p behind areas h. from-guaranteed n p.list p.block p.counts (one (Left n) front p behind (inv n h).0);
   whole = λ n front p behind areas h. from-whole n p.list p.block p.counts (one (Left n) front p behind (inv n h).0);
   kept = λ n ps left a right h. (one (Keeps n) left a right (inv n h).1).same;
-  holds = λ n ps left a right h l. (area-exact.exactly n a.bytes).onlyWhen ((one (Keeps n) left a right (inv n h).1).left l);
+  holds = λ n ps left a right h l. (area-exact.exactly n a.bytes).only_when ((one (Keeps n) left a right (inv n h).1).left l);
   found = λ n front p behind left a right h name block' counts' long r.
       let i = inv n h in
       let b = brought p.block p.counts a.bytes name block' counts' long r in
@@ -295,6 +295,6 @@ histories = record {
       let g = one (Left n) front p behind i.0 in
       let k = one (Keeps n) left a right i.1 in
       returned-there p.block p.counts a.bytes name block' counts' answer long s.kept (from-whole n p.list p.block p.counts g)
-      (ap (λ (m : ℕ). areaHolds m a.bytes) g.size ∙ (area-exact.exactly n a.bytes).onlyWhen (k.left l))
-      (ap (λ (m : ℕ). lookup name (keptIn m a.bytes)) g.size ∙ ap (lookup name) k.same ∙ lookup-kept name a.saved s e) r;
+      (ap (λ (m : ℕ). area_holds m a.bytes) g.size ∙ (area-exact.exactly n a.bytes).only_when (k.left l))
+      (ap (λ (m : ℕ). lookup name (kept_in m a.bytes)) g.size ∙ ap (lookup name) k.same ∙ lookup-kept name a.saved s e) r;
 }

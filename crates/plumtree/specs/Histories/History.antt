@@ -1,4 +1,4 @@
--- Request d, over time: panels with blocks of one length, and the areas that they share.
+-- "Named states", over time: panels with blocks of one length, and the areas that they share.
 -- "From a return on, the list of calls that the guarantees speak about is the one up to the saving, followed by the calls since the return."
 -- Assumes nothing.
 use Rattle.std.specs.Prelude.{ℕ, ◌+◌, ◌*◌, ◌≤◌, ◌≡◌, Bool, true, List, [], ◌∷◌, ◌++◌, map, eqb, length, take, replicate, if◌then◌else◌}
@@ -8,9 +8,9 @@ use Rattle.protocol.specs.State.{Counts}
 use Rattle.protocol.specs.Answer.{Call}
 use Rattle.block.specs.declared.head.Settings.{Settings}
 use Rattle.block.specs.declared.head.Limits.{Limits}
-use Rattle.whole.specs.Held.{wholeBlock}
+use Rattle.whole.specs.Held.{whole_block}
 use Rattle.whole.specs.States.Kept.{Kept, keep}
-use Rattle.whole.specs.States.Area.{keptIn, areaHolds, InWidth}
+use Rattle.whole.specs.States.Area.{kept_in, area_holds, InWidth}
 use Rattle.whole.specs.States.Calls.{Saves, Returns}
 use Rattle.machine.specs.Called.{Lent, Called}
 use Rattle.plumtree.specs.Calls.{Made}
@@ -34,40 +34,40 @@ pub record Area : Type 0 where
   pub saved : List (Entry Saved)
 
 -- what the bytes have of a state
-abbrev pub keptOf : Entry Saved → Entry Kept
-keptOf s = entry s.key s.value.kept
+abbrev pub kept_of : Entry Saved → Entry Kept
+kept_of s = entry s.key s.value.kept
 
 -- "Answer 0 is yes to all"
-abbrev pub wasAccepted : ℕ → Bool
-wasAccepted answer = eqb answer 0
+abbrev pub was_accepted : ℕ → Bool
+was_accepted answer = eqb answer 0
 
 -- the panel as it is saved under a name
-abbrev pub savedAs : ℕ → Panel → Entry Saved
-savedAs name p = entry name (record { kept = record { counts = p.counts; block = p.block }; list = p.list })
+abbrev pub saved_as : ℕ → Panel → Entry Saved
+saved_as name p = entry name (record { kept = record { counts = p.counts; block = p.block }; list = p.list })
 
 -- "the one up to the saving": the list that was saved under the name
-abbrev pub listSaved : Option Saved → CallList → CallList
-listSaved none now = now
-listSaved (some s) now = s.list
+abbrev pub list_saved : Option Saved → CallList → CallList
+list_saved none now = now
+list_saved (some s) now = s.list
 
 -- the list after a return to this name with this answer, of a panel whose list is `now`
-abbrev pub listReturned : ℕ → ℕ → List (Entry Saved) → CallList → CallList
-listReturned answer name saved now = if wasAccepted answer then listSaved (lookup name saved) now else now
+abbrev pub list_returned : ℕ → ℕ → List (Entry Saved) → CallList → CallList
+list_returned answer name saved now = if was_accepted answer then list_saved (lookup name saved) now else now
 
 -- what a call makes of a panel and an area; each call as its contract says
 pub data Step : Panel → Area → Panel → Area → Type 0 where
   -- a creation in the panel's block begins a new list
   creates : (p : Panel) (a : Area) (c : Settings) (l : Limits) (block' : List ℕ) (counts' : Counts) (answer long : ℕ) → Made c l p.block p.counts block' counts' answer long →
-      Step p a (record { block = block'; counts = counts'; list = if wasAccepted answer then fresh_list c l else p.list }) a
+      Step p a (record { block = block'; counts = counts'; list = if was_accepted answer then fresh_list c l else p.list }) a
   -- an event call is one more of the list
   calls : (p : Panel) (a : Area) (k : Call) (output : List ℕ) (after : Lent) (answer long : ℕ) → Called k (record { block = p.block; counts = p.counts; output = output }) after answer long →
       Step p a (record { block = after.block; counts = after.counts; list = with_call k (record { number = answer; bytes = take long after.output }) p.list }) a
   -- a saving leaves the panel, and its list is kept under the name
   saves : (p : Panel) (a : Area) (name : ℕ) (area' : List ℕ) (answer long : ℕ) → InWidth name p.counts → Saves p.block p.counts a.bytes name area' answer long →
-      Step p a p (record { bytes = area'; saved = if wasAccepted answer then keep (savedAs name p) a.saved else a.saved })
+      Step p a p (record { bytes = area'; saved = if was_accepted answer then keep (saved_as name p) a.saved else a.saved })
   -- a return leaves the area, and the panel's list is the one kept under the name
   returns : (p : Panel) (a : Area) (name : ℕ) (block' : List ℕ) (counts' : Counts) (answer long : ℕ) → Returns p.block p.counts a.bytes name block' counts' answer long →
-      Step p a (record { block = block'; counts = counts'; list = listReturned answer name a.saved p.list }) a
+      Step p a (record { block = block'; counts = counts'; list = list_returned answer name a.saved p.list }) a
 
 -- a history of panels with blocks of n bytes, and of areas
 pub data History (n : ℕ) : List Panel → List Area → Type 0 where
@@ -89,11 +89,11 @@ pub record Histories : Type 0 where
   pub always : (n : ℕ) (front : List Panel) (p : Panel) (behind : List Panel) (areas : List Area) → History n (front ++ (p ∷ behind)) areas →
       Guaranteed p.list.settings p.list.limits p.list.calls p.list.seen p.block p.counts
   -- its block is whole, so that no call upon it is answered 5
-  pub whole : (n : ℕ) (front : List Panel) (p : Panel) (behind : List Panel) (areas : List Area) → History n (front ++ (p ∷ behind)) areas → wholeBlock p.block ≡ true
+  pub whole : (n : ℕ) (front : List Panel) (p : Panel) (behind : List Panel) (areas : List Area) → History n (front ++ (p ∷ behind)) areas → whole_block p.block ≡ true
   -- the area's bytes keep the states whose lists are kept, under their names and in their order
-  pub kept : (n : ℕ) (ps : List Panel) (left : List Area) (a : Area) (right : List Area) → History n ps (left ++ (a ∷ right)) → keptIn n a.bytes ≡ map keptOf a.saved
+  pub kept : (n : ℕ) (ps : List Panel) (left : List Area) (a : Area) (right : List Area) → History n ps (left ++ (a ∷ right)) → kept_in n a.bytes ≡ map kept_of a.saved
   -- if it is long enough no call upon it is answered 17
-  pub holds : (n : ℕ) (ps : List Panel) (left : List Area) (a : Area) (right : List Area) → History n ps (left ++ (a ∷ right)) → 256 + n * 4 ≤ length a.bytes → areaHolds n a.bytes ≡ true
+  pub holds : (n : ℕ) (ps : List Panel) (left : List Area) (a : Area) (right : List Area) → History n ps (left ++ (a ∷ right)) → 256 + n * 4 ≤ length a.bytes → area_holds n a.bytes ≡ true
   -- a return that is accepted finds a list under its name, and brings back block and counts as they were saved with it
   pub found : (n : ℕ) (front : List Panel) (p : Panel) (behind : List Panel) (left : List Area) (a : Area) (right : List Area) → History n (front ++ (p ∷ behind)) (left ++ (a ∷ right)) →
       (name : ℕ) (block' : List ℕ) (counts' : Counts) (long : ℕ) → Returns p.block p.counts a.bytes name block' counts' 0 long →

@@ -1,15 +1,15 @@
--- Document 02, request e, over blocks: "from alike blocks and equal counts, the same list of events, times, link room and output space gives the same answers and actions".
+-- "Order in alike", over blocks: "from alike blocks and equal counts, the same list of events, times, link room and output space gives the same answers and actions".
 -- Assumes nothing.
 use Rattle.std.specs.Prelude.{ℕ, ◌≡◌, true, List, length}
 use Rattle.protocol.specs.State.{Counts}
 use Rattle.protocol.specs.Answer.{Call}
-use Rattle.protocol.specs.Alike.{likeness, alikeBlocks}
+use Rattle.protocol.specs.Alike.{likeness, alike_blocks}
 use Rattle.whole.specs.Held.{held}
 use Rattle.plumtree.specs.Chain.{Seen, Chain}
 
 -- *Alike*, of two blocks, is answered yes: both are whole, and may differ in length
 abbrev pub ToldAlike : List ℕ → List ℕ → Type 0
-ToldAlike a b = alikeBlocks (length a) (held a) (length b) (held b) ≡ likeness true
+ToldAlike a b = alike_blocks (length a) (held a) (length b) (held b) ≡ likeness true
 
 -- what is the same after the list, upon either block
 pub record SameSeen (v w : List Seen) (last last' : List ℕ) (n n' : Counts) : Type 0 where

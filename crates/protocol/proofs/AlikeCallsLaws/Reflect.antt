@@ -16,9 +16,9 @@ use Rattle.time_cache.specs.TimeCache.{Cache, Timed, Expiry}
 use Rattle.protocol.specs.Links.{Links, eager, lazy}
 use Rattle.protocol.specs.State.{State, Settings, Limits, Hop, Note, Grafts, Cached, Timers}
 use Rattle.protocol.specs.Run.{begin}
-use Rattle.protocol.specs.Push.{forPeer}
-use Rattle.protocol.specs.Alike.{same_list, sameOption, sameMap, sameMark, sameHop, sameNote, sameNotes, sameExpiry, sameGrafts, sameCached, sameUnit, sameCache, sameSettings, sameLimits, sameTables, sameCaches, sameFlags, alike}
-use Rattle.protocol.specs.AlikeCalls.Peerwise.{Peerwise, ofPeer, Like, like, LikeStates}
+use Rattle.protocol.specs.Push.{for_peer}
+use Rattle.protocol.specs.Alike.{same_list, same_option, same_map, same_mark, same_hop, same_note, same_notes, same_expiry, same_grafts, same_cached, same_unit, same_cache, same_settings, same_limits, same_tables, same_caches, same_flags, alike}
+use Rattle.protocol.specs.AlikeCalls.Peerwise.{Peerwise, of_peer, Like, like, LikeStates}
 
 -- both of two tests
 pub both : {a b : Bool} → (a && b) ≡ true → (a ≡ true) × (b ≡ true)
@@ -40,22 +40,22 @@ tells-list same w [] (y ∷ ys) h = true≢ h
 tells-list same w (x ∷ xs) [] h = true≢ h
 tells-list same w (x ∷ xs) (y ∷ ys) h = let (a, b) = both h in ap ◌∷◌ (w x y a) ⊛ tells-list same w xs ys b
 
-tells-option : {A : Type 0} (same : A → A → Bool) → Tells same → Tells (sameOption same)
-unfolding sameOption
+tells-option : {A : Type 0} (same : A → A → Bool) → Tells same → Tells (same_option same)
+unfolding same_option
 tells-option same w none none h = refl
 tells-option same w none (some b) h = true≢ h
 tells-option same w (some a) none h = true≢ h
 tells-option same w (some a) (some b) h = ap some (w a b h)
 
-tells-map : {A : Type 0} (same : A → A → Bool) → Tells same → Tells (sameMap same)
-unfolding sameMap
+tells-map : {A : Type 0} (same : A → A → Bool) → Tells same → Tells (same_map same)
+unfolding same_map
 tells-map {A} same w m n h = tells-list (λ d e. eqb d.key e.key && same d.value e.value) one m n h
   where
     one : (d e : Entry A) → (eqb d.key e.key && same d.value e.value) ≡ true → d ≡ e
     one d e k = let (a, b) = both k in ap (entry {A = A}) (eqb-true d.key e.key a) ⊛ w d.value e.value b
 
-tells-mark : Tells sameMark
-unfolding sameMark
+tells-mark : Tells same_mark
+unfolding same_mark
 tells-mark eager eager h = refl
 tells-mark eager lazy h = true≢ h
 tells-mark lazy eager h = true≢ h
@@ -71,15 +71,15 @@ tells-flag false false h = refl
 hop : ℕ → ℕ → Hop
 hop p r = record { peer = p; round = r }
 
-pub tells-hop : Tells sameHop
-unfolding sameHop hop
+pub tells-hop : Tells same_hop
+unfolding same_hop hop
 tells-hop x y h = let (a, b) = both h in ap hop (eqb-true x.peer y.peer a) ⊛ eqb-true x.round y.round b
 
 note : ℕ → ℕ → ℕ → Note
 note p i r = record { peer = p; id = i; round = r }
 
-tells-note : Tells sameNote
-unfolding sameNote note
+tells-note : Tells same_note
+unfolding same_note note
 tells-note x y h =
     let (h₂, c) = both h in
     let (a, b) = both h₂ in
@@ -88,28 +88,28 @@ tells-note x y h =
 expiry : ℕ → ℕ → Expiry
 expiry t k = record { time = t; key = k }
 
-pub tells-expiry : Tells sameExpiry
-unfolding sameExpiry expiry
+pub tells-expiry : Tells same_expiry
+unfolding same_expiry expiry
 tells-expiry x y h = let (a, b) = both h in ap expiry (eqb-true x.time y.time a) ⊛ eqb-true x.key y.key b
 
 grafts : Option Hop → Option ℕ → Map ℕ → Grafts
 grafts f k p = record { first = f; kept = k; peers = p }
 
-tells-grafts : Tells sameGrafts
-unfolding sameGrafts grafts
+tells-grafts : Tells same_grafts
+unfolding same_grafts grafts
 tells-grafts x y h =
     let (h₂, c) = both h in
     let (a, b) = both h₂ in
-    ap grafts (tells-option sameHop tells-hop x.first y.first a) ⊛ tells-option eqb eqb-true x.kept y.kept b ⊛ tells-map eqb eqb-true x.peers y.peers c
+    ap grafts (tells-option same_hop tells-hop x.first y.first a) ⊛ tells-option eqb eqb-true x.kept y.kept b ⊛ tells-map eqb eqb-true x.peers y.peers c
 
 cached : List ℕ → ℕ → Cached
 cached c r = record { content = c; round = r }
 
-tells-cached : Tells sameCached
-unfolding sameCached cached
+tells-cached : Tells same_cached
+unfolding same_cached cached
 tells-cached x y h = let (a, b) = both h in ap cached (tells-list eqb eqb-true x.content y.content a) ⊛ eqb-true x.round y.round b
 
-tells-unit : Tells sameUnit
+tells-unit : Tells same_unit
 tells-unit x y h = refl
 
 timed : {A : Type 0} → ℕ → A → Timed A
@@ -118,11 +118,11 @@ timed e v = record { expires = e; value = v }
 cache : {A : Type 0} → Map (Timed A) → List Expiry → Cache A
 cache m x = record { entries = m; expiry = x }
 
-tells-cache : {A : Type 0} (same : A → A → Bool) → Tells same → Tells (sameCache same)
-unfolding sameCache timed cache
+tells-cache : {A : Type 0} (same : A → A → Bool) → Tells same → Tells (same_cache same)
+unfolding same_cache timed cache
 tells-cache {A} same w x y h =
     let (a, b) = both h in
-    ap (cache {A = A}) (tells-map (λ u v. eqb u.expires v.expires && same u.value v.value) one x.entries y.entries a) ⊛ tells-list sameExpiry tells-expiry x.expiry y.expiry b
+    ap (cache {A = A}) (tells-map (λ u v. eqb u.expires v.expires && same u.value v.value) one x.entries y.entries a) ⊛ tells-list same_expiry tells-expiry x.expiry y.expiry b
   where
     one : (u v : Timed A) → (eqb u.expires v.expires && same u.value v.value) ≡ true → u ≡ v
     one u v k = let (a, b) = both k in ap (timed {A = A}) (eqb-true u.expires v.expires a) ⊛ w u.value v.value b
@@ -142,21 +142,21 @@ nine make a b c d e f g i j a' b' c' d' e' f' g' i' j' h =
     ap make (eqb-true a a' t₁) ⊛ eqb-true b b' t₂ ⊛ eqb-true c c' t₃ ⊛ eqb-true d d' t₄ ⊛ eqb-true e e' t₅ ⊛ eqb-true f f' t₆ ⊛ eqb-true g g' t₇ ⊛ eqb-true i i' t₈ ⊛ eqb-true j j' t₉
 
 settings : ℕ → ℕ → ℕ → ℕ → ℕ → ℕ → ℕ → ℕ → ℕ → Settings
-settings a b c d e f g i j = record { graftTimeout1 = a; graftTimeout2 = b; dispatchTimeout = c; optimizationThreshold = d; messageCacheRetention = e; messageIdRetention = f; cacheEvictInterval = g; maxMessageSize = i; me = j }
+settings a b c d e f g i j = record { graft_timeout_1 = a; graft_timeout_2 = b; dispatch_timeout = c; optimization_threshold = d; message_cache_retention = e; message_id_retention = f; cache_evict_interval = g; max_message_size = i; me = j }
 
-tells-settings : Tells sameSettings
-unfolding sameSettings settings
-tells-settings x y h = nine settings x.graftTimeout1 x.graftTimeout2 x.dispatchTimeout x.optimizationThreshold x.messageCacheRetention x.messageIdRetention x.cacheEvictInterval x.maxMessageSize x.me y.graftTimeout1 y.graftTimeout2 y.dispatchTimeout y.optimizationThreshold y.messageCacheRetention y.messageIdRetention y.cacheEvictInterval y.maxMessageSize y.me h
+tells-settings : Tells same_settings
+unfolding same_settings settings
+tells-settings x y h = nine settings x.graft_timeout_1 x.graft_timeout_2 x.dispatch_timeout x.optimization_threshold x.message_cache_retention x.message_id_retention x.cache_evict_interval x.max_message_size x.me y.graft_timeout_1 y.graft_timeout_2 y.dispatch_timeout y.optimization_threshold y.message_cache_retention y.message_id_retention y.cache_evict_interval y.max_message_size y.me h
 
 limits : ℕ → ℕ → ℕ → ℕ → ℕ → ℕ → ℕ → ℕ → ℕ → Limits
 limits a b c d e f g i j = record { N = a; R = b; C = c; B = d; G = e; S = f; T = g; Q = i; D = j }
 
-tells-limits : Tells sameLimits
-unfolding sameLimits limits
+tells-limits : Tells same_limits
+unfolding same_limits limits
 tells-limits x y h = nine limits x.N x.R x.C x.B x.G x.S x.T x.Q x.D y.N y.R y.C y.B y.G y.S y.T y.Q y.D h
 
 -- a test of peers that each entry's peer passes: this peer passes it, or nothing stands for it
-at-peer : (p : ℕ) (f : ℕ → Bool) (ns : List Note) → all (λ n. f n.peer) ns ≡ true → (f p ≡ true) ⊎ (ofPeer p ns ≡ [])
+at-peer : (p : ℕ) (f : ℕ → Bool) (ns : List Note) → all (λ n. f n.peer) ns ≡ true → (f p ≡ true) ⊎ (of_peer p ns ≡ [])
 unfolding filter
 at-peer p f [] h = inr refl
 at-peer p f (n ∷ ns) h =
@@ -164,13 +164,13 @@ at-peer p f (n ∷ ns) h =
     (λ e. inl (rw (eqb-true n.peer p e) at (all_head (λ n. f n.peer) n ns h)))
     (λ e. rw e (at-peer p f ns (all_tail (λ n. f n.peer) n ns h)))
 
-pub tells-notes : (xs ys : List Note) → sameNotes xs ys ≡ true → Peerwise xs ys
-unfolding sameNotes
-tells-notes xs ys h = record { same = λ p. on p (at-peer p (λ q. same_list sameNote (ofPeer q xs) (ofPeer q ys)) (xs ++ ys) h) }
+pub tells-notes : (xs ys : List Note) → same_notes xs ys ≡ true → Peerwise xs ys
+unfolding same_notes
+tells-notes xs ys h = record { same = λ p. on p (at-peer p (λ q. same_list same_note (of_peer q xs) (of_peer q ys)) (xs ++ ys) h) }
   where
-    on : (p : ℕ) → (same_list sameNote (ofPeer p xs) (ofPeer p ys) ≡ true) ⊎ (ofPeer p (xs ++ ys) ≡ []) → ofPeer p xs ≡ ofPeer p ys
-    on p (inl e) = tells-list sameNote tells-note (ofPeer p xs) (ofPeer p ys) e
-    on p (inr e) = let (a, b) = append-eq-nil_iff.0 (sym (filter-append (forPeer p) xs ys) ∙ e) in a ∙ sym b
+    on : (p : ℕ) → (same_list same_note (of_peer p xs) (of_peer p ys) ≡ true) ⊎ (of_peer p (xs ++ ys) ≡ []) → of_peer p xs ≡ of_peer p ys
+    on p (inl e) = tells-list same_note tells-note (of_peer p xs) (of_peer p ys) e
+    on p (inr e) = let (a, b) = append-eq-nil_iff.0 (sym (filter-append (for_peer p) xs ys) ∙ e) in a ∙ sym b
 
 timers : List ℕ → Bool → Bool → Timers
 timers g d a = record { graft = g; dispatch = d; announce = a }
@@ -181,7 +181,7 @@ state q d s l k m r g c t i = record { settings = s; limits = l; links = k; queu
 
 -- states that are alike differ in the interleaving alone
 pub alike-like : (s t : State) → alike s t ≡ true → LikeStates s t
-unfolding alike sameTables sameCaches sameFlags state timers
+unfolding alike same_tables same_caches same_flags state timers
 alike-like s t h =
     let (h₄, flags) = both h in
     let (h₃, caches) = both h₄ in
@@ -196,9 +196,9 @@ alike-like s t h =
     let (f₂, announce) = both flags in
     let (init, dispatch) = both f₂ in
     let e : state t.queue t.dropped s.settings s.limits s.links s.missing s.received s.grafted s.cache s.timers s.init ≡ t =
-    ap (state t.queue t.dropped) (tells-settings s.settings t.settings set) ⊛ tells-limits s.limits t.limits lim ⊛ tells-map sameMark tells-mark s.links t.links links
-    ⊛ tells-map (same_list sameHop) (tells-list sameHop tells-hop) s.missing t.missing missing
-    ⊛ tells-cache sameUnit tells-unit s.received t.received first ⊛ tells-cache sameGrafts tells-grafts s.grafted t.grafted second ⊛ tells-cache sameCached tells-cached s.cache t.cache third
+    ap (state t.queue t.dropped) (tells-settings s.settings t.settings set) ⊛ tells-limits s.limits t.limits lim ⊛ tells-map same_mark tells-mark s.links t.links links
+    ⊛ tells-map (same_list same_hop) (tells-list same_hop tells-hop) s.missing t.missing missing
+    ⊛ tells-cache same_unit tells-unit s.received t.received first ⊛ tells-cache same_grafts tells-grafts s.grafted t.grafted second ⊛ tells-cache same_cached tells-cached s.cache t.cache third
     ⊛ (ap timers (tells-list eqb eqb-true s.timers.graft t.timers.graft graft) ⊛ tells-flag s.timers.dispatch t.timers.dispatch dispatch ⊛ tells-flag s.timers.announce t.timers.announce announce)
     ⊛ tells-flag s.init t.init init in
     λ c rooms. subst (λ (u : State). Like (begin s c rooms) (begin u c rooms)) e

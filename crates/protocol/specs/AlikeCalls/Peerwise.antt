@@ -2,21 +2,21 @@
 -- Assumes nothing.
 use Rattle.std.specs.Prelude.{ℕ, ◌≡◌, List}
 use Rattle.storage.specs.Lists.Base.{filter}
-use Rattle.protocol.specs.State.{State, Counts, Note, withQueue, withDropped}
-use Rattle.protocol.specs.Run.{Run, Room, withState, begin}
-use Rattle.protocol.specs.Push.{forPeer}
+use Rattle.protocol.specs.State.{State, Counts, Note, with_queue, with_dropped}
+use Rattle.protocol.specs.Run.{Run, Room, with_state, begin}
+use Rattle.protocol.specs.Push.{for_peer}
 
 -- what stands for the peer, in order
-abbrev pub ofPeer : ℕ → List Note → List Note
-ofPeer p ns = filter (forPeer p) ns
+abbrev pub of_peer : ℕ → List Note → List Note
+of_peer p ns = filter (for_peer p) ns
 
 -- each peer has the same list
 pub record Peerwise (xs ys : List Note) : Type 0 where
-  pub same : (p : ℕ) → ofPeer p xs ≡ ofPeer p ys
+  pub same : (p : ℕ) → of_peer p xs ≡ of_peer p ys
 
 -- the run with this queue and this record
 abbrev pub over : Run → List Note → List Note → Run
-over r q d = withState (withQueue q (withDropped d r.state)) r
+over r q d = with_state (with_queue q (with_dropped d r.state)) r
 
 -- one run with two queues and two records, in which each peer has the same
 pub data Like : Run → Run → Type 0 where

@@ -8,35 +8,35 @@ use lib.ListN.{length, take, drop, length-drop}
 use lib.Seq.{drop-drop, get_or-drop}
 use Rattle.storage.specs.Lists.Base.{sum}
 use Rattle.storage.specs.Rows.Part.{part}
-use Rattle.storage.specs.Rows.Digits.{leNat, le_bytes}
+use Rattle.storage.specs.Rows.Digits.{le_nat, le_bytes}
 use Rattle.storage.proofs.RowsLaws.Parts.{part-put, part-before, part-after, length_part}
-use Rattle.storage.proofs.RowsLaws.Digits.{length-leBytes, leNat-leBytes}
+use Rattle.storage.proofs.RowsLaws.Digits.{length-le_bytes, le_nat-le_bytes}
 use Rattle.storage.proofs.RowsLaws.Rows.{row-end}
-use Rattle.time_cache.specs.Tables.{ExpiryRow, expiryRowOf, expiryRows, expiryOf, row_at, no_row}
-use Rattle.time_cache.proofs.ExpiryLaws.{row-at, length-expiryRows}
-use Rattle.block.specs.View.{fourAt}
+use Rattle.time_cache.specs.Tables.{ExpiryRow, expiry_row_of, expiry_rows, expiry_of, row_at, no_row}
+use Rattle.time_cache.proofs.ExpiryLaws.{row-at, length-expiry_rows}
+use Rattle.block.specs.View.{four_at}
 use Rattle.block.specs.Sound.{Adjoining}
 use Rattle.block.specs.Sound.Adjoining.{done as last, next as then}
-use Rattle.steps.specs.Contents.Starts.{start_of, len_of, firstStart, Chain, done, next, withStart, withLen, shiftedRow, Above}
+use Rattle.steps.specs.Contents.Starts.{start_of, len_of, first_start, Chain, done, next, with_start, with_len, shifted_row, Above}
 
 -- start and length in the bytes of a row
-pub start-bytes : (row : List ℕ) → start_of (expiryRowOf row) ≡ fourAt 40 row
-unfolding expiryRowOf fourAt part
+pub start-bytes : (row : List ℕ) → start_of (expiry_row_of row) ≡ four_at 40 row
+unfolding expiry_row_of four_at part
 start-bytes row = refl
 
-pub len-bytes : (row : List ℕ) → len_of (expiryRowOf row) ≡ fourAt 44 row
-unfolding expiryRowOf fourAt part
-len-bytes row = ap (λ (z : List ℕ). leNat (take 4 z)) (drop-drop 4 40 row)
+pub len-bytes : (row : List ℕ) → len_of (expiry_row_of row) ≡ four_at 44 row
+unfolding expiry_row_of four_at part
+len-bytes row = ap (λ (z : List ℕ). le_nat (take 4 z)) (drop-drop 4 40 row)
 
-pub of-adjoining : {a e : ℕ} {rs : List (List ℕ)} → Adjoining a rs e → Chain a (map expiryRowOf rs) e
+pub of-adjoining : {a e : ℕ} {rs : List (List ℕ)} → Adjoining a rs e → Chain a (map expiry_row_of rs) e
 of-adjoining last = done
 of-adjoining {a} {e} (then row more s r) =
-    next (expiryRowOf row) (map expiryRowOf more) (start-bytes row ∙ s) (subst (λ (b : ℕ). Chain (a + b) (map expiryRowOf more) e) (sym (len-bytes row)) (of-adjoining r))
+    next (expiry_row_of row) (map expiry_row_of more) (start-bytes row ∙ s) (subst (λ (b : ℕ). Chain (a + b) (map expiry_row_of more) e) (sym (len-bytes row)) (of-adjoining r))
 
-pub to-adjoining : (a e : ℕ) (rs : List (List ℕ)) → Chain a (map expiryRowOf rs) e → Adjoining a rs e
+pub to-adjoining : (a e : ℕ) (rs : List (List ℕ)) → Chain a (map expiry_row_of rs) e → Adjoining a rs e
 to-adjoining a e [] done = last
 to-adjoining a e (row ∷ more) (next x xs s c) =
-    then row more (sym (start-bytes row) ∙ s) (to-adjoining (a + fourAt 44 row) e more (subst (λ (b : ℕ). Chain (a + b) (map expiryRowOf more) e) (len-bytes row) c))
+    then row more (sym (start-bytes row) ∙ s) (to-adjoining (a + four_at 44 row) e more (subst (λ (b : ℕ). Chain (a + b) (map expiry_row_of more) e) (len-bytes row) c))
 
 pub chain-ends : {a e : ℕ} {xs : List ExpiryRow} → Chain a xs e → a ≤ e
 chain-ends done = omega arith
@@ -54,13 +54,13 @@ chain-total done = omega arith
 chain-total (next x xs s c) = omega (arith, chain-total c)
 
 -- the first d rows are gone
-pub chain-drop : {a e : ℕ} {xs : List ExpiryRow} → Chain a xs e → (d : ℕ) → Chain (firstStart e (drop d xs)) (drop d xs) e
+pub chain-drop : {a e : ℕ} {xs : List ExpiryRow} → Chain a xs e → (d : ℕ) → Chain (first_start e (drop d xs)) (drop d xs) e
 chain-drop done zero = done
 chain-drop done (suc d) = done
 chain-drop (next {e = e} x xs s c) zero = next x xs refl (subst (λ (b : ℕ). Chain (b + len_of x) xs e) (sym s) c)
 chain-drop (next x xs s c) (suc d) = chain-drop c d
 
-pub chain_first : {a e : ℕ} {xs : List ExpiryRow} → Chain a xs e → firstStart e xs ≡ a
+pub chain_first : {a e : ℕ} {xs : List ExpiryRow} → Chain a xs e → first_start e xs ≡ a
 chain_first done = refl
 chain_first (next x xs s c) = s
 
@@ -88,37 +88,37 @@ along-at none p h = absurd (omega arith)
 along-at (more x y xs ys t k s l r) zero h = (t, k, s, l)
 along-at (more x y xs ys t k s l r) (suc p) h = along-at r p (omega arith)
 
-pub along-expiry : {up down : ℕ} {xs ys : List ExpiryRow} → Along up down xs ys → map expiryOf ys ≡ map expiryOf xs
+pub along-expiry : {up down : ℕ} {xs ys : List ExpiryRow} → Along up down xs ys → map expiry_of ys ≡ map expiry_of xs
 along-expiry none = refl
 along-expiry (more x y xs ys t k s l r) = λ i. record { time = t i; key = k i } ∷ along-expiry r i
 
 -- another start, in bytes
-pub start-set : (v : ℕ) (x : ExpiryRow) → 4 ≤ length x.rest → v < 4294967296 → start_of (withStart v x) ≡ v
-unfolding fourAt
-start-set v x h w = ap leNat (part-put 0 4 (le_bytes 4 v) x.rest (length-leBytes 4 v) (omega arith)) ∙ leNat-leBytes 4 v w
+pub start-set : (v : ℕ) (x : ExpiryRow) → 4 ≤ length x.rest → v < 4294967296 → start_of (with_start v x) ≡ v
+unfolding four_at
+start-set v x h w = ap le_nat (part-put 0 4 (le_bytes 4 v) x.rest (length-le_bytes 4 v) (omega arith)) ∙ le_nat-le_bytes 4 v w
 
-pub start-len : (v : ℕ) (x : ExpiryRow) → len_of (withStart v x) ≡ len_of x
-unfolding fourAt
-start-len v x = ap leNat (part-after 4 4 0 (le_bytes 4 v) x.rest (omega (arith, length-leBytes 4 v)) (omega arith))
+pub start-len : (v : ℕ) (x : ExpiryRow) → len_of (with_start v x) ≡ len_of x
+unfolding four_at
+start-len v x = ap le_nat (part-after 4 4 0 (le_bytes 4 v) x.rest (omega (arith, length-le_bytes 4 v)) (omega arith))
 
 -- start and length have their bytes in every row
 abbrev pub Wide : List ExpiryRow → Type 0
 Wide xs = (i : ℕ) → i < length xs → length (row_at xs i).rest ≡ 8
 
-pub wide_rows : (m : ℕ) (x : List ℕ) → m * 48 ≤ length x → Wide (expiryRows 48 m x)
-unfolding expiryRowOf
+pub wide_rows : (m : ℕ) (x : List ℕ) → m * 48 ≤ length x → Wide (expiry_rows 48 m x)
+unfolding expiry_row_of
 wide_rows m x h i l =
-    let q : i < m = omega (arith, length-expiryRows 48 m x) in
+    let q : i < m = omega (arith, length-expiry_rows 48 m x) in
     ap (λ (y : ExpiryRow). length y.rest) (row-at 48 m i x q)
     ∙ length-drop 40 (part (i * 48) 48 x)
     ∙ ap (λ (n : ℕ). n - 40) (length_part (i * 48) 48 x (omega (arith, row-end 48 m i q)))
 
-pub along-map : (up down : ℕ) {a e : ℕ} {xs : List ExpiryRow} → Wide xs → Chain a xs e → down ≤ a + up → e + up < 4294967296 → Along up down xs (map (shiftedRow up down) xs)
+pub along-map : (up down : ℕ) {a e : ℕ} {xs : List ExpiryRow} → Wide xs → Chain a xs e → down ≤ a + up → e + up < 4294967296 → Along up down xs (map (shifted_row up down) xs)
 along-map up down w done h g = none
 along-map up down w (next x xs s c) h g =
     let v : ℕ = start_of x + up - down in
     let b : v < 4294967296 = omega (arith, s, chain-ends c) in
-    more x (shiftedRow up down x) xs (map (shiftedRow up down) xs) refl refl
+    more x (shifted_row up down x) xs (map (shifted_row up down) xs) refl refl
     (omega (arith, start-set v x (omega (arith, w 0 (omega arith))) b, s)) (start-len v x)
     (along-map up down (λ i l. w (suc i) (omega arith)) c (omega arith) g)
 
@@ -140,27 +140,27 @@ chain-resize e' zero y ys (next {a = a} x xs sx c) h al s l o t = next {a = a} {
 chain-resize e' (suc p) y ys (next {a = a} x xs sx c) h al s l o t = next {a = a} {e = e'} x (take p xs ++ (y ∷ ys)) sx (chain-resize e' p y ys c (omega arith) al s l o t)
 
 -- a row without a content put in before row j
-pub chain-gap : {a e : ℕ} {xs : List ExpiryRow} (j : ℕ) (y : ExpiryRow) → Chain a xs e → start_of y ≡ firstStart e (drop j xs) → len_of y ≡ 0 → Chain a (take j xs ++ (y ∷ drop j xs)) e
+pub chain-gap : {a e : ℕ} {xs : List ExpiryRow} (j : ℕ) (y : ExpiryRow) → Chain a xs e → start_of y ≡ first_start e (drop j xs) → len_of y ≡ 0 → Chain a (take j xs ++ (y ∷ drop j xs)) e
 chain-gap {a} zero y done s l = next {a = a} {e = a} y [] s (subst (λ (b : ℕ). Chain b [] a) (omega (arith, l)) done)
 chain-gap {a} (suc j) y done s l = next {a = a} {e = a} y [] s (subst (λ (b : ℕ). Chain b [] a) (omega (arith, l)) done)
 chain-gap {a} {e} zero y (next x xs sx c) s l = next {a = a} {e = e} y (x ∷ xs) (s ∙ sx) (subst (λ (b : ℕ). Chain b (x ∷ xs) e) (omega (arith, l)) (next {a = a} {e = e} x xs sx c))
 chain-gap {a} {e} (suc j) y (next x xs sx c) s l = next {a = a} {e = e} x (take j xs ++ (y ∷ drop j xs)) sx (chain-gap {a = a + len_of x} {e = e} j y c s l)
 
 -- another length, in bytes
-pub len-set : (v : ℕ) (x : ExpiryRow) → 8 ≤ length x.rest → v < 4294967296 → len_of (withLen v x) ≡ v
-unfolding fourAt
-len-set v x h w = ap leNat (part-put 4 4 (le_bytes 4 v) x.rest (length-leBytes 4 v) (omega arith)) ∙ leNat-leBytes 4 v w
+pub len-set : (v : ℕ) (x : ExpiryRow) → 8 ≤ length x.rest → v < 4294967296 → len_of (with_len v x) ≡ v
+unfolding four_at
+len-set v x h w = ap le_nat (part-put 4 4 (le_bytes 4 v) x.rest (length-le_bytes 4 v) (omega arith)) ∙ le_nat-le_bytes 4 v w
 
-pub len-start : (v : ℕ) (x : ExpiryRow) → 4 ≤ length x.rest → start_of (withLen v x) ≡ start_of x
-unfolding fourAt
-len-start v x h = ap leNat (part-before 0 4 4 (le_bytes 4 v) x.rest (omega arith) (omega arith))
+pub len-start : (v : ℕ) (x : ExpiryRow) → 4 ≤ length x.rest → start_of (with_len v x) ≡ start_of x
+unfolding four_at
+len-start v x h = ap le_nat (part-before 0 4 4 (le_bytes 4 v) x.rest (omega arith) (omega arith))
 
 pub wide-drop : (d : ℕ) (xs : List ExpiryRow) → Wide xs → Wide (drop d xs)
 wide-drop d xs w i h =
     ap (λ (y : ExpiryRow). length y.rest) (get_or-drop d xs i no_row) ∙ w (d + i) (omega (arith, length-drop d xs))
 
 -- a row starts where the one before it ends
-pub chain_next : {a e : ℕ} {xs : List ExpiryRow} → Chain a xs e → (p : ℕ) → p < length xs → firstStart e (drop (suc p) xs) ≡ start_of (row_at xs p) + len_of (row_at xs p)
+pub chain_next : {a e : ℕ} {xs : List ExpiryRow} → Chain a xs e → (p : ℕ) → p < length xs → first_start e (drop (suc p) xs) ≡ start_of (row_at xs p) + len_of (row_at xs p)
 chain_next done p h = absurd (omega arith)
 chain_next (next x xs s c) zero h = omega (arith, s, chain_first c)
 chain_next (next x xs s c) (suc p) h = chain_next c p (omega arith)

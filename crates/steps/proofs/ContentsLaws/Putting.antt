@@ -12,18 +12,18 @@ use lib.ListN.{length}
 use Rattle.storage.specs.Lists.Base.{sum, ascending}
 use Rattle.storage.specs.Lists.Map.{Map, Entry, entry, keys, lookup, insert}
 use Rattle.storage.proofs.ListsLaws.MapLaws.{cases, lookup-insert-same, ascending-insert}
-use Rattle.time_cache.specs.TimeCache.{Timed, Cache, value_of, get, put as put_in, withValue, replace}
+use Rattle.time_cache.specs.TimeCache.{Timed, Cache, value_of, get, put as put_in, with_value, replace}
 use Rattle.time_cache.proofs.Timely.{order-added}
 use Rattle.time_cache.proofs.ValueLaws.{replace-put}
-use Rattle.protocol.specs.State.{State, Cached, withCache}
-use Rattle.decide.specs.SizesAfter.{contentLength}
+use Rattle.protocol.specs.State.{State, Cached, with_cache}
+use Rattle.decide.specs.SizesAfter.{content_length}
 use Rattle.decide.proofs.Broadcast.{content-put}
 use Rattle.block.specs.View.{state_of}
 use Rattle.block.specs.Sound.{Sound, held}
 use Rattle.block.specs.Goes.{Goes}
 use Rattle.block.specs.declared.head.Head.{Head}
 use Rattle.block.specs.Caches.InBlock.{InOrder, AtMost}
-use Rattle.steps.specs.Contents.CacheSteps.{message, cachedAlso, refillWith, refill, refilled}
+use Rattle.steps.specs.Contents.CacheSteps.{message, cached_also, refill_with, refill, refilled}
 use Rattle.steps.proofs.ContentsLaws.Inserting.{count-put, expiry-put}
 
 -- a value put in over another
@@ -46,8 +46,8 @@ sum-insert-le f k v (e ∷ m) =
 
 module _ (id : ℕ) where
   -- a value put in over one that was replaced
-  with-put : (v : Cached) (x : Timed Cached) (o : Option (Timed Cached)) (m : Map (Timed Cached)) → insert id x (withValue id v o m) ≡ insert id x m
-  unfolding withValue
+  with-put : (v : Cached) (x : Timed Cached) (o : Option (Timed Cached)) (m : Map (Timed Cached)) → insert id x (with_value id v o m) ≡ insert id x m
+  unfolding with_value
   with-put v x none m = refl
   with-put v x (some y) m = insert-twice id (record { expires = y.expires; value = v }) x m
 
@@ -55,8 +55,8 @@ module _ (id : ℕ) where
   unfolding put_in replace
   put-replace v w t c = λ j. record { entries = with-put v (record { expires = t; value = w }) (lookup id c.entries) c.entries j; expiry = (put_in id w t c).expiry }
 
-  put-with : (content : List ℕ) (w : Cached) (t : ℕ) (o : Option Cached) (c : Cache Cached) → put_in id w t (refillWith id content o c) ≡ put_in id w t c
-  unfolding refillWith
+  put-with : (content : List ℕ) (w : Cached) (t : ℕ) (o : Option Cached) (c : Cache Cached) → put_in id w t (refill_with id content o c) ≡ put_in id w t c
+  unfolding refill_with
   put-with content w t none c = refl
   put-with content w t (some v) c = put-replace (message content v.round) w t c
 
@@ -68,9 +68,9 @@ module _ (id : ℕ) where
   got-put v t c = ap value_of (lookup-insert-same id (record { expires = t; value = v }) c.entries)
 
   pub refill-put : (content : List ℕ) (v : Cached) (t : ℕ) (c : Cache Cached) → refill id content (put_in id v t c) ≡ put_in id (message content v.round) t c
-  unfolding refillWith
+  unfolding refill_with
   refill-put content v t c =
-      ap (λ (o : Option Cached). refillWith id content o (put_in id v t c)) (got-put v t c)
+      ap (λ (o : Option Cached). refill_with id content o (put_in id v t c)) (got-put v t c)
       ∙ replace-put id v (message content v.round) t c
 
   -- the three steps
@@ -78,13 +78,13 @@ module _ (id : ℕ) where
   put_three content round t c = refill-put content (message [] round) t (refill id [] c) ∙ put-refill [] (message content round) t c
 
   -- keys stay in order
-  in-order-with : (v : Cached) (o : Option (Timed Cached)) (m : Map (Timed Cached)) → ascending (keys m) ≡ true → ascending (keys (withValue id v o m)) ≡ true
-  unfolding withValue
+  in-order-with : (v : Cached) (o : Option (Timed Cached)) (m : Map (Timed Cached)) → ascending (keys m) ≡ true → ascending (keys (with_value id v o m)) ≡ true
+  unfolding with_value
   in-order-with v none m u = u
   in-order-with v (some y) m u = ascending-insert id _ m u
 
-  in-order-given : (content : List ℕ) (o : Option Cached) (c : Cache Cached) → InOrder c → InOrder (refillWith id content o c)
-  unfolding refillWith replace
+  in-order-given : (content : List ℕ) (o : Option Cached) (c : Cache Cached) → InOrder c → InOrder (refill_with id content o c)
+  unfolding refill_with replace
   in-order-given content none c i = i
   in-order-given content (some v) c i = record { up = in-order-with (message content v.round) (lookup id c.entries) c.entries i.up; order = i.order }
 
@@ -96,13 +96,13 @@ module _ (id : ℕ) where
   in-order-put v t c i = record { up = ascending-insert id _ c.entries i.up; order = order-added _ c.expiry i.order }
 
   -- the bytes of the contents
-  less-with : (r : ℕ) (o : Option (Timed Cached)) (m : Map (Timed Cached)) → held (withValue id (message [] r) o m) ≤ held m
-  unfolding withValue
+  less-with : (r : ℕ) (o : Option (Timed Cached)) (m : Map (Timed Cached)) → held (with_value id (message [] r) o m) ≤ held m
+  unfolding with_value
   less-with r none m = omega arith
   less-with r (some y) m = omega (arith, sum-insert-le (λ e. length e.value.value.content) id (record { expires = y.expires; value = message [] r }) m)
 
-  less-given : (o : Option Cached) (c : Cache Cached) → held (refillWith id [] o c).entries ≤ held c.entries
-  unfolding refillWith replace
+  less-given : (o : Option Cached) (c : Cache Cached) → held (refill_with id [] o c).entries ≤ held c.entries
+  unfolding refill_with replace
   less-given none c = omega arith
   less-given (some v) c = less-with v.round (lookup id c.entries) c.entries
 
@@ -110,14 +110,14 @@ module _ (id : ℕ) where
   held-less c = less-given (get id c) c
 
   -- nothing is left of an old content
-  bare-with : (r : ℕ) (o : Option (Timed Cached)) (m : Map (Timed Cached)) → lookup id m ≡ o → contentLength (value_of (lookup id (withValue id (message [] r) o m))) ≡ 0
-  unfolding withValue value_of contentLength
-  bare-with r none m e = ap (λ (o : Option (Timed Cached)). contentLength (value_of o)) e
-  bare-with r (some y) m e = ap (λ (o : Option (Timed Cached)). contentLength (value_of o)) (lookup-insert-same id (record { expires = y.expires; value = message [] r }) m)
+  bare-with : (r : ℕ) (o : Option (Timed Cached)) (m : Map (Timed Cached)) → lookup id m ≡ o → content_length (value_of (lookup id (with_value id (message [] r) o m))) ≡ 0
+  unfolding with_value value_of content_length
+  bare-with r none m e = ap (λ (o : Option (Timed Cached)). content_length (value_of o)) e
+  bare-with r (some y) m e = ap (λ (o : Option (Timed Cached)). content_length (value_of o)) (lookup-insert-same id (record { expires = y.expires; value = message [] r }) m)
 
-  bare-given : (o : Option Cached) (c : Cache Cached) → get id c ≡ o → contentLength (get id (refillWith id [] o c)) ≡ 0
-  unfolding refillWith replace get contentLength
-  bare-given none c e = ap contentLength e
+  bare-given : (o : Option Cached) (c : Cache Cached) → get id c ≡ o → content_length (get id (refill_with id [] o c)) ≡ 0
+  unfolding refill_with replace get content_length
+  bare-given none c e = ap content_length e
   bare-given (some v) c e = bare-with v.round (lookup id c.entries) c.entries refl
 
   pub held_same : (round t : ℕ) (c : Cache Cached) → InOrder c → held (put_in id (message [] round) t (refill id [] c)).entries ≡ held (refill id [] c).entries
@@ -163,9 +163,9 @@ module _ (id : ℕ) (content : List ℕ) (round t : ℕ) (h : Head) (xs : List �
         ∙ sym (ap (λ (s : State). held s.cache.entries) g.state)
         ∙ g.sound.laid.used
 
-    module _ (b : Head) (zs : List ℕ) (f : Goes (cachedAlso id [] round t) a ys b zs) where
+    module _ (b : Head) (zs : List ℕ) (f : Goes (cached_also id [] round t) a ys b zs) where
       cache-2 : (state_of b zs).cache ≡ put_in id (message [] round) t (refill id [] (state_of h xs).cache)
-      cache-2 = ap (λ (s : State). s.cache) (f.state ∙ ap (cachedAlso id [] round t) g.state)
+      cache-2 = ap (λ (s : State). s.cache) (f.state ∙ ap (cached_also id [] round t) g.state)
 
       limit-2 : b.limits.content ≡ h.limits.content
       unfolding state_of
@@ -178,10 +178,10 @@ module _ (id : ℕ) (content : List ℕ) (round t : ℕ) (h : Head) (xs : List �
       room-2 w =
           omega (arith, w, limit-2, ap (λ (c : Cache Cached). held (refill id content c).entries) cache-2, ap (λ (c : Cache Cached). held c.entries) (put_three id content round t (state_of h xs).cache))
 
-      pub also-goes : (r : Head) (ws : List ℕ) → Goes (refilled id content) b zs r ws → Goes (cachedAlso id content round t) h xs r ws
+      pub also-goes : (r : Head) (ws : List ℕ) → Goes (refilled id content) b zs r ws → Goes (cached_also id content round t) h xs r ws
       also-goes r ws e = record {
         state =
-            e.state ∙ ap (refilled id content) (f.state ∙ ap (cachedAlso id [] round t) g.state)
-            ∙ ap (λ (c : Cache Cached). withCache c (state_of h xs)) (put_three id content round t (state_of h xs).cache);
+            e.state ∙ ap (refilled id content) (f.state ∙ ap (cached_also id [] round t) g.state)
+            ∙ ap (λ (c : Cache Cached). with_cache c (state_of h xs)) (put_three id content round t (state_of h xs).cache);
         sound = e.sound;
       }

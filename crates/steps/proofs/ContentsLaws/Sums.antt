@@ -85,8 +85,8 @@ pub sum-all : (K : ℕ → ℕ) (v u w : ℕ → ℕ) (e : (i : ℕ) → v i + u
     → sum w ps ≡ sums w m → sum v ps ≡ sums v m
 sum-all K v u w e m ps a b t = omega (arith, t, sum-parts v u w e ps, sums-parts v u w e m, sum-once K m v ps a b, sum-once K m u ps a b)
 
-pub from-upTo : (d : ℕ) (w : ℕ → ℕ) (i : ℕ) → from d w i + up_to d w i ≡ w i
-from-upTo d w i = cases (leb d i) (λ t. rw t (omega arith)) (λ f. rw f (omega arith))
+pub from-up_to : (d : ℕ) (w : ℕ → ℕ) (i : ℕ) → from d w i + up_to d w i ≡ w i
+from-up_to d w i = cases (leb d i) (λ t. rw t (omega arith)) (λ f. rw f (omega arith))
 
 -- the lengths in all rows, and in the rows from d on
 pub sums-rows : (xs : List ExpiryRow) → sums (λ i. len_of (row_at xs i)) (length xs) ≡ sum len_of xs

@@ -10,36 +10,36 @@ use lib.Dec.{leb}
 use lib.ListN.{length}
 use Rattle.storage.proofs.ListsLaws.MapLaws.{and_left, and_right}
 use Rattle.time_cache.specs.TimeCache.{Cache, put}
-use Rattle.protocol.specs.State.{State, Limits, Settings, Cached, durationsInRange}
-use Rattle.protocol.specs.Whole.{cacheFits, contentHeld, fits}
-use Rattle.decide.specs.StateAfter.{takenState}
+use Rattle.protocol.specs.State.{State, Limits, Settings, Cached, durations_in_range}
+use Rattle.protocol.specs.Whole.{cache_fits, content_held, fits}
+use Rattle.decide.specs.StateAfter.{taken_state}
 use Rattle.block.specs.View.{state_of}
 use Rattle.block.specs.Sound.{held}
 use Rattle.block.specs.Goes.{Goes}
 use Rattle.block.specs.declared.head.Head.{Head}
-use Rattle.block.specs.Caches.InBlock.{InOrder, AtMost, receivedAlso}
+use Rattle.block.specs.Caches.InBlock.{InOrder, AtMost, received_also}
 use Rattle.steps.specs.Stands.{Stands}
 use Rattle.steps.proofs.StandsLaws.{cached-order}
-use Rattle.steps.specs.Contents.CacheSteps.{message, cachedAlso}
-use Rattle.steps.specs.Contents.Taking.{TakesIn, forgottenAt, uncachedAt}
+use Rattle.steps.specs.Contents.CacheSteps.{message, cached_also}
+use Rattle.steps.specs.Contents.Taking.{TakesIn, forgotten_at, uncached_at}
 
 -- the durations that are added to an instant
-durations : (c : Settings) → durationsInRange c ≡ true → (c.messageIdRetention ≤ 2 ^ 40) × (c.messageCacheRetention ≤ 2 ^ 40)
-unfolding durationsInRange
+durations : (c : Settings) → durations_in_range c ≡ true → (c.message_id_retention ≤ 2 ^ 40) × (c.message_cache_retention ≤ 2 ^ 40)
+unfolding durations_in_range
 durations c e =
-    let a : Bool = leb c.graftTimeout1 (2 ^ 40) && leb c.graftTimeout2 (2 ^ 40) && leb c.dispatchTimeout (2 ^ 40) in
-    let d : Bool = leb c.messageCacheRetention (2 ^ 40) in
-    let i : Bool = leb c.messageIdRetention (2 ^ 40) in
-    let five : a && d && i ≡ true = and_left (a && d && i) (leb c.cacheEvictInterval (2 ^ 40)) e in
-    (leb-true c.messageIdRetention (2 ^ 40) (and_right (a && d) i five), leb-true c.messageCacheRetention (2 ^ 40) (and_right a d (and_left (a && d) i five)))
+    let a : Bool = leb c.graft_timeout_1 (2 ^ 40) && leb c.graft_timeout_2 (2 ^ 40) && leb c.dispatch_timeout (2 ^ 40) in
+    let d : Bool = leb c.message_cache_retention (2 ^ 40) in
+    let i : Bool = leb c.message_id_retention (2 ^ 40) in
+    let five : a && d && i ≡ true = and_left (a && d && i) (leb c.cache_evict_interval (2 ^ 40)) e in
+    (leb-true c.message_id_retention (2 ^ 40) (and_right (a && d) i five), leb-true c.message_cache_retention (2 ^ 40) (and_right a d (and_left (a && d) i five)))
 
 pub times-fit : (h : Head) (block : List ℕ) → Stands h block → (h.settings.config.message_id_retention.0 ≤ 2 ^ 40) × (h.settings.config.message_cache_retention.0 ≤ 2 ^ 40)
 unfolding state_of
 times-fit h block s = durations (state_of h block).settings s.ranged.durations
 
 -- a cache within its limit
-at_most : {A : Type 0} (n : ℕ) (c : Cache A) → cacheFits n c ≡ true → AtMost n c
-unfolding cacheFits
+at_most : {A : Type 0} (n : ℕ) (c : Cache A) → cache_fits n c ≡ true → AtMost n c
+unfolding cache_fits
 at_most n c e = record {
   entries = leb-true (length c.entries) n (and_left (leb (length c.entries) n) (leb (length c.expiry) (2 * n)) e);
   expiry = leb-true (length c.expiry) (2 * n) (and_right (leb (length c.entries) n) (leb (length c.expiry) (2 * n)) e);
@@ -47,13 +47,13 @@ at_most n c e = record {
 
 -- what question 13 tells of the two message caches
 caches-fit : (s : State) → fits s ≡ true → AtMost s.limits.R s.received × AtMost s.limits.C s.cache × (held s.cache.entries ≤ s.limits.B)
-unfolding fits contentHeld
+unfolding fits content_held
 caches-fit s e =
     let n : Bool = leb (length s.links) s.limits.N in
-    let r : Bool = cacheFits s.limits.R s.received in
-    let c : Bool = cacheFits s.limits.C s.cache in
-    let b : Bool = leb (contentHeld s) s.limits.B in
-    let g : Bool = cacheFits s.limits.G s.grafted in
+    let r : Bool = cache_fits s.limits.R s.received in
+    let c : Bool = cache_fits s.limits.C s.cache in
+    let b : Bool = leb (content_held s) s.limits.B in
+    let g : Bool = cache_fits s.limits.G s.grafted in
     let m : Bool = leb (length s.missing) s.limits.S in
     let t : Bool = leb (length s.timers.graft) s.limits.T in
     let q : Bool = leb (length s.queue) s.limits.Q in
@@ -63,16 +63,16 @@ caches-fit s e =
     let three : n && r && c ≡ true = and_left (n && r && c) b four in (
       at_most s.limits.R s.received (and_right n r (and_left (n && r) c three)),
       at_most s.limits.C s.cache (and_right (n && r) c three),
-      leb-true (contentHeld s) s.limits.B (and_right (n && r && c) b four),
+      leb-true (content_held s) s.limits.B (and_right (n && r && c) b four),
     )
 
 -- a later state, with these message caches and limits, that is within every limit
 module _ (instant id : ℕ) (content : List ℕ) (round : ℕ) (h : Head) (block : List ℕ) (early : instant ≤ 2 ^ 62) where
   abbrev taken : State
-  taken = takenState instant id content round (state_of h block)
+  taken = taken_state instant id content round (state_of h block)
 
   pub takes-from : (z : State) → Stands h block → fits z ≡ true → z.limits ≡ taken.limits → z.received ≡ taken.received → z.cache ≡ taken.cache → TakesIn instant id content round h block
-  unfolding takenState state_of
+  unfolding taken_state state_of
   takes-from z s e l r c =
       let f = caches-fit z e in
       record {
@@ -84,7 +84,7 @@ module _ (instant id : ℕ) (content : List ℕ) (round : ℕ) (h : Head) (block
       }
 
 -- after the first insert
-module _ (id t : ℕ) (h a : Head) (xs ys : List ℕ) (g : Goes (receivedAlso id t) h xs a ys) where
+module _ (id t : ℕ) (h a : Head) (xs ys : List ℕ) (g : Goes (received_also id t) h xs a ys) where
   pub order-then : Stands h xs → InOrder (state_of a ys).cache
   order-then s = subst (λ (z : State). InOrder z.cache) (sym g.state) (cached-order h xs s)
 
@@ -102,7 +102,7 @@ module _ (id t : ℕ) (h a : Head) (xs ys : List ℕ) (g : Goes (receivedAlso id
     bytes-then w = omega (arith, w, limits-then.1, ap (λ (z : State). held (put id (message content round) e z.cache).entries) g.state)
 
 -- the two inserts
-pub taken-goes : (instant id : ℕ) (content : List ℕ) (round : ℕ) (h a r : Head) (xs ys zs : List ℕ) → Goes (receivedAlso id (forgottenAt instant h)) h xs a ys
-    → Goes (cachedAlso id content round (uncachedAt instant h)) a ys r zs → Goes (takenState instant id content round) h xs r zs
-unfolding takenState state_of
-taken-goes instant id content round h a r xs ys zs g f = record { state = f.state ∙ ap (cachedAlso id content round (uncachedAt instant h)) g.state; sound = f.sound }
+pub taken-goes : (instant id : ℕ) (content : List ℕ) (round : ℕ) (h a r : Head) (xs ys zs : List ℕ) → Goes (received_also id (forgotten_at instant h)) h xs a ys
+    → Goes (cached_also id content round (uncached_at instant h)) a ys r zs → Goes (taken_state instant id content round) h xs r zs
+unfolding taken_state state_of
+taken-goes instant id content round h a r xs ys zs g f = record { state = f.state ∙ ap (cached_also id content round (uncached_at instant h)) g.state; sound = f.sound }

@@ -13,13 +13,13 @@ use Rattle.storage.specs.Rows.Part.{part, put}
 use Rattle.storage.specs.Rows.Digits.{le_bytes}
 use Rattle.storage.specs.declared.rows.table.Found.{Found}
 use Rattle.storage.specs.declared.rows.table.Found.TheVariants.{At, Before}
-use Rattle.storage.proofs.RowsLaws.Digits.{length-leBytes, leNat-leBytes}
+use Rattle.storage.proofs.RowsLaws.Digits.{length-le_bytes, le_nat-le_bytes}
 use Rattle.storage.proofs.RowsLaws.Ids.{tri}
-use Rattle.storage.proofs.RowsLaws.Parts.{length-put, get_d_part, getD-put-before, getD-put-after}
+use Rattle.storage.proofs.RowsLaws.Parts.{length-put, get_d_part, get_or-put-before, get_or-put-after}
 use Rattle.storage.specs.Refs.Refs.{Ref, ref, refs, moved}
-use Rattle.storage.proofs.RefsLaws.Places.{getD-map-in}
+use Rattle.storage.proofs.RefsLaws.Places.{get_or-map-in}
 use Rattle.time_cache.specs.TimeCache.{Timed, Cache, put as put_in, replace}
-use Rattle.time_cache.specs.Tables.{ExpiryRow, expiryRow, no_row, row_at, expiryRows, named, held, entryFor, refsAt, rows_at, cacheAt, Lies, OnlyTwo, Sound as SoundCache}
+use Rattle.time_cache.specs.Tables.{ExpiryRow, expiry_row, no_row, row_at, expiry_rows, named, held, entry_for, refs_at, rows_at, cache_at, Lies, OnlyTwo, Sound as SoundCache}
 use Rattle.time_cache.specs.Steps.{ref_at, held_at, placed, Inserts}
 use Rattle.time_cache.specs.declared.cache.TimeBoundCache.{TimeBoundCache}
 use Rattle.time_cache.specs.declared.cache.Inserted.{Inserted}
@@ -27,36 +27,36 @@ use Rattle.time_cache.proofs.Timely.{order-added}
 use Rattle.time_cache.proofs.ReadLaws.{length-es, length-rs}
 use Rattle.time_cache.proofs.BlockLaws.{sound-up}
 use Rattle.time_cache.proofs.ValueLaws.{replace-put}
-use Rattle.time_cache.proofs.WriteLaws.{put-getD-same, own-refs, own-rows, own-written, own-sound}
+use Rattle.time_cache.proofs.WriteLaws.{put-get_or-same, own-refs, own-rows, own-written, own-sound}
 use Rattle.time_cache.proofs.LoanLaws.{halfway, length-halfway, only-second, only-first, only-put, only_then, only-both, two-wider}
-use Rattle.protocol.specs.State.{Limits, State, Grafts, withGrafted}
+use Rattle.protocol.specs.State.{Limits, State, Grafts, with_grafted}
 use Rattle.block.specs.Layout.{place, table}
-use Rattle.block.specs.View.{state_of, limitsOf, byte_at, hopsIn, roundOf, graftsOf, graftedIn}
+use Rattle.block.specs.View.{state_of, limits_of, byte_at, hops_in, round_of, grafts_of, grafted_in}
 use Rattle.storage.specs.Refs.Numbers.{pairs, numbered}
 use Rattle.block.specs.Sound.{Sound}
 use Rattle.block.specs.Goes.{Goes}
-use Rattle.block.specs.Heads.{withGraftedCounts}
-use Rattle.block.specs.HopSteps.{pushedHop}
-use Rattle.block.specs.LinkSteps.{peerAt}
+use Rattle.block.specs.Heads.{with_grafted_counts}
+use Rattle.block.specs.HopSteps.{pushed_hop}
+use Rattle.block.specs.LinkSteps.{peer_at}
 use Rattle.block.specs.declared.head.Head.{Head}
 use Rattle.block.proofs.Scans.{keys-apart}
 use Rattle.block.proofs.HopLaws.{pushed_long, hops-push, numbered_pushed}
-use Rattle.block.specs.TimeCaches.{cacheFrom, graftedCache}
+use Rattle.block.specs.TimeCaches.{cache_from, grafted_cache}
 use Rattle.block.specs.Caches.InBlock.{InOrder, AtMost}
-use Rattle.block.specs.Caches.GraftSteps.{graftedAt}
+use Rattle.block.specs.Caches.GraftSteps.{grafted_at}
 use Rattle.block.proofs.CachesLaws.CacheLaws.{refs-in, rows_in, count_entries, count-expiry, inserted-in}
-use Rattle.block.proofs.CachesLaws.GraftedLaws.{peersOf, EachOwn, Listed, to-own, grafted-state, grafted-laid}
+use Rattle.block.proofs.CachesLaws.GraftedLaws.{peers_of, EachOwn, Listed, to-own, grafted-state, grafted-laid}
 use Rattle.block.proofs.CachesLaws.GraftLaws.{grafted-entry, graft-many, list-long, list-numbered, peers-row}
 use Rattle.block.proofs.CachesLaws.GraftWrites.{peers-goes}
-use Rattle.steps.specs.Grafts.NoteSteps.{noGrafts, enteredState, Enters}
+use Rattle.steps.specs.Grafts.NoteSteps.{no_grafts, entered_state, Enters}
 use Rattle.steps.specs.declared.grafts.note.Entered.{Entered}
 
 -- the zeros of a new entry: no `first`, no `kept`, no peer
 abbrev zeros : List ℕ
 zeros = le_bytes 21 0
 
-no-grafts : (ps own rest : List ℕ) → graftsOf ps (put 0 zeros own) rest ≡ noGrafts
-unfolding graftsOf put le_bytes hopsIn numbered pairs
+no-grafts : (ps own rest : List ℕ) → grafts_of ps (put 0 zeros own) rest ≡ no_grafts
+unfolding grafts_of put le_bytes hops_in numbered pairs
 no-grafts ps own rest = refl
 
 no-numbers : (m : ℕ) (own : List ℕ) → Listed m (put 0 zeros own)
@@ -99,7 +99,7 @@ module _ (P : List ℕ → Type 0) (x : Ref) where
 
 moved-each : (P : List ℕ → Type 0) (k : ℕ) (es : List Ref) → EachOwn P es → EachOwn P (map (moved k) es)
 moved-each P k es a = record {
-  each = λ i h. subst P (sym (ap (λ (r : Ref). r.own) (getD-map-in (moved k) es i (ref 0 []) (ref 0 []) (omega (arith, length-map es (moved k)))))) (a.each i (omega (arith, length-map es (moved k))));
+  each = λ i h. subst P (sym (ap (λ (r : Ref). r.own) (get_or-map-in (moved k) es i (ref 0 []) (ref 0 []) (omega (arith, length-map es (moved k)))))) (a.each i (omega (arith, length-map es (moved k))));
 }
 
 -- other bytes of the one that was put in, where no other names its row
@@ -113,14 +113,14 @@ anew-each P es e r h p either alone = record { each = λ j l. go j (omega (arith
     other j l n (inr a) s = absurd (alone j l n a)
 
     go : (j : ℕ) → j < length es → (j < e) ⊎ ((j ≡ e) ⊎ (e < j)) → P (ref_at (put e (r ∷ []) es) j).own
-    go j l (inl a) = other j l (λ z. omega arith) (either j l) (getD-put-before e j (ref 0 []) (r ∷ []) es a (omega arith))
-    go j l (inr (inl a)) = subst (λ (n : ℕ). P (ref_at (put e (r ∷ []) es) n).own) (sym a) (subst (λ (z : Ref). P z.own) (sym (put-getD-same e r (ref 0 []) es h)) p)
-    go j l (inr (inr a)) = other j l (λ z. omega arith) (either j l) (getD-put-after e j (ref 0 []) (r ∷ []) es (omega arith) (omega arith))
+    go j l (inl a) = other j l (λ z. omega arith) (either j l) (get_or-put-before e j (ref 0 []) (r ∷ []) es a (omega arith))
+    go j l (inr (inl a)) = subst (λ (n : ℕ). P (ref_at (put e (r ∷ []) es) n).own) (sym a) (subst (λ (z : Ref). P z.own) (sym (put-get_or-same e r (ref 0 []) es h)) p)
+    go j l (inr (inr a)) = other j l (λ z. omega arith) (either j l) (get_or-put-after e j (ref 0 []) (r ∷ []) es (omega arith) (omega arith))
 
 module _ (h : Head) (xs ys : List ℕ) (id expires : ℕ) (t : Inserted) (sound : Sound h xs) (len : length ys ≡ length xs)
-    (most : AtMost h.limits.grafted (put_in id noGrafts expires (state_of h xs).grafted)) (v : Inserts (graftedCache h) id expires xs t ys) where
+    (most : AtMost h.limits.grafted (put_in id no_grafts expires (state_of h xs).grafted)) (v : Inserts (grafted_cache h) id expires xs t ys) where
   abbrev l : Limits
-  l = limitsOf h.limits
+  l = limits_of h.limits
 
   abbrev n : ℕ
   n = h.live.grafted
@@ -135,10 +135,10 @@ module _ (h : Head) (xs ys : List ℕ) (id expires : ℕ) (t : Inserted) (sound 
   m' = t.cache.expiry.len
 
   abbrev c : TimeBoundCache
-  c = cacheFrom l 7 119 n' 8 40 m'
+  c = cache_from l 7 119 n' 8 40 m'
 
   abbrev ps : List ℕ
-  ps = peersOf h xs
+  ps = peers_of h xs
 
   abbrev e : ℕ
   e = t.entry
@@ -147,22 +147,22 @@ module _ (h : Head) (xs ys : List ℕ) (id expires : ℕ) (t : Inserted) (sound 
   one = ap (λ (k : TimeBoundCache). k.expiry.len) v.sized
 
   sized : t.cache ≡ c
-  sized = v.sized ∙ (λ k. cacheFrom l 7 119 n' 8 40 (sym one k))
+  sized = v.sized ∙ (λ k. cache_from l 7 119 n' 8 40 (sym one k))
 
   wn : n' * 119 ≤ 119 * (l.G + 1)
   wn = omega (arith, v.count, sound.fit.within.grafted)
 
   wm : m' * 40 ≤ 40 * (2 * l.G + 1)
-  wm = omega (arith, one, sound.fit.within.graftedRows)
+  wm = omega (arith, one, sound.fit.within.grafted_rows)
 
   s : SoundCache c ys
   s = subst (λ (k : TimeBoundCache). SoundCache k ys) sized v.sound
 
   lies : Lies c ys
-  lies = record { entryWide = omega arith; expiryWide = omega arith; apart = omega (arith, wn); within = omega (arith, wm, len, sound.fit.long); few = omega (arith, wm, sound.fit.ceilings.G) }
+  lies = record { entry_wide = omega arith; expiry_wide = omega arith; apart = omega (arith, wn); within = omega (arith, wm, len, sound.fit.long); few = omega (arith, wm, sound.fit.ceilings.G) }
 
   abbrev es : List Ref
-  es = refsAt c ys
+  es = refs_at c ys
 
   abbrev r : Ref
   r = ref_at es e
@@ -174,38 +174,38 @@ module _ (h : Head) (xs ys : List ℕ) (id expires : ℕ) (t : Inserted) (sound 
   zs = put (place l 7 + (e * 119 + (2 + 0))) zeros ys
 
   wide : 2 + 0 + length zeros ≤ 119
-  wide = omega (arith, length-leBytes 21 0)
+  wide = omega (arith, length-le_bytes 21 0)
 
   key : x.key ≡ id
   key =
-      let named-row : r.place ≡ t.row = ap (λ (k : TimeBoundCache). (ref_at (refsAt k ys) e).place) (sym sized) ∙ v.names in
-      let rs : List ExpiryRow = rows_at (graftedCache h) xs in
-      let at : row_at (rows_at t.cache ys) t.row ≡ expiryRow expires id (row_at (rows_at t.cache ys) t.row).rest =
-      ap (λ (k : List ExpiryRow). row_at k t.row) v.rows ∙ gap_at t.row (expiryRow expires id (row_at (rows_at t.cache ys) t.row).rest) no_row rs (omega (arith, v.row, length-rs (graftedCache h) xs)) in
+      let named-row : r.place ≡ t.row = ap (λ (k : TimeBoundCache). (ref_at (refs_at k ys) e).place) (sym sized) ∙ v.names in
+      let rs : List ExpiryRow = rows_at (grafted_cache h) xs in
+      let at : row_at (rows_at t.cache ys) t.row ≡ expiry_row expires id (row_at (rows_at t.cache ys) t.row).rest =
+      ap (λ (k : List ExpiryRow). row_at k t.row) v.rows ∙ gap_at t.row (expiry_row expires id (row_at (rows_at t.cache ys) t.row).rest) no_row rs (omega (arith, v.row, length-rs (grafted_cache h) xs)) in
       (λ k. (row_at (rows_at (sym sized k) ys) (named-row k)).key) ∙ ap (λ (y : ExpiryRow). y.key) at
 
   zs-long : length zs ≡ length xs
-  zs-long = length-put (place l 7 + (e * 119 + (2 + 0))) zeros ys (omega (arith, length-leBytes 21 0, v.entry, wn, len, sound.fit.long)) ∙ len
+  zs-long = length-put (place l 7 + (e * 119 + (2 + 0))) zeros ys (omega (arith, length-le_bytes 21 0, v.entry, wn, len, sound.fit.long)) ∙ len
 
-  at : cacheAt c zs ≡ put_in id (held (put 0 zeros r.own) x.rest) expires (cacheAt (graftedCache h) xs)
+  at : cache_at c zs ≡ put_in id (held (put 0 zeros r.own) x.rest) expires (cache_at (grafted_cache h) xs)
   at =
       own-written c ys s e v.entry lies 0 zeros wide
-      ∙ (λ k. replace (key k) (held (put 0 zeros r.own) x.rest) ((sym (ap (λ (z : TimeBoundCache). cacheAt z ys) sized) ∙ v.cache) k))
-      ∙ replace-put id (held_at t.cache e t.row ys) (held (put 0 zeros r.own) x.rest) expires (cacheAt (graftedCache h) xs)
+      ∙ (λ k. replace (key k) (held (put 0 zeros r.own) x.rest) ((sym (ap (λ (z : TimeBoundCache). cache_at z ys) sized) ∙ v.cache) k))
+      ∙ replace-put id (held_at t.cache e t.row ys) (held (put 0 zeros r.own) x.rest) expires (cache_at (grafted_cache h) xs)
 
-  all : graftedIn ps n' (table l 7 zs) m' (table l 8 zs) ≡ put_in id noGrafts expires (state_of h xs).grafted
-  unfolding state_of graftedIn
+  all : grafted_in ps n' (table l 7 zs) m' (table l 8 zs) ≡ put_in id no_grafts expires (state_of h xs).grafted
+  unfolding state_of grafted_in
   all =
-      inserted-in l 7 119 n 8 40 m xs zs (lit< tt) (omega (arith, sound.fit.within)) (lit< tt) (omega (arith, sound.fit.within)) n' m' wn wm (graftsOf ps) id expires (held (put 0 zeros r.own) x.rest) at
+      inserted-in l 7 119 n 8 40 m xs zs (lit< tt) (omega (arith, sound.fit.within)) (lit< tt) (omega (arith, sound.fit.within)) n' m' wn wm (grafts_of ps) id expires (held (put 0 zeros r.own) x.rest) at
       ∙ ap (λ (g : Grafts). put_in id g expires (state_of h xs).grafted) (no-grafts ps r.own x.rest)
 
   hn : n' ≤ l.G
-  unfolding graftedIn
-  hn = omega (arith, most.entries, sym (count_entries l 7 119 n' 8 40 m' zs (lit< tt) wn (lit< tt) wm (graftsOf ps)) ∙ ap (λ (k : Cache Grafts). length k.entries) all)
+  unfolding grafted_in
+  hn = omega (arith, most.entries, sym (count_entries l 7 119 n' 8 40 m' zs (lit< tt) wn (lit< tt) wm (grafts_of ps)) ∙ ap (λ (k : Cache Grafts). length k.entries) all)
 
   hm : m' ≤ 2 * l.G
-  unfolding graftedIn
-  hm = omega (arith, most.expiry, sym (count-expiry l 7 119 n' 8 40 m' zs (lit< tt) wn (lit< tt) wm (graftsOf ps)) ∙ ap (λ (k : Cache Grafts). length k.expiry) all)
+  unfolding grafted_in
+  hm = omega (arith, most.expiry, sym (count-expiry l 7 119 n' 8 40 m' zs (lit< tt) wn (lit< tt) wm (grafts_of ps)) ∙ ap (λ (k : Cache Grafts). length k.expiry) all)
 
   only : OnlyTwo (place l 7) (119 * (l.G + 1)) (place l 8) (40 * (2 * l.G + 1)) xs zs
   only =
@@ -220,7 +220,7 @@ module _ (h : Head) (xs ys : List ℕ) (id expires : ℕ) (t : Inserted) (sound 
       let put-in : OnlyTwo a k b g xs zs = only-both a k b g xs hs zs (omega arith) w lh (zs-long ∙ sym lh)
       (only-second a k b g xs ys (omega arith) w len two)
       (only_then a k hs ys zs (omega arith) (len ∙ sym lh) (zs-long ∙ sym len) (only-first a k b g xs ys (omega arith) w len two)
-      (only-put a (e * 119 + (2 + 0)) k zeros ys (omega (arith, length-leBytes 21 0, v.entry, wn)) (omega (arith, len, sound.fit.long)))) in
+      (only-put a (e * 119 + (2 + 0)) k zeros ys (omega (arith, length-le_bytes 21 0, v.entry, wn)) (omega (arith, len, sound.fit.long)))) in
       put-in
 
   apart : (j : ℕ) → j < length es → (j ≡ e → ⊥) → ref_at es j ≡ r → ⊥
@@ -230,39 +230,39 @@ module _ (h : Head) (xs ys : List ℕ) (id expires : ℕ) (t : Inserted) (sound 
       let name : Ref → ℕ = λ q. (row_at rs q.place).key in
       let le : length es ≡ n' = length-es c ys in
       keys-apart (named rs es) j e (sound-up c ys s) (omega (arith, length-map es name)) (omega (arith, length-map es name, v.entry)) ne
-      (getD-map-in name es j 0 (ref 0 []) hj ∙ ap name same ∙ sym (getD-map-in name es e 0 (ref 0 []) (omega (arith, v.entry))))
+      (get_or-map-in name es j 0 (ref 0 []) hj ∙ ap name same ∙ sym (get_or-map-in name es e 0 (ref 0 []) (omega (arith, v.entry))))
 
-  lists : EachOwn (Listed h.live.links) (refsAt c zs)
+  lists : EachOwn (Listed h.live.links) (refs_at c zs)
   lists =
       let P : List ℕ → Type 0 = Listed h.live.links in
-      let old : EachOwn P (refsAt (graftedCache h) xs) =
+      let old : EachOwn P (refs_at (grafted_cache h) xs) =
       subst (EachOwn P) (sym (refs-in l 7 119 n 8 40 m xs (lit< tt) (omega (arith, sound.fit.within)) (lit< tt) (omega (arith, sound.fit.within)))) (to-own h.live.links n (table l 7 xs) sound.laid.grafts) in
-      let ms : List Ref = map (moved t.row) (refsAt (graftedCache h) xs) in
-      let same : es ≡ placed v.found r ms = ap (λ (k : TimeBoundCache). refsAt k ys) (sym sized) ∙ v.refs ∙ ap (λ (k : TimeBoundCache). placed v.found (ref_at (refsAt k ys) e) ms) sized in
+      let ms : List Ref = map (moved t.row) (refs_at (grafted_cache h) xs) in
+      let same : es ≡ placed v.found r ms = ap (λ (k : TimeBoundCache). refs_at k ys) (sym sized) ∙ v.refs ∙ ap (λ (k : TimeBoundCache). placed v.found (ref_at (refs_at k ys) e) ms) sized in
       let either : (j : ℕ) → j < length es → P (ref_at es j).own ⊎ (ref_at es j ≡ r) =
-      subst (λ (k : List Ref). (j : ℕ) → j < length k → P (ref_at k j).own ⊎ (ref_at k j ≡ r)) (sym same) (λ j hj. placed-each P r v.found j ms (moved-each P t.row (refsAt (graftedCache h) xs) old) hj) in
+      subst (λ (k : List Ref). (j : ℕ) → j < length k → P (ref_at k j).own ⊎ (ref_at k j ≡ r)) (sym same) (λ j hj. placed-each P r v.found j ms (moved-each P t.row (refs_at (grafted_cache h) xs) old) hj) in
       subst (EachOwn P) (sym (own-refs c ys s e v.entry lies 0 zeros wide))
       (anew-each P es e (ref r.place (put 0 zeros r.own)) (omega (arith, v.entry, length-es c ys)) (no-numbers h.live.links r.own) either apart)
 
   abbrev pub new : Head
-  new = withGraftedCounts n' m' h
+  new = with_grafted_counts n' m' h
 
-  entered-goes : Goes (enteredState id expires) h xs new zs
+  entered-goes : Goes (entered_state id expires) h xs new zs
   entered-goes = record {
-    state = grafted-state h xs zs sound n' m' (119 * (l.G + 1)) (40 * (2 * l.G + 1)) (omega arith) (omega arith) zs-long only ∙ ap (λ (k : Cache Grafts). withGrafted k (state_of h xs)) all;
+    state = grafted-state h xs zs sound n' m' (119 * (l.G + 1)) (40 * (2 * l.G + 1)) (omega arith) (omega arith) zs-long only ∙ ap (λ (k : Cache Grafts). with_grafted k (state_of h xs)) all;
     sound = grafted-laid h xs zs sound n' m' (119 * (l.G + 1)) (40 * (2 * l.G + 1)) (omega arith) (omega arith) zs-long only hn hm (own-sound c ys s e v.entry lies 0 zeros wide) lists;
   }
 
   -- the entry in the view
-  there : graftedAt (state_of new zs) e ≡ entryFor (graftsOf (peersOf new zs)) (ref r.place (put 0 zeros r.own)) x
+  there : grafted_at (state_of new zs) e ≡ entry_for (grafts_of (peers_of new zs)) (ref r.place (put 0 zeros r.own)) x
   there =
       let k : List Ref = put e (ref r.place (put 0 zeros r.own) ∷ []) es in
       let rf : refs 119 n' (table l 7 zs) ≡ k = sym (refs-in l 7 119 n' 8 40 m' zs (lit< tt) wn (lit< tt) wm) ∙ own-refs c ys s e v.entry lies 0 zeros wide in
-      let rw1 : expiryRows 40 m' (table l 8 zs) ≡ rows_at c ys = sym (rows_in l 7 119 n' 8 40 m' zs (lit< tt) wn (lit< tt) wm) ∙ own-rows c ys s e v.entry lies 0 zeros wide in
-      let mine : ref_at k e ≡ ref r.place (put 0 zeros r.own) = put-getD-same e (ref r.place (put 0 zeros r.own)) (ref 0 []) es (omega (arith, v.entry, length-es c ys)) in
+      let rw1 : expiry_rows 40 m' (table l 8 zs) ≡ rows_at c ys = sym (rows_in l 7 119 n' 8 40 m' zs (lit< tt) wn (lit< tt) wm) ∙ own-rows c ys s e v.entry lies 0 zeros wide in
+      let mine : ref_at k e ≡ ref r.place (put 0 zeros r.own) = put-get_or-same e (ref r.place (put 0 zeros r.own)) (ref 0 []) es (omega (arith, v.entry, length-es c ys)) in
       grafted-entry new zs entered-goes.sound e v.entry
-      ∙ (λ z. entryFor (graftsOf (peersOf new zs)) (ref_at (rf z) e) (row_at (rw1 z) (ref_at (rf z) e).place))
-      ∙ (λ z. entryFor (graftsOf (peersOf new zs)) (mine z) (row_at (rows_at c ys) (mine z).place))
+      ∙ (λ z. entry_for (grafts_of (peers_of new zs)) (ref_at (rf z) e) (row_at (rw1 z) (ref_at (rf z) e).place))
+      ∙ (λ z. entry_for (grafts_of (peers_of new zs)) (mine z) (row_at (rows_at c ys) (mine z).place))
 
   pub entered : (g : Entered) → g ≡ record { head = new; entry = e } → Enters id expires h xs g zs
   entered g same = subst (λ (k : Entered). Enters id expires h xs k zs) (sym same) (record {
@@ -270,7 +270,7 @@ module _ (h : Head) (xs ys : List ℕ) (id expires : ℕ) (t : Inserted) (sound 
     below = v.entry;
     links = refl;
     key = ap (λ (y : Entry (Timed Grafts)). y.key) there ∙ key;
-    none = ap (λ (y : Entry (Timed Grafts)). y.value.value) there ∙ no-grafts (peersOf new zs) r.own x.rest;
+    none = ap (λ (y : Entry (Timed Grafts)). y.value.value) there ∙ no-grafts (peers_of new zs) r.own x.rest;
   })
 
 -- the first peer of a new entry
@@ -289,19 +289,19 @@ module _ (h : Head) (xs ys : List ℕ) (id expires link rd : ℕ) (g : Entered) 
   en = g.entry
 
   abbrev spot : ℕ
-  spot = place (limitsOf k.limits) 7 + 119 * en + 22
+  spot = place (limits_of k.limits) 7 + 119 * en + 22
 
   abbrev list : List ℕ
   list = part spot 97 ys
 
   abbrev f : ℕ → List ℕ → Entry ℕ
-  f = roundOf (peersOf k ys)
+  f = round_of (peers_of k ys)
 
   pub none_yet : get_or ys spot 0 ≡ 0
   none_yet = graft-many k ys v.goes.sound en v.below ∙ ap (λ (z : Grafts). length z.peers) v.none
 
   order' : InOrder (state_of k ys).grafted
-  order' = subst (λ (z : State). InOrder z.grafted) (sym v.goes.state) (put_order id expires noGrafts (state_of h xs).grafted order)
+  order' = subst (λ (z : State). InOrder z.grafted) (sym v.goes.state) (put_order id expires no_grafts (state_of h xs).grafted order)
 
   count : byte_at 0 list ≤ 0
   count = omega (arith, none_yet, first)
@@ -311,24 +311,24 @@ module _ (h : Head) (xs ys : List ℕ) (id expires link rd : ℕ) (g : Entered) 
           let z : spot + 0 ≡ spot = omega arith in
           get_d_part spot 97 0 0 ys (omega arith) ∙ ap (λ (o : ℕ). get_or ys o 0) z
 
-  peer : f link (le_bytes 2 rd) ≡ entry (peerAt (state_of h xs) link) rd
-  unfolding roundOf state_of
-  peer = λ z. entry (get_or (keys (v.goes.state z).links) link 0) (leNat-leBytes 2 rd hr z)
+  peer : f link (le_bytes 2 rd) ≡ entry (peer_at (state_of h xs) link) rd
+  unfolding round_of state_of
+  peer = λ z. entry (get_or (keys (v.goes.state z).links) link 0) (le_nat-le_bytes 2 rd hr z)
 
-  pub anew-goes : Goes (λ s. withGrafted (put_in id (record { first = noGrafts.first; kept = noGrafts.kept; peers = entry (peerAt s link) rd ∷ [] }) expires s.grafted) s) h xs k (put spot (pushedHop link rd list) ys)
+  pub anew-goes : Goes (λ s. with_grafted (put_in id (record { first = no_grafts.first; kept = no_grafts.kept; peers = entry (peer_at s link) rd ∷ [] }) expires s.grafted) s) h xs k (put spot (pushed_hop link rd list) ys)
   anew-goes =
       let long : length list ≡ 97 = list-long k ys v.goes.sound en v.below in
       let few : byte_at 0 list < 32 = omega (arith, count) in
-      let go = peers-goes k ys v.goes.sound order' en v.below (pushedHop link rd list) (pushed_long list long link rd few) (numbered_pushed list long link rd few k.live.links (list-numbered k ys v.goes.sound en v.below) (omega (arith, ql, v.links))) in
-      let value : hopsIn f (pushedHop link rd list) ≡ entry (peerAt (state_of h xs) link) rd ∷ [] =
+      let go = peers-goes k ys v.goes.sound order' en v.below (pushed_hop link rd list) (pushed_long list long link rd few) (numbered_pushed list long link rd few k.live.links (list-numbered k ys v.goes.sound en v.below) (omega (arith, ql, v.links))) in
+      let value : hops_in f (pushed_hop link rd list) ≡ entry (peer_at (state_of h xs) link) rd ∷ [] =
       hops-push list long link rd few f
       ∙ (λ z. (sym (peers-row k ys v.goes.sound en v.below) ∙ ap (λ (y : Grafts). y.peers) v.none) z ++ (peer z ∷ [])) in
-      let one : Grafts = record { first = noGrafts.first; kept = noGrafts.kept; peers = entry (peerAt (state_of h xs) link) rd ∷ [] } in
+      let one : Grafts = record { first = no_grafts.first; kept = no_grafts.kept; peers = entry (peer_at (state_of h xs) link) rd ∷ [] } in
       record {
         state =
             go.state
-            ∙ (λ z. withGrafted (replace (v.key z) (record { first = (v.none z).first; kept = (v.none z).kept; peers = value z }) (state_of k ys).grafted) (state_of k ys))
-            ∙ ap (λ (y : State). withGrafted (replace id one y.grafted) y) v.goes.state
-            ∙ ap (λ (y : Cache Grafts). withGrafted y (state_of h xs)) (replace-put id noGrafts one expires (state_of h xs).grafted);
+            ∙ (λ z. with_grafted (replace (v.key z) (record { first = (v.none z).first; kept = (v.none z).kept; peers = value z }) (state_of k ys).grafted) (state_of k ys))
+            ∙ ap (λ (y : State). with_grafted (replace id one y.grafted) y) v.goes.state
+            ∙ ap (λ (y : Cache Grafts). with_grafted y (state_of h xs)) (replace-put id no_grafts one expires (state_of h xs).grafted);
         sound = go.sound;
       }

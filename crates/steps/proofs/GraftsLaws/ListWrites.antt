@@ -11,17 +11,17 @@ use lib.Seq.{take_all, take-append-le, take-take, length-take-le, drop-drop, get
 use Rattle.storage.specs.Rows.Part.{part, put}
 use Rattle.storage.specs.Rows.Digits.{le_bytes}
 use Rattle.storage.specs.Rows.Rows.{rows, opened}
-use Rattle.storage.proofs.RowsLaws.Digits.{length-leBytes}
-use Rattle.storage.proofs.RowsLaws.Parts.{length_part, length-put, part-part, part-after, drop-put, take_put, drop-take, get_d_part, getD-put-before, set-put, put-cons, put-put-prev, put-drop}
+use Rattle.storage.proofs.RowsLaws.Digits.{length-le_bytes}
+use Rattle.storage.proofs.RowsLaws.Parts.{length_part, length-put, part-part, part-after, drop-put, take_put, drop-take, get_d_part, get_or-put-before, set-put, put-cons, put-put-prev, put-drop}
 use Rattle.storage.proofs.RowsLaws.Rows.{length-rows, rows-put-one, rows-opened, length-opened, put-gap}
 use Rattle.storage.specs.Refs.Refs.{Below}
 use Rattle.time_cache.proofs.Orders.{below_of, of-below}
 use Rattle.time_cache.proofs.TableLaws.{all-gap}
-use Rattle.block.specs.View.{byte_at, hopsIn}
+use Rattle.block.specs.View.{byte_at, hops_in}
 use Rattle.storage.specs.Refs.Numbers.{pairs, numbered}
 use Rattle.block.specs.Sound.{Numbered}
 use Rattle.block.proofs.HopLaws.{three-nested}
-use Rattle.steps.specs.Grafts.NoteSteps.{insertedHop, roundPut}
+use Rattle.steps.specs.Grafts.NoteSteps.{inserted_hop, round_put}
 
 -- numbers and rows, with one more of each in the same place, and with another row
 module _ {A : Type 0} (f : ℕ → List ℕ → A) where
@@ -94,7 +94,7 @@ module _ (list : List ℕ) (long : length list ≡ 97) where
     n2 = put (33 + 2 * j) zs n1
 
     lr : length (le_bytes 2 r) ≡ 2
-    lr = length-leBytes 2 r
+    lr = length-le_bytes 2 r
 
     ys-long : length (part (1 + j) (k - j) list) ≡ k - j
     ys-long = length_part (1 + j) (k - j) list (omega arith)
@@ -108,20 +108,20 @@ module _ (list : List ℕ) (long : length list ≡ 97) where
     n2-long : length n2 ≡ 97
     n2-long = length-put (33 + 2 * j) zs n1 (omega (arith, zs-long, n1-long)) ∙ n1-long
 
-    pub inserted-long : length (insertedHop j l r list) ≡ 97
-    unfolding insertedHop
+    pub inserted-long : length (inserted_hop j l r list) ≡ 97
+    unfolding inserted_hop
     inserted-long = length-put 0 ((k + 1) ∷ []) n2 (omega (arith, n2-long)) ∙ n2-long
 
-    inserted-count : byte_at 0 (insertedHop j l r list) ≡ k + 1
-    unfolding insertedHop
+    inserted-count : byte_at 0 (inserted_hop j l r list) ≡ k + 1
+    unfolding inserted_hop
     inserted-count = first-put (k + 1) n2
 
     numbers-part : part (1 + j) (k - j) list ≡ take (k - j) (drop j c)
     unfolding part
     numbers-part = ap (take (k - j)) (sym (drop-drop j 1 list))
 
-    inserted-numbers : take (k + 1) (drop 1 (insertedHop j l r list)) ≡ take j (take k c) ++ (l ∷ drop j (take k c))
-    unfolding insertedHop
+    inserted-numbers : take (k + 1) (drop 1 (inserted_hop j l r list)) ≡ take j (take k c) ++ (l ∷ drop j (take k c))
+    unfolding inserted_hop
     inserted-numbers =
         let e : 33 + 2 * j ≡ 1 + (32 + 2 * j) = omega arith in
         ap (take (k + 1)) (drop-put 1 0 ((k + 1) ∷ []) n2 (omega arith) (omega arith)
@@ -138,8 +138,8 @@ module _ (list : List ℕ) (long : length list ≡ 97) where
         let d : 2 * (k - j) ≡ (k - j) * 2 = omega arith in
         (λ i. take (d i) (drop (e i) list)) ∙ ap (take ((k - j) * 2)) (sym (drop-drop (j * 2) 33 list))
 
-    inserted-rounds : rows 2 (k + 1) (drop 33 (insertedHop j l r list)) ≡ take j (rows 2 k b) ++ (le_bytes 2 r ∷ drop j (rows 2 k b))
-    unfolding insertedHop opened
+    inserted-rounds : rows 2 (k + 1) (drop 33 (inserted_hop j l r list)) ≡ take j (rows 2 k b) ++ (le_bytes 2 r ∷ drop j (rows 2 k b))
+    unfolding inserted_hop opened
     inserted-rounds =
         let e : 33 + 2 * j ≡ 33 + j * 2 = omega arith in
         let qs : List ℕ = part (j * 2) ((k - j) * 2) b in
@@ -157,32 +157,32 @@ module _ (list : List ℕ) (long : length list ≡ 97) where
     same-long : length (take k c) ≡ length (rows 2 k b)
     same-long = length-take-le k c (omega (arith, c-long)) ∙ sym (length-rows 2 k b)
 
-    pub hops-insert : {A : Type 0} (f : ℕ → List ℕ → A) → hopsIn f (insertedHop j l r list) ≡ take j (hopsIn f list) ++ (f l (le_bytes 2 r) ∷ drop j (hopsIn f list))
-    unfolding hopsIn numbered
+    pub hops-insert : {A : Type 0} (f : ℕ → List ℕ → A) → hops_in f (inserted_hop j l r list) ≡ take j (hops_in f list) ++ (f l (le_bytes 2 r) ∷ drop j (hops_in f list))
+    unfolding hops_in numbered
     hops-insert f =
-        ap (λ (n : ℕ). pairs f (take n (drop 1 (insertedHop j l r list))) (rows 2 n (drop 33 (insertedHop j l r list)))) inserted-count
+        ap (λ (n : ℕ). pairs f (take n (drop 1 (inserted_hop j l r list))) (rows 2 n (drop 33 (inserted_hop j l r list)))) inserted-count
         ∙ (λ i. pairs f (inserted-numbers i) (inserted-rounds i))
         ∙ pairs-gap f j l (le_bytes 2 r) (take k c) (rows 2 k b) same-long
 
-    pub numbered-inserted : (m : ℕ) → Numbered m list → l < m → Numbered m (insertedHop j l r list)
+    pub numbered-inserted : (m : ℕ) → Numbered m list → l < m → Numbered m (inserted_hop j l r list)
     numbered-inserted m n h = record {
       few = omega (arith, inserted-count);
-      below = subst (Below m) (sym (ap (λ (i : ℕ). take i (drop 1 (insertedHop j l r list))) inserted-count ∙ inserted-numbers)) (below-gap m j l (take k c) n.below h);
+      below = subst (Below m) (sym (ap (λ (i : ℕ). take i (drop 1 (inserted_hop j l r list))) inserted-count ∙ inserted-numbers)) (below-gap m j l (take k c) n.below h);
     }
 
   -- another round of number j
   module _ (j r : ℕ) (hj : j < k) (few : k ≤ 32) where
     abbrev w : List ℕ
-    w = roundPut j r list
+    w = round_put j r list
 
     wr : length (le_bytes 2 r) ≡ 2
-    wr = length-leBytes 2 r
+    wr = length-le_bytes 2 r
 
-    pub round-long : length (roundPut j r list) ≡ 97
+    pub round-long : length (round_put j r list) ≡ 97
     round-long = length-put (33 + 2 * j) (le_bytes 2 r) list (omega (arith, wr)) ∙ long
 
     round-count : byte_at 0 w ≡ k
-    round-count = getD-put-before (33 + 2 * j) 0 0 (le_bytes 2 r) list (omega arith) (omega arith)
+    round-count = get_or-put-before (33 + 2 * j) 0 0 (le_bytes 2 r) list (omega arith) (omega arith)
 
     round-numbers : take k (drop 1 w) ≡ take k c
     round-numbers =
@@ -196,15 +196,15 @@ module _ (list : List ℕ) (long : length list ≡ 97) where
         ap (rows 2 k) (ap (λ (o : ℕ). drop 33 (put o (le_bytes 2 r) list)) e ∙ put-drop 33 (j * 2) (le_bytes 2 r) list (omega arith))
         ∙ rows-put-one 2 j k (le_bytes 2 r) b wr hj (omega (arith, b-long))
 
-    pub hops-round : {A : Type 0} (f : ℕ → List ℕ → A) → hopsIn f (roundPut j r list) ≡ put j (f (get_or list (1 + j) 0) (le_bytes 2 r) ∷ []) (hopsIn f list)
-    unfolding hopsIn numbered
+    pub hops-round : {A : Type 0} (f : ℕ → List ℕ → A) → hops_in f (round_put j r list) ≡ put j (f (get_or list (1 + j) 0) (le_bytes 2 r) ∷ []) (hops_in f list)
+    unfolding hops_in numbered
     hops-round f =
         ap (λ (n : ℕ). pairs f (take n (drop 1 w)) (rows 2 n (drop 33 w))) round-count
         ∙ (λ i. pairs f (round-numbers i) (round-rows i))
         ∙ pairs-put f j (le_bytes 2 r) (take k c) (rows 2 k b) (omega (arith, length-take-le k c (omega (arith, c-long)))) (length-take-le k c (omega (arith, c-long)) ∙ sym (length-rows 2 k b))
         ∙ ap (λ (n : ℕ). put j (f n (le_bytes 2 r) ∷ []) (pairs f (take k c) (rows 2 k b))) (get_or-take k c j 0 hj ∙ get_or-drop 1 list j 0)
 
-    pub numbered-round : (m : ℕ) → Numbered m list → Numbered m (roundPut j r list)
+    pub numbered-round : (m : ℕ) → Numbered m list → Numbered m (round_put j r list)
     numbered-round m n = record {
       few = omega (arith, round-count);
       below = subst (Below m) (sym (ap (λ (i : ℕ). take i (drop 1 w)) round-count ∙ round-numbers)) n.below;
@@ -215,14 +215,14 @@ pub write-insert : (xs v1 v2 v3 : List ℕ) (at k j l r : ℕ) → k ≡ get_or 
     → v1 ≡ put (at + 2 + j) (part (at + 1 + j) (k - j) xs) xs
     → v2 ≡ put (at + 35 + 2 * j) (part (at + 33 + 2 * j) (2 * (k - j)) (set v1 (at + 1 + j) l)) (set v1 (at + 1 + j) l)
     → v3 ≡ put (at + 33 + 2 * j) (le_bytes 2 r) v2
-    → set v3 at (k + 1) ≡ put at (insertedHop j l r (part at 97 xs)) xs
-unfolding insertedHop
+    → set v3 at (k + 1) ≡ put at (inserted_hop j l r (part at 97 xs)) xs
+unfolding inserted_hop
 write-insert xs v1 v2 v3 at k j l r e h g long p1 p2 p3 =
     let y1 : List ℕ = part (at + 1 + j) (k - j) xs in
     let ly : length y1 ≡ k - j = length_part (at + 1 + j) (k - j) xs (omega arith) in
     let q1 : List ℕ = part (at + 33 + 2 * j) (2 * (k - j)) xs in
     let lq : length q1 ≡ 2 * (k - j) = length_part (at + 33 + 2 * j) (2 * (k - j)) xs (omega arith) in
-    let lr : length (le_bytes 2 r) ≡ 2 = length-leBytes 2 r in
+    let lr : length (le_bytes 2 r) ≡ 2 = length-le_bytes 2 r in
     let u : List ℕ = put (at + 1 + j) (l ∷ y1) xs in
     let lu : length u ≡ length xs = length-put (at + 1 + j) (l ∷ y1) xs (omega arith) in
     let e1 : set v1 (at + 1 + j) l ≡ u = ap (λ (z : List ℕ). set z (at + 1 + j) l) p1 ∙ put-cons (at + 1 + j) (at + 2 + j) l y1 xs (omega arith) (omega arith) in

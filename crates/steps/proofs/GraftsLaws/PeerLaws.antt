@@ -18,30 +18,30 @@ use Rattle.storage.specs.Rows.Sorted.{Ascending, Here, Between}
 use Rattle.time_cache.specs.TimeCache.{Timed}
 use Rattle.time_cache.proofs.Orders.{up_of}
 use Rattle.time_cache.proofs.MapPlaces.{lookup-here, lookup-between}
-use Rattle.protocol.specs.Links.{isNeighbour}
+use Rattle.protocol.specs.Links.{is_neighbour}
 use Rattle.protocol.specs.State.{State, Grafts}
-use Rattle.protocol.specs.Gossips.{peersOf, graftOut}
-use Rattle.protocol.specs.Whole.{graftsWhole}
+use Rattle.protocol.specs.Gossips.{peers_of, graft_out}
+use Rattle.protocol.specs.Whole.{grafts_whole}
 use Rattle.protocol.proofs.ConsistentTables.{Grafted, to-grafted, grafted-insert}
 use Rattle.block.specs.View.{state_of}
 use Rattle.block.specs.Fit.{Fit}
-use Rattle.block.specs.LinkSteps.{peerAt}
+use Rattle.block.specs.LinkSteps.{peer_at}
 use Rattle.block.specs.declared.head.Head.{Head}
 use Rattle.block.proofs.LinkLaws.{count-links, count-peers, neighbour-here}
 use Rattle.block.proofs.Few.{once-few}
 use Rattle.block.proofs.AnnounceLaws.{insert-long}
-use Rattle.block.specs.Caches.GraftSteps.{graftedAt, graftsAt}
+use Rattle.block.specs.Caches.GraftSteps.{grafted_at, grafts_at}
 use Rattle.block.proofs.CachesLaws.GraftedLaws.{count-grafted}
 use Rattle.steps.specs.Shared.{HeldIs}
 use Rattle.steps.specs.Stands.{Stands}
 use Rattle.steps.specs.declared.Held.{Held}
 use Rattle.steps.specs.declared.Held.TheVariants.{At, Nothing}
 use Rattle.steps.proofs.StandsLaws.{links-up, grafted-order}
-use Rattle.steps.specs.Grafts.Reads.{Grafting, HeldBelow, heldPeers}
+use Rattle.steps.specs.Grafts.Reads.{Grafting, HeldBelow, held_peers}
 
 -- what the functions of the grafts ask, out of `Stands`
 pub stands-grafting : (h : Head) (xs : List ℕ) → Stands h xs → Grafting h xs
-stands-grafting h xs s = record { sound = s.sound; linksUp = links-up h xs s; order = grafted-order h xs s; whole = s.consistent.core.grafting }
+stands-grafting h xs s = record { sound = s.sound; links_up = links-up h xs s; order = grafted-order h xs s; whole = s.consistent.core.grafting }
 
 -- numbers that ascend stand once
 above-out : (x : ℕ) (xs : List ℕ) → all (ltb x) xs ≡ true → member x xs ≡ false
@@ -56,21 +56,21 @@ ascending-once (x ∷ xs) h =
     and_intro (ap not (above-out x xs (and_left (all (ltb x) xs) (ascending xs) h))) (ascending-once xs (and_right (all (ltb x) xs) (ascending xs) h))
 
 -- the peer of a link is a neighbour
-pub link_near : (h : Head) (xs : List ℕ) (link : ℕ) → Grafting h xs → link < h.live.links → isNeighbour (peerAt (state_of h xs) link) (state_of h xs).links ≡ true
+pub link_near : (h : Head) (xs : List ℕ) (link : ℕ) → Grafting h xs → link < h.live.links → is_neighbour (peer_at (state_of h xs) link) (state_of h xs).links ≡ true
 link_near h xs link g q =
-    neighbour-here (peerAt (state_of h xs) link) link (state_of h xs).links (up_of (keys (state_of h xs).links) g.linksUp) (record { within = omega (arith, count-peers h xs); same = refl })
+    neighbour-here (peer_at (state_of h xs) link) link (state_of h xs).links (up_of (keys (state_of h xs).links) g.links_up) (record { within = omega (arith, count-peers h xs); same = refl })
 
 module _ (h : Head) (xs : List ℕ) (g : Grafting h xs) (i : ℕ) (q : i < h.live.grafted) where
   abbrev st : State
   st = state_of h xs
 
   abbrev peers : Map ℕ
-  peers = (graftsAt st i).peers
+  peers = (grafts_at st i).peers
 
   grafts-whole : Grafted st.links peers
   grafts-whole =
       let d : Entry (Timed Grafts) = entry 0 (record { expires = 0; value = record { first = none; kept = none; peers = [] } }) in
-      to-grafted st.links (graftedAt st i) (all-at (graftsWhole st.links) d st.grafted.entries g.whole i (omega (arith, count-grafted h xs g.sound.fit)))
+      to-grafted st.links (grafted_at st i) (all-at (grafts_whole st.links) d st.grafted.entries g.whole i (omega (arith, count-grafted h xs g.sound.fit)))
 
   pub peers-up : Ascending (keys peers)
   peers-up = up_of (keys peers) grafts-whole.up
@@ -79,9 +79,9 @@ module _ (h : Head) (xs : List ℕ) (g : Grafting h xs) (i : ℕ) (q : i < h.liv
   key-at j = get_or-map (λ (e : Entry ℕ). e.key) peers j (entry 0 0)
 
   -- a peer of a link that is not among them finds room
-  pub peers-few : (link j : ℕ) → link < h.live.links → Between (keys peers) (peerAt st link) j → length peers < 32
+  pub peers-few : (link j : ℕ) → link < h.live.links → Between (keys peers) (peer_at st link) j → length peers < 32
   peers-few link j ql b =
-      let p : ℕ = peerAt st link in
+      let p : ℕ = peer_at st link in
       let m : Map ℕ = insert p 0 peers in
       let w : Grafted st.links m = grafted-insert st.links p 0 peers (link_near h xs link g ql) grafts-whole in
       let most : length (keys m) ≤ length st.links = once-few st.links (keys m) (ascending-once (keys m) w.up) (all_map (λ n. has n st.links) (λ (e : Entry ℕ). e.key) m ∙ w.near) in
@@ -95,23 +95,23 @@ pub has-between : (p j : ℕ) (m : Map ℕ) → Between (keys m) p j → false �
 has-between p j m b = sym (ap is_some (lookup-between p j m b))
 
 -- a graft is out
-pub out-away : (sender round : ℕ) (m : Map ℕ) (t : Bool) → any (λ e. leb e.value round) m ≡ true → t ≡ has sender m → not t ≡ graftOut sender round m
-unfolding graftOut
+pub out-away : (sender round : ℕ) (m : Map ℕ) (t : Bool) → any (λ e. leb e.value round) m ≡ true → t ≡ has sender m → not t ≡ graft_out sender round m
+unfolding graft_out
 out-away sender round m t w e = ap not e ∙ ap (λ (b : Bool). b && not (has sender m)) (sym w)
 
-pub out_none : (sender round : ℕ) (m : Map ℕ) → any (λ e. leb e.value round) m ≡ false → false ≡ graftOut sender round m
-unfolding graftOut
+pub out_none : (sender round : ℕ) (m : Map ℕ) → any (λ e. leb e.value round) m ≡ false → false ≡ graft_out sender round m
+unfolding graft_out
 out_none sender round m w = ap (λ (b : Bool). b && not (has sender m)) (sym w)
 
-pub out-empty : (sender round : ℕ) → false ≡ graftOut sender round []
-unfolding graftOut any
+pub out-empty : (sender round : ℕ) → false ≡ graft_out sender round []
+unfolding graft_out any
 out-empty sender round = refl
 
 -- the peers of the entry that was found
-pub held-peers : (s : State) (id : ℕ) (found : Option Grafts) (r : Held) → HeldIs (entry 0 (record { expires = 0; value = record { first = none; kept = none; peers = [] } })) s.grafted.entries id found r → heldPeers s r ≡ peersOf found
-unfolding peersOf
-held-peers s id found (At i) h = sym (ap peersOf h.value)
-held-peers s id found Nothing h = sym (ap peersOf h)
+pub held-peers : (s : State) (id : ℕ) (found : Option Grafts) (r : Held) → HeldIs (entry 0 (record { expires = 0; value = record { first = none; kept = none; peers = [] } })) s.grafted.entries id found r → held_peers s r ≡ peers_of found
+unfolding peers_of
+held-peers s id found (At i) h = sym (ap peers_of h.value)
+held-peers s id found Nothing h = sym (ap peers_of h)
 
 -- the entry that was found is one of those in the block
 pub held_below : (h : Head) (xs : List ℕ) (id : ℕ) (found : Option Grafts) (r : Held) → Fit h xs

@@ -13,32 +13,32 @@ use lib.Seq.{drop-drop, get_or-drop}
 use Rattle.std.specs.Prelude.{if◌then◌else◌}
 use Rattle.storage.specs.Lists.Map.{Entry}
 use Rattle.storage.specs.Rows.Part.{part}
-use Rattle.storage.specs.Rows.Digits.{leNat}
+use Rattle.storage.specs.Rows.Digits.{le_nat}
 use Rattle.storage.specs.Rows.Rows.{field_of}
-use Rattle.storage.specs.Refs.Refs.{Ref, ref, refOf, refs}
+use Rattle.storage.specs.Refs.Refs.{Ref, ref, ref_of, refs}
 use Rattle.storage.proofs.RefsLaws.Places.{ref-at}
 use Rattle.time_cache.specs.TimeCache.{Timed}
 use Rattle.time_cache.specs.Steps.{ref_at}
 use Rattle.protocol.specs.State.{Limits, Grafts}
-use Rattle.protocol.specs.Gossips.{sameAs}
+use Rattle.protocol.specs.Gossips.{same_as}
 use Rattle.block.specs.Layout.{place, table}
-use Rattle.block.specs.View.{state_of, limitsOf, byte_at, halfAt, flagOf, only_if, graftsOf}
+use Rattle.block.specs.View.{state_of, limits_of, byte_at, half_at, flag_of, only_if, grafts_of}
 use Rattle.block.specs.Sound.{Sound}
 use Rattle.block.specs.MissingSteps.{hop}
 use Rattle.block.specs.declared.head.Head.{Head}
 use Rattle.block.proofs.Tables.{field_in, byte-in}
-use Rattle.block.specs.Caches.GraftSteps.{graftsAt}
+use Rattle.block.specs.Caches.GraftSteps.{grafts_at}
 use Rattle.block.proofs.CachesLaws.GraftLaws.{grafted-entry}
 
-module _ (h : Head) (xs : List ℕ) (sound : Sound h xs) (i : ℕ) (q : i < h.live.grafted) (a : ℕ) (at : a ≡ place (limitsOf h.limits) 7 + 119 * i) where
+module _ (h : Head) (xs : List ℕ) (sound : Sound h xs) (i : ℕ) (q : i < h.live.grafted) (a : ℕ) (at : a ≡ place (limits_of h.limits) 7 + 119 * i) where
   abbrev l : Limits
-  l = limitsOf h.limits
+  l = limits_of h.limits
 
   abbrev own : List ℕ
   own = (ref_at (refs 119 h.live.grafted (table l 7 xs)) i).own
 
   own_row : own ≡ drop 2 (part (i * 119) 119 (table l 7 xs))
-  unfolding refOf
+  unfolding ref_of
   own_row = ap (λ (r : Ref). r.own) (ref-at 119 h.live.grafted i (ref 0 []) (table l 7 xs) q)
 
   own-byte : (o : ℕ) → 2 + o < 119 → byte_at o own ≡ get_or xs (a + (2 + o)) 0
@@ -59,29 +59,29 @@ module _ (h : Head) (xs : List ℕ) (sound : Sound h xs) (i : ℕ) (q : i < h.li
       ∙ field_in l 7 119 i (2 + o) k xs (lit< tt) w (omega (arith, sound.fit.within.grafted))
       ∙ ap (λ (n : ℕ). part n k xs) e
 
-  pub read_first : (graftsAt (state_of h xs) i).first ≡ only_if (flagOf (get_or xs (a + 2) 0)) (hop (leNat (part (a + 3) 8 xs)) (leNat (part (a + 11) 2 xs)))
-  unfolding graftsOf field_of halfAt
+  pub read_first : (grafts_at (state_of h xs) i).first ≡ only_if (flag_of (get_or xs (a + 2) 0)) (hop (le_nat (part (a + 3) 8 xs)) (le_nat (part (a + 11) 2 xs)))
+  unfolding grafts_of field_of half_at
   read_first =
       ap (λ (e : Entry (Timed Grafts)). e.value.value.first) (grafted-entry h xs sound i q)
-      ∙ (λ k. only_if (flagOf (own-byte 0 (omega arith) k)) (hop (leNat (own-part 1 8 (omega arith) k)) (leNat (own-part 9 2 (omega arith) k))))
+      ∙ (λ k. only_if (flag_of (own-byte 0 (omega arith) k)) (hop (le_nat (own-part 1 8 (omega arith) k)) (le_nat (own-part 9 2 (omega arith) k))))
 
-  pub read_kept : (graftsAt (state_of h xs) i).kept ≡ only_if (flagOf (get_or xs (a + 13) 0)) (leNat (part (a + 14) 8 xs))
-  unfolding graftsOf field_of
+  pub read_kept : (grafts_at (state_of h xs) i).kept ≡ only_if (flag_of (get_or xs (a + 13) 0)) (le_nat (part (a + 14) 8 xs))
+  unfolding grafts_of field_of
   read_kept =
       ap (λ (e : Entry (Timed Grafts)). e.value.value.kept) (grafted-entry h xs sound i q)
-      ∙ (λ k. only_if (flagOf (own-byte 11 (omega arith) k)) (leNat (own-part 12 8 (omega arith) k)))
+      ∙ (λ k. only_if (flag_of (own-byte 11 (omega arith) k)) (le_nat (own-part 12 8 (omega arith) k)))
 
 -- a flag that is 0, and one that is not
-pub flag-none : {A : Type 0} (b : ℕ) (v : A) → b ≡ 0 → only_if (flagOf b) v ≡ none
+pub flag-none : {A : Type 0} (b : ℕ) (v : A) → b ≡ 0 → only_if (flag_of b) v ≡ none
 flag-none b v e = ap (λ (t : Bool). only_if (if t then false else true) v) (eq-eqb b 0 e)
 
-pub flag-some : {A : Type 0} (b : ℕ) (v : A) → (b ≡ 0 → ⊥) → only_if (flagOf b) v ≡ some v
+pub flag-some : {A : Type 0} (b : ℕ) (v : A) → (b ≡ 0 → ⊥) → only_if (flag_of b) v ≡ some v
 flag-some b v e = ap (λ (t : Bool). only_if (if t then false else true) v) (ne_eqb b 0 e)
 
-pub same_none : (p : ℕ) (o : Option ℕ) → o ≡ none → false ≡ sameAs p o
-unfolding sameAs
-same_none p o e = sym (ap (sameAs p) e)
+pub same_none : (p : ℕ) (o : Option ℕ) → o ≡ none → false ≡ same_as p o
+unfolding same_as
+same_none p o e = sym (ap (same_as p) e)
 
-pub same_some : (p k : ℕ) (o : Option ℕ) → o ≡ some k → eqb p k ≡ sameAs p o
-unfolding sameAs
-same_some p k o e = sym (ap (sameAs p) e)
+pub same_some : (p k : ℕ) (o : Option ℕ) → o ≡ some k → eqb p k ≡ same_as p o
+unfolding same_as
+same_some p k o e = sym (ap (same_as p) e)

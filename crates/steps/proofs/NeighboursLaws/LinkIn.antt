@@ -9,57 +9,57 @@ use lib.ListN.{length, take, drop, get_or, set, length-append}
 use lib.Seq.{get_or-set_same}
 use Rattle.storage.specs.Lists.Map.{Entry, entry, keys, insert}
 use Rattle.storage.specs.Rows.Part.{part, put}
-use Rattle.storage.specs.Rows.Digits.{leNat, le_bytes}
+use Rattle.storage.specs.Rows.Digits.{le_nat, le_bytes}
 use Rattle.storage.specs.Rows.Rows.{field_of, opened}
 use Rattle.storage.specs.Rows.Sorted.{Between}
 use Rattle.storage.proofs.RowsLaws.Parts.{length_part, length-put, part-before, part-put, put-put-next, set-put}
 use Rattle.storage.proofs.RowsLaws.Rows.{length-opened}
 use Rattle.storage.proofs.RowsLaws.Views.{map-gap}
-use Rattle.storage.proofs.RowsLaws.Digits.{length-leBytes, leNat-leBytes}
+use Rattle.storage.proofs.RowsLaws.Digits.{length-le_bytes, le_nat-le_bytes}
 use Rattle.time_cache.proofs.MapPlaces.{insert-between}
-use Rattle.protocol.specs.Links.{Mark, eager, Links, linkUp}
-use Rattle.protocol.specs.State.{State, Limits, withLinks}
+use Rattle.protocol.specs.Links.{Mark, eager, Links, link_up}
+use Rattle.protocol.specs.State.{State, Limits, with_links}
 use Rattle.block.specs.Layout.{place, tables, table}
-use Rattle.block.specs.View.{limitsOf, viewWith, view_of, state_of, link_of, linksIn, mark_of}
+use Rattle.block.specs.View.{limits_of, view_with, view_of, state_of, link_of, links_in, mark_of}
 use Rattle.block.specs.Sound.{Laid}
 use Rattle.block.specs.Goes.{Goes}
 use Rattle.block.specs.LinkSteps.{linked}
-use Rattle.block.specs.Heads.{withLinkCount}
+use Rattle.block.specs.Heads.{with_link_count}
 use Rattle.block.specs.declared.head.Head.{Head}
 use Rattle.block.proofs.Cut.{within}
 use Rattle.block.proofs.Tables.{length-table}
-use Rattle.block.proofs.RowLaws.{opened_frame, view-insert, gapRow}
+use Rattle.block.proofs.RowLaws.{opened_frame, view-insert, gap_row}
 use Rattle.block.proofs.LinkLaws.{count-peers}
-use Rattle.steps.specs.Neighbours.Raised.{RaisedLinks, withPeer}
+use Rattle.steps.specs.Neighbours.Raised.{RaisedLinks, with_peer}
 
 -- what is stored in the row of a link: its peer, and the mark 0
 abbrev nine : ℕ → List ℕ
 nine p = le_bytes 8 p ++ (0 ∷ [])
 
 nine-long : (p : ℕ) → length (nine p) ≡ 9
-nine-long p = length-append (le_bytes 8 p) (0 ∷ []) ∙ (omega (arith, length-leBytes 8 p))
+nine-long p = length-append (le_bytes 8 p) (0 ∷ []) ∙ (omega (arith, length-le_bytes 8 p))
 
 link-stored : (p : ℕ) (row : List ℕ) → p < 256 ^ 8 → length row ≡ 16 → link_of (put 0 (nine p) row) ≡ entry p eager
 unfolding link_of field_of
 link-stored p row hp e =
-    let lb : length (le_bytes 8 p) ≡ 8 = length-leBytes 8 p in
+    let lb : length (le_bytes 8 p) ≡ 8 = length-le_bytes 8 p in
     let w : List ℕ = put 0 (le_bytes 8 p) row in
     let lw : length w ≡ 16 = length-put 0 (le_bytes 8 p) row (omega arith) ∙ e in
     let two : put 0 (nine p) row ≡ put 8 (0 ∷ []) w = sym (put-put-next 0 8 (le_bytes 8 p) (0 ∷ []) row (omega arith) (omega arith)) in
     let k : part 0 8 (put 8 (0 ∷ []) w) ≡ le_bytes 8 p = part-before 0 8 8 (0 ∷ []) w (omega arith) (omega arith) ∙ part-put 0 8 (le_bytes 8 p) row lb (omega arith) in
     let m : get_or (put 8 (0 ∷ []) w) 8 0 ≡ 0 = ap (λ (l : List ℕ). get_or l 8 0) (sym (set-put 8 0 w (omega arith))) ∙ get_or-set_same w 8 0 0 (omega arith) in
-    ap link_of two ∙ (λ z. entry ((ap leNat k ∙ leNat-leBytes 8 p hp) z) (mark_of (m z)))
+    ap link_of two ∙ (λ z. entry ((ap le_nat k ∙ le_nat-le_bytes 8 p hp) z) (mark_of (m z)))
 
 -- the links of the table with that row put in
 link-rows : (n i : ℕ) (bytes : List ℕ) (p : ℕ) → i ≤ n → (n + 1) * 16 ≤ length bytes
-    → linksIn (n + 1) (put (i * 16) (nine p) (opened 16 n i bytes)) ≡ take i (linksIn n bytes) ++ (link_of (gapRow 16 n i bytes (nine p)) ∷ drop i (linksIn n bytes))
-unfolding linksIn
+    → links_in (n + 1) (put (i * 16) (nine p) (opened 16 n i bytes)) ≡ take i (links_in n bytes) ++ (link_of (gap_row 16 n i bytes (nine p)) ∷ drop i (links_in n bytes))
+unfolding links_in
 link-rows n i bytes p h room = view-insert 16 n i bytes link_of (nine p) h (omega (arith, nine-long p)) room
 
 module _ (h : Head) (xs : List ℕ) (i p : ℕ) (hp : p < 256 ^ 8) (b : Between (keys (state_of h xs).links) p i) (q : h.live.links < h.limits.neighbours)
     (ys : List ℕ) (r : RaisedLinks i h xs ys) where
   abbrev l : Limits
-  l = limitsOf h.limits
+  l = limits_of h.limits
 
   abbrev n : ℕ
   n = h.live.links
@@ -84,7 +84,7 @@ module _ (h : Head) (xs : List ℕ) (i p : ℕ) (hp : p < 256 ^ 8) (b : Between 
 
   one-put : zs ≡ put (2048 + 16 * i) (nine p) gap
   one-put =
-      let lb : length (le_bytes 8 p) ≡ 8 = length-leBytes 8 p in
+      let lb : length (le_bytes 8 p) ≡ 8 = length-le_bytes 8 p in
       let lw : length (put (2048 + 16 * i) (le_bytes 8 p) gap) ≡ length ys = length-put (2048 + 16 * i) (le_bytes 8 p) gap (omega (arith, r.fit, within-n, gap-long)) ∙ gap-long in
       set-put (2048 + 16 * i + 8) 0 (put (2048 + 16 * i) (le_bytes 8 p) gap) (omega (arith, r.fit, within-n))
       ∙ put-put-next (2048 + 16 * i) (2048 + 16 * i + 8) (le_bytes 8 p) (0 ∷ []) gap (omega arith) (omega (arith, r.fit, within-n, gap-long))
@@ -104,10 +104,10 @@ module _ (h : Head) (xs : List ℕ) (i p : ℕ) (hp : p < 256 ^ 8) (b : Between 
       ∙ (λ k. tables l (put (a k) (nine p) (put (c k) (part (a k) (d k) ys) ys)))
       ∙ opened_frame l 1 16 n i ys (lit< tt) r.fit.long (nine p) within-n (omega (arith, nine-long p)) (omega (arith, q))
 
-  links-were : linksIn n (table l 1 ys) ≡ ls
+  links-were : links_in n (table l 1 ys) ≡ ls
   links-were = ap (λ (s : State). s.links) (r.same p)
 
-  links-with : linksIn (n + 1) v ≡ take i ls ++ (entry p eager ∷ drop i ls)
+  links-with : links_in (n + 1) v ≡ take i ls ++ (entry p eager ∷ drop i ls)
   links-with =
       let lt : length (table l 1 ys) ≡ 16 * (l.N + 1) = length-table l 1 ys (lit< tt) r.fit.long in
       let lo : length (opened 16 n i (table l 1 ys)) ≡ length (table l 1 ys) = length-opened 16 n i (table l 1 ys) within-n (omega (arith, q)) in
@@ -115,17 +115,17 @@ module _ (h : Head) (xs : List ℕ) (i p : ℕ) (hp : p < 256 ^ 8) (b : Between 
       link-rows n i (table l 1 ys) p within-n (omega (arith, q))
       ∙ (λ k. take i (links-were k) ++ (link-stored p (part (i * 16) 16 (opened 16 n i (table l 1 ys))) hp lg k ∷ drop i (links-were k)))
 
-  pub link-in : Goes (linked (linkUp p)) h xs (withLinkCount (n + 1) h) zs
-  unfolding state_of linkUp
+  pub link-in : Goes (linked (link_up p)) h xs (with_link_count (n + 1) h) zs
+  unfolding state_of link_up
   link-in =
       let t = tables l ys in
-      let h1 : Head = withLinkCount (n + 1) h in
-      let ks : keys (linksIn (n + 1) v) ≡ withPeer i p (keys ls) = ap (λ (m : Links). keys m) links-with ∙ map-gap (λ (e : Entry Mark). e.key) i (entry p eager) ls in
-      let up : linksIn (n + 1) v ≡ insert p eager ls = links-with ∙ sym (insert-between p eager i ls b) in
+      let h1 : Head = with_link_count (n + 1) h in
+      let ks : keys (links_in (n + 1) v) ≡ with_peer i p (keys ls) = ap (λ (m : Links). keys m) links-with ∙ map-gap (λ (e : Entry Mark). e.key) i (entry p eager) ls in
+      let up : links_in (n + 1) v ≡ insert p eager ls = links-with ∙ sym (insert-between p eager i ls b) in
       record {
         state = ap (view_of h1) framed
-            ∙ ap (λ (ps : List ℕ). viewWith ps h1 (set t 1 v)) ks
-            ∙ (λ k. withLinks (up k) (r.same p k));
+            ∙ ap (λ (ps : List ℕ). view_with ps h1 (set t 1 v)) ks
+            ∙ (λ k. with_links (up k) (r.same p k));
         sound = record {
           fit = record { ceilings = r.fit.ceilings; within = omega (arith, q, r.fit.within); long = omega (arith, zs-long, r.fit.long) };
           laid = subst (Laid h1) (sym framed) (record {

@@ -17,18 +17,18 @@ use Rattle.storage.specs.Refs.Refs.{ref, places, Below}
 use Rattle.time_cache.proofs.Orders.{up_of}
 use Rattle.protocol.specs.State.{Limits}
 use Rattle.block.specs.Layout.{sizes, place, tables, table, end}
-use Rattle.block.specs.View.{limitsOf, viewWith, state_of}
-use Rattle.storage.specs.Refs.Numbers.{numbered, lowerAll, entries}
+use Rattle.block.specs.View.{limits_of, view_with, state_of}
+use Rattle.storage.specs.Refs.Numbers.{numbered, lower_all, entries}
 use Rattle.block.specs.Fit.{Fit}
 use Rattle.block.specs.Sound.{Laid, Sound, AllNumbered}
 use Rattle.block.specs.LinkSteps.{LinksAscend}
-use Rattle.block.specs.Heads.{withLinkCount, withQueuedCount, withDroppedCount, withMissingCount}
+use Rattle.block.specs.Heads.{with_link_count, with_queued_count, with_dropped_count, with_missing_count}
 use Rattle.block.specs.declared.head.Head.{Head}
 use Rattle.block.proofs.Cut.{cut-part, within}
 use Rattle.block.proofs.Tables.{frame-whole, length-table}
 use Rattle.block.proofs.LinkLaws.{count-peers}
 use Rattle.storage.proofs.RefsLaws.Numbered.{numbered-same}
-use Rattle.steps.specs.Neighbours.Lowered.{withoutPeer, Listed, listed, lowerListed, announced, AllFew, LoweredIn, MissedIn, NotesIn, LoweredLinks}
+use Rattle.steps.specs.Neighbours.Lowered.{without_peer, Listed, listed, lower_listed, announced, AllFew, LoweredIn, MissedIn, NotesIn, LoweredLinks}
 use Rattle.steps.proofs.NeighboursLaws.RaisedRows.{few-in}
 use Rattle.steps.proofs.NeighboursLaws.LoweredRefs.{below-lowered, places-numbered}
 use Rattle.steps.proofs.NeighboursLaws.LoweredTables.{notes-left, missing-left, grafted-left, places-lowered, fine_of, of-fine, fine-lowered, fine-filter, Fine}
@@ -89,11 +89,11 @@ module _ (l : Limits) (t u : ℕ) (ht : t < 15) (hu : u < 15) (nx : place l u �
     pub notes-frame : tables l ys ≡ set (set (tables l xs) t (table l t ys)) u (table l u ys)
     notes-frame = two-frame xs ys long w.long at-tables.only
 
-    pub notes-are : numbered ref 34 r (table l t ys) (table l u ys) ≡ lowerAll i (numbered ref 34 n (table l t xs) (table l u xs))
+    pub notes-are : numbered ref 34 r (table l t ys) (table l u ys) ≡ lower_all i (numbered ref 34 n (table l t xs) (table l u xs))
     notes-are =
         sym (two-read r ys (omega (arith, w.long)) (omega (arith, w.few)))
         ∙ at-tables.left
-        ∙ ap (lowerAll i) (two-read n xs long h)
+        ∙ ap (lower_all i) (two-read n xs long h)
 
 -- one table
 module _ (l : Limits) (t : ℕ) (ht : t < 15) (xs ys : List ℕ) (long : end l ≤ length xs) (same : length ys ≡ length xs) (a k : ℕ) (ea : a ≡ place l t) (ek : k ≡ get_or (sizes l) t 0) where
@@ -104,13 +104,13 @@ module _ (l : Limits) (t : ℕ) (ht : t < 15) (xs ys : List ℕ) (long : end l �
   one-frame only =
       frame-whole l t xs ys ht long same (only ∙ (λ z. put (ea z) (part (ea z) (ek z) ys) xs)) ∙ ap (set (tables l xs) t) (sym (cut-part (sizes l) t ys ht))
 
-  pub rows_are : (i s n o : ℕ) → LoweredIn i a k s n o xs ys → listed o s n (table l t ys) ≡ map (lowerListed i) (listed o s n (table l t xs))
+  pub rows_are : (i s n o : ℕ) → LoweredIn i a k s n o xs ys → listed o s n (table l t ys) ≡ map (lower_listed i) (listed o s n (table l t xs))
   rows_are i s n o w =
-      ap (listed o s n) (sym (lent-table ys)) ∙ w.rows ∙ ap (λ (b : List ℕ). map (lowerListed i) (listed o s n b)) (lent-table xs)
+      ap (listed o s n) (sym (lent-table ys)) ∙ w.rows ∙ ap (λ (b : List ℕ). map (lower_listed i) (listed o s n b)) (lent-table xs)
 
-  pub missed-are : (i n r : ℕ) → MissedIn i a k n xs ys r → listed 32 129 r (table l t ys) ≡ filter announced (map (lowerListed i) (listed 32 129 n (table l t xs)))
+  pub missed-are : (i n r : ℕ) → MissedIn i a k n xs ys r → listed 32 129 r (table l t ys) ≡ filter announced (map (lower_listed i) (listed 32 129 n (table l t xs)))
   missed-are i n r w =
-      ap (listed 32 129 r) (sym (lent-table ys)) ∙ w.rows ∙ ap (λ (b : List ℕ). filter announced (map (lowerListed i) (listed 32 129 n b))) (lent-table xs)
+      ap (listed 32 129 r) (sym (lent-table ys)) ∙ w.rows ∙ ap (λ (b : List ℕ). filter announced (map (lower_listed i) (listed 32 129 n b))) (lent-table xs)
 
   pub few-are : (m o s n : ℕ) (zs : List ℕ) → o < s → table l t zs ≡ table l t xs → AllNumbered m o s n (table l t xs) → AllFew o s n (part a k zs)
   few-are m o s n zs h e all =
@@ -120,7 +120,7 @@ module _ (l : Limits) (t : ℕ) (ht : t < 15) (xs ys : List ℕ) (long : end l �
 -- the tables with all numbers lowered
 module _ (h : Head) (xs : List ℕ) (sound : Sound h xs) (asc : LinksAscend h xs) (i : ℕ) (hi : i < h.live.links) where
   abbrev l1 : Limits
-  l1 = limitsOf h.limits
+  l1 = limits_of h.limits
 
   abbrev ps : List ℕ
   ps = keys (state_of h xs).links
@@ -152,28 +152,28 @@ module _ (h : Head) (xs : List ℕ) (sound : Sound h xs) (asc : LinksAscend h xs
   missing-below : AllNumbered (length ps) 32 129 h.live.missing (T 9)
   missing-below = subst (λ (k : ℕ). AllNumbered k 32 129 h.live.missing (T 9)) (sym (count-peers h xs)) old.missing
 
-  notes-below : (n r : ℕ) (c b d e : List ℕ) → numbered ref 34 r d e ≡ lowerAll i (numbered ref 34 n c b) → Below h.live.links (take n c) → Below (h.live.links - 1) (take r d)
+  notes-below : (n r : ℕ) (c b d e : List ℕ) → numbered ref 34 r d e ≡ lower_all i (numbered ref 34 n c b) → Below h.live.links (take n c) → Below (h.live.links - 1) (take r d)
   notes-below n r c b d e w q =
       subst (Below (h.live.links - 1)) (sym (ap places w) ∙ places-numbered 34 r d e)
       (below-lowered i h.live.links hi (numbered ref 34 n c b) (subst (Below h.live.links) (sym (places-numbered 34 n c b)) q))
 
   -- the header with what is left
-  abbrev pub leftHead : ℕ → ℕ → ℕ → Head
-  leftHead q d m = withMissingCount m (withDroppedCount d (withQueuedCount q h))
+  abbrev pub left_head : ℕ → ℕ → ℕ → Head
+  left_head q d m = with_missing_count m (with_dropped_count d (with_queued_count q h))
 
   module _ (q1 q2 d1 d2 g v ys : List ℕ) (q d m : ℕ) (long : length ys ≡ length xs)
       (framed : tables l1 ys ≡ set (set (set (set (set (set (tables l1 xs) 11 q1) 12 q2) 13 d1) 14 d2) 7 g) 9 v)
       (hq : q ≤ h.live.queued) (hd : d ≤ h.live.dropped) (hm : m ≤ h.live.missing)
-      (nq : numbered ref 34 q q1 q2 ≡ lowerAll i (numbered ref 34 h.live.queued (T 11) (T 12)))
-      (nd : numbered ref 34 d d1 d2 ≡ lowerAll i (numbered ref 34 h.live.dropped (T 13) (T 14)))
-      (ng : listed 22 119 h.live.grafted g ≡ map (lowerListed i) (listed 22 119 h.live.grafted (T 7)))
-      (nv : listed 32 129 m v ≡ filter announced (map (lowerListed i) (listed 32 129 h.live.missing (T 9)))) where
-    pub lowered-links : LoweredLinks i h xs (leftHead q d m) ys
+      (nq : numbered ref 34 q q1 q2 ≡ lower_all i (numbered ref 34 h.live.queued (T 11) (T 12)))
+      (nd : numbered ref 34 d d1 d2 ≡ lower_all i (numbered ref 34 h.live.dropped (T 13) (T 14)))
+      (ng : listed 22 119 h.live.grafted g ≡ map (lower_listed i) (listed 22 119 h.live.grafted (T 7)))
+      (nv : listed 32 129 m v ≡ filter announced (map (lower_listed i) (listed 32 129 h.live.missing (T 9)))) where
+    pub lowered-links : LoweredLinks i h xs (left_head q d m) ys
     unfolding state_of
     lowered-links = record {
       same =
           let s = state_of h xs in
-          ap (viewWith (withoutPeer i ps) (leftHead q d m)) framed
+          ap (view_with (without_peer i ps) (left_head q d m)) framed
           ∙ (λ k. record {
             settings = s.settings;
             limits = s.limits;
@@ -189,7 +189,7 @@ module _ (h : Head) (xs : List ℕ) (sound : Sound h xs) (asc : LinksAscend h xs
           });
       links = refl;
       fit = record { ceilings = fit.ceilings; within = omega (arith, fit.within, hq, hd, hm); long = omega (arith, fit.long) };
-      laid = subst (Laid (withLinkCount (h.live.links - 1) (leftHead q d m))) (sym framed) (record {
+      laid = subst (Laid (with_link_count (h.live.links - 1) (left_head q d m))) (sym framed) (record {
         received = old.received;
         cached = old.cached;
         grafted = subst (Below h.live.grafted_rows) (sym (places-lowered i h.live.grafted (T 7) g ng)) old.grafted;
@@ -199,7 +199,7 @@ module _ (h : Head) (xs : List ℕ) (sound : Sound h xs) (asc : LinksAscend h xs
             (subst (λ (rs : List Listed). Fine (h.live.links - 1) rs) (sym ng) (fine-lowered i h.live.links hi (listed 22 119 h.live.grafted (T 7)) (fine_of h.live.links 22 119 h.live.grafted (T 7) old.grafts)));
         missing = of-fine (h.live.links - 1) 32 129 m v
             (subst (λ (rs : List Listed). Fine (h.live.links - 1) rs) (sym nv)
-            (fine-filter (h.live.links - 1) announced (map (lowerListed i) (listed 32 129 h.live.missing (T 9)))
+            (fine-filter (h.live.links - 1) announced (map (lower_listed i) (listed 32 129 h.live.missing (T 9)))
             (fine-lowered i h.live.links hi (listed 32 129 h.live.missing (T 9)) (fine_of h.live.links 32 129 h.live.missing (T 9) old.missing))));
         queue = notes-below h.live.queued q (T 11) (T 12) q1 q2 nq old.queue;
         dropped = notes-below h.live.dropped d (T 13) (T 14) d1 d2 nd old.dropped;
@@ -212,7 +212,7 @@ module _ (h : Head) (xs : List ℕ) (sound : Sound h xs) (asc : LinksAscend h xs
     f1 : tables l1 y1 ≡ set (set (tables l1 xs) 11 (table l1 11 y1)) 12 (table l1 12 y1)
     f1 = notes-frame l1 11 12 (lit< tt) (lit< tt) (omega arith) i a11 (a13 - a11) (a12 - a11) h.live.queued q xs y1 fit.long e11 (omega arith) (omega arith) (omega (arith, fit.within)) w1
 
-    n1 : numbered ref 34 q (table l1 11 y1) (table l1 12 y1) ≡ lowerAll i (numbered ref 34 h.live.queued (T 11) (T 12))
+    n1 : numbered ref 34 q (table l1 11 y1) (table l1 12 y1) ≡ lower_all i (numbered ref 34 h.live.queued (T 11) (T 12))
     n1 = notes-are l1 11 12 (lit< tt) (lit< tt) (omega arith) i a11 (a13 - a11) (a12 - a11) h.live.queued q xs y1 fit.long e11 (omega arith) (omega arith) (omega (arith, fit.within)) w1
 
     module _ (y2 : List ℕ) (d : ℕ) (w2 : NotesIn i a13 (ae - a13) (a14 - a13) h.live.dropped y1 y2 d) where
@@ -227,10 +227,10 @@ module _ (h : Head) (xs : List ℕ) (sound : Sound h xs) (asc : LinksAscend h xs
           notes-frame l1 13 14 (lit< tt) (lit< tt) (omega arith) i a13 (ae - a13) (a14 - a13) h.live.dropped d y1 y2 (omega (arith, fit.long, w1.long)) e13 (omega arith) (omega arith) (omega (arith, fit.within)) w2
           ∙ ap (λ (ts : List (List ℕ)). set (set ts 13 (table l1 13 y2)) 14 (table l1 14 y2)) f1
 
-      n2 : numbered ref 34 d (table l1 13 y2) (table l1 14 y2) ≡ lowerAll i (numbered ref 34 h.live.dropped (T 13) (T 14))
+      n2 : numbered ref 34 d (table l1 13 y2) (table l1 14 y2) ≡ lower_all i (numbered ref 34 h.live.dropped (T 13) (T 14))
       n2 =
           notes-are l1 13 14 (lit< tt) (lit< tt) (omega arith) i a13 (ae - a13) (a14 - a13) h.live.dropped d y1 y2 (omega (arith, fit.long, w1.long)) e13 (omega arith) (omega arith) (omega (arith, fit.within)) w2
-          ∙ ap (λ (ts : List (List ℕ)). lowerAll i (numbered ref 34 h.live.dropped (get_or ts 13 []) (get_or ts 14 []))) f1
+          ∙ ap (λ (ts : List (List ℕ)). lower_all i (numbered ref 34 h.live.dropped (get_or ts 13 []) (get_or ts 14 []))) f1
 
       k7 : a8 - a7 ≡ get_or (sizes l1) 7 0
       k7 = omega arith
@@ -248,10 +248,10 @@ module _ (h : Head) (xs : List ℕ) (sound : Sound h xs) (asc : LinksAscend h xs
             one-frame l1 7 (lit< tt) y2 y3 (omega (arith, fit.long, long2)) w3.long a7 (a8 - a7) e7 k7 w3.only
             ∙ ap (λ (ts : List (List ℕ)). set ts 7 (table l1 7 y3)) f2
 
-        n3 : listed 22 119 h.live.grafted (table l1 7 y3) ≡ map (lowerListed i) (listed 22 119 h.live.grafted (T 7))
+        n3 : listed 22 119 h.live.grafted (table l1 7 y3) ≡ map (lower_listed i) (listed 22 119 h.live.grafted (T 7))
         n3 =
             rows_are l1 7 (lit< tt) y2 y3 (omega (arith, fit.long, long2)) w3.long a7 (a8 - a7) e7 k7 i 119 h.live.grafted 22 w3
-            ∙ ap (λ (ts : List (List ℕ)). map (lowerListed i) (listed 22 119 h.live.grafted (get_or ts 7 []))) f2
+            ∙ ap (λ (ts : List (List ℕ)). map (lower_listed i) (listed 22 119 h.live.grafted (get_or ts 7 []))) f2
 
         k9 : a10 - a9 ≡ get_or (sizes l1) 9 0
         k9 = omega arith
@@ -260,11 +260,11 @@ module _ (h : Head) (xs : List ℕ) (sound : Sound h xs) (asc : LinksAscend h xs
         fourth-asks =
             few-are l1 9 (lit< tt) xs y3 fit.long long3 a9 (a10 - a9) e9 k9 h.live.links 32 129 h.live.missing y3 (omega arith) (ap (λ (ts : List (List ℕ)). get_or ts 9 []) f3) old.missing
 
-        pub all-steps : (y4 : List ℕ) (m : ℕ) → MissedIn i a9 (a10 - a9) h.live.missing y3 y4 m → LoweredLinks i h xs (leftHead q d m) y4
+        pub all-steps : (y4 : List ℕ) (m : ℕ) → MissedIn i a9 (a10 - a9) h.live.missing y3 y4 m → LoweredLinks i h xs (left_head q d m) y4
         all-steps y4 m w4 =
             lowered-links (table l1 11 y1) (table l1 12 y1) (table l1 13 y2) (table l1 14 y2) (table l1 7 y3) (table l1 9 y4) y4 q d m (w4.long ∙ long3)
             (one-frame l1 9 (lit< tt) y3 y4 (omega (arith, fit.long, long3)) w4.long a9 (a10 - a9) e9 k9 w4.only
             ∙ ap (λ (ts : List (List ℕ)). set ts 9 (table l1 9 y4)) f3)
             w1.few w2.few w4.few n1 n2 n3
             (missed-are l1 9 (lit< tt) y3 y4 (omega (arith, fit.long, long3)) w4.long a9 (a10 - a9) e9 k9 i h.live.missing m w4
-            ∙ ap (λ (ts : List (List ℕ)). filter announced (map (lowerListed i) (listed 32 129 h.live.missing (get_or ts 9 [])))) f3)
+            ∙ ap (λ (ts : List (List ℕ)). filter announced (map (lower_listed i) (listed 32 129 h.live.missing (get_or ts 9 [])))) f3)

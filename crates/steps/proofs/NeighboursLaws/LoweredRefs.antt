@@ -16,17 +16,17 @@ use Rattle.storage.specs.Lists.Map.{Map, Entry, entry, remove}
 use Rattle.storage.proofs.ListsLaws.MapLaws.{cases, true≢}
 use Rattle.storage.proofs.ListsLaws.ListLaws.{length-filter, count-length}
 use Rattle.storage.proofs.ListsLaws.KeyLaws.{eqb-sym}
-use Rattle.storage.specs.Rows.Digits.{leNat}
+use Rattle.storage.specs.Rows.Digits.{le_nat}
 use Rattle.storage.specs.Rows.Rows.{rows}
 use Rattle.storage.specs.Rows.Sorted.{Ascending}
 use Rattle.storage.proofs.RowsLaws.Rows.{length-rows}
 use Rattle.storage.specs.Refs.Refs.{Ref, ref, places, Below}
 use Rattle.storage.proofs.RefsLaws.Shifts.{low_or_high}
-use Rattle.protocol.specs.Push.{forPeer}
-use Rattle.protocol.specs.Neighbours.{withoutAnnouncer, withoutNotes}
-use Rattle.block.specs.View.{halfAt, id_at, peerOf, note_of, hopOf, roundOf}
-use Rattle.storage.specs.Refs.Numbers.{pairs, numbered, lowered, stays, lower, lowerAll}
-use Rattle.steps.specs.Neighbours.Lowered.{withoutPeer}
+use Rattle.protocol.specs.Push.{for_peer}
+use Rattle.protocol.specs.Neighbours.{without_announcer, without_notes}
+use Rattle.block.specs.View.{half_at, id_at, peer_of, note_of, hop_of, round_of}
+use Rattle.storage.specs.Refs.Numbers.{pairs, numbered, lowered, stays, lower, lower_all}
+use Rattle.steps.specs.Neighbours.Lowered.{without_peer}
 use Rattle.steps.proofs.NeighboursLaws.LoweredLaws.{read_by, pairs-read}
 use Rattle.storage.proofs.RefsLaws.Lowered.{lowered-low, lowered-high, named-lowered}
 
@@ -59,16 +59,16 @@ below_step : (i m : ℕ) (r : Ref) (rs : List Ref) (x : Bool) → (x ≡ true �
 below_step i m r rs true h b = below-cons m (lowered i r.place) (places (map (lower i) rs)) (h refl) b
 below_step i m r rs false h b = b
 
-pub below-lowered : (i m : ℕ) → i < m → (rs : List Ref) → Below m (places rs) → Below (m - 1) (places (lowerAll i rs))
-unfolding lowerAll filter
+pub below-lowered : (i m : ℕ) → i < m → (rs : List Ref) → Below m (places rs) → Below (m - 1) (places (lower_all i rs))
+unfolding lower_all filter
 below-lowered i m h [] b = record { below = λ j q. absurd (not-suc-le-zero q) }
 below-lowered i m h (r ∷ rs) b =
     below_step i (m - 1) r (filter (stays i) rs) (stays i r)
     (λ e. lowered-below i m r.place h (b.below 0 (suc-le-suc zero-le)) (differs r.place i e))
     (below-lowered i m h rs (below_rest m r.place (places rs) b))
 
-pub length-lowered : (i : ℕ) (rs : List Ref) → length (lowerAll i rs) ≤ length rs
-unfolding lowerAll
+pub length-lowered : (i : ℕ) (rs : List Ref) → length (lower_all i rs) ≤ length rs
+unfolding lower_all
 length-lowered i rs = omega (arith, length-map (filter (stays i) rs) (lower i), length-filter (stays i) rs, count-length (stays i) rs)
 
 -- what is read from what is left, where g reads a lowered number as f the number, and t tells those that are not of link i
@@ -80,8 +80,8 @@ module _ {A : Type 0} (f g : ℕ → List ℕ → A) (t : A → Bool) (i m : ℕ
   read_step r rs vs true s e = λ k. s refl k ∷ e k
   read_step r rs vs false s e = e
 
-  pub refs-lowered : (rs : List Ref) → Below m (places rs) → map (read_by g) (lowerAll i rs) ≡ filter t (map (read_by f) rs)
-  unfolding lowerAll filter
+  pub refs-lowered : (rs : List Ref) → Below m (places rs) → map (read_by g) (lower_all i rs) ≡ filter t (map (read_by f) rs)
+  unfolding lower_all filter
   refs-lowered [] b = refl
   refs-lowered (r ∷ rs) b =
       let q : r.place < m = b.below 0 (suc-le-suc zero-le) in
@@ -103,13 +103,13 @@ remove-filter {A} p (e ∷ m) =
     ∙ ap (λ (x : Bool). if not x then e ∷ filter (λ (e : Entry A). not (eqb e.key p)) m else filter (λ (e : Entry A). not (eqb e.key p)) m) (eqb-sym p e.key)
 
 -- two places of ascending peers are one where their peers are one
-pub peer-test : (ps : List ℕ) → Ascending ps → (l i : ℕ) → l < length ps → i < length ps → eqb (peerOf ps l) (peerOf ps i) ≡ eqb l i
+pub peer-test : (ps : List ℕ) → Ascending ps → (l i : ℕ) → l < length ps → i < length ps → eqb (peer_of ps l) (peer_of ps i) ≡ eqb l i
 peer-test ps up l i q h =
     cases (eqb l i)
-    (λ e. eq-eqb (peerOf ps l) (peerOf ps i) (ap (peerOf ps) (eqb-true l i e)) ∙ sym e)
-    (λ e. ne_eqb (peerOf ps l) (peerOf ps i) (λ z. apart (low_or_high i l) (eqb-false l i e) z) ∙ sym e)
+    (λ e. eq-eqb (peer_of ps l) (peer_of ps i) (ap (peer_of ps) (eqb-true l i e)) ∙ sym e)
+    (λ e. ne_eqb (peer_of ps l) (peer_of ps i) (λ z. apart (low_or_high i l) (eqb-false l i e) z) ∙ sym e)
   where
-    apart : (l < i) ⊎ (i ≤ l) → (l ≡ i → ⊥) → peerOf ps l ≡ peerOf ps i → ⊥
+    apart : (l < i) ⊎ (i ≤ l) → (l ≡ i → ⊥) → peer_of ps l ≡ peer_of ps i → ⊥
     apart (inl b) n z = omega (arith, up.up l i b h)
     apart (inr b) n z = go (low_or_high (suc i) l)
       where
@@ -120,51 +120,51 @@ peer-test ps up l i q h =
 -- without the peer at i
 module _ (i : ℕ) (ps : List ℕ) (up : Ascending ps) (h : i < length ps) where
   abbrev p : ℕ
-  p = peerOf ps i
+  p = peer_of ps i
 
   abbrev rest : List ℕ
-  rest = withoutPeer i ps
+  rest = without_peer i ps
 
-  test-peer : (l : ℕ) → l < length ps → not (eqb (peerOf ps l) p) ≡ not (eqb l i)
+  test-peer : (l : ℕ) → l < length ps → not (eqb (peer_of ps l) p) ≡ not (eqb l i)
   test-peer l q = ap not (peer-test ps up l i q h)
 
   same-note : (l : ℕ) (row : List ℕ) → l < length ps → (l ≡ i → ⊥) → note_of rest (lowered i l) row ≡ note_of ps l row
   unfolding note_of
-  same-note l row q n = ap (λ (x : ℕ). record { peer = x; id = id_at 0 row; round = halfAt 32 row }) (named-lowered 0 i l ps h n)
+  same-note l row q n = ap (λ (x : ℕ). record { peer = x; id = id_at 0 row; round = half_at 32 row }) (named-lowered 0 i l ps h n)
 
-  test-note : (l : ℕ) (row : List ℕ) → l < length ps → not (forPeer p (note_of ps l row)) ≡ not (eqb l i)
+  test-note : (l : ℕ) (row : List ℕ) → l < length ps → not (for_peer p (note_of ps l row)) ≡ not (eqb l i)
   unfolding note_of
   test-note l row q = test-peer l q
 
-  same-hop : (l : ℕ) (row : List ℕ) → l < length ps → (l ≡ i → ⊥) → hopOf rest (lowered i l) row ≡ hopOf ps l row
-  unfolding hopOf
-  same-hop l row q n = ap (λ (x : ℕ). record { peer = x; round = leNat row }) (named-lowered 0 i l ps h n)
+  same-hop : (l : ℕ) (row : List ℕ) → l < length ps → (l ≡ i → ⊥) → hop_of rest (lowered i l) row ≡ hop_of ps l row
+  unfolding hop_of
+  same-hop l row q n = ap (λ (x : ℕ). record { peer = x; round = le_nat row }) (named-lowered 0 i l ps h n)
 
-  test-hop : (l : ℕ) (row : List ℕ) → l < length ps → not (eqb (hopOf ps l row).peer p) ≡ not (eqb l i)
-  unfolding hopOf
+  test-hop : (l : ℕ) (row : List ℕ) → l < length ps → not (eqb (hop_of ps l row).peer p) ≡ not (eqb l i)
+  unfolding hop_of
   test-hop l row q = test-peer l q
 
-  same-round : (l : ℕ) (row : List ℕ) → l < length ps → (l ≡ i → ⊥) → roundOf rest (lowered i l) row ≡ roundOf ps l row
-  unfolding roundOf
-  same-round l row q n = ap (λ (x : ℕ). entry x (leNat row)) (named-lowered 0 i l ps h n)
+  same-round : (l : ℕ) (row : List ℕ) → l < length ps → (l ≡ i → ⊥) → round_of rest (lowered i l) row ≡ round_of ps l row
+  unfolding round_of
+  same-round l row q n = ap (λ (x : ℕ). entry x (le_nat row)) (named-lowered 0 i l ps h n)
 
-  test-round : (l : ℕ) (row : List ℕ) → l < length ps → not (eqb (roundOf ps l row).key p) ≡ not (eqb l i)
-  unfolding roundOf
+  test-round : (l : ℕ) (row : List ℕ) → l < length ps → not (eqb (round_of ps l row).key p) ≡ not (eqb l i)
+  unfolding round_of
   test-round l row q = test-peer l q
 
   -- notes, announcers, grafts
-  pub notes-lowered : (rs : List Ref) → Below (length ps) (places rs) → map (read_by (note_of rest)) (lowerAll i rs) ≡ withoutNotes p (map (read_by (note_of ps)) rs)
-  unfolding withoutNotes
-  notes-lowered rs b = refs-lowered (note_of ps) (note_of rest) (λ n. not (forPeer p n)) i (length ps) same-note test-note rs b
+  pub notes-lowered : (rs : List Ref) → Below (length ps) (places rs) → map (read_by (note_of rest)) (lower_all i rs) ≡ without_notes p (map (read_by (note_of ps)) rs)
+  unfolding without_notes
+  notes-lowered rs b = refs-lowered (note_of ps) (note_of rest) (λ n. not (for_peer p n)) i (length ps) same-note test-note rs b
 
-  pub hops-lowered : (rs : List Ref) → Below (length ps) (places rs) → map (read_by (hopOf rest)) (lowerAll i rs) ≡ withoutAnnouncer p (map (read_by (hopOf ps)) rs)
-  unfolding withoutAnnouncer
-  hops-lowered rs b = refs-lowered (hopOf ps) (hopOf rest) (λ n. not (eqb n.peer p)) i (length ps) same-hop test-hop rs b
+  pub hops-lowered : (rs : List Ref) → Below (length ps) (places rs) → map (read_by (hop_of rest)) (lower_all i rs) ≡ without_announcer p (map (read_by (hop_of ps)) rs)
+  unfolding without_announcer
+  hops-lowered rs b = refs-lowered (hop_of ps) (hop_of rest) (λ n. not (eqb n.peer p)) i (length ps) same-hop test-hop rs b
 
-  pub rounds-lowered : (rs : List Ref) → Below (length ps) (places rs) → map (read_by (roundOf rest)) (lowerAll i rs) ≡ remove p (map (read_by (roundOf ps)) rs)
+  pub rounds-lowered : (rs : List Ref) → Below (length ps) (places rs) → map (read_by (round_of rest)) (lower_all i rs) ≡ remove p (map (read_by (round_of ps)) rs)
   rounds-lowered rs b =
-      refs-lowered (roundOf ps) (roundOf rest) (λ (e : Entry ℕ). not (eqb e.key p)) i (length ps) same-round test-round rs b
-      ∙ sym (remove-filter p (map (read_by (roundOf ps)) rs))
+      refs-lowered (round_of ps) (round_of rest) (λ (e : Entry ℕ). not (eqb e.key p)) i (length ps) same-round test-round rs b
+      ∙ sym (remove-filter p (map (read_by (round_of ps)) rs))
 
 -- the numbers, of numbers with rows beside them
 pub places-pairs : (ls : List ℕ) (rs : List (List ℕ)) → length ls ≤ length rs → places (pairs ref ls rs) ≡ ls

@@ -14,20 +14,20 @@ use Rattle.std.specs.Prelude.{if◌then◌else◌}
 use Rattle.storage.specs.Lists.Base.{filter, is_empty}
 use Rattle.storage.specs.Lists.Map.{Map, Entry, entry}
 use Rattle.storage.specs.Rows.Part.{part}
-use Rattle.storage.specs.Rows.Digits.{leNat, beNat}
+use Rattle.storage.specs.Rows.Digits.{le_nat, be_nat}
 use Rattle.storage.specs.Rows.Rows.{rows, field_of}
 use Rattle.storage.specs.Rows.Sorted.{Ascending}
 use Rattle.storage.proofs.RowsLaws.Parts.{part-part, drop-take, get_d_part}
-use Rattle.storage.specs.Refs.Refs.{Ref, ref, refOf, refs, places, Below}
+use Rattle.storage.specs.Refs.Refs.{Ref, ref, ref_of, refs, places, Below}
 use Rattle.time_cache.specs.TimeCache.{Timed}
-use Rattle.time_cache.specs.Tables.{ExpiryRow, expiryRows, expiryOf, entry_of, row_at, cacheOf}
+use Rattle.time_cache.specs.Tables.{ExpiryRow, expiry_rows, expiry_of, entry_of, row_at, cache_of}
 use Rattle.protocol.specs.State.{Hop, Grafts}
-use Rattle.protocol.specs.Neighbours.{withoutAnnouncer, forgetAnnouncer, withoutNotes, withoutGraft, forgetGrafted}
-use Rattle.block.specs.View.{byte_at, halfAt, id_at, flagOf, only_if, peerOf, note_of, notesIn, hopsIn, hopOf, hopsOf, missedOf, missingIn, roundOf, graftsOf, graftedIn}
-use Rattle.storage.specs.Refs.Numbers.{numbered, lowerAll}
+use Rattle.protocol.specs.Neighbours.{without_announcer, forget_announcer, without_notes, without_graft, forget_grafted}
+use Rattle.block.specs.View.{byte_at, half_at, id_at, flag_of, only_if, peer_of, note_of, notes_in, hops_in, hop_of, hops_of, missed_of, missing_in, round_of, grafts_of, grafted_in}
+use Rattle.storage.specs.Refs.Numbers.{numbered, lower_all}
 use Rattle.block.specs.Sound.{Numbered, AllNumbered}
 use Rattle.block.proofs.Each.{Each, each-numbered, numbered-each}
-use Rattle.steps.specs.Neighbours.Lowered.{withoutPeer, Listed, listed_of, listed, lowerListed, announced}
+use Rattle.steps.specs.Neighbours.Lowered.{without_peer, Listed, listed_of, listed, lower_listed, announced}
 use Rattle.steps.proofs.NeighboursLaws.LoweredLaws.{read_by}
 use Rattle.steps.proofs.NeighboursLaws.LoweredRefs.{below-lowered, length-lowered, notes-lowered, hops-lowered, rounds-lowered, places-numbered, numbered-few, numbered-read}
 
@@ -36,12 +36,12 @@ pub data Fine : ℕ → List Listed → Type 0 where
   none : {m : ℕ} → Fine m []
   more : {m : ℕ} (r : Listed) (rs : List Listed) → r.count ≤ 32 → length r.hops ≤ r.count → Below m (places r.hops) → Fine m rs → Fine m (r ∷ rs)
 
-places-hops : (list : List ℕ) → places (hopsIn ref list) ≡ take (byte_at 0 list) (drop 1 list)
-unfolding hopsIn
+places-hops : (list : List ℕ) → places (hops_in ref list) ≡ take (byte_at 0 list) (drop 1 list)
+unfolding hops_in
 places-hops list = places-numbered 2 (byte_at 0 list) (drop 1 list) (drop 33 list)
 
-hops-few : (list : List ℕ) → length (hopsIn ref list) ≤ byte_at 0 list
-unfolding hopsIn
+hops-few : (list : List ℕ) → length (hops_in ref list) ≤ byte_at 0 list
+unfolding hops_in
 hops-few list = numbered-few 2 (byte_at 0 list) (drop 1 list) (drop 33 list)
 
 byte-list : (o : ℕ) (row : List ℕ) → byte_at 0 (drop o row) ≡ byte_at o row
@@ -70,10 +70,10 @@ pub of-fine : (m o s n : ℕ) (bytes : List ℕ) → Fine m (listed o s n bytes)
 unfolding listed
 of-fine m o s n bytes f = numbered-each m o s n bytes (rows-fine m o (rows s n bytes) f)
 
-pub fine-lowered : (i m : ℕ) → i < m → (rs : List Listed) → Fine m rs → Fine (m - 1) (map (lowerListed i) rs)
+pub fine-lowered : (i m : ℕ) → i < m → (rs : List Listed) → Fine m rs → Fine (m - 1) (map (lower_listed i) rs)
 fine-lowered i m h [] none = none
 fine-lowered i m h (r ∷ rs) (more _ _ few le b f) =
-    more (lowerListed i r) (map (lowerListed i) rs) (omega (arith, length-lowered i r.hops)) (omega arith) (below-lowered i m h r.hops b) (fine-lowered i m h rs f)
+    more (lower_listed i r) (map (lower_listed i) rs) (omega (arith, length-lowered i r.hops)) (omega arith) (below-lowered i m h r.hops b) (fine-lowered i m h rs f)
 
 fine-step : (m : ℕ) (r : Listed) (rs : List Listed) (x : Bool) → r.count ≤ 32 → length r.hops ≤ r.count → Below m (places r.hops) → Fine m rs → Fine m (if x then r ∷ rs else rs)
 fine-step m r rs true few le b f = more r rs few le b f
@@ -85,35 +85,35 @@ fine-filter m q [] none = none
 fine-filter m q (r ∷ rs) (more _ _ few le b f) = fine-step m r (filter q rs) (q r) few le b (fine-filter m q rs f)
 
 -- what is read from a list, by way of its numbers and rounds
-hops-read : {A : Type 0} (f : ℕ → List ℕ → A) (list : List ℕ) → hopsIn f list ≡ map (read_by f) (hopsIn ref list)
-unfolding hopsIn
+hops-read : {A : Type 0} (f : ℕ → List ℕ → A) (list : List ℕ) → hops_in f list ≡ map (read_by f) (hops_in ref list)
+unfolding hops_in
 hops-read f list = numbered-read f 2 (byte_at 0 list) (drop 1 list) (drop 33 list)
 
 -- a missing message, from its row
-abbrev seenMissed : List ℕ → Listed → Entry (List Hop)
-seenMissed ps r = entry (beNat (part 0 32 r.head)) (map (read_by (hopOf ps)) r.hops)
+abbrev seen_missed : List ℕ → Listed → Entry (List Hop)
+seen_missed ps r = entry (be_nat (part 0 32 r.head)) (map (read_by (hop_of ps)) r.hops)
 
-missed-seen : (ps row : List ℕ) → missedOf ps row ≡ seenMissed ps (listed_of 32 row)
-unfolding missedOf hopsOf id_at listed_of part
-missed-seen ps row = λ k. entry (beNat (sym (take-take 32 32 row (omega arith)) k)) (hops-read (hopOf ps) (drop 32 row) k)
+missed-seen : (ps row : List ℕ) → missed_of ps row ≡ seen_missed ps (listed_of 32 row)
+unfolding missed_of hops_of id_at listed_of part
+missed-seen ps row = λ k. entry (be_nat (sym (take-take 32 32 row (omega arith)) k)) (hops-read (hop_of ps) (drop 32 row) k)
 
 map_each : {A B : Type 0} (f g : A → B) → ((x : A) → f x ≡ g x) → (xs : List A) → map f xs ≡ map g xs
 map_each f g e [] = refl
 map_each f g e (x ∷ xs) = λ k. e x k ∷ map_each f g e xs k
 
-missing-seen : (ps : List ℕ) (n : ℕ) (bytes : List ℕ) → missingIn ps n bytes ≡ map (seenMissed ps) (listed 32 129 n bytes)
-unfolding missingIn listed
+missing-seen : (ps : List ℕ) (n : ℕ) (bytes : List ℕ) → missing_in ps n bytes ≡ map (seen_missed ps) (listed 32 129 n bytes)
+unfolding missing_in listed
 missing-seen ps n bytes =
-    map_each (missedOf ps) (λ (row : List ℕ). seenMissed ps (listed_of 32 row)) (missed-seen ps) (rows 129 n bytes) ∙ sym (map-map (seenMissed ps) (listed_of 32) (rows 129 n bytes))
+    map_each (missed_of ps) (λ (row : List ℕ). seen_missed ps (listed_of 32 row)) (missed-seen ps) (rows 129 n bytes) ∙ sym (map-map (seen_missed ps) (listed_of 32) (rows 129 n bytes))
 
 -- a grafted message, from its row
-abbrev seenGrafted : List ℕ → List ExpiryRow → Listed → Entry (Timed Grafts)
-seenGrafted ps es r = entry (row_at es (leNat (part 0 2 r.head))).key (record {
-  expires = (row_at es (leNat (part 0 2 r.head))).time;
+abbrev seen_grafted : List ℕ → List ExpiryRow → Listed → Entry (Timed Grafts)
+seen_grafted ps es r = entry (row_at es (le_nat (part 0 2 r.head))).key (record {
+  expires = (row_at es (le_nat (part 0 2 r.head))).time;
   value = record {
-    first = only_if (flagOf (byte_at 0 (drop 2 r.head))) (record { peer = leNat (part 1 8 (drop 2 r.head)); round = leNat (part 9 2 (drop 2 r.head)) });
-    kept = only_if (flagOf (byte_at 11 (drop 2 r.head))) (leNat (part 12 8 (drop 2 r.head)));
-    peers = map (read_by (roundOf ps)) r.hops;
+    first = only_if (flag_of (byte_at 0 (drop 2 r.head))) (record { peer = le_nat (part 1 8 (drop 2 r.head)); round = le_nat (part 9 2 (drop 2 r.head)) });
+    kept = only_if (flag_of (byte_at 11 (drop 2 r.head))) (le_nat (part 12 8 (drop 2 r.head)));
+    peers = map (read_by (round_of ps)) r.hops;
   };
 })
 
@@ -140,38 +140,38 @@ module _ (row : List ℕ) where
   list-own : drop 20 (drop 2 row) ≡ drop 22 row
   list-own = drop-drop 20 2 row
 
-grafted-seen : (ps : List ℕ) (es : List ExpiryRow) (row : List ℕ) → entry_of (graftsOf ps) es (refOf row) ≡ seenGrafted ps es (listed_of 22 row)
-unfolding refOf graftsOf field_of halfAt listed_of
-grafted-seen ps es row = λ k. entry (row_at es (leNat (place-part row k))).key (record {
-  expires = (row_at es (leNat (place-part row k))).time;
+grafted-seen : (ps : List ℕ) (es : List ExpiryRow) (row : List ℕ) → entry_of (grafts_of ps) es (ref_of row) ≡ seen_grafted ps es (listed_of 22 row)
+unfolding ref_of grafts_of field_of half_at listed_of
+grafted-seen ps es row = λ k. entry (row_at es (le_nat (place-part row k))).key (record {
+  expires = (row_at es (le_nat (place-part row k))).time;
   value = record {
-    first = only_if (flagOf (own-byte row 0 (omega arith) k)) (record { peer = leNat (own-part row 1 8 (omega arith) k); round = leNat (own-part row 9 2 (omega arith) k) });
-    kept = only_if (flagOf (own-byte row 11 (omega arith) k)) (leNat (own-part row 12 8 (omega arith) k));
-    peers = (ap (hopsIn (roundOf ps)) (list-own row) ∙ hops-read (roundOf ps) (drop 22 row)) k;
+    first = only_if (flag_of (own-byte row 0 (omega arith) k)) (record { peer = le_nat (own-part row 1 8 (omega arith) k); round = le_nat (own-part row 9 2 (omega arith) k) });
+    kept = only_if (flag_of (own-byte row 11 (omega arith) k)) (le_nat (own-part row 12 8 (omega arith) k));
+    peers = (ap (hops_in (round_of ps)) (list-own row) ∙ hops-read (round_of ps) (drop 22 row)) k;
   };
 })
 
-entries-seen : (ps : List ℕ) (es : List ExpiryRow) (n : ℕ) (bytes : List ℕ) → map (entry_of (graftsOf ps) es) (refs 119 n bytes) ≡ map (seenGrafted ps es) (listed 22 119 n bytes)
+entries-seen : (ps : List ℕ) (es : List ExpiryRow) (n : ℕ) (bytes : List ℕ) → map (entry_of (grafts_of ps) es) (refs 119 n bytes) ≡ map (seen_grafted ps es) (listed 22 119 n bytes)
 unfolding refs listed
 entries-seen ps es n bytes =
-    map-map (entry_of (graftsOf ps) es) refOf (rows 119 n bytes)
-    ∙ map_each (λ (row : List ℕ). entry_of (graftsOf ps) es (refOf row)) (λ (row : List ℕ). seenGrafted ps es (listed_of 22 row)) (grafted-seen ps es) (rows 119 n bytes)
-    ∙ sym (map-map (seenGrafted ps es) (listed_of 22) (rows 119 n bytes))
+    map-map (entry_of (grafts_of ps) es) ref_of (rows 119 n bytes)
+    ∙ map_each (λ (row : List ℕ). entry_of (grafts_of ps) es (ref_of row)) (λ (row : List ℕ). seen_grafted ps es (listed_of 22 row)) (grafted-seen ps es) (rows 119 n bytes)
+    ∙ sym (map-map (seen_grafted ps es) (listed_of 22) (rows 119 n bytes))
 
 abbrev place_of : Listed → ℕ
-place_of r = leNat (part 0 2 r.head)
+place_of r = le_nat (part 0 2 r.head)
 
 places-seen : (n : ℕ) (bytes : List ℕ) → places (refs 119 n bytes) ≡ map place_of (listed 22 119 n bytes)
-unfolding refs refOf listed listed_of
+unfolding refs ref_of listed listed_of
 places-seen n bytes =
-    map-map (λ (r : Ref). r.place) refOf (rows 119 n bytes)
-    ∙ map_each (λ (row : List ℕ). leNat (part 0 2 row)) (λ (row : List ℕ). leNat (part 0 2 (take 22 row))) (λ (row : List ℕ). ap leNat (place-part row)) (rows 119 n bytes)
+    map-map (λ (r : Ref). r.place) ref_of (rows 119 n bytes)
+    ∙ map_each (λ (row : List ℕ). le_nat (part 0 2 row)) (λ (row : List ℕ). le_nat (part 0 2 (take 22 row))) (λ (row : List ℕ). ap le_nat (place-part row)) (rows 119 n bytes)
     ∙ sym (map-map place_of (listed_of 22) (rows 119 n bytes))
 
 -- the places of grafted entries are as they were
-pub places-lowered : (i n : ℕ) (xs ys : List ℕ) → listed 22 119 n ys ≡ map (lowerListed i) (listed 22 119 n xs) → places (refs 119 n ys) ≡ places (refs 119 n xs)
+pub places-lowered : (i n : ℕ) (xs ys : List ℕ) → listed 22 119 n ys ≡ map (lower_listed i) (listed 22 119 n xs) → places (refs 119 n ys) ≡ places (refs 119 n xs)
 places-lowered i n xs ys e =
-    places-seen n ys ∙ ap (map place_of) e ∙ map-map place_of (lowerListed i) (listed 22 119 n xs) ∙ sym (places-seen n xs)
+    places-seen n ys ∙ ap (map place_of) e ∙ map-map place_of (lower_listed i) (listed 22 119 n xs) ∙ sym (places-seen n xs)
 
 -- an empty list has length 0
 empty-length : {A B : Type 0} (f : A → B) (xs : List A) → is_empty (map f xs) ≡ eqb (length xs) 0
@@ -181,63 +181,63 @@ empty-length f (x ∷ xs) = sym (ne_eqb (suc (length xs)) 0 (λ e. omega (arith,
 -- without the peer at i
 module _ (i : ℕ) (ps : List ℕ) (up : Ascending ps) (h : i < length ps) where
   abbrev p : ℕ
-  p = peerOf ps i
+  p = peer_of ps i
 
   abbrev rest : List ℕ
-  rest = withoutPeer i ps
+  rest = without_peer i ps
 
-  pub notes-left : (n r : ℕ) (c b d e : List ℕ) → numbered ref 34 r d e ≡ lowerAll i (numbered ref 34 n c b) → Below (length ps) (take n c) → notesIn rest r d e ≡ withoutNotes p (notesIn ps n c b)
-  unfolding notesIn
+  pub notes-left : (n r : ℕ) (c b d e : List ℕ) → numbered ref 34 r d e ≡ lower_all i (numbered ref 34 n c b) → Below (length ps) (take n c) → notes_in rest r d e ≡ without_notes p (notes_in ps n c b)
+  unfolding notes_in
   notes-left n r c b d e l q =
       numbered-read (note_of rest) 34 r d e
       ∙ ap (map (read_by (note_of rest))) l
       ∙ notes-lowered i ps up h (numbered ref 34 n c b) (subst (Below (length ps)) (sym (places-numbered 34 n c b)) q)
-      ∙ ap (withoutNotes p) (sym (numbered-read (note_of ps) 34 n c b))
+      ∙ ap (without_notes p) (sym (numbered-read (note_of ps) 34 n c b))
 
-  missed-step : (r : Listed) (rs : List Listed) (m : Map (List Hop)) (hs : List Hop) (x : Bool) → seenMissed rest (lowerListed i r) ≡ entry (beNat (part 0 32 r.head)) hs → map (seenMissed rest) rs ≡ m
-      → map (seenMissed rest) (if not x then lowerListed i r ∷ rs else rs) ≡ (if x then m else entry (beNat (part 0 32 r.head)) hs ∷ m)
+  missed-step : (r : Listed) (rs : List Listed) (m : Map (List Hop)) (hs : List Hop) (x : Bool) → seen_missed rest (lower_listed i r) ≡ entry (be_nat (part 0 32 r.head)) hs → map (seen_missed rest) rs ≡ m
+      → map (seen_missed rest) (if not x then lower_listed i r ∷ rs else rs) ≡ (if x then m else entry (be_nat (part 0 32 r.head)) hs ∷ m)
   missed-step r rs m hs true e f = f
   missed-step r rs m hs false e f = λ k. e k ∷ f k
 
-  missed-lowered : (rs : List Listed) → Fine (length ps) rs → map (seenMissed rest) (filter announced (map (lowerListed i) rs)) ≡ forgetAnnouncer p (map (seenMissed ps) rs)
-  unfolding forgetAnnouncer filter
+  missed-lowered : (rs : List Listed) → Fine (length ps) rs → map (seen_missed rest) (filter announced (map (lower_listed i) rs)) ≡ forget_announcer p (map (seen_missed ps) rs)
+  unfolding forget_announcer filter
   missed-lowered [] none = refl
   missed-lowered (r ∷ rs) (more _ _ few le b f) =
-      let hs : List Hop = withoutAnnouncer p (map (read_by (hopOf ps)) r.hops) in
-      let left : map (read_by (hopOf rest)) (lowerAll i r.hops) ≡ hs = hops-lowered i ps up h r.hops b in
-      let z : eqb (length (lowerAll i r.hops)) 0 ≡ is_empty hs = sym (empty-length (read_by (hopOf rest)) (lowerAll i r.hops)) ∙ ap is_empty left in
-      missed-step r (filter announced (map (lowerListed i) rs)) (forgetAnnouncer p (map (seenMissed ps) rs)) hs (eqb (length (lowerAll i r.hops)) 0)
-      (ap (entry (beNat (part 0 32 r.head))) left) (missed-lowered rs f)
-      ∙ ap (λ (x : Bool). if x then forgetAnnouncer p (map (seenMissed ps) rs) else entry (beNat (part 0 32 r.head)) hs ∷ forgetAnnouncer p (map (seenMissed ps) rs)) z
+      let hs : List Hop = without_announcer p (map (read_by (hop_of ps)) r.hops) in
+      let left : map (read_by (hop_of rest)) (lower_all i r.hops) ≡ hs = hops-lowered i ps up h r.hops b in
+      let z : eqb (length (lower_all i r.hops)) 0 ≡ is_empty hs = sym (empty-length (read_by (hop_of rest)) (lower_all i r.hops)) ∙ ap is_empty left in
+      missed-step r (filter announced (map (lower_listed i) rs)) (forget_announcer p (map (seen_missed ps) rs)) hs (eqb (length (lower_all i r.hops)) 0)
+      (ap (entry (be_nat (part 0 32 r.head))) left) (missed-lowered rs f)
+      ∙ ap (λ (x : Bool). if x then forget_announcer p (map (seen_missed ps) rs) else entry (be_nat (part 0 32 r.head)) hs ∷ forget_announcer p (map (seen_missed ps) rs)) z
 
-  pub missing-left : (n r : ℕ) (xs ys : List ℕ) → listed 32 129 r ys ≡ filter announced (map (lowerListed i) (listed 32 129 n xs)) → AllNumbered (length ps) 32 129 n xs
-      → missingIn rest r ys ≡ forgetAnnouncer p (missingIn ps n xs)
+  pub missing-left : (n r : ℕ) (xs ys : List ℕ) → listed 32 129 r ys ≡ filter announced (map (lower_listed i) (listed 32 129 n xs)) → AllNumbered (length ps) 32 129 n xs
+      → missing_in rest r ys ≡ forget_announcer p (missing_in ps n xs)
   missing-left n r xs ys e a =
       missing-seen rest r ys
-      ∙ ap (map (seenMissed rest)) e
+      ∙ ap (map (seen_missed rest)) e
       ∙ missed-lowered (listed 32 129 n xs) (fine_of (length ps) 32 129 n xs a)
-      ∙ ap (forgetAnnouncer p) (sym (missing-seen ps n xs))
+      ∙ ap (forget_announcer p) (sym (missing-seen ps n xs))
 
-  grafts-lowered : (es : List ExpiryRow) (rs : List Listed) → Fine (length ps) rs → map (seenGrafted rest es) (map (lowerListed i) rs) ≡ map (withoutGraft p) (map (seenGrafted ps es) rs)
-  unfolding withoutGraft
+  grafts-lowered : (es : List ExpiryRow) (rs : List Listed) → Fine (length ps) rs → map (seen_grafted rest es) (map (lower_listed i) rs) ≡ map (without_graft p) (map (seen_grafted ps es) rs)
+  unfolding without_graft
   grafts-lowered es [] none = refl
-  grafts-lowered es (r ∷ rs) (more _ _ few le b f) = λ k. entry (row_at es (leNat (part 0 2 r.head))).key (record {
-    expires = (row_at es (leNat (part 0 2 r.head))).time;
+  grafts-lowered es (r ∷ rs) (more _ _ few le b f) = λ k. entry (row_at es (le_nat (part 0 2 r.head))).key (record {
+    expires = (row_at es (le_nat (part 0 2 r.head))).time;
     value = record {
-      first = (seenGrafted ps es r).value.value.first;
-      kept = (seenGrafted ps es r).value.value.kept;
+      first = (seen_grafted ps es r).value.value.first;
+      kept = (seen_grafted ps es r).value.value.kept;
       peers = rounds-lowered i ps up h r.hops b k;
     };
   }) ∷ grafts-lowered es rs f k
 
-  pub grafted-left : (n : ℕ) (xs ys : List ℕ) → listed 22 119 n ys ≡ map (lowerListed i) (listed 22 119 n xs) → AllNumbered (length ps) 22 119 n xs
-      → (m : ℕ) (expiry : List ℕ) → graftedIn rest n ys m expiry ≡ forgetGrafted p (graftedIn ps n xs m expiry)
-  unfolding graftedIn cacheOf forgetGrafted
+  pub grafted-left : (n : ℕ) (xs ys : List ℕ) → listed 22 119 n ys ≡ map (lower_listed i) (listed 22 119 n xs) → AllNumbered (length ps) 22 119 n xs
+      → (m : ℕ) (expiry : List ℕ) → grafted_in rest n ys m expiry ≡ forget_grafted p (grafted_in ps n xs m expiry)
+  unfolding grafted_in cache_of forget_grafted
   grafted-left n xs ys e a m expiry =
-      let es : List ExpiryRow = expiryRows 40 m expiry in
-      let w : map (entry_of (graftsOf rest) es) (refs 119 n ys) ≡ map (withoutGraft p) (map (entry_of (graftsOf ps) es) (refs 119 n xs)) =
+      let es : List ExpiryRow = expiry_rows 40 m expiry in
+      let w : map (entry_of (grafts_of rest) es) (refs 119 n ys) ≡ map (without_graft p) (map (entry_of (grafts_of ps) es) (refs 119 n xs)) =
       entries-seen rest es n ys
-      ∙ ap (map (seenGrafted rest es)) e
+      ∙ ap (map (seen_grafted rest es)) e
       ∙ grafts-lowered es (listed 22 119 n xs) (fine_of (length ps) 22 119 n xs a)
-      ∙ ap (map (withoutGraft p)) (sym (entries-seen ps es n xs)) in
-      λ k. record { entries = w k; expiry = map expiryOf es }
+      ∙ ap (map (without_graft p)) (sym (entries-seen ps es n xs)) in
+      λ k. record { entries = w k; expiry = map expiry_of es }

@@ -11,12 +11,12 @@ use Rattle.storage.specs.Rows.Rows.{rows}
 use Rattle.storage.specs.Refs.Refs.{Below}
 use Rattle.protocol.specs.State.{Limits}
 use Rattle.block.specs.Layout.{sizes, place, tables, table}
-use Rattle.block.specs.View.{limitsOf}
+use Rattle.block.specs.View.{limits_of}
 use Rattle.block.specs.Sound.{Sound, AllNumbered}
 use Rattle.block.specs.declared.head.Head.{Head}
 use Rattle.block.proofs.Cut.{cut-part}
 use Rattle.block.proofs.RowLaws.{part_in}
-use Rattle.steps.specs.Neighbours.Raised.{raisedRow, RaisedIn, RaisedLinks}
+use Rattle.steps.specs.Neighbours.Raised.{raised_row, RaisedIn, RaisedLinks}
 use Rattle.storage.specs.Refs.Numbers.{raised}
 use Rattle.steps.proofs.NeighboursLaws.RaisedLaws.{below_more}
 use Rattle.steps.proofs.NeighboursLaws.UpLaws.{column-long, column-frame, table-frame, table-rows, raised-links}
@@ -28,7 +28,7 @@ all_more m k o s n xs h a = record {
 
 module _ (h : Head) (xs : List ℕ) (sound : Sound h xs) (i : ℕ) (hi : i ≤ h.live.links) where
   abbrev l : Limits
-  l = limitsOf h.limits
+  l = limits_of h.limits
 
   abbrev T : ℕ → List ℕ
   T t = table l t xs
@@ -101,10 +101,10 @@ module _ (h : Head) (xs : List ℕ) (sound : Sound h xs) (i : ℕ) (hi : i ≤ h
               table-frame l 7 (lit< tt) y2 (omega (arith, sound.fit.long, long2)) i a7 (a8 - a7) 119 h.live.grafted 22 y3 e7 k7 w3
               ∙ ap (λ (ts : List (List ℕ)). set ts 7 g) f2
 
-          rg : rows 119 h.live.grafted g ≡ map (raisedRow i 22) (rows 119 h.live.grafted (T 7))
+          rg : rows 119 h.live.grafted g ≡ map (raised_row i 22) (rows 119 h.live.grafted (T 7))
           rg =
               table-rows l 7 (lit< tt) y2 (omega (arith, sound.fit.long, long2)) i a7 (a8 - a7) 119 h.live.grafted 22 y3 e7 k7 w3
-              ∙ ap (λ (ts : List (List ℕ)). map (raisedRow i 22) (rows 119 h.live.grafted (get_or ts 7 []))) f2
+              ∙ ap (λ (ts : List (List ℕ)). map (raised_row i 22) (rows 119 h.live.grafted (get_or ts 7 []))) f2
 
           pub long3 : length y3 ≡ length xs
           long3 = w3.long ∙ long2
@@ -126,4 +126,4 @@ module _ (h : Head) (xs : List ℕ) (sound : Sound h xs) (i : ℕ) (hi : i ≤ h
                 ∙ ap (λ (ts : List (List ℕ)). set ts 9 v) f3)
                 rg
                 (table-rows l 9 (lit< tt) y3 (omega (arith, sound.fit.long, long3)) i a9 (a10 - a9) 129 h.live.missing 32 y4 e9 k9 w4
-                ∙ ap (λ (ts : List (List ℕ)). map (raisedRow i 32) (rows 129 h.live.missing (get_or ts 9 []))) f3)
+                ∙ ap (λ (ts : List (List ℕ)). map (raised_row i 32) (rows 129 h.live.missing (get_or ts 9 []))) f3)

@@ -14,7 +14,7 @@ use Rattle.storage.specs.Refs.Refs.{shifted, Below}
 use Rattle.storage.proofs.RefsLaws.Shifts.{done, done-read, done_more}
 use Rattle.block.specs.View.{byte_at}
 use Rattle.block.specs.Sound.{Numbered}
-use Rattle.steps.specs.Neighbours.Raised.{raisedRow}
+use Rattle.steps.specs.Neighbours.Raised.{raised_row}
 use Rattle.storage.specs.Refs.Numbers.{raised}
 
 -- the list at o of a row, in the row's own bytes
@@ -36,7 +36,7 @@ below_in m o row n = subst (Below m) (numbers-in o row) n.below
 
 -- one row after the other
 module _ (i o s n : ℕ) (xs ys : List ℕ) (k : ℕ) (wide : o + 97 ≤ s) (h : k < n) (room : n * s ≤ length xs) (long : length ys ≡ length xs)
-    (inv : rows s n ys ≡ done (raisedRow i o) [] (rows s n xs) k) where
+    (inv : rows s n ys ≡ done (raised_row i o) [] (rows s n xs) k) where
   abbrev row : List ℕ
   row = part (k * s) s xs
 
@@ -44,7 +44,7 @@ module _ (i o s n : ℕ) (xs ys : List ℕ) (k : ℕ) (wide : o + 97 ≤ s) (h :
   row-was =
       sym (get_d_rows s n k [] ys h)
       ∙ ap (λ (rs : List (List ℕ)). get_or rs k []) inv
-      ∙ done-read (raisedRow i o) [] (rows s n xs) k (omega (arith, length-rows s n xs))
+      ∙ done-read (raised_row i o) [] (rows s n xs) k (omega (arith, length-rows s n xs))
       ∙ get_d_rows s n k [] xs h
 
   pub count-was : get_or ys (k * s + o) 0 ≡ byte_at o row
@@ -57,8 +57,8 @@ module _ (i o s n : ℕ) (xs ys : List ℕ) (k : ℕ) (wide : o + 97 ≤ s) (h :
         let q : c ≡ byte_at o row = e ∙ count-was in
         ap (λ (b : ℕ). part b c ys) a ∙ sym (part-part (o + 1) c (k * s) s ys (omega arith)) ∙ (λ z. part (o + 1) (q z) (row-was z))
 
-    pub rows_more : rows s n (raised i (k * s + o + 1) c ys) ≡ done (raisedRow i o) [] (rows s n xs) (k + 1)
-    unfolding raised raisedRow
+    pub rows_more : rows s n (raised i (k * s + o + 1) c ys) ≡ done (raised_row i o) [] (rows s n xs) (k + 1)
+    unfolding raised raised_row
     rows_more =
         let a : k * s + o + 1 ≡ k * s + (o + 1) = omega arith in
         let zs : List ℕ = map (shifted i) (part (o + 1) (byte_at o row) row) in
@@ -67,5 +67,5 @@ module _ (i o s n : ℕ) (xs ys : List ℕ) (k : ℕ) (wide : o + 97 ≤ s) (h :
         (λ z. rows s n (put (a z) (map (shifted i) (numbers-were z)) ys))
         ∙ rows-field s k n (o + 1) zs ys (omega arith) h (omega arith)
         ∙ (λ z. put k (put (o + 1) zs (row-was z) ∷ []) (inv z))
-        ∙ ap (λ (r : List ℕ). put k (raisedRow i o r ∷ []) (done (raisedRow i o) [] (rows s n xs) k)) (sym (get_d_rows s n k [] xs h))
-        ∙ done_more (raisedRow i o) [] (rows s n xs) k (omega (arith, length-rows s n xs))
+        ∙ ap (λ (r : List ℕ). put k (raised_row i o r ∷ []) (done (raised_row i o) [] (rows s n xs) k)) (sym (get_d_rows s n k [] xs h))
+        ∙ done_more (raised_row i o) [] (rows s n xs) k (omega (arith, length-rows s n xs))

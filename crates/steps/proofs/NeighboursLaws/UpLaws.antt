@@ -13,16 +13,16 @@ use Rattle.storage.proofs.RowsLaws.Parts.{length_part, length-put}
 use Rattle.storage.specs.Refs.Refs.{shifted, Below}
 use Rattle.protocol.specs.State.{Limits}
 use Rattle.block.specs.Layout.{sizes, place, tables, table, end}
-use Rattle.block.specs.View.{limitsOf, viewWith, state_of}
+use Rattle.block.specs.View.{limits_of, view_with, state_of}
 use Rattle.block.specs.Fit.{Fit}
 use Rattle.block.specs.Sound.{Laid, Sound, AllNumbered}
-use Rattle.block.specs.Heads.{withLinkCount}
+use Rattle.block.specs.Heads.{with_link_count}
 use Rattle.block.specs.declared.head.Head.{Head}
 use Rattle.block.proofs.Cut.{cut-part, within}
 use Rattle.block.proofs.Tables.{frame, frame-whole, length-table}
 use Rattle.block.proofs.RowLaws.{part_in}
 use Rattle.block.proofs.LinkLaws.{count-peers}
-use Rattle.steps.specs.Neighbours.Raised.{raisedRow, RaisedIn, RaisedLinks, withPeer}
+use Rattle.steps.specs.Neighbours.Raised.{raised_row, RaisedIn, RaisedLinks, with_peer}
 use Rattle.storage.specs.Refs.Numbers.{raised}
 use Rattle.steps.proofs.NeighboursLaws.RaisedLaws.{below_raised, take-raised, notes-raised, missing-raised, grafted-raised, places-raised, all-raised}
 
@@ -56,13 +56,13 @@ module _ (l : Limits) (t : ℕ) (ht : t < 15) (ys : List ℕ) (long : end l ≤ 
     pub table-frame : tables l zs ≡ set (tables l ys) t (table l t zs)
     table-frame = frame-whole l t ys zs ht long r.long at_table.only ∙ ap (set (tables l ys) t) (sym (cut-part (sizes l) t zs ht))
 
-    pub table-rows : rows s n (table l t zs) ≡ map (raisedRow i o) (rows s n (table l t ys))
+    pub table-rows : rows s n (table l t zs) ≡ map (raised_row i o) (rows s n (table l t ys))
     table-rows =
-        ap (rows s n) (cut-part (sizes l) t zs ht) ∙ at_table.rows ∙ ap (λ (b : List ℕ). map (raisedRow i o) (rows s n b)) (sym (cut-part (sizes l) t ys ht))
+        ap (rows s n) (cut-part (sizes l) t zs ht) ∙ at_table.rows ∙ ap (λ (b : List ℕ). map (raised_row i o) (rows s n b)) (sym (cut-part (sizes l) t ys ht))
 
 module _ (h : Head) (xs : List ℕ) (sound : Sound h xs) (i : ℕ) (hi : i ≤ h.live.links) where
   abbrev l1 : Limits
-  l1 = limitsOf h.limits
+  l1 = limits_of h.limits
 
   abbrev ps : List ℕ
   ps = keys (state_of h xs).links
@@ -100,8 +100,8 @@ module _ (h : Head) (xs : List ℕ) (sound : Sound h xs) (i : ℕ) (hi : i ≤ h
   -- the tables with all numbers raised
   module _ (g v ys : List ℕ) (long : length ys ≡ length xs)
       (framed : tables l1 ys ≡ set (set (set (set (tables l1 xs) 11 (raised i 0 h.live.queued (T 11))) 13 (raised i 0 h.live.dropped (T 13))) 7 g) 9 v)
-      (rg : rows 119 h.live.grafted g ≡ map (raisedRow i 22) (rows 119 h.live.grafted (T 7)))
-      (rv : rows 129 h.live.missing v ≡ map (raisedRow i 32) (rows 129 h.live.missing (T 9))) where
+      (rg : rows 119 h.live.grafted g ≡ map (raised_row i 22) (rows 119 h.live.grafted (T 7)))
+      (rv : rows 129 h.live.missing v ≡ map (raised_row i 32) (rows 129 h.live.missing (T 9))) where
     room11 : h.live.queued ≤ length (T 11)
     room11 = omega (arith, long-at 11 (lit< tt))
 
@@ -119,7 +119,7 @@ module _ (h : Head) (xs : List ℕ) (sound : Sound h xs) (i : ℕ) (hi : i ≤ h
     raised-links = record {
       same = λ p.
           let s = state_of h xs in
-          ap (viewWith (withPeer i p ps) h) framed
+          ap (view_with (with_peer i p ps) h) framed
           ∙ (λ k. record {
             settings = s.settings;
             limits = s.limits;
@@ -134,7 +134,7 @@ module _ (h : Head) (xs : List ℕ) (sound : Sound h xs) (i : ℕ) (hi : i ≤ h
             init = s.init;
           });
       fit = record { ceilings = fit.ceilings; within = fit.within; long = omega (arith, fit.long) };
-      laid = subst (Laid (withLinkCount (h.live.links + 1) h)) (sym framed) (record {
+      laid = subst (Laid (with_link_count (h.live.links + 1) h)) (sym framed) (record {
         received = old.received;
         cached = old.cached;
         grafted = subst (Below h.live.grafted_rows) (sym (places-raised i 0 ps here h.live.grafted (T 7) g room7 grafts-below rg)) old.grafted;

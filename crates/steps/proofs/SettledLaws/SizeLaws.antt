@@ -13,11 +13,11 @@ use Rattle.std.specs.Prelude.{if◌then◌else◌}
 use Rattle.storage.specs.Lists.Base.{sum}
 use Rattle.storage.specs.Lists.Map.{Map}
 use Rattle.storage.proofs.RowsLaws.Parts.{length_part}
-use Rattle.time_cache.specs.TimeCache.{Timed, laterCache}
+use Rattle.time_cache.specs.TimeCache.{Timed, later_cache}
 use Rattle.protocol.specs.State.{State, Cached}
-use Rattle.protocol.specs.Whole.{contentHeld}
+use Rattle.protocol.specs.Whole.{content_held}
 use Rattle.block.specs.Layout.{place}
-use Rattle.block.specs.View.{state_of, limitsOf}
+use Rattle.block.specs.View.{state_of, limits_of}
 use Rattle.block.specs.Sound.{Sound}
 use Rattle.block.specs.declared.head.Head.{Head}
 use Rattle.block.specs.declared.head.Limits.{Limits}
@@ -25,17 +25,17 @@ use Rattle.block.proofs.LinkLaws.{count-links}
 use Rattle.block.proofs.MissingLaws.{count-missing}
 use Rattle.block.proofs.TimerLaws.{count-timers}
 use Rattle.block.proofs.NoteLaws.{count-queue, count-dropped}
-use Rattle.block.specs.Caches.CachedReads.{cachedAt, ContentIs}
+use Rattle.block.specs.Caches.CachedReads.{cached_at, ContentIs}
 use Rattle.block.specs.declared.caches.cached.Content.{Content}
 use Rattle.block.proofs.CachesLaws.ReceivedLaws.{count-received, count-received-rows}
 use Rattle.block.proofs.CachesLaws.CachedLaws.{count-cached, count-cached-rows}
 use Rattle.block.proofs.CachesLaws.GraftedLaws.{count-grafted, count-grafted-rows}
-use Rattle.decide.specs.Sizes.{Sizes, sizesOf}
-use Rattle.decide.specs.SizesAfter.{evictSizes, settledSizes}
+use Rattle.decide.specs.Sizes.{Sizes, sizes_of}
+use Rattle.decide.specs.SizesAfter.{evict_sizes, settled_sizes}
 use Rattle.decide.specs.Settled.{settled}
 use Rattle.decide.proofs.SettledLaws.{length-later, expiry-later, settled-sizes}
 use Rattle.steps.specs.declared.Sizes.{Sizes as CodeSizes}
-use Rattle.steps.specs.Settled.Then.{noCached, laterBytes}
+use Rattle.steps.specs.Settled.Then.{no_cached, later_bytes}
 
 -- a sum over the first entries, one more
 pub sum-next : {A : Type 0} (f : A → ℕ) (d : A) (i : ℕ) (m : List A) → i < length m → sum f (take (suc i) m) ≡ sum f (take i m) + f (get_or m i d)
@@ -53,23 +53,23 @@ sum-all f (suc i) (x ∷ m) h = ap (λ (n : ℕ). f x + n) (sum-all f i m (omega
 
 module _ (h : Head) (xs : List ℕ) (sound : Sound h xs) where
   -- the header's numbers are those of the state
-  contents-held : h.live.contents ≡ contentHeld (state_of h xs)
-  unfolding state_of contentHeld
+  contents-held : h.live.contents ≡ content_held (state_of h xs)
+  unfolding state_of content_held
   contents-held = sym sound.laid.used
 
-  pub sizes-live : (z : Sizes) → z.links ≡ h.live.links → z.received ≡ h.live.received → z.receivedExpiry ≡ h.live.received_rows → z.cached ≡ h.live.cached → z.cachedExpiry ≡ h.live.cached_rows
-      → z.content ≡ h.live.contents → z.grafted ≡ h.live.grafted → z.graftedExpiry ≡ h.live.grafted_rows → z.missing ≡ h.live.missing → z.timers ≡ h.live.timers → z.queued ≡ h.live.queued → z.recorded ≡ h.live.dropped
-      → z ≡ sizesOf (state_of h xs)
-  unfolding sizesOf
+  pub sizes-live : (z : Sizes) → z.links ≡ h.live.links → z.received ≡ h.live.received → z.received_expiry ≡ h.live.received_rows → z.cached ≡ h.live.cached → z.cached_expiry ≡ h.live.cached_rows
+      → z.content ≡ h.live.contents → z.grafted ≡ h.live.grafted → z.grafted_expiry ≡ h.live.grafted_rows → z.missing ≡ h.live.missing → z.timers ≡ h.live.timers → z.queued ≡ h.live.queued → z.recorded ≡ h.live.dropped
+      → z ≡ sizes_of (state_of h xs)
+  unfolding sizes_of
   sizes-live z a b c d e f g i j k l m = λ p. record {
     links = (a ∙ sym (count-links h xs)) p;
     received = (b ∙ sym (count-received h xs sound.fit)) p;
-    receivedExpiry = (c ∙ sym (count-received-rows h xs sound.fit)) p;
+    received_expiry = (c ∙ sym (count-received-rows h xs sound.fit)) p;
     cached = (d ∙ sym (count-cached h xs sound.fit)) p;
-    cachedExpiry = (e ∙ sym (count-cached-rows h xs sound.fit)) p;
+    cached_expiry = (e ∙ sym (count-cached-rows h xs sound.fit)) p;
     content = (f ∙ contents-held) p;
     grafted = (g ∙ sym (count-grafted h xs sound.fit)) p;
-    graftedExpiry = (i ∙ sym (count-grafted-rows h xs sound.fit)) p;
+    grafted_expiry = (i ∙ sym (count-grafted-rows h xs sound.fit)) p;
     missing = (j ∙ sym (count-missing h xs)) p;
     timers = (k ∙ sym (count-timers h xs)) p;
     queued = (l ∙ sym (count-queue h xs sound)) p;
@@ -78,7 +78,7 @@ module _ (h : Head) (xs : List ℕ) (sound : Sound h xs) where
 
 -- the bytes of the first i contents that expire later
 abbrev pub Bytes : ℕ → Head → List ℕ → ℕ → ℕ → Type 0
-Bytes now h xs i total = total ≡ sum (laterBytes now) (take i (state_of h xs).cache.entries)
+Bytes now h xs i total = total ≡ sum (later_bytes now) (take i (state_of h xs).cache.entries)
 
 module _ (now : ℕ) (h : Head) (xs : List ℕ) (sound : Sound h xs) where
   abbrev es : Map (Timed Cached)
@@ -88,49 +88,49 @@ module _ (now : ℕ) (h : Head) (xs : List ℕ) (sound : Sound h xs) where
   unfolding sum
   bytes-start = start es
     where
-      start : (m : Map (Timed Cached)) → 0 ≡ sum (laterBytes now) (take 0 m)
+      start : (m : Map (Timed Cached)) → 0 ≡ sum (later_bytes now) (take 0 m)
       start [] = refl
       start (x ∷ m) = refl
 
   -- the length of a content
-  pub length-content : (i : ℕ) (r : Content) → ContentIs h xs i r → length (cachedAt (state_of h xs) i).content ≡ r.len
+  pub length-content : (i : ℕ) (r : Content) → ContentIs h xs i r → length (cached_at (state_of h xs) i).content ≡ r.len
   length-content i r c =
-      ap length c.same ∙ length_part (place (limitsOf h.limits) 6 + r.start) r.len xs (omega (arith, c.within, sound.fit.within, sound.fit.long))
+      ap length c.same ∙ length_part (place (limits_of h.limits) 6 + r.start) r.len xs (omega (arith, c.within, sound.fit.within, sound.fit.long))
 
-  module _ (i total : ℕ) (q : i < h.live.cached) (b : Bytes now h xs i total) (t : ℕ) (e : t ≡ (get_or es i noCached).value.expires) where
-    next : Bytes now h xs (i + 1) (total + laterBytes now (get_or es i noCached))
+  module _ (i total : ℕ) (q : i < h.live.cached) (b : Bytes now h xs i total) (t : ℕ) (e : t ≡ (get_or es i no_cached).value.expires) where
+    next : Bytes now h xs (i + 1) (total + later_bytes now (get_or es i no_cached))
     next =
-        rw (add-one i) (ap (λ (n : ℕ). n + laterBytes now (get_or es i noCached)) b ∙ sym (sum-next (laterBytes now) noCached i es (omega (arith, count-cached h xs sound.fit))))
+        rw (add-one i) (ap (λ (n : ℕ). n + later_bytes now (get_or es i no_cached)) b ∙ sym (sum-next (later_bytes now) no_cached i es (omega (arith, count-cached h xs sound.fit))))
 
     pub bytes-later : (r : Content) → ContentIs h xs i r → ltb now t ≡ true → Bytes now h xs (i + 1) (total + r.len)
     bytes-later r c k =
-        let f : laterBytes now (get_or es i noCached) ≡ r.len = ap (λ (a : Bool). if a then length (cachedAt (state_of h xs) i).content else 0) (sym (ap (ltb now) e) ∙ k) ∙ length-content i r c in
+        let f : later_bytes now (get_or es i no_cached) ≡ r.len = ap (λ (a : Bool). if a then length (cached_at (state_of h xs) i).content else 0) (sym (ap (ltb now) e) ∙ k) ∙ length-content i r c in
         ap (λ (n : ℕ). total + n) (sym f) ∙ next
 
     pub bytes-gone : ltb now t ≡ false → Bytes now h xs (i + 1) total
     bytes-gone k =
-        let f : laterBytes now (get_or es i noCached) ≡ 0 = ap (λ (a : Bool). if a then length (cachedAt (state_of h xs) i).content else 0) (sym (ap (ltb now) e) ∙ k) in
-        let z : total ≡ total + laterBytes now (get_or es i noCached) = omega (arith, f) in
+        let f : later_bytes now (get_or es i no_cached) ≡ 0 = ap (λ (a : Bool). if a then length (cached_at (state_of h xs) i).content else 0) (sym (ap (ltb now) e) ∙ k) in
+        let z : total ≡ total + later_bytes now (get_or es i no_cached) = omega (arith, f) in
         z ∙ next
 
-  pub bytes-end : (i total : ℕ) → h.live.cached ≤ i → Bytes now h xs i total → total ≡ sum (laterBytes now) es
-  bytes-end i total q b = b ∙ sum-all (laterBytes now) i es (omega (arith, count-cached h xs sound.fit))
+  pub bytes-end : (i total : ℕ) → h.live.cached ≤ i → Bytes now h xs i total → total ≡ sum (later_bytes now) es
+  bytes-end i total q b = b ∙ sum-all (later_bytes now) i es (omega (arith, count-cached h xs sound.fit))
 
-  pub sizes-later : (z : Sizes) → z.links ≡ h.live.links → z.received ≡ length (laterCache now (state_of h xs).received).entries → z.receivedExpiry ≡ length (laterCache now (state_of h xs).received).expiry
-      → z.cached ≡ length (laterCache now (state_of h xs).cache).entries → z.cachedExpiry ≡ length (laterCache now (state_of h xs).cache).expiry → z.content ≡ sum (laterBytes now) es
-      → z.grafted ≡ length (laterCache now (state_of h xs).grafted).entries → z.graftedExpiry ≡ length (laterCache now (state_of h xs).grafted).expiry
+  pub sizes-later : (z : Sizes) → z.links ≡ h.live.links → z.received ≡ length (later_cache now (state_of h xs).received).entries → z.received_expiry ≡ length (later_cache now (state_of h xs).received).expiry
+      → z.cached ≡ length (later_cache now (state_of h xs).cache).entries → z.cached_expiry ≡ length (later_cache now (state_of h xs).cache).expiry → z.content ≡ sum (later_bytes now) es
+      → z.grafted ≡ length (later_cache now (state_of h xs).grafted).entries → z.grafted_expiry ≡ length (later_cache now (state_of h xs).grafted).expiry
       → z.missing ≡ h.live.missing → z.timers ≡ h.live.timers → z.queued ≡ h.live.queued → z.recorded ≡ h.live.dropped
-      → z ≡ evictSizes now (state_of h xs)
-  unfolding evictSizes sizesOf
+      → z ≡ evict_sizes now (state_of h xs)
+  unfolding evict_sizes sizes_of
   sizes-later z a b c d e f g i j k l m = λ p. record {
     links = (a ∙ sym (count-links h xs)) p;
     received = (b ∙ length-later now (state_of h xs).received) p;
-    receivedExpiry = (c ∙ expiry-later now (state_of h xs).received) p;
+    received_expiry = (c ∙ expiry-later now (state_of h xs).received) p;
     cached = (d ∙ length-later now (state_of h xs).cache) p;
-    cachedExpiry = (e ∙ expiry-later now (state_of h xs).cache) p;
+    cached_expiry = (e ∙ expiry-later now (state_of h xs).cache) p;
     content = f p;
     grafted = (g ∙ length-later now (state_of h xs).grafted) p;
-    graftedExpiry = (i ∙ expiry-later now (state_of h xs).grafted) p;
+    grafted_expiry = (i ∙ expiry-later now (state_of h xs).grafted) p;
     missing = (j ∙ sym (count-missing h xs)) p;
     timers = (k ∙ sym (count-timers h xs)) p;
     queued = (l ∙ sym (count-queue h xs sound)) p;
@@ -139,12 +139,12 @@ module _ (now : ℕ) (h : Head) (xs : List ℕ) (sound : Sound h xs) where
 
 -- the sizes of the settled state, where `init` is set and where it is not
 module _ (now : ℕ) (s : State) where
-  pub sizes-still : s.init ≡ true → sizesOf (settled now s) ≡ sizesOf s
-  unfolding settledSizes
+  pub sizes-still : s.init ≡ true → sizes_of (settled now s) ≡ sizes_of s
+  unfolding settled_sizes
   sizes-still e = settled-sizes now s ∙ rw e refl
 
-  pub sizes-evicted : s.init ≡ false → sizesOf (settled now s) ≡ evictSizes now s
-  unfolding settledSizes
+  pub sizes-evicted : s.init ≡ false → sizes_of (settled now s) ≡ evict_sizes now s
+  unfolding settled_sizes
   sizes-evicted e = settled-sizes now s ∙ rw e refl
 
 -- the tests of question 13, in order

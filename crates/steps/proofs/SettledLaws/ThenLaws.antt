@@ -13,28 +13,28 @@ use Rattle.storage.specs.Lists.Map.{Map, Entry, entry, lookup}
 use Rattle.storage.proofs.ListsLaws.MapLaws.{cases}
 use Rattle.storage.proofs.ListsLaws.Branches.{if-on, if-both}
 use Rattle.storage.specs.Refs.Refs.{Ref, ref, refs, places}
-use Rattle.storage.proofs.RefsLaws.Places.{getD-map-in, length-refs}
-use Rattle.time_cache.specs.TimeCache.{Timed, Cache, value_of, get, laterCache}
-use Rattle.time_cache.specs.Tables.{expiryRows, row_at, Held, held, entry_of, cacheOf, cacheIn, refsAt, rows_at, cacheAt, readAs, valuesAs, Sound}
+use Rattle.storage.proofs.RefsLaws.Places.{get_or-map-in, length-refs}
+use Rattle.time_cache.specs.TimeCache.{Timed, Cache, value_of, get, later_cache}
+use Rattle.time_cache.specs.Tables.{expiry_rows, row_at, Held, held, entry_of, cache_of, cache_in, refs_at, rows_at, cache_at, read_as, values_as, Sound}
 use Rattle.time_cache.specs.Steps.{ref_at, held_at, GotAt}
 use Rattle.time_cache.specs.declared.cache.TimeBoundCache.{TimeBoundCache}
 use Rattle.time_cache.proofs.ReadLaws.{length-es}
-use Rattle.time_cache.proofs.ValueLaws.{optionAs, get-as, later-as}
+use Rattle.time_cache.proofs.ValueLaws.{option_as, get-as, later-as}
 use Rattle.protocol.specs.State.{State, Limits, Cached, Grafts}
 use Rattle.block.specs.Layout.{sizes, table}
-use Rattle.block.specs.View.{state_of, limitsOf, cachedOf, cachedIn, graftsOf}
+use Rattle.block.specs.View.{state_of, limits_of, cached_of, cached_in, grafts_of}
 use Rattle.block.specs.Fit.{Fit}
 use Rattle.block.specs.declared.head.Head.{Head}
-use Rattle.block.specs.TimeCaches.{cacheFrom, cachedCache, graftedCache}
-use Rattle.block.proofs.CachesLaws.CacheLaws.{asValue, refs-in, rows_in}
+use Rattle.block.specs.TimeCaches.{cache_from, cached_cache, grafted_cache}
+use Rattle.block.proofs.CachesLaws.CacheLaws.{as_value, refs-in, rows_in}
 use Rattle.block.proofs.CachesLaws.CachedLaws.{cached-as}
-use Rattle.block.proofs.CachesLaws.GraftedLaws.{peersOf, grafted-as}
-use Rattle.decide.specs.Settled.{aliveValue, settled}
+use Rattle.block.proofs.CachesLaws.GraftedLaws.{peers_of, grafted-as}
+use Rattle.decide.specs.Settled.{alive_value, settled}
 use Rattle.decide.proofs.SettledLaws.{get-later}
 use Rattle.steps.specs.Shared.{HeldAt, HeldIs}
 use Rattle.steps.specs.declared.Held.{Held as HeldThen}
 use Rattle.steps.specs.declared.Held.TheVariants.{At, Nothing}
-use Rattle.steps.specs.Settled.Then.{no_held, noCached, noGrafts, leftThen}
+use Rattle.steps.specs.Settled.Then.{no_held, no_cached, no_grafts, left_then}
 
 -- the settled state, where `init` is set and where it is not
 module _ (now : ℕ) (s : State) where
@@ -42,19 +42,19 @@ module _ (now : ℕ) (s : State) where
   unfolding settled
   settled-still e = rw e refl
 
-  pub settled-received-later : s.init ≡ false → (settled now s).received ≡ laterCache now s.received
+  pub settled-received-later : s.init ≡ false → (settled now s).received ≡ later_cache now s.received
   unfolding settled
   settled-received-later e = rw e refl
 
-  pub settled-cache-later : s.init ≡ false → (settled now s).cache ≡ laterCache now s.cache
+  pub settled-cache-later : s.init ≡ false → (settled now s).cache ≡ later_cache now s.cache
   unfolding settled
   settled-cache-later e = rw e refl
 
-  pub settled-cache : (settled now s).cache ≡ (if s.init then s.cache else laterCache now s.cache)
+  pub settled-cache : (settled now s).cache ≡ (if s.init then s.cache else later_cache now s.cache)
   unfolding settled
   settled-cache = if-on (λ (x : State). x.cache) s.init _ _
 
-  pub settled-grafted : (settled now s).grafted ≡ (if s.init then s.grafted else laterCache now s.grafted)
+  pub settled-grafted : (settled now s).grafted ≡ (if s.init then s.grafted else later_cache now s.grafted)
   unfolding settled
   settled-grafted = if-on (λ (x : State). x.grafted) s.init _ _
 
@@ -66,98 +66,98 @@ init-of h xs = refl
 -- what is found of a key among the entries of a block
 module _ (c : TimeBoundCache) (xs : List ℕ) (sound : Sound c xs) (init : Bool) (now id : ℕ) where
   abbrev all : Cache Held
-  all = cacheAt c xs
+  all = cache_at c xs
 
-  found : get id (leftThen init now all) ≡ (if init then value_of (lookup id all.entries) else aliveValue now (lookup id all.entries))
+  found : get id (left_then init now all) ≡ (if init then value_of (lookup id all.entries) else alive_value now (lookup id all.entries))
   unfolding get
-  found = if-on (get id) init all (laterCache now all) ∙ if-both init refl (get-later now id all sound.up)
+  found = if-on (get id) init all (later_cache now all) ∙ if-both init refl (get-later now id all sound.up)
 
   module _ (i p : ℕ) (g : GotAt c xs id i p) where
     entry-is : get_or all.entries i no_held ≡ entry id (record { expires = (row_at (rows_at c xs) p).time; value = held_at c i p xs })
-    unfolding cacheOf
+    unfolding cache_of
     entry-is =
-        getD-map-in (entry_of held (rows_at c xs)) (refsAt c xs) i no_held (ref 0 []) (omega (arith, g.entry, length-es c xs))
+        get_or-map-in (entry_of held (rows_at c xs)) (refs_at c xs) i no_held (ref 0 []) (omega (arith, g.entry, length-es c xs))
         ∙ ap (λ (q : ℕ). entry (row_at (rows_at c xs) q).key (record { expires = (row_at (rows_at c xs) q).time; value = held_at c i q xs })) g.names
         ∙ ap (λ (k : ℕ). entry k (record { expires = (row_at (rows_at c xs) p).time; value = held_at c i p xs })) g.key
 
-    held-at : get id (leftThen init now all) ≡ some (held_at c i p xs) → HeldAt no_held all.entries id (get id (leftThen init now all)) i
-    unfolding cacheOf
+    held-at : get id (left_then init now all) ≡ some (held_at c i p xs) → HeldAt no_held all.entries id (get id (left_then init now all)) i
+    unfolding cache_of
     held-at e = record {
-      below = omega (arith, g.entry, length-es c xs, length-map (refsAt c xs) (entry_of held (rows_at c xs)));
+      below = omega (arith, g.entry, length-es c xs, length-map (refs_at c xs) (entry_of held (rows_at c xs)));
       key = ap (λ (x : Entry (Timed Held)). x.key) entry-is;
       value = e ∙ sym (ap (λ (x : Entry (Timed Held)). some x.value.value) entry-is);
     }
 
-    pub there-still : init ≡ true → HeldAt no_held all.entries id (get id (leftThen init now all)) i
+    pub there-still : init ≡ true → HeldAt no_held all.entries id (get id (left_then init now all)) i
     unfolding value_of
     there-still e = held-at (found ∙ rw e (ap value_of g.value))
 
-    pub there-later : init ≡ false → ltb now (row_at (rows_at c xs) p).time ≡ true → HeldAt no_held all.entries id (get id (leftThen init now all)) i
-    unfolding aliveValue
-    there-later e l = held-at (found ∙ rw e (ap (aliveValue now) g.value ∙ rw l refl))
+    pub there-later : init ≡ false → ltb now (row_at (rows_at c xs) p).time ≡ true → HeldAt no_held all.entries id (get id (left_then init now all)) i
+    unfolding alive_value
+    there-later e l = held-at (found ∙ rw e (ap (alive_value now) g.value ∙ rw l refl))
 
-    pub there-gone : init ≡ false → ltb now (row_at (rows_at c xs) p).time ≡ false → get id (leftThen init now all) ≡ none
-    unfolding aliveValue
-    there-gone e l = found ∙ rw e (ap (aliveValue now) g.value ∙ rw l refl)
+    pub there-gone : init ≡ false → ltb now (row_at (rows_at c xs) p).time ≡ false → get id (left_then init now all) ≡ none
+    unfolding alive_value
+    there-gone e l = found ∙ rw e (ap (alive_value now) g.value ∙ rw l refl)
 
-  pub nowhere : lookup id all.entries ≡ none → get id (leftThen init now all) ≡ none
-  unfolding value_of aliveValue
-  nowhere e = found ∙ cases init (λ q. rw q (ap value_of e)) (λ q. rw q (ap (aliveValue now) e))
+  pub nowhere : lookup id all.entries ≡ none → get id (left_then init now all) ≡ none
+  unfolding value_of alive_value
+  nowhere e = found ∙ cases init (λ q. rw q (ap value_of e)) (λ q. rw q (ap (alive_value now) e))
 
 -- the same of the values that are read from the bytes
-module _ {A B : Type 0} (f : A → B) (c : Cache A) (d : Cache B) (same : valuesAs f c ≡ d) (init : Bool) (now id : ℕ) (a : Entry (Timed A)) (b : Entry (Timed B)) where
-  get-then : get id (leftThen init now d) ≡ optionAs f (get id (leftThen init now c))
+module _ {A B : Type 0} (f : A → B) (c : Cache A) (d : Cache B) (same : values_as f c ≡ d) (init : Bool) (now id : ℕ) (a : Entry (Timed A)) (b : Entry (Timed B)) where
+  get-then : get id (left_then init now d) ≡ option_as f (get id (left_then init now c))
   get-then =
-      ap (get id) (cases init (λ p. rw p (sym same)) (λ p. rw p (sym (later-as f now c ∙ ap (laterCache now) same))))
-      ∙ get-as f id (leftThen init now c)
+      ap (get id) (cases init (λ p. rw p (sym same)) (λ p. rw p (sym (later-as f now c ∙ ap (later_cache now) same))))
+      ∙ get-as f id (left_then init now c)
 
-  entries-then : d.entries ≡ map (readAs f) c.entries
-  unfolding valuesAs
+  entries-then : d.entries ≡ map (read_as f) c.entries
+  unfolding values_as
   entries-then = sym (ap (λ (x : Cache B). x.entries) same)
 
-  pub held-as : (r : HeldThen) → HeldIs a c.entries id (get id (leftThen init now c)) r → HeldIs b d.entries id (get id (leftThen init now d)) r
-  unfolding optionAs
+  pub held-as : (r : HeldThen) → HeldIs a c.entries id (get id (left_then init now c)) r → HeldIs b d.entries id (get id (left_then init now d)) r
+  unfolding option_as
   held-as (At i) h =
-      let e : get_or d.entries i b ≡ readAs f (get_or c.entries i a) = ap (λ (m : Map (Timed B)). get_or m i b) entries-then ∙ getD-map-in (readAs f) c.entries i b a h.below in
+      let e : get_or d.entries i b ≡ read_as f (get_or c.entries i a) = ap (λ (m : Map (Timed B)). get_or m i b) entries-then ∙ get_or-map-in (read_as f) c.entries i b a h.below in
       record {
-        below = omega (arith, h.below, ap length entries-then, length-map c.entries (readAs f));
+        below = omega (arith, h.below, ap length entries-then, length-map c.entries (read_as f));
         key = ap (λ (x : Entry (Timed B)). x.key) e ∙ h.key;
-        value = get-then ∙ ap (optionAs f) h.value ∙ sym (ap (λ (x : Entry (Timed B)). some x.value.value) e);
+        value = get-then ∙ ap (option_as f) h.value ∙ sym (ap (λ (x : Entry (Timed B)). some x.value.value) e);
       }
-  held-as Nothing h = get-then ∙ ap (optionAs f) h
+  held-as Nothing h = get-then ∙ ap (option_as f) h
 
 -- the place that entry i names is that of a row
-pub place-below : (c : TimeBoundCache) (xs : List ℕ) → Sound c xs → (i : ℕ) → i < c.entries.len → (ref_at (refsAt c xs) i).place < c.expiry.len
+pub place-below : (c : TimeBoundCache) (xs : List ℕ) → Sound c xs → (i : ℕ) → i < c.entries.len → (ref_at (refs_at c xs) i).place < c.expiry.len
 place-below c xs s i h =
-    let es : List Ref = refsAt c xs in
+    let es : List Ref = refs_at c xs in
     let n : length es ≡ c.entries.len = length-refs c.entries.stride c.entries.len _ in
     let b : get_or (places es) i 0 < c.expiry.len = s.below.below i (omega (arith, n, length-map es (λ (r : Ref). r.place))) in
-    omega (arith, b, getD-map-in (λ (r : Ref). r.place) es i 0 (ref 0 []) (omega (arith, n)))
+    omega (arith, b, get_or-map-in (λ (r : Ref). r.place) es i 0 (ref 0 []) (omega (arith, n)))
 
 -- when entry i expires, as the view reads it
 module _ (l : Limits) (i s n j t m : ℕ) (xs : List ℕ) (hi : i < 15) (wi : n * s ≤ get_or (sizes l) i 0) (hj : j < 15) (wj : m * t ≤ get_or (sizes l) j 0) {A : Type 0} (value : List ℕ → List ℕ → A) where
   time-in : (k : ℕ) (d : Entry (Timed A)) → k < n
-      → (row_at (rows_at (cacheFrom l i s n j t m) xs) (ref_at (refsAt (cacheFrom l i s n j t m) xs) k).place).time ≡ (get_or (cacheIn value s n (table l i xs) t m (table l j xs)).entries k d).value.expires
-  unfolding cacheOf
+      → (row_at (rows_at (cache_from l i s n j t m) xs) (ref_at (refs_at (cache_from l i s n j t m) xs) k).place).time ≡ (get_or (cache_in value s n (table l i xs) t m (table l j xs)).entries k d).value.expires
+  unfolding cache_of
   time-in k d h =
       (λ a. (row_at (rows_in l i s n j t m xs hi wi hj wj a) (ref_at (refs-in l i s n j t m xs hi wi hj wj a) k).place).time)
-      ∙ sym (ap (λ (e : Entry (Timed A)). e.value.expires) (getD-map-in (entry_of value (expiryRows t m (table l j xs))) (refs s n (table l i xs)) k d (ref 0 []) (omega (arith, length-refs s n (table l i xs)))))
+      ∙ sym (ap (λ (e : Entry (Timed A)). e.value.expires) (get_or-map-in (entry_of value (expiry_rows t m (table l j xs))) (refs s n (table l i xs)) k d (ref 0 []) (omega (arith, length-refs s n (table l i xs)))))
 
 module _ (h : Head) (xs : List ℕ) (fit : Fit h xs) (k : ℕ) where
-  pub cached-time : k < h.live.cached → (row_at (rows_at (cachedCache h) xs) (ref_at (refsAt (cachedCache h) xs) k).place).time ≡ (get_or (state_of h xs).cache.entries k noCached).value.expires
-  unfolding state_of cachedIn
-  cached-time q = time-in (limitsOf h.limits) 4 4 h.live.cached 5 48 h.live.cached_rows xs (lit< tt) (omega arith) (lit< tt) (omega arith) (cachedOf (table (limitsOf h.limits) 6 xs)) k noCached q
+  pub cached-time : k < h.live.cached → (row_at (rows_at (cached_cache h) xs) (ref_at (refs_at (cached_cache h) xs) k).place).time ≡ (get_or (state_of h xs).cache.entries k no_cached).value.expires
+  unfolding state_of cached_in
+  cached-time q = time-in (limits_of h.limits) 4 4 h.live.cached 5 48 h.live.cached_rows xs (lit< tt) (omega arith) (lit< tt) (omega arith) (cached_of (table (limits_of h.limits) 6 xs)) k no_cached q
 
 -- what is found of the cached and the grafted messages, in the settled state
 module _ (h : Head) (xs : List ℕ) (fit : Fit h xs) (now id : ℕ) (r : HeldThen) where
-  pub cached-held : HeldIs no_held (cacheAt (cachedCache h) xs).entries id (get id (leftThen h.live.init now (cacheAt (cachedCache h) xs))) r
-      → HeldIs noCached (state_of h xs).cache.entries id (get id (settled now (state_of h xs)).cache) r
+  pub cached-held : HeldIs no_held (cache_at (cached_cache h) xs).entries id (get id (left_then h.live.init now (cache_at (cached_cache h) xs))) r
+      → HeldIs no_cached (state_of h xs).cache.entries id (get id (settled now (state_of h xs)).cache) r
   cached-held e =
-      subst (λ (c : Cache Cached). HeldIs noCached (state_of h xs).cache.entries id (get id c) r) (sym (settled-cache now (state_of h xs) ∙ ap (λ (b : Bool). leftThen b now (state_of h xs).cache) (init-of h xs)))
-      (held-as (asValue (cachedOf (table (limitsOf h.limits) 6 xs))) (cacheAt (cachedCache h) xs) (state_of h xs).cache (cached-as h xs fit) h.live.init now id no_held noCached r e)
+      subst (λ (c : Cache Cached). HeldIs no_cached (state_of h xs).cache.entries id (get id c) r) (sym (settled-cache now (state_of h xs) ∙ ap (λ (b : Bool). left_then b now (state_of h xs).cache) (init-of h xs)))
+      (held-as (as_value (cached_of (table (limits_of h.limits) 6 xs))) (cache_at (cached_cache h) xs) (state_of h xs).cache (cached-as h xs fit) h.live.init now id no_held no_cached r e)
 
-  pub grafted-held : HeldIs no_held (cacheAt (graftedCache h) xs).entries id (get id (leftThen h.live.init now (cacheAt (graftedCache h) xs))) r
-      → HeldIs noGrafts (state_of h xs).grafted.entries id (get id (settled now (state_of h xs)).grafted) r
+  pub grafted-held : HeldIs no_held (cache_at (grafted_cache h) xs).entries id (get id (left_then h.live.init now (cache_at (grafted_cache h) xs))) r
+      → HeldIs no_grafts (state_of h xs).grafted.entries id (get id (settled now (state_of h xs)).grafted) r
   grafted-held e =
-      subst (λ (c : Cache Grafts). HeldIs noGrafts (state_of h xs).grafted.entries id (get id c) r) (sym (settled-grafted now (state_of h xs) ∙ ap (λ (b : Bool). leftThen b now (state_of h xs).grafted) (init-of h xs)))
-      (held-as (asValue (graftsOf (peersOf h xs))) (cacheAt (graftedCache h) xs) (state_of h xs).grafted (grafted-as h xs fit) h.live.init now id no_held noGrafts r e)
+      subst (λ (c : Cache Grafts). HeldIs no_grafts (state_of h xs).grafted.entries id (get id c) r) (sym (settled-grafted now (state_of h xs) ∙ ap (λ (b : Bool). left_then b now (state_of h xs).grafted) (init-of h xs)))
+      (held-as (as_value (grafts_of (peers_of h xs))) (cache_at (grafted_cache h) xs) (state_of h xs).grafted (grafted-as h xs fit) h.live.init now id no_held no_grafts r e)

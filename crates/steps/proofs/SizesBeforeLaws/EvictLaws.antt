@@ -13,12 +13,12 @@ use Rattle.storage.specs.Lists.Base.{is_some, filter, count, sum}
 use Rattle.storage.specs.Lists.Map.{keys}
 use Rattle.storage.proofs.ListsLaws.MapLaws.{cases}
 use Rattle.storage.specs.Rows.Sorted.{Ascending, Here, Between}
-use Rattle.time_cache.specs.TimeCache.{laterCache}
+use Rattle.time_cache.specs.TimeCache.{later_cache}
 use Rattle.time_cache.proofs.MapPlaces.{lookup-here, lookup-between}
-use Rattle.protocol.specs.Links.{eager, isNeighbour}
+use Rattle.protocol.specs.Links.{eager, is_neighbour}
 use Rattle.protocol.specs.State.{State}
-use Rattle.decide.specs.Sizes.{Sizes, sizesOf, sizedLinks, grown}
-use Rattle.decide.specs.SizesAfter.{evictSizes, upSizes}
+use Rattle.decide.specs.Sizes.{Sizes, sizes_of, sized_links, grown}
+use Rattle.decide.specs.SizesAfter.{evict_sizes, up_sizes}
 use Rattle.decide.specs.Settled.{settled}
 use Rattle.steps.proofs.SettledLaws.ThenLaws.{settled-still}
 
@@ -34,42 +34,42 @@ module _ {A : Type 0} (f : A → Bool) where
   sum-again g [] = refl
   sum-again g (x ∷ xs) = cases (f x) (λ p. rw p (rw p (ap (λ (n : ℕ). g x + n) (sum-again g xs)))) (λ p. rw p (omega (arith, sum-again g xs)))
 
-again : (now : ℕ) (s : State) → s.init ≡ false → evictSizes now (settled now s) ≡ evictSizes now s
-unfolding evictSizes sizesOf settled laterCache
+again : (now : ℕ) (s : State) → s.init ≡ false → evict_sizes now (settled now s) ≡ evict_sizes now s
+unfolding evict_sizes sizes_of settled later_cache
 again now s e = rw e (λ p. record {
   links = length s.links;
   received = count-again (λ x. ltb now x.value.expires) s.received.entries p;
-  receivedExpiry = count-again (λ x. ltb now x.time) s.received.expiry p;
+  received_expiry = count-again (λ x. ltb now x.time) s.received.expiry p;
   cached = count-again (λ x. ltb now x.value.expires) s.cache.entries p;
-  cachedExpiry = count-again (λ x. ltb now x.time) s.cache.expiry p;
+  cached_expiry = count-again (λ x. ltb now x.time) s.cache.expiry p;
   content = sum-again (λ x. ltb now x.value.expires) (λ x. length x.value.value.content) s.cache.entries p;
   grafted = count-again (λ x. ltb now x.value.expires) s.grafted.entries p;
-  graftedExpiry = count-again (λ x. ltb now x.time) s.grafted.expiry p;
+  grafted_expiry = count-again (λ x. ltb now x.time) s.grafted.expiry p;
   missing = length s.missing;
   timers = length s.timers.graft;
   queued = length s.queue;
   recorded = length s.dropped;
 })
 
-pub evict-again : (now : ℕ) (s : State) → evictSizes now (settled now s) ≡ evictSizes now s
-evict-again now s = cases s.init (λ e. ap (evictSizes now) (settled-still now s e)) (again now s)
+pub evict-again : (now : ℕ) (s : State) → evict_sizes now (settled now s) ≡ evict_sizes now s
+evict-again now s = cases s.init (λ e. ap (evict_sizes now) (settled-still now s e)) (again now s)
 
 -- neighbour up, by where the peer stands
 module _ (p : ℕ) (s : State) where
-  pub up-there : (i : ℕ) → Ascending (keys s.links) → Here (keys s.links) p i → (z : Sizes) → z ≡ sizesOf s → z ≡ upSizes p s
-  unfolding upSizes sizesOf grown
+  pub up-there : (i : ℕ) → Ascending (keys s.links) → Here (keys s.links) p i → (z : Sizes) → z ≡ sizes_of s → z ≡ up_sizes p s
+  unfolding up_sizes sizes_of grown
   up-there i a h z e =
-      let t : isNeighbour p s.links ≡ true = ap is_some (lookup-here p i (record { key = 0; value = eager }) s.links a h) in
-      e ∙ (λ k. sizedLinks (grown (sym t k) (length s.links)) (sizesOf s))
+      let t : is_neighbour p s.links ≡ true = ap is_some (lookup-here p i (record { key = 0; value = eager }) s.links a h) in
+      e ∙ (λ k. sized_links (grown (sym t k) (length s.links)) (sizes_of s))
 
-  one_more : sizedLinks ((sizesOf s).links + 1) (sizesOf s) ≡ sizedLinks (suc (length s.links)) (sizesOf s)
-  unfolding sizesOf
-  one_more = ap (λ (n : ℕ). sizedLinks n (sizesOf s)) (add-one (length s.links))
+  one_more : sized_links ((sizes_of s).links + 1) (sizes_of s) ≡ sized_links (suc (length s.links)) (sizes_of s)
+  unfolding sizes_of
+  one_more = ap (λ (n : ℕ). sized_links n (sizes_of s)) (add-one (length s.links))
 
-  pub up-new : (i : ℕ) → Between (keys s.links) p i → (z : Sizes) → z ≡ sizesOf s → sizedLinks (z.links + 1) z ≡ upSizes p s
-  unfolding upSizes grown
+  pub up-new : (i : ℕ) → Between (keys s.links) p i → (z : Sizes) → z ≡ sizes_of s → sized_links (z.links + 1) z ≡ up_sizes p s
+  unfolding up_sizes grown
   up-new i b z e =
-      let t : isNeighbour p s.links ≡ false = ap is_some (lookup-between p i s.links b) in
-      ap (λ (y : Sizes). sizedLinks (y.links + 1) y) e
+      let t : is_neighbour p s.links ≡ false = ap is_some (lookup-between p i s.links b) in
+      ap (λ (y : Sizes). sized_links (y.links + 1) y) e
       ∙ one_more
-      ∙ (λ k. sizedLinks (grown (sym t k) (length s.links)) (sizesOf s))
+      ∙ (λ k. sized_links (grown (sym t k) (length s.links)) (sizes_of s))

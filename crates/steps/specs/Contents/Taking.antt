@@ -10,17 +10,17 @@ use Rattle.steps.specs.Stands.{Stands}
 use Rattle.steps.specs.Contents.CacheSteps.{message}
 
 -- when a message that is taken in at an instant is forgotten
-abbrev pub forgottenAt : ℕ → Head → ℕ
-forgottenAt instant h = instant + h.settings.config.message_id_retention.0
+abbrev pub forgotten_at : ℕ → Head → ℕ
+forgotten_at instant h = instant + h.settings.config.message_id_retention.0
 
 -- when its content is forgotten
-abbrev pub uncachedAt : ℕ → Head → ℕ
-uncachedAt instant h = instant + h.settings.config.message_cache_retention.0
+abbrev pub uncached_at : ℕ → Head → ℕ
+uncached_at instant h = instant + h.settings.config.message_cache_retention.0
 
 -- the message caches with it are within their limits
 pub record TakesIn (instant id : ℕ) (content : List ℕ) (round : ℕ) (h : Head) (block : List ℕ) : Type 0 where
   pub stands : Stands h block
   pub early : instant ≤ 2 ^ 62
-  pub received : AtMost h.limits.received (put id tt (forgottenAt instant h) (state_of h block).received)
-  pub cached : AtMost h.limits.cached (put id (message content round) (uncachedAt instant h) (state_of h block).cache)
-  pub bytes : held (put id (message content round) (uncachedAt instant h) (state_of h block).cache).entries ≤ h.limits.content
+  pub received : AtMost h.limits.received (put id tt (forgotten_at instant h) (state_of h block).received)
+  pub cached : AtMost h.limits.cached (put id (message content round) (uncached_at instant h) (state_of h block).cache)
+  pub bytes : held (put id (message content round) (uncached_at instant h) (state_of h block).cache).entries ≤ h.limits.content

@@ -6,51 +6,51 @@ use Rattle.storage.specs.Lists.Map.{Map, lookup, insert}
 use Rattle.storage.specs.Rows.Part.{part, put}
 use Rattle.storage.specs.Rows.Digits.{le_bytes}
 use Rattle.time_cache.specs.TimeCache.{get, put as put_in, replace}
-use Rattle.protocol.specs.State.{State, Grafts, withGrafted}
-use Rattle.protocol.specs.Control.{lower, withGraft}
+use Rattle.protocol.specs.State.{State, Grafts, with_grafted}
+use Rattle.protocol.specs.Control.{lower, with_graft}
 use Rattle.block.specs.View.{state_of, byte_at}
 use Rattle.block.specs.Goes.{Goes}
-use Rattle.block.specs.LinkSteps.{peerAt}
+use Rattle.block.specs.LinkSteps.{peer_at}
 use Rattle.block.specs.MissingSteps.{hop}
 use Rattle.block.specs.declared.head.Head.{Head}
-use Rattle.block.specs.Caches.GraftSteps.{graftedAt, graftsAt}
+use Rattle.block.specs.Caches.GraftSteps.{grafted_at, grafts_at}
 use Rattle.steps.specs.declared.grafts.note.Entered.{Entered}
 
 -- a number and its round more, before number j
-unfoldable pub insertedHop : ℕ → ℕ → ℕ → List ℕ → List ℕ
-insertedHop j l r list =
+unfoldable pub inserted_hop : ℕ → ℕ → ℕ → List ℕ → List ℕ
+inserted_hop j l r list =
     put 0 ((byte_at 0 list + 1) ∷ [])
     (put (33 + 2 * j) (le_bytes 2 r ++ part (33 + 2 * j) (2 * (byte_at 0 list - j)) list)
     (put (1 + j) (l ∷ part (1 + j) (byte_at 0 list - j) list) list))
 
 -- another round of number j
-abbrev pub roundPut : ℕ → ℕ → List ℕ → List ℕ
-roundPut j r list = put (33 + 2 * j) (le_bytes 2 r) list
+abbrev pub round_put : ℕ → ℕ → List ℕ → List ℕ
+round_put j r list = put (33 + 2 * j) (le_bytes 2 r) list
 
 -- the grafted message i with other peers
-abbrev pub peersTo : ℕ → Map ℕ → State → State
-peersTo i m s = withGrafted (replace (graftedAt s i).key (record { first = (graftsAt s i).first; kept = (graftsAt s i).kept; peers = m }) s.grafted) s
+abbrev pub peers_to : ℕ → Map ℕ → State → State
+peers_to i m s = with_grafted (replace (grafted_at s i).key (record { first = (grafts_at s i).first; kept = (grafts_at s i).kept; peers = m }) s.grafted) s
 
 -- the peers of the grafted message i with a peer's round, the lower where it has one
-abbrev pub peersWith : ℕ → ℕ → ℕ → State → Map ℕ
-peersWith i p r s = insert p (lower (lookup p (graftsAt s i).peers) r) (graftsAt s i).peers
+abbrev pub peers_with : ℕ → ℕ → ℕ → State → Map ℕ
+peers_with i p r s = insert p (lower (lookup p (grafts_at s i).peers) r) (grafts_at s i).peers
 
 -- the grafts of a new entry
-abbrev pub noGrafts : Grafts
-noGrafts = record { first = none; kept = none; peers = [] }
+abbrev pub no_grafts : Grafts
+no_grafts = record { first = none; kept = none; peers = [] }
 
 -- a new entry, for which no peer is grafted yet
-abbrev pub enteredState : ℕ → ℕ → State → State
-enteredState id expires s = withGrafted (put_in id noGrafts expires s.grafted) s
+abbrev pub entered_state : ℕ → ℕ → State → State
+entered_state id expires s = with_grafted (put_in id no_grafts expires s.grafted) s
 
 -- what a new entry leaves: the state with it, and where it stands
 pub record Enters (id expires : ℕ) (h : Head) (xs : List ℕ) (r : Entered) (ys : List ℕ) : Type 0 where
-  pub goes : Goes (enteredState id expires) h xs r.head ys
+  pub goes : Goes (entered_state id expires) h xs r.head ys
   pub below : r.entry < r.head.live.grafted
   pub links : r.head.live.links ≡ h.live.links
-  pub key : (graftedAt (state_of r.head ys) r.entry).key ≡ id
-  pub none : graftsAt (state_of r.head ys) r.entry ≡ noGrafts
+  pub key : (grafted_at (state_of r.head ys) r.entry).key ≡ id
+  pub none : grafts_at (state_of r.head ys) r.entry ≡ no_grafts
 
 -- the Graft goes into the entry of its identifier, or a new entry
-abbrev pub graftNoted : ℕ → ℕ → ℕ → ℕ → State → State
-graftNoted id link round expires s = withGrafted (withGraft id expires (hop (peerAt s link) round) (get id s.grafted) s.grafted) s
+abbrev pub graft_noted : ℕ → ℕ → ℕ → ℕ → State → State
+graft_noted id link round expires s = with_grafted (with_graft id expires (hop (peer_at s link) round) (get id s.grafted) s.grafted) s

@@ -6,19 +6,19 @@ use Rattle.storage.specs.Lists.Map.{keys}
 use Rattle.storage.specs.Rows.Part.{part, Only}
 use Rattle.storage.specs.Rows.Rows.{rows}
 use Rattle.storage.specs.Refs.Refs.{Ref, ref}
-use Rattle.protocol.specs.State.{State, withMissing, withQueue, withDropped, withGrafted}
-use Rattle.protocol.specs.Neighbours.{forgetAnnouncer, withoutNotes, forgetGrafted}
+use Rattle.protocol.specs.State.{State, with_missing, with_queue, with_dropped, with_grafted}
+use Rattle.protocol.specs.Neighbours.{forget_announcer, without_notes, forget_grafted}
 use Rattle.block.specs.Layout.{tables}
-use Rattle.block.specs.View.{byte_at, hopsIn, limitsOf, viewWith, state_of}
-use Rattle.storage.specs.Refs.Numbers.{lowerAll, entries}
+use Rattle.block.specs.View.{byte_at, hops_in, limits_of, view_with, state_of}
+use Rattle.storage.specs.Refs.Numbers.{lower_all, entries}
 use Rattle.block.specs.Fit.{Fit}
 use Rattle.block.specs.Sound.{Laid}
-use Rattle.block.specs.Heads.{withLinkCount}
+use Rattle.block.specs.Heads.{with_link_count}
 use Rattle.block.specs.declared.head.Head.{Head}
 
 -- peers without the one at i
-abbrev pub withoutPeer : ℕ → List ℕ → List ℕ
-withoutPeer i ps = take i ps ++ drop (suc i) ps
+abbrev pub without_peer : ℕ → List ℕ → List ℕ
+without_peer i ps = take i ps ++ drop (suc i) ps
 
 -- a row that ends with a list: what stands before the list, how many the list has, and its numbers with their rounds
 pub record Listed : Type 0 where
@@ -28,15 +28,15 @@ pub record Listed : Type 0 where
 
 -- the list of the row stands at o
 unfoldable pub listed_of : ℕ → List ℕ → Listed
-listed_of o row = record { head = take o row; count = byte_at o row; hops = hopsIn ref (drop o row) }
+listed_of o row = record { head = take o row; count = byte_at o row; hops = hops_in ref (drop o row) }
 
 -- n rows of s bytes
 unfoldable pub listed : ℕ → ℕ → ℕ → List ℕ → List Listed
 listed o s n bytes = map (listed_of o) (rows s n bytes)
 
 -- the row after link i went
-abbrev pub lowerListed : ℕ → Listed → Listed
-lowerListed i r = record { head = r.head; count = length (lowerAll i r.hops); hops = lowerAll i r.hops }
+abbrev pub lower_listed : ℕ → Listed → Listed
+lower_listed i r = record { head = r.head; count = length (lower_all i r.hops); hops = lower_all i r.hops }
 
 -- the list of the row is not empty
 abbrev pub announced : Listed → Bool
@@ -48,36 +48,36 @@ pub record AllFew (o s n : ℕ) (bytes : List ℕ) : Type 0 where
 
 -- the lists at o of the n rows of s bytes in the k bytes at a are lowered, and nothing else has changed
 pub record LoweredIn (i a k s n o : ℕ) (xs ys : List ℕ) : Type 0 where
-  pub rows : listed o s n (part a k ys) ≡ map (lowerListed i) (listed o s n (part a k xs))
+  pub rows : listed o s n (part a k ys) ≡ map (lower_listed i) (listed o s n (part a k xs))
   pub only : Only a k xs ys
   pub long : length ys ≡ length xs
 
 -- of the n missing messages in the k bytes at a those that are still announced are left, r in number, with their lists lowered
 pub record MissedIn (i a k n : ℕ) (xs ys : List ℕ) (r : ℕ) : Type 0 where
   pub few : r ≤ n
-  pub rows : listed 32 129 r (part a k ys) ≡ filter announced (map (lowerListed i) (listed 32 129 n (part a k xs)))
+  pub rows : listed 32 129 r (part a k ys) ≡ filter announced (map (lower_listed i) (listed 32 129 n (part a k xs)))
   pub only : Only a k xs ys
   pub long : length ys ≡ length xs
 
 -- of the n numbers at the start of the k bytes at a, and the n rows of 34 bytes at o of these, r are left
 pub record NotesIn (i a k o n : ℕ) (xs ys : List ℕ) (r : ℕ) : Type 0 where
   pub few : r ≤ n
-  pub left : entries o 34 r (part a k ys) ≡ lowerAll i (entries o 34 n (part a k xs))
+  pub left : entries o 34 r (part a k ys) ≡ lower_all i (entries o 34 n (part a k xs))
   pub only : Only a k xs ys
   pub long : length ys ≡ length xs
 
 -- without a peer's announcements, notes and grafts; the links are as they were
-abbrev pub withoutTraces : ℕ → State → State
-withoutTraces p s =
-    withGrafted (forgetGrafted p s.grafted)
-    (withDropped (withoutNotes p s.dropped)
-    (withQueue (withoutNotes p s.queue)
-    (withMissing (forgetAnnouncer p s.missing) s)))
+abbrev pub without_traces : ℕ → State → State
+without_traces p s =
+    with_grafted (forget_grafted p s.grafted)
+    (with_dropped (without_notes p s.dropped)
+    (with_queue (without_notes p s.queue)
+    (with_missing (forget_announcer p s.missing) s)))
 
 -- the link numbers of the whole block are lowered: without the peer at i they stand for what they stood for, where its traces are gone, and they are below
 -- one link less
 pub record LoweredLinks (i : ℕ) (h : Head) (xs : List ℕ) (r : Head) (ys : List ℕ) : Type 0 where
-  pub same : viewWith (withoutPeer i (keys (state_of h xs).links)) r (tables (limitsOf r.limits) ys) ≡ withoutTraces (get_or (keys (state_of h xs).links) i 0) (state_of h xs)
+  pub same : view_with (without_peer i (keys (state_of h xs).links)) r (tables (limits_of r.limits) ys) ≡ without_traces (get_or (keys (state_of h xs).links) i 0) (state_of h xs)
   pub links : r.live.links ≡ h.live.links
   pub fit : Fit r ys
-  pub laid : Laid (withLinkCount (r.live.links - 1) r) (tables (limitsOf r.limits) ys)
+  pub laid : Laid (with_link_count (r.live.links - 1) r) (tables (limits_of r.limits) ys)

@@ -6,29 +6,29 @@ use Rattle.storage.specs.Rows.Rows.{rows}
 use Rattle.storage.specs.Refs.Numbers.{raised}
 use Rattle.storage.specs.Lists.Map.{keys}
 use Rattle.block.specs.Layout.{tables}
-use Rattle.block.specs.View.{byte_at, limitsOf, viewWith, state_of}
+use Rattle.block.specs.View.{byte_at, limits_of, view_with, state_of}
 use Rattle.block.specs.Fit.{Fit}
 use Rattle.block.specs.Sound.{Laid}
-use Rattle.block.specs.Heads.{withLinkCount}
+use Rattle.block.specs.Heads.{with_link_count}
 use Rattle.block.specs.declared.head.Head.{Head}
 
 -- the numbers of the list at o of a row
-unfoldable pub raisedRow : ℕ → ℕ → List ℕ → List ℕ
-raisedRow i o row = raised i (o + 1) (byte_at o row) row
+unfoldable pub raised_row : ℕ → ℕ → List ℕ → List ℕ
+raised_row i o row = raised i (o + 1) (byte_at o row) row
 
 -- the lists at o of the n rows of s bytes in the k bytes at a are raised, and nothing else has changed
 pub record RaisedIn (i a k s n o : ℕ) (xs ys : List ℕ) : Type 0 where
-  pub rows : rows s n (part a k ys) ≡ map (raisedRow i o) (rows s n (part a k xs))
+  pub rows : rows s n (part a k ys) ≡ map (raised_row i o) (rows s n (part a k xs))
   pub only : Only a k xs ys
   pub long : length ys ≡ length xs
 
 -- peers, with p put in at i
-abbrev pub withPeer : ℕ → ℕ → List ℕ → List ℕ
-withPeer i p ps = take i ps ++ (p ∷ drop i ps)
+abbrev pub with_peer : ℕ → ℕ → List ℕ → List ℕ
+with_peer i p ps = take i ps ++ (p ∷ drop i ps)
 
 -- the link numbers of the whole block are raised: with any peer put in at i they stand for the peers that they stood for, and they are
 -- below one link more
 pub record RaisedLinks (i : ℕ) (h : Head) (xs ys : List ℕ) : Type 0 where
-  pub same : (p : ℕ) → viewWith (withPeer i p (keys (state_of h xs).links)) h (tables (limitsOf h.limits) ys) ≡ state_of h xs
+  pub same : (p : ℕ) → view_with (with_peer i p (keys (state_of h xs).links)) h (tables (limits_of h.limits) ys) ≡ state_of h xs
   pub fit : Fit h ys
-  pub laid : Laid (withLinkCount (h.live.links + 1) h) (tables (limitsOf h.limits) ys)
+  pub laid : Laid (with_link_count (h.live.links + 1) h) (tables (limits_of h.limits) ys)

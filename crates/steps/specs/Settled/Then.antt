@@ -3,7 +3,7 @@
 use Rattle.std.specs.Prelude.{ℕ, Bool, [], ltb, length, if◌then◌else◌}
 use Rattle.std.proofs.Math.Option.{none}
 use Rattle.storage.specs.Lists.Map.{Entry, entry}
-use Rattle.time_cache.specs.TimeCache.{Timed, Cache, laterCache}
+use Rattle.time_cache.specs.TimeCache.{Timed, Cache, later_cache}
 use Rattle.time_cache.specs.Tables.{Held, held}
 use Rattle.protocol.specs.State.{Cached, Grafts}
 
@@ -12,17 +12,17 @@ abbrev pub no_held : Entry (Timed Held)
 no_held = entry 0 (record { expires = 0; value = held [] [] })
 
 -- what stands where there is no cached message
-abbrev pub noCached : Entry (Timed Cached)
-noCached = entry 0 (record { expires = 0; value = record { content = []; round = 0 } })
+abbrev pub no_cached : Entry (Timed Cached)
+no_cached = entry 0 (record { expires = 0; value = record { content = []; round = 0 } })
 
 -- what stands where there is no grafted message
-abbrev pub noGrafts : Entry (Timed Grafts)
-noGrafts = entry 0 (record { expires = 0; value = record { first = none; kept = none; peers = [] } })
+abbrev pub no_grafts : Entry (Timed Grafts)
+no_grafts = entry 0 (record { expires = 0; value = record { first = none; kept = none; peers = [] } })
 
 -- a time cache once a first event has evicted: as it is where `init` is set already
-abbrev pub leftThen : {A : Type 0} → Bool → ℕ → Cache A → Cache A
-leftThen init now c = if init then c else laterCache now c
+abbrev pub left_then : {A : Type 0} → Bool → ℕ → Cache A → Cache A
+left_then init now c = if init then c else later_cache now c
 
 -- the bytes of a content that expires later
-abbrev pub laterBytes : ℕ → Entry (Timed Cached) → ℕ
-laterBytes now e = if ltb now e.value.expires then length e.value.value.content else 0
+abbrev pub later_bytes : ℕ → Entry (Timed Cached) → ℕ
+later_bytes now e = if ltb now e.value.expires then length e.value.value.content else 0

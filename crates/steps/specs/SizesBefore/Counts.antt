@@ -2,19 +2,19 @@
 -- Assumes nothing.
 use Rattle.std.specs.Prelude.{ℕ, ◌+◌, ◌≡◌, not, List, eqb, length}
 use Rattle.storage.specs.Lists.Base.{filter}
-use Rattle.protocol.specs.Links.{Links, lazyPeers}
+use Rattle.protocol.specs.Links.{Links, lazy_peers}
 use Rattle.protocol.specs.State.{State}
-use Rattle.decide.specs.SizesAfter.{takenSizes}
-use Rattle.steps.specs.Shared.{sizesValue}
+use Rattle.decide.specs.SizesAfter.{taken_sizes}
+use Rattle.steps.specs.Shared.{sizes_value}
 use Rattle.steps.specs.declared.Sizes.{Sizes as CodeSizes}
 
 -- "Lazy push skips only the sender": how many lazy peers it goes to
-abbrev pub lazyCount : ℕ → Links → ℕ
-lazyCount sender l = length (filter (λ p. not (eqb p sender)) (lazyPeers l))
+abbrev pub lazy_count : ℕ → Links → ℕ
+lazy_count sender l = length (filter (λ p. not (eqb p sender)) (lazy_peers l))
 
 -- the numbers of entries with a message of n content bytes taken in, whatever these bytes are
 pub record TakenIs (id n sender : ℕ) (s : State) (r : CodeSizes) : Type 0 where
-  pub same : (content : List ℕ) → length content ≡ n → sizesValue r ≡ takenSizes id content sender s
+  pub same : (content : List ℕ) → length content ≡ n → sizes_value r ≡ taken_sizes id content sender s
 
 -- the numbers with other numbers of received, cached, contents and queued entries, and one expiry entry more in two caches
 abbrev pub taken_of : CodeSizes → ℕ → ℕ → ℕ → ℕ → CodeSizes

@@ -4,15 +4,15 @@ ghost use Rattle.std.specs.Prelude.{◌≡◌, map, [], ◌+◌, ◌*◌, ◌≤
 ghost use Rattle.storage.specs.Rows.Part.{part, put};
 ghost use Rattle.storage.specs.Rows.Ident.{id_of};
 ghost use Rattle.time_cache.specs.TimeCache.{put as put_in};
-ghost use Rattle.time_cache.specs.Tables.{expiryRows, row_at};
+ghost use Rattle.time_cache.specs.Tables.{expiry_rows, row_at};
 ghost use Rattle.block.specs.Layout.{table};
-ghost use Rattle.block.specs.View.{limitsOf, state_of};
+ghost use Rattle.block.specs.View.{limits_of, state_of};
 ghost use Rattle.block.specs.Fit.{Fit};
 ghost use Rattle.block.specs.Sound.{Sound, held};
 ghost use Rattle.block.specs.Goes.{Goes};
 ghost use Rattle.block.specs.Caches.InBlock.{InOrder, AtMost};
-ghost use Rattle.steps.specs.Contents.Starts.{len_of, firstStart, shiftedRow, Above};
-ghost use Rattle.steps.specs.Contents.CacheSteps.{cachedLeft, cachedAlso, cachedRows, message, emptyIn, refill, refilled, Ahead, Shifts, Resized};
+ghost use Rattle.steps.specs.Contents.Starts.{len_of, first_start, shifted_row, Above};
+ghost use Rattle.steps.specs.Contents.CacheSteps.{cached_left, cached_also, cached_rows, message, empty_in, refill, refilled, Ahead, Shifts, Resized};
 
 use block::caches::cached;
 use block::head::Head;
@@ -25,7 +25,7 @@ use storage::rows::{bytes, table, word};
 // Where the content of row j starts among the contents; for the row after the last, where the contents end.
 fn start_of(h: Head, block: &[u8], j: usize) -> usize
     requires { Fit h block.now × (j ≤ h.live.cached_rows) }
-    ensures { result ≡ firstStart h.live.contents (drop j (expiryRows 48 h.live.cached_rows (table (limitsOf h.limits) 5 block.now))) }
+    ensures { result ≡ first_start h.live.contents (drop j (expiry_rows 48 h.live.cached_rows (table (limits_of h.limits) 5 block.now))) }
 {
     if j < h.live.cached_rows {
         let a = head::cached_rows_at(h.limits) + 48 * j;
@@ -37,8 +37,8 @@ fn start_of(h: Head, block: &[u8], j: usize) -> usize
 
 // Moves the starts of n rows up and then down: one pass.
 fn shift_starts(x: &mut [u8], n: usize, up: u64, down: u64)
-    requires { (n * 48 ≤ length x.old) × (up ≤ 1048576) × Above up down (expiryRows 48 n x.old) }
-    ensures { expiryRows 48 n x.new ≡ map (shiftedRow up down) (expiryRows 48 n x.old) }
+    requires { (n * 48 ≤ length x.old) × (up ≤ 1048576) × Above up down (expiry_rows 48 n x.old) }
+    ensures { expiry_rows 48 n x.new ≡ map (shifted_row up down) (expiry_rows 48 n x.old) }
 {
     let mut i = 0;
     while i < n {
@@ -52,7 +52,7 @@ fn shift_starts(x: &mut [u8], n: usize, up: u64, down: u64)
 
 // Moves the starts of the rows from j on up and then down.
 fn shift_rows(h: Head, block: &mut [u8], j: usize, up: usize, down: usize)
-    requires { Fit h block.old × (j ≤ h.live.cached_rows) × (up ≤ 1048576) × Above up down (drop j (expiryRows 48 h.live.cached_rows (table (limitsOf h.limits) 5 block.old))) }
+    requires { Fit h block.old × (j ≤ h.live.cached_rows) × (up ≤ 1048576) × Above up down (drop j (expiry_rows 48 h.live.cached_rows (table (limits_of h.limits) 5 block.old))) }
     ensures { Shifts h j up down block.old block.new }
 {
     let n = h.live.cached_rows - j;
@@ -83,7 +83,7 @@ fn close_contents(mut h: Head, block: &mut [u8]) -> Head
 // that of a search by halving where nothing is due, and else that of one pass over entries, rows and contents.
 pub fn expire_cached(mut h: Head, block: &mut [u8], instant: Millis) -> Head
     requires { Sound h block.old × InOrder (state_of h block.old).cache }
-    ensures { Goes (cachedLeft instant.0) h block.old result block.new }
+    ensures { Goes (cached_left instant.0) h block.old result block.new }
 {
     let c = time_caches::cached_cache(h);
     let e = c.expire_until(block, instant);
@@ -97,7 +97,7 @@ pub fn expire_cached(mut h: Head, block: &mut [u8], instant: Millis) -> Head
 // How long the content of row p is.
 fn len_of(h: Head, block: &[u8], p: usize) -> usize
     requires { Fit h block.now × (p < h.live.cached_rows) }
-    ensures { result ≡ len_of (row_at (cachedRows h block.now) p) }
+    ensures { result ≡ len_of (row_at (cached_rows h block.now) p) }
 {
     let a = head::cached_rows_at(h.limits) + 48 * p;
     let len = word::load4(block, a + 44);
@@ -118,7 +118,7 @@ fn move_bytes(b: &mut [u8], from: usize, to: usize, k: usize)
 
 // Gives row p another content: the contents behind it move. Its time is that of one pass over the contents and the rows behind it.
 fn resize_row(mut h: Head, block: &mut [u8], p: usize, content: &[u8]) -> Head
-    requires { Sound h block.old × (p < h.live.cached_rows) × (h.live.contents + length content.now ≤ h.limits.content + len_of (row_at (cachedRows h block.old) p)) }
+    requires { Sound h block.old × (p < h.live.cached_rows) × (h.live.contents + length content.now ≤ h.limits.content + len_of (row_at (cached_rows h block.old) p)) }
     ensures { Resized h p content.now block.old result block.new }
 {
     let k = content.len();
@@ -155,7 +155,7 @@ fn set_content(h: Head, block: &mut [u8], id: Id, content: &[u8]) -> Head
 // Stores round, start and length of a content of no bytes in entry i and its row j.
 fn store_empty(h: Head, block: &mut [u8], i: usize, j: usize, s: usize, round: Round)
     requires { Fit h block.old × (i < h.live.cached) × (j < h.live.cached_rows) }
-    ensures { block.new ≡ emptyIn h i j s round.0 block.old }
+    ensures { block.new ≡ empty_in h i j s round.0 block.old }
 {
     let b = head::cached_rows_at(h.limits) + j * 48;
     word::store_le(block, b + 40, 4, s as u64);
@@ -167,7 +167,7 @@ fn store_empty(h: Head, block: &mut [u8], i: usize, j: usize, s: usize, round: R
 // Puts a message in without its content: requires that no content is left of an entry that it overwrites.
 fn insert_empty(mut h: Head, block: &mut [u8], id: Id, round: Round, expires: Millis) -> Head
     requires { Sound h block.old × InOrder (state_of h block.old).cache × AtMost h.limits.cached (put_in (id_of id) (message [] round.0) expires.0 (state_of h block.old).cache) × (held (put_in (id_of id) (message [] round.0) expires.0 (state_of h block.old).cache).entries ≡ h.live.contents) }
-    ensures { Goes (cachedAlso (id_of id) [] round.0 expires.0) h block.old result block.new }
+    ensures { Goes (cached_also (id_of id) [] round.0 expires.0) h block.old result block.new }
 {
     let c = time_caches::cached_cache(h);
     let e = c.insert(block, id, expires);
@@ -192,7 +192,7 @@ pub fn insert_cached(
     expires: Millis,
 ) -> Head
     requires { Sound h block.old × InOrder (state_of h block.old).cache × AtMost h.limits.cached (put_in (id_of id) (message content.now round.0) expires.0 (state_of h block.old).cache) × (held (put_in (id_of id) (message content.now round.0) expires.0 (state_of h block.old).cache).entries ≤ h.limits.content) }
-    ensures { Goes (cachedAlso (id_of id) content.now round.0 expires.0) h block.old result block.new }
+    ensures { Goes (cached_also (id_of id) content.now round.0 expires.0) h block.old result block.new }
 {
     let a = set_content(h, block, id, &content[0..0]);
     let b = insert_empty(a, block, id, round, expires);

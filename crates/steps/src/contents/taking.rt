@@ -1,7 +1,7 @@
 // What every event begins with, and what a message that is taken in leaves: eviction, the first event's work, "mark received; cache at".
 ghost use Rattle.storage.specs.Rows.Ident.{id_of};
 ghost use Rattle.protocol.specs.Ticks.{evict};
-ghost use Rattle.decide.specs.StateAfter.{firstState, takenState};
+ghost use Rattle.decide.specs.StateAfter.{first_state, taken_state};
 ghost use Rattle.block.specs.Goes.{Goes};
 ghost use Rattle.steps.specs.Stands.{Stands};
 ghost use Rattle.steps.specs.Contents.Taking.{TakesIn};
@@ -26,7 +26,7 @@ pub fn on_evict_cache_timer(h: Head, block: &mut [u8], instant: Millis) -> Head
 // "the first other event evicts and schedules EvictCache before anything else": the eviction, and the mark that it was.
 pub fn first_event(h: Head, block: &mut [u8], instant: Millis) -> Head
     requires { Stands h block.old }
-    ensures { Goes (firstState instant.0) h block.old result block.new }
+    ensures { Goes (first_state instant.0) h block.old result block.new }
 {
     if h.live.init {
         return h;
@@ -47,7 +47,7 @@ pub fn take_in(
     round: Round,
 ) -> Head
     requires { TakesIn instant.0 (id_of id) content.now round.0 h block.old }
-    ensures { Goes (takenState instant.0 (id_of id) content.now round.0) h block.old result block.new }
+    ensures { Goes (taken_state instant.0 (id_of id) content.now round.0) h block.old result block.new }
 {
     let forgotten = Millis(instant.0 + h.settings.config.message_id_retention.0);
     let uncached = Millis(instant.0 + h.settings.config.message_cache_retention.0);

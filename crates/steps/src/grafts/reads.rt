@@ -3,12 +3,12 @@ ghost use Rattle.std.specs.Prelude.{◌≡◌, ◌<◌, leb};
 ghost use Rattle.storage.specs.Lists.Base.{any};
 ghost use Rattle.storage.specs.Lists.Map.{keys, has};
 ghost use Rattle.storage.specs.Rows.Sorted.{FoundIs};
-ghost use Rattle.protocol.specs.Gossips.{sameAs, graftOut};
+ghost use Rattle.protocol.specs.Gossips.{same_as, graft_out};
 ghost use Rattle.block.specs.View.{state_of};
 ghost use Rattle.block.specs.Sound.{Sound};
-ghost use Rattle.block.specs.LinkSteps.{peerAt};
-ghost use Rattle.block.specs.Caches.GraftSteps.{graftsAt};
-ghost use Rattle.steps.specs.Grafts.Reads.{Grafting, first_of, HeldBelow, heldPeers};
+ghost use Rattle.block.specs.LinkSteps.{peer_at};
+ghost use Rattle.block.specs.Caches.GraftSteps.{grafts_at};
+ghost use Rattle.steps.specs.Grafts.Reads.{Grafting, first_of, HeldBelow, held_peers};
 
 use crate::Held;
 use block::caches::grafted;
@@ -28,7 +28,7 @@ pub enum First {
 // The `first` of the grafted message i.
 pub fn graft_first(h: Head, block: &[u8], i: usize) -> First
     requires { Sound h block.now × (i < h.live.grafted) }
-    ensures { first_of result ≡ (graftsAt (state_of h block.now) i).first }
+    ensures { first_of result ≡ (grafts_at (state_of h block.now) i).first }
 {
     let a = head::grafted_at(h.limits) + 119 * i;
     if block[a + 2] == 0 {
@@ -42,7 +42,7 @@ pub fn graft_first(h: Head, block: &[u8], i: usize) -> First
 // Whether a peer is the `kept` of the grafted message i.
 pub fn is_kept(h: Head, block: &[u8], i: usize, peer: u64) -> bool
     requires { Sound h block.now × (i < h.live.grafted) }
-    ensures { result ≡ sameAs peer (graftsAt (state_of h block.now) i).kept }
+    ensures { result ≡ same_as peer (grafts_at (state_of h block.now) i).kept }
 {
     let a = head::grafted_at(h.limits) + 119 * i;
     if block[a + 13] == 0 {
@@ -56,7 +56,7 @@ pub fn is_kept(h: Head, block: &[u8], i: usize, peer: u64) -> bool
 // most 32.
 pub fn find_graft(h: Head, block: &[u8], i: usize, link: usize) -> Found
     requires { Grafting h block.now × (i < h.live.grafted) × (link < h.live.links) }
-    ensures { FoundIs (keys (graftsAt (state_of h block.now) i).peers) (peerAt (state_of h block.now) link) result }
+    ensures { FoundIs (keys (grafts_at (state_of h block.now) i).peers) (peer_at (state_of h block.now) link) result }
 {
     let n = grafted::graft_count(h, block, i);
     let mut j = 0;
@@ -76,7 +76,7 @@ pub fn find_graft(h: Head, block: &[u8], i: usize, link: usize) -> Found
 // Whether the peer of a link is grafted for the grafted message i. Its time is that of `find_graft`.
 pub fn is_grafted(h: Head, block: &[u8], i: usize, link: usize) -> bool
     requires { Grafting h block.now × (i < h.live.grafted) × (link < h.live.links) }
-    ensures { result ≡ has (peerAt (state_of h block.now) link) (graftsAt (state_of h block.now) i).peers }
+    ensures { result ≡ has (peer_at (state_of h block.now) link) (grafts_at (state_of h block.now) i).peers }
 {
     let f = find_graft(h, block, i, link);
     match f {
@@ -88,7 +88,7 @@ pub fn is_grafted(h: Head, block: &[u8], i: usize, link: usize) -> bool
 // Whether a peer is grafted for the grafted message i over no more hops than `round`. Its time is that of one pass over these peers, at most 32.
 pub fn grafted_within(h: Head, block: &[u8], i: usize, round: Round) -> bool
     requires { Sound h block.now × (i < h.live.grafted) }
-    ensures { result ≡ any (λ e. leb e.value round.0) (graftsAt (state_of h block.now) i).peers }
+    ensures { result ≡ any (λ e. leb e.value round.0) (grafts_at (state_of h block.now) i).peers }
 {
     let n = grafted::graft_count(h, block, i);
     let mut j = 0;
@@ -105,7 +105,7 @@ pub fn grafted_within(h: Head, block: &[u8], i: usize, round: Round) -> bool
 // `graft_out`: whether a graft is out over no more hops, and not to the sender. Its time is that of two passes over the peers of a grafted message.
 pub fn graft_out(h: Head, block: &[u8], held: Held, sender: usize, round: Round) -> bool
     requires { Grafting h block.now × HeldBelow h.live.grafted held × (sender < h.live.links) }
-    ensures { result ≡ graftOut (peerAt (state_of h block.now) sender) round.0 (heldPeers (state_of h block.now) held) }
+    ensures { result ≡ graft_out (peer_at (state_of h block.now) sender) round.0 (held_peers (state_of h block.now) held) }
 {
     match held {
         Held::At(i) => {

@@ -1,11 +1,11 @@
-// A link that went: its number is dropped wherever it stands, and the numbers after it are one lower (document 01, "Sets": "Down: out of both, and out of
+// A link that went: its number is dropped wherever it stands, and the numbers after it are one lower (the specification, "Sets": "Down: out of both, and out of
 // announcers (empty lists go), queue, record, grafted peers").
 ghost use Rattle.std.specs.Prelude.{◌≡◌, map, ◌+◌, ◌-◌, ◌*◌, ◌≤◌, ◌<◌, length, get_or};
 ghost use Rattle.storage.specs.Lists.Base.{filter};
 ghost use Rattle.storage.specs.Rows.Part.{part};
 ghost use Rattle.block.specs.Sound.{Sound};
 ghost use Rattle.block.specs.LinkSteps.{LinksAscend};
-ghost use Rattle.steps.specs.Neighbours.Lowered.{listed_of, listed, lowerListed, announced, AllFew, LoweredIn, MissedIn, NotesIn, LoweredLinks};
+ghost use Rattle.steps.specs.Neighbours.Lowered.{listed_of, listed, lower_listed, announced, AllFew, LoweredIn, MissedIn, NotesIn, LoweredLinks};
 
 use block::head::Head;
 use block::{head, hops};
@@ -15,7 +15,7 @@ use storage::rows::table;
 // The list of link numbers and rounds in 97 bytes, after link i went.
 pub fn drop_in_list(list: &mut [u8], i: usize)
     requires { (length list.old ≡ 97) × (get_or list.old 0 0 ≤ 32) }
-    ensures { listed_of 0 list.new ≡ lowerListed i (listed_of 0 list.old) }
+    ensures { listed_of 0 list.new ≡ lower_listed i (listed_of 0 list.old) }
 {
     let n = hops::count(list, 0);
     let r = renumber::drop_number(&mut list[1..], 32, 2, n, i);
@@ -25,7 +25,7 @@ pub fn drop_in_list(list: &mut [u8], i: usize)
 // The list at o, to its end, of each of n rows.
 pub fn drop_in_rows(b: &mut [u8], stride: usize, n: usize, o: usize, i: usize)
     requires { (o + 97 ≡ stride) × (n * stride ≤ length b.old) × AllFew o stride n b.old }
-    ensures { listed o stride n b.new ≡ map (lowerListed i) (listed o stride n b.old) }
+    ensures { listed o stride n b.new ≡ map (lower_listed i) (listed o stride n b.old) }
 {
     let mut k = 0;
     while k < n {
@@ -63,7 +63,7 @@ pub fn keep_announced(b: &mut [u8], n: usize) -> usize
 // The announcers of n missing messages after link i went; returns how many messages are left.
 fn drop_announcers(b: &mut [u8], n: usize, i: usize) -> usize
     requires { (n * 129 ≤ length b.old) × AllFew 32 129 n b.old }
-    ensures { (result ≤ n) × (listed 32 129 result b.new ≡ filter announced (map (lowerListed i) (listed 32 129 n b.old))) }
+    ensures { (result ≤ n) × (listed 32 129 result b.new ≡ filter announced (map (lower_listed i) (listed 32 129 n b.old))) }
 {
     drop_in_rows(b, 129, n, 32, i);
     keep_announced(b, n)

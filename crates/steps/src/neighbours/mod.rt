@@ -1,12 +1,12 @@
-// A neighbour comes or goes (document 01, "Sets"): the links, and the numbers of the links after it wherever they stand.
+// A neighbour comes or goes (the specification, "Sets"): the links, and the numbers of the links after it wherever they stand.
 pub mod lower;
 pub mod renumber;
 
 ghost use Rattle.std.specs.Prelude.{◌≡◌, false, ◌<◌, get_or};
 ghost use Rattle.storage.specs.Rows.Sorted.{Between};
 ghost use Rattle.storage.specs.Lists.Map.{keys};
-ghost use Rattle.protocol.specs.Links.{isNeighbour, linkUp};
-ghost use Rattle.protocol.specs.Neighbours.{forgetPeer};
+ghost use Rattle.protocol.specs.Links.{is_neighbour, link_up};
+ghost use Rattle.protocol.specs.Neighbours.{forget_peer};
 ghost use Rattle.block.specs.View.{state_of};
 ghost use Rattle.block.specs.Sound.{Sound};
 ghost use Rattle.block.specs.Goes.{Goes};
@@ -21,7 +21,7 @@ use storage::rows::{table, word};
 // A link that is new, eager, before link i.
 fn insert_link(mut h: Head, block: &mut [u8], i: usize, peer: u64) -> Head
     requires { Sound h block.old × Between (keys (state_of h block.old).links) peer i × (h.live.links < h.limits.neighbours) }
-    ensures { Goes (linked (linkUp peer)) h block.old result block.new }
+    ensures { Goes (linked (link_up peer)) h block.old result block.new }
 {
     renumber::raise_links(h, block, i);
     let n = h.live.links;
@@ -36,8 +36,8 @@ fn insert_link(mut h: Head, block: &mut [u8], i: usize, peer: u64) -> Head
 
 // `on_neighbor_up`: "Up: into eager, out of lazy". A new link asks for room for one link more.
 pub fn on_neighbor_up(h: Head, block: &mut [u8], peer: u64) -> Head
-    requires { Sound h block.old × LinksAscend h block.old × (isNeighbour peer (state_of h block.old).links ≡ false → h.live.links < h.limits.neighbours) }
-    ensures { Goes (linked (linkUp peer)) h block.old result block.new }
+    requires { Sound h block.old × LinksAscend h block.old × (is_neighbour peer (state_of h block.old).links ≡ false → h.live.links < h.limits.neighbours) }
+    ensures { Goes (linked (link_up peer)) h block.old result block.new }
 {
     let f = links::find_link(h, block, peer);
     match f {
@@ -52,7 +52,7 @@ pub fn on_neighbor_up(h: Head, block: &mut [u8], peer: u64) -> Head
 // Link i goes.
 fn remove_link(h: Head, block: &mut [u8], i: usize) -> Head
     requires { Sound h block.old × LinksAscend h block.old × (i < h.live.links) }
-    ensures { Goes (forgetPeer (get_or (keys (state_of h block.old).links) i 0)) h block.old result block.new }
+    ensures { Goes (forget_peer (get_or (keys (state_of h block.old).links) i 0)) h block.old result block.new }
 {
     let mut r = lower::lower_links(h, block, i);
     let n = r.live.links;
@@ -67,7 +67,7 @@ fn remove_link(h: Head, block: &mut [u8], i: usize) -> Head
 // missing messages.
 pub fn on_neighbor_down(h: Head, block: &mut [u8], peer: u64) -> Head
     requires { Stands h block.old }
-    ensures { Goes (forgetPeer peer) h block.old result block.new }
+    ensures { Goes (forget_peer peer) h block.old result block.new }
 {
     let f = links::find_link(h, block, peer);
     match f {

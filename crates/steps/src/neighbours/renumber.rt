@@ -3,7 +3,7 @@ ghost use Rattle.std.specs.Prelude.{◌≡◌, ◌+◌, ◌-◌, ◌*◌, ◌≤
 ghost use Rattle.storage.specs.Rows.Part.{part};
 ghost use Rattle.storage.specs.Rows.Rows.{rows};
 ghost use Rattle.block.specs.Sound.{Sound, AllNumbered};
-ghost use Rattle.steps.specs.Neighbours.Raised.{raisedRow, RaisedIn, RaisedLinks};
+ghost use Rattle.steps.specs.Neighbours.Raised.{raised_row, RaisedIn, RaisedLinks};
 
 use block::head::Head;
 use block::{head, hops};
@@ -12,7 +12,7 @@ use storage::refs::renumber;
 // The link numbers in the list at o of each of n rows, after a link came in at i.
 pub fn raise_rows(b: &mut [u8], stride: usize, n: usize, o: usize, i: usize)
     requires { (o + 97 ≤ stride) × (n * stride ≤ length b.old) × AllNumbered 255 o stride n b.old }
-    ensures { rows stride n b.new ≡ map (raisedRow i o) (rows stride n b.old) }
+    ensures { rows stride n b.new ≡ map (raised_row i o) (rows stride n b.old) }
 {
     let mut k = 0;
     while k < n {

@@ -1,4 +1,4 @@
--- Laws of `all`, `any`, `filter`, `count`, `length` and `concatMap` on lists, and of the tests of a map's entries.
+-- Laws of `all`, `any`, `filter`, `count`, `length` and `concat_map` on lists, and of the tests of a map's entries.
 use Prim.Native.Nat.{ℕ, suc, ◌+◌, ◌≤◌}
 use mathlib.Core.Path.{◌≡◌, refl, sym, ap, ◌∙◌}
 use mathlib.Core.Bool.{Bool, true, false, not, ◌&&◌, ◌||◌}
@@ -8,7 +8,7 @@ use native.Mathlib.Omega.{arith}
 use lib.Dec.{ltb, eqb}
 use lib.ListN.{length}
 use borrow.Author.Tests.{eqb-true}
-use Rattle.storage.specs.Lists.Base.{all, any, filter, count, concatMap, ascending, is_some}
+use Rattle.storage.specs.Lists.Base.{all, any, filter, count, concat_map, ascending, is_some}
 use Rattle.storage.specs.Lists.Map.{Map, Entry, entry, keys, lookup, insert, remove, has}
 use Rattle.storage.proofs.ListsLaws.MapLaws.{cases, true≢, and_left, and_right, and_intro, all_head, all_tail, all_cons, lookup-insert-same, lookup-insert-other, lookup-remove-same, lookup-remove-other}
 
@@ -80,13 +80,13 @@ module _ {A : Type 0} where
   count-length f (x ∷ xs) = cases (f x) (λ p. rw p (omega (arith, count-length f xs))) (λ p. rw p (omega (arith, count-length f xs)))
 
   -- the bytes of some and then others, and of one
-  pub concat-append : (f : A → List ℕ) (xs ys : List A) → concatMap f (xs ++ ys) ≡ concatMap f xs ++ concatMap f ys
-  unfolding concatMap
+  pub concat-append : (f : A → List ℕ) (xs ys : List A) → concat_map f (xs ++ ys) ≡ concat_map f xs ++ concat_map f ys
+  unfolding concat_map
   concat-append f [] ys = refl
-  concat-append f (x ∷ xs) ys = ap (λ (l : List ℕ). f x ++ l) (concat-append f xs ys) ∙ sym (append_assoc (f x) (concatMap f xs) (concatMap f ys))
+  concat-append f (x ∷ xs) ys = ap (λ (l : List ℕ). f x ++ l) (concat-append f xs ys) ∙ sym (append_assoc (f x) (concat_map f xs) (concat_map f ys))
 
-  pub concat-one : (f : A → List ℕ) (x : A) → concatMap f (x ∷ []) ≡ f x
-  unfolding concatMap
+  pub concat-one : (f : A → List ℕ) (x : A) → concat_map f (x ∷ []) ≡ f x
+  unfolding concat_map
   concat-one f x = append-nil (f x)
 
   -- of a list without it nothing is in a part

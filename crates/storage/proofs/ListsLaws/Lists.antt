@@ -1,4 +1,4 @@
--- Laws of `any` and of truth values that the proof of demand 3 shares.
+-- Laws of `any` and of truth values that the proof of the guarantee shares.
 use mathlib.Core.Path.{◌≡◌, refl, sym, ◌∙◌}
 use mathlib.Core.Bool.{Bool, true, false, ◌||◌}
 use mathlib.Core.List.{List, [], ◌∷◌, ◌++◌}

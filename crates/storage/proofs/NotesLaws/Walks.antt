@@ -9,27 +9,27 @@ use native.Mathlib.Omega.{arith}
 use lib.ListN.{length, get_or, set, replicate, length-set}
 use lib.Seq.{get_or-set_same, get_or-set_other}
 use Rattle.storage.proofs.RowsLaws.Ids.{tri}
-use Rattle.storage.specs.Notes.Chains.{id_at, bucketOf, bucket, Latest, Chained, New, Once}
+use Rattle.storage.specs.Notes.Chains.{id_at, bucket_of, bucket, Latest, Chained, New, Once}
 
 -- the low ten bits of an identifier are those of its last word
-pub low_bits : (q w l : ℕ) → (w % 1024 + 32 * l) % 1024 ≡ bucketOf (q * 2 ^ 64 + w) l
+pub low_bits : (q w l : ℕ) → (w % 1024 + 32 * l) % 1024 ≡ bucket_of (q * 2 ^ 64 + w) l
 low_bits q w l = omega arith
 
-pub in-range : (k l : ℕ) → bucketOf k l < 1024
+pub in-range : (k l : ℕ) → bucket_of k l < 1024
 in-range k l = omega arith
 
 -- rows with this number and identifier are in its bucket
-alike : (c b : List ℕ) (p l k : ℕ) → get_or c p 0 ≡ l → id_at b p ≡ k → bucket c b p ≡ bucketOf k l
-alike c b p l k e f = ap (λ (v : ℕ). bucketOf (id_at b p) v) e ∙ ap (λ (v : ℕ). bucketOf v l) f
+alike : (c b : List ℕ) (p l k : ℕ) → get_or c p 0 ≡ l → id_at b p ≡ k → bucket c b p ≡ bucket_of k l
+alike c b p l k e f = ap (λ (v : ℕ). bucket_of (id_at b p) v) e ∙ ap (λ (v : ℕ). bucket_of v l) f
 
 -- the rows from j on are not the note, and the row before j is in its bucket
 pub record Walk (c b : List ℕ) (i l k j : ℕ) : Type 0 where
   pub within : j ≤ i
-  pub top : (p : ℕ) → j ≡ p + 1 → bucket c b p ≡ bucketOf k l
+  pub top : (p : ℕ) → j ≡ p + 1 → bucket c b p ≡ bucket_of k l
   pub done : (p : ℕ) → j ≤ p → p < i → get_or c p 0 ≡ l → id_at b p ≡ k → ⊥
 
 module _ (c b : List ℕ) (i l k : ℕ) where
-  pub walk_start : (s : ℕ) → Latest c b i (bucketOf k l) s → Walk c b i l k s
+  pub walk_start : (s : ℕ) → Latest c b i (bucket_of k l) s → Walk c b i l k s
   walk_start s a = record {
     within = a.within;
     top = a.hit;

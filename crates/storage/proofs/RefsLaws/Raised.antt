@@ -6,7 +6,7 @@ use Prim.Native.Nat.{ℕ, ◌+◌, ◌≤◌, ◌<◌}
 use native.Mathlib.Omega.{arith}
 use lib.ListN.{length, get_or, set, length-map}
 use Rattle.storage.specs.Rows.Part.{part, put}
-use Rattle.storage.proofs.RowsLaws.Parts.{length_part, part-snoc, put-snoc, getD-put-after, part-zero, put-nil}
+use Rattle.storage.proofs.RowsLaws.Parts.{length_part, part-snoc, put-snoc, get_or-put-after, part-zero, put-nil}
 use Rattle.storage.specs.Refs.Refs.{shifted}
 use Rattle.storage.specs.Refs.Numbers.{raised}
 
@@ -20,7 +20,7 @@ module _ (i a : ℕ) (xs : List ℕ) where
 
   pub raised-read : (j : ℕ) → a + j < length xs → get_or (raised i a j xs) (a + j) 0 ≡ get_or xs (a + j) 0
   unfolding raised
-  raised-read j h = getD-put-after a (a + j) 0 (map (shifted i) (part a j xs)) xs (omega (arith, length-numbers j (omega arith))) (omega arith)
+  raised-read j h = get_or-put-after a (a + j) 0 (map (shifted i) (part a j xs)) xs (omega (arith, length-numbers j (omega arith))) (omega arith)
 
   pub raised-more : (j : ℕ) → a + j < length xs → set (raised i a j xs) (a + j) (shifted i (get_or xs (a + j) 0)) ≡ raised i a (j + 1) xs
   unfolding raised

@@ -13,7 +13,7 @@ use lib.ListN.{length, get_or, take, drop, length-map, get_or-append}
 use lib.Seq.{get_or-take, get_or-drop, get_or-append-add, length-take-le, take-length}
 use Rattle.std.specs.Prelude.{if◌then◌else◌}
 use Rattle.storage.specs.Rows.Part.{part, put}
-use Rattle.storage.proofs.RowsLaws.Parts.{put-put-next, part-snoc, length_part, part-put, length-put, getD-put-after}
+use Rattle.storage.proofs.RowsLaws.Parts.{put-put-next, part-snoc, length_part, part-put, length-put, get_or-put-after}
 use Rattle.storage.specs.Refs.Refs.{shifted}
 
 module _ {A : Type 0} (f : A → A) (d : A) (xs : List A) where
@@ -30,7 +30,7 @@ module _ {A : Type 0} (f : A → A) (d : A) (xs : List A) where
 
   -- element j is still as it was
   pub done-read : (j : ℕ) → j < length xs → get_or (done j) j d ≡ get_or xs j d
-  done-read j h = getD-put-after 0 j d (map f (part 0 j xs)) xs (omega (arith, length-done j (omega arith))) (omega arith)
+  done-read j h = get_or-put-after 0 j d (map f (part 0 j xs)) xs (omega (arith, length-done j (omega arith))) (omega arith)
 
   pub done_more : (j : ℕ) → j < length xs → put j (f (get_or xs j d) ∷ []) (done j) ≡ done (j + 1)
   done_more j h =

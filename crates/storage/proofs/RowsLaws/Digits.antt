@@ -8,82 +8,82 @@ use native.Mathlib.Numerals.{add-one}
 use native.Mathlib.Omega.{arith}
 use lib.ListN.{length, get_or, length-append}
 use lib.Arith.{digits_div}
-use Rattle.storage.specs.Rows.Digits.{leNat, le_bytes, beFrom, beNat, beBytes}
+use Rattle.storage.specs.Rows.Digits.{le_nat, le_bytes, be_from, be_nat, be_bytes}
 
 -- every element is a byte
 abbrev pub Bytes : List ℕ → Type 0
 Bytes bs = (i : ℕ) → get_or bs i 0 < 256
 
-pub length-leBytes : (k v : ℕ) → length (le_bytes k v) ≡ k
+pub length-le_bytes : (k v : ℕ) → length (le_bytes k v) ≡ k
 unfolding le_bytes
-length-leBytes zero v = refl
-length-leBytes (suc k) v = ap suc (length-leBytes k (v / 256))
+length-le_bytes zero v = refl
+length-le_bytes (suc k) v = ap suc (length-le_bytes k (v / 256))
 
-pub length-beBytes : (k v : ℕ) → length (beBytes k v) ≡ k
-unfolding beBytes
-length-beBytes zero v = refl
-length-beBytes (suc k) v = length-append (beBytes k (v / 256)) (v % 256 ∷ []) ∙ ap (λ (n : ℕ). n + 1) (length-beBytes k (v / 256)) ∙ add-one k
+pub length-be_bytes : (k v : ℕ) → length (be_bytes k v) ≡ k
+unfolding be_bytes
+length-be_bytes zero v = refl
+length-be_bytes (suc k) v = length-append (be_bytes k (v / 256)) (v % 256 ∷ []) ∙ ap (λ (n : ℕ). n + 1) (length-be_bytes k (v / 256)) ∙ add-one k
 
 -- 256 ^ suc k, as omega reads it
 pub pow_step : (k : ℕ) → 256 ^ suc k ≡ 256 * 256 ^ k
 pow_step k = pow-suc 256 k ∙ mul_comm (256 ^ k) 256
 
 -- the two round trips, little endian
-pub leNat-leBytes : (k v : ℕ) → v < 256 ^ k → leNat (le_bytes k v) ≡ v
-unfolding leNat le_bytes
-leNat-leBytes zero v h = omega arith
-leNat-leBytes (suc k) v h = omega (arith, leNat-leBytes k (v / 256) (omega (arith, pow_step k)), pow_step k)
+pub le_nat-le_bytes : (k v : ℕ) → v < 256 ^ k → le_nat (le_bytes k v) ≡ v
+unfolding le_nat le_bytes
+le_nat-le_bytes zero v h = omega arith
+le_nat-le_bytes (suc k) v h = omega (arith, le_nat-le_bytes k (v / 256) (omega (arith, pow_step k)), pow_step k)
 
 -- a number that is read from k bytes of one is in their width
-pub leNat-below : (k v : ℕ) → leNat (le_bytes k v) < 256 ^ k
-unfolding leNat le_bytes
-leNat-below zero v = omega arith
-leNat-below (suc k) v = omega (arith, leNat-below k (v / 256), pow_step k)
+pub le_nat-below : (k v : ℕ) → le_nat (le_bytes k v) < 256 ^ k
+unfolding le_nat le_bytes
+le_nat-below zero v = omega arith
+le_nat-below (suc k) v = omega (arith, le_nat-below k (v / 256), pow_step k)
 
-pub leBytes-leNat : (bs : List ℕ) → Bytes bs → le_bytes (length bs) (leNat bs) ≡ bs
-unfolding leNat le_bytes
-leBytes-leNat [] h = refl
-leBytes-leNat (b ∷ bs) h =
+pub le_bytes-le_nat : (bs : List ℕ) → Bytes bs → le_bytes (length bs) (le_nat bs) ≡ bs
+unfolding le_nat le_bytes
+le_bytes-le_nat [] h = refl
+le_bytes-le_nat (b ∷ bs) h =
     let l : b < 256 = h 0 in
-    let m : (b + 256 * leNat bs) % 256 ≡ b = omega arith in
-    let d : (b + 256 * leNat bs) / 256 ≡ leNat bs = omega arith in
-    rw (m, d) (ap (λ (l : List ℕ). b ∷ l) (leBytes-leNat bs (λ i. h (suc i))))
+    let m : (b + 256 * le_nat bs) % 256 ≡ b = omega arith in
+    let d : (b + 256 * le_nat bs) / 256 ≡ le_nat bs = omega arith in
+    rw (m, d) (ap (λ (l : List ℕ). b ∷ l) (le_bytes-le_nat bs (λ i. h (suc i))))
 
 -- one more byte at the end of the big-endian list
-pub beFrom-append : (n : ℕ) (xs ys : List ℕ) → beFrom n (xs ++ ys) ≡ beFrom (beFrom n xs) ys
-unfolding beFrom
-beFrom-append n [] ys = refl
-beFrom-append n (x ∷ xs) ys = beFrom-append (n * 256 + x) xs ys
+pub be_from-append : (n : ℕ) (xs ys : List ℕ) → be_from n (xs ++ ys) ≡ be_from (be_from n xs) ys
+unfolding be_from
+be_from-append n [] ys = refl
+be_from-append n (x ∷ xs) ys = be_from-append (n * 256 + x) xs ys
 
-pub beFrom-snoc : (n : ℕ) (xs : List ℕ) (x : ℕ) → beFrom n (xs ++ (x ∷ [])) ≡ beFrom n xs * 256 + x
-unfolding beFrom
-beFrom-snoc n xs x = beFrom-append n xs (x ∷ [])
+pub be_from-snoc : (n : ℕ) (xs : List ℕ) (x : ℕ) → be_from n (xs ++ (x ∷ [])) ≡ be_from n xs * 256 + x
+unfolding be_from
+be_from-snoc n xs x = be_from-append n xs (x ∷ [])
 
 -- what stands before counts 256 ^ the rest's length
-pub beFrom-high : (n : ℕ) (xs : List ℕ) → beFrom n xs ≡ n * 256 ^ length xs + beNat xs
-unfolding beFrom
-beFrom-high n [] = omega (arith, mul-one n)
-beFrom-high n (x ∷ xs) =
+pub be_from-high : (n : ℕ) (xs : List ℕ) → be_from n xs ≡ n * 256 ^ length xs + be_nat xs
+unfolding be_from
+be_from-high n [] = omega (arith, mul-one n)
+be_from-high n (x ∷ xs) =
     let p : ℕ = 256 ^ length xs in
     let e : n * 256 ^ suc (length xs) ≡ n * 256 * p = ap (λ (m : ℕ). n * m) (pow_step (length xs)) ∙ sym (mul_assoc n 256 p) in
-    omega (arith, beFrom-high (n * 256 + x) xs, beFrom-high (0 * 256 + x) xs, e, add-mul (n * 256) x p)
+    omega (arith, be_from-high (n * 256 + x) xs, be_from-high (0 * 256 + x) xs, e, add-mul (n * 256) x p)
 
 -- the bound of a number of k bytes
-pub beNat-lt : (bs : List ℕ) → Bytes bs → beNat bs < 256 ^ length bs
-unfolding beFrom
-beNat-lt [] h = omega arith
-beNat-lt (b ∷ bs) h =
+pub be_nat-lt : (bs : List ℕ) → Bytes bs → be_nat bs < 256 ^ length bs
+unfolding be_from
+be_nat-lt [] h = omega arith
+be_nat-lt (b ∷ bs) h =
     let l : b < 256 = h 0 in
     let p : ℕ = 256 ^ length bs in
     let m : b * p ≤ 255 * p = mul-le-mul_right p (omega arith) in
-    omega (arith, beNat-lt bs (λ i. h (suc i)), beFrom-high (0 * 256 + b) bs, pow_step (length bs), ap (λ (x : ℕ). x * p) (zero-add b))
+    omega (arith, be_nat-lt bs (λ i. h (suc i)), be_from-high (0 * 256 + b) bs, pow_step (length bs), ap (λ (x : ℕ). x * p) (zero-add b))
 
 -- the two round trips, big endian
-pub beNat-beBytes : (k v : ℕ) → v < 256 ^ k → beNat (beBytes k v) ≡ v
-unfolding beBytes beFrom
-beNat-beBytes zero v h = omega arith
-beNat-beBytes (suc k) v h =
-    omega (arith, beFrom-snoc 0 (beBytes k (v / 256)) (v % 256), beNat-beBytes k (v / 256) (omega (arith, pow_step k)))
+pub be_nat-be_bytes : (k v : ℕ) → v < 256 ^ k → be_nat (be_bytes k v) ≡ v
+unfolding be_bytes be_from
+be_nat-be_bytes zero v h = omega arith
+be_nat-be_bytes (suc k) v h =
+    omega (arith, be_from-snoc 0 (be_bytes k (v / 256)) (v % 256), be_nat-be_bytes k (v / 256) (omega (arith, pow_step k)))
 
 pub div-step : (k v : ℕ) → v / 256 / 256 ^ k ≡ v / 256 ^ suc k
 div-step k v = div-div-eq-div-mul v 256 (256 ^ k) ∙ ap (λ (n : ℕ). v / n) (sym (pow_step k))
@@ -93,33 +93,33 @@ pub div-more : (k v : ℕ) → v / 256 ^ k / 256 ≡ v / 256 ^ (k + 1)
 div-more k v = div-div-eq-div-mul v (256 ^ k) 256 ∙ ap (λ (n : ℕ). v / n) (sym (pow-suc 256 k) ∙ ap (λ (n : ℕ). 256 ^ n) (sym (add-one k)))
 
 -- m + k bytes: the high m, and the low k
-pub beBytes-add : (m k v : ℕ) → beBytes (m + k) v ≡ beBytes m (v / 256 ^ k) ++ beBytes k v
-unfolding beBytes
-beBytes-add m zero v = rw (add-zero m, div-one v) (sym (append-nil (beBytes m v)))
-beBytes-add m (suc k) v =
-    rw (add-suc m k, beBytes-add m k (v / 256), div-step k v) (append_assoc (beBytes m (v / 256 ^ suc k)) (beBytes k (v / 256)) (v % 256 ∷ []))
+pub be_bytes-add : (m k v : ℕ) → be_bytes (m + k) v ≡ be_bytes m (v / 256 ^ k) ++ be_bytes k v
+unfolding be_bytes
+be_bytes-add m zero v = rw (add-zero m, div-one v) (sym (append-nil (be_bytes m v)))
+be_bytes-add m (suc k) v =
+    rw (add-suc m k, be_bytes-add m k (v / 256), div-step k v) (append_assoc (be_bytes m (v / 256 ^ suc k)) (be_bytes k (v / 256)) (v % 256 ∷ []))
 
 -- the first of k + 1 bytes
-pub beBytes-cons : (k v : ℕ) → beBytes (k + 1) v ≡ (v / 256 ^ k % 256) ∷ beBytes k v
-unfolding beBytes
-beBytes-cons k v = ap (λ (n : ℕ). beBytes n v) (add_comm k 1) ∙ beBytes-add 1 k v
+pub be_bytes-cons : (k v : ℕ) → be_bytes (k + 1) v ≡ (v / 256 ^ k % 256) ∷ be_bytes k v
+unfolding be_bytes
+be_bytes-cons k v = ap (λ (n : ℕ). be_bytes n v) (add_comm k 1) ∙ be_bytes-add 1 k v
 
-pub beBytes-beFrom : (n : ℕ) (bs : List ℕ) → Bytes bs → beBytes (length bs) (beFrom n bs) ≡ bs
-unfolding beFrom beBytes
-beBytes-beFrom n [] h = refl
-beBytes-beFrom n (b ∷ bs) h =
-    let v : ℕ = beFrom (n * 256 + b) bs in
+pub be_bytes-be_from : (n : ℕ) (bs : List ℕ) → Bytes bs → be_bytes (length bs) (be_from n bs) ≡ bs
+unfolding be_from be_bytes
+be_bytes-be_from n [] h = refl
+be_bytes-be_from n (b ∷ bs) h =
+    let v : ℕ = be_from (n * 256 + b) bs in
     let q : v / 256 ^ length bs ≡ n * 256 + b =
-    ap (λ (x : ℕ). x / 256 ^ length bs) (beFrom-high (n * 256 + b) bs) ∙ digits_div (n * 256 + b) (beNat-lt bs (λ i. h (suc i))) in
+    ap (λ (x : ℕ). x / 256 ^ length bs) (be_from-high (n * 256 + b) bs) ∙ digits_div (n * 256 + b) (be_nat-lt bs (λ i. h (suc i))) in
     let d : v / 256 ^ length bs % 256 ≡ b = omega (arith, h 0) in
-    ap (λ (k : ℕ). beBytes k v) (sym (add-one (length bs)))
-    ∙ beBytes-cons (length bs) v
-    ∙ (λ k. d k ∷ beBytes-beFrom (n * 256 + b) bs (λ i. h (suc i)) k)
+    ap (λ (k : ℕ). be_bytes k v) (sym (add-one (length bs)))
+    ∙ be_bytes-cons (length bs) v
+    ∙ (λ k. d k ∷ be_bytes-be_from (n * 256 + b) bs (λ i. h (suc i)) k)
 
 -- the last of k + 1 bytes, little endian
-pub leBytes-snoc : (k v : ℕ) → le_bytes (k + 1) v ≡ le_bytes k v ++ (v / 256 ^ k % 256 ∷ [])
+pub le_bytes-snoc : (k v : ℕ) → le_bytes (k + 1) v ≡ le_bytes k v ++ (v / 256 ^ k % 256 ∷ [])
 unfolding le_bytes
-leBytes-snoc k v = ap (λ (n : ℕ). le_bytes n v) (add-one k) ∙ go k v
+le_bytes-snoc k v = ap (λ (n : ℕ). le_bytes n v) (add-one k) ∙ go k v
   where
     go : (k v : ℕ) → le_bytes (suc k) v ≡ le_bytes k v ++ (v / 256 ^ k % 256 ∷ [])
     go zero v = rw (div-one v)

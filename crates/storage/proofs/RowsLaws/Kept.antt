@@ -13,29 +13,29 @@ use Rattle.storage.specs.Lists.Base.{filter}
 use Rattle.storage.proofs.ListsLaws.Firsts.{only, filter_more}
 use Rattle.storage.specs.Rows.Part.{part, put}
 use Rattle.storage.specs.Rows.Rows.{rows, differs}
-use Rattle.storage.proofs.RowsLaws.Parts.{put-put-next, part-put, length_part, getD-put-after, get_d_part}
+use Rattle.storage.proofs.RowsLaws.Parts.{put-put-next, part-put, length_part, get_or-put-after, get_d_part}
 use Rattle.storage.proofs.RowsLaws.Rows.{length-rows, get_d_rows, take-rows, rows-put-one, row-end}
 
 module _ {A : Type 0} (q : A → Bool) (f : A → A) (d : A) (xs : List A) where
   -- what is kept of the first i
-  abbrev pub keptOf : ℕ → List A
-  keptOf i = map f (filter q (take i xs))
+  abbrev pub kept_of : ℕ → List A
+  kept_of i = map f (filter q (take i xs))
 
-  keep-more : (i : ℕ) → i < length xs → keptOf (i + 1) ≡ keptOf i ++ map f (only q (get_or xs i d))
+  keep-more : (i : ℕ) → i < length xs → kept_of (i + 1) ≡ kept_of i ++ map f (only q (get_or xs i d))
   keep-more i h = ap (map f) (filter_more q i d xs h) ∙ map-append f (filter q (take i xs)) (only q (get_or xs i d))
 
-  keep_one : (i : ℕ) → i < length xs → q (get_or xs i d) ≡ true → keptOf (i + 1) ≡ keptOf i ++ (f (get_or xs i d) ∷ [])
-  keep_one i h e = keep-more i h ∙ ap (λ (t : Bool). keptOf i ++ map f (if t then get_or xs i d ∷ [] else [])) e
+  keep_one : (i : ℕ) → i < length xs → q (get_or xs i d) ≡ true → kept_of (i + 1) ≡ kept_of i ++ (f (get_or xs i d) ∷ [])
+  keep_one i h e = keep-more i h ∙ ap (λ (t : Bool). kept_of i ++ map f (if t then get_or xs i d ∷ [] else [])) e
 
-  keep-none : (i : ℕ) → i < length xs → q (get_or xs i d) ≡ false → keptOf (i + 1) ≡ keptOf i
-  keep-none i h e = keep-more i h ∙ ap (λ (t : Bool). keptOf i ++ map f (if t then get_or xs i d ∷ [] else [])) e ∙ append-nil (keptOf i)
+  keep-none : (i : ℕ) → i < length xs → q (get_or xs i d) ≡ false → kept_of (i + 1) ≡ kept_of i
+  keep-none i h e = keep-more i h ∙ ap (λ (t : Bool). kept_of i ++ map f (if t then get_or xs i d ∷ [] else [])) e ∙ append-nil (kept_of i)
 
   -- of the first i, those that are kept stand first, j in number; all else is as it was
   pub record Going (ys : List A) (j i : ℕ) : Type 0 where
     pub within : i ≤ length xs
     pub behind : j ≤ i
-    pub here : ys ≡ put 0 (keptOf i) xs
-    pub count : length (keptOf i) ≡ j
+    pub here : ys ≡ put 0 (kept_of i) xs
+    pub count : length (kept_of i) ≡ j
 
   pub going_start : Going xs 0 0
   unfolding filter put
@@ -44,25 +44,25 @@ module _ {A : Type 0} (q : A → Bool) (f : A → A) (d : A) (xs : List A) where
   -- what is not reached is as it was
   pub going-read : (ys : List A) (j i : ℕ) → Going ys j i → get_or ys i d ≡ get_or xs i d
   going-read ys j i g =
-      ap (λ (l : List A). get_or l i d) g.here ∙ getD-put-after 0 i d (keptOf i) xs (omega (arith, g.count, g.behind)) (omega arith)
+      ap (λ (l : List A). get_or l i d) g.here ∙ get_or-put-after 0 i d (kept_of i) xs (omega (arith, g.count, g.behind)) (omega arith)
 
   pub going-keep : (ys : List A) (j i : ℕ) → Going ys j i → i < length xs → q (get_or xs i d) ≡ true → Going (put j (f (get_or xs i d) ∷ []) ys) (j + 1) (i + 1)
   going-keep ys j i g h e =
       let y : A = f (get_or xs i d) in
-      let m : keptOf (i + 1) ≡ keptOf i ++ (y ∷ []) = keep_one i h e in
+      let m : kept_of (i + 1) ≡ kept_of i ++ (y ∷ []) = keep_one i h e in
       record {
         within = omega arith;
         behind = omega (arith, g.behind);
         here =
             ap (put j (y ∷ [])) g.here
-            ∙ put-put-next 0 j (keptOf i) (y ∷ []) xs (omega (arith, g.count)) (omega (arith, g.behind))
+            ∙ put-put-next 0 j (kept_of i) (y ∷ []) xs (omega (arith, g.count)) (omega (arith, g.behind))
             ∙ ap (λ (t : List A). put 0 t xs) (sym m);
-        count = ap length m ∙ length-append (keptOf i) (y ∷ []) ∙ ap (λ (n : ℕ). n + 1) g.count;
+        count = ap length m ∙ length-append (kept_of i) (y ∷ []) ∙ ap (λ (n : ℕ). n + 1) g.count;
       }
 
   pub going_drop : (ys : List A) (j i : ℕ) → Going ys j i → i < length xs → q (get_or xs i d) ≡ false → Going ys j (i + 1)
   going_drop ys j i g h e =
-      let m : keptOf (i + 1) ≡ keptOf i = keep-none i h e in
+      let m : kept_of (i + 1) ≡ kept_of i = keep-none i h e in
       record {
         within = omega arith;
         behind = omega (arith, g.behind);
@@ -74,7 +74,7 @@ module _ {A : Type 0} (q : A → Bool) (f : A → A) (d : A) (xs : List A) where
   unfolding part
   going_done ys j i g h =
       ap (take j) g.here
-      ∙ part-put 0 j (keptOf i) xs g.count (omega (arith, g.behind, g.within))
+      ∙ part-put 0 j (kept_of i) xs g.count (omega (arith, g.behind, g.within))
       ∙ ap (λ (l : List A). map f (filter q l)) (take_all i xs h)
 
 -- a turn of the loop that keeps the rows whose byte at o is not v

@@ -283,13 +283,13 @@ module _ {A : Type 0} where
   part-zero a xs = refl
 
   -- an element that was put
-  pub getD-put-in : (a i : ℕ) (d : A) (ys xs : List A) → i < length ys → a + length ys ≤ length xs → get_or (put a ys xs) (a + i) d ≡ get_or ys i d
-  getD-put-in a i d ys xs h l =
+  pub get_or-put-in : (a i : ℕ) (d : A) (ys xs : List A) → i < length ys → a + length ys ≤ length xs → get_or (put a ys xs) (a + i) d ≡ get_or ys i d
+  get_or-put-in a i d ys xs h l =
       sym (get_d_part a (length ys) i d (put a ys xs) h) ∙ ap (λ (t : List A). get_or t i d) (part-put a (length ys) ys xs refl l)
 
   -- an element that the put does not reach
-  pub getD-put-before : (a i : ℕ) (d : A) (ys xs : List A) → i < a → a ≤ length xs → get_or (put a ys xs) i d ≡ get_or xs i d
-  getD-put-before a i d ys xs h l =
+  pub get_or-put-before : (a i : ℕ) (d : A) (ys xs : List A) → i < a → a ≤ length xs → get_or (put a ys xs) i d ≡ get_or xs i d
+  get_or-put-before a i d ys xs h l =
       let e : i + 0 ≡ i = omega arith in
       ap (λ (n : ℕ). get_or (put a ys xs) n d) (sym e)
       ∙ sym (get_d_part i 1 0 d (put a ys xs) (omega arith))
@@ -297,8 +297,8 @@ module _ {A : Type 0} where
       ∙ get_d_part i 1 0 d xs (omega arith)
       ∙ ap (λ (n : ℕ). get_or xs n d) e
 
-  pub getD-put-after : (a i : ℕ) (d : A) (ys xs : List A) → a + length ys ≤ i → a ≤ length xs → get_or (put a ys xs) i d ≡ get_or xs i d
-  getD-put-after a i d ys xs h l =
+  pub get_or-put-after : (a i : ℕ) (d : A) (ys xs : List A) → a + length ys ≤ i → a ≤ length xs → get_or (put a ys xs) i d ≡ get_or xs i d
+  get_or-put-after a i d ys xs h l =
       let e : i + 0 ≡ i = omega arith in
       ap (λ (n : ℕ). get_or (put a ys xs) n d) (sym e)
       ∙ sym (get_d_part i 1 0 d (put a ys xs) (omega arith))
@@ -316,7 +316,7 @@ module _ {A : Type 0} where
       ap (λ (n : ℕ). part (from + (i - 1)) n b₀) (omega arith) ∙ part-cons (from + (i - 1)) (k - i) d b₀ (omega arith)
       ∙ ap (λ (n : ℕ). get_or b₀ (from + (i - 1)) d ∷ part n (k - i) b₀) (omega arith) in
       rw (e, r) (ap (λ (v : A). set (put (to + i) (part (from + i) (k - i) b₀) b₀) (to + (i - 1)) v)
-      (getD-put-before (to + i) (from + (i - 1)) d (part (from + i) (k - i) b₀) b₀ (omega arith) (omega arith))
+      (get_or-put-before (to + i) (from + (i - 1)) d (part (from + i) (k - i) b₀) b₀ (omega arith) (omega arith))
       ∙ put-cons (to + (i - 1)) (to + i) (get_or b₀ (from + (i - 1)) d) (part (from + i) (k - i) b₀) b₀ (omega arith) (omega arith))
 
   pub move-down-step : (b₀ b : List A) (from to i : ℕ) (d : A) → to ≤ from → from + i < length b₀
@@ -325,7 +325,7 @@ module _ {A : Type 0} where
   move-down-step b₀ b from to i d h l e =
       let m : length (part from i b₀) ≡ i = length_part from i b₀ (omega arith) in
       rw (e, part-snoc from i d b₀ l) (ap (λ (v : A). set (put to (part from i b₀) b₀) (to + i) v)
-      (getD-put-after to (from + i) d (part from i b₀) b₀ (omega arith) (omega arith))
+      (get_or-put-after to (from + i) d (part from i b₀) b₀ (omega arith) (omega arith))
       ∙ put-snoc to (to + i) (part from i b₀) (get_or b₀ (from + i) d) b₀ (omega arith) (omega arith))
 
   -- where a move up begins

@@ -8,7 +8,7 @@ use native.Mathlib.Nat.{add-zero, eq-or-lt_of_le}
 use native.Mathlib.Omega.{arith}
 use lib.ListN.{length, get_or, length-map, get_or-map}
 use Rattle.storage.specs.Rows.Part.{part}
-use Rattle.storage.specs.Rows.Digits.{beFrom, beNat}
+use Rattle.storage.specs.Rows.Digits.{be_from, be_nat}
 use Rattle.storage.specs.Rows.Rows.{rows}
 use Rattle.storage.specs.Rows.Sorted.{key_of, keys, Ascending, Between}
 use Rattle.storage.proofs.RowsLaws.Parts.{part-part}
@@ -20,14 +20,14 @@ length-keys s n xs = length-map (rows s n xs) key_of ∙ length-rows s n xs
 
 -- the key of row i, and that key as it lies in the slice
 pub key_row : (s n i : ℕ) (xs : List ℕ) → i < n → get_or (keys s n xs) i 0 ≡ key_of (part (i * s) s xs)
-unfolding keys key_of part beFrom
+unfolding keys key_of part be_from
 key_row s n i xs l = get_or-map key_of (rows s n xs) i [] ∙ ap key_of (get_d_rows s n i [] xs l)
 
-pub key-at : (s n i : ℕ) (xs : List ℕ) → 32 ≤ s → i < n → get_or (keys s n xs) i 0 ≡ beNat (part (i * s) 32 xs)
+pub key-at : (s n i : ℕ) (xs : List ℕ) → 32 ≤ s → i < n → get_or (keys s n xs) i 0 ≡ be_nat (part (i * s) 32 xs)
 unfolding key_of
 key-at s n i xs h l =
     key_row s n i xs l
-    ∙ ap beNat (part-part 0 32 (i * s) s xs (omega arith) ∙ ap (λ (a : ℕ). part a 32 xs) (add-zero (i * s)))
+    ∙ ap be_nat (part-part 0 32 (i * s) s xs (omega arith) ∙ ap (λ (a : ℕ). part a 32 xs) (add-zero (i * s)))
 
 -- lo and hi bracket k: the keys before lo are below it, and those from hi on above it
 pub record Bracket (ks : List ℕ) (k lo hi : ℕ) : Type 0 where

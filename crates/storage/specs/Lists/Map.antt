@@ -43,14 +43,14 @@ remove k [] = []
 remove k (e ∷ m) = if eqb k e.key then remove k m else e ∷ remove k m
 
 -- puts a number into a set
-unfoldable pub insertKey : ℕ → List ℕ → List ℕ
-insertKey k [] = k ∷ []
-insertKey k (x ∷ xs) =
+unfoldable pub insert_key : ℕ → List ℕ → List ℕ
+insert_key k [] = k ∷ []
+insert_key k (x ∷ xs) =
     if ltb k x then k ∷ x ∷ xs
     else if eqb k x then x ∷ xs
-    else x ∷ insertKey k xs
+    else x ∷ insert_key k xs
 
 -- takes a number out of a set
-unfoldable pub removeKey : ℕ → List ℕ → List ℕ
-removeKey k [] = []
-removeKey k (x ∷ xs) = if eqb k x then removeKey k xs else x ∷ removeKey k xs
+unfoldable pub remove_key : ℕ → List ℕ → List ℕ
+remove_key k [] = []
+remove_key k (x ∷ xs) = if eqb k x then remove_key k xs else x ∷ remove_key k xs

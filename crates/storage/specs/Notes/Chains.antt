@@ -2,19 +2,19 @@
 -- Assumes nothing.
 use Rattle.std.specs.Prelude.{◌≡◌, Bool, true, false, List, ℕ, ◌+◌, ◌*◌, ◌%◌, ◌≤◌, ◌<◌, get_or}
 use Rattle.storage.specs.Rows.Part.{part}
-use Rattle.storage.specs.Rows.Digits.{beNat}
+use Rattle.storage.specs.Rows.Digits.{be_nat}
 
 -- the identifier of row p
 unfoldable pub id_at : List ℕ → ℕ → ℕ
-id_at b p = beNat (part (p * 34) 32 b)
+id_at b p = be_nat (part (p * 34) 32 b)
 
 -- the bucket of an identifier and a number, of 1,024: one identifier's notes for different numbers go to different buckets
-abbrev pub bucketOf : ℕ → ℕ → ℕ
-bucketOf k l = (k + 32 * l) % 1024
+abbrev pub bucket_of : ℕ → ℕ → ℕ
+bucket_of k l = (k + 32 * l) % 1024
 
 -- the bucket of row p
 abbrev pub bucket : List ℕ → List ℕ → ℕ → ℕ
-bucket c b p = bucketOf (id_at b p) (get_or c p 0)
+bucket c b p = bucket_of (id_at b p) (get_or c p 0)
 
 -- s is one more than the latest row before i in the bucket h, or 0
 pub record Latest (c b : List ℕ) (i h s : ℕ) : Type 0 where

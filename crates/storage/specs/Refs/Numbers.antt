@@ -38,5 +38,5 @@ abbrev pub lower : ℕ → Ref → Ref
 lower i r = ref (lowered i r.place) r.own
 
 -- what is left of numbers and the rows beside them
-unfoldable pub lowerAll : ℕ → List Ref → List Ref
-lowerAll i rs = map (lower i) (filter (stays i) rs)
+unfoldable pub lower_all : ℕ → List Ref → List Ref
+lower_all i rs = map (lower i) (filter (stays i) rs)

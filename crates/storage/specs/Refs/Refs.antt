@@ -3,7 +3,7 @@
 use Rattle.std.specs.Prelude.{Bool, List, map, ℕ, ◌+◌, ◌-◌, ◌<◌, ltb, leb, length, get_or, drop, if◌then◌else◌}
 use Rattle.storage.specs.Lists.Base.{filter}
 use Rattle.storage.specs.Rows.Part.{part}
-use Rattle.storage.specs.Rows.Digits.{leNat}
+use Rattle.storage.specs.Rows.Digits.{le_nat}
 use Rattle.storage.specs.Rows.Rows.{rows}
 
 -- a row: the place, and the bytes after it
@@ -16,12 +16,12 @@ abbrev pub ref : ℕ → List ℕ → Ref
 ref p bytes = record { place = p; own = bytes }
 
 -- the row that bytes stand for
-unfoldable pub refOf : List ℕ → Ref
-refOf row = ref (leNat (part 0 2 row)) (drop 2 row)
+unfoldable pub ref_of : List ℕ → Ref
+ref_of row = ref (le_nat (part 0 2 row)) (drop 2 row)
 
 -- the first n rows of s bytes
 unfoldable pub refs : ℕ → ℕ → List ℕ → List Ref
-refs s n e = map refOf (rows s n e)
+refs s n e = map ref_of (rows s n e)
 
 -- the places of the rows
 abbrev pub places : List Ref → List ℕ

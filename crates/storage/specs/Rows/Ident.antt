@@ -10,10 +10,10 @@ abbrev pub id_of : Id → ℕ
 id_of i = ((i.w0 * 2 ^ 64 + i.w1) * 2 ^ 64 + i.w2) * 2 ^ 64 + i.w3
 
 -- the first if the test says yes, else the second
-abbrev pub pickOrder : Bool → Order → Order → Order
-pickOrder true a b = a
-pickOrder false a b = b
+abbrev pub pick_order : Bool → Order → Order → Order
+pick_order true a b = a
+pick_order false a b = b
 
 -- how a stands to b
 abbrev pub order_of : ℕ → ℕ → Order
-order_of a b = pickOrder (ltb a b) Less (pickOrder (eqb a b) Equal Greater)
+order_of a b = pick_order (ltb a b) Less (pick_order (eqb a b) Equal Greater)

@@ -2,7 +2,7 @@
 -- Assumes nothing.
 use Rattle.std.specs.Prelude.{ℕ, zero, suc, ◌+◌, ◌-◌, ◌*◌, Bool, not, List, [], ◌∷◌, eqb, take, drop, get_or}
 use Rattle.storage.specs.Rows.Part.{part, put}
-use Rattle.storage.specs.Rows.Digits.{leNat}
+use Rattle.storage.specs.Rows.Digits.{le_nat}
 
 -- the first n rows of s bytes
 unfoldable pub rows : ℕ → ℕ → List ℕ → List (List ℕ)
@@ -11,7 +11,7 @@ rows s (suc n) xs = take s xs ∷ rows s n (drop s xs)
 
 -- the number in the eight bytes at o of a row, low byte first
 unfoldable pub field_of : ℕ → List ℕ → ℕ
-field_of o row = leNat (part o 8 row)
+field_of o row = le_nat (part o 8 row)
 
 -- the byte at o of a row is not v
 abbrev pub differs : ℕ → ℕ → List ℕ → Bool

@@ -2,14 +2,14 @@
 -- Assumes nothing.
 use Rattle.std.specs.Prelude.{◌≡◌, Bool, true, false, List, map, ℕ, ◌≤◌, ◌<◌, length, get_or}
 use Rattle.storage.specs.Rows.Part.{part}
-use Rattle.storage.specs.Rows.Digits.{beNat}
+use Rattle.storage.specs.Rows.Digits.{be_nat}
 use Rattle.storage.specs.Rows.Rows.{rows}
 use Rattle.storage.specs.declared.rows.table.Found.{Found}
 use Rattle.storage.specs.declared.rows.table.Found.TheVariants.{At, Before}
 
 -- the key of a row
 unfoldable pub key_of : List ℕ → ℕ
-key_of row = beNat (part 0 32 row)
+key_of row = be_nat (part 0 32 row)
 
 -- the keys of the n rows
 unfoldable pub keys : ℕ → ℕ → List ℕ → List ℕ

@@ -2,7 +2,7 @@
 ghost use Rattle.std.specs.Prelude.{◌≡◌, ◌+◌, ◌*◌, ◌≤◌, ◌<◌, length};
 ghost use Rattle.storage.specs.Rows.Part.{part};
 ghost use Rattle.storage.specs.Refs.Refs.{shifted, Below};
-ghost use Rattle.storage.specs.Refs.Numbers.{raised, lowered, lowerAll, entries};
+ghost use Rattle.storage.specs.Refs.Numbers.{raised, lowered, lower_all, entries};
 
 use crate::refs::wide;
 use crate::rows::table;
@@ -45,7 +45,7 @@ fn lower_one(l: u8, i: usize) -> u8
 // Drops the number i and the rows beside it, lowers the numbers above it, and returns how many are left: n numbers at the start, and n rows at o.
 pub fn drop_number(b: &mut [u8], o: usize, stride: usize, n: usize, i: usize) -> usize
     requires { (n ≤ o) × (o + n * stride ≤ length b.old) }
-    ensures { (result ≤ n) × (entries o stride result b.new ≡ lowerAll i (entries o stride n b.old)) }
+    ensures { (result ≤ n) × (entries o stride result b.new ≡ lower_all i (entries o stride n b.old)) }
 {
     let mut k = 0;
     let mut j = 0;

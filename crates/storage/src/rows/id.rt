@@ -1,7 +1,7 @@
 // Identifiers of 32 bytes: four words by value, so that a comparison is at most four comparisons of words.
 ghost use Rattle.std.specs.Prelude.{◌≡◌, ◌+◌, ◌≤◌, length, eqb};
 ghost use Rattle.storage.specs.Rows.Part.{part, put};
-ghost use Rattle.storage.specs.Rows.Digits.{beNat, beBytes};
+ghost use Rattle.storage.specs.Rows.Digits.{be_nat, be_bytes};
 ghost use Rattle.storage.specs.Rows.Ident.{id_of, order_of};
 
 use crate::rows::word;
@@ -26,7 +26,7 @@ pub enum Order {
 // The identifier in the 32 bytes at `at`.
 pub fn load_id(b: &[u8], at: usize) -> Id
     requires { at + 32 ≤ length b.now }
-    ensures { id_of result ≡ beNat (part at 32 b.now) }
+    ensures { id_of result ≡ be_nat (part at 32 b.now) }
 {
     let w0 = word::load_high(b, at);
     let w1 = word::load_high(b, at + 8);
@@ -38,7 +38,7 @@ pub fn load_id(b: &[u8], at: usize) -> Id
 // Stores an identifier in the 32 bytes at `at`.
 pub fn store_id(b: &mut [u8], at: usize, id: Id)
     requires { at + 32 ≤ length b.old }
-    ensures { b.new ≡ put at (beBytes 32 (id_of id)) b.old }
+    ensures { b.new ≡ put at (be_bytes 32 (id_of id)) b.old }
 {
     word::store_high(b, at, id.w0);
     word::store_high(b, at + 8, id.w1);

@@ -2,7 +2,7 @@
 // bytes are turned round.
 ghost use Rattle.std.specs.Prelude.{◌≡◌, ◌+◌, ◌≤◌, ◌<◌, length};
 ghost use Rattle.storage.specs.Rows.Part.{part, put};
-ghost use Rattle.storage.specs.Rows.Digits.{leNat, le_bytes, beNat, beBytes, turned};
+ghost use Rattle.storage.specs.Rows.Digits.{le_nat, le_bytes, be_nat, be_bytes, turned};
 
 // A byte as a word.
 fn wide(x: u8) -> u64
@@ -28,7 +28,7 @@ pub fn store_le(b: &mut [u8], at: usize, k: usize, v: u64)
 // The number of the two bytes at `at`, low byte first.
 pub fn load2(b: &[u8], at: usize) -> u64
     requires { at + 2 ≤ length b.now }
-    ensures { (result ≡ leNat (part at 2 b.now)) × (result < 65536) }
+    ensures { (result ≡ le_nat (part at 2 b.now)) × (result < 65536) }
 {
     wide(b[at]) + 256 * wide(b[at + 1])
 }
@@ -36,7 +36,7 @@ pub fn load2(b: &[u8], at: usize) -> u64
 // The number of the four bytes at `at`, low byte first.
 pub fn load4(b: &[u8], at: usize) -> u64
     requires { at + 4 ≤ length b.now }
-    ensures { (result ≡ leNat (part at 4 b.now)) × (result < 4294967296) }
+    ensures { (result ≡ le_nat (part at 4 b.now)) × (result < 4294967296) }
 {
     load2(b, at) + 65536 * load2(b, at + 2)
 }
@@ -44,7 +44,7 @@ pub fn load4(b: &[u8], at: usize) -> u64
 // The number in the eight bytes at `at`, low byte first.
 pub fn load(b: &[u8], at: usize) -> u64
     requires { at + 8 ≤ length b.now }
-    ensures { result ≡ leNat (part at 8 b.now) }
+    ensures { result ≡ le_nat (part at 8 b.now) }
 {
     load4(b, at) + 4294967296 * load4(b, at + 4)
 }
@@ -73,7 +73,7 @@ fn turn8(v: u64) -> u64
 // The number in the eight bytes at `at`, high byte first.
 pub(crate) fn load_high(b: &[u8], at: usize) -> u64
     requires { at + 8 ≤ length b.now }
-    ensures { result ≡ beNat (part at 8 b.now) }
+    ensures { result ≡ be_nat (part at 8 b.now) }
 {
     turn8(load(b, at))
 }
@@ -89,7 +89,7 @@ pub fn store(b: &mut [u8], at: usize, v: u64)
 // Stores v in the eight bytes at `at`, high byte first.
 pub(crate) fn store_high(b: &mut [u8], at: usize, v: u64)
     requires { at + 8 ≤ length b.old }
-    ensures { b.new ≡ put at (beBytes 8 v) b.old }
+    ensures { b.new ≡ put at (be_bytes 8 v) b.old }
 {
     let w = turn8(v);
     store(b, at, w);

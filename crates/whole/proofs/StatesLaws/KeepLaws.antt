@@ -8,12 +8,12 @@ use native.Mathlib.Nat.{le_of_suc-le-suc, not-suc-le-zero, zero-add}
 use native.Mathlib.Omega.{arith}
 use borrow.Author.Tests.{eq-eqb, ne_eqb}
 use lib.ListN.{length, get_or, replicate, length-append, length-take, length-drop}
-use Rattle.storage.specs.Lists.Base.{concatMap}
+use Rattle.storage.specs.Lists.Base.{concat_map}
 use Rattle.storage.specs.Lists.Map.{Entry, lookup}
 use Rattle.storage.specs.Rows.Part.{put}
 use Rattle.storage.proofs.RowsLaws.Parts.{length-put, put-comm, put-over, put-within}
 use Rattle.whole.specs.States.Kept.{Kept, keep}
-use Rattle.whole.specs.States.Area.{rowBytes, area_bytes}
+use Rattle.whole.specs.States.Area.{row_bytes, area_bytes}
 use Rattle.whole.proofs.StatesLaws.Slots.{Sized, put-parts, slot-end, slot-start}
 use Rattle.whole.proofs.StatesLaws.AreaLaws.{nobody, length-row, X, Y, lr, lb, lx, ly}
 
@@ -79,10 +79,10 @@ module _ (n long : ℕ) (fits : 256 + n * 4 ≤ long) (ks : List (Entry Kept)) (
   pub sized-after : Sized nobody (λ k. k.value.block) n after
   sized-after = each-put nobody (λ (k : Entry Kept). length k.value.block ≡ n) x size ks sized i within
 
-  rows-after : concatMap rowBytes after ≡ put (26 * i) (rowBytes x) (concatMap rowBytes ks)
-  rows-after = put-parts nobody rowBytes 26 x (length-row x) ks (λ j l. length-row (get_or ks j nobody)) i within
+  rows-after : concat_map row_bytes after ≡ put (26 * i) (row_bytes x) (concat_map row_bytes ks)
+  rows-after = put-parts nobody row_bytes 26 x (length-row x) ks (λ j l. length-row (get_or ks j nobody)) i within
 
-  blocks-after : concatMap (λ k. k.value.block) after ≡ put (n * i) x.value.block (concatMap (λ k. k.value.block) ks)
+  blocks-after : concat_map (λ k. k.value.block) after ≡ put (n * i) x.value.block (concat_map (λ k. k.value.block) ks)
   blocks-after = put-parts nobody (λ k. k.value.block) n x size ks sized i within
 
   abbrev X₀ : List ℕ
@@ -98,7 +98,7 @@ module _ (n long : ℕ) (fits : 256 + n * 4 ≤ long) (ks : List (Entry Kept)) (
   Y₁ = Y n long fits after few-after sized-after
 
   abbrev B₀ : List ℕ
-  B₀ = concatMap (λ k. k.value.block) ks
+  B₀ = concat_map (λ k. k.value.block) ks
 
   b0 : length B₀ ≡ n * length ks
   b0 = lb n long fits ks few sized
@@ -109,15 +109,15 @@ module _ (n long : ℕ) (fits : 256 + n * 4 ≤ long) (ks : List (Entry Kept)) (
   finish : n * length ks ≤ n * 4
   finish = slot-start n (length ks) 4 few
 
-  row-x : put (26 * i) (rowBytes x) X₀ ≡ X₁
+  row-x : put (26 * i) (row_bytes x) X₀ ≡ X₁
   row-x =
-      ap (λ (m : ℕ). put m (rowBytes x) X₀) (sym (zero-add (26 * i)))
-      ∙ put-within 0 (26 * i) (rowBytes x) (concatMap rowBytes ks) (replicate long 0) (omega (arith, lr n long fits ks few sized)) (omega arith)
+      ap (λ (m : ℕ). put m (row_bytes x) X₀) (sym (zero-add (26 * i)))
+      ∙ put-within 0 (26 * i) (row_bytes x) (concat_map row_bytes ks) (replicate long 0) (omega (arith, lr n long fits ks few sized)) (omega arith)
       ∙ ap (λ (t : List ℕ). put 0 t (replicate long 0)) (sym rows-after)
 
-  row-y : put (26 * i) (rowBytes x) Y₀ ≡ put 256 B₀ X₁
+  row-y : put (26 * i) (row_bytes x) Y₀ ≡ put 256 B₀ X₁
   row-y =
-      put-comm (26 * i) 256 (rowBytes x) B₀ X₀ (omega (arith, length-row x)) (omega (arith, b0, lx n long fits ks few sized, finish))
+      put-comm (26 * i) 256 (row_bytes x) B₀ X₀ (omega (arith, length-row x)) (omega (arith, b0, lx n long fits ks few sized, finish))
       ∙ ap (put 256 B₀) row-x
 
   block-y : put (256 + n * i) x.value.block (put 256 B₀ X₁) ≡ Y₁
@@ -129,12 +129,12 @@ module _ (n long : ℕ) (fits : 256 + n * 4 ≤ long) (ks : List (Entry Kept)) (
   long-y = length-put 256 B₀ X₁ (omega (arith, b0, finish, lx n long fits after few-after sized-after)) ∙ lx n long fits after few-after sized-after
 
   pub saved-bytes : (c : ℕ) → c ≡ i + 1 + (length ks - (i + 1))
-      → put 255 (c ∷ []) (put (256 + n * i) x.value.block (put (26 * i) (rowBytes x) (area_bytes long ks))) ≡ area_bytes long after
+      → put 255 (c ∷ []) (put (256 + n * i) x.value.block (put (26 * i) (row_bytes x) (area_bytes long ks))) ≡ area_bytes long after
   unfolding area_bytes
   saved-bytes c e =
       let k : List ℕ = length ks ∷ [] in
       ap (λ (t : List ℕ). put 255 (c ∷ []) (put (256 + n * i) x.value.block t))
-      (put-comm (26 * i) 255 (rowBytes x) k Y₀ (omega (arith, length-row x)) (omega (arith, ly n long fits ks few sized)) ∙ ap (put 255 k) row-y)
+      (put-comm (26 * i) 255 (row_bytes x) k Y₀ (omega (arith, length-row x)) (omega (arith, ly n long fits ks few sized)) ∙ ap (put 255 k) row-y)
       ∙ ap (put 255 (c ∷ []))
       (sym (put-comm 255 (256 + n * i) k x.value.block (put 256 B₀ X₁) (omega arith) (omega (arith, size, long-y, slot-end n i 4 room))) ∙ ap (put 255 k) block-y)
       ∙ put-over 255 k (c ∷ []) Y₁ refl (omega (arith, ly n long fits after few-after sized-after))

@@ -10,10 +10,10 @@ use native.Mathlib.Omega.{arith}
 use lib.ListN.{length, get_or, length-append}
 use Rattle.storage.proofs.ListsLaws.MapLaws.{true≢}
 use Rattle.storage.specs.Rows.Part.{part, put}
-use Rattle.storage.specs.Rows.Digits.{leNat}
+use Rattle.storage.specs.Rows.Digits.{le_nat}
 use Rattle.storage.proofs.RowsLaws.Parts.{put-put-next, get_d_part}
 use Rattle.storage.proofs.RefsLaws.Shifts.{low_or_high}
-use Rattle.whole.specs.Held.{wholeBlock}
+use Rattle.whole.specs.Held.{whole_block}
 use Rattle.whole.specs.States.Area.{name_at}
 use Rattle.whole.specs.States.Calls.{Tells, Zeros, SlotsHold}
 
@@ -26,14 +26,14 @@ zeros-more a i xs z e j h l = go (eq-or-lt_of_le (let m : j ≤ i = omega arith 
     go (inr q) = z j h q
 
 -- a number that is 0 is so byte by byte
-zero-bytes : (bs : List ℕ) → leNat bs ≡ 0 → (j : ℕ) → get_or bs j 0 ≡ 0
-unfolding leNat
+zero-bytes : (bs : List ℕ) → le_nat bs ≡ 0 → (j : ℕ) → get_or bs j 0 ≡ 0
+unfolding le_nat
 zero-bytes [] e j = refl
 zero-bytes (b ∷ bs) e zero = omega (arith, e)
 zero-bytes (b ∷ bs) e (suc j) = zero-bytes bs (omega (arith, e)) j
 
 -- eight more zeros
-pub zeros-word : (a i : ℕ) (xs : List ℕ) → Zeros a i xs → leNat (part i 8 xs) ≡ 0 → Zeros a (i + 8) xs
+pub zeros-word : (a i : ℕ) (xs : List ℕ) → Zeros a i xs → le_nat (part i 8 xs) ≡ 0 → Zeros a (i + 8) xs
 zeros-word a i xs z e j h l = go (low_or_high i j)
   where
     go : (j < i) ⊎ (i ≤ j) → get_or xs j 0 ≡ 0
@@ -68,7 +68,7 @@ four-puts xs at a b c d la lb lc ld h =
     ∙ ap (λ (t : List ℕ). put at t xs) (simp append_assoc)
 
 -- one more slot
-pub slots-more : (n i : ℕ) (area : List ℕ) → SlotsHold n i area → ((j : ℕ) → j < i → name_at area j ≡ name_at area i → ⊥) → wholeBlock (part (256 + n * i) n area) ≡ true → SlotsHold n (i + 1) area
+pub slots-more : (n i : ℕ) (area : List ℕ) → SlotsHold n i area → ((j : ℕ) → j < i → name_at area j ≡ name_at area i → ⊥) → whole_block (part (256 + n * i) n area) ≡ true → SlotsHold n (i + 1) area
 slots-more n i area h fresh w = record {
   names = λ p q l g e. by_name p q l (eq-or-lt_of_le (let m : q ≤ i = omega (arith, g) in m)) e;
   wholes = λ j g. by_place j (eq-or-lt_of_le (let m : j ≤ i = omega (arith, g) in m));
@@ -78,6 +78,6 @@ slots-more n i area h fresh w = record {
     by_name p q l (inl t) e = fresh p (omega arith) (e ∙ ap (name_at area) t)
     by_name p q l (inr t) e = h.names p q l t e
 
-    by_place : (j : ℕ) → (j ≡ i) ⊎ (j < i) → wholeBlock (part (256 + n * j) n area) ≡ true
-    by_place j (inl t) = ap (λ (m : ℕ). wholeBlock (part (256 + n * m) n area)) t ∙ w
+    by_place : (j : ℕ) → (j ≡ i) ⊎ (j < i) → whole_block (part (256 + n * j) n area) ≡ true
+    by_place j (inl t) = ap (λ (m : ℕ). whole_block (part (256 + n * m) n area)) t ∙ w
     by_place j (inr t) = h.wholes j t

@@ -8,7 +8,7 @@ use borrow.Author.Tests.{le-leb, lt-leb}
 use lib.Dec.{leb}
 use Rattle.block.specs.declared.head.Limits.{Limits}
 use Rattle.block.specs.declared.head.Live.{Live}
-use Rattle.whole.specs.Held.{countsWithin}
+use Rattle.whole.specs.Held.{counts_within}
 use Rattle.whole.proofs.Tests.{stops, ends, from_each}
 use Rattle.whole.proofs.counts_within.Goals as goal
 
@@ -34,7 +34,7 @@ abbrev last : Limits → Live → Bool
 last l v = leb v.dropped l.dropped
 
 pub returns-then-l-v : goal.returns-then-l-v
-unfolding countsWithin
+unfolding counts_within
 returns-then-l-v c =
     let a = c.args in
     let l = a.l in
@@ -42,7 +42,7 @@ returns-then-l-v c =
     sym (stops (first l v) (between l v ++ (last l v ∷ [])) 0 (lt-leb v.links l.neighbours c.if-l-v.true))
 
 pub returns-then-l-v-2 : goal.returns-then-l-v-2
-unfolding countsWithin
+unfolding counts_within
 returns-then-l-v-2 c =
     let a = c.args in
     let l = a.l in
@@ -53,7 +53,7 @@ pub overflow_mul-l : goal.overflow_mul-l
 overflow_mul-l c = omega (arith, c.requires)
 
 pub returns-then-l-v-3 : goal.returns-then-l-v-3
-unfolding countsWithin
+unfolding counts_within
 returns-then-l-v-3 c =
     let a = c.args in
     let l = a.l in
@@ -61,7 +61,7 @@ returns-then-l-v-3 c =
     sym (stops (first l v) (between l v ++ (last l v ∷ [])) 2 (lt-leb v.received_rows (2 * l.received) c.if-l-v-3.true))
 
 pub returns-then-l-v-4 : goal.returns-then-l-v-4
-unfolding countsWithin
+unfolding counts_within
 returns-then-l-v-4 c =
     let a = c.args in
     let l = a.l in
@@ -72,7 +72,7 @@ pub overflow_mul-l-2 : goal.overflow_mul-l-2
 overflow_mul-l-2 c = omega (arith, c.requires)
 
 pub returns-then-l-v-5 : goal.returns-then-l-v-5
-unfolding countsWithin
+unfolding counts_within
 returns-then-l-v-5 c =
     let a = c.args in
     let l = a.l in
@@ -80,7 +80,7 @@ returns-then-l-v-5 c =
     sym (stops (first l v) (between l v ++ (last l v ∷ [])) 4 (lt-leb v.cached_rows (2 * l.cached) c.if-l-v-5.true))
 
 pub returns-then-l-v-6 : goal.returns-then-l-v-6
-unfolding countsWithin
+unfolding counts_within
 returns-then-l-v-6 c =
     let a = c.args in
     let l = a.l in
@@ -88,7 +88,7 @@ returns-then-l-v-6 c =
     sym (stops (first l v) (between l v ++ (last l v ∷ [])) 5 (lt-leb v.contents l.content c.if-l-v-6.true))
 
 pub returns-then-l-v-7 : goal.returns-then-l-v-7
-unfolding countsWithin
+unfolding counts_within
 returns-then-l-v-7 c =
     let a = c.args in
     let l = a.l in
@@ -99,7 +99,7 @@ pub overflow_mul-l-3 : goal.overflow_mul-l-3
 overflow_mul-l-3 c = omega (arith, c.requires)
 
 pub returns-then-l-v-8 : goal.returns-then-l-v-8
-unfolding countsWithin
+unfolding counts_within
 returns-then-l-v-8 c =
     let a = c.args in
     let l = a.l in
@@ -107,7 +107,7 @@ returns-then-l-v-8 c =
     sym (stops (first l v) (between l v ++ (last l v ∷ [])) 7 (lt-leb v.grafted_rows (2 * l.grafted) c.if-l-v-8.true))
 
 pub returns-then-l-v-9 : goal.returns-then-l-v-9
-unfolding countsWithin
+unfolding counts_within
 returns-then-l-v-9 c =
     let a = c.args in
     let l = a.l in
@@ -115,7 +115,7 @@ returns-then-l-v-9 c =
     sym (stops (first l v) (between l v ++ (last l v ∷ [])) 8 (lt-leb v.missing l.missing c.if-l-v-9.true))
 
 pub returns-then-l-v-10 : goal.returns-then-l-v-10
-unfolding countsWithin
+unfolding counts_within
 returns-then-l-v-10 c =
     let a = c.args in
     let l = a.l in
@@ -123,7 +123,7 @@ returns-then-l-v-10 c =
     sym (stops (first l v) (between l v ++ (last l v ∷ [])) 9 (lt-leb v.timers l.timers c.if-l-v-10.true))
 
 pub returns-then-l-v-11 : goal.returns-then-l-v-11
-unfolding countsWithin
+unfolding counts_within
 returns-then-l-v-11 c =
     let a = c.args in
     let l = a.l in
@@ -131,7 +131,7 @@ returns-then-l-v-11 c =
     sym (stops (first l v) (between l v ++ (last l v ∷ [])) 10 (lt-leb v.queued l.queued c.if-l-v-11.true))
 
 pub returns : goal.returns
-unfolding countsWithin
+unfolding counts_within
 returns c =
     let a = c.args in
     let l = a.l in

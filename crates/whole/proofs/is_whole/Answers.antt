@@ -10,15 +10,15 @@ use borrow.Author.Tests.{le-leb, lt-leb}
 use lib.Dec.{leb}
 use lib.ListN.{length}
 use Rattle.storage.proofs.ListsLaws.MapLaws.{and_intro}
-use Rattle.protocol.specs.State.{sizeInRange, durationsInRange, limitsInRange, blockNeed}
-use Rattle.block.specs.View.{settingsOf, limitsOf}
-use Rattle.block.specs.Header.{word_at, headIn}
+use Rattle.protocol.specs.State.{size_in_range, durations_in_range, limits_in_range, block_need}
+use Rattle.block.specs.View.{settings_of, limits_of}
+use Rattle.block.specs.Header.{word_at, head_in}
 use Rattle.block.specs.declared.head.Head.{Head}
-use Rattle.whole.specs.Held.{hasTables, countsWithin}
-use Rattle.whole.specs.Parts.{tablesWhole, flagsWith}
+use Rattle.whole.specs.Held.{has_tables, counts_within}
+use Rattle.whole.specs.Parts.{tables_whole, flags_with}
 use Rattle.whole.proofs.Tests.{Each, stops, ends, from_each, no, yes}
 use Rattle.whole.proofs.HeldLaws.{ceilings-of, fit_of}
-use Rattle.whole.proofs.WholeLaws.{firstTest, laterTests, whole-told}
+use Rattle.whole.proofs.WholeLaws.{first_test, later_tests, whole-told}
 use Rattle.whole.proofs.is_whole.Goals as goal
 use Rattle.whole.proofs.is_whole.Goals.{Else-not-flags}
 
@@ -26,16 +26,16 @@ use Rattle.whole.proofs.is_whole.Goals.{Else-not-flags}
 abbrev between : Head → List ℕ → List Bool
 between h xs =
     leb (word_at 24 xs) 65535
-    ∷ limitsInRange (limitsOf h.limits)
-    ∷ leb (blockNeed (limitsOf h.limits)) (length xs)
-    ∷ countsWithin (limitsOf h.limits) h.live
-    ∷ sizeInRange (settingsOf h.settings)
-    ∷ durationsInRange (settingsOf h.settings)
-    ∷ flagsWith h.live
+    ∷ limits_in_range (limits_of h.limits)
+    ∷ leb (block_need (limits_of h.limits)) (length xs)
+    ∷ counts_within (limits_of h.limits) h.live
+    ∷ size_in_range (settings_of h.settings)
+    ∷ durations_in_range (settings_of h.settings)
+    ∷ flags_with h.live
     ∷ []
 
 -- past them all, each is answered yes
-passed : (c : Else-not-flags) → Each (firstTest c.args.block.now ∷ between c.load_head-h.result c.args.block.now)
+passed : (c : Else-not-flags) → Each (first_test c.args.block.now ∷ between c.load_head-h.result c.args.block.now)
 passed c =
     let xs = c.args.block.now in
     let h = c.load_head-h.result in
@@ -46,7 +46,7 @@ passed c =
         (
           yes c.limits_in_range-limits.ensures (ap not c.if-not-limits.false),
           (
-            le-leb (blockNeed (limitsOf h.limits)) (length xs) (omega (arith, need.ensures, c.if-block-need.false)),
+            le-leb (block_need (limits_of h.limits)) (length xs) (omega (arith, need.ensures, c.if-block-need.false)),
             (
               yes c.counts_within-counts.ensures (ap not c.if-not-counts.false),
               (
@@ -65,57 +65,57 @@ passed c =
 pub returns-then-block-lt2048 : goal.returns-then-block-lt2048
 returns-then-block-lt2048 c =
     let xs = c.args.block.now in
-    sym (stops (firstTest xs) (laterTests (headIn xs) xs) 0 (lt-leb 2048 (length xs) c.if-block-lt2048.true)) ∙ whole-told xs (headIn xs) refl
+    sym (stops (first_test xs) (later_tests (head_in xs) xs) 0 (lt-leb 2048 (length xs) c.if-block-lt2048.true)) ∙ whole-told xs (head_in xs) refl
 
 pub returns-then-threshold-gt65535 : goal.returns-then-threshold-gt65535
 returns-then-threshold-gt65535 c =
     let xs = c.args.block.now in
-    sym (stops (firstTest xs) (laterTests (headIn xs) xs) 1 (lt-leb (word_at 24 xs) 65535 (omega (arith, c.load-threshold.ensures, c.if-threshold-gt65535.true)))) ∙ whole-told xs (headIn xs) refl
+    sym (stops (first_test xs) (later_tests (head_in xs) xs) 1 (lt-leb (word_at 24 xs) 65535 (omega (arith, c.load-threshold.ensures, c.if-threshold-gt65535.true)))) ∙ whole-told xs (head_in xs) refl
 
 pub returns-then-not-limits : goal.returns-then-not-limits
 returns-then-not-limits c =
     let h = c.load_head-h.result in
     let xs = c.args.block.now in
-    sym (stops (firstTest xs) (laterTests h xs) 2 (no c.limits_in_range-limits.ensures (ap not c.if-not-limits.true))) ∙ whole-told xs h c.load_head-h.ensures
+    sym (stops (first_test xs) (later_tests h xs) 2 (no c.limits_in_range-limits.ensures (ap not c.if-not-limits.true))) ∙ whole-told xs h c.load_head-h.ensures
 
 pub block_need-need-requires : goal.block_need-need-requires
-block_need-need-requires c = ceilings-of (limitsOf c.load_head-h.result.limits) (yes c.limits_in_range-limits.ensures (ap not c.if-not-limits.false))
+block_need-need-requires c = ceilings-of (limits_of c.load_head-h.result.limits) (yes c.limits_in_range-limits.ensures (ap not c.if-not-limits.false))
 
 pub returns-then-block-need : goal.returns-then-block-need
 returns-then-block-need c =
     let h = c.load_head-h.result in
     let xs = c.args.block.now in
-    sym (stops (firstTest xs) (laterTests h xs) 3 (lt-leb (blockNeed (limitsOf h.limits)) (length xs) (omega (arith, c.block_need-need.ensures, c.if-block-need.true)))) ∙ whole-told xs h c.load_head-h.ensures
+    sym (stops (first_test xs) (later_tests h xs) 3 (lt-leb (block_need (limits_of h.limits)) (length xs) (omega (arith, c.block_need-need.ensures, c.if-block-need.true)))) ∙ whole-told xs h c.load_head-h.ensures
 
 pub counts_within-counts-requires : goal.counts_within-counts-requires
-counts_within-counts-requires c = ceilings-of (limitsOf c.load_head-h.result.limits) (yes c.limits_in_range-limits.ensures (ap not c.if-not-limits.false))
+counts_within-counts-requires c = ceilings-of (limits_of c.load_head-h.result.limits) (yes c.limits_in_range-limits.ensures (ap not c.if-not-limits.false))
 
 pub returns-then-not-counts : goal.returns-then-not-counts
 returns-then-not-counts c =
     let h = c.load_head-h.result in
     let xs = c.args.block.now in
-    sym (stops (firstTest xs) (laterTests h xs) 4 (no c.counts_within-counts.ensures (ap not c.if-not-counts.true))) ∙ whole-told xs h c.load_head-h.ensures
+    sym (stops (first_test xs) (later_tests h xs) 4 (no c.counts_within-counts.ensures (ap not c.if-not-counts.true))) ∙ whole-told xs h c.load_head-h.ensures
 
 pub returns-then-not-size : goal.returns-then-not-size
 returns-then-not-size c =
     let h = c.load_head-h.result in
     let xs = c.args.block.now in
-    sym (stops (firstTest xs) (laterTests h xs) 5 (no c.size_in_range-size.ensures (ap not c.if-not-size.true))) ∙ whole-told xs h c.load_head-h.ensures
+    sym (stops (first_test xs) (later_tests h xs) 5 (no c.size_in_range-size.ensures (ap not c.if-not-size.true))) ∙ whole-told xs h c.load_head-h.ensures
 
 pub returns-then-not-durations : goal.returns-then-not-durations
 returns-then-not-durations c =
     let h = c.load_head-h.result in
     let xs = c.args.block.now in
-    sym (stops (firstTest xs) (laterTests h xs) 6 (no c.durations_in_range-durations.ensures (ap not c.if-not-durations.true))) ∙ whole-told xs h c.load_head-h.ensures
+    sym (stops (first_test xs) (later_tests h xs) 6 (no c.durations_in_range-durations.ensures (ap not c.if-not-durations.true))) ∙ whole-told xs h c.load_head-h.ensures
 
 pub returns-then-not-flags : goal.returns-then-not-flags
 returns-then-not-flags c =
     let h = c.load_head-h.result in
     let xs = c.args.block.now in
-    sym (stops (firstTest xs) (laterTests h xs) 7 (no c.flags_stand-flags.ensures (ap not c.if-not-flags.true))) ∙ whole-told xs h c.load_head-h.ensures
+    sym (stops (first_test xs) (later_tests h xs) 7 (no c.flags_stand-flags.ensures (ap not c.if-not-flags.true))) ∙ whole-told xs h c.load_head-h.ensures
 
 pub tables_whole-requires : goal.tables_whole-requires
-unfolding hasTables
+unfolding has_tables
 tables_whole-requires c =
     let p = passed c in
     fit_of c.load_head-h.result c.args.block.now (and_intro p.1.1.0 p.1.1.1.0) p.1.1.1.1.0
@@ -124,4 +124,4 @@ pub returns : goal.returns
 returns c =
     let h = c.load_head-h.result in
     let xs = c.args.block.now in
-    c.tables_whole.ensures ∙ sym (ends (firstTest xs) (between h xs) (tablesWhole h xs) (from_each (firstTest xs) (between h xs) (passed (goal.at.returns c).Else-not-flags))) ∙ whole-told xs h c.load_head-h.ensures
+    c.tables_whole.ensures ∙ sym (ends (first_test xs) (between h xs) (tables_whole h xs) (from_each (first_test xs) (between h xs) (passed (goal.at.returns c).Else-not-flags))) ∙ whole-told xs h c.load_head-h.ensures

@@ -1,55 +1,55 @@
--- Request d: what the functions promise.
+-- "Named states": what the functions promise.
 -- Assumes nothing.
 use Rattle.std.specs.Prelude.{ℕ, ◌+◌, ◌*◌, ◌≤◌, ◌<◌, ◌≡◌, Bool, true, false, List, get_or}
 use Rattle.storage.specs.Rows.Part.{part}
 use Rattle.protocol.specs.State.{Counts}
-use Rattle.whole.specs.Held.{wholeBlock}
-use Rattle.whole.specs.States.Area.{name_at, SaveAnswer, notSaved, savedTo, save, ReturnAnswer, notReturned, broughtBack, goBack}
+use Rattle.whole.specs.Held.{whole_block}
+use Rattle.whole.specs.States.Area.{name_at, SaveAnswer, not_saved, saved_to, save, ReturnAnswer, not_returned, brought_back, go_back}
 use Rattle.whole.specs.declared.states.Counts.{Counts as KeptCounts}
 use Rattle.whole.specs.declared.states.Returned.{Returned}
 use Rattle.whole.specs.declared.states.Returned.TheVariants.{Refused, Brought}
 
 -- a saving's number: "Answer 0 is yes to all"
-unfoldable pub saveNumber : SaveAnswer → ℕ
-saveNumber (notSaved n) = n
-saveNumber (savedTo area') = 0
+unfoldable pub save_number : SaveAnswer → ℕ
+save_number (not_saved n) = n
+save_number (saved_to area') = 0
 
 -- the area after it: "Neither a return nor a refusal changes the area"
-unfoldable pub areaLeft : SaveAnswer → List ℕ → List ℕ
-areaLeft (notSaved n) area = area
-areaLeft (savedTo area') area = area'
+unfoldable pub area_left : SaveAnswer → List ℕ → List ℕ
+area_left (not_saved n) area = area
+area_left (saved_to area') area = area'
 
 -- a saving: from the area before it to the area after it, with its answer and the output's length; block and counts are only read
-pub record Saves (block : List ℕ) (counts : Counts) (area : List ℕ) (name : ℕ) (area' : List ℕ) (answer outputLength : ℕ) : Type 0 where
-  pub number : answer ≡ saveNumber (save block counts area name)
-  pub long : outputLength ≡ 0
-  pub left : area' ≡ areaLeft (save block counts area name) area
+pub record Saves (block : List ℕ) (counts : Counts) (area : List ℕ) (name : ℕ) (area' : List ℕ) (answer output_length : ℕ) : Type 0 where
+  pub number : answer ≡ save_number (save block counts area name)
+  pub long : output_length ≡ 0
+  pub left : area' ≡ area_left (save block counts area name) area
 
 -- a return's number
-unfoldable pub returnNumber : ReturnAnswer → ℕ
-returnNumber (notReturned n) = n
-returnNumber (broughtBack k) = 0
+unfoldable pub return_number : ReturnAnswer → ℕ
+return_number (not_returned n) = n
+return_number (brought_back k) = 0
 
 -- the block after it: "Returning brings back block and counts in full"
-unfoldable pub blockLeft : ReturnAnswer → List ℕ → List ℕ
-blockLeft (notReturned n) block = block
-blockLeft (broughtBack k) block = k.block
+unfoldable pub block_left : ReturnAnswer → List ℕ → List ℕ
+block_left (not_returned n) block = block
+block_left (brought_back k) block = k.block
 
 -- the counts after it
-unfoldable pub countsLeft : ReturnAnswer → Counts → Counts
-countsLeft (notReturned n) counts = counts
-countsLeft (broughtBack k) counts = k.counts
+unfoldable pub counts_left : ReturnAnswer → Counts → Counts
+counts_left (not_returned n) counts = counts
+counts_left (brought_back k) counts = k.counts
 
 -- a return: from block and counts before it to those after it, with its answer and the output's length; the area is only read
-pub record Returns (block : List ℕ) (counts : Counts) (area : List ℕ) (name : ℕ) (block' : List ℕ) (counts' : Counts) (answer outputLength : ℕ) : Type 0 where
-  pub number : answer ≡ returnNumber (goBack block area name)
-  pub long : outputLength ≡ 0
-  pub back : block' ≡ blockLeft (goBack block area name) block
-  pub left : counts' ≡ countsLeft (goBack block area name) counts
+pub record Returns (block : List ℕ) (counts : Counts) (area : List ℕ) (name : ℕ) (block' : List ℕ) (counts' : Counts) (answer output_length : ℕ) : Type 0 where
+  pub number : answer ≡ return_number (go_back block area name)
+  pub long : output_length ≡ 0
+  pub back : block' ≡ block_left (go_back block area name) block
+  pub left : counts' ≡ counts_left (go_back block area name) counts
 
 -- the counts as the code has them
-abbrev pub countsOf : KeptCounts → Counts
-countsOf c = record { payload = c.payload; control = c.control; hops = c.hops }
+abbrev pub counts_of : KeptCounts → Counts
+counts_of c = record { payload = c.payload; control = c.control; hops = c.hops }
 
 -- the number of what `go_back` answers
 abbrev pub number_of : Returned → ℕ
@@ -57,13 +57,13 @@ number_of (Refused n) = n
 number_of (Brought c) = 0
 
 -- the counts after it, of a panel that had the old ones
-abbrev pub countsAfter : Returned → Counts → Counts
-countsAfter (Refused n) old = old
-countsAfter (Brought c) old = countsOf c
+abbrev pub counts_after : Returned → Counts → Counts
+counts_after (Refused n) old = old
+counts_after (Brought c) old = counts_of c
 
 -- what `go_back` answers and leaves, whatever counts the panel has
 abbrev pub GoesBack : List ℕ → List ℕ → ℕ → List ℕ → Returned → Type 0
-GoesBack block area name block' r = (old : Counts) → Returns block old area name block' (countsAfter r old) (number_of r) 0
+GoesBack block area name block' r = (old : Counts) → Returns block old area name block' (counts_after r old) (number_of r) 0
 
 -- what a test answers
 abbrev pub Tells : Type 0 → Bool → Type 0
@@ -83,4 +83,4 @@ pub record Placed (k name : ℕ) (area : List ℕ) (r : ℕ) : Type 0 where
 -- the first k names differ, and the first k blocks are whole
 pub record SlotsHold (n k : ℕ) (area : List ℕ) : Type 0 where
   pub names : (p q : ℕ) → p < q → q < k → name_at area p ≡ name_at area q → ⊥
-  pub wholes : (i : ℕ) → i < k → wholeBlock (part (256 + n * i) n area) ≡ true
+  pub wholes : (i : ℕ) → i < k → whole_block (part (256 + n * i) n area) ≡ true

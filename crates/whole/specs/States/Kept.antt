@@ -1,4 +1,4 @@
--- Request d: what an area keeps, "Up to four states .. under eight-byte names", in the order in which the names were first saved.
+-- "Named states": what an area keeps, "Up to four states .. under eight-byte names", in the order in which the names were first saved.
 -- Assumes nothing.
 use Rattle.std.specs.Prelude.{List, [], ◌∷◌, eqb, ℕ, if◌then◌else◌}
 use Rattle.storage.specs.Lists.Map.{Entry}

@@ -8,11 +8,11 @@ use native.Mathlib.Numerals.{add-one}
 use lib.ListN.{length, get_or, drop, length-drop, drop_of_length-le}
 use lib.Seq.{drop-cons, drop-drop}
 use borrow.Author.Tests.{le-leb, lt-leb, lt-ltb, le-ltb}
-use Rattle.storage.specs.Rows.Digits.{beFrom, beNat}
+use Rattle.storage.specs.Rows.Digits.{be_from, be_nat}
 use Rattle.storage.specs.Rows.Part.{part}
 use Rattle.std.specs.Prelude.{if◌then◌else◌}
 use lib.Dec.{ltb}
-use Rattle.postcard.specs.Number.{Read, got, fault, ◌then◌, fromBigEndian, readKind, readBytes, readId}
+use Rattle.postcard.specs.Number.{Read, got, fault, ◌then◌, from_big_endian, read_kind, read_bytes, read_id}
 use Rattle.postcard.specs.Place.{Placed, placed, refused, Reads}
 
 module _ {A : Type 0} {bytes : List ℕ} where
@@ -35,8 +35,8 @@ module _ {A : Type 0} {bytes : List ℕ} where
 
 module _ (bytes : List ℕ) (at : ℕ) where
   -- a kind past the end
-  pub kind-none : (kinds : ℕ) → length bytes ≤ at → Reads bytes (refused 7) (readKind kinds (drop at bytes))
-  unfolding readKind
+  pub kind-none : (kinds : ℕ) → length bytes ≤ at → Reads bytes (refused 7) (read_kind kinds (drop at bytes))
+  unfolding read_kind
   kind-none kinds h = record { same = rw (drop_of_length-le bytes h) refl; inside = tt }
 
   module _ (within : at < length bytes) where
@@ -44,37 +44,37 @@ module _ (bytes : List ℕ) (at : ℕ) where
     from = drop-cons bytes at 0 within ∙ ap (λ (n : ℕ). get_or bytes at 0 ∷ drop n bytes) (sym (add-one at))
 
     -- a known kind
-    pub kind-known : (kinds k : ℕ) → get_or bytes at 0 ≡ k → k < kinds → Reads bytes (placed k (at + 1)) (readKind kinds (drop at bytes))
-    unfolding readKind
+    pub kind-known : (kinds k : ℕ) → get_or bytes at 0 ≡ k → k < kinds → Reads bytes (placed k (at + 1)) (read_kind kinds (drop at bytes))
+    unfolding read_kind
     kind-known kinds k e h = record { same = rw (from, e, lt-ltb k kinds h) refl; inside = omega arith }
 
     -- an unknown kind
-    pub kind-unknown : (kinds : ℕ) → kinds ≤ get_or bytes at 0 → Reads bytes (refused 8) (readKind kinds (drop at bytes))
-    unfolding readKind
+    pub kind-unknown : (kinds : ℕ) → kinds ≤ get_or bytes at 0 → Reads bytes (refused 8) (read_kind kinds (drop at bytes))
+    unfolding read_kind
     kind-unknown kinds h = record { same = rw (from, le-ltb (get_or bytes at 0) kinds h) refl; inside = tt }
 
   -- bytes that are there
-  pub bytes-some : (n : ℕ) → at + n ≤ length bytes → Reads bytes (placed (part at n bytes) (at + n)) (readBytes n (drop at bytes))
-  unfolding readBytes part
+  pub bytes-some : (n : ℕ) → at + n ≤ length bytes → Reads bytes (placed (part at n bytes) (at + n)) (read_bytes n (drop at bytes))
+  unfolding read_bytes part
   bytes-some n h =
       record { same = rw (le-leb n (length (drop at bytes)) (rw length-drop (omega arith)), drop-drop n at bytes) refl; inside = h }
 
   -- and that are not
-  pub bytes-none : (n : ℕ) → length bytes - at < n → Reads bytes (refused 7) (readBytes n (drop at bytes))
-  unfolding readBytes
+  pub bytes-none : (n : ℕ) → length bytes - at < n → Reads bytes (refused 7) (read_bytes n (drop at bytes))
+  unfolding read_bytes
   bytes-none n h = record { same = rw (lt-leb n (length (drop at bytes)) (rw length-drop h)) refl; inside = tt }
 
 -- identifiers: `rows` and the definitions here say the same number of bytes
-pub be-from : (high : ℕ) (bs : List ℕ) → beFrom high bs ≡ fromBigEndian high bs
-unfolding beFrom fromBigEndian
+pub be-from : (high : ℕ) (bs : List ℕ) → be_from high bs ≡ from_big_endian high bs
+unfolding be_from from_big_endian
 be-from high [] = refl
 be-from high (b ∷ bs) = be-from (high * 256 + b) bs
 
 module _ (bytes : List ℕ) (at : ℕ) where
-  pub id-some : (id : ℕ) → at + 32 ≤ length bytes → id ≡ beNat (part at 32 bytes) → Reads bytes (placed id (at + 32)) (readId (drop at bytes))
-  unfolding readId
+  pub id-some : (id : ℕ) → at + 32 ≤ length bytes → id ≡ be_nat (part at 32 bytes) → Reads bytes (placed id (at + 32)) (read_id (drop at bytes))
+  unfolding read_id
   id-some id h e = rw (e, be-from 0 (part at 32 bytes)) (reads_then _ (bytes-some bytes at 32 h) (reads-got h))
 
-  pub id-none : length bytes - at < 32 → Reads bytes (refused 7) (readId (drop at bytes))
-  unfolding readId
+  pub id-none : length bytes - at < 32 → Reads bytes (refused 7) (read_id (drop at bytes))
+  unfolding read_id
   id-none h = reads-refused _ (bytes-none bytes at 32 h)

@@ -10,7 +10,7 @@ use lib.Dec.{ltb}
 use lib.ListN.{length-take}
 use lib.Seq.{drop-drop}
 use native.Mathlib.Nat.{pow-suc}
-use Rattle.postcard.specs.Number.{groups, numberBytes, idBytes}
+use Rattle.postcard.specs.Number.{groups, number_bytes, id_bytes}
 use Rattle.postcard.proofs.Lengths.{length-id}
 use Rattle.postcard.proofs.Writes.{last-group, next-group}
 use Rattle.std.proofs.lemmas.List.{append-nil, take_more_set, drop-set-lt, take-append-drop}
@@ -45,7 +45,7 @@ groups-some (suc more) w = some (ltb w 128)
 pub length_both : (xs ys : List ℕ) → length (xs ++ ys) ≡ length xs + length ys
 length_both xs ys = length-append xs ys
 
-pub id_long : (id : ℕ) → length (idBytes id) ≡ 32
+pub id_long : (id : ℕ) → length (id_bytes id) ≡ 32
 id_long id = length-id id
 
 -- there is room in the output
@@ -56,12 +56,12 @@ room_place at b come out name r = let e : length (drop at out) ≡ length out - 
 -- a number under way: the groups of w are left
 pub record Left (v w : ℕ) (before now : Held) : Type 0 where
   pub more : ℕ
-  pub same : after (groups more w) now ≡ after (numberBytes v) before
+  pub same : after (groups more w) now ≡ after (number_bytes v) before
   pub room : length (groups more w) ≤ room_of now
   pub small : w < 128 ^ suc more
 
-pub left_start : (v : ℕ) (h : Held) → v < 2 ^ 64 → length (numberBytes v) ≤ room_of h → Left v v h h
-unfolding numberBytes
+pub left_start : (v : ℕ) (h : Held) → v < 2 ^ 64 → length (number_bytes v) ≤ room_of h → Left v v h h
+unfolding number_bytes
 left_start v h s r = record { more = 9; same = refl; room = r; small = omega arith }
 
 module _ {v w : ℕ} {before now : Held} (l : Left v w before now) where
@@ -71,7 +71,7 @@ module _ {v w : ℕ} {before now : Held} (l : Left v w before now) where
   pub left-more : (next : Held) → 128 ≤ w → next ≡ after ((w % 128 + 128) ∷ []) now → Left v (w / 128) before next
   left-more next h e = step l.more l.same l.room l.small
     where
-      step : (more : ℕ) → after (groups more w) now ≡ after (numberBytes v) before → length (groups more w) ≤ room_of now → w < 128 ^ suc more → Left v (w / 128) before next
+      step : (more : ℕ) → after (groups more w) now ≡ after (number_bytes v) before → length (groups more w) ≤ room_of now → w < 128 ^ suc more → Left v (w / 128) before next
       step zero a r s = absurd (omega arith)
       step (suc more) a r s =
           let g : groups (suc more) w ≡ (w % 128 + 128) ∷ groups more (w / 128) = next-group more w h in
@@ -83,7 +83,7 @@ module _ {v w : ℕ} {before now : Held} (l : Left v w before now) where
             small = omega (arith, pow-suc 128 (suc more));
           })
 
-  pub left-last : (next : Held) → w < 128 → next ≡ after (w ∷ []) now → next ≡ after (numberBytes v) before
+  pub left-last : (next : Held) → w < 128 → next ≡ after (w ∷ []) now → next ≡ after (number_bytes v) before
   left-last next h e = e ∙ ap (λ (x : List ℕ). after x now) (sym (last-group l.more w h)) ∙ l.same
 
 -- a byte set at the place is put there

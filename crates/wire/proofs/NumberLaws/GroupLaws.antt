@@ -14,8 +14,8 @@ use lib.Seq.{drop-cons}
 use borrow.Author.Tests.{le-leb, lt-ltb, le-ltb, ne_eqb}
 use Rattle.std.specs.Prelude.{if◌then◌else◌}
 use Rattle.storage.proofs.ListsLaws.MapLaws.{cases}
-use Rattle.postcard.specs.Number.{Read, got, fault, ◌then◌, lastGroup, readGroups}
-use Rattle.postcard.specs.Place.{Placed, placed, refused, readIn, Inside, Reads}
+use Rattle.postcard.specs.Number.{Read, got, fault, ◌then◌, last_group, read_groups}
+use Rattle.postcard.specs.Place.{Placed, placed, refused, read_in, Inside, Reads}
 use Rattle.wire.specs.Number.Readings.{last_at}
 
 -- a number read above lower groups that make `low`
@@ -37,13 +37,13 @@ raised-more low scale c (fault n) = refl
 
 -- the last byte, as `last_group` tests it: at least 1 unless it is the first
 pub last-raised : (bytes : List ℕ) (b least top low scale next : ℕ) → least ≤ 1
-    → readIn bytes (last_at b least top low scale next) ≡ raised low scale (lastGroup (eqb least 0) top b (drop next bytes))
-unfolding lastGroup raised
+    → read_in bytes (last_at b least top low scale next) ≡ raised low scale (last_group (eqb least 0) top b (drop next bytes))
+unfolding last_group raised
 last-raised bytes b least top low scale next h =
     cases (leb b top) (λ p. rw p (by-least least b h)) (λ p. rw p refl)
   where
     by-least : (least b : ℕ) → least ≤ 1
-        → readIn bytes (if leb least b then placed (low + scale * b) next else refused 8)
+        → read_in bytes (if leb least b then placed (low + scale * b) next else refused 8)
         ≡ raised low scale (if eqb b 0 && not (eqb least 0) then fault 8 else got b (drop next bytes))
     by-least zero b h = rw (le-leb 0 b (omega arith)) (cases (eqb b 0) (λ e. rw e refl) (λ e. rw e refl))
     by-least (suc zero) zero h = refl
@@ -56,8 +56,8 @@ last-inside bytes b least top low scale next h =
 
 module _ (bytes : List ℕ) (place : ℕ) where
   -- past the end
-  pub groups_none : (padded first : Bool) (more top : ℕ) → length bytes ≤ place → readGroups padded first more top (drop place bytes) ≡ fault 7
-  unfolding readGroups
+  pub groups_none : (padded first : Bool) (more top : ℕ) → length bytes ≤ place → read_groups padded first more top (drop place bytes) ≡ fault 7
+  unfolding read_groups
   groups_none padded first zero top h = rw (drop_of_length-le bytes h) refl
   groups_none padded first (suc more) top h = rw (drop_of_length-le bytes h) refl
 
@@ -66,22 +66,22 @@ module _ (bytes : List ℕ) (place : ℕ) where
     from = drop-cons bytes place 0 within ∙ ap (λ (n : ℕ). get_or bytes place 0 ∷ drop n bytes) (sym (add-one place))
 
     -- the last byte allowed
-    pub groups-last : (padded first : Bool) (top : ℕ) → readGroups padded first 0 top (drop place bytes) ≡ lastGroup first top (get_or bytes place 0) (drop (place + 1) bytes)
-    unfolding readGroups
+    pub groups-last : (padded first : Bool) (top : ℕ) → read_groups padded first 0 top (drop place bytes) ≡ last_group first top (get_or bytes place 0) (drop (place + 1) bytes)
+    unfolding read_groups
     groups-last padded first top = rw from refl
 
     -- a byte that is the last
     pub groups-short : (padded first : Bool) (more top : ℕ) → 0 < more → get_or bytes place 0 < 128
-        → readGroups padded first more top (drop place bytes) ≡ lastGroup first 127 (get_or bytes place 0) (drop (place + 1) bytes)
-    unfolding readGroups
+        → read_groups padded first more top (drop place bytes) ≡ last_group first 127 (get_or bytes place 0) (drop (place + 1) bytes)
+    unfolding read_groups
     groups-short padded first zero top m h = absurd (omega arith)
     groups-short padded first (suc more) top m h = rw from (rw (lt-ltb (get_or bytes place 0) 128 h) refl)
 
     -- a byte that is not the last
     pub groups-more : (padded first : Bool) (more left top : ℕ) → more ≡ suc left → 128 ≤ get_or bytes place 0
-        → readGroups padded first more top (drop place bytes) ≡ raised (get_or bytes place 0 - 128) 128 (readGroups padded padded left top (drop (place + 1) bytes))
-    unfolding readGroups
-    groups-more padded first more left top e h = rw e (rw from (rw (le-ltb (get_or bytes place 0) 128 h) (as-raised (get_or bytes place 0 - 128) (readGroups padded padded left top (drop (place + 1) bytes)))))
+        → read_groups padded first more top (drop place bytes) ≡ raised (get_or bytes place 0 - 128) 128 (read_groups padded padded left top (drop (place + 1) bytes))
+    unfolding read_groups
+    groups-more padded first more left top e h = rw e (rw from (rw (le-ltb (get_or bytes place 0) 128 h) (as-raised (get_or bytes place 0 - 128) (read_groups padded padded left top (drop (place + 1) bytes)))))
       where
         as-raised : (c : ℕ) (r : Read ℕ) → (r then λ high rest. got (c + 128 * high) rest) ≡ raised c 128 r
         as-raised c (got high rest) = unfold raised in refl
@@ -90,14 +90,14 @@ module _ (bytes : List ℕ) (place : ℕ) where
 -- where the loop stands: the groups passed make `low`, and what is left to read from `place` on is what was to be read from `at` on; a last group is at least
 -- `least` now and `later` afterwards
 pub record Passed (bytes : List ℕ) (at more top later low scale least place left : ℕ) : Type 0 where
-  pub same : raised low scale (readGroups (eqb later 0) (eqb least 0) left top (drop place bytes)) ≡ readGroups (eqb later 0) true more top (drop at bytes)
+  pub same : raised low scale (read_groups (eqb later 0) (eqb least 0) left top (drop place bytes)) ≡ read_groups (eqb later 0) true more top (drop at bytes)
   pub below : low < scale
   pub room : scale * (128 ^ left * (top + 1)) ≤ 2 ^ 64
   pub once : least ≤ 1
 
 pub passed_none : (bytes : List ℕ) (at more top later : ℕ) → 128 ^ more * (top + 1) ≤ 2 ^ 64 → Passed bytes at more top later 0 1 0 at more
 passed_none bytes at more top later h =
-    record { same = raised-none (readGroups (eqb later 0) true more top (drop at bytes)); below = omega arith; room = rw one-mul h; once = omega arith }
+    record { same = raised-none (read_groups (eqb later 0) true more top (drop at bytes)); below = omega arith; room = rw one-mul h; once = omega arith }
 
 -- room
 
@@ -148,7 +148,7 @@ passed-more bytes at more top later low scale least place left b p o l w e h u =
     let g : get_or bytes place 0 ≡ b = sym e in
     record {
       same =
-          sym (raised-more low scale (b - 128) (readGroups (eqb later 0) (eqb later 0) (left - 1) top (drop (place + 1) bytes)))
+          sym (raised-more low scale (b - 128) (read_groups (eqb later 0) (eqb later 0) (left - 1) top (drop (place + 1) bytes)))
           ∙ ap (raised low scale) (rw g at (sym (groups-more bytes place w (eqb later 0) (eqb least 0) left (left - 1) top s (rw g h))))
           ∙ p.same;
       below = omega (arith, p.below, group-most scale b u);
@@ -158,8 +158,8 @@ passed-more bytes at more top later low scale least place left b p o l w e h u =
 
 -- what `last_group` answers is what is read
 pub passed-last : (bytes : List ℕ) (at more top later low scale least place left b last : ℕ) (answer : Placed ℕ) → Passed bytes at more top later low scale least place left
-    → place < length bytes → readGroups (eqb later 0) (eqb least 0) left top (drop place bytes) ≡ lastGroup (eqb least 0) last b (drop (place + 1) bytes)
-    → answer ≡ last_at b least last low scale (place + 1) → Reads bytes answer (readGroups (eqb later 0) true more top (drop at bytes))
+    → place < length bytes → read_groups (eqb later 0) (eqb least 0) left top (drop place bytes) ≡ last_group (eqb least 0) last b (drop (place + 1) bytes)
+    → answer ≡ last_at b least last low scale (place + 1) → Reads bytes answer (read_groups (eqb later 0) true more top (drop at bytes))
 passed-last bytes at more top later low scale least place left b last answer p w g e =
     rw e (record {
       same = last-raised bytes b least last low scale (place + 1) p.once ∙ ap (raised low scale) (sym g) ∙ p.same;
@@ -168,7 +168,7 @@ passed-last bytes at more top later low scale least place left b last answer p w
 
 -- past the end
 pub passed-end : (bytes : List ℕ) (at more top later low scale least place left : ℕ) → Passed bytes at more top later low scale least place left
-    → length bytes ≤ place → Reads bytes (refused 7) (readGroups (eqb later 0) true more top (drop at bytes))
+    → length bytes ≤ place → Reads bytes (refused 7) (read_groups (eqb later 0) true more top (drop at bytes))
 unfolding raised
 passed-end bytes at more top later low scale least place left p w =
     record { same = ap (raised low scale) (sym (groups_none bytes place (eqb later 0) (eqb least 0) left top w)) ∙ p.same; inside = tt }

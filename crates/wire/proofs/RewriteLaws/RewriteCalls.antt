@@ -15,7 +15,7 @@ use Rattle.postcard.specs.Decode.{Decoded, decoded, faulty, meaning}
 use Rattle.postcard.specs.Wide.{Bytes}
 use Rattle.postcard.specs.Told.{Told, refused, told, Leaves}
 use Rattle.postcard.specs.Rewrite.{rewrite, ShortestForm}
-use Rattle.postcard.proofs.DecodeFaults.{faultOf, message-faults}
+use Rattle.postcard.proofs.DecodeFaults.{fault_of, message-faults}
 use Rattle.postcard.proofs.OneSpelling.{one-spelling}
 use Rattle.wire.specs.Rewrite.RewriteCalls.{Rewrites, RewriteCalls}
 
@@ -57,7 +57,7 @@ call-enough message before after number long y l c e = by-meaning (meaning messa
     by-meaning (faulty n) h =
         let f = subst (λ (t : Told). Leaves t before after number long) (one-spelling.faults message n (length before) h) c in
         let z : n ≡ 14 = sym f.0 ∙ e in
-        true≢ (subst (λ (x : Decoded Message). faultOf x ≡ true) (h ∙ ap faulty z) (message-faults message))
+        true≢ (subst (λ (x : Decoded Message). fault_of x ≡ true) (h ∙ ap faulty z) (message-faults message))
 
 call-taken : (message before after : List ℕ) (m : Message) (number long : ℕ) → Bytes message → meaning message ≡ decoded m → length message ≤ length before → Rewrites message before after number long → number ≡ 0
 call-taken message before after m number long y h l c =
@@ -84,7 +84,7 @@ call_same one before after other before' after' long long' y z c d =
     let b = answered-zero other before' after' long' d in
     let e = one-spelling.same one other (length before) (length before') a.out b.out y z a.tells b.tells in
     record {
-      onlyWhen = λ s. e.onlyWhen (sym a.bytes ∙ s ∙ b.bytes);
+      only_when = λ s. e.only_when (sym a.bytes ∙ s ∙ b.bytes);
       when = λ m. a.bytes ∙ e.when m ∙ sym b.bytes;
     }
 

@@ -7,7 +7,7 @@ use Rattle.storage.specs.Rows.Part.{part}
 use Rattle.storage.specs.Rows.Ident.{id_of}
 use Rattle.postcard.specs.Place.{Placed, placed, refused}
 use Rattle.postcard.specs.Message as message
-use Rattle.postcard.specs.Values.{deliveryValue, wantedValue}
+use Rattle.postcard.specs.Values.{delivery_value, wanted_value}
 use Rattle.wire.specs.declared.decode.field.IdRead.{IdRead}
 use Rattle.wire.specs.declared.decode.field.IdRead.TheVariants as id
 use Rattle.wire.specs.declared.decode.field.ContentRead.{ContentRead}
@@ -26,25 +26,25 @@ id_at (id.Got i next) = placed (id_of i) next
 id_at (id.Fault n) = refused n
 
 -- a content: the part of the bytes that holds it
-abbrev pub contentAt : List ℕ → ContentRead → Placed (List ℕ)
-contentAt bytes (content.Got start len) = placed (part start len bytes) (start + len)
-contentAt bytes (content.Fault n) = refused n
+abbrev pub content_at : List ℕ → ContentRead → Placed (List ℕ)
+content_at bytes (content.Got start len) = placed (part start len bytes) (start + len)
+content_at bytes (content.Fault n) = refused n
 
 -- a delivery
-abbrev pub deliveryAt : DeliveryRead → Placed message.Delivery
-deliveryAt (delivery.Got d next) = placed (deliveryValue d) next
-deliveryAt (delivery.Fault n) = refused n
+abbrev pub delivery_at : DeliveryRead → Placed message.Delivery
+delivery_at (delivery.Got d next) = placed (delivery_value d) next
+delivery_at (delivery.Fault n) = refused n
 
 -- the identifier of a Graft, if it has one
-abbrev pub wantedAt : WantedRead → Placed (Option ℕ)
-wantedAt (wanted.Got w next) = placed (wantedValue w) next
-wantedAt (wanted.Fault n) = refused n
+abbrev pub wanted_at : WantedRead → Placed (Option ℕ)
+wanted_at (wanted.Got w next) = placed (wanted_value w) next
+wanted_at (wanted.Fault n) = refused n
 
 -- an announcement
-abbrev pub ihaveAt : IhaveRead → Placed message.Ihave
-ihaveAt (ihave.Got i r next) = placed (record { id = id_of i; round = r.0 }) next
-ihaveAt (ihave.Fault n) = refused n
+abbrev pub ihave_at : IhaveRead → Placed message.Ihave
+ihave_at (ihave.Got i r next) = placed (record { id = id_of i; round = r.0 }) next
+ihave_at (ihave.Fault n) = refused n
 
 -- an announcement that is known to stand there
-abbrev pub announcedAt : Announced → Placed message.Ihave
-announcedAt a = placed (record { id = id_of a.id; round = a.round.0 }) a.next
+abbrev pub announced_at : Announced → Placed message.Ihave
+announced_at a = placed (record { id = id_of a.id; round = a.round.0 }) a.next

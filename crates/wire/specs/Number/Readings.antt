@@ -14,9 +14,9 @@ number_at (number.Got value next) = placed value next
 number_at (number.Fault n) = refused n
 
 -- a round
-abbrev pub roundAt : RoundRead → Placed ℕ
-roundAt (round.Got r next) = placed r.0 next
-roundAt (round.Fault n) = refused n
+abbrev pub round_at : RoundRead → Placed ℕ
+round_at (round.Got r next) = placed r.0 next
+round_at (round.Fault n) = refused n
 
 -- a number whose last byte is `b`, from `least` to `top`, and whose lower groups make `low`
 abbrev pub last_at : ℕ → ℕ → ℕ → ℕ → ℕ → ℕ → Placed ℕ

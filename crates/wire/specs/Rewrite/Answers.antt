@@ -4,7 +4,7 @@ use Rattle.std.specs.Prelude.{ℕ}
 use Rattle.wire.specs.declared.rewrite.Rewritten.{Rewritten}
 use Rattle.wire.specs.declared.rewrite.Rewritten.TheVariants as rewritten
 
--- document 01's number: 0, or that of the question that is answered no
+-- the specification's number: 0, or that of the question that is answered no
 abbrev pub number_of : Rewritten → ℕ
 number_of (rewritten.Shortest n) = 0
 number_of (rewritten.Fault n) = n

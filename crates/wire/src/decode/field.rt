@@ -1,10 +1,10 @@
-// The fields that messages, timers and events are made of, read at a place: document 01, "Numbers and messages (Postcard)".
+// The fields that messages, timers and events are made of, read at a place: the specification, "Numbers and messages (Postcard)".
 ghost use Rattle.std.specs.Prelude.{◌≤◌, length, drop};
-ghost use Rattle.postcard.specs.Number.{readId};
-ghost use Rattle.postcard.specs.Decode.{behind, readContent, readPaddedContent, deliveryKind, readDelivery, readOptionalId, readIhave};
-ghost use Rattle.postcard.specs.Place.{readIn, Inside, Reads, Announces};
+ghost use Rattle.postcard.specs.Number.{read_id};
+ghost use Rattle.postcard.specs.Decode.{behind, read_content, read_padded_content, delivery_kind, read_delivery, read_optional_id, read_ihave};
+ghost use Rattle.postcard.specs.Place.{read_in, Inside, Reads, Announces};
 ghost use Rattle.wire.specs.Number.Readings.{number_at};
-ghost use Rattle.wire.specs.Decode.Readings.{id_at, contentAt, deliveryAt, wantedAt, ihaveAt, announcedAt};
+ghost use Rattle.wire.specs.Decode.Readings.{id_at, content_at, delivery_at, wanted_at, ihave_at, announced_at};
 
 use crate::number;
 use crate::number::{NumberRead, RoundRead};
@@ -58,7 +58,7 @@ pub struct Announced {
 
 // "identifier 32 bytes".
 pub(crate) fn read_id(bytes: &[u8], at: usize) -> IdRead
-    ensures { Reads bytes.now (id_at result) (readId (drop at bytes.now)) }
+    ensures { Reads bytes.now (id_at result) (read_id (drop at bytes.now)) }
 {
     if bytes.len() < at {
         return IdRead::Fault(7);
@@ -75,7 +75,7 @@ pub(crate) fn read_id(bytes: &[u8], at: usize) -> IdRead
 // The content behind its length.
 fn content_behind(bytes: &[u8], length: NumberRead) -> ContentRead
     requires { Inside bytes.now (number_at length) }
-    ensures { Reads bytes.now (contentAt bytes.now result) (behind (readIn bytes.now (number_at length))) }
+    ensures { Reads bytes.now (content_at bytes.now result) (behind (read_in bytes.now (number_at length))) }
 {
     match length {
         NumberRead::Got { value, next } => {
@@ -92,7 +92,7 @@ fn content_behind(bytes: &[u8], length: NumberRead) -> ContentRead
 
 // "length, content" of a broadcast.
 pub(crate) fn read_content(bytes: &[u8], at: usize) -> ContentRead
-    ensures { Reads bytes.now (contentAt bytes.now result) (readContent (drop at bytes.now)) }
+    ensures { Reads bytes.now (content_at bytes.now result) (read_content (drop at bytes.now)) }
 {
     let length = number::read_number(bytes, at);
     content_behind(bytes, length)
@@ -100,7 +100,7 @@ pub(crate) fn read_content(bytes: &[u8], at: usize) -> ContentRead
 
 // "length, content" of a message, whose length may be padded.
 pub(crate) fn read_padded_content(bytes: &[u8], at: usize) -> ContentRead
-    ensures { Reads bytes.now (contentAt bytes.now result) (readPaddedContent (drop at bytes.now)) }
+    ensures { Reads bytes.now (content_at bytes.now result) (read_padded_content (drop at bytes.now)) }
 {
     let length = number::read_padded(bytes, at);
     content_behind(bytes, length)
@@ -109,7 +109,7 @@ pub(crate) fn read_padded_content(bytes: &[u8], at: usize) -> ContentRead
 // "Delivery: 0 Swarm and round, 1 Neighbors", by its kind; the range above is 8.
 fn delivery_of(bytes: &[u8], at: usize, kind: u64) -> DeliveryRead
     requires { at ≤ length bytes.now }
-    ensures { Reads bytes.now (deliveryAt result) (deliveryKind kind (drop at bytes.now)) }
+    ensures { Reads bytes.now (delivery_at result) (delivery_kind kind (drop at bytes.now)) }
 {
     match kind {
         0 => {
@@ -132,7 +132,7 @@ fn delivery_of(bytes: &[u8], at: usize, kind: u64) -> DeliveryRead
 
 // "Delivery: 0 Swarm and round, 1 Neighbors", whose kind may be padded.
 pub(crate) fn read_delivery(bytes: &[u8], at: usize) -> DeliveryRead
-    ensures { Reads bytes.now (deliveryAt result) (readDelivery (drop at bytes.now)) }
+    ensures { Reads bytes.now (delivery_at result) (read_delivery (drop at bytes.now)) }
 {
     let kind = number::read_kind(bytes, at);
     match kind {
@@ -143,7 +143,7 @@ pub(crate) fn read_delivery(bytes: &[u8], at: usize) -> DeliveryRead
 
 // "byte 0, or 1 and identifier" of a Graft.
 pub(crate) fn read_wanted(bytes: &[u8], at: usize) -> WantedRead
-    ensures { Reads bytes.now (wantedAt result) (readOptionalId (drop at bytes.now)) }
+    ensures { Reads bytes.now (wanted_at result) (read_optional_id (drop at bytes.now)) }
 {
     if bytes.len() <= at {
         return WantedRead::Fault(7);
@@ -170,7 +170,7 @@ pub(crate) fn read_wanted(bytes: &[u8], at: usize) -> WantedRead
 
 // "identifier and round each": one announcement of an IHave.
 pub(crate) fn read_ihave(bytes: &[u8], at: usize) -> IhaveRead
-    ensures { Reads bytes.now (ihaveAt result) (readIhave (drop at bytes.now)) }
+    ensures { Reads bytes.now (ihave_at result) (read_ihave (drop at bytes.now)) }
 {
     let found = read_id(bytes, at);
     match found {
@@ -188,7 +188,7 @@ pub(crate) fn read_ihave(bytes: &[u8], at: usize) -> IhaveRead
 // The announcement at `at`, where one stands: `decode_event` promises as many of them as it counted.
 pub fn next_ihave(event: &[u8], at: usize) -> Announced
     requires { Announces event.now at }
-    ensures { Reads event.now (announcedAt result) (readIhave (drop at event.now)) }
+    ensures { Reads event.now (announced_at result) (read_ihave (drop at event.now)) }
 {
     let found = read_ihave(event, at);
     match found {

@@ -1,11 +1,11 @@
-// Messages, timers and events read from the left: document 01, questions 7, 8 and 9.
+// Messages, timers and events read from the left: the specification, questions 7, 8 and 9.
 pub mod field;
 
 ghost use Rattle.std.specs.Prelude.{◌≤◌, length, drop};
-ghost use Rattle.postcard.specs.Decode.{readIhaves, messageOf, messageKind, readMessage, readTimer, eventOf, readEvent, meaning};
+ghost use Rattle.postcard.specs.Decode.{read_ihaves, message_of, message_kind, read_message, read_timer, event_of, read_event, meaning};
 ghost use Rattle.postcard.specs.Place.{Reads};
 ghost use Rattle.postcard.specs.Events.{Decodes};
-ghost use Rattle.wire.specs.Decode.EventReadings.{ihavesAt, timerAt, MessageReads, MessageDecodes, EventReads};
+ghost use Rattle.wire.specs.Decode.EventReadings.{ihaves_at, timer_at, MessageReads, MessageDecodes, EventReads};
 
 use crate::decode::field::{ContentRead, DeliveryRead, IdRead, IhaveRead, WantedRead};
 use crate::number;
@@ -50,7 +50,7 @@ pub enum EventRead {
 // "then identifier and round each": passes over `count` announcements, until the first fault.
 fn read_ihaves(bytes: &[u8], at: usize, count: usize) -> IhavesRead
     requires { at ≤ length bytes.now }
-    ensures { Reads bytes.now (ihavesAt bytes.now at count result) (readIhaves count (drop at bytes.now)) }
+    ensures { Reads bytes.now (ihaves_at bytes.now at count result) (read_ihaves count (drop at bytes.now)) }
 {
     let mut place = at;
     let mut left = count;
@@ -71,7 +71,7 @@ fn read_ihaves(bytes: &[u8], at: usize, count: usize) -> IhavesRead
 
 // "0 Gossip (identifier 32 bytes, length, content, delivery)".
 fn read_gossip(bytes: &[u8], at: usize) -> MessageRead
-    ensures { MessageReads bytes.now result (messageOf 0 (drop at bytes.now)) }
+    ensures { MessageReads bytes.now result (message_of 0 (drop at bytes.now)) }
 {
     let found = field::read_id(bytes, at);
     match found {
@@ -102,7 +102,7 @@ fn read_gossip(bytes: &[u8], at: usize) -> MessageRead
 
 // "2 Graft (byte 0, or 1 and identifier; round)".
 fn read_graft(bytes: &[u8], at: usize) -> MessageRead
-    ensures { MessageReads bytes.now result (messageOf 2 (drop at bytes.now)) }
+    ensures { MessageReads bytes.now result (message_of 2 (drop at bytes.now)) }
 {
     let asked = field::read_wanted(bytes, at);
     match asked {
@@ -122,7 +122,7 @@ fn read_graft(bytes: &[u8], at: usize) -> MessageRead
 
 // "3 IHave (count, then identifier and round each)".
 fn read_announcements(bytes: &[u8], at: usize) -> MessageRead
-    ensures { MessageReads bytes.now result (messageOf 3 (drop at bytes.now)) }
+    ensures { MessageReads bytes.now result (message_of 3 (drop at bytes.now)) }
 {
     let number = number::read_padded(bytes, at);
     match number {
@@ -144,7 +144,7 @@ fn read_announcements(bytes: &[u8], at: usize) -> MessageRead
 // "Message: 0 Gossip .., 1 Prune, 2 Graft .., 3 IHave ..", by its kind; the range above is 8.
 fn message_of(bytes: &[u8], at: usize, kind: u64) -> MessageRead
     requires { at ≤ length bytes.now }
-    ensures { MessageReads bytes.now result (messageKind kind (drop at bytes.now)) }
+    ensures { MessageReads bytes.now result (message_kind kind (drop at bytes.now)) }
 {
     match kind {
         0 => read_gossip(bytes, at),
@@ -160,7 +160,7 @@ fn message_of(bytes: &[u8], at: usize, kind: u64) -> MessageRead
 
 // A message, whose kind may be padded.
 fn read_message(bytes: &[u8], at: usize) -> MessageRead
-    ensures { MessageReads bytes.now result (readMessage (drop at bytes.now)) }
+    ensures { MessageReads bytes.now result (read_message (drop at bytes.now)) }
 {
     let kind = number::read_kind(bytes, at);
     match kind {
@@ -188,7 +188,7 @@ pub fn decode_message(bytes: &[u8]) -> MessageDecoded
 
 // "Timers: 0 SendGraft with identifier, 1 DispatchLazyPush, 2 EvictCache, 3 AnnounceDropped"; the range above is 8.
 fn read_timer(bytes: &[u8], at: usize) -> TimerRead
-    ensures { Reads bytes.now (timerAt result) (readTimer (drop at bytes.now)) }
+    ensures { Reads bytes.now (timer_at result) (read_timer (drop at bytes.now)) }
 {
     if bytes.len() <= at {
         return TimerRead::Fault(7);
@@ -223,7 +223,7 @@ fn read_timer(bytes: &[u8], at: usize) -> TimerRead
 
 // "Kind 0 has peer, message": the message's size is the number of its bytes as received.
 fn read_received(bytes: &[u8]) -> EventRead
-    ensures { EventReads bytes.now result (eventOf 0 (drop 1 bytes.now)) }
+    ensures { EventReads bytes.now result (event_of 0 (drop 1 bytes.now)) }
 {
     let peer = number::read_number(bytes, 1);
     match peer {
@@ -247,7 +247,7 @@ fn read_received(bytes: &[u8]) -> EventRead
 
 // "1 has length, content, byte 0 Swarm or 1 Neighbors"; another byte is 8.
 fn read_broadcast(bytes: &[u8], at: usize) -> EventRead
-    ensures { EventReads bytes.now result (eventOf 1 (drop at bytes.now)) }
+    ensures { EventReads bytes.now result (event_of 1 (drop at bytes.now)) }
 {
     let content = field::read_content(bytes, at);
     match content {
@@ -283,7 +283,7 @@ fn read_broadcast(bytes: &[u8], at: usize) -> EventRead
 
 // A timer's event.
 fn read_fired(bytes: &[u8], at: usize) -> EventRead
-    ensures { EventReads bytes.now result (eventOf 2 (drop at bytes.now)) }
+    ensures { EventReads bytes.now result (event_of 2 (drop at bytes.now)) }
 {
     let found = read_timer(bytes, at);
     match found {
@@ -297,7 +297,7 @@ fn read_fired(bytes: &[u8], at: usize) -> EventRead
 
 // "3 and 4 have peer": neighbour up.
 fn read_up(bytes: &[u8], at: usize) -> EventRead
-    ensures { EventReads bytes.now result (eventOf 3 (drop at bytes.now)) }
+    ensures { EventReads bytes.now result (event_of 3 (drop at bytes.now)) }
 {
     let peer = number::read_number(bytes, at);
     match peer {
@@ -311,7 +311,7 @@ fn read_up(bytes: &[u8], at: usize) -> EventRead
 
 // "3 and 4 have peer": neighbour down.
 fn read_down(bytes: &[u8], at: usize) -> EventRead
-    ensures { EventReads bytes.now result (eventOf 4 (drop at bytes.now)) }
+    ensures { EventReads bytes.now result (event_of 4 (drop at bytes.now)) }
 {
     let peer = number::read_number(bytes, at);
     match peer {
@@ -325,7 +325,7 @@ fn read_down(bytes: &[u8], at: usize) -> EventRead
 
 // "0 received message, 1 broadcast, 2 timer, 3 neighbour up, 4 neighbour down"; the range above is 8.
 fn read_event(bytes: &[u8]) -> EventRead
-    ensures { EventReads bytes.now result (readEvent bytes.now) }
+    ensures { EventReads bytes.now result (read_event bytes.now) }
 {
     if bytes.len() == 0 {
         return EventRead::Fault(7);

@@ -1,10 +1,10 @@
-// Actions: document 01, "1 send (peer, byte 0 taken or 1 handed back, message); 2 schedule (delay, timer); 3 emit (peer, length, content, delivery)".
-#![tactic(auto, unfolding(postcard::specs::Message::takenByte, postcard::specs::Output::sendHead, postcard::specs::Message::actionBytes), using(crate::proofs::EncodeLaws::HeldLaws::after_append, crate::proofs::EncodeLaws::HeldLaws::room_after, crate::proofs::EncodeLaws::HeldLaws::length_both))]
+// Actions: the specification, "1 send (peer, byte 0 taken or 1 handed back, message); 2 schedule (delay, timer); 3 emit (peer, length, content, delivery)".
+#![tactic(auto, unfolding(postcard::specs::Message::taken_byte, postcard::specs::Output::send_head, postcard::specs::Message::action_bytes), using(crate::proofs::EncodeLaws::HeldLaws::after_append, crate::proofs::EncodeLaws::HeldLaws::room_after, crate::proofs::EncodeLaws::HeldLaws::length_both))]
 
 ghost use Rattle.std.specs.Prelude.{◌≡◌, [], ◌∷◌, ◌++◌};
-ghost use Rattle.postcard.specs.Message.{Scheduled, Emitted, takenByte, actionBytes};
-ghost use Rattle.postcard.specs.Output.{sendHead};
-ghost use Rattle.postcard.specs.Values.{deliveryValue, timerValue};
+ghost use Rattle.postcard.specs.Message.{Scheduled, Emitted, taken_byte, action_bytes};
+ghost use Rattle.postcard.specs.Output.{send_head};
+ghost use Rattle.postcard.specs.Values.{delivery_value, timer_value};
 
 use crate::encode::Encode;
 use crate::encode::sink::Sink;
@@ -13,7 +13,7 @@ use postcard::units::Millis;
 
 // "byte 0 taken or 1 handed back".
 fn taken_byte(taken: bool) -> u8
-    ensures { result ≡ takenByte taken }
+    ensures { result ≡ taken_byte taken }
 {
     if taken { 0 } else { 1 }
 }
@@ -27,7 +27,7 @@ pub struct Send<M> {
 }
 
 impl<M: Encode> Encode for Send<M> {
-    ghost bytes = { λ s. sendHead s.peer s.taken ++ M.bytes s.message };
+    ghost bytes = { λ s. send_head s.peer s.taken ++ M.bytes s.message };
 
     fn encode<S: Sink>(&self, out: &mut S) {
         out.byte(1);
@@ -45,7 +45,7 @@ pub struct Schedule {
 }
 
 impl Encode for Schedule {
-    ghost bytes = { λ s. actionBytes (Scheduled s.delay.0 (timerValue s.timer)) };
+    ghost bytes = { λ s. action_bytes (Scheduled s.delay.0 (timer_value s.timer)) };
 
     fn encode<S: Sink>(&self, out: &mut S) {
         out.byte(2);
@@ -63,7 +63,7 @@ pub struct Emit<'a> {
 }
 
 impl<'a> Encode for Emit<'a> {
-    ghost bytes = { λ e. actionBytes (Emitted e.peer e.content.now (deliveryValue e.delivery)) };
+    ghost bytes = { λ e. action_bytes (Emitted e.peer e.content.now (delivery_value e.delivery)) };
 
     fn encode<S: Sink>(&self, out: &mut S) {
         out.byte(3);

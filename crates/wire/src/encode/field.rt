@@ -1,11 +1,11 @@
 // The fields that messages, timers and actions are made of.
-#![tactic(auto, unfolding(postcard::specs::Message::contentBytes, postcard::specs::Message::deliveryBytes, postcard::specs::Message::optionalIdBytes, postcard::specs::Message::timerBytes), using(crate::proofs::EncodeLaws::HeldLaws::after_append, crate::proofs::EncodeLaws::HeldLaws::room_after, crate::proofs::EncodeLaws::HeldLaws::length_both, crate::proofs::EncodeLaws::HeldLaws::id_long, crate::proofs::EncodeLaws::IdLaws::id_words))]
+#![tactic(auto, unfolding(postcard::specs::Message::content_bytes, postcard::specs::Message::delivery_bytes, postcard::specs::Message::optional_id_bytes, postcard::specs::Message::timer_bytes), using(crate::proofs::EncodeLaws::HeldLaws::after_append, crate::proofs::EncodeLaws::HeldLaws::room_after, crate::proofs::EncodeLaws::HeldLaws::length_both, crate::proofs::EncodeLaws::HeldLaws::id_long, crate::proofs::EncodeLaws::IdLaws::id_words))]
 
 ghost use Rattle.std.specs.Prelude.{◌≡◌, [], ◌∷◌, ◌++◌, List, ℕ};
 ghost use Rattle.storage.specs.Rows.Ident.{id_of};
-ghost use Rattle.postcard.specs.Number.{numberBytes, idBytes};
-ghost use Rattle.postcard.specs.Message.{contentBytes, deliveryBytes, optionalIdBytes, timerBytes};
-ghost use Rattle.postcard.specs.Values.{deliveryValue, wantedValue, timerValue};
+ghost use Rattle.postcard.specs.Number.{number_bytes, id_bytes};
+ghost use Rattle.postcard.specs.Message.{content_bytes, delivery_bytes, optional_id_bytes, timer_bytes};
+ghost use Rattle.postcard.specs.Values.{delivery_value, wanted_value, timer_value};
 
 use crate::encode::Encode;
 use crate::encode::sink::Sink;
@@ -15,7 +15,7 @@ use storage::rows::id::Id;
 
 // A number of 16 or 64 bits: "Groups of seven bits, low first, high bit on all but the last".
 impl Encode for u64 {
-    ghost bytes = { numberBytes };
+    ghost bytes = { number_bytes };
 
     fn encode<S: Sink>(&self, out: &mut S) {
         let mut w = *self;
@@ -29,7 +29,7 @@ impl Encode for u64 {
 
 // "round 16 bits".
 impl Encode for Round {
-    ghost bytes = { λ r. numberBytes r.0 };
+    ghost bytes = { λ r. number_bytes r.0 };
 
     fn encode<S: Sink>(&self, out: &mut S) {
         (self.0 as u64).encode(out);
@@ -38,7 +38,7 @@ impl Encode for Round {
 
 // "identifier 32 bytes".
 impl Encode for Id {
-    ghost bytes = { λ i. idBytes (id_of i) };
+    ghost bytes = { λ i. id_bytes (id_of i) };
 
     fn encode<S: Sink>(&self, out: &mut S) {
         out.bytes(&self.w0.to_be_bytes());
@@ -50,7 +50,7 @@ impl Encode for Id {
 
 // A content: its length, then its bytes.
 impl Encode for &[u8] {
-    ghost bytes = { λ s. contentBytes s.now };
+    ghost bytes = { λ s. content_bytes s.now };
 
     fn encode<S: Sink>(&self, out: &mut S) {
         (self.len() as u64).encode(out);
@@ -60,7 +60,7 @@ impl Encode for &[u8] {
 
 // "Delivery: 0 Swarm and round, 1 Neighbors".
 impl Encode for Delivery {
-    ghost bytes = { λ d. deliveryBytes (deliveryValue d) };
+    ghost bytes = { λ d. delivery_bytes (delivery_value d) };
 
     fn encode<S: Sink>(&self, out: &mut S) {
         match self {
@@ -75,7 +75,7 @@ impl Encode for Delivery {
 
 // "byte 0, or 1 and identifier" of a Graft.
 impl Encode for Wanted {
-    ghost bytes = { λ w. optionalIdBytes (wantedValue w) };
+    ghost bytes = { λ w. optional_id_bytes (wanted_value w) };
 
     fn encode<S: Sink>(&self, out: &mut S) {
         match self {
@@ -90,7 +90,7 @@ impl Encode for Wanted {
 
 // "Timers: 0 SendGraft with identifier, 1 DispatchLazyPush, 2 EvictCache, 3 AnnounceDropped".
 impl Encode for Timer {
-    ghost bytes = { λ t. timerBytes (timerValue t) };
+    ghost bytes = { λ t. timer_bytes (timer_value t) };
 
     fn encode<S: Sink>(&self, out: &mut S) {
         match self {

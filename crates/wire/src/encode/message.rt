@@ -1,12 +1,12 @@
-// Messages: document 01, "Numbers and messages (Postcard)".
-#![tactic(auto, unfolding(postcard::specs::Message::messageBytes, postcard::specs::Output::ihaveHead, postcard::specs::Message::ihaveBytes), using(crate::proofs::EncodeLaws::HeldLaws::after_append, crate::proofs::EncodeLaws::HeldLaws::room_after, crate::proofs::EncodeLaws::HeldLaws::length_both))]
+// Messages: the specification, "Numbers and messages (Postcard)".
+#![tactic(auto, unfolding(postcard::specs::Message::message_bytes, postcard::specs::Output::ihave_head, postcard::specs::Message::ihave_bytes), using(crate::proofs::EncodeLaws::HeldLaws::after_append, crate::proofs::EncodeLaws::HeldLaws::room_after, crate::proofs::EncodeLaws::HeldLaws::length_both))]
 
 ghost use Rattle.std.specs.Prelude.{◌≡◌, [], ◌∷◌, ◌++◌};
 ghost use Rattle.storage.specs.Rows.Ident.{id_of};
 ghost use Rattle.postcard.specs.Message as message;
-ghost use Rattle.postcard.specs.Message.{ihaveBytes, messageBytes};
-ghost use Rattle.postcard.specs.Output.{ihaveHead};
-ghost use Rattle.postcard.specs.Values.{deliveryValue, wantedValue};
+ghost use Rattle.postcard.specs.Message.{ihave_bytes, message_bytes};
+ghost use Rattle.postcard.specs.Output.{ihave_head};
+ghost use Rattle.postcard.specs.Values.{delivery_value, wanted_value};
 
 use crate::encode::Encode;
 use crate::encode::sink::Sink;
@@ -23,7 +23,7 @@ pub struct Gossip<'a> {
 }
 
 impl<'a> Encode for Gossip<'a> {
-    ghost bytes = { λ g. messageBytes (message.Gossip (id_of g.id) g.content.now (deliveryValue g.delivery)) };
+    ghost bytes = { λ g. message_bytes (message.Gossip (id_of g.id) g.content.now (delivery_value g.delivery)) };
 
     fn encode<S: Sink>(&self, out: &mut S) {
         out.byte(0);
@@ -38,7 +38,7 @@ impl<'a> Encode for Gossip<'a> {
 pub struct Prune;
 
 impl Encode for Prune {
-    ghost bytes = { λ p. messageBytes message.Prune };
+    ghost bytes = { λ p. message_bytes message.Prune };
 
     fn encode<S: Sink>(&self, out: &mut S) {
         out.byte(1);
@@ -53,7 +53,7 @@ pub struct Graft {
 }
 
 impl Encode for Graft {
-    ghost bytes = { λ g. messageBytes (message.Graft (wantedValue g.wanted) g.round.0) };
+    ghost bytes = { λ g. message_bytes (message.Graft (wanted_value g.wanted) g.round.0) };
 
     fn encode<S: Sink>(&self, out: &mut S) {
         out.byte(2);
@@ -69,7 +69,7 @@ pub struct IhaveHead {
 }
 
 impl Encode for IhaveHead {
-    ghost bytes = { λ h. ihaveHead h.count };
+    ghost bytes = { λ h. ihave_head h.count };
 
     fn encode<S: Sink>(&self, out: &mut S) {
         out.byte(3);
@@ -85,7 +85,7 @@ pub struct Ihave {
 }
 
 impl Encode for Ihave {
-    ghost bytes = { λ h. ihaveBytes (record { id = id_of h.id; round = h.round.0 }) };
+    ghost bytes = { λ h. ihave_bytes (record { id = id_of h.id; round = h.round.0 }) };
 
     fn encode<S: Sink>(&self, out: &mut S) {
         self.id.encode(out);

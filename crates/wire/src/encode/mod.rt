@@ -1,4 +1,4 @@
-// What is written, field by field, from the left: document 01, "Numbers and messages (Postcard)".
+// What is written, field by field, from the left: the specification, "Numbers and messages (Postcard)".
 ghost use Rattle.std.specs.Prelude.{◌≡◌, ◌^◌, ◌<◌, List, ℕ, length};
 ghost use Rattle.postcard.specs.Output.{Room, Wrote};
 ghost use Rattle.wire.specs.Encode.Held.{after, RoomFor};

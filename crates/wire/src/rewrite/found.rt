@@ -1,8 +1,8 @@
 // A message that was read from bytes, written again in its shortest form.
 ghost use Rattle.std.specs.Prelude.{◌≡◌, true};
-ghost use Rattle.storage.specs.Lists.Base.{concatMap};
-ghost use Rattle.postcard.specs.Message.{ihaveBytes, messageBytes};
-ghost use Rattle.postcard.specs.Events.{ihavesFrom, messageValue, Listed};
+ghost use Rattle.storage.specs.Lists.Base.{concat_map};
+ghost use Rattle.postcard.specs.Message.{ihave_bytes, message_bytes};
+ghost use Rattle.postcard.specs.Events.{ihaves_from, message_value, Listed};
 ghost use Rattle.wire.specs.Encode.Held.{after, RoomFor};
 ghost use Rattle.wire.specs.Rewrite.Found.{is_there};
 
@@ -22,9 +22,9 @@ pub struct Found<'a> {
 
 // Writes `count` announcements, in their order.
 fn encode_ihaves<S: Sink>(out: &mut S, bytes: &[u8], start: usize, count: usize)
-    requires listed { Listed bytes.now start count (ihavesFrom bytes.now start count) }
-    requires room { RoomFor (concatMap ihaveBytes (ihavesFrom bytes.now start count)) (S.held out.old) }
-    ensures { S.held out.new ≡ after (concatMap ihaveBytes (ihavesFrom bytes.now start count)) (S.held out.old) }
+    requires listed { Listed bytes.now start count (ihaves_from bytes.now start count) }
+    requires room { RoomFor (concat_map ihave_bytes (ihaves_from bytes.now start count)) (S.held out.old) }
+    ensures { S.held out.new ≡ after (concat_map ihave_bytes (ihaves_from bytes.now start count)) (S.held out.old) }
 {
     let mut next = start;
     for _ in 0..count {
@@ -39,7 +39,7 @@ fn encode_ihaves<S: Sink>(out: &mut S, bytes: &[u8], start: usize, count: usize)
 }
 
 impl<'a> Encode for Found<'a> {
-    ghost bytes = { λ f. messageBytes (messageValue f.bytes.now f.message) };
+    ghost bytes = { λ f. message_bytes (message_value f.bytes.now f.message) };
 
     fn encode<S: Sink>(&self, out: &mut S) {
         match self.message {

@@ -3,7 +3,7 @@ use mathlib.Core.Path.{sym, subst}
 use Prim.Native.Nat.{◌<◌}
 use Rattle.block.specs.View.{state_of}
 use Rattle.block.specs.NoteSteps.{LinkIs}
-use Rattle.alike.specs.Notes.{notesOf, count_of}
+use Rattle.alike.specs.Notes.{notes_of, count_of}
 use Rattle.alike.specs.declared.by_link.Notes.{Notes}
 use Rattle.alike.proofs.by_link.link_at.Goals as goal
 
@@ -17,8 +17,8 @@ dropped_link_at-requires c =
 
 pub returns-in-Queue : goal.returns-in-Queue
 returns-in-Queue c =
-    subst (λ (o : Notes). LinkIs c.args.h c.args.block.now (notesOf o (state_of c.args.h c.args.block.now)) c.args.i c.queued_link_at.result) (sym c.in-Queue.is) c.queued_link_at.ensures
+    subst (λ (o : Notes). LinkIs c.args.h c.args.block.now (notes_of o (state_of c.args.h c.args.block.now)) c.args.i c.queued_link_at.result) (sym c.in-Queue.is) c.queued_link_at.ensures
 
 pub returns-in-Record : goal.returns-in-Record
 returns-in-Record c =
-    subst (λ (o : Notes). LinkIs c.args.h c.args.block.now (notesOf o (state_of c.args.h c.args.block.now)) c.args.i c.dropped_link_at.result) (sym c.in-Record.is) c.dropped_link_at.ensures
+    subst (λ (o : Notes). LinkIs c.args.h c.args.block.now (notes_of o (state_of c.args.h c.args.block.now)) c.args.i c.dropped_link_at.result) (sym c.in-Record.is) c.dropped_link_at.ensures

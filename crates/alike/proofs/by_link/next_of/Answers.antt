@@ -10,13 +10,13 @@ use Rattle.storage.specs.Lists.Base.{filter}
 use Rattle.storage.specs.Lists.Map.{keys}
 use Rattle.time_cache.proofs.Orders.{up_of}
 use Rattle.protocol.specs.State.{State, Note}
-use Rattle.protocol.specs.Push.{forPeer}
+use Rattle.protocol.specs.Push.{for_peer}
 use Rattle.block.specs.View.{state_of}
-use Rattle.block.specs.LinkSteps.{peerAt}
+use Rattle.block.specs.LinkSteps.{peer_at}
 use Rattle.block.specs.NoteSteps.{note}
 use Rattle.block.proofs.LinkLaws.{count-peers}
 use Rattle.block.proofs.Scans.{keys-apart}
-use Rattle.alike.specs.Notes.{notesOf}
+use Rattle.alike.specs.Notes.{notes_of}
 use Rattle.alike.proofs.ByLink.{count-of, other-first}
 use borrow.Author.Rules.{rules}
 use Rattle.alike.proofs.by_link.next_of.Goals as goal
@@ -40,10 +40,10 @@ module _ (d : After-link_at-l) where
   st = state_of s.args.h s.args.block.now
 
   abbrev ns : List Note
-  ns = notesOf s.args.of st
+  ns = notes_of s.args.of st
 
   abbrev p : ℕ
-  p = peerAt st s.args.link
+  p = peer_at st s.args.link
 
   abbrev i : ℕ
   i = d.loop-i.i
@@ -54,10 +54,10 @@ module _ (d : After-link_at-l) where
   here : i < length ns
   here = omega (arith, count-of s.args.of s.args.h s.args.block.now s.requires.0, d.loop-i-test.true, f.count-n.ensures)
 
-  is-for : d.link_at-l.result ≡ s.args.link → forPeer p e ≡ true
-  is-for t = eq-eqb e.peer p (d.link_at-l.ensures.peer ∙ ap (peerAt st) t)
+  is-for : d.link_at-l.result ≡ s.args.link → for_peer p e ≡ true
+  is-for t = eq-eqb e.peer p (d.link_at-l.ensures.peer ∙ ap (peer_at st) t)
 
-  is-not : (d.link_at-l.result ≡ s.args.link → ⊥) → forPeer p e ≡ false
+  is-not : (d.link_at-l.result ≡ s.args.link → ⊥) → for_peer p e ≡ false
   is-not t =
       let k : length (keys st.links) ≡ s.args.h.live.links = count-peers s.args.h s.args.block.now in
       let r : d.link_at-l.result < s.args.h.live.links = d.link_at-l.ensures.below in
@@ -83,6 +83,6 @@ returns c =
     record {
       after = omega (arith, l.invariant.0, l.invariant.1);
       within = omega (arith, n, c.count-n.ensures);
-      passed = l.invariant.2 ∙ ap (λ (k : ℕ). filter (forPeer (peerAt (state_of a.h a.block.now) a.link)) (drop k (notesOf a.of (state_of a.h a.block.now)))) at;
+      passed = l.invariant.2 ∙ ap (λ (k : ℕ). filter (for_peer (peer_at (state_of a.h a.block.now) a.link)) (drop k (notes_of a.of (state_of a.h a.block.now)))) at;
       found = λ h. absurd (omega (arith, n, c.count-n.ensures, h));
     }

@@ -8,12 +8,12 @@ use lib.Dec.{leb}
 use lib.ListN.{length, get_or}
 use Rattle.whole.proofs.Tests.{no, yes}
 use Rattle.protocol.specs.State.{State, Note}
-use Rattle.protocol.specs.Alike.{sameNote}
+use Rattle.protocol.specs.Alike.{same_note}
 use Rattle.block.specs.View.{state_of}
-use Rattle.block.specs.LinkSteps.{peerAt}
+use Rattle.block.specs.LinkSteps.{peer_at}
 use Rattle.block.specs.NoteSteps.{note}
 use Rattle.block.specs.declared.note.Note.{Note as LinkNote}
-use Rattle.alike.specs.Notes.{notesOf, count_of, NextOf}
+use Rattle.alike.specs.Notes.{notes_of, count_of, NextOf}
 use Rattle.alike.proofs.ByLink.{count-of, Cursors, cursors-start, cursors-short, cursors-differ, cursors-more, cursors-end, same-inside}
 use borrow.Author.Rules.{rules}
 use Rattle.alike.proofs.by_link.same_for.Goals as goal
@@ -28,13 +28,13 @@ module _ (s : Start) where
   sb = state_of s.args.hb s.args.b.now
 
   abbrev p : ℕ
-  p = peerAt sa s.args.link
+  p = peer_at sa s.args.link
 
   abbrev xs : List Note
-  xs = notesOf s.args.of sa
+  xs = notes_of s.args.of sa
 
   abbrev ys : List Note
-  ys = notesOf s.args.of sb
+  ys = notes_of s.args.of sb
 
   many_xs : length xs ≡ count_of s.args.of s.args.ha.live
   many_xs = count-of s.args.of s.args.ha s.args.a.now s.requires.sound.0
@@ -43,7 +43,7 @@ module _ (s : Start) where
   many-ys = count-of s.args.of s.args.hb s.args.b.now s.requires.sound.3
 
   -- what was found in the second list, of the one peer
-  in-second : (from r : ℕ) → NextOf (peerAt sb s.args.link) from ys r → NextOf p from ys r
+  in-second : (from r : ℕ) → NextOf (peer_at sb s.args.link) from ys r → NextOf p from ys r
   in-second from r h = subst (λ (q : ℕ). NextOf q from ys r) (sym s.requires.link_value) h
 
 pub next_of-i-requires : goal.next_of-i-requires
@@ -104,13 +104,13 @@ module _ (e : After-same_note-s) where
   more-ys : j₁ < length (ys s₂)
   more-ys = omega (arith, many-ys s₂, m-is d₁, e.if-m-j.false)
 
-  compared : sameNote (get_or (xs s₂) i₁ (note 0 0 0)) (get_or (ys s₂) j₁ (note 0 0 0)) ≡ e.same_note-s.result
+  compared : same_note (get_or (xs s₂) i₁ (note 0 0 0)) (get_or (ys s₂) j₁ (note 0 0 0)) ≡ e.same_note-s.result
   compared =
       let x : LinkNote = e.note_at-x.result in
       let y : LinkNote = e.note_at-y.result in
       let u = e.note_at-x.ensures.same in
       let v = e.note_at-y.ensures.same in
-      same-inside (p s₂) (get_or (xs s₂) i₁ (note 0 0 0)) (get_or (ys s₂) j₁ (note 0 0 0)) x y (inv.atFirst (more-xs d₁)) (inv.atSecond more-ys)
+      same-inside (p s₂) (get_or (xs s₂) i₁ (note 0 0 0)) (get_or (ys s₂) j₁ (note 0 0 0)) x y (inv.at_first (more-xs d₁)) (inv.at_second more-ys)
       (ap (λ (n : Note). n.id) u) (ap (λ (n : Note). n.round) u) (ap (λ (n : Note). n.id) v) (ap (λ (n : Note). n.round) v)
       ∙ sym e.same_note-s.ensures
 

@@ -10,9 +10,9 @@ use lib.ListN.{length, get_or}
 use Rattle.whole.proofs.Tests.{no, yes}
 use Rattle.protocol.specs.State.{Note}
 use Rattle.block.specs.View.{state_of}
-use Rattle.block.specs.LinkSteps.{peerAt}
+use Rattle.block.specs.LinkSteps.{peer_at}
 use Rattle.block.proofs.LinkLaws.{count-peers}
-use Rattle.alike.specs.Notes.{notesOf, sameFor}
+use Rattle.alike.specs.Notes.{notes_of, same_for}
 use Rattle.alike.proofs.ByLink.{notes-no, notes-yes}
 use borrow.Author.Rules.{rules}
 use Rattle.alike.proofs.by_link.same_notes.Goals as goal
@@ -21,15 +21,15 @@ use Rattle.alike.proofs.by_link.same_notes.Goals.{Start}
 -- the links are the same
 module _ (s : Start) where
   abbrev xs : List Note
-  xs = notesOf s.args.of (state_of s.args.ha s.args.a.now)
+  xs = notes_of s.args.of (state_of s.args.ha s.args.a.now)
 
   abbrev ys : List Note
-  ys = notesOf s.args.of (state_of s.args.hb s.args.b.now)
+  ys = notes_of s.args.of (state_of s.args.hb s.args.b.now)
 
   same-many : s.args.ha.live.links ≡ s.args.hb.live.links
   same-many = sym (count-peers s.args.ha s.args.a.now) ∙ ap length s.requires.a_value ∙ count-peers s.args.hb s.args.b.now
 
-  same-peer : (l : ℕ) → peerAt (state_of s.args.ha s.args.a.now) l ≡ peerAt (state_of s.args.hb s.args.b.now) l
+  same-peer : (l : ℕ) → peer_at (state_of s.args.ha s.args.a.now) l ≡ peer_at (state_of s.args.hb s.args.b.now) l
   same-peer l = ap (λ (ks : List ℕ). get_or ks l 0) s.requires.a_value
 
 pub loop-l-init : goal.loop-l-init
@@ -42,15 +42,15 @@ same_for-s-requires c =
 
 pub returns-then-not-s : goal.returns-then-not-s
 returns-then-not-s c =
-    sym (notes-no (peerAt (state_of c.args.ha c.args.a.now) c.loop-l.l) (xs (goal.at.returns-then-not-s c).Start) (ys (goal.at.returns-then-not-s c).Start) (no c.same_for-s.ensures (ap not c.if-not-s.true)))
+    sym (notes-no (peer_at (state_of c.args.ha c.args.a.now) c.loop-l.l) (xs (goal.at.returns-then-not-s c).Start) (ys (goal.at.returns-then-not-s c).Start) (no c.same_for-s.ensures (ap not c.if-not-s.true)))
 
 pub loop-l-preserved : goal.loop-l-preserved
 loop-l-preserved c =
-    (search rules, below_more (λ (k : ℕ). sameFor (peerAt (state_of c.args.ha c.args.a.now) k) (xs (goal.at.loop-l-preserved c).Start) (ys (goal.at.loop-l-preserved c).Start) ≡ true) c.loop-l.l c.loop-l.invariant.1 (yes c.same_for-s.ensures (ap not c.if-not-s.false)))
+    (search rules, below_more (λ (k : ℕ). same_for (peer_at (state_of c.args.ha c.args.a.now) k) (xs (goal.at.loop-l-preserved c).Start) (ys (goal.at.loop-l-preserved c).Start) ≡ true) c.loop-l.l c.loop-l.invariant.1 (yes c.same_for-s.ensures (ap not c.if-not-s.false)))
 
 pub returns : goal.returns
 returns c =
-    let all : (k : ℕ) → k < c.args.ha.live.links → sameFor (peerAt (state_of c.args.ha c.args.a.now) k) (xs (goal.at.returns c).Start) (ys (goal.at.returns c).Start) ≡ true =
+    let all : (k : ℕ) → k < c.args.ha.live.links → same_for (peer_at (state_of c.args.ha c.args.a.now) k) (xs (goal.at.returns c).Start) (ys (goal.at.returns c).Start) ≡ true =
     λ k h. c.loop-l.invariant.1 k (omega (arith, h, c.loop-l-test.false)) in
     sym (notes-yes c.args.of c.args.ha c.args.a.now c.args.hb c.args.b.now c.requires.sound.0 c.requires.sound.2 all
-    (λ k h. ap (λ (q : ℕ). sameFor q (xs (goal.at.returns c).Start) (ys (goal.at.returns c).Start)) (sym (same-peer (goal.at.returns c).Start k)) ∙ all k (omega (arith, h, same-many (goal.at.returns c).Start))))
+    (λ k h. ap (λ (q : ℕ). same_for q (xs (goal.at.returns c).Start) (ys (goal.at.returns c).Start)) (sym (same-peer (goal.at.returns c).Start k)) ∙ all k (omega (arith, h, same-many (goal.at.returns c).Start))))

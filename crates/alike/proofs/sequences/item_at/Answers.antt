@@ -4,22 +4,22 @@ use mathlib.Core.List.{List}
 use Prim.Native.Nat.{ℕ, ◌<◌}
 use lib.Dec.{lit<}
 use lib.ListN.{length, get_or, length-map, get_or-map}
-use Rattle.alike.specs.Elements.{Element, element, hopElement, graftElement, expiryElement, sequenceOf, InState}
-use Rattle.block.specs.View.{state_of, limitsOf, receivedIn, graftedIn, cachedIn, nothingOf, graftsOf, cachedOf}
+use Rattle.alike.specs.Elements.{Element, element, hop_element, graft_element, expiry_element, sequence_of, InState}
+use Rattle.block.specs.View.{state_of, limits_of, received_in, grafted_in, cached_in, nothing_of, grafts_of, cached_of}
 use Rattle.block.specs.declared.head.Head.{Head}
-use Rattle.block.specs.MissingSteps.{hop, hopsAt}
-use Rattle.block.specs.Caches.GraftSteps.{graftsAt}
+use Rattle.block.specs.MissingSteps.{hop, hops_at}
+use Rattle.block.specs.Caches.GraftSteps.{grafts_at}
 use Rattle.block.proofs.CachesLaws.ReceivedLaws.{received-lies, count-received-rows}
 use Rattle.block.proofs.CachesLaws.GraftedLaws.{grafted-lies, count-grafted-rows}
 use Rattle.block.proofs.CachesLaws.CachedLaws.{cached-lies, count-cached-rows}
 use Rattle.alike.specs.declared.sequences.Sequence.{Sequence}
 use Rattle.alike.specs.declared.sequences.Sequence.TheVariants.{ReceivedExpiry, GraftedExpiry, CachedExpiry}
 use Rattle.storage.specs.Lists.Map.{entry, keys}
-use Rattle.time_cache.specs.Tables.{Lies, rows_at, row_at, expiryOf}
+use Rattle.time_cache.specs.Tables.{Lies, rows_at, row_at, expiry_of}
 use Rattle.time_cache.specs.declared.cache.TimeBoundCache.{TimeBoundCache}
 use Rattle.block.specs.Layout.{table}
 use Rattle.block.specs.Fit.{Fit}
-use Rattle.block.specs.TimeCaches.{receivedCache, graftedCache, cachedCache}
+use Rattle.block.specs.TimeCaches.{received_cache, grafted_cache, cached_cache}
 use Rattle.alike.proofs.BlockReads.{expiry-read}
 use native.Mathlib.Omega.{arith}
 use Rattle.alike.proofs.sequences.item_at.Goals as goal
@@ -27,14 +27,14 @@ use Rattle.alike.proofs.sequences.item_at.Goals.{Start}
 
 -- element j of a list, and that there is one
 abbrev item_of : Head → List ℕ → ℕ → Sequence → Element
-item_of h xs j q = get_or (sequenceOf q (state_of h xs)) j (element 0 0 0)
+item_of h xs j q = get_or (sequence_of q (state_of h xs)) j (element 0 0 0)
 
 abbrev There : Head → List ℕ → ℕ → Sequence → Type 0
-There h xs j q = j < length (sequenceOf q (state_of h xs))
+There h xs j q = j < length (sequence_of q (state_of h xs))
 
 -- expiry row j of a time cache
 abbrev row_of : List ℕ → ℕ → TimeBoundCache → Element
-row_of xs j t = expiryElement (expiryOf (row_at (rows_at t xs) j))
+row_of xs j t = expiry_element (expiry_of (row_at (rows_at t xs) j))
 
 -- what a read of the row asks
 abbrev RowAsks : List ℕ → ℕ → TimeBoundCache → Type 0
@@ -42,26 +42,26 @@ RowAsks xs j t = Lies t xs × (j < t.expiry.len)
 
 -- the rows of the three time caches
 module _ (h : Head) (xs : List ℕ) (f : Fit h xs) (j : ℕ) where
-  received-row-asks : There h xs j ReceivedExpiry → RowAsks xs j (receivedCache h)
-  received-row-asks q = (received-lies h xs f, omega (arith, length-map (state_of h xs).received.expiry expiryElement, count-received-rows h xs f))
+  received-row-asks : There h xs j ReceivedExpiry → RowAsks xs j (received_cache h)
+  received-row-asks q = (received-lies h xs f, omega (arith, length-map (state_of h xs).received.expiry expiry_element, count-received-rows h xs f))
 
-  received-row : There h xs j ReceivedExpiry → item_of h xs j ReceivedExpiry ≡ row_of xs j (receivedCache h)
-  unfolding state_of receivedIn
-  received-row q = expiry-read (limitsOf h.limits) 2 2 h.live.received 3 40 h.live.received_rows xs (lit< tt) (omega (arith, f)) (lit< tt) (omega (arith, f)) nothingOf j (received-row-asks q).1
+  received-row : There h xs j ReceivedExpiry → item_of h xs j ReceivedExpiry ≡ row_of xs j (received_cache h)
+  unfolding state_of received_in
+  received-row q = expiry-read (limits_of h.limits) 2 2 h.live.received 3 40 h.live.received_rows xs (lit< tt) (omega (arith, f)) (lit< tt) (omega (arith, f)) nothing_of j (received-row-asks q).1
 
-  grafted-row-asks : There h xs j GraftedExpiry → RowAsks xs j (graftedCache h)
-  grafted-row-asks q = (grafted-lies h xs f, omega (arith, length-map (state_of h xs).grafted.expiry expiryElement, count-grafted-rows h xs f))
+  grafted-row-asks : There h xs j GraftedExpiry → RowAsks xs j (grafted_cache h)
+  grafted-row-asks q = (grafted-lies h xs f, omega (arith, length-map (state_of h xs).grafted.expiry expiry_element, count-grafted-rows h xs f))
 
-  grafted-row : There h xs j GraftedExpiry → item_of h xs j GraftedExpiry ≡ row_of xs j (graftedCache h)
-  unfolding state_of graftedIn
-  grafted-row q = expiry-read (limitsOf h.limits) 7 119 h.live.grafted 8 40 h.live.grafted_rows xs (lit< tt) (omega (arith, f)) (lit< tt) (omega (arith, f)) (graftsOf (keys (state_of h xs).links)) j (grafted-row-asks q).1
+  grafted-row : There h xs j GraftedExpiry → item_of h xs j GraftedExpiry ≡ row_of xs j (grafted_cache h)
+  unfolding state_of grafted_in
+  grafted-row q = expiry-read (limits_of h.limits) 7 119 h.live.grafted 8 40 h.live.grafted_rows xs (lit< tt) (omega (arith, f)) (lit< tt) (omega (arith, f)) (grafts_of (keys (state_of h xs).links)) j (grafted-row-asks q).1
 
-  cached-row-asks : There h xs j CachedExpiry → RowAsks xs j (cachedCache h)
-  cached-row-asks q = (cached-lies h xs f, omega (arith, length-map (state_of h xs).cache.expiry expiryElement, count-cached-rows h xs f))
+  cached-row-asks : There h xs j CachedExpiry → RowAsks xs j (cached_cache h)
+  cached-row-asks q = (cached-lies h xs f, omega (arith, length-map (state_of h xs).cache.expiry expiry_element, count-cached-rows h xs f))
 
-  cached-row : There h xs j CachedExpiry → item_of h xs j CachedExpiry ≡ row_of xs j (cachedCache h)
-  unfolding state_of cachedIn
-  cached-row q = expiry-read (limitsOf h.limits) 4 4 h.live.cached 5 48 h.live.cached_rows xs (lit< tt) (omega (arith, f)) (lit< tt) (omega (arith, f)) (cachedOf (table (limitsOf h.limits) 6 xs)) j (cached-row-asks q).1
+  cached-row : There h xs j CachedExpiry → item_of h xs j CachedExpiry ≡ row_of xs j (cached_cache h)
+  unfolding state_of cached_in
+  cached-row q = expiry-read (limits_of h.limits) 4 4 h.live.cached 5 48 h.live.cached_rows xs (lit< tt) (omega (arith, f)) (lit< tt) (omega (arith, f)) (cached_of (table (limits_of h.limits) 6 xs)) j (cached-row-asks q).1
 
 -- of the list that was told: there is an element j, and there is such a list
 there : (s : Start) (q : Sequence) → s.args.of ≡ q → There s.args.h s.args.block.now s.args.j q
@@ -87,14 +87,14 @@ row_item-requires-in-CachedExpiry c =
 
 pub announcer_at-hop-requires : goal.announcer_at-hop-requires
 announcer_at-hop-requires c =
-    (c.requires.0, inside (goal.at.announcer_at-hop-requires c).Start _ c.in-Announcers.is, omega (arith, there (goal.at.announcer_at-hop-requires c).Start _ c.in-Announcers.is, length-map (hopsAt (state_of c.args.h c.args.block.now) c.in-Announcers.i) hopElement))
+    (c.requires.0, inside (goal.at.announcer_at-hop-requires c).Start _ c.in-Announcers.is, omega (arith, there (goal.at.announcer_at-hop-requires c).Start _ c.in-Announcers.is, length-map (hops_at (state_of c.args.h c.args.block.now) c.in-Announcers.i) hop_element))
 
 pub hop_item-requires : goal.hop_item-requires
 hop_item-requires c = (c.requires.0, c.announcer_at-hop.ensures.below)
 
 pub graft_at-hop-requires : goal.graft_at-hop-requires
 graft_at-hop-requires c =
-    (c.requires.0, inside (goal.at.graft_at-hop-requires c).Start _ c.in-GraftedPeers.is, omega (arith, there (goal.at.graft_at-hop-requires c).Start _ c.in-GraftedPeers.is, length-map (graftsAt (state_of c.args.h c.args.block.now) c.in-GraftedPeers.i).peers graftElement))
+    (c.requires.0, inside (goal.at.graft_at-hop-requires c).Start _ c.in-GraftedPeers.is, omega (arith, there (goal.at.graft_at-hop-requires c).Start _ c.in-GraftedPeers.is, length-map (grafts_at (state_of c.args.h c.args.block.now) c.in-GraftedPeers.i).peers graft_element))
 
 pub hop_item-requires-in-GraftedPeers : goal.hop_item-requires-in-GraftedPeers
 hop_item-requires-in-GraftedPeers c = (c.requires.0, c.graft_at-hop.ensures.below)
@@ -127,10 +127,10 @@ pub returns-in-Announcers : goal.returns-in-Announcers
 returns-in-Announcers c =
     let a = c.args in
     c.hop_item.ensures
-    ∙ sym (ap (item_of a.h a.block.now a.j) c.in-Announcers.is ∙ get_or-map hopElement (hopsAt (state_of a.h a.block.now) c.in-Announcers.i) a.j (hop 0 0) ∙ ap hopElement c.announcer_at-hop.ensures.same)
+    ∙ sym (ap (item_of a.h a.block.now a.j) c.in-Announcers.is ∙ get_or-map hop_element (hops_at (state_of a.h a.block.now) c.in-Announcers.i) a.j (hop 0 0) ∙ ap hop_element c.announcer_at-hop.ensures.same)
 
 pub returns-in-GraftedPeers : goal.returns-in-GraftedPeers
 returns-in-GraftedPeers c =
     let a = c.args in
     c.hop_item-in-GraftedPeers.ensures
-    ∙ sym (ap (item_of a.h a.block.now a.j) c.in-GraftedPeers.is ∙ get_or-map graftElement (graftsAt (state_of a.h a.block.now) c.in-GraftedPeers.i).peers a.j (entry 0 0) ∙ ap graftElement c.graft_at-hop.ensures.same)
+    ∙ sym (ap (item_of a.h a.block.now a.j) c.in-GraftedPeers.is ∙ get_or-map graft_element (grafts_at (state_of a.h a.block.now) c.in-GraftedPeers.i).peers a.j (entry 0 0) ∙ ap graft_element c.graft_at-hop.ensures.same)

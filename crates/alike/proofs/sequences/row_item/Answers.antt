@@ -14,7 +14,7 @@ room : (s : Start)
     → (s.args.c.expiry.at + s.args.p * s.args.c.expiry.stride + s.args.c.expiry.stride ≤ length s.args.block.now) × (40 ≤ s.args.c.expiry.stride)
 room s =
     let t = s.args.c in
-    (omega (arith, row-end t.expiry.stride t.expiry.len s.args.p s.requires.1, s.requires.0.within), s.requires.0.expiryWide)
+    (omega (arith, row-end t.expiry.stride t.expiry.len s.args.p s.requires.1, s.requires.0.within), s.requires.0.expiry_wide)
 
 pub overflow_mul-at : goal.overflow_mul-at
 overflow_mul-at c = omega (arith, room (goal.at.overflow_mul-at c).Start)
@@ -31,4 +31,4 @@ load_id-id-requires c = omega (arith, room (goal.at.load_id-id-requires c).Start
 pub returns : goal.returns
 returns c =
     let t = c.args.c in
-    λ k. element (c.expires-time.ensures k) ((c.load_id-id.ensures ∙ key-read t.expiry.stride t.expiry.len c.args.p t.expiry.at c.args.block.now c.requires.1 c.requires.0.expiryWide) k) 0
+    λ k. element (c.expires-time.ensures k) ((c.load_id-id.ensures ∙ key-read t.expiry.stride t.expiry.len c.args.p t.expiry.at c.args.block.now c.requires.1 c.requires.0.expiry_wide) k) 0

@@ -8,7 +8,7 @@ use Prim.Native.Nat.{ℕ, ◌-◌, ◌<◌}
 use lib.ListN.{length, get_or}
 use Rattle.whole.proofs.Tests.{no, yes}
 use Rattle.block.specs.View.{state_of}
-use Rattle.alike.specs.Elements.{Element, element, sameElement, sequenceOf}
+use Rattle.alike.specs.Elements.{Element, element, same_element, sequence_of}
 use Rattle.alike.proofs.Lists.{list-yes, list-no, list_length}
 use borrow.Author.Count.{below_more}
 use native.Mathlib.Omega.{arith}
@@ -20,10 +20,10 @@ use Rattle.alike.proofs.sequences.same_sequence.Goals.{After-same-s, Start}
 -- the two lists
 module _ (s : Start) where
   abbrev A : List Element
-  A = sequenceOf s.args.of (state_of s.args.ha s.args.a.now)
+  A = sequence_of s.args.of (state_of s.args.ha s.args.a.now)
 
   abbrev B : List Element
-  B = sequenceOf s.args.of (state_of s.args.hb s.args.b.now)
+  B = sequence_of s.args.of (state_of s.args.hb s.args.b.now)
 
 -- element j of both, as it was read
 module _ (d : After-same-s) where
@@ -39,12 +39,12 @@ module _ (d : After-same-s) where
   in_b : at < length (B start)
   in_b = omega (arith, d.loop-j-test.true, d.size-m.ensures, d.if-n-m.false)
 
-  compared : d.same-s.result ≡ sameElement (get_or (A start) at (element 0 0 0)) (get_or (B start) at (element 0 0 0))
-  compared = d.same-s.ensures ∙ (λ k. sameElement (d.item_at-x.ensures k) (d.item_at-y.ensures k))
+  compared : d.same-s.result ≡ same_element (get_or (A start) at (element 0 0 0)) (get_or (B start) at (element 0 0 0))
+  compared = d.same-s.ensures ∙ (λ k. same_element (d.item_at-x.ensures k) (d.item_at-y.ensures k))
 
 pub returns-then-n-m : goal.returns-then-n-m
 returns-then-n-m c =
-    sym (list_length sameElement (element 0 0 0) (A (goal.at.returns-then-n-m c).Start) (B (goal.at.returns-then-n-m c).Start) (λ e. c.if-n-m.true (c.size-n.ensures ∙ e ∙ sym c.size-m.ensures)))
+    sym (list_length same_element (element 0 0 0) (A (goal.at.returns-then-n-m c).Start) (B (goal.at.returns-then-n-m c).Start) (λ e. c.if-n-m.true (c.size-n.ensures ∙ e ∙ sym c.size-m.ensures)))
 
 pub loop-j-init : goal.loop-j-init
 loop-j-init c = (search rules, λ k h. absurd (omega (arith, h)))
@@ -57,7 +57,7 @@ item_at-y-requires c = (search rules, search rules, omega (arith, c.loop-j-test.
 
 pub returns-then-not-s : goal.returns-then-not-s
 returns-then-not-s c =
-    sym (list-no sameElement (element 0 0 0) (A (start (goal.at.returns-then-not-s c).After-same-s)) (B (start (goal.at.returns-then-not-s c).After-same-s)) (at (goal.at.returns-then-not-s c).After-same-s) (in_a (goal.at.returns-then-not-s c).After-same-s) (in_b (goal.at.returns-then-not-s c).After-same-s) (no (compared (goal.at.returns-then-not-s c).After-same-s) (ap not c.if-not-s.true)))
+    sym (list-no same_element (element 0 0 0) (A (start (goal.at.returns-then-not-s c).After-same-s)) (B (start (goal.at.returns-then-not-s c).After-same-s)) (at (goal.at.returns-then-not-s c).After-same-s) (in_a (goal.at.returns-then-not-s c).After-same-s) (in_b (goal.at.returns-then-not-s c).After-same-s) (no (compared (goal.at.returns-then-not-s c).After-same-s) (ap not c.if-not-s.true)))
 
 pub loop-j-preserved : goal.loop-j-preserved
 loop-j-preserved c =
@@ -66,5 +66,5 @@ loop-j-preserved c =
 pub returns : goal.returns
 returns c =
     let n = c.size-n.ensures in
-    sym (list-yes sameElement (element 0 0 0) (A (goal.at.returns c).Start) (B (goal.at.returns c).Start) (sym n ∙ c.if-n-m.false ∙ c.size-m.ensures)
+    sym (list-yes same_element (element 0 0 0) (A (goal.at.returns c).Start) (B (goal.at.returns c).Start) (sym n ∙ c.if-n-m.false ∙ c.size-m.ensures)
     (λ k h. c.loop-j.invariant.1 k (omega (arith, h, n, c.loop-j-test.false))))

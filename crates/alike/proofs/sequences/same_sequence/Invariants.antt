@@ -5,15 +5,15 @@ use mathlib.Core.Path.{◌≡◌}
 use mathlib.Core.Bool.{true}
 use mathlib.Core.List.{List}
 use lib.ListN.{get_or}
-use Rattle.alike.specs.Elements.{Element, element, sameElement, sequenceOf}
+use Rattle.alike.specs.Elements.{Element, element, same_element, sequence_of}
 use Rattle.alike.proofs.sequences.same_sequence.Given as goal
 
 -- element k of both agrees
 abbrev pub Agree : List Element → List Element → ℕ → Type 0
-Agree xs ys k = sameElement (get_or xs k (element 0 0 0)) (get_or ys k (element 0 0 0)) ≡ true
+Agree xs ys k = same_element (get_or xs k (element 0 0 0)) (get_or ys k (element 0 0 0)) ≡ true
 
 abbrev pub invariant-loop-j : goal.invariant-loop-j
-invariant-loop-j l = (l.j ≤ l.n) × ((k : ℕ) → k < l.j → Agree (sequenceOf l.of (state_of l.ha l.a)) (sequenceOf l.of (state_of l.hb l.b)) k)
+invariant-loop-j l = (l.j ≤ l.n) × ((k : ℕ) → k < l.j → Agree (sequence_of l.of (state_of l.ha l.a)) (sequence_of l.of (state_of l.hb l.b)) k)
 
 abbrev pub decreases-loop-j : goal.decreases-loop-j
 decreases-loop-j l = l.n - l.j

@@ -8,12 +8,12 @@ use lib.Dec.{eqb}
 use lib.ListN.{take, drop}
 use borrow.Author.Tests.{eq-eqb, ne_eqb}
 use Rattle.whole.proofs.Tests.{no, yes}
-use Rattle.block.specs.View.{state_of, limitsOf}
+use Rattle.block.specs.View.{state_of, limits_of}
 use Rattle.block.specs.declared.head.Head.{Head}
-use Rattle.protocol.specs.Alike.{same_list, sameCached}
+use Rattle.protocol.specs.Alike.{same_list, same_cached}
 use Rattle.alike.proofs.Lists.{and_no, and-no-left, and_yes}
-use Rattle.alike.specs.Rows.{cachedEntry}
-use Rattle.alike.specs.Elements.{sameElement}
+use Rattle.alike.specs.Rows.{cached_entry}
+use Rattle.alike.specs.Elements.{same_element}
 use Rattle.time_cache.specs.declared.cache.TimeBoundCache.{TimeBoundCache}
 use Rattle.alike.proofs.Entries.{key_of, entry-same, Asks, key_at, cached-asks, cached-key}
 use Rattle.storage.specs.Lists.Map.{Entry}
@@ -22,15 +22,15 @@ use Rattle.protocol.specs.State.{Cached}
 use Rattle.storage.specs.Rows.Part.{part}
 use Rattle.storage.proofs.RowsLaws.Parts.{part-between}
 use Rattle.block.specs.Layout.{place}
-use Rattle.block.specs.Caches.CachedReads.{cachedAt, ContentIs}
+use Rattle.block.specs.Caches.CachedReads.{cached_at, ContentIs}
 use Rattle.block.specs.declared.caches.cached.Content.{Content}
 use native.Mathlib.Omega.{arith}
 use Rattle.alike.proofs.tables.same_cached.Goals as goal
 use Rattle.alike.proofs.tables.same_cached.Goals.{After-same_key-key, Start}
 
 -- the content that is lent
-content-lent : (h : Head) (xs : List ℕ) (i : ℕ) (r : Content) (b : ℕ) → b ≡ place (limitsOf h.limits) 6 → ContentIs h xs i r
-    → take (b + r.start + r.len - (b + r.start)) (drop (b + r.start) xs) ≡ (cachedAt (state_of h xs) i).content
+content-lent : (h : Head) (xs : List ℕ) (i : ℕ) (r : Content) (b : ℕ) → b ≡ place (limits_of h.limits) 6 → ContentIs h xs i r
+    → take (b + r.start + r.len - (b + r.start)) (drop (b + r.start) xs) ≡ (cached_at (state_of h xs) i).content
 content-lent h xs i r b e w = part-between (b + r.start) r.len xs ∙ ap (λ (a : ℕ). part (a + r.start) r.len xs) e ∙ sym w.same
 
 -- what the comparison of keys told
@@ -39,17 +39,17 @@ module _ (d : After-same_key-key) where
   s = (goal.at.After-same_key-key d).Start
 
   abbrev p : Entry (Timed Cached)
-  p = cachedEntry (state_of s.args.ha s.args.a.now) s.args.i
+  p = cached_entry (state_of s.args.ha s.args.a.now) s.args.i
 
   abbrev q : Entry (Timed Cached)
-  q = cachedEntry (state_of s.args.hb s.args.b.now) s.args.i
+  q = cached_entry (state_of s.args.hb s.args.b.now) s.args.i
 
-  key-told : d.same_key-key.result ≡ sameElement (key_of p) (key_of q)
+  key-told : d.same_key-key.result ≡ same_element (key_of p) (key_of q)
   key-told =
       let a = s.args in
       let x = ap (λ (t : TimeBoundCache). key_at t a.a.now a.i) d.cached_cache-c.ensures ∙ cached-key a.ha a.a.now s.requires.0 a.i s.requires.1 in
       let y = ap (λ (t : TimeBoundCache). key_at t a.b.now a.i) d.cached_cache-d.ensures ∙ cached-key a.hb a.b.now s.requires.2 a.i s.requires.3 in
-      d.same_key-key.ensures ∙ (λ k. sameElement (x k) (y k))
+      d.same_key-key.ensures ∙ (λ k. same_element (x k) (y k))
 
 pub same_key-key-requires : goal.same_key-key-requires
 same_key-key-requires c =
@@ -57,15 +57,15 @@ same_key-key-requires c =
 
 pub returns-then-not-key : goal.returns-then-not-key
 returns-then-not-key c =
-    sym (entry-same sameCached (p (goal.at.returns-then-not-key c).After-same_key-key) (q (goal.at.returns-then-not-key c).After-same_key-key) ∙ and-no-left (sameElement (key_of (p (goal.at.returns-then-not-key c).After-same_key-key)) (key_of (q (goal.at.returns-then-not-key c).After-same_key-key))) (sameCached (p (goal.at.returns-then-not-key c).After-same_key-key).value.value (q (goal.at.returns-then-not-key c).After-same_key-key).value.value) (no (key-told (goal.at.returns-then-not-key c).After-same_key-key) (ap not c.if-not-key.true)))
+    sym (entry-same same_cached (p (goal.at.returns-then-not-key c).After-same_key-key) (q (goal.at.returns-then-not-key c).After-same_key-key) ∙ and-no-left (same_element (key_of (p (goal.at.returns-then-not-key c).After-same_key-key)) (key_of (q (goal.at.returns-then-not-key c).After-same_key-key))) (same_cached (p (goal.at.returns-then-not-key c).After-same_key-key).value.value (q (goal.at.returns-then-not-key c).After-same_key-key).value.value) (no (key-told (goal.at.returns-then-not-key c).After-same_key-key) (ap not c.if-not-key.true)))
 
 pub returns-then-p-q : goal.returns-then-p-q
-unfolding sameCached
+unfolding same_cached
 returns-then-p-q c =
     let x = (p (goal.at.returns-then-p-q c).After-same_key-key).value.value in
     let y = (q (goal.at.returns-then-p-q c).After-same_key-key).value.value in
     let rounds = sym (λ k. eqb (c.cached_round-p.ensures k) (c.cached_round-q.ensures k)) ∙ ne_eqb _ _ c.if-p-q.true in
-    sym (entry-same sameCached (p (goal.at.returns-then-p-q c).After-same_key-key) (q (goal.at.returns-then-p-q c).After-same_key-key) ∙ and_no (sameElement (key_of (p (goal.at.returns-then-p-q c).After-same_key-key)) (key_of (q (goal.at.returns-then-p-q c).After-same_key-key))) (sameCached x y) (and_no (same_list eqb x.content y.content) (eqb x.round y.round) rounds))
+    sym (entry-same same_cached (p (goal.at.returns-then-p-q c).After-same_key-key) (q (goal.at.returns-then-p-q c).After-same_key-key) ∙ and_no (same_element (key_of (p (goal.at.returns-then-p-q c).After-same_key-key)) (key_of (q (goal.at.returns-then-p-q c).After-same_key-key))) (same_cached x y) (and_no (same_list eqb x.content y.content) (eqb x.round y.round) rounds))
 
 pub contents_at-requires : goal.contents_at-requires
 contents_at-requires c = c.requires.0.fit.ceilings
@@ -92,7 +92,7 @@ pub slice_bounds-same_bytes-end-2 : goal.slice_bounds-same_bytes-end-2
 slice_bounds-same_bytes-end-2 c = omega (arith, c.contents_at-2.ensures, c.cached_content-y.ensures.within, c.requires.2.fit)
 
 pub returns : goal.returns
-unfolding sameCached
+unfolding same_cached
 returns c =
     let a = (s (goal.at.returns c).After-same_key-key).args in
     let x = (p (goal.at.returns c).After-same_key-key).value.value in
@@ -102,4 +102,4 @@ returns c =
     let n = content-lent a.hb a.b.now a.i c.cached_content-y.result c.contents_at-2.result c.contents_at-2.ensures c.cached_content-y.ensures in
     c.same_bytes.ensures
     ∙ (λ k. same_list eqb (m k) (n k))
-    ∙ sym (entry-same sameCached (p (goal.at.returns c).After-same_key-key) (q (goal.at.returns c).After-same_key-key) ∙ (λ k. yes (key-told (goal.at.returns c).After-same_key-key) (ap not c.if-not-key.false) k && (same_list eqb x.content y.content && rounds k)) ∙ and_yes (same_list eqb x.content y.content))
+    ∙ sym (entry-same same_cached (p (goal.at.returns c).After-same_key-key) (q (goal.at.returns c).After-same_key-key) ∙ (λ k. yes (key-told (goal.at.returns c).After-same_key-key) (ap not c.if-not-key.false) k && (same_list eqb x.content y.content && rounds k)) ∙ and_yes (same_list eqb x.content y.content))

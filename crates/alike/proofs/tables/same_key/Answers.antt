@@ -1,8 +1,8 @@
 -- `tables::same_key`: the rows that the entries name.
 use mathlib.Core.Path.{ap, ◌∙◌}
 use Prim.Native.Nat.{ℕ}
-use Rattle.alike.specs.Elements.{sameElement, expiryElement}
-use Rattle.time_cache.specs.Tables.{rows_at, row_at, expiryOf}
+use Rattle.alike.specs.Elements.{same_element, expiry_element}
+use Rattle.time_cache.specs.Tables.{rows_at, row_at, expiry_of}
 use Rattle.alike.proofs.BlockReads.{place-below}
 use native.Mathlib.Omega.{arith}
 use Rattle.alike.proofs.tables.same_key.Goals as goal
@@ -20,6 +20,6 @@ row_item-y-requires c =
 pub returns : goal.returns
 returns c =
     let a = c.args in
-    let x = c.row_item-x.ensures ∙ ap (λ (p : ℕ). expiryElement (expiryOf (row_at (rows_at a.c a.a.now) p))) c.place-p.ensures in
-    let y = c.row_item-y.ensures ∙ ap (λ (p : ℕ). expiryElement (expiryOf (row_at (rows_at a.d a.b.now) p))) c.place-q.ensures in
-    c.same.ensures ∙ (λ k. sameElement (x k) (y k))
+    let x = c.row_item-x.ensures ∙ ap (λ (p : ℕ). expiry_element (expiry_of (row_at (rows_at a.c a.a.now) p))) c.place-p.ensures in
+    let y = c.row_item-y.ensures ∙ ap (λ (p : ℕ). expiry_element (expiry_of (row_at (rows_at a.d a.b.now) p))) c.place-q.ensures in
+    c.same.ensures ∙ (λ k. same_element (x k) (y k))

@@ -4,7 +4,7 @@ use mathlib.Core.Bool.{Bool, ◌&&◌, beq}
 use lib.Dec.{eqb}
 use borrow.Author.Tests.{eq-eqb, ne_eqb}
 use Rattle.block.specs.View.{state_of}
-use Rattle.protocol.specs.Alike.{sameMark}
+use Rattle.protocol.specs.Alike.{same_mark}
 use Rattle.alike.proofs.Lists.{and-no-left, mark-same}
 use Rattle.block.specs.LinkSteps.{link_at}
 use Rattle.alike.proofs.BlockReads.{peer-key}
@@ -15,7 +15,7 @@ returns-then-p-q c =
     let x = link_at (state_of c.args.ha c.args.a.now) c.args.i in
     let y = link_at (state_of c.args.hb c.args.b.now) c.args.i in
     let k : eqb c.peer_at-p.result c.peer_at-q.result ≡ eqb x.key y.key = λ z. eqb ((c.peer_at-p.ensures ∙ peer-key (state_of c.args.ha c.args.a.now) c.args.i) z) ((c.peer_at-q.ensures ∙ peer-key (state_of c.args.hb c.args.b.now) c.args.i) z) in
-    sym (and-no-left (eqb x.key y.key) (sameMark x.value y.value) (sym k ∙ ne_eqb _ _ c.if-p-q.true))
+    sym (and-no-left (eqb x.key y.key) (same_mark x.value y.value) (sym k ∙ ne_eqb _ _ c.if-p-q.true))
 
 pub returns : goal.returns
 returns c =
@@ -25,4 +25,4 @@ returns c =
     c.same_flag.ensures
     ∙ (λ z. beq (c.eager_at-x.ensures z) (c.eager_at-y.ensures z))
     ∙ mark-same x.value y.value
-    ∙ sym (ap (λ (t : Bool). t && sameMark x.value y.value) (sym k ∙ eq-eqb _ _ c.if-p-q.false))
+    ∙ sym (ap (λ (t : Bool). t && same_mark x.value y.value) (sym k ∙ eq-eqb _ _ c.if-p-q.false))

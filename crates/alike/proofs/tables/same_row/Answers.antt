@@ -2,7 +2,7 @@
 use mathlib.Core.Path.{sym, ap, ◌∙◌, subst}
 use Prim.Native.Nat.{◌<◌}
 use Rattle.block.specs.View.{state_of}
-use Rattle.alike.specs.Rows.{sameRow, rows_of}
+use Rattle.alike.specs.Rows.{same_row, rows_of}
 use Rattle.alike.specs.declared.tables.Table.{Table}
 use Rattle.alike.proofs.tables.same_row.Goals as goal
 
@@ -38,24 +38,24 @@ same_cached-requires c =
 
 pub returns-in-Links : goal.returns-in-Links
 returns-in-Links c =
-    c.same_link.ensures ∙ sym (ap (λ (t : Table). sameRow t (state_of c.args.ha c.args.a.now) (state_of c.args.hb c.args.b.now) c.args.i) c.in-Links.is)
+    c.same_link.ensures ∙ sym (ap (λ (t : Table). same_row t (state_of c.args.ha c.args.a.now) (state_of c.args.hb c.args.b.now) c.args.i) c.in-Links.is)
 
 pub returns-in-Missing : goal.returns-in-Missing
 returns-in-Missing c =
-    c.same_missed.ensures ∙ sym (ap (λ (t : Table). sameRow t (state_of c.args.ha c.args.a.now) (state_of c.args.hb c.args.b.now) c.args.i) c.in-Missing.is)
+    c.same_missed.ensures ∙ sym (ap (λ (t : Table). same_row t (state_of c.args.ha c.args.a.now) (state_of c.args.hb c.args.b.now) c.args.i) c.in-Missing.is)
 
 pub returns-in-Timers : goal.returns-in-Timers
 returns-in-Timers c =
-    c.same_timer.ensures ∙ sym (ap (λ (t : Table). sameRow t (state_of c.args.ha c.args.a.now) (state_of c.args.hb c.args.b.now) c.args.i) c.in-Timers.is)
+    c.same_timer.ensures ∙ sym (ap (λ (t : Table). same_row t (state_of c.args.ha c.args.a.now) (state_of c.args.hb c.args.b.now) c.args.i) c.in-Timers.is)
 
 pub returns-in-Received : goal.returns-in-Received
 returns-in-Received c =
-    c.same_received.ensures ∙ sym (ap (λ (t : Table). sameRow t (state_of c.args.ha c.args.a.now) (state_of c.args.hb c.args.b.now) c.args.i) c.in-Received.is)
+    c.same_received.ensures ∙ sym (ap (λ (t : Table). same_row t (state_of c.args.ha c.args.a.now) (state_of c.args.hb c.args.b.now) c.args.i) c.in-Received.is)
 
 pub returns-in-Grafted : goal.returns-in-Grafted
 returns-in-Grafted c =
-    c.same_grafted.ensures ∙ sym (ap (λ (t : Table). sameRow t (state_of c.args.ha c.args.a.now) (state_of c.args.hb c.args.b.now) c.args.i) c.in-Grafted.is)
+    c.same_grafted.ensures ∙ sym (ap (λ (t : Table). same_row t (state_of c.args.ha c.args.a.now) (state_of c.args.hb c.args.b.now) c.args.i) c.in-Grafted.is)
 
 pub returns-in-Cached : goal.returns-in-Cached
 returns-in-Cached c =
-    c.same_cached.ensures ∙ sym (ap (λ (t : Table). sameRow t (state_of c.args.ha c.args.a.now) (state_of c.args.hb c.args.b.now) c.args.i) c.in-Cached.is)
+    c.same_cached.ensures ∙ sym (ap (λ (t : Table). same_row t (state_of c.args.ha c.args.a.now) (state_of c.args.hb c.args.b.now) c.args.i) c.in-Cached.is)

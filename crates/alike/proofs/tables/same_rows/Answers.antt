@@ -6,7 +6,7 @@ use mathlib.Core.Bool.{true}
 use Prim.Native.Nat.{ℕ, ◌-◌}
 use Rattle.whole.proofs.Tests.{no, yes}
 use Rattle.block.specs.View.{state_of}
-use Rattle.alike.specs.Rows.{sameRow}
+use Rattle.alike.specs.Rows.{same_row}
 use borrow.Author.Count.{below_more}
 use Rattle.alike.proofs.Entries.{rows-yes, rows-no, rows-length}
 use native.Mathlib.Omega.{arith}
@@ -34,7 +34,7 @@ returns-then-not-s c =
 pub loop-i-preserved : goal.loop-i-preserved
 loop-i-preserved c =
     let l = c.loop-i in
-    (search rules, below_more (λ (k : ℕ). sameRow c.args.t (state_of c.args.ha c.args.a.now) (state_of c.args.hb c.args.b.now) k ≡ true) l.i l.invariant.1 (yes c.same_row-s.ensures (ap not c.if-not-s.false)))
+    (search rules, below_more (λ (k : ℕ). same_row c.args.t (state_of c.args.ha c.args.a.now) (state_of c.args.hb c.args.b.now) k ≡ true) l.i l.invariant.1 (yes c.same_row-s.ensures (ap not c.if-not-s.false)))
 
 pub returns : goal.returns
 returns c =

@@ -3,9 +3,9 @@ use mathlib.Core.Path.{sym}
 use mathlib.Core.Bool.{false}
 use lib.Dec.{ltb}
 use native.Mathlib.Omega.{arith}
-use Rattle.storage.specs.Lists.Base.{concatMap}
-use Rattle.postcard.specs.Message.{actionBytes}
-use Rattle.decide.specs.RecordGrowth.{announceAction}
+use Rattle.storage.specs.Lists.Base.{concat_map}
+use Rattle.postcard.specs.Message.{action_bytes}
+use Rattle.decide.specs.RecordGrowth.{announce_action}
 use Rattle.wire.proofs.OutputLaws.WrittenLaws.{written_then, tellable-first, tellable-then}
 use Rattle.steps.proofs.TicksLaws.ActionLaws.{tellable-as, written_as}
 use Rattle.announcements.proofs.AnnounceLaws.ActionLaws.{queued-few, announce-bytes}
@@ -18,7 +18,7 @@ overflow_add-queued c =
 pub dispatch_if_any-next-requires : goal.dispatch_if_any-next-requires
 dispatch_if_any-next-requires c =
     let r = c.count_moved-m.result in
-    tellable-first (concatMap actionBytes (announceAction (ltb 0 r.left) false))
+    tellable-first (concat_map action_bytes (announce_action (ltb 0 r.left) false))
     (tellable-as (announce-bytes c.args.instant.0 c.args.h c.args.block.now c.requires.0 r c.count_moved-m.ensures) c.requires.1)
 
 pub schedule_announce_dropped-requires : goal.schedule_announce_dropped-requires

@@ -2,7 +2,7 @@
 use mathlib.Core.Path.{ap, ◌∙◌}
 use Prim.Native.Nat.{◌+◌}
 use native.Mathlib.Omega.{arith}
-use Rattle.decide.specs.Sizes.{sizedQueued, sizedRecorded}
+use Rattle.decide.specs.Sizes.{sized_queued, sized_recorded}
 use Rattle.announcements.proofs.AnnounceLaws.ActionLaws.{queued-few, announce-sized}
 use Rattle.announcements.proofs.announce.announce_sizes.Goals as goal
 
@@ -13,5 +13,5 @@ overflow_add-queued c =
 pub returns : goal.returns
 returns c =
     let r = c.count_moved-m.result in
-    ap (λ z. sizedQueued (c.args.h.live.queued + r.moved) (sizedRecorded r.left z)) c.sizes_then-z.ensures
+    ap (λ z. sized_queued (c.args.h.live.queued + r.moved) (sized_recorded r.left z)) c.sizes_then-z.ensures
     ∙ announce-sized c.args.instant.0 c.args.h c.args.block.now c.requires r c.count_moved-m.ensures

@@ -9,9 +9,9 @@ use Rattle.storage.specs.Rows.Ident.{id_of}
 use Rattle.storage.proofs.RowsLaws.Ids.{id-lt}
 use Rattle.storage.proofs.RowsLaws.Parts.{set-put}
 use Rattle.block.specs.Goes.{Goes}
-use Rattle.block.specs.NoteSteps.{noteRow}
+use Rattle.block.specs.NoteSteps.{note_row}
 use Rattle.block.proofs.NoteLaws.{write-row}
-use Rattle.announcements.specs.Announce.Moves.{dropInstead}
+use Rattle.announcements.specs.Announce.Moves.{drop_instead}
 use Rattle.announcements.proofs.AnnounceLaws.KeepLaws.{instead-goes}
 use native.Mathlib.Omega.{arith}
 use Rattle.announcements.proofs.announce.store_dropped.Goals as goal
@@ -49,13 +49,13 @@ shape_of-block c =
 pub returns : goal.returns
 returns c =
     let a = c.args in
-    let bytes : c.store_le.new.b ≡ put (row (goal.at.returns c).After-dropped_rows_at) (noteRow (id_of a.id) a.round.0) (put (at (goal.at.returns c).After-dropped_rows_at) (a.link ∷ []) (xs (goal.at.returns c).After-dropped_rows_at)) =
+    let bytes : c.store_le.new.b ≡ put (row (goal.at.returns c).After-dropped_rows_at) (note_row (id_of a.id) a.round.0) (put (at (goal.at.returns c).After-dropped_rows_at) (a.link ∷ []) (xs (goal.at.returns c).After-dropped_rows_at)) =
     c.store_le.ensures
     ∙ ap (put (row (goal.at.returns c).After-dropped_rows_at + 32) (le_bytes 2 a.round.0)) c.store_id.ensures
     ∙ write-row (set (xs (goal.at.returns c).After-dropped_rows_at) (at (goal.at.returns c).After-dropped_rows_at) a.link) (row (goal.at.returns c).After-dropped_rows_at) (id_of a.id) a.round.0 (row_in (goal.at.returns c).After-dropped_rows_at)
-    ∙ ap (put (row (goal.at.returns c).After-dropped_rows_at) (noteRow (id_of a.id) a.round.0)) (set-put (at (goal.at.returns c).After-dropped_rows_at) a.link (xs (goal.at.returns c).After-dropped_rows_at) (at_in (goal.at.returns c).After-dropped_rows_at)) in
-    subst (λ (ys : List ℕ). Goes (dropInstead a.k a.link (id_of a.id) a.round.0) a.h (xs (goal.at.returns c).After-dropped_rows_at) a.h ys)
-    (sym (bytes ∙ (λ t. put (c.dropped_rows_at.ensures t + 34 * a.k) (noteRow (id_of a.id) a.round.0) (put (c.dropped_at.ensures t + a.k) (a.link ∷ []) (xs (goal.at.returns c).After-dropped_rows_at)))))
+    ∙ ap (put (row (goal.at.returns c).After-dropped_rows_at) (note_row (id_of a.id) a.round.0)) (set-put (at (goal.at.returns c).After-dropped_rows_at) a.link (xs (goal.at.returns c).After-dropped_rows_at) (at_in (goal.at.returns c).After-dropped_rows_at)) in
+    subst (λ (ys : List ℕ). Goes (drop_instead a.k a.link (id_of a.id) a.round.0) a.h (xs (goal.at.returns c).After-dropped_rows_at) a.h ys)
+    (sym (bytes ∙ (λ t. put (c.dropped_rows_at.ensures t + 34 * a.k) (note_row (id_of a.id) a.round.0) (put (c.dropped_at.ensures t + a.k) (a.link ∷ []) (xs (goal.at.returns c).After-dropped_rows_at)))))
     (instead-goes a.h (xs (goal.at.returns c).After-dropped_rows_at) c.requires.0 a.k a.link (id_of a.id) a.round.0 c.requires.1 c.requires.2
     (id-lt a.id.w0 a.id.w1 a.id.w2 a.id.w3 (omega (arith, c.well_formed)) (omega (arith, c.well_formed)) (omega (arith, c.well_formed)) (omega (arith, c.well_formed)))
     (omega (arith, c.well_formed)))

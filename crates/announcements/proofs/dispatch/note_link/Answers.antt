@@ -12,10 +12,10 @@ use Rattle.storage.specs.Lists.Base.{any, count}
 use Rattle.storage.proofs.ListsLaws.ListLaws.{count-length}
 use Rattle.postcard.specs.Message.{Ihave}
 use Rattle.protocol.specs.State.{Note}
-use Rattle.protocol.specs.Push.{forPeer, notes}
-use Rattle.decide.specs.RecordGrowth.{cachedIn, addNote}
+use Rattle.protocol.specs.Push.{for_peer, notes}
+use Rattle.decide.specs.RecordGrowth.{cached_in, add_note}
 use Rattle.block.specs.View.{state_of}
-use Rattle.block.specs.LinkSteps.{peerAt}
+use Rattle.block.specs.LinkSteps.{peer_at}
 use Rattle.block.specs.NoteSteps.{note}
 use Rattle.block.proofs.NoteLaws.{count-dropped}
 use Rattle.announcements.specs.Dispatch.HandedBack.{Ready}
@@ -38,13 +38,13 @@ mark_link-marks-requires c =
 pub loop-i-init : goal.loop-i-init
 loop-i-init c =
     let a = c.args in
-    let who = peerAt (state_of a.h a.block.now) a.link in
+    let who = peer_at (state_of a.h a.block.now) a.link in
     let e = after_none a.link a.skip a.h a.block.now in (
       search rules,
       refl,
       pass-seen a.link a.skip a.h a.block.now,
       pass-start a.link a.skip a.h a.block.now c.requires.0,
-      c.scan_dropped-scan.ensures.count ∙ ap (count (forPeer who)) (sym e),
+      c.scan_dropped-scan.ensures.count ∙ ap (count (for_peer who)) (sym e),
       subst (λ (ds : List Note). Covers (λ j. any (notes who j) ds) c.mark_link-marks.result) (sym e) c.mark_link-marks.ensures,
     )
 
@@ -75,7 +75,7 @@ module _ (d : After-queued_link_at-l) where
   ys = d.loop-i.block
 
   abbrev p : ℕ
-  p = peerAt (state_of t.args.h xs) link
+  p = peer_at (state_of t.args.h xs) link
 
   so : Sofar link skip t.args.h xs i d.loop-i.g ys
   so = d.loop-i.invariant.3
@@ -89,15 +89,15 @@ module _ (d : After-queued_link_at-l) where
   few : length (heard link skip t.args.h xs i) ≤ i
   few = heard-few link skip t.args.h xs i d.loop-i.invariant.0 ready
 
-  mine : d.queued_link_at-l.result ≡ link → forPeer p (get_or (state_of t.args.h xs).queue i (note 0 0 0)) ≡ true
+  mine : d.queued_link_at-l.result ≡ link → for_peer p (get_or (state_of t.args.h xs).queue i (note 0 0 0)) ≡ true
   mine e = read-for link skip t.args.h xs i d.loop-i.g ys so ready more d.queued_link_at-l.result d.queued_link_at-l.ensures e
 
-  other : (d.queued_link_at-l.result ≡ link → ⊥) → forPeer p (get_or (state_of t.args.h xs).queue i (note 0 0 0)) ≡ false
+  other : (d.queued_link_at-l.result ≡ link → ⊥) → for_peer p (get_or (state_of t.args.h xs).queue i (note 0 0 0)) ≡ false
   other e = read-not link skip t.args.h xs i d.loop-i.g ys so ready more d.queued_link_at-l.result d.queued_link_at-l.ensures t.requires.1 e
 
   -- a record that stays as it is
-  still-own : after link skip t.args.h xs (i + 1) ≡ after link skip t.args.h xs i → d.loop-i.own ≡ count (forPeer p) (after link skip t.args.h xs (i + 1))
-  still-own e = d.loop-i.invariant.4 ∙ ap (count (forPeer p)) (sym e)
+  still-own : after link skip t.args.h xs (i + 1) ≡ after link skip t.args.h xs i → d.loop-i.own ≡ count (for_peer p) (after link skip t.args.h xs (i + 1))
+  still-own e = d.loop-i.invariant.4 ∙ ap (count (for_peer p)) (sym e)
 
   still-marks : after link skip t.args.h xs (i + 1) ≡ after link skip t.args.h xs i → Covers (λ j. any (notes p j) (after link skip t.args.h xs (i + 1))) d.loop-i.marks
   still-marks e = subst (λ (ds : List Note). Covers (λ j. any (notes p j) ds) d.loop-i.marks) (sym e) d.loop-i.invariant.5
@@ -122,7 +122,7 @@ module _ (e : After-low-m) where
   it = record { id = id; round = e.queued_at-q.result.round.0 }
 
   abbrev held : ℕ → Bool
-  held = cachedIn (state_of (t d₁).args.h (xs d₁)).cache
+  held = cached_in (state_of (t d₁).args.h (xs d₁)).cache
 
   abbrev was : List Note
   was = after (link d₁) (skip d₁) (t d₁).args.h (xs d₁) (i d₁)
@@ -130,13 +130,13 @@ module _ (e : After-low-m) where
   low_small : e.low-m.result < 4096
   low_small = subst (λ (n : ℕ). n < 4096) (sym e.low-m.ensures) (low-in id)
 
-  is-mine : forPeer (p d₁) (get_or (state_of (t d₁).args.h (xs d₁)).queue (i d₁) (note 0 0 0)) ≡ true
+  is-mine : for_peer (p d₁) (get_or (state_of (t d₁).args.h (xs d₁)).queue (i d₁) (note 0 0 0)) ≡ true
   is-mine = mine d₁ e.if-l-link.true
 
   behind : skip d₁ ≤ length (heard (link d₁) (skip d₁) (t d₁).args.h (xs d₁) (i d₁))
   behind = omega (arith, e.if-skip-before.true, d₁.loop-i.invariant.2)
 
-  next-is : after (link d₁) (skip d₁) (t d₁).args.h (xs d₁) (i d₁ + 1) ≡ addNote held (p d₁) it was
+  next-is : after (link d₁) (skip d₁) (t d₁).args.h (xs d₁) (i d₁ + 1) ≡ add_note held (p d₁) it was
   next-is = after_more (link d₁) (skip d₁) (t d₁).args.h (xs d₁) (i d₁) d₁.loop-i.g (ys d₁) (so d₁) (ready d₁) (more d₁) is-mine e.queued_at-q.result e.queued_at-q.ensures behind
 
   was-count : length was ≡ d₁.loop-i.g.live.dropped
@@ -158,7 +158,7 @@ note_one-g-requires c =
       ready = ready-after (after (link d) (skip d) z (xs d) (i d)) z (xs d) g (ys d) (so d) (ready d);
       link = omega (arith, same-links (after (link d) (skip d) z (xs d) (i d)) z (xs d) g (ys d) (so d), (t d).requires.1);
       room = pass-room (link d) (skip d) z (xs d) (i d) g (ys d) (so d) (ready d) (more d) (is-mine (goal.at.note_one-g-requires c).After-low-m) c.queued_at-q.result c.queued_at-q.ensures (behind (goal.at.note_one-g-requires c).After-low-m) (t d).requires.2;
-      count = d.loop-i.invariant.4 ∙ sym (λ k. count (forPeer (peer-is k)) (dropped-is k));
+      count = d.loop-i.invariant.4 ∙ sym (λ k. count (for_peer (peer-is k)) (dropped-is k));
       clear = λ o. (λ k. any (notes (peer-is k) (id (goal.at.note_one-g-requires c).After-low-m)) (dropped-is k)) ∙ covers-clear d.loop-i.invariant.5 (id (goal.at.note_one-g-requires c).After-low-m) (ap (λ (n : ℕ). get_or d.loop-i.marks n 0) (sym c.low-m.ensures) ∙ o);
     }
 
@@ -175,7 +175,7 @@ module _ (f : After-note_one-g) where
       pass-note (link d₂) (skip d₂) (t d₂).args.h (xs d₂) (i d₂) d₂.loop-i.g (ys d₂) (so d₂) (ready d₂) (more d₂) (is-mine e₂) e₂.queued_at-q.result e₂.queued_at-q.ensures (behind e₂)
       f.note_one-g.result f.note_one-g.new.block f.note_one-g.ensures
 
-  next-count : length (addNote (held e₂) (p d₂) (it e₂) (was e₂)) ≡ f.note_one-g.result.live.dropped
+  next-count : length (add_note (held e₂) (p d₂) (it e₂) (was e₂)) ≡ f.note_one-g.result.live.dropped
   next-count =
       ap length (sym (next-is e₂) ∙ sym (now-dropped (link d₂) (skip d₂) (t d₂).args.h (xs d₂) (i d₂ + 1) f.note_one-g.result f.note_one-g.new.block next))
       ∙ count-dropped f.note_one-g.result f.note_one-g.new.block next.sound
@@ -183,11 +183,11 @@ module _ (f : After-note_one-g) where
   grown : d₂.loop-i.g.live.dropped ≤ f.note_one-g.result.live.dropped
   grown = omega (arith, was-count e₂, next-count, note-grows (held e₂) (p d₂) (it e₂) (was e₂))
 
-  next-own : d₂.loop-i.own + (f.note_one-g.result.live.dropped - d₂.loop-i.g.live.dropped) ≡ count (forPeer (p d₂)) (after (link d₂) (skip d₂) (t d₂).args.h (xs d₂) (i d₂ + 1))
+  next-own : d₂.loop-i.own + (f.note_one-g.result.live.dropped - d₂.loop-i.g.live.dropped) ≡ count (for_peer (p d₂)) (after (link d₂) (skip d₂) (t d₂).args.h (xs d₂) (i d₂ + 1))
   next-own =
       omega (
         arith,
-        ap (count (forPeer (p d₂))) (next-is e₂),
+        ap (count (for_peer (p d₂))) (next-is e₂),
         added-count (p d₂) (held e₂) (it e₂) (was e₂),
         d₂.loop-i.invariant.4,
         was-count e₂,
@@ -196,7 +196,7 @@ module _ (f : After-note_one-g) where
       )
 
   own-small : d₂.loop-i.own ≤ 4096
-  own-small = omega (arith, d₂.loop-i.invariant.4, count-length (forPeer (p d₂)) (was e₂), was-count e₂, (so d₂).sound.fit.within.dropped, (so d₂).sound.fit.ceilings.D)
+  own-small = omega (arith, d₂.loop-i.invariant.4, count-length (for_peer (p d₂)) (was e₂), was-count e₂, (so d₂).sound.fit.within.dropped, (so d₂).sound.fit.ceilings.D)
 
   next_small : f.note_one-g.result.live.dropped ≤ 4096
   next_small = omega (arith, next.sound.fit.within.dropped, next.sound.fit.ceilings.D)

@@ -3,7 +3,7 @@ use mathlib.Core.Bool.{false}
 use mathlib.Core.Path.{◌≡◌, refl, sym, ◌∙◌}
 use Rattle.storage.specs.Rows.Ident.{id_of}
 use Rattle.block.specs.View.{state_of}
-use Rattle.block.specs.LinkSteps.{peerAt}
+use Rattle.block.specs.LinkSteps.{peer_at}
 use Rattle.block.specs.NoteSteps.{Scanned}
 use Rattle.block.specs.declared.note.Scan.{Scan}
 use Rattle.block.proofs.NoteLaws.{count-dropped}
@@ -17,13 +17,13 @@ pub returns-then-own-ge256 : goal.returns-then-own-ge256
 returns-then-own-ge256 c =
     let a = c.args in
     let u = state_of a.h a.block.now in
-    full-still a.link (id_of a.id) a.round.0 a.h a.block.now c.requires.ready (full-own (peerAt u a.link) a.own u.dropped c.requires.count c.if-own-ge256.true)
+    full-still a.link (id_of a.id) a.round.0 a.h a.block.now c.requires.ready (full-own (peer_at u a.link) a.own u.dropped c.requires.count c.if-own-ge256.true)
 
 pub returns-then-h-ge4096 : goal.returns-then-h-ge4096
 returns-then-h-ge4096 c =
     let a = c.args in
     let u = state_of a.h a.block.now in
-    full-still a.link (id_of a.id) a.round.0 a.h a.block.now c.requires.ready (full-all (peerAt u a.link) a.h.live.dropped u.dropped (sym (count-dropped a.h a.block.now c.requires.ready.sound)) c.if-h-ge4096.true)
+    full-still a.link (id_of a.id) a.round.0 a.h a.block.now c.requires.ready (full-all (peer_at u a.link) a.h.live.dropped u.dropped (sym (count-dropped a.h a.block.now c.requires.ready.sound)) c.if-h-ge4096.true)
 
 pub is_cached-held-requires : goal.is_cached-held-requires
 is_cached-held-requires c =
@@ -41,7 +41,7 @@ module _ (d : Then-held) where
   abbrev scan : Scan
   scan = record { count = s.args.own; noted = false }
 
-  scanned : s.args.mark ≡ 0 → Scanned (peerAt (state_of s.args.h s.args.block.now) s.args.link) (id_of s.args.id) (state_of s.args.h s.args.block.now).dropped scan
+  scanned : s.args.mark ≡ 0 → Scanned (peer_at (state_of s.args.h s.args.block.now) s.args.link) (id_of s.args.id) (state_of s.args.h s.args.block.now).dropped scan
   scanned e = record { count = s.requires.count; noted = sym (s.requires.clear e) }
 
 pub push_dropped-g-requires : goal.push_dropped-g-requires

@@ -5,9 +5,9 @@ use borrow.Author.Rules.{rules}
 use mathlib.Core.List.{List}
 use mathlib.Core.Path.{◌≡◌, refl, sym, subst}
 use lib.ListN.{drop, get_or}
-use Rattle.protocol.specs.Ticks.{perMessage, queuedFor}
+use Rattle.protocol.specs.Ticks.{per_message, queued_for}
 use Rattle.block.specs.View.{state_of}
-use Rattle.block.specs.LinkSteps.{peerAt}
+use Rattle.block.specs.LinkSteps.{peer_at}
 use Rattle.announcements.proofs.DispatchLaws.LinkLoop.{ready, PerMessage, size_low, per-message, skip-fits, Sofar, after, back, links-start, back-nothing, back-behind, links-skip, links-room, links-note, links-fit, links_end}
 use Rattle.announcements.proofs.DispatchLaws.RecordSteps.{same-links, ready-after}
 use Rattle.announcements.proofs.dispatch.on_dispatch_timer.Goals as goal
@@ -62,14 +62,14 @@ module _ (d : After-room-1) where
   more : l < s.args.h.live.links
   more = d.loop-l-test.true
 
-  k-is : k ≡ perMessage (state_of s.args.h xs).settings.maxMessageSize
+  k-is : k ≡ per_message (state_of s.args.h xs).settings.max_message_size
   unfolding state_of
   k-is = d.chunk_len-k.ensures
 
   numbers : PerMessage k
   numbers = subst (λ (n : ℕ). PerMessage n) (sym k-is) (per-message (state_of s.args.h xs) s.requires.stands.ranged)
 
-  behind : room < s.args.h.live.queued → back rooms k s.args.h xs (peerAt (state_of s.args.h xs) l) ≡ drop (room * k) (queuedFor (peerAt (state_of s.args.h xs) l) (state_of s.args.h xs).queue)
+  behind : room < s.args.h.live.queued → back rooms k s.args.h xs (peer_at (state_of s.args.h xs) l) ≡ drop (room * k) (queued_for (peer_at (state_of s.args.h xs) l) (state_of s.args.h xs).queue)
   behind w = back-behind rooms k s.args.h xs l s.requires.stands more room refl w
 
 pub overflow_mul-room : goal.overflow_mul-room

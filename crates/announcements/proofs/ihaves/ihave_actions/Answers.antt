@@ -5,17 +5,17 @@ use mathlib.Core.Bool.{Bool, true, false}
 use mathlib.Core.List.{List, [], ◌∷◌, ◌++◌}
 use lib.ListN.{drop, take}
 use Rattle.storage.specs.Rows.Ident.{id_of}
-use Rattle.postcard.specs.Message.{Ihave, Scheduled, SendGraft, actionBytes}
-use Rattle.postcard.specs.Events.{ihavesFrom}
+use Rattle.postcard.specs.Message.{Ihave, Scheduled, SendGraft, action_bytes}
+use Rattle.postcard.specs.Events.{ihaves_from}
 use Rattle.postcard.proofs.AnnouncementLaws.{Turn, listed_start, listed-announces, listed_next, listed-length, turn-taken}
 use Rattle.protocol.specs.State.{State, Settings}
 use Rattle.decide.specs.Settled.{settled}
-use Rattle.decide.specs.SizesAfter.{knownTimer}
+use Rattle.decide.specs.SizesAfter.{known_timer}
 use Rattle.block.specs.View.{state_of}
 use Rattle.block.specs.declared.head.Head.{Head}
 use Rattle.wire.specs.Output.Written.{Tellable, Written}
 use Rattle.announcements.specs.Ihaves.Heard.{ihave}
-use Rattle.announcements.specs.Ihaves.New.{isNew}
+use Rattle.announcements.specs.Ihaves.New.{is_new}
 use Rattle.announcements.proofs.IhavesLaws.NewLaws.{settled-settings}
 use Rattle.announcements.proofs.IhavesLaws.FrontLaws.{from-take, listed-take}
 use Rattle.announcements.proofs.IhavesLaws.TimerActions.{schedule-start, schedule-end, schedule-skip, schedule-told, schedule-next}
@@ -25,14 +25,14 @@ use Rattle.announcements.proofs.ihaves.ihave_actions.Goals as goal
 use Rattle.announcements.proofs.ihaves.ihave_actions.Goals.{After-wants_timer-wanted, Start}
 
 -- the delay, of the header and of the settled state
-delay-then : (now : ℕ) (h : Head) (xs : List ℕ) → (settled now (state_of h xs)).settings.graftTimeout1 ≡ h.settings.config.graft_timeout_1.0
+delay-then : (now : ℕ) (h : Head) (xs : List ℕ) → (settled now (state_of h xs)).settings.graft_timeout_1 ≡ h.settings.config.graft_timeout_1.0
 unfolding state_of
-delay-then now h xs = ap (λ (s : Settings). s.graftTimeout1) (settled-settings now (state_of h xs))
+delay-then now h xs = ap (λ (s : Settings). s.graft_timeout_1) (settled-settings now (state_of h xs))
 
 pub loop-i-init : goal.loop-i-init
 loop-i-init c =
     let a = c.args in
-    let hs = ihavesFrom a.event.now a.start a.count in (
+    let hs = ihaves_from a.event.now a.start a.count in (
       search rules,
       search rules,
       schedule-start (settled a.instant.0 (state_of a.h a.block.now)) hs a.out.now a.at,
@@ -43,13 +43,13 @@ pub next_ihave-one-requires : goal.next_ihave-one-requires
 next_ihave-one-requires c =
     let l = c.loop-i in
     let a = c.args in
-    listed-announces a.event.now l.place (a.count - l.i) (drop l.i (ihavesFrom a.event.now a.start a.count)) (omega (arith, c.loop-i-test.true)) l.invariant.3
+    listed-announces a.event.now l.place (a.count - l.i) (drop l.i (ihaves_from a.event.now a.start a.count)) (omega (arith, c.loop-i-test.true)) l.invariant.3
 
 pub wants_timer-wanted-requires : goal.wants_timer-wanted-requires
 wants_timer-wanted-requires c =
     let a = c.args in
     let l = c.loop-i in
-    (c.requires.0, listed-take a.event.now a.start a.count l.i (ihavesFrom a.event.now a.start a.count) l.invariant.0 c.requires.1)
+    (c.requires.0, listed-take a.event.now a.start a.count l.i (ihaves_from a.event.now a.start a.count) l.invariant.0 c.requires.1)
 
 -- entry i, as it was read, and whether it gets a timer
 module _ (d : After-wants_timer-wanted) where
@@ -57,7 +57,7 @@ module _ (d : After-wants_timer-wanted) where
   at-start = (goal.at.After-wants_timer-wanted d).Start
 
   abbrev all : List Ihave
-  all = ihavesFrom at-start.args.event.now at-start.args.start at-start.args.count
+  all = ihaves_from at-start.args.event.now at-start.args.start at-start.args.count
 
   abbrev i : ℕ
   i = d.loop-i.i
@@ -76,19 +76,19 @@ module _ (d : After-wants_timer-wanted) where
   abbrev then : State
   then = settled at-start.args.instant.0 (state_of at-start.args.h at-start.args.block.now)
 
-  wants : (b : Bool) → d.wants_timer-wanted.result ≡ b → isNew (knownTimer then) (take i all) x.id ≡ b
+  wants : (b : Bool) → d.wants_timer-wanted.result ≡ b → is_new (known_timer then) (take i all) x.id ≡ b
   wants b e =
-      ap (λ (l : List Ihave). isNew (knownTimer then) l x.id) (sym (from-take at-start.args.event.now at-start.args.start at-start.args.count i all d.loop-i.invariant.0 at-start.requires.1))
+      ap (λ (l : List Ihave). is_new (known_timer then) l x.id) (sym (from-take at-start.args.event.now at-start.args.start at-start.args.count i all d.loop-i.invariant.0 at-start.requires.1))
       ∙ sym d.wants_timer-wanted.ensures ∙ e
 
-  same-delay : then.settings.graftTimeout1 ≡ at-start.args.h.settings.config.graft_timeout_1.0
+  same-delay : then.settings.graft_timeout_1 ≡ at-start.args.h.settings.config.graft_timeout_1.0
   same-delay = delay-then at-start.args.instant.0 at-start.args.h at-start.args.block.now
 
 pub schedule-next-requires : goal.schedule-next-requires
 schedule-next-requires c =
     let s = at-start (goal.at.schedule-next-requires c).After-wants_timer-wanted in
     let l = c.loop-i in
-    subst (λ (n : ℕ). Tellable (actionBytes (Scheduled n (SendGraft (x (goal.at.schedule-next-requires c).After-wants_timer-wanted).id))) l.next) (same-delay (goal.at.schedule-next-requires c).After-wants_timer-wanted)
+    subst (λ (n : ℕ). Tellable (action_bytes (Scheduled n (SendGraft (x (goal.at.schedule-next-requires c).After-wants_timer-wanted).id))) l.next) (same-delay (goal.at.schedule-next-requires c).After-wants_timer-wanted)
     (schedule-told (then (goal.at.schedule-next-requires c).After-wants_timer-wanted) (all (goal.at.schedule-next-requires c).After-wants_timer-wanted) s.args.out.now s.args.at l.i l.out l.next l.invariant.2 (x (goal.at.schedule-next-requires c).After-wants_timer-wanted) (taken (goal.at.schedule-next-requires c).After-wants_timer-wanted) (wants (goal.at.schedule-next-requires c).After-wants_timer-wanted true c.if-wanted.true) s.requires.2)
 
 pub loop-i-preserved-then-wanted : goal.loop-i-preserved-then-wanted
@@ -99,7 +99,7 @@ loop-i-preserved-then-wanted c =
       search rules,
       search rules,
       schedule-next (then (goal.at.loop-i-preserved-then-wanted c).After-wants_timer-wanted) (all (goal.at.loop-i-preserved-then-wanted c).After-wants_timer-wanted) s.args.out.now s.args.at l.i l.out l.next l.invariant.2 (x (goal.at.loop-i-preserved-then-wanted c).After-wants_timer-wanted) (taken (goal.at.loop-i-preserved-then-wanted c).After-wants_timer-wanted) (wants (goal.at.loop-i-preserved-then-wanted c).After-wants_timer-wanted true c.if-wanted.true) w.new.out w.result
-          (subst (λ (n : ℕ). Written (actionBytes (Scheduled n (SendGraft (x (goal.at.loop-i-preserved-then-wanted c).After-wants_timer-wanted).id))) l.out l.next w.new.out w.result) (sym (same-delay (goal.at.loop-i-preserved-then-wanted c).After-wants_timer-wanted)) w.ensures),
+          (subst (λ (n : ℕ). Written (action_bytes (Scheduled n (SendGraft (x (goal.at.loop-i-preserved-then-wanted c).After-wants_timer-wanted).id))) l.out l.next w.new.out w.result) (sym (same-delay (goal.at.loop-i-preserved-then-wanted c).After-wants_timer-wanted)) w.ensures),
       (turn (goal.at.loop-i-preserved-then-wanted c).After-wants_timer-wanted).after,
     )
 
@@ -117,6 +117,6 @@ pub returns : goal.returns
 returns c =
     let a = c.args in
     let l = c.loop-i in
-    let hs = ihavesFrom a.event.now a.start a.count in
+    let hs = ihaves_from a.event.now a.start a.count in
     schedule-end (settled a.instant.0 (state_of a.h a.block.now)) hs a.out.now a.at l.i l.out l.next
     (omega (arith, c.loop-i-test.false, listed-length a.event.now a.start a.count hs c.requires.1)) l.invariant.2

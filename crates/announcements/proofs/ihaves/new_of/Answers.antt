@@ -4,7 +4,7 @@ use mathlib.Core.Bool.{Bool, true}
 use Prim.Native.Nat.{ℕ}
 use Rattle.storage.specs.Rows.Ident.{id_of}
 use Rattle.std.specs.Prelude.{if◌then◌else◌}
-use Rattle.postcard.specs.Events.{ihavesFrom}
+use Rattle.postcard.specs.Events.{ihaves_from}
 use Rattle.block.specs.View.{state_of}
 use Rattle.announcements.proofs.IhavesLaws.NewLaws.{missing-received, missing-before, missing-else, timer-received, timer-before, timer-else}
 use Rattle.announcements.proofs.ihaves.new_of.Goals as goal
@@ -24,7 +24,7 @@ pub returns-then-received : goal.returns-then-received
 returns-then-received c =
     let a = c.args in
     let s = state_of a.h a.block.now in
-    let hs = ihavesFrom a.event.now a.start a.count in
+    let hs = ihaves_from a.event.now a.start a.count in
     let e = sym c.received_then-received.ensures ∙ c.if-received.true in
     record { missing = none (missing-received a.instant.0 s hs (id_of a.id) e); timers = none (timer-received a.instant.0 s hs (id_of a.id) e) }
 
@@ -35,7 +35,7 @@ pub returns-then-before : goal.returns-then-before
 returns-then-before c =
     let a = c.args in
     let s = state_of a.h a.block.now in
-    let hs = ihavesFrom a.event.now a.start a.count in
+    let hs = ihaves_from a.event.now a.start a.count in
     let e = sym c.stands_before-before.ensures ∙ c.if-before.true in
     record { missing = none (missing-before a.instant.0 s hs (id_of a.id) e); timers = none (timer-before a.instant.0 s hs (id_of a.id) e) }
 
@@ -49,7 +49,7 @@ pub returns : goal.returns
 returns c =
     let a = c.args in
     let s = state_of a.h a.block.now in
-    let hs = ihavesFrom a.event.now a.start a.count in
+    let hs = ihaves_from a.event.now a.start a.count in
     let e = sym c.received_then-received.ensures ∙ c.if-received.false in
     let f = sym c.stands_before-before.ensures ∙ c.if-before.false in
     record {

@@ -1,7 +1,7 @@
 -- `ask_actions` meets its contract: the Graft, then the timer.
 use mathlib.Core.Path.{sym}
 use Rattle.storage.specs.Rows.Ident.{id_of}
-use Rattle.postcard.specs.Message.{Scheduled, SendGraft, actionBytes}
+use Rattle.postcard.specs.Message.{Scheduled, SendGraft, action_bytes}
 use Rattle.wire.proofs.OutputLaws.WrittenLaws.{written_then, tellable-first, tellable-then}
 use Rattle.steps.proofs.TicksLaws.ActionLaws.{tellable-as, written_as}
 use Rattle.announcements.proofs.SendGraftLaws.AskLaws.{some-hops}
@@ -17,7 +17,7 @@ send_graft-next-requires c =
     let a = c.args in
     let f = c.announcer_at-first in
     let p = c.peer_at-peer in
-    tellable-first (actionBytes (Scheduled a.h.settings.config.graft_timeout_2.0 (SendGraft (id_of a.id))))
+    tellable-first (action_bytes (Scheduled a.h.settings.config.graft_timeout_2.0 (SendGraft (id_of a.id))))
     (tellable-as (ask-bytes a.h a.block.now c.requires.0 a.i (id_of a.id) c.requires.1 a.rooms.now f.result f.ensures p.result p.ensures) c.requires.2)
 
 pub schedule-requires : goal.schedule-requires

@@ -6,11 +6,11 @@ use Rattle.storage.specs.Rows.Sorted.{Here, FoundIs}
 use Rattle.storage.specs.declared.rows.table.Found.{Found}
 use Rattle.time_cache.proofs.Orders.{up_of}
 use Rattle.block.specs.View.{state_of}
-use Rattle.block.specs.MissingSteps.{hopsAt}
+use Rattle.block.specs.MissingSteps.{hops_at}
 use Rattle.block.proofs.MissingLaws.{count-missed}
 use Rattle.block.proofs.AnnounceLaws.{announcers-here}
 use Rattle.wire.proofs.OutputLaws.WrittenLaws.{written_none}
-use Rattle.steps.specs.Rooms.{roomsIn}
+use Rattle.steps.specs.Rooms.{rooms_in}
 use Rattle.steps.proofs.StandsLaws.{missing-up}
 use Rattle.steps.proofs.TicksLaws.ActionLaws.{tellable-as, written_as}
 use Rattle.announcements.proofs.SendGraftLaws.ReadLaws.{none-sent, asks-sent, nobody-sent}
@@ -21,7 +21,7 @@ pub returns-then-received : goal.returns-then-received
 returns-then-received c =
     let a = c.args in
     let st = state_of a.h a.block.now in
-    written_as (sym (none-sent a.instant.0 st (roomsIn st a.rooms.now) (id_of a.id) (sym c.received_then-received.ensures ∙ c.if-received.true))) (written_none a.out.now a.at)
+    written_as (sym (none-sent a.instant.0 st (rooms_in st a.rooms.now) (id_of a.id) (sym c.received_then-received.ensures ∙ c.if-received.true))) (written_none a.out.now a.at)
 
 pub ask_actions-requires : goal.ask_actions-requires
 ask_actions-requires c =
@@ -30,7 +30,7 @@ ask_actions-requires c =
     let here : Here (keys st.missing) (id_of a.id) c.in-At.i = subst (λ (x : Found). FoundIs (keys st.missing) (id_of a.id) x) c.in-At.is c.find_missing-f.ensures in (
       c.requires.0,
       omega (arith, here.within, count-missed a.h a.block.now),
-      tellable-as (asks-sent a.instant.0 st (roomsIn st a.rooms.now) (id_of a.id) (hopsAt st c.in-At.i) (sym c.received_then-received.ensures ∙ c.if-received.false) (announcers-here st (id_of a.id) c.in-At.i (up_of (keys st.missing) (missing-up a.h a.block.now c.requires.0)) here)) c.requires.1,
+      tellable-as (asks-sent a.instant.0 st (rooms_in st a.rooms.now) (id_of a.id) (hops_at st c.in-At.i) (sym c.received_then-received.ensures ∙ c.if-received.false) (announcers-here st (id_of a.id) c.in-At.i (up_of (keys st.missing) (missing-up a.h a.block.now c.requires.0)) here)) c.requires.1,
     )
 
 pub returns-in-At : goal.returns-in-At
@@ -38,12 +38,12 @@ returns-in-At c =
     let a = c.args in
     let st = state_of a.h a.block.now in
     let here : Here (keys st.missing) (id_of a.id) c.in-At.i = subst (λ (x : Found). FoundIs (keys st.missing) (id_of a.id) x) c.in-At.is c.find_missing-f.ensures in
-    written_as (sym (asks-sent a.instant.0 st (roomsIn st a.rooms.now) (id_of a.id) (hopsAt st c.in-At.i) (sym c.received_then-received.ensures ∙ c.if-received.false) (announcers-here st (id_of a.id) c.in-At.i (up_of (keys st.missing) (missing-up a.h a.block.now c.requires.0)) here)))
+    written_as (sym (asks-sent a.instant.0 st (rooms_in st a.rooms.now) (id_of a.id) (hops_at st c.in-At.i) (sym c.received_then-received.ensures ∙ c.if-received.false) (announcers-here st (id_of a.id) c.in-At.i (up_of (keys st.missing) (missing-up a.h a.block.now c.requires.0)) here)))
     c.ask_actions.ensures
 
 pub returns-in-Before : goal.returns-in-Before
 returns-in-Before c =
     let a = c.args in
     let st = state_of a.h a.block.now in
-    written_as (sym (nobody-sent a.instant.0 st (roomsIn st a.rooms.now) (id_of a.id) _ (sym c.received_then-received.ensures ∙ c.if-received.false)
+    written_as (sym (nobody-sent a.instant.0 st (rooms_in st a.rooms.now) (id_of a.id) _ (sym c.received_then-received.ensures ∙ c.if-received.false)
     (subst (λ (x : Found). FoundIs (keys st.missing) (id_of a.id) x) c.in-Before.is c.find_missing-f.ensures))) (written_none a.out.now a.at)

@@ -7,7 +7,7 @@ use Rattle.storage.specs.declared.rows.table.Found.{Found}
 use Rattle.block.specs.View.{state_of}
 use Rattle.block.proofs.TimerLaws.{count-timers}
 use Rattle.decide.specs.Settled.{settled}
-use Rattle.decide.specs.Sizes.{Sizes, sizesOf, sizedTimers}
+use Rattle.decide.specs.Sizes.{Sizes, sizes_of, sized_timers}
 use Rattle.announcements.proofs.SendGraftLaws.ReadLaws.{mark-sized, no-mark-sized}
 use native.Mathlib.Omega.{arith}
 use Rattle.announcements.proofs.send_graft.unmarked_sizes.Goals as goal
@@ -24,8 +24,8 @@ returns-in-At c =
     let a = c.args in
     let st = state_of a.h a.block.now in
     let here = subst (λ (x : Found). FoundIs st.timers.graft (id_of a.id) x) c.in-At.is c.find_timer-f.ensures in
-    ap (λ (z : Sizes). sizedTimers (a.h.live.timers - 1) z) c.sizes_then-z.ensures
-    ∙ ap (λ (n : ℕ). sizedTimers (n - 1) (sizesOf (settled a.instant.0 st))) (sym (count-timers a.h a.block.now))
+    ap (λ (z : Sizes). sized_timers (a.h.live.timers - 1) z) c.sizes_then-z.ensures
+    ∙ ap (λ (n : ℕ). sized_timers (n - 1) (sizes_of (settled a.instant.0 st))) (sym (count-timers a.h a.block.now))
     ∙ mark-sized a.instant.0 st (id_of a.id) _ here
 
 pub returns-in-Before : goal.returns-in-Before

@@ -15,7 +15,7 @@ returns-then-not-there c =
 pub overflow_add-n : goal.overflow_add-n
 overflow_add-n c =
     let l = tells-yes (Lies c.args.c c.args.block.now) c.lies-there.result (ap not c.if-not-there.false) c.lies-there.ensures in
-    omega (arith, l.apart, l.within, mul-le-mul_left c.args.c.entries.len l.entryWide)
+    omega (arith, l.apart, l.within, mul-le-mul_left c.args.c.entries.len l.entry_wide)
 
 pub overflow_add-m : goal.overflow_add-m
 overflow_add-m c =

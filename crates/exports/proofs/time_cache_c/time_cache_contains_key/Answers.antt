@@ -2,7 +2,7 @@
 use mathlib.Core.Path.{ap}
 use mathlib.Core.Bool.{not}
 use Rattle.time_cache.specs.TimeCache.{holds}
-use Rattle.time_cache.specs.Tables.{cacheAt}
+use Rattle.time_cache.specs.Tables.{cache_at}
 use Rattle.exports.specs.TimeCacheC.Handed.{handed, key_of, Whole}
 use Rattle.exports.proofs.TimeCacheCLaws.Tested.{tells-and, tells-no, tells-yes}
 use Rattle.exports.proofs.time_cache_c.time_cache_contains_key.Goals as goal
@@ -18,4 +18,4 @@ returns c =
     let d = handed c.args.a c.args.s c.args.n c.args.b c.args.t c.args.m in
     let xs = c.args.block.now in
     let w = tells-yes (Whole d xs) c.is_whole-ok.result (ap not c.if-not-ok.false) c.is_whole-ok.ensures in
-    tells-and (Whole d xs) w (holds (key_of c.args.w0 c.args.w1 c.args.w2 c.args.w3) (cacheAt d xs)) c.contains_key.result c.contains_key.ensures
+    tells-and (Whole d xs) w (holds (key_of c.args.w0 c.args.w1 c.args.w2 c.args.w3) (cache_at d xs)) c.contains_key.result c.contains_key.ensures

@@ -5,14 +5,14 @@ use Prim.Native.Nat.{ℕ}
 use Rattle.wire.proofs.OutputLaws.WrittenLaws.{written_then, tellable-first, tellable-then}
 use Rattle.block.specs.View.{state_of}
 use Rattle.steps.proofs.TicksLaws.ActionLaws.{tellable-as, written_as}
-use Rattle.machine.specs.ActionsAfter.After.{stepBytes}
+use Rattle.machine.specs.ActionsAfter.After.{step_bytes}
 use Rattle.machine.proofs.ActionsAfterLaws.AfterLaws.{of-call}
 use Rattle.machine.proofs.actions_after.call_actions.Goals as goal
 use Rattle.machine.proofs.actions_after.call_actions.Goals.{Start}
 
 -- the bytes of the step
 abbrev bytes : Start → List ℕ
-bytes s = stepBytes s.args.event.now s.args.instant.0 s.args.rooms.now s.args.step (state_of s.args.h s.args.block.now)
+bytes s = step_bytes s.args.event.now s.args.instant.0 s.args.rooms.now s.args.step (state_of s.args.h s.args.block.now)
 
 pub first_event_actions-at-requires : goal.first_event_actions-at-requires
 first_event_actions-at-requires c =

@@ -2,7 +2,7 @@
 use mathlib.Core.Path.{sym, ap, ◌∙◌}
 use mathlib.Core.List.{List}
 use Prim.Native.Nat.{ℕ}
-use Rattle.postcard.specs.Message.{Neighbors, Emitted, actionBytes}
+use Rattle.postcard.specs.Message.{Neighbors, Emitted, action_bytes}
 use Rattle.steps.proofs.TicksLaws.ActionLaws.{tellable-as, written_as}
 use Rattle.machine.proofs.ActionsAfterLaws.AfterLaws.{emit-one}
 use Rattle.machine.proofs.actions_after.emit_neighbors.Goals as goal
@@ -10,7 +10,7 @@ use Rattle.machine.proofs.actions_after.emit_neighbors.Goals.{Start}
 
 -- the bytes for a content
 abbrev bytes : Start → List ℕ → List ℕ
-bytes s l = actionBytes (Emitted s.args.sender l Neighbors)
+bytes s l = action_bytes (Emitted s.args.sender l Neighbors)
 
 pub content_part-content-requires : goal.content_part-content-requires
 content_part-content-requires c = c.requires.0.within

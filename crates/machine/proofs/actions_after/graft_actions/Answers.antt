@@ -4,14 +4,14 @@ use mathlib.Core.List.{List}
 use Prim.Native.Nat.{ℕ}
 use Rattle.storage.specs.Rows.Ident.{id_of}
 use Rattle.time_cache.specs.TimeCache.{get}
-use Rattle.postcard.specs.Values.{wantedValue}
+use Rattle.postcard.specs.Values.{wanted_value}
 use Rattle.postcard.specs.declared.message.Wanted.{Wanted}
 use Rattle.protocol.specs.State.{State}
 use Rattle.decide.specs.Settled.{settled}
 use Rattle.wire.proofs.OutputLaws.WrittenLaws.{written_none}
 use Rattle.block.specs.View.{state_of}
 use Rattle.steps.proofs.TicksLaws.ActionLaws.{tellable-as, written_as}
-use Rattle.machine.specs.ActionsAfter.After.{graftBytes}
+use Rattle.machine.specs.ActionsAfter.After.{graft_bytes}
 use Rattle.machine.proofs.ActionsAfterLaws.AfterLaws.{graft-none, graft-reply, replying, held-there}
 use Rattle.machine.proofs.actions_after.graft_actions.Goals as goal
 use Rattle.machine.proofs.actions_after.graft_actions.Goals.{Start}
@@ -20,7 +20,7 @@ abbrev st : Start → State
 st s = state_of s.args.h s.args.block.now
 
 abbrev bytes : Start → Wanted → List ℕ
-bytes s x = graftBytes s.args.instant.0 s.args.rooms.now s.args.link (wantedValue x) (st s)
+bytes s x = graft_bytes s.args.instant.0 s.args.rooms.now s.args.link (wanted_value x) (st s)
 
 pub cached_then-held-requires : goal.cached_then-held-requires
 cached_then-held-requires c = c.requires.stands.0

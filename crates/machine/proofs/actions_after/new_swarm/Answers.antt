@@ -6,14 +6,14 @@ use native.Mathlib.Omega.{arith}
 use Rattle.storage.specs.Rows.Ident.{id_of}
 use Rattle.block.specs.View.{state_of}
 use Rattle.steps.proofs.TicksLaws.ActionLaws.{tellable-as, written_as}
-use Rattle.machine.specs.ActionsAfter.After.{newBytes}
+use Rattle.machine.specs.ActionsAfter.After.{new_bytes}
 use Rattle.machine.proofs.ActionsAfterLaws.AfterLaws.{near}
 use Rattle.machine.proofs.actions_after.new_swarm.Goals as goal
 use Rattle.machine.proofs.actions_after.new_swarm.Goals.{Start}
 
 -- the bytes for a content
 abbrev bytes : Start → List ℕ → List ℕ
-bytes s l = newBytes s.args.instant.0 s.args.rooms.now s.args.sender (id_of s.args.id) l s.args.round.0 (state_of s.args.h s.args.block.now)
+bytes s l = new_bytes s.args.instant.0 s.args.rooms.now s.args.sender (id_of s.args.id) l s.args.round.0 (state_of s.args.h s.args.block.now)
 
 pub content_part-content-requires : goal.content_part-content-requires
 content_part-content-requires c = c.requires.stands.1.within

@@ -5,14 +5,14 @@ use Prim.Native.Nat.{ℕ}
 use Rattle.storage.specs.Rows.Ident.{id_of}
 use Rattle.block.specs.View.{state_of}
 use Rattle.steps.proofs.TicksLaws.ActionLaws.{tellable-as, written_as}
-use Rattle.postcard.specs.Values.{scopeValue}
-use Rattle.payloads.specs.Broadcast.Broadcasts.{broadcastBytes}
+use Rattle.postcard.specs.Values.{scope_value}
+use Rattle.payloads.specs.Broadcast.Broadcasts.{broadcast_bytes}
 use Rattle.machine.proofs.actions_after.send_broadcast.Goals as goal
 use Rattle.machine.proofs.actions_after.send_broadcast.Goals.{Start}
 
 -- the bytes for a content
 abbrev bytes : Start → List ℕ → List ℕ
-bytes s l = broadcastBytes s.args.instant.0 s.args.rooms.now (id_of s.args.id) l (scopeValue s.args.scope) (state_of s.args.h s.args.block.now)
+bytes s l = broadcast_bytes s.args.instant.0 s.args.rooms.now (id_of s.args.id) l (scope_value s.args.scope) (state_of s.args.h s.args.block.now)
 
 pub content_part-content-requires : goal.content_part-content-requires
 content_part-content-requires c = c.requires.stands.1.within

@@ -8,9 +8,9 @@ use Rattle.protocol.specs.State.{State}
 use Rattle.wire.proofs.OutputLaws.WrittenLaws.{written_none}
 use Rattle.block.specs.View.{state_of}
 use Rattle.steps.proofs.TicksLaws.ActionLaws.{tellable-as, written_as}
-use Rattle.machine.specs.Kinds.Meaning.{StepHeld, stepFar}
+use Rattle.machine.specs.Kinds.Meaning.{StepHeld, step_far}
 use Rattle.machine.specs.declared.kinds.Step.{Step}
-use Rattle.machine.specs.ActionsAfter.After.{stepBytes}
+use Rattle.machine.specs.ActionsAfter.After.{step_bytes}
 use Rattle.machine.specs.Kinds.Meaning.{SenderIs}
 use Rattle.machine.proofs.ActionsAfterLaws.AfterLaws.{of-nothing, of-prune, of-new, of-neighbors, of-late, of-graft, of-ihave, of-broadcast-swarm, of-broadcast-neighbors, of-send-graft, of-dispatch, of-evict, of-announce, not-far}
 use Rattle.machine.proofs.actions_after.step_actions.Goals as goal
@@ -20,7 +20,7 @@ abbrev st : Start → State
 st s = state_of s.args.h s.args.block.now
 
 abbrev bytes : Start → Step → List ℕ
-bytes s r = stepBytes s.args.event.now s.args.instant.0 s.args.rooms.now r (st s)
+bytes s r = step_bytes s.args.event.now s.args.instant.0 s.args.rooms.now r (st s)
 
 -- what the step names is there
 held : (s : Start) {r : Step} → s.args.step ≡ r → StepHeld s.args.event.now (st s) r
@@ -31,8 +31,8 @@ sender : (s : Start) {r : Step} → s.args.step ≡ r → SenderIs (get_or s.arg
 sender s e = subst (λ (x : Step). SenderIs (get_or s.args.rooms.now 33 0) x) e s.requires.stands.2
 
 -- its round is not the last
-far : (s : Start) {r : Step} → s.args.step ≡ r → stepFar r ≡ false
-far s e = sym (ap stepFar e) ∙ s.requires.stands.3
+far : (s : Start) {r : Step} → s.args.step ≡ r → step_far r ≡ false
+far s e = sym (ap step_far e) ∙ s.requires.stands.3
 
 pub new_swarm-requires : goal.new_swarm-requires
 new_swarm-requires c =

@@ -5,15 +5,15 @@ use mathlib.Core.Path.{refl, sym, ap, subst, ◌∙◌}
 use lib.ListN.{length}
 use lib.Seq.{get_or-set_same}
 use Rattle.blake3.specs.Blake3.{identifier}
-use Rattle.postcard.specs.Events.{decodedValue, DecodedHeld}
+use Rattle.postcard.specs.Events.{decoded_value, DecodedHeld}
 use Rattle.postcard.specs.declared.message.Decoded.{Decoded}
-use Rattle.protocol.specs.Answer.{answerBlock}
+use Rattle.protocol.specs.Answer.{answer_block}
 use Rattle.block.specs.declared.head.Head.{Head}
 use Rattle.steps.proofs.SettledLaws.SizeLaws.{yes, no}
 use Rattle.whole.specs.Held.{held}
 use Rattle.whole.proofs.HeldLaws.{wholly_of}
-use Rattle.machine.specs.Called.{countsOf, lent, call_of}
-use Rattle.machine.specs.Core.{Begun, coreRooms}
+use Rattle.machine.specs.Called.{counts_of, lent, call_of}
+use Rattle.machine.specs.Core.{Begun, core_rooms}
 use Rattle.machine.proofs.RunLaws.{refused-finds}
 use Rattle.machine.proofs.CoreLaws.{answer-5, answer-6, answer-fault, header-long, begun-of, core-finds}
 use native.Mathlib.Omega.{arith}
@@ -22,13 +22,13 @@ use Rattle.machine.proofs.event.event_core.Goals as goal
 pub returns-then-not-whole : goal.returns-then-not-whole
 returns-then-not-whole c =
     let a = c.args in
-    record { room = refl; finds = refused-finds (answerBlock identifier (length a.block.now) (held a.block.now) (countsOf a.c) (call_of a.instant.0 a.event.now (coreRooms a.block.now a.event.now a.rooms) a.out.now)) 5 a.block.now a.out.now a.c c.refused.result c.refused.ensures (answer-5 a.block.now (countsOf a.c) (call_of a.instant.0 a.event.now (coreRooms a.block.now a.event.now a.rooms) a.out.now) (no c.is_whole-whole.ensures (ap not c.if-not-whole.true))) }
+    record { room = refl; finds = refused-finds (answer_block identifier (length a.block.now) (held a.block.now) (counts_of a.c) (call_of a.instant.0 a.event.now (core_rooms a.block.now a.event.now a.rooms) a.out.now)) 5 a.block.now a.out.now a.c c.refused.result c.refused.ensures (answer-5 a.block.now (counts_of a.c) (call_of a.instant.0 a.event.now (core_rooms a.block.now a.event.now a.rooms) a.out.now) (no c.is_whole-whole.ensures (ap not c.if-not-whole.true))) }
 
 pub returns-then-instant-gt4611686018427387904 : goal.returns-then-instant-gt4611686018427387904
 returns-then-instant-gt4611686018427387904 c =
     let a = c.args in
     let w = wholly_of a.block.now (yes c.is_whole-whole.ensures (ap not c.if-not-whole.false)) in
-    record { room = refl; finds = refused-finds (answerBlock identifier (length a.block.now) (held a.block.now) (countsOf a.c) (call_of a.instant.0 a.event.now (coreRooms a.block.now a.event.now a.rooms) a.out.now)) 6 a.block.now a.out.now a.c c.refused-then-instant-gt4611686018427387904.result c.refused-then-instant-gt4611686018427387904.ensures (answer-6 a.block.now w (countsOf a.c) (call_of a.instant.0 a.event.now (coreRooms a.block.now a.event.now a.rooms) a.out.now) c.if-instant-gt4611686018427387904.true) }
+    record { room = refl; finds = refused-finds (answer_block identifier (length a.block.now) (held a.block.now) (counts_of a.c) (call_of a.instant.0 a.event.now (core_rooms a.block.now a.event.now a.rooms) a.out.now)) 6 a.block.now a.out.now a.c c.refused-then-instant-gt4611686018427387904.result c.refused-then-instant-gt4611686018427387904.ensures (answer-6 a.block.now w (counts_of a.c) (call_of a.instant.0 a.event.now (core_rooms a.block.now a.event.now a.rooms) a.out.now) c.if-instant-gt4611686018427387904.true) }
 
 pub load_head-h-requires : goal.load_head-h-requires
 load_head-h-requires c =
@@ -53,9 +53,9 @@ returns-in-Event c =
     record {
       room = refl;
       finds =
-          core-finds a.block.now a.event.now a.rooms a.out.now (countsOf a.c) c.load_head-h.result a.instant.0 c.in-Event.e c.event_peer.result
+          core-finds a.block.now a.event.now a.rooms a.out.now (counts_of a.c) c.load_head-h.result a.instant.0 c.in-Event.e c.event_peer.result
           (lent a.block.now a.c a.out.now) (lent c.handle.new.block c.handle.result.stats c.handle.new.out) c.handle.result.number c.handle.result.length
-          w c.load_head-h.ensures c.if-instant-gt4611686018427387904.false (sym c.decode_event-d.ensures.same ∙ ap (decodedValue a.event.now) c.in-Event.is) c.event_peer.ensures c.handle.ensures;
+          w c.load_head-h.ensures c.if-instant-gt4611686018427387904.false (sym c.decode_event-d.ensures.same ∙ ap (decoded_value a.event.now) c.in-Event.is) c.event_peer.ensures c.handle.ensures;
     }
 
 pub returns-in-Fault : goal.returns-in-Fault
@@ -65,6 +65,6 @@ returns-in-Fault c =
     record {
       room = refl;
       finds =
-          refused-finds (answerBlock identifier (length a.block.now) (held a.block.now) (countsOf a.c) (call_of a.instant.0 a.event.now (coreRooms a.block.now a.event.now a.rooms) a.out.now)) c.in-Fault.n a.block.now a.out.now a.c c.refused-in-Fault.result c.refused-in-Fault.ensures
-          (answer-fault a.block.now w (countsOf a.c) (call_of a.instant.0 a.event.now (coreRooms a.block.now a.event.now a.rooms) a.out.now) c.in-Fault.n c.if-instant-gt4611686018427387904.false (sym c.decode_event-d.ensures.same ∙ ap (decodedValue a.event.now) c.in-Fault.is));
+          refused-finds (answer_block identifier (length a.block.now) (held a.block.now) (counts_of a.c) (call_of a.instant.0 a.event.now (core_rooms a.block.now a.event.now a.rooms) a.out.now)) c.in-Fault.n a.block.now a.out.now a.c c.refused-in-Fault.result c.refused-in-Fault.ensures
+          (answer-fault a.block.now w (counts_of a.c) (call_of a.instant.0 a.event.now (core_rooms a.block.now a.event.now a.rooms) a.out.now) c.in-Fault.n c.if-instant-gt4611686018427387904.false (sym c.decode_event-d.ensures.same ∙ ap (decoded_value a.event.now) c.in-Fault.is));
     }

@@ -5,10 +5,10 @@ use mathlib.Core.Path.{sym, ap, subst, ◌∙◌}
 use mathlib.Core.List.{List}
 use lib.ListN.{length}
 use Rattle.block.specs.View.{state_of}
-use Rattle.steps.specs.Rooms.{roomsIn}
+use Rattle.steps.specs.Rooms.{rooms_in}
 use Rattle.steps.proofs.SettledLaws.SizeLaws.{yes, no}
-use Rattle.machine.specs.Called.{countsOf, lent, Finds}
-use Rattle.machine.specs.Outcomes.{stepBytes, stepOutcome}
+use Rattle.machine.specs.Called.{counts_of, lent, Finds}
+use Rattle.machine.specs.Outcomes.{step_bytes, step_outcome}
 use Rattle.machine.proofs.OutcomeLaws.{outcome-12, outcome-13, outcome-14}
 use Rattle.machine.proofs.RunLaws.{refused-finds, measured, no_room, run-told, run-fit, run_fits, run-done}
 use Rattle.machine.proofs.event.run_step.Goals as goal
@@ -16,14 +16,14 @@ use Rattle.machine.proofs.event.run_step.Goals as goal
 pub returns-then-far : goal.returns-then-far
 returns-then-far c =
     let a = c.args in
-    refused-finds (stepOutcome a.event.now (roomsIn (state_of a.h a.block.now) a.rooms.now) a.instant.0 a.step (state_of a.h a.block.now) (countsOf a.counted) (length a.out.now)) 12 a.block.now a.out.now a.c c.refused.result c.refused.ensures
-    (outcome-12 a.event.now (roomsIn (state_of a.h a.block.now) a.rooms.now) a.instant.0 a.step (state_of a.h a.block.now) (countsOf a.counted) (length a.out.now) (sym c.is_far-far.ensures ∙ c.if-far.true))
+    refused-finds (step_outcome a.event.now (rooms_in (state_of a.h a.block.now) a.rooms.now) a.instant.0 a.step (state_of a.h a.block.now) (counts_of a.counted) (length a.out.now)) 12 a.block.now a.out.now a.c c.refused.result c.refused.ensures
+    (outcome-12 a.event.now (rooms_in (state_of a.h a.block.now) a.rooms.now) a.instant.0 a.step (state_of a.h a.block.now) (counts_of a.counted) (length a.out.now) (sym c.is_far-far.ensures ∙ c.if-far.true))
 
 pub returns-then-not-fits : goal.returns-then-not-fits
 returns-then-not-fits c =
     let a = c.args in
-    refused-finds (stepOutcome a.event.now (roomsIn (state_of a.h a.block.now) a.rooms.now) a.instant.0 a.step (state_of a.h a.block.now) (countsOf a.counted) (length a.out.now)) 13 a.block.now a.out.now a.c c.refused-then-not-fits.result c.refused-then-not-fits.ensures
-    (outcome-13 a.event.now (roomsIn (state_of a.h a.block.now) a.rooms.now) a.instant.0 a.step (state_of a.h a.block.now) (countsOf a.counted) (length a.out.now) (sym c.is_far-far.ensures ∙ c.if-far.false)
+    refused-finds (step_outcome a.event.now (rooms_in (state_of a.h a.block.now) a.rooms.now) a.instant.0 a.step (state_of a.h a.block.now) (counts_of a.counted) (length a.out.now)) 13 a.block.now a.out.now a.c c.refused-then-not-fits.result c.refused-then-not-fits.ensures
+    (outcome-13 a.event.now (rooms_in (state_of a.h a.block.now) a.rooms.now) a.instant.0 a.step (state_of a.h a.block.now) (counts_of a.counted) (length a.out.now) (sym c.is_far-far.ensures ∙ c.if-far.false)
     (no (run-fit a.h a.block.now a.event.now a.rooms.now a.instant.0 a.step c.requires.0 c.requires.1 c.step_sizes-sizes.result c.fit-fits.result c.step_sizes-sizes.ensures c.fit-fits.ensures) (ap not c.if-not-fits.true)))
 
 pub step_actions-length-requires : goal.step_actions-length-requires
@@ -34,12 +34,12 @@ step_actions-length-requires c =
 pub returns-then-out-length : goal.returns-then-out-length
 returns-then-out-length c =
     let a = c.args in
-    let e = measured (stepBytes a.event.now (roomsIn (state_of a.h a.block.now) a.rooms.now) a.instant.0 a.step (state_of a.h a.block.now)) c.step_actions-length.new.out a.out.now c.step_actions-length.result c.step_actions-length.ensures in
-    subst (λ (o : List ℕ). Finds (stepOutcome a.event.now (roomsIn (state_of a.h a.block.now) a.rooms.now) a.instant.0 a.step (state_of a.h a.block.now) (countsOf a.counted) (length a.out.now)) (lent a.block.now a.c a.out.now) (lent a.block.now c.refused-then-out-length.result.stats o) c.refused-then-out-length.result.number c.refused-then-out-length.result.length) (sym e)
-    (refused-finds (stepOutcome a.event.now (roomsIn (state_of a.h a.block.now) a.rooms.now) a.instant.0 a.step (state_of a.h a.block.now) (countsOf a.counted) (length a.out.now)) 14 a.block.now a.out.now a.c c.refused-then-out-length.result c.refused-then-out-length.ensures
-    (outcome-14 a.event.now (roomsIn (state_of a.h a.block.now) a.rooms.now) a.instant.0 a.step (state_of a.h a.block.now) (countsOf a.counted) (length a.out.now) (sym c.is_far-far.ensures ∙ c.if-far.false)
+    let e = measured (step_bytes a.event.now (rooms_in (state_of a.h a.block.now) a.rooms.now) a.instant.0 a.step (state_of a.h a.block.now)) c.step_actions-length.new.out a.out.now c.step_actions-length.result c.step_actions-length.ensures in
+    subst (λ (o : List ℕ). Finds (step_outcome a.event.now (rooms_in (state_of a.h a.block.now) a.rooms.now) a.instant.0 a.step (state_of a.h a.block.now) (counts_of a.counted) (length a.out.now)) (lent a.block.now a.c a.out.now) (lent a.block.now c.refused-then-out-length.result.stats o) c.refused-then-out-length.result.number c.refused-then-out-length.result.length) (sym e)
+    (refused-finds (step_outcome a.event.now (rooms_in (state_of a.h a.block.now) a.rooms.now) a.instant.0 a.step (state_of a.h a.block.now) (counts_of a.counted) (length a.out.now)) 14 a.block.now a.out.now a.c c.refused-then-out-length.result c.refused-then-out-length.ensures
+    (outcome-14 a.event.now (rooms_in (state_of a.h a.block.now) a.rooms.now) a.instant.0 a.step (state_of a.h a.block.now) (counts_of a.counted) (length a.out.now) (sym c.is_far-far.ensures ∙ c.if-far.false)
     (yes (run-fit a.h a.block.now a.event.now a.rooms.now a.instant.0 a.step c.requires.0 c.requires.1 c.step_sizes-sizes.result c.fit-fits.result c.step_sizes-sizes.ensures c.fit-fits.ensures) (ap not c.if-not-fits.false))
-    (no_room (stepBytes a.event.now (roomsIn (state_of a.h a.block.now) a.rooms.now) a.instant.0 a.step (state_of a.h a.block.now)) c.step_actions-length.new.out a.out.now c.step_actions-length.result c.step_actions-length.ensures c.if-out-length.true)))
+    (no_room (step_bytes a.event.now (rooms_in (state_of a.h a.block.now) a.rooms.now) a.instant.0 a.step (state_of a.h a.block.now)) c.step_actions-length.new.out a.out.now c.step_actions-length.result c.step_actions-length.ensures c.if-out-length.true)))
 
 pub step_actions-requires : goal.step_actions-requires
 step_actions-requires c =
@@ -61,7 +61,7 @@ raised-stats-requires c = sym c.is_far-far.ensures ∙ c.if-far.false
 pub shape_of-out : goal.shape_of-out
 shape_of-out c =
     let a = c.args in
-    c.step_actions.ensures.long ∙ ap length (measured (stepBytes a.event.now (roomsIn (state_of a.h a.block.now) a.rooms.now) a.instant.0 a.step (state_of a.h a.block.now)) c.step_actions-length.new.out a.out.now c.step_actions-length.result c.step_actions-length.ensures)
+    c.step_actions.ensures.long ∙ ap length (measured (step_bytes a.event.now (rooms_in (state_of a.h a.block.now) a.rooms.now) a.instant.0 a.step (state_of a.h a.block.now)) c.step_actions-length.new.out a.out.now c.step_actions-length.result c.step_actions-length.ensures)
 
 pub returns : goal.returns
 returns c =

@@ -7,7 +7,7 @@ use lib.Dec.{eqb}
 use Rattle.storage.specs.Rows.Part.{part}
 use Rattle.storage.specs.Rows.Ident.{id_of}
 use Rattle.blake3.specs.Blake3.{identifier}
-use Rattle.postcard.specs.Values.{deliveryValue}
+use Rattle.postcard.specs.Values.{delivery_value}
 use Rattle.block.specs.View.{state_of}
 use Rattle.machine.proofs.KindsLaws.MeaningLaws.{means-invalid, means-late, means-new, means-near, gossip-held, hash-part, valid-of}
 use Rattle.machine.proofs.kinds.gossip_step.Goals as goal
@@ -25,7 +25,7 @@ valid c =
 pub returns-then-not-valid : goal.returns-then-not-valid
 returns-then-not-valid c =
     let a = c.args in
-    means-invalid a.event.now a.instant.0 (state_of a.h a.block.now) a.sender (id_of a.id) (part a.start a.len a.event.now) (deliveryValue a.delivery) c.requires.0.consistent.core
+    means-invalid a.event.now a.instant.0 (state_of a.h a.block.now) a.sender (id_of a.id) (part a.start a.len a.event.now) (delivery_value a.delivery) c.requires.0.consistent.core
     (valid (goal.at.returns-then-not-valid c).After-same-valid ∙ not-true c.same-valid.result (ap not c.if-not-valid.true))
 
 pub returns-then-received : goal.returns-then-received
@@ -39,7 +39,7 @@ returns-in-Swarm c =
     let a = c.args in
     means-new a.event.now a.instant.0 (state_of a.h a.block.now) a.sender a.id a.start a.len c.requires.0.consistent.core
     (valid (goal.at.returns-in-Swarm c).After-same-valid ∙ not-false c.same-valid.result (ap not c.if-not-valid.false)) (sym c.received_then-received.ensures ∙ c.if-received.false)
-    (gossip-held a.event.now a.h a.block.now (id_of a.id) a.start a.len (deliveryValue a.delivery) c.requires.0.ranged c.requires.1 c.requires.2)
+    (gossip-held a.event.now a.h a.block.now (id_of a.id) a.start a.len (delivery_value a.delivery) c.requires.0.ranged c.requires.1 c.requires.2)
     a.delivery c.in-Swarm.round c.in-Swarm.is
 
 pub returns-in-Neighbors : goal.returns-in-Neighbors
@@ -47,5 +47,5 @@ returns-in-Neighbors c =
     let a = c.args in
     means-near a.event.now a.instant.0 (state_of a.h a.block.now) a.sender a.id a.start a.len c.requires.0.consistent.core
     (valid (goal.at.returns-in-Neighbors c).After-same-valid ∙ not-false c.same-valid.result (ap not c.if-not-valid.false)) (sym c.received_then-received.ensures ∙ c.if-received.false)
-    (gossip-held a.event.now a.h a.block.now (id_of a.id) a.start a.len (deliveryValue a.delivery) c.requires.0.ranged c.requires.1 c.requires.2)
+    (gossip-held a.event.now a.h a.block.now (id_of a.id) a.start a.len (delivery_value a.delivery) c.requires.0.ranged c.requires.1 c.requires.2)
     a.delivery c.in-Neighbors.is

@@ -1,13 +1,13 @@
 -- `limit_met`: questions 5 to 9, then the event.
 use mathlib.Core.Bool.{not}
 use mathlib.Core.Path.{sym, ap, subst, ◌∙◌}
-use Rattle.postcard.specs.Events.{decodedValue, DecodedHeld}
+use Rattle.postcard.specs.Events.{decoded_value, DecodedHeld}
 use Rattle.postcard.specs.declared.message.Decoded.{Decoded}
 use Rattle.block.specs.declared.head.Head.{Head}
 use Rattle.steps.specs.Stands.{Stands}
 use Rattle.steps.proofs.SettledLaws.SizeLaws.{yes, no}
 use Rattle.whole.proofs.HeldLaws.{wholly_of}
-use Rattle.machine.specs.Core.{coreRooms}
+use Rattle.machine.specs.Core.{core_rooms}
 use Rattle.machine.proofs.CoreLaws.{header-long, begun-of}
 use Rattle.machine.specs.LimitMet.LimitMet.{asking}
 use Rattle.machine.proofs.LimitMetLaws.LimitLaws.{limit-5, limit-6, limit-fault, core-limit}
@@ -16,12 +16,12 @@ use Rattle.machine.proofs.limit_met.limit_met.Goals as goal
 pub returns-then-not-whole : goal.returns-then-not-whole
 returns-then-not-whole c =
     let a = c.args in
-    sym (limit-5 a.block.now (asking a.instant.0 a.event.now (coreRooms a.block.now a.event.now a.rooms)) (no c.is_whole-whole.ensures (ap not c.if-not-whole.true)))
+    sym (limit-5 a.block.now (asking a.instant.0 a.event.now (core_rooms a.block.now a.event.now a.rooms)) (no c.is_whole-whole.ensures (ap not c.if-not-whole.true)))
 
 pub returns-then-instant-gt4611686018427387904 : goal.returns-then-instant-gt4611686018427387904
 returns-then-instant-gt4611686018427387904 c =
     let a = c.args in
-    sym (limit-6 a.block.now (wholly_of a.block.now (yes c.is_whole-whole.ensures (ap not c.if-not-whole.false))) (asking a.instant.0 a.event.now (coreRooms a.block.now a.event.now a.rooms)) c.if-instant-gt4611686018427387904.true)
+    sym (limit-6 a.block.now (wholly_of a.block.now (yes c.is_whole-whole.ensures (ap not c.if-not-whole.false))) (asking a.instant.0 a.event.now (core_rooms a.block.now a.event.now a.rooms)) c.if-instant-gt4611686018427387904.true)
 
 pub load_head-h-requires : goal.load_head-h-requires
 load_head-h-requires c =
@@ -41,10 +41,10 @@ returns-in-Event c =
     let a = c.args in
     let w = wholly_of a.block.now (yes c.is_whole-whole.ensures (ap not c.if-not-whole.false)) in
     core-limit a.block.now a.event.now a.rooms c.load_head-h.result a.instant.0 c.in-Event.e c.event_peer.result c.event_limit.result w c.load_head-h.ensures c.if-instant-gt4611686018427387904.false
-    (sym c.decode_event-d.ensures.same ∙ ap (decodedValue a.event.now) c.in-Event.is) c.event_peer.ensures c.event_limit.ensures
+    (sym c.decode_event-d.ensures.same ∙ ap (decoded_value a.event.now) c.in-Event.is) c.event_peer.ensures c.event_limit.ensures
 
 pub returns-in-Fault : goal.returns-in-Fault
 returns-in-Fault c =
     let a = c.args in
     let w = wholly_of a.block.now (yes c.is_whole-whole.ensures (ap not c.if-not-whole.false)) in
-    sym (limit-fault a.block.now w (asking a.instant.0 a.event.now (coreRooms a.block.now a.event.now a.rooms)) c.in-Fault.field-0 c.if-instant-gt4611686018427387904.false (sym c.decode_event-d.ensures.same ∙ ap (decodedValue a.event.now) c.in-Fault.is))
+    sym (limit-fault a.block.now w (asking a.instant.0 a.event.now (core_rooms a.block.now a.event.now a.rooms)) c.in-Fault.field-0 c.if-instant-gt4611686018427387904.false (sym c.decode_event-d.ensures.same ∙ ap (decoded_value a.event.now) c.in-Fault.is))

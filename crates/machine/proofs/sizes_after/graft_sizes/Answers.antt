@@ -2,12 +2,12 @@
 use mathlib.Core.Path.{sym, ap, ◌∙◌}
 use Rattle.storage.specs.Rows.Ident.{id_of}
 use Rattle.block.specs.View.{state_of}
-use Rattle.block.specs.LinkSteps.{peerAt}
-use Rattle.steps.specs.Rooms.{roomsIn}
-use Rattle.postcard.specs.Values.{wantedValue}
+use Rattle.block.specs.LinkSteps.{peer_at}
+use Rattle.steps.specs.Rooms.{rooms_in}
+use Rattle.postcard.specs.Values.{wanted_value}
 use Rattle.postcard.specs.declared.message.Wanted.{Wanted}
 use Rattle.decide.specs.Settled.{settled}
-use Rattle.decide.specs.SizesAfter.{graftSizes}
+use Rattle.decide.specs.SizesAfter.{graft_sizes}
 use Rattle.machine.proofs.SizesAfterLaws.StepSizes.{graft-some, graft-none}
 use Rattle.machine.proofs.sizes_after.graft_sizes.Goals as goal
 
@@ -16,13 +16,13 @@ returns-in-Message c =
     let a = c.args in
     let st = state_of a.h a.block.now in
     c.reply_sizes.ensures
-    ∙ graft-some a.instant.0 st (roomsIn st a.rooms.now) (peerAt st a.link) (id_of c.in-Message.id)
-    ∙ ap (λ (v : Wanted). graftSizes (roomsIn st a.rooms.now) (peerAt st a.link) (wantedValue v) (settled a.instant.0 st)) (sym c.in-Message.is)
+    ∙ graft-some a.instant.0 st (rooms_in st a.rooms.now) (peer_at st a.link) (id_of c.in-Message.id)
+    ∙ ap (λ (v : Wanted). graft_sizes (rooms_in st a.rooms.now) (peer_at st a.link) (wanted_value v) (settled a.instant.0 st)) (sym c.in-Message.is)
 
 pub returns-in-Nothing : goal.returns-in-Nothing
 returns-in-Nothing c =
     let a = c.args in
     let st = state_of a.h a.block.now in
     c.sizes_then.ensures
-    ∙ graft-none a.instant.0 st (roomsIn st a.rooms.now) (peerAt st a.link)
-    ∙ ap (λ (v : Wanted). graftSizes (roomsIn st a.rooms.now) (peerAt st a.link) (wantedValue v) (settled a.instant.0 st)) (sym c.in-Nothing.is)
+    ∙ graft-none a.instant.0 st (rooms_in st a.rooms.now) (peer_at st a.link)
+    ∙ ap (λ (v : Wanted). graft_sizes (rooms_in st a.rooms.now) (peer_at st a.link) (wanted_value v) (settled a.instant.0 st)) (sym c.in-Nothing.is)

@@ -2,7 +2,7 @@
 use native.Mathlib.Omega.{arith}
 use Rattle.storage.specs.Rows.Ident.{id_of}
 use Rattle.block.specs.View.{state_of}
-use Rattle.payloads.specs.Eager.Targets.{backsOf}
+use Rattle.payloads.specs.Eager.Targets.{backs_of}
 use Rattle.payloads.proofs.EagerLaws.CallLaws.{pushing}
 use Rattle.machine.proofs.SizesAfterLaws.StepSizes.{pushed-is}
 use Rattle.machine.proofs.SizesAfterLaws.Sums.{push-sum}
@@ -19,7 +19,7 @@ overflow_add-n c =
     let st = state_of a.h a.block.now in
     let z = c.taken_sizes-z in
     let g = c.push_gains-gained in
-    omega (arith, push-sum a.instant.0 st c.requires.0.consistent.core.within.inAll z.result g.result (id_of a.id) a.len a.push.sender z.ensures (backsOf a.push.sender a.push.skip a.rooms.now st) g.ensures)
+    omega (arith, push-sum a.instant.0 st c.requires.0.consistent.core.within.in_all z.result g.result (id_of a.id) a.len a.push.sender z.ensures (backs_of a.push.sender a.push.skip a.rooms.now st) g.ensures)
 
 pub returns : goal.returns
 returns c =

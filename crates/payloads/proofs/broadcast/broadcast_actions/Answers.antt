@@ -3,18 +3,18 @@ use mathlib.Core.Path.{◌≡◌, sym, ap}
 use mathlib.Core.List.{List}
 use Prim.Native.Nat.{ℕ}
 use Rattle.storage.specs.Rows.Ident.{id_of}
-use Rattle.postcard.specs.Values.{scopeValue}
+use Rattle.postcard.specs.Values.{scope_value}
 use Rattle.postcard.specs.declared.message.Scope.{Scope}
 use Rattle.block.specs.View.{state_of}
 use Rattle.steps.proofs.TicksLaws.ActionLaws.{tellable-as, written_as}
-use Rattle.payloads.specs.Broadcast.Broadcasts.{broadcastBytes}
+use Rattle.payloads.specs.Broadcast.Broadcasts.{broadcast_bytes}
 use Rattle.payloads.proofs.broadcast.broadcast_actions.Goals as goal
 use Rattle.payloads.proofs.broadcast.broadcast_actions.Goals.{Start}
 
 -- the bytes of the scope that was found
 module _ (s : Start) where
   abbrev bytes : Scope → List ℕ
-  bytes v = broadcastBytes s.args.instant.0 s.args.rooms.now (id_of s.args.id) s.args.content.now (scopeValue v) (state_of s.args.h s.args.block.now)
+  bytes v = broadcast_bytes s.args.instant.0 s.args.rooms.now (id_of s.args.id) s.args.content.now (scope_value v) (state_of s.args.h s.args.block.now)
 
   as-found : (v : Scope) → s.args.scope ≡ v → bytes s.args.scope ≡ bytes v
   as-found v e = ap bytes e

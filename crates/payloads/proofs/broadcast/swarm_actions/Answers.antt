@@ -6,8 +6,8 @@ use Rattle.block.specs.View.{state_of}
 use Rattle.steps.specs.declared.Held.TheVariants.{Nothing}
 use Rattle.wire.proofs.OutputLaws.WrittenLaws.{written_then, tellable-first, tellable-then}
 use Rattle.steps.proofs.TicksLaws.ActionLaws.{tellable-as, written_as}
-use Rattle.payloads.specs.Eager.Targets.{targetsOf}
-use Rattle.payloads.specs.Eager.Sent.{pushBytes}
+use Rattle.payloads.specs.Eager.Targets.{targets_of}
+use Rattle.payloads.specs.Eager.Sent.{push_bytes}
 use Rattle.payloads.proofs.EagerLaws.CallLaws.{pushing}
 use Rattle.payloads.proofs.BroadcastLaws.ActionLaws.{swarm-bytes}
 use Rattle.payloads.proofs.broadcast.swarm_actions.Goals as goal
@@ -16,7 +16,7 @@ pub schedule_dispatch-to-requires : goal.schedule_dispatch-to-requires
 schedule_dispatch-to-requires c =
     let a = c.args in
     let st = state_of a.h a.block.now in
-    tellable-first (pushBytes a.rooms.now (Gossip (id_of a.id) a.content.now (Swarm 0)) (targetsOf a.h.settings.me Nothing st) st)
+    tellable-first (push_bytes a.rooms.now (Gossip (id_of a.id) a.content.now (Swarm 0)) (targets_of a.h.settings.me Nothing st) st)
     (tellable-as (swarm-bytes a.instant.0 a.rooms.now (id_of a.id) a.content.now a.h a.block.now) c.requires.tellable)
 
 pub eager_push-requires : goal.eager_push-requires

@@ -7,7 +7,7 @@ use Rattle.storage.specs.declared.rows.table.Found.{Found}
 use Rattle.time_cache.proofs.Orders.{up_of}
 use Rattle.block.specs.View.{state_of}
 use Rattle.block.proofs.LinkLaws.{count-peers, eager-here, eager-between}
-use Rattle.block.specs.Caches.GraftSteps.{graftsAt}
+use Rattle.block.specs.Caches.GraftSteps.{grafts_at}
 use Rattle.steps.proofs.StandsLaws.{links-up}
 use Rattle.steps.proofs.GraftsLaws.PeerLaws.{stands-grafting}
 use Rattle.protocol.specs.Gossips.{faster}
@@ -29,7 +29,7 @@ is_grafted-asked-requires c =
 pub returns-then-asked : goal.returns-then-asked
 returns-then-asked c =
     let a = c.args in
-    let g = graftsAt (state_of a.h a.block.now) a.g in
+    let g = grafts_at (state_of a.h a.block.now) a.g in
     record {
       same = first-asked (state_of a.h a.block.now).links g a.peer
           (ap (λ (n : ℕ). has n g.peers) (sym (there (goal.at.returns-then-asked c).In-At).same) ∙ sym c.is_grafted-asked.ensures ∙ c.if-asked.true);
@@ -44,7 +44,7 @@ pub returns-then-eager : goal.returns-then-eager
 returns-then-eager c =
     let a = c.args in
     let ls = (state_of a.h a.block.now).links in
-    let g = graftsAt (state_of a.h a.block.now) a.g in
+    let g = grafts_at (state_of a.h a.block.now) a.g in
     let up = up_of (keys ls) (links-up a.h a.block.now c.requires.0) in
     record {
       same = ap faster (there (goal.at.returns-then-eager c).In-At).same ∙ first-eager ls g a.peer
@@ -57,7 +57,7 @@ pub returns-else-eager : goal.returns-else-eager
 returns-else-eager c =
     let a = c.args in
     let ls = (state_of a.h a.block.now).links in
-    let g = graftsAt (state_of a.h a.block.now) a.g in
+    let g = grafts_at (state_of a.h a.block.now) a.g in
     let up = up_of (keys ls) (links-up a.h a.block.now c.requires.0) in
     record {
       same = first-other ls g a.peer (eager-here a.peer c.in-At.l ls up (there (goal.at.returns-else-eager c).In-At) ∙ sym c.eager_at-eager.ensures ∙ c.if-eager.false);
@@ -69,7 +69,7 @@ returns-in-Before c =
     let a = c.args in
     let ls = (state_of a.h a.block.now).links in
     record {
-      same = first-other ls (graftsAt (state_of a.h a.block.now) a.g) a.peer
+      same = first-other ls (grafts_at (state_of a.h a.block.now) a.g) a.peer
           (eager-between a.peer _ ls (subst (λ (o : Found). FoundIs (keys ls) a.peer o) c.in-Before.is c.find_link-f.ensures));
       below = tt;
     }

@@ -7,25 +7,25 @@ use Rattle.storage.specs.Rows.Sorted.{FoundIs, Here}
 use Rattle.storage.specs.declared.rows.table.Found.{Found}
 use Rattle.block.specs.View.{state_of}
 use Rattle.block.proofs.LinkLaws.{count-peers}
-use Rattle.block.specs.Caches.GraftSteps.{graftsAt}
+use Rattle.block.specs.Caches.GraftSteps.{grafts_at}
 use Rattle.time_cache.specs.TimeCache.{get}
-use Rattle.postcard.specs.Values.{deliveryValue}
-use Rattle.protocol.specs.Gossips.{lateFrom}
+use Rattle.postcard.specs.Values.{delivery_value}
+use Rattle.protocol.specs.Gossips.{late_from}
 use Rattle.decide.specs.Settled.{settled}
 use Rattle.steps.specs.Shared.{HeldAt, HeldIs}
 use Rattle.steps.specs.declared.Held.{Held}
-use Rattle.steps.specs.Settled.Then.{noGrafts}
+use Rattle.steps.specs.Settled.Then.{no_grafts}
 use Rattle.payloads.proofs.LateLaws.LateLaws.{held_below, kind-none, kind-held, kind-stranger}
 use native.Mathlib.Omega.{arith}
 use Rattle.payloads.proofs.late.late_kind.Goals as goal
 use Rattle.payloads.proofs.late.late_kind.Goals.{In-At, In-At-f}
 
 -- the grafted message that was found
-entry-held : (c : In-At) → HeldAt noGrafts (state_of c.args.h c.args.block.now).grafted.entries (id_of c.args.id) (get (id_of c.args.id) (settled c.args.instant.0 (state_of c.args.h c.args.block.now)).grafted) c.in-At.g
+entry-held : (c : In-At) → HeldAt no_grafts (state_of c.args.h c.args.block.now).grafted.entries (id_of c.args.id) (get (id_of c.args.id) (settled c.args.instant.0 (state_of c.args.h c.args.block.now)).grafted) c.in-At.g
 entry-held c =
     let a = c.args in
     let st = state_of a.h a.block.now in
-    subst (λ (o : Held). HeldIs noGrafts st.grafted.entries (id_of a.id) (get (id_of a.id) (settled a.instant.0 st).grafted) o) c.in-At.is c.grafted_then-held.ensures
+    subst (λ (o : Held). HeldIs no_grafts st.grafted.entries (id_of a.id) (get (id_of a.id) (settled a.instant.0 st).grafted) o) c.in-At.is c.grafted_then-held.ensures
 
 -- the link that was found
 link-found : (c : In-At-f) → Here (keys (state_of c.args.h c.args.block.now).links) c.args.sender c.in-At-f.link
@@ -41,11 +41,11 @@ pub returns-in-At-f : goal.returns-in-At-f
 returns-in-At-f c =
     let a = c.args in
     let st = state_of a.h a.block.now in
-    let g = graftsAt st c.in-At.g in
+    let g = grafts_at st c.in-At.g in
     record {
       same = c.late_from.ensures.same
-          ∙ ap (λ (n : ℕ). lateFrom n (deliveryValue a.delivery) st.links g g.first) (link-found (goal.at.returns-in-At-f c).In-At-f).same
-          ∙ kind-held a.h a.block.now c.requires a.instant.0 a.sender (deliveryValue a.delivery) (id_of a.id) c.in-At.g (entry-held (goal.at.returns-in-At-f c).In-At);
+          ∙ ap (λ (n : ℕ). late_from n (delivery_value a.delivery) st.links g g.first) (link-found (goal.at.returns-in-At-f c).In-At-f).same
+          ∙ kind-held a.h a.block.now c.requires a.instant.0 a.sender (delivery_value a.delivery) (id_of a.id) c.in-At.g (entry-held (goal.at.returns-in-At-f c).In-At);
       below = c.late_from.ensures.below;
     }
 
@@ -53,7 +53,7 @@ pub returns-in-Before : goal.returns-in-Before
 returns-in-Before c =
     let a = c.args in
     record {
-      same = kind-stranger a.h a.block.now c.requires a.instant.0 a.sender (deliveryValue a.delivery) (id_of a.id) c.in-At.g (entry-held (goal.at.returns-in-Before c).In-At) _
+      same = kind-stranger a.h a.block.now c.requires a.instant.0 a.sender (delivery_value a.delivery) (id_of a.id) c.in-At.g (entry-held (goal.at.returns-in-Before c).In-At) _
           (subst (λ (o : Found). FoundIs (keys (state_of a.h a.block.now).links) a.sender o) c.in-Before.is c.find_link-f.ensures);
       below = tt;
     }
@@ -63,7 +63,7 @@ returns-in-Nothing c =
     let a = c.args in
     let st = state_of a.h a.block.now in
     record {
-      same = kind-none a.h a.block.now c.requires a.instant.0 a.sender (deliveryValue a.delivery) (id_of a.id)
-          (subst (λ (o : Held). HeldIs noGrafts st.grafted.entries (id_of a.id) (get (id_of a.id) (settled a.instant.0 st).grafted) o) c.in-Nothing.is c.grafted_then-held.ensures);
+      same = kind-none a.h a.block.now c.requires a.instant.0 a.sender (delivery_value a.delivery) (id_of a.id)
+          (subst (λ (o : Held). HeldIs no_grafts st.grafted.entries (id_of a.id) (get (id_of a.id) (settled a.instant.0 st).grafted) o) c.in-Nothing.is c.grafted_then-held.ensures);
       below = tt;
     }

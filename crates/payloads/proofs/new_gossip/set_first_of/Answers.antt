@@ -7,17 +7,17 @@ use Rattle.block.specs.View.{state_of}
 use Rattle.steps.specs.Shared.{HeldAt, HeldIs}
 use Rattle.steps.specs.declared.Held.{Held}
 use Rattle.steps.proofs.StandsLaws.{grafted-order}
-use Rattle.steps.specs.Settled.Then.{noGrafts}
+use Rattle.steps.specs.Settled.Then.{no_grafts}
 use Rattle.payloads.proofs.NewGossipLaws.StepLaws.{held_below, first_goes, first-none}
 use Rattle.payloads.proofs.new_gossip.set_first_of.Goals as goal
 use Rattle.payloads.proofs.new_gossip.set_first_of.Goals.{In-At}
 
 -- the grafted message that was found
-entry-held : (c : In-At) → HeldAt noGrafts (state_of c.args.h c.args.block.now).grafted.entries (id_of c.args.id) (get (id_of c.args.id) (settled c.args.instant.0 (state_of c.args.h c.args.block.now)).grafted) c.in-At.g
+entry-held : (c : In-At) → HeldAt no_grafts (state_of c.args.h c.args.block.now).grafted.entries (id_of c.args.id) (get (id_of c.args.id) (settled c.args.instant.0 (state_of c.args.h c.args.block.now)).grafted) c.in-At.g
 entry-held c =
     let a = c.args in
     let st = state_of a.h a.block.now in
-    subst (λ (o : Held). HeldIs noGrafts st.grafted.entries (id_of a.id) (get (id_of a.id) (settled a.instant.0 st).grafted) o) c.in-At.is c.grafted_then-held.ensures
+    subst (λ (o : Held). HeldIs no_grafts st.grafted.entries (id_of a.id) (get (id_of a.id) (settled a.instant.0 st).grafted) o) c.in-At.is c.grafted_then-held.ensures
 
 pub set_first-requires : goal.set_first-requires
 set_first-requires c =
@@ -34,4 +34,4 @@ returns-in-Nothing c =
     let a = c.args in
     let st = state_of a.h a.block.now in
     first-none a.h a.block.now c.requires.1 a.instant.0 a.sender (id_of a.id) a.round.0 c.requires.0.sound
-    (subst (λ (o : Held). HeldIs noGrafts st.grafted.entries (id_of a.id) (get (id_of a.id) (settled a.instant.0 st).grafted) o) c.in-Nothing.is c.grafted_then-held.ensures)
+    (subst (λ (o : Held). HeldIs no_grafts st.grafted.entries (id_of a.id) (get (id_of a.id) (settled a.instant.0 st).grafted) o) c.in-Nothing.is c.grafted_then-held.ensures)

@@ -6,7 +6,7 @@ use Rattle.storage.specs.Rows.Ident.{id_of}
 use Rattle.storage.specs.Rows.Sorted.{FoundIs, Here}
 use Rattle.storage.specs.declared.rows.table.Found.{Found}
 use Rattle.block.specs.View.{state_of}
-use Rattle.block.specs.MissingSteps.{hopsAt}
+use Rattle.block.specs.MissingSteps.{hops_at}
 use Rattle.protocol.specs.Gossips.{announcers}
 use Rattle.block.proofs.MissingLaws.{count-missed}
 use Rattle.payloads.proofs.OptimiseLaws.BestLaws.{announcers-here, announcers-none, announced-some, threshold-of, far-not-less, far-few, far-enough, nearest-not, nearest-is, nearest-none}
@@ -31,25 +31,25 @@ pub returns-then-round-near : goal.returns-then-round-near
 returns-then-round-near c =
     let a = c.args in
     let i = c.in-At.i in
-    nearest-not a.h a.block.now (state_of a.h a.block.now).settings.optimizationThreshold a.round.0 (announcers (id_of a.id) (state_of a.h a.block.now)) (hopsAt (state_of a.h a.block.now) i) c.least_announcer-best.result (announcers-here a.h a.block.now c.requires (id_of a.id) i (found (goal.at.returns-then-round-near c).In-At)) (announced-some a.h a.block.now c.requires i (below (goal.at.returns-then-round-near c).In-At)) c.least_announcer-best.ensures
-    (far-not-less (state_of a.h a.block.now).settings.optimizationThreshold a.round.0 c.least_announcer-best.result.round.0 c.if-round-near.true)
+    nearest-not a.h a.block.now (state_of a.h a.block.now).settings.optimization_threshold a.round.0 (announcers (id_of a.id) (state_of a.h a.block.now)) (hops_at (state_of a.h a.block.now) i) c.least_announcer-best.result (announcers-here a.h a.block.now c.requires (id_of a.id) i (found (goal.at.returns-then-round-near c).In-At)) (announced-some a.h a.block.now c.requires i (below (goal.at.returns-then-round-near c).In-At)) c.least_announcer-best.ensures
+    (far-not-less (state_of a.h a.block.now).settings.optimization_threshold a.round.0 c.least_announcer-best.result.round.0 c.if-round-near.true)
 
 pub returns-then-round-near-2 : goal.returns-then-round-near-2
 returns-then-round-near-2 c =
     let a = c.args in
     let i = c.in-At.i in
-    nearest-not a.h a.block.now (state_of a.h a.block.now).settings.optimizationThreshold a.round.0 (announcers (id_of a.id) (state_of a.h a.block.now)) (hopsAt (state_of a.h a.block.now) i) c.least_announcer-best.result (announcers-here a.h a.block.now c.requires (id_of a.id) i (found (goal.at.returns-then-round-near-2 c).In-At)) (announced-some a.h a.block.now c.requires i (below (goal.at.returns-then-round-near-2 c).In-At)) c.least_announcer-best.ensures
-    (far-few (state_of a.h a.block.now).settings.optimizationThreshold a.round.0 c.least_announcer-best.result.round.0 (omega (arith, c.if-round-near-2.true, threshold-of a.h a.block.now)))
+    nearest-not a.h a.block.now (state_of a.h a.block.now).settings.optimization_threshold a.round.0 (announcers (id_of a.id) (state_of a.h a.block.now)) (hops_at (state_of a.h a.block.now) i) c.least_announcer-best.result (announcers-here a.h a.block.now c.requires (id_of a.id) i (found (goal.at.returns-then-round-near-2 c).In-At)) (announced-some a.h a.block.now c.requires i (below (goal.at.returns-then-round-near-2 c).In-At)) c.least_announcer-best.ensures
+    (far-few (state_of a.h a.block.now).settings.optimization_threshold a.round.0 c.least_announcer-best.result.round.0 (omega (arith, c.if-round-near-2.true, threshold-of a.h a.block.now)))
 
 pub returns-else-round-near-2 : goal.returns-else-round-near-2
 returns-else-round-near-2 c =
     let a = c.args in
     let i = c.in-At.i in
-    nearest-is a.h a.block.now (state_of a.h a.block.now).settings.optimizationThreshold a.round.0 (announcers (id_of a.id) (state_of a.h a.block.now)) (hopsAt (state_of a.h a.block.now) i) c.least_announcer-best.result (announcers-here a.h a.block.now c.requires (id_of a.id) i (found (goal.at.returns-else-round-near-2 c).In-At)) (announced-some a.h a.block.now c.requires i (below (goal.at.returns-else-round-near-2 c).In-At)) c.least_announcer-best.ensures
-    (far-enough (state_of a.h a.block.now).settings.optimizationThreshold a.round.0 c.least_announcer-best.result.round.0 (omega (arith, c.if-round-near.false)) (omega (arith, c.if-round-near-2.false, threshold-of a.h a.block.now)))
+    nearest-is a.h a.block.now (state_of a.h a.block.now).settings.optimization_threshold a.round.0 (announcers (id_of a.id) (state_of a.h a.block.now)) (hops_at (state_of a.h a.block.now) i) c.least_announcer-best.result (announcers-here a.h a.block.now c.requires (id_of a.id) i (found (goal.at.returns-else-round-near-2 c).In-At)) (announced-some a.h a.block.now c.requires i (below (goal.at.returns-else-round-near-2 c).In-At)) c.least_announcer-best.ensures
+    (far-enough (state_of a.h a.block.now).settings.optimization_threshold a.round.0 c.least_announcer-best.result.round.0 (omega (arith, c.if-round-near.false)) (omega (arith, c.if-round-near-2.false, threshold-of a.h a.block.now)))
 
 pub returns-in-Before : goal.returns-in-Before
 returns-in-Before c =
     let a = c.args in
-    nearest-none (state_of a.h a.block.now).settings.optimizationThreshold a.round.0 (announcers (id_of a.id) (state_of a.h a.block.now))
+    nearest-none (state_of a.h a.block.now).settings.optimization_threshold a.round.0 (announcers (id_of a.id) (state_of a.h a.block.now))
     (announcers-none a.h a.block.now c.requires (id_of a.id) _ (subst (λ (o : Found). FoundIs (keys (state_of a.h a.block.now).missing) (id_of a.id) o) c.in-Before.is c.find_missing-f.ensures))

@@ -15,10 +15,10 @@ use Rattle.payloads.proofs.optimise.maybe_optimize.Goals as goal
 use Rattle.payloads.proofs.optimise.maybe_optimize.Goals.{In-Closer}
 
 -- the announcer that was found
-best-found : (c : In-Closer) → BestAt c.args.h c.args.block.now (nearest (state_of c.args.h c.args.block.now).settings.optimizationThreshold (c.args.round.0 + 1) (announcers (id_of c.args.id) (state_of c.args.h c.args.block.now))) c.in-Closer.best
+best-found : (c : In-Closer) → BestAt c.args.h c.args.block.now (nearest (state_of c.args.h c.args.block.now).settings.optimization_threshold (c.args.round.0 + 1) (announcers (id_of c.args.id) (state_of c.args.h c.args.block.now))) c.in-Closer.best
 best-found c =
     let a = c.args in
-    subst (λ (o : Best). BestIs a.h a.block.now (nearest (state_of a.h a.block.now).settings.optimizationThreshold (a.round.0 + 1) (announcers (id_of a.id) (state_of a.h a.block.now))) o) c.in-Closer.is c.closer-b.ensures
+    subst (λ (o : Best). BestIs a.h a.block.now (nearest (state_of a.h a.block.now).settings.optimization_threshold (a.round.0 + 1) (announcers (id_of a.id) (state_of a.h a.block.now))) o) c.in-Closer.is c.closer-b.ensures
 
 pub optimize_tree-requires : goal.optimize_tree-requires
 optimize_tree-requires c =
@@ -33,7 +33,7 @@ pub returns-in-Nothing-b : goal.returns-in-Nothing-b
 returns-in-Nothing-b c =
     let a = c.args in
     optimised-none a.h a.block.now c.requires.1 a.instant.0 (id_of a.id) a.sender a.round.0 c.requires.0.sound (subst (λ (o : Held). WantedIs (keys (state_of a.h a.block.now).links) a.sender (wanted (id_of a.id) a.sender a.round.0 (settled a.instant.0 (state_of a.h a.block.now))) o) c.in-At.is c.wants_optimise-w.ensures).want
-    (subst (λ (o : Best). BestIs a.h a.block.now (nearest (state_of a.h a.block.now).settings.optimizationThreshold (a.round.0 + 1) (announcers (id_of a.id) (state_of a.h a.block.now))) o) c.in-Nothing-b.is c.closer-b.ensures)
+    (subst (λ (o : Best). BestIs a.h a.block.now (nearest (state_of a.h a.block.now).settings.optimization_threshold (a.round.0 + 1) (announcers (id_of a.id) (state_of a.h a.block.now))) o) c.in-Nothing-b.is c.closer-b.ensures)
 
 pub returns-in-Nothing : goal.returns-in-Nothing
 returns-in-Nothing c =

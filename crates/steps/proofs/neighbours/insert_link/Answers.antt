@@ -5,9 +5,9 @@ use Prim.Native.Nat.{ℕ, ◌+◌, ◌-◌, ◌*◌, ◌≤◌, ◌<◌}
 use lib.ListN.{length, set, length-set}
 use Rattle.storage.specs.Rows.Part.{put}
 use Rattle.storage.specs.Rows.Digits.{le_bytes}
-use Rattle.protocol.specs.Links.{linkUp}
+use Rattle.protocol.specs.Links.{link_up}
 use Rattle.block.specs.Goes.{Goes}
-use Rattle.block.specs.Heads.{withLinkCount}
+use Rattle.block.specs.Heads.{with_link_count}
 use Rattle.block.specs.LinkSteps.{linked}
 use Rattle.block.proofs.LinkLaws.{count-peers}
 use Rattle.steps.proofs.NeighboursLaws.LinkIn.{link-in}
@@ -65,6 +65,6 @@ returns c =
     let xs = a.block.now in
     let at : ℕ = 2048 + 16 * a.i in
     let ys = c.raise_links.new.block in
-    subst (λ (zs : List ℕ). Goes (linked (linkUp a.peer)) h xs (withLinkCount (n + 1) h) (set zs (at + 8) 0))
+    subst (λ (zs : List ℕ). Goes (linked (link_up a.peer)) h xs (with_link_count (n + 1) h) (set zs (at + 8) 0))
     (sym (c.store.ensures ∙ ap (put at (le_bytes 8 a.peer)) c.move_up.ensures))
     (link-in h xs a.i a.peer (omega (arith, c.well_formed)) c.requires.1 c.requires.2 ys c.raise_links.ensures)

@@ -5,7 +5,7 @@ use Prim.Native.Nat.{ℕ}
 use Rattle.storage.specs.Rows.Sorted.{Here, FoundIs}
 use Rattle.storage.specs.declared.rows.table.Found.{Found}
 use Rattle.storage.specs.Lists.Map.{keys}
-use Rattle.protocol.specs.Neighbours.{forgetPeer}
+use Rattle.protocol.specs.Neighbours.{forget_peer}
 use Rattle.block.specs.View.{state_of}
 use Rattle.block.proofs.KeyPlaces.{remove-between}
 use Rattle.block.proofs.LinkLaws.{count-peers, neighbour-between}
@@ -23,16 +23,16 @@ here c =
     subst (λ (x : Found). FoundIs (peers (goal.at.In-At c).Start) c.args.peer x) c.in-At.is c.find_link-f.ensures
 
 pub find_link-f-requires : goal.find_link-f-requires
-find_link-f-requires c = let p = c.requires in (p.sound.fit, p.consistent.core.linksUp)
+find_link-f-requires c = let p = c.requires in (p.sound.fit, p.consistent.core.links_up)
 
 pub remove_link-requires : goal.remove_link-requires
 remove_link-requires c =
-    (c.requires.sound, c.requires.consistent.core.linksUp, omega (arith, (here (goal.at.remove_link-requires c).In-At).within, count-peers c.args.h c.args.block.now))
+    (c.requires.sound, c.requires.consistent.core.links_up, omega (arith, (here (goal.at.remove_link-requires c).In-At).within, count-peers c.args.h c.args.block.now))
 
 pub returns-in-At : goal.returns-in-At
 returns-in-At c =
     let g = c.remove_link.ensures in
-    record { state = g.state ∙ ap (λ (p : ℕ). forgetPeer p (state_of c.args.h c.args.block.now)) (here (goal.at.returns-in-At c).In-At).same; sound = g.sound }
+    record { state = g.state ∙ ap (λ (p : ℕ). forget_peer p (state_of c.args.h c.args.block.now)) (here (goal.at.returns-in-At c).In-At).same; sound = g.sound }
 
 pub returns-in-Before : goal.returns-in-Before
 returns-in-Before c =

@@ -5,8 +5,8 @@ use Prim.Native.Nat.{ℕ}
 use Rattle.storage.specs.Rows.Sorted.{Here, Between, FoundIs}
 use Rattle.storage.specs.declared.rows.table.Found.{Found}
 use Rattle.storage.specs.Lists.Map.{keys, insert}
-use Rattle.protocol.specs.Links.{eager, linkUp}
-use Rattle.protocol.specs.State.{withLinks}
+use Rattle.protocol.specs.Links.{eager, link_up}
+use Rattle.protocol.specs.State.{with_links}
 use Rattle.block.specs.View.{state_of}
 use Rattle.block.proofs.LinkLaws.{count-peers, neighbour-between, eager-marked}
 use native.Mathlib.Omega.{arith}
@@ -35,8 +35,8 @@ insert_link-requires c =
     (c.requires.0, b, c.requires.2 (neighbour-between c.args.peer c.in-Before.i (state_of c.args.h c.args.block.now).links b))
 
 pub returns-in-At : goal.returns-in-At
-unfolding linkUp
+unfolding link_up
 returns-in-At c =
     let g = eager-marked c.args.h c.args.block.now c.in-At.i c.requires.1 (omega (arith, (here (goal.at.returns-in-At c).In-At).within, count-peers c.args.h c.args.block.now)) c.add_eager.ensures in
     let st = state_of c.args.h c.args.block.now in
-    record { state = g.state ∙ ap (λ (k : ℕ). withLinks (insert k eager st.links) st) (here (goal.at.returns-in-At c).In-At).same; sound = g.sound }
+    record { state = g.state ∙ ap (λ (k : ℕ). with_links (insert k eager st.links) st) (here (goal.at.returns-in-At c).In-At).same; sound = g.sound }

@@ -4,10 +4,10 @@ use mathlib.Core.List.{List}
 use Prim.Native.Nat.{ℕ, ◌-◌}
 use lib.ListN.{get_or}
 use Rattle.storage.specs.Lists.Map.{keys}
-use Rattle.protocol.specs.Neighbours.{forgetPeer}
+use Rattle.protocol.specs.Neighbours.{forget_peer}
 use Rattle.block.specs.View.{state_of}
 use Rattle.block.specs.Goes.{Goes}
-use Rattle.block.specs.Heads.{withLinkCount}
+use Rattle.block.specs.Heads.{with_link_count}
 use Rattle.steps.proofs.NeighboursLaws.LinkOut.{link-out}
 use Rattle.steps.proofs.neighbours.remove_link.Goals as goal
 
@@ -18,6 +18,6 @@ returns c =
     let xs = a.block.now in
     let r = c.lower_links-r.result in
     let n = r.live.links in
-    subst (λ (zs : List ℕ). Goes (forgetPeer (get_or (keys (state_of h xs).links) a.i 0)) h xs (withLinkCount (n - 1) r) zs)
+    subst (λ (zs : List ℕ). Goes (forget_peer (get_or (keys (state_of h xs).links) a.i 0)) h xs (with_link_count (n - 1) r) zs)
     (sym c.move_down.ensures)
     (link-out h xs c.requires.1 a.i c.requires.2 r c.lower_links-r.new.block c.lower_links-r.ensures)

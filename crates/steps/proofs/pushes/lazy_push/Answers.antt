@@ -8,11 +8,11 @@ use mathlib.Core.Path.{◌≡◌, sym, ap, ◌∙◌}
 use lib.ListN.{get_or-map}
 use Rattle.storage.specs.Rows.Ident.{id_of}
 use Rattle.storage.specs.Lists.Map.{Entry, entry}
-use Rattle.protocol.specs.Links.{Mark, eager, isEager}
+use Rattle.protocol.specs.Links.{Mark, eager, is_eager}
 use Rattle.block.specs.View.{state_of}
-use Rattle.block.specs.LinkSteps.{link_at, peerAt}
+use Rattle.block.specs.LinkSteps.{link_at, peer_at}
 use Rattle.block.specs.NoteSteps.{note}
-use Rattle.steps.specs.Pushes.Lazy.{lazyNotes}
+use Rattle.steps.specs.Pushes.Lazy.{lazy_notes}
 use Rattle.steps.proofs.PushesLaws.LazyLaws.{lazy-start, lazy-skip, lazy-take, lazy-room, lazy-end, same_count, eager-in, peer-in, of-eager, of-sender, of-lazy}
 use Rattle.steps.proofs.pushes.lazy_push.Goals as goal
 use Rattle.steps.proofs.pushes.lazy_push.Goals.{After-peer_at-peer}
@@ -36,7 +36,7 @@ peer_at-peer-requires c =
 
 -- link i, as it was read
 module _ (d : After-peer_at-peer) where
-  was-eager : (b : Bool) → d.eager_at-eager.result ≡ b → isEager (link_at (state_of d.args.h d.args.block.now) d.loop-i.i).value ≡ b
+  was-eager : (b : Bool) → d.eager_at-eager.result ≡ b → is_eager (link_at (state_of d.args.h d.args.block.now) d.loop-i.i).value ≡ b
   was-eager b e = eager-in (id_of d.args.id) d.args.round.0 d.args.sender d.args.h d.args.block.now d.loop-i.i d.loop-i.g d.loop-i.block d.loop-i.invariant.2 b (sym e ∙ d.eager_at-eager.ensures)
 
   was-peer : (link_at (state_of d.args.h d.args.block.now) d.loop-i.i).key ≡ d.peer_at-peer.result
@@ -44,7 +44,7 @@ module _ (d : After-peer_at-peer) where
 
   -- the note of a lazy link that is not the sender's
   adds : d.eager_at-eager.result ≡ false → (d.peer_at-peer.result ≡ d.args.sender → ⊥)
-      → lazyNotes (id_of d.args.id) d.args.round.0 d.args.sender (link_at (state_of d.args.h d.args.block.now) d.loop-i.i ∷ []) ≡ note (peerAt (state_of d.args.h d.args.block.now) d.loop-i.i) (id_of d.args.id) d.args.round.0 ∷ []
+      → lazy_notes (id_of d.args.id) d.args.round.0 d.args.sender (link_at (state_of d.args.h d.args.block.now) d.loop-i.i ∷ []) ≡ note (peer_at (state_of d.args.h d.args.block.now) d.loop-i.i) (id_of d.args.id) d.args.round.0 ∷ []
   adds e k =
       of-lazy (id_of d.args.id) d.args.round.0 d.args.sender (link_at (state_of d.args.h d.args.block.now) d.loop-i.i) (was-eager false e) (λ q. k (sym was-peer ∙ q))
       ∙ ap (λ q. note q (id_of d.args.id) d.args.round.0 ∷ []) (sym (get_or-map (λ (e : Entry Mark). e.key) (state_of d.args.h d.args.block.now).links d.loop-i.i (entry 0 eager)))
@@ -66,7 +66,7 @@ push_queued-g-requires c =
     let t = c.loop-i-test.true in (
       p.invariant.2.sound,
       omega (arith, same_count (id_of a.id) a.round.0 a.sender a.h a.block.now p.i p.g p.block p.invariant.2, t),
-      lazy-room (id_of a.id) a.round.0 a.sender a.h a.block.now p.i p.g p.block p.invariant.2 c.requires.0 (note (peerAt (state_of a.h a.block.now) p.i) (id_of a.id) a.round.0)
+      lazy-room (id_of a.id) a.round.0 a.sender a.h a.block.now p.i p.g p.block p.invariant.2 c.requires.0 (note (peer_at (state_of a.h a.block.now) p.i) (id_of a.id) a.round.0)
           t (adds (goal.at.push_queued-g-requires c).After-peer_at-peer c.if-eager.false c.if-peer-sender.true) c.requires.1,
     )
 

@@ -2,10 +2,10 @@
 use mathlib.Core.Path.{sym, ap, ◌∙◌, subst}
 use Prim.Native.Nat.{ℕ, ◌<◌}
 use native.Mathlib.Omega.{arith}
-use Rattle.time_cache.specs.Tables.{Lies, row_at, rows_at, refsAt}
+use Rattle.time_cache.specs.Tables.{Lies, row_at, rows_at, refs_at}
 use Rattle.time_cache.specs.Steps.{ref_at}
 use Rattle.time_cache.specs.declared.cache.TimeBoundCache.{TimeBoundCache}
-use Rattle.block.specs.TimeCaches.{cachedCache}
+use Rattle.block.specs.TimeCaches.{cached_cache}
 use Rattle.block.proofs.CachesLaws.CachedLaws.{cached-lies, cached-sound}
 use Rattle.steps.proofs.StandsLaws.{cached-order}
 use Rattle.steps.proofs.SettledLaws.ThenLaws.{place-below, cached-time}
@@ -25,7 +25,7 @@ expires-requires c =
     let e = c.cached_cache-c.ensures in
     subst (λ (t : TimeBoundCache). Lies t xs × (c.place-p.result < t.expiry.len)) (sym e) (
       cached-lies h xs g.sound.fit,
-      omega (arith, c.place-p.ensures ∙ ap (λ (t : TimeBoundCache). (ref_at (refsAt t xs) c.args.i).place) e, place-below (cachedCache h) xs (cached-sound h xs g.sound (cached-order h xs g)) c.args.i c.requires.1),
+      omega (arith, c.place-p.ensures ∙ ap (λ (t : TimeBoundCache). (ref_at (refs_at t xs) c.args.i).place) e, place-below (cached_cache h) xs (cached-sound h xs g.sound (cached-order h xs g)) c.args.i c.requires.1),
     )
 
 pub returns : goal.returns
@@ -35,5 +35,5 @@ returns c =
     let e = c.cached_cache-c.ensures in
     c.expires.ensures
     ∙ ap (λ (p : ℕ). (row_at (rows_at c.cached_cache-c.result xs) p).time) c.place-p.ensures
-    ∙ ap (λ (t : TimeBoundCache). (row_at (rows_at t xs) (ref_at (refsAt t xs) c.args.i).place).time) e
+    ∙ ap (λ (t : TimeBoundCache). (row_at (rows_at t xs) (ref_at (refs_at t xs) c.args.i).place).time) e
     ∙ cached-time h xs c.requires.0.sound.fit c.args.i c.requires.1

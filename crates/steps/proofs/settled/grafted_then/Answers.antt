@@ -2,12 +2,12 @@
 use mathlib.Core.Path.{sym, subst}
 use Rattle.storage.specs.Rows.Ident.{id_of}
 use Rattle.time_cache.specs.TimeCache.{get}
-use Rattle.time_cache.specs.Tables.{cacheAt, Lies, Sound}
+use Rattle.time_cache.specs.Tables.{cache_at, Lies, Sound}
 use Rattle.time_cache.specs.declared.cache.TimeBoundCache.{TimeBoundCache}
 use Rattle.block.proofs.CachesLaws.GraftedLaws.{grafted-lies, grafted-sound}
 use Rattle.steps.specs.Shared.{HeldIs}
 use Rattle.steps.proofs.StandsLaws.{grafted-order}
-use Rattle.steps.specs.Settled.Then.{no_held, leftThen}
+use Rattle.steps.specs.Settled.Then.{no_held, left_then}
 use Rattle.steps.proofs.SettledLaws.ThenLaws.{grafted-held}
 use Rattle.steps.proofs.settled.grafted_then.Goals as goal
 
@@ -23,4 +23,4 @@ returns c =
     let xs = c.args.block.now in
     let k = id_of c.args.id in
     grafted-held h xs c.requires.sound.fit c.args.instant.0 k c.held_then.result
-    (subst (λ (t : TimeBoundCache). HeldIs no_held (cacheAt t xs).entries k (get k (leftThen h.live.init c.args.instant.0 (cacheAt t xs))) c.held_then.result) c.grafted_cache-c.ensures c.held_then.ensures)
+    (subst (λ (t : TimeBoundCache). HeldIs no_held (cache_at t xs).entries k (get k (left_then h.live.init c.args.instant.0 (cache_at t xs))) c.held_then.result) c.grafted_cache-c.ensures c.held_then.ensures)

@@ -4,7 +4,7 @@ use mathlib.Core.Bool.{Bool}
 use Prim.Native.Nat.{ℕ, ◌+◌, ◌%◌, ◌<◌}
 use lib.ListN.{get_or, set, length-set}
 use Rattle.storage.specs.Rows.Ident.{id_of}
-use Rattle.storage.specs.Notes.Chains.{id_at, bucketOf, bucket, Latest, TellsNew, Once}
+use Rattle.storage.specs.Notes.Chains.{id_at, bucket_of, bucket, Latest, TellsNew, Once}
 use Rattle.storage.proofs.NotesLaws.Walks.{in-range, Heads, heads-start, heads-more, chained-start, chained_more, once-start, once_more, once-not}
 use native.Mathlib.Omega.{arith}
 use borrow.Author.Rules.{rules}
@@ -48,7 +48,7 @@ is_new-ok-requires c =
       omega (arith, c.requires.0, c.loop-i-test.true),
       omega (arith, c.requires.1, c.loop-i-test.true),
       omega (arith, c.requires.2, c.loop-i-test.true),
-      subst (λ (v : ℕ). Latest cs b l.i (bucketOf (id_of c.load_id-x.result) (get_or cs l.i 0)) v) (sym c.wide.ensures)
+      subst (λ (v : ℕ). Latest cs b l.i (bucket_of (id_of c.load_id-x.result) (get_or cs l.i 0)) v) (sym c.wide.ensures)
           (subst (λ (v : ℕ). Latest cs b l.i v (get_or l.head h 0)) c.bucket_of-h.ensures (l.invariant.1.each h (below (goal.at.is_new-ok-requires c).After-bucket_of-h))),
       l.invariant.2,
     )
@@ -75,7 +75,7 @@ loop-i-preserved c =
     let cs = c.args.c.now in
     let b = c.args.b.now in
     let h = c.bucket_of-h.result in
-    let e : h ≡ bucket cs b l.i = c.bucket_of-h.ensures ∙ ap (λ (v : ℕ). bucketOf v (get_or cs l.i 0)) c.load_id-x.ensures in
+    let e : h ≡ bucket cs b l.i = c.bucket_of-h.ensures ∙ ap (λ (v : ℕ). bucket_of v (get_or cs l.i 0)) c.load_id-x.ensures in
     let m : h < 1024 = below (goal.at.loop-i-preserved c).After-bucket_of-h in
     let small : (l.i + 1) % 65536 ≡ l.i + 1 = omega (arith, c.requires.0, c.loop-i-test.true) in
     let t = subst (λ (v : Bool). TellsNew cs b l.i (get_or cs l.i 0) (id_of c.load_id-x.result) v) c.if-ok.true c.is_new-ok.ensures in (

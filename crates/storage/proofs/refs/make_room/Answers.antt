@@ -5,7 +5,7 @@ use Prim.Native.Nat.{ℕ, ◌+◌, ◌*◌, ◌≤◌, ◌<◌}
 use lib.ListN.{get_or}
 use Rattle.storage.specs.Rows.Part.{put}
 use Rattle.storage.specs.Refs.Refs.{Ref, ref, refs, shifted, moved}
-use Rattle.storage.proofs.RefsLaws.Places.{length-refs, length-places, place_in, getD-map-in, store-place}
+use Rattle.storage.proofs.RefsLaws.Places.{length-refs, length-places, place_in, get_or-map-in, store-place}
 use Rattle.storage.proofs.RowsLaws.Rows.{row-end}
 use Rattle.storage.proofs.RefsLaws.Shifts.{done, done-start, done-read, done_more, done_all, shifted-le}
 use native.Mathlib.Omega.{arith}
@@ -35,7 +35,7 @@ was c =
     let e : c.load2-p.result ≡ (get_or rs l.j (ref 0 [])).place =
     c.load2-p.ensures.0 ∙ sym (place_in c.args.stride c.args.n l.j (ref 0 []) l.e c.requires.0 t) ∙ ap (λ (x : Ref). x.place) r in (
       e,
-      omega (arith, e, getD-map-in (λ (x : Ref). x.place) rs l.j 0 (ref 0 []) (omega (arith, t, k)), c.requires.2.below l.j (omega (arith, t, length-places c.args.stride c.args.n c.args.e.now))),
+      omega (arith, e, get_or-map-in (λ (x : Ref). x.place) rs l.j 0 (ref 0 []) (omega (arith, t, k)), c.requires.2.below l.j (omega (arith, t, length-places c.args.stride c.args.n c.args.e.now))),
       r,
     )
 

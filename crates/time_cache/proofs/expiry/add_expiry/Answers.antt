@@ -2,11 +2,11 @@
 use mathlib.Core.Path.{ap, ◌∙◌}
 use Prim.Native.Nat.{◌+◌, ◌*◌, ◌≤◌}
 use Rattle.storage.specs.Rows.Part.{put}
-use Rattle.storage.specs.Rows.Digits.{le_bytes, beBytes}
+use Rattle.storage.specs.Rows.Digits.{le_bytes, be_bytes}
 use Rattle.storage.specs.Rows.Ident.{id_of}
 use Rattle.storage.proofs.RowsLaws.Ids.{id-lt}
 use Rattle.storage.proofs.RowsLaws.Rows.{row-end}
-use Rattle.time_cache.specs.Tables.{expiryRows}
+use Rattle.time_cache.specs.Tables.{expiry_rows}
 use Rattle.time_cache.proofs.ExpiryLaws.{row-added}
 use native.Mathlib.Omega.{arith}
 use Rattle.time_cache.proofs.expiry.add_expiry.Goals as goal
@@ -32,8 +32,8 @@ store_id-requires c =
 pub returns : goal.returns
 returns c =
     let a = c.args in
-    ap (expiryRows a.stride (a.m + 1)) (c.store_id.ensures
-    ∙ ap (put (a.i * a.stride + 8) (beBytes 32 (id_of a.key))) (c.store.ensures
+    ap (expiry_rows a.stride (a.m + 1)) (c.store_id.ensures
+    ∙ ap (put (a.i * a.stride + 8) (be_bytes 32 (id_of a.key))) (c.store.ensures
     ∙ ap (put (a.i * a.stride) (le_bytes 8 a.time.0)) c.insert_row.ensures))
     ∙ row-added a.stride a.m a.i a.time.0 (id_of a.key) a.x.now c.requires.0 c.requires.1 c.requires.2 (omega (arith, c.well_formed))
     (id-lt a.key.w0 a.key.w1 a.key.w2 a.key.w3 (omega (arith, c.well_formed)) (omega (arith, c.well_formed)) (omega (arith, c.well_formed)) (omega (arith, c.well_formed)))

@@ -1,11 +1,11 @@
 -- `drop_expiry`: `remove_rows`, as expiry rows.
 use mathlib.Core.Path.{ap, ◌∙◌}
 use Prim.Native.Nat.{◌-◌}
-use Rattle.time_cache.specs.Tables.{expiryRows}
+use Rattle.time_cache.specs.Tables.{expiry_rows}
 use Rattle.time_cache.proofs.ExpiryLaws.{rows_dropped}
 use Rattle.time_cache.proofs.expiry.drop_expiry.Goals as goal
 
 pub returns : goal.returns
 returns c =
     let a = c.args in
-    ap (expiryRows a.stride (a.m - a.k)) c.remove_rows.ensures ∙ rows_dropped a.stride a.m a.k a.x.now c.requires.0 c.requires.1
+    ap (expiry_rows a.stride (a.m - a.k)) c.remove_rows.ensures ∙ rows_dropped a.stride a.m a.k a.x.now c.requires.0 c.requires.1

@@ -4,7 +4,7 @@ use mathlib.Core.List.{map}
 use Prim.Native.Nat.{◌+◌, ◌-◌, ◌*◌, ◌/◌, ◌≤◌, ◌<◌}
 use lib.ListN.{get_or}
 use Rattle.storage.proofs.RowsLaws.Rows.{row-end}
-use Rattle.time_cache.specs.Tables.{expiryRows, expiryOf, noExpiry}
+use Rattle.time_cache.specs.Tables.{expiry_rows, expiry_of, no_expiry}
 use Rattle.time_cache.proofs.Orders.{rising-of}
 use Rattle.time_cache.proofs.ExpiryLaws.{length-expiries, expiry-time, around-start, around-up, around-down, around-done}
 use native.Mathlib.Omega.{arith}
@@ -30,7 +30,7 @@ room c =
 
 -- the time that was read
 was : (c : After-load-t)
-    → c.load-t.result ≡ (get_or (map expiryOf (expiryRows c.args.stride c.args.m c.args.x.now)) (c.loop-lo.lo + (c.loop-lo.hi - c.loop-lo.lo) / 2) noExpiry).time
+    → c.load-t.result ≡ (get_or (map expiry_of (expiry_rows c.args.stride c.args.m c.args.x.now)) (c.loop-lo.lo + (c.loop-lo.hi - c.loop-lo.lo) / 2) no_expiry).time
 was c =
     let l = c.loop-lo in
     c.load-t.ensures ∙ sym (expiry-time c.args.stride c.args.m (l.lo + (l.hi - l.lo) / 2) c.args.x.now c.requires.0 (inside (goal.at.After-load-t c).In-loop-lo).1)
@@ -38,7 +38,7 @@ was c =
 pub loop-lo-init : goal.loop-lo-init
 loop-lo-init c =
     let a = c.args in
-    around-start (map expiryOf (expiryRows a.stride a.m a.x.now)) a.time.0 a.m (length-expiries a.stride a.m a.x.now)
+    around-start (map expiry_of (expiry_rows a.stride a.m a.x.now)) a.time.0 a.m (length-expiries a.stride a.m a.x.now)
 
 pub overflow_add-mid : goal.overflow_add-mid
 overflow_add-mid c = omega (arith, inside c)
@@ -55,14 +55,14 @@ overflow_add-lo c = omega (arith, inside (goal.at.overflow_add-lo c).In-loop-lo)
 pub loop-lo-preserved-then-t-time : goal.loop-lo-preserved-then-t-time
 loop-lo-preserved-then-t-time c =
     let l = c.loop-lo in
-    let xs = map expiryOf (expiryRows c.args.stride c.args.m c.args.x.now) in
+    let xs = map expiry_of (expiry_rows c.args.stride c.args.m c.args.x.now) in
     around-up xs c.args.time.0 l.lo l.hi (l.lo + (l.hi - l.lo) / 2) (rising-of xs c.requires.2) l.invariant (omega arith) (inside (goal.at.loop-lo-preserved-then-t-time c).In-loop-lo).0
     (omega (arith, was (goal.at.loop-lo-preserved-then-t-time c).After-load-t, c.if-t-time.true))
 
 pub loop-lo-preserved : goal.loop-lo-preserved
 loop-lo-preserved c =
     let l = c.loop-lo in
-    let xs = map expiryOf (expiryRows c.args.stride c.args.m c.args.x.now) in
+    let xs = map expiry_of (expiry_rows c.args.stride c.args.m c.args.x.now) in
     around-down xs c.args.time.0 l.lo l.hi (l.lo + (l.hi - l.lo) / 2) (rising-of xs c.requires.2) l.invariant (omega arith) (inside (goal.at.loop-lo-preserved c).In-loop-lo).0
     (omega (arith, was (goal.at.loop-lo-preserved c).After-load-t, c.if-t-time.false))
 
@@ -70,4 +70,4 @@ pub returns : goal.returns
 returns c =
     let l = c.loop-lo in
     let a = c.args in
-    around-done (map expiryOf (expiryRows a.stride a.m a.x.now)) a.time.0 l.lo l.hi l.invariant c.loop-lo-test.false
+    around-done (map expiry_of (expiry_rows a.stride a.m a.x.now)) a.time.0 l.lo l.hi l.invariant c.loop-lo-test.false

@@ -1,12 +1,12 @@
 -- `due`: the cut lies between lo and hi. The measure is hi - lo.
 use mathlib.Core.List.{map}
 use Prim.Native.Nat.{◌-◌}
-use Rattle.time_cache.specs.Tables.{expiryRows, expiryOf}
+use Rattle.time_cache.specs.Tables.{expiry_rows, expiry_of}
 use Rattle.time_cache.proofs.ExpiryLaws.{Around}
 use Rattle.time_cache.proofs.expiry.due.Given as goal
 
 abbrev pub invariant-loop-lo : goal.invariant-loop-lo
-invariant-loop-lo l = Around (map expiryOf (expiryRows l.stride l.m l.x)) l.time.0 l.lo l.hi
+invariant-loop-lo l = Around (map expiry_of (expiry_rows l.stride l.m l.x)) l.time.0 l.lo l.hi
 
 abbrev pub decreases-loop-lo : goal.decreases-loop-lo
 decreases-loop-lo l = l.hi - l.lo

@@ -4,7 +4,7 @@ use mathlib.Core.List.{map}
 use Prim.Native.Nat.{◌+◌, ◌*◌, ◌≤◌}
 use lib.ListN.{get_or}
 use Rattle.storage.proofs.RowsLaws.Rows.{row-end}
-use Rattle.time_cache.specs.Tables.{expiryRows, expiryOf, noExpiry}
+use Rattle.time_cache.specs.Tables.{expiry_rows, expiry_of, no_expiry}
 use Rattle.time_cache.proofs.Orders.{of_rising, not-rising}
 use Rattle.time_cache.proofs.ExpiryLaws.{length-expiries, expiry-time, rising-start, rising-more, rising-done, rising-not}
 use native.Mathlib.Omega.{arith}
@@ -20,12 +20,12 @@ room c = row-end c.args.stride c.args.m c.loop-i.i c.loop-i-test.true
 
 -- the time that was read
 was : (c : After-load-t)
-    → c.load-t.result ≡ (get_or (map expiryOf (expiryRows c.args.stride c.args.m c.args.x.now)) c.loop-i.i noExpiry).time
+    → c.load-t.result ≡ (get_or (map expiry_of (expiry_rows c.args.stride c.args.m c.args.x.now)) c.loop-i.i no_expiry).time
 was c =
     c.load-t.ensures ∙ sym (expiry-time c.args.stride c.args.m c.loop-i.i c.args.x.now c.requires.0 c.loop-i-test.true)
 
 pub loop-i-init : goal.loop-i-init
-loop-i-init c = (search rules, rising-start (map expiryOf (expiryRows c.args.stride c.args.m c.args.x.now)))
+loop-i-init c = (search rules, rising-start (map expiry_of (expiry_rows c.args.stride c.args.m c.args.x.now)))
 
 pub overflow_mul-i : goal.overflow_mul-i
 overflow_mul-i c = omega (arith, room c)
@@ -37,18 +37,18 @@ pub returns-then-t-last : goal.returns-then-t-last
 returns-then-t-last c =
     let l = c.loop-i in
     let a = c.args in
-    let xs = map expiryOf (expiryRows a.stride a.m a.x.now) in
+    let xs = map expiry_of (expiry_rows a.stride a.m a.x.now) in
     not-rising xs (rising-not xs l.last l.i c.load-t.result l.invariant.1 (omega (arith, length-expiries a.stride a.m a.x.now, c.loop-i-test.true)) (was (goal.at.returns-then-t-last c).After-load-t) c.if-t-last.true)
 
 pub loop-i-preserved : goal.loop-i-preserved
 loop-i-preserved c =
     let l = c.loop-i in
     let a = c.args in
-    (omega arith, rising-more (map expiryOf (expiryRows a.stride a.m a.x.now)) l.last l.i c.load-t.result l.invariant.1 (was (goal.at.loop-i-preserved c).After-load-t) (omega arith))
+    (omega arith, rising-more (map expiry_of (expiry_rows a.stride a.m a.x.now)) l.last l.i c.load-t.result l.invariant.1 (was (goal.at.loop-i-preserved c).After-load-t) (omega arith))
 
 pub returns : goal.returns
 returns c =
     let l = c.loop-i in
     let a = c.args in
-    let xs = map expiryOf (expiryRows a.stride a.m a.x.now) in
+    let xs = map expiry_of (expiry_rows a.stride a.m a.x.now) in
     sym (of_rising xs (rising-done xs l.last l.i l.invariant.1 (omega (arith, length-expiries a.stride a.m a.x.now, c.loop-i-test.false))))

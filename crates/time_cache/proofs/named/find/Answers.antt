@@ -7,7 +7,7 @@ use Rattle.storage.specs.Rows.Ident.{id_of}
 use Rattle.storage.proofs.RowsLaws.Sorted.{bracket-start, bracket-up, bracket-down, bracket-done}
 use Rattle.storage.proofs.RowsLaws.Ids.{of-less, of-equal, of-greater}
 use Rattle.storage.proofs.RowsLaws.Rows.{row-end}
-use Rattle.time_cache.proofs.NamedLaws.{keysIn, length-named, named-below, named_end, named-key}
+use Rattle.time_cache.proofs.NamedLaws.{keys_in, length-named, named-below, named_end, named-key}
 use native.Mathlib.Omega.{arith}
 use Rattle.time_cache.proofs.named.find.Goals as goal
 use Rattle.time_cache.proofs.named.find.Goals.{After-load2-p, After-load_id-at, In-loop-lo}
@@ -17,7 +17,7 @@ abbrev mid : In-loop-lo → ℕ
 mid c = c.loop-lo.lo + (c.loop-lo.hi - c.loop-lo.lo) / 2
 
 abbrev ks : In-loop-lo → List ℕ
-ks c = let a = c.args in keysIn a.stride a.n a.e.now a.width a.m a.x.now
+ks c = let a = c.args in keys_in a.stride a.n a.e.now a.width a.m a.x.now
 
 spot : (c : In-loop-lo)
     → (c.loop-lo.lo ≤ mid c) × (mid c < c.loop-lo.hi) × (mid c < c.args.n)
@@ -32,20 +32,20 @@ spot c =
 there : (c : After-load2-p) → c.load2-p.result * c.args.width + c.args.width ≤ length c.args.x.now
 there c =
     let a = c.args in
-    named_end a.stride a.n a.e.now a.width a.m a.x.now (mid (goal.at.After-load2-p c).In-loop-lo) (spot (goal.at.After-load2-p c).In-loop-lo).2 c.requires.0.entryWide c.load2-p.result c.load2-p.ensures.0
-    (named-below a.stride a.n a.e.now a.width a.m a.x.now c.requires.0 (mid (goal.at.After-load2-p c).In-loop-lo) c.load2-p.result (spot (goal.at.After-load2-p c).In-loop-lo).2 c.load2-p.ensures.0) c.requires.0.expiryWide c.requires.0.rows
+    named_end a.stride a.n a.e.now a.width a.m a.x.now (mid (goal.at.After-load2-p c).In-loop-lo) (spot (goal.at.After-load2-p c).In-loop-lo).2 c.requires.0.entry_wide c.load2-p.result c.load2-p.ensures.0
+    (named-below a.stride a.n a.e.now a.width a.m a.x.now c.requires.0 (mid (goal.at.After-load2-p c).In-loop-lo) c.load2-p.result (spot (goal.at.After-load2-p c).In-loop-lo).2 c.load2-p.ensures.0) c.requires.0.expiry_wide c.requires.0.rows
 
 -- the key that was read is the one that the middle names
 read : (c : After-load_id-at) → id_of c.load_id-at.result ≡ get_or (ks (goal.at.After-load_id-at c).In-loop-lo) (mid (goal.at.After-load_id-at c).In-loop-lo) 0
 read c =
     let a = c.args in
-    named-key a.stride a.n a.e.now a.width a.m a.x.now (mid (goal.at.After-load_id-at c).In-loop-lo) (spot (goal.at.After-load_id-at c).In-loop-lo).2 c.requires.0.entryWide c.load2-p.result c.load2-p.ensures.0
-    (named-below a.stride a.n a.e.now a.width a.m a.x.now c.requires.0 (mid (goal.at.After-load_id-at c).In-loop-lo) c.load2-p.result (spot (goal.at.After-load_id-at c).In-loop-lo).2 c.load2-p.ensures.0) c.requires.0.expiryWide c.requires.0.rows (id_of c.load_id-at.result) c.load_id-at.ensures
+    named-key a.stride a.n a.e.now a.width a.m a.x.now (mid (goal.at.After-load_id-at c).In-loop-lo) (spot (goal.at.After-load_id-at c).In-loop-lo).2 c.requires.0.entry_wide c.load2-p.result c.load2-p.ensures.0
+    (named-below a.stride a.n a.e.now a.width a.m a.x.now c.requires.0 (mid (goal.at.After-load_id-at c).In-loop-lo) c.load2-p.result (spot (goal.at.After-load_id-at c).In-loop-lo).2 c.load2-p.ensures.0) c.requires.0.expiry_wide c.requires.0.rows (id_of c.load_id-at.result) c.load_id-at.ensures
 
 pub loop-lo-init : goal.loop-lo-init
 loop-lo-init c =
     let a = c.args in
-    bracket-start (keysIn a.stride a.n a.e.now a.width a.m a.x.now) (id_of a.key) a.n (length-named a.stride a.n a.e.now a.width a.m a.x.now)
+    bracket-start (keys_in a.stride a.n a.e.now a.width a.m a.x.now) (id_of a.key) a.n (length-named a.stride a.n a.e.now a.width a.m a.x.now)
 
 pub overflow_add-mid : goal.overflow_add-mid
 overflow_add-mid c = omega (arith, spot c)
@@ -54,16 +54,16 @@ pub overflow_mul-mid : goal.overflow_mul-mid
 overflow_mul-mid c = omega (arith, (spot c).3)
 
 pub load2-p-requires : goal.load2-p-requires
-load2-p-requires c = omega (arith, (spot c).3, c.requires.0.entryWide)
+load2-p-requires c = omega (arith, (spot c).3, c.requires.0.entry_wide)
 
 pub overflow_mul-p : goal.overflow_mul-p
 overflow_mul-p c = omega (arith, there c)
 
 pub overflow_add-p : goal.overflow_add-p
-overflow_add-p c = omega (arith, there c, c.requires.0.expiryWide)
+overflow_add-p c = omega (arith, there c, c.requires.0.expiry_wide)
 
 pub load_id-at-requires : goal.load_id-at-requires
-load_id-at-requires c = omega (arith, there c, c.requires.0.expiryWide)
+load_id-at-requires c = omega (arith, there c, c.requires.0.expiry_wide)
 
 pub overflow_add-lo : goal.overflow_add-lo
 overflow_add-lo c = omega (arith, spot (goal.at.overflow_add-lo c).In-loop-lo)
@@ -92,4 +92,4 @@ pub returns : goal.returns
 returns c =
     let l = c.loop-lo in
     let a = c.args in
-    bracket-done (keysIn a.stride a.n a.e.now a.width a.m a.x.now) (id_of a.key) l.lo l.hi l.invariant c.loop-lo-test.false
+    bracket-done (keys_in a.stride a.n a.e.now a.width a.m a.x.now) (id_of a.key) l.lo l.hi l.invariant c.loop-lo-test.false

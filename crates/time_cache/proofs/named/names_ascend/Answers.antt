@@ -5,12 +5,12 @@ use Prim.Native.Nat.{ℕ, ◌+◌, ◌-◌, ◌*◌, ◌≤◌, ◌<◌}
 use native.Mathlib.Nat.{zero-mul}
 use lib.ListN.{length, get_or}
 use Rattle.storage.specs.Rows.Part.{part}
-use Rattle.storage.specs.Rows.Digits.{leNat}
+use Rattle.storage.specs.Rows.Digits.{le_nat}
 use Rattle.storage.specs.Rows.Ident.{id_of}
 use Rattle.storage.proofs.RowsLaws.Sorted.{lt_of, not-lt-of, le-of-same, le-of-above}
 use Rattle.storage.proofs.RowsLaws.Ids.{of-less, of-equal, of-greater}
 use Rattle.storage.proofs.RowsLaws.Rows.{row-end}
-use Rattle.time_cache.proofs.NamedLaws.{keysIn, place_read, named_end, named-key, seen_one, seen_more, seen_all, seen_none, not_named, not-up}
+use Rattle.time_cache.proofs.NamedLaws.{keys_in, place_read, named_end, named-key, seen_one, seen_more, seen_all, seen_none, not_named, not-up}
 use native.Mathlib.Omega.{arith}
 use Rattle.time_cache.proofs.named.names_ascend.Goals as goal
 use Rattle.time_cache.proofs.named.names_ascend.Goals.{After-load_id-b, Else-m-q, In-loop-i, Start}
@@ -26,7 +26,7 @@ room : (c : In-loop-i) → c.loop-i.i * c.args.stride + c.args.stride ≤ c.args
 room c = row-end c.args.stride c.args.n c.loop-i.i c.loop-i-test.true
 
 abbrev ks : In-loop-i → List ℕ
-ks c = let a = c.args in keysIn a.stride a.n a.e.now a.width a.m a.x.now
+ks c = let a = c.args in keys_in a.stride a.n a.e.now a.width a.m a.x.now
 
 -- the rows that the two places name lie in the other
 there : (c : Else-m-q) → let a = c.args in
@@ -64,18 +64,18 @@ returns-then-m-p c =
     let a = c.args in
     let z : 0 < a.n = omega (arith, c.if-n-eq0.false) in
     not_named a.stride a.n a.e.now a.width a.m a.x.now 0 c.load2-p.result z
-    (place_read a.stride a.n a.e.now a.width a.m a.x.now 0 z c.requires.0 c.load2-p.result (c.load2-p.ensures.0 ∙ ap (λ (q : ℕ). leNat (part q 2 a.e.now)) (first-at a.stride))) c.if-m-p.true
+    (place_read a.stride a.n a.e.now a.width a.m a.x.now 0 z c.requires.0 c.load2-p.result (c.load2-p.ensures.0 ∙ ap (λ (q : ℕ). le_nat (part q 2 a.e.now)) (first-at a.stride))) c.if-m-p.true
 
 pub loop-i-init : goal.loop-i-init
 loop-i-init c =
     let a = c.args in
     let z : 0 < a.n = omega (arith, c.if-n-eq0.false) in
     let b : c.load2-p.result < a.m = omega (arith, c.if-m-p.false) in
-    let r : c.load2-p.result ≡ leNat (part (0 * a.stride) 2 a.e.now) = c.load2-p.ensures.0 ∙ ap (λ (q : ℕ). leNat (part q 2 a.e.now)) (first-at a.stride) in
+    let r : c.load2-p.result ≡ le_nat (part (0 * a.stride) 2 a.e.now) = c.load2-p.ensures.0 ∙ ap (λ (q : ℕ). le_nat (part q 2 a.e.now)) (first-at a.stride) in
     let k : 0 ≡ 1 - 1 = omega arith in (
       omega arith,
       b,
-      r ∙ ap (λ (q : ℕ). leNat (part (q * a.stride) 2 a.e.now)) k,
+      r ∙ ap (λ (q : ℕ). le_nat (part (q * a.stride) 2 a.e.now)) k,
       seen_one a.stride a.n a.e.now a.width a.m a.x.now c.load2-p.result z
           (place_read a.stride a.n a.e.now a.width a.m a.x.now 0 z c.requires.0 c.load2-p.result r) b,
     )
@@ -124,7 +124,7 @@ loop-i-preserved c =
     let k : l.i ≡ l.i + 1 - 1 = omega arith in (
       omega arith,
       b,
-      c.load2-q.ensures.0 ∙ ap (λ (j : ℕ). leNat (part (j * a.stride) 2 a.e.now)) k,
+      c.load2-q.ensures.0 ∙ ap (λ (j : ℕ). le_nat (part (j * a.stride) 2 a.e.now)) k,
       seen_more a.stride a.n a.e.now a.width a.m a.x.now l.i q l.invariant.0 l.invariant.3
           (place_read a.stride a.n a.e.now a.width a.m a.x.now l.i h c.requires.0 q c.load2-q.ensures.0) b
           (lt_of x y (get_or (ks (goal.at.loop-i-preserved c).In-loop-i) (l.i - 1) 0) (get_or (ks (goal.at.loop-i-preserved c).In-loop-i) l.i 0) (read (goal.at.loop-i-preserved c).After-load_id-b).0 (read (goal.at.loop-i-preserved c).After-load_id-b).1 (of-less x y (sym c.in-Less.is ∙ c.compare-o.ensures))),

@@ -2,12 +2,12 @@
 use mathlib.Core.Path.{◌≡◌}
 use Prim.Native.Nat.{◌-◌, ◌*◌, ◌<◌}
 use Rattle.storage.specs.Rows.Part.{part}
-use Rattle.storage.specs.Rows.Digits.{leNat}
+use Rattle.storage.specs.Rows.Digits.{le_nat}
 use Rattle.time_cache.proofs.NamedLaws.{Seen}
 use Rattle.time_cache.proofs.named.names_ascend.Given as goal
 
 abbrev pub invariant-loop-i : goal.invariant-loop-i
-invariant-loop-i l = (0 < l.i) × (l.p < l.m) × (l.p ≡ leNat (part ((l.i - 1) * l.stride) 2 l.e)) × Seen l.stride l.n l.e l.width l.m l.x l.i
+invariant-loop-i l = (0 < l.i) × (l.p < l.m) × (l.p ≡ le_nat (part ((l.i - 1) * l.stride) 2 l.e)) × Seen l.stride l.n l.e l.width l.m l.x l.i
 
 abbrev pub decreases-loop-i : goal.decreases-loop-i
 decreases-loop-i l = l.n - l.i

@@ -1,8 +1,8 @@
 -- `block_need`: the sum fits, and is the need.
 use native.Mathlib.Omega.{arith}
-use Rattle.protocol.specs.State.{blockNeed}
+use Rattle.protocol.specs.State.{block_need}
 use Rattle.whole.proofs.create.block_need.Goals as goal
 
 pub returns : goal.returns
-unfolding blockNeed
+unfolding block_need
 returns c = omega arith

@@ -6,8 +6,8 @@ use mathlib.Core.Bool.{true}
 use Prim.Native.Nat.{◌≤◌}
 use native.Mathlib.Omega.{arith}
 use lib.ListN.{length}
-use Rattle.protocol.specs.State.{Created, sizeInRange, durationsInRange, limitsInRange, blockNeed}
-use Rattle.block.specs.View.{settingsOf, limitsOf}
+use Rattle.protocol.specs.State.{Created, size_in_range, durations_in_range, limits_in_range, block_need}
+use Rattle.block.specs.View.{settings_of, limits_of}
 use Rattle.block.specs.Header.{Stored}
 use Rattle.block.specs.declared.head.Live.{Live}
 use Rattle.whole.specs.Creation.{Creates}
@@ -18,31 +18,31 @@ use Rattle.whole.proofs.create.create.Goals as goal
 use Rattle.whole.proofs.create.create.Goals.{Else-block-need, Else-not-range}
 
 -- past the third question the first three are answered yes
-size-yes : (c : Else-not-range) → sizeInRange (settingsOf c.args.settings) ≡ true
+size-yes : (c : Else-not-range) → size_in_range (settings_of c.args.settings) ≡ true
 size-yes c = yes c.size_in_range-size.ensures (ap not c.if-not-size.false)
 
-durations-yes : (c : Else-not-range) → durationsInRange (settingsOf c.args.settings) ≡ true
+durations-yes : (c : Else-not-range) → durations_in_range (settings_of c.args.settings) ≡ true
 durations-yes c = yes c.durations_in_range-durations.ensures (ap not c.if-not-durations.false)
 
-limits-yes : (c : Else-not-range) → limitsInRange (limitsOf c.args.limits) ≡ true
+limits-yes : (c : Else-not-range) → limits_in_range (limits_of c.args.limits) ≡ true
 limits-yes c = yes c.limits_in_range-range.ensures (ap not c.if-not-range.false)
 
 -- past the fourth the block is long enough
 long-yes : (c : Else-block-need)
-    → blockNeed (limitsOf c.args.limits)
+    → block_need (limits_of c.args.limits)
     ≤ length c.args.block.now
 long-yes c = omega (arith, c.block_need-need.ensures, c.if-block-need.false)
 
 pub returns-then-not-size : goal.returns-then-not-size
 returns-then-not-size c =
     subst (λ (x : Created). Creates x c.args.block.now c.args.block.now 1)
-    (sym (create-1 (settingsOf c.args.settings) (limitsOf c.args.limits) (length c.args.block.now) (no c.size_in_range-size.ensures (ap not c.if-not-size.true))))
+    (sym (create-1 (settings_of c.args.settings) (limits_of c.args.limits) (length c.args.block.now) (no c.size_in_range-size.ensures (ap not c.if-not-size.true))))
     (record { number = refl; block = refl })
 
 pub returns-then-not-durations : goal.returns-then-not-durations
 returns-then-not-durations c =
     subst (λ (x : Created). Creates x c.args.block.now c.args.block.now 2)
-    (sym (create-2 (settingsOf c.args.settings) (limitsOf c.args.limits) (length c.args.block.now)
+    (sym (create-2 (settings_of c.args.settings) (limits_of c.args.limits) (length c.args.block.now)
     (yes c.size_in_range-size.ensures (ap not c.if-not-size.false))
     (no c.durations_in_range-durations.ensures (ap not c.if-not-durations.true))))
     (record { number = refl; block = refl })
@@ -50,31 +50,31 @@ returns-then-not-durations c =
 pub returns-then-not-range : goal.returns-then-not-range
 returns-then-not-range c =
     subst (λ (x : Created). Creates x c.args.block.now c.args.block.now 3)
-    (sym (create-3 (settingsOf c.args.settings) (limitsOf c.args.limits) (length c.args.block.now)
+    (sym (create-3 (settings_of c.args.settings) (limits_of c.args.limits) (length c.args.block.now)
     (yes c.size_in_range-size.ensures (ap not c.if-not-size.false))
     (yes c.durations_in_range-durations.ensures (ap not c.if-not-durations.false))
     (no c.limits_in_range-range.ensures (ap not c.if-not-range.true))))
     (record { number = refl; block = refl })
 
 pub block_need-need-requires : goal.block_need-need-requires
-block_need-need-requires c = ceilings-of (limitsOf c.args.limits) (limits-yes c)
+block_need-need-requires c = ceilings-of (limits_of c.args.limits) (limits-yes c)
 
 pub returns-then-block-need : goal.returns-then-block-need
 returns-then-block-need c =
     subst (λ (x : Created). Creates x c.args.block.now c.args.block.now 4)
-    (sym (create-4 (settingsOf c.args.settings) (limitsOf c.args.limits) (length c.args.block.now)
+    (sym (create-4 (settings_of c.args.settings) (limits_of c.args.limits) (length c.args.block.now)
     (size-yes (goal.at.returns-then-block-need c).Else-not-range) (durations-yes (goal.at.returns-then-block-need c).Else-not-range) (limits-yes (goal.at.returns-then-block-need c).Else-not-range) (omega (arith, c.block_need-need.ensures, c.if-block-need.true))))
     (record { number = refl; block = refl })
 
 pub store_head-requires : goal.store_head-requires
 store_head-requires c =
-    omega (arith, long-yes (goal.at.store_head-requires c).Else-block-need, need-header (limitsOf c.args.limits))
+    omega (arith, long-yes (goal.at.store_head-requires c).Else-block-need, need-header (limits_of c.args.limits))
 
 pub returns : goal.returns
 returns c =
     let ys = c.store_head.new.block in
     subst (λ (x : Created). Creates x c.args.block.now ys 0)
-    (sym (create-0 (settingsOf c.args.settings) (limitsOf c.args.limits) (length c.args.block.now) (size-yes (goal.at.returns c).Else-not-range) (durations-yes (goal.at.returns c).Else-not-range) (limits-yes (goal.at.returns c).Else-not-range) (long-yes (goal.at.returns c).Else-block-need)))
+    (sym (create-0 (settings_of c.args.settings) (limits_of c.args.limits) (length c.args.block.now) (size-yes (goal.at.returns c).Else-not-range) (durations-yes (goal.at.returns c).Else-not-range) (limits-yes (goal.at.returns c).Else-not-range) (long-yes (goal.at.returns c).Else-block-need)))
     (fresh-accepted c.args.settings c.args.limits c.args.block.now ys
     (subst (λ (v : Live). Stored (record { settings = c.args.settings; limits = c.args.limits; live = v }) c.args.block.now ys) c.fresh-live.ensures
     c.store_head.ensures)

@@ -7,7 +7,7 @@ use mathlib.Core.List.{List, [], ◌∷◌, ◌++◌}
 use Prim.Native.Nat.{◌^◌}
 use lib.Dec.{leb}
 use Rattle.whole.proofs.Tests.{stops, ends, no, yes, from_each}
-use Rattle.protocol.specs.State.{durationsInRange}
+use Rattle.protocol.specs.State.{durations_in_range}
 use Rattle.block.specs.declared.head.Settings.{Settings}
 use Rattle.whole.proofs.create.durations_in_range.Goals as goal
 
@@ -22,37 +22,37 @@ abbrev last : Settings → Bool
 last s = leb s.config.cache_evict_interval.0 (2 ^ 40)
 
 pub returns-then-not-graft_1 : goal.returns-then-not-graft_1
-unfolding durationsInRange
+unfolding durations_in_range
 returns-then-not-graft_1 c =
     let s = c.args.s in
     sym (stops (first s) (between s ++ (last s ∷ [])) 0 (no c.short-graft_1.ensures (ap not c.if-not-graft_1.true)))
 
 pub returns-then-not-graft_2 : goal.returns-then-not-graft_2
-unfolding durationsInRange
+unfolding durations_in_range
 returns-then-not-graft_2 c =
     let s = c.args.s in
     sym (stops (first s) (between s ++ (last s ∷ [])) 1 (no c.short-graft_2.ensures (ap not c.if-not-graft_2.true)))
 
 pub returns-then-not-dispatch : goal.returns-then-not-dispatch
-unfolding durationsInRange
+unfolding durations_in_range
 returns-then-not-dispatch c =
     let s = c.args.s in
     sym (stops (first s) (between s ++ (last s ∷ [])) 2 (no c.short-dispatch.ensures (ap not c.if-not-dispatch.true)))
 
 pub returns-then-not-cache : goal.returns-then-not-cache
-unfolding durationsInRange
+unfolding durations_in_range
 returns-then-not-cache c =
     let s = c.args.s in
     sym (stops (first s) (between s ++ (last s ∷ [])) 3 (no c.short-cache.ensures (ap not c.if-not-cache.true)))
 
 pub returns-then-not-id : goal.returns-then-not-id
-unfolding durationsInRange
+unfolding durations_in_range
 returns-then-not-id c =
     let s = c.args.s in
     sym (stops (first s) (between s ++ (last s ∷ [])) 4 (no c.short-id.ensures (ap not c.if-not-id.true)))
 
 pub returns : goal.returns
-unfolding durationsInRange
+unfolding durations_in_range
 returns c =
     let s = c.args.s in
     c.short.ensures ∙ sym (ends (first s) (between s) (last s) (from_each (first s) (between s) (yes c.short-graft_1.ensures (ap not c.if-not-graft_1.false), (yes c.short-graft_2.ensures (ap not c.if-not-graft_2.false), (yes c.short-dispatch.ensures (ap not c.if-not-dispatch.false), (yes c.short-cache.ensures (ap not c.if-not-cache.false), (yes c.short-id.ensures (ap not c.if-not-id.false), tt)))))))

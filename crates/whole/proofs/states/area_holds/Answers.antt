@@ -7,7 +7,7 @@ use Prim.Native.Nat.{ℕ, ◌+◌, ◌*◌, ◌-◌}
 use native.Mathlib.Omega.{arith}
 use borrow.Author.Tests.{not-true, not-false}
 use lib.ListN.{length, get_or}
-use Rattle.whole.specs.States.Area.{kept, areaHolds}
+use Rattle.whole.specs.States.Area.{kept, area_holds}
 use Rattle.whole.specs.States.Calls.{Zeros, SlotsHold}
 use Rattle.whole.proofs.StatesLaws.Leaves.{told-yes, told-no, told_same}
 use Rattle.whole.proofs.StatesLaws.Slots.{slot-start}
@@ -54,7 +54,7 @@ returns c =
     let n : ℕ = c.args.n in
     let area : List ℕ = c.args.area.now in
     let k : ℕ = get_or area 255 0 in
-    told_same (Zeros (256 + n * k) (length area) area) (areaHolds n area) c.zeros.result c.zeros.ensures
+    told_same (Zeros (256 + n * k) (length area) area) (area_holds n area) c.zeros.result c.zeros.ensures
     (λ z. of-holds n area (λ i. omega (arith, c.shared_slice_known-1.given i)) (record {
       long = omega arith;
       few = omega arith;

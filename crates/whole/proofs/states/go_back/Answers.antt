@@ -10,9 +10,9 @@ use lib.ListN.{length, take, drop}
 use Rattle.storage.specs.Rows.Part.{part, put}
 use Rattle.storage.proofs.RowsLaws.Parts.{length_part, put_all}
 use Rattle.protocol.specs.State.{Counts}
-use Rattle.whole.specs.Held.{wholeBlock}
-use Rattle.whole.specs.States.Area.{kept, areaHolds}
-use Rattle.whole.specs.States.Calls.{Placed, Returns, countsOf}
+use Rattle.whole.specs.Held.{whole_block}
+use Rattle.whole.specs.States.Area.{kept, area_holds}
+use Rattle.whole.specs.States.Calls.{Placed, Returns, counts_of}
 use Rattle.whole.proofs.StatesLaws.Slots.{slot-end}
 use Rattle.whole.proofs.StatesLaws.HoldsLaws.{holds_of}
 use Rattle.whole.proofs.StatesLaws.CallLaws.{less, returns-5, returns-17, returns-15, returns-0}
@@ -30,10 +30,10 @@ module _ (d : Else-not-holds) where
   abbrev name : ℕ
   name = d.args.name
 
-  whole : wholeBlock block ≡ true
+  whole : whole_block block ≡ true
   whole = sym d.is_whole-whole.ensures ∙ not-false _ (ap not d.if-not-whole.false)
 
-  holds : areaHolds (length block) area ≡ true
+  holds : area_holds (length block) area ≡ true
   holds = sym d.area_holds-holds.ensures ∙ not-false _ (ap not d.if-not-holds.false)
 
   fits : 256 + length block * 4 ≤ length area
@@ -114,7 +114,7 @@ returns c =
     let copy : c.copy_bytes.new.out ≡ part from n (area h) =
     c.copy_bytes.ensures ∙ ap (λ (m : ℕ). put 0 (take m (drop from (area h))) (block h)) size
     ∙ put_all (part from n (area h)) (block h) (length_part from n (area h) (omega (arith, ends (goal.at.returns c).Else-i-kept, fits h))) in
-    λ old. subst (λ (t : List ℕ). Returns (block h) old (area h) (name h) t (countsOf c.row_counts-c.result) 0 0) (sym copy)
+    λ old. subst (λ (t : List ℕ). Returns (block h) old (area h) (name h) t (counts_of c.row_counts-c.result) 0 0) (sym copy)
     (subst (λ (k : Counts). Returns (block h) old (area h) (name h) (part from n (area h)) k 0 0) (sym c.row_counts-c.ensures)
     (returns-0 (block h) old (area h) (name h) (whole h) (holds h) (slot (goal.at.returns c).Else-i-kept) c.place_of-i.ensures (there (goal.at.returns c).Else-i-kept)))
 

@@ -3,7 +3,7 @@ use mathlib.Core.Path.{ap, ◌∙◌}
 use Prim.Native.Nat.{◌+◌}
 use Rattle.storage.specs.Rows.Part.{put}
 use Rattle.storage.specs.Rows.Digits.{le_bytes}
-use Rattle.storage.proofs.RowsLaws.Digits.{length-leBytes}
+use Rattle.storage.proofs.RowsLaws.Digits.{length-le_bytes}
 use Rattle.whole.proofs.StatesLaws.Leaves.{four-puts}
 use Rattle.whole.proofs.states.put_row.Goals as goal
 
@@ -14,4 +14,4 @@ returns c =
     ∙ ap (put (c.args.at + 16) (le_bytes 8 c.args.c.control)) (c.store-2.ensures
     ∙ ap (put (c.args.at + 8) (le_bytes 8 c.args.c.payload)) c.store.ensures))
     ∙ four-puts c.args.area.now c.args.at (le_bytes 8 c.args.name) (le_bytes 8 c.args.c.payload) (le_bytes 8 c.args.c.control) (le_bytes 2 c.args.c.hops)
-    (length-leBytes 8 c.args.name) (length-leBytes 8 c.args.c.payload) (length-leBytes 8 c.args.c.control) (length-leBytes 2 c.args.c.hops) c.requires
+    (length-le_bytes 8 c.args.name) (length-le_bytes 8 c.args.c.payload) (length-le_bytes 8 c.args.c.control) (length-le_bytes 2 c.args.c.hops) c.requires

@@ -11,10 +11,10 @@ use Rattle.storage.specs.Lists.Map.{Entry, entry}
 use Rattle.storage.specs.Rows.Part.{put}
 use Rattle.storage.proofs.RowsLaws.Parts.{length-put, set-put}
 use Rattle.protocol.specs.State.{Counts}
-use Rattle.whole.specs.Held.{wholeBlock}
+use Rattle.whole.specs.Held.{whole_block}
 use Rattle.whole.specs.States.Kept.{Kept}
-use Rattle.whole.specs.States.Area.{kept, rowBytes, areaHolds}
-use Rattle.whole.specs.States.Calls.{Placed, Saves, countsOf}
+use Rattle.whole.specs.States.Area.{kept, row_bytes, area_holds}
+use Rattle.whole.specs.States.Calls.{Placed, Saves, counts_of}
 use Rattle.whole.proofs.StatesLaws.Slots.{slot-end}
 use Rattle.whole.proofs.StatesLaws.AreaLaws.{length-row}
 use Rattle.whole.proofs.StatesLaws.HoldsLaws.{holds_of}
@@ -34,15 +34,15 @@ module _ (d : Else-not-holds) where
   name = d.args.name
 
   abbrev counts : Counts
-  counts = countsOf d.args.c
+  counts = counts_of d.args.c
 
   abbrev x : Entry Kept
   x = entry name (record { counts = counts; block = block })
 
-  whole : wholeBlock block ≡ true
+  whole : whole_block block ≡ true
   whole = sym d.is_whole-whole.ensures ∙ not-false _ (ap not d.if-not-whole.false)
 
-  holds : areaHolds (length block) area ≡ true
+  holds : area_holds (length block) area ≡ true
   holds = sym d.area_holds-holds.ensures ∙ not-false _ (ap not d.if-not-holds.false)
 
   fits : 256 + length block * 4 ≤ length area
@@ -72,8 +72,8 @@ module _ (d : After-put_row) where
   at = (goal.at.After-put_row d).Else-slot-eq-STATES
 
   long-row : length d.put_row.new.area ≡ length (area (held at))
-  unfolding rowBytes
-  long-row = ap length d.put_row.ensures ∙ length-put (26 * slot at) (rowBytes (x (held at))) (area (held at)) (omega (arith, length-row (x (held at)), room at, fits (held at)))
+  unfolding row_bytes
+  long-row = ap length d.put_row.ensures ∙ length-put (26 * slot at) (row_bytes (x (held at))) (area (held at)) (omega (arith, length-row (x (held at)), room at, fits (held at)))
 
 module _ (d : After-copy_bytes) where
   abbrev rowed : After-put_row
@@ -91,12 +91,12 @@ module _ (d : After-copy_bytes) where
 pub returns-then-not-whole : goal.returns-then-not-whole
 returns-then-not-whole c =
     let s = c.args in
-    saves-5 s.block.now (countsOf s.c) s.area.now s.name (sym c.is_whole-whole.ensures ∙ not-true _ (ap not c.if-not-whole.true))
+    saves-5 s.block.now (counts_of s.c) s.area.now s.name (sym c.is_whole-whole.ensures ∙ not-true _ (ap not c.if-not-whole.true))
 
 pub returns-then-not-holds : goal.returns-then-not-holds
 returns-then-not-holds c =
     let s = c.args in
-    saves-17 s.block.now (countsOf s.c) s.area.now s.name (sym c.is_whole-whole.ensures ∙ not-false _ (ap not c.if-not-whole.false))
+    saves-17 s.block.now (counts_of s.c) s.area.now s.name (sym c.is_whole-whole.ensures ∙ not-false _ (ap not c.if-not-whole.false))
     (sym c.area_holds-holds.ensures ∙ not-true _ (ap not c.if-not-holds.true))
 
 pub bounds-area-255 : goal.bounds-area-255
@@ -140,12 +140,12 @@ pub shape_of-area : goal.shape_of-area
 shape_of-area c = length-set c.copy_bytes.new.out 255 c.kept_after.result ∙ long-block (goal.at.shape_of-area c).After-copy_bytes
 
 pub returns : goal.returns
-unfolding kept rowBytes
+unfolding kept row_bytes
 returns c =
     let h = held (goal.at.returns c).Else-slot-eq-STATES in
     let n : ℕ = length (block h) in
     let v : ℕ = c.kept_after.result in
-    let after : set c.copy_bytes.new.out 255 v ≡ put 255 (v ∷ []) (put (256 + n * slot (goal.at.returns c).Else-slot-eq-STATES) (block h) (put (26 * slot (goal.at.returns c).Else-slot-eq-STATES) (rowBytes (x h)) (area h))) =
+    let after : set c.copy_bytes.new.out 255 v ≡ put 255 (v ∷ []) (put (256 + n * slot (goal.at.returns c).Else-slot-eq-STATES) (block h) (put (26 * slot (goal.at.returns c).Else-slot-eq-STATES) (row_bytes (x h)) (area h))) =
     set-put 255 v c.copy_bytes.new.out (omega (arith, long-block (goal.at.returns c).After-copy_bytes, fits h))
     ∙ ap (put 255 (v ∷ [])) (c.copy_bytes.ensures ∙ ap (put (256 + n * slot (goal.at.returns c).Else-slot-eq-STATES) (block h)) (rowed (goal.at.returns c).After-copy_bytes).put_row.ensures) in
     subst (λ (t : List ℕ). Saves (block h) (counts h) (area h) (name h) t 0 0) (sym after)

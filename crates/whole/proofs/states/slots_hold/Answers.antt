@@ -8,7 +8,7 @@ use borrow.Author.Tests.{not-true, not-false}
 use lib.ListN.{take, drop}
 use Rattle.storage.proofs.ListsLaws.MapLaws.{true≢}
 use Rattle.storage.specs.Rows.Part.{part}
-use Rattle.whole.specs.Held.{wholeBlock}
+use Rattle.whole.specs.Held.{whole_block}
 use Rattle.whole.specs.States.Area.{name_at}
 use Rattle.whole.specs.States.Calls.{SlotsHold}
 use Rattle.whole.proofs.StatesLaws.Leaves.{slots-more}
@@ -17,12 +17,12 @@ use Rattle.whole.proofs.states.slots_hold.Goals as goal
 use Rattle.whole.proofs.states.slots_hold.Goals.{After-is_whole-whole}
 
 -- the slot that was asked is the part
-read : (c : After-is_whole-whole) → c.is_whole-whole.result ≡ wholeBlock (part (256 + c.args.n * c.loop-i.i) c.args.n c.args.area.now)
+read : (c : After-is_whole-whole) → c.is_whole-whole.result ≡ whole_block (part (256 + c.args.n * c.loop-i.i) c.args.n c.args.area.now)
 unfolding part
 read c =
     let from : ℕ = 256 + c.args.n * c.loop-i.i in
     let e : from + c.args.n - from ≡ c.args.n = omega arith in
-    c.is_whole-whole.ensures ∙ ap (λ (m : ℕ). wholeBlock (take m (drop from c.args.area.now))) e
+    c.is_whole-whole.ensures ∙ ap (λ (m : ℕ). whole_block (take m (drop from c.args.area.now))) e
 
 pub loop-i-init : goal.loop-i-init
 loop-i-init c = (search rules, record { names = λ p q l h e. omega arith; wholes = λ i h. absurd (omega arith) })

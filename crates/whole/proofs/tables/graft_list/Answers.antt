@@ -8,20 +8,20 @@ use borrow.Author.Tests.{le-leb, lt-leb}
 use lib.Dec.{leb}
 use lib.ListN.{take, drop, get_or}
 use Rattle.storage.specs.Lists.Base.{ascending}
-use Rattle.whole.specs.Held.{all_below, numbersName}
-use Rattle.whole.specs.Parts.{graftList}
+use Rattle.whole.specs.Held.{all_below, numbers_name}
+use Rattle.whole.specs.Parts.{graft_list}
 use Rattle.whole.proofs.Tests.{stops}
 use Rattle.whole.proofs.tables.graft_list.Goals as goal
 
 pub returns-then-n-gt32 : goal.returns-then-n-gt32
-unfolding graftList numbersName
+unfolding graft_list numbers_name
 returns-then-n-gt32 c =
     let list = c.args.list.now in
     let ns = take (get_or list 0 0) (drop 1 list) in
     sym (stops (leb (get_or list 0 0) 32) (all_below c.args.m ns ∷ ascending ns ∷ []) 0 (lt-leb (get_or list 0 0) 32 (omega (arith, c.if-n-gt32.true, c.wide-n.ensures))))
 
 pub returns : goal.returns
-unfolding graftList numbersName
+unfolding graft_list numbers_name
 returns c =
     let list = c.args.list.now in
     let m = c.args.m in

@@ -5,11 +5,11 @@ use Prim.Native.Nat.{◌-◌}
 use lib.ListN.{take, drop}
 use Rattle.storage.specs.Lists.Base.{all}
 use Rattle.storage.specs.Rows.Rows.{rows}
-use Rattle.whole.specs.Parts.{graftList}
+use Rattle.whole.specs.Parts.{graft_list}
 use Rattle.whole.proofs.tables.graft_lists.Given as goal
 
 abbrev pub invariant-loop-i : goal.invariant-loop-i
-invariant-loop-i l = all (λ row. graftList l.m (drop 22 row)) (take l.i (rows 119 l.n l.b)) ≡ true
+invariant-loop-i l = all (λ row. graft_list l.m (drop 22 row)) (take l.i (rows 119 l.n l.b)) ≡ true
 
 abbrev pub decreases-loop-i : goal.decreases-loop-i
 decreases-loop-i l = l.n - l.i

@@ -8,7 +8,7 @@ use Rattle.storage.proofs.RowsLaws.Sorted.{ascend-start, ascend-more, ascend-don
 use Rattle.time_cache.proofs.Orders.{tells-ascending}
 use Rattle.block.specs.View.{state_of}
 use Rattle.block.proofs.LinkLaws.{count-peers}
-use Rattle.whole.specs.Parts.{linksWhole}
+use Rattle.whole.specs.Parts.{links_whole}
 use Rattle.whole.proofs.tables.links_whole.Goals as goal
 
 pub loop-i-init : goal.loop-i-init
@@ -27,7 +27,7 @@ loop-i-preserved c =
     (omega arith, ascend-more ks l.i l.invariant.0 l.invariant.1 (omega (arith, c.if-p-q.true, c.peer_at-q.ensures, c.peer_at-p.ensures)))
 
 pub returns-else-p-q : goal.returns-else-p-q
-unfolding linksWhole
+unfolding links_whole
 returns-else-p-q c =
     let l = c.loop-i in
     let ks = keys (state_of c.args.h c.args.block.now).links in
@@ -36,7 +36,7 @@ returns-else-p-q c =
     (omega (arith, c.if-p-q.false, c.peer_at-q.ensures, c.peer_at-p.ensures)))
 
 pub returns : goal.returns
-unfolding linksWhole
+unfolding links_whole
 returns c =
     let ks = keys (state_of c.args.h c.args.block.now).links in
     tells-ascending ks true (ascend-done ks c.loop-i.i c.args.h.live.links (count-peers c.args.h c.args.block.now) c.loop-i-test.false c.loop-i.invariant.1)

@@ -8,21 +8,21 @@ use borrow.Author.Tests.{le-leb, lt-leb, lt-ltb, le-ltb}
 use lib.Dec.{leb, ltb}
 use lib.ListN.{take, drop, get_or}
 use Rattle.storage.specs.Lists.Base.{once}
-use Rattle.whole.specs.Held.{all_below, numbersName}
-use Rattle.whole.specs.Parts.{missedList}
+use Rattle.whole.specs.Held.{all_below, numbers_name}
+use Rattle.whole.specs.Parts.{missed_list}
 use Rattle.whole.proofs.Tests.{stops}
 use Rattle.whole.proofs.NumberLaws.{tells-numbers}
 use Rattle.whole.proofs.tables.missed_list.Goals as goal
 
 pub returns-then-n-gt32 : goal.returns-then-n-gt32
-unfolding missedList numbersName
+unfolding missed_list numbers_name
 returns-then-n-gt32 c =
     let list = c.args.list.now in
     let ns = take (get_or list 0 0) (drop 1 list) in
     sym (stops (leb (get_or list 0 0) 32) (all_below c.args.m ns ∷ (ltb 0 (get_or list 0 0) && once ns) ∷ []) 0 (lt-leb (get_or list 0 0) 32 (omega (arith, c.if-n-gt32.true, c.wide-n.ensures))))
 
 pub returns-then-n-lt1 : goal.returns-then-n-lt1
-unfolding missedList numbersName
+unfolding missed_list numbers_name
 returns-then-n-lt1 c =
     let list = c.args.list.now in
     let ns = take (get_or list 0 0) (drop 1 list) in
@@ -33,7 +33,7 @@ pub numbers-requires : goal.numbers-requires
 numbers-requires c = c.requires.1
 
 pub returns : goal.returns
-unfolding missedList numbersName
+unfolding missed_list numbers_name
 returns c =
     let list = c.args.list.now in
     let m = c.args.m in

@@ -6,8 +6,8 @@ use native.Mathlib.Omega.{arith}
 use lib.ListN.{length, drop, get_or}
 use Rattle.storage.specs.Rows.Rows.{rows}
 use Rattle.storage.proofs.RowsLaws.Rows.{length-rows, row-end}
-use Rattle.whole.specs.Held.{allLists}
-use Rattle.whole.specs.Parts.{missedList}
+use Rattle.whole.specs.Held.{all_lists}
+use Rattle.whole.specs.Parts.{missed_list}
 use Rattle.whole.proofs.AllLaws.{all_none, all_keep, all-not, all_done, list_at}
 use Rattle.whole.proofs.tables.missed_lists.Goals as goal
 use Rattle.whole.proofs.tables.missed_lists.Goals.{After-missed_list-ok, In-loop-i}
@@ -18,12 +18,12 @@ room c = omega (arith, row-end 129 c.args.n c.loop-i.i c.loop-i-test.true, c.req
 
 -- what the test told of row i
 told : (c : After-missed_list-ok)
-    → c.missed_list-ok.result ≡ missedList c.args.m (drop 32 (get_or (rows 129 c.args.n c.args.b.now) c.loop-i.i []))
+    → c.missed_list-ok.result ≡ missed_list c.args.m (drop 32 (get_or (rows 129 c.args.n c.args.b.now) c.loop-i.i []))
 told c =
-    c.missed_list-ok.ensures ∙ ap (missedList c.args.m) (list_at 129 c.args.n c.loop-i.i 32 97 c.args.b.now refl c.loop-i-test.true c.requires.0)
+    c.missed_list-ok.ensures ∙ ap (missed_list c.args.m) (list_at 129 c.args.n c.loop-i.i 32 97 c.args.b.now refl c.loop-i-test.true c.requires.0)
 
 pub loop-i-init : goal.loop-i-init
-loop-i-init c = all_none (λ row. missedList c.args.m (drop 32 row)) (rows 129 c.args.n c.args.b.now)
+loop-i-init c = all_none (λ row. missed_list c.args.m (drop 32 row)) (rows 129 c.args.n c.args.b.now)
 
 pub overflow_mul-a : goal.overflow_mul-a
 overflow_mul-a c = omega (arith, room c)
@@ -38,20 +38,20 @@ pub loop-i-preserved : goal.loop-i-preserved
 loop-i-preserved c =
     let l = c.loop-i in
     let rs = rows 129 c.args.n c.args.b.now in
-    all_keep (λ row. missedList c.args.m (drop 32 row)) rs l.i [] (omega (arith, c.loop-i-test.true, length-rows 129 c.args.n c.args.b.now))
+    all_keep (λ row. missed_list c.args.m (drop 32 row)) rs l.i [] (omega (arith, c.loop-i-test.true, length-rows 129 c.args.n c.args.b.now))
     (sym (told (goal.at.loop-i-preserved c).After-missed_list-ok) ∙ c.if-ok.true)
     ∙ l.invariant
 
 pub returns-else-ok : goal.returns-else-ok
-unfolding allLists
+unfolding all_lists
 returns-else-ok c =
     let l = c.loop-i in
     let rs = rows 129 c.args.n c.args.b.now in
-    all-not (λ row. missedList c.args.m (drop 32 row)) rs l.i [] (omega (arith, c.loop-i-test.true, length-rows 129 c.args.n c.args.b.now))
+    all-not (λ row. missed_list c.args.m (drop 32 row)) rs l.i [] (omega (arith, c.loop-i-test.true, length-rows 129 c.args.n c.args.b.now))
     (sym (told (goal.at.returns-else-ok c).After-missed_list-ok) ∙ c.if-ok.false)
 
 pub returns : goal.returns
-unfolding allLists
+unfolding all_lists
 returns c =
     let rs = rows 129 c.args.n c.args.b.now in
-    sym (sym (all_done (λ row. missedList c.args.m (drop 32 row)) rs c.loop-i.i (omega (arith, c.loop-i-test.false, length-rows 129 c.args.n c.args.b.now))) ∙ c.loop-i.invariant)
+    sym (sym (all_done (λ row. missed_list c.args.m (drop 32 row)) rs c.loop-i.i (omega (arith, c.loop-i-test.false, length-rows 129 c.args.n c.args.b.now))) ∙ c.loop-i.invariant)

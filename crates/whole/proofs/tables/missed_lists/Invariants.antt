@@ -5,11 +5,11 @@ use Prim.Native.Nat.{◌-◌}
 use lib.ListN.{take, drop}
 use Rattle.storage.specs.Lists.Base.{all}
 use Rattle.storage.specs.Rows.Rows.{rows}
-use Rattle.whole.specs.Parts.{missedList}
+use Rattle.whole.specs.Parts.{missed_list}
 use Rattle.whole.proofs.tables.missed_lists.Given as goal
 
 abbrev pub invariant-loop-i : goal.invariant-loop-i
-invariant-loop-i l = all (λ row. missedList l.m (drop 32 row)) (take l.i (rows 129 l.n l.b)) ≡ true
+invariant-loop-i l = all (λ row. missed_list l.m (drop 32 row)) (take l.i (rows 129 l.n l.b)) ≡ true
 
 abbrev pub decreases-loop-i : goal.decreases-loop-i
 decreases-loop-i l = l.n - l.i

@@ -3,16 +3,16 @@ use mathlib.Core.Path.{ap, ◌∙◌}
 use Prim.Native.Nat.{◌-◌, ◌<◌}
 use native.Mathlib.Omega.{arith}
 use lib.Dec.{lit<}
-use Rattle.block.specs.View.{limitsOf}
+use Rattle.block.specs.View.{limits_of}
 use Rattle.whole.specs.Held.{all_below}
-use Rattle.whole.specs.Parts.{queueWhole}
+use Rattle.whole.specs.Parts.{queue_whole}
 use Rattle.whole.proofs.LentLaws.{bytes-lent}
 use Rattle.whole.proofs.tables.queue_whole.Goals as goal
 
 pub returns : goal.returns
-unfolding queueWhole
+unfolding queue_whole
 returns c =
     let h = c.args.h in
     let at = c.queue_at-a in
     c.numbers_below.ensures
-    ∙ ap (all_below h.live.links) (bytes-lent (limitsOf h.limits) c.args.block.now 11 h.live.queued at.result (lit< tt) (omega (arith, c.requires.within.queued)) at.ensures)
+    ∙ ap (all_below h.live.links) (bytes-lent (limits_of h.limits) c.args.block.now 11 h.live.queued at.result (lit< tt) (omega (arith, c.requires.within.queued)) at.ensures)

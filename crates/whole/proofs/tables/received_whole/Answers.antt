@@ -6,20 +6,20 @@ use native.Mathlib.Omega.{arith}
 use lib.Dec.{lit<}
 use Rattle.time_cache.specs.Tables.{Lies, sound}
 use Rattle.time_cache.specs.declared.cache.TimeBoundCache.{TimeBoundCache}
-use Rattle.block.specs.View.{limitsOf, state_of, receivedIn, nothingOf}
+use Rattle.block.specs.View.{limits_of, state_of, received_in, nothing_of}
 use Rattle.block.specs.Fit.{Fit}
 use Rattle.block.specs.declared.head.Head.{Head}
-use Rattle.block.specs.TimeCaches.{receivedCache}
-use Rattle.whole.specs.Parts.{receivedWhole}
+use Rattle.block.specs.TimeCaches.{received_cache}
+use Rattle.whole.specs.Parts.{received_whole}
 use Rattle.whole.proofs.LentLaws.{cache-sound}
 use Rattle.whole.proofs.tables.received_whole.Goals as goal
 
-lies : (h : Head) (xs : List ℕ) → Fit h xs → Lies (receivedCache h) xs
-lies h xs fit = record { entryWide = omega arith; expiryWide = omega arith; apart = omega arith; within = omega arith; few = omega arith }
+lies : (h : Head) (xs : List ℕ) → Fit h xs → Lies (received_cache h) xs
+lies h xs fit = record { entry_wide = omega arith; expiry_wide = omega arith; apart = omega arith; within = omega arith; few = omega arith }
 
-told : (h : Head) (xs : List ℕ) → Fit h xs → sound (receivedCache h) xs ≡ receivedWhole h xs
-unfolding receivedWhole state_of receivedIn
-told h xs fit = cache-sound (limitsOf h.limits) xs nothingOf 2 2 h.live.received 3 40 h.live.received_rows (lit< tt) (omega arith) (lit< tt) (omega arith)
+told : (h : Head) (xs : List ℕ) → Fit h xs → sound (received_cache h) xs ≡ received_whole h xs
+unfolding received_whole state_of received_in
+told h xs fit = cache-sound (limits_of h.limits) xs nothing_of 2 2 h.live.received 3 40 h.live.received_rows (lit< tt) (omega arith) (lit< tt) (omega arith)
 
 pub received_cache-c-requires : goal.received_cache-c-requires
 received_cache-c-requires c = c.requires.ceilings

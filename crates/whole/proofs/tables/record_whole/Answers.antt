@@ -12,13 +12,13 @@ use Rattle.storage.proofs.RowsLaws.Parts.{length_part, part-between}
 use Rattle.storage.specs.Refs.Refs.{Below}
 use Rattle.storage.specs.Notes.Chains.{TellsOnce}
 use Rattle.time_cache.proofs.Orders.{below_of}
-use Rattle.protocol.specs.Whole.{notedOnce, recordWithin}
+use Rattle.protocol.specs.Whole.{noted_once, record_within}
 use Rattle.block.specs.Layout.{place}
-use Rattle.block.specs.View.{limitsOf, state_of}
+use Rattle.block.specs.View.{limits_of, state_of}
 use Rattle.block.specs.Fit.{Fit}
 use Rattle.block.specs.declared.head.Head.{Head}
 use Rattle.whole.specs.Held.{all_below}
-use Rattle.whole.specs.Parts.{table_of, few, recordWhole}
+use Rattle.whole.specs.Parts.{table_of, few, record_whole}
 use Rattle.whole.proofs.Tests.{stops, ends, from_each, no, yes}
 use Rattle.whole.proofs.LentLaws.{bytes-lent, rows-lent, length-open}
 use Rattle.whole.proofs.RecordLaws.{record-few, record-once, record-none}
@@ -33,18 +33,18 @@ abbrev named : Head → List ℕ → Bool
 named h xs = all_below h.live.links (numbers h xs)
 
 abbrev within : Head → List ℕ → Bool
-within h xs = recordWithin (state_of h xs).dropped
+within h xs = record_within (state_of h xs).dropped
 
 abbrev noted : Head → List ℕ → Bool
-noted h xs = notedOnce (state_of h xs).dropped
+noted h xs = noted_once (state_of h xs).dropped
 
 -- the numbers and the rows as they are lent
-numbers-lent : (h : Head) (xs : List ℕ) (a : ℕ) → Fit h xs → a ≡ place (limitsOf h.limits) 13 → take (a + h.live.dropped - a) (drop a xs) ≡ numbers h xs
-numbers-lent h xs a fit e = bytes-lent (limitsOf h.limits) xs 13 h.live.dropped a (lit< tt) (omega (arith, fit.within.dropped)) e
+numbers-lent : (h : Head) (xs : List ℕ) (a : ℕ) → Fit h xs → a ≡ place (limits_of h.limits) 13 → take (a + h.live.dropped - a) (drop a xs) ≡ numbers h xs
+numbers-lent h xs a fit e = bytes-lent (limits_of h.limits) xs 13 h.live.dropped a (lit< tt) (omega (arith, fit.within.dropped)) e
 
-notes-lent : (h : Head) (xs : List ℕ) (b : ℕ) → Fit h xs → b ≡ place (limitsOf h.limits) 14
+notes-lent : (h : Head) (xs : List ℕ) (b : ℕ) → Fit h xs → b ≡ place (limits_of h.limits) 14
     → rows 34 h.live.dropped (take (length xs - b) (drop b xs)) ≡ rows 34 h.live.dropped (table_of h 14 xs)
-notes-lent h xs b fit e = rows-lent (limitsOf h.limits) xs 14 34 h.live.dropped b (lit< tt) (omega (arith, fit.within.dropped)) e
+notes-lent h xs b fit e = rows-lent (limits_of h.limits) xs 14 34 h.live.dropped b (lit< tt) (omega (arith, fit.within.dropped)) e
 
 named-is : (c : After-numbers_below-below) → c.numbers_below-below.result ≡ named c.args.h c.args.block.now
 named-is c =
@@ -66,7 +66,7 @@ pub returns-then-n-eq0 : goal.returns-then-n-eq0
 returns-then-n-eq0 c = record-none c.args.h c.args.block.now c.if-n-eq0.true
 
 pub returns-then-not-below : goal.returns-then-not-below
-unfolding recordWhole
+unfolding record_whole
 returns-then-not-below c =
     let h = c.args.h in
     let xs = c.args.block.now in
@@ -82,7 +82,7 @@ few_each-few-requires c =
     (record { below = λ i q. omega (arith, b.below i q, c.requires.0.within.links, c.requires.0.ceilings.N) })
 
 pub returns-then-not-few : goal.returns-then-not-few
-unfolding recordWhole
+unfolding record_whole
 returns-then-not-few c =
     let h = c.args.h in
     let xs = c.args.block.now in
@@ -103,7 +103,7 @@ once-requires c =
     )
 
 pub returns : goal.returns
-unfolding recordWhole
+unfolding record_whole
 returns c =
     let h = c.args.h in
     let xs = c.args.block.now in

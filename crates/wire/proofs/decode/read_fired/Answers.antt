@@ -1,14 +1,14 @@
 -- `read_fired`: a timer.
-use Rattle.postcard.specs.Decode.{eventOf}
+use Rattle.postcard.specs.Decode.{event_of}
 use Rattle.wire.proofs.DecodeLaws.PlaceLaws.{reads-got, reads_then, reads-refused}
 use Rattle.wire.proofs.decode.read_fired.Goals as goal
 
 pub returns-in-Got : goal.returns-in-Got
-unfolding eventOf
+unfolding event_of
 returns-in-Got c =
     let g = rw c.in-Got.is at c.read_timer-found.ensures in
     record { reads = reads_then _ g (reads-got g.inside); held = tt }
 
 pub returns-in-Fault : goal.returns-in-Fault
-unfolding eventOf
+unfolding event_of
 returns-in-Fault c = record { reads = reads-refused _ (rw c.in-Fault.is at c.read_timer-found.ensures); held = tt }

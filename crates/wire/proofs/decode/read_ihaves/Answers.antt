@@ -1,7 +1,7 @@
 -- `read_ihaves`: an announcement passed over leaves the ending of the list as it is.
 use mathlib.Core.Path.{◌≡◌, refl, sym, ap, ◌∙◌}
 use lib.ListN.{drop}
-use Rattle.postcard.specs.Decode.{readIhaves}
+use Rattle.postcard.specs.Decode.{read_ihaves}
 use Rattle.postcard.proofs.AnnouncementLaws.{ending, ending-next, ending_fault, passed-all, passed-fault}
 use native.Mathlib.Omega.{arith}
 use Rattle.wire.proofs.decode.read_ihaves.Goals as goal
@@ -25,4 +25,4 @@ pub returns : goal.returns
 returns c =
     let l = c.loop-left in
     let z : l.left ≡ 0 = omega arith in
-    passed-all c.args.bytes.now c.args.at c.args.count l.place l.invariant.0 (ap (λ n. ending (readIhaves n (drop l.place c.args.bytes.now))) (sym z) ∙ l.invariant.1)
+    passed-all c.args.bytes.now c.args.at c.args.count l.place l.invariant.0 (ap (λ n. ending (read_ihaves n (drop l.place c.args.bytes.now))) (sym z) ∙ l.invariant.1)

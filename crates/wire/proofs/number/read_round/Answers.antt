@@ -2,7 +2,7 @@
 use mathlib.Core.Path.{sym}
 use native.Mathlib.Omega.{arith}
 use lib.ListN.{drop}
-use Rattle.postcard.specs.Number.{readRound}
+use Rattle.postcard.specs.Number.{read_round}
 use Rattle.postcard.proofs.FieldBack.{bytes-each, bytes_drop, padded-bound}
 use Rattle.wire.proofs.number.read_round.Goals as goal
 
@@ -17,9 +17,9 @@ overflow_cast-result c =
     )
 
 pub returns-in-Got : goal.returns-in-Got
-unfolding readRound
+unfolding read_round
 returns-in-Got c = rw c.in-Got.is at c.read_groups-number.ensures
 
 pub returns-in-Fault : goal.returns-in-Fault
-unfolding readRound
+unfolding read_round
 returns-in-Fault c = rw c.in-Fault.is at c.read_groups-number.ensures

@@ -4,28 +4,28 @@ use Prim.Native.Nat.{ℕ, ◌+◌, ◌-◌}
 use native.Mathlib.Omega.{arith}
 use borrow.Author.Tests.{lt-leb}
 use lib.Dec.{leb}
-use Rattle.postcard.specs.Sizes.{gossipSize}
-use Rattle.postcard.specs.Values.{scopeValue}
+use Rattle.postcard.specs.Sizes.{gossip_size}
+use Rattle.postcard.specs.Values.{scope_value}
 use Rattle.postcard.proofs.Lengths.{number-few, empty-size, size-from-empty, fits_after}
 use Rattle.wire.proofs.serialized_size.broadcast_fits.Goals as goal
 use Rattle.wire.proofs.serialized_size.broadcast_fits.Goals.{After-number_size}
 
 -- the size is the prefix and the content
-sized : (d : After-number_size) → gossipSize d.args.len (scopeValue d.args.scope)
+sized : (d : After-number_size) → gossip_size d.args.len (scope_value d.args.scope)
     ≡ d.empty_gossip_size.result - 1 + d.number_size.result + d.args.len
 sized d =
-    omega (arith, d.empty_gossip_size.ensures, d.number_size.ensures, size-from-empty d.args.len (scopeValue d.args.scope))
+    omega (arith, d.empty_gossip_size.ensures, d.number_size.ensures, size-from-empty d.args.len (scope_value d.args.scope))
 
 pub overflow_sub-prefix : goal.overflow_sub-prefix
-overflow_sub-prefix c = omega (arith, (empty-size (scopeValue c.args.scope)).0, c.empty_gossip_size.ensures)
+overflow_sub-prefix c = omega (arith, (empty-size (scope_value c.args.scope)).0, c.empty_gossip_size.ensures)
 
 pub overflow_add-prefix : goal.overflow_add-prefix
 overflow_add-prefix c =
-    omega (arith, (empty-size (scopeValue c.args.scope)).1, number-few c.args.len, c.empty_gossip_size.ensures, c.number_size.ensures)
+    omega (arith, (empty-size (scope_value c.args.scope)).1, number-few c.args.len, c.empty_gossip_size.ensures, c.number_size.ensures)
 
 pub returns-then-max-prefix : goal.returns-then-max-prefix
 returns-then-max-prefix c =
-    sym (lt-leb (gossipSize c.args.len (scopeValue c.args.scope)) c.args.max (omega (arith, sized (goal.at.returns-then-max-prefix c).After-number_size, c.if-max-prefix.true)))
+    sym (lt-leb (gossip_size c.args.len (scope_value c.args.scope)) c.args.max (omega (arith, sized (goal.at.returns-then-max-prefix c).After-number_size, c.if-max-prefix.true)))
 
 pub returns : goal.returns
 returns c =

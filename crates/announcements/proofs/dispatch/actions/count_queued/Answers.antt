@@ -8,8 +8,8 @@ use lib.ListN.{length, get_or, length-append}
 use Rattle.postcard.specs.Message.{Ihave}
 use Rattle.block.specs.View.{state_of}
 use Rattle.block.specs.NoteSteps.{note}
-use Rattle.announcements.proofs.DispatchLaws.QueueLaws.{ihaveOf}
-use Rattle.announcements.proofs.DispatchLaws.ReadPass.{heardBy, heard-none, heard-count, heard_all, heard-other, heard-mine}
+use Rattle.announcements.proofs.DispatchLaws.QueueLaws.{ihave_of}
+use Rattle.announcements.proofs.DispatchLaws.ReadPass.{heard_by, heard-none, heard-count, heard_all, heard-other, heard-mine}
 use Rattle.announcements.proofs.dispatch.actions.count_queued.Goals as goal
 use Rattle.announcements.proofs.dispatch.actions.count_queued.Goals.{After-queued_link_at-l, Start}
 
@@ -34,10 +34,10 @@ module _ (d : After-queued_link_at-l) where
   i = d.loop-i.i
 
   abbrev heard : List Ihave
-  heard = heardBy s.args.link s.args.h xs i
+  heard = heard_by s.args.link s.args.h xs i
 
   abbrev here : Ihave
-  here = ihaveOf (get_or (state_of s.args.h xs).queue i (note 0 0 0))
+  here = ihave_of (get_or (state_of s.args.h xs).queue i (note 0 0 0))
 
   more : i < s.args.h.live.queued
   more = d.loop-i-test.true
@@ -45,7 +45,7 @@ module _ (d : After-queued_link_at-l) where
   few : length heard ≤ i
   few = heard-count s.args.link s.args.h xs s.requires.0 i (omega (arith, more))
 
-  mine-count : d.queued_link_at-l.result ≡ s.args.link → d.loop-i.found + 1 ≡ length (heardBy s.args.link s.args.h xs (i + 1))
+  mine-count : d.queued_link_at-l.result ≡ s.args.link → d.loop-i.found + 1 ≡ length (heard_by s.args.link s.args.h xs (i + 1))
   mine-count e =
       omega (
         arith,

@@ -4,17 +4,17 @@ use native.Mathlib.Omega.{arith}
 use mathlib.Core.List.{◌∷◌}
 use mathlib.Core.Path.{◌≡◌, refl, ap}
 use lib.ListN.{drop}
-use Rattle.storage.specs.Lists.Base.{concatMap}
+use Rattle.storage.specs.Lists.Base.{concat_map}
 use Rattle.storage.specs.Lists.Map.{keys}
-use Rattle.postcard.specs.Message.{actionBytes}
+use Rattle.postcard.specs.Message.{action_bytes}
 use Rattle.protocol.specs.State.{State}
-use Rattle.protocol.specs.Ticks.{perMessage}
+use Rattle.protocol.specs.Ticks.{per_message}
 use Rattle.decide.specs.Settled.{settled}
-use Rattle.decide.specs.ActionsAfter.{dispatchActions}
+use Rattle.decide.specs.ActionsAfter.{dispatch_actions}
 use Rattle.block.specs.View.{state_of}
-use Rattle.block.specs.LinkSteps.{peerAt}
-use Rattle.steps.specs.Rooms.{roomsIn}
-use Rattle.announcements.specs.Dispatch.Sends.{heldThen}
+use Rattle.block.specs.LinkSteps.{peer_at}
+use Rattle.steps.specs.Rooms.{rooms_in}
+use Rattle.announcements.specs.Dispatch.Sends.{held_then}
 use Rattle.announcements.proofs.DispatchLaws.ActionLoop.{all-actions, next-peer, no-peer}
 use Rattle.announcements.proofs.DispatchLaws.SendLaws.{going_start, going-told, going_next, going_end}
 use borrow.Author.Rules.{rules}
@@ -28,8 +28,8 @@ loop-l-init c =
     let t = state_of a.h a.block.now in (
       search rules,
       refl,
-      going_start (heldThen a.instant.0 t) (roomsIn t a.rooms.now) (perMessage t.settings.maxMessageSize) t.queue (concatMap actionBytes (dispatchActions (roomsIn t a.rooms.now) (settled a.instant.0 t))) a.out.now a.from (keys t.links) t.timers.announce
-          (ap (concatMap actionBytes) (all-actions a.h a.block.now c.requires.0 a.instant.0 (roomsIn t a.rooms.now))),
+      going_start (held_then a.instant.0 t) (rooms_in t a.rooms.now) (per_message t.settings.max_message_size) t.queue (concat_map action_bytes (dispatch_actions (rooms_in t a.rooms.now) (settled a.instant.0 t))) a.out.now a.from (keys t.links) t.timers.announce
+          (ap (concat_map action_bytes) (all-actions a.h a.block.now c.requires.0 a.instant.0 (rooms_in t a.rooms.now))),
     )
 
 -- the next link
@@ -46,18 +46,18 @@ module _ (d : In-loop-l) where
   more : l < s.args.h.live.links
   more = d.loop-l-test.true
 
-  next-is : drop l (keys st.links) ≡ peerAt st l ∷ drop (l + 1) (keys st.links)
+  next-is : drop l (keys st.links) ≡ peer_at st l ∷ drop (l + 1) (keys st.links)
   next-is = next-peer s.args.h s.args.block.now s.requires.0 l more
 
 pub send_link-s-requires : goal.send_link-s-requires
 send_link-s-requires c =
-    ((s (goal.at.send_link-s-requires c).In-loop-l).requires.0, more (goal.at.send_link-s-requires c).In-loop-l, going-told (drop (l (goal.at.send_link-s-requires c).In-loop-l) (keys (st (goal.at.send_link-s-requires c).In-loop-l).links)) c.loop-l.invariant.2 (peerAt (st (goal.at.send_link-s-requires c).In-loop-l) (l (goal.at.send_link-s-requires c).In-loop-l)) (drop (l (goal.at.send_link-s-requires c).In-loop-l + 1) (keys (st (goal.at.send_link-s-requires c).In-loop-l).links)) (next-is (goal.at.send_link-s-requires c).In-loop-l) (s (goal.at.send_link-s-requires c).In-loop-l).requires.1)
+    ((s (goal.at.send_link-s-requires c).In-loop-l).requires.0, more (goal.at.send_link-s-requires c).In-loop-l, going-told (drop (l (goal.at.send_link-s-requires c).In-loop-l) (keys (st (goal.at.send_link-s-requires c).In-loop-l).links)) c.loop-l.invariant.2 (peer_at (st (goal.at.send_link-s-requires c).In-loop-l) (l (goal.at.send_link-s-requires c).In-loop-l)) (drop (l (goal.at.send_link-s-requires c).In-loop-l + 1) (keys (st (goal.at.send_link-s-requires c).In-loop-l).links)) (next-is (goal.at.send_link-s-requires c).In-loop-l) (s (goal.at.send_link-s-requires c).In-loop-l).requires.1)
 
 pub loop-l-preserved : goal.loop-l-preserved
 loop-l-preserved c = (
   omega (arith, more (goal.at.loop-l-preserved c).In-loop-l),
   search rules,
-  going_next (drop (l (goal.at.loop-l-preserved c).In-loop-l) (keys (st (goal.at.loop-l-preserved c).In-loop-l).links)) c.loop-l.invariant.2 (peerAt (st (goal.at.loop-l-preserved c).In-loop-l) (l (goal.at.loop-l-preserved c).In-loop-l)) (drop (l (goal.at.loop-l-preserved c).In-loop-l + 1) (keys (st (goal.at.loop-l-preserved c).In-loop-l).links)) (next-is (goal.at.loop-l-preserved c).In-loop-l) c.send_link-s.new.out c.send_link-s.result.at c.send_link-s.result.flag c.send_link-s.ensures.written c.send_link-s.ensures.flags,
+  going_next (drop (l (goal.at.loop-l-preserved c).In-loop-l) (keys (st (goal.at.loop-l-preserved c).In-loop-l).links)) c.loop-l.invariant.2 (peer_at (st (goal.at.loop-l-preserved c).In-loop-l) (l (goal.at.loop-l-preserved c).In-loop-l)) (drop (l (goal.at.loop-l-preserved c).In-loop-l + 1) (keys (st (goal.at.loop-l-preserved c).In-loop-l).links)) (next-is (goal.at.loop-l-preserved c).In-loop-l) c.send_link-s.new.out c.send_link-s.result.at c.send_link-s.result.flag c.send_link-s.ensures.written c.send_link-s.ensures.flags,
 )
 
 pub returns : goal.returns

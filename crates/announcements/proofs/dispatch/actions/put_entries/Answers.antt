@@ -7,12 +7,12 @@ use mathlib.Core.List.{List, ◌∷◌}
 use mathlib.Core.Path.{◌≡◌, refl, sym, ap, ◌∙◌, subst}
 use lib.ListN.{take, drop}
 use Rattle.storage.specs.Rows.Ident.{id_of}
-use Rattle.storage.specs.Lists.Base.{concatMap}
-use Rattle.postcard.specs.Message.{Ihave, ihaveBytes}
+use Rattle.storage.specs.Lists.Base.{concat_map}
+use Rattle.postcard.specs.Message.{Ihave, ihave_bytes}
 use Rattle.protocol.specs.State.{State}
 use Rattle.block.specs.View.{state_of}
 use Rattle.block.proofs.NoteLaws.{count-queue}
-use Rattle.announcements.specs.Dispatch.Sends.{heldThen, toSend, someHeld}
+use Rattle.announcements.specs.Dispatch.Sends.{held_then, to_send, some_held}
 use Rattle.announcements.proofs.DispatchLaws.ReadPass.{heard-note, send-other, send-mine, send-some}
 use Rattle.announcements.proofs.DispatchLaws.SendLaws.{Entering, enter-start, enter-told, enter-next, enter-written, enter-rest, enter-some}
 use Rattle.announcements.proofs.dispatch.actions.put_entries.Goals as goal
@@ -22,7 +22,7 @@ pub loop-left-init : goal.loop-left-init
 loop-left-init c =
     let a = c.args in
     let t = state_of a.h a.block.now in
-    (c.requires.2, refl, enter-start (heldThen a.instant.0 t) (toSend a.link a.row t) a.count a.out.now a.from c.requires.3)
+    (c.requires.2, refl, enter-start (held_then a.instant.0 t) (to_send a.link a.row t) a.count a.out.now a.from c.requires.3)
 
 -- an entry stands at i
 module _ (d : In-loop-left) where
@@ -68,16 +68,16 @@ module _ (q : After-queued_at-q) where
   here = record { id = id_of q.queued_at-q.result.id; round = q.queued_at-q.result.round.0 }
 
   abbrev after : List Ihave
-  after = toSend s.args.link (i + 1) st
+  after = to_send s.args.link (i + 1) st
 
   one_less : left ≡ suc (left - 1)
   one_less = omega (arith, d.loop-left-test.true)
 
-  entering : Entering (heldThen s.args.instant.0 st) (concatMap ihaveBytes (take s.args.count (toSend s.args.link s.args.row st))) (someHeld (heldThen s.args.instant.0 st) (take s.args.count (toSend s.args.link s.args.row st)))
-      (drop s.args.count (toSend s.args.link s.args.row st)) s.args.out.now s.args.from d.loop-left.out d.loop-left.at (here ∷ after) left d.loop-left.cached
+  entering : Entering (held_then s.args.instant.0 st) (concat_map ihave_bytes (take s.args.count (to_send s.args.link s.args.row st))) (some_held (held_then s.args.instant.0 st) (take s.args.count (to_send s.args.link s.args.row st)))
+      (drop s.args.count (to_send s.args.link s.args.row st)) s.args.out.now s.args.from d.loop-left.out d.loop-left.at (here ∷ after) left d.loop-left.cached
   entering =
-      subst (λ (hs : List Ihave). Entering (heldThen s.args.instant.0 st) (concatMap ihaveBytes (take s.args.count (toSend s.args.link s.args.row st))) (someHeld (heldThen s.args.instant.0 st) (take s.args.count (toSend s.args.link s.args.row st)))
-      (drop s.args.count (toSend s.args.link s.args.row st)) s.args.out.now s.args.from d.loop-left.out d.loop-left.at hs left d.loop-left.cached)
+      subst (λ (hs : List Ihave). Entering (held_then s.args.instant.0 st) (concat_map ihave_bytes (take s.args.count (to_send s.args.link s.args.row st))) (some_held (held_then s.args.instant.0 st) (take s.args.count (to_send s.args.link s.args.row st)))
+      (drop s.args.count (to_send s.args.link s.args.row st)) s.args.out.now s.args.from d.loop-left.out d.loop-left.at hs left d.loop-left.cached)
       (send-mine s.args.link s.args.h s.args.block.now s.requires.0 i (stands_at d) q.queued_link_at-l.result q.queued_link_at-l.ensures q.if-l-link.true
       ∙ ap (λ (y : Ihave). y ∷ after) (heard-note s.args.link s.args.h s.args.block.now s.requires.0 i (stands_at d) q.queued_at-q.result q.queued_at-q.ensures))
       d.loop-left.invariant.2
@@ -119,8 +119,8 @@ loop-left-preserved c =
     let u = state_of a.h a.block.now in (
       omega (arith, stands_at (goal.at.loop-left-preserved c).In-loop-left),
       c.loop-left.invariant.1,
-      subst (λ (hs : List Ihave). Entering (heldThen a.instant.0 u) (concatMap ihaveBytes (take a.count (toSend a.link a.row u))) (someHeld (heldThen a.instant.0 u) (take a.count (toSend a.link a.row u)))
-          (drop a.count (toSend a.link a.row u)) a.out.now a.from c.loop-left.out c.loop-left.at hs c.loop-left.left c.loop-left.cached)
+      subst (λ (hs : List Ihave). Entering (held_then a.instant.0 u) (concat_map ihave_bytes (take a.count (to_send a.link a.row u))) (some_held (held_then a.instant.0 u) (take a.count (to_send a.link a.row u)))
+          (drop a.count (to_send a.link a.row u)) a.out.now a.from c.loop-left.out c.loop-left.at hs c.loop-left.left c.loop-left.cached)
           (send-other a.link a.h a.block.now t.requires.0 c.loop-left.i (stands_at (goal.at.loop-left-preserved c).In-loop-left) c.queued_link_at-l.result c.queued_link_at-l.ensures t.requires.1 c.if-l-link.false)
           c.loop-left.invariant.2,
     )

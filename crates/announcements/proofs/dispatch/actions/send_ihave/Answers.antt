@@ -5,13 +5,13 @@ use mathlib.Core.List.{List}
 use mathlib.Core.Path.{◌≡◌, sym, subst}
 use lib.ListN.{length, take}
 use lib.Seq.{length-take-le}
-use Rattle.storage.specs.Lists.Base.{concatMap}
-use Rattle.postcard.specs.Message.{Ihave, actionBytes}
+use Rattle.storage.specs.Lists.Base.{concat_map}
+use Rattle.postcard.specs.Message.{Ihave, action_bytes}
 use Rattle.protocol.specs.State.{State}
 use Rattle.wire.specs.Output.Written.{Tellable, Written}
 use Rattle.block.specs.View.{state_of}
-use Rattle.block.specs.LinkSteps.{peerAt}
-use Rattle.announcements.specs.Dispatch.Sends.{heldThen, toSend, oneSend}
+use Rattle.block.specs.LinkSteps.{peer_at}
+use Rattle.announcements.specs.Dispatch.Sends.{held_then, to_send, one_send}
 use Rattle.announcements.proofs.DispatchLaws.SendLaws.{chunk-head, chunk-entries, chunk-timer, chunk-quiet, chunk-timed, quiet-taken, flag-taken, back-announce, flag-cached, flag-none}
 use Rattle.announcements.proofs.dispatch.actions.send_ihave.Goals as goal
 use Rattle.announcements.proofs.dispatch.actions.send_ihave.Goals.{After-put_entries-c, After-schedule_announce_dropped-b, After-send_ihave-a, Start}
@@ -22,20 +22,20 @@ module _ (s : Start) where
   st = state_of s.args.h s.args.block.now
 
   abbrev held : ℕ → Bool
-  held = heldThen s.args.instant.0 st
+  held = held_then s.args.instant.0 st
 
   abbrev hs : List Ihave
-  hs = take s.args.count (toSend s.args.link s.args.row st)
+  hs = take s.args.count (to_send s.args.link s.args.row st)
 
   counted : length hs ≡ s.args.count
-  counted = length-take-le s.args.count (toSend s.args.link s.args.row st) s.requires.3
+  counted = length-take-le s.args.count (to_send s.args.link s.args.row st) s.requires.3
 
-  told : (p : ℕ) → p ≡ peerAt st s.args.link → Tellable (concatMap actionBytes (oneSend held s.args.taken s.args.flag p hs)) s.args.from
-  told p e = subst (λ (n : ℕ). Tellable (concatMap actionBytes (oneSend held s.args.taken s.args.flag n hs)) s.args.from) (sym e) s.requires.4
+  told : (p : ℕ) → p ≡ peer_at st s.args.link → Tellable (concat_map action_bytes (one_send held s.args.taken s.args.flag p hs)) s.args.from
+  told p e = subst (λ (n : ℕ). Tellable (concat_map action_bytes (one_send held s.args.taken s.args.flag n hs)) s.args.from) (sym e) s.requires.4
 
-  for-peer : (p : ℕ) (out : List ℕ) (r : ℕ) → p ≡ peerAt st s.args.link → Written (concatMap actionBytes (oneSend held s.args.taken s.args.flag p hs)) s.args.out.now s.args.from out r
-      → Written (concatMap actionBytes (oneSend held s.args.taken s.args.flag (peerAt st s.args.link) hs)) s.args.out.now s.args.from out r
-  for-peer p out r e w = subst (λ (n : ℕ). Written (concatMap actionBytes (oneSend held s.args.taken s.args.flag n hs)) s.args.out.now s.args.from out r) e w
+  for-peer : (p : ℕ) (out : List ℕ) (r : ℕ) → p ≡ peer_at st s.args.link → Written (concat_map action_bytes (one_send held s.args.taken s.args.flag p hs)) s.args.out.now s.args.from out r
+      → Written (concat_map action_bytes (one_send held s.args.taken s.args.flag (peer_at st s.args.link) hs)) s.args.out.now s.args.from out r
+  for-peer p out r e w = subst (λ (n : ℕ). Written (concat_map action_bytes (one_send held s.args.taken s.args.flag n hs)) s.args.out.now s.args.from out r) e w
 
 pub send_ihave-a-requires : goal.send_ihave-a-requires
 send_ihave-a-requires c =
@@ -58,7 +58,7 @@ module _ (f : After-put_entries-c) where
   abbrev p₁ : ℕ
   p₁ = g₁.peer_at-p.result
 
-  peer-is : p₁ ≡ peerAt (st s₁) s₁.args.link
+  peer-is : p₁ ≡ peer_at (st s₁) s₁.args.link
   peer-is = g₁.peer_at-p.ensures
 
   abbrev out₁ : List ℕ
@@ -88,7 +88,7 @@ module _ (e : After-schedule_announce_dropped-b) where
   abbrev s₂ : Start
   s₂ = s₁ f₂
 
-  after : Written (concatMap actionBytes (oneSend (held s₂) s₂.args.taken s₂.args.flag (peerAt (st s₂) s₂.args.link) (hs s₂))) s₂.args.out.now s₂.args.from e.schedule_announce_dropped-b.new.out e.schedule_announce_dropped-b.result
+  after : Written (concat_map action_bytes (one_send (held s₂) s₂.args.taken s₂.args.flag (peer_at (st s₂) s₂.args.link) (hs s₂))) s₂.args.out.now s₂.args.from e.schedule_announce_dropped-b.new.out e.schedule_announce_dropped-b.result
   after =
       for-peer s₂ (p₁ f₂) e.schedule_announce_dropped-b.new.out e.schedule_announce_dropped-b.result (peer-is f₂)
       (chunk-timed (held s₂) s₂.args.taken s₂.args.flag (p₁ f₂) s₂.args.count (hs s₂) (counted s₂) (g₁ f₂).send_ihave-a.ensures f₂.put_entries-c.ensures.written

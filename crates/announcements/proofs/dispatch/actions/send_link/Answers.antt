@@ -10,16 +10,16 @@ use lib.ListN.{length, get_or, length-drop}
 use Rattle.postcard.specs.Message.{Ihave}
 use Rattle.protocol.specs.State.{State}
 use Rattle.protocol.specs.Run.{Room}
-use Rattle.protocol.specs.Ticks.{perMessage, queuedFor}
-use Rattle.decide.specs.Rooms.{kthTaken}
+use Rattle.protocol.specs.Ticks.{per_message, queued_for}
+use Rattle.decide.specs.Rooms.{kth_taken}
 use Rattle.block.specs.View.{state_of}
-use Rattle.block.specs.LinkSteps.{peerAt}
+use Rattle.block.specs.LinkSteps.{peer_at}
 use Rattle.block.proofs.LinkLaws.{count-links}
 use Rattle.block.proofs.NoteLaws.{count-queue}
-use Rattle.steps.specs.Rooms.{roomsIn}
+use Rattle.steps.specs.Rooms.{rooms_in}
 use Rattle.steps.proofs.StandsLaws.{links-up}
 use Rattle.steps.proofs.RoomsLaws.{kth-link}
-use Rattle.announcements.specs.Dispatch.Sends.{heldThen, toSend}
+use Rattle.announcements.specs.Dispatch.Sends.{held_then, to_send}
 use Rattle.announcements.proofs.DispatchLaws.QueueLaws.{queued-few}
 use Rattle.announcements.proofs.DispatchLaws.LinkLoop.{PerMessage, size_low, per-message}
 use Rattle.announcements.proofs.DispatchLaws.SendLaws.{link_start, link-told, link-next, link-written, link-flag}
@@ -32,18 +32,18 @@ module _ (s : Start) where
   st = state_of s.args.h s.args.block.now
 
   abbrev brought : List Room
-  brought = roomsIn st s.args.rooms.now
+  brought = rooms_in st s.args.rooms.now
 
   abbrev p : ℕ
-  p = peerAt st s.args.link
+  p = peer_at st s.args.link
 
   abbrev per : ℕ
-  per = perMessage st.settings.maxMessageSize
+  per = per_message st.settings.max_message_size
 
   numbers : PerMessage per
   numbers = per-message st s.requires.0.ranged
 
-  few : length (queuedFor p st.queue) ≤ 8192
+  few : length (queued_for p st.queue) ≤ 8192
   few = omega (arith, queued-few p st.queue, count-queue s.args.h s.args.block.now s.requires.0.sound, s.requires.0.sound.fit.within.queued, s.requires.0.sound.fit.ceilings.Q)
 
 pub chunk_len-k-requires : goal.chunk_len-k-requires
@@ -72,7 +72,7 @@ loop-left-init c =
       search rules,
       omega arith,
       refl,
-      link_start (heldThen a.instant.0 (st (goal.at.loop-left-init c).Start)) (brought (goal.at.loop-left-init c).Start) (p (goal.at.loop-left-init c).Start) (per (goal.at.loop-left-init c).Start) (st (goal.at.loop-left-init c).Start).queue a.flagged a.out.now a.from (queued-few (p (goal.at.loop-left-init c).Start) (st (goal.at.loop-left-init c).Start).queue),
+      link_start (held_then a.instant.0 (st (goal.at.loop-left-init c).Start)) (brought (goal.at.loop-left-init c).Start) (p (goal.at.loop-left-init c).Start) (per (goal.at.loop-left-init c).Start) (st (goal.at.loop-left-init c).Start).queue a.flagged a.out.now a.from (queued-few (p (goal.at.loop-left-init c).Start) (st (goal.at.loop-left-init c).Start).queue),
     )
 
 -- the next IHave
@@ -93,7 +93,7 @@ module _ (m : After-min-count) where
   count = m.min-count.result
 
   abbrev hs : List Ihave
-  hs = toSend s.args.link row (st s)
+  hs = to_send s.args.link row (st s)
 
   left_is : left ≡ length hs
   left_is = m.loop-left.invariant.0
@@ -120,7 +120,7 @@ module _ (m : After-min-count) where
   abbrev taken : Bool
   taken = leb nth (get_or s.args.rooms.now s.args.link 0)
 
-  taken_is : taken ≡ kthTaken nth (p s) (brought s)
+  taken_is : taken ≡ kth_taken nth (p s) (brought s)
   taken_is = sym (kth-link (st s) s.args.rooms.now nth s.args.link (links-up s.args.h s.args.block.now s.requires.0) (omega (arith, count-links s.args.h s.args.block.now, s.requires.1)) nth-small)
 
 pub send_ihave-s-requires : goal.send_ihave-s-requires
@@ -150,11 +150,11 @@ loop-left-preserved c =
       omega (arith, r.within, count-queue (s (goal.at.loop-left-preserved c).After-min-count).args.h (s (goal.at.loop-left-preserved c).After-min-count).args.block.now (s (goal.at.loop-left-preserved c).After-min-count).requires.0.sound),
       omega (arith, c.loop-left.invariant.2, count-some (goal.at.loop-left-preserved c).After-min-count, count-few (goal.at.loop-left-preserved c).After-min-count, left_is (goal.at.loop-left-preserved c).After-min-count),
       search rules,
-      link-next c.loop-left.invariant.4 (count (goal.at.loop-left-preserved c).After-min-count) (taken (goal.at.loop-left-preserved c).After-min-count) (some (goal.at.loop-left-preserved c).After-min-count) (numbers (s (goal.at.loop-left-preserved c).After-min-count)).some (count-is (goal.at.loop-left-preserved c).After-min-count) (taken_is (goal.at.loop-left-preserved c).After-min-count) c.send_ihave-s.new.out c.send_ihave-s.result.at c.send_ihave-s.result.flag (toSend (s (goal.at.loop-left-preserved c).After-min-count).args.link c.send_ihave-s.result.row (st (s (goal.at.loop-left-preserved c).After-min-count))) r.written r.flags r.rest,
+      link-next c.loop-left.invariant.4 (count (goal.at.loop-left-preserved c).After-min-count) (taken (goal.at.loop-left-preserved c).After-min-count) (some (goal.at.loop-left-preserved c).After-min-count) (numbers (s (goal.at.loop-left-preserved c).After-min-count)).some (count-is (goal.at.loop-left-preserved c).After-min-count) (taken_is (goal.at.loop-left-preserved c).After-min-count) c.send_ihave-s.new.out c.send_ihave-s.result.at c.send_ihave-s.result.flag (to_send (s (goal.at.loop-left-preserved c).After-min-count).args.link c.send_ihave-s.result.row (st (s (goal.at.loop-left-preserved c).After-min-count))) r.written r.flags r.rest,
     )
 
 pub returns : goal.returns
 returns c =
     let q = c.loop-left in
-    let none : length (toSend c.args.link q.row (st (goal.at.returns c).Start)) ≡ 0 = omega (arith, q.invariant.0, c.loop-left-test.false) in
+    let none : length (to_send c.args.link q.row (st (goal.at.returns c).Start)) ≡ 0 = omega (arith, q.invariant.0, c.loop-left-test.false) in
     record { written = link-written q.invariant.4 none; flags = link-flag q.invariant.4 none }

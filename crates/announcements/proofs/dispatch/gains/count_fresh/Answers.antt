@@ -14,15 +14,15 @@ use Rattle.std.specs.Prelude.{if◌then◌else◌}
 use Rattle.storage.specs.Lists.Base.{any}
 use Rattle.postcard.specs.Message.{Ihave}
 use Rattle.protocol.specs.Push.{notes}
-use Rattle.decide.specs.RecordGrowth.{cachedIn, eligible}
+use Rattle.decide.specs.RecordGrowth.{cached_in, eligible}
 use Rattle.decide.specs.Settled.{settled}
 use Rattle.block.specs.View.{state_of}
-use Rattle.block.specs.LinkSteps.{peerAt}
+use Rattle.block.specs.LinkSteps.{peer_at}
 use Rattle.block.specs.NoteSteps.{note}
-use Rattle.announcements.specs.Dispatch.Gains.{handedTo, among, known, fresh}
+use Rattle.announcements.specs.Dispatch.Gains.{handed_to, among, known, fresh}
 use Rattle.announcements.specs.Dispatch.Marks.{Covers}
-use Rattle.announcements.proofs.DispatchLaws.QueueLaws.{ihaveOf, drop-late, drop-early}
-use Rattle.announcements.proofs.DispatchLaws.ReadPass.{among_none, heardBy, heard-none, heard-count, heard_all, heard-other, heard-mine, heard-note}
+use Rattle.announcements.proofs.DispatchLaws.QueueLaws.{ihave_of, drop-late, drop-early}
+use Rattle.announcements.proofs.DispatchLaws.ReadPass.{among_none, heard_by, heard-none, heard-count, heard_all, heard-other, heard-mine, heard-note}
 use Rattle.steps.proofs.StandsLaws.{links-up}
 use Rattle.announcements.proofs.DispatchLaws.MarkLaws.{low-in, covers-same, covers_more, covers-clear, among-known, or_nothing}
 use Rattle.announcements.proofs.DispatchLaws.GainLaws.{eligible-more, eligible-none}
@@ -32,10 +32,10 @@ use Rattle.announcements.proofs.dispatch.gains.count_fresh.Goals.{After-is_fresh
 -- how many of these would be added for the link
 module _ (s : Start) where
   abbrev held : ℕ → Bool
-  held = cachedIn (settled s.args.instant.0 (state_of s.args.h s.args.block.now)).cache
+  held = cached_in (settled s.args.instant.0 (state_of s.args.h s.args.block.now)).cache
 
   abbrev counted : List Ihave → ℕ
-  counted hs = eligible held (peerAt (state_of s.args.h s.args.block.now) s.args.link) (state_of s.args.h s.args.block.now).dropped [] hs
+  counted hs = eligible held (peer_at (state_of s.args.h s.args.block.now) s.args.link) (state_of s.args.h s.args.block.now).dropped [] hs
 
 pub mark_link-marks-requires : goal.mark_link-marks-requires
 mark_link-marks-requires c =
@@ -49,9 +49,9 @@ loop-i-init c =
       search rules,
       sym (ap length e),
       search rules,
-      sym (ap (λ (hs : List Ihave). counted (goal.at.loop-i-init c).Start (drop a.skip hs)) e ∙ ap (counted (goal.at.loop-i-init c).Start) (drop-nil a.skip) ∙ eligible-none (held (goal.at.loop-i-init c).Start) (peerAt t a.link) t.dropped),
+      sym (ap (λ (hs : List Ihave). counted (goal.at.loop-i-init c).Start (drop a.skip hs)) e ∙ ap (counted (goal.at.loop-i-init c).Start) (drop-nil a.skip) ∙ eligible-none (held (goal.at.loop-i-init c).Start) (peer_at t a.link) t.dropped),
       covers-same c.mark_link-marks.ensures (known a.link a.skip 0 t)
-          (λ j o. or_nothing (any (notes (peerAt t a.link) j) t.dropped) (among j (handedTo a.link a.skip 0 t)) (ap (λ (hs : List Ihave). among j (drop a.skip hs)) e ∙ among_none a.skip j) o),
+          (λ j o. or_nothing (any (notes (peer_at t a.link) j) t.dropped) (among j (handed_to a.link a.skip 0 t)) (ap (λ (hs : List Ihave). among j (drop a.skip hs)) e ∙ among_none a.skip j) o),
     )
 
 pub queued_link_at-l-requires : goal.queued_link_at-l-requires
@@ -73,10 +73,10 @@ module _ (d : After-queued_link_at-l) where
   i = d.loop-i.i
 
   abbrev heard : List Ihave
-  heard = heardBy link s.args.h xs i
+  heard = heard_by link s.args.h xs i
 
   abbrev here : Ihave
-  here = ihaveOf (get_or (state_of s.args.h xs).queue i (note 0 0 0))
+  here = ihave_of (get_or (state_of s.args.h xs).queue i (note 0 0 0))
 
   more : i < s.args.h.live.queued
   more = d.loop-i-test.true
@@ -87,21 +87,21 @@ module _ (d : After-queued_link_at-l) where
   small : s.args.h.live.queued ≤ 8192
   small = omega (arith, s.requires.0.sound.fit.within.queued, s.requires.0.sound.fit.ceilings.Q)
 
-  mine : d.queued_link_at-l.result ≡ link → heardBy link s.args.h xs (i + 1) ≡ heard ++ (here ∷ [])
+  mine : d.queued_link_at-l.result ≡ link → heard_by link s.args.h xs (i + 1) ≡ heard ++ (here ∷ [])
   mine e = heard-mine link s.args.h xs s.requires.0 i more d.queued_link_at-l.result d.queued_link_at-l.ensures e
 
-  mine-count : (n : ℕ) → d.queued_link_at-l.result ≡ link → n ≡ length heard → n + 1 ≡ length (heardBy link s.args.h xs (i + 1))
+  mine-count : (n : ℕ) → d.queued_link_at-l.result ≡ link → n ≡ length heard → n + 1 ≡ length (heard_by link s.args.h xs (i + 1))
   mine-count n e m = omega (arith, ap length (mine e), length-append heard (here ∷ []))
 
-  other : (d.queued_link_at-l.result ≡ link → ⊥) → heardBy link s.args.h xs (i + 1) ≡ heard
+  other : (d.queued_link_at-l.result ≡ link → ⊥) → heard_by link s.args.h xs (i + 1) ≡ heard
   other e = heard-other link s.args.h xs s.requires.0 i more d.queued_link_at-l.result d.queued_link_at-l.ensures s.requires.1 e
 
   -- nothing more is known
-  still : drop s.args.skip (heardBy link s.args.h xs (i + 1)) ≡ drop s.args.skip heard → Covers (known link s.args.skip (i + 1) (state_of s.args.h xs)) d.loop-i.marks
+  still : drop s.args.skip (heard_by link s.args.h xs (i + 1)) ≡ drop s.args.skip heard → Covers (known link s.args.skip (i + 1) (state_of s.args.h xs)) d.loop-i.marks
   still e =
       let st = state_of s.args.h xs in
       covers-same d.loop-i.invariant.4 (known link s.args.skip (i + 1) st)
-      (λ j o. sym (ap (λ (hs : List Ihave). any (notes (peerAt st link) j) st.dropped || among j hs) e) ∙ o)
+      (λ j o. sym (ap (λ (hs : List Ihave). any (notes (peer_at st link) j) st.dropped || among j hs) e) ∙ o)
 
 pub overflow_add-seen : goal.overflow_add-seen
 overflow_add-seen c =
@@ -138,16 +138,16 @@ module _ (f : After-is_fresh-new) where
   behind : (s d₁).args.skip ≤ length (heard d₁)
   behind = omega (arith, f.if-skip-before.true, d₁.loop-i.invariant.1)
 
-  fresh-is : (b : Bool) → f.is_fresh-new.result ≡ b → fresh (held (s d₁)) (peerAt (state_of (s d₁).args.h (xs d₁)) (link d₁)) (state_of (s d₁).args.h (xs d₁)).dropped (drop (s d₁).args.skip (heard d₁)) (here d₁).id ≡ b
+  fresh-is : (b : Bool) → f.is_fresh-new.result ≡ b → fresh (held (s d₁)) (peer_at (state_of (s d₁).args.h (xs d₁)) (link d₁)) (state_of (s d₁).args.h (xs d₁)).dropped (drop (s d₁).args.skip (heard d₁)) (here d₁).id ≡ b
   fresh-is b e =
-      ap (λ (y : Ihave). fresh (held (s d₁)) (peerAt (state_of (s d₁).args.h (xs d₁)) (link d₁)) (state_of (s d₁).args.h (xs d₁)).dropped (drop (s d₁).args.skip (heard d₁)) y.id)
+      ap (λ (y : Ihave). fresh (held (s d₁)) (peer_at (state_of (s d₁).args.h (xs d₁)) (link d₁)) (state_of (s d₁).args.h (xs d₁)).dropped (drop (s d₁).args.skip (heard d₁)) y.id)
       (heard-note (link d₁) (s d₁).args.h (xs d₁) (s d₁).requires.0 (i d₁) (more d₁) f.queued_at-q.result f.queued_at-q.ensures)
       ∙ sym f.is_fresh-new.ensures ∙ e
 
-  count-more : (b : Bool) → f.is_fresh-new.result ≡ b → counted (s d₁) (drop (s d₁).args.skip (heardBy (link d₁) (s d₁).args.h (xs d₁) (i d₁ + 1))) ≡ counted (s d₁) (drop (s d₁).args.skip (heard d₁)) + (if b then 1 else 0)
+  count-more : (b : Bool) → f.is_fresh-new.result ≡ b → counted (s d₁) (drop (s d₁).args.skip (heard_by (link d₁) (s d₁).args.h (xs d₁) (i d₁ + 1))) ≡ counted (s d₁) (drop (s d₁).args.skip (heard d₁)) + (if b then 1 else 0)
   count-more b e =
       ap (counted (s d₁)) (ap (drop (s d₁).args.skip) (mine d₁ f.if-l-link.true) ∙ drop-late (s d₁).args.skip (heard d₁) (here d₁) behind)
-      ∙ eligible-more (held (s d₁)) (peerAt (state_of (s d₁).args.h (xs d₁)) (link d₁)) (state_of (s d₁).args.h (xs d₁)).dropped (drop (s d₁).args.skip (heard d₁)) (here d₁) b (fresh-is b e)
+      ∙ eligible-more (held (s d₁)) (peer_at (state_of (s d₁).args.h (xs d₁)) (link d₁)) (state_of (s d₁).args.h (xs d₁)).dropped (drop (s d₁).args.skip (heard d₁)) (here d₁) b (fresh-is b e)
 
   -- the entry has its mark
   marked : Covers (known (link d₁) (s d₁).args.skip (i d₁ + 1) (state_of (s d₁).args.h (xs d₁))) (set d₁.loop-i.marks f.low-m.result 1)
@@ -156,8 +156,8 @@ module _ (f : After-is_fresh-new) where
       let same : (here d₁).id ≡ id (goal.at.After-is_fresh-new f).After-low-m = ap (λ (y : Ihave). y.id) (heard-note (link d₁) (s d₁).args.h (xs d₁) (s d₁).requires.0 (i d₁) (more d₁) f.queued_at-q.result f.queued_at-q.ensures) in
       subst (λ (n : ℕ). Covers (known (link d₁) (s d₁).args.skip (i d₁ + 1) st) (set d₁.loop-i.marks n 1)) (sym f.low-m.ensures)
       (covers_more d₁.loop-i.invariant.4 (id (goal.at.After-is_fresh-new f).After-low-m) (known (link d₁) (s d₁).args.skip (i d₁ + 1) st)
-      (λ j o. ⊎_elim (λ a. inl a) (λ b. inr (b ∙ same)) (among-known (any (notes (peerAt st (link d₁)) j) st.dropped) (drop (s d₁).args.skip (heard d₁)) (here d₁) j
-      (sym (ap (λ (hs : List Ihave). any (notes (peerAt st (link d₁)) j) st.dropped || among j hs) (ap (drop (s d₁).args.skip) (mine d₁ f.if-l-link.true) ∙ drop-late (s d₁).args.skip (heard d₁) (here d₁) behind)) ∙ o))))
+      (λ j o. ⊎_elim (λ a. inl a) (λ b. inr (b ∙ same)) (among-known (any (notes (peer_at st (link d₁)) j) st.dropped) (drop (s d₁).args.skip (heard d₁)) (here d₁) j
+      (sym (ap (λ (hs : List Ihave). any (notes (peer_at st (link d₁)) j) st.dropped || among j hs) (ap (drop (s d₁).args.skip) (mine d₁ f.if-l-link.true) ∙ drop-late (s d₁).args.skip (heard d₁) (here d₁) behind)) ∙ o))))
 
 one-small : (b : Bool) → (if b then 1 else 0) ≤ 1
 one-small true = omega arith

@@ -7,12 +7,12 @@ use mathlib.Core.List.{List}
 use mathlib.Core.Path.{◌≡◌, refl, sym, ap, ◌∙◌, subst}
 use lib.ListN.{drop, get_or}
 use Rattle.protocol.specs.State.{State}
-use Rattle.protocol.specs.Ticks.{perMessage, queuedFor}
+use Rattle.protocol.specs.Ticks.{per_message, queued_for}
 use Rattle.postcard.specs.Message.{Ihave}
-use Rattle.decide.specs.RecordGrowth.{cachedIn, peerGain}
+use Rattle.decide.specs.RecordGrowth.{cached_in, peer_gain}
 use Rattle.decide.specs.Settled.{settled}
 use Rattle.block.specs.View.{state_of}
-use Rattle.block.specs.LinkSteps.{peerAt}
+use Rattle.block.specs.LinkSteps.{peer_at}
 use Rattle.block.proofs.NoteLaws.{count-dropped}
 use Rattle.announcements.proofs.DispatchLaws.LinkLoop.{PerMessage, size_low, per-message, skip-fits, back, back-nothing, back-behind}
 use Rattle.announcements.proofs.DispatchLaws.GainLaws.{gain-small}
@@ -31,10 +31,10 @@ module _ (s : Start) where
   st = state_of s.args.h s.args.block.now
 
   abbrev held : ℕ → Bool
-  held = cachedIn (settled s.args.instant.0 st).cache
+  held = cached_in (settled s.args.instant.0 st).cache
 
   record-small : s.args.h.live.dropped ≤ 4096
-  record-small = omega (arith, s.requires.consistent.core.within.inAll, count-dropped s.args.h s.args.block.now s.requires.sound)
+  record-small = omega (arith, s.requires.consistent.core.within.in_all, count-dropped s.args.h s.args.block.now s.requires.sound)
 
 pub loop-l-init : goal.loop-l-init
 loop-l-init c =
@@ -74,7 +74,7 @@ module _ (d : After-room-1) where
   more : l < s.args.h.live.links
   more = d.loop-l-test.true
 
-  k-is : k ≡ perMessage (st s).settings.maxMessageSize
+  k-is : k ≡ per_message (st s).settings.max_message_size
   unfolding state_of
   k-is = d.chunk_len-k.ensures
 
@@ -82,9 +82,9 @@ module _ (d : After-room-1) where
   numbers = subst (λ (n : ℕ). PerMessage n) (sym k-is) (per-message (st s) s.requires.ranged)
 
   abbrev handed : List Ihave
-  handed = drop (room * k) (queuedFor (peerAt (st s) l) (st s).queue)
+  handed = drop (room * k) (queued_for (peer_at (st s) l) (st s).queue)
 
-  behind : room < s.args.h.live.queued → back rooms k s.args.h xs (peerAt (st s) l) ≡ handed
+  behind : room < s.args.h.live.queued → back rooms k s.args.h xs (peer_at (st s) l) ≡ handed
   behind w = back-behind rooms k s.args.h xs l s.requires more room refl w
 
 pub overflow_mul-room : goal.overflow_mul-room
@@ -105,12 +105,12 @@ module _ (f : After-link_gain-gain) where
   small =
       let e = d₁.loop-l.extra in
       let n = count-dropped (s d₁).args.h (xs d₁) (s d₁).requires.sound in
-      omega (arith, gain-small (held (s d₁)) (peerAt (st (s d₁)) (l d₁)) (st (s d₁)).dropped e (handed d₁) (omega (arith, n, d₁.loop-l.invariant.1)), f.link_gain-gain.ensures, n)
+      omega (arith, gain-small (held (s d₁)) (peer_at (st (s d₁)) (l d₁)) (st (s d₁)).dropped e (handed d₁) (omega (arith, n, d₁.loop-l.invariant.1)), f.link_gain-gain.ensures, n)
 
   now-gained : d₁.loop-l.extra + f.link_gain-gain.result ≡ gained (held (s d₁)) (rooms d₁) (k d₁) (s d₁).args.h (xs d₁) (l d₁ + 1)
   now-gained =
       let e = d₁.loop-l.invariant.2 in
-      (λ t. e t + (f.link_gain-gain.ensures ∙ ap (λ (n : ℕ). peerGain (held (s d₁)) (peerAt (st (s d₁)) (l d₁)) (st (s d₁)).dropped n (handed d₁)) e) t)
+      (λ t. e t + (f.link_gain-gain.ensures ∙ ap (λ (n : ℕ). peer_gain (held (s d₁)) (peer_at (st (s d₁)) (l d₁)) (st (s d₁)).dropped n (handed d₁)) e) t)
       ∙ sym (gained-more (held (s d₁)) (rooms d₁) (k d₁) (s d₁).args.h (xs d₁) (l d₁) (handed d₁) (more d₁) (behind d₁ f.if-room-queued.true))
 
 pub overflow_add-extra : goal.overflow_add-extra
@@ -133,6 +133,6 @@ returns c =
     let p = c.loop-l in
     let n = c.chunk_len-k in
     let a = c.args in
-    let e : n.result ≡ perMessage (st (goal.at.returns c).Start).settings.maxMessageSize = unfold state_of in n.ensures in
+    let e : n.result ≡ per_message (st (goal.at.returns c).Start).settings.max_message_size = unfold state_of in n.ensures in
     let w = per-message (st (goal.at.returns c).Start) c.requires.ranged in
     p.invariant.2 ∙ gained-end (held (goal.at.returns c).Start) a.rooms.now n.result a.h a.block.now c.requires (omega (arith, w.some, e)) e p.l c.loop-l-test.false

@@ -7,13 +7,13 @@ use mathlib.Core.Path.{◌≡◌, sym, ap, ◌∙◌}
 use lib.ListN.{length, take, drop, get_or, length-append}
 use Rattle.storage.specs.Rows.Ident.{id_of}
 use Rattle.postcard.specs.Message.{Ihave}
-use Rattle.protocol.specs.Ticks.{queuedFor}
+use Rattle.protocol.specs.Ticks.{queued_for}
 use Rattle.block.specs.View.{state_of}
-use Rattle.block.specs.LinkSteps.{peerAt}
+use Rattle.block.specs.LinkSteps.{peer_at}
 use Rattle.block.specs.NoteSteps.{note}
 use Rattle.announcements.specs.Dispatch.Gains.{among}
-use Rattle.announcements.proofs.DispatchLaws.QueueLaws.{ihaveOf}
-use Rattle.announcements.proofs.DispatchLaws.ReadPass.{heardBy, among_next, among_later, among_none, heard-none, heard-count, heard-on, heard-other, heard-mine}
+use Rattle.announcements.proofs.DispatchLaws.QueueLaws.{ihave_of}
+use Rattle.announcements.proofs.DispatchLaws.ReadPass.{heard_by, among_next, among_later, among_none, heard-none, heard-count, heard-on, heard-other, heard-mine}
 use Rattle.announcements.proofs.dispatch.gains.is_again.Goals as goal
 use Rattle.announcements.proofs.dispatch.gains.is_again.Goals.{After-is_handed-hit, After-queued_link_at-l, Start}
 
@@ -42,10 +42,10 @@ module _ (d : After-queued_link_at-l) where
   i = d.loop-i.i
 
   abbrev heard : List Ihave
-  heard = heardBy link s.args.h xs i
+  heard = heard_by link s.args.h xs i
 
   abbrev here : Ihave
-  here = ihaveOf (get_or (state_of s.args.h xs).queue i (note 0 0 0))
+  here = ihave_of (get_or (state_of s.args.h xs).queue i (note 0 0 0))
 
   more : i < s.args.h.live.queued
   more = omega (arith, d.loop-i-test.true, s.requires.2)
@@ -56,13 +56,13 @@ module _ (d : After-queued_link_at-l) where
   small : s.args.h.live.queued ≤ 8192
   small = omega (arith, s.requires.0.sound.fit.within.queued, s.requires.0.sound.fit.ceilings.Q)
 
-  mine : d.queued_link_at-l.result ≡ link → heardBy link s.args.h xs (i + 1) ≡ heard ++ (here ∷ [])
+  mine : d.queued_link_at-l.result ≡ link → heard_by link s.args.h xs (i + 1) ≡ heard ++ (here ∷ [])
   mine e = heard-mine link s.args.h xs s.requires.0 i more d.queued_link_at-l.result d.queued_link_at-l.ensures e
 
-  mine-count : (n : ℕ) → d.queued_link_at-l.result ≡ link → n ≡ length heard → n + 1 ≡ length (heardBy link s.args.h xs (i + 1))
+  mine-count : (n : ℕ) → d.queued_link_at-l.result ≡ link → n ≡ length heard → n + 1 ≡ length (heard_by link s.args.h xs (i + 1))
   mine-count n e m = omega (arith, ap length (mine e), length-append heard (here ∷ []))
 
-  other : (d.queued_link_at-l.result ≡ link → ⊥) → heardBy link s.args.h xs (i + 1) ≡ heard
+  other : (d.queued_link_at-l.result ≡ link → ⊥) → heard_by link s.args.h xs (i + 1) ≡ heard
   other e = heard-other link s.args.h xs s.requires.0 i more d.queued_link_at-l.result d.queued_link_at-l.ensures s.requires.1 e
 
 pub overflow_add-seen : goal.overflow_add-seen
@@ -78,7 +78,7 @@ module _ (f : After-is_handed-hit) where
   abbrev d₁ : After-queued_link_at-l
   d₁ = (goal.at.After-is_handed-hit f).After-queued_link_at-l
 
-  next : among (id_of (s d₁).args.id) (drop (s d₁).args.skip (heardBy (link d₁) (s d₁).args.h (xs d₁) (i d₁ + 1))) ≡ f.is_handed-hit.result
+  next : among (id_of (s d₁).args.id) (drop (s d₁).args.skip (heard_by (link d₁) (s d₁).args.h (xs d₁) (i d₁ + 1))) ≡ f.is_handed-hit.result
   next =
       ap (λ (hs : List Ihave). among (id_of (s d₁).args.id) (drop (s d₁).args.skip hs)) (mine d₁ f.if-l-link.true)
       ∙ among_next (s d₁).args.skip (id_of (s d₁).args.id) (heard d₁) (here d₁) (d₁.loop-i.seen + 1) (ap (λ (n : ℕ). n + 1) d₁.loop-i.invariant.1) d₁.loop-i.invariant.2
@@ -90,7 +90,7 @@ returns-then-hit c =
     let a = (s d).args in
     let k = id_of a.id in
     sym (ap (λ (hs : List Ihave). among k (drop a.skip hs)) (heard-on (link d) a.h (xs d) (s d).requires.0 (i d + 1) a.end (omega (arith, d.loop-i-test.true)))
-    ∙ among_later a.skip k (heardBy (link d) a.h (xs d) (i d + 1)) (queuedFor (peerAt (state_of a.h (xs d)) (link d)) (take (a.end - (i d + 1)) (drop (i d + 1) (state_of a.h (xs d)).queue))) (next (goal.at.returns-then-hit c).After-is_handed-hit ∙ c.if-hit.true))
+    ∙ among_later a.skip k (heard_by (link d) a.h (xs d) (i d + 1)) (queued_for (peer_at (state_of a.h (xs d)) (link d)) (take (a.end - (i d + 1)) (drop (i d + 1) (state_of a.h (xs d)).queue))) (next (goal.at.returns-then-hit c).After-is_handed-hit ∙ c.if-hit.true))
 
 pub loop-i-preserved-else-hit : goal.loop-i-preserved-else-hit
 loop-i-preserved-else-hit c =
@@ -111,4 +111,4 @@ returns c =
     let a = c.args in
     let p = c.loop-i in
     let e : p.i ≡ a.end = omega (arith, c.loop-i-test.false, p.invariant.0) in
-    sym (ap (λ (n : ℕ). among (id_of a.id) (drop a.skip (heardBy a.link a.h a.block.now n))) (sym e) ∙ p.invariant.2)
+    sym (ap (λ (n : ℕ). among (id_of a.id) (drop a.skip (heard_by a.link a.h a.block.now n))) (sym e) ∙ p.invariant.2)

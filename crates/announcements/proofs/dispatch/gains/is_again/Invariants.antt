@@ -5,11 +5,11 @@ use mathlib.Core.Path.{◌≡◌}
 use lib.ListN.{length, drop}
 use Rattle.storage.specs.Rows.Ident.{id_of}
 use Rattle.announcements.specs.Dispatch.Gains.{among}
-use Rattle.announcements.proofs.DispatchLaws.ReadPass.{heardBy}
+use Rattle.announcements.proofs.DispatchLaws.ReadPass.{heard_by}
 use Rattle.announcements.proofs.dispatch.gains.is_again.Given as goal
 
 abbrev pub invariant-loop-i : goal.invariant-loop-i
-invariant-loop-i l = (l.i ≤ l.end) × (l.seen ≡ length (heardBy l.link l.h l.block l.i)) × (among (id_of l.id) (drop l.skip (heardBy l.link l.h l.block l.i)) ≡ false)
+invariant-loop-i l = (l.i ≤ l.end) × (l.seen ≡ length (heard_by l.link l.h l.block l.i)) × (among (id_of l.id) (drop l.skip (heard_by l.link l.h l.block l.i)) ≡ false)
 
 abbrev pub decreases-loop-i : goal.decreases-loop-i
 decreases-loop-i l = l.end - l.i

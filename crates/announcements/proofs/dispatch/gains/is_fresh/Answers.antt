@@ -9,9 +9,9 @@ use Rattle.protocol.specs.State.{State}
 use Rattle.protocol.specs.Push.{notes}
 use Rattle.decide.specs.Settled.{settled}
 use Rattle.block.specs.View.{state_of}
-use Rattle.block.specs.LinkSteps.{peerAt}
+use Rattle.block.specs.LinkSteps.{peer_at}
 use Rattle.steps.proofs.StandsLaws.{links-up}
-use Rattle.announcements.specs.Dispatch.Gains.{among, handedTo}
+use Rattle.announcements.specs.Dispatch.Gains.{among, handed_to}
 use Rattle.announcements.proofs.dispatch.gains.is_fresh.Goals as goal
 use Rattle.announcements.proofs.dispatch.gains.is_fresh.Goals.{After-scan_dropped-scan, Start}
 
@@ -36,10 +36,10 @@ module _ (s : Start) where
   held = holds (id_of s.args.id) (settled s.args.instant.0 st).cache
 
   abbrev there : Bool
-  there = any (notes (peerAt st s.args.link) (id_of s.args.id)) st.dropped
+  there = any (notes (peer_at st s.args.link) (id_of s.args.id)) st.dropped
 
   abbrev again : Bool
-  again = among (id_of s.args.id) (handedTo s.args.link s.args.skip s.args.end st)
+  again = among (id_of s.args.id) (handed_to s.args.link s.args.skip s.args.end st)
 
 pub is_cached_then-held-requires : goal.is_cached_then-held-requires
 is_cached_then-held-requires c = c.requires.0

@@ -12,7 +12,7 @@ use Rattle.storage.specs.Lists.Base.{any}
 use Rattle.protocol.specs.State.{State, Note}
 use Rattle.protocol.specs.Push.{notes}
 use Rattle.block.specs.View.{state_of}
-use Rattle.block.specs.LinkSteps.{peerAt}
+use Rattle.block.specs.LinkSteps.{peer_at}
 use Rattle.block.specs.NoteSteps.{note}
 use Rattle.block.proofs.NoteLaws.{count-dropped}
 use Rattle.announcements.specs.Dispatch.Marks.{Covers}
@@ -24,7 +24,7 @@ use Rattle.announcements.proofs.dispatch.marks.mark_link.Goals.{After-dropped_li
 pub loop-i-init : goal.loop-i-init
 loop-i-init c =
     let a = c.args in
-    (search rules, covers-none (λ j. any (notes (peerAt (state_of a.h a.block.now) a.link) j) (take 0 (state_of a.h a.block.now).dropped)) _ refl (none-noted (peerAt (state_of a.h a.block.now) a.link)))
+    (search rules, covers-none (λ j. any (notes (peer_at (state_of a.h a.block.now) a.link) j) (take 0 (state_of a.h a.block.now).dropped)) _ refl (none-noted (peer_at (state_of a.h a.block.now) a.link)))
 
 pub dropped_link_at-l-requires : goal.dropped_link_at-l-requires
 dropped_link_at-l-requires c = (c.requires.0, c.loop-i-test.true)
@@ -38,7 +38,7 @@ module _ (d : After-dropped_link_at-l) where
   st = state_of s.args.h s.args.block.now
 
   abbrev p : ℕ
-  p = peerAt st s.args.link
+  p = peer_at st s.args.link
 
   abbrev i : ℕ
   i = d.loop-i.i
@@ -77,4 +77,4 @@ returns c =
     let a = c.args in
     let ds = (state_of a.h a.block.now).dropped in
     let all : take l.i ds ≡ ds = take_all l.i ds (omega (arith, count-dropped a.h a.block.now c.requires.0, c.loop-i-test.false)) in
-    subst (λ (ns : List Note). Covers (λ j. any (notes (peerAt (state_of a.h a.block.now) a.link) j) ns) l.marks) all l.invariant.1
+    subst (λ (ns : List Note). Covers (λ j. any (notes (peer_at (state_of a.h a.block.now) a.link) j) ns) l.marks) all l.invariant.1

@@ -2,10 +2,10 @@
 use mathlib.Core.Path.{◌≡◌, sym, ap, ◌∙◌, subst}
 use Prim.Native.Nat.{◌<◌}
 use native.Mathlib.Omega.{arith}
-use Rattle.time_cache.specs.Tables.{Lies, refsAt}
+use Rattle.time_cache.specs.Tables.{Lies, refs_at}
 use Rattle.time_cache.specs.Steps.{ref_at}
 use Rattle.time_cache.specs.declared.cache.TimeBoundCache.{TimeBoundCache}
-use Rattle.block.specs.TimeCaches.{cachedCache}
+use Rattle.block.specs.TimeCaches.{cached_cache}
 use Rattle.block.proofs.CachesLaws.CachedLaws.{cached-lies}
 use Rattle.block.proofs.CachesLaws.ContentReads.{place-below, content-is}
 use Rattle.block.proofs.caches.cached.cached_content.Goals as goal
@@ -16,8 +16,8 @@ module _ (d : After-cached_rows_at) where
   abbrev s : Start
   s = (goal.at.After-cached_rows_at d).Start
 
-  names : d.place-p.result ≡ (ref_at (refsAt (cachedCache s.args.h) s.args.block.now) s.args.i).place
-  names = d.place-p.ensures ∙ ap (λ (t : TimeBoundCache). (ref_at (refsAt t s.args.block.now) s.args.i).place) d.cached_cache-c.ensures
+  names : d.place-p.result ≡ (ref_at (refs_at (cached_cache s.args.h) s.args.block.now) s.args.i).place
+  names = d.place-p.ensures ∙ ap (λ (t : TimeBoundCache). (ref_at (refs_at t s.args.block.now) s.args.i).place) d.cached_cache-c.ensures
 
   low : d.place-p.result < s.args.h.live.cached_rows
   low = omega (arith, names, place-below s.args.h s.args.block.now s.requires.0 s.args.i s.requires.1)

@@ -1,14 +1,14 @@
 -- `cached::cached_rows_later` meets its contract: what is later is read from the bytes as from the view.
 use mathlib.Core.Path.{sym, ap, ◌∙◌, subst}
 use lib.ListN.{length}
-use Rattle.time_cache.specs.TimeCache.{laterCache}
-use Rattle.time_cache.specs.Tables.{Lies, Sound, cacheAt}
+use Rattle.time_cache.specs.TimeCache.{later_cache}
+use Rattle.time_cache.specs.Tables.{Lies, Sound, cache_at}
 use Rattle.time_cache.specs.declared.cache.TimeBoundCache.{TimeBoundCache}
 use Rattle.block.specs.View.{state_of}
 use Rattle.block.specs.Layout.{table}
-use Rattle.block.specs.View.{limitsOf, cachedOf}
-use Rattle.block.specs.TimeCaches.{cachedCache}
-use Rattle.block.proofs.CachesLaws.CacheLaws.{asValue, rows-later}
+use Rattle.block.specs.View.{limits_of, cached_of}
+use Rattle.block.specs.TimeCaches.{cached_cache}
+use Rattle.block.proofs.CachesLaws.CacheLaws.{as_value, rows-later}
 use Rattle.block.proofs.CachesLaws.CachedLaws.{cached-lies, cached-sound, cached-as}
 use Rattle.block.proofs.caches.cached.cached_rows_later.Goals as goal
 
@@ -23,5 +23,5 @@ returns c =
     let h = c.args.h in
     let xs = c.args.block.now in
     c.rows_later.ensures
-    ∙ ap (λ (t : TimeBoundCache). length (laterCache c.args.instant.0 (cacheAt t xs)).expiry) c.cached_cache-c.ensures
-    ∙ rows-later (asValue (cachedOf (table (limitsOf h.limits) 6 xs))) (cacheAt (cachedCache h) xs) (state_of h xs).cache (cached-as h xs c.requires.0.fit) c.args.instant.0
+    ∙ ap (λ (t : TimeBoundCache). length (later_cache c.args.instant.0 (cache_at t xs)).expiry) c.cached_cache-c.ensures
+    ∙ rows-later (as_value (cached_of (table (limits_of h.limits) 6 xs))) (cache_at (cached_cache h) xs) (state_of h xs).cache (cached-as h xs c.requires.0.fit) c.args.instant.0

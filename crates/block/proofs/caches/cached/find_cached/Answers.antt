@@ -4,7 +4,7 @@ use mathlib.Core.List.{List}
 use Prim.Native.Nat.{ℕ}
 use Rattle.storage.specs.Rows.Ident.{id_of}
 use Rattle.storage.specs.Rows.Sorted.{FoundIs}
-use Rattle.time_cache.specs.Tables.{Lies, Sound, named, refsAt, rows_at}
+use Rattle.time_cache.specs.Tables.{Lies, Sound, named, refs_at, rows_at}
 use Rattle.time_cache.specs.declared.cache.TimeBoundCache.{TimeBoundCache}
 use Rattle.block.proofs.CachesLaws.CachedLaws.{cached-lies, cached-sound, cached-keys}
 use Rattle.block.proofs.caches.cached.find_cached.Goals as goal
@@ -20,5 +20,5 @@ returns c =
     let h = c.args.h in
     let xs = c.args.block.now in
     subst (λ (ks : List ℕ). FoundIs ks (id_of c.args.id) c.find.result)
-    (ap (λ (t : TimeBoundCache). named (rows_at t xs) (refsAt t xs)) c.cached_cache-c.ensures ∙ cached-keys h xs c.requires.0.fit)
+    (ap (λ (t : TimeBoundCache). named (rows_at t xs) (refs_at t xs)) c.cached_cache-c.ensures ∙ cached-keys h xs c.requires.0.fit)
     c.find.ensures

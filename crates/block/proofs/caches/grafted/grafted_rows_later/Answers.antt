@@ -1,14 +1,14 @@
 -- `grafted::grafted_rows_later` meets its contract: what is later is read from the bytes as from the view.
 use mathlib.Core.Path.{sym, ap, ◌∙◌, subst}
 use lib.ListN.{length}
-use Rattle.time_cache.specs.TimeCache.{laterCache}
-use Rattle.time_cache.specs.Tables.{Lies, Sound, cacheAt}
+use Rattle.time_cache.specs.TimeCache.{later_cache}
+use Rattle.time_cache.specs.Tables.{Lies, Sound, cache_at}
 use Rattle.time_cache.specs.declared.cache.TimeBoundCache.{TimeBoundCache}
 use Rattle.block.specs.View.{state_of}
-use Rattle.block.specs.View.{graftsOf}
-use Rattle.block.specs.TimeCaches.{graftedCache}
-use Rattle.block.proofs.CachesLaws.CacheLaws.{asValue, rows-later}
-use Rattle.block.proofs.CachesLaws.GraftedLaws.{grafted-lies, grafted-sound, grafted-as, peersOf}
+use Rattle.block.specs.View.{grafts_of}
+use Rattle.block.specs.TimeCaches.{grafted_cache}
+use Rattle.block.proofs.CachesLaws.CacheLaws.{as_value, rows-later}
+use Rattle.block.proofs.CachesLaws.GraftedLaws.{grafted-lies, grafted-sound, grafted-as, peers_of}
 use Rattle.block.proofs.caches.grafted.grafted_rows_later.Goals as goal
 
 pub rows_later-requires : goal.rows_later-requires
@@ -22,5 +22,5 @@ returns c =
     let h = c.args.h in
     let xs = c.args.block.now in
     c.rows_later.ensures
-    ∙ ap (λ (t : TimeBoundCache). length (laterCache c.args.instant.0 (cacheAt t xs)).expiry) c.grafted_cache-c.ensures
-    ∙ rows-later (asValue (graftsOf (peersOf h xs))) (cacheAt (graftedCache h) xs) (state_of h xs).grafted (grafted-as h xs c.requires.0.fit) c.args.instant.0
+    ∙ ap (λ (t : TimeBoundCache). length (later_cache c.args.instant.0 (cache_at t xs)).expiry) c.grafted_cache-c.ensures
+    ∙ rows-later (as_value (grafts_of (peers_of h xs))) (cache_at (grafted_cache h) xs) (state_of h xs).grafted (grafted-as h xs c.requires.0.fit) c.args.instant.0

@@ -2,7 +2,7 @@
 use mathlib.Core.Path.{sym, ap, ◌∙◌, subst}
 use Rattle.storage.specs.Rows.Ident.{id_of}
 use Rattle.time_cache.specs.TimeCache.{holds}
-use Rattle.time_cache.specs.Tables.{Lies, Sound, cacheAt}
+use Rattle.time_cache.specs.Tables.{Lies, Sound, cache_at}
 use Rattle.time_cache.specs.declared.cache.TimeBoundCache.{TimeBoundCache}
 use Rattle.block.proofs.CachesLaws.ReceivedLaws.{received-lies, received-sound, received-holds}
 use Rattle.block.proofs.caches.received.is_received.Goals as goal
@@ -17,5 +17,5 @@ pub returns : goal.returns
 returns c =
     let xs = c.args.block.now in
     c.contains_key.ensures
-    ∙ ap (λ (t : TimeBoundCache). holds (id_of c.args.id) (cacheAt t xs)) c.received_cache-c.ensures
+    ∙ ap (λ (t : TimeBoundCache). holds (id_of c.args.id) (cache_at t xs)) c.received_cache-c.ensures
     ∙ received-holds c.args.h xs c.requires.0.fit (id_of c.args.id)

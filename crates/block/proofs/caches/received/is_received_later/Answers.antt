@@ -1,13 +1,13 @@
 -- `received::is_received_later` meets its contract: what is later is read from the bytes as from the view.
 use mathlib.Core.Path.{sym, ap, ◌∙◌, subst}
 use Rattle.storage.specs.Rows.Ident.{id_of}
-use Rattle.time_cache.specs.TimeCache.{holds, laterCache}
-use Rattle.time_cache.specs.Tables.{Lies, Sound, cacheAt}
+use Rattle.time_cache.specs.TimeCache.{holds, later_cache}
+use Rattle.time_cache.specs.Tables.{Lies, Sound, cache_at}
 use Rattle.time_cache.specs.declared.cache.TimeBoundCache.{TimeBoundCache}
 use Rattle.block.specs.View.{state_of}
-use Rattle.block.specs.View.{nothingOf}
-use Rattle.block.specs.TimeCaches.{receivedCache}
-use Rattle.block.proofs.CachesLaws.CacheLaws.{asValue, holds_later}
+use Rattle.block.specs.View.{nothing_of}
+use Rattle.block.specs.TimeCaches.{received_cache}
+use Rattle.block.proofs.CachesLaws.CacheLaws.{as_value, holds_later}
 use Rattle.block.proofs.CachesLaws.ReceivedLaws.{received-lies, received-sound, received_as}
 use Rattle.block.proofs.caches.received.is_received_later.Goals as goal
 
@@ -22,5 +22,5 @@ returns c =
     let h = c.args.h in
     let xs = c.args.block.now in
     c.contains_later.ensures
-    ∙ ap (λ (t : TimeBoundCache). holds (id_of c.args.id) (laterCache c.args.instant.0 (cacheAt t xs))) c.received_cache-c.ensures
-    ∙ holds_later (asValue nothingOf) (cacheAt (receivedCache h) xs) (state_of h xs).received (received_as h xs c.requires.0.fit) c.args.instant.0 (id_of c.args.id)
+    ∙ ap (λ (t : TimeBoundCache). holds (id_of c.args.id) (later_cache c.args.instant.0 (cache_at t xs))) c.received_cache-c.ensures
+    ∙ holds_later (as_value nothing_of) (cache_at (received_cache h) xs) (state_of h xs).received (received_as h xs c.requires.0.fit) c.args.instant.0 (id_of c.args.id)

@@ -1,13 +1,13 @@
 -- `received::received_rows_later` meets its contract: what is later is read from the bytes as from the view.
 use mathlib.Core.Path.{sym, ap, ◌∙◌, subst}
 use lib.ListN.{length}
-use Rattle.time_cache.specs.TimeCache.{laterCache}
-use Rattle.time_cache.specs.Tables.{Lies, Sound, cacheAt}
+use Rattle.time_cache.specs.TimeCache.{later_cache}
+use Rattle.time_cache.specs.Tables.{Lies, Sound, cache_at}
 use Rattle.time_cache.specs.declared.cache.TimeBoundCache.{TimeBoundCache}
 use Rattle.block.specs.View.{state_of}
-use Rattle.block.specs.View.{nothingOf}
-use Rattle.block.specs.TimeCaches.{receivedCache}
-use Rattle.block.proofs.CachesLaws.CacheLaws.{asValue, rows-later}
+use Rattle.block.specs.View.{nothing_of}
+use Rattle.block.specs.TimeCaches.{received_cache}
+use Rattle.block.proofs.CachesLaws.CacheLaws.{as_value, rows-later}
 use Rattle.block.proofs.CachesLaws.ReceivedLaws.{received-lies, received-sound, received_as}
 use Rattle.block.proofs.caches.received.received_rows_later.Goals as goal
 
@@ -22,5 +22,5 @@ returns c =
     let h = c.args.h in
     let xs = c.args.block.now in
     c.rows_later.ensures
-    ∙ ap (λ (t : TimeBoundCache). length (laterCache c.args.instant.0 (cacheAt t xs)).expiry) c.received_cache-c.ensures
-    ∙ rows-later (asValue nothingOf) (cacheAt (receivedCache h) xs) (state_of h xs).received (received_as h xs c.requires.0.fit) c.args.instant.0
+    ∙ ap (λ (t : TimeBoundCache). length (later_cache c.args.instant.0 (cache_at t xs)).expiry) c.received_cache-c.ensures
+    ∙ rows-later (as_value nothing_of) (cache_at (received_cache h) xs) (state_of h xs).received (received_as h xs c.requires.0.fit) c.args.instant.0

@@ -11,8 +11,8 @@ use lib.ListN.{get_or}
 use Rattle.storage.specs.Rows.Ident.{id_of}
 use Rattle.protocol.specs.State.{State}
 use Rattle.block.specs.View.{state_of}
-use Rattle.payloads.specs.Eager.Targets.{skippedIn}
-use Rattle.payloads.specs.Eager.Scan.{wantsNote}
+use Rattle.payloads.specs.Eager.Targets.{skipped_in}
+use Rattle.payloads.specs.Eager.Scan.{wants_note}
 use Rattle.payloads.proofs.EagerLaws.BackLaws.{SofarBack, back_start, same_count, back-pass, back_full, back-room, back-take, back-empty, back-filled}
 use Rattle.payloads.proofs.EagerLaws.MarkLaws.{to_back, from_back}
 use Rattle.payloads.proofs.eager.back.note_back.Goals as goal
@@ -60,7 +60,7 @@ module _ (d : In-loop-i) where
       to_back s.args.push.sender s.args.push.skip s.args.rooms.now (id_of s.args.id) s.args.round.0 s.args.h s.args.block.now s.requires marks d.wants_note-marks.ensures i d.loop-i.g d.loop-i.block
       (omega (arith, d.loop-i-test.true)) d.loop-i.invariant.2
 
-  wanted : (b : Bool) → ltb (get_or marks i 0) 256 ≡ b → wantsNote s.args.push.sender (skippedIn s.args.push.skip st.grafted) s.args.rooms.now (id_of s.args.id) st i ≡ b
+  wanted : (b : Bool) → ltb (get_or marks i 0) 256 ≡ b → wants_note s.args.push.sender (skipped_in s.args.push.skip st.grafted) s.args.rooms.now (id_of s.args.id) st i ≡ b
   wanted b e = sym (d.wants_note-marks.ensures.each i d.loop-i-test.true) ∙ e
 
 pub push_dropped-g-requires : goal.push_dropped-g-requires

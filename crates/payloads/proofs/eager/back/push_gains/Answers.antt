@@ -7,11 +7,11 @@ use borrow.Author.Rules.{rules}
 use borrow.Author.Tests.{lt-ltb, le-ltb}
 use lib.ListN.{get_or}
 use Rattle.storage.specs.Rows.Ident.{id_of}
-use Rattle.decide.specs.RecordGrowth.{pushGains}
+use Rattle.decide.specs.RecordGrowth.{push_gains}
 use Rattle.block.specs.View.{state_of}
 use Rattle.block.proofs.LinkLaws.{count-links}
 use Rattle.block.proofs.NoteLaws.{count-dropped}
-use Rattle.payloads.specs.Eager.Targets.{skippedIn}
+use Rattle.payloads.specs.Eager.Targets.{skipped_in}
 use Rattle.payloads.proofs.EagerLaws.TargetLaws.{roomed, backs-all}
 use Rattle.payloads.proofs.EagerLaws.MarkLaws.{gain-by, gain-start, gain-more, gain-to}
 use Rattle.payloads.proofs.eager.back.push_gains.Goals as goal
@@ -80,9 +80,9 @@ returns c =
     let a = c.args in
     let l = c.loop-i in
     let st = state_of a.h a.block.now in
-    let sk = skippedIn a.push.skip st.grafted in
+    let sk = skipped_in a.push.skip st.grafted in
     let n = count-links a.h a.block.now in
     l.invariant.2
     ∙ gain-to a.push.sender sk a.rooms.now (id_of a.id) st (roomed a.h a.block.now a.push.skip a.rooms.now c.requires) a.h.live.links c.wants_note-marks.result c.wants_note-marks.ensures
     a.h.live.dropped (count-dropped a.h a.block.now c.requires.grafting.sound) (sym n) l.i l.invariant.0
-    ∙ ap (pushGains (id_of a.id) st.dropped 0) (backs-all a.push.sender sk a.rooms.now st l.i (omega (arith, n, c.loop-i-test.false)))
+    ∙ ap (push_gains (id_of a.id) st.dropped 0) (backs-all a.push.sender sk a.rooms.now st l.i (omega (arith, n, c.loop-i-test.false)))

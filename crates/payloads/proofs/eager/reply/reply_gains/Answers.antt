@@ -4,10 +4,10 @@ use Prim.Native.Nat.{ℕ}
 use native.Mathlib.Omega.{arith}
 use Rattle.storage.specs.Rows.Ident.{id_of}
 use Rattle.block.specs.View.{state_of}
-use Rattle.block.specs.LinkSteps.{peerAt}
-use Rattle.steps.specs.Rooms.{roomsIn}
+use Rattle.block.specs.LinkSteps.{peer_at}
+use Rattle.steps.specs.Rooms.{rooms_in}
 use Rattle.steps.specs.declared.Held.{Held}
-use Rattle.payloads.specs.Eager.Reply.{heldCached, replyGains}
+use Rattle.payloads.specs.Eager.Reply.{held_cached, reply_gains}
 use Rattle.payloads.proofs.EagerLaws.ReplyLaws.{gains-held, gains-back, gains-nothing}
 use Rattle.payloads.proofs.eager.reply.reply_gains.Goals as goal
 use Rattle.payloads.proofs.eager.reply.reply_gains.Goals.{Start}
@@ -15,7 +15,7 @@ use Rattle.payloads.proofs.eager.reply.reply_gains.Goals.{Start}
 abbrev gained : Start → Held → ℕ
 gained s x =
     let st = state_of s.args.h s.args.block.now in
-    replyGains (roomsIn st s.args.rooms.now) (peerAt st s.args.link) (id_of s.args.id) (heldCached x st) st
+    reply_gains (rooms_in st s.args.rooms.now) (peer_at st s.args.link) (id_of s.args.id) (held_cached x st) st
 
 pub is_taken-taken-requires : goal.is_taken-taken-requires
 is_taken-taken-requires c =

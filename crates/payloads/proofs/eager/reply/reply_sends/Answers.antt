@@ -10,18 +10,18 @@ use Rattle.wire.specs.Output.Written.{Tellable, Written}
 use Rattle.wire.proofs.OutputLaws.WrittenLaws.{written_none}
 use Rattle.protocol.specs.State.{State}
 use Rattle.block.specs.View.{state_of}
-use Rattle.block.specs.LinkSteps.{peerAt}
-use Rattle.block.specs.Caches.CachedReads.{cachedAt}
+use Rattle.block.specs.LinkSteps.{peer_at}
+use Rattle.block.specs.Caches.CachedReads.{cached_at}
 use Rattle.steps.specs.Grafts.Reads.{HeldBelow}
 use Rattle.steps.specs.declared.Held.{Held}
-use Rattle.payloads.specs.Eager.Sent.{pushBytes}
-use Rattle.payloads.specs.Eager.Reply.{replyBytes}
+use Rattle.payloads.specs.Eager.Sent.{push_bytes}
+use Rattle.payloads.specs.Eager.Reply.{reply_bytes}
 use Rattle.payloads.proofs.EagerLaws.ReplyLaws.{reply-bytes, reply-no-bytes, content-held}
 use Rattle.payloads.proofs.eager.reply.reply_sends.Goals as goal
 use Rattle.payloads.proofs.eager.reply.reply_sends.Goals.{After-cached_content-c, After-struct_known-1, In-At, Start}
 
 abbrev bytes : Start → Held → List ℕ
-bytes s x = replyBytes s.args.rooms.now s.args.link (id_of s.args.id) x (state_of s.args.h s.args.block.now)
+bytes s x = reply_bytes s.args.rooms.now s.args.link (id_of s.args.id) x (state_of s.args.h s.args.block.now)
 
 there : (c : In-At) → c.in-At.i < c.args.h.live.cached
 there c =
@@ -56,13 +56,13 @@ module _ (d : After-struct_known-1) where
   abbrev st : State
   st = state_of s.args.h s.args.block.now
 
-  content : part from k.cached_content-c.result.len s.args.block.now ≡ (cachedAt st i).content
+  content : part from k.cached_content-c.result.len s.args.block.now ≡ (cached_at st i).content
   content =
       content-held s.args.h s.args.block.now i k.cached_content-c.result from k.cached_content-c.ensures
       (ap (λ (n : ℕ). n + k.cached_content-c.result.start) d.contents_at.ensures)
 
   same : (held : List ℕ) → held ≡ part from k.cached_content-c.result.len s.args.block.now →
-      pushBytes s.args.rooms.now (Gossip (id_of s.args.id) held (Swarm k.cached_round-round.result.0)) (peerAt st s.args.link ∷ []) st ≡ bytes s s.args.held
+      push_bytes s.args.rooms.now (Gossip (id_of s.args.id) held (Swarm k.cached_round-round.result.0)) (peer_at st s.args.link ∷ []) st ≡ bytes s s.args.held
   same held e =
       reply-bytes s.args.rooms.now s.args.link (id_of s.args.id) i st held k.cached_round-round.result.0 (e ∙ content) k.cached_round-round.ensures
       ∙ sym (ap (bytes s) k.in-At.is)

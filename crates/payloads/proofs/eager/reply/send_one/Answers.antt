@@ -9,11 +9,11 @@ use Rattle.storage.specs.Rows.Ident.{id_of}
 use Rattle.postcard.specs.Message.{Message, Gossip, Swarm}
 use Rattle.wire.specs.Output.Written.{Written}
 use Rattle.protocol.specs.State.{State}
-use Rattle.decide.specs.Rooms.{backPeers}
+use Rattle.decide.specs.Rooms.{back_peers}
 use Rattle.block.specs.View.{state_of}
-use Rattle.block.specs.LinkSteps.{peerAt}
-use Rattle.steps.specs.Rooms.{roomsIn}
-use Rattle.payloads.specs.Eager.Sent.{sentBytes}
+use Rattle.block.specs.LinkSteps.{peer_at}
+use Rattle.steps.specs.Rooms.{rooms_in}
+use Rattle.payloads.specs.Eager.Sent.{sent_bytes}
 use Rattle.payloads.proofs.EagerLaws.SendLaws.{push-told, push-timed}
 use Rattle.payloads.proofs.EagerLaws.ReplyLaws.{one_told, one-sent, one-noted}
 use Rattle.payloads.proofs.eager.reply.send_one.Goals as goal
@@ -24,7 +24,7 @@ module _ (s : Start) where
   st = state_of s.args.h s.args.block.now
 
   abbrev ps : List ℕ
-  ps = peerAt st s.args.link ∷ []
+  ps = peer_at st s.args.link ∷ []
 
   abbrev msg : Message
   msg = Gossip (id_of s.args.id) s.args.content.now (Swarm s.args.round.0)
@@ -48,14 +48,14 @@ send_gossip-to-requires c =
     one_told a.rooms.now a.link a.h a.block.now c.requires.replying (msg (goal.at.send_gossip-to-requires c).Start) c.peer_at-peer.result c.peer_at-peer.ensures c.is_taken-taken.result c.is_taken-taken.ensures a.at c.requires.tellable
 
 -- the send
-sent : (w : After-send_gossip-to) → Written (sentBytes w.args.rooms.now (msg (goal.at.After-send_gossip-to w).Start) (ps (goal.at.After-send_gossip-to w).Start) (st (goal.at.After-send_gossip-to w).Start)) w.args.out.now w.args.at w.send_gossip-to.new.out w.send_gossip-to.result
+sent : (w : After-send_gossip-to) → Written (sent_bytes w.args.rooms.now (msg (goal.at.After-send_gossip-to w).Start) (ps (goal.at.After-send_gossip-to w).Start) (st (goal.at.After-send_gossip-to w).Start)) w.args.out.now w.args.at w.send_gossip-to.new.out w.send_gossip-to.result
 sent w =
     let a = w.args in
     one-sent a.rooms.now a.link a.h a.block.now w.requires.replying (msg (goal.at.After-send_gossip-to w).Start) w.peer_at-peer.result w.peer_at-peer.ensures w.is_taken-taken.result w.is_taken-taken.ensures
     a.out.now a.at w.send_gossip-to.new.out w.send_gossip-to.result w.send_gossip-to.ensures
 
 -- whether it was handed back
-noted : (w : After-send_gossip-to) → not w.is_taken-taken.result ≡ not (is_empty (backPeers (roomsIn (st (goal.at.After-send_gossip-to w).Start) w.args.rooms.now) (ps (goal.at.After-send_gossip-to w).Start)))
+noted : (w : After-send_gossip-to) → not w.is_taken-taken.result ≡ not (is_empty (back_peers (rooms_in (st (goal.at.After-send_gossip-to w).Start) w.args.rooms.now) (ps (goal.at.After-send_gossip-to w).Start)))
 noted w =
     let a = w.args in
     one-noted a.rooms.now a.link a.h a.block.now w.requires.replying (msg (goal.at.After-send_gossip-to w).Start) w.peer_at-peer.result w.peer_at-peer.ensures w.is_taken-taken.result w.is_taken-taken.ensures

@@ -10,7 +10,7 @@ use lib.ListN.{length, get_or, length-set}
 use Rattle.storage.specs.Rows.Ident.{id_of}
 use Rattle.protocol.specs.State.{State, Note}
 use Rattle.block.specs.View.{state_of}
-use Rattle.block.specs.LinkSteps.{peerAt}
+use Rattle.block.specs.LinkSteps.{peer_at}
 use Rattle.block.specs.NoteSteps.{note}
 use Rattle.block.proofs.NoteLaws.{count-dropped}
 use Rattle.payloads.proofs.EagerLaws.ScanLaws.{seen_start, seen_end, seen-passed, seen-set, seen_same, seen_one}
@@ -58,8 +58,8 @@ module _ (d : After-dropped_link_at-l) where
   here : i < length st.dropped
   here = omega (arith, count-dropped s.args.h s.args.block.now s.requires.0, d.loop-i-test.true)
 
-  is-for : eqb e.peer (peerAt st x) ≡ true
-  is-for = eq-eqb e.peer (peerAt st x) d.dropped_link_at-l.ensures.peer
+  is-for : eqb e.peer (peer_at st x) ≡ true
+  is-for = eq-eqb e.peer (peer_at st x) d.dropped_link_at-l.ensures.peer
 
 pub offset_bounds-marks-l-then-same : goal.offset_bounds-marks-l-then-same
 offset_bounds-marks-l-then-same c = omega (arith, few (goal.at.offset_bounds-marks-l-then-same c).Start, c.dropped_link_at-l.ensures.below)
@@ -76,7 +76,7 @@ loop-i-preserved-then-same c =
       omega (arith, c.loop-i-test.true),
       length-set l.marks (x (goal.at.loop-i-preserved-then-same c).After-dropped_link_at-l) 256 ∙ l.invariant.1,
       seen-set a.h a.block.now (s (goal.at.loop-i-preserved-then-same c).After-dropped_link_at-l).requires.1 (id_of a.id) a.from l.marks (i (goal.at.loop-i-preserved-then-same c).After-dropped_link_at-l) (x (goal.at.loop-i-preserved-then-same c).After-dropped_link_at-l) (here (goal.at.loop-i-preserved-then-same c).After-dropped_link_at-l) c.dropped_link_at-l.ensures.below c.dropped_link_at-l.ensures.peer l.invariant.2 256
-          (omega (arith, few (s (goal.at.loop-i-preserved-then-same c).After-dropped_link_at-l), c.dropped_link_at-l.ensures.below, l.invariant.1)) (sym (seen_same (peerAt (st (goal.at.loop-i-preserved-then-same c).After-dropped_link_at-l) (x (goal.at.loop-i-preserved-then-same c).After-dropped_link_at-l)) (id_of a.id) (e (goal.at.loop-i-preserved-then-same c).After-dropped_link_at-l) m c.if-m-lt256.true (is-for (goal.at.loop-i-preserved-then-same c).After-dropped_link_at-l) t)),
+          (omega (arith, few (s (goal.at.loop-i-preserved-then-same c).After-dropped_link_at-l), c.dropped_link_at-l.ensures.below, l.invariant.1)) (sym (seen_same (peer_at (st (goal.at.loop-i-preserved-then-same c).After-dropped_link_at-l) (x (goal.at.loop-i-preserved-then-same c).After-dropped_link_at-l)) (id_of a.id) (e (goal.at.loop-i-preserved-then-same c).After-dropped_link_at-l) m c.if-m-lt256.true (is-for (goal.at.loop-i-preserved-then-same c).After-dropped_link_at-l) t)),
     )
 
 pub overflow_add-marks : goal.overflow_add-marks
@@ -97,7 +97,7 @@ loop-i-preserved-else-same c =
       omega (arith, c.loop-i-test.true),
       length-set l.marks (x (goal.at.loop-i-preserved-else-same c).After-dropped_link_at-l) (m + 1) ∙ l.invariant.1,
       seen-set a.h a.block.now (s (goal.at.loop-i-preserved-else-same c).After-dropped_link_at-l).requires.1 (id_of a.id) a.from l.marks (i (goal.at.loop-i-preserved-else-same c).After-dropped_link_at-l) (x (goal.at.loop-i-preserved-else-same c).After-dropped_link_at-l) (here (goal.at.loop-i-preserved-else-same c).After-dropped_link_at-l) c.dropped_link_at-l.ensures.below c.dropped_link_at-l.ensures.peer l.invariant.2 (m + 1)
-          (omega (arith, few (s (goal.at.loop-i-preserved-else-same c).After-dropped_link_at-l), c.dropped_link_at-l.ensures.below, l.invariant.1)) (sym (seen_one (peerAt (st (goal.at.loop-i-preserved-else-same c).After-dropped_link_at-l) (x (goal.at.loop-i-preserved-else-same c).After-dropped_link_at-l)) (id_of a.id) (e (goal.at.loop-i-preserved-else-same c).After-dropped_link_at-l) m c.if-m-lt256.true (is-for (goal.at.loop-i-preserved-else-same c).After-dropped_link_at-l) t)),
+          (omega (arith, few (s (goal.at.loop-i-preserved-else-same c).After-dropped_link_at-l), c.dropped_link_at-l.ensures.below, l.invariant.1)) (sym (seen_one (peer_at (st (goal.at.loop-i-preserved-else-same c).After-dropped_link_at-l) (x (goal.at.loop-i-preserved-else-same c).After-dropped_link_at-l)) (id_of a.id) (e (goal.at.loop-i-preserved-else-same c).After-dropped_link_at-l) m c.if-m-lt256.true (is-for (goal.at.loop-i-preserved-else-same c).After-dropped_link_at-l) t)),
     )
 
 pub loop-i-preserved : goal.loop-i-preserved

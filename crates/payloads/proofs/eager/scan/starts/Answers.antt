@@ -7,7 +7,7 @@ use borrow.Author.Rules.{rules}
 use lib.ListN.{length-set}
 use Rattle.std.specs.Prelude.{if◌then◌else◌}
 use Rattle.block.specs.View.{state_of}
-use Rattle.payloads.specs.Eager.Targets.{skippedIn, handsBack}
+use Rattle.payloads.specs.Eager.Targets.{skipped_in, hands_back}
 use Rattle.payloads.proofs.EagerLaws.ScanLaws.{set_more}
 use Rattle.payloads.proofs.eager.scan.starts.Goals as goal
 use Rattle.payloads.proofs.eager.scan.starts.Goals.{Start}
@@ -15,7 +15,7 @@ use Rattle.payloads.proofs.eager.scan.starts.Goals.{Start}
 abbrev back : Start → ℕ → Bool
 back s l =
     let st = state_of s.args.h s.args.block.now in
-    handsBack s.args.push.sender (skippedIn s.args.push.skip st.grafted) s.args.rooms.now st l
+    hands_back s.args.push.sender (skipped_in s.args.push.skip st.grafted) s.args.rooms.now st l
 
 few : (s : Start) → s.args.h.live.links ≤ 32
 few s =

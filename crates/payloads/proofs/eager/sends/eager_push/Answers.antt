@@ -6,7 +6,7 @@ use Rattle.storage.specs.Rows.Ident.{id_of}
 use Rattle.postcard.specs.Message.{Message, Gossip, Swarm}
 use Rattle.protocol.specs.State.{State}
 use Rattle.block.specs.View.{state_of}
-use Rattle.payloads.specs.Eager.Targets.{targetsOf}
+use Rattle.payloads.specs.Eager.Targets.{targets_of}
 use Rattle.payloads.proofs.EagerLaws.SendLaws.{push-first, push-told, push-timed}
 use Rattle.payloads.proofs.eager.sends.eager_push.Goals as goal
 use Rattle.payloads.proofs.eager.sends.eager_push.Goals.{Start}
@@ -16,7 +16,7 @@ module _ (s : Start) where
   st = state_of s.args.h s.args.block.now
 
   abbrev ts : List ℕ
-  ts = targetsOf s.args.push.sender s.args.push.skip st
+  ts = targets_of s.args.push.sender s.args.push.skip st
 
   abbrev msg : Message
   msg = Gossip (id_of s.args.id) s.args.content.now (Swarm s.args.round.0)

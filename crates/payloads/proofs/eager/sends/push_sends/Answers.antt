@@ -9,13 +9,13 @@ use lib.ListN.{length}
 use Rattle.storage.specs.Lists.Base.{is_empty}
 use Rattle.storage.specs.Rows.Ident.{id_of}
 use Rattle.postcard.specs.Message.{Message, Gossip}
-use Rattle.postcard.specs.Values.{deliveryValue}
+use Rattle.postcard.specs.Values.{delivery_value}
 use Rattle.wire.specs.Output.Written.{Written}
 use Rattle.protocol.specs.State.{State}
 use Rattle.block.specs.View.{state_of}
 use Rattle.block.proofs.LinkLaws.{count-links}
-use Rattle.payloads.specs.Eager.Targets.{skippedIn}
-use Rattle.payloads.specs.Eager.Sent.{sentBytes}
+use Rattle.payloads.specs.Eager.Targets.{skipped_in}
+use Rattle.payloads.specs.Eager.Sent.{sent_bytes}
 use Rattle.payloads.proofs.EagerLaws.TargetLaws.{Roomed, roomed, first-all, backs-all}
 use Rattle.payloads.proofs.EagerLaws.SendLaws.{sends-start, sends-skip, sends-told, sends-taken, sends-back}
 use Rattle.payloads.proofs.eager.sends.push_sends.Goals as goal
@@ -26,10 +26,10 @@ module _ (s : Start) where
   st = state_of s.args.h s.args.block.now
 
   abbrev sk : List ℕ
-  sk = skippedIn s.args.push.skip st.grafted
+  sk = skipped_in s.args.push.skip st.grafted
 
   abbrev msg : Message
-  msg = Gossip (id_of s.args.id) s.args.content.now (deliveryValue s.args.delivery)
+  msg = Gossip (id_of s.args.id) s.args.content.now (delivery_value s.args.delivery)
 
   rooms : Roomed st s.args.rooms.now
   rooms = roomed s.args.h s.args.block.now s.args.push.skip s.args.rooms.now s.requires.pushing
@@ -93,6 +93,6 @@ returns c =
     let l = c.loop-i in
     let e : length (st (goal.at.returns c).Start).links ≤ l.i = omega (arith, count-links c.args.h c.args.block.now, c.loop-i-test.false) in
     record {
-      written = subst (λ (ps : List ℕ). Written (sentBytes c.args.rooms.now (msg (goal.at.returns c).Start) ps (st (goal.at.returns c).Start)) c.args.out.now c.args.at l.out l.to) (first-all c.args.push.sender (sk (goal.at.returns c).Start) (st (goal.at.returns c).Start) l.i e) l.invariant.2.written;
+      written = subst (λ (ps : List ℕ). Written (sent_bytes c.args.rooms.now (msg (goal.at.returns c).Start) ps (st (goal.at.returns c).Start)) c.args.out.now c.args.at l.out l.to) (first-all c.args.push.sender (sk (goal.at.returns c).Start) (st (goal.at.returns c).Start) l.i e) l.invariant.2.written;
       back = l.invariant.2.back ∙ ap (λ (ps : List ℕ). not (is_empty ps)) (backs-all c.args.push.sender (sk (goal.at.returns c).Start) c.args.rooms.now (st (goal.at.returns c).Start) l.i e);
     }

@@ -3,7 +3,7 @@ use mathlib.Core.Path.{refl, sym, ◌∙◌}
 use mathlib.Core.Bool.{true, false}
 use native.Mathlib.Omega.{arith}
 use Rattle.block.specs.View.{state_of}
-use Rattle.payloads.specs.Eager.Targets.{skippedIn}
+use Rattle.payloads.specs.Eager.Targets.{skipped_in}
 use Rattle.payloads.proofs.EagerLaws.TargetLaws.{back_is}
 use Rattle.payloads.proofs.eager.target.hands_back.Goals as goal
 
@@ -19,19 +19,19 @@ pub returns-then-taken : goal.returns-then-taken
 returns-then-taken c =
     let a = c.args in
     let st = state_of a.h a.block.now in
-    sym (back_is a.push.sender (skippedIn a.push.skip st.grafted) st a.i a.rooms.now true true
+    sym (back_is a.push.sender (skipped_in a.push.skip st.grafted) st a.i a.rooms.now true true
     (sym c.is_target-target.ensures ∙ c.if-target.true) (sym c.is_taken-taken.ensures ∙ c.if-taken.true))
 
 pub returns-then-target : goal.returns-then-target
 returns-then-target c =
     let a = c.args in
     let st = state_of a.h a.block.now in
-    sym (back_is a.push.sender (skippedIn a.push.skip st.grafted) st a.i a.rooms.now true false
+    sym (back_is a.push.sender (skipped_in a.push.skip st.grafted) st a.i a.rooms.now true false
     (sym c.is_target-target.ensures ∙ c.if-target.true) (sym c.is_taken-taken.ensures ∙ c.if-taken.false))
 
 pub returns : goal.returns
 returns c =
     let a = c.args in
     let st = state_of a.h a.block.now in
-    sym (back_is a.push.sender (skippedIn a.push.skip st.grafted) st a.i a.rooms.now false _
+    sym (back_is a.push.sender (skipped_in a.push.skip st.grafted) st a.i a.rooms.now false _
     (sym c.is_target-target.ensures ∙ c.if-target.false) refl)

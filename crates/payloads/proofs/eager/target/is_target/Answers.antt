@@ -3,8 +3,8 @@ use mathlib.Core.Path.{refl, sym, ◌∙◌}
 use mathlib.Core.Bool.{true, false}
 use borrow.Author.Tests.{eq-eqb, ne_eqb}
 use Rattle.block.specs.View.{state_of}
-use Rattle.block.specs.LinkSteps.{peerAt}
-use Rattle.payloads.specs.Eager.Targets.{skippedIn}
+use Rattle.block.specs.LinkSteps.{peer_at}
+use Rattle.payloads.specs.Eager.Targets.{skipped_in}
 use Rattle.payloads.proofs.EagerLaws.TargetLaws.{target_is}
 use Rattle.payloads.proofs.eager.target.is_target.Goals as goal
 
@@ -21,9 +21,9 @@ returns-then-peer-h c =
     let a = c.args in
     let st = state_of a.h a.block.now in
     let p = c.peer_at-peer in
-    sym (target_is a.push.sender (skippedIn a.push.skip st.grafted) st a.i true true _ _
+    sym (target_is a.push.sender (skipped_in a.push.skip st.grafted) st a.i true true _ _
     (sym c.eager_at-eager.ensures ∙ c.if-eager.true)
-    (eq-eqb (peerAt st a.i) st.settings.me (sym p.ensures ∙ c.if-peer-h.true)) refl refl)
+    (eq-eqb (peer_at st a.i) st.settings.me (sym p.ensures ∙ c.if-peer-h.true)) refl refl)
 
 pub returns-then-peer-push : goal.returns-then-peer-push
 unfolding state_of
@@ -31,10 +31,10 @@ returns-then-peer-push c =
     let a = c.args in
     let st = state_of a.h a.block.now in
     let p = c.peer_at-peer in
-    sym (target_is a.push.sender (skippedIn a.push.skip st.grafted) st a.i true false true _
+    sym (target_is a.push.sender (skipped_in a.push.skip st.grafted) st a.i true false true _
     (sym c.eager_at-eager.ensures ∙ c.if-eager.true)
-    (ne_eqb (peerAt st a.i) st.settings.me (λ z. c.if-peer-h.false (p.ensures ∙ z)))
-    (eq-eqb (peerAt st a.i) a.push.sender (sym p.ensures ∙ c.if-peer-push.true)) refl)
+    (ne_eqb (peer_at st a.i) st.settings.me (λ z. c.if-peer-h.false (p.ensures ∙ z)))
+    (eq-eqb (peer_at st a.i) a.push.sender (sym p.ensures ∙ c.if-peer-push.true)) refl)
 
 pub is_skipped-skipped-requires : goal.is_skipped-skipped-requires
 is_skipped-skipped-requires c =
@@ -46,10 +46,10 @@ returns-then-skipped c =
     let a = c.args in
     let st = state_of a.h a.block.now in
     let p = c.peer_at-peer in
-    sym (target_is a.push.sender (skippedIn a.push.skip st.grafted) st a.i true false false true
+    sym (target_is a.push.sender (skipped_in a.push.skip st.grafted) st a.i true false false true
     (sym c.eager_at-eager.ensures ∙ c.if-eager.true)
-    (ne_eqb (peerAt st a.i) st.settings.me (λ z. c.if-peer-h.false (p.ensures ∙ z)))
-    (ne_eqb (peerAt st a.i) a.push.sender (λ z. c.if-peer-push.false (p.ensures ∙ z)))
+    (ne_eqb (peer_at st a.i) st.settings.me (λ z. c.if-peer-h.false (p.ensures ∙ z)))
+    (ne_eqb (peer_at st a.i) a.push.sender (λ z. c.if-peer-push.false (p.ensures ∙ z)))
     (sym c.is_skipped-skipped.ensures ∙ c.if-skipped.true))
 
 pub returns-then-eager : goal.returns-then-eager
@@ -58,15 +58,15 @@ returns-then-eager c =
     let a = c.args in
     let st = state_of a.h a.block.now in
     let p = c.peer_at-peer in
-    sym (target_is a.push.sender (skippedIn a.push.skip st.grafted) st a.i true false false false
+    sym (target_is a.push.sender (skipped_in a.push.skip st.grafted) st a.i true false false false
     (sym c.eager_at-eager.ensures ∙ c.if-eager.true)
-    (ne_eqb (peerAt st a.i) st.settings.me (λ z. c.if-peer-h.false (p.ensures ∙ z)))
-    (ne_eqb (peerAt st a.i) a.push.sender (λ z. c.if-peer-push.false (p.ensures ∙ z)))
+    (ne_eqb (peer_at st a.i) st.settings.me (λ z. c.if-peer-h.false (p.ensures ∙ z)))
+    (ne_eqb (peer_at st a.i) a.push.sender (λ z. c.if-peer-push.false (p.ensures ∙ z)))
     (sym c.is_skipped-skipped.ensures ∙ c.if-skipped.false))
 
 pub returns : goal.returns
 returns c =
     let a = c.args in
     let st = state_of a.h a.block.now in
-    sym (target_is a.push.sender (skippedIn a.push.skip st.grafted) st a.i false _ _ _
+    sym (target_is a.push.sender (skipped_in a.push.skip st.grafted) st a.i false _ _ _
     (sym c.eager_at-eager.ensures ∙ c.if-eager.false) refl refl refl)

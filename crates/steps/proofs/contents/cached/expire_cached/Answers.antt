@@ -3,7 +3,7 @@ use mathlib.Core.Path.{sym, ◌∙◌, subst}
 use Rattle.time_cache.specs.Tables.{Lies, Sound}
 use Rattle.time_cache.specs.Steps.{Expires}
 use Rattle.time_cache.specs.declared.cache.TimeBoundCache.{TimeBoundCache}
-use Rattle.block.specs.Heads.{withCachedCounts}
+use Rattle.block.specs.Heads.{with_cached_counts}
 use Rattle.block.proofs.CachesLaws.CachedLaws.{cached-lies, cached-sound}
 use Rattle.steps.proofs.ContentsLaws.Closing.{ExpiredAhead, expired-ahead}
 use Rattle.steps.proofs.contents.cached.expire_cached.Goals as goal
@@ -14,7 +14,7 @@ module _ (d : After-expire_until-e) where
   abbrev s : Start
   s = (goal.at.After-expire_until-e d).Start
 
-  expired : ExpiredAhead s.args.h s.args.block.now s.args.instant.0 (withCachedCounts d.expire_until-e.result.cache.entries.len d.expire_until-e.result.cache.expiry.len s.args.h.live.contents s.args.h) d.expire_until-e.new.block
+  expired : ExpiredAhead s.args.h s.args.block.now s.args.instant.0 (with_cached_counts d.expire_until-e.result.cache.entries.len d.expire_until-e.result.cache.expiry.len s.args.h.live.contents s.args.h) d.expire_until-e.new.block
   expired =
       expired-ahead s.args.h s.args.block.now d.expire_until-e.new.block s.args.instant.0 d.expire_until-e.result s.requires.0 s.requires.1 d.expire_until-e.auto.block
       (subst (λ (t : TimeBoundCache). Expires t s.args.instant.0 s.args.block.now d.expire_until-e.result d.expire_until-e.new.block) d.cached_cache-c.ensures d.expire_until-e.ensures)

@@ -6,7 +6,7 @@ use Rattle.storage.specs.Rows.Ident.{id_of}
 use Rattle.time_cache.specs.Tables.{Room, Sound}
 use Rattle.time_cache.specs.Steps.{Inserts}
 use Rattle.time_cache.specs.declared.cache.TimeBoundCache.{TimeBoundCache}
-use Rattle.block.specs.TimeCaches.{cachedCache}
+use Rattle.block.specs.TimeCaches.{cached_cache}
 use Rattle.block.proofs.CachesLaws.CachedLaws.{cached-room, cached-sound}
 use Rattle.steps.proofs.ContentsLaws.Inserting.{fit-in, row_in, entry_in, next_start, empty-goes}
 use Rattle.steps.proofs.contents.cached.insert_empty.Goals as goal
@@ -17,7 +17,7 @@ module _ (d : After-insert-e) where
   abbrev s : Start
   s = (goal.at.After-insert-e d).Start
 
-  inserts : Inserts (cachedCache s.args.h) (id_of s.args.id) s.args.expires.0 s.args.block.now d.insert-e.result d.insert-e.new.block
+  inserts : Inserts (cached_cache s.args.h) (id_of s.args.id) s.args.expires.0 s.args.block.now d.insert-e.result d.insert-e.new.block
   inserts = subst (λ (z : TimeBoundCache). Inserts z (id_of s.args.id) s.args.expires.0 s.args.block.now d.insert-e.result d.insert-e.new.block) d.cached_cache-c.ensures d.insert-e.ensures
 
   low : d.insert-e.result.row < d.insert-e.result.cache.expiry.len
@@ -33,7 +33,7 @@ pub overflow_add-j : goal.overflow_add-j
 overflow_add-j c =
     let t = s (goal.at.overflow_add-j c).After-insert-e in
     let f = fit-in t.args.h t.args.block.now t.requires.0 (id_of t.args.id) t.args.round.0 t.args.expires.0 c.insert-e.result c.insert-e.new.block c.insert-e.auto.block (inserts (goal.at.overflow_add-j c).After-insert-e) t.requires.2 in
-    omega (arith, low (goal.at.overflow_add-j c).After-insert-e, f.within.cachedRows, t.requires.0.fit.ceilings.C)
+    omega (arith, low (goal.at.overflow_add-j c).After-insert-e, f.within.cached_rows, t.requires.0.fit.ceilings.C)
 
 pub start_of-s-requires : goal.start_of-s-requires
 start_of-s-requires c =

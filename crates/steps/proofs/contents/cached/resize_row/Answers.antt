@@ -5,7 +5,7 @@ use native.Mathlib.Omega.{arith}
 use lib.ListN.{length}
 use Rattle.time_cache.specs.Tables.{row_at}
 use Rattle.steps.specs.Contents.Starts.{start_of}
-use Rattle.steps.specs.Contents.CacheSteps.{cachedRows}
+use Rattle.steps.specs.Contents.CacheSteps.{cached_rows}
 use Rattle.steps.proofs.ContentsLaws.Shifts.{first-row}
 use Rattle.steps.proofs.ContentsLaws.Setting.{row_ends, small, fit-1, above-1, resized}
 use Rattle.steps.proofs.contents.cached.resize_row.Goals as goal
@@ -28,7 +28,7 @@ module _ (d : After-struct_known-1) where
   abbrev e : ℕ
   e = d.contents_at-e.result
 
-  start_is : at ≡ start_of (row_at (cachedRows s.args.h s.args.block.now) s.args.p)
+  start_is : at ≡ start_of (row_at (cached_rows s.args.h s.args.block.now) s.args.p)
   start_is = first-row s.args.h s.args.block.now s.args.p at s.requires.1 d.start_of-a.ensures
 
   ends : at + len ≤ s.args.h.live.contents
@@ -50,7 +50,7 @@ module _ (d : After-struct_known-1) where
   used = s.requires.0.fit.within.contents
 
   few : s.args.p < 1024
-  few = omega (arith, s.requires.1, s.requires.0.fit.within.cachedRows, s.requires.0.fit.ceilings.C)
+  few = omega (arith, s.requires.1, s.requires.0.fit.within.cached_rows, s.requires.0.fit.ceilings.C)
 
 pub overflow_sub-behind : goal.overflow_sub-behind
 overflow_sub-behind c = omega (arith, ends c)
@@ -109,7 +109,7 @@ overflow_add-b-2 c = omega (arith, few (goal.at.overflow_add-b-2 c).After-struct
 
 pub store_le-requires : goal.store_le-requires
 store_le-requires c =
-    omega (arith, (s (goal.at.store_le-requires c).After-struct_known-1).requires.1, (s (goal.at.store_le-requires c).After-struct_known-1).requires.0.fit.within.cachedRows, c.cached_rows_at.ensures, (s (goal.at.store_le-requires c).After-struct_known-1).requires.0.fit.long, c.copy_bytes.auto.out, c.shift_rows.auto.block, c.move_bytes.auto.b)
+    omega (arith, (s (goal.at.store_le-requires c).After-struct_known-1).requires.1, (s (goal.at.store_le-requires c).After-struct_known-1).requires.0.fit.within.cached_rows, c.cached_rows_at.ensures, (s (goal.at.store_le-requires c).After-struct_known-1).requires.0.fit.long, c.copy_bytes.auto.out, c.shift_rows.auto.block, c.move_bytes.auto.b)
 
 pub overflow_sub-all : goal.overflow_sub-all
 overflow_sub-all c = omega (arith, ends (goal.at.overflow_sub-all c).After-struct_known-1)

@@ -7,14 +7,14 @@ use Rattle.storage.specs.Lists.Map.{keys}
 use Rattle.storage.specs.Rows.Ident.{id_of}
 use Rattle.storage.specs.Rows.Sorted.{Here, FoundIs}
 use Rattle.storage.specs.declared.rows.table.Found.{Found}
-use Rattle.time_cache.specs.Tables.{Lies, row_at, refsAt}
+use Rattle.time_cache.specs.Tables.{Lies, row_at, refs_at}
 use Rattle.time_cache.specs.Steps.{ref_at}
 use Rattle.time_cache.specs.declared.cache.TimeBoundCache.{TimeBoundCache}
 use Rattle.block.specs.View.{state_of}
-use Rattle.block.specs.TimeCaches.{cachedCache}
+use Rattle.block.specs.TimeCaches.{cached_cache}
 use Rattle.block.proofs.CachesLaws.CachedLaws.{cached-lies}
 use Rattle.steps.specs.Contents.Starts.{len_of}
-use Rattle.steps.specs.Contents.CacheSteps.{cachedRows, Resized}
+use Rattle.steps.specs.Contents.CacheSteps.{cached_rows, Resized}
 use Rattle.steps.proofs.ContentsLaws.Setting.{entry-low, row_low, set_room, set-goes, refill-none}
 use Rattle.steps.proofs.contents.cached.set_content.Goals as goal
 use Rattle.steps.proofs.contents.cached.set_content.Goals.{After-place-p, In-At, Start}
@@ -35,8 +35,8 @@ module _ (c : After-place-p) where
   abbrev t : Start
   t = s f
 
-  row : c.place-p.result ≡ (ref_at (refsAt (cachedCache t.args.h) t.args.block.now) f.in-At.i).place
-  row = c.place-p.ensures ∙ ap (λ (z : TimeBoundCache). (ref_at (refsAt z t.args.block.now) f.in-At.i).place) c.cached_cache-c.ensures
+  row : c.place-p.result ≡ (ref_at (refs_at (cached_cache t.args.h) t.args.block.now) f.in-At.i).place
+  row = c.place-p.ensures ∙ ap (λ (z : TimeBoundCache). (ref_at (refs_at z t.args.block.now) f.in-At.i).place) c.cached_cache-c.ensures
 
 pub place-p-requires : goal.place-p-requires
 place-p-requires c =
@@ -53,7 +53,7 @@ resize_row-requires c =
     let i = g.in-At.i in (
       q.requires.0,
       omega (arith, row (goal.at.resize_row-requires c).After-place-p, row_low a.h a.block.now a.content.now (id_of a.id) i q.requires.0 q.requires.1 (here g) q.requires.2),
-      subst (λ (p : ℕ). a.h.live.contents + length a.content.now ≤ a.h.limits.content + len_of (row_at (cachedRows a.h a.block.now) p)) (sym (row (goal.at.resize_row-requires c).After-place-p))
+      subst (λ (p : ℕ). a.h.live.contents + length a.content.now ≤ a.h.limits.content + len_of (row_at (cached_rows a.h a.block.now) p)) (sym (row (goal.at.resize_row-requires c).After-place-p))
           (set_room a.h a.block.now a.content.now (id_of a.id) i q.requires.0 q.requires.1 (here g) q.requires.2),
     )
 

@@ -5,7 +5,7 @@ use native.Mathlib.Omega.{arith}
 use lib.ListN.{length, take, drop, length-drop}
 use lib.Seq.{length-take-le}
 use Rattle.block.specs.Layout.{place}
-use Rattle.block.specs.View.{limitsOf}
+use Rattle.block.specs.View.{limits_of}
 use Rattle.steps.specs.Contents.Starts.{Above}
 use Rattle.steps.proofs.ContentsLaws.Shifts.{lent_rows, shifts}
 use Rattle.steps.proofs.contents.cached.shift_rows.Goals as goal
@@ -31,11 +31,11 @@ module _ (c : After-cached_rows_at) where
   count : s.args.j + n ≡ s.args.h.live.cached_rows
   count = omega (arith, s.requires.1)
 
-  at : a ≡ place (limitsOf s.args.h.limits) 5 + 48 * s.args.j
+  at : a ≡ place (limits_of s.args.h.limits) 5 + 48 * s.args.j
   at = omega (arith, c.cached_rows_at.ensures)
 
   room : a + n * 48 ≤ length s.args.block.now
-  room = omega (arith, c.cached_rows_at.ensures, s.requires.0.long, s.requires.0.within.cachedRows, count)
+  room = omega (arith, c.cached_rows_at.ensures, s.requires.0.long, s.requires.0.within.cached_rows, count)
 
   long : length (take k (drop a s.args.block.now)) ≡ k
   long = length-take-le k (drop a s.args.block.now) (omega (arith, room, length-drop a s.args.block.now))

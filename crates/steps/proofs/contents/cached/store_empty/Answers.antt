@@ -5,12 +5,12 @@ use native.Mathlib.Omega.{arith}
 use Rattle.storage.specs.Rows.Part.{put}
 use Rattle.storage.specs.Rows.Digits.{le_bytes}
 use Rattle.block.specs.Layout.{place}
-use Rattle.block.specs.View.{limitsOf}
+use Rattle.block.specs.View.{limits_of}
 use Rattle.steps.proofs.contents.cached.store_empty.Goals as goal
 
 pub returns : goal.returns
 returns c =
-    let l = limitsOf c.args.h.limits in
+    let l = limits_of c.args.h.limits in
     let b : ℕ = c.cached_rows_at.result + c.args.j * 48 in
     let z1 : b + 40 ≡ place l 5 + (c.args.j * 48 + 40) = omega (arith, c.cached_rows_at.ensures) in
     let z2 : b + 44 ≡ place l 5 + (c.args.j * 48 + 44) = omega (arith, c.cached_rows_at.ensures) in

@@ -2,7 +2,7 @@
 use native.Mathlib.Omega.{arith}
 use Rattle.storage.specs.Rows.Ident.{id_of}
 use Rattle.steps.proofs.StandsLaws.{received-order}
-use Rattle.steps.specs.Contents.Taking.{forgottenAt, uncachedAt}
+use Rattle.steps.specs.Contents.Taking.{forgotten_at, uncached_at}
 use Rattle.steps.proofs.ContentsLaws.Takings.{times-fit, order-then, most-then, bytes-then, taken-goes}
 use Rattle.steps.proofs.contents.taking.take_in.Goals as goal
 
@@ -22,8 +22,8 @@ pub insert_cached-requires : goal.insert_cached-requires
 insert_cached-requires c =
     let a = c.args in
     let k = id_of a.id in
-    let t = forgottenAt a.instant.0 a.h in
-    let e = uncachedAt a.instant.0 a.h in (
+    let t = forgotten_at a.instant.0 a.h in
+    let e = uncached_at a.instant.0 a.h in (
       c.insert_received-a.ensures.sound,
       order-then k t a.h c.insert_received-a.result a.block.now c.insert_received-a.new.block c.insert_received-a.ensures c.requires.stands,
       most-then k t a.h c.insert_received-a.result a.block.now c.insert_received-a.new.block c.insert_received-a.ensures a.content.now a.round.0 e c.requires.cached,

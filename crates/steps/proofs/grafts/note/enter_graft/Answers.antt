@@ -8,8 +8,8 @@ use Rattle.time_cache.specs.Tables.{Room, Sound}
 use Rattle.time_cache.specs.Steps.{Inserts}
 use Rattle.time_cache.specs.declared.cache.TimeBoundCache.{TimeBoundCache}
 use Rattle.block.specs.Layout.{place}
-use Rattle.block.specs.View.{limitsOf}
-use Rattle.block.specs.TimeCaches.{graftedCache}
+use Rattle.block.specs.View.{limits_of}
+use Rattle.block.specs.TimeCaches.{grafted_cache}
 use Rattle.block.proofs.CachesLaws.GraftedLaws.{grafted-room, grafted-sound}
 use Rattle.steps.specs.Grafts.NoteSteps.{Enters}
 use Rattle.steps.proofs.GraftsLaws.EntryLaws.{entered}
@@ -18,7 +18,7 @@ use Rattle.steps.proofs.grafts.note.enter_graft.Goals as goal
 use Rattle.steps.proofs.grafts.note.enter_graft.Goals.{After-insert-e}
 
 -- what the insert left
-inserts : (d : After-insert-e) → Inserts (graftedCache d.args.h) (id_of d.args.id) d.args.expires.0 d.args.block.now d.insert-e.result d.insert-e.new.block
+inserts : (d : After-insert-e) → Inserts (grafted_cache d.args.h) (id_of d.args.id) d.args.expires.0 d.args.block.now d.insert-e.result d.insert-e.new.block
 inserts d =
     subst (λ (t : TimeBoundCache). Inserts t (id_of d.args.id) d.args.expires.0 d.args.block.now d.insert-e.result d.insert-e.new.block) d.grafted_cache-c.ensures d.insert-e.ensures
 
@@ -52,7 +52,7 @@ returns c =
     let h = c.args.h in
     let xs = c.args.block.now in
     let e = c.insert-e.result.entry in
-    let at : c.grafted_at.result + 119 * e + 2 ≡ place (limitsOf h.limits) 7 + (e * 119 + (2 + 0)) = omega (arith, c.grafted_at.ensures) in
+    let at : c.grafted_at.result + 119 * e + 2 ≡ place (limits_of h.limits) 7 + (e * 119 + (2 + 0)) = omega (arith, c.grafted_at.ensures) in
     subst (Enters (id_of c.args.id) c.args.expires.0 h xs _)
     (sym (c.store_le.ensures ∙ ap (λ (n : ℕ). put n (le_bytes 21 0) c.insert-e.new.block) at))
     (entered h xs c.insert-e.new.block (id_of c.args.id) c.args.expires.0 c.insert-e.result c.requires.0 c.insert-e.auto.block c.requires.2 (inserts (goal.at.returns c).After-insert-e) _ refl)

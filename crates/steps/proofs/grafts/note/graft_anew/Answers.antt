@@ -7,11 +7,11 @@ use Rattle.storage.specs.Lists.Map.{entry}
 use Rattle.storage.specs.Rows.Ident.{id_of}
 use Rattle.storage.specs.Rows.Part.{part, put}
 use Rattle.time_cache.specs.TimeCache.{put as put_in}
-use Rattle.protocol.specs.State.{withGrafted}
+use Rattle.protocol.specs.State.{with_grafted}
 use Rattle.block.specs.Goes.{Goes}
-use Rattle.block.specs.HopSteps.{pushedHop}
-use Rattle.block.specs.LinkSteps.{peerAt}
-use Rattle.steps.specs.Grafts.NoteSteps.{noGrafts}
+use Rattle.block.specs.HopSteps.{pushed_hop}
+use Rattle.block.specs.LinkSteps.{peer_at}
+use Rattle.steps.specs.Grafts.NoteSteps.{no_grafts}
 use Rattle.steps.proofs.GraftsLaws.EntryLaws.{none_yet, anew-goes}
 use native.Mathlib.Omega.{arith}
 use Rattle.steps.proofs.grafts.note.graft_anew.Goals as goal
@@ -46,6 +46,6 @@ returns c =
     let xs = a.block.now in
     let ys = c.enter_graft-e.new.block in
     let e = ap (λ (n : ℕ). n + 119 * c.enter_graft-e.result.entry + 22) c.grafted_at.ensures in
-    subst (Goes (λ s. withGrafted (put_in (id_of a.id) (record { first = noGrafts.first; kept = noGrafts.kept; peers = entry (peerAt s a.link) a.round.0 ∷ [] }) a.expires.0 s.grafted) s) a.h xs c.enter_graft-e.result.head)
-    (sym (c.push_hop.ensures ∙ (λ k. put (e k) (pushedHop a.link a.round.0 (part (e k) 97 ys)) ys)))
+    subst (Goes (λ s. with_grafted (put_in (id_of a.id) (record { first = no_grafts.first; kept = no_grafts.kept; peers = entry (peer_at s a.link) a.round.0 ∷ [] }) a.expires.0 s.grafted) s) a.h xs c.enter_graft-e.result.head)
+    (sym (c.push_hop.ensures ∙ (λ k. put (e k) (pushed_hop a.link a.round.0 (part (e k) 97 ys)) ys)))
     (anew-goes a.h xs ys (id_of a.id) a.expires.0 a.link a.round.0 c.enter_graft-e.result c.requires.1 c.enter_graft-e.ensures c.requires.2 (omega (arith, c.well_formed)))

@@ -6,16 +6,16 @@ use Rattle.storage.specs.Lists.Map.{keys}
 use Rattle.storage.specs.Rows.Sorted.{Here, Between, FoundIs}
 use Rattle.storage.specs.declared.rows.table.Found.{Found}
 use Rattle.block.specs.View.{state_of}
-use Rattle.block.specs.LinkSteps.{peerAt}
-use Rattle.block.specs.Caches.GraftSteps.{graftsAt}
+use Rattle.block.specs.LinkSteps.{peer_at}
+use Rattle.block.specs.Caches.GraftSteps.{grafts_at}
 use Rattle.steps.proofs.grafts.note.graft_at_entry.Goals as goal
 use Rattle.steps.proofs.grafts.note.graft_at_entry.Goals.{In-At, In-Before, Start}
 
 abbrev peers : Start → List ℕ
-peers s = keys (graftsAt (state_of s.args.h s.args.block.now) s.args.i).peers
+peers s = keys (grafts_at (state_of s.args.h s.args.block.now) s.args.i).peers
 
 abbrev peer : Start → ℕ
-peer s = peerAt (state_of s.args.h s.args.block.now) s.args.link
+peer s = peer_at (state_of s.args.h s.args.block.now) s.args.link
 
 -- where the search found the peer, or would have
 here : (c : In-At) → Here (peers (goal.at.In-At c).Start) (peer (goal.at.In-At c).Start) c.in-At.j

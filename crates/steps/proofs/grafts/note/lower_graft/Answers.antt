@@ -7,18 +7,18 @@ use Rattle.storage.specs.Rows.Part.{put}
 use Rattle.storage.specs.Rows.Digits.{le_bytes}
 use Rattle.block.specs.View.{state_of}
 use Rattle.block.specs.Goes.{Goes}
-use Rattle.block.specs.LinkSteps.{peerAt}
-use Rattle.block.specs.Caches.GraftSteps.{graftsAt}
+use Rattle.block.specs.LinkSteps.{peer_at}
+use Rattle.block.specs.Caches.GraftSteps.{grafts_at}
 use Rattle.block.proofs.CachesLaws.GraftLaws.{graft-many, graft-few}
-use Rattle.steps.specs.Grafts.NoteSteps.{peersTo, peersWith}
+use Rattle.steps.specs.Grafts.NoteSteps.{peers_to, peers_with}
 use Rattle.steps.proofs.GraftsLaws.NoteLaws.{lower-goes, same-goes}
 use native.Mathlib.Omega.{arith}
 use Rattle.steps.proofs.grafts.note.lower_graft.Goals as goal
 use Rattle.steps.proofs.grafts.note.lower_graft.Goals.{Start}
 
 -- the peer is one of the peers, at most 32
-there : (s : Start) → s.args.j < length (graftsAt (state_of s.args.h s.args.block.now) s.args.i).peers
-there s = omega (arith, s.requires.3.within, length-map (graftsAt (state_of s.args.h s.args.block.now) s.args.i).peers (λ (e : Entry ℕ). e.key))
+there : (s : Start) → s.args.j < length (grafts_at (state_of s.args.h s.args.block.now) s.args.i).peers
+there s = omega (arith, s.requires.3.within, length-map (grafts_at (state_of s.args.h s.args.block.now) s.args.i).peers (λ (e : Entry ℕ). e.key))
 
 low : (s : Start) → s.args.j < 32
 low s = omega (arith, there s, graft-many s.args.h s.args.block.now s.requires.0.sound s.args.i s.requires.1, graft-few s.args.h s.args.block.now s.requires.0.sound s.args.i s.requires.1)
@@ -51,6 +51,6 @@ returns c =
     let xs = a.block.now in
     let k = c.graft_at-k in
     let e = ap (λ (n : ℕ). n + 119 * a.i + 22 + 33 + 2 * a.j) c.grafted_at.ensures in
-    subst (Goes (λ s. peersTo a.i (peersWith a.i (peerAt s a.link) a.round.0 s) s) a.h xs a.h)
+    subst (Goes (λ s. peers_to a.i (peers_with a.i (peer_at s a.link) a.round.0 s) s) a.h xs a.h)
     (sym (c.store_le.ensures ∙ ap (λ (n : ℕ). put n (le_bytes 2 a.round.0) xs) e))
     (lower-goes a.h xs c.requires.0 a.i c.requires.1 a.link a.round.0 c.requires.2 (omega (arith, c.well_formed)) a.j c.requires.3 k.result.round.0 (ap (λ (y : Entry ℕ). y.value) k.ensures.same) (omega (arith, c.if-k-round.false)))

@@ -6,10 +6,10 @@ use Rattle.storage.specs.Lists.Map.{Map, Entry, keys}
 use Rattle.time_cache.proofs.Orders.{up_of}
 use Rattle.protocol.specs.State.{State}
 use Rattle.block.specs.View.{state_of}
-use Rattle.block.specs.LinkSteps.{peerAt}
+use Rattle.block.specs.LinkSteps.{peer_at}
 use Rattle.block.proofs.LinkLaws.{count-peers}
 use Rattle.block.proofs.Scans.{scan-more, scan-above, scan-end}
-use Rattle.block.specs.Caches.GraftSteps.{graftsAt}
+use Rattle.block.specs.Caches.GraftSteps.{grafts_at}
 use Rattle.steps.proofs.GraftsLaws.PeerLaws.{peers-up, key-at}
 use native.Mathlib.Omega.{arith}
 use borrow.Author.Rules.{rules}
@@ -32,16 +32,16 @@ module _ (d : After-graft_at-k) where
   st = state_of s.args.h s.args.block.now
 
   abbrev ps : Map ℕ
-  ps = (graftsAt st s.args.i).peers
+  ps = (grafts_at st s.args.i).peers
 
   abbrev p : ℕ
-  p = peerAt st s.args.link
+  p = peer_at st s.args.link
 
   abbrev j : ℕ
   j = d.loop-j.j
 
   abbrev x : ℕ
-  x = peerAt st d.graft_at-k.result.link
+  x = peer_at st d.graft_at-k.result.link
 
   here : j < length ps
   here = omega (arith, d.graft_count-n.ensures.0, d.loop-j-test.true)
@@ -49,12 +49,12 @@ module _ (d : After-graft_at-k) where
   who : x ≡ get_or (keys ps) j 0
   who = sym (key-at s.args.h s.args.block.now s.requires.0 s.args.i s.requires.1 j ∙ ap (λ (e : Entry ℕ). e.key) d.graft_at-k.ensures.same)
 
-  links-above : (a b : ℕ) → a < b → b < s.args.h.live.links → peerAt st a < peerAt st b
-  links-above a b h g = (up_of (keys st.links) s.requires.0.linksUp).up a b h (omega (arith, count-peers s.args.h s.args.block.now))
+  links-above : (a b : ℕ) → a < b → b < s.args.h.live.links → peer_at st a < peer_at st b
+  links-above a b h g = (up_of (keys st.links) s.requires.0.links_up).up a b h (omega (arith, count-peers s.args.h s.args.block.now))
 
 pub returns-then-k-link : goal.returns-then-k-link
 returns-then-k-link c =
-    record { within = omega (arith, here (goal.at.returns-then-k-link c).After-graft_at-k, length-map (ps (goal.at.returns-then-k-link c).After-graft_at-k) (λ (e : Entry ℕ). e.key)); same = sym (who (goal.at.returns-then-k-link c).After-graft_at-k) ∙ ap (peerAt (st (goal.at.returns-then-k-link c).After-graft_at-k)) c.if-k-link.true }
+    record { within = omega (arith, here (goal.at.returns-then-k-link c).After-graft_at-k, length-map (ps (goal.at.returns-then-k-link c).After-graft_at-k) (λ (e : Entry ℕ). e.key)); same = sym (who (goal.at.returns-then-k-link c).After-graft_at-k) ∙ ap (peer_at (st (goal.at.returns-then-k-link c).After-graft_at-k)) c.if-k-link.true }
 
 pub returns-then-link-k : goal.returns-then-link-k
 returns-then-link-k c =
@@ -70,6 +70,6 @@ pub returns : goal.returns
 returns c =
     let l = c.loop-j in
     let st = state_of c.args.h c.args.block.now in
-    let m = (graftsAt st c.args.i).peers in
+    let m = (grafts_at st c.args.i).peers in
     let k = length-map m (λ (e : Entry ℕ). e.key) in
-    scan-end (keys m) (peerAt st c.args.link) l.j (omega (arith, k, c.graft_count-n.ensures.0, l.invariant.0)) (omega (arith, k, c.graft_count-n.ensures.0, c.loop-j-test.false)) l.invariant.1
+    scan-end (keys m) (peer_at st c.args.link) l.j (omega (arith, k, c.graft_count-n.ensures.0, l.invariant.0)) (omega (arith, k, c.graft_count-n.ensures.0, c.loop-j-test.false)) l.invariant.1

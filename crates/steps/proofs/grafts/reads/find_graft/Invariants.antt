@@ -3,12 +3,12 @@ use Prim.Native.Nat.{ℕ, ◌-◌, ◌≤◌, ◌<◌}
 use lib.ListN.{get_or}
 use Rattle.storage.specs.Lists.Map.{keys}
 use Rattle.block.specs.View.{state_of}
-use Rattle.block.specs.LinkSteps.{peerAt}
-use Rattle.block.specs.Caches.GraftSteps.{graftsAt}
+use Rattle.block.specs.LinkSteps.{peer_at}
+use Rattle.block.specs.Caches.GraftSteps.{grafts_at}
 use Rattle.steps.proofs.grafts.reads.find_graft.Given as goal
 
 abbrev pub invariant-loop-j : goal.invariant-loop-j
-invariant-loop-j l = (l.j ≤ l.n) × ((k : ℕ) → k < l.j → get_or (keys (graftsAt (state_of l.h l.block) l.i).peers) k 0 < peerAt (state_of l.h l.block) l.link)
+invariant-loop-j l = (l.j ≤ l.n) × ((k : ℕ) → k < l.j → get_or (keys (grafts_at (state_of l.h l.block) l.i).peers) k 0 < peer_at (state_of l.h l.block) l.link)
 
 abbrev pub decreases-loop-j : goal.decreases-loop-j
 decreases-loop-j l = l.n - l.j

@@ -4,7 +4,7 @@ use mathlib.Core.Option.{some}
 use Prim.Native.Nat.{ℕ, ◌+◌, ◌*◌}
 use lib.ListN.{get_or}
 use Rattle.storage.specs.Rows.Part.{part}
-use Rattle.storage.specs.Rows.Digits.{leNat}
+use Rattle.storage.specs.Rows.Digits.{le_nat}
 use Rattle.block.specs.MissingSteps.{hop}
 use Rattle.steps.proofs.GraftsLaws.ReadLaws.{read_first, flag-none, flag-some}
 use Rattle.steps.proofs.grafts.reads.graft_first.Goals as goal
@@ -15,7 +15,7 @@ returns-then-block-a-eq0 c =
     let xs = c.args.block.now in
     let a = g.result + 119 * c.args.i in
     sym (read_first c.args.h xs c.requires.0 c.args.i c.requires.1 a (ap (λ (b : ℕ). b + 119 * c.args.i) g.ensures)
-    ∙ flag-none (get_or xs (a + 2) 0) (hop (leNat (part (a + 3) 8 xs)) (leNat (part (a + 11) 2 xs))) c.if-block-a-eq0.true)
+    ∙ flag-none (get_or xs (a + 2) 0) (hop (le_nat (part (a + 3) 8 xs)) (le_nat (part (a + 11) 2 xs))) c.if-block-a-eq0.true)
 
 pub returns : goal.returns
 returns c =
@@ -24,4 +24,4 @@ returns c =
     let a = g.result + 119 * c.args.i in
     (λ k. some (hop (c.load-peer.ensures k) (c.load2-round.ensures.0 k)))
     ∙ sym (read_first c.args.h xs c.requires.0 c.args.i c.requires.1 a (ap (λ (b : ℕ). b + 119 * c.args.i) g.ensures)
-    ∙ flag-some (get_or xs (a + 2) 0) (hop (leNat (part (a + 3) 8 xs)) (leNat (part (a + 11) 2 xs))) c.if-block-a-eq0.false)
+    ∙ flag-some (get_or xs (a + 2) 0) (hop (le_nat (part (a + 3) 8 xs)) (le_nat (part (a + 11) 2 xs))) c.if-block-a-eq0.false)

@@ -10,7 +10,7 @@ use Rattle.storage.specs.Lists.Base.{any}
 use Rattle.storage.specs.Lists.Map.{Map, Entry, entry}
 use Rattle.block.specs.View.{state_of}
 use Rattle.block.proofs.Scans.{any_found, any-drop}
-use Rattle.block.specs.Caches.GraftSteps.{graftsAt}
+use Rattle.block.specs.Caches.GraftSteps.{grafts_at}
 use native.Mathlib.Omega.{arith}
 use borrow.Author.Rules.{rules}
 use Rattle.steps.proofs.grafts.reads.grafted_within.Goals as goal
@@ -30,7 +30,7 @@ module _ (d : After-graft_at-k) where
   s = (goal.at.After-graft_at-k d).Start
 
   abbrev ps : Map ℕ
-  ps = (graftsAt (state_of s.args.h s.args.block.now) s.args.i).peers
+  ps = (grafts_at (state_of s.args.h s.args.block.now) s.args.i).peers
 
   abbrev j : ℕ
   j = d.loop-j.j
@@ -55,6 +55,6 @@ loop-j-preserved c =
 pub returns : goal.returns
 returns c =
     let l = c.loop-j in
-    let m = (graftsAt (state_of c.args.h c.args.block.now) c.args.i).peers in
+    let m = (grafts_at (state_of c.args.h c.args.block.now) c.args.i).peers in
     let all : take l.j m ≡ m = take_all l.j m (omega (arith, c.graft_count-n.ensures.0, c.loop-j-test.false)) in
     sym (sym (ap (any (λ (e : Entry ℕ). leb e.value c.args.round.0)) all) ∙ l.invariant.1)

@@ -6,11 +6,11 @@ use lib.Dec.{leb}
 use lib.ListN.{take}
 use Rattle.storage.specs.Lists.Base.{any}
 use Rattle.block.specs.View.{state_of}
-use Rattle.block.specs.Caches.GraftSteps.{graftsAt}
+use Rattle.block.specs.Caches.GraftSteps.{grafts_at}
 use Rattle.steps.proofs.grafts.reads.grafted_within.Given as goal
 
 abbrev pub invariant-loop-j : goal.invariant-loop-j
-invariant-loop-j l = (l.j ≤ l.n) × (any (λ e. leb e.value l.round.0) (take l.j (graftsAt (state_of l.h l.block) l.i).peers) ≡ false)
+invariant-loop-j l = (l.j ≤ l.n) × (any (λ e. leb e.value l.round.0) (take l.j (grafts_at (state_of l.h l.block) l.i).peers) ≡ false)
 
 abbrev pub decreases-loop-j : goal.decreases-loop-j
 decreases-loop-j l = l.n - l.j

@@ -4,8 +4,8 @@ use mathlib.Core.List.{List, ◌++◌}
 use Prim.Native.Nat.{ℕ, ◌-◌}
 use lib.ListN.{length, take, drop, set, length-drop}
 use lib.Seq.{take_all}
-use Rattle.steps.specs.Neighbours.Lowered.{listed_of, lowerListed}
-use Rattle.storage.specs.Refs.Numbers.{lowerAll, entries}
+use Rattle.steps.specs.Neighbours.Lowered.{listed_of, lower_listed}
+use Rattle.storage.specs.Refs.Numbers.{lower_all, entries}
 use Rattle.steps.proofs.NeighboursLaws.LoweredRows.{list-after, list-lowered}
 use native.Mathlib.Omega.{arith}
 use Rattle.steps.proofs.neighbours.lower.drop_in_list.Goals as goal
@@ -20,7 +20,7 @@ returns c =
     let k : length list - 1 ≡ 96 = omega (arith, c.requires.0) in
     let w : take (length list - 1) (drop 1 list) ≡ drop 1 list = take_all (length list - 1) (drop 1 list) (omega (arith, length-drop 1 list)) in
     let lz : length zs ≡ 96 = c.drop_number-r.auto.b ∙ ap length w ∙ length-drop 1 list ∙ k in
-    subst (λ (xs : List ℕ). listed_of 0 xs ≡ lowerListed i (listed_of 0 list))
+    subst (λ (xs : List ℕ). listed_of 0 xs ≡ lower_listed i (listed_of 0 list))
     (sym (ap (λ (m : ℕ). set (take 1 list ++ (zs ++ drop m (drop 1 list))) 0 r) k ∙ list-after r list zs c.requires.0 lz))
     (list-lowered i n.result r list zs c.requires.0 n.ensures.0 (omega (arith, n.ensures.0, c.requires.1)) c.drop_number-r.ensures.0 lz
-    (c.drop_number-r.ensures.1 ∙ ap (λ (b : List ℕ). lowerAll i (entries 32 2 n.result b)) w))
+    (c.drop_number-r.ensures.1 ∙ ap (λ (b : List ℕ). lower_all i (entries 32 2 n.result b)) w))

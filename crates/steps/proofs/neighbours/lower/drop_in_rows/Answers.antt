@@ -7,8 +7,8 @@ use Rattle.storage.specs.Rows.Part.{part, put}
 use Rattle.storage.proofs.RowsLaws.Parts.{length_part, length-put, part-between, loan-put, get_d_part}
 use Rattle.storage.proofs.RowsLaws.Rows.{row-end}
 use Rattle.storage.proofs.RefsLaws.Shifts.{done, done-start, done_all}
-use Rattle.steps.specs.Neighbours.Lowered.{listed_of, listed, lowerListed}
-use Rattle.steps.proofs.NeighboursLaws.LoweredRows.{noListed, count-was, rows_more, length-listed}
+use Rattle.steps.specs.Neighbours.Lowered.{listed_of, listed, lower_listed}
+use Rattle.steps.proofs.NeighboursLaws.LoweredRows.{no_listed, count-was, rows_more, length-listed}
 use native.Mathlib.Omega.{arith}
 use borrow.Author.Rules.{rules}
 use Rattle.steps.proofs.neighbours.lower.drop_in_rows.Goals as goal
@@ -23,7 +23,7 @@ room c =
 pub loop-k-init : goal.loop-k-init
 loop-k-init c =
     let a = c.args in
-    (search rules, done-start (lowerListed a.i) noListed (listed a.o a.stride a.n a.b.now), refl)
+    (search rules, done-start (lower_listed a.i) no_listed (listed a.o a.stride a.n a.b.now), refl)
 
 pub overflow_mul-at : goal.overflow_mul-at
 overflow_mul-at c = omega (arith, room c)
@@ -80,7 +80,7 @@ loop-k-preserved c =
       search rules,
       ap (listed a.o a.stride a.n) w
           ∙ rows_more a.i a.o a.stride a.n a.b.now (b (goal.at.loop-k-preserved c).In-loop-k) l.k (s (goal.at.loop-k-preserved c).In-loop-k).requires.0 c.loop-k-test.true (s (goal.at.loop-k-preserved c).In-loop-k).requires.1 l.invariant.2 l.invariant.1 list ll
-          (c.drop_in_list.ensures ∙ ap (λ (t : List ℕ). lowerListed a.i (listed_of 0 t)) (lent (goal.at.loop-k-preserved c).In-loop-k)),
+          (c.drop_in_list.ensures ∙ ap (λ (t : List ℕ). lower_listed a.i (listed_of 0 t)) (lent (goal.at.loop-k-preserved c).In-loop-k)),
       ap length w ∙ length-put (at (goal.at.loop-k-preserved c).In-loop-k) list (b (goal.at.loop-k-preserved c).In-loop-k) (omega (arith, room (goal.at.loop-k-preserved c).In-loop-k, (s (goal.at.loop-k-preserved c).In-loop-k).requires.0)) ∙ l.invariant.2,
     )
 
@@ -89,6 +89,6 @@ returns c =
     let l = c.loop-k in
     let a = c.args in
     let rs = listed a.o a.stride a.n a.b.now in
-    let f = lowerListed a.i in
+    let f = lower_listed a.i in
     let e : l.k ≡ a.n = omega (arith, c.loop-k-test.false) in
-    l.invariant.1 ∙ ap (λ (k : ℕ). done f noListed rs k) e ∙ done_all f noListed rs a.n (length-listed a.o a.stride a.n a.b.now)
+    l.invariant.1 ∙ ap (λ (k : ℕ). done f no_listed rs k) e ∙ done_all f no_listed rs a.n (length-listed a.o a.stride a.n a.b.now)

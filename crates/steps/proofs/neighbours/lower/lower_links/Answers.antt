@@ -5,10 +5,10 @@ use Prim.Native.Nat.{ℕ, ◌-◌}
 use lib.ListN.{length}
 use Rattle.storage.specs.Rows.Part.{part}
 use Rattle.block.specs.Layout.{place, end}
-use Rattle.block.specs.View.{limitsOf}
+use Rattle.block.specs.View.{limits_of}
 use Rattle.block.specs.declared.head.Head.{Head}
 use Rattle.steps.specs.Neighbours.Lowered.{AllFew, NotesIn, LoweredIn, MissedIn, LoweredLinks}
-use Rattle.steps.proofs.NeighboursLaws.LowerSteps.{long2, third-asks, long3, fourth-asks, leftHead, all-steps}
+use Rattle.steps.proofs.NeighboursLaws.LowerSteps.{long2, third-asks, long3, fourth-asks, left_head, all-steps}
 use native.Mathlib.Omega.{arith}
 use Rattle.steps.proofs.neighbours.lower.lower_links.Goals as goal
 use Rattle.steps.proofs.neighbours.lower.lower_links.Goals.{After-timers_at-timers, Start}
@@ -27,55 +27,55 @@ module _ (d : After-timers_at-timers) where
   abbrev a10 : ℕ
   a10 = d.timers_at-timers.result
 
-  e10 : a10 ≡ place (limitsOf h.limits) 10
+  e10 : a10 ≡ place (limits_of h.limits) 10
   e10 = d.timers_at-timers.ensures
 
   abbrev a9 : ℕ
   a9 = d.missing_at-missing.result
 
-  e9 : a9 ≡ place (limitsOf h.limits) 9
+  e9 : a9 ≡ place (limits_of h.limits) 9
   e9 = d.missing_at-missing.ensures
 
   abbrev a8 : ℕ
   a8 = d.grafted_rows_at-grafted_rows.result
 
-  e8 : a8 ≡ place (limitsOf h.limits) 8
+  e8 : a8 ≡ place (limits_of h.limits) 8
   e8 = d.grafted_rows_at-grafted_rows.ensures
 
   abbrev a7 : ℕ
   a7 = d.grafted_at-grafted.result
 
-  e7 : a7 ≡ place (limitsOf h.limits) 7
+  e7 : a7 ≡ place (limits_of h.limits) 7
   e7 = d.grafted_at-grafted.ensures
 
   abbrev ae : ℕ
   ae = d.end_at-end.result
 
-  ee : ae ≡ end (limitsOf h.limits)
+  ee : ae ≡ end (limits_of h.limits)
   ee = d.end_at-end.ensures
 
   abbrev a14 : ℕ
   a14 = d.dropped_rows_at-dropped_rows.result
 
-  e14 : a14 ≡ place (limitsOf h.limits) 14
+  e14 : a14 ≡ place (limits_of h.limits) 14
   e14 = d.dropped_rows_at-dropped_rows.ensures
 
   abbrev a13 : ℕ
   a13 = d.dropped_at-dropped.result
 
-  e13 : a13 ≡ place (limitsOf h.limits) 13
+  e13 : a13 ≡ place (limits_of h.limits) 13
   e13 = d.dropped_at-dropped.ensures
 
   abbrev a12 : ℕ
   a12 = d.queue_rows_at-queue_rows.result
 
-  e12 : a12 ≡ place (limitsOf h.limits) 12
+  e12 : a12 ≡ place (limits_of h.limits) 12
   e12 = d.queue_rows_at-queue_rows.ensures
 
   abbrev a11 : ℕ
   a11 = d.queue_at-queue.result
 
-  e11 : a11 ≡ place (limitsOf h.limits) 11
+  e11 : a11 ≡ place (limits_of h.limits) 11
   e11 = d.queue_at-queue.ensures
 
   module _ (y1 : List ℕ) (q : ℕ) (w1 : NotesIn s.args.i a11 (a13 - a11) (a12 - a11) h.live.queued xs y1 q) (y2 : List ℕ) (m : ℕ)
@@ -93,7 +93,7 @@ module _ (d : After-timers_at-timers) where
       asks4 : AllFew 32 129 h.live.missing (part a9 (a10 - a9) y3)
       asks4 = fourth-asks h xs s.requires.0 s.requires.1 s.args.i s.requires.2 a11 a12 a13 a14 ae a7 a8 a9 a10 e11 e12 e13 e14 ee e7 e8 e9 e10 y1 q w1 y2 m w2 y3 w3
 
-      done4 : (y4 : List ℕ) (r : ℕ) → MissedIn s.args.i a9 (a10 - a9) h.live.missing y3 y4 r → LoweredLinks s.args.i h xs (leftHead h xs s.requires.0 s.requires.1 s.args.i s.requires.2 q m r) y4
+      done4 : (y4 : List ℕ) (r : ℕ) → MissedIn s.args.i a9 (a10 - a9) h.live.missing y3 y4 r → LoweredLinks s.args.i h xs (left_head h xs s.requires.0 s.requires.1 s.args.i s.requires.2 q m r) y4
       done4 y4 r w4 = all-steps h xs s.requires.0 s.requires.1 s.args.i s.requires.2 a11 a12 a13 a14 ae a7 a8 a9 a10 e11 e12 e13 e14 ee e7 e8 e9 e10 y1 q w1 y2 m w2 y3 w3 y4 r w4
 
 pub drop_notes-q-requires : goal.drop_notes-q-requires

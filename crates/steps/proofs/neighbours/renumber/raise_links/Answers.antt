@@ -6,7 +6,7 @@ use lib.ListN.{length}
 use Rattle.storage.specs.Rows.Part.{part}
 use Rattle.storage.specs.Refs.Refs.{Below}
 use Rattle.block.specs.Layout.{place}
-use Rattle.block.specs.View.{limitsOf}
+use Rattle.block.specs.View.{limits_of}
 use Rattle.block.specs.Sound.{AllNumbered}
 use Rattle.block.specs.declared.head.Head.{Head}
 use Rattle.steps.specs.Neighbours.Raised.{RaisedIn, RaisedLinks}
@@ -45,22 +45,22 @@ module _ (d : After-timers_at-timers) where
   abbrev a10 : ℕ
   a10 = d.timers_at-timers.result
 
-  e11 : a11 ≡ place (limitsOf h.limits) 11
+  e11 : a11 ≡ place (limits_of h.limits) 11
   e11 = d.queue_at-queue.ensures
 
-  e13 : a13 ≡ place (limitsOf h.limits) 13
+  e13 : a13 ≡ place (limits_of h.limits) 13
   e13 = d.dropped_at-dropped.ensures
 
-  e7 : a7 ≡ place (limitsOf h.limits) 7
+  e7 : a7 ≡ place (limits_of h.limits) 7
   e7 = d.grafted_at-grafted.ensures
 
-  e8 : a8 ≡ place (limitsOf h.limits) 8
+  e8 : a8 ≡ place (limits_of h.limits) 8
   e8 = d.grafted_rows_at-grafted_rows.ensures
 
-  e9 : a9 ≡ place (limitsOf h.limits) 9
+  e9 : a9 ≡ place (limits_of h.limits) 9
   e9 = d.missing_at-missing.ensures
 
-  e10 : a10 ≡ place (limitsOf h.limits) 10
+  e10 : a10 ≡ place (limits_of h.limits) 10
   e10 = d.timers_at-timers.ensures
 
   asks1 : Below 255 (part a11 h.live.queued xs)

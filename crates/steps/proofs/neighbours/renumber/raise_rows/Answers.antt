@@ -9,7 +9,7 @@ use Rattle.storage.proofs.RowsLaws.Rows.{length-rows, row-end}
 use Rattle.storage.specs.Refs.Refs.{Below}
 use Rattle.storage.proofs.RefsLaws.Shifts.{done, done-start, done_all}
 use Rattle.block.specs.View.{byte_at}
-use Rattle.steps.specs.Neighbours.Raised.{raisedRow}
+use Rattle.steps.specs.Neighbours.Raised.{raised_row}
 use Rattle.steps.proofs.NeighboursLaws.RaisedRows.{few-in, below_in, count-was, numbers-were, rows_more}
 use native.Mathlib.Omega.{arith}
 use borrow.Author.Rules.{rules}
@@ -42,7 +42,7 @@ module _ (c : In-loop-k) where
       count-was s.args.i s.args.o s.args.stride s.args.n s.args.b.now l.b l.k s.requires.0 c.loop-k-test.true s.requires.1 l.invariant.2 l.invariant.1
 
 pub loop-k-init : goal.loop-k-init
-loop-k-init c = (search rules, done-start (raisedRow c.args.i c.args.o) [] (rows c.args.stride c.args.n c.args.b.now), refl)
+loop-k-init c = (search rules, done-start (raised_row c.args.i c.args.o) [] (rows c.args.stride c.args.n c.args.b.now), refl)
 
 pub overflow_mul-at : goal.overflow_mul-at
 overflow_mul-at c = omega (arith, room c)
@@ -80,6 +80,6 @@ pub returns : goal.returns
 returns c =
     let l = c.loop-k in
     let rs = rows c.args.stride c.args.n c.args.b.now in
-    let f = raisedRow c.args.i c.args.o in
+    let f = raised_row c.args.i c.args.o in
     let e : l.k ≡ c.args.n = omega (arith, c.loop-k-test.false) in
     l.invariant.1 ∙ ap (λ (k : ℕ). done f [] rs k) e ∙ done_all f [] rs c.args.n (length-rows c.args.stride c.args.n c.args.b.now)

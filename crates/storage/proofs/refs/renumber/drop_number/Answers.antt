@@ -6,7 +6,7 @@ use lib.ListN.{set, length-set}
 use Rattle.storage.proofs.RowsLaws.Rows.{mul-up, row-end}
 use Rattle.storage.specs.Refs.Refs.{ref}
 use Rattle.storage.proofs.RowsLaws.Kept.{Going, going_start, going_done}
-use Rattle.storage.specs.Refs.Numbers.{stays, lower, lowerAll, entries}
+use Rattle.storage.specs.Refs.Numbers.{stays, lower, lower_all, entries}
 use Rattle.storage.proofs.RefsLaws.Entries.{entries-long, entries-first, turn-drop, turn-keep}
 use native.Mathlib.Omega.{arith}
 use Rattle.storage.proofs.refs.renumber.drop_number.Goals as goal
@@ -77,7 +77,7 @@ pub shape_of-b : goal.shape_of-b
 shape_of-b c = c.loop-j.invariant.1
 
 pub returns : goal.returns
-unfolding lowerAll
+unfolding lower_all
 returns c =
     let l = c.loop-j in
     let a = c.args in

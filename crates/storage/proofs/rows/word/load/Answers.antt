@@ -1,5 +1,5 @@
--- `load`: the two halves, by `leNat-part`.
-use Rattle.storage.proofs.RowsLaws.Turns.{leNat-part}
+-- `load`: the two halves, by `le_nat-part`.
+use Rattle.storage.proofs.RowsLaws.Turns.{le_nat-part}
 use native.Mathlib.Omega.{arith}
 use Rattle.storage.proofs.rows.word.load.Goals as goal
 
@@ -11,4 +11,4 @@ overflow_add-result c = record { fits = omega (arith, c.load4.ensures, c.load4-2
 
 pub returns : goal.returns
 returns c =
-    omega (arith, leNat-part c.args.at 4 4 c.args.b.now (omega arith), c.load4.ensures, c.load4-2.ensures)
+    omega (arith, le_nat-part c.args.at 4 4 c.args.b.now (omega arith), c.load4.ensures, c.load4-2.ensures)

@@ -1,5 +1,5 @@
--- `load4`: the two halves, by `leNat-part`.
-use Rattle.storage.proofs.RowsLaws.Turns.{leNat-part}
+-- `load4`: the two halves, by `le_nat-part`.
+use Rattle.storage.proofs.RowsLaws.Turns.{le_nat-part}
 use native.Mathlib.Omega.{arith}
 use Rattle.storage.proofs.rows.word.load4.Goals as goal
 
@@ -11,4 +11,4 @@ overflow_add-result c = record { fits = omega (arith, c.load2.ensures, c.load2-2
 
 pub returns : goal.returns
 returns c =
-    (omega (arith, leNat-part c.args.at 2 2 c.args.b.now (omega arith), c.load2.ensures, c.load2-2.ensures), omega (arith, c.load2.ensures, c.load2-2.ensures))
+    (omega (arith, le_nat-part c.args.at 2 2 c.args.b.now (omega arith), c.load2.ensures, c.load2-2.ensures), omega (arith, c.load2.ensures, c.load2-2.ensures))

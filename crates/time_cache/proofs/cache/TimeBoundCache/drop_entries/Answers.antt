@@ -22,7 +22,7 @@ lent s =
 
 pub drop_places-requires : goal.drop_places-requires
 unfolding part
-drop_places-requires c = (c.requires.entryWide, omega (arith, (lent (goal.at.drop_places-requires c).Start).1))
+drop_places-requires c = (c.requires.entry_wide, omega (arith, (lent (goal.at.drop_places-requires c).Start).1))
 
 pub returns : goal.returns
 unfolding part

@@ -10,7 +10,7 @@ use Rattle.storage.specs.Rows.Sorted.{FoundIs, Between}
 use Rattle.storage.specs.declared.rows.table.Found.{Found}
 use Rattle.storage.proofs.RowsLaws.Rows.{mul-up}
 use Rattle.storage.specs.Refs.Refs.{Ref, ref, places, Below}
-use Rattle.time_cache.specs.Tables.{expiryOf, named, cacheOf, refsAt, rows_at, row_at, resized, Lies}
+use Rattle.time_cache.specs.Tables.{expiry_of, named, cache_of, refs_at, rows_at, row_at, resized, Lies}
 use Rattle.time_cache.specs.Steps.{ref_at, Inserts, Places}
 use Rattle.time_cache.specs.declared.cache.TimeBoundCache.{TimeBoundCache}
 use Rattle.time_cache.proofs.ReadLaws.{length-es, length-rs, found_within}
@@ -22,9 +22,9 @@ use Rattle.time_cache.proofs.cache.TimeBoundCache.insert.Goals.{After-due-i, Aft
 
 -- the place of the new row is among the rows
 low : (d : After-due-i) → d.due-i.result ≤ d.args.self.expiry.len
-unfolding cacheOf
+unfolding cache_of
 low d =
-    omega (arith, d.due-i.ensures.within, length-map (rows_at d.args.self d.args.block.now) expiryOf, length-rs d.args.self d.args.block.now)
+    omega (arith, d.due-i.ensures.within, length-map (rows_at d.args.self d.args.block.now) expiry_of, length-rs d.args.self d.args.block.now)
 
 -- after the places moved: the lengths, and the tables
 same : (d : After-move_places) → length d.move_places.new.block ≡ length d.args.block.now
@@ -34,15 +34,15 @@ here : (d : After-move_places) → Lies d.args.self d.move_places.new.block
 here d = lies-kept d.args.self d.args.block.now d.move_places.new.block (same d) (room-lies d.args.self d.args.block.now d.requires.0)
 
 -- what was found
-what : (d : After-move_places) (f : Found) → d.find-f.result ≡ f → FoundIs (named (rows_at d.args.self d.args.block.now) (refsAt d.args.self d.args.block.now)) (id_of d.args.key) f
+what : (d : After-move_places) (f : Found) → d.find-f.result ≡ f → FoundIs (named (rows_at d.args.self d.args.block.now) (refs_at d.args.self d.args.block.now)) (id_of d.args.key) f
 what d f e =
-    subst (λ (g : Found). FoundIs (named (rows_at d.args.self d.args.block.now) (refsAt d.args.self d.args.block.now)) (id_of d.args.key) g) e d.find-f.ensures
+    subst (λ (g : Found). FoundIs (named (rows_at d.args.self d.args.block.now) (refs_at d.args.self d.args.block.now)) (id_of d.args.key) g) e d.find-f.ensures
 
 -- a key that is not there goes before one of the entries, or behind all
-within : (d : After-move_places) (j : ℕ) → Between (named (rows_at d.args.self d.args.block.now) (refsAt d.args.self d.args.block.now)) (id_of d.args.key) j → j ≤ d.args.self.entries.len
+within : (d : After-move_places) (j : ℕ) → Between (named (rows_at d.args.self d.args.block.now) (refs_at d.args.self d.args.block.now)) (id_of d.args.key) j → j ≤ d.args.self.entries.len
 unfolding named
 within d j b =
-    omega (arith, b.within, length-map (refsAt d.args.self d.args.block.now) (λ (r : Ref). (row_at (rows_at d.args.self d.args.block.now) r.place).key), length-es d.args.self d.args.block.now)
+    omega (arith, b.within, length-map (refs_at d.args.self d.args.block.now) (λ (r : Ref). (row_at (rows_at d.args.self d.args.block.now) r.place).key), length-es d.args.self d.args.block.now)
 
 pub find-f-requires : goal.find-f-requires
 find-f-requires c = (room-lies c.args.self c.args.block.now c.requires.0, c.requires.1)
@@ -79,7 +79,7 @@ open_entry-requires c =
 pub overflow_add-n : goal.overflow_add-n
 overflow_add-n c =
     let k = c.args.self.entries in
-    omega (arith, c.requires.0.apart, c.requires.0.within, mul_comm (k.len + 1) k.stride, mul-up (k.len + 1) 1 k.stride (omega (arith, c.requires.0.entryWide)), one-mul (k.len + 1))
+    omega (arith, c.requires.0.apart, c.requires.0.within, mul_comm (k.len + 1) k.stride, mul-up (k.len + 1) 1 k.stride (omega (arith, c.requires.0.entry_wide)), one-mul (k.len + 1))
 
 pub store_place-requires-in-Before : goal.store_place-requires-in-Before
 store_place-requires-in-Before c =
@@ -118,4 +118,4 @@ returns-in-Before c =
     (inserts-between k (id_of c.args.key) c.args.expires.0 i c.args.block.now c.open_row.new.block c.move_places.new.block c.requires.0 c.requires.1 c.due-i.ensures
     c.open_row.ensures c.open_row.auto.block c.move_places.ensures c.move_places.auto.block j vs ws c.open_entry.auto.block c.store_place-in-Before.auto.block
     (what (goal.at.returns-in-Before c).After-move_places _ c.in-Before.is) c.open_entry.ensures
-    (subst (λ (r : TimeBoundCache). Places r (put j (ref i (ref_at (refsAt r vs) j).own ∷ []) (refsAt r vs)) (r.entries.len * r.entries.stride) vs ws) e c.store_place-in-Before.ensures))
+    (subst (λ (r : TimeBoundCache). Places r (put j (ref i (ref_at (refs_at r vs) j).own ∷ []) (refs_at r vs)) (r.entries.len * r.entries.stride) vs ws) e c.store_place-in-Before.ensures))

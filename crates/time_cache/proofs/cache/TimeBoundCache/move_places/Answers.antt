@@ -6,7 +6,7 @@ use lib.ListN.{length}
 use Rattle.storage.specs.Rows.Part.{part}
 use Rattle.storage.proofs.RowsLaws.Parts.{length_part}
 use Rattle.storage.specs.Refs.Refs.{Ref, refs, places, Below, moved}
-use Rattle.time_cache.specs.Tables.{refsAt}
+use Rattle.time_cache.specs.Tables.{refs_at}
 use Rattle.time_cache.proofs.Orders.{of-below}
 use Rattle.time_cache.proofs.TableLaws.{moved_none}
 use Rattle.time_cache.proofs.LoanLaws.{refs-lent, refs-back, size_of, only-back, only_same}
@@ -17,7 +17,7 @@ use Rattle.time_cache.proofs.cache.TimeBoundCache.move_places.Goals.{Start}
 -- the size of what is lent
 lent : (s : Start) → let c = s.args.self in let k = c.entries.len * c.entries.stride in
     (c.entries.at + k ≤ length s.args.block.now) × (length (part c.entries.at (c.entries.at + k - c.entries.at) s.args.block.now) ≡ k)
-    × (refs c.entries.stride c.entries.len (part c.entries.at (c.entries.at + k - c.entries.at) s.args.block.now) ≡ refsAt c s.args.block.now)
+    × (refs c.entries.stride c.entries.len (part c.entries.at (c.entries.at + k - c.entries.at) s.args.block.now) ≡ refs_at c s.args.block.now)
 unfolding part
 lent s =
     let c = s.args.self in
@@ -35,7 +35,7 @@ returns-then-m-i c =
     let k = c.args.self in
     let xs = c.args.block.now in
     record {
-      refs = sym (moved_none c.args.i k.expiry.len (refsAt k xs) c.if-m-i.true (of-below k.expiry.len _ c.requires.1));
+      refs = sym (moved_none c.args.i k.expiry.len (refs_at k xs) c.if-m-i.true (of-below k.expiry.len _ c.requires.1));
       only = only_same k.entries.at (k.entries.len * k.entries.stride) xs (lent (goal.at.returns-then-m-i c).Start).0;
     }
 
@@ -43,7 +43,7 @@ pub make_room-requires : goal.make_room-requires
 unfolding part
 make_room-requires c =
     let k = c.args.self in (
-      c.requires.0.entryWide,
+      c.requires.0.entry_wide,
       omega (arith, (lent (goal.at.make_room-requires c).Start).1),
       record {
         below = λ j h. omega (arith, c.requires.0.few, (subst (λ (es : List Ref). Below k.expiry.len (places es)) (sym (lent (goal.at.make_room-requires c).Start).2) c.requires.1).below j h);

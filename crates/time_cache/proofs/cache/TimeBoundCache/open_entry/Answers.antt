@@ -7,7 +7,7 @@ use lib.ListN.{length, take, drop}
 use Rattle.storage.specs.Rows.Part.{part}
 use Rattle.storage.proofs.RowsLaws.Parts.{length_part}
 use Rattle.storage.proofs.RowsLaws.Rows.{mul-more, mul-up}
-use Rattle.storage.specs.Refs.Refs.{Ref, refOf, refs}
+use Rattle.storage.specs.Refs.Refs.{Ref, ref_of, refs}
 use Rattle.storage.proofs.RefsLaws.Places.{refs-opened}
 use Rattle.time_cache.proofs.LoanLaws.{refs-lent, refs-back, size_of, only-back}
 use native.Mathlib.Omega.{arith}
@@ -30,7 +30,7 @@ lent s =
 pub overflow_add-e : goal.overflow_add-e
 overflow_add-e c =
     let k = c.args.self.entries in
-    omega (arith, (lent (goal.at.overflow_add-e c).Start).0, mul_comm (k.len + 1) k.stride, mul-up (k.len + 1) 1 k.stride (omega (arith, c.requires.0.entryWide)), one-mul (k.len + 1))
+    omega (arith, (lent (goal.at.overflow_add-e c).Start).0, mul_comm (k.len + 1) k.stride, mul-up (k.len + 1) 1 k.stride (omega (arith, c.requires.0.entry_wide)), one-mul (k.len + 1))
 
 pub insert_row-requires : goal.insert_row-requires
 unfolding part
@@ -51,10 +51,10 @@ returns c =
     let lz : length zs ≡ z = c.insert_row.auto.b ∙ (lent (goal.at.returns c).Start).1 in
     let old : List ℕ = part a (a + z - a) xs in
     record {
-      gap = refOf (part (j * w) w old);
+      gap = ref_of (part (j * w) w old);
       refs = refs-back w (n + 1) a (a + z - a) zs xs (omega (arith, lz)) (omega (arith, (lent (goal.at.returns c).Start).0))
           ∙ ap (refs w (n + 1)) c.insert_row.ensures
           ∙ refs-opened w n j old c.requires.1 (omega (arith, (lent (goal.at.returns c).Start).1))
-          ∙ ap (λ (es : List Ref). take j es ++ (refOf (part (j * w) w old) ∷ drop j es)) (refs-lent w n a (a + z - a) xs (omega (arith, size_of a z, (lent (goal.at.returns c).Start).2)));
+          ∙ ap (λ (es : List Ref). take j es ++ (ref_of (part (j * w) w old) ∷ drop j es)) (refs-lent w n a (a + z - a) xs (omega (arith, size_of a z, (lent (goal.at.returns c).Start).2)));
       only = only-back a z (a + z - a) zs xs (size_of a z) lz (lent (goal.at.returns c).Start).0;
     }

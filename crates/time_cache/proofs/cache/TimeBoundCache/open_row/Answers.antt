@@ -7,7 +7,7 @@ use Rattle.storage.specs.Rows.Part.{part}
 use Rattle.storage.specs.Rows.Ident.{id_of}
 use Rattle.storage.proofs.RowsLaws.Parts.{length_part}
 use Rattle.storage.proofs.RowsLaws.Rows.{mul-more}
-use Rattle.time_cache.specs.Tables.{ExpiryRow, expiryRow, expiryRows}
+use Rattle.time_cache.specs.Tables.{ExpiryRow, expiry_row, expiry_rows}
 use Rattle.time_cache.proofs.LoanLaws.{expiry-lent, expiry-back, size_of, only-back}
 use native.Mathlib.Omega.{arith}
 use Rattle.time_cache.proofs.cache.TimeBoundCache.open_row.Goals as goal
@@ -29,7 +29,7 @@ lent s =
 pub add_expiry-requires : goal.add_expiry-requires
 unfolding part
 add_expiry-requires c =
-    (c.requires.0.expiryWide, c.requires.1, omega (arith, (lent (goal.at.add_expiry-requires c).Start).1))
+    (c.requires.0.expiry_wide, c.requires.1, omega (arith, (lent (goal.at.add_expiry-requires c).Start).1))
 
 pub returns : goal.returns
 unfolding part
@@ -44,11 +44,11 @@ returns c =
     let zs = c.add_expiry.new.x in
     let lz : length zs ≡ z = c.add_expiry.auto.x ∙ (lent (goal.at.returns c).Start).1 in
     let rest : List ℕ = part (i * t + 40) (t - 40) (part b (b + z - b) xs) in
-    let was : expiryRows t m (part b (b + z - b) xs) ≡ expiryRows t m (drop b xs) = expiry-lent t m b (b + z - b) xs (omega (arith, size_of b z, (lent (goal.at.returns c).Start).2)) in
+    let was : expiry_rows t m (part b (b + z - b) xs) ≡ expiry_rows t m (drop b xs) = expiry-lent t m b (b + z - b) xs (omega (arith, size_of b z, (lent (goal.at.returns c).Start).2)) in
     record {
       rest = rest;
       rows = expiry-back t (m + 1) b (b + z - b) zs xs (omega (arith, lz)) (omega (arith, (lent (goal.at.returns c).Start).0))
           ∙ c.add_expiry.ensures
-          ∙ ap (λ (rs : List ExpiryRow). take i rs ++ (expiryRow c.args.expires.0 (id_of c.args.key) rest ∷ drop i rs)) was;
+          ∙ ap (λ (rs : List ExpiryRow). take i rs ++ (expiry_row c.args.expires.0 (id_of c.args.key) rest ∷ drop i rs)) was;
       only = only-back b z (b + z - b) zs xs (size_of b z) lz (lent (goal.at.returns c).Start).0;
     }

@@ -2,7 +2,7 @@
 use mathlib.Core.Path.{sym}
 use Prim.Native.Nat.{◌≤◌}
 use lib.ListN.{length-map}
-use Rattle.time_cache.specs.Tables.{expiryOf, cacheOf, rows_at}
+use Rattle.time_cache.specs.Tables.{expiry_of, cache_of, rows_at}
 use Rattle.time_cache.proofs.ReadLaws.{length-rs, count-rows}
 use native.Mathlib.Omega.{arith}
 use Rattle.time_cache.proofs.cache.TimeBoundCache.rows_later.Goals as goal
@@ -10,9 +10,9 @@ use Rattle.time_cache.proofs.cache.TimeBoundCache.rows_later.Goals.{After-due}
 
 -- no more are due than there are
 few : (d : After-due) → d.due.result ≤ d.args.self.expiry.len
-unfolding cacheOf
+unfolding cache_of
 few d =
-    omega (arith, d.due.ensures.within, length-map (rows_at d.args.self d.args.block.now) expiryOf, length-rs d.args.self d.args.block.now)
+    omega (arith, d.due.ensures.within, length-map (rows_at d.args.self d.args.block.now) expiry_of, length-rs d.args.self d.args.block.now)
 
 pub overflow_sub-result : goal.overflow_sub-result
 overflow_sub-result c = omega (arith, few (goal.at.overflow_sub-result c).After-due)

@@ -6,7 +6,7 @@ use Prim.Native.Nat.{ℕ, ◌+◌, ◌*◌, ◌≤◌}
 use lib.ListN.{drop, length-drop}
 use Rattle.storage.specs.Rows.Digits.{le_bytes}
 use Rattle.storage.proofs.RowsLaws.Parts.{put-drop}
-use Rattle.storage.proofs.RowsLaws.Digits.{length-leBytes}
+use Rattle.storage.proofs.RowsLaws.Digits.{length-le_bytes}
 use Rattle.storage.specs.Refs.Refs.{ref, refs}
 use Rattle.storage.proofs.RefsLaws.Places.{store-place}
 use Rattle.storage.proofs.RowsLaws.Rows.{row-end}
@@ -40,6 +40,6 @@ returns c =
     record {
       refs = ap (λ (ys : List ℕ). refs w n (drop a ys)) c.store_le.ensures
           ∙ ap (refs w n) (put-drop a (j * w) (le_bytes 2 i) xs (omega (arith, c.requires.0)))
-          ∙ store-place w n j i (ref 0 []) (drop a xs) c.requires.0.entryWide c.requires.1 (omega (arith, length-drop a xs, c.requires.0)) c.requires.2;
-      only = subst (λ (ys : List ℕ). Only a (n * w) xs ys) (sym c.store_le.ensures) (only-put a (j * w) (n * w) (le_bytes 2 i) xs (omega (arith, length-leBytes 2 i, room (goal.at.returns c).Start, c.requires.0)) (omega (arith, c.requires.0)));
+          ∙ store-place w n j i (ref 0 []) (drop a xs) c.requires.0.entry_wide c.requires.1 (omega (arith, length-drop a xs, c.requires.0)) c.requires.2;
+      only = subst (λ (ys : List ℕ). Only a (n * w) xs ys) (sym c.store_le.ensures) (only-put a (j * w) (n * w) (le_bytes 2 i) xs (omega (arith, length-le_bytes 2 i, room (goal.at.returns c).Start, c.requires.0)) (omega (arith, c.requires.0)));
     }

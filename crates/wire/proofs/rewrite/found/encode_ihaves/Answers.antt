@@ -1,7 +1,7 @@
 -- `encode_ihaves`: one announcement after the other, each as it was read.
 use Rattle.std.proofs.Common.{◌-◌, drop, refl, arith}
 use Rattle.storage.specs.Rows.Ident.{id_of}
-use Rattle.postcard.specs.Events.{ihavesFrom}
+use Rattle.postcard.specs.Events.{ihaves_from}
 use Rattle.postcard.proofs.AnnouncementLaws.{Turn, listed_start, listed-announces, listed_next, listed-length}
 use Rattle.wire.proofs.RewriteLaws.RewriteLaws.{entry-room, entry-same, entry-left, entries-done}
 use Rattle.wire.proofs.rewrite.found.encode_ihaves.Given as given
@@ -11,23 +11,23 @@ use Rattle.wire.proofs.rewrite.found.encode_ihaves.Goals.{After-next_ihave-a}
 pub loop-init : goal.loop-init
 loop-init g c =
     let a = c.args in
-    record { same = refl; room = c.requires.room; listed = listed_start a.bytes.now a.start a.count (ihavesFrom a.bytes.now a.start a.count) c.requires.listed }
+    record { same = refl; room = c.requires.room; listed = listed_start a.bytes.now a.start a.count (ihaves_from a.bytes.now a.start a.count) c.requires.listed }
 
 pub next_ihave-a-requires : goal.next_ihave-a-requires
 next_ihave-a-requires g c =
     let l = c.loop in
     let a = c.args in
-    listed-announces a.bytes.now l.next (a.count - l.counter) (drop l.counter (ihavesFrom a.bytes.now a.start a.count)) (omega (arith, c.loop-test.true)) l.invariant.listed
+    listed-announces a.bytes.now l.next (a.count - l.counter) (drop l.counter (ihaves_from a.bytes.now a.start a.count)) (omega (arith, c.loop-test.true)) l.invariant.listed
 
 -- the announcement, as it was read
 turn : (g : given.Over) (d : After-next_ihave-a g)
     → Turn d.args.bytes.now d.next_ihave-a.result.next d.args.count d.loop.counter
-    (ihavesFrom d.args.bytes.now d.args.start d.args.count)
+    (ihaves_from d.args.bytes.now d.args.start d.args.count)
     (record { id = id_of d.next_ihave-a.result.id; round = d.next_ihave-a.result.round.0 })
 turn g d =
     let a = d.args in
     let l = d.loop in
-    listed_next a.bytes.now l.next d.next_ihave-a.result.next a.count l.counter (ihavesFrom a.bytes.now a.start a.count) (record { id = id_of d.next_ihave-a.result.id; round = d.next_ihave-a.result.round.0 })
+    listed_next a.bytes.now l.next d.next_ihave-a.result.next a.count l.counter (ihaves_from a.bytes.now a.start a.count) (record { id = id_of d.next_ihave-a.result.id; round = d.next_ihave-a.result.round.0 })
     d.loop-test.true l.invariant.listed d.next_ihave-a.ensures
 
 pub encode-requires : goal.encode-requires
@@ -45,5 +45,5 @@ loop-preserved g c =
 pub returns : goal.returns
 returns g c =
     let a = c.args in
-    let hs = ihavesFrom a.bytes.now a.start a.count in
+    let hs = ihaves_from a.bytes.now a.start a.count in
     entries-done hs c.loop.counter _ _ (omega (arith, c.loop-test.false, listed-length a.bytes.now a.start a.count hs c.requires.listed)) c.loop.invariant.same

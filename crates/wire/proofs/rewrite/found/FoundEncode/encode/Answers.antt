@@ -1,7 +1,7 @@
 -- `Found::encode`: by the message's kind.
 use Rattle.std.proofs.Common.{◌∙◌, ap, ℕ, List}
 use Rattle.storage.specs.Rows.Ident.{id_of}
-use Rattle.postcard.specs.Values.{deliveryValue}
+use Rattle.postcard.specs.Values.{delivery_value}
 use Rattle.wire.specs.Encode.Held.{after}
 use Rattle.wire.proofs.RewriteLaws.RewriteLaws.{gossip-between}
 use Rattle.wire.proofs.RewriteLaws.FoundLaws.{listed_of, head-room, entries-room, ihave-after}
@@ -10,12 +10,12 @@ use Rattle.wire.proofs.rewrite.found.FoundEncode.encode.Goals as goal
 pub encode-requires : goal.encode-requires
 encode-requires g c =
     let m = c.in-Gossip in
-    rw (gossip-between c.args.self.now.bytes.now (id_of m.id) m.start m.len (deliveryValue m.delivery)) (rw m.is at c.requires)
+    rw (gossip-between c.args.self.now.bytes.now (id_of m.id) m.start m.len (delivery_value m.delivery)) (rw m.is at c.requires)
 
 pub returns-in-Gossip : goal.returns-in-Gossip
 returns-in-Gossip g c =
     let m = c.in-Gossip in
-    rw m.is (c.encode.ensures ∙ ap (λ (l : List ℕ). after l (g.S.Sink.held c.args.out.now)) (gossip-between c.args.self.now.bytes.now (id_of m.id) m.start m.len (deliveryValue m.delivery)))
+    rw m.is (c.encode.ensures ∙ ap (λ (l : List ℕ). after l (g.S.Sink.held c.args.out.now)) (gossip-between c.args.self.now.bytes.now (id_of m.id) m.start m.len (delivery_value m.delivery)))
 
 pub encode_ihaves-requires-clause-listed : goal.encode_ihaves-requires-clause-listed
 encode_ihaves-requires-clause-listed g c = listed_of c.args.self.now.bytes.now c.in-IHave.start c.in-IHave.count (rw c.in-IHave.is at c.args.self.now.there)

@@ -15,7 +15,7 @@ use proto::{
 pub use proto::plumtree::oracle::Seen;
 use snap::Snap;
 
-/// An event of document 01.
+/// An event of the specification.
 enum Ev {
     In(InEvent<u64>),
     Up(u64),

@@ -14,6 +14,7 @@ use Rattle.block.specs.declared.head.Head.{Head}
 use Rattle.steps.specs.Stands.{Stands}
 use Rattle.machine.specs.Kinds.Meaning.{step_sizes, step_actions, step_state, step_far, step_counts, StepHeld, SenderIs}
 use Rattle.machine.specs.declared.kinds.Step.{Step}
+use Rattle.protocol.specs.declared.TheConstants.{LATEST}
 
 -- the bytes of the call's actions
 unfoldable pub step_bytes : List ℕ → List Room → ℕ → Step → State → List ℕ
@@ -33,7 +34,7 @@ pub record Asked (h : Head) (block bytes rooms : List ℕ) (now : ℕ) (r : Step
   pub long : block_need (limits_of h.limits) ≤ length block
   pub held : StepHeld bytes (state_of h block) r
   pub sender : SenderIs (get_or rooms 33 0) r
-  pub early : now ≤ 2 ^ 62
+  pub early : now ≤ LATEST.0
 
 -- a step that is some event's, asked (13): the state after it is within every limit if its sizes are, and its settings and limits are those before
 pub record Decides (bytes : List ℕ) (rooms : List Room) (now : ℕ) (r : Step) (s : State) : Type 0 where

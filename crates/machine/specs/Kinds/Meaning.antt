@@ -23,6 +23,7 @@ use Rattle.decide.specs.StateAfter.{new_state, late_state, graft_state, ihave_st
 use Rattle.machine.specs.Kinds.Counted.{raised, counts_after_call}
 use Rattle.machine.specs.declared.kinds.Step.{Step}
 use Rattle.machine.specs.declared.kinds.Step.TheVariants as step
+use Rattle.protocol.specs.declared.TheConstants.{LAST_ROUND}
 
 -- the sizes after the step; `s` is the state that a first event leaves
 unfoldable pub step_sizes : List ℕ → List Room → ℕ → Step → State → Sizes
@@ -75,7 +76,7 @@ step_state bytes rooms now step.AnnounceDropped s = announce_state s
 -- (12) "valid Swarm message of round 65,535, unreceived"
 unfoldable pub step_far : Step → Bool
 step_far step.Nothing = false
-step_far (step.NewSwarm sender id start len round) = eqb round.0 65535
+step_far (step.NewSwarm sender id start len round) = eqb round.0 LAST_ROUND.0
 step_far (step.NewNeighbors sender start len) = false
 step_far (step.Late sender id d) = false
 step_far (step.Prune link) = false

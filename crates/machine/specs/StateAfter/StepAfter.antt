@@ -10,6 +10,7 @@ use Rattle.steps.specs.Rooms.{rooms_in}
 use Rattle.steps.specs.Stands.{Stands}
 use Rattle.machine.specs.Kinds.Meaning.{step_state, step_far, StepHeld}
 use Rattle.machine.specs.declared.kinds.Step.{Step}
+use Rattle.protocol.specs.declared.TheConstants.{LATEST}
 
 -- the state after a step, of the state that a first event leaves
 abbrev pub stepped_in : List ℕ → List ℕ → ℕ → Step → State → State
@@ -25,7 +26,7 @@ pub record Stepping (bytes array : List ℕ) (instant : ℕ) (r : Step) (h : Hea
   pub begun : h.live.init ≡ true
   pub held : StepHeld bytes (state_of h block) r
   pub near : step_far r ≡ false
-  pub early : instant ≤ 2 ^ 62
+  pub early : instant ≤ LATEST.0
   pub fits : fits (stepped_in bytes array instant r (state_of h block)) ≡ true
 
 -- what a step asks of the state before the call
@@ -33,5 +34,5 @@ pub record Calling (bytes array : List ℕ) (instant : ℕ) (r : Step) (h : Head
   pub stands : Stands h block
   pub held : StepHeld bytes (state_of h block) r
   pub near : step_far r ≡ false
-  pub early : instant ≤ 2 ^ 62
+  pub early : instant ≤ LATEST.0
   pub fits : fits (called_in bytes array instant r (state_of h block)) ≡ true

@@ -21,7 +21,7 @@ use payloads::eager::reply;
 use payloads::{broadcast, gossip, late};
 use postcard::content;
 use postcard::content::Content;
-use postcard::message::{Delivery, Scope, Wanted};
+use postcard::message::{Delivery, Scope};
 use postcard::units::{Millis, Round};
 use steps::{settled, ticks};
 use storage::rows::id::Id;
@@ -38,15 +38,15 @@ pub fn graft_actions<'a>(
     at: usize,
     event: &'a [u8],
     link: usize,
-    wanted: Wanted,
+    wanted: Option<Id>,
 ) -> usize
     requires stands { Stands h block.now × (link < length (state_of h block.now).links) }
     requires tellable { Tellable (graft_bytes instant.0 rooms.now link (wanted_value wanted) (state_of h block.now)) at }
     ensures { Written (graft_bytes instant.0 rooms.now link (wanted_value wanted) (state_of h block.now)) out.old at out.new result }
 {
     match wanted {
-        Wanted::Nothing => at,
-        Wanted::Message(id) => {
+        None => at,
+        Some(id) => {
             let held = settled::cached_then(h, block, instant, id);
             reply::reply_sends(h, block, rooms, out, at, event, link, id, held)
         }

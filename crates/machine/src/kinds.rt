@@ -13,7 +13,7 @@ ghost use Rattle.machine.specs.Kinds.Meaning.{ListHeld, Means};
 use announcements::ihaves;
 use block::head::Head;
 use block::links;
-use postcard::message::{Delivery, Message, Scope, Timer, Wanted};
+use postcard::message::{Delivery, Message, Scope, Timer};
 use postcard::units::{Millis, Round};
 use steps::settled;
 use storage::rows::id;
@@ -51,7 +51,7 @@ pub enum Step {
     },
     Graft {
         link: usize,
-        wanted: Wanted,
+        wanted: Option<Id>,
     },
     IHave {
         link: usize,

@@ -26,7 +26,6 @@ use block::{missing, timers};
 use payloads::broadcast;
 use payloads::eager::target::Push;
 use payloads::eager::{back, reply};
-use postcard::message::Wanted;
 use postcard::units::Millis;
 use steps::{Sizes, settled, sizes_before};
 use storage::rows::id::Id;
@@ -60,14 +59,14 @@ pub fn graft_sizes(
     instant: Millis,
     rooms: &[u64; 34],
     link: usize,
-    wanted: Wanted,
+    wanted: Option<Id>,
 ) -> Sizes
     requires { Stands h block.now × (link < h.live.links) }
     ensures { sizes_value result ≡ graft_sizes (rooms_in (state_of h block.now) rooms.now) (peer_at (state_of h block.now) link) (wanted_value wanted) (settled instant.0 (state_of h block.now)) }
 {
     match wanted {
-        Wanted::Message(id) => reply_sizes(h, block, instant, rooms, link, id),
-        Wanted::Nothing => settled::sizes_then(h, block, instant),
+        Some(id) => reply_sizes(h, block, instant, rooms, link, id),
+        None => settled::sizes_then(h, block, instant),
     }
 }
 

@@ -2,7 +2,7 @@
 ghost use Rattle.std.specs.Prelude.{length};
 ghost use Rattle.postcard.specs.Events.{Listed, MessageHeld, EventHeld, ihaves_from};
 
-use postcard::message::{Delivery, Event, Message, Scope, Timer, Wanted};
+use postcard::message::{Delivery, Event, Message, Scope, Timer};
 use storage::rows::id::Id;
 use wire::decode::field;
 use wire::decode::field::Announced;
@@ -49,10 +49,10 @@ fn delivery(rt: &impl Print, d: Delivery) {
     }
 }
 
-fn wanted(rt: &impl Print, w: Wanted) {
+fn wanted(rt: &impl Print, w: Option<Id>) {
     match w {
-        Wanted::Nothing => word(rt, b"-"),
-        Wanted::Message(id) => identifier(rt, id),
+        None => word(rt, b"-"),
+        Some(id) => identifier(rt, id),
     }
 }
 

@@ -14,12 +14,12 @@ use Rattle.storage.specs.Lists.Map.{keys}
 use Rattle.storage.proofs.ListsLaws.Branches.{if-on, if-same}
 use Rattle.storage.specs.Rows.Part.{part}
 use Rattle.storage.specs.Rows.Ident.{id_of}
+use Rattle.std.specs.Prelude.{Option as Wanted}
 use Rattle.storage.specs.declared.rows.id.Id.{Id}
 use Rattle.time_cache.specs.TimeCache.{get}
 use Rattle.postcard.specs.Message.{Neighbors, to_swarm, to_neighbors, Emitted, action_bytes}
 use Rattle.postcard.specs.Values.{delivery_value, wanted_value}
 use Rattle.postcard.specs.Events.{ihaves_from}
-use Rattle.postcard.specs.declared.message.Wanted.{Wanted}
 use Rattle.postcard.specs.declared.message.Delivery.{Delivery}
 use Rattle.postcard.specs.declared.units.Round.{Round}
 use Rattle.protocol.specs.Links.{Links}
@@ -116,7 +116,7 @@ module _ (event : List ℕ) (instant : ℕ) (rooms : List ℕ) (s : State) where
   unfolding step_actions
   of-late sender id d = refl
 
-  pub of-graft : (link : ℕ) (w : Wanted) → step_bytes event instant rooms (step.Graft link w) s ≡ graft_bytes instant rooms link (wanted_value w) s
+  pub of-graft : (link : ℕ) (w : Wanted Id) → step_bytes event instant rooms (step.Graft link w) s ≡ graft_bytes instant rooms link (wanted_value w) s
   unfolding step_actions
   of-graft link w = ap (λ (m : Links). concat_map action_bytes (graft_actions room (get_or (keys m) link 0) (wanted_value w) settled_to)) (settled-links instant s)
 

@@ -14,6 +14,7 @@ use Rattle.storage.proofs.ListsLaws.Branches.{if-on, if-both, if-same}
 use Rattle.storage.proofs.ListsLaws.MapLaws.{and_right}
 use Rattle.storage.specs.Rows.Part.{part}
 use Rattle.storage.specs.Rows.Ident.{id_of}
+use Rattle.std.specs.Prelude.{Option}
 use Rattle.storage.specs.declared.rows.id.Id.{Id}
 use Rattle.storage.proofs.RowsLaws.Parts.{length_part, part-between}
 use Rattle.blake3.specs.Blake3.{identifier}
@@ -26,7 +27,6 @@ use Rattle.postcard.specs.declared.message.Delivery as declared
 use Rattle.postcard.specs.declared.message.Delivery.TheVariants as delivery
 use Rattle.postcard.specs.declared.message.Scope as declared_scope
 use Rattle.postcard.specs.declared.message.Scope.TheVariants as scopes
-use Rattle.postcard.specs.declared.message.Wanted.{Wanted}
 use Rattle.postcard.specs.declared.units.Round.{Round}
 use Rattle.postcard.proofs.Lengths.{length-content, length-gossip, length-ihave, length-ihaves}
 use Rattle.postcard.proofs.AnnouncementLaws.{listed-length}
@@ -219,11 +219,11 @@ module _ (bytes : List ℕ) (now : ℕ) (s : State) (sender link : ℕ) (core : 
   unfolding too_far_before step_far
   means-prune = means-message bytes now s (step.Prune link) sender Prune core refl (does-prune (settled now s) there-settled peer-settled) is-link tt
 
-  does-graft : (w : Wanted) (round : ℕ) (t : State) → is_neighbour sender t.links ≡ true → peer_at t link ≡ sender → Does bytes now t (step.Graft link w) sender (Graft (wanted_value w) round)
+  does-graft : (w : Option Id) (round : ℕ) (t : State) → is_neighbour sender t.links ≡ true → peer_at t link ≡ sender → Does bytes now t (step.Graft link w) sender (Graft (wanted_value w) round)
   unfolding message_sizes message_actions message_state message_counts step_sizes step_actions step_state step_counts
   does-graft w round t a p = record { sizes = λ rooms. rw (a, p) refl; actions = λ rooms. rw (a, p) refl; state = λ rooms. rw (a, p) refl; counts = λ c. refl }
 
-  pub means-graft : (w : Wanted) (round : ℕ) → Means bytes now s (step.Graft link w) (Received sender (Graft (wanted_value w) round))
+  pub means-graft : (w : Option Id) (round : ℕ) → Means bytes now s (step.Graft link w) (Received sender (Graft (wanted_value w) round))
   unfolding too_far_before step_far
   means-graft w round = means-message bytes now s (step.Graft link w) sender (Graft (wanted_value w) round) core refl (does-graft w round (settled now s) there-settled peer-settled) is-link tt
 

@@ -9,6 +9,7 @@ use Rattle.storage.specs.Lists.Base.{member}
 use Rattle.storage.specs.Lists.Map.{keys, has}
 use Rattle.storage.specs.Rows.Part.{part}
 use Rattle.storage.specs.Rows.Ident.{id_of}
+use Rattle.std.specs.Prelude.{Option as Wanted}
 use Rattle.storage.specs.declared.rows.id.Id.{Id}
 use Rattle.storage.proofs.RowsLaws.Parts.{length_part}
 use Rattle.time_cache.specs.TimeCache.{get}
@@ -16,7 +17,6 @@ use Rattle.postcard.specs.Message.{Ihave}
 use Rattle.postcard.specs.Values.{wanted_value}
 use Rattle.postcard.specs.Events.{ihaves_from}
 use Rattle.postcard.specs.declared.message.Delivery.{Delivery}
-use Rattle.postcard.specs.declared.message.Wanted.{Wanted}
 use Rattle.postcard.specs.declared.units.Round.{Round}
 use Rattle.protocol.specs.State.{State, Note, Cached}
 use Rattle.protocol.specs.Run.{Room}
@@ -183,7 +183,7 @@ module _ (now : ℕ) (s : State) where
     unfolding step_sizes
     step-cast-near id start len = refl
 
-    pub step-graft : (link : ℕ) (w : Wanted) → graft_sizes rooms (peer_at s link) (wanted_value w) (settled now s) ≡ step_sizes bytes rooms now (step.Graft link w) (settled now s)
+    pub step-graft : (link : ℕ) (w : Wanted Id) → graft_sizes rooms (peer_at s link) (wanted_value w) (settled now s) ≡ step_sizes bytes rooms now (step.Graft link w) (settled now s)
     unfolding step_sizes
     step-graft link w = ap (λ (p : ℕ). graft_sizes rooms p (wanted_value w) (settled now s)) (sym (same-peer link))
 

@@ -9,11 +9,11 @@ use lib.Dec.{eqb}
 use lib.ListN.{length}
 use Rattle.storage.specs.Rows.Part.{part}
 use Rattle.storage.specs.Rows.Ident.{id_of}
+use Rattle.std.specs.Prelude.{Option}
 use Rattle.storage.specs.declared.rows.id.Id.{Id}
 use Rattle.postcard.specs.Values.{delivery_value, wanted_value}
 use Rattle.postcard.specs.Events.{ihaves_from, Listed}
 use Rattle.postcard.specs.declared.message.Delivery.{Delivery}
-use Rattle.postcard.specs.declared.message.Wanted.{Wanted}
 use Rattle.postcard.specs.declared.units.Round.{Round}
 use Rattle.protocol.specs.Ticks.{evict}
 use Rattle.decide.specs.StateAfter.{send_graft_state, dispatch_state, announce_state}
@@ -89,7 +89,7 @@ module _ {bytes array : List ℕ} {instant : ℕ} {r : Step} {h : Head} {xs : Li
   prune-goes e d = told e (record { state = d.state; sound = d.sound })
 
   -- a Graft
-  module _ {l : ℕ} {w : Wanted} (e : r ≡ step.Graft l w) where
+  module _ {l : ℕ} {w : Option Id} (e : r ≡ step.Graft l w) where
     pub graft-low : l < h.live.links
     graft-low = low-link l (known e).held
 

@@ -8,7 +8,7 @@ ghost use Rattle.wire.specs.Decode.Readings.{id_at, content_at, delivery_at, wan
 
 use crate::number;
 use crate::number::{NumberRead, RoundRead};
-use postcard::message::{Delivery, Wanted};
+use postcard::message::Delivery;
 use postcard::units::Round;
 use storage::rows::id;
 use storage::rows::id::Id;
@@ -37,7 +37,7 @@ pub enum DeliveryRead {
 // What reading the identifier of a Graft, if it has one, gives.
 #[derive(Clone, Copy)]
 pub enum WantedRead {
-    Got { wanted: Wanted, next: usize },
+    Got { wanted: Option<Id>, next: usize },
     Fault(u8),
 }
 
@@ -151,14 +151,14 @@ pub(crate) fn read_wanted(bytes: &[u8], at: usize) -> WantedRead
     let kind = bytes[at];
     match kind {
         0 => WantedRead::Got {
-            wanted: Wanted::Nothing,
+            wanted: None,
             next: at + 1,
         },
         1 => {
             let found = read_id(bytes, at + 1);
             match found {
                 IdRead::Got { id, next } => WantedRead::Got {
-                    wanted: Wanted::Message(id),
+                    wanted: Some(id),
                     next,
                 },
                 IdRead::Fault(n) => WantedRead::Fault(n),

@@ -10,7 +10,7 @@ ghost use Rattle.postcard.specs.Values.{delivery_value, wanted_value};
 
 use crate::encode::Encode;
 use crate::encode::sink::Sink;
-use postcard::message::{Delivery, Wanted};
+use postcard::message::Delivery;
 use postcard::units::Round;
 use storage::rows::id::Id;
 
@@ -48,7 +48,7 @@ impl Encode for Prune {
 // "2 Graft (byte 0, or 1 and identifier; round)".
 #[derive(Clone, Copy)]
 pub struct Graft {
-    pub wanted: Wanted,
+    pub wanted: Option<Id>,
     pub round: Round,
 }
 

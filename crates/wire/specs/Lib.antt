@@ -2,4 +2,5 @@ pub mod Number
 pub mod Decode
 pub mod Encode
 pub mod Output
+pub mod Reader
 pub mod Rewrite

@@ -6,5 +6,6 @@ pub mod encode;
 pub mod laws;
 pub mod number;
 pub mod output;
+pub mod reader;
 pub mod rewrite;
 pub mod serialized_size;

@@ -11,8 +11,8 @@ ghost use Rattle.wire.specs.Output.Written.{Tellable, Written};
 use crate::encode;
 use crate::encode::Encode;
 use crate::encode::action::{Emit, Schedule, Send};
-use crate::encode::message::{Gossip, Graft, Ihave, IhaveHead, Prune};
-use postcard::message::{Delivery, Timer};
+use crate::encode::message::{Gossip, Graft, IhaveHead, Prune};
+use postcard::message::{Delivery, Ihave, Timer};
 use postcard::units::{Millis, Round};
 use storage::rows::id::Id;
 

@@ -47,20 +47,28 @@ pub fn read_record(bytes: &[u8]) -> Record
     let mut reader = Reader { rest: bytes };
     let instant = match reader.number() {
         Ok(now) => Millis(now),
-        Err(Fault::Ends) => return Record::Cut,
-        Err(_) => return Record::Bad,
+        Err(fault) => {
+            return match fault {
+                Fault::Ends => Record::Cut,
+                _ => Record::Bad,
+            };
+        }
     };
     let behind = reader.rest;
     let len = match reader.number() {
         Ok(len) => len,
-        Err(Fault::Ends) => {
-            return if may_fit(behind) {
-                Record::Cut
-            } else {
-                Record::Bad
+        Err(stop) => {
+            return match stop {
+                Fault::Ends => {
+                    if may_fit(behind) {
+                        Record::Cut
+                    } else {
+                        Record::Bad
+                    }
+                }
+                _ => Record::Bad,
             };
         }
-        Err(_) => return Record::Bad,
     };
     if MAX_EVENT < len {
         return Record::Bad;

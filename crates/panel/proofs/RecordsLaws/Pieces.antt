@@ -6,7 +6,7 @@ use mathlib.Core.Bool.{Bool, true, false, not, ◌&&◌}
 use mathlib.Core.List.{List, [], ◌∷◌, ◌++◌, append_assoc}
 use native.Mathlib.Omega.{arith}
 use lib.Dec.{leb, ltb, eqb}
-use lib.ListN.{length, take, drop, length-append, length-drop}
+use lib.ListN.{length, take, drop, get_or, length-append, length-drop}
 use lib.Seq.{take-append-le, drop-append-le, drop-append_seam}
 use borrow.Author.Tests.{ltb-true, ltb-false, leb-true, leb-false, eqb-true, eqb-false, le-ltb, le-leb}
 use Rattle.storage.specs.Lists.Base.{all}
@@ -14,6 +14,9 @@ use Rattle.storage.proofs.ListsLaws.MapLaws.{cases, true≢, and_left, and_right
 use Rattle.postcard.specs.Number.{Read, got, fault, ◌then◌, number_bytes, read_bytes, last_group, read_groups, read_number}
 use Rattle.postcard.specs.Wide.{Bytes}
 use Rattle.postcard.proofs.FieldBack.{bytes-head, bytes_back, number-back, joined, not-got, got-value, got-rest}
+use Rattle.wire.specs.Reader.Gives.{number_of}
+use Rattle.wire.specs.declared.reader.fault.Fault.{Fault}
+use Rattle.wire.specs.declared.reader.fault.Fault.TheVariants as faults
 use Rattle.protocol.specs.Answer.{Call}
 use Rattle.protocol.specs.Panel.{read_lengthed, read_record}
 use Rattle.panel.specs.Records.Reading.{record_call, Whole, Never, Bad, Cut, may_fit}
@@ -435,17 +438,17 @@ cut-length bytes t rest w d h f =
     }
 
 -- an event that is cut
-pub cut-event : (bytes : List ℕ) (t n : ℕ) (rest end : List ℕ) → read_number bytes ≡ got t rest → read_number rest ≡ got n end → n ≤ 16384 → read_bytes n end ≡ fault 7 → Cut bytes
+pub cut-event : (bytes : List ℕ) (t n : ℕ) (rest end : List ℕ) → read_number bytes ≡ got t rest → read_number rest ≡ got n end → n ≤ 16384 → (k : ℕ) → read_bytes n end ≡ fault k → Cut bytes
 unfolding read_bytes
-cut-event bytes t n rest end d g h c =
+cut-event bytes t n rest end d g h k c =
     let less : length end < n = cases (leb n (length end)) (λ p. not-got (sym (rw p at c))) (λ p. below-of p) in
     record {
       yet = never-of bytes
-          (λ u m rest' left e l s k. let q : rest' ≡ rest = same_rest e d in
+          (λ u m rest' left e l s f. let q : rest' ≡ rest = same_rest e d in
           let b : read_number rest ≡ got m left = rw q at l in
           let v : n ≡ m = same-value g b in
           let y : end ≡ left = same_rest g b in
-          omega (arith, k, v, less, ap length y));
+          omega (arith, f, v, less, ap length y));
       more = zeros n;
       wide = zeros-wide n;
       call = record_call t (take n (end ++ zeros n));
@@ -457,24 +460,68 @@ cut-event bytes t n rest end d g h c =
     below-of : leb n (length end) ≡ false → length end < n
     below-of p = leb-false n (length end) p
 
--- a whole record
+-- a whole record: all of it stands before what is left
+record Stood (bytes event after : List ℕ) : Type 0 where
+  front : List ℕ
+  same : bytes ≡ front ++ after
+
+stood : (bytes event after : List ℕ) (t n : ℕ) (rest end : List ℕ) → Bytes bytes → read_number bytes ≡ got t rest → read_number rest ≡ got n end → read_bytes n end ≡ got event after → Stood bytes event after
+stood bytes event after t n rest end w d g b =
+    let time = number-back bytes t rest w d in
+    let long = number-back rest n end time.left g in
+    let parts = bytes_back n end event after long.left b in
+    record {
+      front = number_bytes t ++ (number_bytes n ++ event);
+      same = time.same ∙ ap (λ (l : List ℕ). number_bytes t ++ l) (long.same ∙ ap (λ (l : List ℕ). number_bytes n ++ l) parts.same ∙ sym (append_assoc (number_bytes n) event after)) ∙ sym (append_assoc (number_bytes t) (number_bytes n ++ event) after);
+    }
+
+pub whole-inside : (bytes event after : List ℕ) (t n : ℕ) (rest end : List ℕ) → Bytes bytes → read_number bytes ≡ got t rest → read_number rest ≡ got n end → read_bytes n end ≡ got event after → length after ≤ length bytes
+whole-inside bytes event after t n rest end w d g b =
+    let s = stood bytes event after t n rest end w d g b in
+    omega (arith, ap length s.same, length-append s.front after)
+
 pub whole : (bytes event after : List ℕ) (t n : ℕ) (rest end : List ℕ) → Bytes bytes → read_number bytes ≡ got t rest → read_number rest ≡ got n end → n ≤ 16384 → read_bytes n end ≡ got event after
     → Whole bytes t event (length bytes - length after)
 unfolding read_record read_lengthed
 whole bytes event after t n rest end w d g h b =
-    let time = number-back bytes t rest w d in
-    let long = number-back rest n end time.left g in
-    let parts = bytes_back n end event after long.left b in
-    let pre : bytes ≡ (number_bytes t ++ number_bytes n ++ event) ++ after = time.same ∙ rw long.same (rw parts.same (simp append_assoc)) in
+    let s = stood bytes event after t n rest end w d g b in
     record {
       inside = omega arith;
-      reads = rw (d, g, le-leb n 16384 h, b) (ap (λ (l : List ℕ). got (record_call t event) l) (suffix (number_bytes t ++ number_bytes n ++ event) after bytes pre));
+      reads = rw (d, g, le-leb n 16384 h, b) (ap (λ (l : List ℕ). got (record_call t event) l) (suffix s.front after bytes s.same));
     }
   where
     suffix : (front behind all : List ℕ) → all ≡ front ++ behind → behind ≡ drop (length all - length behind) all
     suffix front behind all e =
         let k : length all - length behind ≡ length front = omega (arith, ap length e, length-append front behind) in
         rw (k, e) (sym (drop-append_seam front behind))
+
+-- what `may_fit` asks, by how many bytes there are
+pub fit-short : (xs : List ℕ) → length xs < 2 → may_fit xs ≡ true
+unfolding may_fit
+fit-short [] h = refl
+fit-short (a ∷ []) h = refl
+fit-short (a ∷ b ∷ xs) h = absurd (omega arith)
+
+pub fit-long : (xs : List ℕ) → 2 < length xs → may_fit xs ≡ false
+unfolding may_fit
+fit-long [] h = absurd (omega arith)
+fit-long (a ∷ []) h = absurd (omega arith)
+fit-long (a ∷ b ∷ []) h = absurd (omega arith)
+fit-long (a ∷ b ∷ c ∷ xs) h = refl
+
+pub fit-two : (xs : List ℕ) → length xs ≡ 2 → may_fit xs ≡ (eqb (get_or xs 0 0) 128 && eqb (get_or xs 1 0) 128)
+unfolding may_fit
+fit-two [] h = absurd (omega arith)
+fit-two (a ∷ []) h = absurd (omega arith)
+fit-two (a ∷ b ∷ []) h = refl
+fit-two (a ∷ b ∷ c ∷ xs) h = absurd (omega arith)
+
+-- another fault than that the bytes end
+pub other_fault : (e : Fault) → (e ≡ faults.Ends → ⊥) → number_of e ≡ 7 → ⊥
+other_fault faults.Ends h n = h refl
+other_fault faults.Form h n = omega arith
+other_fault faults.Left h n = omega arith
+other_fault faults.Room h n = omega arith
 
 -- where there is no byte, one can follow
 pub bad-none : Bad [] → ⊥

@@ -3,10 +3,10 @@ ghost use Rattle.block.specs.Goes.{Goes};
 ghost use Rattle.machine.specs.StateAfter.StepAfter.{stepped_in, called_in, Stepping, Calling};
 
 use crate::kinds::Step;
-use crate::state_after::{controls, swarms};
+use crate::state_after::controls;
 use announcements::{announce, dispatch, ihaves, send_graft};
 use block::head::Head;
-use payloads::late;
+use payloads::{broadcast, late, new_gossip};
 use postcard::units::Millis;
 use steps::contents::taking;
 
@@ -16,28 +16,20 @@ pub fn step_state(
     block: &mut [u8],
     instant: Millis,
     rooms: &[u64; 34],
-    event: &[u8],
     step: Step,
 ) -> Head
-    requires { Stepping event.now rooms.now instant.0 step h block.old }
-    ensures { Goes (stepped_in event.now rooms.now instant.0 step) h block.old result block.new }
+    requires { Stepping rooms.now instant.0 step h block.old }
+    ensures { Goes (stepped_in rooms.now instant.0 step) h block.old result block.new }
 {
     match step {
         Step::Nothing => h,
         Step::NewSwarm {
             sender,
             id,
-            start,
-            len,
+            content,
             round,
-        } => swarms::new_swarm(
-            h, block, instant, rooms, event, sender, id, start, len, round,
-        ),
-        Step::NewNeighbors {
-            sender: _,
-            start: _,
-            len: _,
-        } => h,
+        } => new_gossip::on_gossip(h, block, instant, rooms, sender, id, content, round),
+        Step::NewNeighbors { .. } => h,
         Step::Late {
             sender,
             id,
@@ -51,17 +43,11 @@ pub fn step_state(
             h
         }
         Step::Graft { link, wanted } => controls::on_graft(h, block, rooms, link, wanted),
-        Step::IHave { link, start, count } => {
-            ihaves::on_ihave(h, block, event, start, count, link)
+        Step::IHave { link, ihaves } => ihaves::on_ihave(h, block, ihaves, link),
+        Step::BroadcastSwarm { id, content } => {
+            broadcast::broadcast(h, block, instant, rooms, id, content)
         }
-        Step::BroadcastSwarm { id, start, len } => {
-            swarms::broadcast_swarm(h, block, instant, rooms, event, id, start, len)
-        }
-        Step::BroadcastNeighbors {
-            id: _,
-            start: _,
-            len: _,
-        } => h,
+        Step::BroadcastNeighbors { .. } => h,
         Step::SendGraft(id) => send_graft::on_send_graft_timer(h, block, instant, id),
         Step::DispatchLazyPush => dispatch::on_dispatch_timer(h, block, rooms),
         Step::EvictCache => taking::on_evict_cache_timer(h, block, instant),
@@ -75,12 +61,11 @@ pub fn call_state(
     block: &mut [u8],
     instant: Millis,
     rooms: &[u64; 34],
-    event: &[u8],
     step: Step,
 ) -> Head
-    requires { Calling event.now rooms.now instant.0 step h block.old }
-    ensures { Goes (called_in event.now rooms.now instant.0 step) h block.old result block.new }
+    requires { Calling rooms.now instant.0 step h block.old }
+    ensures { Goes (called_in rooms.now instant.0 step) h block.old result block.new }
 {
     let g = taking::first_event(h, block, instant);
-    step_state(g, block, instant, rooms, event, step)
+    step_state(g, block, instant, rooms, step)
 }

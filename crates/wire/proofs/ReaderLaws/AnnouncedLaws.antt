@@ -1,10 +1,11 @@
 -- Taking the first of the announcements that stand there.
 -- Assumes nothing.
-use Rattle.std.proofs.Common.{◌≡◌, ℕ, zero, suc, ◌-◌, Bool, true, false, List, [], ◌∷◌, length, refl, sym, ap, subst, ◌∙◌, arith}
+use Rattle.std.proofs.Common.{◌≡◌, ℕ, zero, suc, ◌-◌, ◌≤◌, take, Bool, true, false, List, [], ◌∷◌, length, refl, sym, ap, subst, ◌∙◌, arith}
 use native.Mathlib.Nat.{sub-zero}
 use Rattle.postcard.specs.Number.{Read, got, fault, ◌then◌}
 use Rattle.postcard.specs.Message.{Ihave}
 use Rattle.postcard.specs.Decode.{read_ihave, read_ihaves, ihaves_in}
+use Rattle.postcard.proofs.FieldBack.{joined, got-value}
 use Rattle.wire.specs.Reader.Announced.{is_got}
 
 pub announced_none : (count : ℕ) (bytes : List ℕ) → count ≡ 0 → ihaves_in (read_ihaves count bytes) ≡ []
@@ -60,3 +61,44 @@ announced_count (suc count) bytes t = go (read_ihave bytes) (λ rest. announced_
         → length (ihaves_in (r then λ h rest. read_ihaves count rest then λ hs end. got (h ∷ hs) end)) ≡ suc count
     go (got h rest) k t = long h (read_ihaves count rest) count (k rest) t
     go (fault n) k t = cc
+
+-- what was read, and the bytes after it
+record Got (r : Read (List Ihave)) : Type 0 where
+  rest : List ℕ
+  reads : r ≡ got (ihaves_in r) rest
+
+got_of : (r : Read (List Ihave)) → is_got r ≡ true → Got r
+unfolding ihaves_in
+got_of (got hs rest) e = record { rest = rest; reads = refl }
+got_of (fault n) e = absurd cc
+
+-- the first of them
+record Front (n : ℕ) (bs : List ℕ) (hs : List Ihave) : Type 0 where
+  rest : List ℕ
+  reads : read_ihaves n bs ≡ got (take n hs) rest
+
+front : (n count : ℕ) (bs : List ℕ) (hs : List Ihave) (rest : List ℕ) → n ≤ count → read_ihaves count bs ≡ got hs rest → Front n bs hs
+unfolding read_ihaves
+front zero count bs hs rest w e = record { rest = bs; reads = refl }
+front (suc n) zero bs hs rest w e = absurd (omega arith)
+front (suc n) (suc count) bs hs rest w e =
+    let j = joined (read_ihave bs) (λ h mid. read_ihaves count mid then λ ts end. got (h ∷ ts) end) hs rest e in
+    let k = joined (read_ihaves count j.middle) (λ ts end. got (j.value ∷ ts) end) hs rest j.after in
+    let f = front n count j.middle k.value k.middle (omega arith) k.before in
+    record {
+      rest = f.rest;
+      reads = ap (λ (r : Read Ihave). r then λ h mid. read_ihaves n mid then λ ts end. got (h ∷ ts) end) j.before
+          ∙ ap (λ (r : Read (List Ihave)). r then λ ts end. got (j.value ∷ ts) end) f.reads
+          ∙ ap (λ (l : List Ihave). got (take (suc n) l) f.rest) (got-value k.after);
+    }
+
+module _ (n count : ℕ) (bs : List ℕ) (w : n ≤ count) (there : is_got (read_ihaves count bs) ≡ true) where
+  fronted : Front n bs (ihaves_in (read_ihaves count bs))
+  fronted = let g = got_of (read_ihaves count bs) there in front n count bs (ihaves_in (read_ihaves count bs)) g.rest w g.reads
+
+  pub front_there : is_got (read_ihaves n bs) ≡ true
+  front_there = ap is_got fronted.reads
+
+  pub front_take : ihaves_in (read_ihaves n bs) ≡ take n (ihaves_in (read_ihaves count bs))
+  unfolding ihaves_in
+  front_take = ap ihaves_in fronted.reads

@@ -14,6 +14,22 @@ pub struct Ihaves<'a> {
     ghost there: { is_got (read_ihaves count bytes.now) ≡ true },
 }
 
+impl<'a> Ihaves<'a> {
+    ghost use Rattle.std.specs.Prelude.{◌≤◌, take};
+    ghost use Rattle.wire.specs.Reader.Values.{ihaves_value};
+
+    // The first `n` of them.
+    pub fn first(self, n: usize) -> Ihaves<'a>
+        requires { n ≤ self.count }
+        ensures { ihaves_value result ≡ take n (ihaves_value self.entry) }
+    {
+        Ihaves {
+            count: n,
+            bytes: self.bytes,
+        }
+    }
+}
+
 impl<'a> Iterator for Ihaves<'a> {
     ghost use Rattle.std.specs.Iterator.{YieldsFirstBy, at_most};
     ghost use Rattle.postcard.specs.Values.{ihave_value};

@@ -15,9 +15,6 @@ use Rattle.machine.proofs.actions_after.new_swarm.Goals.{Start}
 abbrev bytes : Start → List ℕ → List ℕ
 bytes s l = new_bytes s.args.instant.0 s.args.rooms.now s.args.sender (id_of s.args.id) l s.args.round.0 (state_of s.args.h s.args.block.now)
 
-pub content_part-content-requires : goal.content_part-content-requires
-content_part-content-requires c = c.requires.stands.1.within
-
 pub new_actions-requires : goal.new_actions-requires
 new_actions-requires c =
     let a = c.args in

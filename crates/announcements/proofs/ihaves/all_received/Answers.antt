@@ -1,4 +1,6 @@
 -- `all_received`: the entries that are left decide.
+use Prim.Native.Nat.{◌+◌}
+use borrow.Author.Rules.{rules}
 use mathlib.Core.Bool.{not}
 use mathlib.Core.Path.{refl, sym, ap, ◌∙◌}
 use borrow.Author.Tests.{not-true, not-false}
@@ -14,7 +16,7 @@ use Rattle.announcements.proofs.ihaves.all_received.Goals as goal
 pub loop-one-init : goal.loop-one-init
 loop-one-init c =
     let a = c.args in
-    record { index = 0; after = after_none refl; so = rest-start (is_received (settled a.instant.0 (state_of a.h a.block.now))) (ihaves_value a.ihaves) }
+    record { index = 0; after = after_none (search rules); so = rest-start (is_received (settled a.instant.0 (state_of a.h a.block.now))) (ihaves_value a.ihaves) }
 
 pub returns-then-not-received : goal.returns-then-not-received
 returns-then-not-received c =

@@ -1,4 +1,5 @@
 -- `ihave_actions`: after i entries the timers of the first i are written.
+use borrow.Author.Rules.{rules}
 use Prim.Native.Nat.{ℕ, ◌+◌, ◌<◌}
 use mathlib.Core.Path.{◌≡◌, refl, sym, ap, ◌∙◌, subst}
 use mathlib.Core.Bool.{Bool, true, false}
@@ -30,7 +31,7 @@ delay-then now h xs = ap (λ (s : Settings). s.graft_timeout_1) (settled-setting
 pub loop-one-init : goal.loop-one-init
 loop-one-init c =
     let a = c.args in
-    record { long = refl; after = after_none refl; so = schedule-start (settled a.instant.0 (state_of a.h a.block.now)) (ihaves_value a.ihaves) a.out.now a.at }
+    record { long = refl; after = after_none (search rules); so = schedule-start (settled a.instant.0 (state_of a.h a.block.now)) (ihaves_value a.ihaves) a.out.now a.at }
 
 -- fewer have been taken than there are
 below : (d : In-Some) → d.loop-one.i < d.args.ihaves.count

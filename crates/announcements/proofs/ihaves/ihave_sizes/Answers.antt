@@ -1,6 +1,7 @@
 -- `ihave_sizes`: after i entries the numbers are those of the first i.
+use borrow.Author.Rules.{rules}
 use Prim.Native.Nat.{◌+◌, ◌≤◌, ◌<◌}
-use mathlib.Core.Path.{refl}
+
 use native.Mathlib.Omega.{arith}
 use lib.ListN.{length}
 use Rattle.postcard.specs.Values.{ihave_value}
@@ -16,7 +17,7 @@ use Rattle.announcements.proofs.ihaves.ihave_sizes.Goals.{In-Some}
 pub loop-one-init : goal.loop-one-init
 loop-one-init c =
     let a = c.args in
-    record { after = after_none refl; so = counted_start (settled a.instant.0 (state_of a.h a.block.now)) (ihaves_value a.ihaves) }
+    record { after = after_none (search rules); so = counted_start (settled a.instant.0 (state_of a.h a.block.now)) (ihaves_value a.ihaves) }
 
 -- fewer have been taken than there are
 below : (d : In-Some) → d.loop-one.i < d.args.ihaves.count

@@ -1,4 +1,6 @@
 -- `on_ihave`: after i entries the state is that of the first i.
+use Prim.Native.Nat.{◌+◌}
+use borrow.Author.Rules.{rules}
 use mathlib.Core.Path.{refl, ◌∙◌}
 use Rattle.postcard.specs.Values.{ihave_value}
 use Rattle.wire.specs.Reader.Values.{ihaves_value}
@@ -9,7 +11,7 @@ use Rattle.announcements.proofs.ihaves.on_ihave.Goals as goal
 pub loop-one-init : goal.loop-one-init
 loop-one-init c =
     let a = c.args in
-    record { long = refl; walk = record { index = 0; after = after_none refl; so = heard-start a.link (ihaves_value a.ihaves) a.h a.block.now c.requires.0.stands.sound } }
+    record { long = refl; walk = record { index = 0; after = after_none (search rules); so = heard-start a.link (ihaves_value a.ihaves) a.h a.block.now c.requires.0.stands.sound } }
 
 pub on_announced-g-requires : goal.on_announced-g-requires
 on_announced-g-requires c =

@@ -1,4 +1,6 @@
 -- `stands_before`: the identifier is not among the entries taken.
+use Prim.Native.Nat.{◌+◌}
+use borrow.Author.Rules.{rules}
 use mathlib.Core.Path.{refl, sym, ◌∙◌}
 use Rattle.storage.specs.Rows.Ident.{id_of}
 use Rattle.postcard.specs.Values.{ihave_value}
@@ -8,7 +10,7 @@ use Rattle.announcements.proofs.IhavesLaws.WalkLaws.{after_none, after-end, afte
 use Rattle.announcements.proofs.ihaves.stands_before.Goals as goal
 
 pub loop-one-init : goal.loop-one-init
-loop-one-init c = record { index = 0; after = after_none refl; so = absent-start (id_of c.args.id) (ihaves_value c.args.before) }
+loop-one-init c = record { index = 0; after = after_none (search rules); so = absent-start (id_of c.args.id) (ihaves_value c.args.before) }
 
 pub returns-then-same : goal.returns-then-same
 returns-then-same c =

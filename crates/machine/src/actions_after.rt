@@ -121,7 +121,7 @@ pub fn step_actions<'a>(
 ) -> usize
     requires stands { Stands h block.now × StepHeld (state_of h block.now) step × SenderIs (get_or rooms.now 33 0) step × (step_far step ≡ false) }
     requires tellable { Tellable (step_bytes instant.0 rooms.now step (state_of h block.now)) at }
-    ensures { Written (step_bytes instant.0 rooms.now step (state_of h block.now)) out.old at out.new result }
+    ensures { Written (step_bytes instant.0 rooms.now step.entry (state_of h block.now)) out.old at out.new result }
 {
     match step {
         Step::Nothing => at,
@@ -188,7 +188,7 @@ pub fn call_actions<'a>(
 ) -> usize
     requires stands { Stands h block.now × StepHeld (state_of h block.now) step × SenderIs (get_or rooms.now 33 0) step × (step_far step ≡ false) }
     requires tellable { Tellable (call_bytes instant.0 rooms.now step (state_of h block.now)) 0 }
-    ensures { Written (call_bytes instant.0 rooms.now step (state_of h block.now)) out.old 0 out.new result }
+    ensures { Written (call_bytes instant.0 rooms.now step.entry (state_of h block.now)) out.old 0 out.new result }
 {
     let at = ticks::first_event_actions(h, block, out, 0);
     step_actions(h, block, instant, rooms, step, out, at)

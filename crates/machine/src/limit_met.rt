@@ -80,7 +80,7 @@ fn step_limit(
     step: Step,
 ) -> u8
     requires { Stands h block.now × StepHeld (state_of h block.now) step }
-    ensures { result ≡ step_past (rooms_in (state_of h block.now) rooms.now) instant.0 step (state_of h block.now) }
+    ensures { result ≡ step_past (rooms_in (state_of h block.now) rooms.now) instant.0 step.entry (state_of h block.now) }
 {
     let far = event::is_far(step);
     if far {
@@ -101,7 +101,7 @@ fn message_limit(
     m: Message,
 ) -> u8
     requires { Stands h block.now × (length (message_bytes (message_value m)) ≤ size) }
-    ensures { result ≡ event_past (rooms_in (state_of h block.now) rooms.now) instant.0 size (Received peer (message_value m)) (state_of h block.now) }
+    ensures { result ≡ event_past (rooms_in (state_of h block.now) rooms.now) instant.0 size (Received peer (message_value m.entry)) (state_of h block.now) }
 {
     if h.settings.max_message_size < size as u64 {
         return 0;
@@ -159,7 +159,7 @@ fn event_limit(
     e: Event,
 ) -> u8
     requires { Stands h block.now × Shortened e }
-    ensures { result ≡ event_past (rooms_in (state_of h block.now) rooms.now) instant.0 (event_size e) (event_value e) (state_of h block.now) }
+    ensures { result ≡ event_past (rooms_in (state_of h block.now) rooms.now) instant.0 (event_size e.entry) (event_value e.entry) (state_of h block.now) }
 {
     match e {
         Event::Received {

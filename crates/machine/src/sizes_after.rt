@@ -168,7 +168,7 @@ pub fn step_sizes(
     step: Step,
 ) -> Sizes
     requires { Stands h block.now × StepHeld (state_of h block.now) step }
-    ensures { sizes_value result ≡ step_sizes (rooms_in (state_of h block.now) rooms.now) instant.0 step (settled instant.0 (state_of h block.now)) }
+    ensures { sizes_value result ≡ step_sizes (rooms_in (state_of h block.now) rooms.now) instant.0 step.entry (settled instant.0 (state_of h block.now)) }
 {
     match step {
         Step::Nothing => settled::sizes_then(h, block, instant),

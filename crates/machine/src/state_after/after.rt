@@ -19,7 +19,7 @@ pub fn step_state(
     step: Step,
 ) -> Head
     requires { Stepping rooms.now instant.0 step h block.old }
-    ensures { Goes (stepped_in rooms.now instant.0 step) h block.old result block.new }
+    ensures { Goes (stepped_in rooms.now instant.0 step.entry) h block.old result block.new }
 {
     match step {
         Step::Nothing => h,
@@ -64,7 +64,7 @@ pub fn call_state(
     step: Step,
 ) -> Head
     requires { Calling rooms.now instant.0 step h block.old }
-    ensures { Goes (called_in rooms.now instant.0 step) h block.old result block.new }
+    ensures { Goes (called_in rooms.now instant.0 step.entry) h block.old result block.new }
 {
     let g = taking::first_event(h, block, instant);
     step_state(g, block, instant, rooms, step)

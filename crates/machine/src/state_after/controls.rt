@@ -8,6 +8,7 @@ ghost use Rattle.machine.specs.StateAfter.Controls.{pruned_at, grafted_at};
 use block::head::Head;
 use block::links;
 use payloads::eager::reply;
+use storage::rows::id::Id;
 
 // `on_prune`: the peer of the link goes lazy. It has no actions.
 pub fn on_prune(h: Head, block: &mut [u8], link: usize)

@@ -1,10 +1,10 @@
 // Timers and events: the specification, questions 7, 8 and 9.
 ghost use Rattle.std.specs.Prelude.{◌≡◌, true, IfOk, drop};
 ghost use Rattle.postcard.specs.Number.{read_kind, ◌then◌, got};
-ghost use Rattle.postcard.specs.Decode.{read_content, read_timer, scope_of, event_of, read_event, decode_event, meaning};
+ghost use Rattle.postcard.specs.Decode.{read_content, read_timer, scope_of, event_of, read_event, decode_event};
 ghost use Rattle.postcard.specs.Values.{scope_value, timer_value};
 ghost use Rattle.wire.specs.Reader.Gives.{Gives, Decodes};
-ghost use Rattle.wire.specs.Reader.Values.{message_value, event_value, SizedBehind};
+ghost use Rattle.wire.specs.Reader.Values.{event_value, SizedBehind};
 
 use crate::reader::fault::Fault;
 use crate::reader::message::Message;
@@ -144,19 +144,6 @@ pub fn decode_event(event: &[u8]) -> Result<Event, Fault>
 {
     let mut reader = Reader { rest: event };
     let found = reader.event()?;
-    if !reader.rest.is_empty() {
-        return Err(Fault::Left);
-    }
-    Ok(found)
-}
-
-// The same of a message alone.
-#[tactic(auto, unfolding(postcard::specs::Decode::meaning, postcard::specs::Decode::ended))]
-pub fn decode_message(bytes: &[u8]) -> Result<Message, Fault>
-    ensures { Decodes message_value result (meaning bytes.now) }
-{
-    let mut reader = Reader { rest: bytes };
-    let found = reader.message()?;
     if !reader.rest.is_empty() {
         return Err(Fault::Left);
     }

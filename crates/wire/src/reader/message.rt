@@ -2,9 +2,9 @@
 ghost use Rattle.std.specs.Prelude.{◌≡◌, true};
 ghost use Rattle.storage.specs.Rows.Ident.{id_of};
 ghost use Rattle.postcard.specs.Number.{read_kind};
-ghost use Rattle.postcard.specs.Decode.{read_padded_content, read_delivery, read_optional_id, read_ihave, read_ihaves, message_of, read_message};
+ghost use Rattle.postcard.specs.Decode.{read_padded_content, read_delivery, read_optional_id, read_ihave, read_ihaves, message_of, read_message, meaning};
 ghost use Rattle.postcard.specs.Values.{delivery_value, wanted_value, ihave_value};
-ghost use Rattle.wire.specs.Reader.Gives.{Gives};
+ghost use Rattle.wire.specs.Reader.Gives.{Gives, Decodes};
 ghost use Rattle.wire.specs.Reader.Values.{ihaves_value, message_value};
 
 use crate::reader::fault::Fault;
@@ -133,4 +133,17 @@ impl<'a> Reader<'a> {
             4..=18446744073709551615 => Err(Fault::Form),
         }
     }
+}
+
+// The message that the bytes are, or the first of questions 7, 8 and 9 that is answered no.
+#[tactic(auto, unfolding(postcard::specs::Decode::meaning, postcard::specs::Decode::ended))]
+pub fn decode_message(bytes: &[u8]) -> Result<Message, Fault>
+    ensures { Decodes message_value result (meaning bytes.now) }
+{
+    let mut reader = Reader { rest: bytes };
+    let found = reader.message()?;
+    if !reader.rest.is_empty() {
+        return Err(Fault::Left);
+    }
+    Ok(found)
 }

@@ -18,7 +18,7 @@ bytes s l = new_bytes s.args.instant.0 s.args.rooms.now s.args.sender (id_of s.a
 pub new_actions-requires : goal.new_actions-requires
 new_actions-requires c =
     let a = c.args in
-    record { stands = (c.requires.stands.0, near a.round.0 c.requires.stands.2 (omega (arith, c.well_formed.1.1.1.1.1.1.1.1.1.1.1.0))); tellable = tellable-as (sym (ap (bytes (goal.at.new_actions-requires c).Start) c.content_part-content.ensures)) c.requires.tellable }
+    record { stands = (c.requires.stands.0, near a.round.0 c.requires.stands.2 (omega (arith, c.well_formed))); tellable = tellable-as (sym (ap (bytes (goal.at.new_actions-requires c).Start) c.content_part-content.ensures)) c.requires.tellable }
 
 pub returns : goal.returns
 returns c =

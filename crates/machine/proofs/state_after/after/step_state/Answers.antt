@@ -1,13 +1,12 @@
 -- `after::step_state` meets its contract: each arm is its step.
 use Rattle.machine.proofs.StateAfterLaws.StepLaws.{new-asks, new-near, new-goes, late-goes, prune-low, prune-goes, graft-low, graft-asks, graft-steps, ihave-low, ihave-asks, ihave-goes, broadcast-asks, broadcast-goes, send-graft-asks, send-graft-goes, dispatch-asks, dispatch-goes, evict-goes, announce-asks, announce-steps, nothing-goes, neighbors-goes, broadcast-neighbors-goes}
-use native.Mathlib.Omega.{arith}
-use Rattle.machine.proofs.ActionsAfterLaws.AfterLaws.{near}
+use borrow.Author.Tests.{eqb-false}
 use Rattle.machine.proofs.state_after.after.step_state.Goals as goal
 
 pub on_gossip-requires : goal.on_gossip-requires
 on_gossip-requires c =
     let e = c.in-NewSwarm.is in
-    (new-asks c.requires e, c.requires.begun, near c.in-NewSwarm.round.0 (new-near c.requires e) (omega (arith, c.well_formed)), c.requires.early)
+    (new-asks c.requires e, c.requires.begun, eqb-false c.in-NewSwarm.round.0 65535 (new-near c.requires e), c.requires.early)
 
 pub on_late_graft_reply-requires : goal.on_late_graft_reply-requires
 on_late_graft_reply-requires c =

@@ -1,5 +1,3 @@
-pub mod NumberLaws
-pub mod DecodeLaws
 pub mod EncodeLaws
 pub mod OutputLaws
 pub mod ReaderLaws

@@ -1,5 +1,3 @@
-pub mod Number
-pub mod Decode
 pub mod Encode
 pub mod Output
 pub mod Reader

@@ -62,12 +62,7 @@ fn on_announced(h: Head, block: &mut [u8], id: Id, round: Round, link: usize) ->
 }
 
 // `on_ihave`, the state half: the entries of the message, in order. Its time is that of a look-up, and of an insertion, for each entry.
-pub fn on_ihave(
-    h: Head,
-    block: &mut [u8],
-    ihaves: Ihaves,
-    link: usize,
-) -> Head
+pub fn on_ihave(h: Head, block: &mut [u8], ihaves: Ihaves, link: usize) -> Head
     requires { Step (heard_from link (ihaves_value ihaves)) h block.old × (link < h.live.links) }
     ensures { Goes (heard_from link (ihaves_value ihaves.entry)) h block.old result block.new }
 {
@@ -80,12 +75,7 @@ pub fn on_ihave(
 
 // Whether every entry of an IHave is received once a first event has evicted: then the message does nothing. Its time is that of a look-up for each entry, up to
 // the first that is not received.
-pub fn all_received(
-    h: Head,
-    block: &[u8],
-    instant: Millis,
-    ihaves: Ihaves,
-) -> bool
+pub fn all_received(h: Head, block: &[u8], instant: Millis, ihaves: Ihaves) -> bool
     requires { Stands h block.now }
     ensures { result ≡ all (is_received (settled instant.0 (state_of h block.now))) (ihaves_value ihaves.entry) }
 {
@@ -143,13 +133,7 @@ fn one_unless(there: bool) -> usize
 }
 
 // What the entry after these adds: nothing if it is received, or stands before.
-fn new_of(
-    h: Head,
-    block: &[u8],
-    instant: Millis,
-    before: Ihaves,
-    id: Id,
-) -> NewIds
+fn new_of(h: Head, block: &[u8], instant: Millis, before: Ihaves, id: Id) -> NewIds
     requires { Stands h block.now }
     ensures { NewOf (settled instant.0 (state_of h block.now)) (ihaves_value before.entry) (id_of id) result }
 {
@@ -176,12 +160,7 @@ fn new_of(
 
 // The two numbers of entries that grow in question 13, of an IHave: its identifiers that are not received, each once, and that nobody announced before, or
 // that have no timer. Its time is that of a pass over the entries before, for each entry.
-pub fn ihave_sizes(
-    h: Head,
-    block: &[u8],
-    instant: Millis,
-    ihaves: Ihaves,
-) -> NewIds
+pub fn ihave_sizes(h: Head, block: &[u8], instant: Millis, ihaves: Ihaves) -> NewIds
     requires { Stands h block.now }
     ensures { NewIn (settled instant.0 (state_of h block.now)) (ihaves_value ihaves.entry) result }
 {
@@ -198,13 +177,7 @@ pub fn ihave_sizes(
 }
 
 // Whether the entry after these gets a timer: it is not received, has none, and does not stand before.
-fn wants_timer(
-    h: Head,
-    block: &[u8],
-    instant: Millis,
-    before: Ihaves,
-    id: Id,
-) -> bool
+fn wants_timer(h: Head, block: &[u8], instant: Millis, before: Ihaves, id: Id) -> bool
     requires { Stands h block.now }
     ensures { result ≡ is_new (known_timer (settled instant.0 (state_of h block.now))) (ihaves_value before.entry) (id_of id) }
 {

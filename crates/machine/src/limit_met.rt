@@ -72,13 +72,7 @@ fn limit_past(l: Limits, z: Sizes) -> u8
 }
 
 // Questions 12 and 13 of a step.
-fn step_limit(
-    h: Head,
-    block: &[u8],
-    instant: Millis,
-    rooms: &[u64; 34],
-    step: Step,
-) -> u8
+fn step_limit(h: Head, block: &[u8], instant: Millis, rooms: &[u64; 34], step: Step) -> u8
     requires { Stands h block.now × StepHeld (state_of h block.now) step }
     ensures { result ≡ step_past (rooms_in (state_of h block.now) rooms.now) instant.0 step.entry (state_of h block.now) }
 {
@@ -127,13 +121,7 @@ fn broadcast_limit(
 }
 
 // A timer: its step.
-fn timer_limit(
-    h: Head,
-    block: &[u8],
-    instant: Millis,
-    rooms: &[u64; 34],
-    t: Timer,
-) -> u8
+fn timer_limit(h: Head, block: &[u8], instant: Millis, rooms: &[u64; 34], t: Timer) -> u8
     requires { Stands h block.now }
     ensures { result ≡ event_past (rooms_in (state_of h block.now) rooms.now) instant.0 0 (Fired (timer_value t)) (state_of h block.now) }
 {
@@ -151,13 +139,7 @@ fn up_limit(h: Head, block: &[u8], instant: Millis, rooms: &[u64; 34], peer: u64
 }
 
 // Questions 10, 12 and 13 of an event that was read, by its kind. A neighbour told down adds nothing.
-fn event_limit(
-    h: Head,
-    block: &[u8],
-    instant: Millis,
-    rooms: &[u64; 34],
-    e: Event,
-) -> u8
+fn event_limit(h: Head, block: &[u8], instant: Millis, rooms: &[u64; 34], e: Event) -> u8
     requires { Stands h block.now × Shortened e }
     ensures { result ≡ event_past (rooms_in (state_of h block.now) rooms.now) instant.0 (event_size e.entry) (event_value e.entry) (state_of h block.now) }
 {

@@ -72,12 +72,7 @@ pub fn graft_sizes(
 }
 
 // IHave from a neighbour: the missing messages and the timers that it adds. Its time is that of `announcements::ihaves::ihave_sizes` and of `sizes_then`.
-pub fn ihave_step_sizes(
-    h: Head,
-    block: &[u8],
-    instant: Millis,
-    ihaves: Ihaves,
-) -> Sizes
+pub fn ihave_step_sizes(h: Head, block: &[u8], instant: Millis, ihaves: Ihaves) -> Sizes
     requires { Stands h block.now × (ihaves.count ≤ 4094) }
     ensures { sizes_value result ≡ ihave_sizes (ihaves_value ihaves.entry) (settled instant.0 (state_of h block.now)) }
 {
@@ -160,13 +155,7 @@ pub fn new_sizes(
 }
 
 // The numbers of entries after the step of an event (question 13). Its time is that of the step's own function.
-pub fn step_sizes(
-    h: Head,
-    block: &[u8],
-    instant: Millis,
-    rooms: &[u64; 34],
-    step: Step,
-) -> Sizes
+pub fn step_sizes(h: Head, block: &[u8], instant: Millis, rooms: &[u64; 34], step: Step) -> Sizes
     requires { Stands h block.now × StepHeld (state_of h block.now) step }
     ensures { sizes_value result ≡ step_sizes (rooms_in (state_of h block.now) rooms.now) instant.0 step.entry (settled instant.0 (state_of h block.now)) }
 {

@@ -5,9 +5,9 @@ ghost use Rattle.panel.specs.Records.Reading.{Tells, may_fit};
 ghost use Rattle.panel.specs.Records.Running.{answer_bytes, end_bytes, closing};
 
 use postcard::units::Millis;
+use wire::encode;
 use wire::encode::Encode;
 use wire::encode::sink::Sink;
-use wire::encode;
 use wire::reader::Reader;
 use wire::reader::fault::Fault;
 

@@ -196,10 +196,10 @@ pub extern "C" fn plumtree_rewrite(message: &[u8], output: &mut [u8]) -> Answer
 {
     match rewrite::rewrite(message, output) {
         Ok(length) => Answer { number: 0, length },
-        Err(fault) => Answer {
-            number: fault.number(),
-            length: 0,
-        },
+        Err(fault) => {
+            let number = fault.number();
+            Answer { number, length: 0 }
+        }
     }
 }
 

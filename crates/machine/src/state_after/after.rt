@@ -11,13 +11,7 @@ use postcard::units::Millis;
 use steps::contents::taking;
 
 // The state after a step, where a first event's work is done.
-pub fn step_state(
-    h: Head,
-    block: &mut [u8],
-    instant: Millis,
-    rooms: &[u64; 34],
-    step: Step,
-) -> Head
+pub fn step_state(h: Head, block: &mut [u8], instant: Millis, rooms: &[u64; 34], step: Step) -> Head
     requires { Stepping rooms.now instant.0 step h block.old }
     ensures { Goes (stepped_in rooms.now instant.0 step.entry) h block.old result block.new }
 {
@@ -56,13 +50,7 @@ pub fn step_state(
 }
 
 // The state after an event that is no change of neighbours: "the first other event evicts and schedules EvictCache before anything else", then the step.
-pub fn call_state(
-    h: Head,
-    block: &mut [u8],
-    instant: Millis,
-    rooms: &[u64; 34],
-    step: Step,
-) -> Head
+pub fn call_state(h: Head, block: &mut [u8], instant: Millis, rooms: &[u64; 34], step: Step) -> Head
     requires { Calling rooms.now instant.0 step h block.old }
     ensures { Goes (called_in rooms.now instant.0 step.entry) h block.old result block.new }
 {

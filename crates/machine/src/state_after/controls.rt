@@ -20,7 +20,13 @@ pub fn on_prune(h: Head, block: &mut [u8], link: usize)
 
 // `on_graft`, the state half: the peer of the link goes eager, and gets the message that it wants, if it is cached: `note_dropped` of it, if it is handed back. Its
 // time is that of one pass over the record's column of link numbers.
-pub fn on_graft(h: Head, block: &mut [u8], rooms: &[u64; 34], link: usize, wanted: Option<Id>) -> Head
+pub fn on_graft(
+    h: Head,
+    block: &mut [u8],
+    rooms: &[u64; 34],
+    link: usize,
+    wanted: Option<Id>,
+) -> Head
     requires { Step (grafted_at rooms.now link (wanted_value wanted)) h block.old × (link < h.live.links) }
     ensures { Goes (grafted_at rooms.now link (wanted_value wanted)) h block.old result block.new }
 {

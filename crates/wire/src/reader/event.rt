@@ -6,9 +6,9 @@ ghost use Rattle.postcard.specs.Values.{scope_value, timer_value};
 ghost use Rattle.wire.specs.Reader.Gives.{Gives, Decodes};
 ghost use Rattle.wire.specs.Reader.Values.{event_value, SizedBehind};
 
+use crate::reader::Reader;
 use crate::reader::fault::Fault;
 use crate::reader::message::Message;
-use crate::reader::Reader;
 use postcard::message::{Scope, Timer};
 
 // "Event kinds: 0 received message, 1 broadcast, 2 timer, 3 neighbour up, 4 neighbour down"; `size` is the number of the message's bytes as received.

@@ -7,9 +7,9 @@ ghost use Rattle.postcard.specs.Values.{delivery_value, wanted_value, ihave_valu
 ghost use Rattle.wire.specs.Reader.Gives.{Gives, Decodes};
 ghost use Rattle.wire.specs.Reader.Values.{ihaves_value, message_value};
 
+use crate::reader::Reader;
 use crate::reader::fault::Fault;
 use crate::reader::ihaves::Ihaves;
-use crate::reader::Reader;
 use postcard::message::{Delivery, Ihave};
 use postcard::units::Round;
 use storage::rows::id::Id;

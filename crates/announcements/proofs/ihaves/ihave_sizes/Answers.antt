@@ -1,7 +1,6 @@
 -- `ihave_sizes`: after i entries the numbers are those of the first i.
 use borrow.Author.Rules.{rules}
 use Prim.Native.Nat.{◌+◌, ◌≤◌, ◌<◌}
-
 use native.Mathlib.Omega.{arith}
 use lib.ListN.{length}
 use Rattle.postcard.specs.Values.{ihave_value}

@@ -22,7 +22,7 @@ ghost use Rattle.announcements.specs.SendGraft.Asks.{asked_first, missing_left};
 use block::caches::received;
 use block::head::Head;
 use block::{links, missing, timers};
-use postcard::message::{Timer, Wanted};
+use postcard::message::Timer;
 use postcard::units::Millis;
 use steps::grafts::note;
 use steps::{Held, Sizes, settled};
@@ -79,7 +79,7 @@ fn ask_actions(
     let link = first.link;
     let peer = links::peer_at(h, block, link);
     let taken = 1 <= rooms[link];
-    let next = output::send_graft(out, at, peer, taken, Wanted::Message(id), first.round);
+    let next = output::send_graft(out, at, peer, taken, Some(id), first.round);
     let delay = h.settings.config.graft_timeout_2;
     output::schedule(out, next, delay, Timer::SendGraft(id))
 }

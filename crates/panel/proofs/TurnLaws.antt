@@ -90,14 +90,14 @@ answered-record now event block c output block' output' number n reply reply' a 
   reply = w;
 }
 
--- a turn that answers a whole record, whose event was lent as a slice
-pub took : (before : Memory) (c : Counts) (unread : List ℕ) (after : Memory) (now start len : ℕ) (a : Parts) → Whole unread now start len
-    → Answered (record_call now (take (start + len - start) (drop start unread))) before c after a → Took before c unread after (start + len) a
-took before c unread after now start len a w f = record {
-  call = record_call now (part start len unread);
+-- a turn that answers a whole record
+pub took : (before : Memory) (c : Counts) (unread : List ℕ) (after : Memory) (now : ℕ) (event : List ℕ) (used : ℕ) (a : Parts) → Whole unread now event used
+    → Answered (record_call now event) before c after a → Took before c unread after used a
+took before c unread after now event used a w f = record {
+  call = record_call now event;
   inside = w.inside;
   reads = w.reads;
-  answered = subst (λ (event : List ℕ). Answered (record_call now event) before c after a) (part-between start len unread) f;
+  answered = f;
 }
 
 -- the bytes that a turn leaves to be written

@@ -20,7 +20,6 @@ ghost use Rattle.payloads.specs.Optimise.Best.{LeastIs, nearest, BestIs, wanted,
 use block::head::Head;
 use block::hops::Hop;
 use block::{links, missing, timers};
-use postcard::message::Wanted;
 use postcard::units::{Millis, Round};
 use steps::grafts::reads;
 use steps::{Held, settled};
@@ -173,7 +172,7 @@ fn send_optimise(
     let peer = links::peer_at(h, block, near);
     let asked = 1 <= rooms[near];
     let round = best.round;
-    let to = output::send_graft(out, at, peer, asked, Wanted::Nothing, round);
+    let to = output::send_graft(out, at, peer, asked, None, round);
     if near == link {
         let taken = 2 <= rooms[link];
         return output::send_prune(out, to, sender, taken);

@@ -1,14 +1,7 @@
 -- `next`: the first record is whole, cut so far, or bad.
 use Rattle.panel.proofs.TurnLaws.{took}
 use mathlib.Core.Path.{refl}
-use native.Mathlib.Omega.{arith}
 use Rattle.panel.proofs.next.Goals as goal
-
-pub overflow_add-end : goal.overflow_add-end
-overflow_add-end c = omega (arith, c.in-Whole.ensures.inside)
-
-pub slice_bounds-answer_record-end : goal.slice_bounds-answer_record-end
-slice_bounds-answer_record-end c = omega (arith, c.in-Whole.ensures.inside)
 
 pub returns-in-Whole : goal.returns-in-Whole
 returns-in-Whole c =

@@ -98,7 +98,6 @@ pub fn reply_sends<'a>(
     rooms: &[u64; 34],
     out: &mut [u8],
     at: usize,
-    event: &'a [u8],
     link: usize,
     id: Id,
     held: Held,
@@ -113,7 +112,7 @@ pub fn reply_sends<'a>(
             let c = cached::cached_content(h, block, i);
             let start = head::contents_at(h.limits) + c.start;
             let place = Content::InStore { start, len: c.len };
-            let content = content::content_part(event, block, place);
+            let content = content::content_part(place, block);
             send_one(h, block, rooms, out, at, link, id, content, round)
         }
         Held::Nothing => at,

@@ -14,7 +14,7 @@ use Rattle.postcard.specs.Decode.{Decoded, decoded, faulty, message_part, decode
 use Rattle.postcard.proofs.DecodeFaults.{fault_of, decode-faults}
 use Rattle.protocol.specs.State.{State, Counts, zero_counts}
 use Rattle.protocol.specs.Run.{Room}
-use Rattle.protocol.specs.Answer.{Call, Outcome, refused, accepted, message_fits, counts_stay, answer_block}
+use Rattle.protocol.specs.Answer.{Call, Outcome, refused, accepted, counts_stay, answer_block}
 use Rattle.decide.specs.Sizes.{fit_sizes}
 use Rattle.decide.specs.Settled.{too_far_before}
 use Rattle.decide.specs.SizesAfter.{sizes_after}

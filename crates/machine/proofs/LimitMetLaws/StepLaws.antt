@@ -3,7 +3,6 @@ use Prim.Native.Nat.{ℕ, ◌<◌}
 use mathlib.Core.Path.{◌≡◌, refl, sym, ap, ◌∙◌}
 use mathlib.Core.Bool.{true, false}
 use mathlib.Core.List.{List}
-use lib.ListN.{length}
 use Rattle.postcard.specs.Message.{Message, Event, Received, Up, Down}
 use Rattle.protocol.specs.State.{State}
 use Rattle.protocol.specs.Run.{Room}

@@ -3,7 +3,7 @@
 use mathlib.Core.Path.{◌≡◌, refl, sym, ap, ◌∙◌}
 use mathlib.Core.List.{List, [], ◌∷◌}
 use mathlib.Core.Option.{Option, none, some}
-use Prim.Native.Nat.{ℕ, ◌+◌, ◌≤◌}
+use Prim.Native.Nat.{ℕ, ◌+◌}
 use lib.ListN.{length, replicate, length-replicate}
 use Rattle.storage.specs.Lists.Base.{member}
 use Rattle.storage.specs.Lists.Map.{keys, has}
@@ -31,7 +31,6 @@ use Rattle.block.specs.LinkSteps.{peer_at}
 use Rattle.steps.specs.Rooms.{rooms_in}
 use Rattle.steps.specs.Shared.{HeldIs, sizes_value}
 use Rattle.steps.specs.declared.Held.{Held}
-use Rattle.steps.specs.declared.Held.TheVariants.{Nothing}
 use Rattle.steps.specs.declared.Sizes.{Sizes as CodeSizes}
 use Rattle.steps.specs.Settled.Then.{no_cached, no_grafts}
 use Rattle.steps.specs.SizesBefore.Counts.{TakenIs}

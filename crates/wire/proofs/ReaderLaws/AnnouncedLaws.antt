@@ -1,7 +1,6 @@
 -- Taking the first of the announcements that stand there.
 -- Assumes nothing.
-use Rattle.std.proofs.Common.{◌≡◌, ℕ, zero, suc, ◌-◌, ◌≤◌, take, Bool, true, false, List, [], ◌∷◌, length, refl, sym, ap, subst, ◌∙◌, arith}
-use native.Mathlib.Nat.{sub-zero}
+use Rattle.std.proofs.Common.{◌≡◌, ℕ, zero, suc, ◌-◌, ◌≤◌, take, true, false, List, [], ◌∷◌, length, refl, sym, ap, subst, ◌∙◌, arith}
 use Rattle.postcard.specs.Number.{Read, got, fault, ◌then◌}
 use Rattle.postcard.specs.Message.{Ihave}
 use Rattle.postcard.specs.Decode.{read_ihave, read_ihaves, ihaves_in}

@@ -1,12 +1,12 @@
 -- Groups of seven bits read one after the other, as the loop of `groups` does.
 -- Assumes nothing.
-use Rattle.std.proofs.Common.{◌≡◌, ℕ, zero, suc, ◌+◌, ◌*◌, ◌-◌, ◌^◌, ◌≤◌, ◌<◌, Bool, true, false, List, [], ◌∷◌, Result, Ok, Err, refl, sym, ap, subst, ◌∙◌, arith}
+use Rattle.std.proofs.Common.{◌≡◌, ℕ, zero, suc, ◌+◌, ◌*◌, ◌-◌, ◌^◌, ◌≤◌, ◌<◌, Bool, true, false, List, [], ◌∷◌, Result, refl, sym, ap, subst, ◌∙◌, arith}
 use native.Mathlib.Nat.{pow-succ', le_trans, mul-le-mul, mul-le-mul_left, mul-add, mul_assoc, add_assoc, one-mul, zero-add}
 use native.Mathlib.Nat.{sub-zero}
 use borrow.Author.Tests.{lt-ltb, le-ltb, lt-leb, le-leb, ne_eqb}
 use Rattle.postcard.specs.Number.{Read, got, fault, ◌then◌, last_group, read_groups}
 use Rattle.wire.specs.declared.reader.fault.Fault.{Fault}
-use Rattle.wire.specs.Reader.Gives.{Gives, read_byte, number_of, raised}
+use Rattle.wire.specs.Reader.Gives.{Gives, read_byte, raised}
 
 -- a last group up to `top` leaves the number in its width
 pub last_product : (scale b top : ℕ) → b ≤ top → scale * (top + 1) ≤ 2 ^ 64 → scale * b + scale ≤ 2 ^ 64

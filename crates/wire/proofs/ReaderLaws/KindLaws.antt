@@ -1,11 +1,10 @@
 -- A kind byte: read, and then asked whether it is known.
 -- Assumes nothing.
-use Rattle.std.proofs.Common.{◌≡◌, ℕ, List, [], ◌∷◌, ◌≤◌, ◌<◌, drop, refl, if◌then◌else◌, nat_lt}
+use Rattle.std.proofs.Common.{◌≡◌, ℕ, List, [], ◌∷◌, ◌≤◌, ◌<◌, drop, refl, if◌then◌else◌}
 use Rattle.std.specs.Prelude.{ltb}
 use borrow.Author.Tests.{lt-ltb, le-ltb}
 use Rattle.postcard.specs.Number.{Read, got, fault, ◌then◌, read_kind}
-use Rattle.postcard.specs.Decode.{delivery_kind, message_kind, message_of}
-use Rattle.postcard.specs.Message.{Delivery, Message}
+use Rattle.postcard.specs.Decode.{delivery_kind, message_kind}
 use Rattle.wire.specs.Reader.Gives.{read_byte}
 
 pub kind_by_byte : (kinds : ℕ) (bytes : List ℕ) → read_kind kinds bytes ≡ (read_byte bytes then λ b rest. if ltb b kinds then got b rest else fault 8)

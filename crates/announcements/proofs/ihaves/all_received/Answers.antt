@@ -2,7 +2,7 @@
 use Prim.Native.Nat.{◌+◌}
 use borrow.Author.Rules.{rules}
 use mathlib.Core.Bool.{not}
-use mathlib.Core.Path.{refl, sym, ap, ◌∙◌}
+use mathlib.Core.Path.{sym, ap, ◌∙◌}
 use borrow.Author.Tests.{not-true, not-false}
 use Rattle.postcard.specs.Values.{ihave_value}
 use Rattle.wire.specs.Reader.Values.{ihaves_value}

@@ -1,8 +1,7 @@
 -- `ihave_sizes`: after i entries the numbers are those of the first i.
 use borrow.Author.Rules.{rules}
-use Prim.Native.Nat.{◌+◌, ◌≤◌, ◌<◌}
+use Prim.Native.Nat.{◌<◌}
 use native.Mathlib.Omega.{arith}
-use lib.ListN.{length}
 use Rattle.postcard.specs.Values.{ihave_value}
 use Rattle.wire.specs.Reader.Values.{ihaves_value}
 use Rattle.wire.proofs.ReaderLaws.AnnouncedLaws.{announced_count}

@@ -1,6 +1,5 @@
 -- `handle_down`: nothing grows, so the state fits.
 use mathlib.Core.Path.{refl}
-use mathlib.Core.List.{[]}
 use lib.ListN.{length}
 use Rattle.blake3.specs.Blake3.{identifier}
 use Rattle.block.specs.View.{state_of}

@@ -5,7 +5,6 @@ use mathlib.Core.Bool.{not}
 use borrow.Author.Tests.{not-false}
 use lib.Dec.{ltb}
 use lib.ListN.{length}
-use Rattle.storage.specs.Rows.Ident.{id_of}
 use Rattle.postcard.specs.Sizes.{gossip_size}
 use Rattle.postcard.specs.Values.{scope_value}
 use Rattle.block.specs.View.{state_of}

@@ -1,4 +1,4 @@
-use Rattle.std.proofs.Common.{◌≡◌, refl, true, false, arith}
+use Rattle.std.proofs.Common.{arith}
 use Rattle.wire.proofs.ReaderLaws.GroupLaws.{last_product, group-high, group-nought, group-low}
 use Rattle.wire.proofs.reader.last_group.Goals as goal
 use Rattle.wire.proofs.reader.last_group.Goals.{else-group-eq0-via-then-group-eq0+else-not-nought, else-group-eq0-via-else-group-eq0}

@@ -1,5 +1,5 @@
 -- `rewrite`: read, measured, asked 14, written.
-use Rattle.std.proofs.Common.{arith, rules, ◌≤◌, length}
+use Rattle.std.proofs.Common.{arith, ◌≤◌, length}
 use Rattle.std.proofs.lemmas.Result.{err_from_is_err_and}
 use Rattle.postcard.proofs.FieldBack.{bytes-each}
 use Rattle.postcard.specs.Message.{message_bytes}

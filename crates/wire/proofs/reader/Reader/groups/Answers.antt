@@ -1,5 +1,5 @@
 -- `groups`: the loop passes the groups one by one (`Passed`), and the last is judged by `last_group`.
-use Rattle.std.proofs.Common.{◌≡◌, ◌-◌, ◌+◌, ◌<◌, ◌*◌, ◌≤◌, ◌^◌, arith, rules}
+use Rattle.std.proofs.Common.{◌-◌, ◌<◌, ◌*◌, ◌≤◌, ◌^◌, arith, rules}
 use Rattle.std.proofs.lemmas.Result.{err_from_is_err_and, IfOk-weaker}
 use Rattle.wire.proofs.ReaderLaws.GroupLaws.{more_product, passed_none, passed-end, passed-last, passed-all, passed-more, room_more, room_last, width-more, width-last}
 use Rattle.wire.specs.Reader.Gives.{number_of}

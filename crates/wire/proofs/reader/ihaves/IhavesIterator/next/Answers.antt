@@ -1,5 +1,4 @@
 -- `next`: the first of the announcements that stand there, and the others.
-use Rattle.std.proofs.Common.{◌≡◌}
 use Rattle.wire.specs.Reader.Gives.{number_of}
 use Rattle.postcard.specs.Values.{ihave_value}
 use Rattle.wire.proofs.ReaderLaws.AnnouncedLaws.{announced_none, announced_first, announced_there}

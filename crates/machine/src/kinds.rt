@@ -18,7 +18,6 @@ use postcard::units::{Millis, Round};
 use steps::settled;
 use storage::rows::id;
 use storage::rows::id::Id;
-use storage::rows::table::Found;
 use wire::serialized_size;
 
 // The steps. A content is its place and length in the event, a list of announcements its place and count; a neighbour is the number of its link.
@@ -158,16 +157,16 @@ pub fn message_step(
             delivery,
         } => gossip_step(h, block, instant, event, sender, id, start, len, delivery),
         Message::Prune => match f {
-            Found::At(link) => Step::Prune { link },
-            Found::Before(_) => Step::Nothing,
+            Ok(link) => Step::Prune { link },
+            Err(_) => Step::Nothing,
         },
         Message::Graft { wanted, round: _ } => match f {
-            Found::At(link) => Step::Graft { link, wanted },
-            Found::Before(_) => Step::Nothing,
+            Ok(link) => Step::Graft { link, wanted },
+            Err(_) => Step::Nothing,
         },
         Message::IHave { start, count } => match f {
-            Found::At(link) => ihave_step(h, block, instant, event, link, start, count),
-            Found::Before(_) => Step::Nothing,
+            Ok(link) => ihave_step(h, block, instant, event, link, start, count),
+            Err(_) => Step::Nothing,
         },
     }
 }

@@ -30,7 +30,6 @@ use postcard::message::Wanted;
 use postcard::units::Millis;
 use steps::{Sizes, settled, sizes_before};
 use storage::rows::id::Id;
-use storage::rows::table::Found;
 
 // The reply to a Graft: what a push of the cached message to one link adds to the record. Its time is that of `sizes_then`, of a look-up in the message cache,
 // and of one pass over the record's column of link numbers.
@@ -120,8 +119,8 @@ fn missing_without(h: Head, block: &[u8], id: Id) -> usize
 {
     let f = missing::find_missing(h, block, id);
     match f {
-        Found::At(_) => h.live.missing - 1,
-        Found::Before(_) => h.live.missing,
+        Ok(_) => h.live.missing - 1,
+        Err(_) => h.live.missing,
     }
 }
 
@@ -132,8 +131,8 @@ fn timers_without(h: Head, block: &[u8], id: Id) -> usize
 {
     let f = timers::find_timer(h, block, id);
     match f {
-        Found::At(_) => h.live.timers - 1,
-        Found::Before(_) => h.live.timers,
+        Ok(_) => h.live.timers - 1,
+        Err(_) => h.live.timers,
     }
 }
 

@@ -13,7 +13,6 @@ use crate::head::Head;
 use crate::{head, time_caches};
 use postcard::units::{Millis, Round};
 use storage::rows::id::Id;
-use storage::rows::table::Found;
 use storage::rows::word;
 
 // Where the content of a cached message stands among the contents: table 6.
@@ -24,7 +23,7 @@ pub struct Content {
 }
 
 // Where an identifier stands in the message cache, or before which it would stand.
-pub fn find_cached(h: Head, block: &[u8], id: Id) -> Found
+pub fn find_cached(h: Head, block: &[u8], id: Id) -> Result<usize, usize>
     requires { Sound h block.now × InOrder (state_of h block.now).cache }
     ensures { FoundIs (keys (state_of h block.now).cache.entries) (id_of id) result }
 {

@@ -15,11 +15,10 @@ use crate::hops::Hop;
 use crate::{head, hops, time_caches};
 use postcard::units::{Millis, Round};
 use storage::rows::id::Id;
-use storage::rows::table::Found;
 use storage::rows::word;
 
 // Where an identifier stands among the grafted messages, or before which it would stand.
-pub fn find_grafted(h: Head, block: &[u8], id: Id) -> Found
+pub fn find_grafted(h: Head, block: &[u8], id: Id) -> Result<usize, usize>
     requires { Sound h block.now × InOrder (state_of h block.now).grafted }
     ensures { FoundIs (keys (state_of h block.now).grafted.entries) (id_of id) result }
 {

@@ -8,13 +8,6 @@ ghost use Rattle.storage.specs.Rows.Sorted.{keys, TellsAscending};
 use crate::rows::id;
 use crate::rows::id::Order;
 
-// Where a key stands in a table, or the row before which it would stand.
-#[derive(Clone, Copy)]
-pub enum Found {
-    At(usize),
-    Before(usize),
-}
-
 // Copies the k bytes at `from` to `to`, which is not before it: from the last byte to the first, since the two may overlap.
 pub fn move_up(b: &mut [u8], from: usize, to: usize, k: usize)
     requires { (from ≤ to) × (to + k ≤ length b.old) }

@@ -1,11 +1,9 @@
 // AnnounceDropped (the specification, "Ticks"): the record's entries that are still cached go to the queue again.
-ghost use Rattle.std.specs.Prelude.{◌≡◌, ◌+◌, ◌<◌};
+ghost use Rattle.std.specs.Prelude.{◌≡◌, ◌+◌};
 ghost use Rattle.storage.specs.Lists.Base.{concat_map};
-ghost use Rattle.storage.specs.Rows.Ident.{id_of};
 ghost use Rattle.postcard.specs.Message.{action_bytes};
 ghost use Rattle.wire.specs.Output.Written.{Tellable, Written};
 ghost use Rattle.block.specs.View.{state_of};
-ghost use Rattle.block.specs.Sound.{Sound};
 ghost use Rattle.block.specs.Goes.{Goes};
 ghost use Rattle.decide.specs.Settled.{settled};
 ghost use Rattle.decide.specs.SizesAfter.{announce_sizes};
@@ -18,11 +16,9 @@ ghost use Rattle.announcements.specs.Announce.Counted.{MovedIs, if_any};
 
 use block::caches::cached;
 use block::head::Head;
-use block::{head, note};
-use postcard::units::{Millis, Round};
+use block::note;
+use postcard::units::Millis;
 use steps::{Sizes, settled, ticks};
-use storage::rows::id::Id;
-use storage::rows::{id, word};
 
 // How many entries of the record AnnounceDropped moves to the queue, and how many it leaves.
 #[derive(Clone, Copy)]

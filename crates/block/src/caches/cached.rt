@@ -17,11 +17,14 @@ use storage::rows::word;
 
 // How many bytes an entry has, and where its round stands.
 pub const ENTRY_WIDTH: usize = 4;
+
 const ROUND: usize = 2;
 
 // How many bytes an expiry row has, and where start and length of the content stand.
 pub const ROW_WIDTH: usize = 48;
+
 const START: usize = 40;
+
 const LEN: usize = 44;
 
 // Where the content of a cached message stands among the contents: table 6.

@@ -20,11 +20,17 @@ use storage::rows::word;
 // How many bytes an entry has, and where its parts stand: a flag and behind it the peer and the round of `first`, a flag and behind it the peer of `kept`,
 // and the list of the grafted peers.
 pub const ENTRY_WIDTH: usize = 119;
+
 const FIRST: usize = 2;
+
 const FIRST_PEER: usize = 3;
+
 const FIRST_ROUND: usize = 11;
+
 const KEPT: usize = 13;
+
 const KEPT_PEER: usize = 14;
+
 const PEERS: usize = 22;
 
 // How many bytes an expiry row has.

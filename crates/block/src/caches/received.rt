@@ -14,6 +14,7 @@ use storage::rows::id::Id;
 
 // How many bytes an entry has, and how many an expiry row.
 pub const ENTRY_WIDTH: usize = 2;
+
 pub const ROW_WIDTH: usize = 40;
 
 // Whether a message is received.

@@ -1,6 +1,5 @@
 -- `set_dropped`: number and row are another note in their place.
-use mathlib.Core.Path.{sym, ap, ◌∙◌}
-use Prim.Native.Nat.{ℕ, ◌+◌}
+use Prim.Native.Nat.{◌+◌}
 use native.Mathlib.Omega.{arith}
 use Rattle.storage.specs.Rows.Ident.{id_of}
 use Rattle.block.proofs.NoteLaws.{instead-goes, record-room}

@@ -1,5 +1,4 @@
 -- `load`: the identifier, and behind it the round.
-use mathlib.Core.Path.{◌≡◌}
 use Rattle.block.specs.View.{id_at, half_at}
 use Rattle.block.specs.Rows.{noted}
 use Rattle.block.proofs.note.NotedRow.load.Goals as goal

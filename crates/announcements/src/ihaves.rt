@@ -25,7 +25,6 @@ use postcard::units::{Millis, Round};
 use steps::settled;
 use storage::rows::id;
 use storage::rows::id::Id;
-use storage::rows::table::Found;
 use wire::output;
 use wire::reader::ihaves::Ihaves;
 
@@ -43,8 +42,8 @@ fn mark_timer(h: Head, block: &mut [u8], id: Id) -> Head
 {
     let f = timers::find_timer(h, block, id);
     match f {
-        Found::At(_) => h,
-        Found::Before(i) => timers::insert_timer(h, block, i, id),
+        Ok(_) => h,
+        Err(i) => timers::insert_timer(h, block, i, id),
     }
 }
 
@@ -95,8 +94,8 @@ fn is_missing(h: Head, block: &[u8], id: Id) -> bool
 {
     let f = missing::find_missing(h, block, id);
     match f {
-        Found::At(_) => true,
-        Found::Before(_) => false,
+        Ok(_) => true,
+        Err(_) => false,
     }
 }
 
@@ -107,8 +106,8 @@ fn has_timer(h: Head, block: &[u8], id: Id) -> bool
 {
     let f = timers::find_timer(h, block, id);
     match f {
-        Found::At(_) => true,
-        Found::Before(_) => false,
+        Ok(_) => true,
+        Err(_) => false,
     }
 }
 

@@ -17,7 +17,6 @@ use postcard::units::{Millis, Round};
 use steps::settled;
 use storage::rows::id;
 use storage::rows::id::Id;
-use storage::rows::table::Found;
 use wire::reader::ihaves::Ihaves;
 use wire::reader::message::Message;
 use wire::serialized_size;
@@ -146,16 +145,16 @@ pub fn message_step<'a>(
             delivery,
         } => gossip_step(h, block, instant, sender, id, content, delivery),
         Message::Prune => match f {
-            Found::At(link) => Step::Prune { link },
-            Found::Before(_) => Step::Nothing,
+            Ok(link) => Step::Prune { link },
+            Err(_) => Step::Nothing,
         },
         Message::Graft { wanted, .. } => match f {
-            Found::At(link) => Step::Graft { link, wanted },
-            Found::Before(_) => Step::Nothing,
+            Ok(link) => Step::Graft { link, wanted },
+            Err(_) => Step::Nothing,
         },
         Message::IHave(ihaves) => match f {
-            Found::At(link) => ihave_step(h, block, instant, link, ihaves),
-            Found::Before(_) => Step::Nothing,
+            Ok(link) => ihave_step(h, block, instant, link, ihaves),
+            Err(_) => Step::Nothing,
         },
     }
 }

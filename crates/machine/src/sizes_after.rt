@@ -29,7 +29,6 @@ use payloads::eager::{back, reply};
 use postcard::units::Millis;
 use steps::{Sizes, settled, sizes_before};
 use storage::rows::id::Id;
-use storage::rows::table::Found;
 use wire::reader::ihaves::Ihaves;
 
 // The reply to a Graft: what a push of the cached message to one link adds to the record. Its time is that of `sizes_then`, of a look-up in the message cache,
@@ -113,8 +112,8 @@ fn missing_without(h: Head, block: &[u8], id: Id) -> usize
 {
     let f = missing::find_missing(h, block, id);
     match f {
-        Found::At(_) => h.live.missing - 1,
-        Found::Before(_) => h.live.missing,
+        Ok(_) => h.live.missing - 1,
+        Err(_) => h.live.missing,
     }
 }
 
@@ -125,8 +124,8 @@ fn timers_without(h: Head, block: &[u8], id: Id) -> usize
 {
     let f = timers::find_timer(h, block, id);
     match f {
-        Found::At(_) => h.live.timers - 1,
-        Found::Before(_) => h.live.timers,
+        Ok(_) => h.live.timers - 1,
+        Err(_) => h.live.timers,
     }
 }
 

@@ -24,7 +24,6 @@ use postcard::units::{Millis, Round};
 use steps::grafts::reads;
 use steps::{Held, settled};
 use storage::rows::id::Id;
-use storage::rows::table::Found;
 use wire::output;
 
 // The announcer that the tree is optimised by, if there is one.
@@ -60,7 +59,7 @@ fn closer(h: Head, block: &[u8], id: Id, round: Round) -> Best
 {
     let f = missing::find_missing(h, block, id);
     match f {
-        Found::At(i) => {
+        Ok(i) => {
             let best = least_announcer(h, block, i);
             let near = best.round.0;
             if round.0 <= near {
@@ -71,7 +70,7 @@ fn closer(h: Head, block: &[u8], id: Id, round: Round) -> Best
             }
             Best::Closer(best)
         }
-        Found::Before(_) => Best::Nothing,
+        Err(_) => Best::Nothing,
     }
 }
 
@@ -82,7 +81,7 @@ fn wants_optimise(h: Head, block: &[u8], instant: Millis, sender: u64, id: Id, r
 {
     let f = links::find_link(h, block, sender);
     match f {
-        Found::At(link) => {
+        Ok(link) => {
             let held = settled::grafted_then(h, block, instant, id);
             let out = reads::graft_out(h, block, held, link, round);
             if out {
@@ -90,7 +89,7 @@ fn wants_optimise(h: Head, block: &[u8], instant: Millis, sender: u64, id: Id, r
             }
             Held::At(link)
         }
-        Found::Before(_) => Held::Nothing,
+        Err(_) => Held::Nothing,
     }
 }
 

@@ -2,13 +2,19 @@
 ghost use Rattle.std.specs.Prelude.{◌≡◌, ◌≤◌, length, take, drop};
 ghost use Rattle.postcard.specs.Output.{Wrote};
 ghost use Rattle.panel.specs.Records.Reading.{Tells, may_fit, Timed, Lengthed};
-ghost use Rattle.panel.specs.Records.Running.{answer_bytes, end_bytes, closing};
+ghost use Rattle.panel.specs.Records.Running.{answer_bytes};
 
 use postcard::units::Millis;
 use wire::encode::Encode;
 use wire::encode::sink::Sink;
 use wire::number::NumberRead;
 use wire::{encode, number};
+
+// "output 40,960".
+pub const OUTPUT: usize = 40960;
+
+// An answer byte, a number of at most ten bytes, and the output.
+pub const REPLY: usize = 40971;
 
 // What the first bytes of the input tell of its first record.
 #[derive(Clone, Copy)]
@@ -109,7 +115,7 @@ pub struct Answer<'a> {
 impl<'a> Encode for Answer<'a> {
     ghost bytes = { λ a. answer_bytes a.number a.actions.now };
 
-    #[tactic(auto, unfolding(crate::specs::Records::Running::answer_bytes, postcard::specs::Message::content_bytes), using(crate::proofs::EncodeLaws::HeldLaws::after_append, crate::proofs::EncodeLaws::HeldLaws::room_after, crate::proofs::EncodeLaws::HeldLaws::length_both))]
+    #[tactic(auto, unfolding(crate::specs::Records::Running::answer_bytes, postcard::specs::Message::content_bytes), using(wire::proofs::EncodeLaws::HeldLaws::after_append, wire::proofs::EncodeLaws::HeldLaws::room_after, wire::proofs::EncodeLaws::HeldLaws::length_both))]
     fn encode<S: Sink>(&self, out: &mut S) {
         out.byte(self.number);
         self.actions.encode(out);
@@ -117,8 +123,8 @@ impl<'a> Encode for Answer<'a> {
 }
 
 // Writes an answer, whose actions are the first `n` bytes of the output.
-pub fn put_answer(reply: &mut [u8; 40971], number: u8, out: &[u8], n: usize) -> usize
-    requires { (n ≤ length out.now) × (n ≤ 40960) }
+pub fn put_answer(reply: &mut [u8; REPLY], number: u8, out: &[u8], n: usize) -> usize
+    requires { (n ≤ length out.now) × (n ≤ OUTPUT) }
     ensures { Wrote (answer_bytes number (take n out.now)) reply.old 0 reply.new result }
 {
     let answer = Answer {
@@ -126,26 +132,4 @@ pub fn put_answer(reply: &mut [u8; 40971], number: u8, out: &[u8], n: usize) -> 
         actions: &out[..n],
     };
     encode::put(reply, 0, &answer)
-}
-
-// Writes the end: "07 00".
-#[tactic(auto, unfolding(crate::specs::Records::Running::end_bytes, crate::specs::Records::Running::answer_bytes))]
-pub fn put_end(reply: &mut [u8; 40971]) -> usize
-    ensures { Wrote end_bytes reply.old 0 reply.new result }
-{
-    let end = Answer {
-        number: 7,
-        actions: &[],
-    };
-    encode::put(reply, 0, &end)
-}
-
-// At the end of the input: unread bytes are a record that is cut; where there are none, nothing is written.
-pub fn put_closing(reply: &mut [u8; 40971], unread: &[u8]) -> usize
-    ensures { Wrote (closing unread.now) reply.old 0 reply.new result }
-{
-    if unread.len() == 0 {
-        return 0;
-    }
-    put_end(reply)
 }

@@ -41,17 +41,15 @@ impl<'a> Panel<'a> {
             max_last_delivery_hop: 0,
         };
         let answer = plumtree::plumtree_create(block, &mut counts, settings, limits);
-        match Refusal::of(answer.number) {
-            Some(refusal) => Err(refusal),
-            None => {
-                let past = Past::new(&settings, &limits);
-                Ok(Panel {
-                    block,
-                    counts,
-                    past,
-                })
-            }
+        if let Some(refusal) = Refusal::of(answer.number) {
+            return Err(refusal);
         }
+        let past = Past::new(&settings, &limits);
+        Ok(Panel {
+            block,
+            counts,
+            past,
+        })
     }
 
     // An event call, questions 5 to 14: the length of the output. Refused or not, it is one more of the list, of which the guarantee holds again (`leads`).

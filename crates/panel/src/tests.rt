@@ -11,6 +11,7 @@ const INPUT: [u8; 13] = [0, 2, 3, 2, 0, 2, 2, 1, 0, 3, 0, 5, 1];
 const ANSWERS: [u8; 10] = [0, 0, 0, 4, 2, 0xe8, 7, 2, 0, 0];
 
 // Gives a byte a time, and fails when none is left.
+#[derive(Drop)]
 struct Broken<'a> {
     rest: &'a [u8],
 }

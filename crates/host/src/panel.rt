@@ -33,7 +33,7 @@ impl<'a> Panel<'a> {
         limits: Limits,
     ) -> Result<Panel<'a>, Refusal>
         ensures begins { IfOk result (λ panel. panel.past.list ≡ fresh_list settings limits) }
-        ensures refused { IfErr result (λ r. create (settings_of settings) (limits_of limits) (length block.now) ≡ not_created (number_of r)) }
+        ensures refused { IfErr result (λ r. create (settings_of settings) (limits_of limits) (length block.old) ≡ not_created (number_of r)) }
     {
         let mut counts = Stats {
             payload_messages_received: 0,
@@ -41,15 +41,17 @@ impl<'a> Panel<'a> {
             max_last_delivery_hop: 0,
         };
         let answer = plumtree::plumtree_create(block, &mut counts, settings, limits);
-        if let Some(refusal) = Refusal::of(answer.number) {
-            return Err(refusal);
+        match Refusal::of(answer.number) {
+            Some(refusal) => Err(refusal),
+            None => {
+                let past = Past::new(&settings, &limits);
+                Ok(Panel {
+                    block,
+                    counts,
+                    past,
+                })
+            }
         }
-        let past = Past::new(&settings, &limits);
-        Ok(Panel {
-            block,
-            counts,
-            past,
-        })
     }
 
     // An event call, questions 5 to 14: the length of the output. Refused or not, it is one more of the list, of which the guarantee holds again (`leads`).

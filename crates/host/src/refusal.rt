@@ -82,7 +82,8 @@ impl Refusal {
             Refusal::OutputTooShort => "the output is too short",
             Refusal::NameNotKept => "no state is kept under this name",
             Refusal::NamesFull => "four states are kept under other names",
-            Refusal::AreaNotWhole => "the area is too short, damaged, or of blocks of another length",
+            Refusal::AreaNotWhole =>
+                "the area is too short, damaged, or of blocks of another length",
         }
     }
 
@@ -92,7 +93,8 @@ impl Refusal {
             Refusal::MessageSizeOutOfRange => "Is M, `max_message_size`, from 510 to 4,094?",
             Refusal::DurationTooLong => "Is each of the six durations at most 2^40?",
             Refusal::LimitOutOfRange => "Is each limit from 1 to its ceiling?",
-            Refusal::BlockTooShort => "Has the lent block at least 4,096 + B + 160R + 256C + 640G + 512S + 64(N + T + Q + D) bytes?",
+            Refusal::BlockTooShort =>
+                "Has the lent block at least 4,096 + B + 160R + 256C + 640G + 512S + 64(N + T + Q + D) bytes?",
             Refusal::BlockNotWhole => "Is the block whole?",
             Refusal::TimeTooLate => "Is now ≤ 2^62?",
             Refusal::EventCut => "Does each field end within the bytes?",
@@ -100,12 +102,14 @@ impl Refusal {
             Refusal::EventTooLong => "Do the bytes end there?",
             Refusal::MessageTooLong => "Is a received message at most M bytes?",
             Refusal::CountsFull => "Do the counts stay under 2^64?",
-            Refusal::NoMoreHops => "Is it anything but a valid Swarm message of round 65,535, unreceived once a first event has evicted?",
+            Refusal::NoMoreHops =>
+                "Is it anything but a valid Swarm message of round 65,535, unreceived once a first event has evicted?",
             Refusal::LimitReached => "Is the state after the call within every limit?",
             Refusal::OutputTooShort => "Do the actions fit the output?",
             Refusal::NameNotKept => "Returning to a name not kept",
             Refusal::NamesFull => "saving a fifth name",
-            Refusal::AreaNotWhole => "an area too short, or one that savings of blocks of this length couldn't have left",
+            Refusal::AreaNotWhole =>
+                "an area too short, or one that savings of blocks of this length couldn't have left",
         }
     }
 }

@@ -286,7 +286,7 @@ def explain(world, d):
         bound |= set(told.split()[1:]) if d.kind == "record" else set()
 
 
-# ---- types and contracts in the code
+# ---- types, constants and contracts in the code
 
 
 class Source(File):
@@ -323,6 +323,13 @@ class Source(File):
                 d.constructors = [m[1] for l in d.lines[d.above + 1 :] if (m := re.match(r"    (\w+)", l))]
             words = re.findall(r"\b[A-Z]\w*", re.sub(r"\w+:", "", text.split(name, 1)[1]))
             self.types(world, d, [w for w in words if w not in d.constructors])
+        return d
+
+    # A constant is told with the types: its type and its value.
+    def constant_named(self, world, name):
+        d = self.declared(rf"pub const {name}\b", r";$", "type", name)
+        if d:
+            self.types(world, d, re.findall(r"\b[A-Z]\w*", d.lines[d.above].split("=")[0].split(":", 1)[1]))
         return d
 
     def types(self, world, d, words):
@@ -392,11 +399,12 @@ class World:
             self.sources[crate, name] = Source(crate, name, path) if os.path.exists(path) else None
         return self.sources[crate, name]
 
-    def type_at(self, crate, where, name):
+    def type_at(self, crate, where, name, constant=False):
         file = "/".join(where) or "lib"
         if (crate, file, name) not in self.types:
             source = self.source(crate, file)
-            self.types[crate, file, name] = source and source.type_named(self, name)
+            told = source and (source.constant_named if constant else source.type_named)
+            self.types[crate, file, name] = told and told(self, name)
         return self.types[crate, file, name]
 
     # What a name of a module stands for: a definition, a name of the kit (a text), or nothing.
@@ -408,6 +416,8 @@ class World:
             return None
         if m[2]:
             *where, own = m[3].removesuffix(".TheVariants").split(".")
+            if own == "TheConstants":
+                return self.type_at(m[1], where, name, constant=True)
             found = self.type_at(m[1], where, own)
             return found if found and name in [own, *found.constructors] else None
         file = self.file(m[1], m[3])
@@ -522,7 +532,7 @@ def count(found):
     lines = lambda ds: sum(len(d.code()) + bool(d.fixity) for d in ds)
     defs = kind("function", "record", "data")
     sentences = sum(len(d.lines) - len(d.code()) for d in defs)
-    return f"{len(defs)} definitions, {lines(defs):,} lines, with {sentences:,} lines of sentences; {len(kind('type'))} types of the code, {lines(kind('type'))} lines; {len(kind('contract'))} contracts"
+    return f"{len(defs)} definitions, {lines(defs):,} lines, with {sentences:,} lines of sentences; {len(kind('type'))} types and constants of the code, {lines(kind('type'))} lines; {len(kind('contract'))} contracts"
 
 
 def main(words):

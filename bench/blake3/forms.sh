@@ -1,10 +1,10 @@
 #!/bin/sh
 # Times of the identifier in several forms, which take turns:
-#     bench/blake3/forms.sh [SECONDS for each size]       # its code as it stands, and with the changes of forms/, all of crates/blake3/src
+#     bench/blake3/forms.sh [SECONDS for each size]       # its code as it stands, twice
 #     bench/blake3/forms.sh SECONDS COMMIT ..             # and that code as it was at each commit
 #     bench/blake3/forms.sh SECONDS NAME=ARCHIVE ..       # these archives alone, as `tools/staticlib.sh exports` writes them
 # The first two are built without proofs, for the measurement alone: LLVM is told less there than of a proved crate, so their times compare the forms with each other only.
-# A commit before the code was brought to this kit is not built. Needs rustc, patch and cc.
+# A commit before the code was brought to this kit is not built. Needs rustc and cc.
 set -eu
 here=$(cd "$(dirname "$0")" && pwd)
 root=$(cd "$here/../.." && pwd)
@@ -27,17 +27,6 @@ finish() {
     libraries="$libraries $1=$work/$1.so"
 }
 
-# a form, NAME, of the changes that are named after it
-change() {
-    begin "$1"
-    name=$1
-    shift
-    for c in "$@"; do
-        patch -s -p1 -d "$work/$name" <"$here/forms/$c.patch"
-    done
-    finish "$name"
-}
-
 archives() {
     for a in "$@"; do
         cc -shared -o "$work/${a%%=*}.so" -Wl,--whole-archive "${a#*=}" -Wl,--no-whole-archive
@@ -56,10 +45,6 @@ forms() {
         git -C "$root" archive "$commit" crates/blake3/src | tar -x -C "$work/$commit"
         finish "$commit"
     done
-    for p in "$here"/forms/*.patch; do
-        change "$(basename "$p" .patch)" "$(basename "$p" .patch)"
-    done
-    change loop_each_use loop_of_rounds each_use
 }
 
 case ${1:-} in

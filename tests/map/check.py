@@ -1,6 +1,6 @@
 #!/usr/bin/env python3
 # docs/ARCHITECTURE.md against the repository: its crates are those of crates.txt, in that order and in those layers, which are README's too; each function and each word that it names
-# is where it says; each request names crates that are there, or that an earlier one brings. Usage, from the repository's top: tests/map/check.py
+# is where it says. Usage, from the repository's top: tests/map/check.py
 import glob, re, sys
 
 
@@ -71,22 +71,12 @@ def words(page):
             need(there, f"{word} is not defined in {' '.join(paths)}")
 
 
-def requests(page, every):
-    rows, known = table(page, "Changes asked for"), set(every)
-    need([row[0].split()[0] for row in rows] == list("abcdefghijklmn"), "the requests are not a to n")
-    for request, changed, new in rows:
-        for crate in names(changed):
-            need(crate in known, f"request {request}: there is no crate {crate}")
-        known |= set(names(new))
-
-
 def main():
     page, layers = read("docs/ARCHITECTURE.md"), listed()
     every = [c for own in layers.values() for c in own]
     crates(page, layers)
     functions(page, every)
     words(page)
-    requests(page, every)
     if wrong:
         sys.exit("\n".join(wrong))
     print(f"tests/map: {len(every)} crates in {len(layers)} layers, {len(page.splitlines())} lines")

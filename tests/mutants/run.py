@@ -34,7 +34,7 @@ def code_of(text, function):
     begin = 0
     if '::' in function:
         of, function = function.split('::')
-        impl = re.search(r'^impl\b.* for ' + re.escape(of) + r'(<[^>]*>)? \{$', text, re.M)
+        impl = re.search(r'^impl\b(?:.* for|(?:<[^>]*>)?) ' + re.escape(of) + r'(<[^>]*>)? \{$', text, re.M)
         if not impl:
             return 0, 0
         begin = impl.end()

@@ -28,66 +28,50 @@ pub enum Answer {
     No,
 }
 
-// Whether both are so.
-fn both(x: bool, y: bool) -> bool
-    ensures { result ≡ (x && y) }
-{
-    if x {
-        return y;
-    }
-    false
-}
-
 // "own peer number, settings"
+#[tactic(auto, unfolding(protocol::specs::Alike::same_settings))]
 fn same_settings(a: Settings, b: Settings) -> bool
     ensures { result ≡ same_settings (settings_of a) (settings_of b) }
 {
     let c = a.config;
     let d = b.config;
-    let graft = both(
-        c.graft_timeout_1.0 == d.graft_timeout_1.0,
-        c.graft_timeout_2.0 == d.graft_timeout_2.0,
-    );
-    let dispatch = both(graft, c.dispatch_timeout.0 == d.dispatch_timeout.0);
-    let threshold = both(
-        dispatch,
-        c.optimization_threshold.0 == d.optimization_threshold.0,
-    );
-    let cache = both(
-        threshold,
-        c.message_cache_retention.0 == d.message_cache_retention.0,
-    );
-    let ids = both(cache, c.message_id_retention.0 == d.message_id_retention.0);
-    let evict = both(ids, c.cache_evict_interval.0 == d.cache_evict_interval.0);
-    let size = both(evict, a.max_message_size == b.max_message_size);
-    both(size, a.me == b.me)
+    c.graft_timeout_1.0 == d.graft_timeout_1.0
+        && c.graft_timeout_2.0 == d.graft_timeout_2.0
+        && c.dispatch_timeout.0 == d.dispatch_timeout.0
+        && c.optimization_threshold.0 == d.optimization_threshold.0
+        && c.message_cache_retention.0 == d.message_cache_retention.0
+        && c.message_id_retention.0 == d.message_id_retention.0
+        && c.cache_evict_interval.0 == d.cache_evict_interval.0
+        && a.max_message_size == b.max_message_size
+        && a.me == b.me
 }
 
 // "limits"
+#[tactic(auto, unfolding(protocol::specs::Alike::same_limits))]
 fn same_limits(a: Limits, b: Limits) -> bool
     ensures { result ≡ same_limits (limits_of a) (limits_of b) }
 {
-    let received = both(a.neighbours == b.neighbours, a.received == b.received);
-    let cached = both(received, a.cached == b.cached);
-    let content = both(cached, a.content == b.content);
-    let grafted = both(content, a.grafted == b.grafted);
-    let missing = both(grafted, a.missing == b.missing);
-    let timers = both(missing, a.timers == b.timers);
-    let queued = both(timers, a.queued == b.queued);
-    both(queued, a.dropped == b.dropped)
+    a.neighbours == b.neighbours
+        && a.received == b.received
+        && a.cached == b.cached
+        && a.content == b.content
+        && a.grafted == b.grafted
+        && a.missing == b.missing
+        && a.timers == b.timers
+        && a.queued == b.queued
+        && a.dropped == b.dropped
 }
 
 // "flags"
+#[tactic(auto, unfolding(protocol::specs::Alike::same_flags, block::specs::View::state_of))]
 fn same_flags(ha: Head, a: &[u8], hb: Head, b: &[u8]) -> bool
     ensures { result ≡ same_flags (state_of ha a.now) (state_of hb b.now) }
 {
     let v = ha.live;
     let w = hb.live;
-    let init = tables::same_flag(v.init, w.init);
-    let dispatch = tables::same_flag(v.dispatch_timer_scheduled, w.dispatch_timer_scheduled);
-    let announce = tables::same_flag(v.announce_dropped_scheduled, w.announce_dropped_scheduled);
-    let two = both(init, dispatch);
-    both(two, announce)
+    tables::same_flag(v.init, w.init)
+        && tables::same_flag(v.dispatch_timer_scheduled, w.dispatch_timer_scheduled)
+        && tables::same_flag(v.announce_dropped_scheduled, w.announce_dropped_scheduled)
 }
 
 // "sets .. and maps": links, queue, record, announcers, graft timers.
@@ -143,46 +127,33 @@ fn same_caches(ha: Head, a: &[u8], hb: Head, b: &[u8]) -> bool
 }
 
 // The states of two blocks.
+#[tactic(auto, unfolding(protocol::specs::Alike::alike, block::specs::View::state_of))]
 fn same_states(ha: Head, a: &[u8], hb: Head, b: &[u8]) -> bool
     requires { Sound ha a.now × LinksAscend ha a.now × Sound hb b.now × LinksAscend hb b.now }
     ensures { result ≡ alike (state_of ha a.now) (state_of hb b.now) }
 {
-    let settings = same_settings(ha.settings, hb.settings);
-    if !settings {
-        return false;
-    }
-    let limits = same_limits(ha.limits, hb.limits);
-    if !limits {
-        return false;
-    }
-    let flags = same_flags(ha, a, hb, b);
-    if !flags {
-        return false;
-    }
-    let tables = same_tables(ha, a, hb, b);
-    if !tables {
-        return false;
-    }
-    same_caches(ha, a, hb, b)
+    same_settings(ha.settings, hb.settings)
+        && same_limits(ha.limits, hb.limits)
+        && same_tables(ha, a, hb, b)
+        && same_caches(ha, a, hb, b)
+        && same_flags(ha, a, hb, b)
 }
 
 // *Alike*.
 pub fn alike(a: &[u8], b: &[u8]) -> Answer
     ensures { answered result ≡ alike_blocks (length a.now) (held a.now) (length b.now) (held b.now) }
 {
-    let first = whole::is_whole(a);
-    if !first {
+    if !whole::is_whole(a) {
         return Answer::NotWhole;
     }
-    let second = whole::is_whole(b);
-    if !second {
+    if !whole::is_whole(b) {
         return Answer::NotWhole;
     }
     let ha = header::load_head(a);
     let hb = header::load_head(b);
-    let yes = same_states(ha, a, hb, b);
-    if yes {
-        return Answer::Yes;
+    if same_states(ha, a, hb, b) {
+        Answer::Yes
+    } else {
+        Answer::No
     }
-    Answer::No
 }

@@ -1,11 +1,9 @@
 // AnnounceDropped (the specification, "Ticks"): the record's entries that are still cached go to the queue again.
-ghost use Rattle.std.specs.Prelude.{◌≡◌, ◌+◌, ◌<◌};
+ghost use Rattle.std.specs.Prelude.{◌≡◌, ◌+◌};
 ghost use Rattle.storage.specs.Lists.Base.{concat_map};
-ghost use Rattle.storage.specs.Rows.Ident.{id_of};
 ghost use Rattle.postcard.specs.Message.{action_bytes};
 ghost use Rattle.wire.specs.Output.Written.{Tellable, Written};
 ghost use Rattle.block.specs.View.{state_of};
-ghost use Rattle.block.specs.Sound.{Sound};
 ghost use Rattle.block.specs.Goes.{Goes};
 ghost use Rattle.decide.specs.Settled.{settled};
 ghost use Rattle.decide.specs.SizesAfter.{announce_sizes};
@@ -13,34 +11,20 @@ ghost use Rattle.decide.specs.StateAfter.{announce_state};
 ghost use Rattle.decide.specs.ActionsAfter.{dispatch_action, announce_actions};
 ghost use Rattle.steps.specs.Stands.{Stands, Step};
 ghost use Rattle.steps.specs.Shared.{sizes_value};
-ghost use Rattle.announcements.specs.Announce.Moves.{moved_state, drop_instead};
+ghost use Rattle.announcements.specs.Announce.Moves.{moved_state};
 ghost use Rattle.announcements.specs.Announce.Counted.{MovedIs, if_any};
 
 use block::caches::cached;
 use block::head::Head;
-use block::{head, note};
-use postcard::units::{Millis, Round};
+use block::note;
+use postcard::units::Millis;
 use steps::{Sizes, settled, ticks};
-use storage::rows::id::Id;
-use storage::rows::{id, word};
 
 // How many entries of the record AnnounceDropped moves to the queue, and how many it leaves.
 #[derive(Clone, Copy)]
 pub struct Moved {
     pub moved: usize,
     pub left: usize,
-}
-
-// Stores a note in place k of the record, over what stood there.
-fn store_dropped(h: Head, block: &mut [u8], k: usize, link: usize, id: Id, round: Round)
-    requires { Sound h block.old × (k < h.live.dropped) × (link < h.live.links) }
-    ensures { Goes (drop_instead k link (id_of id) round.0) h block.old h block.new }
-{
-    let at = head::dropped_at(h.limits) + k;
-    let row = head::dropped_rows_at(h.limits) + 34 * k;
-    block[at] = link as u8;
-    id::store_id(block, row, id);
-    word::store_le(block, row + 32, 2, round.0 as u64);
 }
 
 // "drops uncached identifiers, moves the oldest 64 per peer to its queue". Its time is that of one pass over the record, with a search of the message
@@ -65,7 +49,7 @@ fn move_oldest(h: Head, block: &mut [u8]) -> Head
             if c < 64 {
                 g = note::push_queued(g, block, l, entry.id, entry.round);
             } else {
-                store_dropped(g, block, k, l, entry.id, entry.round);
+                note::set_dropped(g, block, k, entry);
                 k += 1;
             }
         }

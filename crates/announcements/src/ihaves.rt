@@ -4,7 +4,7 @@ ghost use Rattle.storage.specs.Lists.Base.{any, all, member, concat_map};
 ghost use Rattle.storage.specs.Lists.Map.{has};
 ghost use Rattle.storage.specs.Rows.Ident.{id_of};
 ghost use Rattle.postcard.specs.Message.{action_bytes};
-ghost use Rattle.postcard.specs.Events.{ihaves_from, Listed};
+ghost use Rattle.wire.specs.Reader.Values.{ihaves_value};
 ghost use Rattle.decide.specs.Settled.{settled};
 ghost use Rattle.decide.specs.SizesAfter.{known_timer};
 ghost use Rattle.decide.specs.ActionsAfter.{ihave_actions};
@@ -25,9 +25,8 @@ use postcard::units::{Millis, Round};
 use steps::settled;
 use storage::rows::id;
 use storage::rows::id::Id;
-use storage::rows::table::Found;
-use wire::decode::field;
 use wire::output;
+use wire::reader::ihaves::Ihaves;
 
 // How many entries an IHave adds to the missing messages, and to the graft timers.
 #[derive(Clone, Copy)]
@@ -43,8 +42,8 @@ fn mark_timer(h: Head, block: &mut [u8], id: Id) -> Head
 {
     let f = timers::find_timer(h, block, id);
     match f {
-        Found::At(_) => h,
-        Found::Before(i) => timers::insert_timer(h, block, i, id),
+        Ok(_) => h,
+        Err(i) => timers::insert_timer(h, block, i, id),
     }
 }
 
@@ -62,52 +61,28 @@ fn on_announced(h: Head, block: &mut [u8], id: Id, round: Round, link: usize) ->
 }
 
 // `on_ihave`, the state half: the entries of the message, in order. Its time is that of a look-up, and of an insertion, for each entry.
-pub fn on_ihave(
-    h: Head,
-    block: &mut [u8],
-    event: &[u8],
-    start: usize,
-    count: usize,
-    link: usize,
-) -> Head
-    requires { Step (heard_from link (ihaves_from event.now start count)) h block.old × (link < h.live.links) × Listed event.now start count (ihaves_from event.now start count) }
-    ensures { Goes (heard_from link (ihaves_from event.now start count)) h block.old result block.new }
+pub fn on_ihave(h: Head, block: &mut [u8], ihaves: Ihaves, link: usize) -> Head
+    requires { Step (heard_from link (ihaves_value ihaves)) h block.old × (link < h.live.links) }
+    ensures { Goes (heard_from link (ihaves_value ihaves.entry)) h block.old result block.new }
 {
     let mut g = h;
-    let mut place = start;
-    let mut i = 0;
-    while i < count {
-        let one = field::next_ihave(event, place);
+    for one in ihaves {
         g = on_announced(g, block, one.id, one.round, link);
-        place = one.next;
-        i += 1;
     }
     g
 }
 
 // Whether every entry of an IHave is received once a first event has evicted: then the message does nothing. Its time is that of a look-up for each entry, up to
 // the first that is not received.
-pub fn all_received(
-    h: Head,
-    block: &[u8],
-    instant: Millis,
-    event: &[u8],
-    start: usize,
-    count: usize,
-) -> bool
-    requires { Stands h block.now × Listed event.now start count (ihaves_from event.now start count) }
-    ensures { result ≡ all (is_received (settled instant.0 (state_of h block.now))) (ihaves_from event.now start count) }
+pub fn all_received(h: Head, block: &[u8], instant: Millis, ihaves: Ihaves) -> bool
+    requires { Stands h block.now }
+    ensures { result ≡ all (is_received (settled instant.0 (state_of h block.now))) (ihaves_value ihaves.entry) }
 {
-    let mut place = start;
-    let mut i = 0;
-    while i < count {
-        let one = field::next_ihave(event, place);
+    for one in ihaves {
         let received = settled::received_then(h, block, instant, one.id);
         if !received {
             return false;
         }
-        place = one.next;
-        i += 1;
     }
     true
 }
@@ -119,8 +94,8 @@ fn is_missing(h: Head, block: &[u8], id: Id) -> bool
 {
     let f = missing::find_missing(h, block, id);
     match f {
-        Found::At(_) => true,
-        Found::Before(_) => false,
+        Ok(_) => true,
+        Err(_) => false,
     }
 }
 
@@ -131,26 +106,20 @@ fn has_timer(h: Head, block: &[u8], id: Id) -> bool
 {
     let f = timers::find_timer(h, block, id);
     match f {
-        Found::At(_) => true,
-        Found::Before(_) => false,
+        Ok(_) => true,
+        Err(_) => false,
     }
 }
 
-// Whether one of the first `count` entries has the identifier. Its time is that of one pass over them: a message of 4,094 bytes has at most 124.
-fn stands_before(event: &[u8], start: usize, count: usize, id: Id) -> bool
-    requires { Listed event.now start count (ihaves_from event.now start count) }
-    ensures { result ≡ any (is_for (id_of id)) (ihaves_from event.now start count) }
+// Whether one of the entries before has the identifier. Its time is that of one pass over them: a message of 4,094 bytes has at most 124.
+fn stands_before(before: Ihaves, id: Id) -> bool
+    ensures { result ≡ any (is_for (id_of id)) (ihaves_value before.entry) }
 {
-    let mut place = start;
-    let mut i = 0;
-    while i < count {
-        let one = field::next_ihave(event, place);
+    for one in before {
         let same = id::same(id, one.id);
         if same {
             return true;
         }
-        place = one.next;
-        i += 1;
     }
     false
 }
@@ -162,18 +131,10 @@ fn one_unless(there: bool) -> usize
     if there { 0 } else { 1 }
 }
 
-// What the entry after the first `count` adds: nothing if it is received, or stands before.
-fn new_of(
-    h: Head,
-    block: &[u8],
-    instant: Millis,
-    event: &[u8],
-    start: usize,
-    count: usize,
-    id: Id,
-) -> NewIds
-    requires { Stands h block.now × Listed event.now start count (ihaves_from event.now start count) }
-    ensures { NewOf (settled instant.0 (state_of h block.now)) (ihaves_from event.now start count) (id_of id) result }
+// What the entry after these adds: nothing if it is received, or stands before.
+fn new_of(h: Head, block: &[u8], instant: Millis, before: Ihaves, id: Id) -> NewIds
+    requires { Stands h block.now }
+    ensures { NewOf (settled instant.0 (state_of h block.now)) (ihaves_value before.entry) (id_of id) result }
 {
     let received = settled::received_then(h, block, instant, id);
     if received {
@@ -182,8 +143,8 @@ fn new_of(
             timers: 0,
         };
     }
-    let before = stands_before(event, start, count, id);
-    if before {
+    let stands = stands_before(before, id);
+    if stands {
         return NewIds {
             missing: 0,
             timers: 0,
@@ -198,44 +159,26 @@ fn new_of(
 
 // The two numbers of entries that grow in question 13, of an IHave: its identifiers that are not received, each once, and that nobody announced before, or
 // that have no timer. Its time is that of a pass over the entries before, for each entry.
-pub fn ihave_sizes(
-    h: Head,
-    block: &[u8],
-    instant: Millis,
-    event: &[u8],
-    start: usize,
-    count: usize,
-) -> NewIds
-    requires { Stands h block.now × Listed event.now start count (ihaves_from event.now start count) }
-    ensures { NewIn (settled instant.0 (state_of h block.now)) (ihaves_from event.now start count) result }
+pub fn ihave_sizes(h: Head, block: &[u8], instant: Millis, ihaves: Ihaves) -> NewIds
+    requires { Stands h block.now }
+    ensures { NewIn (settled instant.0 (state_of h block.now)) (ihaves_value ihaves.entry) result }
 {
     let mut missing = 0;
     let mut timers = 0;
-    let mut place = start;
     let mut i = 0;
-    while i < count {
-        let one = field::next_ihave(event, place);
-        let new = new_of(h, block, instant, event, start, i, one.id);
+    for one in ihaves {
+        let new = new_of(h, block, instant, ihaves.first(i), one.id);
         missing += new.missing;
         timers += new.timers;
-        place = one.next;
         i += 1;
     }
     NewIds { missing, timers }
 }
 
-// Whether the entry after the first `count` gets a timer: it is not received, has none, and does not stand before.
-fn wants_timer(
-    h: Head,
-    block: &[u8],
-    instant: Millis,
-    event: &[u8],
-    start: usize,
-    count: usize,
-    id: Id,
-) -> bool
-    requires { Stands h block.now × Listed event.now start count (ihaves_from event.now start count) }
-    ensures { result ≡ is_new (known_timer (settled instant.0 (state_of h block.now))) (ihaves_from event.now start count) (id_of id) }
+// Whether the entry after these gets a timer: it is not received, has none, and does not stand before.
+fn wants_timer(h: Head, block: &[u8], instant: Millis, before: Ihaves, id: Id) -> bool
+    requires { Stands h block.now }
+    ensures { result ≡ is_new (known_timer (settled instant.0 (state_of h block.now))) (ihaves_value before.entry) (id_of id) }
 {
     let received = settled::received_then(h, block, instant, id);
     if received {
@@ -245,8 +188,8 @@ fn wants_timer(
     if marked {
         return false;
     }
-    let before = stands_before(event, start, count, id);
-    !before
+    let stands = stands_before(before, id);
+    !stands
 }
 
 // `on_ihave`, the actions half: a SendGraft timer for each identifier that is not received and has none, in the order of the message. Its time is that of a pass over
@@ -257,22 +200,17 @@ pub fn ihave_actions(
     instant: Millis,
     out: &mut [u8],
     at: usize,
-    event: &[u8],
-    start: usize,
-    count: usize,
+    ihaves: Ihaves,
 ) -> usize
-    requires { Stands h block.now × Listed event.now start count (ihaves_from event.now start count) × Tellable (concat_map action_bytes (ihave_actions (ihaves_from event.now start count) (settled instant.0 (state_of h block.now)))) at }
-    ensures { Written (concat_map action_bytes (ihave_actions (ihaves_from event.now start count) (settled instant.0 (state_of h block.now)))) out.old at out.new result }
+    requires { Stands h block.now × Tellable (concat_map action_bytes (ihave_actions (ihaves_value ihaves) (settled instant.0 (state_of h block.now)))) at }
+    ensures { Written (concat_map action_bytes (ihave_actions (ihaves_value ihaves.entry) (settled instant.0 (state_of h block.now)))) out.old at out.new result }
 {
     let delay = h.settings.config.graft_timeout_1;
     let mut next = at;
-    let mut place = start;
     let mut i = 0;
-    while i < count {
-        let one = field::next_ihave(event, place);
+    for one in ihaves {
         let id = one.id;
-        let wanted = wants_timer(h, block, instant, event, start, i, id);
-        place = one.next;
+        let wanted = wants_timer(h, block, instant, ihaves.first(i), id);
         i += 1;
         if wanted {
             next = output::schedule(out, next, delay, Timer::SendGraft(id));

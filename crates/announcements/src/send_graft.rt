@@ -22,12 +22,11 @@ ghost use Rattle.announcements.specs.SendGraft.Asks.{asked_first, missing_left};
 use block::caches::received;
 use block::head::Head;
 use block::{links, missing, timers};
-use postcard::message::{Timer, Wanted};
+use postcard::message::Timer;
 use postcard::units::Millis;
 use steps::grafts::note;
 use steps::{Held, Sizes, settled};
 use storage::rows::id::Id;
-use storage::rows::table::Found;
 use wire::output;
 
 // The first who announced the missing message i is asked: it leaves the announcers, becomes eager, and is grafted for the message. Its time is that of an
@@ -57,8 +56,8 @@ pub fn on_send_graft_timer(h: Head, block: &mut [u8], instant: Millis, id: Id) -
     }
     let f = missing::find_missing(a, block, id);
     match f {
-        Found::At(i) => ask_first(a, block, i, instant, id),
-        Found::Before(_) => a,
+        Ok(i) => ask_first(a, block, i, instant, id),
+        Err(_) => a,
     }
 }
 
@@ -79,7 +78,7 @@ fn ask_actions(
     let link = first.link;
     let peer = links::peer_at(h, block, link);
     let taken = 1 <= rooms[link];
-    let next = output::send_graft(out, at, peer, taken, Wanted::Message(id), first.round);
+    let next = output::send_graft(out, at, peer, taken, Some(id), first.round);
     let delay = h.settings.config.graft_timeout_2;
     output::schedule(out, next, delay, Timer::SendGraft(id))
 }
@@ -103,8 +102,8 @@ pub fn send_graft_actions(
     }
     let f = missing::find_missing(h, block, id);
     match f {
-        Found::At(i) => ask_actions(h, block, i, rooms, out, at, id),
-        Found::Before(_) => at,
+        Ok(i) => ask_actions(h, block, i, rooms, out, at, id),
+        Err(_) => at,
     }
 }
 
@@ -116,12 +115,12 @@ fn unmarked_sizes(h: Head, block: &[u8], instant: Millis, id: Id) -> Sizes
     let mut z = settled::sizes_then(h, block, instant);
     let f = timers::find_timer(h, block, id);
     match f {
-        Found::At(_) => {
+        Ok(_) => {
             let n = h.live.timers - 1;
             z.timers = n;
             z
         }
-        Found::Before(_) => z,
+        Err(_) => z,
     }
 }
 
@@ -170,7 +169,7 @@ pub fn send_graft_sizes(h: Head, block: &[u8], instant: Millis, id: Id) -> Sizes
     }
     let f = missing::find_missing(h, block, id);
     match f {
-        Found::At(i) => ask_sizes(h, block, z, i, instant, id),
-        Found::Before(_) => z,
+        Ok(i) => ask_sizes(h, block, z, i, instant, id),
+        Err(_) => z,
     }
 }

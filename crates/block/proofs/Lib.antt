@@ -17,3 +17,4 @@ pub mod AnnounceLaws
 pub mod GoesLaws
 pub mod Few
 pub mod CachesLaws
+pub mod Lent

@@ -2,12 +2,12 @@
 use Prim.Native.Nat.{ℕ}
 use mathlib.Core.Path.{◌≡◌, refl, sym, ap, ◌∙◌}
 use mathlib.Core.Bool.{Bool, true, not}
-use mathlib.Core.List.{List, []}
+use mathlib.Core.List.{List}
 use lib.Dec.{leb}
 use lib.ListN.{length}
 use Rattle.std.specs.Prelude.{if◌then◌else◌}
 use Rattle.storage.proofs.ListsLaws.Branches.{if-on, if-both}
-use Rattle.postcard.specs.Message.{Event, Up, Down}
+use Rattle.postcard.specs.Message.{Event}
 use Rattle.protocol.specs.State.{State, Counts}
 use Rattle.protocol.specs.Run.{Run, Room, begin}
 use Rattle.protocol.specs.Handle.{first_event, handle}
@@ -20,7 +20,7 @@ use Rattle.decide.proofs.EachEvent.{decide-13, decide-actions}
 use Rattle.decide.proofs.StateAfterLaws.{decide-state}
 use Rattle.decide.proofs.RoomsSteps.{with_rooms}
 use Rattle.decide.proofs.RoomsCall.{reached}
-use Rattle.machine.specs.Decided.{bytes_after, last_decided, decided}
+use Rattle.machine.specs.Decided.{bytes_after, last_decided, size_fits, decided}
 use Rattle.machine.proofs.KindsLaws.Counted.{decide-counts}
 
 module _ (hash : List ℕ → ℕ) where
@@ -40,16 +40,17 @@ module _ (hash : List ℕ → ℕ) where
       rw (decide-13 hash now e s c rooms w, decide-actions hash now e s c rooms w, decide-state hash now e s c rooms w, decide-counts hash now e s c rooms w) refl
 
   -- questions 10 to 14
-  pub decided-ask : (s : State) (c : Counts) (k : Call) (e : Event) → whole s ≡ true → outcome (ask_of hash s c k e) ≡ decided hash k.rooms k.now k.event e s c k.output
+  pub decided-ask : (s : State) (c : Counts) (k : Call) (e : Event) (size : ℕ) → whole s ≡ true → message_fits s.settings.max_message_size k.event e ≡ size_fits s.settings.max_message_size size e →
+      outcome (ask_of hash s c k e) ≡ decided hash k.rooms k.now size e s c k.output
   unfolding ask_of decided outcome
-  decided-ask s c k e w =
-      if-on outcome (not (message_fits s.settings.max_message_size k.event e)) _ _
+  decided-ask s c k e size w fit =
+      rw (← fit) (if-on outcome (not (message_fits s.settings.max_message_size k.event e)) _ _
       ∙ if-both (not (message_fits s.settings.max_message_size k.event e)) refl
       (if-on outcome (not (counts_stay e c)) _ _
       ∙ if-both (not (counts_stay e c)) refl
       (if-on outcome (too_far hash e (first_event k.now (begin s c k.rooms)).state) _ _
       ∙ ap (λ (b : Bool). if b then refused 12 else outcome (last_two k.output e (handle hash k.now e (begin s c k.rooms)))) (decide-12 hash k.now e s c k.rooms w)
-      ∙ if-both (too_far_before hash k.now e s) refl (last_found k.output e (handle hash k.now e (begin s c k.rooms)) ∙ found-decided k.rooms k.now e s c k.output w)))
+      ∙ if-both (too_far_before hash k.now e s) refl (last_found k.output e (handle hash k.now e (begin s c k.rooms)) ∙ found-decided k.rooms k.now e s c k.output w))))
 
   -- with other rooms
   pub decided-rooms : (rooms rooms' : List Room) (now : ℕ) (e : Event) (s : State) (c : Counts) (output : ℕ) → whole s ≡ true →
@@ -59,12 +60,3 @@ module _ (hash : List ℕ → ℕ) where
     where
       same : found_of output (with_rooms (handle hash now e (begin s c rooms')).rooms (handle hash now e (begin s c rooms))) ≡ found_of output (handle hash now e (begin s c rooms))
       same = unfold found_of output_of in refl
-
-  -- question 10 asks nothing of up and down: their bytes do not matter
-  pub up-bytes : (bytes : List ℕ) (rooms : List Room) (now p : ℕ) (s : State) (c : Counts) (output : ℕ) → decided hash rooms now [] (Up p) s c output ≡ decided hash rooms now bytes (Up p) s c output
-  unfolding decided message_fits
-  up-bytes bytes rooms now p s c output = refl
-
-  pub down-bytes : (bytes : List ℕ) (rooms : List Room) (now p : ℕ) (s : State) (c : Counts) (output : ℕ) → decided hash rooms now [] (Down p) s c output ≡ decided hash rooms now bytes (Down p) s c output
-  unfolding decided message_fits
-  down-bytes bytes rooms now p s c output = refl

@@ -11,24 +11,24 @@ use Rattle.blake3.specs.Blake3.{identifier}
 use Rattle.postcard.specs.Message.{Event, action_bytes}
 use Rattle.protocol.specs.State.{State, Counts}
 use Rattle.protocol.specs.Run.{Room}
-use Rattle.protocol.specs.Answer.{message_fits, counts_stay, Outcome, refused, accepted}
+use Rattle.protocol.specs.Answer.{counts_stay, Outcome, refused, accepted}
 use Rattle.decide.specs.Sizes.{fit_sizes}
 use Rattle.decide.specs.Settled.{settled, settled_actions}
 use Rattle.machine.specs.Kinds.Meaning.{step_sizes, step_actions, step_state, step_far, step_counts, counted_for, Means}
 use Rattle.machine.specs.declared.kinds.Step.{Step}
-use Rattle.machine.specs.Decided.{bytes_after, last_decided, decided}
+use Rattle.machine.specs.Decided.{bytes_after, last_decided, size_fits, decided}
 use Rattle.machine.specs.Outcomes.{step_bytes, step_outcome}
 use Rattle.machine.specs.Called.{Lent, Accepted, Finds}
 
-module _ (bytes : List ℕ) (rooms : List Room) (now : ℕ) (r : Step) (s : State) (c : Counts) (output : ℕ) where
+module _ (rooms : List Room) (now : ℕ) (r : Step) (s : State) (c : Counts) (output : ℕ) where
   abbrev outcome : Outcome
-  outcome = step_outcome bytes rooms now r s c output
+  outcome = step_outcome rooms now r s c output
 
   abbrev fit : Bool
-  fit = fit_sizes s.limits (step_sizes bytes rooms now r (settled now s))
+  fit = fit_sizes s.limits (step_sizes rooms now r (settled now s))
 
   abbrev room : Bool
-  room = leb (length (step_bytes bytes rooms now r s)) output
+  room = leb (length (step_bytes rooms now r s)) output
 
   pub outcome-12 : step_far r ≡ true → outcome ≡ refused 12
   unfolding step_outcome
@@ -42,7 +42,7 @@ module _ (bytes : List ℕ) (rooms : List Room) (now : ℕ) (r : Step) (s : Stat
   unfolding step_outcome
   outcome-14 p q t = rw (p, q, t) refl
 
-  pub outcome-0 : step_far r ≡ false → fit ≡ true → room ≡ true → outcome ≡ accepted (step_state bytes rooms now r (settled now s)) (step_counts r c) (step_bytes bytes rooms now r s)
+  pub outcome-0 : step_far r ≡ false → fit ≡ true → room ≡ true → outcome ≡ accepted (step_state rooms now r (settled now s)) (step_counts r c) (step_bytes rooms now r s)
   unfolding step_outcome
   outcome-0 p q t = rw (p, q, t) refl
 
@@ -54,12 +54,12 @@ pub found-yes : (o : Outcome) (s : State) (c : Counts) (bytes : List ℕ) (befor
 found-yes o s c bytes before after long e a = subst (λ (x : Outcome). Finds x before after 0 long) (sym e) a
 
 -- the definitions' outcome
-pub step-decided : (bytes : List ℕ) (rooms : List Room) (now : ℕ) (r : Step) (s : State) (e : Event) (c : Counts) (output : ℕ) → Means bytes now s r e →
-    message_fits s.settings.max_message_size bytes e ≡ true → counts_stay e c ≡ true →
-    decided identifier rooms now bytes e s c output ≡ step_outcome bytes rooms now r s (counted_for e c) output
+pub step-decided : (rooms : List Room) (now : ℕ) (r : Step) (s : State) (size : ℕ) (e : Event) (c : Counts) (output : ℕ) → Means now s r e →
+    size_fits s.settings.max_message_size size e ≡ true → counts_stay e c ≡ true →
+    decided identifier rooms now size e s c output ≡ step_outcome rooms now r s (counted_for e c) output
 unfolding decided last_decided step_outcome bytes_after step_bytes
-step-decided bytes rooms now r s e c output m fits stay =
-    rw (fits, stay, m.far, m.sizes rooms, m.actions rooms, m.state rooms, m.counts c) (last _ _ _ _ (step_far r) (fit_sizes s.limits (step_sizes bytes rooms now r (settled now s))) (leb (length (concat_map action_bytes (settled_actions s ++ step_actions bytes rooms r (settled now s)))) output))
+step-decided rooms now r s size e c output m fits stay =
+    rw (fits, stay, m.far, m.sizes rooms, m.actions rooms, m.state rooms, m.counts c) (last _ _ _ _ (step_far r) (fit_sizes s.limits (step_sizes rooms now r (settled now s))) (leb (length (concat_map action_bytes (settled_actions s ++ step_actions rooms r (settled now s)))) output))
   where
     last : (x y z w : Outcome) (a b d : Bool) → (if a then x else if b then if d then w else z else y) ≡ (if a then x else if not b then y else if not d then z else w)
     last x y z w true b d = refl

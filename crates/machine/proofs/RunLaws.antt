@@ -7,7 +7,7 @@ use mathlib.Core.Bool.{Bool, true, false, ◌&&◌}
 use mathlib.Core.List.{List, [], ◌++◌}
 use mathlib.Core.Option.{some}
 use lib.Dec.{leb, ltb}
-use lib.ListN.{length, get_or, drop_of_length-le}
+use lib.ListN.{length, get_or}
 use borrow.Author.Tests.{le-leb, lt-leb, leb-true, lt-ltb, le-ltb, ltb-true, ltb-false}
 use Rattle.std.specs.Prelude.{if◌then◌else◌}
 use Rattle.storage.specs.Lists.Base.{concat_map}
@@ -15,18 +15,18 @@ use Rattle.storage.proofs.ListsLaws.MapLaws.{cases, and_left, and_intro}
 use Rattle.storage.specs.Rows.Part.{put}
 use Rattle.storage.proofs.RowsLaws.Parts.{put-nil}
 use Rattle.blake3.specs.Blake3.{identifier}
+use Rattle.postcard.specs.Message as message
 use Rattle.postcard.specs.Message.{Event, Received, Up, Down}
-use Rattle.postcard.specs.Decode.{message_part}
-use Rattle.postcard.specs.Events.{message_value, Sized}
-use Rattle.postcard.specs.declared.message.Message.{Message}
-use Rattle.postcard.specs.declared.message.Message.TheVariants as messages
+use Rattle.wire.specs.Reader.Values.{message_value}
+use Rattle.wire.specs.declared.reader.message.Message.{Message}
+use Rattle.wire.specs.declared.reader.message.Message.TheVariants as messages
 use Rattle.protocol.specs.Links.{is_neighbour, link_up}
 use Rattle.protocol.specs.State.{State, Counts, Settings, limits_in_range, block_need, zero_counts, with_links}
 use Rattle.protocol.specs.Run.{Room, begin}
 use Rattle.protocol.specs.Neighbours.{forget_peer}
 use Rattle.protocol.specs.Handle.{count_message}
 use Rattle.protocol.specs.Whole.{fits, whole}
-use Rattle.protocol.specs.Answer.{message_fits, counts_below, counts_stay, Outcome, refused, accepted}
+use Rattle.protocol.specs.Answer.{counts_below, counts_stay, Outcome, refused, accepted}
 use Rattle.protocol.proofs.WholeKept.{kept-handle}
 use Rattle.wire.specs.Output.Written.{Tellable, Written}
 use Rattle.block.specs.View.{limits_of, state_of}
@@ -56,7 +56,7 @@ use Rattle.machine.specs.declared.Stats.{Stats}
 use Rattle.machine.specs.declared.event.Outcome.{Outcome as Answered}
 use Rattle.machine.specs.Called.{counts_of, Lent, lent, Finds}
 use Rattle.machine.specs.Core.{Begun, is_payload, counted_as}
-use Rattle.machine.specs.Decided.{bytes_after, last_decided, decided}
+use Rattle.machine.specs.Decided.{bytes_after, last_decided, size_fits, decided}
 use Rattle.machine.specs.Outcomes.{step_bytes, step_outcome, Asked, Decides}
 use Rattle.machine.proofs.HoldsLaws.{stored-long, stored-holds}
 use Rattle.machine.proofs.OutcomeLaws.{outcome-0, found-no, found-yes, step-decided}
@@ -116,8 +116,8 @@ module _ (f : State → State) (h : Head) (block : List ℕ) (after : Head) (mid
   kept-long = stored-long after mid last stored goes.sound range long threshold ∙ kept
 
 -- a step
-module _ (h : Head) (block bytes array : List ℕ) (now : ℕ) (r : Step) (asked : Asked h block bytes array now r)
-    (decides : Decides bytes (rooms_in (state_of h block) array) now r (state_of h block)) where
+module _ (h : Head) (block array : List ℕ) (now : ℕ) (r : Step) (asked : Asked h block array now r)
+    (decides : Decides (rooms_in (state_of h block) array) now r (state_of h block)) where
   abbrev s : State
   s = state_of h block
 
@@ -125,43 +125,43 @@ module _ (h : Head) (block bytes array : List ℕ) (now : ℕ) (r : Step) (asked
   rooms = rooms_in s array
 
   abbrev writes : List ℕ
-  writes = step_bytes bytes rooms now r s
+  writes = step_bytes rooms now r s
 
   pub run-told : Tellable writes 0
   unfolding step_bytes
-  run-told = step-told h block bytes rooms now r asked.stands asked.held
+  run-told = step-told h block rooms now r asked.stands asked.held
 
-  pub run-fit : (z : CodeSizes) (b : Bool) → sizes_value z ≡ step_sizes bytes rooms now r (settled now s) → b ≡ fit_sizes (limits_of h.limits) (sizes_value z) →
-      b ≡ fit_sizes s.limits (step_sizes bytes rooms now r (settled now s))
+  pub run-fit : (z : CodeSizes) (b : Bool) → sizes_value z ≡ step_sizes rooms now r (settled now s) → b ≡ fit_sizes (limits_of h.limits) (sizes_value z) →
+      b ≡ fit_sizes s.limits (step_sizes rooms now r (settled now s))
   unfolding state_of
   run-fit z b e f = f ∙ ap (fit_sizes (limits_of h.limits)) e
 
-  pub run_fits : fit_sizes s.limits (step_sizes bytes rooms now r (settled now s)) ≡ true → fits (step_state bytes rooms now r (settled now s)) ≡ true
+  pub run_fits : fit_sizes s.limits (step_sizes rooms now r (settled now s)) ≡ true → fits (step_state rooms now r (settled now s)) ≡ true
   run_fits e = decides.fits ∙ e
 
   pub run-done : (c counted raised : Stats) (out : List ℕ) (after : Head) (mid last w wrote : List ℕ) (n m : ℕ) →
-      step_far r ≡ false → fit_sizes s.limits (step_sizes bytes rooms now r (settled now s)) ≡ true →
+      step_far r ≡ false → fit_sizes s.limits (step_sizes rooms now r (settled now s)) ≡ true →
       Written writes [] 0 w n → n ≤ length (w ++ out) → Written writes (w ++ out) 0 wrote m →
-      Goes (λ (x : State). step_state bytes rooms now r (settled now x)) h block after mid → length mid ≡ length block → Stored after mid last →
+      Goes (λ (x : State). step_state rooms now r (settled now x)) h block after mid → length mid ≡ length block → Stored after mid last →
       counts_of raised ≡ step_counts r (counts_of counted) →
-      Finds (step_outcome bytes rooms now r s (counts_of counted) (length out)) (lent block c out) (lent last raised wrote) 0 n
+      Finds (step_outcome rooms now r s (counts_of counted) (length out)) (lent block c out) (lent last raised wrote) 0 n
   run-done c counted raised out after mid last w wrote n m far fit measure room write goes kept stored counts =
       let small : length writes ≤ length out = has_room writes w out n measure room in
-      found-yes (step_outcome bytes rooms now r s (counts_of counted) (length out)) (step_state bytes rooms now r (settled now s)) (step_counts r (counts_of counted)) writes (lent block c out) (lent last raised wrote) n
-      (outcome-0 bytes rooms now r s (counts_of counted) (length out) far fit (le-leb (length writes) (length out) small))
+      found-yes (step_outcome rooms now r s (counts_of counted) (length out)) (step_state rooms now r (settled now s)) (step_counts r (counts_of counted)) writes (lent block c out) (lent last raised wrote) n
+      (outcome-0 rooms now r s (counts_of counted) (length out) far fit (le-leb (length writes) (length out) small))
       (record {
         number = refl;
         long = omega (arith, measure.place);
-        state = kept-holds (λ (x : State). step_state bytes rooms now r (settled now x)) h block after mid last asked.stands asked.long goes kept stored decides.limits decides.settings;
-        block_long = kept-long (λ (x : State). step_state bytes rooms now r (settled now x)) h block after mid last asked.stands asked.long goes kept stored decides.limits decides.settings;
+        state = kept-holds (λ (x : State). step_state rooms now r (settled now x)) h block after mid last asked.stands asked.long goes kept stored decides.limits decides.settings;
+        block_long = kept-long (λ (x : State). step_state rooms now r (settled now x)) h block after mid last asked.stands asked.long goes kept stored decides.limits decides.settings;
         counts = counts;
         fits = small;
         output = write.fits (omega (arith, small, ap length (measured writes w out n measure))) ∙ ap (put 0 writes) (measured writes w out n measure);
       })
 
 -- what a step that is an event's decides
-pub decides-of : (bytes : List ℕ) (rooms : List Room) (now : ℕ) (r : Step) (s : State) (e : Event) → whole s ≡ true → Means bytes now s r e → Decides bytes rooms now r s
-decides-of bytes rooms now r s e w m =
+pub decides-of : (rooms : List Room) (now : ℕ) (r : Step) (s : State) (e : Event) → whole s ≡ true → Means now s r e → Decides rooms now r s
+decides-of rooms now r s e w m =
     let same = sym (decide-state identifier now e s zero_counts rooms w ∙ m.state rooms) in
     record {
       fits = ap fits same ∙ decide-13 identifier now e s zero_counts rooms w ∙ ap (fit_sizes s.limits) (m.sizes rooms);
@@ -170,9 +170,9 @@ decides-of bytes rooms now r s e w m =
     }
 
 -- what its step is asked with
-pub asked_of : (h : Head) (block bytes array : List ℕ) (now : ℕ) (r : Step) (e : Event) → Begun h block now → Means bytes now (state_of h block) r e → get_or array 33 0 ≡ peer_of e →
-    Asked h block bytes array now r × Decides bytes (rooms_in (state_of h block) array) now r (state_of h block)
-asked_of h block bytes array now r e b m q = (
+pub asked_of : (h : Head) (block array : List ℕ) (now : ℕ) (r : Step) (e : Event) → Begun h block now → Means now (state_of h block) r e → get_or array 33 0 ≡ peer_of e →
+    Asked h block array now r × Decides (rooms_in (state_of h block) array) now r (state_of h block)
+asked_of h block array now r e b m q = (
   record {
     stands = b.stands;
     long = b.long;
@@ -180,20 +180,20 @@ asked_of h block bytes array now r e b m q = (
     sender = subst (λ (p : ℕ). SenderIs p r) (sym q) m.sender;
     early = b.early;
   },
-  decides-of bytes (rooms_in (state_of h block) array) now r (state_of h block) e (stands-whole h block b.stands) m,
+  decides-of (rooms_in (state_of h block) array) now r (state_of h block) e (stands-whole h block b.stands) m,
 )
 
 -- a message's counts
-pub counted-message : (bytes : List ℕ) (m : Message) (c : Counts) → counted_as (is_payload m) c ≡ count_message (message_value bytes m) c
+pub counted-message : (m : Message) (c : Counts) → counted_as (is_payload m) c ≡ count_message (message_value m) c
 unfolding count_message
-counted-message bytes (messages.Gossip id start len d) c = refl
-counted-message bytes messages.Prune c = refl
-counted-message bytes (messages.Graft w r) c = refl
-counted-message bytes (messages.IHave start count) c = refl
+counted-message (messages.Gossip id content d) c = refl
+counted-message messages.Prune c = refl
+counted-message (messages.Graft w r) c = refl
+counted-message (messages.IHave ihaves) c = refl
 
-pub message-counted : (bytes : List ℕ) (peer : ℕ) (m : Message) (c : Counts) → counted_as (is_payload m) c ≡ counted_for (Received peer (message_value bytes m)) c
+pub message-counted : (peer : ℕ) (m : Message) (c : Counts) → counted_as (is_payload m) c ≡ counted_for (Received peer (message_value m)) c
 unfolding counted_for
-message-counted bytes peer m c = counted-message bytes m c
+message-counted peer m c = counted-message m c
 
 and_no : (b : Bool) → (b && false) ≡ false
 and_no true = refl
@@ -211,50 +211,44 @@ stay-control p q h =
     (λ t. t ∙ sym (and_intro (lt-ltb p (2 ^ 64) h) (lt-ltb (q + 1) (2 ^ 64) (omega (arith, ltb-true q 18446744073709551615 t)))))
     (λ f. f ∙ sym (ap (λ (b : Bool). ltb p (2 ^ 64) && b) (le-ltb (q + 1) (2 ^ 64) (omega (arith, ltb-false q 18446744073709551615 f))) ∙ and_no (ltb p (2 ^ 64))))
 
--- the size is that of the message's bytes as received
-received-size : (bytes : List ℕ) (size : ℕ) (m : Message) → Sized bytes (length bytes) size m → size ≡ length (message_part bytes)
-received-size bytes size m sized =
-    let l : length bytes ≤ length bytes = omega arith in
-    omega (arith, sized.counts, ap length (drop_of_length-le bytes l))
-
 -- question 10, of a received message
-module _ (h : Head) (block bytes : List ℕ) (peer size : ℕ) (m : Message) (sized : Sized bytes (length bytes) size m) where
-  pub message-fits : size ≤ h.settings.max_message_size → message_fits (state_of h block).settings.max_message_size bytes (Received peer (message_value bytes m)) ≡ true
-  unfolding message_fits state_of
-  message-fits l = le-leb (length (message_part bytes)) h.settings.max_message_size (omega (arith, l, received-size bytes size m sized))
+module _ (h : Head) (block : List ℕ) (peer size : ℕ) (m : message.Message) where
+  pub message-fits : size ≤ h.settings.max_message_size → size_fits (state_of h block).settings.max_message_size size (Received peer m) ≡ true
+  unfolding size_fits state_of
+  message-fits l = le-leb size h.settings.max_message_size l
 
-  pub message-long : h.settings.max_message_size < size → message_fits (state_of h block).settings.max_message_size bytes (Received peer (message_value bytes m)) ≡ false
-  unfolding message_fits state_of
-  message-long l = lt-leb (length (message_part bytes)) h.settings.max_message_size (omega (arith, l, received-size bytes size m sized))
+  pub message-long : h.settings.max_message_size < size → size_fits (state_of h block).settings.max_message_size size (Received peer m) ≡ false
+  unfolding size_fits state_of
+  message-long l = lt-leb size h.settings.max_message_size l
 
 -- a received message: questions 10 and 11
-module _ (h : Head) (block bytes : List ℕ) (rooms : List Room) (now peer size : ℕ) (m : Message) (c : Counts) (output : ℕ) (sized : Sized bytes (length bytes) size m) where
+module _ (h : Head) (block : List ℕ) (rooms : List Room) (now peer size : ℕ) (m : Message) (c : Counts) (output : ℕ) where
   abbrev t : State
   t = state_of h block
 
   abbrev event : Event
-  event = Received peer (message_value bytes m)
+  event = Received peer (message_value m)
 
-  pub message-10 : h.settings.max_message_size < size → decided identifier rooms now bytes event t c output ≡ refused 10
+  pub message-10 : h.settings.max_message_size < size → decided identifier rooms now size event t c output ≡ refused 10
   unfolding decided
-  message-10 l = rw (message-long h block bytes peer size m sized l) refl
+  message-10 l = rw (message-long h block peer size (message_value m) l) refl
 
   pub message-stays : (b : Bool) → counts_below (counted_as (is_payload m) c) ≡ b → counts_stay event c ≡ b
   unfolding counts_stay
-  message-stays b e = ap counts_below (sym (counted-message bytes m c)) ∙ e
+  message-stays b e = ap counts_below (sym (counted-message m c)) ∙ e
 
-  pub message-11 : size ≤ h.settings.max_message_size → counts_below (counted_as (is_payload m) c) ≡ false → decided identifier rooms now bytes event t c output ≡ refused 11
+  pub message-11 : size ≤ h.settings.max_message_size → counts_below (counted_as (is_payload m) c) ≡ false → decided identifier rooms now size event t c output ≡ refused 11
   unfolding decided
-  message-11 l e = rw (message-fits h block bytes peer size m sized l, message-stays false e) refl
+  message-11 l e = rw (message-fits h block peer size (message_value m) l, message-stays false e) refl
 
 -- the outcome of a step is that of its event
-pub step-finds : (h : Head) (block bytes array : List ℕ) (now : ℕ) (r : Step) (e : Event) (c counted : Counts) (output : ℕ) (before after : Lent) (n m : ℕ) → Means bytes now (state_of h block) r e →
-    message_fits (state_of h block).settings.max_message_size bytes e ≡ true → counts_stay e c ≡ true → counted ≡ counted_for e c →
-    Finds (step_outcome bytes (rooms_in (state_of h block) array) now r (state_of h block) counted output) before after n m →
-    Finds (decided identifier (rooms_in (state_of h block) array) now bytes e (state_of h block) c output) before after n m
-step-finds h block bytes array now r e c counted output before after n m means fit stay q f =
+pub step-finds : (h : Head) (block array : List ℕ) (now : ℕ) (r : Step) (size : ℕ) (e : Event) (c counted : Counts) (output : ℕ) (before after : Lent) (n m : ℕ) → Means now (state_of h block) r e →
+    size_fits (state_of h block).settings.max_message_size size e ≡ true → counts_stay e c ≡ true → counted ≡ counted_for e c →
+    Finds (step_outcome (rooms_in (state_of h block) array) now r (state_of h block) counted output) before after n m →
+    Finds (decided identifier (rooms_in (state_of h block) array) now size e (state_of h block) c output) before after n m
+step-finds h block array now r size e c counted output before after n m means fit stay q f =
     subst (λ (o : Outcome). Finds o before after n m)
-    (ap (λ (x : Counts). step_outcome bytes (rooms_in (state_of h block) array) now r (state_of h block) x output) q ∙ sym (step-decided bytes (rooms_in (state_of h block) array) now r (state_of h block) e c output means fit stay)) f
+    (ap (λ (x : Counts). step_outcome (rooms_in (state_of h block) array) now r (state_of h block) x output) q ∙ sym (step-decided (rooms_in (state_of h block) array) now r (state_of h block) size e c output means fit stay)) f
 
 -- an event that has no message: questions 13 and 14 alone
 both : {A : Type 0} (x y z : A) (a b : Bool) → a ≡ true → b ≡ true → (if a then if b then x else y else z) ≡ x
@@ -265,16 +259,16 @@ module _ (h : Head) (block : List ℕ) (rooms : List Room) (now p : ℕ) (c : Co
   abbrev u : State
   u = state_of h block
 
-  pub up-13 : fit_sizes (limits_of h.limits) (up_sizes p u) ≡ false → decided identifier rooms now [] (Up p) u c output ≡ refused 13
-  unfolding decided last_decided bytes_after message_fits counts_stay too_far_before sizes_after actions_after state_after counts_after_call state_of
+  pub up-13 : fit_sizes (limits_of h.limits) (up_sizes p u) ≡ false → decided identifier rooms now 0 (Up p) u c output ≡ refused 13
+  unfolding decided last_decided bytes_after size_fits counts_stay too_far_before sizes_after actions_after state_after counts_after_call state_of
   up-13 e = rw e refl
 
-  pub up-0 : fit_sizes (limits_of h.limits) (up_sizes p u) ≡ true → decided identifier rooms now [] (Up p) u c output ≡ accepted (with_links (link_up p u.links) u) c []
-  unfolding decided last_decided bytes_after message_fits counts_stay too_far_before sizes_after actions_after state_after counts_after_call state_of concat_map
+  pub up-0 : fit_sizes (limits_of h.limits) (up_sizes p u) ≡ true → decided identifier rooms now 0 (Up p) u c output ≡ accepted (with_links (link_up p u.links) u) c []
+  unfolding decided last_decided bytes_after size_fits counts_stay too_far_before sizes_after actions_after state_after counts_after_call state_of concat_map
   up-0 e = both _ _ _ (fit_sizes (limits_of h.limits) (up_sizes p u)) (leb 0 output) e (le-leb 0 output (omega arith))
 
-  pub down-0 : Sound h block → decided identifier rooms now [] (Down p) u c output ≡ accepted (forget_peer p u) c []
-  unfolding decided last_decided bytes_after message_fits counts_stay too_far_before sizes_after actions_after state_after counts_after_call state_of concat_map
+  pub down-0 : Sound h block → decided identifier rooms now 0 (Down p) u c output ≡ accepted (forget_peer p u) c []
+  unfolding decided last_decided bytes_after size_fits counts_stay too_far_before sizes_after actions_after state_after counts_after_call state_of concat_map
   down-0 sound = both _ _ _ (fit_sizes (limits_of h.limits) (down_sizes p u)) (leb 0 output) (fit-down p h block sound) (le-leb 0 output (omega arith))
 
   -- a new neighbour has room

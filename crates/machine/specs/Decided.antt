@@ -1,18 +1,26 @@
 -- Questions 10 to 14 and what an accepted call leaves, as functions of the state before the call and the link room as it was brought: what the code computes. Proved equal to the definitions of
 -- `protocol` (proofs/DecidedLaws.antt).
 -- Assumes nothing.
-use Rattle.std.specs.Prelude.{ℕ, not, List, leb, length, if◌then◌else◌}
+use Rattle.std.specs.Prelude.{ℕ, Bool, true, not, List, leb, length, if◌then◌else◌}
 use Rattle.storage.specs.Lists.Base.{concat_map}
-use Rattle.postcard.specs.Message.{Event, action_bytes}
+use Rattle.postcard.specs.Message.{Event, Received, Broadcast, Fired, Up, Down, action_bytes}
 use Rattle.protocol.specs.State.{State, Counts}
 use Rattle.protocol.specs.Run.{Room}
-use Rattle.protocol.specs.Answer.{message_fits, counts_stay, Outcome, refused, accepted}
+use Rattle.protocol.specs.Answer.{counts_stay, Outcome, refused, accepted}
 use Rattle.decide.specs.Sizes.{fit_sizes}
 use Rattle.decide.specs.Settled.{too_far_before}
 use Rattle.decide.specs.SizesAfter.{sizes_after}
 use Rattle.decide.specs.ActionsAfter.{actions_after}
 use Rattle.decide.specs.StateAfter.{state_after}
 use Rattle.machine.specs.Kinds.Counted.{counts_after_call}
+
+-- (10) "Is a received message at most M bytes?", of how many it has; the other events have none
+unfoldable pub size_fits : ℕ → ℕ → Event → Bool
+size_fits max size (Received p m) = leb size max
+size_fits max size (Broadcast content scope) = true
+size_fits max size (Fired t) = true
+size_fits max size (Up p) = true
+size_fits max size (Down p) = true
 
 module _ (hash : List ℕ → ℕ) where
   -- the bytes of the call's actions
@@ -27,10 +35,10 @@ module _ (hash : List ℕ → ℕ) where
       else refused 14
       else refused 13
 
-  -- (10) of the event's bytes, (11), (12), then the last two
-  unfoldable pub decided : List Room → ℕ → List ℕ → Event → State → Counts → ℕ → Outcome
-  decided rooms now bytes e s c output =
-      if not (message_fits s.settings.max_message_size bytes e) then refused 10
+  -- (10) of a received message's number of bytes, (11), (12), then the last two
+  unfoldable pub decided : List Room → ℕ → ℕ → Event → State → Counts → ℕ → Outcome
+  decided rooms now size e s c output =
+      if not (size_fits s.settings.max_message_size size e) then refused 10
       else if not (counts_stay e c) then refused 11
       else if too_far_before hash now e s then refused 12
       else last_decided rooms now e s c output

@@ -2,7 +2,6 @@
 // the step of the event.
 ghost use Rattle.std.specs.Prelude.{◌≡◌, false, [], ◌∷◌, ◌<◌, eqb, length, get_or};
 ghost use Rattle.storage.specs.Lists.Base.{concat_map};
-ghost use Rattle.storage.specs.Rows.Part.{part};
 ghost use Rattle.storage.specs.Rows.Ident.{id_of};
 ghost use Rattle.postcard.specs.Message.{Neighbors, Emitted, action_bytes};
 ghost use Rattle.postcard.specs.Values.{wanted_value, scope_value};
@@ -21,7 +20,7 @@ use payloads::eager::reply;
 use payloads::{broadcast, gossip, late};
 use postcard::content;
 use postcard::content::Content;
-use postcard::message::{Delivery, Scope, Wanted};
+use postcard::message::{Delivery, Scope};
 use postcard::units::{Millis, Round};
 use steps::{settled, ticks};
 use storage::rows::id::Id;
@@ -36,19 +35,18 @@ pub fn graft_actions<'a>(
     rooms: &[u64; 34],
     out: &mut [u8],
     at: usize,
-    event: &'a [u8],
     link: usize,
-    wanted: Wanted,
+    wanted: Option<Id>,
 ) -> usize
     requires stands { Stands h block.now × (link < length (state_of h block.now).links) }
     requires tellable { Tellable (graft_bytes instant.0 rooms.now link (wanted_value wanted) (state_of h block.now)) at }
     ensures { Written (graft_bytes instant.0 rooms.now link (wanted_value wanted) (state_of h block.now)) out.old at out.new result }
 {
     match wanted {
-        Wanted::Nothing => at,
-        Wanted::Message(id) => {
+        None => at,
+        Some(id) => {
             let held = settled::cached_then(h, block, instant, id);
-            reply::reply_sends(h, block, rooms, out, at, event, link, id, held)
+            reply::reply_sends(h, block, rooms, out, at, link, id, held)
         }
     }
 }
@@ -58,15 +56,13 @@ fn emit_neighbors<'a>(
     block: &'a [u8],
     out: &mut [u8],
     at: usize,
-    event: &'a [u8],
     sender: u64,
-    start: usize,
-    len: usize,
+    content: &'a [u8],
 ) -> usize
-    requires { ContentHeld event.now start len × Tellable (concat_map action_bytes (Emitted sender (part start len event.now) Neighbors ∷ [])) at }
-    ensures { Written (concat_map action_bytes (Emitted sender (part start len event.now) Neighbors ∷ [])) out.old at out.new result }
+    requires { ContentHeld content.now × Tellable (concat_map action_bytes (Emitted sender content.now Neighbors ∷ [])) at }
+    ensures { Written (concat_map action_bytes (Emitted sender content.now Neighbors ∷ [])) out.old at out.new result }
 {
-    let content = content::content_part(event, block, Content::InEvent { start, len });
+    let content = content::content_part(Content::InEvent(content), block);
     output::emit(out, at, sender, content, Delivery::Neighbors)
 }
 
@@ -78,18 +74,16 @@ fn new_swarm<'a>(
     rooms: &[u64; 34],
     out: &mut [u8],
     at: usize,
-    event: &'a [u8],
     sender: u64,
     id: Id,
-    start: usize,
-    len: usize,
+    content: &'a [u8],
     round: Round,
 ) -> usize
-    requires stands { Stands h block.now × ContentHeld event.now start len × (eqb round.0 65535 ≡ false) }
-    requires tellable { Tellable (new_bytes instant.0 rooms.now sender (id_of id) (part start len event.now) round.0 (state_of h block.now)) at }
-    ensures { Written (new_bytes instant.0 rooms.now sender (id_of id) (part start len event.now) round.0 (state_of h block.now)) out.old at out.new result }
+    requires stands { Stands h block.now × ContentHeld content.now × (eqb round.0 65535 ≡ false) }
+    requires tellable { Tellable (new_bytes instant.0 rooms.now sender (id_of id) content.now round.0 (state_of h block.now)) at }
+    ensures { Written (new_bytes instant.0 rooms.now sender (id_of id) content.now round.0 (state_of h block.now)) out.old at out.new result }
 {
-    let content = content::content_part(event, block, Content::InEvent { start, len });
+    let content = content::content_part(Content::InEvent(content), block);
     gossip::new_actions(
         h, block, instant, rooms, out, at, sender, id, content, round,
     )
@@ -103,17 +97,15 @@ fn send_broadcast<'a>(
     rooms: &[u64; 34],
     out: &mut [u8],
     at: usize,
-    event: &'a [u8],
     id: Id,
-    start: usize,
-    len: usize,
+    content: &'a [u8],
     scope: Scope,
 ) -> usize
-    requires stands { Stands h block.now × ContentHeld event.now start len }
-    requires tellable { Tellable (broadcast_bytes instant.0 rooms.now (id_of id) (part start len event.now) (scope_value scope) (state_of h block.now)) at }
-    ensures { Written (broadcast_bytes instant.0 rooms.now (id_of id) (part start len event.now) (scope_value scope) (state_of h block.now)) out.old at out.new result }
+    requires stands { Stands h block.now × ContentHeld content.now }
+    requires tellable { Tellable (broadcast_bytes instant.0 rooms.now (id_of id) content.now (scope_value scope) (state_of h block.now)) at }
+    ensures { Written (broadcast_bytes instant.0 rooms.now (id_of id) content.now (scope_value scope) (state_of h block.now)) out.old at out.new result }
 {
-    let content = content::content_part(event, block, Content::InEvent { start, len });
+    let content = content::content_part(Content::InEvent(content), block);
     broadcast::broadcast_actions(h, block, instant, rooms, out, at, id, content, scope)
 }
 
@@ -123,67 +115,57 @@ pub fn step_actions<'a>(
     block: &'a [u8],
     instant: Millis,
     rooms: &[u64; 34],
-    event: &'a [u8],
-    step: Step,
+    step: Step<'a>,
     out: &mut [u8],
     at: usize,
 ) -> usize
-    requires stands { Stands h block.now × StepHeld event.now (state_of h block.now) step × SenderIs (get_or rooms.now 33 0) step × (step_far step ≡ false) }
-    requires tellable { Tellable (step_bytes event.now instant.0 rooms.now step (state_of h block.now)) at }
-    ensures { Written (step_bytes event.now instant.0 rooms.now step (state_of h block.now)) out.old at out.new result }
+    requires stands { Stands h block.now × StepHeld (state_of h block.now) step × SenderIs (get_or rooms.now 33 0) step × (step_far step ≡ false) }
+    requires tellable { Tellable (step_bytes instant.0 rooms.now step (state_of h block.now)) at }
+    ensures { Written (step_bytes instant.0 rooms.now step.entry (state_of h block.now)) out.old at out.new result }
 {
     match step {
         Step::Nothing => at,
         Step::NewSwarm {
             sender,
             id,
-            start,
-            len,
+            content,
             round,
         } => new_swarm(
-            h, block, instant, rooms, out, at, event, sender, id, start, len, round,
+            h, block, instant, rooms, out, at, sender, id, content, round,
         ),
-        Step::NewNeighbors { sender, start, len } => {
-            emit_neighbors(block, out, at, event, sender, start, len)
+        Step::NewNeighbors { sender, content } => {
+            emit_neighbors(block, out, at, sender, content)
         }
         Step::Late {
             sender,
             id,
             delivery,
         } => late::late_actions(h, block, instant, rooms, out, at, sender, id, delivery),
-        Step::Prune { link: _ } => at,
+        Step::Prune { .. } => at,
         Step::Graft { link, wanted } => {
-            graft_actions(h, block, instant, rooms, out, at, event, link, wanted)
+            graft_actions(h, block, instant, rooms, out, at, link, wanted)
         }
-        Step::IHave {
-            link: _,
-            start,
-            count,
-        } => ihaves::ihave_actions(h, block, instant, out, at, event, start, count),
-        Step::BroadcastSwarm { id, start, len } => send_broadcast(
+        Step::IHave { ihaves, .. } => ihaves::ihave_actions(h, block, instant, out, at, ihaves),
+        Step::BroadcastSwarm { id, content } => send_broadcast(
             h,
             block,
             instant,
             rooms,
             out,
             at,
-            event,
             id,
-            start,
-            len,
+            content,
             Scope::Swarm,
         ),
-        Step::BroadcastNeighbors { id, start, len } => send_broadcast(
+        Step::BroadcastNeighbors { id, content } => send_broadcast(
             h,
             block,
             instant,
             rooms,
             out,
             at,
-            event,
             id,
-            start,
-            len,
+            content,
             Scope::Neighbors,
         ),
         Step::SendGraft(id) => {
@@ -201,14 +183,13 @@ pub fn call_actions<'a>(
     block: &'a [u8],
     instant: Millis,
     rooms: &[u64; 34],
-    event: &'a [u8],
-    step: Step,
+    step: Step<'a>,
     out: &mut [u8],
 ) -> usize
-    requires stands { Stands h block.now × StepHeld event.now (state_of h block.now) step × SenderIs (get_or rooms.now 33 0) step × (step_far step ≡ false) }
-    requires tellable { Tellable (call_bytes event.now instant.0 rooms.now step (state_of h block.now)) 0 }
-    ensures { Written (call_bytes event.now instant.0 rooms.now step (state_of h block.now)) out.old 0 out.new result }
+    requires stands { Stands h block.now × StepHeld (state_of h block.now) step × SenderIs (get_or rooms.now 33 0) step × (step_far step ≡ false) }
+    requires tellable { Tellable (call_bytes instant.0 rooms.now step (state_of h block.now)) 0 }
+    ensures { Written (call_bytes instant.0 rooms.now step.entry (state_of h block.now)) out.old 0 out.new result }
 {
     let at = ticks::first_event_actions(h, block, out, 0);
-    step_actions(h, block, instant, rooms, event, step, out, at)
+    step_actions(h, block, instant, rooms, step, out, at)
 }

@@ -1,10 +1,10 @@
 // Which limit a call met that is answered 13: the questions of an event call, with the counts zero, asked of a block that is only read.
 ghost use Rattle.std.specs.Prelude.{◌≡◌, [], length, ◌+◌, ◌≤◌};
-ghost use Rattle.storage.specs.Rows.Part.{part};
 ghost use Rattle.blake3.specs.Blake3.{identifier};
 ghost use Rattle.postcard.specs.Message.{Received, Broadcast, Fired, Up};
 ghost use Rattle.postcard.specs.Values.{scope_value, timer_value};
-ghost use Rattle.postcard.specs.Events.{message_value, event_value, Sized, EventHeld};
+ghost use Rattle.postcard.specs.Message.{message_bytes};
+ghost use Rattle.wire.specs.Reader.Values.{message_value, event_value};
 ghost use Rattle.block.specs.View.{state_of, limits_of};
 ghost use Rattle.block.specs.Fit.{Ceilings};
 ghost use Rattle.whole.specs.Held.{held};
@@ -12,7 +12,7 @@ ghost use Rattle.steps.specs.Stands.{Stands};
 ghost use Rattle.steps.specs.Rooms.{rooms_in};
 ghost use Rattle.steps.specs.Shared.{sizes_value};
 ghost use Rattle.machine.specs.Kinds.Meaning.{StepHeld};
-ghost use Rattle.machine.specs.Core.{core_rooms};
+ghost use Rattle.machine.specs.Core.{Shortened, event_size, core_rooms};
 ghost use Rattle.machine.specs.LimitMet.LimitMet.{asking, limit_met};
 ghost use Rattle.machine.specs.LimitMet.Decided.{sizes_past, event_past, step_past};
 
@@ -20,10 +20,12 @@ use crate::kinds::Step;
 use crate::{event, kinds, sizes_after};
 use block::head::{Head, Limits};
 use block::header;
-use postcard::message::{Decoded, Event, Message, Scope, Timer};
+use postcard::message::{Scope, Timer};
 use postcard::units::Millis;
 use steps::{Sizes, sizes_before};
-use wire::decode;
+use wire::reader;
+use wire::reader::event::Event;
+use wire::reader::message::Message;
 
 // The first limit that these numbers of entries are past, in the order of the ceilings; 0 if they are within every one. "Expiry entries: 2R, 2C, 2G".
 fn limit_past(l: Limits, z: Sizes) -> u8
@@ -70,22 +72,15 @@ fn limit_past(l: Limits, z: Sizes) -> u8
 }
 
 // Questions 12 and 13 of a step.
-fn step_limit(
-    h: Head,
-    block: &[u8],
-    instant: Millis,
-    event: &[u8],
-    rooms: &[u64; 34],
-    step: Step,
-) -> u8
-    requires { Stands h block.now × StepHeld event.now (state_of h block.now) step }
-    ensures { result ≡ step_past event.now (rooms_in (state_of h block.now) rooms.now) instant.0 step (state_of h block.now) }
+fn step_limit(h: Head, block: &[u8], instant: Millis, rooms: &[u64; 34], step: Step) -> u8
+    requires { Stands h block.now × StepHeld (state_of h block.now) step }
+    ensures { result ≡ step_past (rooms_in (state_of h block.now) rooms.now) instant.0 step.entry (state_of h block.now) }
 {
     let far = event::is_far(step);
     if far {
         return 0;
     }
-    let sizes = sizes_after::step_sizes(h, block, instant, rooms, event, step);
+    let sizes = sizes_after::step_sizes(h, block, instant, rooms, step);
     limit_past(h.limits, sizes)
 }
 
@@ -94,20 +89,19 @@ fn message_limit(
     h: Head,
     block: &[u8],
     instant: Millis,
-    event: &[u8],
     rooms: &[u64; 34],
     peer: u64,
     size: usize,
     m: Message,
 ) -> u8
-    requires { Stands h block.now × Sized event.now (length event.now) size m }
-    ensures { result ≡ event_past (rooms_in (state_of h block.now) rooms.now) instant.0 event.now (Received peer (message_value event.now m)) (state_of h block.now) }
+    requires { Stands h block.now × (length (message_bytes (message_value m)) ≤ size) }
+    ensures { result ≡ event_past (rooms_in (state_of h block.now) rooms.now) instant.0 size (Received peer (message_value m.entry)) (state_of h block.now) }
 {
     if h.settings.max_message_size < size as u64 {
         return 0;
     }
-    let step = kinds::message_step(h, block, instant, event, peer, m);
-    step_limit(h, block, instant, event, rooms, step)
+    let step = kinds::message_step(h, block, instant, peer, m);
+    step_limit(h, block, instant, rooms, step)
 }
 
 // A broadcast: its step.
@@ -115,66 +109,50 @@ fn broadcast_limit(
     h: Head,
     block: &[u8],
     instant: Millis,
-    event: &[u8],
     rooms: &[u64; 34],
-    start: usize,
-    len: usize,
+    content: &[u8],
     scope: Scope,
 ) -> u8
-    requires { Stands h block.now × (start + len ≤ length event.now) }
-    ensures { result ≡ event_past (rooms_in (state_of h block.now) rooms.now) instant.0 event.now (Broadcast (part start len event.now) (scope_value scope)) (state_of h block.now) }
+    requires { Stands h block.now }
+    ensures { result ≡ event_past (rooms_in (state_of h block.now) rooms.now) instant.0 0 (Broadcast content.now (scope_value scope)) (state_of h block.now) }
 {
-    let step = kinds::broadcast_step(h, block, instant, event, start, len, scope);
-    step_limit(h, block, instant, event, rooms, step)
+    let step = kinds::broadcast_step(h, block, instant, content, scope);
+    step_limit(h, block, instant, rooms, step)
 }
 
 // A timer: its step.
-fn timer_limit(
-    h: Head,
-    block: &[u8],
-    instant: Millis,
-    event: &[u8],
-    rooms: &[u64; 34],
-    t: Timer,
-) -> u8
+fn timer_limit(h: Head, block: &[u8], instant: Millis, rooms: &[u64; 34], t: Timer) -> u8
     requires { Stands h block.now }
-    ensures { result ≡ event_past (rooms_in (state_of h block.now) rooms.now) instant.0 event.now (Fired (timer_value t)) (state_of h block.now) }
+    ensures { result ≡ event_past (rooms_in (state_of h block.now) rooms.now) instant.0 0 (Fired (timer_value t)) (state_of h block.now) }
 {
-    let step = kinds::timer_step(h, block, instant, event, t);
-    step_limit(h, block, instant, event, rooms, step)
+    let step = kinds::timer_step(h, block, instant, t);
+    step_limit(h, block, instant, rooms, step)
 }
 
 // A neighbour told up: the numbers of entries with its link.
 fn up_limit(h: Head, block: &[u8], instant: Millis, rooms: &[u64; 34], peer: u64) -> u8
     requires { Stands h block.now }
-    ensures { result ≡ event_past (rooms_in (state_of h block.now) rooms.now) instant.0 [] (Up peer) (state_of h block.now) }
+    ensures { result ≡ event_past (rooms_in (state_of h block.now) rooms.now) instant.0 0 (Up peer) (state_of h block.now) }
 {
     let sizes = sizes_before::up_sizes(h, block, peer);
     limit_past(h.limits, sizes)
 }
 
 // Questions 10, 12 and 13 of an event that was read, by its kind. A neighbour told down adds nothing.
-fn event_limit(
-    h: Head,
-    block: &[u8],
-    instant: Millis,
-    event: &[u8],
-    rooms: &[u64; 34],
-    e: Event,
-) -> u8
-    requires { Stands h block.now × EventHeld event.now (length event.now) e }
-    ensures { result ≡ event_past (rooms_in (state_of h block.now) rooms.now) instant.0 event.now (event_value event.now e) (state_of h block.now) }
+fn event_limit(h: Head, block: &[u8], instant: Millis, rooms: &[u64; 34], e: Event) -> u8
+    requires { Stands h block.now × Shortened e }
+    ensures { result ≡ event_past (rooms_in (state_of h block.now) rooms.now) instant.0 (event_size e.entry) (event_value e.entry) (state_of h block.now) }
 {
     match e {
         Event::Received {
             peer,
             size,
             message,
-        } => message_limit(h, block, instant, event, rooms, peer, size, message),
-        Event::Broadcast { start, len, scope } => {
-            broadcast_limit(h, block, instant, event, rooms, start, len, scope)
+        } => message_limit(h, block, instant, rooms, peer, size, message),
+        Event::Broadcast { content, scope } => {
+            broadcast_limit(h, block, instant, rooms, content, scope)
         }
-        Event::Timer(t) => timer_limit(h, block, instant, event, rooms, t),
+        Event::Timer(t) => timer_limit(h, block, instant, rooms, t),
         Event::Up(peer) => up_limit(h, block, instant, rooms, peer),
         Event::Down(_) => 0,
     }
@@ -193,13 +171,12 @@ pub fn limit_met(block: &[u8], instant: Millis, event: &[u8], rooms: [u64; 34]) 
         return 0;
     }
     let h = header::load_head(block);
-    let d = decode::decode_event(event);
-    match d {
-        Decoded::Event(e) => {
+    match reader::event::decode_event(event) {
+        Ok(e) => {
             let mut own = rooms;
             own[33] = event::event_peer(e);
-            event_limit(h, block, instant, event, &own, e)
+            event_limit(h, block, instant, &own, e)
         }
-        Decoded::Fault(_) => 0,
+        Err(_) => 0,
     }
 }

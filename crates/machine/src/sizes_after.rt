@@ -5,7 +5,7 @@ ghost use Rattle.storage.specs.Lists.Map.{has};
 ghost use Rattle.storage.specs.Rows.Ident.{id_of};
 ghost use Rattle.time_cache.specs.TimeCache.{get};
 ghost use Rattle.postcard.specs.Values.{wanted_value};
-ghost use Rattle.postcard.specs.Events.{ihaves_from, Listed};
+ghost use Rattle.wire.specs.Reader.Values.{ihaves_value};
 ghost use Rattle.block.specs.View.{state_of};
 ghost use Rattle.block.specs.LinkSteps.{peer_at};
 ghost use Rattle.decide.specs.Settled.{settled};
@@ -26,11 +26,10 @@ use block::{missing, timers};
 use payloads::broadcast;
 use payloads::eager::target::Push;
 use payloads::eager::{back, reply};
-use postcard::message::Wanted;
 use postcard::units::Millis;
 use steps::{Sizes, settled, sizes_before};
 use storage::rows::id::Id;
-use storage::rows::table::Found;
+use wire::reader::ihaves::Ihaves;
 
 // The reply to a Graft: what a push of the cached message to one link adds to the record. Its time is that of `sizes_then`, of a look-up in the message cache,
 // and of one pass over the record's column of link numbers.
@@ -60,31 +59,24 @@ pub fn graft_sizes(
     instant: Millis,
     rooms: &[u64; 34],
     link: usize,
-    wanted: Wanted,
+    wanted: Option<Id>,
 ) -> Sizes
     requires { Stands h block.now × (link < h.live.links) }
     ensures { sizes_value result ≡ graft_sizes (rooms_in (state_of h block.now) rooms.now) (peer_at (state_of h block.now) link) (wanted_value wanted) (settled instant.0 (state_of h block.now)) }
 {
     match wanted {
-        Wanted::Message(id) => reply_sizes(h, block, instant, rooms, link, id),
-        Wanted::Nothing => settled::sizes_then(h, block, instant),
+        Some(id) => reply_sizes(h, block, instant, rooms, link, id),
+        None => settled::sizes_then(h, block, instant),
     }
 }
 
 // IHave from a neighbour: the missing messages and the timers that it adds. Its time is that of `announcements::ihaves::ihave_sizes` and of `sizes_then`.
-pub fn ihave_step_sizes(
-    h: Head,
-    block: &[u8],
-    instant: Millis,
-    event: &[u8],
-    start: usize,
-    count: usize,
-) -> Sizes
-    requires { Stands h block.now × Listed event.now start count (ihaves_from event.now start count) × (count ≤ 4094) }
-    ensures { sizes_value result ≡ ihave_sizes (ihaves_from event.now start count) (settled instant.0 (state_of h block.now)) }
+pub fn ihave_step_sizes(h: Head, block: &[u8], instant: Millis, ihaves: Ihaves) -> Sizes
+    requires { Stands h block.now × (ihaves.count ≤ 4094) }
+    ensures { sizes_value result ≡ ihave_sizes (ihaves_value ihaves.entry) (settled instant.0 (state_of h block.now)) }
 {
     let mut z = settled::sizes_then(h, block, instant);
-    let new = ihaves::ihave_sizes(h, block, instant, event, start, count);
+    let new = ihaves::ihave_sizes(h, block, instant, ihaves);
     let missing = z.missing + new.missing;
     let timers = z.timers + new.timers;
     z.missing = missing;
@@ -120,8 +112,8 @@ fn missing_without(h: Head, block: &[u8], id: Id) -> usize
 {
     let f = missing::find_missing(h, block, id);
     match f {
-        Found::At(_) => h.live.missing - 1,
-        Found::Before(_) => h.live.missing,
+        Ok(_) => h.live.missing - 1,
+        Err(_) => h.live.missing,
     }
 }
 
@@ -132,8 +124,8 @@ fn timers_without(h: Head, block: &[u8], id: Id) -> usize
 {
     let f = timers::find_timer(h, block, id);
     match f {
-        Found::At(_) => h.live.timers - 1,
-        Found::Before(_) => h.live.timers,
+        Ok(_) => h.live.timers - 1,
+        Err(_) => h.live.timers,
     }
 }
 
@@ -162,51 +154,27 @@ pub fn new_sizes(
 }
 
 // The numbers of entries after the step of an event (question 13). Its time is that of the step's own function.
-pub fn step_sizes(
-    h: Head,
-    block: &[u8],
-    instant: Millis,
-    rooms: &[u64; 34],
-    event: &[u8],
-    step: Step,
-) -> Sizes
-    requires { Stands h block.now × StepHeld event.now (state_of h block.now) step }
-    ensures { sizes_value result ≡ step_sizes event.now (rooms_in (state_of h block.now) rooms.now) instant.0 step (settled instant.0 (state_of h block.now)) }
+pub fn step_sizes(h: Head, block: &[u8], instant: Millis, rooms: &[u64; 34], step: Step) -> Sizes
+    requires { Stands h block.now × StepHeld (state_of h block.now) step }
+    ensures { sizes_value result ≡ step_sizes (rooms_in (state_of h block.now) rooms.now) instant.0 step.entry (settled instant.0 (state_of h block.now)) }
 {
     match step {
         Step::Nothing => settled::sizes_then(h, block, instant),
         Step::NewSwarm {
             sender,
             id,
-            start: _,
-            len,
-            round: _,
-        } => new_sizes(h, block, instant, rooms, sender, id, len),
-        Step::NewNeighbors {
-            sender: _,
-            start: _,
-            len: _,
-        } => settled::sizes_then(h, block, instant),
-        Step::Late {
-            sender: _,
-            id: _,
-            delivery: _,
-        } => settled::sizes_then(h, block, instant),
-        Step::Prune { link: _ } => settled::sizes_then(h, block, instant),
+            content,
+            ..
+        } => new_sizes(h, block, instant, rooms, sender, id, content.len()),
+        Step::NewNeighbors { .. } => settled::sizes_then(h, block, instant),
+        Step::Late { .. } => settled::sizes_then(h, block, instant),
+        Step::Prune { .. } => settled::sizes_then(h, block, instant),
         Step::Graft { link, wanted } => graft_sizes(h, block, instant, rooms, link, wanted),
-        Step::IHave {
-            link: _,
-            start,
-            count,
-        } => ihave_step_sizes(h, block, instant, event, start, count),
-        Step::BroadcastSwarm { id, start: _, len } => {
-            broadcast::broadcast_sizes(h, block, instant, rooms, id, len)
+        Step::IHave { ihaves, .. } => ihave_step_sizes(h, block, instant, ihaves),
+        Step::BroadcastSwarm { id, content } => {
+            broadcast::broadcast_sizes(h, block, instant, rooms, id, content.len())
         }
-        Step::BroadcastNeighbors {
-            id: _,
-            start: _,
-            len: _,
-        } => settled::sizes_then(h, block, instant),
+        Step::BroadcastNeighbors { .. } => settled::sizes_then(h, block, instant),
         Step::SendGraft(id) => send_graft::send_graft_sizes(h, block, instant, id),
         Step::DispatchLazyPush => gains::dispatch_sizes(h, block, instant, rooms),
         Step::EvictCache => sizes_before::evict_sizes(h, block, instant),

@@ -1,14 +1,15 @@
 // The records of `panelrun`, "records of now, length, event", read from as many bytes of the input as are there; and what it writes for one, "answer byte, length, actions".
-ghost use Rattle.std.specs.Prelude.{◌≡◌, ◌≤◌, length, take, drop};
+ghost use Rattle.std.specs.Prelude.{◌≡◌, ◌≤◌, length, take};
 ghost use Rattle.postcard.specs.Output.{Wrote};
-ghost use Rattle.panel.specs.Records.Reading.{Tells, may_fit, Timed, Lengthed};
+ghost use Rattle.panel.specs.Records.Reading.{Tells, may_fit};
 ghost use Rattle.panel.specs.Records.Running.{answer_bytes};
 
 use postcard::units::Millis;
+use wire::encode;
 use wire::encode::Encode;
 use wire::encode::sink::Sink;
-use wire::number::NumberRead;
-use wire::{encode, number};
+use wire::reader::Reader;
+use wire::reader::fault::Fault;
 
 // "output 40,960".
 pub const OUTPUT: usize = 40960;
@@ -18,12 +19,12 @@ pub const REPLY: usize = 40971;
 
 // What the first bytes of the input tell of its first record.
 #[derive(Clone, Copy)]
-pub enum Record {
-    // It is there: its time, and where its event starts and how long that is. The next record follows the event.
+pub enum Record<'a> {
+    // It is there, in the first `used` bytes: its time and its event.
     Whole {
         instant: Millis,
-        start: usize,
-        len: usize,
+        event: &'a [u8],
+        used: usize,
     },
     // It is not whole, and more bytes may make it so.
     Cut,
@@ -31,61 +32,17 @@ pub enum Record {
     Bad,
 }
 
-// "an event over 16,384 bytes": may the length whose first bytes stand from `at` to the end, its last one not among them, still be at most that? Of three bytes, 80 80 01 alone is.
-fn may_fit(bytes: &[u8], at: usize) -> bool
-    requires { at ≤ length bytes.now }
-    ensures { result ≡ may_fit (drop at bytes.now) }
-{
-    let n = bytes.len() - at;
-    if n < 2 {
-        return true;
-    }
-    if 2 < n {
-        return false;
-    }
-    if bytes[at] == 128 {
-        return bytes[at + 1] == 128;
-    }
-    false
-}
+// "an event over 16,384 bytes".
+const MAX_EVENT: u64 = 16384;
 
-// The event, of `n` bytes from `start` on.
-fn read_event(bytes: &[u8], instant: Millis, n: u64, start: usize) -> Record
-    requires { Lengthed bytes.now instant.0 n start }
-    ensures { Tells bytes.now result }
+// May the length that begins with these bytes, its last one not among them, still be at most 16,384? Of three bytes, 80 80 01 alone is.
+fn may_fit(bytes: &[u8]) -> bool
+    ensures { result ≡ may_fit bytes.now }
 {
-    if 16384 < n {
-        return Record::Bad;
-    }
-    let len = n as usize;
-    if bytes.len() - start < len {
-        return Record::Cut;
-    }
-    Record::Whole {
-        instant,
-        start,
-        len,
-    }
-}
-
-// Length and event, from `at` on.
-fn read_lengthed(bytes: &[u8], instant: Millis, at: usize) -> Record
-    requires { Timed bytes.now instant.0 at }
-    ensures { Tells bytes.now result }
-{
-    let length = number::read_number(bytes, at);
-    match length {
-        NumberRead::Got { value, next } => read_event(bytes, instant, value, next),
-        NumberRead::Fault(n) => {
-            if n != 7 {
-                return Record::Bad;
-            }
-            let fits = may_fit(bytes, at);
-            if fits {
-                return Record::Cut;
-            }
-            Record::Bad
-        }
+    match bytes {
+        [] | [_] => true,
+        [a, b] => *a == 128 && *b == 128,
+        _ => false,
     }
 }
 
@@ -93,15 +50,42 @@ fn read_lengthed(bytes: &[u8], instant: Millis, at: usize) -> Record
 pub fn read_record(bytes: &[u8]) -> Record
     ensures { Tells bytes.now result }
 {
-    let time = number::read_number(bytes, 0);
-    match time {
-        NumberRead::Got { value, next } => read_lengthed(bytes, Millis(value), next),
-        NumberRead::Fault(n) => {
-            if n != 7 {
-                return Record::Bad;
-            }
-            Record::Cut
+    let mut reader = Reader { rest: bytes };
+    let instant = match reader.number() {
+        Ok(now) => Millis(now),
+        Err(fault) => {
+            return match fault {
+                Fault::Ends => Record::Cut,
+                _ => Record::Bad,
+            };
         }
+    };
+    let behind = reader.rest;
+    let len = match reader.number() {
+        Ok(len) => len,
+        Err(stop) => {
+            return match stop {
+                Fault::Ends => {
+                    if may_fit(behind) {
+                        Record::Cut
+                    } else {
+                        Record::Bad
+                    }
+                }
+                _ => Record::Bad,
+            };
+        }
+    };
+    if MAX_EVENT < len {
+        return Record::Bad;
+    }
+    match reader.bytes(len as usize) {
+        Ok(event) => Record::Whole {
+            instant,
+            event,
+            used: bytes.len() - reader.rest.len(),
+        },
+        Err(_) => Record::Cut,
     }
 }
 

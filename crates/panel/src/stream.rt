@@ -123,14 +123,12 @@ pub fn run<R: Read, W: Write>(alloc: Global, input: &mut R, output: &mut W) -> i
         match records::read_record(unread.bytes()) {
             Record::Whole {
                 instant,
-                start,
-                len,
+                event,
+                used,
             } => {
-                let end = start + len;
-                let event = &unread.bytes()[start..end];
                 let n = answer(&mut panel, instant, event, &mut out, &mut reply);
                 write_on(output, &reply[..n])?;
-                unread.skip(end);
+                unread.skip(used);
             }
             Record::Cut => match unread.read_on(input) {
                 Ok(0) => return close(unread.bytes(), output),

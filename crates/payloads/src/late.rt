@@ -26,7 +26,6 @@ use steps::grafts::reads;
 use steps::grafts::reads::First;
 use steps::{Held, settled};
 use storage::rows::id::Id;
-use storage::rows::table::Found;
 use wire::output;
 
 // What a copy of a message received before is; with the link of the first sender where that one goes lazy.
@@ -54,7 +53,7 @@ fn from_first(h: Head, block: &[u8], g: usize, peer: u64) -> Late
 {
     let f = links::find_link(h, block, peer);
     match f {
-        Found::At(l) => {
+        Ok(l) => {
             let asked = reads::is_grafted(h, block, g, l);
             if asked {
                 return Late::Duplicate;
@@ -65,7 +64,7 @@ fn from_first(h: Head, block: &[u8], g: usize, peer: u64) -> Late
             }
             Late::Duplicate
         }
-        Found::Before(_) => Late::Duplicate,
+        Err(_) => Late::Duplicate,
     }
 }
 
@@ -138,8 +137,8 @@ pub fn late_kind(
         Held::At(g) => {
             let f = links::find_link(h, block, sender);
             match f {
-                Found::At(link) => late_from(h, block, g, link, delivery),
-                Found::Before(_) => Late::Duplicate,
+                Ok(link) => late_from(h, block, g, link, delivery),
+                Err(_) => Late::Duplicate,
             }
         }
         Held::Nothing => Late::Duplicate,
@@ -153,8 +152,8 @@ fn first_taken(h: Head, block: &[u8], rooms: &[u64; 34], peer: u64) -> bool
 {
     let f = links::find_link(h, block, peer);
     match f {
-        Found::At(i) => 1 <= rooms[i],
-        Found::Before(_) => 1 <= rooms[32],
+        Ok(i) => 1 <= rooms[i],
+        Err(_) => 1 <= rooms[32],
     }
 }
 

@@ -1,5 +1,5 @@
 // A new Swarm message: the specification, "Gossip".
-ghost use Rattle.std.specs.Prelude.{◌≡◌, true, ◌^◌, ◌≤◌, ◌<◌};
+ghost use Rattle.std.specs.Prelude.{◌≡◌, true, ◌^◌, ◌≤◌, ◌<◌, ◌≢◌};
 ghost use Rattle.storage.specs.Rows.Ident.{id_of};
 ghost use Rattle.decide.specs.StateAfter.{first_set_state};
 ghost use Rattle.block.specs.Goes.{Goes};
@@ -62,7 +62,7 @@ pub fn on_gossip(
     content: &[u8],
     round: Round,
 ) -> Head
-    requires { Step (new_in instant.0 rooms.now sender (id_of id) content.now round.0) h block.old × (h.live.init ≡ true) × (round.0 < 65535) × (instant.0 ≤ 2 ^ 62) }
+    requires { Step (new_in instant.0 rooms.now sender (id_of id) content.now round.0) h block.old × (h.live.init ≡ true) × (round.0 ≢ 65535) × (instant.0 ≤ 2 ^ 62) }
     ensures { Goes (new_in instant.0 rooms.now sender (id_of id) content.now round.0) h block.old result block.new }
 {
     let next = round.0 + 1;

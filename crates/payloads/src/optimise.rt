@@ -20,12 +20,10 @@ ghost use Rattle.payloads.specs.Optimise.Best.{LeastIs, nearest, BestIs, wanted,
 use block::head::Head;
 use block::hops::Hop;
 use block::{links, missing, timers};
-use postcard::message::Wanted;
 use postcard::units::{Millis, Round};
 use steps::grafts::reads;
 use steps::{Held, settled};
 use storage::rows::id::Id;
-use storage::rows::table::Found;
 use wire::output;
 
 // The announcer that the tree is optimised by, if there is one.
@@ -61,7 +59,7 @@ fn closer(h: Head, block: &[u8], id: Id, round: Round) -> Best
 {
     let f = missing::find_missing(h, block, id);
     match f {
-        Found::At(i) => {
+        Ok(i) => {
             let best = least_announcer(h, block, i);
             let near = best.round.0;
             if round.0 <= near {
@@ -72,7 +70,7 @@ fn closer(h: Head, block: &[u8], id: Id, round: Round) -> Best
             }
             Best::Closer(best)
         }
-        Found::Before(_) => Best::Nothing,
+        Err(_) => Best::Nothing,
     }
 }
 
@@ -83,7 +81,7 @@ fn wants_optimise(h: Head, block: &[u8], instant: Millis, sender: u64, id: Id, r
 {
     let f = links::find_link(h, block, sender);
     match f {
-        Found::At(link) => {
+        Ok(link) => {
             let held = settled::grafted_then(h, block, instant, id);
             let out = reads::graft_out(h, block, held, link, round);
             if out {
@@ -91,7 +89,7 @@ fn wants_optimise(h: Head, block: &[u8], instant: Millis, sender: u64, id: Id, r
             }
             Held::At(link)
         }
-        Found::Before(_) => Held::Nothing,
+        Err(_) => Held::Nothing,
     }
 }
 
@@ -173,7 +171,7 @@ fn send_optimise(
     let peer = links::peer_at(h, block, near);
     let asked = 1 <= rooms[near];
     let round = best.round;
-    let to = output::send_graft(out, at, peer, asked, Wanted::Nothing, round);
+    let to = output::send_graft(out, at, peer, asked, None, round);
     if near == link {
         let taken = 2 <= rooms[link];
         return output::send_prune(out, to, sender, taken);

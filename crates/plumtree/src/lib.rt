@@ -28,7 +28,6 @@ use postcard::units::Millis;
 use whole::states::Returned;
 use whole::{create, states};
 use wire::rewrite;
-use wire::rewrite::Rewritten;
 
 // An entry of a call's link room: how many sends to the peer its link takes.
 #[repr(C)]
@@ -181,10 +180,12 @@ pub extern "C" fn plumtree_limit_met(
 pub extern "C" fn plumtree_rewrite(message: &[u8], output: &mut [u8]) -> Answer
     ensures { Rewrites message.now output.old output.new result.number result.length }
 {
-    let written = rewrite::rewrite(message, output);
-    match written {
-        Rewritten::Shortest(length) => Answer { number: 0, length },
-        Rewritten::Fault(number) => Answer { number, length: 0 },
+    match rewrite::rewrite(message, output) {
+        Ok(length) => Answer { number: 0, length },
+        Err(fault) => {
+            let number = fault.number();
+            Answer { number, length: 0 }
+        }
     }
 }
 

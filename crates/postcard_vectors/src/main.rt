@@ -3,9 +3,8 @@
 // `stdout`. tests/postcard says how both were made.
 #![tactic(auto)]
 
-use postcard::message::Decoded;
 use std::io::Read;
-use wire::decode;
+use wire::reader::event;
 
 mod shortest;
 mod show;
@@ -41,13 +40,12 @@ fn fill(event: &mut [u8], digits: &[u8]) -> usize
 }
 
 // One line of the output.
-fn replay(rt: &impl Print, event: &[u8]) {
-    let decoded = decode::decode_event(event);
-    match decoded {
-        Decoded::Event(value) => show::event(rt, event, value),
-        Decoded::Fault(n) => show::number(rt, n as u64),
+fn replay(rt: &impl Print, bytes: &[u8]) {
+    match event::decode_event(bytes) {
+        Ok(e) => show::event(rt, e),
+        Err(fault) => show::number(rt, fault.number() as u64),
     }
-    shortest::of_event(rt, event);
+    shortest::of_event(rt, bytes);
     show::word(rt, b"\n");
 }
 

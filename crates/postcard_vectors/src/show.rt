@@ -1,11 +1,8 @@
 // Writes what an event holds, in words; contents and identifiers in hexadecimal.
-ghost use Rattle.std.specs.Prelude.{length};
-ghost use Rattle.postcard.specs.Events.{Listed, MessageHeld, EventHeld, ihaves_from};
-
-use postcard::message::{Delivery, Event, Message, Scope, Timer, Wanted};
+use postcard::message::{Delivery, Ihave, Scope, Timer};
 use storage::rows::id::Id;
-use wire::decode::field;
-use wire::decode::field::Announced;
+use wire::reader::event::Event;
+use wire::reader::message::Message;
 
 // Writes bytes. Here and below a write that fails is left at that.
 pub fn word(rt: &impl Print, text: &[u8]) {
@@ -49,49 +46,31 @@ fn delivery(rt: &impl Print, d: Delivery) {
     }
 }
 
-fn wanted(rt: &impl Print, w: Wanted) {
+fn wanted(rt: &impl Print, w: Option<Id>) {
     match w {
-        Wanted::Nothing => word(rt, b"-"),
-        Wanted::Message(id) => identifier(rt, id),
+        None => word(rt, b"-"),
+        Some(id) => identifier(rt, id),
     }
 }
 
-fn announcement(rt: &impl Print, a: Announced) {
+fn announcement(rt: &impl Print, a: Ihave) {
     word(rt, b" ");
     identifier(rt, a.id);
     word(rt, b" ");
     number(rt, a.round.0 as u64);
 }
 
-// The announcements, one after the other.
-fn announcements(rt: &impl Print, bytes: &[u8], start: usize, count: usize)
-    requires { Listed bytes.now start count (ihaves_from bytes.now start count) }
-{
-    let mut place = start;
-    let mut i = 0;
-    while i < count {
-        let one = field::next_ihave(bytes, place);
-        announcement(rt, one);
-        place = one.next;
-        i += 1;
-    }
-}
-
-fn message(rt: &impl Print, bytes: &[u8], m: Message)
-    requires { MessageHeld bytes.now m }
-{
+fn message(rt: &impl Print, m: Message) {
     match m {
         Message::Gossip {
             id,
-            start,
-            len,
+            content: c,
             delivery: d,
         } => {
             word(rt, b"Gossip ");
             identifier(rt, id);
             word(rt, b" ");
-            let end = start + len;
-            content(rt, &bytes[start..end]);
+            content(rt, c);
             delivery(rt, d);
         }
         Message::Prune => word(rt, b"Prune"),
@@ -101,9 +80,11 @@ fn message(rt: &impl Print, bytes: &[u8], m: Message)
             word(rt, b" ");
             number(rt, round.0 as u64);
         }
-        Message::IHave { start, count } => {
+        Message::IHave(ihaves) => {
             word(rt, b"IHave");
-            announcements(rt, bytes, start, count);
+            for one in ihaves {
+                announcement(rt, one);
+            }
         }
     }
 }
@@ -128,9 +109,7 @@ fn scope(rt: &impl Print, s: Scope) {
 }
 
 // An event: of a received message its peer and its size first.
-pub fn event(rt: &impl Print, bytes: &[u8], e: Event)
-    requires { EventHeld bytes.now (length bytes.now) e }
-{
+pub fn event(rt: &impl Print, e: Event) {
     match e {
         Event::Received {
             peer,
@@ -142,16 +121,14 @@ pub fn event(rt: &impl Print, bytes: &[u8], e: Event)
             word(rt, b" ");
             number(rt, size as u64);
             word(rt, b" ");
-            message(rt, bytes, m);
+            message(rt, m);
         }
         Event::Broadcast {
-            start,
-            len,
+            content: c,
             scope: s,
         } => {
             word(rt, b"Broadcast ");
-            let end = start + len;
-            content(rt, &bytes[start..end]);
+            content(rt, c);
             scope(rt, s);
         }
         Event::Timer(t) => timer(rt, t),

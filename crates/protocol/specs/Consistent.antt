@@ -7,11 +7,12 @@ use Rattle.protocol.specs.Links.{Links, is_neighbour}
 use Rattle.protocol.specs.State.{State, Note, Hop, Grafts, Cached, size_in_range, durations_in_range, limits_in_range}
 use Rattle.protocol.specs.Push.{for_peer}
 use Rattle.protocol.specs.Whole.{announcers_whole, grafts_whole, noted_once}
+use Rattle.protocol.specs.declared.TheConstants.{MAX_DROPPED_PER_PEER, MAX_DROPPED}
 
 -- "records within 256 and 4,096"
 pub record Within (ns : List Note) : Type 0 where
-  pub each : (p : ℕ) → count (for_peer p) ns ≤ 256
-  pub in_all : length ns ≤ 4096
+  pub each : (p : ℕ) → count (for_peer p) ns ≤ MAX_DROPPED_PER_PEER
+  pub in_all : length ns ≤ MAX_DROPPED
 
 -- "a queue or record stands only with its flag"
 abbrev pub Flagged : List Note → Bool → Type 0

@@ -10,6 +10,7 @@ use Rattle.protocol.specs.Push.{for_peer, notes, record_full}
 use Rattle.protocol.specs.Gossips.{gossip_size}
 use Rattle.protocol.specs.Answer.{Call, Answer, refuse, accept}
 use Rattle.protocol.specs.Calls.{run_calls}
+use Rattle.protocol.specs.declared.TheConstants.{MAX_DROPPED_PER_PEER, MAX_DROPPED}
 
 -- "only accepted calls tell, take in, announce or fire": the event of an accepted call passes the test
 unfoldable pub by_event : (Event → Bool) → Answer → Bool
@@ -266,8 +267,8 @@ module _ (hash : List ℕ → ℕ) (c : Settings) where
   pub record HoldsAfter (past : List Answer) (s : State) : Type 0 where
     pub neighbours : (p : ℕ) → told_up p past ≡ true → InOne p s
     pub strangers : (p : ℕ) → told_up p past ≡ false → InNeither p s
-    pub record_each : (p : ℕ) → count (for_peer p) s.dropped ≤ 256
-    pub record_all : length s.dropped ≤ 4096
+    pub record_each : (p : ℕ) → count (for_peer p) s.dropped ≤ MAX_DROPPED_PER_PEER
+    pub record_all : length s.dropped ≤ MAX_DROPPED
     pub messages : (id : ℕ) → holds id s.cache ≡ true → MessageReached id past s
     pub queue_timer : (s.queue ≡ [] → ⊥) → TimerRuns dispatch_tick past
     pub record_timer : (s.dropped ≡ [] → ⊥) → TimerRuns announce_tick past

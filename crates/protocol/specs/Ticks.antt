@@ -8,6 +8,7 @@ unfoldable pub use Rattle.postcard.specs.Sizes.{per_message}
 use Rattle.protocol.specs.State.{State, Note, with_queue, with_dropped, with_cache, with_received, with_grafted, with_dispatch_scheduled, with_announce_scheduled}
 use Rattle.protocol.specs.Run.{Run, with_state, schedule}
 use Rattle.protocol.specs.Push.{for_peer, send_ihave, schedule_dispatch, schedule_announce_dropped}
+use Rattle.protocol.specs.declared.TheConstants.{DROPPED_PER_TICK}
 
 -- the list in pieces of at most `k`, at most `pieces` of them
 unfoldable pub chunks : ℕ → ℕ → List Ihave → List (List Ihave)
@@ -48,12 +49,12 @@ on_dispatch_timer r =
 -- "the oldest 64 per peer": `seen` are the entries passed so far
 unfoldable pub oldest : List Note → List Note → List Note
 oldest seen [] = []
-oldest seen (n ∷ ns) = if ltb (count (for_peer n.peer) seen) 64 then n ∷ oldest (n ∷ seen) ns else oldest (n ∷ seen) ns
+oldest seen (n ∷ ns) = if ltb (count (for_peer n.peer) seen) DROPPED_PER_TICK then n ∷ oldest (n ∷ seen) ns else oldest (n ∷ seen) ns
 
 -- the others
 unfoldable pub younger : List Note → List Note → List Note
 younger seen [] = []
-younger seen (n ∷ ns) = if ltb (count (for_peer n.peer) seen) 64 then younger (n ∷ seen) ns else n ∷ younger (n ∷ seen) ns
+younger seen (n ∷ ns) = if ltb (count (for_peer n.peer) seen) DROPPED_PER_TICK then younger (n ∷ seen) ns else n ∷ younger (n ∷ seen) ns
 
 -- "drops uncached identifiers, moves the oldest 64 per peer to its queue"
 unfoldable pub move_oldest : List Note → State → State

@@ -15,7 +15,6 @@ use block::head::Head;
 use block::links;
 use postcard::units::Millis;
 use storage::rows::id::Id;
-use storage::rows::table::Found;
 
 // EvictCache: what expires later stays, also where a first event has evicted at the same instant. Its time is that of one pass over the entries of each time cache.
 pub fn evict_sizes(h: Head, block: &[u8], instant: Millis) -> Sizes
@@ -33,8 +32,8 @@ pub fn up_sizes(h: Head, block: &[u8], peer: u64) -> Sizes
     let mut z = settled::sizes_now(h, block);
     let f = links::find_link(h, block, peer);
     match f {
-        Found::At(_) => z,
-        Found::Before(_) => {
+        Ok(_) => z,
+        Err(_) => {
             z.links = z.links + 1;
             z
         }

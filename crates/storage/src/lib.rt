@@ -5,3 +5,4 @@ pub mod lists;
 pub mod notes;
 pub mod refs;
 pub mod rows;
+pub mod tables;

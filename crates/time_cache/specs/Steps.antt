@@ -1,13 +1,11 @@
 -- What the functions of a time cache leave in the block and answer, as the definitions of specs/TimeCache on the cache that the block holds.
 -- Assumes nothing.
-use Rattle.std.specs.Prelude.{◌≡◌, List, [], ◌∷◌, ◌++◌, map, ℕ, ◌+◌, ◌-◌, ◌*◌, ◌≤◌, ◌<◌, length, get_or, take, drop}
+use Rattle.std.specs.Prelude.{◌≡◌, List, [], ◌∷◌, ◌++◌, map, ℕ, ◌+◌, ◌-◌, ◌*◌, ◌≤◌, ◌<◌, length, get_or, take, drop, Result, Ok, Err}
 use Rattle.std.proofs.Math.Option.{none, some}
 use Rattle.storage.specs.Lists.Map.{lookup}
 use Rattle.storage.specs.Rows.Part.{put}
 use Rattle.storage.specs.Rows.Part.{Only}
 use Rattle.storage.specs.Rows.Sorted.{FoundIs}
-use Rattle.storage.specs.declared.rows.table.Found.{Found}
-use Rattle.storage.specs.declared.rows.table.Found.TheVariants.{At, Before}
 use Rattle.storage.specs.Refs.Refs.{Ref, ref, moved, left}
 use Rattle.time_cache.specs.TimeCache.{put as put_in, expire_until, expired_keys}
 use Rattle.time_cache.specs.Tables.{expiry_row, row_at, named, Held, held, refs_at, rows_at, cache_at, resized, Sound, OnlyTwo}
@@ -56,9 +54,9 @@ pub record Gap (c : TimeBoundCache) (j : ℕ) (xs ys : List ℕ) : Type 0 where
   pub only : Only c.entries.at ((c.entries.len + 1) * c.entries.stride) xs ys
 
 -- rows of places with one that names row i: over the one that was found, or before the one where it belongs
-unfoldable pub placed : Found → Ref → List Ref → List Ref
-placed (At j) r es = put j (r ∷ []) es
-placed (Before j) r es = take j es ++ (r ∷ drop j es)
+unfoldable pub placed : Result ℕ ℕ → Ref → List Ref → List Ref
+placed (Ok j) r es = put j (r ∷ []) es
+placed (Err j) r es = take j es ++ (r ∷ drop j es)
 
 -- what `insert` leaves: the key's entry, at `entry`, names a new row, at `row`, and holds the bytes that stood there
 pub record Inserts (c : TimeBoundCache) (k t : ℕ) (xs : List ℕ) (r : Inserted) (ys : List ℕ) : Type 0 where
@@ -70,7 +68,7 @@ pub record Inserts (c : TimeBoundCache) (k t : ℕ) (xs : List ℕ) (r : Inserte
   pub cache : cache_at r.cache ys ≡ put_in k (held_at r.cache r.entry r.row ys) t (cache_at c xs)
   pub sound : Sound r.cache ys
   pub rows : rows_at r.cache ys ≡ take r.row (rows_at c xs) ++ (expiry_row t k (row_at (rows_at r.cache ys) r.row).rest ∷ drop r.row (rows_at c xs))
-  pub found : Found
+  pub found : Result ℕ ℕ
   pub at : FoundIs (named (rows_at c xs) (refs_at c xs)) k found
   pub refs : refs_at r.cache ys ≡ placed found (ref_at (refs_at r.cache ys) r.entry) (map (moved r.row) (refs_at c xs))
   pub only : OnlyTwo c.entries.at ((c.entries.len + 1) * c.entries.stride) c.expiry.at ((c.expiry.len + 1) * c.expiry.stride) xs ys

@@ -12,7 +12,6 @@ use crate::{expiry, named};
 use postcard::units::Millis;
 use storage::refs;
 use storage::rows::id::Id;
-use storage::rows::table::Found;
 use storage::rows::{table, word};
 
 // A table in a block: `len` rows of `stride` bytes each, the first at `at`.
@@ -72,7 +71,7 @@ impl TimeBoundCache {
     }
 
     // Where the key's entry stands, or would stand.
-    pub fn find(self, block: &[u8], key: Id) -> Found
+    pub fn find(self, block: &[u8], key: Id) -> Result<usize, usize>
         requires { Lies self block.now × Sound self block.now }
         ensures { FoundIs (named (rows_at self block.now) (refs_at self block.now)) (id_of key) result }
     {
@@ -139,8 +138,8 @@ impl TimeBoundCache {
     {
         let f = self.find(block, key);
         match f {
-            Found::At(_) => true,
-            Found::Before(_) => false,
+            Ok(_) => true,
+            Err(_) => false,
         }
     }
 
@@ -151,11 +150,11 @@ impl TimeBoundCache {
     {
         let f = self.find(block, key);
         match f {
-            Found::At(i) => {
+            Ok(i) => {
                 let p = self.place(block, i);
                 Got::There(i, p)
             }
-            Found::Before(_) => Got::Nothing,
+            Err(_) => Got::Nothing,
         }
     }
 
@@ -254,7 +253,7 @@ impl TimeBoundCache {
         self.open_row(block, i, key, expires);
         self.move_places(block, i);
         match f {
-            Found::At(j) => {
+            Ok(j) => {
                 self.store_place(block, j, i);
                 let cache = self.resized(n, m);
                 Inserted {
@@ -263,7 +262,7 @@ impl TimeBoundCache {
                     row: i,
                 }
             }
-            Found::Before(j) => {
+            Err(j) => {
                 self.open_entry(block, j);
                 let cache = self.resized(n + 1, m);
                 cache.store_place(block, j, i);

@@ -9,98 +9,60 @@ use block::head::{Head, Limits, Live, Settings};
 use block::header;
 use postcard::units::Millis;
 
+// "at most 2^40" milliseconds
+const LONGEST_DURATION: u64 = 1 << 40;
+
 // (1) "Is M, `max_message_size`, from 510 to 4,094?"
+#[tactic(auto, unfolding(protocol::specs::State::size_in_range))]
 pub(crate) fn size_in_range(s: Settings) -> bool
     ensures { result ≡ size_in_range (settings_of s) }
 {
-    if s.max_message_size < 510 {
-        return false;
-    }
-    s.max_message_size <= 4094
+    510 <= s.max_message_size && s.max_message_size <= 4094
 }
 
 // "at most 2^40"
-fn short(d: Millis) -> bool
+fn is_short(d: Millis) -> bool
     ensures { result ≡ leb d.0 (2 ^ 40) }
 {
-    d.0 <= 1099511627776
+    d.0 <= LONGEST_DURATION
 }
 
 // (2) "Is each of the six durations at most 2^40?"
+#[tactic(auto, unfolding(protocol::specs::State::durations_in_range))]
 pub(crate) fn durations_in_range(s: Settings) -> bool
     ensures { result ≡ durations_in_range (settings_of s) }
 {
     let c = s.config;
-    let graft_1 = short(c.graft_timeout_1);
-    if !graft_1 {
-        return false;
-    }
-    let graft_2 = short(c.graft_timeout_2);
-    if !graft_2 {
-        return false;
-    }
-    let dispatch = short(c.dispatch_timeout);
-    if !dispatch {
-        return false;
-    }
-    let cache = short(c.message_cache_retention);
-    if !cache {
-        return false;
-    }
-    let id = short(c.message_id_retention);
-    if !id {
-        return false;
-    }
-    short(c.cache_evict_interval)
+    is_short(c.graft_timeout_1)
+        && is_short(c.graft_timeout_2)
+        && is_short(c.dispatch_timeout)
+        && is_short(c.message_cache_retention)
+        && is_short(c.message_id_retention)
+        && is_short(c.cache_evict_interval)
 }
 
 // "from 1 to its ceiling"
+#[tactic(auto, unfolding(protocol::specs::State::up_to))]
 fn up_to(ceiling: usize, n: usize) -> bool
     ensures { result ≡ up_to ceiling n }
 {
-    if n < 1 {
-        return false;
-    }
-    n <= ceiling
+    1 <= n && n <= ceiling
 }
 
 // (3) "Is each limit from 1 to its ceiling?"
+#[tactic(auto, unfolding(protocol::specs::State::limits_in_range))]
 pub fn limits_in_range(l: Limits) -> bool
     ensures { result ≡ limits_in_range (limits_of l) }
 {
-    let n = up_to(32, l.neighbours);
-    if !n {
-        return false;
-    }
-    let r = up_to(2048, l.received);
-    if !r {
-        return false;
-    }
-    let c = up_to(512, l.cached);
-    if !c {
-        return false;
-    }
-    let b = up_to(1048576, l.content);
-    if !b {
-        return false;
-    }
-    let g = up_to(512, l.grafted);
-    if !g {
-        return false;
-    }
-    let s = up_to(512, l.missing);
-    if !s {
-        return false;
-    }
-    let t = up_to(512, l.timers);
-    if !t {
-        return false;
-    }
-    let q = up_to(8192, l.queued);
-    if !q {
-        return false;
-    }
-    up_to(4096, l.dropped)
+    up_to(32, l.neighbours)
+        && up_to(2048, l.received)
+        && up_to(512, l.cached)
+        && up_to(1048576, l.content)
+        && up_to(512, l.grafted)
+        && up_to(512, l.missing)
+        && up_to(512, l.timers)
+        && up_to(8192, l.queued)
+        && up_to(4096, l.dropped)
 }
 
 // (4) "4,096 + B + 160R + 256C + 640G + 512S + 64(N + T + Q + D) bytes"
@@ -143,20 +105,16 @@ fn fresh() -> Live
 pub fn create(block: &mut [u8], settings: Settings, limits: Limits) -> u8
     ensures { Creation settings limits block.old block.new result }
 {
-    let size = size_in_range(settings);
-    if !size {
+    if !size_in_range(settings) {
         return 1;
     }
-    let durations = durations_in_range(settings);
-    if !durations {
+    if !durations_in_range(settings) {
         return 2;
     }
-    let range = limits_in_range(limits);
-    if !range {
+    if !limits_in_range(limits) {
         return 3;
     }
-    let need = block_need(limits);
-    if block.len() < need {
+    if block.len() < block_need(limits) {
         return 4;
     }
     let live = fresh();

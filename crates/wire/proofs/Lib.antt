@@ -1,5 +1,4 @@
-pub mod NumberLaws
-pub mod DecodeLaws
 pub mod EncodeLaws
 pub mod OutputLaws
+pub mod ReaderLaws
 pub mod RewriteLaws

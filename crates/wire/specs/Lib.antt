@@ -1,5 +1,4 @@
-pub mod Number
-pub mod Decode
 pub mod Encode
 pub mod Output
+pub mod Reader
 pub mod Rewrite

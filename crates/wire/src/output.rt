@@ -11,8 +11,8 @@ ghost use Rattle.wire.specs.Output.Written.{Tellable, Written};
 use crate::encode;
 use crate::encode::Encode;
 use crate::encode::action::{Emit, Schedule, Send};
-use crate::encode::message::{Gossip, Graft, Ihave, IhaveHead, Prune};
-use postcard::message::{Delivery, Timer, Wanted};
+use crate::encode::message::{Gossip, Graft, IhaveHead, Prune};
+use postcard::message::{Delivery, Ihave, Timer};
 use postcard::units::{Millis, Round};
 use storage::rows::id::Id;
 
@@ -79,7 +79,7 @@ pub fn send_graft(
     at: usize,
     peer: u64,
     taken: bool,
-    wanted: Wanted,
+    wanted: Option<Id>,
     round: Round,
 ) -> usize
     requires { Tellable (action_bytes (Sent peer taken (message.Graft (wanted_value wanted) round.0))) at }

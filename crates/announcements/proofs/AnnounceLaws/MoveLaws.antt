@@ -25,7 +25,7 @@ use Rattle.block.specs.View.{state_of}
 use Rattle.block.specs.Sound.{Sound}
 use Rattle.block.specs.Goes.{Goes}
 use Rattle.block.specs.Heads.{with_dropped_count, with_announce, with_dispatch}
-use Rattle.block.specs.NoteSteps.{note, note_for, NoteIs, queue_also}
+use Rattle.block.specs.NoteSteps.{note, note_for, NoteIs, queue_also, drop_instead}
 use Rattle.block.specs.declared.head.Head.{Head}
 use Rattle.block.specs.declared.note.Note.{Note as LinkNote}
 use Rattle.block.proofs.LinkLaws.{count-links, count-peers}
@@ -34,7 +34,7 @@ use Rattle.block.proofs.GoesLaws.{dispatch-goes, announce-goes}
 use Rattle.block.specs.Caches.InBlock.{InOrder}
 use Rattle.steps.specs.Stands.{Step}
 use Rattle.steps.proofs.StandsLaws.{links-up, cached-order}
-use Rattle.announcements.specs.Announce.Moves.{moved_state, drop_instead}
+use Rattle.announcements.specs.Announce.Moves.{moved_state}
 use Rattle.announcements.proofs.AnnounceLaws.KeepLaws.{cut-goes}
 use Rattle.announcements.proofs.AnnounceLaws.Turns.{standing, standing-few, oldest-within, younger-few, Counts, counts_start, Read, seen_few, gone, counted, moves, moves-alone, stays, stays-alone}
 

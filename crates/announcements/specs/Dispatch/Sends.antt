@@ -14,6 +14,7 @@ use Rattle.block.specs.LinkSteps.{peer_at}
 use Rattle.announcements.specs.declared.dispatch.actions.Chunk.{Chunk}
 use Rattle.announcements.specs.declared.dispatch.actions.Sending.{Sending}
 use Rattle.announcements.specs.declared.dispatch.actions.Sends.{Sends}
+use Rattle.protocol.specs.declared.TheConstants.{ANNOUNCE_DROPPED_INTERVAL}
 
 -- which identifiers are cached once a first event has evicted
 abbrev pub held_then : ℕ → State → ℕ → Bool
@@ -33,7 +34,7 @@ quiet held taken flag hs = taken || flag || not (some_held held hs)
 
 -- the timer that follows an IHave
 abbrev pub timer_after : Bool → List Action
-timer_after still = if still then [] else Scheduled 1000 AnnounceDropped ∷ []
+timer_after still = if still then [] else Scheduled ANNOUNCE_DROPPED_INTERVAL.0 AnnounceDropped ∷ []
 
 -- an IHave, and the timer that follows it
 abbrev pub one_send : (ℕ → Bool) → Bool → Bool → ℕ → List Ihave → List Action

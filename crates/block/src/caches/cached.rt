@@ -13,8 +13,19 @@ use crate::head::Head;
 use crate::{head, time_caches};
 use postcard::units::{Millis, Round};
 use storage::rows::id::Id;
-use storage::rows::table::Found;
 use storage::rows::word;
+
+// How many bytes an entry has, and where its round stands.
+pub const ENTRY_WIDTH: usize = 4;
+
+const ROUND: usize = 2;
+
+// How many bytes an expiry row has, and where start and length of the content stand.
+pub const ROW_WIDTH: usize = 48;
+
+const START: usize = 40;
+
+const LEN: usize = 44;
 
 // Where the content of a cached message stands among the contents: table 6.
 #[derive(Clone, Copy)]
@@ -24,7 +35,7 @@ pub struct Content {
 }
 
 // Where an identifier stands in the message cache, or before which it would stand.
-pub fn find_cached(h: Head, block: &[u8], id: Id) -> Found
+pub fn find_cached(h: Head, block: &[u8], id: Id) -> Result<usize, usize>
     requires { Sound h block.now × InOrder (state_of h block.now).cache }
     ensures { FoundIs (keys (state_of h block.now).cache.entries) (id_of id) result }
 {
@@ -75,9 +86,9 @@ pub fn cached_content(h: Head, block: &[u8], i: usize) -> Content
 {
     let c = time_caches::cached_cache(h);
     let p = c.place(block, i);
-    let a = head::cached_rows_at(h.limits) + 48 * p;
-    let start = word::load4(block, a + 40);
-    let len = word::load4(block, a + 44);
+    let a = head::cached_rows_at(h.limits) + ROW_WIDTH * p;
+    let start = word::load4(block, a + START);
+    let len = word::load4(block, a + LEN);
     Content {
         start: start as usize,
         len: len as usize,
@@ -89,7 +100,7 @@ pub fn cached_round(h: Head, block: &[u8], i: usize) -> Round
     requires { Sound h block.now × (i < h.live.cached) }
     ensures { result.0 ≡ (cached_at (state_of h block.now) i).round }
 {
-    let a = head::cached_at(h.limits) + 4 * i;
-    let round = word::load2(block, a + 2);
+    let a = head::cached_at(h.limits) + ENTRY_WIDTH * i;
+    let round = word::load2(block, a + ROUND);
     Round(round as u16)
 }

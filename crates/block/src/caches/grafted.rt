@@ -15,11 +15,29 @@ use crate::hops::Hop;
 use crate::{head, hops, time_caches};
 use postcard::units::{Millis, Round};
 use storage::rows::id::Id;
-use storage::rows::table::Found;
 use storage::rows::word;
 
+// How many bytes an entry has, and where its parts stand: a flag and behind it the peer and the round of `first`, a flag and behind it the peer of `kept`,
+// and the list of the grafted peers.
+pub const ENTRY_WIDTH: usize = 119;
+
+const FIRST: usize = 2;
+
+const FIRST_PEER: usize = 3;
+
+const FIRST_ROUND: usize = 11;
+
+const KEPT: usize = 13;
+
+const KEPT_PEER: usize = 14;
+
+const PEERS: usize = 22;
+
+// How many bytes an expiry row has.
+pub const ROW_WIDTH: usize = 40;
+
 // Where an identifier stands among the grafted messages, or before which it would stand.
-pub fn find_grafted(h: Head, block: &[u8], id: Id) -> Found
+pub fn find_grafted(h: Head, block: &[u8], id: Id) -> Result<usize, usize>
     requires { Sound h block.now × InOrder (state_of h block.now).grafted }
     ensures { FoundIs (keys (state_of h block.now).grafted.entries) (id_of id) result }
 {
@@ -46,7 +64,7 @@ pub fn graft_count(h: Head, block: &[u8], i: usize) -> usize
     requires { Sound h block.now × (i < h.live.grafted) }
     ensures { (result ≡ length (grafts_at (state_of h block.now) i).peers) × (result ≤ 32) }
 {
-    let at = head::grafted_at(h.limits) + 119 * i + 22;
+    let at = head::grafted_at(h.limits) + ENTRY_WIDTH * i + PEERS;
     hops::count(block, at)
 }
 
@@ -55,7 +73,7 @@ pub fn graft_at(h: Head, block: &[u8], i: usize, j: usize) -> Hop
     requires { Sound h block.now × (i < h.live.grafted) × (j < length (grafts_at (state_of h block.now) i).peers) }
     ensures { GraftIs h block.now (grafts_at (state_of h block.now) i).peers j result }
 {
-    let at = head::grafted_at(h.limits) + 119 * i + 22;
+    let at = head::grafted_at(h.limits) + ENTRY_WIDTH * i + PEERS;
     hops::hop_at(block, at, j)
 }
 
@@ -64,10 +82,10 @@ pub fn set_first(h: Head, block: &mut [u8], i: usize, peer: u64, round: Round)
     requires { Sound h block.old × InOrder (state_of h block.old).grafted × (i < h.live.grafted) }
     ensures { Goes (first_at i peer round.0) h block.old h block.new }
 {
-    let a = head::grafted_at(h.limits) + 119 * i;
-    block[a + 2] = 1;
-    word::store(block, a + 3, peer);
-    word::store_le(block, a + 11, 2, round.0 as u64);
+    let a = head::grafted_at(h.limits) + ENTRY_WIDTH * i;
+    block[a + FIRST] = 1;
+    word::store(block, a + FIRST_PEER, peer);
+    word::store_le(block, a + FIRST_ROUND, 2, round.0 as u64);
 }
 
 // The entry's `kept` is the sender: of the grafted message i.
@@ -75,9 +93,9 @@ pub fn set_kept(h: Head, block: &mut [u8], i: usize, peer: u64)
     requires { Sound h block.old × InOrder (state_of h block.old).grafted × (i < h.live.grafted) }
     ensures { Goes (kept_at i peer) h block.old h block.new }
 {
-    let a = head::grafted_at(h.limits) + 119 * i;
-    block[a + 13] = 1;
-    word::store(block, a + 14, peer);
+    let a = head::grafted_at(h.limits) + ENTRY_WIDTH * i;
+    block[a + KEPT] = 1;
+    word::store(block, a + KEPT_PEER, peer);
 }
 
 // How many of the grafted messages `expire_until` leaves.

@@ -12,6 +12,11 @@ use crate::time_caches;
 use postcard::units::Millis;
 use storage::rows::id::Id;
 
+// How many bytes an entry has, and how many an expiry row.
+pub const ENTRY_WIDTH: usize = 2;
+
+pub const ROW_WIDTH: usize = 40;
+
 // Whether a message is received.
 pub fn is_received(h: Head, block: &[u8], id: Id) -> bool
     requires { Sound h block.now × InOrder (state_of h block.now).received }

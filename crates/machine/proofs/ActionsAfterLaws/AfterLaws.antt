@@ -1,6 +1,6 @@
 -- The bytes of each step: those that the function of the step writes, of the state before the call.
 -- Assumes nothing.
-use Prim.Native.Nat.{ℕ, ◌+◌, ◌-◌, ◌<◌}
+use Prim.Native.Nat.{ℕ, ◌<◌}
 use mathlib.Core.Path.{◌≡◌, refl, sym, ap, ◌∙◌}
 use mathlib.Core.Bool.{false}
 use mathlib.Core.List.{List, [], ◌∷◌, ◌++◌}
@@ -12,14 +12,15 @@ use lib.ListN.{length, get_or}
 use Rattle.storage.specs.Lists.Base.{concat_map}
 use Rattle.storage.specs.Lists.Map.{keys}
 use Rattle.storage.proofs.ListsLaws.Branches.{if-on, if-same}
-use Rattle.storage.specs.Rows.Part.{part}
+use Rattle.std.specs.Borrow.{Bor}
 use Rattle.storage.specs.Rows.Ident.{id_of}
+use Rattle.std.specs.Prelude.{Option as Wanted}
 use Rattle.storage.specs.declared.rows.id.Id.{Id}
 use Rattle.time_cache.specs.TimeCache.{get}
 use Rattle.postcard.specs.Message.{Neighbors, to_swarm, to_neighbors, Emitted, action_bytes}
 use Rattle.postcard.specs.Values.{delivery_value, wanted_value}
-use Rattle.postcard.specs.Events.{ihaves_from}
-use Rattle.postcard.specs.declared.message.Wanted.{Wanted}
+use Rattle.wire.specs.Reader.Values.{ihaves_value}
+use Rattle.wire.specs.declared.reader.ihaves.Ihaves.{Ihaves}
 use Rattle.postcard.specs.declared.message.Delivery.{Delivery}
 use Rattle.postcard.specs.declared.units.Round.{Round}
 use Rattle.protocol.specs.Links.{Links}
@@ -88,70 +89,70 @@ held-there h xs id found (At i) fit e = omega (arith, e.below, count-cached h xs
 held-there h xs id found Nothing fit e = tt
 
 -- the actions of each step
-module _ (event : List ℕ) (instant : ℕ) (rooms : List ℕ) (s : State) where
+module _ (instant : ℕ) (rooms : List ℕ) (s : State) where
   abbrev room : List Room
   room = rooms_in s rooms
 
   abbrev settled_to : State
   settled_to = settled instant s
 
-  pub of-nothing : step_bytes event instant rooms step.Nothing s ≡ []
+  pub of-nothing : step_bytes instant rooms step.Nothing s ≡ []
   unfolding step_actions
   of-nothing = no-action
 
-  pub of-prune : (link : ℕ) → step_bytes event instant rooms (step.Prune link) s ≡ []
+  pub of-prune : (link : ℕ) → step_bytes instant rooms (step.Prune link) s ≡ []
   unfolding step_actions
   of-prune link = no-action
 
-  pub of-new : (sender : ℕ) (id : Id) (start len : ℕ) (round : Round) → step_bytes event instant rooms (step.NewSwarm sender id start len round) s ≡ new_bytes instant rooms sender (id_of id) (part start len event) round.0 s
+  pub of-new : (sender : ℕ) (id : Id) (content : Bor (List ℕ)) (round : Round) → step_bytes instant rooms (step.NewSwarm sender id content round) s ≡ new_bytes instant rooms sender (id_of id) content.now round.0 s
   unfolding step_actions
-  of-new sender id start len round = refl
+  of-new sender id content round = refl
 
-  pub of-neighbors : (sender start len : ℕ) → step_bytes event instant rooms (step.NewNeighbors sender start len) s ≡ concat_map action_bytes (Emitted sender (part start len event) Neighbors ∷ [])
+  pub of-neighbors : (sender : ℕ) (content : Bor (List ℕ)) → step_bytes instant rooms (step.NewNeighbors sender content) s ≡ concat_map action_bytes (Emitted sender content.now Neighbors ∷ [])
   unfolding step_actions
-  of-neighbors sender start len = refl
+  of-neighbors sender content = refl
 
   pub of-late : (sender : ℕ) (id : Id) (d : Delivery)
-      → step_bytes event instant rooms (step.Late sender id d) s ≡ concat_map action_bytes (late_actions room sender (late_as sender (delivery_value d) (id_of id) settled_to))
+      → step_bytes instant rooms (step.Late sender id d) s ≡ concat_map action_bytes (late_actions room sender (late_as sender (delivery_value d) (id_of id) settled_to))
   unfolding step_actions
   of-late sender id d = refl
 
-  pub of-graft : (link : ℕ) (w : Wanted) → step_bytes event instant rooms (step.Graft link w) s ≡ graft_bytes instant rooms link (wanted_value w) s
+  pub of-graft : (link : ℕ) (w : Wanted Id) → step_bytes instant rooms (step.Graft link w) s ≡ graft_bytes instant rooms link (wanted_value w) s
   unfolding step_actions
   of-graft link w = ap (λ (m : Links). concat_map action_bytes (graft_actions room (get_or (keys m) link 0) (wanted_value w) settled_to)) (settled-links instant s)
 
-  pub of-ihave : (link start count : ℕ) → step_bytes event instant rooms (step.IHave link start count) s ≡ concat_map action_bytes (ihave_actions (ihaves_from event start count) settled_to)
+  pub of-ihave : (link : ℕ) (ihaves : Ihaves) → step_bytes instant rooms (step.IHave link ihaves) s ≡ concat_map action_bytes (ihave_actions (ihaves_value ihaves) settled_to)
   unfolding step_actions
-  of-ihave link start count = refl
+  of-ihave link ihaves = refl
 
-  pub of-broadcast-swarm : (id : Id) (start len : ℕ) → step_bytes event instant rooms (step.BroadcastSwarm id start len) s ≡ broadcast_bytes instant rooms (id_of id) (part start len event) to_swarm s
+  pub of-broadcast-swarm : (id : Id) (content : Bor (List ℕ)) → step_bytes instant rooms (step.BroadcastSwarm id content) s ≡ broadcast_bytes instant rooms (id_of id) content.now to_swarm s
   unfolding step_actions
-  of-broadcast-swarm id start len = refl
+  of-broadcast-swarm id content = refl
 
-  pub of-broadcast-neighbors : (id : Id) (start len : ℕ)
-      → step_bytes event instant rooms (step.BroadcastNeighbors id start len) s ≡ broadcast_bytes instant rooms (id_of id) (part start len event) to_neighbors s
+  pub of-broadcast-neighbors : (id : Id) (content : Bor (List ℕ))
+      → step_bytes instant rooms (step.BroadcastNeighbors id content) s ≡ broadcast_bytes instant rooms (id_of id) content.now to_neighbors s
   unfolding step_actions
-  of-broadcast-neighbors id start len = refl
+  of-broadcast-neighbors id content = refl
 
-  pub of-send-graft : (id : Id) → step_bytes event instant rooms (step.SendGraft id) s ≡ concat_map action_bytes (send_graft_actions room (id_of id) settled_to)
+  pub of-send-graft : (id : Id) → step_bytes instant rooms (step.SendGraft id) s ≡ concat_map action_bytes (send_graft_actions room (id_of id) settled_to)
   unfolding step_actions
   of-send-graft id = refl
 
-  pub of-dispatch : step_bytes event instant rooms step.DispatchLazyPush s ≡ concat_map action_bytes (dispatch_actions room settled_to)
+  pub of-dispatch : step_bytes instant rooms step.DispatchLazyPush s ≡ concat_map action_bytes (dispatch_actions room settled_to)
   unfolding step_actions
   of-dispatch = refl
 
-  pub of-evict : step_bytes event instant rooms step.EvictCache s ≡ concat_map action_bytes (evict_actions s)
+  pub of-evict : step_bytes instant rooms step.EvictCache s ≡ concat_map action_bytes (evict_actions s)
   unfolding step_actions
   of-evict = ap (concat_map action_bytes) (settled-evict instant s)
 
-  pub of-announce : step_bytes event instant rooms step.AnnounceDropped s ≡ concat_map action_bytes (announce_actions settled_to)
+  pub of-announce : step_bytes instant rooms step.AnnounceDropped s ≡ concat_map action_bytes (announce_actions settled_to)
   unfolding step_actions
   of-announce = refl
 
   -- a call: a first event's, then the step's
-  pub of-call : (r : Step) → call_bytes event instant rooms r s ≡ concat_map action_bytes (settled_actions s) ++ step_bytes event instant rooms r s
-  of-call r = actions-then (settled_actions s) (step_actions event room r settled_to)
+  pub of-call : (r : Step) → call_bytes instant rooms r s ≡ concat_map action_bytes (settled_actions s) ++ step_bytes instant rooms r s
+  of-call r = actions-then (settled_actions s) (step_actions room r settled_to)
 
 -- the round of a new message that is not too far
 pub near : (n : ℕ) → eqb n 65535 ≡ false → n < 65536 → n < 65535
@@ -159,10 +160,10 @@ near n e q =
     let f : n ≡ 65535 → ⊥ = eqb-false n 65535 e in
     omega (arith, f, q)
 
-pub not-far : (sender : ℕ) (id : Id) (start len : ℕ) (round : Round) → step_far (step.NewSwarm sender id start len round) ≡ false → eqb round.0 65535 ≡ false
+pub not-far : (sender : ℕ) (id : Id) (content : Bor (List ℕ)) (round : Round) → step_far (step.NewSwarm sender id content round) ≡ false → eqb round.0 65535 ≡ false
 unfolding step_far
-not-far sender id start len round e = e
+not-far sender id content round e = e
 
 -- a message that is emitted
-pub emit-one : (event : List ℕ) (sender start len : ℕ) → concat_map action_bytes (Emitted sender (part start len event) Neighbors ∷ []) ≡ action_bytes (Emitted sender (part start len event) Neighbors)
-emit-one event sender start len = one-action (Emitted sender (part start len event) Neighbors)
+pub emit-one : (sender : ℕ) (content : List ℕ) → concat_map action_bytes (Emitted sender content Neighbors ∷ []) ≡ action_bytes (Emitted sender content Neighbors)
+emit-one sender content = one-action (Emitted sender content Neighbors)

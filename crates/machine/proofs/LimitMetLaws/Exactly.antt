@@ -10,11 +10,11 @@ use borrow.Author.Tests.{leb-true, leb-false}
 use Rattle.storage.proofs.ListsLaws.MapLaws.{cases, true≢, and_right}
 use Rattle.blake3.specs.Blake3.{identifier}
 use Rattle.postcard.specs.Message.{Event}
-use Rattle.postcard.specs.Decode.{Decoded, decoded, faulty, decode_event}
+use Rattle.postcard.specs.Decode.{Decoded, decoded, faulty, message_part, decode_event}
 use Rattle.postcard.proofs.DecodeFaults.{fault_of, decode-faults}
 use Rattle.protocol.specs.State.{State, Counts, zero_counts}
 use Rattle.protocol.specs.Run.{Room}
-use Rattle.protocol.specs.Answer.{Call, Outcome, refused, accepted, message_fits, counts_stay, answer_block}
+use Rattle.protocol.specs.Answer.{Call, Outcome, refused, accepted, counts_stay, answer_block}
 use Rattle.decide.specs.Sizes.{fit_sizes}
 use Rattle.decide.specs.Settled.{too_far_before}
 use Rattle.decide.specs.SizesAfter.{sizes_after}
@@ -22,8 +22,8 @@ use Rattle.block.specs.View.{state_of}
 use Rattle.block.specs.Header.{head_in}
 use Rattle.whole.specs.Held.{held, whole_block}
 use Rattle.whole.proofs.HeldLaws.{Wholly, wholly_of}
-use Rattle.machine.specs.Decided.{bytes_after, last_decided, decided}
-use Rattle.machine.proofs.CoreLaws.{answer-5, answer-6, answer-fault, answer-event}
+use Rattle.machine.specs.Decided.{bytes_after, last_decided, size_fits, decided}
+use Rattle.machine.proofs.CoreLaws.{answer-5, answer-6, answer-fault, answer-event, part-fit}
 use Rattle.machine.specs.LimitMet.LimitMet.{asking, limit_met}
 use Rattle.machine.specs.LimitMet.Decided.{event_past}
 use Rattle.machine.proofs.LimitMetLaws.PastLaws.{sizes-none, none-sizes}
@@ -39,11 +39,11 @@ other : (o : Outcome) (n : ℕ) → number_of o ≡ n → (n ≡ 13 → ⊥) →
 unfolding number_of
 other o n e ne q = ne (sym e ∙ ap number_of q)
 
-module _ (rooms : List Room) (now : ℕ) (bytes : List ℕ) (e : Event) (s : State) (output : ℕ) where
-  decided-met : (c : Counts) → decided identifier rooms now bytes e s c output ≡ refused 13 → event_past rooms now bytes e s ≡ 0 → ⊥
+module _ (rooms : List Room) (now size : ℕ) (e : Event) (s : State) (output : ℕ) where
+  decided-met : (c : Counts) → decided identifier rooms now size e s c output ≡ refused 13 → event_past rooms now size e s ≡ 0 → ⊥
   unfolding decided last_decided event_past number_of
   decided-met c a z =
-      cases (message_fits s.settings.max_message_size bytes e)
+      cases (size_fits s.settings.max_message_size size e)
       (λ m. cases (counts_stay e c)
       (λ t. cases (too_far_before identifier now e s)
       (λ f. other (refused 12) 12 refl (λ q. omega (arith, q)) (rw (m, t, f) at a))
@@ -55,10 +55,10 @@ module _ (rooms : List Room) (now : ℕ) (bytes : List ℕ) (e : Event) (s : Sta
       (λ t. other (refused 11) 11 refl (λ q. omega (arith, q)) (rw (m, t) at a)))
       (λ m. other (refused 10) 10 refl (λ q. omega (arith, q)) (rw m at a))
 
-  decided-13 : (event_past rooms now bytes e s ≡ 0 → ⊥) → decided identifier rooms now bytes e s zero_counts output ≡ refused 13
+  decided-13 : (event_past rooms now size e s ≡ 0 → ⊥) → decided identifier rooms now size e s zero_counts output ≡ refused 13
   unfolding decided last_decided event_past
   decided-13 z =
-      cases (message_fits s.settings.max_message_size bytes e)
+      cases (size_fits s.settings.max_message_size size e)
       (λ m. cases (too_far_before identifier now e s)
       (λ f. absurd (z (rw (m, f) refl)))
       (λ f. cases (fit_sizes s.limits (sizes_after identifier rooms now e s))
@@ -81,7 +81,7 @@ module _ (block : List ℕ) (k : Call) where
   unfolding number_of
   read-met c (faulty n) w l q a z = not-fault n (ap fault_of (sym q) ∙ decode-faults k.event) (ap number_of (sym (answer-fault block w c k n l q) ∙ a))
   read-met c (decoded e) w l q a z =
-      decided-met k.rooms k.now k.event e (state_of (head_in block) block) k.output c (sym (answer-event block w c k e l q) ∙ a) (sym (limit-event block w asked e l q) ∙ z)
+      decided-met k.rooms k.now (length (message_part k.event)) e (state_of (head_in block) block) k.output c (sym (answer-event block w c k e (length (message_part k.event)) l q (part-fit _ k.event e)) ∙ a) (sym (limit-event block w asked e (length (message_part k.event)) l q (part-fit _ k.event e)) ∙ z)
 
   pub met-13 : (c : Counts) → answer_block identifier (length block) (held block) c k ≡ refused 13 → met ≡ 0 → ⊥
   unfolding number_of
@@ -94,7 +94,7 @@ module _ (block : List ℕ) (k : Call) where
 
   read-13 : (d : Decoded Event) → Wholly block → k.now ≤ 2 ^ 62 → decode_event k.event ≡ d → (met ≡ 0 → ⊥) → answer_block identifier (length block) (held block) zero_counts k ≡ refused 13
   read-13 (faulty n) w l q z = absurd (z (limit-fault block w asked n l q))
-  read-13 (decoded e) w l q z = answer-event block w zero_counts k e l q ∙ decided-13 k.rooms k.now k.event e (state_of (head_in block) block) k.output (λ p. z (limit-event block w asked e l q ∙ p))
+  read-13 (decoded e) w l q z = answer-event block w zero_counts k e (length (message_part k.event)) l q (part-fit _ k.event e) ∙ decided-13 k.rooms k.now (length (message_part k.event)) e (state_of (head_in block) block) k.output (λ p. z (limit-event block w asked e (length (message_part k.event)) l q (part-fit _ k.event e) ∙ p))
 
   pub limit-13 : (met ≡ 0 → ⊥) → answer_block identifier (length block) (held block) zero_counts k ≡ refused 13
   limit-13 z =

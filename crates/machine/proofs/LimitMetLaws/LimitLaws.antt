@@ -5,7 +5,7 @@ use mathlib.Core.Bool.{Bool, true, false, not, ◌&&◌}
 use mathlib.Core.List.{List}
 use mathlib.Core.Option.{Option, none, some}
 use lib.Dec.{leb}
-use lib.ListN.{length, set}
+use lib.ListN.{length, set, drop}
 use borrow.Author.Tests.{le-leb, lt-leb}
 use Rattle.std.specs.Prelude.{if◌then◌else◌}
 use Rattle.storage.proofs.ListsLaws.Branches.{if-on, if-both, if-same}
@@ -13,8 +13,8 @@ use Rattle.storage.proofs.ListsLaws.MapLaws.{cases}
 use Rattle.blake3.specs.Blake3.{identifier}
 use Rattle.postcard.specs.Message.{Gossip, Prune, Graft, IHave, Event, Received, Broadcast, Fired, Up, Down}
 use Rattle.postcard.specs.Decode.{Decoded, decoded, faulty, decode_event}
-use Rattle.postcard.specs.Events.{event_value}
-use Rattle.postcard.specs.declared.message.Event.{Event as CodeEvent}
+use Rattle.wire.specs.Reader.Values.{event_value, SizedBehind}
+use Rattle.wire.specs.declared.reader.event.Event.{Event as CodeEvent}
 use Rattle.protocol.specs.State.{State, zero_counts}
 use Rattle.protocol.specs.Run.{Run, Room, begin}
 use Rattle.protocol.specs.Handle.{first_event, count_message, one_payload, one_control, handle}
@@ -34,8 +34,9 @@ use Rattle.block.specs.declared.head.Head.{Head}
 use Rattle.steps.specs.Rooms.{rooms_in}
 use Rattle.whole.specs.Held.{held, whole_held, whole_block}
 use Rattle.whole.proofs.HeldLaws.{Wholly}
-use Rattle.machine.specs.Core.{event_peer, core_rooms}
-use Rattle.machine.proofs.CoreLaws.{begun-of, core-rooms}
+use Rattle.machine.specs.Core.{event_peer, event_size, core_rooms}
+use Rattle.machine.proofs.CoreLaws.{begun-of, core-rooms, same-fit}
+use Rattle.machine.specs.Decided.{size_fits}
 use Rattle.machine.specs.LimitMet.LimitMet.{limit_past, is13, asking, past_after, limit_of, limit_met}
 use Rattle.machine.specs.LimitMet.Decided.{sizes_past, event_past}
 use Rattle.machine.proofs.LimitMetLaws.PastLaws.{past-sizes, past-none}
@@ -72,16 +73,16 @@ told-last output e r =
     (λ f. rw f refl)
 
 -- (10) to (14)
-told-event : (s : State) (k : Call) (e : Event) → whole s ≡ true →
-    told (limit_past (handle identifier k.now e (begin s zero_counts k.rooms)).state) (ask_of identifier s zero_counts k e) ≡ event_past k.rooms k.now k.event e s
+told-event : (s : State) (k : Call) (e : Event) (size : ℕ) → whole s ≡ true → message_fits s.settings.max_message_size k.event e ≡ size_fits s.settings.max_message_size size e →
+    told (limit_past (handle identifier k.now e (begin s zero_counts k.rooms)).state) (ask_of identifier s zero_counts k e) ≡ event_past k.rooms k.now size e s
 unfolding ask_of event_past told is13
-told-event s k e w =
-    if-on (told x) (not (message_fits s.settings.max_message_size k.event e)) _ _
+told-event s k e size w fit =
+    rw (← fit) (if-on (told x) (not (message_fits s.settings.max_message_size k.event e)) _ _
     ∙ if-both (not (message_fits s.settings.max_message_size k.event e)) refl
     (ap (λ (b : Bool). told x (if not b then refuse 11 else later)) (zero-stays e)
     ∙ if-on (told x) (too_far identifier e (first_event k.now (begin s zero_counts k.rooms)).state) _ _
     ∙ ap (λ (b : Bool). if b then 0 else told x (last_two k.output e run)) (decide-12 identifier k.now e s zero_counts k.rooms w)
-    ∙ if-both (too_far_before identifier k.now e s) refl (told-last k.output e run ∙ after-sizes k.now e s k.rooms w))
+    ∙ if-both (too_far_before identifier k.now e s) refl (told-last k.output e run ∙ after-sizes k.now e s k.rooms w)))
   where
     run : Run
     run = handle identifier k.now e (begin s zero_counts k.rooms)
@@ -137,27 +138,28 @@ module _ (block : List ℕ) (w : Wholly block) where
       none_read = unfold past_after in if-same (is13 (ask_read identifier s zero_counts k (faulty n))) refl refl
 
   -- (10) to (13)
-  pub limit-event : (k : Call) (e : Event) → k.now ≤ 2 ^ 62 → decode_event k.event ≡ decoded e → limit_met identifier (length block) (held block) k ≡ event_past k.rooms k.now k.event e s
-  limit-event k e l q = limit-read k (decoded e) l q ∙ reads ∙ told-event s k e w.whole
+  pub limit-event : (k : Call) (e : Event) (size : ℕ) → k.now ≤ 2 ^ 62 → decode_event k.event ≡ decoded e → message_fits s.settings.max_message_size k.event e ≡ size_fits s.settings.max_message_size size e →
+      limit_met identifier (length block) (held block) k ≡ event_past k.rooms k.now size e s
+  limit-event k e size l q fit = limit-read k (decoded e) l q ∙ reads ∙ told-event s k e size w.whole fit
     where
       reads : (if is13 (ask_read identifier s zero_counts k (decoded e)) then past_after identifier s k (decoded e) else 0) ≡ told (limit_past (handle identifier k.now e (begin s zero_counts k.rooms)).state) (ask_of identifier s zero_counts k e)
       reads = unfold told ask_read past_after in refl
 
 -- with other rooms that tell the same of the peers that the call can reach
-pub past-rooms : (rooms rooms' : List Room) (now : ℕ) (bytes : List ℕ) (e : Event) (s : State) → whole s ≡ true →
-    ((p : ℕ) → reached s e p ≡ true → first_room p rooms' ≡ first_room p rooms) → event_past rooms' now bytes e s ≡ event_past rooms now bytes e s
+pub past-rooms : (rooms rooms' : List Room) (now size : ℕ) (e : Event) (s : State) → whole s ≡ true →
+    ((p : ℕ) → reached s e p ≡ true → first_room p rooms' ≡ first_room p rooms) → event_past rooms' now size e s ≡ event_past rooms now size e s
 unfolding event_past
-past-rooms rooms rooms' now bytes e s w h =
-    if-both (not (message_fits s.settings.max_message_size bytes e)) refl
+past-rooms rooms rooms' now size e s w h =
+    if-both (not (size_fits s.settings.max_message_size size e)) refl
     (if-both (too_far_before identifier now e s) refl
     (sym (after-sizes now e s rooms' w) ∙ ap (λ (r : Run). limit_past r.state) (same-rooms identifier now e s zero_counts rooms rooms' w h) ∙ after-sizes now e s rooms w))
 
 -- an event that was read, with the link room in an array
 pub core-limit : (block bytes array : List ℕ) (g : Head) (now : ℕ) (e : CodeEvent) (p n : ℕ) → Wholly block → g ≡ head_in block → now ≤ 2 ^ 62 →
-    decode_event bytes ≡ decoded (event_value bytes e) → p ≡ event_peer e →
-    n ≡ event_past (rooms_in (state_of g block) (set array 33 p)) now bytes (event_value bytes e) (state_of g block) →
+    decode_event bytes ≡ decoded (event_value e) → SizedBehind (drop 1 bytes) e → p ≡ event_peer e →
+    n ≡ event_past (rooms_in (state_of g block) (set array 33 p)) now (event_size e) (event_value e) (state_of g block) →
     n ≡ limit_met identifier (length block) (held block) (asking now bytes (core_rooms block bytes array))
-core-limit block bytes array g now e p n w same early d q f =
-    subst (λ (x : Head). n ≡ event_past (rooms_in (state_of x block) (set array 33 p)) now bytes (event_value bytes e) (state_of x block)) same f
-    ∙ ap (λ (rs : List Room). event_past rs now bytes (event_value bytes e) (state_of (head_in block) block)) (sym (core-rooms block bytes array e p d q))
-    ∙ sym (limit-event block w (asking now bytes (core_rooms block bytes array)) (event_value bytes e) early d)
+core-limit block bytes array g now e p n w same early d sized q f =
+    subst (λ (x : Head). n ≡ event_past (rooms_in (state_of x block) (set array 33 p)) now (event_size e) (event_value e) (state_of x block)) same f
+    ∙ ap (λ (rs : List Room). event_past rs now (event_size e) (event_value e) (state_of (head_in block) block)) (sym (core-rooms block bytes array e p d q))
+    ∙ sym (limit-event block w (asking now bytes (core_rooms block bytes array)) (event_value e) (event_size e) early d (same-fit _ bytes e sized))

@@ -3,20 +3,20 @@
 use mathlib.Core.Path.{◌≡◌, refl, sym, ap, ◌∙◌}
 use mathlib.Core.List.{List, [], ◌∷◌}
 use mathlib.Core.Option.{Option, none, some}
-use Prim.Native.Nat.{ℕ, ◌+◌, ◌≤◌}
+use Prim.Native.Nat.{ℕ, ◌+◌}
 use lib.ListN.{length, replicate, length-replicate}
 use Rattle.storage.specs.Lists.Base.{member}
 use Rattle.storage.specs.Lists.Map.{keys, has}
-use Rattle.storage.specs.Rows.Part.{part}
 use Rattle.storage.specs.Rows.Ident.{id_of}
+use Rattle.std.specs.Prelude.{Option as Wanted}
+use Rattle.std.specs.Borrow.{Bor}
 use Rattle.storage.specs.declared.rows.id.Id.{Id}
-use Rattle.storage.proofs.RowsLaws.Parts.{length_part}
 use Rattle.time_cache.specs.TimeCache.{get}
 use Rattle.postcard.specs.Message.{Ihave}
 use Rattle.postcard.specs.Values.{wanted_value}
-use Rattle.postcard.specs.Events.{ihaves_from}
+use Rattle.wire.specs.Reader.Values.{ihaves_value}
+use Rattle.wire.specs.declared.reader.ihaves.Ihaves.{Ihaves}
 use Rattle.postcard.specs.declared.message.Delivery.{Delivery}
-use Rattle.postcard.specs.declared.message.Wanted.{Wanted}
 use Rattle.postcard.specs.declared.units.Round.{Round}
 use Rattle.protocol.specs.State.{State, Note, Cached}
 use Rattle.protocol.specs.Run.{Room}
@@ -31,7 +31,6 @@ use Rattle.block.specs.LinkSteps.{peer_at}
 use Rattle.steps.specs.Rooms.{rooms_in}
 use Rattle.steps.specs.Shared.{HeldIs, sizes_value}
 use Rattle.steps.specs.declared.Held.{Held}
-use Rattle.steps.specs.declared.Held.TheVariants.{Nothing}
 use Rattle.steps.specs.declared.Sizes.{Sizes as CodeSizes}
 use Rattle.steps.specs.Settled.Then.{no_cached, no_grafts}
 use Rattle.steps.specs.SizesBefore.Counts.{TakenIs}
@@ -162,57 +161,57 @@ module _ (now : ℕ) (s : State) where
     }
 
   -- the step's sizes are those of its kind
-  module _ (bytes : List ℕ) (rooms : List Room) where
-    pub step-nothing : sizes_of (settled now s) ≡ step_sizes bytes rooms now step.Nothing (settled now s)
+  module _ (rooms : List Room) where
+    pub step-nothing : sizes_of (settled now s) ≡ step_sizes rooms now step.Nothing (settled now s)
     unfolding step_sizes
     step-nothing = refl
 
-    pub step-near : (sender start len : ℕ) → sizes_of (settled now s) ≡ step_sizes bytes rooms now (step.NewNeighbors sender start len) (settled now s)
+    pub step-near : (sender : ℕ) (content : Bor (List ℕ)) → sizes_of (settled now s) ≡ step_sizes rooms now (step.NewNeighbors sender content) (settled now s)
     unfolding step_sizes
-    step-near sender start len = refl
+    step-near sender content = refl
 
-    pub step-late : (sender : ℕ) (id : Id) (d : Delivery) → sizes_of (settled now s) ≡ step_sizes bytes rooms now (step.Late sender id d) (settled now s)
+    pub step-late : (sender : ℕ) (id : Id) (d : Delivery) → sizes_of (settled now s) ≡ step_sizes rooms now (step.Late sender id d) (settled now s)
     unfolding step_sizes
     step-late sender id d = refl
 
-    pub step-prune : (link : ℕ) → sizes_of (settled now s) ≡ step_sizes bytes rooms now (step.Prune link) (settled now s)
+    pub step-prune : (link : ℕ) → sizes_of (settled now s) ≡ step_sizes rooms now (step.Prune link) (settled now s)
     unfolding step_sizes
     step-prune link = refl
 
-    pub step-cast-near : (id : Id) (start len : ℕ) → sizes_of (settled now s) ≡ step_sizes bytes rooms now (step.BroadcastNeighbors id start len) (settled now s)
+    pub step-cast-near : (id : Id) (content : Bor (List ℕ)) → sizes_of (settled now s) ≡ step_sizes rooms now (step.BroadcastNeighbors id content) (settled now s)
     unfolding step_sizes
-    step-cast-near id start len = refl
+    step-cast-near id content = refl
 
-    pub step-graft : (link : ℕ) (w : Wanted) → graft_sizes rooms (peer_at s link) (wanted_value w) (settled now s) ≡ step_sizes bytes rooms now (step.Graft link w) (settled now s)
+    pub step-graft : (link : ℕ) (w : Wanted Id) → graft_sizes rooms (peer_at s link) (wanted_value w) (settled now s) ≡ step_sizes rooms now (step.Graft link w) (settled now s)
     unfolding step_sizes
     step-graft link w = ap (λ (p : ℕ). graft_sizes rooms p (wanted_value w) (settled now s)) (sym (same-peer link))
 
-    pub step-ihave : (link start count : ℕ) → ihave_sizes (ihaves_from bytes start count) (settled now s) ≡ step_sizes bytes rooms now (step.IHave link start count) (settled now s)
+    pub step-ihave : (link : ℕ) (ihaves : Ihaves) → ihave_sizes (ihaves_value ihaves) (settled now s) ≡ step_sizes rooms now (step.IHave link ihaves) (settled now s)
     unfolding step_sizes
-    step-ihave link start count = refl
+    step-ihave link ihaves = refl
 
-    pub step-send-graft : (id : Id) → send_graft_sizes (id_of id) (settled now s) ≡ step_sizes bytes rooms now (step.SendGraft id) (settled now s)
+    pub step-send-graft : (id : Id) → send_graft_sizes (id_of id) (settled now s) ≡ step_sizes rooms now (step.SendGraft id) (settled now s)
     unfolding step_sizes
     step-send-graft id = refl
 
-    pub step-dispatch : dispatch_sizes rooms (settled now s) ≡ step_sizes bytes rooms now step.DispatchLazyPush (settled now s)
+    pub step-dispatch : dispatch_sizes rooms (settled now s) ≡ step_sizes rooms now step.DispatchLazyPush (settled now s)
     unfolding step_sizes
     step-dispatch = refl
 
-    pub step-evict : evict_sizes now (settled now s) ≡ step_sizes bytes rooms now step.EvictCache (settled now s)
+    pub step-evict : evict_sizes now (settled now s) ≡ step_sizes rooms now step.EvictCache (settled now s)
     unfolding step_sizes
     step-evict = refl
 
-    pub step-announce : announce_sizes (settled now s) ≡ step_sizes bytes rooms now step.AnnounceDropped (settled now s)
+    pub step-announce : announce_sizes (settled now s) ≡ step_sizes rooms now step.AnnounceDropped (settled now s)
     unfolding step_sizes
     step-announce = refl
 
-  pub step-new : (bytes array : List ℕ) (sender : ℕ) (id : Id) (start len : ℕ) (round : Round) (z : CodeSizes) → start + len ≤ length bytes → NewIs now array (id_of id) len sender s z
-      → sizes_value z ≡ step_sizes bytes (rooms_in s array) now (step.NewSwarm sender id start len round) (settled now s)
+  pub step-new : (array : List ℕ) (sender : ℕ) (id : Id) (content : Bor (List ℕ)) (round : Round) (z : CodeSizes) → NewIs now array (id_of id) (length content.now) sender s z
+      → sizes_value z ≡ step_sizes (rooms_in s array) now (step.NewSwarm sender id content round) (settled now s)
   unfolding step_sizes
-  step-new bytes array sender id start len round z within is = is.same (part start len bytes) (length_part start len bytes within)
+  step-new array sender id content round z is = is.same content.now refl
 
-  pub step-broadcast : (bytes array : List ℕ) (id : Id) (start len : ℕ) (z : CodeSizes) → start + len ≤ length bytes → BroadcastIs now array (id_of id) len s z
-      → sizes_value z ≡ step_sizes bytes (rooms_in s array) now (step.BroadcastSwarm id start len) (settled now s)
+  pub step-broadcast : (array : List ℕ) (id : Id) (content : Bor (List ℕ)) (z : CodeSizes) → BroadcastIs now array (id_of id) (length content.now) s z
+      → sizes_value z ≡ step_sizes (rooms_in s array) now (step.BroadcastSwarm id content) (settled now s)
   unfolding step_sizes
-  step-broadcast bytes array id start len z within is = is.same (part start len bytes) (length_part start len bytes within)
+  step-broadcast array id content z is = is.same content.now refl

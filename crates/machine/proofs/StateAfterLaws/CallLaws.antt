@@ -36,22 +36,22 @@ first-init instant s = on s.init refl
     on false e = refl
 
 -- what a step names is there where the links are the same
-held_same : (bytes : List ℕ) (s t : State) (r : Step) → length s.links ≡ length t.links → StepHeld bytes s r → StepHeld bytes t r
-held_same bytes s t step.Nothing e a = a
-held_same bytes s t (step.NewSwarm sender id start len round) e a = a
-held_same bytes s t (step.NewNeighbors sender start len) e a = a
-held_same bytes s t (step.Late sender id d) e a = a
-held_same bytes s t (step.Prune link) e a = subst (λ (n : ℕ). link < n) e a
-held_same bytes s t (step.Graft link w) e a = subst (λ (n : ℕ). link < n) e a
-held_same bytes s t (step.IHave link start count) e a = record { there = subst (λ (n : ℕ). link < n) e a.there; listed = a.listed; few = a.few }
-held_same bytes s t (step.BroadcastSwarm id start len) e a = a
-held_same bytes s t (step.BroadcastNeighbors id start len) e a = a
-held_same bytes s t (step.SendGraft id) e a = a
-held_same bytes s t step.DispatchLazyPush e a = a
-held_same bytes s t step.EvictCache e a = a
-held_same bytes s t step.AnnounceDropped e a = a
+held_same : (s t : State) (r : Step) → length s.links ≡ length t.links → StepHeld s r → StepHeld t r
+held_same s t step.Nothing e a = a
+held_same s t (step.NewSwarm sender id content round) e a = a
+held_same s t (step.NewNeighbors sender content) e a = a
+held_same s t (step.Late sender id d) e a = a
+held_same s t (step.Prune link) e a = subst (λ (n : ℕ). link < n) e a
+held_same s t (step.Graft link w) e a = subst (λ (n : ℕ). link < n) e a
+held_same s t (step.IHave link ihaves) e a = record { there = subst (λ (n : ℕ). link < n) e a.there; few = a.few }
+held_same s t (step.BroadcastSwarm id content) e a = a
+held_same s t (step.BroadcastNeighbors id content) e a = a
+held_same s t (step.SendGraft id) e a = a
+held_same s t step.DispatchLazyPush e a = a
+held_same s t step.EvictCache e a = a
+held_same s t step.AnnounceDropped e a = a
 
-module _ (bytes array : List ℕ) (instant : ℕ) (r : Step) (h : Head) (xs : List ℕ) (asks : Calling bytes array instant r h xs) (g : Head) (ys : List ℕ) (first : Goes (first_state instant) h xs g ys) where
+module _ (array : List ℕ) (instant : ℕ) (r : Step) (h : Head) (xs : List ℕ) (asks : Calling array instant r h xs) (g : Head) (ys : List ℕ) (first : Goes (first_state instant) h xs g ys) where
   abbrev s : State
   s = state_of h xs
 
@@ -64,20 +64,20 @@ module _ (bytes array : List ℕ) (instant : ℕ) (r : Step) (h : Head) (xs : Li
   same-links : t.links ≡ s.links
   same-links = ap (λ (x : State). x.links) now-settled ∙ settled-links instant s
 
-  same_step : stepped_in bytes array instant r t ≡ called_in bytes array instant r s
+  same_step : stepped_in array instant r t ≡ called_in array instant r s
   same_step =
       let rooms : rooms_in t array ≡ rooms_in s array = same-rooms-in t s array (ap (λ (l : Links). keys l) same-links) in
-      λ k. step_state bytes (rooms k) instant r (now-settled k)
+      λ k. step_state (rooms k) instant r (now-settled k)
 
-  pub first-stepping : Stepping bytes array instant r g ys
+  pub first-stepping : Stepping array instant r g ys
   first-stepping = record {
     stands = stands_after first (kept-first instant s (kept_of asks.stands));
     begun = sym (init-of g ys) ∙ ap (λ (x : State). x.init) first.state ∙ first-init instant s;
-    held = held_same bytes s t r (ap (λ (l : Links). length l) (sym same-links)) asks.held;
+    held = held_same s t r (ap (λ (l : Links). length l) (sym same-links)) asks.held;
     near = asks.near;
     early = asks.early;
     fits = ap (λ (x : State). fits x) same_step ∙ asks.fits;
   }
 
-  pub call-goes : (f : Head) (zs : List ℕ) → Goes (stepped_in bytes array instant r) g ys f zs → Goes (called_in bytes array instant r) h xs f zs
+  pub call-goes : (f : Head) (zs : List ℕ) → Goes (stepped_in array instant r) g ys f zs → Goes (called_in array instant r) h xs f zs
   call-goes f zs e = record { state = e.state ∙ same_step; sound = e.sound }

@@ -21,9 +21,9 @@ abbrev pub new_bytes : ℕ → List ℕ → ℕ → ℕ → List ℕ → ℕ →
 new_bytes instant rooms sender id content round s = concat_map action_bytes (new_actions (rooms_in s rooms) sender id content round (settled instant s))
 
 -- the actions of a step, once a first event has evicted
-abbrev pub step_bytes : List ℕ → ℕ → List ℕ → Step → State → List ℕ
-step_bytes event instant rooms r s = concat_map action_bytes (step_actions event (rooms_in s rooms) r (settled instant s))
+abbrev pub step_bytes : ℕ → List ℕ → Step → State → List ℕ
+step_bytes instant rooms r s = concat_map action_bytes (step_actions (rooms_in s rooms) r (settled instant s))
 
 -- the actions of a call: those of a first event, then those of the step
-abbrev pub call_bytes : List ℕ → ℕ → List ℕ → Step → State → List ℕ
-call_bytes event instant rooms r s = concat_map action_bytes (settled_actions s ++ step_actions event (rooms_in s rooms) r (settled instant s))
+abbrev pub call_bytes : ℕ → List ℕ → Step → State → List ℕ
+call_bytes instant rooms r s = concat_map action_bytes (settled_actions s ++ step_actions (rooms_in s rooms) r (settled instant s))

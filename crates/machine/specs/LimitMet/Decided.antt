@@ -5,7 +5,7 @@ use Rattle.blake3.specs.Blake3.{identifier}
 use Rattle.postcard.specs.Message.{Event}
 use Rattle.protocol.specs.State.{State, Limits}
 use Rattle.protocol.specs.Run.{Room}
-use Rattle.protocol.specs.Answer.{message_fits}
+use Rattle.machine.specs.Decided.{size_fits}
 use Rattle.decide.specs.Sizes.{Sizes}
 use Rattle.decide.specs.Settled.{settled, too_far_before}
 use Rattle.decide.specs.SizesAfter.{sizes_after}
@@ -29,15 +29,15 @@ sizes_past l z =
     else if not (leb z.recorded l.D) then 9
     else 0
 
--- (10) of the event's bytes, (12), (13) of the event that was read; counts of zero stay under 2^64
-unfoldable pub event_past : List Room → ℕ → List ℕ → Event → State → ℕ
-event_past rooms now bytes e s =
-    if not (message_fits s.settings.max_message_size bytes e) then 0
+-- (10) of a received message's number of bytes, (12), (13) of the event that was read; counts of zero stay under 2^64
+unfoldable pub event_past : List Room → ℕ → ℕ → Event → State → ℕ
+event_past rooms now size e s =
+    if not (size_fits s.settings.max_message_size size e) then 0
     else if too_far_before identifier now e s then 0
     else sizes_past s.limits (sizes_after identifier rooms now e s)
 
 -- (12), (13) of a step
-unfoldable pub step_past : List ℕ → List Room → ℕ → Step → State → ℕ
-step_past bytes rooms now r s =
+unfoldable pub step_past : List Room → ℕ → Step → State → ℕ
+step_past rooms now r s =
     if step_far r then 0
-    else sizes_past s.limits (step_sizes bytes rooms now r (settled now s))
+    else sizes_past s.limits (step_sizes rooms now r (settled now s))

@@ -10,28 +10,29 @@ use Rattle.steps.specs.Rooms.{rooms_in}
 use Rattle.steps.specs.Stands.{Stands}
 use Rattle.machine.specs.Kinds.Meaning.{step_state, step_far, StepHeld}
 use Rattle.machine.specs.declared.kinds.Step.{Step}
+use Rattle.protocol.specs.declared.TheConstants.{LATEST}
 
 -- the state after a step, of the state that a first event leaves
-abbrev pub stepped_in : List ℕ → List ℕ → ℕ → Step → State → State
-stepped_in bytes array instant r s = step_state bytes (rooms_in s array) instant r s
+abbrev pub stepped_in : List ℕ → ℕ → Step → State → State
+stepped_in array instant r s = step_state (rooms_in s array) instant r s
 
 -- the state after a step, of the state before the call
-abbrev pub called_in : List ℕ → List ℕ → ℕ → Step → State → State
-called_in bytes array instant r s = step_state bytes (rooms_in s array) instant r (settled instant s)
+abbrev pub called_in : List ℕ → ℕ → Step → State → State
+called_in array instant r s = step_state (rooms_in s array) instant r (settled instant s)
 
 -- what a step asks where a first event's work is done: what it names is there, its round is none that question 12 refuses, and the state after it is within every limit
-pub record Stepping (bytes array : List ℕ) (instant : ℕ) (r : Step) (h : Head) (block : List ℕ) : Type 0 where
+pub record Stepping (array : List ℕ) (instant : ℕ) (r : Step) (h : Head) (block : List ℕ) : Type 0 where
   pub stands : Stands h block
   pub begun : h.live.init ≡ true
-  pub held : StepHeld bytes (state_of h block) r
+  pub held : StepHeld (state_of h block) r
   pub near : step_far r ≡ false
-  pub early : instant ≤ 2 ^ 62
-  pub fits : fits (stepped_in bytes array instant r (state_of h block)) ≡ true
+  pub early : instant ≤ LATEST.0
+  pub fits : fits (stepped_in array instant r (state_of h block)) ≡ true
 
 -- what a step asks of the state before the call
-pub record Calling (bytes array : List ℕ) (instant : ℕ) (r : Step) (h : Head) (block : List ℕ) : Type 0 where
+pub record Calling (array : List ℕ) (instant : ℕ) (r : Step) (h : Head) (block : List ℕ) : Type 0 where
   pub stands : Stands h block
-  pub held : StepHeld bytes (state_of h block) r
+  pub held : StepHeld (state_of h block) r
   pub near : step_far r ≡ false
-  pub early : instant ≤ 2 ^ 62
-  pub fits : fits (called_in bytes array instant r (state_of h block)) ≡ true
+  pub early : instant ≤ LATEST.0
+  pub fits : fits (called_in array instant r (state_of h block)) ≡ true

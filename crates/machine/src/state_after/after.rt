@@ -3,41 +3,27 @@ ghost use Rattle.block.specs.Goes.{Goes};
 ghost use Rattle.machine.specs.StateAfter.StepAfter.{stepped_in, called_in, Stepping, Calling};
 
 use crate::kinds::Step;
-use crate::state_after::{controls, swarms};
+use crate::state_after::controls;
 use announcements::{announce, dispatch, ihaves, send_graft};
 use block::head::Head;
-use payloads::late;
+use payloads::{broadcast, late, new_gossip};
 use postcard::units::Millis;
 use steps::contents::taking;
 
 // The state after a step, where a first event's work is done.
-pub fn step_state(
-    h: Head,
-    block: &mut [u8],
-    instant: Millis,
-    rooms: &[u64; 34],
-    event: &[u8],
-    step: Step,
-) -> Head
-    requires { Stepping event.now rooms.now instant.0 step h block.old }
-    ensures { Goes (stepped_in event.now rooms.now instant.0 step) h block.old result block.new }
+pub fn step_state(h: Head, block: &mut [u8], instant: Millis, rooms: &[u64; 34], step: Step) -> Head
+    requires { Stepping rooms.now instant.0 step h block.old }
+    ensures { Goes (stepped_in rooms.now instant.0 step.entry) h block.old result block.new }
 {
     match step {
         Step::Nothing => h,
         Step::NewSwarm {
             sender,
             id,
-            start,
-            len,
+            content,
             round,
-        } => swarms::new_swarm(
-            h, block, instant, rooms, event, sender, id, start, len, round,
-        ),
-        Step::NewNeighbors {
-            sender: _,
-            start: _,
-            len: _,
-        } => h,
+        } => new_gossip::on_gossip(h, block, instant, rooms, sender, id, content, round),
+        Step::NewNeighbors { .. } => h,
         Step::Late {
             sender,
             id,
@@ -51,17 +37,11 @@ pub fn step_state(
             h
         }
         Step::Graft { link, wanted } => controls::on_graft(h, block, rooms, link, wanted),
-        Step::IHave { link, start, count } => {
-            ihaves::on_ihave(h, block, event, start, count, link)
+        Step::IHave { link, ihaves } => ihaves::on_ihave(h, block, ihaves, link),
+        Step::BroadcastSwarm { id, content } => {
+            broadcast::broadcast(h, block, instant, rooms, id, content)
         }
-        Step::BroadcastSwarm { id, start, len } => {
-            swarms::broadcast_swarm(h, block, instant, rooms, event, id, start, len)
-        }
-        Step::BroadcastNeighbors {
-            id: _,
-            start: _,
-            len: _,
-        } => h,
+        Step::BroadcastNeighbors { .. } => h,
         Step::SendGraft(id) => send_graft::on_send_graft_timer(h, block, instant, id),
         Step::DispatchLazyPush => dispatch::on_dispatch_timer(h, block, rooms),
         Step::EvictCache => taking::on_evict_cache_timer(h, block, instant),
@@ -70,17 +50,10 @@ pub fn step_state(
 }
 
 // The state after an event that is no change of neighbours: "the first other event evicts and schedules EvictCache before anything else", then the step.
-pub fn call_state(
-    h: Head,
-    block: &mut [u8],
-    instant: Millis,
-    rooms: &[u64; 34],
-    event: &[u8],
-    step: Step,
-) -> Head
-    requires { Calling event.now rooms.now instant.0 step h block.old }
-    ensures { Goes (called_in event.now rooms.now instant.0 step) h block.old result block.new }
+pub fn call_state(h: Head, block: &mut [u8], instant: Millis, rooms: &[u64; 34], step: Step) -> Head
+    requires { Calling rooms.now instant.0 step h block.old }
+    ensures { Goes (called_in rooms.now instant.0 step.entry) h block.old result block.new }
 {
     let g = taking::first_event(h, block, instant);
-    step_state(g, block, instant, rooms, event, step)
+    step_state(g, block, instant, rooms, step)
 }

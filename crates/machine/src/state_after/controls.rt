@@ -8,7 +8,7 @@ ghost use Rattle.machine.specs.StateAfter.Controls.{pruned_at, grafted_at};
 use block::head::Head;
 use block::links;
 use payloads::eager::reply;
-use postcard::message::Wanted;
+use storage::rows::id::Id;
 
 // `on_prune`: the peer of the link goes lazy. It has no actions.
 pub fn on_prune(h: Head, block: &mut [u8], link: usize)
@@ -20,13 +20,19 @@ pub fn on_prune(h: Head, block: &mut [u8], link: usize)
 
 // `on_graft`, the state half: the peer of the link goes eager, and gets the message that it wants, if it is cached: `note_dropped` of it, if it is handed back. Its
 // time is that of one pass over the record's column of link numbers.
-pub fn on_graft(h: Head, block: &mut [u8], rooms: &[u64; 34], link: usize, wanted: Wanted) -> Head
+pub fn on_graft(
+    h: Head,
+    block: &mut [u8],
+    rooms: &[u64; 34],
+    link: usize,
+    wanted: Option<Id>,
+) -> Head
     requires { Step (grafted_at rooms.now link (wanted_value wanted)) h block.old × (link < h.live.links) }
     ensures { Goes (grafted_at rooms.now link (wanted_value wanted)) h block.old result block.new }
 {
     links::add_eager(h, block, link);
     match wanted {
-        Wanted::Message(id) => reply::reply(h, block, rooms, link, id),
-        Wanted::Nothing => h,
+        Some(id) => reply::reply(h, block, rooms, link, id),
+        None => h,
     }
 }

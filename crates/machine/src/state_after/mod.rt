@@ -1,4 +1,3 @@
 // The state after the step of an event.
 pub mod after;
 pub mod controls;
-pub mod swarms;

@@ -5,20 +5,21 @@ use mathlib.Core.Path.{◌≡◌, refl, sym, ap, subst, ◌∙◌}
 use mathlib.Core.Bool.{Bool, true, false, not, ◌&&◌}
 use mathlib.Core.List.{List, [], ◌∷◌, ◌++◌, append_assoc}
 use native.Mathlib.Omega.{arith}
-use native.Mathlib.Nat.{add-zero}
 use lib.Dec.{leb, ltb, eqb}
 use lib.ListN.{length, take, drop, get_or, length-append, length-drop}
-use lib.Seq.{take-append-le, drop-append-le, drop-drop, get_or-drop}
-use borrow.Author.Tests.{ltb-true, ltb-false, leb-true, eqb-true, eqb-false, le-ltb, le-leb}
+use lib.Seq.{take-append-le, drop-append-le, drop-append_seam}
+use borrow.Author.Tests.{ltb-true, ltb-false, leb-true, leb-false, eqb-true, eqb-false, le-ltb, le-leb}
 use Rattle.storage.specs.Lists.Base.{all}
 use Rattle.storage.proofs.ListsLaws.MapLaws.{cases, true≢, and_left, and_right}
-use Rattle.storage.specs.Rows.Part.{part}
-use Rattle.postcard.specs.Number.{Read, got, fault, ◌then◌, read_bytes, last_group, read_groups, read_number}
+use Rattle.postcard.specs.Number.{Read, got, fault, ◌then◌, number_bytes, read_bytes, last_group, read_groups, read_number}
 use Rattle.postcard.specs.Wide.{Bytes}
-use Rattle.postcard.proofs.FieldBack.{bytes-head, bytes_drop, joined, not-got, got-value, got-rest}
+use Rattle.postcard.proofs.FieldBack.{bytes-head, bytes_back, number-back, joined, not-got, got-value, got-rest}
+use Rattle.wire.specs.Reader.Gives.{number_of}
+use Rattle.wire.specs.declared.reader.fault.Fault.{Fault}
+use Rattle.wire.specs.declared.reader.fault.Fault.TheVariants as faults
 use Rattle.protocol.specs.Answer.{Call}
 use Rattle.protocol.specs.Panel.{read_lengthed, read_record}
-use Rattle.panel.specs.Records.Reading.{record_call, Whole, Never, Bad, Cut, may_fit, Timed, Lengthed}
+use Rattle.panel.specs.Records.Reading.{record_call, Whole, Never, Bad, Cut, may_fit}
 
 -- reading `r` of some bytes, and `s` of the same with `more` after them: what was read stays read, and so does every fault but 7
 Stays : {A : Type 0} → List ℕ → Read A → Read A → Type 0
@@ -371,31 +372,31 @@ same-value p q = got-value (sym p ∙ q)
 pub bad-time : (bytes : List ℕ) (n : ℕ) → read_number bytes ≡ fault n → (n ≡ 7 → ⊥) → Bad bytes
 bad-time bytes n h o = record { always = λ more. never-of (bytes ++ more) (λ t m rest left e l s k. not-got (sym (number-bad bytes more h o) ∙ e)) }
 
--- a length that is
-pub bad-length : (bytes : List ℕ) (t at n : ℕ) → Timed bytes t at → read_number (drop at bytes) ≡ fault n → (n ≡ 7 → ⊥) → Bad bytes
-bad-length bytes t at n d h o = record {
+-- a length that is, behind the time
+pub bad-length : (bytes : List ℕ) (t n : ℕ) (rest : List ℕ) → read_number bytes ≡ got t rest → read_number rest ≡ fault n → (n ≡ 7 → ⊥) → Bad bytes
+bad-length bytes t n rest d h o = record {
   always = λ more. never-of (bytes ++ more)
-      (λ u m rest left e l s k. let q : rest ≡ drop at bytes ++ more = same_rest e (number-got bytes more d.time) in
-      let b : read_number (drop at bytes ++ more) ≡ got m left = rw q at l in
-      not-got (sym (number-bad (drop at bytes) more h o) ∙ b));
+      (λ u m rest' left e l s k. let q : rest' ≡ rest ++ more = same_rest e (number-got bytes more d) in
+      let b : read_number (rest ++ more) ≡ got m left = rw q at l in
+      not-got (sym (number-bad rest more h o) ∙ b));
 }
 
 -- a length that is cut and will be over 16,384
-pub bad-fit : (bytes : List ℕ) (t at : ℕ) → Timed bytes t at → read_number (drop at bytes) ≡ fault 7 → may_fit (drop at bytes) ≡ false → Bad bytes
-bad-fit bytes t at d h f = record {
+pub bad-fit : (bytes : List ℕ) (t : ℕ) (rest : List ℕ) → read_number bytes ≡ got t rest → read_number rest ≡ fault 7 → may_fit rest ≡ false → Bad bytes
+bad-fit bytes t rest d h f = record {
   always = λ more. never-of (bytes ++ more)
-      (λ u m rest left e l s k. let q : rest ≡ drop at bytes ++ more = same_rest e (number-got bytes more d.time) in
-      let b : read_number (drop at bytes ++ more) ≡ got m left = rw q at l in
-      omega (arith, s, too_long (drop at bytes) more m left h f b));
+      (λ u m rest' left e l s k. let q : rest' ≡ rest ++ more = same_rest e (number-got bytes more d) in
+      let b : read_number (rest ++ more) ≡ got m left = rw q at l in
+      omega (arith, s, too_long rest more m left h f b));
 }
 
 -- "an event over 16,384 bytes"
-pub bad-event : (bytes : List ℕ) (t n start : ℕ) → Lengthed bytes t n start → 16384 < n → Bad bytes
-bad-event bytes t n start d h = record {
+pub bad-event : (bytes : List ℕ) (t n : ℕ) (rest end : List ℕ) → read_number bytes ≡ got t rest → read_number rest ≡ got n end → 16384 < n → Bad bytes
+bad-event bytes t n rest end d g h = record {
   always = λ more. never-of (bytes ++ more)
-      (λ u m rest left e l s k. let q : rest ≡ drop d.at bytes ++ more = same_rest e (number-got bytes more d.timed.time) in
-      let b : read_number (drop d.at bytes ++ more) ≡ got m left = rw q at l in
-      let v : n ≡ m = same-value (number-got (drop d.at bytes) more d.long) b in
+      (λ u m rest' left e l s k. let q : rest' ≡ rest ++ more = same_rest e (number-got bytes more d) in
+      let b : read_number (rest ++ more) ≡ got m left = rw q at l in
+      let v : n ≡ m = same-value (number-got rest more g) b in
       omega (arith, s, v, h));
 }
 
@@ -415,87 +416,108 @@ cut-time bytes h =
       few = omega (arith, cut_short bytes h);
     }
 
--- the time takes at most ten bytes
-timed-few : (bytes : List ℕ) (t at : ℕ) → Timed bytes t at → at ≤ 10
-timed-few bytes t at d = omega (arith, d.inside, number_short bytes d.time, length-drop at bytes)
-
 -- a length that is cut, and may be at most 16,384
-pub cut-length : (bytes : List ℕ) (t at : ℕ) → Bytes bytes → Timed bytes t at → read_number (drop at bytes) ≡ fault 7 → may_fit (drop at bytes) ≡ true → Cut bytes
-cut-length bytes t at w d h f =
-    let g = fill (drop at bytes) (bytes_drop at bytes w) h f in
+pub cut-length : (bytes : List ℕ) (t : ℕ) (rest : List ℕ) → Bytes bytes → read_number bytes ≡ got t rest → read_number rest ≡ fault 7 → may_fit rest ≡ true → Cut bytes
+cut-length bytes t rest w d h f =
+    let g = fill rest (number-back bytes t rest w d).left h f in
     record {
       yet = never-of bytes
-          (λ u m rest left e l s k. let q : rest ≡ drop at bytes = same_rest e d.time in
-          let b : read_number (drop at bytes) ≡ got m left = rw q at l in
+          (λ u m rest' left e l s k. let q : rest' ≡ rest = same_rest e d in
+          let b : read_number rest ≡ got m left = rw q at l in
           not-got (sym h ∙ b));
       more = g.more;
       wide = g.wide;
       call = record_call t (take g.n g.left);
       rest = drop g.n g.left;
-      reads = record_of (bytes ++ g.more) (number-got bytes g.more d.time) g.reads g.small g.enough;
-      few = omega (arith, d.inside, timed-few bytes t at d, cut_short (drop at bytes) h, length-drop at bytes);
+      reads = record_of (bytes ++ g.more) (number-got bytes g.more d) g.reads g.small g.enough;
+      few = omega (arith, number_short bytes d, cut_short rest h);
     }
 
 -- an event that is cut
-pub cut-event : (bytes : List ℕ) (t n start : ℕ) → Lengthed bytes t n start → n ≤ 16384 → length bytes - start < n → Cut bytes
-cut-event bytes t n start d h less =
-    let z : length (drop start bytes) ≡ length bytes - start = length-drop start bytes in
+pub cut-event : (bytes : List ℕ) (t n : ℕ) (rest end : List ℕ) → read_number bytes ≡ got t rest → read_number rest ≡ got n end → n ≤ 16384 → (k : ℕ) → read_bytes n end ≡ fault k → Cut bytes
+unfolding read_bytes
+cut-event bytes t n rest end d g h k c =
+    let less : length end < n = cases (leb n (length end)) (λ p. not-got (sym (rw p at c))) (λ p. below-of p) in
     record {
       yet = never-of bytes
-          (λ u m rest left e l s k. let q : rest ≡ drop d.at bytes = same_rest e d.timed.time in
-          let b : read_number (drop d.at bytes) ≡ got m left = rw q at l in
-          let v : n ≡ m = same-value d.long b in
-          let y : drop start bytes ≡ left = same_rest d.long b in
-          omega (arith, k, v, less, ap length y));
+          (λ u m rest' left e l s f. let q : rest' ≡ rest = same_rest e d in
+          let b : read_number rest ≡ got m left = rw q at l in
+          let v : n ≡ m = same-value g b in
+          let y : end ≡ left = same_rest g b in
+          omega (arith, f, v, less, ap length y));
       more = zeros n;
       wide = zeros-wide n;
-      call = record_call t (take n (drop start bytes ++ zeros n));
-      rest = drop n (drop start bytes ++ zeros n);
-      reads = record_of (bytes ++ zeros n) (number-got bytes (zeros n) d.timed.time) (number-got (drop d.at bytes) (zeros n) d.long) h (rw length-append (omega (arith, length-zeros n)));
-      few = omega (arith, less, d.inside, d.timed.inside, timed-few bytes t d.at d.timed, number_short (drop d.at bytes) d.long, length-drop d.at bytes);
+      call = record_call t (take n (end ++ zeros n));
+      rest = drop n (end ++ zeros n);
+      reads = record_of (bytes ++ zeros n) (number-got bytes (zeros n) d) (number-got rest (zeros n) g) h (rw length-append (omega (arith, length-zeros n)));
+      few = omega (arith, less, number_short bytes d, number_short rest g);
+    }
+  where
+    below-of : leb n (length end) ≡ false → length end < n
+    below-of p = leb-false n (length end) p
+
+-- a whole record: all of it stands before what is left
+record Stood (bytes event after : List ℕ) : Type 0 where
+  front : List ℕ
+  same : bytes ≡ front ++ after
+
+stood : (bytes event after : List ℕ) (t n : ℕ) (rest end : List ℕ) → Bytes bytes → read_number bytes ≡ got t rest → read_number rest ≡ got n end → read_bytes n end ≡ got event after → Stood bytes event after
+stood bytes event after t n rest end w d g b =
+    let time = number-back bytes t rest w d in
+    let long = number-back rest n end time.left g in
+    let parts = bytes_back n end event after long.left b in
+    record {
+      front = number_bytes t ++ (number_bytes n ++ event);
+      same = time.same ∙ ap (λ (l : List ℕ). number_bytes t ++ l) (long.same ∙ ap (λ (l : List ℕ). number_bytes n ++ l) parts.same ∙ sym (append_assoc (number_bytes n) event after)) ∙ sym (append_assoc (number_bytes t) (number_bytes n ++ event) after);
     }
 
--- a whole record
-pub whole : (bytes : List ℕ) (t n start : ℕ) → Lengthed bytes t n start → n ≤ 16384 → n ≤ length bytes - start → Whole bytes t start n
-unfolding part
-whole bytes t n start d h l =
-    let z : length (drop start bytes) ≡ length bytes - start = length-drop start bytes in
+pub whole-inside : (bytes event after : List ℕ) (t n : ℕ) (rest end : List ℕ) → Bytes bytes → read_number bytes ≡ got t rest → read_number rest ≡ got n end → read_bytes n end ≡ got event after → length after ≤ length bytes
+whole-inside bytes event after t n rest end w d g b =
+    let s = stood bytes event after t n rest end w d g b in
+    omega (arith, ap length s.same, length-append s.front after)
+
+pub whole : (bytes event after : List ℕ) (t n : ℕ) (rest end : List ℕ) → Bytes bytes → read_number bytes ≡ got t rest → read_number rest ≡ got n end → n ≤ 16384 → read_bytes n end ≡ got event after
+    → Whole bytes t event (length bytes - length after)
+unfolding read_record read_lengthed
+whole bytes event after t n rest end w d g h b =
+    let s = stood bytes event after t n rest end w d g b in
     record {
-      inside = omega (arith, d.inside);
-      reads = rw (← drop-drop n start bytes) (record_of bytes d.timed.time d.long h (omega arith));
+      inside = omega arith;
+      reads = rw (d, g, le-leb n 16384 h, b) (ap (λ (l : List ℕ). got (record_call t event) l) (suffix s.front after bytes s.same));
     }
+  where
+    suffix : (front behind all : List ℕ) → all ≡ front ++ behind → behind ≡ drop (length all - length behind) all
+    suffix front behind all e =
+        let k : length all - length behind ≡ length front = omega (arith, ap length e, length-append front behind) in
+        rw (k, e) (sym (drop-append_seam front behind))
 
 -- what `may_fit` asks, by how many bytes there are
-short-fits : (xs : List ℕ) → length xs < 2 → may_fit xs ≡ true
+pub fit-short : (xs : List ℕ) → length xs < 2 → may_fit xs ≡ true
 unfolding may_fit
-short-fits [] h = refl
-short-fits (a ∷ []) h = refl
-short-fits (a ∷ b ∷ xs) h = absurd (omega arith)
+fit-short [] h = refl
+fit-short (a ∷ []) h = refl
+fit-short (a ∷ b ∷ xs) h = absurd (omega arith)
 
-long-fits : (xs : List ℕ) → 2 < length xs → may_fit xs ≡ false
+pub fit-long : (xs : List ℕ) → 2 < length xs → may_fit xs ≡ false
 unfolding may_fit
-long-fits [] h = absurd (omega arith)
-long-fits (a ∷ []) h = absurd (omega arith)
-long-fits (a ∷ b ∷ []) h = absurd (omega arith)
-long-fits (a ∷ b ∷ c ∷ xs) h = refl
+fit-long [] h = absurd (omega arith)
+fit-long (a ∷ []) h = absurd (omega arith)
+fit-long (a ∷ b ∷ []) h = absurd (omega arith)
+fit-long (a ∷ b ∷ c ∷ xs) h = refl
 
-two-fit : (xs : List ℕ) → length xs ≡ 2 → may_fit xs ≡ (eqb (get_or xs 0 0) 128 && eqb (get_or xs 1 0) 128)
+pub fit-two : (xs : List ℕ) → length xs ≡ 2 → may_fit xs ≡ (eqb (get_or xs 0 0) 128 && eqb (get_or xs 1 0) 128)
 unfolding may_fit
-two-fit [] h = absurd (omega arith)
-two-fit (a ∷ []) h = absurd (omega arith)
-two-fit (a ∷ b ∷ []) h = refl
-two-fit (a ∷ b ∷ c ∷ xs) h = absurd (omega arith)
+fit-two [] h = absurd (omega arith)
+fit-two (a ∷ []) h = absurd (omega arith)
+fit-two (a ∷ b ∷ []) h = refl
+fit-two (a ∷ b ∷ c ∷ xs) h = absurd (omega arith)
 
--- the same of the bytes from a place on
-module _ (bytes : List ℕ) (at : ℕ) where
-  pub fit-short : length bytes - at < 2 → may_fit (drop at bytes) ≡ true
-  fit-short h = short-fits (drop at bytes) (omega (arith, length-drop at bytes))
-
-  pub fit-long : 2 < length bytes - at → may_fit (drop at bytes) ≡ false
-  fit-long h = long-fits (drop at bytes) (omega (arith, length-drop at bytes))
-
-  pub fit-two : length bytes - at ≡ 2 → may_fit (drop at bytes) ≡ (eqb (get_or bytes at 0) 128 && eqb (get_or bytes (at + 1) 0) 128)
-  fit-two h = two-fit (drop at bytes) (omega (arith, length-drop at bytes)) ∙ rw (get_or-drop at bytes 0 0, get_or-drop at bytes 1 0, add-zero at) refl
+-- another fault than that the bytes end
+pub other_fault : (e : Fault) → (e ≡ faults.Ends → ⊥) → number_of e ≡ 7 → ⊥
+other_fault faults.Ends h n = h refl
+other_fault faults.Form h n = omega arith
+other_fault faults.Left h n = omega arith
+other_fault faults.Room h n = omega arith
 
 -- where there is no byte, one can follow
 pub bad-none : Bad [] → ⊥

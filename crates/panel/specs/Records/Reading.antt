@@ -13,10 +13,10 @@ use Rattle.panel.specs.declared.records.Record.TheVariants as record'
 abbrev pub record_call : ℕ → List ℕ → Call
 record_call now event = record { now = now; event = event; rooms = []; output = 40960 }
 
--- a whole record: the definition reads its time and its event, and what follows the event is left
-pub record Whole (bytes : List ℕ) (now start len : ℕ) : Type 0 where
-  pub inside : start + len ≤ length bytes
-  pub reads : read_record bytes ≡ got (record_call now (part start len bytes)) (drop (start + len) bytes)
+-- a whole record: the definition reads its time and its event, and what follows it is left
+pub record Whole (bytes : List ℕ) (now : ℕ) (event : List ℕ) (used : ℕ) : Type 0 where
+  pub inside : used ≤ length bytes
+  pub reads : read_record bytes ≡ got (record_call now event) (drop used bytes)
 
 -- no record
 pub record Never (bytes : List ℕ) : Type 0 where
@@ -38,7 +38,7 @@ pub record Cut (bytes : List ℕ) : Type 0 where
 
 -- what the answer tells of the bytes
 abbrev pub Tells : List ℕ → Record → Type 0
-Tells bytes (record'.Whole instant start len) = Whole bytes instant.0 start len
+Tells bytes (record'.Whole instant event used) = Whole bytes instant.0 event.now used
 Tells bytes record'.Cut = Cut bytes
 Tells bytes record'.Bad = Bad bytes
 
@@ -48,15 +48,3 @@ may_fit [] = true
 may_fit (a ∷ []) = true
 may_fit (a ∷ b ∷ []) = eqb a 128 && eqb b 128
 may_fit (a ∷ b ∷ c ∷ more) = false
-
--- the time was read, and `at` is the place after it
-pub record Timed (bytes : List ℕ) (now at : ℕ) : Type 0 where
-  pub inside : at ≤ length bytes
-  pub time : read_number bytes ≡ got now (drop at bytes)
-
--- then the length was read, and `start` is the place after that
-pub record Lengthed (bytes : List ℕ) (now n start : ℕ) : Type 0 where
-  pub at : ℕ
-  pub timed : Timed bytes now at
-  pub inside : start ≤ length bytes
-  pub long : read_number (drop at bytes) ≡ got n (drop start bytes)

@@ -21,7 +21,6 @@ use postcard::message::Delivery;
 use postcard::units::Round;
 use steps::{Held, pushes, ticks};
 use storage::rows::id::Id;
-use storage::rows::table::Found;
 use wire::output;
 
 // The state after the reply to a link: `note_dropped` of the identifier if it is cached and the link hands it back. Its time is that of one pass over the
@@ -32,7 +31,7 @@ pub fn reply(h: Head, block: &mut [u8], rooms: &[u64; 34], link: usize, id: Id) 
 {
     let f = cached::find_cached(h, block, id);
     match f {
-        Found::At(i) => {
+        Ok(i) => {
             let round = cached::cached_round(h, block, i);
             let taken = target::is_taken(rooms, link);
             if taken {
@@ -40,7 +39,7 @@ pub fn reply(h: Head, block: &mut [u8], rooms: &[u64; 34], link: usize, id: Id) 
             }
             pushes::note_dropped(h, block, link, id, round)
         }
-        Found::Before(_) => h,
+        Err(_) => h,
     }
 }
 
@@ -98,7 +97,6 @@ pub fn reply_sends<'a>(
     rooms: &[u64; 34],
     out: &mut [u8],
     at: usize,
-    event: &'a [u8],
     link: usize,
     id: Id,
     held: Held,
@@ -113,7 +111,7 @@ pub fn reply_sends<'a>(
             let c = cached::cached_content(h, block, i);
             let start = head::contents_at(h.limits) + c.start;
             let place = Content::InStore { start, len: c.len };
-            let content = content::content_part(event, block, place);
+            let content = content::content_part(place, block);
             send_one(h, block, rooms, out, at, link, id, content, round)
         }
         Held::Nothing => at,

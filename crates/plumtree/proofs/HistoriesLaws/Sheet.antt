@@ -9,7 +9,7 @@ use lib.ListN.{length}
 use Rattle.std.specs.Prelude.{if◌then◌else◌}
 use Rattle.storage.specs.Lists.Base.{concat_map}
 use Rattle.storage.proofs.ListsLaws.MapLaws.{cases, true≢, and_left, and_right, and_intro}
-use Rattle.postcard.specs.Message.{Action, action_bytes}
+use Rattle.postcard.specs.Message.{action_bytes}
 use Rattle.blake3.specs.Blake3.{identifier}
 use Rattle.protocol.specs.State.{State, Counts}
 use Rattle.protocol.specs.Whole.{whole, long_enough, whole_state}

@@ -14,7 +14,7 @@ use Rattle.whole.specs.States.Area.{kept_in, area_holds, InWidth}
 use Rattle.whole.specs.States.Calls.{Saves, Returns}
 use Rattle.machine.specs.Called.{Lent, Called}
 use Rattle.plumtree.specs.Calls.{Made}
-use Rattle.plumtree.specs.Chain.{Seen, Guaranteed}
+use Rattle.plumtree.specs.Chain.{Guaranteed}
 use Rattle.plumtree.specs.CallList.{CallList, fresh_list, with_call}
 
 -- a panel at a moment: its block and counts, and the list that the guarantees speak about

@@ -11,8 +11,7 @@ use Rattle.storage.specs.Lists.Map.{Entry, entry, keys}
 use Rattle.storage.proofs.ListsLaws.MapLaws.{ascending-insert}
 use Rattle.storage.specs.Rows.Part.{part, put}
 use Rattle.storage.specs.Rows.Digits.{le_bytes}
-use Rattle.storage.specs.declared.rows.table.Found.{Found}
-use Rattle.storage.specs.declared.rows.table.Found.TheVariants.{At, Before}
+use Rattle.std.specs.Prelude.{Result, Ok, Err}
 use Rattle.storage.proofs.RowsLaws.Digits.{length-le_bytes, le_nat-le_bytes}
 use Rattle.storage.proofs.RowsLaws.Ids.{tri}
 use Rattle.storage.proofs.RowsLaws.Parts.{length-put, get_d_part, get_or-put-before, get_or-put-after}
@@ -92,10 +91,10 @@ module _ (P : List ℕ → Type 0) (x : Ref) where
   over-each (suc n) zero (m ∷ ms) a h = inl (a.each 0 (omega arith))
   over-each (suc n) (suc j) (m ∷ ms) a h = over-each n j ms (next-each m ms a) (omega arith)
 
-  placed-each : (o : Found) (j : ℕ) (ms : List Ref) → EachOwn P ms → j < length (placed o x ms) → P (ref_at (placed o x ms) j).own ⊎ (ref_at (placed o x ms) j ≡ x)
+  placed-each : (o : Result ℕ ℕ) (j : ℕ) (ms : List Ref) → EachOwn P ms → j < length (placed o x ms) → P (ref_at (placed o x ms) j).own ⊎ (ref_at (placed o x ms) j ≡ x)
   unfolding placed
-  placed-each (At n) j ms a h = over-each n j ms a h
-  placed-each (Before n) j ms a h = gap-each n j ms a h
+  placed-each (Ok n) j ms a h = over-each n j ms a h
+  placed-each (Err n) j ms a h = gap-each n j ms a h
 
 moved-each : (P : List ℕ → Type 0) (k : ℕ) (es : List Ref) → EachOwn P es → EachOwn P (map (moved k) es)
 moved-each P k es a = record {

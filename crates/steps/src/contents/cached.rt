@@ -19,7 +19,6 @@ use block::head::Head;
 use block::{head, time_caches};
 use postcard::units::{Millis, Round};
 use storage::rows::id::Id;
-use storage::rows::table::Found;
 use storage::rows::{bytes, table, word};
 
 // Where the content of row j starts among the contents; for the row after the last, where the contents end.
@@ -143,12 +142,12 @@ fn set_content(h: Head, block: &mut [u8], id: Id, content: &[u8]) -> Head
 {
     let f = cached::find_cached(h, block, id);
     match f {
-        Found::At(i) => {
+        Ok(i) => {
             let c = time_caches::cached_cache(h);
             let p = c.place(block, i);
             resize_row(h, block, p, content)
         }
-        Found::Before(_) => h,
+        Err(_) => h,
     }
 }
 

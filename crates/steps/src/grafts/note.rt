@@ -21,7 +21,6 @@ use block::head::Head;
 use block::{head, hops, time_caches};
 use postcard::units::{Millis, Round};
 use storage::rows::id::Id;
-use storage::rows::table::Found;
 use storage::rows::{table, word};
 
 // The header after a new entry, and the number of the entry.
@@ -73,10 +72,10 @@ fn graft_at_entry(h: Head, block: &mut [u8], i: usize, link: usize, round: Round
 {
     let f = reads::find_graft(h, block, i, link);
     match f {
-        Found::At(j) => {
+        Ok(j) => {
             lower_graft(h, block, i, j, link, round);
         }
-        Found::Before(j) => {
+        Err(j) => {
             insert_graft(h, block, i, j, link, round);
         }
     }
@@ -126,10 +125,10 @@ pub fn note_graft(
 {
     let f = grafted::find_grafted(h, block, id);
     match f {
-        Found::At(i) => {
+        Ok(i) => {
             graft_at_entry(h, block, i, link, round);
             h
         }
-        Found::Before(_) => graft_anew(h, block, id, link, round, expires),
+        Err(_) => graft_anew(h, block, id, link, round, expires),
     }
 }

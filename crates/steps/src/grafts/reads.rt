@@ -15,7 +15,6 @@ use block::caches::grafted;
 use block::head;
 use block::head::Head;
 use postcard::units::Round;
-use storage::rows::table::Found;
 use storage::rows::word;
 
 // The sender and the round of the first copy.
@@ -54,7 +53,7 @@ pub fn is_kept(h: Head, block: &[u8], i: usize, peer: u64) -> bool
 
 // Where the peer of a link stands among the peers of the grafted message i, or before which it would stand. Its time is that of one pass over these peers, at
 // most 32.
-pub fn find_graft(h: Head, block: &[u8], i: usize, link: usize) -> Found
+pub fn find_graft(h: Head, block: &[u8], i: usize, link: usize) -> Result<usize, usize>
     requires { Grafting h block.now × (i < h.live.grafted) × (link < h.live.links) }
     ensures { FoundIs (keys (grafts_at (state_of h block.now) i).peers) (peer_at (state_of h block.now) link) result }
 {
@@ -63,14 +62,14 @@ pub fn find_graft(h: Head, block: &[u8], i: usize, link: usize) -> Found
     while j < n {
         let k = grafted::graft_at(h, block, i, j);
         if k.link == link {
-            return Found::At(j);
+            return Ok(j);
         }
         if link < k.link {
-            return Found::Before(j);
+            return Err(j);
         }
         j += 1;
     }
-    Found::Before(j)
+    Err(j)
 }
 
 // Whether the peer of a link is grafted for the grafted message i. Its time is that of `find_graft`.
@@ -80,8 +79,8 @@ pub fn is_grafted(h: Head, block: &[u8], i: usize, link: usize) -> bool
 {
     let f = find_graft(h, block, i, link);
     match f {
-        Found::At(_) => true,
-        Found::Before(_) => false,
+        Ok(_) => true,
+        Err(_) => false,
     }
 }
 

@@ -15,7 +15,6 @@ ghost use Rattle.steps.specs.Stands.{Stands};
 
 use block::head::Head;
 use block::links;
-use storage::rows::table::Found;
 use storage::rows::{table, word};
 
 // A link that is new, eager, before link i.
@@ -41,11 +40,11 @@ pub fn on_neighbor_up(h: Head, block: &mut [u8], peer: u64) -> Head
 {
     let f = links::find_link(h, block, peer);
     match f {
-        Found::At(i) => {
+        Ok(i) => {
             links::add_eager(h, block, i);
             h
         }
-        Found::Before(i) => insert_link(h, block, i, peer),
+        Err(i) => insert_link(h, block, i, peer),
     }
 }
 
@@ -71,7 +70,7 @@ pub fn on_neighbor_down(h: Head, block: &mut [u8], peer: u64) -> Head
 {
     let f = links::find_link(h, block, peer);
     match f {
-        Found::At(i) => remove_link(h, block, i),
-        Found::Before(_) => h,
+        Ok(i) => remove_link(h, block, i),
+        Err(_) => h,
     }
 }

@@ -1,11 +1,9 @@
 -- Tables in the order of their keys: the first 32 bytes of a row are its key, and the keys ascend strictly.
 -- Assumes nothing.
-use Rattle.std.specs.Prelude.{◌≡◌, Bool, true, false, List, map, ℕ, ◌≤◌, ◌<◌, length, get_or}
+use Rattle.std.specs.Prelude.{◌≡◌, Bool, true, false, List, map, ℕ, ◌≤◌, ◌<◌, length, get_or, Result, Ok, Err}
 use Rattle.storage.specs.Rows.Part.{part}
 use Rattle.storage.specs.Rows.Digits.{be_nat}
 use Rattle.storage.specs.Rows.Rows.{rows}
-use Rattle.storage.specs.declared.rows.table.Found.{Found}
-use Rattle.storage.specs.declared.rows.table.Found.TheVariants.{At, Before}
 
 -- the key of a row
 unfoldable pub key_of : List ℕ → ℕ
@@ -31,9 +29,9 @@ pub record Here (ks : List ℕ) (k i : ℕ) : Type 0 where
   pub same : get_or ks i 0 ≡ k
 
 -- what a search for k in the keys answers
-abbrev pub FoundIs : List ℕ → ℕ → Found → Type 0
-FoundIs ks k (At i) = Here ks k i
-FoundIs ks k (Before i) = Between ks k i
+abbrev pub FoundIs : List ℕ → ℕ → Result ℕ ℕ → Type 0
+FoundIs ks k (Ok i) = Here ks k i
+FoundIs ks k (Err i) = Between ks k i
 
 -- what a test of the order answers
 abbrev pub TellsAscending : List ℕ → Bool → Type 0

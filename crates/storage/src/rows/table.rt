@@ -3,18 +3,10 @@ ghost use Rattle.std.specs.Prelude.{◌≡◌, ◌+◌, ◌*◌, ◌≤◌, ◌<
 ghost use Rattle.storage.specs.Lists.Base.{filter};
 ghost use Rattle.storage.specs.Rows.Part.{part, put};
 ghost use Rattle.storage.specs.Rows.Rows.{rows, differs, opened, closed};
-ghost use Rattle.storage.specs.Rows.Ident.{id_of};
-ghost use Rattle.storage.specs.Rows.Sorted.{keys, Ascending, FoundIs, TellsAscending};
+ghost use Rattle.storage.specs.Rows.Sorted.{keys, TellsAscending};
 
 use crate::rows::id;
-use crate::rows::id::{Id, Order};
-
-// Where a key stands in a table, or the row before which it would stand.
-#[derive(Clone, Copy)]
-pub enum Found {
-    At(usize),
-    Before(usize),
-}
+use crate::rows::id::Order;
 
 // Copies the k bytes at `from` to `to`, which is not before it: from the last byte to the first, since the two may overlap.
 pub fn move_up(b: &mut [u8], from: usize, to: usize, k: usize)
@@ -96,32 +88,6 @@ pub fn retain(b: &mut [u8], stride: usize, n: usize, o: usize, v: u8) -> usize
         }
     }
     k
-}
-
-// Where the key stands in n rows whose keys ascend, by halving.
-pub fn find(b: &[u8], stride: usize, n: usize, key: Id) -> Found
-    requires { (32 ≤ stride) × (n * stride ≤ length b.now) × Ascending (keys stride n b.now) }
-    ensures { FoundIs (keys stride n b.now) (id_of key) result }
-{
-    let mut lo = 0;
-    let mut hi = n;
-    while lo < hi {
-        let mid = lo + (hi - lo) / 2;
-        let at = id::load_id(b, mid * stride);
-        let o = id::compare(at, key);
-        match o {
-            Order::Less => {
-                lo = mid + 1;
-            }
-            Order::Equal => {
-                return Found::At(mid);
-            }
-            Order::Greater => {
-                hi = mid;
-            }
-        }
-    }
-    Found::Before(lo)
 }
 
 // Whether the keys of n rows ascend.

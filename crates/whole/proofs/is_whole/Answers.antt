@@ -20,7 +20,7 @@ use Rattle.whole.proofs.Tests.{Each, stops, ends, from_each, no, yes}
 use Rattle.whole.proofs.HeldLaws.{ceilings-of, fit_of}
 use Rattle.whole.proofs.WholeLaws.{first_test, later_tests, whole-told}
 use Rattle.whole.proofs.is_whole.Goals as goal
-use Rattle.whole.proofs.is_whole.Goals.{Else-not-flags}
+use Rattle.whole.proofs.is_whole.Goals.{Else-not-flags_stand}
 
 -- the tests but the first and the last
 abbrev between : Head → List ℕ → List Bool
@@ -35,25 +35,25 @@ between h xs =
     ∷ []
 
 -- past them all, each is answered yes
-passed : (c : Else-not-flags) → Each (first_test c.args.block.now ∷ between c.load_head-h.result c.args.block.now)
+passed : (c : Else-not-flags_stand) → Each (first_test c.args.block.now ∷ between c.load_head-h.result c.args.block.now)
 passed c =
     let xs = c.args.block.now in
     let h = c.load_head-h.result in
-    let need = c.block_need-need in (
+    let need = c.block_need in (
       le-leb 2048 (length xs) c.if-block-lt2048.false,
       (
-        le-leb (word_at 24 xs) 65535 (omega (arith, c.load-threshold.ensures, c.if-threshold-gt65535.false)),
+        le-leb (word_at 24 xs) 65535 (omega (arith, c.load.ensures, c.if-load-gt65535.false)),
         (
-          yes c.limits_in_range-limits.ensures (ap not c.if-not-limits.false),
+          yes c.limits_in_range.ensures (ap not c.if-not-limits_in_range.false),
           (
-            le-leb (block_need (limits_of h.limits)) (length xs) (omega (arith, need.ensures, c.if-block-need.false)),
+            le-leb (block_need (limits_of h.limits)) (length xs) (omega (arith, need.ensures, c.if-block-block_need.false)),
             (
-              yes c.counts_within-counts.ensures (ap not c.if-not-counts.false),
+              yes c.counts_within.ensures (ap not c.if-not-counts_within.false),
               (
-                yes c.size_in_range-size.ensures (ap not c.if-not-size.false),
+                yes c.size_in_range.ensures (ap not c.if-not-size_in_range.false),
                 (
-                  yes c.durations_in_range-durations.ensures (ap not c.if-not-durations.false),
-                  (yes c.flags_stand-flags.ensures (ap not c.if-not-flags.false), tt),
+                  yes c.durations_in_range.ensures (ap not c.if-not-durations_in_range.false),
+                  (yes c.flags_stand.ensures (ap not c.if-not-flags_stand.false), tt),
                 ),
               ),
             ),
@@ -67,52 +67,52 @@ returns-then-block-lt2048 c =
     let xs = c.args.block.now in
     sym (stops (first_test xs) (later_tests (head_in xs) xs) 0 (lt-leb 2048 (length xs) c.if-block-lt2048.true)) ∙ whole-told xs (head_in xs) refl
 
-pub returns-then-threshold-gt65535 : goal.returns-then-threshold-gt65535
-returns-then-threshold-gt65535 c =
+pub returns-then-load-gt65535 : goal.returns-then-load-gt65535
+returns-then-load-gt65535 c =
     let xs = c.args.block.now in
-    sym (stops (first_test xs) (later_tests (head_in xs) xs) 1 (lt-leb (word_at 24 xs) 65535 (omega (arith, c.load-threshold.ensures, c.if-threshold-gt65535.true)))) ∙ whole-told xs (head_in xs) refl
+    sym (stops (first_test xs) (later_tests (head_in xs) xs) 1 (lt-leb (word_at 24 xs) 65535 (omega (arith, c.load.ensures, c.if-load-gt65535.true)))) ∙ whole-told xs (head_in xs) refl
 
-pub returns-then-not-limits : goal.returns-then-not-limits
-returns-then-not-limits c =
+pub returns-then-not-limits_in_range : goal.returns-then-not-limits_in_range
+returns-then-not-limits_in_range c =
     let h = c.load_head-h.result in
     let xs = c.args.block.now in
-    sym (stops (first_test xs) (later_tests h xs) 2 (no c.limits_in_range-limits.ensures (ap not c.if-not-limits.true))) ∙ whole-told xs h c.load_head-h.ensures
+    sym (stops (first_test xs) (later_tests h xs) 2 (no c.limits_in_range.ensures (ap not c.if-not-limits_in_range.true))) ∙ whole-told xs h c.load_head-h.ensures
 
-pub block_need-need-requires : goal.block_need-need-requires
-block_need-need-requires c = ceilings-of (limits_of c.load_head-h.result.limits) (yes c.limits_in_range-limits.ensures (ap not c.if-not-limits.false))
+pub block_need-requires : goal.block_need-requires
+block_need-requires c = ceilings-of (limits_of c.load_head-h.result.limits) (yes c.limits_in_range.ensures (ap not c.if-not-limits_in_range.false))
 
-pub returns-then-block-need : goal.returns-then-block-need
-returns-then-block-need c =
+pub returns-then-block-block_need : goal.returns-then-block-block_need
+returns-then-block-block_need c =
     let h = c.load_head-h.result in
     let xs = c.args.block.now in
-    sym (stops (first_test xs) (later_tests h xs) 3 (lt-leb (block_need (limits_of h.limits)) (length xs) (omega (arith, c.block_need-need.ensures, c.if-block-need.true)))) ∙ whole-told xs h c.load_head-h.ensures
+    sym (stops (first_test xs) (later_tests h xs) 3 (lt-leb (block_need (limits_of h.limits)) (length xs) (omega (arith, c.block_need.ensures, c.if-block-block_need.true)))) ∙ whole-told xs h c.load_head-h.ensures
 
-pub counts_within-counts-requires : goal.counts_within-counts-requires
-counts_within-counts-requires c = ceilings-of (limits_of c.load_head-h.result.limits) (yes c.limits_in_range-limits.ensures (ap not c.if-not-limits.false))
+pub counts_within-requires : goal.counts_within-requires
+counts_within-requires c = ceilings-of (limits_of c.load_head-h.result.limits) (yes c.limits_in_range.ensures (ap not c.if-not-limits_in_range.false))
 
-pub returns-then-not-counts : goal.returns-then-not-counts
-returns-then-not-counts c =
+pub returns-then-not-counts_within : goal.returns-then-not-counts_within
+returns-then-not-counts_within c =
     let h = c.load_head-h.result in
     let xs = c.args.block.now in
-    sym (stops (first_test xs) (later_tests h xs) 4 (no c.counts_within-counts.ensures (ap not c.if-not-counts.true))) ∙ whole-told xs h c.load_head-h.ensures
+    sym (stops (first_test xs) (later_tests h xs) 4 (no c.counts_within.ensures (ap not c.if-not-counts_within.true))) ∙ whole-told xs h c.load_head-h.ensures
 
-pub returns-then-not-size : goal.returns-then-not-size
-returns-then-not-size c =
+pub returns-then-not-size_in_range : goal.returns-then-not-size_in_range
+returns-then-not-size_in_range c =
     let h = c.load_head-h.result in
     let xs = c.args.block.now in
-    sym (stops (first_test xs) (later_tests h xs) 5 (no c.size_in_range-size.ensures (ap not c.if-not-size.true))) ∙ whole-told xs h c.load_head-h.ensures
+    sym (stops (first_test xs) (later_tests h xs) 5 (no c.size_in_range.ensures (ap not c.if-not-size_in_range.true))) ∙ whole-told xs h c.load_head-h.ensures
 
-pub returns-then-not-durations : goal.returns-then-not-durations
-returns-then-not-durations c =
+pub returns-then-not-durations_in_range : goal.returns-then-not-durations_in_range
+returns-then-not-durations_in_range c =
     let h = c.load_head-h.result in
     let xs = c.args.block.now in
-    sym (stops (first_test xs) (later_tests h xs) 6 (no c.durations_in_range-durations.ensures (ap not c.if-not-durations.true))) ∙ whole-told xs h c.load_head-h.ensures
+    sym (stops (first_test xs) (later_tests h xs) 6 (no c.durations_in_range.ensures (ap not c.if-not-durations_in_range.true))) ∙ whole-told xs h c.load_head-h.ensures
 
-pub returns-then-not-flags : goal.returns-then-not-flags
-returns-then-not-flags c =
+pub returns-then-not-flags_stand : goal.returns-then-not-flags_stand
+returns-then-not-flags_stand c =
     let h = c.load_head-h.result in
     let xs = c.args.block.now in
-    sym (stops (first_test xs) (later_tests h xs) 7 (no c.flags_stand-flags.ensures (ap not c.if-not-flags.true))) ∙ whole-told xs h c.load_head-h.ensures
+    sym (stops (first_test xs) (later_tests h xs) 7 (no c.flags_stand.ensures (ap not c.if-not-flags_stand.true))) ∙ whole-told xs h c.load_head-h.ensures
 
 pub tables_whole-requires : goal.tables_whole-requires
 unfolding has_tables
@@ -124,4 +124,4 @@ pub returns : goal.returns
 returns c =
     let h = c.load_head-h.result in
     let xs = c.args.block.now in
-    c.tables_whole.ensures ∙ sym (ends (first_test xs) (between h xs) (tables_whole h xs) (from_each (first_test xs) (between h xs) (passed (goal.at.returns c).Else-not-flags))) ∙ whole-told xs h c.load_head-h.ensures
+    c.tables_whole.ensures ∙ sym (ends (first_test xs) (between h xs) (tables_whole h xs) (from_each (first_test xs) (between h xs) (passed (goal.at.returns c).Else-not-flags_stand))) ∙ whole-told xs h c.load_head-h.ensures

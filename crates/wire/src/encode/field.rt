@@ -9,7 +9,7 @@ ghost use Rattle.postcard.specs.Values.{delivery_value, wanted_value, timer_valu
 
 use crate::encode::Encode;
 use crate::encode::sink::Sink;
-use postcard::message::{Delivery, Timer, Wanted};
+use postcard::message::{Delivery, Timer};
 use postcard::units::Round;
 use storage::rows::id::Id;
 
@@ -74,13 +74,13 @@ impl Encode for Delivery {
 }
 
 // "byte 0, or 1 and identifier" of a Graft.
-impl Encode for Wanted {
+impl Encode for Option<Id> {
     ghost bytes = { λ w. optional_id_bytes (wanted_value w) };
 
     fn encode<S: Sink>(&self, out: &mut S) {
         match self {
-            Wanted::Nothing => out.byte(0),
-            Wanted::Message(id) => {
+            None => out.byte(0),
+            Some(id) => {
                 out.byte(1);
                 id.encode(out);
             }

@@ -2,15 +2,20 @@
 #![tactic(auto, unfolding(postcard::specs::Message::message_bytes, postcard::specs::Output::ihave_head, postcard::specs::Message::ihave_bytes), using(crate::proofs::EncodeLaws::HeldLaws::after_append, crate::proofs::EncodeLaws::HeldLaws::room_after, crate::proofs::EncodeLaws::HeldLaws::length_both))]
 
 ghost use Rattle.std.specs.Prelude.{◌≡◌, [], ◌∷◌, ◌++◌};
+ghost use Rattle.storage.specs.Lists.Base.{concat_map};
 ghost use Rattle.storage.specs.Rows.Ident.{id_of};
 ghost use Rattle.postcard.specs.Message as message;
 ghost use Rattle.postcard.specs.Message.{ihave_bytes, message_bytes};
 ghost use Rattle.postcard.specs.Output.{ihave_head};
-ghost use Rattle.postcard.specs.Values.{delivery_value, wanted_value};
+ghost use Rattle.postcard.specs.Values.{delivery_value, wanted_value, ihave_value};
+ghost use Rattle.wire.specs.Encode.Held.{after, RoomFor};
+ghost use Rattle.wire.specs.Reader.Values.{ihaves_value, message_value};
 
 use crate::encode::Encode;
 use crate::encode::sink::Sink;
-use postcard::message::{Delivery, Wanted};
+use crate::reader::ihaves::Ihaves;
+use crate::reader::message::Message;
+use postcard::message::{Delivery, Ihave};
 use postcard::units::Round;
 use storage::rows::id::Id;
 
@@ -48,7 +53,7 @@ impl Encode for Prune {
 // "2 Graft (byte 0, or 1 and identifier; round)".
 #[derive(Clone, Copy)]
 pub struct Graft {
-    pub wanted: Wanted,
+    pub wanted: Option<Id>,
     pub round: Round,
 }
 
@@ -78,17 +83,54 @@ impl Encode for IhaveHead {
 }
 
 // An entry of an IHave: "identifier and round each".
-#[derive(Clone, Copy)]
-pub struct Ihave {
-    pub id: Id,
-    pub round: Round,
-}
-
 impl Encode for Ihave {
-    ghost bytes = { λ h. ihave_bytes (record { id = id_of h.id; round = h.round.0 }) };
+    ghost bytes = { λ h. ihave_bytes (ihave_value h) };
 
     fn encode<S: Sink>(&self, out: &mut S) {
         self.id.encode(out);
         self.round.encode(out);
+    }
+}
+
+// The entries of an IHave, one by one.
+fn encode_entries<S: Sink>(ihaves: Ihaves, out: &mut S)
+    requires { RoomFor (concat_map ihave_bytes (ihaves_value ihaves)) (S.held out.old) }
+    ensures { S.held out.new ≡ after (concat_map ihave_bytes (ihaves_value ihaves.entry)) (S.held out.old) }
+{
+    for ihave in ihaves {
+        ihave.encode(out);
+    }
+}
+
+// An IHave: its count, then its entries.
+impl<'a> Encode for Ihaves<'a> {
+    ghost bytes = { λ hs. message_bytes (message.IHave (ihaves_value hs)) };
+
+    fn encode<S: Sink>(&self, out: &mut S) {
+        IhaveHead { count: self.count }.encode(out);
+        encode_entries(*self, out);
+    }
+}
+
+// A message that was read, in its shortest form.
+impl<'a> Encode for Message<'a> {
+    ghost bytes = { λ m. message_bytes (message_value m) };
+
+    fn encode<S: Sink>(&self, out: &mut S) {
+        match *self {
+            Message::Gossip {
+                id,
+                content,
+                delivery,
+            } => Gossip {
+                id,
+                content,
+                delivery,
+            }
+            .encode(out),
+            Message::Prune => Prune.encode(out),
+            Message::Graft { wanted, round } => Graft { wanted, round }.encode(out),
+            Message::IHave(ihaves) => ihaves.encode(out),
+        }
     }
 }

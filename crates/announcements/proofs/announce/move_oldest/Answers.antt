@@ -3,7 +3,7 @@
 use mathlib.Core.Path.{◌≡◌, refl, ◌∙◌}
 use mathlib.Core.Bool.{Bool, true, false}
 use mathlib.Core.List.{List}
-use Prim.Native.Nat.{ℕ, ◌-◌, ◌<◌}
+use Prim.Native.Nat.{ℕ, ◌<◌}
 use Rattle.storage.specs.Rows.Ident.{id_of}
 use Rattle.time_cache.specs.TimeCache.{holds}
 use Rattle.block.specs.View.{state_of}
@@ -91,9 +91,9 @@ pub loop-i-preserved-then-c-lt64 : goal.loop-i-preserved-then-c-lt64
 loop-i-preserved-then-c-lt64 c =
     (c.push_queued-g.auto.block ∙ c.loop-i.invariant.0, move-take (h (goal.at.loop-i-preserved-then-c-lt64 c).After-is_cached-cached) (xs (goal.at.loop-i-preserved-then-c-lt64 c).After-is_cached-cached) (s (goal.at.loop-i-preserved-then-c-lt64 c).After-is_cached-cached).requires (i (goal.at.loop-i-preserved-then-c-lt64 c).After-is_cached-cached) (k (goal.at.loop-i-preserved-then-c-lt64 c).After-is_cached-cached) (seen (goal.at.loop-i-preserved-then-c-lt64 c).After-is_cached-cached) (g (goal.at.loop-i-preserved-then-c-lt64 c).After-is_cached-cached) (ys (goal.at.loop-i-preserved-then-c-lt64 c).After-is_cached-cached) (so (goal.at.loop-i-preserved-then-c-lt64 c).After-is_cached-cached) (r (goal.at.loop-i-preserved-then-c-lt64 c).After-is_cached-cached) c.loop-i-test.true c.dropped_at-entry.ensures (held (goal.at.loop-i-preserved-then-c-lt64 c).After-is_cached-cached true c.if-cached.true) c.if-c-lt64.true c.push_queued-g.result c.push_queued-g.new.block c.push_queued-g.ensures)
 
-pub store_dropped-requires : goal.store_dropped-requires
-store_dropped-requires c =
-    ((so (goal.at.store_dropped-requires c).After-is_cached-cached).goes.sound, keep-room (h (goal.at.store_dropped-requires c).After-is_cached-cached) (xs (goal.at.store_dropped-requires c).After-is_cached-cached) (s (goal.at.store_dropped-requires c).After-is_cached-cached).requires (i (goal.at.store_dropped-requires c).After-is_cached-cached) (k (goal.at.store_dropped-requires c).After-is_cached-cached) (seen (goal.at.store_dropped-requires c).After-is_cached-cached) (g (goal.at.store_dropped-requires c).After-is_cached-cached) (ys (goal.at.store_dropped-requires c).After-is_cached-cached) (so (goal.at.store_dropped-requires c).After-is_cached-cached) (r (goal.at.store_dropped-requires c).After-is_cached-cached) c.loop-i-test.true c.dropped_at-entry.ensures (held (goal.at.store_dropped-requires c).After-is_cached-cached true c.if-cached.true) c.if-c-lt64.false, c.dropped_at-entry.ensures.below)
+pub set_dropped-requires : goal.set_dropped-requires
+set_dropped-requires c =
+    ((so (goal.at.set_dropped-requires c).After-is_cached-cached).goes.sound, keep-room (h (goal.at.set_dropped-requires c).After-is_cached-cached) (xs (goal.at.set_dropped-requires c).After-is_cached-cached) (s (goal.at.set_dropped-requires c).After-is_cached-cached).requires (i (goal.at.set_dropped-requires c).After-is_cached-cached) (k (goal.at.set_dropped-requires c).After-is_cached-cached) (seen (goal.at.set_dropped-requires c).After-is_cached-cached) (g (goal.at.set_dropped-requires c).After-is_cached-cached) (ys (goal.at.set_dropped-requires c).After-is_cached-cached) (so (goal.at.set_dropped-requires c).After-is_cached-cached) (r (goal.at.set_dropped-requires c).After-is_cached-cached) c.loop-i-test.true c.dropped_at-entry.ensures (held (goal.at.set_dropped-requires c).After-is_cached-cached true c.if-cached.true) c.if-c-lt64.false, c.dropped_at-entry.ensures.below)
 
 pub overflow_add-k : goal.overflow_add-k
 overflow_add-k c =
@@ -101,7 +101,7 @@ overflow_add-k c =
 
 pub loop-i-preserved-else-c-lt64 : goal.loop-i-preserved-else-c-lt64
 loop-i-preserved-else-c-lt64 c =
-    (c.store_dropped.auto.block ∙ c.loop-i.invariant.0, move-keep (h (goal.at.loop-i-preserved-else-c-lt64 c).After-is_cached-cached) (xs (goal.at.loop-i-preserved-else-c-lt64 c).After-is_cached-cached) (s (goal.at.loop-i-preserved-else-c-lt64 c).After-is_cached-cached).requires (i (goal.at.loop-i-preserved-else-c-lt64 c).After-is_cached-cached) (k (goal.at.loop-i-preserved-else-c-lt64 c).After-is_cached-cached) (seen (goal.at.loop-i-preserved-else-c-lt64 c).After-is_cached-cached) (g (goal.at.loop-i-preserved-else-c-lt64 c).After-is_cached-cached) (ys (goal.at.loop-i-preserved-else-c-lt64 c).After-is_cached-cached) (so (goal.at.loop-i-preserved-else-c-lt64 c).After-is_cached-cached) (r (goal.at.loop-i-preserved-else-c-lt64 c).After-is_cached-cached) c.loop-i-test.true c.dropped_at-entry.ensures (held (goal.at.loop-i-preserved-else-c-lt64 c).After-is_cached-cached true c.if-cached.true) c.if-c-lt64.false c.store_dropped.new.block c.store_dropped.ensures)
+    (c.set_dropped.auto.block ∙ c.loop-i.invariant.0, move-keep (h (goal.at.loop-i-preserved-else-c-lt64 c).After-is_cached-cached) (xs (goal.at.loop-i-preserved-else-c-lt64 c).After-is_cached-cached) (s (goal.at.loop-i-preserved-else-c-lt64 c).After-is_cached-cached).requires (i (goal.at.loop-i-preserved-else-c-lt64 c).After-is_cached-cached) (k (goal.at.loop-i-preserved-else-c-lt64 c).After-is_cached-cached) (seen (goal.at.loop-i-preserved-else-c-lt64 c).After-is_cached-cached) (g (goal.at.loop-i-preserved-else-c-lt64 c).After-is_cached-cached) (ys (goal.at.loop-i-preserved-else-c-lt64 c).After-is_cached-cached) (so (goal.at.loop-i-preserved-else-c-lt64 c).After-is_cached-cached) (r (goal.at.loop-i-preserved-else-c-lt64 c).After-is_cached-cached) c.loop-i-test.true c.dropped_at-entry.ensures (held (goal.at.loop-i-preserved-else-c-lt64 c).After-is_cached-cached true c.if-cached.true) c.if-c-lt64.false c.set_dropped.new.block c.set_dropped.ensures)
 
 pub loop-i-preserved : goal.loop-i-preserved
 loop-i-preserved c =

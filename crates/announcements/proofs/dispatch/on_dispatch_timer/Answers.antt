@@ -1,5 +1,5 @@
 -- `on_dispatch_timer` meets its contract. The loop's invariant: after l links the record is that of what the first l hand back.
-use Prim.Native.Nat.{ℕ, ◌-◌, ◌<◌, ◌*◌}
+use Prim.Native.Nat.{ℕ, ◌<◌, ◌*◌}
 use native.Mathlib.Omega.{arith}
 use borrow.Author.Rules.{rules}
 use mathlib.Core.List.{List}

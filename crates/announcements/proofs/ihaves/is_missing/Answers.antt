@@ -4,7 +4,7 @@ use mathlib.Core.List.{List, []}
 use mathlib.Core.Option.{Option}
 use Rattle.storage.specs.Rows.Ident.{id_of}
 use Rattle.storage.specs.Rows.Sorted.{FoundIs}
-use Rattle.storage.specs.declared.rows.table.Found.{Found}
+use Rattle.std.specs.Prelude.{ℕ, Result}
 use Rattle.storage.specs.Lists.Base.{is_some}
 use Rattle.storage.specs.Lists.Map.{keys, entry}
 use Rattle.time_cache.proofs.Orders.{up_of}
@@ -18,16 +18,16 @@ pub find_missing-f-requires : goal.find_missing-f-requires
 find_missing-f-requires c =
     (c.requires.sound.fit, missing-up c.args.h c.args.block.now c.requires)
 
-pub returns-in-At : goal.returns-in-At
-returns-in-At c =
+pub returns-in-Ok : goal.returns-in-Ok
+returns-in-Ok c =
     let a = c.args in
     let m = (state_of a.h a.block.now).missing in
     sym (ap (λ (o : Option (List Hop)). is_some o) (lookup-here (id_of a.id) _ (entry 0 []) m (up_of (keys m) (missing-up a.h a.block.now c.requires))
-    (subst (λ (x : Found). FoundIs (keys m) (id_of a.id) x) c.in-At.is c.find_missing-f.ensures)))
+    (subst (λ (x : Result ℕ ℕ). FoundIs (keys m) (id_of a.id) x) c.in-Ok.is c.find_missing-f.ensures)))
 
-pub returns-in-Before : goal.returns-in-Before
-returns-in-Before c =
+pub returns-in-Err : goal.returns-in-Err
+returns-in-Err c =
     let a = c.args in
     let m = (state_of a.h a.block.now).missing in
     sym (ap (λ (o : Option (List Hop)). is_some o) (lookup-between (id_of a.id) _ m
-    (subst (λ (x : Found). FoundIs (keys m) (id_of a.id) x) c.in-Before.is c.find_missing-f.ensures)))
+    (subst (λ (x : Result ℕ ℕ). FoundIs (keys m) (id_of a.id) x) c.in-Err.is c.find_missing-f.ensures)))

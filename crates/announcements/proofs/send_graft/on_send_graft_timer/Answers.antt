@@ -3,7 +3,7 @@ use mathlib.Core.Path.{sym, ◌∙◌, subst}
 use Rattle.storage.specs.Lists.Map.{keys}
 use Rattle.storage.specs.Rows.Ident.{id_of}
 use Rattle.storage.specs.Rows.Sorted.{FoundIs}
-use Rattle.storage.specs.declared.rows.table.Found.{Found}
+use Rattle.std.specs.Prelude.{ℕ, Result}
 use Rattle.block.specs.View.{state_of}
 use Rattle.steps.specs.Stands.{Stands}
 use Rattle.steps.proofs.StandsLaws.{received-order, missing-up}
@@ -38,24 +38,24 @@ ask_first-requires c =
     let ks = keys (state_of g.result g.new.block).missing in (
       asked-step a.h g.result a.block.now g.new.block (id_of a.id) c.requires.0.stands g.ensures a.instant.0 (sym c.is_received-received.ensures ∙ c.if-received.false) c.requires.0.fits,
       c.requires.1,
-      subst (λ (x : Found). FoundIs ks (id_of a.id) x) c.in-At.is c.find_missing-f.ensures,
+      subst (λ (x : Result ℕ ℕ). FoundIs ks (id_of a.id) x) c.in-Ok.is c.find_missing-f.ensures,
     )
 
-pub shape_of-block-in-At : goal.shape_of-block-in-At
-shape_of-block-in-At c =
+pub shape_of-block-in-Ok : goal.shape_of-block-in-Ok
+shape_of-block-in-Ok c =
     c.ask_first.auto.block ∙ c.forget_timer-a.auto.block
 
-pub returns-in-At : goal.returns-in-At
-returns-in-At c =
+pub returns-in-Ok : goal.returns-in-Ok
+returns-in-Ok c =
     let a = c.args in
     let g = c.forget_timer-a in
     let k = c.ask_first in
     asked-goes a.h g.result a.block.now g.new.block (id_of a.id) c.requires.0.stands g.ensures a.instant.0 k.result k.new.block (sym c.is_received-received.ensures ∙ c.if-received.false) k.ensures
 
-pub returns-in-Before : goal.returns-in-Before
-returns-in-Before c =
+pub returns-in-Err : goal.returns-in-Err
+returns-in-Err c =
     let a = c.args in
     let g = c.forget_timer-a in
     let ks = keys (state_of g.result g.new.block).missing in
     nobody-goes a.h g.result a.block.now g.new.block (id_of a.id) c.requires.0.stands g.ensures a.instant.0 _ (sym c.is_received-received.ensures ∙ c.if-received.false)
-    (subst (λ (x : Found). FoundIs ks (id_of a.id) x) c.in-Before.is c.find_missing-f.ensures)
+    (subst (λ (x : Result ℕ ℕ). FoundIs ks (id_of a.id) x) c.in-Err.is c.find_missing-f.ensures)

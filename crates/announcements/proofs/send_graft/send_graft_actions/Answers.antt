@@ -3,7 +3,7 @@ use mathlib.Core.Path.{sym, ◌∙◌, subst}
 use Rattle.storage.specs.Lists.Map.{keys}
 use Rattle.storage.specs.Rows.Ident.{id_of}
 use Rattle.storage.specs.Rows.Sorted.{Here, FoundIs}
-use Rattle.storage.specs.declared.rows.table.Found.{Found}
+use Rattle.std.specs.Prelude.{ℕ, Result}
 use Rattle.time_cache.proofs.Orders.{up_of}
 use Rattle.block.specs.View.{state_of}
 use Rattle.block.specs.MissingSteps.{hops_at}
@@ -27,23 +27,23 @@ pub ask_actions-requires : goal.ask_actions-requires
 ask_actions-requires c =
     let a = c.args in
     let st = state_of a.h a.block.now in
-    let here : Here (keys st.missing) (id_of a.id) c.in-At.i = subst (λ (x : Found). FoundIs (keys st.missing) (id_of a.id) x) c.in-At.is c.find_missing-f.ensures in (
+    let here : Here (keys st.missing) (id_of a.id) c.in-Ok.i = subst (λ (x : Result ℕ ℕ). FoundIs (keys st.missing) (id_of a.id) x) c.in-Ok.is c.find_missing-f.ensures in (
       c.requires.0,
       omega (arith, here.within, count-missed a.h a.block.now),
-      tellable-as (asks-sent a.instant.0 st (rooms_in st a.rooms.now) (id_of a.id) (hops_at st c.in-At.i) (sym c.received_then-received.ensures ∙ c.if-received.false) (announcers-here st (id_of a.id) c.in-At.i (up_of (keys st.missing) (missing-up a.h a.block.now c.requires.0)) here)) c.requires.1,
+      tellable-as (asks-sent a.instant.0 st (rooms_in st a.rooms.now) (id_of a.id) (hops_at st c.in-Ok.i) (sym c.received_then-received.ensures ∙ c.if-received.false) (announcers-here st (id_of a.id) c.in-Ok.i (up_of (keys st.missing) (missing-up a.h a.block.now c.requires.0)) here)) c.requires.1,
     )
 
-pub returns-in-At : goal.returns-in-At
-returns-in-At c =
+pub returns-in-Ok : goal.returns-in-Ok
+returns-in-Ok c =
     let a = c.args in
     let st = state_of a.h a.block.now in
-    let here : Here (keys st.missing) (id_of a.id) c.in-At.i = subst (λ (x : Found). FoundIs (keys st.missing) (id_of a.id) x) c.in-At.is c.find_missing-f.ensures in
-    written_as (sym (asks-sent a.instant.0 st (rooms_in st a.rooms.now) (id_of a.id) (hops_at st c.in-At.i) (sym c.received_then-received.ensures ∙ c.if-received.false) (announcers-here st (id_of a.id) c.in-At.i (up_of (keys st.missing) (missing-up a.h a.block.now c.requires.0)) here)))
+    let here : Here (keys st.missing) (id_of a.id) c.in-Ok.i = subst (λ (x : Result ℕ ℕ). FoundIs (keys st.missing) (id_of a.id) x) c.in-Ok.is c.find_missing-f.ensures in
+    written_as (sym (asks-sent a.instant.0 st (rooms_in st a.rooms.now) (id_of a.id) (hops_at st c.in-Ok.i) (sym c.received_then-received.ensures ∙ c.if-received.false) (announcers-here st (id_of a.id) c.in-Ok.i (up_of (keys st.missing) (missing-up a.h a.block.now c.requires.0)) here)))
     c.ask_actions.ensures
 
-pub returns-in-Before : goal.returns-in-Before
-returns-in-Before c =
+pub returns-in-Err : goal.returns-in-Err
+returns-in-Err c =
     let a = c.args in
     let st = state_of a.h a.block.now in
     written_as (sym (nobody-sent a.instant.0 st (rooms_in st a.rooms.now) (id_of a.id) _ (sym c.received_then-received.ensures ∙ c.if-received.false)
-    (subst (λ (x : Found). FoundIs (keys st.missing) (id_of a.id) x) c.in-Before.is c.find_missing-f.ensures))) (written_none a.out.now a.at)
+    (subst (λ (x : Result ℕ ℕ). FoundIs (keys st.missing) (id_of a.id) x) c.in-Err.is c.find_missing-f.ensures))) (written_none a.out.now a.at)

@@ -12,15 +12,12 @@ use Rattle.machine.proofs.actions_after.emit_neighbors.Goals.{Start}
 abbrev bytes : Start → List ℕ → List ℕ
 bytes s l = action_bytes (Emitted s.args.sender l Neighbors)
 
-pub content_part-content-requires : goal.content_part-content-requires
-content_part-content-requires c = c.requires.0.within
-
 pub emit-requires : goal.emit-requires
 emit-requires c =
     let a = c.args in
-    tellable-as (emit-one a.event.now a.sender a.start a.len ∙ sym (ap (bytes (goal.at.emit-requires c).Start) c.content_part-content.ensures)) c.requires.1
+    tellable-as (emit-one a.sender a.content.now ∙ sym (ap (bytes (goal.at.emit-requires c).Start) c.content_part-content.ensures)) c.requires.1
 
 pub returns : goal.returns
 returns c =
     let a = c.args in
-    written_as (ap (bytes (goal.at.returns c).Start) c.content_part-content.ensures ∙ sym (emit-one a.event.now a.sender a.start a.len)) c.emit.ensures
+    written_as (ap (bytes (goal.at.returns c).Start) c.content_part-content.ensures ∙ sym (emit-one a.sender a.content.now)) c.emit.ensures

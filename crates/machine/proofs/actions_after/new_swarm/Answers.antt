@@ -15,13 +15,10 @@ use Rattle.machine.proofs.actions_after.new_swarm.Goals.{Start}
 abbrev bytes : Start → List ℕ → List ℕ
 bytes s l = new_bytes s.args.instant.0 s.args.rooms.now s.args.sender (id_of s.args.id) l s.args.round.0 (state_of s.args.h s.args.block.now)
 
-pub content_part-content-requires : goal.content_part-content-requires
-content_part-content-requires c = c.requires.stands.1.within
-
 pub new_actions-requires : goal.new_actions-requires
 new_actions-requires c =
     let a = c.args in
-    record { stands = (c.requires.stands.0, near a.round.0 c.requires.stands.2 (omega (arith, c.well_formed.1.1.1.1.1.1.1.1.1.1.1.0))); tellable = tellable-as (sym (ap (bytes (goal.at.new_actions-requires c).Start) c.content_part-content.ensures)) c.requires.tellable }
+    record { stands = (c.requires.stands.0, near a.round.0 c.requires.stands.2 (omega (arith, c.well_formed))); tellable = tellable-as (sym (ap (bytes (goal.at.new_actions-requires c).Start) c.content_part-content.ensures)) c.requires.tellable }
 
 pub returns : goal.returns
 returns c =

@@ -14,9 +14,6 @@ use Rattle.machine.proofs.actions_after.send_broadcast.Goals.{Start}
 abbrev bytes : Start → List ℕ → List ℕ
 bytes s l = broadcast_bytes s.args.instant.0 s.args.rooms.now (id_of s.args.id) l (scope_value s.args.scope) (state_of s.args.h s.args.block.now)
 
-pub content_part-content-requires : goal.content_part-content-requires
-content_part-content-requires c = c.requires.stands.1.within
-
 pub broadcast_actions-requires : goal.broadcast_actions-requires
 broadcast_actions-requires c =
     record { stands = c.requires.stands.0; tellable = tellable-as (sym (ap (bytes (goal.at.broadcast_actions-requires c).Start) c.content_part-content.ensures)) c.requires.tellable }

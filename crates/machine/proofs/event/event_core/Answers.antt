@@ -5,8 +5,8 @@ use mathlib.Core.Path.{refl, sym, ap, subst, ◌∙◌}
 use lib.ListN.{length}
 use lib.Seq.{get_or-set_same}
 use Rattle.blake3.specs.Blake3.{identifier}
-use Rattle.postcard.specs.Events.{decoded_value, DecodedHeld}
-use Rattle.postcard.specs.declared.message.Decoded.{Decoded}
+use Rattle.postcard.specs.Decode.{faulty}
+use Rattle.postcard.proofs.FieldBack.{bytes-each}
 use Rattle.protocol.specs.Answer.{answer_block}
 use Rattle.block.specs.declared.head.Head.{Head}
 use Rattle.steps.proofs.SettledLaws.SizeLaws.{yes, no}
@@ -15,7 +15,7 @@ use Rattle.whole.proofs.HeldLaws.{wholly_of}
 use Rattle.machine.specs.Called.{counts_of, lent, call_of}
 use Rattle.machine.specs.Core.{Begun, core_rooms}
 use Rattle.machine.proofs.RunLaws.{refused-finds}
-use Rattle.machine.proofs.CoreLaws.{answer-5, answer-6, answer-fault, header-long, begun-of, core-finds}
+use Rattle.machine.proofs.CoreLaws.{answer-5, answer-6, answer-fault, header-long, begun-of, read-shortened, core-finds}
 use native.Mathlib.Omega.{arith}
 use Rattle.machine.proofs.event.event_core.Goals as goal
 
@@ -42,29 +42,29 @@ handle-requires c =
     let w = wholly_of a.block.now (yes c.is_whole-whole.ensures (ap not c.if-not-whole.false)) in
     let long : 33 < length a.rooms = omega arith in (
       subst (λ (g : Head). Begun g a.block.now a.instant.0) (sym c.load_head-h.ensures) (begun-of a.block.now w a.instant.0 c.if-instant-gt4611686018427387904.false),
-      subst (λ (v : Decoded). DecodedHeld a.event.now v) c.in-Event.is c.decode_event-d.ensures.held,
+      read-shortened a.event.now c.in-Ok.e (bytes-each a.event.now (λ i. omega (arith, c.type_inv.event i))) c.in-Ok.ensures.means c.in-Ok.ensures.sized,
       get_or-set_same a.rooms 33 c.event_peer.result 0 long ∙ c.event_peer.ensures,
     )
 
-pub returns-in-Event : goal.returns-in-Event
-returns-in-Event c =
+pub returns-in-Ok : goal.returns-in-Ok
+returns-in-Ok c =
     let a = c.args in
     let w = wholly_of a.block.now (yes c.is_whole-whole.ensures (ap not c.if-not-whole.false)) in
     record {
       room = refl;
       finds =
-          core-finds a.block.now a.event.now a.rooms a.out.now (counts_of a.c) c.load_head-h.result a.instant.0 c.in-Event.e c.event_peer.result
+          core-finds a.block.now a.event.now a.rooms a.out.now (counts_of a.c) c.load_head-h.result a.instant.0 c.in-Ok.e c.event_peer.result
           (lent a.block.now a.c a.out.now) (lent c.handle.new.block c.handle.result.stats c.handle.new.out) c.handle.result.number c.handle.result.length
-          w c.load_head-h.ensures c.if-instant-gt4611686018427387904.false (sym c.decode_event-d.ensures.same ∙ ap (decoded_value a.event.now) c.in-Event.is) c.event_peer.ensures c.handle.ensures;
+          w c.load_head-h.ensures c.if-instant-gt4611686018427387904.false c.in-Ok.ensures.means c.in-Ok.ensures.sized c.event_peer.ensures c.handle.ensures;
     }
 
-pub returns-in-Fault : goal.returns-in-Fault
-returns-in-Fault c =
+pub returns-in-Err : goal.returns-in-Err
+returns-in-Err c =
     let a = c.args in
     let w = wholly_of a.block.now (yes c.is_whole-whole.ensures (ap not c.if-not-whole.false)) in
     record {
       room = refl;
       finds =
-          refused-finds (answer_block identifier (length a.block.now) (held a.block.now) (counts_of a.c) (call_of a.instant.0 a.event.now (core_rooms a.block.now a.event.now a.rooms) a.out.now)) c.in-Fault.n a.block.now a.out.now a.c c.refused-in-Fault.result c.refused-in-Fault.ensures
-          (answer-fault a.block.now w (counts_of a.c) (call_of a.instant.0 a.event.now (core_rooms a.block.now a.event.now a.rooms) a.out.now) c.in-Fault.n c.if-instant-gt4611686018427387904.false (sym c.decode_event-d.ensures.same ∙ ap (decoded_value a.event.now) c.in-Fault.is));
+          refused-finds (answer_block identifier (length a.block.now) (held a.block.now) (counts_of a.c) (call_of a.instant.0 a.event.now (core_rooms a.block.now a.event.now a.rooms) a.out.now)) c.number.result a.block.now a.out.now a.c c.refused-in-Err.result c.refused-in-Err.ensures
+          (answer-fault a.block.now w (counts_of a.c) (call_of a.instant.0 a.event.now (core_rooms a.block.now a.event.now a.rooms) a.out.now) c.number.result c.if-instant-gt4611686018427387904.false (c.in-Err.ensures.means ∙ ap faulty (sym c.number.ensures)));
     }

@@ -5,7 +5,8 @@ use Rattle.block.specs.View.{state_of}
 use Rattle.machine.specs.Called.{counts_of, lent}
 use Rattle.postcard.specs.Message.{Fired}
 use Rattle.postcard.specs.Values.{timer_value}
-use Rattle.protocol.specs.Answer.{message_fits, counts_stay}
+use Rattle.protocol.specs.Answer.{counts_stay}
+use Rattle.machine.specs.Decided.{size_fits}
 use Rattle.machine.specs.Kinds.Meaning.{counted_for}
 use Rattle.machine.proofs.RunLaws.{asked_of, step-finds}
 use Rattle.machine.proofs.event.handle_timer.Goals as goal
@@ -14,13 +15,13 @@ pub run_step-requires : goal.run_step-requires
 run_step-requires c =
     let a = c.args in
     let st = state_of a.h a.block.now in
-    asked_of a.h a.block.now a.event.now a.rooms.now a.instant.0 c.timer_step-step.result (Fired (timer_value a.t)) c.requires.0 c.timer_step-step.ensures c.requires.1
+    asked_of a.h a.block.now a.rooms.now a.instant.0 c.timer_step-step.result (Fired (timer_value a.t)) c.requires.0 c.timer_step-step.ensures c.requires.1
 
 pub returns : goal.returns
-unfolding message_fits counts_stay counted_for
+unfolding size_fits counts_stay counted_for
 returns c =
     let a = c.args in
     let st = state_of a.h a.block.now in
-    step-finds a.h a.block.now a.event.now a.rooms.now a.instant.0 c.timer_step-step.result (Fired (timer_value a.t)) (counts_of a.c) (counts_of a.c) (length a.out.now)
+    step-finds a.h a.block.now a.rooms.now a.instant.0 c.timer_step-step.result 0 (Fired (timer_value a.t)) (counts_of a.c) (counts_of a.c) (length a.out.now)
     (lent a.block.now a.c a.out.now) (lent c.run_step.new.block c.run_step.result.stats c.run_step.new.out) c.run_step.result.number c.run_step.result.length
     c.timer_step-step.ensures refl refl refl c.run_step.ensures

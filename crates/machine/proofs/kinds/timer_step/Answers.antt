@@ -13,22 +13,22 @@ pub returns-in-SendGraft : goal.returns-in-SendGraft
 returns-in-SendGraft c =
     let a = c.args in
     let t = state_of a.h a.block.now in
-    subst (λ (v : Timer). Means a.event.now a.instant.0 t (step.SendGraft c.in-SendGraft.id) (Fired (timer_value v))) (sym c.in-SendGraft.is) (means-timer-graft a.event.now a.instant.0 t c.requires.consistent.core c.in-SendGraft.id)
+    subst (λ (v : Timer). Means a.instant.0 t (step.SendGraft c.in-SendGraft.id) (Fired (timer_value v))) (sym c.in-SendGraft.is) (means-timer-graft a.instant.0 t c.requires.consistent.core c.in-SendGraft.id)
 
 pub returns-in-DispatchLazyPush : goal.returns-in-DispatchLazyPush
 returns-in-DispatchLazyPush c =
     let a = c.args in
     let t = state_of a.h a.block.now in
-    subst (λ (v : Timer). Means a.event.now a.instant.0 t (step.DispatchLazyPush) (Fired (timer_value v))) (sym c.in-DispatchLazyPush.is) (means-timer-dispatch a.event.now a.instant.0 t c.requires.consistent.core)
+    subst (λ (v : Timer). Means a.instant.0 t (step.DispatchLazyPush) (Fired (timer_value v))) (sym c.in-DispatchLazyPush.is) (means-timer-dispatch a.instant.0 t c.requires.consistent.core)
 
 pub returns-in-EvictCache : goal.returns-in-EvictCache
 returns-in-EvictCache c =
     let a = c.args in
     let t = state_of a.h a.block.now in
-    subst (λ (v : Timer). Means a.event.now a.instant.0 t (step.EvictCache) (Fired (timer_value v))) (sym c.in-EvictCache.is) (means-timer-evict a.event.now a.instant.0 t c.requires.consistent.core)
+    subst (λ (v : Timer). Means a.instant.0 t (step.EvictCache) (Fired (timer_value v))) (sym c.in-EvictCache.is) (means-timer-evict a.instant.0 t c.requires.consistent.core)
 
 pub returns-in-AnnounceDropped : goal.returns-in-AnnounceDropped
 returns-in-AnnounceDropped c =
     let a = c.args in
     let t = state_of a.h a.block.now in
-    subst (λ (v : Timer). Means a.event.now a.instant.0 t (step.AnnounceDropped) (Fired (timer_value v))) (sym c.in-AnnounceDropped.is) (means-timer-announce a.event.now a.instant.0 t c.requires.consistent.core)
+    subst (λ (v : Timer). Means a.instant.0 t (step.AnnounceDropped) (Fired (timer_value v))) (sym c.in-AnnounceDropped.is) (means-timer-announce a.instant.0 t c.requires.consistent.core)

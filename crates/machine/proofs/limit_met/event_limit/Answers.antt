@@ -1,49 +1,44 @@
 -- `event_limit`: by the event.
-use mathlib.Core.Path.{sym, ap, subst, ◌∙◌}
-use lib.ListN.{length}
-use Rattle.postcard.specs.Events.{event_value, EventHeld}
-use Rattle.postcard.specs.declared.message.Event.{Event}
+use mathlib.Core.Path.{sym, ap, ◌∙◌}
+use Rattle.wire.specs.Reader.Values.{event_value}
+use Rattle.machine.specs.Core.{event_size}
+use Rattle.wire.specs.declared.reader.event.Event.{Event}
 use Rattle.block.specs.View.{state_of}
 use Rattle.steps.specs.Rooms.{rooms_in}
 use Rattle.machine.specs.LimitMet.Decided.{event_past}
-use Rattle.machine.proofs.LimitMetLaws.StepLaws.{up-bytes, down-past}
+use Rattle.machine.proofs.LimitMetLaws.StepLaws.{down-past}
 use Rattle.machine.proofs.limit_met.event_limit.Goals as goal
 
 pub message_limit-requires : goal.message_limit-requires
-message_limit-requires c =
-    (c.requires.0, subst (λ (v : Event). EventHeld c.args.event.now (length c.args.event.now) v) c.in-Received.is c.requires.1)
-
-pub broadcast_limit-requires : goal.broadcast_limit-requires
-broadcast_limit-requires c =
-    (c.requires.0, subst (λ (v : Event). EventHeld c.args.event.now (length c.args.event.now) v) c.in-Broadcast.is c.requires.1)
+message_limit-requires c = (c.requires.0, rw c.in-Received.is at c.requires.1)
 
 pub returns-in-Received : goal.returns-in-Received
 returns-in-Received c =
     let a = c.args in
     let st = state_of a.h a.block.now in
-    c.message_limit.ensures ∙ ap (λ (v : Event). event_past (rooms_in st a.rooms.now) a.instant.0 a.event.now (event_value a.event.now v) st) (sym c.in-Received.is)
+    c.message_limit.ensures ∙ ap (λ (v : Event). event_past (rooms_in st a.rooms.now) a.instant.0 (event_size v) (event_value v) st) (sym c.in-Received.is)
 
 pub returns-in-Broadcast : goal.returns-in-Broadcast
 returns-in-Broadcast c =
     let a = c.args in
     let st = state_of a.h a.block.now in
-    c.broadcast_limit.ensures ∙ ap (λ (v : Event). event_past (rooms_in st a.rooms.now) a.instant.0 a.event.now (event_value a.event.now v) st) (sym c.in-Broadcast.is)
+    c.broadcast_limit.ensures ∙ ap (λ (v : Event). event_past (rooms_in st a.rooms.now) a.instant.0 (event_size v) (event_value v) st) (sym c.in-Broadcast.is)
 
 pub returns-in-Timer : goal.returns-in-Timer
 returns-in-Timer c =
     let a = c.args in
     let st = state_of a.h a.block.now in
-    c.timer_limit.ensures ∙ ap (λ (v : Event). event_past (rooms_in st a.rooms.now) a.instant.0 a.event.now (event_value a.event.now v) st) (sym c.in-Timer.is)
+    c.timer_limit.ensures ∙ ap (λ (v : Event). event_past (rooms_in st a.rooms.now) a.instant.0 (event_size v) (event_value v) st) (sym c.in-Timer.is)
 
 pub returns-in-Up : goal.returns-in-Up
 returns-in-Up c =
     let a = c.args in
     let st = state_of a.h a.block.now in
-    c.up_limit.ensures ∙ up-bytes a.h a.block.now (rooms_in st a.rooms.now) a.instant.0 c.in-Up.peer a.event.now ∙ ap (λ (v : Event). event_past (rooms_in st a.rooms.now) a.instant.0 a.event.now (event_value a.event.now v) st) (sym c.in-Up.is)
+    c.up_limit.ensures ∙ ap (λ (v : Event). event_past (rooms_in st a.rooms.now) a.instant.0 (event_size v) (event_value v) st) (sym c.in-Up.is)
 
 pub returns-in-Down : goal.returns-in-Down
 returns-in-Down c =
     let a = c.args in
     let st = state_of a.h a.block.now in
-    down-past a.h a.block.now (rooms_in st a.rooms.now) a.instant.0 c.in-Down.field-0 a.event.now c.requires.0.sound
-    ∙ ap (λ (v : Event). event_past (rooms_in st a.rooms.now) a.instant.0 a.event.now (event_value a.event.now v) st) (sym c.in-Down.is)
+    down-past a.h a.block.now (rooms_in st a.rooms.now) a.instant.0 c.in-Down.field-0 c.requires.0.sound
+    ∙ ap (λ (v : Event). event_past (rooms_in st a.rooms.now) a.instant.0 (event_size v) (event_value v) st) (sym c.in-Down.is)

@@ -1,14 +1,15 @@
 -- `limit_met`: questions 5 to 9, then the event.
 use mathlib.Core.Bool.{not}
-use mathlib.Core.Path.{sym, ap, subst, ◌∙◌}
-use Rattle.postcard.specs.Events.{decoded_value, DecodedHeld}
-use Rattle.postcard.specs.declared.message.Decoded.{Decoded}
+use mathlib.Core.Path.{sym, ap, subst}
+use native.Mathlib.Omega.{arith}
+use Rattle.postcard.proofs.FieldBack.{bytes-each}
+use Rattle.wire.specs.Reader.Gives.{number_of}
 use Rattle.block.specs.declared.head.Head.{Head}
 use Rattle.steps.specs.Stands.{Stands}
 use Rattle.steps.proofs.SettledLaws.SizeLaws.{yes, no}
 use Rattle.whole.proofs.HeldLaws.{wholly_of}
 use Rattle.machine.specs.Core.{core_rooms}
-use Rattle.machine.proofs.CoreLaws.{header-long, begun-of}
+use Rattle.machine.proofs.CoreLaws.{header-long, begun-of, read-shortened}
 use Rattle.machine.specs.LimitMet.LimitMet.{asking}
 use Rattle.machine.proofs.LimitMetLaws.LimitLaws.{limit-5, limit-6, limit-fault, core-limit}
 use Rattle.machine.proofs.limit_met.limit_met.Goals as goal
@@ -33,18 +34,18 @@ event_limit-requires c =
     let a = c.args in
     let w = wholly_of a.block.now (yes c.is_whole-whole.ensures (ap not c.if-not-whole.false)) in (
       subst (λ (g : Head). Stands g a.block.now) (sym c.load_head-h.ensures) (begun-of a.block.now w a.instant.0 c.if-instant-gt4611686018427387904.false).stands,
-      subst (λ (v : Decoded). DecodedHeld a.event.now v) c.in-Event.is c.decode_event-d.ensures.held,
+      read-shortened a.event.now c.in-Ok.e (bytes-each a.event.now (λ i. omega (arith, c.type_inv.event i))) c.in-Ok.ensures.means c.in-Ok.ensures.sized,
     )
 
-pub returns-in-Event : goal.returns-in-Event
-returns-in-Event c =
+pub returns-in-Ok : goal.returns-in-Ok
+returns-in-Ok c =
     let a = c.args in
     let w = wholly_of a.block.now (yes c.is_whole-whole.ensures (ap not c.if-not-whole.false)) in
-    core-limit a.block.now a.event.now a.rooms c.load_head-h.result a.instant.0 c.in-Event.e c.event_peer.result c.event_limit.result w c.load_head-h.ensures c.if-instant-gt4611686018427387904.false
-    (sym c.decode_event-d.ensures.same ∙ ap (decoded_value a.event.now) c.in-Event.is) c.event_peer.ensures c.event_limit.ensures
+    core-limit a.block.now a.event.now a.rooms c.load_head-h.result a.instant.0 c.in-Ok.e c.event_peer.result c.event_limit.result w c.load_head-h.ensures c.if-instant-gt4611686018427387904.false
+    c.in-Ok.ensures.means c.in-Ok.ensures.sized c.event_peer.ensures c.event_limit.ensures
 
-pub returns-in-Fault : goal.returns-in-Fault
-returns-in-Fault c =
+pub returns-in-Err : goal.returns-in-Err
+returns-in-Err c =
     let a = c.args in
     let w = wholly_of a.block.now (yes c.is_whole-whole.ensures (ap not c.if-not-whole.false)) in
-    sym (limit-fault a.block.now w (asking a.instant.0 a.event.now (core_rooms a.block.now a.event.now a.rooms)) c.in-Fault.field-0 c.if-instant-gt4611686018427387904.false (sym c.decode_event-d.ensures.same ∙ ap (decoded_value a.event.now) c.in-Fault.is))
+    sym (limit-fault a.block.now w (asking a.instant.0 a.event.now (core_rooms a.block.now a.event.now a.rooms)) (number_of c.in-Err.field-0) c.if-instant-gt4611686018427387904.false c.in-Err.ensures.means)

@@ -4,7 +4,7 @@ use native.Mathlib.Omega.{arith}
 use Rattle.storage.specs.Lists.Map.{keys}
 use Rattle.storage.specs.Rows.Ident.{id_of}
 use Rattle.storage.specs.Rows.Sorted.{FoundIs}
-use Rattle.storage.specs.declared.rows.table.Found.{Found}
+use Rattle.std.specs.Prelude.{ℕ, Result}
 use Rattle.block.specs.View.{state_of}
 use Rattle.block.proofs.MissingLaws.{count-missed}
 use Rattle.machine.proofs.SizesAfterLaws.Waiting.{missing-there, missing-absent}
@@ -14,17 +14,17 @@ pub overflow_sub-result : goal.overflow_sub-result
 overflow_sub-result c =
     let a = c.args in
     let st = state_of a.h a.block.now in
-    let here = subst (λ (x : Found). FoundIs (keys st.missing) (id_of a.id) x) c.in-At.is c.find_missing-f.ensures in
+    let here = subst (λ (x : Result ℕ ℕ). FoundIs (keys st.missing) (id_of a.id) x) c.in-Ok.is c.find_missing-f.ensures in
     omega (arith, here.within, count-missed a.h a.block.now)
 
-pub returns-in-At : goal.returns-in-At
-returns-in-At c =
+pub returns-in-Ok : goal.returns-in-Ok
+returns-in-Ok c =
     let a = c.args in
     let st = state_of a.h a.block.now in
-    missing-there a.h a.block.now (id_of a.id) _ c.requires (subst (λ (x : Found). FoundIs (keys st.missing) (id_of a.id) x) c.in-At.is c.find_missing-f.ensures)
+    missing-there a.h a.block.now (id_of a.id) _ c.requires (subst (λ (x : Result ℕ ℕ). FoundIs (keys st.missing) (id_of a.id) x) c.in-Ok.is c.find_missing-f.ensures)
 
-pub returns-in-Before : goal.returns-in-Before
-returns-in-Before c =
+pub returns-in-Err : goal.returns-in-Err
+returns-in-Err c =
     let a = c.args in
     let st = state_of a.h a.block.now in
-    missing-absent a.h a.block.now (id_of a.id) _ (subst (λ (x : Found). FoundIs (keys st.missing) (id_of a.id) x) c.in-Before.is c.find_missing-f.ensures)
+    missing-absent a.h a.block.now (id_of a.id) _ (subst (λ (x : Result ℕ ℕ). FoundIs (keys st.missing) (id_of a.id) x) c.in-Err.is c.find_missing-f.ensures)

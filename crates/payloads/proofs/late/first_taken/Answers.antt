@@ -2,19 +2,19 @@
 use mathlib.Core.Path.{subst}
 use Rattle.storage.specs.Lists.Map.{keys}
 use Rattle.storage.specs.Rows.Sorted.{FoundIs, Here}
-use Rattle.storage.specs.declared.rows.table.Found.{Found}
+use Rattle.std.specs.Prelude.{ℕ, Result}
 use Rattle.block.specs.View.{state_of}
 use Rattle.block.proofs.LinkLaws.{count-peers}
 use Rattle.payloads.proofs.LateLaws.LateLaws.{taken-link, taken-stranger}
 use native.Mathlib.Omega.{arith}
 use Rattle.payloads.proofs.late.first_taken.Goals as goal
-use Rattle.payloads.proofs.late.first_taken.Goals.{In-At}
+use Rattle.payloads.proofs.late.first_taken.Goals.{In-Ok}
 
 -- the link that was found
-there : (c : In-At) → Here (keys (state_of c.args.h c.args.block.now).links) c.args.peer c.in-At.i
+there : (c : In-Ok) → Here (keys (state_of c.args.h c.args.block.now).links) c.args.peer c.in-Ok.i
 there c =
     let a = c.args in
-    subst (λ (o : Found). FoundIs (keys (state_of a.h a.block.now).links) a.peer o) c.in-At.is c.find_link-f.ensures
+    subst (λ (o : Result ℕ ℕ). FoundIs (keys (state_of a.h a.block.now).links) a.peer o) c.in-Ok.is c.find_link-f.ensures
 
 pub offset_bounds-rooms-i : goal.offset_bounds-rooms-i
 offset_bounds-rooms-i c =
@@ -22,15 +22,15 @@ offset_bounds-rooms-i c =
 
 pub bounds-rooms-i : goal.bounds-rooms-i
 bounds-rooms-i c =
-    omega (arith, (there (goal.at.bounds-rooms-i c).In-At).within, count-peers c.args.h c.args.block.now, c.requires.0.sound.fit.within.links, c.requires.0.sound.fit.ceilings.N)
+    omega (arith, (there (goal.at.bounds-rooms-i c).In-Ok).within, count-peers c.args.h c.args.block.now, c.requires.0.sound.fit.within.links, c.requires.0.sound.fit.ceilings.N)
 
-pub returns-in-At : goal.returns-in-At
-returns-in-At c =
-    taken-link c.args.h c.args.block.now c.args.rooms.now c.requires.0 c.args.peer c.in-At.i (there (goal.at.returns-in-At c).In-At)
+pub returns-in-Ok : goal.returns-in-Ok
+returns-in-Ok c =
+    taken-link c.args.h c.args.block.now c.args.rooms.now c.requires.0 c.args.peer c.in-Ok.i (there (goal.at.returns-in-Ok c).In-Ok)
 
-pub returns-in-Before : goal.returns-in-Before
-returns-in-Before c =
+pub returns-in-Err : goal.returns-in-Err
+returns-in-Err c =
     let a = c.args in
     taken-stranger a.h a.block.now a.rooms.now c.requires.0 a.peer _
-    (subst (λ (o : Found). FoundIs (keys (state_of a.h a.block.now).links) a.peer o) c.in-Before.is c.find_link-f.ensures)
+    (subst (λ (o : Result ℕ ℕ). FoundIs (keys (state_of a.h a.block.now).links) a.peer o) c.in-Err.is c.find_link-f.ensures)
     c.requires.1

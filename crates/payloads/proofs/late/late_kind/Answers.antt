@@ -4,7 +4,7 @@ use Prim.Native.Nat.{ℕ}
 use Rattle.storage.specs.Lists.Map.{keys}
 use Rattle.storage.specs.Rows.Ident.{id_of}
 use Rattle.storage.specs.Rows.Sorted.{FoundIs, Here}
-use Rattle.storage.specs.declared.rows.table.Found.{Found}
+use Rattle.std.specs.Prelude.{Result}
 use Rattle.block.specs.View.{state_of}
 use Rattle.block.proofs.LinkLaws.{count-peers}
 use Rattle.block.specs.Caches.GraftSteps.{grafts_at}
@@ -18,7 +18,7 @@ use Rattle.steps.specs.Settled.Then.{no_grafts}
 use Rattle.payloads.proofs.LateLaws.LateLaws.{held_below, kind-none, kind-held, kind-stranger}
 use native.Mathlib.Omega.{arith}
 use Rattle.payloads.proofs.late.late_kind.Goals as goal
-use Rattle.payloads.proofs.late.late_kind.Goals.{In-At, In-At-f}
+use Rattle.payloads.proofs.late.late_kind.Goals.{In-At, In-Ok}
 
 -- the grafted message that was found
 entry-held : (c : In-At) → HeldAt no_grafts (state_of c.args.h c.args.block.now).grafted.entries (id_of c.args.id) (get (id_of c.args.id) (settled c.args.instant.0 (state_of c.args.h c.args.block.now)).grafted) c.in-At.g
@@ -28,33 +28,33 @@ entry-held c =
     subst (λ (o : Held). HeldIs no_grafts st.grafted.entries (id_of a.id) (get (id_of a.id) (settled a.instant.0 st).grafted) o) c.in-At.is c.grafted_then-held.ensures
 
 -- the link that was found
-link-found : (c : In-At-f) → Here (keys (state_of c.args.h c.args.block.now).links) c.args.sender c.in-At-f.link
+link-found : (c : In-Ok) → Here (keys (state_of c.args.h c.args.block.now).links) c.args.sender c.in-Ok.link
 link-found c =
     let a = c.args in
-    subst (λ (o : Found). FoundIs (keys (state_of a.h a.block.now).links) a.sender o) c.in-At-f.is c.find_link-f.ensures
+    subst (λ (o : Result ℕ ℕ). FoundIs (keys (state_of a.h a.block.now).links) a.sender o) c.in-Ok.is c.find_link-f.ensures
 
 pub late_from-requires : goal.late_from-requires
 late_from-requires c =
     (c.requires, held_below c.args.h c.args.block.now c.requires (id_of c.args.id) _ c.in-At.g (entry-held (goal.at.late_from-requires c).In-At), omega (arith, (link-found c).within, count-peers c.args.h c.args.block.now))
 
-pub returns-in-At-f : goal.returns-in-At-f
-returns-in-At-f c =
+pub returns-in-Ok : goal.returns-in-Ok
+returns-in-Ok c =
     let a = c.args in
     let st = state_of a.h a.block.now in
     let g = grafts_at st c.in-At.g in
     record {
       same = c.late_from.ensures.same
-          ∙ ap (λ (n : ℕ). late_from n (delivery_value a.delivery) st.links g g.first) (link-found (goal.at.returns-in-At-f c).In-At-f).same
-          ∙ kind-held a.h a.block.now c.requires a.instant.0 a.sender (delivery_value a.delivery) (id_of a.id) c.in-At.g (entry-held (goal.at.returns-in-At-f c).In-At);
+          ∙ ap (λ (n : ℕ). late_from n (delivery_value a.delivery) st.links g g.first) (link-found (goal.at.returns-in-Ok c).In-Ok).same
+          ∙ kind-held a.h a.block.now c.requires a.instant.0 a.sender (delivery_value a.delivery) (id_of a.id) c.in-At.g (entry-held (goal.at.returns-in-Ok c).In-At);
       below = c.late_from.ensures.below;
     }
 
-pub returns-in-Before : goal.returns-in-Before
-returns-in-Before c =
+pub returns-in-Err : goal.returns-in-Err
+returns-in-Err c =
     let a = c.args in
     record {
-      same = kind-stranger a.h a.block.now c.requires a.instant.0 a.sender (delivery_value a.delivery) (id_of a.id) c.in-At.g (entry-held (goal.at.returns-in-Before c).In-At) _
-          (subst (λ (o : Found). FoundIs (keys (state_of a.h a.block.now).links) a.sender o) c.in-Before.is c.find_link-f.ensures);
+      same = kind-stranger a.h a.block.now c.requires a.instant.0 a.sender (delivery_value a.delivery) (id_of a.id) c.in-At.g (entry-held (goal.at.returns-in-Err c).In-At) _
+          (subst (λ (o : Result ℕ ℕ). FoundIs (keys (state_of a.h a.block.now).links) a.sender o) c.in-Err.is c.find_link-f.ensures);
       below = tt;
     }
 

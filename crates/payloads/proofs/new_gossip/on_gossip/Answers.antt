@@ -40,7 +40,7 @@ close-requires c =
     let t = c.take_in-a in
     let a = c.args in
     let q = close-asks a.instant.0 a.rooms.now a.sender (id_of a.id) a.content.now a.round.0 (a.round.0 + 1) (add-one a.round.0) a.h a.block.now c.requires.0 c.requires.1 t.result t.new.block t.ensures f.new.block f.ensures p.result p.new.block p.ensures l.result l.new.block l.ensures in
-    (q.0, q.1, c.requires.2)
+    (q.0, q.1, omega (arith, c.requires.2, c.well_formed))
 
 pub shape_of-block : goal.shape_of-block
 shape_of-block c =

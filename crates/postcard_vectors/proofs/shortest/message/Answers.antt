@@ -18,4 +18,4 @@ within (told bytes) before after number written l =
 
 pub slice_bounds-content-end : goal.slice_bounds-content-end
 slice_bounds-content-end g c =
-    within (rewrite c.args.bytes.now (length c.args.out.now)) c.args.out.now c.rewrite-written.new.out 0 _ c.in-Shortest.ensures
+    within (rewrite c.args.bytes.now (length c.args.out.now)) c.args.out.now c.rewrite.new.out 0 _ c.in-Ok.ensures

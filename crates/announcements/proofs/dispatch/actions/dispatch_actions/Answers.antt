@@ -1,5 +1,5 @@
 -- `actions::dispatch_actions` meets its contract. The loop's invariant: what was written and what the links from l on have to add make the whole.
-use Prim.Native.Nat.{ℕ, ◌+◌, ◌-◌, ◌<◌}
+use Prim.Native.Nat.{ℕ, ◌+◌, ◌<◌}
 use native.Mathlib.Omega.{arith}
 use mathlib.Core.List.{◌∷◌}
 use mathlib.Core.Path.{◌≡◌, refl, ap}

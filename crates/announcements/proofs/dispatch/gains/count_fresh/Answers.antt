@@ -1,6 +1,6 @@
 -- `gains::count_fresh` meets its contract. The loop's invariant: `seen` of the entries passed are queued for the link, of those handed back `found`
 -- would be added, and they have their marks, as have those that are recorded for the link.
-use Prim.Native.Nat.{ℕ, ◌+◌, ◌≤◌, ◌-◌, ◌<◌}
+use Prim.Native.Nat.{ℕ, ◌+◌, ◌≤◌, ◌<◌}
 use native.Mathlib.Omega.{arith}
 use borrow.Author.Rules.{rules}
 use mathlib.Core.Bool.{Bool, true, false, ◌||◌}

@@ -1,5 +1,5 @@
 -- `gains::dispatch_gains` meets its contract. The loop's invariant: `extra` is by how much the record grows for the first l links, and with it the record is within 4,096.
-use Prim.Native.Nat.{ℕ, ◌+◌, ◌*◌, ◌≤◌, ◌-◌, ◌<◌}
+use Prim.Native.Nat.{ℕ, ◌+◌, ◌*◌, ◌≤◌, ◌<◌}
 use native.Mathlib.Omega.{arith}
 use borrow.Author.Rules.{rules}
 use mathlib.Core.Bool.{Bool}

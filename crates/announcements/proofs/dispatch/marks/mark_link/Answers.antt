@@ -1,5 +1,5 @@
 -- `marks::mark_link` meets its contract. The loop's invariant: what the first i rows of the record hold for the link is marked.
-use Prim.Native.Nat.{ℕ, ◌+◌, ◌-◌, ◌<◌}
+use Prim.Native.Nat.{ℕ, ◌+◌, ◌<◌}
 use native.Mathlib.Omega.{arith}
 use borrow.Author.Rules.{rules}
 use mathlib.Core.Logic.{inl, inr, ⊎_elim}

@@ -6,11 +6,11 @@ pub step_state-requires : goal.step_state-requires
 step_state-requires c =
     let a = c.args in
     let f = c.first_event-g in
-    first-stepping a.event.now a.rooms.now a.instant.0 a.step a.h a.block.now c.requires f.result f.new.block f.ensures
+    first-stepping a.rooms.now a.instant.0 a.step a.h a.block.now c.requires f.result f.new.block f.ensures
 
 pub returns : goal.returns
 returns c =
     let a = c.args in
     let f = c.first_event-g in
     let k = c.step_state in
-    call-goes a.event.now a.rooms.now a.instant.0 a.step a.h a.block.now c.requires f.result f.new.block f.ensures k.result k.new.block k.ensures
+    call-goes a.rooms.now a.instant.0 a.step a.h a.block.now c.requires f.result f.new.block f.ensures k.result k.new.block k.ensures

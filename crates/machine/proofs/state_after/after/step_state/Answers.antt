@@ -1,11 +1,12 @@
 -- `after::step_state` meets its contract: each arm is its step.
-use Rattle.machine.proofs.StateAfterLaws.StepLaws.{new-asks, new-held, new-near, new-goes, late-goes, prune-low, prune-goes, graft-low, graft-asks, graft-steps, ihave-low, ihave-entries, ihave-asks, ihave-goes, broadcast-held, broadcast-asks, broadcast-goes, send-graft-asks, send-graft-goes, dispatch-asks, dispatch-goes, evict-goes, announce-asks, announce-steps, nothing-goes, neighbors-goes, broadcast-neighbors-goes}
+use Rattle.machine.proofs.StateAfterLaws.StepLaws.{new-asks, new-near, new-goes, late-goes, prune-low, prune-goes, graft-low, graft-asks, graft-steps, ihave-low, ihave-asks, ihave-goes, broadcast-asks, broadcast-goes, send-graft-asks, send-graft-goes, dispatch-asks, dispatch-goes, evict-goes, announce-asks, announce-steps, nothing-goes, neighbors-goes, broadcast-neighbors-goes}
+use borrow.Author.Tests.{eqb-false}
 use Rattle.machine.proofs.state_after.after.step_state.Goals as goal
 
-pub new_swarm-requires : goal.new_swarm-requires
-new_swarm-requires c =
+pub on_gossip-requires : goal.on_gossip-requires
+on_gossip-requires c =
     let e = c.in-NewSwarm.is in
-    (new-asks c.requires e, c.requires.begun, new-held c.requires e, new-near c.requires e, c.requires.early)
+    (new-asks c.requires e, c.requires.begun, eqb-false c.in-NewSwarm.round.0 65535 (new-near c.requires e), c.requires.early)
 
 pub on_late_graft_reply-requires : goal.on_late_graft_reply-requires
 on_late_graft_reply-requires c =
@@ -24,12 +25,12 @@ on_graft-requires c =
 pub on_ihave-requires : goal.on_ihave-requires
 on_ihave-requires c =
     let e = c.in-IHave.is in
-    (ihave-asks c.requires e, ihave-low c.requires e, ihave-entries c.requires e)
+    (ihave-asks c.requires e, ihave-low c.requires e)
 
-pub broadcast_swarm-requires : goal.broadcast_swarm-requires
-broadcast_swarm-requires c =
+pub broadcast-requires : goal.broadcast-requires
+broadcast-requires c =
     let e = c.in-BroadcastSwarm.is in
-    (broadcast-asks c.requires e, broadcast-held c.requires e, c.requires.early)
+    (broadcast-asks c.requires e, c.requires.early)
 
 pub on_send_graft_timer-requires : goal.on_send_graft_timer-requires
 on_send_graft_timer-requires c =
@@ -52,7 +53,7 @@ returns-in-Nothing c =
 
 pub returns-in-NewSwarm : goal.returns-in-NewSwarm
 returns-in-NewSwarm c =
-    new-goes c.requires c.in-NewSwarm.is c.new_swarm.ensures
+    new-goes c.requires c.in-NewSwarm.is c.on_gossip.ensures
 
 pub returns-in-NewNeighbors : goal.returns-in-NewNeighbors
 returns-in-NewNeighbors c =
@@ -76,7 +77,7 @@ returns-in-IHave c =
 
 pub returns-in-BroadcastSwarm : goal.returns-in-BroadcastSwarm
 returns-in-BroadcastSwarm c =
-    broadcast-goes c.requires c.in-BroadcastSwarm.is c.broadcast_swarm.ensures
+    broadcast-goes c.requires c.in-BroadcastSwarm.is c.broadcast.ensures
 
 pub returns-in-BroadcastNeighbors : goal.returns-in-BroadcastNeighbors
 returns-in-BroadcastNeighbors c =

@@ -7,19 +7,19 @@ use lib.ListN.{length-map}
 use Rattle.storage.specs.Lists.Map.{keys}
 use Rattle.storage.specs.Rows.Ident.{id_of}
 use Rattle.storage.specs.Rows.Sorted.{FoundIs, Here}
-use Rattle.storage.specs.declared.rows.table.Found.{Found}
+use Rattle.std.specs.Prelude.{Result}
 use Rattle.block.specs.View.{state_of}
 use Rattle.block.proofs.CachesLaws.CachedLaws.{count-cached}
 use Rattle.payloads.proofs.EagerLaws.ReplyLaws.{reply-none, reply-taken, reply-asks, reply-noted}
 use Rattle.payloads.proofs.eager.reply.reply.Goals as goal
-use Rattle.payloads.proofs.eager.reply.reply.Goals.{In-At, Start}
+use Rattle.payloads.proofs.eager.reply.reply.Goals.{In-Ok, Start}
 
 abbrev ids : Start → List ℕ
 ids s = keys (state_of s.args.h s.args.block.now).cache.entries
 
-here : (c : In-At) → Here (ids (goal.at.In-At c).Start) (id_of c.args.id) c.in-At.i
+here : (c : In-Ok) → Here (ids (goal.at.In-Ok c).Start) (id_of c.args.id) c.in-Ok.i
 here c =
-    subst (λ (x : Found). FoundIs (ids (goal.at.In-At c).Start) (id_of c.args.id) x) c.in-At.is c.find_cached-f.ensures
+    subst (λ (x : Result ℕ ℕ). FoundIs (ids (goal.at.In-Ok c).Start) (id_of c.args.id) x) c.in-Ok.is c.find_cached-f.ensures
 
 pub find_cached-f-requires : goal.find_cached-f-requires
 find_cached-f-requires c =
@@ -39,21 +39,21 @@ is_taken-taken-requires c =
 pub returns-then-taken : goal.returns-then-taken
 returns-then-taken c =
     let a = c.args in
-    reply-taken a.rooms.now a.link (id_of a.id) a.h a.block.now c.requires c.in-At.i (here (goal.at.returns-then-taken c).In-At) (sym c.is_taken-taken.ensures ∙ c.if-taken.true)
+    reply-taken a.rooms.now a.link (id_of a.id) a.h a.block.now c.requires c.in-Ok.i (here (goal.at.returns-then-taken c).In-Ok) (sym c.is_taken-taken.ensures ∙ c.if-taken.true)
 
 pub note_dropped-requires : goal.note_dropped-requires
 note_dropped-requires c =
     let a = c.args in
-    reply-asks a.rooms.now a.link (id_of a.id) a.h a.block.now c.requires c.in-At.i (here (goal.at.note_dropped-requires c).In-At) c.cached_round-round.result.0 c.cached_round-round.ensures (sym c.is_taken-taken.ensures ∙ c.if-taken.false)
+    reply-asks a.rooms.now a.link (id_of a.id) a.h a.block.now c.requires c.in-Ok.i (here (goal.at.note_dropped-requires c).In-Ok) c.cached_round-round.result.0 c.cached_round-round.ensures (sym c.is_taken-taken.ensures ∙ c.if-taken.false)
 
 pub returns-else-taken : goal.returns-else-taken
 returns-else-taken c =
     let a = c.args in
-    reply-noted a.rooms.now a.link (id_of a.id) a.h a.block.now c.requires c.in-At.i (here (goal.at.returns-else-taken c).In-At) c.cached_round-round.result.0 c.cached_round-round.ensures (sym c.is_taken-taken.ensures ∙ c.if-taken.false)
+    reply-noted a.rooms.now a.link (id_of a.id) a.h a.block.now c.requires c.in-Ok.i (here (goal.at.returns-else-taken c).In-Ok) c.cached_round-round.result.0 c.cached_round-round.ensures (sym c.is_taken-taken.ensures ∙ c.if-taken.false)
     c.note_dropped.result c.note_dropped.new.block c.note_dropped.ensures
 
-pub returns-in-Before : goal.returns-in-Before
-returns-in-Before c =
+pub returns-in-Err : goal.returns-in-Err
+returns-in-Err c =
     let a = c.args in
     reply-none a.rooms.now a.link (id_of a.id) a.h a.block.now c.requires _
-    (subst (λ (x : Found). FoundIs (ids (goal.at.returns-in-Before c).Start) (id_of a.id) x) c.in-Before.is c.find_cached-f.ensures)
+    (subst (λ (x : Result ℕ ℕ). FoundIs (ids (goal.at.returns-in-Err c).Start) (id_of a.id) x) c.in-Err.is c.find_cached-f.ensures)

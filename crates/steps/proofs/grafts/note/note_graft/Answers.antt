@@ -6,7 +6,7 @@ use lib.ListN.{length-map}
 use Rattle.storage.specs.Lists.Map.{Entry, keys}
 use Rattle.storage.specs.Rows.Ident.{id_of}
 use Rattle.storage.specs.Rows.Sorted.{Here, FoundIs}
-use Rattle.storage.specs.declared.rows.table.Found.{Found}
+use Rattle.std.specs.Prelude.{Result}
 use Rattle.time_cache.specs.TimeCache.{Timed}
 use Rattle.time_cache.proofs.Orders.{up_of}
 use Rattle.protocol.specs.State.{State, Grafts}
@@ -15,7 +15,7 @@ use Rattle.block.proofs.CachesLaws.GraftedLaws.{count-grafted}
 use Rattle.steps.proofs.GraftsLaws.NoteLaws.{noted_here, noted-new, new-most}
 use native.Mathlib.Omega.{arith}
 use Rattle.steps.proofs.grafts.note.note_graft.Goals as goal
-use Rattle.steps.proofs.grafts.note.note_graft.Goals.{In-At, Start}
+use Rattle.steps.proofs.grafts.note.note_graft.Goals.{In-Ok, Start}
 
 abbrev state : Start → State
 state s = state_of s.args.h s.args.block.now
@@ -27,8 +27,8 @@ abbrev id : Start → ℕ
 id s = id_of s.args.id
 
 -- where the search found the identifier, or would have
-here : (c : In-At) → Here (ids (goal.at.In-At c).Start) (id (goal.at.In-At c).Start) c.in-At.i
-here c = subst (λ (x : Found). FoundIs (ids (goal.at.In-At c).Start) (id (goal.at.In-At c).Start) x) c.in-At.is c.find_grafted-f.ensures
+here : (c : In-Ok) → Here (ids (goal.at.In-Ok c).Start) (id (goal.at.In-Ok c).Start) c.in-Ok.i
+here c = subst (λ (x : Result ℕ ℕ). FoundIs (ids (goal.at.In-Ok c).Start) (id (goal.at.In-Ok c).Start) x) c.in-Ok.is c.find_grafted-f.ensures
 
 pub find_grafted-f-requires : goal.find_grafted-f-requires
 find_grafted-f-requires c = (c.requires.0.sound, c.requires.0.order)
@@ -36,24 +36,24 @@ find_grafted-f-requires c = (c.requires.0.sound, c.requires.0.order)
 pub graft_at_entry-requires : goal.graft_at_entry-requires
 graft_at_entry-requires c =
     let st = state (goal.at.graft_at_entry-requires c).Start in
-    (c.requires.0, omega (arith, (here (goal.at.graft_at_entry-requires c).In-At).within, length-map st.grafted.entries (λ (e : Entry (Timed Grafts)). e.key), count-grafted c.args.h c.args.block.now c.requires.0.sound.fit), c.requires.1)
+    (c.requires.0, omega (arith, (here (goal.at.graft_at_entry-requires c).In-Ok).within, length-map st.grafted.entries (λ (e : Entry (Timed Grafts)). e.key), count-grafted c.args.h c.args.block.now c.requires.0.sound.fit), c.requires.1)
 
 pub graft_anew-requires : goal.graft_anew-requires
 graft_anew-requires c =
     let a = c.args in
     let st = state (goal.at.graft_anew-requires c).Start in
-    let b = subst (λ (x : Found). FoundIs (ids (goal.at.graft_anew-requires c).Start) (id_of a.id) x) c.in-Before.is c.find_grafted-f.ensures in
+    let b = subst (λ (x : Result ℕ ℕ). FoundIs (ids (goal.at.graft_anew-requires c).Start) (id_of a.id) x) c.in-Err.is c.find_grafted-f.ensures in
     (c.requires.0.sound, c.requires.0.order, c.requires.1, new-most st (id_of a.id) a.link a.round.0 a.expires.0 _ b a.h.limits.grafted (up_of (ids (goal.at.graft_anew-requires c).Start) c.requires.0.order.up) c.requires.2)
 
-pub returns-in-At : goal.returns-in-At
-returns-in-At c =
+pub returns-in-Ok : goal.returns-in-Ok
+returns-in-Ok c =
     let a = c.args in
     let g = c.graft_at_entry.ensures in
-    record { state = g.state ∙ noted_here (state (goal.at.returns-in-At c).Start) (id_of a.id) a.link a.round.0 a.expires.0 c.in-At.i (up_of (ids (goal.at.returns-in-At c).Start) c.requires.0.order.up) (here (goal.at.returns-in-At c).In-At); sound = g.sound }
+    record { state = g.state ∙ noted_here (state (goal.at.returns-in-Ok c).Start) (id_of a.id) a.link a.round.0 a.expires.0 c.in-Ok.i (up_of (ids (goal.at.returns-in-Ok c).Start) c.requires.0.order.up) (here (goal.at.returns-in-Ok c).In-Ok); sound = g.sound }
 
-pub returns-in-Before : goal.returns-in-Before
-returns-in-Before c =
+pub returns-in-Err : goal.returns-in-Err
+returns-in-Err c =
     let a = c.args in
     let g = c.graft_anew.ensures in
-    let b = subst (λ (x : Found). FoundIs (ids (goal.at.returns-in-Before c).Start) (id_of a.id) x) c.in-Before.is c.find_grafted-f.ensures in
-    record { state = g.state ∙ noted-new (state (goal.at.returns-in-Before c).Start) (id_of a.id) a.link a.round.0 a.expires.0 _ b; sound = g.sound }
+    let b = subst (λ (x : Result ℕ ℕ). FoundIs (ids (goal.at.returns-in-Err c).Start) (id_of a.id) x) c.in-Err.is c.find_grafted-f.ensures in
+    record { state = g.state ∙ noted-new (state (goal.at.returns-in-Err c).Start) (id_of a.id) a.link a.round.0 a.expires.0 _ b; sound = g.sound }

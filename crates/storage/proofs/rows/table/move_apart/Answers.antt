@@ -1,7 +1,6 @@
 -- `move_apart`: the part that is lent is what stands behind the cut.
 use native.Mathlib.Omega.{arith}
-use Prim.Native.Nat.{◌+◌, ◌-◌}
-use lib.ListN.{length, take, drop, length-take, length-drop}
+use lib.ListN.{length-take, length-drop}
 use Rattle.storage.proofs.RowsLaws.Moves.{apart-put}
 use Rattle.storage.proofs.rows.table.move_apart.Goals as goal
 

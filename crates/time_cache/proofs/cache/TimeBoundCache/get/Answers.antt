@@ -2,7 +2,7 @@
 use mathlib.Core.Path.{subst}
 use Rattle.storage.specs.Rows.Ident.{id_of}
 use Rattle.storage.specs.Rows.Sorted.{FoundIs}
-use Rattle.storage.specs.declared.rows.table.Found.{Found}
+use Rattle.std.specs.Prelude.{ℕ, Result}
 use Rattle.time_cache.specs.Tables.{named, refs_at, rows_at}
 use Rattle.time_cache.proofs.ReadLaws.{found_within, found_none, got-at}
 use Rattle.time_cache.proofs.cache.TimeBoundCache.get.Goals as goal
@@ -11,16 +11,16 @@ pub place-p-requires : goal.place-p-requires
 place-p-requires c =
     let k = c.args.self in
     let xs = c.args.block.now in
-    (c.requires.0, found_within k xs (id_of c.args.key) _ (subst (λ (f : Found). FoundIs (named (rows_at k xs) (refs_at k xs)) (id_of c.args.key) f) c.in-At.is c.find-f.ensures))
+    (c.requires.0, found_within k xs (id_of c.args.key) _ (subst (λ (f : Result ℕ ℕ). FoundIs (named (rows_at k xs) (refs_at k xs)) (id_of c.args.key) f) c.in-Ok.is c.find-f.ensures))
 
-pub returns-in-At : goal.returns-in-At
-returns-in-At c =
+pub returns-in-Ok : goal.returns-in-Ok
+returns-in-Ok c =
     let k = c.args.self in
     let xs = c.args.block.now in
-    got-at k xs c.requires.1 (id_of c.args.key) _ c.place-p.result (subst (λ (f : Found). FoundIs (named (rows_at k xs) (refs_at k xs)) (id_of c.args.key) f) c.in-At.is c.find-f.ensures) c.place-p.ensures
+    got-at k xs c.requires.1 (id_of c.args.key) _ c.place-p.result (subst (λ (f : Result ℕ ℕ). FoundIs (named (rows_at k xs) (refs_at k xs)) (id_of c.args.key) f) c.in-Ok.is c.find-f.ensures) c.place-p.ensures
 
-pub returns-in-Before : goal.returns-in-Before
-returns-in-Before c =
+pub returns-in-Err : goal.returns-in-Err
+returns-in-Err c =
     let k = c.args.self in
     let xs = c.args.block.now in
-    found_none k xs (id_of c.args.key) _ (subst (λ (f : Found). FoundIs (named (rows_at k xs) (refs_at k xs)) (id_of c.args.key) f) c.in-Before.is c.find-f.ensures)
+    found_none k xs (id_of c.args.key) _ (subst (λ (f : Result ℕ ℕ). FoundIs (named (rows_at k xs) (refs_at k xs)) (id_of c.args.key) f) c.in-Err.is c.find-f.ensures)

@@ -7,7 +7,7 @@ use lib.ListN.{length, length-map}
 use Rattle.storage.specs.Rows.Ident.{id_of}
 use Rattle.storage.specs.Rows.Part.{put}
 use Rattle.storage.specs.Rows.Sorted.{FoundIs, Between}
-use Rattle.storage.specs.declared.rows.table.Found.{Found}
+use Rattle.std.specs.Prelude.{Result}
 use Rattle.storage.proofs.RowsLaws.Rows.{mul-up}
 use Rattle.storage.specs.Refs.Refs.{Ref, ref, places, Below}
 use Rattle.time_cache.specs.Tables.{expiry_of, named, cache_of, refs_at, rows_at, row_at, resized, Lies}
@@ -34,9 +34,9 @@ here : (d : After-move_places) → Lies d.args.self d.move_places.new.block
 here d = lies-kept d.args.self d.args.block.now d.move_places.new.block (same d) (room-lies d.args.self d.args.block.now d.requires.0)
 
 -- what was found
-what : (d : After-move_places) (f : Found) → d.find-f.result ≡ f → FoundIs (named (rows_at d.args.self d.args.block.now) (refs_at d.args.self d.args.block.now)) (id_of d.args.key) f
+what : (d : After-move_places) (f : Result ℕ ℕ) → d.find-f.result ≡ f → FoundIs (named (rows_at d.args.self d.args.block.now) (refs_at d.args.self d.args.block.now)) (id_of d.args.key) f
 what d f e =
-    subst (λ (g : Found). FoundIs (named (rows_at d.args.self d.args.block.now) (refs_at d.args.self d.args.block.now)) (id_of d.args.key) g) e d.find-f.ensures
+    subst (λ (g : Result ℕ ℕ). FoundIs (named (rows_at d.args.self d.args.block.now) (refs_at d.args.self d.args.block.now)) (id_of d.args.key) g) e d.find-f.ensures
 
 -- a key that is not there goes before one of the entries, or behind all
 within : (d : After-move_places) (j : ℕ) → Between (named (rows_at d.args.self d.args.block.now) (refs_at d.args.self d.args.block.now)) (id_of d.args.key) j → j ≤ d.args.self.entries.len
@@ -69,11 +69,11 @@ move_places-requires c =
 
 pub store_place-requires : goal.store_place-requires
 store_place-requires c =
-    (here (goal.at.store_place-requires c).After-move_places, found_within c.args.self c.args.block.now (id_of c.args.key) _ (what (goal.at.store_place-requires c).After-move_places _ c.in-At.is), omega (arith, low (goal.at.store_place-requires c).After-due-i, c.requires.0.few))
+    (here (goal.at.store_place-requires c).After-move_places, found_within c.args.self c.args.block.now (id_of c.args.key) _ (what (goal.at.store_place-requires c).After-move_places _ c.in-Ok.is), omega (arith, low (goal.at.store_place-requires c).After-due-i, c.requires.0.few))
 
 pub open_entry-requires : goal.open_entry-requires
 open_entry-requires c =
-    let w = within (goal.at.open_entry-requires c).After-move_places _ (what (goal.at.open_entry-requires c).After-move_places _ c.in-Before.is) in
+    let w = within (goal.at.open_entry-requires c).After-move_places _ (what (goal.at.open_entry-requires c).After-move_places _ c.in-Err.is) in
     (lies-kept (resized (c.args.self.entries.len + 1) (c.args.self.expiry.len + 1) c.args.self) c.args.block.now c.move_places.new.block (same (goal.at.open_entry-requires c).After-move_places) c.requires.0, omega (arith, w))
 
 pub overflow_add-n : goal.overflow_add-n
@@ -81,41 +81,41 @@ overflow_add-n c =
     let k = c.args.self.entries in
     omega (arith, c.requires.0.apart, c.requires.0.within, mul_comm (k.len + 1) k.stride, mul-up (k.len + 1) 1 k.stride (omega (arith, c.requires.0.entry_wide)), one-mul (k.len + 1))
 
-pub store_place-requires-in-Before : goal.store_place-requires-in-Before
-store_place-requires-in-Before c =
+pub store_place-requires-in-Err : goal.store_place-requires-in-Err
+store_place-requires-in-Err c =
     let k = c.args.self in
-    let w = within (goal.at.store_place-requires-in-Before c).After-move_places _ (what (goal.at.store_place-requires-in-Before c).After-move_places _ c.in-Before.is) in
-    subst (λ (r : TimeBoundCache). Lies r c.open_entry.new.block × (c.in-Before.j < r.entries.len) × (c.due-i.result < 65536)) (sym c.resized-cache-in-Before.ensures) (
-      lies-kept (resized (k.entries.len + 1) (k.expiry.len + 1) k) c.args.block.now c.open_entry.new.block (c.open_entry.auto.block ∙ same (goal.at.store_place-requires-in-Before c).After-move_places) c.requires.0,
+    let w = within (goal.at.store_place-requires-in-Err c).After-move_places _ (what (goal.at.store_place-requires-in-Err c).After-move_places _ c.in-Err.is) in
+    subst (λ (r : TimeBoundCache). Lies r c.open_entry.new.block × (c.in-Err.j < r.entries.len) × (c.due-i.result < 65536)) (sym c.resized-cache-in-Err.ensures) (
+      lies-kept (resized (k.entries.len + 1) (k.expiry.len + 1) k) c.args.block.now c.open_entry.new.block (c.open_entry.auto.block ∙ same (goal.at.store_place-requires-in-Err c).After-move_places) c.requires.0,
       omega (arith, w),
-      omega (arith, low (goal.at.store_place-requires-in-Before c).After-due-i, c.requires.0.few),
+      omega (arith, low (goal.at.store_place-requires-in-Err c).After-due-i, c.requires.0.few),
     )
 
-pub shape_of-block-in-At : goal.shape_of-block-in-At
-shape_of-block-in-At c = c.store_place.auto.block ∙ same (goal.at.shape_of-block-in-At c).After-move_places
+pub shape_of-block-in-Ok : goal.shape_of-block-in-Ok
+shape_of-block-in-Ok c = c.store_place.auto.block ∙ same (goal.at.shape_of-block-in-Ok c).After-move_places
 
-pub returns-in-At : goal.returns-in-At
-returns-in-At c =
+pub returns-in-Ok : goal.returns-in-Ok
+returns-in-Ok c =
     let k = c.args.self in
-    subst (λ (r : TimeBoundCache). Inserts k (id_of c.args.key) c.args.expires.0 c.args.block.now (record { cache = r; entry = c.in-At.j; row = c.due-i.result }) c.store_place.new.block) (sym c.resized-cache.ensures)
+    subst (λ (r : TimeBoundCache). Inserts k (id_of c.args.key) c.args.expires.0 c.args.block.now (record { cache = r; entry = c.in-Ok.j; row = c.due-i.result }) c.store_place.new.block) (sym c.resized-cache.ensures)
     (inserts-over k (id_of c.args.key) c.args.expires.0 c.due-i.result c.args.block.now c.open_row.new.block c.move_places.new.block c.requires.0 c.requires.1 c.due-i.ensures
-    c.open_row.ensures c.open_row.auto.block c.move_places.ensures c.move_places.auto.block _ c.store_place.new.block c.store_place.auto.block (what (goal.at.returns-in-At c).After-move_places _ c.in-At.is) c.store_place.ensures)
+    c.open_row.ensures c.open_row.auto.block c.move_places.ensures c.move_places.auto.block _ c.store_place.new.block c.store_place.auto.block (what (goal.at.returns-in-Ok c).After-move_places _ c.in-Ok.is) c.store_place.ensures)
 
-pub shape_of-block-in-Before : goal.shape_of-block-in-Before
-shape_of-block-in-Before c = c.store_place-in-Before.auto.block ∙ c.open_entry.auto.block ∙ same (goal.at.shape_of-block-in-Before c).After-move_places
+pub shape_of-block-in-Err : goal.shape_of-block-in-Err
+shape_of-block-in-Err c = c.store_place-in-Err.auto.block ∙ c.open_entry.auto.block ∙ same (goal.at.shape_of-block-in-Err c).After-move_places
 
-pub returns-in-Before : goal.returns-in-Before
-returns-in-Before c =
+pub returns-in-Err : goal.returns-in-Err
+returns-in-Err c =
     let k = c.args.self in
-    let j = c.in-Before.j in
+    let j = c.in-Err.j in
     let i = c.due-i.result in
     let big = (k.entries.len + 1) * k.entries.stride in
     let grown = resized (k.entries.len + 1) (k.expiry.len + 1) k in
     let vs = c.open_entry.new.block in
-    let ws = c.store_place-in-Before.new.block in
-    let e : c.resized-cache-in-Before.result ≡ grown = c.resized-cache-in-Before.ensures in
+    let ws = c.store_place-in-Err.new.block in
+    let e : c.resized-cache-in-Err.result ≡ grown = c.resized-cache-in-Err.ensures in
     subst (λ (r : TimeBoundCache). Inserts k (id_of c.args.key) c.args.expires.0 c.args.block.now (record { cache = r; entry = j; row = i }) ws) (sym e)
     (inserts-between k (id_of c.args.key) c.args.expires.0 i c.args.block.now c.open_row.new.block c.move_places.new.block c.requires.0 c.requires.1 c.due-i.ensures
-    c.open_row.ensures c.open_row.auto.block c.move_places.ensures c.move_places.auto.block j vs ws c.open_entry.auto.block c.store_place-in-Before.auto.block
-    (what (goal.at.returns-in-Before c).After-move_places _ c.in-Before.is) c.open_entry.ensures
-    (subst (λ (r : TimeBoundCache). Places r (put j (ref i (ref_at (refs_at r vs) j).own ∷ []) (refs_at r vs)) (r.entries.len * r.entries.stride) vs ws) e c.store_place-in-Before.ensures))
+    c.open_row.ensures c.open_row.auto.block c.move_places.ensures c.move_places.auto.block j vs ws c.open_entry.auto.block c.store_place-in-Err.auto.block
+    (what (goal.at.returns-in-Err c).After-move_places _ c.in-Err.is) c.open_entry.ensures
+    (subst (λ (r : TimeBoundCache). Places r (put j (ref i (ref_at (refs_at r vs) j).own ∷ []) (refs_at r vs)) (r.entries.len * r.entries.stride) vs ws) e c.store_place-in-Err.ensures))

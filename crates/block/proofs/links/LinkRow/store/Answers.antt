@@ -1,0 +1,30 @@
+-- `store`: the peer, and behind it the mark.
+use mathlib.Core.Path.{◌≡◌, ap, ◌∙◌}
+use mathlib.Core.List.{List, [], ◌∷◌}
+use Prim.Native.Nat.{ℕ}
+use native.Mathlib.Omega.{arith}
+use lib.ListN.{length, get_or, set}
+use lib.Seq.{get_or-set_same}
+use Rattle.storage.specs.Rows.Part.{part}
+use Rattle.storage.specs.Rows.Digits.{le_nat, le_bytes}
+use Rattle.storage.specs.Rows.Rows.{field_of}
+use Rattle.storage.proofs.RowsLaws.Parts.{set-put, part-before, part-put, length-put}
+use Rattle.storage.proofs.RowsLaws.Digits.{length-le_bytes, le_nat-le_bytes}
+use Rattle.storage.specs.Lists.Map.{entry}
+use Rattle.block.specs.View.{link_of, mark_of}
+use Rattle.block.proofs.links.LinkRow.store.Goals as goal
+
+pub returns : goal.returns
+unfolding link_of field_of
+returns c =
+    let p : ℕ = c.args.self.peer in
+    let xs : List ℕ = c.args.b.now in
+    let ys : List ℕ = c.store.new.b in
+    let m : ℕ = c.mark_byte.result in
+    let ly : length ys ≡ 16 = ap length c.store.ensures ∙ length-put 0 (le_bytes 8 p) xs (omega (arith, c.requires, length-le_bytes 8 p)) ∙ c.requires in
+    let a : le_nat (part 0 8 (set ys 8 m)) ≡ p =
+    ap (λ (l : List ℕ). le_nat (part 0 8 l)) (set-put 8 m ys (omega arith))
+    ∙ ap le_nat (part-before 0 8 8 (m ∷ []) ys (omega arith) (omega arith) ∙ ap (part 0 8) c.store.ensures ∙ part-put 0 8 (le_bytes 8 p) xs (length-le_bytes 8 p) (omega (arith, c.requires)))
+    ∙ le_nat-le_bytes 8 p (omega (arith, c.well_formed)) in
+    let b : mark_of (get_or (set ys 8 m) 8 0) ≡ mark_of m = ap mark_of (get_or-set_same ys 8 m 0 (omega arith)) in
+    λ k. entry (a k) ((b ∙ c.mark_byte.ensures) k)

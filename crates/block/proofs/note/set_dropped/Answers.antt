@@ -1,0 +1,17 @@
+-- `set_dropped`: number and row are another note in their place.
+use Prim.Native.Nat.{◌+◌}
+use native.Mathlib.Omega.{arith}
+use Rattle.storage.specs.Rows.Ident.{id_of}
+use Rattle.block.proofs.NoteLaws.{instead-goes, record-room}
+use Rattle.block.proofs.note.set_dropped.Goals as goal
+
+pub store-requires : goal.store-requires
+store-requires c =
+    let k = c.args.k in
+    (c.requires.1, omega (arith, record-room c.args.h c.args.block.now c.requires.0 c.args.note.link (c.dropped_at.result + k) c.dropped_rows_at-a.result c.end_at-e.result k (omega (arith, c.requires.1, c.requires.0.fit.within.dropped)) (omega (arith, c.dropped_at.ensures)) c.dropped_rows_at-a.ensures c.end_at-e.ensures, c.requires.0.fit.within.dropped))
+
+pub returns : goal.returns
+returns c =
+    let k = c.args.k in
+    instead-goes c.args.h c.args.block.now c.requires.0 c.args.note.link (id_of c.args.note.id) c.args.note.round.0 (c.dropped_at.result + k) c.dropped_rows_at-a.result c.end_at-e.result c.store.new.b c.requires.2 k c.requires.1 (omega (arith, c.dropped_at.ensures)) c.dropped_rows_at-a.ensures c.end_at-e.ensures c.store.auto.b
+    c.store.ensures

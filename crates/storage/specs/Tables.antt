@@ -1,0 +1,2 @@
+-- Tables as lists of what their rows hold.
+pub mod Listed

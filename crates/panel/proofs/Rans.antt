@@ -1,5 +1,5 @@
 -- One call more: where it leads, and what is to be written of it.
-use Rattle.std.proofs.Common.{ℕ, ◌≡◌, refl, sym, ap, subst, ◌∙◌, List, [], ◌∷◌, ◌++◌, map, take}
+use Rattle.std.proofs.Common.{ℕ, ◌≡◌, refl, sym, ap, subst, ◌∙◌, List, [], ◌∷◌, ◌++◌, map}
 use mathlib.Core.Logic.{∥∥₁_elim}
 use base.Stored.{Coded-set, coded_list}
 use Rattle.std.specs.Coded.{coded_ℕ}
@@ -9,7 +9,7 @@ use Rattle.protocol.specs.State.{State, Counts}
 use Rattle.protocol.specs.Answer.{Call, Answer, refuse, accept, ask_whole}
 use Rattle.protocol.specs.Calls.{Ran, run_calls, prepend, state_after, counts_after}
 use Rattle.protocol.specs.Panel.{written}
-use Rattle.plumtree.specs.Chain.{Seen, seen_of, ran_from}
+use Rattle.plumtree.specs.Chain.{Seen, seen_of}
 use Rattle.panel.specs.Records.Running.{answer_bytes}
 use Rattle.plumtree.specs.CallList.{CallList, with_call, LeadsTo}
 use Rattle.panel.specs.Answering.{ran, told, Answered}

@@ -1,13 +1,11 @@
 -- A run of the program so far: what was taken from the input, and what was added to the output.
-use Rattle.std.proofs.Common.{ℕ, ◌+◌, ◌≡◌, refl, sym, ap, subst, ◌∙◌, IfSome, Option, None, Some, List, [], ◌∷◌, ◌++◌, append-nil, append_assoc, length, take, drop, ◌-◌, arith}
+use Rattle.std.proofs.Common.{ℕ, ◌≡◌, refl, sym, ap, subst, ◌∙◌, IfSome, OnErr, Result, Ok, Err, Option, None, Some, List, [], ◌∷◌, ◌++◌, append-nil, append_assoc, length, drop}
 use Rattle.std.specs.Io.KnownBytes.{Consumes, Appends, Keeps}
 use Rattle.std.proofs.KnownBytes.{Consumes-nil, Consumes-trans, Consumes-kept, Appends-nil, Appends-trans}
 use Rattle.blake3.specs.Blake3.{identifier}
-use Rattle.postcard.specs.Number.{got}
-use Rattle.storage.specs.Rows.Part.{part}
-use Rattle.protocol.specs.State.{State, Counts, Created, created, not_created, create, fresh, zero_counts, size_in_range, durations_in_range, up_to, limits_in_range, block_need}
-use Rattle.protocol.specs.Calls.{run_calls, counts_after}
-use Rattle.protocol.specs.Panel.{panel_settings, panel_limits, panelrun, written}
+use Rattle.protocol.specs.State.{State, Counts, created, not_created, create, fresh, zero_counts, size_in_range, durations_in_range, up_to, limits_in_range, block_need}
+use Rattle.protocol.specs.Calls.{run_calls, state_after, counts_after}
+use Rattle.protocol.specs.Panel.{panel_settings, panel_limits, panelrun}
 use Rattle.block.specs.View.{settings_of, limits_of}
 use Rattle.block.specs.declared.head.Settings.{Settings}
 use Rattle.block.specs.declared.head.Limits.{Limits}
@@ -60,14 +58,14 @@ never_refused c l long n p q e r =
     cc
 
 -- a record is read, and then the rest
-record-then : {past past' : CallList} {unread : List ℕ} {now start len : ℕ} {event bytes : List ℕ} → Whole unread now start len → event ≡ part start len unread
-    → Answers (record_call now event) past past' bytes → (rest : List ℕ) → from_here past (unread ++ rest) ≡ bytes ++ from_here past' (drop (start + len) unread ++ rest)
-record-then {past} {past'} {unread} {now} {start} {len} {event} {bytes} w e a rest =
+record-then : {past past' : CallList} {unread event bytes : List ℕ} {now used : ℕ} → Whole unread now event used
+    → Answers (record_call now event) past past' bytes → (rest : List ℕ) → from_here past (unread ++ rest) ≡ bytes ++ from_here past' (drop used unread ++ rest)
+record-then {past} {past'} {unread} {event} {bytes} {now} {used} w a rest =
     let k = record_call now event in
-    let left_over = drop (start + len) unread ++ rest in
+    let left_over = drop used unread ++ rest in
     writes-record identifier (ran past).state (ran past).counts (unread ++ rest) k left_over
-    (record-stays unread rest (w.reads ∙ ap (λ (x : List ℕ). got (record_call now x) (drop (start + len) unread)) (sym e)))
-    ∙ ap (λ (x : List ℕ). x ++ writes identifier _ (counts_after (ran past).counts (told past k)) left_over) (sym a.writes)
+    (record-stays unread rest w.reads)
+    ∙ ap (λ (x : List ℕ). x ++ writes identifier (state_after (ran past).state (told past k)) (counts_after (ran past).counts (told past k)) left_over) (sym a.writes)
     ∙ ap (λ (x : State). bytes ++ writes identifier x (counts_after (ran past).counts (told past k)) left_over) (sym a.state)
     ∙ ap (λ (x : Counts). bytes ++ writes identifier (ran past').state x left_over) (sym a.counts)
 
@@ -77,16 +75,16 @@ whole-front {held} {held'} {bytes} a = record { front = bytes; left_out = []; wh
 
 module _ {past : CallList} {unread : List ℕ} {left left' held held' : Option (List ℕ)} (f : Sofar past unread left left' held held') where
   -- a record was answered
-  pub sofar-answered : {past' : CallList} {now start len : ℕ} {event bytes : List ℕ} {held'' : Option (List ℕ)} → Whole unread now start len → event ≡ part start len unread
-      → Answers (record_call now event) past past' bytes → Appends held' held'' bytes → Sofar past' (drop (start + len) unread) left left' held held''
-  sofar-answered {past'} {now} {start} {len} {event} {bytes} {held''} w e a b = record {
+  pub sofar-answered : {past' : CallList} {event bytes : List ℕ} {now used : ℕ} {held'' : Option (List ℕ)} → Whole unread now event used
+      → Answers (record_call now event) past past' bytes → Appends held' held'' bytes → Sofar past' (drop used unread) left left' held held''
+  sofar-answered {past'} {event} {bytes} {now} {used} {held''} w a b = record {
     taken = f.taken;
     wrote = f.wrote ++ bytes;
     given = f.given;
     added = Appends-trans held held' held'' _ _ f.added b;
     same = λ rest.
-        f.same rest ∙ ap (λ (x : List ℕ). f.wrote ++ x) (record-then w e a rest)
-        ∙ sym (append_assoc f.wrote bytes (from_here past' (drop (start + len) unread ++ rest)));
+        f.same rest ∙ ap (λ (x : List ℕ). f.wrote ++ x) (record-then w a rest)
+        ∙ sym (append_assoc f.wrote bytes (from_here past' (drop used unread ++ rest)));
   }
 
   -- more was read
@@ -129,11 +127,11 @@ module _ {past : CallList} {unread : List ℕ} {left left' held held' : Option (
   sofar-ends = sofar-front [] (from_here past unread) refl (whole-front (Appends-nil held'))
 
   -- a record's answer was written in part
-  pub sofar-cut : {past' : CallList} {now start len : ℕ} {event bytes : List ℕ} {held'' : Option (List ℕ)} → Whole unread now start len → event ≡ part start len unread
+  pub sofar-cut : {past' : CallList} {event bytes : List ℕ} {now used : ℕ} {held'' : Option (List ℕ)} → Whole unread now event used
       → Answers (record_call now event) past past' bytes → AppendsFront held' held'' bytes → WritesFront left left' held held''
-  sofar-cut {past'} {now} {start} {len} {event} {bytes} w e a b =
-      let next : from_here past unread ≡ bytes ++ from_here past' (drop (start + len) unread) =
-      ap (from_here past) (sym (append-nil unread)) ∙ record-then w e a [] ∙ ap (λ (x : List ℕ). bytes ++ from_here past' x) (append-nil (drop (start + len) unread)) in
+  sofar-cut {past'} {event} {bytes} {now} {used} w a b =
+      let next : from_here past unread ≡ bytes ++ from_here past' (drop used unread) =
+      ap (from_here past) (sym (append-nil unread)) ∙ record-then w a [] ∙ ap (λ (x : List ℕ). bytes ++ from_here past' x) (append-nil (drop used unread)) in
       sofar-front bytes _ next b
 
   -- the end: no record is there
@@ -180,9 +178,7 @@ pub sofar-as : {past past' : CallList} {unread unread' : List ℕ} {left left' l
     → Sofar past unread left left' held held' → Sofar past' unread' left left'' held held''
 sofar-as p u l h f = rw (p, u, l, h) f
 
--- the event of a record
-pub event-of : {bytes unread : List ℕ} (start len : ℕ) → bytes ≡ unread → take ((start + len) - start) (drop start bytes) ≡ part start len unread
-unfolding part
-event-of {bytes} {unread} start len e =
-    let n : (start + len) - start ≡ len = omega arith in
-    rw (e, n) refl
+-- what holds anyhow holds where there is an error
+pub on_err_always : {T E P : Type 0} (r : Result T E) → P → OnErr r P
+on_err_always (Ok x) p = tt
+on_err_always (Err e) p = p

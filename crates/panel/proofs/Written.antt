@@ -14,13 +14,15 @@ fronts-none held bytes = (record { front = []; left_out = bytes; whole = refl; a
 -- one write more
 pub fronts-write : {held held' held'' : Option (List ℕ)} {bytes rest rest' : List ℕ} (n : ℕ) → Fronts held held' bytes rest → Appends held' held'' (take n rest) → rest' ≡ drop n rest → Fronts held held'' bytes rest'
 fronts-write {held} {held'} {held''} {bytes} {rest} {rest'} n f a r =
-    let joined : rest ≡ take n rest ++ rest' = sym (take-append-drop n rest) ∙ ap (λ (x : List ℕ). take n rest ++ x) (sym r) in
-    (record {
+    let joined : rest ≡ take n rest ++ rest' = sym (take-append-drop n rest) ∙ ap (λ (x : List ℕ). take n rest ++ x) (sym r) in (
+      record {
         front = f.0.front ++ take n rest;
         left_out = rest';
         whole = f.0.whole ∙ ap (λ (x : List ℕ). f.0.front ++ x) (f.1 ∙ joined) ∙ sym (append_assoc f.0.front (take n rest) rest');
         added = Appends-trans held held' held'' _ _ f.0.added a;
-      }, refl)
+      },
+      refl,
+    )
 
 -- a write that wrote nothing
 pub fronts-kept : {held held' held'' : Option (List ℕ)} {bytes rest : List ℕ} → Fronts held held' bytes rest → Keeps held' held'' → Fronts held held'' bytes rest

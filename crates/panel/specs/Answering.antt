@@ -3,7 +3,6 @@
 use Rattle.std.specs.Prelude.{ℕ, ◌≡◌, Option, List, []}
 use Rattle.std.specs.Io.KnownBytes.{Consumes}
 use Rattle.blake3.specs.Blake3.{identifier}
-use Rattle.protocol.specs.State.{State, Counts}
 use Rattle.protocol.specs.Answer.{Call, Answer, ask_whole}
 use Rattle.protocol.specs.Calls.{Ran, state_after, counts_after}
 use Rattle.protocol.specs.Panel.{panel_settings, panel_limits, written, panelrun}

@@ -90,7 +90,7 @@ fn answer(
     reply: &mut [u8; REPLY],
 ) -> usize
     ensures answers { Answers (record_call at.0 event.now) panel.old.past.list panel.new.past.list (take result reply.new) }
-    ensures inside { result ≤ length reply.old }
+    ensures inside { result ≤ length reply.new }
 {
     let said = call(panel, at, event, out);
     records::put_answer(reply, said.number, out, said.length)

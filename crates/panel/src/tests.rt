@@ -94,9 +94,17 @@ fn a_write_that_fails(rt: HostRuntime) -> Result<(), Fail> {
             Ok(()) => None,
             Err(e) => Some(e.kind()),
         };
-        let wants = if room < 10 { Some(ErrorKind::StorageFull) } else { None };
+        let wants = if room < 10 {
+            Some(ErrorKind::StorageFull)
+        } else {
+            None
+        };
         assert!(rt; told == wants, "with room {room}");
-        assert_eq!(rt; output.taken.as_slice(), &ANSWERS[..room.min(10)], "with room {room}");
+        assert_eq!(rt;
+            output.taken.as_slice(),
+            &ANSWERS[..room.min(10)],
+            "with room {room}"
+        );
     }
     Ok(())
 }

@@ -5,17 +5,16 @@
 mod action;
 mod event;
 mod message;
-mod reader;
 mod text;
 
 use anyhow::{Result, bail};
-use action::Action;
 use event::EventText;
 use host::refusal::Refusal;
-use reader::Reader;
 use std::rt::{Env, Files};
 use std::{env, fs};
 use text::Hex;
+use wire::reader::Reader;
+use wire::reader::fault::Fault;
 
 // "an event over 16,384 bytes" ends the program as a cut record does.
 const LONGEST_EVENT: u64 = 16384;
@@ -24,22 +23,22 @@ const LONGEST_EVENT: u64 = 16384;
 const LAST_ANSWER: u8 = Refusal::OutputTooShort as u8;
 
 // A record: "now, length, event".
-fn read_record<'a>(input: &mut Reader<'a>) -> Option<(u64, EventText<'a>)> {
+fn read_record<'a>(input: &mut Reader<'a>) -> std::result::Result<(u64, EventText<'a>), Fault> {
     let at = input.number()?;
     let len = input.number()?;
     if LONGEST_EVENT < len {
-        return None;
+        return Err(Fault::Form);
     }
-    let bytes = input.bytes(len)?;
-    Some((at, EventText { bytes }))
+    let bytes = input.bytes(len as usize)?;
+    Ok((at, EventText { bytes }))
 }
 
 // What was written for it: "answer byte, length, actions".
-fn read_answer<'a>(output: &mut Reader<'a>) -> Option<(u8, &'a [u8])> {
+fn read_answer<'a>(output: &mut Reader<'a>) -> std::result::Result<(u8, &'a [u8]), Fault> {
     let number = output.byte()?;
     let len = output.number()?;
-    let actions = output.bytes(len)?;
-    Some((number, actions))
+    let actions = output.bytes(len as usize)?;
+    Ok((number, actions))
 }
 
 // Why a call was refused, and its actions.
@@ -55,9 +54,9 @@ fn show_answer(rt: &impl Print, number: u8, actions: &[u8]) -> Result<()> {
             break;
         }
         let from = left.rest;
-        match left.action() {
-            Some(action) => println!(rt; "    {action}")?,
-            None => {
+        match action::read_action(&mut left) {
+            Ok(action) => println!(rt; "    {action}")?,
+            Err(_) => {
                 let bytes = Hex(from);
                 println!(rt; "    no action: {bytes}")?;
                 break;
@@ -77,16 +76,16 @@ fn show(rt: &impl Print, input: &[u8], output: &[u8]) -> Result<()> {
         }
         let left = records.rest.len();
         match read_record(&mut records) {
-            Some((at, event)) => println!(rt; "{at} {event}")?,
-            None => {
+            Ok((at, event)) => println!(rt; "{at} {event}")?,
+            Err(_) => {
                 println!(rt; "no record, and the end: {left} byte(s) from here on")?;
                 records.rest = &[];
             }
         }
         let left = answers.rest.len();
         match read_answer(&mut answers) {
-            Some((number, actions)) => show_answer(rt, number, actions)?,
-            None => {
+            Ok((number, actions)) => show_answer(rt, number, actions)?,
+            Err(_) => {
                 println!(rt; "    no answer: the output has {left} byte(s) left")?;
                 return Ok(());
             }

@@ -1,9 +1,7 @@
 // Bytes as text for people.
 use std::fmt;
 use std::fmt::{Display, Formatter};
-
-// How many bytes of an identifier are shown: enough to tell one from another.
-const ID_SHOWN: usize = 4;
+use storage::rows::id::Id;
 
 // How many bytes of a content that is no text are shown.
 const CONTENT_SHOWN: usize = 16;
@@ -21,14 +19,14 @@ impl Display for Hex<'_> {
     }
 }
 
-// An identifier, by its first bytes.
+// An identifier, by its first four bytes: enough to tell one from another.
 #[derive(Clone, Copy)]
-pub struct IdText<'a>(pub &'a [u8]);
+pub struct IdText(pub Id);
 
-impl Display for IdText<'_> {
+impl Display for IdText {
     fn fmt<W: fmt::Write>(&self, f: &mut Formatter<W>) -> fmt::Result {
-        let shown = Hex(&self.0[..ID_SHOWN.min(self.0.len())]);
-        write!(f, "{shown}..")
+        let first = self.0.w0 >> 32;
+        write!(f, "{first:08x}..")
     }
 }
 

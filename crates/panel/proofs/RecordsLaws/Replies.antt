@@ -1,16 +1,19 @@
 -- A reply: there is room for it, and its pieces one after the other.
 -- Assumes nothing.
 use Prim.Native.Nat.{ℕ, ◌+◌, ◌≤◌}
-use mathlib.Core.Path.{◌≡◌, refl, sym}
+use mathlib.Core.Path.{◌≡◌, refl}
+use mathlib.Core.Bool.{true, false}
 use mathlib.Core.List.{List, [], ◌∷◌}
 use native.Mathlib.Omega.{arith}
 use lib.ListN.{length, take, drop, length-append}
 use lib.Seq.{take-append_seam, length-take-le}
 use Rattle.storage.specs.Rows.Part.{put}
-use Rattle.postcard.specs.Number.{groups, number_bytes, number_length}
+use Rattle.postcard.specs.Number.{number_bytes, number_length}
 use Rattle.postcard.specs.Output.{Room, Wrote}
 use Rattle.postcard.proofs.Lengths.{number-few}
-use Rattle.panel.specs.Records.Running.{answer_bytes}
+use Rattle.std.specs.Bool.{◌==◌}
+use Rattle.std.proofs.lemmas.Bool.{eqb-true}
+use Rattle.panel.specs.Records.Running.{answer_bytes, closing, end_bytes}
 
 -- what was put at the start stands there
 pub put_first : (bytes out : List ℕ) → take (length bytes) (put 0 bytes out) ≡ bytes
@@ -34,3 +37,14 @@ module _ (number n : ℕ) (out reply : List ℕ) (h : length reply ≡ 40971) (i
 
   pub answer-room : Room (answer_bytes number (take n out)) 0 reply
   answer-room = record { fits = omega (arith, answer-few number (take n out), actions-long) }
+
+-- the end of the input: where no byte is unread nothing is written, else the end
+pub closing-empty : (unread : List ℕ) → (length unread == 0) ≡ true → closing unread ≡ []
+unfolding closing
+closing-empty [] h = refl
+closing-empty (b ∷ bytes) h = absurd (omega (arith, eqb-true (length (b ∷ bytes)) 0 h))
+
+pub closing-cut : (unread : List ℕ) → (length unread == 0) ≡ false → closing unread ≡ 7 ∷ 0 ∷ []
+unfolding closing end_bytes
+closing-cut [] h = absurd cc
+closing-cut (b ∷ bytes) h = refl

@@ -1,5 +1,5 @@
 #!/usr/bin/env bash
-# The commands ./run and ./test on a repository of three crates, with a stand-in for rt: the progress they show, what is shown of a crate that is not
+# The commands ./run and ./test on a repository of four crates, with a stand-in for rt: the progress they show, what is shown of a crate that is not
 # proved, tests left out where a crate is, and the status and the last line they end with.
 set -euo pipefail
 cd "$(dirname "$0")/../.."
@@ -7,20 +7,24 @@ cd "$(dirname "$0")/../.."
 work=$(mktemp -d)
 trap 'rm -rf "$work"' EXIT
 repo=$work/repo
-mkdir -p "$work/bin" "$repo/tests/own" "$repo"/crates/{lists/src,panelrun/{src,must-fail},apart/src}
+mkdir -p "$work/bin" "$repo/tests/own" "$repo"/crates/{lists/src,panelrun/{src,must-fail},panelrun_show/src,apart/src}
 cp -R run test tools "$repo"
 printf '\0\2\3\2' >"$repo/crates/panelrun/stdin"
-printf 'panelrun: lists\nlists: # of nothing\napart staticlib: lists\n' >"$repo/crates.txt"
+printf 'panelrun: lists\npanelrun_show: lists\nlists: # of nothing\napart staticlib: lists\n' >"$repo/crates.txt"
 touch "$repo/crates/panelrun/must-fail/one.edit"
 
 # The stand-in prints the file $work/says and ends with the status in $work/status; `rt run` prints it as errors, and the program that it runs writes
-# what it reads. No cargo is found.
+# what it reads, and with arguments their number. No cargo is found.
 cat >"$work/bin/rt" <<END
 #!/bin/sh
 case "\$*" in
 run)
     cat "$work/says" >&2
     cat
+    ;;
+"run -- "*)
+    cat "$work/says" >&2
+    echo "text from \$((\$# - 2)) files"
     ;;
 ci)
     [ -e crates.txt ] || exit 9
@@ -64,12 +68,14 @@ linked target=x86_64-unknown-linux-gnu files=out/panelrun.o
 rt: running out/panelrun; to give it other input, run that file yourself
 END
 shows run 0 <<'END'
-proving 2 crates; those that are unchanged since they were last proved are not proved again
+proving 2 crates, and one that shows bytes as text; those that are unchanged since they were last proved are not proved again
+[1, 0m00s] lists proved
+[2, 0m00s] panelrun proved
 [1, 0m00s] lists proved
 [2, 0m00s] panelrun proved
 input   00 02 03 02
 output  00 02 03 02
-left out: the same as text, since no cargo of 1.82 or later is here
+text from 2 files
 END
 says 1 <<'END'
 rt: chose --jobs 2 for lists
@@ -80,7 +86,7 @@ logic=not-proved
 rt: the library lists did not build, so nothing above it was checked
 END
 shows run 1 <<'END'
-proving 2 crates; those that are unchanged since they were last proved are not proved again
+proving 2 crates, and one that shows bytes as text; those that are unchanged since they were last proved are not proved again
 proofs/A.antt:3:1: error: it does not hold
 fn lists::a: not proved
 crate lists: modules loaded=0 checked=40
@@ -106,11 +112,11 @@ rt: apart proved'
 edit='rt: must-fail panelrun/one.edit: refused, as it must be: proofs/B.antt:1:1: error'
 ran="rt: panelrun ran, and wrote what its file stdout has"
 last='4 passed, 0 failed'
-begins='== rt ci: 3 crates, then 1 edits that must be refused, then the programs
-[2 of 3, 0m00s] panelrun proved
+begins='== rt ci: 4 crates, then 1 edits that must be refused, then the programs
+[2 of 4, 0m00s] panelrun proved
 [1 of 1 edits, 0m00s] panelrun: trying its must-fail edits (1)
-[2 of 3, 0m00s] panelrun: its tests are proved
-[3 of 3, 0m00s] apart proved'
+[2 of 4, 0m00s] panelrun: its tests are proved
+[3 of 4, 0m00s] apart proved'
 says 0 < <(printf '%s\n' "$proved" "$edit" "$ran" "$last")
 echo 'echo "one is as promised"' >"$repo/tests/own/gate.sh"
 shows test 0 <<END
@@ -162,12 +168,12 @@ rt: FAILED: lists panelrun apart
 0 passed, 3 failed
 END
 shows test 1 <<'END'
-== rt ci: 3 crates, then 1 edits that must be refused, then the programs
+== rt ci: 4 crates, then 1 edits that must be refused, then the programs
 proofs/A.antt:3:1: error: it does not hold
 logic=not-proved
-[1 of 3, 0m00s] lists NOT PROVED
-[2 of 3, 0m00s] panelrun NOT PROVED: its library lists failed
-[3 of 3, 0m00s] apart NOT PROVED: its library lists failed
+[1 of 4, 0m00s] lists NOT PROVED
+[2 of 4, 0m00s] panelrun NOT PROVED: its library lists failed
+[3 of 4, 0m00s] apart NOT PROVED: its library lists failed
 rt: FAILED: lists panelrun apart
 0 passed, 3 failed
 END

@@ -1,6 +1,4 @@
-pub mod TurnLaws
-pub mod RunLaws
-pub mod PlaceLaws
-pub mod StepLaws
-pub mod StreamLaws
 pub mod RecordsLaws
+pub mod Rans
+pub mod Streams
+pub mod Written

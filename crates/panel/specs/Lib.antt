@@ -1,5 +1,4 @@
-pub mod Turns
-pub mod Runs
-pub mod Places
-pub mod Streams
 pub mod Records
+pub mod Reading
+pub mod Writing
+pub mod Answering

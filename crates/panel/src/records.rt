@@ -2,7 +2,7 @@
 ghost use Rattle.std.specs.Prelude.{◌≡◌, ◌≤◌, length, take};
 ghost use Rattle.postcard.specs.Output.{Wrote};
 ghost use Rattle.panel.specs.Records.Reading.{Tells, may_fit};
-ghost use Rattle.panel.specs.Records.Running.{answer_bytes, end_bytes, closing};
+ghost use Rattle.panel.specs.Records.Running.{answer_bytes};
 
 use postcard::units::Millis;
 use wire::encode;
@@ -10,6 +10,12 @@ use wire::encode::Encode;
 use wire::encode::sink::Sink;
 use wire::reader::Reader;
 use wire::reader::fault::Fault;
+
+// "output 40,960".
+pub const OUTPUT: usize = 40960;
+
+// An answer byte, a number of at most ten bytes, and the output.
+pub const REPLY: usize = 40971;
 
 // What the first bytes of the input tell of its first record.
 #[derive(Clone, Copy)]
@@ -101,8 +107,8 @@ impl<'a> Encode for Answer<'a> {
 }
 
 // Writes an answer, whose actions are the first `n` bytes of the output.
-pub fn put_answer(reply: &mut [u8; 40971], number: u8, out: &[u8], n: usize) -> usize
-    requires { (n ≤ length out.now) × (n ≤ 40960) }
+pub fn put_answer(reply: &mut [u8; REPLY], number: u8, out: &[u8], n: usize) -> usize
+    requires { (n ≤ length out.now) × (n ≤ OUTPUT) }
     ensures { Wrote (answer_bytes number (take n out.now)) reply.old 0 reply.new result }
 {
     let answer = Answer {
@@ -110,26 +116,4 @@ pub fn put_answer(reply: &mut [u8; 40971], number: u8, out: &[u8], n: usize) -> 
         actions: &out[..n],
     };
     encode::put(reply, 0, &answer)
-}
-
-// Writes the end: "07 00".
-#[tactic(auto, unfolding(crate::specs::Records::Running::end_bytes, crate::specs::Records::Running::answer_bytes))]
-pub fn put_end(reply: &mut [u8; 40971]) -> usize
-    ensures { Wrote end_bytes reply.old 0 reply.new result }
-{
-    let end = Answer {
-        number: 7,
-        actions: &[],
-    };
-    encode::put(reply, 0, &end)
-}
-
-// At the end of the input: unread bytes are a record that is cut; where there are none, nothing is written.
-pub fn put_closing(reply: &mut [u8; 40971], unread: &[u8]) -> usize
-    ensures { Wrote (closing unread.now) reply.old 0 reply.new result }
-{
-    if unread.len() == 0 {
-        return 0;
-    }
-    put_end(reply)
 }

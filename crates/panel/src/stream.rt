@@ -1,179 +1,145 @@
-// The program `panelrun`: from an input to an output, record by record. The contract of `step` says what it leaves to be written.
-ghost use Rattle.std.specs.Prelude.{◌≡◌, ◌+◌, ◌-◌, ◌≤◌, ◌<◌, true, false, IfSome, length, take, drop};
-ghost use Rattle.std.specs.Io.KnownBytes.{Consumes, Appends, IsAtEnd};
+// The program `panelrun`: each record is answered as soon as it is read.
+ghost use Rattle.std.specs.Prelude.{◌≡◌, ◌≤◌, OnOk, OnErr, IfSome, length, take};
+ghost use Rattle.std.specs.Io.KnownBytes.{Appends};
 ghost use Rattle.blake3.specs.Blake3.{identifier};
 ghost use Rattle.protocol.specs.Panel.{panelrun};
-ghost use Rattle.panel.specs.Turns.{memory};
-ghost use Rattle.panel.specs.Places.{Inside};
-ghost use Rattle.panel.specs.Streams.{Fed, FedOrClosed, FedStep};
+ghost use Rattle.panel.specs.Records.Reading.{record_call};
+ghost use Rattle.panel.specs.Records.Running.{closing, end_bytes};
+ghost use Rattle.panel.specs.Writing.{AppendsFront};
+ghost use Rattle.panel.specs.Answering.{Started, Answered, Answers, WritesFront};
 
-use crate::{Turn, records};
-use machine::Stats;
-use std::io::{Read, Write};
-use storage::rows::table;
+use crate::records;
+use crate::records::{OUTPUT, REPLY, Record};
+use crate::unread::Unread;
+use crate::writing::write_on;
+use block::head::{Config, Limits, Settings};
+use host::panel::Panel;
+use postcard::units::{Millis, Round};
+use std::alloc::Global;
+use std::io;
+use std::io::{Error, ErrorKind, Read, Write};
 
-// Where the program is: the counts, the unread bytes of the buffer, from `at` to `end`, how many bytes of the reply are to be written, whether it goes on, and whether a read failed.
-#[derive(Clone, Copy)]
-pub struct Place {
-    pub stats: Stats,
-    pub at: usize,
-    pub end: usize,
-    pub reply: usize,
-    pub goes_on: bool,
-    pub failed: bool,
-}
+// As many bytes as question 4 asks of these limits.
+const BLOCK: usize = 58880;
 
-// How many bytes came, and whether the read failed.
-#[derive(Clone, Copy)]
-pub struct Came {
-    pub count: usize,
-    pub failed: bool,
-}
+// "07 00".
+const END: [u8; 2] = [7, 0];
 
-// Reads once, into the bytes from `end` on: none come at the end of the input and where the read fails.
-fn read_behind<R: Read>(input: &mut R, buffer: &mut [u8], end: usize) -> Came
-    requires { end < length buffer.old }
-    ensures kept { (end + result.count ≤ length buffer.old) × (length buffer.new ≡ length buffer.old) × (take end buffer.new ≡ take end buffer.old) }
-    ensures came { Consumes (R.remaining input.old) (R.remaining input.new) (take result.count (drop end buffer.new)) }
-    ensures ended { result.failed ≡ false → result.count ≡ 0 → IsAtEnd (R.remaining input.new) }
+// "panel 1, default settings, M 4,094; N 8, R 64, C 32, B 8,192, G S T 16, Q D 64": the default settings are those of `Config::default`. Its creation is accepted.
+fn start(block: &mut [u8; BLOCK]) -> Panel<'_>
+    ensures { Started result.past.list }
 {
-    match input.read(&mut buffer[end..]) {
-        Ok(count) => Came {
-            count,
-            failed: false,
-        },
-        Err(_) => Came {
-            count: 0,
-            failed: true,
-        },
-    }
-}
-
-// Reads on behind the unread bytes: the program goes on if any byte came.
-fn read_on<R: Read>(input: &mut R, buffer: &mut [u8], p: Place) -> Place
-    requires { Inside p buffer.old × (p.end < length buffer.old) }
-    ensures { Fed p buffer.old result buffer.new (R.remaining input.old) (R.remaining input.new) }
-{
-    let more = read_behind(input, buffer, p.end);
-    let mut r = p;
-    r.end = p.end + more.count;
-    r.goes_on = 0 < more.count;
-    r.failed = more.failed;
-    r
-}
-
-// Reads on, where the buffer is full after its unread bytes are moved to the start: they are few, so that there is room behind them.
-fn refill<R: Read>(input: &mut R, buffer: &mut [u8], p: Place) -> Place
-    requires { Inside p buffer.old × (p.end - p.at < 16404) }
-    ensures { Fed p buffer.old result buffer.new (R.remaining input.old) (R.remaining input.new) }
-{
-    if p.end < buffer.len() {
-        return read_on(input, buffer, p);
-    }
-    let k = p.end - p.at;
-    table::move_down(buffer, p.at, 0, k);
-    let mut r = p;
-    r.at = 0;
-    r.end = k;
-    read_on(input, buffer, r)
-}
-
-// Reads on; at the end of the input what is unread is a record that is cut.
-fn read_or_close<R: Read>(
-    input: &mut R,
-    buffer: &mut [u8],
-    reply: &mut [u8; 40971],
-    p: Place,
-) -> Place
-    requires { Inside p buffer.old × (p.end - p.at < 16404) }
-    ensures { FedOrClosed p buffer.old reply.old result buffer.new reply.new (R.remaining input.old) (R.remaining input.new) }
-{
-    let mut r = refill(input, buffer, p);
-    if r.goes_on {
-        r.reply = 0;
-        return r;
-    }
-    let at = r.at;
-    let end = r.end;
-    r.reply = records::put_closing(reply, &buffer[at..end]);
-    r
-}
-
-// A step: a record is answered, or more is read, or it ends.
-fn step<R: Read>(
-    input: &mut R,
-    block: &mut [u8; 58880],
-    buffer: &mut [u8],
-    out: &mut [u8; 40960],
-    reply: &mut [u8; 40971],
-    p: Place,
-) -> Place
-    requires { Inside p buffer.old }
-    ensures { FedStep (memory block.old out.old reply.old) p buffer.old (memory block.new out.new reply.new) result buffer.new (R.remaining input.old) (R.remaining input.new) }
-{
-    let at = p.at;
-    let end = p.end;
-    let c = p.stats;
-    let turn = crate::next(block, c, &buffer[at..end], out, reply);
-    match turn {
-        Turn::Answered { used, answer } => {
-            let stats = answer.stats;
-            let behind = at + used;
-            Place {
-                stats,
-                at: behind,
-                end,
-                reply: answer.length,
-                goes_on: true,
-                failed: false,
-            }
-        }
-        Turn::Cut => read_or_close(input, buffer, reply, p),
-        Turn::Bad => {
-            let mut r = p;
-            r.reply = records::put_end(reply);
-            r.goes_on = false;
-            r
-        }
-    }
-}
-
-// Writes bytes and passes them on at once: whether that went well.
-fn write_on<W: Write>(output: &mut W, bytes: &[u8]) -> bool
-    ensures { result ≡ true → Appends (W.contents output.old) (W.contents output.new) bytes.now }
-{
-    output.write_all(bytes).is_ok() && output.flush().is_ok()
-}
-
-// The whole program: whether it came to its end, which is that of the input or a bad record, with no read and no write that failed. A read that fails ends it as the
-// input's end does. A proved loop has to end, and nothing says that the input does: it makes at most as many steps as no run uses up.
-pub fn run<R: Read, W: Write>(input: &mut R, output: &mut W) -> bool
-    ensures { result ≡ true → IfSome (R.remaining input.old) (λ xs. Appends (W.contents output.old) (W.contents output.new) (panelrun identifier xs)) }
-{
-    let mut block = [0u8; 58880];
-    let mut buffer = [0u8; 32768];
-    let mut out = [0u8; 40960];
-    let mut reply = [0u8; 40971];
-    crate::begin(&mut block);
-    let stats = crate::no_counts();
-    let mut p = Place {
-        stats,
-        at: 0,
-        end: 0,
-        reply: 0,
-        goes_on: true,
-        failed: false,
+    let config = Config {
+        graft_timeout_1: Millis(80),
+        graft_timeout_2: Millis(40),
+        dispatch_timeout: Millis(5),
+        optimization_threshold: Round(7),
+        message_cache_retention: Millis(30000),
+        message_id_retention: Millis(90000),
+        cache_evict_interval: Millis(1000),
     };
-    'steps: for _ in 0..u64::MAX {
-        p = step(input, &mut block, &mut buffer, &mut out, &mut reply, p);
-        let n = p.reply;
-        let written = write_on(output, &reply[..n]);
-        if !written {
-            return false;
-        }
-        if !p.goes_on {
-            return !p.failed;
+    let settings = Settings {
+        config,
+        max_message_size: 4094,
+        me: 1,
+    };
+    let limits = Limits {
+        neighbours: 8,
+        received: 64,
+        cached: 32,
+        content: 8192,
+        grafted: 16,
+        missing: 16,
+        timers: 16,
+        queued: 64,
+        dropped: 64,
+    };
+    match Panel::new(block, settings, limits) {
+        Ok(panel) => panel,
+        Err(_) => unreachable!(),
+    }
+}
+
+// The number that a call is answered, and the length of its output.
+#[derive(Clone, Copy)]
+struct Said {
+    number: u8,
+    length: usize,
+}
+
+// A record's call, "link room unbounded", "output 40,960".
+fn call(panel: &mut Panel<'_>, at: Millis, event: &[u8], out: &mut [u8; OUTPUT]) -> Said
+    ensures answered { Answered (record_call at.0 event.now) panel.old.past.list panel.new.past.list result.number (take result.length out.new) }
+    ensures inside { result.length ≤ length out.old }
+{
+    match panel.event(at, event, &[], out) {
+        Ok(length) => Said { number: 0, length },
+        Err(refusal) => Said {
+            number: refusal.number(),
+            length: 0,
+        },
+    }
+}
+
+// Answers a record: "answer byte, length, actions" stand at the start of the reply. How many bytes these are.
+fn answer(
+    panel: &mut Panel<'_>,
+    at: Millis,
+    event: &[u8],
+    out: &mut [u8; OUTPUT],
+    reply: &mut [u8; REPLY],
+) -> usize
+    ensures answers { Answers (record_call at.0 event.now) panel.old.past.list panel.new.past.list (take result reply.new) }
+    ensures inside { result ≤ length reply.new }
+{
+    let said = call(panel, at, event, out);
+    records::put_answer(reply, said.number, out, said.length)
+}
+
+// The end of the input: unread bytes are a record that is cut.
+fn close<W: Write>(unread: &[u8], output: &mut W) -> io::Result<()>
+    ensures ok { OnOk result (Appends (W.contents output.old) (W.contents output.new) (closing unread.now)) }
+    ensures err { OnErr result (AppendsFront (W.contents output.old) (W.contents output.new) (closing unread.now)) }
+{
+    if unread.is_empty() {
+        return Ok(());
+    }
+    write_on(output, &END)
+}
+
+// The whole program: what it adds to the output is what the specification says of the input. Where a read or a write fails, or memory is short, it is a front of what the
+// specification says of the bytes that were taken from the input; a read that fails ends the program as the input's end does.
+// A proved loop has to end, and nothing says that the input does: it makes at most as many steps as no run uses up.
+pub fn run<R: Read, W: Write>(alloc: Global, input: &mut R, output: &mut W) -> io::Result<()>
+    ensures ok { OnOk result (IfSome (R.remaining input.old) (λ xs. Appends (W.contents output.old) (W.contents output.new) (panelrun identifier xs))) }
+    ensures err { OnErr result (WritesFront (R.remaining input.old) (R.remaining input.new) (W.contents output.old) (W.contents output.new)) }
+{
+    let mut block = [0u8; BLOCK];
+    let mut panel = start(&mut block);
+    let mut out = [0u8; OUTPUT];
+    let mut reply = [0u8; REPLY];
+    let mut unread = Unread::new(alloc);
+    'records: for _ in 0..u64::MAX {
+        match records::read_record(unread.bytes()) {
+            Record::Whole {
+                instant,
+                event,
+                used,
+            } => {
+                let n = answer(&mut panel, instant, event, &mut out, &mut reply);
+                write_on(output, &reply[..n])?;
+                unread.skip(used);
+            }
+            Record::Cut => match unread.read_on(input) {
+                Ok(0) => return close(unread.bytes(), output),
+                Ok(_) => {}
+                Err(error) => {
+                    close(unread.bytes(), output)?;
+                    return Err(error);
+                }
+            },
+            Record::Bad => return write_on(output, &END),
         }
     }
-    false
+    Err(Error::new(ErrorKind::Other, "the input does not end"))
 }

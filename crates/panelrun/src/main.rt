@@ -1,8 +1,8 @@
-// The program `panelrun` of the specification, run on the document's own example.
+// The program `panelrun`, run on the specification's own example. A read or a write that fails ends it, with status 0.
 #![tactic(auto)]
 
 fn main(rt: HostRuntime) {
     let mut input = rt.stdin();
     let mut output = rt.stdout();
-    panel::stream::run(&mut input, &mut output);
+    let _ = panel::stream::run(rt.alloc(), &mut input, &mut output);
 }

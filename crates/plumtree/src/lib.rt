@@ -5,7 +5,7 @@ pub mod laws;
 mod peers;
 mod rooms;
 
-ghost use Rattle.std.specs.Prelude.{◌≡◌, [], length, take};
+ghost use Rattle.std.specs.Prelude.{◌≡◌, length, take};
 ghost use Rattle.wire.specs.Rewrite.RewriteCalls.{Rewrites};
 ghost use Rattle.protocol.specs.Alike.{alike_blocks};
 ghost use Rattle.block.specs.View.{limits_of};
@@ -109,20 +109,6 @@ pub extern "C" fn plumtree_create(
         number: made.number,
         length: made.length,
     }
-}
-
-// An event call with the counts by value and "link room unbounded", for a program.
-pub fn event_unbounded(
-    block: &mut [u8],
-    c: Stats,
-    at: Millis,
-    event: &[u8],
-    output: &mut [u8],
-) -> Outcome
-    ensures { Called (call_of at.0 event.now [] output.old) (lent block.old c output.old) (lent block.new result.stats output.new) result.number result.length }
-{
-    let unbounded = rooms::unbounded();
-    event::event_core(block, c, at, event, unbounded, output)
 }
 
 // An event call: the room of each peer to whom it can send is looked up, then questions 5 to 14 are asked. "The counts record is brought up to date by

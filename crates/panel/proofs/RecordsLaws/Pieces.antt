@@ -352,10 +352,6 @@ record-stays bytes more {k} {end} h =
     = record_of (bytes ++ more) (number-got bytes more p.time) (number-got p.rest more p.long) p.small (rw length-append (omega (arith, p.enough))) in
     r ∙ rw (take-append-le p.n p.left more p.enough, drop-append-le p.n p.left more p.enough, p.call, p.after) refl
 
--- bad bytes stay bad
-pub bad-stays : (bytes more : List ℕ) → Bad bytes → Bad (bytes ++ more)
-bad-stays bytes more b = record { always = λ m. rw append_assoc (b.always (more ++ m)) }
-
 -- a record takes at least two bytes
 pub record-takes : (bytes : List ℕ) (k : Call) (end : List ℕ) → read_record bytes ≡ got k end → length end < length bytes
 record-takes bytes k end h =

@@ -1,8 +1,7 @@
 -- What the bytes of the input that are there tell of its first record: it is whole, or cut so far, or bad whatever follows.
 -- Assumes nothing.
-use Rattle.std.specs.Prelude.{ℕ, ◌+◌, ◌≤◌, ◌<◌, ◌≡◌, Bool, true, false, ◌&&◌, List, [], ◌∷◌, ◌++◌, eqb, length, drop}
-use Rattle.storage.specs.Rows.Part.{part}
-use Rattle.postcard.specs.Number.{got, read_number}
+use Rattle.std.specs.Prelude.{ℕ, ◌≤◌, ◌<◌, ◌≡◌, Bool, true, false, ◌&&◌, List, [], ◌∷◌, ◌++◌, eqb, length, drop}
+use Rattle.postcard.specs.Number.{got}
 use Rattle.postcard.specs.Wide.{Bytes}
 use Rattle.protocol.specs.Answer.{Call}
 use Rattle.protocol.specs.Panel.{read_record}

@@ -1,0 +1,117 @@
+-- The numbers that a creation and an event call answer, and the length of a refused call's output.
+use Rattle.std.proofs.Common.{ℕ, ◌≡◌, ◌≤◌, ◌<◌, ◌⊎◌, inl, inr, refl, sym, ap, lit≤, Bool, true, false, not, if◌then◌else◌, ◌^◌, List, leb, length, arith}
+use Rattle.std.proofs.Math.Option.{Option, none, some}
+use borrow.Author.Tests.{leb-true}
+use Rattle.storage.proofs.ListsLaws.MapLaws.{and_right}
+use Rattle.blake3.specs.Blake3.{identifier}
+use Rattle.postcard.specs.Message.{Event}
+use Rattle.postcard.specs.Decode.{Decoded, decoded, faulty, decode_event}
+use Rattle.postcard.proofs.DecodeFaults.{fault_of, decode-faults}
+use Rattle.protocol.specs.State.{State, Counts, Created, created, not_created, create, size_in_range, durations_in_range, limits_in_range, block_need, Settings, Limits}
+use Rattle.protocol.specs.Run.{Run, begin}
+use Rattle.protocol.specs.Handle.{first_event, handle}
+use Rattle.protocol.specs.Whole.{fits, whole_state}
+use Rattle.protocol.specs.Answer.{Call, Answer, refuse, accept, Outcome, refused, accepted, message_fits, counts_stay, output_of, last_two, too_far, ask_of, ask_read, ask, outcome, answer_of, answer_block}
+use Rattle.block.specs.View.{settings_of, limits_of}
+use Rattle.block.specs.declared.head.Settings.{Settings as HeadSettings}
+use Rattle.block.specs.declared.head.Limits.{Limits as HeadLimits}
+use Rattle.whole.specs.Creation.{Creates}
+use Rattle.machine.specs.Called.{Lent, Called, Finds}
+use Rattle.plumtree.specs.Calls.{Made}
+
+-- either branch
+both : {A : Type 0} (P : A → Type 0) (b : Bool) {x y : A} → P x → P y → P (if b then x else y)
+both P true p q = p
+both P false p q = q
+
+-- no question has a number over 17
+Low : Answer → Type 0
+Low (refuse n) = n ≤ 17
+Low (accept e r) = Unit {0}
+
+LowOutcome : Outcome → Type 0
+LowOutcome (refused n) = n ≤ 17
+LowOutcome (accepted s c bytes) = Unit {0}
+
+low-two : (output : ℕ) (e : Event) (r : Run) → Low (last_two output e r)
+unfolding last_two Low
+low-two output e r = both Low (fits r.state) (both Low (leb (length (output_of r)) output) tt (lit≤ tt)) (lit≤ tt)
+
+low-of : (s : State) (c : Counts) (k : Call) (e : Event) → Low (ask_of identifier s c k e)
+unfolding ask_of Low
+low-of s c k e =
+    both Low (not (message_fits s.settings.max_message_size k.event e)) (lit≤ tt)
+    (both Low (not (counts_stay e c)) (lit≤ tt)
+    (both Low (too_far identifier e (first_event k.now (begin s c k.rooms)).state) (lit≤ tt)
+    (low-two k.output e (handle identifier k.now e (begin s c k.rooms)))))
+
+low-read : (s : State) (c : Counts) (k : Call) (d : Decoded Event) → fault_of d ≡ true → Low (ask_read identifier s c k d)
+unfolding ask_read Low
+low-read s c k (faulty n) f = let h = leb-true n 9 (and_right (leb 7 n) (leb n 9) f) in omega (arith, h)
+low-read s c k (decoded e) f = low-of s c k e
+
+low-ask : (s : State) (c : Counts) (k : Call) → Low (ask identifier s c k)
+unfolding ask Low
+low-ask s c k = both Low (leb k.now (2 ^ 62)) (low-read s c k (decode_event k.event) (decode-faults k.event)) (lit≤ tt)
+
+low-outcome : (a : Answer) → Low a → LowOutcome (outcome a)
+unfolding outcome Low LowOutcome
+low-outcome (refuse n) h = h
+low-outcome (accept e r) h = tt
+
+low-answer : (h : Option State) (c : Counts) (k : Call) → LowOutcome (answer_of identifier h c k)
+unfolding answer_of LowOutcome
+low-answer none c k = lit≤ tt
+low-answer (some s) c k = low-outcome (ask identifier s c k) (low-ask s c k)
+
+low-block : (long : ℕ) (h : Option State) (c : Counts) (k : Call) → LowOutcome (answer_block identifier long h c k)
+unfolding answer_block
+low-block long h c k = low-answer (whole_state long h) c k
+
+-- what an event call answers: no number over 17, no output with a number other than 0, and none longer than what was lent
+pub record Answered (before : Lent) (number long : ℕ) : Type 0 where
+  pub low : number ≤ 17
+  pub empty : (number ≡ 0 → ⊥) → long ≡ 0
+  pub inside : long ≤ length before.output
+
+finds-answered : (o : Outcome) → LowOutcome o → (before after : Lent) (number long : ℕ) → Finds o before after number long → Answered before number long
+unfolding LowOutcome
+finds-answered (refused n) h before after number long f = record { low = omega (arith, h, f.number); empty = λ ne. f.long; inside = omega (arith, f.long) }
+finds-answered (accepted s c bytes) h before after number long f = record { low = omega (arith, f.number); empty = λ ne. absurd (ne f.number); inside = omega (arith, f.long, f.fits) }
+
+pub called-answered : {k : Call} {before after : Lent} {number long : ℕ} → Called k before after number long → Answered before number long
+called-answered {k} {before} {after} {number} {long} f = finds-answered _ (low-block (length before.block) _ before.counts k) before after number long f.finds
+
+-- none of the questions: 0
+pub accepted_number : (number : ℕ) → number ≤ 17 → (number ≡ 0) ⊎ (17 < number) → number ≡ 0
+accepted_number number low (inl e) = e
+accepted_number number low (inr h) = absurd (omega (arith, low, h))
+
+-- what a creation answers
+LowCreated : Created → Type 0
+LowCreated (not_created n) = n ≤ 17
+LowCreated (created s c) = Unit {0}
+
+low-create : (c : Settings) (l : Limits) (long : ℕ) → LowCreated (create c l long)
+unfolding create LowCreated
+low-create c l long =
+    both LowCreated (size_in_range c)
+    (both LowCreated (durations_in_range c)
+    (both LowCreated (limits_in_range l)
+    (both LowCreated (leb (block_need l) long) tt (lit≤ tt)) (lit≤ tt)) (lit≤ tt)) (lit≤ tt)
+
+creates-low : (q : Created) → LowCreated q → (before after : List ℕ) (number : ℕ) → Creates q before after number → number ≤ 17
+unfolding LowCreated
+creates-low (not_created n) h before after number f = omega (arith, h, f.number)
+creates-low (created s c) h before after number f = omega (arith, f.number)
+
+creates-refused : (q : Created) (before after : List ℕ) (number : ℕ) → Creates q before after number → (number ≡ 0 → ⊥) → q ≡ not_created number
+creates-refused (not_created n) before after number f ne = ap not_created (sym f.number)
+creates-refused (created s c) before after number f ne = absurd (ne f.number)
+
+pub made-low : (c : HeadSettings) (l : HeadLimits) (block : List ℕ) (counts : Counts) (block' : List ℕ) (counts' : Counts) (number long : ℕ) → Made c l block counts block' counts' number long → number ≤ 17
+made-low c l block counts block' counts' number long m = creates-low _ (low-create (settings_of c) (limits_of l) (length block)) block block' number m.creation
+
+pub made-refused : (c : HeadSettings) (l : HeadLimits) (block : List ℕ) (counts : Counts) (block' : List ℕ) (counts' : Counts) (number long : ℕ) → Made c l block counts block' counts' number long → (number ≡ 0 → ⊥)
+    → create (settings_of c) (limits_of l) (length block) ≡ not_created number
+made-refused c l block counts block' counts' number long m ne = creates-refused _ block block' number m.creation ne

@@ -1,0 +1,3 @@
+pub mod Noted
+pub mod Refusals
+pub mod Seen

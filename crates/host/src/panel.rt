@@ -1,0 +1,91 @@
+// The panel.
+ghost use Rattle.std.specs.Prelude.{◌≡◌, ◌≤◌, IfOk, IfErr, length};
+ghost use Rattle.protocol.specs.State.{create, not_created};
+ghost use Rattle.block.specs.View.{settings_of, limits_of};
+ghost use Rattle.machine.specs.Called.{counts_of, call_of};
+ghost use Rattle.plumtree.specs.Calls.{entries};
+ghost use Rattle.plumtree.specs.CallList.{fresh_list, with_call, LeadsTo};
+
+use crate::past::{Call, Past};
+use crate::refusal::Refusal;
+use block::head::{Limits, Settings};
+use machine::Stats;
+use plumtree::LinkRoom;
+use postcard::units::Millis;
+
+// A panel: a block that is lent, and the counts, as the calls of `past` left them; and so the guarantee holds of that list (`LeadsTo`).
+#[derive(Drop)]
+pub struct Panel<'a> {
+    block: &'a mut [u8],
+    counts: Stats,
+    pub past: Past,
+    pub ghost leads: { ∥ LeadsTo past.list block.now (counts_of counts) ∥₁ },
+}
+
+impl<'a> Panel<'a> {
+    ghost use Rattle.host.specs.Refusals.{number_of};
+    ghost use Rattle.host.specs.Seen.{seen_in};
+
+    // A creation, questions 1 to 4.
+    pub fn new(
+        block: &'a mut [u8],
+        settings: Settings,
+        limits: Limits,
+    ) -> Result<Panel<'a>, Refusal>
+        ensures begins { IfOk result (λ panel. panel.past.list ≡ fresh_list settings limits) }
+        ensures refused { IfErr result (λ r. create (settings_of settings) (limits_of limits) (length block.old) ≡ not_created (number_of r)) }
+    {
+        let mut counts = Stats {
+            payload_messages_received: 0,
+            control_messages_received: 0,
+            max_last_delivery_hop: 0,
+        };
+        let answer = plumtree::plumtree_create(block, &mut counts, settings, limits);
+        match Refusal::of(answer.number) {
+            Some(refusal) => Err(refusal),
+            None => {
+                let past = Past::new(&settings, &limits);
+                Ok(Panel {
+                    block,
+                    counts,
+                    past,
+                })
+            }
+        }
+    }
+
+    // An event call, questions 5 to 14: the length of the output. Refused or not, it is one more of the list, of which the guarantee holds again (`leads`).
+    pub fn event(
+        &mut self,
+        at: Millis,
+        event: &[u8],
+        rooms: &[LinkRoom],
+        output: &mut [u8],
+    ) -> Result<usize, Refusal>
+        ensures past { self.new.past.list ≡ with_call (call_of at.0 event.now (entries rooms.now) output.old) (seen_in result output.new) self.old.past.list }
+        ensures inside { IfOk result (λ n. n ≤ length output.old) }
+    {
+        let lent = output.len();
+        let answer = plumtree::plumtree_event(
+            self.block,
+            &mut self.counts,
+            at,
+            event,
+            rooms,
+            output,
+        );
+        self.past = self.past.with_call(&Call {
+            at: at.0,
+            event,
+            rooms,
+            lent,
+            number: answer.number,
+            length: answer.length,
+            output,
+        });
+        match Refusal::of(answer.number) {
+            Some(refusal) => Err(refusal),
+            None => Ok(answer.length),
+        }
+    }
+}

@@ -1,0 +1,110 @@
+// What no clause says: that a run comes to its end, and what it leaves where a read or a write fails.
+use crate::stream::run;
+use std::io;
+use std::io::{Error, ErrorKind, Read, Write};
+use std::test::Fail;
+
+// "Input (hexadecimal)": up 2, dispatch tick, Prune from 5.
+const INPUT: [u8; 13] = [0, 2, 3, 2, 0, 2, 2, 1, 0, 3, 0, 5, 1];
+
+// "Output", "the middle one scheduling EvictCache in 1,000".
+const ANSWERS: [u8; 10] = [0, 0, 0, 4, 2, 0xe8, 7, 2, 0, 0];
+
+// Gives a byte a time, and fails when none is left.
+#[derive(Drop)]
+struct Broken<'a> {
+    rest: &'a [u8],
+}
+
+impl Read for Broken<'_> {
+    fn read(&mut self, buf: &mut [u8]) -> io::Result<usize> {
+        let Some((first, rest)) = self.rest.split_first() else {
+            return Err(Error::new(ErrorKind::ConnectionReset, "the line is cut"));
+        };
+        if buf.is_empty() {
+            return Ok(0);
+        }
+        buf[0] = *first;
+        self.rest = rest;
+        Ok(1)
+    }
+}
+
+// Takes two bytes a time, and fails when there is no room.
+#[derive(Drop)]
+struct Full {
+    taken: Vec<u8>,
+    room: usize,
+}
+
+impl Write for Full {
+    fn write(&mut self, buf: &[u8]) -> io::Result<usize> {
+        if self.room == 0 {
+            return Err(Error::new(ErrorKind::StorageFull, "no room"));
+        }
+        let n = buf.len().min(self.room).min(2);
+        self.taken.extend_from_slice(&buf[..n])?;
+        self.room -= n;
+        Ok(n)
+    }
+
+    fn flush(&mut self) -> io::Result<()> {
+        Ok(())
+    }
+}
+
+#[test]
+fn the_worked_call(rt: HostRuntime) -> Result<(), Fail> {
+    let mut input: &[u8] = &INPUT;
+    let mut output = Vec::new(rt.alloc());
+    run(rt.alloc(), &mut input, &mut output)?;
+    assert_eq!(rt; output.as_slice(), ANSWERS.as_slice());
+    Ok(())
+}
+
+// Cut at each byte, the input's end and a read that fails leave the same: the answers to all whole records, and 07 00 for one that is cut.
+#[test]
+fn a_read_that_fails(rt: HostRuntime) -> Result<(), Fail> {
+    for at in 0..14 {
+        let bytes = &INPUT[..at];
+        let mut input: &[u8] = bytes;
+        let mut output = Vec::new(rt.alloc());
+        run(rt.alloc(), &mut input, &mut output)?;
+        let mut broken = Broken { rest: bytes };
+        let mut left = Vec::new(rt.alloc());
+        match run(rt.alloc(), &mut broken, &mut left) {
+            Ok(()) => assert!(rt; false, "no error at {at}"),
+            Err(e) => assert!(rt; e.kind() == ErrorKind::ConnectionReset, "at {at}"),
+        }
+        assert_eq!(rt; left.as_slice(), output.as_slice(), "at {at}");
+    }
+    Ok(())
+}
+
+// A write that fails after any number of bytes: these are the first of the answers, and the error is told.
+#[test]
+fn a_write_that_fails(rt: HostRuntime) -> Result<(), Fail> {
+    for room in 0..11 {
+        let mut input: &[u8] = &INPUT;
+        let mut output = Full {
+            taken: Vec::new(rt.alloc()),
+            room,
+        };
+        let told = match run(rt.alloc(), &mut input, &mut output) {
+            Ok(()) => None,
+            Err(e) => Some(e.kind()),
+        };
+        let wants = if room < 10 {
+            Some(ErrorKind::StorageFull)
+        } else {
+            None
+        };
+        assert!(rt; told == wants, "with room {room}");
+        assert_eq!(rt;
+            output.taken.as_slice(),
+            &ANSWERS[..room.min(10)],
+            "with room {room}"
+        );
+    }
+    Ok(())
+}

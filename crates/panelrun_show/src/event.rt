@@ -1,0 +1,43 @@
+// Events, as text for people.
+use crate::message::{MessageText, TimerText};
+use crate::text::{ContentText, Hex};
+use postcard::message::Scope;
+use std::fmt;
+use std::fmt::{Display, Formatter};
+use wire::reader::event;
+use wire::reader::event::Event;
+
+// The event that the bytes hold, or the bytes where they are none.
+#[derive(Clone, Copy)]
+pub struct EventText<'a> {
+    pub bytes: &'a [u8],
+}
+
+impl Display for EventText<'_> {
+    fn fmt<W: fmt::Write>(&self, f: &mut Formatter<W>) -> fmt::Result {
+        match event::decode_event(self.bytes) {
+            Ok(Event::Received { peer, message, .. }) => {
+                let message = MessageText(message);
+                write!(f, "from {peer}: {message}")
+            }
+            Ok(Event::Broadcast { content, scope }) => {
+                let content = ContentText(content);
+                let scope = match scope {
+                    Scope::Swarm => "Swarm",
+                    Scope::Neighbors => "Neighbors",
+                };
+                write!(f, "broadcast {content}, {scope}")
+            }
+            Ok(Event::Timer(timer)) => {
+                let timer = TimerText(timer);
+                write!(f, "{timer} fires")
+            }
+            Ok(Event::Up(peer)) => write!(f, "{peer} is up"),
+            Ok(Event::Down(peer)) => write!(f, "{peer} is down"),
+            Err(_) => {
+                let bytes = Hex(self.bytes);
+                write!(f, "no event: {bytes}")
+            }
+        }
+    }
+}

@@ -1,6 +1,6 @@
 #!/usr/bin/env python3
 # What a reader has to believe: the definitions that the contracts of the exported functions (crates/plumtree/src/lib.rt) and the main theorems (the contracts in crates/*/src/laws.rt)
-# rest on, each with its sentence, crate by crate from the lowest up; then what they assume of the kit, and their number.
+# and the program's (`panel::stream::run`) rest on, each with its sentence, crate by crate from the lowest up; then what they assume of the kit, and their number.
 # Usage, from anywhere: tools/believe.py [--list | --count | --theorems] [NAME ...]
 #   --list    names and places alone
 #   --theorems  the main theorems' functions alone, as CRATE::laws::NAME
@@ -12,6 +12,7 @@ import os, re, signal, sys
 TOP = os.path.dirname(os.path.dirname(os.path.abspath(__file__)))
 CONTRACTS = ("plumtree", "lib")
 LAWS = "laws"
+PROGRAM = ["protocol.Panel.panelrun", "panel.Answering.WritesFront"]  # what the contract of panel::stream::run names
 KIT = "Rattle.std."
 # Words of the logic and of contracts; fields of a lent value; types of the code; and the constructors of the kit's libraries: on the left of a clause any other plain name is a variable.
 WORDS = set("Type Unit tt ⊥ → : = ; , in × _".split())
@@ -469,7 +470,7 @@ def closure(world, roots):
 
 
 def believed(world, keys=()):
-    return closure(world, [named(world, k) for k in keys] if keys else exported(world) + theorems(world))
+    return closure(world, [named(world, k) for k in keys] if keys else exported(world) + theorems(world) + [named(world, k) for k in PROGRAM])
 
 
 # ---- what is printed

@@ -25,7 +25,7 @@ const BLOCK: usize = 58880;
 // "07 00".
 const END: [u8; 2] = [7, 0];
 
-// "panel 1, default settings, M 4,094; N 8, R 64, C 32, B 8,192, G S T 16, Q D 64": the default settings are those of `Config::default`. Its creation is accepted.
+// "panel 1, default settings, M 4,094", "N 8, R 64, C 32, B 8,192, G S T 16, Q D 64": the default settings are those of `Config::default`. Its creation is accepted.
 fn start(block: &mut [u8; BLOCK]) -> Panel<'_>
     ensures { Started result.past.list }
 {

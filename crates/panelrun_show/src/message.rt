@@ -66,12 +66,15 @@ impl Display for MessageText<'_> {
             }
             Message::IHave(ihaves) => {
                 write!(f, "IHave")?;
-                let mut separator = "";
+                let mut first = true;
                 for ihave in ihaves {
+                    if !first {
+                        write!(f, ",")?;
+                    }
+                    first = false;
                     let id = IdText(ihave.id);
                     let hops = ihave.round.0;
-                    write!(f, "{separator} {id} round {hops}")?;
-                    separator = ",";
+                    write!(f, " {id} round {hops}")?;
                 }
                 Ok(())
             }

@@ -7,3 +7,8 @@ pub mod ContentsLaws
 pub mod NeighboursLaws
 pub mod TicksLaws
 pub mod PushesLaws
+pub mod PanelLaws
+pub mod ViewLaws
+pub mod AtRestLaws
+pub mod RecordLaws
+pub mod LookupLaws

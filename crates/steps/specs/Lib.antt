@@ -8,3 +8,9 @@ pub mod Contents
 pub mod Neighbours
 pub mod Ticks
 pub mod Pushes
+pub mod SoundProp
+pub mod Panels
+pub mod Views
+pub mod Calls
+pub mod Record
+pub mod Lookups

@@ -1,13 +1,20 @@
 // What the functions of a call share.
 #![tactic(auto)]
 
+pub mod call;
 pub mod contents;
 pub mod grafts;
+pub mod link_list;
+pub mod message_cache;
 pub mod neighbours;
+pub mod note_dropped;
+pub mod panel;
 pub mod pushes;
+pub mod schedule;
 pub mod settled;
 pub mod sizes_before;
 pub mod ticks;
+pub mod view;
 
 // The number of an entry in its table, or none.
 #[derive(Clone, Copy)]

@@ -30,11 +30,12 @@ use Rattle.decide.proofs.TableSizes.{fits-sizes}
 use Rattle.decide.proofs.SettledLaws.{first-state, first-actions, first-rooms}
 use Rattle.decide.proofs.UpDownEvict.{up-sizes, up-actions, down-sizes, down-actions, evict-sizes, evict-actions}
 use Rattle.decide.proofs.AnnounceDropped.{announce-sizes, announce-actions}
-use Rattle.decide.proofs.GraftSendGraft.{prune-sizes, prune-actions, graft-sizes, graft-actions, send_graft-sizes, send_graft-actions}
+use Rattle.decide.proofs.GraftSendGraft.{prune-sizes, prune-actions, graft-actions, send_graft-sizes, send_graft-actions}
 use Rattle.decide.proofs.IHave.{ihave-sizes, ihave-actions}
 use Rattle.decide.proofs.Broadcast.{broadcast-sizes, broadcast-actions}
 use Rattle.decide.proofs.Gossip.{late-sizes, late-actions, on_new-sizes, on_new-actions, on_near-actions, on_near-state}
 use Rattle.decide.proofs.Dispatch.{dispatched-sizes, dispatched-actions}
+use Rattle.decide.proofs.StateAfterLaws.{graft-state}
 
 -- a branch, with what the test says
 by-if : {A : Type 0} (f : Run → A) (b : Bool) (x y : Run) (u v : A) → (b ≡ true → f x ≡ u) → (b ≡ false → f y ≡ v) → f (if b then x else y) ≡ (if b then u else v)
@@ -89,7 +90,7 @@ module _ (hash : List ℕ → ℕ) where
   message-sizes now sender Prune r x =
       if-on (λ (y : Run). sizes_of y.state) (is_neighbour sender r.state.links) _ _ ∙ if-same (is_neighbour sender r.state.links) (prune-sizes sender r x.core.links_up) refl
   message-sizes now sender (Graft wanted round) r x =
-      by-if (λ (y : Run). sizes_of y.state) (is_neighbour sender r.state.links) _ _ _ _ (λ n. graft-sizes sender wanted r x.core n) (λ n. refl)
+      by-if (λ (y : Run). sizes_of y.state) (is_neighbour sender r.state.links) _ _ _ _ (λ n. ap sizes_of (graft-state sender wanted r n x.record_flag)) (λ n. refl)
   message-sizes now sender (IHave hs) r x =
       by-if (λ (y : Run). sizes_of y.state) (is_neighbour sender r.state.links) _ _ _ _ (λ n. ihave-sizes sender hs r x.core.missing_up x.core.timers_up) (λ n. refl)
 

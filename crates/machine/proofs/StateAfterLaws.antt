@@ -1,6 +1,5 @@
--- ControlLaws: what another mark of a link leaves, and a Prune and a Graft. SwarmLaws: a content that stands in the event. StepLaws: what each step asks and does, out of what
+-- SwarmLaws: a content that stands in the event. StepLaws: what each step asks and does, out of what
 -- all ask. CallLaws: the step behind a first event's work.
-pub mod ControlLaws
 pub mod SwarmLaws
 pub mod StepLaws
 pub mod CallLaws

@@ -1,2 +1,1 @@
-pub mod Controls
 pub mod StepAfter

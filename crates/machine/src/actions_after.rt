@@ -5,53 +5,29 @@ ghost use Rattle.storage.specs.Lists.Base.{concat_map};
 ghost use Rattle.storage.specs.Rows.Part.{part};
 ghost use Rattle.storage.specs.Rows.Ident.{id_of};
 ghost use Rattle.postcard.specs.Message.{Neighbors, Emitted, action_bytes};
-ghost use Rattle.postcard.specs.Values.{wanted_value, scope_value};
+ghost use Rattle.postcard.specs.Values.{scope_value};
 ghost use Rattle.wire.specs.Output.Written.{Tellable, Written};
 ghost use Rattle.block.specs.View.{state_of};
 ghost use Rattle.steps.specs.Stands.{Stands};
 ghost use Rattle.payloads.specs.Broadcast.Broadcasts.{broadcast_bytes};
 ghost use Rattle.machine.specs.Kinds.Meaning.{ContentHeld, StepHeld, step_far, SenderIs};
-ghost use Rattle.machine.specs.ActionsAfter.After.{graft_bytes, new_bytes, step_bytes, call_bytes};
+ghost use Rattle.machine.specs.ActionsAfter.After.{new_bytes, step_bytes, call_bytes};
 
+use crate::actions::{Actions, put_where_room};
 use crate::kinds::Step;
 use announcements::dispatch::actions;
 use announcements::{announce, ihaves, send_graft};
 use block::head::Head;
-use payloads::eager::reply;
 use payloads::{broadcast, gossip, late};
 use postcard::content;
 use postcard::content::Content;
-use postcard::message::{Delivery, Scope, Wanted};
+use postcard::message::{Delivery, Scope};
 use postcard::units::{Millis, Round};
-use steps::{settled, ticks};
+use steps::call::{Call, Rooms};
+use steps::ticks;
+use steps::view::View;
 use storage::rows::id::Id;
 use wire::output;
-
-// `on_graft`, the actions half, for the neighbour of a link: the reply, if an identifier is asked for and its message is cached once a first event has evicted.
-// Its time is that of a look-up in the message cache, and of the content.
-pub fn graft_actions<'a>(
-    h: Head,
-    block: &'a [u8],
-    instant: Millis,
-    rooms: &[u64; 34],
-    out: &mut [u8],
-    at: usize,
-    event: &'a [u8],
-    link: usize,
-    wanted: Wanted,
-) -> usize
-    requires stands { Stands h block.now × (link < length (state_of h block.now).links) }
-    requires tellable { Tellable (graft_bytes instant.0 rooms.now link (wanted_value wanted) (state_of h block.now)) at }
-    ensures { Written (graft_bytes instant.0 rooms.now link (wanted_value wanted) (state_of h block.now)) out.old at out.new result }
-{
-    match wanted {
-        Wanted::Nothing => at,
-        Wanted::Message(id) => {
-            let held = settled::cached_then(h, block, instant, id);
-            reply::reply_sends(h, block, rooms, out, at, event, link, id, held)
-        }
-    }
-}
 
 // `on_gossip`, of a new Neighbors message: "New Neighbors: emit". Linear in the content.
 fn emit_neighbors<'a>(
@@ -122,7 +98,7 @@ pub fn step_actions<'a>(
     h: Head,
     block: &'a [u8],
     instant: Millis,
-    rooms: &[u64; 34],
+    rooms: &'a [u64; 34],
     event: &'a [u8],
     step: Step,
     out: &mut [u8],
@@ -152,8 +128,16 @@ pub fn step_actions<'a>(
             delivery,
         } => late::late_actions(h, block, instant, rooms, out, at, sender, id, delivery),
         Step::Prune { link: _ } => at,
-        Step::Graft { link, wanted } => {
-            graft_actions(h, block, instant, rooms, out, at, event, link, wanted)
+        Step::Graft { link: _, wanted: _ } => {
+            let view = View { head: h, block };
+            let rooms = Rooms { numbers: rooms };
+            let call = Call {
+                instant,
+                event,
+                rooms,
+            };
+            let actions = Actions { view, call, step };
+            put_where_room(out, at, &actions)
         }
         Step::IHave {
             link: _,
@@ -200,7 +184,7 @@ pub fn call_actions<'a>(
     h: Head,
     block: &'a [u8],
     instant: Millis,
-    rooms: &[u64; 34],
+    rooms: &'a [u64; 34],
     event: &'a [u8],
     step: Step,
     out: &mut [u8],

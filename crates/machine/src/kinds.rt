@@ -1,13 +1,14 @@
 // What an event does once a first event's work is done: the step, with what was found out about it from the block before anything is changed.
-ghost use Rattle.std.specs.Prelude.{◌+◌, ◌≤◌, length};
+ghost use Rattle.std.specs.Prelude.{◌≡◌, ◌+◌, ◌≤◌, length};
 ghost use Rattle.storage.specs.Rows.Part.{part};
 ghost use Rattle.postcard.specs.Message.{Received, Broadcast, Fired, Gossip, IHave, message_bytes};
-ghost use Rattle.postcard.specs.Values.{delivery_value, scope_value, timer_value};
+ghost use Rattle.postcard.specs.Values.{delivery_value, scope_value, timer_value, wanted_value};
 ghost use Rattle.postcard.specs.Events.{ihaves_from, message_value, MessageHeld};
 ghost use Rattle.storage.specs.Rows.Ident.{id_of};
 ghost use Rattle.block.specs.View.{state_of};
 ghost use Rattle.block.specs.LinkSteps.{peer_at};
 ghost use Rattle.steps.specs.Stands.{Stands};
+ghost use Rattle.payloads.specs.OnGraft.{wanted_id};
 ghost use Rattle.machine.specs.Kinds.Meaning.{ListHeld, Means};
 
 use announcements::ihaves;
@@ -51,7 +52,7 @@ pub enum Step {
     },
     Graft {
         link: usize,
-        wanted: Wanted,
+        wanted: Option<Id>,
     },
     IHave {
         link: usize,
@@ -137,6 +138,16 @@ fn ihave_step(
     Step::IHave { link, start, count }
 }
 
+// What a Graft asks for.
+fn wanted_option(wanted: Wanted) -> Option<Id>
+    ensures { wanted_id result ≡ wanted_value wanted }
+{
+    match wanted {
+        Wanted::Message(id) => Some(id),
+        Wanted::Nothing => None,
+    }
+}
+
 // The step of a message; Prune, Graft and IHave "from strangers are counted only". Linear in the links, in the content of a Gossip and in the entries of an IHave.
 pub fn message_step(
     h: Head,
@@ -162,7 +173,10 @@ pub fn message_step(
             Found::Before(_) => Step::Nothing,
         },
         Message::Graft { wanted, round: _ } => match f {
-            Found::At(link) => Step::Graft { link, wanted },
+            Found::At(link) => {
+                let wanted = wanted_option(wanted);
+                Step::Graft { link, wanted }
+            }
             Found::Before(_) => Step::Nothing,
         },
         Message::IHave { start, count } => match f {

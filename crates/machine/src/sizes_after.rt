@@ -3,14 +3,11 @@ ghost use Rattle.std.specs.Prelude.{◌≡◌, ◌≤◌, ◌<◌, length};
 ghost use Rattle.storage.specs.Lists.Base.{member};
 ghost use Rattle.storage.specs.Lists.Map.{has};
 ghost use Rattle.storage.specs.Rows.Ident.{id_of};
-ghost use Rattle.time_cache.specs.TimeCache.{get};
-ghost use Rattle.postcard.specs.Values.{wanted_value};
 ghost use Rattle.postcard.specs.Events.{ihaves_from, Listed};
 ghost use Rattle.block.specs.View.{state_of};
-ghost use Rattle.block.specs.LinkSteps.{peer_at};
 ghost use Rattle.decide.specs.Settled.{settled};
 ghost use Rattle.decide.specs.Sizes.{shrunk};
-ghost use Rattle.decide.specs.SizesAfter.{reply_sizes, graft_sizes, ihave_sizes};
+ghost use Rattle.decide.specs.SizesAfter.{ihave_sizes};
 ghost use Rattle.steps.specs.Stands.{Stands};
 ghost use Rattle.steps.specs.Rooms.{rooms_in};
 ghost use Rattle.steps.specs.Shared.{sizes_value};
@@ -24,52 +21,15 @@ use announcements::{announce, ihaves, send_graft};
 use block::head::Head;
 use block::{missing, timers};
 use payloads::broadcast;
+use payloads::eager::back;
 use payloads::eager::target::Push;
-use payloads::eager::{back, reply};
-use postcard::message::Wanted;
+use payloads::on_graft::graft_sizes;
 use postcard::units::Millis;
+use steps::call::{Call, Rooms};
+use steps::view::View;
 use steps::{Sizes, settled, sizes_before};
 use storage::rows::id::Id;
 use storage::rows::table::Found;
-
-// The reply to a Graft: what a push of the cached message to one link adds to the record. Its time is that of `sizes_then`, of a look-up in the message cache,
-// and of one pass over the record's column of link numbers.
-fn reply_sizes(
-    h: Head,
-    block: &[u8],
-    instant: Millis,
-    rooms: &[u64; 34],
-    link: usize,
-    id: Id,
-) -> Sizes
-    requires { Stands h block.now × (link < h.live.links) }
-    ensures { sizes_value result ≡ reply_sizes (rooms_in (state_of h block.now) rooms.now) (peer_at (state_of h block.now) link) (id_of id) (get (id_of id) (settled instant.0 (state_of h block.now)).cache) (settled instant.0 (state_of h block.now)) }
-{
-    let mut z = settled::sizes_then(h, block, instant);
-    let held = settled::cached_then(h, block, instant, id);
-    let gained = reply::reply_gains(h, block, rooms, link, id, held);
-    let n = z.dropped + gained;
-    z.dropped = n;
-    z
-}
-
-// Graft from a neighbour: the message that it wants, if any, is pushed to it.
-pub fn graft_sizes(
-    h: Head,
-    block: &[u8],
-    instant: Millis,
-    rooms: &[u64; 34],
-    link: usize,
-    wanted: Wanted,
-) -> Sizes
-    requires { Stands h block.now × (link < h.live.links) }
-    ensures { sizes_value result ≡ graft_sizes (rooms_in (state_of h block.now) rooms.now) (peer_at (state_of h block.now) link) (wanted_value wanted) (settled instant.0 (state_of h block.now)) }
-{
-    match wanted {
-        Wanted::Message(id) => reply_sizes(h, block, instant, rooms, link, id),
-        Wanted::Nothing => settled::sizes_then(h, block, instant),
-    }
-}
 
 // IHave from a neighbour: the missing messages and the timers that it adds. Its time is that of `announcements::ihaves::ihave_sizes` and of `sizes_then`.
 pub fn ihave_step_sizes(
@@ -162,12 +122,12 @@ pub fn new_sizes(
 }
 
 // The numbers of entries after the step of an event (question 13). Its time is that of the step's own function.
-pub fn step_sizes(
+pub fn step_sizes<'a>(
     h: Head,
     block: &[u8],
     instant: Millis,
-    rooms: &[u64; 34],
-    event: &[u8],
+    rooms: &'a [u64; 34],
+    event: &'a [u8],
     step: Step,
 ) -> Sizes
     requires { Stands h block.now × StepHeld event.now (state_of h block.now) step }
@@ -193,7 +153,16 @@ pub fn step_sizes(
             delivery: _,
         } => settled::sizes_then(h, block, instant),
         Step::Prune { link: _ } => settled::sizes_then(h, block, instant),
-        Step::Graft { link, wanted } => graft_sizes(h, block, instant, rooms, link, wanted),
+        Step::Graft { link, wanted } => {
+            let view = View { head: h, block };
+            let rooms = Rooms { numbers: rooms };
+            let call = Call {
+                instant,
+                event,
+                rooms,
+            };
+            graft_sizes(&view, &call, link, wanted)
+        }
         Step::IHave {
             link: _,
             start,

@@ -4,5 +4,4 @@ pub mod GainLaws
 pub mod BackLaws
 pub mod MarkLaws
 pub mod SendLaws
-pub mod ReplyLaws
 pub mod CallLaws

@@ -4,3 +4,4 @@ pub mod OptimiseLaws
 pub mod GossipLaws
 pub mod NewGossipLaws
 pub mod BroadcastLaws
+pub mod OnGraftLaws

@@ -2,4 +2,3 @@ pub mod Targets
 pub mod Scan
 pub mod Backs
 pub mod Sent
-pub mod Reply

@@ -4,3 +4,4 @@ pub mod Optimise
 pub mod Gossip
 pub mod NewGossip
 pub mod Broadcast
+pub mod OnGraft

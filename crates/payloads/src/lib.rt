@@ -1,4 +1,4 @@
-// The steps that carry contents: a message taken in, a copy of one received before, a broadcast, and the reply to a Graft.
+// The steps that carry contents: a message taken in, a copy of one received before, a broadcast, and the reply to a Graft; and Prune.
 #![tactic(auto)]
 
 pub mod broadcast;
@@ -6,4 +6,6 @@ pub mod eager;
 pub mod gossip;
 pub mod late;
 pub mod new_gossip;
+pub mod on_graft;
+pub mod on_prune;
 pub mod optimise;

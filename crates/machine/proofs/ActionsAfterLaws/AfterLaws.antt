@@ -17,9 +17,8 @@ use Rattle.storage.specs.Rows.Ident.{id_of}
 use Rattle.storage.specs.declared.rows.id.Id.{Id}
 use Rattle.time_cache.specs.TimeCache.{get}
 use Rattle.postcard.specs.Message.{Neighbors, to_swarm, to_neighbors, Emitted, action_bytes}
-use Rattle.postcard.specs.Values.{delivery_value, wanted_value}
+use Rattle.postcard.specs.Values.{delivery_value}
 use Rattle.postcard.specs.Events.{ihaves_from}
-use Rattle.postcard.specs.declared.message.Wanted.{Wanted}
 use Rattle.postcard.specs.declared.message.Delivery.{Delivery}
 use Rattle.postcard.specs.declared.units.Round.{Round}
 use Rattle.protocol.specs.Links.{Links}
@@ -44,48 +43,18 @@ use Rattle.steps.specs.Settled.Then.{no_cached}
 use Rattle.steps.specs.Grafts.Reads.{HeldBelow}
 use Rattle.steps.proofs.TicksLaws.ActionLaws.{no-action, one-action, actions-then}
 use Rattle.steps.proofs.TicksLaws.TickLaws.{settled-evict}
-use Rattle.payloads.specs.Eager.Reply.{Replying, held_cached, reply_bytes}
-use Rattle.payloads.proofs.EagerLaws.ReplyLaws.{held-cached}
 use Rattle.payloads.specs.Late.Kinds.{late_as}
 use Rattle.payloads.proofs.LateLaws.LateLaws.{settled-links}
 use Rattle.payloads.specs.Broadcast.Broadcasts.{broadcast_bytes}
+use Rattle.std.specs.Prelude.{Option as Option'}
+use Rattle.steps.specs.declared.call.Call.{Call}
+use Rattle.payloads.specs.OnGraft.{wanted_id}
+use Rattle.payloads.proofs.EagerLaws.CallLaws.{settled-rooms}
+use Rattle.machine.specs.Actions.{panel_bytes}
 use Rattle.machine.specs.Kinds.Meaning.{step_actions, step_far}
 use Rattle.machine.specs.declared.kinds.Step.{Step}
 use Rattle.machine.specs.declared.kinds.Step.TheVariants as step
-use Rattle.machine.specs.ActionsAfter.After.{graft_bytes, new_bytes, step_bytes, call_bytes}
-
--- a first event leaves the record's flag
-settled-flag : (instant : ℕ) (s : State) → (settled instant s).timers.announce ≡ s.timers.announce
-unfolding settled
-settled-flag instant s = if-on (λ (x : State). x.timers.announce) s.init _ _ ∙ if-same s.init refl refl
-
--- the reply reads the record's flag alone
-reply-settled : (rooms : List Room) (sender id instant : ℕ) (o : Option Cached) (s : State) → reply_actions rooms sender id o s ≡ reply_actions rooms sender id o (settled instant s)
-unfolding reply_actions
-reply-settled rooms sender id instant none s = refl
-reply-settled rooms sender id instant (some c) s = sym (ap (push_actions rooms _ (sender ∷ [])) (settled-flag instant s))
-
-module _ (instant : ℕ) (rooms : List ℕ) (link : ℕ) (s : State) where
-  -- a Graft without identifier
-  pub graft-none : graft_bytes instant rooms link none s ≡ []
-  unfolding graft_actions
-  graft-none = no-action
-
-  -- a Graft of a message, given what is cached for it once a first event has evicted
-  pub graft-reply : (id : ℕ) (held : Held) → HeldIs no_cached s.cache.entries id (get id (settled instant s).cache) held → reply_bytes rooms link id held s ≡ graft_bytes instant rooms link (some id) s
-  unfolding graft_actions
-  graft-reply id held e =
-      ap (concat_map action_bytes)
-      (reply-settled (rooms_in s rooms) (peer_at s link) id instant (held_cached held s) s
-      ∙ sym (ap (λ (o : Option Cached). reply_actions (rooms_in s rooms) (peer_at s link) id o (settled instant s)) (held-cached s id (get id (settled instant s).cache) held e)))
-
--- the link and the cached message are there
-pub replying : (h : Head) (xs : List ℕ) (link : ℕ) → Stands h xs → link < length (state_of h xs).links → Replying h xs link
-replying h xs link stands q = record { sound = stands.sound; up = links-up h xs stands; link = omega (arith, q, count-links h xs) }
-
-pub held-there : (h : Head) (xs : List ℕ) (id : ℕ) (found : Option Cached) (held : Held) → Fit h xs → HeldIs no_cached (state_of h xs).cache.entries id found held → HeldBelow h.live.cached held
-held-there h xs id found (At i) fit e = omega (arith, e.below, count-cached h xs fit)
-held-there h xs id found Nothing fit e = tt
+use Rattle.machine.specs.ActionsAfter.After.{new_bytes, step_bytes, call_bytes}
 
 -- the actions of each step
 module _ (event : List ℕ) (instant : ℕ) (rooms : List ℕ) (s : State) where
@@ -116,9 +85,11 @@ module _ (event : List ℕ) (instant : ℕ) (rooms : List ℕ) (s : State) where
   unfolding step_actions
   of-late sender id d = refl
 
-  pub of-graft : (link : ℕ) (w : Wanted) → step_bytes event instant rooms (step.Graft link w) s ≡ graft_bytes instant rooms link (wanted_value w) s
-  unfolding step_actions
-  of-graft link w = ap (λ (m : Links). concat_map action_bytes (graft_actions room (get_or (keys m) link 0) (wanted_value w) settled_to)) (settled-links instant s)
+  pub of-graft : (call : Call) (link : ℕ) (w : Option' Id) → rooms ≡ call.rooms.numbers.now → step_bytes event instant rooms (step.Graft link w) s ≡ panel_bytes call (step.Graft link w) settled_to
+  unfolding step_actions panel_bytes
+  of-graft call link w e =
+      ap (λ (array : List ℕ). concat_map action_bytes (graft_actions (rooms_in s array) (peer_at settled_to link) (wanted_id w) settled_to)) e
+      ∙ ap (λ (r : List Room). concat_map action_bytes (graft_actions r (peer_at settled_to link) (wanted_id w) settled_to)) (sym (settled-rooms instant s call.rooms.numbers.now))
 
   pub of-ihave : (link start count : ℕ) → step_bytes event instant rooms (step.IHave link start count) s ≡ concat_map action_bytes (ihave_actions (ihaves_from event start count) settled_to)
   unfolding step_actions

@@ -10,7 +10,7 @@ use Rattle.storage.specs.Rows.Ident.{id_of}
 use Rattle.storage.proofs.RowsLaws.Parts.{length_part}
 use Rattle.time_cache.specs.TimeCache.{get}
 use Rattle.postcard.specs.Message.{Neighbors, to_swarm, to_neighbors, action_bytes}
-use Rattle.postcard.specs.Values.{delivery_value, wanted_value}
+use Rattle.postcard.specs.Values.{delivery_value}
 use Rattle.postcard.specs.Events.{ihaves_from}
 use Rattle.postcard.proofs.AnnouncementLaws.{listed-length}
 use Rattle.protocol.specs.State.{State}
@@ -23,6 +23,7 @@ use Rattle.block.specs.declared.head.Head.{Head}
 use Rattle.decide.specs.Settled.{settled, settled_actions}
 use Rattle.decide.proofs.LengthLaws.{length-actions}
 use Rattle.steps.specs.Stands.{Stands}
+use Rattle.payloads.specs.OnGraft.{wanted_id}
 use Rattle.machine.specs.Kinds.Meaning.{ContentHeld, StepHeld, step_actions}
 use Rattle.machine.specs.declared.kinds.Step.{Step}
 use Rattle.machine.specs.declared.kinds.Step.TheVariants as step
@@ -46,7 +47,7 @@ step-light bytes rooms t (step.NewNeighbors sender start len) s small held =
 step-light bytes rooms t (step.Late sender id d) s small held =
     light-more (late-light rooms sender (late_kind sender (delivery_value d) s.links (get (id_of id) s.grafted))) (omega arith)
 step-light bytes rooms t (step.Prune link) s small held = light-none
-step-light bytes rooms t (step.Graft link w) s small held = light-more (graft-light rooms (peer_at s link) (wanted_value w) s small) (omega arith)
+step-light bytes rooms t (step.Graft link w) s small held = light-more (graft-light rooms (peer_at s link) (wanted_id w) s small) (omega arith)
 step-light bytes rooms t (step.IHave link start count) s small held =
     light-more (ihave-light (ihaves_from bytes start count) s (omega (arith, listed-length bytes start count (ihaves_from bytes start count) held.listed, held.few))) (omega arith)
 step-light bytes rooms t (step.BroadcastSwarm id start len) s small held =

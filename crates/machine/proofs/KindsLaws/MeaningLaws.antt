@@ -14,19 +14,20 @@ use Rattle.storage.proofs.ListsLaws.Branches.{if-on, if-both, if-same}
 use Rattle.storage.proofs.ListsLaws.MapLaws.{and_right}
 use Rattle.storage.specs.Rows.Part.{part}
 use Rattle.storage.specs.Rows.Ident.{id_of}
+use Rattle.std.specs.Prelude.{Option}
 use Rattle.storage.specs.declared.rows.id.Id.{Id}
+use Rattle.payloads.specs.OnGraft.{wanted_id}
 use Rattle.storage.proofs.RowsLaws.Parts.{length_part, part-between}
 use Rattle.blake3.specs.Blake3.{identifier}
 use Rattle.time_cache.specs.TimeCache.{holds}
 use Rattle.postcard.specs.Message.{Delivery, Swarm, Neighbors, Scope, to_swarm, to_neighbors, Ihave, Message, Gossip, Prune, Graft, IHave, Received, Broadcast, Fired, SendGraft, DispatchLazyPush, EvictCache, AnnounceDropped, ihave_bytes, message_bytes}
 use Rattle.postcard.specs.Sizes.{gossip_size}
-use Rattle.postcard.specs.Values.{delivery_value, wanted_value, scope_value}
+use Rattle.postcard.specs.Values.{delivery_value, scope_value}
 use Rattle.postcard.specs.Events.{ihaves_from, Listed}
 use Rattle.postcard.specs.declared.message.Delivery as declared
 use Rattle.postcard.specs.declared.message.Delivery.TheVariants as delivery
 use Rattle.postcard.specs.declared.message.Scope as declared_scope
 use Rattle.postcard.specs.declared.message.Scope.TheVariants as scopes
-use Rattle.postcard.specs.declared.message.Wanted.{Wanted}
 use Rattle.postcard.specs.declared.units.Round.{Round}
 use Rattle.postcard.proofs.Lengths.{length-content, length-gossip, length-ihave, length-ihaves}
 use Rattle.postcard.proofs.AnnouncementLaws.{listed-length}
@@ -219,13 +220,13 @@ module _ (bytes : List ℕ) (now : ℕ) (s : State) (sender link : ℕ) (core : 
   unfolding too_far_before step_far
   means-prune = means-message bytes now s (step.Prune link) sender Prune core refl (does-prune (settled now s) there-settled peer-settled) is-link tt
 
-  does-graft : (w : Wanted) (round : ℕ) (t : State) → is_neighbour sender t.links ≡ true → peer_at t link ≡ sender → Does bytes now t (step.Graft link w) sender (Graft (wanted_value w) round)
+  does-graft : (w : Option Id) (round : ℕ) (t : State) → is_neighbour sender t.links ≡ true → peer_at t link ≡ sender → Does bytes now t (step.Graft link w) sender (Graft (wanted_id w) round)
   unfolding message_sizes message_actions message_state message_counts step_sizes step_actions step_state step_counts
   does-graft w round t a p = record { sizes = λ rooms. rw (a, p) refl; actions = λ rooms. rw (a, p) refl; state = λ rooms. rw (a, p) refl; counts = λ c. refl }
 
-  pub means-graft : (w : Wanted) (round : ℕ) → Means bytes now s (step.Graft link w) (Received sender (Graft (wanted_value w) round))
+  pub means-graft : (w : Option Id) (round : ℕ) → Means bytes now s (step.Graft link w) (Received sender (Graft (wanted_id w) round))
   unfolding too_far_before step_far
-  means-graft w round = means-message bytes now s (step.Graft link w) sender (Graft (wanted_value w) round) core refl (does-graft w round (settled now s) there-settled peer-settled) is-link tt
+  means-graft w round = means-message bytes now s (step.Graft link w) sender (Graft (wanted_id w) round) core refl (does-graft w round (settled now s) there-settled peer-settled) is-link tt
 
   does-ihave : (start count : ℕ) (t : State) → is_neighbour sender t.links ≡ true → peer_at t link ≡ sender → Does bytes now t (step.IHave link start count) sender (IHave (ihaves_from bytes start count))
   unfolding message_sizes message_actions message_state message_counts step_sizes step_actions step_state step_counts

@@ -16,7 +16,6 @@ use Rattle.protocol.specs.Run.{Room}
 use Rattle.protocol.specs.Push.{for_peer, notes}
 use Rattle.decide.specs.Rooms.{back_peers}
 use Rattle.decide.specs.RecordGrowth.{push_gain, push_gains}
-use Rattle.payloads.specs.Eager.Reply.{reply_gains}
 
 -- "unless … all have 4,096"
 gain-few : (id : ℕ) (ds : List Note) (extra p : ℕ) → length ds + extra ≤ 4096 → length ds + (push_gain id ds extra p + extra) ≤ 4096
@@ -37,9 +36,3 @@ gains-few id ds extra (p ∷ ps) h = omega (arith, gains-few id ds (push_gain id
 
 pub push-few : (id : ℕ) (ds : List Note) (ps : List ℕ) → length ds ≤ 4096 → push_gains id ds 0 ps ≤ 4096
 push-few id ds ps h = omega (arith, gains-few id ds 0 ps (omega (arith, h)))
-
--- a reply
-pub reply-few : (rooms : List Room) (sender id : ℕ) (c : Option Cached) (s : State) → length s.dropped ≤ 4096 → reply_gains rooms sender id c s ≤ 4096
-unfolding reply_gains
-reply-few rooms sender id none s h = omega arith
-reply-few rooms sender id (some c) s h = push-few id s.dropped (back_peers rooms (sender ∷ [])) h

@@ -13,10 +13,8 @@ use Rattle.storage.specs.declared.rows.id.Id.{Id}
 use Rattle.storage.proofs.RowsLaws.Parts.{length_part}
 use Rattle.time_cache.specs.TimeCache.{get}
 use Rattle.postcard.specs.Message.{Ihave}
-use Rattle.postcard.specs.Values.{wanted_value}
 use Rattle.postcard.specs.Events.{ihaves_from}
 use Rattle.postcard.specs.declared.message.Delivery.{Delivery}
-use Rattle.postcard.specs.declared.message.Wanted.{Wanted}
 use Rattle.postcard.specs.declared.units.Round.{Round}
 use Rattle.protocol.specs.State.{State, Note, Cached}
 use Rattle.protocol.specs.Run.{Room}
@@ -24,7 +22,7 @@ use Rattle.protocol.specs.Push.{eager_targets}
 use Rattle.protocol.specs.Gossips.{grafted_for}
 use Rattle.decide.specs.Settled.{settled}
 use Rattle.decide.specs.Sizes.{Sizes, sizes_of, sized_missing, sized_timers, sized_recorded, shrunk}
-use Rattle.decide.specs.SizesAfter.{taken_sizes, reply_sizes, graft_sizes, ihave_sizes, dispatch_sizes, new_sizes, send_graft_sizes, evict_sizes, announce_sizes}
+use Rattle.decide.specs.SizesAfter.{taken_sizes, ihave_sizes, dispatch_sizes, new_sizes, send_graft_sizes, evict_sizes, announce_sizes}
 use Rattle.decide.specs.Rooms.{back_peers}
 use Rattle.decide.specs.RecordGrowth.{push_gains}
 use Rattle.block.specs.LinkSteps.{peer_at}
@@ -38,9 +36,12 @@ use Rattle.steps.specs.SizesBefore.Counts.{TakenIs}
 use Rattle.announcements.specs.Ihaves.New.{NewIn}
 use Rattle.announcements.specs.declared.ihaves.NewIds.{NewIds}
 use Rattle.payloads.specs.Eager.Targets.{backs_of}
-use Rattle.payloads.specs.Eager.Reply.{held_cached, reply_gains}
-use Rattle.payloads.proofs.EagerLaws.ReplyLaws.{held-cached, reply-sizes}
-use Rattle.payloads.proofs.EagerLaws.CallLaws.{settled-as, settled-rooms, new-gains}
+use Rattle.payloads.proofs.EagerLaws.CallLaws.{settled-rooms, new-gains}
+use Rattle.steps.proofs.AtRestLaws.{settled-as}
+use Rattle.std.specs.Prelude.{Option as Option'}
+use Rattle.decide.specs.StateAfter.{graft_state}
+use Rattle.steps.specs.declared.call.Call.{Call}
+use Rattle.payloads.specs.OnGraft.{after_graft, wanted_id}
 use Rattle.machine.specs.Kinds.Meaning.{step_sizes}
 use Rattle.machine.specs.declared.kinds.Step.TheVariants as step
 use Rattle.payloads.specs.Broadcast.Broadcasts.{BroadcastIs}
@@ -104,31 +105,6 @@ module _ (now : ℕ) (s : State) where
   same-timers : (settled now s).timers.graft ≡ s.timers.graft
   same-timers = settled-as now s (λ (u : State). u.timers.graft) refl
 
-  same-peer : (l : ℕ) → peer_at (settled now s) l ≡ peer_at s l
-  same-peer l = settled-as now s (λ (u : State). peer_at u l) refl
-
-  -- a reply
-
-  reply-still : (rooms : List Room) (p id : ℕ) (c : Option Cached) → reply_gains rooms p id c s ≡ reply_gains rooms p id c (settled now s)
-  unfolding reply_gains
-  reply-still rooms p id none = refl
-  reply-still rooms p id (some c) = ap (λ (ds : List Note). push_gains id ds 0 (back_peers rooms (p ∷ []))) (sym same-dropped)
-
-  pub reply-sized : (rooms : List Room) (p id : ℕ) (k : Held) (z : CodeSizes) (g : ℕ) → sizes_value z ≡ sizes_of (settled now s) → HeldIs no_cached s.cache.entries id (get id (settled now s).cache) k
-      → g ≡ reply_gains rooms p id (held_cached k s) s → sized_recorded (z.dropped + g) (sizes_value z) ≡ reply_sizes rooms p id (get id (settled now s).cache) (settled now s)
-  reply-sized rooms p id k z g w e eg =
-      let c : Option Cached = get id (settled now s).cache in
-      let gained : g ≡ reply_gains rooms p id c (settled now s) = eg ∙ ap (λ (o : Option Cached). reply_gains rooms p id o s) (sym (held-cached s id c k e)) ∙ reply-still rooms p id c in
-      (λ i. sized_recorded (recorded-of (settled now s) z w i + gained i) (w i)) ∙ sym (reply-sizes rooms p id c (settled now s))
-
-  pub graft-some : (rooms : List Room) (p id : ℕ) → reply_sizes rooms p id (get id (settled now s).cache) (settled now s) ≡ graft_sizes rooms p (some id) (settled now s)
-  unfolding graft_sizes
-  graft-some rooms p id = refl
-
-  pub graft-none : (rooms : List Room) (p : ℕ) → sizes_of (settled now s) ≡ graft_sizes rooms p none (settled now s)
-  unfolding graft_sizes
-  graft-none rooms p = refl
-
   -- an IHave
   pub ihave-sized : (hs : List Ihave) (r : NewIds) (z : CodeSizes) → sizes_value z ≡ sizes_of (settled now s) → NewIn (settled now s) hs r
       → sized_missing (z.missing + r.missing) (sized_timers (z.timers + r.timers) (sizes_value z)) ≡ ihave_sizes hs (settled now s)
@@ -183,10 +159,6 @@ module _ (now : ℕ) (s : State) where
     unfolding step_sizes
     step-cast-near id start len = refl
 
-    pub step-graft : (link : ℕ) (w : Wanted) → graft_sizes rooms (peer_at s link) (wanted_value w) (settled now s) ≡ step_sizes bytes rooms now (step.Graft link w) (settled now s)
-    unfolding step_sizes
-    step-graft link w = ap (λ (p : ℕ). graft_sizes rooms p (wanted_value w) (settled now s)) (sym (same-peer link))
-
     pub step-ihave : (link start count : ℕ) → ihave_sizes (ihaves_from bytes start count) (settled now s) ≡ step_sizes bytes rooms now (step.IHave link start count) (settled now s)
     unfolding step_sizes
     step-ihave link start count = refl
@@ -206,6 +178,11 @@ module _ (now : ℕ) (s : State) where
     pub step-announce : announce_sizes (settled now s) ≡ step_sizes bytes rooms now step.AnnounceDropped (settled now s)
     unfolding step_sizes
     step-announce = refl
+
+  pub step-graft : (bytes : List ℕ) (call : Call) (link : ℕ) (w : Option' Id) → sizes_of (after_graft call link w (settled now s)) ≡ step_sizes bytes (rooms_in s call.rooms.numbers.now) now (step.Graft link w) (settled now s)
+  unfolding step_sizes
+  step-graft bytes call link w =
+      ap (λ (rooms : List Room). sizes_of (graft_state rooms (peer_at (settled now s) link) (wanted_id w) (settled now s))) (settled-rooms now s call.rooms.numbers.now)
 
   pub step-new : (bytes array : List ℕ) (sender : ℕ) (id : Id) (start len : ℕ) (round : Round) (z : CodeSizes) → start + len ≤ length bytes → NewIs now array (id_of id) len sender s z
       → sizes_value z ≡ step_sizes bytes (rooms_in s array) now (step.NewSwarm sender id start len round) (settled now s)

@@ -23,14 +23,10 @@ use Rattle.steps.specs.SizesBefore.Counts.{TakenIs}
 use Rattle.announcements.specs.Ihaves.New.{NewIn}
 use Rattle.announcements.specs.declared.ihaves.NewIds.{NewIds}
 use Rattle.announcements.proofs.IhavesLaws.NewLaws.{new-few-all}
-use Rattle.payloads.specs.Eager.Reply.{reply_gains}
-use Rattle.machine.proofs.SizesAfterLaws.FewGains.{push-few, reply-few}
+use Rattle.machine.proofs.SizesAfterLaws.FewGains.{push-few}
 use Rattle.machine.proofs.SizesAfterLaws.StepSizes.{recorded-of, taken-recorded, same-dropped}
 
 module _ (now : ℕ) (s : State) (few : length s.dropped ≤ 4096) (z : CodeSizes) (g : ℕ) where
-  pub reply-sum : sizes_value z ≡ sizes_of (settled now s) → (rooms : List Room) (p id : ℕ) (c : Option Cached) → g ≡ reply_gains rooms p id c s → z.dropped + g ≤ 8192
-  reply-sum w rooms p id c e = omega (arith, recorded-of (settled now s) z w, ap length (same-dropped now s), few, e, reply-few rooms p id c s few)
-
   pub push-sum : (id n sender : ℕ) → TakenIs id n sender (settled now s) z → (ps : List ℕ) → g ≡ push_gains id s.dropped 0 ps → z.dropped + g ≤ 8192
   push-sum id n sender is ps e = omega (arith, taken-recorded id n sender (settled now s) z is, ap length (same-dropped now s), few, e, push-few id s.dropped ps few)
 

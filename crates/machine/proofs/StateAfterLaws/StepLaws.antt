@@ -1,6 +1,7 @@
 -- What each step asks, out of what all ask, and the state after it.
 -- Assumes nothing.
-use mathlib.Core.Path.{◌≡◌, refl, sym, subst}
+use mathlib.Core.Path.{◌≡◌, refl, sym, ap, ◌∙◌, subst}
+use Rattle.std.specs.Prelude.{Option}
 use mathlib.Core.Bool.{false}
 use mathlib.Core.List.{List}
 use Prim.Native.Nat.{ℕ, ◌<◌}
@@ -10,17 +11,21 @@ use lib.ListN.{length}
 use Rattle.storage.specs.Rows.Part.{part}
 use Rattle.storage.specs.Rows.Ident.{id_of}
 use Rattle.storage.specs.declared.rows.id.Id.{Id}
-use Rattle.postcard.specs.Values.{delivery_value, wanted_value}
+use Rattle.postcard.specs.Values.{delivery_value}
 use Rattle.postcard.specs.Events.{ihaves_from, Listed}
 use Rattle.postcard.specs.declared.message.Delivery.{Delivery}
-use Rattle.postcard.specs.declared.message.Wanted.{Wanted}
 use Rattle.postcard.specs.declared.units.Round.{Round}
+use Rattle.protocol.specs.Links.{add_lazy}
 use Rattle.protocol.specs.Ticks.{evict}
-use Rattle.decide.specs.StateAfter.{send_graft_state, dispatch_state, announce_state}
+use Rattle.protocol.specs.Whole.{fits}
+use Rattle.decide.specs.StateAfter.{graft_state, send_graft_state, dispatch_state, announce_state}
 use Rattle.block.specs.View.{state_of}
 use Rattle.block.specs.Goes.{Goes}
 use Rattle.block.specs.declared.head.Head.{Head}
+use Rattle.block.specs.LinkSteps.{peer_at, linked}
 use Rattle.block.proofs.LinkLaws.{count-links}
+use Rattle.steps.specs.declared.call.Call.{Call}
+use Rattle.payloads.specs.OnGraft.{after_graft, wanted_id}
 use Rattle.steps.specs.Rooms.{rooms_in}
 use Rattle.steps.specs.Stands.{Step as Asks}
 use Rattle.announcements.specs.Ihaves.Heard.{heard_from}
@@ -28,7 +33,6 @@ use Rattle.payloads.specs.Late.Kinds.{late_after}
 use Rattle.machine.specs.Kinds.Meaning.{step_state, step_far, ContentHeld}
 use Rattle.machine.specs.declared.kinds.Step.{Step}
 use Rattle.machine.specs.declared.kinds.Step.TheVariants as step
-use Rattle.machine.specs.StateAfter.Controls.{pruned_at, grafted_at}
 use Rattle.payloads.specs.Broadcast.Broadcasts.{broadcast_in}
 use Rattle.payloads.specs.NewGossip.News.{new_in}
 use Rattle.machine.specs.StateAfter.StepAfter.{stepped_in, Stepping}
@@ -81,25 +85,27 @@ module _ {bytes array : List ℕ} {instant : ℕ} {r : Step} {h : Head} {xs : Li
   late-goes e d = told e (record { state = d.state; sound = d.sound })
 
   -- a Prune
-  pub prune-low : {l : ℕ} → r ≡ step.Prune l → l < h.live.links
-  prune-low {l} e = low-link l (known e).held
+  pub prune-there : {l : ℕ} → r ≡ step.Prune l → l < length (state_of h xs).links
+  prune-there e = (known e).held
 
-  pub prune-goes : {l : ℕ} {g : Head} {ys : List ℕ} → r ≡ step.Prune l → Goes (pruned_at l) h xs g ys → Goes (stepped_in bytes array instant r) h xs g ys
+  pub prune-goes : {l : ℕ} {g : Head} {ys : List ℕ} → r ≡ step.Prune l → Goes (λ s. linked (add_lazy (peer_at s l)) s) h xs g ys → Goes (stepped_in bytes array instant r) h xs g ys
   unfolding step_state
   prune-goes e d = told e (record { state = d.state; sound = d.sound })
 
   -- a Graft
-  module _ {l : ℕ} {w : Wanted} (e : r ≡ step.Graft l w) where
-    pub graft-low : l < h.live.links
-    graft-low = low-link l (known e).held
+  module _ {l : ℕ} {w : Option Id} (call : Call) (q : array ≡ call.rooms.numbers.now) (e : r ≡ step.Graft l w) where
+    pub graft-there : l < length (state_of h xs).links
+    graft-there = (known e).held
 
-    pub graft-asks : Asks (grafted_at array l (wanted_value w)) h xs
+    same-graft : step_state bytes (rooms_in (state_of h xs) array) instant (step.Graft l w) (state_of h xs) ≡ after_graft call l w (state_of h xs)
     unfolding step_state
-    graft-asks = record { stands = a.stands; fits = (known e).fits }
+    same-graft = ap (λ (ns : List ℕ). graft_state (rooms_in (state_of h xs) ns) (peer_at (state_of h xs) l) (wanted_id w) (state_of h xs)) q
 
-    pub graft-steps : {g : Head} {ys : List ℕ} → Goes (grafted_at array l (wanted_value w)) h xs g ys → Goes (stepped_in bytes array instant r) h xs g ys
-    unfolding step_state
-    graft-steps d = told e (record { state = d.state; sound = d.sound })
+    pub graft-asks : Asks (after_graft call l w) h xs
+    graft-asks = record { stands = a.stands; fits = ap fits (sym same-graft) ∙ (known e).fits }
+
+    pub graft-goes : {g : Head} {ys : List ℕ} → Goes (after_graft call l w) h xs g ys → Goes (stepped_in bytes array instant r) h xs g ys
+    graft-goes d = told e (record { state = d.state ∙ sym same-graft; sound = d.sound })
 
   -- an IHave
   module _ {l start count : ℕ} (e : r ≡ step.IHave l start count) where

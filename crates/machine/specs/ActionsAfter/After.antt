@@ -1,20 +1,14 @@
 -- The actions of the step of an event as bytes, with the link room as an array, of the state before the call.
 -- Assumes nothing.
 use Rattle.std.specs.Prelude.{ℕ, List, ◌++◌}
-use Rattle.std.proofs.Math.Option.{Option}
 use Rattle.storage.specs.Lists.Base.{concat_map}
 use Rattle.postcard.specs.Message.{action_bytes}
 use Rattle.protocol.specs.State.{State}
 use Rattle.decide.specs.Settled.{settled, settled_actions}
-use Rattle.decide.specs.ActionsAfter.{new_actions, graft_actions}
-use Rattle.block.specs.LinkSteps.{peer_at}
+use Rattle.decide.specs.ActionsAfter.{new_actions}
 use Rattle.steps.specs.Rooms.{rooms_in}
 use Rattle.machine.specs.Kinds.Meaning.{step_actions}
 use Rattle.machine.specs.declared.kinds.Step.{Step}
-
--- the actions of a Graft from the neighbour of a link, once a first event has evicted
-abbrev pub graft_bytes : ℕ → List ℕ → ℕ → Option ℕ → State → List ℕ
-graft_bytes instant rooms link wanted s = concat_map action_bytes (graft_actions (rooms_in s rooms) (peer_at s link) wanted (settled instant s))
 
 -- the actions of a new Swarm message, once a first event has evicted
 abbrev pub new_bytes : ℕ → List ℕ → ℕ → ℕ → List ℕ → ℕ → State → List ℕ

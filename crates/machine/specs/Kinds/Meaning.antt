@@ -6,7 +6,7 @@ use Rattle.storage.specs.Rows.Ident.{id_of}
 use Rattle.blake3.specs.Blake3.{identifier}
 use Rattle.time_cache.specs.TimeCache.{get}
 use Rattle.postcard.specs.Message.{Neighbors, to_swarm, to_neighbors, Event, Received, Broadcast, Fired, Up, Down, Action, Emitted}
-use Rattle.postcard.specs.Values.{delivery_value, wanted_value}
+use Rattle.postcard.specs.Values.{delivery_value}
 use Rattle.postcard.specs.Events.{ihaves_from, Listed}
 use Rattle.protocol.specs.Links.{add_lazy}
 use Rattle.protocol.specs.State.{State, Counts, with_links}
@@ -17,9 +17,10 @@ use Rattle.protocol.specs.Handle.{count_message}
 use Rattle.block.specs.LinkSteps.{peer_at}
 use Rattle.decide.specs.Sizes.{Sizes, sizes_of}
 use Rattle.decide.specs.Settled.{settled, settled_actions, too_far_before}
-use Rattle.decide.specs.SizesAfter.{new_sizes, graft_sizes, ihave_sizes, broadcast_sizes, send_graft_sizes, dispatch_sizes, evict_sizes, announce_sizes, sizes_after}
+use Rattle.decide.specs.SizesAfter.{new_sizes, ihave_sizes, broadcast_sizes, send_graft_sizes, dispatch_sizes, evict_sizes, announce_sizes, sizes_after}
 use Rattle.decide.specs.ActionsAfter.{new_actions, late_actions, graft_actions, ihave_actions, broadcast_actions, send_graft_actions, dispatch_actions, evict_actions, announce_actions, actions_after}
 use Rattle.decide.specs.StateAfter.{new_state, late_state, graft_state, ihave_state, broadcast_state, send_graft_state, dispatch_state, announce_state, state_after}
+use Rattle.payloads.specs.OnGraft.{wanted_id}
 use Rattle.machine.specs.Kinds.Counted.{raised, counts_after_call}
 use Rattle.machine.specs.declared.kinds.Step.{Step}
 use Rattle.machine.specs.declared.kinds.Step.TheVariants as step
@@ -31,7 +32,7 @@ step_sizes bytes rooms now (step.NewSwarm sender id start len round) s = new_siz
 step_sizes bytes rooms now (step.NewNeighbors sender start len) s = sizes_of s
 step_sizes bytes rooms now (step.Late sender id d) s = sizes_of s
 step_sizes bytes rooms now (step.Prune link) s = sizes_of s
-step_sizes bytes rooms now (step.Graft link w) s = graft_sizes rooms (peer_at s link) (wanted_value w) s
+step_sizes bytes rooms now (step.Graft link w) s = sizes_of (graft_state rooms (peer_at s link) (wanted_id w) s)
 step_sizes bytes rooms now (step.IHave link start count) s = ihave_sizes (ihaves_from bytes start count) s
 step_sizes bytes rooms now (step.BroadcastSwarm id start len) s = broadcast_sizes rooms (id_of id) (part start len bytes) to_swarm s
 step_sizes bytes rooms now (step.BroadcastNeighbors id start len) s = sizes_of s
@@ -47,7 +48,7 @@ step_actions bytes rooms (step.NewSwarm sender id start len round) s = new_actio
 step_actions bytes rooms (step.NewNeighbors sender start len) s = Emitted sender (part start len bytes) Neighbors ∷ []
 step_actions bytes rooms (step.Late sender id d) s = late_actions rooms sender (late_kind sender (delivery_value d) s.links (get (id_of id) s.grafted))
 step_actions bytes rooms (step.Prune link) s = []
-step_actions bytes rooms (step.Graft link w) s = graft_actions rooms (peer_at s link) (wanted_value w) s
+step_actions bytes rooms (step.Graft link w) s = graft_actions rooms (peer_at s link) (wanted_id w) s
 step_actions bytes rooms (step.IHave link start count) s = ihave_actions (ihaves_from bytes start count) s
 step_actions bytes rooms (step.BroadcastSwarm id start len) s = broadcast_actions rooms (id_of id) (part start len bytes) to_swarm s
 step_actions bytes rooms (step.BroadcastNeighbors id start len) s = broadcast_actions rooms (id_of id) (part start len bytes) to_neighbors s
@@ -63,7 +64,7 @@ step_state bytes rooms now (step.NewSwarm sender id start len round) s = new_sta
 step_state bytes rooms now (step.NewNeighbors sender start len) s = s
 step_state bytes rooms now (step.Late sender id d) s = late_state sender (id_of id) (late_kind sender (delivery_value d) s.links (get (id_of id) s.grafted)) s
 step_state bytes rooms now (step.Prune link) s = with_links (add_lazy (peer_at s link) s.links) s
-step_state bytes rooms now (step.Graft link w) s = graft_state rooms (peer_at s link) (wanted_value w) s
+step_state bytes rooms now (step.Graft link w) s = graft_state rooms (peer_at s link) (wanted_id w) s
 step_state bytes rooms now (step.IHave link start count) s = ihave_state (peer_at s link) (ihaves_from bytes start count) s
 step_state bytes rooms now (step.BroadcastSwarm id start len) s = broadcast_state rooms now (id_of id) (part start len bytes) to_swarm s
 step_state bytes rooms now (step.BroadcastNeighbors id start len) s = s

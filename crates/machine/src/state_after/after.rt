@@ -8,15 +8,16 @@ use announcements::{announce, dispatch, ihaves, send_graft};
 use block::head::Head;
 use payloads::late;
 use postcard::units::Millis;
+use steps::call::{Call, Rooms};
 use steps::contents::taking;
 
 // The state after a step, where a first event's work is done.
-pub fn step_state(
+pub fn step_state<'a>(
     h: Head,
     block: &mut [u8],
     instant: Millis,
-    rooms: &[u64; 34],
-    event: &[u8],
+    rooms: &'a [u64; 34],
+    event: &'a [u8],
     step: Step,
 ) -> Head
     requires { Stepping event.now rooms.now instant.0 step h block.old }
@@ -46,11 +47,16 @@ pub fn step_state(
             late::on_late_graft_reply(h, block, instant, sender, id, delivery);
             h
         }
-        Step::Prune { link } => {
-            controls::on_prune(h, block, link);
-            h
+        Step::Prune { link } => controls::prune(h, block, link),
+        Step::Graft { link, wanted } => {
+            let rooms = Rooms { numbers: rooms };
+            let call = Call {
+                instant,
+                event,
+                rooms,
+            };
+            controls::graft(h, block, &call, link, wanted)
         }
-        Step::Graft { link, wanted } => controls::on_graft(h, block, rooms, link, wanted),
         Step::IHave { link, start, count } => {
             ihaves::on_ihave(h, block, event, start, count, link)
         }
@@ -70,12 +76,12 @@ pub fn step_state(
 }
 
 // The state after an event that is no change of neighbours: "the first other event evicts and schedules EvictCache before anything else", then the step.
-pub fn call_state(
+pub fn call_state<'a>(
     h: Head,
     block: &mut [u8],
     instant: Millis,
-    rooms: &[u64; 34],
-    event: &[u8],
+    rooms: &'a [u64; 34],
+    event: &'a [u8],
     step: Step,
 ) -> Head
     requires { Calling event.now rooms.now instant.0 step h block.old }

@@ -1,32 +1,42 @@
-// Prune and Graft from a neighbour: the specification, "IHave, Graft, Prune".
-ghost use Rattle.std.specs.Prelude.{◌<◌};
-ghost use Rattle.postcard.specs.Values.{wanted_value};
+// Prune and Graft from a neighbour, of a header and a block.
+ghost use Rattle.std.specs.Prelude.{◌<◌, length};
+ghost use Rattle.protocol.specs.Links.{add_lazy};
+ghost use Rattle.block.specs.View.{state_of};
 ghost use Rattle.block.specs.Goes.{Goes};
+ghost use Rattle.block.specs.LinkSteps.{peer_at, linked};
 ghost use Rattle.steps.specs.Stands.{Stands, Step};
-ghost use Rattle.machine.specs.StateAfter.Controls.{pruned_at, grafted_at};
+ghost use Rattle.payloads.specs.OnGraft.{after_graft};
 
 use block::head::Head;
-use block::links;
-use payloads::eager::reply;
-use postcard::message::Wanted;
+use payloads::{on_graft, on_prune};
+use steps::call::Call;
+use steps::panel::Panel;
+use storage::rows::id::Id;
 
-// `on_prune`: the peer of the link goes lazy. It has no actions.
-pub fn on_prune(h: Head, block: &mut [u8], link: usize)
-    requires { Stands h block.old × (link < h.live.links) }
-    ensures { Goes (pruned_at link) h block.old h block.new }
+// `on_prune`.
+pub fn prune(head: Head, block: &mut [u8], link: usize) -> Head
+    requires { Stands head block.old × (link < length (state_of head block.old).links) }
+    ensures { Goes (λ s. linked (add_lazy (peer_at s link)) s) head block.old result block.new }
 {
-    links::set_mark(h, block, link, false);
+    let mut panel = Panel { head, block };
+    on_prune::on_prune(&mut panel, link);
+    let Panel {
+        head: last,
+        block: _,
+    } = panel;
+    last
 }
 
-// `on_graft`, the state half: the peer of the link goes eager, and gets the message that it wants, if it is cached: `note_dropped` of it, if it is handed back. Its
-// time is that of one pass over the record's column of link numbers.
-pub fn on_graft(h: Head, block: &mut [u8], rooms: &[u64; 34], link: usize, wanted: Wanted) -> Head
-    requires { Step (grafted_at rooms.now link (wanted_value wanted)) h block.old × (link < h.live.links) }
-    ensures { Goes (grafted_at rooms.now link (wanted_value wanted)) h block.old result block.new }
+// `on_graft`.
+pub fn graft(head: Head, block: &mut [u8], call: &Call, link: usize, wanted: Option<Id>) -> Head
+    requires { Step (after_graft call.now link wanted) head block.old × (link < length (state_of head block.old).links) }
+    ensures { Goes (after_graft call.now link wanted) head block.old result block.new }
 {
-    links::add_eager(h, block, link);
-    match wanted {
-        Wanted::Message(id) => reply::reply(h, block, rooms, link, id),
-        Wanted::Nothing => h,
-    }
+    let mut panel = Panel { head, block };
+    on_graft::on_graft(&mut panel, call, link, wanted);
+    let Panel {
+        head: last,
+        block: _,
+    } = panel;
+    last
 }

@@ -16,7 +16,7 @@ use Rattle.steps.specs.declared.Held.TheVariants.{Nothing}
 use Rattle.steps.proofs.TicksLaws.ActionLaws.{actions-then}
 use Rattle.payloads.specs.Eager.Targets.{skipped_in, targets_of}
 use Rattle.payloads.specs.Eager.Sent.{sent_bytes, push_bytes}
-use Rattle.payloads.proofs.EagerLaws.CallLaws.{settled-as}
+use Rattle.steps.proofs.AtRestLaws.{settled-as}
 use Rattle.payloads.specs.Broadcast.Broadcasts.{broadcast_bytes}
 use Rattle.payloads.proofs.BroadcastLaws.StepLaws.{own-number}
 

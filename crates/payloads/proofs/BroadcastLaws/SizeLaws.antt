@@ -25,7 +25,7 @@ use Rattle.steps.specs.declared.Held.TheVariants.{Nothing}
 use Rattle.steps.specs.declared.Sizes.{Sizes as CodeSizes}
 use Rattle.steps.specs.SizesBefore.Counts.{TakenIs}
 use Rattle.payloads.specs.Eager.Targets.{skipped_in, backs_of}
-use Rattle.payloads.proofs.EagerLaws.CallLaws.{settled-as}
+use Rattle.steps.proofs.AtRestLaws.{settled-as}
 use Rattle.payloads.specs.Broadcast.Broadcasts.{BroadcastIs}
 use Rattle.payloads.proofs.BroadcastLaws.StepLaws.{own-number}
 

@@ -39,7 +39,7 @@ use Rattle.steps.proofs.StandsLaws.{links-up, cached-order}
 use Rattle.payloads.specs.Eager.Targets.{Pushing, skipped_in, targets_of, backs_of}
 use Rattle.payloads.specs.Eager.Backs.{back_state}
 use Rattle.payloads.specs.Eager.Sent.{push_bytes}
-use Rattle.payloads.specs.Eager.Reply.{Replying, Replies, replied_state}
+use Rattle.steps.proofs.AtRestLaws.{settled-as}
 
 abbrev no_grafts : Entry (Timed Grafts)
 no_grafts = entry 0 (record { expires = 0; value = record { first = none; kept = none; peers = [] } })
@@ -64,46 +64,7 @@ skip-found s id found Nothing e = sym (ap (λ (o : Option Grafts). keys (peers_o
 pub pushing : (h : Head) (xs : List ℕ) (k : Held) → Stands h xs → HeldBelow h.live.grafted k → Pushing h xs k
 pushing h xs k s i = record { grafting = stands-grafting h xs s; skip = i }
 
-pub replying : (h : Head) (xs : List ℕ) (l : ℕ) → Stands h xs → l < h.live.links → Replying h xs l
-replying h xs l s i = record { sound = s.sound; up = links-up h xs s; link = i }
-
-fits-record : (s : State) → fits s ≡ true → length s.dropped ≤ s.limits.D
-unfolding fits
-fits-record s h =
-    leb-true (length s.dropped) s.limits.D
-    (and_right
-    (leb (length s.links) s.limits.N && cache_fits s.limits.R s.received && cache_fits s.limits.C s.cache && leb (content_held s) s.limits.B && cache_fits s.limits.G s.grafted
-    && leb (length s.missing) s.limits.S && leb (length s.timers.graft) s.limits.T && leb (length s.queue) s.limits.Q)
-    (leb (length s.dropped) s.limits.D) h)
-
-same-limits : (rooms : List Room) (sender id : ℕ) (c : Option Cached) (s : State) → (reply_state rooms sender id c s).limits ≡ s.limits
-unfolding reply_state pushed_state recorded_state
-same-limits rooms sender id none s = refl
-same-limits rooms sender id (some c) s = refl
-
-pub replies : (h : Head) (xs array : List ℕ) (l id : ℕ) → Step (replied_state array l id) h xs → l < h.live.links → Replies h xs array l id
-unfolding state_of
-replies h xs array l id s i = record {
-  replying = replying h xs l s.stands i;
-  order = cached-order h xs s.stands;
-  flagged = s.stands.consistent.record_flag;
-  room = omega (
-    arith,
-    fits-record (replied_state array l id (state_of h xs)) s.fits,
-    ap (λ (m : Limits). m.D) (same-limits (rooms_in (state_of h xs) array) (peer_at (state_of h xs) l) id (get id (state_of h xs).cache) (state_of h xs)),
-  );
-}
-
 -- a first event's eviction changes none of what a push reads but the grafted messages
-
-pub settled-as : {A : Type 0} (now : ℕ) (s : State) (f : State → A)
-    → f (with_init true (with_grafted (later_cache now s.grafted) (with_received (later_cache now s.received) (with_cache (later_cache now s.cache) s)))) ≡ f s → f (settled now s) ≡ f s
-unfolding settled
-settled-as now s f e = on s.init
-  where
-    on : (b : Bool) → f (if b then s else with_init true (with_grafted (later_cache now s.grafted) (with_received (later_cache now s.received) (with_cache (later_cache now s.cache) s)))) ≡ f s
-    on true = refl
-    on false = e
 
 module _ (now : ℕ) (s : State) where
   pub settled-rooms : (array : List ℕ) → rooms_in (settled now s) array ≡ rooms_in s array

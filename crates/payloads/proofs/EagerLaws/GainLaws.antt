@@ -22,7 +22,7 @@ use Rattle.payloads.proofs.EagerLaws.TargetLaws.{Roomed, backs_to, backs-yes, ba
 
 module _ (id : ℕ) (ds : List Note) where
   -- the tests of one peer, one by one
-  pub gain-is : (extra p : ℕ) (a b c : Bool) → leb 256 (count (for_peer p) ds) ≡ a → leb 4096 (length ds + extra) ≡ b → any (notes p id) ds ≡ c
+  gain-is : (extra p : ℕ) (a b c : Bool) → leb 256 (count (for_peer p) ds) ≡ a → leb 4096 (length ds + extra) ≡ b → any (notes p id) ds ≡ c
       → push_gain id ds extra p ≡ (if a || b || c then 0 else 1)
   unfolding push_gain
   gain-is extra p a b c x y z = λ k. if x k || y k || z k then 0 else 1

@@ -21,7 +21,8 @@ use Rattle.steps.specs.declared.Held.{Held}
 use Rattle.steps.specs.Settled.Then.{no_grafts}
 use Rattle.payloads.specs.Eager.Targets.{targets_of}
 use Rattle.payloads.specs.Eager.Sent.{push_bytes}
-use Rattle.payloads.proofs.EagerLaws.CallLaws.{settled-as, settled-rooms, new-pushed}
+use Rattle.payloads.proofs.EagerLaws.CallLaws.{settled-rooms, new-pushed}
+use Rattle.steps.proofs.AtRestLaws.{settled-as}
 use Rattle.steps.proofs.TicksLaws.ActionLaws.{one-action, actions-then}
 use Rattle.payloads.specs.Optimise.Best.{optimise_on}
 

@@ -1,7 +1,7 @@
 // What is handed back of a push is noted: the specification, "Record".
 ghost use Rattle.std.specs.Prelude.{◌≡◌, ◌<◌, ◌≤◌};
 ghost use Rattle.storage.specs.Rows.Ident.{id_of};
-ghost use Rattle.decide.specs.RecordGrowth.{push_gain, push_gains};
+ghost use Rattle.decide.specs.RecordGrowth.{push_gains};
 ghost use Rattle.block.specs.View.{state_of};
 ghost use Rattle.block.specs.Sound.{Sound};
 ghost use Rattle.block.specs.Goes.{Goes};
@@ -15,25 +15,6 @@ use block::head::Head;
 use block::note;
 use postcard::units::Round;
 use storage::rows::id::Id;
-
-// How many notes the record gets for one link that handed back a cached identifier, after `extra` for others: "added unless the peer has 256 or all have
-// 4,096", or it is there. Its time is that of one pass over the record's column of link numbers.
-pub fn push_gain(h: Head, block: &[u8], link: usize, id: Id, extra: usize) -> usize
-    requires { Sound h block.now × LinksAscend h block.now × (link < h.live.links) × (extra ≤ 32) }
-    ensures { result ≡ push_gain (id_of id) (state_of h block.now).dropped extra (peer_at (state_of h block.now) link) }
-{
-    let scan = note::scan_dropped(h, block, link, id);
-    if 256 <= scan.count {
-        return 0;
-    }
-    if 4096 <= h.live.dropped + extra {
-        return 0;
-    }
-    if scan.noted {
-        return 0;
-    }
-    1
-}
 
 // How many notes the record gets for a cached identifier that is pushed. Its time is that of one pass over the links, and of one over the record's column of
 // link numbers.

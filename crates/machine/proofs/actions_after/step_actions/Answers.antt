@@ -1,5 +1,5 @@
 -- `step_actions` meets its contract: in each arm the bytes of the step are those that the function writes.
-use mathlib.Core.Path.{◌≡◌, sym, ap, ◌∙◌, subst}
+use mathlib.Core.Path.{◌≡◌, refl, sym, ap, ◌∙◌, subst}
 use mathlib.Core.Bool.{false}
 use mathlib.Core.List.{List}
 use Prim.Native.Nat.{ℕ}
@@ -8,8 +8,16 @@ use Rattle.protocol.specs.State.{State}
 use Rattle.wire.proofs.OutputLaws.WrittenLaws.{written_none}
 use Rattle.block.specs.View.{state_of}
 use Rattle.steps.proofs.TicksLaws.ActionLaws.{tellable-as, written_as}
+use Rattle.std.specs.Prelude.{Option}
+use Rattle.storage.specs.declared.rows.id.Id.{Id}
+use Rattle.decide.specs.Settled.{settled}
+use Rattle.steps.specs.declared.call.Call.{Call}
+use Rattle.steps.proofs.AtRestLaws.{rest_of}
+use Rattle.machine.specs.Actions.{panel_bytes}
+use Rattle.machine.proofs.ActionsLaws.{link-there}
 use Rattle.machine.specs.Kinds.Meaning.{StepHeld, step_far}
 use Rattle.machine.specs.declared.kinds.Step.{Step}
+use Rattle.machine.specs.declared.kinds.Step.TheVariants as step
 use Rattle.machine.specs.ActionsAfter.After.{step_bytes}
 use Rattle.machine.specs.Kinds.Meaning.{SenderIs}
 use Rattle.machine.proofs.ActionsAfterLaws.AfterLaws.{of-nothing, of-prune, of-new, of-neighbors, of-late, of-graft, of-ihave, of-broadcast-swarm, of-broadcast-neighbors, of-send-graft, of-dispatch, of-evict, of-announce, not-far}
@@ -34,6 +42,15 @@ sender s e = subst (λ (x : Step). SenderIs (get_or s.args.rooms.now 33 0) x) e 
 far : (s : Start) {r : Step} → s.args.step ≡ r → step_far r ≡ false
 far s e = sym (ap step_far e) ∙ s.requires.stands.3
 
+abbrev call : Start → Call
+call s = record { instant = s.args.instant; event = s.args.event; rooms = record { numbers = s.args.rooms } }
+
+-- the bytes of a Graft
+graft_as : (s : Start) {l : ℕ} {w : Option Id} → s.args.step ≡ step.Graft l w → bytes s s.args.step ≡ panel_bytes (call s) s.args.step (settled s.args.instant.0 (st s))
+graft_as s {l} {w} e =
+    ap (bytes s) e ∙ of-graft s.args.event.now s.args.instant.0 s.args.rooms.now (st s) (call s) l w refl
+    ∙ ap (λ (r : Step). panel_bytes (call s) r (settled s.args.instant.0 (st s))) (sym e)
+
 pub new_swarm-requires : goal.new_swarm-requires
 new_swarm-requires c =
     let a = c.args in
@@ -49,10 +66,14 @@ late_actions-requires c =
     let a = c.args in
     record { stands = (c.requires.stands.0, sender (goal.at.late_actions-requires c).Start c.in-Late.is); tellable = tellable-as (ap (bytes (goal.at.late_actions-requires c).Start) c.in-Late.is ∙ of-late a.event.now a.instant.0 a.rooms.now (st (goal.at.late_actions-requires c).Start) c.in-Late.sender c.in-Late.id c.in-Late.delivery) c.requires.tellable }
 
-pub graft_actions-requires : goal.graft_actions-requires
-graft_actions-requires c =
-    let a = c.args in
-    record { stands = (c.requires.stands.0, held (goal.at.graft_actions-requires c).Start c.in-Graft.is); tellable = tellable-as (ap (bytes (goal.at.graft_actions-requires c).Start) c.in-Graft.is ∙ of-graft a.event.now a.instant.0 a.rooms.now (st (goal.at.graft_actions-requires c).Start) c.in-Graft.link c.in-Graft.wanted) c.requires.tellable }
+pub invariant_of-view : goal.invariant_of-view
+invariant_of-view c = record { sound = c.requires.stands.0.sound }
+
+pub invariant_of-actions : goal.invariant_of-actions
+invariant_of-actions c = record { rest = rest_of _ _ c.requires.stands.0; there = link-there (c.args.event.now) _ c.args.step c.requires.stands.1 }
+
+pub put_where_room-requires : goal.put_where_room-requires
+put_where_room-requires c = tellable-as (graft_as (goal.at.put_where_room-requires c).Start c.in-Graft.is) c.requires.tellable
 
 pub ihave_actions-requires : goal.ihave_actions-requires
 ihave_actions-requires c =
@@ -115,9 +136,7 @@ returns-in-Prune c =
     written_as (sym (ap (bytes (goal.at.returns-in-Prune c).Start) c.in-Prune.is ∙ of-prune a.event.now a.instant.0 a.rooms.now (st (goal.at.returns-in-Prune c).Start) c.in-Prune.link)) (written_none a.out.now a.at)
 
 pub returns-in-Graft : goal.returns-in-Graft
-returns-in-Graft c =
-    let a = c.args in
-    written_as (sym (ap (bytes (goal.at.returns-in-Graft c).Start) c.in-Graft.is ∙ of-graft a.event.now a.instant.0 a.rooms.now (st (goal.at.returns-in-Graft c).Start) c.in-Graft.link c.in-Graft.wanted)) c.graft_actions.ensures
+returns-in-Graft c = written_as (sym (graft_as (goal.at.returns-in-Graft c).Start c.in-Graft.is)) c.put_where_room.ensures
 
 pub returns-in-IHave : goal.returns-in-IHave
 returns-in-IHave c =

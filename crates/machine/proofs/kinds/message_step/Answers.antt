@@ -2,10 +2,11 @@
 use mathlib.Core.Path.{sym, subst}
 use Prim.Native.Nat.{ℕ, ◌≤◌}
 use lib.ListN.{length}
+use Rattle.std.proofs.Math.Option.{Option}
 use Rattle.storage.specs.Lists.Map.{keys}
 use Rattle.storage.specs.Rows.Sorted.{FoundIs}
 use Rattle.storage.specs.declared.rows.table.Found.{Found}
-use Rattle.postcard.specs.Message.{IHave, Received, message_bytes}
+use Rattle.postcard.specs.Message.{Graft, IHave, Received, message_bytes}
 use Rattle.postcard.specs.Values.{wanted_value}
 use Rattle.postcard.specs.Events.{ihaves_from, message_value, MessageHeld}
 use Rattle.postcard.specs.declared.message.Message.{Message}
@@ -63,8 +64,10 @@ returns-in-At-f c =
     let t = state_of a.h a.block.now in
     let f = subst (λ (o : Found). FoundIs (keys t.links) a.sender o) c.in-At-f.is c.find_link-f.ensures in
     let e = c.in-Graft.is in
-    subst (λ (v : Message). Means a.event.now a.instant.0 t (step.Graft c.in-At-f.link c.in-Graft.wanted) (Received a.sender (message_value a.event.now v))) (sym e)
-    (means-graft a.event.now a.instant.0 t a.sender c.in-At-f.link c.requires.0.consistent.core f c.in-Graft.wanted c.in-Graft.round.0)
+    let w = c.wanted_option-wanted in
+    subst (λ (v : Message). Means a.event.now a.instant.0 t (step.Graft c.in-At-f.link w.result) (Received a.sender (message_value a.event.now v))) (sym e)
+    (subst (λ (x : Option ℕ). Means a.event.now a.instant.0 t (step.Graft c.in-At-f.link w.result) (Received a.sender (Graft x c.in-Graft.round.0))) w.ensures
+    (means-graft a.event.now a.instant.0 t a.sender c.in-At-f.link c.requires.0.consistent.core f w.result c.in-Graft.round.0))
 
 pub returns-in-Before-f : goal.returns-in-Before-f
 returns-in-Before-f c =

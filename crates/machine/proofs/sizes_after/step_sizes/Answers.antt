@@ -5,6 +5,7 @@ use Rattle.block.specs.View.{state_of}
 use Rattle.steps.specs.Rooms.{rooms_in}
 use Rattle.block.proofs.LinkLaws.{count-links}
 use Rattle.decide.specs.Settled.{settled}
+use Rattle.steps.proofs.AtRestLaws.{rest_of}
 use Rattle.machine.specs.Kinds.Meaning.{StepHeld, step_sizes}
 use Rattle.machine.specs.declared.kinds.Step.{Step}
 use Rattle.machine.proofs.SizesAfterLaws.StepSizes.{step-nothing, step-near, step-late, step-prune, step-cast-near, step-graft, step-ihave, step-send-graft, step-dispatch, step-evict, step-announce, step-new, step-broadcast}
@@ -22,12 +23,14 @@ new_sizes-requires c =
     let held = subst (λ (v : Step). StepHeld a.event.now st v) c.in-NewSwarm.is c.requires.1 in
     (c.requires.0, omega (arith, held.short))
 
+pub invariant_of-view : goal.invariant_of-view
+invariant_of-view c = record { sound = c.requires.0.sound }
+
 pub graft_sizes-requires : goal.graft_sizes-requires
 graft_sizes-requires c =
     let a = c.args in
     let st = state_of a.h a.block.now in
-    let held = subst (λ (v : Step). StepHeld a.event.now st v) c.in-Graft.is c.requires.1 in
-    (c.requires.0, omega (arith, held, count-links a.h a.block.now))
+    (rest_of a.h a.block.now c.requires.0, subst (λ (v : Step). StepHeld a.event.now st v) c.in-Graft.is c.requires.1)
 
 pub ihave_step_sizes-requires : goal.ihave_step_sizes-requires
 ihave_step_sizes-requires c =
@@ -83,7 +86,7 @@ pub returns-in-Graft : goal.returns-in-Graft
 returns-in-Graft c =
     let a = c.args in
     let st = state_of a.h a.block.now in
-    c.graft_sizes.ensures ∙ step-graft a.instant.0 st a.event.now (rooms_in st a.rooms.now) c.in-Graft.link c.in-Graft.wanted ∙ as_step (goal.at.returns-in-Graft c).Start c.in-Graft.is
+    c.graft_sizes.ensures ∙ step-graft a.instant.0 st a.event.now (record { instant = a.instant; event = a.event; rooms = record { numbers = a.rooms } }) c.in-Graft.link c.in-Graft.wanted ∙ as_step (goal.at.returns-in-Graft c).Start c.in-Graft.is
 
 pub returns-in-IHave : goal.returns-in-IHave
 returns-in-IHave c =

@@ -1,6 +1,9 @@
 -- `after::step_state` meets its contract: each arm is its step.
-use Rattle.machine.proofs.StateAfterLaws.StepLaws.{new-asks, new-held, new-near, new-goes, late-goes, prune-low, prune-goes, graft-low, graft-asks, graft-steps, ihave-low, ihave-entries, ihave-asks, ihave-goes, broadcast-held, broadcast-asks, broadcast-goes, send-graft-asks, send-graft-goes, dispatch-asks, dispatch-goes, evict-goes, announce-asks, announce-steps, nothing-goes, neighbors-goes, broadcast-neighbors-goes}
+use Rattle.machine.proofs.StateAfterLaws.StepLaws.{new-asks, new-held, new-near, new-goes, late-goes, prune-there, prune-goes, graft-there, graft-asks, graft-goes, ihave-low, ihave-entries, ihave-asks, ihave-goes, broadcast-held, broadcast-asks, broadcast-goes, send-graft-asks, send-graft-goes, dispatch-asks, dispatch-goes, evict-goes, announce-asks, announce-steps, nothing-goes, neighbors-goes, broadcast-neighbors-goes}
+use Rattle.std.proofs.Common.{refl}
+use Rattle.steps.specs.declared.call.Call.{Call}
 use Rattle.machine.proofs.state_after.after.step_state.Goals as goal
+use Rattle.machine.proofs.state_after.after.step_state.Goals.{Start}
 
 pub new_swarm-requires : goal.new_swarm-requires
 new_swarm-requires c =
@@ -11,15 +14,16 @@ pub on_late_graft_reply-requires : goal.on_late_graft_reply-requires
 on_late_graft_reply-requires c =
     (c.requires.stands, c.requires.begun)
 
-pub on_prune-requires : goal.on_prune-requires
-on_prune-requires c =
-    let e = c.in-Prune.is in
-    (c.requires.stands, prune-low c.requires e)
+pub prune-requires : goal.prune-requires
+prune-requires c = (c.requires.stands, prune-there c.requires c.in-Prune.is)
 
-pub on_graft-requires : goal.on_graft-requires
-on_graft-requires c =
-    let e = c.in-Graft.is in
-    (graft-asks c.requires e, graft-low c.requires e)
+abbrev call : Start → Call
+call s = record { instant = s.args.instant; event = s.args.event; rooms = record { numbers = s.args.rooms } }
+
+pub graft-requires : goal.graft-requires
+graft-requires c =
+    let s = (goal.at.graft-requires c).Start in
+    (graft-asks c.requires (call s) refl c.in-Graft.is, graft-there c.requires (call s) refl c.in-Graft.is)
 
 pub on_ihave-requires : goal.on_ihave-requires
 on_ihave-requires c =
@@ -64,11 +68,11 @@ returns-in-Late c =
 
 pub returns-in-Prune : goal.returns-in-Prune
 returns-in-Prune c =
-    prune-goes c.requires c.in-Prune.is c.on_prune.ensures
+    prune-goes c.requires c.in-Prune.is c.prune.ensures
 
 pub returns-in-Graft : goal.returns-in-Graft
 returns-in-Graft c =
-    graft-steps c.requires c.in-Graft.is c.on_graft.ensures
+    graft-goes c.requires (call (goal.at.returns-in-Graft c).Start) refl c.in-Graft.is c.graft.ensures
 
 pub returns-in-IHave : goal.returns-in-IHave
 returns-in-IHave c =

@@ -16,12 +16,14 @@ ghost use Rattle.alike.specs.Rows.{same_row, same_rows, rows_of, first_of, kept_
 
 use crate::sequences;
 use crate::sequences::Sequence;
-use block::caches::cached;
+use block::caches::{cached, grafted};
 use block::head::{Head, Live};
+use block::missing::Missed;
 use block::{head, links, time_caches};
 use postcard::units::Round;
 use storage::rows::id::Id;
 use storage::rows::{id, word};
+use storage::tables::Row;
 use time_cache::cache::TimeBoundCache;
 
 // One of the tables.
@@ -94,7 +96,7 @@ fn timer_at(h: Head, block: &[u8], i: usize) -> Id
     ensures { id_of result ≡ get_or (state_of h block.now).timers.graft i 0 }
 {
     let a = head::timers_at(h.limits);
-    id::load_id(block, a + 32 * i)
+    id::load_id(block, a + Id::WIDTH * i)
 }
 
 // The identifier of missing message i.
@@ -103,7 +105,7 @@ fn missed_at(h: Head, block: &[u8], i: usize) -> Id
     ensures { id_of result ≡ (missed_at (state_of h block.now) i).key }
 {
     let a = head::missing_at(h.limits);
-    id::load_id(block, a + 129 * i)
+    id::load_id(block, a + Missed::WIDTH * i)
 }
 
 // The `first` of grafted message i.
@@ -111,10 +113,10 @@ fn first_at(h: Head, block: &[u8], i: usize) -> Sender
     requires { Sound h block.now × (i < h.live.grafted) }
     ensures { first_of result ≡ (grafts_at (state_of h block.now) i).first }
 {
-    let a = head::grafted_at(h.limits) + 119 * i;
-    let flag = block[a + 2];
-    let peer = word::load(block, a + 3);
-    let round = word::load2(block, a + 11);
+    let a = head::grafted_at(h.limits) + grafted::ENTRY_WIDTH * i;
+    let flag = block[a + grafted::FIRST];
+    let peer = word::load(block, a + grafted::FIRST_PEER);
+    let round = word::load2(block, a + grafted::FIRST_ROUND);
     Sender {
         there: flag != 0,
         peer,
@@ -127,9 +129,9 @@ fn kept_at(h: Head, block: &[u8], i: usize) -> Sender
     requires { Sound h block.now × (i < h.live.grafted) }
     ensures { (result.round.0 ≡ 0) × (kept_of result ≡ (grafts_at (state_of h block.now) i).kept) }
 {
-    let a = head::grafted_at(h.limits) + 119 * i;
-    let flag = block[a + 13];
-    let peer = word::load(block, a + 14);
+    let a = head::grafted_at(h.limits) + grafted::ENTRY_WIDTH * i;
+    let flag = block[a + grafted::KEPT];
+    let peer = word::load(block, a + grafted::KEPT_PEER);
     Sender {
         there: flag != 0,
         peer,

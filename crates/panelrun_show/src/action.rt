@@ -27,26 +27,6 @@ pub enum Action<'a> {
     },
 }
 
-// "0 SendGraft with identifier, 1 DispatchLazyPush, 2 EvictCache, 3 AnnounceDropped".
-fn read_timer<'a>(reader: &mut Reader<'a>) -> Result<Timer, Fault> {
-    match reader.byte()? {
-        0 => Ok(Timer::SendGraft(reader.id()?)),
-        1 => Ok(Timer::DispatchLazyPush),
-        2 => Ok(Timer::EvictCache),
-        3 => Ok(Timer::AnnounceDropped),
-        _ => Err(Fault::Form),
-    }
-}
-
-// "0 Swarm and round, 1 Neighbors".
-fn read_delivery<'a>(reader: &mut Reader<'a>) -> Result<Delivery, Fault> {
-    match reader.byte()? {
-        0 => Ok(Delivery::Swarm(reader.round()?)),
-        1 => Ok(Delivery::Neighbors),
-        _ => Err(Fault::Form),
-    }
-}
-
 fn read_send<'a>(reader: &mut Reader<'a>) -> Result<Action<'a>, Fault> {
     let peer = reader.number()?;
     let taken = match reader.byte()? {
@@ -64,7 +44,7 @@ fn read_send<'a>(reader: &mut Reader<'a>) -> Result<Action<'a>, Fault> {
 
 fn read_schedule<'a>(reader: &mut Reader<'a>) -> Result<Action<'a>, Fault> {
     let delay = reader.number()?;
-    let timer = read_timer(reader)?;
+    let timer = reader.timer()?;
     Ok(Action::Schedule { delay, timer })
 }
 
@@ -72,7 +52,7 @@ fn read_emit<'a>(reader: &mut Reader<'a>) -> Result<Action<'a>, Fault> {
     let peer = reader.number()?;
     let len = reader.number()?;
     let content = reader.bytes(len as usize)?;
-    let delivery = read_delivery(reader)?;
+    let delivery = reader.delivery()?;
     Ok(Action::Emit {
         peer,
         content,

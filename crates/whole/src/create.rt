@@ -5,9 +5,10 @@ ghost use Rattle.block.specs.View.{settings_of, limits_of};
 ghost use Rattle.block.specs.Fit.{Ceilings};
 ghost use Rattle.whole.specs.Creation.{Creation, fresh_live};
 
-use block::head::{Head, Limits, Live, Settings};
+use block::head::{Head, Limits, Live, MAX_LINKS, Settings};
 use block::header;
 use postcard::units::Millis;
+use protocol::MAX_DROPPED;
 
 // "at most 2^40" milliseconds
 const LONGEST_DURATION: u64 = 1 << 40;
@@ -49,20 +50,33 @@ fn up_to(ceiling: usize, n: usize) -> bool
     1 <= n && n <= ceiling
 }
 
+// The ceilings of the limits.
+const CEILINGS: Limits = Limits {
+    neighbours: MAX_LINKS,
+    received: 2048,
+    cached: 512,
+    content: 1 << 20,
+    grafted: 512,
+    missing: 512,
+    timers: 512,
+    queued: 8192,
+    dropped: MAX_DROPPED,
+};
+
 // (3) "Is each limit from 1 to its ceiling?"
 #[tactic(auto, unfolding(protocol::specs::State::limits_in_range))]
 pub fn limits_in_range(l: Limits) -> bool
     ensures { result ≡ limits_in_range (limits_of l) }
 {
-    up_to(32, l.neighbours)
-        && up_to(2048, l.received)
-        && up_to(512, l.cached)
-        && up_to(1048576, l.content)
-        && up_to(512, l.grafted)
-        && up_to(512, l.missing)
-        && up_to(512, l.timers)
-        && up_to(8192, l.queued)
-        && up_to(4096, l.dropped)
+    up_to(CEILINGS.neighbours, l.neighbours)
+        && up_to(CEILINGS.received, l.received)
+        && up_to(CEILINGS.cached, l.cached)
+        && up_to(CEILINGS.content, l.content)
+        && up_to(CEILINGS.grafted, l.grafted)
+        && up_to(CEILINGS.missing, l.missing)
+        && up_to(CEILINGS.timers, l.timers)
+        && up_to(CEILINGS.queued, l.queued)
+        && up_to(CEILINGS.dropped, l.dropped)
 }
 
 // (4) "4,096 + B + 160R + 256C + 640G + 512S + 64(N + T + Q + D) bytes"

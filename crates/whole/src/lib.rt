@@ -12,7 +12,7 @@ ghost use Rattle.block.specs.Fit.{Ceilings};
 ghost use Rattle.whole.specs.Held.{counts_within, whole_block};
 ghost use Rattle.whole.specs.Parts.{flags_with};
 
-use block::head::{Limits, Live};
+use block::head::{HEADER_SIZE, Limits, Live};
 use block::header;
 use storage::rows::word;
 
@@ -55,10 +55,10 @@ fn flags_stand(v: Live) -> bool
 pub fn is_whole(block: &[u8]) -> bool
     ensures { result ≡ whole_block block.now }
 {
-    if block.len() < 2048 {
+    if block.len() < HEADER_SIZE {
         return false;
     }
-    if 65535 < word::load(block, 24) {
+    if (u16::MAX as u64) < word::load(block, header::THRESHOLD) {
         return false;
     }
     let h = header::load_head(block);

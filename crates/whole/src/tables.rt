@@ -9,9 +9,15 @@ ghost use Rattle.block.specs.LinkSteps.{LinksAscend};
 ghost use Rattle.whole.specs.Held.{all_below, adjoin, all_lists};
 ghost use Rattle.whole.specs.Parts.{length_at, graft_list, missed_list, few, links_whole, received_whole, cached_whole, grafted_whole, missing_whole, timers_whole, queue_whole, record_whole, tables_whole};
 
-use block::head::Head;
+use block::caches::{cached, grafted};
+use block::head::{Head, MAX_LINKS};
+use block::hops::Hops;
+use block::missing::Missed;
 use block::{head, links, time_caches};
+use protocol::MAX_DROPPED_PER_PEER;
+use storage::rows::id::Id;
 use storage::rows::{table, word};
+use storage::tables::Row;
 use storage::{notes, refs};
 
 // A byte as a number that can be an index.
@@ -57,11 +63,11 @@ fn contents_adjoin(b: &[u8], m: usize, used: usize) -> bool
     let mut at: u64 = 0;
     let mut i = 0;
     while i < m {
-        let start = word::load4(b, i * 48 + 40);
+        let start = word::load4(b, i * cached::ROW_WIDTH + cached::START);
         if start != at {
             return false;
         }
-        let len = word::load4(b, i * 48 + 44);
+        let len = word::load4(b, i * cached::ROW_WIDTH + cached::LEN);
         at = start + len;
         i += 1;
     }
@@ -76,8 +82,8 @@ fn named_lengths(e: &[u8], n: usize, b: &[u8], m: usize) -> u64
     let mut total: u64 = 0;
     let mut i = 0;
     while i < n {
-        let p = word::load2(e, i * 4) as usize;
-        let len = word::load4(b, p * 48 + 44);
+        let p = word::load2(e, i * cached::ENTRY_WIDTH) as usize;
+        let len = word::load4(b, p * cached::ROW_WIDTH + cached::LEN);
         total = total + len;
         i += 1;
     }
@@ -131,7 +137,7 @@ fn graft_list(list: &[u8], m: usize) -> bool
     ensures { result ≡ graft_list m list.now }
 {
     let n = wide(list[0]);
-    if 32 < n {
+    if Hops::CAPACITY < n {
         return false;
     }
     let e = 1 + n;
@@ -145,8 +151,8 @@ fn graft_lists(b: &[u8], n: usize, m: usize) -> bool
 {
     let mut i = 0;
     while i < n {
-        let a = i * 119 + 22;
-        let e = a + 97;
+        let a = i * grafted::ENTRY_WIDTH + grafted::PEERS;
+        let e = a + Hops::WIDTH;
         let ok = graft_list(&b[a..e], m);
         if ok {
             i += 1;
@@ -177,7 +183,7 @@ fn missed_list(list: &[u8], m: usize) -> bool
     ensures { result ≡ missed_list m list.now }
 {
     let n = wide(list[0]);
-    if 32 < n {
+    if Hops::CAPACITY < n {
         return false;
     }
     if n < 1 {
@@ -194,8 +200,8 @@ fn missed_lists(b: &[u8], n: usize, m: usize) -> bool
 {
     let mut i = 0;
     while i < n {
-        let a = i * 129 + 32;
-        let e = a + 97;
+        let a = i * Missed::WIDTH + Missed::ANNOUNCERS;
+        let e = a + Hops::WIDTH;
         let ok = missed_list(&b[a..e], m);
         if ok {
             i += 1;
@@ -213,7 +219,7 @@ pub fn missing_whole(h: Head, block: &[u8]) -> bool
 {
     let a = head::missing_at(h.limits);
     let n = h.live.missing;
-    let up = table::ascending(&block[a..], 129, n);
+    let up = table::ascending(&block[a..], Missed::WIDTH, n);
     if !up {
         return false;
     }
@@ -226,7 +232,7 @@ pub fn timers_whole(h: Head, block: &[u8]) -> bool
     ensures { result ≡ timers_whole h block.now }
 {
     let a = head::timers_at(h.limits);
-    table::ascending(&block[a..], 32, h.live.timers)
+    table::ascending(&block[a..], Id::WIDTH, h.live.timers)
 }
 
 // Every number is below m. There is no exit from the loop, so that it is done for many bytes at once.
@@ -261,15 +267,15 @@ fn few_each(b: &[u8]) -> bool
     requires { Below 32 b.now }
     ensures { result ≡ few b.now }
 {
-    if b.len() <= 256 {
+    if b.len() <= MAX_DROPPED_PER_PEER {
         return true;
     }
-    let mut counts = [0u16; 32];
+    let mut counts = [0u16; MAX_LINKS];
     let mut i = 0;
     while i < b.len() {
         let k = wide(b[i]);
         let c = counts[k];
-        if 256 <= c {
+        if MAX_DROPPED_PER_PEER as u16 <= c {
             return false;
         }
         counts[k] = c + 1;
@@ -303,37 +309,17 @@ pub fn record_whole(h: Head, block: &[u8]) -> bool
 }
 
 // All tables: the links first, since elsewhere peers are told by the numbers of their links.
+#[tactic(auto, unfolding(crate::specs::Parts::tables_whole, crate::specs::Parts::links_whole))]
 pub fn tables_whole(h: Head, block: &[u8]) -> bool
     requires { Fit h block.now }
     ensures { result ≡ tables_whole h block.now }
 {
-    let links = links_whole(h, block);
-    if !links {
-        return false;
-    }
-    let received = received_whole(h, block);
-    if !received {
-        return false;
-    }
-    let cached = cached_whole(h, block);
-    if !cached {
-        return false;
-    }
-    let grafted = grafted_whole(h, block);
-    if !grafted {
-        return false;
-    }
-    let missing = missing_whole(h, block);
-    if !missing {
-        return false;
-    }
-    let timers = timers_whole(h, block);
-    if !timers {
-        return false;
-    }
-    let queue = queue_whole(h, block);
-    if !queue {
-        return false;
-    }
-    record_whole(h, block)
+    links_whole(h, block)
+        && received_whole(h, block)
+        && cached_whole(h, block)
+        && grafted_whole(h, block)
+        && missing_whole(h, block)
+        && timers_whole(h, block)
+        && queue_whole(h, block)
+        && record_whole(h, block)
 }

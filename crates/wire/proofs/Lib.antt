@@ -1,4 +1,3 @@
 pub mod EncodeLaws
-pub mod OutputLaws
 pub mod ReaderLaws
 pub mod RewriteLaws

@@ -1,4 +1,3 @@
 pub mod Encode
-pub mod Output
 pub mod Reader
 pub mod Rewrite

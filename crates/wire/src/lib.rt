@@ -3,7 +3,6 @@
 
 pub mod encode;
 pub mod laws;
-pub mod output;
 pub mod reader;
 pub mod rewrite;
 pub mod serialized_size;

@@ -23,9 +23,9 @@ const ROUND: usize = 2;
 // How many bytes an expiry row has, and where start and length of the content stand.
 pub const ROW_WIDTH: usize = 48;
 
-const START: usize = 40;
+pub const START: usize = 40;
 
-const LEN: usize = 44;
+pub const LEN: usize = 44;
 
 // Where the content of a cached message stands among the contents: table 6.
 #[derive(Clone, Copy)]

@@ -21,17 +21,17 @@ use storage::rows::word;
 // and the list of the grafted peers.
 pub const ENTRY_WIDTH: usize = 119;
 
-const FIRST: usize = 2;
+pub const FIRST: usize = 2;
 
-const FIRST_PEER: usize = 3;
+pub const FIRST_PEER: usize = 3;
 
-const FIRST_ROUND: usize = 11;
+pub const FIRST_ROUND: usize = 11;
 
-const KEPT: usize = 13;
+pub const KEPT: usize = 13;
 
-const KEPT_PEER: usize = 14;
+pub const KEPT_PEER: usize = 14;
 
-const PEERS: usize = 22;
+pub const PEERS: usize = 22;
 
 // How many bytes an expiry row has.
 pub const ROW_WIDTH: usize = 40;

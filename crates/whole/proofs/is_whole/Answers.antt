@@ -40,9 +40,9 @@ passed c =
     let xs = c.args.block.now in
     let h = c.load_head-h.result in
     let need = c.block_need in (
-      le-leb 2048 (length xs) c.if-block-lt2048.false,
+      le-leb 2048 (length xs) c.if-block-lt-HEADER_SIZE.false,
       (
-        le-leb (word_at 24 xs) 65535 (omega (arith, c.load.ensures, c.if-load-gt65535.false)),
+        le-leb (word_at 24 xs) 65535 (omega (arith, c.load.ensures, c.if-load.false)),
         (
           yes c.limits_in_range.ensures (ap not c.if-not-limits_in_range.false),
           (
@@ -62,15 +62,15 @@ passed c =
       ),
     )
 
-pub returns-then-block-lt2048 : goal.returns-then-block-lt2048
-returns-then-block-lt2048 c =
+pub returns-then-block-lt-HEADER_SIZE : goal.returns-then-block-lt-HEADER_SIZE
+returns-then-block-lt-HEADER_SIZE c =
     let xs = c.args.block.now in
-    sym (stops (first_test xs) (later_tests (head_in xs) xs) 0 (lt-leb 2048 (length xs) c.if-block-lt2048.true)) ∙ whole-told xs (head_in xs) refl
+    sym (stops (first_test xs) (later_tests (head_in xs) xs) 0 (lt-leb 2048 (length xs) c.if-block-lt-HEADER_SIZE.true)) ∙ whole-told xs (head_in xs) refl
 
-pub returns-then-load-gt65535 : goal.returns-then-load-gt65535
-returns-then-load-gt65535 c =
+pub returns-then-load : goal.returns-then-load
+returns-then-load c =
     let xs = c.args.block.now in
-    sym (stops (first_test xs) (later_tests (head_in xs) xs) 1 (lt-leb (word_at 24 xs) 65535 (omega (arith, c.load.ensures, c.if-load-gt65535.true)))) ∙ whole-told xs (head_in xs) refl
+    sym (stops (first_test xs) (later_tests (head_in xs) xs) 1 (lt-leb (word_at 24 xs) 65535 (omega (arith, c.load.ensures, c.if-load.true)))) ∙ whole-told xs (head_in xs) refl
 
 pub returns-then-not-limits_in_range : goal.returns-then-not-limits_in_range
 returns-then-not-limits_in_range c =

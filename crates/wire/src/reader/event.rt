@@ -40,7 +40,7 @@ impl<'a> Reader<'a> {
 
     // "Timers: 0 SendGraft with identifier, 1 DispatchLazyPush, 2 EvictCache, 3 AnnounceDropped"; the range above is 8.
     #[tactic(auto, unfolding(postcard::specs::Decode::read_timer, postcard::specs::Decode::timer_of), using(crate::proofs::ReaderLaws::KindLaws::kind_end, crate::proofs::ReaderLaws::KindLaws::kind_known, crate::proofs::ReaderLaws::KindLaws::kind_unknown))]
-    fn timer(&mut self) -> Result<Timer, Fault>
+    pub fn timer(&mut self) -> Result<Timer, Fault>
         ensures { Gives timer_value result self.new.rest.now (read_timer self.old.rest.now) }
     {
         match self.byte()? {

@@ -42,7 +42,7 @@ impl<'a> Reader<'a> {
 
     // "Delivery: 0 Swarm and round, 1 Neighbors", whose kind may be padded; the range above is 8.
     #[tactic(auto, unfolding(postcard::specs::Decode::read_delivery, postcard::specs::Decode::delivery_kind, postcard::specs::Decode::delivery_of), using(crate::proofs::ReaderLaws::KindLaws::delivery_unknown))]
-    fn delivery(&mut self) -> Result<Delivery, Fault>
+    pub fn delivery(&mut self) -> Result<Delivery, Fault>
         ensures { Gives delivery_value result self.new.rest.now (read_delivery self.old.rest.now) }
     {
         match self.kind()? {

@@ -1,6 +1,5 @@
 -- `tables::same_words`: the first i bytes agree. The measure is what is left.
 use mathlib.Core.Path.{sym, ◌∙◌}
-use Prim.Native.Nat.{◌-◌}
 use native.Mathlib.Omega.{arith}
 use Rattle.alike.proofs.Lists.{same_word}
 use borrow.Author.Rules.{rules}

@@ -1,18 +1,8 @@
 -- `both`: by cases of the two tests.
 use mathlib.Core.Path.{sym, ◌∙◌}
-use native.Mathlib.Omega.{arith}
 use borrow.Author.Tests.{eqb-true, eqb-false}
 use Rattle.storage.specs.Notes.Chains.{id_at}
 use Rattle.storage.proofs.notes.both.Goals as goal
-
-pub bounds-c-p : goal.bounds-c-p
-bounds-c-p c = c.requires.0
-
-pub overflow_mul-p : goal.overflow_mul-p
-overflow_mul-p c = omega (arith, c.requires.1)
-
-pub load_id-y-requires : goal.load_id-y-requires
-load_id-y-requires c = c.requires.1
 
 pub returns-then-s : goal.returns-then-s
 unfolding id_at
@@ -21,6 +11,3 @@ returns-then-s c = (c.if-c-p.true, sym c.load_id-y.ensures ∙ eqb-true _ _ (sym
 pub returns-then-c-p : goal.returns-then-c-p
 unfolding id_at
 returns-then-c-p c = λ e f. eqb-false _ _ (sym c.same-s.ensures ∙ c.if-s.false) (c.load_id-y.ensures ∙ f)
-
-pub returns : goal.returns
-returns c = λ e f. c.if-c-p.false e

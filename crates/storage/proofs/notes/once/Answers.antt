@@ -4,7 +4,7 @@ use mathlib.Core.Bool.{Bool}
 use Prim.Native.Nat.{ℕ, ◌+◌, ◌%◌, ◌<◌}
 use lib.ListN.{get_or, set, length-set}
 use Rattle.storage.specs.Rows.Ident.{id_of}
-use Rattle.storage.specs.Notes.Chains.{id_at, bucket_of, bucket, Latest, TellsNew, Once}
+use Rattle.storage.specs.Notes.Chains.{id_at, bucket_of, bucket, TellsNew}
 use Rattle.storage.proofs.NotesLaws.Walks.{in-range, Heads, heads-start, heads-more, chained-start, chained_more, once-start, once_more, once-not}
 use native.Mathlib.Omega.{arith}
 use borrow.Author.Rules.{rules}
@@ -23,50 +23,6 @@ loop-i-init c = (
   refl,
   once-start c.args.c.now c.args.b.now,
 )
-
-pub overflow_mul-i : goal.overflow_mul-i
-overflow_mul-i c = omega (arith, c.requires.2, c.loop-i-test.true)
-
-pub load_id-x-requires : goal.load_id-x-requires
-load_id-x-requires c = omega (arith, c.requires.2, c.loop-i-test.true)
-
-pub bounds-c-i : goal.bounds-c-i
-bounds-c-i c = omega (arith, c.requires.1, c.loop-i-test.true)
-
-pub offset_bounds-head-h : goal.offset_bounds-head-h
-offset_bounds-head-h c = omega (arith, below c)
-
-pub bounds-head-h : goal.bounds-head-h
-bounds-head-h c = omega (arith, below c)
-
-pub is_new-ok-requires : goal.is_new-ok-requires
-is_new-ok-requires c =
-    let l = c.loop-i in
-    let cs = c.args.c.now in
-    let b = c.args.b.now in
-    let h = c.bucket_of-h.result in (
-      omega (arith, c.requires.0, c.loop-i-test.true),
-      omega (arith, c.requires.1, c.loop-i-test.true),
-      omega (arith, c.requires.2, c.loop-i-test.true),
-      subst (λ (v : ℕ). Latest cs b l.i (bucket_of (id_of c.load_id-x.result) (get_or cs l.i 0)) v) (sym c.wide.ensures)
-          (subst (λ (v : ℕ). Latest cs b l.i v (get_or l.head h 0)) c.bucket_of-h.ensures (l.invariant.1.each h (below (goal.at.is_new-ok-requires c).After-bucket_of-h))),
-      l.invariant.2,
-    )
-
-pub offset_bounds-next-i : goal.offset_bounds-next-i
-offset_bounds-next-i c = omega (arith, c.requires.0, c.loop-i-test.true)
-
-pub bounds-next-i : goal.bounds-next-i
-bounds-next-i c = omega (arith, c.requires.0, c.loop-i-test.true)
-
-pub overflow_add-head : goal.overflow_add-head
-overflow_add-head c = omega (arith, c.requires.0, c.loop-i-test.true)
-
-pub offset_bounds-head-h-then-ok : goal.offset_bounds-head-h-then-ok
-offset_bounds-head-h-then-ok c = omega (arith, below (goal.at.offset_bounds-head-h-then-ok c).After-bucket_of-h)
-
-pub bounds-head-h-then-ok : goal.bounds-head-h-then-ok
-bounds-head-h-then-ok c = omega (arith, below (goal.at.bounds-head-h-then-ok c).After-bucket_of-h)
 
 pub loop-i-preserved : goal.loop-i-preserved
 unfolding id_at
@@ -94,9 +50,3 @@ returns-else-ok c =
     let b = c.args.b.now in
     let t = subst (λ (v : Bool). TellsNew cs b l.i (get_or cs l.i 0) (id_of c.load_id-x.result) v) c.if-ok.false c.is_new-ok.ensures in
     once-not cs b l.i c.args.n (get_or cs l.i 0) (id_of c.load_id-x.result) c.loop-i-test.true refl c.load_id-x.ensures t
-
-pub returns : goal.returns
-returns c =
-    let l = c.loop-i in
-    let e : l.i ≡ c.args.n = omega (arith, l.invariant.0, c.loop-i-test.false) in
-    subst (λ (v : ℕ). Once c.args.c.now c.args.b.now v) e l.invariant.4

@@ -32,12 +32,6 @@ pub loop-i-init : goal.loop-i-init
 unfolding count
 loop-i-init c = (search rules, search rules, refl)
 
-pub overflow_mul-i : goal.overflow_mul-i
-overflow_mul-i c = omega (arith, room c)
-
-pub load2-p-requires : goal.load2-p-requires
-load2-p-requires c = omega (arith, room c)
-
 pub loop-i-preserved-then-k-p : goal.loop-i-preserved-then-k-p
 loop-i-preserved-then-k-p c =
     let l = c.loop-i in

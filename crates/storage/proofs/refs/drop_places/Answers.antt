@@ -53,33 +53,6 @@ inside c = omega (arith, c.loop-i-test.true, length-refs c.args.stride c.args.n 
 pub loop-i-init : goal.loop-i-init
 loop-i-init c = (going_start (names c.args.k) (lowered c.args.k) (ref 0 []) (refs c.args.stride c.args.n c.args.e.now), refl)
 
-pub overflow_mul-from : goal.overflow_mul-from
-overflow_mul-from c = omega (arith, (room c).0)
-
-pub load2-p-requires : goal.load2-p-requires
-load2-p-requires c = omega (arith, (room c).0, c.loop-i.invariant.1)
-
-pub overflow_mul-to : goal.overflow_mul-to
-overflow_mul-to c = omega (arith, (room (goal.at.overflow_mul-to c).In-loop-i).1)
-
-pub overflow_add-j : goal.overflow_add-j
-overflow_add-j c = omega (arith, c.loop-i.invariant.0.behind)
-
-pub overflow_add-from : goal.overflow_add-from
-overflow_add-from c = omega (arith, (room (goal.at.overflow_add-from c).In-loop-i).0)
-
-pub overflow_add-to : goal.overflow_add-to
-overflow_add-to c = omega (arith, (room (goal.at.overflow_add-to c).In-loop-i).1)
-
-pub move_down-requires : goal.move_down-requires
-move_down-requires c =
-    let l = c.loop-i in
-    (omega (arith, (room (goal.at.move_down-requires c).In-loop-i).2), omega (arith, (room (goal.at.move_down-requires c).In-loop-i).0, l.invariant.1))
-
-pub store_le-requires : goal.store_le-requires
-store_le-requires c =
-    omega (arith, (room (goal.at.store_le-requires c).In-loop-i).1, c.loop-i.invariant.1, c.move_down.auto.b)
-
 pub loop-i-preserved-then-k-p : goal.loop-i-preserved-then-k-p
 loop-i-preserved-then-k-p c =
     let l = c.loop-i in
@@ -104,9 +77,6 @@ loop-i-preserved c =
     let a = c.args in
     let rs = refs a.stride a.n a.e.now in
     (going_drop (names a.k) (lowered a.k) (ref 0 []) rs (refs a.stride a.n l.e) l.j l.i l.invariant.0 (inside (goal.at.loop-i-preserved c).In-loop-i) (ap (leb a.k) (sym (place (goal.at.loop-i-preserved c).After-load2-p)) ∙ lt-leb a.k c.load2-p.result c.if-k-p.false), l.invariant.1)
-
-pub shape_of-e : goal.shape_of-e
-shape_of-e c = c.loop-i.invariant.1
 
 pub returns : goal.returns
 unfolding left

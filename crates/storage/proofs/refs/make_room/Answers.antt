@@ -42,17 +42,8 @@ was c =
 pub loop-j-init : goal.loop-j-init
 loop-j-init c = (search rules, done-start (moved c.args.i) (ref 0 []) (refs c.args.stride c.args.n c.args.e.now), refl)
 
-pub overflow_mul-at : goal.overflow_mul-at
-overflow_mul-at c = omega (arith, room c)
-
-pub load2-p-requires : goal.load2-p-requires
-load2-p-requires c = let l = c.loop-j in omega (arith, room c, l.invariant.2)
-
 pub shift-q-requires : goal.shift-q-requires
 shift-q-requires c = omega (arith, (was c).1)
-
-pub store_le-requires : goal.store_le-requires
-store_le-requires c = let l = c.loop-j in omega (arith, room (goal.at.store_le-requires c).In-loop-j, l.invariant.2)
 
 pub loop-j-preserved : goal.loop-j-preserved
 loop-j-preserved c =
@@ -71,9 +62,6 @@ loop-j-preserved c =
           ∙ done_more (moved c.args.i) (ref 0 []) rs l.j (omega (arith, h, length-refs c.args.stride c.args.n c.args.e.now)),
       c.store_le.auto.b ∙ l.invariant.2,
     )
-
-pub shape_of-e : goal.shape_of-e
-shape_of-e c = c.loop-j.invariant.2
 
 pub returns : goal.returns
 returns c =

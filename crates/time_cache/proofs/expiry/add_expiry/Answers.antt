@@ -16,19 +16,6 @@ use Rattle.time_cache.proofs.expiry.add_expiry.Goals.{Start}
 room : (s : Start) → s.args.i * s.args.stride + s.args.stride ≤ (s.args.m + 1) * s.args.stride
 room s = row-end s.args.stride (s.args.m + 1) s.args.i (omega (arith, s.requires.1))
 
-pub overflow_mul-at : goal.overflow_mul-at
-overflow_mul-at c = omega (arith, room (goal.at.overflow_mul-at c).Start, c.requires.2)
-
-pub store-requires : goal.store-requires
-store-requires c = omega (arith, room (goal.at.store-requires c).Start, c.requires, c.insert_row.auto.b)
-
-pub overflow_add-at : goal.overflow_add-at
-overflow_add-at c = omega (arith, room (goal.at.overflow_add-at c).Start, c.requires)
-
-pub store_id-requires : goal.store_id-requires
-store_id-requires c =
-    omega (arith, room (goal.at.store_id-requires c).Start, c.requires, c.insert_row.auto.b, c.store.auto.b)
-
 pub returns : goal.returns
 returns c =
     let a = c.args in

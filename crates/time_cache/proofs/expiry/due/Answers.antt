@@ -40,17 +40,11 @@ loop-lo-init c =
     let a = c.args in
     around-start (map expiry_of (expiry_rows a.stride a.m a.x.now)) a.time.0 a.m (length-expiries a.stride a.m a.x.now)
 
-pub overflow_add-mid : goal.overflow_add-mid
-overflow_add-mid c = omega (arith, inside c)
-
 pub overflow_mul-mid : goal.overflow_mul-mid
 overflow_mul-mid c = omega (arith, room c)
 
 pub load-t-requires : goal.load-t-requires
 load-t-requires c = omega (arith, room c)
-
-pub overflow_add-lo : goal.overflow_add-lo
-overflow_add-lo c = omega (arith, inside (goal.at.overflow_add-lo c).In-loop-lo)
 
 pub loop-lo-preserved-then-t-time : goal.loop-lo-preserved-then-t-time
 loop-lo-preserved-then-t-time c =

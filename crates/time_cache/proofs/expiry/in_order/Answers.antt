@@ -24,15 +24,6 @@ was : (c : After-load-t)
 was c =
     c.load-t.ensures ∙ sym (expiry-time c.args.stride c.args.m c.loop-i.i c.args.x.now c.requires.0 c.loop-i-test.true)
 
-pub loop-i-init : goal.loop-i-init
-loop-i-init c = (search rules, rising-start (map expiry_of (expiry_rows c.args.stride c.args.m c.args.x.now)))
-
-pub overflow_mul-i : goal.overflow_mul-i
-overflow_mul-i c = omega (arith, room c)
-
-pub load-t-requires : goal.load-t-requires
-load-t-requires c = omega (arith, room c)
-
 pub returns-then-t-last : goal.returns-then-t-last
 returns-then-t-last c =
     let l = c.loop-i in

@@ -47,9 +47,6 @@ loop-lo-init c =
     let a = c.args in
     bracket-start (keys_in a.stride a.n a.e.now a.width a.m a.x.now) (id_of a.key) a.n (length-named a.stride a.n a.e.now a.width a.m a.x.now)
 
-pub overflow_add-mid : goal.overflow_add-mid
-overflow_add-mid c = omega (arith, spot c)
-
 pub overflow_mul-mid : goal.overflow_mul-mid
 overflow_mul-mid c = omega (arith, (spot c).3)
 
@@ -64,9 +61,6 @@ overflow_add-p c = omega (arith, there c, c.requires.0.expiry_wide)
 
 pub load_id-at-requires : goal.load_id-at-requires
 load_id-at-requires c = omega (arith, there c, c.requires.0.expiry_wide)
-
-pub overflow_add-lo : goal.overflow_add-lo
-overflow_add-lo c = omega (arith, spot (goal.at.overflow_add-lo c).In-loop-lo)
 
 pub loop-lo-preserved-in-Less : goal.loop-lo-preserved-in-Less
 loop-lo-preserved-in-Less c =
@@ -87,9 +81,3 @@ loop-lo-preserved c =
     let l = c.loop-lo in
     let o = of-greater (id_of c.load_id-at.result) (id_of c.args.key) (sym c.in-Greater.is ∙ c.compare-o.ensures) in
     bracket-down (ks (goal.at.loop-lo-preserved c).In-loop-lo) (id_of c.args.key) l.lo l.hi (mid (goal.at.loop-lo-preserved c).In-loop-lo) c.requires.1 l.invariant (spot (goal.at.loop-lo-preserved c).In-loop-lo).0 (spot (goal.at.loop-lo-preserved c).In-loop-lo).1 (subst (λ (n : ℕ). id_of c.args.key < n) (read (goal.at.loop-lo-preserved c).After-load_id-at) o)
-
-pub returns : goal.returns
-returns c =
-    let l = c.loop-lo in
-    let a = c.args in
-    bracket-done (keys_in a.stride a.n a.e.now a.width a.m a.x.now) (id_of a.key) l.lo l.hi l.invariant c.loop-lo-test.false

@@ -56,9 +56,6 @@ returns-then-n-eq0 c =
     let a = c.args in
     seen_none a.stride a.n a.e.now a.width a.m a.x.now c.if-n-eq0.true
 
-pub load2-p-requires : goal.load2-p-requires
-load2-p-requires c = omega (arith, first (goal.at.load2-p-requires c).Start (omega (arith, c.if-n-eq0.false)), c.requires.0, c.requires.1, zero-mul c.args.stride)
-
 pub returns-then-m-p : goal.returns-then-m-p
 returns-then-m-p c =
     let a = c.args in
@@ -80,12 +77,6 @@ loop-i-init c =
           (place_read a.stride a.n a.e.now a.width a.m a.x.now 0 z c.requires.0 c.load2-p.result r) b,
     )
 
-pub overflow_mul-i : goal.overflow_mul-i
-overflow_mul-i c = omega (arith, room c, c.requires.1)
-
-pub load2-q-requires : goal.load2-q-requires
-load2-q-requires c = omega (arith, room c, c.requires.0, c.requires.1)
-
 pub returns-then-m-q : goal.returns-then-m-q
 returns-then-m-q c =
     let a = c.args in
@@ -93,24 +84,6 @@ returns-then-m-q c =
     let h = c.loop-i-test.true in
     not_named a.stride a.n a.e.now a.width a.m a.x.now l.i c.load2-q.result h
     (place_read a.stride a.n a.e.now a.width a.m a.x.now l.i h c.requires.0 c.load2-q.result c.load2-q.ensures.0) c.if-m-q.true
-
-pub overflow_mul-p : goal.overflow_mul-p
-overflow_mul-p c = omega (arith, (there c).0)
-
-pub overflow_add-p : goal.overflow_add-p
-overflow_add-p c = omega (arith, (there c).0, c.requires.2)
-
-pub load_id-a-requires : goal.load_id-a-requires
-load_id-a-requires c = omega (arith, (there c).0, c.requires.2)
-
-pub overflow_mul-q : goal.overflow_mul-q
-overflow_mul-q c = omega (arith, (there (goal.at.overflow_mul-q c).Else-m-q).1)
-
-pub overflow_add-q : goal.overflow_add-q
-overflow_add-q c = omega (arith, (there (goal.at.overflow_add-q c).Else-m-q).1, c.requires.2)
-
-pub load_id-b-requires : goal.load_id-b-requires
-load_id-b-requires c = omega (arith, (there (goal.at.load_id-b-requires c).Else-m-q).1, c.requires.2)
 
 pub loop-i-preserved : goal.loop-i-preserved
 loop-i-preserved c =

@@ -13,12 +13,12 @@ use Rattle.whole.specs.Parts.{graft_list}
 use Rattle.whole.proofs.Tests.{stops}
 use Rattle.whole.proofs.tables.graft_list.Goals as goal
 
-pub returns-then-n-gt32 : goal.returns-then-n-gt32
+pub returns-then-n-gt-CAPACITY : goal.returns-then-n-gt-CAPACITY
 unfolding graft_list numbers_name
-returns-then-n-gt32 c =
+returns-then-n-gt-CAPACITY c =
     let list = c.args.list.now in
     let ns = take (get_or list 0 0) (drop 1 list) in
-    sym (stops (leb (get_or list 0 0) 32) (all_below c.args.m ns ∷ ascending ns ∷ []) 0 (lt-leb (get_or list 0 0) 32 (omega (arith, c.if-n-gt32.true, c.wide-n.ensures))))
+    sym (stops (leb (get_or list 0 0) 32) (all_below c.args.m ns ∷ ascending ns ∷ []) 0 (lt-leb (get_or list 0 0) 32 (omega (arith, c.if-n-gt-CAPACITY.true, c.wide-n.ensures))))
 
 pub returns : goal.returns
 unfolding graft_list numbers_name
@@ -27,7 +27,7 @@ returns c =
     let m = c.args.m in
     let ns = take (get_or list 0 0) (drop 1 list) in
     let w = c.wide-n in
-    let few : leb (get_or list 0 0) 32 ≡ true = le-leb (get_or list 0 0) 32 (omega (arith, c.if-n-gt32.false, w.ensures)) in
+    let few : leb (get_or list 0 0) 32 ≡ true = le-leb (get_or list 0 0) 32 (omega (arith, c.if-n-gt-CAPACITY.false, w.ensures)) in
     let size : 1 + w.result - 1 ≡ get_or list 0 0 = omega (arith, w.ensures) in
     c.numbers_ascend.ensures
     ∙ ap (λ (n : ℕ). all_below m (take n (drop 1 list)) && ascending (take n (drop 1 list))) size

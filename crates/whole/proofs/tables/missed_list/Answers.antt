@@ -14,12 +14,12 @@ use Rattle.whole.proofs.Tests.{stops}
 use Rattle.whole.proofs.NumberLaws.{tells-numbers}
 use Rattle.whole.proofs.tables.missed_list.Goals as goal
 
-pub returns-then-n-gt32 : goal.returns-then-n-gt32
+pub returns-then-n-gt-CAPACITY : goal.returns-then-n-gt-CAPACITY
 unfolding missed_list numbers_name
-returns-then-n-gt32 c =
+returns-then-n-gt-CAPACITY c =
     let list = c.args.list.now in
     let ns = take (get_or list 0 0) (drop 1 list) in
-    sym (stops (leb (get_or list 0 0) 32) (all_below c.args.m ns ∷ (ltb 0 (get_or list 0 0) && once ns) ∷ []) 0 (lt-leb (get_or list 0 0) 32 (omega (arith, c.if-n-gt32.true, c.wide-n.ensures))))
+    sym (stops (leb (get_or list 0 0) 32) (all_below c.args.m ns ∷ (ltb 0 (get_or list 0 0) && once ns) ∷ []) 0 (lt-leb (get_or list 0 0) 32 (omega (arith, c.if-n-gt-CAPACITY.true, c.wide-n.ensures))))
 
 pub returns-then-n-lt1 : goal.returns-then-n-lt1
 unfolding missed_list numbers_name
@@ -39,7 +39,7 @@ returns c =
     let m = c.args.m in
     let ns = take (get_or list 0 0) (drop 1 list) in
     let w = c.wide-n in
-    let few : leb (get_or list 0 0) 32 ≡ true = le-leb (get_or list 0 0) 32 (omega (arith, c.if-n-gt32.false, w.ensures)) in
+    let few : leb (get_or list 0 0) 32 ≡ true = le-leb (get_or list 0 0) 32 (omega (arith, c.if-n-gt-CAPACITY.false, w.ensures)) in
     let some : ltb 0 (get_or list 0 0) ≡ true = lt-ltb 0 (get_or list 0 0) (omega (arith, c.if-n-lt1.false, w.ensures)) in
     let size : 1 + w.result - 1 ≡ get_or list 0 0 = omega (arith, w.ensures) in
     tells-numbers m (take (1 + w.result - 1) (drop 1 list)) c.numbers.result c.numbers.ensures

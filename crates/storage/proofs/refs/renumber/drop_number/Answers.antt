@@ -27,36 +27,6 @@ room c =
 pub loop-j-init : goal.loop-j-init
 loop-j-init c = let a = c.args in (going_start (stays a.i) (lower a.i) (ref 0 []) (entries a.o a.stride a.n a.b.now), refl)
 
-pub bounds-b-j : goal.bounds-b-j
-bounds-b-j c = omega (arith, c.loop-j-test.true, c.requires, c.loop-j.invariant.1)
-
-pub overflow_mul-from : goal.overflow_mul-from
-overflow_mul-from c = omega (arith, room (goal.at.overflow_mul-from c).In-loop-j, c.requires)
-
-pub overflow_add-from : goal.overflow_add-from
-overflow_add-from c = omega (arith, room (goal.at.overflow_add-from c).In-loop-j, c.requires)
-
-pub overflow_mul-to : goal.overflow_mul-to
-overflow_mul-to c = omega (arith, room (goal.at.overflow_mul-to c).In-loop-j, c.requires)
-
-pub overflow_add-to : goal.overflow_add-to
-overflow_add-to c = omega (arith, room (goal.at.overflow_add-to c).In-loop-j, c.requires)
-
-pub lower_one-m-requires : goal.lower_one-m-requires
-lower_one-m-requires c = λ e. c.if-w-i.true (c.wide-w.ensures ∙ e)
-
-pub move_down-requires : goal.move_down-requires
-move_down-requires c =
-    (omega (arith, room (goal.at.move_down-requires c).In-loop-j), omega (arith, room (goal.at.move_down-requires c).In-loop-j, c.requires, c.loop-j.invariant.1))
-
-pub bounds-b-k : goal.bounds-b-k
-bounds-b-k c =
-    omega (arith, room (goal.at.bounds-b-k c).In-loop-j, c.loop-j-test.true, c.requires, c.loop-j.invariant.1, c.move_down.auto.b)
-
-pub overflow_add-k : goal.overflow_add-k
-overflow_add-k c =
-    omega (arith, room (goal.at.overflow_add-k c).In-loop-j, c.loop-j-test.true)
-
 pub loop-j-preserved-then-w-i : goal.loop-j-preserved-then-w-i
 loop-j-preserved-then-w-i c =
     let l = c.loop-j in
@@ -72,9 +42,6 @@ loop-j-preserved c =
     let l = c.loop-j in
     let a = c.args in
     (turn-drop a.o a.stride a.n a.i a.b.now l.b c.requires.0 (omega (arith, c.requires, l.invariant.1)) l.invariant.1 l.k l.j c.loop-j-test.true l.invariant.0 (sym c.wide-w.ensures ∙ c.if-w-i.false), l.invariant.1)
-
-pub shape_of-b : goal.shape_of-b
-shape_of-b c = c.loop-j.invariant.1
 
 pub returns : goal.returns
 unfolding lower_all

@@ -5,7 +5,6 @@ use Prim.Native.Nat.{ℕ, ◌+◌, ◌<◌}
 use lib.ListN.{get_or, set, length-set}
 use Rattle.storage.specs.Refs.Refs.{shifted}
 use Rattle.storage.proofs.RowsLaws.Parts.{get_d_part, length_part}
-use Rattle.storage.specs.Refs.Numbers.{raised}
 use Rattle.storage.proofs.RefsLaws.Raised.{raised-start, raised-read, raised-more}
 use native.Mathlib.Omega.{arith}
 use borrow.Author.Rules.{rules}
@@ -40,9 +39,3 @@ loop-j-preserved c =
       (λ z. set (l.invariant.1 z) (c.args.at + l.j) (e z)) ∙ raised-more c.args.i c.args.at xs l.j (omega (arith, c.loop-j-test.true, c.requires.0)),
       length-set l.b (c.args.at + l.j) c.raise-l.result ∙ l.invariant.2,
     )
-
-pub returns : goal.returns
-returns c =
-    let l = c.loop-j in
-    let e : l.j ≡ c.args.n = omega (arith, c.loop-j-test.false) in
-    l.invariant.1 ∙ ap (λ (k : ℕ). raised c.args.i c.args.at k c.args.b.now) e

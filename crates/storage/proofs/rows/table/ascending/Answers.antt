@@ -5,10 +5,9 @@ use Prim.Native.Nat.{ℕ, ◌+◌, ◌-◌, ◌*◌, ◌≤◌}
 use lib.ListN.{length, get_or}
 use Rattle.storage.specs.Rows.Ident.{id_of}
 use Rattle.storage.specs.Rows.Sorted.{keys}
-use Rattle.storage.proofs.RowsLaws.Sorted.{length-keys, key-at, ascend-start, ascend-more, ascend-done, ascend-not, lt_of, not-lt-of, le-of-same, le-of-above}
+use Rattle.storage.proofs.RowsLaws.Sorted.{length-keys, key-at, ascend-more, ascend-done, ascend-not, lt_of, not-lt-of, le-of-same, le-of-above}
 use Rattle.storage.proofs.RowsLaws.Rows.{mul-up, mul-more}
 use Rattle.storage.proofs.RowsLaws.Ids.{of-less, of-equal, of-greater}
-use borrow.Author.Rules.{rules}
 use native.Mathlib.Omega.{arith}
 use Rattle.storage.proofs.rows.table.ascending.Goals as goal
 use Rattle.storage.proofs.rows.table.ascending.Goals.{After-load_id-q, In-loop-i, Start}
@@ -35,21 +34,6 @@ read c =
       c.load_id-p.ensures ∙ sym (key-at c.args.stride c.args.n (i - 1) c.args.b.now (omega (arith, (goal.at.After-load_id-q c).Start)) (omega arith)),
       c.load_id-q.ensures ∙ sym (key-at c.args.stride c.args.n i c.args.b.now (omega (arith, (goal.at.After-load_id-q c).Start)) (omega arith)),
     )
-
-pub loop-i-init : goal.loop-i-init
-loop-i-init c = (search rules, ascend-start (keys c.args.stride c.args.n c.args.b.now))
-
-pub overflow_mul-i : goal.overflow_mul-i
-overflow_mul-i c = omega (arith, spot c)
-
-pub load_id-p-requires : goal.load_id-p-requires
-load_id-p-requires c = omega (arith, spot c)
-
-pub overflow_mul-i-in-loop-i : goal.overflow_mul-i-in-loop-i
-overflow_mul-i-in-loop-i c = omega (arith, spot (goal.at.overflow_mul-i-in-loop-i c).In-loop-i)
-
-pub load_id-q-requires : goal.load_id-q-requires
-load_id-q-requires c = omega (arith, spot (goal.at.load_id-q-requires c).In-loop-i)
 
 pub loop-i-preserved : goal.loop-i-preserved
 loop-i-preserved c =

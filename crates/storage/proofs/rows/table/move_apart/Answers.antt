@@ -1,12 +1,6 @@
 -- `move_apart`: the part that is lent is what stands behind the cut.
-use native.Mathlib.Omega.{arith}
-use lib.ListN.{length-take, length-drop}
 use Rattle.storage.proofs.RowsLaws.Moves.{apart-put}
 use Rattle.storage.proofs.rows.table.move_apart.Goals as goal
-
-pub copy_from_slice-requires : goal.copy_from_slice-requires
-copy_from_slice-requires c =
-    simp (length-take, length-drop) (omega (arith, c.split_at_mut-front.ensures.back_len, c.split_at_mut-front.ensures.front_len, c.requires))
 
 pub returns : goal.returns
 returns c =

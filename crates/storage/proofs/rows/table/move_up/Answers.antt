@@ -1,9 +1,7 @@
 -- `move_up`: the loop counts down; the slice is what it was with the bytes from `from + i` put at `to + i`. The byte that a turn reads lies before that put. The measure is i.
-use mathlib.Core.Path.{◌≡◌, refl, ◌∙◌}
+use mathlib.Core.Path.{refl}
 use lib.ListN.{length-set}
-use Rattle.storage.specs.Rows.Part.{part, put}
 use Rattle.storage.proofs.RowsLaws.Parts.{move-up-step, move_start}
-use Rattle.storage.proofs.RowsLaws.Words.{at_zero, less_zero}
 use borrow.Author.Rules.{rules}
 use native.Mathlib.Omega.{arith}
 use Rattle.storage.proofs.rows.table.move_up.Goals as goal
@@ -18,12 +16,3 @@ loop-i-preserved c =
       move-up-step c.args.b.now l.b c.args.from c.args.to c.args.k l.i 0 (omega arith) (omega arith) (omega arith) (omega arith) l.invariant.1,
       simp length-set l.invariant.2,
     )
-
-pub shape_of-b : goal.shape_of-b
-shape_of-b c = c.loop-i.invariant.2
-
-pub returns : goal.returns
-returns c =
-    let l = c.loop-i in
-    let e : l.i ≡ 0 = omega arith in
-    l.invariant.1 ∙ (λ k. put (at_zero c.args.to l.i e k) (part (at_zero c.args.from l.i e k) (less_zero c.args.k l.i e k) c.args.b.now) c.args.b.now)

@@ -23,21 +23,6 @@ room c =
 pub loop-j-init : goal.loop-j-init
 loop-j-init c = let a = c.args in (going_start (differs a.o a.v) (λ (r : List ℕ). r) [] (rows a.stride a.n a.b.now), refl)
 
-pub overflow_mul-from : goal.overflow_mul-from
-overflow_mul-from c = omega (arith, room c)
-
-pub overflow_add-x : goal.overflow_add-x
-overflow_add-x c = omega (arith, room c, c.requires.0)
-
-pub bounds-b-from : goal.bounds-b-from
-bounds-b-from c = omega (arith, room (goal.at.bounds-b-from c).In-loop-j, c.requires.0)
-
-pub overflow_mul-k : goal.overflow_mul-k
-overflow_mul-k c = omega (arith, room (goal.at.overflow_mul-k c).In-loop-j)
-
-pub move_down-requires : goal.move_down-requires
-move_down-requires c = (omega (arith, room (goal.at.move_down-requires c).In-loop-j), omega (arith, room (goal.at.move_down-requires c).In-loop-j, c.requires.0))
-
 pub loop-j-preserved-then-x-v : goal.loop-j-preserved-then-x-v
 loop-j-preserved-then-x-v c =
     let l = c.loop-j in
@@ -53,9 +38,6 @@ loop-j-preserved c =
     let l = c.loop-j in
     let a = c.args in
     (turn-gone a.stride a.n a.o a.v a.b.now l.b c.requires.0 c.requires.1 l.invariant.1 l.k l.j c.loop-j-test.true l.invariant.0 c.if-x-v.false, l.invariant.1)
-
-pub shape_of-b : goal.shape_of-b
-shape_of-b c = c.loop-j.invariant.1
 
 pub returns : goal.returns
 returns c =

@@ -1,8 +1,7 @@
 -- `slide_down`: the slice is what it was with the first i bytes from `from` put at `to`. The byte that a turn reads lies after that put. The measure is k - i.
-use mathlib.Core.Path.{◌≡◌, refl, sym, ap, ◌∙◌}
-use Prim.Native.Nat.{ℕ}
+use mathlib.Core.Path.{refl, sym}
 use lib.ListN.{length-set}
-use Rattle.storage.specs.Rows.Part.{part, put}
+use Rattle.storage.specs.Rows.Part.{part}
 use Rattle.storage.proofs.RowsLaws.Parts.{move-down-step, put-nil}
 use borrow.Author.Rules.{rules}
 use native.Mathlib.Omega.{arith}
@@ -19,12 +18,3 @@ loop-i-preserved c =
       move-down-step c.args.b.now l.b c.args.from c.args.to l.i 0 (omega arith) (omega arith) l.invariant.1,
       simp length-set l.invariant.2,
     )
-
-pub shape_of-b : goal.shape_of-b
-shape_of-b c = c.loop-i.invariant.2
-
-pub returns : goal.returns
-returns c =
-    let l = c.loop-i in
-    let e : l.i ≡ c.args.k = omega arith in
-    l.invariant.1 ∙ ap (λ (n : ℕ). put c.args.to (part c.args.from n c.args.b.now) c.args.b.now) e

@@ -4,18 +4,6 @@ use Prim.Native.Nat.{◌+◌, ◌<◌}
 use native.Mathlib.Omega.{arith}
 use Rattle.storage.proofs.rows.word.load2.Goals as goal
 
-pub overflow_mul-result : goal.overflow_mul-result
-overflow_mul-result c =
-    let x : c.wide.result < 256 = omega (arith, c.wide.ensures, c.shared_slice_known-2-1.given c.args.at) in
-    let y : c.wide-2.result < 256 = omega (arith, c.wide-2.ensures, c.shared_slice_known-3-1.given (c.args.at + 1)) in
-    record { fits = omega arith }
-
-pub overflow_add-result : goal.overflow_add-result
-overflow_add-result c =
-    let x : c.wide.result < 256 = omega (arith, c.wide.ensures, c.shared_slice_known-2-1.given c.args.at) in
-    let y : c.wide-2.result < 256 = omega (arith, c.wide-2.ensures, c.shared_slice_known-3-1.given (c.args.at + 1)) in
-    record { fits = omega arith }
-
 pub returns : goal.returns
 returns c =
     let x : c.wide.result < 256 = omega (arith, c.wide.ensures, c.shared_slice_known-2-1.given c.args.at) in

@@ -3,12 +3,6 @@ use Rattle.storage.proofs.RowsLaws.Turns.{le_nat-part}
 use native.Mathlib.Omega.{arith}
 use Rattle.storage.proofs.rows.word.load4.Goals as goal
 
-pub overflow_mul-result : goal.overflow_mul-result
-overflow_mul-result c = record { fits = omega (arith, c.load2-2.ensures) }
-
-pub overflow_add-result : goal.overflow_add-result
-overflow_add-result c = record { fits = omega (arith, c.load2.ensures, c.load2-2.ensures) }
-
 pub returns : goal.returns
 returns c =
     (omega (arith, le_nat-part c.args.at 2 2 c.args.b.now (omega arith), c.load2.ensures, c.load2-2.ensures), omega (arith, c.load2.ensures, c.load2-2.ensures))

@@ -1,8 +1,7 @@
 -- `store_le`: the slice is what it was with the first i bytes of v put at `at`, and w is v without them. The measure is k - i.
-use mathlib.Core.Path.{◌≡◌, refl, sym, ap, ◌∙◌}
-use Prim.Native.Nat.{ℕ, ◌+◌}
+use mathlib.Core.Path.{refl, sym}
+use Prim.Native.Nat.{◌+◌}
 use lib.ListN.{length-set}
-use Rattle.storage.specs.Rows.Part.{put}
 use Rattle.storage.specs.Rows.Digits.{le_bytes}
 use Rattle.storage.proofs.RowsLaws.Words.{le_write, div-next}
 use native.Mathlib.Nat.{div-one}
@@ -23,12 +22,3 @@ loop-i-preserved c =
       div-next l.i (l.i + 1) c.args.v l.w refl l.invariant.2,
       simp length-set l.invariant.3,
     )
-
-pub shape_of-b : goal.shape_of-b
-shape_of-b c = c.loop-i.invariant.3
-
-pub returns : goal.returns
-returns c =
-    let l = c.loop-i in
-    let e : l.i ≡ c.args.k = omega arith in
-    l.invariant.1 ∙ ap (λ (n : ℕ). put c.args.at (le_bytes n c.args.v) c.args.b.now) e

@@ -3,11 +3,5 @@ use Rattle.storage.proofs.RowsLaws.Turns.{turned-add}
 use native.Mathlib.Omega.{arith}
 use Rattle.storage.proofs.rows.word.turn4.Goals as goal
 
-pub overflow_mul-result : goal.overflow_mul-result
-overflow_mul-result c = record { fits = omega (arith, c.turn2.ensures) }
-
-pub overflow_add-result : goal.overflow_add-result
-overflow_add-result c = record { fits = omega (arith, c.turn2.ensures, c.turn2-2.ensures) }
-
 pub returns : goal.returns
 returns c = (omega (arith, turned-add 2 2 c.args.v, c.turn2.ensures, c.turn2-2.ensures), omega (arith, c.turn2.ensures, c.turn2-2.ensures))

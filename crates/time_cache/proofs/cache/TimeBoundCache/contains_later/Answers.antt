@@ -7,11 +7,6 @@ use Rattle.time_cache.specs.declared.cache.Got.{Got}
 use Rattle.time_cache.proofs.ReadLaws.{holds_later, not-later}
 use Rattle.time_cache.proofs.cache.TimeBoundCache.contains_later.Goals as goal
 
-pub expires-t-requires : goal.expires-t-requires
-expires-t-requires c =
-    let g = subst (λ (o : Got). GotIs c.args.self c.args.block.now (id_of c.args.key) o) c.in-There.is c.get-g.ensures in
-    (c.requires.0, g.row)
-
 pub returns-in-There : goal.returns-in-There
 returns-in-There c =
     let k = c.args.self in

@@ -20,10 +20,6 @@ lent s =
     let w : c.entries.at + k ≤ length s.args.block.now = omega (arith, s.requires.apart, s.requires.within) in
     (w, ap (λ (j : ℕ). length (part c.entries.at j s.args.block.now)) (size_of c.entries.at k) ∙ length_part c.entries.at k s.args.block.now w)
 
-pub drop_places-requires : goal.drop_places-requires
-unfolding part
-drop_places-requires c = (c.requires.entry_wide, omega (arith, (lent (goal.at.drop_places-requires c).Start).1))
-
 pub returns : goal.returns
 unfolding part
 returns c =

@@ -19,10 +19,6 @@ lent s =
     let w : c.expiry.at + k ≤ length s.args.block.now = s.requires.0.within in
     (w, ap (λ (j : ℕ). length (part c.expiry.at j s.args.block.now)) (size_of c.expiry.at k) ∙ length_part c.expiry.at k s.args.block.now w)
 
-pub drop_expiry-requires : goal.drop_expiry-requires
-unfolding part
-drop_expiry-requires c = (c.requires.1, omega (arith, (lent (goal.at.drop_expiry-requires c).Start).1))
-
 pub returns : goal.returns
 unfolding part
 returns c =

@@ -6,9 +6,6 @@ use Rattle.time_cache.proofs.BlockLaws.{refs-open, entries-long}
 use Rattle.time_cache.proofs.ReadLaws.{count_entries}
 use Rattle.time_cache.proofs.cache.TimeBoundCache.entries_later.Goals as goal
 
-pub count_from-requires : goal.count_from-requires
-count_from-requires c = (c.requires.0.entry_wide, entries-long c.args.self c.args.block.now c.requires.0)
-
 pub returns : goal.returns
 returns c =
     c.count_from.ensures

@@ -28,15 +28,8 @@ returns-then-k-eq0 c =
 pub drop_rows-requires : goal.drop_rows-requires
 drop_rows-requires c = (c.requires.0, few (goal.at.drop_rows-requires c).After-due-k)
 
-pub drop_entries-q-requires : goal.drop_entries-q-requires
-drop_entries-q-requires c =
-    lies-kept c.args.self c.args.block.now c.drop_rows.new.block c.drop_rows.auto.block c.requires.0
-
 pub overflow_sub-m : goal.overflow_sub-m
 overflow_sub-m c = omega (arith, few (goal.at.overflow_sub-m c).After-due-k)
-
-pub overflow_sub-removed : goal.overflow_sub-removed
-overflow_sub-removed c = omega (arith, c.drop_entries-q.ensures.count)
 
 pub returns : goal.returns
 returns c =

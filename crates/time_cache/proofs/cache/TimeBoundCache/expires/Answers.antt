@@ -11,14 +11,5 @@ use Rattle.time_cache.proofs.cache.TimeBoundCache.expires.Goals.{Start}
 room : (s : Start) → s.args.p * s.args.self.expiry.stride + s.args.self.expiry.stride ≤ s.args.self.expiry.len * s.args.self.expiry.stride
 room s = row-end s.args.self.expiry.stride s.args.self.expiry.len s.args.p s.requires.1
 
-pub overflow_mul-at : goal.overflow_mul-at
-overflow_mul-at c = omega (arith, room (goal.at.overflow_mul-at c).Start, c.requires.0)
-
-pub overflow_add-at : goal.overflow_add-at
-overflow_add-at c = omega (arith, room (goal.at.overflow_add-at c).Start, c.requires.0)
-
-pub load-requires : goal.load-requires
-load-requires c = omega (arith, room (goal.at.load-requires c).Start, c.requires.0)
-
 pub returns : goal.returns
 returns c = c.load.ensures ∙ sym (time-of c.args.self c.args.block.now c.requires.0 c.args.p c.requires.1)

@@ -15,9 +15,3 @@ find-requires c =
       names-open k xs c.requires.0 c.requires.1.below,
       subst (λ (ks : List ℕ). Ascending ks) (sym (λ j. named (rows-open k xs j) (refs-open k xs j))) (sound-up k xs c.requires.1),
     )
-
-pub returns : goal.returns
-returns c =
-    let k = c.args.self in
-    let xs = c.args.block.now in
-    subst (λ (ks : List ℕ). FoundIs ks (id_of c.args.key) c.find.result) (λ j. named (rows-open k xs j) (refs-open k xs j)) c.find.ensures

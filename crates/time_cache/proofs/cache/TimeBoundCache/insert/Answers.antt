@@ -44,15 +44,6 @@ unfolding named
 within d j b =
     omega (arith, b.within, length-map (refs_at d.args.self d.args.block.now) (λ (r : Ref). (row_at (rows_at d.args.self d.args.block.now) r.place).key), length-es d.args.self d.args.block.now)
 
-pub find-f-requires : goal.find-f-requires
-find-f-requires c = (room-lies c.args.self c.args.block.now c.requires.0, c.requires.1)
-
-pub due-i-requires : goal.due-i-requires
-due-i-requires c = (room-lies c.args.self c.args.block.now c.requires.0, c.requires.1)
-
-pub overflow_add-m : goal.overflow_add-m
-overflow_add-m c = omega (arith, c.requires.0.few)
-
 pub open_row-requires : goal.open_row-requires
 open_row-requires c = (c.requires.0, omega (arith, low (goal.at.open_row-requires c).After-due-i))
 
@@ -76,11 +67,6 @@ open_entry-requires c =
     let w = within (goal.at.open_entry-requires c).After-move_places _ (what (goal.at.open_entry-requires c).After-move_places _ c.in-Err.is) in
     (lies-kept (resized (c.args.self.entries.len + 1) (c.args.self.expiry.len + 1) c.args.self) c.args.block.now c.move_places.new.block (same (goal.at.open_entry-requires c).After-move_places) c.requires.0, omega (arith, w))
 
-pub overflow_add-n : goal.overflow_add-n
-overflow_add-n c =
-    let k = c.args.self.entries in
-    omega (arith, c.requires.0.apart, c.requires.0.within, mul_comm (k.len + 1) k.stride, mul-up (k.len + 1) 1 k.stride (omega (arith, c.requires.0.entry_wide)), one-mul (k.len + 1))
-
 pub store_place-requires-in-Err : goal.store_place-requires-in-Err
 store_place-requires-in-Err c =
     let k = c.args.self in
@@ -91,18 +77,12 @@ store_place-requires-in-Err c =
       omega (arith, low (goal.at.store_place-requires-in-Err c).After-due-i, c.requires.0.few),
     )
 
-pub shape_of-block-in-Ok : goal.shape_of-block-in-Ok
-shape_of-block-in-Ok c = c.store_place.auto.block ∙ same (goal.at.shape_of-block-in-Ok c).After-move_places
-
 pub returns-in-Ok : goal.returns-in-Ok
 returns-in-Ok c =
     let k = c.args.self in
     subst (λ (r : TimeBoundCache). Inserts k (id_of c.args.key) c.args.expires.0 c.args.block.now (record { cache = r; entry = c.in-Ok.j; row = c.due-i.result }) c.store_place.new.block) (sym c.resized-cache.ensures)
     (inserts-over k (id_of c.args.key) c.args.expires.0 c.due-i.result c.args.block.now c.open_row.new.block c.move_places.new.block c.requires.0 c.requires.1 c.due-i.ensures
     c.open_row.ensures c.open_row.auto.block c.move_places.ensures c.move_places.auto.block _ c.store_place.new.block c.store_place.auto.block (what (goal.at.returns-in-Ok c).After-move_places _ c.in-Ok.is) c.store_place.ensures)
-
-pub shape_of-block-in-Err : goal.shape_of-block-in-Err
-shape_of-block-in-Err c = c.store_place-in-Err.auto.block ∙ c.open_entry.auto.block ∙ same (goal.at.shape_of-block-in-Err c).After-move_places
 
 pub returns-in-Err : goal.returns-in-Err
 returns-in-Err c =

@@ -14,15 +14,6 @@ first d =
     let xs = d.args.block.now in
     d.names_ascend-ok.ensures ∙ (λ j. names_ascend c.expiry.len (rows-open c xs j) (refs-open c xs j))
 
-pub names_ascend-ok-requires : goal.names_ascend-ok-requires
-names_ascend-ok-requires c =
-    let k = c.args.self in
-    let xs = c.args.block.now in
-    (c.requires.entry_wide, entries-long k xs c.requires, c.requires.expiry_wide, expiry-long k xs c.requires)
-
-pub in_order-requires : goal.in_order-requires
-in_order-requires c = (c.requires.expiry_wide, expiry-long c.args.self c.args.block.now c.requires)
-
 pub returns-then-ok : goal.returns-then-ok
 returns-then-ok c =
     let k = c.args.self in

@@ -27,16 +27,6 @@ lent s =
       omega (arith, mul-more c.entries.stride c.entries.len),
     )
 
-pub overflow_add-e : goal.overflow_add-e
-overflow_add-e c =
-    let k = c.args.self.entries in
-    omega (arith, (lent (goal.at.overflow_add-e c).Start).0, mul_comm (k.len + 1) k.stride, mul-up (k.len + 1) 1 k.stride (omega (arith, c.requires.0.entry_wide)), one-mul (k.len + 1))
-
-pub insert_row-requires : goal.insert_row-requires
-unfolding part
-insert_row-requires c =
-    (c.requires.1, omega (arith, (lent (goal.at.insert_row-requires c).Start).1))
-
 pub returns : goal.returns
 unfolding part
 returns c =

@@ -26,11 +26,6 @@ lent s =
       omega (arith, mul-more c.expiry.stride c.expiry.len),
     )
 
-pub add_expiry-requires : goal.add_expiry-requires
-unfolding part
-add_expiry-requires c =
-    (c.requires.0.expiry_wide, c.requires.1, omega (arith, (lent (goal.at.add_expiry-requires c).Start).1))
-
 pub returns : goal.returns
 unfolding part
 returns c =

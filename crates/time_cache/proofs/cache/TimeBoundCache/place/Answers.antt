@@ -11,14 +11,5 @@ use Rattle.time_cache.proofs.cache.TimeBoundCache.place.Goals.{Start}
 room : (s : Start) → s.args.i * s.args.self.entries.stride + s.args.self.entries.stride ≤ s.args.self.entries.len * s.args.self.entries.stride
 room s = row-end s.args.self.entries.stride s.args.self.entries.len s.args.i s.requires.1
 
-pub overflow_mul-at : goal.overflow_mul-at
-overflow_mul-at c = omega (arith, room (goal.at.overflow_mul-at c).Start, c.requires.0)
-
-pub overflow_add-at : goal.overflow_add-at
-overflow_add-at c = omega (arith, room (goal.at.overflow_add-at c).Start, c.requires.0)
-
-pub load2-requires : goal.load2-requires
-load2-requires c = omega (arith, room (goal.at.load2-requires c).Start, c.requires.0)
-
 pub returns : goal.returns
 returns c = c.load2.ensures.0 ∙ sym (place_of c.args.self c.args.block.now c.requires.0 c.args.i c.requires.1)

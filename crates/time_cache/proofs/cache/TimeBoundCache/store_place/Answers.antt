@@ -19,15 +19,6 @@ use Rattle.time_cache.proofs.cache.TimeBoundCache.store_place.Goals.{Start}
 room : (s : Start) → s.args.j * s.args.self.entries.stride + s.args.self.entries.stride ≤ s.args.self.entries.len * s.args.self.entries.stride
 room s = row-end s.args.self.entries.stride s.args.self.entries.len s.args.j s.requires.1
 
-pub overflow_mul-at : goal.overflow_mul-at
-overflow_mul-at c = omega (arith, room (goal.at.overflow_mul-at c).Start, c.requires.0)
-
-pub overflow_add-at : goal.overflow_add-at
-overflow_add-at c = omega (arith, room (goal.at.overflow_add-at c).Start, c.requires.0)
-
-pub store_le-requires : goal.store_le-requires
-store_le-requires c = omega (arith, room (goal.at.store_le-requires c).Start, c.requires.0)
-
 pub returns : goal.returns
 returns c =
     let k = c.args.self in

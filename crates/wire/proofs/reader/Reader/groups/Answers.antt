@@ -1,13 +1,10 @@
 -- `groups`: the loop passes the groups one by one (`Passed`), and the last is judged by `last_group`.
 use Rattle.std.proofs.Common.{◌-◌, ◌<◌, ◌*◌, ◌≤◌, ◌^◌, arith, rules}
 use Rattle.std.proofs.lemmas.Result.{err_from_is_err_and, IfOk-weaker}
-use Rattle.wire.proofs.ReaderLaws.GroupLaws.{more_product, passed_none, passed-end, passed-last, passed-all, passed-more, room_more, room_last, width-more, width-last}
+use Rattle.wire.proofs.ReaderLaws.GroupLaws.{more_product, passed-end, passed-last, passed-all, passed-more, room_more, width-more}
 use Rattle.wire.specs.Reader.Gives.{number_of}
 use Rattle.wire.proofs.reader.Reader.groups.Goals as goal
 use Rattle.wire.proofs.reader.Reader.groups.Goals.{Else-b-lt128}
-
-pub loop-init : goal.loop-init
-loop-init c = passed_none c.args.self.now.rest.now c.args.padded c.args.more c.args.top c.requires.room
 
 pub returns-in_err-b-clause-gives : goal.returns-in_err-b-clause-gives
 returns-in_err-b-clause-gives c =
@@ -46,14 +43,8 @@ returns-in_err-b-2-clause-gives c =
     let p = err_from_is_err_and c.from_residual-in_err-b-2.result c.from_residual-in_err-b-2.ensures.1 in
     rw (p.1, p.2) (passed-end c.loop.invariant (number_of c.in_err-b-2.field-0.0) c.in_err-b-2.ensures)
 
-pub last_group-requires-2-clause-room : goal.last_group-requires-2-clause-room
-last_group-requires-2-clause-room c = room_last c.loop.invariant (omega arith)
-
 pub returns-clause-gives : goal.returns-clause-gives
 returns-clause-gives c = passed-all c.loop.invariant _ _ c.in_ok-b-2.ensures _ c.last_group-2.ensures.gives (omega arith)
 
 pub returns-then-b-lt128-clause-wide : goal.returns-then-b-lt128-clause-wide
 returns-then-b-lt128-clause-wide c = IfOk-weaker c.last_group.result _ _ (λ n h. width-more c.loop.invariant n (omega arith) h) c.last_group.ensures.wide
-
-pub returns-clause-wide : goal.returns-clause-wide
-returns-clause-wide c = IfOk-weaker c.last_group-2.result _ _ (λ n h. width-last c.loop.invariant n (omega arith) h) c.last_group-2.ensures.wide

@@ -4,11 +4,8 @@ use Rattle.std.proofs.lemmas.Result.{err_from_is_err_and}
 use Rattle.wire.specs.Reader.Gives.{number_of}
 use Rattle.postcard.specs.Values.{ihave_value}
 use Rattle.wire.proofs.ReaderLaws.AnnouncedLaws.{got_there}
-use Rattle.wire.proofs.ReaderLaws.IhaveLaws.{passing_none, passing-more, passing-fault, passing-all}
+use Rattle.wire.proofs.ReaderLaws.IhaveLaws.{passing-more, passing-fault, passing-all}
 use Rattle.wire.proofs.reader.Reader.ihaves.Goals as goal
-
-pub loop-init : goal.loop-init
-loop-init c = passing_none c.args.self.now.rest.now c.args.count
 
 pub returns-in_err-ihave : goal.returns-in_err-ihave
 returns-in_err-ihave c =

@@ -1,5 +1,1 @@
 pub mod Turns
-pub mod KeepLaws
-pub mod MoveLaws
-pub mod CountLaws
-pub mod ActionLaws

@@ -3,13 +3,8 @@
 -- WalkLaws: which entries have been taken. ScanLaws: the first entries of an IHave. CountLaws: what it adds, counted. TimerActions: the timers that it schedules. ReceivedLaws: an IHave whose
 -- identifiers are all received.
 pub mod Longer
-pub mod KeyMembers
 pub mod HeardLaws
-pub mod StepLaws
-pub mod TurnLaws
 pub mod NewLaws
 pub mod WalkLaws
-pub mod TimerActions
 pub mod ScanLaws
-pub mod CountLaws
 pub mod ReceivedLaws

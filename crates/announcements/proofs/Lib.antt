@@ -1,4 +1,6 @@
 pub mod IhavesLaws
-pub mod SendGraftLaws
-pub mod DispatchLaws
 pub mod AnnounceLaws
+pub mod OnSendGraftTimerLaws
+pub mod OnIhaveLaws
+pub mod OnAnnounceDroppedTimerLaws
+pub mod OnDispatchLaws

@@ -1,4 +1,9 @@
 pub mod Ihaves
 pub mod SendGraft
-pub mod Dispatch
 pub mod Announce
+pub mod OnSendGraftTimer
+pub mod OnIhave
+pub mod OnAnnounceDroppedTimer
+pub mod OnDispatchTimer
+pub mod QueuedRows
+pub mod Marks

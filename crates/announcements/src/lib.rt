@@ -1,7 +1,7 @@
 // The steps that carry identifiers only: IHave, and the timers SendGraft, DispatchLazyPush and AnnounceDropped.
 #![tactic(auto)]
 
-pub mod announce;
-pub mod dispatch;
-pub mod ihaves;
-pub mod send_graft;
+pub mod on_announce_dropped_timer;
+pub mod on_dispatch_timer;
+pub mod on_ihave;
+pub mod on_send_graft_timer;

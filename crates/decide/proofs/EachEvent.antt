@@ -1,4 +1,4 @@
--- A whole call: the sizes after it and its actions are functions of the state before it (questions 13 and 14).
+-- A whole call: its actions are a function of the state before it (question 14).
 use Prim.Native.Nat.{ℕ}
 use mathlib.Core.Path.{◌≡◌, refl, sym, ap, ◌∙◌}
 use mathlib.Core.Bool.{Bool, true, false, not}
@@ -14,32 +14,24 @@ use Rattle.protocol.specs.State.{State, Counts}
 use Rattle.protocol.specs.Run.{Run, Room, begin, with_counts}
 use Rattle.protocol.specs.Gossips.{on_late_graft_reply, on_gossip, gossip_size, broadcast}
 use Rattle.protocol.specs.Handle.{first_event, count_message, if_neighbour, on_timer, on_message, handle_message, handle}
-use Rattle.protocol.specs.Whole.{whole, fits}
+use Rattle.protocol.specs.Whole.{whole}
 use Rattle.protocol.specs.Answer.{output_of}
 use Rattle.protocol.specs.Consistent.{Consistent}
-use Rattle.decide.specs.Sizes.{sizes_of, fit_sizes}
 use Rattle.decide.specs.Lengths.{action_length}
 use Rattle.decide.specs.Settled.{settled, settled_actions}
-use Rattle.decide.specs.SizesAfter.{broadcast_sizes, gossip_sizes, message_sizes, timer_sizes, sizes_after}
 use Rattle.decide.specs.ActionsAfter.{broadcast_actions, gossip_actions, message_actions, timer_actions, actions_after}
 use Rattle.protocol.proofs.Consistent.{whole-consistent}
-use Rattle.protocol.proofs.WholeKept.{kept-first_event, kept-handle}
+use Rattle.protocol.proofs.WholeKept.{kept-first_event}
 use Rattle.storage.proofs.ListsLaws.Branches.{if-on, if-same}
 use Rattle.decide.proofs.LengthLaws.{length-output}
-use Rattle.decide.proofs.TableSizes.{fits-sizes}
 use Rattle.decide.proofs.SettledLaws.{first-state, first-actions, first-rooms}
-use Rattle.decide.proofs.UpDownEvict.{up-sizes, up-actions, down-sizes, down-actions, evict-sizes, evict-actions}
-use Rattle.decide.proofs.AnnounceDropped.{announce-sizes, announce-actions}
-use Rattle.decide.proofs.GraftSendGraft.{prune-sizes, prune-actions, graft-sizes, graft-actions, send_graft-sizes, send_graft-actions}
-use Rattle.decide.proofs.IHave.{ihave-sizes, ihave-actions}
-use Rattle.decide.proofs.Broadcast.{broadcast-sizes, broadcast-actions}
-use Rattle.decide.proofs.Gossip.{late-sizes, late-actions, on_new-sizes, on_new-actions, on_near-actions, on_near-state}
-use Rattle.decide.proofs.Dispatch.{dispatched-sizes, dispatched-actions}
-
--- a branch, with what the test says
-by-if : {A : Type 0} (f : Run → A) (b : Bool) (x y : Run) (u v : A) → (b ≡ true → f x ≡ u) → (b ≡ false → f y ≡ v) → f (if b then x else y) ≡ (if b then u else v)
-by-if f true x y u v p q = p refl
-by-if f false x y u v p q = q refl
+use Rattle.decide.proofs.UpDownEvict.{up-actions, down-actions, evict-actions}
+use Rattle.decide.proofs.AnnounceDropped.{announce-actions}
+use Rattle.decide.proofs.GraftSendGraft.{prune-actions, graft-actions, send_graft-actions}
+use Rattle.decide.proofs.IHave.{ihave-actions}
+use Rattle.decide.proofs.Broadcast.{broadcast-actions}
+use Rattle.decide.proofs.Gossip.{late-actions, on_new-actions, on_near-actions}
+use Rattle.decide.proofs.Dispatch.{dispatched-actions}
 
 -- more actions, in a branch
 by-more : (r : Run) (b : Bool) (x y : Run) (u v : List Action) → (b ≡ true → x.actions ≡ r.actions ++ u) → (b ≡ false → y.actions ≡ r.actions ++ v) → (if b then x else y).actions ≡ r.actions ++ (if b then u else v)
@@ -49,13 +41,6 @@ by-more r false x y u v p q = q refl
 none_more : (r : Run) → r.actions ≡ r.actions ++ []
 none_more r = sym (append-nil r.actions)
 
-timer-sizes : (hash : List ℕ → ℕ) (now : ℕ) (t : Timer) (r : Run) → Consistent r.state → sizes_of (on_timer now t r).state ≡ timer_sizes hash r.rooms now t r.state
-unfolding on_timer timer_sizes
-timer-sizes hash now (SendGraft id) r x = send_graft-sizes now id r x
-timer-sizes hash now DispatchLazyPush r x = dispatched-sizes r x
-timer-sizes hash now EvictCache r x = evict-sizes now r x.core
-timer-sizes hash now AnnounceDropped r x = announce-sizes r
-
 timer-actions : (hash : List ℕ → ℕ) (now : ℕ) (t : Timer) (r : Run) → Consistent r.state → (on_timer now t r).actions ≡ r.actions ++ timer_actions hash r.rooms t r.state
 unfolding on_timer timer_actions
 timer-actions hash now (SendGraft id) r x = send_graft-actions now id r
@@ -64,16 +49,6 @@ timer-actions hash now EvictCache r x = evict-actions now r
 timer-actions hash now AnnounceDropped r x = announce-actions r
 
 module _ (hash : List ℕ → ℕ) where
-  gossip-sizes : (now sender id : ℕ) (content : List ℕ) (d : Delivery) (r : Run) → Consistent r.state → sizes_of (on_gossip hash now sender id content d r).state ≡ gossip_sizes hash r.rooms sender id content d r.state
-  unfolding on_gossip gossip_sizes on_late_graft_reply
-  gossip-sizes now sender id content (Swarm round) r x =
-      by-if (λ (y : Run). sizes_of y.state) (not (eqb (hash content) id)) _ _ _ _ (λ t. refl)
-      (λ t. by-if (λ (y : Run). sizes_of y.state) (holds id r.state.received) _ _ _ _ (λ h. late-sizes sender id _ r x.core) (λ h. on_new-sizes now sender id content round r x.core))
-  gossip-sizes now sender id content Neighbors r x =
-      if-on (λ (y : Run). sizes_of y.state) (not (eqb (hash content) id)) _ _
-      ∙ if-same (not (eqb (hash content) id)) refl
-      (if-on (λ (y : Run). sizes_of y.state) (holds id r.state.received) _ _ ∙ if-same (holds id r.state.received) (late-sizes sender id _ r x.core) (ap sizes_of (on_near-state now sender id content r)))
-
   gossip-actions : (now sender id : ℕ) (content : List ℕ) (d : Delivery) (r : Run) → Consistent r.state → (on_gossip hash now sender id content d r).actions ≡ r.actions ++ gossip_actions hash r.rooms sender id content d r.state
   unfolding on_gossip gossip_actions on_late_graft_reply
   gossip-actions now sender id content (Swarm round) r x =
@@ -82,16 +57,6 @@ module _ (hash : List ℕ → ℕ) where
   gossip-actions now sender id content Neighbors r x =
       by-more r (not (eqb (hash content) id)) _ _ _ _ (λ t. none_more r)
       (λ t. by-more r (holds id r.state.received) _ _ _ _ (λ h. late-actions sender id _ r) (λ h. on_near-actions now sender id content r))
-
-  message-sizes : (now sender : ℕ) (m : Message) (r : Run) → Consistent r.state → sizes_of (on_message hash now sender m r).state ≡ message_sizes hash r.rooms sender m r.state
-  unfolding on_message message_sizes if_neighbour
-  message-sizes now sender (Gossip id content d) r x = gossip-sizes now sender id content d r x
-  message-sizes now sender Prune r x =
-      if-on (λ (y : Run). sizes_of y.state) (is_neighbour sender r.state.links) _ _ ∙ if-same (is_neighbour sender r.state.links) (prune-sizes sender r x.core.links_up) refl
-  message-sizes now sender (Graft wanted round) r x =
-      by-if (λ (y : Run). sizes_of y.state) (is_neighbour sender r.state.links) _ _ _ _ (λ n. graft-sizes sender wanted r x.core n) (λ n. refl)
-  message-sizes now sender (IHave hs) r x =
-      by-if (λ (y : Run). sizes_of y.state) (is_neighbour sender r.state.links) _ _ _ _ (λ n. ihave-sizes sender hs r x.core.missing_up x.core.timers_up) (λ n. refl)
 
   message-actions : (now sender : ℕ) (m : Message) (r : Run) → Consistent r.state → (on_message hash now sender m r).actions ≡ r.actions ++ message_actions hash r.rooms sender m r.state
   unfolding on_message message_actions if_neighbour
@@ -103,31 +68,11 @@ module _ (hash : List ℕ → ℕ) where
   message-actions now sender (IHave hs) r x =
       by-more r (is_neighbour sender r.state.links) _ _ _ _ (λ n. ihave-actions sender hs r x.core.missing_up x.core.timers_up) (λ n. none_more r)
 
-  broadcasted-sizes : (now : ℕ) (content : List ℕ) (scope : Scope) (r : Run) → Consistent r.state → sizes_of (broadcast hash now content scope r).state ≡
-      (if ltb r.state.settings.max_message_size (gossip_size (length content) scope) then sizes_of r.state else broadcast_sizes r.rooms (hash content) content scope r.state)
-  unfolding broadcast
-  broadcasted-sizes now content scope r x =
-      by-if (λ (y : Run). sizes_of y.state) (ltb r.state.settings.max_message_size (gossip_size (length content) scope)) _ _ _ _ (λ t. refl) (λ t. broadcast-sizes hash now content scope r x.core)
-
   broadcasted-actions : (now : ℕ) (content : List ℕ) (scope : Scope) (r : Run) → Consistent r.state → (broadcast hash now content scope r).actions ≡
       r.actions ++ (if ltb r.state.settings.max_message_size (gossip_size (length content) scope) then [] else broadcast_actions r.rooms (hash content) content scope r.state)
   unfolding broadcast
   broadcasted-actions now content scope r x =
       by-more r (ltb r.state.settings.max_message_size (gossip_size (length content) scope)) _ _ _ _ (λ t. none_more r) (λ t. broadcast-actions hash now content scope r x.core)
-
-  -- the sizes after any event
-  pub handle-sizes : (now : ℕ) (e : Event) (r : Run) → Consistent r.state → sizes_of (handle hash now e r).state ≡ sizes_after hash r.rooms now e r.state
-  unfolding handle handle_message sizes_after
-  handle-sizes now (Received p m) r x =
-      message-sizes now p m (with_counts (count_message m (first_event now r).counts) (first_event now r)) ((kept-first_event now r).consistent x)
-      ∙ rw (first-rooms now r, first-state now r x.core) refl
-  handle-sizes now (Broadcast content scope) r x =
-      broadcasted-sizes now content scope (first_event now r) ((kept-first_event now r).consistent x)
-      ∙ rw (kept-first_event now r).settings (rw (first-rooms now r, first-state now r x.core) refl)
-  handle-sizes now (Fired t) r x =
-      timer-sizes hash now t (first_event now r) ((kept-first_event now r).consistent x) ∙ rw (first-rooms now r, first-state now r x.core) refl
-  handle-sizes now (Up p) r x = up-sizes p r x.core.links_up
-  handle-sizes now (Down p) r x = down-sizes p r x.core.links_up
 
   -- the actions of any event
   pub handle-actions : (now : ℕ) (e : Event) (r : Run) → Consistent r.state → (handle hash now e r).actions ≡ r.actions ++ actions_after hash r.rooms now e r.state
@@ -143,12 +88,6 @@ module _ (hash : List ℕ → ℕ) where
       ∙ rw (first-actions now r, first-rooms now r, first-state now r x.core) (append_assoc r.actions (settled_actions r.state) (timer_actions hash r.rooms t (settled now r.state)))
   handle-actions now (Up p) r x = up-actions p r ∙ none_more r
   handle-actions now (Down p) r x = down-actions p r ∙ none_more r
-
-  -- question 13, asked of the state before
-  pub decide-13 : (now : ℕ) (e : Event) (s : State) (c : Counts) (rooms : List Room) → whole s ≡ true → fits (handle hash now e (begin s c rooms)).state ≡ fit_sizes s.limits (sizes_after hash rooms now e s)
-  decide-13 now e s c rooms w =
-      fits-sizes (handle hash now e (begin s c rooms)).state
-      ∙ rw ((kept-handle hash now e (begin s c rooms)).limits, handle-sizes now e (begin s c rooms) (whole-consistent s w)) refl
 
   -- question 14, asked of the state before
   pub decide-14 : (now : ℕ) (e : Event) (s : State) (c : Counts) (rooms : List Room) → whole s ≡ true → length (output_of (handle hash now e (begin s c rooms))) ≡ sum action_length (actions_after hash rooms now e s)

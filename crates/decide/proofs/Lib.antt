@@ -1,3 +1,4 @@
+pub mod SizesAfter
 pub mod LengthLaws
 pub mod RoomLaws
 pub mod TableSizes

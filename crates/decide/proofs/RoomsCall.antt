@@ -25,7 +25,7 @@ use Rattle.decide.specs.Rooms.{first_send, back_peers}
 use Rattle.decide.specs.Settled.{settled, settled_actions}
 use Rattle.decide.specs.RecordGrowth.{cached_in, announce_action, push_actions}
 use Rattle.decide.specs.Pieces.{Piece, piece_taken, piece_actions}
-use Rattle.decide.specs.SizesAfter.{new_ids, known_timer}
+use Rattle.decide.specs.NewIds.{new_ids, known_timer}
 use Rattle.decide.specs.ActionsAfter.{evict_actions, dispatch_action, announce_actions, reply_actions, graft_actions, ask_actions, send_graft_actions, ihave_actions, broadcast_actions, late_actions, optimise_actions, new_actions, dispatch_actions, gossip_actions, message_actions, timer_actions, actions_after}
 use Rattle.storage.proofs.ListsLaws.MapLaws.{cases, true≢, and_right, all_head, all_tail, all_cons}
 use Rattle.storage.proofs.ListsLaws.Lists.{or_left, or_right}

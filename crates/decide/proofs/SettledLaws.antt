@@ -20,7 +20,7 @@ use Rattle.protocol.specs.Whole.{content_held}
 use Rattle.protocol.specs.Consistent.{CoreOf}
 use Rattle.decide.specs.Sizes.{sizes_of}
 use Rattle.decide.specs.Settled.{alive_at, alive_value, settled, settled_actions}
-use Rattle.decide.specs.SizesAfter.{evict_sizes, settled_sizes}
+use Rattle.decide.proofs.SizesAfter.{evict_sizes, settled_sizes}
 use Rattle.storage.proofs.ListsLaws.MapLaws.{cases}
 use Rattle.storage.proofs.ListsLaws.ListLaws.{length-filter}
 use Rattle.time_cache.proofs.Timely.{expire-is-filter}

@@ -7,30 +7,24 @@ use lib.ListN.{length, length-map}
 use Rattle.std.specs.Prelude.{if◌then◌else◌}
 use Rattle.storage.specs.Lists.Base.{is_empty, count, ascending}
 use Rattle.storage.specs.Lists.Map.{Map, keys}
-use Rattle.protocol.specs.Links.{eager, link_up, link_down}
+use Rattle.protocol.specs.Links.{link_down}
 use Rattle.postcard.specs.Message.{DispatchLazyPush, Action, Scheduled}
 use Rattle.protocol.specs.State.{State, Hop, with_dispatch_scheduled}
 use Rattle.protocol.specs.Run.{Run, act}
 use Rattle.protocol.specs.Push.{for_peer, schedule_dispatch}
 use Rattle.protocol.specs.Gossips.{update_links}
-use Rattle.protocol.specs.Ticks.{evict, on_evict_cache_timer}
+use Rattle.protocol.specs.Ticks.{on_evict_cache_timer}
 use Rattle.protocol.specs.Neighbours.{on_neighbor_up, on_neighbor_down, without_announcer, forget_announcer, without_notes, without_graft, forget_grafted, forget_peer}
 use Rattle.protocol.specs.Whole.{content_held}
-use Rattle.protocol.specs.Consistent.{CoreOf}
 use Rattle.decide.specs.Sizes.{sizes_of}
-use Rattle.decide.specs.SizesAfter.{up_sizes, down_sizes, evict_sizes}
+use Rattle.decide.proofs.SizesAfter.{down_sizes}
 use Rattle.decide.specs.ActionsAfter.{evict_actions, dispatch_action}
 use Rattle.storage.proofs.ListsLaws.MapLaws.{cases}
 use Rattle.storage.proofs.ListsLaws.ListLaws.{length-filter}
 use Rattle.storage.proofs.ListsLaws.Branches.{if-on, if-both, if-same}
-use Rattle.decide.proofs.TableSizes.{length-insert, length-remove}
-use Rattle.decide.proofs.SettledLaws.{length-later, expiry-later, content-later, evicted}
+use Rattle.decide.proofs.TableSizes.{length-remove}
 
 -- up and down
-
-pub up-sizes : (p : ℕ) (r : Run) → ascending (keys r.state.links) ≡ true → sizes_of (on_neighbor_up p r).state ≡ up_sizes p r.state
-unfolding on_neighbor_up update_links link_up sizes_of up_sizes content_held
-up-sizes p r h = rw (length-insert p eager r.state.links h) refl
 
 pub up-actions : (p : ℕ) (r : Run) → (on_neighbor_up p r).actions ≡ r.actions
 unfolding on_neighbor_up update_links
@@ -57,14 +51,6 @@ unfolding on_neighbor_down
 down-actions p r = refl
 
 -- EvictCache
-
-pub evict-sizes : (now : ℕ) (r : Run) → CoreOf r.state → sizes_of (on_evict_cache_timer now r).state ≡ evict_sizes now r.state
-unfolding on_evict_cache_timer evict act sizes_of evict_sizes content_held
-evict-sizes now r c =
-    let s = r.state in
-    let e = evicted now r.state c in
-    rw (e.received, e.grafted, e.cache)
-    (rw (length-later now s.received, expiry-later now s.received, length-later now s.cache, expiry-later now s.cache, content-later now s.cache, length-later now s.grafted, expiry-later now s.grafted) refl)
 
 pub evict-actions : (now : ℕ) (r : Run) → (on_evict_cache_timer now r).actions ≡ r.actions ++ evict_actions r.state
 unfolding on_evict_cache_timer act evict_actions

@@ -15,7 +15,7 @@ use Rattle.decide.specs.Rooms.{kth_taken, first_send}
 use Rattle.decide.specs.Settled.{settled, settled_actions}
 use Rattle.decide.specs.RecordGrowth.{cached_in, announce_action, push_actions}
 use Rattle.decide.specs.Pieces.{pieces, piece_actions}
-use Rattle.decide.specs.SizesAfter.{new_ids, known_timer}
+use Rattle.decide.specs.NewIds.{new_ids, known_timer}
 
 -- EvictCache
 unfoldable pub evict_actions : State → List Action

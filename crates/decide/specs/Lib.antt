@@ -4,6 +4,6 @@ pub mod Rooms
 pub mod Settled
 pub mod RecordGrowth
 pub mod Pieces
-pub mod SizesAfter
+pub mod NewIds
 pub mod ActionsAfter
 pub mod StateAfter

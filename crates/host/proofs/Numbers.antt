@@ -1,5 +1,5 @@
 -- The numbers that a creation and an event call answer, and the length of a refused call's output.
-use Rattle.std.proofs.Common.{ℕ, ◌≡◌, ◌≤◌, ◌<◌, ◌⊎◌, inl, inr, refl, sym, ap, lit≤, Bool, true, false, not, if◌then◌else◌, ◌^◌, List, leb, length, arith}
+use Rattle.std.proofs.Common.{ℕ, ◌≡◌, ◌≤◌, ◌<◌, ◌⊎◌, inl, inr, sym, ap, lit≤, Bool, true, false, not, if◌then◌else◌, ◌^◌, List, leb, length, arith}
 use Rattle.std.proofs.Math.Option.{Option, none, some}
 use borrow.Author.Tests.{leb-true}
 use Rattle.storage.proofs.ListsLaws.MapLaws.{and_right}

@@ -1,6 +1,6 @@
 -- A call is one more of the list.
 -- Assumes nothing.
-use Rattle.std.specs.Prelude.{ℕ, take}
+use Rattle.std.specs.Prelude.{take}
 use Rattle.plumtree.specs.Calls.{entries}
 use Rattle.plumtree.specs.CallList.{CallList, with_call}
 use Rattle.host.specs.declared.past.Call.{Call}

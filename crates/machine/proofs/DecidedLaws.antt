@@ -16,7 +16,7 @@ use Rattle.protocol.specs.Answer.{Call, Outcome, refused, accepted, outcome, out
 use Rattle.decide.specs.Rooms.{first_room}
 use Rattle.decide.specs.Settled.{too_far_before}
 use Rattle.decide.proofs.Decide.{decide-12, same-rooms}
-use Rattle.decide.proofs.EachEvent.{decide-13, decide-actions}
+use Rattle.decide.proofs.EachEvent.{decide-actions}
 use Rattle.decide.proofs.StateAfterLaws.{decide-state}
 use Rattle.decide.proofs.RoomsSteps.{with_rooms}
 use Rattle.decide.proofs.RoomsCall.{reached}
@@ -37,7 +37,7 @@ module _ (hash : List ℕ → ℕ) where
   found-decided : (rooms : List Room) (now : ℕ) (e : Event) (s : State) (c : Counts) (output : ℕ) → whole s ≡ true → found_of output (handle hash now e (begin s c rooms)) ≡ last_decided hash rooms now e s c output
   unfolding found_of last_decided bytes_after output_of
   found-decided rooms now e s c output w =
-      rw (decide-13 hash now e s c rooms w, decide-actions hash now e s c rooms w, decide-state hash now e s c rooms w, decide-counts hash now e s c rooms w) refl
+      rw (decide-actions hash now e s c rooms w, decide-state hash now e s c rooms w, decide-counts hash now e s c rooms w) refl
 
   -- questions 10 to 14
   pub decided-ask : (s : State) (c : Counts) (k : Call) (e : Event) (size : ℕ) → whole s ≡ true → message_fits s.settings.max_message_size k.event e ≡ size_fits s.settings.max_message_size size e →

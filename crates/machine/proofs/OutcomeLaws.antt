@@ -1,68 +1,62 @@
 -- The outcome of a step, test by test, and that of the definitions for the event whose step it is.
-use Prim.Native.Nat.{ℕ}
-use mathlib.Core.Path.{◌≡◌, refl, sym, subst}
-use mathlib.Core.Bool.{Bool, true, false, not}
-use mathlib.Core.List.{List, ◌++◌}
-use lib.Dec.{leb}
-use lib.ListN.{length}
-use Rattle.std.specs.Prelude.{if◌then◌else◌}
-use Rattle.storage.specs.Lists.Base.{concat_map}
+use Rattle.std.proofs.Common.{◌≡◌, ℕ, refl, sym, ap, ◌∙◌, Bool, true, false, not, List, length, leb, if◌then◌else◌}
 use Rattle.blake3.specs.Blake3.{identifier}
-use Rattle.postcard.specs.Message.{Event, action_bytes}
-use Rattle.protocol.specs.State.{State, Counts}
-use Rattle.protocol.specs.Run.{Room}
+use Rattle.postcard.specs.Message.{Event}
+use Rattle.protocol.specs.State.{State, Counts, zero_counts}
+use Rattle.protocol.specs.Run.{Room, begin}
+use Rattle.protocol.specs.Whole.{fits, whole}
 use Rattle.protocol.specs.Answer.{counts_stay, Outcome, refused, accepted}
-use Rattle.decide.specs.Sizes.{fit_sizes}
-use Rattle.decide.specs.Settled.{settled, settled_actions}
-use Rattle.machine.specs.Kinds.Meaning.{step_sizes, step_actions, step_state, step_far, step_counts, counted_for, Means}
+use Rattle.protocol.proofs.WholeKept.{kept-handle}
+use Rattle.decide.specs.Settled.{settled}
+use Rattle.decide.specs.StateAfter.{state_after}
+use Rattle.decide.proofs.StateAfterLaws.{decide-state}
+use Rattle.steps.specs.Calls.{rooms_of}
+use Rattle.steps.specs.declared.call.Call.{Call}
+use Rattle.machine.specs.Kinds.Meaning.{step_state, step_far, step_counts, counted_for, Means}
 use Rattle.machine.specs.declared.kinds.Step.{Step}
 use Rattle.machine.specs.Decided.{bytes_after, last_decided, size_fits, decided}
-use Rattle.machine.specs.Outcomes.{step_bytes, step_outcome}
-use Rattle.machine.specs.Called.{Lent, Accepted, Finds}
+use Rattle.machine.specs.Steps.{after_event, event_bytes, Keeps}
+use Rattle.machine.specs.Outcomes.{step_outcome}
+use Rattle.machine.proofs.StepLaws.{settled-rooms}
 
-module _ (rooms : List Room) (now : ℕ) (r : Step) (s : State) (c : Counts) (output : ℕ) where
-  abbrev outcome : Outcome
-  outcome = step_outcome rooms now r s c output
-
-  abbrev fit : Bool
-  fit = fit_sizes s.limits (step_sizes rooms now r (settled now s))
-
-  abbrev room : Bool
-  room = leb (length (step_bytes rooms now r s)) output
-
-  pub outcome-12 : step_far r ≡ true → outcome ≡ refused 12
+module _ (call : Call) (r : Step) (s : State) (c : Counts) (output : ℕ) where
+  pub outcome-12 : step_far r ≡ true → refused 12 ≡ step_outcome call r s c output
   unfolding step_outcome
   outcome-12 p = rw p refl
 
-  pub outcome-13 : step_far r ≡ false → fit ≡ false → outcome ≡ refused 13
+  pub outcome-13 : step_far r ≡ false → fits (after_event call r s) ≡ false → refused 13 ≡ step_outcome call r s c output
   unfolding step_outcome
   outcome-13 p q = rw (p, q) refl
 
-  pub outcome-14 : step_far r ≡ false → fit ≡ true → room ≡ false → outcome ≡ refused 14
+  pub outcome-14 : step_far r ≡ false → fits (after_event call r s) ≡ true → leb (length (event_bytes call r s)) output ≡ false → refused 14 ≡ step_outcome call r s c output
   unfolding step_outcome
   outcome-14 p q t = rw (p, q, t) refl
 
-  pub outcome-0 : step_far r ≡ false → fit ≡ true → room ≡ true → outcome ≡ accepted (step_state rooms now r (settled now s)) (step_counts r c) (step_bytes rooms now r s)
+  pub outcome-0 : step_far r ≡ false → fits (after_event call r s) ≡ true → leb (length (event_bytes call r s)) output ≡ true →
+      accepted (after_event call r s) (step_counts r c) (event_bytes call r s) ≡ step_outcome call r s c output
   unfolding step_outcome
   outcome-0 p q t = rw (p, q, t) refl
 
--- a refusal changes nothing
-pub found-no : (o : Outcome) (n : ℕ) (before : Lent) → o ≡ refused n → Finds o before before n 0
-found-no o n before e = subst (λ (x : Outcome). Finds x before before n 0) (sym e) (record { number = refl; long = refl; block = refl; counts = refl; output = refl })
+-- a step that is an event's
+module _ (call : Call) (r : Step) (s : State) (e : Event) (means : Means call.instant.0 s r e) where
+  pub state-event : state_after identifier (rooms_of call s) call.instant.0 e s ≡ after_event call r s
+  state-event = means.state (rooms_of call s) ∙ ap (λ (rooms : List Room). step_state rooms call.instant.0 r (settled call.instant.0 s)) (sym (settled-rooms call.instant.0 s call.rooms.numbers.now))
 
-pub found-yes : (o : Outcome) (s : State) (c : Counts) (bytes : List ℕ) (before after : Lent) (long : ℕ) → o ≡ accepted s c bytes → Accepted s c bytes before after 0 long → Finds o before after 0 long
-found-yes o s c bytes before after long e a = subst (λ (x : Outcome). Finds x before after 0 long) (sym e) a
+  pub keeps-event : whole s ≡ true → Keeps s (after_event call r s)
+  keeps-event w =
+      let same = sym (decide-state identifier call.instant.0 e s zero_counts (rooms_of call s) w ∙ state-event) in
+      let kept = kept-handle identifier call.instant.0 e (begin s zero_counts (rooms_of call s)) in
+      record { limits = ap (λ (x : State). x.limits) same ∙ kept.limits; settings = ap (λ (x : State). x.settings) same ∙ kept.settings }
 
--- the definitions' outcome
-pub step-decided : (rooms : List Room) (now : ℕ) (r : Step) (s : State) (size : ℕ) (e : Event) (c : Counts) (output : ℕ) → Means now s r e →
-    size_fits s.settings.max_message_size size e ≡ true → counts_stay e c ≡ true →
-    decided identifier rooms now size e s c output ≡ step_outcome rooms now r s (counted_for e c) output
-unfolding decided last_decided step_outcome bytes_after step_bytes
-step-decided rooms now r s size e c output m fits stay =
-    rw (fits, stay, m.far, m.sizes rooms, m.actions rooms, m.state rooms, m.counts c) (last _ _ _ _ (step_far r) (fit_sizes s.limits (step_sizes rooms now r (settled now s))) (leb (length (concat_map action_bytes (settled_actions s ++ step_actions rooms r (settled now s)))) output))
-  where
-    last : (x y z w : Outcome) (a b d : Bool) → (if a then x else if b then if d then w else z else y) ≡ (if a then x else if not b then y else if not d then z else w)
-    last x y z w true b d = refl
-    last x y z w false true true = refl
-    last x y z w false true false = refl
-    last x y z w false false d = refl
+  -- the definitions' outcome
+  pub step-decided : (size : ℕ) (c : Counts) (output : ℕ) → size_fits s.settings.max_message_size size e ≡ true → counts_stay e c ≡ true →
+      step_outcome call r s (counted_for e c) output ≡ decided identifier (rooms_of call s) call.instant.0 size e s c output
+  unfolding decided last_decided step_outcome bytes_after
+  step-decided size c output fits' stay =
+      sym (rw (fits', stay, means.far, means.actions (rooms_of call s), state-event, means.counts c) (last _ _ _ _ (step_far r) (fits (after_event call r s)) (leb (length (event_bytes call r s)) output)))
+    where
+      last : (x y z w : Outcome) (a b d : Bool) → (if a then x else if b then if d then w else z else y) ≡ (if a then x else if not b then y else if not d then z else w)
+      last x y z w true b d = refl
+      last x y z w false true true = refl
+      last x y z w false true false = refl
+      last x y z w false false d = refl

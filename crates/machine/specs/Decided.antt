@@ -3,13 +3,12 @@
 -- Assumes nothing.
 use Rattle.std.specs.Prelude.{ℕ, Bool, true, not, List, leb, length, if◌then◌else◌}
 use Rattle.storage.specs.Lists.Base.{concat_map}
-use Rattle.postcard.specs.Message.{Event, Received, Broadcast, Fired, Up, Down, action_bytes}
+use Rattle.postcard.specs.Message.{Event, Received, action_bytes}
 use Rattle.protocol.specs.State.{State, Counts}
 use Rattle.protocol.specs.Run.{Room}
+use Rattle.protocol.specs.Whole.{fits}
 use Rattle.protocol.specs.Answer.{counts_stay, Outcome, refused, accepted}
-use Rattle.decide.specs.Sizes.{fit_sizes}
 use Rattle.decide.specs.Settled.{too_far_before}
-use Rattle.decide.specs.SizesAfter.{sizes_after}
 use Rattle.decide.specs.ActionsAfter.{actions_after}
 use Rattle.decide.specs.StateAfter.{state_after}
 use Rattle.machine.specs.Kinds.Counted.{counts_after_call}
@@ -17,20 +16,17 @@ use Rattle.machine.specs.Kinds.Counted.{counts_after_call}
 -- (10) "Is a received message at most M bytes?", of how many it has; the other events have none
 unfoldable pub size_fits : ℕ → ℕ → Event → Bool
 size_fits max size (Received p m) = leb size max
-size_fits max size (Broadcast content scope) = true
-size_fits max size (Fired t) = true
-size_fits max size (Up p) = true
-size_fits max size (Down p) = true
+size_fits max size _ = true
 
 module _ (hash : List ℕ → ℕ) where
   -- the bytes of the call's actions
   unfoldable pub bytes_after : List Room → ℕ → Event → State → List ℕ
   bytes_after rooms now e s = concat_map action_bytes (actions_after hash rooms now e s)
 
-  -- (13), (14)
+  -- (13) whether the state after is within every limit, (14)
   unfoldable pub last_decided : List Room → ℕ → Event → State → Counts → ℕ → Outcome
   last_decided rooms now e s c output =
-      if fit_sizes s.limits (sizes_after hash rooms now e s) then
+      if fits (state_after hash rooms now e s) then
       if leb (length (bytes_after rooms now e s)) output then accepted (state_after hash rooms now e s) (counts_after_call hash now e s c) (bytes_after rooms now e s)
       else refused 14
       else refused 13

@@ -1,43 +1,55 @@
--- What the caller finds of a step: questions 12, 13 and 14, then the step. Proved equal to the definitions' outcome for the event whose step it is (proofs/OutcomeLaws.antt).
+-- What a call is to do once every question is answered yes, and what the caller finds of a step: questions 12, 13 and 14, then the step. Proved equal to the definitions' outcome for the event whose
+-- step it is (proofs/OutcomeLaws.antt).
 -- Assumes nothing.
-use Rattle.std.specs.Prelude.{ℕ, ◌^◌, ◌≤◌, ◌≡◌, not, List, ◌++◌, leb, length, get_or, if◌then◌else◌}
-use Rattle.storage.specs.Lists.Base.{concat_map}
-use Rattle.postcard.specs.Message.{action_bytes}
-use Rattle.protocol.specs.State.{State, Counts, block_need}
-use Rattle.protocol.specs.Run.{Room}
+use Rattle.std.specs.Prelude.{ℕ, ◌≤◌, ◌≡◌, not, List, [], leb, length, get_or, Result, Ok, Err, if◌then◌else◌}
+use Rattle.protocol.specs.Links.{link_up}
+use Rattle.protocol.specs.State.{State, Counts}
+use Rattle.protocol.specs.Neighbours.{forget_peer}
 use Rattle.protocol.specs.Whole.{fits}
 use Rattle.protocol.specs.Answer.{Outcome, refused, accepted}
-use Rattle.decide.specs.Sizes.{fit_sizes}
-use Rattle.decide.specs.Settled.{settled, settled_actions}
-use Rattle.block.specs.View.{state_of, limits_of}
-use Rattle.block.specs.declared.head.Head.{Head}
-use Rattle.steps.specs.Stands.{Stands}
-use Rattle.machine.specs.Kinds.Meaning.{step_sizes, step_actions, step_state, step_far, step_counts, StepHeld, SenderIs}
+use Rattle.block.specs.LinkSteps.{linked}
+use Rattle.steps.specs.Panels.{Allowed}
+use Rattle.steps.specs.declared.call.Call.{Call}
+use Rattle.machine.specs.Called.{counts_of}
+use Rattle.machine.specs.Kinds.Meaning.{step_far, step_counts, SenderIs}
+use Rattle.machine.specs.Steps.{after_event, event_bytes, Keeps, Due}
 use Rattle.machine.specs.declared.kinds.Step.{Step}
-use Rattle.protocol.specs.declared.TheConstants.{LATEST}
-
--- the bytes of the call's actions
-unfoldable pub step_bytes : List Room → ℕ → Step → State → List ℕ
-step_bytes rooms now r s = concat_map action_bytes (settled_actions s ++ step_actions rooms r (settled now s))
+use Rattle.machine.specs.declared.event.Task.{Task}
+use Rattle.machine.specs.declared.event.Task.TheVariants as task
+use Rattle.machine.specs.declared.event.Accepted.{Accepted}
 
 -- (12), (13), (14), or what the step leaves; `counted` are the counts once the message is counted
-unfoldable pub step_outcome : List Room → ℕ → Step → State → Counts → ℕ → Outcome
-step_outcome rooms now r s counted output =
-    if step_far r then refused 12
-    else if not (fit_sizes s.limits (step_sizes rooms now r (settled now s))) then refused 13
-    else if not (leb (length (step_bytes rooms now r s)) output) then refused 14
-    else accepted (step_state rooms now r (settled now s)) (step_counts r counted) (step_bytes rooms now r s)
+unfoldable pub step_outcome : Call → Step → State → Counts → ℕ → Outcome
+step_outcome call step s counted output =
+    if step_far step then refused 12
+    else if not (fits (after_event call step s)) then refused 13
+    else if not (leb (length (event_bytes call step s)) output) then refused 14
+    else accepted (after_event call step s) (step_counts step counted) (event_bytes call step s)
 
--- what a step is asked with: questions 5 and 6 were answered yes, and what the step names is there
-pub record Asked (h : Head) (block rooms : List ℕ) (now : ℕ) (r : Step) : Type 0 where
-  pub stands : Stands h block
-  pub long : block_need (limits_of h.limits) ≤ length block
-  pub held : StepHeld (state_of h block) r
-  pub sender : SenderIs (get_or rooms 33 0) r
-  pub early : now ≤ LATEST.0
+-- the state after a task; a neighbour up or down has no first event's work
+abbrev pub after_task : Call → Task → State → State
+after_task call (task.Step step) s = after_event call step s
+after_task call (task.Up peer) s = linked (link_up peer) s
+after_task call (task.Down peer) s = forget_peer peer s
 
--- a step that is some event's, asked (13): the state after it is within every limit if its sizes are, and its settings and limits are those before
-pub record Decides (rooms : List Room) (now : ℕ) (r : Step) (s : State) : Type 0 where
-  pub fits : fits (step_state rooms now r (settled now s)) ≡ fit_sizes s.limits (step_sizes rooms now r (settled now s))
-  pub limits : (step_state rooms now r (settled now s)).limits ≡ s.limits
-  pub settings : (step_state rooms now r (settled now s)).settings ≡ s.settings
+-- its actions; a neighbour up or down has none
+abbrev pub task_bytes : Call → Task → State → List ℕ
+task_bytes call (task.Step step) s = event_bytes call step s
+task_bytes call _ s = []
+
+-- what a task asks
+abbrev pub Doable : Call → Task → State → Type 0
+Doable call (task.Step step) s = Due call step s × SenderIs (get_or call.rooms.numbers.now 33 0) step
+Doable call t s = Allowed (after_task call t) s
+
+-- what the questions have found
+abbrev pub outcome_of : Call → State → Result Accepted ℕ → Outcome
+outcome_of call s (Ok a) = accepted (after_task call a.task s) (counts_of a.stats) (task_bytes call a.task s)
+outcome_of call s (Err n) = refused n
+
+-- a call that is accepted: its task can be done, and the output has room
+pub record Acceptable (call : Call) (s : State) (output : ℕ) (a : Accepted) : Type 0 where
+  pub doable : Doable call a.task s
+  pub keeps : Keeps s (after_task call a.task s)
+  pub long : a.length ≡ length (task_bytes call a.task s)
+  pub fits : a.length ≤ output

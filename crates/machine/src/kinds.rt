@@ -1,22 +1,27 @@
 // What an event does once a first event's work is done: the step, with what was found out about it from the block before anything is changed.
-ghost use Rattle.std.specs.Prelude.{◌≤◌, length};
-ghost use Rattle.postcard.specs.Message.{Received, Broadcast, Fired, Gossip, IHave, message_bytes};
+ghost use Rattle.std.specs.Prelude.{ℕ, ◌≤◌, length};
+ghost use Rattle.postcard.specs.Message as message;
+ghost use Rattle.postcard.specs.Message.{Received, Broadcast, Fired, IHave, message_bytes};
 ghost use Rattle.postcard.specs.Values.{delivery_value, scope_value, timer_value};
 ghost use Rattle.wire.specs.Reader.Values.{ihaves_value, message_value};
 ghost use Rattle.storage.specs.Rows.Ident.{id_of};
-ghost use Rattle.block.specs.View.{state_of};
+ghost use Rattle.protocol.specs.State.{State};
+ghost use Rattle.protocol.specs.Consistent.{CoreOf};
 ghost use Rattle.block.specs.LinkSteps.{peer_at};
-ghost use Rattle.steps.specs.Stands.{Stands};
+ghost use Rattle.steps.specs.Panels.{AtRest};
+ghost use Rattle.steps.specs.Views.{shown};
 ghost use Rattle.machine.specs.Kinds.Meaning.{ListHeld, Means};
 
-use announcements::ihaves;
-use block::head::Head;
+use announcements::on_ihave::all_received;
 use block::links;
+use payloads::on_gossip::NewMessage;
+use payloads::on_late_graft_reply::LateCopy;
 use postcard::message::{Delivery, Scope, Timer};
-use postcard::units::{Millis, Round};
-use steps::settled;
+use steps::call::Call;
+use steps::view::View;
 use storage::rows::id;
 use storage::rows::id::Id;
+use wire::encode::message::Gossip;
 use wire::reader::ihaves::Ihaves;
 use wire::reader::message::Message;
 use wire::serialized_size;
@@ -27,43 +32,17 @@ pub enum Step<'a> {
     // a first event's work only
     Nothing,
     // a valid Gossip, unreceived
-    NewSwarm {
-        sender: u64,
-        id: Id,
-        content: &'a [u8],
-        round: Round,
-    },
-    NewNeighbors {
-        sender: u64,
-        content: &'a [u8],
-    },
+    NewSwarm(NewMessage<'a>),
+    NewNeighbors { sender: u64, content: &'a [u8] },
     // a valid Gossip, "Received before"
-    Late {
-        sender: u64,
-        id: Id,
-        delivery: Delivery,
-    },
+    Late(LateCopy),
     // a neighbour's
-    Prune {
-        link: usize,
-    },
-    Graft {
-        link: usize,
-        wanted: Option<Id>,
-    },
-    IHave {
-        link: usize,
-        ihaves: Ihaves<'a>,
-    },
+    Prune { link: usize },
+    Graft { link: usize, wanted: Option<Id> },
+    IHave { link: usize, ihaves: Ihaves<'a> },
     // a broadcast of size at most M
-    BroadcastSwarm {
-        id: Id,
-        content: &'a [u8],
-    },
-    BroadcastNeighbors {
-        id: Id,
-        content: &'a [u8],
-    },
+    BroadcastSwarm { id: Id, content: &'a [u8] },
+    BroadcastNeighbors { id: Id, content: &'a [u8] },
     SendGraft(Id),
     DispatchLazyPush,
     EvictCache,
@@ -71,108 +50,89 @@ pub enum Step<'a> {
 }
 
 // The step of a Gossip: "Not valid: nothing", "Received before", or new. Linear in the content, for its hash.
-fn gossip_step<'a>(
-    h: Head,
-    block: &[u8],
-    instant: Millis,
-    sender: u64,
-    id: Id,
-    content: &'a [u8],
-    delivery: Delivery,
-) -> Step<'a>
-    requires { Stands h block.now × (length (message_bytes (Gossip (id_of id) content.now (delivery_value delivery))) ≤ h.settings.max_message_size) }
-    ensures { Means instant.0 (state_of h block.now) result (Received sender (Gossip (id_of id) content.now (delivery_value delivery))) }
+fn gossip_step<'a>(view: &View, call: &Call, sender: u64, gossip: Gossip<'a>) -> Step<'a>
+    requires { AtRest (shown view.now) × (length (message_bytes (message.Gossip (id_of gossip.id) gossip.content.now (delivery_value gossip.delivery))) ≤ (shown view.now).settings.max_message_size) }
+    ensures { Means call.now.instant.0 (shown view.now) result (Received sender (message.Gossip (id_of gossip.entry.id) gossip.entry.content.now (delivery_value gossip.entry.delivery))) }
 {
-    let real = blake3::hash(content);
-    let valid = id::same(real, id);
-    if !valid {
+    let Gossip {
+        id,
+        content,
+        delivery,
+    } = gossip;
+    if !id::same(blake3::hash(content), id) {
         return Step::Nothing;
     }
-    let received = settled::received_then(h, block, instant, id);
-    if received {
-        return Step::Late {
+    if view.is_received_then(call, id) {
+        return Step::Late(LateCopy {
             sender,
             id,
             delivery,
-        };
+        });
     }
     match delivery {
-        Delivery::Swarm(round) => Step::NewSwarm {
+        Delivery::Swarm(round) => Step::NewSwarm(NewMessage {
             sender,
             id,
             content,
             round,
-        },
+        }),
         Delivery::Neighbors => Step::NewNeighbors { sender, content },
     }
 }
 
 // The step of a neighbour's IHave (`on_ihave`): where every identifier is received it does nothing. Its time is that of a look-up for each entry, up to the first
 // that is not received.
-fn ihave_step<'a>(
-    h: Head,
-    block: &[u8],
-    instant: Millis,
-    link: usize,
-    ihaves: Ihaves<'a>,
-) -> Step<'a>
-    requires { Stands h block.now × ListHeld (state_of h block.now) link ihaves }
-    ensures { Means instant.0 (state_of h block.now) result (Received (peer_at (state_of h block.now) link) (IHave (ihaves_value ihaves.entry))) }
+fn ihave_step<'a>(view: &View, call: &Call, link: usize, ihaves: Ihaves<'a>) -> Step<'a>
+    requires { AtRest (shown view.now) × ListHeld (shown view.now) link ihaves }
+    ensures { Means call.now.instant.0 (shown view.now) result (Received (peer_at (shown view.now) link) (IHave (ihaves_value ihaves.entry))) }
 {
-    let known = ihaves::all_received(h, block, instant, ihaves);
-    if known {
+    if all_received(view, call, ihaves) {
         return Step::Nothing;
     }
     Step::IHave { link, ihaves }
 }
 
 // The step of a message; Prune, Graft and IHave "from strangers are counted only". Linear in the links, in the content of a Gossip and in the entries of an IHave.
-pub fn message_step<'a>(
-    h: Head,
-    block: &[u8],
-    instant: Millis,
-    sender: u64,
-    m: Message<'a>,
-) -> Step<'a>
-    requires { Stands h block.now × (length (message_bytes (message_value m)) ≤ h.settings.max_message_size) }
-    ensures { Means instant.0 (state_of h block.now) result (Received sender (message_value m.entry)) }
+pub fn message_step<'a>(view: &View, call: &Call, sender: u64, message: Message<'a>) -> Step<'a>
+    requires { AtRest (shown view.now) × (length (message_bytes (message_value message)) ≤ (shown view.now).settings.max_message_size) }
+    ensures { Means call.now.instant.0 (shown view.now) result (Received sender (message_value message.entry)) }
 {
-    let f = links::find_link(h, block, sender);
-    match m {
+    let found = links::find_link(view.head, view.block, sender);
+    match message {
         Message::Gossip {
             id,
             content,
             delivery,
-        } => gossip_step(h, block, instant, sender, id, content, delivery),
-        Message::Prune => match f {
+        } => {
+            let gossip = Gossip {
+                id,
+                content,
+                delivery,
+            };
+            gossip_step(view, call, sender, gossip)
+        }
+        Message::Prune => match found {
             Ok(link) => Step::Prune { link },
             Err(_) => Step::Nothing,
         },
-        Message::Graft { wanted, .. } => match f {
+        Message::Graft { wanted, .. } => match found {
             Ok(link) => Step::Graft { link, wanted },
             Err(_) => Step::Nothing,
         },
-        Message::IHave(ihaves) => match f {
-            Ok(link) => ihave_step(h, block, instant, link, ihaves),
+        Message::IHave(ihaves) => match found {
+            Ok(link) => ihave_step(view, call, link, ihaves),
             Err(_) => Step::Nothing,
         },
     }
 }
 
 // The step of a broadcast: "Size over M: accepted, only a first event's work". Linear in the content, if it is sent.
-pub fn broadcast_step<'a>(
-    h: Head,
-    block: &[u8],
-    instant: Millis,
-    content: &'a [u8],
-    scope: Scope,
-) -> Step<'a>
-    requires { Stands h block.now }
-    ensures { Means instant.0 (state_of h block.now) result (Broadcast content.now (scope_value scope)) }
+pub fn broadcast_step<'a>(view: &View, call: &Call, content: &'a [u8], scope: Scope) -> Step<'a>
+    requires { AtRest (shown view.now) }
+    ensures { Means call.now.instant.0 (shown view.now) result (Broadcast content.now (scope_value scope)) }
 {
-    let len = content.len();
-    let fits = serialized_size::broadcast_fits(len, scope, h.settings.max_message_size as usize);
-    if !fits {
+    let max = view.head.settings.max_message_size as usize;
+    if !serialized_size::broadcast_fits(content.len(), scope, max) {
         return Step::Nothing;
     }
     let id = blake3::hash(content);
@@ -183,11 +143,10 @@ pub fn broadcast_step<'a>(
 }
 
 // The step of a timer.
-pub fn timer_step(h: Head, block: &[u8], instant: Millis, t: Timer) -> Step<'static>
-    requires { Stands h block.now }
-    ensures { Means instant.0 (state_of h block.now) result (Fired (timer_value t)) }
+pub fn timer_step(timer: Timer) -> Step<'static>
+    ensures { (now : ℕ) → (s : State) → CoreOf s → Means now s result (Fired (timer_value timer)) }
 {
-    match t {
+    match timer {
         Timer::SendGraft(id) => Step::SendGraft(id),
         Timer::DispatchLazyPush => Step::DispatchLazyPush,
         Timer::EvictCache => Step::EvictCache,

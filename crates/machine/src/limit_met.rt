@@ -1,31 +1,30 @@
 // Which limit a call met that is answered 13: the questions of an event call, with the counts zero, asked of a block that is only read.
-ghost use Rattle.std.specs.Prelude.{◌≡◌, [], length, ◌+◌, ◌≤◌};
+ghost use Rattle.std.specs.Prelude.{◌≡◌, length};
 ghost use Rattle.blake3.specs.Blake3.{identifier};
-ghost use Rattle.postcard.specs.Message.{Received, Broadcast, Fired, Up};
-ghost use Rattle.postcard.specs.Values.{scope_value, timer_value};
-ghost use Rattle.postcard.specs.Message.{message_bytes};
-ghost use Rattle.wire.specs.Reader.Values.{message_value, event_value};
-ghost use Rattle.block.specs.View.{state_of, limits_of};
+ghost use Rattle.wire.specs.Reader.Values.{event_value};
+ghost use Rattle.block.specs.View.{limits_of};
 ghost use Rattle.block.specs.Fit.{Ceilings};
 ghost use Rattle.whole.specs.Held.{held};
-ghost use Rattle.steps.specs.Stands.{Stands};
-ghost use Rattle.steps.specs.Rooms.{rooms_in};
+ghost use Rattle.steps.specs.Calls.{rooms_of};
+ghost use Rattle.steps.specs.Panels.{AtRest};
 ghost use Rattle.steps.specs.Shared.{sizes_value};
-ghost use Rattle.machine.specs.Kinds.Meaning.{StepHeld};
+ghost use Rattle.steps.specs.Views.{shown};
 ghost use Rattle.machine.specs.Core.{Shortened, event_size, core_rooms};
 ghost use Rattle.machine.specs.LimitMet.LimitMet.{asking, limit_met};
 ghost use Rattle.machine.specs.LimitMet.Decided.{sizes_past, event_past, step_past};
+ghost use Rattle.machine.specs.Steps.{after_event, Keeps, Named};
 
 use crate::kinds::Step;
-use crate::{event, kinds, sizes_after};
-use block::head::{Head, Limits};
+use crate::step::step_sizes;
+use crate::{event, kinds};
+use block::head::Limits;
 use block::header;
-use postcard::message::{Scope, Timer};
 use postcard::units::Millis;
-use steps::{Sizes, sizes_before};
-use wire::reader;
+use steps::Sizes;
+use steps::call::{Call, Rooms};
+use steps::on_neighbor_up::up_sizes;
+use steps::view::View;
 use wire::reader::event::Event;
-use wire::reader::message::Message;
 
 // The first limit that these numbers of entries are past, in the order of the ceilings; 0 if they are within every one. "Expiry entries: 2R, 2C, 2G".
 fn limit_past(l: Limits, z: Sizes) -> u8
@@ -72,88 +71,41 @@ fn limit_past(l: Limits, z: Sizes) -> u8
 }
 
 // Questions 12 and 13 of a step.
-fn step_limit(h: Head, block: &[u8], instant: Millis, rooms: &[u64; 34], step: Step) -> u8
-    requires { Stands h block.now × StepHeld (state_of h block.now) step }
-    ensures { result ≡ step_past (rooms_in (state_of h block.now) rooms.now) instant.0 step.entry (state_of h block.now) }
+fn step_limit(view: &View, call: &Call, step: Step) -> u8
+    requires { Named call.now step (shown view.now) × Keeps (shown view.now) (after_event call.now step (shown view.now)) }
+    ensures { result ≡ step_past call.now step.entry (shown view.now) }
 {
-    let far = event::is_far(step);
-    if far {
+    if event::is_far(step) {
         return 0;
     }
-    let sizes = sizes_after::step_sizes(h, block, instant, rooms, step);
-    limit_past(h.limits, sizes)
-}
-
-// A received message: question 10, then its step.
-fn message_limit(
-    h: Head,
-    block: &[u8],
-    instant: Millis,
-    rooms: &[u64; 34],
-    peer: u64,
-    size: usize,
-    m: Message,
-) -> u8
-    requires { Stands h block.now × (length (message_bytes (message_value m)) ≤ size) }
-    ensures { result ≡ event_past (rooms_in (state_of h block.now) rooms.now) instant.0 size (Received peer (message_value m.entry)) (state_of h block.now) }
-{
-    if h.settings.max_message_size < size as u64 {
-        return 0;
-    }
-    let step = kinds::message_step(h, block, instant, peer, m);
-    step_limit(h, block, instant, rooms, step)
-}
-
-// A broadcast: its step.
-fn broadcast_limit(
-    h: Head,
-    block: &[u8],
-    instant: Millis,
-    rooms: &[u64; 34],
-    content: &[u8],
-    scope: Scope,
-) -> u8
-    requires { Stands h block.now }
-    ensures { result ≡ event_past (rooms_in (state_of h block.now) rooms.now) instant.0 0 (Broadcast content.now (scope_value scope)) (state_of h block.now) }
-{
-    let step = kinds::broadcast_step(h, block, instant, content, scope);
-    step_limit(h, block, instant, rooms, step)
-}
-
-// A timer: its step.
-fn timer_limit(h: Head, block: &[u8], instant: Millis, rooms: &[u64; 34], t: Timer) -> u8
-    requires { Stands h block.now }
-    ensures { result ≡ event_past (rooms_in (state_of h block.now) rooms.now) instant.0 0 (Fired (timer_value t)) (state_of h block.now) }
-{
-    let step = kinds::timer_step(h, block, instant, t);
-    step_limit(h, block, instant, rooms, step)
-}
-
-// A neighbour told up: the numbers of entries with its link.
-fn up_limit(h: Head, block: &[u8], instant: Millis, rooms: &[u64; 34], peer: u64) -> u8
-    requires { Stands h block.now }
-    ensures { result ≡ event_past (rooms_in (state_of h block.now) rooms.now) instant.0 0 (Up peer) (state_of h block.now) }
-{
-    let sizes = sizes_before::up_sizes(h, block, peer);
-    limit_past(h.limits, sizes)
+    limit_past(view.head.limits, step_sizes(view, call, step))
 }
 
 // Questions 10, 12 and 13 of an event that was read, by its kind. A neighbour told down adds nothing.
-fn event_limit(h: Head, block: &[u8], instant: Millis, rooms: &[u64; 34], e: Event) -> u8
-    requires { Stands h block.now × Shortened e }
-    ensures { result ≡ event_past (rooms_in (state_of h block.now) rooms.now) instant.0 (event_size e.entry) (event_value e.entry) (state_of h block.now) }
+fn event_limit(view: &View, call: &Call, event: Event) -> u8
+    requires { AtRest (shown view.now) × Shortened event }
+    ensures { result ≡ event_past (rooms_of call.now (shown view.now)) call.now.instant.0 (event_size event.entry) (event_value event.entry) (shown view.now) }
 {
-    match e {
+    match event {
         Event::Received {
             peer,
             size,
             message,
-        } => message_limit(h, block, instant, rooms, peer, size, message),
-        Event::Broadcast { content, scope } => {
-            broadcast_limit(h, block, instant, rooms, content, scope)
+        } => {
+            if view.head.settings.max_message_size < size as u64 {
+                return 0;
+            }
+            step_limit(view, call, kinds::message_step(view, call, peer, message))
         }
-        Event::Timer(t) => timer_limit(h, block, instant, rooms, t),
-        Event::Up(peer) => up_limit(h, block, instant, rooms, peer),
+        Event::Broadcast { content, scope } => {
+            step_limit(
+                view,
+                call,
+                kinds::broadcast_step(view, call, content, scope),
+            )
+        }
+        Event::Timer(timer) => step_limit(view, call, kinds::timer_step(timer)),
+        Event::Up(peer) => limit_past(view.head.limits, up_sizes(view, peer)),
         Event::Down(_) => 0,
     }
 }
@@ -163,20 +115,18 @@ fn event_limit(h: Head, block: &[u8], instant: Millis, rooms: &[u64; 34], e: Eve
 pub fn limit_met(block: &[u8], instant: Millis, event: &[u8], rooms: [u64; 34]) -> u8
     ensures { result ≡ limit_met identifier (length block.now) (held block.now) (asking instant.0 event.now (core_rooms block.now event.now rooms)) }
 {
-    let whole = whole::is_whole(block);
-    if !whole {
+    let Ok(event) = event::read_event(block, instant, event) else {
         return 0;
-    }
-    if 4611686018427387904 < instant.0 {
-        return 0;
-    }
-    let h = header::load_head(block);
-    match reader::event::decode_event(event) {
-        Ok(e) => {
-            let mut own = rooms;
-            own[33] = event::event_peer(e);
-            event_limit(h, block, instant, &own, e)
-        }
-        Err(_) => 0,
-    }
+    };
+    let mut own = rooms;
+    own[33] = event::event_peer(event);
+    let call = Call {
+        instant,
+        rooms: Rooms { numbers: &own },
+    };
+    let view = View {
+        head: header::load_head(block),
+        block,
+    };
+    event_limit(&view, &call, event)
 }

@@ -1,8 +1,3 @@
 pub mod TargetLaws
 pub mod ScanLaws
-pub mod GainLaws
 pub mod BackLaws
-pub mod MarkLaws
-pub mod SendLaws
-pub mod ReplyLaws
-pub mod CallLaws

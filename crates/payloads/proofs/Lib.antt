@@ -1,6 +1,12 @@
 pub mod EagerLaws
-pub mod LateLaws
-pub mod OptimiseLaws
-pub mod GossipLaws
 pub mod NewGossipLaws
+pub mod OnGraftLaws
+pub mod EagerPushLaws
+pub mod AfterLaws
 pub mod BroadcastLaws
+pub mod PushedLaws
+pub mod BroadcastStateLaws
+pub mod OptimizeTreeLaws
+pub mod OnGossipLaws
+pub mod GossipStateLaws
+pub mod OnLateGraftReplyLaws

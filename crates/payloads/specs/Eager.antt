@@ -1,5 +1,2 @@
 pub mod Targets
 pub mod Scan
-pub mod Backs
-pub mod Sent
-pub mod Reply

@@ -1,6 +1,7 @@
 pub mod Eager
-pub mod Late
-pub mod Optimise
-pub mod Gossip
-pub mod NewGossip
+pub mod OnGraft
+pub mod EagerPush
 pub mod Broadcast
+pub mod OptimizeTree
+pub mod OnGossip
+pub mod OnLateGraftReply

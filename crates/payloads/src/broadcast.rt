@@ -1,147 +1,81 @@
-// A broadcast that is sent: the specification, "Broadcast".
-ghost use Rattle.std.specs.Prelude.{◌^◌, ◌≤◌, ◌<◌};
-ghost use Rattle.storage.specs.Rows.Ident.{id_of};
-ghost use Rattle.postcard.specs.Message.{to_swarm, to_neighbors};
-ghost use Rattle.postcard.specs.Values.{scope_value};
-ghost use Rattle.wire.specs.Output.Written.{Tellable, Written};
-ghost use Rattle.block.specs.View.{state_of};
-ghost use Rattle.block.specs.Goes.{Goes};
-ghost use Rattle.steps.specs.Stands.{Stands, Step};
-ghost use Rattle.payloads.specs.Broadcast.Broadcasts.{broadcast_in, broadcast_bytes, BroadcastIs};
+// `broadcast`: the specification, "Broadcast".
+ghost use Rattle.std.specs.Prelude.{◌≡◌, ◌≤◌};
+ghost use Rattle.postcard.specs.Values.{delivery_value};
+ghost use Rattle.decide.specs.Sizes.{sizes_of};
+ghost use Rattle.decide.specs.Settled.{settled};
+ghost use Rattle.wire.specs.Encode.Held.{after, RoomFor};
+ghost use Rattle.steps.specs.Views.{shown};
+ghost use Rattle.steps.specs.Shared.{sizes_value};
+ghost use Rattle.steps.specs.Panels.{state, Goes, AtRest, Allowed};
+ghost use Rattle.payloads.specs.Broadcast.{AtFirst, broadcast_bytes, after_broadcast};
 
-use crate::eager::target::Push;
-use crate::eager::{back, sends};
-use block::head::Head;
-use postcard::message::{Delivery, Scope};
-use postcard::units::{Millis, Round};
-use steps::contents::taking;
-use steps::{Held, Sizes, pushes, sizes_before, ticks};
+use crate::eager_push::notes::{note_back, to_note};
+use crate::eager_push::sends::{eager_push, push_sends};
+use crate::eager_push::target::Push;
+use postcard::message::Delivery;
+use postcard::units::Round;
+use protocol::LATEST;
+use steps::Sizes;
+use steps::call::Call;
+use steps::panel::Panel;
+use steps::schedule::schedule_dispatch;
+use steps::view::View;
 use storage::rows::id::Id;
+use wire::encode::message::Gossip;
+use wire::encode::sink::Sink;
 
-// `broadcast`, the state half, of a Swarm message that is sent: "mark received, cache at round 0, lazy push, then eager push"; "The panel is the sender in both
-// pushes". A Neighbors broadcast changes no state. Its time is that of one pass over the caches and contents, one over the links, and one over the record's column
-// of link numbers.
-pub fn broadcast(
-    h: Head,
-    block: &mut [u8],
-    instant: Millis,
-    rooms: &[u64; 34],
-    id: Id,
-    content: &[u8],
-) -> Head
-    requires { Step (broadcast_in instant.0 rooms.now (id_of id) content.now) h block.old × (instant.0 ≤ 2 ^ 62) }
-    ensures { Goes (broadcast_in instant.0 rooms.now (id_of id) content.now) h block.old result block.new }
+// Its actions: of a Swarm message a dispatch timer unless flagged, then the eager push; of a Neighbors message the "eager push only". "The panel is the sender in
+// both pushes". Its time is that of one pass over the links.
+pub fn broadcast_actions<S: Sink>(view: &View, call: &Call, out: &mut S, message: &Gossip)
+    requires rest { AtRest (shown view.now) }
+    requires first { AtFirst (delivery_value message.now.delivery) }
+    requires room { RoomFor (broadcast_bytes call.now message.now (settled call.now.instant.0 (shown view.now))) (S.held out.old) }
+    ensures { S.held out.new ≡ after (broadcast_bytes call.now message.now (settled call.now.instant.0 (shown view.now))) (S.held out.old) }
 {
-    let me = h.settings.me;
-    let a = taking::take_in(h, block, instant, id, content, Round(0));
-    let b = pushes::lazy_push(a, block, id, Round(0), me);
     let push = Push {
-        sender: me,
-        skip: Held::Nothing,
+        sender: view.head.settings.me,
+        skip: None,
     };
-    back::note_back(b, block, rooms, push, id, Round(0))
-}
-
-// The actions of a Swarm broadcast: a dispatch timer unless flagged, then the eager push. Its time is that of one pass over the links.
-fn swarm_actions(
-    h: Head,
-    block: &[u8],
-    instant: Millis,
-    rooms: &[u64; 34],
-    out: &mut [u8],
-    at: usize,
-    id: Id,
-    content: &[u8],
-) -> usize
-    requires stands { Stands h block.now }
-    requires tellable { Tellable (broadcast_bytes instant.0 rooms.now (id_of id) content.now to_swarm (state_of h block.now)) at }
-    ensures { Written (broadcast_bytes instant.0 rooms.now (id_of id) content.now to_swarm (state_of h block.now)) out.old at out.new result }
-{
-    let me = h.settings.me;
-    let to = ticks::schedule_dispatch(h, block, out, at);
-    let push = Push {
-        sender: me,
-        skip: Held::Nothing,
-    };
-    sends::eager_push(h, block, rooms, out, to, push, id, content, Round(0))
-}
-
-// The actions of a Neighbors broadcast: "eager push only". Its time is that of one pass over the links.
-fn neighbors_actions(
-    h: Head,
-    block: &[u8],
-    instant: Millis,
-    rooms: &[u64; 34],
-    out: &mut [u8],
-    at: usize,
-    id: Id,
-    content: &[u8],
-) -> usize
-    requires stands { Stands h block.now }
-    requires tellable { Tellable (broadcast_bytes instant.0 rooms.now (id_of id) content.now to_neighbors (state_of h block.now)) at }
-    ensures { Written (broadcast_bytes instant.0 rooms.now (id_of id) content.now to_neighbors (state_of h block.now)) out.old at out.new result }
-{
-    let me = h.settings.me;
-    let push = Push {
-        sender: me,
-        skip: Held::Nothing,
-    };
-    let p = sends::push_sends(
-        h,
-        block,
-        rooms,
-        out,
-        at,
-        push,
-        id,
-        content,
-        Delivery::Neighbors,
-    );
-    p.at
-}
-
-// `broadcast`, the actions half, of a message that is sent, once a first event has evicted at the instant. Its time is that of one pass over the links.
-pub fn broadcast_actions(
-    h: Head,
-    block: &[u8],
-    instant: Millis,
-    rooms: &[u64; 34],
-    out: &mut [u8],
-    at: usize,
-    id: Id,
-    content: &[u8],
-    scope: Scope,
-) -> usize
-    requires stands { Stands h block.now }
-    requires tellable { Tellable (broadcast_bytes instant.0 rooms.now (id_of id) content.now (scope_value scope) (state_of h block.now)) at }
-    ensures { Written (broadcast_bytes instant.0 rooms.now (id_of id) content.now (scope_value scope) (state_of h block.now)) out.old at out.new result }
-{
-    match scope {
-        Scope::Swarm => swarm_actions(h, block, instant, rooms, out, at, id, content),
-        Scope::Neighbors => neighbors_actions(h, block, instant, rooms, out, at, id, content),
+    match message.delivery {
+        Delivery::Swarm(_) => {
+            schedule_dispatch(view, out);
+            eager_push(view, call, out, &push, message);
+        }
+        Delivery::Neighbors => {
+            push_sends(view, call, out, &push, message);
+        }
     }
 }
 
-// The numbers of entries after a Swarm broadcast of `len` content bytes: it is taken in, and what is handed back is noted. Its time is that of one pass over
-// the caches, one over the links, and one over the record's column of link numbers.
-pub fn broadcast_sizes(
-    h: Head,
-    block: &[u8],
-    instant: Millis,
-    rooms: &[u64; 34],
-    id: Id,
-    len: usize,
-) -> Sizes
-    requires { Stands h block.now × (len < 4294967296) }
-    ensures { BroadcastIs instant.0 rooms.now (id_of id) len (state_of h block.now) result }
+// The numbers of entries after a Swarm broadcast (question 13). Its time is that of one pass over the caches, one over the links, and one over the record's column of
+// link numbers.
+pub fn broadcast_sizes(view: &View, call: &Call, id: Id, content: &[u8]) -> Sizes
+    requires { AtRest (shown view.now) }
+    ensures { sizes_value result ≡ sizes_of (after_broadcast call.now id content.now (settled call.now.instant.0 (shown view.now))) }
 {
-    let me = h.settings.me;
-    let mut z = sizes_before::taken_sizes(h, block, instant, id, len, me);
+    let me = view.head.settings.me;
     let push = Push {
         sender: me,
-        skip: Held::Nothing,
+        skip: None,
     };
-    let gains = back::push_gains(h, block, rooms, id, push);
-    z.dropped = z.dropped + gains;
-    z
+    let mut sizes = view.taken_sizes(call, id, content);
+    sizes.queued += view.lazy_count(me);
+    sizes.dropped += to_note(view, call, &push, id).len();
+    sizes
+}
+
+// The step of a Swarm broadcast: "mark received, cache at round 0, lazy push, then eager push"; "The panel is the sender in both pushes". Its time is that of one pass
+// over the caches and contents, one over the links, and one over the record's column of link numbers.
+pub fn broadcast(panel: &mut Panel, call: &Call, id: Id, content: &[u8])
+    requires { Allowed (after_broadcast call.now id content.now) (state panel.old) × (call.now.instant.0 ≤ LATEST.0) }
+    ensures { Goes (after_broadcast call.now id content.now) panel.old panel.new }
+{
+    let me = panel.head.settings.me;
+    let push = Push {
+        sender: me,
+        skip: None,
+    };
+    panel.take_in(call, id, content, Round(0));
+    panel.lazy_push(id, Round(0), me);
+    note_back(panel, call, &push, id, Round(0));
 }

@@ -1,9 +1,10 @@
-// The steps that carry contents: a message taken in, a copy of one received before, a broadcast, and the reply to a Graft.
+// The steps that carry contents: a message taken in, a copy of one received before, a broadcast, and the reply to a Graft; and Prune.
 #![tactic(auto)]
 
 pub mod broadcast;
-pub mod eager;
-pub mod gossip;
-pub mod late;
-pub mod new_gossip;
-pub mod optimise;
+pub mod eager_push;
+pub mod on_gossip;
+pub mod on_graft;
+pub mod on_late_graft_reply;
+pub mod on_prune;
+pub mod optimize_tree;

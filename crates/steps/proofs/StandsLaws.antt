@@ -4,8 +4,6 @@ use Prim.Native.Nat.{ℕ}
 use Rattle.time_cache.specs.TimeCache.{Cache, Timely}
 use Rattle.block.specs.View.{state_of}
 use Rattle.block.specs.LinkSteps.{LinksAscend}
-use Rattle.block.specs.MissingSteps.{MissingAscend}
-use Rattle.block.specs.TimerSteps.{TimersAscend}
 use Rattle.block.specs.declared.head.Head.{Head}
 use Rattle.block.specs.Caches.InBlock.{InOrder}
 use Rattle.steps.specs.Stands.{Stands}
@@ -16,12 +14,6 @@ in_order c t = record { up = t.up; order = t.order }
 module _ (h : Head) (block : List ℕ) (s : Stands h block) where
   pub links-up : LinksAscend h block
   links-up = s.consistent.core.links_up
-
-  pub missing-up : MissingAscend h block
-  missing-up = s.consistent.core.missing_up
-
-  pub timers-up : TimersAscend h block
-  timers-up = s.consistent.core.timers_up
 
   pub received-order : InOrder (state_of h block).received
   received-order = in_order (state_of h block).received s.consistent.core.received_on

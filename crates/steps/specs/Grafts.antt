@@ -1,2 +1,3 @@
 pub mod Reads
 pub mod NoteSteps
+pub mod Firsts

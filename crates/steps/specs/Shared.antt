@@ -1,12 +1,10 @@
 -- What the types that the functions of a call share stand for.
 -- Assumes nothing.
-use Rattle.std.specs.Prelude.{ℕ, ◌<◌, ◌≡◌, length, get_or}
+use Rattle.std.specs.Prelude.{ℕ, ◌<◌, ◌≡◌, length, get_or, Option as Answer, Some, None}
 use Rattle.std.proofs.Math.Option.{Option, none, some}
 use Rattle.storage.specs.Lists.Map.{Map, Entry}
 use Rattle.time_cache.specs.TimeCache.{Timed}
 use Rattle.decide.specs.Sizes.{Sizes}
-use Rattle.steps.specs.declared.Held.{Held}
-use Rattle.steps.specs.declared.Held.TheVariants.{At, Nothing}
 use Rattle.steps.specs.declared.Sizes.{Sizes as CodeSizes}
 
 -- entry i of a time cache is that of the identifier, and its value is the one found; d stands where there is no entry
@@ -16,9 +14,9 @@ pub record HeldAt {A : Type 0} (d : Entry (Timed A)) (m : Map (Timed A)) (id : �
   pub value : found ≡ some (get_or m i d).value.value
 
 -- what a look-up answers: the entry, or that nothing was found
-abbrev pub HeldIs : {A : Type 0} → Entry (Timed A) → Map (Timed A) → ℕ → Option A → Held → Type 0
-HeldIs d m id found (At i) = HeldAt d m id found i
-HeldIs d m id found Nothing = found ≡ none
+abbrev pub EntryIs : {A : Type 0} → Entry (Timed A) → Map (Timed A) → ℕ → Option A → Answer ℕ → Type 0
+EntryIs d m id found (Some i) = HeldAt d m id found i
+EntryIs d m id found None = found ≡ none
 
 -- the numbers of entries
 abbrev pub sizes_value : CodeSizes → Sizes

@@ -7,14 +7,14 @@ ghost use Rattle.time_cache.specs.TimeCache.{holds, get};
 ghost use Rattle.time_cache.specs.Tables.{cache_at, Lies, Sound};
 ghost use Rattle.block.specs.View.{state_of, limits_of};
 ghost use Rattle.block.specs.Fit.{Ceilings};
+ghost use Rattle.protocol.specs.Ticks.{evict};
 ghost use Rattle.decide.specs.Sizes.{sizes_of, fit_sizes};
-ghost use Rattle.decide.specs.SizesAfter.{evict_sizes};
 ghost use Rattle.decide.specs.Settled.{settled};
 ghost use Rattle.steps.specs.Stands.{Stands};
-ghost use Rattle.steps.specs.Shared.{HeldIs, sizes_value};
+ghost use Rattle.steps.specs.Shared.{EntryIs, sizes_value};
 ghost use Rattle.steps.specs.Settled.Then.{no_held, no_cached, no_grafts, left_then, later_bytes};
 
-use crate::{Held, Sizes};
+use crate::Sizes;
 use block::caches::{cached, grafted, received};
 use block::head::{Head, Limits};
 use block::time_caches;
@@ -55,39 +55,39 @@ fn cached_expires(h: Head, block: &[u8], i: usize) -> Millis
 }
 
 // The entry of a key that is there then, by its number in the cache as it stands.
-fn held_then(c: TimeBoundCache, block: &[u8], init: bool, instant: Millis, id: Id) -> Held
+fn held_then(c: TimeBoundCache, block: &[u8], init: bool, instant: Millis, id: Id) -> Option<usize>
     requires { Lies c block.now × Sound c block.now }
-    ensures { HeldIs no_held (cache_at c block.now).entries (id_of id) (get (id_of id) (left_then init instant.0 (cache_at c block.now))) result }
+    ensures { EntryIs no_held (cache_at c block.now).entries (id_of id) (get (id_of id) (left_then init instant.0 (cache_at c block.now))) result }
 {
     let g = c.get(block, id);
     match g {
         Got::There(i, p) => {
             if init {
-                return Held::At(i);
+                return Some(i);
             }
             let time = c.expires(block, p);
             if instant.0 < time.0 {
-                return Held::At(i);
+                return Some(i);
             }
-            Held::Nothing
+            None
         }
-        Got::Nothing => Held::Nothing,
+        Got::Nothing => None,
     }
 }
 
 // The cached message of an identifier, if it is there then, by its number in the cache as it stands.
-pub fn cached_then(h: Head, block: &[u8], instant: Millis, id: Id) -> Held
+pub fn cached_then(h: Head, block: &[u8], instant: Millis, id: Id) -> Option<usize>
     requires { Stands h block.now }
-    ensures { HeldIs no_cached (state_of h block.now).cache.entries (id_of id) (get (id_of id) (settled instant.0 (state_of h block.now)).cache) result }
+    ensures { EntryIs no_cached (state_of h block.now).cache.entries (id_of id) (get (id_of id) (settled instant.0 (state_of h block.now)).cache) result }
 {
     let c = time_caches::cached_cache(h);
     held_then(c, block, h.live.init, instant, id)
 }
 
 // The grafted message of an identifier, if it is there then, by its number among the grafted messages as they stand.
-pub fn grafted_then(h: Head, block: &[u8], instant: Millis, id: Id) -> Held
+pub fn grafted_then(h: Head, block: &[u8], instant: Millis, id: Id) -> Option<usize>
     requires { Stands h block.now }
-    ensures { HeldIs no_grafts (state_of h block.now).grafted.entries (id_of id) (get (id_of id) (settled instant.0 (state_of h block.now)).grafted) result }
+    ensures { EntryIs no_grafts (state_of h block.now).grafted.entries (id_of id) (get (id_of id) (settled instant.0 (state_of h block.now)).grafted) result }
 {
     let c = time_caches::grafted_cache(h);
     held_then(c, block, h.live.init, instant, id)
@@ -136,7 +136,7 @@ fn contents_later(h: Head, block: &[u8], instant: Millis) -> usize
 // The numbers of entries that eviction leaves. Its time is that of one pass over the entries of each time cache.
 pub fn later_sizes(h: Head, block: &[u8], instant: Millis) -> Sizes
     requires { Stands h block.now }
-    ensures { sizes_value result ≡ evict_sizes instant.0 (state_of h block.now) }
+    ensures { sizes_value result ≡ sizes_of (evict instant.0 (state_of h block.now)) }
 {
     let received = received::received_later(h, block, instant);
     let received_rows = received::received_rows_later(h, block, instant);

@@ -109,11 +109,11 @@ module _ (held : ℕ → Bool) (ds : List Note) where
     abbrev here : Note
     here = get_or ds i (note 0 0 0)
 
-    stands-not : held here.id ≡ false → standing (i + 1) ≡ standing i
+    pub stands-not : held here.id ≡ false → standing (i + 1) ≡ standing i
     stands-not e =
         filter_more (λ n. held n.id) i (note 0 0 0) ds h ∙ ap (λ (t : Bool). standing i ++ (if t then here ∷ [] else [])) e ∙ append-nil (standing i)
 
-    stands : held here.id ≡ true → standing (i + 1) ≡ standing i ++ (here ∷ [])
+    pub stands : held here.id ≡ true → standing (i + 1) ≡ standing i ++ (here ∷ [])
     stands e = filter_more (λ n. held n.id) i (note 0 0 0) ds h ∙ ap (λ (t : Bool). standing i ++ (if t then here ∷ [] else [])) e
 
 -- how many of these entries are for the peer of each link

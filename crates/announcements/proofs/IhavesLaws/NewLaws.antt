@@ -1,7 +1,7 @@
 -- The identifiers of a message that are not known, entry by entry.
 -- Assumes nothing.
 use mathlib.Core.Path.{◌≡◌, refl, sym, ap, ◌∙◌}
-use mathlib.Core.Bool.{Bool, true, false, not, ◌||◌}
+use mathlib.Core.Bool.{Bool, true, false, ◌||◌}
 use mathlib.Core.List.{List, [], ◌∷◌, ◌++◌}
 use Prim.Native.Nat.{ℕ, ◌+◌, ◌≤◌, zero-le, suc-le-suc}
 use native.Mathlib.Omega.{arith}
@@ -16,8 +16,8 @@ use Rattle.time_cache.specs.TimeCache.{holds}
 use Rattle.postcard.specs.Message.{Ihave}
 use Rattle.protocol.specs.State.{State}
 use Rattle.decide.specs.Settled.{settled}
-use Rattle.decide.specs.SizesAfter.{new_ids, known_missing, known_timer}
-use Rattle.announcements.specs.Ihaves.New.{is_for, is_old, is_new}
+use Rattle.decide.specs.NewIds.{new_ids, known_missing, known_timer}
+use Rattle.announcements.specs.Ihaves.New.{is_for, is_old}
 
 -- the identifiers of these entries, the last first, before those seen
 unfoldable pub back : List Ihave → List ℕ → List ℕ
@@ -96,10 +96,6 @@ module _ (now : ℕ) (s : State) where
   unfolding settled
   settled-timers = if-on (λ (x : State). x.timers.graft) s.init _ _ ∙ if-same s.init refl refl
 
-  pub settled-settings : (settled now s).settings ≡ s.settings
-  unfolding settled
-  settled-settings = if-on (λ (x : State). x.settings) s.init _ _ ∙ if-same s.init refl refl
-
 -- an identifier that is known, by the tests of the code
 module _ (now : ℕ) (s : State) (before : List Ihave) (i : ℕ) where
   abbrev t : State
@@ -128,6 +124,10 @@ module _ (now : ℕ) (s : State) (before : List Ihave) (i : ℕ) where
   unfolding known_missing
   missing-received e = first (holds i t.received) (has i t.missing) (any (is_for i) before) e
 
+  pub missing-there : has i s.missing ≡ true → is_old (known_missing t) before i ≡ true
+  unfolding known_missing
+  missing-there e = second (holds i t.received) (has i t.missing) (any (is_for i) before) (ap (has i) (settled-missing now s) ∙ e)
+
   pub missing-before : any (is_for i) before ≡ true → is_old (known_missing t) before i ≡ true
   unfolding known_missing
   missing-before e = third (holds i t.received) (has i t.missing) (any (is_for i) before) e
@@ -151,8 +151,3 @@ module _ (now : ℕ) (s : State) (before : List Ihave) (i : ℕ) where
   pub timer-else : holds i t.received ≡ false → any (is_for i) before ≡ false → is_old (known_timer t) before i ≡ member i s.timers.graft
   unfolding known_timer
   timer-else e f = others (holds i t.received) (member i t.timers.graft) (any (is_for i) before) e f ∙ ap (member i) (settled-timers now s)
-
-  -- neither received nor marked
-  pub timer-open : holds i t.received ≡ false → member i s.timers.graft ≡ false → is_new (known_timer t) before i ≡ not (any (is_for i) before)
-  unfolding known_timer
-  timer-open e f = (λ k. not ((e k || (ap (member i) (settled-timers now s) ∙ f) k) || any (is_for i) before))

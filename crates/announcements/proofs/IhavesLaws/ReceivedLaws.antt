@@ -4,16 +4,13 @@ use mathlib.Core.Path.{◌≡◌, refl, sym, ap, ◌∙◌}
 use mathlib.Core.Bool.{Bool, true, false, ◌||◌}
 use mathlib.Core.List.{List, [], ◌∷◌}
 use Prim.Native.Nat.{ℕ, ◌+◌, ◌≤◌}
-use native.Mathlib.Nat.{add-zero}
 use lib.ListN.{length, drop, drop_of_length-le}
 use Rattle.storage.specs.Lists.Base.{all, member}
-use Rattle.storage.specs.Lists.Map.{has}
 use Rattle.storage.proofs.ListsLaws.MapLaws.{all_head, all_tail}
 use Rattle.storage.proofs.ListsLaws.ListLaws.{all-imp}
 use Rattle.postcard.specs.Message.{Ihave}
 use Rattle.protocol.specs.State.{State}
-use Rattle.decide.specs.Sizes.{sizes_of}
-use Rattle.decide.specs.SizesAfter.{new_ids, known_missing, known_timer, ihave_sizes}
+use Rattle.decide.specs.NewIds.{new_ids, known_timer}
 use Rattle.decide.specs.ActionsAfter.{ihave_actions}
 use Rattle.decide.specs.StateAfter.{ihave_state}
 use Rattle.announcements.specs.Ihaves.New.{is_received}
@@ -27,17 +24,9 @@ new_none known seen (h ∷ hs) a =
     rw (all_head (λ h. known h.id) h hs a) (new_none known (h.id ∷ seen) hs (all_tail (λ h. known h.id) h hs a))
 
 module _ (s : State) (hs : List Ihave) (a : all (is_received s) hs ≡ true) where
-  no-missing : new_ids (known_missing s) [] hs ≡ []
-  unfolding known_missing
-  no-missing = new_none (known_missing s) [] hs (all-imp (is_received s) (λ h. known_missing s h.id) (λ h e. ap (λ (b : Bool). b || has h.id s.missing) e) hs a)
-
   no-timers : new_ids (known_timer s) [] hs ≡ []
   unfolding known_timer
   no-timers = new_none (known_timer s) [] hs (all-imp (is_received s) (λ h. known_timer s h.id) (λ h e. ap (λ (b : Bool). b || member h.id s.timers.graft) e) hs a)
-
-  pub received-sizes : ihave_sizes hs s ≡ sizes_of s
-  unfolding ihave_sizes sizes_of
-  received-sizes = rw (no-missing, no-timers, add-zero (length s.missing), add-zero (length s.timers.graft)) refl
 
   pub received-actions : ihave_actions hs s ≡ []
   unfolding ihave_actions

@@ -1,20 +1,15 @@
 -- The state after an IHave from the peer of a link, and after each entry of it.
 -- Assumes nothing.
-use Rattle.std.specs.Prelude.{ℕ, List, if◌then◌else◌}
-use Rattle.storage.specs.Lists.Base.{member}
+use Rattle.std.specs.Prelude.{ℕ, List}
 use Rattle.postcard.specs.Message.{Ihave}
 use Rattle.protocol.specs.State.{State}
 use Rattle.decide.specs.StateAfter.{announced_state, ihave_state}
 use Rattle.block.specs.LinkSteps.{peer_at}
-use Rattle.block.specs.TimerSteps.{timer_also}
+unfoldable pub use Rattle.steps.specs.Asked.{timer_marked}
 
 -- an announcement of an identifier and a round
 abbrev pub ihave : ℕ → ℕ → Ihave
 ihave i r = record { id = i; round = r }
-
--- a timer for an identifier, unless one is marked
-unfoldable pub timer_marked : ℕ → State → State
-timer_marked id s = if member id s.timers.graft then s else timer_also id s
 
 -- one announcement by the peer of a link
 abbrev pub announced_from : ℕ → ℕ → ℕ → State → State

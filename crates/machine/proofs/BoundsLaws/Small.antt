@@ -17,7 +17,7 @@ use Rattle.protocol.specs.Links.{Mark, Links, is_eager, peers_marked, eager_peer
 use Rattle.protocol.specs.State.{State, Cached, with_init, with_received, with_grafted, with_cache}
 use Rattle.protocol.specs.Push.{eager_targets}
 use Rattle.decide.specs.Settled.{settled}
-use Rattle.decide.specs.SizesAfter.{content_length}
+use Rattle.decide.proofs.SizesAfter.{content_length}
 use Rattle.block.specs.View.{state_of}
 use Rattle.block.specs.Sound.{Sound, held}
 use Rattle.block.specs.declared.head.Head.{Head}

@@ -6,15 +6,13 @@ use native.Mathlib.Omega.{arith}
 use lib.ListN.{length}
 use Rattle.storage.specs.Lists.Base.{concat_map}
 use Rattle.storage.specs.Rows.Ident.{id_of}
-use Rattle.time_cache.specs.TimeCache.{get}
 use Rattle.postcard.specs.Message.{Neighbors, to_swarm, to_neighbors, action_bytes}
-use Rattle.postcard.specs.Values.{delivery_value, wanted_value}
+use Rattle.postcard.specs.Values.{wanted_value}
 use Rattle.wire.specs.Reader.Values.{ihaves_value}
 use Rattle.wire.proofs.ReaderLaws.AnnouncedLaws.{announced_count}
 use Rattle.protocol.specs.State.{State}
 use Rattle.protocol.specs.Run.{Room}
-use Rattle.protocol.specs.Gossips.{late_kind}
-use Rattle.wire.specs.Output.Written.{Tellable}
+use Rattle.payloads.specs.OnLateGraftReply.{copy_kind}
 use Rattle.block.specs.View.{state_of}
 use Rattle.block.specs.LinkSteps.{peer_at}
 use Rattle.block.specs.declared.head.Head.{Head}
@@ -33,12 +31,12 @@ use Rattle.machine.proofs.BoundsLaws.StepsLight.{settled-light, evict-light, ann
 step-light : (rooms : List Room) (t : State) (r : Step) (s : State) → Small s → StepHeld t r → Light 7314866176 (step_actions rooms r s)
 unfolding step_actions
 step-light rooms t step.Nothing s small held = light-none
-step-light rooms t (step.NewSwarm sender id content round) s small held =
-    light-more (new-light rooms sender (id_of id) content.now round.0 s small held.short) (omega arith)
+step-light rooms t (step.NewSwarm m) s small held =
+    light-more (new-light rooms m.sender (id_of m.id) m.content.now m.round.0 s small held.short) (omega arith)
 step-light rooms t (step.NewNeighbors sender content) s small held =
     light-more (emit-light sender content.now Neighbors held.short) (omega arith)
-step-light rooms t (step.Late sender id d) s small held =
-    light-more (late-light rooms sender (late_kind sender (delivery_value d) s.links (get (id_of id) s.grafted))) (omega arith)
+step-light rooms t (step.Late copy) s small held =
+    light-more (late-light rooms copy.sender (copy_kind copy s)) (omega arith)
 step-light rooms t (step.Prune link) s small held = light-none
 step-light rooms t (step.Graft link w) s small held = light-more (graft-light rooms (peer_at s link) (wanted_value w) s small) (omega arith)
 step-light rooms t (step.IHave link ihaves) s small held =
@@ -61,6 +59,3 @@ module _ (h : Head) (block : List ℕ) (rooms : List Room) (now : ℕ) (r : Step
       let both : Light (44 + 7314866176) (settled_actions s ++ step_actions rooms r (settled now s)) =
       light-then (settled-light s) (step-light rooms s r (settled now s) small held) in
       omega (arith, length-actions (settled_actions s ++ step_actions rooms r (settled now s)), both.most)
-
-  pub step-told : Tellable (concat_map action_bytes (settled_actions (state_of h block) ++ step_actions rooms r (settled now (state_of h block)))) 0
-  step-told = record { small = omega (arith, step-length) }

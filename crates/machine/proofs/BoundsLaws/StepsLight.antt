@@ -22,7 +22,8 @@ use Rattle.protocol.specs.Ticks.{oldest, younger, still_cached}
 use Rattle.decide.specs.Rooms.{kth_taken, first_send, back_peers}
 use Rattle.decide.specs.RecordGrowth.{announce_action, push_actions}
 use Rattle.decide.specs.Settled.{settled_actions}
-use Rattle.decide.specs.SizesAfter.{new_ids, known_timer, content_length}
+use Rattle.decide.specs.NewIds.{new_ids, known_timer}
+use Rattle.decide.proofs.SizesAfter.{content_length}
 use Rattle.decide.specs.ActionsAfter.{evict_actions, dispatch_action, announce_actions, reply_actions, graft_actions, ask_actions, send_graft_actions, ihave_actions, broadcast_actions, late_actions, optimise_actions, new_actions}
 use Rattle.machine.proofs.BoundsLaws.Light.{Light, light-none, light-more, light-cons, light-one, light-then, light-if, light-each}
 use Rattle.machine.proofs.BoundsLaws.ActionLengths.{scheduled-few, emitted-few, gossip-few, prune-few, graft-few}

@@ -37,20 +37,17 @@ use Rattle.protocol.specs.Answer.{last_round}
 use Rattle.protocol.specs.Ticks.{evict}
 use Rattle.protocol.specs.Consistent.{CoreOf, Ranged}
 use Rattle.block.specs.LinkSteps.{peer_at}
-use Rattle.block.specs.View.{state_of}
-use Rattle.block.specs.declared.head.Head.{Head}
 use Rattle.block.proofs.LinkLaws.{neighbour-here, neighbour-between}
 use Rattle.time_cache.proofs.Orders.{up_of}
 use Rattle.storage.specs.Rows.Sorted.{Here, Between}
 use Rattle.decide.specs.Settled.{settled, settled_actions, received_before, too_far_before}
-use Rattle.decide.specs.SizesAfter.{gossip_sizes, message_sizes, timer_sizes, broadcast_sizes, sizes_after}
 use Rattle.decide.specs.ActionsAfter.{gossip_actions, message_actions, timer_actions, actions_after}
 use Rattle.decide.specs.StateAfter.{first_state, broadcast_state, timer_state, gossip_state, message_state, state_after}
 use Rattle.decide.proofs.SettledLaws.{evicted, settled-received}
 use Rattle.announcements.specs.Ihaves.New.{is_received}
-use Rattle.announcements.proofs.IhavesLaws.ReceivedLaws.{received-sizes, received-actions, received-state}
+use Rattle.announcements.proofs.IhavesLaws.ReceivedLaws.{received-actions, received-state}
 use Rattle.machine.specs.Kinds.Counted.{message_counts, counts_after_call}
-use Rattle.machine.specs.Kinds.Meaning.{step_sizes, step_actions, step_state, step_far, step_counts, counted_for, ContentHeld, ListHeld, StepHeld, SenderIs, Means}
+use Rattle.machine.specs.Kinds.Meaning.{step_actions, step_state, step_far, step_counts, counted_for, ContentHeld, ListHeld, StepHeld, SenderIs, Means}
 use Rattle.machine.specs.declared.kinds.Step.{Step}
 use Rattle.machine.specs.declared.kinds.Step.TheVariants as step
 
@@ -65,19 +62,24 @@ pub settled-links : (now : ℕ) (s : State) → (settled now s).links ≡ s.link
 unfolding settled
 settled-links now s = if-on (λ (x : State). x.links) s.init _ _ ∙ if-same s.init refl refl
 
+-- a new message, and a copy of one received before
+abbrev pub news : ℕ → Id → Bor (List ℕ) → Round → Step
+news sender i content round = step.NewSwarm (record { sender = sender; id = i; content = content; round = round })
+
+abbrev pub copied : ℕ → Id → declared.Delivery → Step
+copied sender i d = step.Late (record { sender = sender; id = i; delivery = d })
+
 -- what a message does, of the state that a first event leaves
 record Does (now : ℕ) (t : State) (r : Step) (sender : ℕ) (m : Message) : Type 0 where
-  sizes : (rooms : List Room) → message_sizes identifier rooms sender m t ≡ step_sizes rooms now r t
   actions : (rooms : List Room) → message_actions identifier rooms sender m t ≡ step_actions rooms r t
   state : (rooms : List Room) → message_state identifier rooms now sender m t ≡ step_state rooms now r t
   counts : (c : Counts) → message_counts identifier m t c ≡ step_counts r c
 
 means-message : (now : ℕ) (s : State) (r : Step) (sender : ℕ) (m : Message) → CoreOf s →
     too_far_before identifier now (Received sender m) s ≡ step_far r → Does now (settled now s) r sender m → StepHeld s r → SenderIs sender r → Means now s r (Received sender m)
-unfolding sizes_after actions_after state_after counts_after_call counted_for
+unfolding actions_after state_after counts_after_call counted_for
 means-message now s r sender m c f d h q = record {
   far = f;
-  sizes = d.sizes;
   actions = λ rooms. ap (λ (l : List _). settled_actions s ++ l) (d.actions rooms);
   state = λ rooms. ap (message_state identifier rooms now sender m) (first-settled now s c) ∙ d.state rooms;
   counts = λ n. d.counts _;
@@ -88,9 +90,9 @@ means-message now s r sender m c f d h q = record {
 -- a Gossip that is not valid
 does-invalid : (now : ℕ) (t : State) (sender id : ℕ) (content : List ℕ) (d : Delivery) → eqb (identifier content) id ≡ false →
     Does now t step.Nothing sender (Gossip id content d)
-unfolding message_sizes gossip_sizes message_actions gossip_actions message_state gossip_state message_counts step_sizes step_actions step_state step_counts
-does-invalid now t sender id content (Swarm round) e = record { sizes = λ rooms. rw e refl; actions = λ rooms. rw e refl; state = λ rooms. rw e refl; counts = λ c. rw e refl }
-does-invalid now t sender id content Neighbors e = record { sizes = λ rooms. refl; actions = λ rooms. rw e refl; state = λ rooms. rw e refl; counts = λ c. refl }
+unfolding message_actions gossip_actions message_state gossip_state message_counts step_actions step_state step_counts
+does-invalid now t sender id content (Swarm round) e = record { actions = λ rooms. rw e refl; state = λ rooms. rw e refl; counts = λ c. rw e refl }
+does-invalid now t sender id content Neighbors e = record { actions = λ rooms. rw e refl; state = λ rooms. rw e refl; counts = λ c. refl }
 
 far-invalid : (now : ℕ) (s : State) (sender id : ℕ) (content : List ℕ) (d : Delivery) → eqb (identifier content) id ≡ false → too_far_before identifier now (Received sender (Gossip id content d)) s ≡ step_far step.Nothing
 unfolding too_far_before step_far
@@ -119,16 +121,16 @@ far-valid now s sender id content d b c e q =
 
 -- a valid one, received before
 does-late : (now : ℕ) (t : State) (sender : ℕ) (i : Id) (content : List ℕ) (d : declared.Delivery) → eqb (identifier content) (id_of i) ≡ true → holds (id_of i) t.received ≡ true →
-    Does now t (step.Late sender i d) sender (Gossip (id_of i) content (delivery_value d))
-unfolding message_sizes gossip_sizes message_actions gossip_actions message_state gossip_state message_counts step_sizes step_actions step_state step_counts
-does-late now t sender i content (delivery.Swarm round) e q = record { sizes = λ rooms. rw (e, q) refl; actions = λ rooms. rw (e, q) refl; state = λ rooms. rw (e, q) refl; counts = λ c. rw (e, q) refl }
-does-late now t sender i content delivery.Neighbors e q = record { sizes = λ rooms. refl; actions = λ rooms. rw (e, q) refl; state = λ rooms. rw (e, q) refl; counts = λ c. refl }
+    Does now t (copied sender i d) sender (Gossip (id_of i) content (delivery_value d))
+unfolding message_actions gossip_actions message_state gossip_state message_counts step_actions step_state step_counts
+does-late now t sender i content (delivery.Swarm round) e q = record { actions = λ rooms. rw (e, q) refl; state = λ rooms. rw (e, q) refl; counts = λ c. rw (e, q) refl }
+does-late now t sender i content delivery.Neighbors e q = record { actions = λ rooms. rw (e, q) refl; state = λ rooms. rw (e, q) refl; counts = λ c. refl }
 
 pub means-late : (now : ℕ) (s : State) (sender : ℕ) (i : Id) (content : List ℕ) (d : declared.Delivery) → CoreOf s → eqb (identifier content) (id_of i) ≡ true →
-    holds (id_of i) (settled now s).received ≡ true → Means now s (step.Late sender i d) (Received sender (Gossip (id_of i) content (delivery_value d)))
+    holds (id_of i) (settled now s).received ≡ true → Means now s (copied sender i d) (Received sender (Gossip (id_of i) content (delivery_value d)))
 unfolding step_far
 means-late now s sender i content d c e q =
-    means-message now s (step.Late sender i d) sender (Gossip (id_of i) content (delivery_value d)) c
+    means-message now s (copied sender i d) sender (Gossip (id_of i) content (delivery_value d)) c
     (far-valid now s sender (id_of i) content (delivery_value d) true c e q ∙ and-off (last_round (delivery_value d)))
     (does-late now (settled now s) sender i content d e q)
     tt
@@ -137,22 +139,22 @@ means-late now s sender i content d c e q =
 -- a valid one, new
 module _ (now : ℕ) (s : State) (sender : ℕ) (i : Id) (content : Bor (List ℕ)) (core : CoreOf s) (valid : eqb (identifier content.now) (id_of i) ≡ true)
     (new : holds (id_of i) (settled now s).received ≡ false) (held : ContentHeld content.now) where
-  does-new-swarm : (round : Round) → Does now (settled now s) (step.NewSwarm sender i content round) sender (Gossip (id_of i) content.now (Swarm round.0))
-  unfolding message_sizes gossip_sizes message_actions gossip_actions message_state gossip_state message_counts step_sizes step_actions step_state step_counts
-  does-new-swarm round = record { sizes = λ rooms. rw (valid, new) refl; actions = λ rooms. rw (valid, new) refl; state = λ rooms. rw (valid, new) refl; counts = λ c. rw (valid, new) refl }
+  does-new-swarm : (round : Round) → Does now (settled now s) (news sender i content round) sender (Gossip (id_of i) content.now (Swarm round.0))
+  unfolding message_actions gossip_actions message_state gossip_state message_counts step_actions step_state step_counts
+  does-new-swarm round = record { actions = λ rooms. rw (valid, new) refl; state = λ rooms. rw (valid, new) refl; counts = λ c. rw (valid, new) refl }
 
-  pub means-new-swarm : (round : Round) → Means now s (step.NewSwarm sender i content round) (Received sender (Gossip (id_of i) content.now (Swarm round.0)))
+  pub means-new-swarm : (round : Round) → Means now s (news sender i content round) (Received sender (Gossip (id_of i) content.now (Swarm round.0)))
   unfolding step_far last_round
   means-new-swarm round =
-      means-message now s (step.NewSwarm sender i content round) sender (Gossip (id_of i) content.now (Swarm round.0)) core
+      means-message now s (news sender i content round) sender (Gossip (id_of i) content.now (Swarm round.0)) core
       (far-valid now s sender (id_of i) content.now (Swarm round.0) false core valid new ∙ and-on (eqb round.0 65535))
       (does-new-swarm round)
       held
       refl
 
   does-new-neighbors : Does now (settled now s) (step.NewNeighbors sender content) sender (Gossip (id_of i) content.now Neighbors)
-  unfolding message_sizes gossip_sizes message_actions gossip_actions message_state gossip_state message_counts step_sizes step_actions step_state step_counts
-  does-new-neighbors = record { sizes = λ rooms. refl; actions = λ rooms. rw (valid, new) refl; state = λ rooms. rw (valid, new) refl; counts = λ c. refl }
+  unfolding message_actions gossip_actions message_state gossip_state message_counts step_actions step_state step_counts
+  does-new-neighbors = record { actions = λ rooms. rw (valid, new) refl; state = λ rooms. rw (valid, new) refl; counts = λ c. refl }
 
   pub means-new-neighbors : Means now s (step.NewNeighbors sender content) (Received sender (Gossip (id_of i) content.now Neighbors))
   unfolding step_far last_round
@@ -163,9 +165,9 @@ module _ (now : ℕ) (s : State) (sender : ℕ) (i : Id) (content : Bor (List �
       held
       refl
 
-  pub means-new : (d : declared.Delivery) (round : Round) → d ≡ delivery.Swarm round → Means now s (step.NewSwarm sender i content round) (Received sender (Gossip (id_of i) content.now (delivery_value d)))
+  pub means-new : (d : declared.Delivery) (round : Round) → d ≡ delivery.Swarm round → Means now s (news sender i content round) (Received sender (Gossip (id_of i) content.now (delivery_value d)))
   means-new d round e =
-      subst (λ (v : declared.Delivery). Means now s (step.NewSwarm sender i content round) (Received sender (Gossip (id_of i) content.now (delivery_value v)))) (sym e) (means-new-swarm round)
+      subst (λ (v : declared.Delivery). Means now s (news sender i content round) (Received sender (Gossip (id_of i) content.now (delivery_value v)))) (sym e) (means-new-swarm round)
 
   pub means-near : (d : declared.Delivery) → d ≡ delivery.Neighbors → Means now s (step.NewNeighbors sender content) (Received sender (Gossip (id_of i) content.now (delivery_value d)))
   means-near d e =
@@ -177,24 +179,24 @@ module _ (now : ℕ) (s : State) (sender place : ℕ) (core : CoreOf s) (away : 
   away-settled = ap (is_neighbour sender) (settled-links now s) ∙ neighbour-between sender place s.links away
 
   does-stranger-prune : (t : State) → is_neighbour sender t.links ≡ false → Does now t step.Nothing sender Prune
-  unfolding message_sizes message_actions message_state message_counts step_sizes step_actions step_state step_counts
-  does-stranger-prune t a = record { sizes = λ rooms. refl; actions = λ rooms. refl; state = λ rooms. rw a refl; counts = λ c. refl }
+  unfolding message_actions message_state message_counts step_actions step_state step_counts
+  does-stranger-prune t a = record { actions = λ rooms. refl; state = λ rooms. rw a refl; counts = λ c. refl }
 
   pub means-stranger-prune : Means now s step.Nothing (Received sender Prune)
   unfolding too_far_before step_far
   means-stranger-prune = means-message now s step.Nothing sender Prune core refl (does-stranger-prune (settled now s) away-settled) tt tt
 
   does-stranger-graft : (wanted : _) (round : ℕ) (t : State) → is_neighbour sender t.links ≡ false → Does now t step.Nothing sender (Graft wanted round)
-  unfolding message_sizes message_actions message_state message_counts step_sizes step_actions step_state step_counts
-  does-stranger-graft wanted round t a = record { sizes = λ rooms. rw a refl; actions = λ rooms. rw a refl; state = λ rooms. rw a refl; counts = λ c. refl }
+  unfolding message_actions message_state message_counts step_actions step_state step_counts
+  does-stranger-graft wanted round t a = record { actions = λ rooms. rw a refl; state = λ rooms. rw a refl; counts = λ c. refl }
 
   pub means-stranger-graft : (wanted : _) (round : ℕ) → Means now s step.Nothing (Received sender (Graft wanted round))
   unfolding too_far_before step_far
   means-stranger-graft wanted round = means-message now s step.Nothing sender (Graft wanted round) core refl (does-stranger-graft wanted round (settled now s) away-settled) tt tt
 
   does-stranger-ihave : (hs : List Ihave) (t : State) → is_neighbour sender t.links ≡ false → Does now t step.Nothing sender (IHave hs)
-  unfolding message_sizes message_actions message_state message_counts step_sizes step_actions step_state step_counts
-  does-stranger-ihave hs t a = record { sizes = λ rooms. rw a refl; actions = λ rooms. rw a refl; state = λ rooms. rw a refl; counts = λ c. refl }
+  unfolding message_actions message_state message_counts step_actions step_state step_counts
+  does-stranger-ihave hs t a = record { actions = λ rooms. rw a refl; state = λ rooms. rw a refl; counts = λ c. refl }
 
   pub means-stranger-ihave : (hs : List Ihave) → Means now s step.Nothing (Received sender (IHave hs))
   unfolding too_far_before step_far
@@ -212,24 +214,24 @@ module _ (now : ℕ) (s : State) (sender link : ℕ) (core : CoreOf s) (here : H
   peer-settled = ap (λ (m : Links). get_or (keys m) link 0) (settled-links now s) ∙ here.same
 
   does-prune : (t : State) → is_neighbour sender t.links ≡ true → peer_at t link ≡ sender → Does now t (step.Prune link) sender Prune
-  unfolding message_sizes message_actions message_state message_counts step_sizes step_actions step_state step_counts
-  does-prune t a p = record { sizes = λ rooms. refl; actions = λ rooms. refl; state = λ rooms. rw (a, p) refl; counts = λ c. refl }
+  unfolding message_actions message_state message_counts step_actions step_state step_counts
+  does-prune t a p = record { actions = λ rooms. refl; state = λ rooms. rw (a, p) refl; counts = λ c. refl }
 
   pub means-prune : Means now s (step.Prune link) (Received sender Prune)
   unfolding too_far_before step_far
   means-prune = means-message now s (step.Prune link) sender Prune core refl (does-prune (settled now s) there-settled peer-settled) is-link tt
 
   does-graft : (w : Option Id) (round : ℕ) (t : State) → is_neighbour sender t.links ≡ true → peer_at t link ≡ sender → Does now t (step.Graft link w) sender (Graft (wanted_value w) round)
-  unfolding message_sizes message_actions message_state message_counts step_sizes step_actions step_state step_counts
-  does-graft w round t a p = record { sizes = λ rooms. rw (a, p) refl; actions = λ rooms. rw (a, p) refl; state = λ rooms. rw (a, p) refl; counts = λ c. refl }
+  unfolding message_actions message_state message_counts step_actions step_state step_counts
+  does-graft w round t a p = record { actions = λ rooms. rw (a, p) refl; state = λ rooms. rw (a, p) refl; counts = λ c. refl }
 
   pub means-graft : (w : Option Id) (round : ℕ) → Means now s (step.Graft link w) (Received sender (Graft (wanted_value w) round))
   unfolding too_far_before step_far
   means-graft w round = means-message now s (step.Graft link w) sender (Graft (wanted_value w) round) core refl (does-graft w round (settled now s) there-settled peer-settled) is-link tt
 
   does-ihave : (ihaves : Ihaves) (t : State) → is_neighbour sender t.links ≡ true → peer_at t link ≡ sender → Does now t (step.IHave link ihaves) sender (IHave (ihaves_value ihaves))
-  unfolding message_sizes message_actions message_state message_counts step_sizes step_actions step_state step_counts
-  does-ihave ihaves t a p = record { sizes = λ rooms. rw a refl; actions = λ rooms. rw a refl; state = λ rooms. rw (a, p) refl; counts = λ c. refl }
+  unfolding message_actions message_state message_counts step_actions step_state step_counts
+  does-ihave ihaves t a p = record { actions = λ rooms. rw a refl; state = λ rooms. rw (a, p) refl; counts = λ c. refl }
 
   pub means-ihave : (ihaves : Ihaves) → ListHeld s link ihaves → Means now s (step.IHave link ihaves) (Received sender (IHave (ihaves_value ihaves)))
   unfolding too_far_before step_far
@@ -237,8 +239,8 @@ module _ (now : ℕ) (s : State) (sender link : ℕ) (core : CoreOf s) (here : H
       means-message now s (step.IHave link ihaves) sender (IHave (ihaves_value ihaves)) core refl (does-ihave ihaves (settled now s) there-settled peer-settled) h tt
 
   does-known-ihave : (hs : List Ihave) (t : State) → is_neighbour sender t.links ≡ true → all (is_received t) hs ≡ true → Does now t step.Nothing sender (IHave hs)
-  unfolding message_sizes message_actions message_state message_counts step_sizes step_actions step_state step_counts
-  does-known-ihave hs t a k = record { sizes = λ rooms. rw a (received-sizes t hs k); actions = λ rooms. rw a (received-actions t hs k); state = λ rooms. rw a (received-state sender t hs k); counts = λ c. refl }
+  unfolding message_actions message_state message_counts step_actions step_state step_counts
+  does-known-ihave hs t a k = record { actions = λ rooms. rw a (received-actions t hs k); state = λ rooms. rw a (received-state sender t hs k); counts = λ c. refl }
 
   pub means-known-ihave : (hs : List Ihave) → all (is_received (settled now s)) hs ≡ true → Means now s step.Nothing (Received sender (IHave hs))
   unfolding too_far_before step_far
@@ -251,10 +253,9 @@ link_here s link w = record { within = omega (arith, w, length-map s.links (λ (
 -- a broadcast of size over M
 pub means-oversize : (now : ℕ) (s : State) (content : List ℕ) (scope : Scope) → CoreOf s → ltb s.settings.max_message_size (gossip_size (length content) scope) ≡ true →
     Means now s step.Nothing (Broadcast content scope)
-unfolding too_far_before sizes_after actions_after state_after counts_after_call counted_for step_far step_sizes step_actions step_state step_counts
+unfolding too_far_before actions_after state_after counts_after_call counted_for step_far step_actions step_state step_counts
 means-oversize now s content scope c e = record {
   far = refl;
-  sizes = λ rooms. rw e refl;
   actions = λ rooms. rw e refl;
   state = λ rooms. rw e (first-settled now s c);
   counts = λ n. refl;
@@ -266,10 +267,9 @@ means-oversize now s content scope c e = record {
 module _ (now : ℕ) (s : State) (i : Id) (content : Bor (List ℕ)) (core : CoreOf s) (of : id_of i ≡ identifier content.now) (held : ContentHeld content.now) where
   pub means-broadcast-swarm : ltb s.settings.max_message_size (gossip_size (length content.now) to_swarm) ≡ false →
       Means now s (step.BroadcastSwarm i content) (Broadcast content.now to_swarm)
-  unfolding too_far_before sizes_after actions_after state_after counts_after_call counted_for step_far step_sizes step_actions step_state step_counts
+  unfolding too_far_before actions_after state_after counts_after_call counted_for step_far step_actions step_state step_counts
   means-broadcast-swarm e = record {
     far = refl;
-    sizes = λ rooms. rw (e, ← of) refl;
     actions = λ rooms. rw (e, ← of) refl;
     state = λ rooms. rw (e, first-settled now s core, ← of) refl;
     counts = λ n. refl;
@@ -279,10 +279,9 @@ module _ (now : ℕ) (s : State) (i : Id) (content : Bor (List ℕ)) (core : Cor
 
   pub means-broadcast-neighbors : ltb s.settings.max_message_size (gossip_size (length content.now) to_neighbors) ≡ false →
       Means now s (step.BroadcastNeighbors i content) (Broadcast content.now to_neighbors)
-  unfolding too_far_before sizes_after actions_after state_after counts_after_call counted_for step_far step_sizes step_actions step_state step_counts broadcast_sizes broadcast_state
+  unfolding too_far_before actions_after state_after counts_after_call counted_for step_far step_actions step_state step_counts broadcast_state
   means-broadcast-neighbors e = record {
     far = refl;
-    sizes = λ rooms. rw e refl;
     actions = λ rooms. rw (e, ← of) refl;
     state = λ rooms. rw e (first-settled now s core);
     counts = λ n. refl;
@@ -305,33 +304,29 @@ module _ (now : ℕ) (s : State) (i : Id) (content : Bor (List ℕ)) (core : Cor
 -- timers
 module _ (now : ℕ) (s : State) (core : CoreOf s) where
   pub means-timer-graft : (i : Id) → Means now s (step.SendGraft i) (Fired (SendGraft (id_of i)))
-  unfolding too_far_before sizes_after actions_after state_after counts_after_call timer_sizes timer_actions timer_state counted_for step_far step_sizes step_actions step_state step_counts
-  means-timer-graft i = record { far = refl; sizes = λ rooms. refl; actions = λ rooms. refl; state = λ rooms. rw (first-settled now s core) refl; counts = λ n. refl; held = tt; sender = tt }
+  unfolding too_far_before actions_after state_after counts_after_call timer_actions timer_state counted_for step_far step_actions step_state step_counts
+  means-timer-graft i = record { far = refl; actions = λ rooms. refl; state = λ rooms. rw (first-settled now s core) refl; counts = λ n. refl; held = tt; sender = tt }
 
   pub means-timer-dispatch : Means now s step.DispatchLazyPush (Fired DispatchLazyPush)
-  unfolding too_far_before sizes_after actions_after state_after counts_after_call timer_sizes timer_actions timer_state counted_for step_far step_sizes step_actions step_state step_counts
-  means-timer-dispatch = record { far = refl; sizes = λ rooms. refl; actions = λ rooms. refl; state = λ rooms. rw (first-settled now s core) refl; counts = λ n. refl; held = tt; sender = tt }
+  unfolding too_far_before actions_after state_after counts_after_call timer_actions timer_state counted_for step_far step_actions step_state step_counts
+  means-timer-dispatch = record { far = refl; actions = λ rooms. refl; state = λ rooms. rw (first-settled now s core) refl; counts = λ n. refl; held = tt; sender = tt }
 
   pub means-timer-evict : Means now s step.EvictCache (Fired EvictCache)
-  unfolding too_far_before sizes_after actions_after state_after counts_after_call timer_sizes timer_actions timer_state counted_for step_far step_sizes step_actions step_state step_counts
-  means-timer-evict = record { far = refl; sizes = λ rooms. refl; actions = λ rooms. refl; state = λ rooms. rw (first-settled now s core) refl; counts = λ n. refl; held = tt; sender = tt }
+  unfolding too_far_before actions_after state_after counts_after_call timer_actions timer_state counted_for step_far step_actions step_state step_counts
+  means-timer-evict = record { far = refl; actions = λ rooms. refl; state = λ rooms. rw (first-settled now s core) refl; counts = λ n. refl; held = tt; sender = tt }
 
   pub means-timer-announce : Means now s step.AnnounceDropped (Fired AnnounceDropped)
-  unfolding too_far_before sizes_after actions_after state_after counts_after_call timer_sizes timer_actions timer_state counted_for step_far step_sizes step_actions step_state step_counts
-  means-timer-announce = record { far = refl; sizes = λ rooms. refl; actions = λ rooms. refl; state = λ rooms. rw (first-settled now s core) refl; counts = λ n. refl; held = tt; sender = tt }
+  unfolding too_far_before actions_after state_after counts_after_call timer_actions timer_state counted_for step_far step_actions step_state step_counts
+  means-timer-announce = record { far = refl; actions = λ rooms. refl; state = λ rooms. rw (first-settled now s core) refl; counts = λ n. refl; held = tt; sender = tt }
 
 -- M is at most 4,094
-max-few : (h : Head) (xs : List ℕ) → Ranged (state_of h xs) → h.settings.max_message_size ≤ 4094
-unfolding size_in_range state_of
-max-few h xs r = leb-true h.settings.max_message_size 4094 (and_right (leb 510 h.settings.max_message_size) (leb h.settings.max_message_size 4094) r.size)
-
-max_of : (h : Head) (xs : List ℕ) → (state_of h xs).settings.max_message_size ≡ h.settings.max_message_size
-unfolding state_of
-max_of h xs = refl
+max-few : (s : State) → Ranged s → s.settings.max_message_size ≤ 4094
+unfolding size_in_range
+max-few s r = leb-true s.settings.max_message_size 4094 (and_right (leb 510 s.settings.max_message_size) (leb s.settings.max_message_size 4094) r.size)
 
 -- a message of at most M bytes has a content of at most M bytes
-pub gossip-held : (h : Head) (xs : List ℕ) (id : ℕ) (content : List ℕ) (d : Delivery) → Ranged (state_of h xs) → length (message_bytes (Gossip id content d)) ≤ h.settings.max_message_size → ContentHeld content
-gossip-held h xs id content d r q = record { short = omega (arith, max-few h xs r, length-gossip id content d, length-content content) }
+pub gossip-held : (s : State) (id : ℕ) (content : List ℕ) (d : Delivery) → Ranged s → length (message_bytes (Gossip id content d)) ≤ s.settings.max_message_size → ContentHeld content
+gossip-held s id content d r q = record { short = omega (arith, max-few s r, length-gossip id content d, length-content content) }
 
 -- as many bytes as announcements, or more
 ihaves-long : (hs : List Ihave) → length hs ≤ length (concat_map ihave_bytes hs)
@@ -339,11 +334,10 @@ unfolding concat_map
 ihaves-long [] = omega arith
 ihaves-long (h ∷ hs) = omega (arith, ihaves-long hs, length-append (ihave_bytes h) (concat_map ihave_bytes hs), length-ihave h)
 
-pub ihaves-held : (h : Head) (xs : List ℕ) (link : ℕ) (ihaves : Ihaves) → Ranged (state_of h xs) → link < length (state_of h xs).links → length (message_bytes (IHave (ihaves_value ihaves))) ≤ h.settings.max_message_size →
-    ListHeld (state_of h xs) link ihaves
-ihaves-held h xs link ihaves r t q = record {
+pub ihaves-held : (s : State) (link : ℕ) (ihaves : Ihaves) → Ranged s → link < length s.links → length (message_bytes (IHave (ihaves_value ihaves))) ≤ s.settings.max_message_size → ListHeld s link ihaves
+ihaves-held s link ihaves r t q = record {
   there = t;
-  few = omega (arith, max-few h xs r, announced_count ihaves.count ihaves.bytes.now ihaves.there, length-ihaves (ihaves_value ihaves), ihaves-long (ihaves_value ihaves));
+  few = omega (arith, max-few s r, announced_count ihaves.count ihaves.bytes.now ihaves.there, length-ihaves (ihaves_value ihaves), ihaves-long (ihaves_value ihaves));
 }
 
 size-long : (n : ℕ) (scope : Scope) → n ≤ gossip_size n scope
@@ -352,17 +346,17 @@ size-long n to_swarm = omega arith
 size-long n to_neighbors = omega arith
 
 -- a broadcast of size at most M
-pub broadcast-held : (h : Head) (xs content : List ℕ) (scope : Scope) → Ranged (state_of h xs) → leb (gossip_size (length content) scope) h.settings.max_message_size ≡ true → ContentHeld content
-broadcast-held h xs content scope r e =
-    record { short = omega (arith, max-few h xs r, size-long (length content) scope, leb-true (gossip_size (length content) scope) h.settings.max_message_size e) }
+pub broadcast-held : (s : State) (content : List ℕ) (scope : Scope) → Ranged s → leb (gossip_size (length content) scope) s.settings.max_message_size ≡ true → ContentHeld content
+broadcast-held s content scope r e =
+    record { short = omega (arith, max-few s r, size-long (length content) scope, leb-true (gossip_size (length content) scope) s.settings.max_message_size e) }
 
 over-not : (m n : ℕ) (b : Bool) → leb n m ≡ b → ltb m n ≡ not b
 over-not m n true e = le-ltb m n (leb-true n m e)
 over-not m n false e = lt-ltb m n (leb-false n m e)
 
 -- the same test the other way round
-pub over-of : (h : Head) (xs : List ℕ) (len : ℕ) (scope : Scope) (b : Bool) → leb (gossip_size len scope) h.settings.max_message_size ≡ b → ltb (state_of h xs).settings.max_message_size (gossip_size len scope) ≡ not b
-over-of h xs len scope b e = ap (λ (m : ℕ). ltb m (gossip_size len scope)) (max_of h xs) ∙ over-not h.settings.max_message_size (gossip_size len scope) b e
+pub over-of : (s : State) (len : ℕ) (scope : Scope) (b : Bool) → leb (gossip_size len scope) s.settings.max_message_size ≡ b → ltb s.settings.max_message_size (gossip_size len scope) ≡ not b
+over-of s len scope b e = over-not s.settings.max_message_size (gossip_size len scope) b e
 
 -- the test of the code
 pub valid-of : (b : Bool) (n m k : ℕ) → b ≡ eqb n k → n ≡ m → eqb m k ≡ b

@@ -14,10 +14,10 @@ use Rattle.postcard.specs.Decode.{Decoded, decoded, faulty, message_part, decode
 use Rattle.postcard.proofs.DecodeFaults.{fault_of, decode-faults}
 use Rattle.protocol.specs.State.{State, Counts, zero_counts}
 use Rattle.protocol.specs.Run.{Room}
+use Rattle.protocol.specs.Whole.{fits}
 use Rattle.protocol.specs.Answer.{Call, Outcome, refused, accepted, counts_stay, answer_block}
-use Rattle.decide.specs.Sizes.{fit_sizes}
 use Rattle.decide.specs.Settled.{too_far_before}
-use Rattle.decide.specs.SizesAfter.{sizes_after}
+use Rattle.decide.specs.StateAfter.{state_after}
 use Rattle.block.specs.View.{state_of}
 use Rattle.block.specs.Header.{head_in}
 use Rattle.whole.specs.Held.{held, whole_block}
@@ -26,7 +26,7 @@ use Rattle.machine.specs.Decided.{bytes_after, last_decided, size_fits, decided}
 use Rattle.machine.proofs.CoreLaws.{answer-5, answer-6, answer-fault, answer-event, part-fit}
 use Rattle.machine.specs.LimitMet.LimitMet.{asking, limit_met}
 use Rattle.machine.specs.LimitMet.Decided.{event_past}
-use Rattle.machine.proofs.LimitMetLaws.PastLaws.{sizes-none, none-sizes}
+use Rattle.machine.proofs.LimitMetLaws.PastLaws.{past-none, none-past}
 use Rattle.machine.proofs.LimitMetLaws.LimitLaws.{zero-stays, limit-5, limit-6, limit-fault, limit-event}
 
 -- the number of an answer
@@ -47,11 +47,11 @@ module _ (rooms : List Room) (now size : ℕ) (e : Event) (s : State) (output : 
       (λ m. cases (counts_stay e c)
       (λ t. cases (too_far_before identifier now e s)
       (λ f. other (refused 12) 12 refl (λ q. omega (arith, q)) (rw (m, t, f) at a))
-      (λ f. cases (fit_sizes s.limits (sizes_after identifier rooms now e s))
+      (λ f. cases (fits (state_after identifier rooms now e s))
       (λ g. cases (leb (length (bytes_after identifier rooms now e s)) output)
       (λ b. other (accepted _ _ _) 0 refl (λ q. omega (arith, q)) (rw (m, t, f, g, b) at a))
       (λ b. other (refused 14) 14 refl (λ q. omega (arith, q)) (rw (m, t, f, g, b) at a)))
-      (λ g. true≢ (sym g ∙ none-sizes s.limits (sizes_after identifier rooms now e s) (rw (m, f) at z)))))
+      (λ g. true≢ (sym g ∙ none-past (state_after identifier rooms now e s) (rw (m, f) at z)))))
       (λ t. other (refused 11) 11 refl (λ q. omega (arith, q)) (rw (m, t) at a)))
       (λ m. other (refused 10) 10 refl (λ q. omega (arith, q)) (rw m at a))
 
@@ -61,8 +61,8 @@ module _ (rooms : List Room) (now size : ℕ) (e : Event) (s : State) (output : 
       cases (size_fits s.settings.max_message_size size e)
       (λ m. cases (too_far_before identifier now e s)
       (λ f. absurd (z (rw (m, f) refl)))
-      (λ f. cases (fit_sizes s.limits (sizes_after identifier rooms now e s))
-      (λ g. absurd (z (rw (m, f) (sizes-none s.limits (sizes_after identifier rooms now e s) g))))
+      (λ f. cases (fits (state_after identifier rooms now e s))
+      (λ g. absurd (z (rw (m, f) (past-none (state_after identifier rooms now e s) g))))
       (λ g. rw (m, zero-stays e, f, g) refl)))
       (λ m. absurd (z (rw m refl)))
 

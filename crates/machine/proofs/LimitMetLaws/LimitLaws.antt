@@ -6,7 +6,7 @@ use mathlib.Core.List.{List}
 use mathlib.Core.Option.{Option, none, some}
 use lib.Dec.{leb}
 use lib.ListN.{length, set, drop}
-use borrow.Author.Tests.{le-leb, lt-leb}
+use borrow.Author.Tests.{le-leb, lt-leb, leb-true, leb-false}
 use Rattle.std.specs.Prelude.{if◌then◌else◌}
 use Rattle.storage.proofs.ListsLaws.Branches.{if-on, if-both, if-same}
 use Rattle.storage.proofs.ListsLaws.MapLaws.{cases}
@@ -20,33 +20,29 @@ use Rattle.protocol.specs.Run.{Run, Room, begin}
 use Rattle.protocol.specs.Handle.{first_event, count_message, one_payload, one_control, handle}
 use Rattle.protocol.specs.Whole.{fits, whole, long_enough, whole_state}
 use Rattle.protocol.specs.Answer.{Call, Answer, refuse, message_fits, counts_below, counts_stay, too_far, last_two, ask_of, ask_read, ask, output_of}
-use Rattle.protocol.proofs.Consistent.{whole-consistent}
-use Rattle.protocol.proofs.WholeKept.{kept-handle}
 use Rattle.decide.specs.Settled.{too_far_before}
-use Rattle.decide.specs.SizesAfter.{sizes_after}
+use Rattle.decide.specs.StateAfter.{state_after}
 use Rattle.decide.specs.Rooms.{first_room}
 use Rattle.decide.proofs.Decide.{decide-12, same-rooms}
-use Rattle.decide.proofs.EachEvent.{handle-sizes}
+use Rattle.decide.proofs.StateAfterLaws.{decide-state}
 use Rattle.decide.proofs.RoomsCall.{reached}
 use Rattle.block.specs.View.{state_of}
 use Rattle.block.specs.Header.{head_in}
 use Rattle.block.specs.declared.head.Head.{Head}
 use Rattle.steps.specs.Rooms.{rooms_in}
 use Rattle.whole.specs.Held.{held, whole_held, whole_block}
-use Rattle.whole.proofs.HeldLaws.{Wholly}
-use Rattle.machine.specs.Core.{event_peer, event_size, core_rooms}
-use Rattle.machine.proofs.CoreLaws.{begun-of, core-rooms, same-fit}
+use Rattle.whole.proofs.HeldLaws.{Wholly, wholly_of}
+use Rattle.machine.specs.Core.{begun, event_peer, event_size, core_rooms}
+use Rattle.machine.proofs.CoreLaws.{begun-of, core-rooms, same-fit, Reads}
 use Rattle.machine.specs.Decided.{size_fits}
 use Rattle.machine.specs.LimitMet.LimitMet.{limit_past, is13, asking, past_after, limit_of, limit_met}
-use Rattle.machine.specs.LimitMet.Decided.{sizes_past, event_past}
-use Rattle.machine.proofs.LimitMetLaws.PastLaws.{past-sizes, past-none}
+use Rattle.machine.specs.LimitMet.Decided.{event_past}
+use Rattle.machine.proofs.LimitMetLaws.PastLaws.{past-none}
 
--- the state after an event is past the limit that the sizes tell
-pub after-sizes : (now : ℕ) (e : Event) (s : State) (rooms : List Room) → whole s ≡ true →
-    limit_past (handle identifier now e (begin s zero_counts rooms)).state ≡ sizes_past s.limits (sizes_after identifier rooms now e s)
-after-sizes now e s rooms w =
-    past-sizes (handle identifier now e (begin s zero_counts rooms)).state
-    ∙ rw ((kept-handle identifier now e (begin s zero_counts rooms)).limits, handle-sizes identifier now e (begin s zero_counts rooms) (whole-consistent s w)) refl
+-- the state after an event is past the limit that the state after tells
+pub after-past : (now : ℕ) (e : Event) (s : State) (rooms : List Room) → whole s ≡ true →
+    limit_past (handle identifier now e (begin s zero_counts rooms)).state ≡ limit_past (state_after identifier rooms now e s)
+after-past now e s rooms w = ap limit_past (decide-state identifier now e s zero_counts rooms w)
 
 -- (11) counts of zero stay under 2^64
 pub zero-stays : (e : Event) → counts_stay e zero_counts ≡ true
@@ -82,7 +78,7 @@ told-event s k e size w fit =
     (ap (λ (b : Bool). told x (if not b then refuse 11 else later)) (zero-stays e)
     ∙ if-on (told x) (too_far identifier e (first_event k.now (begin s zero_counts k.rooms)).state) _ _
     ∙ ap (λ (b : Bool). if b then 0 else told x (last_two k.output e run)) (decide-12 identifier k.now e s zero_counts k.rooms w)
-    ∙ if-both (too_far_before identifier k.now e s) refl (told-last k.output e run ∙ after-sizes k.now e s k.rooms w)))
+    ∙ if-both (too_far_before identifier k.now e s) refl (told-last k.output e run ∙ after-past k.now e s k.rooms w)))
   where
     run : Run
     run = handle identifier k.now e (begin s zero_counts k.rooms)
@@ -152,14 +148,23 @@ unfolding event_past
 past-rooms rooms rooms' now size e s w h =
     if-both (not (size_fits s.settings.max_message_size size e)) refl
     (if-both (too_far_before identifier now e s) refl
-    (sym (after-sizes now e s rooms' w) ∙ ap (λ (r : Run). limit_past r.state) (same-rooms identifier now e s zero_counts rooms rooms' w h) ∙ after-sizes now e s rooms w))
+    (sym (after-past now e s rooms' w) ∙ ap (λ (r : Run). limit_past r.state) (same-rooms identifier now e s zero_counts rooms rooms' w h) ∙ after-past now e s rooms w))
 
--- an event that was read, with the link room in an array
-pub core-limit : (block bytes array : List ℕ) (g : Head) (now : ℕ) (e : CodeEvent) (p n : ℕ) → Wholly block → g ≡ head_in block → now ≤ 2 ^ 62 →
-    decode_event bytes ≡ decoded (event_value e) → SizedBehind (drop 1 bytes) e → p ≡ event_peer e →
+-- an event that was not read
+pub begun-limit : (block : List ℕ) (now : ℕ) (bytes : List ℕ) (n : ℕ) (rooms : List Room) → begun block now bytes ≡ faulty n → limit_met identifier (length block) (held block) (asking now bytes rooms) ≡ 0
+unfolding begun
+begun-limit block now bytes n rooms e =
+    cases (whole_block block)
+    (λ w. cases (leb now (2 ^ 62))
+    (λ l. limit-fault block (wholly_of block w) (asking now bytes rooms) n (leb-true now (2 ^ 62) l) (rw (w, l) at e))
+    (λ l. limit-6 block (wholly_of block w) (asking now bytes rooms) (leb-false now (2 ^ 62) l)))
+    (λ w. limit-5 block (asking now bytes rooms) w)
+
+-- one that was read, with the link room in an array
+pub core-limit : (block bytes array : List ℕ) (g : Head) (now : ℕ) (e : CodeEvent) (p n : ℕ) → Reads block now bytes (event_value e) → g ≡ head_in block → SizedBehind (drop 1 bytes) e → p ≡ event_peer e →
     n ≡ event_past (rooms_in (state_of g block) (set array 33 p)) now (event_size e) (event_value e) (state_of g block) →
     n ≡ limit_met identifier (length block) (held block) (asking now bytes (core_rooms block bytes array))
-core-limit block bytes array g now e p n w same early d sized q f =
+core-limit block bytes array g now e p n r same sized q f =
     subst (λ (x : Head). n ≡ event_past (rooms_in (state_of x block) (set array 33 p)) now (event_size e) (event_value e) (state_of x block)) same f
-    ∙ ap (λ (rs : List Room). event_past rs now (event_size e) (event_value e) (state_of (head_in block) block)) (sym (core-rooms block bytes array e p d q))
-    ∙ sym (limit-event block w (asking now bytes (core_rooms block bytes array)) (event_value e) (event_size e) early d (same-fit _ bytes e sized))
+    ∙ ap (λ (rs : List Room). event_past rs now (event_size e) (event_value e) (state_of (head_in block) block)) (sym (core-rooms block bytes array e p r.means q))
+    ∙ sym (limit-event block r.wholly (asking now bytes (core_rooms block bytes array)) (event_value e) (event_size e) r.early r.means (same-fit _ bytes e sized))

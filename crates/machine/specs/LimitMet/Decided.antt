@@ -7,9 +7,12 @@ use Rattle.protocol.specs.State.{State, Limits}
 use Rattle.protocol.specs.Run.{Room}
 use Rattle.machine.specs.Decided.{size_fits}
 use Rattle.decide.specs.Sizes.{Sizes}
-use Rattle.decide.specs.Settled.{settled, too_far_before}
-use Rattle.decide.specs.SizesAfter.{sizes_after}
-use Rattle.machine.specs.Kinds.Meaning.{step_sizes, step_far}
+use Rattle.decide.specs.Settled.{too_far_before}
+use Rattle.decide.specs.StateAfter.{state_after}
+use Rattle.steps.specs.declared.call.Call.{Call}
+use Rattle.machine.specs.Kinds.Meaning.{step_far}
+use Rattle.machine.specs.LimitMet.LimitMet.{limit_past}
+use Rattle.machine.specs.Steps.{after_event}
 use Rattle.machine.specs.declared.kinds.Step.{Step}
 
 -- the first limit that these numbers are past
@@ -34,10 +37,10 @@ unfoldable pub event_past : List Room → ℕ → ℕ → Event → State → �
 event_past rooms now size e s =
     if not (size_fits s.settings.max_message_size size e) then 0
     else if too_far_before identifier now e s then 0
-    else sizes_past s.limits (sizes_after identifier rooms now e s)
+    else limit_past (state_after identifier rooms now e s)
 
 -- (12), (13) of a step
-unfoldable pub step_past : List Room → ℕ → Step → State → ℕ
-step_past rooms now r s =
-    if step_far r then 0
-    else sizes_past s.limits (step_sizes rooms now r (settled now s))
+unfoldable pub step_past : Call → Step → State → ℕ
+step_past call step s =
+    if step_far step then 0
+    else limit_past (after_event call step s)

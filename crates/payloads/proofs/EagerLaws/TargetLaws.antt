@@ -23,12 +23,8 @@ use Rattle.protocol.specs.Run.{Room}
 use Rattle.protocol.specs.Push.{eager_targets}
 use Rattle.decide.specs.Rooms.{kth_taken, back_peers}
 use Rattle.block.specs.LinkSteps.{link_at, peer_at}
-use Rattle.block.specs.View.{state_of}
-use Rattle.block.specs.declared.head.Head.{Head}
 use Rattle.steps.specs.Rooms.{rooms_in}
-use Rattle.steps.specs.declared.Held.{Held}
-use Rattle.steps.proofs.RoomsLaws.{kth-link}
-use Rattle.payloads.specs.Eager.Targets.{is_target, hands_back, Pushing}
+use Rattle.payloads.specs.Eager.Targets.{is_target, hands_back}
 
 if-append : {A : Type 0} (t : Bool) (x : A) (xs ys : List A) → (if t then x ∷ (xs ++ ys) else xs ++ ys) ≡ (if t then x ∷ xs else xs) ++ ys
 if-append true x xs ys = refl
@@ -43,9 +39,6 @@ marked_append f (e ∷ l) m =
 -- the array has the room of each link
 pub record Roomed (s : State) (array : List ℕ) : Type 0 where
   pub first : (i : ℕ) → i < length s.links → kth_taken 1 (peer_at s i) (rooms_in s array) ≡ leb 1 (get_or array i 0)
-
-pub roomed : (h : Head) (xs : List ℕ) (k : Held) (array : List ℕ) → Pushing h xs k → Roomed (state_of h xs) array
-roomed h xs k array p = record { first = λ i q. kth-link (state_of h xs) array 1 i p.grafting.links_up q (omega arith) }
 
 -- the targets among some links
 
@@ -145,9 +138,6 @@ module _ (sender : ℕ) (skip array : List ℕ) (s : State) where
   unfolding back_peers filter
   backs-none = ap (back_peers (rooms_in s array)) (first-none sender skip s)
 
-  pub backs-rest : (i : ℕ) → back_peers (rooms_in s array) (eager_targets sender skip s) ≡ backs i ++ back_peers (rooms_in s array) (rest sender skip s i)
-  backs-rest i = ap (back_peers (rooms_in s array)) (first_rest sender skip s i) ∙ back-append (rooms_in s array) (first sender skip s i) (rest sender skip s i)
-
   pub backs-all : (i : ℕ) → length s.links ≤ i → backs i ≡ back_peers (rooms_in s array) (eager_targets sender skip s)
   backs-all i h = ap (back_peers (rooms_in s array)) (first-all sender skip s i h)
 
@@ -183,19 +173,6 @@ module _ (sender : ℕ) (skip array : List ℕ) (s : State) where
         cases (is_target sender skip s i)
         (λ t. backs-taken t (not-false (leb 1 (get_or array i 0)) (sym (ap (λ (b : Bool). b && not (leb 1 (get_or array i 0))) t) ∙ e)))
         backs-out
-
--- the tests of one link, one by one
-module _ (sender : ℕ) (skip : List ℕ) (s : State) (i : ℕ) where
-  pub target_is : (e m f t : Bool) → is_eager (link_at s i).value ≡ e → eqb (peer_at s i) s.settings.me ≡ m → eqb (peer_at s i) sender ≡ f → member (peer_at s i) skip ≡ t
-      → is_target sender skip s i ≡ (e && (not m && not f && not t))
-  unfolding is_target
-  target_is e m f t a b c d = λ k. a k && (not (b k) && not (c k) && not (d k))
-
-  pub back_is : (array : List ℕ) (t r : Bool) → is_target sender skip s i ≡ t → leb 1 (get_or array i 0) ≡ r → hands_back sender skip array s i ≡ (t && not r)
-  unfolding hands_back
-  back_is array t r a b = λ k. a k && not (b k)
-
--- the peers of earlier links are others
 
 all-below : (p : ℕ) (xs : List ℕ) → all (λ x. ltb x p) xs ≡ true → member p xs ≡ false
 unfolding member

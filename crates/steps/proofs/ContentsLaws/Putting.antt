@@ -4,7 +4,7 @@ use mathlib.Core.Path.{◌≡◌, refl, sym, ap, ◌∙◌, subst}
 use mathlib.Core.Bool.{true}
 use mathlib.Core.Option.{Option, none, some}
 use mathlib.Core.List.{List, [], ◌∷◌}
-use Prim.Native.Nat.{ℕ, ◌+◌, ◌-◌, ◌≤◌}
+use Prim.Native.Nat.{ℕ, ◌+◌, ◌≤◌}
 use native.Mathlib.Omega.{arith}
 use borrow.Author.Tests.{eq-eqb, le-ltb}
 use lib.Dec.{ltb, eqb}
@@ -16,7 +16,7 @@ use Rattle.time_cache.specs.TimeCache.{Timed, Cache, value_of, get, put as put_i
 use Rattle.time_cache.proofs.Timely.{order-added}
 use Rattle.time_cache.proofs.ValueLaws.{replace-put}
 use Rattle.protocol.specs.State.{State, Cached, with_cache}
-use Rattle.decide.specs.SizesAfter.{content_length}
+use Rattle.decide.proofs.SizesAfter.{content_length}
 use Rattle.decide.proofs.Broadcast.{content-put}
 use Rattle.block.specs.View.{state_of}
 use Rattle.block.specs.Sound.{Sound, held}

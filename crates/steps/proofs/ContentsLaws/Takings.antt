@@ -10,8 +10,8 @@ use lib.Dec.{leb}
 use lib.ListN.{length}
 use Rattle.storage.proofs.ListsLaws.MapLaws.{and_left, and_right}
 use Rattle.time_cache.specs.TimeCache.{Cache, put}
-use Rattle.protocol.specs.State.{State, Limits, Settings, Cached, durations_in_range}
-use Rattle.protocol.specs.Whole.{cache_fits, content_held, fits}
+use Rattle.protocol.specs.State.{State, Settings, durations_in_range}
+use Rattle.protocol.specs.Whole.{cache_fits}
 use Rattle.decide.specs.StateAfter.{taken_state}
 use Rattle.block.specs.View.{state_of}
 use Rattle.block.specs.Sound.{held}
@@ -21,7 +21,7 @@ use Rattle.block.specs.Caches.InBlock.{InOrder, AtMost, received_also}
 use Rattle.steps.specs.Stands.{Stands}
 use Rattle.steps.proofs.StandsLaws.{cached-order}
 use Rattle.steps.specs.Contents.CacheSteps.{message, cached_also}
-use Rattle.steps.specs.Contents.Taking.{TakesIn, forgotten_at, uncached_at}
+use Rattle.steps.specs.Contents.Taking.{forgotten_at, uncached_at}
 
 -- the durations that are added to an instant
 durations : (c : Settings) → durations_in_range c ≡ true → (c.message_id_retention ≤ 2 ^ 40) × (c.message_cache_retention ≤ 2 ^ 40)
@@ -38,50 +38,12 @@ unfolding state_of
 times-fit h block s = durations (state_of h block).settings s.ranged.durations
 
 -- a cache within its limit
-at_most : {A : Type 0} (n : ℕ) (c : Cache A) → cache_fits n c ≡ true → AtMost n c
+pub at_most : {A : Type 0} (n : ℕ) (c : Cache A) → cache_fits n c ≡ true → AtMost n c
 unfolding cache_fits
 at_most n c e = record {
   entries = leb-true (length c.entries) n (and_left (leb (length c.entries) n) (leb (length c.expiry) (2 * n)) e);
   expiry = leb-true (length c.expiry) (2 * n) (and_right (leb (length c.entries) n) (leb (length c.expiry) (2 * n)) e);
 }
-
--- what question 13 tells of the two message caches
-caches-fit : (s : State) → fits s ≡ true → AtMost s.limits.R s.received × AtMost s.limits.C s.cache × (held s.cache.entries ≤ s.limits.B)
-unfolding fits content_held
-caches-fit s e =
-    let n : Bool = leb (length s.links) s.limits.N in
-    let r : Bool = cache_fits s.limits.R s.received in
-    let c : Bool = cache_fits s.limits.C s.cache in
-    let b : Bool = leb (content_held s) s.limits.B in
-    let g : Bool = cache_fits s.limits.G s.grafted in
-    let m : Bool = leb (length s.missing) s.limits.S in
-    let t : Bool = leb (length s.timers.graft) s.limits.T in
-    let q : Bool = leb (length s.queue) s.limits.Q in
-    let d : Bool = leb (length s.dropped) s.limits.D in
-    let four : n && r && c && b ≡ true =
-    and_left (n && r && c && b) g (and_left (n && r && c && b && g) m (and_left (n && r && c && b && g && m) t (and_left (n && r && c && b && g && m && t) q (and_left (n && r && c && b && g && m && t && q) d e)))) in
-    let three : n && r && c ≡ true = and_left (n && r && c) b four in (
-      at_most s.limits.R s.received (and_right n r (and_left (n && r) c three)),
-      at_most s.limits.C s.cache (and_right (n && r) c three),
-      leb-true (content_held s) s.limits.B (and_right (n && r && c) b four),
-    )
-
--- a later state, with these message caches and limits, that is within every limit
-module _ (instant id : ℕ) (content : List ℕ) (round : ℕ) (h : Head) (block : List ℕ) (early : instant ≤ 2 ^ 62) where
-  abbrev taken : State
-  taken = taken_state instant id content round (state_of h block)
-
-  pub takes-from : (z : State) → Stands h block → fits z ≡ true → z.limits ≡ taken.limits → z.received ≡ taken.received → z.cache ≡ taken.cache → TakesIn instant id content round h block
-  unfolding taken_state state_of
-  takes-from z s e l r c =
-      let f = caches-fit z e in
-      record {
-        stands = s;
-        early = early;
-        received = subst (λ (n : ℕ). AtMost n taken.received) (ap (λ (k : Limits). k.R) l) (subst (AtMost z.limits.R) r f.0);
-        cached = subst (λ (n : ℕ). AtMost n taken.cache) (ap (λ (k : Limits). k.C) l) (subst (AtMost z.limits.C) c f.1);
-        bytes = omega (arith, f.2, ap (λ (k : Limits). k.B) l, ap (λ (k : Cache Cached). held k.entries) c);
-      }
 
 -- after the first insert
 module _ (id t : ℕ) (h a : Head) (xs ys : List ℕ) (g : Goes (received_also id t) h xs a ys) where

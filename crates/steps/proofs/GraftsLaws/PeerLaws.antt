@@ -3,7 +3,7 @@
 use mathlib.Core.Path.{◌≡◌, refl, sym, ap, ◌∙◌}
 use mathlib.Core.Bool.{Bool, true, false, not, ◌&&◌}
 use mathlib.Core.List.{List, [], ◌∷◌}
-use mathlib.Core.Option.{Option, none}
+use mathlib.Core.Option.{none}
 use Prim.Native.Nat.{ℕ, ◌≤◌, ◌<◌}
 use native.Mathlib.Omega.{arith}
 use borrow.Author.Tests.{ltb-true, ne_eqb}
@@ -20,11 +20,10 @@ use Rattle.time_cache.proofs.Orders.{up_of}
 use Rattle.time_cache.proofs.MapPlaces.{lookup-here, lookup-between}
 use Rattle.protocol.specs.Links.{is_neighbour}
 use Rattle.protocol.specs.State.{State, Grafts}
-use Rattle.protocol.specs.Gossips.{peers_of, graft_out}
+use Rattle.protocol.specs.Gossips.{graft_out}
 use Rattle.protocol.specs.Whole.{grafts_whole}
 use Rattle.protocol.proofs.ConsistentTables.{Grafted, to-grafted, grafted-insert}
 use Rattle.block.specs.View.{state_of}
-use Rattle.block.specs.Fit.{Fit}
 use Rattle.block.specs.LinkSteps.{peer_at}
 use Rattle.block.specs.declared.head.Head.{Head}
 use Rattle.block.proofs.LinkLaws.{count-links, count-peers, neighbour-here}
@@ -32,12 +31,9 @@ use Rattle.block.proofs.Few.{once-few}
 use Rattle.block.proofs.AnnounceLaws.{insert-long}
 use Rattle.block.specs.Caches.GraftSteps.{grafted_at, grafts_at}
 use Rattle.block.proofs.CachesLaws.GraftedLaws.{count-grafted}
-use Rattle.steps.specs.Shared.{HeldIs}
 use Rattle.steps.specs.Stands.{Stands}
-use Rattle.steps.specs.declared.Held.{Held}
-use Rattle.steps.specs.declared.Held.TheVariants.{At, Nothing}
 use Rattle.steps.proofs.StandsLaws.{links-up, grafted-order}
-use Rattle.steps.specs.Grafts.Reads.{Grafting, HeldBelow, held_peers}
+use Rattle.steps.specs.Grafts.Reads.{Grafting}
 
 -- what the functions of the grafts ask, out of `Stands`
 pub stands-grafting : (h : Head) (xs : List ℕ) → Stands h xs → Grafting h xs
@@ -106,15 +102,3 @@ out_none sender round m w = ap (λ (b : Bool). b && not (has sender m)) (sym w)
 pub out-empty : (sender round : ℕ) → false ≡ graft_out sender round []
 unfolding graft_out any
 out-empty sender round = refl
-
--- the peers of the entry that was found
-pub held-peers : (s : State) (id : ℕ) (found : Option Grafts) (r : Held) → HeldIs (entry 0 (record { expires = 0; value = record { first = none; kept = none; peers = [] } })) s.grafted.entries id found r → held_peers s r ≡ peers_of found
-unfolding peers_of
-held-peers s id found (At i) h = sym (ap peers_of h.value)
-held-peers s id found Nothing h = sym (ap peers_of h)
-
--- the entry that was found is one of those in the block
-pub held_below : (h : Head) (xs : List ℕ) (id : ℕ) (found : Option Grafts) (r : Held) → Fit h xs
-    → HeldIs (entry 0 (record { expires = 0; value = record { first = none; kept = none; peers = [] } })) (state_of h xs).grafted.entries id found r → HeldBelow h.live.grafted r
-held_below h xs id found (At i) fit x = omega (arith, x.below, count-grafted h xs fit)
-held_below h xs id found Nothing fit x = tt

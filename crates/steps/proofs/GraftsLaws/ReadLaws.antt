@@ -1,13 +1,13 @@
 -- What the bytes of a grafted message say: its `first` and its `kept`.
 -- Assumes nothing.
-use mathlib.Core.Path.{◌≡◌, sym, ap, ◌∙◌}
+use mathlib.Core.Path.{◌≡◌, ap, ◌∙◌}
 use mathlib.Core.Bool.{Bool, true, false}
 use mathlib.Core.List.{List, []}
-use mathlib.Core.Option.{Option, none, some}
+use mathlib.Core.Option.{none, some}
 use Prim.Native.Nat.{ℕ, ◌+◌, ◌*◌, ◌≤◌, ◌<◌}
 use native.Mathlib.Omega.{arith}
 use borrow.Author.Tests.{eq-eqb, ne_eqb}
-use lib.Dec.{lit<, eqb}
+use lib.Dec.{lit<}
 use lib.ListN.{take, drop, get_or}
 use lib.Seq.{drop-drop, get_or-drop}
 use Rattle.std.specs.Prelude.{if◌then◌else◌}
@@ -20,7 +20,6 @@ use Rattle.storage.proofs.RefsLaws.Places.{ref-at}
 use Rattle.time_cache.specs.TimeCache.{Timed}
 use Rattle.time_cache.specs.Steps.{ref_at}
 use Rattle.protocol.specs.State.{Limits, Grafts}
-use Rattle.protocol.specs.Gossips.{same_as}
 use Rattle.block.specs.Layout.{place, table}
 use Rattle.block.specs.View.{state_of, limits_of, byte_at, half_at, flag_of, only_if, grafts_of}
 use Rattle.block.specs.Sound.{Sound}
@@ -77,11 +76,3 @@ flag-none b v e = ap (λ (t : Bool). only_if (if t then false else true) v) (eq-
 
 pub flag-some : {A : Type 0} (b : ℕ) (v : A) → (b ≡ 0 → ⊥) → only_if (flag_of b) v ≡ some v
 flag-some b v e = ap (λ (t : Bool). only_if (if t then false else true) v) (ne_eqb b 0 e)
-
-pub same_none : (p : ℕ) (o : Option ℕ) → o ≡ none → false ≡ same_as p o
-unfolding same_as
-same_none p o e = sym (ap (same_as p) e)
-
-pub same_some : (p k : ℕ) (o : Option ℕ) → o ≡ some k → eqb p k ≡ same_as p o
-unfolding same_as
-same_some p k o e = sym (ap (same_as p) e)

@@ -26,7 +26,6 @@ use Rattle.block.specs.Goes.{Goes}
 use Rattle.block.specs.LinkSteps.{linked}
 use Rattle.block.specs.Heads.{with_link_count}
 use Rattle.block.specs.declared.head.Head.{Head}
-use Rattle.block.proofs.Cut.{within}
 use Rattle.block.proofs.Tables.{length-table}
 use Rattle.block.proofs.RowLaws.{opened_frame, view-insert, gap_row}
 use Rattle.block.proofs.LinkLaws.{count-peers}

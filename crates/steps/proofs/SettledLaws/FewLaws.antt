@@ -15,7 +15,7 @@ use Rattle.block.specs.Fit.{Fit}
 use Rattle.block.specs.Sound.{Sound}
 use Rattle.block.specs.declared.head.Head.{Head}
 use Rattle.decide.specs.Sizes.{Sizes, sizes_of, fit_sizes}
-use Rattle.decide.specs.SizesAfter.{down_sizes}
+use Rattle.decide.proofs.SizesAfter.{down_sizes}
 use Rattle.decide.specs.Settled.{settled}
 use Rattle.decide.proofs.Decide.{Below, fit-below, down-below, evict-below}
 use Rattle.decide.proofs.TableSizes.{fits-sizes}

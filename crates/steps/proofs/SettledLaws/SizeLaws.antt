@@ -31,7 +31,7 @@ use Rattle.block.proofs.CachesLaws.ReceivedLaws.{count-received, count-received-
 use Rattle.block.proofs.CachesLaws.CachedLaws.{count-cached, count-cached-rows}
 use Rattle.block.proofs.CachesLaws.GraftedLaws.{count-grafted, count-grafted-rows}
 use Rattle.decide.specs.Sizes.{Sizes, sizes_of}
-use Rattle.decide.specs.SizesAfter.{evict_sizes, settled_sizes}
+use Rattle.decide.proofs.SizesAfter.{evict_sizes, settled_sizes}
 use Rattle.decide.specs.Settled.{settled}
 use Rattle.decide.proofs.SettledLaws.{length-later, expiry-later, settled-sizes}
 use Rattle.steps.specs.declared.Sizes.{Sizes as CodeSizes}

@@ -31,9 +31,8 @@ use Rattle.block.proofs.CachesLaws.CachedLaws.{cached-as}
 use Rattle.block.proofs.CachesLaws.GraftedLaws.{peers_of, grafted-as}
 use Rattle.decide.specs.Settled.{alive_value, settled}
 use Rattle.decide.proofs.SettledLaws.{get-later}
-use Rattle.steps.specs.Shared.{HeldAt, HeldIs}
-use Rattle.steps.specs.declared.Held.{Held as HeldThen}
-use Rattle.steps.specs.declared.Held.TheVariants.{At, Nothing}
+use Rattle.steps.specs.Shared.{HeldAt, EntryIs}
+use Rattle.std.specs.Prelude.{Option as Answer, Some, None}
 use Rattle.steps.specs.Settled.Then.{no_held, no_cached, no_grafts, left_then}
 
 -- the settled state, where `init` is set and where it is not
@@ -115,16 +114,16 @@ module _ {A B : Type 0} (f : A → B) (c : Cache A) (d : Cache B) (same : values
   unfolding values_as
   entries-then = sym (ap (λ (x : Cache B). x.entries) same)
 
-  pub held-as : (r : HeldThen) → HeldIs a c.entries id (get id (left_then init now c)) r → HeldIs b d.entries id (get id (left_then init now d)) r
+  pub held-as : (r : Answer ℕ) → EntryIs a c.entries id (get id (left_then init now c)) r → EntryIs b d.entries id (get id (left_then init now d)) r
   unfolding option_as
-  held-as (At i) h =
+  held-as (Some i) h =
       let e : get_or d.entries i b ≡ read_as f (get_or c.entries i a) = ap (λ (m : Map (Timed B)). get_or m i b) entries-then ∙ get_or-map-in (read_as f) c.entries i b a h.below in
       record {
         below = omega (arith, h.below, ap length entries-then, length-map c.entries (read_as f));
         key = ap (λ (x : Entry (Timed B)). x.key) e ∙ h.key;
         value = get-then ∙ ap (option_as f) h.value ∙ sym (ap (λ (x : Entry (Timed B)). some x.value.value) e);
       }
-  held-as Nothing h = get-then ∙ ap (option_as f) h
+  held-as None h = get-then ∙ ap (option_as f) h
 
 -- the place that entry i names is that of a row
 pub place-below : (c : TimeBoundCache) (xs : List ℕ) → Sound c xs → (i : ℕ) → i < c.entries.len → (ref_at (refs_at c xs) i).place < c.expiry.len
@@ -149,15 +148,15 @@ module _ (h : Head) (xs : List ℕ) (fit : Fit h xs) (k : ℕ) where
   cached-time q = time-in (limits_of h.limits) 4 4 h.live.cached 5 48 h.live.cached_rows xs (lit< tt) (omega arith) (lit< tt) (omega arith) (cached_of (table (limits_of h.limits) 6 xs)) k no_cached q
 
 -- what is found of the cached and the grafted messages, in the settled state
-module _ (h : Head) (xs : List ℕ) (fit : Fit h xs) (now id : ℕ) (r : HeldThen) where
-  pub cached-held : HeldIs no_held (cache_at (cached_cache h) xs).entries id (get id (left_then h.live.init now (cache_at (cached_cache h) xs))) r
-      → HeldIs no_cached (state_of h xs).cache.entries id (get id (settled now (state_of h xs)).cache) r
+module _ (h : Head) (xs : List ℕ) (fit : Fit h xs) (now id : ℕ) (r : Answer ℕ) where
+  pub cached-held : EntryIs no_held (cache_at (cached_cache h) xs).entries id (get id (left_then h.live.init now (cache_at (cached_cache h) xs))) r
+      → EntryIs no_cached (state_of h xs).cache.entries id (get id (settled now (state_of h xs)).cache) r
   cached-held e =
-      subst (λ (c : Cache Cached). HeldIs no_cached (state_of h xs).cache.entries id (get id c) r) (sym (settled-cache now (state_of h xs) ∙ ap (λ (b : Bool). left_then b now (state_of h xs).cache) (init-of h xs)))
+      subst (λ (c : Cache Cached). EntryIs no_cached (state_of h xs).cache.entries id (get id c) r) (sym (settled-cache now (state_of h xs) ∙ ap (λ (b : Bool). left_then b now (state_of h xs).cache) (init-of h xs)))
       (held-as (as_value (cached_of (table (limits_of h.limits) 6 xs))) (cache_at (cached_cache h) xs) (state_of h xs).cache (cached-as h xs fit) h.live.init now id no_held no_cached r e)
 
-  pub grafted-held : HeldIs no_held (cache_at (grafted_cache h) xs).entries id (get id (left_then h.live.init now (cache_at (grafted_cache h) xs))) r
-      → HeldIs no_grafts (state_of h xs).grafted.entries id (get id (settled now (state_of h xs)).grafted) r
+  pub grafted-held : EntryIs no_held (cache_at (grafted_cache h) xs).entries id (get id (left_then h.live.init now (cache_at (grafted_cache h) xs))) r
+      → EntryIs no_grafts (state_of h xs).grafted.entries id (get id (settled now (state_of h xs)).grafted) r
   grafted-held e =
-      subst (λ (c : Cache Grafts). HeldIs no_grafts (state_of h xs).grafted.entries id (get id c) r) (sym (settled-grafted now (state_of h xs) ∙ ap (λ (b : Bool). left_then b now (state_of h xs).grafted) (init-of h xs)))
+      subst (λ (c : Cache Grafts). EntryIs no_grafts (state_of h xs).grafted.entries id (get id c) r) (sym (settled-grafted now (state_of h xs) ∙ ap (λ (b : Bool). left_then b now (state_of h xs).grafted) (init-of h xs)))
       (held-as (as_value (grafts_of (peers_of h xs))) (cache_at (grafted_cache h) xs) (state_of h xs).grafted (grafted-as h xs fit) h.live.init now id no_held no_grafts r e)

@@ -1,24 +1,19 @@
 -- Eviction twice at one instant is eviction once; the numbers after neighbour up.
 -- Assumes nothing.
 use Prim.Native.Nat.{ℕ, suc, ◌+◌}
-use mathlib.Core.Path.{◌≡◌, refl, sym, ap, ◌∙◌}
-use mathlib.Core.Bool.{Bool, true, false}
+use mathlib.Core.Path.{◌≡◌, refl, ap}
+use mathlib.Core.Bool.{Bool, false}
 use mathlib.Core.List.{List, [], ◌∷◌}
-use native.Mathlib.Numerals.{add-one}
 use native.Mathlib.Omega.{arith}
 use lib.Dec.{ltb}
 use lib.ListN.{length}
 use Rattle.std.specs.Prelude.{if◌then◌else◌}
-use Rattle.storage.specs.Lists.Base.{is_some, filter, count, sum}
-use Rattle.storage.specs.Lists.Map.{keys}
+use Rattle.storage.specs.Lists.Base.{filter, count, sum}
 use Rattle.storage.proofs.ListsLaws.MapLaws.{cases}
-use Rattle.storage.specs.Rows.Sorted.{Ascending, Here, Between}
 use Rattle.time_cache.specs.TimeCache.{later_cache}
-use Rattle.time_cache.proofs.MapPlaces.{lookup-here, lookup-between}
-use Rattle.protocol.specs.Links.{eager, is_neighbour}
 use Rattle.protocol.specs.State.{State}
-use Rattle.decide.specs.Sizes.{Sizes, sizes_of, sized_links, grown}
-use Rattle.decide.specs.SizesAfter.{evict_sizes, up_sizes}
+use Rattle.decide.specs.Sizes.{sizes_of}
+use Rattle.decide.proofs.SizesAfter.{evict_sizes}
 use Rattle.decide.specs.Settled.{settled}
 use Rattle.steps.proofs.SettledLaws.ThenLaws.{settled-still}
 
@@ -53,23 +48,3 @@ again now s e = rw e (λ p. record {
 
 pub evict-again : (now : ℕ) (s : State) → evict_sizes now (settled now s) ≡ evict_sizes now s
 evict-again now s = cases s.init (λ e. ap (evict_sizes now) (settled-still now s e)) (again now s)
-
--- neighbour up, by where the peer stands
-module _ (p : ℕ) (s : State) where
-  pub up-there : (i : ℕ) → Ascending (keys s.links) → Here (keys s.links) p i → (z : Sizes) → z ≡ sizes_of s → z ≡ up_sizes p s
-  unfolding up_sizes sizes_of grown
-  up-there i a h z e =
-      let t : is_neighbour p s.links ≡ true = ap is_some (lookup-here p i (record { key = 0; value = eager }) s.links a h) in
-      e ∙ (λ k. sized_links (grown (sym t k) (length s.links)) (sizes_of s))
-
-  one_more : sized_links ((sizes_of s).links + 1) (sizes_of s) ≡ sized_links (suc (length s.links)) (sizes_of s)
-  unfolding sizes_of
-  one_more = ap (λ (n : ℕ). sized_links n (sizes_of s)) (add-one (length s.links))
-
-  pub up-new : (i : ℕ) → Between (keys s.links) p i → (z : Sizes) → z ≡ sizes_of s → sized_links (z.links + 1) z ≡ up_sizes p s
-  unfolding up_sizes grown
-  up-new i b z e =
-      let t : is_neighbour p s.links ≡ false = ap is_some (lookup-between p i s.links b) in
-      ap (λ (y : Sizes). sized_links (y.links + 1) y) e
-      ∙ one_more
-      ∙ (λ k. sized_links (grown (sym t k) (length s.links)) (sizes_of s))

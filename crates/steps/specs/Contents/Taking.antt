@@ -1,6 +1,6 @@
 -- What is asked when a message is taken in.
 -- Assumes nothing.
-use Rattle.std.specs.Prelude.{ℕ, ◌+◌, ◌≤◌, ◌^◌, List}
+use Rattle.std.specs.Prelude.{ℕ, ◌+◌, ◌≤◌, List}
 use Rattle.time_cache.specs.TimeCache.{put}
 use Rattle.block.specs.View.{state_of}
 use Rattle.block.specs.Sound.{held}

@@ -3,52 +3,54 @@ ghost use Rattle.std.specs.Prelude.{◌≡◌, ◌<◌, leb};
 ghost use Rattle.storage.specs.Lists.Base.{any};
 ghost use Rattle.storage.specs.Lists.Map.{keys, has};
 ghost use Rattle.storage.specs.Rows.Sorted.{FoundIs};
-ghost use Rattle.protocol.specs.Gossips.{same_as, graft_out};
 ghost use Rattle.block.specs.View.{state_of};
 ghost use Rattle.block.specs.Sound.{Sound};
 ghost use Rattle.block.specs.LinkSteps.{peer_at};
 ghost use Rattle.block.specs.Caches.GraftSteps.{grafts_at};
-ghost use Rattle.steps.specs.Grafts.Reads.{Grafting, first_of, HeldBelow, held_peers};
+ghost use Rattle.steps.specs.Grafts.Reads.{Grafting};
+ghost use Rattle.steps.specs.Grafts.Firsts.{first_value, kept_value};
 
-use crate::Held;
 use block::caches::grafted;
+use block::caches::grafted::{ENTRY_WIDTH, FIRST, FIRST_PEER, FIRST_ROUND, KEPT, KEPT_PEER};
 use block::head;
 use block::head::Head;
 use postcard::units::Round;
 use storage::rows::word;
 
-// The sender and the round of the first copy.
+// The sender of a first copy, and its round.
 #[derive(Clone, Copy)]
-pub enum First {
-    Hop(u64, Round),
-    Nothing,
+pub struct FirstCopy {
+    pub sender: u64,
+    pub round: Round,
 }
 
-// The `first` of the grafted message i.
-pub fn graft_first(h: Head, block: &[u8], i: usize) -> First
+// The `first` of the grafted message i, if it has one.
+pub fn first_copy(h: Head, block: &[u8], i: usize) -> Option<FirstCopy>
     requires { Sound h block.now × (i < h.live.grafted) }
-    ensures { first_of result ≡ (grafts_at (state_of h block.now) i).first }
+    ensures { first_value result ≡ (grafts_at (state_of h block.now) i).first }
 {
-    let a = head::grafted_at(h.limits) + 119 * i;
-    if block[a + 2] == 0 {
-        return First::Nothing;
+    let at = head::grafted_at(h.limits) + ENTRY_WIDTH * i;
+    if block[at + FIRST] == 0 {
+        return None;
     }
-    let peer = word::load(block, a + 3);
-    let round = word::load2(block, a + 11);
-    First::Hop(peer, Round(round as u16))
+    let sender = word::load(block, at + FIRST_PEER);
+    let round = word::load2(block, at + FIRST_ROUND);
+    Some(FirstCopy {
+        sender,
+        round: Round(round as u16),
+    })
 }
 
-// Whether a peer is the `kept` of the grafted message i.
-pub fn is_kept(h: Head, block: &[u8], i: usize, peer: u64) -> bool
+// The `kept` of the grafted message i, if it has one.
+pub fn kept_sender(h: Head, block: &[u8], i: usize) -> Option<u64>
     requires { Sound h block.now × (i < h.live.grafted) }
-    ensures { result ≡ same_as peer (grafts_at (state_of h block.now) i).kept }
+    ensures { kept_value result ≡ (grafts_at (state_of h block.now) i).kept }
 {
-    let a = head::grafted_at(h.limits) + 119 * i;
-    if block[a + 13] == 0 {
-        return false;
+    let at = head::grafted_at(h.limits) + ENTRY_WIDTH * i;
+    if block[at + KEPT] == 0 {
+        return None;
     }
-    let kept = word::load(block, a + 14);
-    peer == kept
+    Some(word::load(block, at + KEPT_PEER))
 }
 
 // Where the peer of a link stands among the peers of the grafted message i, or before which it would stand. Its time is that of one pass over these peers, at
@@ -99,22 +101,4 @@ pub fn grafted_within(h: Head, block: &[u8], i: usize, round: Round) -> bool
         j += 1;
     }
     false
-}
-
-// `graft_out`: whether a graft is out over no more hops, and not to the sender. Its time is that of two passes over the peers of a grafted message.
-pub fn graft_out(h: Head, block: &[u8], held: Held, sender: usize, round: Round) -> bool
-    requires { Grafting h block.now × HeldBelow h.live.grafted held × (sender < h.live.links) }
-    ensures { result ≡ graft_out (peer_at (state_of h block.now) sender) round.0 (held_peers (state_of h block.now) held) }
-{
-    match held {
-        Held::At(i) => {
-            let within = grafted_within(h, block, i, round);
-            if within {
-                let there = is_grafted(h, block, i, sender);
-                return !there;
-            }
-            false
-        }
-        Held::Nothing => false,
-    }
 }

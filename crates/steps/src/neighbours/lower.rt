@@ -7,10 +7,15 @@ ghost use Rattle.block.specs.Sound.{Sound};
 ghost use Rattle.block.specs.LinkSteps.{LinksAscend};
 ghost use Rattle.steps.specs.Neighbours.Lowered.{listed_of, listed, lower_listed, announced, AllFew, LoweredIn, MissedIn, NotesIn, LoweredLinks};
 
+use block::caches::grafted::{ENTRY_WIDTH, PEERS};
 use block::head::Head;
+use block::hops::Hops;
+use block::missing::Missed;
+use block::note::Noted;
 use block::{head, hops};
 use storage::refs::renumber;
 use storage::rows::table;
+use storage::tables::Row;
 
 // The list of link numbers and rounds in 97 bytes, after link i went.
 pub fn drop_in_list(list: &mut [u8], i: usize)
@@ -18,7 +23,13 @@ pub fn drop_in_list(list: &mut [u8], i: usize)
     ensures { listed_of 0 list.new ≡ lower_listed i (listed_of 0 list.old) }
 {
     let n = hops::count(list, 0);
-    let r = renumber::drop_number(&mut list[1..], 32, 2, n, i);
+    let r = renumber::drop_number(
+        &mut list[Hops::LINKS..],
+        Hops::CAPACITY,
+        Hops::ROUND_WIDTH,
+        n,
+        i,
+    );
     list[0] = r as u8;
 }
 
@@ -30,7 +41,7 @@ pub fn drop_in_rows(b: &mut [u8], stride: usize, n: usize, o: usize, i: usize)
     let mut k = 0;
     while k < n {
         let at = k * stride + o;
-        let end = at + 97;
+        let end = at + Hops::WIDTH;
         drop_in_list(&mut b[at..end], i);
         k += 1;
     }
@@ -57,7 +68,7 @@ pub fn keep_announced(b: &mut [u8], n: usize) -> usize
     requires { n * 129 ≤ length b.old }
     ensures { (result ≤ n) × (listed 32 129 result b.new ≡ filter announced (listed 32 129 n b.old)) }
 {
-    table::retain(b, 129, n, 32, 0)
+    table::retain(b, Missed::WIDTH, n, Missed::ANNOUNCERS, 0)
 }
 
 // The announcers of n missing messages after link i went; returns how many messages are left.
@@ -65,7 +76,7 @@ fn drop_announcers(b: &mut [u8], n: usize, i: usize) -> usize
     requires { (n * 129 ≤ length b.old) × AllFew 32 129 n b.old }
     ensures { (result ≤ n) × (listed 32 129 result b.new ≡ filter announced (map (lower_listed i) (listed 32 129 n b.old))) }
 {
-    drop_in_rows(b, 129, n, 32, i);
+    drop_in_rows(b, Missed::WIDTH, n, Missed::ANNOUNCERS, i);
     keep_announced(b, n)
 }
 
@@ -83,7 +94,7 @@ pub fn drop_notes(block: &mut [u8], a: usize, w: usize, e: usize, n: usize, i: u
     ensures { NotesIn i a (e - a) (w - a) n block.old block.new result }
 {
     let o = w - a;
-    renumber::drop_number(&mut block[a..e], o, 34, n, i)
+    renumber::drop_number(&mut block[a..e], o, Noted::WIDTH, n, i)
 }
 
 // Every link number of the block, after link i went: queue, record, grafted and missing messages.
@@ -102,7 +113,15 @@ pub fn lower_links(mut h: Head, block: &mut [u8], i: usize) -> Head
     let timers = head::timers_at(h.limits);
     let q = drop_notes(block, queue, queue_rows, dropped, h.live.queued, i);
     let d = drop_notes(block, dropped, dropped_rows, end, h.live.dropped, i);
-    drop_in_table(block, grafted, grafted_rows, 119, h.live.grafted, 22, i);
+    drop_in_table(
+        block,
+        grafted,
+        grafted_rows,
+        ENTRY_WIDTH,
+        h.live.grafted,
+        PEERS,
+        i,
+    );
     let m = drop_missing(block, missing, timers, h.live.missing, i);
     h.live.queued = q;
     h.live.dropped = d;

@@ -5,9 +5,13 @@ ghost use Rattle.storage.specs.Rows.Rows.{rows};
 ghost use Rattle.block.specs.Sound.{Sound, AllNumbered};
 ghost use Rattle.steps.specs.Neighbours.Raised.{raised_row, RaisedIn, RaisedLinks};
 
+use block::caches::grafted::{ENTRY_WIDTH, PEERS};
 use block::head::Head;
+use block::hops::Hops;
+use block::missing::Missed;
 use block::{head, hops};
 use storage::refs::renumber;
+use storage::tables::Row;
 
 // The link numbers in the list at o of each of n rows, after a link came in at i.
 pub fn raise_rows(b: &mut [u8], stride: usize, n: usize, o: usize, i: usize)
@@ -18,7 +22,7 @@ pub fn raise_rows(b: &mut [u8], stride: usize, n: usize, o: usize, i: usize)
     while k < n {
         let at = k * stride + o;
         let c = hops::count(b, at);
-        renumber::raise_numbers(b, at + 1, c, i);
+        renumber::raise_numbers(b, at + Hops::LINKS, c, i);
         k += 1;
     }
 }
@@ -52,6 +56,22 @@ pub fn raise_links(h: Head, block: &mut [u8], i: usize)
     let timers = head::timers_at(h.limits);
     renumber::raise_numbers(block, queue, h.live.queued, i);
     renumber::raise_numbers(block, dropped, h.live.dropped, i);
-    raise_table(block, grafted, grafted_rows, 119, h.live.grafted, 22, i);
-    raise_table(block, missing, timers, 129, h.live.missing, 32, i);
+    raise_table(
+        block,
+        grafted,
+        grafted_rows,
+        ENTRY_WIDTH,
+        h.live.grafted,
+        PEERS,
+        i,
+    );
+    raise_table(
+        block,
+        missing,
+        timers,
+        Missed::WIDTH,
+        h.live.missing,
+        Missed::ANNOUNCERS,
+        i,
+    );
 }

@@ -1,70 +1,99 @@
--- `event_core`: questions 5 to 9, then the event.
-use mathlib.Core.Bool.{not}
-use Prim.Native.Nat.{◌<◌}
-use mathlib.Core.Path.{refl, sym, ap, subst, ◌∙◌}
-use lib.ListN.{length}
+-- `event_core`: questions 5 to 14, then the event.
+use Rattle.std.proofs.Common.{◌≡◌, ℕ, ◌≤◌, ◌<◌, List, ap, sym, ◌∙◌, refl, arith, length}
+use mathlib.Core.Path.{subst}
+use mathlib.Core.Option.{some}
 use lib.Seq.{get_or-set_same}
 use Rattle.blake3.specs.Blake3.{identifier}
-use Rattle.postcard.specs.Decode.{faulty}
-use Rattle.postcard.proofs.FieldBack.{bytes-each}
-use Rattle.protocol.specs.Answer.{answer_block}
+use Rattle.wire.specs.Reader.Values.{event_value}
+use Rattle.protocol.specs.State.{State, block_need}
+use Rattle.protocol.specs.Answer.{Call, Outcome, answer_block}
+use Rattle.block.specs.Header.{Stored}
+use Rattle.block.specs.Sound.{Sound}
+use Rattle.block.specs.View.{state_of}
 use Rattle.block.specs.declared.head.Head.{Head}
-use Rattle.steps.proofs.SettledLaws.SizeLaws.{yes, no}
 use Rattle.whole.specs.Held.{held}
-use Rattle.whole.proofs.HeldLaws.{wholly_of}
-use Rattle.machine.specs.Called.{counts_of, lent, call_of}
-use Rattle.machine.specs.Core.{Begun, core_rooms}
-use Rattle.machine.proofs.RunLaws.{refused-finds}
-use Rattle.machine.proofs.CoreLaws.{answer-5, answer-6, answer-fault, header-long, begun-of, read-shortened, core-finds}
-use native.Mathlib.Omega.{arith}
+use Rattle.steps.specs.Panels.{AtRest}
+use Rattle.steps.proofs.AtRestLaws.{rest_of}
+use Rattle.machine.specs.Called.{counts_of, call_of}
+use Rattle.machine.specs.Core.{core_rooms}
+use Rattle.machine.specs.Steps.{Keeps}
+use Rattle.machine.proofs.CoreLaws.{Reads, begun-reads, begun-fault, begun-of, long-of, header-long, core-outcome, refused-finds, found-yes}
+use Rattle.machine.proofs.RunLaws.{left-holds}
 use Rattle.machine.proofs.event.event_core.Goals as goal
+use Rattle.machine.proofs.event.event_core.Goals.{Start, In-Ok, After-load_head-head}
 
-pub returns-then-not-whole : goal.returns-then-not-whole
-returns-then-not-whole c =
-    let a = c.args in
-    record { room = refl; finds = refused-finds (answer_block identifier (length a.block.now) (held a.block.now) (counts_of a.c) (call_of a.instant.0 a.event.now (core_rooms a.block.now a.event.now a.rooms) a.out.now)) 5 a.block.now a.out.now a.c c.refused.result c.refused.ensures (answer-5 a.block.now (counts_of a.c) (call_of a.instant.0 a.event.now (core_rooms a.block.now a.event.now a.rooms) a.out.now) (no c.is_whole-whole.ensures (ap not c.if-not-whole.true))) }
+abbrev asked : Start → Call
+asked s = call_of s.args.instant.0 s.args.event.now (core_rooms s.args.block.now s.args.event.now s.args.rooms) s.args.out.now
 
-pub returns-then-instant-gt4611686018427387904 : goal.returns-then-instant-gt4611686018427387904
-returns-then-instant-gt4611686018427387904 c =
-    let a = c.args in
-    let w = wholly_of a.block.now (yes c.is_whole-whole.ensures (ap not c.if-not-whole.false)) in
-    record { room = refl; finds = refused-finds (answer_block identifier (length a.block.now) (held a.block.now) (counts_of a.c) (call_of a.instant.0 a.event.now (core_rooms a.block.now a.event.now a.rooms) a.out.now)) 6 a.block.now a.out.now a.c c.refused-then-instant-gt4611686018427387904.result c.refused-then-instant-gt4611686018427387904.ensures (answer-6 a.block.now w (counts_of a.c) (call_of a.instant.0 a.event.now (core_rooms a.block.now a.event.now a.rooms) a.out.now) c.if-instant-gt4611686018427387904.true) }
+abbrev answered : Start → Outcome
+answered s = answer_block identifier (length s.args.block.now) (held s.args.block.now) (counts_of s.args.c) (asked s)
 
-pub load_head-h-requires : goal.load_head-h-requires
-load_head-h-requires c =
-    let a = c.args in
-    let w = wholly_of a.block.now (yes c.is_whole-whole.ensures (ap not c.if-not-whole.false)) in
-    header-long a.block.now w
+-- the event was read
+reads : (c : In-Ok) → Reads c.args.block.now c.args.instant.0 c.args.event.now (event_value c.in-Ok.event)
+reads c = begun-reads c.args.block.now c.args.instant.0 c.args.event.now (event_value c.in-Ok.event) c.in-Ok.ensures.means
 
-pub handle-requires : goal.handle-requires
-handle-requires c =
-    let a = c.args in
-    let w = wholly_of a.block.now (yes c.is_whole-whole.ensures (ap not c.if-not-whole.false)) in
-    let long : 33 < length a.rooms = omega arith in (
-      subst (λ (g : Head). Begun g a.block.now a.instant.0) (sym c.load_head-h.ensures) (begun-of a.block.now w a.instant.0 c.if-instant-gt4611686018427387904.false),
-      read-shortened a.event.now c.in-Ok.e (bytes-each a.event.now (λ i. omega (arith, c.type_inv.event i))) c.in-Ok.ensures.means c.in-Ok.ensures.sized,
-      get_or-set_same a.rooms 33 c.event_peer.result 0 long ∙ c.event_peer.ensures,
-    )
+sound : (c : After-load_head-head) → Sound c.load_head-head.result c.args.block.now
+sound c = subst (λ (h : Head). Sound h c.args.block.now) (sym c.load_head-head.ensures) (reads (goal.at.After-load_head-head c).In-Ok).wholly.sound
 
-pub returns-in-Ok : goal.returns-in-Ok
-returns-in-Ok c =
-    let a = c.args in
-    let w = wholly_of a.block.now (yes c.is_whole-whole.ensures (ap not c.if-not-whole.false)) in
-    record {
-      room = refl;
-      finds =
-          core-finds a.block.now a.event.now a.rooms a.out.now (counts_of a.c) c.load_head-h.result a.instant.0 c.in-Ok.e c.event_peer.result
-          (lent a.block.now a.c a.out.now) (lent c.handle.new.block c.handle.result.stats c.handle.new.out) c.handle.result.number c.handle.result.length
-          w c.load_head-h.ensures c.if-instant-gt4611686018427387904.false c.in-Ok.ensures.means c.in-Ok.ensures.sized c.event_peer.ensures c.handle.ensures;
-    }
+rest : (c : After-load_head-head) → AtRest (state_of c.load_head-head.result c.args.block.now)
+rest c =
+    let r = reads (goal.at.After-load_head-head c).In-Ok in
+    subst (λ (h : Head). AtRest (state_of h c.args.block.now)) (sym c.load_head-head.ensures) (rest_of _ c.args.block.now (begun-of c.args.block.now r.wholly c.args.instant.0 r.early).stands)
 
 pub returns-in-Err : goal.returns-in-Err
 returns-in-Err c =
     let a = c.args in
-    let w = wholly_of a.block.now (yes c.is_whole-whole.ensures (ap not c.if-not-whole.false)) in
+    let s = (goal.at.returns-in-Err c).Start in
+    record { room = refl; finds = refused-finds (answered s) c.in-Err.number a.block.now a.out.now a.c c.refused.result c.refused.ensures (begun-fault a.block.now a.instant.0 a.event.now c.in-Err.number (counts_of a.c) (asked s) refl refl c.in-Err.ensures.means) }
+
+pub load_head-head-requires : goal.load_head-head-requires
+load_head-head-requires c = header-long c.args.block.now (reads (goal.at.load_head-head-requires c).In-Ok).wholly
+
+pub invariant_of-view : goal.invariant_of-view
+invariant_of-view c = record { sound = sound (goal.at.invariant_of-view c).After-load_head-head }
+
+pub ask-requires : goal.ask-requires
+ask-requires c =
+    let l = (goal.at.ask-requires c).After-load_head-head in
+    let long : 33 < length c.args.rooms = omega arith in
+    (rest l, c.in-Ok.ensures.shortened, get_or-set_same c.args.rooms 33 c.event_peer.result 0 long ∙ c.event_peer.ensures, (reads (goal.at.ask-requires c).In-Ok).early)
+
+pub returns-in-Err-ask : goal.returns-in-Err-ask
+returns-in-Err-ask c =
+    let a = c.args in
+    let s = (goal.at.returns-in-Err-ask c).Start in
     record {
       room = refl;
-      finds =
-          refused-finds (answer_block identifier (length a.block.now) (held a.block.now) (counts_of a.c) (call_of a.instant.0 a.event.now (core_rooms a.block.now a.event.now a.rooms) a.out.now)) c.number.result a.block.now a.out.now a.c c.refused-in-Err.result c.refused-in-Err.ensures
-          (answer-fault a.block.now w (counts_of a.c) (call_of a.instant.0 a.event.now (core_rooms a.block.now a.event.now a.rooms) a.out.now) c.number.result c.if-instant-gt4611686018427387904.false (c.in-Err.ensures.means ∙ ap faulty (sym c.number.ensures)));
+      finds = refused-finds (answered s) c.in-Err-ask.number a.block.now a.out.now a.c c.refused-in-Err-ask.result c.refused-in-Err-ask.ensures
+          (core-outcome a.block.now a.event.now a.rooms a.out.now (counts_of a.c) c.load_head-head.result a.instant.0 c.in-Ok.event c.event_peer.result (reads (goal.at.returns-in-Err-ask c).In-Ok) c.load_head-head.ensures c.in-Ok.ensures.sized c.event_peer.ensures
+          ∙ sym c.in-Err-ask.ensures.outcome);
+    }
+
+pub returns : goal.returns
+returns c =
+    let a = c.args in
+    let s = (goal.at.returns c).Start in
+    let q = c.carry_out.new.panel in
+    let t = state_of c.load_head-head.result a.block.now in
+    let ok = c.in-Ok-ask.ensures.accepted in
+    let goes = c.carry_out.ensures.state in
+    let left = c.block-1.given.1.0 (sym goes.loan) in
+    let kept : length c.block-1.given.0 ≡ length a.block.now = omega arith in
+    let need = subst (λ (h : Head). block_need (state_of h a.block.now).limits ≤ length a.block.now) (sym c.load_head-head.ensures) (long-of a.block.now (reads (goal.at.returns c).In-Ok).wholly) in
+    record {
+      room = refl;
+      finds = found-yes (answered s) _ _ _ _ _ c.in-Ok-ask.accepted.length
+          (core-outcome a.block.now a.event.now a.rooms a.out.now (counts_of a.c) c.load_head-head.result a.instant.0 c.in-Ok.event c.event_peer.result (reads (goal.at.returns c).In-Ok) c.load_head-head.ensures c.in-Ok.ensures.sized c.event_peer.ensures
+          ∙ sym c.in-Ok-ask.ensures.outcome)
+          (record {
+            number = refl;
+            long = ok.long;
+            state = left-holds q.head q.block.now _ q.sound (subst (λ (ys : List ℕ). Stored q.head q.block.now ys) (sym left) c.store_head.ensures) t (rest (goal.at.returns c).After-load_head-head)
+                (subst (λ (x : State). Keeps t x) (sym goes.state) ok.keeps) (omega (arith, need, kept, ap length left, c.store_head.auto.block))
+                ∙ ap some goes.state;
+            block_long = kept;
+            counts = refl;
+            fits = omega (arith, ok.long, ok.fits);
+            output = c.carry_out.ensures.output;
+          });
     }

@@ -7,44 +7,44 @@ use lib.Dec.{eqb}
 use Rattle.storage.specs.Rows.Ident.{id_of}
 use Rattle.blake3.specs.Blake3.{identifier}
 use Rattle.postcard.specs.Values.{delivery_value}
-use Rattle.block.specs.View.{state_of}
+use Rattle.steps.specs.Views.{shown}
 use Rattle.machine.proofs.KindsLaws.MeaningLaws.{means-invalid, means-late, means-new, means-near, gossip-held, valid-of}
 use Rattle.machine.proofs.kinds.gossip_step.Goals as goal
-use Rattle.machine.proofs.kinds.gossip_step.Goals.{After-same-valid}
+use Rattle.machine.proofs.kinds.gossip_step.Goals.{After-same}
 
 -- the test is of the content
-valid : (c : After-same-valid) →
-    eqb (identifier c.args.content.now)
-    (id_of c.args.id) ≡ c.same-valid.result
+valid : (c : After-same) →
+    eqb (identifier c.args.gossip.content.now)
+    (id_of c.args.gossip.id) ≡ c.same.result
 valid c =
     let a = c.args in
-    let r = c.hash-real in
-    valid-of c.same-valid.result (id_of r.result) (identifier a.content.now) (id_of a.id) c.same-valid.ensures r.ensures
+    let r = c.hash in
+    valid-of c.same.result (id_of r.result) (identifier a.gossip.content.now) (id_of a.gossip.id) c.same.ensures r.ensures
 
-pub returns-then-not-valid : goal.returns-then-not-valid
-returns-then-not-valid c =
+pub returns-then-not-same : goal.returns-then-not-same
+returns-then-not-same c =
     let a = c.args in
-    means-invalid a.instant.0 (state_of a.h a.block.now) a.sender (id_of a.id) a.content.now (delivery_value a.delivery) c.requires.0.consistent.core
-    (valid (goal.at.returns-then-not-valid c).After-same-valid ∙ not-true c.same-valid.result (ap not c.if-not-valid.true))
+    means-invalid a.call.now.instant.0 (shown a.view.now) a.sender (id_of a.gossip.id) a.gossip.content.now (delivery_value a.gossip.delivery) c.requires.0.consistent.core
+    (valid (goal.at.returns-then-not-same c).After-same ∙ not-true c.same.result (ap not c.if-not-same.true))
 
-pub returns-then-received : goal.returns-then-received
-returns-then-received c =
+pub returns-then-is_received_then : goal.returns-then-is_received_then
+returns-then-is_received_then c =
     let a = c.args in
-    means-late a.instant.0 (state_of a.h a.block.now) a.sender a.id a.content.now a.delivery c.requires.0.consistent.core
-    (valid (goal.at.returns-then-received c).After-same-valid ∙ not-false c.same-valid.result (ap not c.if-not-valid.false)) (sym c.received_then-received.ensures ∙ c.if-received.true)
+    means-late a.call.now.instant.0 (shown a.view.now) a.sender a.gossip.id a.gossip.content.now a.gossip.delivery c.requires.0.consistent.core
+    (valid (goal.at.returns-then-is_received_then c).After-same ∙ not-false c.same.result (ap not c.if-not-same.false)) (sym c.is_received_then.ensures ∙ c.if-is_received_then.true)
 
 pub returns-in-Swarm : goal.returns-in-Swarm
 returns-in-Swarm c =
     let a = c.args in
-    means-new a.instant.0 (state_of a.h a.block.now) a.sender a.id a.content c.requires.0.consistent.core
-    (valid (goal.at.returns-in-Swarm c).After-same-valid ∙ not-false c.same-valid.result (ap not c.if-not-valid.false)) (sym c.received_then-received.ensures ∙ c.if-received.false)
-    (gossip-held a.h a.block.now (id_of a.id) a.content.now (delivery_value a.delivery) c.requires.0.ranged c.requires.1)
-    a.delivery c.in-Swarm.round c.in-Swarm.is
+    means-new a.call.now.instant.0 (shown a.view.now) a.sender a.gossip.id a.gossip.content c.requires.0.consistent.core
+    (valid (goal.at.returns-in-Swarm c).After-same ∙ not-false c.same.result (ap not c.if-not-same.false)) (sym c.is_received_then.ensures ∙ c.if-is_received_then.false)
+    (gossip-held (shown a.view.now) (id_of a.gossip.id) a.gossip.content.now (delivery_value a.gossip.delivery) c.requires.0.ranged c.requires.1)
+    a.gossip.delivery c.in-Swarm.round c.in-Swarm.is
 
 pub returns-in-Neighbors : goal.returns-in-Neighbors
 returns-in-Neighbors c =
     let a = c.args in
-    means-near a.instant.0 (state_of a.h a.block.now) a.sender a.id a.content c.requires.0.consistent.core
-    (valid (goal.at.returns-in-Neighbors c).After-same-valid ∙ not-false c.same-valid.result (ap not c.if-not-valid.false)) (sym c.received_then-received.ensures ∙ c.if-received.false)
-    (gossip-held a.h a.block.now (id_of a.id) a.content.now (delivery_value a.delivery) c.requires.0.ranged c.requires.1)
-    a.delivery c.in-Neighbors.is
+    means-near a.call.now.instant.0 (shown a.view.now) a.sender a.gossip.id a.gossip.content c.requires.0.consistent.core
+    (valid (goal.at.returns-in-Neighbors c).After-same ∙ not-false c.same.result (ap not c.if-not-same.false)) (sym c.is_received_then.ensures ∙ c.if-is_received_then.false)
+    (gossip-held (shown a.view.now) (id_of a.gossip.id) a.gossip.content.now (delivery_value a.gossip.delivery) c.requires.0.ranged c.requires.1)
+    a.gossip.delivery c.in-Neighbors.is

@@ -9,7 +9,7 @@ use Rattle.postcard.specs.Message.{IHave, Received, message_bytes}
 use Rattle.postcard.specs.Values.{wanted_value}
 use Rattle.wire.specs.Reader.Values.{ihaves_value, message_value}
 use Rattle.wire.specs.declared.reader.message.Message.{Message}
-use Rattle.block.specs.View.{state_of}
+use Rattle.steps.specs.Views.{shown}
 use Rattle.machine.specs.Kinds.Meaning.{Means}
 use Rattle.machine.specs.declared.kinds.Step.TheVariants as step
 use Rattle.machine.proofs.KindsLaws.MeaningLaws.{means-prune, means-graft, means-stranger-prune, means-stranger-graft, means-stranger-ihave, is-link, ihaves-held}
@@ -19,76 +19,76 @@ pub gossip_step-requires : goal.gossip_step-requires
 gossip_step-requires c =
     let a = c.args in
     let e = c.in-Gossip.is in
-    (c.requires.0, subst (λ (v : Message). length (message_bytes (message_value v)) ≤ a.h.settings.max_message_size) e c.requires.1)
+    (c.requires.0, subst (λ (v : Message). length (message_bytes (message_value v)) ≤ (shown a.view.now).settings.max_message_size) e c.requires.1)
 
 -- the list is held for the link that was found
 pub ihave_step-requires : goal.ihave_step-requires
 ihave_step-requires c =
     let a = c.args in
-    let t = state_of a.h a.block.now in
-    let f = subst (λ (o : Result ℕ ℕ). FoundIs (keys t.links) a.sender o) c.in-Ok-f-2.is c.find_link-f.ensures in
+    let t = shown a.view.now in
+    let f = subst (λ (o : Result ℕ ℕ). FoundIs (keys t.links) a.sender o) c.in-Ok-found-2.is c.find_link-found.ensures in
     let e = c.in-IHave.is in (
       c.requires.0,
-      ihaves-held a.h a.block.now c.in-Ok-f-2.link c.in-IHave.ihaves c.requires.0.ranged (is-link a.instant.0 t a.sender c.in-Ok-f-2.link c.requires.0.consistent.core f)
-          (subst (λ (v : Message). length (message_bytes (message_value v)) ≤ a.h.settings.max_message_size) e c.requires.1),
+      ihaves-held t c.in-Ok-found-2.link c.in-IHave.ihaves c.requires.0.ranged (is-link a.call.now.instant.0 t a.sender c.in-Ok-found-2.link c.requires.0.consistent.core f)
+          (subst (λ (v : Message). length (message_bytes (message_value v)) ≤ (shown a.view.now).settings.max_message_size) e c.requires.1),
     )
 
 pub returns-in-Gossip : goal.returns-in-Gossip
 returns-in-Gossip c =
     let a = c.args in
-    subst (λ (v : Message). Means a.instant.0 (state_of a.h a.block.now) c.gossip_step.result (Received a.sender (message_value v))) (sym c.in-Gossip.is) c.gossip_step.ensures
+    subst (λ (v : Message). Means a.call.now.instant.0 (shown a.view.now) c.gossip_step.result (Received a.sender (message_value v))) (sym c.in-Gossip.is) c.gossip_step.ensures
 
 pub returns-in-Ok : goal.returns-in-Ok
 returns-in-Ok c =
     let a = c.args in
-    let t = state_of a.h a.block.now in
-    let f = subst (λ (o : Result ℕ ℕ). FoundIs (keys t.links) a.sender o) c.in-Ok.is c.find_link-f.ensures in
+    let t = shown a.view.now in
+    let f = subst (λ (o : Result ℕ ℕ). FoundIs (keys t.links) a.sender o) c.in-Ok.is c.find_link-found.ensures in
     let e = c.in-Prune.is in
-    subst (λ (v : Message). Means a.instant.0 t (step.Prune c.in-Ok.link) (Received a.sender (message_value v))) (sym e)
-    (means-prune a.instant.0 t a.sender c.in-Ok.link c.requires.0.consistent.core f)
+    subst (λ (v : Message). Means a.call.now.instant.0 t (step.Prune c.in-Ok.link) (Received a.sender (message_value v))) (sym e)
+    (means-prune a.call.now.instant.0 t a.sender c.in-Ok.link c.requires.0.consistent.core f)
 
 pub returns-in-Err : goal.returns-in-Err
 returns-in-Err c =
     let a = c.args in
-    let t = state_of a.h a.block.now in
-    let f = subst (λ (o : Result ℕ ℕ). FoundIs (keys t.links) a.sender o) c.in-Err.is c.find_link-f.ensures in
+    let t = shown a.view.now in
+    let f = subst (λ (o : Result ℕ ℕ). FoundIs (keys t.links) a.sender o) c.in-Err.is c.find_link-found.ensures in
     let e = c.in-Prune.is in
-    subst (λ (v : Message). Means a.instant.0 t (step.Nothing) (Received a.sender (message_value v))) (sym e)
-    (means-stranger-prune a.instant.0 t a.sender _ c.requires.0.consistent.core f)
+    subst (λ (v : Message). Means a.call.now.instant.0 t (step.Nothing) (Received a.sender (message_value v))) (sym e)
+    (means-stranger-prune a.call.now.instant.0 t a.sender _ c.requires.0.consistent.core f)
 
-pub returns-in-Ok-f : goal.returns-in-Ok-f
-returns-in-Ok-f c =
+pub returns-in-Ok-found : goal.returns-in-Ok-found
+returns-in-Ok-found c =
     let a = c.args in
-    let t = state_of a.h a.block.now in
-    let f = subst (λ (o : Result ℕ ℕ). FoundIs (keys t.links) a.sender o) c.in-Ok-f.is c.find_link-f.ensures in
+    let t = shown a.view.now in
+    let f = subst (λ (o : Result ℕ ℕ). FoundIs (keys t.links) a.sender o) c.in-Ok-found.is c.find_link-found.ensures in
     let e = c.in-Graft.is in
-    subst (λ (v : Message). Means a.instant.0 t (step.Graft c.in-Ok-f.link c.in-Graft.wanted) (Received a.sender (message_value v))) (sym e)
-    (means-graft a.instant.0 t a.sender c.in-Ok-f.link c.requires.0.consistent.core f c.in-Graft.wanted c.in-Graft.round.0)
+    subst (λ (v : Message). Means a.call.now.instant.0 t (step.Graft c.in-Ok-found.link c.in-Graft.wanted) (Received a.sender (message_value v))) (sym e)
+    (means-graft a.call.now.instant.0 t a.sender c.in-Ok-found.link c.requires.0.consistent.core f c.in-Graft.wanted c.in-Graft.round.0)
 
-pub returns-in-Err-f : goal.returns-in-Err-f
-returns-in-Err-f c =
+pub returns-in-Err-found : goal.returns-in-Err-found
+returns-in-Err-found c =
     let a = c.args in
-    let t = state_of a.h a.block.now in
-    let f = subst (λ (o : Result ℕ ℕ). FoundIs (keys t.links) a.sender o) c.in-Err-f.is c.find_link-f.ensures in
+    let t = shown a.view.now in
+    let f = subst (λ (o : Result ℕ ℕ). FoundIs (keys t.links) a.sender o) c.in-Err-found.is c.find_link-found.ensures in
     let e = c.in-Graft.is in
-    subst (λ (v : Message). Means a.instant.0 t (step.Nothing) (Received a.sender (message_value v))) (sym e)
-    (means-stranger-graft a.instant.0 t a.sender _ c.requires.0.consistent.core f (wanted_value c.in-Graft.wanted) c.in-Graft.round.0)
+    subst (λ (v : Message). Means a.call.now.instant.0 t (step.Nothing) (Received a.sender (message_value v))) (sym e)
+    (means-stranger-graft a.call.now.instant.0 t a.sender _ c.requires.0.consistent.core f (wanted_value c.in-Graft.wanted) c.in-Graft.round.0)
 
-pub returns-in-Ok-f-2 : goal.returns-in-Ok-f-2
-returns-in-Ok-f-2 c =
+pub returns-in-Ok-found-2 : goal.returns-in-Ok-found-2
+returns-in-Ok-found-2 c =
     let a = c.args in
-    let t = state_of a.h a.block.now in
-    let f = subst (λ (o : Result ℕ ℕ). FoundIs (keys t.links) a.sender o) c.in-Ok-f-2.is c.find_link-f.ensures in
+    let t = shown a.view.now in
+    let f = subst (λ (o : Result ℕ ℕ). FoundIs (keys t.links) a.sender o) c.in-Ok-found-2.is c.find_link-found.ensures in
     let e = c.in-IHave.is in
-    subst (λ (v : Message). Means a.instant.0 t c.ihave_step.result (Received a.sender (message_value v))) (sym e)
-    (subst (λ (p : ℕ). Means a.instant.0 t c.ihave_step.result (Received p (IHave (ihaves_value c.in-IHave.ihaves)))) f.same
+    subst (λ (v : Message). Means a.call.now.instant.0 t c.ihave_step.result (Received a.sender (message_value v))) (sym e)
+    (subst (λ (p : ℕ). Means a.call.now.instant.0 t c.ihave_step.result (Received p (IHave (ihaves_value c.in-IHave.ihaves)))) f.same
     c.ihave_step.ensures)
 
-pub returns-in-Err-f-2 : goal.returns-in-Err-f-2
-returns-in-Err-f-2 c =
+pub returns-in-Err-found-2 : goal.returns-in-Err-found-2
+returns-in-Err-found-2 c =
     let a = c.args in
-    let t = state_of a.h a.block.now in
-    let f = subst (λ (o : Result ℕ ℕ). FoundIs (keys t.links) a.sender o) c.in-Err-f-2.is c.find_link-f.ensures in
+    let t = shown a.view.now in
+    let f = subst (λ (o : Result ℕ ℕ). FoundIs (keys t.links) a.sender o) c.in-Err-found-2.is c.find_link-found.ensures in
     let e = c.in-IHave.is in
-    subst (λ (v : Message). Means a.instant.0 t (step.Nothing) (Received a.sender (message_value v))) (sym e)
-    (means-stranger-ihave a.instant.0 t a.sender _ c.requires.0.consistent.core f (ihaves_value c.in-IHave.ihaves))
+    subst (λ (v : Message). Means a.call.now.instant.0 t (step.Nothing) (Received a.sender (message_value v))) (sym e)
+    (means-stranger-ihave a.call.now.instant.0 t a.sender _ c.requires.0.consistent.core f (ihaves_value c.in-IHave.ihaves))

@@ -1,51 +1,41 @@
 -- `limit_met`: questions 5 to 9, then the event.
-use mathlib.Core.Bool.{not}
-use mathlib.Core.Path.{sym, ap, subst}
-use native.Mathlib.Omega.{arith}
-use Rattle.postcard.proofs.FieldBack.{bytes-each}
-use Rattle.wire.specs.Reader.Gives.{number_of}
+use Rattle.std.proofs.Common.{sym}
+use mathlib.Core.Path.{subst}
+use Rattle.wire.specs.Reader.Values.{event_value}
+use Rattle.block.specs.View.{state_of}
 use Rattle.block.specs.declared.head.Head.{Head}
-use Rattle.steps.specs.Stands.{Stands}
-use Rattle.steps.proofs.SettledLaws.SizeLaws.{yes, no}
-use Rattle.whole.proofs.HeldLaws.{wholly_of}
+use Rattle.steps.specs.Panels.{AtRest}
+use Rattle.block.specs.Sound.{Sound}
+use Rattle.steps.proofs.AtRestLaws.{rest_of}
 use Rattle.machine.specs.Core.{core_rooms}
-use Rattle.machine.proofs.CoreLaws.{header-long, begun-of, read-shortened}
-use Rattle.machine.specs.LimitMet.LimitMet.{asking}
-use Rattle.machine.proofs.LimitMetLaws.LimitLaws.{limit-5, limit-6, limit-fault, core-limit}
+use Rattle.machine.proofs.CoreLaws.{Reads, begun-reads, begun-of, header-long}
+use Rattle.machine.proofs.LimitMetLaws.LimitLaws.{begun-limit, core-limit}
 use Rattle.machine.proofs.limit_met.limit_met.Goals as goal
+use Rattle.machine.proofs.limit_met.limit_met.Goals.{In-Ok, After-load_head}
 
-pub returns-then-not-whole : goal.returns-then-not-whole
-returns-then-not-whole c =
-    let a = c.args in
-    sym (limit-5 a.block.now (asking a.instant.0 a.event.now (core_rooms a.block.now a.event.now a.rooms)) (no c.is_whole-whole.ensures (ap not c.if-not-whole.true)))
+reads : (c : In-Ok) → Reads c.args.block.now c.args.instant.0 c.args.event.now (event_value c.in-Ok.event)
+reads c = begun-reads c.args.block.now c.args.instant.0 c.args.event.now (event_value c.in-Ok.event) c.in-Ok.ensures.means
 
-pub returns-then-instant-gt4611686018427387904 : goal.returns-then-instant-gt4611686018427387904
-returns-then-instant-gt4611686018427387904 c =
-    let a = c.args in
-    sym (limit-6 a.block.now (wholly_of a.block.now (yes c.is_whole-whole.ensures (ap not c.if-not-whole.false))) (asking a.instant.0 a.event.now (core_rooms a.block.now a.event.now a.rooms)) c.if-instant-gt4611686018427387904.true)
+pub load_head-requires : goal.load_head-requires
+load_head-requires c = header-long c.args.block.now (reads (goal.at.load_head-requires c).In-Ok).wholly
 
-pub load_head-h-requires : goal.load_head-h-requires
-load_head-h-requires c =
-    let a = c.args in
-    header-long a.block.now (wholly_of a.block.now (yes c.is_whole-whole.ensures (ap not c.if-not-whole.false)))
+pub invariant_of-view : goal.invariant_of-view
+invariant_of-view c = record { sound = subst (λ (h : Head). Sound h c.args.block.now) (sym c.load_head.ensures) (reads (goal.at.invariant_of-view c).In-Ok).wholly.sound }
+
+rest : (c : After-load_head) → AtRest (state_of c.load_head.result c.args.block.now)
+rest c =
+    let r = reads (goal.at.After-load_head c).In-Ok in
+    subst (λ (h : Head). AtRest (state_of h c.args.block.now)) (sym c.load_head.ensures) (rest_of _ c.args.block.now (begun-of c.args.block.now r.wholly c.args.instant.0 r.early).stands)
 
 pub event_limit-requires : goal.event_limit-requires
-event_limit-requires c =
-    let a = c.args in
-    let w = wholly_of a.block.now (yes c.is_whole-whole.ensures (ap not c.if-not-whole.false)) in (
-      subst (λ (g : Head). Stands g a.block.now) (sym c.load_head-h.ensures) (begun-of a.block.now w a.instant.0 c.if-instant-gt4611686018427387904.false).stands,
-      read-shortened a.event.now c.in-Ok.e (bytes-each a.event.now (λ i. omega (arith, c.type_inv.event i))) c.in-Ok.ensures.means c.in-Ok.ensures.sized,
-    )
+event_limit-requires c = (rest (goal.at.event_limit-requires c).After-load_head, c.in-Ok.ensures.shortened)
 
-pub returns-in-Ok : goal.returns-in-Ok
-returns-in-Ok c =
+pub returns : goal.returns
+returns c =
     let a = c.args in
-    let w = wholly_of a.block.now (yes c.is_whole-whole.ensures (ap not c.if-not-whole.false)) in
-    core-limit a.block.now a.event.now a.rooms c.load_head-h.result a.instant.0 c.in-Ok.e c.event_peer.result c.event_limit.result w c.load_head-h.ensures c.if-instant-gt4611686018427387904.false
-    c.in-Ok.ensures.means c.in-Ok.ensures.sized c.event_peer.ensures c.event_limit.ensures
+    core-limit a.block.now a.event.now a.rooms c.load_head.result a.instant.0 c.in-Ok.event c.event_peer.result c.event_limit.result (reads (goal.at.returns c).In-Ok) c.load_head.ensures c.in-Ok.ensures.sized c.event_peer.ensures c.event_limit.ensures
 
-pub returns-in-Err : goal.returns-in-Err
-returns-in-Err c =
+pub returns-in_default : goal.returns-in_default
+returns-in_default c =
     let a = c.args in
-    let w = wholly_of a.block.now (yes c.is_whole-whole.ensures (ap not c.if-not-whole.false)) in
-    sym (limit-fault a.block.now w (asking a.instant.0 a.event.now (core_rooms a.block.now a.event.now a.rooms)) (number_of c.in-Err.field-0) c.if-instant-gt4611686018427387904.false c.in-Err.ensures.means)
+    sym (begun-limit a.block.now a.instant.0 a.event.now c.in_default.field-0 (core_rooms a.block.now a.event.now a.rooms) c.in_default.ensures.means)

@@ -1,16 +1,17 @@
--- `step_limit`: questions 12 and 13 are answered by what the step tells of itself.
-use mathlib.Core.Path.{sym, ◌∙◌}
-use Rattle.block.specs.View.{state_of}
-use Rattle.steps.specs.Rooms.{rooms_in}
+-- `step_limit` meets its contract: questions 12 and 13 of the step.
+use Rattle.std.proofs.Common.{sym, ◌∙◌}
+use Rattle.steps.specs.Views.{shown}
 use Rattle.machine.proofs.LimitMetLaws.StepLaws.{far-past, near-past}
 use Rattle.machine.proofs.limit_met.step_limit.Goals as goal
 
-pub returns-then-far : goal.returns-then-far
-returns-then-far c =
-    let a = c.args in
-    far-past (rooms_in (state_of a.h a.block.now) a.rooms.now) a.instant.0 a.step (state_of a.h a.block.now) (sym c.is_far-far.ensures ∙ c.if-far.true)
+pub step_sizes-requires : goal.step_sizes-requires
+step_sizes-requires c = c.requires.0
+
+pub limit_past-requires : goal.limit_past-requires
+limit_past-requires c = c.args.view.now.sound.fit.ceilings
+
+pub returns-then-is_far : goal.returns-then-is_far
+returns-then-is_far c = far-past c.args.call.now c.args.step (shown c.args.view.now) (sym c.is_far.ensures ∙ c.if-is_far.true)
 
 pub returns : goal.returns
-returns c =
-    let a = c.args in
-    near-past (rooms_in (state_of a.h a.block.now) a.rooms.now) a.instant.0 a.step a.h a.block.now c.step_sizes-sizes.result c.limit_past.result (sym c.is_far-far.ensures ∙ c.if-far.false) c.step_sizes-sizes.ensures c.limit_past.ensures
+returns c = near-past c.args.call.now c.args.step c.args.view.now c.step_sizes.result c.limit_past.result (sym c.is_far.ensures ∙ c.if-is_far.false) c.requires.1.limits c.step_sizes.ensures c.limit_past.ensures

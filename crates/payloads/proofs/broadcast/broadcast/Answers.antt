@@ -1,31 +1,36 @@
--- `broadcast` meets its contract: the message is taken in, the lazy push is queued, and what the eager push got back is noted.
+-- The message is taken in, the lazy push is queued, and what the eager push got back is noted.
+use Rattle.std.proofs.Common.{ap, ◌∙◌}
 use Rattle.storage.specs.Rows.Ident.{id_of}
-use Rattle.payloads.proofs.BroadcastLaws.StepLaws.{takes, lazy-asks, back-asks, broadcast-goes}
+use Rattle.decide.specs.StateAfter.{lazy_state}
+use Rattle.steps.specs.Panels.{state}
+use Rattle.payloads.proofs.PushedLaws.{own-number}
+use Rattle.payloads.proofs.BroadcastStateLaws.{takes, lazy-asks, back-asks, end-is}
 use Rattle.payloads.proofs.broadcast.broadcast.Goals as goal
 
-pub take_in-a-requires : goal.take_in-a-requires
-take_in-a-requires c =
+pub take_in-requires : goal.take_in-requires
+take_in-requires c =
     let a = c.args in
-    takes a.instant.0 a.rooms.now (id_of a.id) a.content.now a.h a.block.now c.requires.0 c.requires.1
+    takes a.call.now a.id a.content.now (state a.panel.now) c.requires.0 c.requires.1
 
-pub lazy_push-b-requires : goal.lazy_push-b-requires
-lazy_push-b-requires c =
-    let t = c.take_in-a in
+pub lazy_push-requires : goal.lazy_push-requires
+lazy_push-requires c =
     let a = c.args in
-    lazy-asks a.instant.0 a.rooms.now (id_of a.id) a.content.now a.h a.block.now c.requires.0 t.result t.new.block t.ensures
+    let p = a.panel.now in
+    lazy-asks a.call.now a.id a.content.now (state p) c.requires.0 p.head.settings.me (own-number p.head p.block.now) (state c.take_in.new.self) c.take_in.ensures.state
 
 pub note_back-requires : goal.note_back-requires
 note_back-requires c =
-    let l = c.lazy_push-b in
-    let t = c.take_in-a in
     let a = c.args in
-    back-asks a.instant.0 a.rooms.now (id_of a.id) a.content.now a.h a.block.now c.requires.0 t.result t.new.block t.ensures l.result l.new.block l.ensures
+    let p = a.panel.now in
+    back-asks a.call.now a.id a.content.now (state p) c.requires.0 p.head.settings.me (own-number p.head p.block.now) (state c.lazy_push.new.self)
+    (c.lazy_push.ensures.state ∙ ap (lazy_state (id_of a.id) 0 p.head.settings.me) c.take_in.ensures.state)
 
 pub returns : goal.returns
 returns c =
-    let n = c.note_back in
-    let l = c.lazy_push-b in
-    let t = c.take_in-a in
     let a = c.args in
-    broadcast-goes a.instant.0 a.rooms.now (id_of a.id) a.content.now a.h a.block.now c.requires.0 t.result t.new.block t.ensures l.result l.new.block l.ensures
-    n.result n.new.block n.ensures
+    let p = a.panel.now in
+    record {
+      state = end-is a.call.now a.id a.content.now (state p) c.requires.0 p.head.settings.me (own-number p.head p.block.now) (state c.lazy_push.new.self) (state c.note_back.new.panel)
+          (c.lazy_push.ensures.state ∙ ap (lazy_state (id_of a.id) 0 p.head.settings.me) c.take_in.ensures.state) c.note_back.ensures.state;
+      loan = c.note_back.ensures.loan ∙ c.lazy_push.ensures.loan ∙ c.take_in.ensures.loan;
+    }

@@ -1,36 +1,38 @@
--- `broadcast_actions` meets its contract: by the scope.
-use mathlib.Core.Path.{◌≡◌, sym, ap}
-use mathlib.Core.List.{List}
-use Prim.Native.Nat.{ℕ}
-use Rattle.storage.specs.Rows.Ident.{id_of}
-use Rattle.postcard.specs.Values.{scope_value}
-use Rattle.postcard.specs.declared.message.Scope.{Scope}
+-- `broadcast_actions` meets its contract: a dispatch timer and the push, or the push alone.
+use Rattle.std.proofs.Common.{ap, sym, ◌∙◌, List, ℕ}
+use Rattle.postcard.specs.Values.{delivery_value}
 use Rattle.block.specs.View.{state_of}
-use Rattle.steps.proofs.TicksLaws.ActionLaws.{tellable-as, written_as}
-use Rattle.payloads.specs.Broadcast.Broadcasts.{broadcast_bytes}
+use Rattle.wire.specs.Encode.Held.{after}
+use Rattle.steps.specs.Views.{shown}
+use Rattle.payloads.proofs.AfterLaws.{room-first, room-then, after-both}
+use Rattle.payloads.proofs.BroadcastLaws.{swarm-bytes, near-bytes}
 use Rattle.payloads.proofs.broadcast.broadcast_actions.Goals as goal
-use Rattle.payloads.proofs.broadcast.broadcast_actions.Goals.{Start}
 
--- the bytes of the scope that was found
-module _ (s : Start) where
-  abbrev bytes : Scope → List ℕ
-  bytes v = broadcast_bytes s.args.instant.0 s.args.rooms.now (id_of s.args.id) s.args.content.now (scope_value v) (state_of s.args.h s.args.block.now)
+pub schedule_dispatch-requires : goal.schedule_dispatch-requires
+schedule_dispatch-requires g c =
+    let a = c.args in
+    room-first _ _ _ (swarm-bytes a.call.now a.message.now a.call.now.instant.0 (shown a.view.now) c.in-Swarm.field-0.0 (ap delivery_value c.in-Swarm.is) c.requires.first) _ c.requires.room
 
-  as-found : (v : Scope) → s.args.scope ≡ v → bytes s.args.scope ≡ bytes v
-  as-found v e = ap bytes e
+pub eager_push-requires-clause-room : goal.eager_push-requires-clause-room
+unfolding state_of
+eager_push-requires-clause-room g c =
+    let a = c.args in
+    room-then _ _ _ (swarm-bytes a.call.now a.message.now a.call.now.instant.0 (shown a.view.now) c.in-Swarm.field-0.0 (ap delivery_value c.in-Swarm.is) c.requires.first) _ _ c.schedule_dispatch.ensures c.requires.room
 
-pub swarm_actions-requires : goal.swarm_actions-requires
-swarm_actions-requires c =
-    record { stands = c.requires.stands; tellable = tellable-as (as-found (goal.at.swarm_actions-requires c).Start _ c.in-Swarm.is) c.requires.tellable }
-
-pub neighbors_actions-requires : goal.neighbors_actions-requires
-neighbors_actions-requires c =
-    record { stands = c.requires.stands; tellable = tellable-as (as-found (goal.at.neighbors_actions-requires c).Start _ c.in-Neighbors.is) c.requires.tellable }
+pub push_sends-requires-clause-room : goal.push_sends-requires-clause-room
+unfolding state_of
+push_sends-requires-clause-room g c =
+    let a = c.args in
+    rw (near-bytes a.call.now a.message.now a.call.now.instant.0 (shown a.view.now) (ap delivery_value c.in-Neighbors.is)) at c.requires.room
 
 pub returns-in-Swarm : goal.returns-in-Swarm
-returns-in-Swarm c =
-    written_as (sym (as-found (goal.at.returns-in-Swarm c).Start _ c.in-Swarm.is)) c.swarm_actions.ensures
+unfolding state_of
+returns-in-Swarm g c =
+    let a = c.args in
+    after-both _ _ _ (swarm-bytes a.call.now a.message.now a.call.now.instant.0 (shown a.view.now) c.in-Swarm.field-0.0 (ap delivery_value c.in-Swarm.is) c.requires.first) _ _ _ c.schedule_dispatch.ensures c.eager_push.ensures
 
 pub returns-in-Neighbors : goal.returns-in-Neighbors
-returns-in-Neighbors c =
-    written_as (sym (as-found (goal.at.returns-in-Neighbors c).Start _ c.in-Neighbors.is)) c.neighbors_actions.ensures
+unfolding state_of
+returns-in-Neighbors g c =
+    let a = c.args in
+    c.push_sends.ensures.sent ∙ ap (λ (bs : List ℕ). after bs (g.S.Sink.held a.out.now)) (sym (near-bytes a.call.now a.message.now a.call.now.instant.0 (shown a.view.now) (ap delivery_value c.in-Neighbors.is)))

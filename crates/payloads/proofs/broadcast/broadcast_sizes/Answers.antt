@@ -1,25 +1,25 @@
--- `broadcast_sizes` meets its contract: the message taken in, and the notes that the record gets.
-use native.Mathlib.Omega.{arith}
+-- The numbers with the message taken in, what the lazy push queues, and what is noted.
+use Rattle.std.proofs.Common.{arith}
 use Rattle.storage.specs.Rows.Ident.{id_of}
-use Rattle.steps.specs.declared.Held.TheVariants.{Nothing}
-use Rattle.payloads.proofs.EagerLaws.CallLaws.{pushing}
-use Rattle.payloads.proofs.BroadcastLaws.SizeLaws.{sizes-few, broadcast-is}
+use Rattle.payloads.proofs.PushedLaws.{taken-few}
+use Rattle.payloads.proofs.BroadcastStateLaws.{held_then, held-id, sizes-are}
 use Rattle.payloads.proofs.broadcast.broadcast_sizes.Goals as goal
 
-pub push_gains-gains-requires : goal.push_gains-gains-requires
-push_gains-gains-requires c =
-    pushing c.args.h c.args.block.now Nothing c.requires.0 tt
-
-pub overflow_add-z : goal.overflow_add-z
-overflow_add-z c =
-    let g = c.push_gains-gains in
-    let t = c.taken_sizes-z in
+pub overflow_add-sizes : goal.overflow_add-sizes
+overflow_add-sizes c =
     let a = c.args in
-    omega (arith, sizes-few a.instant.0 a.rooms.now (id_of a.id) a.len a.h a.block.now t.result t.ensures g.result g.ensures c.requires.0)
+    let v = a.view.now in
+    omega (arith, c.lazy_count.ensures.few, (taken-few a.call.now.instant.0 (id_of a.id) a.content.now 0 v.head v.block.now c.taken_sizes-sizes.result (c.taken_sizes-sizes.ensures 0) v.sound).0)
+
+pub overflow_add-sizes-2 : goal.overflow_add-sizes-2
+overflow_add-sizes-2 c =
+    let a = c.args in
+    let v = a.view.now in
+    omega (arith, c.len.ensures, c.to_note.ensures.few, (taken-few a.call.now.instant.0 (id_of a.id) a.content.now 0 v.head v.block.now c.taken_sizes-sizes.result (c.taken_sizes-sizes.ensures 0) v.sound).1)
 
 pub returns : goal.returns
 returns c =
-    let g = c.push_gains-gains in
-    let t = c.taken_sizes-z in
     let a = c.args in
-    broadcast-is a.instant.0 a.rooms.now (id_of a.id) a.len a.h a.block.now t.result t.ensures g.result g.ensures
+    let v = a.view.now in
+    rw c.len.ensures (sizes-are a.call.now a.id a.content.now v.head v.block.now c.taken_sizes-sizes.result (c.taken_sizes-sizes.ensures 0) c.lazy_count.result c.lazy_count.ensures.count c.to_note.result
+    (c.to_note.ensures.noted (held_then a.call.now a.id a.content.now v.head v.block.now) 0 (held-id a.call.now a.id a.content.now v.head v.block.now)))

@@ -5,7 +5,7 @@ use Rattle.time_cache.specs.TimeCache.{get}
 use Rattle.time_cache.specs.Tables.{cache_at, Lies, Sound}
 use Rattle.time_cache.specs.declared.cache.TimeBoundCache.{TimeBoundCache}
 use Rattle.block.proofs.CachesLaws.CachedLaws.{cached-lies, cached-sound}
-use Rattle.steps.specs.Shared.{HeldIs}
+use Rattle.steps.specs.Shared.{EntryIs}
 use Rattle.steps.proofs.StandsLaws.{cached-order}
 use Rattle.steps.specs.Settled.Then.{no_held, left_then}
 use Rattle.steps.proofs.SettledLaws.ThenLaws.{cached-held}
@@ -23,4 +23,4 @@ returns c =
     let xs = c.args.block.now in
     let k = id_of c.args.id in
     cached-held h xs c.requires.sound.fit c.args.instant.0 k c.held_then.result
-    (subst (λ (t : TimeBoundCache). HeldIs no_held (cache_at t xs).entries k (get k (left_then h.live.init c.args.instant.0 (cache_at t xs))) c.held_then.result) c.cached_cache-c.ensures c.held_then.ensures)
+    (subst (λ (t : TimeBoundCache). EntryIs no_held (cache_at t xs).entries k (get k (left_then h.live.init c.args.instant.0 (cache_at t xs))) c.held_then.result) c.cached_cache-c.ensures c.held_then.ensures)

@@ -1,5 +1,4 @@
 -- `contents_later`: the bytes of the first i contents that expire later.
-use Prim.Native.Nat.{◌-◌}
 use native.Mathlib.Omega.{arith}
 use borrow.Author.Tests.{lt-ltb, le-ltb}
 use Rattle.steps.proofs.SettledLaws.SizeLaws.{bytes-start, bytes-later, bytes-gone, bytes-end}

@@ -1,8 +1,12 @@
 -- `later_sizes`: each number is that of the entries that expire later.
-use mathlib.Core.Path.{refl}
+use Rattle.std.proofs.Common.{refl, sym, ◌∙◌}
+use Rattle.block.specs.View.{state_of}
+use Rattle.steps.proofs.EvictStepLaws.{evict-lengths}
 use Rattle.steps.proofs.SettledLaws.SizeLaws.{sizes-later}
 use Rattle.steps.proofs.settled.later_sizes.Goals as goal
 
 pub returns : goal.returns
 returns c =
+    let a = c.args in
     sizes-later c.args.instant.0 c.args.h c.args.block.now c.requires.sound _ refl c.received_later-received.ensures c.received_rows_later-received_rows.ensures c.cached_later-cached.ensures c.cached_rows_later-cached_rows.ensures c.contents_later-contents.ensures c.grafted_later-grafted.ensures c.grafted_rows_later-grafted_rows.ensures refl refl refl refl
+    ∙ sym (evict-lengths a.instant.0 (state_of a.h a.block.now) c.requires.consistent.core)

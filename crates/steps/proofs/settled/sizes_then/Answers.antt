@@ -2,6 +2,7 @@
 use mathlib.Core.Path.{sym, ◌∙◌}
 use Rattle.block.specs.View.{state_of}
 use Rattle.steps.proofs.SettledLaws.ThenLaws.{init-of}
+use Rattle.steps.proofs.EvictStepLaws.{evict-lengths}
 use Rattle.steps.proofs.SettledLaws.SizeLaws.{sizes-still, sizes-evicted}
 use Rattle.steps.proofs.settled.sizes_then.Goals as goal
 
@@ -13,4 +14,4 @@ returns-then-h c =
 pub returns : goal.returns
 returns c =
     let a = c.args in
-    c.later_sizes.ensures ∙ sym (sizes-evicted a.instant.0 (state_of a.h a.block.now) (init-of a.h a.block.now ∙ c.if-h.false))
+    c.later_sizes.ensures ∙ evict-lengths a.instant.0 (state_of a.h a.block.now) c.requires.consistent.core ∙ sym (sizes-evicted a.instant.0 (state_of a.h a.block.now) (init-of a.h a.block.now ∙ c.if-h.false))

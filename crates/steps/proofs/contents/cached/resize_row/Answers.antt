@@ -1,6 +1,6 @@
 -- `cached::resize_row` meets its contract: the contents behind move, their starts with them, and content and length are stored.
 use mathlib.Core.Path.{◌≡◌, ◌∙◌}
-use Prim.Native.Nat.{ℕ, ◌+◌, ◌-◌, ◌≤◌, ◌<◌}
+use Prim.Native.Nat.{ℕ, ◌+◌, ◌≤◌, ◌<◌}
 use native.Mathlib.Omega.{arith}
 use lib.ListN.{length}
 use Rattle.time_cache.specs.Tables.{row_at}

@@ -1,6 +1,6 @@
 -- `reads::find_graft` meets its contract: the peers before j are below the peer of the link, since links ascend by their peers.
 use mathlib.Core.Path.{◌≡◌, sym, ap, ◌∙◌}
-use Prim.Native.Nat.{ℕ, ◌-◌, ◌<◌}
+use Prim.Native.Nat.{ℕ, ◌<◌}
 use lib.ListN.{length, get_or, length-map}
 use Rattle.storage.specs.Lists.Map.{Map, Entry, keys}
 use Rattle.time_cache.proofs.Orders.{up_of}

@@ -1,7 +1,7 @@
 -- `renumber::raise_rows`: the numbers of the first k rows are raised, the other rows are as they were. The measure is n - k.
 use mathlib.Core.Path.{◌≡◌, refl, sym, ap, ◌∙◌, subst}
 use mathlib.Core.List.{List, []}
-use Prim.Native.Nat.{ℕ, ◌+◌, ◌-◌, ◌*◌, ◌≤◌}
+use Prim.Native.Nat.{ℕ, ◌+◌, ◌*◌, ◌≤◌}
 use lib.ListN.{length, get_or}
 use Rattle.storage.specs.Rows.Part.{part}
 use Rattle.storage.specs.Rows.Rows.{rows}

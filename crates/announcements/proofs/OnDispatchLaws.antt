@@ -1,0 +1,10 @@
+pub mod QueueLaws
+pub mod LinkPeers
+pub mod MarkLaws
+pub mod RowLaws
+pub mod SendLaws
+pub mod LinkRows
+pub mod NotedLaws
+pub mod BatchLaws
+pub mod StateLaws
+pub mod ActionLoop

@@ -1,0 +1,62 @@
+-- Marks, one identifier after the other.
+-- Assumes nothing.
+use mathlib.Core.Path.{◌≡◌, refl, sym, ap, ◌∙◌}
+use mathlib.Core.Logic.{◌⊎◌, inl, inr, ⊎_elim}
+use mathlib.Core.Bool.{Bool, true, false, ◌||◌}
+use mathlib.Core.List.{List, [], ◌∷◌, ◌++◌}
+use Prim.Native.Nat.{ℕ, ◌+◌, ◌*◌, ◌%◌, ◌^◌, ◌<◌}
+use native.Mathlib.Omega.{arith}
+use borrow.Author.Tests.{eqb-true, eqb-false}
+use lib.Dec.{eqb}
+use lib.ListN.{length, get_or, set, length-set}
+use lib.Seq.{get_or-set_same, get_or-set_other}
+use Rattle.storage.proofs.ListsLaws.MapLaws.{cases, true≢}
+use Rattle.storage.proofs.ListsLaws.Lists.{any_append, any-one, or_cases}
+use Rattle.postcard.specs.Message.{Ihave}
+use Rattle.announcements.specs.QueuedRows.{among}
+use Rattle.announcements.specs.Marks.{low_of, Covers}
+
+-- the low twelve bits of an identifier are those of its last word
+pub low-twelve : (q w : ℕ) → w % 4096 ≡ low_of (q * 2 ^ 64 + w)
+unfolding low_of
+low-twelve q w = omega arith
+
+pub low-in : (id : ℕ) → low_of id < 4096
+unfolding low_of
+low-in id = omega arith
+
+module _ {known : ℕ → Bool} {marks : List ℕ} (c : Covers known marks) where
+  -- what is known only if it was known before
+  pub covers-same : (after : ℕ → Bool) → ((j : ℕ) → after j ≡ true → known j ≡ true) → Covers after marks
+  covers-same after f = record { told = λ j h. c.told j (f j h); long = c.long }
+
+  -- one identifier more is marked
+  pub covers_more : (id : ℕ) (after : ℕ → Bool) → ((j : ℕ) → after j ≡ true → (known j ≡ true) ⊎ (j ≡ id)) → Covers after (set marks (low_of id) 1)
+  covers_more id after f = record {
+    told = λ j h.
+        cases (eqb (low_of j) (low_of id))
+        (λ e. ap (λ (n : ℕ). get_or (set marks (low_of id) 1) n 0) (eqb-true (low_of j) (low_of id) e) ∙ get_or-set_same marks (low_of id) 1 0 within)
+        (λ e. get_or-set_other marks (low_of id) (low_of j) 1 0 (eqb-false (low_of j) (low_of id) e) ∙ ⊎_elim (λ k. c.told j k) (λ s. absurd (eqb-false (low_of j) (low_of id) e (ap low_of s))) (f j h));
+    long = length-set marks (low_of id) 1 ∙ c.long;
+  }
+    where
+      within : low_of id < length marks
+      within = omega (arith, c.long, low-in id)
+
+  -- an identifier without its mark is not known
+  pub covers-clear : (id : ℕ) → get_or marks (low_of id) 0 ≡ 0 → known id ≡ false
+  covers-clear id e = on (known id) refl
+    where
+      on : (b : Bool) → known id ≡ b → b ≡ false
+      on true h = absurd (omega (arith, c.told id h))
+      on false h = refl
+
+pub covers-none : (known : ℕ → Bool) (marks : List ℕ) → length marks ≡ 4096 → ((j : ℕ) → known j ≡ false) → Covers known marks
+covers-none known marks l f = record { told = λ j h. true≢ (sym (f j) ∙ h); long = l }
+
+-- of what is handed back, one identifier more
+pub among-known : (a : Bool) (hs : List Ihave) (x : Ihave) (j : ℕ) → (a || among j (hs ++ (x ∷ []))) ≡ true → ((a || among j hs) ≡ true) ⊎ (j ≡ x.id)
+among-known true hs x j h = inl refl
+among-known false hs x j h =
+    ⊎_elim (λ b. inl b) (λ b. inr (sym (eqb-true x.id j b)))
+    (or_cases (among j hs) (eqb x.id j) (ap (λ (b : Bool). among j hs || b) (sym (any-one (λ y. eqb y.id j) x)) ∙ sym (any_append (λ y. eqb y.id j) hs (x ∷ [])) ∙ h))

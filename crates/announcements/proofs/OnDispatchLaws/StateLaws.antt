@@ -1,0 +1,103 @@
+-- The state after a dispatch, and the numbers of its entries.
+-- Assumes nothing.
+use Rattle.std.proofs.Common.{◌≡◌, ℕ, ◌≤◌, length, sym, ◌∙◌, ap, refl, Bool, true, false, List, [], ◌++◌, take}
+use lib.Dec.{leb}
+use Rattle.std.proofs.Math.Seq.{take_all}
+use borrow.Author.Tests.{leb-true}
+use Rattle.storage.proofs.ListsLaws.MapLaws.{and_left, and_right}
+use Rattle.storage.specs.Lists.Map.{keys}
+use Rattle.protocol.specs.Links.{Links}
+use Rattle.protocol.specs.State.{State, Note, with_dropped, with_queue, with_dispatch_scheduled}
+use Rattle.protocol.specs.Ticks.{per_message, queued_peers}
+use Rattle.protocol.specs.Whole.{fits, content_held}
+use Rattle.protocol.specs.Consistent.{Flagged}
+use Rattle.decide.specs.RecordGrowth.{cached_in, add_batches}
+use Rattle.decide.specs.Pieces.{dispatch_batches}
+use Rattle.decide.specs.Settled.{settled}
+use Rattle.decide.specs.Sizes.{Sizes, sizes_of, sized_queued, sized_recorded}
+use Rattle.decide.specs.StateAfter.{recorded_state, dispatch_state}
+use Rattle.decide.proofs.StateLaws.{flag-stands}
+use Rattle.storage.specs.Lists.Base.{is_empty}
+use Rattle.protocol.specs.State.{with_announce_scheduled}
+use Rattle.steps.specs.Calls.{rooms_of}
+use Rattle.steps.specs.Panels.{standing}
+use Rattle.steps.specs.Shared.{sizes_value}
+use Rattle.steps.specs.declared.Sizes.{Sizes as CodeSizes}
+use Rattle.steps.specs.declared.call.Call.{Call}
+use Rattle.steps.proofs.AtRestLaws.{settled-as, same_links, same_dropped}
+use Rattle.steps.proofs.RoomsLaws.{same-rooms-in}
+use Rattle.steps.proofs.SettledLaws.ThenLaws.{settled-still}
+use Rattle.announcements.specs.OnDispatchTimer.{after_dispatch}
+use Rattle.announcements.specs.QueuedRows.{held_then, notes_at, noted_again, back_noted}
+
+-- what is noted, by which identifiers are cached
+abbrev pub noted_by : (ℕ → Bool) → Call → State → List Note
+noted_by held call s = add_batches held (dispatch_batches (rooms_of call s) (queued_peers s.queue) (per_message s.settings.max_message_size) s.queue) s.dropped
+
+module _ (call : Call) (s : State) where
+  pub dropped-after : (after_dispatch call s).dropped ≡ noted_by (cached_in s.cache) call s
+  unfolding dispatch_state recorded_state
+  dropped-after = refl
+
+  pub state-after : after_dispatch call s ≡ with_dispatch_scheduled false (with_queue [] (back_noted call s))
+  unfolding dispatch_state
+  state-after = refl
+
+  pub sizes-after : sizes_of (after_dispatch call s) ≡ sized_queued 0 (sized_recorded (length (after_dispatch call s).dropped) (sizes_of s))
+  unfolding dispatch_state recorded_state sizes_of content_held
+  sizes-after = refl
+
+  -- nothing is noted
+  pub none-state : Flagged s.dropped s.timers.announce → noted_by (cached_in s.cache) call s ≡ s.dropped → after_dispatch call s ≡ with_dispatch_scheduled false (with_queue [] s)
+  unfolding recorded_state
+  none-state f e =
+      state-after
+      ∙ ap (λ (ds : List Note). with_dispatch_scheduled false (with_queue [] (recorded_state ds s))) e
+      ∙ (λ k. with_dispatch_scheduled false (with_queue [] (with_announce_scheduled (sym (flag-stands (is_empty s.dropped) s.timers.announce f) k) s)))
+
+fits-dropped : (s : State) → fits s ≡ true → length s.dropped ≤ s.limits.D
+unfolding fits
+fits-dropped s h =
+    let t : leb (length s.dropped) s.limits.D ≡ true = search (and_left, and_right) depth 20 in
+    leb-true (length s.dropped) s.limits.D t
+
+pub noted-fits : (call : Call) (s : State) → fits (after_dispatch call s) ≡ true → length (noted_by (cached_in s.cache) call s) ≤ s.limits.D
+unfolding dispatch_state recorded_state
+noted-fits call s h = fits-dropped (after_dispatch call s) h
+
+-- once a first event has evicted
+module _ (now : ℕ) (call : Call) (s : State) where
+  pub settled-dropped : (after_dispatch call (settled now s)).dropped ≡ noted_by (held_then now s) call s
+  settled-dropped =
+      dropped-after call (settled now s)
+      ∙ (λ i. add_batches (held_then now s) (dispatch_batches (rooms i) (queued_peers (queue i)) (per_message (size i)) (queue i)) (same_dropped now s i))
+    where
+      rooms : rooms_of call (settled now s) ≡ rooms_of call s
+      rooms = same-rooms-in (settled now s) s call.rooms.numbers.now (ap (λ (l : Links). keys l) (same_links now s))
+
+      queue : (settled now s).queue ≡ s.queue
+      queue = settled-as now s (λ (u : State). u.queue) refl
+
+      size : (settled now s).settings.max_message_size ≡ s.settings.max_message_size
+      size = settled-as now s (λ (u : State). u.settings.max_message_size) refl
+
+  pub held-now : s.init ≡ true → held_then now s ≡ cached_in s.cache
+  held-now e = ap (λ (u : State). cached_in u.cache) (settled-still now s e)
+
+-- rows of the queue are noted, one after the other
+module _ (rows : List ℕ) where
+  -- those before row i
+  abbrev pub noted_first : ℕ → State → State
+  noted_first i s = with_dropped (s.dropped ++ notes_at s.queue (take i rows)) s
+
+  pub first-all : (i : ℕ) → length rows ≤ i → (s : State) → standing (noted_first i s) ≡ noted_again rows s
+  unfolding recorded_state
+  first-all i w s = ap (λ (l : List ℕ). standing (with_dropped (s.dropped ++ notes_at s.queue l) s)) (take_all i rows w)
+
+pub recorded-of : (t : State) (z : CodeSizes) → sizes_value z ≡ sizes_of t → z.dropped ≡ length t.dropped
+unfolding sizes_of
+recorded-of t z e = ap (λ (x : Sizes). x.recorded) e
+
+pub recorded-same : (t : State) → sizes_of t ≡ sized_recorded (length t.dropped) (sizes_of t)
+unfolding sizes_of
+recorded-same t = refl

@@ -1,9 +1,0 @@
--- `marks::low` meets its contract: the low bits of an identifier are those of its last word.
-use Prim.Native.Nat.{◌+◌, ◌*◌, ◌^◌}
-use Rattle.announcements.proofs.DispatchLaws.MarkLaws.{low-twelve}
-use Rattle.announcements.proofs.dispatch.marks.low.Goals as goal
-
-pub returns : goal.returns
-returns c =
-    let x = c.args.id in
-    low-twelve ((x.w0 * 2 ^ 64 + x.w1) * 2 ^ 64 + x.w2) x.w3

@@ -1,9 +1,0 @@
--- `stands_before`: the identifier is not among the entries taken.
-use Rattle.storage.specs.Rows.Ident.{id_of}
-use Rattle.wire.specs.Reader.Values.{ihaves_value}
-use Rattle.announcements.proofs.IhavesLaws.ScanLaws.{Absent}
-use Rattle.announcements.proofs.IhavesLaws.WalkLaws.{Walk}
-use Rattle.announcements.proofs.ihaves.stands_before.Given as goal
-
-abbrev pub invariant-loop-one : goal.invariant-loop-one
-invariant-loop-one l = Walk (Absent (id_of l.id) (ihaves_value l.fn.before)) (ihaves_value l.fn.before) (ihaves_value l.one-iterator)

@@ -1,0 +1,187 @@
+-- `move_oldest` meets its contract: row by row, and the record cut behind what stays.
+use Rattle.std.proofs.Common.{◌≡◌, ◌<◌, ◌≤◌, ◌∙◌, sym, ap, refl, length, get_or, arith, List, [], not, false, true, Bool}
+use mathlib.Core.Path.{subst}
+use borrow.Author.Tests.{ltb-true, ltb-false, not-true, not-false}
+use Rattle.storage.specs.Rows.Ident.{id_of}
+use Rattle.storage.specs.Lists.Map.{keys}
+use Rattle.time_cache.specs.TimeCache.{holds}
+use Rattle.protocol.specs.State.{State, Note}
+use Rattle.protocol.specs.Ticks.{younger}
+use Rattle.block.specs.NoteSteps.{note}
+use Rattle.block.specs.Caches.InBlock.{InOrder}
+use Rattle.block.proofs.NoteLaws.{count-dropped}
+use Rattle.steps.specs.Dropped.{NoteOf}
+use Rattle.steps.specs.Panels.{state}
+use Rattle.steps.proofs.PanelLaws.{same-state}
+use Rattle.steps.proofs.StandsLaws.{in_order}
+use Rattle.steps.proofs.ViewLaws.{links-few}
+use Rattle.announcements.proofs.AnnounceLaws.Turns.{Read}
+use Rattle.announcements.proofs.OnAnnounceDroppedTimerLaws.{held_now, entry, passing-start, passing-skip, passing-more, link-low, seen-small, still-not, younger-start, move-start, kept-few, same-rows, same-links, cached-in, row-in, move-skip, move-room, move-take, take-kept, keep-room, move-keep, keep-kept, move-end}
+use Rattle.announcements.proofs.on_announce_dropped_timer.move_oldest.Goals as goal
+use Rattle.announcements.proofs.on_announce_dropped_timer.move_oldest.Goals.{After-dropped_note-note, After-is_cached, then-is_oldest, else-is_oldest}
+
+pub loop-row-init : goal.loop-row-init
+loop-row-init c =
+    let s = state c.args.panel.now in
+    record {
+      passing = passing-start (held_now s) s c.none-passed.result.counts c.none-passed.ensures;
+      goes = record { state = move-start s c.requires; loan = refl };
+      kept = ap length (sym (younger-start (held_now s) s));
+    }
+
+pub dropped_note-note-requires : goal.dropped_note-note-requires
+dropped_note-note-requires c =
+    let p = c.args.panel.now in
+    omega (
+      arith,
+      c.loop-row-test.true,
+      count-dropped p.head p.block.now p.sound,
+      same-rows (state p) c.requires c.loop-row.row (state c.loop-row.panel) c.loop-row.invariant.goes.state c.loop-row.invariant.passing.within,
+      ap (λ (t : State). length t.dropped) (same-state c.loop-row.panel c.view.result c.view.ensures.head c.view.ensures.block),
+    )
+
+-- the note that was read
+module _ (d : After-dropped_note-note) where
+  abbrev s : State
+  s = state d.args.panel.now
+
+  abbrev q : State
+  q = state d.loop-row.panel
+
+  within : d.loop-row.row ≤ length s.dropped
+  within = d.loop-row.invariant.passing.within
+
+  few : length s.links ≤ 32
+  few = links-few d.args.panel.now.head d.args.panel.now.block.now d.args.panel.now.sound
+
+  low : d.loop-row.row < length s.dropped
+  low = let p = d.args.panel.now in omega (arith, d.loop-row-test.true, count-dropped p.head p.block.now p.sound)
+
+  row : NoteOf s (get_or s.dropped d.loop-row.row (note 0 0 0)) d.dropped_note-note.result
+  row = row-in s d.requires d.loop-row.row q d.loop-row.invariant.goes.state within d.dropped_note-note.result
+      (subst (λ (u : State). NoteOf u (get_or u.dropped d.loop-row.row (note 0 0 0)) d.dropped_note-note.result) (same-state d.loop-row.panel d.view.result d.view.ensures.head d.view.ensures.block) d.dropped_note-note.ensures)
+
+  read : Read (held_now s) (keys s.links) s.dropped d.loop-row.row d.loop-row.passed.counts d.dropped_note-note.result.link (id_of d.dropped_note-note.result.id) d.dropped_note-note.result.round.0
+  read = entry (held_now s) s d.requires.rest few d.loop-row.row d.loop-row.passed.counts d.loop-row.invariant.passing low d.dropped_note-note.result row
+
+-- whether it is cached
+held : (d : After-is_cached) → (b : Bool) → d.is_cached.result ≡ b → holds (id_of d.dropped_note-note.result.id) (state d.args.panel.now).cache ≡ b
+held d b e =
+    let r = (goal.at.After-is_cached d).After-dropped_note-note in
+    let i = id_of d.dropped_note-note.result.id in
+    sym (d.is_cached.ensures
+    ∙ ap (λ (u : State). holds i u.cache) (same-state d.loop-row.panel d.view-in-loop-row.result d.view-in-loop-row.ensures.head d.view-in-loop-row.ensures.block)
+    ∙ cached-in (s r) d.requires d.loop-row.row (q r) d.loop-row.invariant.goes.state (within r) i)
+    ∙ e
+
+pub is_cached-requires : goal.is_cached-requires
+is_cached-requires c =
+    subst (λ (u : State). InOrder u.cache)
+    (sym (same-state c.loop-row.panel c.view-in-loop-row.result c.view-in-loop-row.ensures.head c.view-in-loop-row.ensures.block ∙ c.loop-row.invariant.goes.state))
+    (in_order (state c.args.panel.now).cache c.requires.rest.consistent.core.cache_on)
+
+pub loop-row-preserved-then-not-is_cached : goal.loop-row-preserved-then-not-is_cached
+loop-row-preserved-then-not-is_cached c =
+    let d = (goal.at.loop-row-preserved-then-not-is_cached c).After-dropped_note-note in
+    let z = s d in
+    let i = c.loop-row.row in
+    let n = c.dropped_note-note.result in
+    let e = held (goal.at.loop-row-preserved-then-not-is_cached c).After-is_cached false (not-true c.is_cached.result (ap not c.if-not-is_cached.true)) in
+    let same = still-not (held_now z) z i (low d) n (row d) e in
+    record {
+      passing = passing-skip (held_now z) z c.requires.rest (few d) i c.loop-row.passed.counts c.loop-row.invariant.passing (low d) n (row d) e;
+      goes = record { state = move-skip z c.requires i (q d) c.loop-row.invariant.goes.state (within d) same; loan = c.loop-row.invariant.goes.loan };
+      kept = c.loop-row.invariant.kept ∙ ap (λ (ns : List Note). length (younger [] ns)) (sym same);
+    }
+
+pub is_oldest-requires-clause-link : goal.is_oldest-requires-clause-link
+is_oldest-requires-clause-link c =
+    let d = (goal.at.is_oldest-requires-clause-link c).After-dropped_note-note in
+    link-low (held_now (s d)) (s d) c.requires.rest (few d) c.loop-row.row c.loop-row.passed.counts c.loop-row.invariant.passing (low d) c.dropped_note-note.result (row d)
+
+pub is_oldest-requires-clause-few : goal.is_oldest-requires-clause-few
+is_oldest-requires-clause-few c =
+    let d = (goal.at.is_oldest-requires-clause-few c).After-dropped_note-note in
+    seen-small (held_now (s d)) (s d) c.requires.rest (few d) c.loop-row.row c.loop-row.passed.counts c.loop-row.invariant.passing (low d) c.dropped_note-note.result (row d)
+
+pub push_queued-requires-clause-room : goal.push_queued-requires-clause-room
+push_queued-requires-clause-room c =
+    let d = (goal.at.push_queued-requires-clause-room c).After-dropped_note-note in
+    let seen = get_or c.loop-row.passed.counts c.dropped_note-note.result.link 0 in
+    move-room (s d) c.requires c.loop-row.row (q d) c.loop-row.invariant.goes.state (within d) c.loop-row.passed.counts c.dropped_note-note.result (read d) (row d)
+    (held (goal.at.push_queued-requires-clause-room c).After-is_cached true (not-false c.is_cached.result (ap not c.if-not-is_cached.false))) (ltb-true seen 64 (sym c.is_oldest.ensures.oldest ∙ c.if-is_oldest.true))
+
+pub push_queued-requires-clause-link : goal.push_queued-requires-clause-link
+push_queued-requires-clause-link c =
+    let d = (goal.at.push_queued-requires-clause-link c).After-dropped_note-note in
+    omega (arith, (row d).below, same-links (s d) c.requires c.loop-row.row (q d) c.loop-row.invariant.goes.state (within d))
+
+pub set_dropped-requires : goal.set_dropped-requires
+set_dropped-requires c =
+    let d = (goal.at.set_dropped-requires c).After-dropped_note-note in
+    let seen = get_or c.loop-row.passed.counts c.dropped_note-note.result.link 0 in (
+      keep-room (s d) c.requires c.loop-row.row (q d) c.loop-row.invariant.goes.state (within d) c.loop-row.passed.counts c.dropped_note-note.result (read d) (row d)
+          (held (goal.at.set_dropped-requires c).After-is_cached true (not-false c.is_cached.result (ap not c.if-not-is_cached.false))) c.loop-row.kept c.loop-row.invariant.kept
+          (ltb-false seen 64 (sym c.is_oldest.ensures.oldest ∙ c.if-is_oldest.false)) (low d),
+      omega (arith, (row d).below, same-links (s d) c.requires c.loop-row.row (q d) c.loop-row.invariant.goes.state (within d)),
+    )
+
+pub overflow_add-kept : goal.overflow_add-kept
+overflow_add-kept c =
+    let d = (goal.at.overflow_add-kept c).After-dropped_note-note in
+    omega (arith, c.loop-row.invariant.kept, kept-few (s d) c.requires c.loop-row.row (q d) c.loop-row.invariant.goes.state (within d), low d, c.requires.rest.consistent.core.within.in_all)
+
+pub loop-row-preserved : goal.loop-row-preserved
+loop-row-preserved c =
+    let d = (goal.at.loop-row-preserved c).After-dropped_note-note in
+    let z = s d in
+    let i = c.loop-row.row in
+    let n = c.dropped_note-note.result in
+    let seen = get_or c.loop-row.passed.counts n.link 0 in
+    let e = held (goal.at.loop-row-preserved c).After-is_cached true (not-false c.is_cached.result (ap not c.if-not-is_cached.false)) in
+    let so = c.loop-row.invariant.goes.state in
+    record {
+      passing = passing-more (held_now z) z c.requires.rest (few d) i c.loop-row.passed.counts c.loop-row.invariant.passing (low d) n (row d) e c.is_oldest.new.self.counts c.is_oldest.ensures.counts;
+      goes = elim c.if-is_oldest.branch [
+        | then-is_oldest w ↦
+            let m : seen < 64 = ltb-true seen 64 (sym c.is_oldest.ensures.oldest ∙ w.if-is_oldest.true) in
+            rw w.panel-is (record {
+              state = w.push_queued.ensures.state
+                  ∙ move-take z c.requires i (q d) so (within d) c.loop-row.passed.counts n (read d) (row d) e m;
+              loan = w.push_queued.ensures.loan ∙ c.loop-row.invariant.goes.loan;
+            })
+        | else-is_oldest w ↦
+            let m : 64 ≤ seen = ltb-false seen 64 (sym c.is_oldest.ensures.oldest ∙ w.if-is_oldest.false) in
+            rw w.panel-is (record {
+              state = w.set_dropped.ensures.state
+                  ∙ move-keep z c.requires i (q d) so (within d) c.loop-row.passed.counts n (read d) (row d) e c.loop-row.kept c.loop-row.invariant.kept m (low d);
+              loan = w.set_dropped.ensures.loan ∙ c.loop-row.invariant.goes.loan;
+            })
+      ];
+      kept = elim c.if-is_oldest.branch [
+        | then-is_oldest w ↦
+            let m : seen < 64 = ltb-true seen 64 (sym c.is_oldest.ensures.oldest ∙ w.if-is_oldest.true) in
+            w.kept-is ∙ c.loop-row.invariant.kept ∙ ap length (sym (take-kept z c.requires i (q d) so (within d) c.loop-row.passed.counts n (read d) (row d) e m))
+        | else-is_oldest w ↦
+            let m : 64 ≤ seen = ltb-false seen 64 (sym c.is_oldest.ensures.oldest ∙ w.if-is_oldest.false) in
+            w.kept-is ∙ keep-kept z c.requires i (q d) so (within d) c.loop-row.passed.counts n (read d) (row d) e c.loop-row.kept c.loop-row.invariant.kept m
+      ];
+    }
+
+pub truncate_dropped-requires : goal.truncate_dropped-requires
+truncate_dropped-requires c =
+    let s = state c.args.panel.now in
+    let q = state c.loop-row.panel in
+    let so = c.loop-row.invariant.goes.state in
+    let within = c.loop-row.invariant.passing.within in
+    omega (arith, c.loop-row.invariant.kept, kept-few s c.requires c.loop-row.row q so within, within, same-rows s c.requires c.loop-row.row q so within)
+
+pub returns : goal.returns
+returns c =
+    let p = c.args.panel.now in
+    record {
+      state = c.truncate_dropped.ensures.state
+          ∙ move-end (state p) c.requires c.loop-row.row (state c.loop-row.panel) c.loop-row.invariant.goes.state c.loop-row.invariant.passing.within c.loop-row.kept c.loop-row.invariant.kept
+          (omega (arith, c.loop-row-test.false, count-dropped p.head p.block.now p.sound));
+      loan = c.truncate_dropped.ensures.loan ∙ c.loop-row.invariant.goes.loan;
+    }

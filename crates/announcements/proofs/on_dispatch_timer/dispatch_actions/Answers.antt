@@ -1,0 +1,20 @@
+-- `dispatch_actions` meets its contract: of an empty queue nothing is sent.
+use Rattle.std.proofs.Common.{◌≡◌, ℕ, List, [], sym, refl, ap, ◌∙◌, arith}
+use Rattle.std.proofs.lemmas.List.{nil_from_length}
+use Rattle.protocol.specs.State.{State}
+use Rattle.decide.specs.Settled.{settled}
+use Rattle.wire.specs.Encode.Held.{after}
+use Rattle.wire.proofs.EncodeLaws.HeldLaws.{after_nil}
+use Rattle.steps.specs.Calls.{rooms_of}
+use Rattle.steps.specs.Views.{shown}
+use Rattle.steps.proofs.AtRestLaws.{settled-as}
+use Rattle.announcements.proofs.OnDispatchLaws.SendLaws.{no-sends}
+use Rattle.announcements.proofs.on_dispatch_timer.dispatch_actions.Goals as goal
+
+pub returns-else-queue_len-gt0 : goal.returns-else-queue_len-gt0
+returns-else-queue_len-gt0 g c =
+    let s = shown c.args.view.now in
+    let t = settled c.args.call.now.instant.0 s in
+    let x = g.S.Sink.held c.args.out.now in
+    let none : t.queue ≡ [] = settled-as c.args.call.now.instant.0 s (λ (u : State). u.queue) refl ∙ nil_from_length s.queue (omega (arith, c.queue_len.ensures.long, c.if-queue_len-gt0.false)) in
+    sym (ap (λ (bs : List ℕ). after bs x) (no-sends (rooms_of c.args.call.now t) t none) ∙ after_nil x)

@@ -1,0 +1,22 @@
+-- `dispatch_notes` meets its contract: they are what is noted.
+use Rattle.std.proofs.Common.{length, ap, ◌∙◌, arith}
+use lib.ListN.{length-map, length-append}
+use Rattle.steps.specs.Queue.{note_at}
+use Rattle.steps.specs.Views.{shown}
+use Rattle.steps.proofs.AtRestLaws.{same_dropped}
+use Rattle.announcements.specs.QueuedRows.{notes_at}
+use Rattle.announcements.proofs.OnDispatchLaws.StateLaws.{settled-dropped}
+use Rattle.announcements.proofs.on_dispatch_timer.dispatch_notes.Goals as goal
+
+pub returns-clause-notes : goal.returns-clause-notes
+returns-clause-notes c =
+    let s = shown c.args.view.now in
+    let now = c.args.call.now.instant.0 in
+    omega (
+      arith,
+      ap length (same_dropped now s),
+      ap length (settled-dropped now c.args.call.now s ∙ c.to_note.ensures.noted),
+      length-append s.dropped (notes_at s.queue c.to_note.new.noted),
+      length-map c.to_note.new.noted (note_at s.queue),
+      c.len.ensures.long,
+    )

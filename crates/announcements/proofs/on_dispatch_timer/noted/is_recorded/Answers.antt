@@ -1,0 +1,25 @@
+-- `is_recorded` meets its contract.
+use Rattle.std.proofs.Common.{sym, ap, ◌∙◌}
+use lib.Dec.{eqb}
+use Rattle.storage.specs.Rows.Ident.{id_of}
+use Rattle.postcard.specs.Message.{Ihave}
+use Rattle.protocol.specs.State.{Note}
+use Rattle.steps.specs.Views.{shown}
+use Rattle.announcements.proofs.OnDispatchLaws.RowLaws.{any-start, any-found, any-not, any-end}
+use Rattle.announcements.proofs.on_dispatch_timer.noted.is_recorded.Goals as goal
+
+pub loop-row-init : goal.loop-row-init
+loop-row-init c = any-start (shown c.args.view.now).dropped c.args.recorded.now (λ (h : Ihave). eqb h.id (id_of c.args.id))
+
+pub returns-then-same : goal.returns-then-same
+returns-then-same c =
+    any-found (shown c.args.view.now).dropped c.args.recorded.now c.loop-row.row-index c.loop-row-test.true (λ (h : Ihave). eqb h.id (id_of c.args.id)) c.loop-row.invariant
+    (ap (λ (n : Note). eqb n.id (id_of c.args.id)) (sym c.recorded.ensures) ∙ sym c.same.ensures ∙ c.if-same.true)
+
+pub loop-row-preserved : goal.loop-row-preserved
+loop-row-preserved c =
+    any-not (shown c.args.view.now).dropped c.args.recorded.now c.loop-row.row-index c.loop-row-test.true (λ (h : Ihave). eqb h.id (id_of c.args.id)) c.loop-row.invariant
+    (ap (λ (n : Note). eqb n.id (id_of c.args.id)) (sym c.recorded.ensures) ∙ sym c.same.ensures ∙ c.if-same.false)
+
+pub returns : goal.returns
+returns c = any-end (shown c.args.view.now).dropped c.args.recorded.now (λ (h : Ihave). eqb h.id (id_of c.args.id)) c.loop-row.row-index c.loop-row-test.false c.loop-row.invariant

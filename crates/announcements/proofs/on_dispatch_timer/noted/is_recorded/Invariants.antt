@@ -1,0 +1,9 @@
+use Rattle.std.proofs.Common.{take, ◌≡◌, false}
+use Rattle.storage.specs.Rows.Ident.{id_of}
+use Rattle.steps.specs.Views.{shown}
+use Rattle.announcements.specs.QueuedRows.{ihaves_at, among}
+use Rattle.announcements.proofs.on_dispatch_timer.noted.is_recorded.Given as goal
+
+-- none before this row is of the identifier
+abbrev pub invariant-loop-row : goal.invariant-loop-row
+invariant-loop-row l = among (id_of l.id) (ihaves_at (shown l.view).dropped (take l.row-index l.recorded)) ≡ false

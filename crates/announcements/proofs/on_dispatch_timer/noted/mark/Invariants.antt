@@ -1,0 +1,9 @@
+use Rattle.std.proofs.Common.{take}
+use Rattle.steps.specs.Views.{shown}
+use Rattle.announcements.specs.Marks.{Covers}
+use Rattle.announcements.specs.QueuedRows.{ihaves_at, among}
+use Rattle.announcements.proofs.on_dispatch_timer.noted.mark.Given as goal
+
+-- those before this row are marked
+abbrev pub invariant-loop-row : goal.invariant-loop-row
+invariant-loop-row l = Covers (λ id. among id (ihaves_at (shown l.view).dropped (take l.row-index l.recorded))) l.marks

@@ -1,0 +1,7 @@
+use Rattle.std.proofs.Common.{ℕ, ◌<◌, ◌≤◌, length, get_or}
+use Rattle.steps.specs.Views.{shown}
+use Rattle.announcements.proofs.on_dispatch_timer.noted.may_hand_back.Given as goal
+
+-- the links before this one take all
+abbrev pub invariant-loop-link : goal.invariant-loop-link
+invariant-loop-link l = (k : ℕ) → k < l.link → length (shown l.view).queue ≤ get_or l.call.rooms.numbers.now k 0

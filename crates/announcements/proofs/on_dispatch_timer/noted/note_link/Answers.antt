@@ -1,0 +1,154 @@
+-- `note_link` meets its contract.
+use Rattle.std.proofs.Common.{◌≡◌, ℕ, List, [], ◌∷◌, ◌++◌, ◌+◌, ◌<◌, length, get_or, drop, set, sym, refl, ap, ◌∙◌, arith, true, false, ◌||◌}
+use mathlib.Core.Path.{subst}
+use lib.ListN.{length-map, length-append, length-drop}
+use Rattle.std.proofs.lemmas.List.Elements.{All-same, All-drop}
+use Rattle.storage.specs.Rows.Ident.{id_of}
+use Rattle.protocol.specs.State.{State, Note}
+use Rattle.protocol.specs.Push.{record_full}
+use Rattle.decide.specs.RecordGrowth.{add_note}
+use Rattle.block.specs.LinkSteps.{peer_at}
+use Rattle.steps.specs.Queue.{note_at}
+use Rattle.steps.specs.Views.{shown}
+use Rattle.announcements.specs.Marks.{low_of, Covers}
+use Rattle.announcements.specs.QueuedRows.{held_then, ihave_of, ihaves_at, notes_at, among}
+use Rattle.announcements.proofs.OnDispatchLaws.MarkLaws.{low-in, covers-same, covers-clear}
+use Rattle.announcements.proofs.OnDispatchLaws.NotedLaws.{full-is, known, known-start, Holding, holding-start, holding-next, marked-next, grown-noted, grown-there, note-not-held, Sofar, sofar-start, sofar-next, sofar-end, sofar-full}
+use Rattle.announcements.proofs.on_dispatch_timer.noted.note_link.Goals as goal
+use Rattle.announcements.proofs.on_dispatch_timer.noted.note_link.Goals.{After-is_full, After-low-place, then-is_still_cached, else-is_still_cached}
+
+pub loop-row-init : goal.loop-row-init
+loop-row-init c =
+    let s = shown c.args.view.now in
+    let p = peer_at s c.args.back.now.link in
+    record {
+      holding = holding-start p s.dropped s.queue c.args.recorded.now c.len-before.result c.args.noted.now c.len-before.ensures.long c.requires.recorded.mine c.requires.rows c.requires.below;
+      sofar = sofar-start p s.dropped s.queue c.args.recorded.now c.len-before.result (held_then c.args.instant.0 s) c.args.back.now.rows.now (s.dropped ++ notes_at s.queue c.args.noted.now) c.args.noted.now refl;
+      marked = covers-same c.mark.ensures (known p s.dropped s.queue c.args.recorded.now c.len-before.result c.args.noted.now)
+          (known-start p s.dropped s.queue c.args.recorded.now c.len-before.result c.args.noted.now c.len-before.ensures.long);
+    }
+
+-- whether the record is full
+module _ (c : After-is_full) where
+  abbrev st : State
+  st = shown c.args.view.now
+
+  abbrev pe : ℕ
+  pe = peer_at st c.args.back.now.link
+
+  full : c.is_full.result ≡ record_full pe (st.dropped ++ notes_at st.queue c.loop-row.noted)
+  full =
+      c.is_full.ensures
+      ∙ full-is pe (length c.args.recorded.now + length c.behind-own.result.now) (c.record_len.result + c.len.result) (st.dropped ++ notes_at st.queue c.loop-row.noted)
+      (omega (arith, c.loop-row.invariant.holding.count, ap length c.behind-own.ensures, length-drop c.len-before.result c.loop-row.noted))
+      (omega (arith, c.record_len.ensures.long, c.len.ensures.long, length-append st.dropped (notes_at st.queue c.loop-row.noted), length-map c.loop-row.noted (note_at st.queue)))
+
+pub returns-then-is_full-clause-noted : goal.returns-then-is_full-clause-noted
+returns-then-is_full-clause-noted c =
+    let s = shown c.args.view.now in
+    let p = peer_at s c.args.back.now.link in
+    sofar-full p s.dropped s.queue c.args.recorded.now c.len-before.result (held_then c.args.instant.0 s) c.args.back.now.rows.now (s.dropped ++ notes_at s.queue c.args.noted.now) c.loop-row.row-index c.loop-row.noted
+    c.loop-row.invariant.sofar (sym (full (goal.at.returns-then-is_full-clause-noted c).After-is_full) ∙ c.if-is_full.true)
+
+pub bounds-marks-place : goal.bounds-marks-place
+bounds-marks-place c = subst (λ (n : ℕ). n < 4096) (sym c.low-place.ensures) (low-in (id_of c.queued.result.id))
+
+pub bounds-marks-place-then-is_still_cached : goal.bounds-marks-place-then-is_still_cached
+bounds-marks-place-then-is_still_cached c = subst (λ (n : ℕ). n < 4096) (sym c.low-place.ensures) (low-in (id_of c.queued.result.id))
+
+pub is_there-requires-clause-noted : goal.is_there-requires-clause-noted
+is_there-requires-clause-noted c =
+    let q = (shown c.args.view.now).queue in
+    All-same (λ i. i < length q) c.behind-own.result.now (drop c.len-before.result c.loop-row.noted) c.behind-own.ensures (All-drop (λ i. i < length q) c.len-before.result c.loop-row.noted c.loop-row.invariant.holding.among)
+
+-- the row
+module _ (c : After-low-place) where
+  abbrev s : State
+  s = shown c.args.view.now
+
+  abbrev p : ℕ
+  p = peer_at s c.args.back.now.link
+
+  abbrev r : ℕ
+  r = get_or c.args.back.now.rows.now c.loop-row.row-index 0
+
+  abbrev x : Note
+  x = note_at s.queue r
+
+  there : r < length s.queue
+  there = c.requires.back.among c.loop-row.row-index 0 c.loop-row-test.true
+
+  own : x.peer ≡ p
+  own = c.requires.back.own c.loop-row.row-index 0 c.loop-row-test.true
+
+  id-is : id_of c.queued.result.id ≡ x.id
+  id-is = ap (λ (n : Note). n.id) c.queued.ensures
+
+  known-is : (among (id_of c.queued.result.id) (ihaves_at s.dropped c.args.recorded.now) || among (id_of c.queued.result.id) (ihaves_at s.queue c.behind-own.result.now)) ≡ known p s.dropped s.queue c.args.recorded.now c.len-before.result c.loop-row.noted x.id
+  known-is = λ i. among (id-is i) (ihaves_at s.dropped c.args.recorded.now) || among (id-is i) (ihaves_at s.queue (c.behind-own.ensures i))
+
+  low-is : c.low-place.result ≡ low_of x.id
+  low-is = c.low-place.ensures ∙ ap low_of id-is
+
+  -- what the loop keeps
+  abbrev Keeps : List ℕ → List ℕ → Type 0
+  Keeps rows marks = record {
+    holding : Holding p s.dropped s.queue c.args.recorded.now c.len-before.result rows;
+    sofar : Sofar p s.dropped s.queue c.args.recorded.now c.len-before.result (held_then c.args.instant.0 s) c.args.back.now.rows.now (s.dropped ++ notes_at s.queue c.args.noted.now) (c.loop-row.row-index + 1) rows;
+    marked : Covers (known p s.dropped s.queue c.args.recorded.now c.len-before.result rows) marks;
+  }
+
+pub is_there-requires-clause-clear : goal.is_there-requires-clause-clear
+is_there-requires-clause-clear c = λ z.
+    let w = (goal.at.is_there-requires-clause-clear c).After-low-place in
+    known-is w ∙ covers-clear c.loop-row.invariant.marked (x w).id (ap (λ (n : ℕ). get_or c.loop-row.marks n 0) (sym (low-is w)) ∙ z)
+
+-- a row that is not noted
+module _ (c : After-low-place) where
+  still : add_note (held_then c.args.instant.0 (s c)) (p c) (ihave_of (x c)) ((s c).dropped ++ notes_at (s c).queue c.loop-row.noted) ≡ (s c).dropped ++ notes_at (s c).queue c.loop-row.noted → Keeps c c.loop-row.noted c.loop-row.marks
+  still e = record {
+    holding = c.loop-row.invariant.holding;
+    sofar = sofar-next (p c) (s c).dropped (s c).queue c.args.recorded.now c.len-before.result (held_then c.args.instant.0 (s c)) c.args.back.now.rows.now ((s c).dropped ++ notes_at (s c).queue c.args.noted.now) c.loop-row.row-index c.loop-row.noted c.loop-row.noted
+        c.loop-row-test.true c.loop-row.invariant.sofar e;
+    marked = c.loop-row.invariant.marked;
+  }
+
+  -- one that is noted
+  more : record_full (p c) ((s c).dropped ++ notes_at (s c).queue c.loop-row.noted) ≡ false → held_then c.args.instant.0 (s c) (x c).id ≡ true → known (p c) (s c).dropped (s c).queue c.args.recorded.now c.len-before.result c.loop-row.noted (x c).id ≡ false
+      → Keeps c (c.loop-row.noted ++ (r c ∷ [])) (set c.loop-row.marks c.low-place.result 1)
+  more f h k = record {
+    holding = holding-next (p c) (s c).dropped (s c).queue c.args.recorded.now c.len-before.result c.loop-row.noted c.loop-row.invariant.holding (r c) (there c) (own c);
+    sofar = sofar-next (p c) (s c).dropped (s c).queue c.args.recorded.now c.len-before.result (held_then c.args.instant.0 (s c)) c.args.back.now.rows.now ((s c).dropped ++ notes_at (s c).queue c.args.noted.now) c.loop-row.row-index c.loop-row.noted (c.loop-row.noted ++ (r c ∷ []))
+        c.loop-row-test.true c.loop-row.invariant.sofar
+        (grown-noted (p c) (s c).dropped (s c).queue c.args.recorded.now c.len-before.result c.loop-row.noted c.loop-row.invariant.holding (r c) (there c) (own c) (held_then c.args.instant.0 (s c)) f h k);
+    marked = subst (λ (n : ℕ). Covers (known (p c) (s c).dropped (s c).queue c.args.recorded.now c.len-before.result (c.loop-row.noted ++ (r c ∷ []))) (set c.loop-row.marks n 1)) (sym (low-is c))
+        (marked-next (p c) (s c).dropped (s c).queue c.args.recorded.now c.len-before.result c.loop-row.noted c.loop-row.invariant.holding (r c) (there c) (own c) c.loop-row.invariant.marked);
+  }
+
+pub loop-row-preserved-then-is_there : goal.loop-row-preserved-then-is_there
+loop-row-preserved-then-is_there c =
+    let w = (goal.at.loop-row-preserved-then-is_there c).After-low-place in
+    still w
+    (grown-there (p w) (s w).dropped (s w).queue c.args.recorded.now c.len-before.result c.loop-row.noted c.loop-row.invariant.holding (r w) (there w) (own w) (held_then c.args.instant.0 (s w)) (sym (known-is w) ∙ sym c.is_there.ensures ∙ c.if-is_there.true))
+
+pub loop-row-preserved : goal.loop-row-preserved
+loop-row-preserved c =
+    let w = (goal.at.loop-row-preserved c).After-low-place in
+    let held = held_then c.args.instant.0 (s w) in
+    elim c.if-is_still_cached.branch [
+      | then-is_still_cached b ↦
+          rw (b.noted-is ∙ b.push.ensures, b.marks-is)
+          (more w
+          (sym (full ((goal.at.After-low-place w).After-is_full)) ∙ c.if-is_full.false)
+          (ap held (sym (id-is w)) ∙ sym c.is_still_cached.ensures ∙ b.if-is_still_cached.true)
+          (sym (known-is w) ∙ sym c.is_there.ensures ∙ c.if-is_there.false))
+      | else-is_still_cached b ↦
+          rw (b.noted-is, b.marks-is)
+          (still w (note-not-held held (p w) (ihave_of (x w)) ((s w).dropped ++ notes_at (s w).queue c.loop-row.noted) (ap held (sym (id-is w)) ∙ sym c.is_still_cached.ensures ∙ b.if-is_still_cached.false)))
+    ]
+
+pub returns-clause-noted : goal.returns-clause-noted
+returns-clause-noted c =
+    let s = shown c.args.view.now in
+    let p = peer_at s c.args.back.now.link in
+    sofar-end p s.dropped s.queue c.args.recorded.now c.len-before.result (held_then c.args.instant.0 s) c.args.back.now.rows.now (s.dropped ++ notes_at s.queue c.args.noted.now) c.loop-row.row-index c.loop-row.noted c.loop-row-test.false c.loop-row.invariant.sofar

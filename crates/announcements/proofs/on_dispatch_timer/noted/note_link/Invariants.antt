@@ -1,0 +1,18 @@
+-- `note_link`: the record with what is noted so far is that with the rows before this one noted.
+use Rattle.std.proofs.Common.{◌++◌}
+use Rattle.block.specs.LinkSteps.{peer_at}
+use Rattle.steps.specs.Views.{shown}
+use Rattle.announcements.specs.Marks.{Covers}
+use Rattle.announcements.specs.QueuedRows.{held_then, notes_at}
+use Rattle.announcements.proofs.OnDispatchLaws.NotedLaws.{known, Holding, Sofar}
+use Rattle.announcements.proofs.on_dispatch_timer.noted.note_link.Given as goal
+
+abbrev pub invariant-loop-row : goal.invariant-loop-row
+invariant-loop-row l =
+    let s = shown l.view in
+    let p = peer_at s l.back.link in
+    record {
+      holding : Holding p s.dropped s.queue l.recorded l.before l.noted;
+      sofar : Sofar p s.dropped s.queue l.recorded l.before (held_then l.instant.0 s) l.back.rows.now (s.dropped ++ notes_at s.queue l.fn.noted) l.row-index l.noted;
+      marked : Covers (known p s.dropped s.queue l.recorded l.before l.noted) l.marks;
+    }

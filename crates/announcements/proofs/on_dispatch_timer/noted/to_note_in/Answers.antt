@@ -1,0 +1,166 @@
+-- `to_note_in` meets its contract.
+use Rattle.std.proofs.Common.{◌≡◌, ℕ, List, ◌-◌, ◌*◌, ◌<◌, length, get_or, take, drop, min, append-nil, sym, ap, ◌∙◌, arith}
+use Rattle.std.specs.Prelude.{All}
+use Rattle.std.proofs.lemmas.List.{drop_all}
+use Rattle.std.proofs.lemmas.List.Elements.{All-nil, All-same, All-drop}
+use lib.ListN.{length-map}
+use Rattle.postcard.specs.Message.{Ihave}
+use Rattle.protocol.specs.State.{State}
+use Rattle.decide.specs.RecordGrowth.{add_notes}
+use Rattle.block.specs.LinkSteps.{peer_at}
+use Rattle.steps.specs.Queue.{note_at}
+use Rattle.steps.specs.Views.{shown}
+use Rattle.steps.proofs.GroupsLaws.GroupLaws.{apart_of}
+use Rattle.steps.proofs.RowLaws.{queue-few, record-few, per-message}
+use Rattle.steps.proofs.ViewLaws.{links-few}
+use Rattle.announcements.specs.QueuedRows.{held_then, ihave_of, ihaves_at, Mine}
+use Rattle.announcements.proofs.OnDispatchLaws.QueueLaws.{queued-few}
+use Rattle.announcements.proofs.OnDispatchLaws.BatchLaws.{k, Earlier, after, back, after-none, after-more, after-all, after-same, back-rows, earlier-below, earlier-later, earlier-next}
+use Rattle.announcements.proofs.OnDispatchLaws.LinkRows.{column-long, below-links, mine, own-peer}
+use Rattle.announcements.proofs.OnDispatchLaws.RowLaws.{to-end}
+use Rattle.announcements.proofs.on_dispatch_timer.noted.to_note_in.Goals as goal
+use Rattle.announcements.proofs.on_dispatch_timer.noted.to_note_in.Goals.{In-loop-link, After-link_rows-queued, After-link_rows-recorded, then-taken-queued, else-taken-queued}
+
+pub group-queue-requires-clause-links : goal.group-queue-requires-clause-links
+group-queue-requires-clause-links c =
+    let v = c.args.view.now in
+    below-links (shown v) (shown v).queue c.queue_links.result.now c.queue_links.ensures 32 (links-few v.head v.block.now v.sound)
+
+pub group-queue-requires-clause-room : goal.group-queue-requires-clause-room
+group-queue-requires-clause-room c = let v = c.args.view.now in omega (arith, column-long (shown v) (shown v).queue c.queue_links.result.now c.queue_links.ensures, c.requires.queue)
+
+pub group-queue-requires-clause-few : goal.group-queue-requires-clause-few
+group-queue-requires-clause-few c = let v = c.args.view.now in omega (arith, column-long (shown v) (shown v).queue c.queue_links.result.now c.queue_links.ensures, queue-few v.head v.block.now v.sound)
+
+pub group-record-requires-clause-links : goal.group-record-requires-clause-links
+group-record-requires-clause-links c =
+    let v = c.args.view.now in
+    below-links (shown v) (shown v).dropped c.record_links.result.now c.record_links.ensures 32 (links-few v.head v.block.now v.sound)
+
+pub group-record-requires-clause-room : goal.group-record-requires-clause-room
+group-record-requires-clause-room c = let v = c.args.view.now in omega (arith, column-long (shown v) (shown v).dropped c.record_links.result.now c.record_links.ensures, c.requires.record)
+
+pub group-record-requires-clause-few : goal.group-record-requires-clause-few
+group-record-requires-clause-few c = let v = c.args.view.now in omega (arith, column-long (shown v) (shown v).dropped c.record_links.result.now c.record_links.ensures, record-few v.head v.block.now v.sound)
+
+pub loop-link-init : goal.loop-link-init
+loop-link-init c =
+    let v = c.args.view.now in
+    let s = shown v in
+    rw c.requires.none (record {
+      sofar = after-none (held_then c.args.call.now.instant.0 s) c.args.call.now.rooms.numbers.now s c.requires.rest (queue-few v.head v.block.now v.sound) ∙ sym (append-nil s.dropped);
+      among = All-nil (λ i. i < length s.queue);
+      earlier = All-nil (Earlier s 0);
+    })
+
+-- the next link
+module _ (c : In-loop-link) where
+  abbrev st : State
+  st = shown c.args.view.now
+
+  low : c.loop-link.link < length st.links
+  low = omega (arith, c.loop-link-test.true, c.link_count-link-end.ensures)
+
+  few : c.loop-link.link < 32
+  few = omega (arith, low, links-few c.args.view.now.head c.args.view.now.block.now c.args.view.now.sound)
+
+pub link_rows-queued-requires : goal.link_rows-queued-requires
+link_rows-queued-requires c = apart_of c.group-queue.ensures.grouped c.loop-link.link (few (goal.at.link_rows-queued-requires c).In-loop-link)
+
+pub link_rows-recorded-requires : goal.link_rows-recorded-requires
+link_rows-recorded-requires c = apart_of c.group-record.ensures.grouped c.loop-link.link (few (goal.at.link_rows-recorded-requires c).In-loop-link)
+
+pub offset_bounds-call-link : goal.offset_bounds-call-link
+offset_bounds-call-link c = omega (arith, few (goal.at.offset_bounds-call-link c).In-loop-link)
+
+pub bounds-call-link : goal.bounds-call-link
+bounds-call-link c = omega (arith, few (goal.at.bounds-call-link c).In-loop-link)
+
+pub taken-taken-requires-clause-some : goal.taken-taken-requires-clause-some
+taken-taken-requires-clause-some c =
+    let k = per-message (shown c.args.view.now) c.requires.rest.ranged in
+    (omega (arith, c.per_message-per_message.ensures, k.some), omega (arith, c.per_message-per_message.ensures, k.few))
+
+-- its rows
+module _ (c : After-link_rows-recorded) where
+  abbrev s : State
+  s = shown c.args.view.now
+
+  l-low : c.loop-link.link < length s.links
+  l-low = low (goal.at.After-link_rows-recorded c).In-loop-link
+
+  queued-mine : Mine s s.queue c.loop-link.link c.link_rows-queued.result.now
+  queued-mine =
+      let v = c.args.view.now in
+      rw c.link_rows-queued.ensures (mine s s.queue c.queue_links.result.now c.queue_links.ensures c.requires.rest.consistent.core.links_up c.loop-link.link l-low c.group-queue.new.rows c.group-queue.result c.group-queue.ensures.grouped (links-few v.head v.block.now v.sound))
+
+  queued-own : All (λ i. (note_at s.queue i).peer ≡ peer_at s c.loop-link.link) c.link_rows-queued.result.now
+  queued-own =
+      let v = c.args.view.now in
+      rw c.link_rows-queued.ensures (own-peer s s.queue c.queue_links.result.now c.queue_links.ensures c.requires.rest.consistent.core.links_up c.loop-link.link l-low c.group-queue.new.rows c.group-queue.result c.group-queue.ensures.grouped (links-few v.head v.block.now v.sound))
+
+  recorded-mine : Mine s s.dropped c.loop-link.link c.link_rows-recorded.result.now
+  recorded-mine =
+      let v = c.args.view.now in
+      rw c.link_rows-recorded.ensures (mine s s.dropped c.record_links.result.now c.record_links.ensures c.requires.rest.consistent.core.links_up c.loop-link.link l-low c.group-record.new.rows c.group-record.result c.group-record.ensures.grouped (links-few v.head v.block.now v.sound))
+
+pub taken-taken-requires-clause-few : goal.taken-taken-requires-clause-few
+taken-taken-requires-clause-few c =
+    let w = (goal.at.taken-taken-requires-clause-few c).After-link_rows-recorded in
+    let v = c.args.view.now in
+    omega (arith, length-map c.link_rows-queued.result.now (λ (i : ℕ). ihave_of (note_at (s w).queue i)), ap length (queued-mine w).mine, queued-few (peer_at (s w) c.loop-link.link) (s w).queue, queue-few v.head v.block.now v.sound)
+
+pub note_link-requires-clause-recorded : goal.note_link-requires-clause-recorded
+note_link-requires-clause-recorded c = recorded-mine (goal.at.note_link-requires-clause-recorded c).After-link_rows-recorded
+
+pub note_link-requires-clause-back : goal.note_link-requires-clause-back
+note_link-requires-clause-back c =
+    let w = (goal.at.note_link-requires-clause-back c).After-link_rows-recorded in
+    let rows = c.link_rows-queued.result.now in
+    let n = c.taken-taken.result in
+    record {
+      among = All-same (λ i. i < length (s w).queue) _ (drop n rows) (to-end n rows) (All-drop (λ i. i < length (s w).queue) n rows (queued-mine w).among);
+      own = All-same (λ i. (note_at (s w).queue i).peer ≡ peer_at (s w) c.loop-link.link) _ (drop n rows) (to-end n rows) (All-drop (λ i. (note_at (s w).queue i).peer ≡ peer_at (s w) c.loop-link.link) n rows (queued-own w));
+      link = l-low w;
+    }
+
+pub note_link-requires-clause-below : goal.note_link-requires-clause-below
+note_link-requires-clause-below c =
+    let w = (goal.at.note_link-requires-clause-below c).After-link_rows-recorded in
+    let v = c.args.view.now in
+    earlier-below (held_then c.args.call.now.instant.0 (s w)) c.args.call.now.rooms.numbers.now (s w) c.requires.rest (queue-few v.head v.block.now v.sound) c.loop-link.link (l-low w) c.loop-link.noted c.loop-link.invariant.earlier
+
+pub loop-link-preserved : goal.loop-link-preserved
+loop-link-preserved c =
+    let w = (goal.at.loop-link-preserved c).After-link_rows-recorded in
+    let v = c.args.view.now in
+    let held = held_then c.args.call.now.instant.0 (s w) in
+    let array = c.args.call.now.rooms.numbers.now in
+    let few = queue-few v.head v.block.now v.sound in
+    let l = c.loop-link.link in
+    let rows = c.link_rows-queued.result.now in
+    let n = c.taken-taken.result in
+    let taken : n ≡ min (get_or array l 0 * k (s w)) (length rows) = c.taken-taken.ensures ∙ ap (λ (m : ℕ). min (get_or array l 0 * m) (length rows)) c.per_message-per_message.ensures in
+    let is : ihaves_at (s w).queue (drop n rows) ≡ back held array (s w) (peer_at (s w) l) = back-rows held array (s w) c.requires.rest few l (l-low w) rows (queued-mine w).mine n taken in
+    elim c.if-taken-queued.branch [
+      | then-taken-queued b ↦ rw b.noted-is (record {
+        sofar = after-more held array (s w) c.requires.rest few l (l-low w)
+            ∙ ap (λ (hs : List Ihave). add_notes held (peer_at (s w) l) hs (after held array (s w) l)) (sym is ∙ ap (ihaves_at (s w).queue) (sym (to-end n rows)))
+            ∙ ap (add_notes held (peer_at (s w) l) (ihaves_at (s w).queue (take (length rows - n) (drop n rows)))) c.loop-link.invariant.sofar
+            ∙ b.note_link.ensures.noted;
+        among = b.note_link.ensures.rows;
+        earlier = earlier-next held array (s w) c.requires.rest few l (l-low w) b.note_link.new.noted b.note_link.ensures.upto;
+      })
+      | else-taken-queued b ↦ rw b.noted-is (record {
+        sofar = after-same held array (s w) c.requires.rest few l (l-low w) (sym is ∙ ap (ihaves_at (s w).queue) (drop_all n rows (omega (arith, b.if-taken-queued.false)))) ∙ c.loop-link.invariant.sofar;
+        among = c.loop-link.invariant.among;
+        earlier = earlier-later held array (s w) c.requires.rest few l (l-low w) c.loop-link.noted c.loop-link.invariant.earlier;
+      })
+    ]
+
+pub returns-clause-noted : goal.returns-clause-noted
+returns-clause-noted c =
+    let v = c.args.view.now in
+    let s = shown v in
+    sym (after-all (held_then c.args.call.now.instant.0 s) c.args.call.now.rooms.numbers.now s c.requires.rest (queue-few v.head v.block.now v.sound) c.loop-link.link (omega (arith, c.loop-link-test.false, c.link_count-link-end.ensures)))
+    ∙ c.loop-link.invariant.sofar

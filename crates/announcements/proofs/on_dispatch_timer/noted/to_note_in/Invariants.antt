@@ -1,0 +1,16 @@
+-- `to_note_in`: the record with what is noted so far is that after the links before this one.
+use Rattle.std.proofs.Common.{◌≡◌, ◌++◌}
+use Rattle.std.specs.Prelude.{All}
+use Rattle.steps.specs.Views.{shown}
+use Rattle.announcements.specs.QueuedRows.{held_then, notes_at, RowsOf}
+use Rattle.announcements.proofs.OnDispatchLaws.BatchLaws.{Earlier, after}
+use Rattle.announcements.proofs.on_dispatch_timer.noted.to_note_in.Given as goal
+
+abbrev pub invariant-loop-link : goal.invariant-loop-link
+invariant-loop-link l =
+    let s = shown l.view in
+    record {
+      sofar : after (held_then l.call.instant.0 s) l.call.rooms.numbers.now s l.link ≡ s.dropped ++ notes_at s.queue l.noted;
+      among : RowsOf s.queue l.noted;
+      earlier : All (Earlier s l.link) l.noted;
+    }

@@ -1,0 +1,49 @@
+-- `send_graft_sizes` meets its contract: the mark gone, and where the message is not received what asking leaves.
+use Rattle.std.proofs.Common.{arith, sym, ◌∙◌}
+use Rattle.storage.specs.Rows.Ident.{id_of}
+use Rattle.time_cache.specs.TimeCache.{get}
+use Rattle.decide.specs.Settled.{settled}
+use Rattle.block.proofs.CachesLaws.GraftedLaws.{count-grafted, count-grafted-rows}
+use Rattle.steps.specs.Settled.Then.{no_grafts}
+use Rattle.steps.specs.Shared.{sizes_value}
+use Rattle.steps.specs.Views.{shown}
+use Rattle.announcements.proofs.OnSendGraftTimerLaws.{entry-there, entry-gone, sized-received, sized-nobody, sized-there, sized-new, sized-few}
+use Rattle.announcements.proofs.on_send_graft_timer.send_graft_sizes.Goals as goal
+
+pub returns-then-is_received_then : goal.returns-then-is_received_then
+returns-then-is_received_then c =
+    sized-received c.args.call.now.instant.0 (id_of c.args.id) (shown c.args.view.now) c.requires c.timers_left.result c.timers_left.ensures (sizes_value c.sizes_then-sizes.result) c.sizes_then-sizes.ensures
+    (sym c.is_received_then.ensures ∙ c.if-is_received_then.true)
+
+pub returns-in_default : goal.returns-in_default
+returns-in_default c =
+    sized-nobody c.args.call.now.instant.0 (id_of c.args.id) (shown c.args.view.now) c.requires c.timers_left.result c.timers_left.ensures
+    (sym c.is_received_then.ensures ∙ c.if-is_received_then.false) (sizes_value c.sizes_then-sizes.result) c.sizes_then-sizes.ensures c.in_default.ensures
+
+pub returns-then-is_some : goal.returns-then-is_some
+returns-then-is_some c =
+    let s = shown c.args.view.now in
+    let now = c.args.call.now.instant.0 in
+    sized-there now (id_of c.args.id) s c.requires c.timers_left.result c.timers_left.ensures
+    (sym c.is_received_then.ensures ∙ c.if-is_received_then.false) c.in-Some.entry c.missing_left.result c.in-Some.ensures c.missing_left.ensures (sizes_value c.sizes_then-sizes.result) c.sizes_then-sizes.ensures
+    (entry-there no_grafts s.grafted.entries (id_of c.args.id) (get (id_of c.args.id) (settled now s).grafted) c.grafted_entry_then.result c.grafted_entry_then.ensures (sym c.is_some.ensures ∙ c.if-is_some.true))
+
+pub overflow_add-sizes : goal.overflow_add-sizes
+overflow_add-sizes c =
+    let v = c.args.view.now in
+    let fit = v.sound.fit in
+    omega (arith, (sized-few c.args.call.now.instant.0 (id_of c.args.id) (shown v) c.requires c.sizes_then-sizes.result c.sizes_then-sizes.ensures).0, count-grafted v.head v.block.now fit, fit.within.grafted, fit.ceilings.G)
+
+pub overflow_add-sizes-2 : goal.overflow_add-sizes-2
+overflow_add-sizes-2 c =
+    let v = c.args.view.now in
+    let fit = v.sound.fit in
+    omega (arith, (sized-few c.args.call.now.instant.0 (id_of c.args.id) (shown v) c.requires c.sizes_then-sizes.result c.sizes_then-sizes.ensures).1, count-grafted-rows v.head v.block.now fit, fit.within.grafted_rows, fit.ceilings.G)
+
+pub returns : goal.returns
+returns c =
+    let s = shown c.args.view.now in
+    let now = c.args.call.now.instant.0 in
+    sized-new now (id_of c.args.id) s c.requires c.timers_left.result c.timers_left.ensures
+    (sym c.is_received_then.ensures ∙ c.if-is_received_then.false) c.in-Some.entry c.missing_left.result c.in-Some.ensures c.missing_left.ensures (sizes_value c.sizes_then-sizes.result) c.sizes_then-sizes.ensures
+    (entry-gone no_grafts s.grafted.entries (id_of c.args.id) (get (id_of c.args.id) (settled now s).grafted) c.grafted_entry_then.result c.grafted_entry_then.ensures (sym c.is_some.ensures ∙ c.if-is_some.false))

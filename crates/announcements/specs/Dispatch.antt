@@ -1,4 +1,0 @@
-pub mod HandedBack
-pub mod Gains
-pub mod Sends
-pub mod Marks

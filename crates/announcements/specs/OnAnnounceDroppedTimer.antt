@@ -1,0 +1,20 @@
+-- AnnounceDropped: its actions, and the two questions that they ask.
+-- Assumes nothing.
+use Rattle.std.specs.Prelude.{ℕ, Bool, not, List, [], ◌++◌}
+use Rattle.storage.specs.Lists.Base.{is_empty, concat_map}
+use Rattle.postcard.specs.Message.{action_bytes}
+use Rattle.protocol.specs.State.{State}
+use Rattle.protocol.specs.Ticks.{oldest, younger, still_cached}
+use Rattle.decide.specs.ActionsAfter.{announce_actions}
+
+-- its actions
+abbrev pub announce_bytes : State → List ℕ
+announce_bytes s = concat_map action_bytes (announce_actions s)
+
+-- a queue stands once the oldest are moved
+abbrev pub queue_stands : State → Bool
+queue_stands s = not (is_empty (s.queue ++ oldest [] (still_cached s)))
+
+-- a record does, of the younger
+abbrev pub record_stands : State → Bool
+record_stands s = not (is_empty (younger [] (still_cached s)))

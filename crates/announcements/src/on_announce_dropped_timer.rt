@@ -1,0 +1,160 @@
+// `on_announce_dropped_timer` (the specification, "Ticks"): the record's identifiers that are still cached go to the queue again.
+ghost use Rattle.std.specs.Prelude.{◌≡◌, ◌+◌, ◌<◌, get_or, set, replicate, ltb};
+ghost use Rattle.decide.specs.Sizes.{sizes_of};
+ghost use Rattle.decide.specs.Settled.{settled};
+ghost use Rattle.decide.specs.StateAfter.{announce_state};
+ghost use Rattle.wire.specs.Encode.Held.{after, RoomFor};
+ghost use Rattle.steps.specs.Shared.{sizes_value};
+ghost use Rattle.steps.specs.Views.{shown};
+ghost use Rattle.steps.specs.Panels.{state, Goes, AtRest, Allowed};
+ghost use Rattle.announcements.specs.Announce.Moves.{moved_state};
+ghost use Rattle.announcements.specs.OnAnnounceDroppedTimer.{announce_bytes, queue_stands, record_stands};
+
+use protocol::DROPPED_PER_TICK;
+use steps::Sizes;
+use steps::call::Call;
+use steps::link_list::MAX_LINKS;
+use steps::panel::Panel;
+use steps::schedule::{schedule_announce_dropped, schedule_dispatch};
+use steps::view::View;
+use wire::encode::sink::Sink;
+
+// How many identifiers of each link have been passed.
+#[derive(Clone, Copy)]
+struct Passed {
+    counts: [u16; MAX_LINKS],
+}
+
+impl Passed {
+    fn none() -> Passed
+        ensures { result.counts ≡ replicate MAX_LINKS 0 }
+    {
+        Passed {
+            counts: [0; MAX_LINKS],
+        }
+    }
+
+    // One more of a link is passed: whether it is among "the oldest 64 per peer".
+    fn is_oldest(&mut self, link: usize) -> bool
+        requires link { link < MAX_LINKS }
+        requires few { get_or self.old.counts link 0 < 65535 }
+        ensures oldest { result ≡ ltb (get_or self.old.counts link 0) DROPPED_PER_TICK }
+        ensures counts { self.new.counts ≡ set self.old.counts link (get_or self.old.counts link 0 + 1) }
+    {
+        let count = self.counts[link];
+        self.counts[link] = count + 1;
+        (count as usize) < DROPPED_PER_TICK
+    }
+}
+
+// The numbers of entries after it (question 13). Its time is that of one pass over the record, with a look-up in the message cache for each row.
+pub fn announce_sizes(view: &View, call: &Call) -> Sizes
+    requires { AtRest (shown view.now) }
+    ensures { sizes_value result ≡ sizes_of (announce_state (settled call.now.instant.0 (shown view.now))) }
+{
+    let mut sizes = view.sizes_then(call.instant);
+    let mut passed = Passed::none();
+    let mut moved = 0;
+    let mut left = 0;
+    for row in 0..view.head.live.dropped {
+        let note = view.dropped_note(row);
+        if !view.is_cached_then(call, note.id) {
+            continue;
+        }
+        if passed.is_oldest(note.link) {
+            moved += 1;
+        } else {
+            left += 1;
+        }
+    }
+    sizes.queued += moved;
+    sizes.dropped = left;
+    sizes
+}
+
+// Whether a queue stands then: one stands before, or an identifier of the record is still cached. Its time is that of a look-up for each row of the record, up to the
+// first that is cached.
+fn queue_stands(view: &View, call: &Call) -> bool
+    requires { AtRest (shown view.now) }
+    ensures { result ≡ queue_stands (settled call.now.instant.0 (shown view.now)) }
+{
+    if view.head.live.queued > 0 {
+        return true;
+    }
+    for row in 0..view.head.live.dropped {
+        if view.is_cached_then(call, view.dropped_note(row).id) {
+            return true;
+        }
+    }
+    false
+}
+
+// Whether a record stands then: some peer has more than the oldest 64 that are still cached. Its time is that of a look-up for each row of the record, up to the first
+// that is left.
+fn record_stands(view: &View, call: &Call) -> bool
+    requires { AtRest (shown view.now) }
+    ensures { result ≡ record_stands (settled call.now.instant.0 (shown view.now)) }
+{
+    if view.head.live.dropped <= DROPPED_PER_TICK {
+        return false;
+    }
+    let mut passed = Passed::none();
+    for row in 0..view.head.live.dropped {
+        let note = view.dropped_note(row);
+        if !view.is_cached_then(call, note.id) {
+            continue;
+        }
+        if !passed.is_oldest(note.link) {
+            return true;
+        }
+    }
+    false
+}
+
+// Its actions: it "schedules dispatch if a queue stands, then itself if a record does, each unless flagged". Its own flag was just cleared.
+pub fn announce_actions<S: Sink>(view: &View, call: &Call, out: &mut S)
+    requires rest { AtRest (shown view.now) }
+    requires room { RoomFor (announce_bytes (settled call.now.instant.0 (shown view.now))) (S.held out.old) }
+    ensures { S.held out.new ≡ after (announce_bytes (settled call.now.instant.0 (shown view.now))) (S.held out.old) }
+{
+    if queue_stands(view, call) {
+        schedule_dispatch(view, out);
+    }
+    let stands = record_stands(view, call);
+    schedule_announce_dropped(out, stands, false);
+}
+
+// "drops uncached identifiers, moves the oldest 64 per peer to its queue". Its time is that of one pass over the record, with a look-up in the message cache for each row.
+fn move_oldest(panel: &mut Panel)
+    requires { Allowed announce_state (state panel.old) }
+    ensures { Goes moved_state panel.old panel.new }
+{
+    let mut passed = Passed::none();
+    let mut kept = 0;
+    for row in 0..panel.head.live.dropped {
+        let note = panel.view().dropped_note(row);
+        if !panel.view().is_cached(note.id) {
+            continue;
+        }
+        if passed.is_oldest(note.link) {
+            panel.push_queued(note.link, note.id, note.round);
+        } else {
+            panel.set_dropped(kept, note);
+            kept += 1;
+        }
+    }
+    panel.truncate_dropped(kept);
+}
+
+// The step: the identifiers move, and each flag stands where its timer "then schedules". Its time is that of `move_oldest`.
+pub fn on_announce_dropped_timer(panel: &mut Panel)
+    requires { Allowed announce_state (state panel.old) }
+    ensures { Goes announce_state panel.old panel.new }
+{
+    move_oldest(panel);
+    panel.unflag_announce();
+    if panel.head.live.queued > 0 {
+        panel.flag_dispatch();
+    }
+    panel.flag_announce();
+}

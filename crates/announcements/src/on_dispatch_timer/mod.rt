@@ -1,0 +1,95 @@
+// `on_dispatch_timer`: "Dispatch empties the queue, peers ascending, IHave of at most (M − 6) / 35, rounded down; handed back are noted".
+ghost use Rattle.std.specs.Prelude.{◌≡◌, ◌+◌, ◌≤◌, ◌<◌, true, length, ◌++◌};
+ghost use Rattle.decide.specs.Sizes.{sizes_of};
+ghost use Rattle.decide.specs.Settled.{settled};
+ghost use Rattle.wire.specs.Encode.Held.{after, RoomFor};
+ghost use Rattle.steps.specs.Panels.{state, Goes, AtRest, Allowed};
+ghost use Rattle.steps.specs.Shared.{sizes_value};
+ghost use Rattle.steps.specs.Views.{shown};
+ghost use Rattle.announcements.specs.OnDispatchTimer.{after_dispatch, dispatch_bytes};
+ghost use Rattle.announcements.specs.QueuedRows.{noted_again, back_noted, RowsOf};
+
+pub mod ihave;
+pub mod noted;
+pub mod row_list;
+pub mod sends;
+
+use crate::on_dispatch_timer::noted::{may_hand_back, to_note};
+use crate::on_dispatch_timer::row_list::RowList;
+use protocol::MAX_DROPPED;
+use steps::Sizes;
+use steps::call::Call;
+use steps::panel::Panel;
+use steps::view::View;
+use wire::encode::sink::Sink;
+
+// How many notes it adds to the record.
+#[inline(never)]
+fn dispatch_notes(view: &View, call: &Call) -> usize
+    requires { AtRest (shown view.now) }
+    ensures few { result ≤ MAX_DROPPED }
+    ensures notes { length (settled call.now.instant.0 (shown view.now)).dropped + result ≡ length (after_dispatch call.now (settled call.now.instant.0 (shown view.now))).dropped }
+{
+    let mut noted = RowList::new();
+    to_note(view, call, &mut noted);
+    noted.len()
+}
+
+// The numbers of entries after it (question 13).
+pub fn dispatch_sizes(view: &View, call: &Call) -> Sizes
+    requires { AtRest (shown view.now) }
+    ensures { sizes_value result ≡ sizes_of (after_dispatch call.now (settled call.now.instant.0 (shown view.now))) }
+{
+    let mut sizes = view.sizes_then(call.instant);
+    sizes.queued = 0;
+    if may_hand_back(view, call) {
+        sizes.dropped += dispatch_notes(view, call);
+    }
+    sizes
+}
+
+// Its actions: the IHaves, and the record's timer behind the first that is handed back with a cached identifier.
+pub fn dispatch_actions<S: Sink>(view: &View, call: &Call, out: &mut S)
+    requires rest { AtRest (shown view.now) }
+    requires room { RoomFor (dispatch_bytes call.now (settled call.now.instant.0 (shown view.now))) (S.held out.old) }
+    ensures { S.held out.new ≡ after (dispatch_bytes call.now (settled call.now.instant.0 (shown view.now))) (S.held out.old) }
+{
+    if view.queue_len() > 0 {
+        sends::send_queued(view, call, out);
+    }
+}
+
+// The record takes these rows of the queue, and stands with its flag.
+fn note_rows(panel: &mut Panel, rows: &RowList)
+    requires rows { RowsOf (state panel.old).queue rows.now }
+    requires room { length (state panel.old).dropped + length rows.now ≤ (state panel.old).limits.D }
+    ensures { Goes (noted_again rows.now) panel.old panel.new }
+{
+    for row in rows.as_slice() {
+        panel.note_again(*row as usize);
+    }
+    panel.flag_announce();
+}
+
+// What is handed back is noted.
+#[inline(never)]
+fn note_back(panel: &mut Panel, call: &Call)
+    requires { Allowed (after_dispatch call.now) (state panel.old) × ((state panel.old).init ≡ true) }
+    ensures { Goes (back_noted call.now) panel.old panel.new }
+{
+    let mut rows = RowList::new();
+    to_note(&panel.view(), call, &mut rows);
+    note_rows(panel, &rows);
+}
+
+// The step.
+pub fn on_dispatch_timer(panel: &mut Panel, call: &Call)
+    requires { Allowed (after_dispatch call.now) (state panel.old) × ((state panel.old).init ≡ true) }
+    ensures { Goes (after_dispatch call.now) panel.old panel.new }
+{
+    if may_hand_back(&panel.view(), call) {
+        note_back(panel, call);
+    }
+    panel.clear_queue();
+    panel.unflag_dispatch();
+}

@@ -1,0 +1,206 @@
+// What of the queue is handed back and noted: found once, for the numbers of entries and for the record.
+ghost use Rattle.std.specs.Prelude.{ℕ, ◌≡◌, ◌≤◌, ◌<◌, ◌+◌, ◌*◌, ◌||◌, false, leb, min, length, All, get_or, [], ◌++◌};
+ghost use Rattle.storage.specs.Rows.Ident.{id_of};
+ghost use Rattle.protocol.specs.Ticks.{per_message, queued_peers};
+ghost use Rattle.decide.specs.RecordGrowth.{add_notes, add_batches};
+ghost use Rattle.decide.specs.Pieces.{dispatch_batches};
+ghost use Rattle.block.specs.LinkSteps.{peer_at};
+ghost use Rattle.steps.specs.Calls.{rooms_of};
+ghost use Rattle.steps.specs.Panels.{AtRest};
+ghost use Rattle.steps.specs.Queue.{note_at};
+ghost use Rattle.steps.specs.Views.{shown};
+ghost use Rattle.announcements.specs.Marks.{low_of, Covers};
+ghost use Rattle.announcements.specs.QueuedRows.{held_then, ihaves_at, notes_at, among, RowsOf, Mine, LinkPart};
+
+use crate::on_dispatch_timer::row_list::RowList;
+use crate::on_dispatch_timer::sends::{FEW_ROWS, LinkRows};
+use postcard::units::Millis;
+use protocol::{MAX_DROPPED, MAX_DROPPED_PER_PEER};
+use steps::call::Call;
+use steps::groups::{MAX_ROWS, group, link_rows};
+use steps::view::View;
+use storage::rows::id;
+use storage::rows::id::Id;
+
+// How many marks there are. An identifier without its mark is none of those that were marked.
+const MARKS: usize = 4096;
+
+// Where the mark of an identifier stands.
+fn low(id: Id) -> usize
+    ensures { result ≡ low_of (id_of id) }
+{
+    (id.w3 % MARKS as u64) as usize
+}
+
+// Marks these rows of the record.
+fn mark(view: &View, recorded: &[u16], marks: &mut [u8; MARKS])
+    requires { RowsOf (shown view.now).dropped recorded.now }
+    ensures { Covers (λ id. among id (ihaves_at (shown view.now).dropped recorded.now)) marks.new }
+{
+    for row in recorded {
+        marks[low(view.recorded(*row as usize).id)] = 1;
+    }
+}
+
+// Whether one of these rows of the record is of an identifier.
+fn is_recorded(view: &View, recorded: &[u16], id: Id) -> bool
+    requires { RowsOf (shown view.now).dropped recorded.now }
+    ensures { result ≡ among (id_of id) (ihaves_at (shown view.now).dropped recorded.now) }
+{
+    for row in recorded {
+        if id::same(view.recorded(*row as usize).id, id) {
+            return true;
+        }
+    }
+    false
+}
+
+// Whether one of these rows of the queue is of an identifier.
+fn is_queued(view: &View, queued: &[u16], id: Id) -> bool
+    requires { RowsOf (shown view.now).queue queued.now }
+    ensures { result ≡ among (id_of id) (ihaves_at (shown view.now).queue queued.now) }
+{
+    for row in queued {
+        if id::same(view.queued(*row as usize).id, id) {
+            return true;
+        }
+    }
+    false
+}
+
+// Whether an identifier is among these rows of the record or these of the queue. Where its mark is clear it is not.
+fn is_there(view: &View, recorded: &[u16], noted: &[u16], mark: u8, id: Id) -> bool
+    requires recorded { RowsOf (shown view.now).dropped recorded.now }
+    requires noted { RowsOf (shown view.now).queue noted.now }
+    requires clear { mark ≡ 0 → (among (id_of id) (ihaves_at (shown view.now).dropped recorded.now) || among (id_of id) (ihaves_at (shown view.now).queue noted.now)) ≡ false }
+    ensures { result ≡ (among (id_of id) (ihaves_at (shown view.now).dropped recorded.now) || among (id_of id) (ihaves_at (shown view.now).queue noted.now)) }
+{
+    if mark == 0 {
+        return false;
+    }
+    is_recorded(view, recorded, id) || is_queued(view, noted, id)
+}
+
+// Whether "the peer has 256 or all have 4,096".
+fn is_full(own: usize, all: usize) -> bool
+    ensures { result ≡ (leb MAX_DROPPED_PER_PEER own || leb MAX_DROPPED all) }
+{
+    MAX_DROPPED_PER_PEER <= own || MAX_DROPPED <= all
+}
+
+// `note_dropped` of what one link hands back: "each identifier in the cache and not already there is added unless the peer has 256 or all have 4,096". `recorded` are
+// the record's rows for the link, and `noted` what is added for the links before it.
+fn note_link(view: &View, instant: Millis, recorded: &[u16], back: &LinkRows, noted: &mut RowList)
+    requires rest { AtRest (shown view.now) }
+    requires recorded { Mine (shown view.now) (shown view.now).dropped back.now.link recorded.now }
+    requires back { LinkPart (shown view.now) back.now.link back.now.rows.now }
+    requires rows { RowsOf (shown view.now).queue noted.old }
+    requires below { All (λ i. (note_at (shown view.now).queue i).peer < peer_at (shown view.now) back.now.link) noted.old }
+    ensures noted { add_notes (held_then instant.0 (shown view.now)) (peer_at (shown view.now) back.now.link) (ihaves_at (shown view.now).queue back.now.rows.now) ((shown view.now).dropped ++ notes_at (shown view.now).queue noted.old) ≡ (shown view.now).dropped ++ notes_at (shown view.now).queue noted.new }
+    ensures rows { RowsOf (shown view.now).queue noted.new }
+    ensures upto { All (λ i. (note_at (shown view.now).queue i).peer ≤ peer_at (shown view.now) back.now.link) noted.new }
+{
+    let before = noted.len();
+    let mut marks = [0u8; MARKS];
+    mark(view, recorded, &mut marks);
+    for row in back.rows {
+        let own = noted.behind(before);
+        if is_full(recorded.len() + own.len(), view.record_len() + noted.len()) {
+            return;
+        }
+        let id = view.queued(*row as usize).id;
+        let place = low(id);
+        if is_there(view, recorded, own, marks[place], id) {
+            continue;
+        }
+        if view.is_still_cached(instant, id) {
+            marks[place] = 1;
+            noted.push(*row);
+        }
+    }
+}
+
+// How many of a link's identifiers are in IHaves that are taken.
+fn taken(room: u64, per_message: usize, queued: usize) -> usize
+    requires some { 1 ≤ per_message × (per_message ≤ 116) }
+    requires few { queued ≤ MAX_ROWS }
+    ensures { result ≡ min (room * per_message) queued }
+{
+    if room < queued as u64 {
+        return (room as usize * per_message).min(queued);
+    }
+    queued
+}
+
+// Whether a link may hand back: its room is below the queue's length.
+pub fn may_hand_back(view: &View, call: &Call) -> bool
+    ensures { result ≡ false → (l : ℕ) → l < length (shown view.now).links → length (shown view.now).queue ≤ get_or call.now.rooms.numbers.now l 0 }
+{
+    let queued = view.queue_len() as u64;
+    for link in 0..view.link_count() {
+        if call.rooms.numbers[link] < queued {
+            return true;
+        }
+    }
+    false
+}
+
+// The rows of the queue that are handed back and noted, "peers ascending". Few rows are grouped in little memory. It is never inlined: no other
+// event is to have these rows on the stack. Its time is that of two passes over the queue and
+// the record, and of a look-up in the message cache for each identifier that is handed back and not there.
+#[inline(never)]
+pub fn to_note(view: &View, call: &Call, noted: &mut RowList)
+    requires rest { AtRest (shown view.now) }
+    requires none { noted.old ≡ [] }
+    ensures noted { add_batches (held_then call.now.instant.0 (shown view.now)) (dispatch_batches (rooms_of call.now (shown view.now)) (queued_peers (shown view.now).queue) (per_message (shown view.now).settings.max_message_size) (shown view.now).queue) (shown view.now).dropped ≡ (shown view.now).dropped ++ notes_at (shown view.now).queue noted.new }
+    ensures rows { RowsOf (shown view.now).queue noted.new }
+{
+    if view.queue_len() <= FEW_ROWS && view.record_len() <= FEW_ROWS {
+        return to_note_in(
+            view,
+            call,
+            &mut [0u16; FEW_ROWS],
+            &mut [0u16; FEW_ROWS],
+            noted,
+        );
+    }
+    to_note_in(
+        view,
+        call,
+        &mut [0u16; MAX_ROWS],
+        &mut [0u16; MAX_DROPPED],
+        noted,
+    );
+}
+
+// The same, where the rows of the queue and of the record are grouped in lent memory.
+fn to_note_in(
+    view: &View,
+    call: &Call,
+    queue_rows: &mut [u16],
+    record_rows: &mut [u16],
+    noted: &mut RowList,
+)
+    requires rest { AtRest (shown view.now) }
+    requires queue { length (shown view.now).queue ≤ length queue_rows.old }
+    requires record { length (shown view.now).dropped ≤ length record_rows.old }
+    requires none { noted.old ≡ [] }
+    ensures noted { add_batches (held_then call.now.instant.0 (shown view.now)) (dispatch_batches (rooms_of call.now (shown view.now)) (queued_peers (shown view.now).queue) (per_message (shown view.now).settings.max_message_size) (shown view.now).queue) (shown view.now).dropped ≡ (shown view.now).dropped ++ notes_at (shown view.now).queue noted.new }
+    ensures rows { RowsOf (shown view.now).queue noted.new }
+{
+    let queue = group(view.queue_links(), queue_rows);
+    let record = group(view.record_links(), record_rows);
+    let per_message = view.per_message();
+    for link in 0..view.link_count() {
+        let queued = link_rows(queue_rows, &queue, link);
+        let recorded = link_rows(record_rows, &record, link);
+        let taken = taken(call.rooms.numbers[link], per_message, queued.len());
+        let back = LinkRows {
+            link,
+            rows: &queued[taken..],
+        };
+        if taken < queued.len() {
+            note_link(view, call.instant, recorded, &back, noted);
+        }
+    }
+}

@@ -1,4 +1,0 @@
-pub mod FewGains
-pub mod StepSizes
-pub mod Waiting
-pub mod Sums

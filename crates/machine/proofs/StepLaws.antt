@@ -1,0 +1,175 @@
+-- The sizes after each step, the steps that leave the state, and a step behind a first event's work.
+-- Assumes nothing.
+use Rattle.std.proofs.Common.{◌≡◌, ℕ, ◌<◌, refl, sym, ap, ◌∙◌, Bool, true, false, List, [], length, leb, if◌then◌else◌}
+use mathlib.Core.Path.{subst}
+use Rattle.std.specs.Borrow.{Bor}
+use Rattle.std.specs.Prelude.{Option, Some, None}
+use Rattle.storage.specs.Rows.Ident.{id_of}
+use Rattle.storage.specs.declared.rows.id.Id.{Id}
+use Rattle.time_cache.specs.TimeCache.{later_cache}
+use Rattle.postcard.specs.Values.{wanted_value}
+use Rattle.wire.specs.declared.reader.ihaves.Ihaves.{Ihaves}
+use Rattle.protocol.specs.Links.{add_lazy}
+use Rattle.protocol.specs.State.{State, Counts, zero_counts, with_links, with_init, with_received, with_grafted, with_cache, size_in_range, durations_in_range, limits_in_range}
+use Rattle.protocol.specs.Run.{Run, begin}
+use Rattle.protocol.specs.Gossips.{Late}
+use Rattle.protocol.specs.Consistent.{Consistent, Ranged}
+use Rattle.protocol.proofs.WholeKept.{kept-first_event}
+use Rattle.decide.specs.Settled.{settled}
+use Rattle.decide.specs.Sizes.{sizes_of}
+use Rattle.decide.specs.StateAfter.{late_state}
+use Rattle.decide.proofs.SettledLaws.{first-state}
+use Rattle.decide.proofs.Gossip.{late-sizes}
+use Rattle.decide.proofs.GraftSendGraft.{prune-sizes}
+use Rattle.decide.proofs.StateAfterLaws.{prune-state, late-state}
+use Rattle.block.specs.LinkSteps.{peer_at}
+use Rattle.steps.specs.Rooms.{rooms_in}
+use Rattle.steps.specs.declared.call.Call.{Call}
+use Rattle.steps.proofs.AtRestLaws.{settled-as, same_links}
+use Rattle.payloads.specs.OnGraft.{wanted_id}
+use Rattle.payloads.specs.OnLateGraftReply.{copy_kind}
+use Rattle.payloads.specs.declared.on_gossip.NewMessage.{NewMessage}
+use Rattle.payloads.specs.declared.on_late_graft_reply.LateCopy.{LateCopy}
+use Rattle.machine.specs.Kinds.Meaning.{step_state, step_far, step_counts, StepHeld}
+use Rattle.machine.specs.declared.kinds.Step.{Step}
+use Rattle.machine.specs.declared.kinds.Step.TheVariants as step
+use Rattle.machine.specs.Steps.{after_step, Ready, Due}
+
+pub settled-consistent : (now : ℕ) (s : State) → Consistent s → Consistent (settled now s)
+settled-consistent now s x = subst Consistent (first-state now (begin s zero_counts []) x.core) ((kept-first_event now (begin s zero_counts [])).consistent x)
+
+pub settled-rooms : (now : ℕ) (s : State) (array : List ℕ) → rooms_in (settled now s) array ≡ rooms_in s array
+unfolding rooms_in
+settled-rooms now s array = settled-as now s (λ (t : State). rooms_in t array) refl
+
+pub same_wanted : (w : Option Id) → wanted_id w ≡ wanted_value w
+same_wanted None = refl
+same_wanted (Some id) = refl
+
+-- the sizes of the state after each step
+module _ (t : State) (x : Consistent t) where
+  abbrev plain : Run
+  plain = begin t zero_counts []
+
+  prune-sized : (p : ℕ) → sizes_of t ≡ sizes_of (with_links (add_lazy p t.links) t)
+  prune-sized p = sym (prune-sizes p plain x.core.links_up) ∙ ap sizes_of (prune-state p plain)
+
+  late-sized : (sender id : ℕ) (l : Late) → sizes_of t ≡ sizes_of (late_state sender id l t)
+  late-sized sender id l = sym (late-sizes sender id l plain x.core) ∙ ap sizes_of (late-state sender id l plain)
+
+  -- the other steps add nothing
+  pub others-sized : (call : Call) (r : Step)
+      → ((m : NewMessage) → r ≡ step.NewSwarm m → ⊥)
+      → ((link : ℕ) (w : Option Id) → r ≡ step.Graft link w → ⊥)
+      → ((link : ℕ) (ihaves : Ihaves) → r ≡ step.IHave link ihaves → ⊥)
+      → ((id : Id) (content : Bor (List ℕ)) → r ≡ step.BroadcastSwarm id content → ⊥)
+      → ((id : Id) → r ≡ step.SendGraft id → ⊥)
+      → (r ≡ step.DispatchLazyPush → ⊥)
+      → (r ≡ step.EvictCache → ⊥)
+      → (r ≡ step.AnnounceDropped → ⊥)
+      → sizes_of t ≡ sizes_of (after_step call r t)
+  unfolding step_state
+  others-sized call step.Nothing a b c d e f g h = refl
+  others-sized call (step.NewSwarm m) a b c d e f g h = absurd (a m refl)
+  others-sized call (step.NewNeighbors sender content) a b c d e f g h = refl
+  others-sized call (step.Late copy) a b c d e f g h = late-sized copy.sender (id_of copy.id) (copy_kind copy t)
+  others-sized call (step.Prune link) a b c d e f g h = prune-sized (peer_at t link)
+  others-sized call (step.Graft link w) a b c d e f g h = absurd (b link w refl)
+  others-sized call (step.IHave link ihaves) a b c d e f g h = absurd (c link ihaves refl)
+  others-sized call (step.BroadcastSwarm id content) a b c d e f g h = absurd (d id content refl)
+  others-sized call (step.BroadcastNeighbors id content) a b c d e f g h = refl
+  others-sized call (step.SendGraft id) a b c d e f g h = absurd (e id refl)
+  others-sized call step.DispatchLazyPush a b c d e f g h = absurd (f refl)
+  others-sized call step.EvictCache a b c d e f g h = absurd (g refl)
+  others-sized call step.AnnounceDropped a b c d e f g h = absurd (h refl)
+
+-- the steps that leave the state as it is
+pub others-still : (call : Call) (r : Step) (t : State)
+    → ((m : NewMessage) → r ≡ step.NewSwarm m → ⊥)
+    → ((copy : LateCopy) → r ≡ step.Late copy → ⊥)
+    → ((link : ℕ) → r ≡ step.Prune link → ⊥)
+    → ((link : ℕ) (w : Option Id) → r ≡ step.Graft link w → ⊥)
+    → ((link : ℕ) (ihaves : Ihaves) → r ≡ step.IHave link ihaves → ⊥)
+    → ((id : Id) (content : Bor (List ℕ)) → r ≡ step.BroadcastSwarm id content → ⊥)
+    → ((id : Id) → r ≡ step.SendGraft id → ⊥)
+    → (r ≡ step.DispatchLazyPush → ⊥)
+    → (r ≡ step.EvictCache → ⊥)
+    → (r ≡ step.AnnounceDropped → ⊥)
+    → t ≡ after_step call r t
+unfolding step_state
+others-still call step.Nothing t a b c d e f g h i j = refl
+others-still call (step.NewSwarm m) t a b c d e f g h i j = absurd (a m refl)
+others-still call (step.NewNeighbors sender content) t a b c d e f g h i j = refl
+others-still call (step.Late copy) t a b c d e f g h i j = absurd (b copy refl)
+others-still call (step.Prune link) t a b c d e f g h i j = absurd (c link refl)
+others-still call (step.Graft link w) t a b c d e f g h i j = absurd (d link w refl)
+others-still call (step.IHave link ihaves) t a b c d e f g h i j = absurd (e link ihaves refl)
+others-still call (step.BroadcastSwarm id content) t a b c d e f g h i j = absurd (f id content refl)
+others-still call (step.BroadcastNeighbors id content) t a b c d e f g h i j = refl
+others-still call (step.SendGraft id) t a b c d e f g h i j = absurd (g id refl)
+others-still call step.DispatchLazyPush t a b c d e f g h i j = absurd (h refl)
+others-still call step.EvictCache t a b c d e f g h i j = absurd (i refl)
+others-still call step.AnnounceDropped t a b c d e f g h i j = absurd (j refl)
+
+-- a first event's work is done
+settled-init : (now : ℕ) (s : State) → (settled now s).init ≡ true
+unfolding settled
+settled-init now s = on s.init refl
+  where
+    on : (b : Bool) → s.init ≡ b → (if b then s else with_init true (with_grafted (later_cache now s.grafted) (with_received (later_cache now s.received) (with_cache (later_cache now s.cache) s)))).init ≡ true
+    on true e = e
+    on false e = refl
+
+-- what a step names is there where the links are the same
+held_same : (s t : State) (r : Step) → length s.links ≡ length t.links → StepHeld s r → StepHeld t r
+held_same s t step.Nothing e a = a
+held_same s t (step.NewSwarm m) e a = a
+held_same s t (step.NewNeighbors sender content) e a = a
+held_same s t (step.Late copy) e a = a
+held_same s t (step.Prune link) e a = subst (λ (n : ℕ). link < n) e a
+held_same s t (step.Graft link w) e a = subst (λ (n : ℕ). link < n) e a
+held_same s t (step.IHave link ihaves) e a = record { there = subst (λ (n : ℕ). link < n) e a.there; few = a.few }
+held_same s t (step.BroadcastSwarm id content) e a = a
+held_same s t (step.BroadcastNeighbors id content) e a = a
+held_same s t (step.SendGraft id) e a = a
+held_same s t step.DispatchLazyPush e a = a
+held_same s t step.EvictCache e a = a
+held_same s t step.AnnounceDropped e a = a
+
+settled-ranged : (now : ℕ) (s : State) → Ranged s → Ranged (settled now s)
+settled-ranged now s k = record {
+  size = settled-as now s (λ (u : State). size_in_range u.settings) refl ∙ k.size;
+  durations = settled-as now s (λ (u : State). durations_in_range u.settings) refl ∙ k.durations;
+  threshold = settled-as now s (λ (u : State). leb u.settings.optimization_threshold 65535) refl ∙ k.threshold;
+  limits = settled-as now s (λ (u : State). limits_in_range u.limits) refl ∙ k.limits;
+}
+
+-- the step behind a first event's work
+pub due-ready : (call : Call) (r : Step) (s t : State) → Due call r s → t ≡ settled call.instant.0 s → Ready call r t
+due-ready call r s t due e =
+    subst (Ready call r) (sym e)
+    (record {
+      allowed = record { rest = record { consistent = settled-consistent call.instant.0 s due.allowed.rest.consistent; ranged = settled-ranged call.instant.0 s due.allowed.rest.ranged }; fits = due.allowed.fits };
+      begun = settled-init call.instant.0 s;
+      held = held_same s (settled call.instant.0 s) r (ap length (sym (same_links call.instant.0 s))) due.held;
+      near = due.near;
+      early = due.early;
+    })
+
+-- the steps that are no new Swarm message
+module _ (r : Step) (n : (m : NewMessage) → r ≡ step.NewSwarm m → ⊥) where
+  pub others-near : false ≡ step_far r
+  unfolding step_far
+  others-near = on r n
+    where
+      on : (x : Step) → ((m : NewMessage) → x ≡ step.NewSwarm m → ⊥) → false ≡ step_far x
+      on (step.NewSwarm x) m = absurd (m x refl)
+      on _ m = refl
+
+  pub others-counted : (c : Counts) → c ≡ step_counts r c
+  unfolding step_counts
+  others-counted c = on r n
+    where
+      on : (x : Step) → ((m : NewMessage) → x ≡ step.NewSwarm m → ⊥) → c ≡ step_counts x c
+      on (step.NewSwarm x) m = absurd (m x refl)
+      on _ m = refl

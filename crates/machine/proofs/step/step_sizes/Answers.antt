@@ -1,0 +1,81 @@
+-- `step_sizes` meets its contract: each arm is its step.
+use Rattle.std.proofs.Common.{arith, ◌≡◌, ap, sym, ◌∙◌}
+use mathlib.Core.Path.{subst}
+use mathlib.Core.Option.{Option as math}
+use Rattle.std.specs.Prelude.{ℕ}
+use Rattle.protocol.specs.State.{State}
+use Rattle.decide.specs.Settled.{settled}
+use Rattle.decide.specs.Sizes.{sizes_of}
+use Rattle.decide.specs.StateAfter.{graft_state}
+use Rattle.block.specs.LinkSteps.{peer_at}
+use Rattle.steps.specs.Calls.{rooms_of}
+use Rattle.steps.specs.Views.{shown}
+use Rattle.machine.specs.Kinds.Meaning.{step_state, StepHeld}
+use Rattle.machine.specs.declared.kinds.Step.{Step}
+use Rattle.machine.specs.Steps.{after_event}
+use Rattle.machine.proofs.StepLaws.{settled-consistent, same_wanted, others-sized}
+use Rattle.machine.proofs.step.step_sizes.Goals as goal
+use Rattle.machine.proofs.step.step_sizes.Goals.{Start}
+
+abbrev shows : Start → State
+shows s = shown s.args.view.now
+
+held : (s : Start) {r : Step} → s.args.step ≡ r → StepHeld (shows s) r
+held s e = subst (StepHeld (shows s)) e s.requires.held
+
+as_step : (s : Start) {r : Step} → s.args.step ≡ r → sizes_of (after_event s.args.call.now r (shows s)) ≡ sizes_of (after_event s.args.call.now s.args.step (shows s))
+as_step s e = ap (λ (r : Step). sizes_of (after_event s.args.call.now r (shows s))) (sym e)
+
+pub graft_sizes-requires : goal.graft_sizes-requires
+graft_sizes-requires c = (c.requires.rest, held (goal.at.graft_sizes-requires c).Start c.in-Graft.is)
+
+pub returns-in-Graft : goal.returns-in-Graft
+unfolding step_state
+returns-in-Graft c =
+    let k = c.args.call.now in
+    let t = settled k.instant.0 (shown c.args.view.now) in
+    c.graft_sizes.ensures ∙ ap (λ (w : math ℕ). sizes_of (graft_state (rooms_of k t) (peer_at t c.in-Graft.link) w t)) (same_wanted c.in-Graft.wanted) ∙ as_step (goal.at.returns-in-Graft c).Start c.in-Graft.is
+
+pub returns-in_default : goal.returns-in_default
+returns-in_default c =
+    let k = c.args.call.now in
+    let s = shown c.args.view.now in
+    let d = c.in_default in
+    c.sizes_then.ensures ∙ others-sized (settled k.instant.0 s) (settled-consistent k.instant.0 s c.requires.rest.consistent) k c.args.step d.not-NewSwarm d.not-Graft d.not-IHave d.not-BroadcastSwarm d.not-SendGraft d.not-DispatchLazyPush d.not-EvictCache d.not-AnnounceDropped
+
+pub gossip_sizes-requires : goal.gossip_sizes-requires
+gossip_sizes-requires c = c.requires.rest
+
+pub returns-in-NewSwarm : goal.returns-in-NewSwarm
+unfolding step_state
+returns-in-NewSwarm c = c.gossip_sizes.ensures ∙ as_step (goal.at.returns-in-NewSwarm c).Start c.in-NewSwarm.is
+
+pub ihave_sizes-requires : goal.ihave_sizes-requires
+ihave_sizes-requires c = record { rest = c.requires.rest; few = omega (arith, (held (goal.at.ihave_sizes-requires c).Start c.in-IHave.is).few) }
+
+pub returns-in-IHave : goal.returns-in-IHave
+unfolding step_state
+returns-in-IHave c = c.ihave_sizes.ensures c.in-IHave.link ∙ as_step (goal.at.returns-in-IHave c).Start c.in-IHave.is
+
+pub broadcast_sizes-requires : goal.broadcast_sizes-requires
+broadcast_sizes-requires c = c.requires.rest
+
+pub returns-in-BroadcastSwarm : goal.returns-in-BroadcastSwarm
+unfolding step_state
+returns-in-BroadcastSwarm c = c.broadcast_sizes.ensures ∙ as_step (goal.at.returns-in-BroadcastSwarm c).Start c.in-BroadcastSwarm.is
+
+pub returns-in-SendGraft : goal.returns-in-SendGraft
+unfolding step_state
+returns-in-SendGraft c = c.send_graft_sizes.ensures ∙ as_step (goal.at.returns-in-SendGraft c).Start c.in-SendGraft.is
+
+pub returns-in-DispatchLazyPush : goal.returns-in-DispatchLazyPush
+unfolding step_state
+returns-in-DispatchLazyPush c = c.dispatch_sizes.ensures ∙ as_step (goal.at.returns-in-DispatchLazyPush c).Start c.in-DispatchLazyPush.is
+
+pub returns-in-EvictCache : goal.returns-in-EvictCache
+unfolding step_state
+returns-in-EvictCache c = c.evict_sizes.ensures ∙ as_step (goal.at.returns-in-EvictCache c).Start c.in-EvictCache.is
+
+pub returns-in-AnnounceDropped : goal.returns-in-AnnounceDropped
+unfolding step_state
+returns-in-AnnounceDropped c = c.announce_sizes.ensures ∙ as_step (goal.at.returns-in-AnnounceDropped c).Start c.in-AnnounceDropped.is

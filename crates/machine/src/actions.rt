@@ -1,0 +1,88 @@
+// The actions of a call: a first event's timer, then those of the step. They are counted for question 14, then written, by one walk.
+ghost use Rattle.std.specs.Prelude.{◌≡◌, false, get_or};
+ghost use Rattle.steps.specs.Panels.{AtRest};
+ghost use Rattle.steps.specs.Views.{shown};
+ghost use Rattle.machine.specs.Kinds.Meaning.{StepHeld, SenderIs, step_far};
+ghost use Rattle.machine.specs.Steps.{event_bytes, AtRest-prop, StepHeld-prop, SenderIs-prop, near-prop};
+
+use crate::kinds::Step;
+use announcements::on_announce_dropped_timer::announce_actions;
+use announcements::on_dispatch_timer::dispatch_actions;
+use announcements::on_ihave::ihave_actions;
+use announcements::on_send_graft_timer::send_graft_actions;
+use payloads::broadcast::broadcast_actions;
+use payloads::on_gossip::{gossip_actions, neighbors_actions};
+use payloads::on_graft::graft_actions;
+use payloads::on_late_graft_reply::late_actions;
+use postcard::message::Delivery;
+use postcard::units::Round;
+use steps::call::Call;
+use steps::schedule::{first_event_actions, schedule_evict_cache};
+use steps::view::View;
+use wire::encode::Encode;
+use wire::encode::message::Gossip;
+use wire::encode::sink::Sink;
+
+// A step, what the call brings, and the panel as it stands before.
+#[derive(Clone, Copy)]
+pub struct Actions<'a> {
+    pub view: &'a View<'a>,
+    pub call: &'a Call<'a>,
+    pub step: Step<'a>,
+    ghost rest: { AtRest (shown view.now) } by { AtRest-prop (shown view.now) },
+    ghost held: { StepHeld (shown view.now) step } by { StepHeld-prop (shown view.now) step },
+    ghost sender: { SenderIs (get_or call.now.rooms.numbers.now 33 0) step } by { SenderIs-prop (get_or call.now.rooms.numbers.now 33 0) step },
+    ghost near: { step_far step ≡ false } by { near-prop step },
+}
+
+impl<'a> Encode for Actions<'a> {
+    ghost bytes = { λ a. event_bytes a.call.now a.step (shown a.view.now) };
+
+    fn encode<S: Sink>(&self, out: &mut S) {
+        let Actions {
+            view,
+            call,
+            step,
+            ..
+        } = *self;
+        first_event_actions(view, out);
+        match step {
+            Step::NewSwarm(message) => gossip_actions(view, call, out, &message),
+            Step::NewNeighbors { sender, content } => neighbors_actions(out, sender, content),
+            Step::Late(copy) => late_actions(view, call, out, copy),
+            Step::Graft { link, wanted } => graft_actions(view, call, out, link, wanted),
+            Step::IHave { ihaves, .. } => ihave_actions(view, call, out, ihaves),
+            Step::BroadcastSwarm { id, content } => {
+                let delivery = Delivery::Swarm(Round(0));
+                broadcast_actions(
+                    view,
+                    call,
+                    out,
+                    &Gossip {
+                        id,
+                        content,
+                        delivery,
+                    },
+                );
+            }
+            Step::BroadcastNeighbors { id, content } => {
+                let delivery = Delivery::Neighbors;
+                broadcast_actions(
+                    view,
+                    call,
+                    out,
+                    &Gossip {
+                        id,
+                        content,
+                        delivery,
+                    },
+                );
+            }
+            Step::SendGraft(id) => send_graft_actions(view, call, out, id),
+            Step::DispatchLazyPush => dispatch_actions(view, call, out),
+            Step::EvictCache => schedule_evict_cache(view, out),
+            Step::AnnounceDropped => announce_actions(view, call, out),
+            Step::Prune { .. } | Step::Nothing => {}
+        }
+    }
+}

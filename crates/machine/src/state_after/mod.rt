@@ -1,3 +1,0 @@
-// The state after the step of an event.
-pub mod after;
-pub mod controls;

@@ -1,0 +1,70 @@
+// What a step does, by its kind: the numbers of entries after it (question 13), its actions (question 14), and the state after it.
+ghost use Rattle.std.specs.Prelude.{◌≡◌};
+ghost use Rattle.decide.specs.Sizes.{sizes_of};
+ghost use Rattle.steps.specs.Shared.{sizes_value};
+ghost use Rattle.steps.specs.Views.{shown};
+ghost use Rattle.steps.specs.Panels.{state, Goes};
+ghost use Rattle.machine.specs.Steps.{after_step, after_event, Named, Ready, Due};
+
+use crate::kinds::Step;
+use announcements::on_announce_dropped_timer::{announce_sizes, on_announce_dropped_timer};
+use announcements::on_dispatch_timer::{dispatch_sizes, on_dispatch_timer};
+use announcements::on_ihave::{ihave_sizes, on_ihave};
+use announcements::on_send_graft_timer::{on_send_graft_timer, send_graft_sizes};
+use payloads::broadcast::{broadcast, broadcast_sizes};
+use payloads::on_gossip::{gossip_sizes, on_gossip};
+use payloads::on_graft::{graft_sizes, on_graft};
+use payloads::on_late_graft_reply::on_late_graft_reply;
+use payloads::on_prune::on_prune;
+use steps::Sizes;
+use steps::call::Call;
+use steps::on_evict_cache_timer::evict_sizes;
+use steps::panel::Panel;
+use steps::view::View;
+
+// The numbers of entries after a first event's work and the step. Its time is that of the step's own function.
+pub fn step_sizes(view: &View, call: &Call, step: Step) -> Sizes
+    requires { Named call.now step (shown view.now) }
+    ensures { sizes_value result ≡ sizes_of (after_event call.now step.entry (shown view.now)) }
+{
+    match step {
+        Step::NewSwarm(message) => gossip_sizes(view, call, &message),
+        Step::Graft { link, wanted } => graft_sizes(view, call, link, wanted),
+        Step::IHave { ihaves, .. } => ihave_sizes(view, call, ihaves),
+        Step::BroadcastSwarm { id, content } => broadcast_sizes(view, call, id, content),
+        Step::SendGraft(id) => send_graft_sizes(view, call, id),
+        Step::DispatchLazyPush => dispatch_sizes(view, call),
+        Step::EvictCache => evict_sizes(view, call),
+        Step::AnnounceDropped => announce_sizes(view, call),
+        _ => view.sizes_then(call.instant),
+    }
+}
+
+// The step, where a first event's work is done.
+pub fn step_state(panel: &mut Panel, call: &Call, step: Step)
+    requires { Ready call.now step (state panel.old) }
+    ensures { Goes (after_step call.now step.entry) panel.old panel.new }
+{
+    match step {
+        Step::NewSwarm(message) => on_gossip(panel, call, &message),
+        Step::Late(copy) => on_late_graft_reply(panel, call, copy),
+        Step::Prune { link } => on_prune(panel, link),
+        Step::Graft { link, wanted } => on_graft(panel, call, link, wanted),
+        Step::IHave { link, ihaves } => on_ihave(panel, link, ihaves),
+        Step::BroadcastSwarm { id, content } => broadcast(panel, call, id, content),
+        Step::SendGraft(id) => on_send_graft_timer(panel, call, id),
+        Step::DispatchLazyPush => on_dispatch_timer(panel, call),
+        Step::EvictCache => panel.on_evict_cache_timer(call),
+        Step::AnnounceDropped => on_announce_dropped_timer(panel),
+        _ => {}
+    }
+}
+
+// "the first other event evicts and schedules EvictCache before anything else", then the step.
+pub fn call_state(panel: &mut Panel, call: &Call, step: Step)
+    requires { Due call.now step (state panel.old) }
+    ensures { Goes (after_event call.now step.entry) panel.old panel.new }
+{
+    panel.first_event(call);
+    step_state(panel, call, step);
+}

@@ -1,0 +1,132 @@
+-- The sends of an eager push, link by link.
+-- Assumes nothing.
+use Rattle.std.proofs.Common.{◌≡◌, ℕ, ◌+◌, ◌≤◌, ◌<◌, refl, sym, ap, ◌∙◌, arith, Bool, true, false, not, ◌||◌, List, [], ◌∷◌, ◌++◌, map, length, get_or, append_assoc, length-append}
+use lib.Dec.{leb}
+use Rattle.storage.specs.Lists.Base.{is_empty, concat_map}
+use Rattle.storage.proofs.ListsLaws.ListLaws.{concat-append, concat-one}
+use Rattle.postcard.specs.Number.{number_bytes}
+use Rattle.postcard.specs.Message.{Sent, message_bytes, action_bytes, taken_byte}
+use Rattle.postcard.specs.Output.{send_head}
+use Rattle.wire.specs.Encode.Held.{Held, after, RoomFor}
+use Rattle.wire.proofs.EncodeLaws.HeldLaws.{after_append, after_nil, room_after}
+use Rattle.protocol.specs.State.{State}
+use Rattle.decide.specs.Rooms.{first_send}
+use Rattle.decide.specs.RecordGrowth.{announce_action, push_actions}
+use Rattle.block.specs.LinkSteps.{peer_at, link_at}
+use Rattle.wire.specs.declared.encode.message.Gossip.{Gossip}
+use Rattle.steps.specs.Calls.{rooms_of}
+use Rattle.steps.specs.Panels.{AtRest}
+use Rattle.steps.specs.Views.{numbered_link}
+use Rattle.steps.specs.declared.call.Call.{Call}
+use Rattle.steps.specs.declared.view.Link.{Link}
+use Rattle.payloads.specs.declared.eager_push.target.Push.{Push}
+use Rattle.payloads.specs.Eager.Targets.{is_target}
+use Rattle.payloads.proofs.EagerLaws.TargetLaws.{Roomed, first, rest, first-none, first-in, first_out, first-all, first_rest, backs_to, backs-none, backs-held, backs-taken, backs-out, backs-all}
+use Rattle.payloads.specs.EagerPush.Targets.{skipped_peers, push_targets, push_backs}
+use Rattle.payloads.specs.EagerPush.Sends.{gossip_value, sends_bytes, push_bytes}
+use Rattle.payloads.proofs.EagerPushLaws.TargetLaws.{link_peer, rest-roomed}
+
+map-more : {A B : Type 0} (f : A → B) (xs ys : List A) → map f (xs ++ ys) ≡ map f xs ++ map f ys
+map-more f [] ys = refl
+map-more f (x ∷ xs) ys = ap (λ (l : List _). f x ∷ l) (map-more f xs ys)
+
+filled : (ps : List ℕ) (p : ℕ) → is_empty (ps ++ (p ∷ [])) ≡ false
+filled [] p = refl
+filled (q ∷ ps) p = refl
+
+or-false : (b : Bool) → (b || false) ≡ b
+or-false true = refl
+or-false false = refl
+
+or-true : (b : Bool) → (b || true) ≡ true
+or-true true = refl
+or-true false = refl
+
+-- a push of a message
+module _ (call : Call) (push : Push) (g : Gossip) (s : State) where
+  abbrev array : List ℕ
+  array = call.rooms.numbers.now
+
+  abbrev skip : List ℕ
+  skip = skipped_peers push.skip s
+
+  abbrev sends : List ℕ → List ℕ
+  sends ps = concat_map action_bytes (map (first_send (rooms_of call s) (gossip_value g)) ps)
+
+  -- the sends to those among the first i links
+  abbrev pub sends_to : ℕ → List ℕ
+  sends_to i = sends (first push.sender skip s i)
+
+  sends-append : (ps qs : List ℕ) → sends (ps ++ qs) ≡ sends ps ++ sends qs
+  sends-append ps qs =
+      ap (concat_map action_bytes) (map-more (first_send (rooms_of call s) (gossip_value g)) ps qs)
+      ∙ concat-append action_bytes (map (first_send (rooms_of call s) (gossip_value g)) ps) (map (first_send (rooms_of call s) (gossip_value g)) qs)
+
+  pub sends-start : (h : Held) → h ≡ after (sends_to 0) h
+  unfolding concat_map
+  sends-start h = sym (ap (λ (ps : List ℕ). after (sends ps) h) (first-none push.sender skip s) ∙ after_nil h)
+
+  pub sends-done : (i : ℕ) → length s.links ≤ i → (h now : Held) → now ≡ after (sends_to i) h → now ≡ after (sends_bytes call push g s) h
+  sends-done i q h now a = a ∙ ap (λ (ps : List ℕ). after (sends ps) h) (first-all push.sender skip s i q)
+
+  module _ (i : ℕ) (q : i < length s.links) where
+    pub sends-skip : (b : Bool) → b ≡ is_target push.sender skip s i → b ≡ false → (h now : Held) → now ≡ after (sends_to i) h → now ≡ after (sends_to (i + 1)) h
+    sends-skip b k t h now a = a ∙ ap (λ (ps : List ℕ). after (sends ps) h) (sym (first_out push.sender skip s i q (sym k ∙ t)))
+
+    module _ (rest' : AtRest s) (b : Bool) (k : b ≡ is_target push.sender skip s i) (t : b ≡ true) (to : Link) (et : to ≡ numbered_link i (link_at s i)) (taken : Bool) (er : taken ≡ leb 1 (get_or array i 0)) where
+      same-send : first_send (rooms_of call s) (gossip_value g) (peer_at s i) ≡ Sent to.peer taken (gossip_value g)
+      unfolding first_send
+      same-send = λ j. Sent ((link_peer s i q ∙ sym (ap (λ (l : Link). l.peer) et)) j) (((rest-roomed s array rest').first i q ∙ sym er) j) (gossip_value g)
+
+      abbrev sent : List ℕ
+      sent = send_head to.peer taken ++ message_bytes (gossip_value g)
+
+      one : action_bytes (Sent to.peer taken (gossip_value g)) ≡ sent
+      unfolding action_bytes send_head
+      one = sym (append_assoc (1 ∷ number_bytes to.peer) (taken_byte taken ∷ []) (message_bytes (gossip_value g)))
+
+      more : sends_to (i + 1) ≡ sends_to i ++ sent
+      more =
+          ap sends (first-in push.sender skip s i q (sym k ∙ t))
+          ∙ sends-append (first push.sender skip s i) (peer_at s i ∷ [])
+          ∙ ap (λ (l : List ℕ). sends_to i ++ l) (concat-one action_bytes (first_send (rooms_of call s) (gossip_value g) (peer_at s i)) ∙ ap action_bytes same-send ∙ one)
+
+      pub sends-room : (h now : Held) → now ≡ after (sends_to i) h → RoomFor (sends_bytes call push g s) h → RoomFor sent now
+      sends-room h now a r =
+          let whole : sends_bytes call push g s ≡ sends_to (i + 1) ++ sends (rest push.sender skip s (i + 1)) =
+          ap sends (first_rest push.sender skip s (i + 1)) ∙ sends-append (first push.sender skip s (i + 1)) (rest push.sender skip s (i + 1)) in
+          rw (a, room_after (sends_to i) h)
+          (omega (arith, r, ap length whole, length-append (sends_to (i + 1)) (sends (rest push.sender skip s (i + 1))), ap length more, length-append (sends_to i) sent))
+
+      pub sends-more : (h now next : Held) → now ≡ after (sends_to i) h → next ≡ after sent now → next ≡ after (sends_to (i + 1)) h
+      sends-more h now next a e = e ∙ ap (after sent) a ∙ after_append (sends_to i) sent h ∙ ap (λ (l : List ℕ). after l h) (sym more)
+
+  -- whether any of them was handed back
+  abbrev pub any_back : ℕ → Bool
+  any_back i = not (is_empty (backs_to push.sender skip array s i))
+
+  pub back-start : false ≡ any_back 0
+  back-start = sym (ap (λ (ps : List ℕ). not (is_empty ps)) (backs-none push.sender skip array s))
+
+  pub back-done : (i : ℕ) → length s.links ≤ i → (b : Bool) → b ≡ any_back i → b ≡ not (is_empty (push_backs call push s))
+  back-done i q b e = e ∙ ap (λ (ps : List ℕ). not (is_empty ps)) (backs-all push.sender skip array s i q)
+
+  module _ (rest' : AtRest s) (i : ℕ) (q : i < length s.links) where
+    roomed : Roomed s array
+    roomed = rest-roomed s array rest'
+
+    pub back-skip : (found : Bool) → found ≡ is_target push.sender skip s i → found ≡ false → (b : Bool) → b ≡ any_back i → b ≡ any_back (i + 1)
+    back-skip found e t b k = k ∙ ap (λ (ps : List ℕ). not (is_empty ps)) (sym (backs-out push.sender skip array s roomed i q (sym e ∙ t)))
+
+    pub back-more : (found : Bool) → found ≡ is_target push.sender skip s i → found ≡ true → (taken : Bool) → taken ≡ leb 1 (get_or array i 0) → (b : Bool) → b ≡ any_back i → (b || not taken) ≡ any_back (i + 1)
+    back-more found e y true t b k = or-false b ∙ k ∙ ap (λ (ps : List ℕ). not (is_empty ps)) (sym (backs-taken push.sender skip array s roomed i q (sym e ∙ y) (sym t)))
+    back-more found e y false t b k =
+        or-true b ∙ sym (ap (λ (ps : List ℕ). not (is_empty ps)) (backs-held push.sender skip array s roomed i q (sym e ∙ y) (sym t)) ∙ ap not (filled (backs_to push.sender skip array s i) (peer_at s i)))
+
+-- the record's timer behind the sends
+pub push-parts : (call : Call) (push : Push) (g : Gossip) (s : State) (back flag : Bool) → back ≡ not (is_empty (push_backs call push s)) → flag ≡ s.timers.announce
+    → push_bytes call push g s ≡ sends_bytes call push g s ++ concat_map action_bytes (announce_action back flag)
+unfolding push_actions
+push-parts call push g s back flag e f =
+    concat-append action_bytes (map (first_send (rooms_of call s) (gossip_value g)) (push_targets push s)) (announce_action (not (is_empty (push_backs call push s))) s.timers.announce)
+    ∙ sym (λ k. sends_bytes call push g s ++ concat_map action_bytes (announce_action (e k) (f k)))

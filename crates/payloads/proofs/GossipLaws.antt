@@ -1,2 +1,0 @@
--- OutLaws: the actions of a new Swarm message, as bytes.
-pub mod OutLaws

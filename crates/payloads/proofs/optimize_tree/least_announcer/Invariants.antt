@@ -1,0 +1,12 @@
+-- The least so far, and those that are left.
+use Rattle.std.proofs.Common.{◌≡◌, ◌<◌, length, drop}
+use Rattle.block.specs.MissingSteps.{hops_at}
+use Rattle.protocol.specs.Gossips.{least_from}
+use Rattle.steps.specs.Found.{hop_of}
+use Rattle.steps.specs.Views.{shown}
+use Rattle.payloads.specs.OptimizeTree.{least_of}
+use Rattle.payloads.proofs.optimize_tree.least_announcer.Given as goal
+
+abbrev pub invariant-loop-number : goal.invariant-loop-number
+invariant-loop-number l =
+    (l.least.link < length (shown l.view).links) × (least_from (hop_of (shown l.view) l.least) (drop l.number (hops_at (shown l.view) l.missing)) ≡ least_of (hops_at (shown l.view) l.missing))

@@ -1,0 +1,21 @@
+-- `optimize_actions` meets its contract: by what was found.
+use Rattle.std.proofs.Common.{◌∙◌, ap, sym, arith, length, List, ℕ}
+use Rattle.wire.specs.Encode.Held.{after}
+use Rattle.wire.proofs.EncodeLaws.HeldLaws.{after_nil}
+use Rattle.steps.specs.Views.{shown}
+use Rattle.payloads.proofs.OptimizeTreeLaws.{bytes-some, bytes-none}
+use Rattle.payloads.proofs.optimize_tree.optimize_actions.Goals as goal
+
+pub shortcut_actions-requires-clause-room : goal.shortcut_actions-requires-clause-room
+shortcut_actions-requires-clause-room g c =
+    omega (arith, c.requires.room, ap length (bytes-some c.args.call.now c.args.arrival (shown c.args.view.now) c.in-Some.shortcut c.in-Some.ensures.0 c.in-Some.ensures.1))
+
+pub returns-in-Some : goal.returns-in-Some
+returns-in-Some g c =
+    c.shortcut_actions.ensures
+    ∙ ap (λ (bs : List ℕ). after bs (g.S.Sink.held c.args.out.now)) (bytes-some c.args.call.now c.args.arrival (shown c.args.view.now) c.in-Some.shortcut c.in-Some.ensures.0 c.in-Some.ensures.1)
+
+pub returns-in_default : goal.returns-in_default
+returns-in_default g c =
+    sym (after_nil (g.S.Sink.held c.args.out.now))
+    ∙ ap (λ (bs : List ℕ). after bs (g.S.Sink.held c.args.out.now)) (sym (bytes-none c.args.call.now c.args.arrival (shown c.args.view.now) c.in_default.ensures))

@@ -1,0 +1,3 @@
+pub mod Targets
+pub mod Sends
+pub mod Notes

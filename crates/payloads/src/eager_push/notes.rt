@@ -1,0 +1,87 @@
+// What is handed back of an eager push is noted: the specification, "Record".
+ghost use Rattle.std.specs.Prelude.{ℕ, Bool, ◌≡◌, ◌<◌, ◌≤◌, true, length, All};
+ghost use Rattle.storage.specs.Rows.Ident.{id_of};
+ghost use Rattle.steps.specs.Views.{shown};
+ghost use Rattle.steps.specs.Panels.{state, Goes, AtRest};
+ghost use Rattle.steps.specs.Record.{with_these};
+ghost use Rattle.payloads.specs.Eager.Scan.{Starts, SeenFor};
+ghost use Rattle.payloads.specs.EagerPush.Targets.{skipped_peers, SkipThere};
+ghost use Rattle.payloads.specs.EagerPush.Notes.{record_back, back_state, NotesBack};
+
+use crate::eager_push::target::{Push, hands_back};
+use block::note;
+use postcard::units::Round;
+use protocol::{MAX_DROPPED, MAX_DROPPED_PER_PEER};
+use steps::call::Call;
+use steps::link_list::{LinkList, MAX_LINKS};
+use steps::panel::Panel;
+use steps::view::View;
+use storage::rows::id;
+use storage::rows::id::Id;
+
+// For each link 0 if it hands the push back, else 256. Its time is that of one pass over the links.
+fn first_marks(view: &View, call: &Call, push: &Push) -> [usize; MAX_LINKS]
+    requires { AtRest (shown view.now) × SkipThere push.now.skip (shown view.now) }
+    ensures { Starts push.now.sender (skipped_peers push.now.skip (shown view.now)) call.now.rooms.numbers.now (shown view.now) (length (shown view.now).links) result }
+{
+    let mut marks = [0usize; MAX_LINKS];
+    for link in 0..view.link_count() {
+        let back = hands_back(view, call, push, link);
+        marks[link] = if back { 0 } else { MAX_DROPPED_PER_PEER };
+    }
+    marks
+}
+
+// Counts on, for each link that has fewer than 256, the notes that the record has for it; 256 if one is of the identifier. Only rows of such links are looked into. Its
+// time is that of one pass over the record's column of link numbers.
+fn marks_after(view: &View, from: [usize; MAX_LINKS], id: Id) -> [usize; MAX_LINKS]
+    requires { AtRest (shown view.now) × (length from ≡ MAX_LINKS) }
+    ensures { SeenFor (shown view.now) (length (shown view.now).links) (id_of id) from result }
+{
+    let head = view.head;
+    let block = view.block;
+    let mut marks = from;
+    for i in 0..head.live.dropped {
+        let link = note::dropped_link_at(head, block, i);
+        if marks[link] < MAX_DROPPED_PER_PEER {
+            let noted = note::dropped_at(head, block, i);
+            let same = id::same(noted.id, id);
+            marks[link] = if same {
+                MAX_DROPPED_PER_PEER
+            } else {
+                marks[link] + 1
+            };
+        }
+    }
+    marks
+}
+
+// The links that get a note of a cached identifier that is pushed: those that hand it back, "added unless the peer has 256 or all have 4,096", or it is there. Its time
+// is that of one pass over the links, and of one over the record's column of link numbers.
+pub fn to_note(view: &View, call: &Call, push: &Push, id: Id) -> LinkList
+    requires { AtRest (shown view.now) × SkipThere push.now.skip (shown view.now) }
+    ensures noted { (held : ℕ → Bool) (round : ℕ) → held (id_of id) ≡ true → record_back held call.now push.now (id_of id) round (shown view.now) ≡ with_these result (id_of id) round (shown view.now) }
+    ensures links { All (λ link. link < length (shown view.now).links) result }
+    ensures few { length result ≤ MAX_LINKS }
+{
+    let marks = marks_after(view, first_marks(view, call, push), id);
+    let mut noted = LinkList::new();
+    for link in 0..view.link_count() {
+        if marks[link] < MAX_DROPPED_PER_PEER
+            && view.head.live.dropped + noted.len() < MAX_DROPPED
+        {
+            noted.push(link);
+        }
+    }
+    noted
+}
+
+// `eager_push`, the record: "handed back are noted after all sends", which is `note_dropped` of a cached identifier for each link that handed it back. Its time is that
+// of `to_note`.
+pub fn note_back(panel: &mut Panel, call: &Call, push: &Push, id: Id, round: Round)
+    requires { NotesBack call.now push.now (id_of id) round.0 (state panel.old) }
+    ensures { Goes (back_state call.now push.now (id_of id) round.0) panel.old panel.new }
+{
+    let noted = to_note(&panel.view(), call, push, id);
+    panel.note_these(&noted, id, round);
+}

@@ -1,0 +1,57 @@
+// What an eager push sends.
+ghost use Rattle.std.specs.Prelude.{◌≡◌, not};
+ghost use Rattle.storage.specs.Lists.Base.{is_empty};
+ghost use Rattle.wire.specs.Encode.Held.{after, RoomFor};
+ghost use Rattle.steps.specs.Views.{shown};
+ghost use Rattle.steps.specs.Panels.{AtRest};
+ghost use Rattle.payloads.specs.EagerPush.Targets.{SkipThere, push_backs};
+ghost use Rattle.payloads.specs.EagerPush.Sends.{sends_bytes, push_bytes};
+
+use crate::eager_push::target::{Push, is_target};
+use steps::call::Call;
+use steps::schedule::schedule_announce_dropped;
+use steps::view::View;
+use wire::encode::Encode;
+use wire::encode::action::Send;
+use wire::encode::message::Gossip;
+use wire::encode::sink::Sink;
+
+// The sends of a push, ascending, and whether any was handed back. Its time is that of one pass over the links.
+pub fn push_sends<S: Sink>(
+    view: &View,
+    call: &Call,
+    out: &mut S,
+    push: &Push,
+    message: &Gossip,
+) -> bool
+    requires rest { AtRest (shown view.now) × SkipThere push.now.skip (shown view.now) }
+    requires room { RoomFor (sends_bytes call.now push.now message.now (shown view.now)) (S.held out.old) }
+    ensures sent { S.held out.new ≡ after (sends_bytes call.now push.now message.now (shown view.now)) (S.held out.old) }
+    ensures back { result ≡ not (is_empty (push_backs call.now push.now (shown view.now))) }
+{
+    let mut back = false;
+    for link in 0..view.link_count() {
+        if is_target(view, push, link) {
+            let taken = call.rooms.takes(link);
+            Send {
+                peer: view.link(link).peer,
+                taken,
+                message: *message,
+            }
+            .encode(out);
+            back |= !taken;
+        }
+    }
+    back
+}
+
+// `eager_push`, of a cached message: the sends, and `schedule_announce_dropped` behind them all, as "handed back are noted after all sends". Its time is that of
+// one pass over the links.
+pub fn eager_push<S: Sink>(view: &View, call: &Call, out: &mut S, push: &Push, message: &Gossip)
+    requires rest { AtRest (shown view.now) × SkipThere push.now.skip (shown view.now) }
+    requires room { RoomFor (push_bytes call.now push.now message.now (shown view.now)) (S.held out.old) }
+    ensures { S.held out.new ≡ after (push_bytes call.now push.now message.now (shown view.now)) (S.held out.old) }
+{
+    let back = push_sends(view, call, out, push, message);
+    schedule_announce_dropped(out, back, view.head.live.announce_dropped_scheduled);
+}

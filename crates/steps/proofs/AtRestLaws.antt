@@ -1,0 +1,51 @@
+-- A panel between two calls, and what is the same of the state that a first event leaves.
+-- Assumes nothing.
+use Rattle.std.proofs.Common.{◌≡◌, ℕ, ◌<◌, length, refl, sym, ap, ◌∙◌, arith, Bool, true, false, List, if◌then◌else◌}
+use Rattle.storage.specs.Lists.Base.{ascending}
+use Rattle.storage.specs.Lists.Map.{keys}
+use Rattle.time_cache.specs.TimeCache.{later_cache}
+use Rattle.protocol.specs.Links.{Links}
+use Rattle.protocol.specs.State.{State, with_init, with_received, with_grafted, with_cache}
+use Rattle.decide.specs.Settled.{settled}
+use Rattle.block.specs.View.{state_of}
+use Rattle.block.specs.Sound.{Sound}
+use Rattle.block.specs.LinkSteps.{peer_at}
+use Rattle.block.specs.declared.head.Head.{Head}
+use Rattle.steps.specs.Stands.{Stands}
+use Rattle.steps.specs.Panels.{AtRest}
+use Rattle.steps.specs.Record.{takes_note}
+
+pub stands_of : (h : Head) (xs : List ℕ) → Sound h xs → AtRest (state_of h xs) → Stands h xs
+stands_of h xs s r = record { sound = s; consistent = r.consistent; ranged = r.ranged }
+
+pub rest_of : (h : Head) (xs : List ℕ) → Stands h xs → AtRest (state_of h xs)
+rest_of h xs s = record { consistent = s.consistent; ranged = s.ranged }
+
+-- a first event's eviction changes the three time caches and `init` alone
+pub settled-as : {A : Type 0} (now : ℕ) (s : State) (f : State → A)
+    → f (with_init true (with_grafted (later_cache now s.grafted) (with_received (later_cache now s.received) (with_cache (later_cache now s.cache) s)))) ≡ f s → f (settled now s) ≡ f s
+unfolding settled
+settled-as now s f e = on s.init
+  where
+    on : (b : Bool) → f (if b then s else with_init true (with_grafted (later_cache now s.grafted) (with_received (later_cache now s.received) (with_cache (later_cache now s.cache) s)))) ≡ f s
+    on true = refl
+    on false = e
+
+module _ (now : ℕ) (s : State) where
+  pub same_links : (settled now s).links ≡ s.links
+  same_links = settled-as now s (λ (u : State). u.links) refl
+
+  pub same_dropped : (settled now s).dropped ≡ s.dropped
+  same_dropped = settled-as now s (λ (u : State). u.dropped) refl
+
+  pub same_flag : (settled now s).timers.announce ≡ s.timers.announce
+  same_flag = settled-as now s (λ (u : State). u.timers.announce) refl
+
+  pub settled-up : AtRest s → ascending (keys (settled now s).links) ≡ true
+  settled-up r = ap (λ (l : Links). ascending (keys l)) same_links ∙ r.consistent.core.links_up
+
+  pub settled-low : (l : ℕ) → l < length s.links → l < length (settled now s).links
+  settled-low l q = omega (arith, q, ap length same_links)
+
+  pub settled-takes : (l id : ℕ) → takes_note (peer_at s l) id s.dropped ≡ takes_note (peer_at (settled now s) l) id (settled now s).dropped
+  settled-takes l id = sym (settled-as now s (λ (u : State). takes_note (peer_at u l) id u.dropped) refl)

@@ -1,0 +1,81 @@
+-- The record cut to its first entries.
+-- Assumes nothing.
+use mathlib.Core.Path.{◌≡◌, refl, sym, ap, ◌∙◌}
+use mathlib.Core.List.{List, [], ◌∷◌}
+use Prim.Native.Nat.{ℕ, zero, suc, ◌+◌, ◌≤◌, ◌<◌}
+use native.Mathlib.Omega.{arith}
+use lib.Dec.{lit<}
+use lib.ListN.{length, take, get_or}
+use lib.Seq.{get_or-take, length-take-le, take-take}
+use Rattle.storage.specs.Rows.Rows.{rows}
+use Rattle.storage.proofs.RowsLaws.Rows.{take-rows}
+use Rattle.storage.specs.Refs.Refs.{Below}
+use Rattle.protocol.specs.State.{Limits, Note, with_dropped}
+use Rattle.block.specs.Layout.{tables, table}
+use Rattle.block.specs.View.{state_of, limits_of, note_of, notes_in, peers_in}
+use Rattle.storage.specs.Refs.Numbers.{pairs, numbered}
+use Rattle.block.specs.Fit.{Fit}
+use Rattle.block.specs.Sound.{Laid, Sound}
+use Rattle.block.specs.Goes.{Goes}
+use Rattle.block.specs.Heads.{with_dropped_count}
+use Rattle.block.specs.declared.head.Head.{Head}
+use Rattle.block.proofs.Tables.{length-table}
+
+below-take : (m k n : ℕ) (ps : List ℕ) → k ≤ n → n ≤ length ps → Below m (take n ps) → Below m (take k ps)
+below-take m k n ps h g b = record {
+  below = λ i l.
+      let q : i < k = omega (arith, length-take-le k ps (omega arith)) in
+      let at : get_or (take n ps) i 0 < m = b.below i (omega (arith, length-take-le n ps g)) in
+      omega (arith, get_or-take k ps i 0 q, get_or-take n ps i 0 (omega arith));
+}
+
+module _ {A : Type 0} (f : ℕ → List ℕ → A) where
+  pairs-take : (k : ℕ) (ls : List ℕ) (rs : List (List ℕ)) → pairs f (take k ls) (take k rs) ≡ take k (pairs f ls rs)
+  unfolding pairs
+  pairs-take zero ls rs = refl
+  pairs-take (suc k) [] rs = refl
+  pairs-take (suc k) (l ∷ ls) [] = refl
+  pairs-take (suc k) (l ∷ ls) (r ∷ rs) = ap (λ (t : List A). f l r ∷ t) (pairs-take k ls rs)
+
+  module _ (s n k : ℕ) (c b : List ℕ) where
+    numbered-take : k ≤ n → numbered f s k c b ≡ take k (numbered f s n c b)
+    unfolding numbered
+    numbered-take h =
+        (λ t. pairs f (sym (take-take k n c h) t) (sym (take-rows s k n b h) t)) ∙ pairs-take k (take n c) (rows s n b)
+
+module _ (h : Head) (xs : List ℕ) (sound : Sound h xs) where
+  abbrev l1 : Limits
+  l1 = limits_of h.limits
+
+  abbrev fit : Fit h xs
+  fit = sound.fit
+
+  abbrev old : Laid h (tables l1 xs)
+  old = sound.laid
+
+  abbrev n : ℕ
+  n = h.live.dropped
+
+  numbers-long : length (table l1 13 xs) ≡ l1.D + 1
+  numbers-long = length-table l1 13 xs (lit< tt) fit.long
+
+  -- the first k entries
+  pub cut-goes : (k : ℕ) → k ≤ h.live.dropped → Goes (λ s. with_dropped (take k s.dropped) s) h xs (with_dropped_count k h) xs
+  unfolding state_of notes_in
+  cut-goes k q = record {
+    state = ap (λ (ns : List Note). with_dropped ns (state_of h xs)) (numbered-take (note_of (peers_in h (tables l1 xs))) 34 n k (table l1 13 xs) (table l1 14 xs) q);
+    sound = record {
+      fit = record { ceilings = fit.ceilings; within = omega arith; long = fit.long };
+      laid = record {
+        received = old.received;
+        cached = old.cached;
+        grafted = old.grafted;
+        contents = old.contents;
+        used = old.used;
+        grafts = old.grafts;
+        missing = old.missing;
+        queue = old.queue;
+        dropped = below-take h.live.links k n (table l1 13 xs) q (omega (arith, numbers-long, fit.within.dropped)) old.dropped;
+      };
+    };
+  }

@@ -1,2 +1,0 @@
-pub mod LazyLaws
-pub mod NotedLaws

@@ -1,0 +1,76 @@
+-- The columns of link numbers of the queue and the record, and how many identifiers an IHave takes.
+-- Assumes nothing.
+use Rattle.std.proofs.Common.{zero, suc, ◌≡◌, ℕ, ◌+◌, ◌-◌, ◌<◌, ◌≤◌, length, sym, arith, List, ◌∙◌, ap, map, get_or, take, drop, [], ◌∷◌, refl}
+use Rattle.std.proofs.lemmas.List.{ext_get_or, length-map, get_or-take, get_or-drop, length-take-le, length-drop}
+use lib.ListN.{get_or-map}
+use Rattle.std.proofs.lemmas.List.Elements.{All-from_get_or}
+use Rattle.protocol.specs.State.{State, Note, size_in_range}
+use Rattle.protocol.specs.Consistent.{Ranged}
+use Rattle.protocol.specs.Ticks.{per_message}
+use borrow.Author.Tests.{leb-true}
+use lib.Dec.{leb}
+use Rattle.storage.proofs.ListsLaws.MapLaws.{and_left, and_right}
+use Rattle.block.proofs.Cut.{within}
+use Rattle.block.specs.Layout.{place, sizes}
+use Rattle.block.specs.LinkSteps.{peer_at}
+use Rattle.block.specs.NoteSteps.{note, LinkIs}
+use Rattle.block.specs.View.{state_of, limits_of}
+use Rattle.block.specs.Sound.{Sound}
+use Rattle.block.specs.declared.head.Head.{Head}
+use Rattle.block.proofs.LinkLaws.{count-links}
+use Rattle.block.proofs.NoteLaws.{count-queue, count-dropped, queue-link, record-link}
+use Rattle.steps.specs.Queue.{Column}
+
+pub map-at : (f : ℕ → ℕ) (xs : List ℕ) (i : ℕ) → i < length xs → get_or (map f xs) i 0 ≡ f (get_or xs i 0)
+map-at f [] i q = absurd (omega (arith, q))
+map-at f (x ∷ xs) zero q = refl
+map-at f (x ∷ xs) (suc i) q = map-at f xs i (omega (arith, q))
+
+pub size_low : (s : State) → Ranged s → 510 ≤ s.settings.max_message_size
+unfolding size_in_range
+size_low s r = leb-true 510 s.settings.max_message_size (and_left (leb 510 s.settings.max_message_size) (leb s.settings.max_message_size 4094) r.size)
+
+-- how many identifiers an IHave has
+pub record PerMessage (k : ℕ) : Type 0 where
+  pub some : 1 ≤ k
+  pub few : k ≤ 116
+
+pub per-message : (s : State) → Ranged s → PerMessage (per_message s.settings.max_message_size)
+unfolding per_message size_in_range
+per-message s r =
+    let high : s.settings.max_message_size ≤ 4094 = leb-true s.settings.max_message_size 4094 (and_right (leb 510 s.settings.max_message_size) (leb s.settings.max_message_size 4094) r.size) in
+    record { some = omega (arith, size_low s r); few = omega arith }
+
+module _ (h : Head) (xs : List ℕ) where
+  pub queue-few : Sound h xs → length (state_of h xs).queue ≤ 8192
+  queue-few sound = omega (arith, count-queue h xs sound, sound.fit.within.queued, sound.fit.ceilings.Q)
+
+  pub record-few : Sound h xs → length (state_of h xs).dropped ≤ 4096
+  record-few sound = omega (arith, count-dropped h xs sound, sound.fit.within.dropped, sound.fit.ceilings.D)
+
+  -- a column of link numbers
+  pub column_is : Sound h xs → (ns : List Note) (a n : ℕ) (numbers : List ℕ) → length numbers ≡ n → length ns ≡ n → ((i : ℕ) → i < n → get_or numbers i 0 ≡ get_or xs (a + i) 0)
+      → ((i : ℕ) → i < n → LinkIs h xs ns i (get_or xs (a + i) 0)) → Column (state_of h xs) ns numbers
+  column_is sound ns a n numbers e f g is = record {
+    below = All-from_get_or (λ (l : ℕ). l < length (state_of h xs).links) numbers 0 (λ i q. omega (arith, g i (omega (arith, q, e)), (is i (omega (arith, q, e))).below, count-links h xs));
+    peers = ext_get_or 0 (map (λ (n : Note). n.peer) ns) (map (peer_at (state_of h xs)) numbers) (length-map ns (λ (n : Note). n.peer) ∙ f ∙ sym e ∙ sym (length-map numbers (peer_at (state_of h xs))))
+        (λ i q. let b : i < n = omega (arith, q, length-map ns (λ (n : Note). n.peer), f) in get_or-map (λ (n : Note). n.peer) ns i (note 0 0 0) ∙ (is i b).peer ∙ ap (peer_at (state_of h xs)) (sym (g i b)) ∙ sym (map-at (peer_at (state_of h xs)) numbers i (omega (arith, b, e))));
+  }
+
+  pub queue-column : (sound : Sound h xs) (a : ℕ) → a ≡ place (limits_of h.limits) 11 → Column (state_of h xs) (state_of h xs).queue (take (a + h.live.queued - a) (drop a xs))
+  queue-column sound a e =
+      let f : a + h.live.queued ≤ length xs = omega (arith, within (sizes (limits_of h.limits)) 11 0 h.live.queued (omega arith) (omega (arith, sound.fit.within.queued)), sound.fit.long, e) in
+      let n = h.live.queued in
+      let l : length (take (a + n - a) (drop a xs)) ≡ n = length-take-le (a + n - a) (drop a xs) (omega (arith, length-drop a xs, f)) ∙ omega arith in
+      column_is sound (state_of h xs).queue a n (take (a + n - a) (drop a xs)) l (count-queue h xs sound)
+      (λ i q. get_or-take (a + n - a) (drop a xs) i 0 (omega (arith, q)) ∙ get_or-drop a xs i 0)
+      (λ i q. rw e (queue-link h xs sound i q))
+
+  pub record-column : (sound : Sound h xs) (a : ℕ) → a ≡ place (limits_of h.limits) 13 → Column (state_of h xs) (state_of h xs).dropped (take (a + h.live.dropped - a) (drop a xs))
+  record-column sound a e =
+      let f : a + h.live.dropped ≤ length xs = omega (arith, within (sizes (limits_of h.limits)) 13 0 h.live.dropped (omega arith) (omega (arith, sound.fit.within.dropped)), sound.fit.long, e) in
+      let n = h.live.dropped in
+      let l : length (take (a + n - a) (drop a xs)) ≡ n = length-take-le (a + n - a) (drop a xs) (omega (arith, length-drop a xs, f)) ∙ omega arith in
+      column_is sound (state_of h xs).dropped a n (take (a + n - a) (drop a xs)) l (count-dropped h xs sound)
+      (λ i q. get_or-take (a + n - a) (drop a xs) i 0 (omega (arith, q)) ∙ get_or-drop a xs i 0)
+      (λ i q. rw e (record-link h xs sound i q))

@@ -1,0 +1,12 @@
+use mathlib.Core.Path.{sym, subst}
+use Rattle.std.specs.Prelude.{ℕ, Option}
+use Rattle.storage.specs.Rows.Ident.{id_of}
+use Rattle.steps.specs.Views.{shown}
+use Rattle.steps.specs.Found.{MissingOf}
+use Rattle.steps.proofs.FoundLaws.{found-missing}
+use Rattle.steps.proofs.view.View.find_missing.Goals as goal
+
+pub returns : goal.returns
+returns c =
+    let s = shown c.args.self.now in
+    subst (λ (o : Option ℕ). MissingOf s (id_of c.args.id) o) (sym c.ok.ensures.value) (found-missing s (id_of c.args.id) c.find_missing.result c.requires c.find_missing.ensures)

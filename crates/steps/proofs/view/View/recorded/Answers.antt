@@ -1,0 +1,9 @@
+use Rattle.std.proofs.Common.{sym, arith}
+use Rattle.block.proofs.NoteLaws.{count-dropped}
+use Rattle.steps.proofs.view.View.recorded.Goals as goal
+
+pub dropped_at-requires : goal.dropped_at-requires
+dropped_at-requires c = let v = c.args.self.now in (v.sound, omega (arith, c.requires, count-dropped v.head v.block.now v.sound))
+
+pub returns : goal.returns
+returns c = sym c.dropped_at.ensures.same

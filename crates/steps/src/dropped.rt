@@ -1,0 +1,52 @@
+// `dropped_ihaves`, the record, as AnnounceDropped passes it: a row read, a row written over another, the rest cut off; and its flag.
+use crate::panel::Panel;
+use crate::view::View;
+use block::note;
+use block::note::Note;
+
+impl<'a> View<'a> {
+    ghost use Rattle.std.specs.Prelude.{◌<◌, length, get_or};
+    ghost use Rattle.block.specs.NoteSteps.{note};
+    ghost use Rattle.steps.specs.Views.{shown};
+    ghost use Rattle.steps.specs.Dropped.{NoteOf};
+
+    // A row of the record.
+    pub fn dropped_note(&self, row: usize) -> Note
+        requires { row < length (shown self.now).dropped }
+        ensures { NoteOf (shown self.now) (get_or (shown self.now).dropped row (note 0 0 0)) result }
+    {
+        note::dropped_at(self.head, self.block, row)
+    }
+}
+
+impl<'a> Panel<'a> {
+    ghost use Rattle.std.specs.Prelude.{◌≤◌, ◌<◌, false, length};
+    ghost use Rattle.storage.specs.Rows.Ident.{id_of};
+    ghost use Rattle.protocol.specs.State.{with_announce_scheduled};
+    ghost use Rattle.block.specs.NoteSteps.{drop_instead};
+    ghost use Rattle.steps.specs.Panels.{state, Goes};
+    ghost use Rattle.steps.specs.Dropped.{record_cut};
+
+    // Another note in a row of the record.
+    pub fn set_dropped(&mut self, row: usize, note: Note)
+        requires { (row < length (state self.old).dropped) × (note.link < length (state self.old).links) }
+        ensures { Goes (drop_instead row note.link (id_of note.id) note.round.0) self.old self.new }
+    {
+        note::set_dropped(self.head, self.block, row, note);
+    }
+
+    // The record's first rows stay.
+    pub fn truncate_dropped(&mut self, rows: usize)
+        requires { rows ≤ length (state self.old).dropped }
+        ensures { Goes (record_cut rows) self.old self.new }
+    {
+        self.head.live.dropped = rows;
+    }
+
+    // AnnounceDropped has come: the flag alone.
+    pub fn unflag_announce(&mut self)
+        ensures { Goes (with_announce_scheduled false) self.old self.new }
+    {
+        self.head.live.announce_dropped_scheduled = false;
+    }
+}

@@ -1,0 +1,40 @@
+// What the time caches hold once a first event has evicted: the specification, "the first other event evicts and schedules EvictCache before anything else".
+use crate::call::Call;
+use crate::settled;
+use crate::view::View;
+use storage::rows::id::Id;
+
+impl<'a> View<'a> {
+    ghost use Rattle.std.specs.Prelude.{◌≡◌};
+    ghost use Rattle.storage.specs.Rows.Ident.{id_of};
+    ghost use Rattle.time_cache.specs.TimeCache.{holds, get};
+    ghost use Rattle.decide.specs.Settled.{settled};
+    ghost use Rattle.steps.specs.Settled.Then.{no_cached, no_grafts};
+    ghost use Rattle.steps.specs.Shared.{EntryIs};
+    ghost use Rattle.steps.specs.Panels.{AtRest};
+    ghost use Rattle.steps.specs.Views.{shown};
+
+    // Whether a message is received then.
+    pub fn is_received_then(&self, call: &Call, id: Id) -> bool
+        requires { AtRest (shown self.now) }
+        ensures { result ≡ holds (id_of id) (settled call.now.instant.0 (shown self.now)).received }
+    {
+        settled::received_then(self.head, self.block, call.instant, id)
+    }
+
+    // Whether a message is cached then.
+    pub fn is_cached_then(&self, call: &Call, id: Id) -> bool
+        requires { AtRest (shown self.now) }
+        ensures { result ≡ holds (id_of id) (settled call.now.instant.0 (shown self.now)).cache }
+    {
+        settled::is_cached_then(self.head, self.block, call.instant, id)
+    }
+
+    // The grafted message of an identifier, if it is there then, by its number among the grafted messages as they stand.
+    pub fn grafted_entry_then(&self, call: &Call, id: Id) -> Option<usize>
+        requires { AtRest (shown self.now) }
+        ensures { EntryIs no_grafts (shown self.now).grafted.entries (id_of id) (get (id_of id) (settled call.now.instant.0 (shown self.now)).grafted) result }
+    {
+        settled::grafted_then(self.head, self.block, call.instant, id)
+    }
+}

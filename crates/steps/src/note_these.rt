@@ -1,0 +1,25 @@
+// The record gets a note of an identifier for each of some links: the specification, "Record".
+use crate::link_list::LinkList;
+use crate::panel::Panel;
+use postcard::units::Round;
+use storage::rows::id::Id;
+
+impl<'a> Panel<'a> {
+    ghost use Rattle.std.specs.Prelude.{◌+◌, ◌<◌, ◌≤◌, length, All};
+    ghost use Rattle.storage.specs.Rows.Ident.{id_of};
+    ghost use Rattle.steps.specs.Panels.{state, Goes};
+    ghost use Rattle.steps.specs.Record.{these_noted};
+
+    // These links get a note of an identifier; a record that holds anything stands with its flag.
+    pub fn note_these(&mut self, noted: &LinkList, id: Id, round: Round)
+        requires links { All (λ link. link < length (state self.old).links) noted.now }
+        requires room { length (state self.old).dropped + length noted.now ≤ (state self.old).limits.D }
+        ensures { Goes (these_noted noted.now (id_of id) round.0) self.old self.new }
+    {
+        let links = noted.as_slice();
+        for link in links {
+            self.push_dropped(*link as usize, id, round);
+        }
+        self.flag_announce();
+    }
+}

@@ -1,0 +1,81 @@
+// `on_neighbor_up`: a neighbour comes (the specification, "Sets"). It has no actions.
+ghost use Rattle.std.specs.Prelude.{◌≡◌};
+ghost use Rattle.protocol.specs.Links.{link_up};
+ghost use Rattle.decide.specs.Sizes.{sizes_of};
+ghost use Rattle.block.specs.LinkSteps.{linked};
+ghost use Rattle.steps.specs.Shared.{sizes_value};
+ghost use Rattle.steps.specs.Views.{shown};
+ghost use Rattle.steps.specs.Panels.{state, Goes, AtRest, Allowed};
+
+use crate::panel::Panel;
+use crate::view::View;
+use crate::{Sizes, neighbours, settled};
+use block::links;
+
+impl<'a> View<'a> {
+    ghost use Rattle.std.specs.Prelude.{◌≡◌, true};
+    ghost use Rattle.storage.specs.Lists.Base.{ascending};
+    ghost use Rattle.storage.specs.Lists.Map.{keys};
+    ghost use Rattle.storage.specs.Rows.Sorted.{FoundIs};
+    ghost use Rattle.decide.specs.Sizes.{sizes_of};
+    ghost use Rattle.steps.specs.Shared.{sizes_value};
+    ghost use Rattle.steps.specs.Views.{shown};
+    ghost use Rattle.steps.specs.Panels.{AtRest};
+
+    // The numbers of entries.
+    pub fn sizes_now(&self) -> Sizes
+        requires { AtRest (shown self.now) }
+        ensures { sizes_value result ≡ sizes_of (shown self.now) }
+    {
+        settled::sizes_now(self.head, self.block)
+    }
+
+    // The number of a peer's link, or that of the link before which it would stand. Its time is that of one pass over the links.
+    pub fn search_links(&self, peer: u64) -> Result<usize, usize>
+        requires { ascending (keys (shown self.now).links) ≡ true }
+        ensures { FoundIs (keys (shown self.now).links) peer result }
+    {
+        links::find_link(self.head, self.block, peer)
+    }
+}
+
+impl<'a> Panel<'a> {
+    ghost use Rattle.std.specs.Prelude.{◌<◌, length};
+    ghost use Rattle.storage.specs.Lists.Map.{keys};
+    ghost use Rattle.storage.specs.Rows.Sorted.{Between};
+    ghost use Rattle.protocol.specs.Links.{link_up};
+    ghost use Rattle.block.specs.LinkSteps.{linked};
+    ghost use Rattle.steps.specs.Panels.{state, Goes};
+
+    // A link that is new, eager, before the link of a number.
+    pub fn insert_link(&mut self, number: usize, peer: u64)
+        requires place { Between (keys (state self.old).links) peer number }
+        requires room { length (state self.old).links < (state self.old).limits.N }
+        ensures { Goes (linked (link_up peer)) self.old self.new }
+    {
+        self.head = neighbours::insert_link(self.head, self.block, number, peer);
+    }
+}
+
+// The numbers of entries after it (question 13): one link more, unless it is there.
+pub fn up_sizes(view: &View, peer: u64) -> Sizes
+    requires { AtRest (shown view.now) }
+    ensures { sizes_value result ≡ sizes_of (linked (link_up peer) (shown view.now)) }
+{
+    let mut sizes = view.sizes_now();
+    if view.find_link(peer).is_none() {
+        sizes.links += 1;
+    }
+    sizes
+}
+
+// The step: "Up: into eager, out of lazy".
+pub fn on_neighbor_up(panel: &mut Panel, peer: u64)
+    requires { Allowed (linked (link_up peer)) (state panel.old) }
+    ensures { Goes (linked (link_up peer)) panel.old panel.new }
+{
+    match panel.view().search_links(peer) {
+        Ok(link) => panel.add_eager(link),
+        Err(number) => panel.insert_link(number, peer),
+    }
+}

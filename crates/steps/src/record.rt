@@ -1,0 +1,76 @@
+// `dropped_ihaves`, the record, row by row: the specification, "Record".
+use crate::panel::Panel;
+use crate::settled;
+use crate::view::View;
+use block::note::Note;
+use block::{head, note};
+use postcard::units::Millis;
+use protocol::MAX_DROPPED;
+use storage::rows::id::Id;
+
+impl<'a> View<'a> {
+    ghost use Rattle.std.specs.Prelude.{◌≡◌, ◌<◌, ◌≤◌, length};
+    ghost use Rattle.storage.specs.Rows.Ident.{id_of};
+    ghost use Rattle.decide.specs.RecordGrowth.{cached_in};
+    ghost use Rattle.decide.specs.Settled.{settled};
+    ghost use Rattle.steps.specs.Panels.{AtRest};
+    ghost use Rattle.steps.specs.Views.{shown};
+    ghost use Rattle.steps.specs.Queue.{Column, note_at, noted_by};
+
+    // How many the record holds.
+    pub fn record_len(&self) -> usize
+        ensures long { result ≡ length (shown self.now).dropped }
+        ensures few { result ≤ MAX_DROPPED }
+    {
+        self.head.live.dropped
+    }
+
+    // The link numbers of the record, row by row.
+    pub fn record_links(&self) -> &'a [u8]
+        ensures { Column (shown self.now) (shown self.now).dropped result.now }
+    {
+        let at = head::dropped_at(self.head.limits);
+        &self.block[at..at + self.head.live.dropped]
+    }
+
+    // Row i of the record.
+    pub fn recorded(&self, row: usize) -> Note
+        requires { row < length (shown self.now).dropped }
+        ensures { noted_by (shown self.now) result ≡ note_at (shown self.now).dropped row }
+    {
+        note::dropped_at(self.head, self.block, row)
+    }
+
+    // Whether an identifier is cached once a first event has evicted.
+    pub fn is_still_cached(&self, instant: Millis, id: Id) -> bool
+        requires { AtRest (shown self.now) }
+        ensures { result ≡ cached_in (settled instant.0 (shown self.now)).cache (id_of id) }
+    {
+        settled::is_cached_then(self.head, self.block, instant, id)
+    }
+}
+
+impl<'a> Panel<'a> {
+    ghost use Rattle.std.specs.Prelude.{◌≡◌, ◌<◌, ◌≤◌, length};
+    ghost use Rattle.block.specs.NoteSteps.{NoteIs};
+    ghost use Rattle.steps.specs.Panels.{state, Goes};
+    ghost use Rattle.steps.specs.Queue.{note_again};
+
+    // Row i of the queue.
+    fn queued(&self, row: usize) -> Note
+        requires { row < length (state self.now).queue }
+        ensures { NoteIs self.now.head self.now.block.now (state self.now).queue row result }
+    {
+        note::queued_at(self.head, self.block, row)
+    }
+
+    // The record takes row i of the queue.
+    pub fn note_again(&mut self, row: usize)
+        requires row { row < length (state self.old).queue }
+        requires room { length (state self.old).dropped < (state self.old).limits.D }
+        ensures { Goes (note_again row) self.old self.new }
+    {
+        let note = self.queued(row);
+        self.push_dropped(note.link, note.id, note.round);
+    }
+}

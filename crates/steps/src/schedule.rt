@@ -1,0 +1,70 @@
+// The timers that a step schedules, each unless its flag is set.
+ghost use Rattle.std.specs.Prelude.{◌≡◌};
+ghost use Rattle.storage.specs.Lists.Base.{concat_map};
+ghost use Rattle.postcard.specs.Message.{action_bytes};
+ghost use Rattle.decide.specs.RecordGrowth.{announce_action};
+ghost use Rattle.decide.specs.Settled.{settled_actions};
+ghost use Rattle.decide.specs.ActionsAfter.{dispatch_action, evict_actions};
+ghost use Rattle.steps.specs.Views.{shown};
+ghost use Rattle.wire.specs.Encode.Held.{after, RoomFor};
+
+use crate::view::View;
+use postcard::message::Timer;
+use protocol::ANNOUNCE_DROPPED_INTERVAL;
+use wire::encode::Encode;
+use wire::encode::action::Schedule;
+use wire::encode::sink::Sink;
+
+// `schedule_announce_dropped`: "a nonempty record and a clear flag schedule AnnounceDropped (1,000)"; `stands` tells whether the record is nonempty, `flag` its flag.
+#[tactic(auto, unfolding(decide::specs::RecordGrowth::announce_action, storage::specs::Lists::Base::concat_map), using(wire::proofs::EncodeLaws::HeldLaws::after_append, wire::proofs::EncodeLaws::HeldLaws::after_nil, wire::proofs::EncodeLaws::HeldLaws::room_after, wire::proofs::EncodeLaws::HeldLaws::length_both))]
+pub fn schedule_announce_dropped<S: Sink>(out: &mut S, stands: bool, flag: bool)
+    requires { RoomFor (concat_map action_bytes (announce_action stands flag)) (S.held out.old) }
+    ensures { S.held out.new ≡ after (concat_map action_bytes (announce_action stands flag)) (S.held out.old) }
+{
+    if stands && !flag {
+        Schedule {
+            delay: ANNOUNCE_DROPPED_INTERVAL,
+            timer: Timer::AnnounceDropped,
+        }
+        .encode(out);
+    }
+}
+
+// `schedule_dispatch`: "schedules dispatch unless flagged".
+#[tactic(auto, unfolding(decide::specs::ActionsAfter::dispatch_action, block::specs::View::state_of, storage::specs::Lists::Base::concat_map), using(wire::proofs::EncodeLaws::HeldLaws::after_append, wire::proofs::EncodeLaws::HeldLaws::after_nil, wire::proofs::EncodeLaws::HeldLaws::room_after, wire::proofs::EncodeLaws::HeldLaws::length_both))]
+pub fn schedule_dispatch<S: Sink>(view: &View, out: &mut S)
+    requires { RoomFor (concat_map action_bytes (dispatch_action (shown view.now))) (S.held out.old) }
+    ensures { S.held out.new ≡ after (concat_map action_bytes (dispatch_action (shown view.now))) (S.held out.old) }
+{
+    if !view.head.live.dispatch_timer_scheduled {
+        Schedule {
+            delay: view.head.settings.config.dispatch_timeout,
+            timer: Timer::DispatchLazyPush,
+        }
+        .encode(out);
+    }
+}
+
+// `on_evict_cache_timer`: "then schedules itself".
+#[tactic(auto, unfolding(decide::specs::ActionsAfter::evict_actions, block::specs::View::state_of, storage::specs::Lists::Base::concat_map), using(wire::proofs::EncodeLaws::HeldLaws::after_append, wire::proofs::EncodeLaws::HeldLaws::after_nil, wire::proofs::EncodeLaws::HeldLaws::room_after, wire::proofs::EncodeLaws::HeldLaws::length_both))]
+pub fn schedule_evict_cache<S: Sink>(view: &View, out: &mut S)
+    requires { RoomFor (concat_map action_bytes (evict_actions (shown view.now))) (S.held out.old) }
+    ensures { S.held out.new ≡ after (concat_map action_bytes (evict_actions (shown view.now))) (S.held out.old) }
+{
+    Schedule {
+        delay: view.head.settings.config.cache_evict_interval,
+        timer: Timer::EvictCache,
+    }
+    .encode(out);
+}
+
+// "the first other event evicts and schedules EvictCache before anything else".
+#[tactic(auto, unfolding(decide::specs::Settled::settled_actions, decide::specs::ActionsAfter::evict_actions, block::specs::View::state_of, storage::specs::Lists::Base::concat_map), using(wire::proofs::EncodeLaws::HeldLaws::after_append, wire::proofs::EncodeLaws::HeldLaws::after_nil, wire::proofs::EncodeLaws::HeldLaws::room_after, wire::proofs::EncodeLaws::HeldLaws::length_both))]
+pub fn first_event_actions<S: Sink>(view: &View, out: &mut S)
+    requires { RoomFor (concat_map action_bytes (settled_actions (shown view.now))) (S.held out.old) }
+    ensures { S.held out.new ≡ after (concat_map action_bytes (settled_actions (shown view.now))) (S.held out.old) }
+{
+    if !view.head.live.init {
+        schedule_evict_cache(view, out);
+    }
+}

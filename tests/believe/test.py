@@ -16,8 +16,8 @@ protocol.NoNeighbourPassedOver.NoNeighbourPassedOver protocol.AlikeUnordered.sam
 """
 OUT = """
 storage.Rows.Part.Only storage.Rows.Sorted.Ascending storage.Refs.Once.Numbers postcard.Message.event_bytes postcard.Output.Room wire.Reader.Gives.Decodes blake3.WordOrder.order
-decide.Settled.settled alike.Notes.NextOf block.Goes.Goes block.Sound.Sound whole.States.Calls.Placed protocol.AlikeCalls.Peerwise.Like steps.Stands.Stands machine.Kinds.Meaning.peer_of machine.Core.Begun machine.Core.core_rooms
-machine.Decided.decided machine.Outcomes.Asked plumtree.Rooms.Found plumtree.Peers.Sender panel.Records.Reading.Whole
+decide.Settled.settled alike.Notes.NextOf block.Goes.Goes block.Sound.Sound whole.States.Calls.Placed protocol.AlikeCalls.Peerwise.Like steps.Stands.Stands machine.Kinds.Meaning.peer_of machine.Core.Begins machine.Core.core_rooms
+machine.Decided.decided machine.Steps.Asked plumtree.Rooms.Found plumtree.Peers.Sender panel.Records.Reading.Whole
 """
 
 
@@ -77,10 +77,10 @@ def alone(world, found, top):
                 out.write(definitions(world, found, world.file(crate, f)))
 
 
-# Some types of a file of code, with the `use` lines that they need.
+# Some types of a file of code, with the `use` lines that they need. A field's name is none that is used.
 def code(source, types):
     text = "\n\n".join("\n".join(d.lines) for d in types) + "\n"
-    uses = "".join(f"use {'::'.join([*where, n])};\n" for n, where in source.uses.items() if re.search(rf"\b{n}\b", text))
+    uses = "".join(f"use {'::'.join([*where, n])};\n" for n, where in source.uses.items() if re.search(rf"\b{n}\b(?!: )", text))
     return uses + text
 
 

@@ -1,8 +1,8 @@
 -- The length of each action's bytes is that of specs/Lengths.antt, so question 14 looks at a sum.
+use Rattle.std.specs.Prelude.{Option, Some, None}
 use Prim.Native.Nat.{ℕ, zero, suc, ◌+◌}
 use mathlib.Core.Path.{◌≡◌, refl, ap}
 use mathlib.Core.List.{List, [], ◌∷◌, ◌++◌}
-use mathlib.Core.Option.{Option, none, some}
 use native.Mathlib.Omega.{arith}
 use lib.ListN.{length, length-append}
 use Rattle.storage.specs.Lists.Base.{sum, concat_map}
@@ -32,8 +32,8 @@ length-delivery Neighbors = refl
 
 length-wanted : (o : Option ℕ) → length (optional_id_bytes o) ≡ wanted_length o
 unfolding optional_id_bytes wanted_length
-length-wanted none = refl
-length-wanted (some id) = omega (arith, length-id id)
+length-wanted None = refl
+length-wanted (Some id) = omega (arith, length-id id)
 
 length-ihaves : (hs : List Ihave) → length (concat_map ihave_bytes hs) ≡ sum (λ h. 32 + number_length h.round) hs
 unfolding concat_map sum ihave_bytes number_length

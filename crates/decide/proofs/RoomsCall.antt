@@ -3,12 +3,11 @@ use Prim.Native.Nat.{ℕ, suc}
 use mathlib.Core.Path.{◌≡◌, refl, sym, subst, ◌∙◌}
 use mathlib.Core.Bool.{Bool, true, false, not, ◌&&◌, ◌||◌}
 use mathlib.Core.List.{List, [], ◌∷◌, ◌++◌, map}
-use mathlib.Core.Option.{Option, none, some}
 use lib.Dec.{ltb, eqb}
 use lib.ListN.{length}
 use borrow.Author.Tests.{eqb-true, eq-eqb}
-use Rattle.std.specs.Prelude.{if◌then◌else◌}
-use Rattle.storage.specs.Lists.Base.{is_empty, is_some, all, any}
+use Rattle.std.specs.Prelude.{if◌then◌else◌, Option, Some, None, is_some}
+use Rattle.storage.specs.Lists.Base.{is_empty, all, any}
 use Rattle.storage.specs.Lists.Map.{keys, lookup, has}
 use Rattle.time_cache.specs.TimeCache.{get, holds}
 use Rattle.protocol.specs.Links.{Mark, Links, is_neighbour, is_eager, marked, eager_in}
@@ -140,8 +139,8 @@ unfolding eager_in marked
 eager-near p l h = on (lookup p l) h
   where
     on : (o : Option Mark) → marked is_eager o ≡ true → is_some o ≡ true
-    on none e = true≢ (unfold marked in e)
-    on (some m) e = refl
+    on None e = true≢ (unfold marked in e)
+    on (Some m) e = refl
 
 -- the first sender that goes lazy is a neighbour
 abbrev late_in : (ℕ → Bool) → Late → Bool
@@ -151,8 +150,8 @@ late_in P (faster first) = P first
 
 late-from : (sender : ℕ) (d : Delivery) (l : Links) (g : Grafts) (o : Option Hop) → late_in (λ p. is_neighbour p l) (late_from sender d l g o) ≡ true
 unfolding late_from
-late-from sender d l g none = refl
-late-from sender d l g (some f) =
+late-from sender d l g None = refl
+late-from sender d l g (Some f) =
     cases (not (has sender g.peers)) (λ a. rw a refl)
     (λ a. cases (eqb f.peer sender || same_as sender g.kept) (λ b. rw (a, b) refl)
     (λ b. cases (no_more_hops d f.round && not (has f.peer g.peers) && eager_in sender l && eager_in f.peer l)
@@ -161,8 +160,8 @@ late-from sender d l g (some f) =
 
 late-kind : (sender : ℕ) (d : Delivery) (l : Links) (o : Option Grafts) → late_in (λ p. is_neighbour p l) (late_kind sender d l o) ≡ true
 unfolding late_kind
-late-kind sender d l none = refl
-late-kind sender d l (some g) = late-from sender d l g g.first
+late-kind sender d l None = refl
+late-kind sender d l (Some g) = late-from sender d l g g.first
 
 -- the event's peer
 abbrev pub event_peer : Event → ℕ → Bool
@@ -217,13 +216,13 @@ module _ (hash : List ℕ → ℕ) (rooms : List Room) (s : State) (x : Consiste
 
   reply-in : (sender id : ℕ) (o : Option Cached) → Within (near s sender) (reply_actions rooms sender id o s)
   unfolding reply_actions
-  reply-in sender id none = nil (near s sender)
-  reply-in sender id (some c) = pushed (near s sender) rooms _ (sender ∷ []) s.timers.announce (all_one (near s sender) sender (self-near sender))
+  reply-in sender id None = nil (near s sender)
+  reply-in sender id (Some c) = pushed (near s sender) rooms _ (sender ∷ []) s.timers.announce (all_one (near s sender) sender (self-near sender))
 
   graft-in : (sender : ℕ) (wanted : Option ℕ) → Within (near s sender) (graft_actions rooms sender wanted s)
   unfolding graft_actions
-  graft-in sender none = nil (near s sender)
-  graft-in sender (some id) = reply-in sender id (get id s.cache)
+  graft-in sender None = nil (near s sender)
+  graft-in sender (Some id) = reply-in sender id (get id s.cache)
 
   -- a message, of the settled state
   message-in : (sender : ℕ) (m : Message) → Within (near s sender) (message_actions hash rooms sender m s)

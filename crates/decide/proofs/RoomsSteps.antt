@@ -3,11 +3,10 @@ use Prim.Native.Nat.{ℕ, suc}
 use mathlib.Core.Path.{◌≡◌, refl, sym, ap, subst, ◌∙◌}
 use mathlib.Core.Bool.{Bool, true, false, not, ◌&&◌, ◌||◌}
 use mathlib.Core.List.{List, [], ◌∷◌, ◌++◌}
-use mathlib.Core.Option.{Option, none, some}
 use lib.Dec.{ltb, eqb}
 use lib.ListN.{length}
 use borrow.Author.Tests.{eq-eqb, eqb-true}
-use Rattle.std.specs.Prelude.{if◌then◌else◌}
+use Rattle.std.specs.Prelude.{if◌then◌else◌, Option, Some, None}
 use Rattle.storage.specs.Lists.Base.{is_empty, any, member}
 use Rattle.storage.specs.Lists.Map.{keys}
 use Rattle.time_cache.specs.TimeCache.{get, holds}
@@ -226,7 +225,7 @@ fair-prune_back p r = seq (update_links (add_lazy p)) (send p Prune) r (fair-lin
 fair-graft_unless_eager : (h : Hop) (r : Run) → Fair (graft_unless_eager h) r
 unfolding graft_unless_eager
 fair-graft_unless_eager h r =
-    fair-if (eager_in h.peer r.state.links) r _ _ _ _ (fair-refl r) (seq (update_links (add_eager h.peer)) (send h.peer (Graft none h.round)) r (fair-links_of (add_eager h.peer) r) (fair-send h.peer (Graft none h.round) (update_links (add_eager h.peer) r)))
+    fair-if (eager_in h.peer r.state.links) r _ _ _ _ (fair-refl r) (seq (update_links (add_eager h.peer)) (send h.peer (Graft None h.round)) r (fair-links_of (add_eager h.peer) r) (fair-send h.peer (Graft None h.round) (update_links (add_eager h.peer) r)))
 
 fair-optimize_tree : (sender round : ℕ) (hs : List Hop) (r : Run) → Fair (optimize_tree sender round hs) r
 unfolding optimize_tree
@@ -310,13 +309,13 @@ fair-on_ihave sender (h ∷ hs) r = seq (on_announced sender h) (on_ihave sender
 
 fair-reply_with : (sender id : ℕ) (o : Option Cached) (r : Run) → Fair (reply_with sender id o) r
 unfolding reply_with
-fair-reply_with sender id none r = fair-refl r
-fair-reply_with sender id (some c) r = fair-noting sender (Gossip id c.content (Swarm c.round)) (record { id = id; round = c.round } ∷ []) r
+fair-reply_with sender id None r = fair-refl r
+fair-reply_with sender id (Some c) r = fair-noting sender (Gossip id c.content (Swarm c.round)) (record { id = id; round = c.round } ∷ []) r
 
 fair-reply : (sender : ℕ) (wanted : Option ℕ) (r : Run) → Fair (reply sender wanted) r
 unfolding reply
-fair-reply sender none r = fair-refl r
-fair-reply sender (some id) r = fair-reply_with sender id (get id r.state.cache) r
+fair-reply sender None r = fair-refl r
+fair-reply sender (Some id) r = fair-reply_with sender id (get id r.state.cache) r
 
 fair-on_graft : (sender : ℕ) (wanted : Option ℕ) (r : Run) → Fair (on_graft sender wanted) r
 unfolding on_graft
@@ -342,8 +341,8 @@ fair-ask_first : (now id : ℕ) (hs : List Hop) (r : Run) → Fair (ask_first no
 unfolding ask_first
 fair-ask_first now id [] r = fair-refl r
 fair-ask_first now id (h ∷ hs) r =
-    fair-then r _ _ (act (Scheduled r.state.settings.graft_timeout_2 (SendGraft id))) (fair-then r _ _ (send h.peer (Graft (some id) h.round)) (fair-then r _ _ (note_graft now id h)
-    (seq (leave_announcers id hs) (update_links (add_eager h.peer)) r (fair-leave id hs r) (fair-links_of (add_eager h.peer) (leave_announcers id hs r))) (fair-note_graft now id h _)) (fair-send h.peer (Graft (some id) h.round) _)) (fair-act _ _)
+    fair-then r _ _ (act (Scheduled r.state.settings.graft_timeout_2 (SendGraft id))) (fair-then r _ _ (send h.peer (Graft (Some id) h.round)) (fair-then r _ _ (note_graft now id h)
+    (seq (leave_announcers id hs) (update_links (add_eager h.peer)) r (fair-leave id hs r) (fair-links_of (add_eager h.peer) (leave_announcers id hs r))) (fair-note_graft now id h _)) (fair-send h.peer (Graft (Some id) h.round) _)) (fair-act _ _)
 
 fair-on_send_graft_timer : (now id : ℕ) (r : Run) → Fair (on_send_graft_timer now id) r
 unfolding on_send_graft_timer

@@ -3,12 +3,11 @@ use Prim.Native.Nat.{ℕ}
 use mathlib.Core.Path.{◌≡◌, refl, sym, ap, ◌∙◌}
 use mathlib.Core.Bool.{Bool, true}
 use mathlib.Core.List.{List, [], ◌∷◌, ◌++◌, append-nil}
-use mathlib.Core.Option.{Option, none, some}
 use native.Mathlib.Omega.{arith}
 use lib.Dec.{ltb}
 use lib.ListN.{length}
-use Rattle.std.specs.Prelude.{if◌then◌else◌}
-use Rattle.storage.specs.Lists.Base.{is_some, filter, count, sum, ascending}
+use Rattle.std.specs.Prelude.{if◌then◌else◌, Option, Some, None, is_some}
+use Rattle.storage.specs.Lists.Base.{filter, count, sum, ascending}
 use Rattle.storage.specs.Lists.Map.{keys, lookup}
 use Rattle.time_cache.specs.TimeCache.{Timed, Cache, value_of, get, holds, expire_until, later_cache, Timely}
 use Rattle.postcard.specs.Message.{EvictCache, Action, Scheduled}
@@ -34,8 +33,8 @@ module _ {A : Type 0} where
   holds_later now id c t = ap is_some (lookup-filter (λ e. ltb now e.value.expires) id c.entries t.up) ∙ by (lookup id c.entries)
     where
       by : (o : Option (Timed A)) → is_some (passes (λ e. ltb now e.value.expires) id o) ≡ alive_at now o
-      by none = unfold passes in refl
-      by (some x) = unfold passes in (cases (ltb now x.expires) (λ p. rw p refl) (λ p. rw p refl))
+      by None = unfold passes in refl
+      by (Some x) = unfold passes in (cases (ltb now x.expires) (λ p. rw p refl) (λ p. rw p refl))
 
   -- `get` after eviction, of the cache before
   pub get-later : (now id : ℕ) (c : Cache A) → ascending (keys c.entries) ≡ true → get id (later_cache now c) ≡ alive_value now (lookup id c.entries)
@@ -43,8 +42,8 @@ module _ {A : Type 0} where
   get-later now id c up = ap value_of (lookup-filter (λ e. ltb now e.value.expires) id c.entries up) ∙ by (lookup id c.entries)
     where
       by : (o : Option (Timed A)) → value_of (passes (λ e. ltb now e.value.expires) id o) ≡ alive_value now o
-      by none = unfold passes in (unfold value_of in refl)
-      by (some x) = unfold passes in (unfold value_of in (cases (ltb now x.expires) (λ p. rw p refl) (λ p. rw p refl)))
+      by None = unfold passes in (unfold value_of in refl)
+      by (Some x) = unfold passes in (unfold value_of in (cases (ltb now x.expires) (λ p. rw p refl) (λ p. rw p refl)))
 
   pub length-later : (now : ℕ) (c : Cache A) → length (later_cache now c).entries ≡ count (λ e. ltb now e.value.expires) c.entries
   unfolding later_cache

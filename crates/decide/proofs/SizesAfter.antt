@@ -1,7 +1,6 @@
 -- The sizes of the state after a step, as functions of the state before it; `s` is the state that a first event leaves (`settled`) unless a comment says otherwise.
 -- Proved equal to the lengths of that state; no contract cites them.
-use Rattle.std.specs.Prelude.{if◌then◌else◌, ℕ, suc, ◌+◌, ◌-◌, not, List, [], ◌∷◌, ltb, eqb, length}
-use Rattle.std.proofs.Math.Option.{Option, none, some}
+use Rattle.std.specs.Prelude.{if◌then◌else◌, ℕ, suc, ◌+◌, ◌-◌, not, List, [], ◌∷◌, ltb, eqb, length, Option, Some, None}
 use Rattle.storage.specs.Lists.Base.{is_empty, filter, count, member, sum}
 use Rattle.storage.specs.Lists.Map.{keys, has}
 use Rattle.time_cache.specs.TimeCache.{holds, get}
@@ -70,8 +69,8 @@ ihave_sizes hs s =
 
 -- the content bytes cached for the identifier so far
 unfoldable pub content_length : Option Cached → ℕ
-content_length none = 0
-content_length (some c) = length c.content
+content_length None = 0
+content_length (Some c) = length c.content
 
 -- a message taken in: received and cached, queued for the lazy peers but the sender
 unfoldable pub taken_sizes : ℕ → List ℕ → ℕ → State → Sizes

@@ -3,10 +3,9 @@ use Prim.Native.Nat.{ℕ}
 use mathlib.Core.Path.{◌≡◌, refl, ap, ◌∙◌}
 use mathlib.Core.Bool.{Bool, true, false, not, ◌||◌}
 use mathlib.Core.List.{List, [], ◌∷◌, ◌++◌}
-use mathlib.Core.Option.{Option, none, some}
 use lib.Dec.{ltb, eqb}
 use lib.ListN.{length}
-use Rattle.std.specs.Prelude.{if◌then◌else◌}
+use Rattle.std.specs.Prelude.{if◌then◌else◌, Option, Some, None}
 use Rattle.storage.specs.Lists.Base.{is_empty, member, all, once}
 use Rattle.time_cache.specs.TimeCache.{get, holds}
 use Rattle.postcard.specs.Message.{Delivery, Swarm, Neighbors, Scope, to_swarm, to_neighbors, Ihave, Message, Gossip, Prune, Graft, IHave, Timer, SendGraft, DispatchLazyPush, EvictCache, AnnounceDropped, Event, Received, Broadcast, Fired, Up, Down}
@@ -103,7 +102,7 @@ send_graft-state now id r =
     ∙ if-both (holds id r.state.received) refl (asked-state now id (announcers id r.state) (unmark id r) ∙ unfold unmark in refl)
 
 -- a Graft reply is a push to one peer
-reply-push : (sender id : ℕ) (c : Cached) (r : Run) → reply_with sender id (some c) r ≡ push_to (sender ∷ []) id c.content (Swarm c.round) r
+reply-push : (sender id : ℕ) (c : Cached) (r : Run) → reply_with sender id (Some c) r ≡ push_to (sender ∷ []) id c.content (Swarm c.round) r
 unfolding reply_with push_to note_after note_for_each handed_back send_each
 reply-push sender id c r = on (takes sender r)
   where
@@ -117,8 +116,8 @@ reply-push sender id c r = on (takes sender r)
 reply-state : (sender id : ℕ) (o : Option Cached) (r : Run) → is_neighbour sender r.state.links ≡ true → Flagged r.state.dropped r.state.timers.announce →
     (reply_with sender id o r).state ≡ reply_state r.rooms sender id o r.state
 unfolding reply_state
-reply-state sender id none r n g = unfold reply_with in refl
-reply-state sender id (some c) r n g =
+reply-state sender id None r n g = unfold reply_with in refl
+reply-state sender id (Some c) r n g =
     ap (λ (y : Run). y.state) (reply-push sender id c r)
     ∙ push-state (sender ∷ []) id c.content c.round r (unfold all in (rw n refl)) (unfold once member in refl) g
 
@@ -126,8 +125,8 @@ reply-state sender id (some c) r n g =
 pub graft-state : (sender : ℕ) (wanted : Option ℕ) (r : Run) → is_neighbour sender r.state.links ≡ true → Flagged r.state.dropped r.state.timers.announce →
     (on_graft sender wanted r).state ≡ graft_state r.rooms sender wanted r.state
 unfolding on_graft graft_state reply update_links
-graft-state sender none r n g = refl
-graft-state sender (some id) r n g =
+graft-state sender None r n g = refl
+graft-state sender (Some id) r n g =
     reply-state sender id (get id r.state.cache) (with_state (with_links (add_eager sender r.state.links) r.state) r) (unfold add_eager in (has-mark sender sender eager r.state.links ∙ n)) g
 
 pub prune-state : (sender : ℕ) (r : Run) → (on_prune sender r).state ≡ with_links (add_lazy sender r.state.links) r.state

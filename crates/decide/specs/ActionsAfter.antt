@@ -1,6 +1,5 @@
 -- The actions of an event, as functions of the state before it; `s` is the state that a first event leaves (`settled`) unless a comment says otherwise. Proved equal (`decide-actions`).
-use Rattle.std.specs.Prelude.{ℕ, suc, false, not, ◌&&◌, List, [], ◌∷◌, ◌++◌, map, ltb, eqb, length, if◌then◌else◌}
-use Rattle.std.proofs.Math.Option.{Option, none, some}
+use Rattle.std.specs.Prelude.{ℕ, suc, false, not, ◌&&◌, List, [], ◌∷◌, ◌++◌, map, ltb, eqb, length, if◌then◌else◌, Option, Some, None}
 use Rattle.storage.specs.Lists.Base.{is_empty}
 use Rattle.storage.specs.Lists.Map.{keys}
 use Rattle.time_cache.specs.TimeCache.{holds, get}
@@ -33,18 +32,18 @@ announce_actions s =
 
 -- the reply to a Graft, given what is cached for the identifier
 unfoldable pub reply_actions : List Room → ℕ → ℕ → Option Cached → State → List Action
-reply_actions rooms sender id none s = []
-reply_actions rooms sender id (some c) s = push_actions rooms (Gossip id c.content (Swarm c.round)) (sender ∷ []) s.timers.announce
+reply_actions rooms sender id None s = []
+reply_actions rooms sender id (Some c) s = push_actions rooms (Gossip id c.content (Swarm c.round)) (sender ∷ []) s.timers.announce
 
 -- Graft from a neighbour
 unfoldable pub graft_actions : List Room → ℕ → Option ℕ → State → List Action
-graft_actions rooms sender none s = []
-graft_actions rooms sender (some id) s = reply_actions rooms sender id (get id s.cache) s
+graft_actions rooms sender None s = []
+graft_actions rooms sender (Some id) s = reply_actions rooms sender id (get id s.cache) s
 
 -- the first announcer is asked
 unfoldable pub ask_actions : List Room → ℕ → List Hop → State → List Action
 ask_actions rooms id [] s = []
-ask_actions rooms id (h ∷ hs) s = first_send rooms (Graft (some id) h.round) h.peer ∷ Scheduled s.settings.graft_timeout_2 (SendGraft id) ∷ []
+ask_actions rooms id (h ∷ hs) s = first_send rooms (Graft (Some id) h.round) h.peer ∷ Scheduled s.settings.graft_timeout_2 (SendGraft id) ∷ []
 
 -- SendGraft
 unfoldable pub send_graft_actions : List Room → ℕ → State → List Action
@@ -72,7 +71,7 @@ optimise_actions rooms sender round [] s = []
 optimise_actions rooms sender round (h ∷ hs) s =
     if far_closer s.settings.optimization_threshold round (least_from h hs).round then
     if eager_in (least_from h hs).peer s.links then first_send rooms Prune sender ∷ []
-    else first_send rooms (Graft none (least_from h hs).round) (least_from h hs).peer
+    else first_send rooms (Graft None (least_from h hs).round) (least_from h hs).peer
     ∷ Sent sender (kth_taken (if eqb sender (least_from h hs).peer then 2 else 1) sender rooms) Prune ∷ []
     else []
 

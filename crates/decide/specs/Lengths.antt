@@ -1,6 +1,5 @@
 -- The length of an action, without its bytes (question 14). Proved equal to that of `action_bytes`.
-use Rattle.std.specs.Prelude.{ℕ, ◌+◌, length}
-use Rattle.std.proofs.Math.Option.{Option, none, some}
+use Rattle.std.specs.Prelude.{ℕ, ◌+◌, length, Option, Some, None}
 use Rattle.storage.specs.Lists.Base.{sum}
 use Rattle.postcard.specs.Number.{number_length}
 use Rattle.postcard.specs.Message.{Delivery, Swarm, Neighbors, Message, Gossip, Prune, Graft, IHave, Timer, SendGraft, DispatchLazyPush, EvictCache, AnnounceDropped, Action, Sent, Scheduled, Emitted}
@@ -12,8 +11,8 @@ delivery_length Neighbors = 1
 
 -- of a Graft's optional identifier
 unfoldable pub wanted_length : Option ℕ → ℕ
-wanted_length none = 1
-wanted_length (some id) = 33
+wanted_length None = 1
+wanted_length (Some id) = 33
 
 -- of a message
 unfoldable pub message_length : Message → ℕ

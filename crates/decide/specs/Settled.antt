@@ -1,6 +1,5 @@
 -- A first event's eviction in advance: what it leaves, and the tests of what it leaves, read from the state before the call. Proved equal to `first_event`.
-use Rattle.std.specs.Prelude.{ℕ, Bool, true, false, not, ◌&&◌, List, [], ◌∷◌, ltb, eqb, if◌then◌else◌}
-use Rattle.std.proofs.Math.Option.{Option, none, some}
+use Rattle.std.specs.Prelude.{ℕ, Bool, true, false, not, ◌&&◌, List, [], ◌∷◌, ltb, eqb, if◌then◌else◌, Option, Some, None}
 use Rattle.storage.specs.Lists.Map.{lookup}
 use Rattle.time_cache.specs.TimeCache.{Timed, holds, later_cache}
 use Rattle.postcard.specs.Message.{Gossip, Prune, Graft, IHave, EvictCache, Event, Received, Broadcast, Fired, Up, Down, Action, Scheduled}
@@ -9,13 +8,13 @@ use Rattle.protocol.specs.Answer.{last_round}
 
 -- is there, and expires later
 unfoldable pub alive_at : {A : Type 0} → ℕ → Option (Timed A) → Bool
-alive_at now none = false
-alive_at now (some t) = ltb now t.expires
+alive_at now None = false
+alive_at now (Some t) = ltb now t.expires
 
 -- its value, if it expires later
 unfoldable pub alive_value : {A : Type 0} → ℕ → Option (Timed A) → Option A
-alive_value now none = none
-alive_value now (some t) = if ltb now t.expires then some t.value else none
+alive_value now None = None
+alive_value now (Some t) = if ltb now t.expires then Some t.value else None
 
 -- the state after `first_event`
 unfoldable pub settled : ℕ → State → State

@@ -1,103 +1,77 @@
 // Time caches for a program in Rust to link: tests/time_cache runs them beside the Rust's own. No function asks anything of its caller: each
 // tests the tables first, and answers no, or 0, and changes nothing where they do not lie in the block, are not sound, or have no room.
+// The entries are given by a, where they start, s, the bytes of a row, and n, how many rows there are; the expiry rows by b, t and m.
 ghost use Rattle.std.specs.Prelude.{◌≡◌, true, ◌+◌, ◌*◌, ◌≤◌, ◌<◌, length};
 ghost use Rattle.time_cache.specs.TimeCache.{holds, later_cache};
-ghost use Rattle.time_cache.specs.Tables.{cache_at, Lies, Room};
+ghost use Rattle.time_cache.specs.Tables.{cache_at, Lies, FitsOneMore};
 ghost use Rattle.exports.specs.TimeCacheC.Handed.{handed, key_of, Whole, Ready, Tells, Said, Done, ToldInsert, ToldExpire};
 
 use postcard::units::Millis;
 use storage::rows::id::Id;
 use time_cache::cache::{Table, TimeBoundCache};
 
-// Whether n rows of s bytes, the first at `from`, end at `to` or before.
-fn rows_fit(from: usize, s: usize, n: usize, to: usize) -> bool
-    requires { 0 < s }
-    ensures { Tells (from + n * s ≤ to) result }
+// The bytes of a place, which an entry starts with.
+const PLACE_LEN: usize = 2;
+
+// The bytes of a time and an identifier, which an expiry row starts with.
+const EXPIRY_LEN: usize = 40;
+
+// The most expiry rows that places can name.
+const MOST_ROWS: usize = u16::MAX as usize;
+
+// Whether the rows of a table end at `end` or before.
+fn rows_fit(rows: Table, end: usize) -> bool
+    requires { 0 < rows.stride }
+    ensures { Tells (rows.at + rows.len * rows.stride ≤ end) result }
 {
-    if to < from {
-        return false;
-    }
-    if n <= (to - from) / s {
-        return true;
-    }
-    false
+    rows.at <= end && rows.len <= (end - rows.at) / rows.stride
 }
 
 // Whether the tables lie in the block.
-fn lies(c: TimeBoundCache, block: &[u8]) -> bool
-    ensures { Tells (Lies c block.now) result }
+fn lies(cache: TimeBoundCache, block: &[u8]) -> bool
+    ensures { Tells (Lies cache block.now) result }
 {
-    let a = c.entries.at;
-    let s = c.entries.stride;
-    let n = c.entries.len;
-    let b = c.expiry.at;
-    let t = c.expiry.stride;
-    let m = c.expiry.len;
-    if s < 2 {
-        return false;
-    }
-    if t < 40 {
-        return false;
-    }
-    if 65535 < m {
-        return false;
-    }
-    let first = rows_fit(a, s, n, b);
-    if !first {
-        return false;
-    }
-    let second = rows_fit(b, t, m, block.len());
-    if !second {
-        return false;
-    }
-    true
+    PLACE_LEN <= cache.entries.stride
+        && EXPIRY_LEN <= cache.expiry.stride
+        && cache.expiry.len <= MOST_ROWS
+        && rows_fit(cache.entries, cache.expiry.at)
+        && rows_fit(cache.expiry, block.len())
 }
 
 // Whether the tables lie in the block and are sound.
-fn is_whole(c: TimeBoundCache, block: &[u8]) -> bool
-    ensures { Tells (Whole c block.now) result }
+#[tactic(auto, using(crate::proofs::TimeCacheCLaws::Tested::tells_sound))]
+fn is_whole(cache: TimeBoundCache, block: &[u8]) -> bool
+    ensures { Tells (Whole cache block.now) result }
 {
-    let there = lies(c, block);
-    if !there {
-        return false;
-    }
-    c.is_sound(block)
+    lies(cache, block) && cache.is_sound(block)
 }
 
 // Whether there is room for one row more in each table.
-fn has_room(c: TimeBoundCache, block: &[u8]) -> bool
-    ensures { Tells (Room c block.now) result }
+fn has_room(cache: TimeBoundCache, block: &[u8]) -> bool
+    ensures { Tells (FitsOneMore cache block.now) result }
 {
-    let there = lies(c, block);
-    if !there {
+    if !lies(cache, block) {
         return false;
     }
-    let n = c.entries.len + 1;
-    let m = c.expiry.len + 1;
     let more = TimeBoundCache {
         entries: Table {
-            at: c.entries.at,
-            stride: c.entries.stride,
-            len: n,
+            len: cache.entries.len + 1,
+            ..cache.entries
         },
         expiry: Table {
-            at: c.expiry.at,
-            stride: c.expiry.stride,
-            len: m,
+            len: cache.expiry.len + 1,
+            ..cache.expiry
         },
     };
     lies(more, block)
 }
 
 // Whether there is room for one row more in each table, and they are sound.
-fn is_ready(c: TimeBoundCache, block: &[u8]) -> bool
-    ensures { Tells (Ready c block.now) result }
+#[tactic(auto, using(crate::proofs::TimeCacheCLaws::Tested::tells_sound))]
+fn is_ready(cache: TimeBoundCache, block: &[u8]) -> bool
+    ensures { Tells (Ready cache block.now) result }
 {
-    let room = has_room(c, block);
-    if !room {
-        return false;
-    }
-    c.is_sound(block)
+    has_room(cache, block) && cache.is_sound(block)
 }
 
 // `is_sound`: question 5 of a time cache.
@@ -113,7 +87,7 @@ pub extern "C" fn time_cache_is_sound(
 ) -> bool
     ensures { Tells (Whole (handed a s n b t m) block.now) result }
 {
-    let c = TimeBoundCache {
+    let cache = TimeBoundCache {
         entries: Table {
             at: a,
             stride: s,
@@ -125,7 +99,7 @@ pub extern "C" fn time_cache_is_sound(
             len: m,
         },
     };
-    is_whole(c, block)
+    is_whole(cache, block)
 }
 
 // `insert`; into `out` go the numbers of entries and rows, and where the key's entry and its row stand.
@@ -147,7 +121,7 @@ pub extern "C" fn time_cache_insert(
 ) -> bool
     ensures { Done (Ready (handed a s n b t m) block.old) (ToldInsert (handed a s n b t m) (key_of w0 w1 w2 w3) expires.0 block.old block.new out.new) block.old block.new out.old out.new result }
 {
-    let c = TimeBoundCache {
+    let cache = TimeBoundCache {
         entries: Table {
             at: a,
             stride: s,
@@ -159,17 +133,15 @@ pub extern "C" fn time_cache_insert(
             len: m,
         },
     };
-    let ok = is_ready(c, block);
-    if !ok {
+    if !is_ready(cache, block) {
         return false;
     }
-    let r = c.insert(block, Id { w0, w1, w2, w3 }, expires);
-    let after = r.cache;
+    let inserted = cache.insert(block, Id { w0, w1, w2, w3 }, expires);
     *out = [
-        after.entries.len as u64,
-        after.expiry.len as u64,
-        r.entry as u64,
-        r.row as u64,
+        inserted.cache.entries.len as u64,
+        inserted.cache.expiry.len as u64,
+        inserted.entry as u64,
+        inserted.row as u64,
     ];
     true
 }
@@ -189,7 +161,7 @@ pub extern "C" fn time_cache_expire_until(
 ) -> bool
     ensures { Done (Whole (handed a s n b t m) block.old) (ToldExpire (handed a s n b t m) instant.0 block.old block.new out.new) block.old block.new out.old out.new result }
 {
-    let c = TimeBoundCache {
+    let cache = TimeBoundCache {
         entries: Table {
             at: a,
             stride: s,
@@ -201,16 +173,14 @@ pub extern "C" fn time_cache_expire_until(
             len: m,
         },
     };
-    let ok = is_whole(c, block);
-    if !ok {
+    if !is_whole(cache, block) {
         return false;
     }
-    let r = c.expire_until(block, instant);
-    let after = r.cache;
+    let expired = cache.expire_until(block, instant);
     *out = [
-        after.entries.len as u64,
-        after.expiry.len as u64,
-        r.removed as u64,
+        expired.cache.entries.len as u64,
+        expired.cache.expiry.len as u64,
+        expired.removed as u64,
     ];
     true
 }
@@ -232,7 +202,7 @@ pub extern "C" fn time_cache_contains_key(
 ) -> bool
     ensures { Tells (Whole (handed a s n b t m) block.now × (holds (key_of w0 w1 w2 w3) (cache_at (handed a s n b t m) block.now) ≡ true)) result }
 {
-    let c = TimeBoundCache {
+    let cache = TimeBoundCache {
         entries: Table {
             at: a,
             stride: s,
@@ -244,11 +214,7 @@ pub extern "C" fn time_cache_contains_key(
             len: m,
         },
     };
-    let ok = is_whole(c, block);
-    if !ok {
-        return false;
-    }
-    c.contains_key(block, Id { w0, w1, w2, w3 })
+    is_whole(cache, block) && cache.contains_key(block, Id { w0, w1, w2, w3 })
 }
 
 // `contains_later`.
@@ -269,7 +235,7 @@ pub extern "C" fn time_cache_contains_later(
 ) -> bool
     ensures { Tells (Whole (handed a s n b t m) block.now × (holds (key_of w0 w1 w2 w3) (later_cache instant.0 (cache_at (handed a s n b t m) block.now)) ≡ true)) result }
 {
-    let c = TimeBoundCache {
+    let cache = TimeBoundCache {
         entries: Table {
             at: a,
             stride: s,
@@ -281,11 +247,7 @@ pub extern "C" fn time_cache_contains_later(
             len: m,
         },
     };
-    let ok = is_whole(c, block);
-    if !ok {
-        return false;
-    }
-    c.contains_later(block, Id { w0, w1, w2, w3 }, instant)
+    is_whole(cache, block) && cache.contains_later(block, Id { w0, w1, w2, w3 }, instant)
 }
 
 // `entries_later`.
@@ -302,7 +264,7 @@ pub extern "C" fn time_cache_entries_later(
 ) -> usize
     ensures { Said (Whole (handed a s n b t m) block.now) (length (later_cache instant.0 (cache_at (handed a s n b t m) block.now)).entries) result }
 {
-    let c = TimeBoundCache {
+    let cache = TimeBoundCache {
         entries: Table {
             at: a,
             stride: s,
@@ -314,11 +276,10 @@ pub extern "C" fn time_cache_entries_later(
             len: m,
         },
     };
-    let ok = is_whole(c, block);
-    if !ok {
+    if !is_whole(cache, block) {
         return 0;
     }
-    c.entries_later(block, instant)
+    cache.entries_later(block, instant)
 }
 
 // `rows_later`.
@@ -335,7 +296,7 @@ pub extern "C" fn time_cache_rows_later(
 ) -> usize
     ensures { Said (Whole (handed a s n b t m) block.now) (length (later_cache instant.0 (cache_at (handed a s n b t m) block.now)).expiry) result }
 {
-    let c = TimeBoundCache {
+    let cache = TimeBoundCache {
         entries: Table {
             at: a,
             stride: s,
@@ -347,9 +308,8 @@ pub extern "C" fn time_cache_rows_later(
             len: m,
         },
     };
-    let ok = is_whole(c, block);
-    if !ok {
+    if !is_whole(cache, block) {
         return 0;
     }
-    c.rows_later(block, instant)
+    cache.rows_later(block, instant)
 }

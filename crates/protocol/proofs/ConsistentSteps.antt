@@ -3,10 +3,9 @@ use Prim.Native.Nat.{ℕ}
 use mathlib.Core.Path.{◌≡◌, refl, ◌∙◌}
 use mathlib.Core.Bool.{Bool, true, false, not, ◌&&◌, ◌||◌}
 use mathlib.Core.List.{List, [], ◌∷◌}
-use mathlib.Core.Option.{Option, none, some}
 use lib.Dec.{eqb}
 use borrow.Author.Tests.{not-true}
-use Rattle.std.specs.Prelude.{if◌then◌else◌}
+use Rattle.std.specs.Prelude.{if◌then◌else◌, Option, Some, None}
 use Rattle.storage.specs.Lists.Base.{is_empty, all, any, filter, ascending, member}
 use Rattle.storage.specs.Lists.Map.{Map, keys}
 use Rattle.time_cache.specs.TimeCache.{Cache, get, holds, replace, expire_until, later_cache, Timely}
@@ -221,7 +220,7 @@ kept-cache_at now id content round r = record {
 }
 
 -- a value of the grafted table is replaced, its peers kept
-replaced : (id : ℕ) (g v : Grafts) (r : Run) → get id r.state.grafted ≡ some g → v.peers ≡ g.peers → Consistent r.state →
+replaced : (id : ℕ) (g v : Grafts) (r : Run) → get id r.state.grafted ≡ Some g → v.peers ≡ g.peers → Consistent r.state →
     Core r.state.links r.state.queue r.state.dropped r.state.missing r.state.received (replace id v r.state.grafted) r.state.cache r.state.timers.graft
 replaced id g v r h e x =
     core-grafted (replace id v r.state.grafted) r.state (timely-replace id v r.state.grafted x.core.grafted_on)
@@ -229,11 +228,11 @@ replaced id g v r h e x =
 
 pub kept-first : (id : ℕ) (h : Hop) (o : Option Grafts) (r : Run) → get id r.state.grafted ≡ o → Kept r (with_state (with_first id h o r.state) r)
 unfolding with_first
-kept-first id h none r e = kept_refl r
-kept-first id h (some g) r e = record {
+kept-first id h None r e = kept_refl r
+kept-first id h (Some g) r e = record {
   settings = refl;
   limits = refl;
-  consistent = λ x. record { core = replaced id g (record { first = some h; kept = g.kept; peers = g.peers }) r e refl x; queue_flag = x.queue_flag; record_flag = x.record_flag };
+  consistent = λ x. record { core = replaced id g (record { first = Some h; kept = g.kept; peers = g.peers }) r e refl x; queue_flag = x.queue_flag; record_flag = x.record_flag };
 }
 
 pub kept-set_first : (id sender round : ℕ) (r : Run) → Kept r (set_first id sender round r)
@@ -242,11 +241,11 @@ kept-set_first id sender round r = kept-first id _ (get id r.state.grafted) r re
 
 pub kept-kept : (id p : ℕ) (o : Option Grafts) (r : Run) → get id r.state.grafted ≡ o → Kept r (with_state (with_kept id p o r.state) r)
 unfolding with_kept
-kept-kept id p none r e = kept_refl r
-kept-kept id p (some g) r e = record {
+kept-kept id p None r e = kept_refl r
+kept-kept id p (Some g) r e = record {
   settings = refl;
   limits = refl;
-  consistent = λ x. record { core = replaced id g (record { first = g.first; kept = some p; peers = g.peers }) r e refl x; queue_flag = x.queue_flag; record_flag = x.record_flag };
+  consistent = λ x. record { core = replaced id g (record { first = g.first; kept = Some p; peers = g.peers }) r e refl x; queue_flag = x.queue_flag; record_flag = x.record_flag };
 }
 
 pub kept-keep : (id p : ℕ) (r : Run) → Kept r (set_kept id p r)

@@ -1,9 +1,9 @@
 -- The lists of calls of docs/GUARANTEE.md, each with what it shows, by computation. Every content has identifier 9.
+use Rattle.std.specs.Prelude.{Some, None}
 use Prim.Native.Nat.{ℕ}
 use mathlib.Core.Path.{◌≡◌, refl}
 use mathlib.Core.Bool.{Bool, true, false}
 use mathlib.Core.List.{List, [], ◌∷◌, ◌++◌, map}
-use mathlib.Core.Option.{none, some}
 use Rattle.storage.specs.Lists.Base as Base
 use Rattle.storage.specs.Lists.Map as Map
 use Rattle.postcard.specs.Number as Number
@@ -118,11 +118,11 @@ pub record Examples : Type 0 where
   pub lazy3 : lazy_peers (after links).state.links ≡ []
   -- the second call took it in, from 2
   pub cached2 : holds 9 (after came).state.cache ≡ true
-  pub from2 : map (took nine panel_settings) (after came).answers ≡ none ∷ some (record { id = 9; from = 2 }) ∷ []
+  pub from2 : map (took nine panel_settings) (after came).answers ≡ None ∷ Some (record { id = 9; from = 2 }) ∷ []
   -- 2 announced it in the third call and was sent a Graft in the fourth; the fifth took it in, from 3, and sent 2 nothing
   pub announced3 : which (announced 2 9) grafted ≡ false ∷ false ∷ true ∷ false ∷ false ∷ []
   pub grafted4 : which (sent 2 (is_graft_for 9) taken_or_handed_back) grafted ≡ false ∷ false ∷ false ∷ true ∷ false ∷ []
-  pub took5 : map (took nine panel_settings) (after grafted).answers ≡ none ∷ none ∷ none ∷ none ∷ some (record { id = 9; from = 3 }) ∷ []
+  pub took5 : map (took nine panel_settings) (after grafted).answers ≡ None ∷ None ∷ None ∷ None ∷ Some (record { id = 9; from = 3 }) ∷ []
   pub nothing5 : which (sent 2 (carries 9) taken_or_handed_back) grafted ≡ false ∷ false ∷ false ∷ false ∷ false ∷ []
   -- its payload went to 2 and was taken
   pub payload2 : which (sent 2 (carries 9) was_taken) taken ≡ false ∷ true ∷ []

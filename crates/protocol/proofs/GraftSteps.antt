@@ -3,13 +3,12 @@ use Prim.Native.Nat.{ℕ}
 use mathlib.Core.Path.{◌≡◌, refl, sym, ap, subst, ◌∙◌}
 use mathlib.Core.Bool.{Bool, true, false}
 use mathlib.Core.List.{List, [], ◌∷◌, map}
-use mathlib.Core.Option.{Option, none, some}
 use mathlib.Core.Logic.{◌⊎◌, inl, inr}
 use native.Mathlib.Omega.{arith}
 use lib.Dec.{ltb, eqb}
 use borrow.Author.Tests.{eqb-true, ne_eqb, ltb-true}
-use Rattle.std.specs.Prelude.{if◌then◌else◌}
-use Rattle.storage.specs.Lists.Base.{is_some, is_empty, any, all, filter, member, ascending}
+use Rattle.std.specs.Prelude.{if◌then◌else◌, Option, Some, None, is_some}
+use Rattle.storage.specs.Lists.Base.{is_empty, any, all, filter, member, ascending}
 use Rattle.storage.specs.Lists.Map.{Map, keys, lookup, has, insert, remove}
 use Rattle.time_cache.specs.TimeCache.{Cache, Timed, Expiry, value_of, get, holds, put, with_value, replace, expires_at, pop, pop_all, due, expire_until}
 use Rattle.postcard.specs.Message.{Ihave, Graft, SendGraft, Action, Sent, Scheduled}
@@ -60,18 +59,18 @@ module _ {A : Type 0} where
   get-replace-other j k v c h = ap value_of (other (lookup k c.entries))
     where
       other : (o : Option (Timed A)) → lookup j (with_value k v o c.entries) ≡ lookup j c.entries
-      other none = refl
-      other (some t) = lookup-insert-other j k _ c.entries h
+      other None = refl
+      other (Some t) = lookup-insert-other j k _ c.entries h
 
-  pub get-replace-same : (k : ℕ) (v g : A) (c : Cache A) → get k c ≡ some g → get k (replace k v c) ≡ some v
+  pub get-replace-same : (k : ℕ) (v g : A) (c : Cache A) → get k c ≡ Some g → get k (replace k v c) ≡ Some v
   unfolding get replace with_value value_of
   get-replace-same k v g c h = on (lookup k c.entries) h
     where
-      on : (o : Option (Timed A)) → value_of o ≡ some g → value_of (lookup k (with_value k v o c.entries)) ≡ some v
-      on none e = let z : false ≡ true = cc in true≢ z
-      on (some t) e = ap value_of (lookup-insert-same k _ c.entries)
+      on : (o : Option (Timed A)) → value_of o ≡ Some g → value_of (lookup k (with_value k v o c.entries)) ≡ Some v
+      on None e = let z : false ≡ true = cc in true≢ z
+      on (Some t) e = ap value_of (lookup-insert-same k _ c.entries)
 
-  lookup-pop : (k : ℕ) (x : Expiry) (m : Map (Timed A)) → (lookup k (pop x m) ≡ lookup k m) ⊎ (lookup k (pop x m) ≡ none)
+  lookup-pop : (k : ℕ) (x : Expiry) (m : Map (Timed A)) → (lookup k (pop x m) ≡ lookup k m) ⊎ (lookup k (pop x m) ≡ None)
   unfolding pop
   lookup-pop k x m =
       cases (expires_at x.time (lookup x.key m))
@@ -81,13 +80,13 @@ module _ {A : Type 0} where
       (λ p. rw p (inl refl))
 
   -- what stands after some are popped stood before
-  pub lookup-pop_all : (k : ℕ) (xs : List Expiry) (m : Map (Timed A)) → (lookup k (pop_all xs m) ≡ lookup k m) ⊎ (lookup k (pop_all xs m) ≡ none)
+  pub lookup-pop_all : (k : ℕ) (xs : List Expiry) (m : Map (Timed A)) → (lookup k (pop_all xs m) ≡ lookup k m) ⊎ (lookup k (pop_all xs m) ≡ None)
   unfolding pop_all
   lookup-pop_all k [] m = inl refl
   lookup-pop_all k (x ∷ xs) m = on (lookup-pop_all k xs (pop x m)) (lookup-pop k x m)
     where
-      on : (lookup k (pop_all xs (pop x m)) ≡ lookup k (pop x m)) ⊎ (lookup k (pop_all xs (pop x m)) ≡ none) →
-          (lookup k (pop x m) ≡ lookup k m) ⊎ (lookup k (pop x m) ≡ none) → (lookup k (pop_all xs (pop x m)) ≡ lookup k m) ⊎ (lookup k (pop_all xs (pop x m)) ≡ none)
+      on : (lookup k (pop_all xs (pop x m)) ≡ lookup k (pop x m)) ⊎ (lookup k (pop_all xs (pop x m)) ≡ None) →
+          (lookup k (pop x m) ≡ lookup k m) ⊎ (lookup k (pop x m) ≡ None) → (lookup k (pop_all xs (pop x m)) ≡ lookup k m) ⊎ (lookup k (pop_all xs (pop x m)) ≡ None)
       on (inr e) h = inr e
       on (inl e) (inl h) = inl (e ∙ h)
       on (inl e) (inr h) = inr (e ∙ h)
@@ -96,16 +95,16 @@ module _ {A : Type 0} where
 
 peers-first : (id j : ℕ) (h : Hop) (o : Option Grafts) (s : State) → get id s.grafted ≡ o → grafted_for j (with_first id h o s) ≡ grafted_for j s
 unfolding with_first grafted_for peers_of
-peers-first id j h none s e = refl
-peers-first id j h (some g) s e =
+peers-first id j h None s e = refl
+peers-first id j h (Some g) s e =
     cases (eqb j id)
-    (λ q. rw (eqb-true j id q) (ap peers_of (get-replace-same id (record { first = some h; kept = g.kept; peers = g.peers }) g s.grafted e) ∙ sym (ap peers_of e)))
+    (λ q. rw (eqb-true j id q) (ap peers_of (get-replace-same id (record { first = Some h; kept = g.kept; peers = g.peers }) g s.grafted e) ∙ sym (ap peers_of e)))
     (λ q. ap peers_of (get-replace-other j id _ s.grafted q))
 
 missing-first : (id : ℕ) (h : Hop) (o : Option Grafts) (s : State) → (with_first id h o s).missing ≡ s.missing
 unfolding with_first
-missing-first id h none s = refl
-missing-first id h (some g) s = refl
+missing-first id h None s = refl
+missing-first id h (Some g) s = refl
 
 pub shrinks-set_first : (id sender round : ℕ) (r : Run) → Shrinks r (set_first id sender round r)
 unfolding set_first announcers
@@ -117,16 +116,16 @@ shrinks-set_first id sender round r = record {
 
 peers-kept : (id j p : ℕ) (o : Option Grafts) (s : State) → get id s.grafted ≡ o → grafted_for j (with_kept id p o s) ≡ grafted_for j s
 unfolding with_kept grafted_for peers_of
-peers-kept id j p none s e = refl
-peers-kept id j p (some g) s e =
+peers-kept id j p None s e = refl
+peers-kept id j p (Some g) s e =
     cases (eqb j id)
-    (λ q. rw (eqb-true j id q) (ap peers_of (get-replace-same id (record { first = g.first; kept = some p; peers = g.peers }) g s.grafted e) ∙ sym (ap peers_of e)))
+    (λ q. rw (eqb-true j id q) (ap peers_of (get-replace-same id (record { first = g.first; kept = Some p; peers = g.peers }) g s.grafted e) ∙ sym (ap peers_of e)))
     (λ q. ap peers_of (get-replace-other j id _ s.grafted q))
 
 missing-kept : (id p : ℕ) (o : Option Grafts) (s : State) → (with_kept id p o s).missing ≡ s.missing
 unfolding with_kept
-missing-kept id p none s = refl
-missing-kept id p (some g) s = refl
+missing-kept id p None s = refl
+missing-kept id p (Some g) s = refl
 
 shrinks-keep : (id p : ℕ) (r : Run) → Shrinks r (set_kept id p r)
 unfolding set_kept announcers
@@ -156,7 +155,7 @@ shrinks-evict now r = record { sorted = λ o. o; announcing = λ p j h. h; graft
     xs : List Expiry
     xs = due now r.state.grafted.expiry
 
-    on : (p j : ℕ) → (lookup j (pop_all xs r.state.grafted.entries) ≡ lookup j r.state.grafted.entries) ⊎ (lookup j (pop_all xs r.state.grafted.entries) ≡ none) →
+    on : (p j : ℕ) → (lookup j (pop_all xs r.state.grafted.entries) ≡ lookup j r.state.grafted.entries) ⊎ (lookup j (pop_all xs r.state.grafted.entries) ≡ None) →
         has p (peers_of (value_of (lookup j (pop_all xs r.state.grafted.entries)))) ≡ true → has p (peers_of (value_of (lookup j r.state.grafted.entries))) ≡ true
     on p j (inl e) h = rw e at h
     on p j (inr e) h = true≢ (rw e at h)
@@ -298,7 +297,7 @@ hears sender (h ∷ hs) r =
 -- SendGraft
 
 module _ {A : Type 0} where
-  get-put-same : (k : ℕ) (v : A) (t : ℕ) (c : Cache A) → get k (put k v t c) ≡ some v
+  get-put-same : (k : ℕ) (v : A) (t : ℕ) (c : Cache A) → get k (put k v t c) ≡ Some v
   unfolding get put value_of
   get-put-same k v t c = ap value_of (lookup-insert-same k _ c.entries)
 
@@ -312,11 +311,11 @@ module _ {A : Type 0} where
 grafting-graft : (p j id t : ℕ) (h : Hop) (o : Option Grafts) (c : Cache Grafts) → get id c ≡ o → has p (peers_of (get j (with_graft id t h o c))) ≡ true →
     (has p (peers_of (get j c)) ≡ true) ⊎ ((eqb id j ≡ true) × (eqb h.peer p ≡ true))
 unfolding with_graft peers_of lookup
-grafting-graft p j id t h none c e x =
+grafting-graft p j id t h None c e x =
     cases (eqb j id)
     (λ q. inr (eqb-sym id j ∙ q, cases (eqb p h.peer) (λ z. eqb-sym h.peer p ∙ z) (λ z. true≢ (rw z at (rw (eqb-true j id q, get-put-same) at x)))))
     (λ q. inl (rw (get-put-other j id _ t c q) at x))
-grafting-graft p j id t h (some g) c e x =
+grafting-graft p j id t h (Some g) c e x =
     cases (eqb j id)
     (λ q. here q (has-insert p h.peer _ g.peers (rw (eqb-true j id q, get-replace-same id _ g c e) at x)))
     (λ q. inl (rw (get-replace-other j id _ c q) at x))
@@ -364,7 +363,7 @@ asks-first now id (h ∷ hs) r e = record {
     gra p j (inr (q, x)) = inr (
       rw (← eqb-true id j q, e) (any_left (hop_of p) (h ∷ []) hs (any-one (hop_of p) h ∙ x)),
       any_left (sends p (is_graft_for j) taken_or_handed_back) _ (Scheduled _ (SendGraft id) ∷ [])
-          (any-right (sends p (is_graft_for j) taken_or_handed_back) r.actions (Sent h.peer _ (Graft (some id) h.round) ∷ []) (any-one (sends p (is_graft_for j) taken_or_handed_back) _ ∙ rw (x, q))),
+          (any-right (sends p (is_graft_for j) taken_or_handed_back) r.actions (Sent h.peer _ (Graft (Some id) h.round) ∷ []) (any-one (sends p (is_graft_for j) taken_or_handed_back) _ ∙ rw (x, q))),
     )
 
 pub asks : (now id : ℕ) (r : Run) → Asks r (on_send_graft_timer now id r)
@@ -376,12 +375,12 @@ asks now id r =
 
 -- neighbour down
 
-absent-announcer : (q k : ℕ) (m : Map (List Hop)) → all (ltb k) (keys m) ≡ true → lookup k (forget_announcer q m) ≡ none
+absent-announcer : (q k : ℕ) (m : Map (List Hop)) → all (ltb k) (keys m) ≡ true → lookup k (forget_announcer q m) ≡ None
 unfolding lookup forget_announcer
 absent-announcer q k [] a = refl
 absent-announcer q k (e ∷ m) a =
     let n : eqb k e.key ≡ false = ne_eqb k e.key (λ z. omega (arith, ltb-true k e.key (all_head (ltb k) e.key (keys m) a))) in
-    let ih : lookup k (forget_announcer q m) ≡ none = absent-announcer q k m (all_tail (ltb k) e.key (keys m) a) in
+    let ih : lookup k (forget_announcer q m) ≡ None = absent-announcer q k m (all_tail (ltb k) e.key (keys m) a) in
     cases (is_empty (without_announcer q e.value)) (λ p. rw p ih) (λ p. rw p (rw n ih))
 
 any-without : (p q : ℕ) (hs : List Hop) → any (hop_of p) (without_announcer q hs) ≡ true → (eqb p q ≡ false) × (any (hop_of p) hs ≡ true)

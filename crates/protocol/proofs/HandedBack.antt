@@ -1,9 +1,9 @@
 -- The steps by which no payload and no announcement is handed back (`Silent`); those among them that leave record and cache alone as well (`Calm`).
+use Rattle.std.specs.Prelude.{Some, None}
 use Prim.Native.Nat.{ℕ, suc}
 use mathlib.Core.Path.{◌≡◌, refl, ◌∙◌}
 use mathlib.Core.Bool.{Bool, false, not, ◌&&◌, ◌||◌}
 use mathlib.Core.List.{List, [], ◌∷◌}
-use mathlib.Core.Option.{none, some}
 use lib.Dec.{eqb}
 use Rattle.storage.specs.Lists.Base.{is_empty, any, member}
 use Rattle.time_cache.specs.TimeCache.{holds, get}
@@ -93,7 +93,7 @@ module _ (p id : ℕ) where
   calm-optimize_tree sender round [] r = calm-still refl refl refl
   calm-optimize_tree sender round (h ∷ hs) r =
       walk-if Calm (far_closer r.state.settings.optimization_threshold round (least_from h hs).round)
-      (walk-if Calm (eager_in (least_from h hs).peer r.state.links) (calm-still refl refl refl) (calm-still refl refl refl then calm-send (least_from h hs).peer (Graft none (least_from h hs).round) _ refl)
+      (walk-if Calm (eager_in (least_from h hs).peer r.state.links) (calm-still refl refl refl) (calm-still refl refl refl then calm-send (least_from h hs).peer (Graft None (least_from h hs).round) _ refl)
       then calm-prune_back sender _)
       (calm-still refl refl refl)
 
@@ -146,7 +146,7 @@ module _ (p id : ℕ) where
   silent-ask_first : (now j : ℕ) (hs : List Hop) (r : Run) → Silent r (ask_first now j hs r)
   unfolding ask_first leave_announcers update_links note_graft carries
   silent-ask_first now j [] r = silent-still refl
-  silent-ask_first now j (h ∷ hs) r = silent-still refl ⨾ (calm-send h.peer (Graft (some j) h.round) _ refl).silent ⨾ (calm-schedule _ _ _).silent
+  silent-ask_first now j (h ∷ hs) r = silent-still refl ⨾ (calm-send h.peer (Graft (Some j) h.round) _ refl).silent ⨾ (calm-schedule _ _ _).silent
 
   pub silent-on_send_graft_timer : (now j : ℕ) (r : Run) → Silent r (on_send_graft_timer now j r)
   unfolding on_send_graft_timer unmark

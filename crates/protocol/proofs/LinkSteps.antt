@@ -1,12 +1,12 @@
 -- The guarantee, first sentence: no step but "up" and "down" changes who is a neighbour.
+use Rattle.std.specs.Prelude.{Option, Some, None, is_some}
 use Prim.Native.Nat.{ℕ}
 use mathlib.Core.Path.{◌≡◌, refl, sym, ap, ◌∙◌}
 use mathlib.Core.Bool.{true}
 use mathlib.Core.List.{List, []}
-use mathlib.Core.Option.{Option, none, some}
 use lib.Dec.{eqb}
 use borrow.Author.Tests.{eqb-true}
-use Rattle.storage.specs.Lists.Base.{ascending, is_some, is_empty, member}
+use Rattle.storage.specs.Lists.Base.{ascending, is_empty, member}
 use Rattle.storage.specs.Lists.Map.{insert, keys}
 use Rattle.protocol.specs.Links.{Mark, eager, lazy, Links, is_neighbour, mark_if_there, add_eager, add_lazy}
 use Rattle.postcard.specs.Message.{Delivery, Scope, Message, Gossip, Prune, Graft, IHave, Timer, SendGraft, DispatchLazyPush, EvictCache, AnnounceDropped, Emitted}
@@ -68,13 +68,13 @@ keeps-lazy p r = record { same = λ q. has-mark q p lazy r.state.links; ordered 
 
 with_first-links : (id : ℕ) (h : Hop) (o : Option Grafts) (s : State) → (with_first id h o s).links ≡ s.links
 unfolding with_first
-with_first-links id h none s = refl
-with_first-links id h (some g) s = refl
+with_first-links id h None s = refl
+with_first-links id h (Some g) s = refl
 
 with_kept-links : (id p : ℕ) (o : Option Grafts) (s : State) → (with_kept id p o s).links ≡ s.links
 unfolding with_kept
-with_kept-links id p none s = refl
-with_kept-links id p (some g) s = refl
+with_kept-links id p None s = refl
+with_kept-links id p (Some g) s = refl
 
 keeps-schedule_dispatch : (r : Run) → Keeps r (schedule_dispatch r)
 unfolding schedule_dispatch act

@@ -3,10 +3,9 @@ use Prim.Native.Nat.{ℕ, suc}
 use mathlib.Core.Path.{◌≡◌, refl, ap, ◌∙◌}
 use mathlib.Core.Bool.{Bool, true, false, not}
 use mathlib.Core.List.{List, [], ◌∷◌}
-use mathlib.Core.Option.{Option, none, some}
 use lib.Dec.{ltb, eqb}
 use lib.ListN.{length}
-use Rattle.std.specs.Prelude.{if◌then◌else◌}
+use Rattle.std.specs.Prelude.{if◌then◌else◌, Option, Some, None}
 use Rattle.time_cache.specs.TimeCache.{holds}
 use Rattle.postcard.specs.Message.{Delivery, Swarm, Neighbors, Scope, to_swarm, to_neighbors, Ihave, Message, Gossip, Prune, Graft, IHave, Timer, SendGraft, DispatchLazyPush, EvictCache, AnnounceDropped, Event, Received, Broadcast, Fired, Up, Down}
 use Rattle.protocol.specs.Links.{is_neighbour}
@@ -62,13 +61,13 @@ run-on_new now sender id content Neighbors a = refl
 
 run-reply_with : (sender id : ℕ) (o : Option Cached) (a : Account) → (reply_with' sender id o a).run ≡ reply_with sender id o a.run
 unfolding reply_with' reply_with
-run-reply_with sender id none a = refl
-run-reply_with sender id (some c) a = run-if (takes sender a.run) _ _ refl (run-note_dropped sender _ _)
+run-reply_with sender id None a = refl
+run-reply_with sender id (Some c) a = run-if (takes sender a.run) _ _ refl (run-note_dropped sender _ _)
 
 run-on_graft : (sender : ℕ) (wanted : Option ℕ) (a : Account) → (on_graft' sender wanted a).run ≡ on_graft sender wanted a.run
 unfolding on_graft' on_graft reply' reply
-run-on_graft sender none a = refl
-run-on_graft sender (some id) a = run-reply_with sender id _ _
+run-on_graft sender None a = refl
+run-on_graft sender (Some id) a = run-reply_with sender id _ _
 
 pub run-send_chunks : (p : ℕ) (cs : List (List Ihave)) (a : Account) → (send_chunks' p cs a).run ≡ send_chunks p cs a.run
 unfolding send_chunks' send_chunks

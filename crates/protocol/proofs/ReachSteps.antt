@@ -1,9 +1,9 @@
 -- The guarantee, third sentence, of one event: a step never loses an identifier for a peer. Where it leaves queue or record it goes out, or comes back to a full record.
+use Rattle.std.specs.Prelude.{Option, Some, None}
 use Prim.Native.Nat.{ℕ}
 use mathlib.Core.Path.{◌≡◌, refl}
 use mathlib.Core.Bool.{Bool, true, false, not, ◌&&◌, ◌||◌}
 use mathlib.Core.List.{List, [], ◌∷◌, ◌++◌}
-use mathlib.Core.Option.{Option, none, some}
 use mathlib.Core.Logic.{◌⊎◌, inl, inr}
 use native.Mathlib.Omega.{arith}
 use lib.Dec.{leb}
@@ -114,19 +114,19 @@ grows-schedule_graft id r =
 
 grows-first : (id : ℕ) (h : Hop) (o : Option Grafts) (r : Run) → Grows r (with_state (with_first id h o r.state) r)
 unfolding with_first
-grows-first id h none r = alike refl refl refl refl
-grows-first id h (some g) r = alike refl refl refl refl
+grows-first id h None r = alike refl refl refl refl
+grows-first id h (Some g) r = alike refl refl refl refl
 
 grows-kept : (id p : ℕ) (o : Option Grafts) (r : Run) → Grows r (with_state (with_kept id p o r.state) r)
 unfolding with_kept
-grows-kept id p none r = alike refl refl refl refl
-grows-kept id p (some g) r = alike refl refl refl refl
+grows-kept id p None r = alike refl refl refl refl
+grows-kept id p (Some g) r = alike refl refl refl refl
 
-lookup-expire : {A : Type 0} (id now : ℕ) (v : Timed A) (c : Cache A) → lookup id (expire_until now c).entries ≡ some v → lookup id c.entries ≡ some v
+lookup-expire : {A : Type 0} (id now : ℕ) (v : Timed A) (c : Cache A) → lookup id (expire_until now c).entries ≡ Some v → lookup id c.entries ≡ Some v
 unfolding expire_until
 lookup-expire id now v c h = on (lookup-pop_all id (due now c.expiry) c.entries)
   where
-    on : (lookup id (pop_all (due now c.expiry) c.entries) ≡ lookup id c.entries) ⊎ (lookup id (pop_all (due now c.expiry) c.entries) ≡ none) → lookup id c.entries ≡ some v
+    on : (lookup id (pop_all (due now c.expiry) c.entries) ≡ lookup id c.entries) ⊎ (lookup id (pop_all (due now c.expiry) c.entries) ≡ None) → lookup id c.entries ≡ Some v
     on (inl e) = rw e at h
     on (inr e) = let z : false ≡ true = cc in true≢ z
 

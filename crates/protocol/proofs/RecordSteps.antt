@@ -3,9 +3,8 @@ use Prim.Native.Nat.{ℕ}
 use mathlib.Core.Path.{◌≡◌, refl, sym, ◌∙◌}
 use mathlib.Core.Bool.{Bool, true, false, not, ◌&&◌, ◌||◌}
 use mathlib.Core.List.{List, [], ◌∷◌, ◌++◌}
-use mathlib.Core.Option.{Option, none, some}
 use mathlib.Core.Logic.{◌⊎◌, inl, inr}
-use Rattle.std.specs.Prelude.{if◌then◌else◌}
+use Rattle.std.specs.Prelude.{if◌then◌else◌, Option, Some, None}
 use Rattle.storage.specs.Lists.Base.{is_empty, any, member}
 use Rattle.time_cache.specs.TimeCache.{holds}
 use Rattle.protocol.specs.Links.{is_neighbour}
@@ -194,13 +193,13 @@ still {r} {r'} a b c d e f = record {
 
 with_first-still : (id : ℕ) (h : Hop) (o : Option Grafts) (r : Run) → Sound r (with_state (with_first id h o r.state) r)
 unfolding with_first
-with_first-still id h none r = still refl refl refl refl refl refl
-with_first-still id h (some g) r = still refl refl refl refl refl refl
+with_first-still id h None r = still refl refl refl refl refl refl
+with_first-still id h (Some g) r = still refl refl refl refl refl refl
 
 with_kept-still : (id p : ℕ) (o : Option Grafts) (r : Run) → Sound r (with_state (with_kept id p o r.state) r)
 unfolding with_kept
-with_kept-still id p none r = still refl refl refl refl refl refl
-with_kept-still id p (some g) r = still refl refl refl refl refl refl
+with_kept-still id p None r = still refl refl refl refl refl refl
+with_kept-still id p (Some g) r = still refl refl refl refl refl refl
 
 sound-schedule_graft : (id : ℕ) (r : Run) → Sound r (schedule_graft id r)
 unfolding schedule_graft

@@ -4,9 +4,8 @@ use Prim.Native.Nat.{ℕ, ◌^◌}
 use mathlib.Core.Path.{◌≡◌, refl, ap, ◌∙◌}
 use mathlib.Core.Bool.{Bool, true, false, ◌&&◌}
 use mathlib.Core.List.{List}
-use mathlib.Core.Option.{Option, none, some}
 use lib.Dec.{leb}
-use Rattle.std.specs.Prelude.{if◌then◌else◌}
+use Rattle.std.specs.Prelude.{if◌then◌else◌, Option, Some, None}
 use Rattle.storage.proofs.ListsLaws.Branches.{if-both}
 use Rattle.postcard.specs.Message.{Event}
 use Rattle.postcard.specs.Decode.{decoded, decode_event}
@@ -26,13 +25,13 @@ module _ (hash : List ℕ → ℕ) (c : Counts) (k : Call) (bytes : List ℕ) (e
   same-ask s fit = if-both (leb k.now (2 ^ 62)) (rw (read, read') (rw fit refl)) refl
 
   -- upon a block
-  same_block : (block_length : ℕ) (held : Option State) → ((s : State) → held ≡ some s → message_fits s.settings.max_message_size bytes e ≡ message_fits s.settings.max_message_size k.event e) →
+  same_block : (block_length : ℕ) (held : Option State) → ((s : State) → held ≡ Some s → message_fits s.settings.max_message_size bytes e ≡ message_fits s.settings.max_message_size k.event e) →
       answer_of hash (whole_state block_length held) c (respelled bytes k) ≡ answer_of hash (whole_state block_length held) c k
   unfolding whole_state answer_of
-  same_block block_length none fit = refl
-  same_block block_length (some s) fit = branch (long_enough block_length s && whole s)
+  same_block block_length None fit = refl
+  same_block block_length (Some s) fit = branch (long_enough block_length s && whole s)
     where
-      branch : (b : Bool) → answer_of hash (if b then some s else none) c (respelled bytes k) ≡ answer_of hash (if b then some s else none) c k
+      branch : (b : Bool) → answer_of hash (if b then Some s else None) c (respelled bytes k) ≡ answer_of hash (if b then Some s else None) c k
       branch true = ap outcome (same-ask s (fit s refl))
       branch false = refl
 

@@ -1,9 +1,9 @@
 -- The specification, "Calls worked through": the starred examples, as one theorem about the definitions, and panelrun's three answers. Each holds by computation.
+use Rattle.std.specs.Prelude.{None}
 use Prim.Native.Nat.{ℕ}
 use mathlib.Core.Path.{◌≡◌, refl}
 use mathlib.Core.Bool.{true, false}
 use mathlib.Core.List.{List, [], ◌∷◌, ◌++◌}
-use mathlib.Core.Option.{none}
 use lib.ListN.{replicate}
 use Rattle.storage.specs.Lists.Base.{◌▷◌, count, any, filter, member, concat_map, all, sum, ascending}
 use Rattle.storage.specs.Lists.Map.{lookup, insert, remove, insert_key, remove_key}
@@ -75,7 +75,7 @@ pub record Worked (hash : List ℕ → ℕ) : Type 0 where
   -- "Threshold 7, r = 9: announcer round 3 optimises, 4 doesn't": 3 announces the message, and then it comes from 2 at round 9
   pub optimises : (announced_at 3 ▷ handle nine 0 (Received 2 (Gossip 9 [] (Swarm 9)))).actions
       ≡ (announced_at 3).actions
-      ++ (Scheduled 5 DispatchLazyPush ∷ Sent 3 true (Graft none 3) ∷ Sent 2 true Prune ∷ Emitted 2 [] (Swarm 9) ∷ [])
+      ++ (Scheduled 5 DispatchLazyPush ∷ Sent 3 true (Graft None 3) ∷ Sent 2 true Prune ∷ Emitted 2 [] (Swarm 9) ∷ [])
   pub does_not : (announced_at 4 ▷ handle nine 0 (Received 2 (Gossip 9 [] (Swarm 9)))).actions
       ≡ (announced_at 4).actions ++ (Scheduled 5 DispatchLazyPush ∷ Emitted 2 [] (Swarm 9) ∷ [])
   -- "Cached at 0: evicting at 29,999 keeps, 30,000 removes; put again at 10,000, evicting at 30,000 keeps"

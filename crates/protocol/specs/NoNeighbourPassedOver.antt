@@ -1,6 +1,5 @@
 -- The guarantee: what holds after every list of event calls from a fresh panel. What is said of the past is read from the event of each accepted call, its actions, and the state after it.
-use Rattle.std.specs.Prelude.{ℕ, ◌≤◌, ◌≡◌, Bool, true, false, not, ◌&&◌, List, [], ◌∷◌, ◌++◌, leb, eqb, length, if◌then◌else◌}
-use Rattle.std.proofs.Math.Option.{Option, none, some}
+use Rattle.std.specs.Prelude.{ℕ, ◌≤◌, ◌≡◌, Bool, true, false, not, ◌&&◌, List, [], ◌∷◌, ◌++◌, leb, eqb, length, if◌then◌else◌, Option, Some, None}
 use Rattle.storage.specs.Lists.Base.{any, count, member}
 use Rattle.postcard.specs.Message.{Swarm, Neighbors, Scope, to_swarm, to_neighbors, Ihave, Message, Gossip, Prune, Graft, IHave, Timer, SendGraft, DispatchLazyPush, EvictCache, AnnounceDropped, Event, Received, Broadcast, Fired, Up, Down, Action, Sent, Scheduled, Emitted}
 use Rattle.time_cache.specs.TimeCache.{holds}
@@ -76,36 +75,36 @@ is_emit (Emitted p content d) = true
 
 -- "a new Swarm Gossip as told above, which came from the event's peer": a call that receives one emits exactly when it is valid and new
 unfoldable pub took_gossip : ℕ → Message → List Action → Option Took
-took_gossip p (Gossip id content (Swarm round)) actions = if any is_emit actions then some (record { id = id; from = p }) else none
-took_gossip p (Gossip id content Neighbors) actions = none
-took_gossip p Prune actions = none
-took_gossip p (Graft wanted round) actions = none
-took_gossip p (IHave hs) actions = none
+took_gossip p (Gossip id content (Swarm round)) actions = if any is_emit actions then Some (record { id = id; from = p }) else None
+took_gossip p (Gossip id content Neighbors) actions = None
+took_gossip p Prune actions = None
+took_gossip p (Graft wanted round) actions = None
+took_gossip p (IHave hs) actions = None
 
 module _ (hash : List ℕ → ℕ) where
   -- "or a Swarm broadcast of size at most M, which came from the panel"
   unfoldable pub took_broadcast : Settings → List ℕ → Scope → Option Took
   took_broadcast c content to_swarm =
-      if leb (gossip_size (length content) to_swarm) c.max_message_size then some (record { id = hash content; from = c.me }) else none
-  took_broadcast c content to_neighbors = none
+      if leb (gossip_size (length content) to_swarm) c.max_message_size then Some (record { id = hash content; from = c.me }) else None
+  took_broadcast c content to_neighbors = None
 
   -- what an event with these actions takes in
   unfoldable pub took_by_event : Settings → Event → List Action → Option Took
   took_by_event c (Received p m) actions = took_gossip p m actions
   took_by_event c (Broadcast content scope) actions = took_broadcast c content scope
-  took_by_event c (Fired t) actions = none
-  took_by_event c (Up p) actions = none
-  took_by_event c (Down p) actions = none
+  took_by_event c (Fired t) actions = None
+  took_by_event c (Up p) actions = None
+  took_by_event c (Down p) actions = None
 
   -- "It is taken in by the call that puts it into the message cache"
   unfoldable pub took : Settings → Answer → Option Took
-  took c (refuse n) = none
+  took c (refuse n) = None
   took c (accept e r) = took_by_event c e r.actions
 
 -- "A message is known by its identifier"
 unfoldable pub is_of : ℕ → Option Took → Bool
-is_of id none = false
-is_of id (some t) = eqb t.id id
+is_of id None = false
+is_of id (Some t) = eqb t.id id
 
 -- the IHave lists it
 unfoldable pub lists : ℕ → List Ihave → Bool
@@ -130,8 +129,8 @@ announced p id a = by_event (announces_in p id) a
 unfoldable pub is_graft_for : ℕ → Message → Bool
 is_graft_for id (Gossip j content d) = false
 is_graft_for id Prune = false
-is_graft_for id (Graft none round) = false
-is_graft_for id (Graft (some j) round) = eqb j id
+is_graft_for id (Graft None round) = false
+is_graft_for id (Graft (Some j) round) = eqb j id
 is_graft_for id (IHave hs) = false
 
 -- "Its payload is a Gossip of delivery Swarm with its identifier, its announcement an IHave that lists it"
@@ -252,7 +251,7 @@ module _ (hash : List ℕ → ℕ) (c : Settings) where
     pub after : List Answer
     pub from : ℕ
     pub split : past ≡ before ++ (call ∷ after)
-    pub takes : took hash c call ≡ some (record { id = id; from = from })
+    pub takes : took hash c call ≡ Some (record { id = id; from = from })
     pub last : Never (λ a. is_of id (took hash c a)) after
 
   -- "each neighbour but the panel itself, neighbour without break since that message was last taken in"

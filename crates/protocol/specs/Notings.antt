@@ -1,7 +1,6 @@
 -- "`note_dropped` came to it for this neighbour while this neighbour had 256 or all had 4,096": an account of the notings of a call, kept beside its run. A name with ' is the step of that
 -- name, line for line, with the account; a step in which nothing is noted is the protocol's own (`plain`). `MetFullExact` says that the run is `handle`'s, and what the account has to do with `met_full`.
-use Rattle.std.specs.Prelude.{ℕ, suc, ◌≡◌, true, false, not, List, [], ◌∷◌, ◌++◌, ◌⊎◌, ltb, eqb, length, if◌then◌else◌}
-use Rattle.std.proofs.Math.Option.{Option, none, some}
+use Rattle.std.specs.Prelude.{ℕ, suc, ◌≡◌, true, false, not, List, [], ◌∷◌, ◌++◌, ◌⊎◌, ltb, eqb, length, if◌then◌else◌, Option, Some, None}
 use Rattle.storage.specs.Lists.Base.{◌▷◌, any}
 use Rattle.storage.specs.Lists.Map.{keys}
 use Rattle.time_cache.specs.TimeCache.{get, holds}
@@ -92,15 +91,15 @@ on_new' now sender id content Neighbors a = a ▷ plain (emit sender content Nei
 
 -- `reply_with`
 unfoldable pub reply_with' : ℕ → ℕ → Option Cached → Account → Account
-reply_with' sender id none a = a
-reply_with' sender id (some c) a =
+reply_with' sender id None a = a
+reply_with' sender id (Some c) a =
     if takes sender a.run then plain (send sender (Gossip id c.content (Swarm c.round))) a
     else (a ▷ plain (send sender (Gossip id c.content (Swarm c.round))) ▷ note_dropped' sender (record { id = id; round = c.round } ∷ []))
 
 -- `reply`
 unfoldable pub reply' : ℕ → Option ℕ → Account → Account
-reply' sender none a = a
-reply' sender (some id) a = reply_with' sender id (get id a.run.state.cache) a
+reply' sender None a = a
+reply' sender (Some id) a = reply_with' sender id (get id a.run.state.cache) a
 
 -- `on_graft`
 unfoldable pub on_graft' : ℕ → Option ℕ → Account → Account

@@ -1,7 +1,6 @@
 -- The Rust's answers to lists of calls, which the definitions give too: outputs, answer numbers, states and counts. Written by tests/definitions/sample.py from calls.txt beside it.
-use Rattle.std.specs.Prelude.{ℕ, ◌≡◌, Bool, true, false, ◌&&◌, if◌then◌else◌, List, [], ◌∷◌, map, eqb}
+use Rattle.std.specs.Prelude.{ℕ, ◌≡◌, Bool, true, false, ◌&&◌, if◌then◌else◌, List, [], ◌∷◌, map, eqb, Some, None}
 use Rattle.std.proofs.Common.{refl}
-use Rattle.std.proofs.Math.Option.{none, some}
 use Rattle.std.proofs.Math.ListN.{replicate}
 use Rattle.storage.specs.Lists.Base as Base
 use Rattle.storage.specs.Lists.Map as Map
@@ -335,7 +334,7 @@ section3 = record {
     dropped = [];
     missing = [];
     received = (record { entries = (entry 0x455816dc5d9cf99e3f5c6172128265eb41b0603f1c7f24f24efa80130ef7baae (record { expires = 90090; value = tt })) ∷ []; expiry = (record { time = 90090; key = 0x455816dc5d9cf99e3f5c6172128265eb41b0603f1c7f24f24efa80130ef7baae }) ∷ [] });
-    grafted = (record { entries = (entry 0x455816dc5d9cf99e3f5c6172128265eb41b0603f1c7f24f24efa80130ef7baae (record { expires = 30081; value = record { first = some (hop 3 3); kept = some 2; peers = (entry 2 3) ∷ [] } })) ∷ []; expiry = (record { time = 30081; key = 0x455816dc5d9cf99e3f5c6172128265eb41b0603f1c7f24f24efa80130ef7baae }) ∷ [] });
+    grafted = (record { entries = (entry 0x455816dc5d9cf99e3f5c6172128265eb41b0603f1c7f24f24efa80130ef7baae (record { expires = 30081; value = record { first = Some (hop 3 3); kept = Some 2; peers = (entry 2 3) ∷ [] } })) ∷ []; expiry = (record { time = 30081; key = 0x455816dc5d9cf99e3f5c6172128265eb41b0603f1c7f24f24efa80130ef7baae }) ∷ [] });
     cache = (record { entries = (entry 0x455816dc5d9cf99e3f5c6172128265eb41b0603f1c7f24f24efa80130ef7baae (record { expires = 30090; value = record { content = (bytes 4 0x6b696c6e); round = 4 } })) ∷ []; expiry = (record { time = 30090; key = 0x455816dc5d9cf99e3f5c6172128265eb41b0603f1c7f24f24efa80130ef7baae }) ∷ [] });
     timers = record { graft = []; dispatch = true; announce = false };
     init = true;
@@ -602,7 +601,7 @@ section8 = record {
     dropped = [];
     missing = [];
     received = (record { entries = (entry 0xc9f2f2630c73ef106a78848d883282fe776bb80e46b812b1ebed6ad523680b62 (record { expires = 1099511627995; value = tt })) ∷ (entry 0xfb723f0fe2a54356d64eba4e9d87291e559c094c5681d3f5f2f86dfac0f435a2 (record { expires = 1099511627777; value = tt })) ∷ []; expiry = (record { time = 1099511627777; key = 0xfb723f0fe2a54356d64eba4e9d87291e559c094c5681d3f5f2f86dfac0f435a2 }) ∷ (record { time = 1099511627995; key = 0xc9f2f2630c73ef106a78848d883282fe776bb80e46b812b1ebed6ad523680b62 }) ∷ [] });
-    grafted = (record { entries = (entry 0xfb723f0fe2a54356d64eba4e9d87291e559c094c5681d3f5f2f86dfac0f435a2 (record { expires = 1001; value = record { first = some (hop 10 9); kept = none; peers = (entry 11 2) ∷ [] } })) ∷ []; expiry = (record { time = 1001; key = 0xfb723f0fe2a54356d64eba4e9d87291e559c094c5681d3f5f2f86dfac0f435a2 }) ∷ [] });
+    grafted = (record { entries = (entry 0xfb723f0fe2a54356d64eba4e9d87291e559c094c5681d3f5f2f86dfac0f435a2 (record { expires = 1001; value = record { first = Some (hop 10 9); kept = None; peers = (entry 11 2) ∷ [] } })) ∷ []; expiry = (record { time = 1001; key = 0xfb723f0fe2a54356d64eba4e9d87291e559c094c5681d3f5f2f86dfac0f435a2 }) ∷ [] });
     cache = (record { entries = (entry 0xc9f2f2630c73ef106a78848d883282fe776bb80e46b812b1ebed6ad523680b62 (record { expires = 1219; value = record { content = (bytes 3 0xdcfc3b); round = 15 } })) ∷ (entry 0xfb723f0fe2a54356d64eba4e9d87291e559c094c5681d3f5f2f86dfac0f435a2 (record { expires = 1001; value = record { content = (bytes 2 0x5c25); round = 10 } })) ∷ []; expiry = (record { time = 1001; key = 0xfb723f0fe2a54356d64eba4e9d87291e559c094c5681d3f5f2f86dfac0f435a2 }) ∷ (record { time = 1219; key = 0xc9f2f2630c73ef106a78848d883282fe776bb80e46b812b1ebed6ad523680b62 }) ∷ [] });
     timers = record { graft = []; dispatch = false; announce = false };
     init = true;
@@ -1173,7 +1172,7 @@ section21 = record {
     dropped = [];
     missing = [];
     received = (record { entries = (entry 0x4f8d4f52af4df254a56bf8106cd26f8f454e3f08fe67a555d86391ceb0320fa (record { expires = 1099511628995; value = tt })) ∷ (entry 0x29a2e9bb68d752f8acda7498e7b3d038cb351ceda86693287ceb32704654c474 (record { expires = 1099511627972; value = tt })) ∷ (entry 0x523b4d394215e39ff6db4f4e2fc8abe1e9155a1be24036f023f80755e0b79533 (record { expires = 1099511628292; value = tt })) ∷ (entry 0x963feaa67d5418b28ca5c0d1d2a552857fc52faaf9ea81e5d68e668d8f5041f7 (record { expires = 1099511627776; value = tt })) ∷ []; expiry = (record { time = 1099511627776; key = 0x963feaa67d5418b28ca5c0d1d2a552857fc52faaf9ea81e5d68e668d8f5041f7 }) ∷ (record { time = 1099511627972; key = 0x29a2e9bb68d752f8acda7498e7b3d038cb351ceda86693287ceb32704654c474 }) ∷ (record { time = 1099511628292; key = 0x523b4d394215e39ff6db4f4e2fc8abe1e9155a1be24036f023f80755e0b79533 }) ∷ (record { time = 1099511628995; key = 0x4f8d4f52af4df254a56bf8106cd26f8f454e3f08fe67a555d86391ceb0320fa }) ∷ [] });
-    grafted = (record { entries = (entry 0x4f8d4f52af4df254a56bf8106cd26f8f454e3f08fe67a555d86391ceb0320fa (record { expires = 31219; value = record { first = some (hop 9 4); kept = none; peers = (entry 2 1) ∷ [] } })) ∷ []; expiry = (record { time = 31219; key = 0x4f8d4f52af4df254a56bf8106cd26f8f454e3f08fe67a555d86391ceb0320fa }) ∷ [] });
+    grafted = (record { entries = (entry 0x4f8d4f52af4df254a56bf8106cd26f8f454e3f08fe67a555d86391ceb0320fa (record { expires = 31219; value = record { first = Some (hop 9 4); kept = None; peers = (entry 2 1) ∷ [] } })) ∷ []; expiry = (record { time = 31219; key = 0x4f8d4f52af4df254a56bf8106cd26f8f454e3f08fe67a555d86391ceb0320fa }) ∷ [] });
     cache = (record { entries = (entry 0x4f8d4f52af4df254a56bf8106cd26f8f454e3f08fe67a555d86391ceb0320fa (record { expires = 31219; value = record { content = (bytes 12 0x2214ac76c50a7ee785186212); round = 5 } })) ∷ (entry 0x29a2e9bb68d752f8acda7498e7b3d038cb351ceda86693287ceb32704654c474 (record { expires = 30196; value = record { content = (bytes 6 0x4fcd9630ba3a); round = 0 } })) ∷ (entry 0x523b4d394215e39ff6db4f4e2fc8abe1e9155a1be24036f023f80755e0b79533 (record { expires = 30516; value = record { content = (bytes 5 0x95aa2c3810); round = 0 } })) ∷ (entry 0x963feaa67d5418b28ca5c0d1d2a552857fc52faaf9ea81e5d68e668d8f5041f7 (record { expires = 30000; value = record { content = (bytes 200 0x3723613d06cc85a59b078c6ed8bdcea9ea35c04328b07003aa030840e0c0c9d8d22ee82c1b7143ce6230e942f0a1bb407bc7be3dcf3fc4d862b7e1e86b516f4ff27ad4907a00b72b8a534f358ed1cec41f9459c9698a5b57e3d2f9627eda116b38ef2c9d09a485e5b1361d4b3bb331689fa931cc456057e44d12c879ddc393088f63943ef2a834859a624b5e696163154a3c2387239d9430abdddfc34b6a6878d79212a403f029c56d09f01360f275c74559d5433d75dee50a6e749e3b1dbab775a5c71b1a492477); round = 128 } })) ∷ []; expiry = (record { time = 30000; key = 0x963feaa67d5418b28ca5c0d1d2a552857fc52faaf9ea81e5d68e668d8f5041f7 }) ∷ (record { time = 30196; key = 0x29a2e9bb68d752f8acda7498e7b3d038cb351ceda86693287ceb32704654c474 }) ∷ (record { time = 30516; key = 0x523b4d394215e39ff6db4f4e2fc8abe1e9155a1be24036f023f80755e0b79533 }) ∷ (record { time = 31219; key = 0x4f8d4f52af4df254a56bf8106cd26f8f454e3f08fe67a555d86391ceb0320fa }) ∷ [] });
     timers = record { graft = []; dispatch = true; announce = false };
     init = true;
@@ -1667,7 +1666,7 @@ section31 = record {
     dropped = [];
     missing = [];
     received = (record { entries = (entry 0xb249dd84068d25d78dc1405e773533f0c8b440c3f9c0535eb449040f5035b3b9 (record { expires = 405; value = tt })) ∷ []; expiry = (record { time = 405; key = 0xb249dd84068d25d78dc1405e773533f0c8b440c3f9c0535eb449040f5035b3b9 }) ∷ [] });
-    grafted = (record { entries = (entry 0x3949539759bd8c8d81917fc6f513b82413fcc6208e8cffa9733b7154829d6eee (record { expires = 1058; value = record { first = none; kept = none; peers = (entry 0 1) ∷ [] } })) ∷ []; expiry = (record { time = 1058; key = 0x3949539759bd8c8d81917fc6f513b82413fcc6208e8cffa9733b7154829d6eee }) ∷ [] });
+    grafted = (record { entries = (entry 0x3949539759bd8c8d81917fc6f513b82413fcc6208e8cffa9733b7154829d6eee (record { expires = 1058; value = record { first = None; kept = None; peers = (entry 0 1) ∷ [] } })) ∷ []; expiry = (record { time = 1058; key = 0x3949539759bd8c8d81917fc6f513b82413fcc6208e8cffa9733b7154829d6eee }) ∷ [] });
     cache = (record { entries = (entry 0xb249dd84068d25d78dc1405e773533f0c8b440c3f9c0535eb449040f5035b3b9 (record { expires = 1105; value = record { content = (bytes 9 0x94ca4213771252f101); round = 3 } })) ∷ []; expiry = (record { time = 1105; key = 0xb249dd84068d25d78dc1405e773533f0c8b440c3f9c0535eb449040f5035b3b9 }) ∷ [] });
     timers = record { graft = []; dispatch = true; announce = false };
     init = true;
@@ -2331,7 +2330,7 @@ section39 = record {
     dropped = (note 16384 0xf7144fa46d3ce2c3cd447dc9796f362be182ccfa41476d62d1adf83db45f1313 9) ∷ [];
     missing = [];
     received = (record { entries = (entry 0x9c32cd03ecccbd7db253f518ce0ac5624a4ebe63294d5a54752fe213e17a53ff (record { expires = 4611686018427475089; value = tt })) ∷ (entry 0xbe603f080ab7767a72cfd001c3c6eaff4e1035a9a3e58c5729403bab4bd42079 (record { expires = 4611686018427473967; value = tt })) ∷ (entry 0xf2714fb9e8874a1cdb01e25222329c43a7f0d77c07b4ddc6148286b48e100157 (record { expires = 4611686018427473591; value = tt })) ∷ (entry 0xf7144fa46d3ce2c3cd447dc9796f362be182ccfa41476d62d1adf83db45f1313 (record { expires = 4611686018427472904; value = tt })) ∷ []; expiry = (record { time = 4611686018427472904; key = 0xf7144fa46d3ce2c3cd447dc9796f362be182ccfa41476d62d1adf83db45f1313 }) ∷ (record { time = 4611686018427473591; key = 0xf2714fb9e8874a1cdb01e25222329c43a7f0d77c07b4ddc6148286b48e100157 }) ∷ (record { time = 4611686018427473967; key = 0xbe603f080ab7767a72cfd001c3c6eaff4e1035a9a3e58c5729403bab4bd42079 }) ∷ (record { time = 4611686018427475089; key = 0x9c32cd03ecccbd7db253f518ce0ac5624a4ebe63294d5a54752fe213e17a53ff }) ∷ [] });
-    grafted = (record { entries = (entry 0xf7144fa46d3ce2c3cd447dc9796f362be182ccfa41476d62d1adf83db45f1313 (record { expires = 4611686018427412904; value = record { first = some (hop 300 8); kept = none; peers = [] } })) ∷ []; expiry = (record { time = 4611686018427412904; key = 0xf7144fa46d3ce2c3cd447dc9796f362be182ccfa41476d62d1adf83db45f1313 }) ∷ [] });
+    grafted = (record { entries = (entry 0xf7144fa46d3ce2c3cd447dc9796f362be182ccfa41476d62d1adf83db45f1313 (record { expires = 4611686018427412904; value = record { first = Some (hop 300 8); kept = None; peers = [] } })) ∷ []; expiry = (record { time = 4611686018427412904; key = 0xf7144fa46d3ce2c3cd447dc9796f362be182ccfa41476d62d1adf83db45f1313 }) ∷ [] });
     cache = (record { entries = (entry 0x9c32cd03ecccbd7db253f518ce0ac5624a4ebe63294d5a54752fe213e17a53ff (record { expires = 4611686018427415089; value = record { content = (bytes 9 0xf2f7ec983a07d00404); round = 7 } })) ∷ (entry 0xbe603f080ab7767a72cfd001c3c6eaff4e1035a9a3e58c5729403bab4bd42079 (record { expires = 4611686018427413967; value = record { content = (bytes 3 0x6b5a19); round = 127 } })) ∷ (entry 0xf2714fb9e8874a1cdb01e25222329c43a7f0d77c07b4ddc6148286b48e100157 (record { expires = 4611686018427413591; value = record { content = (bytes 5 0xf81a37251e); round = 0 } })) ∷ (entry 0xf7144fa46d3ce2c3cd447dc9796f362be182ccfa41476d62d1adf83db45f1313 (record { expires = 4611686018427412904; value = record { content = (bytes 12 0xca13a27c99c7680456977052); round = 9 } })) ∷ []; expiry = (record { time = 4611686018427412904; key = 0xf7144fa46d3ce2c3cd447dc9796f362be182ccfa41476d62d1adf83db45f1313 }) ∷ (record { time = 4611686018427413591; key = 0xf2714fb9e8874a1cdb01e25222329c43a7f0d77c07b4ddc6148286b48e100157 }) ∷ (record { time = 4611686018427413967; key = 0xbe603f080ab7767a72cfd001c3c6eaff4e1035a9a3e58c5729403bab4bd42079 }) ∷ (record { time = 4611686018427415089; key = 0x9c32cd03ecccbd7db253f518ce0ac5624a4ebe63294d5a54752fe213e17a53ff }) ∷ [] });
     timers = record { graft = []; dispatch = true; announce = true };
     init = true;

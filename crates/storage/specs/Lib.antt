@@ -1,5 +1,5 @@
 pub mod Rows
 pub mod Refs
-pub mod Notes
+pub mod Buckets
 pub mod Lists
 pub mod Tables

@@ -3,7 +3,7 @@
 // its chain alone.
 ghost use Rattle.std.specs.Prelude.{◌≡◌, ◌+◌, ◌*◌, ◌≤◌, ◌<◌, length, get_or};
 ghost use Rattle.storage.specs.Rows.Ident.{id_of};
-ghost use Rattle.storage.specs.Notes.Chains.{id_at, bucket_of, Latest, Chained, TellsNew, TellsBoth, TellsOnce};
+ghost use Rattle.storage.specs.Buckets.{id_at, bucket_of, Latest, Chained, TellsNew, TellsBoth, TellsOnce};
 
 use crate::rows::id;
 use crate::rows::id::Id;
@@ -23,36 +23,43 @@ fn bucket_of(x: Id, l: u8) -> usize
     ((w % 1024 + 32 * (l as u64)) % 1024) as usize
 }
 
-// Whether row p has this number and identifier. The numbers are compared first: most rows need no load of an identifier.
-fn both(c: &[u8], b: &[u8], p: usize, l: u8, x: Id) -> bool
-    requires { (p < length c.now) × (p * 34 + 32 ≤ length b.now) }
-    ensures { TellsBoth (get_or c.now p 0) l (id_at b.now p) (id_of x) result }
-{
-    if c[p] == l {
-        let y = id::load_id(b, p * 34);
-        let s = id::same(y, x);
-        if s {
-            return true;
-        }
-        return false;
-    }
-    false
+// A row's number of a link and identifier: what stands once.
+#[derive(Clone, Copy)]
+struct Pair {
+    link: u8,
+    id: Id,
 }
 
-// Whether no row before i has this number and identifier, `from` being the start of its bucket's chain.
-fn is_new(c: &[u8], b: &[u8], next: &[u16; 4096], i: usize, l: u8, x: Id, from: usize) -> bool
-    requires { (i ≤ 4096) × (i ≤ length c.now) × (i * 34 ≤ length b.now) × Latest c.now b.now i (bucket_of (id_of x) l) from × Chained c.now b.now i next.now }
-    ensures { TellsNew c.now b.now i l (id_of x) result }
-{
-    let mut j = from;
-    while 0 < j {
-        let hit = both(c, b, j - 1, l, x);
-        if hit {
-            return false;
-        }
-        j = wide(next[j - 1]);
+// The rows of a record: their numbers, and the rows of 34 bytes themselves.
+#[derive(Clone, Copy)]
+struct Columns<'a> {
+    links: &'a [u8],
+    rows: &'a [u8],
+}
+
+impl<'a> Columns<'a> {
+    // Whether row p has this pair. The numbers are compared first: most rows need no load of an identifier.
+    fn has(self, p: usize, pair: Pair) -> bool
+        requires { (p < length self.links.now) × (p * 34 + 32 ≤ length self.rows.now) }
+        ensures { TellsBoth (get_or self.entry.links.now p 0) pair.link (id_at self.entry.rows.now p) (id_of pair.id) result }
+    {
+        self.links[p] == pair.link && id::load_id(self.rows, p * 34) == pair.id
     }
-    true
+
+    // Whether no row before i has this pair, `from` being the start of its bucket's chain.
+    fn is_new(self, next: &[u16; 4096], i: usize, pair: Pair, from: usize) -> bool
+        requires { (i ≤ 4096) × (i ≤ length self.links.now) × (i * 34 ≤ length self.rows.now) × Latest self.links.now self.rows.now i (bucket_of (id_of pair.id) pair.link) from × Chained self.links.now self.rows.now i next.now }
+        ensures { TellsNew self.entry.links.now self.entry.rows.now i pair.link (id_of pair.id) result }
+    {
+        let mut j = from;
+        while 0 < j {
+            if self.has(j - 1, pair) {
+                return false;
+            }
+            j = wide(next[j - 1]);
+        }
+        true
+    }
 }
 
 // Whether each number and identifier stands once in the n rows: "once per identifier among .. dropped" (question 5).
@@ -62,20 +69,20 @@ pub fn once(c: &[u8], b: &[u8], n: usize) -> bool
 {
     let mut head = [0u16; 1024];
     let mut next = [0u16; 4096];
+    let columns = Columns { links: c, rows: b };
     let mut i = 0;
     while i < n {
         let x = id::load_id(b, i * 34);
         let l = c[i];
         let h = bucket_of(x, l);
         let s = head[h];
-        let ok = is_new(c, b, &next, i, l, x, wide(s));
-        if ok {
-            next[i] = s;
-            head[h] = ((i + 1) % 65536) as u16;
-            i += 1;
-        } else {
+        let pair = Pair { link: l, id: x };
+        if !columns.is_new(&next, i, pair, wide(s)) {
             return false;
         }
+        next[i] = s;
+        head[h] = ((i + 1) % 65536) as u16;
+        i += 1;
     }
     true
 }

@@ -13,7 +13,7 @@ use Rattle.storage.specs.Lists.Base.{filter}
 use Rattle.storage.proofs.ListsLaws.ListLaws.{all_map, all-filter-imp}
 use Rattle.storage.specs.Refs.Refs.{Ref, ref, places, names, lowered, left}
 use Rattle.time_cache.specs.TimeCache.{Cache, expire_until, expired_keys, Timely}
-use Rattle.time_cache.specs.Tables.{ExpiryRow, expiry_rows, expiry_of, Cut, Held, held, entry_of, cache_of, refs_at, rows_at, cache_at, Lies, resized, Sound}
+use Rattle.time_cache.specs.Tables.{ExpiryRow, expiry_rows, expiry_of, Cut, ValueBytes, value_bytes, entry_of, cache_of, refs_at, rows_at, cache_at, Lies, resized, Sound}
 use Rattle.time_cache.specs.Steps.{Drops, DropsEntries, Expires}
 use Rattle.time_cache.specs.declared.cache.TimeBoundCache.{TimeBoundCache}
 use Rattle.time_cache.proofs.Timely.{timely-expire}
@@ -85,19 +85,19 @@ module _ (c : TimeBoundCache) (t k : ℕ) (xs ys zs : List ℕ) (q : ℕ) (l : L
   rows-now = ap (expiry_rows c.expiry.stride (m - k)) (drop-behind a big b ys zs l.apart (omega (arith, l.within)) lz e.only) ∙ d.rows
 
   cache-now : cache_at r zs ≡ expire_until t (cache_at c xs)
-  cache-now = (λ z. cache_of held (refs-now z) (rows-now z)) ∙ expire-cut held t k es rs cut' low s.up s.order
+  cache-now = (λ z. cache_of value_bytes (refs-now z) (rows-now z)) ∙ expire-cut value_bytes t k es rs cut' low s.up s.order
 
   timely-now : Timely (cache_at r zs)
-  timely-now = subst (λ (x : Cache Held). Timely x) (sym cache-now) (timely-expire t (cache_at c xs) (timely-of held es rs low s.up s.order))
+  timely-now = subst (λ (x : Cache ValueBytes). Timely x) (sym cache-now) (timely-expire t (cache_at c xs) (timely-of value_bytes es rs low s.up s.order))
 
   -- as many entries as rows of places
   count-of : (c : TimeBoundCache) (xs : List ℕ) → length (cache_at c xs).entries ≡ c.entries.len
   unfolding cache_of
-  count-of c xs = length-map (refs_at c xs) (entry_of held (rows_at c xs)) ∙ length-es c xs
+  count-of c xs = length-map (refs_at c xs) (entry_of value_bytes (rows_at c xs)) ∙ length-es c xs
 
   gone : q + length (expired_keys t (cache_at c xs)) ≡ n
   gone =
-      ap (λ (x : ℕ). x + length (expired_keys t (cache_at c xs))) (sym (count-of r zs) ∙ ap (λ (x : Cache Held). length x.entries) cache-now)
+      ap (λ (x : ℕ). x + length (expired_keys t (cache_at c xs))) (sym (count-of r zs) ∙ ap (λ (x : Cache ValueBytes). length x.entries) cache-now)
       ∙ expired-count t (cache_at c xs) s.up ∙ count-of c xs
 
   back : k ≡ m - (m - k)

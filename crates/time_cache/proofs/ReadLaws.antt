@@ -1,15 +1,15 @@
 -- What is read of a sound cache in a block: look-ups, and what is later than an instant.
 -- Assumes nothing.
+use Rattle.std.specs.Prelude.{Some, None, is_some}
 use mathlib.Core.Path.{◌≡◌, refl, sym, ap, ◌∙◌, subst}
 use mathlib.Core.Bool.{true, false}
-use mathlib.Core.Option.{none, some}
 use mathlib.Core.List.{List, [], map}
 use Prim.Native.Nat.{ℕ, ◌+◌, ◌-◌, ◌*◌, ◌<◌}
 use native.Mathlib.Omega.{arith}
 use lib.Dec.{ltb}
 use lib.ListN.{length, take, drop, length-map, length-drop}
 use lib.Seq.{drop-drop}
-use Rattle.storage.specs.Lists.Base.{is_some, filter, count}
+use Rattle.storage.specs.Lists.Base.{filter, count}
 use Rattle.storage.specs.Lists.Map.{Entry, keys, lookup}
 use Rattle.storage.proofs.ListsLaws.MapLaws.{cases}
 use Rattle.storage.proofs.ListsLaws.ListLaws.{length-filter}
@@ -19,7 +19,7 @@ use Rattle.storage.specs.Rows.Sorted.{Between, Here}
 use Rattle.storage.specs.Refs.Refs.{Ref, ref, places, names, lowered, left}
 use Rattle.storage.proofs.RefsLaws.Places.{get_or-map-in, length-refs, place_in}
 use Rattle.time_cache.specs.TimeCache.{Timed, later_cache, holds}
-use Rattle.time_cache.specs.Tables.{ExpiryRow, expiry_of, row_at, named, Cut, Held, held, entry_of, cache_of, refs_at, rows_at, cache_at, Lies, Sound}
+use Rattle.time_cache.specs.Tables.{ExpiryRow, expiry_of, row_at, named, Cut, ValueBytes, value_bytes, entry_of, cache_of, refs_at, rows_at, cache_at, Lies, Sound}
 use Rattle.time_cache.specs.Steps.{ref_at, held_at, GotAt}
 use Rattle.time_cache.specs.declared.cache.TimeBoundCache.{TimeBoundCache}
 use Rattle.time_cache.proofs.Timely.{later-filter}
@@ -58,7 +58,7 @@ module _ (c : TimeBoundCache) (xs : List ℕ) where
   length-rs = length-expiry_rows c.expiry.stride c.expiry.len (drop c.expiry.at xs)
 
   keys-are : named rs es ≡ keys (cache_at c xs).entries
-  keys-are = sym (keys-named held es rs)
+  keys-are = sym (keys-named value_bytes es rs)
 
   pub sound-below : Sound c xs → below (length rs) (places es) ≡ true
   sound-below s = ap (λ (m : ℕ). below m (places es)) length-rs ∙ of-below c.expiry.len (places es) s.below
@@ -69,14 +69,14 @@ module _ (c : TimeBoundCache) (xs : List ℕ) where
 
   -- where the key was found, and where it was not
   pub found_here : Sound c xs → (k i : ℕ) → Here (named rs es) k i
-      → lookup k (cache_at c xs).entries ≡ some (record { expires = (row_at rs (ref_at es i).place).time; value = held_at c i (ref_at es i).place xs })
+      → lookup k (cache_at c xs).entries ≡ Some (record { expires = (row_at rs (ref_at es i).place).time; value = held_at c i (ref_at es i).place xs })
   unfolding cache_of
   found_here s k i h =
-      let d : Entry (Timed Held) = entry_of held rs (ref 0 []) in
-      lookup-here k i d (map (entry_of held rs) es) (up_of (keys (map (entry_of held rs) es)) s.up) (subst (λ (ks : List ℕ). Here ks k i) keys-are h)
-      ∙ ap (λ (e : Entry (Timed Held)). some e.value) (get_or-map-in (entry_of held rs) es i d (ref 0 []) (omega (arith, found_within k i h, length-es)))
+      let d : Entry (Timed ValueBytes) = entry_of value_bytes rs (ref 0 []) in
+      lookup-here k i d (map (entry_of value_bytes rs) es) (up_of (keys (map (entry_of value_bytes rs) es)) s.up) (subst (λ (ks : List ℕ). Here ks k i) keys-are h)
+      ∙ ap (λ (e : Entry (Timed ValueBytes)). Some e.value) (get_or-map-in (entry_of value_bytes rs) es i d (ref 0 []) (omega (arith, found_within k i h, length-es)))
 
-  pub found_none : (k i : ℕ) → Between (named rs es) k i → lookup k (cache_at c xs).entries ≡ none
+  pub found_none : (k i : ℕ) → Between (named rs es) k i → lookup k (cache_at c xs).entries ≡ None
   found_none k i b = lookup-between k i (cache_at c xs).entries (subst (λ (ks : List ℕ). Between ks k i) keys-are b)
 
   pub got-at : Sound c xs → (k i p : ℕ) → Here (named rs es) k i → p ≡ (ref_at es i).place → GotAt c xs k i p
@@ -89,7 +89,7 @@ module _ (c : TimeBoundCache) (xs : List ℕ) where
         names = sym e;
         key = ap (λ (q : ℕ). (row_at rs q).key) e
             ∙ sym (get_or-map-in (λ (r : Ref). (row_at rs r.place).key) es i 0 (ref 0 []) (omega (arith, length-es))) ∙ h.same;
-        value = found_here s k i h ∙ ap (λ (q : ℕ). some (record { expires = (row_at rs q).time; value = held_at c i q xs })) (sym e);
+        value = found_here s k i h ∙ ap (λ (q : ℕ). Some (record { expires = (row_at rs q).time; value = held_at c i q xs })) (sym e);
       }
 
   -- what is later than an instant
@@ -102,19 +102,19 @@ module _ (c : TimeBoundCache) (xs : List ℕ) where
   pub count_entries : Sound c xs → (t k : ℕ) → Cut (cache_at c xs).expiry t k → length (later_cache t (cache_at c xs)).entries ≡ count (names k) es
   unfolding later_cache cache_of left
   count_entries s t k u =
-      ap length (sym (entries-left held t k es rs u (sound-below s)))
-      ∙ length-map (map (lowered k) (filter (names k) es)) (entry_of held (drop k rs))
+      ap length (sym (entries-left value_bytes t k es rs u (sound-below s)))
+      ∙ length-map (map (lowered k) (filter (names k) es)) (entry_of value_bytes (drop k rs))
       ∙ length-map (filter (names k) es) (lowered k)
       ∙ length-filter (names k) es
 
   -- a key that is later than an instant
-  pub holds_later : Sound c xs → (k t : ℕ) (v : Timed Held) → lookup k (cache_at c xs).entries ≡ some v → holds k (later_cache t (cache_at c xs)) ≡ ltb t v.expires
+  pub holds_later : Sound c xs → (k t : ℕ) (v : Timed ValueBytes) → lookup k (cache_at c xs).entries ≡ Some v → holds k (later_cache t (cache_at c xs)) ≡ ltb t v.expires
   unfolding later_cache passes
   holds_later s k t v e =
       ap is_some (lookup-filter (λ d. ltb t d.value.expires) k (cache_at c xs).entries s.up ∙ ap (passes (λ d. ltb t d.value.expires) k) e)
       ∙ cases (ltb t v.expires) (λ p. rw p refl) (λ p. rw p refl)
 
-  pub not-later : Sound c xs → (k t : ℕ) → lookup k (cache_at c xs).entries ≡ none → holds k (later_cache t (cache_at c xs)) ≡ false
+  pub not-later : Sound c xs → (k t : ℕ) → lookup k (cache_at c xs).entries ≡ None → holds k (later_cache t (cache_at c xs)) ≡ false
   unfolding later_cache passes
   not-later s k t e =
       ap is_some (lookup-filter (λ d. ltb t d.value.expires) k (cache_at c xs).entries s.up ∙ ap (passes (λ d. ltb t d.value.expires) k) e)

@@ -1,31 +1,30 @@
 -- Values: the functions of a cache do not look at them, so what holds of values as bytes holds of values read from them; and what a write of a
 -- value's bytes is to the cache.
 -- Assumes nothing.
+use Rattle.std.specs.Prelude.{Option, Some, None, is_some}
 use mathlib.Core.Path.{◌≡◌, refl, sym, ap, ◌∙◌}
-use mathlib.Core.Option.{Option, none, some}
 use mathlib.Core.List.{List, [], ◌∷◌, map, map-map}
 use Prim.Native.Nat.{ℕ, suc, ◌<◌}
 use native.Mathlib.Omega.{arith}
 use borrow.Author.Tests.{eq-eqb, le-ltb}
 use lib.Dec.{ltb, eqb}
 use lib.ListN.{length, get_or, length-map}
-use Rattle.storage.specs.Lists.Base.{is_some}
 use Rattle.storage.specs.Lists.Map.{Map, Entry, keys, lookup, insert, remove}
 use Rattle.storage.proofs.ListsLaws.MapLaws.{cases, lookup-insert-same}
 use Rattle.storage.proofs.ListsLaws.ListLaws.{filter_map}
 use Rattle.time_cache.specs.TimeCache.{Timed, Expiry, Cache, value_of, get, holds, put as put_in, with_value, replace, expires_at, pop, due, later, pop_all, expire_until, later_cache}
-use Rattle.time_cache.specs.Tables.{ExpiryRow, expiry_of, Held, held, entry_of, cache_of, read_as, values_as}
+use Rattle.time_cache.specs.Tables.{ExpiryRow, expiry_of, ValueBytes, value_bytes, entry_of, cache_of, read_as, values_as}
 use Rattle.storage.specs.Refs.Refs.{Ref}
 
 -- values that are read from the bytes
-pub values-read : {A : Type 0} (value : List ℕ → List ℕ → A) (es : List Ref) (xs : List ExpiryRow) → values_as (λ h. value h.own h.rest) (cache_of held es xs) ≡ cache_of value es xs
+pub values-read : {A : Type 0} (value : List ℕ → List ℕ → A) (es : List Ref) (xs : List ExpiryRow) → values_as (λ h. value h.own h.rest) (cache_of value_bytes es xs) ≡ cache_of value es xs
 unfolding values_as cache_of
-values-read value es xs = λ j. record { entries = map-map (read_as (λ (h : Held). value h.own h.rest)) (entry_of held xs) es j; expiry = map expiry_of xs }
+values-read value es xs = λ j. record { entries = map-map (read_as (λ (h : ValueBytes). value h.own h.rest)) (entry_of value_bytes xs) es j; expiry = map expiry_of xs }
 
 -- a value that may be missing
 unfoldable pub option_as : {A B : Type 0} → (A → B) → Option A → Option B
-option_as f none = none
-option_as f (some a) = some (f a)
+option_as f None = None
+option_as f (Some a) = Some (f a)
 
 module _ {A B : Type 0} (f : A → B) where
   -- a value and its expiry
@@ -51,8 +50,8 @@ module _ {A B : Type 0} (f : A → B) where
 
   expires-as : (t : ℕ) (o : Option (Timed A)) → expires_at t (option_as timed_as o) ≡ expires_at t o
   unfolding expires_at option_as
-  expires-as t none = refl
-  expires-as t (some v) = refl
+  expires-as t None = refl
+  expires-as t (Some v) = refl
 
   pop-as : (x : Expiry) (m : Map (Timed A)) → map (read_as f) (pop x m) ≡ pop x (map (read_as f) m)
   unfolding pop
@@ -69,8 +68,8 @@ module _ {A B : Type 0} (f : A → B) where
 
   is_some-as : (o : Option (Timed A)) → is_some (option_as timed_as o) ≡ is_some o
   unfolding option_as
-  is_some-as none = refl
-  is_some-as (some v) = refl
+  is_some-as None = refl
+  is_some-as (Some v) = refl
 
   pub keys-as : (c : Cache A) → keys (values_as f c).entries ≡ keys c.entries
   unfolding values_as
@@ -82,8 +81,8 @@ module _ {A B : Type 0} (f : A → B) where
 
   value_as : (o : Option (Timed A)) → value_of (option_as timed_as o) ≡ option_as f (value_of o)
   unfolding value_of option_as
-  value_as none = refl
-  value_as (some v) = refl
+  value_as None = refl
+  value_as (Some v) = refl
 
   pub get-as : (k : ℕ) (c : Cache A) → get k (values_as f c) ≡ option_as f (get k c)
   unfolding values_as get

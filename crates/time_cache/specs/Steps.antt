@@ -1,14 +1,13 @@
 -- What the functions of a time cache leave in the block and answer, as the definitions of specs/TimeCache on the cache that the block holds.
 -- Assumes nothing.
-use Rattle.std.specs.Prelude.{◌≡◌, List, [], ◌∷◌, ◌++◌, map, ℕ, ◌+◌, ◌-◌, ◌*◌, ◌≤◌, ◌<◌, length, get_or, take, drop, Result, Ok, Err}
-use Rattle.std.proofs.Math.Option.{none, some}
+use Rattle.std.specs.Prelude.{◌≡◌, List, [], ◌∷◌, ◌++◌, map, ℕ, ◌+◌, ◌-◌, ◌*◌, ◌≤◌, ◌<◌, length, get_or, take, drop, Result, Ok, Err, Some, None}
 use Rattle.storage.specs.Lists.Map.{lookup}
 use Rattle.storage.specs.Rows.Part.{put}
 use Rattle.storage.specs.Rows.Part.{Only}
 use Rattle.storage.specs.Rows.Sorted.{FoundIs}
 use Rattle.storage.specs.Refs.Refs.{Ref, ref, moved, left}
 use Rattle.time_cache.specs.TimeCache.{put as put_in, expire_until, expired_keys}
-use Rattle.time_cache.specs.Tables.{expiry_row, row_at, named, Held, held, refs_at, rows_at, cache_at, resized, Sound, OnlyTwo}
+use Rattle.time_cache.specs.Tables.{expiry_row, row_at, named, ValueBytes, value_bytes, refs_at, rows_at, cache_at, resized, Sound, OnlyTwo}
 use Rattle.time_cache.specs.declared.cache.TimeBoundCache.{TimeBoundCache}
 use Rattle.time_cache.specs.declared.cache.Inserted.{Inserted}
 use Rattle.time_cache.specs.declared.cache.Expired.{Expired}
@@ -20,8 +19,8 @@ abbrev pub ref_at : List Ref → ℕ → Ref
 ref_at es i = get_or es i (ref 0 [])
 
 -- what entry i holds, in row p
-abbrev pub held_at : TimeBoundCache → ℕ → ℕ → List ℕ → Held
-held_at c i p block = held (ref_at (refs_at c block) i).own (row_at (rows_at c block) p).rest
+abbrev pub held_at : TimeBoundCache → ℕ → ℕ → List ℕ → ValueBytes
+held_at c i p block = value_bytes (ref_at (refs_at c block) i).own (row_at (rows_at c block) p).rest
 
 -- entry i names row p, and is what the cache has at the key
 pub record GotAt (c : TimeBoundCache) (block : List ℕ) (k i p : ℕ) : Type 0 where
@@ -29,12 +28,12 @@ pub record GotAt (c : TimeBoundCache) (block : List ℕ) (k i p : ℕ) : Type 0 
   pub row : p < c.expiry.len
   pub names : (ref_at (refs_at c block) i).place ≡ p
   pub key : (row_at (rows_at c block) p).key ≡ k
-  pub value : lookup k (cache_at c block).entries ≡ some (record { expires = (row_at (rows_at c block) p).time; value = held_at c i p block })
+  pub value : lookup k (cache_at c block).entries ≡ Some (record { expires = (row_at (rows_at c block) p).time; value = held_at c i p block })
 
 -- what `get` answers
 abbrev pub GotIs : TimeBoundCache → List ℕ → ℕ → Got → Type 0
 GotIs c block k (There i p) = GotAt c block k i p
-GotIs c block k Nothing = lookup k (cache_at c block).entries ≡ none
+GotIs c block k Nothing = lookup k (cache_at c block).entries ≡ None
 
 -- a row more at row i, and nothing else
 pub record Opens (c : TimeBoundCache) (i k t : ℕ) (xs ys : List ℕ) : Type 0 where

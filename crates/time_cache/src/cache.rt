@@ -1,13 +1,15 @@
 // Time caches (`TimeBoundCache`): the specification, "Time caches".
-ghost use Rattle.std.specs.Prelude.{◌≡◌, map, ◌∷◌, [], ◌*◌, ◌≤◌, ◌<◌, length};
+ghost use Rattle.std.specs.Prelude.{◌≡◌, map, ◌∷◌, [], ◌*◌, ◌≤◌, ◌<◌, length, drop};
 ghost use Rattle.storage.specs.Rows.Ident.{id_of};
 ghost use Rattle.storage.specs.Rows.Part.{put};
 ghost use Rattle.storage.specs.Rows.Sorted.{FoundIs};
 ghost use Rattle.storage.specs.Refs.Refs.{ref, places, Below, moved};
 ghost use Rattle.time_cache.specs.TimeCache.{holds, later_cache};
-ghost use Rattle.time_cache.specs.Tables.{refs_at, rows_at, cache_at, row_at, named, resized, Cut, Lies, Room, Sound, sound};
+ghost use Rattle.time_cache.specs.Tables.{refs_at, rows_at, cache_at, row_at, named, resized, Cut, Lies, FitsOneMore, Sound, sound};
 ghost use Rattle.time_cache.specs.Steps.{ref_at, GotIs, Opens, Places, Gap, Inserts, Drops, DropsEntries, Expires};
 
+use crate::expiry::Expiry;
+use crate::named::Rows;
 use crate::{expiry, named};
 use postcard::units::Millis;
 use storage::refs;
@@ -20,6 +22,21 @@ pub struct Table {
     pub at: usize,
     pub stride: usize,
     pub len: usize,
+}
+
+impl Table {
+    // Its rows, in the bytes from the first on.
+    fn rows(self, block: &[u8]) -> Rows<'_>
+        requires { self.at ≤ length block.now }
+        ensures bytes { result.bytes.now ≡ drop self.at block.now }
+        ensures rest { (result.stride ≡ self.stride) × (result.len ≡ self.len) }
+    {
+        Rows {
+            bytes: &block[self.at..],
+            stride: self.stride,
+            len: self.len,
+        }
+    }
 }
 
 // `TimeBoundCache`: its entries, in the order of their keys, and its expiry rows, in the order in which they pop.
@@ -57,17 +74,9 @@ impl TimeBoundCache {
         requires { Lies self block.now }
         ensures { result ≡ sound self block.now }
     {
-        let a = self.entries.at;
-        let s = self.entries.stride;
-        let n = self.entries.len;
-        let b = self.expiry.at;
-        let t = self.expiry.stride;
-        let m = self.expiry.len;
-        let ok = named::names_ascend(&block[a..], s, n, &block[b..], t, m);
-        if ok {
-            return expiry::in_order(&block[b..], t, m);
-        }
-        false
+        let expiry = self.expiry.rows(block);
+        named::names_ascend(self.entries.rows(block), expiry)
+            && expiry::in_order(expiry.bytes, expiry.stride, expiry.len)
     }
 
     // Where the key's entry stands, or would stand.
@@ -75,13 +84,7 @@ impl TimeBoundCache {
         requires { Lies self block.now × Sound self block.now }
         ensures { FoundIs (named (rows_at self block.now) (refs_at self block.now)) (id_of key) result }
     {
-        let a = self.entries.at;
-        let s = self.entries.stride;
-        let n = self.entries.len;
-        let b = self.expiry.at;
-        let t = self.expiry.stride;
-        let m = self.expiry.len;
-        named::find(&block[a..], s, n, &block[b..], t, m, key)
+        named::find(self.entries.rows(block), self.expiry.rows(block), key)
     }
 
     // How many rows are due at an instant: "entries with time ≤ the instant".
@@ -89,10 +92,8 @@ impl TimeBoundCache {
         requires { Lies self block.now × Sound self block.now }
         ensures { Cut (cache_at self block.now).expiry instant.0 result }
     {
-        let b = self.expiry.at;
-        let t = self.expiry.stride;
-        let m = self.expiry.len;
-        expiry::due(&block[b..], t, m, instant)
+        let Table { at, stride, len } = self.expiry;
+        expiry::due(&block[at..], stride, len, instant)
     }
 
     // How many expiry rows are later than an instant: those that `expire_until` leaves.
@@ -108,9 +109,9 @@ impl TimeBoundCache {
         requires { Lies self block.now × Sound self block.now }
         ensures { result ≡ length (later_cache instant.0 (cache_at self block.now)).entries }
     {
-        let k = self.due(block, instant);
-        let a = self.entries.at;
-        refs::count_from(&block[a..], self.entries.stride, self.entries.len, k as u64)
+        let due = self.due(block, instant);
+        let Table { at, stride, len } = self.entries;
+        refs::count_from(&block[at..], stride, len, due as u64)
     }
 
     // The row that entry i names.
@@ -122,12 +123,12 @@ impl TimeBoundCache {
         word::load2(block, at) as usize
     }
 
-    // The time of row p (`expires`, of the entry that names it).
-    pub fn expires(self, block: &[u8], p: usize) -> Millis
-        requires { Lies self block.now × (p < self.expiry.len) }
-        ensures { result.0 ≡ (row_at (rows_at self block.now) p).time }
+    // The time of a row (`expires`, of the entry that names it).
+    pub fn expires(self, block: &[u8], row: usize) -> Millis
+        requires { Lies self block.now × (row < self.expiry.len) }
+        ensures { result.0 ≡ (row_at (rows_at self block.now) row).time }
     {
-        let at = self.expiry.at + p * self.expiry.stride;
+        let at = self.expiry.at + row * self.expiry.stride;
         Millis(word::load(block, at))
     }
 
@@ -136,11 +137,7 @@ impl TimeBoundCache {
         requires { Lies self block.now × Sound self block.now }
         ensures { result ≡ holds (id_of key) (cache_at self block.now) }
     {
-        let f = self.find(block, key);
-        match f {
-            Ok(_) => true,
-            Err(_) => false,
-        }
+        self.find(block, key).is_ok()
     }
 
     // `get`: the key's entry and the row that it names, where the value's bytes are.
@@ -148,11 +145,10 @@ impl TimeBoundCache {
         requires { Lies self block.now × Sound self block.now }
         ensures { GotIs self block.now (id_of key) result }
     {
-        let f = self.find(block, key);
-        match f {
-            Ok(i) => {
-                let p = self.place(block, i);
-                Got::There(i, p)
+        match self.find(block, key) {
+            Ok(entry) => {
+                let row = self.place(block, entry);
+                Got::There(entry, row)
             }
             Err(_) => Got::Nothing,
         }
@@ -163,44 +159,37 @@ impl TimeBoundCache {
         requires { Lies self block.now × Sound self block.now }
         ensures { result ≡ holds (id_of key) (later_cache instant.0 (cache_at self block.now)) }
     {
-        let g = self.get(block, key);
-        match g {
-            Got::There(_, p) => {
-                let t = self.expires(block, p);
-                instant.0 < t.0
-            }
+        match self.get(block, key) {
+            Got::There(_, row) => instant.0 < self.expires(block, row).0,
             Got::Nothing => false,
         }
     }
 
     // The same tables with other numbers of rows.
-    fn resized(self, n: usize, m: usize) -> TimeBoundCache
-        ensures { result ≡ resized n m self }
+    fn resized(self, entries: usize, rows: usize) -> TimeBoundCache
+        ensures { result ≡ resized entries rows self }
     {
         TimeBoundCache {
             entries: Table {
-                at: self.entries.at,
-                stride: self.entries.stride,
-                len: n,
+                len: entries,
+                ..self.entries
             },
             expiry: Table {
-                at: self.expiry.at,
-                stride: self.expiry.stride,
-                len: m,
+                len: rows,
+                ..self.expiry
             },
         }
     }
 
     // Puts an expiry row in at row i.
     fn open_row(self, block: &mut [u8], i: usize, key: Id, expires: Millis)
-        requires { Room self block.old × (i ≤ self.expiry.len) }
+        requires { FitsOneMore self block.old × (i ≤ self.expiry.len) }
         ensures { Opens self i (id_of key) expires.0 block.old block.new }
     {
-        let b = self.expiry.at;
-        let t = self.expiry.stride;
-        let m = self.expiry.len;
-        let e = b + (m + 1) * t;
-        expiry::add_expiry(&mut block[b..e], t, m, i, key, expires);
+        let Table { at, stride, len } = self.expiry;
+        let end = at + (len + 1) * stride;
+        let expiry = Expiry { time: expires, key };
+        expiry::add_expiry(&mut block[at..end], stride, len, i, expiry);
     }
 
     // Renames the rows that entries name, after a row was put in at i: nothing where it is the last, as it is unless the clock went back.
@@ -208,69 +197,56 @@ impl TimeBoundCache {
         requires { Lies self block.old × Below self.expiry.len (places (refs_at self block.old)) }
         ensures { Places self (map (moved i) (refs_at self block.old)) (self.entries.len * self.entries.stride) block.old block.new }
     {
-        let m = self.expiry.len;
-        if m <= i {
+        if self.expiry.len <= i {
             return;
         }
-        let a = self.entries.at;
-        let s = self.entries.stride;
-        let n = self.entries.len;
-        let e = a + n * s;
-        refs::make_room(&mut block[a..e], s, n, i as u64);
+        let Table { at, stride, len } = self.entries;
+        let end = at + len * stride;
+        refs::make_room(&mut block[at..end], stride, len, i as u64);
     }
 
-    // Has entry j name row i.
-    fn store_place(self, block: &mut [u8], j: usize, i: usize)
-        requires { Lies self block.old × (j < self.entries.len) × (i < 65536) }
-        ensures { Places self (put j (ref i (ref_at (refs_at self block.old) j).own ∷ []) (refs_at self block.old)) (self.entries.len * self.entries.stride) block.old block.new }
+    // Has an entry name a row.
+    fn store_place(self, block: &mut [u8], entry: usize, row: usize)
+        requires { Lies self block.old × (entry < self.entries.len) × (row < 65536) }
+        ensures { Places self (put entry (ref row (ref_at (refs_at self block.old) entry).own ∷ []) (refs_at self block.old)) (self.entries.len * self.entries.stride) block.old block.new }
     {
-        let at = self.entries.at + j * self.entries.stride;
-        word::store_le(block, at, 2, i as u64);
+        let at = self.entries.at + entry * self.entries.stride;
+        word::store_le(block, at, 2, row as u64);
     }
 
     // Opens a gap at entry j.
     fn open_entry(self, block: &mut [u8], j: usize)
-        requires { Room self block.old × (j ≤ self.entries.len) }
+        requires { FitsOneMore self block.old × (j ≤ self.entries.len) }
         ensures { Gap self j block.old block.new }
     {
-        let a = self.entries.at;
-        let s = self.entries.stride;
-        let n = self.entries.len;
-        let e = a + (n + 1) * s;
-        table::insert_row(&mut block[a..e], s, n, j);
+        let Table { at, stride, len } = self.entries;
+        let end = at + (len + 1) * stride;
+        table::insert_row(&mut block[at..end], stride, len, j);
     }
 
     // `insert`: "overwrites value and expiry and adds an expiry entry", behind all of its time or earlier. The value's bytes are those that stood
     // in the entry and in the row, for the caller to write.
     pub fn insert(self, block: &mut [u8], key: Id, expires: Millis) -> Inserted
-        requires { Room self block.old × Sound self block.old }
+        requires { FitsOneMore self block.old × Sound self block.old }
         ensures { Inserts self (id_of key) expires.0 block.old result block.new }
     {
-        let f = self.find(block, key);
-        let i = self.due(block, expires);
-        let n = self.entries.len;
-        let m = self.expiry.len + 1;
-        self.open_row(block, i, key, expires);
-        self.move_places(block, i);
-        match f {
-            Ok(j) => {
-                self.store_place(block, j, i);
-                let cache = self.resized(n, m);
-                Inserted {
-                    cache,
-                    entry: j,
-                    row: i,
-                }
+        let found = self.find(block, key);
+        let row = self.due(block, expires);
+        let entries = self.entries.len;
+        let rows = self.expiry.len + 1;
+        self.open_row(block, row, key, expires);
+        self.move_places(block, row);
+        match found {
+            Ok(entry) => {
+                self.store_place(block, entry, row);
+                let cache = self.resized(entries, rows);
+                Inserted { cache, entry, row }
             }
-            Err(j) => {
-                self.open_entry(block, j);
-                let cache = self.resized(n + 1, m);
-                cache.store_place(block, j, i);
-                Inserted {
-                    cache,
-                    entry: j,
-                    row: i,
-                }
+            Err(entry) => {
+                self.open_entry(block, entry);
+                let cache = self.resized(entries + 1, rows);
+                cache.store_place(block, entry, row);
+                Inserted { cache, entry, row }
             }
         }
     }
@@ -280,11 +256,9 @@ impl TimeBoundCache {
         requires { Lies self block.old × (k ≤ self.expiry.len) }
         ensures { Drops self k block.old block.new }
     {
-        let b = self.expiry.at;
-        let t = self.expiry.stride;
-        let m = self.expiry.len;
-        let e = b + m * t;
-        expiry::drop_expiry(&mut block[b..e], t, m, k);
+        let Table { at, stride, len } = self.expiry;
+        let end = at + len * stride;
+        expiry::drop_expiry(&mut block[at..end], stride, len, k);
     }
 
     // Drops the entries that name one of the first k rows, has the others name their rows by the numbers that these have once those are gone, and
@@ -293,11 +267,9 @@ impl TimeBoundCache {
         requires { Lies self block.old }
         ensures { DropsEntries self k block.old result block.new }
     {
-        let a = self.entries.at;
-        let s = self.entries.stride;
-        let n = self.entries.len;
-        let e = a + n * s;
-        refs::drop_places(&mut block[a..e], s, n, k as u64)
+        let Table { at, stride, len } = self.entries;
+        let end = at + len * stride;
+        refs::drop_places(&mut block[at..end], stride, len, k as u64)
     }
 
     // `expire_until`: "pops entries with time ≤ the instant", and "removes a key only if its present expiry equals the popped time", which is the
@@ -306,17 +278,17 @@ impl TimeBoundCache {
         requires { Lies self block.old × Sound self block.old }
         ensures { Expires self instant.0 block.old result block.new }
     {
-        let k = self.due(block, instant);
-        let n = self.entries.len;
-        let m = self.expiry.len;
-        if k == 0 {
-            let cache = self.resized(n, m);
+        let due = self.due(block, instant);
+        let entries = self.entries.len;
+        let rows = self.expiry.len;
+        if due == 0 {
+            let cache = self.resized(entries, rows);
             return Expired { cache, removed: 0 };
         }
-        self.drop_rows(block, k);
-        let q = self.drop_entries(block, k);
-        let cache = self.resized(q, m - k);
-        let removed = n - q;
+        self.drop_rows(block, due);
+        let left = self.drop_entries(block, due);
+        let cache = self.resized(left, rows - due);
+        let removed = entries - left;
         Expired { cache, removed }
     }
 }

@@ -13,7 +13,7 @@ pub fn rewrite(bytes: &[u8], out: &mut [u8]) -> Result<usize, Fault>
     let message = message::decode_message(bytes)?;
     let size = encode::size(&message);
     if out.len() < size {
-        return Err(Fault::Room);
+        return Err(Fault::Output);
     }
     Ok(encode::put(out, 0, &message))
 }

@@ -1,7 +1,7 @@
 -- What the tests of the tables tell.
 -- Assumes nothing.
-use mathlib.Core.Path.{◌≡◌, sym, ◌∙◌}
-use mathlib.Core.Bool.{Bool, true, false, ◌&&◌, not}
+use mathlib.Core.Path.{◌≡◌, refl, sym, ◌∙◌}
+use mathlib.Core.Bool.{Bool, true, false, ◌&&◌}
 use mathlib.Core.List.{List}
 use Prim.Native.Nat.{ℕ}
 use lib.Dec.{ltb}
@@ -34,20 +34,11 @@ module _ (c : TimeBoundCache) (xs : List ℕ) where
   of-sound s = and_intro (and_intro (of-below c.expiry.len (places (refs_at c xs)) s.below) s.up) s.order
 
   -- the test of soundness, where P holds
-  pub tells-sound : (P : Type 0) → P → (r : Bool) → r ≡ sound c xs → Tells (P × Sound c xs) r
-  tells-sound P p true e = (p, sound-of (sym e))
-  tells-sound P p false e = λ q. true≢ (e ∙ of-sound q.1)
+  pub tells_sound : (P : Type 0) → P → (r : Bool) → r ≡ sound c xs → Tells (P × Sound c xs) r
+  tells_sound P p true e = (p, sound-of (sym e))
+  tells_sound P p false e = λ q. true≢ (e ∙ of-sound q.1)
 
--- a test that answers b, where P holds
-pub tells-and : (P : Type 0) → P → (b r : Bool) → r ≡ b → Tells (P × (b ≡ true)) r
-tells-and P p b true e = (p, sym e)
-tells-and P p b false e = λ q. true≢ (e ∙ q.1)
-
--- what a test tells, by the branch that was taken
-pub tells-no : (P : Type 0) (r : Bool) → not r ≡ true → Tells P r → P → ⊥
-tells-no P true h t = true≢ h
-tells-no P false h t = t
-
-pub tells-yes : (P : Type 0) (r : Bool) → not r ≡ false → Tells P r → P
-tells-yes P true h t = t
-tells-yes P false h t = true≢ (sym h)
+-- a test that says yes only where P holds, and no only where it does not
+pub told_as : (P : Type 0) (r : Bool) → (r ≡ true → P) → (r ≡ false → P → ⊥) → Tells P r
+told_as P true f g = f refl
+told_as P false f g = g refl

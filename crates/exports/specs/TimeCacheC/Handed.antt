@@ -2,7 +2,7 @@
 -- Assumes nothing.
 use Rattle.std.specs.Prelude.{◌≡◌, Bool, true, false, List, [], ◌∷◌, ℕ}
 use Rattle.storage.specs.Rows.Ident.{id_of}
-use Rattle.time_cache.specs.Tables.{Lies, Room, Sound}
+use Rattle.time_cache.specs.Tables.{Lies, FitsOneMore, Sound}
 use Rattle.time_cache.specs.Steps.{Inserts, Expires}
 use Rattle.time_cache.specs.declared.cache.TimeBoundCache.{TimeBoundCache}
 use Rattle.time_cache.specs.declared.cache.Inserted.{Inserted}
@@ -22,7 +22,7 @@ Whole c block = Lies c block × Sound c block
 
 -- there is room for one row more in each, and they are sound
 abbrev pub Ready : TimeBoundCache → List ℕ → Type 0
-Ready c block = Room c block × Sound c block
+Ready c block = FitsOneMore c block × Sound c block
 
 -- r tells whether P holds
 abbrev pub Tells : Type 0 → Bool → Type 0

@@ -1,10 +1,10 @@
 -- "Order in alike", computed: what `alike` sees and what it leaves unseen, and calls that the old one does not foretell.
 -- Assumes nothing.
+use Rattle.std.specs.Prelude.{Some, None}
 use Prim.Native.Nat.{ℕ, ◌-◌, ◌^◌}
 use mathlib.Core.Path.{◌≡◌, refl}
 use mathlib.Core.Bool.{Bool, true, false}
 use mathlib.Core.List.{List, [], ◌∷◌, ◌++◌, map}
-use mathlib.Core.Option.{none, some}
 use Rattle.storage.specs.Lists.Base as Base
 use Rattle.storage.specs.Lists.Map as Map
 use Rattle.postcard.specs.Number as Number
@@ -73,7 +73,7 @@ abbrev received_of : List Expiry → State
 received_of x = with_received (cache_of tt x) panel
 
 abbrev grafted_of : List Expiry → State
-grafted_of x = with_grafted (cache_of (record { first = none; kept = none; peers = [] }) x) panel
+grafted_of x = with_grafted (cache_of (record { first = None; kept = None; peers = [] }) x) panel
 
 abbrev cached_of : List Expiry → State
 cached_of x = with_cache (cache_of (record { content = []; round = 0 }) x) panel
@@ -93,7 +93,7 @@ shut e = record { now = 0; event = event_bytes e; rooms = record { peer = 2; roo
 -- two broadcasts reach 2, which then asks for them in this order; its link hands the replies back
 abbrev asked : ℕ → ℕ → Ran
 asked x y = run_calls first_byte panel zero_counts
-    (free (Up 2) ∷ free (Broadcast (7 ∷ []) to_swarm) ∷ free (Broadcast (8 ∷ []) to_swarm) ∷ shut (Received 2 (Graft (some x) 0)) ∷ shut (Received 2 (Graft (some y) 0)) ∷ [])
+    (free (Up 2) ∷ free (Broadcast (7 ∷ []) to_swarm) ∷ free (Broadcast (8 ∷ []) to_swarm) ∷ shut (Received 2 (Graft (Some x) 0)) ∷ shut (Received 2 (Graft (Some y) 0)) ∷ [])
 
 -- the actions of the next two ticks
 abbrev ticks : Ran → List (List Action)

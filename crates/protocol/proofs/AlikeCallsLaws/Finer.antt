@@ -1,9 +1,9 @@
 -- "Two blocks alike in the new way are alike in the old way": lists in the same order have each element as often.
 -- Assumes nothing.
+use Rattle.std.specs.Prelude.{Option, Some, None}
 use mathlib.Core.Path.{◌≡◌, refl, sym, ap, ◌∙◌}
 use mathlib.Core.Bool.{Bool, true, ◌&&◌}
 use mathlib.Core.List.{List, [], ◌∷◌}
-use mathlib.Core.Option.{Option, none, some}
 use lib.Dec.{eqb}
 use borrow.Author.Tests.{eq-eqb}
 use Rattle.storage.specs.Lists.Base.{filter, count}
@@ -84,9 +84,9 @@ state-unordered s t h =
 
 likeness-unordered : (a b : Option State) → likeness_of a b ≡ likeness true → likeness_unordered a b ≡ likeness true
 unfolding likeness_of likeness_unordered
-likeness-unordered none b h = h
-likeness-unordered (some s) none h = h
-likeness-unordered (some s) (some t) h = let e : alike s t ≡ true = cc in ap likeness (state-unordered s t e)
+likeness-unordered None b h = h
+likeness-unordered (Some s) None h = h
+likeness-unordered (Some s) (Some t) h = let e : alike s t ≡ true = cc in ap likeness (state-unordered s t e)
 
 pub alike-finer : AlikeFiner
 unfolding alike_blocks alike_blocks_unordered

@@ -4,10 +4,9 @@ use Prim.Native.Nat.{ℕ, suc}
 use mathlib.Core.Path.{◌≡◌, refl}
 use mathlib.Core.Bool.{Bool, true, false, not, ◌&&◌, ◌||◌}
 use mathlib.Core.List.{List, [], ◌∷◌, ◌++◌}
-use mathlib.Core.Option.{Option, none, some}
 use lib.Dec.{leb, ltb, eqb}
 use lib.ListN.{length}
-use Rattle.std.specs.Prelude.{if◌then◌else◌}
+use Rattle.std.specs.Prelude.{if◌then◌else◌, Option, Some, None}
 use Rattle.storage.specs.Lists.Base.{is_empty, filter, count, any, member}
 use Rattle.storage.specs.Lists.Map.{keys, insert_key}
 use Rattle.time_cache.specs.TimeCache.{holds, get}
@@ -52,8 +51,8 @@ like-cache_at now id content round (like r q d q' d' e f) = like (cache_at now i
 
 like-with_first : {a b : Run} (id : ℕ) (h : Hop) (o : Option Grafts) → Like a b → Like (with_state (with_first id h o a.state) a) (with_state (with_first id h o b.state) b)
 unfolding with_first
-like-with_first id h none l = l
-like-with_first id h (some g) (like r q d q' d' e f) = like (with_state (with_first id h (some g) r.state) r) q d q' d' e f
+like-with_first id h None l = l
+like-with_first id h (Some g) (like r q d q' d' e f) = like (with_state (with_first id h (Some g) r.state) r) q d q' d' e f
 
 like-set_first : {a b : Run} (id sender round : ℕ) → Like a b → Like (set_first id sender round a) (set_first id sender round b)
 unfolding set_first
@@ -61,8 +60,8 @@ like-set_first id sender round (like r q d q' d' e f) = like-with_first id _ (ge
 
 like-with_kept : {a b : Run} (id p : ℕ) (o : Option Grafts) → Like a b → Like (with_state (with_kept id p o a.state) a) (with_state (with_kept id p o b.state) b)
 unfolding with_kept
-like-with_kept id p none l = l
-like-with_kept id p (some g) (like r q d q' d' e f) = like (with_state (with_kept id p (some g) r.state) r) q d q' d' e f
+like-with_kept id p None l = l
+like-with_kept id p (Some g) (like r q d q' d' e f) = like (with_state (with_kept id p (Some g) r.state) r) q d q' d' e f
 
 like-set_kept : {a b : Run} (id p : ℕ) → Like a b → Like (set_kept id p a) (set_kept id p b)
 unfolding set_kept
@@ -196,7 +195,7 @@ like-graft_unless_eager : {a b : Run} (h : Hop) → Like a b → Like (graft_unl
 unfolding graft_unless_eager
 like-graft_unless_eager h (like r q d q' d' e f) =
     let l = like r q d q' d' e f in
-    like-if (eager_in h.peer r.state.links) l (like-send h.peer (Graft none h.round) (like-update_links (add_eager h.peer) l))
+    like-if (eager_in h.peer r.state.links) l (like-send h.peer (Graft None h.round) (like-update_links (add_eager h.peer) l))
 
 like-optimize_tree : {a b : Run} (sender round : ℕ) (hs : List Hop) → Like a b → Like (optimize_tree sender round hs a) (optimize_tree sender round hs b)
 unfolding optimize_tree
@@ -256,15 +255,15 @@ like-on_prune sender l = like-update_links (add_lazy sender) l
 
 like-reply_with : {a b : Run} (sender id : ℕ) (o : Option Cached) → Like a b → Like (reply_with sender id o a) (reply_with sender id o b)
 unfolding reply_with
-like-reply_with sender id none l = l
-like-reply_with {b = b} sender id (some c) l =
+like-reply_with sender id None l = l
+like-reply_with {b = b} sender id (Some c) l =
     let m = Gossip id c.content (Swarm c.round) in
     rw (takes_same sender l) (like-if (takes sender b) (like-send sender m l) (like-note_dropped sender (record { id = id; round = c.round } ∷ []) (like-send sender m l)))
 
 like-reply : {a b : Run} (sender : ℕ) (o : Option ℕ) → Like a b → Like (reply sender o a) (reply sender o b)
 unfolding reply
-like-reply sender none l = l
-like-reply sender (some id) (like r q d q' d' e f) = like-reply_with sender id (get id r.state.cache) (like r q d q' d' e f)
+like-reply sender None l = l
+like-reply sender (Some id) (like r q d q' d' e f) = like-reply_with sender id (get id r.state.cache) (like r q d q' d' e f)
 
 like-on_graft : {a b : Run} (sender : ℕ) (o : Option ℕ) → Like a b → Like (on_graft sender o a) (on_graft sender o b)
 unfolding on_graft
@@ -274,7 +273,7 @@ like-ask_first : {a b : Run} (now id : ℕ) (hs : List Hop) → Like a b → Lik
 unfolding ask_first
 like-ask_first now id [] l = l
 like-ask_first now id (h ∷ hs) (like r q d q' d' e f) =
-    like-act (Scheduled r.state.settings.graft_timeout_2 (SendGraft id)) (like-send h.peer (Graft (some id) h.round) (like-note_graft now id h
+    like-act (Scheduled r.state.settings.graft_timeout_2 (SendGraft id)) (like-send h.peer (Graft (Some id) h.round) (like-note_graft now id h
     (like-update_links (add_eager h.peer) (like-leave_announcers id hs (like r q d q' d' e f)))))
 
 like-on_send_graft_timer : {a b : Run} (now id : ℕ) → Like a b → Like (on_send_graft_timer now id a) (on_send_graft_timer now id b)

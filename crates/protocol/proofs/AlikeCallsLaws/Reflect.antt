@@ -1,10 +1,10 @@
 -- What `alike` says when it answers yes: the parts are equal, and in queue and record each peer has the same.
 -- Assumes nothing.
+use Rattle.std.specs.Prelude.{Option, Some, None}
 use Prim.Native.Nat.{ℕ}
 use mathlib.Core.Path.{◌≡◌, refl, sym, ap, subst, ◌∙◌}
 use mathlib.Core.Bool.{Bool, true, false, ◌&&◌, beq}
 use mathlib.Core.List.{List, [], ◌∷◌, ◌++◌, append-eq-nil_iff}
-use mathlib.Core.Option.{Option, none, some}
 use mathlib.Core.Logic.{◌⊎◌, inl, inr}
 use lib.Dec.{eqb}
 use borrow.Author.Tests.{eqb-true}
@@ -42,10 +42,10 @@ tells-list same w (x ∷ xs) (y ∷ ys) h = let (a, b) = both h in ap ◌∷◌ 
 
 tells-option : {A : Type 0} (same : A → A → Bool) → Tells same → Tells (same_option same)
 unfolding same_option
-tells-option same w none none h = refl
-tells-option same w none (some b) h = true≢ h
-tells-option same w (some a) none h = true≢ h
-tells-option same w (some a) (some b) h = ap some (w a b h)
+tells-option same w None None h = refl
+tells-option same w None (Some b) h = true≢ h
+tells-option same w (Some a) None h = true≢ h
+tells-option same w (Some a) (Some b) h = ap Some (w a b h)
 
 tells-map : {A : Type 0} (same : A → A → Bool) → Tells same → Tells (same_map same)
 unfolding same_map

@@ -1,9 +1,9 @@
 -- States that differ in the interleaving alone are alike.
 -- Assumes nothing.
+use Rattle.std.specs.Prelude.{Some, None}
 use mathlib.Core.Path.{◌≡◌, refl}
 use mathlib.Core.Bool.{Bool, true, false, ◌&&◌, beq}
 use mathlib.Core.List.{List, [], ◌∷◌, ◌++◌}
-use mathlib.Core.Option.{none, some}
 use lib.Dec.{eqb}
 use Rattle.storage.proofs.ListsLaws.MapLaws.{and_intro}
 use Rattle.storage.proofs.ListsLaws.ListLaws.{all-each}
@@ -25,8 +25,8 @@ list-refl same w (x ∷ xs) = and_intro (w x) (list-refl same w xs)
 
 option-refl : {A : Type 0} (same : A → A → Bool) → Refl same → Refl (same_option same)
 unfolding same_option
-option-refl same w none = refl
-option-refl same w (some a) = w a
+option-refl same w None = refl
+option-refl same w (Some a) = w a
 
 map_refl : {A : Type 0} (same : A → A → Bool) → Refl same → Refl (same_map same)
 unfolding same_map

@@ -1,7 +1,6 @@
 -- "Order in alike": "Two blocks alike in the new way are alike in the old way."
 -- Assumes nothing.
-use Rattle.std.specs.Prelude.{ℕ, ◌≡◌, true}
-use Rattle.std.proofs.Math.Option.{Option, none, some}
+use Rattle.std.specs.Prelude.{ℕ, ◌≡◌, true, Option, Some, None}
 use Rattle.protocol.specs.State.{State}
 use Rattle.protocol.specs.Whole.{whole_state}
 use Rattle.protocol.specs.Alike.{alike, Likeness, not_whole, likeness, alike_blocks}
@@ -9,9 +8,9 @@ use Rattle.protocol.specs.AlikeUnordered.{alike_unordered}
 
 -- in the old way, of the states of two whole blocks
 unfoldable pub likeness_unordered : Option State → Option State → Likeness
-likeness_unordered none b = not_whole
-likeness_unordered (some a) none = not_whole
-likeness_unordered (some a) (some b) = likeness (alike_unordered a b)
+likeness_unordered None b = not_whole
+likeness_unordered (Some a) None = not_whole
+likeness_unordered (Some a) (Some b) = likeness (alike_unordered a b)
 
 -- and of two blocks, each given by its length and the state that its bytes hold
 unfoldable pub alike_blocks_unordered : ℕ → Option State → ℕ → Option State → Likeness

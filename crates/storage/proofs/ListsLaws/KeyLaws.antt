@@ -3,11 +3,10 @@ use Prim.Native.Nat.{ℕ}
 use mathlib.Core.Path.{◌≡◌, refl, sym, ap, ◌∙◌}
 use mathlib.Core.Bool.{Bool, true}
 use mathlib.Core.List.{[], ◌∷◌}
-use mathlib.Core.Option.{Option, none, some}
 use native.Mathlib.Omega.{arith}
 use lib.Dec.{ltb, eqb}
 use borrow.Author.Tests.{ltb-true, lt-ltb, eqb-true, eqb-false, eq-eqb, ne_eqb}
-use Rattle.std.specs.Prelude.{if◌then◌else◌}
+use Rattle.std.specs.Prelude.{if◌then◌else◌, Option, Some, None}
 use Rattle.storage.specs.Lists.Base.{all, filter, ascending}
 use Rattle.storage.specs.Lists.Map.{Map, Entry, entry, keys, lookup, remove}
 use Rattle.storage.proofs.ListsLaws.MapLaws.{cases, and_left, and_right, all_head, all_tail}
@@ -20,7 +19,7 @@ eqb-sym a b =
 
 module _ {A : Type 0} where
   -- a key below all keys
-  pub lookup_absent : (k : ℕ) (m : Map A) → all (ltb k) (keys m) ≡ true → lookup k m ≡ none
+  pub lookup_absent : (k : ℕ) (m : Map A) → all (ltb k) (keys m) ≡ true → lookup k m ≡ None
   unfolding lookup all
   lookup_absent k [] a = refl
   lookup_absent k (e ∷ m) a =
@@ -39,13 +38,13 @@ module _ {A : Type 0} where
       rw (ne_eqb k e.key (λ q. omega (arith, ltb-true k e.key (all_head (ltb k) e.key (keys m) a))))
       (ap (λ (l : Map A). e ∷ l) (remove_absent k m (all_tail (ltb k) e.key (keys m) a)))
 
-  filter-absent : (f : Entry A → Bool) (k : ℕ) (m : Map A) → all (ltb k) (keys m) ≡ true → lookup k (filter f m) ≡ none
+  filter-absent : (f : Entry A → Bool) (k : ℕ) (m : Map A) → all (ltb k) (keys m) ≡ true → lookup k (filter f m) ≡ None
   filter-absent f k m a = lookup_absent k (filter f m) (keys-filter-all (ltb k) f m a)
 
   -- of the entry at the key
   unfoldable pub passes : (Entry A → Bool) → ℕ → Option A → Option A
-  passes f k none = none
-  passes f k (some v) = if f (entry k v) then some v else none
+  passes f k None = None
+  passes f k (Some v) = if f (entry k v) then Some v else None
 
   pub lookup-filter : (f : Entry A → Bool) (k : ℕ) (m : Map A) → ascending (keys m) ≡ true → lookup k (filter f m) ≡ passes f k (lookup k m)
   unfolding lookup filter ascending passes

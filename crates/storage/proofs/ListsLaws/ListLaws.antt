@@ -1,14 +1,14 @@
 -- Laws of `all`, `any`, `filter`, `count`, `length` and `concat_map` on lists, and of the tests of a map's entries.
+use Rattle.std.specs.Prelude.{Some, is_some}
 use Prim.Native.Nat.{ℕ, suc, ◌+◌, ◌≤◌}
 use mathlib.Core.Path.{◌≡◌, refl, sym, ap, ◌∙◌}
 use mathlib.Core.Bool.{Bool, true, false, not, ◌&&◌, ◌||◌}
 use mathlib.Core.List.{List, [], ◌∷◌, ◌++◌, map, append_assoc, append-nil}
-use mathlib.Core.Option.{some}
 use native.Mathlib.Omega.{arith}
 use lib.Dec.{ltb, eqb}
 use lib.ListN.{length}
 use borrow.Author.Tests.{eqb-true}
-use Rattle.storage.specs.Lists.Base.{all, any, filter, count, concat_map, ascending, is_some}
+use Rattle.storage.specs.Lists.Base.{all, any, filter, count, concat_map, ascending}
 use Rattle.storage.specs.Lists.Map.{Map, Entry, entry, keys, lookup, insert, remove, has}
 use Rattle.storage.proofs.ListsLaws.MapLaws.{cases, true≢, and_left, and_right, and_intro, all_head, all_tail, all_cons, lookup-insert-same, lookup-insert-other, lookup-remove-same, lookup-remove-other}
 
@@ -119,12 +119,12 @@ module _ {A : Type 0} where
       (λ q. rw q (all_cons f e (remove k m) (all_head f e m a) (all-remove-entry f k m (all_tail f e m a))))
 
   -- what holds of all entries holds of the one at a key
-  pub all_lookup : (f : Entry A → Bool) (k : ℕ) (v : A) (m : Map A) → all f m ≡ true → lookup k m ≡ some v → f (entry k v) ≡ true
+  pub all_lookup : (f : Entry A → Bool) (k : ℕ) (v : A) (m : Map A) → all f m ≡ true → lookup k m ≡ Some v → f (entry k v) ≡ true
   unfolding all lookup
   all_lookup f k v [] a h = let z : false ≡ true = cc in true≢ z
   all_lookup f k v (e ∷ m) a h =
       cases (eqb k e.key)
-      (λ q. let s : some e.value ≡ some v = rw q at h in
+      (λ q. let s : Some e.value ≡ Some v = rw q at h in
       let w : e.value ≡ v = cc in
       rw (eqb-true k e.key q, ← w) (all_head f e m a))
       (λ q. all_lookup f k v m (all_tail f e m a) (rw q at h))

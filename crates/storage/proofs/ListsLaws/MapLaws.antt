@@ -3,11 +3,10 @@ use Prim.Native.Nat.{ℕ, ◌<◌}
 use mathlib.Core.Path.{◌≡◌, refl, ap, subst}
 use mathlib.Core.Bool.{Bool, true, false, ◌&&◌}
 use mathlib.Core.List.{List, [], ◌∷◌}
-use mathlib.Core.Option.{Option, none, some}
 use native.Mathlib.Omega.{arith}
 use lib.Dec.{ltb, eqb}
 use borrow.Author.Tests.{ltb-true, ltb-false, eqb-true, eqb-false, eq-eqb, lt-ltb}
-use Rattle.std.specs.Prelude.{if◌then◌else◌}
+use Rattle.std.specs.Prelude.{if◌then◌else◌, Option, Some, None}
 use Rattle.storage.specs.Lists.Base.{all, ascending}
 use Rattle.storage.specs.Lists.Map.{Map, keys, lookup, insert, remove}
 
@@ -60,7 +59,7 @@ all_above x y (n ∷ l) h a =
     all_cons (ltb x) n l (lt-ltb x n (omega (arith, ltb-true y n p))) (all_above x y l h (all_tail (ltb y) n l a))
 
 module _ {A : Type 0} where
-  pub lookup-insert-same : (k : ℕ) (v : A) (m : Map A) → lookup k (insert k v m) ≡ some v
+  pub lookup-insert-same : (k : ℕ) (v : A) (m : Map A) → lookup k (insert k v m) ≡ Some v
   unfolding lookup insert
   lookup-insert-same k v [] = rw (eq-eqb k k refl)
   lookup-insert-same k v (e ∷ m) =
@@ -74,9 +73,9 @@ module _ {A : Type 0} where
   lookup-insert-other j k v (e ∷ m) h =
       cases (ltb k e.key) (λ p. rw p (rw h))
       (λ p. cases (eqb k e.key) (λ q. rw (p, q) (rw (h, eqb-other j k e.key h q)))
-      (λ q. rw (p, q) (ap (λ (o : Option A). if eqb j e.key then some e.value else o) (lookup-insert-other j k v m h))))
+      (λ q. rw (p, q) (ap (λ (o : Option A). if eqb j e.key then Some e.value else o) (lookup-insert-other j k v m h))))
 
-  pub lookup-remove-same : (k : ℕ) (m : Map A) → lookup k (remove k m) ≡ none
+  pub lookup-remove-same : (k : ℕ) (m : Map A) → lookup k (remove k m) ≡ None
   unfolding lookup remove
   lookup-remove-same k [] = refl
   lookup-remove-same k (e ∷ m) =
@@ -87,7 +86,7 @@ module _ {A : Type 0} where
   lookup-remove-other j k [] h = refl
   lookup-remove-other j k (e ∷ m) h =
       cases (eqb k e.key) (λ q. rw q (rw (eqb-other j k e.key h q) (lookup-remove-other j k m h)))
-      (λ q. rw q (ap (λ (o : Option A). if eqb j e.key then some e.value else o) (lookup-remove-other j k m h)))
+      (λ q. rw q (ap (λ (o : Option A). if eqb j e.key then Some e.value else o) (lookup-remove-other j k m h)))
 
   -- what is below the key put in and below all others is below all
   all_insert : (x k : ℕ) (v : A) (m : Map A) → ltb x k ≡ true → all (ltb x) (keys m) ≡ true → all (ltb x) (keys (insert k v m)) ≡ true

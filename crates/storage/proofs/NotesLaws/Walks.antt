@@ -9,7 +9,7 @@ use native.Mathlib.Omega.{arith}
 use lib.ListN.{length, get_or, set, replicate, length-set}
 use lib.Seq.{get_or-set_same, get_or-set_other}
 use Rattle.storage.proofs.RowsLaws.Ids.{tri}
-use Rattle.storage.specs.Notes.Chains.{id_at, bucket_of, bucket, Latest, Chained, New, Once}
+use Rattle.storage.specs.Buckets.{id_at, bucket_of, bucket, Latest, Chained, New, Once}
 
 -- the low ten bits of an identifier are those of its last word
 pub low_bits : (q w l : ℕ) → (w % 1024 + 32 * l) % 1024 ≡ bucket_of (q * 2 ^ 64 + w) l

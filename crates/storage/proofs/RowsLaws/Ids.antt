@@ -9,12 +9,14 @@ use native.Mathlib.Nat.{mul_assoc, pow-suc, eq-or-lt_of_le}
 use native.Mathlib.Omega.{arith}
 use lib.ListN.{length}
 use lib.Arith.{digits_div, digits_lt}
-use borrow.Author.Tests.{lt-ltb, le-ltb, eq-eqb, ne_eqb, ltb-true, ltb-false}
-use lib.Dec.{ltb, eqb}
+use borrow.Author.Tests.{ltb-true, ltb-false}
+use lib.Dec.{ltb}
 use Rattle.storage.specs.Rows.Part.{part, put}
 use Rattle.storage.specs.Rows.Digits.{be_nat, be_bytes}
-use Rattle.storage.specs.Rows.Ident.{order_of}
-use Rattle.storage.specs.declared.rows.id.Order.TheVariants.{Less, Equal, Greater}
+use Rattle.std.proofs.lemmas.Bool.{true≢false}
+use Rattle.std.proofs.Common.{Ordering, Less, Equal, Greater}
+use Rattle.std.specs.Ordering.{MatchOrdering, is_le, nat_cmp}
+use Rattle.std.specs.Cmp.{ranks, nat_cmp_is}
 use Rattle.storage.proofs.RowsLaws.Parts.{part-add, length_part, put-put-next}
 use Rattle.storage.proofs.RowsLaws.Digits.{be_from-append, be_from-high, be_bytes-add, length-be_bytes}
 
@@ -39,15 +41,6 @@ be_bytes-low (suc k) q r =
 -- m bytes and a word after them
 pub bytes_after : (m q w : ℕ) → w < 2 ^ 64 → be_bytes (m + 8) (q * 2 ^ 64 + w) ≡ be_bytes m q ++ be_bytes 8 w
 bytes_after m q w h = be_bytes-add m 8 (q * 2 ^ 64 + w) ∙ (λ k. be_bytes m (digits_div q h k) ++ be_bytes-low 8 q w k)
-
-pub less : (a b : ℕ) → a < b → Less ≡ order_of a b
-less a b h = sym (simp (lt-ltb a b h))
-
-pub greater : (a b : ℕ) → b < a → Greater ≡ order_of a b
-greater a b h = sym (simp (le-ltb a b (omega arith), ne_eqb a b (λ e. omega arith)))
-
-pub equal : (a b : ℕ) → a ≡ b → Equal ≡ order_of a b
-equal a b h = sym (simp (le-ltb a b (omega arith), eq-eqb a b h))
 
 -- the four words that are read are the identifier's
 pub read-id : (b : List ℕ) (at w0 w1 w2 w3 : ℕ) → at + 32 ≤ length b
@@ -113,33 +106,20 @@ tri a b = go (ltb a b) refl
     go true e = inl (ltb-true a b e)
     go false e = else-go (eq-or-lt_of_le (ltb-false a b e))
 
--- what an answer of the order says
-pub of-less : (a b : ℕ) → Less ≡ order_of a b → a < b
-of-less a b e = go (tri a b)
+-- a comparison that settles another
+pub settles : (x y a b : ℕ) → (x < y → a < b) → (x ≡ y → a ≡ b) → (y < x → b < a) → nat_cmp x y ≡ nat_cmp a b
+settles x y a b l e g = nat_cmp_is a b (nat_cmp x y) (go (nat_cmp x y) (ranks x y))
   where
-    go : (a < b) ⊎ ((a ≡ b) ⊎ (b < a)) → a < b
-    go (inl h) = h
-    go (inr (inl h)) = let z : ◌≡◌ {A = ℕ} 0 1 = cc (equal a b h) in absurd (omega arith)
-    go (inr (inr h)) = let z : ◌≡◌ {A = ℕ} 0 1 = cc (greater a b h) in absurd (omega arith)
+    go : (o : Ordering) → MatchOrdering o (x < y) (x ≡ y) (y < x) → MatchOrdering o (a < b) (a ≡ b) (b < a)
+    go Less h = l h
+    go Equal h = e h
+    go Greater h = g h
 
-pub of-equal : (a b : ℕ) → Equal ≡ order_of a b → a ≡ b
-of-equal a b e = go (tri a b)
+-- what a `<=` that is false says; `le_from_is_le` has the other
+pub le_false : (x y : ℕ) → is_le (nat_cmp x y) ≡ false → y < x
+le_false x y = go (nat_cmp x y) (ranks x y)
   where
-    go : (a < b) ⊎ ((a ≡ b) ⊎ (b < a)) → a ≡ b
-    go (inl h) = let z : ◌≡◌ {A = ℕ} 0 1 = cc (less a b h) in absurd (omega arith)
-    go (inr (inl h)) = h
-    go (inr (inr h)) = let z : ◌≡◌ {A = ℕ} 0 1 = cc (greater a b h) in absurd (omega arith)
-
-pub of-greater : (a b : ℕ) → Greater ≡ order_of a b → b < a
-of-greater a b e = go (tri a b)
-  where
-    go : (a < b) ⊎ ((a ≡ b) ⊎ (b < a)) → b < a
-    go (inl h) = let z : ◌≡◌ {A = ℕ} 0 1 = cc (less a b h) in absurd (omega arith)
-    go (inr (inl h)) = let z : ◌≡◌ {A = ℕ} 0 1 = cc (equal a b h) in absurd (omega arith)
-    go (inr (inr h)) = h
-
-pub differ-less : (a b : ℕ) → a < b → eqb a b ≡ false
-differ-less a b h = ne_eqb a b (λ e. omega arith)
-
-pub differ-greater : (a b : ℕ) → b < a → eqb a b ≡ false
-differ-greater a b h = ne_eqb a b (λ e. omega arith)
+    go : (o : Ordering) → MatchOrdering o (x < y) (x ≡ y) (y < x) → is_le o ≡ false → y < x
+    go Less h e = absurd (true≢false e)
+    go Equal h e = absurd (true≢false e)
+    go Greater h e = h

@@ -1,7 +1,5 @@
 -- Maps by number (a peer or an identifier), and sets of numbers: lists whose keys strictly ascend.
-use Rattle.std.specs.Prelude.{ℕ, Bool, List, [], ◌∷◌, map, ltb, eqb, if◌then◌else◌}
-use Rattle.std.proofs.Math.Option.{Option, none, some}
-use Rattle.storage.specs.Lists.Base.{is_some}
+use Rattle.std.specs.Prelude.{ℕ, Bool, List, [], ◌∷◌, map, ltb, eqb, if◌then◌else◌, Option, Some, None, is_some}
 
 -- a key and its value
 pub record Entry (A : Type 0) : Type 0 where
@@ -22,8 +20,8 @@ keys m = map (λ e. e.key) m
 
 -- the value at the key
 unfoldable pub lookup : {A : Type 0} → ℕ → Map A → Option A
-lookup k [] = none
-lookup k (e ∷ m) = if eqb k e.key then some e.value else lookup k m
+lookup k [] = None
+lookup k (e ∷ m) = if eqb k e.key then Some e.value else lookup k m
 
 -- the key is there
 abbrev pub has : {A : Type 0} → ℕ → Map A → Bool

@@ -9,95 +9,87 @@ ghost use Rattle.storage.specs.Refs.Once.{TellsNumbers};
 use crate::rows::{table, word};
 
 // How many of n rows name none of the first k.
-pub fn count_from(e: &[u8], stride: usize, n: usize, k: u64) -> usize
-    requires { (2 ≤ stride) × (n * stride ≤ length e.now) }
-    ensures { result ≡ count (names k) (refs stride n e.now) }
+pub fn count_from(bytes: &[u8], stride: usize, n: usize, k: u64) -> usize
+    requires { (2 ≤ stride) × (n * stride ≤ length bytes.now) }
+    ensures { result ≡ count (names k) (refs stride n bytes.now) }
 {
-    let mut j = 0;
-    let mut i = 0;
-    while i < n {
-        let p = word::load2(e, i * stride);
-        i += 1;
-        if k <= p {
-            j += 1;
+    let mut later = 0;
+    for i in 0..n {
+        let place = word::load2(bytes, i * stride);
+        if k <= place {
+            later += 1;
         }
     }
-    j
+    later
 }
 
 // A place after a row was put in at i.
-fn shift(i: u64, p: u64) -> u64
-    requires { p < 65535 }
-    ensures { result ≡ shifted i p }
+fn shift(i: u64, place: u64) -> u64
+    requires { place < 65535 }
+    ensures { result ≡ shifted i place }
 {
-    if p < i {
-        return p;
+    if place < i {
+        return place;
     }
-    p + 1
+    place + 1
 }
 
 // Renames the rows that n places name, after a row was put in at i.
-pub fn make_room(e: &mut [u8], stride: usize, n: usize, i: u64)
-    requires { (2 ≤ stride) × (n * stride ≤ length e.old) × Below 65535 (places (refs stride n e.old)) }
-    ensures { refs stride n e.new ≡ map (moved i) (refs stride n e.old) }
+pub fn make_room(bytes: &mut [u8], stride: usize, n: usize, i: u64)
+    requires { (2 ≤ stride) × (n * stride ≤ length bytes.old) × Below 65535 (places (refs stride n bytes.old)) }
+    ensures { refs stride n bytes.new ≡ map (moved i) (refs stride n bytes.old) }
 {
-    let mut j = 0;
-    while j < n {
+    for j in 0..n {
         let at = j * stride;
-        let p = word::load2(e, at);
-        let q = shift(i, p);
-        word::store_le(e, at, 2, q);
-        j += 1;
+        let place = word::load2(bytes, at);
+        word::store_le(bytes, at, 2, shift(i, place));
     }
 }
 
 // Drops the rows whose place is below k, lowers the other places by k, and returns how many rows are left: the first k rows that places name
 // are gone.
-pub fn drop_places(e: &mut [u8], stride: usize, n: usize, k: u64) -> usize
-    requires { (2 ≤ stride) × (n * stride ≤ length e.old) }
-    ensures { (result ≤ n) × (refs stride result e.new ≡ left k (refs stride n e.old)) }
+pub fn drop_places(bytes: &mut [u8], stride: usize, n: usize, k: u64) -> usize
+    requires { (2 ≤ stride) × (n * stride ≤ length bytes.old) }
+    ensures { (result ≤ n) × (refs stride result bytes.new ≡ left k (refs stride n bytes.old)) }
 {
     let own = stride - 2;
-    let mut j = 0;
-    let mut i = 0;
-    while i < n {
+    let mut kept = 0;
+    for i in 0..n {
         let from = i * stride;
-        i += 1;
-        let p = word::load2(e, from);
-        if k <= p {
-            let to = j * stride;
-            j += 1;
-            table::move_down(e, from + 2, to + 2, own);
-            word::store_le(e, to, 2, p - k);
+        let place = word::load2(bytes, from);
+        if place < k {
+            continue;
         }
+        let to = kept * stride;
+        table::move_down(bytes, from + 2, to + 2, own);
+        word::store_le(bytes, to, 2, place - k);
+        kept += 1;
     }
-    j
+    kept
 }
 
 // A byte as an index.
-fn wide(x: u8) -> usize
-    ensures { result ≡ x }
+fn wide(byte: u8) -> usize
+    ensures { result ≡ byte }
 {
-    x as usize
+    byte as usize
 }
 
 // Whether the bytes are numbers below m, each once: "announcing .. peers are neighbours, once per identifier" (question 5).
-pub fn numbers(b: &[u8], m: usize) -> bool
+pub fn numbers(bytes: &[u8], m: usize) -> bool
     requires { m ≤ 32 }
-    ensures { TellsNumbers m b.now result }
+    ensures { TellsNumbers m bytes.now result }
 {
     let mut seen = [0u8; 32];
-    let mut j = 0;
-    while j < b.len() {
-        let k = wide(b[j]);
-        if m <= k {
+    for i in 0..bytes.len() {
+        let number = wide(bytes[i]);
+        if m <= number {
             return false;
         }
-        if seen[k] != 0 {
+        if seen[number] != 0 {
             return false;
         }
-        seen[k] = 1;
-        j += 1;
+        seen[number] = 1;
     }
     true
 }

@@ -8,59 +8,51 @@ use crate::refs::wide;
 use crate::rows::table;
 
 // A link number after a link came in at i.
-fn raise(l: u8, i: usize) -> u8
-    requires { l < 255 }
-    ensures { result ≡ shifted i l }
+fn raise(number: u8, i: usize) -> u8
+    requires { number < 255 }
+    ensures { result ≡ shifted i number }
 {
-    if (l as usize) < i {
-        return l;
+    if (number as usize) < i {
+        return number;
     }
-    l + 1
+    number + 1
 }
 
 // The n link numbers at `at`, after a link came in at i.
-pub fn raise_numbers(b: &mut [u8], at: usize, n: usize, i: usize)
-    requires { (at + n ≤ length b.old) × Below 255 (part at n b.old) }
-    ensures { b.new ≡ raised i at n b.old }
+pub fn raise_numbers(bytes: &mut [u8], at: usize, n: usize, i: usize)
+    requires { (at + n ≤ length bytes.old) × Below 255 (part at n bytes.old) }
+    ensures { bytes.new ≡ raised i at n bytes.old }
 {
-    let mut j = 0;
-    while j < n {
-        let l = raise(b[at + j], i);
-        b[at + j] = l;
-        j += 1;
+    for j in 0..n {
+        bytes[at + j] = raise(bytes[at + j], i);
     }
 }
 
 // A link number other than i, after link i went.
-fn lower_one(l: u8, i: usize) -> u8
-    requires { l ≡ i → ⊥ }
-    ensures { result ≡ lowered i l }
+fn lower_one(number: u8, i: usize) -> u8
+    requires { number ≡ i → ⊥ }
+    ensures { result ≡ lowered i number }
 {
-    if (l as usize) < i {
-        return l;
+    if (number as usize) < i {
+        return number;
     }
-    l - 1
+    number - 1
 }
 
-// Drops the number i and the rows beside it, lowers the numbers above it, and returns how many are left: n numbers at the start, and n rows at o.
-pub fn drop_number(b: &mut [u8], o: usize, stride: usize, n: usize, i: usize) -> usize
-    requires { (n ≤ o) × (o + n * stride ≤ length b.old) }
-    ensures { (result ≤ n) × (entries o stride result b.new ≡ lower_all i (entries o stride n b.old)) }
+// Drops the number i and the rows beside it, lowers the numbers above it, and returns how many are left: n numbers at the start, and n rows at `at`.
+pub fn drop_number(bytes: &mut [u8], at: usize, stride: usize, n: usize, i: usize) -> usize
+    requires { (n ≤ at) × (at + n * stride ≤ length bytes.old) }
+    ensures { (result ≤ n) × (entries at stride result bytes.new ≡ lower_all i (entries at stride n bytes.old)) }
 {
-    let mut k = 0;
-    let mut j = 0;
-    while j < n {
-        let l = b[j];
-        let w = wide(l);
-        let from = o + j * stride;
-        j += 1;
-        if w != i {
-            let to = o + k * stride;
-            let m = lower_one(l, i);
-            table::move_down(b, from, to, stride);
-            b[k] = m;
-            k += 1;
+    let mut kept = 0;
+    for j in 0..n {
+        let number = bytes[j];
+        if wide(number) == i {
+            continue;
         }
+        table::move_down(bytes, at + j * stride, at + kept * stride, stride);
+        bytes[kept] = lower_one(number, i);
+        kept += 1;
     }
-    k
+    kept
 }

@@ -1,10 +1,15 @@
 // Identifiers of 32 bytes: four words by value, so that a comparison is at most four comparisons of words.
-ghost use Rattle.std.specs.Prelude.{◌≡◌, ◌+◌, ◌≤◌, length, eqb};
+ghost use Rattle.std.specs.Prelude.{◌≡◌, ◌+◌, ◌≤◌, ◌==◌, length};
+ghost use Rattle.std.proofs.Common.{rules};
+ghost use Rattle.std.specs.Cmp.{partial_order_from_own_ties};
+ghost use Rattle.std.specs.Cmp.Rules.{comparing};
+ghost use Rattle.std.specs.Ordering.{on, nat_cmp, as_partial_cmp};
 ghost use Rattle.storage.specs.Rows.Part.{part, put};
 ghost use Rattle.storage.specs.Rows.Digits.{be_nat, be_bytes};
-ghost use Rattle.storage.specs.Rows.Ident.{id_of, order_of};
+ghost use Rattle.storage.specs.Rows.Ident.{id_of};
 
 use crate::rows::word;
+use std::cmp::Ordering;
 
 // An identifier: its 32 bytes as four words, the first the highest.
 #[derive(Clone, Copy)]
@@ -15,12 +20,59 @@ pub struct Id {
     pub w3: u64,
 }
 
-// How one identifier stands to another.
-#[derive(Clone, Copy)]
-pub enum Order {
-    Less,
-    Equal,
-    Greater,
+// How the number of a stands to that of b: by the first word that differs.
+fn order(a: Id, b: Id) -> Ordering
+    ensures { result ≡ nat_cmp (id_of a) (id_of b) }
+{
+    if a.w0 != b.w0 {
+        return a.w0.cmp(&b.w0);
+    }
+    if a.w1 != b.w1 {
+        return a.w1.cmp(&b.w1);
+    }
+    if a.w2 != b.w2 {
+        return a.w2.cmp(&b.w2);
+    }
+    a.w3.cmp(&b.w3)
+}
+
+// Identifiers are compared as their numbers are. A derive would say the same of the four words.
+impl PartialEq for Id {
+    ghost eq = { on id_of ◌==◌ };
+
+    ghost laws = { Prim.search (comparing, rules) };
+
+    fn eq(&self, other: &Id) -> bool {
+        self.cmp(other).is_eq()
+    }
+}
+
+impl Eq for Id {
+    ghost laws = { Prim.search (comparing, rules) };
+}
+
+impl Ord for Id {
+    ghost cmp = { on id_of nat_cmp };
+
+    ghost total = { Prim.search (comparing, rules) };
+
+    ghost matches_partial_cmp = { Prim.search (comparing, rules) };
+
+    ghost matches_eq = { Prim.search (comparing, rules) };
+
+    fn cmp(&self, other: &Id) -> Ordering {
+        order(*self, *other)
+    }
+}
+
+impl PartialOrd for Id {
+    ghost partial_cmp = { as_partial_cmp (on id_of nat_cmp) };
+
+    ghost laws = { partial_order_from_own_ties (Prim.search (comparing, rules)) (Prim.search (comparing, rules)) };
+
+    fn partial_cmp(&self, other: &Id) -> Option<Ordering> {
+        Some(self.cmp(other))
+    }
 }
 
 // The identifier in the 32 bytes at `at`.
@@ -44,47 +96,4 @@ pub fn store_id(b: &mut [u8], at: usize, id: Id)
     word::store_high(b, at + 8, id.w1);
     word::store_high(b, at + 16, id.w2);
     word::store_high(b, at + 24, id.w3);
-}
-
-// How a stands to b: by the first word that differs.
-pub fn compare(a: Id, b: Id) -> Order
-    ensures { result ≡ order_of (id_of a) (id_of b) }
-{
-    if a.w0 < b.w0 {
-        return Order::Less;
-    }
-    if b.w0 < a.w0 {
-        return Order::Greater;
-    }
-    if a.w1 < b.w1 {
-        return Order::Less;
-    }
-    if b.w1 < a.w1 {
-        return Order::Greater;
-    }
-    if a.w2 < b.w2 {
-        return Order::Less;
-    }
-    if b.w2 < a.w2 {
-        return Order::Greater;
-    }
-    if a.w3 < b.w3 {
-        return Order::Less;
-    }
-    if b.w3 < a.w3 {
-        return Order::Greater;
-    }
-    Order::Equal
-}
-
-// Whether a and b are the same.
-pub fn same(a: Id, b: Id) -> bool
-    ensures { result ≡ eqb (id_of a) (id_of b) }
-{
-    let o = compare(a, b);
-    match o {
-        Order::Less => false,
-        Order::Equal => true,
-        Order::Greater => false,
-    }
 }

@@ -6,110 +6,94 @@ ghost use Rattle.storage.specs.Rows.Rows.{rows, differs, opened, closed};
 ghost use Rattle.storage.specs.Rows.Sorted.{keys, TellsAscending};
 
 use crate::rows::id;
-use crate::rows::id::Order;
 
-// Copies the k bytes at `from` to `to`, which is not before it: from the last byte to the first, since the two may overlap.
-pub fn move_up(b: &mut [u8], from: usize, to: usize, k: usize)
-    requires { (from ≤ to) × (to + k ≤ length b.old) }
-    ensures { b.new ≡ put to (part from k b.old) b.old }
+// Copies the `len` bytes at `from` to `to`, which is not before it: from the last byte to the first, since the two may overlap.
+pub fn move_up(bytes: &mut [u8], from: usize, to: usize, len: usize)
+    requires { (from ≤ to) × (to + len ≤ length bytes.old) }
+    ensures { bytes.new ≡ put to (part from len bytes.old) bytes.old }
 {
-    let mut i = k;
-    while 0 < i {
-        i -= 1;
-        b[to + i] = b[from + i];
+    for i in (0..len).rev() {
+        bytes[to + i] = bytes[from + i];
     }
 }
 
-// Copies the k bytes at `from` to `to`, which is not after it: from the first byte to the last, since the two may overlap.
-fn slide_down(b: &mut [u8], from: usize, to: usize, k: usize)
-    requires { (to ≤ from) × (from + k ≤ length b.old) }
-    ensures { b.new ≡ put to (part from k b.old) b.old }
+// Copies the `len` bytes at `from` to `to`, which is not after it: from the first byte to the last, since the two may overlap.
+fn slide_down(bytes: &mut [u8], from: usize, to: usize, len: usize)
+    requires { (to ≤ from) × (from + len ≤ length bytes.old) }
+    ensures { bytes.new ≡ put to (part from len bytes.old) bytes.old }
 {
-    let mut i = 0;
-    while i < k {
-        b[to + i] = b[from + i];
-        i += 1;
+    for i in 0..len {
+        bytes[to + i] = bytes[from + i];
     }
 }
 
-// Copies the k bytes at `from` to `to`, which ends before it: by one copy, which for a row of known length is a few vector moves.
-fn move_apart(b: &mut [u8], from: usize, to: usize, k: usize)
-    requires { (to + k ≤ from) × (from + k ≤ length b.old) }
-    ensures { b.new ≡ put to (part from k b.old) b.old }
+// Copies the `len` bytes at `from` to `to`, which ends before it: by one copy, which for a row of known length is a few vector moves.
+fn move_apart(bytes: &mut [u8], from: usize, to: usize, len: usize)
+    requires { (to + len ≤ from) × (from + len ≤ length bytes.old) }
+    ensures { bytes.new ≡ put to (part from len bytes.old) bytes.old }
 {
-    let (front, back) = b.split_at_mut(from);
-    let place = &mut front[to..to + k];
-    place.copy_from_slice(&back[..k]);
+    let (front, back) = bytes.split_at_mut(from);
+    let place = &mut front[to..to + len];
+    place.copy_from_slice(&back[..len]);
 }
 
-// Copies the k bytes at `from` to `to`, which is not after it.
-pub fn move_down(b: &mut [u8], from: usize, to: usize, k: usize)
-    requires { (to ≤ from) × (from + k ≤ length b.old) }
-    ensures { b.new ≡ put to (part from k b.old) b.old }
+// Copies the `len` bytes at `from` to `to`, which is not after it.
+pub fn move_down(bytes: &mut [u8], from: usize, to: usize, len: usize)
+    requires { (to ≤ from) × (from + len ≤ length bytes.old) }
+    ensures { bytes.new ≡ put to (part from len bytes.old) bytes.old }
 {
-    if k <= from - to {
-        move_apart(b, from, to, k);
+    if len <= from - to {
+        move_apart(bytes, from, to, len);
     } else {
-        slide_down(b, from, to, k);
+        slide_down(bytes, from, to, len);
     }
 }
 
 // Opens a gap of one row at row i of n, which holds what stood there.
-pub fn insert_row(b: &mut [u8], stride: usize, n: usize, i: usize)
-    requires { (i ≤ n) × ((n + 1) * stride ≤ length b.old) }
-    ensures { b.new ≡ opened stride n i b.old }
+pub fn insert_row(bytes: &mut [u8], stride: usize, n: usize, i: usize)
+    requires { (i ≤ n) × ((n + 1) * stride ≤ length bytes.old) }
+    ensures { bytes.new ≡ opened stride n i bytes.old }
 {
-    let a = i * stride;
-    move_up(b, a, a + stride, (n - i) * stride);
+    let at = i * stride;
+    move_up(bytes, at, at + stride, (n - i) * stride);
 }
 
 // Closes the rows i to j of n.
-pub fn remove_rows(b: &mut [u8], stride: usize, n: usize, i: usize, j: usize)
-    requires { (i ≤ j) × (j ≤ n) × (n * stride ≤ length b.old) }
-    ensures { b.new ≡ closed stride n i j b.old }
+pub fn remove_rows(bytes: &mut [u8], stride: usize, n: usize, i: usize, j: usize)
+    requires { (i ≤ j) × (j ≤ n) × (n * stride ≤ length bytes.old) }
+    ensures { bytes.new ≡ closed stride n i j bytes.old }
 {
-    move_down(b, j * stride, i * stride, (n - j) * stride);
+    move_down(bytes, j * stride, i * stride, (n - j) * stride);
 }
 
-// Keeps, of n rows, those whose byte at o is not v, in their order, and returns how many.
-pub fn retain(b: &mut [u8], stride: usize, n: usize, o: usize, v: u8) -> usize
-    requires { (o < stride) × (n * stride ≤ length b.old) }
-    ensures { (result ≤ n) × (rows stride result b.new ≡ filter (differs o v) (rows stride n b.old)) }
+// Keeps, of n rows, those whose byte at `offset` is not `gone`, in their order, and returns how many.
+pub fn retain(bytes: &mut [u8], stride: usize, n: usize, offset: usize, gone: u8) -> usize
+    requires { (offset < stride) × (n * stride ≤ length bytes.old) }
+    ensures { (result ≤ n) × (rows stride result bytes.new ≡ filter (differs offset gone) (rows stride n bytes.old)) }
 {
-    let mut k = 0;
-    let mut j = 0;
-    while j < n {
-        let from = j * stride;
-        let x = b[from + o];
-        j += 1;
-        if x != v {
-            move_down(b, from, k * stride, stride);
-            k += 1;
+    let mut kept = 0;
+    for i in 0..n {
+        let from = i * stride;
+        let byte = bytes[from + offset];
+        if byte == gone {
+            continue;
         }
+        move_down(bytes, from, kept * stride, stride);
+        kept += 1;
     }
-    k
+    kept
 }
 
 // Whether the keys of n rows ascend.
-pub fn ascending(b: &[u8], stride: usize, n: usize) -> bool
-    requires { (32 ≤ stride) × (n * stride ≤ length b.now) }
-    ensures { TellsAscending (keys stride n b.now) result }
+pub fn ascending(bytes: &[u8], stride: usize, n: usize) -> bool
+    requires { (32 ≤ stride) × (n * stride ≤ length bytes.now) }
+    ensures { TellsAscending (keys stride n bytes.now) result }
 {
-    let mut i = 1;
-    while i < n {
-        let p = id::load_id(b, (i - 1) * stride);
-        let q = id::load_id(b, i * stride);
-        let o = id::compare(p, q);
-        match o {
-            Order::Less => {
-                i += 1;
-            }
-            Order::Equal => {
-                return false;
-            }
-            Order::Greater => {
-                return false;
-            }
+    for i in 1..n {
+        let before = id::load_id(bytes, (i - 1) * stride);
+        let key = id::load_id(bytes, i * stride);
+        if key <= before {
+            return false;
         }
     }
     true

@@ -18,19 +18,19 @@ impl Row for Id {
 
     ghost of = { id_of };
 
-    fn load(b: &[u8]) -> Id {
-        id::load_id(b, 0)
+    fn load(bytes: &[u8]) -> Id {
+        id::load_id(bytes, 0)
     }
 
-    fn store(self, b: &mut [u8]) {
-        id::store_id(b, 0, self);
+    fn store(self, bytes: &mut [u8]) {
+        id::store_id(bytes, 0, self);
     }
 }
 
 impl Keyed for Id {
     ghost key_in = { key_of };
 
-    fn key(b: &[u8]) -> Id {
-        id::load_id(b, 0)
+    fn key(bytes: &[u8]) -> Id {
+        id::load_id(bytes, 0)
     }
 }

@@ -4,13 +4,13 @@ use Rattle.std.specs.Prelude.{ℕ, ◌+◌, ◌*◌, ◌≡◌, List, [], ◌∷
 use Rattle.postcard.specs.Number.{Read, got, fault}
 use Rattle.postcard.specs.Decode.{Decoded, decoded, faulty}
 use Rattle.wire.specs.declared.reader.fault.Fault.{Fault}
-use Rattle.wire.specs.declared.reader.fault.Fault.TheVariants.{Ends, Form, Left, Room}
+use Rattle.wire.specs.declared.reader.fault.Fault.TheVariants.{Ends, Form, Left, Output}
 
 abbrev pub number_of : Fault → ℕ
 number_of Ends = 7
 number_of Form = 8
 number_of Left = 9
-number_of Room = 14
+number_of Output = 14
 
 -- `result`, its value seen by `view`, with `left` in the reader, is what the definition reads
 abbrev pub Gives : {X A : Type 0} → (X → A) → Result X Fault → List ℕ → Read A → Type 0

@@ -1,5 +1,5 @@
 // Messages: the specification, "Numbers and messages (Postcard)".
-#![tactic(auto, unfolding(postcard::specs::Message::message_bytes, postcard::specs::Output::ihave_head, postcard::specs::Message::ihave_bytes), using(crate::proofs::EncodeLaws::HeldLaws::after_append, crate::proofs::EncodeLaws::HeldLaws::room_after, crate::proofs::EncodeLaws::HeldLaws::length_both))]
+#![tactic(auto, unfolding(postcard::specs::Message::message_bytes, postcard::specs::Output::ihave_head, postcard::specs::Message::ihave_bytes), using(crate::proofs::EncodeLaws::IntakeLaws::after_append, crate::proofs::EncodeLaws::IntakeLaws::room_after, crate::proofs::EncodeLaws::IntakeLaws::length_both))]
 
 ghost use Rattle.std.specs.Prelude.{◌≡◌, [], ◌∷◌, ◌++◌};
 ghost use Rattle.storage.specs.Lists.Base.{concat_map};
@@ -8,7 +8,7 @@ ghost use Rattle.postcard.specs.Message as message;
 ghost use Rattle.postcard.specs.Message.{ihave_bytes, message_bytes};
 ghost use Rattle.postcard.specs.Output.{ihave_head};
 ghost use Rattle.postcard.specs.Values.{delivery_value, wanted_value, ihave_value};
-ghost use Rattle.wire.specs.Encode.Held.{after, RoomFor};
+ghost use Rattle.wire.specs.Encode.Intake.{after, RoomFor};
 ghost use Rattle.wire.specs.Reader.Values.{ihaves_value, message_value};
 
 use crate::encode::Encode;
@@ -94,8 +94,8 @@ impl Encode for Ihave {
 
 // The entries of an IHave, one by one.
 fn encode_entries<S: Sink>(ihaves: Ihaves, out: &mut S)
-    requires { RoomFor (concat_map ihave_bytes (ihaves_value ihaves)) (S.held out.old) }
-    ensures { S.held out.new ≡ after (concat_map ihave_bytes (ihaves_value ihaves.entry)) (S.held out.old) }
+    requires { RoomFor (concat_map ihave_bytes (ihaves_value ihaves)) (S.intake out.old) }
+    ensures { S.intake out.new ≡ after (concat_map ihave_bytes (ihaves_value ihaves.entry)) (S.intake out.old) }
 {
     for ihave in ihaves {
         ihave.encode(out);

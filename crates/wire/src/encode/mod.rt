@@ -1,7 +1,7 @@
 // What is written, field by field, from the left: the specification, "Numbers and messages (Postcard)".
 ghost use Rattle.std.specs.Prelude.{◌≡◌, ◌^◌, ◌<◌, List, ℕ, length};
-ghost use Rattle.postcard.specs.Output.{Room, Wrote};
-ghost use Rattle.wire.specs.Encode.Held.{after, RoomFor};
+ghost use Rattle.postcard.specs.Output.{FitsAt, Wrote};
+ghost use Rattle.wire.specs.Encode.Intake.{after, RoomFor};
 
 pub mod action;
 pub mod field;
@@ -15,8 +15,8 @@ pub trait Encode {
     ghost bytes: { Self → List ℕ };
 
     fn encode<S: Sink>(&self, out: &mut S)
-        requires { RoomFor (bytes self.now) (S.held out.old) }
-        ensures { S.held out.new ≡ after (bytes self.now) (S.held out.old) };
+        requires { RoomFor (bytes self.now) (S.intake out.old) }
+        ensures { S.intake out.new ≡ after (bytes self.now) (S.intake out.old) };
 }
 
 // How many bytes it takes: question 14 asks it before anything is written.
@@ -31,7 +31,7 @@ pub fn size<E: Encode>(value: &E) -> usize
 
 // Writes it at a place of the output, and tells the place after it.
 pub fn put<E: Encode>(out: &mut [u8], at: usize, value: &E) -> usize
-    requires { Room (E.bytes value.now) at out.old }
+    requires { FitsAt (E.bytes value.now) at out.old }
     ensures { Wrote (E.bytes value.now) out.old at out.new result }
 {
     let mut writer = Writer { out, at };

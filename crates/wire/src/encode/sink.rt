@@ -1,19 +1,19 @@
 // Where bytes go: into a lent output, or into a count, so that what is measured is what is written.
 ghost use Rattle.std.specs.Prelude.{◌≡◌, ◌≤◌, [], ◌∷◌, length, take, drop};
-ghost use Rattle.wire.specs.Encode.Held.{Held, counted, written, after, RoomFor};
+ghost use Rattle.wire.specs.Encode.Intake.{Intake, counted, written, after, RoomFor};
 
 pub trait Sink {
-    ghost held: { Self → Held };
+    ghost intake: { Self → Intake };
 
     // One byte.
     fn byte(&mut self, b: u8)
-        requires { RoomFor (b ∷ []) (held self.old) }
-        ensures { held self.new ≡ after (b ∷ []) (held self.old) };
+        requires { RoomFor (b ∷ []) (intake self.old) }
+        ensures { intake self.new ≡ after (b ∷ []) (intake self.old) };
 
     // Bytes.
     fn bytes(&mut self, bytes: &[u8])
-        requires { RoomFor bytes.now (held self.old) }
-        ensures { held self.new ≡ after bytes.now (held self.old) };
+        requires { RoomFor bytes.now (intake self.old) }
+        ensures { intake self.new ≡ after bytes.now (intake self.old) };
 }
 
 // Counts the bytes.
@@ -23,14 +23,14 @@ pub struct Counter {
 }
 
 impl Sink for Counter {
-    ghost held = { λ c. counted c.count };
+    ghost intake = { λ c. counted c.count };
 
-    #[tactic(auto, unfolding(crate::specs::Encode::Held::after, crate::specs::Encode::Held::room_of))]
+    #[tactic(auto, unfolding(crate::specs::Encode::Intake::after, crate::specs::Encode::Intake::space_of))]
     fn byte(&mut self, _b: u8) {
         self.count += 1;
     }
 
-    #[tactic(auto, unfolding(crate::specs::Encode::Held::after, crate::specs::Encode::Held::room_of))]
+    #[tactic(auto, unfolding(crate::specs::Encode::Intake::after, crate::specs::Encode::Intake::space_of))]
     fn bytes(&mut self, bytes: &[u8]) {
         self.count += bytes.len();
     }
@@ -45,15 +45,15 @@ pub struct Writer<'a> {
 }
 
 impl<'a> Sink for Writer<'a> {
-    ghost held = { λ w. written (take w.at w.out.now) (drop w.at w.out.now) w.out.ghost_name };
+    ghost intake = { λ w. written (take w.at w.out.now) (drop w.at w.out.now) w.out.ghost_name };
 
-    #[tactic(auto, unfolding(crate::specs::Encode::Held::room_of), using(crate::proofs::EncodeLaws::HeldLaws::set_after))]
+    #[tactic(auto, unfolding(crate::specs::Encode::Intake::space_of), using(crate::proofs::EncodeLaws::IntakeLaws::set_after))]
     fn byte(&mut self, b: u8) {
         self.out[self.at] = b;
         self.at += 1;
     }
 
-    #[tactic(auto, unfolding(crate::specs::Encode::Held::room_of), using(crate::proofs::EncodeLaws::HeldLaws::copy_after))]
+    #[tactic(auto, unfolding(crate::specs::Encode::Intake::space_of), using(crate::proofs::EncodeLaws::IntakeLaws::copy_after))]
     fn bytes(&mut self, bytes: &[u8]) {
         let start = self.at;
         let end = start + bytes.len();

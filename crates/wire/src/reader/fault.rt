@@ -11,7 +11,7 @@ pub enum Fault {
     // (9) "Do the bytes end there?"
     Left,
     // (14) "Do the actions fit the output?"
-    Room,
+    Output,
 }
 
 impl Fault {
@@ -23,7 +23,7 @@ impl Fault {
             Fault::Ends => 7,
             Fault::Form => 8,
             Fault::Left => 9,
-            Fault::Room => 14,
+            Fault::Output => 14,
         }
     }
 }

@@ -1,17 +1,17 @@
 -- `rows_fit`: a division tells what a product, which might not fit, would.
-use Prim.Native.Nat.{◌*◌, ◌-◌, ◌≤◌}
+use Rattle.std.proofs.Common.{◌+◌, ◌*◌, ◌-◌, ◌/◌, ◌≤◌, arith}
+use Rattle.std.proofs.lemmas.Bool.{leb-true, leb-false}
+use lib.Dec.{leb}
 use native.Mathlib.Nat.{le-div_iff_mul-le}
-use native.Mathlib.Omega.{arith}
+use Rattle.exports.proofs.TimeCacheCLaws.Tested.{told_as}
 use Rattle.exports.proofs.time_cache_c.rows_fit.Goals as goal
 
-pub returns-then-to-from : goal.returns-then-to-from
-returns-then-to-from c = λ h. omega (arith, c.if-to-from.true)
-
-pub returns-then-n-to : goal.returns-then-n-to
-returns-then-n-to c = omega (arith, (le-div_iff_mul-le c.requires).0 c.if-n-to.true, c.if-to-from.false)
-
-pub returns : goal.returns
-returns c =
-    λ h.
-    let fits : c.args.n * c.args.s ≤ c.args.to - c.args.from = omega arith in
-    omega (arith, (le-div_iff_mul-le c.requires).1 fits, c.if-n-to.false)
+pub returns-then-rows-end : goal.returns-then-rows-end
+returns-then-rows-end c =
+    let rows = c.args.rows in
+    let most = (c.args.end - rows.at) / rows.stride in
+    told_as (rows.at + rows.len * rows.stride ≤ c.args.end) (leb rows.len most)
+    (λ e. omega (arith, (le-div_iff_mul-le c.requires).0 (leb-true rows.len most e), c.if-rows-end.true))
+    (λ e h.
+    let fits : rows.len * rows.stride ≤ c.args.end - rows.at = omega (arith, h) in
+    omega (arith, (le-div_iff_mul-le c.requires).1 fits, leb-false rows.len most e))

@@ -4,7 +4,7 @@ use mathlib.Core.Bool.{Bool}
 use Prim.Native.Nat.{ℕ, ◌+◌, ◌%◌, ◌<◌}
 use lib.ListN.{get_or, set, length-set}
 use Rattle.storage.specs.Rows.Ident.{id_of}
-use Rattle.storage.specs.Notes.Chains.{id_at, bucket_of, bucket, TellsNew}
+use Rattle.storage.specs.Buckets.{id_at, bucket_of, bucket, TellsNew}
 use Rattle.storage.proofs.NotesLaws.Walks.{in-range, Heads, heads-start, heads-more, chained-start, chained_more, once-start, once_more, once-not}
 use native.Mathlib.Omega.{arith}
 use borrow.Author.Rules.{rules}
@@ -34,7 +34,7 @@ loop-i-preserved c =
     let e : h ≡ bucket cs b l.i = c.bucket_of-h.ensures ∙ ap (λ (v : ℕ). bucket_of v (get_or cs l.i 0)) c.load_id-x.ensures in
     let m : h < 1024 = below (goal.at.loop-i-preserved c).After-bucket_of-h in
     let small : (l.i + 1) % 65536 ≡ l.i + 1 = omega (arith, c.requires.0, c.loop-i-test.true) in
-    let t = subst (λ (v : Bool). TellsNew cs b l.i (get_or cs l.i 0) (id_of c.load_id-x.result) v) c.if-ok.true c.is_new-ok.ensures in (
+    let t = subst (λ (v : Bool). TellsNew cs b l.i (get_or cs l.i 0) (id_of c.load_id-x.result) v) c.if-not-is_new.false c.is_new.ensures in (
       search rules,
       subst (λ (v : ℕ). Heads cs b (l.i + 1) (set l.head h v)) (sym small) (heads-more cs b l.head l.next l.i h l.invariant.1 e m),
       chained_more cs b l.head l.next l.i h l.invariant.1 e m l.invariant.2 (omega (arith, l.invariant.3, c.requires.0, c.loop-i-test.true)),
@@ -42,11 +42,11 @@ loop-i-preserved c =
       once_more cs b l.i (get_or cs l.i 0) (id_of c.load_id-x.result) l.invariant.4 refl c.load_id-x.ensures t,
     )
 
-pub returns-else-ok : goal.returns-else-ok
+pub returns-then-not-is_new : goal.returns-then-not-is_new
 unfolding id_at
-returns-else-ok c =
+returns-then-not-is_new c =
     let l = c.loop-i in
     let cs = c.args.c.now in
     let b = c.args.b.now in
-    let t = subst (λ (v : Bool). TellsNew cs b l.i (get_or cs l.i 0) (id_of c.load_id-x.result) v) c.if-ok.false c.is_new-ok.ensures in
+    let t = subst (λ (v : Bool). TellsNew cs b l.i (get_or cs l.i 0) (id_of c.load_id-x.result) v) c.if-not-is_new.true c.is_new.ensures in
     once-not cs b l.i c.args.n (get_or cs l.i 0) (id_of c.load_id-x.result) c.loop-i-test.true refl c.load_id-x.ensures t

@@ -2,7 +2,7 @@
 use mathlib.Core.Path.{◌≡◌}
 use Prim.Native.Nat.{◌-◌, ◌≤◌}
 use lib.ListN.{length}
-use Rattle.storage.specs.Notes.Chains.{Chained, Once}
+use Rattle.storage.specs.Buckets.{Chained, Once}
 use Rattle.storage.proofs.NotesLaws.Walks.{Heads}
 use Rattle.storage.proofs.notes.once.Given as goal
 

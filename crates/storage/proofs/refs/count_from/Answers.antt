@@ -1,4 +1,4 @@
--- `count_from`: of the first i rows, j name none of the first k. The measure is n - i.
+-- `count_from`: of the first i rows, `later` name none of the first k.
 use mathlib.Core.Path.{◌≡◌, refl, sym, ap, ◌∙◌}
 use mathlib.Core.List.{[]}
 use Prim.Native.Nat.{ℕ, ◌+◌, ◌*◌, ◌≤◌, ◌<◌}
@@ -14,7 +14,7 @@ use Rattle.storage.proofs.ListsLaws.Firsts.{count-keep, count-drop}
 use native.Mathlib.Omega.{arith}
 use borrow.Author.Rules.{rules}
 use Rattle.storage.proofs.refs.count_from.Goals as goal
-use Rattle.storage.proofs.refs.count_from.Goals.{After-load2-p, In-loop-i}
+use Rattle.storage.proofs.refs.count_from.Goals.{After-load2-place, In-loop-i, then-k-place, else-k-place}
 
 -- the row that is read lies in the slice
 room : (c : In-loop-i)
@@ -23,39 +23,36 @@ room : (c : In-loop-i)
 room c = row-end c.args.stride c.args.n c.loop-i.i c.loop-i-test.true
 
 -- the place that was read
-was : (c : After-load2-p)
-    → c.load2-p.result ≡ (get_or (refs c.args.stride c.args.n c.args.e.now) c.loop-i.i (ref 0 [])).place
+was : (c : After-load2-place)
+    → c.load2-place.result ≡ (get_or (refs c.args.stride c.args.n c.args.bytes.now) c.loop-i.i (ref 0 [])).place
 was c =
-    c.load2-p.ensures.0 ∙ sym (place_in c.args.stride c.args.n c.loop-i.i (ref 0 []) c.args.e.now c.requires.0 c.loop-i-test.true)
+    c.load2-place.ensures.0 ∙ sym (place_in c.args.stride c.args.n c.loop-i.i (ref 0 []) c.args.bytes.now c.requires.0 c.loop-i-test.true)
 
 pub loop-i-init : goal.loop-i-init
 unfolding count
-loop-i-init c = (search rules, search rules, refl)
-
-pub loop-i-preserved-then-k-p : goal.loop-i-preserved-then-k-p
-loop-i-preserved-then-k-p c =
-    let l = c.loop-i in
-    let rs = refs c.args.stride c.args.n c.args.e.now in
-    let h : l.i < length rs = omega (arith, length-refs c.args.stride c.args.n c.args.e.now, c.loop-i-test.true) in (
-      omega arith,
-      omega arith,
-      ap (λ (x : ℕ). x + 1) l.invariant.2
-          ∙ sym (count-keep (names c.args.k) l.i (ref 0 []) rs h (ap (leb c.args.k) (sym (was (goal.at.loop-i-preserved-then-k-p c).After-load2-p)) ∙ le-leb c.args.k c.load2-p.result c.if-k-p.true)),
-    )
+loop-i-init c = (search rules, refl)
 
 pub loop-i-preserved : goal.loop-i-preserved
 loop-i-preserved c =
     let l = c.loop-i in
-    let rs = refs c.args.stride c.args.n c.args.e.now in
-    let h : l.i < length rs = omega (arith, length-refs c.args.stride c.args.n c.args.e.now, c.loop-i-test.true) in (
-      omega arith,
-      omega arith,
-      l.invariant.2
-          ∙ sym (count-drop (names c.args.k) l.i (ref 0 []) rs h (ap (leb c.args.k) (sym (was (goal.at.loop-i-preserved c).After-load2-p)) ∙ lt-leb c.args.k c.load2-p.result c.if-k-p.false)),
-    )
+    let rs = refs c.args.stride c.args.n c.args.bytes.now in
+    let h : l.i < length rs = omega (arith, length-refs c.args.stride c.args.n c.args.bytes.now, c.loop-i-test.true) in
+    let d = (goal.at.loop-i-preserved c).After-load2-place in
+    elim c.if-k-place.branch [
+      | then-k-place w ↦ (
+        omega arith,
+        w.later-is ∙ ap (λ (x : ℕ). x + 1) l.invariant.1
+            ∙ sym (count-keep (names c.args.k) l.i (ref 0 []) rs h (ap (leb c.args.k) (sym (was d)) ∙ le-leb c.args.k c.load2-place.result w.if-k-place.true)),
+      )
+      | else-k-place w ↦ (
+        omega arith,
+        w.later-is ∙ l.invariant.1
+            ∙ sym (count-drop (names c.args.k) l.i (ref 0 []) rs h (ap (leb c.args.k) (sym (was d)) ∙ lt-leb c.args.k c.load2-place.result w.if-k-place.false)),
+      )
+    ]
 
 pub returns : goal.returns
 returns c =
     let l = c.loop-i in
-    let rs = refs c.args.stride c.args.n c.args.e.now in
-    l.invariant.2 ∙ ap (count (names c.args.k)) (take_all l.i rs (omega (arith, length-refs c.args.stride c.args.n c.args.e.now, c.loop-i-test.false)))
+    let rs = refs c.args.stride c.args.n c.args.bytes.now in
+    l.invariant.1 ∙ ap (count (names c.args.k)) (take_all l.i rs (omega (arith, length-refs c.args.stride c.args.n c.args.bytes.now, c.loop-i-test.false)))

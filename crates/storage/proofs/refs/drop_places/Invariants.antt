@@ -1,14 +1,10 @@
--- `drop_places`: of the first i rows, those that are left stand first (`Going`). The measure is n - i.
+-- `drop_places`: of the first i rows, those that are left stand first (`Going`).
 use mathlib.Core.Path.{◌≡◌}
 use mathlib.Core.List.{[]}
-use Prim.Native.Nat.{◌-◌}
 use lib.ListN.{length}
 use Rattle.storage.specs.Refs.Refs.{ref, refs, names, lowered}
 use Rattle.storage.proofs.RowsLaws.Kept.{Going}
 use Rattle.storage.proofs.refs.drop_places.Given as goal
 
 abbrev pub invariant-loop-i : goal.invariant-loop-i
-invariant-loop-i l = Going (names l.k) (lowered l.k) (ref 0 []) (refs l.stride l.n l.initial.e) (refs l.stride l.n l.e) l.j l.i × (length l.e ≡ length l.initial.e)
-
-abbrev pub decreases-loop-i : goal.decreases-loop-i
-decreases-loop-i l = l.n - l.i
+invariant-loop-i l = Going (names l.k) (lowered l.k) (ref 0 []) (refs l.stride l.n l.initial.bytes) (refs l.stride l.n l.bytes) l.kept l.i × (length l.bytes ≡ length l.initial.bytes)

@@ -1,4 +1,4 @@
--- `make_room`: the first j rows are renamed, the others are as they were. The measure is n - j.
+-- `make_room`: the first j rows are renamed, the others are as they were.
 use mathlib.Core.Path.{◌≡◌, refl, sym, ap, ◌∙◌}
 use mathlib.Core.List.{List, [], ◌∷◌}
 use Prim.Native.Nat.{ℕ, ◌+◌, ◌*◌, ◌≤◌, ◌<◌}
@@ -9,9 +9,8 @@ use Rattle.storage.proofs.RefsLaws.Places.{length-refs, length-places, place_in,
 use Rattle.storage.proofs.RowsLaws.Rows.{row-end}
 use Rattle.storage.proofs.RefsLaws.Shifts.{done, done-start, done-read, done_more, done_all, shifted-le}
 use native.Mathlib.Omega.{arith}
-use borrow.Author.Rules.{rules}
 use Rattle.storage.proofs.refs.make_room.Goals as goal
-use Rattle.storage.proofs.refs.make_room.Goals.{After-load2-p, In-loop-j}
+use Rattle.storage.proofs.refs.make_room.Goals.{After-load2-place, In-loop-j}
 
 -- the row that is read lies in the slice
 room : (c : In-loop-j)
@@ -20,52 +19,51 @@ room : (c : In-loop-j)
 room c = row-end c.args.stride c.args.n c.loop-j.j c.loop-j-test.true
 
 -- the row of which the place was read is as it was, and the place is below 65535
-was : (c : After-load2-p)
-    → (c.load2-p.result ≡ (get_or (refs c.args.stride c.args.n c.args.e.now) c.loop-j.j (ref 0 [])).place)
-    × (c.load2-p.result < 65535)
-    × (get_or (refs c.args.stride c.args.n c.loop-j.e) c.loop-j.j (ref 0 [])
-    ≡ get_or (refs c.args.stride c.args.n c.args.e.now) c.loop-j.j (ref 0 []))
+was : (c : After-load2-place)
+    → (c.load2-place.result ≡ (get_or (refs c.args.stride c.args.n c.args.bytes.now) c.loop-j.j (ref 0 [])).place)
+    × (c.load2-place.result < 65535)
+    × (get_or (refs c.args.stride c.args.n c.loop-j.bytes) c.loop-j.j (ref 0 [])
+    ≡ get_or (refs c.args.stride c.args.n c.args.bytes.now) c.loop-j.j (ref 0 []))
 was c =
     let l = c.loop-j in
-    let rs = refs c.args.stride c.args.n c.args.e.now in
+    let rs = refs c.args.stride c.args.n c.args.bytes.now in
     let t = c.loop-j-test.true in
-    let k = length-refs c.args.stride c.args.n c.args.e.now in
-    let r : get_or (refs c.args.stride c.args.n l.e) l.j (ref 0 []) ≡ get_or rs l.j (ref 0 []) =
-    ap (λ (q : List Ref). get_or q l.j (ref 0 [])) l.invariant.1 ∙ done-read (moved c.args.i) (ref 0 []) rs l.j (omega (arith, t, k)) in
-    let e : c.load2-p.result ≡ (get_or rs l.j (ref 0 [])).place =
-    c.load2-p.ensures.0 ∙ sym (place_in c.args.stride c.args.n l.j (ref 0 []) l.e c.requires.0 t) ∙ ap (λ (x : Ref). x.place) r in (
+    let k = length-refs c.args.stride c.args.n c.args.bytes.now in
+    let r : get_or (refs c.args.stride c.args.n l.bytes) l.j (ref 0 []) ≡ get_or rs l.j (ref 0 []) =
+    ap (λ (q : List Ref). get_or q l.j (ref 0 [])) l.invariant.0 ∙ done-read (moved c.args.i) (ref 0 []) rs l.j (omega (arith, t, k)) in
+    let e : c.load2-place.result ≡ (get_or rs l.j (ref 0 [])).place =
+    c.load2-place.ensures.0 ∙ sym (place_in c.args.stride c.args.n l.j (ref 0 []) l.bytes c.requires.0 t) ∙ ap (λ (x : Ref). x.place) r in (
       e,
-      omega (arith, e, get_or-map-in (λ (x : Ref). x.place) rs l.j 0 (ref 0 []) (omega (arith, t, k)), c.requires.2.below l.j (omega (arith, t, length-places c.args.stride c.args.n c.args.e.now))),
+      omega (arith, e, get_or-map-in (λ (x : Ref). x.place) rs l.j 0 (ref 0 []) (omega (arith, t, k)), c.requires.2.below l.j (omega (arith, t, length-places c.args.stride c.args.n c.args.bytes.now))),
       r,
     )
 
 pub loop-j-init : goal.loop-j-init
-loop-j-init c = (search rules, done-start (moved c.args.i) (ref 0 []) (refs c.args.stride c.args.n c.args.e.now), refl)
+loop-j-init c = (done-start (moved c.args.i) (ref 0 []) (refs c.args.stride c.args.n c.args.bytes.now), refl)
 
-pub shift-q-requires : goal.shift-q-requires
-shift-q-requires c = omega (arith, (was c).1)
+pub shift-requires : goal.shift-requires
+shift-requires c = omega (arith, (was (goal.at.shift-requires c).After-load2-place).1)
 
 pub loop-j-preserved : goal.loop-j-preserved
 loop-j-preserved c =
     let l = c.loop-j in
-    let rs = refs c.args.stride c.args.n c.args.e.now in
-    let es = refs c.args.stride c.args.n l.e in
+    let rs = refs c.args.stride c.args.n c.args.bytes.now in
+    let es = refs c.args.stride c.args.n l.bytes in
     let h = c.loop-j-test.true in
-    let v = c.shift-q.result in
-    let e : v ≡ shifted c.args.i (get_or rs l.j (ref 0 [])).place = c.shift-q.ensures ∙ ap (shifted c.args.i) (was (goal.at.loop-j-preserved c).After-load2-p).0 in (
-      search rules,
+    let v = c.shift.result in
+    let e : v ≡ shifted c.args.i (get_or rs l.j (ref 0 [])).place = c.shift.ensures ∙ ap (shifted c.args.i) (was (goal.at.loop-j-preserved c).After-load2-place).0 in (
       ap (refs c.args.stride c.args.n) c.store_le.ensures
-          ∙ store-place c.args.stride c.args.n l.j v (ref 0 []) l.e c.requires.0 h (omega (arith, l.invariant.2)) (omega (arith, shifted-le c.args.i c.load2-p.result, c.shift-q.ensures, (was (goal.at.loop-j-preserved c).After-load2-p).1))
-          ∙ ap (λ (x : Ref). put l.j (ref v x.own ∷ []) es) (was (goal.at.loop-j-preserved c).After-load2-p).2
+          ∙ store-place c.args.stride c.args.n l.j v (ref 0 []) l.bytes c.requires.0 h (omega (arith, l.invariant.1)) (omega (arith, shifted-le c.args.i c.load2-place.result, c.shift.ensures, (was (goal.at.loop-j-preserved c).After-load2-place).1))
+          ∙ ap (λ (x : Ref). put l.j (ref v x.own ∷ []) es) (was (goal.at.loop-j-preserved c).After-load2-place).2
           ∙ ap (λ (x : ℕ). put l.j (ref x (get_or rs l.j (ref 0 [])).own ∷ []) es) e
-          ∙ ap (λ (q : List Ref). put l.j (moved c.args.i (get_or rs l.j (ref 0 [])) ∷ []) q) l.invariant.1
-          ∙ done_more (moved c.args.i) (ref 0 []) rs l.j (omega (arith, h, length-refs c.args.stride c.args.n c.args.e.now)),
-      c.store_le.auto.b ∙ l.invariant.2,
+          ∙ ap (λ (q : List Ref). put l.j (moved c.args.i (get_or rs l.j (ref 0 [])) ∷ []) q) l.invariant.0
+          ∙ done_more (moved c.args.i) (ref 0 []) rs l.j (omega (arith, h, length-refs c.args.stride c.args.n c.args.bytes.now)),
+      c.store_le.auto.bytes ∙ l.invariant.1,
     )
 
 pub returns : goal.returns
 returns c =
     let l = c.loop-j in
-    let rs = refs c.args.stride c.args.n c.args.e.now in
+    let rs = refs c.args.stride c.args.n c.args.bytes.now in
     let e : l.j ≡ c.args.n = omega (arith, c.loop-j-test.false) in
-    l.invariant.1 ∙ ap (λ (k : ℕ). done (moved c.args.i) (ref 0 []) rs k) e ∙ done_all (moved c.args.i) (ref 0 []) rs c.args.n (length-refs c.args.stride c.args.n c.args.e.now)
+    l.invariant.0 ∙ ap (λ (k : ℕ). done (moved c.args.i) (ref 0 []) rs k) e ∙ done_all (moved c.args.i) (ref 0 []) rs c.args.n (length-refs c.args.stride c.args.n c.args.bytes.now)

@@ -4,8 +4,8 @@ use Rattle.storage.proofs.RefsLaws.Shifts.{shifted-low, shifted-high}
 use native.Mathlib.Omega.{arith}
 use Rattle.storage.proofs.refs.shift.Goals as goal
 
-pub returns-then-p-i : goal.returns-then-p-i
-returns-then-p-i c = sym (shifted-low c.args.i c.args.p (omega arith))
+pub returns-then-place-i : goal.returns-then-place-i
+returns-then-place-i c = sym (shifted-low c.args.i c.args.place (omega arith))
 
 pub returns : goal.returns
-returns c = sym (shifted-high c.args.i c.args.p (omega arith))
+returns c = sym (shifted-high c.args.i c.args.place (omega arith))

@@ -20,7 +20,7 @@ pub returns : goal.returns
 returns c =
     let a = c.args in
     ap (expiry_rows a.stride (a.m + 1)) (c.store_id.ensures
-    ∙ ap (put (a.i * a.stride + 8) (be_bytes 32 (id_of a.key))) (c.store.ensures
-    ∙ ap (put (a.i * a.stride) (le_bytes 8 a.time.0)) c.insert_row.ensures))
-    ∙ row-added a.stride a.m a.i a.time.0 (id_of a.key) a.x.now c.requires.0 c.requires.1 c.requires.2 (omega (arith, c.well_formed))
-    (id-lt a.key.w0 a.key.w1 a.key.w2 a.key.w3 (omega (arith, c.well_formed)) (omega (arith, c.well_formed)) (omega (arith, c.well_formed)) (omega (arith, c.well_formed)))
+    ∙ ap (put (a.i * a.stride + 8) (be_bytes 32 (id_of a.expiry.key))) (c.store.ensures
+    ∙ ap (put (a.i * a.stride) (le_bytes 8 a.expiry.time.0)) c.insert_row.ensures))
+    ∙ row-added a.stride a.m a.i a.expiry.time.0 (id_of a.expiry.key) a.x.now c.requires.0 c.requires.1 c.requires.2 (omega (arith, c.well_formed))
+    (id-lt a.expiry.key.w0 a.expiry.key.w1 a.expiry.key.w2 a.expiry.key.w3 (omega (arith, c.well_formed)) (omega (arith, c.well_formed)) (omega (arith, c.well_formed)) (omega (arith, c.well_formed)))

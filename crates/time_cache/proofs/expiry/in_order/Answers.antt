@@ -6,9 +6,8 @@ use lib.ListN.{get_or}
 use Rattle.storage.proofs.RowsLaws.Rows.{row-end}
 use Rattle.time_cache.specs.Tables.{expiry_rows, expiry_of, no_expiry}
 use Rattle.time_cache.proofs.Orders.{of_rising, not-rising}
-use Rattle.time_cache.proofs.ExpiryLaws.{length-expiries, expiry-time, rising-start, rising-more, rising-done, rising-not}
+use Rattle.time_cache.proofs.ExpiryLaws.{length-expiries, expiry-time, rising-more, rising-done, rising-not}
 use native.Mathlib.Omega.{arith}
-use borrow.Author.Rules.{rules}
 use Rattle.time_cache.proofs.expiry.in_order.Goals as goal
 use Rattle.time_cache.proofs.expiry.in_order.Goals.{After-load-t, In-loop-i}
 

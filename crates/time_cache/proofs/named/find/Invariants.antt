@@ -6,7 +6,7 @@ use Rattle.time_cache.proofs.NamedLaws.{keys_in}
 use Rattle.time_cache.proofs.named.find.Given as goal
 
 abbrev pub invariant-loop-lo : goal.invariant-loop-lo
-invariant-loop-lo l = Bracket (keys_in l.stride l.n l.e l.width l.m l.x) (id_of l.key) l.lo l.hi
+invariant-loop-lo l = Bracket (keys_in l.places.stride l.places.len l.places.bytes.now l.expiry.stride l.expiry.len l.expiry.bytes.now) (id_of l.key) l.lo l.hi
 
 abbrev pub decreases-loop-lo : goal.decreases-loop-lo
 decreases-loop-lo l = l.hi - l.lo

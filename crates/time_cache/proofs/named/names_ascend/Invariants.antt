@@ -7,7 +7,7 @@ use Rattle.time_cache.proofs.NamedLaws.{Seen}
 use Rattle.time_cache.proofs.named.names_ascend.Given as goal
 
 abbrev pub invariant-loop-i : goal.invariant-loop-i
-invariant-loop-i l = (0 < l.i) × (l.p < l.m) × (l.p ≡ le_nat (part ((l.i - 1) * l.stride) 2 l.e)) × Seen l.stride l.n l.e l.width l.m l.x l.i
+invariant-loop-i l = (0 < l.i) × (l.p < l.expiry.len) × (l.p ≡ le_nat (part ((l.i - 1) * l.places.stride) 2 l.places.bytes.now)) × Seen l.places.stride l.places.len l.places.bytes.now l.expiry.stride l.expiry.len l.expiry.bytes.now l.i
 
 abbrev pub decreases-loop-i : goal.decreases-loop-i
-decreases-loop-i l = l.n - l.i
+decreases-loop-i l = l.places.len - l.i

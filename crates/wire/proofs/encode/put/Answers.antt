@@ -1,5 +1,5 @@
 use Rattle.std.proofs.Common.{◌∙◌}
-use Rattle.wire.proofs.EncodeLaws.HeldLaws.{put_is, put_place, put_name, out_room}
+use Rattle.wire.proofs.EncodeLaws.IntakeLaws.{put_is, put_place, put_name, out_room}
 use Rattle.wire.proofs.encode.put.Goals as goal
 
 pub encode-requires : goal.encode-requires

@@ -1,4 +1,4 @@
-use Rattle.wire.proofs.EncodeLaws.HeldLaws.{counted_is, counted_room}
+use Rattle.wire.proofs.EncodeLaws.IntakeLaws.{counted_is, counted_room}
 use Rattle.wire.proofs.encode.size.Goals as goal
 
 pub encode-requires : goal.encode-requires

@@ -4,8 +4,8 @@ use Rattle.storage.proofs.RefsLaws.Shifts.{shifted-low, shifted-high}
 use native.Mathlib.Omega.{arith}
 use Rattle.storage.proofs.refs.renumber.raise.Goals as goal
 
-pub returns-then-l-i : goal.returns-then-l-i
-returns-then-l-i c = sym (shifted-low c.args.i c.args.l (omega arith))
+pub returns-then-number-i : goal.returns-then-number-i
+returns-then-number-i c = sym (shifted-low c.args.i c.args.number (omega arith))
 
 pub returns : goal.returns
-returns c = sym (shifted-high c.args.i c.args.l (omega arith))
+returns c = sym (shifted-high c.args.i c.args.number (omega arith))

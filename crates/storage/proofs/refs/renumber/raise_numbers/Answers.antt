@@ -1,4 +1,4 @@
--- `renumber::raise_numbers`: the first j numbers are raised, the rest is as it was. The measure is n - j.
+-- `renumber::raise_numbers`: the first j numbers are raised, the rest is as it was.
 use mathlib.Core.Path.{◌≡◌, refl, ap, ◌∙◌}
 use mathlib.Core.List.{List}
 use Prim.Native.Nat.{ℕ, ◌+◌, ◌<◌}
@@ -7,35 +7,33 @@ use Rattle.storage.specs.Refs.Refs.{shifted}
 use Rattle.storage.proofs.RowsLaws.Parts.{get_d_part, length_part}
 use Rattle.storage.proofs.RefsLaws.Raised.{raised-start, raised-read, raised-more}
 use native.Mathlib.Omega.{arith}
-use borrow.Author.Rules.{rules}
 use Rattle.storage.proofs.refs.renumber.raise_numbers.Goals as goal
 use Rattle.storage.proofs.refs.renumber.raise_numbers.Goals.{After-slice_known-in-loop-j-1}
 
 -- the number that is read is as it was, and below 255
 was : (c : After-slice_known-in-loop-j-1)
-    → (get_or c.loop-j.b (c.args.at + c.loop-j.j) 0
-    ≡ get_or c.args.b.now (c.args.at + c.loop-j.j) 0)
-    × (get_or c.args.b.now (c.args.at + c.loop-j.j) 0 < 255)
+    → (get_or c.loop-j.bytes (c.args.at + c.loop-j.j) 0
+    ≡ get_or c.args.bytes.now (c.args.at + c.loop-j.j) 0)
+    × (get_or c.args.bytes.now (c.args.at + c.loop-j.j) 0 < 255)
 was c =
     let l = c.loop-j in
-    let xs = c.args.b.now in
+    let xs = c.args.bytes.now in
     let t = c.loop-j-test.true in (
-      ap (λ (b : List ℕ). get_or b (c.args.at + l.j) 0) l.invariant.1 ∙ raised-read c.args.i c.args.at xs l.j (omega (arith, t, c.requires.0)),
+      ap (λ (b : List ℕ). get_or b (c.args.at + l.j) 0) l.invariant.0 ∙ raised-read c.args.i c.args.at xs l.j (omega (arith, t, c.requires.0)),
       omega (arith, get_d_part c.args.at c.args.n l.j 0 xs t, c.requires.1.below l.j (omega (arith, t, length_part c.args.at c.args.n xs c.requires.0))),
     )
 
 pub loop-j-init : goal.loop-j-init
-loop-j-init c = (search rules, raised-start c.args.i c.args.at c.args.b.now, refl)
+loop-j-init c = (raised-start c.args.i c.args.at c.args.bytes.now, refl)
 
-pub raise-l-requires : goal.raise-l-requires
-raise-l-requires c = omega (arith, (was c).0, (was c).1)
+pub raise-requires : goal.raise-requires
+raise-requires c = omega (arith, (was c).0, (was c).1)
 
 pub loop-j-preserved : goal.loop-j-preserved
 loop-j-preserved c =
     let l = c.loop-j in
-    let xs = c.args.b.now in
-    let e : c.raise-l.result ≡ shifted c.args.i (get_or xs (c.args.at + l.j) 0) = c.raise-l.ensures ∙ ap (shifted c.args.i) (was (goal.at.loop-j-preserved c).After-slice_known-in-loop-j-1).0 in (
-      search rules,
-      (λ z. set (l.invariant.1 z) (c.args.at + l.j) (e z)) ∙ raised-more c.args.i c.args.at xs l.j (omega (arith, c.loop-j-test.true, c.requires.0)),
-      length-set l.b (c.args.at + l.j) c.raise-l.result ∙ l.invariant.2,
+    let xs = c.args.bytes.now in
+    let e : c.raise.result ≡ shifted c.args.i (get_or xs (c.args.at + l.j) 0) = c.raise.ensures ∙ ap (shifted c.args.i) (was (goal.at.loop-j-preserved c).After-slice_known-in-loop-j-1).0 in (
+      (λ z. set (l.invariant.0 z) (c.args.at + l.j) (e z)) ∙ raised-more c.args.i c.args.at xs l.j (omega (arith, c.loop-j-test.true, c.requires.0)),
+      length-set l.bytes (c.args.at + l.j) c.raise.result ∙ l.invariant.1,
     )

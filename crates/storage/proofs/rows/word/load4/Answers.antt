@@ -5,4 +5,4 @@ use Rattle.storage.proofs.rows.word.load4.Goals as goal
 
 pub returns : goal.returns
 returns c =
-    (omega (arith, le_nat-part c.args.at 2 2 c.args.b.now (omega arith), c.load2.ensures, c.load2-2.ensures), omega (arith, c.load2.ensures, c.load2-2.ensures))
+    (omega (arith, le_nat-part c.args.at 2 2 c.args.bytes.now (omega arith), c.load2.ensures, c.load2-2.ensures), omega (arith, c.load2.ensures, c.load2-2.ensures))

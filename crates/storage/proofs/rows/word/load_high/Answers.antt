@@ -11,4 +11,4 @@ use Rattle.storage.proofs.rows.word.load_high.Goals as goal
 pub returns : goal.returns
 returns c =
     c.turn8.ensures ∙ ap (λ (v : ℕ). turned 8 v) c.load.ensures
-    ∙ turned-bytes (part c.args.at 8 c.args.b.now) 8 (length_part c.args.at 8 c.args.b.now c.requires) (part_bytes c.args.at 8 c.args.b.now (λ i. omega (arith, c.shared_slice_known-1.given i)))
+    ∙ turned-bytes (part c.args.at 8 c.args.bytes.now) 8 (length_part c.args.at 8 c.args.bytes.now c.requires) (part_bytes c.args.at 8 c.args.bytes.now (λ i. omega (arith, c.shared_slice_known-1.given i)))

@@ -11,5 +11,5 @@ use Rattle.storage.proofs.rows.word.store_high.Goals as goal
 pub returns : goal.returns
 returns c =
     c.store.ensures
-    ∙ ap (λ (w : ℕ). put c.args.at (le_bytes 8 w) c.args.b.now) c.turn8-w.ensures
-    ∙ ap (λ (l : List ℕ). put c.args.at l c.args.b.now) (turned-written 8 c.args.v (omega (arith, c.well_formed)))
+    ∙ ap (λ (w : ℕ). put c.args.at (le_bytes 8 w) c.args.bytes.now) c.turn8.ensures
+    ∙ ap (λ (l : List ℕ). put c.args.at l c.args.bytes.now) (turned-written 8 c.args.value (omega (arith, c.well_formed)))

@@ -4,4 +4,4 @@ use native.Mathlib.Omega.{arith}
 use Rattle.storage.proofs.rows.word.turn2.Goals as goal
 
 pub returns : goal.returns
-returns c = (turned_two c.args.v, omega arith)
+returns c = (turned_two c.args.value, omega arith)

@@ -11,11 +11,11 @@ pub returns-in-There : goal.returns-in-There
 returns-in-There c =
     let k = c.args.self in
     let xs = c.args.block.now in
-    let g = subst (λ (o : Got). GotIs k xs (id_of c.args.key) o) c.in-There.is c.get-g.ensures in
-    ap (ltb c.args.instant.0) c.expires-t.ensures ∙ sym (holds_later k xs c.requires.1 (id_of c.args.key) c.args.instant.0 _ g.value)
+    let g = subst (λ (o : Got). GotIs k xs (id_of c.args.key) o) c.in-There.is c.get.ensures in
+    ap (ltb c.args.instant.0) c.expires.ensures ∙ sym (holds_later k xs c.requires.1 (id_of c.args.key) c.args.instant.0 _ g.value)
 
 pub returns-in-Nothing : goal.returns-in-Nothing
 returns-in-Nothing c =
     let k = c.args.self in
     let xs = c.args.block.now in
-    sym (not-later k xs c.requires.1 (id_of c.args.key) c.args.instant.0 (subst (λ (o : Got). GotIs k xs (id_of c.args.key) o) c.in-Nothing.is c.get-g.ensures))
+    sym (not-later k xs c.requires.1 (id_of c.args.key) c.args.instant.0 (subst (λ (o : Got). GotIs k xs (id_of c.args.key) o) c.in-Nothing.is c.get.ensures))

@@ -29,8 +29,8 @@ returns c =
     let w = k.entries.stride in
     let n = k.entries.len in
     let z = n * w in
-    let zs = c.drop_places.new.e in
-    let lz : length zs ≡ z = c.drop_places.auto.e ∙ (lent (goal.at.returns c).Start).1 in
+    let zs = c.drop_places.new.bytes in
+    let lz : length zs ≡ z = c.drop_places.auto.bytes ∙ (lent (goal.at.returns c).Start).1 in
     let q = c.drop_places.result in
     record {
       count = c.drop_places.ensures.0;

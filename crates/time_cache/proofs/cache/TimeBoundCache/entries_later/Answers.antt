@@ -2,12 +2,12 @@
 use mathlib.Core.Path.{sym, ap, ◌∙◌}
 use Rattle.storage.specs.Lists.Base.{count}
 use Rattle.storage.specs.Refs.Refs.{names}
-use Rattle.time_cache.proofs.BlockLaws.{refs-open, entries-long}
+use Rattle.time_cache.proofs.BlockLaws.{refs-open}
 use Rattle.time_cache.proofs.ReadLaws.{count_entries}
 use Rattle.time_cache.proofs.cache.TimeBoundCache.entries_later.Goals as goal
 
 pub returns : goal.returns
 returns c =
     c.count_from.ensures
-    ∙ ap (count (names c.due-k.result)) (refs-open c.args.self c.args.block.now)
-    ∙ sym (count_entries c.args.self c.args.block.now c.requires.1 c.args.instant.0 c.due-k.result c.due-k.ensures)
+    ∙ ap (count (names c.due-due.result)) (refs-open c.args.self c.args.block.now)
+    ∙ sym (count_entries c.args.self c.args.block.now c.requires.1 c.args.instant.0 c.due-due.result c.due-due.ensures)

@@ -30,13 +30,13 @@ lent s =
       refs-lent c.entries.stride c.entries.len c.entries.at (c.entries.at + k - c.entries.at) xs (omega (arith, e)),
     )
 
-pub returns-then-m-i : goal.returns-then-m-i
-returns-then-m-i c =
+pub returns-then-self-i : goal.returns-then-self-i
+returns-then-self-i c =
     let k = c.args.self in
     let xs = c.args.block.now in
     record {
-      refs = sym (moved_none c.args.i k.expiry.len (refs_at k xs) c.if-m-i.true (of-below k.expiry.len _ c.requires.1));
-      only = only_same k.entries.at (k.entries.len * k.entries.stride) xs (lent (goal.at.returns-then-m-i c).Start).0;
+      refs = sym (moved_none c.args.i k.expiry.len (refs_at k xs) c.if-self-i.true (of-below k.expiry.len _ c.requires.1));
+      only = only_same k.entries.at (k.entries.len * k.entries.stride) xs (lent (goal.at.returns-then-self-i c).Start).0;
     }
 
 pub make_room-requires : goal.make_room-requires
@@ -57,8 +57,8 @@ returns c =
     let xs = c.args.block.now in
     let a = k.entries.at in
     let z = k.entries.len * k.entries.stride in
-    let zs = c.make_room.new.e in
-    let lz : length zs ≡ z = c.make_room.auto.e ∙ (lent (goal.at.returns c).Start).1 in
+    let zs = c.make_room.new.bytes in
+    let lz : length zs ≡ z = c.make_room.auto.bytes ∙ (lent (goal.at.returns c).Start).1 in
     record {
       refs = refs-back k.entries.stride k.entries.len a (a + z - a) zs xs (omega (arith, lz)) (omega (arith, (lent (goal.at.returns c).Start).0))
           ∙ c.make_room.ensures

@@ -2,11 +2,10 @@
 use mathlib.Core.Path.{◌≡◌, ap, ◌∙◌}
 use mathlib.Core.List.{List, ◌∷◌, ◌++◌}
 use Prim.Native.Nat.{ℕ, ◌+◌, ◌-◌, ◌*◌, ◌≤◌}
-use native.Mathlib.Nat.{mul_comm, one-mul}
 use lib.ListN.{length, take, drop}
 use Rattle.storage.specs.Rows.Part.{part}
 use Rattle.storage.proofs.RowsLaws.Parts.{length_part}
-use Rattle.storage.proofs.RowsLaws.Rows.{mul-more, mul-up}
+use Rattle.storage.proofs.RowsLaws.Rows.{mul-more}
 use Rattle.storage.specs.Refs.Refs.{Ref, ref_of, refs}
 use Rattle.storage.proofs.RefsLaws.Places.{refs-opened}
 use Rattle.time_cache.proofs.LoanLaws.{refs-lent, refs-back, size_of, only-back}
@@ -37,8 +36,8 @@ returns c =
     let n = k.entries.len in
     let z = (n + 1) * w in
     let j = c.args.j in
-    let zs = c.insert_row.new.b in
-    let lz : length zs ≡ z = c.insert_row.auto.b ∙ (lent (goal.at.returns c).Start).1 in
+    let zs = c.insert_row.new.bytes in
+    let lz : length zs ≡ z = c.insert_row.auto.bytes ∙ (lent (goal.at.returns c).Start).1 in
     let old : List ℕ = part a (a + z - a) xs in
     record {
       gap = ref_of (part (j * w) w old);

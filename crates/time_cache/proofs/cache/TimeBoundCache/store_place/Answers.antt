@@ -16,8 +16,8 @@ use Rattle.time_cache.proofs.cache.TimeBoundCache.store_place.Goals as goal
 use Rattle.time_cache.proofs.cache.TimeBoundCache.store_place.Goals.{Start}
 
 -- the row lies in the block
-room : (s : Start) → s.args.j * s.args.self.entries.stride + s.args.self.entries.stride ≤ s.args.self.entries.len * s.args.self.entries.stride
-room s = row-end s.args.self.entries.stride s.args.self.entries.len s.args.j s.requires.1
+room : (s : Start) → s.args.entry * s.args.self.entries.stride + s.args.self.entries.stride ≤ s.args.self.entries.len * s.args.self.entries.stride
+room s = row-end s.args.self.entries.stride s.args.self.entries.len s.args.entry s.requires.1
 
 pub returns : goal.returns
 returns c =
@@ -26,8 +26,8 @@ returns c =
     let a = k.entries.at in
     let w = k.entries.stride in
     let n = k.entries.len in
-    let j = c.args.j in
-    let i = c.args.i in
+    let j = c.args.entry in
+    let i = c.args.row in
     record {
       refs = ap (λ (ys : List ℕ). refs w n (drop a ys)) c.store_le.ensures
           ∙ ap (refs w n) (put-drop a (j * w) (le_bytes 2 i) xs (omega (arith, c.requires.0)))

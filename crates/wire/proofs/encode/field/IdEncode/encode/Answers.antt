@@ -1,12 +1,12 @@
 use Rattle.std.proofs.Common.{◌∙◌, ap, List, ℕ, rules}
-use Rattle.wire.specs.Encode.Held.{after}
-use Rattle.wire.proofs.EncodeLaws.HeldLaws.{four_after}
+use Rattle.wire.specs.Encode.Intake.{after}
+use Rattle.wire.proofs.EncodeLaws.IntakeLaws.{four_after}
 use Rattle.wire.proofs.EncodeLaws.IdLaws.{id_words}
 use Rattle.wire.proofs.encode.field.IdEncode.encode.Goals as goal
 
 pub returns : goal.returns
 returns g c =
-    let h = g.S.Sink.held c.args.out.now in
+    let h = g.S.Sink.intake c.args.out.now in
     c.bytes-4.ensures
     ∙ ap (after c.to_be_bytes-4.result) (c.bytes-3.ensures
     ∙ ap (after c.to_be_bytes-3.result) (c.bytes-2.ensures

@@ -1,10 +1,10 @@
 -- The groups of w are left to write (`Left`). The measure is w.
 use Rattle.std.proofs.Common.{arith}
-use Rattle.wire.proofs.EncodeLaws.HeldLaws.{left_start, left-room, left-more, left-last}
+use Rattle.wire.proofs.EncodeLaws.IntakeLaws.{left_start, left-room, left-more, left-last}
 use Rattle.wire.proofs.encode.field.U64Encode.encode.Goals as goal
 
 pub loop-w-init : goal.loop-w-init
-loop-w-init g c = left_start c.args.self.now (g.S.Sink.held c.args.out.now) (omega arith) c.requires
+loop-w-init g c = left_start c.args.self.now (g.S.Sink.intake c.args.out.now) (omega arith) c.requires
 
 pub byte-requires : goal.byte-requires
 byte-requires g c = left-room c.loop-w.invariant

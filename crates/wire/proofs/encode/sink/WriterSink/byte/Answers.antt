@@ -1,4 +1,4 @@
-use Rattle.wire.proofs.EncodeLaws.HeldLaws.{set_after, room_place}
+use Rattle.wire.proofs.EncodeLaws.IntakeLaws.{set_after, room_place}
 use Rattle.wire.proofs.encode.sink.WriterSink.byte.Goals as goal
 
 pub returns : goal.returns

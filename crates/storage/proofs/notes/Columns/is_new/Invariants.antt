@@ -1,10 +1,10 @@
 -- `is_new`: a walk along the chain (`Walk`). The measure is the place on it.
 use Rattle.storage.specs.Rows.Ident.{id_of}
 use Rattle.storage.proofs.NotesLaws.Walks.{Walk}
-use Rattle.storage.proofs.notes.is_new.Given as goal
+use Rattle.storage.proofs.notes.Columns.is_new.Given as goal
 
 abbrev pub invariant-loop-j : goal.invariant-loop-j
-invariant-loop-j l = Walk l.c l.b l.i l.l (id_of l.x) l.j
+invariant-loop-j l = Walk l.self.links.now l.self.rows.now l.i l.pair.link (id_of l.pair.id) l.j
 
 abbrev pub decreases-loop-j : goal.decreases-loop-j
 decreases-loop-j l = l.j

@@ -14,22 +14,22 @@ use Rattle.postcard.specs.Number.{groups, number_bytes, id_bytes}
 use Rattle.postcard.proofs.Lengths.{length-id}
 use Rattle.postcard.proofs.Writes.{last-group, next-group}
 use Rattle.std.proofs.lemmas.List.{append-nil, take_more_set, drop-set-lt, take-append-drop}
-use Rattle.wire.specs.Encode.Held.{Held, counted, written, after, room_of}
+use Rattle.wire.specs.Encode.Intake.{Intake, counted, written, after, space_of}
 
 -- two pieces are one
-pub after_append : (xs ys : List ℕ) (h : Held) → after ys (after xs h) ≡ after (xs ++ ys) h
+pub after_append : (xs ys : List ℕ) (h : Intake) → after ys (after xs h) ≡ after (xs ++ ys) h
 unfolding after
 after_append xs ys (counted n) = ap counted (omega (arith, length-append xs ys))
 after_append xs ys (written come left name) = rw (append_assoc, drop-drop (length ys) (length xs) left, length-append xs ys) refl
 
-pub after_nil : (h : Held) → after [] h ≡ h
+pub after_nil : (h : Intake) → after [] h ≡ h
 unfolding after
 after_nil (counted n) = ap counted (omega arith)
 after_nil (written come left name) = rw append-nil refl
 
 -- the room that a piece leaves
-pub room_after : (xs : List ℕ) (h : Held) → room_of (after xs h) ≡ room_of h - length xs
-unfolding after room_of
+pub room_after : (xs : List ℕ) (h : Intake) → space_of (after xs h) ≡ space_of h - length xs
+unfolding after space_of
 room_after xs (counted n) = omega arith
 room_after xs (written come left name) = length-drop (length xs) left
 
@@ -49,33 +49,33 @@ pub id_long : (id : ℕ) → length (id_bytes id) ≡ 32
 id_long id = length-id id
 
 -- there is room in the output
-pub room_place : (at b : ℕ) (come out : List ℕ) (name : GName) → length (b ∷ []) ≤ room_of (written come (drop at out) name) → at < length out
-unfolding room_of
+pub room_place : (at b : ℕ) (come out : List ℕ) (name : GName) → length (b ∷ []) ≤ space_of (written come (drop at out) name) → at < length out
+unfolding space_of
 room_place at b come out name r = let e : length (drop at out) ≡ length out - at = length-drop at out in omega (arith, r, e)
 
 -- a number under way: the groups of w are left
-pub record Left (v w : ℕ) (before now : Held) : Type 0 where
+pub record Left (v w : ℕ) (before now : Intake) : Type 0 where
   pub more : ℕ
   pub same : after (groups more w) now ≡ after (number_bytes v) before
-  pub room : length (groups more w) ≤ room_of now
+  pub room : length (groups more w) ≤ space_of now
   pub small : w < 128 ^ suc more
 
-pub left_start : (v : ℕ) (h : Held) → v < 2 ^ 64 → length (number_bytes v) ≤ room_of h → Left v v h h
+pub left_start : (v : ℕ) (h : Intake) → v < 2 ^ 64 → length (number_bytes v) ≤ space_of h → Left v v h h
 unfolding number_bytes
 left_start v h s r = record { more = 9; same = refl; room = r; small = omega arith }
 
-module _ {v w : ℕ} {before now : Held} (l : Left v w before now) where
-  pub left-room : 1 ≤ room_of now
+module _ {v w : ℕ} {before now : Intake} (l : Left v w before now) where
+  pub left-room : 1 ≤ space_of now
   left-room = omega (arith, l.room, groups-some l.more w)
 
-  pub left-more : (next : Held) → 128 ≤ w → next ≡ after ((w % 128 + 128) ∷ []) now → Left v (w / 128) before next
+  pub left-more : (next : Intake) → 128 ≤ w → next ≡ after ((w % 128 + 128) ∷ []) now → Left v (w / 128) before next
   left-more next h e = step l.more l.same l.room l.small
     where
-      step : (more : ℕ) → after (groups more w) now ≡ after (number_bytes v) before → length (groups more w) ≤ room_of now → w < 128 ^ suc more → Left v (w / 128) before next
+      step : (more : ℕ) → after (groups more w) now ≡ after (number_bytes v) before → length (groups more w) ≤ space_of now → w < 128 ^ suc more → Left v (w / 128) before next
       step zero a r s = absurd (omega arith)
       step (suc more) a r s =
           let g : groups (suc more) w ≡ (w % 128 + 128) ∷ groups more (w / 128) = next-group more w h in
-          let k : suc (length (groups more (w / 128))) ≤ room_of now = rw g at r in
+          let k : suc (length (groups more (w / 128))) ≤ space_of now = rw g at r in
           rw e (record {
             more = more;
             same = after_append ((w % 128 + 128) ∷ []) (groups more (w / 128)) now ∙ ap (λ (x : List ℕ). after x now) (sym g) ∙ a;
@@ -83,7 +83,7 @@ module _ {v w : ℕ} {before now : Held} (l : Left v w before now) where
             small = omega (arith, pow-suc 128 (suc more));
           })
 
-  pub left-last : (next : Held) → w < 128 → next ≡ after (w ∷ []) now → next ≡ after (number_bytes v) before
+  pub left-last : (next : Intake) → w < 128 → next ≡ after (w ∷ []) now → next ≡ after (number_bytes v) before
   left-last next h e = e ∙ ap (λ (x : List ℕ). after x now) (sym (last-group l.more w h)) ∙ l.same
 
 -- a byte set at the place is put there
@@ -100,9 +100,9 @@ unfolding after
 copy_after at n bs out name h e =
     rw (take-put_mid at n out bs (at + length bs) refl (omega arith), drop-put_mid at n out bs (at + length bs) (omega arith) (omega arith) (sym e), drop-drop (length bs) at out) refl
 
-pub four_after : (a b c d : List ℕ) (h : Held) → after d (after c (after b (after a h))) ≡ after (a ++ b ++ c ++ d) h
+pub four_after : (a b c d : List ℕ) (h : Intake) → after d (after c (after b (after a h))) ≡ after (a ++ b ++ c ++ d) h
 four_after a b c d h =
-    ap (λ (x : Held). after d (after c x)) (after_append a b h)
+    ap (λ (x : Intake). after d (after c x)) (after_append a b h)
     ∙ ap (after d) (after_append (a ++ b) c h)
     ∙ after_append (a ++ b ++ c) d h
 
@@ -113,8 +113,8 @@ counted_is n bs e = omega (arith, k)
     k : n ≡ 0 + length bs
     k = cc
 
-pub counted_room : (bs : List ℕ) → length bs < 2 ^ 64 → length bs ≤ room_of (counted 0)
-unfolding room_of
+pub counted_room : (bs : List ℕ) → length bs < 2 ^ 64 → length bs ≤ space_of (counted 0)
+unfolding space_of
 counted_room bs h = omega arith
 
 -- what the output holds once the writer is done with it
@@ -144,6 +144,6 @@ module _ (at at' : ℕ) (bs before now : List ℕ) (name name' : GName) (e : wri
       k : name' ≡ name
       k = cc
 
-pub out_room : (at : ℕ) (bs before : List ℕ) (name : GName) → at + length bs ≤ length before → length bs ≤ room_of (written (take at before) (drop at before) name)
-unfolding room_of
+pub out_room : (at : ℕ) (bs before : List ℕ) (name : GName) → at + length bs ≤ length before → length bs ≤ space_of (written (take at before) (drop at before) name)
+unfolding space_of
 out_room at bs before name h = let d : length (drop at before) ≡ length before - at = length-drop at before in omega (arith, d, h)

@@ -2,13 +2,12 @@
 -- Assumes nothing.
 use mathlib.Core.Path.{◌≡◌, refl, ap, ◌∙◌}
 use mathlib.Core.Bool.{Bool, true, false, ◌&&◌}
-use mathlib.Core.List.{List, [], ◌∷◌}
-use mathlib.Core.Option.{Option, none, some}
+use mathlib.Core.List.{List}
 use Prim.Native.Nat.{ℕ, ◌≤◌}
 use borrow.Author.Tests.{leb-true}
 use lib.Dec.{leb}
 use lib.ListN.{length}
-use Rattle.std.specs.Prelude.{if◌then◌else◌}
+use Rattle.std.specs.Prelude.{if◌then◌else◌, Option, Some, None}
 use Rattle.storage.proofs.ListsLaws.MapLaws.{and_left, and_right, and_intro}
 use Rattle.protocol.specs.State.{State, limits_in_range, block_need}
 use Rattle.protocol.specs.Whole.{whole, long_enough, whole_state}
@@ -21,16 +20,15 @@ use Rattle.block.specs.Header.{word_at, head_in}
 use Rattle.block.specs.declared.head.Head.{Head}
 use Rattle.whole.specs.Held.{has_header, has_tables, counts_within, laid_out, holds_with, held, whole_held, whole_block}
 use Rattle.whole.proofs.HeldLaws.{Wholly}
-use Rattle.whole.proofs.Tests.{conj}
 use Rattle.alike.proofs.Lists.{and_no}
 
 -- a block that is not whole
-no-state : (n : ℕ) (o : Option State) → whole_held o ≡ false → whole_state n o ≡ none
+no-state : (n : ℕ) (o : Option State) → whole_held o ≡ false → whole_state n o ≡ None
 unfolding whole_held whole_state
-no-state n none e = refl
-no-state n (some s) e = ap (λ (b : Bool). if b then some s else none) (and_no (long_enough n s) (whole s) e)
+no-state n None e = refl
+no-state n (Some s) e = ap (λ (b : Bool). if b then Some s else None) (and_no (long_enough n s) (whole s) e)
 
-pub not-whole : (xs : List ℕ) → whole_block xs ≡ false → whole_state (length xs) (held xs) ≡ none
+pub not-whole : (xs : List ℕ) → whole_block xs ≡ false → whole_state (length xs) (held xs) ≡ None
 unfolding whole_block
 not-whole xs e = no-state (length xs) (held xs) e
 
@@ -51,21 +49,13 @@ module _ (xs : List ℕ) (w : Wholly xs) where
       (and_left (has_tables (limits_of h.limits) xs) (counts_within (limits_of h.limits) h.live)
       (and_left (has_tables (limits_of h.limits) xs && counts_within (limits_of h.limits) h.live) (laid_out h (tables (limits_of h.limits) xs)) w.holds))
 
-  pub whole-state : whole_state (length xs) (held xs) ≡ some (state_of (head_in xs) xs)
+  pub whole-state : whole_state (length xs) (held xs) ≡ Some (state_of (head_in xs) xs)
   unfolding whole_state
   whole-state =
       let s : State = state_of (head_in xs) xs in
-      ap (whole_state (length xs)) w.state ∙ ap (λ (b : Bool). if b then some s else none) (and_intro {a = long_enough (length xs) s} {b = whole s} long w.whole)
+      ap (whole_state (length xs)) w.state ∙ ap (λ (b : Bool). if b then Some s else None) (and_intro {a = long_enough (length xs) s} {b = whole s} long w.whole)
 
-pub second-not : (o : Option State) → likeness_of o none ≡ not_whole
+pub second-not : (o : Option State) → likeness_of o None ≡ not_whole
 unfolding likeness_of
-second-not none = refl
-second-not (some s) = refl
-
--- the tests of the three caches, one after the other
-pub six : (a b c d e f : Bool) → (a && b && (c && d) && (e && f)) ≡ conj a (b ∷ c ∷ d ∷ e ∷ f ∷ [])
-six true true true true e f = refl
-six true true true false e f = refl
-six true true false d e f = refl
-six true false c d e f = refl
-six false b c d e f = refl
+second-not None = refl
+second-not (Some s) = refl

@@ -56,8 +56,8 @@ missed-read h xs i a fit q e =
     ∙ ap be_nat (field_in l 9 129 i 0 32 xs (lit< tt) (omega arith) (omega (arith, fit.within.missing)) ∙ ap (λ (b : ℕ). part b 32 xs) (sym w)))
 
 -- a link's peer is its key
-pub peer-key : (s : State) (i : ℕ) → peer_at s i ≡ (link_at s i).key
-peer-key s i = get_or-map (λ (e : Entry Mark). e.key) s.links i (entry 0 eager)
+pub peer_key : (s : State) (i : ℕ) → peer_at s i ≡ (link_at s i).key
+peer_key s i = get_or-map (λ (e : Entry Mark). e.key) s.links i (entry 0 eager)
 
 -- how many missing messages and timers there are
 pub count-missing : (h : Head) (xs : List ℕ) → length (state_of h xs).missing ≡ h.live.missing

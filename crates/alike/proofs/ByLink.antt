@@ -27,16 +27,16 @@ use Rattle.block.specs.NoteSteps.{note, LinkIs}
 use Rattle.block.specs.declared.head.Head.{Head}
 use Rattle.block.specs.declared.note.Note.{Note as LinkNote}
 use Rattle.block.proofs.NoteLaws.{count-queue, count-dropped, queue-link, record-link}
-use Rattle.alike.specs.Notes.{notes_of, count_of, same_inside, same_for, NextOf}
-use Rattle.alike.specs.declared.by_link.Notes.{Notes}
-use Rattle.alike.specs.declared.by_link.Notes.TheVariants.{Queue, Record}
+use Rattle.alike.specs.NoteTable.{notes_of, count_of, same_inside, same_for, NextOf}
+use Rattle.alike.specs.declared.by_link.NoteTable.{NoteTable}
+use Rattle.alike.specs.declared.by_link.NoteTable.TheVariants.{Queue, Record}
 
 -- how many notes there are, and that each is for a link
-pub count-of : (of : Notes) (h : Head) (xs : List ℕ) → Sound h xs → length (notes_of of (state_of h xs)) ≡ count_of of h.live
+pub count-of : (of : NoteTable) (h : Head) (xs : List ℕ) → Sound h xs → length (notes_of of (state_of h xs)) ≡ count_of of h.live
 count-of Queue h xs sound = count-queue h xs sound
 count-of Record h xs sound = count-dropped h xs sound
 
-link-of : (of : Notes) (h : Head) (xs : List ℕ) → Sound h xs → (i : ℕ) → i < count_of of h.live → (r : ℕ) × LinkIs h xs (notes_of of (state_of h xs)) i r
+link-of : (of : NoteTable) (h : Head) (xs : List ℕ) → Sound h xs → (i : ℕ) → i < count_of of h.live → (r : ℕ) × LinkIs h xs (notes_of of (state_of h xs)) i r
 link-of Queue h xs sound i q = (_, queue-link h xs sound i q)
 link-of Record h xs sound i q = (_, record-link h xs sound i q)
 
@@ -124,7 +124,7 @@ notes-no p xs ys e =
     (λ t. t)
 
 -- the notes of every link agree
-module _ (of : Notes) (ha : Head) (a : List ℕ) (hb : Head) (b : List ℕ) (sound : Sound ha a) (sound' : Sound hb b) where
+module _ (of : NoteTable) (ha : Head) (a : List ℕ) (hb : Head) (b : List ℕ) (sound : Sound ha a) (sound' : Sound hb b) where
   abbrev xs : List Note
   xs = notes_of of (state_of ha a)
 

@@ -1,9 +1,9 @@
 -- Rows of the tables that are kept in order, and all rows of one.
 -- Assumes nothing.
+use Rattle.std.specs.Prelude.{None}
 use mathlib.Core.Path.{◌≡◌, refl, sym, ap, ◌∙◌}
 use mathlib.Core.Bool.{Bool, true, false, ◌&&◌}
 use mathlib.Core.List.{List, []}
-use mathlib.Core.Option.{none}
 use Prim.Native.Nat.{ℕ, ◌<◌}
 use native.Mathlib.Omega.{arith}
 use borrow.Author.Tests.{eq-eqb}
@@ -93,7 +93,7 @@ module _ (h : Head) (xs : List ℕ) (sound : Sound h xs) (i : ℕ) where
   pub grafted-key : i < h.live.grafted → key_at (grafted_cache h) xs i ≡ key_of (grafted_at (state_of h xs) i)
   unfolding state_of grafted_in
   grafted-key q =
-      sym (ap key_of (entry_read l 7 119 h.live.grafted 8 40 h.live.grafted_rows xs (lit< tt) (omega (arith, f)) (lit< tt) (omega (arith, f)) (grafts_of (keys (state_of h xs).links)) i (entry 0 (record { expires = 0; value = record { first = none; kept = none; peers = [] } })) q))
+      sym (ap key_of (entry_read l 7 119 h.live.grafted 8 40 h.live.grafted_rows xs (lit< tt) (omega (arith, f)) (lit< tt) (omega (arith, f)) (grafts_of (keys (state_of h xs).links)) i (entry 0 (record { expires = 0; value = record { first = None; kept = None; peers = [] } })) q))
 
   pub cached-asks : i < h.live.cached → Asks (cached_cache h) xs i
   cached-asks q = (cached-lies h xs f, place_read l 4 4 h.live.cached 5 48 h.live.cached_rows xs (lit< tt) (omega (arith, f)) (lit< tt) (omega (arith, f)) nothing_of sound.laid.cached, q)
@@ -108,7 +108,7 @@ abbrev no_received : Entry (Timed (Unit {0}))
 no_received = entry 0 (record { expires = 0; value = tt })
 
 abbrev no_grafted : Entry (Timed Grafts)
-no_grafted = entry 0 (record { expires = 0; value = record { first = none; kept = none; peers = [] } })
+no_grafted = entry 0 (record { expires = 0; value = record { first = None; kept = None; peers = [] } })
 
 abbrev no_cached : Entry (Timed Cached)
 no_cached = entry 0 (record { expires = 0; value = record { content = []; round = 0 } })

@@ -4,14 +4,13 @@ use mathlib.Core.Path.{◌≡◌, refl, sym, ap, ◌∙◌}
 use mathlib.Core.Logic.{◌⊎◌, inl, inr}
 use mathlib.Core.Bool.{Bool, true, false, not, ◌&&◌, beq}
 use mathlib.Core.List.{List, [], ◌∷◌, map}
-use mathlib.Core.Option.{none}
 use Prim.Native.Nat.{ℕ, zero, suc, ◌+◌, ◌-◌, ◌≤◌, ◌<◌, zero-le, suc-le-suc}
 use native.Mathlib.Nat.{le_of_suc-le-suc, not-suc-le-zero}
 use native.Mathlib.Omega.{arith}
 use borrow.Author.Tests.{eq-eqb, eqb-true}
 use lib.Dec.{eqb}
 use lib.ListN.{length, get_or}
-use Rattle.std.specs.Prelude.{if◌then◌else◌}
+use Rattle.std.specs.Prelude.{if◌then◌else◌, None}
 use Rattle.storage.specs.Lists.Map.{Map, keys}
 use Rattle.storage.proofs.ListsLaws.MapLaws.{true≢, and_left, and_right, and_intro}
 use Rattle.storage.specs.Rows.Part.{part}
@@ -22,7 +21,7 @@ use Rattle.storage.proofs.RowsLaws.Turns.{part_bytes}
 use Rattle.storage.proofs.RefsLaws.Shifts.{low_or_high}
 use Rattle.time_cache.specs.TimeCache.{Expiry}
 use Rattle.protocol.specs.Links.{Mark, eager, lazy, is_eager}
-use Rattle.protocol.specs.State.{Hop}
+use Rattle.protocol.specs.State.{State, Hop}
 use Rattle.protocol.specs.Alike.{same_list, same_map, same_option, same_mark, same_hop, same_expiry}
 use Rattle.block.specs.View.{flag_of, only_if}
 use Rattle.alike.specs.Elements.{element, same_element, hop_element, graft_element, expiry_element}
@@ -39,14 +38,6 @@ and-no-left a b h = ap (λ (t : Bool). t && b) h
 pub and_yes : (a : Bool) → (a && true) ≡ a
 and_yes true = refl
 and_yes false = refl
-
-pub beq-true : (y : Bool) → beq true y ≡ y
-beq-true true = refl
-beq-true false = refl
-
-pub beq-false : (y : Bool) → beq false y ≡ not y
-beq-false true = refl
-beq-false false = refl
 
 -- element by element
 module _ {A : Type 0} (p : A → A → Bool) (d : A) where
@@ -92,17 +83,17 @@ pub no-round : (t u k l : ℕ) → same_element (element t k 0) (element u l 0) 
 unfolding same_element
 no-round t u k l = ap (λ (b : Bool). eqb t u && eqb k l && b) (eq-eqb 0 0 refl) ∙ and_yes (eqb t u && eqb k l)
 
-pub list-hops : (xs ys : List Hop) → same_list same_element (map hop_element xs) (map hop_element ys) ≡ same_list same_hop xs ys
+pub list_hops : (xs ys : List Hop) → same_list same_element (map hop_element xs) (map hop_element ys) ≡ same_list same_hop xs ys
 unfolding same_hop
-list-hops xs ys = list-map same_element same_hop hop_element (λ x y. no-id x.peer y.peer x.round y.round) xs ys
+list_hops xs ys = list-map same_element same_hop hop_element (λ x y. no-id x.peer y.peer x.round y.round) xs ys
 
-pub list-grafts : (xs ys : Map ℕ) → same_list same_element (map graft_element xs) (map graft_element ys) ≡ same_map eqb xs ys
+pub list_grafts : (xs ys : Map ℕ) → same_list same_element (map graft_element xs) (map graft_element ys) ≡ same_map eqb xs ys
 unfolding same_map
-list-grafts xs ys = list-map same_element (same_entry eqb) graft_element (λ x y. no-id x.key y.key x.value y.value) xs ys
+list_grafts xs ys = list-map same_element (same_entry eqb) graft_element (λ x y. no-id x.key y.key x.value y.value) xs ys
 
-pub list-expiry : (xs ys : List Expiry) → same_list same_element (map expiry_element xs) (map expiry_element ys) ≡ same_list same_expiry xs ys
+pub list_expiry : (xs ys : List Expiry) → same_list same_element (map expiry_element xs) (map expiry_element ys) ≡ same_list same_expiry xs ys
 unfolding same_expiry
-list-expiry xs ys = list-map same_element same_expiry expiry_element (λ x y. no-round x.time y.time x.key y.key) xs ys
+list_expiry xs ys = list-map same_element same_expiry expiry_element (λ x y. no-round x.time y.time x.key y.key) xs ys
 
 -- maps that agree have the same keys
 pub same_keys : {A : Type 0} (same : A → A → Bool) (m n : Map A) → same_map same m n ≡ true → keys m ≡ keys n
@@ -115,6 +106,10 @@ same_keys same (d ∷ m) (e ∷ n) h =
     let rest : Bool = same_map same m n in
     λ k. eqb-true d.key e.key (and_left (eqb d.key e.key) (same d.value e.value) (and_left here rest h)) k ∷ same_keys same m n (and_right here rest h) k
 
+-- links that are the same have the same peers
+pub links_keys : (s t : State) → same_map same_mark s.links t.links ≡ true → keys s.links ≡ keys t.links
+links_keys s t = same_keys same_mark s.links t.links
+
 -- a flag in a byte
 pub flag_is : (b : ℕ) → not (eqb b 0) ≡ flag_of b
 flag_is b = go (eqb b 0)
@@ -124,17 +119,17 @@ flag_is b = go (eqb b 0)
     go false = refl
 
 -- of senders, none is there but perhaps the second
-pub none-there : (b : Bool) (q : Hop) → same_option same_hop none (only_if b q) ≡ not b
+pub none-there : (b : Bool) (q : Hop) → same_option same_hop None (only_if b q) ≡ not b
 unfolding same_option
 none-there true q = refl
 none-there false q = refl
 
-pub mark-same : (m n : Mark) → beq (is_eager m) (is_eager n) ≡ same_mark m n
+pub mark_same : (m n : Mark) → beq (is_eager m) (is_eager n) ≡ same_mark m n
 unfolding same_mark
-mark-same eager eager = refl
-mark-same eager lazy = refl
-mark-same lazy eager = refl
-mark-same lazy lazy = refl
+mark_same eager eager = refl
+mark_same eager lazy = refl
+mark_same lazy eager = refl
+mark_same lazy lazy = refl
 
 -- words of bytes that agree
 module _ (i : ℕ) (xs ys : List ℕ) (bytes : Bytes xs) (bytes' : Bytes ys) (h : i + 8 ≤ length xs) (h' : i + 8 ≤ length ys) (e : le_nat (part i 8 xs) ≡ le_nat (part i 8 ys)) where

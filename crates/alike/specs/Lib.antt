@@ -1,5 +1,5 @@
 -- What the comparison of two blocks is said by.
 pub mod Elements
-pub mod Notes
+pub mod NoteTable
 pub mod Rows
 pub mod Answer

@@ -1,7 +1,6 @@
 -- The tables of a state that are kept in order: one row of each compared, and all of them.
 -- Assumes nothing.
-use Rattle.std.specs.Prelude.{ℕ, ◌<◌, Bool, ◌&&◌, ◌≡◌, List, [], eqb, get_or}
-use Rattle.std.proofs.Math.Option.{Option}
+use Rattle.std.specs.Prelude.{ℕ, ◌<◌, Bool, ◌&&◌, ◌≡◌, List, [], eqb, get_or, Option}
 use Rattle.storage.specs.Lists.Map.{Entry, entry}
 use Rattle.time_cache.specs.TimeCache.{Timed}
 use Rattle.protocol.specs.State.{State, Hop, Cached}

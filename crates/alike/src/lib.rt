@@ -16,7 +16,7 @@ ghost use Rattle.alike.specs.Answer.{answered};
 
 use block::head::{Head, Limits, Settings};
 use block::header;
-use by_link::Notes;
+use by_link::NoteTable;
 use sequences::Sequence;
 use tables::Table;
 
@@ -33,15 +33,15 @@ pub enum Answer {
 fn same_settings(a: Settings, b: Settings) -> bool
     ensures { result ≡ same_settings (settings_of a) (settings_of b) }
 {
-    let c = a.config;
-    let d = b.config;
-    c.graft_timeout_1.0 == d.graft_timeout_1.0
-        && c.graft_timeout_2.0 == d.graft_timeout_2.0
-        && c.dispatch_timeout.0 == d.dispatch_timeout.0
-        && c.optimization_threshold.0 == d.optimization_threshold.0
-        && c.message_cache_retention.0 == d.message_cache_retention.0
-        && c.message_id_retention.0 == d.message_id_retention.0
-        && c.cache_evict_interval.0 == d.cache_evict_interval.0
+    let x = a.config;
+    let y = b.config;
+    x.graft_timeout_1.0 == y.graft_timeout_1.0
+        && x.graft_timeout_2.0 == y.graft_timeout_2.0
+        && x.dispatch_timeout.0 == y.dispatch_timeout.0
+        && x.optimization_threshold.0 == y.optimization_threshold.0
+        && x.message_cache_retention.0 == y.message_cache_retention.0
+        && x.message_id_retention.0 == y.message_id_retention.0
+        && x.cache_evict_interval.0 == y.cache_evict_interval.0
         && a.max_message_size == b.max_message_size
         && a.me == b.me
 }
@@ -67,63 +67,38 @@ fn same_limits(a: Limits, b: Limits) -> bool
 fn same_flags(ha: Head, a: &[u8], hb: Head, b: &[u8]) -> bool
     ensures { result ≡ same_flags (state_of ha a.now) (state_of hb b.now) }
 {
-    let v = ha.live;
-    let w = hb.live;
-    tables::same_flag(v.init, w.init)
-        && tables::same_flag(v.dispatch_timer_scheduled, w.dispatch_timer_scheduled)
-        && tables::same_flag(v.announce_dropped_scheduled, w.announce_dropped_scheduled)
+    let x = ha.live;
+    let y = hb.live;
+    tables::same_flag(x.init, y.init)
+        && tables::same_flag(x.dispatch_timer_scheduled, y.dispatch_timer_scheduled)
+        && tables::same_flag(x.announce_dropped_scheduled, y.announce_dropped_scheduled)
 }
 
 // "sets .. and maps": links, queue, record, announcers, graft timers.
+#[tactic(auto, unfolding(protocol::specs::Alike::same_tables), using(crate::proofs::Lists::links_keys))]
 fn same_tables(ha: Head, a: &[u8], hb: Head, b: &[u8]) -> bool
     requires { Sound ha a.now × LinksAscend ha a.now × Sound hb b.now × LinksAscend hb b.now }
     ensures { result ≡ same_tables (state_of ha a.now) (state_of hb b.now) }
 {
-    let links = tables::same_rows(Table::Links, ha, a, hb, b);
-    if !links {
-        return false;
-    }
-    let queue = by_link::same_notes(Notes::Queue, ha, a, hb, b);
-    if !queue {
-        return false;
-    }
-    let record = by_link::same_notes(Notes::Record, ha, a, hb, b);
-    if !record {
-        return false;
-    }
-    let missing = tables::same_rows(Table::Missing, ha, a, hb, b);
-    if !missing {
-        return false;
-    }
-    tables::same_rows(Table::Timers, ha, a, hb, b)
+    tables::same_rows(Table::Links, ha, a, hb, b)
+        && by_link::same_notes(NoteTable::Queue, ha, a, hb, b)
+        && by_link::same_notes(NoteTable::Record, ha, a, hb, b)
+        && tables::same_rows(Table::Missing, ha, a, hb, b)
+        && tables::same_rows(Table::Timers, ha, a, hb, b)
 }
 
 // "maps": the three time caches.
+#[tactic(auto, unfolding(protocol::specs::Alike::same_caches, protocol::specs::Alike::same_cache), using(crate::proofs::Lists::list_expiry))]
 fn same_caches(ha: Head, a: &[u8], hb: Head, b: &[u8]) -> bool
     requires { Sound ha a.now × Sound hb b.now }
     ensures { result ≡ same_caches (state_of ha a.now) (state_of hb b.now) }
 {
-    let received = tables::same_rows(Table::Received, ha, a, hb, b);
-    if !received {
-        return false;
-    }
-    let received_expiry = sequences::same_sequence(Sequence::ReceivedExpiry, ha, a, hb, b);
-    if !received_expiry {
-        return false;
-    }
-    let grafted = tables::same_rows(Table::Grafted, ha, a, hb, b);
-    if !grafted {
-        return false;
-    }
-    let grafted_expiry = sequences::same_sequence(Sequence::GraftedExpiry, ha, a, hb, b);
-    if !grafted_expiry {
-        return false;
-    }
-    let cached = tables::same_rows(Table::Cached, ha, a, hb, b);
-    if !cached {
-        return false;
-    }
-    sequences::same_sequence(Sequence::CachedExpiry, ha, a, hb, b)
+    tables::same_rows(Table::Received, ha, a, hb, b)
+        && sequences::same_sequence(Sequence::ReceivedExpiry, ha, a, hb, b)
+        && tables::same_rows(Table::Grafted, ha, a, hb, b)
+        && sequences::same_sequence(Sequence::GraftedExpiry, ha, a, hb, b)
+        && tables::same_rows(Table::Cached, ha, a, hb, b)
+        && sequences::same_sequence(Sequence::CachedExpiry, ha, a, hb, b)
 }
 
 // The states of two blocks.

@@ -34,94 +34,69 @@ pub struct Item {
 }
 
 // Whether two elements are the same.
+#[tactic(auto, unfolding(crate::specs::Elements::same_element))]
 pub fn same(x: Item, y: Item) -> bool
     ensures { result ≡ same_element (element_of x) (element_of y) }
 {
-    if x.a != y.a {
-        return false;
-    }
-    let s = id::same(x.id, y.id);
-    if !s {
-        return false;
-    }
-    x.b == y.b
+    x.a == y.a && x.id == y.id && x.b == y.b
 }
 
-// Expiry row p of a time cache.
-pub fn row_item(c: TimeBoundCache, block: &[u8], p: usize) -> Item
-    requires { Lies c block.now × (p < c.expiry.len) }
-    ensures { element_of result ≡ expiry_element (expiry_of (row_at (rows_at c block.now) p)) }
+// An expiry row of a time cache, by its place.
+pub fn row_item(cache: TimeBoundCache, block: &[u8], place: usize) -> Item
+    requires { Lies cache block.now × (place < cache.expiry.len) }
+    ensures { element_of result ≡ expiry_element (expiry_of (row_at (rows_at cache block.now) place)) }
 {
-    let time = c.expires(block, p);
-    let at = c.expiry.at + p * c.expiry.stride;
-    let id = id::load_id(block, at + 8);
+    let at = cache.expiry.at + place * cache.expiry.stride;
     Item {
-        a: time.0,
-        id,
+        a: cache.expires(block, place).0,
+        id: id::load_id(block, at + 8),
         b: 0,
     }
 }
 
 // A peer and a round, by the number of the peer's link.
-fn hop_item(h: Head, block: &[u8], hop: Hop) -> Item
-    requires { Sound h block.now × (hop.link < h.live.links) }
-    ensures { element_of result ≡ element (peer_at (state_of h block.now) hop.link) 0 hop.round.0 }
+fn hop_item(head: Head, block: &[u8], hop: Hop) -> Item
+    requires { Sound head block.now × (hop.link < head.live.links) }
+    ensures { element_of result ≡ element (peer_at (state_of head block.now) hop.link) 0 hop.round.0 }
 {
-    let peer = links::peer_at(h, block, hop.link);
-    let round = hop.round.0 as u64;
-    let id = Id {
+    let none = Id {
         w0: 0,
         w1: 0,
         w2: 0,
         w3: 0,
     };
     Item {
-        a: peer,
-        id,
-        b: round,
+        a: links::peer_at(head, block, hop.link),
+        id: none,
+        b: hop.round.0 as u64,
     }
 }
 
 // How many elements a list has.
-fn size(of: Sequence, h: Head, block: &[u8]) -> usize
-    requires { Sound h block.now × InState of h.live }
-    ensures { result ≡ length (sequence_of of (state_of h block.now)) }
+fn size(of: Sequence, head: Head, block: &[u8]) -> usize
+    requires { Sound head block.now × InState of head.live }
+    ensures { result ≡ length (sequence_of of (state_of head block.now)) }
 {
     match of {
-        Sequence::ReceivedExpiry => h.live.received_rows,
-        Sequence::GraftedExpiry => h.live.grafted_rows,
-        Sequence::CachedExpiry => h.live.cached_rows,
-        Sequence::Announcers(i) => missing::announcers_of(h, block, i),
-        Sequence::GraftedPeers(i) => grafted::graft_count(h, block, i),
+        Sequence::ReceivedExpiry => head.live.received_rows,
+        Sequence::GraftedExpiry => head.live.grafted_rows,
+        Sequence::CachedExpiry => head.live.cached_rows,
+        Sequence::Announcers(i) => missing::announcers_of(head, block, i),
+        Sequence::GraftedPeers(i) => grafted::graft_count(head, block, i),
     }
 }
 
 // Element j of a list.
-fn item_at(of: Sequence, h: Head, block: &[u8], j: usize) -> Item
-    requires { Sound h block.now × InState of h.live × (j < length (sequence_of of (state_of h block.now))) }
-    ensures { element_of result ≡ get_or (sequence_of of (state_of h block.now)) j (element 0 0 0) }
+fn item_at(of: Sequence, head: Head, block: &[u8], j: usize) -> Item
+    requires { Sound head block.now × InState of head.live × (j < length (sequence_of of (state_of head block.now))) }
+    ensures { element_of result ≡ get_or (sequence_of of (state_of head block.now)) j (element 0 0 0) }
 {
     match of {
-        Sequence::ReceivedExpiry => {
-            let c = time_caches::received_cache(h);
-            row_item(c, block, j)
-        }
-        Sequence::GraftedExpiry => {
-            let c = time_caches::grafted_cache(h);
-            row_item(c, block, j)
-        }
-        Sequence::CachedExpiry => {
-            let c = time_caches::cached_cache(h);
-            row_item(c, block, j)
-        }
-        Sequence::Announcers(i) => {
-            let hop = missing::announcer_at(h, block, i, j);
-            hop_item(h, block, hop)
-        }
-        Sequence::GraftedPeers(i) => {
-            let hop = grafted::graft_at(h, block, i, j);
-            hop_item(h, block, hop)
-        }
+        Sequence::ReceivedExpiry => row_item(time_caches::received_cache(head), block, j),
+        Sequence::GraftedExpiry => row_item(time_caches::grafted_cache(head), block, j),
+        Sequence::CachedExpiry => row_item(time_caches::cached_cache(head), block, j),
+        Sequence::Announcers(i) => hop_item(head, block, missing::announcer_at(head, block, i, j)),
+        Sequence::GraftedPeers(i) => hop_item(head, block, grafted::graft_at(head, block, i, j)),
     }
 }
 
@@ -131,19 +106,13 @@ pub fn same_sequence(of: Sequence, ha: Head, a: &[u8], hb: Head, b: &[u8]) -> bo
     ensures { result ≡ same_list same_element (sequence_of of (state_of ha a.now)) (sequence_of of (state_of hb b.now)) }
 {
     let n = size(of, ha, a);
-    let m = size(of, hb, b);
-    if n != m {
+    if n != size(of, hb, b) {
         return false;
     }
-    let mut j = 0;
-    while j < n {
-        let x = item_at(of, ha, a, j);
-        let y = item_at(of, hb, b, j);
-        let s = same(x, y);
-        if !s {
+    for j in 0..n {
+        if !same(item_at(of, ha, a, j), item_at(of, hb, b, j)) {
             return false;
         }
-        j += 1;
     }
     true
 }

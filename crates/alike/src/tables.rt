@@ -37,6 +37,13 @@ pub enum Table {
     Cached,
 }
 
+// A row of a table, by its number.
+#[derive(Clone, Copy)]
+struct Place {
+    table: Table,
+    i: usize,
+}
+
 // The `first` of a grafted message, or its `kept`, which has no round: 0.
 #[derive(Clone, Copy)]
 pub struct Sender {
@@ -49,10 +56,7 @@ pub struct Sender {
 pub fn same_flag(x: bool, y: bool) -> bool
     ensures { result ≡ beq x y }
 {
-    if x {
-        return y;
-    }
-    !y
+    x == y
 }
 
 // A place up to which two lists of one length agree, told by words: fewer than eight bytes before their end, or at a word that differs.
@@ -60,12 +64,9 @@ fn same_words(a: &[u8], b: &[u8]) -> usize
     requires { length a.now ≡ length b.now }
     ensures { (result ≤ length a.now) × SameUpTo result a.now b.now }
 {
-    let n = a.len();
     let mut i = 0;
-    while 8 <= n - i {
-        let x = word::load(a, i);
-        let y = word::load(b, i);
-        if x != y {
+    while 8 <= a.len() - i {
+        if word::load(a, i) != word::load(b, i) {
             return i;
         }
         i += 8;
@@ -80,61 +81,52 @@ fn same_bytes(a: &[u8], b: &[u8]) -> bool
     if a.len() != b.len() {
         return false;
     }
-    let mut i = same_words(a, b);
-    while i < a.len() {
+    for i in same_words(a, b)..a.len() {
         if a[i] != b[i] {
             return false;
         }
-        i += 1;
     }
     true
 }
 
 // Graft timer i.
-fn timer_at(h: Head, block: &[u8], i: usize) -> Id
-    requires { Fit h block.now × (i < h.live.timers) }
-    ensures { id_of result ≡ get_or (state_of h block.now).timers.graft i 0 }
+fn timer_at(head: Head, block: &[u8], i: usize) -> Id
+    requires { Fit head block.now × (i < head.live.timers) }
+    ensures { id_of result ≡ get_or (state_of head block.now).timers.graft i 0 }
 {
-    let a = head::timers_at(h.limits);
-    id::load_id(block, a + Id::WIDTH * i)
+    id::load_id(block, head::timers_at(head.limits) + Id::WIDTH * i)
 }
 
 // The identifier of missing message i.
-fn missed_at(h: Head, block: &[u8], i: usize) -> Id
-    requires { Fit h block.now × (i < h.live.missing) }
-    ensures { id_of result ≡ (missed_at (state_of h block.now) i).key }
+fn missed_at(head: Head, block: &[u8], i: usize) -> Id
+    requires { Fit head block.now × (i < head.live.missing) }
+    ensures { id_of result ≡ (missed_at (state_of head block.now) i).key }
 {
-    let a = head::missing_at(h.limits);
-    id::load_id(block, a + Missed::WIDTH * i)
+    id::load_id(block, head::missing_at(head.limits) + Missed::WIDTH * i)
 }
 
 // The `first` of grafted message i.
-fn first_at(h: Head, block: &[u8], i: usize) -> Sender
-    requires { Sound h block.now × (i < h.live.grafted) }
-    ensures { first_of result ≡ (grafts_at (state_of h block.now) i).first }
+fn first_at(head: Head, block: &[u8], i: usize) -> Sender
+    requires { Sound head block.now × (i < head.live.grafted) }
+    ensures { first_of result ≡ (grafts_at (state_of head block.now) i).first }
 {
-    let a = head::grafted_at(h.limits) + grafted::ENTRY_WIDTH * i;
-    let flag = block[a + grafted::FIRST];
-    let peer = word::load(block, a + grafted::FIRST_PEER);
-    let round = word::load2(block, a + grafted::FIRST_ROUND);
+    let at = head::grafted_at(head.limits) + grafted::ENTRY_WIDTH * i;
     Sender {
-        there: flag != 0,
-        peer,
-        round: Round(round as u16),
+        there: block[at + grafted::FIRST] != 0,
+        peer: word::load(block, at + grafted::FIRST_PEER),
+        round: Round(word::load2(block, at + grafted::FIRST_ROUND) as u16),
     }
 }
 
 // The `kept` of grafted message i.
-fn kept_at(h: Head, block: &[u8], i: usize) -> Sender
-    requires { Sound h block.now × (i < h.live.grafted) }
-    ensures { (result.round.0 ≡ 0) × (kept_of result ≡ (grafts_at (state_of h block.now) i).kept) }
+fn kept_at(head: Head, block: &[u8], i: usize) -> Sender
+    requires { Sound head block.now × (i < head.live.grafted) }
+    ensures { (result.round.0 ≡ 0) × (kept_of result ≡ (grafts_at (state_of head block.now) i).kept) }
 {
-    let a = head::grafted_at(h.limits) + grafted::ENTRY_WIDTH * i;
-    let flag = block[a + grafted::KEPT];
-    let peer = word::load(block, a + grafted::KEPT_PEER);
+    let at = head::grafted_at(head.limits) + grafted::ENTRY_WIDTH * i;
     Sender {
-        there: flag != 0,
-        peer,
+        there: block[at + grafted::KEPT] != 0,
+        peer: word::load(block, at + grafted::KEPT_PEER),
         round: Round(0),
     }
 }
@@ -145,10 +137,7 @@ fn same_sender(x: Sender, y: Sender) -> bool
 {
     if x.there {
         if y.there {
-            if x.peer != y.peer {
-                return false;
-            }
-            return x.round.0 == y.round.0;
+            return x.peer == y.peer && x.round.0 == y.round.0;
         }
         return false;
     }
@@ -156,15 +145,13 @@ fn same_sender(x: Sender, y: Sender) -> bool
 }
 
 // Whether entry i of one time cache and entry i of another have the same key and expiry.
-fn same_key(c: TimeBoundCache, a: &[u8], d: TimeBoundCache, b: &[u8], i: usize) -> bool
-    requires lies { Lies c a.now × Below c.expiry.len (places (refs_at c a.now)) × (i < c.entries.len) }
-    requires lies_2 { Lies d b.now × Below d.expiry.len (places (refs_at d b.now)) × (i < d.entries.len) }
-    ensures { result ≡ same_element (expiry_element (expiry_of (row_at (rows_at c a.now) (ref_at (refs_at c a.now) i).place))) (expiry_element (expiry_of (row_at (rows_at d b.now) (ref_at (refs_at d b.now) i).place))) }
+fn same_key(cache_a: TimeBoundCache, a: &[u8], cache_b: TimeBoundCache, b: &[u8], i: usize) -> bool
+    requires lies { Lies cache_a a.now × Below cache_a.expiry.len (places (refs_at cache_a a.now)) × (i < cache_a.entries.len) }
+    requires lies_2 { Lies cache_b b.now × Below cache_b.expiry.len (places (refs_at cache_b b.now)) × (i < cache_b.entries.len) }
+    ensures { result ≡ same_element (expiry_element (expiry_of (row_at (rows_at cache_a a.now) (ref_at (refs_at cache_a a.now) i).place))) (expiry_element (expiry_of (row_at (rows_at cache_b b.now) (ref_at (refs_at cache_b b.now) i).place))) }
 {
-    let p = c.place(a, i);
-    let q = d.place(b, i);
-    let x = sequences::row_item(c, a, p);
-    let y = sequences::row_item(d, b, q);
+    let x = sequences::row_item(cache_a, a, cache_a.place(a, i));
+    let y = sequences::row_item(cache_b, b, cache_b.place(b, i));
     sequences::same(x, y)
 }
 
@@ -173,28 +160,18 @@ fn same_link(ha: Head, a: &[u8], hb: Head, b: &[u8], i: usize) -> bool
     requires { Sound ha a.now × (i < ha.live.links) × Sound hb b.now × (i < hb.live.links) }
     ensures { result ≡ same_row Table.Links (state_of ha a.now) (state_of hb b.now) i }
 {
-    let p = links::peer_at(ha, a, i);
-    let q = links::peer_at(hb, b, i);
-    if p != q {
-        return false;
-    }
-    let x = links::eager_at(ha, a, i);
-    let y = links::eager_at(hb, b, i);
-    same_flag(x, y)
+    links::peer_at(ha, a, i) == links::peer_at(hb, b, i)
+        && same_flag(links::eager_at(ha, a, i), links::eager_at(hb, b, i))
 }
 
 // Missing message i: identifier and announcers, "the order of announcers" too.
+#[tactic(auto, using(crate::proofs::Lists::list_hops))]
 fn same_missed(ha: Head, a: &[u8], hb: Head, b: &[u8], i: usize) -> bool
     requires { Sound ha a.now × (i < ha.live.missing) × Sound hb b.now × (i < hb.live.missing) }
     ensures { result ≡ same_row Table.Missing (state_of ha a.now) (state_of hb b.now) i }
 {
-    let x = missed_at(ha, a, i);
-    let y = missed_at(hb, b, i);
-    let s = id::same(x, y);
-    if !s {
-        return false;
-    }
-    sequences::same_sequence(Sequence::Announcers(i), ha, a, hb, b)
+    missed_at(ha, a, i) == missed_at(hb, b, i)
+        && sequences::same_sequence(Sequence::Announcers(i), ha, a, hb, b)
 }
 
 // Graft timer i.
@@ -202,9 +179,7 @@ fn same_timer(ha: Head, a: &[u8], hb: Head, b: &[u8], i: usize) -> bool
     requires { Sound ha a.now × (i < ha.live.timers) × Sound hb b.now × (i < hb.live.timers) }
     ensures { result ≡ same_row Table.Timers (state_of ha a.now) (state_of hb b.now) i }
 {
-    let x = timer_at(ha, a, i);
-    let y = timer_at(hb, b, i);
-    id::same(x, y)
+    timer_at(ha, a, i) == timer_at(hb, b, i)
 }
 
 // Received message i: identifier and expiry.
@@ -212,9 +187,13 @@ fn same_received(ha: Head, a: &[u8], hb: Head, b: &[u8], i: usize) -> bool
     requires { Sound ha a.now × (i < ha.live.received) × Sound hb b.now × (i < hb.live.received) }
     ensures { result ≡ same_row Table.Received (state_of ha a.now) (state_of hb b.now) i }
 {
-    let c = time_caches::received_cache(ha);
-    let d = time_caches::received_cache(hb);
-    same_key(c, a, d, b, i)
+    same_key(
+        time_caches::received_cache(ha),
+        a,
+        time_caches::received_cache(hb),
+        b,
+        i,
+    )
 }
 
 // Grafted message i: identifier, expiry, `first`, `kept` and peers.
@@ -222,25 +201,15 @@ fn same_grafted(ha: Head, a: &[u8], hb: Head, b: &[u8], i: usize) -> bool
     requires { Sound ha a.now × (i < ha.live.grafted) × Sound hb b.now × (i < hb.live.grafted) }
     ensures { result ≡ same_row Table.Grafted (state_of ha a.now) (state_of hb b.now) i }
 {
-    let c = time_caches::grafted_cache(ha);
-    let d = time_caches::grafted_cache(hb);
-    let key = same_key(c, a, d, b, i);
-    if !key {
-        return false;
-    }
-    let f = first_at(ha, a, i);
-    let g = first_at(hb, b, i);
-    let first = same_sender(f, g);
-    if !first {
-        return false;
-    }
-    let k = kept_at(ha, a, i);
-    let l = kept_at(hb, b, i);
-    let kept = same_sender(k, l);
-    if !kept {
-        return false;
-    }
-    sequences::same_sequence(Sequence::GraftedPeers(i), ha, a, hb, b)
+    same_key(
+        time_caches::grafted_cache(ha),
+        a,
+        time_caches::grafted_cache(hb),
+        b,
+        i,
+    ) && same_sender(first_at(ha, a, i), first_at(hb, b, i))
+        && same_sender(kept_at(ha, a, i), kept_at(hb, b, i))
+        && sequences::same_sequence(Sequence::GraftedPeers(i), ha, a, hb, b)
 }
 
 // Cached message i: identifier, expiry, content and round.
@@ -248,32 +217,32 @@ fn same_cached(ha: Head, a: &[u8], hb: Head, b: &[u8], i: usize) -> bool
     requires { Sound ha a.now × (i < ha.live.cached) × Sound hb b.now × (i < hb.live.cached) }
     ensures { result ≡ same_row Table.Cached (state_of ha a.now) (state_of hb b.now) i }
 {
-    let c = time_caches::cached_cache(ha);
-    let d = time_caches::cached_cache(hb);
-    let key = same_key(c, a, d, b, i);
-    if !key {
+    if !same_key(
+        time_caches::cached_cache(ha),
+        a,
+        time_caches::cached_cache(hb),
+        b,
+        i,
+    ) {
         return false;
     }
-    let p = cached::cached_round(ha, a, i);
-    let q = cached::cached_round(hb, b, i);
-    if p.0 != q.0 {
+    if cached::cached_round(ha, a, i).0 != cached::cached_round(hb, b, i).0 {
         return false;
     }
     let x = cached::cached_content(ha, a, i);
     let y = cached::cached_content(hb, b, i);
-    let xs = head::contents_at(ha.limits) + x.start;
-    let xe = xs + x.len;
-    let ys = head::contents_at(hb.limits) + y.start;
-    let ye = ys + y.len;
-    same_bytes(&a[xs..xe], &b[ys..ye])
+    let start_x = head::contents_at(ha.limits) + x.start;
+    let start_y = head::contents_at(hb.limits) + y.start;
+    same_bytes(&a[start_x..start_x + x.len], &b[start_y..start_y + y.len])
 }
 
-// Row i of a table.
-fn same_row(t: Table, ha: Head, a: &[u8], hb: Head, b: &[u8], i: usize) -> bool
-    requires { Sound ha a.now × (i < rows_of t ha.live) × Sound hb b.now × (i < rows_of t hb.live) }
-    ensures { result ≡ same_row t (state_of ha a.now) (state_of hb b.now) i }
+// A row of a table.
+fn same_row(row: Place, ha: Head, a: &[u8], hb: Head, b: &[u8]) -> bool
+    requires { Sound ha a.now × (row.i < rows_of row.table ha.live) × Sound hb b.now × (row.i < rows_of row.table hb.live) }
+    ensures { result ≡ same_row row.table (state_of ha a.now) (state_of hb b.now) row.i }
 {
-    match t {
+    let i = row.i;
+    match row.table {
         Table::Links => same_link(ha, a, hb, b, i),
         Table::Missing => same_missed(ha, a, hb, b, i),
         Table::Timers => same_timer(ha, a, hb, b, i),
@@ -284,36 +253,32 @@ fn same_row(t: Table, ha: Head, a: &[u8], hb: Head, b: &[u8], i: usize) -> bool
 }
 
 // How many rows a table has.
-fn rows_of(t: Table, v: Live) -> usize
-    ensures { result ≡ rows_of t v }
+fn rows_of(table: Table, live: Live) -> usize
+    ensures { result ≡ rows_of table live }
 {
-    match t {
-        Table::Links => v.links,
-        Table::Missing => v.missing,
-        Table::Timers => v.timers,
-        Table::Received => v.received,
-        Table::Grafted => v.grafted,
-        Table::Cached => v.cached,
+    match table {
+        Table::Links => live.links,
+        Table::Missing => live.missing,
+        Table::Timers => live.timers,
+        Table::Received => live.received,
+        Table::Grafted => live.grafted,
+        Table::Cached => live.cached,
     }
 }
 
 // Whether a table of one block agrees with that of another: row by row, since both are in order.
-pub fn same_rows(t: Table, ha: Head, a: &[u8], hb: Head, b: &[u8]) -> bool
+pub fn same_rows(table: Table, ha: Head, a: &[u8], hb: Head, b: &[u8]) -> bool
     requires { Sound ha a.now × Sound hb b.now }
-    ensures { result ≡ same_rows t (state_of ha a.now) (state_of hb b.now) }
+    ensures { result ≡ same_rows table (state_of ha a.now) (state_of hb b.now) }
 {
-    let n = rows_of(t, ha.live);
-    let m = rows_of(t, hb.live);
-    if n != m {
+    let n = rows_of(table, ha.live);
+    if n != rows_of(table, hb.live) {
         return false;
     }
-    let mut i = 0;
-    while i < n {
-        let s = same_row(t, ha, a, hb, b, i);
-        if !s {
+    for i in 0..n {
+        if !same_row(Place { table, i }, ha, a, hb, b) {
             return false;
         }
-        i += 1;
     }
     true
 }

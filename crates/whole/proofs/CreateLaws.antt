@@ -3,13 +3,12 @@
 use mathlib.Core.Path.{◌≡◌, refl, ap, ◌∙◌, subst}
 use mathlib.Core.Bool.{Bool, true, false, ◌&&◌}
 use mathlib.Core.List.{List}
-use mathlib.Core.Option.{none, some}
 use Prim.Native.Nat.{ℕ, ◌≤◌, ◌<◌}
 use native.Mathlib.Omega.{arith}
 use borrow.Author.Tests.{le-leb, lt-leb, leb-true, leb-false}
 use lib.Dec.{leb, leb-zero, lit<}
 use lib.ListN.{length, drop}
-use Rattle.std.specs.Prelude.{if◌then◌else◌}
+use Rattle.std.specs.Prelude.{if◌then◌else◌, Some, None}
 use Rattle.storage.specs.Lists.Base.{all, sum}
 use Rattle.storage.proofs.ListsLaws.MapLaws.{cases, and_intro}
 use Rattle.storage.specs.Rows.Part.{put}
@@ -104,12 +103,12 @@ module _ (c : HeadSettings) (l : HeadLimits) where
         (and_intro (and_intro range (le-leb (block_need (limits_of l)) (length ys) (omega (arith, fresh-length)))) fresh-counts)
         (fresh-laid (tables (limits_of l) ys))
 
-    fresh-held : held ys ≡ some (fresh (settings_of c) (limits_of l))
+    fresh-held : held ys ≡ Some (fresh (settings_of c) (limits_of l))
     unfolding held
     fresh-held =
-        ap (λ (g : Head). if has_header ys && holds_with g ys then some (state_of g ys) else none) stored.back
-        ∙ ap (λ (t : Bool). if t then some (state_of h ys) else none) (and_intro fresh-header fresh_holds)
-        ∙ ap some (fresh-state ys)
+        ap (λ (g : Head). if has_header ys && holds_with g ys then Some (state_of g ys) else None) stored.back
+        ∙ ap (λ (t : Bool). if t then Some (state_of h ys) else None) (and_intro fresh-header fresh_holds)
+        ∙ ap Some (fresh-state ys)
 
     pub fresh-accepted : Accepted (fresh (settings_of c) (limits_of l)) xs ys 0
     fresh-accepted = record { number = refl; state = fresh-held; long = fresh-length; rest = fresh-rest }

@@ -1,9 +1,9 @@
 -- What is known of a block that holds a state.
 -- Assumes nothing.
+use Rattle.std.specs.Prelude.{Some}
 use mathlib.Core.Path.{◌≡◌, subst}
 use mathlib.Core.Bool.{Bool, true, ◌&&◌}
 use mathlib.Core.List.{List, [], ◌∷◌}
-use mathlib.Core.Option.{some}
 use Prim.Native.Nat.{ℕ, ◌+◌, ◌*◌, ◌≤◌}
 use native.Mathlib.Omega.{arith}
 use borrow.Author.Tests.{leb-true, eqb-true}
@@ -19,7 +19,7 @@ use Rattle.protocol.specs.State.{Limits, limits_in_range, up_to, block_need}
 use Rattle.protocol.specs.Whole.{content_held, whole}
 use Rattle.block.specs.Layout.{tables}
 use Rattle.block.specs.View.{limits_of, byte_at, four_at, view_of, state_of}
-use Rattle.block.specs.Fit.{Ceilings, Within, Fit}
+use Rattle.block.specs.Fit.{Ceilings, WithinLimits, Fit}
 use Rattle.block.specs.Sound.{Numbered, AllNumbered, Adjoining, done, next, Laid, Sound}
 use Rattle.block.specs.Header.{head_in}
 use Rattle.block.specs.declared.head.Head.{Head}
@@ -56,9 +56,9 @@ up-to : (c n : ℕ) → up_to c n ≡ true → n ≤ c
 unfolding up_to
 up-to c n h = leb-true n c (and_right (leb 1 n) (leb n c) h)
 
-pub ceilings-of : (l : Limits) → limits_in_range l ≡ true → Ceilings l
+pub ceilings_of : (l : Limits) → limits_in_range l ≡ true → Ceilings l
 unfolding limits_in_range
-ceilings-of l h =
+ceilings_of l h =
     let e = each (up_to 32 l.N) (up_to 2048 l.R ∷ up_to 512 l.C ∷ up_to 1048576 l.B ∷ up_to 512 l.G ∷ up_to 512 l.S ∷ up_to 512 l.T ∷ up_to 8192 l.Q ∷ up_to 4096 l.D ∷ []) h in
     record {
       N = up-to 32 l.N e.0;
@@ -73,7 +73,7 @@ ceilings-of l h =
     }
 
 -- row counts within the limits
-pub within_of : (l : Limits) (v : Live) → counts_within l v ≡ true → Within l v
+pub within_of : (l : Limits) (v : Live) → counts_within l v ≡ true → WithinLimits l v
 unfolding counts_within
 within_of l v h =
     let e = each (leb v.links l.N)
@@ -104,6 +104,10 @@ within_of l v h =
       dropped = leb-true v.dropped l.D e.1.1.1.1.1.1.1.1.1.1.1.0;
     }
 
+pub ceilings_there : (l : Limits) (block : List ℕ) → has_tables l block ≡ true → Ceilings l
+unfolding has_tables
+ceilings_there l block a = ceilings_of l (and_left (limits_in_range l) (leb (block_need l) (length block)) a)
+
 -- the tables lie in the block
 pub fit_of : (h : Head) (block : List ℕ) → has_tables (limits_of h.limits) block ≡ true → counts_within (limits_of h.limits) h.live ≡ true → Fit h block
 unfolding has_tables
@@ -112,7 +116,7 @@ fit_of h block a b =
     let range : Bool = limits_in_range l in
     let long : Bool = leb (block_need l) (length block) in
     record {
-      ceilings = ceilings-of l (and_left range long a);
+      ceilings = ceilings_there l block a;
       within = within_of l h.live b;
       long = omega (arith, within-need l, leb-true (block_need l) (length block) (and_right range long a));
     }
@@ -155,7 +159,7 @@ pub record Wholly (block : List ℕ) : Type 0 where
   pub header : has_header block ≡ true
   pub holds : holds_with (head_in block) block ≡ true
   pub sound : Sound (head_in block) block
-  pub state : held block ≡ some (state_of (head_in block) block)
+  pub state : held block ≡ Some (state_of (head_in block) block)
   pub whole : whole (state_of (head_in block) block) ≡ true
 
 pub wholly_of : (block : List ℕ) → whole_block block ≡ true → Wholly block

@@ -14,7 +14,7 @@ use Rattle.storage.proofs.RowsLaws.Parts.{part-between}
 use Rattle.storage.specs.Rows.Sorted.{key_of, keys as row_keys}
 use Rattle.storage.specs.Refs.Refs.{Ref, ref_of, refs, places}
 use Rattle.time_cache.specs.TimeCache.{Cache, in_pop_order}
-use Rattle.time_cache.specs.Tables.{ExpiryRow, expiry_row_of, expiry_rows, cache_of, cache_in, held, sound}
+use Rattle.time_cache.specs.Tables.{ExpiryRow, expiry_row_of, expiry_rows, cache_of, cache_in, value_bytes, sound}
 use Rattle.time_cache.proofs.TableLaws.{keys-named}
 use Rattle.time_cache.proofs.BlockLaws.{open-end}
 use Rattle.protocol.specs.State.{Limits}
@@ -71,9 +71,9 @@ module _ (l : Limits) (xs : List ℕ) where
       let es : List Ref = refs s n (table l i xs) in
       let rs : List ExpiryRow = expiry_rows t m (table l j xs) in
       (λ k. all_below m (places (refs-table i s n hi wi k))
-      && ascending (keys (cache_of held (refs-table i s n hi wi k) (rows-expiry j t m hj wj k)).entries)
-      && in_pop_order (cache_of held (refs-table i s n hi wi k) (rows-expiry j t m hj wj k)).expiry)
-      ∙ ap (λ (ks : List ℕ). all_below m (places es) && ascending ks && in_pop_order (cache_of held es rs).expiry) (keys-named held es rs ∙ sym (keys-named value es rs))
+      && ascending (keys (cache_of value_bytes (refs-table i s n hi wi k) (rows-expiry j t m hj wj k)).entries)
+      && in_pop_order (cache_of value_bytes (refs-table i s n hi wi k) (rows-expiry j t m hj wj k)).expiry)
+      ∙ ap (λ (ks : List ℕ). all_below m (places es) && ascending ks && in_pop_order (cache_of value_bytes es rs).expiry) (keys-named value_bytes es rs ∙ sym (keys-named value es rs))
 
 -- the places of a cache that passes its test name rows
 pub cache-below : {A : Type 0} (m s n : ℕ) (entries : List ℕ) (c : Cache A) → cache_whole m s n entries c ≡ true → places_name m s n entries ≡ true

@@ -4,7 +4,7 @@ use mathlib.Core.Path.{◌≡◌, refl, sym, ap, ◌∙◌, subst}
 use mathlib.Core.Logic.{◌⊎◌, inl, inr}
 use mathlib.Core.Bool.{Bool, true, false, not, ◌&&◌}
 use mathlib.Core.List.{List, [], ◌∷◌, map}
-use Prim.Native.Nat.{ℕ, zero, suc, ◌+◌, ◌-◌, ◌*◌, ◌≤◌, ◌<◌, zero-le, suc-le-suc}
+use Prim.Native.Nat.{ℕ, zero, suc, ◌+◌, ◌*◌, ◌≤◌, ◌<◌, zero-le, suc-le-suc}
 use native.Mathlib.Nat.{le_of_suc-le-suc, not-suc-le-zero, add-zero}
 use native.Mathlib.Numerals.{add-one}
 use native.Mathlib.Omega.{arith}
@@ -23,7 +23,7 @@ use Rattle.storage.specs.Rows.Rows.{rows}
 use Rattle.storage.proofs.RowsLaws.Ids.{tri}
 use Rattle.storage.proofs.RowsLaws.Parts.{part-part}
 use Rattle.storage.proofs.RowsLaws.Rows.{length-rows, get_d_rows}
-use Rattle.storage.specs.Notes.Chains.{Once, TellsOnce, id_at as note_id}
+use Rattle.storage.specs.Buckets.{Once, TellsOnce, id_at as note_id}
 use Rattle.time_cache.proofs.CacheLaws.{eqb-sym}
 use Rattle.time_cache.proofs.Orders.{below_of}
 use Rattle.protocol.specs.Links.{Links}

@@ -2,11 +2,11 @@
 -- Assumes nothing.
 use mathlib.Core.Path.{◌≡◌, refl, sym, ◌∙◌}
 use mathlib.Core.Bool.{Bool, true, false, not, ◌&&◌}
-use mathlib.Core.List.{List, [], ◌∷◌, ◌++◌}
+use mathlib.Core.List.{List, [], ◌∷◌}
 use Prim.Native.Nat.{ℕ, zero, suc}
 use borrow.Author.Tests.{not-true, not-false}
 use lib.ListN.{get_or}
-use Rattle.storage.proofs.ListsLaws.MapLaws.{true≢, and_left, and_right, and_intro}
+use Rattle.storage.proofs.ListsLaws.MapLaws.{and_left, and_right, and_intro}
 
 -- b and all the others
 abbrev pub conj : Bool → List Bool → Bool
@@ -42,23 +42,6 @@ pub both_ways : (a b : Bool) → (a ≡ true → b ≡ true) → (b ≡ true →
 both_ways true b f g = sym (f refl)
 both_ways false true f g = g refl
 both_ways false false f g = refl
-
--- one of them is false
-and-false : (a b : Bool) → b ≡ false → (a && b) ≡ false
-and-false true b h = h
-and-false false b h = refl
-
-pub stops : (b : Bool) (bs : List Bool) (i : ℕ) → get_or (b ∷ bs) i true ≡ false → conj b bs ≡ false
-stops b [] zero h = h
-stops b [] (suc i) h = true≢ (sym h)
-stops b (x ∷ xs) zero h = stops (b && x) xs zero (rw h)
-stops b (x ∷ xs) (suc zero) h = stops (b && x) xs zero (and-false b x h)
-stops b (x ∷ xs) (suc (suc i)) h = stops (b && x) xs (suc i) h
-
--- all but the last are true: the last decides
-pub ends : (b : Bool) (bs : List Bool) (x : Bool) → conj b bs ≡ true → conj b (bs ++ (x ∷ [])) ≡ x
-ends b [] x h = rw h
-ends b (y ∷ ys) x h = ends (b && y) ys x h
 
 -- what a function's answer r tells of the test t that it is
 pub no : {r t : Bool} → r ≡ t → not r ≡ true → t ≡ false

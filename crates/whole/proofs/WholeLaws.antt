@@ -3,14 +3,13 @@
 use mathlib.Core.Path.{◌≡◌, refl, sym, ap, ◌∙◌, subst}
 use mathlib.Core.Bool.{Bool, true, false, ◌&&◌, ◌||◌}
 use mathlib.Core.List.{List, [], ◌∷◌, map}
-use mathlib.Core.Option.{none, some}
-use Prim.Native.Nat.{ℕ, zero, suc, ◌-◌, ◌*◌, ◌≤◌, ◌<◌, zero-le}
+use Prim.Native.Nat.{ℕ, zero, suc, ◌*◌, ◌≤◌, zero-le}
 use native.Mathlib.Omega.{arith}
 use borrow.Author.Tests.{leb-true, le-leb, eqb-true, eq-eqb, ne_eqb}
 use lib.Dec.{leb, eqb, lit<}
 use lib.ListN.{length, take, drop, length-map}
 use lib.Seq.{take-take}
-use Rattle.std.specs.Prelude.{if◌then◌else◌}
+use Rattle.std.specs.Prelude.{if◌then◌else◌, Some, None}
 use Rattle.storage.specs.Lists.Base.{is_empty, all, ascending}
 use Rattle.storage.specs.Lists.Map.{keys}
 use Rattle.storage.proofs.ListsLaws.MapLaws.{cases, true≢, and_left, and_right, and_intro}
@@ -28,7 +27,7 @@ use Rattle.protocol.specs.Whole.{content_held, cache_fits, fits, in_range, keys_
 use Rattle.block.specs.Layout.{tables}
 use Rattle.block.specs.View.{settings_of, limits_of, state_of, peer_of, note_of, notes_in, missed_of, missing_in, id_at, timers_in, nothing_of, received_in, cached_of, cached_in, grafts_of, grafted_in}
 use Rattle.storage.specs.Refs.Numbers.{numbered}
-use Rattle.block.specs.Fit.{Fit, Within}
+use Rattle.block.specs.Fit.{Fit, WithinLimits}
 use Rattle.block.specs.Header.{word_at, half_word_at, head_in}
 use Rattle.block.specs.declared.head.Head.{Head}
 use Rattle.block.specs.declared.head.Live.{Live}
@@ -36,7 +35,7 @@ use Rattle.block.proofs.LinkLaws.{count-links, count-peers}
 use Rattle.storage.proofs.RefsLaws.Numbered.{length-numbered}
 use Rattle.block.proofs.Tables.{length-view, length-table}
 use Rattle.whole.specs.Held.{has_header, has_tables, counts_within, all_below, places_name, numbers_name, all_lists, adjoin, laid_out, holds_with, held, whole_held, whole_block}
-use Rattle.whole.specs.Parts.{table_of, cache_whole, links_whole, received_whole, cached_whole, grafted_whole, missing_whole, timers_whole, queue_whole, record_whole, tables_whole, flags_with}
+use Rattle.whole.specs.Parts.{table_of, cache_whole, links_whole, received_whole, cached_whole, grafted_peers, grafted_whole, announcers, missing_whole, timers_whole, queue_whole, record_whole, tables_whole, flags_with, head_whole}
 use Rattle.whole.proofs.Tests.{conj, Each, each, from_each, picks, both_ways}
 use Rattle.whole.proofs.HeldLaws.{fit_of, wholly_of}
 use Rattle.whole.proofs.NumberLaws.{peers-neighbours}
@@ -54,19 +53,19 @@ unfolding part
 half-word at xs = subst (λ (n : ℕ). n ≤ word_at at xs) (ap le_nat (take-take 2 8 (drop at xs) (omega arith))) (low-bytes 2 (take 8 (drop at xs)))
 
 -- so that of a state that is held is a round
-pub held-round : (block : List ℕ) (s : State) → held block ≡ some s → s.settings.optimization_threshold ≤ 65535
+pub held-round : (block : List ℕ) (s : State) → held block ≡ Some s → s.settings.optimization_threshold ≤ 65535
 unfolding held has_header state_of
 held-round block s e =
     cases (has_header block && holds_with (head_in block) block)
-    (λ t. let a : some (state_of (head_in block) block) ≡ some s = rw t at e in
+    (λ t. let a : Some (state_of (head_in block) block) ≡ Some s = rw t at e in
     let b : state_of (head_in block) block ≡ s = cc in
     let r : word_at 24 block ≤ 65535 =
     leb-true (word_at 24 block) 65535
     (and_right (leb 2048 (length block)) (leb (word_at 24 block) 65535) (and_left (has_header block) (holds_with (head_in block) block) t)) in
     subst (λ (x : State). x.settings.optimization_threshold ≤ 65535) b (omega (arith, half-word 24 block)))
-    (λ t. let z : none ≡ some s = rw t at e in absurd (none-some s z))
+    (λ t. let z : None ≡ Some s = rw t at e in absurd (none-some s z))
   where
-    none-some : (x : State) → none ≡ some x → ⊥
+    none-some : (x : State) → None ≡ Some x → ⊥
     none-some x z = let y : false ≡ true = cc in true≢ y
 
 -- how many entries and expiry entries a cache has
@@ -199,8 +198,10 @@ module _ (h : Head) (xs : List ℕ) where
       let c = picks (places_name v.cached_rows 4 v.cached (table_of h 4 xs))
       (ascending (keys s.cache.entries) ∷ in_pop_order s.cache.expiry ∷ adjoin 0 (rows 48 v.cached_rows (table_of h 5 xs)) v.contents ∷ eqb (content_held s) v.contents ∷ []) (t 2) in
       let g = picks (places_name v.grafted_rows 119 v.grafted (table_of h 7 xs))
-      (ascending (keys s.grafted.entries) ∷ in_pop_order s.grafted.expiry ∷ all_lists (numbers_name v.links) 22 119 v.grafted (table_of h 7 xs) ∷ all (grafts_whole s.links) s.grafted.entries ∷ []) (t 3) in
-      let m = picks (ascending (keys s.missing)) (all_lists (numbers_name v.links) 32 129 v.missing (table_of h 9 xs) ∷ all (announcers_whole s.links) s.missing ∷ []) (t 4) in
+      (ascending (keys s.grafted.entries) ∷ in_pop_order s.grafted.expiry ∷ grafted_peers h xs ∷ []) (t 3) in
+      let gp = picks (all_lists (numbers_name v.links) 22 119 v.grafted (table_of h 7 xs)) (all (grafts_whole s.links) s.grafted.entries ∷ []) (g 3) in
+      let m = picks (ascending (keys s.missing)) (announcers h xs ∷ []) (t 4) in
+      let ma = picks (all_lists (numbers_name v.links) 32 129 v.missing (table_of h 9 xs)) (all (announcers_whole s.links) s.missing ∷ []) (m 1) in
       let d = picks (all_below v.links (take v.dropped (table_of h 13 xs))) (record_within s.dropped ∷ noted_once s.dropped ∷ []) (t 7) in
       record {
         links = t 0;
@@ -215,11 +216,11 @@ module _ (h : Head) (xs : List ℕ) where
         grafted_named = g 0;
         grafted_up = g 1;
         grafted_order = g 2;
-        grafted_lists = g 3;
-        grafts = g 4;
+        grafted_lists = gp 0;
+        grafts = gp 1;
         missing_up = m 0;
-        missing_lists = m 1;
-        announcers = m 2;
+        missing_lists = ma 0;
+        announcers = ma 1;
         timers = t 5;
         queue_named = t 6;
         record_named = d 0;
@@ -232,8 +233,8 @@ module _ (h : Head) (xs : List ℕ) where
   of-passed p =
       let r : received_whole h xs ≡ true = and_intro (and_intro p.received_named p.received_up) p.received_order in
       let c : cached_whole h xs ≡ true = and_intro (and_intro (and_intro (and_intro p.cached_named p.cached_up) p.cached_order) p.adjoins) p.adds_up in
-      let g : grafted_whole h xs ≡ true = and_intro (and_intro (and_intro (and_intro p.grafted_named p.grafted_up) p.grafted_order) p.grafted_lists) p.grafts in
-      let m : missing_whole h xs ≡ true = and_intro (and_intro p.missing_up p.missing_lists) p.announcers in
+      let g : grafted_whole h xs ≡ true = and_intro (and_intro (and_intro p.grafted_named p.grafted_up) p.grafted_order) (and_intro p.grafted_lists p.grafts) in
+      let m : missing_whole h xs ≡ true = and_intro p.missing_up (and_intro p.missing_lists p.announcers) in
       let d : record_whole h xs ≡ true = and_intro (and_intro p.record_named p.record_few) p.record_once in
       from_each (links_whole h xs) table_tests (p.links, (r, (c, (g, (m, (p.timers, (p.queue_named, (d, tt))))))))
 
@@ -302,7 +303,7 @@ module _ (h : Head) (xs : List ℕ) where
     state-fits : Passed → fits s ≡ true
     unfolding fits state_of received_in cached_in grafted_in
     state-fits p =
-        let w : Within l v = fit.within in
+        let w : WithinLimits l v = fit.within in
         from_each (leb (length s.links) s.limits.N)
         (cache_fits s.limits.R s.received
         ∷ cache_fits s.limits.C s.cache
@@ -413,10 +414,10 @@ module _ (h : Head) (xs : List ℕ) where
         )
 
 -- the tests of the code, in their order
-abbrev pub first_test : List ℕ → Bool
+abbrev first_test : List ℕ → Bool
 first_test xs = leb 2048 (length xs)
 
-abbrev pub later_tests : Head → List ℕ → List Bool
+abbrev later_tests : Head → List ℕ → List Bool
 later_tests h xs =
     leb (word_at 24 xs) 65535
     ∷ limits_in_range (limits_of h.limits)
@@ -443,7 +444,7 @@ module _ (xs : List ℕ) where
       let p : Passed g xs = passed-of g xs e.1.1.1.1.1.1.1.1.0 in
       let holds : holds_with g xs ≡ true = and_intro (and_intro has counts) (laid-passed g xs p) in
       let round : half_word_at 24 xs ≤ 65535 = omega (arith, half-word 24 xs, leb-true (word_at 24 xs) 65535 e.1.0) in
-      ap (λ (t : Bool). whole_held (if t then some (state_of g xs) else none)) (and_intro header holds)
+      ap (λ (t : Bool). whole_held (if t then Some (state_of g xs) else None)) (and_intro header holds)
       ∙ state-whole g xs fit p e.1.1.1.1.1.0 e.1.1.1.1.1.1.0 round limits e.1.1.1.1.1.1.1.0
 
   whole-tests : whole_block xs ≡ true → Each (first_test xs ∷ later_tests g xs)
@@ -460,9 +461,30 @@ module _ (xs : List ℕ) where
       let tabled : tables_whole g xs ≡ true = of-passed g xs (passed-state g xs holds.1.1.0 e.whole) in
       (header.0, (header.1.0, (has.0, (has.1.0, (holds.1.0, (r 0, (r 1, (flags, (tabled, tt)))))))))
 
+-- the first two tests are those of the header, the next two those of the tables' places
+regroup : (a b c d e f g i t : Bool) → (a && b && (c && d && e && f && g && i && t)) ≡ (a && b && c && d && e && f && g && i && t)
+regroup true true c d e f g i t = refl
+regroup true false c d e f g i t = refl
+regroup false b c d e f g i t = refl
+
 -- question 5 is the tests of the code
-pub whole-told : (xs : List ℕ) (h : Head) → h ≡ head_in xs → conj (first_test xs) (later_tests h xs) ≡ whole_block xs
-whole-told xs h e =
-    ap (λ (k : Head). conj (first_test xs) (later_tests k xs)) e
-    ∙ both_ways (conj (first_test xs) (later_tests (head_in xs) xs)) (whole_block xs) (λ p. tests-whole xs (each (first_test xs) (later_tests (head_in xs) xs) p))
-    (λ w. from_each (first_test xs) (later_tests (head_in xs) xs) (whole-tests xs w))
+told : (xs : List ℕ) → (has_header xs && head_whole (head_in xs) xs) ≡ whole_block xs
+unfolding has_header has_tables head_whole
+told xs =
+    let h : Head = head_in xs in
+    let l : Limits = limits_of h.limits in
+    regroup (first_test xs) (leb (word_at 24 xs) 65535) (limits_in_range l) (leb (block_need l) (length xs)) (counts_within l h.live)
+    (size_in_range (settings_of h.settings)) (durations_in_range (settings_of h.settings)) (flags_with h.live) (tables_whole h xs)
+    ∙ both_ways (conj (first_test xs) (later_tests h xs)) (whole_block xs) (λ p. tests-whole xs (each (first_test xs) (later_tests h xs) p))
+    (λ w. from_each (first_test xs) (later_tests h xs) (whole-tests xs w))
+
+pub whole_told : (xs : List ℕ) → has_header xs ≡ true → head_whole (head_in xs) xs ≡ whole_block xs
+whole_told xs e = sym (ap (λ (t : Bool). t && head_whole (head_in xs) xs) e) ∙ told xs
+
+pub no_header : (xs : List ℕ) → has_header xs ≡ false → whole_block xs ≡ false
+no_header xs e = sym (told xs) ∙ ap (λ (t : Bool). t && head_whole (head_in xs) xs) e
+
+-- a header that is there has its bytes
+pub header_long : (xs : List ℕ) → has_header xs ≡ true → 2048 ≤ length xs
+unfolding has_header
+header_long xs e = leb-true 2048 (length xs) (and_left (leb 2048 (length xs)) (leb (word_at 24 xs) 65535) e)

@@ -1,7 +1,6 @@
 -- What a creation leaves: the specification, questions 1 to 4.
 -- Assumes nothing.
-use Rattle.std.specs.Prelude.{ℕ, ◌≡◌, false, List, length, drop}
-use Rattle.std.proofs.Math.Option.{some}
+use Rattle.std.specs.Prelude.{ℕ, ◌≡◌, false, List, length, drop, Some}
 use Rattle.protocol.specs.State.{State, Created, created, not_created, create}
 use Rattle.block.specs.View.{settings_of, limits_of}
 use Rattle.block.specs.declared.head.Settings.{Settings}
@@ -17,7 +16,7 @@ pub record Refused (n : ℕ) (before after : List ℕ) (r : ℕ) : Type 0 where
 -- "Answer 0 is yes to all"; "An accepted creation leaves the state of `State::new`": the block holds it, and no byte but the header's has changed
 pub record Accepted (s : State) (before after : List ℕ) (r : ℕ) : Type 0 where
   pub number : r ≡ 0
-  pub state : held after ≡ some s
+  pub state : held after ≡ Some s
   pub long : length after ≡ length before
   pub rest : drop 2048 after ≡ drop 2048 before
 

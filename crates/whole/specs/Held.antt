@@ -1,7 +1,6 @@
 -- What a block holds: the state that its bytes stand for, or nothing where they stand for none. Question 5 of the specification is asked of that state.
 -- Assumes nothing.
-use Rattle.std.specs.Prelude.{ℕ, ◌+◌, ◌*◌, Bool, false, ◌&&◌, List, [], ◌∷◌, leb, ltb, eqb, length, take, drop, get_or, if◌then◌else◌}
-use Rattle.std.proofs.Math.Option.{Option, none, some}
+use Rattle.std.specs.Prelude.{ℕ, ◌+◌, ◌*◌, Bool, false, ◌&&◌, List, [], ◌∷◌, leb, ltb, eqb, length, take, drop, get_or, if◌then◌else◌, Option, Some, None}
 use Rattle.storage.specs.Lists.Base.{all}
 use Rattle.storage.specs.Rows.Rows.{rows}
 use Rattle.storage.specs.Refs.Refs.{refs, places}
@@ -77,13 +76,13 @@ holds_with h block =
 -- the state that the bytes stand for
 unfoldable pub held : List ℕ → Option State
 held block =
-    if has_header block && holds_with (head_in block) block then some (state_of (head_in block) block)
-    else none
+    if has_header block && holds_with (head_in block) block then Some (state_of (head_in block) block)
+    else None
 
 -- what question 5 asks of it; bytes that hold no state are not whole
 unfoldable pub whole_held : Option State → Bool
-whole_held none = false
-whole_held (some s) = whole s
+whole_held None = false
+whole_held (Some s) = whole s
 
 -- (5) "Is the block whole?"
 unfoldable pub whole_block : List ℕ → Bool

@@ -13,33 +13,39 @@ use protocol::MAX_DROPPED;
 // "at most 2^40" milliseconds
 const LONGEST_DURATION: u64 = 1 << 40;
 
+// "from 510 to 4,094"
+const SMALLEST_MESSAGE_SIZE: u64 = 510;
+
+const LARGEST_MESSAGE_SIZE: u64 = 4094;
+
 // (1) "Is M, `max_message_size`, from 510 to 4,094?"
 #[tactic(auto, unfolding(protocol::specs::State::size_in_range))]
-pub(crate) fn size_in_range(s: Settings) -> bool
-    ensures { result ≡ size_in_range (settings_of s) }
+pub(crate) fn size_in_range(settings: Settings) -> bool
+    ensures { result ≡ size_in_range (settings_of settings) }
 {
-    510 <= s.max_message_size && s.max_message_size <= 4094
+    SMALLEST_MESSAGE_SIZE <= settings.max_message_size
+        && settings.max_message_size <= LARGEST_MESSAGE_SIZE
 }
 
 // "at most 2^40"
-fn is_short(d: Millis) -> bool
-    ensures { result ≡ leb d.0 (2 ^ 40) }
+fn is_short(duration: Millis) -> bool
+    ensures { result ≡ leb duration.0 (2 ^ 40) }
 {
-    d.0 <= LONGEST_DURATION
+    duration.0 <= LONGEST_DURATION
 }
 
 // (2) "Is each of the six durations at most 2^40?"
 #[tactic(auto, unfolding(protocol::specs::State::durations_in_range))]
-pub(crate) fn durations_in_range(s: Settings) -> bool
-    ensures { result ≡ durations_in_range (settings_of s) }
+pub(crate) fn durations_in_range(settings: Settings) -> bool
+    ensures { result ≡ durations_in_range (settings_of settings) }
 {
-    let c = s.config;
-    is_short(c.graft_timeout_1)
-        && is_short(c.graft_timeout_2)
-        && is_short(c.dispatch_timeout)
-        && is_short(c.message_cache_retention)
-        && is_short(c.message_id_retention)
-        && is_short(c.cache_evict_interval)
+    let config = settings.config;
+    is_short(config.graft_timeout_1)
+        && is_short(config.graft_timeout_2)
+        && is_short(config.dispatch_timeout)
+        && is_short(config.message_cache_retention)
+        && is_short(config.message_id_retention)
+        && is_short(config.cache_evict_interval)
 }
 
 // "from 1 to its ceiling"
@@ -65,31 +71,44 @@ const CEILINGS: Limits = Limits {
 
 // (3) "Is each limit from 1 to its ceiling?"
 #[tactic(auto, unfolding(protocol::specs::State::limits_in_range))]
-pub fn limits_in_range(l: Limits) -> bool
-    ensures { result ≡ limits_in_range (limits_of l) }
+pub fn limits_in_range(limits: Limits) -> bool
+    ensures { result ≡ limits_in_range (limits_of limits) }
 {
-    up_to(CEILINGS.neighbours, l.neighbours)
-        && up_to(CEILINGS.received, l.received)
-        && up_to(CEILINGS.cached, l.cached)
-        && up_to(CEILINGS.content, l.content)
-        && up_to(CEILINGS.grafted, l.grafted)
-        && up_to(CEILINGS.missing, l.missing)
-        && up_to(CEILINGS.timers, l.timers)
-        && up_to(CEILINGS.queued, l.queued)
-        && up_to(CEILINGS.dropped, l.dropped)
+    up_to(CEILINGS.neighbours, limits.neighbours)
+        && up_to(CEILINGS.received, limits.received)
+        && up_to(CEILINGS.cached, limits.cached)
+        && up_to(CEILINGS.content, limits.content)
+        && up_to(CEILINGS.grafted, limits.grafted)
+        && up_to(CEILINGS.missing, limits.missing)
+        && up_to(CEILINGS.timers, limits.timers)
+        && up_to(CEILINGS.queued, limits.queued)
+        && up_to(CEILINGS.dropped, limits.dropped)
 }
 
+// How many bytes question 4 asks for: in all, for a message received, cached, grafted or missing, and for a row of any other table.
+const NEED: usize = 4096;
+
+const RECEIVED_NEED: usize = 160;
+
+const CACHED_NEED: usize = 256;
+
+const GRAFTED_NEED: usize = 640;
+
+const MISSING_NEED: usize = 512;
+
+const ROW_NEED: usize = 64;
+
 // (4) "4,096 + B + 160R + 256C + 640G + 512S + 64(N + T + Q + D) bytes"
-pub fn block_need(l: Limits) -> usize
-    requires { Ceilings (limits_of l) }
-    ensures { result ≡ block_need (limits_of l) }
+pub fn block_need(limits: Limits) -> usize
+    requires { Ceilings (limits_of limits) }
+    ensures { result ≡ block_need (limits_of limits) }
 {
-    4096 + l.content
-        + 160 * l.received
-        + 256 * l.cached
-        + 640 * l.grafted
-        + 512 * l.missing
-        + 64 * (l.neighbours + l.timers + l.queued + l.dropped)
+    NEED + limits.content
+        + RECEIVED_NEED * limits.received
+        + CACHED_NEED * limits.cached
+        + GRAFTED_NEED * limits.grafted
+        + MISSING_NEED * limits.missing
+        + ROW_NEED * (limits.neighbours + limits.timers + limits.queued + limits.dropped)
 }
 
 // The number of rows of each table of `State::new`, and its flags.

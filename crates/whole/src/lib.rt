@@ -9,31 +9,31 @@ mod tables;
 ghost use Rattle.std.specs.Prelude.{◌≡◌, ◌||◌, eqb};
 ghost use Rattle.block.specs.View.{limits_of};
 ghost use Rattle.block.specs.Fit.{Ceilings};
-ghost use Rattle.whole.specs.Held.{counts_within, whole_block};
-ghost use Rattle.whole.specs.Parts.{flags_with};
+ghost use Rattle.whole.specs.Held.{has_header, has_tables, counts_within, whole_block};
+ghost use Rattle.whole.specs.Parts.{flags_with, head_whole};
 
-use block::head::{HEADER_SIZE, Limits, Live};
+use block::head::{HEADER_SIZE, Head, Limits, Live};
 use block::header;
 use storage::rows::word;
 
 // "numbers of entries in range": no table has more rows than its limit; "Expiry entries: 2R, 2C, 2G".
 #[tactic(auto, unfolding(crate::specs::Held::counts_within))]
-fn counts_within(l: Limits, v: Live) -> bool
-    requires { Ceilings (limits_of l) }
-    ensures { result ≡ counts_within (limits_of l) v }
+fn counts_within(limits: Limits, live: Live) -> bool
+    requires { Ceilings (limits_of limits) }
+    ensures { result ≡ counts_within (limits_of limits) live }
 {
-    v.links <= l.neighbours
-        && v.received <= l.received
-        && v.received_rows <= 2 * l.received
-        && v.cached <= l.cached
-        && v.cached_rows <= 2 * l.cached
-        && v.contents <= l.content
-        && v.grafted <= l.grafted
-        && v.grafted_rows <= 2 * l.grafted
-        && v.missing <= l.missing
-        && v.timers <= l.timers
-        && v.queued <= l.queued
-        && v.dropped <= l.dropped
+    live.links <= limits.neighbours
+        && live.received <= limits.received
+        && live.received_rows <= 2 * limits.received
+        && live.cached <= limits.cached
+        && live.cached_rows <= 2 * limits.cached
+        && live.contents <= limits.content
+        && live.grafted <= limits.grafted
+        && live.grafted_rows <= 2 * limits.grafted
+        && live.missing <= limits.missing
+        && live.timers <= limits.timers
+        && live.queued <= limits.queued
+        && live.dropped <= limits.dropped
 }
 
 // A list of n entries is empty, or has its flag.
@@ -45,40 +45,46 @@ fn stands(n: usize, flag: bool) -> bool
 
 // "a queue or record stands only with its flag"
 #[tactic(auto, unfolding(crate::specs::Parts::flags_with))]
-fn flags_stand(v: Live) -> bool
-    ensures { result ≡ flags_with v }
+fn flags_stand(live: Live) -> bool
+    ensures { result ≡ flags_with live }
 {
-    stands(v.queued, v.dispatch_timer_scheduled) && stands(v.dropped, v.announce_dropped_scheduled)
+    stands(live.queued, live.dispatch_timer_scheduled)
+        && stands(live.dropped, live.announce_dropped_scheduled)
+}
+
+// The header is there, and its threshold is a round.
+#[tactic(auto, unfolding(crate::specs::Held::has_header))]
+fn has_header(block: &[u8]) -> bool
+    ensures { result ≡ has_header block.now }
+{
+    HEADER_SIZE <= block.len() && word::load(block, header::THRESHOLD) <= u16::MAX as u64
+}
+
+// The limits are in range, and the block is as long as question 4 asks.
+#[tactic(auto, unfolding(crate::specs::Held::has_tables), using(crate::proofs::HeldLaws::ceilings_of))]
+fn has_tables(limits: Limits, block: &[u8]) -> bool
+    ensures { result ≡ has_tables (limits_of limits) block.now }
+{
+    create::limits_in_range(limits) && create::block_need(limits) <= block.len()
+}
+
+// What the header says is in range, and the tables are whole.
+#[tactic(auto, unfolding(crate::specs::Parts::head_whole), using(crate::proofs::HeldLaws::ceilings_there, crate::proofs::HeldLaws::fit_of))]
+fn head_whole(head: Head, block: &[u8]) -> bool
+    ensures { result ≡ head_whole head block.now }
+{
+    has_tables(head.limits, block)
+        && counts_within(head.limits, head.live)
+        && create::size_in_range(head.settings)
+        && create::durations_in_range(head.settings)
+        && flags_stand(head.live)
+        && tables::tables_whole(head, block)
 }
 
 // (5) "Is the block whole?"
+#[tactic(auto, using(crate::proofs::WholeLaws::header_long, crate::proofs::WholeLaws::no_header, crate::proofs::WholeLaws::whole_told))]
 pub fn is_whole(block: &[u8]) -> bool
     ensures { result ≡ whole_block block.now }
 {
-    if block.len() < HEADER_SIZE {
-        return false;
-    }
-    if (u16::MAX as u64) < word::load(block, header::THRESHOLD) {
-        return false;
-    }
-    let h = header::load_head(block);
-    if !create::limits_in_range(h.limits) {
-        return false;
-    }
-    if block.len() < create::block_need(h.limits) {
-        return false;
-    }
-    if !counts_within(h.limits, h.live) {
-        return false;
-    }
-    if !create::size_in_range(h.settings) {
-        return false;
-    }
-    if !create::durations_in_range(h.settings) {
-        return false;
-    }
-    if !flags_stand(h.live) {
-        return false;
-    }
-    tables::tables_whole(h, block)
+    has_header(block) && head_whole(header::load_head(block), block)
 }

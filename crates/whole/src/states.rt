@@ -10,7 +10,13 @@ use storage::rows::{bytes, word};
 // "The area needs four times the block and 256 bytes more": the bytes in front of the blocks.
 const FRONT: usize = 256;
 
-// A row of them: name 8 bytes, payload 8, control 8, hops 2.
+// A row of them, a name of 8 bytes first: where payload and control stand, 8 bytes each, where the hops, of 2, and how many bytes there are.
+const PAYLOAD: usize = 8;
+
+const CONTROL: usize = 16;
+
+const HOPS: usize = 24;
+
 const ROW: usize = 26;
 
 // The place of how many states are kept.
@@ -35,14 +41,13 @@ pub enum Returned {
 }
 
 // The place up to which no byte from `from` on is other than 0, told by words: fewer than eight bytes before `to`, or at a word that is not 0.
-fn zero_words(s: &[u8], from: usize, to: usize) -> usize
-    requires { (from ≤ to) × (to ≤ length s.now) }
-    ensures { (from ≤ result) × (result ≤ to) × Zeros from result s.now }
+fn zero_words(area: &[u8], from: usize, to: usize) -> usize
+    requires { (from ≤ to) × (to ≤ length area.now) }
+    ensures { (from ≤ result) × (result ≤ to) × Zeros from result area.now }
 {
     let mut i = from;
     while 8 <= to - i {
-        let w = word::load(s, i);
-        if w != 0 {
+        if word::load(area, i) != 0 {
             return i;
         }
         i += 8;
@@ -51,16 +56,14 @@ fn zero_words(s: &[u8], from: usize, to: usize) -> usize
 }
 
 // Whether no byte from `from` to `to` is other than 0.
-fn zeros(s: &[u8], from: usize, to: usize) -> bool
-    requires { (from ≤ to) × (to ≤ length s.now) }
-    ensures { Tells (Zeros from to s.now) result }
+fn zeros(area: &[u8], from: usize, to: usize) -> bool
+    requires { (from ≤ to) × (to ≤ length area.now) }
+    ensures { Tells (Zeros from to area.now) result }
 {
-    let mut i = zero_words(s, from, to);
-    while i < to {
-        if s[i] != 0 {
+    for i in zero_words(area, from, to)..to {
+        if area[i] != 0 {
             return false;
         }
-        i += 1;
     }
     true
 }
@@ -70,15 +73,12 @@ fn place_of(area: &[u8], k: usize, name: u64) -> usize
     requires { (k ≤ 4) × (256 ≤ length area.now) }
     ensures { Placed k name area.now result }
 {
-    let mut i = 0;
-    while i < k {
-        let other = word::load(area, ROW * i);
-        if other == name {
+    for i in 0..k {
+        if word::load(area, ROW * i) == name {
             return i;
         }
-        i += 1;
     }
-    i
+    k
 }
 
 // Whether the first k names differ, since "saving under a used one replaces it", and the first k blocks are whole, since saving asks 5.
@@ -86,20 +86,15 @@ fn slots_hold(area: &[u8], n: usize, k: usize) -> bool
     requires { (k ≤ 4) × (256 + n * 4 ≤ length area.now) }
     ensures { Tells (SlotsHold n k area.now) result }
 {
-    let mut i = 0;
-    while i < k {
+    for i in 0..k {
         let name = word::load(area, ROW * i);
-        let first = place_of(area, i, name);
-        if first < i {
+        if place_of(area, i, name) < i {
             return false;
         }
         let from = FRONT + n * i;
-        let to = from + n;
-        let whole = crate::is_whole(&area[from..to]);
-        if !whole {
+        if !crate::is_whole(&area[from..from + n]) {
             return false;
         }
-        i += 1;
     }
     true
 }
@@ -118,12 +113,10 @@ fn area_holds(area: &[u8], n: usize) -> bool
     if STATES < kept {
         return false;
     }
-    let slots = slots_hold(area, n, kept);
-    if !slots {
+    if !slots_hold(area, n, kept) {
         return false;
     }
-    let spare = zeros(area, ROW * kept, KEPT);
-    if !spare {
+    if !zeros(area, ROW * kept, KEPT) {
         return false;
     }
     zeros(area, FRONT + n * kept, area.len())
@@ -134,21 +127,18 @@ fn kept_after(k: usize, i: usize) -> u8
     requires { (i < 4) × (k ≤ 4) }
     ensures { result ≡ i + 1 + (k - (i + 1)) }
 {
-    if i < k {
-        return k as u8;
-    }
-    (i + 1) as u8
+    if i < k { k as u8 } else { (i + 1) as u8 }
 }
 
 // Writes a row at `at`.
-fn put_row(area: &mut [u8], at: usize, name: u64, c: Counts)
+fn put_row(area: &mut [u8], at: usize, name: u64, counts: Counts)
     requires { at + 26 ≤ length area.old }
-    ensures { area.new ≡ put at (le_bytes 8 name ++ (le_bytes 8 c.payload ++ (le_bytes 8 c.control ++ le_bytes 2 c.hops))) area.old }
+    ensures { area.new ≡ put at (le_bytes 8 name ++ (le_bytes 8 counts.payload ++ (le_bytes 8 counts.control ++ le_bytes 2 counts.hops))) area.old }
 {
     word::store(area, at, name);
-    word::store(area, at + 8, c.payload);
-    word::store(area, at + 16, c.control);
-    word::store_le(area, at + 24, 2, c.hops as u64);
+    word::store(area, at + PAYLOAD, counts.payload);
+    word::store(area, at + CONTROL, counts.control);
+    word::store_le(area, at + HOPS, 2, counts.hops as u64);
 }
 
 // The counts of the row at `at`.
@@ -156,27 +146,22 @@ fn row_counts(area: &[u8], at: usize) -> Counts
     requires { at + 26 ≤ length area.now }
     ensures { counts_of result ≡ counts_at area.now at }
 {
-    let payload = word::load(area, at + 8);
-    let control = word::load(area, at + 16);
-    let hops = word::load2(area, at + 24);
     Counts {
-        payload,
-        control,
-        hops: hops as u16,
+        payload: word::load(area, at + PAYLOAD),
+        control: word::load(area, at + CONTROL),
+        hops: word::load2(area, at + HOPS) as u16,
     }
 }
 
 // A saving, "asked in the order 5, 17, 16": it changes the area alone, and only where it is accepted.
-pub fn save(block: &[u8], c: Counts, area: &mut [u8], name: u64) -> u8
-    ensures { Saves block.now (counts_of c) area.old name area.new result 0 }
+pub fn save(block: &[u8], counts: Counts, area: &mut [u8], name: u64) -> u8
+    ensures { Saves block.now (counts_of counts) area.old name area.new result 0 }
 {
-    let whole = crate::is_whole(block);
-    if !whole {
+    if !crate::is_whole(block) {
         return 5;
     }
     let n = block.len();
-    let holds = area_holds(area, n);
-    if !holds {
+    if !area_holds(area, n) {
         return 17;
     }
     let kept = area[KEPT] as usize;
@@ -184,7 +169,7 @@ pub fn save(block: &[u8], c: Counts, area: &mut [u8], name: u64) -> u8
     if slot == STATES {
         return 16;
     }
-    put_row(area, ROW * slot, name, c);
+    put_row(area, ROW * slot, name, counts);
     bytes::copy_bytes(area, FRONT + n * slot, block);
     area[KEPT] = kept_after(kept, slot);
     0
@@ -194,23 +179,19 @@ pub fn save(block: &[u8], c: Counts, area: &mut [u8], name: u64) -> u8
 pub fn go_back(block: &mut [u8], area: &[u8], name: u64) -> Returned
     ensures { GoesBack block.old area.now name block.new result }
 {
-    let whole = crate::is_whole(block);
-    if !whole {
+    if !crate::is_whole(block) {
         return Returned::Refused(5);
     }
     let n = block.len();
-    let holds = area_holds(area, n);
-    if !holds {
+    if !area_holds(area, n) {
         return Returned::Refused(17);
     }
     let kept = area[KEPT] as usize;
-    let i = place_of(area, kept, name);
-    if i == kept {
+    let place = place_of(area, kept, name);
+    if place == kept {
         return Returned::Refused(15);
     }
-    let start = FRONT + n * i;
-    let end = start + n;
-    bytes::copy_bytes(block, 0, &area[start..end]);
-    let c = row_counts(area, ROW * i);
-    Returned::Brought(c)
+    let start = FRONT + n * place;
+    bytes::copy_bytes(block, 0, &area[start..start + n]);
+    Returned::Brought(row_counts(area, ROW * place))
 }

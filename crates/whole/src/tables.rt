@@ -1,13 +1,15 @@
 // Question 5 of the tables: one pass over each, and no search. Where a number names a row by its place, that it does is all that is tested:
 // peers are then neighbours, and each cache entry has an expiry entry of its time, by the layout.
-ghost use Rattle.std.specs.Prelude.{◌≡◌, ◌&&◌, ◌+◌, ◌*◌, ◌≤◌, ◌<◌, length};
+ghost use Rattle.std.specs.Prelude.{◌≡◌, true, ◌&&◌, ◌+◌, ◌*◌, ◌≤◌, ◌<◌, length};
 ghost use Rattle.storage.specs.Lists.Base.{ascending, sum};
 ghost use Rattle.storage.specs.Rows.Rows.{rows};
 ghost use Rattle.storage.specs.Refs.Refs.{refs, places, Below};
+ghost use Rattle.protocol.specs.Whole.{record_within, noted_once};
+ghost use Rattle.block.specs.View.{state_of};
 ghost use Rattle.block.specs.Fit.{Fit};
 ghost use Rattle.block.specs.LinkSteps.{LinksAscend};
 ghost use Rattle.whole.specs.Held.{all_below, adjoin, all_lists};
-ghost use Rattle.whole.specs.Parts.{length_at, graft_list, missed_list, few, links_whole, received_whole, cached_whole, grafted_whole, missing_whole, timers_whole, queue_whole, record_whole, tables_whole};
+ghost use Rattle.whole.specs.Parts.{length_at, graft_list, missed_list, few, links_whole, received_whole, cached_in_order, contents_adjoin, contents_used, cached_whole, grafted_in_order, grafted_peers, grafted_whole, missing_once, announcers, missing_whole, timers_whole, queue_whole, dropped_named, record_whole, tables_whole};
 
 use block::caches::{cached, grafted};
 use block::head::{Head, MAX_LINKS};
@@ -21,25 +23,19 @@ use storage::tables::Row;
 use storage::{notes, refs};
 
 // A byte as a number that can be an index.
-fn wide(x: u8) -> usize
-    ensures { result ≡ x }
+fn wide(byte: u8) -> usize
+    ensures { result ≡ byte }
 {
-    x as usize
+    byte as usize
 }
 
 // "keys once": the peers of the links ascend.
-pub fn links_whole(h: Head, block: &[u8]) -> bool
-    requires { Fit h block.now }
-    ensures { result ≡ links_whole h block.now }
+pub fn links_whole(head: Head, block: &[u8]) -> bool
+    requires { Fit head block.now }
+    ensures { result ≡ links_whole head block.now }
 {
-    let n = h.live.links;
-    let mut i = 1;
-    while i < n {
-        let p = links::peer_at(h, block, i - 1);
-        let q = links::peer_at(h, block, i);
-        if p < q {
-            i += 1;
-        } else {
+    for i in 1..head.live.links {
+        if links::peer_at(head, block, i) <= links::peer_at(head, block, i - 1) {
             return false;
         }
     }
@@ -47,204 +43,220 @@ pub fn links_whole(h: Head, block: &[u8]) -> bool
 }
 
 // Received messages: places name rows, keys once, rows in pop order.
-pub fn received_whole(h: Head, block: &[u8]) -> bool
-    requires { Fit h block.now }
-    ensures { result ≡ received_whole h block.now }
+pub fn received_whole(head: Head, block: &[u8]) -> bool
+    requires { Fit head block.now }
+    ensures { result ≡ received_whole head block.now }
 {
-    let c = time_caches::received_cache(h);
-    c.is_sound(block)
+    time_caches::received_cache(head).is_sound(block)
 }
 
-// The contents of m cached rows adjoin: each starts where the one before it ends, and the last ends at `used`.
-fn contents_adjoin(b: &[u8], m: usize, used: usize) -> bool
-    requires { m * 48 ≤ length b.now }
-    ensures { result ≡ adjoin 0 (rows 48 m b.now) used }
+// The contents of cached rows adjoin: each starts where the one before it ends, and the last ends at `used`.
+fn adjoin(row_bytes: &[u8], row_count: usize, used: usize) -> bool
+    requires { row_count * 48 ≤ length row_bytes.now }
+    ensures { result ≡ adjoin 0 (rows 48 row_count row_bytes.now) used }
 {
-    let mut at: u64 = 0;
-    let mut i = 0;
-    while i < m {
-        let start = word::load4(b, i * cached::ROW_WIDTH + cached::START);
-        if start != at {
+    let mut at = 0;
+    for i in 0..row_count {
+        if word::load4(row_bytes, i * cached::ROW_WIDTH + cached::START) != at {
             return false;
         }
-        let len = word::load4(b, i * cached::ROW_WIDTH + cached::LEN);
-        at = start + len;
-        i += 1;
+        at += word::load4(row_bytes, i * cached::ROW_WIDTH + cached::LEN);
     }
     at == used as u64
 }
 
-// The lengths of the contents of those of m cached rows that n entries name.
-fn named_lengths(e: &[u8], n: usize, b: &[u8], m: usize) -> u64
-    requires { (n ≤ 65536) × (n * 4 ≤ length e.now) × (m * 48 ≤ length b.now) × Below m (places (refs 4 n e.now)) }
-    ensures { result ≡ sum (length_at (rows 48 m b.now)) (places (refs 4 n e.now)) }
+// The lengths of the contents of those cached rows that the entries name.
+fn named_lengths(entries: &[u8], entry_count: usize, row_bytes: &[u8], row_count: usize) -> u64
+    requires { (entry_count ≤ 65536) × (entry_count * 4 ≤ length entries.now) × (row_count * 48 ≤ length row_bytes.now) × Below row_count (places (refs 4 entry_count entries.now)) }
+    ensures { result ≡ sum (length_at (rows 48 row_count row_bytes.now)) (places (refs 4 entry_count entries.now)) }
 {
-    let mut total: u64 = 0;
-    let mut i = 0;
-    while i < n {
-        let p = word::load2(e, i * cached::ENTRY_WIDTH) as usize;
-        let len = word::load4(b, p * cached::ROW_WIDTH + cached::LEN);
-        total = total + len;
-        i += 1;
+    let mut total = 0;
+    for i in 0..entry_count {
+        let place = word::load2(entries, i * cached::ENTRY_WIDTH) as usize;
+        total += word::load4(row_bytes, place * cached::ROW_WIDTH + cached::LEN);
     }
     total
 }
 
-// Cached messages: places name rows, keys once, rows in pop order; contents adjoin, and those of the entries are all that is used of the store.
-pub fn cached_whole(h: Head, block: &[u8]) -> bool
-    requires { Fit h block.now }
-    ensures { result ≡ cached_whole h block.now }
+// The message cache: places name rows, keys once, rows in pop order.
+fn cached_in_order(head: Head, block: &[u8]) -> bool
+    requires { Fit head block.now }
+    ensures { result ≡ cached_in_order head block.now }
 {
-    let c = time_caches::cached_cache(h);
-    let sound = c.is_sound(block);
-    if !sound {
-        return false;
-    }
-    let a = head::cached_at(h.limits);
-    let b = head::cached_rows_at(h.limits);
-    let used = h.live.contents;
-    let adjoin = contents_adjoin(&block[b..], h.live.cached_rows, used);
-    if !adjoin {
-        return false;
-    }
-    let total = named_lengths(&block[a..], h.live.cached, &block[b..], h.live.cached_rows);
-    total == used as u64
+    time_caches::cached_cache(head).is_sound(block)
 }
 
-// The bytes are numbers below m, and ascend.
-fn numbers_ascend(b: &[u8], m: usize) -> bool
-    ensures { result ≡ (all_below m b.now && ascending b.now) }
+// The contents of the cached rows adjoin.
+fn contents_adjoin(head: Head, block: &[u8]) -> bool
+    requires { Fit head block.now }
+    ensures { result ≡ contents_adjoin head block.now }
+{
+    let rows_at = head::cached_rows_at(head.limits);
+    adjoin(&block[rows_at..], head.live.cached_rows, head.live.contents)
+}
+
+// The contents of the cached messages are all that is used of the store.
+fn contents_used(head: Head, block: &[u8]) -> bool
+    requires fits { Fit head block.now }
+    requires in_order { cached_in_order head block.now ≡ true }
+    requires contents_adjoin { contents_adjoin head block.now ≡ true }
+    ensures { result ≡ contents_used head block.now }
+{
+    let at = head::cached_at(head.limits);
+    let rows_at = head::cached_rows_at(head.limits);
+    let total = named_lengths(
+        &block[at..],
+        head.live.cached,
+        &block[rows_at..],
+        head.live.cached_rows,
+    );
+    total == head.live.contents as u64
+}
+
+// Cached messages: the cache in order; contents adjoin, and those of the entries are all that is used of the store.
+#[tactic(auto, unfolding(crate::specs::Parts::cached_whole))]
+pub fn cached_whole(head: Head, block: &[u8]) -> bool
+    requires { Fit head block.now }
+    ensures { result ≡ cached_whole head block.now }
+{
+    cached_in_order(head, block) && contents_adjoin(head, block) && contents_used(head, block)
+}
+
+// The bytes are numbers of links, and ascend.
+fn numbers_ascend(numbers: &[u8], link_count: usize) -> bool
+    ensures { result ≡ (all_below link_count numbers.now && ascending numbers.now) }
 {
     let mut least = 0;
-    let mut j = 0;
-    while j < b.len() {
-        let k = wide(b[j]);
-        if m <= k {
+    for i in 0..numbers.len() {
+        let number = wide(numbers[i]);
+        if link_count <= number {
             return false;
         }
-        if k < least {
+        if number < least {
             return false;
         }
-        least = k + 1;
-        j += 1;
+        least = number + 1;
     }
     true
 }
 
-// A list of link numbers and rounds: at most 32 numbers, below m, that ascend.
-fn graft_list(list: &[u8], m: usize) -> bool
+// A list of link numbers and rounds: at most 32 numbers of links, that ascend.
+#[tactic(auto, unfolding(crate::specs::Parts::graft_list, crate::specs::Held::numbers_name))]
+fn graft_list(list: &[u8], link_count: usize) -> bool
     requires { length list.now ≡ 97 }
-    ensures { result ≡ graft_list m list.now }
+    ensures { result ≡ graft_list link_count list.now }
 {
     let n = wide(list[0]);
-    if Hops::CAPACITY < n {
-        return false;
-    }
-    let e = 1 + n;
-    numbers_ascend(&list[1..e], m)
+    n <= Hops::CAPACITY && numbers_ascend(&list[1..1 + n], link_count)
 }
 
-// The lists of n grafted entries are such lists.
-fn graft_lists(b: &[u8], n: usize, m: usize) -> bool
-    requires { n * 119 ≤ length b.now }
-    ensures { result ≡ all_lists (graft_list m) 22 119 n b.now }
+// The lists of the grafted entries are such lists.
+fn graft_lists(entries: &[u8], entry_count: usize, link_count: usize) -> bool
+    requires { entry_count * 119 ≤ length entries.now }
+    ensures { result ≡ all_lists (graft_list link_count) 22 119 entry_count entries.now }
 {
-    let mut i = 0;
-    while i < n {
-        let a = i * grafted::ENTRY_WIDTH + grafted::PEERS;
-        let e = a + Hops::WIDTH;
-        let ok = graft_list(&b[a..e], m);
-        if ok {
-            i += 1;
-        } else {
+    for i in 0..entry_count {
+        let at = i * grafted::ENTRY_WIDTH + grafted::PEERS;
+        if !graft_list(&entries[at..at + Hops::WIDTH], link_count) {
             return false;
         }
     }
     true
 }
 
-// Grafted messages: places name rows, keys once, rows in pop order; "grafted peers are neighbours, once per identifier".
-pub fn grafted_whole(h: Head, block: &[u8]) -> bool
-    requires { Fit h block.now × LinksAscend h block.now }
-    ensures { result ≡ grafted_whole h block.now }
+// The time cache of grafted messages: places name rows, keys once, rows in pop order.
+fn grafted_in_order(head: Head, block: &[u8]) -> bool
+    requires { Fit head block.now }
+    ensures { result ≡ grafted_in_order head block.now }
 {
-    let c = time_caches::grafted_cache(h);
-    let sound = c.is_sound(block);
-    if !sound {
-        return false;
-    }
-    let a = head::grafted_at(h.limits);
-    graft_lists(&block[a..], h.live.grafted, h.live.links)
+    time_caches::grafted_cache(head).is_sound(block)
 }
 
-// A list of link numbers and rounds: at least 1 number and at most 32, below m, each once.
-fn missed_list(list: &[u8], m: usize) -> bool
-    requires { (length list.now ≡ 97) × (m ≤ 32) }
-    ensures { result ≡ missed_list m list.now }
+// "grafted peers are neighbours, once per identifier"
+fn grafted_peers(head: Head, block: &[u8]) -> bool
+    requires { Fit head block.now × LinksAscend head block.now }
+    ensures { result ≡ grafted_peers head block.now }
+{
+    let at = head::grafted_at(head.limits);
+    graft_lists(&block[at..], head.live.grafted, head.live.links)
+}
+
+// Grafted messages: the time cache in order, and the peers.
+#[tactic(auto, unfolding(crate::specs::Parts::grafted_whole))]
+pub fn grafted_whole(head: Head, block: &[u8]) -> bool
+    requires { Fit head block.now × LinksAscend head block.now }
+    ensures { result ≡ grafted_whole head block.now }
+{
+    grafted_in_order(head, block) && grafted_peers(head, block)
+}
+
+// A list of link numbers and rounds: at least 1 number of a link and at most 32, each once.
+#[tactic(auto, unfolding(crate::specs::Parts::missed_list, crate::specs::Held::numbers_name))]
+fn missed_list(list: &[u8], link_count: usize) -> bool
+    requires { (length list.now ≡ 97) × (link_count ≤ 32) }
+    ensures { result ≡ missed_list link_count list.now }
 {
     let n = wide(list[0]);
-    if Hops::CAPACITY < n {
-        return false;
-    }
-    if n < 1 {
-        return false;
-    }
-    let e = 1 + n;
-    refs::numbers(&list[1..e], m)
+    1 <= n && n <= Hops::CAPACITY && refs::numbers(&list[1..1 + n], link_count)
 }
 
-// The lists of n missing messages are such lists.
-fn missed_lists(b: &[u8], n: usize, m: usize) -> bool
-    requires { (n * 129 ≤ length b.now) × (m ≤ 32) }
-    ensures { result ≡ all_lists (missed_list m) 32 129 n b.now }
+// The lists of the missing messages are such lists.
+fn missed_lists(row_bytes: &[u8], row_count: usize, link_count: usize) -> bool
+    requires { (row_count * 129 ≤ length row_bytes.now) × (link_count ≤ 32) }
+    ensures { result ≡ all_lists (missed_list link_count) 32 129 row_count row_bytes.now }
 {
-    let mut i = 0;
-    while i < n {
-        let a = i * Missed::WIDTH + Missed::ANNOUNCERS;
-        let e = a + Hops::WIDTH;
-        let ok = missed_list(&b[a..e], m);
-        if ok {
-            i += 1;
-        } else {
+    for i in 0..row_count {
+        let at = i * Missed::WIDTH + Missed::ANNOUNCERS;
+        if !missed_list(&row_bytes[at..at + Hops::WIDTH], link_count) {
             return false;
         }
     }
     true
 }
 
-// Missing messages: keys once; "announcing .. peers are neighbours, once per identifier", and "none of these lists empty".
-pub fn missing_whole(h: Head, block: &[u8]) -> bool
-    requires { Fit h block.now × LinksAscend h block.now }
-    ensures { result ≡ missing_whole h block.now }
+// Missing messages: keys once.
+fn missing_once(head: Head, block: &[u8]) -> bool
+    requires { Fit head block.now }
+    ensures { result ≡ missing_once head block.now }
 {
-    let a = head::missing_at(h.limits);
-    let n = h.live.missing;
-    let up = table::ascending(&block[a..], Missed::WIDTH, n);
-    if !up {
-        return false;
-    }
-    missed_lists(&block[a..], n, h.live.links)
+    let at = head::missing_at(head.limits);
+    table::ascending(&block[at..], Missed::WIDTH, head.live.missing)
+}
+
+// "announcing .. peers are neighbours, once per identifier", and "none of these lists empty"
+fn announcers(head: Head, block: &[u8]) -> bool
+    requires { Fit head block.now × LinksAscend head block.now }
+    ensures { result ≡ announcers head block.now }
+{
+    let at = head::missing_at(head.limits);
+    missed_lists(&block[at..], head.live.missing, head.live.links)
+}
+
+// Missing messages: keys once, and their announcers.
+#[tactic(auto, unfolding(crate::specs::Parts::missing_whole))]
+pub fn missing_whole(head: Head, block: &[u8]) -> bool
+    requires { Fit head block.now × LinksAscend head block.now }
+    ensures { result ≡ missing_whole head block.now }
+{
+    missing_once(head, block) && announcers(head, block)
 }
 
 // Graft timers: keys once.
-pub fn timers_whole(h: Head, block: &[u8]) -> bool
-    requires { Fit h block.now }
-    ensures { result ≡ timers_whole h block.now }
+pub fn timers_whole(head: Head, block: &[u8]) -> bool
+    requires { Fit head block.now }
+    ensures { result ≡ timers_whole head block.now }
 {
-    let a = head::timers_at(h.limits);
-    table::ascending(&block[a..], Id::WIDTH, h.live.timers)
+    let at = head::timers_at(head.limits);
+    table::ascending(&block[at..], Id::WIDTH, head.live.timers)
 }
 
-// Every number is below m. There is no exit from the loop, so that it is done for many bytes at once.
-fn numbers_below(b: &[u8], m: u8) -> bool
-    ensures { result ≡ all_below m b.now }
+// Every number is that of a link. There is no exit from the loop, so that it is done for many bytes at once.
+fn numbers_below(numbers: &[u8], link_count: u8) -> bool
+    ensures { result ≡ all_below link_count numbers.now }
 {
     let mut bad: u8 = 0;
-    let mut i = 0;
-    while i < b.len() {
-        let x = b[i];
-        i += 1;
-        if m <= x {
+    for i in 0..numbers.len() {
+        if link_count <= numbers[i] {
             bad = 1;
         }
     }
@@ -252,74 +264,89 @@ fn numbers_below(b: &[u8], m: u8) -> bool
 }
 
 // The queue: "queued .. peers are neighbours".
-pub fn queue_whole(h: Head, block: &[u8]) -> bool
-    requires { Fit h block.now }
-    ensures { result ≡ queue_whole h block.now }
+pub fn queue_whole(head: Head, block: &[u8]) -> bool
+    requires { Fit head block.now }
+    ensures { result ≡ queue_whole head block.now }
 {
-    let a = head::queue_at(h.limits);
-    let e = a + h.live.queued;
-    let m = h.live.links;
-    numbers_below(&block[a..e], m as u8)
+    let at = head::queue_at(head.limits);
+    numbers_below(&block[at..at + head.live.queued], head.live.links as u8)
 }
 
 // No number, all of them below 32, stands more than 256 times.
-fn few_each(b: &[u8]) -> bool
-    requires { Below 32 b.now }
-    ensures { result ≡ few b.now }
+fn few_each(numbers: &[u8]) -> bool
+    requires { Below 32 numbers.now }
+    ensures { result ≡ few numbers.now }
 {
-    if b.len() <= MAX_DROPPED_PER_PEER {
+    if numbers.len() <= MAX_DROPPED_PER_PEER {
         return true;
     }
     let mut counts = [0u16; MAX_LINKS];
-    let mut i = 0;
-    while i < b.len() {
-        let k = wide(b[i]);
-        let c = counts[k];
-        if MAX_DROPPED_PER_PEER as u16 <= c {
+    for i in 0..numbers.len() {
+        let number = wide(numbers[i]);
+        if MAX_DROPPED_PER_PEER as u16 <= counts[number] {
             return false;
         }
-        counts[k] = c + 1;
-        i += 1;
+        counts[number] += 1;
     }
     true
 }
 
-// The record: "dropped .. peers are neighbours, once per identifier", and "records within 256 and 4,096".
-pub fn record_whole(h: Head, block: &[u8]) -> bool
-    requires { Fit h block.now × LinksAscend h block.now }
-    ensures { result ≡ record_whole h block.now }
+// "dropped .. peers are neighbours"
+fn dropped_named(head: Head, block: &[u8]) -> bool
+    requires { Fit head block.now }
+    ensures { result ≡ dropped_named head block.now }
 {
-    let n = h.live.dropped;
-    if n == 0 {
-        return true;
-    }
-    let a = head::dropped_at(h.limits);
-    let e = a + n;
-    let m = h.live.links;
-    let below = numbers_below(&block[a..e], m as u8);
-    if !below {
-        return false;
-    }
-    let few = few_each(&block[a..e]);
-    if !few {
-        return false;
-    }
-    let b = head::dropped_rows_at(h.limits);
-    notes::once(&block[a..e], &block[b..], n)
+    let at = head::dropped_at(head.limits);
+    numbers_below(&block[at..at + head.live.dropped], head.live.links as u8)
+}
+
+// "records within 256 and 4,096"
+fn dropped_few(head: Head, block: &[u8]) -> bool
+    requires fits { Fit head block.now × LinksAscend head block.now }
+    requires named { dropped_named head block.now ≡ true }
+    ensures { result ≡ record_within (state_of head block.now).dropped }
+{
+    let at = head::dropped_at(head.limits);
+    few_each(&block[at..at + head.live.dropped])
+}
+
+// "once per identifier among .. dropped"
+fn dropped_once(head: Head, block: &[u8]) -> bool
+    requires fits { Fit head block.now × LinksAscend head block.now }
+    requires named { dropped_named head block.now ≡ true }
+    ensures { result ≡ noted_once (state_of head block.now).dropped }
+{
+    let at = head::dropped_at(head.limits);
+    let rows_at = head::dropped_rows_at(head.limits);
+    notes::once(
+        &block[at..at + head.live.dropped],
+        &block[rows_at..],
+        head.live.dropped,
+    )
+}
+
+// The record: its peers, how many notes each has, and each note once. An empty one is whole.
+#[tactic(auto, unfolding(crate::specs::Parts::record_whole))]
+pub fn record_whole(head: Head, block: &[u8]) -> bool
+    requires { Fit head block.now × LinksAscend head block.now }
+    ensures { result ≡ record_whole head block.now }
+{
+    head.live.dropped == 0
+        || (dropped_named(head, block) && dropped_few(head, block) && dropped_once(head, block))
 }
 
 // All tables: the links first, since elsewhere peers are told by the numbers of their links.
 #[tactic(auto, unfolding(crate::specs::Parts::tables_whole, crate::specs::Parts::links_whole))]
-pub fn tables_whole(h: Head, block: &[u8]) -> bool
-    requires { Fit h block.now }
-    ensures { result ≡ tables_whole h block.now }
+pub fn tables_whole(head: Head, block: &[u8]) -> bool
+    requires { Fit head block.now }
+    ensures { result ≡ tables_whole head block.now }
 {
-    links_whole(h, block)
-        && received_whole(h, block)
-        && cached_whole(h, block)
-        && grafted_whole(h, block)
-        && missing_whole(h, block)
-        && timers_whole(h, block)
-        && queue_whole(h, block)
-        && record_whole(h, block)
+    links_whole(head, block)
+        && received_whole(head, block)
+        && cached_whole(head, block)
+        && grafted_whole(head, block)
+        && missing_whole(head, block)
+        && timers_whole(head, block)
+        && queue_whole(head, block)
+        && record_whole(head, block)
 }

@@ -1,11 +1,11 @@
 -- `alike`: both blocks whole, then their states.
+use Rattle.std.specs.Prelude.{Option}
 use mathlib.Core.Bool.{not}
 use mathlib.Core.Path.{sym, ap, ◌∙◌, subst}
 use lib.ListN.{length}
 use Rattle.whole.proofs.Tests.{no, yes}
 use Rattle.block.specs.View.{state_of}
 use Rattle.block.specs.declared.head.Head.{Head}
-use mathlib.Core.Option.{Option}
 use Rattle.protocol.specs.State.{State}
 use Rattle.protocol.specs.Whole.{whole_state}
 use Rattle.protocol.specs.Alike.{likeness, likeness_of, alike, alike_blocks}

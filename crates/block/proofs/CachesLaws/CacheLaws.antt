@@ -13,7 +13,7 @@ use Rattle.storage.proofs.RowsLaws.Rows.{length-rows}
 use Rattle.storage.proofs.RowsLaws.Parts.{part-put, length_part}
 use Rattle.storage.specs.Refs.Refs.{Ref, ref_of, refs, places, Below}
 use Rattle.time_cache.specs.TimeCache.{Cache, put as put_in, expire_until, in_pop_order, holds, later_cache}
-use Rattle.time_cache.specs.Tables.{expiry_row_of, expiry_rows, expiry_of, Held, entry_of, cache_of, cache_in, refs_at, rows_at, cache_at, values_as, Sound, OnlyTwo}
+use Rattle.time_cache.specs.Tables.{expiry_row_of, expiry_rows, expiry_of, ValueBytes, entry_of, cache_of, cache_in, refs_at, rows_at, cache_at, values_as, Sound, OnlyTwo}
 use Rattle.time_cache.specs.declared.cache.TimeBoundCache.{TimeBoundCache}
 use Rattle.time_cache.proofs.ValueLaws.{values-read, keys-as, holds_as, put_as, expire-as, later-as, length-as}
 use Rattle.time_cache.proofs.LoanLaws.{halfway, length-halfway, only-second, two-wider}
@@ -25,7 +25,7 @@ use Rattle.block.specs.TimeCaches.{cache_from}
 use Rattle.block.specs.Caches.InBlock.{InOrder}
 
 -- the bytes of an entry, read as a value
-abbrev pub as_value : {A : Type 0} → (List ℕ → List ℕ → A) → Held → A
+abbrev pub as_value : {A : Type 0} → (List ℕ → List ℕ → A) → ValueBytes → A
 as_value value b = value b.own b.rest
 
 module _ (l : Limits) (i s n j t m : ℕ) (xs : List ℕ) (hi : i < 15) (wi : n * s ≤ get_or (sizes l) i 0) (hj : j < 15) (wj : m * t ≤ get_or (sizes l) j 0) where
@@ -102,7 +102,7 @@ module _ (l : Limits) (i s n j t m : ℕ) (xs ys : List ℕ) (hi : i < 15) (wi :
       ∙ ap (expire_until instant) (cache-in l i s n j t m xs hi wi hj wj value)
 
   -- after an insert
-  pub inserted-in : (k instant : ℕ) (v : Held) → cache_at (cache_from l i s n' j t m') ys ≡ put_in k v instant (cache_at (cache_from l i s n j t m) xs)
+  pub inserted-in : (k instant : ℕ) (v : ValueBytes) → cache_at (cache_from l i s n' j t m') ys ≡ put_in k v instant (cache_at (cache_from l i s n j t m) xs)
       → cache_in value s n' (table l i ys) t m' (table l j ys) ≡ put_in k (as_value value v) instant (cache_in value s n (table l i xs) t m (table l j xs))
   inserted-in k instant v e =
       sym (cache-in l i s n' j t m' ys hi wi' hj wj' value)

@@ -8,7 +8,7 @@ use lib.Dec.{lit<}
 use lib.ListN.{length}
 use Rattle.storage.specs.Lists.Map.{keys}
 use Rattle.time_cache.specs.TimeCache.{holds}
-use Rattle.time_cache.specs.Tables.{held, cache_at, refs_at, rows_at, named, Lies, Room, Sound as SoundCache, values_as}
+use Rattle.time_cache.specs.Tables.{value_bytes, cache_at, refs_at, rows_at, named, Lies, FitsOneMore, Sound as SoundCache, values_as}
 use Rattle.time_cache.proofs.TableLaws.{keys-named}
 use Rattle.time_cache.proofs.ValueLaws.{holds_as}
 use Rattle.protocol.specs.State.{Limits}
@@ -34,12 +34,12 @@ module _ (h : Head) (xs : List ℕ) (fit : Fit h xs) where
   pub cached-lies : Lies (cached_cache h) xs
   cached-lies = record { entry_wide = omega arith; expiry_wide = omega arith; apart = omega arith; within = omega arith; few = omega arith }
 
-  pub cached-room : Room (cached_cache h) xs
+  pub cached-room : FitsOneMore (cached_cache h) xs
   cached-room = record { entry_wide = omega arith; expiry_wide = omega arith; apart = omega arith; within = omega arith; few = omega arith }
 
   pub cached-keys : named (rows_at (cached_cache h) xs) (refs_at (cached_cache h) xs) ≡ keys (state_of h xs).cache.entries
   unfolding state_of cached_in
-  cached-keys = sym (keys-named held (refs_at (cached_cache h) xs) (rows_at (cached_cache h) xs)) ∙ keys_in l 4 4 n 5 48 m xs (lit< tt) (omega arith) (lit< tt) (omega arith) (cached_of (table (limits_of h.limits) 6 xs))
+  cached-keys = sym (keys-named value_bytes (refs_at (cached_cache h) xs) (rows_at (cached_cache h) xs)) ∙ keys_in l 4 4 n 5 48 m xs (lit< tt) (omega arith) (lit< tt) (omega arith) (cached_of (table (limits_of h.limits) 6 xs))
 
   pub cached-as : values_as (as_value (cached_of (table (limits_of h.limits) 6 xs))) (cache_at (cached_cache h) xs) ≡ (state_of h xs).cache
   unfolding state_of cached_in

@@ -26,7 +26,7 @@ use Rattle.block.proofs.Tables.{field_in}
 use Rattle.block.proofs.RowLaws.{part_in}
 use Rattle.block.specs.TimeCaches.{cached_cache}
 use Rattle.block.specs.Caches.CachedReads.{cached_at, ContentIs}
-use Rattle.block.specs.declared.caches.cached.Content.{Content}
+use Rattle.block.specs.declared.caches.cached.Extent.{Extent}
 use Rattle.block.proofs.CachesLaws.CacheLaws.{refs-in}
 
 -- contents end where they end together, and none ends later
@@ -90,7 +90,7 @@ module _ (h : Head) (xs : List ℕ) (sound : Sound h xs) (i : ℕ) (q : i < h.li
       (adjoining-at sound.laid.contents p (omega (arith, p-below, length-rows 48 m (table l 5 xs))))
 
   -- start and length, read from the row that entry i names
-  pub content-is : (r : Content) (k a : ℕ) → k ≡ (ref_at (refs_at (cached_cache h) xs) i).place → a ≡ place l 5 → r.start ≡ le_nat (part (a + 48 * k + 40) 4 xs) → r.len ≡ le_nat (part (a + 48 * k + 44) 4 xs) → ContentIs h xs i r
+  pub content-is : (r : Extent) (k a : ℕ) → k ≡ (ref_at (refs_at (cached_cache h) xs) i).place → a ≡ place l 5 → r.start ≡ le_nat (part (a + 48 * k + 40) 4 xs) → r.len ≡ le_nat (part (a + 48 * k + 44) 4 xs) → ContentIs h xs i r
   unfolding four_at
   content-is r k a ek ea es el =
       let at : a + 48 * k + 40 ≡ place l 5 + (p * 48 + 40) = omega (arith, ek, ea, p-same) in

@@ -1,8 +1,8 @@
 -- One grafted message: its bytes as the view reads them, and what a write of its `first` or `kept` does to the state.
 -- Assumes nothing.
+use Rattle.std.specs.Prelude.{None}
 use mathlib.Core.Path.{◌≡◌, sym, ap, ◌∙◌, subst}
 use mathlib.Core.List.{List, []}
-use mathlib.Core.Option.{none}
 use Prim.Native.Nat.{ℕ, ◌+◌, ◌*◌, ◌≤◌, ◌<◌}
 use native.Mathlib.Omega.{arith}
 use lib.Dec.{lit<}
@@ -77,7 +77,7 @@ module _ (h : Head) (xs : List ℕ) (sound : Sound h xs) (i : ℕ) (q : i < h.li
 
   pub grafted-entry : grafted_at (state_of h xs) i ≡ entry_of (grafts_of ps) rs (ref_at es i)
   unfolding state_of grafted_in cache_of
-  grafted-entry = get_or-map-in (entry_of (grafts_of ps) rs) es i (entry 0 (record { expires = 0; value = record { first = none; kept = none; peers = [] } })) (ref 0 []) (omega (arith, length-refs 119 n tab))
+  grafted-entry = get_or-map-in (entry_of (grafts_of ps) rs) es i (entry 0 (record { expires = 0; value = record { first = None; kept = None; peers = [] } })) (ref 0 []) (omega (arith, length-refs 119 n tab))
 
   pub peers-row : (grafts_at (state_of h xs) i).peers ≡ hops_in (round_of ps) list
   unfolding grafts_of

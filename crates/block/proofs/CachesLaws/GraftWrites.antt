@@ -1,8 +1,8 @@
 -- A write of the `first` or the `kept` of a grafted message: the value that its bytes then hold, and what the write does to the state.
 -- Assumes nothing.
+use Rattle.std.specs.Prelude.{Option, Some, None}
 use mathlib.Core.Path.{◌≡◌, refl, sym, ap, ◌∙◌, subst}
 use mathlib.Core.List.{List, [], ◌∷◌, ◌++◌, map}
-use mathlib.Core.Option.{Option, none, some}
 use Prim.Native.Nat.{ℕ, zero, suc, ◌+◌, ◌*◌, ◌^◌, ◌≤◌, ◌<◌}
 use native.Mathlib.Omega.{arith}
 use lib.Dec.{lit<, ltb, eqb}
@@ -18,7 +18,7 @@ use Rattle.storage.proofs.RowsLaws.Parts.{length_part, length-put, part-put, par
 use Rattle.storage.specs.Refs.Refs.{Ref, ref, ref_of, refs}
 use Rattle.storage.proofs.RefsLaws.Places.{ref-at, length-refs}
 use Rattle.time_cache.specs.TimeCache.{Timed, Cache, with_value, replace}
-use Rattle.time_cache.specs.Tables.{ExpiryRow, row_at, held, refs_at, rows_at, cache_at, read_as, values_as, Lies, OnlyTwo, Sound as SoundCache}
+use Rattle.time_cache.specs.Tables.{ExpiryRow, row_at, value_bytes, refs_at, rows_at, cache_at, read_as, values_as, Lies, OnlyTwo, Sound as SoundCache}
 use Rattle.time_cache.specs.Steps.{ref_at}
 use Rattle.time_cache.specs.declared.cache.TimeBoundCache.{TimeBoundCache}
 use Rattle.time_cache.proofs.LoanLaws.{only_same, only-put, only-both}
@@ -55,7 +55,7 @@ module _ (ps own rest : List ℕ) (long : length own ≡ 117) where
   old = grafts_of ps own rest
 
   pub first-value : (p r : ℕ) → p < 256 ^ 8 → r < 256 ^ 2
-      → grafts_of ps (put 0 (first_bytes p r) own) rest ≡ record { first = some (record { peer = p; round = r }); kept = old.kept; peers = old.peers }
+      → grafts_of ps (put 0 (first_bytes p r) own) rest ≡ record { first = Some (record { peer = p; round = r }); kept = old.kept; peers = old.peers }
   unfolding grafts_of field_of half_at part
   first-value p r hp hr =
       let bs : List ℕ = first_bytes p r in
@@ -74,7 +74,7 @@ module _ (ps own rest : List ℕ) (long : length own ≡ 117) where
         peers = hops_in (round_of ps) (d20 z);
       }
 
-  pub kept-value : (p : ℕ) → p < 256 ^ 8 → grafts_of ps (put 11 (kept_bytes p) own) rest ≡ record { first = old.first; kept = some p; peers = old.peers }
+  pub kept-value : (p : ℕ) → p < 256 ^ 8 → grafts_of ps (put 11 (kept_bytes p) own) rest ≡ record { first = old.first; kept = Some p; peers = old.peers }
   unfolding grafts_of field_of half_at part
   kept-value p hp =
       let bs : List ℕ = kept_bytes p in
@@ -128,8 +128,8 @@ module _ {A B : Type 0} (f : A → B) where
       (λ p. rw p (cases (eqb k e.key) (λ q. rw q refl) (λ q. rw q (ap (λ (l : Map (Timed B)). read_as f e ∷ l) (insert-as k v m)))))
 
   option_as : Option (Timed A) → Option (Timed B)
-  option_as none = none
-  option_as (some a) = some (timed_as a)
+  option_as None = None
+  option_as (Some a) = Some (timed_as a)
 
   lookup-as : (k : ℕ) (m : Map (Timed A)) → lookup k (map (read_as f) m) ≡ option_as (lookup k m)
   unfolding lookup option_as
@@ -138,8 +138,8 @@ module _ {A B : Type 0} (f : A → B) where
 
   value_as : (k : ℕ) (v : A) (o : Option (Timed A)) (m : Map (Timed A)) → map (read_as f) (with_value k v o m) ≡ with_value k (f v) (option_as o) (map (read_as f) m)
   unfolding with_value option_as
-  value_as k v none m = refl
-  value_as k v (some t) m = insert-as k (record { expires = t.expires; value = v }) m
+  value_as k v None m = refl
+  value_as k v (Some t) m = insert-as k (record { expires = t.expires; value = v }) m
 
   pub replace-as : (k : ℕ) (v : A) (c : Cache A) → values_as f (replace k v c) ≡ replace k (f v) (values_as f c)
   unfolding values_as replace
@@ -257,7 +257,7 @@ module _ (h : Head) (xs : List ℕ) (sound : Sound h xs) (order : InOrder (state
       let all : grafted_in ps n (table l 7 ys) m (table l 8 ys) ≡ replace (grafted_at (state_of h xs) i).key g (state_of h xs).grafted =
       sym (cache-in l 7 119 n 8 40 m ys (lit< tt) n-in (lit< tt) m-in (grafts_of ps))
       ∙ ap (values_as (as_value (grafts_of ps))) (own-written c xs s i q lies o bs (omega arith))
-      ∙ replace-as (as_value (grafts_of ps)) x.key (held (put o bs r.own) x.rest) (cache_at c xs)
+      ∙ replace-as (as_value (grafts_of ps)) x.key (value_bytes (put o bs r.own) x.rest) (cache_at c xs)
       ∙ (λ z. replace (k z) (e z) (grafted-as h xs sound.fit z)) in
       record {
         state = grafted-state h xs ys sound n m (119 * (l.G + 1)) 0 (omega arith) (omega arith) ys-long only ∙ ap (λ (t : Cache Grafts). with_grafted t (state_of h xs)) all;
@@ -285,12 +285,12 @@ module _ (h : Head) (xs : List ℕ) (sound : Sound h xs) (order : InOrder (state
       ap (put (a + 11) (le_bytes 2 rd)) one
       ∙ put-put-next (a + 2) (a + 11) (1 ∷ le_bytes 8 p) (le_bytes 2 rd) xs (omega (arith, l8)) (omega (arith, inside, l2))
       ∙ ap (λ (b : ℕ). put b bs xs) e in
-      let g : Grafts = record { first = some (record { peer = p; round = rd }); kept = (grafts_at (state_of h xs) i).kept; peers = (grafts_at (state_of h xs) i).peers } in
+      let g : Grafts = record { first = Some (record { peer = p; round = rd }); kept = (grafts_at (state_of h xs) i).kept; peers = (grafts_at (state_of h xs) i).peers } in
       let same : grafts_at (state_of h xs) i ≡ grafts_of (peers_of h xs) (r h xs sound order i q 0 bs w).own (x h xs sound order i q 0 bs w).rest =
       ap (λ (y : Entry (Timed Grafts)). y.value.value) (entry-same h xs sound order i q 0 bs w) in
       let go = own-goes h xs sound order i q 0 bs w (list-kept h xs sound order i q 0 bs w (omega (arith, length-first p rd))) g
       (first-value (peers_of h xs) (r h xs sound order i q 0 bs w).own (x h xs sound order i q 0 bs w).rest (own-long h xs sound order i q 0 bs w) p rd hp hr
-      ∙ (λ z. record { first = some (record { peer = p; round = rd }); kept = (sym same z).kept; peers = (sym same z).peers })) in
+      ∙ (λ z. record { first = Some (record { peer = p; round = rd }); kept = (sym same z).kept; peers = (sym same z).peers })) in
       subst (Goes (first_at i p rd) h xs h) (sym two) (record { state = go.state; sound = go.sound })
 
   pub kept_goes : Goes (kept_at i p) h xs h (put (a + 14) (le_bytes 8 p) (set xs (a + 13) 1))
@@ -303,12 +303,12 @@ module _ (h : Head) (xs : List ℕ) (sound : Sound h xs) (order : InOrder (state
       ap (put (a + 14) (le_bytes 8 p)) (set-put (a + 13) 1 xs (omega (arith, inside)))
       ∙ put-put-next (a + 13) (a + 14) (1 ∷ []) (le_bytes 8 p) xs (omega arith) (omega (arith, inside))
       ∙ ap (λ (b : ℕ). put b bs xs) e in
-      let g : Grafts = record { first = (grafts_at (state_of h xs) i).first; kept = some p; peers = (grafts_at (state_of h xs) i).peers } in
+      let g : Grafts = record { first = (grafts_at (state_of h xs) i).first; kept = Some p; peers = (grafts_at (state_of h xs) i).peers } in
       let same : grafts_at (state_of h xs) i ≡ grafts_of (peers_of h xs) (r h xs sound order i q 11 bs w).own (x h xs sound order i q 11 bs w).rest =
       ap (λ (y : Entry (Timed Grafts)). y.value.value) (entry-same h xs sound order i q 11 bs w) in
       let go = own-goes h xs sound order i q 11 bs w (list-kept h xs sound order i q 11 bs w (omega (arith, length-kept p))) g
       (kept-value (peers_of h xs) (r h xs sound order i q 11 bs w).own (x h xs sound order i q 11 bs w).rest (own-long h xs sound order i q 11 bs w) p hp
-      ∙ (λ z. record { first = (sym same z).first; kept = some p; peers = (sym same z).peers })) in
+      ∙ (λ z. record { first = (sym same z).first; kept = Some p; peers = (sym same z).peers })) in
       subst (Goes (kept_at i p) h xs h) (sym one) (record { state = go.state; sound = go.sound })
 
 -- the store of another list of peers

@@ -15,7 +15,7 @@ use Rattle.storage.specs.Rows.Part.{part}
 use Rattle.storage.specs.Refs.Refs.{Ref, ref, ref_of, refs, places, Below, names, lowered, left}
 use Rattle.storage.proofs.RefsLaws.Places.{ref-at, length-refs}
 use Rattle.time_cache.specs.TimeCache.{Cache, expire_until}
-use Rattle.time_cache.specs.Tables.{held, cache_at, refs_at, rows_at, named, Lies, Room, Sound as SoundCache, OnlyTwo, values_as}
+use Rattle.time_cache.specs.Tables.{value_bytes, cache_at, refs_at, rows_at, named, Lies, FitsOneMore, Sound as SoundCache, OnlyTwo, values_as}
 use Rattle.time_cache.specs.Steps.{ref_at, Expires}
 use Rattle.time_cache.specs.declared.cache.TimeBoundCache.{TimeBoundCache}
 use Rattle.time_cache.specs.declared.cache.Expired.{Expired}
@@ -82,12 +82,12 @@ module _ (h : Head) (xs : List ℕ) (fit : Fit h xs) where
   pub grafted-lies : Lies (grafted_cache h) xs
   grafted-lies = record { entry_wide = omega arith; expiry_wide = omega arith; apart = omega arith; within = omega arith; few = omega arith }
 
-  pub grafted-room : Room (grafted_cache h) xs
+  pub grafted-room : FitsOneMore (grafted_cache h) xs
   grafted-room = record { entry_wide = omega arith; expiry_wide = omega arith; apart = omega arith; within = omega arith; few = omega arith }
 
   pub grafted-keys : named (rows_at (grafted_cache h) xs) (refs_at (grafted_cache h) xs) ≡ keys (state_of h xs).grafted.entries
   unfolding state_of grafted_in
-  grafted-keys = sym (keys-named held (refs_at (grafted_cache h) xs) (rows_at (grafted_cache h) xs)) ∙ keys_in l 7 119 n 8 40 m xs (lit< tt) (omega arith) (lit< tt) (omega arith) (grafts_of (peers_of h xs))
+  grafted-keys = sym (keys-named value_bytes (refs_at (grafted_cache h) xs) (rows_at (grafted_cache h) xs)) ∙ keys_in l 7 119 n 8 40 m xs (lit< tt) (omega arith) (lit< tt) (omega arith) (grafts_of (peers_of h xs))
 
   pub grafted-as : values_as (as_value (grafts_of (peers_of h xs))) (cache_at (grafted_cache h) xs) ≡ (state_of h xs).grafted
   unfolding state_of grafted_in

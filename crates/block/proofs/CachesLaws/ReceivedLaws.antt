@@ -8,7 +8,7 @@ use lib.Dec.{lit<}
 use lib.ListN.{length, set}
 use Rattle.storage.specs.Refs.Refs.{Ref, places, Below}
 use Rattle.time_cache.specs.TimeCache.{Cache, put as put_in, expire_until, holds}
-use Rattle.time_cache.specs.Tables.{cache_at, Lies, Room, Sound as SoundCache, OnlyTwo, values_as}
+use Rattle.time_cache.specs.Tables.{cache_at, Lies, FitsOneMore, Sound as SoundCache, OnlyTwo, values_as}
 use Rattle.time_cache.specs.Steps.{held_at, Inserts, Expires}
 use Rattle.time_cache.specs.declared.cache.TimeBoundCache.{TimeBoundCache}
 use Rattle.time_cache.specs.declared.cache.Inserted.{Inserted}
@@ -39,7 +39,7 @@ module _ (h : Head) (xs : List ℕ) (fit : Fit h xs) where
   pub received-lies : Lies (received_cache h) xs
   received-lies = record { entry_wide = omega arith; expiry_wide = omega arith; apart = omega arith; within = omega arith; few = omega arith }
 
-  pub received-room : Room (received_cache h) xs
+  pub received-room : FitsOneMore (received_cache h) xs
   received-room = record { entry_wide = omega arith; expiry_wide = omega arith; apart = omega arith; within = omega arith; few = omega arith }
 
   pub received_as : values_as (as_value nothing_of) (cache_at (received_cache h) xs) ≡ (state_of h xs).received

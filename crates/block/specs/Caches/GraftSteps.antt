@@ -1,7 +1,6 @@
 -- What is read from a grafted message, and the steps on it.
 -- Assumes nothing.
-use Rattle.std.specs.Prelude.{ℕ, ◌<◌, ◌≡◌, List, [], get_or}
-use Rattle.std.proofs.Math.Option.{none, some}
+use Rattle.std.specs.Prelude.{ℕ, ◌<◌, ◌≡◌, List, [], get_or, Some, None}
 use Rattle.storage.specs.Lists.Map.{Map, Entry, entry}
 use Rattle.time_cache.specs.TimeCache.{Timed, replace}
 use Rattle.protocol.specs.State.{State, Grafts, with_grafted}
@@ -12,7 +11,7 @@ use Rattle.block.specs.declared.hops.Hop.{Hop as LinkHop}
 
 -- grafted message i
 abbrev pub grafted_at : State → ℕ → Entry (Timed Grafts)
-grafted_at s i = get_or s.grafted.entries i (entry 0 (record { expires = 0; value = record { first = none; kept = none; peers = [] } }))
+grafted_at s i = get_or s.grafted.entries i (entry 0 (record { expires = 0; value = record { first = None; kept = None; peers = [] } }))
 
 -- the grafts of grafted message i
 abbrev pub grafts_at : State → ℕ → Grafts
@@ -25,8 +24,8 @@ pub record GraftIs (h : Head) (block : List ℕ) (peers : Map ℕ) (j : ℕ) (r 
 
 -- "set a grafted entry's `first` to sender and r"
 abbrev pub first_at : ℕ → ℕ → ℕ → State → State
-first_at i p r s = with_grafted (replace (grafted_at s i).key (record { first = some (record { peer = p; round = r }); kept = (grafts_at s i).kept; peers = (grafts_at s i).peers }) s.grafted) s
+first_at i p r s = with_grafted (replace (grafted_at s i).key (record { first = Some (record { peer = p; round = r }); kept = (grafts_at s i).kept; peers = (grafts_at s i).peers }) s.grafted) s
 
 -- the entry's `kept` is the sender
 abbrev pub kept_at : ℕ → ℕ → State → State
-kept_at i p s = with_grafted (replace (grafted_at s i).key (record { first = (grafts_at s i).first; kept = some p; peers = (grafts_at s i).peers }) s.grafted) s
+kept_at i p s = with_grafted (replace (grafted_at s i).key (record { first = (grafts_at s i).first; kept = Some p; peers = (grafts_at s i).peers }) s.grafted) s

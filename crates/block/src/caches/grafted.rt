@@ -37,81 +37,75 @@ pub const PEERS: usize = 22;
 pub const ROW_WIDTH: usize = 40;
 
 // Where an identifier stands among the grafted messages, or before which it would stand.
-pub fn find_grafted(h: Head, block: &[u8], id: Id) -> Result<usize, usize>
-    requires { Sound h block.now × InOrder (state_of h block.now).grafted }
-    ensures { FoundIs (keys (state_of h block.now).grafted.entries) (id_of id) result }
+pub fn find_grafted(head: Head, block: &[u8], id: Id) -> Result<usize, usize>
+    requires { Sound head block.now × InOrder (state_of head block.now).grafted }
+    ensures { FoundIs (keys (state_of head block.now).grafted.entries) (id_of id) result }
 {
-    let c = time_caches::grafted_cache(h);
-    c.find(block, id)
+    time_caches::grafted_cache(head).find(block, id)
 }
 
 // `expire_until` of the grafted messages.
-pub fn expire_grafted(mut h: Head, block: &mut [u8], instant: Millis) -> Head
-    requires { Sound h block.old × InOrder (state_of h block.old).grafted }
-    ensures { Goes (grafted_left instant.0) h block.old result block.new }
+pub fn expire_grafted(mut head: Head, block: &mut [u8], instant: Millis) -> Head
+    requires { Sound head block.old × InOrder (state_of head block.old).grafted }
+    ensures { Goes (grafted_left instant.0) head block.old result block.new }
 {
-    let c = time_caches::grafted_cache(h);
-    let e = c.expire_until(block, instant);
-    let n = e.cache.entries.len;
-    let m = e.cache.expiry.len;
-    h.live.grafted = n;
-    h.live.grafted_rows = m;
-    h
+    let expired = time_caches::grafted_cache(head).expire_until(block, instant);
+    head.live.grafted = expired.cache.entries.len;
+    head.live.grafted_rows = expired.cache.expiry.len;
+    head
 }
 
 // How many peers are grafted for the grafted message i.
-pub fn graft_count(h: Head, block: &[u8], i: usize) -> usize
-    requires { Sound h block.now × (i < h.live.grafted) }
-    ensures { (result ≡ length (grafts_at (state_of h block.now) i).peers) × (result ≤ 32) }
+pub fn graft_count(head: Head, block: &[u8], i: usize) -> usize
+    requires { Sound head block.now × (i < head.live.grafted) }
+    ensures { (result ≡ length (grafts_at (state_of head block.now) i).peers) × (result ≤ 32) }
 {
-    let at = head::grafted_at(h.limits) + ENTRY_WIDTH * i + PEERS;
+    let at = head::grafted_at(head.limits) + ENTRY_WIDTH * i + PEERS;
     hops::count(block, at)
 }
 
 // Peer j of the grafted message i, by the number of its link, and its round.
-pub fn graft_at(h: Head, block: &[u8], i: usize, j: usize) -> Hop
-    requires { Sound h block.now × (i < h.live.grafted) × (j < length (grafts_at (state_of h block.now) i).peers) }
-    ensures { GraftIs h block.now (grafts_at (state_of h block.now) i).peers j result }
+pub fn graft_at(head: Head, block: &[u8], i: usize, j: usize) -> Hop
+    requires { Sound head block.now × (i < head.live.grafted) × (j < length (grafts_at (state_of head block.now) i).peers) }
+    ensures { GraftIs head block.now (grafts_at (state_of head block.now) i).peers j result }
 {
-    let at = head::grafted_at(h.limits) + ENTRY_WIDTH * i + PEERS;
+    let at = head::grafted_at(head.limits) + ENTRY_WIDTH * i + PEERS;
     hops::hop_at(block, at, j)
 }
 
 // "set a grafted entry's `first` to sender and r": of the grafted message i.
-pub fn set_first(h: Head, block: &mut [u8], i: usize, peer: u64, round: Round)
-    requires { Sound h block.old × InOrder (state_of h block.old).grafted × (i < h.live.grafted) }
-    ensures { Goes (first_at i peer round.0) h block.old h block.new }
+pub fn set_first(head: Head, block: &mut [u8], i: usize, peer: u64, round: Round)
+    requires { Sound head block.old × InOrder (state_of head block.old).grafted × (i < head.live.grafted) }
+    ensures { Goes (first_at i peer round.0) head block.old head block.new }
 {
-    let a = head::grafted_at(h.limits) + ENTRY_WIDTH * i;
-    block[a + FIRST] = 1;
-    word::store(block, a + FIRST_PEER, peer);
-    word::store_le(block, a + FIRST_ROUND, 2, round.0 as u64);
+    let at = head::grafted_at(head.limits) + ENTRY_WIDTH * i;
+    block[at + FIRST] = 1;
+    word::store(block, at + FIRST_PEER, peer);
+    word::store_le(block, at + FIRST_ROUND, 2, round.0 as u64);
 }
 
 // The entry's `kept` is the sender: of the grafted message i.
-pub fn set_kept(h: Head, block: &mut [u8], i: usize, peer: u64)
-    requires { Sound h block.old × InOrder (state_of h block.old).grafted × (i < h.live.grafted) }
-    ensures { Goes (kept_at i peer) h block.old h block.new }
+pub fn set_kept(head: Head, block: &mut [u8], i: usize, peer: u64)
+    requires { Sound head block.old × InOrder (state_of head block.old).grafted × (i < head.live.grafted) }
+    ensures { Goes (kept_at i peer) head block.old head block.new }
 {
-    let a = head::grafted_at(h.limits) + ENTRY_WIDTH * i;
-    block[a + KEPT] = 1;
-    word::store(block, a + KEPT_PEER, peer);
+    let at = head::grafted_at(head.limits) + ENTRY_WIDTH * i;
+    block[at + KEPT] = 1;
+    word::store(block, at + KEPT_PEER, peer);
 }
 
 // How many of the grafted messages `expire_until` leaves.
-pub fn grafted_later(h: Head, block: &[u8], instant: Millis) -> usize
-    requires { Sound h block.now × InOrder (state_of h block.now).grafted }
-    ensures { result ≡ length (later_cache instant.0 (state_of h block.now).grafted).entries }
+pub fn grafted_later(head: Head, block: &[u8], instant: Millis) -> usize
+    requires { Sound head block.now × InOrder (state_of head block.now).grafted }
+    ensures { result ≡ length (later_cache instant.0 (state_of head block.now).grafted).entries }
 {
-    let c = time_caches::grafted_cache(h);
-    c.entries_later(block, instant)
+    time_caches::grafted_cache(head).entries_later(block, instant)
 }
 
 // How many expiry entries of the grafted messages `expire_until` leaves.
-pub fn grafted_rows_later(h: Head, block: &[u8], instant: Millis) -> usize
-    requires { Sound h block.now × InOrder (state_of h block.now).grafted }
-    ensures { result ≡ length (later_cache instant.0 (state_of h block.now).grafted).expiry }
+pub fn grafted_rows_later(head: Head, block: &[u8], instant: Millis) -> usize
+    requires { Sound head block.now × InOrder (state_of head block.now).grafted }
+    ensures { result ≡ length (later_cache instant.0 (state_of head block.now).grafted).expiry }
 {
-    let c = time_caches::grafted_cache(h);
-    c.rows_later(block, instant)
+    time_caches::grafted_cache(head).rows_later(block, instant)
 }

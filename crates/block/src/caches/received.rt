@@ -18,65 +18,55 @@ pub const ENTRY_WIDTH: usize = 2;
 pub const ROW_WIDTH: usize = 40;
 
 // Whether a message is received.
-pub fn is_received(h: Head, block: &[u8], id: Id) -> bool
-    requires { Sound h block.now × InOrder (state_of h block.now).received }
-    ensures { result ≡ holds (id_of id) (state_of h block.now).received }
+pub fn is_received(head: Head, block: &[u8], id: Id) -> bool
+    requires { Sound head block.now × InOrder (state_of head block.now).received }
+    ensures { result ≡ holds (id_of id) (state_of head block.now).received }
 {
-    let c = time_caches::received_cache(h);
-    c.contains_key(block, id)
+    time_caches::received_cache(head).contains_key(block, id)
 }
 
 // "mark received" until `expires`: requires that what it leaves is within the limits.
-pub fn insert_received(mut h: Head, block: &mut [u8], id: Id, expires: Millis) -> Head
-    requires { Sound h block.old × InOrder (state_of h block.old).received × AtMost h.limits.received (put (id_of id) tt expires.0 (state_of h block.old).received) }
-    ensures { Goes (received_also (id_of id) expires.0) h block.old result block.new }
+pub fn insert_received(mut head: Head, block: &mut [u8], id: Id, expires: Millis) -> Head
+    requires { Sound head block.old × InOrder (state_of head block.old).received × AtMost head.limits.received (put (id_of id) tt expires.0 (state_of head block.old).received) }
+    ensures { Goes (received_also (id_of id) expires.0) head block.old result block.new }
 {
-    let c = time_caches::received_cache(h);
-    let e = c.insert(block, id, expires);
-    let n = e.cache.entries.len;
-    let m = e.cache.expiry.len;
-    h.live.received = n;
-    h.live.received_rows = m;
-    h
+    let inserted = time_caches::received_cache(head).insert(block, id, expires);
+    head.live.received = inserted.cache.entries.len;
+    head.live.received_rows = inserted.cache.expiry.len;
+    head
 }
 
 // `expire_until` of the received messages.
-pub fn expire_received(mut h: Head, block: &mut [u8], instant: Millis) -> Head
-    requires { Sound h block.old × InOrder (state_of h block.old).received }
-    ensures { Goes (received_left instant.0) h block.old result block.new }
+pub fn expire_received(mut head: Head, block: &mut [u8], instant: Millis) -> Head
+    requires { Sound head block.old × InOrder (state_of head block.old).received }
+    ensures { Goes (received_left instant.0) head block.old result block.new }
 {
-    let c = time_caches::received_cache(h);
-    let e = c.expire_until(block, instant);
-    let n = e.cache.entries.len;
-    let m = e.cache.expiry.len;
-    h.live.received = n;
-    h.live.received_rows = m;
-    h
+    let expired = time_caches::received_cache(head).expire_until(block, instant);
+    head.live.received = expired.cache.entries.len;
+    head.live.received_rows = expired.cache.expiry.len;
+    head
 }
 
 // How many of the received messages `expire_until` leaves.
-pub fn received_later(h: Head, block: &[u8], instant: Millis) -> usize
-    requires { Sound h block.now × InOrder (state_of h block.now).received }
-    ensures { result ≡ length (later_cache instant.0 (state_of h block.now).received).entries }
+pub fn received_later(head: Head, block: &[u8], instant: Millis) -> usize
+    requires { Sound head block.now × InOrder (state_of head block.now).received }
+    ensures { result ≡ length (later_cache instant.0 (state_of head block.now).received).entries }
 {
-    let c = time_caches::received_cache(h);
-    c.entries_later(block, instant)
+    time_caches::received_cache(head).entries_later(block, instant)
 }
 
 // How many expiry entries of the received messages `expire_until` leaves.
-pub fn received_rows_later(h: Head, block: &[u8], instant: Millis) -> usize
-    requires { Sound h block.now × InOrder (state_of h block.now).received }
-    ensures { result ≡ length (later_cache instant.0 (state_of h block.now).received).expiry }
+pub fn received_rows_later(head: Head, block: &[u8], instant: Millis) -> usize
+    requires { Sound head block.now × InOrder (state_of head block.now).received }
+    ensures { result ≡ length (later_cache instant.0 (state_of head block.now).received).expiry }
 {
-    let c = time_caches::received_cache(h);
-    c.rows_later(block, instant)
+    time_caches::received_cache(head).rows_later(block, instant)
 }
 
 // Whether `expire_until` leaves a message among the received messages.
-pub fn is_received_later(h: Head, block: &[u8], id: Id, instant: Millis) -> bool
-    requires { Sound h block.now × InOrder (state_of h block.now).received }
-    ensures { result ≡ holds (id_of id) (later_cache instant.0 (state_of h block.now).received) }
+pub fn is_received_later(head: Head, block: &[u8], id: Id, instant: Millis) -> bool
+    requires { Sound head block.now × InOrder (state_of head block.now).received }
+    ensures { result ≡ holds (id_of id) (later_cache instant.0 (state_of head block.now).received) }
 {
-    let c = time_caches::received_cache(h);
-    c.contains_later(block, id, instant)
+    time_caches::received_cache(head).contains_later(block, id, instant)
 }

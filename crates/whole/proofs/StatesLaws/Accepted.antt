@@ -1,9 +1,9 @@
 -- What a saving and a return mean for what the area keeps: the steps of a history.
 -- Assumes nothing.
+use Rattle.std.specs.Prelude.{Option, Some, None}
 use mathlib.Core.Path.{◌≡◌, refl, sym, ap, ◌∙◌, subst}
 use mathlib.Core.Bool.{true}
 use mathlib.Core.List.{List, [], ◌∷◌}
-use mathlib.Core.Option.{Option, none, some}
 use Prim.Native.Nat.{ℕ}
 use native.Mathlib.Omega.{arith}
 use lib.ListN.{length}
@@ -63,15 +63,15 @@ saved-not block counts area name area' number long ne s = by (save block counts 
 -- what an accepted return brought back stands in the area under the name
 pub record Found (block area : List ℕ) (name : ℕ) (block' : List ℕ) (counts' : Counts) : Type 0 where
   pub it : Kept
-  pub there : lookup name (kept_in (length block) area) ≡ some it
+  pub there : lookup name (kept_in (length block) area) ≡ Some it
   pub block-is : block' ≡ it.block
   pub counts-is : counts' ≡ it.counts
 
 by_name : (o : Option Kept) (block : List ℕ) (counts : Counts) (block' : List ℕ) (counts' : Counts) (area : List ℕ) (name : ℕ) → lookup name (kept_in (length block) area) ≡ o
     → 0 ≡ return_number (or_unknown o) → block' ≡ block_left (or_unknown o) block → counts' ≡ counts_left (or_unknown o) counts → Found block area name block' counts'
 unfolding return_number block_left counts_left or_unknown
-by_name none block counts block' counts' area name e t b c = absurd (omega (arith, t))
-by_name (some k) block counts block' counts' area name e t b c = record { it = k; there = e; block-is = b; counts-is = c }
+by_name None block counts block' counts' area name e t b c = absurd (omega (arith, t))
+by_name (Some k) block counts block' counts' area name e t b c = record { it = k; there = e; block-is = b; counts-is = c }
 
 pub brought : (block : List ℕ) (counts : Counts) (area : List ℕ) (name : ℕ) (block' : List ℕ) (counts' : Counts) (long : ℕ) → Returns block counts area name block' counts' 0 long → Found block area name block' counts'
 unfolding go_back return_number block_left counts_left
@@ -84,7 +84,7 @@ brought block counts area name block' counts' long s =
 
 -- from a whole block, a return to a name that an area keeps is accepted
 pub returned-there : (block : List ℕ) (counts : Counts) (area : List ℕ) (name : ℕ) (block' : List ℕ) (counts' : Counts) (number long : ℕ) (k : Kept) → whole_block block ≡ true → area_holds (length block) area ≡ true →
-    lookup name (kept_in (length block) area) ≡ some k → Returns block counts area name block' counts' number long → number ≡ 0
+    lookup name (kept_in (length block) area) ≡ Some k → Returns block counts area name block' counts' number long → number ≡ 0
 unfolding go_back return_number or_unknown
 returned-there block counts area name block' counts' number long k w h e s = rw (w, h, e) at s.number
 

@@ -1,10 +1,10 @@
 -- "Named states", computed: areas that question 17 takes and refuses, and names.
 -- Assumes nothing.
+use Rattle.std.specs.Prelude.{Some}
 use Prim.Native.Nat.{ℕ}
 use mathlib.Core.Path.{◌≡◌, refl}
 use mathlib.Core.Bool.{true, false}
 use mathlib.Core.List.{List, [], ◌∷◌, ◌++◌}
-use mathlib.Core.Option.{some}
 use lib.ListN.{replicate}
 use Rattle.storage.specs.Lists.Base.{all, once, member, concat_map}
 use Rattle.storage.specs.Lists.Map.{Entry, entry, lookup}
@@ -37,7 +37,7 @@ pub record AreaExamples : Type 0 where
   pub five : area_holds 0 (replicate 255 0 ++ (5 ∷ [])) ≡ false
   pub empty : area_holds 0 (replicate 255 0 ++ (1 ∷ [])) ≡ false
   -- "Any name is allowed": 0 is one, and all eight bytes are read
-  pub zero : lookup 0 two ≡ some (of 10)
+  pub zero : lookup 0 two ≡ Some (of 10)
   pub high : name_at (le_bytes 8 72057594037927936) 0 ≡ 72057594037927936
   -- "saving under a used one replaces it", in its place
   pub replaced : keep (entry 0 (of 20)) two ≡ entry 0 (of 20) ∷ entry 1 (of 11) ∷ []

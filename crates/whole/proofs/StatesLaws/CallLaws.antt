@@ -1,10 +1,10 @@
 -- A saving and a return, answer by answer.
 -- Assumes nothing.
+use Rattle.std.specs.Prelude.{Some, None}
 use mathlib.Core.Path.{◌≡◌, refl, sym, ap, ◌∙◌, subst}
 use mathlib.Core.Logic.{◌⊎◌, inl, inr}
 use mathlib.Core.Bool.{true, false}
 use mathlib.Core.List.{List, [], ◌∷◌}
-use mathlib.Core.Option.{none, some}
 use Prim.Native.Nat.{ℕ, ◌+◌, ◌-◌, ◌*◌, ◌≤◌, ◌<◌}
 use native.Mathlib.Nat.{eq-or-lt_of_le}
 use native.Mathlib.Omega.{arith}
@@ -113,7 +113,7 @@ module _ (block : List ℕ) (counts : Counts) (area : List ℕ) (name : ℕ) whe
   pub returns-15 : whole_block block ≡ true → area_holds n area ≡ true → Placed (kept area) name area (kept area) → Returns block counts area name block counts 15 0
   unfolding go_back return_number block_left counts_left or_unknown
   returns-15 w h p =
-      let e : lookup name ks ≡ none = named-not name ks (subst (At name ks) (sym long_kept) (at_of n area name (kept area) p)) in
+      let e : lookup name ks ≡ None = named-not name ks (subst (At name ks) (sym long_kept) (at_of n area name (kept area) p)) in
       record { number = rw (w, h, e) refl; long = refl; back = rw (w, h, e) refl; left = rw (w, h, e) refl }
 
   pub returns-0 : whole_block block ≡ true → area_holds n area ≡ true → (i : ℕ) → Placed (kept area) name area i → i < kept area
@@ -126,7 +126,7 @@ module _ (block : List ℕ) (counts : Counts) (area : List ℕ) (name : ℕ) whe
     left = rw (w, h, there) (ap (λ (k : Entry Kept). k.value.counts) (sym it));
   }
     where
-      there : lookup name ks ≡ some (get_or ks i nobody).value
+      there : lookup name ks ≡ Some (get_or ks i nobody).value
       there = named-there name ks i (at_of n area name i p) (omega (arith, long_kept))
 
       it : get_or ks i nobody ≡ kept_at n area i

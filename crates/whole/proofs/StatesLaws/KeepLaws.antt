@@ -1,8 +1,8 @@
 -- One state more, or another under its name: where it stands, and the bytes.
 -- Assumes nothing.
+use Rattle.std.specs.Prelude.{Some, None}
 use mathlib.Core.Path.{◌≡◌, refl, sym, ap, ◌∙◌}
 use mathlib.Core.List.{List, [], ◌∷◌}
-use mathlib.Core.Option.{none, some}
 use Prim.Native.Nat.{ℕ, zero, suc, ◌+◌, ◌-◌, ◌*◌, ◌≤◌, ◌<◌, zero-le, suc-le-suc}
 use native.Mathlib.Nat.{le_of_suc-le-suc, not-suc-le-zero, zero-add}
 use native.Mathlib.Omega.{arith}
@@ -56,13 +56,13 @@ module _ (name : ℕ) where
   keep-put x e (k ∷ ks) (suc i) a =
       rw (ne_eqb x.key k.key (λ t. a.before 0 (suc-le-suc zero-le) (sym t ∙ e))) (ap (λ (t : List (Entry Kept)). k ∷ t) (keep-put x e ks i (at_tail k ks i a)))
 
-  pub named-there : (ks : List (Entry Kept)) (i : ℕ) → At ks i → i < length ks → lookup name ks ≡ some (get_or ks i nobody).value
+  pub named-there : (ks : List (Entry Kept)) (i : ℕ) → At ks i → i < length ks → lookup name ks ≡ Some (get_or ks i nobody).value
   unfolding lookup
   named-there [] i a h = absurd (not-suc-le-zero h)
   named-there (k ∷ ks) zero a h = rw (eq-eqb name k.key (sym (a.found h)))
   named-there (k ∷ ks) (suc i) a h = rw (ne_eqb name k.key (λ t. a.before 0 (suc-le-suc zero-le) (sym t))) (named-there ks i (at_tail k ks i a) (le_of_suc-le-suc h))
 
-  pub named-not : (ks : List (Entry Kept)) → At ks (length ks) → lookup name ks ≡ none
+  pub named-not : (ks : List (Entry Kept)) → At ks (length ks) → lookup name ks ≡ None
   unfolding lookup
   named-not [] a = refl
   named-not (k ∷ ks) a = rw (ne_eqb name k.key (λ t. a.before 0 (suc-le-suc zero-le) (sym t))) (named-not ks (at_tail k ks (length ks) a))

@@ -1,8 +1,7 @@
 -- "Named states", the second lent area, byte by byte: what it keeps, question 17, and what a saving and a return answer.
 -- In front stand 256 bytes: a row of 26 for each state kept (name 8, payload 8, control 8, hops 2), zeros, and in the last byte how many are kept. The blocks follow, then zeros.
 -- Assumes nothing.
-use Rattle.std.specs.Prelude.{ℕ, zero, suc, ◌+◌, ◌*◌, ◌^◌, ◌≤◌, ◌<◌, ◌≡◌, Bool, true, not, ◌&&◌, List, [], ◌∷◌, ◌++◌, leb, eqb, length, get_or, replicate, if◌then◌else◌}
-use Rattle.std.proofs.Math.Option.{Option, none, some}
+use Rattle.std.specs.Prelude.{ℕ, zero, suc, ◌+◌, ◌*◌, ◌^◌, ◌≤◌, ◌<◌, ◌≡◌, Bool, true, not, ◌&&◌, List, [], ◌∷◌, ◌++◌, leb, eqb, length, get_or, replicate, if◌then◌else◌, Option, Some, None}
 use Rattle.storage.specs.Lists.Base.{Exactly, all, once, concat_map}
 use Rattle.storage.specs.Lists.Map.{Entry, entry, keys, lookup, has}
 use Rattle.storage.specs.Rows.Part.{part, put}
@@ -78,8 +77,8 @@ pub data ReturnAnswer : Type 0 where
 
 -- "Returning to a name not kept answers 15"
 unfoldable pub or_unknown : Option Kept → ReturnAnswer
-or_unknown none = not_returned 15
-or_unknown (some k) = brought_back k
+or_unknown None = not_returned 15
+or_unknown (Some k) = brought_back k
 
 -- "5, 17, 15 for returning"
 unfoldable pub go_back : List ℕ → List ℕ → ℕ → ReturnAnswer

@@ -1,4 +1,4 @@
--- `by_link::next_of`: no note from `from` up to i is for the link. The measure is n - i.
+-- `by_link::next_of`: no note from `from` up to i is for the link.
 use mathlib.Core.Path.{◌≡◌, refl, sym, ap, ◌∙◌}
 use mathlib.Core.Bool.{true, false}
 use mathlib.Core.List.{List}
@@ -16,34 +16,34 @@ use Rattle.block.specs.LinkSteps.{peer_at}
 use Rattle.block.specs.NoteSteps.{note}
 use Rattle.block.proofs.LinkLaws.{count-peers}
 use Rattle.block.proofs.Scans.{keys-apart}
-use Rattle.alike.specs.Notes.{notes_of}
+use Rattle.alike.specs.NoteTable.{notes_of}
 use Rattle.alike.proofs.ByLink.{count-of, other-first}
 use borrow.Author.Rules.{rules}
 use Rattle.alike.proofs.by_link.next_of.Goals as goal
-use Rattle.alike.proofs.by_link.next_of.Goals.{After-count-n, After-link_at-l, Start}
+use Rattle.alike.proofs.by_link.next_of.Goals.{After-count-n, After-link_at, Start}
 
 pub loop-i-init : goal.loop-i-init
 loop-i-init c = (search rules, omega (arith, c.count-n.ensures, c.requires.3), refl)
 
-pub link_at-l-requires : goal.link_at-l-requires
-link_at-l-requires c = (c.requires.0, omega (arith, c.loop-i-test.true, c.count-n.ensures))
+pub link_at-requires : goal.link_at-requires
+link_at-requires c = (c.requires.0, omega (arith, c.loop-i-test.true, c.count-n.ensures))
 
 -- note i, whose link number was read
-module _ (d : After-link_at-l) where
+module _ (d : After-link_at) where
   abbrev f : After-count-n
-  f = (goal.at.After-link_at-l d).After-count-n
+  f = (goal.at.After-link_at d).After-count-n
 
   abbrev s : Start
   s = (goal.at.After-count-n f).Start
 
   abbrev st : State
-  st = state_of s.args.h s.args.block.now
+  st = state_of s.args.head s.args.block.now
 
   abbrev ns : List Note
-  ns = notes_of s.args.of st
+  ns = notes_of s.args.of.table st
 
   abbrev p : ℕ
-  p = peer_at st s.args.link
+  p = peer_at st s.args.of.link
 
   abbrev i : ℕ
   i = d.loop-i.i
@@ -52,37 +52,37 @@ module _ (d : After-link_at-l) where
   e = get_or ns i (note 0 0 0)
 
   here : i < length ns
-  here = omega (arith, count-of s.args.of s.args.h s.args.block.now s.requires.0, d.loop-i-test.true, f.count-n.ensures)
+  here = omega (arith, count-of s.args.of.table s.args.head s.args.block.now s.requires.0, d.loop-i-test.true, f.count-n.ensures)
 
-  is-for : d.link_at-l.result ≡ s.args.link → for_peer p e ≡ true
-  is-for t = eq-eqb e.peer p (d.link_at-l.ensures.peer ∙ ap (peer_at st) t)
+  is-for : d.link_at.result ≡ s.args.of.link → for_peer p e ≡ true
+  is-for t = eq-eqb e.peer p (d.link_at.ensures.peer ∙ ap (peer_at st) t)
 
-  is-not : (d.link_at-l.result ≡ s.args.link → ⊥) → for_peer p e ≡ false
+  is-not : (d.link_at.result ≡ s.args.of.link → ⊥) → for_peer p e ≡ false
   is-not t =
-      let k : length (keys st.links) ≡ s.args.h.live.links = count-peers s.args.h s.args.block.now in
-      let r : d.link_at-l.result < s.args.h.live.links = d.link_at-l.ensures.below in
-      ne_eqb e.peer p (λ z. keys-apart (keys st.links) d.link_at-l.result s.args.link (up_of (keys st.links) s.requires.1) (omega arith) (omega (arith, s.requires.2)) t (sym d.link_at-l.ensures.peer ∙ z))
+      let k : length (keys st.links) ≡ s.args.head.live.links = count-peers s.args.head s.args.block.now in
+      let r : d.link_at.result < s.args.head.live.links = d.link_at.ensures.below in
+      ne_eqb e.peer p (λ z. keys-apart (keys st.links) d.link_at.result s.args.of.link (up_of (keys st.links) s.requires.1) (omega arith) (omega (arith, s.requires.2)) t (sym d.link_at.ensures.peer ∙ z))
 
-pub returns-then-l-link : goal.returns-then-l-link
-returns-then-l-link c =
+pub returns-then-link_at-of : goal.returns-then-link_at-of
+returns-then-link_at-of c =
     let v = c.loop-i.invariant in
-    let w = here (goal.at.returns-then-l-link c).After-link_at-l in
-    record { after = v.0; within = omega (arith, w); passed = v.2; found = λ h. is-for (goal.at.returns-then-l-link c).After-link_at-l c.if-l-link.true }
+    let w = here (goal.at.returns-then-link_at-of c).After-link_at in
+    record { after = v.0; within = omega (arith, w); passed = v.2; found = λ h. is-for (goal.at.returns-then-link_at-of c).After-link_at c.if-link_at-of.true }
 
 pub loop-i-preserved : goal.loop-i-preserved
 loop-i-preserved c =
     let v = c.loop-i.invariant in
-    (search rules, search rules, v.2 ∙ other-first (p (goal.at.loop-i-preserved c).After-link_at-l) (ns (goal.at.loop-i-preserved c).After-link_at-l) (i (goal.at.loop-i-preserved c).After-link_at-l) (here (goal.at.loop-i-preserved c).After-link_at-l) (is-not (goal.at.loop-i-preserved c).After-link_at-l c.if-l-link.false))
+    (search rules, search rules, v.2 ∙ other-first (p (goal.at.loop-i-preserved c).After-link_at) (ns (goal.at.loop-i-preserved c).After-link_at) (i (goal.at.loop-i-preserved c).After-link_at) (here (goal.at.loop-i-preserved c).After-link_at) (is-not (goal.at.loop-i-preserved c).After-link_at c.if-link_at-of.false))
 
 pub returns : goal.returns
 returns c =
     let l = c.loop-i in
     let a = c.args in
-    let n = count-of a.of a.h a.block.now c.requires.0 in
+    let n = count-of a.of.table a.head a.block.now c.requires.0 in
     let at : l.i ≡ c.count-n.result = omega (arith, c.loop-i-test.false, l.invariant.1) in
     record {
       after = omega (arith, l.invariant.0, l.invariant.1);
       within = omega (arith, n, c.count-n.ensures);
-      passed = l.invariant.2 ∙ ap (λ (k : ℕ). filter (for_peer (peer_at (state_of a.h a.block.now) a.link)) (drop k (notes_of a.of (state_of a.h a.block.now)))) at;
+      passed = l.invariant.2 ∙ ap (λ (k : ℕ). filter (for_peer (peer_at (state_of a.head a.block.now) a.of.link)) (drop k (notes_of a.of.table (state_of a.head a.block.now)))) at;
       found = λ h. absurd (omega (arith, n, c.count-n.ensures, h));
     }

@@ -1,17 +1,14 @@
--- `by_link::next_of`: no note from `from` up to i is for the link. The measure is n - i.
+-- `by_link::next_of`: no note from `from` up to i is for the link.
 use mathlib.Core.Path.{◌≡◌}
-use Prim.Native.Nat.{◌-◌, ◌≤◌}
+use Prim.Native.Nat.{◌≤◌}
 use lib.ListN.{drop}
 use Rattle.storage.specs.Lists.Base.{filter}
 use Rattle.protocol.specs.Push.{for_peer}
 use Rattle.block.specs.View.{state_of}
 use Rattle.block.specs.LinkSteps.{peer_at}
-use Rattle.alike.specs.Notes.{notes_of}
+use Rattle.alike.specs.NoteTable.{notes_of}
 use Rattle.alike.proofs.by_link.next_of.Given as goal
 
 abbrev pub invariant-loop-i : goal.invariant-loop-i
 invariant-loop-i l =
-    (l.from ≤ l.i) × (l.i ≤ l.n) × (filter (for_peer (peer_at (state_of l.h l.block) l.link)) (drop l.from (notes_of l.of (state_of l.h l.block))) ≡ filter (for_peer (peer_at (state_of l.h l.block) l.link)) (drop l.i (notes_of l.of (state_of l.h l.block))))
-
-abbrev pub decreases-loop-i : goal.decreases-loop-i
-decreases-loop-i l = l.n - l.i
+    (l.from ≤ l.i) × (l.i ≤ l.n) × (filter (for_peer (peer_at (state_of l.head l.block) l.of.link)) (drop l.from (notes_of l.of.table (state_of l.head l.block))) ≡ filter (for_peer (peer_at (state_of l.head l.block) l.of.link)) (drop l.i (notes_of l.of.table (state_of l.head l.block))))

@@ -13,11 +13,11 @@ use Rattle.block.specs.View.{state_of}
 use Rattle.block.specs.LinkSteps.{peer_at}
 use Rattle.block.specs.NoteSteps.{note}
 use Rattle.block.specs.declared.note.Note.{Note as LinkNote}
-use Rattle.alike.specs.Notes.{notes_of, count_of, NextOf}
+use Rattle.alike.specs.NoteTable.{notes_of, count_of, NextOf}
 use Rattle.alike.proofs.ByLink.{count-of, Cursors, cursors-start, cursors-short, cursors-differ, cursors-more, cursors-end, same-inside}
 use borrow.Author.Rules.{rules}
 use Rattle.alike.proofs.by_link.same_for.Goals as goal
-use Rattle.alike.proofs.by_link.same_for.Goals.{After-same_note-s, At-loop-i, In-loop-i, Start}
+use Rattle.alike.proofs.by_link.same_for.Goals.{After-same_note, At-loop-i, In-loop-i, Start}
 
 -- the two lists, their lengths, and the peer
 module _ (s : Start) where
@@ -28,22 +28,22 @@ module _ (s : Start) where
   sb = state_of s.args.hb s.args.b.now
 
   abbrev p : ℕ
-  p = peer_at sa s.args.link
+  p = peer_at sa s.args.of.link
 
   abbrev xs : List Note
-  xs = notes_of s.args.of sa
+  xs = notes_of s.args.of.table sa
 
   abbrev ys : List Note
-  ys = notes_of s.args.of sb
+  ys = notes_of s.args.of.table sb
 
-  many_xs : length xs ≡ count_of s.args.of s.args.ha.live
-  many_xs = count-of s.args.of s.args.ha s.args.a.now s.requires.sound.0
+  many_xs : length xs ≡ count_of s.args.of.table s.args.ha.live
+  many_xs = count-of s.args.of.table s.args.ha s.args.a.now s.requires.sound.0
 
-  many-ys : length ys ≡ count_of s.args.of s.args.hb.live
-  many-ys = count-of s.args.of s.args.hb s.args.b.now s.requires.sound.3
+  many-ys : length ys ≡ count_of s.args.of.table s.args.hb.live
+  many-ys = count-of s.args.of.table s.args.hb s.args.b.now s.requires.sound.3
 
   -- what was found in the second list, of the one peer
-  in-second : (from r : ℕ) → NextOf (peer_at sb s.args.link) from ys r → NextOf p from ys r
+  in-second : (from r : ℕ) → NextOf (peer_at sb s.args.of.link) from ys r → NextOf p from ys r
   in-second from r h = subst (λ (q : ℕ). NextOf q from ys r) (sym s.requires.link_value) h
 
 pub next_of-i-requires : goal.next_of-i-requires
@@ -64,10 +64,10 @@ module _ (d : In-loop-i) where
   abbrev s₁ : Start
   s₁ = (goal.at.At-loop-i l).Start
 
-  n-is : l.count-n.result ≡ count_of s₁.args.of s₁.args.ha.live
+  n-is : l.count-n.result ≡ count_of s₁.args.of.table s₁.args.ha.live
   n-is = l.count-n.ensures
 
-  m-is : l.count-m.result ≡ count_of s₁.args.of s₁.args.hb.live
+  m-is : l.count-m.result ≡ count_of s₁.args.of.table s₁.args.hb.live
   m-is = l.count-m.ensures
 
   more-xs : l.loop-i.i < length (xs s₁)
@@ -85,9 +85,9 @@ pub note_at-y-requires : goal.note_at-y-requires
 note_at-y-requires c = ((s₁ (goal.at.note_at-y-requires c).In-loop-i).requires.sound.3, omega (arith, m-is (goal.at.note_at-y-requires c).In-loop-i, c.if-m-j.false))
 
 -- the two notes that were read
-module _ (e : After-same_note-s) where
+module _ (e : After-same_note) where
   abbrev d₁ : In-loop-i
-  d₁ = (goal.at.After-same_note-s e).In-loop-i
+  d₁ = (goal.at.After-same_note e).In-loop-i
 
   abbrev s₂ : Start
   s₂ = s₁ d₁
@@ -104,7 +104,7 @@ module _ (e : After-same_note-s) where
   more-ys : j₁ < length (ys s₂)
   more-ys = omega (arith, many-ys s₂, m-is d₁, e.if-m-j.false)
 
-  compared : same_note (get_or (xs s₂) i₁ (note 0 0 0)) (get_or (ys s₂) j₁ (note 0 0 0)) ≡ e.same_note-s.result
+  compared : same_note (get_or (xs s₂) i₁ (note 0 0 0)) (get_or (ys s₂) j₁ (note 0 0 0)) ≡ e.same_note.result
   compared =
       let x : LinkNote = e.note_at-x.result in
       let y : LinkNote = e.note_at-y.result in
@@ -112,27 +112,27 @@ module _ (e : After-same_note-s) where
       let v = e.note_at-y.ensures.same in
       same-inside (p s₂) (get_or (xs s₂) i₁ (note 0 0 0)) (get_or (ys s₂) j₁ (note 0 0 0)) x y (inv.at_first (more-xs d₁)) (inv.at_second more-ys)
       (ap (λ (n : Note). n.id) u) (ap (λ (n : Note). n.round) u) (ap (λ (n : Note). n.id) v) (ap (λ (n : Note). n.round) v)
-      ∙ sym e.same_note-s.ensures
+      ∙ sym e.same_note.ensures
 
-pub returns-then-not-s : goal.returns-then-not-s
-returns-then-not-s c =
-    let s = s₂ (goal.at.returns-then-not-s c).After-same_note-s in
-    cursors-differ (p s) (xs s) (ys s) (i₁ (goal.at.returns-then-not-s c).After-same_note-s) (j₁ (goal.at.returns-then-not-s c).After-same_note-s) (inv (goal.at.returns-then-not-s c).After-same_note-s) (more-xs (d₁ (goal.at.returns-then-not-s c).After-same_note-s)) (more-ys (goal.at.returns-then-not-s c).After-same_note-s) (no (sym (compared (goal.at.returns-then-not-s c).After-same_note-s)) (ap not c.if-not-s.true))
+pub returns-then-not-same_note : goal.returns-then-not-same_note
+returns-then-not-same_note c =
+    let s = s₂ (goal.at.returns-then-not-same_note c).After-same_note in
+    cursors-differ (p s) (xs s) (ys s) (i₁ (goal.at.returns-then-not-same_note c).After-same_note) (j₁ (goal.at.returns-then-not-same_note c).After-same_note) (inv (goal.at.returns-then-not-same_note c).After-same_note) (more-xs (d₁ (goal.at.returns-then-not-same_note c).After-same_note)) (more-ys (goal.at.returns-then-not-same_note c).After-same_note) (no (sym (compared (goal.at.returns-then-not-same_note c).After-same_note)) (ap not c.if-not-same_note.true))
 
 pub next_of-i-requires-in-loop-i : goal.next_of-i-requires-in-loop-i
-next_of-i-requires-in-loop-i c = let d = d₁ (goal.at.next_of-i-requires-in-loop-i c).After-same_note-s in let s = s₁ d in (s.requires.sound.0, s.requires.sound.1, s.requires.sound.2, omega (arith, n-is d, d.loop-i-test.true))
+next_of-i-requires-in-loop-i c = let d = d₁ (goal.at.next_of-i-requires-in-loop-i c).After-same_note in let s = s₁ d in (s.requires.sound.0, s.requires.sound.1, s.requires.sound.2, omega (arith, n-is d, d.loop-i-test.true))
 
 pub next_of-j-requires-in-loop-i : goal.next_of-j-requires-in-loop-i
-next_of-j-requires-in-loop-i c = let s = s₂ (goal.at.next_of-j-requires-in-loop-i c).After-same_note-s in (s.requires.sound.3, s.requires.sound.4, s.requires.sound.5, omega (arith, m-is (d₁ (goal.at.next_of-j-requires-in-loop-i c).After-same_note-s), c.if-m-j.false))
+next_of-j-requires-in-loop-i c = let s = s₂ (goal.at.next_of-j-requires-in-loop-i c).After-same_note in (s.requires.sound.3, s.requires.sound.4, s.requires.sound.5, omega (arith, m-is (d₁ (goal.at.next_of-j-requires-in-loop-i c).After-same_note), c.if-m-j.false))
 
 pub loop-i-smaller : goal.loop-i-smaller
-loop-i-smaller c = omega (arith, c.next_of-i-in-loop-i.ensures.after, (d₁ (goal.at.loop-i-smaller c).After-same_note-s).loop-i-test.true)
+loop-i-smaller c = omega (arith, c.next_of-i-in-loop-i.ensures.after, (d₁ (goal.at.loop-i-smaller c).After-same_note).loop-i-test.true)
 
 pub loop-i-preserved : goal.loop-i-preserved
 loop-i-preserved c =
-    let s = s₂ (goal.at.loop-i-preserved c).After-same_note-s in
-    cursors-more (p s) (xs s) (ys s) (i₁ (goal.at.loop-i-preserved c).After-same_note-s) (j₁ (goal.at.loop-i-preserved c).After-same_note-s) (inv (goal.at.loop-i-preserved c).After-same_note-s) (more-xs (d₁ (goal.at.loop-i-preserved c).After-same_note-s)) (more-ys (goal.at.loop-i-preserved c).After-same_note-s) (yes (sym (compared (goal.at.loop-i-preserved c).After-same_note-s)) (ap not c.if-not-s.false)) c.next_of-i-in-loop-i.result c.next_of-j-in-loop-i.result
-    c.next_of-i-in-loop-i.ensures (in-second s (j₁ (goal.at.loop-i-preserved c).After-same_note-s + 1) c.next_of-j-in-loop-i.result c.next_of-j-in-loop-i.ensures)
+    let s = s₂ (goal.at.loop-i-preserved c).After-same_note in
+    cursors-more (p s) (xs s) (ys s) (i₁ (goal.at.loop-i-preserved c).After-same_note) (j₁ (goal.at.loop-i-preserved c).After-same_note) (inv (goal.at.loop-i-preserved c).After-same_note) (more-xs (d₁ (goal.at.loop-i-preserved c).After-same_note)) (more-ys (goal.at.loop-i-preserved c).After-same_note) (yes (sym (compared (goal.at.loop-i-preserved c).After-same_note)) (ap not c.if-not-same_note.false)) c.next_of-i-in-loop-i.result c.next_of-j-in-loop-i.result
+    c.next_of-i-in-loop-i.ensures (in-second s (j₁ (goal.at.loop-i-preserved c).After-same_note + 1) c.next_of-j-in-loop-i.result c.next_of-j-in-loop-i.ensures)
 
 pub returns : goal.returns
 returns c =

@@ -2,12 +2,12 @@
 use Prim.Native.Nat.{◌-◌}
 use Rattle.block.specs.View.{state_of}
 use Rattle.block.specs.LinkSteps.{peer_at}
-use Rattle.alike.specs.Notes.{notes_of}
+use Rattle.alike.specs.NoteTable.{notes_of}
 use Rattle.alike.proofs.ByLink.{Cursors}
 use Rattle.alike.proofs.by_link.same_for.Given as goal
 
 abbrev pub invariant-loop-i : goal.invariant-loop-i
-invariant-loop-i l = Cursors (peer_at (state_of l.ha l.a) l.link) (notes_of l.of (state_of l.ha l.a)) (notes_of l.of (state_of l.hb l.b)) l.i l.j
+invariant-loop-i l = Cursors (peer_at (state_of l.ha l.a) l.of.link) (notes_of l.of.table (state_of l.ha l.a)) (notes_of l.of.table (state_of l.hb l.b)) l.i l.j
 
 abbrev pub decreases-loop-i : goal.decreases-loop-i
 decreases-loop-i l = l.n - l.i

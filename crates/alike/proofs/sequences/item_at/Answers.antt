@@ -64,73 +64,73 @@ module _ (h : Head) (xs : List ℕ) (f : Fit h xs) (j : ℕ) where
   cached-row q = expiry-read (limits_of h.limits) 4 4 h.live.cached 5 48 h.live.cached_rows xs (lit< tt) (omega (arith, f)) (lit< tt) (omega (arith, f)) (cached_of (table (limits_of h.limits) 6 xs)) j (cached-row-asks q).1
 
 -- of the list that was told: there is an element j, and there is such a list
-there : (s : Start) (q : Sequence) → s.args.of ≡ q → There s.args.h s.args.block.now s.args.j q
-there s q e = subst (There s.args.h s.args.block.now s.args.j) e s.requires.2
+there : (s : Start) (q : Sequence) → s.args.of ≡ q → There s.args.head s.args.block.now s.args.j q
+there s q e = subst (There s.args.head s.args.block.now s.args.j) e s.requires.2
 
-inside : (s : Start) (q : Sequence) → s.args.of ≡ q → InState q s.args.h.live
-inside s q e = subst (λ (q : Sequence). InState q s.args.h.live) e s.requires.1
+inside : (s : Start) (q : Sequence) → s.args.of ≡ q → InState q s.args.head.live
+inside s q e = subst (λ (q : Sequence). InState q s.args.head.live) e s.requires.1
 
 pub row_item-requires : goal.row_item-requires
 row_item-requires c =
     let a = c.args in
-    subst (RowAsks a.block.now a.j) (sym c.received_cache-c.ensures) (received-row-asks a.h a.block.now c.requires.0.fit a.j (there (goal.at.row_item-requires c).Start ReceivedExpiry c.in-ReceivedExpiry.is))
+    subst (RowAsks a.block.now a.j) (sym c.received_cache.ensures) (received-row-asks a.head a.block.now c.requires.0.fit a.j (there (goal.at.row_item-requires c).Start ReceivedExpiry c.in-ReceivedExpiry.is))
 
 pub row_item-requires-in-GraftedExpiry : goal.row_item-requires-in-GraftedExpiry
 row_item-requires-in-GraftedExpiry c =
     let a = c.args in
-    subst (RowAsks a.block.now a.j) (sym c.grafted_cache-c.ensures) (grafted-row-asks a.h a.block.now c.requires.0.fit a.j (there (goal.at.row_item-requires-in-GraftedExpiry c).Start GraftedExpiry c.in-GraftedExpiry.is))
+    subst (RowAsks a.block.now a.j) (sym c.grafted_cache.ensures) (grafted-row-asks a.head a.block.now c.requires.0.fit a.j (there (goal.at.row_item-requires-in-GraftedExpiry c).Start GraftedExpiry c.in-GraftedExpiry.is))
 
 pub row_item-requires-in-CachedExpiry : goal.row_item-requires-in-CachedExpiry
 row_item-requires-in-CachedExpiry c =
     let a = c.args in
-    subst (RowAsks a.block.now a.j) (sym c.cached_cache-c.ensures) (cached-row-asks a.h a.block.now c.requires.0.fit a.j (there (goal.at.row_item-requires-in-CachedExpiry c).Start CachedExpiry c.in-CachedExpiry.is))
+    subst (RowAsks a.block.now a.j) (sym c.cached_cache.ensures) (cached-row-asks a.head a.block.now c.requires.0.fit a.j (there (goal.at.row_item-requires-in-CachedExpiry c).Start CachedExpiry c.in-CachedExpiry.is))
 
-pub announcer_at-hop-requires : goal.announcer_at-hop-requires
-announcer_at-hop-requires c =
-    (c.requires.0, inside (goal.at.announcer_at-hop-requires c).Start _ c.in-Announcers.is, omega (arith, there (goal.at.announcer_at-hop-requires c).Start _ c.in-Announcers.is, length-map (hops_at (state_of c.args.h c.args.block.now) c.in-Announcers.i) hop_element))
+pub announcer_at-requires : goal.announcer_at-requires
+announcer_at-requires c =
+    (c.requires.0, inside (goal.at.announcer_at-requires c).Start _ c.in-Announcers.is, omega (arith, there (goal.at.announcer_at-requires c).Start _ c.in-Announcers.is, length-map (hops_at (state_of c.args.head c.args.block.now) c.in-Announcers.i) hop_element))
 
 pub hop_item-requires : goal.hop_item-requires
-hop_item-requires c = (c.requires.0, c.announcer_at-hop.ensures.below)
+hop_item-requires c = (c.requires.0, c.announcer_at.ensures.below)
 
-pub graft_at-hop-requires : goal.graft_at-hop-requires
-graft_at-hop-requires c =
-    (c.requires.0, inside (goal.at.graft_at-hop-requires c).Start _ c.in-GraftedPeers.is, omega (arith, there (goal.at.graft_at-hop-requires c).Start _ c.in-GraftedPeers.is, length-map (grafts_at (state_of c.args.h c.args.block.now) c.in-GraftedPeers.i).peers graft_element))
+pub graft_at-requires : goal.graft_at-requires
+graft_at-requires c =
+    (c.requires.0, inside (goal.at.graft_at-requires c).Start _ c.in-GraftedPeers.is, omega (arith, there (goal.at.graft_at-requires c).Start _ c.in-GraftedPeers.is, length-map (grafts_at (state_of c.args.head c.args.block.now) c.in-GraftedPeers.i).peers graft_element))
 
 pub hop_item-requires-in-GraftedPeers : goal.hop_item-requires-in-GraftedPeers
-hop_item-requires-in-GraftedPeers c = (c.requires.0, c.graft_at-hop.ensures.below)
+hop_item-requires-in-GraftedPeers c = (c.requires.0, c.graft_at.ensures.below)
 
 pub returns-in-ReceivedExpiry : goal.returns-in-ReceivedExpiry
 returns-in-ReceivedExpiry c =
     let a = c.args in
     let told = c.in-ReceivedExpiry.is in
     c.row_item.ensures
-    ∙ ap (row_of a.block.now a.j) c.received_cache-c.ensures
-    ∙ sym (ap (item_of a.h a.block.now a.j) told ∙ received-row a.h a.block.now c.requires.0.fit a.j (there (goal.at.returns-in-ReceivedExpiry c).Start ReceivedExpiry told))
+    ∙ ap (row_of a.block.now a.j) c.received_cache.ensures
+    ∙ sym (ap (item_of a.head a.block.now a.j) told ∙ received-row a.head a.block.now c.requires.0.fit a.j (there (goal.at.returns-in-ReceivedExpiry c).Start ReceivedExpiry told))
 
 pub returns-in-GraftedExpiry : goal.returns-in-GraftedExpiry
 returns-in-GraftedExpiry c =
     let a = c.args in
     let told = c.in-GraftedExpiry.is in
     c.row_item-in-GraftedExpiry.ensures
-    ∙ ap (row_of a.block.now a.j) c.grafted_cache-c.ensures
-    ∙ sym (ap (item_of a.h a.block.now a.j) told ∙ grafted-row a.h a.block.now c.requires.0.fit a.j (there (goal.at.returns-in-GraftedExpiry c).Start GraftedExpiry told))
+    ∙ ap (row_of a.block.now a.j) c.grafted_cache.ensures
+    ∙ sym (ap (item_of a.head a.block.now a.j) told ∙ grafted-row a.head a.block.now c.requires.0.fit a.j (there (goal.at.returns-in-GraftedExpiry c).Start GraftedExpiry told))
 
 pub returns-in-CachedExpiry : goal.returns-in-CachedExpiry
 returns-in-CachedExpiry c =
     let a = c.args in
     let told = c.in-CachedExpiry.is in
     c.row_item-in-CachedExpiry.ensures
-    ∙ ap (row_of a.block.now a.j) c.cached_cache-c.ensures
-    ∙ sym (ap (item_of a.h a.block.now a.j) told ∙ cached-row a.h a.block.now c.requires.0.fit a.j (there (goal.at.returns-in-CachedExpiry c).Start CachedExpiry told))
+    ∙ ap (row_of a.block.now a.j) c.cached_cache.ensures
+    ∙ sym (ap (item_of a.head a.block.now a.j) told ∙ cached-row a.head a.block.now c.requires.0.fit a.j (there (goal.at.returns-in-CachedExpiry c).Start CachedExpiry told))
 
 pub returns-in-Announcers : goal.returns-in-Announcers
 returns-in-Announcers c =
     let a = c.args in
     c.hop_item.ensures
-    ∙ sym (ap (item_of a.h a.block.now a.j) c.in-Announcers.is ∙ get_or-map hop_element (hops_at (state_of a.h a.block.now) c.in-Announcers.i) a.j (hop 0 0) ∙ ap hop_element c.announcer_at-hop.ensures.same)
+    ∙ sym (ap (item_of a.head a.block.now a.j) c.in-Announcers.is ∙ get_or-map hop_element (hops_at (state_of a.head a.block.now) c.in-Announcers.i) a.j (hop 0 0) ∙ ap hop_element c.announcer_at.ensures.same)
 
 pub returns-in-GraftedPeers : goal.returns-in-GraftedPeers
 returns-in-GraftedPeers c =
     let a = c.args in
     c.hop_item-in-GraftedPeers.ensures
-    ∙ sym (ap (item_of a.h a.block.now a.j) c.in-GraftedPeers.is ∙ get_or-map graft_element (grafts_at (state_of a.h a.block.now) c.in-GraftedPeers.i).peers a.j (entry 0 0) ∙ ap graft_element c.graft_at-hop.ensures.same)
+    ∙ sym (ap (item_of a.head a.block.now a.j) c.in-GraftedPeers.is ∙ get_or-map graft_element (grafts_at (state_of a.head a.block.now) c.in-GraftedPeers.i).peers a.j (entry 0 0) ∙ ap graft_element c.graft_at.ensures.same)

@@ -11,10 +11,10 @@ use Rattle.alike.proofs.sequences.row_item.Goals.{Start}
 
 -- row p lies in the block
 room : (s : Start)
-    → (s.args.c.expiry.at + s.args.p * s.args.c.expiry.stride + s.args.c.expiry.stride ≤ length s.args.block.now) × (40 ≤ s.args.c.expiry.stride)
+    → (s.args.cache.expiry.at + s.args.place * s.args.cache.expiry.stride + s.args.cache.expiry.stride ≤ length s.args.block.now) × (40 ≤ s.args.cache.expiry.stride)
 room s =
-    let t = s.args.c in
-    (omega (arith, row-end t.expiry.stride t.expiry.len s.args.p s.requires.1, s.requires.0.within), s.requires.0.expiry_wide)
+    let t = s.args.cache in
+    (omega (arith, row-end t.expiry.stride t.expiry.len s.args.place s.requires.1, s.requires.0.within), s.requires.0.expiry_wide)
 
 pub overflow_mul-at : goal.overflow_mul-at
 overflow_mul-at c = omega (arith, room (goal.at.overflow_mul-at c).Start)
@@ -25,10 +25,10 @@ overflow_add-at c = omega (arith, room (goal.at.overflow_add-at c).Start)
 pub overflow_add-at-2 : goal.overflow_add-at-2
 overflow_add-at-2 c = omega (arith, room (goal.at.overflow_add-at-2 c).Start)
 
-pub load_id-id-requires : goal.load_id-id-requires
-load_id-id-requires c = omega (arith, room (goal.at.load_id-id-requires c).Start)
+pub load_id-requires : goal.load_id-requires
+load_id-requires c = omega (arith, room (goal.at.load_id-requires c).Start)
 
 pub returns : goal.returns
 returns c =
-    let t = c.args.c in
-    λ k. element (c.expires-time.ensures k) ((c.load_id-id.ensures ∙ key-read t.expiry.stride t.expiry.len c.args.p t.expiry.at c.args.block.now c.requires.1 c.requires.0.expiry_wide) k) 0
+    let t = c.args.cache in
+    λ k. element (c.expires.ensures k) ((c.load_id.ensures ∙ key-read t.expiry.stride t.expiry.len c.args.place t.expiry.at c.args.block.now c.requires.1 c.requires.0.expiry_wide) k) 0

@@ -1,4 +1,4 @@
--- `sequences::same_sequence`: the first j elements agree. The measure is n - j.
+-- `sequences::same_sequence`: the first j elements agree.
 use mathlib.Core.Path.{ap}
 use mathlib.Core.Bool.{not}
 use mathlib.Core.Path.{◌≡◌, sym, ◌∙◌}
@@ -14,7 +14,7 @@ use native.Mathlib.Omega.{arith}
 use borrow.Author.Rules.{rules}
 use Rattle.alike.proofs.sequences.same_sequence.Invariants.{Agree}
 use Rattle.alike.proofs.sequences.same_sequence.Goals as goal
-use Rattle.alike.proofs.sequences.same_sequence.Goals.{After-same-s, Start}
+use Rattle.alike.proofs.sequences.same_sequence.Goals.{After-same, Start}
 
 -- the two lists
 module _ (s : Start) where
@@ -25,9 +25,9 @@ module _ (s : Start) where
   B = sequence_of s.args.of (state_of s.args.hb s.args.b.now)
 
 -- element j of both, as it was read
-module _ (d : After-same-s) where
+module _ (d : After-same) where
   abbrev start : Start
-  start = (goal.at.After-same-s d).Start
+  start = (goal.at.After-same d).Start
 
   abbrev at : ℕ
   at = d.loop-j.j
@@ -36,34 +36,34 @@ module _ (d : After-same-s) where
   in_a = omega (arith, d.loop-j-test.true, d.size-n.ensures)
 
   in_b : at < length (B start)
-  in_b = omega (arith, d.loop-j-test.true, d.size-m.ensures, d.if-n-m.false)
+  in_b = omega (arith, d.loop-j-test.true, d.size.ensures, d.if-n-size.false)
 
-  compared : d.same-s.result ≡ same_element (get_or (A start) at (element 0 0 0)) (get_or (B start) at (element 0 0 0))
-  compared = d.same-s.ensures ∙ (λ k. same_element (d.item_at-x.ensures k) (d.item_at-y.ensures k))
+  compared : d.same.result ≡ same_element (get_or (A start) at (element 0 0 0)) (get_or (B start) at (element 0 0 0))
+  compared = d.same.ensures ∙ (λ k. same_element (d.item_at.ensures k) (d.item_at-in-loop-j.ensures k))
 
-pub returns-then-n-m : goal.returns-then-n-m
-returns-then-n-m c =
-    sym (list_length same_element (element 0 0 0) (A (goal.at.returns-then-n-m c).Start) (B (goal.at.returns-then-n-m c).Start) (λ e. c.if-n-m.true (c.size-n.ensures ∙ e ∙ sym c.size-m.ensures)))
+pub returns-then-n-size : goal.returns-then-n-size
+returns-then-n-size c =
+    sym (list_length same_element (element 0 0 0) (A (goal.at.returns-then-n-size c).Start) (B (goal.at.returns-then-n-size c).Start) (λ e. c.if-n-size.true (c.size-n.ensures ∙ e ∙ sym c.size.ensures)))
 
 pub loop-j-init : goal.loop-j-init
 loop-j-init c = (search rules, λ k h. absurd (omega (arith, h)))
 
-pub item_at-x-requires : goal.item_at-x-requires
-item_at-x-requires c = (search rules, search rules, omega (arith, c.loop-j-test.true, c.size-n.ensures))
+pub item_at-requires : goal.item_at-requires
+item_at-requires c = (search rules, search rules, omega (arith, c.loop-j-test.true, c.size-n.ensures))
 
-pub item_at-y-requires : goal.item_at-y-requires
-item_at-y-requires c = (search rules, search rules, omega (arith, c.loop-j-test.true, c.if-n-m.false, c.size-n.ensures, c.size-m.ensures))
+pub item_at-requires-in-loop-j : goal.item_at-requires-in-loop-j
+item_at-requires-in-loop-j c = (search rules, search rules, omega (arith, c.loop-j-test.true, c.if-n-size.false, c.size-n.ensures, c.size.ensures))
 
-pub returns-then-not-s : goal.returns-then-not-s
-returns-then-not-s c =
-    sym (list-no same_element (element 0 0 0) (A (start (goal.at.returns-then-not-s c).After-same-s)) (B (start (goal.at.returns-then-not-s c).After-same-s)) (at (goal.at.returns-then-not-s c).After-same-s) (in_a (goal.at.returns-then-not-s c).After-same-s) (in_b (goal.at.returns-then-not-s c).After-same-s) (no (compared (goal.at.returns-then-not-s c).After-same-s) (ap not c.if-not-s.true)))
+pub returns-then-not-same : goal.returns-then-not-same
+returns-then-not-same c =
+    sym (list-no same_element (element 0 0 0) (A (start (goal.at.returns-then-not-same c).After-same)) (B (start (goal.at.returns-then-not-same c).After-same)) (at (goal.at.returns-then-not-same c).After-same) (in_a (goal.at.returns-then-not-same c).After-same) (in_b (goal.at.returns-then-not-same c).After-same) (no (compared (goal.at.returns-then-not-same c).After-same) (ap not c.if-not-same.true)))
 
 pub loop-j-preserved : goal.loop-j-preserved
 loop-j-preserved c =
-    (search rules, below_more (Agree (A (start (goal.at.loop-j-preserved c).After-same-s)) (B (start (goal.at.loop-j-preserved c).After-same-s))) (at (goal.at.loop-j-preserved c).After-same-s) c.loop-j.invariant.1 (yes (compared (goal.at.loop-j-preserved c).After-same-s) (ap not c.if-not-s.false)))
+    (search rules, below_more (Agree (A (start (goal.at.loop-j-preserved c).After-same)) (B (start (goal.at.loop-j-preserved c).After-same))) (at (goal.at.loop-j-preserved c).After-same) c.loop-j.invariant.1 (yes (compared (goal.at.loop-j-preserved c).After-same) (ap not c.if-not-same.false)))
 
 pub returns : goal.returns
 returns c =
     let n = c.size-n.ensures in
-    sym (list-yes same_element (element 0 0 0) (A (goal.at.returns c).Start) (B (goal.at.returns c).Start) (sym n ∙ c.if-n-m.false ∙ c.size-m.ensures)
+    sym (list-yes same_element (element 0 0 0) (A (goal.at.returns c).Start) (B (goal.at.returns c).Start) (sym n ∙ c.if-n-size.false ∙ c.size.ensures)
     (λ k h. c.loop-j.invariant.1 k (omega (arith, h, n, c.loop-j-test.false))))

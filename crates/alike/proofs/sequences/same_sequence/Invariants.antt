@@ -1,5 +1,5 @@
--- `sequences::same_sequence`: the first j elements agree. The measure is n - j.
-use Prim.Native.Nat.{ℕ, ◌-◌, ◌≤◌, ◌<◌}
+-- `sequences::same_sequence`: the first j elements agree.
+use Prim.Native.Nat.{ℕ, ◌≤◌, ◌<◌}
 use Rattle.block.specs.View.{state_of}
 use mathlib.Core.Path.{◌≡◌}
 use mathlib.Core.Bool.{true}
@@ -14,6 +14,3 @@ Agree xs ys k = same_element (get_or xs k (element 0 0 0)) (get_or ys k (element
 
 abbrev pub invariant-loop-j : goal.invariant-loop-j
 invariant-loop-j l = (l.j ≤ l.n) × ((k : ℕ) → k < l.j → Agree (sequence_of l.of (state_of l.ha l.a)) (sequence_of l.of (state_of l.hb l.b)) k)
-
-abbrev pub decreases-loop-j : goal.decreases-loop-j
-decreases-loop-j l = l.n - l.j

@@ -13,33 +13,33 @@ use Rattle.alike.proofs.sequences.size.Goals as goal
 
 pub announcers_of-requires : goal.announcers_of-requires
 announcers_of-requires c =
-    (c.requires.0, subst (λ (q : Sequence). InState q c.args.h.live) c.in-Announcers.is c.requires.1)
+    (c.requires.0, subst (λ (q : Sequence). InState q c.args.head.live) c.in-Announcers.is c.requires.1)
 
 pub graft_count-requires : goal.graft_count-requires
 graft_count-requires c =
-    (c.requires.0, subst (λ (q : Sequence). InState q c.args.h.live) c.in-GraftedPeers.is c.requires.1)
+    (c.requires.0, subst (λ (q : Sequence). InState q c.args.head.live) c.in-GraftedPeers.is c.requires.1)
 
 pub returns-in-ReceivedExpiry : goal.returns-in-ReceivedExpiry
 returns-in-ReceivedExpiry c =
-    let st = state_of c.args.h c.args.block.now in
-    sym (ap (λ (q : Sequence). length (sequence_of q st)) c.in-ReceivedExpiry.is ∙ length-map st.received.expiry expiry_element ∙ count-received-rows c.args.h c.args.block.now c.requires.0.fit)
+    let st = state_of c.args.head c.args.block.now in
+    sym (ap (λ (q : Sequence). length (sequence_of q st)) c.in-ReceivedExpiry.is ∙ length-map st.received.expiry expiry_element ∙ count-received-rows c.args.head c.args.block.now c.requires.0.fit)
 
 pub returns-in-GraftedExpiry : goal.returns-in-GraftedExpiry
 returns-in-GraftedExpiry c =
-    let st = state_of c.args.h c.args.block.now in
-    sym (ap (λ (q : Sequence). length (sequence_of q st)) c.in-GraftedExpiry.is ∙ length-map st.grafted.expiry expiry_element ∙ count-grafted-rows c.args.h c.args.block.now c.requires.0.fit)
+    let st = state_of c.args.head c.args.block.now in
+    sym (ap (λ (q : Sequence). length (sequence_of q st)) c.in-GraftedExpiry.is ∙ length-map st.grafted.expiry expiry_element ∙ count-grafted-rows c.args.head c.args.block.now c.requires.0.fit)
 
 pub returns-in-CachedExpiry : goal.returns-in-CachedExpiry
 returns-in-CachedExpiry c =
-    let st = state_of c.args.h c.args.block.now in
-    sym (ap (λ (q : Sequence). length (sequence_of q st)) c.in-CachedExpiry.is ∙ length-map st.cache.expiry expiry_element ∙ count-cached-rows c.args.h c.args.block.now c.requires.0.fit)
+    let st = state_of c.args.head c.args.block.now in
+    sym (ap (λ (q : Sequence). length (sequence_of q st)) c.in-CachedExpiry.is ∙ length-map st.cache.expiry expiry_element ∙ count-cached-rows c.args.head c.args.block.now c.requires.0.fit)
 
 pub returns-in-Announcers : goal.returns-in-Announcers
 returns-in-Announcers c =
-    let st = state_of c.args.h c.args.block.now in
+    let st = state_of c.args.head c.args.block.now in
     c.announcers_of.ensures.0 ∙ sym (ap (λ (q : Sequence). length (sequence_of q st)) c.in-Announcers.is ∙ length-map (hops_at st c.in-Announcers.i) hop_element)
 
 pub returns-in-GraftedPeers : goal.returns-in-GraftedPeers
 returns-in-GraftedPeers c =
-    let st = state_of c.args.h c.args.block.now in
+    let st = state_of c.args.head c.args.block.now in
     c.graft_count.ensures.0 ∙ sym (ap (λ (q : Sequence). length (sequence_of q st)) c.in-GraftedPeers.is ∙ length-map (grafts_at st c.in-GraftedPeers.i).peers graft_element)

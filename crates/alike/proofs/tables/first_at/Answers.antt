@@ -10,5 +10,5 @@ use Rattle.alike.proofs.tables.first_at.Goals as goal
 pub returns : goal.returns
 returns c =
     let a = c.grafted_at.result + 119 * c.args.i in
-    (λ k. only_if (flag_is (get_or c.args.block.now (a + 2) 0) k) (record { peer = c.load-peer.ensures k; round = c.load2-round.ensures.0 k }))
-    ∙ first_read c.args.h c.args.block.now c.requires.0 c.args.i a c.requires.1 (ap (λ (p : ℕ). p + 119 * c.args.i) c.grafted_at.ensures)
+    (λ k. only_if (flag_is (get_or c.args.block.now (a + 2) 0) k) (record { peer = c.load.ensures k; round = c.load2.ensures.0 k }))
+    ∙ first_read c.args.head c.args.block.now c.requires.0 c.args.i a c.requires.1 (ap (λ (p : ℕ). p + 119 * c.args.i) c.grafted_at.ensures)

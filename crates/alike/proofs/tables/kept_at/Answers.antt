@@ -11,6 +11,6 @@ pub returns : goal.returns
 returns c =
     let a = c.grafted_at.result + 119 * c.args.i in (
       refl,
-      (λ k. only_if (flag_is (get_or c.args.block.now (a + 13) 0) k) (c.load-peer.ensures k))
-          ∙ kept_read c.args.h c.args.block.now c.requires.0 c.args.i a c.requires.1 (ap (λ (p : ℕ). p + 119 * c.args.i) c.grafted_at.ensures),
+      (λ k. only_if (flag_is (get_or c.args.block.now (a + 13) 0) k) (c.load.ensures k))
+          ∙ kept_read c.args.head c.args.block.now c.requires.0 c.args.i a c.requires.1 (ap (λ (p : ℕ). p + 119 * c.args.i) c.grafted_at.ensures),
     )

@@ -1,4 +1,4 @@
--- `tables::same_bytes`: the first i bytes agree. The measure is what is left.
+-- `tables::same_bytes`: the first i bytes agree.
 use mathlib.Core.Path.{◌≡◌, sym}
 use mathlib.Core.Bool.{true}
 use Prim.Native.Nat.{ℕ}

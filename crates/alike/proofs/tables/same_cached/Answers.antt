@@ -23,20 +23,20 @@ use Rattle.storage.specs.Rows.Part.{part}
 use Rattle.storage.proofs.RowsLaws.Parts.{part-between}
 use Rattle.block.specs.Layout.{place}
 use Rattle.block.specs.Caches.CachedReads.{cached_at, ContentIs}
-use Rattle.block.specs.declared.caches.cached.Content.{Content}
+use Rattle.block.specs.declared.caches.cached.Extent.{Extent}
 use native.Mathlib.Omega.{arith}
 use Rattle.alike.proofs.tables.same_cached.Goals as goal
-use Rattle.alike.proofs.tables.same_cached.Goals.{After-same_key-key, Start}
+use Rattle.alike.proofs.tables.same_cached.Goals.{After-same_key, Start}
 
 -- the content that is lent
-content-lent : (h : Head) (xs : List ℕ) (i : ℕ) (r : Content) (b : ℕ) → b ≡ place (limits_of h.limits) 6 → ContentIs h xs i r
+content-lent : (h : Head) (xs : List ℕ) (i : ℕ) (r : Extent) (b : ℕ) → b ≡ place (limits_of h.limits) 6 → ContentIs h xs i r
     → take (b + r.start + r.len - (b + r.start)) (drop (b + r.start) xs) ≡ (cached_at (state_of h xs) i).content
 content-lent h xs i r b e w = part-between (b + r.start) r.len xs ∙ ap (λ (a : ℕ). part (a + r.start) r.len xs) e ∙ sym w.same
 
 -- what the comparison of keys told
-module _ (d : After-same_key-key) where
+module _ (d : After-same_key) where
   abbrev s : Start
-  s = (goal.at.After-same_key-key d).Start
+  s = (goal.at.After-same_key d).Start
 
   abbrev p : Entry (Timed Cached)
   p = cached_entry (state_of s.args.ha s.args.a.now) s.args.i
@@ -44,46 +44,46 @@ module _ (d : After-same_key-key) where
   abbrev q : Entry (Timed Cached)
   q = cached_entry (state_of s.args.hb s.args.b.now) s.args.i
 
-  key-told : d.same_key-key.result ≡ same_element (key_of p) (key_of q)
+  key-told : d.same_key.result ≡ same_element (key_of p) (key_of q)
   key-told =
       let a = s.args in
-      let x = ap (λ (t : TimeBoundCache). key_at t a.a.now a.i) d.cached_cache-c.ensures ∙ cached-key a.ha a.a.now s.requires.0 a.i s.requires.1 in
-      let y = ap (λ (t : TimeBoundCache). key_at t a.b.now a.i) d.cached_cache-d.ensures ∙ cached-key a.hb a.b.now s.requires.2 a.i s.requires.3 in
-      d.same_key-key.ensures ∙ (λ k. same_element (x k) (y k))
+      let x = ap (λ (t : TimeBoundCache). key_at t a.a.now a.i) d.cached_cache.ensures ∙ cached-key a.ha a.a.now s.requires.0 a.i s.requires.1 in
+      let y = ap (λ (t : TimeBoundCache). key_at t a.b.now a.i) d.cached_cache-2.ensures ∙ cached-key a.hb a.b.now s.requires.2 a.i s.requires.3 in
+      d.same_key.ensures ∙ (λ k. same_element (x k) (y k))
 
-pub same_key-key-requires : goal.same_key-key-requires
-same_key-key-requires c =
-    let a = c.args in record { lies = subst (λ (t : TimeBoundCache). Asks t a.a.now a.i) (sym c.cached_cache-c.ensures) (cached-asks a.ha a.a.now c.requires.0 a.i c.requires.1); lies_2 = subst (λ (t : TimeBoundCache). Asks t a.b.now a.i) (sym c.cached_cache-d.ensures) (cached-asks a.hb a.b.now c.requires.2 a.i c.requires.3) }
+pub same_key-requires : goal.same_key-requires
+same_key-requires c =
+    let a = c.args in record { lies = subst (λ (t : TimeBoundCache). Asks t a.a.now a.i) (sym c.cached_cache.ensures) (cached-asks a.ha a.a.now c.requires.0 a.i c.requires.1); lies_2 = subst (λ (t : TimeBoundCache). Asks t a.b.now a.i) (sym c.cached_cache-2.ensures) (cached-asks a.hb a.b.now c.requires.2 a.i c.requires.3) }
 
-pub returns-then-not-key : goal.returns-then-not-key
-returns-then-not-key c =
-    sym (entry-same same_cached (p (goal.at.returns-then-not-key c).After-same_key-key) (q (goal.at.returns-then-not-key c).After-same_key-key) ∙ and-no-left (same_element (key_of (p (goal.at.returns-then-not-key c).After-same_key-key)) (key_of (q (goal.at.returns-then-not-key c).After-same_key-key))) (same_cached (p (goal.at.returns-then-not-key c).After-same_key-key).value.value (q (goal.at.returns-then-not-key c).After-same_key-key).value.value) (no (key-told (goal.at.returns-then-not-key c).After-same_key-key) (ap not c.if-not-key.true)))
+pub returns-then-not-same_key : goal.returns-then-not-same_key
+returns-then-not-same_key c =
+    sym (entry-same same_cached (p (goal.at.returns-then-not-same_key c).After-same_key) (q (goal.at.returns-then-not-same_key c).After-same_key) ∙ and-no-left (same_element (key_of (p (goal.at.returns-then-not-same_key c).After-same_key)) (key_of (q (goal.at.returns-then-not-same_key c).After-same_key))) (same_cached (p (goal.at.returns-then-not-same_key c).After-same_key).value.value (q (goal.at.returns-then-not-same_key c).After-same_key).value.value) (no (key-told (goal.at.returns-then-not-same_key c).After-same_key) (ap not c.if-not-same_key.true)))
 
-pub returns-then-p-q : goal.returns-then-p-q
+pub returns-then-cached_round : goal.returns-then-cached_round
 unfolding same_cached
-returns-then-p-q c =
-    let x = (p (goal.at.returns-then-p-q c).After-same_key-key).value.value in
-    let y = (q (goal.at.returns-then-p-q c).After-same_key-key).value.value in
-    let rounds = sym (λ k. eqb (c.cached_round-p.ensures k) (c.cached_round-q.ensures k)) ∙ ne_eqb _ _ c.if-p-q.true in
-    sym (entry-same same_cached (p (goal.at.returns-then-p-q c).After-same_key-key) (q (goal.at.returns-then-p-q c).After-same_key-key) ∙ and_no (same_element (key_of (p (goal.at.returns-then-p-q c).After-same_key-key)) (key_of (q (goal.at.returns-then-p-q c).After-same_key-key))) (same_cached x y) (and_no (same_list eqb x.content y.content) (eqb x.round y.round) rounds))
+returns-then-cached_round c =
+    let x = (p (goal.at.returns-then-cached_round c).After-same_key).value.value in
+    let y = (q (goal.at.returns-then-cached_round c).After-same_key).value.value in
+    let rounds = sym (λ k. eqb (c.cached_round.ensures k) (c.cached_round-2.ensures k)) ∙ ne_eqb _ _ c.if-cached_round.true in
+    sym (entry-same same_cached (p (goal.at.returns-then-cached_round c).After-same_key) (q (goal.at.returns-then-cached_round c).After-same_key) ∙ and_no (same_element (key_of (p (goal.at.returns-then-cached_round c).After-same_key)) (key_of (q (goal.at.returns-then-cached_round c).After-same_key))) (same_cached x y) (and_no (same_list eqb x.content y.content) (eqb x.round y.round) rounds))
 
 pub contents_at-requires : goal.contents_at-requires
 contents_at-requires c = c.requires.0.fit.ceilings
 
-pub overflow_add-xs : goal.overflow_add-xs
-overflow_add-xs c = omega (arith, c.contents_at.ensures, c.cached_content-x.ensures.within, c.requires.0.fit)
+pub overflow_add-start_x : goal.overflow_add-start_x
+overflow_add-start_x c = omega (arith, c.contents_at.ensures, c.cached_content-x.ensures.within, c.requires.0.fit)
 
-pub overflow_add-xe : goal.overflow_add-xe
-overflow_add-xe c = omega (arith, c.contents_at.ensures, c.cached_content-x.ensures.within, c.requires.0.fit)
+pub overflow_add-start_x-2 : goal.overflow_add-start_x-2
+overflow_add-start_x-2 c = omega (arith, c.contents_at.ensures, c.cached_content-x.ensures.within, c.requires.0.fit)
 
 pub contents_at-requires-2 : goal.contents_at-requires-2
 contents_at-requires-2 c = c.requires.2.fit.ceilings
 
-pub overflow_add-ys : goal.overflow_add-ys
-overflow_add-ys c = omega (arith, c.contents_at-2.ensures, c.cached_content-y.ensures.within, c.requires.2.fit)
+pub overflow_add-start_y : goal.overflow_add-start_y
+overflow_add-start_y c = omega (arith, c.contents_at-2.ensures, c.cached_content-y.ensures.within, c.requires.2.fit)
 
-pub overflow_add-ye : goal.overflow_add-ye
-overflow_add-ye c = omega (arith, c.contents_at-2.ensures, c.cached_content-y.ensures.within, c.requires.2.fit)
+pub overflow_add-start_y-2 : goal.overflow_add-start_y-2
+overflow_add-start_y-2 c = omega (arith, c.contents_at-2.ensures, c.cached_content-y.ensures.within, c.requires.2.fit)
 
 pub slice_bounds-same_bytes-end : goal.slice_bounds-same_bytes-end
 slice_bounds-same_bytes-end c = omega (arith, c.contents_at.ensures, c.cached_content-x.ensures.within, c.requires.0.fit)
@@ -94,12 +94,12 @@ slice_bounds-same_bytes-end-2 c = omega (arith, c.contents_at-2.ensures, c.cache
 pub returns : goal.returns
 unfolding same_cached
 returns c =
-    let a = (s (goal.at.returns c).After-same_key-key).args in
-    let x = (p (goal.at.returns c).After-same_key-key).value.value in
-    let y = (q (goal.at.returns c).After-same_key-key).value.value in
-    let rounds = sym (λ k. eqb (c.cached_round-p.ensures k) (c.cached_round-q.ensures k)) ∙ eq-eqb _ _ c.if-p-q.false in
+    let a = (s (goal.at.returns c).After-same_key).args in
+    let x = (p (goal.at.returns c).After-same_key).value.value in
+    let y = (q (goal.at.returns c).After-same_key).value.value in
+    let rounds = sym (λ k. eqb (c.cached_round.ensures k) (c.cached_round-2.ensures k)) ∙ eq-eqb _ _ c.if-cached_round.false in
     let m = content-lent a.ha a.a.now a.i c.cached_content-x.result c.contents_at.result c.contents_at.ensures c.cached_content-x.ensures in
     let n = content-lent a.hb a.b.now a.i c.cached_content-y.result c.contents_at-2.result c.contents_at-2.ensures c.cached_content-y.ensures in
     c.same_bytes.ensures
     ∙ (λ k. same_list eqb (m k) (n k))
-    ∙ sym (entry-same same_cached (p (goal.at.returns c).After-same_key-key) (q (goal.at.returns c).After-same_key-key) ∙ (λ k. yes (key-told (goal.at.returns c).After-same_key-key) (ap not c.if-not-key.false) k && (same_list eqb x.content y.content && rounds k)) ∙ and_yes (same_list eqb x.content y.content))
+    ∙ sym (entry-same same_cached (p (goal.at.returns c).After-same_key) (q (goal.at.returns c).After-same_key) ∙ (λ k. yes (key-told (goal.at.returns c).After-same_key) (ap not c.if-not-same_key.false) k && (same_list eqb x.content y.content && rounds k)) ∙ and_yes (same_list eqb x.content y.content))

@@ -1,13 +1,12 @@
 -- `tables::same_grafted`: key and expiry, `first`, `kept`, peers.
-use mathlib.Core.Bool.{not}
-use mathlib.Core.Path.{◌≡◌, sym, ap, ◌∙◌, subst}
-use mathlib.Core.Bool.{Bool, ◌&&◌}
+use mathlib.Core.Path.{◌≡◌, refl, sym, ap, ◌∙◌, subst}
+use mathlib.Core.Bool.{Bool, true, false, ◌&&◌}
 use lib.Dec.{eqb}
-use Rattle.whole.proofs.Tests.{no, yes}
 use Rattle.block.specs.View.{state_of}
 use Rattle.protocol.specs.Alike.{same_map, same_option, same_hop, same_grafts}
-use Rattle.alike.proofs.Lists.{and_no, and-no-left, list-grafts}
+use Rattle.alike.proofs.Lists.{list_grafts}
 use Rattle.alike.specs.Elements.{same_element}
+use Rattle.alike.specs.Rows.{same_entry, same_timed}
 use Rattle.time_cache.specs.declared.cache.TimeBoundCache.{TimeBoundCache}
 use Rattle.alike.proofs.Entries.{key_of, entry-same, kept_same, Asks, key_at, grafted-asks, grafted-key}
 use Rattle.storage.specs.Lists.Map.{Entry}
@@ -16,29 +15,28 @@ use Rattle.protocol.specs.State.{Grafts}
 use Rattle.block.specs.Caches.GraftSteps.{grafted_at}
 use borrow.Author.Rules.{rules}
 use Rattle.alike.proofs.tables.same_grafted.Goals as goal
-use Rattle.alike.proofs.tables.same_grafted.Goals.{After-same_key-key, Start}
+use Rattle.alike.proofs.tables.same_grafted.Goals.{Joined-same_sender, then-same_key, else-same_key, then-same_sender, else-same_sender}
 
--- what the comparison of keys told
-module _ (d : After-same_key-key) where
-  abbrev s : Start
-  s = (goal.at.After-same_key-key d).Start
+-- the parts in their order
+assoc : (e f k m : Bool) → (((e && f) && k) && m) ≡ (e && (f && k && m))
+assoc true true k m = refl
+assoc true false k m = refl
+assoc false f k m = refl
 
+-- what the tests told
+module _ (d : Joined-same_sender) where
   abbrev p : Entry (Timed Grafts)
-  p = grafted_at (state_of s.args.ha s.args.a.now) s.args.i
+  p = grafted_at (state_of d.args.ha d.args.a.now) d.args.i
 
   abbrev q : Entry (Timed Grafts)
-  q = grafted_at (state_of s.args.hb s.args.b.now) s.args.i
-
-  key-told : d.same_key-key.result ≡ same_element (key_of p) (key_of q)
-  key-told =
-      let a = s.args in
-      let x = ap (λ (t : TimeBoundCache). key_at t a.a.now a.i) d.grafted_cache-c.ensures ∙ grafted-key a.ha a.a.now s.requires.0 a.i s.requires.1 in
-      let y = ap (λ (t : TimeBoundCache). key_at t a.b.now a.i) d.grafted_cache-d.ensures ∙ grafted-key a.hb a.b.now s.requires.2 a.i s.requires.3 in
-      d.same_key-key.ensures ∙ (λ k. same_element (x k) (y k))
+  q = grafted_at (state_of d.args.hb d.args.b.now) d.args.i
 
   -- the parts of the value
-  abbrev G : Bool
-  G = same_grafts p.value.value q.value.value
+  abbrev E : Bool
+  E = same_element (key_of p) (key_of q)
+
+  abbrev F : Bool
+  F = same_option same_hop p.value.value.first q.value.value.first
 
   abbrev K : Bool
   K = same_option eqb p.value.value.kept q.value.value.kept
@@ -46,38 +44,56 @@ module _ (d : After-same_key-key) where
   abbrev M : Bool
   M = same_map eqb p.value.value.peers q.value.value.peers
 
-pub same_key-key-requires : goal.same_key-key-requires
-same_key-key-requires c =
-    let a = c.args in record { lies = subst (λ (t : TimeBoundCache). Asks t a.a.now a.i) (sym c.grafted_cache-c.ensures) (grafted-asks a.ha a.a.now c.requires.0 a.i c.requires.1); lies_2 = subst (λ (t : TimeBoundCache). Asks t a.b.now a.i) (sym c.grafted_cache-d.ensures) (grafted-asks a.hb a.b.now c.requires.2 a.i c.requires.3) }
+  key-told : d.same_key.result ≡ E
+  key-told =
+      let a = d.args in
+      let x = ap (λ (t : TimeBoundCache). key_at t a.a.now a.i) d.grafted_cache.ensures ∙ grafted-key a.ha a.a.now d.requires.0 a.i d.requires.1 in
+      let y = ap (λ (t : TimeBoundCache). key_at t a.b.now a.i) d.grafted_cache-2.ensures ∙ grafted-key a.hb a.b.now d.requires.2 a.i d.requires.3 in
+      d.same_key.ensures ∙ (λ k. same_element (x k) (y k))
 
-pub returns-then-not-key : goal.returns-then-not-key
-returns-then-not-key c =
-    sym (entry-same same_grafts (p (goal.at.returns-then-not-key c).After-same_key-key) (q (goal.at.returns-then-not-key c).After-same_key-key) ∙ and-no-left (same_element (key_of (p (goal.at.returns-then-not-key c).After-same_key-key)) (key_of (q (goal.at.returns-then-not-key c).After-same_key-key))) (G (goal.at.returns-then-not-key c).After-same_key-key) (no (key-told (goal.at.returns-then-not-key c).After-same_key-key) (ap not c.if-not-key.true)))
+  two-told : d.if-same_key.value ≡ (E && F)
+  two-told =
+      elim d.if-same_key.branch [
+        | then-same_key w ↦
+            let e : E ≡ true = sym key-told ∙ w.if-same_key.true in
+            w.value-is ∙ w.same_sender.ensures ∙ (λ k. same_option same_hop (w.first_at.ensures k) (w.first_at-then-same_key.ensures k)) ∙ sym (λ k. e k && F)
+        | else-same_key w ↦
+            let e : E ≡ false = sym key-told ∙ w.if-same_key.false in
+            w.value-is ∙ key-told ∙ e ∙ sym (λ k. e k && F)
+      ]
 
-pub returns-then-not-first : goal.returns-then-not-first
-unfolding same_grafts
-returns-then-not-first c =
-    sym (entry-same same_grafts (p (goal.at.returns-then-not-first c).After-same_key-key) (q (goal.at.returns-then-not-first c).After-same_key-key) ∙ and_no (same_element (key_of (p (goal.at.returns-then-not-first c).After-same_key-key)) (key_of (q (goal.at.returns-then-not-first c).After-same_key-key))) (G (goal.at.returns-then-not-first c).After-same_key-key)
-    (ap (λ (t : Bool). t && K (goal.at.returns-then-not-first c).After-same_key-key && M (goal.at.returns-then-not-first c).After-same_key-key) (sym (λ k. same_option same_hop (c.first_at-f.ensures k) (c.first_at-g.ensures k)) ∙ no c.same_sender-first.ensures (ap not c.if-not-first.true))))
+  three-told : d.if-same_sender.value ≡ ((E && F) && K)
+  three-told =
+      elim d.if-same_sender.branch [
+        | then-same_sender w ↦
+            let e : (E && F) ≡ true = sym two-told ∙ w.if-same_sender.true in
+            let x = w.kept_at in
+            let y = w.kept_at-then-same_sender in
+            w.value-is ∙ w.same_sender-then-same_sender.ensures ∙ kept_same x.result y.result x.ensures.0 y.ensures.0 ∙ (λ k. same_option eqb (x.ensures.1 k) (y.ensures.1 k)) ∙ sym (λ k. e k && K)
+        | else-same_sender w ↦
+            let e : (E && F) ≡ false = sym two-told ∙ w.if-same_sender.false in
+            w.value-is ∙ two-told ∙ e ∙ sym (λ k. e k && K)
+      ]
 
-pub returns-then-not-kept : goal.returns-then-not-kept
-unfolding same_grafts
-returns-then-not-kept c =
-    let x = c.kept_at-k in
-    let y = c.kept_at-l in
-    let first = sym (λ k. same_option same_hop (c.first_at-f.ensures k) (c.first_at-g.ensures k)) ∙ yes c.same_sender-first.ensures (ap not c.if-not-first.false) in
-    let kept = sym (kept_same x.result y.result x.ensures.0 y.ensures.0 ∙ (λ k. same_option eqb (x.ensures.1 k) (y.ensures.1 k))) ∙ no c.same_sender-kept.ensures (ap not c.if-not-kept.true) in
-    sym (entry-same same_grafts (p (goal.at.returns-then-not-kept c).After-same_key-key) (q (goal.at.returns-then-not-kept c).After-same_key-key) ∙ and_no (same_element (key_of (p (goal.at.returns-then-not-kept c).After-same_key-key)) (key_of (q (goal.at.returns-then-not-kept c).After-same_key-key))) (G (goal.at.returns-then-not-kept c).After-same_key-key) (λ k. first k && kept k && M (goal.at.returns-then-not-kept c).After-same_key-key))
+  told : (((E && F) && K) && M) ≡ same_entry (same_timed same_grafts) p q
+  unfolding same_grafts
+  told = assoc E F K M ∙ sym (entry-same same_grafts p q)
+
+pub same_key-requires : goal.same_key-requires
+same_key-requires c =
+    let a = c.args in record { lies = subst (λ (t : TimeBoundCache). Asks t a.a.now a.i) (sym c.grafted_cache.ensures) (grafted-asks a.ha a.a.now c.requires.0 a.i c.requires.1); lies_2 = subst (λ (t : TimeBoundCache). Asks t a.b.now a.i) (sym c.grafted_cache-2.ensures) (grafted-asks a.hb a.b.now c.requires.2 a.i c.requires.3) }
 
 pub same_sequence-requires : goal.same_sequence-requires
 same_sequence-requires c = let p = c.requires in search rules
 
-pub returns : goal.returns
-unfolding same_grafts
-returns c =
-    let x = c.kept_at-k in
-    let y = c.kept_at-l in
-    let first = sym (λ k. same_option same_hop (c.first_at-f.ensures k) (c.first_at-g.ensures k)) ∙ yes c.same_sender-first.ensures (ap not c.if-not-first.false) in
-    let kept = sym (kept_same x.result y.result x.ensures.0 y.ensures.0 ∙ (λ k. same_option eqb (x.ensures.1 k) (y.ensures.1 k))) ∙ yes c.same_sender-kept.ensures (ap not c.if-not-kept.false) in
-    c.same_sequence.ensures ∙ list-grafts (p (goal.at.returns c).After-same_key-key).value.value.peers (q (goal.at.returns c).After-same_key-key).value.value.peers
-    ∙ sym (entry-same same_grafts (p (goal.at.returns c).After-same_key-key) (q (goal.at.returns c).After-same_key-key) ∙ (λ k. yes (key-told (goal.at.returns c).After-same_key-key) (ap not c.if-not-key.false) k && (first k && kept k && M (goal.at.returns c).After-same_key-key)))
+pub returns-then-same_sender-2 : goal.returns-then-same_sender-2
+returns-then-same_sender-2 c =
+    let d = (goal.at.returns-then-same_sender-2 c).Joined-same_sender in
+    let e : ((E d && F d) && K d) ≡ true = sym (three-told d) ∙ c.if-same_sender-2.true in
+    c.same_sequence.ensures ∙ list_grafts (p d).value.value.peers (q d).value.value.peers ∙ sym (λ k. e k && M d) ∙ told d
+
+pub returns-else-same_sender-2 : goal.returns-else-same_sender-2
+returns-else-same_sender-2 c =
+    let d = (goal.at.returns-else-same_sender-2 c).Joined-same_sender in
+    let e : ((E d && F d) && K d) ≡ false = sym (three-told d) ∙ c.if-same_sender-2.false in
+    three-told d ∙ e ∙ sym (λ k. e k && M d) ∙ told d

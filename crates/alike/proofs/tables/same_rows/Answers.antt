@@ -1,4 +1,4 @@
--- `tables::same_rows`: the first i rows agree. The measure is n - i.
+-- `tables::same_rows`: the first i rows agree.
 use mathlib.Core.Path.{ap}
 use mathlib.Core.Bool.{not}
 use mathlib.Core.Path.{◌≡◌, sym, ◌∙◌}
@@ -13,31 +13,31 @@ use native.Mathlib.Omega.{arith}
 use borrow.Author.Rules.{rules}
 use Rattle.alike.proofs.tables.same_rows.Goals as goal
 
-pub returns-then-n-m : goal.returns-then-n-m
-returns-then-n-m c =
-    sym (rows-length c.args.ha c.args.a.now c.args.hb c.args.b.now c.requires.0.fit c.requires.1.fit c.args.t (λ e. c.if-n-m.true (c.rows_of-n.ensures ∙ e ∙ sym c.rows_of-m.ensures)))
+pub returns-then-n-rows_of : goal.returns-then-n-rows_of
+returns-then-n-rows_of c =
+    sym (rows-length c.args.ha c.args.a.now c.args.hb c.args.b.now c.requires.0.fit c.requires.1.fit c.args.table (λ e. c.if-n-rows_of.true (c.rows_of-n.ensures ∙ e ∙ sym c.rows_of.ensures)))
 
 pub loop-i-init : goal.loop-i-init
 loop-i-init c = (search rules, λ k h. absurd (omega (arith, h)))
 
-pub same_row-s-requires : goal.same_row-s-requires
-same_row-s-requires c =
-    (c.requires.0, omega (arith, c.loop-i-test.true, c.rows_of-n.ensures), c.requires.1, omega (arith, c.loop-i-test.true, c.if-n-m.false, c.rows_of-m.ensures))
+pub same_row-requires : goal.same_row-requires
+same_row-requires c =
+    (c.requires.0, omega (arith, c.loop-i-test.true, c.rows_of-n.ensures), c.requires.1, omega (arith, c.loop-i-test.true, c.if-n-rows_of.false, c.rows_of.ensures))
 
-pub returns-then-not-s : goal.returns-then-not-s
-returns-then-not-s c =
+pub returns-then-not-same_row : goal.returns-then-not-same_row
+returns-then-not-same_row c =
     let l = c.loop-i in
     let t = c.loop-i-test.true in
-    sym (rows-no c.args.ha c.args.a.now c.args.hb c.args.b.now c.requires.0.fit c.requires.1.fit c.args.t l.i
-    (omega (arith, t, c.rows_of-n.ensures)) (omega (arith, t, c.if-n-m.false, c.rows_of-m.ensures)) (no c.same_row-s.ensures (ap not c.if-not-s.true)))
+    sym (rows-no c.args.ha c.args.a.now c.args.hb c.args.b.now c.requires.0.fit c.requires.1.fit c.args.table l.i
+    (omega (arith, t, c.rows_of-n.ensures)) (omega (arith, t, c.if-n-rows_of.false, c.rows_of.ensures)) (no c.same_row.ensures (ap not c.if-not-same_row.true)))
 
 pub loop-i-preserved : goal.loop-i-preserved
 loop-i-preserved c =
     let l = c.loop-i in
-    (search rules, below_more (λ (k : ℕ). same_row c.args.t (state_of c.args.ha c.args.a.now) (state_of c.args.hb c.args.b.now) k ≡ true) l.i l.invariant.1 (yes c.same_row-s.ensures (ap not c.if-not-s.false)))
+    (search rules, below_more (λ (k : ℕ). same_row c.args.table (state_of c.args.ha c.args.a.now) (state_of c.args.hb c.args.b.now) k ≡ true) l.i l.invariant.1 (yes c.same_row.ensures (ap not c.if-not-same_row.false)))
 
 pub returns : goal.returns
 returns c =
     let l = c.loop-i in
-    sym (rows-yes c.args.ha c.args.a.now c.args.hb c.args.b.now c.requires.0.fit c.requires.1.fit c.args.t
-    (sym c.rows_of-n.ensures ∙ c.if-n-m.false ∙ c.rows_of-m.ensures) (λ k h. l.invariant.1 k (omega (arith, h, c.loop-i-test.false, c.rows_of-n.ensures))))
+    sym (rows-yes c.args.ha c.args.a.now c.args.hb c.args.b.now c.requires.0.fit c.requires.1.fit c.args.table
+    (sym c.rows_of-n.ensures ∙ c.if-n-rows_of.false ∙ c.rows_of.ensures) (λ k h. l.invariant.1 k (omega (arith, h, c.loop-i-test.false, c.rows_of-n.ensures))))

@@ -1,13 +1,10 @@
--- `tables::same_rows`: the first i rows agree. The measure is n - i.
+-- `tables::same_rows`: the first i rows agree.
 use mathlib.Core.Path.{◌≡◌}
 use mathlib.Core.Bool.{true}
-use Prim.Native.Nat.{ℕ, ◌-◌, ◌≤◌, ◌<◌}
+use Prim.Native.Nat.{ℕ, ◌≤◌, ◌<◌}
 use Rattle.block.specs.View.{state_of}
 use Rattle.alike.specs.Rows.{same_row}
 use Rattle.alike.proofs.tables.same_rows.Given as goal
 
 abbrev pub invariant-loop-i : goal.invariant-loop-i
-invariant-loop-i l = (l.i ≤ l.n) × ((k : ℕ) → k < l.i → same_row l.t (state_of l.ha l.a) (state_of l.hb l.b) k ≡ true)
-
-abbrev pub decreases-loop-i : goal.decreases-loop-i
-decreases-loop-i l = l.n - l.i
+invariant-loop-i l = (l.i ≤ l.n) × ((k : ℕ) → k < l.i → same_row l.table (state_of l.ha l.a) (state_of l.hb l.b) k ≡ true)

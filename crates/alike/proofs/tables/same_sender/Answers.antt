@@ -14,21 +14,22 @@ use Rattle.alike.proofs.tables.same_sender.Goals as goal
 abbrev hop_of : Sender → Hop
 hop_of z = record { peer = z.peer; round = z.round.0 }
 
+pub returns-else-x-y : goal.returns-else-x-y
+unfolding same_option same_hop
+returns-else-x-y c =
+    let x = hop_of c.args.x in
+    let y = hop_of c.args.y in
+    ne_eqb x.peer y.peer c.if-x-y.false
+    ∙ sym ((λ k. same_option same_hop (only_if (c.if-x.true k) x) (only_if (c.if-y.true k) y))
+    ∙ and-no-left (eqb x.peer y.peer) (eqb x.round y.round) (ne_eqb x.peer y.peer c.if-x-y.false))
+
 pub returns-then-x-y : goal.returns-then-x-y
 unfolding same_option same_hop
 returns-then-x-y c =
     let x = hop_of c.args.x in
     let y = hop_of c.args.y in
     sym ((λ k. same_option same_hop (only_if (c.if-x.true k) x) (only_if (c.if-y.true k) y))
-    ∙ and-no-left (eqb x.peer y.peer) (eqb x.round y.round) (ne_eqb x.peer y.peer c.if-x-y.true))
-
-pub returns-then-y : goal.returns-then-y
-unfolding same_option same_hop
-returns-then-y c =
-    let x = hop_of c.args.x in
-    let y = hop_of c.args.y in
-    sym ((λ k. same_option same_hop (only_if (c.if-x.true k) x) (only_if (c.if-y.true k) y))
-    ∙ ap (λ (t : Bool). t && eqb x.round y.round) (eq-eqb x.peer y.peer c.if-x-y.false))
+    ∙ ap (λ (t : Bool). t && eqb x.round y.round) (eq-eqb x.peer y.peer c.if-x-y.true))
 
 pub returns-then-x : goal.returns-then-x
 unfolding same_option

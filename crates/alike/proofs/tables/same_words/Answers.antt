@@ -8,14 +8,14 @@ use Rattle.alike.proofs.tables.same_words.Goals as goal
 pub loop-i-init : goal.loop-i-init
 loop-i-init c = (search rules, λ k h. absurd (omega (arith, h)))
 
-pub returns-then-x-y : goal.returns-then-x-y
-returns-then-x-y c = c.loop-i.invariant
+pub returns-then-load : goal.returns-then-load
+returns-then-load c = c.loop-i.invariant
 
 pub loop-i-preserved : goal.loop-i-preserved
 loop-i-preserved c = (
   omega arith,
   same_word c.loop-i.i c.args.a.now c.args.b.now (λ k. omega (arith, c.shared_slice_known-1.given k)) (λ k. omega (arith, c.shared_slice_known-2-1.given k)) (omega arith) (omega arith)
-      (sym c.load-x.ensures ∙ c.if-x-y.false ∙ c.load-y.ensures) c.loop-i.invariant.1,
+      (sym c.load.ensures ∙ c.if-load.false ∙ c.load-in-loop-i.ensures) c.loop-i.invariant.1,
 )
 
 pub returns : goal.returns

@@ -10,10 +10,10 @@ use Rattle.block.proofs.links.load_link.Goals as goal
 
 pub load-requires : goal.load-requires
 load-requires c =
-    let e = c.received_at-e in
-    (c.requires.1, omega (arith, links-room c.args.h c.args.block.now e.result e.ensures c.requires.0, c.requires.0.within))
+    let e = c.received_at-end in
+    (c.requires.1, omega (arith, links-room c.args.head c.args.block.now e.result e.ensures c.requires.0, c.requires.0.within))
 
 pub returns : goal.returns
 returns c =
-    let e = c.received_at-e in
-    sym (c.load.ensures (entry 0 eager)) ∙ ap (λ (l : List (Entry Mark)). get_or l c.args.i (entry 0 eager)) (links-lent c.args.h c.args.block.now e.result e.ensures)
+    let e = c.received_at-end in
+    sym (c.load.ensures (entry 0 eager)) ∙ ap (λ (l : List (Entry Mark)). get_or l c.args.i (entry 0 eager)) (links-lent c.args.head c.args.block.now e.result e.ensures)

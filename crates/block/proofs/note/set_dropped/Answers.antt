@@ -7,11 +7,11 @@ use Rattle.block.proofs.note.set_dropped.Goals as goal
 
 pub store-requires : goal.store-requires
 store-requires c =
-    let k = c.args.k in
-    (c.requires.1, omega (arith, record-room c.args.h c.args.block.now c.requires.0 c.args.note.link (c.dropped_at.result + k) c.dropped_rows_at-a.result c.end_at-e.result k (omega (arith, c.requires.1, c.requires.0.fit.within.dropped)) (omega (arith, c.dropped_at.ensures)) c.dropped_rows_at-a.ensures c.end_at-e.ensures, c.requires.0.fit.within.dropped))
+    let k = c.args.i in
+    (c.requires.1, omega (arith, record-room c.args.head c.args.block.now c.requires.0 c.args.note.link (c.dropped_at.result + k) c.dropped_rows_at-start.result c.end_at-end.result k (omega (arith, c.requires.1, c.requires.0.fit.within.dropped)) (omega (arith, c.dropped_at.ensures)) c.dropped_rows_at-start.ensures c.end_at-end.ensures, c.requires.0.fit.within.dropped))
 
 pub returns : goal.returns
 returns c =
-    let k = c.args.k in
-    instead-goes c.args.h c.args.block.now c.requires.0 c.args.note.link (id_of c.args.note.id) c.args.note.round.0 (c.dropped_at.result + k) c.dropped_rows_at-a.result c.end_at-e.result c.store.new.b c.requires.2 k c.requires.1 (omega (arith, c.dropped_at.ensures)) c.dropped_rows_at-a.ensures c.end_at-e.ensures c.store.auto.b
+    let k = c.args.i in
+    instead-goes c.args.head c.args.block.now c.requires.0 c.args.note.link (id_of c.args.note.id) c.args.note.round.0 (c.dropped_at.result + k) c.dropped_rows_at-start.result c.end_at-end.result c.store.new.bytes c.requires.2 k c.requires.1 (omega (arith, c.dropped_at.ensures)) c.dropped_rows_at-start.ensures c.end_at-end.ensures c.store.auto.bytes
     c.store.ensures

@@ -7,11 +7,11 @@ use Rattle.block.proofs.note.store_queued.Goals as goal
 
 pub push-requires : goal.push-requires
 push-requires c =
-    let n = c.args.h.live.queued in
-    omega (arith, queue-room c.args.h c.args.block.now c.requires.0 c.args.link (c.queue_at.result + n) c.queue_rows_at-a.result c.dropped_at-e.result n (omega (arith, c.requires.2)) (omega (arith, c.queue_at.ensures)) c.queue_rows_at-a.ensures c.dropped_at-e.ensures, c.requires.2)
+    let n = c.args.head.live.queued in
+    omega (arith, queue-room c.args.head c.args.block.now c.requires.0 c.args.link (c.queue_at.result + n) c.queue_rows_at-start.result c.dropped_at-end.result n (omega (arith, c.requires.2)) (omega (arith, c.queue_at.ensures)) c.queue_rows_at-start.ensures c.dropped_at-end.ensures, c.requires.2)
 
 pub returns : goal.returns
 returns c =
-    let n = c.args.h.live.queued in
-    queue-goes c.args.h c.args.block.now c.requires.0 c.args.link (id_of c.args.id) c.args.round.0 (c.queue_at.result + n) c.queue_rows_at-a.result c.dropped_at-e.result c.push.new.b c.requires.1 c.requires.2 (omega (arith, c.queue_at.ensures)) c.queue_rows_at-a.ensures c.dropped_at-e.ensures c.push.auto.b
+    let n = c.args.head.live.queued in
+    queue-goes c.args.head c.args.block.now c.requires.0 c.args.link (id_of c.args.id) c.args.round.0 (c.queue_at.result + n) c.queue_rows_at-start.result c.dropped_at-end.result c.push.new.bytes c.requires.1 c.requires.2 (omega (arith, c.queue_at.ensures)) c.queue_rows_at-start.ensures c.dropped_at-end.ensures c.push.auto.bytes
     c.push.ensures

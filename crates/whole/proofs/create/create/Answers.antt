@@ -12,7 +12,7 @@ use Rattle.block.specs.Header.{Stored}
 use Rattle.block.specs.declared.head.Live.{Live}
 use Rattle.whole.specs.Creation.{Creates}
 use Rattle.whole.proofs.Tests.{no, yes}
-use Rattle.whole.proofs.HeldLaws.{ceilings-of}
+use Rattle.whole.proofs.HeldLaws.{ceilings_of}
 use Rattle.whole.proofs.CreateLaws.{create-0, create-1, create-2, create-3, create-4, need-header, fresh-accepted}
 use Rattle.whole.proofs.create.create.Goals as goal
 use Rattle.whole.proofs.create.create.Goals.{Else-block-block_need, Else-not-limits_in_range}
@@ -57,7 +57,7 @@ returns-then-not-limits_in_range c =
     (record { number = refl; block = refl })
 
 pub block_need-requires : goal.block_need-requires
-block_need-requires c = ceilings-of (limits_of c.args.limits) (limits-yes c)
+block_need-requires c = ceilings_of (limits_of c.args.limits) (limits-yes c)
 
 pub returns-then-block-block_need : goal.returns-then-block-block_need
 returns-then-block-block_need c =

@@ -3,7 +3,7 @@ use mathlib.Core.Path.{ap}
 use mathlib.Core.Bool.{not}
 use mathlib.Core.Path.{sym}
 use mathlib.Core.List.{List}
-use Prim.Native.Nat.{ℕ, ◌+◌, ◌*◌, ◌-◌}
+use Prim.Native.Nat.{ℕ, ◌+◌, ◌*◌}
 use native.Mathlib.Omega.{arith}
 use borrow.Author.Tests.{not-true, not-false}
 use lib.ListN.{length, get_or}
@@ -27,17 +27,17 @@ pub returns-then-kept-gt-STATES : goal.returns-then-kept-gt-STATES
 unfolding kept
 returns-then-kept-gt-STATES c = sym (holds_not c.args.n c.args.area.now (λ h. omega (arith, h.few)))
 
-pub returns-then-not-slots : goal.returns-then-not-slots
+pub returns-then-not-slots_hold : goal.returns-then-not-slots_hold
 unfolding kept
-returns-then-not-slots c =
+returns-then-not-slots_hold c =
     let k : ℕ = get_or c.args.area.now 255 0 in
-    sym (holds_not c.args.n c.args.area.now (λ h. told-no (SlotsHold c.args.n k c.args.area.now) c.slots_hold-slots.result c.slots_hold-slots.ensures (not-true _ (ap not c.if-not-slots.true)) h.slots))
+    sym (holds_not c.args.n c.args.area.now (λ h. told-no (SlotsHold c.args.n k c.args.area.now) c.slots_hold.result c.slots_hold.ensures (not-true _ (ap not c.if-not-slots_hold.true)) h.slots))
 
-pub returns-then-not-spare : goal.returns-then-not-spare
+pub returns-then-not-zeros : goal.returns-then-not-zeros
 unfolding kept
-returns-then-not-spare c =
+returns-then-not-zeros c =
     let k : ℕ = get_or c.args.area.now 255 0 in
-    sym (holds_not c.args.n c.args.area.now (λ h. told-no (Zeros (26 * k) 255 c.args.area.now) c.zeros-spare.result c.zeros-spare.ensures (not-true _ (ap not c.if-not-spare.true)) h.spare))
+    sym (holds_not c.args.n c.args.area.now (λ h. told-no (Zeros (26 * k) 255 c.args.area.now) c.zeros.result c.zeros.ensures (not-true _ (ap not c.if-not-zeros.true)) h.spare))
 
 pub overflow_mul-n : goal.overflow_mul-n
 overflow_mul-n c = let e = slot-start c.args.n (get_or c.args.area.now 255 0) 4 (omega arith) in record { fits = omega arith }
@@ -45,8 +45,8 @@ overflow_mul-n c = let e = slot-start c.args.n (get_or c.args.area.now 255 0) 4 
 pub overflow_add-n : goal.overflow_add-n
 overflow_add-n c = let e = slot-start c.args.n (get_or c.args.area.now 255 0) 4 (omega arith) in omega arith
 
-pub zeros-requires : goal.zeros-requires
-zeros-requires c = let e = slot-start c.args.n (get_or c.args.area.now 255 0) 4 (omega arith) in (omega arith, omega arith)
+pub zeros-requires-2 : goal.zeros-requires-2
+zeros-requires-2 c = let e = slot-start c.args.n (get_or c.args.area.now 255 0) 4 (omega arith) in (omega arith, omega arith)
 
 pub returns : goal.returns
 unfolding kept
@@ -54,12 +54,12 @@ returns c =
     let n : ℕ = c.args.n in
     let area : List ℕ = c.args.area.now in
     let k : ℕ = get_or area 255 0 in
-    told_same (Zeros (256 + n * k) (length area) area) (area_holds n area) c.zeros.result c.zeros.ensures
+    told_same (Zeros (256 + n * k) (length area) area) (area_holds n area) c.zeros-2.result c.zeros-2.ensures
     (λ z. of-holds n area (λ i. omega (arith, c.shared_slice_known-1.given i)) (record {
       long = omega arith;
       few = omega arith;
-      slots = told-yes (SlotsHold n k area) c.slots_hold-slots.result c.slots_hold-slots.ensures (not-false _ (ap not c.if-not-slots.false));
-      spare = told-yes (Zeros (26 * k) 255 area) c.zeros-spare.result c.zeros-spare.ensures (not-false _ (ap not c.if-not-spare.false));
+      slots = told-yes (SlotsHold n k area) c.slots_hold.result c.slots_hold.ensures (not-false _ (ap not c.if-not-slots_hold.false));
+      spare = told-yes (Zeros (26 * k) 255 area) c.zeros.result c.zeros.ensures (not-false _ (ap not c.if-not-zeros.false));
       rest = z;
     }))
     (λ z. holds_not n area (λ h. z h.rest))

@@ -1,11 +1,8 @@
--- `place_of`: none of the first i rows has the name. The measure is what is left.
+-- `place_of`: none of the first i rows has the name.
 use mathlib.Core.Path.{◌≡◌}
-use Prim.Native.Nat.{ℕ, ◌-◌, ◌≤◌, ◌<◌}
+use Prim.Native.Nat.{ℕ, ◌≤◌, ◌<◌}
 use Rattle.whole.specs.States.Area.{name_at}
 use Rattle.whole.proofs.states.place_of.Given as goal
 
 abbrev pub invariant-loop-i : goal.invariant-loop-i
 invariant-loop-i l = (l.i ≤ l.k) × ((j : ℕ) → j < l.i → name_at l.area j ≡ l.name → ⊥)
-
-abbrev pub decreases-loop-i : goal.decreases-loop-i
-decreases-loop-i l = l.k - l.i

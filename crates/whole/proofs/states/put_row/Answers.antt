@@ -10,8 +10,8 @@ use Rattle.whole.proofs.states.put_row.Goals as goal
 pub returns : goal.returns
 returns c =
     c.store_le.ensures
-    ∙ ap (put (c.args.at + 24) (le_bytes 2 c.args.c.hops)) (c.store-3.ensures
-    ∙ ap (put (c.args.at + 16) (le_bytes 8 c.args.c.control)) (c.store-2.ensures
-    ∙ ap (put (c.args.at + 8) (le_bytes 8 c.args.c.payload)) c.store.ensures))
-    ∙ four-puts c.args.area.now c.args.at (le_bytes 8 c.args.name) (le_bytes 8 c.args.c.payload) (le_bytes 8 c.args.c.control) (le_bytes 2 c.args.c.hops)
-    (length-le_bytes 8 c.args.name) (length-le_bytes 8 c.args.c.payload) (length-le_bytes 8 c.args.c.control) (length-le_bytes 2 c.args.c.hops) c.requires
+    ∙ ap (put (c.args.at + 24) (le_bytes 2 c.args.counts.hops)) (c.store-3.ensures
+    ∙ ap (put (c.args.at + 16) (le_bytes 8 c.args.counts.control)) (c.store-2.ensures
+    ∙ ap (put (c.args.at + 8) (le_bytes 8 c.args.counts.payload)) c.store.ensures))
+    ∙ four-puts c.args.area.now c.args.at (le_bytes 8 c.args.name) (le_bytes 8 c.args.counts.payload) (le_bytes 8 c.args.counts.control) (le_bytes 2 c.args.counts.hops)
+    (length-le_bytes 8 c.args.name) (length-le_bytes 8 c.args.counts.payload) (length-le_bytes 8 c.args.counts.control) (length-le_bytes 2 c.args.counts.hops) c.requires

@@ -2,4 +2,4 @@
 use Rattle.whole.proofs.states.row_counts.Goals as goal
 
 pub returns : goal.returns
-returns c = λ t. record { payload = c.load-payload.ensures t; control = c.load-control.ensures t; hops = c.load2-hops.ensures.0 t }
+returns c = λ t. record { payload = c.load.ensures t; control = c.load-2.ensures t; hops = c.load2.ensures.0 t }

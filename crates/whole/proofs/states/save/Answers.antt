@@ -20,10 +20,10 @@ use Rattle.whole.proofs.StatesLaws.AreaLaws.{length-row}
 use Rattle.whole.proofs.StatesLaws.HoldsLaws.{holds_of}
 use Rattle.whole.proofs.StatesLaws.CallLaws.{less, saves-5, saves-17, saves-16, saves-0}
 use Rattle.whole.proofs.states.save.Goals as goal
-use Rattle.whole.proofs.states.save.Goals.{After-copy_bytes, After-put_row, Else-not-holds, Else-slot-eq-STATES}
+use Rattle.whole.proofs.states.save.Goals.{After-copy_bytes, After-put_row, Else-not-area_holds, Else-slot-eq-STATES}
 
 -- what is known once the area is held
-module _ (d : Else-not-holds) where
+module _ (d : Else-not-area_holds) where
   abbrev block : List ℕ
   block = d.args.block.now
 
@@ -34,16 +34,16 @@ module _ (d : Else-not-holds) where
   name = d.args.name
 
   abbrev counts : Counts
-  counts = counts_of d.args.c
+  counts = counts_of d.args.counts
 
   abbrev x : Entry Kept
   x = entry name (record { counts = counts; block = block })
 
   whole : whole_block block ≡ true
-  whole = sym d.is_whole-whole.ensures ∙ not-false _ (ap not d.if-not-whole.false)
+  whole = sym d.is_whole.ensures ∙ not-false _ (ap not d.if-not-is_whole.false)
 
   holds : area_holds (length block) area ≡ true
-  holds = sym d.area_holds-holds.ensures ∙ not-false _ (ap not d.if-not-holds.false)
+  holds = sym d.area_holds.ensures ∙ not-false _ (ap not d.if-not-area_holds.false)
 
   fits : 256 + length block * 4 ≤ length area
   fits = (holds_of (length block) area holds).long
@@ -53,8 +53,8 @@ module _ (d : Else-not-holds) where
 
 -- once there is a slot: where it ends
 module _ (d : Else-slot-eq-STATES) where
-  abbrev held : Else-not-holds
-  held = (goal.at.Else-slot-eq-STATES d).Else-not-holds
+  abbrev held : Else-not-area_holds
+  held = (goal.at.Else-slot-eq-STATES d).Else-not-area_holds
 
   abbrev slot : ℕ
   slot = d.place_of-slot.result
@@ -88,31 +88,31 @@ module _ (d : After-copy_bytes) where
       ∙ length-put (256 + length (block (held at')) * slot at') (block (held at')) rowed.put_row.new.area (omega (arith, long-row rowed, ends at', fits (held at')))
       ∙ long-row rowed
 
-pub returns-then-not-whole : goal.returns-then-not-whole
-returns-then-not-whole c =
+pub returns-then-not-is_whole : goal.returns-then-not-is_whole
+returns-then-not-is_whole c =
     let s = c.args in
-    saves-5 s.block.now (counts_of s.c) s.area.now s.name (sym c.is_whole-whole.ensures ∙ not-true _ (ap not c.if-not-whole.true))
+    saves-5 s.block.now (counts_of s.counts) s.area.now s.name (sym c.is_whole.ensures ∙ not-true _ (ap not c.if-not-is_whole.true))
 
-pub returns-then-not-holds : goal.returns-then-not-holds
-returns-then-not-holds c =
+pub returns-then-not-area_holds : goal.returns-then-not-area_holds
+returns-then-not-area_holds c =
     let s = c.args in
-    saves-17 s.block.now (counts_of s.c) s.area.now s.name (sym c.is_whole-whole.ensures ∙ not-false _ (ap not c.if-not-whole.false))
-    (sym c.area_holds-holds.ensures ∙ not-true _ (ap not c.if-not-holds.true))
+    saves-17 s.block.now (counts_of s.counts) s.area.now s.name (sym c.is_whole.ensures ∙ not-false _ (ap not c.if-not-is_whole.false))
+    (sym c.area_holds.ensures ∙ not-true _ (ap not c.if-not-area_holds.true))
 
 pub bounds-area-255 : goal.bounds-area-255
-bounds-area-255 c = omega (arith, fits (goal.at.bounds-area-255 c).Else-not-holds)
+bounds-area-255 c = omega (arith, fits (goal.at.bounds-area-255 c).Else-not-area_holds)
 
 pub overflow_cast-kept : goal.overflow_cast-kept
 overflow_cast-kept c = omega (arith, c.slice_known-2-1.given 255)
 
 pub place_of-slot-requires : goal.place_of-slot-requires
 unfolding kept
-place_of-slot-requires c = (few (goal.at.place_of-slot-requires c).Else-not-holds, omega (arith, fits (goal.at.place_of-slot-requires c).Else-not-holds))
+place_of-slot-requires c = (few (goal.at.place_of-slot-requires c).Else-not-area_holds, omega (arith, fits (goal.at.place_of-slot-requires c).Else-not-area_holds))
 
 pub returns-then-slot-eq-STATES : goal.returns-then-slot-eq-STATES
 unfolding kept
 returns-then-slot-eq-STATES c =
-    saves-16 (block (goal.at.returns-then-slot-eq-STATES c).Else-not-holds) (counts (goal.at.returns-then-slot-eq-STATES c).Else-not-holds) (area (goal.at.returns-then-slot-eq-STATES c).Else-not-holds) (name (goal.at.returns-then-slot-eq-STATES c).Else-not-holds) (whole (goal.at.returns-then-slot-eq-STATES c).Else-not-holds) (holds (goal.at.returns-then-slot-eq-STATES c).Else-not-holds) (subst (λ (i : ℕ). Placed (kept (area (goal.at.returns-then-slot-eq-STATES c).Else-not-holds)) (name (goal.at.returns-then-slot-eq-STATES c).Else-not-holds) (area (goal.at.returns-then-slot-eq-STATES c).Else-not-holds) i) c.if-slot-eq-STATES.true c.place_of-slot.ensures)
+    saves-16 (block (goal.at.returns-then-slot-eq-STATES c).Else-not-area_holds) (counts (goal.at.returns-then-slot-eq-STATES c).Else-not-area_holds) (area (goal.at.returns-then-slot-eq-STATES c).Else-not-area_holds) (name (goal.at.returns-then-slot-eq-STATES c).Else-not-area_holds) (whole (goal.at.returns-then-slot-eq-STATES c).Else-not-area_holds) (holds (goal.at.returns-then-slot-eq-STATES c).Else-not-area_holds) (subst (λ (i : ℕ). Placed (kept (area (goal.at.returns-then-slot-eq-STATES c).Else-not-area_holds)) (name (goal.at.returns-then-slot-eq-STATES c).Else-not-area_holds) (area (goal.at.returns-then-slot-eq-STATES c).Else-not-area_holds) i) c.if-slot-eq-STATES.true c.place_of-slot.ensures)
 
 pub overflow_mul-slot : goal.overflow_mul-slot
 overflow_mul-slot c = record { fits = omega (arith, room (goal.at.overflow_mul-slot c).Else-slot-eq-STATES) }

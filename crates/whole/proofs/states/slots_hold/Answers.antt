@@ -1,4 +1,4 @@
--- `slots_hold`: the first i names differ, and the first i blocks are whole. The measure is what is left.
+-- `slots_hold`: the first i names differ, and the first i blocks are whole.
 use mathlib.Core.Bool.{not}
 use mathlib.Core.Path.{◌≡◌, sym, ap, ◌∙◌, subst}
 use Prim.Native.Nat.{ℕ, ◌+◌, ◌*◌, ◌-◌}
@@ -14,22 +14,22 @@ use Rattle.whole.specs.States.Calls.{SlotsHold}
 use Rattle.whole.proofs.StatesLaws.Leaves.{slots-more}
 use Rattle.whole.proofs.StatesLaws.Slots.{slot-end}
 use Rattle.whole.proofs.states.slots_hold.Goals as goal
-use Rattle.whole.proofs.states.slots_hold.Goals.{After-is_whole-whole}
+use Rattle.whole.proofs.states.slots_hold.Goals.{After-is_whole}
 
 -- the slot that was asked is the part
-read : (c : After-is_whole-whole) → c.is_whole-whole.result ≡ whole_block (part (256 + c.args.n * c.loop-i.i) c.args.n c.args.area.now)
+read : (c : After-is_whole) → c.is_whole.result ≡ whole_block (part (256 + c.args.n * c.loop-i.i) c.args.n c.args.area.now)
 unfolding part
 read c =
     let from : ℕ = 256 + c.args.n * c.loop-i.i in
     let e : from + c.args.n - from ≡ c.args.n = omega arith in
-    c.is_whole-whole.ensures ∙ ap (λ (m : ℕ). whole_block (take m (drop from c.args.area.now))) e
+    c.is_whole.ensures ∙ ap (λ (m : ℕ). whole_block (take m (drop from c.args.area.now))) e
 
 pub loop-i-init : goal.loop-i-init
 loop-i-init c = (search rules, record { names = λ p q l h e. omega arith; wholes = λ i h. absurd (omega arith) })
 
-pub returns-then-first-i : goal.returns-then-first-i
+pub returns-then-place_of-i : goal.returns-then-place_of-i
 unfolding name_at
-returns-then-first-i c = λ h. h.names _ _ c.if-first-i.true (omega arith) (c.place_of-first.ensures.found c.if-first-i.true ∙ c.load-name.ensures)
+returns-then-place_of-i c = λ h. h.names _ _ c.if-place_of-i.true (omega arith) (c.place_of.ensures.found c.if-place_of-i.true ∙ c.load-name.ensures)
 
 pub overflow_mul-from : goal.overflow_mul-from
 overflow_mul-from c = let e = slot-end c.args.n c.loop-i.i 4 (omega arith) in record { fits = omega arith }
@@ -37,20 +37,20 @@ overflow_mul-from c = let e = slot-end c.args.n c.loop-i.i 4 (omega arith) in re
 pub overflow_add-from : goal.overflow_add-from
 overflow_add-from c = let e = slot-end c.args.n c.loop-i.i 4 (omega arith) in omega arith
 
-pub overflow_add-to : goal.overflow_add-to
-overflow_add-to c = let e = slot-end c.args.n c.loop-i.i 4 (omega arith) in omega arith
+pub overflow_add-from-in-loop-i : goal.overflow_add-from-in-loop-i
+overflow_add-from-in-loop-i c = let e = slot-end c.args.n c.loop-i.i 4 (omega arith) in omega arith
 
-pub returns-then-not-whole : goal.returns-then-not-whole
-returns-then-not-whole c = λ h.
-    true≢ (sym (not-true _ (ap not c.if-not-whole.true)) ∙ read (goal.at.returns-then-not-whole c).After-is_whole-whole ∙ h.wholes c.loop-i.i (omega arith))
+pub returns-then-not-is_whole : goal.returns-then-not-is_whole
+returns-then-not-is_whole c = λ h.
+    true≢ (sym (not-true _ (ap not c.if-not-is_whole.true)) ∙ read (goal.at.returns-then-not-is_whole c).After-is_whole ∙ h.wholes c.loop-i.i (omega arith))
 
 pub loop-i-preserved : goal.loop-i-preserved
 unfolding name_at
 loop-i-preserved c = (
   search rules,
   slots-more c.args.n c.loop-i.i c.args.area.now c.loop-i.invariant.1
-      (λ j h e. c.place_of-first.ensures.before j (omega (arith, c.if-first-i.false)) (e ∙ sym c.load-name.ensures))
-      (sym (read (goal.at.loop-i-preserved c).After-is_whole-whole) ∙ not-false _ (ap not c.if-not-whole.false)),
+      (λ j h e. c.place_of.ensures.before j (omega (arith, c.if-place_of-i.false)) (e ∙ sym c.load-name.ensures))
+      (sym (read (goal.at.loop-i-preserved c).After-is_whole) ∙ not-false _ (ap not c.if-not-is_whole.false)),
 )
 
 pub returns : goal.returns

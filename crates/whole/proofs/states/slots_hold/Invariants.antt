@@ -1,10 +1,7 @@
--- `slots_hold`: the first i names differ, and the first i blocks are whole. The measure is what is left.
-use Prim.Native.Nat.{◌-◌, ◌≤◌}
+-- `slots_hold`: the first i names differ, and the first i blocks are whole.
+use Prim.Native.Nat.{◌≤◌}
 use Rattle.whole.specs.States.Calls.{SlotsHold}
 use Rattle.whole.proofs.states.slots_hold.Given as goal
 
 abbrev pub invariant-loop-i : goal.invariant-loop-i
 invariant-loop-i l = (l.i ≤ l.k) × SlotsHold l.n l.i l.area
-
-abbrev pub decreases-loop-i : goal.decreases-loop-i
-decreases-loop-i l = l.k - l.i

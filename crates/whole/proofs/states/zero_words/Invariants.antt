@@ -4,7 +4,7 @@ use Rattle.whole.specs.States.Calls.{Zeros}
 use Rattle.whole.proofs.states.zero_words.Given as goal
 
 abbrev pub invariant-loop-i : goal.invariant-loop-i
-invariant-loop-i l = (l.from ≤ l.i) × (l.i ≤ l.to) × Zeros l.from l.i l.s
+invariant-loop-i l = (l.from ≤ l.i) × (l.i ≤ l.to) × Zeros l.from l.i l.area
 
 abbrev pub decreases-loop-i : goal.decreases-loop-i
 decreases-loop-i l = l.to - l.i

@@ -1,10 +1,7 @@
--- `zeros`: no byte from `from` to i is other than 0. The measure is what is left.
-use Prim.Native.Nat.{◌-◌, ◌≤◌}
+-- `zeros`: no byte from `from` to i is other than 0.
+use Prim.Native.Nat.{◌≤◌}
 use Rattle.whole.specs.States.Calls.{Zeros}
 use Rattle.whole.proofs.states.zeros.Given as goal
 
 abbrev pub invariant-loop-i : goal.invariant-loop-i
-invariant-loop-i l = (l.from ≤ l.i) × (l.i ≤ l.to) × Zeros l.from l.i l.s
-
-abbrev pub decreases-loop-i : goal.decreases-loop-i
-decreases-loop-i l = l.to - l.i
+invariant-loop-i l = (l.from ≤ l.i) × (l.i ≤ l.to) × Zeros l.from l.i l.area

@@ -1,7 +1,6 @@
--- `graft_lists`: the lists of the first i rows pass. The measure is n - i.
+-- `graft_lists`: the lists of the first i rows pass.
 use mathlib.Core.Path.{◌≡◌}
 use mathlib.Core.Bool.{true}
-use Prim.Native.Nat.{◌-◌}
 use lib.ListN.{take, drop}
 use Rattle.storage.specs.Lists.Base.{all}
 use Rattle.storage.specs.Rows.Rows.{rows}
@@ -9,7 +8,4 @@ use Rattle.whole.specs.Parts.{graft_list}
 use Rattle.whole.proofs.tables.graft_lists.Given as goal
 
 abbrev pub invariant-loop-i : goal.invariant-loop-i
-invariant-loop-i l = all (λ row. graft_list l.m (drop 22 row)) (take l.i (rows 119 l.n l.b)) ≡ true
-
-abbrev pub decreases-loop-i : goal.decreases-loop-i
-decreases-loop-i l = l.n - l.i
+invariant-loop-i l = all (λ row. graft_list l.link_count (drop 22 row)) (take l.i (rows 119 l.entry_count l.entries)) ≡ true

@@ -1,6 +1,5 @@
--- `links_whole`: the first i peers ascend; a turn compares neighbours. The measure is n - i.
+-- `links_whole`: the first i peers ascend; a turn compares neighbours.
 use mathlib.Core.Bool.{true, false}
-use Prim.Native.Nat.{◌-◌}
 use native.Mathlib.Omega.{arith}
 use borrow.Author.Rules.{rules}
 use Rattle.storage.specs.Lists.Map.{keys}
@@ -12,31 +11,31 @@ use Rattle.whole.specs.Parts.{links_whole}
 use Rattle.whole.proofs.tables.links_whole.Goals as goal
 
 pub loop-i-init : goal.loop-i-init
-loop-i-init c = (search rules, ascend-start (keys (state_of c.args.h c.args.block.now).links))
+loop-i-init c = (search rules, ascend-start (keys (state_of c.args.head c.args.block.now).links))
 
-pub peer_at-p-requires : goal.peer_at-p-requires
-peer_at-p-requires c = (c.requires, omega (arith, c.loop-i-test.true, c.loop-i.invariant.0))
+pub peer_at-requires-in-loop-i : goal.peer_at-requires-in-loop-i
+peer_at-requires-in-loop-i c = (c.requires, omega (arith, c.loop-i-test.true, c.loop-i.invariant.0))
 
-pub peer_at-q-requires : goal.peer_at-q-requires
-peer_at-q-requires c = (c.requires, c.loop-i-test.true)
+pub peer_at-requires : goal.peer_at-requires
+peer_at-requires c = (c.requires, c.loop-i-test.true)
 
 pub loop-i-preserved : goal.loop-i-preserved
 loop-i-preserved c =
     let l = c.loop-i in
-    let ks = keys (state_of c.args.h c.args.block.now).links in
-    (omega arith, ascend-more ks l.i l.invariant.0 l.invariant.1 (omega (arith, c.if-p-q.true, c.peer_at-q.ensures, c.peer_at-p.ensures)))
+    let ks = keys (state_of c.args.head c.args.block.now).links in
+    (omega arith, ascend-more ks l.i l.invariant.0 l.invariant.1 (omega (arith, c.if-peer_at.false, c.peer_at.ensures, c.peer_at-in-loop-i.ensures)))
 
-pub returns-else-p-q : goal.returns-else-p-q
+pub returns-then-peer_at : goal.returns-then-peer_at
 unfolding links_whole
-returns-else-p-q c =
+returns-then-peer_at c =
     let l = c.loop-i in
-    let ks = keys (state_of c.args.h c.args.block.now).links in
+    let ks = keys (state_of c.args.head c.args.block.now).links in
     tells-ascending ks false
-    (ascend-not ks l.i l.invariant.0 (omega (arith, c.loop-i-test.true, count-peers c.args.h c.args.block.now))
-    (omega (arith, c.if-p-q.false, c.peer_at-q.ensures, c.peer_at-p.ensures)))
+    (ascend-not ks l.i l.invariant.0 (omega (arith, c.loop-i-test.true, count-peers c.args.head c.args.block.now))
+    (omega (arith, c.if-peer_at.true, c.peer_at.ensures, c.peer_at-in-loop-i.ensures)))
 
 pub returns : goal.returns
 unfolding links_whole
 returns c =
-    let ks = keys (state_of c.args.h c.args.block.now).links in
-    tells-ascending ks true (ascend-done ks c.loop-i.i c.args.h.live.links (count-peers c.args.h c.args.block.now) c.loop-i-test.false c.loop-i.invariant.1)
+    let ks = keys (state_of c.args.head c.args.block.now).links in
+    tells-ascending ks true (ascend-done ks c.loop-i.i c.args.head.live.links (count-peers c.args.head c.args.block.now) c.loop-i-test.false c.loop-i.invariant.1)

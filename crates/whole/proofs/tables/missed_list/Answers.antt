@@ -1,46 +1,29 @@
 -- `missed_list`: the count, then the numbers.
 use mathlib.Core.Path.{◌≡◌, sym, ap, ◌∙◌}
-use mathlib.Core.Bool.{Bool, true, ◌&&◌}
-use mathlib.Core.List.{[], ◌∷◌}
+use mathlib.Core.Bool.{true, ◌&&◌}
 use Prim.Native.Nat.{ℕ, ◌+◌, ◌-◌}
 use native.Mathlib.Omega.{arith}
-use borrow.Author.Tests.{le-leb, lt-leb, lt-ltb, le-ltb}
+use borrow.Author.Tests.{le-leb, lt-ltb}
 use lib.Dec.{leb, ltb}
 use lib.ListN.{take, drop, get_or}
 use Rattle.storage.specs.Lists.Base.{once}
 use Rattle.whole.specs.Held.{all_below, numbers_name}
 use Rattle.whole.specs.Parts.{missed_list}
-use Rattle.whole.proofs.Tests.{stops}
 use Rattle.whole.proofs.NumberLaws.{tells-numbers}
 use Rattle.whole.proofs.tables.missed_list.Goals as goal
-
-pub returns-then-n-gt-CAPACITY : goal.returns-then-n-gt-CAPACITY
-unfolding missed_list numbers_name
-returns-then-n-gt-CAPACITY c =
-    let list = c.args.list.now in
-    let ns = take (get_or list 0 0) (drop 1 list) in
-    sym (stops (leb (get_or list 0 0) 32) (all_below c.args.m ns ∷ (ltb 0 (get_or list 0 0) && once ns) ∷ []) 0 (lt-leb (get_or list 0 0) 32 (omega (arith, c.if-n-gt-CAPACITY.true, c.wide-n.ensures))))
-
-pub returns-then-n-lt1 : goal.returns-then-n-lt1
-unfolding missed_list numbers_name
-returns-then-n-lt1 c =
-    let list = c.args.list.now in
-    let ns = take (get_or list 0 0) (drop 1 list) in
-    sym (stops (leb (get_or list 0 0) 32) (all_below c.args.m ns ∷ (ltb 0 (get_or list 0 0) && once ns) ∷ []) 2
-    (ap (λ (t : Bool). t && once ns) (le-ltb 0 (get_or list 0 0) (omega (arith, c.if-n-lt1.true, c.wide-n.ensures)))))
 
 pub numbers-requires : goal.numbers-requires
 numbers-requires c = c.requires.1
 
-pub returns : goal.returns
+pub returns-then-n-le-CAPACITY : goal.returns-then-n-le-CAPACITY
 unfolding missed_list numbers_name
-returns c =
+returns-then-n-le-CAPACITY c =
     let list = c.args.list.now in
-    let m = c.args.m in
+    let m = c.args.link_count in
     let ns = take (get_or list 0 0) (drop 1 list) in
     let w = c.wide-n in
-    let few : leb (get_or list 0 0) 32 ≡ true = le-leb (get_or list 0 0) 32 (omega (arith, c.if-n-gt-CAPACITY.false, w.ensures)) in
-    let some : ltb 0 (get_or list 0 0) ≡ true = lt-ltb 0 (get_or list 0 0) (omega (arith, c.if-n-lt1.false, w.ensures)) in
+    let few : leb (get_or list 0 0) 32 ≡ true = le-leb (get_or list 0 0) 32 (omega arith) in
+    let some : ltb 0 (get_or list 0 0) ≡ true = lt-ltb 0 (get_or list 0 0) (omega arith) in
     let size : 1 + w.result - 1 ≡ get_or list 0 0 = omega (arith, w.ensures) in
     tells-numbers m (take (1 + w.result - 1) (drop 1 list)) c.numbers.result c.numbers.ensures
     ∙ ap (λ (n : ℕ). all_below m (take n (drop 1 list)) && once (take n (drop 1 list))) size

@@ -1,57 +1,59 @@
--- `missed_lists`: the lists of the first i rows pass. The measure is n - i.
+-- `missed_lists`: the lists of the first i rows pass.
 use mathlib.Core.Path.{◌≡◌, refl, sym, ap, ◌∙◌}
+use mathlib.Core.Bool.{not}
 use mathlib.Core.List.{[]}
-use Prim.Native.Nat.{◌+◌, ◌-◌, ◌*◌, ◌≤◌}
+use Prim.Native.Nat.{◌+◌, ◌*◌, ◌≤◌}
 use native.Mathlib.Omega.{arith}
 use lib.ListN.{length, drop, get_or}
 use Rattle.storage.specs.Rows.Rows.{rows}
 use Rattle.storage.proofs.RowsLaws.Rows.{length-rows, row-end}
 use Rattle.whole.specs.Held.{all_lists}
 use Rattle.whole.specs.Parts.{missed_list}
+use Rattle.whole.proofs.Tests.{no, yes}
 use Rattle.whole.proofs.AllLaws.{all_none, all_keep, all-not, all_done, list_at}
 use Rattle.whole.proofs.tables.missed_lists.Goals as goal
-use Rattle.whole.proofs.tables.missed_lists.Goals.{After-missed_list-ok, In-loop-i}
+use Rattle.whole.proofs.tables.missed_lists.Goals.{After-missed_list, In-loop-i}
 
 -- row i lies in the slice
-room : (c : In-loop-i) → c.loop-i.i * 129 + 129 ≤ length c.args.b.now
-room c = omega (arith, row-end 129 c.args.n c.loop-i.i c.loop-i-test.true, c.requires.0)
+room : (c : In-loop-i) → c.loop-i.i * 129 + 129 ≤ length c.args.row_bytes.now
+room c = omega (arith, row-end 129 c.args.row_count c.loop-i.i c.loop-i-test.true, c.requires.0)
 
 -- what the test told of row i
-told : (c : After-missed_list-ok)
-    → c.missed_list-ok.result ≡ missed_list c.args.m (drop 32 (get_or (rows 129 c.args.n c.args.b.now) c.loop-i.i []))
+told : (c : After-missed_list)
+    → c.missed_list.result ≡ missed_list c.args.link_count (drop 32 (get_or (rows 129 c.args.row_count c.args.row_bytes.now) c.loop-i.i []))
 told c =
-    c.missed_list-ok.ensures ∙ ap (missed_list c.args.m) (list_at 129 c.args.n c.loop-i.i 32 97 c.args.b.now refl c.loop-i-test.true c.requires.0)
+    c.missed_list.ensures ∙ ap (missed_list c.args.link_count) (list_at 129 c.args.row_count c.loop-i.i 32 97 c.args.row_bytes.now refl c.loop-i-test.true c.requires.0)
 
 pub loop-i-init : goal.loop-i-init
-loop-i-init c = all_none (λ row. missed_list c.args.m (drop 32 row)) (rows 129 c.args.n c.args.b.now)
+loop-i-init c = all_none (λ row. missed_list c.args.link_count (drop 32 row)) (rows 129 c.args.row_count c.args.row_bytes.now)
 
-pub overflow_mul-a : goal.overflow_mul-a
-overflow_mul-a c = omega (arith, room c)
+pub overflow_mul-at : goal.overflow_mul-at
+overflow_mul-at c = omega (arith, room c)
 
-pub overflow_add-a : goal.overflow_add-a
-overflow_add-a c = omega (arith, room c)
+pub overflow_add-at : goal.overflow_add-at
+overflow_add-at c = omega (arith, room c)
 
-pub overflow_add-e : goal.overflow_add-e
-overflow_add-e c = omega (arith, room c)
+pub overflow_add-at-in-loop-i : goal.overflow_add-at-in-loop-i
+overflow_add-at-in-loop-i c = omega (arith, room c)
 
 pub loop-i-preserved : goal.loop-i-preserved
 loop-i-preserved c =
     let l = c.loop-i in
-    let rs = rows 129 c.args.n c.args.b.now in
-    all_keep (λ row. missed_list c.args.m (drop 32 row)) rs l.i [] (omega (arith, c.loop-i-test.true, length-rows 129 c.args.n c.args.b.now))
-    (sym (told (goal.at.loop-i-preserved c).After-missed_list-ok) ∙ c.if-ok.true)
+    let rs = rows 129 c.args.row_count c.args.row_bytes.now in
+    all_keep (λ row. missed_list c.args.link_count (drop 32 row)) rs l.i [] (omega (arith, c.loop-i-test.true, length-rows 129 c.args.row_count c.args.row_bytes.now))
+    (yes (told (goal.at.loop-i-preserved c).After-missed_list) (ap not c.if-not-missed_list.false))
     ∙ l.invariant
 
-pub returns-else-ok : goal.returns-else-ok
+pub returns-then-not-missed_list : goal.returns-then-not-missed_list
 unfolding all_lists
-returns-else-ok c =
+returns-then-not-missed_list c =
     let l = c.loop-i in
-    let rs = rows 129 c.args.n c.args.b.now in
-    all-not (λ row. missed_list c.args.m (drop 32 row)) rs l.i [] (omega (arith, c.loop-i-test.true, length-rows 129 c.args.n c.args.b.now))
-    (sym (told (goal.at.returns-else-ok c).After-missed_list-ok) ∙ c.if-ok.false)
+    let rs = rows 129 c.args.row_count c.args.row_bytes.now in
+    all-not (λ row. missed_list c.args.link_count (drop 32 row)) rs l.i [] (omega (arith, c.loop-i-test.true, length-rows 129 c.args.row_count c.args.row_bytes.now))
+    (no (told (goal.at.returns-then-not-missed_list c).After-missed_list) (ap not c.if-not-missed_list.true))
 
 pub returns : goal.returns
 unfolding all_lists
 returns c =
-    let rs = rows 129 c.args.n c.args.b.now in
-    sym (sym (all_done (λ row. missed_list c.args.m (drop 32 row)) rs c.loop-i.i (omega (arith, c.loop-i-test.false, length-rows 129 c.args.n c.args.b.now))) ∙ c.loop-i.invariant)
+    let rs = rows 129 c.args.row_count c.args.row_bytes.now in
+    sym (sym (all_done (λ row. missed_list c.args.link_count (drop 32 row)) rs c.loop-i.i (omega (arith, c.loop-i-test.false, length-rows 129 c.args.row_count c.args.row_bytes.now))) ∙ c.loop-i.invariant)

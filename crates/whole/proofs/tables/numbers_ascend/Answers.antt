@@ -1,27 +1,26 @@
--- `numbers_ascend`: the first j numbers are below m and ascend. The measure is what is left of the length.
-use Prim.Native.Nat.{◌-◌}
+-- `numbers_ascend`: the first i numbers are below it and ascend.
 use Rattle.whole.proofs.NumberLaws.{climb-start, climb-more, climb-high, climb-low, climb-done}
 use Rattle.whole.proofs.tables.numbers_ascend.Goals as goal
 
-pub loop-j-init : goal.loop-j-init
-loop-j-init c = climb-start c.args.m c.args.b.now
+pub loop-i-init : goal.loop-i-init
+loop-i-init c = climb-start c.args.link_count c.args.numbers.now
 
-pub returns-then-m-k : goal.returns-then-m-k
-returns-then-m-k c =
-    let l = c.loop-j in
-    climb-high c.args.m c.args.b.now l.j l.least l.invariant c.wide-k.result c.wide-k.ensures c.loop-j-test.true c.if-m-k.true
+pub returns-then-link_count-number : goal.returns-then-link_count-number
+returns-then-link_count-number c =
+    let l = c.loop-i in
+    climb-high c.args.link_count c.args.numbers.now l.i l.least l.invariant c.wide-number.result c.wide-number.ensures c.loop-i-test.true c.if-link_count-number.true
 
-pub returns-then-k-least : goal.returns-then-k-least
-returns-then-k-least c =
-    let l = c.loop-j in
-    climb-low c.args.m c.args.b.now l.j l.least l.invariant c.wide-k.result c.wide-k.ensures c.loop-j-test.true c.if-k-least.true
+pub returns-then-number-least : goal.returns-then-number-least
+returns-then-number-least c =
+    let l = c.loop-i in
+    climb-low c.args.link_count c.args.numbers.now l.i l.least l.invariant c.wide-number.result c.wide-number.ensures c.loop-i-test.true c.if-number-least.true
 
-pub loop-j-preserved : goal.loop-j-preserved
-loop-j-preserved c =
-    let l = c.loop-j in
-    climb-more c.args.m c.args.b.now l.j l.least l.invariant c.wide-k.result c.wide-k.ensures c.if-m-k.false c.if-k-least.false
+pub loop-i-preserved : goal.loop-i-preserved
+loop-i-preserved c =
+    let l = c.loop-i in
+    climb-more c.args.link_count c.args.numbers.now l.i l.least l.invariant c.wide-number.result c.wide-number.ensures c.if-link_count-number.false c.if-number-least.false
 
 pub returns : goal.returns
 returns c =
-    let l = c.loop-j in
-    climb-done c.args.m c.args.b.now l.j l.least l.invariant c.loop-j-test.false
+    let l = c.loop-i in
+    climb-done c.args.link_count c.args.numbers.now l.i l.least l.invariant c.loop-i-test.false

@@ -1,6 +1,5 @@
 -- `queue_whole`: the numbers of table 11.
 use mathlib.Core.Path.{ap, ◌∙◌}
-use Prim.Native.Nat.{◌-◌, ◌<◌}
 use native.Mathlib.Omega.{arith}
 use lib.Dec.{lit<}
 use Rattle.block.specs.View.{limits_of}
@@ -12,7 +11,7 @@ use Rattle.whole.proofs.tables.queue_whole.Goals as goal
 pub returns : goal.returns
 unfolding queue_whole
 returns c =
-    let h = c.args.h in
-    let at = c.queue_at-a in
+    let h = c.args.head in
+    let at = c.queue_at-at in
     c.numbers_below.ensures
     ∙ ap (all_below h.live.links) (bytes-lent (limits_of h.limits) c.args.block.now 11 h.live.queued at.result (lit< tt) (omega (arith, c.requires.within.queued)) at.ensures)

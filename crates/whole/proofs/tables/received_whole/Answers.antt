@@ -21,13 +21,10 @@ told : (h : Head) (xs : List ℕ) → Fit h xs → sound (received_cache h) xs �
 unfolding received_whole state_of received_in
 told h xs fit = cache-sound (limits_of h.limits) xs nothing_of 2 2 h.live.received 3 40 h.live.received_rows (lit< tt) (omega arith) (lit< tt) (omega arith)
 
-pub received_cache-c-requires : goal.received_cache-c-requires
-received_cache-c-requires c = c.requires.ceilings
-
 pub is_sound-requires : goal.is_sound-requires
 is_sound-requires c =
-    subst (λ (t : TimeBoundCache). Lies t c.args.block.now) (sym c.received_cache-c.ensures) (lies c.args.h c.args.block.now c.requires)
+    subst (λ (t : TimeBoundCache). Lies t c.args.block.now) (sym c.received_cache.ensures) (lies c.args.head c.args.block.now c.requires)
 
 pub returns : goal.returns
 returns c =
-    c.is_sound.ensures ∙ ap (λ (t : TimeBoundCache). sound t c.args.block.now) c.received_cache-c.ensures ∙ told c.args.h c.args.block.now c.requires
+    c.is_sound.ensures ∙ ap (λ (t : TimeBoundCache). sound t c.args.block.now) c.received_cache.ensures ∙ told c.args.head c.args.block.now c.requires

@@ -1,7 +1,7 @@
 -- `timers_whole`: the keys of table 10.
 use mathlib.Core.Path.{◌≡◌, refl, ap, ◌∙◌}
 use mathlib.Core.List.{List}
-use Prim.Native.Nat.{ℕ, ◌-◌, ◌<◌}
+use Prim.Native.Nat.{ℕ, ◌-◌}
 use native.Mathlib.Omega.{arith}
 use lib.Dec.{lit<}
 use lib.ListN.{length, take, drop}
@@ -22,8 +22,8 @@ told h xs = refl
 pub returns : goal.returns
 unfolding timers_whole
 returns c =
-    let h = c.args.h in
+    let h = c.args.head in
     let xs = c.args.block.now in
-    let at = c.timers_at-a in
+    let at = c.timers_at-at in
     tells-ascending (keys 32 h.live.timers (take (length xs - at.result) (drop at.result xs))) c.ascending.result c.ascending.ensures
     ∙ ap ascending (keys-lent (limits_of h.limits) xs 10 32 h.live.timers at.result (lit< tt) (omega (arith, c.requires.within.timers)) at.ensures ∙ told h xs)

@@ -16,36 +16,36 @@ module _ (d : After-cached_rows_at) where
   abbrev s : Start
   s = (goal.at.After-cached_rows_at d).Start
 
-  names : d.place-p.result ≡ (ref_at (refs_at (cached_cache s.args.h) s.args.block.now) s.args.i).place
-  names = d.place-p.ensures ∙ ap (λ (t : TimeBoundCache). (ref_at (refs_at t s.args.block.now) s.args.i).place) d.cached_cache-c.ensures
+  names : d.place-place.result ≡ (ref_at (refs_at (cached_cache s.args.head) s.args.block.now) s.args.i).place
+  names = d.place-place.ensures ∙ ap (λ (t : TimeBoundCache). (ref_at (refs_at t s.args.block.now) s.args.i).place) d.cached_cache.ensures
 
-  low : d.place-p.result < s.args.h.live.cached_rows
-  low = omega (arith, names, place-below s.args.h s.args.block.now s.requires.0 s.args.i s.requires.1)
+  low : d.place-place.result < s.args.head.live.cached_rows
+  low = omega (arith, names, place-below s.args.head s.args.block.now s.requires.0 s.args.i s.requires.1)
 
-pub place-p-requires : goal.place-p-requires
-place-p-requires c =
+pub place-place-requires : goal.place-place-requires
+place-place-requires c =
     let a = c.args in
-    subst (λ (t : TimeBoundCache). Lies t a.block.now × (a.i < t.entries.len)) (sym c.cached_cache-c.ensures) (cached-lies a.h a.block.now c.requires.0.fit, c.requires.1)
+    subst (λ (t : TimeBoundCache). Lies t a.block.now × (a.i < t.entries.len)) (sym c.cached_cache.ensures) (cached-lies a.head a.block.now c.requires.0.fit, c.requires.1)
 
-pub overflow_mul-a : goal.overflow_mul-a
-overflow_mul-a c = omega (arith, low c, (s c).requires.0.fit)
+pub overflow_mul-at : goal.overflow_mul-at
+overflow_mul-at c = omega (arith, low c, (s c).requires.0.fit)
 
-pub overflow_add-a : goal.overflow_add-a
-overflow_add-a c = omega (arith, low c, (s c).requires.0.fit, c.cached_rows_at.ensures)
+pub overflow_add-at : goal.overflow_add-at
+overflow_add-at c = omega (arith, low c, (s c).requires.0.fit, c.cached_rows_at.ensures)
 
-pub overflow_add-a-2 : goal.overflow_add-a-2
-overflow_add-a-2 c = omega (arith, low c, (s c).requires.0.fit, c.cached_rows_at.ensures)
+pub overflow_add-at-2 : goal.overflow_add-at-2
+overflow_add-at-2 c = omega (arith, low c, (s c).requires.0.fit, c.cached_rows_at.ensures)
 
-pub load4-start-requires : goal.load4-start-requires
-load4-start-requires c = omega (arith, low c, (s c).requires.0.fit, c.cached_rows_at.ensures)
+pub load4-requires : goal.load4-requires
+load4-requires c = omega (arith, low c, (s c).requires.0.fit, c.cached_rows_at.ensures)
 
-pub overflow_add-a-3 : goal.overflow_add-a-3
-overflow_add-a-3 c = omega (arith, low (goal.at.overflow_add-a-3 c).After-cached_rows_at, (s (goal.at.overflow_add-a-3 c).After-cached_rows_at).requires.0.fit, c.cached_rows_at.ensures)
+pub overflow_add-at-3 : goal.overflow_add-at-3
+overflow_add-at-3 c = omega (arith, low (goal.at.overflow_add-at-3 c).After-cached_rows_at, (s (goal.at.overflow_add-at-3 c).After-cached_rows_at).requires.0.fit, c.cached_rows_at.ensures)
 
-pub load4-len-requires : goal.load4-len-requires
-load4-len-requires c = omega (arith, low (goal.at.load4-len-requires c).After-cached_rows_at, (s (goal.at.load4-len-requires c).After-cached_rows_at).requires.0.fit, c.cached_rows_at.ensures)
+pub load4-requires-2 : goal.load4-requires-2
+load4-requires-2 c = omega (arith, low (goal.at.load4-requires-2 c).After-cached_rows_at, (s (goal.at.load4-requires-2 c).After-cached_rows_at).requires.0.fit, c.cached_rows_at.ensures)
 
 pub returns : goal.returns
 returns c =
     let a = (s (goal.at.returns c).After-cached_rows_at).args in
-    content-is a.h a.block.now (s (goal.at.returns c).After-cached_rows_at).requires.0 a.i (s (goal.at.returns c).After-cached_rows_at).requires.1 _ c.place-p.result c.cached_rows_at.result (names (goal.at.returns c).After-cached_rows_at) c.cached_rows_at.ensures c.load4-start.ensures.0 c.load4-len.ensures.0
+    content-is a.head a.block.now (s (goal.at.returns c).After-cached_rows_at).requires.0 a.i (s (goal.at.returns c).After-cached_rows_at).requires.1 _ c.place-place.result c.cached_rows_at.result (names (goal.at.returns c).After-cached_rows_at) c.cached_rows_at.ensures c.load4.ensures.0 c.load4-2.ensures.0

@@ -14,14 +14,14 @@ use Rattle.block.proofs.caches.cached.cached_rows_later.Goals as goal
 
 pub rows_later-requires : goal.rows_later-requires
 rows_later-requires c =
-    let h = c.args.h in
+    let h = c.args.head in
     let xs = c.args.block.now in
-    subst (λ (t : TimeBoundCache). Lies t xs × Sound t xs) (sym c.cached_cache-c.ensures) (cached-lies h xs c.requires.0.fit, cached-sound h xs c.requires.0 c.requires.1)
+    subst (λ (t : TimeBoundCache). Lies t xs × Sound t xs) (sym c.cached_cache.ensures) (cached-lies h xs c.requires.0.fit, cached-sound h xs c.requires.0 c.requires.1)
 
 pub returns : goal.returns
 returns c =
-    let h = c.args.h in
+    let h = c.args.head in
     let xs = c.args.block.now in
     c.rows_later.ensures
-    ∙ ap (λ (t : TimeBoundCache). length (later_cache c.args.instant.0 (cache_at t xs)).expiry) c.cached_cache-c.ensures
+    ∙ ap (λ (t : TimeBoundCache). length (later_cache c.args.instant.0 (cache_at t xs)).expiry) c.cached_cache.ensures
     ∙ rows-later (as_value (cached_of (table (limits_of h.limits) 6 xs))) (cache_at (cached_cache h) xs) (state_of h xs).cache (cached-as h xs c.requires.0.fit) c.args.instant.0

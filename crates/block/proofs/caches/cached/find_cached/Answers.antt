@@ -11,14 +11,14 @@ use Rattle.block.proofs.caches.cached.find_cached.Goals as goal
 
 pub find-requires : goal.find-requires
 find-requires c =
-    let h = c.args.h in
+    let h = c.args.head in
     let xs = c.args.block.now in
-    subst (λ (t : TimeBoundCache). Lies t xs × Sound t xs) (sym c.cached_cache-c.ensures) (cached-lies h xs c.requires.0.fit, cached-sound h xs c.requires.0 c.requires.1)
+    subst (λ (t : TimeBoundCache). Lies t xs × Sound t xs) (sym c.cached_cache.ensures) (cached-lies h xs c.requires.0.fit, cached-sound h xs c.requires.0 c.requires.1)
 
 pub returns : goal.returns
 returns c =
-    let h = c.args.h in
+    let h = c.args.head in
     let xs = c.args.block.now in
     subst (λ (ks : List ℕ). FoundIs ks (id_of c.args.id) c.find.result)
-    (ap (λ (t : TimeBoundCache). named (rows_at t xs) (refs_at t xs)) c.cached_cache-c.ensures ∙ cached-keys h xs c.requires.0.fit)
+    (ap (λ (t : TimeBoundCache). named (rows_at t xs) (refs_at t xs)) c.cached_cache.ensures ∙ cached-keys h xs c.requires.0.fit)
     c.find.ensures

@@ -6,15 +6,15 @@ use Rattle.time_cache.specs.declared.cache.TimeBoundCache.{TimeBoundCache}
 use Rattle.block.proofs.CachesLaws.GraftedLaws.{grafted-lies, grafted-sound, grafted-expired}
 use Rattle.block.proofs.caches.grafted.expire_grafted.Goals as goal
 
-pub expire_until-e-requires : goal.expire_until-e-requires
-expire_until-e-requires c =
-    let h = c.args.h in
+pub expire_until-expired-requires : goal.expire_until-expired-requires
+expire_until-expired-requires c =
+    let h = c.args.head in
     let xs = c.args.block.now in
-    subst (λ (t : TimeBoundCache). Lies t xs × Sound t xs) (sym c.grafted_cache-c.ensures) (grafted-lies h xs c.requires.0.fit, grafted-sound h xs c.requires.0 c.requires.1)
+    subst (λ (t : TimeBoundCache). Lies t xs × Sound t xs) (sym c.grafted_cache.ensures) (grafted-lies h xs c.requires.0.fit, grafted-sound h xs c.requires.0 c.requires.1)
 
 pub returns : goal.returns
 returns c =
-    let h = c.args.h in
+    let h = c.args.head in
     let xs = c.args.block.now in
-    grafted-expired h xs c.expire_until-e.new.block c.args.instant.0 c.expire_until-e.result c.requires.0 c.expire_until-e.auto.block
-    (subst (λ (t : TimeBoundCache). Expires t c.args.instant.0 xs c.expire_until-e.result c.expire_until-e.new.block) c.grafted_cache-c.ensures c.expire_until-e.ensures)
+    grafted-expired h xs c.expire_until-expired.new.block c.args.instant.0 c.expire_until-expired.result c.requires.0 c.expire_until-expired.auto.block
+    (subst (λ (t : TimeBoundCache). Expires t c.args.instant.0 xs c.expire_until-expired.result c.expire_until-expired.new.block) c.grafted_cache.ensures c.expire_until-expired.ensures)

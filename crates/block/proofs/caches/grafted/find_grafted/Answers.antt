@@ -11,14 +11,14 @@ use Rattle.block.proofs.caches.grafted.find_grafted.Goals as goal
 
 pub find-requires : goal.find-requires
 find-requires c =
-    let h = c.args.h in
+    let h = c.args.head in
     let xs = c.args.block.now in
-    subst (λ (t : TimeBoundCache). Lies t xs × Sound t xs) (sym c.grafted_cache-c.ensures) (grafted-lies h xs c.requires.0.fit, grafted-sound h xs c.requires.0 c.requires.1)
+    subst (λ (t : TimeBoundCache). Lies t xs × Sound t xs) (sym c.grafted_cache.ensures) (grafted-lies h xs c.requires.0.fit, grafted-sound h xs c.requires.0 c.requires.1)
 
 pub returns : goal.returns
 returns c =
-    let h = c.args.h in
+    let h = c.args.head in
     let xs = c.args.block.now in
     subst (λ (ks : List ℕ). FoundIs ks (id_of c.args.id) c.find.result)
-    (ap (λ (t : TimeBoundCache). named (rows_at t xs) (refs_at t xs)) c.grafted_cache-c.ensures ∙ grafted-keys h xs c.requires.0.fit)
+    (ap (λ (t : TimeBoundCache). named (rows_at t xs) (refs_at t xs)) c.grafted_cache.ensures ∙ grafted-keys h xs c.requires.0.fit)
     c.find.ensures

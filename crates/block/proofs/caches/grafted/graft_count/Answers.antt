@@ -9,4 +9,4 @@ pub returns : goal.returns
 returns c =
     let a = c.args in
     let e = c.count.ensures.0 ∙ ap (λ (n : ℕ). get_or a.block.now (n + 119 * a.i + 22) 0) c.grafted_at.ensures in
-    (e ∙ graft-many a.h a.block.now c.requires.0 a.i c.requires.1, subst (λ (n : ℕ). n ≤ 32) (sym e) (graft-few a.h a.block.now c.requires.0 a.i c.requires.1))
+    (e ∙ graft-many a.head a.block.now c.requires.0 a.i c.requires.1, subst (λ (n : ℕ). n ≤ 32) (sym e) (graft-few a.head a.block.now c.requires.0 a.i c.requires.1))

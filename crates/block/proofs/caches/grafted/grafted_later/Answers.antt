@@ -13,14 +13,14 @@ use Rattle.block.proofs.caches.grafted.grafted_later.Goals as goal
 
 pub entries_later-requires : goal.entries_later-requires
 entries_later-requires c =
-    let h = c.args.h in
+    let h = c.args.head in
     let xs = c.args.block.now in
-    subst (λ (t : TimeBoundCache). Lies t xs × Sound t xs) (sym c.grafted_cache-c.ensures) (grafted-lies h xs c.requires.0.fit, grafted-sound h xs c.requires.0 c.requires.1)
+    subst (λ (t : TimeBoundCache). Lies t xs × Sound t xs) (sym c.grafted_cache.ensures) (grafted-lies h xs c.requires.0.fit, grafted-sound h xs c.requires.0 c.requires.1)
 
 pub returns : goal.returns
 returns c =
-    let h = c.args.h in
+    let h = c.args.head in
     let xs = c.args.block.now in
     c.entries_later.ensures
-    ∙ ap (λ (t : TimeBoundCache). length (later_cache c.args.instant.0 (cache_at t xs)).entries) c.grafted_cache-c.ensures
+    ∙ ap (λ (t : TimeBoundCache). length (later_cache c.args.instant.0 (cache_at t xs)).entries) c.grafted_cache.ensures
     ∙ entries-later (as_value (grafts_of (peers_of h xs))) (cache_at (grafted_cache h) xs) (state_of h xs).grafted (grafted-as h xs c.requires.0.fit) c.args.instant.0

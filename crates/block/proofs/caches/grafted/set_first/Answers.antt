@@ -19,18 +19,18 @@ pub store_le-requires : goal.store_le-requires
 store_le-requires c =
     let a = c.args in
     let g = c.grafted_at in
-    omega (arith, c.requires.0.fit, c.requires.2, g.ensures, c.store.auto.b, length-set a.block.now (g.result + 119 * a.i + 2) 1)
+    omega (arith, c.requires.0.fit, c.requires.2, g.ensures, c.store.auto.bytes, length-set a.block.now (g.result + 119 * a.i + 2) 1)
 
 pub shape_of-block : goal.shape_of-block
 shape_of-block c =
     let a = c.args in
-    c.store_le.auto.b ∙ c.store.auto.b ∙ length-set a.block.now (c.grafted_at.result + 119 * a.i + 2) 1
+    c.store_le.auto.bytes ∙ c.store.auto.bytes ∙ length-set a.block.now (c.grafted_at.result + 119 * a.i + 2) 1
 
 pub returns : goal.returns
 returns c =
     let a = c.args in
     let g = c.grafted_at in
     let at = g.result + 119 * a.i in
-    subst (Goes (first_at a.i a.peer a.round.0) a.h a.block.now a.h)
+    subst (Goes (first_at a.i a.peer a.round.0) a.head a.block.now a.head)
     (sym (c.store_le.ensures ∙ ap (put (at + 11) (le_bytes 2 a.round.0)) c.store.ensures))
-    (first_goes a.h a.block.now c.requires.0 c.requires.1 a.i c.requires.2 at a.peer (ap (λ (b : ℕ). b + 119 * a.i) g.ensures) (omega (arith, c.well_formed)) a.round.0 (omega (arith, c.well_formed)))
+    (first_goes a.head a.block.now c.requires.0 c.requires.1 a.i c.requires.2 at a.peer (ap (λ (b : ℕ). b + 119 * a.i) g.ensures) (omega (arith, c.well_formed)) a.round.0 (omega (arith, c.well_formed)))

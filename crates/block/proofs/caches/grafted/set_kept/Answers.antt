@@ -16,11 +16,11 @@ store-requires c =
 pub shape_of-block : goal.shape_of-block
 shape_of-block c =
     let a = c.args in
-    c.store.auto.b ∙ length-set a.block.now (c.grafted_at.result + 119 * a.i + 13) 1
+    c.store.auto.bytes ∙ length-set a.block.now (c.grafted_at.result + 119 * a.i + 13) 1
 
 pub returns : goal.returns
 returns c =
     let a = c.args in
     let g = c.grafted_at in
-    subst (Goes (kept_at a.i a.peer) a.h a.block.now a.h) (sym c.store.ensures)
-    (kept_goes a.h a.block.now c.requires.0 c.requires.1 a.i c.requires.2 (g.result + 119 * a.i) a.peer (ap (λ (b : ℕ). b + 119 * a.i) g.ensures) (omega (arith, c.well_formed)))
+    subst (Goes (kept_at a.i a.peer) a.head a.block.now a.head) (sym c.store.ensures)
+    (kept_goes a.head a.block.now c.requires.0 c.requires.1 a.i c.requires.2 (g.result + 119 * a.i) a.peer (ap (λ (b : ℕ). b + 119 * a.i) g.ensures) (omega (arith, c.well_formed)))

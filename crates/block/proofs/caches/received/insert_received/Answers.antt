@@ -1,21 +1,21 @@
 -- `received::insert_received` meets its contract: the two tables are left to `insert`.
 use mathlib.Core.Path.{sym, subst}
 use Rattle.storage.specs.Rows.Ident.{id_of}
-use Rattle.time_cache.specs.Tables.{Room, Sound}
+use Rattle.time_cache.specs.Tables.{FitsOneMore, Sound}
 use Rattle.time_cache.specs.Steps.{Inserts}
 use Rattle.time_cache.specs.declared.cache.TimeBoundCache.{TimeBoundCache}
 use Rattle.block.proofs.CachesLaws.ReceivedLaws.{received-room, received-sound, received-inserted}
 use Rattle.block.proofs.caches.received.insert_received.Goals as goal
 
-pub insert-e-requires : goal.insert-e-requires
-insert-e-requires c =
-    let h = c.args.h in
+pub insert-inserted-requires : goal.insert-inserted-requires
+insert-inserted-requires c =
+    let h = c.args.head in
     let xs = c.args.block.now in
-    subst (λ (t : TimeBoundCache). Room t xs × Sound t xs) (sym c.received_cache-c.ensures) (received-room h xs c.requires.0.fit, received-sound h xs c.requires.0 c.requires.1)
+    subst (λ (t : TimeBoundCache). FitsOneMore t xs × Sound t xs) (sym c.received_cache.ensures) (received-room h xs c.requires.0.fit, received-sound h xs c.requires.0 c.requires.1)
 
 pub returns : goal.returns
 returns c =
-    let h = c.args.h in
+    let h = c.args.head in
     let xs = c.args.block.now in
-    received-inserted h xs c.insert-e.new.block (id_of c.args.id) c.args.expires.0 c.insert-e.result c.requires.0 c.insert-e.auto.block c.requires.2
-    (subst (λ (t : TimeBoundCache). Inserts t (id_of c.args.id) c.args.expires.0 xs c.insert-e.result c.insert-e.new.block) c.received_cache-c.ensures c.insert-e.ensures)
+    received-inserted h xs c.insert-inserted.new.block (id_of c.args.id) c.args.expires.0 c.insert-inserted.result c.requires.0 c.insert-inserted.auto.block c.requires.2
+    (subst (λ (t : TimeBoundCache). Inserts t (id_of c.args.id) c.args.expires.0 xs c.insert-inserted.result c.insert-inserted.new.block) c.received_cache.ensures c.insert-inserted.ensures)

@@ -9,13 +9,13 @@ use Rattle.block.proofs.caches.received.is_received.Goals as goal
 
 pub contains_key-requires : goal.contains_key-requires
 contains_key-requires c =
-    let h = c.args.h in
+    let h = c.args.head in
     let xs = c.args.block.now in
-    subst (λ (t : TimeBoundCache). Lies t xs × Sound t xs) (sym c.received_cache-c.ensures) (received-lies h xs c.requires.0.fit, received-sound h xs c.requires.0 c.requires.1)
+    subst (λ (t : TimeBoundCache). Lies t xs × Sound t xs) (sym c.received_cache.ensures) (received-lies h xs c.requires.0.fit, received-sound h xs c.requires.0 c.requires.1)
 
 pub returns : goal.returns
 returns c =
     let xs = c.args.block.now in
     c.contains_key.ensures
-    ∙ ap (λ (t : TimeBoundCache). holds (id_of c.args.id) (cache_at t xs)) c.received_cache-c.ensures
-    ∙ received-holds c.args.h xs c.requires.0.fit (id_of c.args.id)
+    ∙ ap (λ (t : TimeBoundCache). holds (id_of c.args.id) (cache_at t xs)) c.received_cache.ensures
+    ∙ received-holds c.args.head xs c.requires.0.fit (id_of c.args.id)

@@ -13,14 +13,14 @@ use Rattle.block.proofs.caches.received.received_later.Goals as goal
 
 pub entries_later-requires : goal.entries_later-requires
 entries_later-requires c =
-    let h = c.args.h in
+    let h = c.args.head in
     let xs = c.args.block.now in
-    subst (λ (t : TimeBoundCache). Lies t xs × Sound t xs) (sym c.received_cache-c.ensures) (received-lies h xs c.requires.0.fit, received-sound h xs c.requires.0 c.requires.1)
+    subst (λ (t : TimeBoundCache). Lies t xs × Sound t xs) (sym c.received_cache.ensures) (received-lies h xs c.requires.0.fit, received-sound h xs c.requires.0 c.requires.1)
 
 pub returns : goal.returns
 returns c =
-    let h = c.args.h in
+    let h = c.args.head in
     let xs = c.args.block.now in
     c.entries_later.ensures
-    ∙ ap (λ (t : TimeBoundCache). length (later_cache c.args.instant.0 (cache_at t xs)).entries) c.received_cache-c.ensures
+    ∙ ap (λ (t : TimeBoundCache). length (later_cache c.args.instant.0 (cache_at t xs)).entries) c.received_cache.ensures
     ∙ entries-later (as_value nothing_of) (cache_at (received_cache h) xs) (state_of h xs).received (received_as h xs c.requires.0.fit) c.args.instant.0

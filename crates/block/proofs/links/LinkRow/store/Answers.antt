@@ -18,8 +18,8 @@ pub returns : goal.returns
 unfolding link_of field_of
 returns c =
     let p : ℕ = c.args.self.peer in
-    let xs : List ℕ = c.args.b.now in
-    let ys : List ℕ = c.store.new.b in
+    let xs : List ℕ = c.args.row.now in
+    let ys : List ℕ = c.store.new.bytes in
     let m : ℕ = c.mark_byte.result in
     let ly : length ys ≡ 16 = ap length c.store.ensures ∙ length-put 0 (le_bytes 8 p) xs (omega (arith, c.requires, length-le_bytes 8 p)) ∙ c.requires in
     let a : le_nat (part 0 8 (set ys 8 m)) ≡ p =

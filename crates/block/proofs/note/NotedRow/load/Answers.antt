@@ -5,4 +5,4 @@ use Rattle.block.proofs.note.NotedRow.load.Goals as goal
 
 pub returns : goal.returns
 unfolding id_at half_at
-returns c = λ k. noted (c.load_id.ensures k) (c.load2-round.ensures.0 k)
+returns c = λ k. noted (c.load_id.ensures k) (c.load2.ensures.0 k)

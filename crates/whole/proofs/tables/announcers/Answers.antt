@@ -1,0 +1,18 @@
+-- `announcers`: the lists of table 9.
+use mathlib.Core.Path.{◌∙◌}
+use native.Mathlib.Omega.{arith}
+use lib.Dec.{lit<}
+use Rattle.block.specs.View.{limits_of}
+use Rattle.whole.specs.Parts.{missed_list}
+use Rattle.whole.proofs.LentLaws.{lists-lent}
+use Rattle.whole.proofs.HopLaws.{missing-lists}
+use Rattle.whole.proofs.tables.announcers.Goals as goal
+
+pub returns : goal.returns
+returns c =
+    let h = c.args.head in
+    let xs = c.args.block.now in
+    let at = c.missing_at-at in
+    c.missed_lists.ensures
+    ∙ lists-lent (limits_of h.limits) xs (missed_list h.live.links) 32 9 129 h.live.missing at.result (lit< tt) (omega (arith, c.requires.0.within.missing)) at.ensures
+    ∙ missing-lists h xs c.requires.0 c.requires.1

@@ -1,0 +1,15 @@
+-- `dropped_named`: the numbers of table 13.
+use mathlib.Core.Path.{ap, ◌∙◌}
+use native.Mathlib.Omega.{arith}
+use lib.Dec.{lit<}
+use Rattle.block.specs.View.{limits_of}
+use Rattle.whole.specs.Held.{all_below}
+use Rattle.whole.proofs.LentLaws.{bytes-lent}
+use Rattle.whole.proofs.tables.dropped_named.Goals as goal
+
+pub returns : goal.returns
+returns c =
+    let h = c.args.head in
+    let at = c.dropped_at-at in
+    c.numbers_below.ensures
+    ∙ ap (all_below h.live.links) (bytes-lent (limits_of h.limits) c.args.block.now 13 h.live.dropped at.result (lit< tt) (omega (arith, c.requires.within.dropped)) at.ensures)

@@ -1,0 +1,18 @@
+-- `grafted_peers`: the lists of table 7.
+use mathlib.Core.Path.{◌∙◌}
+use native.Mathlib.Omega.{arith}
+use lib.Dec.{lit<}
+use Rattle.block.specs.View.{limits_of}
+use Rattle.whole.specs.Parts.{graft_list}
+use Rattle.whole.proofs.LentLaws.{lists-lent}
+use Rattle.whole.proofs.HopLaws.{grafted-lists}
+use Rattle.whole.proofs.tables.grafted_peers.Goals as goal
+
+pub returns : goal.returns
+returns c =
+    let h = c.args.head in
+    let xs = c.args.block.now in
+    let at = c.grafted_at-at in
+    c.graft_lists.ensures
+    ∙ lists-lent (limits_of h.limits) xs (graft_list h.live.links) 22 7 119 h.live.grafted at.result (lit< tt) (omega (arith, c.requires.0.within.grafted)) at.ensures
+    ∙ grafted-lists h xs c.requires.0 c.requires.1

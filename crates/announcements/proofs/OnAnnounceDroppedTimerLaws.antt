@@ -31,8 +31,8 @@ use Rattle.decide.proofs.AnnounceDropped.{announce-sizes, moved_all}
 use Rattle.decide.proofs.StateAfterLaws.{announce-state}
 use Rattle.block.specs.NoteSteps.{note, note_for, queue_also, drop_instead}
 use Rattle.block.specs.declared.note.Note.{Note as LinkNote}
-use Rattle.wire.specs.Encode.Held.{Held, after}
-use Rattle.wire.proofs.EncodeLaws.HeldLaws.{after_nil}
+use Rattle.wire.specs.Encode.Intake.{Intake, after}
+use Rattle.wire.proofs.EncodeLaws.IntakeLaws.{after_nil}
 use Rattle.steps.specs.Dropped.{NoteOf, record_cut}
 use Rattle.steps.specs.Panels.{AtRest, Allowed, standing as flagged}
 use Rattle.steps.specs.Shared.{sizes_value}
@@ -233,7 +233,7 @@ module _ (now : ℕ) (s : State) where
 abbrev pub queue_bytes : State → Bool → List ℕ
 queue_bytes s b = concat_map action_bytes (if b then dispatch_action s else [])
 
-pub none-after : (s : State) (h : Held) → h ≡ after (queue_bytes s false) h
+pub none-after : (s : State) (h : Intake) → h ≡ after (queue_bytes s false) h
 unfolding concat_map
 none-after s h = sym (after_nil h)
 

@@ -26,8 +26,8 @@ use Rattle.decide.proofs.IHave.{ihave-sizes}
 use Rattle.decide.proofs.StateAfterLaws.{ihave-state}
 use Rattle.block.specs.LinkSteps.{peer_at}
 use Rattle.block.specs.MissingSteps.{hop, announced_by}
-use Rattle.wire.specs.Encode.Held.{Held, after, room_of}
-use Rattle.wire.proofs.EncodeLaws.HeldLaws.{after_append, after_nil, room_after}
+use Rattle.wire.specs.Encode.Intake.{Intake, after, space_of}
+use Rattle.wire.proofs.EncodeLaws.IntakeLaws.{after_append, after_nil, room_after}
 use Rattle.steps.specs.Asked.{timer_marked, Announcing}
 use Rattle.steps.specs.Panels.{AtRest, Allowed}
 use Rattle.steps.specs.Shared.{sizes_value}
@@ -257,14 +257,14 @@ module _ (t : State) where
         turned true e = sym e
         turned false e = refl
 
-  module _ (hs : List Ihave) (h : Held) where
+  module _ (hs : List Ihave) (h : Intake) where
     pub schedule-start : h ≡ after (scheduled t (take 0 hs)) h
     schedule-start = sym (ap (λ (l : List ℕ). after l h) none ∙ after_nil h)
 
     pub schedule-end : (i : ℕ) → length hs ≤ i → after (scheduled t (take i hs)) h ≡ after (scheduled t hs) h
     schedule-end i w = ap (λ (l : List Ihave). after (scheduled t l) h) (take_all i hs w)
 
-    module _ (i : ℕ) (now : Held) (so : now ≡ after (scheduled t (take i hs)) h) (x : Ihave) (taken : take (i + 1) hs ≡ take i hs ++ (x ∷ [])) where
+    module _ (i : ℕ) (now : Intake) (so : now ≡ after (scheduled t (take i hs)) h) (x : Ihave) (taken : take (i + 1) hs ≡ take i hs ++ (x ∷ [])) where
       pub schedule-skip : is_new (known_timer t) (take i hs) x.id ≡ false → now ≡ after (scheduled t (take (i + 1) hs)) h
       schedule-skip e = so ∙ ap (λ (l : List ℕ). after l h) (sym (old x (take i hs) (take (i + 1) hs) taken e))
 
@@ -281,7 +281,7 @@ module _ (t : State) where
             ∙ bytes-append d (new_ids (known_timer t) [] (take (i + 1) hs)) (later_ids (known_timer t) (i + 1) hs)
             ∙ ap (λ (l : List ℕ). l ++ timer_bytes d (later_ids (known_timer t) (i + 1) hs)) (sym (as-timers (take (i + 1) hs)) ∙ new x (take i hs) (take (i + 1) hs) taken e)
 
-        pub schedule-room : length (scheduled t hs) ≤ room_of h → length entry_bytes ≤ room_of now
+        pub schedule-room : length (scheduled t hs) ≤ space_of h → length entry_bytes ≤ space_of now
         schedule-room r =
             rw so (rw (room_after (scheduled t (take i hs)) h)
             (omega (

@@ -2,13 +2,13 @@
 -- Assumes nothing.
 use Rattle.std.proofs.Common.{◌≡◌, ℕ, suc, ◌+◌, ◌-◌, ◌*◌, ◌^◌, ◌≤◌, ◌<◌, length, get_or, drop, refl, sym, ap, ◌∙◌, arith, Bool, true, false, List, [], ◌∷◌, ◌++◌, append_assoc, add-one, if◌then◌else◌}
 use mathlib.Core.Path.{subst}
-use Rattle.std.proofs.Math.Option.{Option, none, some}
-use Rattle.std.specs.Prelude.{Option as Option', Some, None}
+use Rattle.std.specs.Prelude.{Option as Option', Some, None, Option, is_some}
 use Rattle.std.specs.Option as std
-use borrow.Author.Tests.{leb-true}
-use lib.Dec.{leb, ltb}
+use borrow.Author.Tests.{leb-true, ne_eqb}
+use lib.Dec.{leb, ltb, eqb}
 use lib.ListN.{length-map}
-use Rattle.storage.specs.Lists.Base.{is_some, is_empty, ascending, member, concat_map}
+use mir.Val.{bool_byte}
+use Rattle.storage.specs.Lists.Base.{is_empty, ascending, member, concat_map}
 use Rattle.storage.specs.Lists.Map.{Map, Entry, entry, keys, lookup, insert, remove, remove_key}
 use Rattle.storage.specs.Rows.Ident.{id_of}
 use Rattle.storage.specs.declared.rows.id.Id.{Id}
@@ -57,23 +57,22 @@ use Rattle.steps.proofs.EvictStepLaws.{rest-settled}
 use Rattle.steps.proofs.PanelLaws.{same_keys, link-key}
 use Rattle.steps.proofs.RoomsLaws.{kth-link}
 use Rattle.steps.proofs.StandsLaws.{in_order}
+use Rattle.steps.proofs.TakeInLaws.{byte-small}
 use Rattle.announcements.specs.SendGraft.Asks.{asked_first, missing_left}
 use Rattle.announcements.specs.OnSendGraftTimer.{send_graft_bytes}
 
 -- the marks
-member-some : (k : ℕ) (xs : List ℕ) → member k xs ≡ true → 0 < length xs
+byte-fewer : (b : Bool) (k : ℕ) (xs : List ℕ) → b ≡ member k xs → bool_byte b ≤ length xs
 unfolding member
-member-some k [] e = true≢ e
-member-some k (x ∷ xs) e = omega arith
+byte-fewer b k [] e = omega (arith, ap bool_byte e)
+byte-fewer b k (x ∷ xs) e = omega (arith, byte-small b)
+
+less-byte : (b : Bool) (n : ℕ) → n - bool_byte b ≡ shrunk b n
+unfolding shrunk
+less-byte true n = refl
+less-byte false n = omega arith
 
 module _ (id : ℕ) (s : State) (r : AtRest s) where
-  pub timers-some : member id s.timers.graft ≡ true → 0 < length s.timers.graft
-  timers-some e = member-some id s.timers.graft e
-
-  pub timers-left : (b : Bool) → b ≡ member id s.timers.graft → length (timer_out id s).timers.graft ≡ (if b then length s.timers.graft - 1 else length s.timers.graft)
-  unfolding shrunk
-  timers-left b e = length-remove_key id s.timers.graft r.consistent.core.timers_up ∙ ap (λ (t : Bool). shrunk t (length s.timers.graft)) (sym e)
-
   -- the mark is gone
   pub unmarked-rest : AtRest (timer_out id s)
   unmarked-rest = record {
@@ -169,22 +168,12 @@ module _ (id i : ℕ) (s : State) (rest : AtRest s) (m : MissingAt s id i) (r : 
 
 -- the numbers of entries
 
-empty-one : (hs : List Hop) → length hs ≡ 1 → is_empty (drop 1 hs) ≡ true
-empty-one [] e = absurd (omega arith)
-empty-one (x ∷ []) e = refl
-empty-one (x ∷ y ∷ hs) e = absurd (omega arith)
-
-empty-more : (hs : List Hop) → 1 < length hs → is_empty (drop 1 hs) ≡ false
-empty-more [] e = absurd (omega arith)
-empty-more (x ∷ []) e = absurd (omega arith)
-empty-more (x ∷ y ∷ hs) e = refl
-
-module _ (s : State) (i : ℕ) where
-  pub left-one : length (hops_at s i) ≡ 1 → length s.missing - 1 ≡ missing_left i s
-  left-one e = ap (λ (b : Bool). if b then length s.missing - 1 else length s.missing) (sym (empty-one (hops_at s i) e))
-
-  pub left-more : 1 < length (hops_at s i) → length s.missing ≡ missing_left i s
-  left-more e = ap (λ (b : Bool). if b then length s.missing - 1 else length s.missing) (sym (empty-more (hops_at s i) e))
+-- a message with one announcer goes
+less-one : (m n : ℕ) (hs : List Hop) → 0 < length hs → n ≡ length hs → m - bool_byte (eqb n 1) ≡ (if is_empty (drop 1 hs) then m - 1 else m)
+unfolding shrunk
+less-one m n [] q e = absurd (omega arith)
+less-one m n (x ∷ []) q e = ap (λ (k : ℕ). m - bool_byte (eqb k 1)) e
+less-one m n (x ∷ y ∷ hs) q e = ap (λ (b : Bool). m - bool_byte b) (ne_eqb n 1 (λ o. omega (arith, e, o))) ∙ less-byte false m
 
 -- what a look-up among the grafted messages found
 module _ {A : Type 0} (d : Entry (Timed A)) (m : Map (Timed A)) (id : ℕ) (found : Option A) where
@@ -201,8 +190,8 @@ unfolding get value_of
 holds-some {A} k c = go (lookup k c.entries)
   where
     go : (o : Option (Timed A)) → is_some o ≡ is_some (value_of o)
-    go none = refl
-    go (some v) = refl
+    go None = refl
+    go (Some v) = refl
 
 module _ (now id : ℕ) (s : State) (rest : AtRest s) where
   abbrev t : State
@@ -217,6 +206,30 @@ module _ (now id : ℕ) (s : State) (rest : AtRest s) where
 
   settled-missing : t.missing ≡ s.missing
   settled-missing = settled-as now s (λ (u : State). u.missing) refl
+
+  -- of what the numbers tell
+  marks : (z : CodeSizes) → sizes_value z ≡ sizes_of t → z.timers ≡ length s.timers.graft
+  unfolding sizes_of
+  marks z w = ap (λ (y : Sizes). y.timers) w ∙ ap length settled-timers
+
+  missed : (z : CodeSizes) → sizes_value z ≡ sizes_of t → z.missing ≡ length s.missing
+  unfolding sizes_of
+  missed z w = ap (λ (y : Sizes). y.missing) w ∙ ap length settled-missing
+
+  pub marks-fewer : (z : CodeSizes) → sizes_value z ≡ sizes_of t → (b : Bool) → b ≡ member id s.timers.graft → bool_byte b ≤ z.timers
+  marks-fewer z w b e = omega (arith, marks z w, byte-fewer b id s.timers.graft e)
+
+  pub marks-left : (z : CodeSizes) → sizes_value z ≡ sizes_of t → (b : Bool) → b ≡ member id s.timers.graft → z.timers - bool_byte b ≡ length (timer_out id s).timers.graft
+  marks-left z w b e =
+      ap (λ (n : ℕ). n - bool_byte b) (marks z w)
+      ∙ less-byte b (length s.timers.graft)
+      ∙ sym (length-remove_key id s.timers.graft rest.consistent.core.timers_up ∙ ap (λ (c : Bool). shrunk c (length s.timers.graft)) (sym e))
+
+  pub missing-fewer : (z : CodeSizes) → sizes_value z ≡ sizes_of t → (i : ℕ) (b : Bool) → i < length s.missing → bool_byte b ≤ z.missing
+  missing-fewer z w i b q = omega (arith, missed z w, byte-small b)
+
+  pub missing-left : (z : CodeSizes) → sizes_value z ≡ sizes_of t → (i n : ℕ) → i < length s.missing → n ≡ length (hops_at s i) → z.missing - bool_byte (eqb n 1) ≡ missing_left i s
+  missing-left z w i n q e = ap (λ (m : ℕ). m - bool_byte (eqb n 1)) (missed z w) ∙ less-one (length s.missing) n (hops_at s i) (some-hops s i rest q) e
 
   -- those of the state after
   after-sized : send_graft_sizes id t ≡ sizes_of (send_graft_state now id t)
@@ -335,19 +348,19 @@ module _ (call : Call) (id : Id) (s : State) where
   bytes-nobody e a = asked-bytes [] e a ∙ no-action
 
   two-actions : (p rd : ℕ) (hs : List Hop) → 0 < length hs → get_or hs 0 (hop 0 0) ≡ hop p rd
-      → ask_actions (rooms_of call u) i hs u ≡ Sent p (kth_taken 1 p (rooms_of call u)) (Graft (some i) rd) ∷ Scheduled u.settings.graft_timeout_2 (SendGraft i) ∷ []
+      → ask_actions (rooms_of call u) i hs u ≡ Sent p (kth_taken 1 p (rooms_of call u)) (Graft (Some i) rd) ∷ Scheduled u.settings.graft_timeout_2 (SendGraft i) ∷ []
   unfolding ask_actions first_send
   two-actions p rd [] q e = absurd (omega arith)
   two-actions p rd (x ∷ hs) q e =
-      ap (λ (y : Hop). Sent y.peer (kth_taken 1 y.peer (rooms_of call u)) (Graft (some i) y.round) ∷ Scheduled u.settings.graft_timeout_2 (SendGraft i) ∷ []) e
+      ap (λ (y : Hop). Sent y.peer (kth_taken 1 y.peer (rooms_of call u)) (Graft (Some i) y.round) ∷ Scheduled u.settings.graft_timeout_2 (SendGraft i) ∷ []) e
 
 both-bytes : (p : ℕ) (b : Bool) (i rd : ℕ) (a : Action)
-    → concat_map action_bytes (Sent p b (Graft (some i) rd) ∷ a ∷ []) ≡ (send_head p b ++ message_bytes (Graft (some i) rd)) ++ action_bytes a
+    → concat_map action_bytes (Sent p b (Graft (Some i) rd) ∷ a ∷ []) ≡ (send_head p b ++ message_bytes (Graft (Some i) rd)) ++ action_bytes a
 unfolding send_head action_bytes
 both-bytes p b i rd a =
-    concat-append action_bytes (Sent p b (Graft (some i) rd) ∷ []) (a ∷ [])
-    ∙ (λ k. concat-one action_bytes (Sent p b (Graft (some i) rd)) k ++ concat-one action_bytes a k)
-    ∙ ap (λ (l : List ℕ). l ++ action_bytes a) (sym (append_assoc (1 ∷ number_bytes p) (taken_byte b ∷ []) (message_bytes (Graft (some i) rd))))
+    concat-append action_bytes (Sent p b (Graft (Some i) rd) ∷ []) (a ∷ [])
+    ∙ (λ k. concat-one action_bytes (Sent p b (Graft (Some i) rd)) k ++ concat-one action_bytes a k)
+    ∙ ap (λ (l : List ℕ). l ++ action_bytes a) (sym (append_assoc (1 ∷ number_bytes p) (taken_byte b ∷ []) (message_bytes (Graft (Some i) rd))))
 
 module _ (call : Call) (id : Id) (h : Head) (xs : List ℕ) (rest : AtRest (state_of h xs)) (j : ℕ) (m : MissingAt (state_of h xs) (id_of id) j) (r : LinkHop) where
   abbrev at : ℕ
@@ -360,13 +373,13 @@ module _ (call : Call) (id : Id) (h : Head) (xs : List ℕ) (rest : AtRest (stat
   later = settled at st
 
   pub bytes-asked : HopOf st (get_or (hops_at st j) 0 (hop 0 0)) r → (q : ℕ) (b : Bool) → holds (id_of id) later.received ≡ false → q ≡ (link_at st r.link).key
-      → b ≡ leb 1 (get_or call.rooms.numbers.now r.link 0)
-      → send_graft_bytes call id later ≡ (send_head q b ++ message_bytes (Graft (some (id_of id)) r.round.0)) ++ action_bytes (Scheduled h.settings.config.graft_timeout_2.0 (SendGraft (id_of id)))
+      → b ≡ leb 1 (get_or call.rooms.now.links r.link 0)
+      → send_graft_bytes call id later ≡ (send_head q b ++ message_bytes (Graft (Some (id_of id)) r.round.0)) ++ action_bytes (Scheduled h.settings.config.graft_timeout_2.0 (SendGraft (id_of id)))
   unfolding state_of
   bytes-asked first q b e eq eb =
       asked-bytes call id st (hops_at st j) e m.same
       ∙ ap (concat_map action_bytes) (two-actions call id st (peer_at st r.link) r.round.0 (hops_at st j) (some-hops st j rest m.below) first.same)
-      ∙ (λ k. concat_map action_bytes (Sent (peer k) (taken k) (Graft (some (id_of id)) r.round.0) ∷ Scheduled (delay k) (SendGraft (id_of id)) ∷ []))
+      ∙ (λ k. concat_map action_bytes (Sent (peer k) (taken k) (Graft (Some (id_of id)) r.round.0) ∷ Scheduled (delay k) (SendGraft (id_of id)) ∷ []))
       ∙ both-bytes q b (id_of id) r.round.0 (Scheduled h.settings.config.graft_timeout_2.0 (SendGraft (id_of id)))
     where
       peer : peer_at st r.link ≡ q
@@ -378,7 +391,7 @@ module _ (call : Call) (id : Id) (h : Head) (xs : List ℕ) (rest : AtRest (stat
       taken : kth_taken 1 (peer_at st r.link) (rooms_of call later) ≡ b
       taken =
           ap (λ (x : ℕ). kth_taken 1 x (rooms_of call later)) same
-          ∙ kth-link later call.rooms.numbers.now 1 r.link (settled-up at st rest) (settled-low at st r.link first.below) (omega arith)
+          ∙ kth-link later call.peer call.rooms.now 1 r.link (settled-up at st rest) (settled-low at st r.link first.below) (omega arith)
           ∙ sym eb
 
       delay : later.settings.graft_timeout_2 ≡ h.settings.config.graft_timeout_2.0

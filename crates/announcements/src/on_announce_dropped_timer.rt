@@ -3,17 +3,17 @@ ghost use Rattle.std.specs.Prelude.{◌≡◌, ◌+◌, ◌<◌, get_or, set, re
 ghost use Rattle.decide.specs.Sizes.{sizes_of};
 ghost use Rattle.decide.specs.Settled.{settled};
 ghost use Rattle.decide.specs.StateAfter.{announce_state};
-ghost use Rattle.wire.specs.Encode.Held.{after, RoomFor};
+ghost use Rattle.wire.specs.Encode.Intake.{after, RoomFor};
 ghost use Rattle.steps.specs.Shared.{sizes_value};
 ghost use Rattle.steps.specs.Views.{shown};
 ghost use Rattle.steps.specs.Panels.{state, Goes, AtRest, Allowed};
 ghost use Rattle.announcements.specs.Announce.Moves.{moved_state};
 ghost use Rattle.announcements.specs.OnAnnounceDroppedTimer.{announce_bytes, queue_stands, record_stands};
 
+use block::head::MAX_LINKS;
 use protocol::DROPPED_PER_TICK;
 use steps::Sizes;
 use steps::call::Call;
-use steps::link_list::MAX_LINKS;
 use steps::panel::Panel;
 use steps::schedule::{schedule_announce_dropped, schedule_dispatch};
 use steps::view::View;
@@ -57,7 +57,7 @@ pub fn announce_sizes(view: &View, call: &Call) -> Sizes
     let mut moved = 0;
     let mut left = 0;
     for row in 0..view.head.live.dropped {
-        let note = view.dropped_note(row);
+        let note = view.recorded(row);
         if !view.is_cached_then(call, note.id) {
             continue;
         }
@@ -82,7 +82,7 @@ fn queue_stands(view: &View, call: &Call) -> bool
         return true;
     }
     for row in 0..view.head.live.dropped {
-        if view.is_cached_then(call, view.dropped_note(row).id) {
+        if view.is_cached_then(call, view.recorded(row).id) {
             return true;
         }
     }
@@ -100,7 +100,7 @@ fn record_stands(view: &View, call: &Call) -> bool
     }
     let mut passed = Passed::none();
     for row in 0..view.head.live.dropped {
-        let note = view.dropped_note(row);
+        let note = view.recorded(row);
         if !view.is_cached_then(call, note.id) {
             continue;
         }
@@ -114,8 +114,8 @@ fn record_stands(view: &View, call: &Call) -> bool
 // Its actions: it "schedules dispatch if a queue stands, then itself if a record does, each unless flagged". Its own flag was just cleared.
 pub fn announce_actions<S: Sink>(view: &View, call: &Call, out: &mut S)
     requires rest { AtRest (shown view.now) }
-    requires room { RoomFor (announce_bytes (settled call.now.instant.0 (shown view.now))) (S.held out.old) }
-    ensures { S.held out.new ≡ after (announce_bytes (settled call.now.instant.0 (shown view.now))) (S.held out.old) }
+    requires room { RoomFor (announce_bytes (settled call.now.instant.0 (shown view.now))) (S.intake out.old) }
+    ensures { S.intake out.new ≡ after (announce_bytes (settled call.now.instant.0 (shown view.now))) (S.intake out.old) }
 {
     if queue_stands(view, call) {
         schedule_dispatch(view, out);
@@ -132,7 +132,7 @@ fn move_oldest(panel: &mut Panel)
     let mut passed = Passed::none();
     let mut kept = 0;
     for row in 0..panel.head.live.dropped {
-        let note = panel.view().dropped_note(row);
+        let note = panel.view().recorded(row);
         if !panel.view().is_cached(note.id) {
             continue;
         }

@@ -3,7 +3,7 @@ ghost use Rattle.std.specs.Prelude.{◌≡◌, ◌<◌, ◌^◌, ◌&&◌, not, 
 ghost use Rattle.storage.specs.Lists.Base.{any, all};
 ghost use Rattle.storage.specs.Rows.Ident.{id_of};
 ghost use Rattle.wire.specs.Reader.Values.{ihaves_value};
-ghost use Rattle.wire.specs.Encode.Held.{after, RoomFor};
+ghost use Rattle.wire.specs.Encode.Intake.{after, RoomFor};
 ghost use Rattle.decide.specs.Sizes.{sizes_of};
 ghost use Rattle.decide.specs.Settled.{settled};
 ghost use Rattle.decide.specs.NewIds.{known_timer};
@@ -19,7 +19,6 @@ use steps::Sizes;
 use steps::call::Call;
 use steps::panel::Panel;
 use steps::view::View;
-use storage::rows::id;
 use storage::rows::id::Id;
 use wire::encode::Encode;
 use wire::encode::action::Schedule;
@@ -65,7 +64,7 @@ fn stands_before(before: Ihaves, id: Id) -> bool
     ensures { result ≡ any (is_for (id_of id)) (ihaves_value before.entry) }
 {
     for ihave in before {
-        if id::same(id, ihave.id) {
+        if id == ihave.id {
             return true;
         }
     }
@@ -123,8 +122,8 @@ pub fn ihave_sizes(view: &View, call: &Call, ihaves: Ihaves) -> Sizes
 // Its actions: a SendGraft timer for each identifier that gets one, in the order of the message. Its time is that of `ihave_sizes`.
 pub fn ihave_actions<S: Sink>(view: &View, call: &Call, out: &mut S, ihaves: Ihaves)
     requires rest { AtRest (shown view.now) }
-    requires room { RoomFor (ihave_bytes ihaves (settled call.now.instant.0 (shown view.now))) (S.held out.old) }
-    ensures { S.held out.new ≡ after (ihave_bytes ihaves.entry (settled call.now.instant.0 (shown view.now))) (S.held out.old) }
+    requires room { RoomFor (ihave_bytes ihaves (settled call.now.instant.0 (shown view.now))) (S.intake out.old) }
+    ensures { S.intake out.new ≡ after (ihave_bytes ihaves.entry (settled call.now.instant.0 (shown view.now))) (S.intake out.old) }
 {
     let delay = view.head.settings.config.graft_timeout_1;
     let mut i = 0;

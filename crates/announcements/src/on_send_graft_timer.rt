@@ -1,16 +1,15 @@
 // `on_send_graft_timer` (the specification, "SendGraft"): a message that is still missing is asked of the first who announced it.
-ghost use Rattle.std.specs.Prelude.{◌≡◌, ◌≤◌, ◌<◌, length};
+ghost use Rattle.std.specs.Prelude.{◌≡◌, ◌≤◌};
 ghost use Rattle.storage.specs.Rows.Ident.{id_of};
 ghost use Rattle.protocol.specs.declared.TheConstants.{LATEST};
 ghost use Rattle.decide.specs.Sizes.{sizes_of};
 ghost use Rattle.decide.specs.Settled.{settled};
-ghost use Rattle.block.specs.TimerSteps.{timer_out};
-ghost use Rattle.wire.specs.Encode.Held.{after, RoomFor};
+ghost use Rattle.wire.specs.Encode.Intake.{after, RoomFor};
 ghost use Rattle.steps.specs.Shared.{sizes_value};
 ghost use Rattle.steps.specs.Views.{shown};
 ghost use Rattle.steps.specs.Panels.{state, Goes, AtRest, Allowed};
 ghost use Rattle.steps.specs.Found.{MissingAt};
-ghost use Rattle.announcements.specs.SendGraft.Asks.{asked_first, missing_left};
+ghost use Rattle.announcements.specs.SendGraft.Asks.{asked_first};
 ghost use Rattle.announcements.specs.OnSendGraftTimer.{after_send_graft, send_graft_bytes};
 
 use postcard::message::Timer;
@@ -24,46 +23,20 @@ use wire::encode::action::{Schedule, Send};
 use wire::encode::message::Graft;
 use wire::encode::sink::Sink;
 
-// How many graft timers are marked once that of an identifier is not.
-fn timers_left(view: &View, id: Id) -> usize
-    requires { AtRest (shown view.now) }
-    ensures { result ≡ length (timer_out (id_of id) (shown view.now)).timers.graft }
-{
-    let timers = view.head.live.timers;
-    if view.has_timer(id) {
-        timers - 1
-    } else {
-        timers
-    }
-}
-
-// How many messages are missing once the first announcer of one has left.
-fn missing_left(view: &View, entry: usize) -> usize
-    requires { AtRest (shown view.now) × (entry < length (shown view.now).missing) }
-    ensures { result ≡ missing_left entry (shown view.now) }
-{
-    let missing = view.head.live.missing;
-    if view.announcer_count(entry) == 1 {
-        missing - 1
-    } else {
-        missing
-    }
-}
-
 // The numbers of entries after it (question 13).
 pub fn send_graft_sizes(view: &View, call: &Call, id: Id) -> Sizes
     requires { AtRest (shown view.now) }
     ensures { sizes_value result ≡ sizes_of (after_send_graft call.now id (settled call.now.instant.0 (shown view.now))) }
 {
     let mut sizes = view.sizes_then(call.instant);
-    sizes.timers = timers_left(view, id);
+    sizes.timers -= view.has_timer(id) as usize;
     if view.is_received_then(call, id) {
         return sizes;
     }
     let Some(entry) = view.find_missing(id) else {
         return sizes;
     };
-    sizes.missing = missing_left(view, entry);
+    sizes.missing -= (view.announcer_count(entry) == 1) as usize;
     if view.grafted_entry_then(call, id).is_some() {
         return sizes;
     }
@@ -75,8 +48,8 @@ pub fn send_graft_sizes(view: &View, call: &Call, id: Id) -> Sizes
 // Its actions: a Graft to the first announcer, and "after asking schedules again without marking".
 pub fn send_graft_actions<S: Sink>(view: &View, call: &Call, out: &mut S, id: Id)
     requires rest { AtRest (shown view.now) }
-    requires room { RoomFor (send_graft_bytes call.now id (settled call.now.instant.0 (shown view.now))) (S.held out.old) }
-    ensures { S.held out.new ≡ after (send_graft_bytes call.now id (settled call.now.instant.0 (shown view.now))) (S.held out.old) }
+    requires room { RoomFor (send_graft_bytes call.now id (settled call.now.instant.0 (shown view.now))) (S.intake out.old) }
+    ensures { S.intake out.new ≡ after (send_graft_bytes call.now id (settled call.now.instant.0 (shown view.now))) (S.intake out.old) }
 {
     if view.is_received_then(call, id) {
         return;

@@ -2,31 +2,33 @@
 ghost use Rattle.std.specs.Prelude.{◌≤◌, length};
 
 use crate::read;
-use block::head::{Config, Limits, Settings};
-use machine::event::Outcome;
+use block::head::{Config, Limits, MAX_LINKS, Settings};
+use machine::event::{EventCall, Outcome};
 use machine::{Stats, event};
 use postcard::units::{Millis, Round};
+use steps::call::Rooms;
 use storage::rows::word;
 use whole::create;
 
+// No bound, as a number.
+const UNBOUNDED: u64 = 65536;
+
 // The counts that stand at a place.
 pub fn counts_at(b: &[u8], at: usize) -> Stats {
-    let hop = read::nth(b, at, 2);
     Stats {
         payload_messages_received: read::nth(b, at, 0),
         control_messages_received: read::nth(b, at, 1),
-        max_last_delivery_hop: (hop % 65536) as u16,
+        max_last_delivery_hop: (read::nth(b, at, 2) % 65536) as u16,
     }
 }
 
 // The settings that stand at a place: own peer number, M, then the seven of `Config`.
 fn settings_at(b: &[u8], at: usize) -> Settings {
-    let threshold = read::nth(b, at, 5);
     let config = Config {
         graft_timeout_1: Millis(read::nth(b, at, 2)),
         graft_timeout_2: Millis(read::nth(b, at, 3)),
         dispatch_timeout: Millis(read::nth(b, at, 4)),
-        optimization_threshold: Round((threshold % 65536) as u16),
+        optimization_threshold: Round((read::nth(b, at, 5) % 65536) as u16),
         message_cache_retention: Millis(read::nth(b, at, 6)),
         message_id_retention: Millis(read::nth(b, at, 7)),
         cache_evict_interval: Millis(read::nth(b, at, 8)),
@@ -57,94 +59,48 @@ fn limits_at(b: &[u8], at: usize) -> Limits {
 pub fn create_at(block: &mut [u8], b: &[u8], at: usize) -> bool {
     let settings = settings_at(b, at);
     let limits = limits_at(b, at);
-    let number = create::create(block, settings, limits);
-    number == 0
+    create::create(block, settings, limits) == 0
 }
 
-fn wide(x: u8) -> usize {
-    x as usize
-}
-
-// The link room of a call: three bytes for each bound, the link's number and the room; 65,536 is no bound.
-fn rooms_of(bounds: &[u8]) -> [u64; 34] {
-    let mut rooms = [65536; 34];
-    let mut left = bounds.len();
-    let mut i = 0;
-    while 3 <= left {
-        let link = wide(bounds[i]);
-        let room = word::load2(bounds, i + 1);
-        i += 3;
-        left -= 3;
-        if link < 34 {
-            rooms[link] = room;
+// The link room of a call: three bytes for each bound, the link's number and the room; the number 32 is the event's peer where it has no link.
+fn rooms_of(bounds: &[u8]) -> Rooms {
+    let mut links = [UNBOUNDED; MAX_LINKS];
+    let mut stranger = UNBOUNDED;
+    'bounds: for bound in bounds.chunks_exact(3) {
+        let link = bound[0] as usize;
+        let room = word::load2(bound, 1);
+        if link < MAX_LINKS {
+            links[link] = room;
+        } else {
+            stranger = room;
         }
     }
-    rooms
-}
-
-// The smaller of two.
-fn least(a: usize, b: usize) -> usize
-    ensures { result ≤ b }
-{
-    if a < b {
-        return a;
-    }
-    b
+    Rooms { links, stranger }
 }
 
 // Whether the bytes begin with others.
 fn begins(out: &[u8], want: &[u8]) -> bool {
-    if out.len() < want.len() {
-        return false;
-    }
-    let mut i = 0;
-    while i < want.len() {
-        if out[i] != want[i] {
-            return false;
-        }
-        i += 1;
-    }
-    true
+    want.len() <= out.len() && &out[..want.len()] == want
 }
 
 fn same_counts(x: Stats, y: Stats) -> bool {
-    if x.payload_messages_received != y.payload_messages_received {
-        return false;
-    }
-    if x.control_messages_received != y.control_messages_received {
-        return false;
-    }
-    x.max_last_delivery_hop == y.max_last_delivery_hop
+    x.payload_messages_received == y.payload_messages_received
+        && x.control_messages_received == y.control_messages_received
+        && x.max_last_delivery_hop == y.max_last_delivery_hop
 }
 
 // Whether a call answered what the Rust did.
 fn agrees(o: Outcome, out: &[u8], number: u8, actions: &[u8], counts: Stats) -> bool {
-    if o.number != number {
-        return false;
-    }
-    if o.length != actions.len() {
-        return false;
-    }
-    let same = begins(out, actions);
-    if !same {
-        return false;
-    }
-    let after = o.stats;
-    same_counts(after, counts)
+    o.number == number
+        && o.length == actions.len()
+        && begins(out, actions)
+        && same_counts(o.stats, counts)
 }
 
 // An event call with a part of the output.
-fn call(
-    block: &mut [u8],
-    out: &mut [u8],
-    c: Stats,
-    instant: Millis,
-    event: &[u8],
-    rooms: [u64; 34],
-    lent: usize,
-) -> Outcome {
-    let m = least(lent, out.len());
-    event::event_core(block, c, instant, event, rooms, &mut out[0..m])
+fn call(block: &mut [u8], out: &mut [u8], c: Stats, asked: EventCall, lent: usize) -> Outcome {
+    let m = lent.min(out.len());
+    event::event_core(block, c, asked, &mut out[..m])
 }
 
 // What became of an event call of the sample: whether it agrees, where the next record stands, the counts.
@@ -175,12 +131,15 @@ pub fn event_at(block: &mut [u8], out: &mut [u8], c: Stats, b: &[u8], at: usize)
     let counts = counts_at(b, actions_end);
     let next = read::ahead(actions_end, 24, n);
     let rooms = rooms_of(&b[bounds..bounds_end]);
-    let o = call(block, out, c, instant, &b[event..event_end], rooms, lent);
-    let same = agrees(o, out, number, &b[actions..actions_end], counts);
-    let after = o.stats;
+    let asked = EventCall {
+        instant,
+        event: &b[event..event_end],
+        rooms: &rooms,
+    };
+    let o = call(block, out, c, asked, lent);
     Replayed {
-        same,
+        same: agrees(o, out, number, &b[actions..actions_end], counts),
         next,
-        counts: after,
+        counts: o.stats,
     }
 }

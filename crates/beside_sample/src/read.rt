@@ -40,10 +40,7 @@ pub fn byte(b: &[u8], at: usize) -> u8 {
 
 // A number of four bytes.
 pub fn four(b: &[u8], at: usize) -> usize {
-    if b.len() < 4 {
-        return 0;
-    }
-    if b.len() - 4 < at {
+    if b.len() < 4 || b.len() - 4 < at {
         return 0;
     }
     word::load4(b, at) as usize
@@ -51,10 +48,7 @@ pub fn four(b: &[u8], at: usize) -> usize {
 
 // A number of eight bytes.
 pub fn eight(b: &[u8], at: usize) -> u64 {
-    if b.len() < 8 {
-        return 0;
-    }
-    if b.len() - 8 < at {
+    if b.len() < 8 || b.len() - 8 < at {
         return 0;
     }
     word::load(b, at)
@@ -62,12 +56,8 @@ pub fn eight(b: &[u8], at: usize) -> u64 {
 
 // The i-th number of eight bytes from a place on.
 pub fn nth(b: &[u8], at: usize, i: usize) -> u64 {
-    if b.len() < at {
+    if b.len() < at || 32 < i {
         return 0;
     }
-    if 32 < i {
-        return 0;
-    }
-    let place = ahead(at, 8 * i, b.len());
-    eight(b, place)
+    eight(b, ahead(at, 8 * i, b.len()))
 }

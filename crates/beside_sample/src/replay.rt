@@ -3,7 +3,13 @@ ghost use Rattle.std.specs.Prelude.{◌≤◌, length};
 
 use crate::{calls, read, state};
 use machine::Stats;
-use std::num;
+
+// "the counts zero".
+const NO_COUNTS: Stats = Stats {
+    payload_messages_received: 0,
+    control_messages_received: 0,
+    max_last_delivery_hop: 0,
+};
 
 // How many calls and states there were, and how many of them differ from the Rust's; where the next record stands; the counts.
 #[derive(Clone, Copy)]
@@ -20,89 +26,71 @@ fn judged(different: u64, same: bool) -> u64 {
     if same {
         return different;
     }
-    num::wrapping_add_u64(different, 1)
+    different.wrapping_add(1)
 }
 
 fn creation(t: Tally, block: &mut [u8], b: &[u8], at: usize) -> Tally
     requires { at ≤ length b.now }
 {
     let same = calls::create_at(block, b, at);
-    let counts = Stats {
-        payload_messages_received: 0,
-        control_messages_received: 0,
-        max_last_delivery_hop: 0,
-    };
     Tally {
-        calls: t.calls,
-        states: t.states,
         different: judged(t.different, same),
         next: read::ahead(at, 144, b.len()),
-        counts,
+        counts: NO_COUNTS,
+        ..t
     }
 }
 
 fn given_counts(t: Tally, b: &[u8], at: usize) -> Tally
     requires { at ≤ length b.now }
 {
-    let counts = calls::counts_at(b, at);
     Tally {
-        calls: t.calls,
-        states: t.states,
-        different: t.different,
         next: read::ahead(at, 24, b.len()),
-        counts,
+        counts: calls::counts_at(b, at),
+        ..t
     }
 }
 
 fn call(t: Tally, block: &mut [u8], out: &mut [u8], b: &[u8], at: usize) -> Tally
     requires { at ≤ length b.now }
 {
-    let c = t.counts;
-    let r = calls::event_at(block, out, c, b, at);
-    let counts = r.counts;
+    let replayed = calls::event_at(block, out, t.counts, b, at);
     Tally {
-        calls: num::wrapping_add_u64(t.calls, 1),
-        states: t.states,
-        different: judged(t.different, r.same),
-        next: r.next,
-        counts,
+        calls: t.calls.wrapping_add(1),
+        different: judged(t.different, replayed.same),
+        next: replayed.next,
+        counts: replayed.counts,
+        ..t
     }
 }
 
 fn compare(t: Tally, block: &[u8], other: &mut [u8], b: &[u8], at: usize) -> Tally
     requires { at ≤ length b.now }
 {
-    let r = state::state_at(block, other, b, at);
-    let counts = t.counts;
+    let compared = state::state_at(block, other, b, at);
     Tally {
-        calls: t.calls,
-        states: num::wrapping_add_u64(t.states, 1),
-        different: judged(t.different, r.same),
-        next: r.next,
-        counts,
+        states: t.states.wrapping_add(1),
+        different: judged(t.different, compared.same),
+        next: compared.next,
+        ..t
     }
 }
 
 // One record: its kind, then what it holds. A kind that there is none of is a difference, and ends the sample.
 fn record(t: Tally, block: &mut [u8], other: &mut [u8], out: &mut [u8], b: &[u8]) -> Tally {
-    let n = b.len();
-    let kind = read::byte(b, t.next);
-    let counts = t.counts;
-    if n <= t.next {
+    if b.len() <= t.next {
         return t;
     }
     let at = t.next + 1;
-    match kind {
+    match b[t.next] {
         0 => creation(t, block, b, at),
         1 => given_counts(t, b, at),
         2 => call(t, block, out, b, at),
         3 => compare(t, block, other, b, at),
         _ => Tally {
-            calls: t.calls,
-            states: t.states,
             different: judged(t.different, false),
-            next: n,
-            counts,
+            next: b.len(),
+            ..t
         },
     }
 }
@@ -117,18 +105,13 @@ pub fn replay(b: &[u8]) -> Tally {
         states: 0,
         different: 0,
         next: 0,
-        counts: Stats {
-            payload_messages_received: 0,
-            control_messages_received: 0,
-            max_last_delivery_hop: 0,
-        },
+        counts: NO_COUNTS,
     };
-    let mut turns = b.len();
-    while 0 < turns {
-        turns -= 1;
-        if t.next < b.len() {
-            t = record(t, &mut block, &mut other, &mut out, b);
+    'records: for _ in 0..b.len() {
+        if b.len() <= t.next {
+            break;
         }
+        t = record(t, &mut block, &mut other, &mut out, b);
     }
     t
 }

@@ -12,25 +12,15 @@ pub struct Compared {
 }
 
 fn clear(b: &mut [u8]) {
-    let mut i = 0;
-    while i < b.len() {
+    for i in 0..b.len() {
         b[i] = 0;
-        i += 1;
     }
 }
 
 // Puts bytes at a place, if they fit there.
 fn put(b: &mut [u8], at: usize, bytes: &[u8]) {
-    if b.len() < bytes.len() {
-        return;
-    }
-    if b.len() - bytes.len() < at {
-        return;
-    }
-    let mut i = 0;
-    while i < bytes.len() {
-        b[at + i] = bytes[i];
-        i += 1;
+    if bytes.len() <= b.len() && at <= b.len() - bytes.len() {
+        b[at..at + bytes.len()].copy_from_slice(bytes);
     }
 }
 
@@ -69,10 +59,8 @@ pub fn state_at(block: &[u8], other: &mut [u8], b: &[u8], at: usize) -> Compared
     let runs = read::four(b, at);
     let first = read::ahead(at, 4, b.len());
     let next = put_runs(other, b, first, runs);
-    let answer = alike::alike(block, other);
-    match answer {
-        Answer::Yes => Compared { same: true, next },
-        Answer::No => Compared { same: false, next },
-        Answer::NotWhole => Compared { same: false, next },
+    Compared {
+        same: matches!(alike::alike(block, other), Answer::Yes),
+        next,
     }
 }

@@ -1,6 +1,6 @@
 -- The numbers that a creation and an event call answer, and the length of a refused call's output.
+use Rattle.std.specs.Prelude.{Option, Some, None}
 use Rattle.std.proofs.Common.{ℕ, ◌≡◌, ◌≤◌, ◌<◌, ◌⊎◌, inl, inr, sym, ap, lit≤, Bool, true, false, not, if◌then◌else◌, ◌^◌, List, leb, length, arith}
-use Rattle.std.proofs.Math.Option.{Option, none, some}
 use borrow.Author.Tests.{leb-true}
 use Rattle.storage.proofs.ListsLaws.MapLaws.{and_right}
 use Rattle.blake3.specs.Blake3.{identifier}
@@ -61,8 +61,8 @@ low-outcome (accept e r) h = tt
 
 low-answer : (h : Option State) (c : Counts) (k : Call) → LowOutcome (answer_of identifier h c k)
 unfolding answer_of LowOutcome
-low-answer none c k = lit≤ tt
-low-answer (some s) c k = low-outcome (ask identifier s c k) (low-ask s c k)
+low-answer None c k = lit≤ tt
+low-answer (Some s) c k = low-outcome (ask identifier s c k) (low-ask s c k)
 
 low-block : (long : ℕ) (h : Option State) (c : Counts) (k : Call) → LowOutcome (answer_block identifier long h c k)
 unfolding answer_block

@@ -6,11 +6,11 @@ use Rattle.postcard.specs.Message.{action_bytes}
 use Rattle.protocol.specs.State.{State}
 use Rattle.protocol.specs.Run.{Room}
 use Rattle.decide.specs.Settled.{settled, settled_actions}
-use Rattle.wire.specs.Encode.Held.{Held, after, room_of, RoomFor}
-use Rattle.wire.proofs.EncodeLaws.HeldLaws.{after_append, after_nil, room_after, length_both}
+use Rattle.wire.specs.Encode.Intake.{Intake, after, space_of, RoomFor}
+use Rattle.wire.proofs.EncodeLaws.IntakeLaws.{after_append, after_nil, room_after, length_both}
 use Rattle.steps.specs.Calls.{rooms_of}
 use Rattle.steps.specs.declared.call.Call.{Call}
-use Rattle.steps.proofs.TicksLaws.ActionLaws.{actions-then}
+use Rattle.steps.proofs.ActionLaws.{actions-then}
 use Rattle.machine.specs.Kinds.Meaning.{step_actions}
 use Rattle.machine.specs.Steps.{event_bytes}
 use Rattle.machine.specs.declared.kinds.Step.{Step}
@@ -28,21 +28,21 @@ module _ (call : Call) (r : Step) (s : State) where
   pub both-bytes : event_bytes call r s ≡ first_bytes s ++ step_bytes call r (settled call.instant.0 s)
   both-bytes =
       actions-then (settled_actions s) (step_actions (rooms_of call s) r (settled call.instant.0 s))
-      ∙ ap (λ (rooms : List Room). first_bytes s ++ concat_map action_bytes (step_actions rooms r (settled call.instant.0 s))) (sym (settled-rooms call.instant.0 s call.rooms.numbers.now))
+      ∙ ap (λ (rooms : List Room). first_bytes s ++ concat_map action_bytes (step_actions rooms r (settled call.instant.0 s))) (sym (settled-rooms call.instant.0 s call.peer call.rooms.now))
 
-  module _ (h : Held) (room : RoomFor (event_bytes call r s) h) where
+  module _ (h : Intake) (room : RoomFor (event_bytes call r s) h) where
     pub first-room : RoomFor (first_bytes s) h
     first-room = omega (arith, room, ap length both-bytes, length_both (first_bytes s) (step_bytes call r (settled call.instant.0 s)))
 
     -- the step's, by any equal list
-    pub step-room : (bs : List ℕ) (g : Held) → step_bytes call r (settled call.instant.0 s) ≡ bs → g ≡ after (first_bytes s) h → RoomFor bs g
+    pub step-room : (bs : List ℕ) (g : Intake) → step_bytes call r (settled call.instant.0 s) ≡ bs → g ≡ after (first_bytes s) h → RoomFor bs g
     step-room bs g e q =
-        omega (arith, room, ap length both-bytes, length_both (first_bytes s) (step_bytes call r (settled call.instant.0 s)), ap length e, ap room_of q, room_after (first_bytes s) h)
+        omega (arith, room, ap length both-bytes, length_both (first_bytes s) (step_bytes call r (settled call.instant.0 s)), ap length e, ap space_of q, room_after (first_bytes s) h)
 
-  pub step-done : (h g k : Held) (bs : List ℕ) → step_bytes call r (settled call.instant.0 s) ≡ bs → g ≡ after (first_bytes s) h → k ≡ after bs g → k ≡ after (event_bytes call r s) h
+  pub step-done : (h g k : Intake) (bs : List ℕ) → step_bytes call r (settled call.instant.0 s) ≡ bs → g ≡ after (first_bytes s) h → k ≡ after bs g → k ≡ after (event_bytes call r s) h
   step-done h g k bs e q p =
-      p ∙ ap (λ (x : Held). after bs x) q ∙ ap (λ (l : List ℕ). after l (after (first_bytes s) h)) (sym e)
+      p ∙ ap (λ (x : Intake). after bs x) q ∙ ap (λ (l : List ℕ). after l (after (first_bytes s) h)) (sym e)
       ∙ after_append (first_bytes s) (step_bytes call r (settled call.instant.0 s)) h ∙ ap (λ (l : List ℕ). after l h) (sym both-bytes)
 
-  pub none-done : (h g : Held) → step_bytes call r (settled call.instant.0 s) ≡ [] → g ≡ after (first_bytes s) h → g ≡ after (event_bytes call r s) h
+  pub none-done : (h g : Intake) → step_bytes call r (settled call.instant.0 s) ≡ [] → g ≡ after (first_bytes s) h → g ≡ after (event_bytes call r s) h
   none-done h g e q = step-done h g g [] e q (sym (after_nil g))

@@ -40,7 +40,7 @@ module _ (call : Call) (r : Step) (s : State) (c : Counts) (output : ℕ) where
 -- a step that is an event's
 module _ (call : Call) (r : Step) (s : State) (e : Event) (means : Means call.instant.0 s r e) where
   pub state-event : state_after identifier (rooms_of call s) call.instant.0 e s ≡ after_event call r s
-  state-event = means.state (rooms_of call s) ∙ ap (λ (rooms : List Room). step_state rooms call.instant.0 r (settled call.instant.0 s)) (sym (settled-rooms call.instant.0 s call.rooms.numbers.now))
+  state-event = means.state (rooms_of call s) ∙ ap (λ (rooms : List Room). step_state rooms call.instant.0 r (settled call.instant.0 s)) (sym (settled-rooms call.instant.0 s call.peer call.rooms.now))
 
   pub keeps-event : whole s ≡ true → Keeps s (after_event call r s)
   keeps-event w =

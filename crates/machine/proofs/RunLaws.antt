@@ -1,6 +1,6 @@
 -- What the questions find, and what an accepted call leaves.
+use Rattle.std.specs.Prelude.{Some}
 use Rattle.std.proofs.Common.{◌≡◌, ℕ, suc, max, ◌+◌, ◌^◌, ◌≤◌, ◌<◌, refl, sym, ap, ◌∙◌, arith, Bool, true, false, ◌&&◌, List, [], length, leb, ltb, if◌then◌else◌}
-use mathlib.Core.Option.{some}
 use native.Mathlib.Nat.{max-eq_left, max-eq_right}
 use borrow.Author.Tests.{le-leb, lt-leb, leb-true, lt-ltb, le-ltb, ltb-true, ltb-false}
 use Rattle.storage.specs.Lists.Base.{concat_map}
@@ -180,5 +180,5 @@ module _ (h : Head) (xs last : List ℕ) (sound : Sound h xs) (stored : Stored h
       let e : h.settings.config.optimization_threshold.0 ≡ s.settings.optimization_threshold = ap (λ (x : Settings). x.optimization_threshold) keeps.settings in
       omega (arith, e, leb-true s.settings.optimization_threshold 65535 rest.ranged.threshold)
 
-  pub left-holds : held last ≡ some (state_of h xs)
+  pub left-holds : held last ≡ Some (state_of h xs)
   left-holds = stored-holds h xs last stored sound range long threshold

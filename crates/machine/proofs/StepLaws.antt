@@ -3,11 +3,10 @@
 use Rattle.std.proofs.Common.{◌≡◌, ℕ, ◌<◌, refl, sym, ap, ◌∙◌, Bool, true, false, List, [], length, leb, if◌then◌else◌}
 use mathlib.Core.Path.{subst}
 use Rattle.std.specs.Borrow.{Bor}
-use Rattle.std.specs.Prelude.{Option, Some, None}
+use Rattle.std.specs.Prelude.{Option}
 use Rattle.storage.specs.Rows.Ident.{id_of}
 use Rattle.storage.specs.declared.rows.id.Id.{Id}
 use Rattle.time_cache.specs.TimeCache.{later_cache}
-use Rattle.postcard.specs.Values.{wanted_value}
 use Rattle.wire.specs.declared.reader.ihaves.Ihaves.{Ihaves}
 use Rattle.protocol.specs.Links.{add_lazy}
 use Rattle.protocol.specs.State.{State, Counts, zero_counts, with_links, with_init, with_received, with_grafted, with_cache, size_in_range, durations_in_range, limits_in_range}
@@ -24,9 +23,9 @@ use Rattle.decide.proofs.GraftSendGraft.{prune-sizes}
 use Rattle.decide.proofs.StateAfterLaws.{prune-state, late-state}
 use Rattle.block.specs.LinkSteps.{peer_at}
 use Rattle.steps.specs.Rooms.{rooms_in}
+use Rattle.steps.specs.declared.call.Rooms.{Rooms}
 use Rattle.steps.specs.declared.call.Call.{Call}
 use Rattle.steps.proofs.AtRestLaws.{settled-as, same_links}
-use Rattle.payloads.specs.OnGraft.{wanted_id}
 use Rattle.payloads.specs.OnLateGraftReply.{copy_kind}
 use Rattle.payloads.specs.declared.on_gossip.NewMessage.{NewMessage}
 use Rattle.payloads.specs.declared.on_late_graft_reply.LateCopy.{LateCopy}
@@ -38,13 +37,9 @@ use Rattle.machine.specs.Steps.{after_step, Ready, Due}
 pub settled-consistent : (now : ℕ) (s : State) → Consistent s → Consistent (settled now s)
 settled-consistent now s x = subst Consistent (first-state now (begin s zero_counts []) x.core) ((kept-first_event now (begin s zero_counts [])).consistent x)
 
-pub settled-rooms : (now : ℕ) (s : State) (array : List ℕ) → rooms_in (settled now s) array ≡ rooms_in s array
+pub settled-rooms : (now : ℕ) (s : State) (peer : ℕ) (rooms : Rooms) → rooms_in (settled now s) peer rooms ≡ rooms_in s peer rooms
 unfolding rooms_in
-settled-rooms now s array = settled-as now s (λ (t : State). rooms_in t array) refl
-
-pub same_wanted : (w : Option Id) → wanted_id w ≡ wanted_value w
-same_wanted None = refl
-same_wanted (Some id) = refl
+settled-rooms now s peer rooms = settled-as now s (λ (t : State). rooms_in t peer rooms) refl
 
 -- the sizes of the state after each step
 module _ (t : State) (x : Consistent t) where

@@ -1,7 +1,7 @@
 -- What a call is to do once every question is answered yes, and what the caller finds of a step: questions 12, 13 and 14, then the step. Proved equal to the definitions' outcome for the event whose
 -- step it is (proofs/OutcomeLaws.antt).
 -- Assumes nothing.
-use Rattle.std.specs.Prelude.{ℕ, ◌≤◌, ◌≡◌, not, List, [], leb, length, get_or, Result, Ok, Err, if◌then◌else◌}
+use Rattle.std.specs.Prelude.{ℕ, ◌≤◌, ◌≡◌, not, List, [], leb, length, Result, Ok, Err, if◌then◌else◌}
 use Rattle.protocol.specs.Links.{link_up}
 use Rattle.protocol.specs.State.{State, Counts}
 use Rattle.protocol.specs.Neighbours.{forget_peer}
@@ -39,7 +39,7 @@ task_bytes call _ s = []
 
 -- what a task asks
 abbrev pub Doable : Call → Task → State → Type 0
-Doable call (task.Step step) s = Due call step s × SenderIs (get_or call.rooms.numbers.now 33 0) step
+Doable call (task.Step step) s = Due call step s × SenderIs call.peer step
 Doable call t s = Allowed (after_task call t) s
 
 -- what the questions have found

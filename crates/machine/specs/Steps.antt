@@ -1,6 +1,6 @@
 -- What a step does to a panel, what it writes, and what it asks.
 -- Assumes nothing.
-use Rattle.std.specs.Prelude.{ℕ, ◌≤◌, ◌≡◌, true, false, List, ◌++◌, get_or}
+use Rattle.std.specs.Prelude.{ℕ, ◌≤◌, ◌≡◌, true, false, List, ◌++◌}
 use Rattle.storage.specs.Lists.Base.{concat_map}
 use Rattle.postcard.specs.Message.{action_bytes}
 use Rattle.protocol.specs.State.{State}
@@ -39,13 +39,13 @@ pub record Named (call : Call) (step : Step) (s : State) : Type 0 where
 -- one that may be asked for its actions: its sender is the event's peer, and its round is none that question 12 refuses
 pub record Asked (call : Call) (step : Step) (s : State) : Type 0 where
   pub named : Named call step s
-  pub sender : SenderIs (get_or call.rooms.numbers.now 33 0) step
+  pub sender : SenderIs call.peer step
   pub near : step_far step ≡ false
 
 -- one of which questions 12 to 14 may be asked
 pub record Askable (call : Call) (step : Step) (s : State) : Type 0 where
   pub named : Named call step s
-  pub sender : SenderIs (get_or call.rooms.numbers.now 33 0) step
+  pub sender : SenderIs call.peer step
   pub early : call.instant.0 ≤ LATEST.0
   pub keeps : Keeps s (after_event call step s)
 

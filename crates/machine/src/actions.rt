@@ -1,5 +1,5 @@
 // The actions of a call: a first event's timer, then those of the step. They are counted for question 14, then written, by one walk.
-ghost use Rattle.std.specs.Prelude.{◌≡◌, false, get_or};
+ghost use Rattle.std.specs.Prelude.{◌≡◌, false};
 ghost use Rattle.steps.specs.Panels.{AtRest};
 ghost use Rattle.steps.specs.Views.{shown};
 ghost use Rattle.machine.specs.Kinds.Meaning.{StepHeld, SenderIs, step_far};
@@ -31,7 +31,7 @@ pub struct Actions<'a> {
     pub step: Step<'a>,
     ghost rest: { AtRest (shown view.now) } by { AtRest-prop (shown view.now) },
     ghost held: { StepHeld (shown view.now) step } by { StepHeld-prop (shown view.now) step },
-    ghost sender: { SenderIs (get_or call.now.rooms.numbers.now 33 0) step } by { SenderIs-prop (get_or call.now.rooms.numbers.now 33 0) step },
+    ghost sender: { SenderIs call.now.peer step } by { SenderIs-prop call.now.peer step },
     ghost near: { step_far step ≡ false } by { near-prop step },
 }
 

@@ -13,13 +13,11 @@ ghost use Rattle.steps.specs.Views.{shown};
 ghost use Rattle.machine.specs.Kinds.Meaning.{ListHeld, Means};
 
 use announcements::on_ihave::all_received;
-use block::links;
 use payloads::on_gossip::NewMessage;
 use payloads::on_late_graft_reply::LateCopy;
 use postcard::message::{Delivery, Scope, Timer};
 use steps::call::Call;
 use steps::view::View;
-use storage::rows::id;
 use storage::rows::id::Id;
 use wire::encode::message::Gossip;
 use wire::reader::ihaves::Ihaves;
@@ -59,7 +57,7 @@ fn gossip_step<'a>(view: &View, call: &Call, sender: u64, gossip: Gossip<'a>) ->
         content,
         delivery,
     } = gossip;
-    if !id::same(blake3::hash(content), id) {
+    if blake3::hash(content) != id {
         return Step::Nothing;
     }
     if view.is_received_then(call, id) {
@@ -97,13 +95,15 @@ pub fn message_step<'a>(view: &View, call: &Call, sender: u64, message: Message<
     requires { AtRest (shown view.now) × (length (message_bytes (message_value message)) ≤ (shown view.now).settings.max_message_size) }
     ensures { Means call.now.instant.0 (shown view.now) result (Received sender (message_value message.entry)) }
 {
-    let found = links::find_link(view.head, view.block, sender);
-    match message {
-        Message::Gossip {
-            id,
-            content,
-            delivery,
-        } => {
+    match (message, view.find_link(sender)) {
+        (
+            Message::Gossip {
+                id,
+                content,
+                delivery,
+            },
+            _,
+        ) => {
             let gossip = Gossip {
                 id,
                 content,
@@ -111,18 +111,10 @@ pub fn message_step<'a>(view: &View, call: &Call, sender: u64, message: Message<
             };
             gossip_step(view, call, sender, gossip)
         }
-        Message::Prune => match found {
-            Ok(link) => Step::Prune { link },
-            Err(_) => Step::Nothing,
-        },
-        Message::Graft { wanted, .. } => match found {
-            Ok(link) => Step::Graft { link, wanted },
-            Err(_) => Step::Nothing,
-        },
-        Message::IHave(ihaves) => match found {
-            Ok(link) => ihave_step(view, call, link, ihaves),
-            Err(_) => Step::Nothing,
-        },
+        (Message::Prune, Some(link)) => Step::Prune { link },
+        (Message::Graft { wanted, .. }, Some(link)) => Step::Graft { link, wanted },
+        (Message::IHave(ihaves), Some(link)) => ihave_step(view, call, link, ihaves),
+        (_, None) => Step::Nothing,
     }
 }
 

@@ -14,19 +14,20 @@ ghost use Rattle.machine.specs.LimitMet.LimitMet.{asking, limit_met};
 ghost use Rattle.machine.specs.LimitMet.Decided.{sizes_past, event_past, step_past};
 ghost use Rattle.machine.specs.Steps.{after_event, Keeps, Named};
 
+use crate::event::EventCall;
 use crate::kinds::Step;
 use crate::step::step_sizes;
 use crate::{event, kinds};
 use block::head::Limits;
 use block::header;
-use postcard::units::Millis;
 use steps::Sizes;
-use steps::call::{Call, Rooms};
+use steps::call::Call;
 use steps::on_neighbor_up::up_sizes;
 use steps::view::View;
 use wire::reader::event::Event;
 
 // The first limit that these numbers of entries are past, in the order of the ceilings; 0 if they are within every one. "Expiry entries: 2R, 2C, 2G".
+#[tactic(auto, unfolding(crate::specs::LimitMet::Decided::sizes_past))]
 fn limit_past(l: Limits, z: Sizes) -> u8
     requires { Ceilings (limits_of l) }
     ensures { result ≡ sizes_past (limits_of l) (sizes_value z) }
@@ -110,19 +111,17 @@ fn event_limit(view: &View, call: &Call, event: Event) -> u8
     }
 }
 
-// The limit that a call met that is answered 13, with the link room of each link by its number, and at 32 that of the event's peer; 0 if the call, with the counts
-// zero, is not answered 13. It takes as long as the call does up to question 13.
-pub fn limit_met(block: &[u8], instant: Millis, event: &[u8], rooms: [u64; 34]) -> u8
-    ensures { result ≡ limit_met identifier (length block.now) (held block.now) (asking instant.0 event.now (core_rooms block.now event.now rooms)) }
+// The limit that a call met that is answered 13; 0 if the call, with the counts zero, is not answered 13. It takes as long as the call does up to question 13.
+pub fn limit_met(block: &[u8], asked: EventCall) -> u8
+    ensures { result ≡ limit_met identifier (length block.now) (held block.now) (asking asked.entry.instant.0 asked.entry.event.now (core_rooms block.now asked.entry.event.now asked.entry.rooms.now)) }
 {
-    let Ok(event) = event::read_event(block, instant, event) else {
+    let Ok(event) = event::read_event(block, asked.instant, asked.event) else {
         return 0;
     };
-    let mut own = rooms;
-    own[33] = event::event_peer(event);
     let call = Call {
-        instant,
-        rooms: Rooms { numbers: &own },
+        instant: asked.instant,
+        peer: event::event_peer(event),
+        rooms: asked.rooms,
     };
     let view = View {
         head: header::load_head(block),

@@ -27,6 +27,7 @@ use Rattle.steps.specs.declared.Sizes.{Sizes as CodeSizes}
 use Rattle.steps.specs.declared.call.Call.{Call}
 use Rattle.steps.proofs.AtRestLaws.{settled-as}
 use Rattle.steps.proofs.TakeInLaws.{takes-later, taken-rest, rest-kept, kept-rest}
+use Rattle.steps.specs.Calls.{rooms_of}
 use Rattle.payloads.specs.Broadcast.{after_broadcast}
 use Rattle.payloads.specs.EagerPush.Targets.{skipped_peers}
 use Rattle.payloads.specs.EagerPush.Notes.{record_back, back_state, NotesBack}
@@ -135,20 +136,20 @@ module _ (call : Call) (id : Id) (content : List ℕ) (h : Head) (xs : List ℕ)
   held-id = queued-cached call id content t t.settings.me
 
   end-record : (end call id content t).dropped
-      ≡ add_batches held_then (batches_for (record { id = id_of id; round = 0 }) (back_peers (rooms_in t call.rooms.numbers.now) (eager_targets t.settings.me [] t))) t.dropped
+      ≡ add_batches held_then (batches_for (record { id = id_of id; round = 0 }) (back_peers (rooms_of call t) (eager_targets t.settings.me [] t))) t.dropped
   unfolding broadcast_state pushed_state recorded_state lazy_state taken_state eager_targets
   end-record = refl
 
   back_record : (me : ℕ) → record_back held_then call (own_push me) (id_of id) 0 shown
-      ≡ add_batches held_then (batches_for (record { id = id_of id; round = 0 }) (back_peers (rooms_in shown call.rooms.numbers.now) (eager_targets me [] shown))) shown.dropped
+      ≡ add_batches held_then (batches_for (record { id = id_of id; round = 0 }) (back_peers (rooms_of call shown) (eager_targets me [] shown))) shown.dropped
   unfolding skipped_peers
   back_record me = refl
 
   record-is : (end call id content t).dropped ≡ record_back held_then call (own_push h.settings.me) (id_of id) 0 shown
   record-is =
       end-record
-      ∙ settled-record held_then call.rooms.numbers.now (id_of id) 0 t.settings.me [] call.instant.0 shown
-      ∙ ap (λ me. add_batches held_then (batches_for (record { id = id_of id; round = 0 }) (back_peers (rooms_in shown call.rooms.numbers.now) (eager_targets me [] shown))) shown.dropped) same-me
+      ∙ settled-record held_then call (id_of id) 0 t.settings.me [] call.instant.0 shown
+      ∙ ap (λ me. add_batches held_then (batches_for (record { id = id_of id; round = 0 }) (back_peers (rooms_of call shown) (eager_targets me [] shown))) shown.dropped) same-me
       ∙ sym (back_record h.settings.me)
 
   module _ (z : CodeSizes) (e : sizes_value z ≡ sizes_of (taken_state call.instant.0 (id_of id) content 0 t))

@@ -1,7 +1,6 @@
 -- The actions of a new Swarm message, one part after the other.
 -- Assumes nothing.
 use Rattle.std.proofs.Common.{◌≡◌, ℕ, suc, ◌+◌, List, [], ◌∷◌, ◌++◌, refl, sym, ap, ◌∙◌, add-one}
-use Rattle.std.proofs.Math.Option as math
 use Rattle.std.specs.Prelude.{Option, Some, None}
 use Rattle.storage.specs.Lists.Base.{concat_map}
 use Rattle.storage.specs.Lists.Map.{keys}
@@ -28,15 +27,15 @@ use Rattle.payloads.specs.OnGossip.{gossip_bytes}
 use Rattle.payloads.specs.declared.on_gossip.NewMessage.{NewMessage}
 
 -- the grafted message that was found is there, and its peers are skipped
-module _ (s : State) (id : ℕ) (found : math.Option Grafts) where
+module _ (s : State) (id : ℕ) (found : Option Grafts) where
   pub skip-there : (k : Option ℕ) → EntryIs no_grafts s.grafted.entries id found k → SkipThere k s
   skip-there (Some i) e = e.below
   skip-there None e = tt
 
   pub skip-found : (k : Option ℕ) → EntryIs no_grafts s.grafted.entries id found k → skipped_peers k s ≡ keys (peers_of found)
   unfolding skipped_peers peers_of
-  skip-found (Some i) e = sym (ap (λ (o : math.Option Grafts). keys (peers_of o)) e.value)
-  skip-found None e = sym (ap (λ (o : math.Option Grafts). keys (peers_of o)) e)
+  skip-found (Some i) e = sym (ap (λ (o : Option Grafts). keys (peers_of o)) e.value)
+  skip-found None e = sym (ap (λ (o : Option Grafts). keys (peers_of o)) e)
 
 module _ (call : Call) (m : NewMessage) (now : ℕ) (s : State) (k : Option ℕ) where
   abbrev t : State

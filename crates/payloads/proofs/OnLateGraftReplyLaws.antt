@@ -2,11 +2,10 @@
 -- Assumes nothing.
 use Rattle.std.proofs.Common.{◌≡◌, ℕ, get_or, refl, sym, ap, ◌∙◌, arith, Bool, true, false, not, ◌&&◌, ◌||◌, List, [], ◌∷◌, ◌++◌}
 use mathlib.Core.List.{append-nil}
-use Rattle.std.proofs.Math.Option.{Option, none, some}
-use Rattle.std.specs.Prelude.{leb, eqb, if◌then◌else◌}
+use Rattle.std.specs.Prelude.{leb, eqb, if◌then◌else◌, Option, Some, None, is_some}
 use borrow.Author.Tests.{eqb-true}
 use lib.ListN.{length-map}
-use Rattle.storage.specs.Lists.Base.{is_some, all, ascending, concat_map}
+use Rattle.storage.specs.Lists.Base.{all, ascending, concat_map}
 use Rattle.storage.specs.Lists.Map.{Map, keys, has, lookup}
 use Rattle.storage.specs.Rows.Ident.{id_of}
 use Rattle.storage.proofs.ListsLaws.MapLaws.{cases, true≢, and_right, all_head, all_tail}
@@ -29,7 +28,7 @@ use Rattle.decide.specs.StateAfter.{late_state}
 use Rattle.block.specs.LinkSteps.{link_at, linked}
 use Rattle.block.specs.Caches.GraftSteps.{grafts_at, kept_at}
 use Rattle.block.proofs.LinkLaws.{eager-here}
-use Rattle.steps.specs.Calls.{rooms_of, event_peer}
+use Rattle.steps.specs.Calls.{rooms_of}
 use Rattle.steps.specs.Found.{LinkAt}
 use Rattle.steps.specs.Panels.{AtRest}
 use Rattle.steps.specs.Rooms.{rooms_in}
@@ -55,8 +54,8 @@ unfolding eager_in marked
 stranger-lazy p m n = by (lookup p m) n
   where
     by : (o : Option Mark) → is_some o ≡ false → marked is_eager o ≡ false
-    by none e = refl
-    by (some x) e = true≢ (sym e)
+    by None e = refl
+    by (Some x) e = true≢ (sym e)
 
 -- two tests
 pub second-no : (a b : Bool) → b ≡ false → (a && b) ≡ false
@@ -83,7 +82,7 @@ both-yes true false false e h k = refl
 
 -- a copy, once the grafts are there
 module _ (sender : ℕ) (d : Delivery) (l : Links) (g : Grafts) where
-  pub from-none : none ≡ g.first → duplicate ≡ late_from sender d l g g.first
+  pub from-none : None ≡ g.first → duplicate ≡ late_from sender d l g g.first
   unfolding late_from
   from-none e = ap (late_from sender d l g) e
 
@@ -92,10 +91,10 @@ module _ (sender : ℕ) (d : Delivery) (l : Links) (g : Grafts) where
   from-other q = by g.first
     where
       by : (o : Option Hop) → duplicate ≡ late_from sender d l g o
-      by none = refl
-      by (some f) = rw q refl
+      by None = refl
+      by (Some f) = rw q refl
 
-  module _ (f : Hop) (e : some f ≡ g.first) (q : has sender g.peers ≡ true) where
+  module _ (f : Hop) (e : Some f ≡ g.first) (q : has sender g.peers ≡ true) where
     abbrev again : Bool
     again = eqb f.peer sender || same_as sender g.kept
 
@@ -136,7 +135,7 @@ not-among f p (e ∷ m) a n =
 
 -- what a copy is, by what is found for its identifier
 module _ (now : ℕ) (c : LateCopy) (s : State) where
-  pub kind-none : get (id_of c.id) (settled now s).grafted ≡ none → duplicate ≡ copy_kind c (settled now s)
+  pub kind-none : get (id_of c.id) (settled now s).grafted ≡ None → duplicate ≡ copy_kind c (settled now s)
   unfolding late_kind
   kind-none e = sym (ap (late_kind c.sender (delivery_value c.delivery) (settled now s).links) e)
 
@@ -158,11 +157,11 @@ module _ (now : ℕ) (c : LateCopy) (s : State) where
 
 -- the first send to the event's peer
 module _ (call : Call) (s : State) (up : ascending (keys s.links) ≡ true) where
-  pub taken-link : (p l : ℕ) → LinkAt s p l → leb 1 (get_or call.rooms.numbers.now l 0) ≡ kth_taken 1 p (rooms_of call s)
-  taken-link p l a = sym (kth-link s call.rooms.numbers.now 1 l up a.below (omega arith)) ∙ ap (λ (n : ℕ). kth_taken 1 n (rooms_of call s)) a.peer
+  pub taken-link : (p l : ℕ) → LinkAt s p l → leb 1 (get_or call.rooms.now.links l 0) ≡ kth_taken 1 p (rooms_of call s)
+  taken-link p l a = sym (kth-link s call.peer call.rooms.now 1 l up a.below (omega arith)) ∙ ap (λ (n : ℕ). kth_taken 1 n (rooms_of call s)) a.peer
 
-  pub taken-stranger : (p : ℕ) → is_neighbour p s.links ≡ false → p ≡ event_peer call → leb 1 (get_or call.rooms.numbers.now 32 0) ≡ kth_taken 1 p (rooms_of call s)
-  taken-stranger p n e = sym (kth-stranger s call.rooms.numbers.now 1 p n e (omega arith))
+  pub taken-stranger : (p : ℕ) → is_neighbour p s.links ≡ false → p ≡ call.peer → leb 1 call.rooms.now.stranger ≡ kth_taken 1 p (rooms_of call s)
+  taken-stranger p n e = rw e (sym (kth-stranger s call.peer call.rooms.now 1 (rw e at n) (omega arith)))
 
 -- the bytes of a Prune, or of none
 module _ (call : Call) (c : LateCopy) (s : State) where
@@ -214,5 +213,5 @@ module _ (c : LateCopy) (s : State) where
     where
       kept : kept_at i c.sender s ≡ with_kept (id_of c.id) c.sender (get (id_of c.id) s.grafted) s
       kept =
-          ap (λ (n : ℕ). with_grafted (replace n (record { first = (grafts_at s i).first; kept = some c.sender; peers = (grafts_at s i).peers }) s.grafted) s) held.key
+          ap (λ (n : ℕ). with_grafted (replace n (record { first = (grafts_at s i).first; kept = Some c.sender; peers = (grafts_at s i).peers }) s.grafted) s) held.key
           ∙ ap (λ (o : Option Grafts). with_kept (id_of c.id) c.sender o s) (sym held.value)

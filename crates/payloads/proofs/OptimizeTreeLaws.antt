@@ -3,8 +3,7 @@
 use Rattle.std.proofs.Common.{◌≡◌, ℕ, suc, ◌+◌, ◌-◌, ◌≤◌, ◌<◌, length, get_or, refl, sym, ap, ◌∙◌, arith, Bool, true, false, not, ◌&&◌, List, [], ◌∷◌, ◌++◌, map, drop, add-one, drop-cons}
 use Rattle.std.proofs.lemmas.List.{drop_all}
 use mathlib.Core.List.{append-nil}
-use Rattle.std.proofs.Math.Option.{Option, none, some}
-use Rattle.std.specs.Prelude.{leb, ltb, eqb, if◌then◌else◌}
+use Rattle.std.specs.Prelude.{leb, ltb, eqb, if◌then◌else◌, Option, Some, None}
 use borrow.Author.Tests.{lt-ltb, le-ltb, le-leb, lt-leb, eq-eqb, ne_eqb, eqb-true, eqb-false}
 use lib.ListN.{length-map, get_or-map}
 use Rattle.storage.specs.Lists.Base.{is_empty, once, ascending, concat_map}
@@ -54,13 +53,13 @@ unless_eager p l = if eager_in p l then l else add_eager p l
 
 -- the links are optimised by the announcer that was found
 unfoldable pub by_best : ℕ → Option Hop → State → State
-by_best sender none s = s
-by_best sender (some b) s = linked (optimised_links sender b) s
+by_best sender None s = s
+by_best sender (Some b) s = linked (optimised_links sender b) s
 
 -- the actions by the announcer that was found
 unfoldable pub actions_by : List Room → ℕ → Option Hop → State → List Action
-actions_by rooms sender none s = []
-actions_by rooms sender (some b) s = best_actions rooms sender b s
+actions_by rooms sender None s = []
+actions_by rooms sender (Some b) s = best_actions rooms sender b s
 
 -- the least announcer, if it is far closer
 module _ (s : State) (t round : ℕ) (ks hs : List Hop) (k : LinkHop) (same : ks ≡ hs) (there : 0 < length hs) (least : HopOf s (least_of hs) k) where
@@ -76,17 +75,17 @@ module _ (s : State) (t round : ℕ) (ks hs : List Hop) (k : LinkHop) (same : ks
   unfolding far_closer
   nearest-far l m = record { below = least.below; same = found ∙ (λ j. only_if (lt-ltb k.round.0 round l j && le-leb t (round - k.round.0) m j) (hop_of s k)) }
 
-  pub nearest-not : round ≤ k.round.0 → nearest t round ks ≡ none
+  pub nearest-not : round ≤ k.round.0 → nearest t round ks ≡ None
   unfolding far_closer
   nearest-not l = found ∙ ap (λ (b : Bool). only_if (b && leb t (round - k.round.0)) (hop_of s k)) (le-ltb k.round.0 round l)
 
-  pub nearest-few : round - k.round.0 < t → nearest t round ks ≡ none
+  pub nearest-few : round - k.round.0 < t → nearest t round ks ≡ None
   unfolding far_closer
   nearest-few l =
       found ∙ ap (λ (b : Bool). only_if (ltb k.round.0 round && b) (hop_of s k)) (lt-leb t (round - k.round.0) l)
       ∙ cases (ltb k.round.0 round) (λ e. rw e refl) (λ e. rw e refl)
 
-pub nearest-none : (t round : ℕ) (ks : List Hop) → ks ≡ [] → nearest t round ks ≡ none
+pub nearest-none : (t round : ℕ) (ks : List Hop) → ks ≡ [] → nearest t round ks ≡ None
 unfolding nearest
 nearest-none t round ks e = ap (nearest t round) e
 
@@ -107,13 +106,13 @@ module _ (now id p round : ℕ) (s : State) where
   pub shortcut-yes : wanted id p round (settled now s) ≡ true → shortcut id p round (settled now s) ≡ nearest s.settings.optimization_threshold (round + 1) (announcers id s)
   unfolding shortcut announcers
   shortcut-yes w =
-      ap (λ (b : Bool). if b then nearest (settled now s).settings.optimization_threshold (suc round) (announcers id (settled now s)) else none) w
+      ap (λ (b : Bool). if b then nearest (settled now s).settings.optimization_threshold (suc round) (announcers id (settled now s)) else None) w
       ∙ settled-as now s (λ (u : State). nearest u.settings.optimization_threshold (suc round) (announcers id u)) refl
       ∙ ap (λ (n : ℕ). nearest s.settings.optimization_threshold n (announcers id s)) (sym (add-one round))
 
-  pub shortcut-no : wanted id p round (settled now s) ≡ false → shortcut id p round (settled now s) ≡ none
+  pub shortcut-no : wanted id p round (settled now s) ≡ false → shortcut id p round (settled now s) ≡ None
   unfolding shortcut
-  shortcut-no w = ap (λ (b : Bool). if b then nearest (settled now s).settings.optimization_threshold (suc round) (announcers id (settled now s)) else none) w
+  shortcut-no w = ap (λ (b : Bool). if b then nearest (settled now s).settings.optimization_threshold (suc round) (announcers id (settled now s)) else None) w
 
 -- the actions by what was found
 module _ (rooms : List Room) (id p round : ℕ) (s : State) where
@@ -121,13 +120,13 @@ module _ (rooms : List Room) (id p round : ℕ) (s : State) where
   unfolding optimise_actions nearest actions_by best_actions
   nearest-actions round [] = refl
   nearest-actions round (x ∷ hs) =
-      sym (if-on (λ (o : Option Hop). actions_by rooms p o s) (far_closer s.settings.optimization_threshold round (least_from x hs).round) (some (least_from x hs)) none)
+      sym (if-on (λ (o : Option Hop). actions_by rooms p o s) (far_closer s.settings.optimization_threshold round (least_from x hs).round) (Some (least_from x hs)) None)
 
   pub by-actions : optimise_on rooms id p round s ≡ actions_by rooms p (shortcut id p round s) s
   unfolding optimise_on shortcut actions_by
   by-actions =
       if-both (wanted id p round s) (nearest-actions (suc round) (announcers id s)) refl
-      ∙ sym (if-on (λ (o : Option Hop). actions_by rooms p o s) (wanted id p round s) (nearest s.settings.optimization_threshold (suc round) (announcers id s)) none)
+      ∙ sym (if-on (λ (o : Option Hop). actions_by rooms p o s) (wanted id p round s) (nearest s.settings.optimization_threshold (suc round) (announcers id s)) None)
 
 module _ (call : Call) (a : Arrival) (s : State) where
   abbrev t : State
@@ -142,7 +141,7 @@ module _ (call : Call) (a : Arrival) (s : State) where
       ∙ ap (λ (o : Option Hop). concat_map action_bytes (actions_by (rooms_of call t) a.sender o t)) (sym n.same)
       ∙ ap (concat_map action_bytes) (sym (by-actions (rooms_of call t) (id_of a.id) a.sender a.round.0 t))
 
-  pub bytes-none : shortcut (id_of a.id) a.sender a.round.0 t ≡ none → optimize_bytes call a t ≡ []
+  pub bytes-none : shortcut (id_of a.id) a.sender a.round.0 t ≡ None → optimize_bytes call a t ≡ []
   unfolding actions_by concat_map
   bytes-none e =
       ap (concat_map action_bytes) (by-actions (rooms_of call t) (id_of a.id) a.sender a.round.0 t)
@@ -199,15 +198,15 @@ module _ (call : Call) (c : Shortcut) (s : State) (up : ascending (keys s.links)
   R = rooms_of call s
 
   abbrev room : ℕ → ℕ
-  room i = get_or call.rooms.numbers.now i 0
+  room i = get_or call.rooms.now.links i 0
 
   first : (i : ℕ) → i < length s.links → kth_taken 1 (peer_at s i) R ≡ leb 1 (room i)
-  first i l = kth-link s call.rooms.numbers.now 1 i up l (omega arith)
+  first i l = kth-link s call.peer call.rooms.now 1 i up l (omega arith)
 
   bytes-eager : is_eager (link_at s c.announcer.link).value ≡ true → shortcut_bytes call c s ≡ send_head p (leb 1 (room c.sender)) ++ message_bytes Prune
   unfolding best_actions first_send concat_map
   bytes-eager e =
-      ap (λ (b : Bool). concat_map action_bytes (if b then first_send R Prune p ∷ [] else first_send R (Graft none c.announcer.round.0) q ∷ Sent p (kth_taken (if eqb p q then 2 else 1) p R) Prune ∷ [])) (is-eager c s up lp lq ∙ e)
+      ap (λ (b : Bool). concat_map action_bytes (if b then first_send R Prune p ∷ [] else first_send R (Graft None c.announcer.round.0) q ∷ Sent p (kth_taken (if eqb p q then 2 else 1) p R) Prune ∷ [])) (is-eager c s up lp lq ∙ e)
       ∙ append-nil (action_bytes (Sent p (kth_taken 1 p R) Prune))
       ∙ sent_head p (kth_taken 1 p R) Prune
       ∙ ap (λ (b : Bool). send_head p b ++ message_bytes Prune) (first c.sender lp)
@@ -219,17 +218,17 @@ module _ (call : Call) (c : Shortcut) (s : State) (up : ascending (keys s.links)
       (λ e. ne_eqb p q (keys-apart (keys s.links) c.sender c.announcer.link (up_of (keys s.links) up) (omega (arith, lp, length-map s.links (λ e. e.key))) (omega (arith, lq, length-map s.links (λ e. e.key))) (eqb-false c.sender c.announcer.link e)) ∙ sym e)
 
   kth : (b : Bool) → kth_taken (if b then 2 else 1) p R ≡ leb (if b then 2 else 1) (room c.sender)
-  kth true = kth-link s call.rooms.numbers.now 2 c.sender up lp (omega arith)
+  kth true = kth-link s call.peer call.rooms.now 2 c.sender up lp (omega arith)
   kth false = first c.sender lp
 
   bytes-lazy : is_eager (link_at s c.announcer.link).value ≡ false
-      → shortcut_bytes call c s ≡ (send_head q (leb 1 (room c.announcer.link)) ++ message_bytes (Graft none c.announcer.round.0)) ++ (send_head p (leb (if eqb c.sender c.announcer.link then 2 else 1) (room c.sender)) ++ message_bytes Prune)
+      → shortcut_bytes call c s ≡ (send_head q (leb 1 (room c.announcer.link)) ++ message_bytes (Graft None c.announcer.round.0)) ++ (send_head p (leb (if eqb c.sender c.announcer.link then 2 else 1) (room c.sender)) ++ message_bytes Prune)
   unfolding best_actions first_send concat_map
   bytes-lazy e =
-      ap (λ (b : Bool). concat_map action_bytes (if b then first_send R Prune p ∷ [] else first_send R (Graft none c.announcer.round.0) q ∷ Sent p (kth_taken (if eqb p q then 2 else 1) p R) Prune ∷ [])) (is-eager c s up lp lq ∙ e)
-      ∙ ap (λ (l : List ℕ). action_bytes (Sent q (kth_taken 1 q R) (Graft none c.announcer.round.0)) ++ l) (append-nil (action_bytes (Sent p (kth_taken (if eqb p q then 2 else 1) p R) Prune)))
-      ∙ (λ j. sent_head q (kth_taken 1 q R) (Graft none c.announcer.round.0) j ++ sent_head p (kth_taken (if eqb p q then 2 else 1) p R) Prune j)
-      ∙ (λ j. (send_head q (first c.announcer.link lq j) ++ message_bytes (Graft none c.announcer.round.0)) ++ (send_head p (second j) ++ message_bytes Prune))
+      ap (λ (b : Bool). concat_map action_bytes (if b then first_send R Prune p ∷ [] else first_send R (Graft None c.announcer.round.0) q ∷ Sent p (kth_taken (if eqb p q then 2 else 1) p R) Prune ∷ [])) (is-eager c s up lp lq ∙ e)
+      ∙ ap (λ (l : List ℕ). action_bytes (Sent q (kth_taken 1 q R) (Graft None c.announcer.round.0)) ++ l) (append-nil (action_bytes (Sent p (kth_taken (if eqb p q then 2 else 1) p R) Prune)))
+      ∙ (λ j. sent_head q (kth_taken 1 q R) (Graft None c.announcer.round.0) j ++ sent_head p (kth_taken (if eqb p q then 2 else 1) p R) Prune j)
+      ∙ (λ j. (send_head q (first c.announcer.link lq j) ++ message_bytes (Graft None c.announcer.round.0)) ++ (send_head p (second j) ++ message_bytes Prune))
     where
       second : kth_taken (if eqb p q then 2 else 1) p R ≡ leb (if eqb c.sender c.announcer.link then 2 else 1) (room c.sender)
       second = kth (eqb p q) ∙ ap (λ (b : Bool). leb (if b then 2 else 1) (room c.sender)) same-test
@@ -242,10 +241,10 @@ module _ (call : Call) (c : Shortcut) (s : State) (up : ascending (keys s.links)
         ∙ sym (λ j. send_head ((ap (λ (x : Link). x.peer) ea ∙ link-peer s c.sender) j) (f j) ++ message_bytes Prune)
 
     pub sent-lazy : b.eager ≡ false → (t u : Bool) → t ≡ leb 1 (room c.announcer.link) → u ≡ leb (if eqb c.sender c.announcer.link then 2 else 1) (room c.sender)
-        → shortcut_bytes call c s ≡ (send_head b.peer t ++ message_bytes (Graft none c.announcer.round.0)) ++ (send_head a.peer u ++ message_bytes Prune)
+        → shortcut_bytes call c s ≡ (send_head b.peer t ++ message_bytes (Graft None c.announcer.round.0)) ++ (send_head a.peer u ++ message_bytes Prune)
     sent-lazy e t u f g =
         bytes-lazy (ap (λ (x : Link). x.eager) (sym eb) ∙ e)
-        ∙ sym (λ j. (send_head ((ap (λ (x : Link). x.peer) eb ∙ link-peer s c.announcer.link) j) (f j) ++ message_bytes (Graft none c.announcer.round.0))
+        ∙ sym (λ j. (send_head ((ap (λ (x : Link). x.peer) eb ∙ link-peer s c.announcer.link) j) (f j) ++ message_bytes (Graft None c.announcer.round.0))
         ++ (send_head ((ap (λ (x : Link). x.peer) ea ∙ link-peer s c.sender) j) (g j) ++ message_bytes Prune))
 
 -- the state by what was found
@@ -254,19 +253,19 @@ module _ (id p round : ℕ) (s : State) where
   unfolding optimised_state nearest by_best
   nearest-state round [] s = refl
   nearest-state round (x ∷ hs) s =
-      sym (if-on (λ (o : Option Hop). by_best p o s) (far_closer s.settings.optimization_threshold round (least_from x hs).round) (some (least_from x hs)) none)
+      sym (if-on (λ (o : Option Hop). by_best p o s) (far_closer s.settings.optimization_threshold round (least_from x hs).round) (Some (least_from x hs)) None)
 
   by-state : optimised_on id p round s ≡ by_best p (shortcut id p round s) s
   unfolding optimised_on shortcut by_best
   by-state =
       if-both (wanted id p round s) (nearest-state (suc round) (announcers id s) s) refl
-      ∙ sym (if-on (λ (o : Option Hop). by_best p o s) (wanted id p round s) (nearest s.settings.optimization_threshold (suc round) (announcers id s)) none)
+      ∙ sym (if-on (λ (o : Option Hop). by_best p o s) (wanted id p round s) (nearest s.settings.optimization_threshold (suc round) (announcers id s)) None)
 
   pub state-some : (c : Shortcut) → LinkAt s p c.sender → NearestAt s (shortcut id p round s) c.announcer → after_shortcut c s ≡ optimised_on id p round s
   unfolding by_best
   state-some c l n = ap (λ (q : ℕ). linked (optimised_links q (hop_of s c.announcer)) s) l.peer ∙ ap (λ (o : Option Hop). by_best p o s) (sym n.same) ∙ sym by-state
 
-  pub state-none : shortcut id p round s ≡ none → s ≡ optimised_on id p round s
+  pub state-none : shortcut id p round s ≡ None → s ≡ optimised_on id p round s
   unfolding by_best
   state-none e = ap (λ (o : Option Hop). by_best p o s) (sym e) ∙ sym by-state
 
@@ -276,8 +275,8 @@ module _ (id p round : ℕ) (s : State) where
   optimised-only f e = ap f by-state ∙ by (shortcut id p round s)
     where
       by : (o : Option Hop) → f (by_best p o s) ≡ f s
-      by none = refl
-      by (some b) = e (optimised_links p b s.links)
+      by None = refl
+      by (Some b) = e (optimised_links p b s.links)
 
   -- what is dropped does not depend on the links
   forgot-then : (hs : List Hop) → forgotten_state id (optimised_state p (suc round) hs s) ≡ optimised_state p (suc round) hs (forgotten_state id s)

@@ -25,6 +25,8 @@ use Rattle.steps.specs.declared.view.Link.{Link}
 use Rattle.steps.proofs.AtRestLaws.{settled-as, same_links, same_dropped}
 use Rattle.steps.proofs.LazyPushLaws.{lazy-more-queued}
 use Rattle.steps.proofs.SettledLaws.FewLaws.{few-then}
+use Rattle.steps.specs.Calls.{rooms_of}
+use Rattle.steps.specs.declared.call.Call.{Call}
 
 -- question 13, but for the queue and the record
 abbrev others : State → Bool
@@ -51,12 +53,12 @@ unfolding state_of
 own-number h xs = refl
 
 -- a first event changes nothing that noting reads, but for the grafted messages
-pub settled-record : (held : ℕ → Bool) (array : List ℕ) (id round sender : ℕ) (skip : List ℕ) (now : ℕ) (s : State)
-    → add_batches held (batches_for (record { id = id; round = round }) (back_peers (rooms_in (settled now s) array) (eager_targets sender skip (settled now s)))) (settled now s).dropped
-    ≡ add_batches held (batches_for (record { id = id; round = round }) (back_peers (rooms_in s array) (eager_targets sender skip s))) s.dropped
+pub settled-record : (held : ℕ → Bool) (call : Call) (id round sender : ℕ) (skip : List ℕ) (now : ℕ) (s : State)
+    → add_batches held (batches_for (record { id = id; round = round }) (back_peers (rooms_of call (settled now s)) (eager_targets sender skip (settled now s)))) (settled now s).dropped
+    ≡ add_batches held (batches_for (record { id = id; round = round }) (back_peers (rooms_of call s) (eager_targets sender skip s))) s.dropped
 unfolding rooms_in eager_targets
-settled-record held array id round sender skip now s =
-    settled-as now s (λ (t : State). add_batches held (batches_for (record { id = id; round = round }) (back_peers (rooms_in t array) (eager_targets sender skip t))) t.dropped) refl
+settled-record held call id round sender skip now s =
+    settled-as now s (λ (t : State). add_batches held (batches_for (record { id = id; round = round }) (back_peers (rooms_of call t) (eager_targets sender skip t))) t.dropped) refl
 
 -- the numbers with other numbers of queued and recorded entries
 abbrev pub pushed_numbers : CodeSizes → ℕ → ℕ → CodeSizes

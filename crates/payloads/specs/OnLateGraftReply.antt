@@ -1,7 +1,6 @@
 -- A copy of a message received before.
 -- Assumes nothing.
-use Rattle.std.specs.Prelude.{ℕ, ◌<◌, ◌≡◌, List, length}
-use Rattle.std.proofs.Math.Option as math
+use Rattle.std.specs.Prelude.{ℕ, ◌<◌, ◌≡◌, List, length, Option}
 use Rattle.storage.specs.Lists.Base.{concat_map}
 use Rattle.storage.specs.Rows.Ident.{id_of}
 use Rattle.time_cache.specs.TimeCache.{get}
@@ -34,13 +33,13 @@ abbrev pub late_bytes : Call → LateCopy → State → List ℕ
 late_bytes call c s = concat_map action_bytes (late_actions (rooms_of call s) c.sender (copy_kind c s))
 
 -- a faster copy: the number of the grafted message that was found for the identifier, and of the first sender's link
-pub record FasterAt (s : State) (id : ℕ) (found : math.Option Grafts) (kind : LateKind) (entry first : ℕ) : Type 0 where
+pub record FasterAt (s : State) (id : ℕ) (found : Option Grafts) (kind : LateKind) (entry first : ℕ) : Type 0 where
   pub held : HeldAt no_grafts s.grafted.entries id found entry
   pub below : first < length s.links
   pub same : faster (peer_at s first) ≡ kind
 
 -- what the test for it answers
-abbrev pub LateIs : State → ℕ → math.Option Grafts → LateKind → Late → Type 0
+abbrev pub LateIs : State → ℕ → Option Grafts → LateKind → Late → Type 0
 LateIs s id found kind Duplicate = duplicate ≡ kind
 LateIs s id found kind Repeated = repeated ≡ kind
 LateIs s id found kind (Faster entry first) = FasterAt s id found kind entry first

@@ -1,7 +1,6 @@
 -- What the tree is optimised by after a new Swarm message, and what follows.
 -- Assumes nothing.
 use Rattle.std.specs.Prelude.{ℕ, suc, ◌<◌, ◌≡◌, Bool, not, ◌&&◌, List, [], ◌∷◌, eqb, length, Option, Some, None, if◌then◌else◌}
-use Rattle.std.proofs.Math.Option as math
 use Rattle.storage.specs.Lists.Base.{concat_map}
 use Rattle.storage.specs.Rows.Ident.{id_of}
 use Rattle.postcard.specs.Message.{Prune, Graft, Action, Sent, action_bytes}
@@ -28,38 +27,38 @@ least_of [] = hop 0 0
 least_of (h ∷ hs) = least_from h hs
 
 -- the least of these announcers, if it is far closer
-unfoldable pub nearest : ℕ → ℕ → List Hop → math.Option Hop
-nearest threshold round [] = math.none
+unfoldable pub nearest : ℕ → ℕ → List Hop → Option Hop
+nearest threshold round [] = None
 nearest threshold round (h ∷ hs) = only_if (far_closer threshold round (least_from h hs).round) (least_from h hs)
 
 -- the announcer that was found, by the number of its link
-pub record NearestAt (s : State) (found : math.Option Hop) (k : LinkHop) : Type 0 where
+pub record NearestAt (s : State) (found : Option Hop) (k : LinkHop) : Type 0 where
   pub below : k.link < length s.links
-  pub same : found ≡ math.some (hop_of s k)
+  pub same : found ≡ Some (hop_of s k)
 
 -- the same, if there is one
-abbrev pub NearestOf : State → math.Option Hop → Option LinkHop → Type 0
+abbrev pub NearestOf : State → Option Hop → Option LinkHop → Type 0
 NearestOf s found (Some k) = NearestAt s found k
-NearestOf s found None = found ≡ math.none
+NearestOf s found None = found ≡ None
 
 -- "optimise as `on_gossip` says": for a neighbour sender, and no graft out
 abbrev pub wanted : ℕ → ℕ → ℕ → State → Bool
 wanted id sender round s = is_neighbour sender s.links && not (graft_out sender round (grafted_for id s))
 
 -- the announcer that the tree is optimised by, if it is
-unfoldable pub shortcut : ℕ → ℕ → ℕ → State → math.Option Hop
-shortcut id sender round s = if wanted id sender round s then nearest s.settings.optimization_threshold (suc round) (announcers id s) else math.none
+unfoldable pub shortcut : ℕ → ℕ → ℕ → State → Option Hop
+shortcut id sender round s = if wanted id sender round s then nearest s.settings.optimization_threshold (suc round) (announcers id s) else None
 
 -- the same with the sender, by the numbers of their links
-abbrev pub ShortcutOf : State → ℕ → math.Option Hop → Option Shortcut → Type 0
+abbrev pub ShortcutOf : State → ℕ → Option Hop → Option Shortcut → Type 0
 ShortcutOf s sender found (Some c) = LinkAt s sender c.sender × NearestAt s found c.announcer
-ShortcutOf s sender found None = found ≡ math.none
+ShortcutOf s sender found None = found ≡ None
 
 -- "Graft without identifier unless eager, then sender lazy, Prune", by this announcer
 unfoldable pub best_actions : List Room → ℕ → Hop → State → List Action
 best_actions rooms sender b s =
     if eager_in b.peer s.links then first_send rooms Prune sender ∷ []
-    else first_send rooms (Graft math.none b.round) b.peer ∷ Sent sender (kth_taken (if eqb sender b.peer then 2 else 1) sender rooms) Prune ∷ []
+    else first_send rooms (Graft None b.round) b.peer ∷ Sent sender (kth_taken (if eqb sender b.peer then 2 else 1) sender rooms) Prune ∷ []
 
 -- the actions by it
 abbrev pub shortcut_bytes : Call → Shortcut → State → List ℕ

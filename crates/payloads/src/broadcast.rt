@@ -3,7 +3,7 @@ ghost use Rattle.std.specs.Prelude.{◌≡◌, ◌≤◌};
 ghost use Rattle.postcard.specs.Values.{delivery_value};
 ghost use Rattle.decide.specs.Sizes.{sizes_of};
 ghost use Rattle.decide.specs.Settled.{settled};
-ghost use Rattle.wire.specs.Encode.Held.{after, RoomFor};
+ghost use Rattle.wire.specs.Encode.Intake.{after, RoomFor};
 ghost use Rattle.steps.specs.Views.{shown};
 ghost use Rattle.steps.specs.Shared.{sizes_value};
 ghost use Rattle.steps.specs.Panels.{state, Goes, AtRest, Allowed};
@@ -29,8 +29,8 @@ use wire::encode::sink::Sink;
 pub fn broadcast_actions<S: Sink>(view: &View, call: &Call, out: &mut S, message: &Gossip)
     requires rest { AtRest (shown view.now) }
     requires first { AtFirst (delivery_value message.now.delivery) }
-    requires room { RoomFor (broadcast_bytes call.now message.now (settled call.now.instant.0 (shown view.now))) (S.held out.old) }
-    ensures { S.held out.new ≡ after (broadcast_bytes call.now message.now (settled call.now.instant.0 (shown view.now))) (S.held out.old) }
+    requires room { RoomFor (broadcast_bytes call.now message.now (settled call.now.instant.0 (shown view.now))) (S.intake out.old) }
+    ensures { S.intake out.new ≡ after (broadcast_bytes call.now message.now (settled call.now.instant.0 (shown view.now))) (S.intake out.old) }
 {
     let push = Push {
         sender: view.head.settings.me,

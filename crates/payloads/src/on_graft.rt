@@ -3,7 +3,7 @@
 ghost use Rattle.std.specs.Prelude.{◌≡◌, ◌+◌, ◌≤◌, ◌<◌, length};
 ghost use Rattle.decide.specs.Sizes.{sizes_of};
 ghost use Rattle.decide.specs.Settled.{settled};
-ghost use Rattle.wire.specs.Encode.Held.{after, RoomFor};
+ghost use Rattle.wire.specs.Encode.Intake.{after, RoomFor};
 ghost use Rattle.steps.specs.Shared.{sizes_value};
 ghost use Rattle.steps.specs.Views.{shown};
 ghost use Rattle.steps.specs.Panels.{state, Goes, AtRest, Allowed};
@@ -59,8 +59,8 @@ pub fn graft_actions<'a, S: Sink>(
     wanted: Option<Id>,
 )
     requires rest { AtRest (shown view.now) × (link < length (shown view.now).links) }
-    requires room { RoomFor (graft_bytes call.now link wanted (settled call.now.instant.0 (shown view.now))) (S.held out.old) }
-    ensures { S.held out.new ≡ after (graft_bytes call.now link wanted (settled call.now.instant.0 (shown view.now))) (S.held out.old) }
+    requires room { RoomFor (graft_bytes call.now link wanted (settled call.now.instant.0 (shown view.now))) (S.intake out.old) }
+    ensures { S.intake out.new ≡ after (graft_bytes call.now link wanted (settled call.now.instant.0 (shown view.now))) (S.intake out.old) }
 {
     let Some(id) = wanted else {
         return;
@@ -84,7 +84,7 @@ pub fn graft_actions<'a, S: Sink>(
     schedule_announce_dropped(out, !taken, view.head.live.announce_dropped_scheduled);
 }
 
-// The step.
+// The step: the neighbour goes eager; the cached message that it asks for is noted if it is handed back.
 pub fn on_graft(panel: &mut Panel, call: &Call, link: usize, wanted: Option<Id>)
     requires { Allowed (after_graft call.now link wanted) (state panel.old) × (link < length (state panel.old).links) }
     ensures { Goes (after_graft call.now link wanted) panel.old panel.new }

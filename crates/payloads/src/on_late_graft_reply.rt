@@ -10,8 +10,8 @@ ghost use Rattle.protocol.specs.Gossips.{same_as, no_more_hops};
 ghost use Rattle.decide.specs.Settled.{settled};
 ghost use Rattle.decide.specs.Rooms.{kth_taken};
 ghost use Rattle.block.specs.Caches.GraftSteps.{grafts_at};
-ghost use Rattle.wire.specs.Encode.Held.{after, RoomFor};
-ghost use Rattle.steps.specs.Calls.{rooms_of, event_peer};
+ghost use Rattle.wire.specs.Encode.Intake.{after, RoomFor};
+ghost use Rattle.steps.specs.Calls.{rooms_of};
 ghost use Rattle.steps.specs.Found.{LinkIf};
 ghost use Rattle.steps.specs.Views.{shown};
 ghost use Rattle.steps.specs.Panels.{state, Goes, AtRest};
@@ -105,7 +105,7 @@ fn late_kind(view: &View, call: &Call, copy: LateCopy) -> Late
 
 // Whether the first send to the event's peer is taken, whether it has a link or not.
 fn takes_back(view: &View, call: &Call, peer: u64) -> bool
-    requires { AtRest (shown view.now) × (peer ≡ event_peer call.now) }
+    requires { AtRest (shown view.now) × (peer ≡ call.now.peer) }
     ensures { result ≡ kth_taken 1 peer (rooms_of call.now (shown view.now)) }
 {
     match view.find_link(peer) {
@@ -116,9 +116,9 @@ fn takes_back(view: &View, call: &Call, peer: u64) -> bool
 
 // Its actions: a Prune to the sender, or to the first sender, or none.
 pub fn late_actions<S: Sink>(view: &View, call: &Call, out: &mut S, copy: LateCopy)
-    requires rest { AtRest (shown view.now) × (copy.sender ≡ event_peer call.now) }
-    requires room { RoomFor (late_bytes call.now copy (settled call.now.instant.0 (shown view.now))) (S.held out.old) }
-    ensures { S.held out.new ≡ after (late_bytes call.now copy (settled call.now.instant.0 (shown view.now))) (S.held out.old) }
+    requires rest { AtRest (shown view.now) × (copy.sender ≡ call.now.peer) }
+    requires room { RoomFor (late_bytes call.now copy (settled call.now.instant.0 (shown view.now))) (S.intake out.old) }
+    ensures { S.intake out.new ≡ after (late_bytes call.now copy (settled call.now.instant.0 (shown view.now))) (S.intake out.old) }
 {
     match late_kind(view, call, copy) {
         Late::Duplicate => {

@@ -7,16 +7,17 @@ ghost use Rattle.protocol.specs.Gossips.{announcers};
 ghost use Rattle.decide.specs.Settled.{settled};
 ghost use Rattle.decide.specs.StateAfter.{closed_state};
 ghost use Rattle.block.specs.MissingSteps.{hops_at};
-ghost use Rattle.wire.specs.Encode.Held.{after, RoomFor};
+ghost use Rattle.wire.specs.Encode.Intake.{after, RoomFor};
 ghost use Rattle.steps.specs.Found.{LinkIf, HopOf};
 ghost use Rattle.steps.specs.Views.{shown};
 ghost use Rattle.steps.specs.Panels.{state, Goes, AtRest};
 ghost use Rattle.payloads.specs.OptimizeTree.{least_of, nearest, NearestOf, wanted, optimised_on, shortcut, ShortcutOf, shortcut_bytes, optimize_bytes, after_shortcut};
 
+use block::head::MAX_LINKS;
 use block::hops::Hop;
 use postcard::units::Round;
 use protocol::LAST_ROUND;
-use steps::call::{Call, ROOMS};
+use steps::call::Call;
 use steps::panel::Panel;
 use steps::view::View;
 use storage::rows::id::Id;
@@ -95,8 +96,8 @@ fn find_shortcut(view: &View, call: &Call, arrival: Arrival) -> Option<Shortcut>
 
 // Whether the Prune to the sender is taken: "the k-th send of a call to a peer is taken when k ≤ room", and it is the second if the Graft went there too.
 fn takes_prune(call: &Call, shortcut: Shortcut) -> bool
-    requires { shortcut.sender < ROOMS }
-    ensures { result ≡ leb (if eqb shortcut.sender shortcut.announcer.link then 2 else 1) (get_or call.now.rooms.numbers.now shortcut.sender 0) }
+    requires { shortcut.sender < MAX_LINKS }
+    ensures { result ≡ leb (if eqb shortcut.sender shortcut.announcer.link then 2 else 1) (get_or call.now.rooms.now.links shortcut.sender 0) }
 {
     if shortcut.sender == shortcut.announcer.link {
         call.rooms.takes_second(shortcut.sender)
@@ -108,8 +109,8 @@ fn takes_prune(call: &Call, shortcut: Shortcut) -> bool
 // "Graft without identifier unless eager, then sender lazy, Prune": the Graft and the Prune.
 fn shortcut_actions<S: Sink>(view: &View, call: &Call, out: &mut S, shortcut: Shortcut)
     requires rest { AtRest (shown view.now) × (shortcut.sender < length (shown view.now).links) × (shortcut.announcer.link < length (shown view.now).links) }
-    requires room { RoomFor (shortcut_bytes call.now shortcut (shown view.now)) (S.held out.old) }
-    ensures { S.held out.new ≡ after (shortcut_bytes call.now shortcut (shown view.now)) (S.held out.old) }
+    requires room { RoomFor (shortcut_bytes call.now shortcut (shown view.now)) (S.intake out.old) }
+    ensures { S.intake out.new ≡ after (shortcut_bytes call.now shortcut (shown view.now)) (S.intake out.old) }
 {
     let sender = view.link(shortcut.sender).peer;
     let announcer = view.link(shortcut.announcer.link);
@@ -142,8 +143,8 @@ fn shortcut_actions<S: Sink>(view: &View, call: &Call, out: &mut S, shortcut: Sh
 // Its actions: the announcer is grafted unless it is eager, and the sender is pruned.
 pub fn optimize_actions<S: Sink>(view: &View, call: &Call, out: &mut S, arrival: Arrival)
     requires rest { AtRest (shown view.now) × (arrival.round.0 < LAST_ROUND.0) }
-    requires room { RoomFor (optimize_bytes call.now arrival (settled call.now.instant.0 (shown view.now))) (S.held out.old) }
-    ensures { S.held out.new ≡ after (optimize_bytes call.now arrival (settled call.now.instant.0 (shown view.now))) (S.held out.old) }
+    requires room { RoomFor (optimize_bytes call.now arrival (settled call.now.instant.0 (shown view.now))) (S.intake out.old) }
+    ensures { S.intake out.new ≡ after (optimize_bytes call.now arrival (settled call.now.instant.0 (shown view.now))) (S.intake out.old) }
 {
     if let Some(shortcut) = find_shortcut(view, call, arrival) {
         shortcut_actions(view, call, out, shortcut);

@@ -1,8 +1,8 @@
 -- A list of calls leads to a block and counts: an empty one from a creation, one call more from an event call, the saved one from a return.
+use Rattle.std.specs.Prelude.{Some}
 use Prim.Native.Nat.{ℕ}
 use mathlib.Core.Path.{◌≡◌, sym, subst}
 use mathlib.Core.List.{List, [], ◌∷◌, ◌++◌}
-use mathlib.Core.Option.{some}
 use lib.ListN.{length, take}
 use Rattle.storage.specs.Lists.Map.{lookup}
 use Rattle.whole.specs.States.Kept.{Kept}
@@ -62,7 +62,7 @@ same-leads {h} {h'} {block} {block'} {counts} e b g = subst (λ (x : CallList). 
 
 -- an accepted return brings back what was saved under the name, and so the list up to the saving
 pub returned-leads : (block : List ℕ) (counts : Counts) (area : List ℕ) (name : ℕ) (block' : List ℕ) (counts' : Counts) (number long : ℕ) → Returns block counts area name block' counts' number long → number ≡ 0
-    → (h : CallList) → ((k : Kept) → lookup name (kept_in (length block) area) ≡ some k → LeadsTo h k.block k.counts) → LeadsTo h block' counts'
+    → (h : CallList) → ((k : Kept) → lookup name (kept_in (length block) area) ≡ Some k → LeadsTo h k.block k.counts) → LeadsTo h block' counts'
 returned-leads block counts area name block' counts' number long r e h f =
     let b = brought block counts area name block' counts' long (subst (λ (n : ℕ). Returns block counts area name block' counts' n long) e r) in
     subst (λ (x : Counts). LeadsTo h block' x) (sym b.counts-is) (subst (λ (x : List ℕ). LeadsTo h x b.it.counts) (sym b.block-is) (f b.it b.there))

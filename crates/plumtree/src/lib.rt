@@ -5,14 +5,13 @@ pub mod laws;
 mod peers;
 mod rooms;
 
-ghost use Rattle.std.specs.Prelude.{◌≡◌, length, take};
+ghost use Rattle.std.specs.Prelude.{◌≡◌, length, take, Some};
 ghost use Rattle.wire.specs.Rewrite.RewriteCalls.{Rewrites};
 ghost use Rattle.protocol.specs.Alike.{alike_blocks};
 ghost use Rattle.block.specs.View.{limits_of};
 ghost use Rattle.blake3.specs.Blake3.{identifier};
 ghost use Rattle.whole.specs.Held.{held};
 ghost use Rattle.machine.specs.Called.{counts_of, lent, call_of, Called};
-ghost use Rattle.std.proofs.Math.Option.{some};
 ghost use Rattle.storage.specs.Lists.Map.{lookup};
 ghost use Rattle.whole.specs.States.Kept.{Kept};
 ghost use Rattle.whole.specs.States.Area.{kept_in};
@@ -22,7 +21,7 @@ ghost use Rattle.plumtree.specs.Calls.{block_size, Made, entries, told_of};
 ghost use Rattle.plumtree.specs.CallList.{CallList, fresh_list, with_call, LeadsTo};
 
 use block::head::{Limits, Settings};
-use machine::event::Outcome;
+use machine::event::{EventCall, Outcome};
 use machine::{Stats, event, limit_met};
 use postcard::units::Millis;
 use whole::states::Returned;
@@ -58,8 +57,7 @@ pub struct Likeness {
 pub extern "C" fn plumtree_block_size(limits: Limits) -> usize
     ensures { result ≡ block_size (limits_of limits) }
 {
-    let range = create::limits_in_range(limits);
-    if !range {
+    if !create::limits_in_range(limits) {
         return 0;
     }
     create::block_need(limits)
@@ -71,15 +69,14 @@ pub fn create_core(block: &mut [u8], c: Stats, settings: Settings, limits: Limit
 {
     let number = create::create(block, settings, limits);
     if number == 0 {
-        let zero = Stats {
-            payload_messages_received: 0,
-            control_messages_received: 0,
-            max_last_delivery_hop: 0,
-        };
         return Outcome {
             number,
             length: 0,
-            stats: zero,
+            stats: Stats {
+                payload_messages_received: 0,
+                control_messages_received: 0,
+                max_last_delivery_hop: 0,
+            },
         };
     }
     Outcome {
@@ -100,8 +97,7 @@ pub extern "C" fn plumtree_create(
     ensures made { Made settings limits block.old (counts_of counts.old) block.new (counts_of counts.new) result.number result.length }
     ensures begins { result.number ≡ 0 → LeadsTo (fresh_list settings limits) block.new (counts_of counts.new) }
 {
-    let c = *counts;
-    let made = create_core(block, c, settings, limits);
+    let made = create_core(block, *counts, settings, limits);
     if made.number == 0 {
         *counts = made.stats;
     }
@@ -127,8 +123,12 @@ pub extern "C" fn plumtree_event(
         LeadsTo (with_call (call_of at.0 event.now (entries rooms.now) output.old) (record { number = result.number; bytes = take result.length output.new }) h) block.new (counts_of counts.new) }
 {
     let found = rooms::rooms_of(block, event, rooms);
-    let c = *counts;
-    let done = event::event_core(block, c, at, event, found, output);
+    let asked = EventCall {
+        instant: at,
+        event,
+        rooms: &found,
+    };
+    let done = event::event_core(block, *counts, asked, output);
     if done.number == 0 {
         *counts = done.stats;
     }
@@ -143,8 +143,7 @@ pub extern "C" fn plumtree_event(
 pub extern "C" fn plumtree_alike(a: &[u8], b: &[u8]) -> Likeness
     ensures { result ≡ told_of (alike_blocks (length a.now) (held a.now) (length b.now) (held b.now)) }
 {
-    let answer = alike::alike(a, b);
-    match answer {
+    match alike::alike(a, b) {
         alike::Answer::NotWhole => Likeness {
             number: 5,
             alike: false,
@@ -172,7 +171,12 @@ pub extern "C" fn plumtree_limit_met(
     ensures { result ≡ limit_met identifier (length block.now) (held block.now) (asking at.0 event.now (entries rooms.now)) }
 {
     let found = rooms::rooms_of(block, event, rooms);
-    limit_met::limit_met(block, at, event, found)
+    let asked = EventCall {
+        instant: at,
+        event,
+        rooms: &found,
+    };
+    limit_met::limit_met(block, asked)
 }
 
 // "The shortest form", "a writer that reads any message the reader takes and writes its shortest form into a lent buffer": questions 7, 8, 9 and 14. The message is lent alone, without an event's kind and peer.
@@ -207,25 +211,21 @@ pub extern "C" fn plumtree_save(block: &[u8], counts: Stats, area: &mut [u8], na
 pub fn return_core(block: &mut [u8], c: Stats, area: &[u8], name: u64) -> Outcome
     ensures { Returns block.old (counts_of c) area.now name block.new (counts_of result.stats) result.number result.length }
 {
-    let back = states::go_back(block, area, name);
-    match back {
+    match states::go_back(block, area, name) {
         Returned::Refused(number) => Outcome {
             number,
             length: 0,
             stats: c,
         },
-        Returned::Brought(kept) => {
-            let stats = Stats {
+        Returned::Brought(kept) => Outcome {
+            number: 0,
+            length: 0,
+            stats: Stats {
                 payload_messages_received: kept.payload,
                 control_messages_received: kept.control,
                 max_last_delivery_hop: kept.hops,
-            };
-            Outcome {
-                number: 0,
-                length: 0,
-                stats,
-            }
-        }
+            },
+        },
     }
 }
 
@@ -238,10 +238,9 @@ pub extern "C" fn plumtree_return(
     name: u64,
 ) -> Answer
     ensures returns { Returns block.old (counts_of counts.old) area.now name block.new (counts_of counts.new) result.number result.length }
-    ensures since_saved { result.number ≡ 0 → (h : CallList) → ((k : Kept) → lookup name (kept_in (length block.old) area.now) ≡ some k → LeadsTo h k.block k.counts) → LeadsTo h block.new (counts_of counts.new) }
+    ensures since_saved { result.number ≡ 0 → (h : CallList) → ((k : Kept) → lookup name (kept_in (length block.old) area.now) ≡ Some k → LeadsTo h k.block k.counts) → LeadsTo h block.new (counts_of counts.new) }
 {
-    let c = *counts;
-    let back = return_core(block, c, area, name);
+    let back = return_core(block, *counts, area, name);
     if back.number == 0 {
         *counts = back.stats;
     }

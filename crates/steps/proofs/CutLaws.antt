@@ -14,8 +14,7 @@ use Rattle.protocol.specs.State.{Limits, Note, with_dropped}
 use Rattle.block.specs.Layout.{tables, table}
 use Rattle.block.specs.View.{state_of, limits_of, note_of, notes_in, peers_in}
 use Rattle.storage.specs.Refs.Numbers.{pairs, numbered}
-use Rattle.block.specs.Fit.{Fit}
-use Rattle.block.specs.Sound.{Laid, Sound}
+use Rattle.block.specs.Sound.{Sound}
 use Rattle.block.specs.Goes.{Goes}
 use Rattle.block.specs.Heads.{with_dropped_count}
 use Rattle.block.specs.declared.head.Head.{Head}
@@ -44,38 +43,29 @@ module _ {A : Type 0} (f : ℕ → List ℕ → A) where
         (λ t. pairs f (sym (take-take k n c h) t) (sym (take-rows s k n b h) t)) ∙ pairs-take k (take n c) (rows s n b)
 
 module _ (h : Head) (xs : List ℕ) (sound : Sound h xs) where
-  abbrev l1 : Limits
-  l1 = limits_of h.limits
+  abbrev l : Limits
+  l = limits_of h.limits
 
-  abbrev fit : Fit h xs
-  fit = sound.fit
-
-  abbrev old : Laid h (tables l1 xs)
-  old = sound.laid
-
-  abbrev n : ℕ
-  n = h.live.dropped
-
-  numbers-long : length (table l1 13 xs) ≡ l1.D + 1
-  numbers-long = length-table l1 13 xs (lit< tt) fit.long
+  numbers-long : length (table l 13 xs) ≡ l.D + 1
+  numbers-long = length-table l 13 xs (lit< tt) sound.fit.long
 
   -- the first k entries
   pub cut-goes : (k : ℕ) → k ≤ h.live.dropped → Goes (λ s. with_dropped (take k s.dropped) s) h xs (with_dropped_count k h) xs
   unfolding state_of notes_in
   cut-goes k q = record {
-    state = ap (λ (ns : List Note). with_dropped ns (state_of h xs)) (numbered-take (note_of (peers_in h (tables l1 xs))) 34 n k (table l1 13 xs) (table l1 14 xs) q);
+    state = ap (λ (ns : List Note). with_dropped ns (state_of h xs)) (numbered-take (note_of (peers_in h (tables l xs))) 34 h.live.dropped k (table l 13 xs) (table l 14 xs) q);
     sound = record {
-      fit = record { ceilings = fit.ceilings; within = omega arith; long = fit.long };
+      fit = record { ceilings = sound.fit.ceilings; within = omega arith; long = sound.fit.long };
       laid = record {
-        received = old.received;
-        cached = old.cached;
-        grafted = old.grafted;
-        contents = old.contents;
-        used = old.used;
-        grafts = old.grafts;
-        missing = old.missing;
-        queue = old.queue;
-        dropped = below-take h.live.links k n (table l1 13 xs) q (omega (arith, numbers-long, fit.within.dropped)) old.dropped;
+        received = sound.laid.received;
+        cached = sound.laid.cached;
+        grafted = sound.laid.grafted;
+        contents = sound.laid.contents;
+        used = sound.laid.used;
+        grafts = sound.laid.grafts;
+        missing = sound.laid.missing;
+        queue = sound.laid.queue;
+        dropped = below-take h.live.links k h.live.dropped (table l 13 xs) q (omega (arith, numbers-long, sound.fit.within.dropped)) sound.laid.dropped;
       };
     };
   }

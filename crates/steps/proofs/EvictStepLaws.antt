@@ -16,7 +16,7 @@ use Rattle.block.specs.View.{state_of}
 use Rattle.block.specs.declared.head.Head.{Head}
 use Rattle.steps.specs.Panels.{AtRest}
 use Rattle.steps.proofs.ContentsLaws.StandsAfter.{Kept, kept-first}
-use Rattle.steps.proofs.SizesBeforeLaws.EvictLaws.{evict-again}
+use Rattle.steps.proofs.EvictAgainLaws.{evict-again}
 
 kept_at : {s : State} → AtRest s → Kept s
 kept_at r = record { consistent = r.consistent; ranged = r.ranged }

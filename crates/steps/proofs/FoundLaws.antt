@@ -1,12 +1,10 @@
 -- What a look-up in the links, the missing and the grafted messages answers.
 -- Assumes nothing.
 use Rattle.std.proofs.Common.{◌≡◌, ℕ, ◌<◌, length, refl, ap, arith, true, List, []}
-use Rattle.std.proofs.Math.Option as math
 use Rattle.std.specs.Result.{result_ok}
 use Rattle.std.specs.Option.{option_eq}
 use lib.Dec.{eqb}
 use Rattle.storage.proofs.ListsLaws.KeyLaws.{eqb-sym}
-use Rattle.steps.specs.Grafts.Firsts.{kept_value}
 use Rattle.std.specs.Prelude.{Result, Ok, Err, Option, Some, None}
 use lib.ListN.{length-map}
 use Rattle.storage.specs.Lists.Base.{ascending}
@@ -48,7 +46,7 @@ module _ (h : Head) (xs : List ℕ) (i : ℕ) where
 
 -- the peers that are grafted for an identifier
 module _ (t : State) (id : ℕ) where
-  pub peers-none : get id t.grafted ≡ math.none → grafted_for id t ≡ []
+  pub peers-none : get id t.grafted ≡ None → grafted_for id t ≡ []
   unfolding grafted_for peers_of
   peers-none e = ap peers_of e
 
@@ -57,7 +55,7 @@ module _ (t : State) (id : ℕ) where
   peers-some s i h = ap peers_of h.value
 
 -- whether a peer is the kept one
-pub kept-same : (o : Option ℕ) (p : ℕ) → option_eq eqb o (Some p) ≡ same_as p (kept_value o)
+pub kept-same : (o : Option ℕ) (p : ℕ) → option_eq eqb o (Some p) ≡ same_as p o
 unfolding same_as
 kept-same None p = refl
 kept-same (Some q) p = eqb-sym q p

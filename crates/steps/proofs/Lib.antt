@@ -1,11 +1,11 @@
 pub mod StandsLaws
 pub mod RoomsLaws
 pub mod SettledLaws
-pub mod SizesBeforeLaws
+pub mod EvictAgainLaws
 pub mod GraftsLaws
 pub mod ContentsLaws
 pub mod NeighboursLaws
-pub mod TicksLaws
+pub mod ActionLaws
 pub mod PanelLaws
 pub mod ViewLaws
 pub mod AtRestLaws

@@ -3,9 +3,8 @@
 use Rattle.std.proofs.Common.{◌≡◌, ℕ, ◌≤◌, ◌<◌, length, sym, ◌∙◌, ap, refl, Bool, true, false, not, ◌&&◌, ◌||◌, List, [], ◌∷◌, ◌++◌}
 use borrow.Author.Tests.{le-leb, lt-leb}
 use lib.Dec.{leb}
-use Rattle.std.specs.Prelude.{if◌then◌else◌}
-use Rattle.storage.specs.Lists.Base.{is_some, any, count}
-use Rattle.std.proofs.Math.Option.{Option, none, some}
+use Rattle.std.specs.Prelude.{if◌then◌else◌, Option, Some, None, is_some}
+use Rattle.storage.specs.Lists.Base.{any, count}
 use Rattle.storage.proofs.ListsLaws.MapLaws.{true≢}
 use Rattle.storage.specs.Lists.Map.{lookup}
 use Rattle.time_cache.specs.TimeCache.{Timed, Cache, get, holds, value_of}
@@ -38,13 +37,13 @@ module _ (p id : ℕ) (ds : List Note) where
   takes-all l = ap (λ (b : Bool). not (leb 256 (count (for_peer p) ds) || b) && not (any (notes p id) ds)) (le-leb 4096 (length ds) l) ∙ ap (λ (b : Bool). not b && not (any (notes p id) ds)) (or-true (leb 256 (count (for_peer p) ds)))
 
 -- what is found is there
-pub holds_found : {A : Type 0} (id : ℕ) (c : Cache A) (x : A) → get id c ≡ some x → holds id c ≡ true
+pub holds_found : {A : Type 0} (id : ℕ) (c : Cache A) (x : A) → get id c ≡ Some x → holds id c ≡ true
 unfolding get value_of
 holds_found {A} id c x e = on (lookup id c.entries) e
   where
-    on : (o : Option (Timed A)) → value_of o ≡ some x → is_some o ≡ true
-    on none e = true≢ (ap is_some e)
-    on (some t) e = refl
+    on : (o : Option (Timed A)) → value_of o ≡ Some x → is_some o ≡ true
+    on None e = true≢ (ap is_some e)
+    on (Some t) e = refl
 
 and-mid : (a b : Bool) → (a && true && b) ≡ (a && b)
 and-mid true b = refl

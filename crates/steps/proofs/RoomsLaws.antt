@@ -1,11 +1,11 @@
--- The link room of a peer, out of the array.
+-- The link room of a peer, out of the numbers that a call brings.
+use Rattle.std.specs.Prelude.{None}
 use Prim.Native.Nat.{ℕ, zero, suc, ◌≤◌, ◌<◌}
 use native.Mathlib.Nat.{not-suc-le-zero}
 use native.Mathlib.Omega.{arith}
 use mathlib.Core.Path.{◌≡◌, refl, sym, ap, ◌∙◌}
 use mathlib.Core.Bool.{true, false}
 use mathlib.Core.List.{List, [], ◌∷◌, ◌++◌}
-use mathlib.Core.Option.{none}
 use lib.Dec.{leb, ltb, eqb}
 use lib.ListN.{length, get_or, length-map}
 use borrow.Author.Tests.{ltb-true, ltb-false, eq-eqb, ne_eqb, le-leb}
@@ -18,12 +18,13 @@ use Rattle.protocol.specs.Run.{Room}
 use Rattle.block.specs.LinkSteps.{peer_at}
 use Rattle.decide.specs.Rooms.{kth_taken, first_room, room_for}
 use Rattle.decide.proofs.Decide.{kth-room}
+use Rattle.steps.specs.declared.call.Rooms.{Rooms}
 use Rattle.steps.specs.Rooms.{room_at, room_entry, room_entries, stranger_entry, rooms_in}
 
 -- links with the same peers stand for the same link room
-pub same-rooms-in : (s t : State) (array : List ℕ) → keys s.links ≡ keys t.links → rooms_in s array ≡ rooms_in t array
+pub same-rooms-in : (s t : State) (peer : ℕ) (rooms : Rooms) → keys s.links ≡ keys t.links → rooms_in s peer rooms ≡ rooms_in t peer rooms
 unfolding rooms_in
-same-rooms-in s t array e = rw e refl
+same-rooms-in s t peer rooms e = rw e refl
 
 -- a key is there where it is one of the keys
 pub has-member : {A : Type 0} (k : ℕ) (m : Map A) → has k m ≡ member k (keys m)
@@ -60,7 +61,7 @@ first-skip p (x ∷ xs) (n ∷ ns) more h =
     (λ e. cases (ltb n 65536) (λ q. rw q (rw e (first-skip p xs ns more (rw e at h)))) (λ q. rw q (first-skip p xs ns more (rw e at h))))
 
 -- of a peer with a link, the number beside it
-first_entry : (i : ℕ) (ps ns : List ℕ) (more : List Room) → ascending ps ≡ true → i < length ps → first_room (get_or ps i 0) more ≡ none
+first_entry : (i : ℕ) (ps ns : List ℕ) (more : List Room) → ascending ps ≡ true → i < length ps → first_room (get_or ps i 0) more ≡ None
     → first_room (get_or ps i 0) (room_entries ps ns ++ more) ≡ room_at (get_or ns i 0)
 unfolding first_room room_entries room_entry ascending room_at
 first_entry i [] ns more a h m = absurd (not-suc-le-zero h)
@@ -81,47 +82,43 @@ first_entry (suc i) (x ∷ xs) (n ∷ ns) more a h m =
     cases (ltb n 65536) (λ q. rw q (rw e r)) (λ q. rw q r)
 
 -- of a peer with a link, the entry of the event's peer says nothing
-first-stranger-other : (p : ℕ) (ps array : List ℕ) → member p ps ≡ true → first_room p (stranger_entry ps array) ≡ none
+first-stranger-other : (p : ℕ) (ps : List ℕ) (peer n : ℕ) → member p ps ≡ true → first_room p (stranger_entry ps peer n) ≡ None
 unfolding first_room stranger_entry room_entry
-first-stranger-other p ps array h =
-    cases (member (get_or array 33 0) ps) (λ q. rw q refl)
-    (λ q. rw q (cases (ltb (get_or array 32 0) 65536)
-    (λ r. rw r (rw (ne_eqb p (get_or array 33 0) (λ e. true≢ (sym q ∙ ap (λ (n : ℕ). member n ps) (sym e) ∙ h))) refl))
+first-stranger-other p ps peer n h =
+    cases (member peer ps) (λ q. rw q refl)
+    (λ q. rw q (cases (ltb n 65536)
+    (λ r. rw r (rw (ne_eqb p peer (λ e. true≢ (sym q ∙ ap (λ (x : ℕ). member x ps) (sym e) ∙ h))) refl))
     (λ r. rw r refl)))
 
-first-stranger-same : (ps array : List ℕ) → member (get_or array 33 0) ps ≡ false → first_room (get_or array 33 0) (stranger_entry ps array) ≡ room_at (get_or array 32 0)
+first-stranger-same : (ps : List ℕ) (peer n : ℕ) → member peer ps ≡ false → first_room peer (stranger_entry ps peer n) ≡ room_at n
 unfolding first_room stranger_entry room_entry room_at
-first-stranger-same ps array h =
-    rw h (cases (ltb (get_or array 32 0) 65536) (λ r. rw r (rw (eq-eqb (get_or array 33 0) (get_or array 33 0) refl) refl)) (λ r. rw r refl))
+first-stranger-same ps peer n h = rw h (cases (ltb n 65536) (λ r. rw r (rw (eq-eqb peer peer refl) refl)) (λ r. rw r refl))
 
--- a number of the array as a bound for the k-th send
+-- a number as a bound for the k-th send
 room-for : (k n : ℕ) → k ≤ 65536 → room_for k (room_at n) ≡ leb k n
 unfolding room_for room_at
 room-for k n h = cases (ltb n 65536) (λ q. rw q refl) (λ q. rw q (sym (le-leb k n (omega (arith, ltb-false n 65536 q)))))
 
-module _ (s : State) (array : List ℕ) where
+module _ (s : State) (peer : ℕ) (rooms : Rooms) where
   -- the room of link i
-  pub first-link : (i : ℕ) → ascending (keys s.links) ≡ true → i < length s.links → first_room (peer_at s i) (rooms_in s array) ≡ room_at (get_or array i 0)
+  pub first-link : (i : ℕ) → ascending (keys s.links) ≡ true → i < length s.links → first_room (peer_at s i) (rooms_in s peer rooms) ≡ room_at (get_or rooms.links i 0)
   unfolding rooms_in
   first-link i a h =
       let b : i < length (keys s.links) = omega (arith, length-map s.links (λ e. e.key)) in
-      first_entry i (keys s.links) array (stranger_entry (keys s.links) array) a b
-      (first-stranger-other (peer_at s i) (keys s.links) array (member-at i (keys s.links) b))
+      first_entry i (keys s.links) rooms.links (stranger_entry (keys s.links) peer rooms.stranger) a b
+      (first-stranger-other (peer_at s i) (keys s.links) peer rooms.stranger (member-at i (keys s.links) b))
 
   -- "the k-th send of a call to a peer is taken when k ≤ room", of link i
-  pub kth-link : (k i : ℕ) → ascending (keys s.links) ≡ true → i < length s.links → k ≤ 65536 → kth_taken k (peer_at s i) (rooms_in s array) ≡ leb k (get_or array i 0)
-  kth-link k i a h f = kth-room k (peer_at s i) (rooms_in s array) ∙ ap (room_for k) (first-link i a h) ∙ room-for k (get_or array i 0) f
-
-  pub first-at : (i : ℕ) → ascending (keys s.links) ≡ true → i < length s.links → i < length array → first_room (peer_at s i) (rooms_in s array) ≡ room_at (get_or array i 0)
-  first-at i a h l = first-link i a h
+  pub kth-link : (k i : ℕ) → ascending (keys s.links) ≡ true → i < length s.links → k ≤ 65536 → kth_taken k (peer_at s i) (rooms_in s peer rooms) ≡ leb k (get_or rooms.links i 0)
+  kth-link k i a h f = kth-room k (peer_at s i) (rooms_in s peer rooms) ∙ ap (room_for k) (first-link i a h) ∙ room-for k (get_or rooms.links i 0) f
 
   -- the room of the event's peer, where it has no link
-  pub first-stranger : (p : ℕ) → is_neighbour p s.links ≡ false → p ≡ get_or array 33 0 → first_room p (rooms_in s array) ≡ room_at (get_or array 32 0)
+  pub first-stranger : is_neighbour peer s.links ≡ false → first_room peer (rooms_in s peer rooms) ≡ room_at rooms.stranger
   unfolding rooms_in
-  first-stranger p n e =
-      let q : member p (keys s.links) ≡ false = sym (has-member p s.links) ∙ n in
-      first-skip p (keys s.links) array (stranger_entry (keys s.links) array) q
-      ∙ rw e (first-stranger-same (keys s.links) array (rw e at q))
+  first-stranger n =
+      let q : member peer (keys s.links) ≡ false = sym (has-member peer s.links) ∙ n in
+      first-skip peer (keys s.links) rooms.links (stranger_entry (keys s.links) peer rooms.stranger) q
+      ∙ first-stranger-same (keys s.links) peer rooms.stranger q
 
-  pub kth-stranger : (k p : ℕ) → is_neighbour p s.links ≡ false → p ≡ get_or array 33 0 → k ≤ 65536 → kth_taken k p (rooms_in s array) ≡ leb k (get_or array 32 0)
-  kth-stranger k p n e f = kth-room k p (rooms_in s array) ∙ ap (room_for k) (first-stranger p n e) ∙ room-for k (get_or array 32 0) f
+  pub kth-stranger : (k : ℕ) → is_neighbour peer s.links ≡ false → k ≤ 65536 → kth_taken k peer (rooms_in s peer rooms) ≡ leb k rooms.stranger
+  kth-stranger k n f = kth-room k peer (rooms_in s peer rooms) ∙ ap (room_for k) (first-stranger n) ∙ room-for k rooms.stranger f

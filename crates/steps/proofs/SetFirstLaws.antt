@@ -1,7 +1,7 @@
 -- `first` of a grafted message, where a first event's work is done.
 -- Assumes nothing.
+use Rattle.std.specs.Prelude.{Option, Some, None}
 use Rattle.std.proofs.Common.{◌≡◌, ℕ, sym, ap, ◌∙◌, true}
-use Rattle.std.proofs.Math.Option.{Option, none, some}
 use Rattle.time_cache.specs.TimeCache.{get, replace}
 use Rattle.protocol.specs.State.{State, Grafts, with_grafted}
 use Rattle.protocol.specs.Gossips.{with_first}
@@ -16,10 +16,10 @@ module _ (now sender id round : ℕ) (s : State) (init : s.init ≡ true) where
   pub first-some : (i : ℕ) → HeldAt no_grafts s.grafted.entries id (get id (settled now s).grafted) i → first_at i sender round s ≡ first_set_state id sender round s
   unfolding first_set_state with_first
   first-some i held =
-      let v : get id s.grafted ≡ some (grafts_at s i) = ap (λ (t : State). get id t.grafted) (sym (settled-still now s init)) ∙ held.value in
-      ap (λ (n : ℕ). with_grafted (replace n (record { first = some (record { peer = sender; round = round }); kept = (grafts_at s i).kept; peers = (grafts_at s i).peers }) s.grafted) s) held.key
+      let v : get id s.grafted ≡ Some (grafts_at s i) = ap (λ (t : State). get id t.grafted) (sym (settled-still now s init)) ∙ held.value in
+      ap (λ (n : ℕ). with_grafted (replace n (record { first = Some (record { peer = sender; round = round }); kept = (grafts_at s i).kept; peers = (grafts_at s i).peers }) s.grafted) s) held.key
       ∙ ap (λ (o : Option Grafts). with_first id (record { peer = sender; round = round }) o s) (sym v)
 
-  pub first-none : get id (settled now s).grafted ≡ none → s ≡ first_set_state id sender round s
+  pub first-none : get id (settled now s).grafted ≡ None → s ≡ first_set_state id sender round s
   unfolding first_set_state with_first
   first-none e = ap (λ (o : Option Grafts). with_first id (record { peer = sender; round = round }) o s) (sym (ap (λ (t : State). get id t.grafted) (sym (settled-still now s init)) ∙ e))

@@ -1,12 +1,12 @@
 -- A message taken in: the numbers of entries with it, and what it asks of a state that is within its limits after.
 -- Assumes nothing.
+use Rattle.std.specs.Prelude.{Option, Some, None, is_some}
 use Rattle.std.proofs.Common.{◌≡◌, ℕ, suc, ◌+◌, ◌-◌, ◌≤◌, ◌^◌, length, sym, ◌∙◌, ap, refl, arith, add-one, Bool, true, false, not, ◌&&◌, List, [], ◌∷◌}
-use Rattle.std.proofs.Math.Option.{Option, none, some}
 use Rattle.std.proofs.Math.Path.{subst}
 use lib.Dec.{leb, eqb}
 use borrow.Author.Tests.{leb-true}
 use mir.Val.{bool_byte}
-use Rattle.storage.specs.Lists.Base.{is_some, sum}
+use Rattle.storage.specs.Lists.Base.{sum}
 use Rattle.storage.specs.Lists.Map.{Map, lookup}
 use Rattle.storage.proofs.ListsLaws.MapLaws.{cases, and_left, and_right}
 use Rattle.storage.proofs.ListsLaws.Branches.{if-both}
@@ -41,16 +41,16 @@ module _ {A : Type 0} (k : ℕ) (c : Cache A) where
   holds-get = by (lookup k c.entries)
     where
       by : (o : Option (Timed A)) → is_some o ≡ is_some (value_of o)
-      by none = unfold value_of in refl
-      by (some x) = unfold value_of in refl
+      by None = unfold value_of in refl
+      by (Some x) = unfold value_of in refl
 
 -- the content that is found is among those that are held
-found-length : (k : ℕ) (v : Cached) (m : Map (Timed Cached)) → value_of (lookup k m) ≡ some v → length v.content ≤ sum (λ e. length e.value.value.content) m
+found-length : (k : ℕ) (v : Cached) (m : Map (Timed Cached)) → value_of (lookup k m) ≡ Some v → length v.content ≤ sum (λ e. length e.value.value.content) m
 unfolding lookup sum value_of
 found-length k v [] h = let z : ◌≡◌ {A = ℕ} 0 1 = cc in absurd (omega arith)
 found-length k v (e ∷ m) h =
     cases (eqb k e.key)
-    (λ q. let s : some e.value.value ≡ some v = rw q at h in
+    (λ q. let s : Some e.value.value ≡ Some v = rw q at h in
     let w : e.value.value ≡ v = cc in
     omega (arith, ap (λ (x : Cached). length x.content) w))
     (λ q. omega (arith, found-length k v m (rw q at h)))
@@ -130,7 +130,7 @@ module _ (now id : ℕ) (content : List ℕ) (round : ℕ) (s : State) (rest : A
   }
 
   -- a content that was cached goes
-  pub taken-over : (v : Cached) → some v ≡ get id s.cache
+  pub taken-over : (v : Cached) → Some v ≡ get id s.cache
       → sizes_value (taken_numbers z (z.received + bool_byte (not there)) z.cached ((z.contents - length v.content) + length content)) ≡ sizes_of (taken_state now id content round s)
   unfolding grown content_length
   taken-over v g =
@@ -138,7 +138,7 @@ module _ (now id : ℕ) (content : List ℕ) (round : ℕ) (s : State) (rest : A
       taken-by z.cached ((z.contents - length v.content) + length content) (sym (ap (λ (b : Bool). grown b z.cached) t))
       (ap (λ (o : Option Cached). (z.contents - content_length o) + length content) g)
 
-  pub taken-new : none ≡ get id s.cache
+  pub taken-new : None ≡ get id s.cache
       → sizes_value (taken_numbers z (z.received + bool_byte (not there)) (z.cached + 1) (z.contents + length content)) ≡ sizes_of (taken_state now id content round s)
   unfolding grown content_length
   taken-new g =
@@ -150,7 +150,7 @@ module _ (now id : ℕ) (content : List ℕ) (round : ℕ) (s : State) (rest : A
       plain = omega arith
 
 -- what is cached is no longer than all that is
-pub old-least : (id : ℕ) (v : Cached) (s : State) (z : CodeSizes) → sizes_value z ≡ sizes_of s → some v ≡ get id s.cache → length v.content ≤ z.contents
+pub old-least : (id : ℕ) (v : Cached) (s : State) (z : CodeSizes) → sizes_value z ≡ sizes_of s → Some v ≡ get id s.cache → length v.content ≤ z.contents
 unfolding sizes_of content_held get
 old-least id v s z e g = omega (arith, found-length id v s.cache.entries (sym g), ap (λ (y : Sizes). y.content) e)
 

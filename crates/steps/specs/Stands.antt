@@ -1,4 +1,4 @@
--- What the functions of a call ask of header and block, and how a step of the call is promised.
+-- What is asked of a header and a block: what `AtRest` of specs/Panels asks of the state, and that they lie as `Sound` says. A step is promised by `Allowed` and `Goes` there.
 -- Assumes nothing.
 use Rattle.std.specs.Prelude.{ℕ, List}
 use Rattle.protocol.specs.Consistent.{Consistent, Ranged}

@@ -1,23 +1,7 @@
-// `dropped_ihaves`, the record, as AnnounceDropped passes it: a row read, a row written over another, the rest cut off; and its flag.
+// `dropped_ihaves`, the record, as AnnounceDropped leaves it: a row written over another, the rest cut off; and its flag.
 use crate::panel::Panel;
-use crate::view::View;
 use block::note;
 use block::note::Note;
-
-impl<'a> View<'a> {
-    ghost use Rattle.std.specs.Prelude.{◌<◌, length, get_or};
-    ghost use Rattle.block.specs.NoteSteps.{note};
-    ghost use Rattle.steps.specs.Views.{shown};
-    ghost use Rattle.steps.specs.Dropped.{NoteOf};
-
-    // A row of the record.
-    pub fn dropped_note(&self, row: usize) -> Note
-        requires { row < length (shown self.now).dropped }
-        ensures { NoteOf (shown self.now) (get_or (shown self.now).dropped row (note 0 0 0)) result }
-    {
-        note::dropped_at(self.head, self.block, row)
-    }
-}
 
 impl<'a> Panel<'a> {
     ghost use Rattle.std.specs.Prelude.{◌≤◌, ◌<◌, false, length};

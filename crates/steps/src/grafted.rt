@@ -2,6 +2,7 @@
 use crate::call::Call;
 use crate::grafts::note;
 use crate::panel::Panel;
+use block::hops::Hop;
 use postcard::units::{Millis, Round};
 use storage::rows::id::Id;
 
@@ -18,6 +19,6 @@ impl<'a> Panel<'a> {
     {
         let retention = self.head.settings.config.message_cache_retention;
         let expires = Millis(call.instant.0 + retention.0);
-        self.head = note::note_graft(self.head, self.block, id, link, round, expires);
+        self.head = note::note_graft(self.head, self.block, id, Hop { link, round }, expires);
     }
 }

@@ -11,7 +11,6 @@ pub mod grafted_peers;
 pub mod grafts;
 pub mod groups;
 pub mod lazy_push;
-pub mod link_list;
 pub mod lookups;
 pub mod message_cache;
 pub mod message_caches;

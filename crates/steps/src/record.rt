@@ -15,7 +15,8 @@ impl<'a> View<'a> {
     ghost use Rattle.decide.specs.Settled.{settled};
     ghost use Rattle.steps.specs.Panels.{AtRest};
     ghost use Rattle.steps.specs.Views.{shown};
-    ghost use Rattle.steps.specs.Queue.{Column, note_at, noted_by};
+    ghost use Rattle.steps.specs.Dropped.{NoteOf};
+    ghost use Rattle.steps.specs.Queue.{Column, note_at};
 
     // How many the record holds.
     pub fn record_len(&self) -> usize
@@ -33,10 +34,10 @@ impl<'a> View<'a> {
         &self.block[at..at + self.head.live.dropped]
     }
 
-    // Row i of the record.
+    // A row of the record.
     pub fn recorded(&self, row: usize) -> Note
         requires { row < length (shown self.now).dropped }
-        ensures { noted_by (shown self.now) result ≡ note_at (shown self.now).dropped row }
+        ensures { NoteOf (shown self.now) (note_at (shown self.now).dropped row) result }
     {
         note::dropped_at(self.head, self.block, row)
     }

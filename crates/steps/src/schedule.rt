@@ -6,7 +6,7 @@ ghost use Rattle.decide.specs.RecordGrowth.{announce_action};
 ghost use Rattle.decide.specs.Settled.{settled_actions};
 ghost use Rattle.decide.specs.ActionsAfter.{dispatch_action, evict_actions};
 ghost use Rattle.steps.specs.Views.{shown};
-ghost use Rattle.wire.specs.Encode.Held.{after, RoomFor};
+ghost use Rattle.wire.specs.Encode.Intake.{after, RoomFor};
 
 use crate::view::View;
 use postcard::message::Timer;
@@ -16,10 +16,10 @@ use wire::encode::action::Schedule;
 use wire::encode::sink::Sink;
 
 // `schedule_announce_dropped`: "a nonempty record and a clear flag schedule AnnounceDropped (1,000)"; `stands` tells whether the record is nonempty, `flag` its flag.
-#[tactic(auto, unfolding(decide::specs::RecordGrowth::announce_action, storage::specs::Lists::Base::concat_map), using(wire::proofs::EncodeLaws::HeldLaws::after_append, wire::proofs::EncodeLaws::HeldLaws::after_nil, wire::proofs::EncodeLaws::HeldLaws::room_after, wire::proofs::EncodeLaws::HeldLaws::length_both))]
+#[tactic(auto, unfolding(decide::specs::RecordGrowth::announce_action, storage::specs::Lists::Base::concat_map), using(wire::proofs::EncodeLaws::IntakeLaws::after_append, wire::proofs::EncodeLaws::IntakeLaws::after_nil, wire::proofs::EncodeLaws::IntakeLaws::room_after, wire::proofs::EncodeLaws::IntakeLaws::length_both))]
 pub fn schedule_announce_dropped<S: Sink>(out: &mut S, stands: bool, flag: bool)
-    requires { RoomFor (concat_map action_bytes (announce_action stands flag)) (S.held out.old) }
-    ensures { S.held out.new ≡ after (concat_map action_bytes (announce_action stands flag)) (S.held out.old) }
+    requires { RoomFor (concat_map action_bytes (announce_action stands flag)) (S.intake out.old) }
+    ensures { S.intake out.new ≡ after (concat_map action_bytes (announce_action stands flag)) (S.intake out.old) }
 {
     if stands && !flag {
         Schedule {
@@ -31,10 +31,10 @@ pub fn schedule_announce_dropped<S: Sink>(out: &mut S, stands: bool, flag: bool)
 }
 
 // `schedule_dispatch`: "schedules dispatch unless flagged".
-#[tactic(auto, unfolding(decide::specs::ActionsAfter::dispatch_action, block::specs::View::state_of, storage::specs::Lists::Base::concat_map), using(wire::proofs::EncodeLaws::HeldLaws::after_append, wire::proofs::EncodeLaws::HeldLaws::after_nil, wire::proofs::EncodeLaws::HeldLaws::room_after, wire::proofs::EncodeLaws::HeldLaws::length_both))]
+#[tactic(auto, unfolding(decide::specs::ActionsAfter::dispatch_action, block::specs::View::state_of, storage::specs::Lists::Base::concat_map), using(wire::proofs::EncodeLaws::IntakeLaws::after_append, wire::proofs::EncodeLaws::IntakeLaws::after_nil, wire::proofs::EncodeLaws::IntakeLaws::room_after, wire::proofs::EncodeLaws::IntakeLaws::length_both))]
 pub fn schedule_dispatch<S: Sink>(view: &View, out: &mut S)
-    requires { RoomFor (concat_map action_bytes (dispatch_action (shown view.now))) (S.held out.old) }
-    ensures { S.held out.new ≡ after (concat_map action_bytes (dispatch_action (shown view.now))) (S.held out.old) }
+    requires { RoomFor (concat_map action_bytes (dispatch_action (shown view.now))) (S.intake out.old) }
+    ensures { S.intake out.new ≡ after (concat_map action_bytes (dispatch_action (shown view.now))) (S.intake out.old) }
 {
     if !view.head.live.dispatch_timer_scheduled {
         Schedule {
@@ -46,10 +46,10 @@ pub fn schedule_dispatch<S: Sink>(view: &View, out: &mut S)
 }
 
 // `on_evict_cache_timer`: "then schedules itself".
-#[tactic(auto, unfolding(decide::specs::ActionsAfter::evict_actions, block::specs::View::state_of, storage::specs::Lists::Base::concat_map), using(wire::proofs::EncodeLaws::HeldLaws::after_append, wire::proofs::EncodeLaws::HeldLaws::after_nil, wire::proofs::EncodeLaws::HeldLaws::room_after, wire::proofs::EncodeLaws::HeldLaws::length_both))]
+#[tactic(auto, unfolding(decide::specs::ActionsAfter::evict_actions, block::specs::View::state_of, storage::specs::Lists::Base::concat_map), using(wire::proofs::EncodeLaws::IntakeLaws::after_append, wire::proofs::EncodeLaws::IntakeLaws::after_nil, wire::proofs::EncodeLaws::IntakeLaws::room_after, wire::proofs::EncodeLaws::IntakeLaws::length_both))]
 pub fn schedule_evict_cache<S: Sink>(view: &View, out: &mut S)
-    requires { RoomFor (concat_map action_bytes (evict_actions (shown view.now))) (S.held out.old) }
-    ensures { S.held out.new ≡ after (concat_map action_bytes (evict_actions (shown view.now))) (S.held out.old) }
+    requires { RoomFor (concat_map action_bytes (evict_actions (shown view.now))) (S.intake out.old) }
+    ensures { S.intake out.new ≡ after (concat_map action_bytes (evict_actions (shown view.now))) (S.intake out.old) }
 {
     Schedule {
         delay: view.head.settings.config.cache_evict_interval,
@@ -59,10 +59,10 @@ pub fn schedule_evict_cache<S: Sink>(view: &View, out: &mut S)
 }
 
 // "the first other event evicts and schedules EvictCache before anything else".
-#[tactic(auto, unfolding(decide::specs::Settled::settled_actions, decide::specs::ActionsAfter::evict_actions, block::specs::View::state_of, storage::specs::Lists::Base::concat_map), using(wire::proofs::EncodeLaws::HeldLaws::after_append, wire::proofs::EncodeLaws::HeldLaws::after_nil, wire::proofs::EncodeLaws::HeldLaws::room_after, wire::proofs::EncodeLaws::HeldLaws::length_both))]
+#[tactic(auto, unfolding(decide::specs::Settled::settled_actions, decide::specs::ActionsAfter::evict_actions, block::specs::View::state_of, storage::specs::Lists::Base::concat_map), using(wire::proofs::EncodeLaws::IntakeLaws::after_append, wire::proofs::EncodeLaws::IntakeLaws::after_nil, wire::proofs::EncodeLaws::IntakeLaws::room_after, wire::proofs::EncodeLaws::IntakeLaws::length_both))]
 pub fn first_event_actions<S: Sink>(view: &View, out: &mut S)
-    requires { RoomFor (concat_map action_bytes (settled_actions (shown view.now))) (S.held out.old) }
-    ensures { S.held out.new ≡ after (concat_map action_bytes (settled_actions (shown view.now))) (S.held out.old) }
+    requires { RoomFor (concat_map action_bytes (settled_actions (shown view.now))) (S.intake out.old) }
+    ensures { S.intake out.new ≡ after (concat_map action_bytes (settled_actions (shown view.now))) (S.intake out.old) }
 {
     if !view.head.live.init {
         schedule_evict_cache(view, out);

@@ -23,49 +23,53 @@ use storage::rows::id::Id;
 use time_cache::cache::{Got, TimeBoundCache};
 
 // Whether a message is received then.
-pub fn received_then(h: Head, block: &[u8], instant: Millis, id: Id) -> bool
-    requires { Stands h block.now }
-    ensures { result ≡ holds (id_of id) (settled instant.0 (state_of h block.now)).received }
+pub fn received_then(head: Head, block: &[u8], instant: Millis, id: Id) -> bool
+    requires { Stands head block.now }
+    ensures { result ≡ holds (id_of id) (settled instant.0 (state_of head block.now)).received }
 {
-    if h.live.init {
-        return received::is_received(h, block, id);
+    if head.live.init {
+        return received::is_received(head, block, id);
     }
-    received::is_received_later(h, block, id, instant)
+    received::is_received_later(head, block, id, instant)
 }
 
 // Whether a message is cached then.
-pub fn is_cached_then(h: Head, block: &[u8], instant: Millis, id: Id) -> bool
-    requires { Stands h block.now }
-    ensures { result ≡ holds (id_of id) (settled instant.0 (state_of h block.now)).cache }
+pub fn is_cached_then(head: Head, block: &[u8], instant: Millis, id: Id) -> bool
+    requires { Stands head block.now }
+    ensures { result ≡ holds (id_of id) (settled instant.0 (state_of head block.now)).cache }
 {
-    if h.live.init {
-        return cached::is_cached(h, block, id);
+    if head.live.init {
+        return cached::is_cached(head, block, id);
     }
-    cached::is_cached_later(h, block, id, instant)
+    cached::is_cached_later(head, block, id, instant)
 }
 
 // When the cached message i expires: the time of the row that its entry names.
-fn cached_expires(h: Head, block: &[u8], i: usize) -> Millis
-    requires { Stands h block.now × (i < h.live.cached) }
-    ensures { result.0 ≡ (get_or (state_of h block.now).cache.entries i no_cached).value.expires }
+fn cached_expires(head: Head, block: &[u8], i: usize) -> Millis
+    requires { Stands head block.now × (i < head.live.cached) }
+    ensures { result.0 ≡ (get_or (state_of head block.now).cache.entries i no_cached).value.expires }
 {
-    let c = time_caches::cached_cache(h);
-    let p = c.place(block, i);
-    c.expires(block, p)
+    let cache = time_caches::cached_cache(head);
+    cache.expires(block, cache.place(block, i))
 }
 
 // The entry of a key that is there then, by its number in the cache as it stands.
-fn held_then(c: TimeBoundCache, block: &[u8], init: bool, instant: Millis, id: Id) -> Option<usize>
-    requires { Lies c block.now × Sound c block.now }
-    ensures { EntryIs no_held (cache_at c block.now).entries (id_of id) (get (id_of id) (left_then init instant.0 (cache_at c block.now))) result }
+fn held_then(
+    cache: TimeBoundCache,
+    block: &[u8],
+    init: bool,
+    instant: Millis,
+    id: Id,
+) -> Option<usize>
+    requires { Lies cache block.now × Sound cache block.now }
+    ensures { EntryIs no_held (cache_at cache block.now).entries (id_of id) (get (id_of id) (left_then init instant.0 (cache_at cache block.now))) result }
 {
-    let g = c.get(block, id);
-    match g {
-        Got::There(i, p) => {
+    match cache.get(block, id) {
+        Got::There(i, place) => {
             if init {
                 return Some(i);
             }
-            let time = c.expires(block, p);
+            let time = cache.expires(block, place);
             if instant.0 < time.0 {
                 return Some(i);
             }
@@ -76,77 +80,73 @@ fn held_then(c: TimeBoundCache, block: &[u8], init: bool, instant: Millis, id: I
 }
 
 // The cached message of an identifier, if it is there then, by its number in the cache as it stands.
-pub fn cached_then(h: Head, block: &[u8], instant: Millis, id: Id) -> Option<usize>
-    requires { Stands h block.now }
-    ensures { EntryIs no_cached (state_of h block.now).cache.entries (id_of id) (get (id_of id) (settled instant.0 (state_of h block.now)).cache) result }
+pub fn cached_then(head: Head, block: &[u8], instant: Millis, id: Id) -> Option<usize>
+    requires { Stands head block.now }
+    ensures { EntryIs no_cached (state_of head block.now).cache.entries (id_of id) (get (id_of id) (settled instant.0 (state_of head block.now)).cache) result }
 {
-    let c = time_caches::cached_cache(h);
-    held_then(c, block, h.live.init, instant, id)
+    let cache = time_caches::cached_cache(head);
+    held_then(cache, block, head.live.init, instant, id)
 }
 
 // The grafted message of an identifier, if it is there then, by its number among the grafted messages as they stand.
-pub fn grafted_then(h: Head, block: &[u8], instant: Millis, id: Id) -> Option<usize>
-    requires { Stands h block.now }
-    ensures { EntryIs no_grafts (state_of h block.now).grafted.entries (id_of id) (get (id_of id) (settled instant.0 (state_of h block.now)).grafted) result }
+pub fn grafted_then(head: Head, block: &[u8], instant: Millis, id: Id) -> Option<usize>
+    requires { Stands head block.now }
+    ensures { EntryIs no_grafts (state_of head block.now).grafted.entries (id_of id) (get (id_of id) (settled instant.0 (state_of head block.now)).grafted) result }
 {
-    let c = time_caches::grafted_cache(h);
-    held_then(c, block, h.live.init, instant, id)
+    let cache = time_caches::grafted_cache(head);
+    held_then(cache, block, head.live.init, instant, id)
 }
 
 // The numbers of entries as they stand.
-pub fn sizes_now(h: Head, block: &[u8]) -> Sizes
-    requires { Stands h block.now }
-    ensures { sizes_value result ≡ sizes_of (state_of h block.now) }
+pub fn sizes_now(head: Head, block: &[u8]) -> Sizes
+    requires { Stands head block.now }
+    ensures { sizes_value result ≡ sizes_of (state_of head block.now) }
 {
     Sizes {
-        links: h.live.links,
-        received: h.live.received,
-        received_rows: h.live.received_rows,
-        cached: h.live.cached,
-        cached_rows: h.live.cached_rows,
-        contents: h.live.contents,
-        grafted: h.live.grafted,
-        grafted_rows: h.live.grafted_rows,
-        missing: h.live.missing,
-        timers: h.live.timers,
-        queued: h.live.queued,
-        dropped: h.live.dropped,
+        links: head.live.links,
+        received: head.live.received,
+        received_rows: head.live.received_rows,
+        cached: head.live.cached,
+        cached_rows: head.live.cached_rows,
+        contents: head.live.contents,
+        grafted: head.live.grafted,
+        grafted_rows: head.live.grafted_rows,
+        missing: head.live.missing,
+        timers: head.live.timers,
+        queued: head.live.queued,
+        dropped: head.live.dropped,
     }
 }
 
 // The bytes of the contents that expire later. Its time is that of one pass over the cached messages.
-fn contents_later(h: Head, block: &[u8], instant: Millis) -> usize
-    requires { Stands h block.now }
-    ensures { result ≡ sum (later_bytes instant.0) (state_of h block.now).cache.entries }
+fn contents_later(head: Head, block: &[u8], instant: Millis) -> usize
+    requires { Stands head block.now }
+    ensures { result ≡ sum (later_bytes instant.0) (state_of head block.now).cache.entries }
 {
-    let n = h.live.cached;
     let mut total = 0;
-    let mut i = 0;
-    while i < n {
-        let t = cached_expires(h, block, i);
-        let content = cached::cached_content(h, block, i);
-        i += 1;
-        if instant.0 < t.0 {
-            total += content.len;
+    for i in 0..head.live.cached {
+        let expires = cached_expires(head, block, i);
+        if instant.0 < expires.0 {
+            total += cached::cached_content(head, block, i).len;
         }
     }
     total
 }
 
 // The numbers of entries that eviction leaves. Its time is that of one pass over the entries of each time cache.
-pub fn later_sizes(h: Head, block: &[u8], instant: Millis) -> Sizes
-    requires { Stands h block.now }
-    ensures { sizes_value result ≡ sizes_of (evict instant.0 (state_of h block.now)) }
+pub fn later_sizes(head: Head, block: &[u8], instant: Millis) -> Sizes
+    requires { Stands head block.now }
+    ensures { sizes_value result ≡ sizes_of (evict instant.0 (state_of head block.now)) }
 {
-    let received = received::received_later(h, block, instant);
-    let received_rows = received::received_rows_later(h, block, instant);
-    let cached = cached::cached_later(h, block, instant);
-    let cached_rows = cached::cached_rows_later(h, block, instant);
-    let contents = contents_later(h, block, instant);
-    let grafted = grafted::grafted_later(h, block, instant);
-    let grafted_rows = grafted::grafted_rows_later(h, block, instant);
+    let received = received::received_later(head, block, instant);
+    let received_rows = received::received_rows_later(head, block, instant);
+    let cached = cached::cached_later(head, block, instant);
+    let cached_rows = cached::cached_rows_later(head, block, instant);
+    let contents = contents_later(head, block, instant);
+    let grafted = grafted::grafted_later(head, block, instant);
+    let grafted_rows = grafted::grafted_rows_later(head, block, instant);
     Sizes {
-        links: h.live.links,
+        links: head.live.links,
         received,
         received_rows,
         cached,
@@ -154,22 +154,22 @@ pub fn later_sizes(h: Head, block: &[u8], instant: Millis) -> Sizes
         contents,
         grafted,
         grafted_rows,
-        missing: h.live.missing,
-        timers: h.live.timers,
-        queued: h.live.queued,
-        dropped: h.live.dropped,
+        missing: head.live.missing,
+        timers: head.live.timers,
+        queued: head.live.queued,
+        dropped: head.live.dropped,
     }
 }
 
 // The numbers of entries then: at once where `init` is set.
-pub fn sizes_then(h: Head, block: &[u8], instant: Millis) -> Sizes
-    requires { Stands h block.now }
-    ensures { sizes_value result ≡ sizes_of (settled instant.0 (state_of h block.now)) }
+pub fn sizes_then(head: Head, block: &[u8], instant: Millis) -> Sizes
+    requires { Stands head block.now }
+    ensures { sizes_value result ≡ sizes_of (settled instant.0 (state_of head block.now)) }
 {
-    if h.live.init {
-        return sizes_now(h, block);
+    if head.live.init {
+        return sizes_now(head, block);
     }
-    later_sizes(h, block, instant)
+    later_sizes(head, block, instant)
 }
 
 // Whether a time cache is within its limit: "Expiry entries: 2R, 2C, 2G".
@@ -177,43 +177,22 @@ fn cache_fits(limit: usize, entries: usize, rows: usize) -> bool
     requires { limit ≤ 2048 }
     ensures { result ≡ (leb entries limit && leb rows (2 * limit)) }
 {
-    if limit < entries {
-        return false;
-    }
-    rows <= 2 * limit
+    entries <= limit && rows <= 2 * limit
 }
 
 // (13) "Is the state after the call within every limit?", of the numbers of entries after it.
-pub fn fit(l: Limits, z: Sizes) -> bool
-    requires { Ceilings (limits_of l) }
-    ensures { result ≡ fit_sizes (limits_of l) (sizes_value z) }
+#[tactic(auto, unfolding(decide::specs::Sizes::fit_sizes))]
+pub fn fit(limits: Limits, sizes: Sizes) -> bool
+    requires { Ceilings (limits_of limits) }
+    ensures { result ≡ fit_sizes (limits_of limits) (sizes_value sizes) }
 {
-    if l.neighbours < z.links {
-        return false;
-    }
-    let received = cache_fits(l.received, z.received, z.received_rows);
-    if !received {
-        return false;
-    }
-    let cached = cache_fits(l.cached, z.cached, z.cached_rows);
-    if !cached {
-        return false;
-    }
-    if l.content < z.contents {
-        return false;
-    }
-    let grafted = cache_fits(l.grafted, z.grafted, z.grafted_rows);
-    if !grafted {
-        return false;
-    }
-    if l.missing < z.missing {
-        return false;
-    }
-    if l.timers < z.timers {
-        return false;
-    }
-    if l.queued < z.queued {
-        return false;
-    }
-    z.dropped <= l.dropped
+    sizes.links <= limits.neighbours
+        && cache_fits(limits.received, sizes.received, sizes.received_rows)
+        && cache_fits(limits.cached, sizes.cached, sizes.cached_rows)
+        && sizes.contents <= limits.content
+        && cache_fits(limits.grafted, sizes.grafted, sizes.grafted_rows)
+        && sizes.missing <= limits.missing
+        && sizes.timers <= limits.timers
+        && sizes.queued <= limits.queued
+        && sizes.dropped <= limits.dropped
 }

@@ -2,7 +2,7 @@
 use crate::Sizes;
 use crate::call::Call;
 use crate::contents::taking;
-use crate::message_cache::cached_then;
+use crate::message_cache::{CachedMessage, cached_then};
 use crate::panel::Panel;
 use crate::view::View;
 use postcard::units::Round;
@@ -54,6 +54,7 @@ impl<'a> Panel<'a> {
         requires { Takes call.now.instant.0 (id_of id) content.now round.0 (state self.old) }
         ensures { Goes (taken_state call.now.instant.0 (id_of id) content.now round.0) self.old self.new }
     {
-        self.head = taking::take_in(self.head, self.block, call.instant, id, content, round);
+        let message = CachedMessage { content, round };
+        self.head = taking::take_in(self.head, self.block, call.instant, id, message);
     }
 }

@@ -20,8 +20,8 @@ use Rattle.decide.specs.Rooms.{kth_taken}
 use Rattle.decide.specs.Pieces.{Piece, numbered, peer_pieces, pieces, piece_taken, piece_actions}
 use Rattle.decide.specs.RecordGrowth.{announce_action, cached_in}
 use Rattle.decide.specs.ActionsAfter.{dispatch_actions}
-use Rattle.wire.specs.Encode.Held.{Held, after, RoomFor}
-use Rattle.wire.proofs.EncodeLaws.HeldLaws.{after_append, after_nil, room_after}
+use Rattle.wire.specs.Encode.Intake.{Intake, after, RoomFor}
+use Rattle.wire.proofs.EncodeLaws.IntakeLaws.{after_append, after_nil, room_after}
 use Rattle.announcements.specs.QueuedRows.{quiet, timer_after, one_send, flag_after, flag_after_all}
 
 bytes-cons : {A : Type 0} (f : A → List ℕ) (x : A) (xs : List A) → concat_map f (x ∷ xs) ≡ f x ++ concat_map f xs
@@ -33,13 +33,13 @@ unfolding concat_map
 bytes-none f = refl
 
 -- the first part of what is to be written, and the rest
-pub first-room : (xs ys : List ℕ) (x : Held) → RoomFor (xs ++ ys) x → RoomFor xs x
+pub first-room : (xs ys : List ℕ) (x : Intake) → RoomFor (xs ++ ys) x → RoomFor xs x
 first-room xs ys x r = omega (arith, r, length-append xs ys)
 
-pub later-room : (xs ys : List ℕ) (x y : Held) → RoomFor (xs ++ ys) x → y ≡ after xs x → RoomFor ys y
+pub later-room : (xs ys : List ℕ) (x y : Intake) → RoomFor (xs ++ ys) x → y ≡ after xs x → RoomFor ys y
 later-room xs ys x y r e = rw (e, room_after xs x) (omega (arith, r, length-append xs ys))
 
-pub both-after : (xs ys : List ℕ) (x y z : Held) → y ≡ after xs x → z ≡ after ys y → z ≡ after (xs ++ ys) x
+pub both-after : (xs ys : List ℕ) (x y z : Intake) → y ≡ after xs x → z ≡ after ys y → z ≡ after (xs ++ ys) x
 both-after xs ys x y z e f = f ∙ ap (after ys) e ∙ after_append xs ys x
 
 -- an IHave with the timer that follows it
@@ -56,7 +56,7 @@ module _ (held : ℕ → Bool) (taken flag : Bool) (p : ℕ) (hs : List Ihave) w
       bytes-cons action_bytes (Sent p taken (IHave hs)) (timer_after (quiet held taken flag hs))
       ∙ ap (λ (l : List ℕ). l ++ concat_map action_bytes (timer_after (quiet held taken flag hs))) (sym (append_assoc (1 ∷ number_bytes p) (taken_byte taken ∷ []) (message_bytes (IHave hs))))
 
-  module _ (x y : Held) where
+  module _ (x y : Intake) where
     pub send-room : RoomFor whole_of x → RoomFor head_of x
     send-room r = first-room head_of (concat_map action_bytes (timer_after (quiet held taken flag hs))) x (rw send-bytes at r)
 
@@ -67,7 +67,7 @@ module _ (held : ℕ → Bool) (taken flag : Bool) (p : ℕ) (hs : List Ihave) w
     send-quiet e f =
         e ∙ ap (λ (l : List ℕ). after l x) (sym (send-bytes ∙ ap (λ (still : Bool). head_of ++ concat_map action_bytes (timer_after still)) f ∙ ap (λ (l : List ℕ). head_of ++ l) (bytes-none action_bytes) ∙ append-nil head_of))
 
-    pub send-timed : (z : Held) → y ≡ after head_of x → (acts : List Action) → timer_after (quiet held taken flag hs) ≡ acts → z ≡ after (concat_map action_bytes acts) y → z ≡ after whole_of x
+    pub send-timed : (z : Intake) → y ≡ after head_of x → (acts : List Action) → timer_after (quiet held taken flag hs) ≡ acts → z ≡ after (concat_map action_bytes acts) y → z ≡ after whole_of x
     send-timed z e acts f w =
         both-after head_of (concat_map action_bytes acts) x y z e w ∙ ap (λ (l : List ℕ). after l x) (sym (send-bytes ∙ ap (λ (l : List Action). head_of ++ concat_map action_bytes l) f))
 
@@ -131,7 +131,7 @@ module _ (held : ℕ → Bool) (rooms : List Room) where
       ∙ (λ k. sym (sends-one flag x xs) k ++ piece_actions held rooms (sym (flags-one flag x xs) k) ys)
 
 -- the IHaves to one link: hs are still to be sent, from the nth on
-pub record Linking (held : ℕ → Bool) (rooms : List Room) (p k : ℕ) (whole : List ℕ) (final : Bool) (start now : Held) (hs : List Ihave) (nth : ℕ) (flag : Bool) : Type 0 where
+pub record Linking (held : ℕ → Bool) (rooms : List Room) (p k : ℕ) (whole : List ℕ) (final : Bool) (start now : Intake) (hs : List Ihave) (nth : ℕ) (flag : Bool) : Type 0 where
   pub sofar : List ℕ
   pub fuel : ℕ
   pub bytes : whole ≡ sofar ++ concat_map action_bytes (piece_actions held rooms flag (numbered p nth (chunks fuel k hs)))
@@ -139,7 +139,7 @@ pub record Linking (held : ℕ → Bool) (rooms : List Room) (p k : ℕ) (whole 
   pub flags : flag_after_all held rooms flag (numbered p nth (chunks fuel k hs)) ≡ final
   pub enough : length hs ≤ fuel
 
-pub link_start : (held : ℕ → Bool) (rooms : List Room) (p k : ℕ) (queue : List Note) (flag : Bool) (start : Held) → length (queued_for p queue) ≤ length queue
+pub link_start : (held : ℕ → Bool) (rooms : List Room) (p k : ℕ) (queue : List Note) (flag : Bool) (start : Intake) → length (queued_for p queue) ≤ length queue
     → Linking held rooms p k (concat_map action_bytes (piece_actions held rooms flag (peer_pieces k queue p))) (flag_after_all held rooms flag (peer_pieces k queue p)) start start (queued_for p queue) 1 flag
 unfolding peer_pieces
 link_start held rooms p k queue flag start w = record { sofar = []; fuel = length queue; bytes = refl; written = sym (after_nil start); flags = refl; enough = w }
@@ -163,7 +163,7 @@ pub numbered-none : (p n : ℕ) → numbered p n [] ≡ []
 unfolding numbered
 numbered-none p n = refl
 
-module _ {held : ℕ → Bool} {rooms : List Room} {p k : ℕ} {whole : List ℕ} {final : Bool} {start now : Held} {hs : List Ihave} {nth : ℕ} {flag : Bool}
+module _ {held : ℕ → Bool} {rooms : List Room} {p k : ℕ} {whole : List ℕ} {final : Bool} {start now : Intake} {hs : List Ihave} {nth : ℕ} {flag : Bool}
     (li : Linking held rooms p k whole final start now hs nth flag) where
   -- one IHave more
   module _ (taken : Bool) (some : 0 < length hs) (k-some : 1 ≤ k) (t : taken ≡ kth_taken nth p rooms) where
@@ -198,7 +198,7 @@ module _ {held : ℕ → Bool} {rooms : List Room} {p k : ℕ} {whole : List ℕ
     pub link-room : RoomFor whole start → RoomFor (concat_map action_bytes sent) now
     link-room w = first-room (concat_map action_bytes sent) left now (later-room li.sofar (concat_map action_bytes sent ++ left) start now (rw split-link at w) li.written)
 
-    pub link-next : (now' : Held) (flag' : Bool) (rest : List Ihave) → now' ≡ after (concat_map action_bytes sent) now → flag' ≡ flag_after held taken flag (take k hs) → rest ≡ drop k hs
+    pub link-next : (now' : Intake) (flag' : Bool) (rest : List Ihave) → now' ≡ after (concat_map action_bytes sent) now → flag' ≡ flag_after held taken flag (take k hs) → rest ≡ drop k hs
         → Linking held rooms p k whole final start now' rest (nth + 1) flag'
     unfolding piece_taken
     link-next now' flag' rest w f r = record {
@@ -228,16 +228,16 @@ module _ {held : ℕ → Bool} {rooms : List Room} {p k : ℕ} {whole : List ℕ
     link-flag = sym (ap (flag_after_all held rooms flag) no_pieces ∙ flags-none held rooms flag) ∙ li.flags
 
 -- the links: the peers ps are still to be sent to
-pub record Going (held : ℕ → Bool) (rooms : List Room) (k : ℕ) (queue : List Note) (whole : List ℕ) (start now : Held) (ps : List ℕ) (flag : Bool) : Type 0 where
+pub record Going (held : ℕ → Bool) (rooms : List Room) (k : ℕ) (queue : List Note) (whole : List ℕ) (start now : Intake) (ps : List ℕ) (flag : Bool) : Type 0 where
   pub sofar : List ℕ
   pub bytes : whole ≡ sofar ++ concat_map action_bytes (piece_actions held rooms flag (pieces ps k queue))
   pub written : now ≡ after sofar start
 
-pub going_start : (held : ℕ → Bool) (rooms : List Room) (k : ℕ) (queue : List Note) (whole : List ℕ) (start : Held) (ps : List ℕ) (flag : Bool) → whole ≡ concat_map action_bytes (piece_actions held rooms flag (pieces ps k queue))
+pub going_start : (held : ℕ → Bool) (rooms : List Room) (k : ℕ) (queue : List Note) (whole : List ℕ) (start : Intake) (ps : List ℕ) (flag : Bool) → whole ≡ concat_map action_bytes (piece_actions held rooms flag (pieces ps k queue))
     → Going held rooms k queue whole start start ps flag
 going_start held rooms k queue whole start ps flag e = record { sofar = []; bytes = e; written = sym (after_nil start) }
 
-module _ {held : ℕ → Bool} {rooms : List Room} {k : ℕ} {queue : List Note} {whole : List ℕ} {start now : Held} {flag : Bool} (ps : List ℕ)
+module _ {held : ℕ → Bool} {rooms : List Room} {k : ℕ} {queue : List Note} {whole : List ℕ} {start now : Intake} {flag : Bool} (ps : List ℕ)
     (go : Going held rooms k queue whole start now ps flag) where
   module _ (p : ℕ) (qs : List ℕ) (e : ps ≡ p ∷ qs) where
     abbrev own : List Piece
@@ -256,7 +256,7 @@ module _ {held : ℕ → Bool} {rooms : List Room} {k : ℕ} {queue : List Note}
     pub going-room : RoomFor whole start → RoomFor (concat_map action_bytes (piece_actions held rooms flag own)) now
     going-room t = first-room (concat_map action_bytes (piece_actions held rooms flag own)) ahead now (later-room go.sofar (concat_map action_bytes (piece_actions held rooms flag own) ++ ahead) start now (rw split-all at t) go.written)
 
-    pub going_next : (now' : Held) (flag' : Bool) → now' ≡ after (concat_map action_bytes (piece_actions held rooms flag own)) now → flag' ≡ flag_after_all held rooms flag own
+    pub going_next : (now' : Intake) (flag' : Bool) → now' ≡ after (concat_map action_bytes (piece_actions held rooms flag own)) now → flag' ≡ flag_after_all held rooms flag own
         → Going held rooms k queue whole start now' qs flag'
     going_next now' flag' w f = record {
       sofar = go.sofar ++ concat_map action_bytes (piece_actions held rooms flag own);

@@ -73,7 +73,7 @@ module _ (now : ℕ) (call : Call) (s : State) where
       ∙ (λ i. add_batches (held_then now s) (dispatch_batches (rooms i) (queued_peers (queue i)) (per_message (size i)) (queue i)) (same_dropped now s i))
     where
       rooms : rooms_of call (settled now s) ≡ rooms_of call s
-      rooms = same-rooms-in (settled now s) s call.rooms.numbers.now (ap (λ (l : Links). keys l) (same_links now s))
+      rooms = same-rooms-in (settled now s) s call.peer call.rooms.now (ap (λ (l : Links). keys l) (same_links now s))
 
       queue : (settled now s).queue ≡ s.queue
       queue = settled-as now s (λ (u : State). u.queue) refl

@@ -2,7 +2,7 @@
 ghost use Rattle.std.specs.Prelude.{◌≡◌, ◌+◌, ◌≤◌, ◌<◌, true, length, ◌++◌};
 ghost use Rattle.decide.specs.Sizes.{sizes_of};
 ghost use Rattle.decide.specs.Settled.{settled};
-ghost use Rattle.wire.specs.Encode.Held.{after, RoomFor};
+ghost use Rattle.wire.specs.Encode.Intake.{after, RoomFor};
 ghost use Rattle.steps.specs.Panels.{state, Goes, AtRest, Allowed};
 ghost use Rattle.steps.specs.Shared.{sizes_value};
 ghost use Rattle.steps.specs.Views.{shown};
@@ -11,11 +11,10 @@ ghost use Rattle.announcements.specs.QueuedRows.{noted_again, back_noted, RowsOf
 
 pub mod ihave;
 pub mod noted;
-pub mod row_list;
 pub mod sends;
 
 use crate::on_dispatch_timer::noted::{may_hand_back, to_note};
-use crate::on_dispatch_timer::row_list::RowList;
+use arrayvec::ArrayVec;
 use protocol::MAX_DROPPED;
 use steps::Sizes;
 use steps::call::Call;
@@ -30,7 +29,7 @@ fn dispatch_notes(view: &View, call: &Call) -> usize
     ensures few { result ≤ MAX_DROPPED }
     ensures notes { length (settled call.now.instant.0 (shown view.now)).dropped + result ≡ length (after_dispatch call.now (settled call.now.instant.0 (shown view.now))).dropped }
 {
-    let mut noted = RowList::new();
+    let mut noted = ArrayVec::new();
     to_note(view, call, &mut noted);
     noted.len()
 }
@@ -51,8 +50,8 @@ pub fn dispatch_sizes(view: &View, call: &Call) -> Sizes
 // Its actions: the IHaves, and the record's timer behind the first that is handed back with a cached identifier.
 pub fn dispatch_actions<S: Sink>(view: &View, call: &Call, out: &mut S)
     requires rest { AtRest (shown view.now) }
-    requires room { RoomFor (dispatch_bytes call.now (settled call.now.instant.0 (shown view.now))) (S.held out.old) }
-    ensures { S.held out.new ≡ after (dispatch_bytes call.now (settled call.now.instant.0 (shown view.now))) (S.held out.old) }
+    requires room { RoomFor (dispatch_bytes call.now (settled call.now.instant.0 (shown view.now))) (S.intake out.old) }
+    ensures { S.intake out.new ≡ after (dispatch_bytes call.now (settled call.now.instant.0 (shown view.now))) (S.intake out.old) }
 {
     if view.queue_len() > 0 {
         sends::send_queued(view, call, out);
@@ -60,10 +59,10 @@ pub fn dispatch_actions<S: Sink>(view: &View, call: &Call, out: &mut S)
 }
 
 // The record takes these rows of the queue, and stands with its flag.
-fn note_rows(panel: &mut Panel, rows: &RowList)
-    requires rows { RowsOf (state panel.old).queue rows.now }
-    requires room { length (state panel.old).dropped + length rows.now ≤ (state panel.old).limits.D }
-    ensures { Goes (noted_again rows.now) panel.old panel.new }
+fn note_rows(panel: &mut Panel, rows: &ArrayVec<u16, MAX_DROPPED>)
+    requires rows { RowsOf (state panel.old).queue rows.now.items }
+    requires room { length (state panel.old).dropped + length rows.now.items ≤ (state panel.old).limits.D }
+    ensures { Goes (noted_again rows.now.items) panel.old panel.new }
 {
     for row in rows.as_slice() {
         panel.note_again(*row as usize);
@@ -77,12 +76,12 @@ fn note_back(panel: &mut Panel, call: &Call)
     requires { Allowed (after_dispatch call.now) (state panel.old) × ((state panel.old).init ≡ true) }
     ensures { Goes (back_noted call.now) panel.old panel.new }
 {
-    let mut rows = RowList::new();
+    let mut rows = ArrayVec::new();
     to_note(&panel.view(), call, &mut rows);
     note_rows(panel, &rows);
 }
 
-// The step.
+// The step: what is handed back is noted, the queue is emptied, and no dispatch is scheduled any more.
 pub fn on_dispatch_timer(panel: &mut Panel, call: &Call)
     requires { Allowed (after_dispatch call.now) (state panel.old) × ((state panel.old).init ≡ true) }
     ensures { Goes (after_dispatch call.now) panel.old panel.new }

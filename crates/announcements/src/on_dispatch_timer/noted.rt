@@ -6,20 +6,20 @@ ghost use Rattle.decide.specs.RecordGrowth.{add_notes, add_batches};
 ghost use Rattle.decide.specs.Pieces.{dispatch_batches};
 ghost use Rattle.block.specs.LinkSteps.{peer_at};
 ghost use Rattle.steps.specs.Calls.{rooms_of};
+ghost use Rattle.steps.specs.Groups.{Apart, part};
 ghost use Rattle.steps.specs.Panels.{AtRest};
 ghost use Rattle.steps.specs.Queue.{note_at};
 ghost use Rattle.steps.specs.Views.{shown};
 ghost use Rattle.announcements.specs.Marks.{low_of, Covers};
 ghost use Rattle.announcements.specs.QueuedRows.{held_then, ihaves_at, notes_at, among, RowsOf, Mine, LinkPart};
 
-use crate::on_dispatch_timer::row_list::RowList;
 use crate::on_dispatch_timer::sends::{FEW_ROWS, LinkRows};
+use arrayvec::ArrayVec;
 use postcard::units::Millis;
 use protocol::{MAX_DROPPED, MAX_DROPPED_PER_PEER};
 use steps::call::Call;
-use steps::groups::{MAX_ROWS, group, link_rows};
+use steps::groups::{MAX_ROWS, STARTS, group, link_rows};
 use steps::view::View;
-use storage::rows::id;
 use storage::rows::id::Id;
 
 // How many marks there are. An identifier without its mark is none of those that were marked.
@@ -48,7 +48,7 @@ fn is_recorded(view: &View, recorded: &[u16], id: Id) -> bool
     ensures { result ≡ among (id_of id) (ihaves_at (shown view.now).dropped recorded.now) }
 {
     for row in recorded {
-        if id::same(view.recorded(*row as usize).id, id) {
+        if view.recorded(*row as usize).id == id {
             return true;
         }
     }
@@ -61,7 +61,7 @@ fn is_queued(view: &View, queued: &[u16], id: Id) -> bool
     ensures { result ≡ among (id_of id) (ihaves_at (shown view.now).queue queued.now) }
 {
     for row in queued {
-        if id::same(view.queued(*row as usize).id, id) {
+        if view.queued(*row as usize).id == id {
             return true;
         }
     }
@@ -90,21 +90,27 @@ fn is_full(own: usize, all: usize) -> bool
 
 // `note_dropped` of what one link hands back: "each identifier in the cache and not already there is added unless the peer has 256 or all have 4,096". `recorded` are
 // the record's rows for the link, and `noted` what is added for the links before it.
-fn note_link(view: &View, instant: Millis, recorded: &[u16], back: &LinkRows, noted: &mut RowList)
+fn note_link(
+    view: &View,
+    instant: Millis,
+    recorded: &[u16],
+    back: &LinkRows,
+    noted: &mut ArrayVec<u16, MAX_DROPPED>,
+)
     requires rest { AtRest (shown view.now) }
     requires recorded { Mine (shown view.now) (shown view.now).dropped back.now.link recorded.now }
     requires back { LinkPart (shown view.now) back.now.link back.now.rows.now }
-    requires rows { RowsOf (shown view.now).queue noted.old }
-    requires below { All (λ i. (note_at (shown view.now).queue i).peer < peer_at (shown view.now) back.now.link) noted.old }
-    ensures noted { add_notes (held_then instant.0 (shown view.now)) (peer_at (shown view.now) back.now.link) (ihaves_at (shown view.now).queue back.now.rows.now) ((shown view.now).dropped ++ notes_at (shown view.now).queue noted.old) ≡ (shown view.now).dropped ++ notes_at (shown view.now).queue noted.new }
-    ensures rows { RowsOf (shown view.now).queue noted.new }
-    ensures upto { All (λ i. (note_at (shown view.now).queue i).peer ≤ peer_at (shown view.now) back.now.link) noted.new }
+    requires rows { RowsOf (shown view.now).queue noted.old.items }
+    requires below { All (λ i. (note_at (shown view.now).queue i).peer < peer_at (shown view.now) back.now.link) noted.old.items }
+    ensures noted { add_notes (held_then instant.0 (shown view.now)) (peer_at (shown view.now) back.now.link) (ihaves_at (shown view.now).queue back.now.rows.now) ((shown view.now).dropped ++ notes_at (shown view.now).queue noted.old.items) ≡ (shown view.now).dropped ++ notes_at (shown view.now).queue noted.new.items }
+    ensures rows { RowsOf (shown view.now).queue noted.new.items }
+    ensures upto { All (λ i. (note_at (shown view.now).queue i).peer ≤ peer_at (shown view.now) back.now.link) noted.new.items }
 {
     let before = noted.len();
     let mut marks = [0u8; MARKS];
     mark(view, recorded, &mut marks);
     for row in back.rows {
-        let own = noted.behind(before);
+        let own = &noted.as_slice()[before..];
         if is_full(recorded.len() + own.len(), view.record_len() + noted.len()) {
             return;
         }
@@ -134,11 +140,11 @@ fn taken(room: u64, per_message: usize, queued: usize) -> usize
 
 // Whether a link may hand back: its room is below the queue's length.
 pub fn may_hand_back(view: &View, call: &Call) -> bool
-    ensures { result ≡ false → (l : ℕ) → l < length (shown view.now).links → length (shown view.now).queue ≤ get_or call.now.rooms.numbers.now l 0 }
+    ensures { result ≡ false → (l : ℕ) → l < length (shown view.now).links → length (shown view.now).queue ≤ get_or call.now.rooms.now.links l 0 }
 {
     let queued = view.queue_len() as u64;
     for link in 0..view.link_count() {
-        if call.rooms.numbers[link] < queued {
+        if call.rooms.links[link] < queued {
             return true;
         }
     }
@@ -149,11 +155,11 @@ pub fn may_hand_back(view: &View, call: &Call) -> bool
 // event is to have these rows on the stack. Its time is that of two passes over the queue and
 // the record, and of a look-up in the message cache for each identifier that is handed back and not there.
 #[inline(never)]
-pub fn to_note(view: &View, call: &Call, noted: &mut RowList)
+pub fn to_note(view: &View, call: &Call, noted: &mut ArrayVec<u16, MAX_DROPPED>)
     requires rest { AtRest (shown view.now) }
-    requires none { noted.old ≡ [] }
-    ensures noted { add_batches (held_then call.now.instant.0 (shown view.now)) (dispatch_batches (rooms_of call.now (shown view.now)) (queued_peers (shown view.now).queue) (per_message (shown view.now).settings.max_message_size) (shown view.now).queue) (shown view.now).dropped ≡ (shown view.now).dropped ++ notes_at (shown view.now).queue noted.new }
-    ensures rows { RowsOf (shown view.now).queue noted.new }
+    requires none { noted.old.items ≡ [] }
+    ensures noted { add_batches (held_then call.now.instant.0 (shown view.now)) (dispatch_batches (rooms_of call.now (shown view.now)) (queued_peers (shown view.now).queue) (per_message (shown view.now).settings.max_message_size) (shown view.now).queue) (shown view.now).dropped ≡ (shown view.now).dropped ++ notes_at (shown view.now).queue noted.new.items }
+    ensures rows { RowsOf (shown view.now).queue noted.new.items }
 {
     if view.queue_len() <= FEW_ROWS && view.record_len() <= FEW_ROWS {
         return to_note_in(
@@ -173,28 +179,48 @@ pub fn to_note(view: &View, call: &Call, noted: &mut RowList)
     );
 }
 
-// The same, where the rows of the queue and of the record are grouped in lent memory.
+// Whether a link hands back some of its rows of the queue, which stand together. Its time is that of one pass over the links.
+fn is_handed_back(view: &View, call: &Call, rows: &[u16], starts: &[usize; STARTS]) -> bool
+    requires rest { AtRest (shown view.now) }
+    requires mine { (l : ℕ) → l < length (shown view.now).links → Apart rows.now starts.now l × Mine (shown view.now) (shown view.now).queue l (part rows.now starts.now l) }
+    ensures { result ≡ false → add_batches (held_then call.now.instant.0 (shown view.now)) (dispatch_batches (rooms_of call.now (shown view.now)) (queued_peers (shown view.now).queue) (per_message (shown view.now).settings.max_message_size) (shown view.now).queue) (shown view.now).dropped ≡ (shown view.now).dropped }
+{
+    let per_message = view.per_message();
+    for link in 0..view.link_count() {
+        let queued = link_rows(rows, starts, link).len();
+        let taken = taken(call.rooms.links[link], per_message, queued);
+        if taken < queued {
+            return true;
+        }
+    }
+    false
+}
+
+// The same, where the rows of the queue and of the record are grouped in lent memory. The record is passed over only where something is handed back.
 fn to_note_in(
     view: &View,
     call: &Call,
     queue_rows: &mut [u16],
     record_rows: &mut [u16],
-    noted: &mut RowList,
+    noted: &mut ArrayVec<u16, MAX_DROPPED>,
 )
     requires rest { AtRest (shown view.now) }
     requires queue { length (shown view.now).queue ≤ length queue_rows.old }
     requires record { length (shown view.now).dropped ≤ length record_rows.old }
-    requires none { noted.old ≡ [] }
-    ensures noted { add_batches (held_then call.now.instant.0 (shown view.now)) (dispatch_batches (rooms_of call.now (shown view.now)) (queued_peers (shown view.now).queue) (per_message (shown view.now).settings.max_message_size) (shown view.now).queue) (shown view.now).dropped ≡ (shown view.now).dropped ++ notes_at (shown view.now).queue noted.new }
-    ensures rows { RowsOf (shown view.now).queue noted.new }
+    requires none { noted.old.items ≡ [] }
+    ensures noted { add_batches (held_then call.now.instant.0 (shown view.now)) (dispatch_batches (rooms_of call.now (shown view.now)) (queued_peers (shown view.now).queue) (per_message (shown view.now).settings.max_message_size) (shown view.now).queue) (shown view.now).dropped ≡ (shown view.now).dropped ++ notes_at (shown view.now).queue noted.new.items }
+    ensures rows { RowsOf (shown view.now).queue noted.new.items }
 {
     let queue = group(view.queue_links(), queue_rows);
+    if !is_handed_back(view, call, queue_rows, &queue) {
+        return;
+    }
     let record = group(view.record_links(), record_rows);
     let per_message = view.per_message();
     for link in 0..view.link_count() {
         let queued = link_rows(queue_rows, &queue, link);
         let recorded = link_rows(record_rows, &record, link);
-        let taken = taken(call.rooms.numbers[link], per_message, queued.len());
+        let taken = taken(call.rooms.links[link], per_message, queued.len());
         let back = LinkRows {
             link,
             rows: &queued[taken..],

@@ -1,9 +1,9 @@
 -- How long each kind of action is at most, from the length of what it holds. A number takes at most ten bytes.
 -- Assumes nothing.
+use Rattle.std.specs.Prelude.{Option, Some, None}
 use Prim.Native.Nat.{ℕ, ◌+◌, ◌*◌, ◌≤◌}
 use mathlib.Core.Bool.{Bool}
 use mathlib.Core.List.{List, [], ◌∷◌}
-use mathlib.Core.Option.{Option, none, some}
 use native.Mathlib.Omega.{arith}
 use lib.ListN.{length}
 use Rattle.storage.specs.Lists.Base.{sum}
@@ -19,8 +19,8 @@ delivery-few Neighbors = omega arith
 
 wanted-few : (o : Option ℕ) → wanted_length o ≤ 33
 unfolding wanted_length
-wanted-few none = omega arith
-wanted-few (some id) = omega arith
+wanted-few None = omega arith
+wanted-few (Some id) = omega arith
 
 timer-few : (t : Timer) → timer_length t ≤ 33
 unfolding timer_length

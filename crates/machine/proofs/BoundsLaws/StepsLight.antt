@@ -3,11 +3,10 @@
 use Prim.Native.Nat.{ℕ, suc, ◌+◌, ◌*◌, ◌≤◌}
 use mathlib.Core.Bool.{Bool, false, not, ◌&&◌, ◌||◌}
 use mathlib.Core.List.{List, [], ◌∷◌, ◌++◌, map}
-use mathlib.Core.Option.{Option, none, some}
 use native.Mathlib.Omega.{arith}
 use lib.Dec.{eqb}
 use lib.ListN.{length}
-use Rattle.std.specs.Prelude.{if◌then◌else◌}
+use Rattle.std.specs.Prelude.{if◌then◌else◌, Option, Some, None}
 use Rattle.storage.specs.Lists.Base.{is_empty, member}
 use Rattle.storage.specs.Lists.Map.{keys}
 use Rattle.storage.proofs.ListsLaws.MapLaws.{cases}
@@ -65,20 +64,20 @@ push-light rooms id content d ps flag m h = light-then (sends-light rooms id con
 
 reply-light : (rooms : List Room) (sender id : ℕ) (o : Option Cached) (s : State) → content_length o ≤ 1048576 → Light 1100000 (reply_actions rooms sender id o s)
 unfolding reply_actions content_length
-reply-light rooms sender id none s h = light-none
-reply-light rooms sender id (some c) s h =
+reply-light rooms sender id None s h = light-none
+reply-light rooms sender id (Some c) s h =
     light-more (push-light rooms id c.content (Swarm c.round) (sender ∷ []) s.timers.announce 1048642 (omega arith)) (omega arith)
 
 pub graft-light : (rooms : List Room) (sender : ℕ) (wanted : Option ℕ) (s : State) → Small s → Light 1100000 (graft_actions rooms sender wanted s)
 unfolding graft_actions
-graft-light rooms sender none s small = light-none
-graft-light rooms sender (some id) s small = reply-light rooms sender id (get id s.cache) s (cached-few id s small)
+graft-light rooms sender None s small = light-none
+graft-light rooms sender (Some id) s small = reply-light rooms sender id (get id s.cache) s (cached-few id s small)
 
 ask-light : (rooms : List Room) (id : ℕ) (hs : List Hop) (s : State) → Light 100 (ask_actions rooms id hs s)
 unfolding ask_actions first_send
 ask-light rooms id [] s = light-none
 ask-light rooms id (h ∷ hs) s =
-    light-cons {m = 56} {n = 44} (graft-few h.peer (kth_taken 1 h.peer rooms) (some id) h.round) (light-one (scheduled-few s.settings.graft_timeout_2 (SendGraft id)))
+    light-cons {m = 56} {n = 44} (graft-few h.peer (kth_taken 1 h.peer rooms) (Some id) h.round) (light-one (scheduled-few s.settings.graft_timeout_2 (SendGraft id)))
 
 pub send-graft-light : (rooms : List Room) (id : ℕ) (s : State) → Light 100 (send_graft_actions rooms id s)
 unfolding send_graft_actions
@@ -121,7 +120,7 @@ optimise-light rooms sender round (h ∷ hs) s =
     light-if (far_closer s.settings.optimization_threshold round best.round)
     (light-if (eager_in best.peer s.links)
     (light-more (light-one (prune-few sender (kth_taken 1 sender rooms))) (omega arith))
-    (light-cons {m = 56} {n = 13} (graft-few best.peer (kth_taken 1 best.peer rooms) none best.round)
+    (light-cons {m = 56} {n = 13} (graft-few best.peer (kth_taken 1 best.peer rooms) None best.round)
     (light-one (prune-few sender (kth_taken (if eqb sender best.peer then 2 else 1) sender rooms)))))
     light-none
 

@@ -1,9 +1,9 @@
 -- The counts after a call are those of `handle`: no step changes them but the count of a message and `raise_hops`.
+use Rattle.std.specs.Prelude.{Option, Some, None}
 use Prim.Native.Nat.{ℕ, suc}
 use mathlib.Core.Path.{◌≡◌, refl, ap, ◌∙◌}
 use mathlib.Core.Bool.{true, not, ◌&&◌, ◌||◌}
 use mathlib.Core.List.{List, [], ◌∷◌}
-use mathlib.Core.Option.{Option, none, some}
 use lib.Dec.{ltb, eqb}
 use lib.ListN.{length}
 use Rattle.storage.specs.Lists.Base.{is_empty, member, any}
@@ -82,7 +82,7 @@ same-prune p r = plain r _ (same_sent p Prune _).counts
 
 same-unless : (h : Hop) (r : Run) → Same r (graft_unless_eager h r)
 unfolding graft_unless_eager update_links
-same-unless h r = walk-if Same (eager_in h.peer r.state.links) still (plain r _ (same_sent h.peer (Graft none h.round) _).counts)
+same-unless h r = walk-if Same (eager_in h.peer r.state.links) still (plain r _ (same_sent h.peer (Graft None h.round) _).counts)
 
 same-tree : (sender round : ℕ) (hs : List Hop) (r : Run) → Same r (optimize_tree sender round hs r)
 unfolding optimize_tree
@@ -121,15 +121,15 @@ same-ihave sender (h ∷ hs) r = same-announced sender h r ⨾ same-ihave sender
 
 same-replied : (sender id : ℕ) (o : Option Cached) (r : Run) → Same r (reply_with sender id o r)
 unfolding reply_with
-same-replied sender id none r = still
-same-replied sender id (some c) r =
+same-replied sender id None r = still
+same-replied sender id (Some c) r =
     walk-if Same (takes sender r) (same_sent sender (Gossip id c.content (Swarm c.round)) r)
     (same_sent sender (Gossip id c.content (Swarm c.round)) r ⨾ same_noted sender (record { id = id; round = c.round } ∷ []) (send sender (Gossip id c.content (Swarm c.round)) r))
 
 same-graft : (sender : ℕ) (o : Option ℕ) (r : Run) → Same r (on_graft sender o r)
 unfolding on_graft reply update_links
-same-graft sender none r = plain r _ refl
-same-graft sender (some id) r = plain r _ (same-replied sender id _ _).counts
+same-graft sender None r = plain r _ refl
+same-graft sender (Some id) r = plain r _ (same-replied sender id _ _).counts
 
 same_asked : (now id : ℕ) (hs : List Hop) (r : Run) → Same r (ask_first now id hs r)
 unfolding ask_first leave_announcers update_links note_graft act send

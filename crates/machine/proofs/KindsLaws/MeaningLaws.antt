@@ -7,13 +7,13 @@ use mathlib.Core.List.{List, [], ◌∷◌, ◌++◌}
 use native.Mathlib.Omega.{arith}
 use borrow.Author.Tests.{leb-true, leb-false, lt-ltb, le-ltb}
 use lib.Dec.{eqb, ltb, leb}
-use lib.ListN.{length, get_or, length-append, length-map}
+use lib.ListN.{length, get_or, length-append}
 use Rattle.storage.specs.Lists.Base.{concat_map, all}
-use Rattle.storage.specs.Lists.Map.{Entry, keys}
+use Rattle.storage.specs.Lists.Map.{keys}
 use Rattle.storage.proofs.ListsLaws.Branches.{if-on, if-both, if-same}
 use Rattle.storage.proofs.ListsLaws.MapLaws.{and_right}
 use Rattle.storage.specs.Rows.Ident.{id_of}
-use Rattle.std.specs.Prelude.{Option}
+use Rattle.std.specs.Prelude.{Option, Some}
 use Rattle.std.specs.Borrow.{Bor}
 use Rattle.storage.specs.declared.rows.id.Id.{Id}
 use Rattle.blake3.specs.Blake3.{identifier}
@@ -30,16 +30,15 @@ use Rattle.postcard.specs.declared.units.Round.{Round}
 use Rattle.postcard.proofs.Lengths.{length-content, length-gossip, length-ihave, length-ihaves}
 use Rattle.wire.specs.declared.reader.ihaves.Ihaves.{Ihaves}
 use Rattle.wire.proofs.ReaderLaws.AnnouncedLaws.{announced_count}
-use Rattle.protocol.specs.Links.{Links, Mark, is_neighbour}
+use Rattle.protocol.specs.Links.{Links, is_neighbour}
 use Rattle.protocol.specs.State.{State, Counts, size_in_range}
 use Rattle.protocol.specs.Run.{Room}
 use Rattle.protocol.specs.Answer.{last_round}
 use Rattle.protocol.specs.Ticks.{evict}
 use Rattle.protocol.specs.Consistent.{CoreOf, Ranged}
 use Rattle.block.specs.LinkSteps.{peer_at}
-use Rattle.block.proofs.LinkLaws.{neighbour-here, neighbour-between}
-use Rattle.time_cache.proofs.Orders.{up_of}
-use Rattle.storage.specs.Rows.Sorted.{Here, Between}
+use Rattle.steps.specs.Found.{LinkAt}
+use Rattle.steps.proofs.NeighborLaws.{found-neighbour}
 use Rattle.decide.specs.Settled.{settled, settled_actions, received_before, too_far_before}
 use Rattle.decide.specs.ActionsAfter.{gossip_actions, message_actions, timer_actions, actions_after}
 use Rattle.decide.specs.StateAfter.{first_state, broadcast_state, timer_state, gossip_state, message_state, state_after}
@@ -174,44 +173,41 @@ module _ (now : ℕ) (s : State) (sender : ℕ) (i : Id) (content : Bor (List �
       subst (λ (v : declared.Delivery). Means now s (step.NewNeighbors sender content) (Received sender (Gossip (id_of i) content.now (delivery_value v)))) (sym e) means-new-neighbors
 
 -- a stranger's Prune, Graft or IHave
-module _ (now : ℕ) (s : State) (sender place : ℕ) (core : CoreOf s) (away : Between (keys s.links) sender place) where
+module _ (now : ℕ) (s : State) (sender : ℕ) (core : CoreOf s) (away : is_neighbour sender s.links ≡ false) where
   away-settled : is_neighbour sender (settled now s).links ≡ false
-  away-settled = ap (is_neighbour sender) (settled-links now s) ∙ neighbour-between sender place s.links away
+  away-settled = ap (is_neighbour sender) (settled-links now s) ∙ away
 
   does-stranger-prune : (t : State) → is_neighbour sender t.links ≡ false → Does now t step.Nothing sender Prune
   unfolding message_actions message_state message_counts step_actions step_state step_counts
   does-stranger-prune t a = record { actions = λ rooms. refl; state = λ rooms. rw a refl; counts = λ c. refl }
 
-  pub means-stranger-prune : Means now s step.Nothing (Received sender Prune)
-  unfolding too_far_before step_far
-  means-stranger-prune = means-message now s step.Nothing sender Prune core refl (does-stranger-prune (settled now s) away-settled) tt tt
-
   does-stranger-graft : (wanted : _) (round : ℕ) (t : State) → is_neighbour sender t.links ≡ false → Does now t step.Nothing sender (Graft wanted round)
   unfolding message_actions message_state message_counts step_actions step_state step_counts
   does-stranger-graft wanted round t a = record { actions = λ rooms. rw a refl; state = λ rooms. rw a refl; counts = λ c. refl }
 
-  pub means-stranger-graft : (wanted : _) (round : ℕ) → Means now s step.Nothing (Received sender (Graft wanted round))
-  unfolding too_far_before step_far
-  means-stranger-graft wanted round = means-message now s step.Nothing sender (Graft wanted round) core refl (does-stranger-graft wanted round (settled now s) away-settled) tt tt
-
   does-stranger-ihave : (hs : List Ihave) (t : State) → is_neighbour sender t.links ≡ false → Does now t step.Nothing sender (IHave hs)
   unfolding message_actions message_state message_counts step_actions step_state step_counts
   does-stranger-ihave hs t a = record { actions = λ rooms. rw a refl; state = λ rooms. rw a refl; counts = λ c. refl }
+
+  pub means-stranger-prune : Means now s step.Nothing (Received sender Prune)
+  unfolding too_far_before step_far
+  means-stranger-prune = means-message now s step.Nothing sender Prune core refl (does-stranger-prune (settled now s) away-settled) tt tt
+
+  pub means-stranger-graft : (wanted : _) (round : ℕ) → Means now s step.Nothing (Received sender (Graft wanted round))
+  unfolding too_far_before step_far
+  means-stranger-graft wanted round = means-message now s step.Nothing sender (Graft wanted round) core refl (does-stranger-graft wanted round (settled now s) away-settled) tt tt
 
   pub means-stranger-ihave : (hs : List Ihave) → Means now s step.Nothing (Received sender (IHave hs))
   unfolding too_far_before step_far
   means-stranger-ihave hs = means-message now s step.Nothing sender (IHave hs) core refl (does-stranger-ihave hs (settled now s) away-settled) tt tt
 
 -- a neighbour's
-module _ (now : ℕ) (s : State) (sender link : ℕ) (core : CoreOf s) (here : Here (keys s.links) sender link) where
+module _ (now : ℕ) (s : State) (sender link : ℕ) (core : CoreOf s) (there : LinkAt s sender link) where
   there-settled : is_neighbour sender (settled now s).links ≡ true
-  there-settled = ap (is_neighbour sender) (settled-links now s) ∙ neighbour-here sender link s.links (up_of (keys s.links) core.links_up) here
-
-  pub is-link : link < length s.links
-  is-link = omega (arith, here.within, length-map s.links (λ (e : Entry Mark). e.key))
+  there-settled = ap (is_neighbour sender) (settled-links now s) ∙ sym (found-neighbour s sender (Some link) core.links_up there)
 
   peer-settled : peer_at (settled now s) link ≡ sender
-  peer-settled = ap (λ (m : Links). get_or (keys m) link 0) (settled-links now s) ∙ here.same
+  peer-settled = ap (λ (m : Links). get_or (keys m) link 0) (settled-links now s) ∙ there.peer
 
   does-prune : (t : State) → is_neighbour sender t.links ≡ true → peer_at t link ≡ sender → Does now t (step.Prune link) sender Prune
   unfolding message_actions message_state message_counts step_actions step_state step_counts
@@ -219,7 +215,7 @@ module _ (now : ℕ) (s : State) (sender link : ℕ) (core : CoreOf s) (here : H
 
   pub means-prune : Means now s (step.Prune link) (Received sender Prune)
   unfolding too_far_before step_far
-  means-prune = means-message now s (step.Prune link) sender Prune core refl (does-prune (settled now s) there-settled peer-settled) is-link tt
+  means-prune = means-message now s (step.Prune link) sender Prune core refl (does-prune (settled now s) there-settled peer-settled) there.below tt
 
   does-graft : (w : Option Id) (round : ℕ) (t : State) → is_neighbour sender t.links ≡ true → peer_at t link ≡ sender → Does now t (step.Graft link w) sender (Graft (wanted_value w) round)
   unfolding message_actions message_state message_counts step_actions step_state step_counts
@@ -227,7 +223,7 @@ module _ (now : ℕ) (s : State) (sender link : ℕ) (core : CoreOf s) (here : H
 
   pub means-graft : (w : Option Id) (round : ℕ) → Means now s (step.Graft link w) (Received sender (Graft (wanted_value w) round))
   unfolding too_far_before step_far
-  means-graft w round = means-message now s (step.Graft link w) sender (Graft (wanted_value w) round) core refl (does-graft w round (settled now s) there-settled peer-settled) is-link tt
+  means-graft w round = means-message now s (step.Graft link w) sender (Graft (wanted_value w) round) core refl (does-graft w round (settled now s) there-settled peer-settled) there.below tt
 
   does-ihave : (ihaves : Ihaves) (t : State) → is_neighbour sender t.links ≡ true → peer_at t link ≡ sender → Does now t (step.IHave link ihaves) sender (IHave (ihaves_value ihaves))
   unfolding message_actions message_state message_counts step_actions step_state step_counts
@@ -245,10 +241,6 @@ module _ (now : ℕ) (s : State) (sender link : ℕ) (core : CoreOf s) (here : H
   pub means-known-ihave : (hs : List Ihave) → all (is_received (settled now s)) hs ≡ true → Means now s step.Nothing (Received sender (IHave hs))
   unfolding too_far_before step_far
   means-known-ihave hs k = means-message now s step.Nothing sender (IHave hs) core refl (does-known-ihave hs (settled now s) there-settled k) tt tt
-
--- the peer of a link stands there
-pub link_here : (s : State) (link : ℕ) → link < length s.links → Here (keys s.links) (peer_at s link) link
-link_here s link w = record { within = omega (arith, w, length-map s.links (λ (e : Entry Mark). e.key)); same = refl }
 
 -- a broadcast of size over M
 pub means-oversize : (now : ℕ) (s : State) (content : List ℕ) (scope : Scope) → CoreOf s → ltb s.settings.max_message_size (gossip_size (length content) scope) ≡ true →

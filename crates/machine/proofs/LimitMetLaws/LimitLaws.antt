@@ -1,13 +1,12 @@
--- What the code computes is what the definitions say: question by question (`limit-5`, `limit-6`, `limit-fault`, `limit-event`), and with the link room in an array (`core-limit`).
+-- What the code computes is what the definitions say: question by question (`limit-5`, `limit-6`, `limit-fault`, `limit-event`), and with the link room in numbers (`core-limit`).
 use Prim.Native.Nat.{ℕ, ◌^◌, ◌≤◌, ◌<◌, zero-le}
 use mathlib.Core.Path.{◌≡◌, refl, sym, ap, subst, ◌∙◌}
 use mathlib.Core.Bool.{Bool, true, false, not, ◌&&◌}
 use mathlib.Core.List.{List}
-use mathlib.Core.Option.{Option, none, some}
 use lib.Dec.{leb}
-use lib.ListN.{length, set, drop}
+use lib.ListN.{length, drop}
 use borrow.Author.Tests.{le-leb, lt-leb, leb-true, leb-false}
-use Rattle.std.specs.Prelude.{if◌then◌else◌}
+use Rattle.std.specs.Prelude.{if◌then◌else◌, Option, Some, None}
 use Rattle.storage.proofs.ListsLaws.Branches.{if-on, if-both, if-same}
 use Rattle.storage.proofs.ListsLaws.MapLaws.{cases}
 use Rattle.blake3.specs.Blake3.{identifier}
@@ -30,6 +29,7 @@ use Rattle.block.specs.View.{state_of}
 use Rattle.block.specs.Header.{head_in}
 use Rattle.block.specs.declared.head.Head.{Head}
 use Rattle.steps.specs.Rooms.{rooms_in}
+use Rattle.steps.specs.declared.call.Rooms.{Rooms}
 use Rattle.whole.specs.Held.{held, whole_held, whole_block}
 use Rattle.whole.proofs.HeldLaws.{Wholly, wholly_of}
 use Rattle.machine.specs.Core.{begun, event_peer, event_size, core_rooms}
@@ -90,15 +90,15 @@ told-event s k e size w fit =
     later = if too_far identifier e (first_event k.now (begin s zero_counts k.rooms)).state then refuse 12 else last_two k.output e run
 
 -- (5) no
-not-whole : (s : State) (b : Bool) (k : Call) → whole s ≡ false → limit_of identifier (if b && whole s then some s else none) k ≡ 0
+not-whole : (s : State) (b : Bool) (k : Call) → whole s ≡ false → limit_of identifier (if b && whole s then Some s else None) k ≡ 0
 unfolding limit_of
 not-whole s true k q = rw q refl
 not-whole s false k q = refl
 
 no-state : (n : ℕ) (x : Option State) (k : Call) → whole_held x ≡ false → limit_met identifier n x k ≡ 0
 unfolding limit_met whole_state limit_of whole_held
-no-state n none k q = refl
-no-state n (some s) k q = not-whole s (long_enough n s) k q
+no-state n None k q = refl
+no-state n (Some s) k q = not-whole s (long_enough n s) k q
 
 pub limit-5 : (block : List ℕ) (k : Call) → whole_block block ≡ false → limit_met identifier (length block) (held block) k ≡ 0
 unfolding whole_block
@@ -113,7 +113,7 @@ module _ (block : List ℕ) (w : Wholly block) where
   unfolding long_enough state_of
   long-enough = le-leb _ (length block) (begun-of block w 0 zero-le).long
 
-  limit-whole : (k : Call) → limit_met identifier (length block) (held block) k ≡ limit_of identifier (some s) k
+  limit-whole : (k : Call) → limit_met identifier (length block) (held block) k ≡ limit_of identifier (Some s) k
   unfolding limit_met whole_state
   limit-whole k = ap (λ (x : Option State). limit_of identifier (whole_state (length block) x) k) w.state ∙ rw (long-enough, w.whole) refl
 
@@ -160,11 +160,11 @@ begun-limit block now bytes n rooms e =
     (λ l. limit-6 block (wholly_of block w) (asking now bytes rooms) (leb-false now (2 ^ 62) l)))
     (λ w. limit-5 block (asking now bytes rooms) w)
 
--- one that was read, with the link room in an array
-pub core-limit : (block bytes array : List ℕ) (g : Head) (now : ℕ) (e : CodeEvent) (p n : ℕ) → Reads block now bytes (event_value e) → g ≡ head_in block → SizedBehind (drop 1 bytes) e → p ≡ event_peer e →
-    n ≡ event_past (rooms_in (state_of g block) (set array 33 p)) now (event_size e) (event_value e) (state_of g block) →
-    n ≡ limit_met identifier (length block) (held block) (asking now bytes (core_rooms block bytes array))
-core-limit block bytes array g now e p n r same sized q f =
-    subst (λ (x : Head). n ≡ event_past (rooms_in (state_of x block) (set array 33 p)) now (event_size e) (event_value e) (state_of x block)) same f
-    ∙ ap (λ (rs : List Room). event_past rs now (event_size e) (event_value e) (state_of (head_in block) block)) (sym (core-rooms block bytes array e p r.means q))
-    ∙ sym (limit-event block r.wholly (asking now bytes (core_rooms block bytes array)) (event_value e) (event_size e) r.early r.means (same-fit _ bytes e sized))
+-- one that was read, with the link room in numbers
+pub core-limit : (block bytes : List ℕ) (rooms : Rooms) (g : Head) (now : ℕ) (e : CodeEvent) (p n : ℕ) → Reads block now bytes (event_value e) → g ≡ head_in block → SizedBehind (drop 1 bytes) e → p ≡ event_peer e →
+    n ≡ event_past (rooms_in (state_of g block) p rooms) now (event_size e) (event_value e) (state_of g block) →
+    n ≡ limit_met identifier (length block) (held block) (asking now bytes (core_rooms block bytes rooms))
+core-limit block bytes rooms g now e p n r same sized q f =
+    subst (λ (x : Head). n ≡ event_past (rooms_in (state_of x block) p rooms) now (event_size e) (event_value e) (state_of x block)) same f
+    ∙ ap (λ (rs : List Room). event_past rs now (event_size e) (event_value e) (state_of (head_in block) block)) (sym (core-rooms block bytes rooms e p r.means q))
+    ∙ sym (limit-event block r.wholly (asking now bytes (core_rooms block bytes rooms)) (event_value e) (event_size e) r.early r.means (same-fit _ bytes e sized))

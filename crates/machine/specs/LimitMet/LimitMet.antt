@@ -1,7 +1,6 @@
 -- Which limit a call met that is answered 13: the specification, question 13.
 -- Assumes nothing.
-use Rattle.std.specs.Prelude.{ℕ, Bool, false, not, List, leb, eqb, length, if◌then◌else◌}
-use Rattle.std.proofs.Math.Option.{Option, none, some}
+use Rattle.std.specs.Prelude.{ℕ, Bool, false, not, List, leb, eqb, length, if◌then◌else◌, Option, Some, None}
 use Rattle.postcard.specs.Message.{Event}
 use Rattle.postcard.specs.Decode.{Decoded, decoded, faulty, decode_event}
 use Rattle.protocol.specs.State.{State, zero_counts}
@@ -41,8 +40,8 @@ module _ (hash : List ℕ → ℕ) where
 
   -- upon a whole block's state, with the counts zero; 0 if the answer is not 13
   unfoldable pub limit_of : Option State → Call → ℕ
-  limit_of none k = 0
-  limit_of (some s) k = if is13 (ask hash s zero_counts k) then past_after s k (decode_event k.event) else 0
+  limit_of None k = 0
+  limit_of (Some s) k = if is13 (ask hash s zero_counts k) then past_after s k (decode_event k.event) else 0
 
   -- upon a block of this length; `held` is the state that its bytes hold, if they hold one
   unfoldable pub limit_met : ℕ → Option State → Call → ℕ

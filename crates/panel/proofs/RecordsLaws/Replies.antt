@@ -9,7 +9,7 @@ use lib.ListN.{length, take, drop, length-append}
 use lib.Seq.{take-append_seam, length-take-le}
 use Rattle.storage.specs.Rows.Part.{put}
 use Rattle.postcard.specs.Number.{number_bytes, number_length}
-use Rattle.postcard.specs.Output.{Room, Wrote}
+use Rattle.postcard.specs.Output.{FitsAt, Wrote}
 use Rattle.postcard.proofs.Lengths.{number-few}
 use Rattle.std.specs.Bool.{◌==◌}
 use Rattle.std.proofs.lemmas.Bool.{eqb-true}
@@ -35,7 +35,7 @@ module _ (number n : ℕ) (out reply : List ℕ) (h : length reply ≡ 40971) (i
   actions-long : length (take n out) ≡ n
   actions-long = length-take-le n out in-out
 
-  pub answer-room : Room (answer_bytes number (take n out)) 0 reply
+  pub answer-room : FitsAt (answer_bytes number (take n out)) 0 reply
   answer-room = record { fits = omega (arith, answer-few number (take n out), actions-long) }
 
 -- the end of the input: where no byte is unread nothing is written, else the end

@@ -23,8 +23,9 @@ use Rattle.protocol.specs.Run.{Room}
 use Rattle.protocol.specs.Push.{eager_targets}
 use Rattle.decide.specs.Rooms.{kth_taken, back_peers}
 use Rattle.block.specs.LinkSteps.{link_at, peer_at}
-use Rattle.steps.specs.Rooms.{rooms_in}
 use Rattle.payloads.specs.Eager.Targets.{is_target, hands_back}
+use Rattle.steps.specs.Calls.{rooms_of}
+use Rattle.steps.specs.declared.call.Call.{Call}
 
 if-append : {A : Type 0} (t : Bool) (x : A) (xs ys : List A) → (if t then x ∷ (xs ++ ys) else xs ++ ys) ≡ (if t then x ∷ xs else xs) ++ ys
 if-append true x xs ys = refl
@@ -36,9 +37,9 @@ marked_append f [] m = refl
 marked_append f (e ∷ l) m =
     ap (λ (t : List ℕ). if f e.value then e.key ∷ t else t) (marked_append f l m) ∙ if-append (f e.value) e.key (peers_marked f l) (peers_marked f m)
 
--- the array has the room of each link
-pub record Roomed (s : State) (array : List ℕ) : Type 0 where
-  pub first : (i : ℕ) → i < length s.links → kth_taken 1 (peer_at s i) (rooms_in s array) ≡ leb 1 (get_or array i 0)
+-- the room of each link is the number that the call brings
+pub record Roomed (s : State) (call : Call) : Type 0 where
+  pub first : (i : ℕ) → i < length s.links → kth_taken 1 (peer_at s i) (rooms_of call s) ≡ leb 1 (get_or call.rooms.now.links i 0)
 
 -- the targets among some links
 
@@ -127,51 +128,51 @@ module _ (rooms : List Room) where
   back-taken p e = ap (λ (b : Bool). if not b then p ∷ [] else []) e
 
 -- those among the first i links
-abbrev pub backs_to : ℕ → List ℕ → List ℕ → State → ℕ → List ℕ
-backs_to sender skip array s i = back_peers (rooms_in s array) (first sender skip s i)
+abbrev pub backs_to : ℕ → List ℕ → Call → State → ℕ → List ℕ
+backs_to sender skip call s i = back_peers (rooms_of call s) (first sender skip s i)
 
-module _ (sender : ℕ) (skip array : List ℕ) (s : State) where
+module _ (sender : ℕ) (skip : List ℕ) (call : Call) (s : State) where
   abbrev backs : ℕ → List ℕ
-  backs i = backs_to sender skip array s i
+  backs i = backs_to sender skip call s i
 
   pub backs-none : backs 0 ≡ []
   unfolding back_peers filter
-  backs-none = ap (back_peers (rooms_in s array)) (first-none sender skip s)
+  backs-none = ap (back_peers (rooms_of call s)) (first-none sender skip s)
 
-  pub backs-all : (i : ℕ) → length s.links ≤ i → backs i ≡ back_peers (rooms_in s array) (eager_targets sender skip s)
-  backs-all i h = ap (back_peers (rooms_in s array)) (first-all sender skip s i h)
+  pub backs-all : (i : ℕ) → length s.links ≤ i → backs i ≡ back_peers (rooms_of call s) (eager_targets sender skip s)
+  backs-all i h = ap (back_peers (rooms_of call s)) (first-all sender skip s i h)
 
-  module _ (roomed : Roomed s array) (i : ℕ) (q : i < length s.links) where
+  module _ (roomed : Roomed s call) (i : ℕ) (q : i < length s.links) where
     -- link i is pushed to, and has no room
-    pub backs-held : is_target sender skip s i ≡ true → leb 1 (get_or array i 0) ≡ false → backs (i + 1) ≡ backs i ++ (peer_at s i ∷ [])
+    pub backs-held : is_target sender skip s i ≡ true → leb 1 (get_or call.rooms.now.links i 0) ≡ false → backs (i + 1) ≡ backs i ++ (peer_at s i ∷ [])
     backs-held e z =
-        ap (back_peers (rooms_in s array)) (first-in sender skip s i q e)
-        ∙ back-append (rooms_in s array) (first sender skip s i) (peer_at s i ∷ [])
-        ∙ ap (λ (l : List ℕ). backs i ++ l) (back-held (rooms_in s array) (peer_at s i) (roomed.first i q ∙ z))
+        ap (back_peers (rooms_of call s)) (first-in sender skip s i q e)
+        ∙ back-append (rooms_of call s) (first sender skip s i) (peer_at s i ∷ [])
+        ∙ ap (λ (l : List ℕ). backs i ++ l) (back-held (rooms_of call s) (peer_at s i) (roomed.first i q ∙ z))
 
     -- it is pushed to, and has room
-    pub backs-taken : is_target sender skip s i ≡ true → leb 1 (get_or array i 0) ≡ true → backs (i + 1) ≡ backs i
+    pub backs-taken : is_target sender skip s i ≡ true → leb 1 (get_or call.rooms.now.links i 0) ≡ true → backs (i + 1) ≡ backs i
     backs-taken e z =
-        ap (back_peers (rooms_in s array)) (first-in sender skip s i q e)
-        ∙ back-append (rooms_in s array) (first sender skip s i) (peer_at s i ∷ [])
-        ∙ ap (λ (l : List ℕ). backs i ++ l) (back-taken (rooms_in s array) (peer_at s i) (roomed.first i q ∙ z))
+        ap (back_peers (rooms_of call s)) (first-in sender skip s i q e)
+        ∙ back-append (rooms_of call s) (first sender skip s i) (peer_at s i ∷ [])
+        ∙ ap (λ (l : List ℕ). backs i ++ l) (back-taken (rooms_of call s) (peer_at s i) (roomed.first i q ∙ z))
         ∙ append-nil (backs i)
 
     -- it is not pushed to
     pub backs-out : is_target sender skip s i ≡ false → backs (i + 1) ≡ backs i
-    backs-out e = ap (back_peers (rooms_in s array)) (first_out sender skip s i q e)
+    backs-out e = ap (back_peers (rooms_of call s)) (first_out sender skip s i q e)
 
-    pub backs-yes : hands_back sender skip array s i ≡ true → backs (i + 1) ≡ backs i ++ (peer_at s i ∷ [])
+    pub backs-yes : hands_back sender skip call.rooms.now.links s i ≡ true → backs (i + 1) ≡ backs i ++ (peer_at s i ∷ [])
     unfolding hands_back
     backs-yes e =
-        backs-held (and_left (is_target sender skip s i) (not (leb 1 (get_or array i 0))) e)
-        (not-true (leb 1 (get_or array i 0)) (and_right (is_target sender skip s i) (not (leb 1 (get_or array i 0))) e))
+        backs-held (and_left (is_target sender skip s i) (not (leb 1 (get_or call.rooms.now.links i 0))) e)
+        (not-true (leb 1 (get_or call.rooms.now.links i 0)) (and_right (is_target sender skip s i) (not (leb 1 (get_or call.rooms.now.links i 0))) e))
 
-    pub backs-no : hands_back sender skip array s i ≡ false → backs (i + 1) ≡ backs i
+    pub backs-no : hands_back sender skip call.rooms.now.links s i ≡ false → backs (i + 1) ≡ backs i
     unfolding hands_back
     backs-no e =
         cases (is_target sender skip s i)
-        (λ t. backs-taken t (not-false (leb 1 (get_or array i 0)) (sym (ap (λ (b : Bool). b && not (leb 1 (get_or array i 0))) t) ∙ e)))
+        (λ t. backs-taken t (not-false (leb 1 (get_or call.rooms.now.links i 0)) (sym (ap (λ (b : Bool). b && not (leb 1 (get_or call.rooms.now.links i 0))) t) ∙ e)))
         backs-out
 
 all-below : (p : ℕ) (xs : List ℕ) → all (λ x. ltb x p) xs ≡ true → member p xs ≡ false
@@ -192,9 +193,9 @@ keys-take zero m = refl
 keys-take (suc i) [] = refl
 keys-take (suc i) (e ∷ m) = ap (λ (l : List ℕ). e.key ∷ l) (keys-take i m)
 
-pub backs-apart : (sender : ℕ) (skip array : List ℕ) (s : State) → ascending (keys s.links) ≡ true → (i : ℕ) → i < length s.links → member (peer_at s i) (backs_to sender skip array s i) ≡ false
+pub backs-apart : (sender : ℕ) (skip : List ℕ) (call : Call) (s : State) → ascending (keys s.links) ≡ true → (i : ℕ) → i < length s.links → member (peer_at s i) (backs_to sender skip call s i) ≡ false
 unfolding back_peers targets_in eager_peers
-backs-apart sender skip array s up i q =
+backs-apart sender skip call s up i q =
     let k : length (keys s.links) ≡ length s.links = length-map s.links (λ e. e.key) in
     let below : all (λ x. ltb x (peer_at s i)) (keys (take i s.links)) ≡ true =
     at_all (λ x. ltb x (peer_at s i)) 0 (keys (take i s.links))
@@ -202,7 +203,7 @@ backs-apart sender skip array s up i q =
     let j-below : j < i = omega (arith, ap length (keys-take i s.links), length-take-le i (keys s.links) (omega arith)) in
     lt-ltb (get_or (keys (take i s.links)) j 0) (peer_at s i)
     (subst (λ (x : ℕ). x < peer_at s i) (sym (ap (λ (l : List ℕ). get_or l j 0) (keys-take i s.links) ∙ get_or-take i (keys s.links) j 0 j-below)) ((up_of (keys s.links) up).up j i j-below (omega arith)))) in
-    all-below (peer_at s i) (backs_to sender skip array s i)
-    (all_filter (λ x. ltb x (peer_at s i)) (λ p. not (kth_taken 1 p (rooms_in s array))) (first sender skip s i)
+    all-below (peer_at s i) (backs_to sender skip call s i)
+    (all_filter (λ x. ltb x (peer_at s i)) (λ p. not (kth_taken 1 p (rooms_of call s))) (first sender skip s i)
     (all_filter (λ x. ltb x (peer_at s i)) (passes s.settings.me sender skip) (peers_marked is_eager (take i s.links))
     (marked_all (λ x. ltb x (peer_at s i)) is_eager (take i s.links) below)))

@@ -24,7 +24,7 @@ use Rattle.steps.specs.Record.{note_of, with_these, these_noted}
 use Rattle.steps.specs.declared.call.Call.{Call}
 use Rattle.payloads.specs.Eager.Targets.{hands_back}
 use Rattle.payloads.specs.Eager.Scan.{wants_note}
-use Rattle.payloads.specs.EagerPush.Targets.{skipped_peers}
+use Rattle.payloads.specs.EagerPush.Targets.{skipped_peers, push_backs}
 use Rattle.payloads.specs.EagerPush.Notes.{record_back, back_state}
 use Rattle.payloads.specs.declared.eager_push.target.Push.{Push}
 use Rattle.payloads.proofs.EagerLaws.TargetLaws.{Roomed, backs_to, backs-none, backs-yes, backs-no, backs-all, backs-apart}
@@ -111,46 +111,43 @@ module _ (held : ℕ → Bool) (call : Call) (push : Push) (id round : ℕ) (s :
   abbrev sk : List ℕ
   sk = skipped_peers push.skip s
 
-  abbrev array : List ℕ
-  array = call.rooms.numbers.now
-
   abbrev ih : Ihave
   ih = record { id = id; round = round }
 
   abbrev kept : ℕ → List Note
-  kept i = add_batches held (batches_for ih (backs_to push.sender sk array s i)) s.dropped
+  kept i = add_batches held (batches_for ih (backs_to push.sender sk call s i)) s.dropped
 
-  rooms : Roomed s array
-  rooms = rest-roomed s array at_rest
+  rooms : Roomed s call
+  rooms = rest-roomed s call at_rest
 
   none-kept : kept 0 ≡ s.dropped
-  none-kept = ap (λ (ps : List ℕ). add_batches held (batches_for ih ps) s.dropped) (backs-none push.sender sk array s) ∙ for-none held ih s.dropped
+  none-kept = ap (λ (ps : List ℕ). add_batches held (batches_for ih ps) s.dropped) (backs-none push.sender sk call s) ∙ for-none held ih s.dropped
 
   all-kept : (i : ℕ) → length s.links ≤ i → record_back held call push id round s ≡ kept i
-  all-kept i q = ap (λ (ps : List ℕ). add_batches held (batches_for ih ps) s.dropped) (sym (backs-all push.sender sk array s i q))
+  all-kept i q = ap (λ (ps : List ℕ). add_batches held (batches_for ih ps) s.dropped) (sym (backs-all push.sender sk call s i q))
 
   module _ (i : ℕ) (q : i < length s.links) where
     abbrev p : ℕ
     p = peer_at s i
 
     agree : Agree p s.dropped (kept i)
-    agree = for-apart held p ih (backs_to push.sender sk array s i) s.dropped (backs-apart push.sender sk array s at_rest.consistent.core.links_up i q)
+    agree = for-apart held p ih (backs_to push.sender sk call s i) s.dropped (backs-apart push.sender sk call s at_rest.consistent.core.links_up i q)
 
-    after-yes : hands_back push.sender sk array s i ≡ true → kept (i + 1) ≡ add_note held p ih (kept i)
+    after-yes : hands_back push.sender sk call.rooms.now.links s i ≡ true → kept (i + 1) ≡ add_note held p ih (kept i)
     after-yes e =
-        ap (λ (ps : List ℕ). add_batches held (batches_for ih ps) s.dropped) (backs-yes push.sender sk array s rooms i q e)
-        ∙ for-then held ih (backs_to push.sender sk array s i) (p ∷ []) s.dropped
+        ap (λ (ps : List ℕ). add_batches held (batches_for ih ps) s.dropped) (backs-yes push.sender sk call s rooms i q e)
+        ∙ for-then held ih (backs_to push.sender sk call s i) (p ∷ []) s.dropped
         ∙ for-one held ih p (kept i)
 
-    after-no : hands_back push.sender sk array s i ≡ false → kept (i + 1) ≡ kept i
-    after-no e = ap (λ (ps : List ℕ). add_batches held (batches_for ih ps) s.dropped) (backs-no push.sender sk array s rooms i q e)
+    after-no : hands_back push.sender sk call.rooms.now.links s i ≡ false → kept (i + 1) ≡ kept i
+    after-no e = ap (λ (ps : List ℕ). add_batches held (batches_for ih ps) s.dropped) (backs-no push.sender sk call s rooms i q e)
 
     -- it gets a note
 
-    pub after-want : wants_note push.sender sk array id s i ≡ true → length (kept i) < 4096 → kept (i + 1) ≡ kept i ++ (note p id round ∷ [])
+    pub after-want : wants_note push.sender sk call.rooms.now.links id s i ≡ true → length (kept i) < 4096 → kept (i + 1) ≡ kept i ++ (note p id round ∷ [])
     unfolding wants_note add_note record_full
     after-want w short =
-        let b : Bool = hands_back push.sender sk array s i in
+        let b : Bool = hands_back push.sender sk call.rooms.now.links s i in
         let full : Bool = leb 256 (count (for_peer p) s.dropped) in
         let there : Bool = any (notes p id) s.dropped in
         let n : full || there ≡ false = not-true (full || there) (and_right b (not (full || there)) w) in
@@ -163,7 +160,7 @@ module _ (held : ℕ → Bool) (call : Call) (push : Push) (id round : ℕ) (s :
     pub after-full : 4096 ≤ length (kept i) → kept (i + 1) ≡ kept i
     unfolding add_note record_full
     after-full long =
-        cases (hands_back push.sender sk array s i)
+        cases (hands_back push.sender sk call.rooms.now.links s i)
         (λ e. after-yes e ∙ picked (record_full p (kept i)) (held id) (any (notes p id) (kept i)) (kept i) _ (on (leb 256 (count (for_peer p) (kept i))) (any (notes p id) (kept i)) (le-leb 4096 (length (kept i)) long)))
         after-no
       where
@@ -171,12 +168,12 @@ module _ (held : ℕ → Bool) (call : Call) (push : Push) (id round : ℕ) (s :
         on true d e = refl
         on false d e = ap (λ (x : Bool). x || d) e
 
-    pub after-pass : wants_note push.sender sk array id s i ≡ false → kept (i + 1) ≡ kept i
+    pub after-pass : wants_note push.sender sk call.rooms.now.links id s i ≡ false → kept (i + 1) ≡ kept i
     unfolding wants_note add_note record_full
     after-pass w =
         let full : Bool = leb 256 (count (for_peer p) s.dropped) in
         let there : Bool = any (notes p id) s.dropped in
-        cases (hands_back push.sender sk array s i)
+        cases (hands_back push.sender sk call.rooms.now.links s i)
         (λ e.
         let o : full || there ≡ true = not-false (full || there) (sym (ap (λ (b : Bool). b && not (full || there)) e) ∙ w) in
         let o' : leb 256 (count (for_peer p) (kept i)) || any (notes p id) (kept i) ≡ true = (λ k. leb 256 (agree.counted k) || agree.noted id k) ∙ o in
@@ -185,18 +182,18 @@ module _ (held : ℕ → Bool) (call : Call) (push : Push) (id round : ℕ) (s :
 
 -- after i links these get a note
 abbrev pub Noted : Call → Push → ℕ → State → ℕ → List ℕ → Type 0
-Noted call push id s i ls = (held : ℕ → Bool) (round : ℕ) → held id ≡ true → add_batches held (batches_for (record { id = id; round = round }) (backs_to push.sender (skipped_peers push.skip s) call.rooms.numbers.now s i)) s.dropped ≡ with_these ls id round s
+Noted call push id s i ls = (held : ℕ → Bool) (round : ℕ) → held id ≡ true → add_batches held (batches_for (record { id = id; round = round }) (backs_to push.sender (skipped_peers push.skip s) call s i)) s.dropped ≡ with_these ls id round s
 
 module _ (call : Call) (push : Push) (id : ℕ) (s : State) (rest : AtRest s) where
   pub noted-none : Noted call push id s 0 []
   noted-none held round c = none-kept held call push id round s rest c ∙ sym (append-nil s.dropped)
 
   module _ (i : ℕ) (ls : List ℕ) (so : Noted call push id s i ls) where
-    long : (held : ℕ → Bool) (round : ℕ) → held id ≡ true → length (add_batches held (batches_for (record { id = id; round = round }) (backs_to push.sender (skipped_peers push.skip s) call.rooms.numbers.now s i)) s.dropped) ≡ length s.dropped + length ls
+    long : (held : ℕ → Bool) (round : ℕ) → held id ≡ true → length (add_batches held (batches_for (record { id = id; round = round }) (backs_to push.sender (skipped_peers push.skip s) call s i)) s.dropped) ≡ length s.dropped + length ls
     long held round c = ap length (so held round c) ∙ omega (arith, length-append s.dropped (map (note_of s id round) ls), length-map ls (note_of s id round))
 
     module _ (q : i < length s.links) where
-      pub noted-more : wants_note push.sender (skipped_peers push.skip s) call.rooms.numbers.now id s i ≡ true → length s.dropped + length ls < 4096 → Noted call push id s (i + 1) (ls ++ (i ∷ []))
+      pub noted-more : wants_note push.sender (skipped_peers push.skip s) call.rooms.now.links id s i ≡ true → length s.dropped + length ls < 4096 → Noted call push id s (i + 1) (ls ++ (i ∷ []))
       noted-more w r held round c =
           after-want held call push id round s rest c i q w (omega (arith, long held round c))
           ∙ ap (λ (ds : List Note). ds ++ (note_of s id round i ∷ [])) (so held round c)
@@ -206,11 +203,32 @@ module _ (call : Call) (push : Push) (id : ℕ) (s : State) (rest : AtRest s) wh
       pub noted-full : 4096 ≤ length s.dropped + length ls → Noted call push id s (i + 1) ls
       noted-full r held round c = after-full held call push id round s rest c i q (omega (arith, long held round c)) ∙ so held round c
 
-      pub noted-pass : wants_note push.sender (skipped_peers push.skip s) call.rooms.numbers.now id s i ≡ false → Noted call push id s (i + 1) ls
+      pub noted-pass : wants_note push.sender (skipped_peers push.skip s) call.rooms.now.links id s i ≡ false → Noted call push id s (i + 1) ls
       noted-pass w held round c = after-pass held call push id round s rest c i q w ∙ so held round c
 
     pub noted-all : length s.links ≤ i → (held : ℕ → Bool) (round : ℕ) → held id ≡ true → record_back held call push id round s ≡ with_these ls id round s
     noted-all q held round c = all-kept held call push id round s rest c i q ∙ so held round c
+
+-- where none hands it back, the record stays
+module _ (call : Call) (push : Push) (s : State) where
+  -- those among the first i links that hand it back
+  abbrev pub first_backs : ℕ → List ℕ
+  first_backs i = backs_to push.sender (skipped_peers push.skip s) call s i
+
+  pub no-backs-start : first_backs 0 ≡ []
+  no-backs-start = backs-none push.sender (skipped_peers push.skip s) call s
+
+  pub no-backs-more : AtRest s → (i : ℕ) → i < length s.links → hands_back push.sender (skipped_peers push.skip s) call.rooms.now.links s i ≡ false → first_backs i ≡ [] → first_backs (i + 1) ≡ []
+  no-backs-more rest i q e none = backs-no push.sender (skipped_peers push.skip s) call s (rest-roomed s call rest) i q e ∙ none
+
+  pub no-backs-all : (i : ℕ) → length s.links ≤ i → first_backs i ≡ [] → push_backs call push s ≡ []
+  no-backs-all i q none = sym (backs-all push.sender (skipped_peers push.skip s) call s i q) ∙ none
+
+  pub none-back : (held : ℕ → Bool) (id round : ℕ) → push_backs call push s ≡ [] → record_back held call push id round s ≡ with_these [] id round s
+  none-back held id round none =
+      ap (λ (ps : List ℕ). add_batches held (batches_for (record { id = id; round = round }) ps) s.dropped) none
+      ∙ for-none held (record { id = id; round = round }) s.dropped
+      ∙ sym (append-nil s.dropped)
 
 -- one more is below
 pub below-more : (n i : ℕ) (ls : List ℕ) → All (λ j. j < n) ls → i < n → All (λ j. j < n) (ls ++ (i ∷ []))

@@ -7,8 +7,8 @@ use Rattle.storage.proofs.ListsLaws.ListLaws.{concat-append, concat-one}
 use Rattle.postcard.specs.Number.{number_bytes}
 use Rattle.postcard.specs.Message.{Sent, message_bytes, action_bytes, taken_byte}
 use Rattle.postcard.specs.Output.{send_head}
-use Rattle.wire.specs.Encode.Held.{Held, after, RoomFor}
-use Rattle.wire.proofs.EncodeLaws.HeldLaws.{after_append, after_nil, room_after}
+use Rattle.wire.specs.Encode.Intake.{Intake, after, RoomFor}
+use Rattle.wire.proofs.EncodeLaws.IntakeLaws.{after_append, after_nil, room_after}
 use Rattle.protocol.specs.State.{State}
 use Rattle.decide.specs.Rooms.{first_send}
 use Rattle.decide.specs.RecordGrowth.{announce_action, push_actions}
@@ -44,9 +44,6 @@ or-true false = refl
 
 -- a push of a message
 module _ (call : Call) (push : Push) (g : Gossip) (s : State) where
-  abbrev array : List ℕ
-  array = call.rooms.numbers.now
-
   abbrev skip : List ℕ
   skip = skipped_peers push.skip s
 
@@ -62,21 +59,21 @@ module _ (call : Call) (push : Push) (g : Gossip) (s : State) where
       ap (concat_map action_bytes) (map-more (first_send (rooms_of call s) (gossip_value g)) ps qs)
       ∙ concat-append action_bytes (map (first_send (rooms_of call s) (gossip_value g)) ps) (map (first_send (rooms_of call s) (gossip_value g)) qs)
 
-  pub sends-start : (h : Held) → h ≡ after (sends_to 0) h
+  pub sends-start : (h : Intake) → h ≡ after (sends_to 0) h
   unfolding concat_map
   sends-start h = sym (ap (λ (ps : List ℕ). after (sends ps) h) (first-none push.sender skip s) ∙ after_nil h)
 
-  pub sends-done : (i : ℕ) → length s.links ≤ i → (h now : Held) → now ≡ after (sends_to i) h → now ≡ after (sends_bytes call push g s) h
+  pub sends-done : (i : ℕ) → length s.links ≤ i → (h now : Intake) → now ≡ after (sends_to i) h → now ≡ after (sends_bytes call push g s) h
   sends-done i q h now a = a ∙ ap (λ (ps : List ℕ). after (sends ps) h) (first-all push.sender skip s i q)
 
   module _ (i : ℕ) (q : i < length s.links) where
-    pub sends-skip : (b : Bool) → b ≡ is_target push.sender skip s i → b ≡ false → (h now : Held) → now ≡ after (sends_to i) h → now ≡ after (sends_to (i + 1)) h
+    pub sends-skip : (b : Bool) → b ≡ is_target push.sender skip s i → b ≡ false → (h now : Intake) → now ≡ after (sends_to i) h → now ≡ after (sends_to (i + 1)) h
     sends-skip b k t h now a = a ∙ ap (λ (ps : List ℕ). after (sends ps) h) (sym (first_out push.sender skip s i q (sym k ∙ t)))
 
-    module _ (rest' : AtRest s) (b : Bool) (k : b ≡ is_target push.sender skip s i) (t : b ≡ true) (to : Link) (et : to ≡ numbered_link i (link_at s i)) (taken : Bool) (er : taken ≡ leb 1 (get_or array i 0)) where
+    module _ (rest' : AtRest s) (b : Bool) (k : b ≡ is_target push.sender skip s i) (t : b ≡ true) (to : Link) (et : to ≡ numbered_link i (link_at s i)) (taken : Bool) (er : taken ≡ leb 1 (get_or call.rooms.now.links i 0)) where
       same-send : first_send (rooms_of call s) (gossip_value g) (peer_at s i) ≡ Sent to.peer taken (gossip_value g)
       unfolding first_send
-      same-send = λ j. Sent ((link_peer s i q ∙ sym (ap (λ (l : Link). l.peer) et)) j) (((rest-roomed s array rest').first i q ∙ sym er) j) (gossip_value g)
+      same-send = λ j. Sent ((link_peer s i q ∙ sym (ap (λ (l : Link). l.peer) et)) j) (((rest-roomed s call rest').first i q ∙ sym er) j) (gossip_value g)
 
       abbrev sent : List ℕ
       sent = send_head to.peer taken ++ message_bytes (gossip_value g)
@@ -91,37 +88,37 @@ module _ (call : Call) (push : Push) (g : Gossip) (s : State) where
           ∙ sends-append (first push.sender skip s i) (peer_at s i ∷ [])
           ∙ ap (λ (l : List ℕ). sends_to i ++ l) (concat-one action_bytes (first_send (rooms_of call s) (gossip_value g) (peer_at s i)) ∙ ap action_bytes same-send ∙ one)
 
-      pub sends-room : (h now : Held) → now ≡ after (sends_to i) h → RoomFor (sends_bytes call push g s) h → RoomFor sent now
+      pub sends-room : (h now : Intake) → now ≡ after (sends_to i) h → RoomFor (sends_bytes call push g s) h → RoomFor sent now
       sends-room h now a r =
           let whole : sends_bytes call push g s ≡ sends_to (i + 1) ++ sends (rest push.sender skip s (i + 1)) =
           ap sends (first_rest push.sender skip s (i + 1)) ∙ sends-append (first push.sender skip s (i + 1)) (rest push.sender skip s (i + 1)) in
           rw (a, room_after (sends_to i) h)
           (omega (arith, r, ap length whole, length-append (sends_to (i + 1)) (sends (rest push.sender skip s (i + 1))), ap length more, length-append (sends_to i) sent))
 
-      pub sends-more : (h now next : Held) → now ≡ after (sends_to i) h → next ≡ after sent now → next ≡ after (sends_to (i + 1)) h
+      pub sends-more : (h now next : Intake) → now ≡ after (sends_to i) h → next ≡ after sent now → next ≡ after (sends_to (i + 1)) h
       sends-more h now next a e = e ∙ ap (after sent) a ∙ after_append (sends_to i) sent h ∙ ap (λ (l : List ℕ). after l h) (sym more)
 
   -- whether any of them was handed back
   abbrev pub any_back : ℕ → Bool
-  any_back i = not (is_empty (backs_to push.sender skip array s i))
+  any_back i = not (is_empty (backs_to push.sender skip call s i))
 
   pub back-start : false ≡ any_back 0
-  back-start = sym (ap (λ (ps : List ℕ). not (is_empty ps)) (backs-none push.sender skip array s))
+  back-start = sym (ap (λ (ps : List ℕ). not (is_empty ps)) (backs-none push.sender skip call s))
 
   pub back-done : (i : ℕ) → length s.links ≤ i → (b : Bool) → b ≡ any_back i → b ≡ not (is_empty (push_backs call push s))
-  back-done i q b e = e ∙ ap (λ (ps : List ℕ). not (is_empty ps)) (backs-all push.sender skip array s i q)
+  back-done i q b e = e ∙ ap (λ (ps : List ℕ). not (is_empty ps)) (backs-all push.sender skip call s i q)
 
   module _ (rest' : AtRest s) (i : ℕ) (q : i < length s.links) where
-    roomed : Roomed s array
-    roomed = rest-roomed s array rest'
+    roomed : Roomed s call
+    roomed = rest-roomed s call rest'
 
     pub back-skip : (found : Bool) → found ≡ is_target push.sender skip s i → found ≡ false → (b : Bool) → b ≡ any_back i → b ≡ any_back (i + 1)
-    back-skip found e t b k = k ∙ ap (λ (ps : List ℕ). not (is_empty ps)) (sym (backs-out push.sender skip array s roomed i q (sym e ∙ t)))
+    back-skip found e t b k = k ∙ ap (λ (ps : List ℕ). not (is_empty ps)) (sym (backs-out push.sender skip call s roomed i q (sym e ∙ t)))
 
-    pub back-more : (found : Bool) → found ≡ is_target push.sender skip s i → found ≡ true → (taken : Bool) → taken ≡ leb 1 (get_or array i 0) → (b : Bool) → b ≡ any_back i → (b || not taken) ≡ any_back (i + 1)
-    back-more found e y true t b k = or-false b ∙ k ∙ ap (λ (ps : List ℕ). not (is_empty ps)) (sym (backs-taken push.sender skip array s roomed i q (sym e ∙ y) (sym t)))
+    pub back-more : (found : Bool) → found ≡ is_target push.sender skip s i → found ≡ true → (taken : Bool) → taken ≡ leb 1 (get_or call.rooms.now.links i 0) → (b : Bool) → b ≡ any_back i → (b || not taken) ≡ any_back (i + 1)
+    back-more found e y true t b k = or-false b ∙ k ∙ ap (λ (ps : List ℕ). not (is_empty ps)) (sym (backs-taken push.sender skip call s roomed i q (sym e ∙ y) (sym t)))
     back-more found e y false t b k =
-        or-true b ∙ sym (ap (λ (ps : List ℕ). not (is_empty ps)) (backs-held push.sender skip array s roomed i q (sym e ∙ y) (sym t)) ∙ ap not (filled (backs_to push.sender skip array s i) (peer_at s i)))
+        or-true b ∙ sym (ap (λ (ps : List ℕ). not (is_empty ps)) (backs-held push.sender skip call s roomed i q (sym e ∙ y) (sym t)) ∙ ap not (filled (backs_to push.sender skip call s i) (peer_at s i)))
 
 -- the record's timer behind the sends
 pub push-parts : (call : Call) (push : Push) (g : Gossip) (s : State) (back flag : Bool) → back ≡ not (is_empty (push_backs call push s)) → flag ≡ s.timers.announce

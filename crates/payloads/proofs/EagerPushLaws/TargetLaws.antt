@@ -14,6 +14,7 @@ use Rattle.steps.specs.Panels.{AtRest}
 use Rattle.payloads.proofs.EagerLaws.TargetLaws.{Roomed}
 use Rattle.steps.proofs.RoomsLaws.{kth-link, has-member}
 use Rattle.steps.proofs.ViewLaws.{links-few}
+use Rattle.steps.specs.declared.call.Call.{Call}
 
 pub few_links : (h : Head) (xs : List ℕ) → Sound h xs → length (state_of h xs).links ≤ 32
 few_links h xs sound = links-few h xs sound
@@ -21,8 +22,8 @@ few_links h xs sound = links-few h xs sound
 pub link_peer : (s : State) (i : ℕ) → i < length s.links → peer_at s i ≡ (link_at s i).key
 link_peer s i q = get_or-map (λ (e : Entry Mark). e.key) s.links i (entry 0 eager)
 
-pub rest-roomed : (s : State) (array : List ℕ) → AtRest s → Roomed s array
-rest-roomed s array rest = record { first = λ i q. kth-link s array 1 i rest.consistent.core.links_up q (omega arith) }
+pub rest-roomed : (s : State) (call : Call) → AtRest s → Roomed s call
+rest-roomed s call rest = record { first = λ i q. kth-link s call.peer call.rooms.now 1 i rest.consistent.core.links_up q (omega arith) }
 
 pub has_peer : {A : Type 0} (p : ℕ) (m : Map A) → has p m ≡ member p (keys m)
 has_peer p m = has-member p m

@@ -1,8 +1,7 @@
 -- The numbers of entries after a new Swarm message.
 -- Assumes nothing.
 use Rattle.std.proofs.Common.{◌≡◌, refl, sym, ap, ◌∙◌, Bool, true, false, not, ◌&&◌, ℕ, suc, ◌+◌, ◌-◌, ◌≤◌, arith, length, List, [], ◌∷◌, ◌++◌}
-use Rattle.std.specs.Prelude.{◌==◌, count_by, Option}
-use Rattle.std.proofs.Math.Option as math
+use Rattle.std.specs.Prelude.{◌==◌, count_by, Option, Some, None}
 use mir.Val.{bool_byte}
 use lib.Dec.{eqb}
 use Rattle.storage.specs.Lists.Base.{member, filter, sum}
@@ -27,7 +26,6 @@ use Rattle.decide.proofs.StateLaws.{new-state}
 use Rattle.block.specs.View.{state_of}
 use Rattle.block.specs.declared.head.Head.{Head}
 use Rattle.steps.specs.Calls.{rooms_of}
-use Rattle.steps.specs.Rooms.{rooms_in}
 use Rattle.steps.specs.Panels.{AtRest}
 use Rattle.steps.specs.Record.{with_these}
 use Rattle.steps.specs.Settled.Then.{no_grafts}
@@ -48,18 +46,18 @@ use Rattle.payloads.proofs.PushedLaws.{settled-record, taken-recorded, taken-que
 use Rattle.payloads.proofs.GossipStateLaws.StageLaws.{taken, first_set, pushed_on, queued, end, end-new, end-received, end-cache, end-queue, end-record, first-links, first-me, first-queue, first-record, first-cached}
 
 -- `first` leaves the peers
-get-replaced : (id : ℕ) (v g : Grafts) (c : Cache Grafts) → get id c ≡ math.some g → get id (replace id v c) ≡ math.some v
+get-replaced : (id : ℕ) (v g : Grafts) (c : Cache Grafts) → get id c ≡ Some g → get id (replace id v c) ≡ Some v
 unfolding get replace
 get-replaced id v g c e = on (lookup id c.entries) e
   where
-    on : (o : math.Option (Timed Grafts)) → value_of o ≡ math.some g → value_of (lookup id (with_value id v o c.entries)) ≡ math.some v
-    on math.none q = let z : false ≡ true = unfold value_of in (cc) in true≢ z
-    on (math.some t) q = unfold with_value in (unfold value_of in (rw (lookup-insert-same id (record { expires = t.expires; value = v }) c.entries) refl))
+    on : (o : Option (Timed Grafts)) → value_of o ≡ Some g → value_of (lookup id (with_value id v o c.entries)) ≡ Some v
+    on None q = let z : false ≡ true = unfold value_of in (cc) in true≢ z
+    on (Some t) q = unfold with_value in (unfold value_of in (rw (lookup-insert-same id (record { expires = t.expires; value = v }) c.entries) refl))
 
-first-peers : (id : ℕ) (h : Hop) (o : math.Option Grafts) (s : State) → get id s.grafted ≡ o → grafted_for id (with_first id h o s) ≡ grafted_for id s
+first-peers : (id : ℕ) (h : Hop) (o : Option Grafts) (s : State) → get id s.grafted ≡ o → grafted_for id (with_first id h o s) ≡ grafted_for id s
 unfolding with_first grafted_for peers_of
-first-peers id h math.none s e = refl
-first-peers id h (math.some g) s e = rw (get-replaced id (record { first = math.some h; kept = g.kept; peers = g.peers }) g s.grafted e, e) refl
+first-peers id h None s e = refl
+first-peers id h (Some g) s e = rw (get-replaced id (record { first = Some h; kept = g.kept; peers = g.peers }) g s.grafted e, e) refl
 
 -- the numbers with other numbers of missing messages, graft timers, queued and recorded entries
 abbrev pub gossip_numbers : CodeSizes → ℕ → ℕ → ℕ → ℕ → CodeSizes
@@ -127,7 +125,7 @@ module _ (call : Call) (m : NewMessage) (h : Head) (xs : List ℕ) (rest : AtRes
   held-id = first-cached call m next t
 
   abbrev noted_by : List ℕ → State → List Note
-  noted_by skip s = add_batches held_then (batches_for (record { id = id; round = next }) (back_peers (rooms_in s call.rooms.numbers.now) (eager_targets m.sender skip s))) s.dropped
+  noted_by skip s = add_batches held_then (batches_for (record { id = id; round = next }) (back_peers (rooms_of call s) (eager_targets m.sender skip s))) s.dropped
 
   peers-still : grafted_for id (first_set call m next t) ≡ grafted_for id t
   unfolding first_set_state taken_state grafted_for
@@ -158,7 +156,7 @@ module _ (call : Call) (m : NewMessage) (h : Head) (xs : List ℕ) (rest : AtRes
         ∙ pushed-record
         ∙ (λ p. add_batches held_then (batches_for (record { id = id; round = next }) (back_peers (rooms_of call t) ((ap (λ g. eager_targets m.sender (keys g) (first_set call m next t)) peers-still ∙ targets-still (keys (grafted_for id t))) p)))
         (first-record call m next t p))
-        ∙ settled-record held_then call.rooms.numbers.now id next m.sender (keys (grafted_for id t)) call.instant.0 shown
+        ∙ settled-record held_then call id next m.sender (keys (grafted_for id t)) call.instant.0 shown
         ∙ ap (λ (skip : List ℕ). noted_by skip shown) (sym skips)
 
     module _ (z : CodeSizes) (e : sizes_value z ≡ sizes_of (taken call m next t))

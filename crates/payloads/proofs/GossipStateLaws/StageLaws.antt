@@ -1,8 +1,7 @@
 -- What each step of a new Swarm message leaves and asks, and that together they are the whole.
 -- Assumes nothing.
 use Rattle.std.proofs.Common.{◌≡◌, refl, sym, ap, ◌∙◌, Bool, true, false, not, ◌&&◌, ℕ, suc, ◌≤◌, ◌^◌, arith, length, List, [], ◌∷◌}
-use Rattle.std.specs.Prelude.{if◌then◌else◌, Option}
-use Rattle.std.proofs.Math.Option as math
+use Rattle.std.specs.Prelude.{if◌then◌else◌, Option, Some, None}
 use Rattle.std.proofs.Math.Path.{subst}
 use Rattle.storage.specs.Lists.Map.{keys}
 use Rattle.storage.specs.Rows.Ident.{id_of}
@@ -77,10 +76,10 @@ pub record FirstRest (id : ℕ) (s t : State) : Type 0 where
   pub links : t.links ≡ s.links
   pub me : t.settings.me ≡ s.settings.me
 
-first_by : (id : ℕ) (h : Hop) (o : math.Option Grafts) (s : State) → FirstRest id s (with_first id h o s)
+first_by : (id : ℕ) (h : Hop) (o : Option Grafts) (s : State) → FirstRest id s (with_first id h o s)
 unfolding with_first
-first_by id h math.none s = record { rest = rest-still s; links = refl; me = refl }
-first_by id h (math.some g) s = record { rest = record { limits = refl; received = refl; cache = refl; queue = refl; dropped = refl; init = refl }; links = refl; me = refl }
+first_by id h None s = record { rest = rest-still s; links = refl; me = refl }
+first_by id h (Some g) s = record { rest = record { limits = refl; received = refl; cache = refl; queue = refl; dropped = refl; init = refl }; links = refl; me = refl }
 
 rest-first : (id sender round : ℕ) (s : State) → FirstRest id s (first_set_state id sender round s)
 unfolding first_set_state

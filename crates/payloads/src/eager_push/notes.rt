@@ -1,28 +1,41 @@
 // What is handed back of an eager push is noted: the specification, "Record".
-ghost use Rattle.std.specs.Prelude.{ℕ, Bool, ◌≡◌, ◌<◌, ◌≤◌, true, length, All};
+ghost use Rattle.std.specs.Prelude.{ℕ, Bool, ◌≡◌, ◌<◌, ◌≤◌, true, false, length, All, []};
 ghost use Rattle.storage.specs.Rows.Ident.{id_of};
 ghost use Rattle.steps.specs.Views.{shown};
 ghost use Rattle.steps.specs.Panels.{state, Goes, AtRest};
 ghost use Rattle.steps.specs.Record.{with_these};
 ghost use Rattle.payloads.specs.Eager.Scan.{Starts, SeenFor};
-ghost use Rattle.payloads.specs.EagerPush.Targets.{skipped_peers, SkipThere};
+ghost use Rattle.payloads.specs.EagerPush.Targets.{skipped_peers, SkipThere, push_backs};
 ghost use Rattle.payloads.specs.EagerPush.Notes.{record_back, back_state, NotesBack};
 
 use crate::eager_push::target::{Push, hands_back};
+use arrayvec::ArrayVec;
+use block::head::MAX_LINKS;
 use block::note;
 use postcard::units::Round;
 use protocol::{MAX_DROPPED, MAX_DROPPED_PER_PEER};
 use steps::call::Call;
-use steps::link_list::{LinkList, MAX_LINKS};
 use steps::panel::Panel;
 use steps::view::View;
-use storage::rows::id;
 use storage::rows::id::Id;
+
+// Whether a link hands the push back. Its time is that of one pass over the links.
+fn is_handed_back(view: &View, call: &Call, push: &Push) -> bool
+    requires { AtRest (shown view.now) × SkipThere push.now.skip (shown view.now) }
+    ensures { result ≡ false → push_backs call.now push.now (shown view.now) ≡ [] }
+{
+    for link in 0..view.link_count() {
+        if hands_back(view, call, push, link) {
+            return true;
+        }
+    }
+    false
+}
 
 // For each link 0 if it hands the push back, else 256. Its time is that of one pass over the links.
 fn first_marks(view: &View, call: &Call, push: &Push) -> [usize; MAX_LINKS]
     requires { AtRest (shown view.now) × SkipThere push.now.skip (shown view.now) }
-    ensures { Starts push.now.sender (skipped_peers push.now.skip (shown view.now)) call.now.rooms.numbers.now (shown view.now) (length (shown view.now).links) result }
+    ensures { Starts push.now.sender (skipped_peers push.now.skip (shown view.now)) call.now.rooms.now.links (shown view.now) (length (shown view.now).links) result }
 {
     let mut marks = [0usize; MAX_LINKS];
     for link in 0..view.link_count() {
@@ -45,7 +58,7 @@ fn marks_after(view: &View, from: [usize; MAX_LINKS], id: Id) -> [usize; MAX_LIN
         let link = note::dropped_link_at(head, block, i);
         if marks[link] < MAX_DROPPED_PER_PEER {
             let noted = note::dropped_at(head, block, i);
-            let same = id::same(noted.id, id);
+            let same = noted.id == id;
             marks[link] = if same {
                 MAX_DROPPED_PER_PEER
             } else {
@@ -57,20 +70,23 @@ fn marks_after(view: &View, from: [usize; MAX_LINKS], id: Id) -> [usize; MAX_LIN
 }
 
 // The links that get a note of a cached identifier that is pushed: those that hand it back, "added unless the peer has 256 or all have 4,096", or it is there. Its time
-// is that of one pass over the links, and of one over the record's column of link numbers.
-pub fn to_note(view: &View, call: &Call, push: &Push, id: Id) -> LinkList
+// is that of one pass over the links and, where one hands it back, of one over the record's column of link numbers.
+pub fn to_note(view: &View, call: &Call, push: &Push, id: Id) -> ArrayVec<u8, MAX_LINKS>
     requires { AtRest (shown view.now) × SkipThere push.now.skip (shown view.now) }
-    ensures noted { (held : ℕ → Bool) (round : ℕ) → held (id_of id) ≡ true → record_back held call.now push.now (id_of id) round (shown view.now) ≡ with_these result (id_of id) round (shown view.now) }
-    ensures links { All (λ link. link < length (shown view.now).links) result }
-    ensures few { length result ≤ MAX_LINKS }
+    ensures noted { (held : ℕ → Bool) (round : ℕ) → held (id_of id) ≡ true → record_back held call.now push.now (id_of id) round (shown view.now) ≡ with_these result.items (id_of id) round (shown view.now) }
+    ensures links { All (λ link. link < length (shown view.now).links) result.items }
+    ensures few { length result.items ≤ MAX_LINKS }
 {
+    let mut noted = ArrayVec::new();
+    if !is_handed_back(view, call, push) {
+        return noted;
+    }
     let marks = marks_after(view, first_marks(view, call, push), id);
-    let mut noted = LinkList::new();
     for link in 0..view.link_count() {
         if marks[link] < MAX_DROPPED_PER_PEER
             && view.head.live.dropped + noted.len() < MAX_DROPPED
         {
-            noted.push(link);
+            noted.push(link as u8);
         }
     }
     noted

@@ -1,7 +1,7 @@
 // What an eager push sends.
 ghost use Rattle.std.specs.Prelude.{◌≡◌, not};
 ghost use Rattle.storage.specs.Lists.Base.{is_empty};
-ghost use Rattle.wire.specs.Encode.Held.{after, RoomFor};
+ghost use Rattle.wire.specs.Encode.Intake.{after, RoomFor};
 ghost use Rattle.steps.specs.Views.{shown};
 ghost use Rattle.steps.specs.Panels.{AtRest};
 ghost use Rattle.payloads.specs.EagerPush.Targets.{SkipThere, push_backs};
@@ -25,8 +25,8 @@ pub fn push_sends<S: Sink>(
     message: &Gossip,
 ) -> bool
     requires rest { AtRest (shown view.now) × SkipThere push.now.skip (shown view.now) }
-    requires room { RoomFor (sends_bytes call.now push.now message.now (shown view.now)) (S.held out.old) }
-    ensures sent { S.held out.new ≡ after (sends_bytes call.now push.now message.now (shown view.now)) (S.held out.old) }
+    requires room { RoomFor (sends_bytes call.now push.now message.now (shown view.now)) (S.intake out.old) }
+    ensures sent { S.intake out.new ≡ after (sends_bytes call.now push.now message.now (shown view.now)) (S.intake out.old) }
     ensures back { result ≡ not (is_empty (push_backs call.now push.now (shown view.now))) }
 {
     let mut back = false;
@@ -49,8 +49,8 @@ pub fn push_sends<S: Sink>(
 // one pass over the links.
 pub fn eager_push<S: Sink>(view: &View, call: &Call, out: &mut S, push: &Push, message: &Gossip)
     requires rest { AtRest (shown view.now) × SkipThere push.now.skip (shown view.now) }
-    requires room { RoomFor (push_bytes call.now push.now message.now (shown view.now)) (S.held out.old) }
-    ensures { S.held out.new ≡ after (push_bytes call.now push.now message.now (shown view.now)) (S.held out.old) }
+    requires room { RoomFor (push_bytes call.now push.now message.now (shown view.now)) (S.intake out.old) }
+    ensures { S.intake out.new ≡ after (push_bytes call.now push.now message.now (shown view.now)) (S.intake out.old) }
 {
     let back = push_sends(view, call, out, push, message);
     schedule_announce_dropped(out, back, view.head.live.announce_dropped_scheduled);

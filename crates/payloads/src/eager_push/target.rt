@@ -47,7 +47,7 @@ pub fn is_target(view: &View, push: &Push, link: usize) -> bool
 #[tactic(auto, unfolding(crate::specs::Eager::Targets::hands_back), using(crate::proofs::EagerPushLaws::TargetLaws::few_links))]
 pub fn hands_back(view: &View, call: &Call, push: &Push, link: usize) -> bool
     requires { AtRest (shown view.now) × SkipThere push.now.skip (shown view.now) × (link < length (shown view.now).links) }
-    ensures { result ≡ hands_back push.now.sender (skipped_peers push.now.skip (shown view.now)) call.now.rooms.numbers.now (shown view.now) link }
+    ensures { result ≡ hands_back push.now.sender (skipped_peers push.now.skip (shown view.now)) call.now.rooms.now.links (shown view.now) link }
 {
     is_target(view, push, link) && !call.rooms.takes(link)
 }

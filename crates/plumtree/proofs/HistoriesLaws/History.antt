@@ -4,11 +4,10 @@ use Prim.Native.Nat.{ℕ, zero, suc, ◌+◌, ◌*◌, ◌≤◌}
 use mathlib.Core.Path.{◌≡◌, refl, sym, ap, subst, ◌∙◌}
 use mathlib.Core.Bool.{true, false}
 use mathlib.Core.List.{List, [], ◌∷◌, ◌++◌, map}
-use mathlib.Core.Option.{some}
 use borrow.Author.Tests.{eqb-true, eqb-false, le-leb}
 use lib.Dec.{eqb}
 use lib.ListN.{length, get_or, take, replicate, length-replicate}
-use Rattle.std.specs.Prelude.{if◌then◌else◌}
+use Rattle.std.specs.Prelude.{if◌then◌else◌, Some}
 use Rattle.storage.specs.Lists.Map.{Entry, lookup}
 use Rattle.storage.proofs.ListsLaws.MapLaws.{cases, true≢}
 use Rattle.protocol.specs.State.{Counts, Created, created, not_created, create, fresh, zero_counts, Settings as PanelSettings, Limits as PanelLimits}
@@ -137,25 +136,25 @@ map-keep x (s ∷ ss) = cases (eqb x.key s.key) (λ t. rw t refl) (λ t. rw t (a
 -- the state under a name has its list, which led to it
 record Stored (n name : ℕ) (ss : List (Entry Saved)) (k : Kept) : Type 0 where
   it : Saved
-  there : lookup name ss ≡ some it
+  there : lookup name ss ≡ Some it
   same : k ≡ it.kept
   from : From n it.list it.kept.block it.kept.counts
 
-stored : (n name : ℕ) (ss : List (Entry Saved)) (k : Kept) → Each n ss → lookup name (map kept_of ss) ≡ some k → Stored n name ss k
+stored : (n name : ℕ) (ss : List (Entry Saved)) (k : Kept) → Each n ss → lookup name (map kept_of ss) ≡ Some k → Stored n name ss k
 unfolding lookup
 stored n name [] k no_more e = let z : false ≡ true = cc in true≢ z
 stored n name (s ∷ ss) k (one_more _ _ g more) e =
     cases (eqb name s.key)
-    (λ t. let a : some s.value.kept ≡ some k = rw t at e in
+    (λ t. let a : Some s.value.kept ≡ Some k = rw t at e in
     let b : k ≡ s.value.kept = cc in
     record { it = s.value; there = rw t refl; same = b; from = g })
     (λ t. let m = stored n name ss k more (rw t at e) in record { it = m.it; there = rw t m.there; same = m.same; from = m.from })
 
-lookup-kept : (name : ℕ) (ss : List (Entry Saved)) (s : Saved) → lookup name ss ≡ some s → lookup name (map kept_of ss) ≡ some s.kept
+lookup-kept : (name : ℕ) (ss : List (Entry Saved)) (s : Saved) → lookup name ss ≡ Some s → lookup name (map kept_of ss) ≡ Some s.kept
 unfolding lookup
 lookup-kept name [] s e = let z : false ≡ true = cc in true≢ z
 lookup-kept name (x ∷ ss) s e =
-    cases (eqb name x.key) (λ t. let a : some x.value ≡ some s = rw t at e in let b : x.value ≡ s = cc in rw t (ap (λ (y : Saved). some y.kept) b)) (λ t. rw t (lookup-kept name ss s (rw t at e)))
+    cases (eqb name x.key) (λ t. let a : Some x.value ≡ Some s = rw t at e in let b : x.value ≡ s = cc in rw t (ap (λ (y : Saved). Some y.kept) b)) (λ t. rw t (lookup-kept name ss s (rw t at e)))
 
 -- each of a list has it
 data All {A : Type 0} (P : A → Type 0) : List A → Type 0 where

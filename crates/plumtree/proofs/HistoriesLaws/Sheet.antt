@@ -4,9 +4,8 @@ use Prim.Native.Nat.{ℕ}
 use mathlib.Core.Path.{◌≡◌, refl, sym, ap, subst, ◌∙◌}
 use mathlib.Core.Bool.{Bool, true, false, ◌&&◌}
 use mathlib.Core.List.{List, [], ◌∷◌, map}
-use mathlib.Core.Option.{Option, none, some}
 use lib.ListN.{length}
-use Rattle.std.specs.Prelude.{if◌then◌else◌}
+use Rattle.std.specs.Prelude.{if◌then◌else◌, Option, Some, None}
 use Rattle.storage.specs.Lists.Base.{concat_map}
 use Rattle.storage.proofs.ListsLaws.MapLaws.{cases, true≢, and_left, and_right, and_intro}
 use Rattle.postcard.specs.Message.{action_bytes}
@@ -45,21 +44,21 @@ record HoldsWhole (block : List ℕ) (s : State) : Type 0 where
   holds : Holds block s
   whole : whole s ≡ true
 
-holds-whole : (block : List ℕ) (o : Option State) (s : State) → held block ≡ o → whole_state (length block) o ≡ some s → HoldsWhole block s
+holds-whole : (block : List ℕ) (o : Option State) (s : State) → held block ≡ o → whole_state (length block) o ≡ Some s → HoldsWhole block s
 unfolding whole_state
-holds-whole block none s e h = let z : false ≡ true = cc in true≢ z
-holds-whole block (some t) s e h =
+holds-whole block None s e h = let z : false ≡ true = cc in true≢ z
+holds-whole block (Some t) s e h =
     cases (long_enough (length block) t && whole t)
-    (λ w. let k : some t ≡ some s = rw w at h in
+    (λ w. let k : Some t ≡ Some s = rw w at h in
     let q : t ≡ s = cc in
     rw (← q) (record { holds = record { state = e; long = and_left (long_enough (length block) t) (whole t) w }; whole = and_right (long_enough (length block) t) (whole t) w }))
-    (λ w. let k : none ≡ some s = rw w at h in let z : false ≡ true = cc in true≢ z)
+    (λ w. let k : None ≡ Some s = rw w at h in let z : false ≡ true = cc in true≢ z)
 
-whole-held : (block : List ℕ) (s : State) → HoldsWhole block s → whole_state (length block) (held block) ≡ some s
+whole-held : (block : List ℕ) (s : State) → HoldsWhole block s → whole_state (length block) (held block) ≡ Some s
 unfolding whole_state
 whole-held block s h =
     ap (whole_state (length block)) h.holds.state
-    ∙ ap (λ (b : Bool). if b then some s else none) (and_intro {a = long_enough (length block) s} {b = whole s} h.holds.long h.whole)
+    ∙ ap (λ (b : Bool). if b then Some s else None) (and_intro {a = long_enough (length block) s} {b = whole s} h.holds.long h.whole)
 
 -- the two states of blocks that are told alike, and back
 record Pair (a b : List ℕ) : Type 0 where
@@ -71,9 +70,9 @@ record Pair (a b : List ℕ) : Type 0 where
 
 pair : (a b : List ℕ) (x y : Option State) → whole_state (length a) (held a) ≡ x → whole_state (length b) (held b) ≡ y → likeness_of x y ≡ likeness true → Pair a b
 unfolding likeness_of
-pair a b none y e f h = let z : false ≡ true = cc in true≢ z
-pair a b (some s) none e f h = let z : false ≡ true = cc in true≢ z
-pair a b (some s) (some t) e f h = record { first = s; second = t; one = holds-whole a (held a) s refl e; two = holds-whole b (held b) t refl f; same = let k : alike s t ≡ true = cc in k }
+pair a b None y e f h = let z : false ≡ true = cc in true≢ z
+pair a b (Some s) None e f h = let z : false ≡ true = cc in true≢ z
+pair a b (Some s) (Some t) e f h = record { first = s; second = t; one = holds-whole a (held a) s refl e; two = holds-whole b (held b) t refl f; same = let k : alike s t ≡ true = cc in k }
 
 told : (a b : List ℕ) → Pair a b → ToldAlike a b
 unfolding alike_blocks likeness_of

@@ -1,8 +1,7 @@
 -- "Named states", over time: panels with blocks of one length, and the areas that they share.
 -- "From a return on, the list of calls that the guarantees speak about is the one up to the saving, followed by the calls since the return."
 -- Assumes nothing.
-use Rattle.std.specs.Prelude.{ℕ, ◌+◌, ◌*◌, ◌≤◌, ◌≡◌, Bool, true, List, [], ◌∷◌, ◌++◌, map, eqb, length, take, replicate, if◌then◌else◌}
-use Rattle.std.proofs.Math.Option.{Option, none, some}
+use Rattle.std.specs.Prelude.{ℕ, ◌+◌, ◌*◌, ◌≤◌, ◌≡◌, Bool, true, List, [], ◌∷◌, ◌++◌, map, eqb, length, take, replicate, if◌then◌else◌, Option, Some, None}
 use Rattle.storage.specs.Lists.Map.{Entry, entry, lookup}
 use Rattle.protocol.specs.State.{Counts}
 use Rattle.protocol.specs.Answer.{Call}
@@ -47,8 +46,8 @@ saved_as name p = entry name (record { kept = record { counts = p.counts; block 
 
 -- "the one up to the saving": the list that was saved under the name
 abbrev pub list_saved : Option Saved → CallList → CallList
-list_saved none now = now
-list_saved (some s) now = s.list
+list_saved None now = now
+list_saved (Some s) now = s.list
 
 -- the list after a return to this name with this answer, of a panel whose list is `now`
 abbrev pub list_returned : ℕ → ℕ → List (Entry Saved) → CallList → CallList
@@ -97,8 +96,8 @@ pub record Histories : Type 0 where
   -- a return that is accepted finds a list under its name, and brings back block and counts as they were saved with it
   pub found : (n : ℕ) (front : List Panel) (p : Panel) (behind : List Panel) (left : List Area) (a : Area) (right : List Area) → History n (front ++ (p ∷ behind)) (left ++ (a ∷ right)) →
       (name : ℕ) (block' : List ℕ) (counts' : Counts) (long : ℕ) → Returns p.block p.counts a.bytes name block' counts' 0 long →
-      (s : Saved) × (lookup name a.saved ≡ some s) × (block' ≡ s.kept.block) × (counts' ≡ s.kept.counts)
+      (s : Saved) × (lookup name a.saved ≡ Some s) × (block' ≡ s.kept.block) × (counts' ≡ s.kept.counts)
   -- and to a name under which a list is kept, in an area long enough, it is accepted
   pub taken : (n : ℕ) (front : List Panel) (p : Panel) (behind : List Panel) (left : List Area) (a : Area) (right : List Area) → History n (front ++ (p ∷ behind)) (left ++ (a ∷ right)) →
-      256 + n * 4 ≤ length a.bytes → (name : ℕ) (s : Saved) → lookup name a.saved ≡ some s →
+      256 + n * 4 ≤ length a.bytes → (name : ℕ) (s : Saved) → lookup name a.saved ≡ Some s →
       (block' : List ℕ) (counts' : Counts) (answer long : ℕ) → Returns p.block p.counts a.bytes name block' counts' answer long → answer ≡ 0

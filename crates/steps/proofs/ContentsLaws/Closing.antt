@@ -32,9 +32,9 @@ use Rattle.block.proofs.RowLaws.{part_in}
 use Rattle.block.specs.TimeCaches.{cache_from, cached_cache}
 use Rattle.block.specs.Caches.InBlock.{InOrder}
 use Rattle.block.proofs.CachesLaws.CacheLaws.{refs-in, rows_in, frame-pair, expired-in}
-use Rattle.steps.specs.Contents.Starts.{start_of, len_of, first_start, Chain, shifted_row, Above}
+use Rattle.steps.specs.Contents.Starts.{start_of, len_of, first_start, RowsAdjoin, shifted_row, Above}
 use Rattle.steps.specs.Contents.CacheSteps.{cached_left, Others, Ahead, Shifts}
-use Rattle.steps.proofs.ContentsLaws.Chains.{Along, along-at, along-map, chain-along, chain-at, chain-ends, chain-drop, chain-above, of-adjoining, to-adjoining, wide_rows}
+use Rattle.steps.proofs.ContentsLaws.RowsAdjoin.{Along, along-at, along-map, chain-along, chain-at, chain-ends, chain-drop, chain-above, of-adjoining, to-adjoining, wide_rows}
 use Rattle.steps.proofs.ContentsLaws.Contents.{part_moved, cache-same, left-held}
 
 -- the other tables, out of what is asked of all
@@ -67,7 +67,7 @@ module _ (h : Head) (xs ys : List ℕ) (fit : Fit h xs) (others : Others h (tabl
     pub cached-others : Others new (tables lim ys)
     cached-others = subst (Others new) (sym framed) (record { received = others.received; grafted = others.grafted; grafts = others.grafts; missing = others.missing; queue = others.queue; dropped = others.dropped })
 
-    pub cached-laid : Fit new ys → Below m (places (refs 4 n e)) → Chain 0 (expiry_rows 48 m x) u → held (cached_in s n e m x).entries ≡ u → Sound new ys
+    pub cached-laid : Fit new ys → Below m (places (refs 4 n e)) → RowsAdjoin 0 (expiry_rows 48 m x) u → held (cached_in s n e m x).entries ≡ u → Sound new ys
     unfolding expiry_rows
     cached-laid f b c t = record {
       fit = f;
@@ -123,7 +123,7 @@ module _ (h : Head) (xs : List ℕ) (ahead : Ahead h xs) where
   close-still e = record {
     state = refl;
     sound = cached-laid h xs xs ahead.fit ahead.others n m u (table l 4 xs) (table l 5 xs) s refl ahead.fit ahead.places
-        (subst (λ (b : ℕ). Chain b rs u) e ahead.chain) (omega (arith, e, ahead.used));
+        (subst (λ (b : ℕ). RowsAdjoin b rs u) e ahead.chain) (omega (arith, e, ahead.used));
   }
 
   module _ (ys : List ℕ) (len : length ys ≡ length xs)
@@ -230,7 +230,7 @@ expired-ahead h xs ys instant r sound o e x =
     let below : Below m' (places (refs 4 n' (table l 4 ys))) =
     subst (λ (z : List Ref). Below m' (places z)) (ap (λ (c : TimeBoundCache). refs_at c ys) x.sized ∙ refs-in l 4 4 n' 5 48 m' ys (lit< tt) wn' (lit< tt) wm')
     x.sound.below in
-    let chain : Chain 0 rs u = unfold expiry_rows in of-adjoining sound.laid.contents in
+    let chain : RowsAdjoin 0 rs u = unfold expiry_rows in of-adjoining sound.laid.contents in
     let lrs : length rs ≡ m = length-expiry_rows 48 m (table l 5 xs) in
     let up : ascending (named rs es) ≡ true =
     ap ascending (sym (keys-named (cached_of store) es rs)) ∙ o.up in
@@ -248,7 +248,7 @@ expired-ahead h xs ys instant r sound o e x =
         fit = cached-fit h xs ys sound.fit others n' m' u (table l 4 ys) (table l 5 ys) store framed e hn hm sound.fit.within.contents;
         others = cached-others h xs ys sound.fit others n' m' u (table l 4 ys) (table l 5 ys) store framed;
         places = below;
-        chain = subst (λ (z : List ExpiryRow). Chain (first_start u z) z u) (sym rs') (chain-drop chain d);
+        chain = subst (λ (z : List ExpiryRow). RowsAdjoin (first_start u z) z u) (sym rs') (chain-drop chain d);
         used = (λ k. first_start u (rs' k) + held (cache_of (cached_of (six k)) (es' k) (rs' k)).entries) ∙ used;
       };
     }

@@ -20,9 +20,9 @@ use Rattle.time_cache.proofs.Orders.{of-below, below}
 use Rattle.time_cache.proofs.ValueLaws.{values_same}
 use Rattle.block.specs.View.{half_at, content_of, cached_of}
 use Rattle.block.specs.Sound.{held}
-use Rattle.steps.specs.Contents.Starts.{start_of, len_of, first_start, Chain}
+use Rattle.steps.specs.Contents.Starts.{start_of, len_of, first_start, RowsAdjoin}
 use Rattle.steps.proofs.ContentsLaws.Sums.{sums, from, up_to, sum-all, from-up_to, sums-rows, sums-drop, sum_left, sum-places}
-use Rattle.steps.proofs.ContentsLaws.Chains.{Along, along-at, along-expiry, chain-at, chain-total, chain-drop}
+use Rattle.steps.proofs.ContentsLaws.RowsAdjoin.{Along, along-at, along-expiry, chain-at, chain-total, chain-drop}
 
 -- a part of what was moved
 pub part_moved : (to from n b k : ℕ) (xs : List ℕ) → b + k ≤ n → from + n ≤ length xs → to + n ≤ length xs → part (to + b) k (put to (part from n xs) xs) ≡ part (from + b) k xs
@@ -53,7 +53,7 @@ module _ {up down : ℕ} {xs ys : List ExpiryRow} (s t : List ℕ) (along : Alon
   cache-same es b = values_same (cached_of t) (cached_of s) ys xs (along-expiry along) es (λ i h. entry-same (get_or es i (ref 0 [])) (place-low (length xs) es b i h))
 
 -- the bytes that the entries hold are the lengths in the rows that they name
-pub held-lens : {a e : ℕ} {xs : List ExpiryRow} (s : List ℕ) → Chain a xs e → e ≤ length s → (es : List Ref) → below (length xs) (places es) ≡ true
+pub held-lens : {a e : ℕ} {xs : List ExpiryRow} (s : List ℕ) → RowsAdjoin a xs e → e ≤ length s → (es : List Ref) → below (length xs) (places es) ≡ true
     → held (cache_of (cached_of s) es xs).entries ≡ sum (λ r. len_of (row_at xs r.place)) es
 unfolding cache_of sum cached_of content_of
 held-lens s c h [] b = refl
@@ -68,7 +68,7 @@ unfolding named
 keys-places xs es = sym (map-map (λ (p : ℕ). (row_at xs p).key) (λ (r : Ref). r.place) es)
 
 -- what is left when the first d rows are gone: the contents from the start of row d on
-module _ {u : ℕ} {xs : List ExpiryRow} (s : List ℕ) (c : Chain 0 xs u) (w : u ≤ length s) (es : List Ref) (b : Below (length xs) (places es)) (a : ascending (named xs es) ≡ true)
+module _ {u : ℕ} {xs : List ExpiryRow} (s : List ℕ) (c : RowsAdjoin 0 xs u) (w : u ≤ length s) (es : List Ref) (b : Below (length xs) (places es)) (a : ascending (named xs es) ≡ true)
     (t : held (cache_of (cached_of s) es xs).entries ≡ u) where
   -- the entries have all that the rows have
   pub all_held : sum (λ i. len_of (row_at xs i)) (places es) ≡ sums (λ i. len_of (row_at xs i)) (length xs)
@@ -79,7 +79,7 @@ module _ {u : ℕ} {xs : List ExpiryRow} (s : List ℕ) (c : Chain 0 xs u) (w : 
   pub left-held : (d : ℕ) → Below (length (drop d xs)) (places (left d es)) → first_start u (drop d xs) + held (cache_of (cached_of s) (left d es) (drop d xs)).entries ≡ u
   left-held d bd =
       let f : ℕ → ℕ = λ i. len_of (row_at xs i) in
-      let cd : Chain (first_start u (drop d xs)) (drop d xs) u = chain-drop c d in
+      let cd : RowsAdjoin (first_start u (drop d xs)) (drop d xs) u = chain-drop c d in
       let h : held (cache_of (cached_of s) (left d es) (drop d xs)).entries ≡ sum (λ r. len_of (row_at (drop d xs) r.place)) (left d es) = held-lens s cd w (left d es) (of-below (length (drop d xs)) (places (left d es)) bd) in
       let g : sum (from d f) (places es) ≡ sums (from d f) (length xs) =
       sum-all (λ p. (row_at xs p).key) (from d f) (up_to d f) f (from-up_to d f) (length xs) (places es) (ap ascending (sym (keys-places xs es)) ∙ a) (of-below (length xs) (places es) b) all_held in

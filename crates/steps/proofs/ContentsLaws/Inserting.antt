@@ -37,9 +37,9 @@ use Rattle.block.specs.TimeCaches.{cache_from, cached_cache}
 use Rattle.block.specs.Caches.InBlock.{AtMost}
 use Rattle.block.proofs.CachesLaws.CacheLaws.{refs-in, rows_in, frame-pair, inserted-in, count_entries, count-expiry}
 use Rattle.block.proofs.CachesLaws.CachedLaws.{cached-lies}
-use Rattle.steps.specs.Contents.Starts.{start_of, len_of, first_start, Chain, with_start, with_len}
+use Rattle.steps.specs.Contents.Starts.{start_of, len_of, first_start, RowsAdjoin, with_start, with_len}
 use Rattle.steps.specs.Contents.CacheSteps.{message, cached_also, cached_rows, empty_in, Others}
-use Rattle.steps.proofs.ContentsLaws.Chains.{of-adjoining, chain-ends, chain-drop, chain-gap, start-set, len-set, len-start, wide_rows}
+use Rattle.steps.proofs.ContentsLaws.RowsAdjoin.{of-adjoining, chain-ends, chain-drop, chain-gap, start-set, len-set, len-start, wide_rows}
 use Rattle.steps.proofs.ContentsLaws.Shifts.{store-start}
 use Rattle.steps.proofs.ContentsLaws.Closing.{others-of, cached-state, cached-laid}
 
@@ -188,7 +188,7 @@ module _ (h : Head) (xs : List ℕ) (sound : Sound h xs) (id round t : ℕ) (r :
     e3 : List ℕ
     e3 = put (i * 4 + 2) (le_bytes 2 round) (table l 4 ys)
 
-    chain : Chain 0 rs u
+    chain : RowsAdjoin 0 rs u
     unfolding expiry_rows
     chain = of-adjoining sound.laid.contents
 
@@ -339,6 +339,6 @@ module _ (h : Head) (xs : List ℕ) (sound : Sound h xs) (id round t : ℕ) (r :
         (record {
           state = cached-state h xs y3 sound.fit others n' m' u e3 x3 store tables-3 ∙ ap (λ (c : Cache Cached). with_cache c (state_of h xs)) all;
           sound = cached-laid h xs y3 sound.fit others n' m' u e3 x3 store tables-3 (fit_at y3 l3) below
-              (subst (λ (z : List ExpiryRow). Chain 0 z u) (sym rows-3) (chain-gap j new chain (new-start ∙ es) new-len))
+              (subst (λ (z : List ExpiryRow). RowsAdjoin 0 z u) (sym rows-3) (chain-gap j new chain (new-start ∙ es) new-len))
               (ap (λ (c : Cache Cached). held c.entries) all ∙ used);
         })

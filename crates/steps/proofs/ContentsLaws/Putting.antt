@@ -1,8 +1,8 @@
 -- "cache at" a round in three steps: an old content goes, the entry is put in without its content, and the content comes.
 -- Assumes nothing.
+use Rattle.std.specs.Prelude.{Option, Some, None}
 use mathlib.Core.Path.{◌≡◌, refl, sym, ap, ◌∙◌, subst}
 use mathlib.Core.Bool.{true}
-use mathlib.Core.Option.{Option, none, some}
 use mathlib.Core.List.{List, [], ◌∷◌}
 use Prim.Native.Nat.{ℕ, ◌+◌, ◌≤◌}
 use native.Mathlib.Omega.{arith}
@@ -48,8 +48,8 @@ module _ (id : ℕ) where
   -- a value put in over one that was replaced
   with-put : (v : Cached) (x : Timed Cached) (o : Option (Timed Cached)) (m : Map (Timed Cached)) → insert id x (with_value id v o m) ≡ insert id x m
   unfolding with_value
-  with-put v x none m = refl
-  with-put v x (some y) m = insert-twice id (record { expires = y.expires; value = v }) x m
+  with-put v x None m = refl
+  with-put v x (Some y) m = insert-twice id (record { expires = y.expires; value = v }) x m
 
   put-replace : (v w : Cached) (t : ℕ) (c : Cache Cached) → put_in id w t (replace id v c) ≡ put_in id w t c
   unfolding put_in replace
@@ -57,13 +57,13 @@ module _ (id : ℕ) where
 
   put-with : (content : List ℕ) (w : Cached) (t : ℕ) (o : Option Cached) (c : Cache Cached) → put_in id w t (refill_with id content o c) ≡ put_in id w t c
   unfolding refill_with
-  put-with content w t none c = refl
-  put-with content w t (some v) c = put-replace (message content v.round) w t c
+  put-with content w t None c = refl
+  put-with content w t (Some v) c = put-replace (message content v.round) w t c
 
   pub put-refill : (content : List ℕ) (w : Cached) (t : ℕ) (c : Cache Cached) → put_in id w t (refill id content c) ≡ put_in id w t c
   put-refill content w t c = put-with content w t (get id c) c
 
-  got-put : (v : Cached) (t : ℕ) (c : Cache Cached) → get id (put_in id v t c) ≡ some v
+  got-put : (v : Cached) (t : ℕ) (c : Cache Cached) → get id (put_in id v t c) ≡ Some v
   unfolding get put_in value_of
   got-put v t c = ap value_of (lookup-insert-same id (record { expires = t; value = v }) c.entries)
 
@@ -80,13 +80,13 @@ module _ (id : ℕ) where
   -- keys stay in order
   in-order-with : (v : Cached) (o : Option (Timed Cached)) (m : Map (Timed Cached)) → ascending (keys m) ≡ true → ascending (keys (with_value id v o m)) ≡ true
   unfolding with_value
-  in-order-with v none m u = u
-  in-order-with v (some y) m u = ascending-insert id _ m u
+  in-order-with v None m u = u
+  in-order-with v (Some y) m u = ascending-insert id _ m u
 
   in-order-given : (content : List ℕ) (o : Option Cached) (c : Cache Cached) → InOrder c → InOrder (refill_with id content o c)
   unfolding refill_with replace
-  in-order-given content none c i = i
-  in-order-given content (some v) c i = record { up = in-order-with (message content v.round) (lookup id c.entries) c.entries i.up; order = i.order }
+  in-order-given content None c i = i
+  in-order-given content (Some v) c i = record { up = in-order-with (message content v.round) (lookup id c.entries) c.entries i.up; order = i.order }
 
   pub in-order-refill : (content : List ℕ) (c : Cache Cached) → InOrder c → InOrder (refill id content c)
   in-order-refill content c i = in-order-given content (get id c) c i
@@ -98,13 +98,13 @@ module _ (id : ℕ) where
   -- the bytes of the contents
   less-with : (r : ℕ) (o : Option (Timed Cached)) (m : Map (Timed Cached)) → held (with_value id (message [] r) o m) ≤ held m
   unfolding with_value
-  less-with r none m = omega arith
-  less-with r (some y) m = omega (arith, sum-insert-le (λ e. length e.value.value.content) id (record { expires = y.expires; value = message [] r }) m)
+  less-with r None m = omega arith
+  less-with r (Some y) m = omega (arith, sum-insert-le (λ e. length e.value.value.content) id (record { expires = y.expires; value = message [] r }) m)
 
   less-given : (o : Option Cached) (c : Cache Cached) → held (refill_with id [] o c).entries ≤ held c.entries
   unfolding refill_with replace
-  less-given none c = omega arith
-  less-given (some v) c = less-with v.round (lookup id c.entries) c.entries
+  less-given None c = omega arith
+  less-given (Some v) c = less-with v.round (lookup id c.entries) c.entries
 
   pub held-less : (c : Cache Cached) → held (refill id [] c).entries ≤ held c.entries
   held-less c = less-given (get id c) c
@@ -112,13 +112,13 @@ module _ (id : ℕ) where
   -- nothing is left of an old content
   bare-with : (r : ℕ) (o : Option (Timed Cached)) (m : Map (Timed Cached)) → lookup id m ≡ o → content_length (value_of (lookup id (with_value id (message [] r) o m))) ≡ 0
   unfolding with_value value_of content_length
-  bare-with r none m e = ap (λ (o : Option (Timed Cached)). content_length (value_of o)) e
-  bare-with r (some y) m e = ap (λ (o : Option (Timed Cached)). content_length (value_of o)) (lookup-insert-same id (record { expires = y.expires; value = message [] r }) m)
+  bare-with r None m e = ap (λ (o : Option (Timed Cached)). content_length (value_of o)) e
+  bare-with r (Some y) m e = ap (λ (o : Option (Timed Cached)). content_length (value_of o)) (lookup-insert-same id (record { expires = y.expires; value = message [] r }) m)
 
   bare-given : (o : Option Cached) (c : Cache Cached) → get id c ≡ o → content_length (get id (refill_with id [] o c)) ≡ 0
   unfolding refill_with replace get content_length
-  bare-given none c e = ap content_length e
-  bare-given (some v) c e = bare-with v.round (lookup id c.entries) c.entries refl
+  bare-given None c e = ap content_length e
+  bare-given (Some v) c e = bare-with v.round (lookup id c.entries) c.entries refl
 
   pub held_same : (round t : ℕ) (c : Cache Cached) → InOrder c → held (put_in id (message [] round) t (refill id [] c)).entries ≡ held (refill id [] c).entries
   held_same round t c i =

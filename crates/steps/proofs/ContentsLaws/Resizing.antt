@@ -1,8 +1,8 @@
 -- Another content for the message that row p has: the rows, the contents and the state.
 -- Assumes nothing.
+use Rattle.std.specs.Prelude.{Option, Some}
 use mathlib.Core.Path.{◌≡◌, refl, sym, ap, ◌∙◌, subst}
 use mathlib.Core.Logic.{◌⊎◌, inl, inr}
-use mathlib.Core.Option.{Option, some}
 use mathlib.Core.List.{List, [], ◌∷◌, ◌++◌, map, map-append}
 use Prim.Native.Nat.{ℕ, zero, suc, ◌+◌, ◌-◌, ◌≤◌, ◌<◌}
 use native.Mathlib.Omega.{arith}
@@ -23,8 +23,8 @@ use Rattle.time_cache.proofs.TableLaws.{keys-named}
 use Rattle.protocol.specs.State.{Cached}
 use Rattle.block.specs.View.{half_at, content_of, cached_of}
 use Rattle.steps.specs.Contents.CacheSteps.{refill_with, refill}
-use Rattle.steps.specs.Contents.Starts.{start_of, len_of, Chain, with_len, shifted_row}
-use Rattle.steps.proofs.ContentsLaws.Chains.{Along, along-at, along-expiry, along-map, chain-at, chain-order, chain-drop, chain_next, chain-resize, len-set, len-start, Wide, wide-drop}
+use Rattle.steps.specs.Contents.Starts.{start_of, len_of, RowsAdjoin, with_len, shifted_row}
+use Rattle.steps.proofs.ContentsLaws.RowsAdjoin.{Along, along-at, along-expiry, along-map, chain-at, chain-order, chain-drop, chain_next, chain-resize, len-set, len-start, Wide, wide-drop}
 use Rattle.steps.proofs.ContentsLaws.Contents.{part_moved, place-low}
 
 -- an element of a list that was changed at i
@@ -137,7 +137,7 @@ module _ (s t : List ℕ) (xs ys : List ExpiryRow) (es : List Ref) (i p : ℕ) (
   unfolding cache_of get value_of refill_with cached_of
   refill-set id hd =
       let c : Cache Cached = cache_of (cached_of s) es xs in
-      let got : get id c ≡ some (get_or m i no_entry).value.value = ap value_of (lookup-here id i no_entry m keys-up hd) in
+      let got : get id c ≡ Some (get_or m i no_entry).value.value = ap value_of (lookup-here id i no_entry m keys-up hd) in
       let k : (row_at xs p).key ≡ id = sym here.same ∙ hd.same in
       let v : (get_or m i no_entry).value.value.round ≡ half_at 0 r.own = ap (λ (e : Entry (Timed Cached)). e.value.value.round) was-at in
       replaced
@@ -150,7 +150,7 @@ split_at p [] h = absurd (omega arith)
 split_at zero (x ∷ xs) h = refl
 split_at (suc p) (x ∷ xs) h = ap (λ (l : List ExpiryRow). x ∷ l) (split_at p xs (omega arith))
 
-module _ (s content : List ℕ) (xs : List ExpiryRow) (u p : ℕ) (c : Chain 0 xs u) (hp : p < length xs) (w : Wide xs)
+module _ (s content : List ℕ) (xs : List ExpiryRow) (u p : ℕ) (c : RowsAdjoin 0 xs u) (hp : p < length xs) (w : Wide xs)
     (room : u + length content ≤ length s + len_of (row_at xs p)) (us : u ≤ length s) (small : length s ≤ 1048576) where
   abbrev x : ExpiryRow
   x = row_at xs p
@@ -206,7 +206,7 @@ module _ (s content : List ℕ) (xs : List ExpiryRow) (u p : ℕ) (c : Chain 0 x
   along : Along k o (drop (suc p) xs) zs
   along = along-map k o (wide-drop (suc p) xs w) (chain-drop c (suc p)) (omega (arith, chain_next c p hp)) (omega (arith, room, ends, us, small))
 
-  pub chain-then : (e : ℕ) → e + o ≡ u + k → Chain 0 rows_then e
+  pub chain-then : (e : ℕ) → e + o ≡ u + k → RowsAdjoin 0 rows_then e
   chain-then e t = chain-resize e p y zs c hp along y-start y-len refl t
 
   pub expiry-then : map expiry_of rows_then ≡ map expiry_of xs

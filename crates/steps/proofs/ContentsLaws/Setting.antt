@@ -1,8 +1,8 @@
 -- Another content in row p, out of the stores that make it, and what it is to the state.
 -- Assumes nothing.
+use Rattle.std.specs.Prelude.{Option, Some}
 use mathlib.Core.Path.{◌≡◌, refl, sym, ap, ◌∙◌, subst}
 use mathlib.Core.Bool.{true}
-use mathlib.Core.Option.{Option, some}
 use mathlib.Core.List.{List, [], ◌∷◌, ◌++◌, map}
 use Prim.Native.Nat.{ℕ, zero, suc, ◌+◌, ◌-◌, ◌*◌, ◌≤◌, ◌<◌}
 use native.Mathlib.Omega.{arith}
@@ -38,9 +38,9 @@ use Rattle.block.proofs.Tables.{frame, length-table}
 use Rattle.block.specs.TimeCaches.{cached_cache}
 use Rattle.block.specs.Caches.InBlock.{InOrder}
 use Rattle.block.proofs.CachesLaws.CacheLaws.{refs-in}
-use Rattle.steps.specs.Contents.Starts.{start_of, len_of, Chain, with_len, shifted_row, Above}
+use Rattle.steps.specs.Contents.Starts.{start_of, len_of, RowsAdjoin, with_len, shifted_row, Above}
 use Rattle.steps.specs.Contents.CacheSteps.{refill_with, refill, refilled, cached_rows, Others, Shifts, Resized}
-use Rattle.steps.proofs.ContentsLaws.Chains.{of-adjoining, chain-at, chain-drop, chain_next, chain-above, wide_rows}
+use Rattle.steps.proofs.ContentsLaws.RowsAdjoin.{of-adjoining, chain-at, chain-drop, chain_next, chain-above, wide_rows}
 use Rattle.steps.proofs.ContentsLaws.Contents.{place-low}
 use Rattle.steps.proofs.ContentsLaws.Resizing.{no_entry, sum-put, refill-set, rows_then, store_then, chain-then, expiry-then, content-new, content-kept}
 use Rattle.steps.proofs.ContentsLaws.Closing.{others-of, move-frame, cached-state, cached-fit, cached-laid}
@@ -65,7 +65,7 @@ held-refill content c id i u hd =
     let up : Ascending (keys m) = up_of (keys m) u in
     let t : Timed Cached = (get_or m i no_entry).value in
     let v : Timed Cached = record { expires = t.expires; value = record { content = content; round = t.value.round } } in
-    let look : lookup id m ≡ some t = lookup-here id i no_entry m up hd in
+    let look : lookup id m ≡ Some t = lookup-here id i no_entry m up hd in
     let one : refill id content c ≡ replace id v.value c = ap (λ (o : Option (Timed Cached)). refill_with id content (value_of o) c) look in
     let two : (replace id v.value c).entries ≡ put i (entry id v ∷ []) m = ap (λ (o : Option (Timed Cached)). with_value id v.value o m) look ∙ insert-here id v i m up hd in
     let f : Entry (Timed Cached) → ℕ = λ e. length e.value.value.content in
@@ -101,7 +101,7 @@ module _ (h : Head) (xs content : List ℕ) (p : ℕ) (sound : Sound h xs) (hp :
   count : length rs ≡ m
   count = length-expiry_rows 48 m (table l 5 xs)
 
-  pub chain : Chain 0 rs u
+  pub chain : RowsAdjoin 0 rs u
   unfolding expiry_rows
   chain = of-adjoining sound.laid.contents
 
@@ -238,7 +238,7 @@ module _ (h : Head) (xs content : List ℕ) (id i : ℕ) (sound : Sound h xs) (o
   pub row_low : row_of < mc
   row_low = omega (arith, names, place-low (length rows) es below i low, lrows)
 
-  chained : Chain 0 rows uc
+  chained : RowsAdjoin 0 rows uc
   unfolding expiry_rows
   chained = of-adjoining sound.laid.contents
 
@@ -297,7 +297,7 @@ module _ (h : Head) (xs content : List ℕ) (id i : ℕ) (sound : Sound h xs) (o
             cached-laid h xs ys sound.fit others nc mc e (table lim 4 xs) x t framed
             (cached-fit h xs ys sound.fit others nc mc e (table lim 4 xs) x t framed z.long sound.fit.within.cached sound.fit.within.cached_rows (omega (arith, set_room, ends)))
             sound.laid.cached
-            (subst (λ (r : List ExpiryRow). Chain 0 r e) (sym rows-now) (chain-then store content rows uc p chained hp wide room us sm e (omega (arith, ends))))
+            (subst (λ (r : List ExpiryRow). RowsAdjoin 0 r e) (sym rows-now) (chain-then store content rows uc p chained hp wide room us sm e (omega (arith, ends))))
             used;
       })
 

@@ -26,7 +26,7 @@ use Rattle.block.proofs.Tables.{frame, length-table}
 use Rattle.block.proofs.RowLaws.{part_in}
 use Rattle.steps.specs.Contents.Starts.{start_of, len_of, first_start, with_start, shifted_row}
 use Rattle.steps.specs.Contents.CacheSteps.{Shifts}
-use Rattle.steps.proofs.ContentsLaws.Chains.{start-bytes, len-bytes}
+use Rattle.steps.proofs.ContentsLaws.RowsAdjoin.{start-bytes, len-bytes}
 
 -- the start in row i
 pub start-at : (m i : ℕ) (x : List ℕ) → i < m → start_of (row_at (expiry_rows 48 m x) i) ≡ le_nat (part (i * 48 + 40) 4 x)

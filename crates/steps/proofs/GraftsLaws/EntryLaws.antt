@@ -18,7 +18,7 @@ use Rattle.storage.proofs.RowsLaws.Parts.{length-put, get_d_part, get_or-put-bef
 use Rattle.storage.specs.Refs.Refs.{Ref, ref, refs, moved}
 use Rattle.storage.proofs.RefsLaws.Places.{get_or-map-in}
 use Rattle.time_cache.specs.TimeCache.{Timed, Cache, put as put_in, replace}
-use Rattle.time_cache.specs.Tables.{ExpiryRow, expiry_row, no_row, row_at, expiry_rows, named, held, entry_for, refs_at, rows_at, cache_at, Lies, OnlyTwo, Sound as SoundCache}
+use Rattle.time_cache.specs.Tables.{ExpiryRow, expiry_row, no_row, row_at, expiry_rows, named, value_bytes, entry_for, refs_at, rows_at, cache_at, Lies, OnlyTwo, Sound as SoundCache}
 use Rattle.time_cache.specs.Steps.{ref_at, held_at, placed, Inserts}
 use Rattle.time_cache.specs.declared.cache.TimeBoundCache.{TimeBoundCache}
 use Rattle.time_cache.specs.declared.cache.Inserted.{Inserted}
@@ -186,16 +186,16 @@ module _ (h : Head) (xs ys : List ℕ) (id expires : ℕ) (t : Inserted) (sound 
   zs-long : length zs ≡ length xs
   zs-long = length-put (place l 7 + (e * 119 + (2 + 0))) zeros ys (omega (arith, length-le_bytes 21 0, v.entry, wn, len, sound.fit.long)) ∙ len
 
-  at : cache_at c zs ≡ put_in id (held (put 0 zeros r.own) x.rest) expires (cache_at (grafted_cache h) xs)
+  at : cache_at c zs ≡ put_in id (value_bytes (put 0 zeros r.own) x.rest) expires (cache_at (grafted_cache h) xs)
   at =
       own-written c ys s e v.entry lies 0 zeros wide
-      ∙ (λ k. replace (key k) (held (put 0 zeros r.own) x.rest) ((sym (ap (λ (z : TimeBoundCache). cache_at z ys) sized) ∙ v.cache) k))
-      ∙ replace-put id (held_at t.cache e t.row ys) (held (put 0 zeros r.own) x.rest) expires (cache_at (grafted_cache h) xs)
+      ∙ (λ k. replace (key k) (value_bytes (put 0 zeros r.own) x.rest) ((sym (ap (λ (z : TimeBoundCache). cache_at z ys) sized) ∙ v.cache) k))
+      ∙ replace-put id (held_at t.cache e t.row ys) (value_bytes (put 0 zeros r.own) x.rest) expires (cache_at (grafted_cache h) xs)
 
   all : grafted_in ps n' (table l 7 zs) m' (table l 8 zs) ≡ put_in id no_grafts expires (state_of h xs).grafted
   unfolding state_of grafted_in
   all =
-      inserted-in l 7 119 n 8 40 m xs zs (lit< tt) (omega (arith, sound.fit.within)) (lit< tt) (omega (arith, sound.fit.within)) n' m' wn wm (grafts_of ps) id expires (held (put 0 zeros r.own) x.rest) at
+      inserted-in l 7 119 n 8 40 m xs zs (lit< tt) (omega (arith, sound.fit.within)) (lit< tt) (omega (arith, sound.fit.within)) n' m' wn wm (grafts_of ps) id expires (value_bytes (put 0 zeros r.own) x.rest) at
       ∙ ap (λ (g : Grafts). put_in id g expires (state_of h xs).grafted) (no-grafts ps r.own x.rest)
 
   hn : n' ≤ l.G

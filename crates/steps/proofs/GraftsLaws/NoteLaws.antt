@@ -1,8 +1,8 @@
 -- The writes of a graft, as steps of the state: a peer more, a lower round, and the known round where it is no higher.
 -- Assumes nothing.
+use Rattle.std.specs.Prelude.{Option, Some, None}
 use mathlib.Core.Path.{◌≡◌, refl, sym, ap, ◌∙◌, subst}
 use mathlib.Core.List.{List, [], ◌∷◌, ◌++◌}
-use mathlib.Core.Option.{Option, none, some}
 use Prim.Native.Nat.{ℕ, ◌+◌, ◌*◌, ◌^◌, ◌≤◌, ◌<◌, min}
 use native.Mathlib.Omega.{arith}
 use lib.ListN.{length, take, drop, get_or, length-map, get_or-map}
@@ -135,7 +135,7 @@ module _ (h : Head) (xs : List ℕ) (g : Grafting h xs) (i : ℕ) (q : i < h.liv
     unfolding replace known
     same-goes k e le =
         let m0 : min known rd ≡ (get_or peers j (entry 0 0)).value = omega (arith, e, le) in
-        let d : Entry (Timed Grafts) = entry 0 (record { expires = 0; value = record { first = none; kept = none; peers = [] } }) in
+        let d : Entry (Timed Grafts) = entry 0 (record { expires = 0; value = record { first = None; kept = None; peers = [] } }) in
         let value : peers_with i p rd st ≡ peers = low ∙ ap (λ (n : ℕ). insert p n peers) m0 ∙ insert-same p j (entry 0 0) peers (peers-up h xs g i q) here refl in
         let es : Map (Timed Grafts) = st.grafted.entries in
         let back : replace (grafted_at st i).key (grafts_at st i) st.grafted ≡ st.grafted = λ z. record {
@@ -150,7 +150,7 @@ module _ (s : State) (id link rd expires j : ℕ) where
   entries = s.grafted.entries
 
   abbrev nothing : Entry (Timed Grafts)
-  nothing = entry 0 (record { expires = 0; value = record { first = none; kept = none; peers = [] } })
+  nothing = entry 0 (record { expires = 0; value = record { first = None; kept = None; peers = [] } })
 
   abbrev one : Grafts
   one = record { first = no_grafts.first; kept = no_grafts.kept; peers = entry (peer_at s link) rd ∷ [] }
@@ -159,7 +159,7 @@ module _ (s : State) (id link rd expires j : ℕ) where
   unfolding with_graft get value_of
   noted_here up h =
       let key : (grafted_at s j).key ≡ id = sym (get_or-map (λ (e : Entry (Timed Grafts)). e.key) entries j nothing) ∙ h.same in
-      let found : get id s.grafted ≡ some (grafts_at s j) = ap value_of (lookup-here id j nothing entries up h) in
+      let found : get id s.grafted ≡ Some (grafts_at s j) = ap value_of (lookup-here id j nothing entries up h) in
       (λ z. with_grafted (replace (key z) (record { first = (grafts_at s j).first; kept = (grafts_at s j).kept; peers = peers_with j (peer_at s link) rd s }) s.grafted) s)
       ∙ ap (λ (o : Option Grafts). with_grafted (with_graft id expires (hop (peer_at s link) rd) o s.grafted) s) (sym found)
 

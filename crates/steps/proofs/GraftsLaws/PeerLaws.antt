@@ -1,23 +1,22 @@
 -- The grafted peers of a message: in order, neighbours, and no more than the links.
 -- Assumes nothing.
+use Rattle.std.specs.Prelude.{None}
 use mathlib.Core.Path.{◌≡◌, refl, sym, ap, ◌∙◌}
 use mathlib.Core.Bool.{Bool, true, false, not, ◌&&◌}
 use mathlib.Core.List.{List, [], ◌∷◌}
-use mathlib.Core.Option.{none}
 use Prim.Native.Nat.{ℕ, ◌≤◌, ◌<◌}
 use native.Mathlib.Omega.{arith}
 use borrow.Author.Tests.{ltb-true, ne_eqb}
 use lib.Dec.{leb, ltb}
 use lib.ListN.{length, get_or, length-map, get_or-map}
-use Rattle.storage.specs.Lists.Base.{is_some, all, any, member, once, ascending}
+use Rattle.storage.specs.Lists.Base.{all, any, member, once, ascending}
 use Rattle.storage.specs.Lists.Map.{Map, Entry, entry, keys, insert, has}
 use Rattle.storage.proofs.ListsLaws.MapLaws.{and_left, and_right, and_intro, all_head, all_tail}
 use Rattle.storage.proofs.ListsLaws.ListLaws.{all_map}
 use Rattle.storage.proofs.ListsLaws.Places.{all-at}
-use Rattle.storage.specs.Rows.Sorted.{Ascending, Here, Between}
+use Rattle.storage.specs.Rows.Sorted.{Ascending, Between}
 use Rattle.time_cache.specs.TimeCache.{Timed}
 use Rattle.time_cache.proofs.Orders.{up_of}
-use Rattle.time_cache.proofs.MapPlaces.{lookup-here, lookup-between}
 use Rattle.protocol.specs.Links.{is_neighbour}
 use Rattle.protocol.specs.State.{State, Grafts}
 use Rattle.protocol.specs.Gossips.{graft_out}
@@ -65,11 +64,14 @@ module _ (h : Head) (xs : List ℕ) (g : Grafting h xs) (i : ℕ) (q : i < h.liv
 
   grafts-whole : Grafted st.links peers
   grafts-whole =
-      let d : Entry (Timed Grafts) = entry 0 (record { expires = 0; value = record { first = none; kept = none; peers = [] } }) in
+      let d : Entry (Timed Grafts) = entry 0 (record { expires = 0; value = record { first = None; kept = None; peers = [] } }) in
       to-grafted st.links (grafted_at st i) (all-at (grafts_whole st.links) d st.grafted.entries g.whole i (omega (arith, count-grafted h xs g.sound.fit)))
 
+  pub peers-ascend : ascending (keys peers) ≡ true
+  peers-ascend = grafts-whole.up
+
   pub peers-up : Ascending (keys peers)
-  peers-up = up_of (keys peers) grafts-whole.up
+  peers-up = up_of (keys peers) peers-ascend
 
   pub key-at : (j : ℕ) → get_or (keys peers) j 0 ≡ (get_or peers j (entry 0 0)).key
   key-at j = get_or-map (λ (e : Entry ℕ). e.key) peers j (entry 0 0)
@@ -82,13 +84,6 @@ module _ (h : Head) (xs : List ℕ) (g : Grafting h xs) (i : ℕ) (q : i < h.liv
       let w : Grafted st.links m = grafted-insert st.links p 0 peers (link_near h xs link g ql) grafts-whole in
       let most : length (keys m) ≤ length st.links = once-few st.links (keys m) (ascending-once (keys m) w.up) (all_map (λ n. has n st.links) (λ (e : Entry ℕ). e.key) m ∙ w.near) in
       omega (arith, most, length-map m (λ (e : Entry ℕ). e.key), insert-long p j 0 0 peers peers-up b, count-links h xs, g.sound.fit.within.links, g.sound.fit.ceilings.N)
-
--- what a search for a peer tells
-pub has_here : (p j : ℕ) (m : Map ℕ) → Ascending (keys m) → Here (keys m) p j → true ≡ has p m
-has_here p j m up h = sym (ap is_some (lookup-here p j (entry 0 0) m up h))
-
-pub has-between : (p j : ℕ) (m : Map ℕ) → Between (keys m) p j → false ≡ has p m
-has-between p j m b = sym (ap is_some (lookup-between p j m b))
 
 -- a graft is out
 pub out-away : (sender round : ℕ) (m : Map ℕ) (t : Bool) → any (λ e. leb e.value round) m ≡ true → t ≡ has sender m → not t ≡ graft_out sender round m

@@ -3,14 +3,13 @@
 use mathlib.Core.Path.{◌≡◌, ap, ◌∙◌}
 use mathlib.Core.Bool.{Bool, true, false}
 use mathlib.Core.List.{List, []}
-use mathlib.Core.Option.{none, some}
 use Prim.Native.Nat.{ℕ, ◌+◌, ◌*◌, ◌≤◌, ◌<◌}
 use native.Mathlib.Omega.{arith}
 use borrow.Author.Tests.{eq-eqb, ne_eqb}
 use lib.Dec.{lit<}
 use lib.ListN.{take, drop, get_or}
 use lib.Seq.{drop-drop, get_or-drop}
-use Rattle.std.specs.Prelude.{if◌then◌else◌}
+use Rattle.std.specs.Prelude.{if◌then◌else◌, Some, None}
 use Rattle.storage.specs.Lists.Map.{Entry}
 use Rattle.storage.specs.Rows.Part.{part}
 use Rattle.storage.specs.Rows.Digits.{le_nat}
@@ -71,8 +70,8 @@ module _ (h : Head) (xs : List ℕ) (sound : Sound h xs) (i : ℕ) (q : i < h.li
       ∙ (λ k. only_if (flag_of (own-byte 11 (omega arith) k)) (le_nat (own-part 12 8 (omega arith) k)))
 
 -- a flag that is 0, and one that is not
-pub flag-none : {A : Type 0} (b : ℕ) (v : A) → b ≡ 0 → only_if (flag_of b) v ≡ none
+pub flag-none : {A : Type 0} (b : ℕ) (v : A) → b ≡ 0 → only_if (flag_of b) v ≡ None
 flag-none b v e = ap (λ (t : Bool). only_if (if t then false else true) v) (eq-eqb b 0 e)
 
-pub flag-some : {A : Type 0} (b : ℕ) (v : A) → (b ≡ 0 → ⊥) → only_if (flag_of b) v ≡ some v
+pub flag-some : {A : Type 0} (b : ℕ) (v : A) → (b ≡ 0 → ⊥) → only_if (flag_of b) v ≡ Some v
 flag-some b v e = ap (λ (t : Bool). only_if (if t then false else true) v) (ne_eqb b 0 e)

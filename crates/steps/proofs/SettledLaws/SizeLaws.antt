@@ -1,13 +1,13 @@
 -- The numbers of entries, as they stand and as eviction leaves them, and a sum over the entries as a loop makes it.
 -- Assumes nothing.
-use Prim.Native.Nat.{ℕ, zero, suc, ◌+◌, ◌*◌, ◌≤◌, ◌<◌}
+use Prim.Native.Nat.{ℕ, zero, suc, ◌+◌, ◌≤◌, ◌<◌}
 use mathlib.Core.Path.{◌≡◌, refl, sym, ap, ◌∙◌}
-use mathlib.Core.Bool.{Bool, true, false, not, ◌&&◌}
+use mathlib.Core.Bool.{Bool, true, false, not}
 use mathlib.Core.List.{List, [], ◌∷◌}
 use native.Mathlib.Numerals.{add-one}
 use native.Mathlib.Omega.{arith}
 use borrow.Author.Tests.{not-true, not-false}
-use lib.Dec.{leb, ltb}
+use lib.Dec.{ltb}
 use lib.ListN.{length, get_or, take}
 use Rattle.std.specs.Prelude.{if◌then◌else◌}
 use Rattle.storage.specs.Lists.Base.{sum}
@@ -20,13 +20,12 @@ use Rattle.block.specs.Layout.{place}
 use Rattle.block.specs.View.{state_of, limits_of}
 use Rattle.block.specs.Sound.{Sound}
 use Rattle.block.specs.declared.head.Head.{Head}
-use Rattle.block.specs.declared.head.Limits.{Limits}
 use Rattle.block.proofs.LinkLaws.{count-links}
 use Rattle.block.proofs.MissingLaws.{count-missing}
 use Rattle.block.proofs.TimerLaws.{count-timers}
 use Rattle.block.proofs.NoteLaws.{count-queue, count-dropped}
 use Rattle.block.specs.Caches.CachedReads.{cached_at, ContentIs}
-use Rattle.block.specs.declared.caches.cached.Content.{Content}
+use Rattle.block.specs.declared.caches.cached.Extent.{Extent}
 use Rattle.block.proofs.CachesLaws.ReceivedLaws.{count-received, count-received-rows}
 use Rattle.block.proofs.CachesLaws.CachedLaws.{count-cached, count-cached-rows}
 use Rattle.block.proofs.CachesLaws.GraftedLaws.{count-grafted, count-grafted-rows}
@@ -34,7 +33,6 @@ use Rattle.decide.specs.Sizes.{Sizes, sizes_of}
 use Rattle.decide.proofs.SizesAfter.{evict_sizes, settled_sizes}
 use Rattle.decide.specs.Settled.{settled}
 use Rattle.decide.proofs.SettledLaws.{length-later, expiry-later, settled-sizes}
-use Rattle.steps.specs.declared.Sizes.{Sizes as CodeSizes}
 use Rattle.steps.specs.Settled.Then.{no_cached, later_bytes}
 
 -- a sum over the first entries, one more
@@ -93,7 +91,7 @@ module _ (now : ℕ) (h : Head) (xs : List ℕ) (sound : Sound h xs) where
       start (x ∷ m) = refl
 
   -- the length of a content
-  pub length-content : (i : ℕ) (r : Content) → ContentIs h xs i r → length (cached_at (state_of h xs) i).content ≡ r.len
+  pub length-content : (i : ℕ) (r : Extent) → ContentIs h xs i r → length (cached_at (state_of h xs) i).content ≡ r.len
   length-content i r c =
       ap length c.same ∙ length_part (place (limits_of h.limits) 6 + r.start) r.len xs (omega (arith, c.within, sound.fit.within, sound.fit.long))
 
@@ -102,7 +100,7 @@ module _ (now : ℕ) (h : Head) (xs : List ℕ) (sound : Sound h xs) where
     next =
         rw (add-one i) (ap (λ (n : ℕ). n + later_bytes now (get_or es i no_cached)) b ∙ sym (sum-next (later_bytes now) no_cached i es (omega (arith, count-cached h xs sound.fit))))
 
-    pub bytes-later : (r : Content) → ContentIs h xs i r → ltb now t ≡ true → Bytes now h xs (i + 1) (total + r.len)
+    pub bytes-later : (r : Extent) → ContentIs h xs i r → ltb now t ≡ true → Bytes now h xs (i + 1) (total + r.len)
     bytes-later r c k =
         let f : later_bytes now (get_or es i no_cached) ≡ r.len = ap (λ (a : Bool). if a then length (cached_at (state_of h xs) i).content else 0) (sym (ap (ltb now) e) ∙ k) ∙ length-content i r c in
         ap (λ (n : ℕ). total + n) (sym f) ∙ next
@@ -146,33 +144,6 @@ module _ (now : ℕ) (s : State) where
   pub sizes-evicted : s.init ≡ false → sizes_of (settled now s) ≡ evict_sizes now s
   unfolding settled_sizes
   sizes-evicted e = settled-sizes now s ∙ rw e refl
-
--- the tests of question 13, in order
-abbrev pub test : Limits → CodeSizes → ℕ → Bool
-test l z i =
-    get_or
-    (leb z.links l.neighbours
-    ∷ (leb z.received l.received && leb z.received_rows (2 * l.received))
-    ∷ (leb z.cached l.cached && leb z.cached_rows (2 * l.cached))
-    ∷ leb z.contents l.content
-    ∷ (leb z.grafted l.grafted && leb z.grafted_rows (2 * l.grafted))
-    ∷ leb z.missing l.missing
-    ∷ leb z.timers l.timers
-    ∷ leb z.queued l.queued
-    ∷ leb z.dropped l.dropped
-    ∷ [])
-    i true
-
--- two tests: the first fails, the second fails, the first holds
-pub no-first : {a : Bool} (b : Bool) → a ≡ false → (a && b) ≡ false
-no-first b e = ap (λ (x : Bool). x && b) e
-
-pub no_last : (a : Bool) {b : Bool} → b ≡ false → (a && b) ≡ false
-no_last true e = e
-no_last false e = refl
-
-pub yes-first : {a : Bool} (b : Bool) → a ≡ true → (a && b) ≡ b
-yes-first b e = ap (λ (x : Bool). x && b) e
 
 -- what a function's answer r tells of the test t that it is
 pub no : {r t : Bool} → r ≡ t → not r ≡ true → t ≡ false

@@ -4,18 +4,17 @@ use Prim.Native.Nat.{ℕ, ◌*◌, ◌≤◌, ◌<◌}
 use mathlib.Core.Path.{◌≡◌, refl, sym, ap, ◌∙◌, subst}
 use mathlib.Core.Bool.{Bool, true, false}
 use mathlib.Core.List.{List, [], map}
-use mathlib.Core.Option.{none, some}
 use native.Mathlib.Omega.{arith}
 use lib.Dec.{ltb, lit<}
 use lib.ListN.{length, get_or, length-map}
-use Rattle.std.specs.Prelude.{if◌then◌else◌}
+use Rattle.std.specs.Prelude.{if◌then◌else◌, Some, None}
 use Rattle.storage.specs.Lists.Map.{Map, Entry, entry, lookup}
 use Rattle.storage.proofs.ListsLaws.MapLaws.{cases}
 use Rattle.storage.proofs.ListsLaws.Branches.{if-on, if-both}
 use Rattle.storage.specs.Refs.Refs.{Ref, ref, refs, places}
 use Rattle.storage.proofs.RefsLaws.Places.{get_or-map-in, length-refs}
 use Rattle.time_cache.specs.TimeCache.{Timed, Cache, value_of, get, later_cache}
-use Rattle.time_cache.specs.Tables.{expiry_rows, row_at, Held, held, entry_of, cache_of, cache_in, refs_at, rows_at, cache_at, read_as, values_as, Sound}
+use Rattle.time_cache.specs.Tables.{expiry_rows, row_at, ValueBytes, value_bytes, entry_of, cache_of, cache_in, refs_at, rows_at, cache_at, read_as, values_as, Sound}
 use Rattle.time_cache.specs.Steps.{ref_at, held_at, GotAt}
 use Rattle.time_cache.specs.declared.cache.TimeBoundCache.{TimeBoundCache}
 use Rattle.time_cache.proofs.ReadLaws.{length-es}
@@ -64,7 +63,7 @@ init-of h xs = refl
 
 -- what is found of a key among the entries of a block
 module _ (c : TimeBoundCache) (xs : List ℕ) (sound : Sound c xs) (init : Bool) (now id : ℕ) where
-  abbrev all : Cache Held
+  abbrev all : Cache ValueBytes
   all = cache_at c xs
 
   found : get id (left_then init now all) ≡ (if init then value_of (lookup id all.entries) else alive_value now (lookup id all.entries))
@@ -75,16 +74,16 @@ module _ (c : TimeBoundCache) (xs : List ℕ) (sound : Sound c xs) (init : Bool)
     entry-is : get_or all.entries i no_held ≡ entry id (record { expires = (row_at (rows_at c xs) p).time; value = held_at c i p xs })
     unfolding cache_of
     entry-is =
-        get_or-map-in (entry_of held (rows_at c xs)) (refs_at c xs) i no_held (ref 0 []) (omega (arith, g.entry, length-es c xs))
+        get_or-map-in (entry_of value_bytes (rows_at c xs)) (refs_at c xs) i no_held (ref 0 []) (omega (arith, g.entry, length-es c xs))
         ∙ ap (λ (q : ℕ). entry (row_at (rows_at c xs) q).key (record { expires = (row_at (rows_at c xs) q).time; value = held_at c i q xs })) g.names
         ∙ ap (λ (k : ℕ). entry k (record { expires = (row_at (rows_at c xs) p).time; value = held_at c i p xs })) g.key
 
-    held-at : get id (left_then init now all) ≡ some (held_at c i p xs) → HeldAt no_held all.entries id (get id (left_then init now all)) i
+    held-at : get id (left_then init now all) ≡ Some (held_at c i p xs) → HeldAt no_held all.entries id (get id (left_then init now all)) i
     unfolding cache_of
     held-at e = record {
-      below = omega (arith, g.entry, length-es c xs, length-map (refs_at c xs) (entry_of held (rows_at c xs)));
-      key = ap (λ (x : Entry (Timed Held)). x.key) entry-is;
-      value = e ∙ sym (ap (λ (x : Entry (Timed Held)). some x.value.value) entry-is);
+      below = omega (arith, g.entry, length-es c xs, length-map (refs_at c xs) (entry_of value_bytes (rows_at c xs)));
+      key = ap (λ (x : Entry (Timed ValueBytes)). x.key) entry-is;
+      value = e ∙ sym (ap (λ (x : Entry (Timed ValueBytes)). Some x.value.value) entry-is);
     }
 
     pub there-still : init ≡ true → HeldAt no_held all.entries id (get id (left_then init now all)) i
@@ -95,11 +94,11 @@ module _ (c : TimeBoundCache) (xs : List ℕ) (sound : Sound c xs) (init : Bool)
     unfolding alive_value
     there-later e l = held-at (found ∙ rw e (ap (alive_value now) g.value ∙ rw l refl))
 
-    pub there-gone : init ≡ false → ltb now (row_at (rows_at c xs) p).time ≡ false → get id (left_then init now all) ≡ none
+    pub there-gone : init ≡ false → ltb now (row_at (rows_at c xs) p).time ≡ false → get id (left_then init now all) ≡ None
     unfolding alive_value
     there-gone e l = found ∙ rw e (ap (alive_value now) g.value ∙ rw l refl)
 
-  pub nowhere : lookup id all.entries ≡ none → get id (left_then init now all) ≡ none
+  pub nowhere : lookup id all.entries ≡ None → get id (left_then init now all) ≡ None
   unfolding value_of alive_value
   nowhere e = found ∙ cases init (λ q. rw q (ap value_of e)) (λ q. rw q (ap (alive_value now) e))
 
@@ -121,7 +120,7 @@ module _ {A B : Type 0} (f : A → B) (c : Cache A) (d : Cache B) (same : values
       record {
         below = omega (arith, h.below, ap length entries-then, length-map c.entries (read_as f));
         key = ap (λ (x : Entry (Timed B)). x.key) e ∙ h.key;
-        value = get-then ∙ ap (option_as f) h.value ∙ sym (ap (λ (x : Entry (Timed B)). some x.value.value) e);
+        value = get-then ∙ ap (option_as f) h.value ∙ sym (ap (λ (x : Entry (Timed B)). Some x.value.value) e);
       }
   held-as None h = get-then ∙ ap (option_as f) h
 

@@ -1,7 +1,6 @@
 -- The steps of the message cache, and what stands between the two stages of one.
 -- Assumes nothing.
-use Rattle.std.specs.Prelude.{ℕ, ◌+◌, ◌-◌, ◌*◌, ◌≡◌, List, [], ◌∷◌, ◌++◌, map, length, take, drop, get_or, set}
-use Rattle.std.proofs.Math.Option.{Option, none, some}
+use Rattle.std.specs.Prelude.{ℕ, ◌+◌, ◌-◌, ◌*◌, ◌≡◌, List, [], ◌∷◌, ◌++◌, map, length, take, drop, get_or, set, Option, Some, None}
 use Rattle.storage.specs.Rows.Part.{part, put as put_at}
 use Rattle.storage.specs.Refs.Refs.{Below, refs, places}
 use Rattle.time_cache.specs.TimeCache.{Cache, get, put, replace, expire_until}
@@ -14,7 +13,7 @@ use Rattle.block.specs.Fit.{Fit}
 use Rattle.block.specs.Heads.{with_cached_counts}
 use Rattle.block.specs.Sound.{AllNumbered, held}
 use Rattle.block.specs.declared.head.Head.{Head}
-use Rattle.steps.specs.Contents.Starts.{start_of, len_of, first_start, Chain, shifted_row, with_len}
+use Rattle.steps.specs.Contents.Starts.{start_of, len_of, first_start, RowsAdjoin, shifted_row, with_len}
 
 -- `expire_until` of the message cache
 abbrev pub cached_left : ℕ → State → State
@@ -42,7 +41,7 @@ pub record Ahead (h : Head) (block : List ℕ) : Type 0 where
   pub fit : Fit h block
   pub others : Others h (tables (limits_of h.limits) block)
   pub places : Below h.live.cached_rows (places (refs 4 h.live.cached (table (limits_of h.limits) 4 block)))
-  pub chain : Chain (first_start h.live.contents (expiry_rows 48 h.live.cached_rows (table (limits_of h.limits) 5 block))) (expiry_rows 48 h.live.cached_rows (table (limits_of h.limits) 5 block)) h.live.contents
+  pub chain : RowsAdjoin (first_start h.live.contents (expiry_rows 48 h.live.cached_rows (table (limits_of h.limits) 5 block))) (expiry_rows 48 h.live.cached_rows (table (limits_of h.limits) 5 block)) h.live.contents
   pub used : first_start h.live.contents (expiry_rows 48 h.live.cached_rows (table (limits_of h.limits) 5 block))
       + held (cached_in (table (limits_of h.limits) 6 block) h.live.cached (table (limits_of h.limits) 4 block) h.live.cached_rows (table (limits_of h.limits) 5 block)).entries
       ≡ h.live.contents
@@ -55,8 +54,8 @@ pub record Shifts (h : Head) (j up down : ℕ) (xs ys : List ℕ) : Type 0 where
 
 -- another content for a cached message, its round and expiry kept
 unfoldable pub refill_with : ℕ → List ℕ → Option Cached → Cache Cached → Cache Cached
-refill_with id content none c = c
-refill_with id content (some v) c = replace id (record { content = content; round = v.round }) c
+refill_with id content None c = c
+refill_with id content (Some v) c = replace id (record { content = content; round = v.round }) c
 
 -- the same, of the entry that is there or not
 abbrev pub refill : ℕ → List ℕ → Cache Cached → Cache Cached

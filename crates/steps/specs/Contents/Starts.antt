@@ -20,9 +20,9 @@ first_start e [] = e
 first_start e (x ∷ xs) = start_of x
 
 -- the contents of the rows stand one after the other, from a to e
-pub data Chain : ℕ → List ExpiryRow → ℕ → Type 0 where
-  done : {a : ℕ} → Chain a [] a
-  next : {a e : ℕ} (x : ExpiryRow) (xs : List ExpiryRow) → start_of x ≡ a → Chain (a + len_of x) xs e → Chain a (x ∷ xs) e
+pub data RowsAdjoin : ℕ → List ExpiryRow → ℕ → Type 0 where
+  done : {a : ℕ} → RowsAdjoin a [] a
+  next : {a e : ℕ} (x : ExpiryRow) (xs : List ExpiryRow) → start_of x ≡ a → RowsAdjoin (a + len_of x) xs e → RowsAdjoin a (x ∷ xs) e
 
 -- a row with another start
 abbrev pub with_start : ℕ → ExpiryRow → ExpiryRow

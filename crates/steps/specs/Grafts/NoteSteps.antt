@@ -1,7 +1,6 @@
 -- A graft more: of the bytes of a list of link numbers and rounds, and of the state.
 -- Assumes nothing.
-use Rattle.std.specs.Prelude.{ℕ, ◌+◌, ◌-◌, ◌*◌, ◌<◌, ◌≡◌, List, [], ◌∷◌, ◌++◌}
-use Rattle.std.proofs.Math.Option.{none}
+use Rattle.std.specs.Prelude.{ℕ, ◌+◌, ◌-◌, ◌*◌, ◌<◌, ◌≡◌, List, [], ◌∷◌, ◌++◌, None}
 use Rattle.storage.specs.Lists.Map.{Map, lookup, insert}
 use Rattle.storage.specs.Rows.Part.{part, put}
 use Rattle.storage.specs.Rows.Digits.{le_bytes}
@@ -37,7 +36,7 @@ peers_with i p r s = insert p (lower (lookup p (grafts_at s i).peers) r) (grafts
 
 -- the grafts of a new entry
 abbrev pub no_grafts : Grafts
-no_grafts = record { first = none; kept = none; peers = [] }
+no_grafts = record { first = None; kept = None; peers = [] }
 
 -- a new entry, for which no peer is grafted yet
 abbrev pub entered_state : ℕ → ℕ → State → State

@@ -1,15 +1,14 @@
 -- What is read of an entry that a first event's eviction may remove.
 -- Assumes nothing.
-use Rattle.std.specs.Prelude.{ℕ, Bool, [], ltb, length, if◌then◌else◌}
-use Rattle.std.proofs.Math.Option.{none}
+use Rattle.std.specs.Prelude.{ℕ, Bool, [], ltb, length, if◌then◌else◌, None}
 use Rattle.storage.specs.Lists.Map.{Entry, entry}
 use Rattle.time_cache.specs.TimeCache.{Timed, Cache, later_cache}
-use Rattle.time_cache.specs.Tables.{Held, held}
+use Rattle.time_cache.specs.Tables.{ValueBytes, value_bytes}
 use Rattle.protocol.specs.State.{Cached, Grafts}
 
 -- what stands where there is no entry
-abbrev pub no_held : Entry (Timed Held)
-no_held = entry 0 (record { expires = 0; value = held [] [] })
+abbrev pub no_held : Entry (Timed ValueBytes)
+no_held = entry 0 (record { expires = 0; value = value_bytes [] [] })
 
 -- what stands where there is no cached message
 abbrev pub no_cached : Entry (Timed Cached)
@@ -17,7 +16,7 @@ no_cached = entry 0 (record { expires = 0; value = record { content = []; round 
 
 -- what stands where there is no grafted message
 abbrev pub no_grafts : Entry (Timed Grafts)
-no_grafts = entry 0 (record { expires = 0; value = record { first = none; kept = none; peers = [] } })
+no_grafts = entry 0 (record { expires = 0; value = record { first = None; kept = None; peers = [] } })
 
 -- a time cache once a first event has evicted: as it is where `init` is set already
 abbrev pub left_then : {A : Type 0} → Bool → ℕ → Cache A → Cache A

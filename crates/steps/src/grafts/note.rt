@@ -17,9 +17,11 @@ ghost use Rattle.steps.specs.Grafts.NoteSteps.{inserted_hop, peers_to, peers_wit
 
 use crate::grafts::reads;
 use block::caches::grafted;
+use block::caches::grafted::{ENTRY_WIDTH, FIRST, PEERS};
 use block::head::Head;
+use block::hops::{Hop, Hops};
 use block::{head, hops, time_caches};
-use postcard::units::{Millis, Round};
+use postcard::units::Millis;
 use storage::rows::id::Id;
 use storage::rows::{table, word};
 
@@ -31,104 +33,97 @@ pub struct Entered {
 }
 
 // Puts a number with its round before number j of the list at `at`: the others move up by one.
-fn insert_hop(block: &mut [u8], at: usize, j: usize, link: usize, round: Round)
-    requires { (j ≤ get_or block.old at 0) × (get_or block.old at 0 < 32) × (link < 256) × (at + 97 ≤ length block.old) }
-    ensures { block.new ≡ put at (inserted_hop j link round.0 (part at 97 block.old)) block.old }
+fn insert_hop(block: &mut [u8], at: usize, j: usize, hop: Hop)
+    requires { (j ≤ get_or block.old at 0) × (get_or block.old at 0 < 32) × (hop.link < 256) × (at + 97 ≤ length block.old) }
+    ensures { block.new ≡ put at (inserted_hop j hop.link hop.round.0 (part at 97 block.old)) block.old }
 {
     let k = hops::count(block, at);
-    table::move_up(block, at + 1 + j, at + 2 + j, k - j);
-    block[at + 1 + j] = link as u8;
-    table::move_up(block, at + 33 + 2 * j, at + 35 + 2 * j, 2 * (k - j));
-    word::store_le(block, at + 33 + 2 * j, 2, round.0 as u64);
+    table::move_up(
+        block,
+        at + Hops::LINKS + j,
+        at + (Hops::LINKS + 1) + j,
+        k - j,
+    );
+    block[at + Hops::LINKS + j] = hop.link as u8;
+    let own = at + Hops::ROUNDS + Hops::ROUND_WIDTH * j;
+    let next = at + (Hops::ROUNDS + Hops::ROUND_WIDTH) + Hops::ROUND_WIDTH * j;
+    table::move_up(block, own, next, Hops::ROUND_WIDTH * (k - j));
+    word::store_le(block, own, Hops::ROUND_WIDTH, hop.round.0 as u64);
     block[at] = (k + 1) as u8;
 }
 
 // A peer more of the grafted message i, before peer j.
-fn insert_graft(h: Head, block: &mut [u8], i: usize, j: usize, link: usize, round: Round)
-    requires { Grafting h block.old × (i < h.live.grafted) × (link < h.live.links) × Between (keys (grafts_at (state_of h block.old) i).peers) (peer_at (state_of h block.old) link) j }
-    ensures { Goes (λ s. peers_to i (peers_with i (peer_at s link) round.0 s) s) h block.old h block.new }
+fn insert_graft(head: Head, block: &mut [u8], i: usize, j: usize, hop: Hop)
+    requires { Grafting head block.old × (i < head.live.grafted) × (hop.link < head.live.links) × Between (keys (grafts_at (state_of head block.old) i).peers) (peer_at (state_of head block.old) hop.link) j }
+    ensures { Goes (λ s. peers_to i (peers_with i (peer_at s hop.link) hop.round.0 s) s) head block.old head block.new }
 {
-    let at = head::grafted_at(h.limits) + 119 * i + 22;
-    insert_hop(block, at, j, link, round);
+    let at = head::grafted_at(head.limits) + ENTRY_WIDTH * i + PEERS;
+    insert_hop(block, at, j, hop);
 }
 
 // The round of peer j of the grafted message i: the lower of the known one and a new one.
-fn lower_graft(h: Head, block: &mut [u8], i: usize, j: usize, link: usize, round: Round)
-    requires { Grafting h block.old × (i < h.live.grafted) × (link < h.live.links) × Here (keys (grafts_at (state_of h block.old) i).peers) (peer_at (state_of h block.old) link) j }
-    ensures { Goes (λ s. peers_to i (peers_with i (peer_at s link) round.0 s) s) h block.old h block.new }
+fn lower_graft(head: Head, block: &mut [u8], i: usize, j: usize, hop: Hop)
+    requires { Grafting head block.old × (i < head.live.grafted) × (hop.link < head.live.links) × Here (keys (grafts_at (state_of head block.old) i).peers) (peer_at (state_of head block.old) hop.link) j }
+    ensures { Goes (λ s. peers_to i (peers_with i (peer_at s hop.link) hop.round.0 s) s) head block.old head block.new }
 {
-    let k = grafted::graft_at(h, block, i, j);
-    if k.round.0 <= round.0 {
+    let known = grafted::graft_at(head, block, i, j);
+    if known.round.0 <= hop.round.0 {
         return;
     }
-    let at = head::grafted_at(h.limits) + 119 * i + 22;
-    word::store_le(block, at + 33 + 2 * j, 2, round.0 as u64);
+    let at = head::grafted_at(head.limits) + ENTRY_WIDTH * i + PEERS;
+    let own = at + Hops::ROUNDS + Hops::ROUND_WIDTH * j;
+    word::store_le(block, own, Hops::ROUND_WIDTH, hop.round.0 as u64);
 }
 
 // The peer of a link is grafted for the grafted message i.
-fn graft_at_entry(h: Head, block: &mut [u8], i: usize, link: usize, round: Round)
-    requires { Grafting h block.old × (i < h.live.grafted) × (link < h.live.links) }
-    ensures { Goes (λ s. peers_to i (peers_with i (peer_at s link) round.0 s) s) h block.old h block.new }
+fn graft_at_entry(head: Head, block: &mut [u8], i: usize, hop: Hop)
+    requires { Grafting head block.old × (i < head.live.grafted) × (hop.link < head.live.links) }
+    ensures { Goes (λ s. peers_to i (peers_with i (peer_at s hop.link) hop.round.0 s) s) head block.old head block.new }
 {
-    let f = reads::find_graft(h, block, i, link);
-    match f {
-        Ok(j) => {
-            lower_graft(h, block, i, j, link, round);
-        }
-        Err(j) => {
-            insert_graft(h, block, i, j, link, round);
-        }
+    match reads::find_graft(head, block, i, hop.link) {
+        Ok(j) => lower_graft(head, block, i, j, hop),
+        Err(j) => insert_graft(head, block, i, j, hop),
     }
 }
 
 // A new entry, for which no peer is grafted yet. Its time is that of an insert into a time cache.
-fn enter_graft(mut h: Head, block: &mut [u8], id: Id, expires: Millis) -> Entered
-    requires { Sound h block.old × InOrder (state_of h block.old).grafted × AtMost h.limits.grafted (put_in (id_of id) no_grafts expires.0 (state_of h block.old).grafted) }
-    ensures { Enters (id_of id) expires.0 h block.old result block.new }
+fn enter_graft(mut head: Head, block: &mut [u8], id: Id, expires: Millis) -> Entered
+    requires { Sound head block.old × InOrder (state_of head block.old).grafted × AtMost head.limits.grafted (put_in (id_of id) no_grafts expires.0 (state_of head block.old).grafted) }
+    ensures { Enters (id_of id) expires.0 head block.old result block.new }
 {
-    let c = time_caches::grafted_cache(h);
-    let e = c.insert(block, id, expires);
-    let n = e.cache.entries.len;
-    let m = e.cache.expiry.len;
-    let i = e.entry;
-    let a = head::grafted_at(h.limits) + 119 * i + 2;
-    word::store_le(block, a, 21, 0);
-    h.live.grafted = n;
-    h.live.grafted_rows = m;
-    Entered { head: h, entry: i }
+    let inserted = time_caches::grafted_cache(head).insert(block, id, expires);
+    let at = head::grafted_at(head.limits) + ENTRY_WIDTH * inserted.entry + FIRST;
+    word::store_le(block, at, PEERS + 1 - FIRST, 0);
+    head.live.grafted = inserted.cache.entries.len;
+    head.live.grafted_rows = inserted.cache.expiry.len;
+    Entered {
+        head,
+        entry: inserted.entry,
+    }
 }
 
 // A new entry, for which the peer of a link is grafted.
-fn graft_anew(h: Head, block: &mut [u8], id: Id, link: usize, round: Round, expires: Millis) -> Head
-    requires { Sound h block.old × InOrder (state_of h block.old).grafted × (link < h.live.links) × AtMost h.limits.grafted (put_in (id_of id) no_grafts expires.0 (state_of h block.old).grafted) }
-    ensures { Goes (λ s. with_grafted (put_in (id_of id) (record { first = no_grafts.first; kept = no_grafts.kept; peers = entry (peer_at s link) round.0 ∷ [] }) expires.0 s.grafted) s) h block.old result block.new }
+fn graft_anew(head: Head, block: &mut [u8], id: Id, hop: Hop, expires: Millis) -> Head
+    requires { Sound head block.old × InOrder (state_of head block.old).grafted × (hop.link < head.live.links) × AtMost head.limits.grafted (put_in (id_of id) no_grafts expires.0 (state_of head block.old).grafted) }
+    ensures { Goes (λ s. with_grafted (put_in (id_of id) (record { first = no_grafts.first; kept = no_grafts.kept; peers = entry (peer_at s hop.link) hop.round.0 ∷ [] }) expires.0 s.grafted) s) head block.old result block.new }
 {
-    let e = enter_graft(h, block, id, expires);
-    let r = e.head;
-    let at = head::grafted_at(r.limits) + 119 * e.entry + 22;
-    hops::push_hop(block, at, link, round);
-    r
+    let entered = enter_graft(head, block, id, expires);
+    let at = head::grafted_at(entered.head.limits) + ENTRY_WIDTH * entered.entry + PEERS;
+    hops::push_hop(block, at, hop.link, hop.round);
+    entered.head
 }
 
 // The peer of a link is grafted for a message: in the entry of its identifier, where a known round takes the lower, or in a new entry that expires at
 // `expires`. Its time is that of an insert into a time cache.
-pub fn note_graft(
-    h: Head,
-    block: &mut [u8],
-    id: Id,
-    link: usize,
-    round: Round,
-    expires: Millis,
-) -> Head
-    requires { Grafting h block.old × (link < h.live.links) × AtMost h.limits.grafted (graft_noted (id_of id) link round.0 expires.0 (state_of h block.old)).grafted }
-    ensures { Goes (graft_noted (id_of id) link round.0 expires.0) h block.old result block.new }
+pub fn note_graft(head: Head, block: &mut [u8], id: Id, hop: Hop, expires: Millis) -> Head
+    requires { Grafting head block.old × (hop.link < head.live.links) × AtMost head.limits.grafted (graft_noted (id_of id) hop.link hop.round.0 expires.0 (state_of head block.old)).grafted }
+    ensures { Goes (graft_noted (id_of id) hop.link hop.round.0 expires.0) head block.old result block.new }
 {
-    let f = grafted::find_grafted(h, block, id);
-    match f {
+    match grafted::find_grafted(head, block, id) {
         Ok(i) => {
-            graft_at_entry(h, block, i, link, round);
-            h
+            graft_at_entry(head, block, i, hop);
+            head
         }
-        Err(_) => graft_anew(h, block, id, link, round, expires),
+        Err(_) => graft_anew(head, block, id, hop, expires),
     }
 }

@@ -8,7 +8,7 @@ ghost use Rattle.block.specs.Sound.{Sound};
 ghost use Rattle.block.specs.LinkSteps.{peer_at};
 ghost use Rattle.block.specs.Caches.GraftSteps.{grafts_at};
 ghost use Rattle.steps.specs.Grafts.Reads.{Grafting};
-ghost use Rattle.steps.specs.Grafts.Firsts.{first_value, kept_value};
+ghost use Rattle.steps.specs.Grafts.Firsts.{first_value};
 
 use block::caches::grafted;
 use block::caches::grafted::{ENTRY_WIDTH, FIRST, FIRST_PEER, FIRST_ROUND, KEPT, KEPT_PEER};
@@ -25,28 +25,26 @@ pub struct FirstCopy {
 }
 
 // The `first` of the grafted message i, if it has one.
-pub fn first_copy(h: Head, block: &[u8], i: usize) -> Option<FirstCopy>
-    requires { Sound h block.now × (i < h.live.grafted) }
-    ensures { first_value result ≡ (grafts_at (state_of h block.now) i).first }
+pub fn first_copy(head: Head, block: &[u8], i: usize) -> Option<FirstCopy>
+    requires { Sound head block.now × (i < head.live.grafted) }
+    ensures { first_value result ≡ (grafts_at (state_of head block.now) i).first }
 {
-    let at = head::grafted_at(h.limits) + ENTRY_WIDTH * i;
+    let at = head::grafted_at(head.limits) + ENTRY_WIDTH * i;
     if block[at + FIRST] == 0 {
         return None;
     }
-    let sender = word::load(block, at + FIRST_PEER);
-    let round = word::load2(block, at + FIRST_ROUND);
     Some(FirstCopy {
-        sender,
-        round: Round(round as u16),
+        sender: word::load(block, at + FIRST_PEER),
+        round: Round(word::load2(block, at + FIRST_ROUND) as u16),
     })
 }
 
 // The `kept` of the grafted message i, if it has one.
-pub fn kept_sender(h: Head, block: &[u8], i: usize) -> Option<u64>
-    requires { Sound h block.now × (i < h.live.grafted) }
-    ensures { kept_value result ≡ (grafts_at (state_of h block.now) i).kept }
+pub fn kept_sender(head: Head, block: &[u8], i: usize) -> Option<u64>
+    requires { Sound head block.now × (i < head.live.grafted) }
+    ensures { result ≡ (grafts_at (state_of head block.now) i).kept }
 {
-    let at = head::grafted_at(h.limits) + ENTRY_WIDTH * i;
+    let at = head::grafted_at(head.limits) + ENTRY_WIDTH * i;
     if block[at + KEPT] == 0 {
         return None;
     }
@@ -55,50 +53,40 @@ pub fn kept_sender(h: Head, block: &[u8], i: usize) -> Option<u64>
 
 // Where the peer of a link stands among the peers of the grafted message i, or before which it would stand. Its time is that of one pass over these peers, at
 // most 32.
-pub fn find_graft(h: Head, block: &[u8], i: usize, link: usize) -> Result<usize, usize>
-    requires { Grafting h block.now × (i < h.live.grafted) × (link < h.live.links) }
-    ensures { FoundIs (keys (grafts_at (state_of h block.now) i).peers) (peer_at (state_of h block.now) link) result }
+pub fn find_graft(head: Head, block: &[u8], i: usize, link: usize) -> Result<usize, usize>
+    requires { Grafting head block.now × (i < head.live.grafted) × (link < head.live.links) }
+    ensures { FoundIs (keys (grafts_at (state_of head block.now) i).peers) (peer_at (state_of head block.now) link) result }
 {
-    let n = grafted::graft_count(h, block, i);
-    let mut j = 0;
-    while j < n {
-        let k = grafted::graft_at(h, block, i, j);
-        if k.link == link {
+    let n = grafted::graft_count(head, block, i);
+    for j in 0..n {
+        let graft = grafted::graft_at(head, block, i, j);
+        if graft.link == link {
             return Ok(j);
         }
-        if link < k.link {
+        if link < graft.link {
             return Err(j);
         }
-        j += 1;
     }
-    Err(j)
+    Err(n)
 }
 
 // Whether the peer of a link is grafted for the grafted message i. Its time is that of `find_graft`.
-pub fn is_grafted(h: Head, block: &[u8], i: usize, link: usize) -> bool
-    requires { Grafting h block.now × (i < h.live.grafted) × (link < h.live.links) }
-    ensures { result ≡ has (peer_at (state_of h block.now) link) (grafts_at (state_of h block.now) i).peers }
+pub fn is_grafted(head: Head, block: &[u8], i: usize, link: usize) -> bool
+    requires { Grafting head block.now × (i < head.live.grafted) × (link < head.live.links) }
+    ensures { result ≡ has (peer_at (state_of head block.now) link) (grafts_at (state_of head block.now) i).peers }
 {
-    let f = find_graft(h, block, i, link);
-    match f {
-        Ok(_) => true,
-        Err(_) => false,
-    }
+    find_graft(head, block, i, link).is_ok()
 }
 
 // Whether a peer is grafted for the grafted message i over no more hops than `round`. Its time is that of one pass over these peers, at most 32.
-pub fn grafted_within(h: Head, block: &[u8], i: usize, round: Round) -> bool
-    requires { Sound h block.now × (i < h.live.grafted) }
-    ensures { result ≡ any (λ e. leb e.value round.0) (grafts_at (state_of h block.now) i).peers }
+pub fn grafted_within(head: Head, block: &[u8], i: usize, round: Round) -> bool
+    requires { Sound head block.now × (i < head.live.grafted) }
+    ensures { result ≡ any (λ e. leb e.value round.0) (grafts_at (state_of head block.now) i).peers }
 {
-    let n = grafted::graft_count(h, block, i);
-    let mut j = 0;
-    while j < n {
-        let k = grafted::graft_at(h, block, i, j);
-        if k.round.0 <= round.0 {
+    for j in 0..grafted::graft_count(head, block, i) {
+        if grafted::graft_at(head, block, i, j).round.0 <= round.0 {
             return true;
         }
-        j += 1;
     }
     false
 }

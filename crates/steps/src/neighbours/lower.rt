@@ -23,108 +23,80 @@ pub fn drop_in_list(list: &mut [u8], i: usize)
     ensures { listed_of 0 list.new ≡ lower_listed i (listed_of 0 list.old) }
 {
     let n = hops::count(list, 0);
-    let r = renumber::drop_number(
+    let left = renumber::drop_number(
         &mut list[Hops::LINKS..],
         Hops::CAPACITY,
         Hops::ROUND_WIDTH,
         n,
         i,
     );
-    list[0] = r as u8;
+    list[0] = left as u8;
 }
 
-// The list at o, to its end, of each of n rows.
-pub fn drop_in_rows(b: &mut [u8], stride: usize, n: usize, o: usize, i: usize)
-    requires { (o + 97 ≡ stride) × (n * stride ≤ length b.old) × AllFew o stride n b.old }
-    ensures { listed o stride n b.new ≡ map (lower_listed i) (listed o stride n b.old) }
+// The list at `offset`, to its end, of each of n rows.
+pub fn drop_in_rows(bytes: &mut [u8], stride: usize, n: usize, offset: usize, i: usize)
+    requires { (offset + 97 ≡ stride) × (n * stride ≤ length bytes.old) × AllFew offset stride n bytes.old }
+    ensures { listed offset stride n bytes.new ≡ map (lower_listed i) (listed offset stride n bytes.old) }
 {
-    let mut k = 0;
-    while k < n {
-        let at = k * stride + o;
+    for k in 0..n {
+        let at = k * stride + offset;
         let end = at + Hops::WIDTH;
-        drop_in_list(&mut b[at..end], i);
-        k += 1;
+        drop_in_list(&mut bytes[at..end], i);
     }
 }
 
-// The same of the rows in the bytes of a block from a to e.
-pub fn drop_in_table(
-    block: &mut [u8],
-    a: usize,
-    e: usize,
-    stride: usize,
-    n: usize,
-    o: usize,
-    i: usize,
-)
-    requires { (a ≤ e) × (e ≤ length block.old) × (o + 97 ≡ stride) × (n * stride ≤ e - a) × AllFew o stride n (part a (e - a) block.old) }
-    ensures { LoweredIn i a (e - a) stride n o block.old block.new }
-{
-    drop_in_rows(&mut block[a..e], stride, n, o, i);
-}
-
 // Of n missing messages those with announcers are left; returns how many: "empty lists go".
-pub fn keep_announced(b: &mut [u8], n: usize) -> usize
-    requires { n * 129 ≤ length b.old }
-    ensures { (result ≤ n) × (listed 32 129 result b.new ≡ filter announced (listed 32 129 n b.old)) }
+pub fn keep_announced(bytes: &mut [u8], n: usize) -> usize
+    requires { n * 129 ≤ length bytes.old }
+    ensures { (result ≤ n) × (listed 32 129 result bytes.new ≡ filter announced (listed 32 129 n bytes.old)) }
 {
-    table::retain(b, Missed::WIDTH, n, Missed::ANNOUNCERS, 0)
+    table::retain(bytes, Missed::WIDTH, n, Missed::ANNOUNCERS, 0)
 }
 
 // The announcers of n missing messages after link i went; returns how many messages are left.
-fn drop_announcers(b: &mut [u8], n: usize, i: usize) -> usize
-    requires { (n * 129 ≤ length b.old) × AllFew 32 129 n b.old }
-    ensures { (result ≤ n) × (listed 32 129 result b.new ≡ filter announced (map (lower_listed i) (listed 32 129 n b.old))) }
+fn drop_announcers(bytes: &mut [u8], n: usize, i: usize) -> usize
+    requires { (n * 129 ≤ length bytes.old) × AllFew 32 129 n bytes.old }
+    ensures { (result ≤ n) × (listed 32 129 result bytes.new ≡ filter announced (map (lower_listed i) (listed 32 129 n bytes.old))) }
 {
-    drop_in_rows(b, Missed::WIDTH, n, Missed::ANNOUNCERS, i);
-    keep_announced(b, n)
-}
-
-// The same of the missing messages in the bytes of a block from a to e.
-pub fn drop_missing(block: &mut [u8], a: usize, e: usize, n: usize, i: usize) -> usize
-    requires { (a ≤ e) × (e ≤ length block.old) × (n * 129 ≤ e - a) × AllFew 32 129 n (part a (e - a) block.old) }
-    ensures { MissedIn i a (e - a) n block.old block.new result }
-{
-    drop_announcers(&mut block[a..e], n, i)
-}
-
-// The n notes whose link numbers stand at a, and whose rows stand at w, up to e, after link i went; returns how many are left.
-pub fn drop_notes(block: &mut [u8], a: usize, w: usize, e: usize, n: usize, i: usize) -> usize
-    requires { (a + n ≤ w) × (w + n * 34 ≤ e) × (e ≤ length block.old) }
-    ensures { NotesIn i a (e - a) (w - a) n block.old block.new result }
-{
-    let o = w - a;
-    renumber::drop_number(&mut block[a..e], o, Noted::WIDTH, n, i)
+    drop_in_rows(bytes, Missed::WIDTH, n, Missed::ANNOUNCERS, i);
+    keep_announced(bytes, n)
 }
 
 // Every link number of the block, after link i went: queue, record, grafted and missing messages.
-pub fn lower_links(mut h: Head, block: &mut [u8], i: usize) -> Head
-    requires { Sound h block.old × LinksAscend h block.old × (i < h.live.links) }
-    ensures { LoweredLinks i h block.old result block.new }
+pub fn lower_links(mut head: Head, block: &mut [u8], i: usize) -> Head
+    requires { Sound head block.old × LinksAscend head block.old × (i < head.live.links) }
+    ensures { LoweredLinks i head block.old result block.new }
 {
-    let queue = head::queue_at(h.limits);
-    let queue_rows = head::queue_rows_at(h.limits);
-    let dropped = head::dropped_at(h.limits);
-    let dropped_rows = head::dropped_rows_at(h.limits);
-    let end = head::end_at(h.limits);
-    let grafted = head::grafted_at(h.limits);
-    let grafted_rows = head::grafted_rows_at(h.limits);
-    let missing = head::missing_at(h.limits);
-    let timers = head::timers_at(h.limits);
-    let q = drop_notes(block, queue, queue_rows, dropped, h.live.queued, i);
-    let d = drop_notes(block, dropped, dropped_rows, end, h.live.dropped, i);
-    drop_in_table(
-        block,
-        grafted,
-        grafted_rows,
+    let queue = head::queue_at(head.limits);
+    let queue_rows = head::queue_rows_at(head.limits);
+    let dropped = head::dropped_at(head.limits);
+    let dropped_rows = head::dropped_rows_at(head.limits);
+    let end = head::end_at(head.limits);
+    let grafted = head::grafted_at(head.limits);
+    let grafted_rows = head::grafted_rows_at(head.limits);
+    let missing = head::missing_at(head.limits);
+    let timers = head::timers_at(head.limits);
+    head.live.queued = renumber::drop_number(
+        &mut block[queue..dropped],
+        queue_rows - queue,
+        Noted::WIDTH,
+        head.live.queued,
+        i,
+    );
+    head.live.dropped = renumber::drop_number(
+        &mut block[dropped..end],
+        dropped_rows - dropped,
+        Noted::WIDTH,
+        head.live.dropped,
+        i,
+    );
+    drop_in_rows(
+        &mut block[grafted..grafted_rows],
         ENTRY_WIDTH,
-        h.live.grafted,
+        head.live.grafted,
         PEERS,
         i,
     );
-    let m = drop_missing(block, missing, timers, h.live.missing, i);
-    h.live.queued = q;
-    h.live.dropped = d;
-    h.live.missing = m;
-    h
+    head.live.missing = drop_announcers(&mut block[missing..timers], head.live.missing, i);
+    head
 }

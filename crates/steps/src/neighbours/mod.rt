@@ -20,31 +20,29 @@ use storage::rows::{table, word};
 use storage::tables::Row;
 
 // A link that is new, eager, before link i.
-pub fn insert_link(mut h: Head, block: &mut [u8], i: usize, peer: u64) -> Head
-    requires { Sound h block.old × Between (keys (state_of h block.old).links) peer i × (h.live.links < h.limits.neighbours) }
-    ensures { Goes (linked (link_up peer)) h block.old result block.new }
+pub fn insert_link(mut head: Head, block: &mut [u8], i: usize, peer: u64) -> Head
+    requires { Sound head block.old × Between (keys (state_of head block.old).links) peer i × (head.live.links < head.limits.neighbours) }
+    ensures { Goes (linked (link_up peer)) head block.old result block.new }
 {
-    renumber::raise_links(h, block, i);
-    let n = h.live.links;
-    let a = HEADER_SIZE + Link::WIDTH * i;
-    table::move_up(block, a, a + Link::WIDTH, Link::WIDTH * (n - i));
-    word::store(block, a, peer);
-    block[a + Link::MARK] = 0;
-    let m = n + 1;
-    h.live.links = m;
-    h
+    renumber::raise_links(head, block, i);
+    let n = head.live.links;
+    let at = HEADER_SIZE + Link::WIDTH * i;
+    table::move_up(block, at, at + Link::WIDTH, Link::WIDTH * (n - i));
+    word::store(block, at, peer);
+    block[at + Link::MARK] = 0;
+    head.live.links = n + 1;
+    head
 }
 
 // Link i goes.
-pub fn remove_link(h: Head, block: &mut [u8], i: usize) -> Head
-    requires { Sound h block.old × LinksAscend h block.old × (i < h.live.links) }
-    ensures { Goes (forget_peer (get_or (keys (state_of h block.old).links) i 0)) h block.old result block.new }
+pub fn remove_link(head: Head, block: &mut [u8], i: usize) -> Head
+    requires { Sound head block.old × LinksAscend head block.old × (i < head.live.links) }
+    ensures { Goes (forget_peer (get_or (keys (state_of head block.old).links) i 0)) head block.old result block.new }
 {
-    let mut r = lower::lower_links(h, block, i);
-    let n = r.live.links;
-    let a = HEADER_SIZE + Link::WIDTH * i;
-    table::move_down(block, a + Link::WIDTH, a, Link::WIDTH * (n - (i + 1)));
-    let m = n - 1;
-    r.live.links = m;
-    r
+    let mut lowered = lower::lower_links(head, block, i);
+    let n = lowered.live.links;
+    let at = HEADER_SIZE + Link::WIDTH * i;
+    table::move_down(block, at + Link::WIDTH, at, Link::WIDTH * (n - (i + 1)));
+    lowered.live.links = n - 1;
+    lowered
 }

@@ -5,8 +5,8 @@ use Rattle.storage.specs.Lists.Base.{concat_map}
 use Rattle.postcard.specs.Message.{action_bytes}
 use Rattle.decide.specs.RecordGrowth.{announce_action}
 use Rattle.decide.specs.Settled.{settled}
-use Rattle.wire.specs.Encode.Held.{after}
-use Rattle.wire.proofs.EncodeLaws.HeldLaws.{after_append, room_after}
+use Rattle.wire.specs.Encode.Intake.{after}
+use Rattle.wire.proofs.EncodeLaws.IntakeLaws.{after_append, room_after}
 use Rattle.steps.specs.Views.{shown}
 use Rattle.announcements.specs.OnAnnounceDroppedTimer.{announce_bytes, record_stands}
 use Rattle.announcements.proofs.OnAnnounceDroppedTimerLaws.{stands-bytes, queue_bytes, none-after}
@@ -21,13 +21,13 @@ schedule_dispatch-requires g c =
     omega (arith, c.requires.room, ap length e, length-append (queue_bytes s true) (concat_map action_bytes (announce_action (record_stands (settled now s)) false)))
 
 -- the dispatch timer, if a queue stands
-first : (g : _) (c : After-record_stands-stands g) → g.S.Sink.held c.if-queue_stands.out ≡ after (queue_bytes (shown c.args.view.now) c.queue_stands.result) (g.S.Sink.held c.args.out.now)
+first : (g : _) (c : After-record_stands-stands g) → g.S.Sink.intake c.if-queue_stands.out ≡ after (queue_bytes (shown c.args.view.now) c.queue_stands.result) (g.S.Sink.intake c.args.out.now)
 first g c =
     let s = shown c.args.view.now in
-    let h = g.S.Sink.held c.args.out.now in
+    let h = g.S.Sink.intake c.args.out.now in
     elim c.if-queue_stands.branch [
-      | then-queue_stands w ↦ ap g.S.Sink.held w.out-is ∙ w.schedule_dispatch.ensures ∙ ap (λ (b : Bool). after (queue_bytes s b) h) (sym w.if-queue_stands.true)
-      | else-queue_stands w ↦ ap g.S.Sink.held w.out-is ∙ none-after s h ∙ ap (λ (b : Bool). after (queue_bytes s b) h) (sym w.if-queue_stands.false)
+      | then-queue_stands w ↦ ap g.S.Sink.intake w.out-is ∙ w.schedule_dispatch.ensures ∙ ap (λ (b : Bool). after (queue_bytes s b) h) (sym w.if-queue_stands.true)
+      | else-queue_stands w ↦ ap g.S.Sink.intake w.out-is ∙ none-after s h ∙ ap (λ (b : Bool). after (queue_bytes s b) h) (sym w.if-queue_stands.false)
     ]
 
 -- the bytes of both
@@ -41,12 +41,12 @@ schedule_announce_dropped-requires g c =
     let d = (goal.at.schedule_announce_dropped-requires g c).After-record_stands-stands in
     let a = queue_bytes (shown c.args.view.now) c.queue_stands.result in
     let b = concat_map action_bytes (announce_action c.record_stands-stands.result false) in
-    rw (first g d) (rw (room_after a (g.S.Sink.held c.args.out.now)) (omega (arith, c.requires.room, ap length (both g d), length-append a b)))
+    rw (first g d) (rw (room_after a (g.S.Sink.intake c.args.out.now)) (omega (arith, c.requires.room, ap length (both g d), length-append a b)))
 
 pub returns : goal.returns
 returns g c =
     let d = (goal.at.returns g c).After-record_stands-stands in
-    let h = g.S.Sink.held c.args.out.now in
+    let h = g.S.Sink.intake c.args.out.now in
     let a = queue_bytes (shown c.args.view.now) c.queue_stands.result in
     let b = concat_map action_bytes (announce_action c.record_stands-stands.result false) in
     c.schedule_announce_dropped.ensures ∙ ap (after b) (first g d) ∙ after_append a b h ∙ ap (λ (bs : List ℕ). after bs h) (sym (both g d))

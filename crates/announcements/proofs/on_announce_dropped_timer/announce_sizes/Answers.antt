@@ -14,7 +14,7 @@ use Rattle.steps.proofs.ViewLaws.{links-few}
 use Rattle.announcements.proofs.AnnounceLaws.Turns.{Read, moves, moves-alone, stays, stays-alone}
 use Rattle.announcements.proofs.OnAnnounceDroppedTimerLaws.{still, held_then, entry, passing-start, passing-skip, passing-more, link-low, seen-small, still-not, passed-few, oldest-start, younger-start, sized-end, queued-of}
 use Rattle.announcements.proofs.on_announce_dropped_timer.announce_sizes.Goals as goal
-use Rattle.announcements.proofs.on_announce_dropped_timer.announce_sizes.Goals.{After-dropped_note-note, then-is_oldest, else-is_oldest}
+use Rattle.announcements.proofs.on_announce_dropped_timer.announce_sizes.Goals.{After-recorded-note, then-is_oldest, else-is_oldest}
 
 pub loop-row-init : goal.loop-row-init
 loop-row-init c =
@@ -27,7 +27,7 @@ loop-row-init c =
     }
 
 -- row i is read
-module _ (d : After-dropped_note-note) where
+module _ (d : After-recorded-note) where
   abbrev s : State
   s = shown d.args.view.now
 
@@ -37,22 +37,22 @@ module _ (d : After-dropped_note-note) where
   few : length s.links ≤ 32
   few = links-few d.args.view.now.head d.args.view.now.block.now d.args.view.now.sound
 
-  read : Read (held_then d.args.call.now.instant.0 s) (keys s.links) s.dropped d.loop-row.row d.loop-row.passed.counts d.dropped_note-note.result.link (id_of d.dropped_note-note.result.id) d.dropped_note-note.result.round.0
-  read = entry (held_then d.args.call.now.instant.0 s) s d.requires few d.loop-row.row d.loop-row.passed.counts d.loop-row.invariant.passing low d.dropped_note-note.result d.dropped_note-note.ensures
+  read : Read (held_then d.args.call.now.instant.0 s) (keys s.links) s.dropped d.loop-row.row d.loop-row.passed.counts d.recorded-note.result.link (id_of d.recorded-note.result.id) d.recorded-note.result.round.0
+  read = entry (held_then d.args.call.now.instant.0 s) s d.requires few d.loop-row.row d.loop-row.passed.counts d.loop-row.invariant.passing low d.recorded-note.result d.recorded-note.ensures
 
   -- those that move and those that stay are no more than the rows passed
   counted : d.loop-row.moved + d.loop-row.left ≤ 4096
   counted =
       omega (arith, d.loop-row.invariant.moved, d.loop-row.invariant.left, passed-few (held_then d.args.call.now.instant.0 s) s d.requires d.loop-row.row d.loop-row.passed.counts d.loop-row.invariant.passing)
 
-pub dropped_note-note-requires : goal.dropped_note-note-requires
-dropped_note-note-requires c = let v = c.args.view.now in omega (arith, c.loop-row-test.true, count-dropped v.head v.block.now v.sound)
+pub recorded-note-requires : goal.recorded-note-requires
+recorded-note-requires c = let v = c.args.view.now in omega (arith, c.loop-row-test.true, count-dropped v.head v.block.now v.sound)
 
 pub loop-row-preserved-then-not-is_cached_then : goal.loop-row-preserved-then-not-is_cached_then
 loop-row-preserved-then-not-is_cached_then c =
-    let d = (goal.at.loop-row-preserved-then-not-is_cached_then c).After-dropped_note-note in
+    let d = (goal.at.loop-row-preserved-then-not-is_cached_then c).After-recorded-note in
     let held = held_then c.args.call.now.instant.0 (s d) in
-    let n = c.dropped_note-note in
+    let n = c.recorded-note in
     let e = sym c.is_cached_then.ensures ∙ not-true c.is_cached_then.result (ap not c.if-not-is_cached_then.true) in
     let same = still-not held (s d) c.loop-row.row (low d) n.result n.ensures e in
     record {
@@ -63,19 +63,19 @@ loop-row-preserved-then-not-is_cached_then c =
 
 pub is_oldest-requires-clause-link : goal.is_oldest-requires-clause-link
 is_oldest-requires-clause-link c =
-    let d = (goal.at.is_oldest-requires-clause-link c).After-dropped_note-note in
-    link-low (held_then c.args.call.now.instant.0 (s d)) (s d) c.requires (few d) c.loop-row.row c.loop-row.passed.counts c.loop-row.invariant.passing (low d) c.dropped_note-note.result c.dropped_note-note.ensures
+    let d = (goal.at.is_oldest-requires-clause-link c).After-recorded-note in
+    link-low (held_then c.args.call.now.instant.0 (s d)) (s d) c.requires (few d) c.loop-row.row c.loop-row.passed.counts c.loop-row.invariant.passing (low d) c.recorded-note.result c.recorded-note.ensures
 
 pub is_oldest-requires-clause-few : goal.is_oldest-requires-clause-few
 is_oldest-requires-clause-few c =
-    let d = (goal.at.is_oldest-requires-clause-few c).After-dropped_note-note in
-    seen-small (held_then c.args.call.now.instant.0 (s d)) (s d) c.requires (few d) c.loop-row.row c.loop-row.passed.counts c.loop-row.invariant.passing (low d) c.dropped_note-note.result c.dropped_note-note.ensures
+    let d = (goal.at.is_oldest-requires-clause-few c).After-recorded-note in
+    seen-small (held_then c.args.call.now.instant.0 (s d)) (s d) c.requires (few d) c.loop-row.row c.loop-row.passed.counts c.loop-row.invariant.passing (low d) c.recorded-note.result c.recorded-note.ensures
 
 pub overflow_add-moved : goal.overflow_add-moved
-overflow_add-moved c = omega (arith, counted (goal.at.overflow_add-moved c).After-dropped_note-note)
+overflow_add-moved c = omega (arith, counted (goal.at.overflow_add-moved c).After-recorded-note)
 
 pub overflow_add-left : goal.overflow_add-left
-overflow_add-left c = omega (arith, counted (goal.at.overflow_add-left c).After-dropped_note-note)
+overflow_add-left c = omega (arith, counted (goal.at.overflow_add-left c).After-recorded-note)
 
 pub overflow_add-sizes : goal.overflow_add-sizes
 overflow_add-sizes c =
@@ -100,9 +100,9 @@ returns c =
 
 pub loop-row-preserved : goal.loop-row-preserved
 loop-row-preserved c =
-    let d = (goal.at.loop-row-preserved c).After-dropped_note-note in
+    let d = (goal.at.loop-row-preserved c).After-recorded-note in
     let held = held_then c.args.call.now.instant.0 (s d) in
-    let n = c.dropped_note-note in
+    let n = c.recorded-note in
     let i = c.loop-row.row in
     let seen = get_or c.loop-row.passed.counts n.result.link 0 in
     let at = get_or (s d).dropped i (note 0 0 0) in

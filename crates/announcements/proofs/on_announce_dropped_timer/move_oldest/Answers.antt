@@ -18,7 +18,7 @@ use Rattle.steps.proofs.ViewLaws.{links-few}
 use Rattle.announcements.proofs.AnnounceLaws.Turns.{Read}
 use Rattle.announcements.proofs.OnAnnounceDroppedTimerLaws.{held_now, entry, passing-start, passing-skip, passing-more, link-low, seen-small, still-not, younger-start, move-start, kept-few, same-rows, same-links, cached-in, row-in, move-skip, move-room, move-take, take-kept, keep-room, move-keep, keep-kept, move-end}
 use Rattle.announcements.proofs.on_announce_dropped_timer.move_oldest.Goals as goal
-use Rattle.announcements.proofs.on_announce_dropped_timer.move_oldest.Goals.{After-dropped_note-note, After-is_cached, then-is_oldest, else-is_oldest}
+use Rattle.announcements.proofs.on_announce_dropped_timer.move_oldest.Goals.{After-recorded-note, After-is_cached, then-is_oldest, else-is_oldest}
 
 pub loop-row-init : goal.loop-row-init
 loop-row-init c =
@@ -29,8 +29,8 @@ loop-row-init c =
       kept = ap length (sym (younger-start (held_now s) s));
     }
 
-pub dropped_note-note-requires : goal.dropped_note-note-requires
-dropped_note-note-requires c =
+pub recorded-note-requires : goal.recorded-note-requires
+recorded-note-requires c =
     let p = c.args.panel.now in
     omega (
       arith,
@@ -41,7 +41,7 @@ dropped_note-note-requires c =
     )
 
 -- the note that was read
-module _ (d : After-dropped_note-note) where
+module _ (d : After-recorded-note) where
   abbrev s : State
   s = state d.args.panel.now
 
@@ -57,18 +57,18 @@ module _ (d : After-dropped_note-note) where
   low : d.loop-row.row < length s.dropped
   low = let p = d.args.panel.now in omega (arith, d.loop-row-test.true, count-dropped p.head p.block.now p.sound)
 
-  row : NoteOf s (get_or s.dropped d.loop-row.row (note 0 0 0)) d.dropped_note-note.result
-  row = row-in s d.requires d.loop-row.row q d.loop-row.invariant.goes.state within d.dropped_note-note.result
-      (subst (λ (u : State). NoteOf u (get_or u.dropped d.loop-row.row (note 0 0 0)) d.dropped_note-note.result) (same-state d.loop-row.panel d.view.result d.view.ensures.head d.view.ensures.block) d.dropped_note-note.ensures)
+  row : NoteOf s (get_or s.dropped d.loop-row.row (note 0 0 0)) d.recorded-note.result
+  row = row-in s d.requires d.loop-row.row q d.loop-row.invariant.goes.state within d.recorded-note.result
+      (subst (λ (u : State). NoteOf u (get_or u.dropped d.loop-row.row (note 0 0 0)) d.recorded-note.result) (same-state d.loop-row.panel d.view.result d.view.ensures.head d.view.ensures.block) d.recorded-note.ensures)
 
-  read : Read (held_now s) (keys s.links) s.dropped d.loop-row.row d.loop-row.passed.counts d.dropped_note-note.result.link (id_of d.dropped_note-note.result.id) d.dropped_note-note.result.round.0
-  read = entry (held_now s) s d.requires.rest few d.loop-row.row d.loop-row.passed.counts d.loop-row.invariant.passing low d.dropped_note-note.result row
+  read : Read (held_now s) (keys s.links) s.dropped d.loop-row.row d.loop-row.passed.counts d.recorded-note.result.link (id_of d.recorded-note.result.id) d.recorded-note.result.round.0
+  read = entry (held_now s) s d.requires.rest few d.loop-row.row d.loop-row.passed.counts d.loop-row.invariant.passing low d.recorded-note.result row
 
 -- whether it is cached
-held : (d : After-is_cached) → (b : Bool) → d.is_cached.result ≡ b → holds (id_of d.dropped_note-note.result.id) (state d.args.panel.now).cache ≡ b
+held : (d : After-is_cached) → (b : Bool) → d.is_cached.result ≡ b → holds (id_of d.recorded-note.result.id) (state d.args.panel.now).cache ≡ b
 held d b e =
-    let r = (goal.at.After-is_cached d).After-dropped_note-note in
-    let i = id_of d.dropped_note-note.result.id in
+    let r = (goal.at.After-is_cached d).After-recorded-note in
+    let i = id_of d.recorded-note.result.id in
     sym (d.is_cached.ensures
     ∙ ap (λ (u : State). holds i u.cache) (same-state d.loop-row.panel d.view-in-loop-row.result d.view-in-loop-row.ensures.head d.view-in-loop-row.ensures.block)
     ∙ cached-in (s r) d.requires d.loop-row.row (q r) d.loop-row.invariant.goes.state (within r) i)
@@ -82,10 +82,10 @@ is_cached-requires c =
 
 pub loop-row-preserved-then-not-is_cached : goal.loop-row-preserved-then-not-is_cached
 loop-row-preserved-then-not-is_cached c =
-    let d = (goal.at.loop-row-preserved-then-not-is_cached c).After-dropped_note-note in
+    let d = (goal.at.loop-row-preserved-then-not-is_cached c).After-recorded-note in
     let z = s d in
     let i = c.loop-row.row in
-    let n = c.dropped_note-note.result in
+    let n = c.recorded-note.result in
     let e = held (goal.at.loop-row-preserved-then-not-is_cached c).After-is_cached false (not-true c.is_cached.result (ap not c.if-not-is_cached.true)) in
     let same = still-not (held_now z) z i (low d) n (row d) e in
     record {
@@ -96,31 +96,31 @@ loop-row-preserved-then-not-is_cached c =
 
 pub is_oldest-requires-clause-link : goal.is_oldest-requires-clause-link
 is_oldest-requires-clause-link c =
-    let d = (goal.at.is_oldest-requires-clause-link c).After-dropped_note-note in
-    link-low (held_now (s d)) (s d) c.requires.rest (few d) c.loop-row.row c.loop-row.passed.counts c.loop-row.invariant.passing (low d) c.dropped_note-note.result (row d)
+    let d = (goal.at.is_oldest-requires-clause-link c).After-recorded-note in
+    link-low (held_now (s d)) (s d) c.requires.rest (few d) c.loop-row.row c.loop-row.passed.counts c.loop-row.invariant.passing (low d) c.recorded-note.result (row d)
 
 pub is_oldest-requires-clause-few : goal.is_oldest-requires-clause-few
 is_oldest-requires-clause-few c =
-    let d = (goal.at.is_oldest-requires-clause-few c).After-dropped_note-note in
-    seen-small (held_now (s d)) (s d) c.requires.rest (few d) c.loop-row.row c.loop-row.passed.counts c.loop-row.invariant.passing (low d) c.dropped_note-note.result (row d)
+    let d = (goal.at.is_oldest-requires-clause-few c).After-recorded-note in
+    seen-small (held_now (s d)) (s d) c.requires.rest (few d) c.loop-row.row c.loop-row.passed.counts c.loop-row.invariant.passing (low d) c.recorded-note.result (row d)
 
 pub push_queued-requires-clause-room : goal.push_queued-requires-clause-room
 push_queued-requires-clause-room c =
-    let d = (goal.at.push_queued-requires-clause-room c).After-dropped_note-note in
-    let seen = get_or c.loop-row.passed.counts c.dropped_note-note.result.link 0 in
-    move-room (s d) c.requires c.loop-row.row (q d) c.loop-row.invariant.goes.state (within d) c.loop-row.passed.counts c.dropped_note-note.result (read d) (row d)
+    let d = (goal.at.push_queued-requires-clause-room c).After-recorded-note in
+    let seen = get_or c.loop-row.passed.counts c.recorded-note.result.link 0 in
+    move-room (s d) c.requires c.loop-row.row (q d) c.loop-row.invariant.goes.state (within d) c.loop-row.passed.counts c.recorded-note.result (read d) (row d)
     (held (goal.at.push_queued-requires-clause-room c).After-is_cached true (not-false c.is_cached.result (ap not c.if-not-is_cached.false))) (ltb-true seen 64 (sym c.is_oldest.ensures.oldest ∙ c.if-is_oldest.true))
 
 pub push_queued-requires-clause-link : goal.push_queued-requires-clause-link
 push_queued-requires-clause-link c =
-    let d = (goal.at.push_queued-requires-clause-link c).After-dropped_note-note in
+    let d = (goal.at.push_queued-requires-clause-link c).After-recorded-note in
     omega (arith, (row d).below, same-links (s d) c.requires c.loop-row.row (q d) c.loop-row.invariant.goes.state (within d))
 
 pub set_dropped-requires : goal.set_dropped-requires
 set_dropped-requires c =
-    let d = (goal.at.set_dropped-requires c).After-dropped_note-note in
-    let seen = get_or c.loop-row.passed.counts c.dropped_note-note.result.link 0 in (
-      keep-room (s d) c.requires c.loop-row.row (q d) c.loop-row.invariant.goes.state (within d) c.loop-row.passed.counts c.dropped_note-note.result (read d) (row d)
+    let d = (goal.at.set_dropped-requires c).After-recorded-note in
+    let seen = get_or c.loop-row.passed.counts c.recorded-note.result.link 0 in (
+      keep-room (s d) c.requires c.loop-row.row (q d) c.loop-row.invariant.goes.state (within d) c.loop-row.passed.counts c.recorded-note.result (read d) (row d)
           (held (goal.at.set_dropped-requires c).After-is_cached true (not-false c.is_cached.result (ap not c.if-not-is_cached.false))) c.loop-row.kept c.loop-row.invariant.kept
           (ltb-false seen 64 (sym c.is_oldest.ensures.oldest ∙ c.if-is_oldest.false)) (low d),
       omega (arith, (row d).below, same-links (s d) c.requires c.loop-row.row (q d) c.loop-row.invariant.goes.state (within d)),
@@ -128,15 +128,15 @@ set_dropped-requires c =
 
 pub overflow_add-kept : goal.overflow_add-kept
 overflow_add-kept c =
-    let d = (goal.at.overflow_add-kept c).After-dropped_note-note in
+    let d = (goal.at.overflow_add-kept c).After-recorded-note in
     omega (arith, c.loop-row.invariant.kept, kept-few (s d) c.requires c.loop-row.row (q d) c.loop-row.invariant.goes.state (within d), low d, c.requires.rest.consistent.core.within.in_all)
 
 pub loop-row-preserved : goal.loop-row-preserved
 loop-row-preserved c =
-    let d = (goal.at.loop-row-preserved c).After-dropped_note-note in
+    let d = (goal.at.loop-row-preserved c).After-recorded-note in
     let z = s d in
     let i = c.loop-row.row in
-    let n = c.dropped_note-note.result in
+    let n = c.recorded-note.result in
     let seen = get_or c.loop-row.passed.counts n.link 0 in
     let e = held (goal.at.loop-row-preserved c).After-is_cached true (not-false c.is_cached.result (ap not c.if-not-is_cached.false)) in
     let so = c.loop-row.invariant.goes.state in

@@ -13,22 +13,22 @@ returns-then-view-gt0 c =
 pub loop-row-init : goal.loop-row-init
 loop-row-init c = still-start (held_then c.args.call.now.instant.0 (shown c.args.view.now)) (shown c.args.view.now)
 
-pub dropped_note-requires : goal.dropped_note-requires
-dropped_note-requires c = let v = c.args.view.now in omega (arith, c.loop-row-test.true, count-dropped v.head v.block.now v.sound)
+pub recorded-requires : goal.recorded-requires
+recorded-requires c = let v = c.args.view.now in omega (arith, c.loop-row-test.true, count-dropped v.head v.block.now v.sound)
 
 pub returns-then-is_cached_then : goal.returns-then-is_cached_then
 returns-then-is_cached_then c =
     let v = c.args.view.now in
     let now = c.args.call.now.instant.0 in
     queue-some now (shown v) _
-    (still-some (held_then now (shown v)) (shown v) c.loop-row.row (omega (arith, c.loop-row-test.true, count-dropped v.head v.block.now v.sound)) c.dropped_note.result c.dropped_note.ensures
+    (still-some (held_then now (shown v)) (shown v) c.loop-row.row (omega (arith, c.loop-row-test.true, count-dropped v.head v.block.now v.sound)) c.recorded.result c.recorded.ensures
     (sym c.is_cached_then.ensures ∙ c.if-is_cached_then.true))
 
 pub loop-row-preserved : goal.loop-row-preserved
 loop-row-preserved c =
     let v = c.args.view.now in
     let now = c.args.call.now.instant.0 in
-    still-not (held_then now (shown v)) (shown v) c.loop-row.row (omega (arith, c.loop-row-test.true, count-dropped v.head v.block.now v.sound)) c.dropped_note.result c.dropped_note.ensures
+    still-not (held_then now (shown v)) (shown v) c.loop-row.row (omega (arith, c.loop-row-test.true, count-dropped v.head v.block.now v.sound)) c.recorded.result c.recorded.ensures
     (sym c.is_cached_then.ensures ∙ c.if-is_cached_then.false)
     ∙ c.loop-row.invariant
 

@@ -13,7 +13,7 @@ use Rattle.steps.proofs.ViewLaws.{links-few}
 use Rattle.announcements.proofs.AnnounceLaws.Turns.{Read, moves-alone, stays}
 use Rattle.announcements.proofs.OnAnnounceDroppedTimerLaws.{still, held_then, entry, passing-start, passing-skip, passing-more, link-low, seen-small, still-not, record-none, record-some, record-end, younger-start}
 use Rattle.announcements.proofs.on_announce_dropped_timer.record_stands.Goals as goal
-use Rattle.announcements.proofs.on_announce_dropped_timer.record_stands.Goals.{After-dropped_note-note}
+use Rattle.announcements.proofs.on_announce_dropped_timer.record_stands.Goals.{After-recorded-note}
 
 pub returns-then-view-le-DROPPED_PER_TICK : goal.returns-then-view-le-DROPPED_PER_TICK
 returns-then-view-le-DROPPED_PER_TICK c =
@@ -27,7 +27,7 @@ loop-row-init c =
     record { passing = passing-start held s c.none-passed.result.counts c.none-passed.ensures; none = younger-start held s }
 
 -- row i is read
-module _ (d : After-dropped_note-note) where
+module _ (d : After-recorded-note) where
   abbrev s : State
   s = shown d.args.view.now
 
@@ -37,17 +37,17 @@ module _ (d : After-dropped_note-note) where
   few : length s.links ≤ 32
   few = links-few d.args.view.now.head d.args.view.now.block.now d.args.view.now.sound
 
-  read : Read (held_then d.args.call.now.instant.0 s) (keys s.links) s.dropped d.loop-row.row d.loop-row.passed.counts d.dropped_note-note.result.link (id_of d.dropped_note-note.result.id) d.dropped_note-note.result.round.0
-  read = entry (held_then d.args.call.now.instant.0 s) s d.requires few d.loop-row.row d.loop-row.passed.counts d.loop-row.invariant.passing low d.dropped_note-note.result d.dropped_note-note.ensures
+  read : Read (held_then d.args.call.now.instant.0 s) (keys s.links) s.dropped d.loop-row.row d.loop-row.passed.counts d.recorded-note.result.link (id_of d.recorded-note.result.id) d.recorded-note.result.round.0
+  read = entry (held_then d.args.call.now.instant.0 s) s d.requires few d.loop-row.row d.loop-row.passed.counts d.loop-row.invariant.passing low d.recorded-note.result d.recorded-note.ensures
 
-pub dropped_note-note-requires : goal.dropped_note-note-requires
-dropped_note-note-requires c = let v = c.args.view.now in omega (arith, c.loop-row-test.true, count-dropped v.head v.block.now v.sound)
+pub recorded-note-requires : goal.recorded-note-requires
+recorded-note-requires c = let v = c.args.view.now in omega (arith, c.loop-row-test.true, count-dropped v.head v.block.now v.sound)
 
 pub loop-row-preserved-then-not-is_cached_then : goal.loop-row-preserved-then-not-is_cached_then
 loop-row-preserved-then-not-is_cached_then c =
-    let d = (goal.at.loop-row-preserved-then-not-is_cached_then c).After-dropped_note-note in
+    let d = (goal.at.loop-row-preserved-then-not-is_cached_then c).After-recorded-note in
     let held = held_then c.args.call.now.instant.0 (s d) in
-    let n = c.dropped_note-note in
+    let n = c.recorded-note in
     let e = sym c.is_cached_then.ensures ∙ not-true c.is_cached_then.result (ap not c.if-not-is_cached_then.true) in
     record {
       passing = passing-skip held (s d) c.requires (few d) c.loop-row.row c.loop-row.passed.counts c.loop-row.invariant.passing (low d) n.result n.ensures e;
@@ -56,19 +56,19 @@ loop-row-preserved-then-not-is_cached_then c =
 
 pub is_oldest-requires-clause-link : goal.is_oldest-requires-clause-link
 is_oldest-requires-clause-link c =
-    let d = (goal.at.is_oldest-requires-clause-link c).After-dropped_note-note in
-    link-low (held_then c.args.call.now.instant.0 (s d)) (s d) c.requires (few d) c.loop-row.row c.loop-row.passed.counts c.loop-row.invariant.passing (low d) c.dropped_note-note.result c.dropped_note-note.ensures
+    let d = (goal.at.is_oldest-requires-clause-link c).After-recorded-note in
+    link-low (held_then c.args.call.now.instant.0 (s d)) (s d) c.requires (few d) c.loop-row.row c.loop-row.passed.counts c.loop-row.invariant.passing (low d) c.recorded-note.result c.recorded-note.ensures
 
 pub is_oldest-requires-clause-few : goal.is_oldest-requires-clause-few
 is_oldest-requires-clause-few c =
-    let d = (goal.at.is_oldest-requires-clause-few c).After-dropped_note-note in
-    seen-small (held_then c.args.call.now.instant.0 (s d)) (s d) c.requires (few d) c.loop-row.row c.loop-row.passed.counts c.loop-row.invariant.passing (low d) c.dropped_note-note.result c.dropped_note-note.ensures
+    let d = (goal.at.is_oldest-requires-clause-few c).After-recorded-note in
+    seen-small (held_then c.args.call.now.instant.0 (s d)) (s d) c.requires (few d) c.loop-row.row c.loop-row.passed.counts c.loop-row.invariant.passing (low d) c.recorded-note.result c.recorded-note.ensures
 
 pub returns-then-not-is_oldest : goal.returns-then-not-is_oldest
 returns-then-not-is_oldest c =
-    let d = (goal.at.returns-then-not-is_oldest c).After-dropped_note-note in
+    let d = (goal.at.returns-then-not-is_oldest c).After-recorded-note in
     let now = c.args.call.now.instant.0 in
-    let seen = get_or c.loop-row.passed.counts c.dropped_note-note.result.link 0 in
+    let seen = get_or c.loop-row.passed.counts c.recorded-note.result.link 0 in
     let e = sym c.is_cached_then.ensures ∙ not-false c.is_cached_then.result (ap not c.if-not-is_cached_then.false) in
     let m : 64 ≤ seen = ltb-false seen 64 (sym c.is_oldest.ensures.oldest ∙ not-true c.is_oldest.result (ap not c.if-not-is_oldest.true)) in
     record-some now (s d) (c.loop-row.row + 1)
@@ -80,9 +80,9 @@ returns-then-not-is_oldest c =
 
 pub loop-row-preserved : goal.loop-row-preserved
 loop-row-preserved c =
-    let d = (goal.at.loop-row-preserved c).After-dropped_note-note in
+    let d = (goal.at.loop-row-preserved c).After-recorded-note in
     let held = held_then c.args.call.now.instant.0 (s d) in
-    let n = c.dropped_note-note in
+    let n = c.recorded-note in
     let seen = get_or c.loop-row.passed.counts n.result.link 0 in
     let e = sym c.is_cached_then.ensures ∙ not-false c.is_cached_then.result (ap not c.if-not-is_cached_then.false) in
     let m : seen < 64 = ltb-true seen 64 (sym c.is_oldest.ensures.oldest ∙ not-false c.is_oldest.result (ap not c.if-not-is_oldest.false)) in

@@ -3,8 +3,8 @@ use Rattle.std.proofs.Common.{◌≡◌, ℕ, List, [], sym, refl, ap, ◌∙◌
 use Rattle.std.proofs.lemmas.List.{nil_from_length}
 use Rattle.protocol.specs.State.{State}
 use Rattle.decide.specs.Settled.{settled}
-use Rattle.wire.specs.Encode.Held.{after}
-use Rattle.wire.proofs.EncodeLaws.HeldLaws.{after_nil}
+use Rattle.wire.specs.Encode.Intake.{after}
+use Rattle.wire.proofs.EncodeLaws.IntakeLaws.{after_nil}
 use Rattle.steps.specs.Calls.{rooms_of}
 use Rattle.steps.specs.Views.{shown}
 use Rattle.steps.proofs.AtRestLaws.{settled-as}
@@ -15,6 +15,6 @@ pub returns-else-queue_len-gt0 : goal.returns-else-queue_len-gt0
 returns-else-queue_len-gt0 g c =
     let s = shown c.args.view.now in
     let t = settled c.args.call.now.instant.0 s in
-    let x = g.S.Sink.held c.args.out.now in
+    let x = g.S.Sink.intake c.args.out.now in
     let none : t.queue ≡ [] = settled-as c.args.call.now.instant.0 s (λ (u : State). u.queue) refl ∙ nil_from_length s.queue (omega (arith, c.queue_len.ensures.long, c.if-queue_len-gt0.false)) in
     sym (ap (λ (bs : List ℕ). after bs x) (no-sends (rooms_of c.args.call.now t) t none) ∙ after_nil x)

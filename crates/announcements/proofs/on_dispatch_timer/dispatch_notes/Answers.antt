@@ -16,7 +16,7 @@ returns-clause-notes c =
       arith,
       ap length (same_dropped now s),
       ap length (settled-dropped now c.args.call.now s ∙ c.to_note.ensures.noted),
-      length-append s.dropped (notes_at s.queue c.to_note.new.noted),
-      length-map c.to_note.new.noted (note_at s.queue),
-      c.len.ensures.long,
+      length-append s.dropped (notes_at s.queue c.to_note.new.noted.items),
+      length-map c.to_note.new.noted.items (note_at s.queue),
+      c.len.ensures.value,
     )

@@ -37,7 +37,7 @@ returns-else-may_hand_back c =
     let n : length t.dropped ≡ length (after_dispatch c.args.call.now t).dropped = omega (
       arith,
       ap length (same_dropped now s),
-      ap length (settled-dropped now c.args.call.now s ∙ none-noted (held_then now s) c.args.call.now.rooms.numbers.now s c.requires (queue-few v.head v.block.now v.sound) (c.may_hand_back.ensures c.if-may_hand_back.false)),
+      ap length (settled-dropped now c.args.call.now s ∙ none-noted (held_then now s) c.args.call.now s c.requires (queue-few v.head v.block.now v.sound) (c.may_hand_back.ensures c.if-may_hand_back.false)),
     ) in
     ap (sized_queued 0) (c.sizes_then-sizes.ensures ∙ recorded-same t)
     ∙ ap (λ (k : ℕ). sized_queued 0 (sized_recorded k (sizes_of t))) n

@@ -13,12 +13,12 @@ use Rattle.announcements.proofs.OnDispatchLaws.StateLaws.{noted_by, noted-fits, 
 use Rattle.announcements.proofs.on_dispatch_timer.note_back.Goals as goal
 use Rattle.announcements.proofs.on_dispatch_timer.note_back.Goals.{After-to_note}
 
-noted-is : (c : After-to_note) → noted_by (cached_in (state c.args.panel.now).cache) c.args.call.now (state c.args.panel.now) ≡ (state c.args.panel.now).dropped ++ notes_at (state c.args.panel.now).queue c.to_note.new.noted
+noted-is : (c : After-to_note) → noted_by (cached_in (state c.args.panel.now).cache) c.args.call.now (state c.args.panel.now) ≡ (state c.args.panel.now).dropped ++ notes_at (state c.args.panel.now).queue c.to_note.new.noted.items
 noted-is c =
     let s = state c.args.panel.now in
     let now = c.args.call.now.instant.0 in
     ap (λ (held : ℕ → Bool). noted_by held c.args.call.now s) (sym (held-now now c.args.call.now s c.requires.1))
-    ∙ subst (λ (u : State). noted_by (held_then now u) c.args.call.now u ≡ u.dropped ++ notes_at u.queue c.to_note.new.noted)
+    ∙ subst (λ (u : State). noted_by (held_then now u) c.args.call.now u ≡ u.dropped ++ notes_at u.queue c.to_note.new.noted.items)
     (same-state c.args.panel.now c.view.result c.view.ensures.head c.view.ensures.block) c.to_note.ensures.noted
 
 pub note_rows-requires-clause-room : goal.note_rows-requires-clause-room
@@ -28,8 +28,8 @@ note_rows-requires-clause-room c =
       arith,
       noted-fits c.args.call.now s c.requires.0.fits,
       ap length (noted-is (goal.at.note_rows-requires-clause-room c).After-to_note),
-      length-append s.dropped (notes_at s.queue c.to_note.new.noted),
-      length-map c.to_note.new.noted (note_at s.queue),
+      length-append s.dropped (notes_at s.queue c.to_note.new.noted.items),
+      length-map c.to_note.new.noted.items (note_at s.queue),
     )
 
 pub returns : goal.returns

@@ -30,8 +30,8 @@ returns c =
         state = cleared
             ∙ ap (λ (q : Panel). with_dispatch_scheduled false (with_queue [] (state q))) w.panel-is
             ∙ sym (none-state call s c.requires.0.rest.consistent.record_flag
-            (none-noted (cached_in s.cache) call.rooms.numbers.now s c.requires.0.rest (queue-few p.head p.block.now p.sound)
-            (subst (λ (u : State). (l : ℕ) → l < length u.links → length u.queue ≤ get_or call.rooms.numbers.now l 0) (same-state p c.view.result c.view.ensures.head c.view.ensures.block)
+            (none-noted (cached_in s.cache) call s c.requires.0.rest (queue-few p.head p.block.now p.sound)
+            (subst (λ (u : State). (l : ℕ) → l < length u.links → length u.queue ≤ get_or call.rooms.now.links l 0) (same-state p c.view.result c.view.ensures.head c.view.ensures.block)
             (c.may_hand_back.ensures w.if-may_hand_back.false))));
         loan = c.unflag_dispatch.ensures.loan ∙ c.clear_queue.ensures.loan ∙ ap (λ (q : Panel). q.block.ghost_name) w.panel-is;
       }

@@ -4,7 +4,7 @@ use mathlib.Core.Path.{subst}
 use borrow.Author.Rules.{rules}
 use Rattle.postcard.specs.Message.{Ihave, Scheduled, SendGraft, action_bytes}
 use Rattle.postcard.specs.Values.{ihave_value}
-use Rattle.wire.specs.Encode.Held.{after, room_of}
+use Rattle.wire.specs.Encode.Intake.{after, space_of}
 use Rattle.wire.specs.Reader.Values.{ihaves_value}
 use Rattle.wire.proofs.ReaderLaws.AnnouncedLaws.{announced_count}
 use Rattle.protocol.specs.State.{State}
@@ -20,7 +20,7 @@ use Rattle.announcements.proofs.on_ihave.ihave_actions.Goals.{In-Some, After-get
 pub loop-ihave-init : goal.loop-ihave-init
 loop-ihave-init g c =
     let a = c.args in
-    record { walk = after_none (search rules); so = schedule-start (settled a.call.now.instant.0 (shown a.view.now)) (ihaves_value a.ihaves) (g.S.Sink.held a.out.now) }
+    record { walk = after_none (search rules); so = schedule-start (settled a.call.now.instant.0 (shown a.view.now)) (ihaves_value a.ihaves) (g.S.Sink.intake a.out.now) }
 
 -- fewer have been taken than there are
 below : (g : _) (d : In-Some g) → d.loop-ihave.i < d.args.ihaves.count
@@ -58,24 +58,24 @@ pub encode-requires : goal.encode-requires
 encode-requires g c =
     let d = (goal.at.encode-requires g c).After-gets_timer in
     let l = c.loop-ihave in
-    subst (λ (n : ℕ). length (action_bytes (Scheduled n (SendGraft (x g d).id))) ≤ room_of (g.S.Sink.held l.out)) (same-delay g d)
-    (schedule-room (t g d) (all g d) (g.S.Sink.held c.args.out.now) l.i (g.S.Sink.held l.out) l.invariant.so (x g d) (taken g d) (wants g d true c.if-gets_timer.true) c.requires.room)
+    subst (λ (n : ℕ). length (action_bytes (Scheduled n (SendGraft (x g d).id))) ≤ space_of (g.S.Sink.intake l.out)) (same-delay g d)
+    (schedule-room (t g d) (all g d) (g.S.Sink.intake c.args.out.now) l.i (g.S.Sink.intake l.out) l.invariant.so (x g d) (taken g d) (wants g d true c.if-gets_timer.true) c.requires.room)
 
 pub loop-ihave-preserved : goal.loop-ihave-preserved
 loop-ihave-preserved g c =
     let d = (goal.at.loop-ihave-preserved g c).After-gets_timer in
     let l = c.loop-ihave in
-    let h = g.S.Sink.held c.args.out.now in
+    let h = g.S.Sink.intake c.args.out.now in
     record {
       walk = after-next l.invariant.walk c.in-Some.ensures.steps;
       so = elim c.if-gets_timer.branch [
         | then-gets_timer w ↦
-            ap g.S.Sink.held w.out-is
+            ap g.S.Sink.intake w.out-is
             ∙ w.encode.ensures
-            ∙ ap (λ (n : ℕ). after (action_bytes (Scheduled n (SendGraft (x g d).id))) (g.S.Sink.held l.out)) (sym (same-delay g d))
-            ∙ schedule-next (t g d) (all g d) h l.i (g.S.Sink.held l.out) l.invariant.so (x g d) (taken g d) (wants g d true w.if-gets_timer.true)
+            ∙ ap (λ (n : ℕ). after (action_bytes (Scheduled n (SendGraft (x g d).id))) (g.S.Sink.intake l.out)) (sym (same-delay g d))
+            ∙ schedule-next (t g d) (all g d) h l.i (g.S.Sink.intake l.out) l.invariant.so (x g d) (taken g d) (wants g d true w.if-gets_timer.true)
         | else-gets_timer w ↦
-            ap g.S.Sink.held w.out-is ∙ schedule-skip (t g d) (all g d) h l.i (g.S.Sink.held l.out) l.invariant.so (x g d) (taken g d) (wants g d false w.if-gets_timer.false)
+            ap g.S.Sink.intake w.out-is ∙ schedule-skip (t g d) (all g d) h l.i (g.S.Sink.intake l.out) l.invariant.so (x g d) (taken g d) (wants g d false w.if-gets_timer.false)
       ];
     }
 
@@ -83,4 +83,4 @@ pub returns : goal.returns
 returns g c =
     let a = c.args in
     let l = c.loop-ihave in
-    l.invariant.so ∙ schedule-end (settled a.call.now.instant.0 (shown a.view.now)) (ihaves_value a.ihaves) (g.S.Sink.held a.out.now) l.i (after-end l.invariant.walk c.in-None.ensures.steps.0)
+    l.invariant.so ∙ schedule-end (settled a.call.now.instant.0 (shown a.view.now)) (ihaves_value a.ihaves) (g.S.Sink.intake a.out.now) l.i (after-end l.invariant.walk c.in-None.ensures.steps.0)

@@ -1,6 +1,6 @@
 -- `ihave_actions`: after i entries the timers of the first i are written.
 use Rattle.std.proofs.Common.{◌≡◌, take}
-use Rattle.wire.specs.Encode.Held.{after}
+use Rattle.wire.specs.Encode.Intake.{after}
 use Rattle.wire.specs.Reader.Values.{ihaves_value}
 use Rattle.decide.specs.Settled.{settled}
 use Rattle.steps.specs.Views.{shown}
@@ -11,5 +11,5 @@ use Rattle.announcements.proofs.on_ihave.ihave_actions.Given as goal
 abbrev pub invariant-loop-ihave : goal.invariant-loop-ihave
 invariant-loop-ihave g l = record {
   walk : After (ihaves_value l.fn.ihaves) (ihaves_value l.ihave-iterator) l.i;
-  so : g.S.Sink.held l.out ≡ after (scheduled (settled l.call.instant.0 (shown l.view)) (take l.i (ihaves_value l.fn.ihaves))) (g.S.Sink.held l.initial.out);
+  so : g.S.Sink.intake l.out ≡ after (scheduled (settled l.call.instant.0 (shown l.view)) (take l.i (ihaves_value l.fn.ihaves))) (g.S.Sink.intake l.initial.out);
 }

@@ -12,11 +12,11 @@ use Rattle.announcements.proofs.on_ihave.stands_before.Goals as goal
 pub loop-ihave-init : goal.loop-ihave-init
 loop-ihave-init c = record { index = 0; after = after_none (search rules); so = absent-start (id_of c.args.id) (ihaves_value c.args.before) }
 
-pub returns-then-same : goal.returns-then-same
-returns-then-same c =
+pub returns-then-eq : goal.returns-then-eq
+returns-then-eq c =
     let a = c.args in
     let w = c.loop-ihave.invariant in
-    sym (present (id_of a.id) (ihaves_value a.before) w.index (ihave_value c.in-Some.ihave) (after-taken w.after c.in-Some.ensures.steps) (sym c.same.ensures ∙ c.if-same.true))
+    sym (present (id_of a.id) (ihaves_value a.before) w.index (ihave_value c.in-Some.ihave) (after-taken w.after c.in-Some.ensures.steps) (sym c.eq.ensures ∙ c.if-eq.true))
 
 pub loop-ihave-preserved : goal.loop-ihave-preserved
 loop-ihave-preserved c =
@@ -25,7 +25,7 @@ loop-ihave-preserved c =
     record {
       index = w.index + 1;
       after = after-next w.after c.in-Some.ensures.steps;
-      so = absent_more (id_of a.id) (ihaves_value a.before) w.index (ihave_value c.in-Some.ihave) (after-taken w.after c.in-Some.ensures.steps) (sym c.same.ensures ∙ c.if-same.false) w.so;
+      so = absent_more (id_of a.id) (ihaves_value a.before) w.index (ihave_value c.in-Some.ihave) (after-taken w.after c.in-Some.ensures.steps) (sym c.eq.ensures ∙ c.if-eq.false) w.so;
     }
 
 pub returns : goal.returns

@@ -1,13 +1,13 @@
 -- `send_graft_actions` meets its contract: none of a message that is received or that nobody announced, and else the Graft, then the timer.
+use Rattle.std.specs.Prelude.{Some}
 use Rattle.std.proofs.Common.{arith, sym, ap, ◌∙◌, ◌≡◌, ◌++◌, ℕ, List, length}
 use lib.ListN.{length-append}
-use Rattle.std.proofs.Math.Option.{some}
 use Rattle.storage.specs.Rows.Ident.{id_of}
 use Rattle.postcard.specs.Message.{Graft, Scheduled, SendGraft, message_bytes, action_bytes}
 use Rattle.postcard.specs.Output.{send_head}
 use Rattle.decide.specs.Settled.{settled}
-use Rattle.wire.specs.Encode.Held.{after}
-use Rattle.wire.proofs.EncodeLaws.HeldLaws.{after_append, after_nil, room_after}
+use Rattle.wire.specs.Encode.Intake.{after}
+use Rattle.wire.proofs.EncodeLaws.IntakeLaws.{after_append, after_nil, room_after}
 use Rattle.steps.specs.Views.{shown}
 use Rattle.steps.specs.declared.view.Link.{Link}
 use Rattle.steps.proofs.ViewLaws.{links-few}
@@ -18,12 +18,12 @@ use Rattle.announcements.proofs.on_send_graft_timer.send_graft_actions.Goals.{Af
 
 pub returns-then-is_received_then : goal.returns-then-is_received_then
 returns-then-is_received_then g c =
-    let h = g.S.Sink.held c.args.out.now in
+    let h = g.S.Sink.intake c.args.out.now in
     sym (ap (λ (bs : List ℕ). after bs h) (bytes-received c.args.call.now c.args.id (shown c.args.view.now) (sym c.is_received_then.ensures ∙ c.if-is_received_then.true)) ∙ after_nil h)
 
 pub returns-in_default : goal.returns-in_default
 returns-in_default g c =
-    let h = g.S.Sink.held c.args.out.now in
+    let h = g.S.Sink.intake c.args.out.now in
     sym (ap (λ (bs : List ℕ). after bs h) (bytes-nobody c.args.call.now c.args.id (shown c.args.view.now) (sym c.is_received_then.ensures ∙ c.if-is_received_then.false) c.in_default.ensures) ∙ after_nil h)
 
 pub announcer-first-requires : goal.announcer-first-requires
@@ -35,7 +35,7 @@ takes-taken-requires g c = omega (arith, c.announcer-first.ensures.below, links-
 -- the bytes of the two actions
 module _ (g : _) (c : After-takes-taken g) where
   abbrev first : List ℕ
-  first = send_head c.link-peer.result.peer c.takes-taken.result ++ message_bytes (Graft (some (id_of c.args.id)) c.announcer-first.result.round.0)
+  first = send_head c.link-peer.result.peer c.takes-taken.result ++ message_bytes (Graft (Some (id_of c.args.id)) c.announcer-first.result.round.0)
 
   abbrev second : List ℕ
   second = action_bytes (Scheduled c.args.view.now.head.settings.config.graft_timeout_2.0 (SendGraft (id_of c.args.id)))
@@ -54,10 +54,10 @@ encode-requires g c =
 pub encode-requires-2 : goal.encode-requires-2
 encode-requires-2 g c =
     let d = (goal.at.encode-requires-2 g c).After-takes-taken in
-    rw c.encode.ensures (rw (room_after (first g d) (g.S.Sink.held c.args.out.now)) (omega (arith, c.requires.room, ap length (both g d), length-append (first g d) (second g d))))
+    rw c.encode.ensures (rw (room_after (first g d) (g.S.Sink.intake c.args.out.now)) (omega (arith, c.requires.room, ap length (both g d), length-append (first g d) (second g d))))
 
 pub returns : goal.returns
 returns g c =
     let d = (goal.at.returns g c).After-takes-taken in
-    let h = g.S.Sink.held c.args.out.now in
+    let h = g.S.Sink.intake c.args.out.now in
     c.encode-2.ensures ∙ ap (after (second g d)) c.encode.ensures ∙ after_append (first g d) (second g d) h ∙ ap (λ (bs : List ℕ). after bs h) (sym (both g d))

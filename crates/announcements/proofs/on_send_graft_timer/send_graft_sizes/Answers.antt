@@ -1,5 +1,7 @@
 -- `send_graft_sizes` meets its contract: the mark gone, and where the message is not received what asking leaves.
-use Rattle.std.proofs.Common.{arith, sym, ◌∙◌}
+use Rattle.std.proofs.Common.{arith, sym, ◌∙◌, ◌-◌}
+use lib.Dec.{eqb}
+use mir.Val.{bool_byte}
 use Rattle.storage.specs.Rows.Ident.{id_of}
 use Rattle.time_cache.specs.TimeCache.{get}
 use Rattle.decide.specs.Settled.{settled}
@@ -7,26 +9,49 @@ use Rattle.block.proofs.CachesLaws.GraftedLaws.{count-grafted, count-grafted-row
 use Rattle.steps.specs.Settled.Then.{no_grafts}
 use Rattle.steps.specs.Shared.{sizes_value}
 use Rattle.steps.specs.Views.{shown}
-use Rattle.announcements.proofs.OnSendGraftTimerLaws.{entry-there, entry-gone, sized-received, sized-nobody, sized-there, sized-new, sized-few}
+use Rattle.announcements.proofs.OnSendGraftTimerLaws.{entry-there, entry-gone, marks-fewer, marks-left, missing-fewer, missing-left, sized-received, sized-nobody, sized-there, sized-new, sized-few}
 use Rattle.announcements.proofs.on_send_graft_timer.send_graft_sizes.Goals as goal
+
+pub overflow_sub-sizes : goal.overflow_sub-sizes
+overflow_sub-sizes c =
+    marks-fewer c.args.call.now.instant.0 (id_of c.args.id) (shown c.args.view.now) c.requires c.sizes_then-sizes.result c.sizes_then-sizes.ensures c.has_timer.result c.has_timer.ensures
 
 pub returns-then-is_received_then : goal.returns-then-is_received_then
 returns-then-is_received_then c =
-    sized-received c.args.call.now.instant.0 (id_of c.args.id) (shown c.args.view.now) c.requires c.timers_left.result c.timers_left.ensures (sizes_value c.sizes_then-sizes.result) c.sizes_then-sizes.ensures
+    let s = shown c.args.view.now in
+    let now = c.args.call.now.instant.0 in
+    let i = id_of c.args.id in
+    let z = c.sizes_then-sizes.result in
+    let w = c.sizes_then-sizes.ensures in
+    sized-received now i s c.requires (z.timers - bool_byte c.has_timer.result) (marks-left now i s c.requires z w c.has_timer.result c.has_timer.ensures) (sizes_value z) w
     (sym c.is_received_then.ensures ∙ c.if-is_received_then.true)
 
 pub returns-in_default : goal.returns-in_default
 returns-in_default c =
-    sized-nobody c.args.call.now.instant.0 (id_of c.args.id) (shown c.args.view.now) c.requires c.timers_left.result c.timers_left.ensures
-    (sym c.is_received_then.ensures ∙ c.if-is_received_then.false) (sizes_value c.sizes_then-sizes.result) c.sizes_then-sizes.ensures c.in_default.ensures
+    let s = shown c.args.view.now in
+    let now = c.args.call.now.instant.0 in
+    let i = id_of c.args.id in
+    let z = c.sizes_then-sizes.result in
+    let w = c.sizes_then-sizes.ensures in
+    sized-nobody now i s c.requires (z.timers - bool_byte c.has_timer.result) (marks-left now i s c.requires z w c.has_timer.result c.has_timer.ensures)
+    (sym c.is_received_then.ensures ∙ c.if-is_received_then.false) (sizes_value z) w c.in_default.ensures
+
+pub overflow_sub-sizes-2 : goal.overflow_sub-sizes-2
+overflow_sub-sizes-2 c =
+    missing-fewer c.args.call.now.instant.0 (id_of c.args.id) (shown c.args.view.now) c.requires c.sizes_then-sizes.result c.sizes_then-sizes.ensures c.in-Some.entry (eqb c.announcer_count.result 1) c.in-Some.ensures.below
 
 pub returns-then-is_some : goal.returns-then-is_some
 returns-then-is_some c =
     let s = shown c.args.view.now in
     let now = c.args.call.now.instant.0 in
-    sized-there now (id_of c.args.id) s c.requires c.timers_left.result c.timers_left.ensures
-    (sym c.is_received_then.ensures ∙ c.if-is_received_then.false) c.in-Some.entry c.missing_left.result c.in-Some.ensures c.missing_left.ensures (sizes_value c.sizes_then-sizes.result) c.sizes_then-sizes.ensures
-    (entry-there no_grafts s.grafted.entries (id_of c.args.id) (get (id_of c.args.id) (settled now s).grafted) c.grafted_entry_then.result c.grafted_entry_then.ensures (sym c.is_some.ensures ∙ c.if-is_some.true))
+    let i = id_of c.args.id in
+    let z = c.sizes_then-sizes.result in
+    let w = c.sizes_then-sizes.ensures in
+    let n = c.announcer_count.result in
+    sized-there now i s c.requires (z.timers - bool_byte c.has_timer.result) (marks-left now i s c.requires z w c.has_timer.result c.has_timer.ensures)
+    (sym c.is_received_then.ensures ∙ c.if-is_received_then.false) c.in-Some.entry (z.missing - bool_byte (eqb n 1)) c.in-Some.ensures
+    (missing-left now i s c.requires z w c.in-Some.entry n c.in-Some.ensures.below c.announcer_count.ensures.0) (sizes_value z) w
+    (entry-there no_grafts s.grafted.entries i (get i (settled now s).grafted) c.grafted_entry_then.result c.grafted_entry_then.ensures (sym c.is_some.ensures ∙ c.if-is_some.true))
 
 pub overflow_add-sizes : goal.overflow_add-sizes
 overflow_add-sizes c =
@@ -44,6 +69,11 @@ pub returns : goal.returns
 returns c =
     let s = shown c.args.view.now in
     let now = c.args.call.now.instant.0 in
-    sized-new now (id_of c.args.id) s c.requires c.timers_left.result c.timers_left.ensures
-    (sym c.is_received_then.ensures ∙ c.if-is_received_then.false) c.in-Some.entry c.missing_left.result c.in-Some.ensures c.missing_left.ensures (sizes_value c.sizes_then-sizes.result) c.sizes_then-sizes.ensures
-    (entry-gone no_grafts s.grafted.entries (id_of c.args.id) (get (id_of c.args.id) (settled now s).grafted) c.grafted_entry_then.result c.grafted_entry_then.ensures (sym c.is_some.ensures ∙ c.if-is_some.false))
+    let i = id_of c.args.id in
+    let z = c.sizes_then-sizes.result in
+    let w = c.sizes_then-sizes.ensures in
+    let n = c.announcer_count.result in
+    sized-new now i s c.requires (z.timers - bool_byte c.has_timer.result) (marks-left now i s c.requires z w c.has_timer.result c.has_timer.ensures)
+    (sym c.is_received_then.ensures ∙ c.if-is_received_then.false) c.in-Some.entry (z.missing - bool_byte (eqb n 1)) c.in-Some.ensures
+    (missing-left now i s c.requires z w c.in-Some.entry n c.in-Some.ensures.below c.announcer_count.ensures.0) (sizes_value z) w
+    (entry-gone no_grafts s.grafted.entries i (get i (settled now s).grafted) c.grafted_entry_then.result c.grafted_entry_then.ensures (sym c.is_some.ensures ∙ c.if-is_some.false))

@@ -1,10 +1,7 @@
--- `replay`: the three arrays keep their lengths. The measure is the number of turns left.
+-- `replay`: the three arrays keep their lengths.
 use Rattle.std.proofs.Common.{◌≡◌, length}
 use Rattle.beside_sample.proofs.replay.replay.Given as goal
 
-abbrev pub invariant-loop-turns : goal.invariant-loop-turns
-invariant-loop-turns l =
+abbrev pub invariant-records : goal.invariant-records
+invariant-records l =
     (length l.block ≡ 65536) × (length l.other ≡ 65536) × (length l.out ≡ 65536)
-
-abbrev pub decreases-loop-turns : goal.decreases-loop-turns
-decreases-loop-turns l = l.turns

@@ -1,8 +1,7 @@
 -- `event_core`: questions 5 to 14, then the event.
-use Rattle.std.proofs.Common.{◌≡◌, ℕ, ◌≤◌, ◌<◌, List, ap, sym, ◌∙◌, refl, arith, length}
+use Rattle.std.specs.Prelude.{Some}
+use Rattle.std.proofs.Common.{◌≡◌, ℕ, ◌≤◌, List, ap, sym, ◌∙◌, refl, arith, length}
 use mathlib.Core.Path.{subst}
-use mathlib.Core.Option.{some}
-use lib.Seq.{get_or-set_same}
 use Rattle.blake3.specs.Blake3.{identifier}
 use Rattle.wire.specs.Reader.Values.{event_value}
 use Rattle.protocol.specs.State.{State, block_need}
@@ -23,14 +22,14 @@ use Rattle.machine.proofs.event.event_core.Goals as goal
 use Rattle.machine.proofs.event.event_core.Goals.{Start, In-Ok, After-load_head-head}
 
 abbrev asked : Start → Call
-asked s = call_of s.args.instant.0 s.args.event.now (core_rooms s.args.block.now s.args.event.now s.args.rooms) s.args.out.now
+asked s = call_of s.args.asked.instant.0 s.args.asked.event.now (core_rooms s.args.block.now s.args.asked.event.now s.args.asked.rooms.now) s.args.out.now
 
 abbrev answered : Start → Outcome
 answered s = answer_block identifier (length s.args.block.now) (held s.args.block.now) (counts_of s.args.c) (asked s)
 
 -- the event was read
-reads : (c : In-Ok) → Reads c.args.block.now c.args.instant.0 c.args.event.now (event_value c.in-Ok.event)
-reads c = begun-reads c.args.block.now c.args.instant.0 c.args.event.now (event_value c.in-Ok.event) c.in-Ok.ensures.means
+reads : (c : In-Ok) → Reads c.args.block.now c.args.asked.instant.0 c.args.asked.event.now (event_value c.in-Ok.event)
+reads c = begun-reads c.args.block.now c.args.asked.instant.0 c.args.asked.event.now (event_value c.in-Ok.event) c.in-Ok.ensures.means
 
 sound : (c : After-load_head-head) → Sound c.load_head-head.result c.args.block.now
 sound c = subst (λ (h : Head). Sound h c.args.block.now) (sym c.load_head-head.ensures) (reads (goal.at.After-load_head-head c).In-Ok).wholly.sound
@@ -38,13 +37,13 @@ sound c = subst (λ (h : Head). Sound h c.args.block.now) (sym c.load_head-head.
 rest : (c : After-load_head-head) → AtRest (state_of c.load_head-head.result c.args.block.now)
 rest c =
     let r = reads (goal.at.After-load_head-head c).In-Ok in
-    subst (λ (h : Head). AtRest (state_of h c.args.block.now)) (sym c.load_head-head.ensures) (rest_of _ c.args.block.now (begun-of c.args.block.now r.wholly c.args.instant.0 r.early).stands)
+    subst (λ (h : Head). AtRest (state_of h c.args.block.now)) (sym c.load_head-head.ensures) (rest_of _ c.args.block.now (begun-of c.args.block.now r.wholly c.args.asked.instant.0 r.early).stands)
 
 pub returns-in-Err : goal.returns-in-Err
 returns-in-Err c =
     let a = c.args in
     let s = (goal.at.returns-in-Err c).Start in
-    record { room = refl; finds = refused-finds (answered s) c.in-Err.number a.block.now a.out.now a.c c.refused.result c.refused.ensures (begun-fault a.block.now a.instant.0 a.event.now c.in-Err.number (counts_of a.c) (asked s) refl refl c.in-Err.ensures.means) }
+    record { room = refl; finds = refused-finds (answered s) c.in-Err.number a.block.now a.out.now a.c c.refused.result c.refused.ensures (begun-fault a.block.now a.asked.instant.0 a.asked.event.now c.in-Err.number (counts_of a.c) (asked s) refl refl c.in-Err.ensures.means) }
 
 pub load_head-head-requires : goal.load_head-head-requires
 load_head-head-requires c = header-long c.args.block.now (reads (goal.at.load_head-head-requires c).In-Ok).wholly
@@ -55,8 +54,7 @@ invariant_of-view c = record { sound = sound (goal.at.invariant_of-view c).After
 pub ask-requires : goal.ask-requires
 ask-requires c =
     let l = (goal.at.ask-requires c).After-load_head-head in
-    let long : 33 < length c.args.rooms = omega arith in
-    (rest l, c.in-Ok.ensures.shortened, get_or-set_same c.args.rooms 33 c.event_peer.result 0 long ∙ c.event_peer.ensures, (reads (goal.at.ask-requires c).In-Ok).early)
+    (rest l, c.in-Ok.ensures.shortened, c.event_peer.ensures, (reads (goal.at.ask-requires c).In-Ok).early)
 
 pub returns-in-Err-ask : goal.returns-in-Err-ask
 returns-in-Err-ask c =
@@ -65,7 +63,7 @@ returns-in-Err-ask c =
     record {
       room = refl;
       finds = refused-finds (answered s) c.in-Err-ask.number a.block.now a.out.now a.c c.refused-in-Err-ask.result c.refused-in-Err-ask.ensures
-          (core-outcome a.block.now a.event.now a.rooms a.out.now (counts_of a.c) c.load_head-head.result a.instant.0 c.in-Ok.event c.event_peer.result (reads (goal.at.returns-in-Err-ask c).In-Ok) c.load_head-head.ensures c.in-Ok.ensures.sized c.event_peer.ensures
+          (core-outcome a.block.now a.asked.event.now a.asked.rooms.now a.out.now (counts_of a.c) c.load_head-head.result a.asked.instant.0 c.in-Ok.event c.event_peer.result (reads (goal.at.returns-in-Err-ask c).In-Ok) c.load_head-head.ensures c.in-Ok.ensures.sized c.event_peer.ensures
           ∙ sym c.in-Err-ask.ensures.outcome);
     }
 
@@ -83,14 +81,14 @@ returns c =
     record {
       room = refl;
       finds = found-yes (answered s) _ _ _ _ _ c.in-Ok-ask.accepted.length
-          (core-outcome a.block.now a.event.now a.rooms a.out.now (counts_of a.c) c.load_head-head.result a.instant.0 c.in-Ok.event c.event_peer.result (reads (goal.at.returns c).In-Ok) c.load_head-head.ensures c.in-Ok.ensures.sized c.event_peer.ensures
+          (core-outcome a.block.now a.asked.event.now a.asked.rooms.now a.out.now (counts_of a.c) c.load_head-head.result a.asked.instant.0 c.in-Ok.event c.event_peer.result (reads (goal.at.returns c).In-Ok) c.load_head-head.ensures c.in-Ok.ensures.sized c.event_peer.ensures
           ∙ sym c.in-Ok-ask.ensures.outcome)
           (record {
             number = refl;
             long = ok.long;
             state = left-holds q.head q.block.now _ q.sound (subst (λ (ys : List ℕ). Stored q.head q.block.now ys) (sym left) c.store_head.ensures) t (rest (goal.at.returns c).After-load_head-head)
                 (subst (λ (x : State). Keeps t x) (sym goes.state) ok.keeps) (omega (arith, need, kept, ap length left, c.store_head.auto.block))
-                ∙ ap some goes.state;
+                ∙ ap Some goes.state;
             block_long = kept;
             counts = refl;
             fits = omega (arith, ok.long, ok.fits);

@@ -1,8 +1,7 @@
 -- `gossip_step`: the tests in turn.
 use mathlib.Core.Path.{ap}
-use mathlib.Core.Bool.{not}
-use mathlib.Core.Path.{◌≡◌, sym, ◌∙◌}
-use borrow.Author.Tests.{not-true, not-false}
+use mathlib.Core.Bool.{Bool, true, false, not}
+use mathlib.Core.Path.{◌≡◌, refl, sym, ◌∙◌}
 use lib.Dec.{eqb}
 use Rattle.storage.specs.Rows.Ident.{id_of}
 use Rattle.blake3.specs.Blake3.{identifier}
@@ -10,34 +9,38 @@ use Rattle.postcard.specs.Values.{delivery_value}
 use Rattle.steps.specs.Views.{shown}
 use Rattle.machine.proofs.KindsLaws.MeaningLaws.{means-invalid, means-late, means-new, means-near, gossip-held, valid-of}
 use Rattle.machine.proofs.kinds.gossip_step.Goals as goal
-use Rattle.machine.proofs.kinds.gossip_step.Goals.{After-same}
+use Rattle.machine.proofs.kinds.gossip_step.Goals.{After-ne}
+
+twice : (b : Bool) → not (not b) ≡ b
+twice true = refl
+twice false = refl
 
 -- the test is of the content
-valid : (c : After-same) →
+valid : (c : After-ne) →
     eqb (identifier c.args.gossip.content.now)
-    (id_of c.args.gossip.id) ≡ c.same.result
+    (id_of c.args.gossip.id) ≡ not c.ne.result
 valid c =
     let a = c.args in
     let r = c.hash in
-    valid-of c.same.result (id_of r.result) (identifier a.gossip.content.now) (id_of a.gossip.id) c.same.ensures r.ensures
+    valid-of (not c.ne.result) (id_of r.result) (identifier a.gossip.content.now) (id_of a.gossip.id) (ap not c.ne.ensures ∙ twice _) r.ensures
 
-pub returns-then-not-same : goal.returns-then-not-same
-returns-then-not-same c =
+pub returns-then-ne : goal.returns-then-ne
+returns-then-ne c =
     let a = c.args in
     means-invalid a.call.now.instant.0 (shown a.view.now) a.sender (id_of a.gossip.id) a.gossip.content.now (delivery_value a.gossip.delivery) c.requires.0.consistent.core
-    (valid (goal.at.returns-then-not-same c).After-same ∙ not-true c.same.result (ap not c.if-not-same.true))
+    (valid (goal.at.returns-then-ne c).After-ne ∙ ap not c.if-ne.true)
 
 pub returns-then-is_received_then : goal.returns-then-is_received_then
 returns-then-is_received_then c =
     let a = c.args in
     means-late a.call.now.instant.0 (shown a.view.now) a.sender a.gossip.id a.gossip.content.now a.gossip.delivery c.requires.0.consistent.core
-    (valid (goal.at.returns-then-is_received_then c).After-same ∙ not-false c.same.result (ap not c.if-not-same.false)) (sym c.is_received_then.ensures ∙ c.if-is_received_then.true)
+    (valid (goal.at.returns-then-is_received_then c).After-ne ∙ ap not c.if-ne.false) (sym c.is_received_then.ensures ∙ c.if-is_received_then.true)
 
 pub returns-in-Swarm : goal.returns-in-Swarm
 returns-in-Swarm c =
     let a = c.args in
     means-new a.call.now.instant.0 (shown a.view.now) a.sender a.gossip.id a.gossip.content c.requires.0.consistent.core
-    (valid (goal.at.returns-in-Swarm c).After-same ∙ not-false c.same.result (ap not c.if-not-same.false)) (sym c.is_received_then.ensures ∙ c.if-is_received_then.false)
+    (valid (goal.at.returns-in-Swarm c).After-ne ∙ ap not c.if-ne.false) (sym c.is_received_then.ensures ∙ c.if-is_received_then.false)
     (gossip-held (shown a.view.now) (id_of a.gossip.id) a.gossip.content.now (delivery_value a.gossip.delivery) c.requires.0.ranged c.requires.1)
     a.gossip.delivery c.in-Swarm.round c.in-Swarm.is
 
@@ -45,6 +48,6 @@ pub returns-in-Neighbors : goal.returns-in-Neighbors
 returns-in-Neighbors c =
     let a = c.args in
     means-near a.call.now.instant.0 (shown a.view.now) a.sender a.gossip.id a.gossip.content c.requires.0.consistent.core
-    (valid (goal.at.returns-in-Neighbors c).After-same ∙ not-false c.same.result (ap not c.if-not-same.false)) (sym c.is_received_then.ensures ∙ c.if-is_received_then.false)
+    (valid (goal.at.returns-in-Neighbors c).After-ne ∙ ap not c.if-ne.false) (sym c.is_received_then.ensures ∙ c.if-is_received_then.false)
     (gossip-held (shown a.view.now) (id_of a.gossip.id) a.gossip.content.now (delivery_value a.gossip.delivery) c.requires.0.ranged c.requires.1)
     a.gossip.delivery c.in-Neighbors.is

@@ -13,8 +13,8 @@ use Rattle.machine.proofs.LimitMetLaws.LimitLaws.{begun-limit, core-limit}
 use Rattle.machine.proofs.limit_met.limit_met.Goals as goal
 use Rattle.machine.proofs.limit_met.limit_met.Goals.{In-Ok, After-load_head}
 
-reads : (c : In-Ok) → Reads c.args.block.now c.args.instant.0 c.args.event.now (event_value c.in-Ok.event)
-reads c = begun-reads c.args.block.now c.args.instant.0 c.args.event.now (event_value c.in-Ok.event) c.in-Ok.ensures.means
+reads : (c : In-Ok) → Reads c.args.block.now c.args.asked.instant.0 c.args.asked.event.now (event_value c.in-Ok.event)
+reads c = begun-reads c.args.block.now c.args.asked.instant.0 c.args.asked.event.now (event_value c.in-Ok.event) c.in-Ok.ensures.means
 
 pub load_head-requires : goal.load_head-requires
 load_head-requires c = header-long c.args.block.now (reads (goal.at.load_head-requires c).In-Ok).wholly
@@ -25,7 +25,7 @@ invariant_of-view c = record { sound = subst (λ (h : Head). Sound h c.args.bloc
 rest : (c : After-load_head) → AtRest (state_of c.load_head.result c.args.block.now)
 rest c =
     let r = reads (goal.at.After-load_head c).In-Ok in
-    subst (λ (h : Head). AtRest (state_of h c.args.block.now)) (sym c.load_head.ensures) (rest_of _ c.args.block.now (begun-of c.args.block.now r.wholly c.args.instant.0 r.early).stands)
+    subst (λ (h : Head). AtRest (state_of h c.args.block.now)) (sym c.load_head.ensures) (rest_of _ c.args.block.now (begun-of c.args.block.now r.wholly c.args.asked.instant.0 r.early).stands)
 
 pub event_limit-requires : goal.event_limit-requires
 event_limit-requires c = (rest (goal.at.event_limit-requires c).After-load_head, c.in-Ok.ensures.shortened)
@@ -33,9 +33,9 @@ event_limit-requires c = (rest (goal.at.event_limit-requires c).After-load_head,
 pub returns : goal.returns
 returns c =
     let a = c.args in
-    core-limit a.block.now a.event.now a.rooms c.load_head.result a.instant.0 c.in-Ok.event c.event_peer.result c.event_limit.result (reads (goal.at.returns c).In-Ok) c.load_head.ensures c.in-Ok.ensures.sized c.event_peer.ensures c.event_limit.ensures
+    core-limit a.block.now a.asked.event.now a.asked.rooms.now c.load_head.result a.asked.instant.0 c.in-Ok.event c.event_peer.result c.event_limit.result (reads (goal.at.returns c).In-Ok) c.load_head.ensures c.in-Ok.ensures.sized c.event_peer.ensures c.event_limit.ensures
 
 pub returns-in_default : goal.returns-in_default
 returns-in_default c =
     let a = c.args in
-    sym (begun-limit a.block.now a.instant.0 a.event.now c.in_default.field-0 (core_rooms a.block.now a.event.now a.rooms) c.in_default.ensures.means)
+    sym (begun-limit a.block.now a.asked.instant.0 a.asked.event.now c.in_default.field-0 (core_rooms a.block.now a.asked.event.now a.asked.rooms.now) c.in_default.ensures.means)

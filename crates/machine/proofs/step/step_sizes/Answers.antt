@@ -1,19 +1,14 @@
 -- `step_sizes` meets its contract: each arm is its step.
 use Rattle.std.proofs.Common.{arith, ◌≡◌, ap, sym, ◌∙◌}
 use mathlib.Core.Path.{subst}
-use mathlib.Core.Option.{Option as math}
-use Rattle.std.specs.Prelude.{ℕ}
 use Rattle.protocol.specs.State.{State}
 use Rattle.decide.specs.Settled.{settled}
 use Rattle.decide.specs.Sizes.{sizes_of}
-use Rattle.decide.specs.StateAfter.{graft_state}
-use Rattle.block.specs.LinkSteps.{peer_at}
-use Rattle.steps.specs.Calls.{rooms_of}
 use Rattle.steps.specs.Views.{shown}
 use Rattle.machine.specs.Kinds.Meaning.{step_state, StepHeld}
 use Rattle.machine.specs.declared.kinds.Step.{Step}
 use Rattle.machine.specs.Steps.{after_event}
-use Rattle.machine.proofs.StepLaws.{settled-consistent, same_wanted, others-sized}
+use Rattle.machine.proofs.StepLaws.{settled-consistent, others-sized}
 use Rattle.machine.proofs.step.step_sizes.Goals as goal
 use Rattle.machine.proofs.step.step_sizes.Goals.{Start}
 
@@ -31,10 +26,7 @@ graft_sizes-requires c = (c.requires.rest, held (goal.at.graft_sizes-requires c)
 
 pub returns-in-Graft : goal.returns-in-Graft
 unfolding step_state
-returns-in-Graft c =
-    let k = c.args.call.now in
-    let t = settled k.instant.0 (shown c.args.view.now) in
-    c.graft_sizes.ensures ∙ ap (λ (w : math ℕ). sizes_of (graft_state (rooms_of k t) (peer_at t c.in-Graft.link) w t)) (same_wanted c.in-Graft.wanted) ∙ as_step (goal.at.returns-in-Graft c).Start c.in-Graft.is
+returns-in-Graft c = c.graft_sizes.ensures ∙ as_step (goal.at.returns-in-Graft c).Start c.in-Graft.is
 
 pub returns-in_default : goal.returns-in_default
 returns-in_default c =

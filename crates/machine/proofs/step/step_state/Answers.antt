@@ -1,18 +1,13 @@
 -- `step_state` meets its contract: each arm is its step.
-use Rattle.std.proofs.Common.{◌≡◌, ap, sym, ◌∙◌, refl}
+use Rattle.std.proofs.Common.{◌≡◌, sym, refl}
 use mathlib.Core.Path.{subst}
-use mathlib.Core.Option.{Option as math}
 use borrow.Author.Tests.{eqb-false}
-use Rattle.std.specs.Prelude.{ℕ}
-use Rattle.protocol.specs.Whole.{fits}
-use Rattle.decide.specs.StateAfter.{graft_state}
-use Rattle.block.specs.LinkSteps.{peer_at}
-use Rattle.steps.specs.Calls.{rooms_of}
-use Rattle.steps.specs.Panels.{state}
+use Rattle.steps.specs.Panels.{state, Goes}
+use Rattle.steps.specs.declared.panel.Panel.{Panel}
 use Rattle.machine.specs.Kinds.Meaning.{step_state, step_far}
 use Rattle.machine.specs.declared.kinds.Step.{Step}
 use Rattle.machine.specs.Steps.{after_step, Ready}
-use Rattle.machine.proofs.StepLaws.{same_wanted, others-still}
+use Rattle.machine.proofs.StepLaws.{others-still}
 use Rattle.machine.proofs.step.step_state.Goals as goal
 use Rattle.machine.proofs.step.step_state.Goals.{Start}
 
@@ -20,8 +15,9 @@ use Rattle.machine.proofs.step.step_state.Goals.{Start}
 known : (s : Start) {r : Step} → s.args.step ≡ r → Ready s.args.call.now r (state s.args.panel.now)
 known s e = subst (λ (r : Step). Ready s.args.call.now r (state s.args.panel.now)) e s.requires
 
-as_step : (s : Start) {r : Step} → s.args.step ≡ r → after_step s.args.call.now r (state s.args.panel.now) ≡ after_step s.args.call.now s.args.step (state s.args.panel.now)
-as_step s e = ap (λ (r : Step). after_step s.args.call.now r (state s.args.panel.now)) (sym e)
+-- the state goes the step's way where it goes that of what the match tells
+goes : (s : Start) {r : Step} {q : Panel} → s.args.step ≡ r → Goes (after_step s.args.call.now r) s.args.panel.now q → Goes (after_step s.args.call.now s.args.step) s.args.panel.now q
+goes s {r} {q} e = subst (λ (step : Step). Goes (after_step s.args.call.now step) s.args.panel.now q) (sym e)
 
 pub on_gossip-requires : goal.on_gossip-requires
 unfolding step_state step_far
@@ -40,8 +36,7 @@ pub on_graft-requires : goal.on_graft-requires
 unfolding step_state
 on_graft-requires c =
     let k = known (goal.at.on_graft-requires c).Start c.in-Graft.is in
-    let s = state c.args.panel.now in
-    (record { rest = k.allowed.rest; fits = ap (λ (w : math ℕ). fits (graft_state (rooms_of c.args.call.now s) (peer_at s c.in-Graft.link) w s)) (same_wanted c.in-Graft.wanted) ∙ k.allowed.fits }, k.held)
+    (record { rest = k.allowed.rest; fits = k.allowed.fits }, k.held)
 
 pub on_ihave-requires : goal.on_ihave-requires
 unfolding step_state
@@ -78,12 +73,7 @@ on_announce_dropped_timer-requires c =
 
 pub returns-in-Graft : goal.returns-in-Graft
 unfolding step_state
-returns-in-Graft c =
-    let s = state c.args.panel.now in
-    record {
-      state = c.on_graft.ensures.state ∙ ap (λ (w : math ℕ). graft_state (rooms_of c.args.call.now s) (peer_at s c.in-Graft.link) w s) (same_wanted c.in-Graft.wanted) ∙ as_step (goal.at.returns-in-Graft c).Start c.in-Graft.is;
-      loan = c.on_graft.ensures.loan;
-    }
+returns-in-Graft c = goes (goal.at.returns-in-Graft c).Start c.in-Graft.is c.on_graft.ensures
 
 pub returns-in_default : goal.returns-in_default
 returns-in_default c =
@@ -95,36 +85,36 @@ returns-in_default c =
 
 pub returns-in-NewSwarm : goal.returns-in-NewSwarm
 unfolding step_state
-returns-in-NewSwarm c = record { state = c.on_gossip.ensures.state ∙ as_step (goal.at.returns-in-NewSwarm c).Start c.in-NewSwarm.is; loan = c.on_gossip.ensures.loan }
+returns-in-NewSwarm c = goes (goal.at.returns-in-NewSwarm c).Start c.in-NewSwarm.is c.on_gossip.ensures
 
 pub returns-in-Late : goal.returns-in-Late
 unfolding step_state
-returns-in-Late c = record { state = c.on_late_graft_reply.ensures.state ∙ as_step (goal.at.returns-in-Late c).Start c.in-Late.is; loan = c.on_late_graft_reply.ensures.loan }
+returns-in-Late c = goes (goal.at.returns-in-Late c).Start c.in-Late.is c.on_late_graft_reply.ensures
 
 pub returns-in-Prune : goal.returns-in-Prune
 unfolding step_state
-returns-in-Prune c = record { state = c.on_prune.ensures.state ∙ as_step (goal.at.returns-in-Prune c).Start c.in-Prune.is; loan = c.on_prune.ensures.loan }
+returns-in-Prune c = goes (goal.at.returns-in-Prune c).Start c.in-Prune.is (record { state = c.on_prune.ensures.state; loan = c.on_prune.ensures.loan })
 
 pub returns-in-IHave : goal.returns-in-IHave
 unfolding step_state
-returns-in-IHave c = record { state = c.on_ihave.ensures.state ∙ as_step (goal.at.returns-in-IHave c).Start c.in-IHave.is; loan = c.on_ihave.ensures.loan }
+returns-in-IHave c = goes (goal.at.returns-in-IHave c).Start c.in-IHave.is c.on_ihave.ensures
 
 pub returns-in-BroadcastSwarm : goal.returns-in-BroadcastSwarm
 unfolding step_state
-returns-in-BroadcastSwarm c = record { state = c.broadcast.ensures.state ∙ as_step (goal.at.returns-in-BroadcastSwarm c).Start c.in-BroadcastSwarm.is; loan = c.broadcast.ensures.loan }
+returns-in-BroadcastSwarm c = goes (goal.at.returns-in-BroadcastSwarm c).Start c.in-BroadcastSwarm.is c.broadcast.ensures
 
 pub returns-in-SendGraft : goal.returns-in-SendGraft
 unfolding step_state
-returns-in-SendGraft c = record { state = c.on_send_graft_timer.ensures.state ∙ as_step (goal.at.returns-in-SendGraft c).Start c.in-SendGraft.is; loan = c.on_send_graft_timer.ensures.loan }
+returns-in-SendGraft c = goes (goal.at.returns-in-SendGraft c).Start c.in-SendGraft.is c.on_send_graft_timer.ensures
 
 pub returns-in-DispatchLazyPush : goal.returns-in-DispatchLazyPush
 unfolding step_state
-returns-in-DispatchLazyPush c = record { state = c.on_dispatch_timer.ensures.state ∙ as_step (goal.at.returns-in-DispatchLazyPush c).Start c.in-DispatchLazyPush.is; loan = c.on_dispatch_timer.ensures.loan }
+returns-in-DispatchLazyPush c = goes (goal.at.returns-in-DispatchLazyPush c).Start c.in-DispatchLazyPush.is c.on_dispatch_timer.ensures
 
 pub returns-in-EvictCache : goal.returns-in-EvictCache
 unfolding step_state
-returns-in-EvictCache c = record { state = c.on_evict_cache_timer.ensures.state ∙ as_step (goal.at.returns-in-EvictCache c).Start c.in-EvictCache.is; loan = c.on_evict_cache_timer.ensures.loan }
+returns-in-EvictCache c = goes (goal.at.returns-in-EvictCache c).Start c.in-EvictCache.is c.on_evict_cache_timer.ensures
 
 pub returns-in-AnnounceDropped : goal.returns-in-AnnounceDropped
 unfolding step_state
-returns-in-AnnounceDropped c = record { state = c.on_announce_dropped_timer.ensures.state ∙ as_step (goal.at.returns-in-AnnounceDropped c).Start c.in-AnnounceDropped.is; loan = c.on_announce_dropped_timer.ensures.loan }
+returns-in-AnnounceDropped c = goes (goal.at.returns-in-AnnounceDropped c).Start c.in-AnnounceDropped.is c.on_announce_dropped_timer.ensures

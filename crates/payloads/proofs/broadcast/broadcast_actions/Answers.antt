@@ -2,7 +2,7 @@
 use Rattle.std.proofs.Common.{ap, sym, ◌∙◌, List, ℕ}
 use Rattle.postcard.specs.Values.{delivery_value}
 use Rattle.block.specs.View.{state_of}
-use Rattle.wire.specs.Encode.Held.{after}
+use Rattle.wire.specs.Encode.Intake.{after}
 use Rattle.steps.specs.Views.{shown}
 use Rattle.payloads.proofs.AfterLaws.{room-first, room-then, after-both}
 use Rattle.payloads.proofs.BroadcastLaws.{swarm-bytes, near-bytes}
@@ -35,4 +35,4 @@ pub returns-in-Neighbors : goal.returns-in-Neighbors
 unfolding state_of
 returns-in-Neighbors g c =
     let a = c.args in
-    c.push_sends.ensures.sent ∙ ap (λ (bs : List ℕ). after bs (g.S.Sink.held a.out.now)) (sym (near-bytes a.call.now a.message.now a.call.now.instant.0 (shown a.view.now) (ap delivery_value c.in-Neighbors.is)))
+    c.push_sends.ensures.sent ∙ ap (λ (bs : List ℕ). after bs (g.S.Sink.intake a.out.now)) (sym (near-bytes a.call.now a.message.now a.call.now.instant.0 (shown a.view.now) (ap delivery_value c.in-Neighbors.is)))

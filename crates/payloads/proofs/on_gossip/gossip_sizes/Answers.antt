@@ -17,7 +17,7 @@ overflow_add-sizes-2 c =
     let a = c.args in
     let m = a.message.now in
     let v = a.view.now in
-    omega (arith, c.len.ensures, c.to_note.ensures.few, (taken-few a.call.now.instant.0 (id_of m.id) m.content.now 0 v.head v.block.now c.taken_sizes-sizes.result (c.taken_sizes-sizes.ensures 0) v.sound).1)
+    omega (arith, c.len.ensures.value, c.to_note.ensures.few, (taken-few a.call.now.instant.0 (id_of m.id) m.content.now 0 v.head v.block.now c.taken_sizes-sizes.result (c.taken_sizes-sizes.ensures 0) v.sound).1)
 
 pub overflow_sub-sizes : goal.overflow_sub-sizes
 overflow_sub-sizes c =
@@ -38,5 +38,5 @@ returns c =
     let a = c.args in
     let m = a.message.now in
     let v = a.view.now in
-    rw c.len.ensures (sizes-are a.call.now m v.head v.block.now c.requires c.grafted_entry_then-skip.result c.grafted_entry_then-skip.ensures c.taken_sizes-sizes.result (c.taken_sizes-sizes.ensures (suc m.round.0)) c.lazy_count.result c.lazy_count.ensures.count c.to_note.result
+    rw c.len.ensures.value (sizes-are a.call.now m v.head v.block.now c.requires c.grafted_entry_then-skip.result c.grafted_entry_then-skip.ensures c.taken_sizes-sizes.result (c.taken_sizes-sizes.ensures (suc m.round.0)) c.lazy_count.result c.lazy_count.ensures.count c.to_note.result.items
     (c.to_note.ensures.noted (held_then a.call.now m v.head v.block.now c.requires) (suc m.round.0) (held-id a.call.now m v.head v.block.now c.requires)) c.is_missing.result c.is_missing.ensures c.has_timer.result c.has_timer.ensures)

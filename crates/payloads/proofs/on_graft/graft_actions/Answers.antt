@@ -10,14 +10,14 @@ use Rattle.postcard.specs.Output.{send_head}
 use Rattle.decide.specs.Settled.{settled}
 use Rattle.decide.specs.RecordGrowth.{announce_action}
 use Rattle.block.specs.LinkSteps.{peer_at}
-use Rattle.wire.specs.Encode.Held.{after}
-use Rattle.wire.proofs.EncodeLaws.HeldLaws.{after_append, after_nil, room_after}
+use Rattle.wire.specs.Encode.Intake.{after}
+use Rattle.wire.proofs.EncodeLaws.IntakeLaws.{after_append, after_nil, room_after}
 use Rattle.steps.specs.Lookups.{cached_value}
 use Rattle.steps.specs.Views.{shown}
 use Rattle.payloads.specs.OnGraft.{graft_bytes}
 use Rattle.steps.proofs.ViewLaws.{links-few}
-use Rattle.steps.specs.Rooms.{rooms_in}
 use Rattle.steps.specs.declared.view.Link.{Link}
+use Rattle.steps.specs.Calls.{rooms_of}
 use Rattle.payloads.proofs.OnGraftLaws.{no-bytes, not-there, sends}
 use Rattle.payloads.proofs.on_graft.graft_actions.Goals as goal
 use Rattle.payloads.proofs.on_graft.graft_actions.Goals.{Start}
@@ -29,17 +29,17 @@ pub returns-in_default : goal.returns-in_default
 returns-in_default g c =
     let k = c.args.call.now in
     let t = settled k.instant.0 (shown c.args.view.now) in
-    let h = g.S.Sink.held c.args.out.now in
-    sym (ap (λ (bs : List ℕ). after bs h) (ap (λ (w : Option Id). graft_bytes k c.args.link w t) c.in_default.is ∙ no-bytes (rooms_in t k.rooms.numbers.now) (peer_at t c.args.link) 0 t) ∙ after_nil h)
+    let h = g.S.Sink.intake c.args.out.now in
+    sym (ap (λ (bs : List ℕ). after bs h) (ap (λ (w : Option Id). graft_bytes k c.args.link w t) c.in_default.is ∙ no-bytes (rooms_of k t) (peer_at t c.args.link) 0 t) ∙ after_nil h)
 
 pub returns-in_default-cached_then : goal.returns-in_default-cached_then
 returns-in_default-cached_then g c =
     let k = c.args.call.now in
     let t = settled k.instant.0 (shown c.args.view.now) in
-    let h = g.S.Sink.held c.args.out.now in
+    let h = g.S.Sink.intake c.args.out.now in
     sym (ap (λ (bs : List ℕ). after bs h)
     (ap (λ (w : Option Id). graft_bytes k c.args.link w t) c.in-Some.is
-    ∙ not-there (rooms_in t k.rooms.numbers.now) (peer_at t c.args.link) (id_of c.in-Some.id) t (sym c.cached_then.ensures ∙ ap cached_value c.in_default-cached_then.is))
+    ∙ not-there (rooms_of k t) (peer_at t c.args.link) (id_of c.in-Some.id) t (sym c.cached_then.ensures ∙ ap cached_value c.in_default-cached_then.is))
     ∙ after_nil h)
 
 pub encode-requires : goal.encode-requires
@@ -59,7 +59,7 @@ encode-requires g c =
 pub schedule_announce_dropped-requires : goal.schedule_announce_dropped-requires
 schedule_announce_dropped-requires g c =
     let v = c.args.view.now in
-    let h = g.S.Sink.held c.args.out.now in
+    let h = g.S.Sink.intake c.args.out.now in
     let a = send_head c.link-peer.result.peer c.takes-taken.result ++ message_bytes (Gossip (id_of c.in-Some.id) c.in-Some-cached_then.cached.content.now (Swarm c.in-Some-cached_then.cached.round.0)) in
     let e = sends c.args.call.now c.args.link c.args.wanted c.in-Some.id c.in-Some-cached_then.cached v.head v.block.now c.link-peer.result.peer c.takes-taken.result c.cached_then.result
     c.requires.rest.0 c.requires.rest.1 c.in-Some.is c.in-Some-cached_then.is c.cached_then.ensures (ap (λ (x : Link). x.peer) c.link-peer.ensures) c.takes-taken.ensures in
@@ -68,7 +68,7 @@ schedule_announce_dropped-requires g c =
 pub returns : goal.returns
 returns g c =
     let v = c.args.view.now in
-    let h = g.S.Sink.held c.args.out.now in
+    let h = g.S.Sink.intake c.args.out.now in
     let a = send_head c.link-peer.result.peer c.takes-taken.result ++ message_bytes (Gossip (id_of c.in-Some.id) c.in-Some-cached_then.cached.content.now (Swarm c.in-Some-cached_then.cached.round.0)) in
     let b = concat_map action_bytes (announce_action (not c.takes-taken.result) v.head.live.announce_dropped_scheduled) in
     let e = sends c.args.call.now c.args.link c.args.wanted c.in-Some.id c.in-Some-cached_then.cached v.head v.block.now c.link-peer.result.peer c.takes-taken.result c.cached_then.result

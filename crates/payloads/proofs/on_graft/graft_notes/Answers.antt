@@ -34,50 +34,50 @@ pub returns-in_default-clause-notes : goal.returns-in_default-clause-notes
 returns-in_default-clause-notes c =
     let s = (goal.at.returns-in_default-clause-notes c).Start in
     let now = c.args.call.now.instant.0 in
-    as_wanted s _ 0 c.in_default.is (length-only c.args.call.now.rooms.numbers.now c.args.link (after' s) (settled-up now (st s) c.requires.0) (settled-low now (st s) c.args.link c.requires.1))
+    as_wanted s _ 0 c.in_default.is (length-only c.args.call.now c.args.link (after' s) (settled-up now (st s) c.requires.0) (settled-low now (st s) c.args.link c.requires.1))
 
 pub returns-then-is_none-clause-notes : goal.returns-then-is_none-clause-notes
 returns-then-is_none-clause-notes c =
     let s = (goal.at.returns-then-is_none-clause-notes c).Start in
     let now = c.args.call.now.instant.0 in
     as_wanted s _ 0 c.in-Some.is
-    (length-missed c.args.call.now.rooms.numbers.now c.args.link (after' s) (settled-up now (st s) c.requires.0) (settled-low now (st s) c.args.link c.requires.1) (id_of c.in-Some.id)
+    (length-missed c.args.call.now c.args.link (after' s) (settled-up now (st s) c.requires.0) (settled-low now (st s) c.args.link c.requires.1) (id_of c.in-Some.id)
     (sym c.cached_then.ensures ∙ value-missed c.cached_then.result c.is_none.result c.is_none.ensures c.if-is_none.true))
 
 pub returns-then-takes-clause-notes : goal.returns-then-takes-clause-notes
 returns-then-takes-clause-notes c =
     let s = (goal.at.returns-then-takes-clause-notes c).Start in
     let now = c.args.call.now.instant.0 in
-    let array = c.args.call.now.rooms.numbers.now in
+    let call = c.args.call.now in
     let up = settled-up now (st s) c.requires.0 in
     let low = settled-low now (st s) c.args.link c.requires.1 in
     let m = value-there c.cached_then.result c.is_none.result c.is_none.ensures c.if-is_none.false in
     as_wanted s _ 0 c.in-Some.is
-    (length-taken array c.args.link (after' s) up low (id_of c.in-Some.id) m.0 (sym c.cached_then.ensures ∙ m.1)
-    (first-taken array c.args.link (after' s) up low true (sym c.if-takes.true ∙ c.takes.ensures)))
+    (length-taken call c.args.link (after' s) up low (id_of c.in-Some.id) m.0 (sym c.cached_then.ensures ∙ m.1)
+    (first-taken call c.args.link (after' s) up low true (sym c.if-takes.true ∙ c.takes.ensures)))
 
 pub returns-then-takes_note-clause-notes : goal.returns-then-takes_note-clause-notes
 returns-then-takes_note-clause-notes c =
     let s = (goal.at.returns-then-takes_note-clause-notes c).Start in
     let now = c.args.call.now.instant.0 in
-    let array = c.args.call.now.rooms.numbers.now in
+    let call = c.args.call.now in
     let up = settled-up now (st s) c.requires.0 in
     let low = settled-low now (st s) c.args.link c.requires.1 in
     let m = value-there c.cached_then.result c.is_none.result c.is_none.ensures c.if-is_none.false in
     as_wanted s _ 1 c.in-Some.is
-    (length-noted array c.args.link (after' s) up low (id_of c.in-Some.id) m.0 (sym c.cached_then.ensures ∙ m.1)
-    (first-taken array c.args.link (after' s) up low false (sym c.if-takes.false ∙ c.takes.ensures))
+    (length-noted call c.args.link (after' s) up low (id_of c.in-Some.id) m.0 (sym c.cached_then.ensures ∙ m.1)
+    (first-taken call c.args.link (after' s) up low false (sym c.if-takes.false ∙ c.takes.ensures))
     (sym (settled-takes now (st s) c.args.link (id_of c.in-Some.id)) ∙ sym c.takes_note.ensures ∙ c.if-takes_note.true))
 
 pub returns-else-takes_note-clause-notes : goal.returns-else-takes_note-clause-notes
 returns-else-takes_note-clause-notes c =
     let s = (goal.at.returns-else-takes_note-clause-notes c).Start in
     let now = c.args.call.now.instant.0 in
-    let array = c.args.call.now.rooms.numbers.now in
+    let call = c.args.call.now in
     let up = settled-up now (st s) c.requires.0 in
     let low = settled-low now (st s) c.args.link c.requires.1 in
     let m = value-there c.cached_then.result c.is_none.result c.is_none.ensures c.if-is_none.false in
     as_wanted s _ 0 c.in-Some.is
-    (length-full array c.args.link (after' s) up low (id_of c.in-Some.id) m.0 (sym c.cached_then.ensures ∙ m.1)
-    (first-taken array c.args.link (after' s) up low false (sym c.if-takes.false ∙ c.takes.ensures))
+    (length-full call c.args.link (after' s) up low (id_of c.in-Some.id) m.0 (sym c.cached_then.ensures ∙ m.1)
+    (first-taken call c.args.link (after' s) up low false (sym c.if-takes.false ∙ c.takes.ensures))
     (sym (settled-takes now (st s) c.args.link (id_of c.in-Some.id)) ∙ sym c.takes_note.ensures ∙ c.if-takes_note.false))

@@ -1,8 +1,8 @@
 -- `graft_sizes` meets its contract: the record alone grows.
 use Rattle.std.proofs.Common.{arith, ap, sym, ◌∙◌, ◌≡◌, ◌+◌, ℕ, length}
+use Rattle.postcard.specs.Values.{wanted_value}
 use Rattle.decide.specs.Settled.{settled}
 use Rattle.decide.specs.Sizes.{sizes_of, sized_recorded}
-use Rattle.payloads.specs.OnGraft.{wanted_id}
 use Rattle.steps.specs.Views.{shown}
 use Rattle.payloads.specs.OnGraft.{after_graft}
 use Rattle.payloads.proofs.OnGraftLaws.{graft-sizes, recorded-of}
@@ -24,4 +24,4 @@ returns c =
     let n : z.dropped + c.graft_notes.result ≡ length (after_graft c.args.call.now c.args.link c.args.wanted t).dropped = omega (arith, recorded-of t z c.sizes_then-sizes.ensures, c.graft_notes.ensures.notes) in
     ap (sized_recorded (z.dropped + c.graft_notes.result)) c.sizes_then-sizes.ensures
     ∙ ap (λ (k : ℕ). sized_recorded k (sizes_of t)) n
-    ∙ sym (graft-sizes c.args.call.now.rooms.numbers.now c.args.link t (settled-up now s c.requires.0) (settled-low now s c.args.link c.requires.1) (wanted_id c.args.wanted))
+    ∙ sym (graft-sizes c.args.call.now c.args.link t (settled-up now s c.requires.0) (settled-low now s c.args.link c.requires.1) (wanted_value c.args.wanted))

@@ -2,14 +2,11 @@
 use Rattle.std.proofs.Common.{arith, true, false, ap, sym, ◌∙◌, ◌≡◌, ℕ, List}
 use mathlib.Core.Path.{subst}
 use Rattle.std.specs.Prelude.{Option, Some}
-use Rattle.std.proofs.Math.Option as math
 use Rattle.storage.specs.Rows.Ident.{id_of}
 use Rattle.storage.specs.declared.rows.id.Id.{Id}
 use Rattle.postcard.specs.declared.units.Round.{Round}
 use Rattle.protocol.specs.State.{State}
 use Rattle.time_cache.specs.TimeCache.{get}
-use Rattle.block.specs.Caches.InBlock.{InOrder}
-use Rattle.steps.proofs.StandsLaws.{in_order}
 use Rattle.steps.specs.Lookups.{RoundOf}
 use Rattle.steps.specs.Record.{Notable}
 use Rattle.protocol.specs.Whole.{fits}
@@ -28,11 +25,6 @@ found c =
     subst (λ (s : State). RoundOf c.cached_round.result (get (id_of c.in-Some.id) s.cache))
     (same-state c.add_eager.new.self c.view.result c.view.ensures.head c.view.ensures.block ∙ c.add_eager.ensures.state) c.cached_round.ensures
 
-pub cached_round-requires : goal.cached_round-requires
-cached_round-requires c =
-    subst (λ (s : State). InOrder s.cache) (sym (same-state c.add_eager.new.self c.view.result c.view.ensures.head c.view.ensures.block ∙ c.add_eager.ensures.state))
-    (in_order (state c.args.panel.now).cache c.requires.0.rest.consistent.core.cache_on)
-
 pub takes-requires : goal.takes-requires
 takes-requires c = omega (arith, c.requires.1, links-few c.args.panel.now.head c.args.panel.now.block.now c.args.panel.now.sound)
 
@@ -41,7 +33,7 @@ returns-in_default c =
     let s = state c.args.panel.now in
     let k = c.args.call.now in
     record {
-      state = c.add_eager.ensures.state ∙ sym (ap (λ (w : Option Id). after_graft k c.args.link w s) c.in_default.is ∙ graft-only k.rooms.numbers.now c.args.link s c.requires.0.rest.consistent.core.links_up c.requires.1);
+      state = c.add_eager.ensures.state ∙ sym (ap (λ (w : Option Id). after_graft k c.args.link w s) c.in_default.is ∙ graft-only k c.args.link s c.requires.0.rest.consistent.core.links_up c.requires.1);
       loan = c.add_eager.ensures.loan;
     }
 
@@ -52,13 +44,13 @@ returns-in_default-cached_round c =
     let id = id_of c.in-Some.id in
     record {
       state = c.add_eager.ensures.state ∙ sym (ap (λ (w : Option Id). after_graft k c.args.link w s) c.in-Some.is
-          ∙ graft-missed k.rooms.numbers.now c.args.link s c.requires.0.rest.consistent.core.links_up c.requires.1 id
+          ∙ graft-missed k c.args.link s c.requires.0.rest.consistent.core.links_up c.requires.1 id
           (subst (λ (r : Option Round). RoundOf r (get id s.cache)) c.in_default-cached_round.is (found (goal.at.returns-in_default-cached_round c).After-cached_round)));
       loan = c.add_eager.ensures.loan;
     }
 
 -- the message that was found, with its round
-message : (c : After-takes) → (content : List ℕ) × (get (id_of c.in-Some.id) (state c.args.panel.now).cache ≡ math.some (record { content = content; round = c.in-Some-cached_round.round.0 }))
+message : (c : After-takes) → (content : List ℕ) × (get (id_of c.in-Some.id) (state c.args.panel.now).cache ≡ Some (record { content = content; round = c.in-Some-cached_round.round.0 }))
 message c = subst (λ (r : Option Round). RoundOf r (get (id_of c.in-Some.id) (state c.args.panel.now).cache)) c.in-Some-cached_round.is (found (goal.at.After-takes c).After-cached_round)
 
 -- of what is wanted
@@ -68,36 +60,36 @@ as_wanted c = ap (λ (w : Option Id). after_graft c.args.call.now c.args.link w 
 pub note_dropped-requires : goal.note_dropped-requires
 note_dropped-requires c =
     let s = state c.args.panel.now in
-    let array = c.args.call.now.rooms.numbers.now in
+    let call = c.args.call.now in
     let up = c.requires.0.rest.consistent.core.links_up in
     let w = (goal.at.note_dropped-requires c).After-takes in
     subst (λ (u : State). Notable c.args.link (id_of c.in-Some.id) c.in-Some-cached_round.round.0 u) (sym c.add_eager.ensures.state)
-    (graft-notable array c.args.link s up c.requires.1 (id_of c.in-Some.id) _ (message w).1
-    (first-taken array c.args.link s up c.requires.1 false (sym c.if-not-takes.true ∙ c.takes.ensures))
+    (graft-notable call c.args.link s up c.requires.1 (id_of c.in-Some.id) _ (message w).1
+    (first-taken call c.args.link s up c.requires.1 false (sym c.if-not-takes.true ∙ c.takes.ensures))
     (ap fits (sym (as_wanted w)) ∙ c.requires.0.fits))
 
 pub returns-then-not-takes : goal.returns-then-not-takes
 returns-then-not-takes c =
     let s = state c.args.panel.now in
-    let array = c.args.call.now.rooms.numbers.now in
+    let call = c.args.call.now in
     let up = c.requires.0.rest.consistent.core.links_up in
     let w = (goal.at.returns-then-not-takes c).After-takes in
     record {
       state = c.note_dropped.ensures.state ∙ ap (noted_state c.args.link (id_of c.in-Some.id) c.in-Some-cached_round.round.0) c.add_eager.ensures.state
-          ∙ sym (as_wanted w ∙ graft-noted array c.args.link s up c.requires.1 (id_of c.in-Some.id) _ (message w).1
-          (first-taken array c.args.link s up c.requires.1 false (sym c.if-not-takes.true ∙ c.takes.ensures)));
+          ∙ sym (as_wanted w ∙ graft-noted call c.args.link s up c.requires.1 (id_of c.in-Some.id) _ (message w).1
+          (first-taken call c.args.link s up c.requires.1 false (sym c.if-not-takes.true ∙ c.takes.ensures)));
       loan = c.note_dropped.ensures.loan ∙ c.add_eager.ensures.loan;
     }
 
 pub returns-else-not-takes : goal.returns-else-not-takes
 returns-else-not-takes c =
     let s = state c.args.panel.now in
-    let array = c.args.call.now.rooms.numbers.now in
+    let call = c.args.call.now in
     let up = c.requires.0.rest.consistent.core.links_up in
     let w = (goal.at.returns-else-not-takes c).After-takes in
     record {
       state = c.add_eager.ensures.state
-          ∙ sym (as_wanted w ∙ graft-still array c.args.link s up c.requires.1 (id_of c.in-Some.id) _ (message w).1 c.requires.0.rest.consistent.record_flag
-          (first-taken array c.args.link s up c.requires.1 true (sym c.if-not-takes.false ∙ c.takes.ensures)));
+          ∙ sym (as_wanted w ∙ graft-still call c.args.link s up c.requires.1 (id_of c.in-Some.id) _ (message w).1 c.requires.0.rest.consistent.record_flag
+          (first-taken call c.args.link s up c.requires.1 true (sym c.if-not-takes.false ∙ c.takes.ensures)));
       loan = c.add_eager.ensures.loan;
     }

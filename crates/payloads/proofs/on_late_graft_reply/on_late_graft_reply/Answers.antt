@@ -1,7 +1,5 @@
 -- `on_late_graft_reply` meets its contract: by what the copy is.
-use Rattle.std.proofs.Common.{◌≡◌, ◌∙◌, ap, sym, refl, true, length, ◌<◌}
-use Rattle.storage.specs.Lists.Base.{ascending}
-use Rattle.storage.specs.Lists.Map.{keys}
+use Rattle.std.proofs.Common.{◌≡◌, ◌∙◌, ap, refl}
 use Rattle.storage.specs.Rows.Ident.{id_of}
 use Rattle.time_cache.specs.TimeCache.{get}
 use mathlib.Core.Path.{subst}
@@ -12,7 +10,6 @@ use Rattle.block.specs.LinkSteps.{peer_at, linked}
 use Rattle.steps.specs.Panels.{state}
 use Rattle.steps.specs.Views.{shown}
 use Rattle.steps.proofs.PanelLaws.{same-state}
-use Rattle.steps.proofs.StandsLaws.{in_order}
 use Rattle.steps.proofs.SettledLaws.ThenLaws.{settled-still}
 use Rattle.payloads.specs.OnLateGraftReply.{copy_kind, FasterAt}
 use Rattle.payloads.proofs.OnLateGraftReplyLaws.{after-duplicate, after-repeated, after-faster}
@@ -33,14 +30,6 @@ faster-is c =
     let id = id_of c.args.copy.id in
     subst (λ (u : State). FasterAt (state c.args.panel.now) id (get id u.grafted) (copy_kind c.args.copy u) c.in-Faster.entry c.in-Faster.first) (same w)
     (subst (λ (u : State). FasterAt u id (get id (settled c.args.call.now.instant.0 (shown c.view.result)).grafted) (copy_kind c.args.copy (settled c.args.call.now.instant.0 (shown c.view.result))) c.in-Faster.entry c.in-Faster.first) (shows w) c.in-Faster.ensures)
-
-pub keep_sender-requires : goal.keep_sender-requires
-keep_sender-requires c = (in_order (state c.args.panel.now).grafted c.requires.0.consistent.core.grafted_on, (faster-is (goal.at.keep_sender-requires c).In-Faster).held.below)
-
-pub add_lazy-requires : goal.add_lazy-requires
-add_lazy-requires c =
-    subst (λ (u : State). (ascending (keys u.links) ≡ true) × (c.in-Faster.first < length u.links)) (sym c.keep_sender.ensures.state)
-    (c.requires.0.consistent.core.links_up, (faster-is (goal.at.add_lazy-requires c).In-Faster).below)
 
 pub returns-in-Duplicate : goal.returns-in-Duplicate
 returns-in-Duplicate c =

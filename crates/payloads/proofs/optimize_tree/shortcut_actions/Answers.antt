@@ -1,12 +1,11 @@
 -- `shortcut_actions` meets its contract: a Prune alone, or a Graft and a Prune.
 use Rattle.std.proofs.Common.{◌∙◌, ap, sym, refl, ℕ, Bool, List, ◌++◌, length, get_or, arith}
-use Rattle.std.specs.Prelude.{leb, eqb, if◌then◌else◌}
+use Rattle.std.specs.Prelude.{leb, eqb, if◌then◌else◌, None}
 use lib.ListN.{length-append}
-use Rattle.std.proofs.Math.Option.{none}
 use Rattle.postcard.specs.Message.{Prune, Graft, message_bytes}
 use Rattle.postcard.specs.Output.{send_head}
-use Rattle.wire.specs.Encode.Held.{after}
-use Rattle.wire.proofs.EncodeLaws.HeldLaws.{after_append, room_after}
+use Rattle.wire.specs.Encode.Intake.{after}
+use Rattle.wire.proofs.EncodeLaws.IntakeLaws.{after_append, room_after}
 use Rattle.steps.specs.Views.{shown}
 use Rattle.steps.proofs.ViewLaws.{links-few}
 use Rattle.payloads.proofs.OptimizeTreeLaws.{sent-eager, sent-lazy}
@@ -16,7 +15,7 @@ abbrev Alone : ℕ → Bool → List ℕ
 Alone p t = send_head p t ++ message_bytes Prune
 
 abbrev Asked : ℕ → Bool → ℕ → List ℕ
-Asked p t r = send_head p t ++ message_bytes (Graft none r)
+Asked p t r = send_head p t ++ message_bytes (Graft None r)
 
 pub takes-requires : goal.takes-requires
 takes-requires g c = let v = c.args.view.now in omega (arith, c.requires.rest.1, links-few v.head v.block.now v.sound)
@@ -36,7 +35,7 @@ returns-then-announcer g c =
     let v = c.args.view.now in
     let r = c.args.shortcut in
     c.encode.ensures
-    ∙ ap (λ (bs : List ℕ). after bs (g.S.Sink.held c.args.out.now))
+    ∙ ap (λ (bs : List ℕ). after bs (g.S.Sink.intake c.args.out.now))
     (sym (sent-eager c.args.call.now r (shown v) c.requires.rest.0.consistent.core.links_up c.requires.rest.1 c.requires.rest.2 c.link-sender.result c.link-announcer.result c.link-sender.ensures c.link-announcer.ensures c.if-announcer.true c.takes.result c.takes.ensures))
 
 pub takes-requires-2 : goal.takes-requires-2
@@ -47,7 +46,7 @@ encode-requires-2 g c =
     let v = c.args.view.now in
     let r = c.args.shortcut in
     let a = Asked c.link-announcer.result.peer c.takes-2.result r.announcer.round.0 in
-    let u = leb (if eqb r.sender r.announcer.link then 2 else 1) (get_or c.args.call.now.rooms.numbers.now r.sender 0) in
+    let u = leb (if eqb r.sender r.announcer.link then 2 else 1) (get_or c.args.call.now.rooms.now.links r.sender 0) in
     omega (
       arith,
       c.requires.room,
@@ -62,7 +61,7 @@ pub encode-requires-3 : goal.encode-requires-3
 encode-requires-3 g c =
     let v = c.args.view.now in
     let r = c.args.shortcut in
-    let h = g.S.Sink.held c.args.out.now in
+    let h = g.S.Sink.intake c.args.out.now in
     let a = Asked c.link-announcer.result.peer c.takes-2.result r.announcer.round.0 in
     let b = Alone c.link-sender.result.peer c.takes_prune.result in
     rw c.encode-2.ensures (rw (room_after a h) (omega (
@@ -76,7 +75,7 @@ pub returns : goal.returns
 returns g c =
     let v = c.args.view.now in
     let r = c.args.shortcut in
-    let h = g.S.Sink.held c.args.out.now in
+    let h = g.S.Sink.intake c.args.out.now in
     let a = Asked c.link-announcer.result.peer c.takes-2.result r.announcer.round.0 in
     let b = Alone c.link-sender.result.peer c.takes_prune.result in
     c.encode-3.ensures ∙ ap (after b) c.encode-2.ensures ∙ after_append a b h

@@ -2,7 +2,7 @@
 use mathlib.Core.Path.{sym, ap, ◌∙◌, subst}
 use mathlib.Core.List.{List}
 use Prim.Native.Nat.{ℕ, ◌+◌, ◌*◌, ◌≤◌, ◌<◌}
-use lib.ListN.{length, set, length-set}
+use lib.ListN.{length, set}
 use Rattle.storage.specs.Rows.Part.{put}
 use Rattle.storage.specs.Rows.Digits.{le_bytes}
 use Rattle.protocol.specs.Links.{link_up}
@@ -16,26 +16,23 @@ use Rattle.steps.proofs.neighbours.insert_link.Goals as goal
 use Rattle.steps.proofs.neighbours.insert_link.Goals.{Start}
 
 -- the place is among the links or at their end, and the links are few
-room : (s : Start) → (s.args.i ≤ s.args.h.live.links) × (s.args.h.live.links < 32) × (2048 + 16 * s.args.h.live.links + 16 ≤ length s.args.block.now)
-room s = (omega (arith, s.requires.1.within, count-peers s.args.h s.args.block.now), omega (arith, s.requires.0.fit, s.requires.2), omega (arith, s.requires.0.fit, s.requires.2))
+room : (s : Start) → (s.args.i ≤ s.args.head.live.links) × (s.args.head.live.links < 32) × (2048 + 16 * s.args.head.live.links + 16 ≤ length s.args.block.now)
+room s = (omega (arith, s.requires.1.within, count-peers s.args.head s.args.block.now), omega (arith, s.requires.0.fit, s.requires.2), omega (arith, s.requires.0.fit, s.requires.2))
 
 pub raise_links-requires : goal.raise_links-requires
 raise_links-requires c = (c.requires.0, (room (goal.at.raise_links-requires c).Start).0)
 
-pub overflow_mul-a : goal.overflow_mul-a
-overflow_mul-a c = omega (arith, room (goal.at.overflow_mul-a c).Start)
+pub overflow_mul-at : goal.overflow_mul-at
+overflow_mul-at c = omega (arith, room (goal.at.overflow_mul-at c).Start)
 
-pub overflow_add-a : goal.overflow_add-a
-overflow_add-a c = omega (arith, room (goal.at.overflow_add-a c).Start)
+pub overflow_add-at : goal.overflow_add-at
+overflow_add-at c = omega (arith, room (goal.at.overflow_add-at c).Start)
 
-pub overflow_add-a-2 : goal.overflow_add-a-2
-overflow_add-a-2 c = omega (arith, room (goal.at.overflow_add-a-2 c).Start)
+pub overflow_add-at-2 : goal.overflow_add-at-2
+overflow_add-at-2 c = omega (arith, room (goal.at.overflow_add-at-2 c).Start)
 
 pub overflow_sub-n : goal.overflow_sub-n
 overflow_sub-n c = omega (arith, room (goal.at.overflow_sub-n c).Start)
-
-pub overflow_mul-n : goal.overflow_mul-n
-overflow_mul-n c = omega (arith, room (goal.at.overflow_mul-n c).Start)
 
 pub move_up-requires : goal.move_up-requires
 move_up-requires c =
@@ -43,24 +40,20 @@ move_up-requires c =
 
 pub store-requires : goal.store-requires
 store-requires c =
-    omega (arith, room (goal.at.store-requires c).Start, c.raise_links.auto.block, c.move_up.auto.b)
+    omega (arith, room (goal.at.store-requires c).Start, c.raise_links.auto.block, c.move_up.auto.bytes)
 
 pub overflow_add-block : goal.overflow_add-block
 overflow_add-block c =
     omega (arith, room (goal.at.overflow_add-block c).Start)
 
-pub bounds-block-a : goal.bounds-block-a
-bounds-block-a c =
-    omega (arith, room (goal.at.bounds-block-a c).Start, c.raise_links.auto.block, c.move_up.auto.b, c.store.auto.b)
-
-pub shape_of-block : goal.shape_of-block
-shape_of-block c =
-    length-set c.store.new.b (2048 + 16 * c.args.i + 8) 0 ∙ c.store.auto.b ∙ c.move_up.auto.b ∙ c.raise_links.auto.block
+pub bounds-block-at : goal.bounds-block-at
+bounds-block-at c =
+    omega (arith, room (goal.at.bounds-block-at c).Start, c.raise_links.auto.block, c.move_up.auto.bytes, c.store.auto.bytes)
 
 pub returns : goal.returns
 returns c =
     let a = c.args in
-    let h = a.h in
+    let h = a.head in
     let n = h.live.links in
     let xs = a.block.now in
     let at : ℕ = 2048 + 16 * a.i in

@@ -14,10 +14,10 @@ use Rattle.steps.proofs.neighbours.remove_link.Goals as goal
 pub returns : goal.returns
 returns c =
     let a = c.args in
-    let h = a.h in
+    let h = a.head in
     let xs = a.block.now in
-    let r = c.lower_links-r.result in
+    let r = c.lower_links-lowered.result in
     let n = r.live.links in
     subst (λ (zs : List ℕ). Goes (forget_peer (get_or (keys (state_of h xs).links) a.i 0)) h xs (with_link_count (n - 1) r) zs)
     (sym c.move_down.ensures)
-    (link-out h xs c.requires.1 a.i c.requires.2 r c.lower_links-r.new.block c.lower_links-r.ensures)
+    (link-out h xs c.requires.1 a.i c.requires.2 r c.lower_links-lowered.new.block c.lower_links-lowered.ensures)

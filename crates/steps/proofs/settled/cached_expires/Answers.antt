@@ -11,29 +11,23 @@ use Rattle.steps.proofs.StandsLaws.{cached-order}
 use Rattle.steps.proofs.SettledLaws.ThenLaws.{place-below, cached-time}
 use Rattle.steps.proofs.settled.cached_expires.Goals as goal
 
-pub place-p-requires : goal.place-p-requires
-place-p-requires c =
-    let h = c.args.h in
-    let xs = c.args.block.now in
-    subst (λ (t : TimeBoundCache). Lies t xs × (c.args.i < t.entries.len)) (sym c.cached_cache-c.ensures) (cached-lies h xs c.requires.0.sound.fit, c.requires.1)
-
 pub expires-requires : goal.expires-requires
 expires-requires c =
-    let h = c.args.h in
+    let h = c.args.head in
     let xs = c.args.block.now in
     let g = c.requires.0 in
-    let e = c.cached_cache-c.ensures in
-    subst (λ (t : TimeBoundCache). Lies t xs × (c.place-p.result < t.expiry.len)) (sym e) (
+    let e = c.cached_cache-cache.ensures in
+    subst (λ (t : TimeBoundCache). Lies t xs × (c.place.result < t.expiry.len)) (sym e) (
       cached-lies h xs g.sound.fit,
-      omega (arith, c.place-p.ensures ∙ ap (λ (t : TimeBoundCache). (ref_at (refs_at t xs) c.args.i).place) e, place-below (cached_cache h) xs (cached-sound h xs g.sound (cached-order h xs g)) c.args.i c.requires.1),
+      omega (arith, c.place.ensures ∙ ap (λ (t : TimeBoundCache). (ref_at (refs_at t xs) c.args.i).place) e, place-below (cached_cache h) xs (cached-sound h xs g.sound (cached-order h xs g)) c.args.i c.requires.1),
     )
 
 pub returns : goal.returns
 returns c =
-    let h = c.args.h in
+    let h = c.args.head in
     let xs = c.args.block.now in
-    let e = c.cached_cache-c.ensures in
+    let e = c.cached_cache-cache.ensures in
     c.expires.ensures
-    ∙ ap (λ (p : ℕ). (row_at (rows_at c.cached_cache-c.result xs) p).time) c.place-p.ensures
+    ∙ ap (λ (p : ℕ). (row_at (rows_at c.cached_cache-cache.result xs) p).time) c.place.ensures
     ∙ ap (λ (t : TimeBoundCache). (row_at (rows_at t xs) (ref_at (refs_at t xs) c.args.i).place).time) e
     ∙ cached-time h xs c.requires.0.sound.fit c.args.i c.requires.1

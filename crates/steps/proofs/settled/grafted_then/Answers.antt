@@ -13,14 +13,14 @@ use Rattle.steps.proofs.settled.grafted_then.Goals as goal
 
 pub held_then-requires : goal.held_then-requires
 held_then-requires c =
-    let h = c.args.h in
+    let h = c.args.head in
     let xs = c.args.block.now in
-    subst (λ (t : TimeBoundCache). Lies t xs × Sound t xs) (sym c.grafted_cache-c.ensures) (grafted-lies h xs c.requires.sound.fit, grafted-sound h xs c.requires.sound (grafted-order h xs c.requires))
+    subst (λ (t : TimeBoundCache). Lies t xs × Sound t xs) (sym c.grafted_cache-cache.ensures) (grafted-lies h xs c.requires.sound.fit, grafted-sound h xs c.requires.sound (grafted-order h xs c.requires))
 
 pub returns : goal.returns
 returns c =
-    let h = c.args.h in
+    let h = c.args.head in
     let xs = c.args.block.now in
     let k = id_of c.args.id in
     grafted-held h xs c.requires.sound.fit c.args.instant.0 k c.held_then.result
-    (subst (λ (t : TimeBoundCache). EntryIs no_held (cache_at t xs).entries k (get k (left_then h.live.init c.args.instant.0 (cache_at t xs))) c.held_then.result) c.grafted_cache-c.ensures c.held_then.ensures)
+    (subst (λ (t : TimeBoundCache). EntryIs no_held (cache_at t xs).entries k (get k (left_then h.live.init c.args.instant.0 (cache_at t xs))) c.held_then.result) c.grafted_cache-cache.ensures c.held_then.ensures)

@@ -6,12 +6,12 @@ use Rattle.steps.proofs.EvictStepLaws.{evict-lengths}
 use Rattle.steps.proofs.SettledLaws.SizeLaws.{sizes-still, sizes-evicted}
 use Rattle.steps.proofs.settled.sizes_then.Goals as goal
 
-pub returns-then-h : goal.returns-then-h
-returns-then-h c =
+pub returns-then-head : goal.returns-then-head
+returns-then-head c =
     let a = c.args in
-    c.sizes_now.ensures ∙ sym (sizes-still a.instant.0 (state_of a.h a.block.now) (init-of a.h a.block.now ∙ c.if-h.true))
+    c.sizes_now.ensures ∙ sym (sizes-still a.instant.0 (state_of a.head a.block.now) (init-of a.head a.block.now ∙ c.if-head.true))
 
 pub returns : goal.returns
 returns c =
     let a = c.args in
-    c.later_sizes.ensures ∙ evict-lengths a.instant.0 (state_of a.h a.block.now) c.requires.consistent.core ∙ sym (sizes-evicted a.instant.0 (state_of a.h a.block.now) (init-of a.h a.block.now ∙ c.if-h.false))
+    c.later_sizes.ensures ∙ evict-lengths a.instant.0 (state_of a.head a.block.now) c.requires.consistent.core ∙ sym (sizes-evicted a.instant.0 (state_of a.head a.block.now) (init-of a.head a.block.now ∙ c.if-head.false))

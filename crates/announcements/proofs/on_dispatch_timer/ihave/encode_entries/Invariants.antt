@@ -2,14 +2,14 @@
 use Rattle.std.proofs.Common.{◌≡◌, drop}
 use Rattle.storage.specs.Lists.Base.{concat_map}
 use Rattle.postcard.specs.Message.{ihave_bytes}
-use Rattle.wire.specs.Encode.Held.{after, RoomFor}
+use Rattle.wire.specs.Encode.Intake.{after, RoomFor}
 use Rattle.steps.specs.Views.{shown}
 use Rattle.announcements.specs.QueuedRows.{ihaves_at}
 use Rattle.announcements.proofs.on_dispatch_timer.ihave.encode_entries.Given as goal
 
 abbrev pub invariant-loop-row : goal.invariant-loop-row
 invariant-loop-row g l =
-    let held = g.S.Sink.held in
+    let held = g.S.Sink.intake in
     let queue = (shown l.ihave.view).queue in
     record {
       same : after (concat_map ihave_bytes (ihaves_at queue (drop l.row-index l.ihave.rows.now))) (held l.out) ≡ after (concat_map ihave_bytes (ihaves_at queue l.ihave.rows.now)) (held l.initial.out);

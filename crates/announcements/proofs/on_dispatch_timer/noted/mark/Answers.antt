@@ -30,7 +30,7 @@ loop-row-preserved c =
     let id = id_of c.recorded.result.id in
     subst (λ (n : ℕ). Covers (λ j. among j (ihaves_at ds (take (i + 1) rows))) (set c.loop-row.marks n 1)) (sym c.low.ensures)
     (covers_more c.loop-row.invariant id (λ j. among j (ihaves_at ds (take (i + 1) rows)))
-    (λ j h. ⊎_elim (λ a. inl a) (λ b. inr (b ∙ ap (λ (n : Note). n.id) (sym c.recorded.ensures)))
+    (λ j h. ⊎_elim (λ a. inl a) (λ b. inr (b ∙ ap (λ (n : Note). n.id) c.recorded.ensures.same))
     (among-known false (ihaves_at ds (take i rows)) _ j (ap (among j) (sym (at-next ds rows i c.loop-row-test.true)) ∙ h))))
 
 pub returns : goal.returns

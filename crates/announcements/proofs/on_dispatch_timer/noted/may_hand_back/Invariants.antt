@@ -4,4 +4,4 @@ use Rattle.announcements.proofs.on_dispatch_timer.noted.may_hand_back.Given as g
 
 -- the links before this one take all
 abbrev pub invariant-loop-link : goal.invariant-loop-link
-invariant-loop-link l = (k : ℕ) → k < l.link → length (shown l.view).queue ≤ get_or l.call.rooms.numbers.now k 0
+invariant-loop-link l = (k : ℕ) → k < l.link → length (shown l.view).queue ≤ get_or l.call.rooms.now.links k 0

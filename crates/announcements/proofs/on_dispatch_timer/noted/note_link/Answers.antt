@@ -1,5 +1,5 @@
 -- `note_link` meets its contract.
-use Rattle.std.proofs.Common.{◌≡◌, ℕ, List, [], ◌∷◌, ◌++◌, ◌+◌, ◌<◌, length, get_or, drop, set, sym, refl, ap, ◌∙◌, arith, true, false, ◌||◌}
+use Rattle.std.proofs.Common.{◌≡◌, ℕ, List, [], ◌∷◌, ◌++◌, ◌+◌, ◌-◌, ◌<◌, length, get_or, take, drop, set, sym, refl, ap, ◌∙◌, arith, true, false, ◌||◌}
 use mathlib.Core.Path.{subst}
 use lib.ListN.{length-map, length-append, length-drop}
 use Rattle.std.proofs.lemmas.List.Elements.{All-same, All-drop}
@@ -14,6 +14,7 @@ use Rattle.announcements.specs.Marks.{low_of, Covers}
 use Rattle.announcements.specs.QueuedRows.{held_then, ihave_of, ihaves_at, notes_at, among}
 use Rattle.announcements.proofs.OnDispatchLaws.MarkLaws.{low-in, covers-same, covers-clear}
 use Rattle.announcements.proofs.OnDispatchLaws.NotedLaws.{full-is, known, known-start, Holding, holding-start, holding-next, marked-next, grown-noted, grown-there, note-not-held, Sofar, sofar-start, sofar-next, sofar-end, sofar-full}
+use Rattle.announcements.proofs.OnDispatchLaws.RowLaws.{to-end}
 use Rattle.announcements.proofs.on_dispatch_timer.noted.note_link.Goals as goal
 use Rattle.announcements.proofs.on_dispatch_timer.noted.note_link.Goals.{After-is_full, After-low-place, then-is_still_cached, else-is_still_cached}
 
@@ -22,11 +23,15 @@ loop-row-init c =
     let s = shown c.args.view.now in
     let p = peer_at s c.args.back.now.link in
     record {
-      holding = holding-start p s.dropped s.queue c.args.recorded.now c.len-before.result c.args.noted.now c.len-before.ensures.long c.requires.recorded.mine c.requires.rows c.requires.below;
-      sofar = sofar-start p s.dropped s.queue c.args.recorded.now c.len-before.result (held_then c.args.instant.0 s) c.args.back.now.rows.now (s.dropped ++ notes_at s.queue c.args.noted.now) c.args.noted.now refl;
-      marked = covers-same c.mark.ensures (known p s.dropped s.queue c.args.recorded.now c.len-before.result c.args.noted.now)
-          (known-start p s.dropped s.queue c.args.recorded.now c.len-before.result c.args.noted.now c.len-before.ensures.long);
+      holding = holding-start p s.dropped s.queue c.args.recorded.now c.len-before.result c.args.noted.now.items c.len-before.ensures.value c.requires.recorded.mine c.requires.rows c.requires.below;
+      sofar = sofar-start p s.dropped s.queue c.args.recorded.now c.len-before.result (held_then c.args.instant.0 s) c.args.back.now.rows.now (s.dropped ++ notes_at s.queue c.args.noted.now.items) c.args.noted.now.items refl;
+      marked = covers-same c.mark.ensures (known p s.dropped s.queue c.args.recorded.now c.len-before.result c.args.noted.now.items)
+          (known-start p s.dropped s.queue c.args.recorded.now c.len-before.result c.args.noted.now.items c.len-before.ensures.value);
     }
+
+-- the rows behind the first n
+behind : (n : ℕ) (rows is : List ℕ) → rows ≡ is → take (length rows - n) (drop n rows) ≡ drop n is
+behind n rows is e = to-end n rows ∙ ap (drop n) e
 
 -- whether the record is full
 module _ (c : After-is_full) where
@@ -36,18 +41,18 @@ module _ (c : After-is_full) where
   abbrev pe : ℕ
   pe = peer_at st c.args.back.now.link
 
-  full : c.is_full.result ≡ record_full pe (st.dropped ++ notes_at st.queue c.loop-row.noted)
+  full : c.is_full.result ≡ record_full pe (st.dropped ++ notes_at st.queue c.loop-row.noted.items)
   full =
       c.is_full.ensures
-      ∙ full-is pe (length c.args.recorded.now + length c.behind-own.result.now) (c.record_len.result + c.len.result) (st.dropped ++ notes_at st.queue c.loop-row.noted)
-      (omega (arith, c.loop-row.invariant.holding.count, ap length c.behind-own.ensures, length-drop c.len-before.result c.loop-row.noted))
-      (omega (arith, c.record_len.ensures.long, c.len.ensures.long, length-append st.dropped (notes_at st.queue c.loop-row.noted), length-map c.loop-row.noted (note_at st.queue)))
+      ∙ full-is pe _ (c.record_len.result + c.len.result) (st.dropped ++ notes_at st.queue c.loop-row.noted.items)
+      (omega (arith, c.loop-row.invariant.holding.count, ap length c.as_slice.ensures.value, ap length (behind c.len-before.result _ _ c.as_slice.ensures.value), length-drop c.len-before.result c.loop-row.noted.items))
+      (omega (arith, c.record_len.ensures.long, c.len.ensures.value, length-append st.dropped (notes_at st.queue c.loop-row.noted.items), length-map c.loop-row.noted.items (note_at st.queue)))
 
 pub returns-then-is_full-clause-noted : goal.returns-then-is_full-clause-noted
 returns-then-is_full-clause-noted c =
     let s = shown c.args.view.now in
     let p = peer_at s c.args.back.now.link in
-    sofar-full p s.dropped s.queue c.args.recorded.now c.len-before.result (held_then c.args.instant.0 s) c.args.back.now.rows.now (s.dropped ++ notes_at s.queue c.args.noted.now) c.loop-row.row-index c.loop-row.noted
+    sofar-full p s.dropped s.queue c.args.recorded.now c.len-before.result (held_then c.args.instant.0 s) c.args.back.now.rows.now (s.dropped ++ notes_at s.queue c.args.noted.now.items) c.loop-row.row-index c.loop-row.noted.items
     c.loop-row.invariant.sofar (sym (full (goal.at.returns-then-is_full-clause-noted c).After-is_full) ∙ c.if-is_full.true)
 
 pub bounds-marks-place : goal.bounds-marks-place
@@ -59,7 +64,7 @@ bounds-marks-place-then-is_still_cached c = subst (λ (n : ℕ). n < 4096) (sym 
 pub is_there-requires-clause-noted : goal.is_there-requires-clause-noted
 is_there-requires-clause-noted c =
     let q = (shown c.args.view.now).queue in
-    All-same (λ i. i < length q) c.behind-own.result.now (drop c.len-before.result c.loop-row.noted) c.behind-own.ensures (All-drop (λ i. i < length q) c.len-before.result c.loop-row.noted c.loop-row.invariant.holding.among)
+    All-same (λ i. i < length q) _ (drop c.len-before.result c.loop-row.noted.items) (behind c.len-before.result _ _ c.as_slice.ensures.value) (All-drop (λ i. i < length q) c.len-before.result c.loop-row.noted.items c.loop-row.invariant.holding.among)
 
 -- the row
 module _ (c : After-low-place) where
@@ -84,8 +89,12 @@ module _ (c : After-low-place) where
   id-is : id_of c.queued.result.id ≡ x.id
   id-is = ap (λ (n : Note). n.id) c.queued.ensures
 
-  known-is : (among (id_of c.queued.result.id) (ihaves_at s.dropped c.args.recorded.now) || among (id_of c.queued.result.id) (ihaves_at s.queue c.behind-own.result.now)) ≡ known p s.dropped s.queue c.args.recorded.now c.len-before.result c.loop-row.noted x.id
-  known-is = λ i. among (id-is i) (ihaves_at s.dropped c.args.recorded.now) || among (id-is i) (ihaves_at s.queue (c.behind-own.ensures i))
+  -- the rows that are noted for this link so far
+  abbrev added : List ℕ
+  added = take (length c.as_slice.result.now - c.len-before.result) (drop c.len-before.result c.as_slice.result.now)
+
+  known-is : (among (id_of c.queued.result.id) (ihaves_at s.dropped c.args.recorded.now) || among (id_of c.queued.result.id) (ihaves_at s.queue added)) ≡ known p s.dropped s.queue c.args.recorded.now c.len-before.result c.loop-row.noted.items x.id
+  known-is = λ i. among (id-is i) (ihaves_at s.dropped c.args.recorded.now) || among (id-is i) (ihaves_at s.queue (behind c.len-before.result _ _ c.as_slice.ensures.value i))
 
   low-is : c.low-place.result ≡ low_of x.id
   low-is = c.low-place.ensures ∙ ap low_of id-is
@@ -94,7 +103,7 @@ module _ (c : After-low-place) where
   abbrev Keeps : List ℕ → List ℕ → Type 0
   Keeps rows marks = record {
     holding : Holding p s.dropped s.queue c.args.recorded.now c.len-before.result rows;
-    sofar : Sofar p s.dropped s.queue c.args.recorded.now c.len-before.result (held_then c.args.instant.0 s) c.args.back.now.rows.now (s.dropped ++ notes_at s.queue c.args.noted.now) (c.loop-row.row-index + 1) rows;
+    sofar : Sofar p s.dropped s.queue c.args.recorded.now c.len-before.result (held_then c.args.instant.0 s) c.args.back.now.rows.now (s.dropped ++ notes_at s.queue c.args.noted.now.items) (c.loop-row.row-index + 1) rows;
     marked : Covers (known p s.dropped s.queue c.args.recorded.now c.len-before.result rows) marks;
   }
 
@@ -105,31 +114,31 @@ is_there-requires-clause-clear c = λ z.
 
 -- a row that is not noted
 module _ (c : After-low-place) where
-  still : add_note (held_then c.args.instant.0 (s c)) (p c) (ihave_of (x c)) ((s c).dropped ++ notes_at (s c).queue c.loop-row.noted) ≡ (s c).dropped ++ notes_at (s c).queue c.loop-row.noted → Keeps c c.loop-row.noted c.loop-row.marks
+  still : add_note (held_then c.args.instant.0 (s c)) (p c) (ihave_of (x c)) ((s c).dropped ++ notes_at (s c).queue c.loop-row.noted.items) ≡ (s c).dropped ++ notes_at (s c).queue c.loop-row.noted.items → Keeps c c.loop-row.noted.items c.loop-row.marks
   still e = record {
     holding = c.loop-row.invariant.holding;
-    sofar = sofar-next (p c) (s c).dropped (s c).queue c.args.recorded.now c.len-before.result (held_then c.args.instant.0 (s c)) c.args.back.now.rows.now ((s c).dropped ++ notes_at (s c).queue c.args.noted.now) c.loop-row.row-index c.loop-row.noted c.loop-row.noted
+    sofar = sofar-next (p c) (s c).dropped (s c).queue c.args.recorded.now c.len-before.result (held_then c.args.instant.0 (s c)) c.args.back.now.rows.now ((s c).dropped ++ notes_at (s c).queue c.args.noted.now.items) c.loop-row.row-index c.loop-row.noted.items c.loop-row.noted.items
         c.loop-row-test.true c.loop-row.invariant.sofar e;
     marked = c.loop-row.invariant.marked;
   }
 
   -- one that is noted
-  more : record_full (p c) ((s c).dropped ++ notes_at (s c).queue c.loop-row.noted) ≡ false → held_then c.args.instant.0 (s c) (x c).id ≡ true → known (p c) (s c).dropped (s c).queue c.args.recorded.now c.len-before.result c.loop-row.noted (x c).id ≡ false
-      → Keeps c (c.loop-row.noted ++ (r c ∷ [])) (set c.loop-row.marks c.low-place.result 1)
+  more : record_full (p c) ((s c).dropped ++ notes_at (s c).queue c.loop-row.noted.items) ≡ false → held_then c.args.instant.0 (s c) (x c).id ≡ true → known (p c) (s c).dropped (s c).queue c.args.recorded.now c.len-before.result c.loop-row.noted.items (x c).id ≡ false
+      → Keeps c (c.loop-row.noted.items ++ (r c ∷ [])) (set c.loop-row.marks c.low-place.result 1)
   more f h k = record {
-    holding = holding-next (p c) (s c).dropped (s c).queue c.args.recorded.now c.len-before.result c.loop-row.noted c.loop-row.invariant.holding (r c) (there c) (own c);
-    sofar = sofar-next (p c) (s c).dropped (s c).queue c.args.recorded.now c.len-before.result (held_then c.args.instant.0 (s c)) c.args.back.now.rows.now ((s c).dropped ++ notes_at (s c).queue c.args.noted.now) c.loop-row.row-index c.loop-row.noted (c.loop-row.noted ++ (r c ∷ []))
+    holding = holding-next (p c) (s c).dropped (s c).queue c.args.recorded.now c.len-before.result c.loop-row.noted.items c.loop-row.invariant.holding (r c) (there c) (own c);
+    sofar = sofar-next (p c) (s c).dropped (s c).queue c.args.recorded.now c.len-before.result (held_then c.args.instant.0 (s c)) c.args.back.now.rows.now ((s c).dropped ++ notes_at (s c).queue c.args.noted.now.items) c.loop-row.row-index c.loop-row.noted.items (c.loop-row.noted.items ++ (r c ∷ []))
         c.loop-row-test.true c.loop-row.invariant.sofar
-        (grown-noted (p c) (s c).dropped (s c).queue c.args.recorded.now c.len-before.result c.loop-row.noted c.loop-row.invariant.holding (r c) (there c) (own c) (held_then c.args.instant.0 (s c)) f h k);
-    marked = subst (λ (n : ℕ). Covers (known (p c) (s c).dropped (s c).queue c.args.recorded.now c.len-before.result (c.loop-row.noted ++ (r c ∷ []))) (set c.loop-row.marks n 1)) (sym (low-is c))
-        (marked-next (p c) (s c).dropped (s c).queue c.args.recorded.now c.len-before.result c.loop-row.noted c.loop-row.invariant.holding (r c) (there c) (own c) c.loop-row.invariant.marked);
+        (grown-noted (p c) (s c).dropped (s c).queue c.args.recorded.now c.len-before.result c.loop-row.noted.items c.loop-row.invariant.holding (r c) (there c) (own c) (held_then c.args.instant.0 (s c)) f h k);
+    marked = subst (λ (n : ℕ). Covers (known (p c) (s c).dropped (s c).queue c.args.recorded.now c.len-before.result (c.loop-row.noted.items ++ (r c ∷ []))) (set c.loop-row.marks n 1)) (sym (low-is c))
+        (marked-next (p c) (s c).dropped (s c).queue c.args.recorded.now c.len-before.result c.loop-row.noted.items c.loop-row.invariant.holding (r c) (there c) (own c) c.loop-row.invariant.marked);
   }
 
 pub loop-row-preserved-then-is_there : goal.loop-row-preserved-then-is_there
 loop-row-preserved-then-is_there c =
     let w = (goal.at.loop-row-preserved-then-is_there c).After-low-place in
     still w
-    (grown-there (p w) (s w).dropped (s w).queue c.args.recorded.now c.len-before.result c.loop-row.noted c.loop-row.invariant.holding (r w) (there w) (own w) (held_then c.args.instant.0 (s w)) (sym (known-is w) ∙ sym c.is_there.ensures ∙ c.if-is_there.true))
+    (grown-there (p w) (s w).dropped (s w).queue c.args.recorded.now c.len-before.result c.loop-row.noted.items c.loop-row.invariant.holding (r w) (there w) (own w) (held_then c.args.instant.0 (s w)) (sym (known-is w) ∙ sym c.is_there.ensures ∙ c.if-is_there.true))
 
 pub loop-row-preserved : goal.loop-row-preserved
 loop-row-preserved c =
@@ -137,18 +146,18 @@ loop-row-preserved c =
     let held = held_then c.args.instant.0 (s w) in
     elim c.if-is_still_cached.branch [
       | then-is_still_cached b ↦
-          rw (b.noted-is ∙ b.push.ensures, b.marks-is)
+          rw (b.noted-is, b.push.ensures.items, b.marks-is)
           (more w
           (sym (full ((goal.at.After-low-place w).After-is_full)) ∙ c.if-is_full.false)
           (ap held (sym (id-is w)) ∙ sym c.is_still_cached.ensures ∙ b.if-is_still_cached.true)
           (sym (known-is w) ∙ sym c.is_there.ensures ∙ c.if-is_there.false))
       | else-is_still_cached b ↦
           rw (b.noted-is, b.marks-is)
-          (still w (note-not-held held (p w) (ihave_of (x w)) ((s w).dropped ++ notes_at (s w).queue c.loop-row.noted) (ap held (sym (id-is w)) ∙ sym c.is_still_cached.ensures ∙ b.if-is_still_cached.false)))
+          (still w (note-not-held held (p w) (ihave_of (x w)) ((s w).dropped ++ notes_at (s w).queue c.loop-row.noted.items) (ap held (sym (id-is w)) ∙ sym c.is_still_cached.ensures ∙ b.if-is_still_cached.false)))
     ]
 
 pub returns-clause-noted : goal.returns-clause-noted
 returns-clause-noted c =
     let s = shown c.args.view.now in
     let p = peer_at s c.args.back.now.link in
-    sofar-end p s.dropped s.queue c.args.recorded.now c.len-before.result (held_then c.args.instant.0 s) c.args.back.now.rows.now (s.dropped ++ notes_at s.queue c.args.noted.now) c.loop-row.row-index c.loop-row.noted c.loop-row-test.false c.loop-row.invariant.sofar
+    sofar-end p s.dropped s.queue c.args.recorded.now c.len-before.result (held_then c.args.instant.0 s) c.args.back.now.rows.now (s.dropped ++ notes_at s.queue c.args.noted.now.items) c.loop-row.row-index c.loop-row.noted.items c.loop-row-test.false c.loop-row.invariant.sofar

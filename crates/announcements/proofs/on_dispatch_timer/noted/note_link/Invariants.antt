@@ -12,7 +12,7 @@ invariant-loop-row l =
     let s = shown l.view in
     let p = peer_at s l.back.link in
     record {
-      holding : Holding p s.dropped s.queue l.recorded l.before l.noted;
-      sofar : Sofar p s.dropped s.queue l.recorded l.before (held_then l.instant.0 s) l.back.rows.now (s.dropped ++ notes_at s.queue l.fn.noted) l.row-index l.noted;
-      marked : Covers (known p s.dropped s.queue l.recorded l.before l.noted) l.marks;
+      holding : Holding p s.dropped s.queue l.recorded l.before l.noted.items;
+      sofar : Sofar p s.dropped s.queue l.recorded l.before (held_then l.instant.0 s) l.back.rows.now (s.dropped ++ notes_at s.queue l.fn.noted.items) l.row-index l.noted.items;
+      marked : Covers (known p s.dropped s.queue l.recorded l.before l.noted.items) l.marks;
     }

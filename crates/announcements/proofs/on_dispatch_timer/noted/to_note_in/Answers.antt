@@ -1,7 +1,6 @@
 -- `to_note_in` meets its contract.
 use Rattle.std.proofs.Common.{◌≡◌, ℕ, List, ◌-◌, ◌*◌, ◌<◌, length, get_or, take, drop, min, append-nil, sym, ap, ◌∙◌, arith}
 use Rattle.std.specs.Prelude.{All}
-use Rattle.std.proofs.lemmas.List.{drop_all}
 use Rattle.std.proofs.lemmas.List.Elements.{All-nil, All-same, All-drop}
 use lib.ListN.{length-map}
 use Rattle.postcard.specs.Message.{Ihave}
@@ -15,7 +14,7 @@ use Rattle.steps.proofs.RowLaws.{queue-few, record-few, per-message}
 use Rattle.steps.proofs.ViewLaws.{links-few}
 use Rattle.announcements.specs.QueuedRows.{held_then, ihave_of, ihaves_at, Mine}
 use Rattle.announcements.proofs.OnDispatchLaws.QueueLaws.{queued-few}
-use Rattle.announcements.proofs.OnDispatchLaws.BatchLaws.{k, Earlier, after, back, after-none, after-more, after-all, after-same, back-rows, earlier-below, earlier-later, earlier-next}
+use Rattle.announcements.proofs.OnDispatchLaws.BatchLaws.{k, Earlier, after, back, after-none, after-more, after-all, all-taken, back-rows, earlier-below, earlier-later, earlier-next}
 use Rattle.announcements.proofs.OnDispatchLaws.LinkRows.{column-long, below-links, mine, own-peer}
 use Rattle.announcements.proofs.OnDispatchLaws.RowLaws.{to-end}
 use Rattle.announcements.proofs.on_dispatch_timer.noted.to_note_in.Goals as goal
@@ -48,7 +47,7 @@ loop-link-init c =
     let v = c.args.view.now in
     let s = shown v in
     rw c.requires.none (record {
-      sofar = after-none (held_then c.args.call.now.instant.0 s) c.args.call.now.rooms.numbers.now s c.requires.rest (queue-few v.head v.block.now v.sound) ∙ sym (append-nil s.dropped);
+      sofar = after-none (held_then c.args.call.now.instant.0 s) c.args.call.now s c.requires.rest (queue-few v.head v.block.now v.sound) ∙ sym (append-nil s.dropped);
       among = All-nil (λ i. i < length s.queue);
       earlier = All-nil (Earlier s 0);
     })
@@ -128,33 +127,33 @@ pub note_link-requires-clause-below : goal.note_link-requires-clause-below
 note_link-requires-clause-below c =
     let w = (goal.at.note_link-requires-clause-below c).After-link_rows-recorded in
     let v = c.args.view.now in
-    earlier-below (held_then c.args.call.now.instant.0 (s w)) c.args.call.now.rooms.numbers.now (s w) c.requires.rest (queue-few v.head v.block.now v.sound) c.loop-link.link (l-low w) c.loop-link.noted c.loop-link.invariant.earlier
+    earlier-below (held_then c.args.call.now.instant.0 (s w)) c.args.call.now (s w) c.requires.rest (queue-few v.head v.block.now v.sound) c.loop-link.link (l-low w) c.loop-link.noted.items c.loop-link.invariant.earlier
 
 pub loop-link-preserved : goal.loop-link-preserved
 loop-link-preserved c =
     let w = (goal.at.loop-link-preserved c).After-link_rows-recorded in
     let v = c.args.view.now in
     let held = held_then c.args.call.now.instant.0 (s w) in
-    let array = c.args.call.now.rooms.numbers.now in
+    let call = c.args.call.now in
     let few = queue-few v.head v.block.now v.sound in
     let l = c.loop-link.link in
     let rows = c.link_rows-queued.result.now in
     let n = c.taken-taken.result in
-    let taken : n ≡ min (get_or array l 0 * k (s w)) (length rows) = c.taken-taken.ensures ∙ ap (λ (m : ℕ). min (get_or array l 0 * m) (length rows)) c.per_message-per_message.ensures in
-    let is : ihaves_at (s w).queue (drop n rows) ≡ back held array (s w) (peer_at (s w) l) = back-rows held array (s w) c.requires.rest few l (l-low w) rows (queued-mine w).mine n taken in
+    let taken : n ≡ min (get_or call.rooms.now.links l 0 * k (s w)) (length rows) = c.taken-taken.ensures ∙ ap (λ (m : ℕ). min (get_or call.rooms.now.links l 0 * m) (length rows)) c.per_message-per_message.ensures in
+    let is : ihaves_at (s w).queue (drop n rows) ≡ back held call (s w) (peer_at (s w) l) = back-rows held call (s w) c.requires.rest few l (l-low w) rows (queued-mine w).mine n taken in
     elim c.if-taken-queued.branch [
       | then-taken-queued b ↦ rw b.noted-is (record {
-        sofar = after-more held array (s w) c.requires.rest few l (l-low w)
-            ∙ ap (λ (hs : List Ihave). add_notes held (peer_at (s w) l) hs (after held array (s w) l)) (sym is ∙ ap (ihaves_at (s w).queue) (sym (to-end n rows)))
+        sofar = after-more held call (s w) c.requires.rest few l (l-low w)
+            ∙ ap (λ (hs : List Ihave). add_notes held (peer_at (s w) l) hs (after held call (s w) l)) (sym is ∙ ap (ihaves_at (s w).queue) (sym (to-end n rows)))
             ∙ ap (add_notes held (peer_at (s w) l) (ihaves_at (s w).queue (take (length rows - n) (drop n rows)))) c.loop-link.invariant.sofar
             ∙ b.note_link.ensures.noted;
         among = b.note_link.ensures.rows;
-        earlier = earlier-next held array (s w) c.requires.rest few l (l-low w) b.note_link.new.noted b.note_link.ensures.upto;
+        earlier = earlier-next held call (s w) c.requires.rest few l (l-low w) b.note_link.new.noted.items b.note_link.ensures.upto;
       })
       | else-taken-queued b ↦ rw b.noted-is (record {
-        sofar = after-same held array (s w) c.requires.rest few l (l-low w) (sym is ∙ ap (ihaves_at (s w).queue) (drop_all n rows (omega (arith, b.if-taken-queued.false)))) ∙ c.loop-link.invariant.sofar;
+        sofar = all-taken held call (s w) c.requires.rest few l (l-low w) rows (queued-mine w).mine n taken (omega (arith, b.if-taken-queued.false)) ∙ c.loop-link.invariant.sofar;
         among = c.loop-link.invariant.among;
-        earlier = earlier-later held array (s w) c.requires.rest few l (l-low w) c.loop-link.noted c.loop-link.invariant.earlier;
+        earlier = earlier-later held call (s w) c.requires.rest few l (l-low w) c.loop-link.noted.items c.loop-link.invariant.earlier;
       })
     ]
 
@@ -162,5 +161,20 @@ pub returns-clause-noted : goal.returns-clause-noted
 returns-clause-noted c =
     let v = c.args.view.now in
     let s = shown v in
-    sym (after-all (held_then c.args.call.now.instant.0 s) c.args.call.now.rooms.numbers.now s c.requires.rest (queue-few v.head v.block.now v.sound) c.loop-link.link (omega (arith, c.loop-link-test.false, c.link_count-link-end.ensures)))
+    sym (after-all (held_then c.args.call.now.instant.0 s) c.args.call.now s c.requires.rest (queue-few v.head v.block.now v.sound) c.loop-link.link (omega (arith, c.loop-link-test.false, c.link_count-link-end.ensures)))
     ∙ c.loop-link.invariant.sofar
+
+-- what the first pass over the links is told of the rows
+pub is_handed_back-requires-clause-mine : goal.is_handed_back-requires-clause-mine
+is_handed_back-requires-clause-mine c = λ l q.
+    let v = c.args.view.now in
+    let few = links-few v.head v.block.now v.sound in (
+      apart_of c.group-queue.ensures.grouped l (omega (arith, q, few)),
+      mine (shown v) (shown v).queue c.queue_links.result.now c.queue_links.ensures c.requires.rest.consistent.core.links_up l q c.group-queue.new.rows c.group-queue.result c.group-queue.ensures.grouped few,
+    )
+
+-- nothing is handed back
+pub returns-then-not-is_handed_back-clause-noted : goal.returns-then-not-is_handed_back-clause-noted
+returns-then-not-is_handed_back-clause-noted c =
+    let s = shown c.args.view.now in
+    rw c.requires.none (c.is_handed_back.ensures c.if-not-is_handed_back.true ∙ sym (append-nil s.dropped))

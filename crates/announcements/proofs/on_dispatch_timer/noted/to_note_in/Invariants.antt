@@ -10,7 +10,7 @@ abbrev pub invariant-loop-link : goal.invariant-loop-link
 invariant-loop-link l =
     let s = shown l.view in
     record {
-      sofar : after (held_then l.call.instant.0 s) l.call.rooms.numbers.now s l.link ≡ s.dropped ++ notes_at s.queue l.noted;
-      among : RowsOf s.queue l.noted;
-      earlier : All (Earlier s l.link) l.noted;
+      sofar : after (held_then l.call.instant.0 s) l.call s l.link ≡ s.dropped ++ notes_at s.queue l.noted.items;
+      among : RowsOf s.queue l.noted.items;
+      earlier : All (Earlier s l.link) l.noted.items;
     }

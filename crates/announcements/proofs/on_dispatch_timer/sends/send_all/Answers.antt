@@ -54,8 +54,8 @@ loop-link-init g c =
     let s = shown v in
     let call = c.args.call.now in
     let now = call.instant.0 in
-    going_start (held_then now s) (rooms_of call s) (per_message s.settings.max_message_size) s.queue (dispatch_bytes call (settled now s)) (g.S.Sink.held c.args.out.now) (keys s.links) s.timers.announce
-    (ap (λ (rooms : List Room). concat_map action_bytes (dispatch_actions rooms (settled now s))) (same-rooms-in (settled now s) s call.rooms.numbers.now (ap (λ (l : Links). keys l) (same_links now s)))
+    going_start (held_then now s) (rooms_of call s) (per_message s.settings.max_message_size) s.queue (dispatch_bytes call (settled now s)) (g.S.Sink.intake c.args.out.now) (keys s.links) s.timers.announce
+    (ap (λ (rooms : List Room). concat_map action_bytes (dispatch_actions rooms (settled now s))) (same-rooms-in (settled now s) s call.peer call.rooms.now (ap (λ (l : Links). keys l) (same_links now s)))
     ∙ ap (concat_map action_bytes) (all-actions v.head v.block.now (stands g ((goal.at.loop-link-init g c).Start)) now (rooms_of call s)))
 
 -- the next link
@@ -92,7 +92,7 @@ send_link-flag-requires-clause-room g c =
 pub loop-link-preserved : goal.loop-link-preserved
 loop-link-preserved g c =
     let n = (goal.at.loop-link-preserved g c).In-loop-link in
-    going_next (drop c.loop-link.link (keys (s g n).links)) c.loop-link.invariant (peer_at (s g n) c.loop-link.link) (drop (c.loop-link.link + 1) (keys (s g n).links)) (next-is g n) (g.S.Sink.held c.send_link-flag.new.out) c.send_link-flag.result c.send_link-flag.ensures.sent c.send_link-flag.ensures.flags
+    going_next (drop c.loop-link.link (keys (s g n).links)) c.loop-link.invariant (peer_at (s g n) c.loop-link.link) (drop (c.loop-link.link + 1) (keys (s g n).links)) (next-is g n) (g.S.Sink.intake c.send_link-flag.new.out) c.send_link-flag.result c.send_link-flag.ensures.sent c.send_link-flag.ensures.flags
 
 pub returns : goal.returns
 returns g c =

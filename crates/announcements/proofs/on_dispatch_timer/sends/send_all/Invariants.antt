@@ -13,4 +13,4 @@ use Rattle.announcements.proofs.on_dispatch_timer.sends.send_all.Given as goal
 abbrev pub invariant-loop-link : goal.invariant-loop-link
 invariant-loop-link g l =
     let s = shown l.view in
-    Going (held_then l.call.instant.0 s) (rooms_of l.call s) (per_message s.settings.max_message_size) s.queue (dispatch_bytes l.call (settled l.call.instant.0 s)) (g.S.Sink.held l.initial.out) (g.S.Sink.held l.out) (drop l.link (keys s.links)) l.flag
+    Going (held_then l.call.instant.0 s) (rooms_of l.call s) (per_message s.settings.max_message_size) s.queue (dispatch_bytes l.call (settled l.call.instant.0 s)) (g.S.Sink.intake l.initial.out) (g.S.Sink.intake l.out) (drop l.link (keys s.links)) l.flag

@@ -11,7 +11,7 @@ encode-requires g c =
     let m = c.args.send.now in
     let held = held_then c.args.instant.0 (shown m.message.view) in
     let hs = ihaves_at (shown m.message.view).queue m.message.rows.now in
-    let x = g.S.Sink.held c.args.out.now in send-room held m.taken c.args.flag m.peer hs x x c.requires.room
+    let x = g.S.Sink.intake c.args.out.now in send-room held m.taken c.args.flag m.peer hs x x c.requires.room
 
 pub returns-then-is_quiet-clause-sent : goal.returns-then-is_quiet-clause-sent
 returns-then-is_quiet-clause-sent g c =

@@ -60,7 +60,7 @@ loop-rows-init g c =
       size,
       rw rows c.requires.mine.among,
       omega (arith, ap length rows),
-      rw (rows, c.requires.mine.mine) (link_start held rooms q k s.queue a.before (g.S.Sink.held a.out.now) (queued-few q s.queue)),
+      rw (rows, c.requires.mine.mine) (link_start held rooms q k s.queue a.before (g.S.Sink.intake a.out.now) (queued-few q s.queue)),
     )
 
 -- the next piece
@@ -90,12 +90,12 @@ module _ (g : Over) (c : In-Some g) where
   sent-few = omega (arith, c.loop-rows.invariant.4, c.in-Some.ensures.steps.1.2, rows-few g ((goal.at.In-Some g c).Start))
 
   abbrev taken : Bool
-  taken = ltb c.loop-rows.sent (get_or c.args.call.now.rooms.numbers.now c.args.queued.now.link 0)
+  taken = ltb c.loop-rows.sent (get_or c.args.call.now.rooms.now.links c.args.queued.now.link 0)
 
   taken-is : taken ≡ kth_taken (c.loop-rows.sent + 1) (peer_at s c.args.queued.now.link) (rooms_of c.args.call.now s)
   taken-is =
-      later-than c.loop-rows.sent (get_or c.args.call.now.rooms.numbers.now c.args.queued.now.link 0)
-      ∙ sym (kth-link s c.args.call.now.rooms.numbers.now (c.loop-rows.sent + 1) c.args.queued.now.link c.requires.rest.consistent.core.links_up c.requires.link (omega (arith, sent-few)))
+      later-than c.loop-rows.sent (get_or c.args.call.now.rooms.now.links c.args.queued.now.link 0)
+      ∙ sym (kth-link s c.args.call.now.peer c.args.call.now.rooms.now (c.loop-rows.sent + 1) c.args.queued.now.link c.requires.rest.consistent.core.links_up c.requires.link (omega (arith, sent-few)))
 
 pub invariant_of-message : goal.invariant_of-message
 invariant_of-message g c = record { queued = piece-rows (shown c.args.view.now).queue _ _ _ _ (parts g (goal.at.invariant_of-message g c).In-Some) (size g (goal.at.invariant_of-message g c).In-Some) c.loop-rows.invariant.3 }
@@ -122,7 +122,7 @@ loop-rows-preserved g c =
       c.in-Some.ensures.steps.0 ∙ c.loop-rows.invariant.2,
       rest-rows s.queue (k g n) _ _ _ (parts g n) (size g n) c.loop-rows.invariant.3,
       omega (arith, c.loop-rows.invariant.4, ap length (parts g n), length-append c.in-Some.rows.now (chunks_rest c.next.new.self), size g n, one g n, c.in-Some.ensures.steps.1.2),
-      link-next c.loop-rows.invariant.5 (taken g n) (some g n) (one g n) (taken-is g n) (g.S.Sink.held c.send_ihave-flag.new.out) c.send_ihave-flag.result (ihaves_at s.queue (chunks_rest c.next.new.self))
+      link-next c.loop-rows.invariant.5 (taken g n) (some g n) (one g n) (taken-is g n) (g.S.Sink.intake c.send_ihave-flag.new.out) c.send_ihave-flag.result (ihaves_at s.queue (chunks_rest c.next.new.self))
           (rw (sym q, sym e) c.send_ihave-flag.ensures.sent) (rw (sym e) c.send_ihave-flag.ensures.flags) (piece-rest s.queue (k g n) _ _ _ (parts g n) (size g n)),
     )
 

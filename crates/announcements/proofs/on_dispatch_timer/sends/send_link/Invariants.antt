@@ -24,5 +24,5 @@ invariant-loop-rows g l =
     × (chunks_size l.rows-iterator ≡ k)
     × RowsOf s.queue (chunks_rest l.rows-iterator)
     × (l.sent + length (chunks_rest l.rows-iterator) ≤ length l.queued.rows.now)
-    × Linking held rooms p k (concat_map action_bytes (piece_actions held rooms l.fn.before (peer_pieces k s.queue p))) (flag_after_all held rooms l.fn.before (peer_pieces k s.queue p)) (g.S.Sink.held l.initial.out) (g.S.Sink.held l.out)
+    × Linking held rooms p k (concat_map action_bytes (piece_actions held rooms l.fn.before (peer_pieces k s.queue p))) (flag_after_all held rooms l.fn.before (peer_pieces k s.queue p)) (g.S.Sink.intake l.initial.out) (g.S.Sink.intake l.out)
     (ihaves_at s.queue (chunks_rest l.rows-iterator)) (l.sent + 1) l.flag

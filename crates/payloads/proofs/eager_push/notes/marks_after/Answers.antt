@@ -32,7 +32,7 @@ loop-i-preserved c =
     let is-for : eqb e.peer (peer_at s x) ≡ true = eq-eqb e.peer (peer_at s x) k.peer in
     elim c.if-marks-link-lt-MAX_DROPPED_PER_PEER.branch [
       | then-marks-link-lt-MAX_DROPPED_PER_PEER w ↦
-          let same = λ (b : Bool). λ (q : w.same-same.result ≡ b). ap (λ (n : Note). eqb n.id id) w.dropped_at-noted.ensures.same ∙ sym w.same-same.ensures ∙ q in
+          let same = λ (b : Bool). λ (q : w.eq-same.result ≡ b). ap (λ (n : Note). eqb n.id id) w.dropped_at-noted.ensures.same ∙ sym w.eq-same.ensures ∙ q in
           rw w.marks-is (
             length-set l.marks x w.if-same.marks ∙ l.invariant.0,
             seen-set v.head v.block.now up id c.args.from l.marks l.i x here k.below k.peer l.invariant.1 w.if-same.marks long

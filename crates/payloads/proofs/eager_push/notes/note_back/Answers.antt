@@ -13,10 +13,10 @@ use Rattle.payloads.proofs.eager_push.notes.note_back.Goals.{After-to_note-noted
 
 -- what is noted, of the panel
 noted : (c : After-to_note-noted) →
-    let s = state c.args.panel.now in record_back (cached_in s.cache) c.args.call.now c.args.push.now (id_of c.args.id) c.args.round.0 s ≡ with_these c.to_note-noted.result (id_of c.args.id) c.args.round.0 s
+    let s = state c.args.panel.now in record_back (cached_in s.cache) c.args.call.now c.args.push.now (id_of c.args.id) c.args.round.0 s ≡ with_these c.to_note-noted.result.items (id_of c.args.id) c.args.round.0 s
 noted c =
     let s = state c.args.panel.now in
-    subst (λ (t : State). record_back (cached_in s.cache) c.args.call.now c.args.push.now (id_of c.args.id) c.args.round.0 t ≡ with_these c.to_note-noted.result (id_of c.args.id) c.args.round.0 t)
+    subst (λ (t : State). record_back (cached_in s.cache) c.args.call.now c.args.push.now (id_of c.args.id) c.args.round.0 t ≡ with_these c.to_note-noted.result.items (id_of c.args.id) c.args.round.0 t)
     (same-state c.args.panel.now c.view.result c.view.ensures.head c.view.ensures.block) (c.to_note-noted.ensures.noted (cached_in s.cache) c.args.round.0 c.requires.cached)
 
 pub note_these-requires-clause-room : goal.note_these-requires-clause-room
@@ -28,12 +28,12 @@ note_these-requires-clause-room c =
       c.requires.room,
       ap length (back-record c.args.call.now c.args.push.now id c.args.round.0 s),
       ap length (noted (goal.at.note_these-requires-clause-room c).After-to_note-noted),
-      these-length c.to_note-noted.result id c.args.round.0 s,
+      these-length c.to_note-noted.result.items id c.args.round.0 s,
     )
 
 pub returns : goal.returns
 returns c = record {
   state = c.note_these.ensures.state
-      ∙ noted-back c.args.call.now c.args.push.now (id_of c.args.id) c.args.round.0 (state c.args.panel.now) c.to_note-noted.result (noted (goal.at.returns c).After-to_note-noted);
+      ∙ noted-back c.args.call.now c.args.push.now (id_of c.args.id) c.args.round.0 (state c.args.panel.now) c.to_note-noted.result.items (noted (goal.at.returns c).After-to_note-noted);
   loan = c.note_these.ensures.loan;
 }

@@ -10,7 +10,7 @@ pub loop-link-init : goal.loop-link-init
 loop-link-init g c =
     let a = c.args in
     record {
-      sent = sends-start a.call.now a.push.now a.message.now (shown a.view.now) (g.S.Sink.held a.out.now);
+      sent = sends-start a.call.now a.push.now a.message.now (shown a.view.now) (g.S.Sink.intake a.out.now);
       back = back-start a.call.now a.push.now a.message.now (shown a.view.now);
     }
 
@@ -31,7 +31,7 @@ loop-link-preserved g c = elim c.if-is_target.branch [
       let a = c.args in
       let q : c.loop-link.link < length (shown a.view.now).links = omega (arith, c.loop-link-test.true, c.link_count-link-end.ensures) in
       record {
-        sent = ap g.S.Sink.held w.out-is ∙ sends-more a.call.now a.push.now a.message.now (shown a.view.now) c.loop-link.link q c.requires.rest.0
+        sent = ap g.S.Sink.intake w.out-is ∙ sends-more a.call.now a.push.now a.message.now (shown a.view.now) c.loop-link.link q c.requires.rest.0
             c.is_target.result c.is_target.ensures w.if-is_target.true w.link.result w.link.ensures w.takes-taken.result w.takes-taken.ensures _ _ _ c.loop-link.invariant.sent w.encode.ensures;
         back = w.back-is ∙ back-more a.call.now a.push.now a.message.now (shown a.view.now) c.requires.rest.0 c.loop-link.link q c.is_target.result c.is_target.ensures w.if-is_target.true w.takes-taken.result w.takes-taken.ensures _ c.loop-link.invariant.back;
       }
@@ -39,7 +39,7 @@ loop-link-preserved g c = elim c.if-is_target.branch [
       let a = c.args in
       let q : c.loop-link.link < length (shown a.view.now).links = omega (arith, c.loop-link-test.true, c.link_count-link-end.ensures) in
       record {
-        sent = ap g.S.Sink.held w.out-is ∙ sends-skip a.call.now a.push.now a.message.now (shown a.view.now) c.loop-link.link q c.is_target.result c.is_target.ensures w.if-is_target.false _ _ c.loop-link.invariant.sent;
+        sent = ap g.S.Sink.intake w.out-is ∙ sends-skip a.call.now a.push.now a.message.now (shown a.view.now) c.loop-link.link q c.is_target.result c.is_target.ensures w.if-is_target.false _ _ c.loop-link.invariant.sent;
         back = w.back-is ∙ back-skip a.call.now a.push.now a.message.now (shown a.view.now) c.requires.rest.0 c.loop-link.link q c.is_target.result c.is_target.ensures w.if-is_target.false _ c.loop-link.invariant.back;
       }
 ]

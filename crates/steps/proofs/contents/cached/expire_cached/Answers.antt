@@ -7,28 +7,28 @@ use Rattle.block.specs.Heads.{with_cached_counts}
 use Rattle.block.proofs.CachesLaws.CachedLaws.{cached-lies, cached-sound}
 use Rattle.steps.proofs.ContentsLaws.Closing.{ExpiredAhead, expired-ahead}
 use Rattle.steps.proofs.contents.cached.expire_cached.Goals as goal
-use Rattle.steps.proofs.contents.cached.expire_cached.Goals.{After-expire_until-e, Start}
+use Rattle.steps.proofs.contents.cached.expire_cached.Goals.{After-expire_until-expired, Start}
 
 -- what the two tables leave
-module _ (d : After-expire_until-e) where
+module _ (d : After-expire_until-expired) where
   abbrev s : Start
-  s = (goal.at.After-expire_until-e d).Start
+  s = (goal.at.After-expire_until-expired d).Start
 
-  expired : ExpiredAhead s.args.h s.args.block.now s.args.instant.0 (with_cached_counts d.expire_until-e.result.cache.entries.len d.expire_until-e.result.cache.expiry.len s.args.h.live.contents s.args.h) d.expire_until-e.new.block
+  expired : ExpiredAhead s.args.head s.args.block.now s.args.instant.0 (with_cached_counts d.expire_until-expired.result.cache.entries.len d.expire_until-expired.result.cache.expiry.len s.args.head.live.contents s.args.head) d.expire_until-expired.new.block
   expired =
-      expired-ahead s.args.h s.args.block.now d.expire_until-e.new.block s.args.instant.0 d.expire_until-e.result s.requires.0 s.requires.1 d.expire_until-e.auto.block
-      (subst (λ (t : TimeBoundCache). Expires t s.args.instant.0 s.args.block.now d.expire_until-e.result d.expire_until-e.new.block) d.cached_cache-c.ensures d.expire_until-e.ensures)
+      expired-ahead s.args.head s.args.block.now d.expire_until-expired.new.block s.args.instant.0 d.expire_until-expired.result s.requires.0 s.requires.1 d.expire_until-expired.auto.block
+      (subst (λ (t : TimeBoundCache). Expires t s.args.instant.0 s.args.block.now d.expire_until-expired.result d.expire_until-expired.new.block) d.cached_cache.ensures d.expire_until-expired.ensures)
 
-pub expire_until-e-requires : goal.expire_until-e-requires
-expire_until-e-requires c =
-    let h = c.args.h in
+pub expire_until-expired-requires : goal.expire_until-expired-requires
+expire_until-expired-requires c =
+    let h = c.args.head in
     let xs = c.args.block.now in
-    subst (λ (t : TimeBoundCache). Lies t xs × Sound t xs) (sym c.cached_cache-c.ensures) (cached-lies h xs c.requires.0.fit, cached-sound h xs c.requires.0 c.requires.1)
+    subst (λ (t : TimeBoundCache). Lies t xs × Sound t xs) (sym c.cached_cache.ensures) (cached-lies h xs c.requires.0.fit, cached-sound h xs c.requires.0 c.requires.1)
 
 pub close_contents-requires : goal.close_contents-requires
-close_contents-requires c = (expired (goal.at.close_contents-requires c).After-expire_until-e).ahead
+close_contents-requires c = (expired (goal.at.close_contents-requires c).After-expire_until-expired).ahead
 
 pub returns : goal.returns
 returns c =
     let g = c.close_contents.ensures in
-    record { state = g.state ∙ (expired (goal.at.returns c).After-expire_until-e).state; sound = g.sound }
+    record { state = g.state ∙ (expired (goal.at.returns c).After-expire_until-expired).state; sound = g.sound }

@@ -3,60 +3,64 @@ use mathlib.Core.Path.{sym, ◌∙◌, subst}
 use Prim.Native.Nat.{◌<◌}
 use native.Mathlib.Omega.{arith}
 use Rattle.storage.specs.Rows.Ident.{id_of}
-use Rattle.time_cache.specs.Tables.{Room, Sound}
+use Rattle.time_cache.specs.Tables.{FitsOneMore, Sound}
 use Rattle.time_cache.specs.Steps.{Inserts}
 use Rattle.time_cache.specs.declared.cache.TimeBoundCache.{TimeBoundCache}
 use Rattle.block.specs.TimeCaches.{cached_cache}
 use Rattle.block.proofs.CachesLaws.CachedLaws.{cached-room, cached-sound}
 use Rattle.steps.proofs.ContentsLaws.Inserting.{fit-in, row_in, entry_in, next_start, empty-goes}
 use Rattle.steps.proofs.contents.cached.insert_empty.Goals as goal
-use Rattle.steps.proofs.contents.cached.insert_empty.Goals.{After-insert-e, Start}
+use Rattle.steps.proofs.contents.cached.insert_empty.Goals.{After-insert-inserted, Start}
 
 -- what `insert` leaves
-module _ (d : After-insert-e) where
+module _ (d : After-insert-inserted) where
   abbrev s : Start
-  s = (goal.at.After-insert-e d).Start
+  s = (goal.at.After-insert-inserted d).Start
 
-  inserts : Inserts (cached_cache s.args.h) (id_of s.args.id) s.args.expires.0 s.args.block.now d.insert-e.result d.insert-e.new.block
-  inserts = subst (λ (z : TimeBoundCache). Inserts z (id_of s.args.id) s.args.expires.0 s.args.block.now d.insert-e.result d.insert-e.new.block) d.cached_cache-c.ensures d.insert-e.ensures
+  inserts : Inserts (cached_cache s.args.head) (id_of s.args.id) s.args.expires.0 s.args.block.now d.insert-inserted.result d.insert-inserted.new.block
+  inserts = subst (λ (z : TimeBoundCache). Inserts z (id_of s.args.id) s.args.expires.0 s.args.block.now d.insert-inserted.result d.insert-inserted.new.block) d.cached_cache.ensures d.insert-inserted.ensures
 
-  low : d.insert-e.result.row < d.insert-e.result.cache.expiry.len
-  low = row_in s.args.h s.args.block.now s.requires.0 (id_of s.args.id) s.args.round.0 s.args.expires.0 d.insert-e.result d.insert-e.new.block d.insert-e.auto.block inserts s.requires.2
+  low : d.insert-inserted.result.row < d.insert-inserted.result.cache.expiry.len
+  low = row_in s.args.head s.args.block.now s.requires.0 (id_of s.args.id) s.args.round.0 s.args.expires.0 d.insert-inserted.result d.insert-inserted.new.block d.insert-inserted.auto.block inserts s.requires.2
 
-pub insert-e-requires : goal.insert-e-requires
-insert-e-requires c =
-    let h = c.args.h in
+pub insert-inserted-requires : goal.insert-inserted-requires
+insert-inserted-requires c =
+    let h = c.args.head in
     let xs = c.args.block.now in
-    subst (λ (z : TimeBoundCache). Room z xs × Sound z xs) (sym c.cached_cache-c.ensures) (cached-room h xs c.requires.0.fit, cached-sound h xs c.requires.0 c.requires.1)
+    subst (λ (z : TimeBoundCache). FitsOneMore z xs × Sound z xs) (sym c.cached_cache.ensures) (cached-room h xs c.requires.0.fit, cached-sound h xs c.requires.0 c.requires.1)
 
-pub overflow_add-j : goal.overflow_add-j
-overflow_add-j c =
-    let t = s (goal.at.overflow_add-j c).After-insert-e in
-    let f = fit-in t.args.h t.args.block.now t.requires.0 (id_of t.args.id) t.args.round.0 t.args.expires.0 c.insert-e.result c.insert-e.new.block c.insert-e.auto.block (inserts (goal.at.overflow_add-j c).After-insert-e) t.requires.2 in
-    omega (arith, low (goal.at.overflow_add-j c).After-insert-e, f.within.cached_rows, t.requires.0.fit.ceilings.C)
+pub overflow_add-inserted : goal.overflow_add-inserted
+overflow_add-inserted c =
+    let d = (goal.at.overflow_add-inserted c).After-insert-inserted in
+    let t = s d in
+    let f = fit-in t.args.head t.args.block.now t.requires.0 (id_of t.args.id) t.args.round.0 t.args.expires.0 c.insert-inserted.result c.insert-inserted.new.block c.insert-inserted.auto.block (inserts d) t.requires.2 in
+    omega (arith, low d, f.within.cached_rows, t.requires.0.fit.ceilings.C)
 
-pub start_of-s-requires : goal.start_of-s-requires
-start_of-s-requires c =
-    let t = s (goal.at.start_of-s-requires c).After-insert-e in (
-      fit-in t.args.h t.args.block.now t.requires.0 (id_of t.args.id) t.args.round.0 t.args.expires.0 c.insert-e.result c.insert-e.new.block c.insert-e.auto.block (inserts (goal.at.start_of-s-requires c).After-insert-e) t.requires.2,
-      omega (arith, low (goal.at.start_of-s-requires c).After-insert-e),
+pub start_of-start-requires : goal.start_of-start-requires
+start_of-start-requires c =
+    let d = (goal.at.start_of-start-requires c).After-insert-inserted in
+    let t = s d in (
+      fit-in t.args.head t.args.block.now t.requires.0 (id_of t.args.id) t.args.round.0 t.args.expires.0 c.insert-inserted.result c.insert-inserted.new.block c.insert-inserted.auto.block (inserts d) t.requires.2,
+      omega (arith, low d),
     )
 
 pub store_empty-requires : goal.store_empty-requires
 store_empty-requires c =
-    let t = s (goal.at.store_empty-requires c).After-insert-e in (
-      fit-in t.args.h t.args.block.now t.requires.0 (id_of t.args.id) t.args.round.0 t.args.expires.0 c.insert-e.result c.insert-e.new.block c.insert-e.auto.block (inserts (goal.at.store_empty-requires c).After-insert-e) t.requires.2,
-      entry_in t.args.h t.args.block.now t.requires.0 (id_of t.args.id) t.args.round.0 t.args.expires.0 c.insert-e.result c.insert-e.new.block c.insert-e.auto.block (inserts (goal.at.store_empty-requires c).After-insert-e) t.requires.2,
-      low (goal.at.store_empty-requires c).After-insert-e,
+    let d = (goal.at.store_empty-requires c).After-insert-inserted in
+    let t = s d in (
+      fit-in t.args.head t.args.block.now t.requires.0 (id_of t.args.id) t.args.round.0 t.args.expires.0 c.insert-inserted.result c.insert-inserted.new.block c.insert-inserted.auto.block (inserts d) t.requires.2,
+      entry_in t.args.head t.args.block.now t.requires.0 (id_of t.args.id) t.args.round.0 t.args.expires.0 c.insert-inserted.result c.insert-inserted.new.block c.insert-inserted.auto.block (inserts d) t.requires.2,
+      low d,
     )
 
 pub shape_of-block : goal.shape_of-block
-shape_of-block c = c.store_empty.auto.block ∙ c.insert-e.auto.block
+shape_of-block c = c.store_empty.auto.block ∙ c.insert-inserted.auto.block
 
 pub returns : goal.returns
 returns c =
-    let t = s (goal.at.returns c).After-insert-e in
-    let a = c.start_of-s.result in
-    empty-goes t.args.h t.args.block.now t.requires.0 (id_of t.args.id) t.args.round.0 t.args.expires.0 c.insert-e.result c.insert-e.new.block c.insert-e.auto.block (inserts (goal.at.returns c).After-insert-e) t.requires.2
-    a (next_start t.args.h t.args.block.now t.requires.0 (id_of t.args.id) t.args.round.0 t.args.expires.0 c.insert-e.result c.insert-e.new.block c.insert-e.auto.block (inserts (goal.at.returns c).After-insert-e) t.requires.2 a c.start_of-s.ensures)
+    let d = (goal.at.returns c).After-insert-inserted in
+    let t = s d in
+    let a = c.start_of-start.result in
+    empty-goes t.args.head t.args.block.now t.requires.0 (id_of t.args.id) t.args.round.0 t.args.expires.0 c.insert-inserted.result c.insert-inserted.new.block c.insert-inserted.auto.block (inserts d) t.requires.2
+    a (next_start t.args.head t.args.block.now t.requires.0 (id_of t.args.id) t.args.round.0 t.args.expires.0 c.insert-inserted.result c.insert-inserted.new.block c.insert-inserted.auto.block (inserts d) t.requires.2 a c.start_of-start.ensures)
     (omega (arith, t.well_formed)) t.requires.3 c.store_empty.new.block c.store_empty.ensures

@@ -4,4 +4,4 @@ use Rattle.steps.proofs.contents.cached.len_of.Goals as goal
 
 pub returns : goal.returns
 returns c =
-    len_read c.args.h c.args.block.now c.requires.0 c.args.p c.cached_rows_at.result c.load4-len.result c.requires.1 c.cached_rows_at.ensures c.load4-len.ensures.0
+    len_read c.args.head c.args.block.now c.requires.0 c.args.place c.cached_rows_at.result c.load4.result c.requires.1 c.cached_rows_at.ensures c.load4.ensures.0

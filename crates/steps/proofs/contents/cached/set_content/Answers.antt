@@ -17,56 +17,58 @@ use Rattle.steps.specs.Contents.Starts.{len_of}
 use Rattle.steps.specs.Contents.CacheSteps.{cached_rows, Resized}
 use Rattle.steps.proofs.ContentsLaws.Setting.{entry-low, row_low, set_room, set-goes, refill-none}
 use Rattle.steps.proofs.contents.cached.set_content.Goals as goal
-use Rattle.steps.proofs.contents.cached.set_content.Goals.{After-place-p, In-Ok, Start}
+use Rattle.steps.proofs.contents.cached.set_content.Goals.{After-place-place, In-Ok, Start}
 
 -- where the search found the identifier
 module _ (c : In-Ok) where
   abbrev s : Start
   s = (goal.at.In-Ok c).Start
 
-  here : Here (keys (state_of s.args.h s.args.block.now).cache.entries) (id_of s.args.id) c.in-Ok.i
-  here = subst (λ (x : Result ℕ ℕ). FoundIs (keys (state_of s.args.h s.args.block.now).cache.entries) (id_of s.args.id) x) c.in-Ok.is c.find_cached-f.ensures
+  here : Here (keys (state_of s.args.head s.args.block.now).cache.entries) (id_of s.args.id) c.in-Ok.i
+  here = subst (λ (x : Result ℕ ℕ). FoundIs (keys (state_of s.args.head s.args.block.now).cache.entries) (id_of s.args.id) x) c.in-Ok.is c.find_cached.ensures
 
 -- the row that it names
-module _ (c : After-place-p) where
+module _ (c : After-place-place) where
   abbrev f : In-Ok
-  f = (goal.at.After-place-p c).In-Ok
+  f = (goal.at.After-place-place c).In-Ok
 
   abbrev t : Start
   t = s f
 
-  row : c.place-p.result ≡ (ref_at (refs_at (cached_cache t.args.h) t.args.block.now) f.in-Ok.i).place
-  row = c.place-p.ensures ∙ ap (λ (z : TimeBoundCache). (ref_at (refs_at z t.args.block.now) f.in-Ok.i).place) c.cached_cache-c.ensures
+  row : c.place-place.result ≡ (ref_at (refs_at (cached_cache t.args.head) t.args.block.now) f.in-Ok.i).place
+  row = c.place-place.ensures ∙ ap (λ (z : TimeBoundCache). (ref_at (refs_at z t.args.block.now) f.in-Ok.i).place) c.cached_cache.ensures
 
-pub place-p-requires : goal.place-p-requires
-place-p-requires c =
-    let t = s (goal.at.place-p-requires c).In-Ok in
+pub place-place-requires : goal.place-place-requires
+place-place-requires c =
+    let t = s (goal.at.place-place-requires c).In-Ok in
     let a = t.args in
-    subst (λ (z : TimeBoundCache). Lies z a.block.now × (c.in-Ok.i < z.entries.len)) (sym c.cached_cache-c.ensures)
-    (cached-lies a.h a.block.now t.requires.0.fit, entry-low a.h a.block.now a.content.now (id_of a.id) c.in-Ok.i t.requires.0 t.requires.1 (here (goal.at.place-p-requires c).In-Ok) t.requires.2)
+    subst (λ (z : TimeBoundCache). Lies z a.block.now × (c.in-Ok.i < z.entries.len)) (sym c.cached_cache.ensures)
+    (cached-lies a.head a.block.now t.requires.0.fit, entry-low a.head a.block.now a.content.now (id_of a.id) c.in-Ok.i t.requires.0 t.requires.1 (here (goal.at.place-place-requires c).In-Ok) t.requires.2)
 
 pub resize_row-requires : goal.resize_row-requires
 resize_row-requires c =
-    let g = f (goal.at.resize_row-requires c).After-place-p in
-    let q = t (goal.at.resize_row-requires c).After-place-p in
+    let d = (goal.at.resize_row-requires c).After-place-place in
+    let g = f d in
+    let q = t d in
     let a = q.args in
     let i = g.in-Ok.i in (
       q.requires.0,
-      omega (arith, row (goal.at.resize_row-requires c).After-place-p, row_low a.h a.block.now a.content.now (id_of a.id) i q.requires.0 q.requires.1 (here g) q.requires.2),
-      subst (λ (p : ℕ). a.h.live.contents + length a.content.now ≤ a.h.limits.content + len_of (row_at (cached_rows a.h a.block.now) p)) (sym (row (goal.at.resize_row-requires c).After-place-p))
-          (set_room a.h a.block.now a.content.now (id_of a.id) i q.requires.0 q.requires.1 (here g) q.requires.2),
+      omega (arith, row d, row_low a.head a.block.now a.content.now (id_of a.id) i q.requires.0 q.requires.1 (here g) q.requires.2),
+      subst (λ (p : ℕ). a.head.live.contents + length a.content.now ≤ a.head.limits.content + len_of (row_at (cached_rows a.head a.block.now) p)) (sym (row d))
+          (set_room a.head a.block.now a.content.now (id_of a.id) i q.requires.0 q.requires.1 (here g) q.requires.2),
     )
 
 pub returns-in-Ok : goal.returns-in-Ok
 returns-in-Ok c =
-    let g = f (goal.at.returns-in-Ok c).After-place-p in
-    let q = t (goal.at.returns-in-Ok c).After-place-p in
+    let d = (goal.at.returns-in-Ok c).After-place-place in
+    let g = f d in
+    let q = t d in
     let a = q.args in
-    set-goes a.h a.block.now a.content.now (id_of a.id) g.in-Ok.i q.requires.0 q.requires.1 (here g) q.requires.2 c.resize_row.result c.resize_row.new.block
-    (subst (λ (p : ℕ). Resized a.h p a.content.now a.block.now c.resize_row.result c.resize_row.new.block) (row (goal.at.returns-in-Ok c).After-place-p) c.resize_row.ensures)
+    set-goes a.head a.block.now a.content.now (id_of a.id) g.in-Ok.i q.requires.0 q.requires.1 (here g) q.requires.2 c.resize_row.result c.resize_row.new.block
+    (subst (λ (p : ℕ). Resized a.head p a.content.now a.block.now c.resize_row.result c.resize_row.new.block) (row d) c.resize_row.ensures)
 
 pub returns-in-Err : goal.returns-in-Err
 returns-in-Err c =
     let a = c.args in
-    refill-none a.h a.block.now a.content.now (id_of a.id) _ c.requires.0
-    (subst (λ (x : Result ℕ ℕ). FoundIs (keys (state_of a.h a.block.now).cache.entries) (id_of a.id) x) c.in-Err.is c.find_cached-f.ensures)
+    refill-none a.head a.block.now a.content.now (id_of a.id) _ c.requires.0
+    (subst (λ (x : Result ℕ ℕ). FoundIs (keys (state_of a.head a.block.now).cache.entries) (id_of a.id) x) c.in-Err.is c.find_cached.ensures)

@@ -17,7 +17,7 @@ module _ (c : After-cached_rows_at) where
   s = (goal.at.After-cached_rows_at c).Start
 
   abbrev n : ℕ
-  n = s.args.h.live.cached_rows - s.args.j
+  n = s.args.head.live.cached_rows - s.args.j
 
   abbrev a : ℕ
   a = c.cached_rows_at.result + 48 * s.args.j
@@ -28,10 +28,10 @@ module _ (c : After-cached_rows_at) where
   size : k ≡ n * 48
   size = omega arith
 
-  count : s.args.j + n ≡ s.args.h.live.cached_rows
+  count : s.args.j + n ≡ s.args.head.live.cached_rows
   count = omega (arith, s.requires.1)
 
-  at : a ≡ place (limits_of s.args.h.limits) 5 + 48 * s.args.j
+  at : a ≡ place (limits_of s.args.head.limits) 5 + 48 * s.args.j
   at = omega (arith, c.cached_rows_at.ensures)
 
   room : a + n * 48 ≤ length s.args.block.now
@@ -42,14 +42,16 @@ module _ (c : After-cached_rows_at) where
 
 pub shift_starts-requires : goal.shift_starts-requires
 shift_starts-requires c =
-    let t = s (goal.at.shift_starts-requires c).After-cached_rows_at in (
-      omega (arith, long (goal.at.shift_starts-requires c).After-cached_rows_at, size (goal.at.shift_starts-requires c).After-cached_rows_at),
+    let d = (goal.at.shift_starts-requires c).After-cached_rows_at in
+    let t = s d in (
+      omega (arith, long d, size d),
       t.requires.2,
-      subst (Above t.args.up t.args.down) (sym (lent_rows t.args.h t.args.block.now t.args.j (n (goal.at.shift_starts-requires c).After-cached_rows_at) (a (goal.at.shift_starts-requires c).After-cached_rows_at) (k (goal.at.shift_starts-requires c).After-cached_rows_at) t.requires.0 (count (goal.at.shift_starts-requires c).After-cached_rows_at) (at (goal.at.shift_starts-requires c).After-cached_rows_at) (size (goal.at.shift_starts-requires c).After-cached_rows_at))) t.requires.3,
+      subst (Above t.args.up t.args.down) (sym (lent_rows t.args.head t.args.block.now t.args.j (n d) (a d) (k d) t.requires.0 (count d) (at d) (size d))) t.requires.3,
     )
 
 pub returns : goal.returns
 returns c =
-    let t = s (goal.at.returns c).After-cached_rows_at in
-    shifts t.args.h t.args.block.now c.shift_starts.new.x t.args.j (n (goal.at.returns c).After-cached_rows_at) (a (goal.at.returns c).After-cached_rows_at) (k (goal.at.returns c).After-cached_rows_at) t.args.up t.args.down t.requires.0 (count (goal.at.returns c).After-cached_rows_at) (at (goal.at.returns c).After-cached_rows_at) (size (goal.at.returns c).After-cached_rows_at)
-    (c.shift_starts.auto.x ∙ long (goal.at.returns c).After-cached_rows_at) c.shift_starts.ensures
+    let d = (goal.at.returns c).After-cached_rows_at in
+    let t = s d in
+    shifts t.args.head t.args.block.now c.shift_starts.new.rows t.args.j (n d) (a d) (k d) t.args.up t.args.down t.requires.0 (count d) (at d) (size d)
+    (c.shift_starts.auto.rows ∙ long d) c.shift_starts.ensures

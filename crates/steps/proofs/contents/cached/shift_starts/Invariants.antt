@@ -1,6 +1,5 @@
--- `cached::shift_starts` meets its contract: the first i rows are done, the others are as they were. The measure is n - i.
+-- `cached::shift_starts` meets its contract: the first i rows are done, the others are as they were.
 use mathlib.Core.Path.{◌≡◌}
-use Prim.Native.Nat.{◌-◌, ◌≤◌}
 use lib.ListN.{length}
 use Rattle.storage.proofs.RefsLaws.Shifts.{done}
 use Rattle.time_cache.specs.Tables.{expiry_rows, no_row}
@@ -8,7 +7,4 @@ use Rattle.steps.specs.Contents.Starts.{shifted_row}
 use Rattle.steps.proofs.contents.cached.shift_starts.Given as goal
 
 abbrev pub invariant-loop-i : goal.invariant-loop-i
-invariant-loop-i l = (l.i ≤ l.n) × (expiry_rows 48 l.n l.x ≡ done (shifted_row l.up l.down) no_row (expiry_rows 48 l.n l.initial.x) l.i) × (length l.x ≡ length l.initial.x)
-
-abbrev pub decreases-loop-i : goal.decreases-loop-i
-decreases-loop-i l = l.n - l.i
+invariant-loop-i l = (expiry_rows 48 l.n l.rows ≡ done (shifted_row l.up l.down) no_row (expiry_rows 48 l.n l.initial.rows) l.i) × (length l.rows ≡ length l.initial.rows)

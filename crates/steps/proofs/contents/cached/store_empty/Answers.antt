@@ -10,10 +10,10 @@ use Rattle.steps.proofs.contents.cached.store_empty.Goals as goal
 
 pub returns : goal.returns
 returns c =
-    let l = limits_of c.args.h.limits in
-    let b : ℕ = c.cached_rows_at.result + c.args.j * 48 in
-    let z1 : b + 40 ≡ place l 5 + (c.args.j * 48 + 40) = omega (arith, c.cached_rows_at.ensures) in
-    let z2 : b + 44 ≡ place l 5 + (c.args.j * 48 + 44) = omega (arith, c.cached_rows_at.ensures) in
-    let z3 : c.cached_at.result + c.args.i * 4 + 2 ≡ place l 4 + (c.args.i * 4 + 2) = omega (arith, c.cached_at.ensures) in
+    let l = limits_of c.args.head.limits in
+    let b : ℕ = c.cached_rows_at.result + c.args.inserted.row * 48 in
+    let z1 : b + 40 ≡ place l 5 + (c.args.inserted.row * 48 + 40) = omega (arith, c.cached_rows_at.ensures) in
+    let z2 : b + 44 ≡ place l 5 + (c.args.inserted.row * 48 + 44) = omega (arith, c.cached_rows_at.ensures) in
+    let z3 : c.cached_at.result + c.args.inserted.entry * 4 + 2 ≡ place l 4 + (c.args.inserted.entry * 4 + 2) = omega (arith, c.cached_at.ensures) in
     c.store_le-3.ensures
-    ∙ (λ k. put (z3 k) (le_bytes 2 c.args.round.0) ((c.store_le-2.ensures ∙ (λ q. put (z2 q) (le_bytes 4 0) ((c.store_le.ensures ∙ ap (λ (y : ℕ). put y (le_bytes 4 c.args.s) c.args.block.now) z1) q))) k))
+    ∙ (λ k. put (z3 k) (le_bytes 2 c.args.round.0) ((c.store_le-2.ensures ∙ (λ q. put (z2 q) (le_bytes 4 0) ((c.store_le.ensures ∙ ap (λ (y : ℕ). put y (le_bytes 4 c.args.start) c.args.block.now) z1) q))) k))

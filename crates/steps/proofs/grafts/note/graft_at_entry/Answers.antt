@@ -12,17 +12,17 @@ use Rattle.steps.proofs.grafts.note.graft_at_entry.Goals as goal
 use Rattle.steps.proofs.grafts.note.graft_at_entry.Goals.{In-Ok, In-Err, Start}
 
 abbrev peers : Start → List ℕ
-peers s = keys (grafts_at (state_of s.args.h s.args.block.now) s.args.i).peers
+peers s = keys (grafts_at (state_of s.args.head s.args.block.now) s.args.i).peers
 
 abbrev peer : Start → ℕ
-peer s = peer_at (state_of s.args.h s.args.block.now) s.args.link
+peer s = peer_at (state_of s.args.head s.args.block.now) s.args.hop.link
 
 -- where the search found the peer, or would have
 here : (c : In-Ok) → Here (peers (goal.at.In-Ok c).Start) (peer (goal.at.In-Ok c).Start) c.in-Ok.j
-here c = subst (λ (x : Result ℕ ℕ). FoundIs (peers (goal.at.In-Ok c).Start) (peer (goal.at.In-Ok c).Start) x) c.in-Ok.is c.find_graft-f.ensures
+here c = subst (λ (x : Result ℕ ℕ). FoundIs (peers (goal.at.In-Ok c).Start) (peer (goal.at.In-Ok c).Start) x) c.in-Ok.is c.find_graft.ensures
 
 between : (c : In-Err) → Between (peers (goal.at.In-Err c).Start) (peer (goal.at.In-Err c).Start) c.in-Err.j
-between c = subst (λ (x : Result ℕ ℕ). FoundIs (peers (goal.at.In-Err c).Start) (peer (goal.at.In-Err c).Start) x) c.in-Err.is c.find_graft-f.ensures
+between c = subst (λ (x : Result ℕ ℕ). FoundIs (peers (goal.at.In-Err c).Start) (peer (goal.at.In-Err c).Start) x) c.in-Err.is c.find_graft.ensures
 
 pub lower_graft-requires : goal.lower_graft-requires
 lower_graft-requires c =

@@ -20,16 +20,16 @@ insert_hop-requires c =
     let a = c.args in
     let xs = a.block.now in
     let g = c.requires.0 in
-    let e = graft-many a.h xs g.sound a.i c.requires.1 in
+    let e = graft-many a.head xs g.sound a.i c.requires.1 in
     let at = ap (λ (n : ℕ). get_or xs (n + 119 * a.i + 22) 0) c.grafted_at.ensures in
-    let k = length-map (grafts_at (state_of a.h xs) a.i).peers (λ (y : Entry ℕ). y.key) in
-    (omega (arith, e, at, k, c.requires.3.within), omega (arith, e, at, peers-few a.h xs g a.i c.requires.1 a.link a.j c.requires.2 c.requires.3), omega (arith, c.requires.2, g.sound.fit.within.links, g.sound.fit.ceilings.N), omega (arith, g.sound.fit.long, g.sound.fit.within.grafted, c.requires.1, c.grafted_at.ensures))
+    let k = length-map (grafts_at (state_of a.head xs) a.i).peers (λ (y : Entry ℕ). y.key) in
+    (omega (arith, e, at, k, c.requires.3.within), omega (arith, e, at, peers-few a.head xs g a.i c.requires.1 a.hop.link a.j c.requires.2 c.requires.3), omega (arith, c.requires.2, g.sound.fit.within.links, g.sound.fit.ceilings.N), omega (arith, g.sound.fit.long, g.sound.fit.within.grafted, c.requires.1, c.grafted_at.ensures))
 
 pub returns : goal.returns
 returns c =
     let a = c.args in
     let xs = a.block.now in
     let e = ap (λ (n : ℕ). n + 119 * a.i + 22) c.grafted_at.ensures in
-    subst (Goes (λ s. peers_to a.i (peers_with a.i (peer_at s a.link) a.round.0 s) s) a.h xs a.h)
-    (sym (c.insert_hop.ensures ∙ (λ k. put (e k) (inserted_hop a.j a.link a.round.0 (part (e k) 97 xs)) xs)))
-    (insert-goes a.h xs c.requires.0 a.i c.requires.1 a.link a.round.0 c.requires.2 (omega (arith, c.well_formed)) a.j c.requires.3)
+    subst (Goes (λ s. peers_to a.i (peers_with a.i (peer_at s a.hop.link) a.hop.round.0 s) s) a.head xs a.head)
+    (sym (c.insert_hop.ensures ∙ (λ k. put (e k) (inserted_hop a.j a.hop.link a.hop.round.0 (part (e k) 97 xs)) xs)))
+    (insert-goes a.head xs c.requires.0 a.i c.requires.1 a.hop.link a.hop.round.0 c.requires.2 (omega (arith, c.well_formed)) a.j c.requires.3)

@@ -17,29 +17,29 @@ use Rattle.steps.proofs.grafts.note.lower_graft.Goals as goal
 use Rattle.steps.proofs.grafts.note.lower_graft.Goals.{Start}
 
 -- the peer is one of the peers, at most 32
-there : (s : Start) → s.args.j < length (grafts_at (state_of s.args.h s.args.block.now) s.args.i).peers
-there s = omega (arith, s.requires.3.within, length-map (grafts_at (state_of s.args.h s.args.block.now) s.args.i).peers (λ (e : Entry ℕ). e.key))
+there : (s : Start) → s.args.j < length (grafts_at (state_of s.args.head s.args.block.now) s.args.i).peers
+there s = omega (arith, s.requires.3.within, length-map (grafts_at (state_of s.args.head s.args.block.now) s.args.i).peers (λ (e : Entry ℕ). e.key))
 
 low : (s : Start) → s.args.j < 32
-low s = omega (arith, there s, graft-many s.args.h s.args.block.now s.requires.0.sound s.args.i s.requires.1, graft-few s.args.h s.args.block.now s.requires.0.sound s.args.i s.requires.1)
+low s = omega (arith, there s, graft-many s.args.head s.args.block.now s.requires.0.sound s.args.i s.requires.1, graft-few s.args.head s.args.block.now s.requires.0.sound s.args.i s.requires.1)
 
-pub graft_at-k-requires : goal.graft_at-k-requires
-graft_at-k-requires c =
-    (c.requires.0.sound, c.requires.1, there (goal.at.graft_at-k-requires c).Start)
+pub graft_at-known-requires : goal.graft_at-known-requires
+graft_at-known-requires c =
+    (c.requires.0.sound, c.requires.1, there (goal.at.graft_at-known-requires c).Start)
 
-pub returns-then-k-round : goal.returns-then-k-round
-returns-then-k-round c =
+pub returns-then-known-hop : goal.returns-then-known-hop
+returns-then-known-hop c =
     let a = c.args in
-    let k = c.graft_at-k in
-    same-goes a.h a.block.now c.requires.0 a.i c.requires.1 a.link a.round.0 c.requires.2 (omega (arith, c.well_formed)) a.j c.requires.3 k.result.round.0 (ap (λ (e : Entry ℕ). e.value) k.ensures.same) c.if-k-round.true
+    let k = c.graft_at-known in
+    same-goes a.head a.block.now c.requires.0 a.i c.requires.1 a.hop.link a.hop.round.0 c.requires.2 (omega (arith, c.well_formed)) a.j c.requires.3 k.result.round.0 (ap (λ (e : Entry ℕ). e.value) k.ensures.same) c.if-known-hop.true
 
-pub overflow_mul-j : goal.overflow_mul-j
-overflow_mul-j c =
-    omega (arith, low (goal.at.overflow_mul-j c).Start)
+pub overflow_mul-own : goal.overflow_mul-own
+overflow_mul-own c =
+    omega (arith, low (goal.at.overflow_mul-own c).Start)
 
-pub overflow_add-at-4 : goal.overflow_add-at-4
-overflow_add-at-4 c =
-    omega (arith, low (goal.at.overflow_add-at-4 c).Start, c.requires.0.sound.fit, c.requires.1, c.grafted_at.ensures)
+pub overflow_add-own-2 : goal.overflow_add-own-2
+overflow_add-own-2 c =
+    omega (arith, low (goal.at.overflow_add-own-2 c).Start, c.requires.0.sound.fit, c.requires.1, c.grafted_at.ensures)
 
 pub store_le-requires : goal.store_le-requires
 store_le-requires c =
@@ -49,8 +49,8 @@ pub returns : goal.returns
 returns c =
     let a = c.args in
     let xs = a.block.now in
-    let k = c.graft_at-k in
+    let k = c.graft_at-known in
     let e = ap (λ (n : ℕ). n + 119 * a.i + 22 + 33 + 2 * a.j) c.grafted_at.ensures in
-    subst (Goes (λ s. peers_to a.i (peers_with a.i (peer_at s a.link) a.round.0 s) s) a.h xs a.h)
-    (sym (c.store_le.ensures ∙ ap (λ (n : ℕ). put n (le_bytes 2 a.round.0) xs) e))
-    (lower-goes a.h xs c.requires.0 a.i c.requires.1 a.link a.round.0 c.requires.2 (omega (arith, c.well_formed)) a.j c.requires.3 k.result.round.0 (ap (λ (y : Entry ℕ). y.value) k.ensures.same) (omega (arith, c.if-k-round.false)))
+    subst (Goes (λ s. peers_to a.i (peers_with a.i (peer_at s a.hop.link) a.hop.round.0 s) s) a.head xs a.head)
+    (sym (c.store_le.ensures ∙ ap (λ (n : ℕ). put n (le_bytes 2 a.hop.round.0) xs) e))
+    (lower-goes a.head xs c.requires.0 a.i c.requires.1 a.hop.link a.hop.round.0 c.requires.2 (omega (arith, c.well_formed)) a.j c.requires.3 k.result.round.0 (ap (λ (y : Entry ℕ). y.value) k.ensures.same) (omega (arith, c.if-known-hop.false)))

@@ -18,7 +18,7 @@ use Rattle.steps.proofs.grafts.note.note_graft.Goals as goal
 use Rattle.steps.proofs.grafts.note.note_graft.Goals.{In-Ok, Start}
 
 abbrev state : Start → State
-state s = state_of s.args.h s.args.block.now
+state s = state_of s.args.head s.args.block.now
 
 abbrev ids : Start → List ℕ
 ids s = keys (state s).grafted.entries
@@ -28,32 +28,35 @@ id s = id_of s.args.id
 
 -- where the search found the identifier, or would have
 here : (c : In-Ok) → Here (ids (goal.at.In-Ok c).Start) (id (goal.at.In-Ok c).Start) c.in-Ok.i
-here c = subst (λ (x : Result ℕ ℕ). FoundIs (ids (goal.at.In-Ok c).Start) (id (goal.at.In-Ok c).Start) x) c.in-Ok.is c.find_grafted-f.ensures
+here c = subst (λ (x : Result ℕ ℕ). FoundIs (ids (goal.at.In-Ok c).Start) (id (goal.at.In-Ok c).Start) x) c.in-Ok.is c.find_grafted.ensures
 
-pub find_grafted-f-requires : goal.find_grafted-f-requires
-find_grafted-f-requires c = (c.requires.0.sound, c.requires.0.order)
+pub find_grafted-requires : goal.find_grafted-requires
+find_grafted-requires c = (c.requires.0.sound, c.requires.0.order)
 
 pub graft_at_entry-requires : goal.graft_at_entry-requires
 graft_at_entry-requires c =
     let st = state (goal.at.graft_at_entry-requires c).Start in
-    (c.requires.0, omega (arith, (here (goal.at.graft_at_entry-requires c).In-Ok).within, length-map st.grafted.entries (λ (e : Entry (Timed Grafts)). e.key), count-grafted c.args.h c.args.block.now c.requires.0.sound.fit), c.requires.1)
+    (c.requires.0, omega (arith, (here (goal.at.graft_at_entry-requires c).In-Ok).within, length-map st.grafted.entries (λ (e : Entry (Timed Grafts)). e.key), count-grafted c.args.head c.args.block.now c.requires.0.sound.fit), c.requires.1)
 
 pub graft_anew-requires : goal.graft_anew-requires
 graft_anew-requires c =
+    let d = (goal.at.graft_anew-requires c).Start in
     let a = c.args in
-    let st = state (goal.at.graft_anew-requires c).Start in
-    let b = subst (λ (x : Result ℕ ℕ). FoundIs (ids (goal.at.graft_anew-requires c).Start) (id_of a.id) x) c.in-Err.is c.find_grafted-f.ensures in
-    (c.requires.0.sound, c.requires.0.order, c.requires.1, new-most st (id_of a.id) a.link a.round.0 a.expires.0 _ b a.h.limits.grafted (up_of (ids (goal.at.graft_anew-requires c).Start) c.requires.0.order.up) c.requires.2)
+    let st = state d in
+    let b = subst (λ (x : Result ℕ ℕ). FoundIs (ids d) (id_of a.id) x) c.in-Err.is c.find_grafted.ensures in
+    (c.requires.0.sound, c.requires.0.order, c.requires.1, new-most st (id_of a.id) a.hop.link a.hop.round.0 a.expires.0 _ b a.head.limits.grafted (up_of (ids d) c.requires.0.order.up) c.requires.2)
 
 pub returns-in-Ok : goal.returns-in-Ok
 returns-in-Ok c =
+    let d = (goal.at.returns-in-Ok c).Start in
     let a = c.args in
     let g = c.graft_at_entry.ensures in
-    record { state = g.state ∙ noted_here (state (goal.at.returns-in-Ok c).Start) (id_of a.id) a.link a.round.0 a.expires.0 c.in-Ok.i (up_of (ids (goal.at.returns-in-Ok c).Start) c.requires.0.order.up) (here (goal.at.returns-in-Ok c).In-Ok); sound = g.sound }
+    record { state = g.state ∙ noted_here (state d) (id_of a.id) a.hop.link a.hop.round.0 a.expires.0 c.in-Ok.i (up_of (ids d) c.requires.0.order.up) (here (goal.at.returns-in-Ok c).In-Ok); sound = g.sound }
 
 pub returns-in-Err : goal.returns-in-Err
 returns-in-Err c =
+    let d = (goal.at.returns-in-Err c).Start in
     let a = c.args in
     let g = c.graft_anew.ensures in
-    let b = subst (λ (x : Result ℕ ℕ). FoundIs (ids (goal.at.returns-in-Err c).Start) (id_of a.id) x) c.in-Err.is c.find_grafted-f.ensures in
-    record { state = g.state ∙ noted-new (state (goal.at.returns-in-Err c).Start) (id_of a.id) a.link a.round.0 a.expires.0 _ b; sound = g.sound }
+    let b = subst (λ (x : Result ℕ ℕ). FoundIs (ids d) (id_of a.id) x) c.in-Err.is c.find_grafted.ensures in
+    record { state = g.state ∙ noted-new (state d) (id_of a.id) a.hop.link a.hop.round.0 a.expires.0 _ b; sound = g.sound }

@@ -1,5 +1,5 @@
 -- `reads::find_graft` meets its contract: the peers before j are below the peer of the link, since links ascend by their peers.
-use Prim.Native.Nat.{ℕ, ◌-◌, ◌≤◌, ◌<◌}
+use Prim.Native.Nat.{ℕ, ◌<◌}
 use lib.ListN.{get_or}
 use Rattle.storage.specs.Lists.Map.{keys}
 use Rattle.block.specs.View.{state_of}
@@ -8,7 +8,4 @@ use Rattle.block.specs.Caches.GraftSteps.{grafts_at}
 use Rattle.steps.proofs.grafts.reads.find_graft.Given as goal
 
 abbrev pub invariant-loop-j : goal.invariant-loop-j
-invariant-loop-j l = (l.j ≤ l.n) × ((k : ℕ) → k < l.j → get_or (keys (grafts_at (state_of l.h l.block) l.i).peers) k 0 < peer_at (state_of l.h l.block) l.link)
-
-abbrev pub decreases-loop-j : goal.decreases-loop-j
-decreases-loop-j l = l.n - l.j
+invariant-loop-j l = (k : ℕ) → k < l.j → get_or (keys (grafts_at (state_of l.head l.block) l.i).peers) k 0 < peer_at (state_of l.head l.block) l.link

@@ -1,6 +1,6 @@
 -- `reads::first_copy` meets its contract: flag, sender and round read are the `first` of the view.
+use Rattle.std.specs.Prelude.{Some}
 use mathlib.Core.Path.{sym, ap, ◌∙◌}
-use mathlib.Core.Option.{some}
 use Prim.Native.Nat.{ℕ, ◌+◌, ◌*◌}
 use lib.ListN.{get_or}
 use Rattle.storage.specs.Rows.Part.{part}
@@ -14,7 +14,7 @@ returns-then-block-at-eq0 c =
     let g = c.grafted_at in
     let xs = c.args.block.now in
     let a = g.result + 119 * c.args.i in
-    sym (read_first c.args.h xs c.requires.0 c.args.i c.requires.1 a (ap (λ (b : ℕ). b + 119 * c.args.i) g.ensures)
+    sym (read_first c.args.head xs c.requires.0 c.args.i c.requires.1 a (ap (λ (b : ℕ). b + 119 * c.args.i) g.ensures)
     ∙ flag-none (get_or xs (a + 2) 0) (hop (le_nat (part (a + 3) 8 xs)) (le_nat (part (a + 11) 2 xs))) c.if-block-at-eq0.true)
 
 pub returns : goal.returns
@@ -22,6 +22,6 @@ returns c =
     let g = c.grafted_at in
     let xs = c.args.block.now in
     let a = g.result + 119 * c.args.i in
-    (λ k. some (hop (c.load-sender.ensures k) (c.load2-round.ensures.0 k)))
-    ∙ sym (read_first c.args.h xs c.requires.0 c.args.i c.requires.1 a (ap (λ (b : ℕ). b + 119 * c.args.i) g.ensures)
+    (λ k. Some (hop (c.load.ensures k) (c.load2.ensures.0 k)))
+    ∙ sym (read_first c.args.head xs c.requires.0 c.args.i c.requires.1 a (ap (λ (b : ℕ). b + 119 * c.args.i) g.ensures)
     ∙ flag-some (get_or xs (a + 2) 0) (hop (le_nat (part (a + 3) 8 xs)) (le_nat (part (a + 11) 2 xs))) c.if-block-at-eq0.false)

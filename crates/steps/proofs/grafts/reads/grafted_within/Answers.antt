@@ -12,25 +12,20 @@ use Rattle.block.specs.View.{state_of}
 use Rattle.block.proofs.Scans.{any_found, any-drop}
 use Rattle.block.specs.Caches.GraftSteps.{grafts_at}
 use native.Mathlib.Omega.{arith}
-use borrow.Author.Rules.{rules}
 use Rattle.steps.proofs.grafts.reads.grafted_within.Goals as goal
-use Rattle.steps.proofs.grafts.reads.grafted_within.Goals.{After-graft_at-k, Start}
+use Rattle.steps.proofs.grafts.reads.grafted_within.Goals.{After-graft_at, Start}
 
 pub loop-j-init : goal.loop-j-init
 unfolding any
-loop-j-init c = (search rules, refl)
-
-pub graft_at-k-requires : goal.graft_at-k-requires
-graft_at-k-requires c =
-    (c.requires.0, c.requires.1, omega (arith, c.graft_count-n.ensures.0, c.loop-j-test.true))
+loop-j-init c = refl
 
 -- the peer that was read
-module _ (d : After-graft_at-k) where
+module _ (d : After-graft_at) where
   abbrev s : Start
-  s = (goal.at.After-graft_at-k d).Start
+  s = (goal.at.After-graft_at d).Start
 
   abbrev ps : Map ℕ
-  ps = (grafts_at (state_of s.args.h s.args.block.now) s.args.i).peers
+  ps = (grafts_at (state_of s.args.head s.args.block.now) s.args.i).peers
 
   abbrev j : ℕ
   j = d.loop-j.j
@@ -39,22 +34,24 @@ module _ (d : After-graft_at-k) where
   test e = leb e.value s.args.round.0
 
   here : j < length ps
-  here = omega (arith, d.graft_count-n.ensures.0, d.loop-j-test.true)
+  here = omega (arith, d.graft_count-j-end.ensures.0, d.loop-j-test.true)
 
-  value : (get_or ps j (entry 0 0)).value ≡ d.graft_at-k.result.round.0
-  value = ap (λ (e : Entry ℕ). e.value) d.graft_at-k.ensures.same
+  value : (get_or ps j (entry 0 0)).value ≡ d.graft_at.result.round.0
+  value = ap (λ (e : Entry ℕ). e.value) d.graft_at.ensures.same
 
-pub returns-then-k-round : goal.returns-then-k-round
-returns-then-k-round c =
-    sym (any_found (test (goal.at.returns-then-k-round c).After-graft_at-k) (j (goal.at.returns-then-k-round c).After-graft_at-k) (entry 0 0) (ps (goal.at.returns-then-k-round c).After-graft_at-k) (here (goal.at.returns-then-k-round c).After-graft_at-k) (ap (λ (n : ℕ). leb n (s (goal.at.returns-then-k-round c).After-graft_at-k).args.round.0) (value (goal.at.returns-then-k-round c).After-graft_at-k) ∙ le-leb c.graft_at-k.result.round.0 (s (goal.at.returns-then-k-round c).After-graft_at-k).args.round.0 c.if-k-round.true))
+pub returns-then-graft_at-round : goal.returns-then-graft_at-round
+returns-then-graft_at-round c =
+    let d = (goal.at.returns-then-graft_at-round c).After-graft_at in
+    sym (any_found (test d) (j d) (entry 0 0) (ps d) (here d) (ap (λ (n : ℕ). leb n (s d).args.round.0) (value d) ∙ le-leb c.graft_at.result.round.0 (s d).args.round.0 c.if-graft_at-round.true))
 
 pub loop-j-preserved : goal.loop-j-preserved
 loop-j-preserved c =
-    (search rules, any-drop (test (goal.at.loop-j-preserved c).After-graft_at-k) (j (goal.at.loop-j-preserved c).After-graft_at-k) (entry 0 0) (ps (goal.at.loop-j-preserved c).After-graft_at-k) (here (goal.at.loop-j-preserved c).After-graft_at-k) (ap (λ (n : ℕ). leb n (s (goal.at.loop-j-preserved c).After-graft_at-k).args.round.0) (value (goal.at.loop-j-preserved c).After-graft_at-k) ∙ lt-leb c.graft_at-k.result.round.0 (s (goal.at.loop-j-preserved c).After-graft_at-k).args.round.0 (omega (arith, c.if-k-round.false))) ∙ c.loop-j.invariant.1)
+    let d = (goal.at.loop-j-preserved c).After-graft_at in
+    any-drop (test d) (j d) (entry 0 0) (ps d) (here d) (ap (λ (n : ℕ). leb n (s d).args.round.0) (value d) ∙ lt-leb c.graft_at.result.round.0 (s d).args.round.0 (omega (arith, c.if-graft_at-round.false))) ∙ c.loop-j.invariant
 
 pub returns : goal.returns
 returns c =
     let l = c.loop-j in
-    let m = (grafts_at (state_of c.args.h c.args.block.now) c.args.i).peers in
-    let all : take l.j m ≡ m = take_all l.j m (omega (arith, c.graft_count-n.ensures.0, c.loop-j-test.false)) in
-    sym (sym (ap (any (λ (e : Entry ℕ). leb e.value c.args.round.0)) all) ∙ l.invariant.1)
+    let m = (grafts_at (state_of c.args.head c.args.block.now) c.args.i).peers in
+    let all : take l.j m ≡ m = take_all l.j m (omega (arith, c.graft_count-j-end.ensures.0, c.loop-j-test.false)) in
+    sym (sym (ap (any (λ (e : Entry ℕ). leb e.value c.args.round.0)) all) ∙ l.invariant)

@@ -1,7 +1,6 @@
 -- `reads::grafted_within` meets its contract: no peer passed is grafted over so few hops.
 use mathlib.Core.Path.{◌≡◌}
 use mathlib.Core.Bool.{false}
-use Prim.Native.Nat.{◌-◌, ◌≤◌}
 use lib.Dec.{leb}
 use lib.ListN.{take}
 use Rattle.storage.specs.Lists.Base.{any}
@@ -10,7 +9,4 @@ use Rattle.block.specs.Caches.GraftSteps.{grafts_at}
 use Rattle.steps.proofs.grafts.reads.grafted_within.Given as goal
 
 abbrev pub invariant-loop-j : goal.invariant-loop-j
-invariant-loop-j l = (l.j ≤ l.n) × (any (λ e. leb e.value l.round.0) (take l.j (grafts_at (state_of l.h l.block) l.i).peers) ≡ false)
-
-abbrev pub decreases-loop-j : goal.decreases-loop-j
-decreases-loop-j l = l.n - l.j
+invariant-loop-j l = any (λ e. leb e.value l.round.0) (take l.j (grafts_at (state_of l.head l.block) l.i).peers) ≡ false

@@ -1,6 +1,6 @@
 -- `reads::kept_sender` meets its contract: flag and peer read are the `kept` of the view.
+use Rattle.std.specs.Prelude.{Some}
 use mathlib.Core.Path.{sym, ap, ◌∙◌}
-use mathlib.Core.Option.{some}
 use Prim.Native.Nat.{ℕ, ◌+◌, ◌*◌}
 use lib.ListN.{get_or}
 use Rattle.storage.specs.Rows.Part.{part}
@@ -13,7 +13,7 @@ returns-then-block-at-eq0 c =
     let g = c.grafted_at in
     let xs = c.args.block.now in
     let a = g.result + 119 * c.args.i in
-    sym (read_kept c.args.h xs c.requires.0 c.args.i c.requires.1 a (ap (λ (b : ℕ). b + 119 * c.args.i) g.ensures)
+    sym (read_kept c.args.head xs c.requires.0 c.args.i c.requires.1 a (ap (λ (b : ℕ). b + 119 * c.args.i) g.ensures)
     ∙ flag-none (get_or xs (a + 13) 0) (le_nat (part (a + 14) 8 xs)) c.if-block-at-eq0.true)
 
 pub returns : goal.returns
@@ -21,6 +21,6 @@ returns c =
     let g = c.grafted_at in
     let xs = c.args.block.now in
     let a = g.result + 119 * c.args.i in
-    (λ k. some (c.load.ensures k))
-    ∙ sym (read_kept c.args.h xs c.requires.0 c.args.i c.requires.1 a (ap (λ (b : ℕ). b + 119 * c.args.i) g.ensures)
+    (λ k. Some (c.load.ensures k))
+    ∙ sym (read_kept c.args.head xs c.requires.0 c.args.i c.requires.1 a (ap (λ (b : ℕ). b + 119 * c.args.i) g.ensures)
     ∙ flag-some (get_or xs (a + 13) 0) (le_nat (part (a + 14) 8 xs)) c.if-block-at-eq0.false)

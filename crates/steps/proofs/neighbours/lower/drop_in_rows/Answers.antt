@@ -1,4 +1,4 @@
--- `lower::drop_in_rows`: the lists of the first k rows are lowered, the other rows are as they were. The measure is n - k.
+-- `lower::drop_in_rows`: the lists of the first k rows are lowered, the other rows are as they were.
 use mathlib.Core.Path.{◌≡◌, refl, ap, ◌∙◌}
 use mathlib.Core.List.{List, ◌++◌}
 use Prim.Native.Nat.{ℕ, ◌+◌, ◌-◌, ◌*◌, ◌≤◌}
@@ -10,32 +10,19 @@ use Rattle.storage.proofs.RefsLaws.Shifts.{done, done-start, done_all}
 use Rattle.steps.specs.Neighbours.Lowered.{listed_of, listed, lower_listed}
 use Rattle.steps.proofs.NeighboursLaws.LoweredRows.{no_listed, count-was, rows_more, length-listed}
 use native.Mathlib.Omega.{arith}
-use borrow.Author.Rules.{rules}
 use Rattle.steps.proofs.neighbours.lower.drop_in_rows.Goals as goal
 use Rattle.steps.proofs.neighbours.lower.drop_in_rows.Goals.{In-loop-k, Start}
 
 -- row k lies in the slice
 room : (c : In-loop-k)
-    → c.loop-k.k * c.args.stride + c.args.stride ≤ length c.loop-k.b
+    → c.loop-k.k * c.args.stride + c.args.stride ≤ length c.loop-k.bytes
 room c =
-    omega (arith, row-end c.args.stride c.args.n c.loop-k.k c.loop-k-test.true, c.requires.1, c.loop-k.invariant.2)
+    omega (arith, row-end c.args.stride c.args.n c.loop-k.k c.loop-k-test.true, c.requires.1, c.loop-k.invariant.1)
 
 pub loop-k-init : goal.loop-k-init
 loop-k-init c =
     let a = c.args in
-    (search rules, done-start (lower_listed a.i) no_listed (listed a.o a.stride a.n a.b.now), refl)
-
-pub overflow_mul-at : goal.overflow_mul-at
-overflow_mul-at c = omega (arith, room c)
-
-pub overflow_add-at : goal.overflow_add-at
-overflow_add-at c = omega (arith, room c, c.requires.0)
-
-pub overflow_add-end : goal.overflow_add-end
-overflow_add-end c = omega (arith, room c, c.requires.0)
-
-pub slice_bounds-drop_in_list-end : goal.slice_bounds-drop_in_list-end
-slice_bounds-drop_in_list-end c = omega (arith, room c, c.requires.0)
+    (done-start (lower_listed a.i) no_listed (listed a.offset a.stride a.n a.bytes.now), refl)
 
 -- what is lent
 module _ (c : In-loop-k) where
@@ -43,10 +30,10 @@ module _ (c : In-loop-k) where
   s = (goal.at.In-loop-k c).Start
 
   abbrev b : List ℕ
-  b = c.loop-k.b
+  b = c.loop-k.bytes
 
   abbrev at : ℕ
-  at = c.loop-k.k * s.args.stride + s.args.o
+  at = c.loop-k.k * s.args.stride + s.args.offset
 
   lent : take (at + 97 - at) (drop at b) ≡ part at 97 b
   lent = part-between at 97 b
@@ -58,7 +45,7 @@ module _ (c : In-loop-k) where
       omega (
         arith,
         s.requires.2.each l.k c.loop-k-test.true,
-        count-was a.i a.o a.stride a.n a.b.now b l.k s.requires.0 c.loop-k-test.true s.requires.1 l.invariant.2 l.invariant.1,
+        count-was a.i a.offset a.stride a.n a.bytes.now b l.k s.requires.0 c.loop-k-test.true s.requires.1 l.invariant.1 l.invariant.0,
       )
 
 pub drop_in_list-requires : goal.drop_in_list-requires
@@ -77,18 +64,17 @@ loop-k-preserved c =
     let ll : length list ≡ 97 = c.drop_in_list.auto.list ∙ ap length (lent (goal.at.loop-k-preserved c).In-loop-k) ∙ length_part (at (goal.at.loop-k-preserved c).In-loop-k) 97 (b (goal.at.loop-k-preserved c).In-loop-k) (omega (arith, room (goal.at.loop-k-preserved c).In-loop-k, (s (goal.at.loop-k-preserved c).In-loop-k).requires.0)) in
     let w : take (at (goal.at.loop-k-preserved c).In-loop-k) (b (goal.at.loop-k-preserved c).In-loop-k) ++ (list ++ drop (at (goal.at.loop-k-preserved c).In-loop-k + 97 - at (goal.at.loop-k-preserved c).In-loop-k) (drop (at (goal.at.loop-k-preserved c).In-loop-k) (b (goal.at.loop-k-preserved c).In-loop-k))) ≡ put (at (goal.at.loop-k-preserved c).In-loop-k) list (b (goal.at.loop-k-preserved c).In-loop-k) =
     ap (λ (m : ℕ). take (at (goal.at.loop-k-preserved c).In-loop-k) (b (goal.at.loop-k-preserved c).In-loop-k) ++ (list ++ drop m (drop (at (goal.at.loop-k-preserved c).In-loop-k) (b (goal.at.loop-k-preserved c).In-loop-k)))) z ∙ loan-put (at (goal.at.loop-k-preserved c).In-loop-k) 97 list (b (goal.at.loop-k-preserved c).In-loop-k) ll in (
-      search rules,
-      ap (listed a.o a.stride a.n) w
-          ∙ rows_more a.i a.o a.stride a.n a.b.now (b (goal.at.loop-k-preserved c).In-loop-k) l.k (s (goal.at.loop-k-preserved c).In-loop-k).requires.0 c.loop-k-test.true (s (goal.at.loop-k-preserved c).In-loop-k).requires.1 l.invariant.2 l.invariant.1 list ll
+      ap (listed a.offset a.stride a.n) w
+          ∙ rows_more a.i a.offset a.stride a.n a.bytes.now (b (goal.at.loop-k-preserved c).In-loop-k) l.k (s (goal.at.loop-k-preserved c).In-loop-k).requires.0 c.loop-k-test.true (s (goal.at.loop-k-preserved c).In-loop-k).requires.1 l.invariant.1 l.invariant.0 list ll
           (c.drop_in_list.ensures ∙ ap (λ (t : List ℕ). lower_listed a.i (listed_of 0 t)) (lent (goal.at.loop-k-preserved c).In-loop-k)),
-      ap length w ∙ length-put (at (goal.at.loop-k-preserved c).In-loop-k) list (b (goal.at.loop-k-preserved c).In-loop-k) (omega (arith, room (goal.at.loop-k-preserved c).In-loop-k, (s (goal.at.loop-k-preserved c).In-loop-k).requires.0)) ∙ l.invariant.2,
+      ap length w ∙ length-put (at (goal.at.loop-k-preserved c).In-loop-k) list (b (goal.at.loop-k-preserved c).In-loop-k) (omega (arith, room (goal.at.loop-k-preserved c).In-loop-k, (s (goal.at.loop-k-preserved c).In-loop-k).requires.0)) ∙ l.invariant.1,
     )
 
 pub returns : goal.returns
 returns c =
     let l = c.loop-k in
     let a = c.args in
-    let rs = listed a.o a.stride a.n a.b.now in
+    let rs = listed a.offset a.stride a.n a.bytes.now in
     let f = lower_listed a.i in
     let e : l.k ≡ a.n = omega (arith, c.loop-k-test.false) in
-    l.invariant.1 ∙ ap (λ (k : ℕ). done f no_listed rs k) e ∙ done_all f no_listed rs a.n (length-listed a.o a.stride a.n a.b.now)
+    l.invariant.0 ∙ ap (λ (k : ℕ). done f no_listed rs k) e ∙ done_all f no_listed rs a.n (length-listed a.offset a.stride a.n a.bytes.now)

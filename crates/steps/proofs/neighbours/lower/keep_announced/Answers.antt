@@ -5,4 +5,4 @@ use Rattle.steps.proofs.neighbours.lower.keep_announced.Goals as goal
 pub returns : goal.returns
 returns c =
     let a = c.args in
-    (c.retain.ensures.0, kept-announced a.n c.retain.result a.b.now c.retain.new.b c.retain.ensures.1)
+    (c.retain.ensures.0, kept-announced a.n c.retain.result a.bytes.now c.retain.new.bytes c.retain.ensures.1)

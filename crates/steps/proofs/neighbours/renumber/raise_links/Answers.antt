@@ -1,7 +1,7 @@
 -- `renumber::raise_links`: the four changes one after the other.
 use mathlib.Core.Path.{◌≡◌}
-use mathlib.Core.List.{List}
-use Prim.Native.Nat.{ℕ, ◌-◌}
+use mathlib.Core.List.{List, map}
+use Prim.Native.Nat.{ℕ, ◌+◌, ◌-◌, ◌*◌, ◌≤◌}
 use lib.ListN.{length}
 use Rattle.storage.specs.Rows.Part.{part}
 use Rattle.storage.specs.Refs.Refs.{Below}
@@ -9,8 +9,11 @@ use Rattle.block.specs.Layout.{place}
 use Rattle.block.specs.View.{limits_of}
 use Rattle.block.specs.Sound.{AllNumbered}
 use Rattle.block.specs.declared.head.Head.{Head}
-use Rattle.steps.specs.Neighbours.Raised.{RaisedIn, RaisedLinks}
+use Rattle.steps.specs.Neighbours.Raised.{raised_row, RaisedIn, RaisedLinks}
 use Rattle.storage.specs.Refs.Numbers.{raised}
+use Rattle.storage.specs.Rows.Rows.{rows}
+use Rattle.storage.proofs.RowsLaws.Parts.{length_part}
+use Rattle.steps.proofs.NeighboursLaws.Lent.{lent, raised-in}
 use Rattle.steps.proofs.NeighboursLaws.RaiseSteps.{first-asks, long1, second-asks, long2, third-asks, long3, fourth-asks, all-steps}
 use native.Mathlib.Omega.{arith}
 use Rattle.steps.proofs.neighbours.renumber.raise_links.Goals as goal
@@ -22,7 +25,7 @@ module _ (d : After-timers_at-timers) where
   s = (goal.at.After-timers_at-timers d).Start
 
   abbrev h : Head
-  h = s.args.h
+  h = s.args.head
 
   abbrev xs : List ℕ
   xs = s.args.block.now
@@ -80,6 +83,16 @@ module _ (d : After-timers_at-timers) where
       asks3 : AllNumbered 255 22 119 h.live.grafted (part a7 (a8 - a7) y2)
       asks3 = third-asks h xs s.requires.0 s.args.i s.requires.1 a11 a13 a7 a8 a9 a10 e11 e13 e7 e8 e9 e10 y1 w1 y2 w2
 
+      in3 : a7 + (a8 - a7) ≤ length y2
+      in3 = omega (arith, e7, e8, s.requires.0, len2)
+
+      room3 : h.live.grafted * 119 ≤ length (part a7 (a8 - a7) y2)
+      room3 = omega (arith, e7, e8, s.requires.0, length_part a7 (a8 - a7) y2 in3)
+
+      step3 : (zs : List ℕ) → length zs ≡ length (part a7 (a8 - a7) y2) → rows 119 h.live.grafted zs ≡ map (raised_row s.args.i 22) (rows 119 h.live.grafted (part a7 (a8 - a7) y2))
+          → RaisedIn s.args.i a7 (a8 - a7) 119 h.live.grafted 22 y2 (lent a7 (a8 - a7) zs y2)
+      step3 zs e r = raised-in s.args.i a7 (a8 - a7) y2 zs e in3 119 h.live.grafted 22 r
+
       module _ (y3 : List ℕ) (w3 : RaisedIn s.args.i a7 (a8 - a7) 119 h.live.grafted 22 y2 y3) where
         len3 : length y3 ≡ length xs
         len3 = long3 h xs s.requires.0 s.args.i s.requires.1 a11 a13 a7 a8 a9 a10 e11 e13 e7 e8 e9 e10 y1 w1 y2 w2 y3 w3
@@ -87,47 +100,50 @@ module _ (d : After-timers_at-timers) where
         asks4 : AllNumbered 255 32 129 h.live.missing (part a9 (a10 - a9) y3)
         asks4 = fourth-asks h xs s.requires.0 s.args.i s.requires.1 a11 a13 a7 a8 a9 a10 e11 e13 e7 e8 e9 e10 y1 w1 y2 w2 y3 w3
 
-        done4 : (y4 : List ℕ) → RaisedIn s.args.i a9 (a10 - a9) 129 h.live.missing 32 y3 y4 → RaisedLinks s.args.i h xs y4
-        done4 y4 w4 = all-steps h xs s.requires.0 s.args.i s.requires.1 a11 a13 a7 a8 a9 a10 e11 e13 e7 e8 e9 e10 y1 w1 y2 w2 y3 w3 y4 w4
+        in4 : a9 + (a10 - a9) ≤ length y3
+        in4 = omega (arith, e9, e10, s.requires.0, len3)
+
+        room4 : h.live.missing * 129 ≤ length (part a9 (a10 - a9) y3)
+        room4 = omega (arith, e9, e10, s.requires.0, length_part a9 (a10 - a9) y3 in4)
+
+        done4 : (zs : List ℕ) → length zs ≡ length (part a9 (a10 - a9) y3) → rows 129 h.live.missing zs ≡ map (raised_row s.args.i 32) (rows 129 h.live.missing (part a9 (a10 - a9) y3))
+            → RaisedLinks s.args.i h xs (lent a9 (a10 - a9) zs y3)
+        done4 zs e r = all-steps h xs s.requires.0 s.args.i s.requires.1 a11 a13 a7 a8 a9 a10 e11 e13 e7 e8 e9 e10 y1 w1 y2 w2 y3 w3 (lent a9 (a10 - a9) zs y3) (raised-in s.args.i a9 (a10 - a9) y3 zs e in4 129 h.live.missing 32 r)
 
 pub raise_numbers-requires : goal.raise_numbers-requires
-raise_numbers-requires c = (omega (arith, e11 (goal.at.raise_numbers-requires c).After-timers_at-timers, (s (goal.at.raise_numbers-requires c).After-timers_at-timers).requires.0), asks1 (goal.at.raise_numbers-requires c).After-timers_at-timers)
+raise_numbers-requires c =
+    let d = (goal.at.raise_numbers-requires c).After-timers_at-timers in
+    (omega (arith, e11 d, (s d).requires.0), asks1 d)
 
 pub raise_numbers-requires-2 : goal.raise_numbers-requires-2
 raise_numbers-requires-2 c =
-    let y1 = c.raise_numbers.new.b in
+    let d = (goal.at.raise_numbers-requires-2 c).After-timers_at-timers in
+    let y1 = c.raise_numbers.new.bytes in
     let w1 = c.raise_numbers.ensures in
-    (omega (arith, e13 (goal.at.raise_numbers-requires-2 c).After-timers_at-timers, (s (goal.at.raise_numbers-requires-2 c).After-timers_at-timers).requires.0, len1 (goal.at.raise_numbers-requires-2 c).After-timers_at-timers y1 w1), asks2 (goal.at.raise_numbers-requires-2 c).After-timers_at-timers y1 w1)
+    (omega (arith, e13 d, (s d).requires.0, len1 d y1 w1), asks2 d y1 w1)
 
-pub raise_table-requires : goal.raise_table-requires
-raise_table-requires c =
-    let y1 = c.raise_numbers.new.b in
+pub raise_rows-requires : goal.raise_rows-requires
+unfolding part
+raise_rows-requires c =
+    let d = (goal.at.raise_rows-requires c).After-timers_at-timers in
     let w1 = c.raise_numbers.ensures in
-    let y2 = c.raise_numbers-2.new.b in
-    let w2 = c.raise_numbers-2.ensures in (
-      omega (arith, e7 (goal.at.raise_table-requires c).After-timers_at-timers, e8 (goal.at.raise_table-requires c).After-timers_at-timers, (s (goal.at.raise_table-requires c).After-timers_at-timers).requires.0),
-      omega (arith, e8 (goal.at.raise_table-requires c).After-timers_at-timers, (s (goal.at.raise_table-requires c).After-timers_at-timers).requires.0, len2 (goal.at.raise_table-requires c).After-timers_at-timers y1 w1 y2 w2),
-      omega arith,
-      omega (arith, e7 (goal.at.raise_table-requires c).After-timers_at-timers, e8 (goal.at.raise_table-requires c).After-timers_at-timers, (s (goal.at.raise_table-requires c).After-timers_at-timers).requires.0),
-      asks3 (goal.at.raise_table-requires c).After-timers_at-timers y1 w1 y2 w2,
-    )
-
-pub raise_table-requires-2 : goal.raise_table-requires-2
-raise_table-requires-2 c =
-    let y1 = c.raise_numbers.new.b in
-    let w1 = c.raise_numbers.ensures in
-    let y2 = c.raise_numbers-2.new.b in
     let w2 = c.raise_numbers-2.ensures in
-    let y3 = c.raise_table.new.block in
-    let w3 = c.raise_table.ensures in (
-      omega (arith, e9 (goal.at.raise_table-requires-2 c).After-timers_at-timers, e10 (goal.at.raise_table-requires-2 c).After-timers_at-timers, (s (goal.at.raise_table-requires-2 c).After-timers_at-timers).requires.0),
-      omega (arith, e10 (goal.at.raise_table-requires-2 c).After-timers_at-timers, (s (goal.at.raise_table-requires-2 c).After-timers_at-timers).requires.0, len3 (goal.at.raise_table-requires-2 c).After-timers_at-timers y1 w1 y2 w2 y3 w3),
-      omega arith,
-      omega (arith, e9 (goal.at.raise_table-requires-2 c).After-timers_at-timers, e10 (goal.at.raise_table-requires-2 c).After-timers_at-timers, (s (goal.at.raise_table-requires-2 c).After-timers_at-timers).requires.0),
-      asks4 (goal.at.raise_table-requires-2 c).After-timers_at-timers y1 w1 y2 w2 y3 w3,
-    )
+    (omega arith, room3 d _ w1 _ w2, asks3 d _ w1 _ w2)
+
+pub raise_rows-requires-2 : goal.raise_rows-requires-2
+unfolding part
+raise_rows-requires-2 c =
+    let d = (goal.at.raise_rows-requires-2 c).After-timers_at-timers in
+    let w1 = c.raise_numbers.ensures in
+    let w2 = c.raise_numbers-2.ensures in
+    let w3 = step3 d _ w1 _ w2 _ c.raise_rows.auto.bytes c.raise_rows.ensures in
+    (omega arith, room4 d _ w1 _ w2 _ w3, asks4 d _ w1 _ w2 _ w3)
 
 pub returns : goal.returns
+unfolding part
 returns c =
-    done4 (goal.at.returns c).After-timers_at-timers c.raise_numbers.new.b c.raise_numbers.ensures c.raise_numbers-2.new.b c.raise_numbers-2.ensures c.raise_table.new.block c.raise_table.ensures
-    c.raise_table-2.new.block c.raise_table-2.ensures
+    let d = (goal.at.returns c).After-timers_at-timers in
+    let w1 = c.raise_numbers.ensures in
+    let w2 = c.raise_numbers-2.ensures in
+    let w3 = step3 d _ w1 _ w2 _ c.raise_rows.auto.bytes c.raise_rows.ensures in
+    done4 d _ w1 _ w2 _ w3 _ c.raise_rows-2.auto.bytes c.raise_rows-2.ensures

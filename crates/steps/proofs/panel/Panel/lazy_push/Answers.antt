@@ -1,13 +1,10 @@
 -- `lazy_push` meets its contract.
-use Rattle.std.proofs.Common.{◌∙◌, sym, ◌<◌, length, refl, arith}
+use Rattle.std.proofs.Common.{◌∙◌, sym, ◌<◌, length, arith}
 use Rattle.storage.specs.Rows.Ident.{id_of}
 use Rattle.steps.specs.Panels.{state}
-use Rattle.steps.proofs.LazyPushLaws.{lazy-start, lazy-take, lazy-skip, lazy-room, lazy-end}
+use Rattle.steps.proofs.LazyPushLaws.{lazy-take, lazy-skip, lazy-room, lazy-end}
 use Rattle.steps.proofs.panel.Panel.lazy_push.Goals as goal
 use Rattle.steps.proofs.panel.Panel.lazy_push.Goals.{then-is_lazy_target, else-is_lazy_target}
-
-pub loop-link-init : goal.loop-link-init
-loop-link-init c = record { state = lazy-start (id_of c.args.id) c.args.round.0 c.args.sender (state c.args.self.now); loan = refl }
 
 pub push_queued-requires-clause-room : goal.push_queued-requires-clause-room
 push_queued-requires-clause-room c =

@@ -1,7 +1,7 @@
 -- The entry that is found, if there is one.
+use Rattle.std.specs.Prelude.{None}
 use Rattle.std.proofs.Common.{◌≡◌, ◌∙◌, refl, arith}
 use Rattle.std.proofs.Math.Path.{subst}
-use Rattle.std.proofs.Math.Option.{none}
 use Rattle.storage.specs.Rows.Ident.{id_of}
 use Rattle.time_cache.specs.TimeCache.{get}
 use Rattle.protocol.specs.State.{State}
@@ -42,5 +42,5 @@ returns-in-Some c =
 pub returns-in_default : goal.returns-in_default
 returns-in_default c =
     let a = c.args in
-    let none-there = subst (λ (s : State). get (id_of a.id) (settled a.call.now.instant.0 s).grafted ≡ none) (same-state a.self.now c.view.result c.view.ensures.head c.view.ensures.block) c.in_default.ensures in
+    let none-there = subst (λ (s : State). get (id_of a.id) (settled a.call.now.instant.0 s).grafted ≡ None) (same-state a.self.now c.view.result c.view.ensures.head c.view.ensures.block) c.in_default.ensures in
     record { state = first-none a.call.now.instant.0 a.sender (id_of a.id) a.round.0 (state a.self.now) c.requires.1 none-there; loan = refl }

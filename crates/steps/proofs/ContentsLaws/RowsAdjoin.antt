@@ -17,7 +17,7 @@ use Rattle.time_cache.proofs.ExpiryLaws.{row-at, length-expiry_rows}
 use Rattle.block.specs.View.{four_at}
 use Rattle.block.specs.Sound.{Adjoining}
 use Rattle.block.specs.Sound.Adjoining.{done as last, next as then}
-use Rattle.steps.specs.Contents.Starts.{start_of, len_of, first_start, Chain, done, next, with_start, with_len, shifted_row, Above}
+use Rattle.steps.specs.Contents.Starts.{start_of, len_of, first_start, RowsAdjoin, done, next, with_start, with_len, shifted_row, Above}
 
 -- start and length in the bytes of a row
 pub start-bytes : (row : List ℕ) → start_of (expiry_row_of row) ≡ four_at 40 row
@@ -28,39 +28,39 @@ pub len-bytes : (row : List ℕ) → len_of (expiry_row_of row) ≡ four_at 44 r
 unfolding expiry_row_of four_at part
 len-bytes row = ap (λ (z : List ℕ). le_nat (take 4 z)) (drop-drop 4 40 row)
 
-pub of-adjoining : {a e : ℕ} {rs : List (List ℕ)} → Adjoining a rs e → Chain a (map expiry_row_of rs) e
+pub of-adjoining : {a e : ℕ} {rs : List (List ℕ)} → Adjoining a rs e → RowsAdjoin a (map expiry_row_of rs) e
 of-adjoining last = done
 of-adjoining {a} {e} (then row more s r) =
-    next (expiry_row_of row) (map expiry_row_of more) (start-bytes row ∙ s) (subst (λ (b : ℕ). Chain (a + b) (map expiry_row_of more) e) (sym (len-bytes row)) (of-adjoining r))
+    next (expiry_row_of row) (map expiry_row_of more) (start-bytes row ∙ s) (subst (λ (b : ℕ). RowsAdjoin (a + b) (map expiry_row_of more) e) (sym (len-bytes row)) (of-adjoining r))
 
-pub to-adjoining : (a e : ℕ) (rs : List (List ℕ)) → Chain a (map expiry_row_of rs) e → Adjoining a rs e
+pub to-adjoining : (a e : ℕ) (rs : List (List ℕ)) → RowsAdjoin a (map expiry_row_of rs) e → Adjoining a rs e
 to-adjoining a e [] done = last
 to-adjoining a e (row ∷ more) (next x xs s c) =
-    then row more (sym (start-bytes row) ∙ s) (to-adjoining (a + four_at 44 row) e more (subst (λ (b : ℕ). Chain (a + b) (map expiry_row_of more) e) (len-bytes row) c))
+    then row more (sym (start-bytes row) ∙ s) (to-adjoining (a + four_at 44 row) e more (subst (λ (b : ℕ). RowsAdjoin (a + b) (map expiry_row_of more) e) (len-bytes row) c))
 
-pub chain-ends : {a e : ℕ} {xs : List ExpiryRow} → Chain a xs e → a ≤ e
+pub chain-ends : {a e : ℕ} {xs : List ExpiryRow} → RowsAdjoin a xs e → a ≤ e
 chain-ends done = omega arith
 chain-ends (next x xs s c) = omega (arith, chain-ends c)
 
 -- row p lies between start and end
-pub chain-at : {a e : ℕ} {xs : List ExpiryRow} → Chain a xs e → (p : ℕ) → p < length xs → (a ≤ start_of (row_at xs p)) × (start_of (row_at xs p) + len_of (row_at xs p) ≤ e)
+pub chain-at : {a e : ℕ} {xs : List ExpiryRow} → RowsAdjoin a xs e → (p : ℕ) → p < length xs → (a ≤ start_of (row_at xs p)) × (start_of (row_at xs p) + len_of (row_at xs p) ≤ e)
 chain-at done p h = absurd (omega arith)
 chain-at (next x xs s c) zero h = (omega (arith, s), omega (arith, s, chain-ends c))
 chain-at (next x xs s c) (suc p) h = let r = chain-at c p (omega arith) in (omega (arith, r.0), r.1)
 
-pub chain-total : {a e : ℕ} {xs : List ExpiryRow} → Chain a xs e → a + sum len_of xs ≡ e
+pub chain-total : {a e : ℕ} {xs : List ExpiryRow} → RowsAdjoin a xs e → a + sum len_of xs ≡ e
 unfolding sum
 chain-total done = omega arith
 chain-total (next x xs s c) = omega (arith, chain-total c)
 
 -- the first d rows are gone
-pub chain-drop : {a e : ℕ} {xs : List ExpiryRow} → Chain a xs e → (d : ℕ) → Chain (first_start e (drop d xs)) (drop d xs) e
+pub chain-drop : {a e : ℕ} {xs : List ExpiryRow} → RowsAdjoin a xs e → (d : ℕ) → RowsAdjoin (first_start e (drop d xs)) (drop d xs) e
 chain-drop done zero = done
 chain-drop done (suc d) = done
-chain-drop (next {e = e} x xs s c) zero = next x xs refl (subst (λ (b : ℕ). Chain (b + len_of x) xs e) (sym s) c)
+chain-drop (next {e = e} x xs s c) zero = next x xs refl (subst (λ (b : ℕ). RowsAdjoin (b + len_of x) xs e) (sym s) c)
 chain-drop (next x xs s c) (suc d) = chain-drop c d
 
-pub chain_first : {a e : ℕ} {xs : List ExpiryRow} → Chain a xs e → first_start e xs ≡ a
+pub chain_first : {a e : ℕ} {xs : List ExpiryRow} → RowsAdjoin a xs e → first_start e xs ≡ a
 chain_first done = refl
 chain_first (next x xs s c) = s
 
@@ -69,14 +69,14 @@ pub data Along (up down : ℕ) : List ExpiryRow → List ExpiryRow → Type 0 wh
   none : Along up down [] []
   more : (x y : ExpiryRow) (xs ys : List ExpiryRow) → y.time ≡ x.time → y.key ≡ x.key → start_of y + down ≡ start_of x + up → len_of y ≡ len_of x → Along up down xs ys → Along up down (x ∷ xs) (y ∷ ys)
 
-chain_head : {a e : ℕ} {x : ExpiryRow} {xs : List ExpiryRow} → Chain a (x ∷ xs) e → (start_of x ≡ a) × Chain (a + len_of x) xs e
+chain_head : {a e : ℕ} {x : ExpiryRow} {xs : List ExpiryRow} → RowsAdjoin a (x ∷ xs) e → (start_of x ≡ a) × RowsAdjoin (a + len_of x) xs e
 chain_head (next x xs s c) = (s, c)
 
-chain-none : {a e : ℕ} → Chain a [] e → e ≡ a
+chain-none : {a e : ℕ} → RowsAdjoin a [] e → e ≡ a
 chain-none done = refl
 
-pub chain-along : {up down a e : ℕ} {xs ys : List ExpiryRow} (a' e' : ℕ) → Along up down xs ys → Chain a xs e → a' + down ≡ a + up → e' + down ≡ e + up → Chain a' ys e'
-chain-along a' e' none c f g = subst (λ (b : ℕ). Chain a' [] b) (omega (arith, f, g, chain-none c)) done
+pub chain-along : {up down a e : ℕ} {xs ys : List ExpiryRow} (a' e' : ℕ) → Along up down xs ys → RowsAdjoin a xs e → a' + down ≡ a + up → e' + down ≡ e + up → RowsAdjoin a' ys e'
+chain-along a' e' none c f g = subst (λ (b : ℕ). RowsAdjoin a' [] b) (omega (arith, f, g, chain-none c)) done
 chain-along {up = up} {down = down} {a = a} {e = e} a' e' (more x y xs ys t k s l r) c f g =
     let p = chain_head c in
     next {a = a'} {e = e'} y ys (omega (arith, s, p.0, f)) (chain-along {up = up} {down = down} {a = a + len_of x} {e = e} (a' + len_of y) e' r p.1 (omega (arith, l, f)) g)
@@ -113,7 +113,7 @@ wide_rows m x h i l =
     ∙ length-drop 40 (part (i * 48) 48 x)
     ∙ ap (λ (n : ℕ). n - 40) (length_part (i * 48) 48 x (omega (arith, row-end 48 m i q)))
 
-pub along-map : (up down : ℕ) {a e : ℕ} {xs : List ExpiryRow} → Wide xs → Chain a xs e → down ≤ a + up → e + up < 4294967296 → Along up down xs (map (shifted_row up down) xs)
+pub along-map : (up down : ℕ) {a e : ℕ} {xs : List ExpiryRow} → Wide xs → RowsAdjoin a xs e → down ≤ a + up → e + up < 4294967296 → Along up down xs (map (shifted_row up down) xs)
 along-map up down w done h g = none
 along-map up down w (next x xs s c) h g =
     let v : ℕ = start_of x + up - down in
@@ -122,28 +122,28 @@ along-map up down w (next x xs s c) h g =
     (omega (arith, start-set v x (omega (arith, w 0 (omega arith))) b, s)) (start-len v x)
     (along-map up down (λ i l. w (suc i) (omega arith)) c (omega arith) g)
 
-pub chain-above : (up down : ℕ) {a e : ℕ} {xs : List ExpiryRow} → Chain a xs e → down ≤ a + up → Above up down xs
+pub chain-above : (up down : ℕ) {a e : ℕ} {xs : List ExpiryRow} → RowsAdjoin a xs e → down ≤ a + up → Above up down xs
 chain-above up down c h = record { above = λ i l. omega (arith, (chain-at c i l).0) }
 
 -- a row ends where or before a later row starts
-pub chain-order : {a e : ℕ} {xs : List ExpiryRow} → Chain a xs e → (q p : ℕ) → q < p → p < length xs → start_of (row_at xs q) + len_of (row_at xs q) ≤ start_of (row_at xs p)
+pub chain-order : {a e : ℕ} {xs : List ExpiryRow} → RowsAdjoin a xs e → (q p : ℕ) → q < p → p < length xs → start_of (row_at xs q) + len_of (row_at xs q) ≤ start_of (row_at xs p)
 chain-order done q p h l = absurd (omega arith)
 chain-order (next x xs s c) q zero h l = absurd (omega arith)
 chain-order (next x xs s c) zero (suc p) h l = omega (arith, s, (chain-at c p (omega arith)).0)
 chain-order (next x xs s c) (suc q) (suc p) h l = chain-order c q p (omega arith) (omega arith)
 
 -- another length in row p, and the rows behind it moved by as much
-pub chain-resize : {k old a e : ℕ} {xs : List ExpiryRow} (e' p : ℕ) (y : ExpiryRow) (ys : List ExpiryRow) → Chain a xs e → p < length xs → Along k old (drop (suc p) xs) ys
-    → start_of y ≡ start_of (row_at xs p) → len_of y ≡ k → len_of (row_at xs p) ≡ old → e' + old ≡ e + k → Chain a (take p xs ++ (y ∷ ys)) e'
+pub chain-resize : {k old a e : ℕ} {xs : List ExpiryRow} (e' p : ℕ) (y : ExpiryRow) (ys : List ExpiryRow) → RowsAdjoin a xs e → p < length xs → Along k old (drop (suc p) xs) ys
+    → start_of y ≡ start_of (row_at xs p) → len_of y ≡ k → len_of (row_at xs p) ≡ old → e' + old ≡ e + k → RowsAdjoin a (take p xs ++ (y ∷ ys)) e'
 chain-resize e' p y ys done h al s l o t = absurd (omega arith)
 chain-resize e' zero y ys (next {a = a} x xs sx c) h al s l o t = next {a = a} {e = e'} y ys (s ∙ sx) (chain-along (a + len_of y) e' al c (omega (arith, l, o)) t)
 chain-resize e' (suc p) y ys (next {a = a} x xs sx c) h al s l o t = next {a = a} {e = e'} x (take p xs ++ (y ∷ ys)) sx (chain-resize e' p y ys c (omega arith) al s l o t)
 
 -- a row without a content put in before row j
-pub chain-gap : {a e : ℕ} {xs : List ExpiryRow} (j : ℕ) (y : ExpiryRow) → Chain a xs e → start_of y ≡ first_start e (drop j xs) → len_of y ≡ 0 → Chain a (take j xs ++ (y ∷ drop j xs)) e
-chain-gap {a} zero y done s l = next {a = a} {e = a} y [] s (subst (λ (b : ℕ). Chain b [] a) (omega (arith, l)) done)
-chain-gap {a} (suc j) y done s l = next {a = a} {e = a} y [] s (subst (λ (b : ℕ). Chain b [] a) (omega (arith, l)) done)
-chain-gap {a} {e} zero y (next x xs sx c) s l = next {a = a} {e = e} y (x ∷ xs) (s ∙ sx) (subst (λ (b : ℕ). Chain b (x ∷ xs) e) (omega (arith, l)) (next {a = a} {e = e} x xs sx c))
+pub chain-gap : {a e : ℕ} {xs : List ExpiryRow} (j : ℕ) (y : ExpiryRow) → RowsAdjoin a xs e → start_of y ≡ first_start e (drop j xs) → len_of y ≡ 0 → RowsAdjoin a (take j xs ++ (y ∷ drop j xs)) e
+chain-gap {a} zero y done s l = next {a = a} {e = a} y [] s (subst (λ (b : ℕ). RowsAdjoin b [] a) (omega (arith, l)) done)
+chain-gap {a} (suc j) y done s l = next {a = a} {e = a} y [] s (subst (λ (b : ℕ). RowsAdjoin b [] a) (omega (arith, l)) done)
+chain-gap {a} {e} zero y (next x xs sx c) s l = next {a = a} {e = e} y (x ∷ xs) (s ∙ sx) (subst (λ (b : ℕ). RowsAdjoin b (x ∷ xs) e) (omega (arith, l)) (next {a = a} {e = e} x xs sx c))
 chain-gap {a} {e} (suc j) y (next x xs sx c) s l = next {a = a} {e = e} x (take j xs ++ (y ∷ drop j xs)) sx (chain-gap {a = a + len_of x} {e = e} j y c s l)
 
 -- another length, in bytes
@@ -160,7 +160,7 @@ wide-drop d xs w i h =
     ap (λ (y : ExpiryRow). length y.rest) (get_or-drop d xs i no_row) ∙ w (d + i) (omega (arith, length-drop d xs))
 
 -- a row starts where the one before it ends
-pub chain_next : {a e : ℕ} {xs : List ExpiryRow} → Chain a xs e → (p : ℕ) → p < length xs → first_start e (drop (suc p) xs) ≡ start_of (row_at xs p) + len_of (row_at xs p)
+pub chain_next : {a e : ℕ} {xs : List ExpiryRow} → RowsAdjoin a xs e → (p : ℕ) → p < length xs → first_start e (drop (suc p) xs) ≡ start_of (row_at xs p) + len_of (row_at xs p)
 chain_next done p h = absurd (omega arith)
 chain_next (next x xs s c) zero h = omega (arith, s, chain_first c)
 chain_next (next x xs s c) (suc p) h = chain_next c p (omega arith)

@@ -1,4 +1,4 @@
--- Eviction twice at one instant is eviction once; the numbers after neighbour up.
+-- Eviction twice at one instant leaves as many as eviction once.
 -- Assumes nothing.
 use Prim.Native.Nat.{ℕ, suc, ◌+◌}
 use mathlib.Core.Path.{◌≡◌, refl, ap}

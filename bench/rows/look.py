@@ -1,5 +1,5 @@
 #!/usr/bin/env python3
-# Reads `objdump -dr` of libexports.a and prints, for each function, what became of the moves of rows and of the loads of words. Fails where
+# Reads `objdump -dr` of libexports.a and prints, for each function of the time caches, what became of the moves of rows and of the loads of words. Fails where
 # a move is not vector code or a word is put together from bytes.
 #
 # The functions of crates/storage/src/rows are compiled into their callers, so their names are gone; a move is found as a loop. A loop is a jump back, and it
@@ -39,6 +39,9 @@ def direction(body):
 
 ok = True
 for name, code in read(sys.stdin).items():
+    # The archive has the identifier too.
+    if 'time_cache' not in name:
+        continue
     moves, others, copied = [], 0, set()
     for first, last in innermost(code):
         body = [text for at, text, _ in code if first <= at <= last]

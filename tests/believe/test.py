@@ -8,15 +8,15 @@ import believe
 
 # By reading: what must be among them, and what must not (it exists, and serves proofs or functions inside the library).
 IN = """
-storage.Lists.Base.is_some storage.Lists.Map.insert storage.Rows.Digits.le_nat postcard.Number.◌then◌ postcard.Decode.decode_event postcard.Sizes.per_message postcard.Told.Leaves postcard.Rewrite.rewrite postcard.src.units.Round
+storage.Lists.Map.insert storage.Rows.Digits.le_nat postcard.Number.◌then◌ postcard.Decode.decode_event postcard.Sizes.per_message postcard.Told.Leaves postcard.Rewrite.rewrite postcard.src.units.Round
 time_cache.TimeCache.expire_until blake3.Blake3.compressed protocol.State.create protocol.Whole.whole_state protocol.Gossips.optimize_tree protocol.Answer.answer_block
 protocol.NoNeighbourPassedOver.met_full protocol.Alike.same_notes protocol.Panel.panelrun block.src.head.Config block.Header.head_in block.View.state_of whole.Held.held whole.States.Kept.keep whole.States.Area.area_holds whole.States.Calls.Saves machine.Called.Finds
 machine.Called.call_of plumtree.Calls.Made plumtree.Calls.entries plumtree.lib.plumtree_alike panel.Writing.AppendsFront panel.Answering.WritesFront
 protocol.NoNeighbourPassedOver.NoNeighbourPassedOver protocol.AlikeUnordered.same_bag plumtree.CallList.LeadsTo plumtree.Histories.History.Step protocol.laws.no_neighbour_passed_over postcard.Rewrite.ShortestForm whole.States.Area.LeftBy
 """
 OUT = """
-storage.Rows.Part.Only storage.Rows.Sorted.Ascending storage.Refs.Once.Numbers postcard.Message.event_bytes postcard.Output.Room wire.Reader.Gives.Decodes blake3.WordOrder.order
-decide.Settled.settled alike.Notes.NextOf block.Goes.Goes block.Sound.Sound whole.States.Calls.Placed protocol.AlikeCalls.Peerwise.Like steps.Stands.Stands machine.Kinds.Meaning.peer_of machine.Core.Begins machine.Core.core_rooms
+storage.Rows.Part.Only storage.Rows.Sorted.Ascending storage.Refs.Once.Numbers postcard.Message.event_bytes postcard.Output.FitsAt wire.Reader.Gives.Decodes blake3.WordOrder.order
+decide.Settled.settled alike.NoteTable.NextOf block.Goes.Goes block.Sound.Sound whole.States.Calls.Placed protocol.AlikeCalls.Peerwise.Like steps.Stands.Stands machine.Kinds.Meaning.peer_of machine.Core.Begins machine.Core.core_rooms
 machine.Decided.decided machine.Steps.Asked plumtree.Rooms.Found plumtree.Peers.Sender panel.Records.Reading.Whole
 """
 

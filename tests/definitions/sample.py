@@ -312,7 +312,7 @@ def grafted(text):
         e, first, kept, peers = rest.split("/")
         ps = sorted(tuple(map(int, p.split(":"))) for p in split(peers, "+"))
         yield timed(i, e, "record { first = %s; kept = %s; peers = %s }" % (
-            "none" if first == "-" else "some " + hop(first), "none" if kept == "-" else "some " + kept,
+            "None" if first == "-" else "Some " + hop(first), "None" if kept == "-" else "Some " + kept,
             seq("(entry %d %d)" % p for p in ps)))
 
 
@@ -424,9 +424,8 @@ def unfoldings():
 
 
 PRELUDE = """-- The Rust's answers to lists of calls, which the definitions give too: outputs, answer numbers, states and counts. Written by tests/definitions/sample.py from calls.txt beside it.
-use Rattle.std.specs.Prelude.{ℕ, ◌≡◌, Bool, true, false, ◌&&◌, if◌then◌else◌, List, [], ◌∷◌, map, eqb}
+use Rattle.std.specs.Prelude.{ℕ, ◌≡◌, Bool, true, false, ◌&&◌, if◌then◌else◌, List, [], ◌∷◌, map, eqb, Some, None}
 use Rattle.std.proofs.Common.{refl}
-use Rattle.std.proofs.Math.Option.{none, some}
 use Rattle.std.proofs.Math.ListN.{replicate}
 %s
 use Rattle.storage.specs.Lists.Map.{entry}

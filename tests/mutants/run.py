@@ -1,12 +1,16 @@
 #!/usr/bin/env python3
-"""run.py [WORD ..] [--table]: applies each change of mutants.txt (those whose lines have one of the words; with no word, those not run yet) to a copy of the
-sources, compiles it unproved and runs it beside the Rust for at most a minute. Writes a table to RESULTS.md; --table does only that. No part of the gate: it tests the tests."""
-import json, os, re, shutil, subprocess, sys, tempfile
+"""run.py [WORD ..] [--table]: makes one library of the sources that holds the changes of mutants.txt (those whose lines have one of the words; with no word, those not run on
+today's code of their function), each beside the code it changes, unproved, and runs it beside the Rust once for each change, at most a minute. Their rows go into RESULTS.md;
+--table writes that file anew and runs nothing. No part of the gate: it tests the tests."""
+import hashlib, os, re, shutil, subprocess, sys, tempfile
 
 here = os.path.dirname(os.path.abspath(__file__))
 top = os.path.dirname(os.path.dirname(here))
+RESULTS = os.path.join(here, 'RESULTS.md')
 SOURCES = os.environ.get('SOURCES', top)
 SECONDS = int(os.environ.get('SECONDS_EACH', '60'))
+# For changes of which mutants.txt says why no call can tell them.
+EXPLAINED = int(os.environ.get('SECONDS_EXPLAINED', '15'))
 SEED = os.environ.get('SEED', '7')
 
 
@@ -44,15 +48,31 @@ def code_of(text, function):
     following = re.compile(r'^\s*(pub(\(crate\))? )?(extern "C" )?fn ', re.M).search(text, start.end())
     end = following.start() if following else len(text)
     at = re.compile(r'\{$', re.M).search(text, start.end(), end)
-    return (at.start(), end) if at else (0, 0)
+    return (at.start(), body_end(text, at.start())) if at else (0, 0)
+
+
+def body_end(text, at):
+    """Behind the brace that closes the one at `at`; braces of comments do not count."""
+    depth, i = 0, at
+    while True:
+        if text.startswith('//', i):
+            i = text.index('\n', i)
+        depth += {'{': 1, '}': -1}.get(text[i], 0)
+        i += 1
+        if depth == 0:
+            return i
+
+
+def source(file):
+    path = os.path.join(SOURCES, file)
+    return open(path).read() if os.path.exists(path) else ''
 
 
 def misplaced(mutants):
     """The changes whose text does not stand exactly once in the code of their function."""
     found = []
     for file, function, old, new, _ in mutants:
-        path = os.path.join(SOURCES, file)
-        text = open(path).read() if os.path.exists(path) else ''
+        text = source(file)
         at, end = code_of(text, function)
         times = text[at:end].count(old)
         if times != 1:
@@ -60,60 +80,64 @@ def misplaced(mutants):
     return found
 
 
-def changed(text, function, old, new):
-    """The file's text with the change in the function's code."""
-    at, end = code_of(text, function)
-    return text[:at] + text[at:end].replace(old, new, 1) + text[end:]
+def code_sum(m):
+    """A number of the function's code."""
+    text = source(m[0])
+    at, end = code_of(text, m[1])
+    return hashlib.sha256(text[at:end].encode()).hexdigest()[:8]
 
 
-def sources(copy):
+def write_sources(copy, mutants):
+    """The sources, where the code of each changed function begins with a choice by the number that a run is started with: 1 is the first change, .."""
     shutil.copy(os.path.join(SOURCES, 'crates.txt'), copy)
     for c in os.listdir(os.path.join(SOURCES, 'crates')):
         src = os.path.join(SOURCES, 'crates', c, 'src')
         if os.path.isdir(src):
             shutil.copytree(src, os.path.join(copy, 'crates', c, 'src'))
+    changes = {}
+    for number, (file, function, old, new, _) in enumerate(mutants, 1):
+        changes.setdefault(file, {}).setdefault(function, []).append((number, old, new))
+    crates = set()
+    for file, functions in changes.items():
+        text = source(file)
+        crates.add(file.split('/')[1])
+        # The last function first, so that the places of the others stay.
+        for function in sorted(functions, key=lambda f: -code_of(text, f)[0]):
+            at, end = code_of(text, function)
+            body = text[at:end]
+            chosen = ''.join('if crate::chosen_change() == %d %s else ' % (n, body.replace(old, new, 1)) for n, old, new in functions[function])
+            text = text[:at] + '{\n' + chosen + body + '\n}' + text[end:]
+        open(os.path.join(copy, file), 'w').write(text)
+    for c in crates:
+        with open(os.path.join(copy, 'crates', c, 'src', 'lib.rt'), 'a') as f:
+            f.write('\npub fn chosen_change() -> u32 {\n    0\n}\n')
 
 
 def build(copy, so):
     r = subprocess.run(['bash', os.path.join(here, 'build.sh'), copy, so], env=dict(os.environ, OPT='-O1', CHECKS='no'), capture_output=True, text=True)
-    return r.returncode == 0, r.stderr
+    if r.returncode:
+        sys.exit('the library is not built:\n' + r.stderr)
 
 
-def judge(beside, lib):
+def judge(beside, lib, number, seconds):
     """Whether the runs tell it apart, after how many calls, and by which comparison."""
-    env = dict(os.environ, LD_LIBRARY_PATH=lib)
-    p = subprocess.Popen([beside, '--brief', '--no-shrink', '--seed', SEED, '--seconds', str(SECONDS)], env=env, stdout=subprocess.PIPE, stderr=subprocess.DEVNULL, text=True, start_new_session=True)
+    env = dict(os.environ, LD_LIBRARY_PATH=lib, CHANGE=str(number))
+    p = subprocess.Popen([beside, '--brief', '--no-shrink', '--seed', SEED, '--seconds', str(seconds)], env=env, stdout=subprocess.PIPE, stderr=subprocess.DEVNULL, text=True, start_new_session=True)
     try:
-        out, _ = p.communicate(timeout=SECONDS + 30)
+        out, _ = p.communicate(timeout=seconds + 30)
     except subprocess.TimeoutExpired:
         os.killpg(p.pid, 9)
         p.communicate()
-        return 'caught', '', 'a call that does not end'
+        return 'yes', '', 'a call that does not end'
     m = re.search(r'DIFFERENT: seed \d+ list \d+ after (\d+) calls: ([^\n]*)', out)
     if m:
         why = m.group(2)
         why = re.sub(r'^creation: me .*: ([^:]*)$', r'creation: \1', why)
         why = re.sub(r'[:,] the (Rust|model).*', '', why)
         why = re.sub(r'(answer|creation).*', r'\1', why) if why.startswith(('answer', 'creation')) else why
-        return 'caught', m.group(1), why.strip(' :').replace('|', '/')[:70]
+        return 'yes', m.group(1), why.strip(' :').replace('|', '/')[:70]
     m = re.search(r'seed \d+: (\d+) calls .* 0 different', out)
-    return ('SURVIVED', m.group(1), '') if m else ('?', '', out[-200:].replace('\n', ' '))
-
-
-def key(m):
-    return ' '.join(m[:4])
-
-
-def in_turn(mutants, rows):
-    """Those not run yet, the crates by turns; last those that nothing tells apart, which take their whole minute."""
-    done = {}
-    todo = []
-    for m in sorted(mutants, key=lambda m: key(m) not in rows):
-        crate = m[0].split('/')[1]
-        done[crate] = done.get(crate, 0) + 1
-        if key(m) not in rows:
-            todo.append(((m[4] is not None, done[crate]), m))
-    return [m for _, m in sorted(todo, key=lambda t: t[0])]
+    return ('no', m.group(1), '') if m else ('?', '', out[-200:].replace('\n', ' '))
 
 
 def named(m):
@@ -123,81 +147,84 @@ def named(m):
     return '| %s | %s |' % (where, ('`%s` → `%s`' % (old, new)).replace('|', '\\|'))
 
 
-def earlier(mutants, rows):
-    """The rows of RESULTS.md of changes that are in the list still, and were not run since."""
-    path = os.path.join(here, 'RESULTS.md')
-    lines = [l.rstrip('\n') for l in open(path)] if os.path.exists(path) else []
-    left = [named(m) for m in mutants if key(m) not in rows]
-    return [l for l in lines if any(l.startswith(n) for n in left)]
+def read_rows(mutants):
+    """What RESULTS.md says of the list's changes: told apart, after, by, and the number of the code that was run."""
+    lines = [l.rstrip('\n') for l in open(RESULTS)] if os.path.exists(RESULTS) else []
+    rows = {}
+    for m in mutants:
+        for l in lines:
+            if l.startswith(named(m)):
+                told, calls, by, code = [w.strip() for w in l[len(named(m)):].rstrip('|').split(' | ')]
+                rows[named(m)] = (told, calls, by, code)
+    return rows
 
 
-def table(mutants, rows):
+COLUMNS = '| where | change | told apart | after | by | code |\n|---|---|---|---|---|---|\n'
+
+
+def write_rows(mutants, rows):
     """RESULTS.md of what is known of the list's changes."""
-    known = [m for m in mutants if key(m) in rows]
-    before = earlier(mutants, rows)
-    answers = [(rows[key(m)][0], m[4]) for m in known]
-    caught = sum(a == 'caught' for a, _ in answers)
-    alike = sum(a == 'SURVIVED' and bool(why) for a, why in answers)
-    with open(os.path.join(here, 'RESULTS.md'), 'w') as f:
-        f.write('# Mutants\n\nOf the %d changes of the library in mutants.txt, %d were run on the code of their function as it stands, each beside the Rust for at most a minute (seed %s): %d told apart, ' % (len(mutants), len(known), SEED, caught))
-        f.write('%d that no call can tell apart (the last column says why), %d not told apart and not explained. ' % (alike, len(known) - caught - alike))
-        f.write('"After" is the number of the call that differs, or of all calls made where none does; "by" what differs, or why nothing can.\n\n')
-        columns = '| where | change | told apart | after | by |\n|---|---|---|---|---|\n'
-        f.write(columns)
-        for m in known:
-            answer, calls, by = rows[key(m)]
-            answer = {'caught': 'yes', 'SURVIVED': 'no'}.get(answer, answer)
-            f.write('%s %s | %s | %s |\n' % (named(m), answer, calls, by or m[4] or ''))
+    run = [m for m in mutants if rows.get(named(m), ' ')[-1] == code_sum(m)]
+    before = [m for m in mutants if named(m) in rows and m not in run]
+    told = sum(rows[named(m)][0] == 'yes' for m in run)
+    alike = sum(rows[named(m)][0] == 'no' and bool(m[4]) for m in run)
+    with open(RESULTS, 'w') as f:
+        f.write('# Mutants\n\nOf the %d changes of the library in mutants.txt, %d were run on the code of their function as it stands, each beside the Rust for at most a minute (seed %s; those of which it is said why no call can tell them, for %d seconds): ' % (len(mutants), len(run), SEED, EXPLAINED))
+        f.write('%d told apart, %d that no call can tell apart, %d neither. ' % (told, alike, len(run) - told - alike))
+        f.write('"After" is the number of the call that differs, or of all calls made where none does; "by" what differs, or why nothing can; "code" a number of the function\'s code that was run.\n\n')
+        f.write(COLUMNS)
+
+        def row(m):
+            told, calls, by, code = rows[named(m)]
+            f.write('%s %s | %s | %s | %s |\n' % (named(m), told, calls, m[4] if told == 'no' and m[4] else by, code))
+        for m in run:
+            row(m)
         if before:
-            f.write('\n## Run on earlier sources\n\n%d changes whose text stands in the code still were run on earlier sources, with the lists of calls of that time, and not since. The remaining %d of the list were not run.\n\n' % (len(before), len(mutants) - len(known) - len(before)))
-            f.write(columns + '\n'.join(before) + '\n')
+            f.write('\n## Run on earlier sources\n\n%d changes were run on earlier code of their function, and not since; %d were not run.\n\n' % (len(before), len(mutants) - len(run) - len(before)))
+            f.write(COLUMNS)
+            for m in before:
+                row(m)
+        elif len(run) < len(mutants):
+            f.write('\n%d were not run.\n' % (len(mutants) - len(run)))
+
+
+def harness(lib):
+    """The program that runs the library beside the Rust; it loads the library as it starts."""
+    if os.environ.get('BESIDE'):
+        return os.environ['BESIDE']
+    target = os.path.join(top, 'tests', 'target', 'mutants')
+    # Debian's packages that the Rust is built of
+    subprocess.run(['sh', os.path.join(top, 'tests', 'rust', 'build.sh')], stdout=subprocess.DEVNULL, check=True)
+    subprocess.run(['cargo', 'build', '--release', '--offline', '-j', '1', '--quiet'], cwd=os.path.join(top, 'tests', 'beside'), env=dict(os.environ, PLUMTREE_LIB_DIR=lib, PLUMTREE_LIB_KIND='dylib', CARGO_TARGET_DIR=target), check=True)
+    return os.path.join(target, 'release', 'beside')
 
 
 def main():
-    """With no word: those whose rows are not known yet. The rows of all runs are kept in tests/target/mutants/rows."""
     words = sys.argv[1:]
     mutants = read_list(os.path.join(here, 'mutants.txt'))
     wrong = misplaced(mutants)
     if wrong:
         sys.exit('mutants.txt does not fit the sources:\n' + '\n'.join(wrong))
-    target = os.path.join(top, 'tests', 'target', 'mutants')
-    os.makedirs(target, exist_ok=True)
-    kept = os.path.join(target, 'rows')
-    rows = json.load(open(kept)) if os.path.exists(kept) else {}
+    rows = read_rows(mutants)
     if words == ['--table']:
-        return table(mutants, rows)
+        return write_rows(mutants, rows)
     if words:
-        todo = [m for m in mutants if any(w in key(m) for w in words)]
+        todo = [m for m in mutants if any(w in ' '.join(m[:4]) for w in words)]
     else:
-        todo = in_turn(mutants, rows)
-    work = tempfile.mkdtemp()
-    lib = os.path.join(target, 'lib')
+        todo = [m for m in mutants if rows.get(named(m), ' ')[-1] != code_sum(m)]
+    sums = {named(m): code_sum(m) for m in todo}
+    lib = os.path.join(top, 'tests', 'target', 'mutants', 'lib')
     os.makedirs(lib, exist_ok=True)
-    copy = os.path.join(work, 'copy')
-    os.makedirs(copy)
-    sources(copy)
-    so = os.path.join(lib, 'libplumtree.so')
-    ok, said = build(copy, so)
-    assert ok, said
-    beside = os.environ.get('BESIDE')
-    if not beside:
-        # Debian's packages that the Rust is built of
-        subprocess.run([os.path.join(top, 'tests', 'rust', 'build.sh')], stdout=subprocess.DEVNULL, check=True)
-        subprocess.run(['cargo', 'build', '--release', '--offline', '-j', '1', '--quiet'], cwd=os.path.join(top, 'tests', 'beside'), env=dict(os.environ, PLUMTREE_LIB_DIR=lib, PLUMTREE_LIB_KIND='dylib', CARGO_TARGET_DIR=target), check=True)
-        beside = os.path.join(target, 'release', 'beside')
-    for m in todo:
-        file, function, old, new, why = m
-        path = os.path.join(copy, file)
-        text = open(path).read()
-        open(path, 'w').write(changed(text, function, old, new))
-        ok, said = build(copy, so)
-        told = judge(beside, lib) if ok else ('NOT BUILT', '', said.strip().split('\n')[-1][:100])
-        open(path, 'w').write(text)
-        rows[key(m)] = told
-        json.dump(rows, open(kept, 'w'))
-        print(file, function, told, flush=True)
-    shutil.rmtree(work)
-    table(mutants, rows)
+    with tempfile.TemporaryDirectory() as copy:
+        write_sources(copy, todo)
+        build(copy, os.path.join(lib, 'libplumtree.so'))
+    beside = harness(lib)
+    print('no change chosen:', judge(beside, lib, 0, EXPLAINED), flush=True)
+    for number, m in sorted(enumerate(todo, 1), key=lambda t: t[1][4] is not None):
+        told = judge(beside, lib, number, EXPLAINED if m[4] else SECONDS)
+        rows[named(m)] = (*told, sums[named(m)])
+        write_rows(mutants, rows)
+        print(m[0], m[1], told, flush=True)
 
 
 main()

@@ -1,5 +1,6 @@
 //! States that are one or two calls from a limit, with the calls that reach it: 256 identifiers recorded for a peer, 4,096 in all, a record that a dispatch
-//! fills, also by what stands in two of its IHaves, contents that a first event leaves no room in.
+//! fills, also by what stands in two of its IHaves, contents that a first event leaves no room in, an AnnounceDropped tick that moves 64 of one link, a
+//! missing message that all of 32 links announced.
 use oracle::snap::{Cached, Id, Notes, Snap};
 
 use super::World;
@@ -9,6 +10,8 @@ use crate::{script::Cmd, wire};
 const LATER: u64 = 1 << 41;
 /// So many contents are cached, the first of the list; the others are new.
 const CACHED: usize = 20;
+/// So many for a tick of the record.
+const MANY_CACHED: usize = 90;
 
 fn neighbours(s: &Snap) -> Vec<u64> {
     let mut v: Vec<u64> = s.eager.iter().chain(&s.lazy).copied().collect();
@@ -23,12 +26,15 @@ fn noted(notes: &Notes) -> usize {
 impl World {
     /// A creation, a loaded state, and a plan of calls.
     pub(super) fn begin_on_brink(&mut self) -> Vec<Cmd> {
-        let state = match self.r.below(5) {
-            0 => self.peers_nearly_full(),
-            1 => self.record_nearly_full(),
-            2 => self.dispatch_that_fills(),
-            3 => self.dispatch_in_two(),
-            _ => self.contents_nearly_full(),
+        // Drawn as one of five, of whose last a half are the two that came later: so the lists that begin otherwise stay what they are.
+        let state = match self.r.below(20) {
+            0..=3 => self.peers_nearly_full(),
+            4..=7 => self.record_nearly_full(),
+            8..=11 => self.dispatch_that_fills(),
+            12..=15 => self.dispatch_in_two(),
+            16..=17 => self.contents_nearly_full(),
+            18 => self.all_links_announced(),
+            _ => self.tick_that_moves_64(),
         };
         self.out = 400_000;
         vec![
@@ -45,6 +51,11 @@ impl World {
 
     /// A state with so many neighbours, most of them eager, and a full message cache that stays.
     fn linked(&mut self, links: usize) -> Snap {
+        self.linked_with(links, CACHED)
+    }
+
+    /// The same with the short ones of so many contents cached.
+    fn linked_with(&mut self, links: usize, contents: usize) -> Snap {
         let mut s = Snap { me: self.me, m: self.m, cfg: self.cfg, init: true, ..Snap::default() };
         let mut peers = self.peers[1..].to_vec();
         self.r.shuffle(&mut peers);
@@ -58,7 +69,7 @@ impl World {
             }
         }
         let mut cached: Vec<usize> =
-            (0..CACHED).filter(|k| self.contents[*k].len() < 100).collect();
+            (0..contents).filter(|k| self.contents[*k].len() < 100).collect();
         cached.sort_by_key(|k| self.ids[*k]);
         for k in cached {
             let round = self.r.below(12) as u16;
@@ -266,6 +277,55 @@ impl World {
         self.roomy(room.max(all).max(1), 400);
         self.plan.push(e);
         self.plan.push(wire::broadcast(&content, true));
+        s
+    }
+
+    /// The record has 64, 65 or a few more of one link, all of them cached, and mostly nothing else; the queue has room for the 64 that a tick moves, for one more, or for all
+    /// but one.
+    fn tick_that_moves_64(&mut self) -> Snap {
+        let links = 1 + self.r.index(4);
+        let mut s = self.linked_with(links, MANY_CACHED);
+        let from = self.r.pick(&neighbours(&s));
+        let mut notes: Vec<(Id, u16)> = s.cache.iter().map(|c| (c.id, c.round)).collect();
+        self.r.shuffle(&mut notes);
+        let recorded = self.r.pick(&[64, 65, 65, 65, 66, 80]);
+        let queued = if self.r.chance(30.0) { 1 + self.r.index(5) } else { 0 };
+        if queued > 0 {
+            s.queue.push((from, notes[..queued].to_vec()));
+        }
+        self.r.shuffle(&mut notes);
+        notes.truncate(recorded);
+        let alone = self.r.chance(70.0);
+        let mut moved = notes.len().min(64);
+        for p in neighbours(&s) {
+            if p == from {
+                s.dropped.push((p, notes.clone()));
+            } else if !alone && self.r.chance(50.0) {
+                let few = 1 + self.r.index(3);
+                moved += few;
+                s.dropped.push((p, notes[..few].to_vec()));
+            }
+        }
+        s.dispatch = queued > 0;
+        s.announce = true;
+        self.roomy(8000, 400);
+        self.max[7] = (queued + moved + self.r.pick(&[0, 0, 1, 2]) - 1) as u64;
+        self.plan = vec![wire::ANNOUNCE.to_vec(), wire::DISPATCH.to_vec(), wire::ANNOUNCE.to_vec()];
+        s
+    }
+
+    /// Every one of 32 links, the panel itself among them, has announced one message, each at a round of its own; it is asked of them one after the other.
+    fn all_links_announced(&mut self) -> Snap {
+        let mut s = self.linked(self.peers.len() - 1);
+        s.lazy.push(self.me);
+        s.lazy.sort();
+        let (id, _) = self.notes(1, false)[0];
+        let mut announcers: Vec<(u64, u16)> = neighbours(&s).into_iter().zip(1..).collect();
+        self.r.shuffle(&mut announcers);
+        s.missing.push((id, announcers));
+        s.timers.push(id);
+        self.roomy(8000, 400);
+        self.plan = vec![wire::send_graft(&id); 5];
         s
     }
 }

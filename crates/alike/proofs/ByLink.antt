@@ -69,9 +69,6 @@ module _ (p : ℕ) (xs ys : List Note) where
   abbrev Ys : ℕ → List Note
   Ys j = filter (for_peer p) (drop j ys)
 
-  pub cursors-start : (i j : ℕ) → NextOf p 0 xs i → NextOf p 0 ys j → Cursors p xs ys i j
-  cursors-start i j a b = record { first = a.within; second = b.within; at_first = a.found; at_second = b.found; left = λ k. same_list same_note (a.passed k) (b.passed k) }
-
   module _ (i j : ℕ) (c : Cursors p xs ys i j) where
     -- the first list has one more
     module _ (h : i < length xs) where

@@ -58,7 +58,7 @@ pub fn announce_sizes(view: &View, call: &Call) -> Sizes
     let mut left = 0;
     for row in 0..view.head.live.dropped {
         let note = view.recorded(row);
-        if !view.is_cached_then(call, note.id) {
+        if !view.is_cached_then(call.instant, note.id) {
             continue;
         }
         if passed.is_oldest(note.link) {
@@ -82,7 +82,7 @@ fn queue_stands(view: &View, call: &Call) -> bool
         return true;
     }
     for row in 0..view.head.live.dropped {
-        if view.is_cached_then(call, view.recorded(row).id) {
+        if view.is_cached_then(call.instant, view.recorded(row).id) {
             return true;
         }
     }
@@ -101,7 +101,7 @@ fn record_stands(view: &View, call: &Call) -> bool
     let mut passed = Passed::none();
     for row in 0..view.head.live.dropped {
         let note = view.recorded(row);
-        if !view.is_cached_then(call, note.id) {
+        if !view.is_cached_then(call.instant, note.id) {
             continue;
         }
         if !passed.is_oldest(note.link) {

@@ -52,7 +52,7 @@ pub fn all_received(view: &View, call: &Call, ihaves: Ihaves) -> bool
     ensures { result ≡ all (is_received (settled call.now.instant.0 (shown view.now))) (ihaves_value ihaves.entry) }
 {
     for ihave in ihaves {
-        if !view.is_received_then(call, ihave.id) {
+        if !view.is_received_then(call.instant, ihave.id) {
             return false;
         }
     }
@@ -76,7 +76,7 @@ fn new_of(view: &View, call: &Call, before: Ihaves, id: Id) -> New
     requires { AtRest (shown view.now) }
     ensures { Adds (settled call.now.instant.0 (shown view.now)) (ihaves_value before.entry) (id_of id) result }
 {
-    if view.is_received_then(call, id) {
+    if view.is_received_then(call.instant, id) {
         return New::NOTHING;
     }
     let new = New {
@@ -98,7 +98,7 @@ fn gets_timer(view: &View, call: &Call, before: Ihaves, id: Id) -> bool
     requires { AtRest (shown view.now) }
     ensures { result ≡ is_new (known_timer (settled call.now.instant.0 (shown view.now))) (ihaves_value before.entry) (id_of id) }
 {
-    !view.is_received_then(call, id) && !view.has_timer(id) && !stands_before(before, id)
+    !view.is_received_then(call.instant, id) && !view.has_timer(id) && !stands_before(before, id)
 }
 
 // The numbers of entries after it (question 13), whichever neighbour it is from. Its time is that of look-ups and of a pass over the entries before, for each entry: a

@@ -30,14 +30,14 @@ pub fn send_graft_sizes(view: &View, call: &Call, id: Id) -> Sizes
 {
     let mut sizes = view.sizes_then(call.instant);
     sizes.timers -= view.has_timer(id) as usize;
-    if view.is_received_then(call, id) {
+    if view.is_received_then(call.instant, id) {
         return sizes;
     }
     let Some(entry) = view.find_missing(id) else {
         return sizes;
     };
     sizes.missing -= (view.announcer_count(entry) == 1) as usize;
-    if view.grafted_entry_then(call, id).is_some() {
+    if view.grafted_entry_then(call.instant, id).is_some() {
         return sizes;
     }
     sizes.grafted += 1;
@@ -51,7 +51,7 @@ pub fn send_graft_actions<S: Sink>(view: &View, call: &Call, out: &mut S, id: Id
     requires room { RoomFor (send_graft_bytes call.now id (settled call.now.instant.0 (shown view.now))) (S.intake out.old) }
     ensures { S.intake out.new ≡ after (send_graft_bytes call.now id (settled call.now.instant.0 (shown view.now))) (S.intake out.old) }
 {
-    if view.is_received_then(call, id) {
+    if view.is_received_then(call.instant, id) {
         return;
     }
     let Some(entry) = view.find_missing(id) else {

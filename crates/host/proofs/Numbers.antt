@@ -111,7 +111,3 @@ creates-refused (created s c) before after number f ne = absurd (ne f.number)
 
 pub made-low : (c : HeadSettings) (l : HeadLimits) (block : List ℕ) (counts : Counts) (block' : List ℕ) (counts' : Counts) (number long : ℕ) → Made c l block counts block' counts' number long → number ≤ 17
 made-low c l block counts block' counts' number long m = creates-low _ (low-create (settings_of c) (limits_of l) (length block)) block block' number m.creation
-
-pub made-refused : (c : HeadSettings) (l : HeadLimits) (block : List ℕ) (counts : Counts) (block' : List ℕ) (counts' : Counts) (number long : ℕ) → Made c l block counts block' counts' number long → (number ≡ 0 → ⊥)
-    → create (settings_of c) (limits_of l) (length block) ≡ not_created number
-made-refused c l block counts block' counts' number long m ne = creates-refused _ block block' number m.creation ne

@@ -60,7 +60,7 @@ fn gossip_step<'a>(view: &View, call: &Call, sender: u64, gossip: Gossip<'a>) ->
     if blake3::hash(content) != id {
         return Step::Nothing;
     }
-    if view.is_received_then(call, id) {
+    if view.is_received_then(call.instant, id) {
         return Step::Late(LateCopy {
             sender,
             id,

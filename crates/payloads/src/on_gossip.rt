@@ -61,7 +61,7 @@ pub fn gossip_sizes(view: &View, call: &Call, message: &NewMessage) -> Sizes
         content,
         ..
     } = *message;
-    let skip = view.grafted_entry_then(call, id);
+    let skip = view.grafted_entry_then(call.instant, id);
     let mut sizes = view.taken_sizes(call, id, content);
     sizes.queued += view.lazy_count(sender);
     sizes.dropped += to_note(view, call, &Push { sender, skip }, id).len();
@@ -84,7 +84,7 @@ pub fn gossip_actions<S: Sink>(view: &View, call: &Call, out: &mut S, message: &
     } = *message;
     let push = Push {
         sender,
-        skip: view.grafted_entry_then(call, id),
+        skip: view.grafted_entry_then(call.instant, id),
     };
     let pushed = Gossip {
         id,
@@ -119,7 +119,7 @@ pub fn on_gossip(panel: &mut Panel, call: &Call, message: &NewMessage)
     let next = Round(round.0 + 1);
     panel.take_in(call, id, content, next);
     panel.set_first(call, id, sender, round);
-    let skip = panel.view().grafted_entry_then(call, id);
+    let skip = panel.view().grafted_entry_then(call.instant, id);
     note_back(panel, call, &Push { sender, skip }, id, next);
     panel.lazy_push(id, next, sender);
     close(panel, call, sender, id, round);

@@ -79,7 +79,7 @@ fn late_kind(view: &View, call: &Call, copy: LateCopy) -> Late
     requires { AtRest (shown view.now) }
     ensures { LateIs (shown view.now) (id_of copy.id) (get (id_of copy.id) (settled call.now.instant.0 (shown view.now)).grafted) (copy_kind copy (settled call.now.instant.0 (shown view.now))) result }
 {
-    let Some(entry) = view.grafted_entry_then(call, copy.id) else {
+    let Some(entry) = view.grafted_entry_then(call.instant, copy.id) else {
         return Late::Duplicate;
     };
     let Some(first) = view.first_copy(entry) else {

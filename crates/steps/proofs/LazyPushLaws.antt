@@ -1,6 +1,6 @@
 -- The notes of a lazy push, link by link, and how many they are.
 -- Assumes nothing.
-use Rattle.std.proofs.Common.{◌≡◌, ℕ, suc, ◌+◌, ◌<◌, ◌≤◌, length, sym, ◌∙◌, ap, refl, arith, get_or, Bool, true, false, List, [], ◌∷◌, ◌++◌, take, map, filter, append-nil, append_assoc, length-append, add-one, drop, not, ◌&&◌, if◌then◌else◌}
+use Rattle.std.proofs.Common.{◌≡◌, ℕ, suc, ◌+◌, ◌<◌, ◌≤◌, length, sym, ◌∙◌, ap, refl, arith, get_or, Bool, true, false, List, [], ◌∷◌, ◌++◌, take, map, filter, append_assoc, length-append, add-one, drop, not, ◌&&◌, if◌then◌else◌}
 use Rattle.std.specs.Prelude.{◌==◌, count_by, cond}
 use lib.Dec.{eqb}
 use lib.ListN.{get_or-map}
@@ -41,9 +41,6 @@ module _ (id round sender : ℕ) where
   pub lazy-same : (l : Links) (i : ℕ) → i < length l → lazy_target sender (get_or l i (entry 0 eager)) ≡ false
       → lazy_notes id round sender (take (i + 1) l) ≡ lazy_notes id round sender (take i l)
   lazy-same l i q t = rw (add-one, take-suc l i (entry 0 eager) q) (grind (arith, common_steps))
-
-  pub lazy-start : (s : State) → s ≡ lazy_queued id round sender (take 0 s.links) s
-  lazy-start s = ap (λ (q : List Note). with_queue q s) (sym (append-nil s.queue))
 
   -- no more notes for some of the links than for all
   fewer : (l : Links) (i : ℕ) → length (lazy_notes id round sender (take i l)) ≤ length (lazy_notes id round sender l)

@@ -15,9 +15,6 @@ module _ (h : Head) (block : List ℕ) (s : Stands h block) where
   pub links-up : LinksAscend h block
   links-up = s.consistent.core.links_up
 
-  pub received-order : InOrder (state_of h block).received
-  received-order = in_order (state_of h block).received s.consistent.core.received_on
-
   pub cached-order : InOrder (state_of h block).cache
   cached-order = in_order (state_of h block).cache s.consistent.core.cache_on
 

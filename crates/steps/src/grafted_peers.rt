@@ -58,7 +58,7 @@ impl<'a> View<'a> {
         requires { AtRest (shown self.now) × (sender < length (shown self.now).links) }
         ensures { result ≡ graft_out (peer_at (shown self.now) sender) round.0 (grafted_for (id_of id) (settled call.now.instant.0 (shown self.now))) }
     {
-        let Some(entry) = self.grafted_entry_then(call, id) else {
+        let Some(entry) = self.grafted_entry_then(call.instant, id) else {
             return false;
         };
         self.is_grafted_within(entry, round) && !self.is_grafted(entry, sender)

@@ -1,7 +1,7 @@
 // What the time caches hold once a first event has evicted: the specification, "the first other event evicts and schedules EvictCache before anything else".
-use crate::call::Call;
 use crate::settled;
 use crate::view::View;
+use postcard::units::Millis;
 use storage::rows::id::Id;
 
 impl<'a> View<'a> {
@@ -15,26 +15,27 @@ impl<'a> View<'a> {
     ghost use Rattle.steps.specs.Views.{shown};
 
     // Whether a message is received then.
-    pub fn is_received_then(&self, call: &Call, id: Id) -> bool
+    pub fn is_received_then(&self, instant: Millis, id: Id) -> bool
         requires { AtRest (shown self.now) }
-        ensures { result ≡ holds (id_of id) (settled call.now.instant.0 (shown self.now)).received }
+        ensures { result ≡ holds (id_of id) (settled instant.0 (shown self.now)).received }
     {
-        settled::received_then(self.head, self.block, call.instant, id)
+        settled::received_then(self.head, self.block, instant, id)
     }
 
-    // Whether a message is cached then.
-    pub fn is_cached_then(&self, call: &Call, id: Id) -> bool
+    // Whether a message is cached then. It is compiled in place: a dispatch tick asks it for each identifier that is handed back.
+    #[inline(always)]
+    pub fn is_cached_then(&self, instant: Millis, id: Id) -> bool
         requires { AtRest (shown self.now) }
-        ensures { result ≡ holds (id_of id) (settled call.now.instant.0 (shown self.now)).cache }
+        ensures { result ≡ holds (id_of id) (settled instant.0 (shown self.now)).cache }
     {
-        settled::is_cached_then(self.head, self.block, call.instant, id)
+        settled::is_cached_then(self.head, self.block, instant, id)
     }
 
     // The grafted message of an identifier, if it is there then, by its number among the grafted messages as they stand.
-    pub fn grafted_entry_then(&self, call: &Call, id: Id) -> Option<usize>
+    pub fn grafted_entry_then(&self, instant: Millis, id: Id) -> Option<usize>
         requires { AtRest (shown self.now) }
-        ensures { EntryIs no_grafts (shown self.now).grafted.entries (id_of id) (get (id_of id) (settled call.now.instant.0 (shown self.now)).grafted) result }
+        ensures { EntryIs no_grafts (shown self.now).grafted.entries (id_of id) (get (id_of id) (settled instant.0 (shown self.now)).grafted) result }
     {
-        settled::grafted_then(self.head, self.block, call.instant, id)
+        settled::grafted_then(self.head, self.block, instant, id)
     }
 }

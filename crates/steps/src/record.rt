@@ -1,19 +1,12 @@
 // `dropped_ihaves`, the record, row by row: the specification, "Record".
 use crate::panel::Panel;
-use crate::settled;
 use crate::view::View;
 use block::note::Note;
 use block::{head, note};
-use postcard::units::Millis;
 use protocol::MAX_DROPPED;
-use storage::rows::id::Id;
 
 impl<'a> View<'a> {
     ghost use Rattle.std.specs.Prelude.{◌≡◌, ◌<◌, ◌≤◌, length};
-    ghost use Rattle.storage.specs.Rows.Ident.{id_of};
-    ghost use Rattle.decide.specs.RecordGrowth.{cached_in};
-    ghost use Rattle.decide.specs.Settled.{settled};
-    ghost use Rattle.steps.specs.Panels.{AtRest};
     ghost use Rattle.steps.specs.Views.{shown};
     ghost use Rattle.steps.specs.Dropped.{NoteOf};
     ghost use Rattle.steps.specs.Queue.{Column, note_at};
@@ -40,14 +33,6 @@ impl<'a> View<'a> {
         ensures { NoteOf (shown self.now) (note_at (shown self.now).dropped row) result }
     {
         note::dropped_at(self.head, self.block, row)
-    }
-
-    // Whether an identifier is cached once a first event has evicted.
-    pub fn is_still_cached(&self, instant: Millis, id: Id) -> bool
-        requires { AtRest (shown self.now) }
-        ensures { result ≡ cached_in (settled instant.0 (shown self.now)).cache (id_of id) }
-    {
-        settled::is_cached_then(self.head, self.block, instant, id)
     }
 }
 

@@ -16,7 +16,7 @@ impl<'a> Panel<'a> {
         requires { AtRest (state self.old) × ((state self.old).init ≡ true) }
         ensures { Goes (first_set_state (id_of id) sender round.0) self.old self.new }
     {
-        if let Some(entry) = self.view().grafted_entry_then(call, id) {
+        if let Some(entry) = self.view().grafted_entry_then(call.instant, id) {
             grafted::set_first(self.head, self.block, entry, sender, round);
         }
     }

@@ -33,7 +33,8 @@ pub fn received_then(head: Head, block: &[u8], instant: Millis, id: Id) -> bool
     received::is_received_later(head, block, id, instant)
 }
 
-// Whether a message is cached then.
+// Whether a message is cached then. It is compiled in place, as `View::is_cached_then` is.
+#[inline]
 pub fn is_cached_then(head: Head, block: &[u8], instant: Millis, id: Id) -> bool
     requires { Stands head block.now }
     ensures { result ≡ holds (id_of id) (settled instant.0 (state_of head block.now)).cache }

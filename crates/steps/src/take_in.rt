@@ -25,7 +25,7 @@ impl<'a> View<'a> {
         ensures { (round : ℕ) → sizes_value result ≡ sizes_of (taken_state call.now.instant.0 (id_of id) content.now round (settled call.now.instant.0 (shown self.now))) }
     {
         let mut sizes = self.sizes_then(call.instant);
-        sizes.received += !self.is_received_then(call, id) as usize;
+        sizes.received += !self.is_received_then(call.instant, id) as usize;
         sizes.received_rows += 1;
         sizes.cached_rows += 1;
         match cached_then(self, call, id) {

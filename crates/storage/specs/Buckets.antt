@@ -8,23 +8,23 @@ use Rattle.storage.specs.Rows.Digits.{be_nat}
 unfoldable pub id_at : List ℕ → ℕ → ℕ
 id_at b p = be_nat (part (p * 34) 32 b)
 
--- the bucket of an identifier and a number, of 1,024: one identifier's notes for different numbers go to different buckets
-abbrev pub bucket_of : ℕ → ℕ → ℕ
-bucket_of k l = (k + 32 * l) % 1024
+-- the bucket of an identifier and a number, of m: one identifier's notes for different numbers go to different buckets
+abbrev pub bucket_of : ℕ → ℕ → ℕ → ℕ
+bucket_of m k l = (k % 4096 + 32 * l) % m
 
 -- the bucket of row p
-abbrev pub bucket : List ℕ → List ℕ → ℕ → ℕ
-bucket c b p = bucket_of (id_at b p) (get_or c p 0)
+abbrev pub bucket : ℕ → List ℕ → List ℕ → ℕ → ℕ
+bucket m c b p = bucket_of m (id_at b p) (get_or c p 0)
 
 -- s is one more than the latest row before i in the bucket h, or 0
-pub record Latest (c b : List ℕ) (i h s : ℕ) : Type 0 where
+pub record Latest (m : ℕ) (c b : List ℕ) (i h s : ℕ) : Type 0 where
   pub within : s ≤ i
-  pub hit : (p : ℕ) → s ≡ p + 1 → bucket c b p ≡ h
-  pub gap : (p : ℕ) → s ≤ p → p < i → bucket c b p ≡ h → ⊥
+  pub hit : (p : ℕ) → s ≡ p + 1 → bucket m c b p ≡ h
+  pub gap : (p : ℕ) → s ≤ p → p < i → bucket m c b p ≡ h → ⊥
 
 -- each row before i names the latest row before it in its bucket
-pub record Chained (c b : List ℕ) (i : ℕ) (next : List ℕ) : Type 0 where
-  pub each : (q : ℕ) → q < i → Latest c b q (bucket c b q) (get_or next q 0)
+pub record Chained (m : ℕ) (c b : List ℕ) (i : ℕ) (next : List ℕ) : Type 0 where
+  pub each : (q : ℕ) → q < i → Latest m c b q (bucket m c b q) (get_or next q 0)
 
 -- no row before i has the number l and the identifier k
 pub record New (c b : List ℕ) (i l k : ℕ) : Type 0 where

@@ -8,6 +8,12 @@ ghost use Rattle.storage.specs.Buckets.{id_at, bucket_of, Latest, Chained, Tells
 use crate::rows::id;
 use crate::rows::id::Id;
 
+// No record has more rows, and no chain more buckets.
+const MAX_ROWS: usize = 4096;
+
+// Up to so many rows are chained in little memory.
+const FEW_ROWS: usize = 256;
+
 // A number of a chain as an index.
 fn wide(x: u16) -> usize
     ensures { result ≡ x }
@@ -15,19 +21,21 @@ fn wide(x: u16) -> usize
     x as usize
 }
 
-// The bucket of an identifier and a number. The last word has the identifier's last bits.
-fn bucket_of(x: Id, l: u8) -> usize
-    ensures { result ≡ bucket_of (id_of x) l }
-{
-    let w = x.w3;
-    ((w % 1024 + 32 * (l as u64)) % 1024) as usize
-}
-
 // A row's number of a link and identifier: what stands once.
 #[derive(Clone, Copy)]
 struct Pair {
     link: u8,
     id: Id,
+}
+
+impl Pair {
+    // The bucket of a pair, of so many. The identifier's last word has its last bits.
+    fn bucket<const BUCKETS: usize>(self) -> usize
+        requires { (1 ≤ BUCKETS) × (BUCKETS ≤ MAX_ROWS) }
+        ensures { result ≡ bucket_of BUCKETS (id_of self.id) self.link }
+    {
+        ((self.id.w3 % MAX_ROWS as u64 + 32 * (self.link as u64)) % BUCKETS as u64) as usize
+    }
 }
 
 // The rows of a record: their numbers, and the rows of 34 bytes themselves.
@@ -38,6 +46,19 @@ struct Columns<'a> {
 }
 
 impl<'a> Columns<'a> {
+    // The pair of row p.
+    #[tactic(auto, unfolding(crate::specs::Buckets::id_at))]
+    fn pair(self, p: usize) -> Pair
+        requires { (p < length self.links.now) × (p * 34 + 32 ≤ length self.rows.now) }
+        ensures link { result.link ≡ get_or self.entry.links.now p 0 }
+        ensures id { id_of result.id ≡ id_at self.entry.rows.now p }
+    {
+        Pair {
+            link: self.links[p],
+            id: id::load_id(self.rows, p * 34),
+        }
+    }
+
     // Whether row p has this pair. The numbers are compared first: most rows need no load of an identifier.
     fn has(self, p: usize, pair: Pair) -> bool
         requires { (p < length self.links.now) × (p * 34 + 32 ≤ length self.rows.now) }
@@ -47,8 +68,14 @@ impl<'a> Columns<'a> {
     }
 
     // Whether no row before i has this pair, `from` being the start of its bucket's chain.
-    fn is_new(self, next: &[u16; 4096], i: usize, pair: Pair, from: usize) -> bool
-        requires { (i ≤ 4096) × (i ≤ length self.links.now) × (i * 34 ≤ length self.rows.now) × Latest self.links.now self.rows.now i (bucket_of (id_of pair.id) pair.link) from × Chained self.links.now self.rows.now i next.now }
+    fn is_new<const BUCKETS: usize, const ROWS: usize>(
+        self,
+        next: &[u16; ROWS],
+        i: usize,
+        pair: Pair,
+        from: usize,
+    ) -> bool
+        requires { (i ≤ ROWS) × (i ≤ length self.links.now) × (i * 34 ≤ length self.rows.now) × Latest BUCKETS self.links.now self.rows.now i (bucket_of BUCKETS (id_of pair.id) pair.link) from × Chained BUCKETS self.links.now self.rows.now i next.now }
         ensures { TellsNew self.entry.links.now self.entry.rows.now i pair.link (id_of pair.id) result }
     {
         let mut j = from;
@@ -60,29 +87,37 @@ impl<'a> Columns<'a> {
         }
         true
     }
+
+    // Whether each pair stands once in the first n rows. It is never inlined: no event is to have these arrays on the stack.
+    #[inline(never)]
+    fn once<const BUCKETS: usize, const ROWS: usize>(self, n: usize) -> bool
+        requires { (1 ≤ BUCKETS) × (BUCKETS ≤ MAX_ROWS) × (ROWS ≤ MAX_ROWS) × (n ≤ ROWS) × (n ≤ length self.links.now) × (n * 34 ≤ length self.rows.now) }
+        ensures { TellsOnce self.entry.links.now self.entry.rows.now n result }
+    {
+        let mut latest = [0u16; BUCKETS];
+        let mut next = [0u16; ROWS];
+        for i in 0..n {
+            let pair = self.pair(i);
+            let bucket = pair.bucket::<BUCKETS>();
+            let before = latest[bucket];
+            if !self.is_new::<BUCKETS, ROWS>(&next, i, pair, wide(before)) {
+                return false;
+            }
+            next[i] = before;
+            latest[bucket] = (i + 1) as u16;
+        }
+        true
+    }
 }
 
 // Whether each number and identifier stands once in the n rows: "once per identifier among .. dropped" (question 5).
-pub fn once(c: &[u8], b: &[u8], n: usize) -> bool
-    requires { (n ≤ 4096) × (n ≤ length c.now) × (n * 34 ≤ length b.now) }
-    ensures { TellsOnce c.now b.now n result }
+pub fn once(links: &[u8], rows: &[u8], n: usize) -> bool
+    requires { (n ≤ 4096) × (n ≤ length links.now) × (n * 34 ≤ length rows.now) }
+    ensures { TellsOnce links.now rows.now n result }
 {
-    let mut head = [0u16; 1024];
-    let mut next = [0u16; 4096];
-    let columns = Columns { links: c, rows: b };
-    let mut i = 0;
-    while i < n {
-        let x = id::load_id(b, i * 34);
-        let l = c[i];
-        let h = bucket_of(x, l);
-        let s = head[h];
-        let pair = Pair { link: l, id: x };
-        if !columns.is_new(&next, i, pair, wide(s)) {
-            return false;
-        }
-        next[i] = s;
-        head[h] = ((i + 1) % 65536) as u16;
-        i += 1;
+    let columns = Columns { links, rows };
+    if n <= FEW_ROWS {
+        return columns.once::<FEW_ROWS, FEW_ROWS>(n);
     }
-    true
+    columns.once::<MAX_ROWS, MAX_ROWS>(n)
 }

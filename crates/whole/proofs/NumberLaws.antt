@@ -33,14 +33,6 @@ pub record Climb (m : ℕ) (b : List ℕ) (j least : ℕ) : Type 0 where
   pub none : j ≡ 0 → least ≡ 0
   pub last : (p : ℕ) → j ≡ p + 1 → least ≡ get_or b p 0 + 1
 
-pub climb-start : (m : ℕ) (b : List ℕ) → Climb m b 0 0
-climb-start m b = record {
-  low = record { to = λ i h. absurd (omega arith) };
-  up = record { to = λ p q h l. absurd (omega arith) };
-  none = λ e. refl;
-  last = λ p e. absurd (omega arith);
-}
-
 -- a test that fails
 fails : (a b : Bool) → ((a && b) ≡ true → ⊥) → false ≡ (a && b)
 fails a b n = cases (a && b) (λ p. absurd (n p)) (λ p. sym p)

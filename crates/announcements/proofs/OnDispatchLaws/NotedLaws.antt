@@ -4,7 +4,6 @@ use Rattle.std.proofs.Common.{◌≡◌, ℕ, ◌+◌, ◌-◌, ◌<◌, ◌≤�
 use Rattle.std.specs.Prelude.{All, if◌then◌else◌}
 use Rattle.std.proofs.lemmas.List.{length-map, map-append, drop_all, take-append-drop}
 use Rattle.std.proofs.lemmas.List.Elements.{All-push, All-weaker, All-head, All-tail}
-use Rattle.std.proofs.Math.Seq.{take_all}
 use mathlib.Core.Logic.{◌⊎◌, inl, inr}
 use lib.ListN.{length-append}
 use lib.Dec.{leb, eqb}
@@ -202,9 +201,6 @@ module _ (p : ℕ) (ds ns : List Note) (recorded : List ℕ) (before : ℕ) wher
         ∙ notes-one held p (ihave_of (note_at ns (get_or back i 0))) (add_notes held p (ihaves_at ns (take i back)) start)
         ∙ ap (add_note held p (ihave_of (note_at ns (get_or back i 0)))) so
         ∙ e
-
-    pub sofar-end : (i : ℕ) (rows : List ℕ) → length back ≤ i → Sofar i rows → add_notes held p (ihaves_at ns back) start ≡ grown rows
-    sofar-end i rows q so = ap (λ (l : List ℕ). add_notes held p (ihaves_at ns l) start) (sym (take_all i back q)) ∙ so
 
     pub sofar-full : (i : ℕ) (rows : List ℕ) → Sofar i rows → record_full p (grown rows) ≡ true → add_notes held p (ihaves_at ns back) start ≡ grown rows
     sofar-full i rows so f =

@@ -55,9 +55,6 @@ module _ (ns : List Note) (rows : List ℕ) where
   unfolding any
   any-start test = refl
 
-  pub any-end : (test : Ihave → Bool) (i : ℕ) → length rows ≤ i → any test (ihaves_at ns (take i rows)) ≡ false → false ≡ any test (ihaves_at ns rows)
-  any-end test i q e = sym (ap (λ (l : List ℕ). any test (ihaves_at ns l)) (sym (take_all i rows q)) ∙ e)
-
   pub rest-end : (i : ℕ) → length rows ≤ i → ihaves_at ns (drop i rows) ≡ []
   rest-end i q = ap (ihaves_at ns) (drop_all i rows q)
 

@@ -77,12 +77,6 @@ quiet-or true b c e = refl
 quiet-or false true c e = refl
 quiet-or false false c e = true≢ e
 
--- no timer follows: the flag stays
-pub quiet-flag : (a b c : Bool) → (a || b) ≡ true → b ≡ (if a || b || c then b else true)
-quiet-flag true b c e = refl
-quiet-flag false true c e = refl
-quiet-flag false false c e = true≢ e
-
 -- one follows where one is cached
 pub loud-timer : (a b c d : Bool) → (a || b) ≡ false → d ≡ c → timer_after (a || b || not c) ≡ announce_action d false
 unfolding announce_action
@@ -90,12 +84,6 @@ loud-timer true b c d e f = true≢ (sym e)
 loud-timer false true c d e f = true≢ (sym e)
 loud-timer false false true d e f = rw f refl
 loud-timer false false false d e f = rw f refl
-
-pub loud-flag : (a b c d : Bool) → (a || b) ≡ false → d ≡ c → d ≡ (if a || b || not c then b else true)
-loud-flag true b c d e f = true≢ (sym e)
-loud-flag false true c d e f = true≢ (sym e)
-loud-flag false false true d e f = f
-loud-flag false false false d e f = f
 
 -- one piece and the others
 module _ (held : ℕ → Bool) (rooms : List Room) where

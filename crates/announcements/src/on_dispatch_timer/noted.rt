@@ -119,7 +119,7 @@ fn note_link(
         if is_there(view, recorded, own, marks[place], id) {
             continue;
         }
-        if view.is_still_cached(instant, id) {
+        if view.is_cached_then(instant, id) {
             marks[place] = 1;
             noted.push(*row);
         }

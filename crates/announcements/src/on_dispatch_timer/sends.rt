@@ -42,7 +42,7 @@ fn any_cached(ihave: &QueuedIhave, instant: Millis) -> bool
     for row in ihave.rows {
         if ihave
             .view
-            .is_still_cached(instant, ihave.view.queued(*row as usize).id)
+            .is_cached_then(instant, ihave.view.queued(*row as usize).id)
         {
             return true;
         }

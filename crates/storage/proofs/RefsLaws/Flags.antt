@@ -76,7 +76,3 @@ module _ (m : ℕ) (xs seen : List ℕ) (j x : ℕ) (s : Seen m xs seen j) (e : 
 
 pub seen_all : (m : ℕ) (xs seen : List ℕ) (j : ℕ) → Seen m xs seen j → length xs ≤ j → Numbers m xs
 seen_all m xs seen j s h = record { below = λ i l. s.low i (omega arith); once = λ p q l g. s.apart p q l (omega arith) }
-
--- a number that was met before
-pub seen_twice : (m : ℕ) (xs seen : List ℕ) (j x : ℕ) → Seen m xs seen j → j < length xs → x ≡ get_or xs j 0 → 0 < get_or seen x 0 → Numbers m xs → ⊥
-seen_twice m xs seen j x s l e h n = let o : Met xs j x = s.met x h in n.once o.at j o.before l (o.same ∙ e)

@@ -72,28 +72,6 @@ four w0 w1 w2 w3 = ((w0 * 2 ^ 64 + w1) * 2 ^ 64 + w2) * 2 ^ 64 + w3
 pub id-lt : (w0 w1 w2 w3 : ℕ) → w0 < 2 ^ 64 → w1 < 2 ^ 64 → w2 < 2 ^ 64 → w3 < 2 ^ 64 → four w0 w1 w2 w3 < 256 ^ 32
 id-lt w0 w1 w2 w3 h0 h1 h2 h3 = digits_lt (digits_lt (digits_lt h0 h1) h2) h3
 
-high_lt : (h g l m : ℕ) → h < g → l < 2 ^ 64 → h * 2 ^ 64 + l < g * 2 ^ 64 + m
-high_lt h g l m p q = omega arith
-
-low-lt : (h g l m : ℕ) → h ≡ g → l < m → h * 2 ^ 64 + l < g * 2 ^ 64 + m
-low-lt h g l m p q = omega arith
-
-module _ (a0 a1 a2 a3 b0 b1 b2 b3 : ℕ) (l1 : a1 < 2 ^ 64) (l2 : a2 < 2 ^ 64) (l3 : a3 < 2 ^ 64) where
-  pub first-lt : a0 < b0 → four a0 a1 a2 a3 < four b0 b1 b2 b3
-  first-lt h = high_lt _ _ a3 b3 (high_lt _ _ a2 b2 (high_lt a0 b0 a1 b1 h l1) l2) l3
-
-  pub second_lt : a0 ≡ b0 → a1 < b1 → four a0 a1 a2 a3 < four b0 b1 b2 b3
-  second_lt e0 h = high_lt _ _ a3 b3 (high_lt _ _ a2 b2 (low-lt a0 b0 a1 b1 e0 h) l2) l3
-
-  pub third-lt : a0 ≡ b0 → a1 ≡ b1 → a2 < b2 → four a0 a1 a2 a3 < four b0 b1 b2 b3
-  third-lt e0 e1 h = high_lt _ _ a3 b3 (low-lt _ _ a2 b2 (λ k. e0 k * 2 ^ 64 + e1 k) h) l3
-
-  pub fourth-lt : a0 ≡ b0 → a1 ≡ b1 → a2 ≡ b2 → a3 < b3 → four a0 a1 a2 a3 < four b0 b1 b2 b3
-  fourth-lt e0 e1 e2 h = low-lt _ _ a3 b3 (λ k. (e0 k * 2 ^ 64 + e1 k) * 2 ^ 64 + e2 k) h
-
-pub four-eq : (a0 a1 a2 a3 b0 b1 b2 b3 : ℕ) → a0 ≡ b0 → a1 ≡ b1 → a2 ≡ b2 → a3 ≡ b3 → four a0 a1 a2 a3 ≡ four b0 b1 b2 b3
-four-eq a0 a1 a2 a3 b0 b1 b2 b3 e0 e1 e2 e3 = λ k. four (e0 k) (e1 k) (e2 k) (e3 k)
-
 -- of two numbers, which is below which
 pub tri : (a b : ℕ) → (a < b) ⊎ ((a ≡ b) ⊎ (b < a))
 tri a b = go (ltb a b) refl

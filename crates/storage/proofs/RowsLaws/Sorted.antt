@@ -10,7 +10,7 @@ use lib.ListN.{length, get_or, length-map, get_or-map}
 use Rattle.storage.specs.Rows.Part.{part}
 use Rattle.storage.specs.Rows.Digits.{be_from, be_nat}
 use Rattle.storage.specs.Rows.Rows.{rows}
-use Rattle.storage.specs.Rows.Sorted.{key_of, keys, Ascending, Between}
+use Rattle.storage.specs.Rows.Sorted.{key_of, keys, Ascending}
 use Rattle.storage.proofs.RowsLaws.Parts.{part-part}
 use Rattle.storage.proofs.RowsLaws.Rows.{length-rows, get_d_rows}
 
@@ -65,9 +65,6 @@ module _ (ks : List ℕ) (k lo hi mid : ℕ) (a : Ascending ks) (b : Bracket ks 
       down : (j : ℕ) → mid ≤ j → j < length ks → k < get_or ks j 0
       down j m l = go j (eq-or-lt_of_le m) l
 
-pub bracket-done : (ks : List ℕ) (k lo hi : ℕ) → Bracket ks k lo hi → hi ≤ lo → Between ks k lo
-bracket-done ks k lo hi b h = record { within = omega (arith, b.lo-hi, b.hi-end); below = b.below; above = λ j l m. b.above j (omega arith) m }
-
 -- the first i keys ascend
 pub record AscendTo (ks : List ℕ) (i : ℕ) : Type 0 where
   pub to : (p q : ℕ) → p < q → q < i → get_or ks p 0 < get_or ks q 0
@@ -98,9 +95,3 @@ lt_of a b x y e f h = omega arith
 
 pub not-lt-of : (a b x y : ℕ) → a ≡ x → b ≡ y → b ≤ a → y ≤ x
 not-lt-of a b x y e f h = omega arith
-
-pub le-of-same : (a b : ℕ) → a ≡ b → b ≤ a
-le-of-same a b e = omega arith
-
-pub le-of-above : (a b : ℕ) → b < a → b ≤ a
-le-of-above a b h = omega arith

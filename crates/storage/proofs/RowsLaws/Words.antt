@@ -2,7 +2,7 @@
 -- Assumes nothing.
 use mathlib.Core.Path.{◌≡◌, sym, ap, ◌∙◌}
 use mathlib.Core.List.{List}
-use Prim.Native.Nat.{ℕ, ◌+◌, ◌-◌, ◌/◌, ◌%◌, ◌^◌, ◌<◌}
+use Prim.Native.Nat.{ℕ, ◌+◌, ◌/◌, ◌%◌, ◌^◌, ◌<◌}
 use native.Mathlib.Omega.{arith}
 use lib.ListN.{length, set}
 use Rattle.storage.specs.Rows.Part.{put}
@@ -18,9 +18,3 @@ le_write b₀ b at i v w l e g =
 
 pub div-next : (n m v w : ℕ) → m ≡ n + 1 → w ≡ v / 256 ^ n → w / 256 ≡ v / 256 ^ m
 div-next n m v w e g = rw (e, g) (div-more n v)
-
-pub at_zero : (a i : ℕ) → i ≡ 0 → a + i ≡ a
-at_zero a i e = omega arith
-
-pub less_zero : (k i : ℕ) → i ≡ 0 → k - i ≡ k
-less_zero k i e = omega arith

@@ -17,14 +17,6 @@ use Rattle.whole.specs.Held.{whole_block}
 use Rattle.whole.specs.States.Area.{name_at}
 use Rattle.whole.specs.States.Calls.{Tells, Zeros, SlotsHold}
 
--- one more zero
-pub zeros-more : (a i : ℕ) (xs : List ℕ) → Zeros a i xs → get_or xs i 0 ≡ 0 → Zeros a (i + 1) xs
-zeros-more a i xs z e j h l = go (eq-or-lt_of_le (let m : j ≤ i = omega arith in m))
-  where
-    go : (j ≡ i) ⊎ (j < i) → get_or xs j 0 ≡ 0
-    go (inl q) = ap (λ (n : ℕ). get_or xs n 0) q ∙ e
-    go (inr q) = z j h q
-
 -- a number that is 0 is so byte by byte
 zero-bytes : (bs : List ℕ) → le_nat bs ≡ 0 → (j : ℕ) → get_or bs j 0 ≡ 0
 unfolding le_nat

@@ -2,17 +2,10 @@
 -- Assumes nothing.
 use Rattle.std.proofs.Common.{◌≡◌, ℕ, zero, suc, ◌+◌, ◌*◌, ◌-◌, ◌^◌, ◌≤◌, ◌<◌, Bool, true, false, List, [], ◌∷◌, Result, refl, sym, ap, subst, ◌∙◌, arith}
 use native.Mathlib.Nat.{pow-succ', le_trans, mul-le-mul, mul-le-mul_left, mul-add, mul_assoc, add_assoc, one-mul, zero-add}
-use native.Mathlib.Nat.{sub-zero}
 use borrow.Author.Tests.{lt-ltb, le-ltb, lt-leb, le-leb, ne_eqb}
 use Rattle.postcard.specs.Number.{Read, got, fault, ◌then◌, last_group, read_groups}
 use Rattle.wire.specs.declared.reader.fault.Fault.{Fault}
 use Rattle.wire.specs.Reader.Gives.{Gives, read_byte, raised}
-
--- a last group up to `top` leaves the number in its width
-pub last_product : (scale b top : ℕ) → b ≤ top → scale * (top + 1) ≤ 2 ^ 64 → scale * b + scale ≤ 2 ^ 64
-last_product scale b top l r =
-    let m : scale * (b + 1) ≤ scale * (top + 1) = mul-le-mul_left scale (omega arith) in
-    omega (arith, rw (mul-add scale b 1) at m)
 
 -- and so does one that goes on, where there is room for one more
 pub more_product : (scale b : ℕ) → b < 256 → scale * (b - 128) ≤ scale * 127
@@ -50,10 +43,6 @@ pub record Passed (bytes rest : List ℕ) (padded nought : Bool) (more left top 
   pub below : low < scale
   pub room : scale * (128 ^ left * (top + 1)) ≤ 2 ^ 64
   pub width : scale * 128 ^ left ≡ 128 ^ more
-
-pub passed_none : (bytes : List ℕ) (padded : Bool) (more top : ℕ) → 128 ^ more * (top + 1) ≤ 2 ^ 64 → Passed bytes bytes padded true more (more - 0) top 0 1
-passed_none bytes padded more top h =
-    rw (sub-zero) (record { same = raised-none (read_groups padded true more top bytes); below = omega arith; room = rw one-mul h; width = one-mul (128 ^ more) })
 
 power : (k : ℕ) → 1 ≤ 128 ^ k
 power zero = omega arith
@@ -130,10 +119,6 @@ module _ {bytes rest : List ℕ} {padded nought : Bool} {more left top low scale
       let r : scale * (128 * 128 ^ (left - 1) * (top + 1)) ≤ 2 ^ 64 = rw (s, pow-succ') at p.room in
       le_trans (mul-le-mul_left scale (mul-le-mul (mul-le-mul_left 128 (power (left - 1))) (two top t))) r
 
-  -- and for the last
-  pub room_last : left ≡ 0 → scale * (top + 1) ≤ 2 ^ 64
-  room_last e = rw (e, one-mul) at p.room
-
   -- a number whose last group is up to 127 or `top` is in its width
   pub width-more : (n : ℕ) → 0 < left → n < scale * (127 + 1) → n < 128 ^ more * (top + 1)
   width-more n l h =
@@ -142,9 +127,3 @@ module _ {bytes rest : List ℕ} {padded nought : Bool} {more left top low scale
       let m : scale * (128 * 1) ≤ scale * (128 * 128 ^ (left - 1)) = mul-le-mul_left scale (mul-le-mul_left 128 (power (left - 1))) in
       let o : 128 ^ more * 1 ≤ 128 ^ more * (top + 1) = mul-le-mul_left (128 ^ more) (omega arith) in
       omega (arith, h, w, m, o)
-
-  pub width-last : (n : ℕ) → left ≡ 0 → n < scale * (top + 1) → n < 128 ^ more * (top + 1)
-  width-last n e h =
-      let w : scale * 1 ≡ 128 ^ more = rw e at p.width in
-      let v : scale ≡ 128 ^ more = omega (arith, w) in
-      rw (sym v) h

@@ -1,7 +1,6 @@
 -- Passing over the announcements of an IHave.
 -- Assumes nothing.
 use Rattle.std.proofs.Common.{◌≡◌, ℕ, zero, suc, ◌-◌, ◌<◌, List, ◌∷◌, refl, sym, ap, ◌∙◌, arith}
-use native.Mathlib.Nat.{sub-zero}
 use Rattle.postcard.specs.Number.{Read, got, fault, ◌then◌}
 use Rattle.postcard.specs.Message.{Ihave}
 use Rattle.postcard.specs.Decode.{read_ihave, read_ihaves, ihaves_in}
@@ -14,9 +13,6 @@ ending (fault n) = fault n
 -- where the loop stands: what is left to pass over ends as what was to be passed over
 pub record Passing (bytes rest : List ℕ) (count left : ℕ) : Type 0 where
   pub same : ending (read_ihaves left rest) ≡ ending (read_ihaves count bytes)
-
-pub passing_none : (bytes : List ℕ) (count : ℕ) → Passing bytes bytes count (count - 0)
-passing_none bytes count = record { same = rw sub-zero refl }
 
 ending-front : (h : Ihave) (r : Read (List Ihave)) → ending (r then λ hs end. got (h ∷ hs) end) ≡ ending r
 ending-front h (got hs rest) = refl

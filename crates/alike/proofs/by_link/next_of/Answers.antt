@@ -1,5 +1,5 @@
 -- `by_link::next_of`: no note from `from` up to i is for the link.
-use mathlib.Core.Path.{◌≡◌, refl, sym, ap, ◌∙◌}
+use mathlib.Core.Path.{◌≡◌, sym, ap, ◌∙◌}
 use mathlib.Core.Bool.{true, false}
 use mathlib.Core.List.{List}
 use Prim.Native.Nat.{ℕ, ◌<◌}
@@ -21,12 +21,6 @@ use Rattle.alike.proofs.ByLink.{count-of, other-first}
 use borrow.Author.Rules.{rules}
 use Rattle.alike.proofs.by_link.next_of.Goals as goal
 use Rattle.alike.proofs.by_link.next_of.Goals.{After-count-n, After-link_at, Start}
-
-pub loop-i-init : goal.loop-i-init
-loop-i-init c = (search rules, omega (arith, c.count-n.ensures, c.requires.3), refl)
-
-pub link_at-requires : goal.link_at-requires
-link_at-requires c = (c.requires.0, omega (arith, c.loop-i-test.true, c.count-n.ensures))
 
 -- note i, whose link number was read
 module _ (d : After-link_at) where

@@ -14,8 +14,7 @@ use Rattle.block.specs.LinkSteps.{peer_at}
 use Rattle.block.specs.NoteSteps.{note}
 use Rattle.block.specs.declared.note.Note.{Note as LinkNote}
 use Rattle.alike.specs.NoteTable.{notes_of, count_of, NextOf}
-use Rattle.alike.proofs.ByLink.{count-of, Cursors, cursors-start, cursors-short, cursors-differ, cursors-more, cursors-end, same-inside}
-use borrow.Author.Rules.{rules}
+use Rattle.alike.proofs.ByLink.{count-of, Cursors, cursors-short, cursors-differ, cursors-more, cursors-end, same-inside}
 use Rattle.alike.proofs.by_link.same_for.Goals as goal
 use Rattle.alike.proofs.by_link.same_for.Goals.{After-same_note, At-loop-i, In-loop-i, Start}
 
@@ -46,16 +45,6 @@ module _ (s : Start) where
   in-second : (from r : ℕ) → NextOf (peer_at sb s.args.of.link) from ys r → NextOf p from ys r
   in-second from r h = subst (λ (q : ℕ). NextOf q from ys r) (sym s.requires.link_value) h
 
-pub next_of-i-requires : goal.next_of-i-requires
-next_of-i-requires c = (c.requires.sound.0, c.requires.sound.1, c.requires.sound.2, search rules)
-
-pub next_of-j-requires : goal.next_of-j-requires
-next_of-j-requires c = (c.requires.sound.3, c.requires.sound.4, c.requires.sound.5, search rules)
-
-pub loop-i-init : goal.loop-i-init
-loop-i-init c =
-    cursors-start (p (goal.at.loop-i-init c).Start) (xs (goal.at.loop-i-init c).Start) (ys (goal.at.loop-i-init c).Start) c.next_of-i.result c.next_of-j.result c.next_of-i.ensures (in-second (goal.at.loop-i-init c).Start 0 c.next_of-j.result c.next_of-j.ensures)
-
 -- in the loop
 module _ (d : In-loop-i) where
   abbrev l : At-loop-i
@@ -77,12 +66,6 @@ pub returns-then-m-j : goal.returns-then-m-j
 returns-then-m-j c =
     let s = s₁ (goal.at.returns-then-m-j c).In-loop-i in
     cursors-short (p s) (xs s) (ys s) c.loop-i.i c.loop-i.j c.loop-i.invariant (more-xs (goal.at.returns-then-m-j c).In-loop-i) (omega (arith, many-ys s, m-is (goal.at.returns-then-m-j c).In-loop-i, c.if-m-j.true))
-
-pub note_at-x-requires : goal.note_at-x-requires
-note_at-x-requires c = ((s₁ (goal.at.note_at-x-requires c).In-loop-i).requires.sound.0, omega (arith, n-is (goal.at.note_at-x-requires c).In-loop-i, c.loop-i-test.true))
-
-pub note_at-y-requires : goal.note_at-y-requires
-note_at-y-requires c = ((s₁ (goal.at.note_at-y-requires c).In-loop-i).requires.sound.3, omega (arith, m-is (goal.at.note_at-y-requires c).In-loop-i, c.if-m-j.false))
 
 -- the two notes that were read
 module _ (e : After-same_note) where
@@ -118,15 +101,6 @@ pub returns-then-not-same_note : goal.returns-then-not-same_note
 returns-then-not-same_note c =
     let s = s₂ (goal.at.returns-then-not-same_note c).After-same_note in
     cursors-differ (p s) (xs s) (ys s) (i₁ (goal.at.returns-then-not-same_note c).After-same_note) (j₁ (goal.at.returns-then-not-same_note c).After-same_note) (inv (goal.at.returns-then-not-same_note c).After-same_note) (more-xs (d₁ (goal.at.returns-then-not-same_note c).After-same_note)) (more-ys (goal.at.returns-then-not-same_note c).After-same_note) (no (sym (compared (goal.at.returns-then-not-same_note c).After-same_note)) (ap not c.if-not-same_note.true))
-
-pub next_of-i-requires-in-loop-i : goal.next_of-i-requires-in-loop-i
-next_of-i-requires-in-loop-i c = let d = d₁ (goal.at.next_of-i-requires-in-loop-i c).After-same_note in let s = s₁ d in (s.requires.sound.0, s.requires.sound.1, s.requires.sound.2, omega (arith, n-is d, d.loop-i-test.true))
-
-pub next_of-j-requires-in-loop-i : goal.next_of-j-requires-in-loop-i
-next_of-j-requires-in-loop-i c = let s = s₂ (goal.at.next_of-j-requires-in-loop-i c).After-same_note in (s.requires.sound.3, s.requires.sound.4, s.requires.sound.5, omega (arith, m-is (d₁ (goal.at.next_of-j-requires-in-loop-i c).After-same_note), c.if-m-j.false))
-
-pub loop-i-smaller : goal.loop-i-smaller
-loop-i-smaller c = omega (arith, c.next_of-i-in-loop-i.ensures.after, (d₁ (goal.at.loop-i-smaller c).After-same_note).loop-i-test.true)
 
 pub loop-i-preserved : goal.loop-i-preserved
 loop-i-preserved c =

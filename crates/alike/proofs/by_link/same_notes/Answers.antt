@@ -32,9 +32,6 @@ module _ (s : Start) where
   same-peer : (l : ℕ) → peer_at (state_of s.args.ha s.args.a.now) l ≡ peer_at (state_of s.args.hb s.args.b.now) l
   same-peer l = ap (λ (ks : List ℕ). get_or ks l 0) s.requires.a_value
 
-pub loop-link-init : goal.loop-link-init
-loop-link-init c = (search rules, λ k h. absurd (omega (arith, h)))
-
 pub same_for-requires : goal.same_for-requires
 same_for-requires c =
     let h = c.loop-link-test.true in

@@ -3,18 +3,16 @@ use mathlib.Core.Path.{◌≡◌, sym, ap, ◌∙◌, subst}
 use mathlib.Core.List.{List}
 use Prim.Native.Nat.{ℕ, ◌<◌}
 use lib.Dec.{lit<}
-use lib.ListN.{length, get_or, length-map, get_or-map}
-use Rattle.alike.specs.Elements.{Element, element, hop_element, graft_element, expiry_element, sequence_of, InState}
+use lib.ListN.{length, get_or, length-map}
+use Rattle.alike.specs.Elements.{Element, element, expiry_element, sequence_of}
 use Rattle.block.specs.View.{state_of, limits_of, received_in, grafted_in, cached_in, nothing_of, grafts_of, cached_of}
 use Rattle.block.specs.declared.head.Head.{Head}
-use Rattle.block.specs.MissingSteps.{hop, hops_at}
-use Rattle.block.specs.Caches.GraftSteps.{grafts_at}
 use Rattle.block.proofs.CachesLaws.ReceivedLaws.{received-lies, count-received-rows}
 use Rattle.block.proofs.CachesLaws.GraftedLaws.{grafted-lies, count-grafted-rows}
 use Rattle.block.proofs.CachesLaws.CachedLaws.{cached-lies, count-cached-rows}
 use Rattle.alike.specs.declared.sequences.Sequence.{Sequence}
 use Rattle.alike.specs.declared.sequences.Sequence.TheVariants.{ReceivedExpiry, GraftedExpiry, CachedExpiry}
-use Rattle.storage.specs.Lists.Map.{entry, keys}
+use Rattle.storage.specs.Lists.Map.{keys}
 use Rattle.time_cache.specs.Tables.{Lies, rows_at, row_at, expiry_of}
 use Rattle.time_cache.specs.declared.cache.TimeBoundCache.{TimeBoundCache}
 use Rattle.block.specs.Layout.{table}
@@ -67,9 +65,6 @@ module _ (h : Head) (xs : List ℕ) (f : Fit h xs) (j : ℕ) where
 there : (s : Start) (q : Sequence) → s.args.of ≡ q → There s.args.head s.args.block.now s.args.j q
 there s q e = subst (There s.args.head s.args.block.now s.args.j) e s.requires.2
 
-inside : (s : Start) (q : Sequence) → s.args.of ≡ q → InState q s.args.head.live
-inside s q e = subst (λ (q : Sequence). InState q s.args.head.live) e s.requires.1
-
 pub row_item-requires : goal.row_item-requires
 row_item-requires c =
     let a = c.args in
@@ -84,20 +79,6 @@ pub row_item-requires-in-CachedExpiry : goal.row_item-requires-in-CachedExpiry
 row_item-requires-in-CachedExpiry c =
     let a = c.args in
     subst (RowAsks a.block.now a.j) (sym c.cached_cache.ensures) (cached-row-asks a.head a.block.now c.requires.0.fit a.j (there (goal.at.row_item-requires-in-CachedExpiry c).Start CachedExpiry c.in-CachedExpiry.is))
-
-pub announcer_at-requires : goal.announcer_at-requires
-announcer_at-requires c =
-    (c.requires.0, inside (goal.at.announcer_at-requires c).Start _ c.in-Announcers.is, omega (arith, there (goal.at.announcer_at-requires c).Start _ c.in-Announcers.is, length-map (hops_at (state_of c.args.head c.args.block.now) c.in-Announcers.i) hop_element))
-
-pub hop_item-requires : goal.hop_item-requires
-hop_item-requires c = (c.requires.0, c.announcer_at.ensures.below)
-
-pub graft_at-requires : goal.graft_at-requires
-graft_at-requires c =
-    (c.requires.0, inside (goal.at.graft_at-requires c).Start _ c.in-GraftedPeers.is, omega (arith, there (goal.at.graft_at-requires c).Start _ c.in-GraftedPeers.is, length-map (grafts_at (state_of c.args.head c.args.block.now) c.in-GraftedPeers.i).peers graft_element))
-
-pub hop_item-requires-in-GraftedPeers : goal.hop_item-requires-in-GraftedPeers
-hop_item-requires-in-GraftedPeers c = (c.requires.0, c.graft_at.ensures.below)
 
 pub returns-in-ReceivedExpiry : goal.returns-in-ReceivedExpiry
 returns-in-ReceivedExpiry c =
@@ -122,15 +103,3 @@ returns-in-CachedExpiry c =
     c.row_item-in-CachedExpiry.ensures
     ∙ ap (row_of a.block.now a.j) c.cached_cache.ensures
     ∙ sym (ap (item_of a.head a.block.now a.j) told ∙ cached-row a.head a.block.now c.requires.0.fit a.j (there (goal.at.returns-in-CachedExpiry c).Start CachedExpiry told))
-
-pub returns-in-Announcers : goal.returns-in-Announcers
-returns-in-Announcers c =
-    let a = c.args in
-    c.hop_item.ensures
-    ∙ sym (ap (item_of a.head a.block.now a.j) c.in-Announcers.is ∙ get_or-map hop_element (hops_at (state_of a.head a.block.now) c.in-Announcers.i) a.j (hop 0 0) ∙ ap hop_element c.announcer_at.ensures.same)
-
-pub returns-in-GraftedPeers : goal.returns-in-GraftedPeers
-returns-in-GraftedPeers c =
-    let a = c.args in
-    c.hop_item-in-GraftedPeers.ensures
-    ∙ sym (ap (item_of a.head a.block.now a.j) c.in-GraftedPeers.is ∙ get_or-map graft_element (grafts_at (state_of a.head a.block.now) c.in-GraftedPeers.i).peers a.j (entry 0 0) ∙ ap graft_element c.graft_at.ensures.same)

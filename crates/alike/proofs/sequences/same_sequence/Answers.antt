@@ -45,15 +45,6 @@ pub returns-then-n-size : goal.returns-then-n-size
 returns-then-n-size c =
     sym (list_length same_element (element 0 0 0) (A (goal.at.returns-then-n-size c).Start) (B (goal.at.returns-then-n-size c).Start) (λ e. c.if-n-size.true (c.size-n.ensures ∙ e ∙ sym c.size.ensures)))
 
-pub loop-j-init : goal.loop-j-init
-loop-j-init c = (search rules, λ k h. absurd (omega (arith, h)))
-
-pub item_at-requires : goal.item_at-requires
-item_at-requires c = (search rules, search rules, omega (arith, c.loop-j-test.true, c.size-n.ensures))
-
-pub item_at-requires-in-loop-j : goal.item_at-requires-in-loop-j
-item_at-requires-in-loop-j c = (search rules, search rules, omega (arith, c.loop-j-test.true, c.if-n-size.false, c.size-n.ensures, c.size.ensures))
-
 pub returns-then-not-same : goal.returns-then-not-same
 returns-then-not-same c =
     sym (list-no same_element (element 0 0 0) (A (start (goal.at.returns-then-not-same c).After-same)) (B (start (goal.at.returns-then-not-same c).After-same)) (at (goal.at.returns-then-not-same c).After-same) (in_a (goal.at.returns-then-not-same c).After-same) (in_b (goal.at.returns-then-not-same c).After-same) (no (compared (goal.at.returns-then-not-same c).After-same) (ap not c.if-not-same.true)))

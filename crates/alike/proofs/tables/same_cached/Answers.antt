@@ -24,7 +24,6 @@ use Rattle.storage.proofs.RowsLaws.Parts.{part-between}
 use Rattle.block.specs.Layout.{place}
 use Rattle.block.specs.Caches.CachedReads.{cached_at, ContentIs}
 use Rattle.block.specs.declared.caches.cached.Extent.{Extent}
-use native.Mathlib.Omega.{arith}
 use Rattle.alike.proofs.tables.same_cached.Goals as goal
 use Rattle.alike.proofs.tables.same_cached.Goals.{After-same_key, Start}
 
@@ -66,30 +65,6 @@ returns-then-cached_round c =
     let y = (q (goal.at.returns-then-cached_round c).After-same_key).value.value in
     let rounds = sym (λ k. eqb (c.cached_round.ensures k) (c.cached_round-2.ensures k)) ∙ ne_eqb _ _ c.if-cached_round.true in
     sym (entry-same same_cached (p (goal.at.returns-then-cached_round c).After-same_key) (q (goal.at.returns-then-cached_round c).After-same_key) ∙ and_no (same_element (key_of (p (goal.at.returns-then-cached_round c).After-same_key)) (key_of (q (goal.at.returns-then-cached_round c).After-same_key))) (same_cached x y) (and_no (same_list eqb x.content y.content) (eqb x.round y.round) rounds))
-
-pub contents_at-requires : goal.contents_at-requires
-contents_at-requires c = c.requires.0.fit.ceilings
-
-pub overflow_add-start_x : goal.overflow_add-start_x
-overflow_add-start_x c = omega (arith, c.contents_at.ensures, c.cached_content-x.ensures.within, c.requires.0.fit)
-
-pub overflow_add-start_x-2 : goal.overflow_add-start_x-2
-overflow_add-start_x-2 c = omega (arith, c.contents_at.ensures, c.cached_content-x.ensures.within, c.requires.0.fit)
-
-pub contents_at-requires-2 : goal.contents_at-requires-2
-contents_at-requires-2 c = c.requires.2.fit.ceilings
-
-pub overflow_add-start_y : goal.overflow_add-start_y
-overflow_add-start_y c = omega (arith, c.contents_at-2.ensures, c.cached_content-y.ensures.within, c.requires.2.fit)
-
-pub overflow_add-start_y-2 : goal.overflow_add-start_y-2
-overflow_add-start_y-2 c = omega (arith, c.contents_at-2.ensures, c.cached_content-y.ensures.within, c.requires.2.fit)
-
-pub slice_bounds-same_bytes-end : goal.slice_bounds-same_bytes-end
-slice_bounds-same_bytes-end c = omega (arith, c.contents_at.ensures, c.cached_content-x.ensures.within, c.requires.0.fit)
-
-pub slice_bounds-same_bytes-end-2 : goal.slice_bounds-same_bytes-end-2
-slice_bounds-same_bytes-end-2 c = omega (arith, c.contents_at-2.ensures, c.cached_content-y.ensures.within, c.requires.2.fit)
 
 pub returns : goal.returns
 unfolding same_cached

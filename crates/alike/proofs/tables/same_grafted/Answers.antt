@@ -13,7 +13,6 @@ use Rattle.storage.specs.Lists.Map.{Entry}
 use Rattle.time_cache.specs.TimeCache.{Timed}
 use Rattle.protocol.specs.State.{Grafts}
 use Rattle.block.specs.Caches.GraftSteps.{grafted_at}
-use borrow.Author.Rules.{rules}
 use Rattle.alike.proofs.tables.same_grafted.Goals as goal
 use Rattle.alike.proofs.tables.same_grafted.Goals.{Joined-same_sender, then-same_key, else-same_key, then-same_sender, else-same_sender}
 
@@ -82,9 +81,6 @@ module _ (d : Joined-same_sender) where
 pub same_key-requires : goal.same_key-requires
 same_key-requires c =
     let a = c.args in record { lies = subst (λ (t : TimeBoundCache). Asks t a.a.now a.i) (sym c.grafted_cache.ensures) (grafted-asks a.ha a.a.now c.requires.0 a.i c.requires.1); lies_2 = subst (λ (t : TimeBoundCache). Asks t a.b.now a.i) (sym c.grafted_cache-2.ensures) (grafted-asks a.hb a.b.now c.requires.2 a.i c.requires.3) }
-
-pub same_sequence-requires : goal.same_sequence-requires
-same_sequence-requires c = let p = c.requires in search rules
 
 pub returns-then-same_sender-2 : goal.returns-then-same_sender-2
 returns-then-same_sender-2 c =

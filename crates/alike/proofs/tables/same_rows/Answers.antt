@@ -17,13 +17,6 @@ pub returns-then-n-rows_of : goal.returns-then-n-rows_of
 returns-then-n-rows_of c =
     sym (rows-length c.args.ha c.args.a.now c.args.hb c.args.b.now c.requires.0.fit c.requires.1.fit c.args.table (λ e. c.if-n-rows_of.true (c.rows_of-n.ensures ∙ e ∙ sym c.rows_of.ensures)))
 
-pub loop-i-init : goal.loop-i-init
-loop-i-init c = (search rules, λ k h. absurd (omega (arith, h)))
-
-pub same_row-requires : goal.same_row-requires
-same_row-requires c =
-    (c.requires.0, omega (arith, c.loop-i-test.true, c.rows_of-n.ensures), c.requires.1, omega (arith, c.loop-i-test.true, c.if-n-rows_of.false, c.rows_of.ensures))
-
 pub returns-then-not-same_row : goal.returns-then-not-same_row
 returns-then-not-same_row c =
     let l = c.loop-i in

@@ -2,14 +2,7 @@
 use mathlib.Core.Path.{sym, ◌∙◌}
 use native.Mathlib.Omega.{arith}
 use Rattle.alike.proofs.Lists.{same_word}
-use borrow.Author.Rules.{rules}
 use Rattle.alike.proofs.tables.same_words.Goals as goal
-
-pub loop-i-init : goal.loop-i-init
-loop-i-init c = (search rules, λ k h. absurd (omega (arith, h)))
-
-pub returns-then-load : goal.returns-then-load
-returns-then-load c = c.loop-i.invariant
 
 pub loop-i-preserved : goal.loop-i-preserved
 loop-i-preserved c = (
@@ -17,6 +10,3 @@ loop-i-preserved c = (
   same_word c.loop-i.i c.args.a.now c.args.b.now (λ k. omega (arith, c.shared_slice_known-1.given k)) (λ k. omega (arith, c.shared_slice_known-2-1.given k)) (omega arith) (omega arith)
       (sym c.load.ensures ∙ c.if-load.false ∙ c.load-in-loop-i.ensures) c.loop-i.invariant.1,
 )
-
-pub returns : goal.returns
-returns c = c.loop-i.invariant

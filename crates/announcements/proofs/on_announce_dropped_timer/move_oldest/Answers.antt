@@ -8,12 +8,10 @@ use Rattle.time_cache.specs.TimeCache.{holds}
 use Rattle.protocol.specs.State.{State, Note}
 use Rattle.protocol.specs.Ticks.{younger}
 use Rattle.block.specs.NoteSteps.{note}
-use Rattle.block.specs.Caches.InBlock.{InOrder}
 use Rattle.block.proofs.NoteLaws.{count-dropped}
 use Rattle.steps.specs.Dropped.{NoteOf}
 use Rattle.steps.specs.Panels.{state}
 use Rattle.steps.proofs.PanelLaws.{same-state}
-use Rattle.steps.proofs.StandsLaws.{in_order}
 use Rattle.steps.proofs.ViewLaws.{links-few}
 use Rattle.announcements.proofs.AnnounceLaws.Turns.{Read}
 use Rattle.announcements.proofs.OnAnnounceDroppedTimerLaws.{held_now, entry, passing-start, passing-skip, passing-more, link-low, seen-small, still-not, younger-start, move-start, kept-few, same-rows, same-links, cached-in, row-in, move-skip, move-room, move-take, take-kept, keep-room, move-keep, keep-kept, move-end}
@@ -74,12 +72,6 @@ held d b e =
     ∙ cached-in (s r) d.requires d.loop-row.row (q r) d.loop-row.invariant.goes.state (within r) i)
     ∙ e
 
-pub is_cached-requires : goal.is_cached-requires
-is_cached-requires c =
-    subst (λ (u : State). InOrder u.cache)
-    (sym (same-state c.loop-row.panel c.view-in-loop-row.result c.view-in-loop-row.ensures.head c.view-in-loop-row.ensures.block ∙ c.loop-row.invariant.goes.state))
-    (in_order (state c.args.panel.now).cache c.requires.rest.consistent.core.cache_on)
-
 pub loop-row-preserved-then-not-is_cached : goal.loop-row-preserved-then-not-is_cached
 loop-row-preserved-then-not-is_cached c =
     let d = (goal.at.loop-row-preserved-then-not-is_cached c).After-recorded-note in
@@ -110,11 +102,6 @@ push_queued-requires-clause-room c =
     let seen = get_or c.loop-row.passed.counts c.recorded-note.result.link 0 in
     move-room (s d) c.requires c.loop-row.row (q d) c.loop-row.invariant.goes.state (within d) c.loop-row.passed.counts c.recorded-note.result (read d) (row d)
     (held (goal.at.push_queued-requires-clause-room c).After-is_cached true (not-false c.is_cached.result (ap not c.if-not-is_cached.false))) (ltb-true seen 64 (sym c.is_oldest.ensures.oldest ∙ c.if-is_oldest.true))
-
-pub push_queued-requires-clause-link : goal.push_queued-requires-clause-link
-push_queued-requires-clause-link c =
-    let d = (goal.at.push_queued-requires-clause-link c).After-recorded-note in
-    omega (arith, (row d).below, same-links (s d) c.requires c.loop-row.row (q d) c.loop-row.invariant.goes.state (within d))
 
 pub set_dropped-requires : goal.set_dropped-requires
 set_dropped-requires c =

@@ -1,17 +1,11 @@
 -- `load_link`: the row read is the link of the view.
 use mathlib.Core.Path.{sym, ap, ◌∙◌}
 use mathlib.Core.List.{List}
-use native.Mathlib.Omega.{arith}
 use lib.ListN.{get_or}
 use Rattle.storage.specs.Lists.Map.{Entry, entry}
 use Rattle.protocol.specs.Links.{Mark, eager}
-use Rattle.block.proofs.LinkLaws.{links-lent, links-room}
+use Rattle.block.proofs.LinkLaws.{links-lent}
 use Rattle.block.proofs.links.load_link.Goals as goal
-
-pub load-requires : goal.load-requires
-load-requires c =
-    let e = c.received_at-end in
-    (c.requires.1, omega (arith, links-room c.args.head c.args.block.now e.result e.ensures c.requires.0, c.requires.0.within))
 
 pub returns : goal.returns
 returns c =

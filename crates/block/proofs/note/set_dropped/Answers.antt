@@ -2,13 +2,8 @@
 use Prim.Native.Nat.{◌+◌}
 use native.Mathlib.Omega.{arith}
 use Rattle.storage.specs.Rows.Ident.{id_of}
-use Rattle.block.proofs.NoteLaws.{instead-goes, record-room}
+use Rattle.block.proofs.NoteLaws.{instead-goes}
 use Rattle.block.proofs.note.set_dropped.Goals as goal
-
-pub store-requires : goal.store-requires
-store-requires c =
-    let k = c.args.i in
-    (c.requires.1, omega (arith, record-room c.args.head c.args.block.now c.requires.0 c.args.note.link (c.dropped_at.result + k) c.dropped_rows_at-start.result c.end_at-end.result k (omega (arith, c.requires.1, c.requires.0.fit.within.dropped)) (omega (arith, c.dropped_at.ensures)) c.dropped_rows_at-start.ensures c.end_at-end.ensures, c.requires.0.fit.within.dropped))
 
 pub returns : goal.returns
 returns c =

@@ -2,13 +2,8 @@
 use Prim.Native.Nat.{◌+◌}
 use native.Mathlib.Omega.{arith}
 use Rattle.storage.specs.Rows.Ident.{id_of}
-use Rattle.block.proofs.NoteLaws.{dropped-goes, record-room}
+use Rattle.block.proofs.NoteLaws.{dropped-goes}
 use Rattle.block.proofs.note.store_dropped.Goals as goal
-
-pub push-requires : goal.push-requires
-push-requires c =
-    let n = c.args.head.live.dropped in
-    omega (arith, record-room c.args.head c.args.block.now c.requires.0 c.args.link (c.dropped_at.result + n) c.dropped_rows_at-start.result c.end_at-end.result n (omega (arith, c.requires.2)) (omega (arith, c.dropped_at.ensures)) c.dropped_rows_at-start.ensures c.end_at-end.ensures, c.requires.2)
 
 pub returns : goal.returns
 returns c =

@@ -2,13 +2,8 @@
 use Prim.Native.Nat.{◌+◌}
 use native.Mathlib.Omega.{arith}
 use Rattle.storage.specs.Rows.Ident.{id_of}
-use Rattle.block.proofs.NoteLaws.{queue-goes, queue-room}
+use Rattle.block.proofs.NoteLaws.{queue-goes}
 use Rattle.block.proofs.note.store_queued.Goals as goal
-
-pub push-requires : goal.push-requires
-push-requires c =
-    let n = c.args.head.live.queued in
-    omega (arith, queue-room c.args.head c.args.block.now c.requires.0 c.args.link (c.queue_at.result + n) c.queue_rows_at-start.result c.dropped_at-end.result n (omega (arith, c.requires.2)) (omega (arith, c.queue_at.ensures)) c.queue_rows_at-start.ensures c.dropped_at-end.ensures, c.requires.2)
 
 pub returns : goal.returns
 returns c =

@@ -19,23 +19,11 @@ use Rattle.machine.proofs.event.ask_step.Goals.{After-fit}
 fit_is : (c : After-fit) → c.fit.result ≡ fits (after_event c.args.call.now c.args.step (shown c.args.view.now))
 fit_is c = fitted c.args.view.now (after_event c.args.call.now c.args.step (shown c.args.view.now)) c.step_sizes.result c.fit.result c.requires.keeps.limits c.step_sizes.ensures c.fit.ensures
 
-pub step_sizes-requires : goal.step_sizes-requires
-step_sizes-requires c = c.requires.named
-
-pub fit-requires : goal.fit-requires
-fit-requires c = c.args.view.now.sound.fit.ceilings
-
-pub invariant_of-actions : goal.invariant_of-actions
-invariant_of-actions c = record { rest = c.requires.named.rest; held = c.requires.named.held; sender = c.requires.sender; near = sym c.is_far.ensures ∙ c.if-is_far.false }
-
 pub size-length-requires : goal.size-length-requires
 size-length-requires c =
     let v = c.args.view.now in
     let k = c.args.call.now in
     omega (arith, step-length v.head v.block.now (rooms_of k (shown v)) k.instant.0 c.args.step (stands_of v.head v.block.now v.sound c.requires.named.rest) c.requires.named.held)
-
-pub counts_after-requires : goal.counts_after-requires
-counts_after-requires c = sym c.is_far.ensures ∙ c.if-is_far.false
 
 pub returns-then-is_far : goal.returns-then-is_far
 returns-then-is_far c = record {

@@ -1,11 +1,7 @@
 -- `raised`: by the largest so far.
-use Rattle.std.proofs.Common.{arith}
 use Rattle.machine.specs.Called.{counts_of}
 use Rattle.machine.proofs.RunLaws.{raise-not, raise-up}
 use Rattle.machine.proofs.event.raised.Goals as goal
-
-pub overflow_add-result : goal.overflow_add-result
-overflow_add-result c = omega (arith, c.requires)
 
 pub returns-then-round-counts : goal.returns-then-round-counts
 returns-then-round-counts c = raise-not c.args.round.0 (counts_of c.args.counts) c.if-round-counts.true

@@ -81,9 +81,6 @@ returns-in-Timer c =
     ∙ step-event a.call.now c.timer_step.result s 0 (Fired (timer_value c.in-Timer.timer)) (c.timer_step.ensures a.call.now.instant.0 s c.requires.0.consistent.core) refl
     ∙ as_event (goal.at.returns-in-Timer c).Start c.in-Timer.is
 
-pub limit_past-requires : goal.limit_past-requires
-limit_past-requires c = c.args.view.now.sound.fit.ceilings
-
 pub returns-in-Up : goal.returns-in-Up
 returns-in-Up c =
     let a = c.args in

@@ -4,12 +4,6 @@ use Rattle.steps.specs.Views.{shown}
 use Rattle.machine.proofs.LimitMetLaws.StepLaws.{far-past, near-past}
 use Rattle.machine.proofs.limit_met.step_limit.Goals as goal
 
-pub step_sizes-requires : goal.step_sizes-requires
-step_sizes-requires c = c.requires.0
-
-pub limit_past-requires : goal.limit_past-requires
-limit_past-requires c = c.args.view.now.sound.fit.ceilings
-
 pub returns-then-is_far : goal.returns-then-is_far
 returns-then-is_far c = far-past c.args.call.now c.args.step (shown c.args.view.now) (sym c.is_far.ensures ∙ c.if-is_far.true)
 

@@ -1,11 +1,10 @@
 -- `step_sizes` meets its contract: each arm is its step.
-use Rattle.std.proofs.Common.{arith, ◌≡◌, ap, sym, ◌∙◌}
-use mathlib.Core.Path.{subst}
+use Rattle.std.proofs.Common.{◌≡◌, ap, sym, ◌∙◌}
 use Rattle.protocol.specs.State.{State}
 use Rattle.decide.specs.Settled.{settled}
 use Rattle.decide.specs.Sizes.{sizes_of}
 use Rattle.steps.specs.Views.{shown}
-use Rattle.machine.specs.Kinds.Meaning.{step_state, StepHeld}
+use Rattle.machine.specs.Kinds.Meaning.{step_state}
 use Rattle.machine.specs.declared.kinds.Step.{Step}
 use Rattle.machine.specs.Steps.{after_event}
 use Rattle.machine.proofs.StepLaws.{settled-consistent, others-sized}
@@ -15,14 +14,8 @@ use Rattle.machine.proofs.step.step_sizes.Goals.{Start}
 abbrev shows : Start → State
 shows s = shown s.args.view.now
 
-held : (s : Start) {r : Step} → s.args.step ≡ r → StepHeld (shows s) r
-held s e = subst (StepHeld (shows s)) e s.requires.held
-
 as_step : (s : Start) {r : Step} → s.args.step ≡ r → sizes_of (after_event s.args.call.now r (shows s)) ≡ sizes_of (after_event s.args.call.now s.args.step (shows s))
 as_step s e = ap (λ (r : Step). sizes_of (after_event s.args.call.now r (shows s))) (sym e)
-
-pub graft_sizes-requires : goal.graft_sizes-requires
-graft_sizes-requires c = (c.requires.rest, held (goal.at.graft_sizes-requires c).Start c.in-Graft.is)
 
 pub returns-in-Graft : goal.returns-in-Graft
 unfolding step_state
@@ -35,22 +28,13 @@ returns-in_default c =
     let d = c.in_default in
     c.sizes_then.ensures ∙ others-sized (settled k.instant.0 s) (settled-consistent k.instant.0 s c.requires.rest.consistent) k c.args.step d.not-NewSwarm d.not-Graft d.not-IHave d.not-BroadcastSwarm d.not-SendGraft d.not-DispatchLazyPush d.not-EvictCache d.not-AnnounceDropped
 
-pub gossip_sizes-requires : goal.gossip_sizes-requires
-gossip_sizes-requires c = c.requires.rest
-
 pub returns-in-NewSwarm : goal.returns-in-NewSwarm
 unfolding step_state
 returns-in-NewSwarm c = c.gossip_sizes.ensures ∙ as_step (goal.at.returns-in-NewSwarm c).Start c.in-NewSwarm.is
 
-pub ihave_sizes-requires : goal.ihave_sizes-requires
-ihave_sizes-requires c = record { rest = c.requires.rest; few = omega (arith, (held (goal.at.ihave_sizes-requires c).Start c.in-IHave.is).few) }
-
 pub returns-in-IHave : goal.returns-in-IHave
 unfolding step_state
 returns-in-IHave c = c.ihave_sizes.ensures c.in-IHave.link ∙ as_step (goal.at.returns-in-IHave c).Start c.in-IHave.is
-
-pub broadcast_sizes-requires : goal.broadcast_sizes-requires
-broadcast_sizes-requires c = c.requires.rest
 
 pub returns-in-BroadcastSwarm : goal.returns-in-BroadcastSwarm
 unfolding step_state

@@ -26,12 +26,6 @@ on_gossip-requires c =
     let near = eqb-false c.in-NewSwarm.message.round.0 65535 k.near in
     record { allowed = (record { rest = k.allowed.rest; fits = k.allowed.fits }, k.begun); ranges = (near, k.early) }
 
-pub on_late_graft_reply-requires : goal.on_late_graft_reply-requires
-on_late_graft_reply-requires c = (c.requires.allowed.rest, c.requires.begun)
-
-pub on_prune-requires : goal.on_prune-requires
-on_prune-requires c = (c.requires.allowed.rest.consistent.core.links_up, (known (goal.at.on_prune-requires c).Start c.in-Prune.is).held)
-
 pub on_graft-requires : goal.on_graft-requires
 unfolding step_state
 on_graft-requires c =
@@ -61,9 +55,6 @@ unfolding step_state
 on_dispatch_timer-requires c =
     let k = known (goal.at.on_dispatch_timer-requires c).Start c.in-DispatchLazyPush.is in
     (record { rest = k.allowed.rest; fits = k.allowed.fits }, k.begun)
-
-pub on_evict_cache_timer-requires : goal.on_evict_cache_timer-requires
-on_evict_cache_timer-requires c = c.requires.allowed.rest
 
 pub on_announce_dropped_timer-requires : goal.on_announce_dropped_timer-requires
 unfolding step_state

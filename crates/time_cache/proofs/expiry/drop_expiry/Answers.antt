@@ -8,4 +8,4 @@ use Rattle.time_cache.proofs.expiry.drop_expiry.Goals as goal
 pub returns : goal.returns
 returns c =
     let a = c.args in
-    ap (expiry_rows a.stride (a.m - a.k)) c.remove_rows.ensures ∙ rows_dropped a.stride a.m a.k a.x.now c.requires.0 c.requires.1
+    ap (expiry_rows a.stride (a.row_count - a.k)) c.remove_rows.ensures ∙ rows_dropped a.stride a.row_count a.k a.bytes.now c.requires.0 c.requires.1

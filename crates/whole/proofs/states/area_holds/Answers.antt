@@ -10,7 +10,6 @@ use lib.ListN.{length, get_or}
 use Rattle.whole.specs.States.Area.{kept, area_holds}
 use Rattle.whole.specs.States.Calls.{Zeros, SlotsHold}
 use Rattle.whole.proofs.StatesLaws.Leaves.{told-yes, told-no, told_same}
-use Rattle.whole.proofs.StatesLaws.Slots.{slot-start}
 use Rattle.whole.proofs.StatesLaws.HoldsLaws.{of-holds, holds_not}
 use Rattle.whole.proofs.states.area_holds.Goals as goal
 
@@ -19,9 +18,6 @@ returns-then-area-lt-FRONT c = sym (holds_not c.args.n c.args.area.now (λ h. om
 
 pub returns-then-area-n : goal.returns-then-area-n
 returns-then-area-n c = sym (holds_not c.args.n c.args.area.now (λ h. omega (arith, h.long)))
-
-pub overflow_cast-kept : goal.overflow_cast-kept
-overflow_cast-kept c = omega (arith, c.shared_slice_known-2-1.given 255)
 
 pub returns-then-kept-gt-STATES : goal.returns-then-kept-gt-STATES
 unfolding kept
@@ -38,15 +34,6 @@ unfolding kept
 returns-then-not-zeros c =
     let k : ℕ = get_or c.args.area.now 255 0 in
     sym (holds_not c.args.n c.args.area.now (λ h. told-no (Zeros (26 * k) 255 c.args.area.now) c.zeros.result c.zeros.ensures (not-true _ (ap not c.if-not-zeros.true)) h.spare))
-
-pub overflow_mul-n : goal.overflow_mul-n
-overflow_mul-n c = let e = slot-start c.args.n (get_or c.args.area.now 255 0) 4 (omega arith) in record { fits = omega arith }
-
-pub overflow_add-n : goal.overflow_add-n
-overflow_add-n c = let e = slot-start c.args.n (get_or c.args.area.now 255 0) 4 (omega arith) in omega arith
-
-pub zeros-requires-2 : goal.zeros-requires-2
-zeros-requires-2 c = let e = slot-start c.args.n (get_or c.args.area.now 255 0) 4 (omega arith) in (omega arith, omega arith)
 
 pub returns : goal.returns
 unfolding kept

@@ -77,9 +77,6 @@ returns-then-not-area_holds c =
 pub bounds-area-255 : goal.bounds-area-255
 bounds-area-255 c = omega (arith, fits (goal.at.bounds-area-255 c).Else-not-area_holds)
 
-pub overflow_cast-kept : goal.overflow_cast-kept
-overflow_cast-kept c = omega (arith, c.shared_slice_known-2-1.given 255)
-
 pub place_of-place-requires : goal.place_of-place-requires
 unfolding kept
 place_of-place-requires c = (few (goal.at.place_of-place-requires c).Else-not-area_holds, omega (arith, fits (goal.at.place_of-place-requires c).Else-not-area_holds))
@@ -97,9 +94,6 @@ overflow_add-start c = omega (arith, ends c, fits (held c))
 
 pub overflow_add-start-2 : goal.overflow_add-start-2
 overflow_add-start-2 c = omega (arith, ends (goal.at.overflow_add-start-2 c).Else-place-kept, fits (held (goal.at.overflow_add-start-2 c).Else-place-kept))
-
-pub overflow_mul-place : goal.overflow_mul-place
-overflow_mul-place c = record { fits = omega (arith, row_ends (goal.at.overflow_mul-place c).Else-place-kept, fits (held (goal.at.overflow_mul-place c).Else-place-kept)) }
 
 pub row_counts-requires : goal.row_counts-requires
 row_counts-requires c = omega (arith, row_ends (goal.at.row_counts-requires c).Else-place-kept, fits (held (goal.at.row_counts-requires c).Else-place-kept))

@@ -6,9 +6,6 @@ use borrow.Author.Count.{below_more}
 use Rattle.whole.specs.States.Area.{name_at}
 use Rattle.whole.proofs.states.place_of.Goals as goal
 
-pub loop-i-init : goal.loop-i-init
-loop-i-init c = (search rules, λ j h e. omega arith)
-
 pub returns-then-load-name : goal.returns-then-load-name
 unfolding name_at
 returns-then-load-name c =
@@ -18,6 +15,3 @@ returns-then-load-name c =
 pub loop-i-preserved : goal.loop-i-preserved
 unfolding name_at
 loop-i-preserved c = (search rules, below_more _ _ c.loop-i.invariant.1 (λ e. c.if-load-name.false (c.load.ensures ∙ e)))
-
-pub returns : goal.returns
-returns c = record { within = omega arith; before = λ j h. c.loop-i.invariant.1 j (omega (arith, h)); found = λ h. absurd (omega arith) }

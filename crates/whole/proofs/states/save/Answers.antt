@@ -6,7 +6,7 @@ use mathlib.Core.List.{List, [], ◌∷◌}
 use Prim.Native.Nat.{ℕ, ◌+◌, ◌*◌, ◌≤◌, ◌<◌}
 use native.Mathlib.Omega.{arith}
 use borrow.Author.Tests.{not-true, not-false}
-use lib.ListN.{length, set, length-set}
+use lib.ListN.{length, set}
 use Rattle.storage.specs.Lists.Map.{Entry, entry}
 use Rattle.storage.specs.Rows.Part.{put}
 use Rattle.storage.proofs.RowsLaws.Parts.{length-put, set-put}
@@ -102,9 +102,6 @@ returns-then-not-area_holds c =
 pub bounds-area-255 : goal.bounds-area-255
 bounds-area-255 c = omega (arith, fits (goal.at.bounds-area-255 c).Else-not-area_holds)
 
-pub overflow_cast-kept : goal.overflow_cast-kept
-overflow_cast-kept c = omega (arith, c.slice_known-2-1.given 255)
-
 pub place_of-slot-requires : goal.place_of-slot-requires
 unfolding kept
 place_of-slot-requires c = (few (goal.at.place_of-slot-requires c).Else-not-area_holds, omega (arith, fits (goal.at.place_of-slot-requires c).Else-not-area_holds))
@@ -113,9 +110,6 @@ pub returns-then-slot-eq-STATES : goal.returns-then-slot-eq-STATES
 unfolding kept
 returns-then-slot-eq-STATES c =
     saves-16 (block (goal.at.returns-then-slot-eq-STATES c).Else-not-area_holds) (counts (goal.at.returns-then-slot-eq-STATES c).Else-not-area_holds) (area (goal.at.returns-then-slot-eq-STATES c).Else-not-area_holds) (name (goal.at.returns-then-slot-eq-STATES c).Else-not-area_holds) (whole (goal.at.returns-then-slot-eq-STATES c).Else-not-area_holds) (holds (goal.at.returns-then-slot-eq-STATES c).Else-not-area_holds) (subst (λ (i : ℕ). Placed (kept (area (goal.at.returns-then-slot-eq-STATES c).Else-not-area_holds)) (name (goal.at.returns-then-slot-eq-STATES c).Else-not-area_holds) (area (goal.at.returns-then-slot-eq-STATES c).Else-not-area_holds) i) c.if-slot-eq-STATES.true c.place_of-slot.ensures)
-
-pub overflow_mul-slot : goal.overflow_mul-slot
-overflow_mul-slot c = record { fits = omega (arith, room (goal.at.overflow_mul-slot c).Else-slot-eq-STATES) }
 
 pub put_row-requires : goal.put_row-requires
 put_row-requires c = omega (arith, room (goal.at.put_row-requires c).Else-slot-eq-STATES, fits (held (goal.at.put_row-requires c).Else-slot-eq-STATES))
@@ -135,9 +129,6 @@ kept_after-requires c = (room (goal.at.kept_after-requires c).Else-slot-eq-STATE
 
 pub bounds-area-255-2 : goal.bounds-area-255-2
 bounds-area-255-2 c = omega (arith, long-block (goal.at.bounds-area-255-2 c).After-copy_bytes, fits (held (goal.at.bounds-area-255-2 c).Else-slot-eq-STATES))
-
-pub shape_of-area : goal.shape_of-area
-shape_of-area c = length-set c.copy_bytes.new.out 255 c.kept_after.result ∙ long-block (goal.at.shape_of-area c).After-copy_bytes
 
 pub returns : goal.returns
 unfolding kept row_bytes

@@ -1,6 +1,6 @@
 -- `slots_hold`: the first i names differ, and the first i blocks are whole.
 use mathlib.Core.Bool.{not}
-use mathlib.Core.Path.{◌≡◌, sym, ap, ◌∙◌, subst}
+use mathlib.Core.Path.{◌≡◌, sym, ap, ◌∙◌}
 use Prim.Native.Nat.{ℕ, ◌+◌, ◌*◌, ◌-◌}
 use native.Mathlib.Omega.{arith}
 use borrow.Author.Rules.{rules}
@@ -10,9 +10,7 @@ use Rattle.storage.proofs.ListsLaws.MapLaws.{true≢}
 use Rattle.storage.specs.Rows.Part.{part}
 use Rattle.whole.specs.Held.{whole_block}
 use Rattle.whole.specs.States.Area.{name_at}
-use Rattle.whole.specs.States.Calls.{SlotsHold}
 use Rattle.whole.proofs.StatesLaws.Leaves.{slots-more}
-use Rattle.whole.proofs.StatesLaws.Slots.{slot-end}
 use Rattle.whole.proofs.states.slots_hold.Goals as goal
 use Rattle.whole.proofs.states.slots_hold.Goals.{After-is_whole}
 
@@ -24,21 +22,9 @@ read c =
     let e : from + c.args.n - from ≡ c.args.n = omega arith in
     c.is_whole.ensures ∙ ap (λ (m : ℕ). whole_block (take m (drop from c.args.area.now))) e
 
-pub loop-i-init : goal.loop-i-init
-loop-i-init c = (search rules, record { names = λ p q l h e. omega arith; wholes = λ i h. absurd (omega arith) })
-
 pub returns-then-place_of-i : goal.returns-then-place_of-i
 unfolding name_at
 returns-then-place_of-i c = λ h. h.names _ _ c.if-place_of-i.true (omega arith) (c.place_of.ensures.found c.if-place_of-i.true ∙ c.load-name.ensures)
-
-pub overflow_mul-from : goal.overflow_mul-from
-overflow_mul-from c = let e = slot-end c.args.n c.loop-i.i 4 (omega arith) in record { fits = omega arith }
-
-pub overflow_add-from : goal.overflow_add-from
-overflow_add-from c = let e = slot-end c.args.n c.loop-i.i 4 (omega arith) in omega arith
-
-pub overflow_add-from-in-loop-i : goal.overflow_add-from-in-loop-i
-overflow_add-from-in-loop-i c = let e = slot-end c.args.n c.loop-i.i 4 (omega arith) in omega arith
 
 pub returns-then-not-is_whole : goal.returns-then-not-is_whole
 returns-then-not-is_whole c = λ h.
@@ -52,8 +38,3 @@ loop-i-preserved c = (
       (λ j h e. c.place_of.ensures.before j (omega (arith, c.if-place_of-i.false)) (e ∙ sym c.load-name.ensures))
       (sym (read (goal.at.loop-i-preserved c).After-is_whole) ∙ not-false _ (ap not c.if-not-is_whole.false)),
 )
-
-pub returns : goal.returns
-returns c =
-    let e : c.loop-i.i ≡ c.args.k = omega arith in
-    subst (λ (m : ℕ). SlotsHold c.args.n m c.args.area.now) e c.loop-i.invariant.1

@@ -1,19 +1,9 @@
 -- `zero_words`: no byte from `from` to i is other than 0. The measure is what is left.
 use mathlib.Core.Path.{sym, ◌∙◌}
 use native.Mathlib.Omega.{arith}
-use borrow.Author.Rules.{rules}
 use Rattle.whole.proofs.StatesLaws.Leaves.{zeros-word}
 use Rattle.whole.proofs.states.zero_words.Goals as goal
-
-pub loop-i-init : goal.loop-i-init
-loop-i-init c = (search rules, search rules, λ j a b. absurd (omega arith))
-
-pub returns-then-load-ne0 : goal.returns-then-load-ne0
-returns-then-load-ne0 c = c.loop-i.invariant
 
 pub loop-i-preserved : goal.loop-i-preserved
 loop-i-preserved c =
     (omega arith, omega arith, zeros-word _ _ c.args.area.now c.loop-i.invariant.2 (sym c.load.ensures ∙ c.if-load-ne0.false))
-
-pub returns : goal.returns
-returns c = c.loop-i.invariant

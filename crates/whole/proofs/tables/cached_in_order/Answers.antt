@@ -1,10 +1,10 @@
 -- `cached_in_order`: the test of the time cache in tables 4 and 5.
-use mathlib.Core.Path.{◌≡◌, sym, ap, ◌∙◌, subst}
+use mathlib.Core.Path.{◌≡◌, ap, ◌∙◌}
 use mathlib.Core.List.{List}
 use Prim.Native.Nat.{ℕ}
 use native.Mathlib.Omega.{arith}
 use lib.Dec.{lit<}
-use Rattle.time_cache.specs.Tables.{Lies, sound}
+use Rattle.time_cache.specs.Tables.{sound}
 use Rattle.time_cache.specs.declared.cache.TimeBoundCache.{TimeBoundCache}
 use Rattle.block.specs.View.{limits_of, state_of, cached_in, cached_of}
 use Rattle.block.specs.Fit.{Fit}
@@ -14,16 +14,9 @@ use Rattle.whole.specs.Parts.{table_of, cached_in_order}
 use Rattle.whole.proofs.LentLaws.{cache-sound}
 use Rattle.whole.proofs.tables.cached_in_order.Goals as goal
 
-lies : (h : Head) (xs : List ℕ) → Fit h xs → Lies (cached_cache h) xs
-lies h xs fit = record { entry_wide = omega arith; expiry_wide = omega arith; apart = omega arith; within = omega arith; few = omega arith }
-
 told : (h : Head) (xs : List ℕ) → Fit h xs → sound (cached_cache h) xs ≡ cached_in_order h xs
 unfolding state_of cached_in
 told h xs fit = cache-sound (limits_of h.limits) xs (cached_of (table_of h 6 xs)) 4 4 h.live.cached 5 48 h.live.cached_rows (lit< tt) (omega arith) (lit< tt) (omega arith)
-
-pub is_sound-requires : goal.is_sound-requires
-is_sound-requires c =
-    subst (λ (t : TimeBoundCache). Lies t c.args.block.now) (sym c.cached_cache.ensures) (lies c.args.head c.args.block.now c.requires)
 
 pub returns : goal.returns
 returns c =

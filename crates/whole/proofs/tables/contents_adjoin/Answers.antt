@@ -6,13 +6,8 @@ use native.Mathlib.Omega.{arith}
 use lib.Dec.{lit<}
 use Rattle.block.specs.View.{limits_of}
 use Rattle.whole.specs.Held.{adjoin}
-use Rattle.whole.proofs.LentLaws.{rows-lent, length-open}
+use Rattle.whole.proofs.LentLaws.{rows-lent}
 use Rattle.whole.proofs.tables.contents_adjoin.Goals as goal
-
-pub adjoin-requires : goal.adjoin-requires
-adjoin-requires c =
-    let at = c.cached_rows_at-rows_at in
-    omega (arith, length-open at.result c.args.block.now, at.ensures, c.requires.within.cached_rows, c.requires.long)
 
 pub returns : goal.returns
 returns c =

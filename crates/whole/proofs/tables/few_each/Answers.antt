@@ -16,25 +16,10 @@ returns-then-numbers-le-MAX_DROPPED_PER_PEER c = few-short c.args.numbers.now c.
 pub loop-i-init : goal.loop-i-init
 loop-i-init c = counted_start c.args.numbers.now _ refl
 
-pub offset_bounds-counts-number : goal.offset_bounds-counts-number
-offset_bounds-counts-number c = omega (arith, low c)
-
-pub bounds-counts-number : goal.bounds-counts-number
-bounds-counts-number c = omega (arith, low c)
-
 pub returns-then-counts-number : goal.returns-then-counts-number
 returns-then-counts-number c =
     let l = c.loop-i in
     counted-over c.args.numbers.now l.counts l.i c.wide-number.result l.invariant c.loop-i-test.true c.wide-number.ensures (low (goal.at.returns-then-counts-number c).After-wide-number) c.if-counts-number.true
-
-pub overflow_add-counts : goal.overflow_add-counts
-overflow_add-counts c = omega (arith, c.if-counts-number.false)
-
-pub offset_bounds-counts-number-in-loop-i : goal.offset_bounds-counts-number-in-loop-i
-offset_bounds-counts-number-in-loop-i c = omega (arith, low (goal.at.offset_bounds-counts-number-in-loop-i c).After-wide-number)
-
-pub bounds-counts-number-in-loop-i : goal.bounds-counts-number-in-loop-i
-bounds-counts-number-in-loop-i c = omega (arith, low (goal.at.bounds-counts-number-in-loop-i c).After-wide-number)
 
 pub loop-i-preserved : goal.loop-i-preserved
 loop-i-preserved c =

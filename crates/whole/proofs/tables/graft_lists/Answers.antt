@@ -2,21 +2,16 @@
 use mathlib.Core.Path.{◌≡◌, refl, sym, ap, ◌∙◌}
 use mathlib.Core.Bool.{not}
 use mathlib.Core.List.{[]}
-use Prim.Native.Nat.{◌+◌, ◌*◌, ◌≤◌}
 use native.Mathlib.Omega.{arith}
-use lib.ListN.{length, drop, get_or}
+use lib.ListN.{drop, get_or}
 use Rattle.storage.specs.Rows.Rows.{rows}
-use Rattle.storage.proofs.RowsLaws.Rows.{length-rows, row-end}
+use Rattle.storage.proofs.RowsLaws.Rows.{length-rows}
 use Rattle.whole.specs.Held.{all_lists}
 use Rattle.whole.specs.Parts.{graft_list}
 use Rattle.whole.proofs.Tests.{no, yes}
 use Rattle.whole.proofs.AllLaws.{all_none, all_keep, all-not, all_done, list_at}
 use Rattle.whole.proofs.tables.graft_lists.Goals as goal
 use Rattle.whole.proofs.tables.graft_lists.Goals.{After-graft_list, In-loop-i}
-
--- row i lies in the slice
-room : (c : In-loop-i) → c.loop-i.i * 119 + 119 ≤ length c.args.entries.now
-room c = omega (arith, row-end 119 c.args.entry_count c.loop-i.i c.loop-i-test.true, c.requires)
 
 -- what the test told of row i
 told : (c : After-graft_list)
@@ -26,15 +21,6 @@ told c =
 
 pub loop-i-init : goal.loop-i-init
 loop-i-init c = all_none (λ row. graft_list c.args.link_count (drop 22 row)) (rows 119 c.args.entry_count c.args.entries.now)
-
-pub overflow_mul-at : goal.overflow_mul-at
-overflow_mul-at c = omega (arith, room c)
-
-pub overflow_add-at : goal.overflow_add-at
-overflow_add-at c = omega (arith, room c)
-
-pub overflow_add-at-in-loop-i : goal.overflow_add-at-in-loop-i
-overflow_add-at-in-loop-i c = omega (arith, room c)
 
 pub loop-i-preserved : goal.loop-i-preserved
 loop-i-preserved c =

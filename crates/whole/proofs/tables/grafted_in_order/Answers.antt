@@ -1,11 +1,11 @@
 -- `grafted_in_order`: the test of the time cache in tables 7 and 8.
-use mathlib.Core.Path.{◌≡◌, sym, ap, ◌∙◌, subst}
+use mathlib.Core.Path.{◌≡◌, ap, ◌∙◌}
 use mathlib.Core.List.{List}
 use Prim.Native.Nat.{ℕ}
 use native.Mathlib.Omega.{arith}
 use lib.Dec.{lit<}
 use Rattle.storage.specs.Lists.Map.{keys}
-use Rattle.time_cache.specs.Tables.{Lies, sound}
+use Rattle.time_cache.specs.Tables.{sound}
 use Rattle.time_cache.specs.declared.cache.TimeBoundCache.{TimeBoundCache}
 use Rattle.block.specs.View.{limits_of, state_of, grafted_in, grafts_of}
 use Rattle.block.specs.Fit.{Fit}
@@ -15,16 +15,9 @@ use Rattle.whole.specs.Parts.{grafted_in_order}
 use Rattle.whole.proofs.LentLaws.{cache-sound}
 use Rattle.whole.proofs.tables.grafted_in_order.Goals as goal
 
-lies : (h : Head) (xs : List ℕ) → Fit h xs → Lies (grafted_cache h) xs
-lies h xs fit = record { entry_wide = omega arith; expiry_wide = omega arith; apart = omega arith; within = omega arith; few = omega arith }
-
 told : (h : Head) (xs : List ℕ) → Fit h xs → sound (grafted_cache h) xs ≡ grafted_in_order h xs
 unfolding state_of grafted_in
 told h xs fit = cache-sound (limits_of h.limits) xs (grafts_of (keys (state_of h xs).links)) 7 119 h.live.grafted 8 40 h.live.grafted_rows (lit< tt) (omega arith) (lit< tt) (omega arith)
-
-pub is_sound-requires : goal.is_sound-requires
-is_sound-requires c =
-    subst (λ (t : TimeBoundCache). Lies t c.args.block.now) (sym c.grafted_cache.ensures) (lies c.args.head c.args.block.now c.requires)
 
 pub returns : goal.returns
 returns c =

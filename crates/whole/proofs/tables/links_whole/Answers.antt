@@ -1,23 +1,13 @@
 -- `links_whole`: the first i peers ascend; a turn compares neighbours.
 use mathlib.Core.Bool.{true, false}
 use native.Mathlib.Omega.{arith}
-use borrow.Author.Rules.{rules}
 use Rattle.storage.specs.Lists.Map.{keys}
-use Rattle.storage.proofs.RowsLaws.Sorted.{ascend-start, ascend-more, ascend-done, ascend-not}
+use Rattle.storage.proofs.RowsLaws.Sorted.{ascend-more, ascend-done, ascend-not}
 use Rattle.time_cache.proofs.Orders.{tells-ascending}
 use Rattle.block.specs.View.{state_of}
 use Rattle.block.proofs.LinkLaws.{count-peers}
 use Rattle.whole.specs.Parts.{links_whole}
 use Rattle.whole.proofs.tables.links_whole.Goals as goal
-
-pub loop-i-init : goal.loop-i-init
-loop-i-init c = (search rules, ascend-start (keys (state_of c.args.head c.args.block.now).links))
-
-pub peer_at-requires-in-loop-i : goal.peer_at-requires-in-loop-i
-peer_at-requires-in-loop-i c = (c.requires, omega (arith, c.loop-i-test.true, c.loop-i.invariant.0))
-
-pub peer_at-requires : goal.peer_at-requires
-peer_at-requires c = (c.requires, c.loop-i-test.true)
 
 pub loop-i-preserved : goal.loop-i-preserved
 loop-i-preserved c =

@@ -12,9 +12,6 @@ use Rattle.whole.specs.Parts.{missed_list}
 use Rattle.whole.proofs.NumberLaws.{tells-numbers}
 use Rattle.whole.proofs.tables.missed_list.Goals as goal
 
-pub numbers-requires : goal.numbers-requires
-numbers-requires c = c.requires.1
-
 pub returns-then-n-le-CAPACITY : goal.returns-then-n-le-CAPACITY
 unfolding missed_list numbers_name
 returns-then-n-le-CAPACITY c =

@@ -28,17 +28,8 @@ pub loop-i-init : goal.loop-i-init
 unfolding sum
 loop-i-init c = (search rules, search rules, refl)
 
-pub overflow_mul-place : goal.overflow_mul-place
-overflow_mul-place c = omega (arith, spot c)
-
-pub overflow_add-place : goal.overflow_add-place
-overflow_add-place c = omega (arith, spot c)
-
 pub load4-total-requires : goal.load4-total-requires
 load4-total-requires c = omega (arith, spot c, c.requires)
-
-pub overflow_add-total : goal.overflow_add-total
-overflow_add-total c = omega (arith, c.loop-i.invariant, c.load4-total.ensures.1, c.requires)
 
 pub loop-i-preserved : goal.loop-i-preserved
 loop-i-preserved c =

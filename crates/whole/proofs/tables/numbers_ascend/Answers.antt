@@ -1,9 +1,6 @@
 -- `numbers_ascend`: the first i numbers are below it and ascend.
-use Rattle.whole.proofs.NumberLaws.{climb-start, climb-more, climb-high, climb-low, climb-done}
+use Rattle.whole.proofs.NumberLaws.{climb-more, climb-high, climb-low, climb-done}
 use Rattle.whole.proofs.tables.numbers_ascend.Goals as goal
-
-pub loop-i-init : goal.loop-i-init
-loop-i-init c = climb-start c.args.link_count c.args.numbers.now
 
 pub returns-then-link_count-number : goal.returns-then-link_count-number
 returns-then-link_count-number c =

@@ -4,7 +4,7 @@ use Prim.Native.Nat.{ℕ}
 use borrow.Author.Tests.{lt-ltb, le-ltb}
 use lib.Dec.{eqb, ltb}
 use lib.ListN.{get_or}
-use Rattle.whole.proofs.AllLaws.{all_none, all_keep, all_drop, all_done}
+use Rattle.whole.proofs.AllLaws.{all_none, all_keep, all_drop}
 use Rattle.whole.proofs.tables.numbers_below.Goals as goal
 use Rattle.whole.proofs.tables.numbers_below.Goals.{then-link_count-numbers, else-link_count-numbers}
 
@@ -23,7 +23,3 @@ loop-i-preserved c =
           ap (λ (n : ℕ). eqb n 0) w.bad-is ∙ c.loop-i.invariant
           ∙ sym (all_keep (λ n. ltb n count) bytes i 0 c.loop-i-test.true (lt-ltb (get_or bytes i 0) count w.if-link_count-numbers.false))
     ]
-
-pub returns : goal.returns
-returns c =
-    c.loop-i.invariant ∙ all_done (λ n. ltb n c.args.link_count) c.args.numbers.now c.loop-i.i c.loop-i-test.false

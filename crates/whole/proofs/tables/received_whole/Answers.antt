@@ -1,10 +1,10 @@
 -- `received_whole`: the test of the time cache in tables 2 and 3.
-use mathlib.Core.Path.{◌≡◌, sym, ap, ◌∙◌, subst}
+use mathlib.Core.Path.{◌≡◌, ap, ◌∙◌}
 use mathlib.Core.List.{List}
 use Prim.Native.Nat.{ℕ}
 use native.Mathlib.Omega.{arith}
 use lib.Dec.{lit<}
-use Rattle.time_cache.specs.Tables.{Lies, sound}
+use Rattle.time_cache.specs.Tables.{sound}
 use Rattle.time_cache.specs.declared.cache.TimeBoundCache.{TimeBoundCache}
 use Rattle.block.specs.View.{limits_of, state_of, received_in, nothing_of}
 use Rattle.block.specs.Fit.{Fit}
@@ -14,16 +14,9 @@ use Rattle.whole.specs.Parts.{received_whole}
 use Rattle.whole.proofs.LentLaws.{cache-sound}
 use Rattle.whole.proofs.tables.received_whole.Goals as goal
 
-lies : (h : Head) (xs : List ℕ) → Fit h xs → Lies (received_cache h) xs
-lies h xs fit = record { entry_wide = omega arith; expiry_wide = omega arith; apart = omega arith; within = omega arith; few = omega arith }
-
 told : (h : Head) (xs : List ℕ) → Fit h xs → sound (received_cache h) xs ≡ received_whole h xs
 unfolding received_whole state_of received_in
 told h xs fit = cache-sound (limits_of h.limits) xs nothing_of 2 2 h.live.received 3 40 h.live.received_rows (lit< tt) (omega arith) (lit< tt) (omega arith)
-
-pub is_sound-requires : goal.is_sound-requires
-is_sound-requires c =
-    subst (λ (t : TimeBoundCache). Lies t c.args.block.now) (sym c.received_cache.ensures) (lies c.args.head c.args.block.now c.requires)
 
 pub returns : goal.returns
 returns c =

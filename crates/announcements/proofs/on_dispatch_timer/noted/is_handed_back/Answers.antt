@@ -6,7 +6,6 @@ use Rattle.steps.specs.Groups.{part}
 use Rattle.steps.specs.Queue.{note_at}
 use Rattle.steps.specs.Views.{shown}
 use Rattle.steps.proofs.RowLaws.{queue-few, per-message}
-use Rattle.steps.proofs.ViewLaws.{links-few}
 use Rattle.announcements.specs.QueuedRows.{held_then, ihave_of}
 use Rattle.announcements.proofs.OnDispatchLaws.QueueLaws.{queued-few}
 use Rattle.announcements.proofs.OnDispatchLaws.BatchLaws.{k, after-none, all-taken, after-all}
@@ -19,12 +18,6 @@ loop-link-init c =
 
 pub link_rows-queued-requires : goal.link_rows-queued-requires
 link_rows-queued-requires c = (c.requires.mine c.loop-link.link (omega (arith, c.loop-link-test.true, c.link_count-link-end.ensures))).0
-
-pub offset_bounds-call-link : goal.offset_bounds-call-link
-offset_bounds-call-link c = let v = c.args.view.now in omega (arith, c.loop-link-test.true, c.link_count-link-end.ensures, links-few v.head v.block.now v.sound)
-
-pub bounds-call-link : goal.bounds-call-link
-bounds-call-link c = let v = c.args.view.now in omega (arith, c.loop-link-test.true, c.link_count-link-end.ensures, links-few v.head v.block.now v.sound)
 
 pub taken-taken-requires-clause-some : goal.taken-taken-requires-clause-some
 taken-taken-requires-clause-some c =

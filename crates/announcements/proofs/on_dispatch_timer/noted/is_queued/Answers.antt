@@ -5,7 +5,7 @@ use Rattle.storage.specs.Rows.Ident.{id_of}
 use Rattle.postcard.specs.Message.{Ihave}
 use Rattle.protocol.specs.State.{Note}
 use Rattle.steps.specs.Views.{shown}
-use Rattle.announcements.proofs.OnDispatchLaws.RowLaws.{any-start, any-found, any-not, any-end}
+use Rattle.announcements.proofs.OnDispatchLaws.RowLaws.{any-start, any-found, any-not}
 use Rattle.announcements.proofs.on_dispatch_timer.noted.is_queued.Goals as goal
 
 pub loop-row-init : goal.loop-row-init
@@ -20,6 +20,3 @@ pub loop-row-preserved : goal.loop-row-preserved
 loop-row-preserved c =
     any-not (shown c.args.view.now).queue c.args.queued.now c.loop-row.row-index c.loop-row-test.true (λ (h : Ihave). eqb h.id (id_of c.args.id)) c.loop-row.invariant
     (ap (λ (n : Note). eqb n.id (id_of c.args.id)) (sym c.queued.ensures) ∙ sym c.eq.ensures ∙ c.if-eq.false)
-
-pub returns : goal.returns
-returns c = any-end (shown c.args.view.now).queue c.args.queued.now (λ (h : Ihave). eqb h.id (id_of c.args.id)) c.loop-row.row-index c.loop-row-test.false c.loop-row.invariant

@@ -3,9 +3,6 @@ use Rattle.std.proofs.Common.{arith}
 use Rattle.steps.proofs.ViewLaws.{links-few}
 use Rattle.announcements.proofs.on_dispatch_timer.noted.may_hand_back.Goals as goal
 
-pub loop-link-init : goal.loop-link-init
-loop-link-init c = λ k q. absurd (omega (arith, q))
-
 pub offset_bounds-call-link : goal.offset_bounds-call-link
 offset_bounds-call-link c = let v = c.args.view.now in omega (arith, c.loop-link-test.true, c.link_count-link-end.ensures, links-few v.head v.block.now v.sound)
 

@@ -13,10 +13,10 @@ use Rattle.steps.specs.Views.{shown}
 use Rattle.announcements.specs.Marks.{low_of, Covers}
 use Rattle.announcements.specs.QueuedRows.{held_then, ihave_of, ihaves_at, notes_at, among}
 use Rattle.announcements.proofs.OnDispatchLaws.MarkLaws.{low-in, covers-same, covers-clear}
-use Rattle.announcements.proofs.OnDispatchLaws.NotedLaws.{full-is, known, known-start, Holding, holding-start, holding-next, marked-next, grown-noted, grown-there, note-not-held, Sofar, sofar-start, sofar-next, sofar-end, sofar-full}
+use Rattle.announcements.proofs.OnDispatchLaws.NotedLaws.{full-is, known, known-start, Holding, holding-start, holding-next, marked-next, grown-noted, grown-there, note-not-held, Sofar, sofar-start, sofar-next, sofar-full}
 use Rattle.announcements.proofs.OnDispatchLaws.RowLaws.{to-end}
 use Rattle.announcements.proofs.on_dispatch_timer.noted.note_link.Goals as goal
-use Rattle.announcements.proofs.on_dispatch_timer.noted.note_link.Goals.{After-is_full, After-low-place, then-is_still_cached, else-is_still_cached}
+use Rattle.announcements.proofs.on_dispatch_timer.noted.note_link.Goals.{After-is_full, After-low-place, then-is_cached_then, else-is_cached_then}
 
 pub loop-row-init : goal.loop-row-init
 loop-row-init c =
@@ -58,8 +58,8 @@ returns-then-is_full-clause-noted c =
 pub bounds-marks-place : goal.bounds-marks-place
 bounds-marks-place c = subst (λ (n : ℕ). n < 4096) (sym c.low-place.ensures) (low-in (id_of c.queued.result.id))
 
-pub bounds-marks-place-then-is_still_cached : goal.bounds-marks-place-then-is_still_cached
-bounds-marks-place-then-is_still_cached c = subst (λ (n : ℕ). n < 4096) (sym c.low-place.ensures) (low-in (id_of c.queued.result.id))
+pub bounds-marks-place-then-is_cached_then : goal.bounds-marks-place-then-is_cached_then
+bounds-marks-place-then-is_cached_then c = subst (λ (n : ℕ). n < 4096) (sym c.low-place.ensures) (low-in (id_of c.queued.result.id))
 
 pub is_there-requires-clause-noted : goal.is_there-requires-clause-noted
 is_there-requires-clause-noted c =
@@ -144,20 +144,14 @@ pub loop-row-preserved : goal.loop-row-preserved
 loop-row-preserved c =
     let w = (goal.at.loop-row-preserved c).After-low-place in
     let held = held_then c.args.instant.0 (s w) in
-    elim c.if-is_still_cached.branch [
-      | then-is_still_cached b ↦
+    elim c.if-is_cached_then.branch [
+      | then-is_cached_then b ↦
           rw (b.noted-is, b.push.ensures.items, b.marks-is)
           (more w
           (sym (full ((goal.at.After-low-place w).After-is_full)) ∙ c.if-is_full.false)
-          (ap held (sym (id-is w)) ∙ sym c.is_still_cached.ensures ∙ b.if-is_still_cached.true)
+          (ap held (sym (id-is w)) ∙ sym c.is_cached_then.ensures ∙ b.if-is_cached_then.true)
           (sym (known-is w) ∙ sym c.is_there.ensures ∙ c.if-is_there.false))
-      | else-is_still_cached b ↦
+      | else-is_cached_then b ↦
           rw (b.noted-is, b.marks-is)
-          (still w (note-not-held held (p w) (ihave_of (x w)) ((s w).dropped ++ notes_at (s w).queue c.loop-row.noted.items) (ap held (sym (id-is w)) ∙ sym c.is_still_cached.ensures ∙ b.if-is_still_cached.false)))
+          (still w (note-not-held held (p w) (ihave_of (x w)) ((s w).dropped ++ notes_at (s w).queue c.loop-row.noted.items) (ap held (sym (id-is w)) ∙ sym c.is_cached_then.ensures ∙ b.if-is_cached_then.false)))
     ]
-
-pub returns-clause-noted : goal.returns-clause-noted
-returns-clause-noted c =
-    let s = shown c.args.view.now in
-    let p = peer_at s c.args.back.now.link in
-    sofar-end p s.dropped s.queue c.args.recorded.now c.len-before.result (held_then c.args.instant.0 s) c.args.back.now.rows.now (s.dropped ++ notes_at s.queue c.args.noted.now.items) c.loop-row.row-index c.loop-row.noted.items c.loop-row-test.false c.loop-row.invariant.sofar

@@ -172,9 +172,3 @@ is_handed_back-requires-clause-mine c = λ l q.
       apart_of c.group-queue.ensures.grouped l (omega (arith, q, few)),
       mine (shown v) (shown v).queue c.queue_links.result.now c.queue_links.ensures c.requires.rest.consistent.core.links_up l q c.group-queue.new.rows c.group-queue.result c.group-queue.ensures.grouped few,
     )
-
--- nothing is handed back
-pub returns-then-not-is_handed_back-clause-noted : goal.returns-then-not-is_handed_back-clause-noted
-returns-then-not-is_handed_back-clause-noted c =
-    let s = shown c.args.view.now in
-    rw c.requires.none (c.is_handed_back.ensures c.if-not-is_handed_back.true ∙ sym (append-nil s.dropped))

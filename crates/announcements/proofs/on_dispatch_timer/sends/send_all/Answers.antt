@@ -75,9 +75,6 @@ module _ (g : Over) (c : In-loop-link g) where
 pub link_rows-requires : goal.link_rows-requires
 link_rows-requires g c = apart_of c.group-starts.ensures.grouped c.loop-link.link (few g ((goal.at.link_rows-requires g c).In-loop-link))
 
-pub send_link-flag-requires-clause-link : goal.send_link-flag-requires-clause-link
-send_link-flag-requires-clause-link g c = low g ((goal.at.send_link-flag-requires-clause-link g c).In-loop-link)
-
 pub send_link-flag-requires-clause-mine : goal.send_link-flag-requires-clause-mine
 send_link-flag-requires-clause-mine g c =
     let n = (goal.at.send_link-flag-requires-clause-mine g c).In-loop-link in

@@ -108,9 +108,6 @@ send_ihave-flag-requires-clause-room g c =
     rw (peer-is g ((goal.at.In-Some g n).After-link-peer), piece-first s.queue (k g n) _ _ _ (parts g n) (size g n))
     (link-room c.loop-rows.invariant.5 (taken g n) (some g n) (one g n) (taken-is g n) c.requires.room)
 
-pub overflow_add-sent : goal.overflow_add-sent
-overflow_add-sent g c = omega (arith, sent-few g ((goal.at.overflow_add-sent g c).In-Some))
-
 pub loop-rows-preserved : goal.loop-rows-preserved
 loop-rows-preserved g c =
     let n = (goal.at.loop-rows-preserved g c).In-Some in

@@ -1,12 +1,11 @@
 -- `cached::cached_content` meets its contract: start and length are those of the content in the view.
-use mathlib.Core.Path.{◌≡◌, sym, ap, ◌∙◌, subst}
+use mathlib.Core.Path.{◌≡◌, ap, ◌∙◌}
 use Prim.Native.Nat.{◌<◌}
 use native.Mathlib.Omega.{arith}
-use Rattle.time_cache.specs.Tables.{Lies, refs_at}
+use Rattle.time_cache.specs.Tables.{refs_at}
 use Rattle.time_cache.specs.Steps.{ref_at}
 use Rattle.time_cache.specs.declared.cache.TimeBoundCache.{TimeBoundCache}
 use Rattle.block.specs.TimeCaches.{cached_cache}
-use Rattle.block.proofs.CachesLaws.CachedLaws.{cached-lies}
 use Rattle.block.proofs.CachesLaws.ContentReads.{place-below, content-is}
 use Rattle.block.proofs.caches.cached.cached_content.Goals as goal
 use Rattle.block.proofs.caches.cached.cached_content.Goals.{After-cached_rows_at, Start}
@@ -21,11 +20,6 @@ module _ (d : After-cached_rows_at) where
 
   low : d.place-place.result < s.args.head.live.cached_rows
   low = omega (arith, names, place-below s.args.head s.args.block.now s.requires.0 s.args.i s.requires.1)
-
-pub place-place-requires : goal.place-place-requires
-place-place-requires c =
-    let a = c.args in
-    subst (λ (t : TimeBoundCache). Lies t a.block.now × (a.i < t.entries.len)) (sym c.cached_cache.ensures) (cached-lies a.head a.block.now c.requires.0.fit, c.requires.1)
 
 pub overflow_mul-at : goal.overflow_mul-at
 overflow_mul-at c = omega (arith, low c, (s c).requires.0.fit)

@@ -2,29 +2,12 @@
 use mathlib.Core.Path.{sym, ap, ◌∙◌, subst}
 use Prim.Native.Nat.{ℕ, ◌+◌, ◌*◌}
 use native.Mathlib.Omega.{arith}
-use lib.ListN.{length-set}
 use Rattle.storage.specs.Rows.Part.{put}
 use Rattle.storage.specs.Rows.Digits.{le_bytes}
 use Rattle.block.specs.Goes.{Goes}
 use Rattle.block.specs.Caches.GraftSteps.{first_at}
 use Rattle.block.proofs.CachesLaws.GraftWrites.{first_goes}
 use Rattle.block.proofs.caches.grafted.set_first.Goals as goal
-
-pub store-requires : goal.store-requires
-store-requires c =
-    let a = c.args in
-    omega (arith, c.requires.0.fit, c.requires.2, c.grafted_at.ensures, length-set a.block.now (c.grafted_at.result + 119 * a.i + 2) 1)
-
-pub store_le-requires : goal.store_le-requires
-store_le-requires c =
-    let a = c.args in
-    let g = c.grafted_at in
-    omega (arith, c.requires.0.fit, c.requires.2, g.ensures, c.store.auto.bytes, length-set a.block.now (g.result + 119 * a.i + 2) 1)
-
-pub shape_of-block : goal.shape_of-block
-shape_of-block c =
-    let a = c.args in
-    c.store_le.auto.bytes ∙ c.store.auto.bytes ∙ length-set a.block.now (c.grafted_at.result + 119 * a.i + 2) 1
 
 pub returns : goal.returns
 returns c =

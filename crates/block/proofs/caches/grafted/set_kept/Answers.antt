@@ -1,22 +1,11 @@
 -- `grafted::set_kept` meets its contract: flag and peer are the `kept` of the view.
-use mathlib.Core.Path.{sym, ap, ◌∙◌, subst}
+use mathlib.Core.Path.{sym, ap, subst}
 use Prim.Native.Nat.{ℕ, ◌+◌, ◌*◌}
 use native.Mathlib.Omega.{arith}
-use lib.ListN.{length-set}
 use Rattle.block.specs.Goes.{Goes}
 use Rattle.block.specs.Caches.GraftSteps.{kept_at}
 use Rattle.block.proofs.CachesLaws.GraftWrites.{kept_goes}
 use Rattle.block.proofs.caches.grafted.set_kept.Goals as goal
-
-pub store-requires : goal.store-requires
-store-requires c =
-    let a = c.args in
-    omega (arith, c.requires.0.fit, c.requires.2, c.grafted_at.ensures, length-set a.block.now (c.grafted_at.result + 119 * a.i + 13) 1)
-
-pub shape_of-block : goal.shape_of-block
-shape_of-block c =
-    let a = c.args in
-    c.store.auto.bytes ∙ length-set a.block.now (c.grafted_at.result + 119 * a.i + 13) 1
 
 pub returns : goal.returns
 returns c =

@@ -10,6 +10,6 @@ use Rattle.block.proofs.missing.MissedRow.load.Goals as goal
 pub returns : goal.returns
 unfolding id_at
 returns c =
-    let list : c.copy_from_slice.new.self ≡ drop 32 c.args.b.now =
-    c.copy_from_slice.ensures.after ∙ take_all 97 (drop 32 c.args.b.now) (omega (arith, c.requires, length-drop 32 c.args.b.now)) in
+    let list : c.copy_from_slice.new.self ≡ drop 32 c.args.row.now =
+    c.copy_from_slice.ensures.after ∙ take_all 97 (drop 32 c.args.row.now) (omega (arith, c.requires, length-drop 32 c.args.row.now)) in
     λ k. missed (c.load_id.ensures k) (list k)

@@ -19,7 +19,7 @@ unfolding id_at
 returns c =
     let id : ℕ = id_of c.args.self.id in
     let list : List ℕ = c.args.self.announcers.0 in
-    let xs : List ℕ = c.args.b.now in
+    let xs : List ℕ = c.args.row.now in
     let ys : List ℕ = c.store_id.new.b in
     let li : length (be_bytes 32 id) ≡ 32 = length-be_bytes 32 id in
     let ly : length ys ≡ 129 = ap length c.store_id.ensures ∙ length-put 0 (be_bytes 32 id) xs (omega (arith, c.requires)) ∙ c.requires in

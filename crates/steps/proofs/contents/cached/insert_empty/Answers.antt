@@ -1,5 +1,5 @@
 -- `cached::insert_empty` meets its contract: the two tables are left to `insert`, and the row has a content of no bytes where the next row's starts.
-use mathlib.Core.Path.{sym, ◌∙◌, subst}
+use mathlib.Core.Path.{sym, subst}
 use Prim.Native.Nat.{◌<◌}
 use native.Mathlib.Omega.{arith}
 use Rattle.storage.specs.Rows.Ident.{id_of}
@@ -29,13 +29,6 @@ insert-inserted-requires c =
     let xs = c.args.block.now in
     subst (λ (z : TimeBoundCache). FitsOneMore z xs × Sound z xs) (sym c.cached_cache.ensures) (cached-room h xs c.requires.0.fit, cached-sound h xs c.requires.0 c.requires.1)
 
-pub overflow_add-inserted : goal.overflow_add-inserted
-overflow_add-inserted c =
-    let d = (goal.at.overflow_add-inserted c).After-insert-inserted in
-    let t = s d in
-    let f = fit-in t.args.head t.args.block.now t.requires.0 (id_of t.args.id) t.args.round.0 t.args.expires.0 c.insert-inserted.result c.insert-inserted.new.block c.insert-inserted.auto.block (inserts d) t.requires.2 in
-    omega (arith, low d, f.within.cached_rows, t.requires.0.fit.ceilings.C)
-
 pub start_of-start-requires : goal.start_of-start-requires
 start_of-start-requires c =
     let d = (goal.at.start_of-start-requires c).After-insert-inserted in
@@ -52,9 +45,6 @@ store_empty-requires c =
       entry_in t.args.head t.args.block.now t.requires.0 (id_of t.args.id) t.args.round.0 t.args.expires.0 c.insert-inserted.result c.insert-inserted.new.block c.insert-inserted.auto.block (inserts d) t.requires.2,
       low d,
     )
-
-pub shape_of-block : goal.shape_of-block
-shape_of-block c = c.store_empty.auto.block ∙ c.insert-inserted.auto.block
 
 pub returns : goal.returns
 returns c =

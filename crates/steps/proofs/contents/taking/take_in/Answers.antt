@@ -1,7 +1,6 @@
 -- `taking::take_in` meets its contract: the message is marked received, and then cached.
 use native.Mathlib.Omega.{arith}
 use Rattle.storage.specs.Rows.Ident.{id_of}
-use Rattle.steps.proofs.StandsLaws.{received-order}
 use Rattle.steps.specs.Contents.Taking.{forgotten_at, uncached_at}
 use Rattle.steps.proofs.ContentsLaws.Takings.{times-fit, order-then, most-then, bytes-then, taken-goes}
 use Rattle.steps.proofs.contents.taking.take_in.Goals as goal
@@ -13,10 +12,6 @@ overflow_add-forgotten c =
 pub overflow_add-uncached : goal.overflow_add-uncached
 overflow_add-uncached c =
     omega (arith, c.requires.early, (times-fit c.args.head c.args.block.now c.requires.stands).1)
-
-pub insert_received-marked-requires : goal.insert_received-marked-requires
-insert_received-marked-requires c =
-    (c.requires.stands.sound, received-order c.args.head c.args.block.now c.requires.stands, c.requires.received)
 
 pub insert_cached-requires : goal.insert_cached-requires
 insert_cached-requires c =

@@ -1,6 +1,6 @@
 -- `note::enter_graft` meets its contract: the two tables are left to `insert`, and the zeros are an entry with no grafts.
 use mathlib.Core.Path.{◌≡◌, refl, sym, ap, ◌∙◌, subst}
-use Prim.Native.Nat.{ℕ, ◌+◌, ◌*◌, ◌≤◌}
+use Prim.Native.Nat.{ℕ, ◌+◌, ◌*◌}
 use Rattle.storage.specs.Rows.Ident.{id_of}
 use Rattle.storage.specs.Rows.Part.{put}
 use Rattle.storage.specs.Rows.Digits.{le_bytes}
@@ -22,30 +22,11 @@ inserts : (d : After-insert-inserted) → Inserts (grafted_cache d.args.head) (i
 inserts d =
     subst (λ (t : TimeBoundCache). Inserts t (id_of d.args.id) d.args.expires.0 d.args.block.now d.insert-inserted.result d.insert-inserted.new.block) d.grafted_cache.ensures d.insert-inserted.ensures
 
-low : (d : After-insert-inserted) → d.insert-inserted.result.entry ≤ d.args.head.limits.grafted
-low d = omega (arith, (inserts d).entry, (inserts d).count, d.requires.0.fit.within.grafted)
-
 pub insert-inserted-requires : goal.insert-inserted-requires
 insert-inserted-requires c =
     let h = c.args.head in
     let xs = c.args.block.now in
     subst (λ (t : TimeBoundCache). FitsOneMore t xs × Sound t xs) (sym c.grafted_cache.ensures) (grafted-room h xs c.requires.0.fit, grafted-sound h xs c.requires.0 c.requires.1)
-
-pub overflow_mul-at : goal.overflow_mul-at
-overflow_mul-at c =
-    omega (arith, low (goal.at.overflow_mul-at c).After-insert-inserted)
-
-pub overflow_add-at : goal.overflow_add-at
-overflow_add-at c =
-    omega (arith, low (goal.at.overflow_add-at c).After-insert-inserted, c.grafted_at.ensures, c.requires.0.fit.ceilings)
-
-pub overflow_add-at-2 : goal.overflow_add-at-2
-overflow_add-at-2 c =
-    omega (arith, low (goal.at.overflow_add-at-2 c).After-insert-inserted, c.grafted_at.ensures, c.requires.0.fit.ceilings)
-
-pub store_le-requires : goal.store_le-requires
-store_le-requires c =
-    omega (arith, low (goal.at.store_le-requires c).After-insert-inserted, c.grafted_at.ensures, c.requires.0.fit.long, c.insert-inserted.auto.block)
 
 pub returns : goal.returns
 returns c =

@@ -16,21 +16,6 @@ use Rattle.steps.proofs.GraftsLaws.EntryLaws.{none_yet, anew-goes}
 use native.Mathlib.Omega.{arith}
 use Rattle.steps.proofs.grafts.note.graft_anew.Goals as goal
 
-pub overflow_mul-at : goal.overflow_mul-at
-overflow_mul-at c =
-    let v = c.enter_graft-entered.ensures in
-    omega (arith, v.below, v.goes.sound.fit)
-
-pub overflow_add-at : goal.overflow_add-at
-overflow_add-at c =
-    let v = c.enter_graft-entered.ensures in
-    omega (arith, v.below, v.goes.sound.fit, c.grafted_at.ensures)
-
-pub overflow_add-at-2 : goal.overflow_add-at-2
-overflow_add-at-2 c =
-    let v = c.enter_graft-entered.ensures in
-    omega (arith, v.below, v.goes.sound.fit, c.grafted_at.ensures)
-
 pub push_hop-requires : goal.push_hop-requires
 push_hop-requires c =
     let a = c.args in

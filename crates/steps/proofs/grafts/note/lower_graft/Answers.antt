@@ -23,10 +23,6 @@ there s = omega (arith, s.requires.3.within, length-map (grafts_at (state_of s.a
 low : (s : Start) → s.args.j < 32
 low s = omega (arith, there s, graft-many s.args.head s.args.block.now s.requires.0.sound s.args.i s.requires.1, graft-few s.args.head s.args.block.now s.requires.0.sound s.args.i s.requires.1)
 
-pub graft_at-known-requires : goal.graft_at-known-requires
-graft_at-known-requires c =
-    (c.requires.0.sound, c.requires.1, there (goal.at.graft_at-known-requires c).Start)
-
 pub returns-then-known-hop : goal.returns-then-known-hop
 returns-then-known-hop c =
     let a = c.args in

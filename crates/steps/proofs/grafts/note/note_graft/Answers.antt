@@ -30,9 +30,6 @@ id s = id_of s.args.id
 here : (c : In-Ok) → Here (ids (goal.at.In-Ok c).Start) (id (goal.at.In-Ok c).Start) c.in-Ok.i
 here c = subst (λ (x : Result ℕ ℕ). FoundIs (ids (goal.at.In-Ok c).Start) (id (goal.at.In-Ok c).Start) x) c.in-Ok.is c.find_grafted.ensures
 
-pub find_grafted-requires : goal.find_grafted-requires
-find_grafted-requires c = (c.requires.0.sound, c.requires.0.order)
-
 pub graft_at_entry-requires : goal.graft_at_entry-requires
 graft_at_entry-requires c =
     let st = state (goal.at.graft_at_entry-requires c).Start in

@@ -4,7 +4,7 @@ use Rattle.storage.proofs.NotesLaws.Walks.{Walk}
 use Rattle.storage.proofs.notes.Columns.is_new.Given as goal
 
 abbrev pub invariant-loop-j : goal.invariant-loop-j
-invariant-loop-j l = Walk l.self.links.now l.self.rows.now l.i l.pair.link (id_of l.pair.id) l.j
+invariant-loop-j g l = Walk g.row.BUCKETS l.self.links.now l.self.rows.now l.i l.pair.link (id_of l.pair.id) l.j
 
 abbrev pub decreases-loop-j : goal.decreases-loop-j
-decreases-loop-j l = l.j
+decreases-loop-j g l = l.j

@@ -28,8 +28,8 @@ returns c =
     let t = k.expiry.stride in
     let m = k.expiry.len in
     let z = m * t in
-    let zs = c.drop_expiry.new.x in
-    let lz : length zs ≡ z = c.drop_expiry.auto.x ∙ (lent (goal.at.returns c).Start).1 in
+    let zs = c.drop_expiry.new.bytes in
+    let lz : length zs ≡ z = c.drop_expiry.auto.bytes ∙ (lent (goal.at.returns c).Start).1 in
     record {
       rows = expiry-back t (m - c.args.k) b (b + z - b) zs xs (omega (arith, lz, mul-up t (m - c.args.k) m (omega arith))) (omega (arith, (lent (goal.at.returns c).Start).0))
           ∙ c.drop_expiry.ensures

@@ -36,8 +36,8 @@ returns c =
     let m = k.expiry.len in
     let z = (m + 1) * t in
     let i = c.args.i in
-    let zs = c.add_expiry.new.x in
-    let lz : length zs ≡ z = c.add_expiry.auto.x ∙ (lent (goal.at.returns c).Start).1 in
+    let zs = c.add_expiry.new.bytes in
+    let lz : length zs ≡ z = c.add_expiry.auto.bytes ∙ (lent (goal.at.returns c).Start).1 in
     let rest : List ℕ = part (i * t + 40) (t - 40) (part b (b + z - b) xs) in
     let was : expiry_rows t m (part b (b + z - b) xs) ≡ expiry_rows t m (drop b xs) = expiry-lent t m b (b + z - b) xs (omega (arith, size_of b z, (lent (goal.at.returns c).Start).2)) in
     record {

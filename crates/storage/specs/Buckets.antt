@@ -8,7 +8,8 @@ use Rattle.storage.specs.Rows.Digits.{be_nat}
 unfoldable pub id_at : List ℕ → ℕ → ℕ
 id_at b p = be_nat (part (p * 34) 32 b)
 
--- the bucket of an identifier and a number, of m: one identifier's notes for different numbers go to different buckets
+-- the bucket of an identifier and a number, of m. One identifier's notes for different numbers go to different buckets where m is 4096; where it is 256,
+-- numbers that differ by 8, 16 or 24 share one
 abbrev pub bucket_of : ℕ → ℕ → ℕ → ℕ
 bucket_of m k l = (k % 4096 + 32 * l) % m
 

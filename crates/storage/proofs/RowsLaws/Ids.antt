@@ -16,7 +16,7 @@ use Rattle.storage.specs.Rows.Digits.{be_nat, be_bytes}
 use Rattle.std.proofs.lemmas.Bool.{true≢false}
 use Rattle.std.proofs.Common.{Ordering, Less, Equal, Greater}
 use Rattle.std.specs.Ordering.{MatchOrdering, is_le, nat_cmp}
-use Rattle.std.specs.Cmp.{ranks, nat_cmp_is}
+use Rattle.std.specs.Cmp.{ranks}
 use Rattle.storage.proofs.RowsLaws.Parts.{part-add, length_part, put-put-next}
 use Rattle.storage.proofs.RowsLaws.Digits.{be_from-append, be_from-high, be_bytes-add, length-be_bytes}
 
@@ -83,15 +83,6 @@ tri a b = go (ltb a b) refl
     go : (t : Bool) → ltb a b ≡ t → (a < b) ⊎ ((a ≡ b) ⊎ (b < a))
     go true e = inl (ltb-true a b e)
     go false e = else-go (eq-or-lt_of_le (ltb-false a b e))
-
--- a comparison that settles another
-pub settles : (x y a b : ℕ) → (x < y → a < b) → (x ≡ y → a ≡ b) → (y < x → b < a) → nat_cmp x y ≡ nat_cmp a b
-settles x y a b l e g = nat_cmp_is a b (nat_cmp x y) (go (nat_cmp x y) (ranks x y))
-  where
-    go : (o : Ordering) → MatchOrdering o (x < y) (x ≡ y) (y < x) → MatchOrdering o (a < b) (a ≡ b) (b < a)
-    go Less h = l h
-    go Equal h = e h
-    go Greater h = g h
 
 -- what a `<=` that is false says; `le_from_is_le` has the other
 pub le_false : (x y : ℕ) → is_le (nat_cmp x y) ≡ false → y < x

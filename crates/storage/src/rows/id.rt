@@ -20,18 +20,27 @@ pub struct Id {
     pub w3: u64,
 }
 
-// How the number of a stands to that of b: by the first word that differs.
+// How the number of a stands to that of b: by the first word that differs. Each word is compared both ways, so that one comparison of the loaded words serves both.
 fn order(a: Id, b: Id) -> Ordering
     ensures { result ≡ nat_cmp (id_of a) (id_of b) }
 {
-    if a.w0 != b.w0 {
-        return a.w0.cmp(&b.w0);
+    if a.w0 < b.w0 {
+        return Ordering::Less;
     }
-    if a.w1 != b.w1 {
-        return a.w1.cmp(&b.w1);
+    if b.w0 < a.w0 {
+        return Ordering::Greater;
     }
-    if a.w2 != b.w2 {
-        return a.w2.cmp(&b.w2);
+    if a.w1 < b.w1 {
+        return Ordering::Less;
+    }
+    if b.w1 < a.w1 {
+        return Ordering::Greater;
+    }
+    if a.w2 < b.w2 {
+        return Ordering::Less;
+    }
+    if b.w2 < a.w2 {
+        return Ordering::Greater;
     }
     a.w3.cmp(&b.w3)
 }

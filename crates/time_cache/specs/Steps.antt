@@ -1,6 +1,6 @@
 -- What the functions of a time cache leave in the block and answer, as the definitions of specs/TimeCache on the cache that the block holds.
 -- Assumes nothing.
-use Rattle.std.specs.Prelude.{◌≡◌, List, [], ◌∷◌, ◌++◌, map, ℕ, ◌+◌, ◌-◌, ◌*◌, ◌≤◌, ◌<◌, length, get_or, take, drop, Result, Ok, Err, Some, None}
+use Rattle.std.specs.Prelude.{◌≡◌, List, [], ◌∷◌, ◌++◌, map, ℕ, ◌+◌, ◌-◌, ◌*◌, ◌≤◌, ◌<◌, length, get_or, take, drop, Result, Ok, Err, Option, Some, None}
 use Rattle.storage.specs.Lists.Map.{lookup}
 use Rattle.storage.specs.Rows.Part.{put}
 use Rattle.storage.specs.Rows.Part.{Only}
@@ -11,8 +11,7 @@ use Rattle.time_cache.specs.Tables.{expiry_row, row_at, named, ValueBytes, value
 use Rattle.time_cache.specs.declared.cache.TimeBoundCache.{TimeBoundCache}
 use Rattle.time_cache.specs.declared.cache.Inserted.{Inserted}
 use Rattle.time_cache.specs.declared.cache.Expired.{Expired}
-use Rattle.time_cache.specs.declared.cache.Got.{Got}
-use Rattle.time_cache.specs.declared.cache.Got.TheVariants.{There, Nothing}
+use Rattle.time_cache.specs.declared.cache.Found.{Found}
 
 -- row i of the entries
 abbrev pub ref_at : List Ref → ℕ → Ref
@@ -31,9 +30,9 @@ pub record GotAt (c : TimeBoundCache) (block : List ℕ) (k i p : ℕ) : Type 0 
   pub value : lookup k (cache_at c block).entries ≡ Some (record { expires = (row_at (rows_at c block) p).time; value = held_at c i p block })
 
 -- what `get` answers
-abbrev pub GotIs : TimeBoundCache → List ℕ → ℕ → Got → Type 0
-GotIs c block k (There i p) = GotAt c block k i p
-GotIs c block k Nothing = lookup k (cache_at c block).entries ≡ None
+abbrev pub GotIs : TimeBoundCache → List ℕ → ℕ → Option Found → Type 0
+GotIs c block k (Some f) = GotAt c block k f.entry f.row
+GotIs c block k None = lookup k (cache_at c block).entries ≡ None
 
 -- a row more at row i, and nothing else
 pub record Opens (c : TimeBoundCache) (i k t : ℕ) (xs ys : List ℕ) : Type 0 where

@@ -48,9 +48,9 @@ pub struct TimeBoundCache {
 
 // A key's entry and the row that it names, by their numbers.
 #[derive(Clone, Copy)]
-pub enum Got {
-    There(usize, usize),
-    Nothing,
+pub struct Found {
+    pub entry: usize,
+    pub row: usize,
 }
 
 // The cache after an insert, and where the key's entry and its row stand.
@@ -141,17 +141,15 @@ impl TimeBoundCache {
     }
 
     // `get`: the key's entry and the row that it names, where the value's bytes are.
-    pub fn get(self, block: &[u8], key: Id) -> Got
+    pub fn get(self, block: &[u8], key: Id) -> Option<Found>
         requires { Lies self block.now × Sound self block.now }
         ensures { GotIs self block.now (id_of key) result }
     {
-        match self.find(block, key) {
-            Ok(entry) => {
-                let row = self.place(block, entry);
-                Got::There(entry, row)
-            }
-            Err(_) => Got::Nothing,
-        }
+        let Ok(entry) = self.find(block, key) else {
+            return None;
+        };
+        let row = self.place(block, entry);
+        Some(Found { entry, row })
     }
 
     // Whether the key has an entry that expires later than an instant: one that `expire_until` leaves.
@@ -160,8 +158,8 @@ impl TimeBoundCache {
         ensures { result ≡ holds (id_of key) (later_cache instant.0 (cache_at self block.now)) }
     {
         match self.get(block, key) {
-            Got::There(_, row) => instant.0 < self.expires(block, row).0,
-            Got::Nothing => false,
+            Some(found) => instant.0 < self.expires(block, found.row).0,
+            None => false,
         }
     }
 

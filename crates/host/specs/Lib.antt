@@ -1,3 +1,2 @@
 pub mod Noted
-pub mod Refusals
 pub mod Seen

@@ -2,8 +2,8 @@
 -- Assumes nothing.
 use Rattle.std.specs.Prelude.{ℕ, List, [], take, Result, Ok, Err}
 use Rattle.plumtree.specs.Chain.{Seen}
-use Rattle.host.specs.Refusals.{number_of}
-use Rattle.host.specs.declared.refusal.Refusal.{Refusal}
+use Rattle.refusal.specs.Numbers.{number_of}
+use Rattle.refusal.specs.declared.Refusal.{Refusal}
 
 -- the answer number, and the bytes of the actions, which stand at the start of the output
 abbrev pub seen_in : Result ℕ Refusal → List ℕ → Seen

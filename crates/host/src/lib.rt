@@ -4,4 +4,3 @@
 
 pub mod panel;
 pub mod past;
-pub mod refusal;

@@ -7,7 +7,7 @@ ghost use Rattle.plumtree.specs.Calls.{entries};
 ghost use Rattle.plumtree.specs.CallList.{fresh_list, with_call, LeadsTo};
 
 use crate::past::{Call, Past};
-use crate::refusal::Refusal;
+use refusal::Refusal;
 use block::head::{Limits, Settings};
 use machine::Stats;
 use plumtree::LinkRoom;
@@ -23,7 +23,7 @@ pub struct Panel<'a> {
 }
 
 impl<'a> Panel<'a> {
-    ghost use Rattle.host.specs.Refusals.{number_of};
+    ghost use Rattle.refusal.specs.Numbers.{number_of};
     ghost use Rattle.host.specs.Seen.{seen_in};
 
     // A creation, questions 1 to 4.

@@ -2,6 +2,8 @@
 -- step it is (proofs/OutcomeLaws.antt).
 -- Assumes nothing.
 use Rattle.std.specs.Prelude.{ℕ, ◌≤◌, ◌≡◌, not, List, [], leb, length, Result, Ok, Err, if◌then◌else◌}
+use Rattle.refusal.specs.Numbers.{number_of}
+use Rattle.refusal.specs.declared.Refusal.{Refusal}
 use Rattle.protocol.specs.Links.{link_up}
 use Rattle.protocol.specs.State.{State, Counts}
 use Rattle.protocol.specs.Neighbours.{forget_peer}
@@ -43,9 +45,9 @@ Doable call (task.Step step) s = Due call step s × SenderIs call.peer step
 Doable call t s = Allowed (after_task call t) s
 
 -- what the questions have found
-abbrev pub outcome_of : Call → State → Result Accepted ℕ → Outcome
+abbrev pub outcome_of : Call → State → Result Accepted Refusal → Outcome
 outcome_of call s (Ok a) = accepted (after_task call a.task s) (counts_of a.stats) (task_bytes call a.task s)
-outcome_of call s (Err n) = refused n
+outcome_of call s (Err r) = refused (number_of r)
 
 -- a call that is accepted: its task can be done, and the output has room
 pub record Acceptable (call : Call) (s : State) (output : ℕ) (a : Accepted) : Type 0 where

@@ -9,7 +9,7 @@ mod text;
 
 use anyhow::{Result, bail};
 use event::EventText;
-use host::refusal::Refusal;
+use refusal::Refusal;
 use std::rt::{Env, Files};
 use std::{env, fs};
 use text::Hex;

@@ -1,5 +1,6 @@
 // Creation: the specification, questions 1 to 4, and the state of `State::new`.
 ghost use Rattle.std.specs.Prelude.{◌≡◌, ◌^◌, leb};
+ghost use Rattle.refusal.specs.Numbers.{answer_of};
 ghost use Rattle.protocol.specs.State.{size_in_range, durations_in_range, up_to, limits_in_range, block_need};
 ghost use Rattle.block.specs.View.{settings_of, limits_of};
 ghost use Rattle.block.specs.Fit.{Ceilings};
@@ -9,6 +10,7 @@ use block::head::{Head, Limits, Live, MAX_LINKS, Settings};
 use block::header;
 use postcard::units::Millis;
 use protocol::MAX_DROPPED;
+use refusal::Refusal;
 
 // "at most 2^40" milliseconds
 const LONGEST_DURATION: u64 = 1 << 40;
@@ -134,21 +136,21 @@ fn fresh() -> Live
     }
 }
 
-// A creation: 0, or the number of the first question that is answered no. Only the header is written: it says that no table has a row in use.
-pub fn create(block: &mut [u8], settings: Settings, limits: Limits) -> u8
-    ensures { Creation settings limits block.old block.new result }
+// A creation, questions 1 to 4. Only the header is written: it says that no table has a row in use.
+pub fn create(block: &mut [u8], settings: Settings, limits: Limits) -> Result<(), Refusal>
+    ensures { Creation settings limits block.old block.new (answer_of result) }
 {
     if !size_in_range(settings) {
-        return 1;
+        return Err(Refusal::MessageSizeOutOfRange);
     }
     if !durations_in_range(settings) {
-        return 2;
+        return Err(Refusal::DurationTooLong);
     }
     if !limits_in_range(limits) {
-        return 3;
+        return Err(Refusal::LimitOutOfRange);
     }
     if block.len() < block_need(limits) {
-        return 4;
+        return Err(Refusal::BlockTooShort);
     }
     let live = fresh();
     header::store_head(
@@ -159,5 +161,5 @@ pub fn create(block: &mut [u8], settings: Settings, limits: Limits) -> u8
             live,
         },
     );
-    0
+    Ok(())
 }

@@ -3,8 +3,10 @@ ghost use Rattle.std.specs.Prelude.{◌≡◌, ◌++◌, ◌+◌, ◌*◌, ◌-�
 ghost use Rattle.storage.specs.Rows.Part.{put};
 ghost use Rattle.storage.specs.Rows.Digits.{le_bytes};
 ghost use Rattle.whole.specs.States.Area.{area_holds, counts_at};
-ghost use Rattle.whole.specs.States.Calls.{Tells, Zeros, Placed, SlotsHold, Saves, GoesBack, counts_of};
+ghost use Rattle.whole.specs.States.Calls.{Tells, Zeros, Placed, SlotsHold, area_asked, Saves, GoesBack, counts_of};
+ghost use Rattle.refusal.specs.Numbers.{answer_of};
 
+use refusal::Refusal;
 use storage::rows::{bytes, word};
 
 // "The area needs four times the block and 256 bytes more": the bytes in front of the blocks.
@@ -31,13 +33,6 @@ pub struct Counts {
     pub payload: u64,
     pub control: u64,
     pub hops: u16,
-}
-
-// What a return answers: the number of a refusal, or the counts that it brings back.
-#[derive(Clone, Copy)]
-pub enum Returned {
-    Refused(u8),
-    Brought(Counts),
 }
 
 // The place up to which no byte from `from` on is other than 0, told by words: fewer than eight bytes before `to`, or at a word that is not 0.
@@ -153,45 +148,45 @@ fn row_counts(area: &[u8], at: usize) -> Counts
     }
 }
 
-// A saving, "asked in the order 5, 17, 16": it changes the area alone, and only where it is accepted.
-pub fn save(block: &[u8], counts: Counts, area: &mut [u8], name: u64) -> u8
-    ensures { Saves block.now (counts_of counts) area.old name area.new result 0 }
+// Questions 5 and 17: how many states the area keeps.
+fn ask_area(block: &[u8], area: &[u8]) -> Result<usize, Refusal>
+    ensures { result ≡ area_asked block.now area.now }
 {
     if !crate::is_whole(block) {
-        return 5;
+        return Err(Refusal::BlockNotWhole);
     }
-    let n = block.len();
-    if !area_holds(area, n) {
-        return 17;
+    if !area_holds(area, block.len()) {
+        return Err(Refusal::AreaNotWhole);
     }
-    let kept = area[KEPT] as usize;
+    Ok(area[KEPT] as usize)
+}
+
+// A saving, "asked in the order 5, 17, 16": it changes the area alone, and only where it is accepted.
+pub fn save(block: &[u8], counts: Counts, area: &mut [u8], name: u64) -> Result<(), Refusal>
+    ensures { Saves block.now (counts_of counts) area.old name area.new (answer_of result) 0 }
+{
+    let kept = ask_area(block, area)?;
     let slot = place_of(area, kept, name);
     if slot == STATES {
-        return 16;
+        return Err(Refusal::NamesFull);
     }
     put_row(area, ROW * slot, name, counts);
-    bytes::copy_bytes(area, FRONT + n * slot, block);
+    bytes::copy_bytes(area, FRONT + block.len() * slot, block);
     area[KEPT] = kept_after(kept, slot);
-    0
+    Ok(())
 }
 
 // A return, "5, 17, 15": "Returning brings back block and counts in full."
-pub fn go_back(block: &mut [u8], area: &[u8], name: u64) -> Returned
+pub fn go_back(block: &mut [u8], area: &[u8], name: u64) -> Result<Counts, Refusal>
     ensures { GoesBack block.old area.now name block.new result }
 {
-    if !crate::is_whole(block) {
-        return Returned::Refused(5);
-    }
-    let n = block.len();
-    if !area_holds(area, n) {
-        return Returned::Refused(17);
-    }
-    let kept = area[KEPT] as usize;
+    let kept = ask_area(block, area)?;
     let place = place_of(area, kept, name);
     if place == kept {
-        return Returned::Refused(15);
+        return Err(Refusal::NameNotKept);
     }
+    let n = block.len();
     let start = FRONT + n * place;
     bytes::copy_bytes(block, 0, &area[start..start + n]);
-    Returned::Brought(row_counts(area, ROW * place))
+    Ok(row_counts(area, ROW * place))
 }

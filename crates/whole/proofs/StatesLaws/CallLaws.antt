@@ -1,9 +1,10 @@
 -- A saving and a return, answer by answer.
 -- Assumes nothing.
-use Rattle.std.specs.Prelude.{Some, None}
+use Rattle.std.specs.Prelude.{Some, None, Result, Ok, Err, is_ok}
+use Rattle.std.proofs.lemmas.Bool.{true≢false}
 use mathlib.Core.Path.{◌≡◌, refl, sym, ap, ◌∙◌, subst}
 use mathlib.Core.Logic.{◌⊎◌, inl, inr}
-use mathlib.Core.Bool.{true, false}
+use mathlib.Core.Bool.{Bool, true, false}
 use mathlib.Core.List.{List, [], ◌∷◌}
 use Prim.Native.Nat.{ℕ, ◌+◌, ◌-◌, ◌*◌, ◌≤◌, ◌<◌}
 use native.Mathlib.Nat.{eq-or-lt_of_le}
@@ -12,11 +13,14 @@ use borrow.Author.Tests.{le-leb, lt-leb}
 use lib.ListN.{length, get_or}
 use Rattle.storage.specs.Lists.Map.{Entry, entry, lookup}
 use Rattle.storage.specs.Rows.Part.{part, put}
+use Rattle.refusal.specs.Numbers.{number_of, answer_of}
+use Rattle.refusal.specs.declared.Refusal.{Refusal}
+use Rattle.refusal.specs.declared.Refusal.TheVariants.{BlockNotWhole, AreaNotWhole}
 use Rattle.protocol.specs.State.{Counts}
 use Rattle.whole.specs.Held.{whole_block}
 use Rattle.whole.specs.States.Kept.{Kept, keep}
 use Rattle.whole.specs.States.Area.{row_bytes, area_bytes, counts_at, kept_at, slots, kept, kept_in, area_holds, no_room, save, or_unknown, go_back}
-use Rattle.whole.specs.States.Calls.{Placed, Saves, save_number, area_left, Returns, return_number, block_left, counts_left}
+use Rattle.whole.specs.States.Calls.{Placed, area_asked, Saves, save_number, area_left, Returns, return_number, block_left, counts_left}
 use Rattle.whole.proofs.StatesLaws.AreaLaws.{nobody, length-slots, get_or-slots}
 use Rattle.whole.proofs.StatesLaws.HoldsLaws.{holds_of, holds_same, length-kept, kept-it, kept-sized}
 use Rattle.whole.proofs.StatesLaws.KeepLaws.{At, keep-put, named-there, named-not, saved-bytes}
@@ -54,6 +58,43 @@ room-some name ks i a h = go (eq-or-lt_of_le a.within)
         rw (named-not name ks end, lt-leb 4 (length ks) (omega arith))
     go (inr l) = rw (named-there name ks i a l)
 
+-- what questions 5 and 17 answer
+module _ (block area : List ℕ) where
+  asked-5 : whole_block block ≡ false → area_asked block area ≡ Err BlockNotWhole
+  unfolding area_asked
+  asked-5 w = rw w refl
+
+  asked-17 : whole_block block ≡ true → area_holds (length block) area ≡ false → area_asked block area ≡ Err AreaNotWhole
+  unfolding area_asked
+  asked-17 w h = rw (w, h) refl
+
+  asked-0 : whole_block block ≡ true → area_holds (length block) area ≡ true → area_asked block area ≡ Ok (kept area)
+  unfolding area_asked
+  asked-0 w h = rw (w, h) refl
+
+  told : Result ℕ Refusal → ℕ
+  told (Ok k) = k
+  told (Err r) = 0
+
+  -- both are answered yes
+  pub asked_yes : (k : ℕ) → area_asked block area ≡ Ok k → (whole_block block ≡ true) × (area_holds (length block) area ≡ true) × (k ≡ kept area)
+  unfolding told
+  asked_yes k e = go (whole_block block) refl (area_holds (length block) area) refl
+    where
+      go : (a : Bool) → whole_block block ≡ a → (b : Bool) → area_holds (length block) area ≡ b → (whole_block block ≡ true) × (area_holds (length block) area ≡ true) × (k ≡ kept area)
+      go false w b h = absurd (true≢false (ap is_ok (sym e ∙ asked-5 w)))
+      go true w false h = absurd (true≢false (ap is_ok (sym e ∙ asked-17 w h)))
+      go true w true h = (w, h, ap told (sym e ∙ asked-0 w h))
+
+  -- what holds of both refusals holds of the one that is answered
+  pub asked_no : (r : Refusal) (P : ℕ → Type 0) → area_asked block area ≡ Err r → (whole_block block ≡ false → P 5) → (whole_block block ≡ true → area_holds (length block) area ≡ false → P 17) → P (number_of r)
+  asked_no r P e p q = go (whole_block block) refl (area_holds (length block) area) refl
+    where
+      go : (a : Bool) → whole_block block ≡ a → (b : Bool) → area_holds (length block) area ≡ b → P (number_of r)
+      go false w b h = subst P (ap answer_of (sym (asked-5 w) ∙ e)) (p w)
+      go true w false h = subst P (ap answer_of (sym (asked-17 w h) ∙ e)) (q w h)
+      go true w true h = absurd (true≢false (ap is_ok (sym (asked-0 w h) ∙ e)))
+
 module _ (block : List ℕ) (counts : Counts) (area : List ℕ) (name : ℕ) where
   abbrev n : ℕ
   n = length block
@@ -64,13 +105,16 @@ module _ (block : List ℕ) (counts : Counts) (area : List ℕ) (name : ℕ) whe
   abbrev x : Entry Kept
   x = entry name (record { counts = counts; block = block })
 
-  pub saves-5 : whole_block block ≡ false → Saves block counts area name area 5 0
+  saves-5 : whole_block block ≡ false → Saves block counts area name area 5 0
   unfolding save save_number area_left
   saves-5 w = record { number = rw w refl; long = refl; left = rw w refl }
 
-  pub saves-17 : whole_block block ≡ true → area_holds n area ≡ false → Saves block counts area name area 17 0
+  saves-17 : whole_block block ≡ true → area_holds n area ≡ false → Saves block counts area name area 17 0
   unfolding save save_number area_left
   saves-17 w h = record { number = rw (w, h) refl; long = refl; left = rw (w, h) refl }
+
+  pub saves-refused : (r : Refusal) → area_asked block area ≡ Err r → Saves block counts area name area (number_of r) 0
+  saves-refused r e = asked_no block area r (λ n. Saves block counts area name area n 0) e saves-5 saves-17
 
   long_kept : length ks ≡ kept area
   long_kept = length-kept n area
@@ -102,13 +146,16 @@ module _ (block : List ℕ) (counts : Counts) (area : List ℕ) (name : ℕ) whe
           ∙ saved-bytes n (length area) (holds_of n area h).long ks few (kept-sized n area h) x refl i there.within r c (e ∙ ap (λ (m : ℕ). i + 1 + (m - (i + 1))) (sym long_kept))
           ∙ ap (area_bytes (length area)) (sym (keep-put name x refl ks i there))
 
-  pub returns-5 : whole_block block ≡ false → Returns block counts area name block counts 5 0
+  returns-5 : whole_block block ≡ false → Returns block counts area name block counts 5 0
   unfolding go_back return_number block_left counts_left
   returns-5 w = record { number = rw w refl; long = refl; back = rw w refl; left = rw w refl }
 
-  pub returns-17 : whole_block block ≡ true → area_holds n area ≡ false → Returns block counts area name block counts 17 0
+  returns-17 : whole_block block ≡ true → area_holds n area ≡ false → Returns block counts area name block counts 17 0
   unfolding go_back return_number block_left counts_left
   returns-17 w h = record { number = rw (w, h) refl; long = refl; back = rw (w, h) refl; left = rw (w, h) refl }
+
+  pub returns-refused : (r : Refusal) → area_asked block area ≡ Err r → Returns block counts area name block counts (number_of r) 0
+  returns-refused r e = asked_no block area r (λ n. Returns block counts area name block counts n 0) e returns-5 returns-17
 
   pub returns-15 : whole_block block ≡ true → area_holds n area ≡ true → Placed (kept area) name area (kept area) → Returns block counts area name block counts 15 0
   unfolding go_back return_number block_left counts_left or_unknown

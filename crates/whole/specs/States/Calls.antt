@@ -1,13 +1,21 @@
 -- "Named states": what the functions promise.
 -- Assumes nothing.
-use Rattle.std.specs.Prelude.{ℕ, ◌+◌, ◌*◌, ◌≤◌, ◌<◌, ◌≡◌, Bool, true, false, List, get_or}
+use Rattle.std.specs.Prelude.{ℕ, ◌+◌, ◌*◌, ◌≤◌, ◌<◌, ◌≡◌, Bool, true, false, not, List, length, get_or, Result, Ok, Err, if◌then◌else◌}
 use Rattle.storage.specs.Rows.Part.{part}
+use Rattle.refusal.specs.Numbers.{answer_of}
+use Rattle.refusal.specs.declared.Refusal.{Refusal}
+use Rattle.refusal.specs.declared.Refusal.TheVariants.{BlockNotWhole, AreaNotWhole}
 use Rattle.protocol.specs.State.{Counts}
 use Rattle.whole.specs.Held.{whole_block}
-use Rattle.whole.specs.States.Area.{name_at, SaveAnswer, not_saved, saved_to, save, ReturnAnswer, not_returned, brought_back, go_back}
+use Rattle.whole.specs.States.Area.{kept, area_holds, name_at, SaveAnswer, not_saved, saved_to, save, ReturnAnswer, not_returned, brought_back, go_back}
 use Rattle.whole.specs.declared.states.Counts.{Counts as KeptCounts}
-use Rattle.whole.specs.declared.states.Returned.{Returned}
-use Rattle.whole.specs.declared.states.Returned.TheVariants.{Refused, Brought}
+
+-- questions 5 and 17: how many states the area keeps
+unfoldable pub area_asked : List ℕ → List ℕ → Result ℕ Refusal
+area_asked block area =
+    if not (whole_block block) then Err BlockNotWhole
+    else if not (area_holds (length block) area) then Err AreaNotWhole
+    else Ok (kept area)
 
 -- a saving's number: "Answer 0 is yes to all"
 unfoldable pub save_number : SaveAnswer → ℕ
@@ -51,19 +59,14 @@ pub record Returns (block : List ℕ) (counts : Counts) (area : List ℕ) (name 
 abbrev pub counts_of : KeptCounts → Counts
 counts_of c = record { payload = c.payload; control = c.control; hops = c.hops }
 
--- the number of what `go_back` answers
-abbrev pub number_of : Returned → ℕ
-number_of (Refused n) = n
-number_of (Brought c) = 0
-
--- the counts after it, of a panel that had the old ones
-abbrev pub counts_after : Returned → Counts → Counts
-counts_after (Refused n) old = old
-counts_after (Brought c) old = counts_of c
+-- the counts after a return that answers r, of a panel that had the old ones
+abbrev pub counts_after : Result KeptCounts Refusal → Counts → Counts
+counts_after (Ok c) old = counts_of c
+counts_after (Err r) old = old
 
 -- what `go_back` answers and leaves, whatever counts the panel has
-abbrev pub GoesBack : List ℕ → List ℕ → ℕ → List ℕ → Returned → Type 0
-GoesBack block area name block' r = (old : Counts) → Returns block old area name block' (counts_after r old) (number_of r) 0
+abbrev pub GoesBack : List ℕ → List ℕ → ℕ → List ℕ → Result KeptCounts Refusal → Type 0
+GoesBack block area name block' r = (old : Counts) → Returns block old area name block' (counts_after r old) (answer_of r) 0
 
 -- what a test answers
 abbrev pub Tells : Type 0 → Bool → Type 0

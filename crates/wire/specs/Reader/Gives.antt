@@ -3,14 +3,21 @@
 use Rattle.std.specs.Prelude.{ℕ, ◌+◌, ◌*◌, ◌≡◌, List, [], ◌∷◌, Result, Ok, Err}
 use Rattle.postcard.specs.Number.{Read, got, fault}
 use Rattle.postcard.specs.Decode.{Decoded, decoded, faulty}
+use Rattle.refusal.specs.Numbers.{number_of as number_of_refusal}
+use Rattle.refusal.specs.declared.Refusal.{Refusal}
+use Rattle.refusal.specs.declared.Refusal.TheVariants.{EventCut, EventMalformed, EventTooLong, OutputTooShort}
 use Rattle.wire.specs.declared.reader.fault.Fault.{Fault}
 use Rattle.wire.specs.declared.reader.fault.Fault.TheVariants.{Ends, Form, Left, Output}
 
+-- the question that is answered no, as a refusal and by its number
+abbrev pub refusal_of : Fault → Refusal
+refusal_of Ends = EventCut
+refusal_of Form = EventMalformed
+refusal_of Left = EventTooLong
+refusal_of Output = OutputTooShort
+
 abbrev pub number_of : Fault → ℕ
-number_of Ends = 7
-number_of Form = 8
-number_of Left = 9
-number_of Output = 14
+number_of f = number_of_refusal (refusal_of f)
 
 -- `result`, its value seen by `view`, with `left` in the reader, is what the definition reads
 abbrev pub Gives : {X A : Type 0} → (X → A) → Result X Fault → List ℕ → Read A → Type 0

@@ -1,6 +1,8 @@
 // Why bytes are not an event: the question that is answered no.
 ghost use Rattle.std.specs.Prelude.{◌≡◌};
-ghost use Rattle.wire.specs.Reader.Gives.{number_of};
+ghost use Rattle.wire.specs.Reader.Gives.{refusal_of, number_of};
+
+use refusal::Refusal;
 
 #[derive(Clone, Copy)]
 pub enum Fault {
@@ -14,16 +16,24 @@ pub enum Fault {
     Output,
 }
 
+impl From<Fault> for Refusal {
+    ghost from_gives = { λ fault refusal. refusal ≡ refusal_of fault };
+
+    fn from(fault: Fault) -> Refusal {
+        match fault {
+            Fault::Ends => Refusal::EventCut,
+            Fault::Form => Refusal::EventMalformed,
+            Fault::Left => Refusal::EventTooLong,
+            Fault::Output => Refusal::OutputTooShort,
+        }
+    }
+}
+
 impl Fault {
     // Its number in the specification.
     pub fn number(self) -> u8
         ensures { result ≡ number_of self }
     {
-        match self {
-            Fault::Ends => 7,
-            Fault::Form => 8,
-            Fault::Left => 9,
-            Fault::Output => 14,
-        }
+        Refusal::from(self).number()
     }
 }

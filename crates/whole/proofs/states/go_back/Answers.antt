@@ -5,7 +5,7 @@ use mathlib.Core.Bool.{true}
 use mathlib.Core.List.{List}
 use Prim.Native.Nat.{ℕ, ◌+◌, ◌*◌, ◌-◌, ◌≤◌, ◌<◌}
 use native.Mathlib.Omega.{arith}
-use borrow.Author.Tests.{not-true, not-false}
+use Rattle.std.proofs.lemmas.Result.{err_from_is_err_and}
 use lib.ListN.{length, take, drop}
 use Rattle.storage.specs.Rows.Part.{part, put}
 use Rattle.storage.proofs.RowsLaws.Parts.{length_part, put_all}
@@ -15,12 +15,12 @@ use Rattle.whole.specs.States.Area.{kept, area_holds}
 use Rattle.whole.specs.States.Calls.{Placed, Returns, counts_of}
 use Rattle.whole.proofs.StatesLaws.Slots.{slot-end}
 use Rattle.whole.proofs.StatesLaws.HoldsLaws.{holds_of}
-use Rattle.whole.proofs.StatesLaws.CallLaws.{less, returns-5, returns-17, returns-15, returns-0}
+use Rattle.whole.proofs.StatesLaws.CallLaws.{less, asked_yes, returns-refused, returns-15, returns-0}
 use Rattle.whole.proofs.states.go_back.Goals as goal
-use Rattle.whole.proofs.states.go_back.Goals.{Else-place-kept, Else-not-area_holds}
+use Rattle.whole.proofs.states.go_back.Goals.{Else-place-kept, In_ok-kept}
 
 -- what is known once the area is held
-module _ (d : Else-not-area_holds) where
+module _ (d : In_ok-kept) where
   abbrev block : List ℕ
   block = d.args.block.now
 
@@ -30,29 +30,28 @@ module _ (d : Else-not-area_holds) where
   abbrev name : ℕ
   name = d.args.name
 
-  whole : whole_block block ≡ true
-  whole = sym d.is_whole.ensures ∙ not-false _ (ap not d.if-not-is_whole.false)
-
-  holds : area_holds (length block) area ≡ true
-  holds = sym d.area_holds.ensures ∙ not-false _ (ap not d.if-not-area_holds.false)
+  yes : (whole_block block ≡ true) × (area_holds (length block) area ≡ true) × (d.in_ok-kept.kept ≡ kept area)
+  yes = asked_yes block area d.in_ok-kept.kept (sym d.ask_area.ensures ∙ d.in_ok-kept.was)
 
   fits : 256 + length block * 4 ≤ length area
-  fits = (holds_of (length block) area holds).long
+  fits = (holds_of (length block) area yes.1).long
 
   few : kept area ≤ 4
-  few = (holds_of (length block) area holds).few
+  few = (holds_of (length block) area yes.1).few
 
 -- and once the name is found: the slot, and where it ends
 module _ (d : Else-place-kept) where
-  abbrev held : Else-not-area_holds
-  held = (goal.at.Else-place-kept d).Else-not-area_holds
+  abbrev held : In_ok-kept
+  held = (goal.at.Else-place-kept d).In_ok-kept
 
   abbrev slot : ℕ
   slot = d.place_of-place.result
 
+  placed : Placed (kept (area held)) (name held) (area held) slot
+  placed = subst (λ (k : ℕ). Placed k (name held) (area held) slot) (yes held).2 d.place_of-place.ensures
+
   there : slot < kept (area held)
-  unfolding kept
-  there = less d.place_of-place.ensures.within d.if-place-kept.false
+  there = less placed.within (λ e. d.if-place-kept.false (e ∙ sym (yes held).2))
 
   low : slot < 4
   low = omega (arith, there, few held)
@@ -63,28 +62,23 @@ module _ (d : Else-place-kept) where
   row_ends : 26 * slot + 26 ≤ 104
   row_ends = omega (arith, low)
 
-pub returns-then-not-is_whole : goal.returns-then-not-is_whole
-returns-then-not-is_whole c =
+pub returns-in_err-kept : goal.returns-in_err-kept
+returns-in_err-kept c =
+    let p = err_from_is_err_and c.from_residual.result c.from_residual.ensures.1 in
     let s = c.args in
-    λ old. returns-5 s.block.now old s.area.now s.name (sym c.is_whole.ensures ∙ not-true _ (ap not c.if-not-is_whole.true))
-
-pub returns-then-not-area_holds : goal.returns-then-not-area_holds
-returns-then-not-area_holds c =
-    let s = c.args in
-    λ old. returns-17 s.block.now old s.area.now s.name (sym c.is_whole.ensures ∙ not-false _ (ap not c.if-not-is_whole.false))
-    (sym c.area_holds.ensures ∙ not-true _ (ap not c.if-not-area_holds.true))
-
-pub bounds-area-255 : goal.bounds-area-255
-bounds-area-255 c = omega (arith, fits (goal.at.bounds-area-255 c).Else-not-area_holds)
+    λ old. rw (p.1, p.2) (returns-refused s.block.now old s.area.now s.name c.in_err-kept.field-0.0 (sym c.ask_area.ensures ∙ c.in_err-kept.was))
 
 pub place_of-place-requires : goal.place_of-place-requires
-unfolding kept
-place_of-place-requires c = (few (goal.at.place_of-place-requires c).Else-not-area_holds, omega (arith, fits (goal.at.place_of-place-requires c).Else-not-area_holds))
+place_of-place-requires c =
+    let h = (goal.at.place_of-place-requires c).In_ok-kept in
+    (omega (arith, few h, (yes h).2), omega (arith, fits h))
 
 pub returns-then-place-kept : goal.returns-then-place-kept
-unfolding kept
 returns-then-place-kept c =
-    λ old. returns-15 (block (goal.at.returns-then-place-kept c).Else-not-area_holds) old (area (goal.at.returns-then-place-kept c).Else-not-area_holds) (name (goal.at.returns-then-place-kept c).Else-not-area_holds) (whole (goal.at.returns-then-place-kept c).Else-not-area_holds) (holds (goal.at.returns-then-place-kept c).Else-not-area_holds) (subst (λ (i : ℕ). Placed (kept (area (goal.at.returns-then-place-kept c).Else-not-area_holds)) (name (goal.at.returns-then-place-kept c).Else-not-area_holds) (area (goal.at.returns-then-place-kept c).Else-not-area_holds) i) c.if-place-kept.true c.place_of-place.ensures)
+    let h = (goal.at.returns-then-place-kept c).In_ok-kept in
+    let k : c.in_ok-kept.kept ≡ kept (area h) = (yes h).2 in
+    λ old. returns-15 (block h) old (area h) (name h) (yes h).0 (yes h).1
+    (subst (λ (i : ℕ). Placed (kept (area h)) (name h) (area h) i) (c.if-place-kept.true ∙ k) (subst (λ (m : ℕ). Placed m (name h) (area h) c.place_of-place.result) k c.place_of-place.ensures))
 
 pub overflow_mul-start : goal.overflow_mul-start
 overflow_mul-start c = record { fits = omega (arith, ends c, fits (held c)) }
@@ -95,11 +89,14 @@ overflow_add-start c = omega (arith, ends c, fits (held c))
 pub overflow_add-start-2 : goal.overflow_add-start-2
 overflow_add-start-2 c = omega (arith, ends (goal.at.overflow_add-start-2 c).Else-place-kept, fits (held (goal.at.overflow_add-start-2 c).Else-place-kept))
 
+pub overflow_mul-place : goal.overflow_mul-place
+overflow_mul-place c = omega (arith, low (goal.at.overflow_mul-place c).Else-place-kept)
+
 pub row_counts-requires : goal.row_counts-requires
 row_counts-requires c = omega (arith, row_ends (goal.at.row_counts-requires c).Else-place-kept, fits (held (goal.at.row_counts-requires c).Else-place-kept))
 
 pub returns : goal.returns
-unfolding kept part
+unfolding part
 returns c =
     let h = held (goal.at.returns c).Else-place-kept in
     let n : ℕ = length (block h) in
@@ -110,7 +107,7 @@ returns c =
     ∙ put_all (part from n (area h)) (block h) (length_part from n (area h) (omega (arith, ends (goal.at.returns c).Else-place-kept, fits h))) in
     λ old. subst (λ (t : List ℕ). Returns (block h) old (area h) (name h) t (counts_of c.row_counts.result) 0 0) (sym copy)
     (subst (λ (k : Counts). Returns (block h) old (area h) (name h) (part from n (area h)) k 0 0) (sym c.row_counts.ensures)
-    (returns-0 (block h) old (area h) (name h) (whole h) (holds h) (slot (goal.at.returns c).Else-place-kept) c.place_of-place.ensures (there (goal.at.returns c).Else-place-kept)))
+    (returns-0 (block h) old (area h) (name h) (yes h).0 (yes h).1 (slot (goal.at.returns c).Else-place-kept) (placed (goal.at.returns c).Else-place-kept) (there (goal.at.returns c).Else-place-kept)))
 
 pub slice_bounds-copy_bytes-end : goal.slice_bounds-copy_bytes-end
 slice_bounds-copy_bytes-end c = omega (arith, ends (goal.at.slice_bounds-copy_bytes-end c).Else-place-kept, fits (held (goal.at.slice_bounds-copy_bytes-end c).Else-place-kept))

@@ -3,9 +3,9 @@ use mathlib.Core.Bool.{not}
 use mathlib.Core.Path.{◌≡◌, sym, ap, ◌∙◌, subst}
 use mathlib.Core.Bool.{true}
 use mathlib.Core.List.{List, [], ◌∷◌}
-use Prim.Native.Nat.{ℕ, ◌+◌, ◌*◌, ◌≤◌, ◌<◌}
+use Prim.Native.Nat.{ℕ, ◌+◌, ◌-◌, ◌*◌, ◌≤◌, ◌<◌}
 use native.Mathlib.Omega.{arith}
-use borrow.Author.Tests.{not-true, not-false}
+use Rattle.std.proofs.lemmas.Result.{err_from_is_err_and}
 use lib.ListN.{length, set}
 use Rattle.storage.specs.Lists.Map.{Entry, entry}
 use Rattle.storage.specs.Rows.Part.{put}
@@ -18,12 +18,12 @@ use Rattle.whole.specs.States.Calls.{Placed, Saves, counts_of}
 use Rattle.whole.proofs.StatesLaws.Slots.{slot-end}
 use Rattle.whole.proofs.StatesLaws.AreaLaws.{length-row}
 use Rattle.whole.proofs.StatesLaws.HoldsLaws.{holds_of}
-use Rattle.whole.proofs.StatesLaws.CallLaws.{less, saves-5, saves-17, saves-16, saves-0}
+use Rattle.whole.proofs.StatesLaws.CallLaws.{less, asked_yes, saves-refused, saves-16, saves-0}
 use Rattle.whole.proofs.states.save.Goals as goal
-use Rattle.whole.proofs.states.save.Goals.{After-copy_bytes, After-put_row, Else-not-area_holds, Else-slot-eq-STATES}
+use Rattle.whole.proofs.states.save.Goals.{After-copy_bytes, After-put_row, In_ok-kept, Else-slot-eq-STATES}
 
 -- what is known once the area is held
-module _ (d : Else-not-area_holds) where
+module _ (d : In_ok-kept) where
   abbrev block : List ℕ
   block = d.args.block.now
 
@@ -39,29 +39,28 @@ module _ (d : Else-not-area_holds) where
   abbrev x : Entry Kept
   x = entry name (record { counts = counts; block = block })
 
-  whole : whole_block block ≡ true
-  whole = sym d.is_whole.ensures ∙ not-false _ (ap not d.if-not-is_whole.false)
-
-  holds : area_holds (length block) area ≡ true
-  holds = sym d.area_holds.ensures ∙ not-false _ (ap not d.if-not-area_holds.false)
+  yes : (whole_block block ≡ true) × (area_holds (length block) area ≡ true) × (d.in_ok-kept.kept ≡ kept area)
+  yes = asked_yes block area d.in_ok-kept.kept (sym d.ask_area.ensures ∙ d.in_ok-kept.was)
 
   fits : 256 + length block * 4 ≤ length area
-  fits = (holds_of (length block) area holds).long
+  fits = (holds_of (length block) area yes.1).long
 
   few : kept area ≤ 4
-  few = (holds_of (length block) area holds).few
+  few = (holds_of (length block) area yes.1).few
 
 -- once there is a slot: where it ends
 module _ (d : Else-slot-eq-STATES) where
-  abbrev held : Else-not-area_holds
-  held = (goal.at.Else-slot-eq-STATES d).Else-not-area_holds
+  abbrev held : In_ok-kept
+  held = (goal.at.Else-slot-eq-STATES d).In_ok-kept
 
   abbrev slot : ℕ
   slot = d.place_of-slot.result
 
+  placed : Placed (kept (area held)) (name held) (area held) slot
+  placed = subst (λ (k : ℕ). Placed k (name held) (area held) slot) (yes held).2 d.place_of-slot.ensures
+
   room : slot < 4
-  unfolding kept
-  room = less (omega (arith, d.place_of-slot.ensures.within, few held)) d.if-slot-eq-STATES.false
+  room = less (omega (arith, placed.within, few held)) d.if-slot-eq-STATES.false
 
   ends : length (block held) * slot + length (block held) ≤ length (block held) * 4
   ends = slot-end (length (block held)) slot 4 room
@@ -88,50 +87,48 @@ module _ (d : After-copy_bytes) where
       ∙ length-put (256 + length (block (held at')) * slot at') (block (held at')) rowed.put_row.new.area (omega (arith, long-row rowed, ends at', fits (held at')))
       ∙ long-row rowed
 
-pub returns-then-not-is_whole : goal.returns-then-not-is_whole
-returns-then-not-is_whole c =
+pub returns-in_err-kept : goal.returns-in_err-kept
+returns-in_err-kept c =
+    let p = err_from_is_err_and c.from_residual.result c.from_residual.ensures.1 in
     let s = c.args in
-    saves-5 s.block.now (counts_of s.counts) s.area.now s.name (sym c.is_whole.ensures ∙ not-true _ (ap not c.if-not-is_whole.true))
-
-pub returns-then-not-area_holds : goal.returns-then-not-area_holds
-returns-then-not-area_holds c =
-    let s = c.args in
-    saves-17 s.block.now (counts_of s.counts) s.area.now s.name (sym c.is_whole.ensures ∙ not-false _ (ap not c.if-not-is_whole.false))
-    (sym c.area_holds.ensures ∙ not-true _ (ap not c.if-not-area_holds.true))
-
-pub bounds-area-255 : goal.bounds-area-255
-bounds-area-255 c = omega (arith, fits (goal.at.bounds-area-255 c).Else-not-area_holds)
+    rw (p.1, p.2) (saves-refused s.block.now (counts_of s.counts) s.area.now s.name c.in_err-kept.field-0.0 (sym c.ask_area.ensures ∙ c.in_err-kept.was))
 
 pub place_of-slot-requires : goal.place_of-slot-requires
-unfolding kept
-place_of-slot-requires c = (few (goal.at.place_of-slot-requires c).Else-not-area_holds, omega (arith, fits (goal.at.place_of-slot-requires c).Else-not-area_holds))
+place_of-slot-requires c =
+    let h = (goal.at.place_of-slot-requires c).In_ok-kept in
+    (omega (arith, few h, (yes h).2), omega (arith, fits h))
 
 pub returns-then-slot-eq-STATES : goal.returns-then-slot-eq-STATES
-unfolding kept
 returns-then-slot-eq-STATES c =
-    saves-16 (block (goal.at.returns-then-slot-eq-STATES c).Else-not-area_holds) (counts (goal.at.returns-then-slot-eq-STATES c).Else-not-area_holds) (area (goal.at.returns-then-slot-eq-STATES c).Else-not-area_holds) (name (goal.at.returns-then-slot-eq-STATES c).Else-not-area_holds) (whole (goal.at.returns-then-slot-eq-STATES c).Else-not-area_holds) (holds (goal.at.returns-then-slot-eq-STATES c).Else-not-area_holds) (subst (λ (i : ℕ). Placed (kept (area (goal.at.returns-then-slot-eq-STATES c).Else-not-area_holds)) (name (goal.at.returns-then-slot-eq-STATES c).Else-not-area_holds) (area (goal.at.returns-then-slot-eq-STATES c).Else-not-area_holds) i) c.if-slot-eq-STATES.true c.place_of-slot.ensures)
+    let h = (goal.at.returns-then-slot-eq-STATES c).In_ok-kept in
+    saves-16 (block h) (counts h) (area h) (name h) (yes h).0 (yes h).1
+    (subst (λ (i : ℕ). Placed (kept (area h)) (name h) (area h) i) c.if-slot-eq-STATES.true (subst (λ (k : ℕ). Placed k (name h) (area h) c.place_of-slot.result) (yes h).2 c.place_of-slot.ensures))
+
+pub overflow_mul-slot : goal.overflow_mul-slot
+overflow_mul-slot c = omega (arith, room (goal.at.overflow_mul-slot c).Else-slot-eq-STATES)
 
 pub put_row-requires : goal.put_row-requires
 put_row-requires c = omega (arith, room (goal.at.put_row-requires c).Else-slot-eq-STATES, fits (held (goal.at.put_row-requires c).Else-slot-eq-STATES))
 
-pub overflow_mul-n : goal.overflow_mul-n
-overflow_mul-n c = record { fits = omega (arith, ends (goal.at.overflow_mul-n c).Else-slot-eq-STATES, fits (held (goal.at.overflow_mul-n c).Else-slot-eq-STATES)) }
+pub overflow_mul-block : goal.overflow_mul-block
+overflow_mul-block c = record { fits = omega (arith, ends (goal.at.overflow_mul-block c).Else-slot-eq-STATES, fits (held (goal.at.overflow_mul-block c).Else-slot-eq-STATES)) }
 
-pub overflow_add-n : goal.overflow_add-n
-overflow_add-n c = omega (arith, ends (goal.at.overflow_add-n c).Else-slot-eq-STATES, fits (held (goal.at.overflow_add-n c).Else-slot-eq-STATES))
+pub overflow_add-block : goal.overflow_add-block
+overflow_add-block c = omega (arith, ends (goal.at.overflow_add-block c).Else-slot-eq-STATES, fits (held (goal.at.overflow_add-block c).Else-slot-eq-STATES))
 
 pub copy_bytes-requires : goal.copy_bytes-requires
 copy_bytes-requires c = omega (arith, long-row (goal.at.copy_bytes-requires c).After-put_row, ends (goal.at.copy_bytes-requires c).Else-slot-eq-STATES, fits (held (goal.at.copy_bytes-requires c).Else-slot-eq-STATES))
 
 pub kept_after-requires : goal.kept_after-requires
-unfolding kept
-kept_after-requires c = (room (goal.at.kept_after-requires c).Else-slot-eq-STATES, few (held (goal.at.kept_after-requires c).Else-slot-eq-STATES))
+kept_after-requires c =
+    let h = held (goal.at.kept_after-requires c).Else-slot-eq-STATES in
+    (room (goal.at.kept_after-requires c).Else-slot-eq-STATES, omega (arith, few h, (yes h).2))
 
-pub bounds-area-255-2 : goal.bounds-area-255-2
-bounds-area-255-2 c = omega (arith, long-block (goal.at.bounds-area-255-2 c).After-copy_bytes, fits (held (goal.at.bounds-area-255-2 c).Else-slot-eq-STATES))
+pub bounds-area-255 : goal.bounds-area-255
+bounds-area-255 c = omega (arith, long-block (goal.at.bounds-area-255 c).After-copy_bytes, fits (held (goal.at.bounds-area-255 c).Else-slot-eq-STATES))
 
 pub returns : goal.returns
-unfolding kept row_bytes
+unfolding row_bytes
 returns c =
     let h = held (goal.at.returns c).Else-slot-eq-STATES in
     let n : ℕ = length (block h) in
@@ -140,4 +137,5 @@ returns c =
     set-put 255 v c.copy_bytes.new.out (omega (arith, long-block (goal.at.returns c).After-copy_bytes, fits h))
     ∙ ap (put 255 (v ∷ [])) (c.copy_bytes.ensures ∙ ap (put (256 + n * slot (goal.at.returns c).Else-slot-eq-STATES) (block h)) (rowed (goal.at.returns c).After-copy_bytes).put_row.ensures) in
     subst (λ (t : List ℕ). Saves (block h) (counts h) (area h) (name h) t 0 0) (sym after)
-    (saves-0 (block h) (counts h) (area h) (name h) (whole h) (holds h) (slot (goal.at.returns c).Else-slot-eq-STATES) v c.place_of-slot.ensures (room (goal.at.returns c).Else-slot-eq-STATES) c.kept_after.ensures)
+    (saves-0 (block h) (counts h) (area h) (name h) (yes h).0 (yes h).1 (slot (goal.at.returns c).Else-slot-eq-STATES) v (placed (goal.at.returns c).Else-slot-eq-STATES) (room (goal.at.returns c).Else-slot-eq-STATES)
+    (c.kept_after.ensures ∙ ap (λ (k : ℕ). slot (goal.at.returns c).Else-slot-eq-STATES + 1 + (k - (slot (goal.at.returns c).Else-slot-eq-STATES + 1))) (yes h).2))

@@ -1,4 +1,6 @@
-// Why a call is refused: "The first no gives its number".
+// Why a call is refused: the specification's questions, by their numbers.
+#![tactic(auto)]
+
 ghost use Rattle.std.specs.Prelude.{◌≡◌, ◌<◌, ◌⊎◌, IfSome, IfNone};
 
 use std::error::Error;
@@ -27,7 +29,7 @@ pub enum Refusal {
 }
 
 impl Refusal {
-    ghost use Rattle.host.specs.Refusals.{number_of};
+    ghost use Rattle.refusal.specs.Numbers.{number_of};
 
     // The refusal with this number, if one has it.
     pub fn of(number: u8) -> Option<Refusal>

@@ -9,9 +9,9 @@ use Rattle.announcements.specs.QueuedRows.{held_then}
 unfoldable pub low_of : ℕ → ℕ
 low_of id = id % 4096
 
--- each known identifier has its mark; others may have one
-pub record Covers (known : ℕ → Bool) (marks : List ℕ) : Type 0 where
-  pub told : (id : ℕ) → known id ≡ true → get_or marks (low_of id) 0 ≡ 1
+-- each known identifier has this mark; others may have it
+pub record Covers (known : ℕ → Bool) (mark : ℕ) (marks : List ℕ) : Type 0 where
+  pub told : (id : ℕ) → known id ≡ true → get_or marks (low_of id) 0 ≡ mark
   pub long : length marks ≡ 4096
 
 -- each of these is 0, or one more than a row of the queue whose identifier is cached once a first event has evicted

@@ -22,7 +22,7 @@ use steps::groups::{MAX_ROWS, STARTS, group, link_rows};
 use steps::view::View;
 use storage::rows::id::Id;
 
-// How many marks there are. An identifier without its mark is none of those that were marked.
+// How many marks there are. A link's mark is one more than its number: an identifier without it is none of those that were marked for the link.
 const MARKS: usize = 4096;
 
 // What a link hands back, and when: rows of the queue. `recorded` are its rows of the record.
@@ -41,13 +41,13 @@ fn low(id: Id) -> usize
     (id.w3 % MARKS as u64) as usize
 }
 
-// Marks these rows of the record.
-fn mark(view: &View, recorded: &[u16], marks: &mut [u8; MARKS])
+// Marks these rows of the record by a link's mark.
+fn mark(view: &View, recorded: &[u16], own_mark: u8, marks: &mut [u8; MARKS])
     requires { RowsOf (shown view.now).dropped recorded.now }
-    ensures { Covers (λ id. among id (ihaves_at (shown view.now).dropped recorded.now)) marks.new }
+    ensures { Covers (λ id. among id (ihaves_at (shown view.now).dropped recorded.now)) own_mark marks.new }
 {
     for row in recorded {
-        marks[low(view.recorded(*row as usize).id)] = 1;
+        marks[low(view.recorded(*row as usize).id)] = own_mark;
     }
 }
 
@@ -77,14 +77,14 @@ fn is_queued(view: &View, queued: &[u16], id: Id) -> bool
     false
 }
 
-// Whether an identifier is among these rows of the record or these of the queue. Where its mark is clear it is not.
-fn is_there(view: &View, recorded: &[u16], noted: &[u16], mark: u8, id: Id) -> bool
+// Whether an identifier is among these rows of the record or these of the queue. Where it is not marked it is not.
+fn is_there(view: &View, recorded: &[u16], noted: &[u16], marked: bool, id: Id) -> bool
     requires recorded { RowsOf (shown view.now).dropped recorded.now }
     requires noted { RowsOf (shown view.now).queue noted.now }
-    requires clear { mark ≡ 0 → (among (id_of id) (ihaves_at (shown view.now).dropped recorded.now) || among (id_of id) (ihaves_at (shown view.now).queue noted.now)) ≡ false }
+    requires marked { marked ≡ false → (among (id_of id) (ihaves_at (shown view.now).dropped recorded.now) || among (id_of id) (ihaves_at (shown view.now).queue noted.now)) ≡ false }
     ensures { result ≡ (among (id_of id) (ihaves_at (shown view.now).dropped recorded.now) || among (id_of id) (ihaves_at (shown view.now).queue noted.now)) }
 {
-    if mark == 0 {
+    if !marked {
         return false;
     }
     is_recorded(view, recorded, id) || is_queued(view, noted, id)
@@ -121,10 +121,11 @@ fn is_cached(view: &View, instant: Millis, found: &mut [u16], row: u16, id: Id) 
 }
 
 // `note_dropped` of what one link hands back: "each identifier in the cache and not already there is added unless the peer has 256 or all have 4,096". `noted` is
-// what is added for the links before it, and `found` what was found in the message cache for them.
+// what is added for the links before it, `marks` has their marks, and `found` what was found in the message cache for them.
 fn note_link(
     view: &View,
     back: &HandedBack,
+    marks: &mut [u8; MARKS],
     found: &mut [u16],
     noted: &mut ArrayVec<u16, MAX_DROPPED>,
 )
@@ -141,8 +142,8 @@ fn note_link(
     ensures upto { All (λ i. (note_at (shown view.now).queue i).peer ≤ peer_at (shown view.now) back.now.link) noted.new.items }
 {
     let before = noted.len();
-    let mut marks = [0u8; MARKS];
-    mark(view, back.recorded, &mut marks);
+    let own_mark = back.link as u8 + 1;
+    mark(view, back.recorded, own_mark, marks);
     for row in back.rows {
         let own = &noted.as_slice()[before..];
         if is_full(
@@ -153,11 +154,11 @@ fn note_link(
         }
         let id = view.queued(*row as usize).id;
         let place = low(id);
-        if is_there(view, back.recorded, own, marks[place], id) {
+        if is_there(view, back.recorded, own, marks[place] == own_mark, id) {
             continue;
         }
         if is_cached(view, back.instant, found, *row, id) {
-            marks[place] = 1;
+            marks[place] = own_mark;
             noted.push(*row);
         }
     }
@@ -243,6 +244,7 @@ fn to_note_in<const QUEUE: usize, const RECORD: usize>(
     }
     let mut record_rows = [0u16; RECORD];
     let record = group(view.record_links(), &mut record_rows);
+    let mut marks = [0u8; MARKS];
     let mut found = [0u16; RECORD];
     let per_message = view.per_message();
     for link in 0..view.link_count() {
@@ -256,7 +258,7 @@ fn to_note_in<const QUEUE: usize, const RECORD: usize>(
                 recorded,
                 rows: &queued[taken..],
             };
-            note_link(view, &back, &mut found, noted);
+            note_link(view, &back, &mut marks, &mut found, noted);
         }
     }
 }

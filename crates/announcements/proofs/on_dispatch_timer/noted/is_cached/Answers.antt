@@ -1,7 +1,6 @@
 -- `is_cached` meets its contract.
-use Rattle.std.proofs.Common.{◌≡◌, ℕ, ◌+◌, ◌-◌, ◌<◌, bit_and, length, get_or, ap, ◌∙◌, sym, arith}
+use Rattle.std.proofs.Common.{◌≡◌, ◌+◌, ◌-◌, ◌<◌, bit_and, length, get_or, ap, ◌∙◌, sym, arith}
 use Rattle.std.proofs.lemmas.Nat.{and_le_r}
-use Rattle.steps.specs.Queue.{note_at}
 use Rattle.steps.specs.Views.{shown}
 use Rattle.steps.proofs.RowLaws.{queue-few}
 use Rattle.announcements.specs.QueuedRows.{held_then}

@@ -1,6 +1,7 @@
 -- `note_link` meets its contract.
 use Rattle.std.proofs.Common.{◌≡◌, ℕ, List, [], ◌∷◌, ◌++◌, ◌+◌, ◌-◌, ◌<◌, length, get_or, take, drop, set, sym, refl, ap, ◌∙◌, arith, true, false, ◌||◌}
 use mathlib.Core.Path.{subst}
+use borrow.Author.Tests.{eqb-false}
 use lib.ListN.{length-map, length-append, length-drop}
 use Rattle.std.proofs.lemmas.List.Elements.{All-same, All-drop}
 use Rattle.storage.specs.Rows.Ident.{id_of}
@@ -10,6 +11,7 @@ use Rattle.decide.specs.RecordGrowth.{add_note}
 use Rattle.block.specs.LinkSteps.{peer_at}
 use Rattle.steps.specs.Queue.{note_at}
 use Rattle.steps.specs.Views.{shown}
+use Rattle.steps.proofs.ViewLaws.{links-few}
 use Rattle.announcements.specs.Marks.{low_of, Covers, Found}
 use Rattle.announcements.specs.QueuedRows.{held_then, ihave_of, ihaves_at, notes_at, among}
 use Rattle.announcements.proofs.OnDispatchLaws.MarkLaws.{low-in, covers-same, covers-clear}
@@ -17,6 +19,12 @@ use Rattle.announcements.proofs.OnDispatchLaws.NotedLaws.{full-is, known, known-
 use Rattle.announcements.proofs.OnDispatchLaws.RowLaws.{to-end}
 use Rattle.announcements.proofs.on_dispatch_timer.noted.note_link.Goals as goal
 use Rattle.announcements.proofs.on_dispatch_timer.noted.note_link.Goals.{After-is_full, After-low-place, then-is_cached, else-is_cached}
+
+pub overflow_cast-own_mark : goal.overflow_cast-own_mark
+overflow_cast-own_mark c = let v = c.args.view.now in omega (arith, c.requires.back.link, links-few v.head v.block.now v.sound)
+
+pub overflow_add-own_mark : goal.overflow_add-own_mark
+overflow_add-own_mark c = let v = c.args.view.now in omega (arith, c.requires.back.link, links-few v.head v.block.now v.sound)
 
 pub loop-row-init : goal.loop-row-init
 loop-row-init c =
@@ -105,14 +113,14 @@ module _ (c : After-low-place) where
   Keeps rows marks found = record {
     holding : Holding p s.dropped s.queue c.args.back.now.recorded.now c.len-before.result rows;
     sofar : Sofar p s.dropped s.queue c.args.back.now.recorded.now c.len-before.result (held_then c.args.back.now.instant.0 s) c.args.back.now.rows.now (s.dropped ++ notes_at s.queue c.args.noted.now.items) (c.loop-row.row-index + 1) rows;
-    marked : Covers (known p s.dropped s.queue c.args.back.now.recorded.now c.len-before.result rows) marks;
+    marked : Covers (known p s.dropped s.queue c.args.back.now.recorded.now c.len-before.result rows) (c.args.back.now.link + 1) marks;
     found : Found c.args.back.now.instant.0 s found;
   }
 
-pub is_there-requires-clause-clear : goal.is_there-requires-clause-clear
-is_there-requires-clause-clear c = λ z.
-    let w = (goal.at.is_there-requires-clause-clear c).After-low-place in
-    known-is w ∙ covers-clear c.loop-row.invariant.marked (x w).id (ap (λ (n : ℕ). get_or c.loop-row.marks n 0) (sym (low-is w)) ∙ z)
+pub is_there-requires-clause-marked : goal.is_there-requires-clause-marked
+is_there-requires-clause-marked c = λ z.
+    let w = (goal.at.is_there-requires-clause-marked c).After-low-place in
+    known-is w ∙ covers-clear c.loop-row.invariant.marked (x w).id (λ e. eqb-false (get_or c.loop-row.marks c.low-place.result 0) (c.args.back.now.link + 1) z (ap (λ (n : ℕ). get_or c.loop-row.marks n 0) (low-is w) ∙ e))
 
 pub is_cached-requires-clause-row : goal.is_cached-requires-clause-row
 is_cached-requires-clause-row c = there (goal.at.is_cached-requires-clause-row c).After-low-place
@@ -133,13 +141,13 @@ module _ (c : After-low-place) where
 
   -- one that is noted
   more : record_full (p c) ((s c).dropped ++ notes_at (s c).queue c.loop-row.noted.items) ≡ false → held_then c.args.back.now.instant.0 (s c) (x c).id ≡ true → known (p c) (s c).dropped (s c).queue c.args.back.now.recorded.now c.len-before.result c.loop-row.noted.items (x c).id ≡ false
-      → (found : List ℕ) → Found c.args.back.now.instant.0 (s c) found → Keeps c (c.loop-row.noted.items ++ (r c ∷ [])) (set c.loop-row.marks c.low-place.result 1) found
+      → (found : List ℕ) → Found c.args.back.now.instant.0 (s c) found → Keeps c (c.loop-row.noted.items ++ (r c ∷ [])) (set c.loop-row.marks c.low-place.result (c.args.back.now.link + 1)) found
   more f h k found g = record {
     holding = holding-next (p c) (s c).dropped (s c).queue c.args.back.now.recorded.now c.len-before.result c.loop-row.noted.items c.loop-row.invariant.holding (r c) (there c) (own c);
     sofar = sofar-next (p c) (s c).dropped (s c).queue c.args.back.now.recorded.now c.len-before.result (held_then c.args.back.now.instant.0 (s c)) c.args.back.now.rows.now ((s c).dropped ++ notes_at (s c).queue c.args.noted.now.items) c.loop-row.row-index c.loop-row.noted.items (c.loop-row.noted.items ++ (r c ∷ []))
         c.loop-row-test.true c.loop-row.invariant.sofar
         (grown-noted (p c) (s c).dropped (s c).queue c.args.back.now.recorded.now c.len-before.result c.loop-row.noted.items c.loop-row.invariant.holding (r c) (there c) (own c) (held_then c.args.back.now.instant.0 (s c)) f h k);
-    marked = subst (λ (n : ℕ). Covers (known (p c) (s c).dropped (s c).queue c.args.back.now.recorded.now c.len-before.result (c.loop-row.noted.items ++ (r c ∷ []))) (set c.loop-row.marks n 1)) (sym (low-is c))
+    marked = subst (λ (n : ℕ). Covers (known (p c) (s c).dropped (s c).queue c.args.back.now.recorded.now c.len-before.result (c.loop-row.noted.items ++ (r c ∷ []))) (c.args.back.now.link + 1) (set c.loop-row.marks n (c.args.back.now.link + 1))) (sym (low-is c))
         (marked-next (p c) (s c).dropped (s c).queue c.args.back.now.recorded.now c.len-before.result c.loop-row.noted.items c.loop-row.invariant.holding (r c) (there c) (own c) c.loop-row.invariant.marked);
     found = g;
   }

@@ -1,5 +1,5 @@
 -- `note_link`: the record with what is noted so far is that with the rows before this one noted.
-use Rattle.std.proofs.Common.{◌++◌}
+use Rattle.std.proofs.Common.{◌+◌, ◌++◌}
 use Rattle.block.specs.LinkSteps.{peer_at}
 use Rattle.steps.specs.Views.{shown}
 use Rattle.announcements.specs.Marks.{Covers, Found}
@@ -14,6 +14,6 @@ invariant-loop-row l =
     record {
       holding : Holding p s.dropped s.queue l.back.recorded.now l.before l.noted.items;
       sofar : Sofar p s.dropped s.queue l.back.recorded.now l.before (held_then l.back.instant.0 s) l.back.rows.now (s.dropped ++ notes_at s.queue l.fn.noted.items) l.row-index l.noted.items;
-      marked : Covers (known p s.dropped s.queue l.back.recorded.now l.before l.noted.items) l.marks;
+      marked : Covers (known p s.dropped s.queue l.back.recorded.now l.before l.noted.items) (l.back.link + 1) l.marks;
       found : Found l.back.instant.0 s l.found;
     }

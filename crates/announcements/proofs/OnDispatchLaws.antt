@@ -1,6 +1,7 @@
 pub mod QueueLaws
 pub mod LinkPeers
 pub mod MarkLaws
+pub mod FoundLaws
 pub mod RowLaws
 pub mod SendLaws
 pub mod LinkRows

@@ -1,12 +1,19 @@
--- Marks by the low twelve bits of an identifier.
+-- What is kept of identifiers by their low bits: marks, and rows of the queue.
 -- Assumes nothing.
-use Rattle.std.specs.Prelude.{ℕ, ◌%◌, ◌≡◌, Bool, true, List, length, get_or}
+use Rattle.std.specs.Prelude.{ℕ, ◌+◌, ◌%◌, ◌<◌, ◌≡◌, Bool, true, List, length, get_or}
+use Rattle.protocol.specs.State.{State}
+use Rattle.steps.specs.Queue.{note_at}
+use Rattle.announcements.specs.QueuedRows.{held_then}
 
 -- where the mark of an identifier stands: its low twelve bits
 unfoldable pub low_of : ℕ → ℕ
 low_of id = id % 4096
 
--- each known identifier has its mark; others may have one
-pub record Covers (known : ℕ → Bool) (marks : List ℕ) : Type 0 where
-  pub told : (id : ℕ) → known id ≡ true → get_or marks (low_of id) 0 ≡ 1
+-- each known identifier has this mark; others may have it
+pub record Covers (known : ℕ → Bool) (mark : ℕ) (marks : List ℕ) : Type 0 where
+  pub told : (id : ℕ) → known id ≡ true → get_or marks (low_of id) 0 ≡ mark
   pub long : length marks ≡ 4096
+
+-- each of these is 0, or one more than a row of the queue whose identifier is cached once a first event has evicted
+pub record Found (now : ℕ) (s : State) (rows : List ℕ) : Type 0 where
+  pub named : (place row : ℕ) → get_or rows place 0 ≡ row + 1 → (row < length s.queue) × (held_then now s (note_at s.queue row).id ≡ true)

@@ -121,7 +121,7 @@ pub record Counts (ps seen : List ℕ) (xs : List Note) : Type 0 where
   pub each : (l : ℕ) → l < length ps → get_or seen l 0 ≡ count (for_peer (get_or ps l 0)) xs
   pub long : length seen ≡ 32
 
-zeros : (n k : ℕ) → ◌≡◌ {A = ℕ} (get_or (replicate {A = ℕ} n 0) k 0) 0
+pub zeros : (n k : ℕ) → ◌≡◌ {A = ℕ} (get_or (replicate {A = ℕ} n 0) k 0) 0
 zeros zero k = refl
 zeros (suc n) zero = refl
 zeros (suc n) (suc k) = zeros n k

@@ -168,7 +168,7 @@ module _ (p : ℕ) (ds ns : List Note) (recorded : List ℕ) (before : ℕ) wher
     }
 
     -- and its mark
-    pub marked-next : {marks : List ℕ} → Covers (known rows) marks → Covers (known (rows ++ (r ∷ []))) (set marks (low_of x.id) 1)
+    pub marked-next : {mark : ℕ} {marks : List ℕ} → Covers (known rows) mark marks → Covers (known (rows ++ (r ∷ []))) mark (set marks (low_of x.id) mark)
     marked-next c = covers_more c x.id (known (rows ++ (r ∷ []))) (λ j k. by (or_cases (known rows j) (among j (ihave_of x ∷ [])) (sym (known-next j) ∙ k)))
       where
         by : {j : ℕ} → (known rows j ≡ true) ⊎ (among j (ihave_of x ∷ []) ≡ true) → (known rows j ≡ true) ⊎ (j ≡ x.id)

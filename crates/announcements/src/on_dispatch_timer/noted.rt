@@ -10,10 +10,10 @@ ghost use Rattle.steps.specs.Groups.{Apart, part};
 ghost use Rattle.steps.specs.Panels.{AtRest};
 ghost use Rattle.steps.specs.Queue.{note_at};
 ghost use Rattle.steps.specs.Views.{shown};
-ghost use Rattle.announcements.specs.Marks.{low_of, Covers};
+ghost use Rattle.announcements.specs.Marks.{low_of, Covers, Found};
 ghost use Rattle.announcements.specs.QueuedRows.{held_then, ihaves_at, notes_at, among, RowsOf, Mine, LinkPart};
 
-use crate::on_dispatch_timer::sends::{FEW_ROWS, LinkRows};
+use crate::on_dispatch_timer::sends::FEW_ROWS;
 use arrayvec::ArrayVec;
 use postcard::units::Millis;
 use protocol::{MAX_DROPPED, MAX_DROPPED_PER_PEER};
@@ -22,8 +22,17 @@ use steps::groups::{MAX_ROWS, STARTS, group, link_rows};
 use steps::view::View;
 use storage::rows::id::Id;
 
-// How many marks there are. An identifier without its mark is none of those that were marked.
+// How many marks there are. A link's mark is one more than its number: an identifier without it is none of those that were marked for the link.
 const MARKS: usize = 4096;
+
+// What a link hands back, and when: rows of the queue. `recorded` are its rows of the record.
+#[derive(Clone, Copy)]
+struct HandedBack<'a> {
+    instant: Millis,
+    link: usize,
+    recorded: &'a [u16],
+    rows: &'a [u16],
+}
 
 // Where the mark of an identifier stands.
 fn low(id: Id) -> usize
@@ -32,13 +41,13 @@ fn low(id: Id) -> usize
     (id.w3 % MARKS as u64) as usize
 }
 
-// Marks these rows of the record.
-fn mark(view: &View, recorded: &[u16], marks: &mut [u8; MARKS])
+// Marks these rows of the record by a link's mark.
+fn mark(view: &View, recorded: &[u16], own_mark: u8, marks: &mut [u8; MARKS])
     requires { RowsOf (shown view.now).dropped recorded.now }
-    ensures { Covers (λ id. among id (ihaves_at (shown view.now).dropped recorded.now)) marks.new }
+    ensures { Covers (λ id. among id (ihaves_at (shown view.now).dropped recorded.now)) own_mark marks.new }
 {
     for row in recorded {
-        marks[low(view.recorded(*row as usize).id)] = 1;
+        marks[low(view.recorded(*row as usize).id)] = own_mark;
     }
 }
 
@@ -68,14 +77,14 @@ fn is_queued(view: &View, queued: &[u16], id: Id) -> bool
     false
 }
 
-// Whether an identifier is among these rows of the record or these of the queue. Where its mark is clear it is not.
-fn is_there(view: &View, recorded: &[u16], noted: &[u16], mark: u8, id: Id) -> bool
+// Whether an identifier is among these rows of the record or these of the queue. Where it is not marked it is not.
+fn is_there(view: &View, recorded: &[u16], noted: &[u16], marked: bool, id: Id) -> bool
     requires recorded { RowsOf (shown view.now).dropped recorded.now }
     requires noted { RowsOf (shown view.now).queue noted.now }
-    requires clear { mark ≡ 0 → (among (id_of id) (ihaves_at (shown view.now).dropped recorded.now) || among (id_of id) (ihaves_at (shown view.now).queue noted.now)) ≡ false }
+    requires marked { marked ≡ false → (among (id_of id) (ihaves_at (shown view.now).dropped recorded.now) || among (id_of id) (ihaves_at (shown view.now).queue noted.now)) ≡ false }
     ensures { result ≡ (among (id_of id) (ihaves_at (shown view.now).dropped recorded.now) || among (id_of id) (ihaves_at (shown view.now).queue noted.now)) }
 {
-    if mark == 0 {
+    if !marked {
         return false;
     }
     is_recorded(view, recorded, id) || is_queued(view, noted, id)
@@ -88,39 +97,68 @@ fn is_full(own: usize, all: usize) -> bool
     MAX_DROPPED_PER_PEER <= own || MAX_DROPPED <= all
 }
 
-// `note_dropped` of what one link hands back: "each identifier in the cache and not already there is added unless the peer has 256 or all have 4,096". `recorded` are
-// the record's rows for the link, and `noted` what is added for the links before it.
+// Whether an identifier of the queue is cached then; `row` has it. An identifier that was found in the message cache is not looked up there again: by its low bits
+// `found` names a row that has it, unless another that was found there later has the same low bits.
+fn is_cached(view: &View, instant: Millis, found: &mut [u16], row: u16, id: Id) -> bool
+    requires rest { AtRest (shown view.now) }
+    requires some { 0 < length found.old }
+    requires row { row < length (shown view.now).queue }
+    requires id { (note_at (shown view.now).queue row).id ≡ id_of id }
+    requires found { Found instant.0 (shown view.now) found.old }
+    ensures held { result ≡ held_then instant.0 (shown view.now) (id_of id) }
+    ensures found { Found instant.0 (shown view.now) found.new }
+{
+    let place = low(id) & (found.len() - 1);
+    let named = found[place] as usize;
+    if 0 < named && view.queued(named - 1).id == id {
+        return true;
+    }
+    if !view.is_cached_then(instant, id) {
+        return false;
+    }
+    found[place] = row + 1;
+    true
+}
+
+// `note_dropped` of what one link hands back: "each identifier in the cache and not already there is added unless the peer has 256 or all have 4,096". `noted` is
+// what is added for the links before it, `marks` has their marks, and `found` what was found in the message cache for them.
 fn note_link(
     view: &View,
-    instant: Millis,
-    recorded: &[u16],
-    back: &LinkRows,
+    back: &HandedBack,
+    marks: &mut [u8; MARKS],
+    found: &mut [u16],
     noted: &mut ArrayVec<u16, MAX_DROPPED>,
 )
     requires rest { AtRest (shown view.now) }
-    requires recorded { Mine (shown view.now) (shown view.now).dropped back.now.link recorded.now }
+    requires recorded { Mine (shown view.now) (shown view.now).dropped back.now.link back.now.recorded.now }
     requires back { LinkPart (shown view.now) back.now.link back.now.rows.now }
+    requires some { 0 < length found.old }
+    requires found { Found back.now.instant.0 (shown view.now) found.old }
     requires rows { RowsOf (shown view.now).queue noted.old.items }
     requires below { All (λ i. (note_at (shown view.now).queue i).peer < peer_at (shown view.now) back.now.link) noted.old.items }
-    ensures noted { add_notes (held_then instant.0 (shown view.now)) (peer_at (shown view.now) back.now.link) (ihaves_at (shown view.now).queue back.now.rows.now) ((shown view.now).dropped ++ notes_at (shown view.now).queue noted.old.items) ≡ (shown view.now).dropped ++ notes_at (shown view.now).queue noted.new.items }
+    ensures noted { add_notes (held_then back.now.instant.0 (shown view.now)) (peer_at (shown view.now) back.now.link) (ihaves_at (shown view.now).queue back.now.rows.now) ((shown view.now).dropped ++ notes_at (shown view.now).queue noted.old.items) ≡ (shown view.now).dropped ++ notes_at (shown view.now).queue noted.new.items }
+    ensures found { Found back.now.instant.0 (shown view.now) found.new }
     ensures rows { RowsOf (shown view.now).queue noted.new.items }
     ensures upto { All (λ i. (note_at (shown view.now).queue i).peer ≤ peer_at (shown view.now) back.now.link) noted.new.items }
 {
     let before = noted.len();
-    let mut marks = [0u8; MARKS];
-    mark(view, recorded, &mut marks);
+    let own_mark = back.link as u8 + 1;
+    mark(view, back.recorded, own_mark, marks);
     for row in back.rows {
         let own = &noted.as_slice()[before..];
-        if is_full(recorded.len() + own.len(), view.record_len() + noted.len()) {
+        if is_full(
+            back.recorded.len() + own.len(),
+            view.record_len() + noted.len(),
+        ) {
             return;
         }
         let id = view.queued(*row as usize).id;
         let place = low(id);
-        if is_there(view, recorded, own, marks[place], id) {
+        if is_there(view, back.recorded, own, marks[place] == own_mark, id) {
             continue;
         }
-        if view.is_cached_then(instant, id) {
-            marks[place] = 1;
+        if is_cached(view, back.instant, found, *row, id) {
+            marks[place] = own_mark;
             noted.push(*row);
         }
     }
@@ -152,8 +190,8 @@ pub fn may_hand_back(view: &View, call: &Call) -> bool
 }
 
 // The rows of the queue that are handed back and noted, "peers ascending". Few rows are grouped in little memory. It is never inlined: no other
-// event is to have these rows on the stack. Its time is that of two passes over the queue and
-// the record, and of a look-up in the message cache for each identifier that is handed back and not there.
+// event is to have these rows on the stack. Its time is that of two passes over the queue and the record, and of a look-up in the message cache for each identifier that
+// is handed back and not there: of one that is cached mostly once for all links together.
 #[inline(never)]
 pub fn to_note(view: &View, call: &Call, noted: &mut ArrayVec<u16, MAX_DROPPED>)
     requires rest { AtRest (shown view.now) }
@@ -162,21 +200,9 @@ pub fn to_note(view: &View, call: &Call, noted: &mut ArrayVec<u16, MAX_DROPPED>)
     ensures rows { RowsOf (shown view.now).queue noted.new.items }
 {
     if view.queue_len() <= FEW_ROWS && view.record_len() <= FEW_ROWS {
-        return to_note_in(
-            view,
-            call,
-            &mut [0u16; FEW_ROWS],
-            &mut [0u16; FEW_ROWS],
-            noted,
-        );
+        return to_note_in::<FEW_ROWS, FEW_ROWS>(view, call, noted);
     }
-    to_note_in(
-        view,
-        call,
-        &mut [0u16; MAX_ROWS],
-        &mut [0u16; MAX_DROPPED],
-        noted,
-    );
+    to_note_in::<MAX_ROWS, MAX_DROPPED>(view, call, noted);
 }
 
 // Whether a link hands back some of its rows of the queue, which stand together. Its time is that of one pass over the links.
@@ -196,37 +222,43 @@ fn is_handed_back(view: &View, call: &Call, rows: &[u16], starts: &[usize; START
     false
 }
 
-// The same, where the rows of the queue and of the record are grouped in lent memory. The record is passed over only where something is handed back.
-fn to_note_in(
+// The same, where the queue has at most `QUEUE` rows and the record at most `RECORD`. The record is passed over only where something is handed back.
+fn to_note_in<const QUEUE: usize, const RECORD: usize>(
     view: &View,
     call: &Call,
-    queue_rows: &mut [u16],
-    record_rows: &mut [u16],
     noted: &mut ArrayVec<u16, MAX_DROPPED>,
 )
     requires rest { AtRest (shown view.now) }
-    requires queue { length (shown view.now).queue ≤ length queue_rows.old }
-    requires record { length (shown view.now).dropped ≤ length record_rows.old }
+    requires queue { length (shown view.now).queue ≤ QUEUE }
+    requires record { length (shown view.now).dropped ≤ RECORD }
+    requires some { 0 < RECORD }
+    requires few { (QUEUE ≤ MAX_ROWS) × (RECORD ≤ MAX_DROPPED) }
     requires none { noted.old.items ≡ [] }
     ensures noted { add_batches (held_then call.now.instant.0 (shown view.now)) (dispatch_batches (rooms_of call.now (shown view.now)) (queued_peers (shown view.now).queue) (per_message (shown view.now).settings.max_message_size) (shown view.now).queue) (shown view.now).dropped ≡ (shown view.now).dropped ++ notes_at (shown view.now).queue noted.new.items }
     ensures rows { RowsOf (shown view.now).queue noted.new.items }
 {
-    let queue = group(view.queue_links(), queue_rows);
-    if !is_handed_back(view, call, queue_rows, &queue) {
+    let mut queue_rows = [0u16; QUEUE];
+    let queue = group(view.queue_links(), &mut queue_rows);
+    if !is_handed_back(view, call, &queue_rows, &queue) {
         return;
     }
-    let record = group(view.record_links(), record_rows);
+    let mut record_rows = [0u16; RECORD];
+    let record = group(view.record_links(), &mut record_rows);
+    let mut marks = [0u8; MARKS];
+    let mut found = [0u16; RECORD];
     let per_message = view.per_message();
     for link in 0..view.link_count() {
-        let queued = link_rows(queue_rows, &queue, link);
-        let recorded = link_rows(record_rows, &record, link);
+        let queued = link_rows(&queue_rows, &queue, link);
         let taken = taken(call.rooms.links[link], per_message, queued.len());
-        let back = LinkRows {
-            link,
-            rows: &queued[taken..],
-        };
         if taken < queued.len() {
-            note_link(view, call.instant, recorded, &back, noted);
+            let recorded = link_rows(&record_rows, &record, link);
+            let back = HandedBack {
+                instant: call.instant,
+                link,
+                recorded,
+                rows: &queued[taken..],
+            };
+            note_link(view, &back, &mut marks, &mut found, noted);
         }
     }
 }

@@ -29,9 +29,9 @@ pub const FEW_ROWS: usize = 256;
 
 // The rows of the queue for a link.
 #[derive(Clone, Copy)]
-pub struct LinkRows<'a> {
-    pub link: usize,
-    pub rows: &'a [u16],
+struct LinkRows<'a> {
+    link: usize,
+    rows: &'a [u16],
 }
 
 // Whether an identifier of an IHave is cached.

@@ -1,6 +1,7 @@
 -- `note_link` meets its contract.
 use Rattle.std.proofs.Common.{◌≡◌, ℕ, List, [], ◌∷◌, ◌++◌, ◌+◌, ◌-◌, ◌<◌, length, get_or, take, drop, set, sym, refl, ap, ◌∙◌, arith, true, false, ◌||◌}
 use mathlib.Core.Path.{subst}
+use borrow.Author.Tests.{eqb-false}
 use lib.ListN.{length-map, length-append, length-drop}
 use Rattle.std.proofs.lemmas.List.Elements.{All-same, All-drop}
 use Rattle.storage.specs.Rows.Ident.{id_of}
@@ -10,23 +11,31 @@ use Rattle.decide.specs.RecordGrowth.{add_note}
 use Rattle.block.specs.LinkSteps.{peer_at}
 use Rattle.steps.specs.Queue.{note_at}
 use Rattle.steps.specs.Views.{shown}
-use Rattle.announcements.specs.Marks.{low_of, Covers}
+use Rattle.steps.proofs.ViewLaws.{links-few}
+use Rattle.announcements.specs.Marks.{low_of, Covers, Found}
 use Rattle.announcements.specs.QueuedRows.{held_then, ihave_of, ihaves_at, notes_at, among}
 use Rattle.announcements.proofs.OnDispatchLaws.MarkLaws.{low-in, covers-same, covers-clear}
 use Rattle.announcements.proofs.OnDispatchLaws.NotedLaws.{full-is, known, known-start, Holding, holding-start, holding-next, marked-next, grown-noted, grown-there, note-not-held, Sofar, sofar-start, sofar-next, sofar-full}
 use Rattle.announcements.proofs.OnDispatchLaws.RowLaws.{to-end}
 use Rattle.announcements.proofs.on_dispatch_timer.noted.note_link.Goals as goal
-use Rattle.announcements.proofs.on_dispatch_timer.noted.note_link.Goals.{After-is_full, After-low-place, then-is_cached_then, else-is_cached_then}
+use Rattle.announcements.proofs.on_dispatch_timer.noted.note_link.Goals.{After-is_full, After-low-place, then-is_cached, else-is_cached}
+
+pub overflow_cast-own_mark : goal.overflow_cast-own_mark
+overflow_cast-own_mark c = let v = c.args.view.now in omega (arith, c.requires.back.link, links-few v.head v.block.now v.sound)
+
+pub overflow_add-own_mark : goal.overflow_add-own_mark
+overflow_add-own_mark c = let v = c.args.view.now in omega (arith, c.requires.back.link, links-few v.head v.block.now v.sound)
 
 pub loop-row-init : goal.loop-row-init
 loop-row-init c =
     let s = shown c.args.view.now in
     let p = peer_at s c.args.back.now.link in
     record {
-      holding = holding-start p s.dropped s.queue c.args.recorded.now c.len-before.result c.args.noted.now.items c.len-before.ensures.value c.requires.recorded.mine c.requires.rows c.requires.below;
-      sofar = sofar-start p s.dropped s.queue c.args.recorded.now c.len-before.result (held_then c.args.instant.0 s) c.args.back.now.rows.now (s.dropped ++ notes_at s.queue c.args.noted.now.items) c.args.noted.now.items refl;
-      marked = covers-same c.mark.ensures (known p s.dropped s.queue c.args.recorded.now c.len-before.result c.args.noted.now.items)
-          (known-start p s.dropped s.queue c.args.recorded.now c.len-before.result c.args.noted.now.items c.len-before.ensures.value);
+      holding = holding-start p s.dropped s.queue c.args.back.now.recorded.now c.len-before.result c.args.noted.now.items c.len-before.ensures.value c.requires.recorded.mine c.requires.rows c.requires.below;
+      sofar = sofar-start p s.dropped s.queue c.args.back.now.recorded.now c.len-before.result (held_then c.args.back.now.instant.0 s) c.args.back.now.rows.now (s.dropped ++ notes_at s.queue c.args.noted.now.items) c.args.noted.now.items refl;
+      marked = covers-same c.mark.ensures (known p s.dropped s.queue c.args.back.now.recorded.now c.len-before.result c.args.noted.now.items)
+          (known-start p s.dropped s.queue c.args.back.now.recorded.now c.len-before.result c.args.noted.now.items c.len-before.ensures.value);
+      found = c.requires.found;
     }
 
 -- the rows behind the first n
@@ -52,14 +61,14 @@ pub returns-then-is_full-clause-noted : goal.returns-then-is_full-clause-noted
 returns-then-is_full-clause-noted c =
     let s = shown c.args.view.now in
     let p = peer_at s c.args.back.now.link in
-    sofar-full p s.dropped s.queue c.args.recorded.now c.len-before.result (held_then c.args.instant.0 s) c.args.back.now.rows.now (s.dropped ++ notes_at s.queue c.args.noted.now.items) c.loop-row.row-index c.loop-row.noted.items
+    sofar-full p s.dropped s.queue c.args.back.now.recorded.now c.len-before.result (held_then c.args.back.now.instant.0 s) c.args.back.now.rows.now (s.dropped ++ notes_at s.queue c.args.noted.now.items) c.loop-row.row-index c.loop-row.noted.items
     c.loop-row.invariant.sofar (sym (full (goal.at.returns-then-is_full-clause-noted c).After-is_full) ∙ c.if-is_full.true)
 
 pub bounds-marks-place : goal.bounds-marks-place
 bounds-marks-place c = subst (λ (n : ℕ). n < 4096) (sym c.low-place.ensures) (low-in (id_of c.queued.result.id))
 
-pub bounds-marks-place-then-is_cached_then : goal.bounds-marks-place-then-is_cached_then
-bounds-marks-place-then-is_cached_then c = subst (λ (n : ℕ). n < 4096) (sym c.low-place.ensures) (low-in (id_of c.queued.result.id))
+pub bounds-marks-place-then-is_cached : goal.bounds-marks-place-then-is_cached
+bounds-marks-place-then-is_cached c = subst (λ (n : ℕ). n < 4096) (sym c.low-place.ensures) (low-in (id_of c.queued.result.id))
 
 pub is_there-requires-clause-noted : goal.is_there-requires-clause-noted
 is_there-requires-clause-noted c =
@@ -93,65 +102,77 @@ module _ (c : After-low-place) where
   abbrev added : List ℕ
   added = take (length c.as_slice.result.now - c.len-before.result) (drop c.len-before.result c.as_slice.result.now)
 
-  known-is : (among (id_of c.queued.result.id) (ihaves_at s.dropped c.args.recorded.now) || among (id_of c.queued.result.id) (ihaves_at s.queue added)) ≡ known p s.dropped s.queue c.args.recorded.now c.len-before.result c.loop-row.noted.items x.id
-  known-is = λ i. among (id-is i) (ihaves_at s.dropped c.args.recorded.now) || among (id-is i) (ihaves_at s.queue (behind c.len-before.result _ _ c.as_slice.ensures.value i))
+  known-is : (among (id_of c.queued.result.id) (ihaves_at s.dropped c.args.back.now.recorded.now) || among (id_of c.queued.result.id) (ihaves_at s.queue added)) ≡ known p s.dropped s.queue c.args.back.now.recorded.now c.len-before.result c.loop-row.noted.items x.id
+  known-is = λ i. among (id-is i) (ihaves_at s.dropped c.args.back.now.recorded.now) || among (id-is i) (ihaves_at s.queue (behind c.len-before.result _ _ c.as_slice.ensures.value i))
 
   low-is : c.low-place.result ≡ low_of x.id
   low-is = c.low-place.ensures ∙ ap low_of id-is
 
   -- what the loop keeps
-  abbrev Keeps : List ℕ → List ℕ → Type 0
-  Keeps rows marks = record {
-    holding : Holding p s.dropped s.queue c.args.recorded.now c.len-before.result rows;
-    sofar : Sofar p s.dropped s.queue c.args.recorded.now c.len-before.result (held_then c.args.instant.0 s) c.args.back.now.rows.now (s.dropped ++ notes_at s.queue c.args.noted.now.items) (c.loop-row.row-index + 1) rows;
-    marked : Covers (known p s.dropped s.queue c.args.recorded.now c.len-before.result rows) marks;
+  abbrev Keeps : List ℕ → List ℕ → List ℕ → Type 0
+  Keeps rows marks found = record {
+    holding : Holding p s.dropped s.queue c.args.back.now.recorded.now c.len-before.result rows;
+    sofar : Sofar p s.dropped s.queue c.args.back.now.recorded.now c.len-before.result (held_then c.args.back.now.instant.0 s) c.args.back.now.rows.now (s.dropped ++ notes_at s.queue c.args.noted.now.items) (c.loop-row.row-index + 1) rows;
+    marked : Covers (known p s.dropped s.queue c.args.back.now.recorded.now c.len-before.result rows) (c.args.back.now.link + 1) marks;
+    found : Found c.args.back.now.instant.0 s found;
   }
 
-pub is_there-requires-clause-clear : goal.is_there-requires-clause-clear
-is_there-requires-clause-clear c = λ z.
-    let w = (goal.at.is_there-requires-clause-clear c).After-low-place in
-    known-is w ∙ covers-clear c.loop-row.invariant.marked (x w).id (ap (λ (n : ℕ). get_or c.loop-row.marks n 0) (sym (low-is w)) ∙ z)
+pub is_there-requires-clause-marked : goal.is_there-requires-clause-marked
+is_there-requires-clause-marked c = λ z.
+    let w = (goal.at.is_there-requires-clause-marked c).After-low-place in
+    known-is w ∙ covers-clear c.loop-row.invariant.marked (x w).id (λ e. eqb-false (get_or c.loop-row.marks c.low-place.result 0) (c.args.back.now.link + 1) z (ap (λ (n : ℕ). get_or c.loop-row.marks n 0) (low-is w) ∙ e))
+
+pub is_cached-requires-clause-row : goal.is_cached-requires-clause-row
+is_cached-requires-clause-row c = there (goal.at.is_cached-requires-clause-row c).After-low-place
+
+pub is_cached-requires-clause-id : goal.is_cached-requires-clause-id
+is_cached-requires-clause-id c = sym (id-is (goal.at.is_cached-requires-clause-id c).After-low-place)
 
 -- a row that is not noted
 module _ (c : After-low-place) where
-  still : add_note (held_then c.args.instant.0 (s c)) (p c) (ihave_of (x c)) ((s c).dropped ++ notes_at (s c).queue c.loop-row.noted.items) ≡ (s c).dropped ++ notes_at (s c).queue c.loop-row.noted.items → Keeps c c.loop-row.noted.items c.loop-row.marks
-  still e = record {
+  still : add_note (held_then c.args.back.now.instant.0 (s c)) (p c) (ihave_of (x c)) ((s c).dropped ++ notes_at (s c).queue c.loop-row.noted.items) ≡ (s c).dropped ++ notes_at (s c).queue c.loop-row.noted.items → (found : List ℕ) → Found c.args.back.now.instant.0 (s c) found → Keeps c c.loop-row.noted.items c.loop-row.marks found
+  still e found f = record {
     holding = c.loop-row.invariant.holding;
-    sofar = sofar-next (p c) (s c).dropped (s c).queue c.args.recorded.now c.len-before.result (held_then c.args.instant.0 (s c)) c.args.back.now.rows.now ((s c).dropped ++ notes_at (s c).queue c.args.noted.now.items) c.loop-row.row-index c.loop-row.noted.items c.loop-row.noted.items
+    sofar = sofar-next (p c) (s c).dropped (s c).queue c.args.back.now.recorded.now c.len-before.result (held_then c.args.back.now.instant.0 (s c)) c.args.back.now.rows.now ((s c).dropped ++ notes_at (s c).queue c.args.noted.now.items) c.loop-row.row-index c.loop-row.noted.items c.loop-row.noted.items
         c.loop-row-test.true c.loop-row.invariant.sofar e;
     marked = c.loop-row.invariant.marked;
+    found = f;
   }
 
   -- one that is noted
-  more : record_full (p c) ((s c).dropped ++ notes_at (s c).queue c.loop-row.noted.items) ≡ false → held_then c.args.instant.0 (s c) (x c).id ≡ true → known (p c) (s c).dropped (s c).queue c.args.recorded.now c.len-before.result c.loop-row.noted.items (x c).id ≡ false
-      → Keeps c (c.loop-row.noted.items ++ (r c ∷ [])) (set c.loop-row.marks c.low-place.result 1)
-  more f h k = record {
-    holding = holding-next (p c) (s c).dropped (s c).queue c.args.recorded.now c.len-before.result c.loop-row.noted.items c.loop-row.invariant.holding (r c) (there c) (own c);
-    sofar = sofar-next (p c) (s c).dropped (s c).queue c.args.recorded.now c.len-before.result (held_then c.args.instant.0 (s c)) c.args.back.now.rows.now ((s c).dropped ++ notes_at (s c).queue c.args.noted.now.items) c.loop-row.row-index c.loop-row.noted.items (c.loop-row.noted.items ++ (r c ∷ []))
+  more : record_full (p c) ((s c).dropped ++ notes_at (s c).queue c.loop-row.noted.items) ≡ false → held_then c.args.back.now.instant.0 (s c) (x c).id ≡ true → known (p c) (s c).dropped (s c).queue c.args.back.now.recorded.now c.len-before.result c.loop-row.noted.items (x c).id ≡ false
+      → (found : List ℕ) → Found c.args.back.now.instant.0 (s c) found → Keeps c (c.loop-row.noted.items ++ (r c ∷ [])) (set c.loop-row.marks c.low-place.result (c.args.back.now.link + 1)) found
+  more f h k found g = record {
+    holding = holding-next (p c) (s c).dropped (s c).queue c.args.back.now.recorded.now c.len-before.result c.loop-row.noted.items c.loop-row.invariant.holding (r c) (there c) (own c);
+    sofar = sofar-next (p c) (s c).dropped (s c).queue c.args.back.now.recorded.now c.len-before.result (held_then c.args.back.now.instant.0 (s c)) c.args.back.now.rows.now ((s c).dropped ++ notes_at (s c).queue c.args.noted.now.items) c.loop-row.row-index c.loop-row.noted.items (c.loop-row.noted.items ++ (r c ∷ []))
         c.loop-row-test.true c.loop-row.invariant.sofar
-        (grown-noted (p c) (s c).dropped (s c).queue c.args.recorded.now c.len-before.result c.loop-row.noted.items c.loop-row.invariant.holding (r c) (there c) (own c) (held_then c.args.instant.0 (s c)) f h k);
-    marked = subst (λ (n : ℕ). Covers (known (p c) (s c).dropped (s c).queue c.args.recorded.now c.len-before.result (c.loop-row.noted.items ++ (r c ∷ []))) (set c.loop-row.marks n 1)) (sym (low-is c))
-        (marked-next (p c) (s c).dropped (s c).queue c.args.recorded.now c.len-before.result c.loop-row.noted.items c.loop-row.invariant.holding (r c) (there c) (own c) c.loop-row.invariant.marked);
+        (grown-noted (p c) (s c).dropped (s c).queue c.args.back.now.recorded.now c.len-before.result c.loop-row.noted.items c.loop-row.invariant.holding (r c) (there c) (own c) (held_then c.args.back.now.instant.0 (s c)) f h k);
+    marked = subst (λ (n : ℕ). Covers (known (p c) (s c).dropped (s c).queue c.args.back.now.recorded.now c.len-before.result (c.loop-row.noted.items ++ (r c ∷ []))) (c.args.back.now.link + 1) (set c.loop-row.marks n (c.args.back.now.link + 1))) (sym (low-is c))
+        (marked-next (p c) (s c).dropped (s c).queue c.args.back.now.recorded.now c.len-before.result c.loop-row.noted.items c.loop-row.invariant.holding (r c) (there c) (own c) c.loop-row.invariant.marked);
+    found = g;
   }
 
 pub loop-row-preserved-then-is_there : goal.loop-row-preserved-then-is_there
 loop-row-preserved-then-is_there c =
     let w = (goal.at.loop-row-preserved-then-is_there c).After-low-place in
     still w
-    (grown-there (p w) (s w).dropped (s w).queue c.args.recorded.now c.len-before.result c.loop-row.noted.items c.loop-row.invariant.holding (r w) (there w) (own w) (held_then c.args.instant.0 (s w)) (sym (known-is w) ∙ sym c.is_there.ensures ∙ c.if-is_there.true))
+    (grown-there (p w) (s w).dropped (s w).queue c.args.back.now.recorded.now c.len-before.result c.loop-row.noted.items c.loop-row.invariant.holding (r w) (there w) (own w) (held_then c.args.back.now.instant.0 (s w)) (sym (known-is w) ∙ sym c.is_there.ensures ∙ c.if-is_there.true))
+    c.loop-row.found c.loop-row.invariant.found
 
 pub loop-row-preserved : goal.loop-row-preserved
 loop-row-preserved c =
     let w = (goal.at.loop-row-preserved c).After-low-place in
-    let held = held_then c.args.instant.0 (s w) in
-    elim c.if-is_cached_then.branch [
-      | then-is_cached_then b ↦
+    let held = held_then c.args.back.now.instant.0 (s w) in
+    elim c.if-is_cached.branch [
+      | then-is_cached b ↦
           rw (b.noted-is, b.push.ensures.items, b.marks-is)
           (more w
           (sym (full ((goal.at.After-low-place w).After-is_full)) ∙ c.if-is_full.false)
-          (ap held (sym (id-is w)) ∙ sym c.is_cached_then.ensures ∙ b.if-is_cached_then.true)
-          (sym (known-is w) ∙ sym c.is_there.ensures ∙ c.if-is_there.false))
-      | else-is_cached_then b ↦
+          (ap held (sym (id-is w)) ∙ sym c.is_cached.ensures.held ∙ b.if-is_cached.true)
+          (sym (known-is w) ∙ sym c.is_there.ensures ∙ c.if-is_there.false)
+          _ c.is_cached.ensures.found)
+      | else-is_cached b ↦
           rw (b.noted-is, b.marks-is)
-          (still w (note-not-held held (p w) (ihave_of (x w)) ((s w).dropped ++ notes_at (s w).queue c.loop-row.noted.items) (ap held (sym (id-is w)) ∙ sym c.is_cached_then.ensures ∙ b.if-is_cached_then.false)))
+          (still w (note-not-held held (p w) (ihave_of (x w)) ((s w).dropped ++ notes_at (s w).queue c.loop-row.noted.items) (ap held (sym (id-is w)) ∙ sym c.is_cached.ensures.held ∙ b.if-is_cached.false))
+          _ c.is_cached.ensures.found)
     ]

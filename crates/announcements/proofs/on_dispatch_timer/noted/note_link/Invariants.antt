@@ -1,8 +1,8 @@
 -- `note_link`: the record with what is noted so far is that with the rows before this one noted.
-use Rattle.std.proofs.Common.{◌++◌}
+use Rattle.std.proofs.Common.{◌+◌, ◌++◌}
 use Rattle.block.specs.LinkSteps.{peer_at}
 use Rattle.steps.specs.Views.{shown}
-use Rattle.announcements.specs.Marks.{Covers}
+use Rattle.announcements.specs.Marks.{Covers, Found}
 use Rattle.announcements.specs.QueuedRows.{held_then, notes_at}
 use Rattle.announcements.proofs.OnDispatchLaws.NotedLaws.{known, Holding, Sofar}
 use Rattle.announcements.proofs.on_dispatch_timer.noted.note_link.Given as goal
@@ -12,7 +12,8 @@ invariant-loop-row l =
     let s = shown l.view in
     let p = peer_at s l.back.link in
     record {
-      holding : Holding p s.dropped s.queue l.recorded l.before l.noted.items;
-      sofar : Sofar p s.dropped s.queue l.recorded l.before (held_then l.instant.0 s) l.back.rows.now (s.dropped ++ notes_at s.queue l.fn.noted.items) l.row-index l.noted.items;
-      marked : Covers (known p s.dropped s.queue l.recorded l.before l.noted.items) l.marks;
+      holding : Holding p s.dropped s.queue l.back.recorded.now l.before l.noted.items;
+      sofar : Sofar p s.dropped s.queue l.back.recorded.now l.before (held_then l.back.instant.0 s) l.back.rows.now (s.dropped ++ notes_at s.queue l.fn.noted.items) l.row-index l.noted.items;
+      marked : Covers (known p s.dropped s.queue l.back.recorded.now l.before l.noted.items) (l.back.link + 1) l.marks;
+      found : Found l.back.instant.0 s l.found;
     }

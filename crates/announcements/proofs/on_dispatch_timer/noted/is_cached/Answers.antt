@@ -1,0 +1,26 @@
+-- `is_cached` meets its contract.
+use Rattle.std.proofs.Common.{◌≡◌, ◌+◌, ◌-◌, ◌<◌, bit_and, length, get_or, ap, ◌∙◌, sym, arith}
+use Rattle.std.proofs.lemmas.Nat.{and_le_r}
+use Rattle.steps.specs.Views.{shown}
+use Rattle.steps.proofs.RowLaws.{queue-few}
+use Rattle.announcements.specs.QueuedRows.{held_then}
+use Rattle.announcements.proofs.OnDispatchLaws.FoundLaws.{found-next}
+use Rattle.announcements.proofs.on_dispatch_timer.noted.is_cached.Goals as goal
+
+pub queued-requires : goal.queued-requires
+queued-requires c =
+    let place = bit_and c.low.result (length c.args.found.now - 1) in
+    let named = get_or c.args.found.now place 0 in
+    let some : named ≡ (named - 1) + 1 = omega (arith, c.if-named-gt0.true) in
+    (c.requires.found.named place (named - 1) some).0
+
+pub overflow_add-found : goal.overflow_add-found
+overflow_add-found c = let v = c.args.view.now in omega (arith, c.requires.row, queue-few v.head v.block.now v.sound)
+
+pub returns-clause-found : goal.returns-clause-found
+returns-clause-found c =
+    let s = shown c.args.view.now in
+    let held = held_then c.args.instant.0 s in
+    let place = bit_and c.low.result (length c.args.found.now - 1) in
+    let within : place < length c.args.found.now = omega (arith, and_le_r c.low.result (length c.args.found.now - 1), c.requires.some) in
+    found-next c.args.instant.0 s c.args.found.now c.requires.found place c.args.row within (c.requires.row, ap held c.requires.id ∙ sym c.is_cached_then.ensures ∙ c.if-not-is_cached_then.false)

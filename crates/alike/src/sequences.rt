@@ -7,10 +7,14 @@ ghost use Rattle.block.specs.Sound.{Sound};
 ghost use Rattle.block.specs.LinkSteps.{peer_at};
 ghost use Rattle.alike.specs.Elements.{element, same_element, expiry_element, element_of, sequence_of, InState};
 
+use block::caches::cached::MessageCache;
 use block::caches::grafted;
+use block::caches::grafted::GraftedMessages;
+use block::caches::received::ReceivedMessages;
 use block::head::Head;
 use block::hops::Hop;
-use block::{links, missing, time_caches};
+use block::time_caches::PanelCache;
+use block::{links, missing};
 use storage::rows::id;
 use storage::rows::id::Id;
 use time_cache::cache::TimeBoundCache;
@@ -92,9 +96,9 @@ fn item_at(of: Sequence, head: Head, block: &[u8], j: usize) -> Item
     ensures { element_of result ≡ get_or (sequence_of of (state_of head block.now)) j (element 0 0 0) }
 {
     match of {
-        Sequence::ReceivedExpiry => row_item(time_caches::received_cache(head), block, j),
-        Sequence::GraftedExpiry => row_item(time_caches::grafted_cache(head), block, j),
-        Sequence::CachedExpiry => row_item(time_caches::cached_cache(head), block, j),
+        Sequence::ReceivedExpiry => row_item(ReceivedMessages::table(head), block, j),
+        Sequence::GraftedExpiry => row_item(GraftedMessages::table(head), block, j),
+        Sequence::CachedExpiry => row_item(MessageCache::table(head), block, j),
         Sequence::Announcers(i) => hop_item(head, block, missing::announcer_at(head, block, i, j)),
         Sequence::GraftedPeers(i) => hop_item(head, block, grafted::graft_at(head, block, i, j)),
     }

@@ -16,10 +16,14 @@ ghost use Rattle.alike.specs.Rows.{same_row, same_rows, rows_of, first_of, kept_
 
 use crate::sequences;
 use crate::sequences::Sequence;
+use block::caches::cached::MessageCache;
+use block::caches::grafted::GraftedMessages;
+use block::caches::received::ReceivedMessages;
 use block::caches::{cached, grafted};
 use block::head::{Head, Live};
 use block::missing::Missed;
-use block::{head, links, time_caches};
+use block::time_caches::PanelCache;
+use block::{head, links};
 use postcard::units::Round;
 use storage::rows::id::Id;
 use storage::rows::{id, word};
@@ -188,9 +192,9 @@ fn same_received(ha: Head, a: &[u8], hb: Head, b: &[u8], i: usize) -> bool
     ensures { result ≡ same_row Table.Received (state_of ha a.now) (state_of hb b.now) i }
 {
     same_key(
-        time_caches::received_cache(ha),
+        ReceivedMessages::table(ha),
         a,
-        time_caches::received_cache(hb),
+        ReceivedMessages::table(hb),
         b,
         i,
     )
@@ -202,9 +206,9 @@ fn same_grafted(ha: Head, a: &[u8], hb: Head, b: &[u8], i: usize) -> bool
     ensures { result ≡ same_row Table.Grafted (state_of ha a.now) (state_of hb b.now) i }
 {
     same_key(
-        time_caches::grafted_cache(ha),
+        GraftedMessages::table(ha),
         a,
-        time_caches::grafted_cache(hb),
+        GraftedMessages::table(hb),
         b,
         i,
     ) && same_sender(first_at(ha, a, i), first_at(hb, b, i))
@@ -217,13 +221,7 @@ fn same_cached(ha: Head, a: &[u8], hb: Head, b: &[u8], i: usize) -> bool
     requires { Sound ha a.now × (i < ha.live.cached) × Sound hb b.now × (i < hb.live.cached) }
     ensures { result ≡ same_row Table.Cached (state_of ha a.now) (state_of hb b.now) i }
 {
-    if !same_key(
-        time_caches::cached_cache(ha),
-        a,
-        time_caches::cached_cache(hb),
-        b,
-        i,
-    ) {
+    if !same_key(MessageCache::table(ha), a, MessageCache::table(hb), b, i) {
         return false;
     }
     if cached::cached_round(ha, a, i).0 != cached::cached_round(hb, b, i).0 {

@@ -1,6 +1,9 @@
 // What the time caches hold once a first event has evicted: the specification, "the first other event evicts and schedules EvictCache before anything else".
 use crate::settled;
 use crate::view::View;
+use block::caches::cached::MessageCache;
+use block::caches::grafted::GraftedMessages;
+use block::caches::received::ReceivedMessages;
 use postcard::units::Millis;
 use storage::rows::id::Id;
 
@@ -19,7 +22,7 @@ impl<'a> View<'a> {
         requires { AtRest (shown self.now) }
         ensures { result ≡ holds (id_of id) (settled instant.0 (shown self.now)).received }
     {
-        settled::received_then(self.head, self.block, instant, id)
+        settled::contains_then::<ReceivedMessages>(self.head, self.block, instant, id)
     }
 
     // Whether a message is cached then. It is compiled in place: a dispatch tick asks it for each identifier that is handed back.
@@ -28,7 +31,15 @@ impl<'a> View<'a> {
         requires { AtRest (shown self.now) }
         ensures { result ≡ holds (id_of id) (settled instant.0 (shown self.now)).cache }
     {
-        settled::is_cached_then(self.head, self.block, instant, id)
+        settled::contains_then::<MessageCache>(self.head, self.block, instant, id)
+    }
+
+    // The cached message of an identifier, if it is there then, by its number in the cache as it stands.
+    pub fn cached_entry_then(&self, instant: Millis, id: Id) -> Option<usize>
+        requires { AtRest (shown self.now) }
+        ensures { EntryIs no_cached (shown self.now).cache.entries (id_of id) (get (id_of id) (settled instant.0 (shown self.now)).cache) result }
+    {
+        settled::find_then::<MessageCache>(self.head, self.block, instant, id)
     }
 
     // The grafted message of an identifier, if it is there then, by its number among the grafted messages as they stand.
@@ -36,6 +47,6 @@ impl<'a> View<'a> {
         requires { AtRest (shown self.now) }
         ensures { EntryIs no_grafts (shown self.now).grafted.entries (id_of id) (get (id_of id) (settled instant.0 (shown self.now)).grafted) result }
     {
-        settled::grafted_then(self.head, self.block, instant, id)
+        settled::find_then::<GraftedMessages>(self.head, self.block, instant, id)
     }
 }

@@ -12,7 +12,9 @@ use crate::call::Call;
 use crate::settled;
 use crate::view::View;
 use block::caches::cached;
+use block::caches::cached::MessageCache;
 use block::head;
+use block::time_caches::PanelCache;
 use postcard::content;
 use postcard::content::Content;
 use postcard::units::Round;
@@ -30,7 +32,7 @@ pub fn cached_then<'a>(view: &View<'a>, call: &Call, id: Id) -> Option<CachedMes
     requires { AtRest (shown view.now) }
     ensures { cached_value result ≡ get (id_of id) (settled call.now.instant.0 (shown view.now)).cache }
 {
-    match settled::cached_then(view.head, view.block, call.instant, id) {
+    match view.cached_entry_then(call.instant, id) {
         Some(i) => {
             let round = cached::cached_round(view.head, view.block, i);
             let place = cached::cached_content(view.head, view.block, i);
@@ -48,7 +50,7 @@ pub fn cached_round(view: &View, id: Id) -> Option<Round>
     requires { InOrder (shown view.now).cache }
     ensures { RoundOf result (get (id_of id) (shown view.now).cache) }
 {
-    match cached::find_cached(view.head, view.block, id) {
+    match MessageCache::find(view.head, view.block, id) {
         Ok(i) => Some(cached::cached_round(view.head, view.block, i)),
         Err(_) => None,
     }

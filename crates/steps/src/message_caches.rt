@@ -1,6 +1,8 @@
 // `received_messages` and `cache`: what the two message caches hold.
 use crate::view::View;
-use block::caches::{cached, received};
+use block::caches::cached::MessageCache;
+use block::caches::received::ReceivedMessages;
+use block::time_caches::PanelCache;
 use storage::rows::id::Id;
 
 impl<'a> View<'a> {
@@ -15,7 +17,7 @@ impl<'a> View<'a> {
         requires { InOrder (shown self.now).received }
         ensures { result ≡ holds (id_of id) (shown self.now).received }
     {
-        received::is_received(self.head, self.block, id)
+        ReceivedMessages::contains_key(self.head, self.block, id)
     }
 
     // Whether a message is cached. Its time is that of a look-up in a time cache.
@@ -23,6 +25,6 @@ impl<'a> View<'a> {
         requires { InOrder (shown self.now).cache }
         ensures { result ≡ holds (id_of id) (shown self.now).cache }
     {
-        cached::is_cached(self.head, self.block, id)
+        MessageCache::contains_key(self.head, self.block, id)
     }
 }

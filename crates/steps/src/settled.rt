@@ -2,47 +2,42 @@
 // before anything else". Where `init` is set, nothing is evicted.
 ghost use Rattle.std.specs.Prelude.{◌≡◌, ◌&&◌, ◌*◌, ◌≤◌, ◌<◌, leb, get_or};
 ghost use Rattle.storage.specs.Lists.Base.{sum};
+ghost use Rattle.storage.specs.Lists.Map.{Entry};
 ghost use Rattle.storage.specs.Rows.Ident.{id_of};
-ghost use Rattle.time_cache.specs.TimeCache.{holds, get};
-ghost use Rattle.time_cache.specs.Tables.{cache_at, Lies, Sound};
+ghost use Rattle.time_cache.specs.TimeCache.{Timed, holds, get};
+ghost use Rattle.time_cache.specs.Tables.{cache_at, Lies, Sound as SoundCache};
 ghost use Rattle.block.specs.View.{state_of, limits_of};
 ghost use Rattle.block.specs.Fit.{Ceilings};
+ghost use Rattle.block.specs.Sound.{Sound};
+ghost use Rattle.block.specs.Caches.InBlock.{InOrder};
 ghost use Rattle.protocol.specs.Ticks.{evict};
 ghost use Rattle.decide.specs.Sizes.{sizes_of, fit_sizes};
 ghost use Rattle.decide.specs.Settled.{settled};
 ghost use Rattle.steps.specs.Stands.{Stands};
 ghost use Rattle.steps.specs.Shared.{EntryIs, sizes_value};
-ghost use Rattle.steps.specs.Settled.Then.{no_held, no_cached, no_grafts, left_then, later_bytes};
+ghost use Rattle.steps.specs.Settled.Then.{no_held, no_cached, left_then, later_bytes};
 
 use crate::Sizes;
-use block::caches::{cached, grafted, received};
+use block::caches::cached;
+use block::caches::cached::MessageCache;
+use block::caches::grafted::GraftedMessages;
+use block::caches::received::ReceivedMessages;
 use block::head::{Head, Limits};
-use block::time_caches;
+use block::time_caches::PanelCache;
 use postcard::units::Millis;
 use storage::rows::id::Id;
 use time_cache::cache::{Got, TimeBoundCache};
 
-// Whether a message is received then.
-pub fn received_then(head: Head, block: &[u8], instant: Millis, id: Id) -> bool
-    requires { Stands head block.now }
-    ensures { result ≡ holds (id_of id) (settled instant.0 (state_of head block.now)).received }
-{
-    if head.live.init {
-        return received::is_received(head, block, id);
-    }
-    received::is_received_later(head, block, id, instant)
-}
-
-// Whether a message is cached then. It is compiled in place, as `View::is_cached_then` is.
+// Whether a time cache has an entry of an identifier then. It is compiled in place, as `View::is_cached_then` is.
 #[inline]
-pub fn is_cached_then(head: Head, block: &[u8], instant: Millis, id: Id) -> bool
-    requires { Stands head block.now }
-    ensures { result ≡ holds (id_of id) (settled instant.0 (state_of head block.now)).cache }
+pub fn contains_then<C: PanelCache>(head: Head, block: &[u8], instant: Millis, id: Id) -> bool
+    requires { Sound head block.now × InOrder (C.of (state_of head block.now)) }
+    ensures { result ≡ holds (id_of id) (left_then head.live.init instant.0 (C.of (state_of head block.now))) }
 {
     if head.live.init {
-        return cached::is_cached(head, block, id);
+        return C::contains_key(head, block, id);
     }
-    cached::is_cached_later(head, block, id, instant)
+    C::contains_later(head, block, id, instant)
 }
 
 // When the cached message i expires: the time of the row that its entry names.
@@ -50,7 +45,7 @@ fn cached_expires(head: Head, block: &[u8], i: usize) -> Millis
     requires { Stands head block.now × (i < head.live.cached) }
     ensures { result.0 ≡ (get_or (state_of head block.now).cache.entries i no_cached).value.expires }
 {
-    let cache = time_caches::cached_cache(head);
+    let cache = MessageCache::table(head);
     cache.expires(block, cache.place(block, i))
 }
 
@@ -62,7 +57,7 @@ fn held_then(
     instant: Millis,
     id: Id,
 ) -> Option<usize>
-    requires { Lies cache block.now × Sound cache block.now }
+    requires { Lies cache block.now × SoundCache cache block.now }
     ensures { EntryIs no_held (cache_at cache block.now).entries (id_of id) (get (id_of id) (left_then init instant.0 (cache_at cache block.now))) result }
 {
     match cache.get(block, id) {
@@ -80,22 +75,12 @@ fn held_then(
     }
 }
 
-// The cached message of an identifier, if it is there then, by its number in the cache as it stands.
-pub fn cached_then(head: Head, block: &[u8], instant: Millis, id: Id) -> Option<usize>
-    requires { Stands head block.now }
-    ensures { EntryIs no_cached (state_of head block.now).cache.entries (id_of id) (get (id_of id) (settled instant.0 (state_of head block.now)).cache) result }
+// The entry of an identifier, if it is there then, by its number in the cache as it stands.
+pub fn find_then<C: PanelCache>(head: Head, block: &[u8], instant: Millis, id: Id) -> Option<usize>
+    requires { Sound head block.now × InOrder (C.of (state_of head block.now)) }
+    ensures { (d : Entry (Timed C.Value)) → EntryIs d (C.of (state_of head block.now)).entries (id_of id) (get (id_of id) (left_then head.live.init instant.0 (C.of (state_of head block.now)))) result }
 {
-    let cache = time_caches::cached_cache(head);
-    held_then(cache, block, head.live.init, instant, id)
-}
-
-// The grafted message of an identifier, if it is there then, by its number among the grafted messages as they stand.
-pub fn grafted_then(head: Head, block: &[u8], instant: Millis, id: Id) -> Option<usize>
-    requires { Stands head block.now }
-    ensures { EntryIs no_grafts (state_of head block.now).grafted.entries (id_of id) (get (id_of id) (settled instant.0 (state_of head block.now)).grafted) result }
-{
-    let cache = time_caches::grafted_cache(head);
-    held_then(cache, block, head.live.init, instant, id)
+    held_then(C::table(head), block, head.live.init, instant, id)
 }
 
 // The numbers of entries as they stand.
@@ -139,13 +124,13 @@ pub fn later_sizes(head: Head, block: &[u8], instant: Millis) -> Sizes
     requires { Stands head block.now }
     ensures { sizes_value result ≡ sizes_of (evict instant.0 (state_of head block.now)) }
 {
-    let received = received::received_later(head, block, instant);
-    let received_rows = received::received_rows_later(head, block, instant);
-    let cached = cached::cached_later(head, block, instant);
-    let cached_rows = cached::cached_rows_later(head, block, instant);
+    let received = ReceivedMessages::entries_later(head, block, instant);
+    let received_rows = ReceivedMessages::rows_later(head, block, instant);
+    let cached = MessageCache::entries_later(head, block, instant);
+    let cached_rows = MessageCache::rows_later(head, block, instant);
     let contents = contents_later(head, block, instant);
-    let grafted = grafted::grafted_later(head, block, instant);
-    let grafted_rows = grafted::grafted_rows_later(head, block, instant);
+    let grafted = GraftedMessages::entries_later(head, block, instant);
+    let grafted_rows = GraftedMessages::rows_later(head, block, instant);
     Sizes {
         links: head.live.links,
         received,

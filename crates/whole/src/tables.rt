@@ -11,11 +11,15 @@ ghost use Rattle.block.specs.LinkSteps.{LinksAscend};
 ghost use Rattle.whole.specs.Held.{all_below, adjoin, all_lists};
 ghost use Rattle.whole.specs.Parts.{length_at, graft_list, missed_list, few, links_whole, received_whole, cached_in_order, contents_adjoin, contents_used, cached_whole, grafted_in_order, grafted_peers, grafted_whole, missing_once, announcers, missing_whole, timers_whole, queue_whole, dropped_named, record_whole, tables_whole};
 
+use block::caches::cached::MessageCache;
+use block::caches::grafted::GraftedMessages;
+use block::caches::received::ReceivedMessages;
 use block::caches::{cached, grafted};
 use block::head::{Head, MAX_LINKS};
 use block::hops::Hops;
 use block::missing::Missed;
-use block::{head, links, time_caches};
+use block::time_caches::PanelCache;
+use block::{head, links};
 use protocol::MAX_DROPPED_PER_PEER;
 use storage::rows::id::Id;
 use storage::rows::{table, word};
@@ -47,7 +51,7 @@ pub fn received_whole(head: Head, block: &[u8]) -> bool
     requires { Fit head block.now }
     ensures { result ≡ received_whole head block.now }
 {
-    time_caches::received_cache(head).is_sound(block)
+    ReceivedMessages::table(head).is_sound(block)
 }
 
 // The contents of cached rows adjoin: each starts where the one before it ends, and the last ends at `used`.
@@ -83,7 +87,7 @@ fn cached_in_order(head: Head, block: &[u8]) -> bool
     requires { Fit head block.now }
     ensures { result ≡ cached_in_order head block.now }
 {
-    time_caches::cached_cache(head).is_sound(block)
+    MessageCache::table(head).is_sound(block)
 }
 
 // The contents of the cached rows adjoin.
@@ -169,7 +173,7 @@ fn grafted_in_order(head: Head, block: &[u8]) -> bool
     requires { Fit head block.now }
     ensures { result ≡ grafted_in_order head block.now }
 {
-    time_caches::grafted_cache(head).is_sound(block)
+    GraftedMessages::table(head).is_sound(block)
 }
 
 // "grafted peers are neighbours, once per identifier"

@@ -13,8 +13,9 @@ use Rattle.storage.proofs.RowsLaws.Rows.{length-rows}
 use Rattle.storage.proofs.RowsLaws.Parts.{part-put, length_part}
 use Rattle.storage.specs.Refs.Refs.{Ref, ref_of, refs, places, Below}
 use Rattle.time_cache.specs.TimeCache.{Cache, put as put_in, expire_until, in_pop_order, holds, later_cache}
-use Rattle.time_cache.specs.Tables.{expiry_row_of, expiry_rows, expiry_of, ValueBytes, entry_of, cache_of, cache_in, refs_at, rows_at, cache_at, values_as, Sound, OnlyTwo}
+use Rattle.time_cache.specs.Tables.{expiry_row_of, expiry_rows, expiry_of, ValueBytes, value_bytes, entry_of, cache_of, cache_in, refs_at, rows_at, cache_at, named, values_as, Sound, OnlyTwo}
 use Rattle.time_cache.specs.declared.cache.TimeBoundCache.{TimeBoundCache}
+use Rattle.time_cache.proofs.TableLaws.{keys-named}
 use Rattle.time_cache.proofs.ValueLaws.{values-read, keys-as, holds_as, put_as, expire-as, later-as, length-as}
 use Rattle.time_cache.proofs.LoanLaws.{halfway, length-halfway, only-second, two-wider}
 use Rattle.protocol.specs.State.{Limits}
@@ -23,6 +24,7 @@ use Rattle.block.proofs.Cut.{cut-part, within}
 use Rattle.block.proofs.Tables.{rows-table, frame-whole}
 use Rattle.block.specs.TimeCaches.{cache_from}
 use Rattle.block.specs.Caches.InBlock.{InOrder}
+use Rattle.block.specs.Caches.Standing.{StandsIn}
 
 -- the bytes of an entry, read as a value
 abbrev pub as_value : {A : Type 0} → (List ℕ → List ℕ → A) → ValueBytes → A
@@ -48,7 +50,7 @@ module _ (l : Limits) (i s n j t m : ℕ) (xs : List ℕ) (hi : i < 15) (wi : n 
     pub cache-in : values_as (as_value value) (cache_at c xs) ≡ viewed
     cache-in = values-read value (refs_at c xs) (rows_at c xs) ∙ (λ k. cache_of value (refs-in k) (rows_in k))
 
-    pub keys_in : keys (cache_at c xs).entries ≡ keys viewed.entries
+    keys_in : keys (cache_at c xs).entries ≡ keys viewed.entries
     keys_in = sym (keys-as (as_value value) (cache_at c xs)) ∙ ap (λ (k : Cache A). keys k.entries) cache-in
 
     pub expiry-in : (cache_at c xs).expiry ≡ viewed.expiry
@@ -110,17 +112,25 @@ module _ (l : Limits) (i s n j t m : ℕ) (xs ys : List ℕ) (hi : i < 15) (wi :
       ∙ put_as (as_value value) k v instant (cache_at (cache_from l i s n j t m) xs)
       ∙ ap (put_in k (as_value value v) instant) (cache-in l i s n j t m xs hi wi hj wj value)
 
--- what is later than an instant, of the cache and of the view
-module _ {A B : Type 0} (f : A → B) (c : Cache A) (d : Cache B) (e : values_as f c ≡ d) (instant : ℕ) where
-  later-view : values_as f (later_cache instant c) ≡ later_cache instant d
-  later-view = later-as f instant c ∙ ap (later_cache instant) e
+-- what is read of the tables that a cache stands in
+module _ {A : Type 0} (t : TimeBoundCache) (xs : List ℕ) (c : Cache A) (s : StandsIn t xs c) where
+  pub keys-read : named (rows_at t xs) (refs_at t xs) ≡ keys c.entries
+  keys-read = sym (keys-named value_bytes (refs_at t xs) (rows_at t xs)) ∙ sym (keys-as s.value (cache_at t xs)) ∙ ap (λ (d : Cache A). keys d.entries) s.same
 
-  pub holds_later : (k : ℕ) → holds k (later_cache instant c) ≡ holds k (later_cache instant d)
-  holds_later k = sym (holds_as f k (later_cache instant c)) ∙ ap (holds k) later-view
+  pub holds_read : (k : ℕ) → holds k (cache_at t xs) ≡ holds k c
+  holds_read k = sym (holds_as s.value k (cache_at t xs)) ∙ ap (holds k) s.same
 
-  pub entries-later : length (later_cache instant c).entries ≡ length (later_cache instant d).entries
-  entries-later = sym (length-as f (later_cache instant c)) ∙ ap (λ (k : Cache B). length k.entries) later-view
+  -- what is later than an instant
+  module _ (instant : ℕ) where
+    later-read : values_as s.value (later_cache instant (cache_at t xs)) ≡ later_cache instant c
+    later-read = later-as s.value instant (cache_at t xs) ∙ ap (later_cache instant) s.same
 
-  pub rows-later : length (later_cache instant c).expiry ≡ length (later_cache instant d).expiry
-  unfolding values_as
-  rows-later = ap (λ (k : Cache B). length k.expiry) later-view
+    pub holds_later : (k : ℕ) → holds k (later_cache instant (cache_at t xs)) ≡ holds k (later_cache instant c)
+    holds_later k = sym (holds_as s.value k (later_cache instant (cache_at t xs))) ∙ ap (holds k) later-read
+
+    pub entries-later : length (later_cache instant (cache_at t xs)).entries ≡ length (later_cache instant c).entries
+    entries-later = sym (length-as s.value (later_cache instant (cache_at t xs))) ∙ ap (λ (d : Cache A). length d.entries) later-read
+
+    pub rows-later : length (later_cache instant (cache_at t xs)).expiry ≡ length (later_cache instant c).expiry
+    unfolding values_as
+    rows-later = ap (λ (d : Cache A). length d.expiry) later-read

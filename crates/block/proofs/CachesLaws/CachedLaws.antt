@@ -1,16 +1,12 @@
 -- The message cache: its tables as the view reads them.
 -- Assumes nothing.
-use mathlib.Core.Path.{◌≡◌, sym, ap, ◌∙◌}
+use mathlib.Core.Path.{◌≡◌}
 use mathlib.Core.List.{List}
 use Prim.Native.Nat.{ℕ}
 use native.Mathlib.Omega.{arith}
 use lib.Dec.{lit<}
 use lib.ListN.{length}
-use Rattle.storage.specs.Lists.Map.{keys}
-use Rattle.time_cache.specs.TimeCache.{holds}
-use Rattle.time_cache.specs.Tables.{value_bytes, cache_at, refs_at, rows_at, named, Lies, FitsOneMore, Sound as SoundCache, values_as}
-use Rattle.time_cache.proofs.TableLaws.{keys-named}
-use Rattle.time_cache.proofs.ValueLaws.{holds_as}
+use Rattle.time_cache.specs.Tables.{cache_at, Lies, FitsOneMore, Sound as SoundCache, values_as}
 use Rattle.protocol.specs.State.{Limits}
 use Rattle.block.specs.Layout.{table}
 use Rattle.block.specs.View.{state_of, limits_of, cached_in, cached_of}
@@ -19,7 +15,8 @@ use Rattle.block.specs.Sound.{Sound}
 use Rattle.block.specs.declared.head.Head.{Head}
 use Rattle.block.specs.TimeCaches.{cached_cache}
 use Rattle.block.specs.Caches.InBlock.{InOrder}
-use Rattle.block.proofs.CachesLaws.CacheLaws.{as_value, cache-in, keys_in, sound-in, count_entries, count-expiry}
+use Rattle.block.specs.Caches.Standing.{StandsIn}
+use Rattle.block.proofs.CachesLaws.CacheLaws.{as_value, cache-in, sound-in, count_entries, count-expiry}
 
 module _ (h : Head) (xs : List ℕ) (fit : Fit h xs) where
   abbrev l : Limits
@@ -37,16 +34,9 @@ module _ (h : Head) (xs : List ℕ) (fit : Fit h xs) where
   pub cached-room : FitsOneMore (cached_cache h) xs
   cached-room = record { entry_wide = omega arith; expiry_wide = omega arith; apart = omega arith; within = omega arith; few = omega arith }
 
-  pub cached-keys : named (rows_at (cached_cache h) xs) (refs_at (cached_cache h) xs) ≡ keys (state_of h xs).cache.entries
-  unfolding state_of cached_in
-  cached-keys = sym (keys-named value_bytes (refs_at (cached_cache h) xs) (rows_at (cached_cache h) xs)) ∙ keys_in l 4 4 n 5 48 m xs (lit< tt) (omega arith) (lit< tt) (omega arith) (cached_of (table (limits_of h.limits) 6 xs))
-
   pub cached-as : values_as (as_value (cached_of (table (limits_of h.limits) 6 xs))) (cache_at (cached_cache h) xs) ≡ (state_of h xs).cache
   unfolding state_of cached_in
   cached-as = cache-in l 4 4 n 5 48 m xs (lit< tt) (omega arith) (lit< tt) (omega arith) (cached_of (table (limits_of h.limits) 6 xs))
-
-  pub cached-holds : (k : ℕ) → holds k (cache_at (cached_cache h) xs) ≡ holds k (state_of h xs).cache
-  cached-holds k = sym (holds_as (as_value (cached_of (table (limits_of h.limits) 6 xs))) k (cache_at (cached_cache h) xs)) ∙ ap (holds k) cached-as
 
   pub count-cached : length (state_of h xs).cache.entries ≡ n
   unfolding state_of cached_in
@@ -60,3 +50,6 @@ pub cached-sound : (h : Head) (xs : List ℕ) → Sound h xs → InOrder (state_
 unfolding state_of cached_in
 cached-sound h xs sound o =
     sound-in (limits_of h.limits) 4 4 h.live.cached 5 48 h.live.cached_rows xs (lit< tt) (omega (arith, sound.fit)) (lit< tt) (omega (arith, sound.fit)) (cached_of (table (limits_of h.limits) 6 xs)) sound.laid.cached o
+
+pub cached-stands : (h : Head) (xs : List ℕ) → Sound h xs → StandsIn (cached_cache h) xs (state_of h xs).cache
+cached-stands h xs s = record { lies = cached-lies h xs s.fit; value = as_value (cached_of (table (limits_of h.limits) 6 xs)); same = cached-as h xs s.fit; sound = cached-sound h xs s }

@@ -10,16 +10,14 @@ use lib.ListN.{length, drop, set}
 use lib.Seq.{drop-drop}
 use Rattle.std.specs.Prelude.{if◌then◌else◌}
 use Rattle.storage.specs.Lists.Base.{filter}
-use Rattle.storage.specs.Lists.Map.{keys}
 use Rattle.storage.specs.Rows.Part.{part}
 use Rattle.storage.specs.Refs.Refs.{Ref, ref, ref_of, refs, places, Below, names, lowered, left}
 use Rattle.storage.proofs.RefsLaws.Places.{ref-at, length-refs}
 use Rattle.time_cache.specs.TimeCache.{Cache, expire_until}
-use Rattle.time_cache.specs.Tables.{value_bytes, cache_at, refs_at, rows_at, named, Lies, FitsOneMore, Sound as SoundCache, OnlyTwo, values_as}
+use Rattle.time_cache.specs.Tables.{cache_at, refs_at, Lies, FitsOneMore, Sound as SoundCache, OnlyTwo, values_as}
 use Rattle.time_cache.specs.Steps.{ref_at, Expires}
 use Rattle.time_cache.specs.declared.cache.TimeBoundCache.{TimeBoundCache}
 use Rattle.time_cache.specs.declared.cache.Expired.{Expired}
-use Rattle.time_cache.proofs.TableLaws.{keys-named}
 use Rattle.protocol.specs.State.{Limits, Grafts, with_grafted}
 use Rattle.block.specs.Layout.{place, tables, table}
 use Rattle.block.specs.View.{state_of, view_of, limits_of, grafted_in, grafts_of, peers_in}
@@ -30,7 +28,8 @@ use Rattle.block.specs.Heads.{with_grafted_counts}
 use Rattle.block.specs.declared.head.Head.{Head}
 use Rattle.block.specs.TimeCaches.{cache_from, grafted_cache}
 use Rattle.block.specs.Caches.InBlock.{InOrder, grafted_left}
-use Rattle.block.proofs.CachesLaws.CacheLaws.{as_value, cache-in, keys_in, sound-in, refs-in, count_entries, count-expiry, frame-pair, expired-in}
+use Rattle.block.specs.Caches.Standing.{StandsIn}
+use Rattle.block.proofs.CachesLaws.CacheLaws.{as_value, cache-in, sound-in, refs-in, count_entries, count-expiry, frame-pair, expired-in}
 
 -- the peers that link numbers stand for
 abbrev pub peers_of : Head → List ℕ → List ℕ
@@ -85,10 +84,6 @@ module _ (h : Head) (xs : List ℕ) (fit : Fit h xs) where
   pub grafted-room : FitsOneMore (grafted_cache h) xs
   grafted-room = record { entry_wide = omega arith; expiry_wide = omega arith; apart = omega arith; within = omega arith; few = omega arith }
 
-  pub grafted-keys : named (rows_at (grafted_cache h) xs) (refs_at (grafted_cache h) xs) ≡ keys (state_of h xs).grafted.entries
-  unfolding state_of grafted_in
-  grafted-keys = sym (keys-named value_bytes (refs_at (grafted_cache h) xs) (rows_at (grafted_cache h) xs)) ∙ keys_in l 7 119 n 8 40 m xs (lit< tt) (omega arith) (lit< tt) (omega arith) (grafts_of (peers_of h xs))
-
   pub grafted-as : values_as (as_value (grafts_of (peers_of h xs))) (cache_at (grafted_cache h) xs) ≡ (state_of h xs).grafted
   unfolding state_of grafted_in
   grafted-as = cache-in l 7 119 n 8 40 m xs (lit< tt) (omega arith) (lit< tt) (omega arith) (grafts_of (peers_of h xs))
@@ -105,6 +100,9 @@ pub grafted-sound : (h : Head) (xs : List ℕ) → Sound h xs → InOrder (state
 unfolding state_of grafted_in
 grafted-sound h xs sound o =
     sound-in (limits_of h.limits) 7 119 h.live.grafted 8 40 h.live.grafted_rows xs (lit< tt) (omega (arith, sound.fit)) (lit< tt) (omega (arith, sound.fit)) (grafts_of (peers_of h xs)) sound.laid.grafted o
+
+pub grafted-stands : (h : Head) (xs : List ℕ) → Sound h xs → StandsIn (grafted_cache h) xs (state_of h xs).grafted
+grafted-stands h xs s = record { lies = grafted-lies h xs s.fit; value = as_value (grafts_of (peers_of h xs)); same = grafted-as h xs s.fit; sound = grafted-sound h xs s }
 
 -- other rows in the two tables
 module _ (h : Head) (xs ys : List ℕ) (sound : Sound h xs) (n' m' k g : ℕ) where

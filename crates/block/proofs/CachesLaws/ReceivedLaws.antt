@@ -7,13 +7,12 @@ use native.Mathlib.Omega.{arith}
 use lib.Dec.{lit<}
 use lib.ListN.{length, set}
 use Rattle.storage.specs.Refs.Refs.{Ref, places, Below}
-use Rattle.time_cache.specs.TimeCache.{Cache, put as put_in, expire_until, holds}
+use Rattle.time_cache.specs.TimeCache.{Cache, put as put_in, expire_until}
 use Rattle.time_cache.specs.Tables.{cache_at, Lies, FitsOneMore, Sound as SoundCache, OnlyTwo, values_as}
 use Rattle.time_cache.specs.Steps.{held_at, Inserts, Expires}
 use Rattle.time_cache.specs.declared.cache.TimeBoundCache.{TimeBoundCache}
 use Rattle.time_cache.specs.declared.cache.Inserted.{Inserted}
 use Rattle.time_cache.specs.declared.cache.Expired.{Expired}
-use Rattle.time_cache.proofs.ValueLaws.{holds_as}
 use Rattle.protocol.specs.State.{Limits, with_received}
 use Rattle.block.specs.Layout.{place, tables, table}
 use Rattle.block.specs.View.{state_of, view_of, limits_of, received_in, nothing_of}
@@ -24,6 +23,7 @@ use Rattle.block.specs.Heads.{with_received_counts}
 use Rattle.block.specs.declared.head.Head.{Head}
 use Rattle.block.specs.TimeCaches.{cache_from, received_cache}
 use Rattle.block.specs.Caches.InBlock.{InOrder, AtMost, received_also, received_left}
+use Rattle.block.specs.Caches.Standing.{StandsIn}
 use Rattle.block.proofs.CachesLaws.CacheLaws.{as_value, cache-in, sound-in, refs-in, count_entries, count-expiry, frame-pair, expired-in, inserted-in}
 
 module _ (h : Head) (xs : List ℕ) (fit : Fit h xs) where
@@ -42,12 +42,9 @@ module _ (h : Head) (xs : List ℕ) (fit : Fit h xs) where
   pub received-room : FitsOneMore (received_cache h) xs
   received-room = record { entry_wide = omega arith; expiry_wide = omega arith; apart = omega arith; within = omega arith; few = omega arith }
 
-  pub received_as : values_as (as_value nothing_of) (cache_at (received_cache h) xs) ≡ (state_of h xs).received
+  received_as : values_as (as_value nothing_of) (cache_at (received_cache h) xs) ≡ (state_of h xs).received
   unfolding state_of received_in
   received_as = cache-in l 2 2 n 3 40 m xs (lit< tt) (omega arith) (lit< tt) (omega arith) nothing_of
-
-  pub received-holds : (k : ℕ) → holds k (cache_at (received_cache h) xs) ≡ holds k (state_of h xs).received
-  received-holds k = sym (holds_as (as_value nothing_of) k (cache_at (received_cache h) xs)) ∙ ap (holds k) received_as
 
   pub count-received : length (state_of h xs).received.entries ≡ n
   unfolding state_of received_in
@@ -61,6 +58,9 @@ pub received-sound : (h : Head) (xs : List ℕ) → Sound h xs → InOrder (stat
 unfolding state_of received_in
 received-sound h xs sound o =
     sound-in (limits_of h.limits) 2 2 h.live.received 3 40 h.live.received_rows xs (lit< tt) (omega (arith, sound.fit)) (lit< tt) (omega (arith, sound.fit)) nothing_of sound.laid.received o
+
+pub received-stands : (h : Head) (xs : List ℕ) → Sound h xs → StandsIn (received_cache h) xs (state_of h xs).received
+received-stands h xs s = record { lies = received-lies h xs s.fit; value = as_value nothing_of; same = received_as h xs s.fit; sound = received-sound h xs s }
 
 -- other rows in the two tables
 module _ (h : Head) (xs ys : List ℕ) (sound : Sound h xs) (n' m' k g : ℕ) where

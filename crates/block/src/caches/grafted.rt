@@ -1,9 +1,5 @@
 // `grafted`: an entry is a place, first, kept, and the grafted peers with their rounds; a row is a time and an identifier.
 ghost use Rattle.std.specs.Prelude.{◌≡◌, ◌≤◌, ◌<◌, length};
-ghost use Rattle.storage.specs.Lists.Map.{keys};
-ghost use Rattle.storage.specs.Rows.Ident.{id_of};
-ghost use Rattle.storage.specs.Rows.Sorted.{FoundIs};
-ghost use Rattle.time_cache.specs.TimeCache.{later_cache};
 ghost use Rattle.block.specs.View.{state_of};
 ghost use Rattle.block.specs.Sound.{Sound};
 ghost use Rattle.block.specs.Goes.{Goes};
@@ -12,10 +8,11 @@ ghost use Rattle.block.specs.Caches.GraftSteps.{grafts_at, GraftIs, first_at, ke
 
 use crate::head::Head;
 use crate::hops::Hop;
-use crate::{head, hops, time_caches};
+use crate::time_caches::PanelCache;
+use crate::{head, hops};
 use postcard::units::{Millis, Round};
-use storage::rows::id::Id;
 use storage::rows::word;
+use time_cache::cache::{Table, TimeBoundCache};
 
 // How many bytes an entry has, and where its parts stand: a flag and behind it the peer and the round of `first`, a flag and behind it the peer of `kept`,
 // and the list of the grafted peers.
@@ -36,12 +33,33 @@ pub const PEERS: usize = 22;
 // How many bytes an expiry row has.
 pub const ROW_WIDTH: usize = 40;
 
-// Where an identifier stands among the grafted messages, or before which it would stand.
-pub fn find_grafted(head: Head, block: &[u8], id: Id) -> Result<usize, usize>
-    requires { Sound head block.now × InOrder (state_of head block.now).grafted }
-    ensures { FoundIs (keys (state_of head block.now).grafted.entries) (id_of id) result }
-{
-    time_caches::grafted_cache(head).find(block, id)
+// The grafted messages.
+pub struct GraftedMessages;
+
+impl PanelCache for GraftedMessages {
+    ghost use Rattle.protocol.specs.State.{State, Grafts};
+    ghost use Rattle.block.specs.TimeCaches.{grafted_cache};
+
+    ghost Value = { Grafts };
+
+    ghost of = { λ (s : State). s.grafted };
+
+    ghost located = { grafted_cache };
+
+    // Tables 7 and 8.
+    fn table(head: Head) -> TimeBoundCache {
+        let entries = Table {
+            at: head::grafted_at(head.limits),
+            stride: ENTRY_WIDTH,
+            len: head.live.grafted,
+        };
+        let expiry = Table {
+            at: head::grafted_rows_at(head.limits),
+            stride: ROW_WIDTH,
+            len: head.live.grafted_rows,
+        };
+        TimeBoundCache { entries, expiry }
+    }
 }
 
 // `expire_until` of the grafted messages.
@@ -49,7 +67,7 @@ pub fn expire_grafted(mut head: Head, block: &mut [u8], instant: Millis) -> Head
     requires { Sound head block.old × InOrder (state_of head block.old).grafted }
     ensures { Goes (grafted_left instant.0) head block.old result block.new }
 {
-    let expired = time_caches::grafted_cache(head).expire_until(block, instant);
+    let expired = GraftedMessages::table(head).expire_until(block, instant);
     head.live.grafted = expired.cache.entries.len;
     head.live.grafted_rows = expired.cache.expiry.len;
     head
@@ -92,20 +110,4 @@ pub fn set_kept(head: Head, block: &mut [u8], i: usize, peer: u64)
     let at = head::grafted_at(head.limits) + ENTRY_WIDTH * i;
     block[at + KEPT] = 1;
     word::store(block, at + KEPT_PEER, peer);
-}
-
-// How many of the grafted messages `expire_until` leaves.
-pub fn grafted_later(head: Head, block: &[u8], instant: Millis) -> usize
-    requires { Sound head block.now × InOrder (state_of head block.now).grafted }
-    ensures { result ≡ length (later_cache instant.0 (state_of head block.now).grafted).entries }
-{
-    time_caches::grafted_cache(head).entries_later(block, instant)
-}
-
-// How many expiry entries of the grafted messages `expire_until` leaves.
-pub fn grafted_rows_later(head: Head, block: &[u8], instant: Millis) -> usize
-    requires { Sound head block.now × InOrder (state_of head block.now).grafted }
-    ensures { result ≡ length (later_cache instant.0 (state_of head block.now).grafted).expiry }
-{
-    time_caches::grafted_cache(head).rows_later(block, instant)
 }

@@ -1,7 +1,7 @@
 -- What a first event's eviction leaves of a time cache, found in the cache as it stands.
 -- Assumes nothing.
 use Prim.Native.Nat.{ℕ, ◌*◌, ◌≤◌, ◌<◌}
-use mathlib.Core.Path.{◌≡◌, refl, sym, ap, ◌∙◌, subst}
+use mathlib.Core.Path.{◌≡◌, refl, sym, ap, ◌∙◌}
 use mathlib.Core.Bool.{Bool, true, false}
 use mathlib.Core.List.{List, [], map}
 use native.Mathlib.Omega.{arith}
@@ -19,20 +19,18 @@ use Rattle.time_cache.specs.Steps.{ref_at, held_at, GotAt}
 use Rattle.time_cache.specs.declared.cache.TimeBoundCache.{TimeBoundCache}
 use Rattle.time_cache.proofs.ReadLaws.{length-es}
 use Rattle.time_cache.proofs.ValueLaws.{option_as, get-as, later-as}
-use Rattle.protocol.specs.State.{State, Limits, Cached, Grafts}
+use Rattle.protocol.specs.State.{State, Limits}
 use Rattle.block.specs.Layout.{sizes, table}
-use Rattle.block.specs.View.{state_of, limits_of, cached_of, cached_in, grafts_of}
+use Rattle.block.specs.View.{state_of, limits_of, cached_of, cached_in}
 use Rattle.block.specs.Fit.{Fit}
 use Rattle.block.specs.declared.head.Head.{Head}
-use Rattle.block.specs.TimeCaches.{cache_from, cached_cache, grafted_cache}
-use Rattle.block.proofs.CachesLaws.CacheLaws.{as_value, refs-in, rows_in}
-use Rattle.block.proofs.CachesLaws.CachedLaws.{cached-as}
-use Rattle.block.proofs.CachesLaws.GraftedLaws.{peers_of, grafted-as}
+use Rattle.block.specs.TimeCaches.{cache_from, cached_cache}
+use Rattle.block.proofs.CachesLaws.CacheLaws.{refs-in, rows_in}
 use Rattle.decide.specs.Settled.{alive_value, settled}
 use Rattle.decide.proofs.SettledLaws.{get-later}
 use Rattle.steps.specs.Shared.{HeldAt, EntryIs}
 use Rattle.std.specs.Prelude.{Option as Answer, Some, None}
-use Rattle.steps.specs.Settled.Then.{no_held, no_cached, no_grafts, left_then}
+use Rattle.steps.specs.Settled.Then.{no_held, no_cached, left_then}
 
 -- the settled state, where `init` is set and where it is not
 module _ (now : ℕ) (s : State) where
@@ -40,26 +38,24 @@ module _ (now : ℕ) (s : State) where
   unfolding settled
   settled-still e = rw e refl
 
-  pub settled-received-later : s.init ≡ false → (settled now s).received ≡ later_cache now s.received
-  unfolding settled
-  settled-received-later e = rw e refl
-
-  pub settled-cache-later : s.init ≡ false → (settled now s).cache ≡ later_cache now s.cache
-  unfolding settled
-  settled-cache-later e = rw e refl
-
-  pub settled-cache : (settled now s).cache ≡ (if s.init then s.cache else later_cache now s.cache)
-  unfolding settled
-  settled-cache = if-on (λ (x : State). x.cache) s.init _ _
-
-  pub settled-grafted : (settled now s).grafted ≡ (if s.init then s.grafted else later_cache now s.grafted)
-  unfolding settled
-  settled-grafted = if-on (λ (x : State). x.grafted) s.init _ _
-
 -- the flag of the state is the header's
 pub init-of : (h : Head) (xs : List ℕ) → (state_of h xs).init ≡ h.live.init
 unfolding state_of
 init-of h xs = refl
+
+-- the time caches of the settled state
+module _ (now : ℕ) (h : Head) (xs : List ℕ) where
+  pub settled-received : (settled now (state_of h xs)).received ≡ left_then h.live.init now (state_of h xs).received
+  unfolding settled state_of
+  settled-received = if-on (λ (x : State). x.received) h.live.init _ _
+
+  pub settled-cache : (settled now (state_of h xs)).cache ≡ left_then h.live.init now (state_of h xs).cache
+  unfolding settled state_of
+  settled-cache = if-on (λ (x : State). x.cache) h.live.init _ _
+
+  pub settled-grafted : (settled now (state_of h xs)).grafted ≡ left_then h.live.init now (state_of h xs).grafted
+  unfolding settled state_of
+  settled-grafted = if-on (λ (x : State). x.grafted) h.live.init _ _
 
 -- what is found of a key among the entries of a block
 module _ (c : TimeBoundCache) (xs : List ℕ) (sound : Sound c xs) (init : Bool) (now id : ℕ) where
@@ -145,17 +141,3 @@ module _ (h : Head) (xs : List ℕ) (fit : Fit h xs) (k : ℕ) where
   pub cached-time : k < h.live.cached → (row_at (rows_at (cached_cache h) xs) (ref_at (refs_at (cached_cache h) xs) k).place).time ≡ (get_or (state_of h xs).cache.entries k no_cached).value.expires
   unfolding state_of cached_in
   cached-time q = time-in (limits_of h.limits) 4 4 h.live.cached 5 48 h.live.cached_rows xs (lit< tt) (omega arith) (lit< tt) (omega arith) (cached_of (table (limits_of h.limits) 6 xs)) k no_cached q
-
--- what is found of the cached and the grafted messages, in the settled state
-module _ (h : Head) (xs : List ℕ) (fit : Fit h xs) (now id : ℕ) (r : Answer ℕ) where
-  pub cached-held : EntryIs no_held (cache_at (cached_cache h) xs).entries id (get id (left_then h.live.init now (cache_at (cached_cache h) xs))) r
-      → EntryIs no_cached (state_of h xs).cache.entries id (get id (settled now (state_of h xs)).cache) r
-  cached-held e =
-      subst (λ (c : Cache Cached). EntryIs no_cached (state_of h xs).cache.entries id (get id c) r) (sym (settled-cache now (state_of h xs) ∙ ap (λ (b : Bool). left_then b now (state_of h xs).cache) (init-of h xs)))
-      (held-as (as_value (cached_of (table (limits_of h.limits) 6 xs))) (cache_at (cached_cache h) xs) (state_of h xs).cache (cached-as h xs fit) h.live.init now id no_held no_cached r e)
-
-  pub grafted-held : EntryIs no_held (cache_at (grafted_cache h) xs).entries id (get id (left_then h.live.init now (cache_at (grafted_cache h) xs))) r
-      → EntryIs no_grafts (state_of h xs).grafted.entries id (get id (settled now (state_of h xs)).grafted) r
-  grafted-held e =
-      subst (λ (c : Cache Grafts). EntryIs no_grafts (state_of h xs).grafted.entries id (get id c) r) (sym (settled-grafted now (state_of h xs) ∙ ap (λ (b : Bool). left_then b now (state_of h xs).grafted) (init-of h xs)))
-      (held-as (as_value (grafts_of (peers_of h xs))) (cache_at (grafted_cache h) xs) (state_of h xs).grafted (grafted-as h xs fit) h.live.init now id no_held no_grafts r e)

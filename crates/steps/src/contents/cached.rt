@@ -16,8 +16,10 @@ ghost use Rattle.steps.specs.Contents.CacheSteps.{cached_left, cached_also, cach
 
 use crate::message_cache::CachedMessage;
 use block::caches::cached;
+use block::caches::cached::MessageCache;
+use block::head;
 use block::head::Head;
-use block::{head, time_caches};
+use block::time_caches::PanelCache;
 use postcard::units::{Millis, Round};
 use storage::rows::id::Id;
 use storage::rows::{bytes, table, word};
@@ -82,7 +84,7 @@ pub fn expire_cached(mut head: Head, block: &mut [u8], instant: Millis) -> Head
     requires { Sound head block.old × InOrder (state_of head block.old).cache }
     ensures { Goes (cached_left instant.0) head block.old result block.new }
 {
-    let expired = time_caches::cached_cache(head).expire_until(block, instant);
+    let expired = MessageCache::table(head).expire_until(block, instant);
     head.live.cached = expired.cache.entries.len;
     head.live.cached_rows = expired.cache.expiry.len;
     close_contents(head, block)
@@ -133,9 +135,9 @@ fn set_content(head: Head, block: &mut [u8], id: Id, content: &[u8]) -> Head
     requires { Sound head block.old × InOrder (state_of head block.old).cache × (held (refill (id_of id) content.now (state_of head block.old).cache).entries ≤ head.limits.content) }
     ensures { Goes (refilled (id_of id) content.now) head block.old result block.new }
 {
-    match cached::find_cached(head, block, id) {
+    match MessageCache::find(head, block, id) {
         Ok(i) => {
-            let place = time_caches::cached_cache(head).place(block, i);
+            let place = MessageCache::table(head).place(block, i);
             resize_row(head, block, place, content)
         }
         Err(_) => head,
@@ -159,7 +161,7 @@ fn insert_empty(mut head: Head, block: &mut [u8], id: Id, round: Round, expires:
     requires { Sound head block.old × InOrder (state_of head block.old).cache × AtMost head.limits.cached (put_in (id_of id) (message [] round.0) expires.0 (state_of head block.old).cache) × (held (put_in (id_of id) (message [] round.0) expires.0 (state_of head block.old).cache).entries ≡ head.live.contents) }
     ensures { Goes (cached_also (id_of id) [] round.0 expires.0) head block.old result block.new }
 {
-    let inserted = time_caches::cached_cache(head).insert(block, id, expires);
+    let inserted = MessageCache::table(head).insert(block, id, expires);
     head.live.cached = inserted.cache.entries.len;
     head.live.cached_rows = inserted.cache.expiry.len;
     let start = start_of(head, block, inserted.row + 1);

@@ -17,10 +17,11 @@ ghost use Rattle.steps.specs.Grafts.NoteSteps.{inserted_hop, peers_to, peers_wit
 
 use crate::grafts::reads;
 use block::caches::grafted;
-use block::caches::grafted::{ENTRY_WIDTH, FIRST, PEERS};
+use block::caches::grafted::{ENTRY_WIDTH, FIRST, GraftedMessages, PEERS};
 use block::head::Head;
 use block::hops::{Hop, Hops};
-use block::{head, hops, time_caches};
+use block::time_caches::PanelCache;
+use block::{head, hops};
 use postcard::units::Millis;
 use storage::rows::id::Id;
 use storage::rows::{table, word};
@@ -91,7 +92,7 @@ fn enter_graft(mut head: Head, block: &mut [u8], id: Id, expires: Millis) -> Ent
     requires { Sound head block.old × InOrder (state_of head block.old).grafted × AtMost head.limits.grafted (put_in (id_of id) no_grafts expires.0 (state_of head block.old).grafted) }
     ensures { Enters (id_of id) expires.0 head block.old result block.new }
 {
-    let inserted = time_caches::grafted_cache(head).insert(block, id, expires);
+    let inserted = GraftedMessages::table(head).insert(block, id, expires);
     let at = head::grafted_at(head.limits) + ENTRY_WIDTH * inserted.entry + FIRST;
     word::store_le(block, at, PEERS + 1 - FIRST, 0);
     head.live.grafted = inserted.cache.entries.len;
@@ -119,7 +120,7 @@ pub fn note_graft(head: Head, block: &mut [u8], id: Id, hop: Hop, expires: Milli
     requires { Grafting head block.old × (hop.link < head.live.links) × AtMost head.limits.grafted (graft_noted (id_of id) hop.link hop.round.0 expires.0 (state_of head block.old)).grafted }
     ensures { Goes (graft_noted (id_of id) hop.link hop.round.0 expires.0) head block.old result block.new }
 {
-    match grafted::find_grafted(head, block, id) {
+    match GraftedMessages::find(head, block, id) {
         Ok(i) => {
             graft_at_entry(head, block, i, hop);
             head

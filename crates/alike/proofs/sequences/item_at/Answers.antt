@@ -68,24 +68,24 @@ there s q e = subst (There s.args.head s.args.block.now s.args.j) e s.requires.2
 pub row_item-requires : goal.row_item-requires
 row_item-requires c =
     let a = c.args in
-    subst (RowAsks a.block.now a.j) (sym c.received_cache.ensures) (received-row-asks a.head a.block.now c.requires.0.fit a.j (there (goal.at.row_item-requires c).Start ReceivedExpiry c.in-ReceivedExpiry.is))
+    subst (RowAsks a.block.now a.j) (sym c.table.ensures.at) (received-row-asks a.head a.block.now c.requires.0.fit a.j (there (goal.at.row_item-requires c).Start ReceivedExpiry c.in-ReceivedExpiry.is))
 
 pub row_item-requires-in-GraftedExpiry : goal.row_item-requires-in-GraftedExpiry
 row_item-requires-in-GraftedExpiry c =
     let a = c.args in
-    subst (RowAsks a.block.now a.j) (sym c.grafted_cache.ensures) (grafted-row-asks a.head a.block.now c.requires.0.fit a.j (there (goal.at.row_item-requires-in-GraftedExpiry c).Start GraftedExpiry c.in-GraftedExpiry.is))
+    subst (RowAsks a.block.now a.j) (sym c.table-in-GraftedExpiry.ensures.at) (grafted-row-asks a.head a.block.now c.requires.0.fit a.j (there (goal.at.row_item-requires-in-GraftedExpiry c).Start GraftedExpiry c.in-GraftedExpiry.is))
 
 pub row_item-requires-in-CachedExpiry : goal.row_item-requires-in-CachedExpiry
 row_item-requires-in-CachedExpiry c =
     let a = c.args in
-    subst (RowAsks a.block.now a.j) (sym c.cached_cache.ensures) (cached-row-asks a.head a.block.now c.requires.0.fit a.j (there (goal.at.row_item-requires-in-CachedExpiry c).Start CachedExpiry c.in-CachedExpiry.is))
+    subst (RowAsks a.block.now a.j) (sym c.table-in-CachedExpiry.ensures.at) (cached-row-asks a.head a.block.now c.requires.0.fit a.j (there (goal.at.row_item-requires-in-CachedExpiry c).Start CachedExpiry c.in-CachedExpiry.is))
 
 pub returns-in-ReceivedExpiry : goal.returns-in-ReceivedExpiry
 returns-in-ReceivedExpiry c =
     let a = c.args in
     let told = c.in-ReceivedExpiry.is in
     c.row_item.ensures
-    ∙ ap (row_of a.block.now a.j) c.received_cache.ensures
+    ∙ ap (row_of a.block.now a.j) c.table.ensures.at
     ∙ sym (ap (item_of a.head a.block.now a.j) told ∙ received-row a.head a.block.now c.requires.0.fit a.j (there (goal.at.returns-in-ReceivedExpiry c).Start ReceivedExpiry told))
 
 pub returns-in-GraftedExpiry : goal.returns-in-GraftedExpiry
@@ -93,7 +93,7 @@ returns-in-GraftedExpiry c =
     let a = c.args in
     let told = c.in-GraftedExpiry.is in
     c.row_item-in-GraftedExpiry.ensures
-    ∙ ap (row_of a.block.now a.j) c.grafted_cache.ensures
+    ∙ ap (row_of a.block.now a.j) c.table-in-GraftedExpiry.ensures.at
     ∙ sym (ap (item_of a.head a.block.now a.j) told ∙ grafted-row a.head a.block.now c.requires.0.fit a.j (there (goal.at.returns-in-GraftedExpiry c).Start GraftedExpiry told))
 
 pub returns-in-CachedExpiry : goal.returns-in-CachedExpiry
@@ -101,5 +101,5 @@ returns-in-CachedExpiry c =
     let a = c.args in
     let told = c.in-CachedExpiry.is in
     c.row_item-in-CachedExpiry.ensures
-    ∙ ap (row_of a.block.now a.j) c.cached_cache.ensures
+    ∙ ap (row_of a.block.now a.j) c.table-in-CachedExpiry.ensures.at
     ∙ sym (ap (item_of a.head a.block.now a.j) told ∙ cached-row a.head a.block.now c.requires.0.fit a.j (there (goal.at.returns-in-CachedExpiry c).Start CachedExpiry told))

@@ -46,13 +46,13 @@ module _ (d : After-same_key) where
   key-told : d.same_key.result ≡ same_element (key_of p) (key_of q)
   key-told =
       let a = s.args in
-      let x = ap (λ (t : TimeBoundCache). key_at t a.a.now a.i) d.cached_cache.ensures ∙ cached-key a.ha a.a.now s.requires.0 a.i s.requires.1 in
-      let y = ap (λ (t : TimeBoundCache). key_at t a.b.now a.i) d.cached_cache-2.ensures ∙ cached-key a.hb a.b.now s.requires.2 a.i s.requires.3 in
+      let x = ap (λ (t : TimeBoundCache). key_at t a.a.now a.i) d.table.ensures.at ∙ cached-key a.ha a.a.now s.requires.0 a.i s.requires.1 in
+      let y = ap (λ (t : TimeBoundCache). key_at t a.b.now a.i) d.table-2.ensures.at ∙ cached-key a.hb a.b.now s.requires.2 a.i s.requires.3 in
       d.same_key.ensures ∙ (λ k. same_element (x k) (y k))
 
 pub same_key-requires : goal.same_key-requires
 same_key-requires c =
-    let a = c.args in record { lies = subst (λ (t : TimeBoundCache). Asks t a.a.now a.i) (sym c.cached_cache.ensures) (cached-asks a.ha a.a.now c.requires.0 a.i c.requires.1); lies_2 = subst (λ (t : TimeBoundCache). Asks t a.b.now a.i) (sym c.cached_cache-2.ensures) (cached-asks a.hb a.b.now c.requires.2 a.i c.requires.3) }
+    let a = c.args in record { lies = subst (λ (t : TimeBoundCache). Asks t a.a.now a.i) (sym c.table.ensures.at) (cached-asks a.ha a.a.now c.requires.0 a.i c.requires.1); lies_2 = subst (λ (t : TimeBoundCache). Asks t a.b.now a.i) (sym c.table-2.ensures.at) (cached-asks a.hb a.b.now c.requires.2 a.i c.requires.3) }
 
 pub returns-then-not-same_key : goal.returns-then-not-same_key
 returns-then-not-same_key c =

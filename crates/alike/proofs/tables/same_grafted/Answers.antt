@@ -46,8 +46,8 @@ module _ (d : Joined-same_sender) where
   key-told : d.same_key.result ≡ E
   key-told =
       let a = d.args in
-      let x = ap (λ (t : TimeBoundCache). key_at t a.a.now a.i) d.grafted_cache.ensures ∙ grafted-key a.ha a.a.now d.requires.0 a.i d.requires.1 in
-      let y = ap (λ (t : TimeBoundCache). key_at t a.b.now a.i) d.grafted_cache-2.ensures ∙ grafted-key a.hb a.b.now d.requires.2 a.i d.requires.3 in
+      let x = ap (λ (t : TimeBoundCache). key_at t a.a.now a.i) d.table.ensures.at ∙ grafted-key a.ha a.a.now d.requires.0 a.i d.requires.1 in
+      let y = ap (λ (t : TimeBoundCache). key_at t a.b.now a.i) d.table-2.ensures.at ∙ grafted-key a.hb a.b.now d.requires.2 a.i d.requires.3 in
       d.same_key.ensures ∙ (λ k. same_element (x k) (y k))
 
   two-told : d.if-same_key.value ≡ (E && F)
@@ -80,7 +80,7 @@ module _ (d : Joined-same_sender) where
 
 pub same_key-requires : goal.same_key-requires
 same_key-requires c =
-    let a = c.args in record { lies = subst (λ (t : TimeBoundCache). Asks t a.a.now a.i) (sym c.grafted_cache.ensures) (grafted-asks a.ha a.a.now c.requires.0 a.i c.requires.1); lies_2 = subst (λ (t : TimeBoundCache). Asks t a.b.now a.i) (sym c.grafted_cache-2.ensures) (grafted-asks a.hb a.b.now c.requires.2 a.i c.requires.3) }
+    let a = c.args in record { lies = subst (λ (t : TimeBoundCache). Asks t a.a.now a.i) (sym c.table.ensures.at) (grafted-asks a.ha a.a.now c.requires.0 a.i c.requires.1); lies_2 = subst (λ (t : TimeBoundCache). Asks t a.b.now a.i) (sym c.table-2.ensures.at) (grafted-asks a.hb a.b.now c.requires.2 a.i c.requires.3) }
 
 pub returns-then-same_sender-2 : goal.returns-then-same_sender-2
 returns-then-same_sender-2 c =

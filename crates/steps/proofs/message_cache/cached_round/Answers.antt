@@ -12,7 +12,7 @@ use Rattle.steps.proofs.message_cache.cached_round.Goals as goal
 use Rattle.steps.proofs.message_cache.cached_round.Goals.{In-Ok}
 
 here : (c : In-Ok) → Here (keys (shown c.args.view.now).cache.entries) (id_of c.args.id) c.in-Ok.i
-here c = subst (λ (x : Result ℕ ℕ). FoundIs (keys (shown c.args.view.now).cache.entries) (id_of c.args.id) x) c.in-Ok.is c.find_cached.ensures
+here c = subst (λ (x : Result ℕ ℕ). FoundIs (keys (shown c.args.view.now).cache.entries) (id_of c.args.id) x) c.in-Ok.is c.find.ensures
 
 pub cached_round-requires : goal.cached_round-requires
 cached_round-requires c =
@@ -26,4 +26,4 @@ returns-in-Ok c =
 pub returns-in-Err : goal.returns-in-Err
 returns-in-Err c =
     round-between (id_of c.args.id) (shown c.args.view.now) _
-    (subst (λ (x : Result ℕ ℕ). FoundIs (keys (shown c.args.view.now).cache.entries) (id_of c.args.id) x) c.in-Err.is c.find_cached.ensures)
+    (subst (λ (x : Result ℕ ℕ). FoundIs (keys (shown c.args.view.now).cache.entries) (id_of c.args.id) x) c.in-Err.is c.find.ensures)

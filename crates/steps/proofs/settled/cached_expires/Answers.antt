@@ -16,7 +16,7 @@ expires-requires c =
     let h = c.args.head in
     let xs = c.args.block.now in
     let g = c.requires.0 in
-    let e = c.cached_cache-cache.ensures in
+    let e = c.table-cache.ensures.at in
     subst (λ (t : TimeBoundCache). Lies t xs × (c.place.result < t.expiry.len)) (sym e) (
       cached-lies h xs g.sound.fit,
       omega (arith, c.place.ensures ∙ ap (λ (t : TimeBoundCache). (ref_at (refs_at t xs) c.args.i).place) e, place-below (cached_cache h) xs (cached-sound h xs g.sound (cached-order h xs g)) c.args.i c.requires.1),
@@ -26,8 +26,8 @@ pub returns : goal.returns
 returns c =
     let h = c.args.head in
     let xs = c.args.block.now in
-    let e = c.cached_cache-cache.ensures in
+    let e = c.table-cache.ensures.at in
     c.expires.ensures
-    ∙ ap (λ (p : ℕ). (row_at (rows_at c.cached_cache-cache.result xs) p).time) c.place.ensures
+    ∙ ap (λ (p : ℕ). (row_at (rows_at c.table-cache.result xs) p).time) c.place.ensures
     ∙ ap (λ (t : TimeBoundCache). (row_at (rows_at t xs) (ref_at (refs_at t xs) c.args.i).place).time) e
     ∙ cached-time h xs c.requires.0.sound.fit c.args.i c.requires.1

@@ -8,5 +8,5 @@ use Rattle.steps.proofs.settled.later_sizes.Goals as goal
 pub returns : goal.returns
 returns c =
     let a = c.args in
-    sizes-later c.args.instant.0 c.args.head c.args.block.now c.requires.sound _ refl c.received_later-received.ensures c.received_rows_later-received_rows.ensures c.cached_later-cached.ensures c.cached_rows_later-cached_rows.ensures c.contents_later-contents.ensures c.grafted_later-grafted.ensures c.grafted_rows_later-grafted_rows.ensures refl refl refl refl
+    sizes-later c.args.instant.0 c.args.head c.args.block.now c.requires.sound _ refl c.entries_later-received.ensures c.rows_later-received_rows.ensures c.entries_later-cached.ensures c.rows_later-cached_rows.ensures c.contents_later-contents.ensures c.entries_later-grafted.ensures c.rows_later-grafted_rows.ensures refl refl refl refl
     ∙ sym (evict-lengths a.instant.0 (state_of a.head a.block.now) c.requires.consistent.core)

@@ -21,4 +21,4 @@ told h xs fit = cache-sound (limits_of h.limits) xs (grafts_of (keys (state_of h
 
 pub returns : goal.returns
 returns c =
-    c.is_sound.ensures ∙ ap (λ (t : TimeBoundCache). sound t c.args.block.now) c.grafted_cache.ensures ∙ told c.args.head c.args.block.now c.requires
+    c.is_sound.ensures ∙ ap (λ (t : TimeBoundCache). sound t c.args.block.now) c.table.ensures.at ∙ told c.args.head c.args.block.now c.requires

@@ -20,4 +20,4 @@ told h xs fit = cache-sound (limits_of h.limits) xs nothing_of 2 2 h.live.receiv
 
 pub returns : goal.returns
 returns c =
-    c.is_sound.ensures ∙ ap (λ (t : TimeBoundCache). sound t c.args.block.now) c.received_cache.ensures ∙ told c.args.head c.args.block.now c.requires
+    c.is_sound.ensures ∙ ap (λ (t : TimeBoundCache). sound t c.args.block.now) c.table.ensures.at ∙ told c.args.head c.args.block.now c.requires

@@ -16,7 +16,7 @@ module _ (d : After-cached_rows_at) where
   s = (goal.at.After-cached_rows_at d).Start
 
   names : d.place-place.result ≡ (ref_at (refs_at (cached_cache s.args.head) s.args.block.now) s.args.i).place
-  names = d.place-place.ensures ∙ ap (λ (t : TimeBoundCache). (ref_at (refs_at t s.args.block.now) s.args.i).place) d.cached_cache.ensures
+  names = d.place-place.ensures ∙ ap (λ (t : TimeBoundCache). (ref_at (refs_at t s.args.block.now) s.args.i).place) d.table.ensures.at
 
   low : d.place-place.result < s.args.head.live.cached_rows
   low = omega (arith, names, place-below s.args.head s.args.block.now s.requires.0 s.args.i s.requires.1)

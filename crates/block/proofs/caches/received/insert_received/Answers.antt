@@ -11,11 +11,11 @@ pub insert-inserted-requires : goal.insert-inserted-requires
 insert-inserted-requires c =
     let h = c.args.head in
     let xs = c.args.block.now in
-    subst (λ (t : TimeBoundCache). FitsOneMore t xs × Sound t xs) (sym c.received_cache.ensures) (received-room h xs c.requires.0.fit, received-sound h xs c.requires.0 c.requires.1)
+    subst (λ (t : TimeBoundCache). FitsOneMore t xs × Sound t xs) (sym c.table.ensures.at) (received-room h xs c.requires.0.fit, received-sound h xs c.requires.0 c.requires.1)
 
 pub returns : goal.returns
 returns c =
     let h = c.args.head in
     let xs = c.args.block.now in
     received-inserted h xs c.insert-inserted.new.block (id_of c.args.id) c.args.expires.0 c.insert-inserted.result c.requires.0 c.insert-inserted.auto.block c.requires.2
-    (subst (λ (t : TimeBoundCache). Inserts t (id_of c.args.id) c.args.expires.0 xs c.insert-inserted.result c.insert-inserted.new.block) c.received_cache.ensures c.insert-inserted.ensures)
+    (subst (λ (t : TimeBoundCache). Inserts t (id_of c.args.id) c.args.expires.0 xs c.insert-inserted.result c.insert-inserted.new.block) c.table.ensures.at c.insert-inserted.ensures)

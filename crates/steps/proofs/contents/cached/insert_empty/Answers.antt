@@ -18,7 +18,7 @@ module _ (d : After-insert-inserted) where
   s = (goal.at.After-insert-inserted d).Start
 
   inserts : Inserts (cached_cache s.args.head) (id_of s.args.id) s.args.expires.0 s.args.block.now d.insert-inserted.result d.insert-inserted.new.block
-  inserts = subst (λ (z : TimeBoundCache). Inserts z (id_of s.args.id) s.args.expires.0 s.args.block.now d.insert-inserted.result d.insert-inserted.new.block) d.cached_cache.ensures d.insert-inserted.ensures
+  inserts = subst (λ (z : TimeBoundCache). Inserts z (id_of s.args.id) s.args.expires.0 s.args.block.now d.insert-inserted.result d.insert-inserted.new.block) d.table.ensures.at d.insert-inserted.ensures
 
   low : d.insert-inserted.result.row < d.insert-inserted.result.cache.expiry.len
   low = row_in s.args.head s.args.block.now s.requires.0 (id_of s.args.id) s.args.round.0 s.args.expires.0 d.insert-inserted.result d.insert-inserted.new.block d.insert-inserted.auto.block inserts s.requires.2
@@ -27,7 +27,7 @@ pub insert-inserted-requires : goal.insert-inserted-requires
 insert-inserted-requires c =
     let h = c.args.head in
     let xs = c.args.block.now in
-    subst (λ (z : TimeBoundCache). FitsOneMore z xs × Sound z xs) (sym c.cached_cache.ensures) (cached-room h xs c.requires.0.fit, cached-sound h xs c.requires.0 c.requires.1)
+    subst (λ (z : TimeBoundCache). FitsOneMore z xs × Sound z xs) (sym c.table.ensures.at) (cached-room h xs c.requires.0.fit, cached-sound h xs c.requires.0 c.requires.1)
 
 pub start_of-start-requires : goal.start_of-start-requires
 start_of-start-requires c =

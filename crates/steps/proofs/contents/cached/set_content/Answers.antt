@@ -25,7 +25,7 @@ module _ (c : In-Ok) where
   s = (goal.at.In-Ok c).Start
 
   here : Here (keys (state_of s.args.head s.args.block.now).cache.entries) (id_of s.args.id) c.in-Ok.i
-  here = subst (λ (x : Result ℕ ℕ). FoundIs (keys (state_of s.args.head s.args.block.now).cache.entries) (id_of s.args.id) x) c.in-Ok.is c.find_cached.ensures
+  here = subst (λ (x : Result ℕ ℕ). FoundIs (keys (state_of s.args.head s.args.block.now).cache.entries) (id_of s.args.id) x) c.in-Ok.is c.find.ensures
 
 -- the row that it names
 module _ (c : After-place-place) where
@@ -36,13 +36,13 @@ module _ (c : After-place-place) where
   t = s f
 
   row : c.place-place.result ≡ (ref_at (refs_at (cached_cache t.args.head) t.args.block.now) f.in-Ok.i).place
-  row = c.place-place.ensures ∙ ap (λ (z : TimeBoundCache). (ref_at (refs_at z t.args.block.now) f.in-Ok.i).place) c.cached_cache.ensures
+  row = c.place-place.ensures ∙ ap (λ (z : TimeBoundCache). (ref_at (refs_at z t.args.block.now) f.in-Ok.i).place) c.table.ensures.at
 
 pub place-place-requires : goal.place-place-requires
 place-place-requires c =
     let t = s (goal.at.place-place-requires c).In-Ok in
     let a = t.args in
-    subst (λ (z : TimeBoundCache). Lies z a.block.now × (c.in-Ok.i < z.entries.len)) (sym c.cached_cache.ensures)
+    subst (λ (z : TimeBoundCache). Lies z a.block.now × (c.in-Ok.i < z.entries.len)) (sym c.table.ensures.at)
     (cached-lies a.head a.block.now t.requires.0.fit, entry-low a.head a.block.now a.content.now (id_of a.id) c.in-Ok.i t.requires.0 t.requires.1 (here (goal.at.place-place-requires c).In-Ok) t.requires.2)
 
 pub resize_row-requires : goal.resize_row-requires
@@ -71,4 +71,4 @@ pub returns-in-Err : goal.returns-in-Err
 returns-in-Err c =
     let a = c.args in
     refill-none a.head a.block.now a.content.now (id_of a.id) _ c.requires.0
-    (subst (λ (x : Result ℕ ℕ). FoundIs (keys (state_of a.head a.block.now).cache.entries) (id_of a.id) x) c.in-Err.is c.find_cached.ensures)
+    (subst (λ (x : Result ℕ ℕ). FoundIs (keys (state_of a.head a.block.now).cache.entries) (id_of a.id) x) c.in-Err.is c.find.ensures)

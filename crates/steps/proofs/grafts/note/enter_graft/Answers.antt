@@ -20,13 +20,13 @@ use Rattle.steps.proofs.grafts.note.enter_graft.Goals.{After-insert-inserted}
 -- what the insert left
 inserts : (d : After-insert-inserted) → Inserts (grafted_cache d.args.head) (id_of d.args.id) d.args.expires.0 d.args.block.now d.insert-inserted.result d.insert-inserted.new.block
 inserts d =
-    subst (λ (t : TimeBoundCache). Inserts t (id_of d.args.id) d.args.expires.0 d.args.block.now d.insert-inserted.result d.insert-inserted.new.block) d.grafted_cache.ensures d.insert-inserted.ensures
+    subst (λ (t : TimeBoundCache). Inserts t (id_of d.args.id) d.args.expires.0 d.args.block.now d.insert-inserted.result d.insert-inserted.new.block) d.table.ensures.at d.insert-inserted.ensures
 
 pub insert-inserted-requires : goal.insert-inserted-requires
 insert-inserted-requires c =
     let h = c.args.head in
     let xs = c.args.block.now in
-    subst (λ (t : TimeBoundCache). FitsOneMore t xs × Sound t xs) (sym c.grafted_cache.ensures) (grafted-room h xs c.requires.0.fit, grafted-sound h xs c.requires.0 c.requires.1)
+    subst (λ (t : TimeBoundCache). FitsOneMore t xs × Sound t xs) (sym c.table.ensures.at) (grafted-room h xs c.requires.0.fit, grafted-sound h xs c.requires.0 c.requires.1)
 
 pub returns : goal.returns
 returns c =

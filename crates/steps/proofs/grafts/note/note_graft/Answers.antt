@@ -28,7 +28,7 @@ id s = id_of s.args.id
 
 -- where the search found the identifier, or would have
 here : (c : In-Ok) → Here (ids (goal.at.In-Ok c).Start) (id (goal.at.In-Ok c).Start) c.in-Ok.i
-here c = subst (λ (x : Result ℕ ℕ). FoundIs (ids (goal.at.In-Ok c).Start) (id (goal.at.In-Ok c).Start) x) c.in-Ok.is c.find_grafted.ensures
+here c = subst (λ (x : Result ℕ ℕ). FoundIs (ids (goal.at.In-Ok c).Start) (id (goal.at.In-Ok c).Start) x) c.in-Ok.is c.find.ensures
 
 pub graft_at_entry-requires : goal.graft_at_entry-requires
 graft_at_entry-requires c =
@@ -40,7 +40,7 @@ graft_anew-requires c =
     let d = (goal.at.graft_anew-requires c).Start in
     let a = c.args in
     let st = state d in
-    let b = subst (λ (x : Result ℕ ℕ). FoundIs (ids d) (id_of a.id) x) c.in-Err.is c.find_grafted.ensures in
+    let b = subst (λ (x : Result ℕ ℕ). FoundIs (ids d) (id_of a.id) x) c.in-Err.is c.find.ensures in
     (c.requires.0.sound, c.requires.0.order, c.requires.1, new-most st (id_of a.id) a.hop.link a.hop.round.0 a.expires.0 _ b a.head.limits.grafted (up_of (ids d) c.requires.0.order.up) c.requires.2)
 
 pub returns-in-Ok : goal.returns-in-Ok
@@ -55,5 +55,5 @@ returns-in-Err c =
     let d = (goal.at.returns-in-Err c).Start in
     let a = c.args in
     let g = c.graft_anew.ensures in
-    let b = subst (λ (x : Result ℕ ℕ). FoundIs (ids d) (id_of a.id) x) c.in-Err.is c.find_grafted.ensures in
+    let b = subst (λ (x : Result ℕ ℕ). FoundIs (ids d) (id_of a.id) x) c.in-Err.is c.find.ensures in
     record { state = g.state ∙ noted-new (state d) (id_of a.id) a.hop.link a.hop.round.0 a.expires.0 _ b; sound = g.sound }

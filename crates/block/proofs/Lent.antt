@@ -6,36 +6,44 @@ use Prim.Native.Nat.{ℕ, ◌+◌, ◌-◌, ◌≤◌, ◌<◌}
 use native.Mathlib.Omega.{arith}
 use lib.ListN.{length, take, drop, get_or, set}
 use borrow.Rule.Slice.PartMut.{put_mid}
+use Rattle.std.specs.declared.ops.Range.{Range}
 use Rattle.storage.specs.Rows.Part.{part, put}
 use Rattle.storage.proofs.RowsLaws.Parts.{loan-put, put_all, length-put}
 use Rattle.protocol.specs.State.{Limits}
 use Rattle.block.specs.Cut.{total}
-use Rattle.block.specs.Layout.{sizes, place, tables, table}
+use Rattle.block.specs.Layout.{sizes, place, span, tables, table}
 use Rattle.block.proofs.Cut.{cut-part, within}
 use Rattle.block.proofs.Tables.{frame, length-table}
 
-module _ (l : Limits) (t a e : ℕ) (xs : List ℕ) (ht : t < 15) (ha : a ≡ place l t) (he : e ≡ place l t + get_or (sizes l) t 0) where
+-- the part of a list that a range names, and the list with another part there
+abbrev pub lent_at : Range ℕ → List ℕ → List ℕ
+lent_at r xs = take (r.end - r.start) (drop r.start xs)
+
+abbrev pub given_back : Range ℕ → List ℕ → List ℕ → List ℕ
+given_back r xs ys = put_mid r.start (r.end - r.start) xs ys
+
+module _ (l : Limits) (t : ℕ) (r : Range ℕ) (xs : List ℕ) (ht : t < 15) (hr : r ≡ span l t) where
   abbrev size : ℕ
   size = get_or (sizes l) t 0
 
-  wide : e - a ≡ size
+  wide : place l t + size - place l t ≡ size
   wide = omega arith
 
-  pub lent-table : take (e - a) (drop a xs) ≡ table l t xs
+  pub lent-table : lent_at r xs ≡ table l t xs
   unfolding part
-  lent-table = (λ k. take (wide k) (drop (ha k) xs)) ∙ sym (cut-part (sizes l) t xs ht)
+  lent-table = ap (λ (s : Range ℕ). lent_at s xs) hr ∙ ap (λ (n : ℕ). take n (drop (place l t) xs)) wide ∙ sym (cut-part (sizes l) t xs ht)
 
-  pub lent-room : total (sizes l) ≤ length xs → length (take (e - a) (drop a xs)) ≡ size
+  pub lent-room : total (sizes l) ≤ length xs → length (lent_at r xs) ≡ size
   lent-room long = ap length lent-table ∙ length-table l t xs ht long
 
-  module _ (ys : List ℕ) (long : total (sizes l) ≤ length xs) (g : length ys ≡ length (take (e - a) (drop a xs))) where
+  module _ (ys : List ℕ) (long : total (sizes l) ≤ length xs) (g : length ys ≡ length (lent_at r xs)) where
     pub lent-size : length ys ≡ size
     lent-size = g ∙ lent-room long
 
-    back : put_mid a (e - a) xs ys ≡ put (place l t) ys xs
-    back = (λ k. put_mid (ha k) (wide k) xs ys) ∙ loan-put (place l t) size ys xs lent-size
+    back : given_back r xs ys ≡ put (place l t) ys xs
+    back = ap (λ (s : Range ℕ). given_back s xs ys) hr ∙ ap (λ (n : ℕ). put_mid (place l t) n xs ys) wide ∙ loan-put (place l t) size ys xs lent-size
 
-    pub lent-frame : tables l (put_mid a (e - a) xs ys) ≡ set (tables l xs) t ys
+    pub lent-frame : tables l (given_back r xs ys) ≡ set (tables l xs) t ys
     lent-frame =
         let z : place l t ≡ place l t + 0 = omega arith in
         ap (tables l) back
@@ -43,5 +51,5 @@ module _ (l : Limits) (t a e : ℕ) (xs : List ℕ) (ht : t < 15) (ha : a ≡ pl
         ∙ frame l t 0 ys xs ht (omega (arith, lent-size)) long
         ∙ ap (set (tables l xs) t) (put_all ys (table l t xs) (lent-size ∙ sym (length-table l t xs ht long)))
 
-    pub lent-long : length (put_mid a (e - a) xs ys) ≡ length xs
+    pub lent-long : length (given_back r xs ys) ≡ length xs
     lent-long = ap length back ∙ length-put (place l t) ys xs (omega (arith, lent-size, within (sizes l) t 0 size ht (omega arith)))

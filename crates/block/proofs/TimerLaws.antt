@@ -2,50 +2,51 @@
 -- Assumes nothing.
 use mathlib.Core.Path.{◌≡◌, sym, ap, ◌∙◌, subst}
 use mathlib.Core.List.{List}
-use Prim.Native.Nat.{ℕ, ◌+◌, ◌-◌, ◌*◌, ◌≤◌}
+use Prim.Native.Nat.{ℕ, ◌+◌, ◌*◌, ◌≤◌}
 use native.Mathlib.Omega.{arith}
 use lib.Dec.{lit<}
-use lib.ListN.{length, take, drop}
-use borrow.Rule.Slice.PartMut.{put_mid}
+use lib.ListN.{length}
+use Rattle.std.specs.declared.ops.Range.{Range}
 use Rattle.storage.specs.Rows.Sorted.{key_of}
 use Rattle.storage.specs.Tables.Listed.{listed}
 use Rattle.storage.proofs.TablesLaws.Listed.{length-listed}
 use Rattle.protocol.specs.State.{State, Limits, with_graft_timers}
-use Rattle.block.specs.Layout.{place, table}
+use Rattle.block.specs.Layout.{span, table}
 use Rattle.block.specs.View.{state_of, view_of, limits_of, id_at, timers_in}
 use Rattle.block.specs.Fit.{Fit}
 use Rattle.block.specs.Sound.{Laid, Sound}
 use Rattle.block.specs.Goes.{Goes}
 use Rattle.block.specs.Heads.{with_timer_count}
 use Rattle.block.specs.declared.head.Head.{Head}
-use Rattle.block.proofs.Lent.{lent-table, lent-room, lent-frame, lent-long}
+use Rattle.block.proofs.Lent.{lent_at, given_back, lent-table, lent-room, lent-frame, lent-long}
 
 pub count-timers : (h : Head) (xs : List ℕ) → length (state_of h xs).timers.graft ≡ h.live.timers
 unfolding state_of timers_in
 count-timers h xs = length-listed (id_at 0) 32 h.live.timers (table (limits_of h.limits) 10 xs)
 
-module _ (h : Head) (xs : List ℕ) (a e : ℕ) (ha : a ≡ place (limits_of h.limits) 10) (he : e ≡ place (limits_of h.limits) 11) where
+-- the table that is lent
+module _ (h : Head) (xs : List ℕ) (r : Range ℕ) (hr : r ≡ span (limits_of h.limits) 10) where
   abbrev l : Limits
   l = limits_of h.limits
 
-  pub timers-lent : listed 32 key_of h.live.timers (take (e - a) (drop a xs)) ≡ (state_of h xs).timers.graft
+  pub timers-lent : listed 32 key_of h.live.timers (lent_at r xs) ≡ (state_of h xs).timers.graft
   unfolding state_of timers_in key_of id_at
-  timers-lent = ap (listed 32 key_of h.live.timers) (lent-table l 10 a e xs (lit< tt) ha (omega arith))
+  timers-lent = ap (listed 32 key_of h.live.timers) (lent-table l 10 r xs (lit< tt) hr)
 
-  pub timers-room : Fit h xs → length (take (e - a) (drop a xs)) ≡ 32 * (l.T + 1)
-  timers-room fit = lent-room l 10 a e xs (lit< tt) ha (omega arith) fit.long
+  pub timers-room : Fit h xs → length (lent_at r xs) ≡ 32 * (l.T + 1)
+  timers-room fit = lent-room l 10 r xs (lit< tt) hr fit.long
 
-  pub timers-goes : (f : List ℕ → List ℕ) (m : ℕ) (ys : List ℕ) → Sound h xs → m ≤ l.T → length ys ≡ length (take (e - a) (drop a xs))
+  pub timers-goes : (f : List ℕ → List ℕ) (m : ℕ) (ys : List ℕ) → Sound h xs → m ≤ l.T → length ys ≡ length (lent_at r xs)
       → listed 32 key_of m ys ≡ f (state_of h xs).timers.graft
-      → Goes (λ (s : State). with_graft_timers (f s.timers.graft) s) h xs (with_timer_count m h) (put_mid a (e - a) xs ys)
+      → Goes (λ (s : State). with_graft_timers (f s.timers.graft) s) h xs (with_timer_count m h) (given_back r xs ys)
   unfolding state_of timers_in key_of id_at
   timers-goes f m ys sound hm g q =
-      let framed = lent-frame l 10 a e xs (lit< tt) ha (omega arith) ys sound.fit.long g in
+      let framed = lent-frame l 10 r xs (lit< tt) hr ys sound.fit.long g in
       let old = sound.laid in
       record {
         state = ap (view_of (with_timer_count m h)) framed ∙ ap (λ (t : List ℕ). with_graft_timers t (state_of h xs)) q;
         sound = record {
-          fit = record { ceilings = sound.fit.ceilings; within = omega (arith, sound.fit.within); long = omega (arith, lent-long l 10 a e xs (lit< tt) ha (omega arith) ys sound.fit.long g, sound.fit.long) };
+          fit = record { ceilings = sound.fit.ceilings; within = omega (arith, sound.fit.within); long = omega (arith, lent-long l 10 r xs (lit< tt) hr ys sound.fit.long g, sound.fit.long) };
           laid = subst (Laid (with_timer_count m h)) (sym framed) (record {
             received = old.received;
             cached = old.cached;

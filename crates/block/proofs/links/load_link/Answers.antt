@@ -9,5 +9,4 @@ use Rattle.block.proofs.links.load_link.Goals as goal
 
 pub returns : goal.returns
 returns c =
-    let e = c.received_at-end in
-    sym (c.load.ensures (entry 0 eager)) ∙ ap (λ (l : List (Entry Mark)). get_or l c.args.i (entry 0 eager)) (links-lent c.args.head c.args.block.now e.result e.ensures)
+    sym (c.load.ensures (entry 0 eager)) ∙ ap (λ (l : List (Entry Mark)). get_or l c.args.i (entry 0 eager)) (links-lent c.args.head c.args.block.now c.rows.result c.rows.ensures)

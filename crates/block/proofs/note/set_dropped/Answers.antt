@@ -8,5 +8,5 @@ use Rattle.block.proofs.note.set_dropped.Goals as goal
 pub returns : goal.returns
 returns c =
     let k = c.args.i in
-    instead-goes c.args.head c.args.block.now c.requires.0 c.args.note.link (id_of c.args.note.id) c.args.note.round.0 (c.dropped_at.result + k) c.dropped_rows_at-start.result c.end_at-end.result c.store.new.bytes c.requires.2 k c.requires.1 (omega (arith, c.dropped_at.ensures)) c.dropped_rows_at-start.ensures c.end_at-end.ensures c.store.auto.bytes
+    instead-goes c.args.head c.args.block.now c.requires.0 c.args.note.link (id_of c.args.note.id) c.args.note.round.0 (c.dropped_at.result + k) c.record_rows.result c.store.new.bytes c.requires.2 k c.requires.1 (omega (arith, c.dropped_at.ensures)) c.record_rows.ensures c.store.auto.bytes
     c.store.ensures

@@ -8,5 +8,5 @@ use Rattle.block.proofs.note.store_dropped.Goals as goal
 pub returns : goal.returns
 returns c =
     let n = c.args.head.live.dropped in
-    dropped-goes c.args.head c.args.block.now c.requires.0 c.args.link (id_of c.args.id) c.args.round.0 (c.dropped_at.result + n) c.dropped_rows_at-start.result c.end_at-end.result c.push.new.bytes c.requires.1 c.requires.2 (omega (arith, c.dropped_at.ensures)) c.dropped_rows_at-start.ensures c.end_at-end.ensures c.push.auto.bytes
+    dropped-goes c.args.head c.args.block.now c.requires.0 c.args.link (id_of c.args.id) c.args.round.0 (c.dropped_at.result + n) c.record_rows.result c.push.new.bytes c.requires.1 c.requires.2 (omega (arith, c.dropped_at.ensures)) c.record_rows.ensures c.push.auto.bytes
     c.push.ensures

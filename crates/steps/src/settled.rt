@@ -26,7 +26,7 @@ use block::head::{Head, Limits};
 use block::time_caches::PanelCache;
 use postcard::units::Millis;
 use storage::rows::id::Id;
-use time_cache::cache::{Got, TimeBoundCache};
+use time_cache::cache::TimeBoundCache;
 
 // Whether a time cache has an entry of an identifier then. It is compiled in place, as `View::is_cached_then` is.
 #[inline]
@@ -60,19 +60,15 @@ fn held_then(
     requires { Lies cache block.now × SoundCache cache block.now }
     ensures { EntryIs no_held (cache_at cache block.now).entries (id_of id) (get (id_of id) (left_then init instant.0 (cache_at cache block.now))) result }
 {
-    match cache.get(block, id) {
-        Got::There(i, place) => {
-            if init {
-                return Some(i);
-            }
-            let time = cache.expires(block, place);
-            if instant.0 < time.0 {
-                return Some(i);
-            }
-            None
-        }
-        Got::Nothing => None,
+    let found = cache.get(block, id)?;
+    if init {
+        return Some(found.entry);
     }
+    let time = cache.expires(block, found.row);
+    if instant.0 < time.0 {
+        return Some(found.entry);
+    }
+    None
 }
 
 // The entry of an identifier, if it is there then, by its number in the cache as it stands.

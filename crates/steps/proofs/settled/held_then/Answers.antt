@@ -2,39 +2,40 @@
 use mathlib.Core.Path.{sym, ap, ◌∙◌, subst}
 use borrow.Author.Tests.{lt-ltb, le-ltb}
 use lib.Dec.{ltb}
+use Rattle.std.specs.Prelude.{Option}
 use Rattle.storage.specs.Rows.Ident.{id_of}
 use Rattle.time_cache.specs.Steps.{GotIs, GotAt}
-use Rattle.time_cache.specs.declared.cache.Got.{Got}
+use Rattle.time_cache.specs.declared.cache.Found.{Found}
 use Rattle.steps.proofs.SettledLaws.ThenLaws.{there-still, there-later, there-gone, nowhere}
 use Rattle.steps.proofs.settled.held_then.Goals as goal
-use Rattle.steps.proofs.settled.held_then.Goals.{In-There}
+use Rattle.steps.proofs.settled.held_then.Goals.{In_ok-found}
 
 -- the entry that was found, and its row
-got : (c : In-There)
-    → GotAt c.args.cache c.args.block.now (id_of c.args.id) c.in-There.i c.in-There.place
+got : (c : In_ok-found)
+    → GotAt c.args.cache c.args.block.now (id_of c.args.id) c.in_ok-found.found.entry c.in_ok-found.found.row
 got c =
     let a = c.args in
-    subst (λ (o : Got). GotIs a.cache a.block.now (id_of a.id) o) c.in-There.is c.get.ensures
+    subst (λ (o : Option Found). GotIs a.cache a.block.now (id_of a.id) o) c.in_ok-found.was c.get.ensures
 
 pub returns-then-init : goal.returns-then-init
 returns-then-init c =
     let a = c.args in
-    there-still a.cache a.block.now c.requires.1 a.init a.instant.0 (id_of a.id) _ _ (got (goal.at.returns-then-init c).In-There) c.if-init.true
+    there-still a.cache a.block.now c.requires.1 a.init a.instant.0 (id_of a.id) _ _ (got (goal.at.returns-then-init c).In_ok-found) c.if-init.true
 
 pub returns-then-instant-time : goal.returns-then-instant-time
 returns-then-instant-time c =
     let a = c.args in
-    there-later a.cache a.block.now c.requires.1 a.init a.instant.0 (id_of a.id) _ _ (got (goal.at.returns-then-instant-time c).In-There) c.if-init.false
+    there-later a.cache a.block.now c.requires.1 a.init a.instant.0 (id_of a.id) _ _ (got (goal.at.returns-then-instant-time c).In_ok-found) c.if-init.false
     (ap (ltb a.instant.0) (sym c.expires-time.ensures) ∙ lt-ltb a.instant.0 c.expires-time.result.0 c.if-instant-time.true)
 
-pub returns-else-instant-time : goal.returns-else-instant-time
-returns-else-instant-time c =
+pub returns : goal.returns
+returns c =
     let a = c.args in
-    there-gone a.cache a.block.now c.requires.1 a.init a.instant.0 (id_of a.id) _ _ (got (goal.at.returns-else-instant-time c).In-There) c.if-init.false
+    there-gone a.cache a.block.now c.requires.1 a.init a.instant.0 (id_of a.id) _ _ (got (goal.at.returns c).In_ok-found) c.if-init.false
     (ap (ltb a.instant.0) (sym c.expires-time.ensures) ∙ le-ltb a.instant.0 c.expires-time.result.0 c.if-instant-time.false)
 
-pub returns-in-Nothing : goal.returns-in-Nothing
-returns-in-Nothing c =
+pub returns-in_err-found : goal.returns-in_err-found
+returns-in_err-found c =
     let a = c.args in
-    nowhere a.cache a.block.now c.requires.1 a.init a.instant.0 (id_of a.id)
-    (subst (λ (o : Got). GotIs a.cache a.block.now (id_of a.id) o) c.in-Nothing.is c.get.ensures)
+    rw c.from_residual.ensures (nowhere a.cache a.block.now c.requires.1 a.init a.instant.0 (id_of a.id)
+    (subst (λ (o : Option Found). GotIs a.cache a.block.now (id_of a.id) o) c.in_err-found.was c.get.ensures))

@@ -20,14 +20,6 @@ use by_link::NoteTable;
 use sequences::Sequence;
 use tables::Table;
 
-// The answer: 5 for either block, or yes or no.
-#[derive(Clone, Copy)]
-pub enum Answer {
-    NotWhole,
-    Yes,
-    No,
-}
-
 // "own peer number, settings"
 #[tactic(auto, unfolding(protocol::specs::Alike::same_settings))]
 fn same_settings(a: Settings, b: Settings) -> bool
@@ -114,21 +106,17 @@ fn same_states(ha: Head, a: &[u8], hb: Head, b: &[u8]) -> bool
         && same_flags(ha, a, hb, b)
 }
 
-// *Alike*.
-pub fn alike(a: &[u8], b: &[u8]) -> Answer
+// *Alike*: nothing where either block is not whole.
+pub fn alike(a: &[u8], b: &[u8]) -> Option<bool>
     ensures { answered result ≡ alike_blocks (length a.now) (held a.now) (length b.now) (held b.now) }
 {
     if !whole::is_whole(a) {
-        return Answer::NotWhole;
+        return None;
     }
     if !whole::is_whole(b) {
-        return Answer::NotWhole;
+        return None;
     }
     let ha = header::load_head(a);
     let hb = header::load_head(b);
-    if same_states(ha, a, hb, b) {
-        Answer::Yes
-    } else {
-        Answer::No
-    }
+    Some(same_states(ha, a, hb, b))
 }

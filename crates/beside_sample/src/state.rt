@@ -2,7 +2,6 @@
 ghost use Rattle.std.specs.Prelude.{◌≤◌, length};
 
 use crate::read;
-use alike::Answer;
 
 // What became of a state: whether the block is alike, and where the next record stands.
 #[derive(Clone, Copy)]
@@ -60,7 +59,7 @@ pub fn state_at(block: &[u8], other: &mut [u8], b: &[u8], at: usize) -> Compared
     let first = read::ahead(at, 4, b.len());
     let next = put_runs(other, b, first, runs);
     Compared {
-        same: matches!(alike::alike(block, other), Answer::Yes),
+        same: alike::alike(block, other) == Some(true),
         next,
     }
 }

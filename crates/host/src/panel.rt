@@ -35,11 +35,7 @@ impl<'a> Panel<'a> {
         ensures begins { IfOk result (λ panel. panel.past.list ≡ fresh_list settings limits) }
         ensures refused { IfErr result (λ r. create (settings_of settings) (limits_of limits) (length block.old) ≡ not_created (number_of r)) }
     {
-        let mut counts = Stats {
-            payload_messages_received: 0,
-            control_messages_received: 0,
-            max_last_delivery_hop: 0,
-        };
+        let mut counts = Stats::ZERO;
         let answer = plumtree::plumtree_create(block, &mut counts, settings, limits);
         match Refusal::of(answer.number) {
             Some(refusal) => Err(refusal),

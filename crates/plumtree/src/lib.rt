@@ -6,6 +6,7 @@ mod peers;
 mod rooms;
 
 ghost use Rattle.std.specs.Prelude.{◌≡◌, length, take, Some};
+ghost use Rattle.refusal.specs.Numbers.{number_of};
 ghost use Rattle.wire.specs.Rewrite.RewriteCalls.{Rewrites};
 ghost use Rattle.protocol.specs.Alike.{alike_blocks};
 ghost use Rattle.block.specs.View.{limits_of};
@@ -21,10 +22,10 @@ ghost use Rattle.plumtree.specs.Calls.{block_size, Made, entries, told_of};
 ghost use Rattle.plumtree.specs.CallList.{CallList, fresh_list, with_call, LeadsTo};
 
 use block::head::{Limits, Settings};
-use machine::event::{EventCall, Outcome};
+use machine::event::EventCall;
 use machine::{Stats, event, limit_met};
 use postcard::units::Millis;
-use whole::states::Returned;
+use refusal::Refusal;
 use whole::{create, states};
 use wire::rewrite;
 
@@ -42,6 +43,25 @@ pub struct LinkRoom {
 pub struct Answer {
     pub number: u8,
     pub length: usize,
+}
+
+impl Answer {
+    // A call that is accepted, and the length of its output.
+    fn accepted(length: usize) -> Answer
+        ensures { result ≡ record { number = 0; length = length } }
+    {
+        Answer { number: 0, length }
+    }
+
+    // "The first no gives its number and output length 0".
+    fn refused(refusal: Refusal) -> Answer
+        ensures { result ≡ record { number = number_of refusal; length = 0 } }
+    {
+        Answer {
+            number: refusal.number(),
+            length: 0,
+        }
+    }
 }
 
 // What *Alike* answers: 5 if either block is not whole; else 0, and yes or no.
@@ -63,29 +83,6 @@ pub extern "C" fn plumtree_block_size(limits: Limits) -> usize
     create::block_need(limits)
 }
 
-// A creation, with the counts by value: zero once it is accepted.
-pub fn create_core(block: &mut [u8], c: Stats, settings: Settings, limits: Limits) -> Outcome
-    ensures { Made settings limits block.old (counts_of c) block.new (counts_of result.stats) result.number result.length }
-{
-    let number = create::create(block, settings, limits);
-    if number == 0 {
-        return Outcome {
-            number,
-            length: 0,
-            stats: Stats {
-                payload_messages_received: 0,
-                control_messages_received: 0,
-                max_last_delivery_hop: 0,
-            },
-        };
-    }
-    Outcome {
-        number,
-        length: 0,
-        stats: c,
-    }
-}
-
 // A creation, questions 1 to 4: "An accepted creation leaves the state of `State::new`, the counts zero and length 0".
 #[unsafe(no_mangle)]
 pub extern "C" fn plumtree_create(
@@ -97,13 +94,12 @@ pub extern "C" fn plumtree_create(
     ensures made { Made settings limits block.old (counts_of counts.old) block.new (counts_of counts.new) result.number result.length }
     ensures begins { result.number ≡ 0 → LeadsTo (fresh_list settings limits) block.new (counts_of counts.new) }
 {
-    let made = create_core(block, *counts, settings, limits);
-    if made.number == 0 {
-        *counts = made.stats;
-    }
-    Answer {
-        number: made.number,
-        length: made.length,
+    match create::create(block, settings, limits) {
+        Ok(()) => {
+            *counts = Stats::ZERO;
+            Answer::accepted(0)
+        }
+        Err(refusal) => Answer::refused(refusal),
     }
 }
 
@@ -128,13 +124,12 @@ pub extern "C" fn plumtree_event(
         event,
         rooms: &found,
     };
-    let done = event::event_core(block, *counts, asked, output);
-    if done.number == 0 {
-        *counts = done.stats;
-    }
-    Answer {
-        number: done.number,
-        length: done.length,
+    match event::event_core(block, *counts, asked, output) {
+        Ok(done) => {
+            *counts = done.stats;
+            Answer::accepted(done.length)
+        }
+        Err(refusal) => Answer::refused(refusal),
     }
 }
 
@@ -144,16 +139,9 @@ pub extern "C" fn plumtree_alike(a: &[u8], b: &[u8]) -> Likeness
     ensures { result ≡ told_of (alike_blocks (length a.now) (held a.now) (length b.now) (held b.now)) }
 {
     match alike::alike(a, b) {
-        alike::Answer::NotWhole => Likeness {
-            number: 5,
-            alike: false,
-        },
-        alike::Answer::Yes => Likeness {
-            number: 0,
-            alike: true,
-        },
-        alike::Answer::No => Likeness {
-            number: 0,
+        Some(alike) => Likeness { number: 0, alike },
+        None => Likeness {
+            number: Refusal::BlockNotWhole.number(),
             alike: false,
         },
     }
@@ -185,11 +173,8 @@ pub extern "C" fn plumtree_rewrite(message: &[u8], output: &mut [u8]) -> Answer
     ensures { Rewrites message.now output.old output.new result.number result.length }
 {
     match rewrite::rewrite(message, output) {
-        Ok(length) => Answer { number: 0, length },
-        Err(fault) => {
-            let number = fault.number();
-            Answer { number, length: 0 }
-        }
+        Ok(length) => Answer::accepted(length),
+        Err(fault) => Answer::refused(Refusal::from(fault)),
     }
 }
 
@@ -203,29 +188,9 @@ pub extern "C" fn plumtree_save(block: &[u8], counts: Stats, area: &mut [u8], na
         control: counts.control_messages_received,
         hops: counts.max_last_delivery_hop,
     };
-    let number = states::save(block, c, area, name);
-    Answer { number, length: 0 }
-}
-
-// A return with the counts by value.
-pub fn return_core(block: &mut [u8], c: Stats, area: &[u8], name: u64) -> Outcome
-    ensures { Returns block.old (counts_of c) area.now name block.new (counts_of result.stats) result.number result.length }
-{
-    match states::go_back(block, area, name) {
-        Returned::Refused(number) => Outcome {
-            number,
-            length: 0,
-            stats: c,
-        },
-        Returned::Brought(kept) => Outcome {
-            number: 0,
-            length: 0,
-            stats: Stats {
-                payload_messages_received: kept.payload,
-                control_messages_received: kept.control,
-                max_last_delivery_hop: kept.hops,
-            },
-        },
+    match states::save(block, c, area, name) {
+        Ok(()) => Answer::accepted(0),
+        Err(refusal) => Answer::refused(refusal),
     }
 }
 
@@ -240,12 +205,15 @@ pub extern "C" fn plumtree_return(
     ensures returns { Returns block.old (counts_of counts.old) area.now name block.new (counts_of counts.new) result.number result.length }
     ensures since_saved { result.number ≡ 0 → (h : CallList) → ((k : Kept) → lookup name (kept_in (length block.old) area.now) ≡ Some k → LeadsTo h k.block k.counts) → LeadsTo h block.new (counts_of counts.new) }
 {
-    let back = return_core(block, *counts, area, name);
-    if back.number == 0 {
-        *counts = back.stats;
-    }
-    Answer {
-        number: back.number,
-        length: back.length,
+    match states::go_back(block, area, name) {
+        Ok(kept) => {
+            *counts = Stats {
+                payload_messages_received: kept.payload,
+                control_messages_received: kept.control,
+                max_last_delivery_hop: kept.hops,
+            };
+            Answer::accepted(0)
+        }
+        Err(refusal) => Answer::refused(refusal),
     }
 }

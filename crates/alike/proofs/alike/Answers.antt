@@ -46,22 +46,12 @@ same_states-requires c =
     let y = subst (λ (h : Head). Sound h b × LinksAscend h b) (sym c.load_head-hb.ensures) (wb.sound, links-ascend b wb) in
     (x.0, x.1, y.0, y.1)
 
-pub returns-then-same_states : goal.returns-then-same_states
+pub returns : goal.returns
 unfolding alike_blocks likeness_of
-returns-then-same_states c =
+returns c =
     let a = c.args.a.now in
     let b = c.args.b.now in
     let wa = wholly_of a (yes c.is_whole.ensures (ap not c.if-not-is_whole.false)) in
     let wb = wholly_of b (yes c.is_whole-2.ensures (ap not c.if-not-is_whole-2.false)) in
-    let same = sym c.if-same_states.true ∙ c.same_states.ensures ∙ (λ k. alike (state_of (c.load_head-ha.ensures k) a) (state_of (c.load_head-hb.ensures k) b)) in
-    sym ((λ k. likeness_of (whole-state a wa k) (whole-state b wb k)) ∙ ap likeness (sym same))
-
-pub returns-else-same_states : goal.returns-else-same_states
-unfolding alike_blocks likeness_of
-returns-else-same_states c =
-    let a = c.args.a.now in
-    let b = c.args.b.now in
-    let wa = wholly_of a (yes c.is_whole.ensures (ap not c.if-not-is_whole.false)) in
-    let wb = wholly_of b (yes c.is_whole-2.ensures (ap not c.if-not-is_whole-2.false)) in
-    let same = sym c.if-same_states.false ∙ c.same_states.ensures ∙ (λ k. alike (state_of (c.load_head-ha.ensures k) a) (state_of (c.load_head-hb.ensures k) b)) in
+    let same = c.same_states.ensures ∙ (λ k. alike (state_of (c.load_head-ha.ensures k) a) (state_of (c.load_head-hb.ensures k) b)) in
     sym ((λ k. likeness_of (whole-state a wa k) (whole-state b wb k)) ∙ ap likeness (sym same))

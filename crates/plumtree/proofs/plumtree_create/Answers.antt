@@ -1,21 +1,39 @@
--- `plumtree_create`: the counts after an accepted creation are stored; a refused one has left them.
-use Rattle.std.proofs.Common.{ℕ, subst}
+-- `plumtree_create`: an accepted creation leaves the counts zero, a refused one leaves them.
+use mathlib.Core.Path.{refl, sym}
+use Rattle.refusal.specs.Numbers.{number_of}
+use Rattle.refusal.proofs.NumberLaws.{not_0}
+use Rattle.protocol.specs.State.{zero_counts}
 use Rattle.machine.specs.Called.{counts_of}
 use Rattle.plumtree.specs.Calls.{Made}
 use Rattle.plumtree.proofs.ListLaws.{fresh_list-leads}
-use Rattle.plumtree.proofs.CreationLaws.{made_kept}
+use Rattle.plumtree.proofs.CreationLaws.{made-zero, made-left}
 use Rattle.plumtree.proofs.plumtree_create.Goals as goal
+use Rattle.plumtree.proofs.plumtree_create.Goals.{In-Ok}
 
-pub returns-else-made-eq0 : goal.returns-else-made-eq0
-returns-else-made-eq0 c =
-    let made = c.create_core-made in
+made : (c : In-Ok) → Made c.args.settings c.args.limits c.args.block.now (counts_of c.args.counts.now) c.create.new.block zero_counts 0 0
+unfolding zero_counts
+made c =
+    let a = c.args in
     record {
-      made = made_kept c.args.settings c.args.limits c.args.block.now made.new.block (counts_of c.args.counts.now) (counts_of made.result.stats) made.result.number made.result.length c.if-made-eq0.false made.ensures;
-      begins = λ e. absurd (c.if-made-eq0.false e);
+      creation = c.in-Ok.ensures;
+      left = sym (made-zero a.settings a.limits a.block.now c.create.new.block (counts_of a.counts.now) c.in-Ok.ensures);
+      long = refl;
     }
 
-pub returns-then-made-eq0-clause-begins : goal.returns-then-made-eq0-clause-begins
-returns-then-made-eq0-clause-begins c e =
-    let made = c.create_core-made in
-    fresh_list-leads c.args.settings c.args.limits c.args.block.now _ made.new.block (counts_of made.result.stats) made.result.length
-    (subst (λ (n : ℕ). Made c.args.settings c.args.limits c.args.block.now (counts_of c.args.counts.now) made.new.block (counts_of made.result.stats) n made.result.length) e made.ensures)
+pub returns-in-Ok-clause-made : goal.returns-in-Ok-clause-made
+unfolding zero_counts
+returns-in-Ok-clause-made c = rw c.accepted.ensures (made (goal.at.returns-in-Ok-clause-made c).In-Ok)
+
+pub returns-in-Ok-clause-begins : goal.returns-in-Ok-clause-begins
+unfolding zero_counts
+returns-in-Ok-clause-begins c =
+    λ e. fresh_list-leads c.args.settings c.args.limits c.args.block.now (counts_of c.args.counts.now) c.create.new.block zero_counts 0 (made (goal.at.returns-in-Ok-clause-begins c).In-Ok)
+
+pub returns-in-Err-clause-made : goal.returns-in-Err-clause-made
+returns-in-Err-clause-made c =
+    let a = c.args in
+    rw c.refused.ensures (record {
+      creation = c.in-Err.ensures;
+      left = made-left a.settings a.limits a.block.now c.create.new.block (number_of c.in-Err.refusal) (counts_of a.counts.now) (not_0 c.in-Err.refusal) c.in-Err.ensures;
+      long = refl;
+    })

@@ -1,18 +1,16 @@
 -- `plumtree_return`: the counts that a return brought back are stored; a refused one has left them.
+use mathlib.Core.Path.{refl}
 use Rattle.machine.specs.Called.{counts_of}
-use Rattle.whole.proofs.StatesLaws.Accepted.{returned-kept}
 use Rattle.plumtree.proofs.ListLaws.{returned-leads}
 use Rattle.plumtree.proofs.plumtree_return.Goals as goal
 
-pub returns-else-back-eq0 : goal.returns-else-back-eq0
-returns-else-back-eq0 c =
-    let back = c.return_core-back in
-    record {
-      returns = returned-kept c.args.block.now (counts_of c.args.counts.now) c.args.area.now c.args.name back.new.block (counts_of back.result.stats) back.result.number back.result.length c.if-back-eq0.false back.ensures;
-      since_saved = λ e. absurd (c.if-back-eq0.false e);
-    }
+pub returns-in-Ok-clause-returns : goal.returns-in-Ok-clause-returns
+returns-in-Ok-clause-returns c = rw c.accepted.ensures (c.in-Ok.ensures (counts_of c.args.counts.now))
 
-pub returns-then-back-eq0-clause-since_saved : goal.returns-then-back-eq0-clause-since_saved
-returns-then-back-eq0-clause-since_saved c =
-    let back = c.return_core-back in
-    returned-leads c.args.block.now (counts_of c.args.counts.now) c.args.area.now c.args.name back.new.block (counts_of back.result.stats) back.result.number back.result.length back.ensures
+pub returns-in-Ok-clause-since_saved : goal.returns-in-Ok-clause-since_saved
+returns-in-Ok-clause-since_saved c =
+    let a = c.args in
+    λ e. returned-leads a.block.now (counts_of a.counts.now) a.area.now a.name c.go_back.new.block _ 0 0 (c.in-Ok.ensures (counts_of a.counts.now)) refl
+
+pub returns-in-Err-clause-returns : goal.returns-in-Err-clause-returns
+returns-in-Err-clause-returns c = rw c.refused.ensures (c.in-Err.ensures (counts_of c.args.counts.now))

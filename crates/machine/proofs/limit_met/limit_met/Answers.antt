@@ -1,6 +1,7 @@
 -- `limit_met`: questions 5 to 9, then the event.
 use Rattle.std.proofs.Common.{sym}
 use mathlib.Core.Path.{subst}
+use Rattle.refusal.specs.Numbers.{number_of}
 use Rattle.wire.specs.Reader.Values.{event_value}
 use Rattle.block.specs.View.{state_of}
 use Rattle.block.specs.declared.head.Head.{Head}
@@ -38,4 +39,4 @@ returns c =
 pub returns-in_default : goal.returns-in_default
 returns-in_default c =
     let a = c.args in
-    sym (begun-limit a.block.now a.asked.instant.0 a.asked.event.now c.in_default.field-0 (core_rooms a.block.now a.asked.event.now a.asked.rooms.now) c.in_default.ensures.means)
+    sym (begun-limit a.block.now a.asked.instant.0 a.asked.event.now (number_of c.in_default.field-0) (core_rooms a.block.now a.asked.event.now a.asked.rooms.now) c.in_default.ensures.means)

@@ -222,7 +222,8 @@ fn is_handed_back(view: &View, call: &Call, rows: &[u16], starts: &[usize; START
     false
 }
 
-// The same, where the queue has at most `QUEUE` rows and the record at most `RECORD`. The record is passed over only where something is handed back.
+// The same, where the queue has at most `QUEUE` rows and the record at most `RECORD`, a power of two: so many rows are named of those that are found in the message cache.
+// The record is passed over only where something is handed back.
 fn to_note_in<const QUEUE: usize, const RECORD: usize>(
     view: &View,
     call: &Call,

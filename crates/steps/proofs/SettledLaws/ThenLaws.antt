@@ -53,7 +53,7 @@ module _ (now : ℕ) (h : Head) (xs : List ℕ) where
   unfolding settled state_of
   settled_cache = if-on (λ (x : State). x.cache) h.live.init _ _
 
-  pub settled_grafted : (settled now (state_of h xs)).grafted ≡ left_then h.live.init now (state_of h xs).grafted
+  settled_grafted : (settled now (state_of h xs)).grafted ≡ left_then h.live.init now (state_of h xs).grafted
   unfolding settled state_of
   settled_grafted = if-on (λ (x : State). x.grafted) h.live.init _ _
 

@@ -18,6 +18,7 @@ impl<'a> View<'a> {
     ghost use Rattle.steps.specs.Views.{shown};
 
     // Whether a message is received then.
+    #[tactic(auto, using(crate::proofs::SettledLaws::ThenLaws::settled_received))]
     pub fn is_received_then(&self, instant: Millis, id: Id) -> bool
         requires { AtRest (shown self.now) }
         ensures { result ≡ holds (id_of id) (settled instant.0 (shown self.now)).received }
@@ -26,6 +27,7 @@ impl<'a> View<'a> {
     }
 
     // Whether a message is cached then. It is compiled in place: a dispatch tick asks it for each identifier that is handed back.
+    #[tactic(auto, using(crate::proofs::SettledLaws::ThenLaws::settled_cache))]
     #[inline(always)]
     pub fn is_cached_then(&self, instant: Millis, id: Id) -> bool
         requires { AtRest (shown self.now) }
@@ -35,6 +37,7 @@ impl<'a> View<'a> {
     }
 
     // The cached message of an identifier, if it is there then, by its number in the cache as it stands.
+    #[tactic(auto, using(crate::proofs::SettledLaws::ThenLaws::cached_entry))]
     pub fn cached_entry_then(&self, instant: Millis, id: Id) -> Option<usize>
         requires { AtRest (shown self.now) }
         ensures { EntryIs no_cached (shown self.now).cache.entries (id_of id) (get (id_of id) (settled instant.0 (shown self.now)).cache) result }
@@ -43,6 +46,7 @@ impl<'a> View<'a> {
     }
 
     // The grafted message of an identifier, if it is there then, by its number among the grafted messages as they stand.
+    #[tactic(auto, using(crate::proofs::SettledLaws::ThenLaws::grafted_entry))]
     pub fn grafted_entry_then(&self, instant: Millis, id: Id) -> Option<usize>
         requires { AtRest (shown self.now) }
         ensures { EntryIs no_grafts (shown self.now).grafted.entries (id_of id) (get (id_of id) (settled instant.0 (shown self.now)).grafted) result }

@@ -9,7 +9,6 @@ ghost use Rattle.steps.specs.Views.{shown};
 ghost use Rattle.steps.specs.Panels.{AtRest};
 
 use crate::call::Call;
-use crate::settled;
 use crate::view::View;
 use block::caches::cached;
 use block::caches::cached::MessageCache;

@@ -72,6 +72,7 @@ fn held_then(
 }
 
 // The entry of an identifier, if it is there then, by its number in the cache as it stands.
+#[tactic(auto, using(crate::proofs::SettledLaws::ThenLaws::held_as))]
 pub fn find_then<C: PanelCache>(head: Head, block: &[u8], instant: Millis, id: Id) -> Option<usize>
     requires { Sound head block.now × InOrder (C.of (state_of head block.now)) }
     ensures { (d : Entry (Timed C.Value)) → EntryIs d (C.of (state_of head block.now)).entries (id_of id) (get (id_of id) (left_then head.live.init instant.0 (C.of (state_of head block.now)))) result }

@@ -114,8 +114,8 @@ module _ (l : Limits) (i s n j t m : ℕ) (xs ys : List ℕ) (hi : i < 15) (wi :
 
 -- what is read of the tables that a cache stands in
 module _ {A : Type 0} (t : TimeBoundCache) (xs : List ℕ) (c : Cache A) (s : StandsIn t xs c) where
-  pub keys-read : named (rows_at t xs) (refs_at t xs) ≡ keys c.entries
-  keys-read = sym (keys-named value_bytes (refs_at t xs) (rows_at t xs)) ∙ sym (keys-as s.value (cache_at t xs)) ∙ ap (λ (d : Cache A). keys d.entries) s.same
+  pub keys_read : named (rows_at t xs) (refs_at t xs) ≡ keys c.entries
+  keys_read = sym (keys-named value_bytes (refs_at t xs) (rows_at t xs)) ∙ sym (keys-as s.value (cache_at t xs)) ∙ ap (λ (d : Cache A). keys d.entries) s.same
 
   pub holds_read : (k : ℕ) → holds k (cache_at t xs) ≡ holds k c
   holds_read k = sym (holds_as s.value k (cache_at t xs)) ∙ ap (holds k) s.same
@@ -128,9 +128,9 @@ module _ {A : Type 0} (t : TimeBoundCache) (xs : List ℕ) (c : Cache A) (s : St
     pub holds_later : (k : ℕ) → holds k (later_cache instant (cache_at t xs)) ≡ holds k (later_cache instant c)
     holds_later k = sym (holds_as s.value k (later_cache instant (cache_at t xs))) ∙ ap (holds k) later-read
 
-    pub entries-later : length (later_cache instant (cache_at t xs)).entries ≡ length (later_cache instant c).entries
-    entries-later = sym (length-as s.value (later_cache instant (cache_at t xs))) ∙ ap (λ (d : Cache A). length d.entries) later-read
+    pub entries_later : length (later_cache instant (cache_at t xs)).entries ≡ length (later_cache instant c).entries
+    entries_later = sym (length-as s.value (later_cache instant (cache_at t xs))) ∙ ap (λ (d : Cache A). length d.entries) later-read
 
-    pub rows-later : length (later_cache instant (cache_at t xs)).expiry ≡ length (later_cache instant c).expiry
+    pub rows_later : length (later_cache instant (cache_at t xs)).expiry ≡ length (later_cache instant c).expiry
     unfolding values_as
-    rows-later = ap (λ (d : Cache A). length d.expiry) later-read
+    rows_later = ap (λ (d : Cache A). length d.expiry) later-read

@@ -1,12 +1,13 @@
 -- The message cache: its tables as the view reads them.
 -- Assumes nothing.
-use mathlib.Core.Path.{◌≡◌}
+use mathlib.Core.Path.{◌≡◌, sym, subst}
 use mathlib.Core.List.{List}
 use Prim.Native.Nat.{ℕ}
 use native.Mathlib.Omega.{arith}
 use lib.Dec.{lit<}
 use lib.ListN.{length}
 use Rattle.time_cache.specs.Tables.{cache_at, Lies, FitsOneMore, Sound as SoundCache, values_as}
+use Rattle.time_cache.specs.declared.cache.TimeBoundCache.{TimeBoundCache}
 use Rattle.protocol.specs.State.{Limits}
 use Rattle.block.specs.Layout.{table}
 use Rattle.block.specs.View.{state_of, limits_of, cached_in, cached_of}
@@ -34,7 +35,7 @@ module _ (h : Head) (xs : List ℕ) (fit : Fit h xs) where
   pub cached-room : FitsOneMore (cached_cache h) xs
   cached-room = record { entry_wide = omega arith; expiry_wide = omega arith; apart = omega arith; within = omega arith; few = omega arith }
 
-  pub cached-as : values_as (as_value (cached_of (table (limits_of h.limits) 6 xs))) (cache_at (cached_cache h) xs) ≡ (state_of h xs).cache
+  cached-as : values_as (as_value (cached_of (table (limits_of h.limits) 6 xs))) (cache_at (cached_cache h) xs) ≡ (state_of h xs).cache
   unfolding state_of cached_in
   cached-as = cache-in l 4 4 n 5 48 m xs (lit< tt) (omega arith) (lit< tt) (omega arith) (cached_of (table (limits_of h.limits) 6 xs))
 
@@ -51,5 +52,7 @@ unfolding state_of cached_in
 cached-sound h xs sound o =
     sound-in (limits_of h.limits) 4 4 h.live.cached 5 48 h.live.cached_rows xs (lit< tt) (omega (arith, sound.fit)) (lit< tt) (omega (arith, sound.fit)) (cached_of (table (limits_of h.limits) 6 xs)) sound.laid.cached o
 
-pub cached-stands : (h : Head) (xs : List ℕ) → Sound h xs → StandsIn (cached_cache h) xs (state_of h xs).cache
-cached-stands h xs s = record { lies = cached-lies h xs s.fit; value = as_value (cached_of (table (limits_of h.limits) 6 xs)); same = cached-as h xs s.fit; sound = cached-sound h xs s }
+-- the tables hold the state's cache
+pub cached_stands : (t : TimeBoundCache) (h : Head) (xs : List ℕ) → t ≡ cached_cache h → Sound h xs → StandsIn t xs (state_of h xs).cache
+cached_stands t h xs e s =
+    subst (λ (u : TimeBoundCache). StandsIn u xs (state_of h xs).cache) (sym e) (record { lies = cached-lies h xs s.fit; value = as_value (cached_of (table (limits_of h.limits) 6 xs)); same = cached-as h xs s.fit; sound = cached-sound h xs s })

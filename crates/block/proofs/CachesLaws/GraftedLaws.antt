@@ -101,8 +101,10 @@ unfolding state_of grafted_in
 grafted-sound h xs sound o =
     sound-in (limits_of h.limits) 7 119 h.live.grafted 8 40 h.live.grafted_rows xs (lit< tt) (omega (arith, sound.fit)) (lit< tt) (omega (arith, sound.fit)) (grafts_of (peers_of h xs)) sound.laid.grafted o
 
-pub grafted-stands : (h : Head) (xs : List ℕ) → Sound h xs → StandsIn (grafted_cache h) xs (state_of h xs).grafted
-grafted-stands h xs s = record { lies = grafted-lies h xs s.fit; value = as_value (grafts_of (peers_of h xs)); same = grafted-as h xs s.fit; sound = grafted-sound h xs s }
+-- the tables hold the state's cache
+pub grafted_stands : (t : TimeBoundCache) (h : Head) (xs : List ℕ) → t ≡ grafted_cache h → Sound h xs → StandsIn t xs (state_of h xs).grafted
+grafted_stands t h xs e s =
+    subst (λ (u : TimeBoundCache). StandsIn u xs (state_of h xs).grafted) (sym e) (record { lies = grafted-lies h xs s.fit; value = as_value (grafts_of (peers_of h xs)); same = grafted-as h xs s.fit; sound = grafted-sound h xs s })
 
 -- other rows in the two tables
 module _ (h : Head) (xs ys : List ℕ) (sound : Sound h xs) (n' m' k g : ℕ) where

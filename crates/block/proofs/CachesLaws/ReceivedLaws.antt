@@ -59,8 +59,10 @@ unfolding state_of received_in
 received-sound h xs sound o =
     sound-in (limits_of h.limits) 2 2 h.live.received 3 40 h.live.received_rows xs (lit< tt) (omega (arith, sound.fit)) (lit< tt) (omega (arith, sound.fit)) nothing_of sound.laid.received o
 
-pub received-stands : (h : Head) (xs : List ℕ) → Sound h xs → StandsIn (received_cache h) xs (state_of h xs).received
-received-stands h xs s = record { lies = received-lies h xs s.fit; value = as_value nothing_of; same = received_as h xs s.fit; sound = received-sound h xs s }
+-- the tables hold the state's cache
+pub received_stands : (t : TimeBoundCache) (h : Head) (xs : List ℕ) → t ≡ received_cache h → Sound h xs → StandsIn t xs (state_of h xs).received
+received_stands t h xs e s =
+    subst (λ (u : TimeBoundCache). StandsIn u xs (state_of h xs).received) (sym e) (record { lies = received-lies h xs s.fit; value = as_value nothing_of; same = received_as h xs s.fit; sound = received-sound h xs s })
 
 -- other rows in the two tables
 module _ (h : Head) (xs ys : List ℕ) (sound : Sound h xs) (n' m' k g : ℕ) where

@@ -37,6 +37,7 @@ impl PanelCache for MessageCache {
     ghost located = { cached_cache };
 
     // Tables 4 and 5.
+    #[tactic(auto, using(crate::proofs::CachesLaws::CachedLaws::cached_stands))]
     fn table(head: Head) -> TimeBoundCache {
         let entries = Table {
             at: head::cached_at(head.limits),

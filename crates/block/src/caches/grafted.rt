@@ -47,6 +47,7 @@ impl PanelCache for GraftedMessages {
     ghost located = { grafted_cache };
 
     // Tables 7 and 8.
+    #[tactic(auto, using(crate::proofs::CachesLaws::GraftedLaws::grafted_stands))]
     fn table(head: Head) -> TimeBoundCache {
         let entries = Table {
             at: head::grafted_at(head.limits),

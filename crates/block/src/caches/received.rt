@@ -32,6 +32,7 @@ impl PanelCache for ReceivedMessages {
     ghost located = { received_cache };
 
     // Tables 2 and 3.
+    #[tactic(auto, using(crate::proofs::CachesLaws::ReceivedLaws::received_stands))]
     fn table(head: Head) -> TimeBoundCache {
         let entries = Table {
             at: head::received_at(head.limits),

@@ -1,7 +1,7 @@
 -- What a first event's eviction leaves of a time cache, found in the cache as it stands.
 -- Assumes nothing.
 use Prim.Native.Nat.{ℕ, ◌*◌, ◌≤◌, ◌<◌}
-use mathlib.Core.Path.{◌≡◌, refl, sym, ap, ◌∙◌}
+use mathlib.Core.Path.{◌≡◌, refl, sym, ap, ◌∙◌, subst}
 use mathlib.Core.Bool.{Bool, true, false}
 use mathlib.Core.List.{List, [], map}
 use native.Mathlib.Omega.{arith}
@@ -19,7 +19,7 @@ use Rattle.time_cache.specs.Steps.{ref_at, held_at, GotAt}
 use Rattle.time_cache.specs.declared.cache.TimeBoundCache.{TimeBoundCache}
 use Rattle.time_cache.proofs.ReadLaws.{length-es}
 use Rattle.time_cache.proofs.ValueLaws.{option_as, get-as, later-as}
-use Rattle.protocol.specs.State.{State, Limits}
+use Rattle.protocol.specs.State.{State, Limits, Cached, Grafts}
 use Rattle.block.specs.Layout.{sizes, table}
 use Rattle.block.specs.View.{state_of, limits_of, cached_of, cached_in}
 use Rattle.block.specs.Fit.{Fit}
@@ -30,7 +30,7 @@ use Rattle.decide.specs.Settled.{alive_value, settled}
 use Rattle.decide.proofs.SettledLaws.{get-later}
 use Rattle.steps.specs.Shared.{HeldAt, EntryIs}
 use Rattle.std.specs.Prelude.{Option as Answer, Some, None}
-use Rattle.steps.specs.Settled.Then.{no_held, no_cached, left_then}
+use Rattle.steps.specs.Settled.Then.{no_held, no_cached, no_grafts, left_then}
 
 -- the settled state, where `init` is set and where it is not
 module _ (now : ℕ) (s : State) where
@@ -45,17 +45,27 @@ init-of h xs = refl
 
 -- the time caches of the settled state
 module _ (now : ℕ) (h : Head) (xs : List ℕ) where
-  pub settled-received : (settled now (state_of h xs)).received ≡ left_then h.live.init now (state_of h xs).received
+  pub settled_received : (settled now (state_of h xs)).received ≡ left_then h.live.init now (state_of h xs).received
   unfolding settled state_of
-  settled-received = if-on (λ (x : State). x.received) h.live.init _ _
+  settled_received = if-on (λ (x : State). x.received) h.live.init _ _
 
-  pub settled-cache : (settled now (state_of h xs)).cache ≡ left_then h.live.init now (state_of h xs).cache
+  pub settled_cache : (settled now (state_of h xs)).cache ≡ left_then h.live.init now (state_of h xs).cache
   unfolding settled state_of
-  settled-cache = if-on (λ (x : State). x.cache) h.live.init _ _
+  settled_cache = if-on (λ (x : State). x.cache) h.live.init _ _
 
-  pub settled-grafted : (settled now (state_of h xs)).grafted ≡ left_then h.live.init now (state_of h xs).grafted
+  settled_grafted : (settled now (state_of h xs)).grafted ≡ left_then h.live.init now (state_of h xs).grafted
   unfolding settled state_of
-  settled-grafted = if-on (λ (x : State). x.grafted) h.live.init _ _
+  settled_grafted = if-on (λ (x : State). x.grafted) h.live.init _ _
+
+-- what is found of them
+module _ (now : ℕ) (h : Head) (xs : List ℕ) (id : ℕ) (r : Answer ℕ) where
+  pub cached_entry : ((d : Entry (Timed Cached)) → EntryIs d (state_of h xs).cache.entries id (get id (left_then h.live.init now (state_of h xs).cache)) r)
+      → EntryIs no_cached (state_of h xs).cache.entries id (get id (settled now (state_of h xs)).cache) r
+  cached_entry e = subst (λ (c : Cache Cached). EntryIs no_cached (state_of h xs).cache.entries id (get id c) r) (sym (settled_cache now h xs)) (e no_cached)
+
+  pub grafted_entry : ((d : Entry (Timed Grafts)) → EntryIs d (state_of h xs).grafted.entries id (get id (left_then h.live.init now (state_of h xs).grafted)) r)
+      → EntryIs no_grafts (state_of h xs).grafted.entries id (get id (settled now (state_of h xs)).grafted) r
+  grafted_entry e = subst (λ (c : Cache Grafts). EntryIs no_grafts (state_of h xs).grafted.entries id (get id c) r) (sym (settled_grafted now h xs)) (e no_grafts)
 
 -- what is found of a key among the entries of a block
 module _ (c : TimeBoundCache) (xs : List ℕ) (sound : Sound c xs) (init : Bool) (now id : ℕ) where
@@ -109,16 +119,16 @@ module _ {A B : Type 0} (f : A → B) (c : Cache A) (d : Cache B) (same : values
   unfolding values_as
   entries-then = sym (ap (λ (x : Cache B). x.entries) same)
 
-  pub held-as : (r : Answer ℕ) → EntryIs a c.entries id (get id (left_then init now c)) r → EntryIs b d.entries id (get id (left_then init now d)) r
+  pub held_as : (r : Answer ℕ) → EntryIs a c.entries id (get id (left_then init now c)) r → EntryIs b d.entries id (get id (left_then init now d)) r
   unfolding option_as
-  held-as (Some i) h =
+  held_as (Some i) h =
       let e : get_or d.entries i b ≡ read_as f (get_or c.entries i a) = ap (λ (m : Map (Timed B)). get_or m i b) entries-then ∙ get_or-map-in (read_as f) c.entries i b a h.below in
       record {
         below = omega (arith, h.below, ap length entries-then, length-map c.entries (read_as f));
         key = ap (λ (x : Entry (Timed B)). x.key) e ∙ h.key;
         value = get-then ∙ ap (option_as f) h.value ∙ sym (ap (λ (x : Entry (Timed B)). Some x.value.value) e);
       }
-  held-as None h = get-then ∙ ap (option_as f) h
+  held_as None h = get-then ∙ ap (option_as f) h
 
 -- the place that entry i names is that of a row
 pub place-below : (c : TimeBoundCache) (xs : List ℕ) → Sound c xs → (i : ℕ) → i < c.entries.len → (ref_at (refs_at c xs) i).place < c.expiry.len

@@ -23,22 +23,12 @@ use Rattle.protocol.proofs.AlikeCallsLaws.Stay.{list-refl, note-refl}
 use Rattle.block.specs.View.{state_of}
 use Rattle.block.specs.Sound.{Sound}
 use Rattle.block.specs.LinkSteps.{peer_at}
-use Rattle.block.specs.NoteSteps.{note, LinkIs}
+use Rattle.block.specs.NoteSteps.{note, notes_of}
 use Rattle.block.specs.declared.head.Head.{Head}
 use Rattle.block.specs.declared.note.Note.{Note as LinkNote}
-use Rattle.block.proofs.NoteLaws.{count-queue, count-dropped, queue-link, record-link}
-use Rattle.alike.specs.NoteTable.{notes_of, count_of, same_inside, same_for, NextOf}
-use Rattle.alike.specs.declared.by_link.NoteTable.{NoteTable}
-use Rattle.alike.specs.declared.by_link.NoteTable.TheVariants.{Queue, Record}
-
--- how many notes there are, and that each is for a link
-pub count-of : (of : NoteTable) (h : Head) (xs : List ℕ) → Sound h xs → length (notes_of of (state_of h xs)) ≡ count_of of h.live
-count-of Queue h xs sound = count-queue h xs sound
-count-of Record h xs sound = count-dropped h xs sound
-
-link-of : (of : NoteTable) (h : Head) (xs : List ℕ) → Sound h xs → (i : ℕ) → i < count_of of h.live → (r : ℕ) × LinkIs h xs (notes_of of (state_of h xs)) i r
-link-of Queue h xs sound i q = (_, queue-link h xs sound i q)
-link-of Record h xs sound i q = (_, record-link h xs sound i q)
+use Rattle.block.specs.declared.note.NoteTable.{NoteTable}
+use Rattle.block.proofs.NoteLaws.{count-notes, note-link}
+use Rattle.alike.specs.NoteTable.{same_inside, same_for, NextOf}
 
 -- a note for another peer is passed, one for the peer is the first of those that are left
 module _ (p : ℕ) (ns : List Note) (i : ℕ) (h : i < length ns) where
@@ -132,5 +122,5 @@ module _ (of : NoteTable) (ha : Head) (a : List ℕ) (hb : Head) (b : List ℕ) 
   unfolding same_notes
   notes-yes f g =
       all_append (λ n. same_for n.peer xs ys) xs ys
-      (at_all (λ n. same_for n.peer xs ys) (note 0 0 0) xs (λ i h. let (r, k) = link-of of ha a sound i (omega (arith, h, count-of of ha a sound)) in ap (λ (q : ℕ). same_for q xs ys) k.peer ∙ f r k.below))
-      (at_all (λ n. same_for n.peer xs ys) (note 0 0 0) ys (λ i h. let (r, k) = link-of of hb b sound' i (omega (arith, h, count-of of hb b sound')) in ap (λ (q : ℕ). same_for q xs ys) k.peer ∙ g r k.below))
+      (at_all (λ n. same_for n.peer xs ys) (note 0 0 0) xs (λ i h. let k = note-link ha a sound of i (omega (arith, h, count-notes ha a sound of)) in ap (λ (q : ℕ). same_for q xs ys) k.peer ∙ f _ k.below))
+      (at_all (λ n. same_for n.peer xs ys) (note 0 0 0) ys (λ i h. let k = note-link hb b sound' of i (omega (arith, h, count-notes hb b sound' of)) in ap (λ (q : ℕ). same_for q xs ys) k.peer ∙ g _ k.below))

@@ -3,24 +3,11 @@
 use Rattle.std.specs.Prelude.{ℕ, ◌≤◌, ◌<◌, ◌≡◌, Bool, true, ◌&&◌, List, eqb, length, drop, get_or}
 use Rattle.storage.specs.Lists.Base.{filter}
 use Rattle.storage.specs.Rows.Ident.{id_of}
-use Rattle.protocol.specs.State.{State, Note}
+use Rattle.protocol.specs.State.{Note}
 use Rattle.protocol.specs.Push.{for_peer}
 use Rattle.protocol.specs.Alike.{same_list, same_note}
 use Rattle.block.specs.NoteSteps.{note}
-use Rattle.block.specs.declared.head.Live.{Live}
 use Rattle.block.specs.declared.note.Note.{Note as LinkNote}
-use Rattle.alike.specs.declared.by_link.NoteTable.{NoteTable}
-use Rattle.alike.specs.declared.by_link.NoteTable.TheVariants.{Queue, Record}
-
--- the notes of the queue, or of the record
-abbrev pub notes_of : NoteTable → State → List Note
-notes_of Queue s = s.queue
-notes_of Record s = s.dropped
-
--- how many there are
-abbrev pub count_of : NoteTable → Live → ℕ
-count_of Queue v = v.queued
-count_of Record v = v.dropped
 
 -- two notes for one peer have the same identifier and round
 abbrev pub same_inside : LinkNote → LinkNote → Bool

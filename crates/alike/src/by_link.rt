@@ -5,19 +5,11 @@ ghost use Rattle.protocol.specs.Alike.{same_notes};
 ghost use Rattle.block.specs.View.{state_of};
 ghost use Rattle.block.specs.Sound.{Sound};
 ghost use Rattle.block.specs.LinkSteps.{LinksAscend, peer_at};
-ghost use Rattle.block.specs.NoteSteps.{LinkIs, NoteIs};
-ghost use Rattle.alike.specs.NoteTable.{notes_of, count_of, same_inside, same_for, NextOf};
+ghost use Rattle.block.specs.NoteSteps.{notes_of, count_of};
+ghost use Rattle.alike.specs.NoteTable.{same_inside, same_for, NextOf};
 
-use block::head::{Head, Live};
-use block::note;
-use block::note::Note;
-
-// The queue, or the record.
-#[derive(Clone, Copy)]
-pub enum NoteTable {
-    Queue,
-    Record,
-}
+use block::head::Head;
+use block::note::{Note, NoteTable};
 
 // The notes of the queue, or of the record, that are for a link.
 #[derive(Clone, Copy)]
@@ -26,46 +18,14 @@ struct NotesFor {
     link: usize,
 }
 
-// How many notes there are.
-fn count(of: NoteTable, live: Live) -> usize
-    ensures { result ≡ count_of of live }
-{
-    match of {
-        NoteTable::Queue => live.queued,
-        NoteTable::Record => live.dropped,
-    }
-}
-
-// The link number of note i.
-fn link_at(of: NoteTable, head: Head, block: &[u8], i: usize) -> usize
-    requires { Sound head block.now × (i < count_of of head.live) }
-    ensures { LinkIs head block.now (notes_of of (state_of head block.now)) i result }
-{
-    match of {
-        NoteTable::Queue => note::queued_link_at(head, block, i),
-        NoteTable::Record => note::dropped_link_at(head, block, i),
-    }
-}
-
-// Note i.
-fn note_at(of: NoteTable, head: Head, block: &[u8], i: usize) -> Note
-    requires { Sound head block.now × (i < count_of of head.live) }
-    ensures { NoteIs head block.now (notes_of of (state_of head block.now)) i result }
-{
-    match of {
-        NoteTable::Queue => note::queued_at(head, block, i),
-        NoteTable::Record => note::dropped_at(head, block, i),
-    }
-}
-
 // The first note from `from` on that is for the link; where there is none, the number of notes.
 fn next_of(of: NotesFor, head: Head, block: &[u8], from: usize) -> usize
     requires { Sound head block.now × LinksAscend head block.now × (of.link < head.live.links) × (from ≤ count_of of.table head.live) }
     ensures { NextOf (peer_at (state_of head block.now) of.link) from (notes_of of.table (state_of head block.now)) result }
 {
-    let n = count(of.table, head.live);
+    let n = of.table.count(head.live);
     for i in from..n {
-        if link_at(of.table, head, block, i) == of.link {
+        if of.table.link_at(head, block, i) == of.link {
             return i;
         }
     }
@@ -85,16 +45,16 @@ fn same_for(of: NotesFor, ha: Head, a: &[u8], hb: Head, b: &[u8]) -> bool
     requires link_value { peer_at (state_of ha a.now) of.link ≡ peer_at (state_of hb b.now) of.link }
     ensures { result ≡ same_for (peer_at (state_of ha a.now) of.link) (notes_of of.table (state_of ha a.now)) (notes_of of.table (state_of hb b.now)) }
 {
-    let n = count(of.table, ha.live);
-    let m = count(of.table, hb.live);
+    let n = of.table.count(ha.live);
+    let m = of.table.count(hb.live);
     let mut i = next_of(of, ha, a, 0);
     let mut j = next_of(of, hb, b, 0);
     while i < n {
         if m <= j {
             return false;
         }
-        let x = note_at(of.table, ha, a, i);
-        let y = note_at(of.table, hb, b, j);
+        let x = of.table.note_at(ha, a, i);
+        let y = of.table.note_at(hb, b, j);
         if !same_note(x, y) {
             return false;
         }

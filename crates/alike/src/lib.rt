@@ -16,7 +16,7 @@ ghost use Rattle.alike.specs.Answer.{answered};
 
 use block::head::{Head, Limits, Settings};
 use block::header;
-use by_link::NoteTable;
+use block::note::NoteTable;
 use sequences::Sequence;
 use tables::Table;
 

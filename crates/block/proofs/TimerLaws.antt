@@ -2,7 +2,7 @@
 -- Assumes nothing.
 use mathlib.Core.Path.{◌≡◌, sym, ap, ◌∙◌, subst}
 use mathlib.Core.List.{List}
-use Prim.Native.Nat.{ℕ, ◌+◌, ◌*◌, ◌≤◌}
+use Prim.Native.Nat.{ℕ, ◌≤◌}
 use native.Mathlib.Omega.{arith}
 use lib.Dec.{lit<}
 use lib.ListN.{length}
@@ -13,12 +13,11 @@ use Rattle.storage.proofs.TablesLaws.Listed.{length-listed}
 use Rattle.protocol.specs.State.{State, Limits, with_graft_timers}
 use Rattle.block.specs.Layout.{span, table}
 use Rattle.block.specs.View.{state_of, view_of, limits_of, id_at, timers_in}
-use Rattle.block.specs.Fit.{Fit}
 use Rattle.block.specs.Sound.{Laid, Sound}
 use Rattle.block.specs.Goes.{Goes}
 use Rattle.block.specs.Heads.{with_timer_count}
 use Rattle.block.specs.declared.head.Head.{Head}
-use Rattle.block.proofs.Lent.{lent_at, given_back, lent-table, lent-room, lent-frame, lent-long}
+use Rattle.block.proofs.Lent.{lent_at, given_back, lent-table, lent-frame, lent-long}
 
 pub count-timers : (h : Head) (xs : List ℕ) → length (state_of h xs).timers.graft ≡ h.live.timers
 unfolding state_of timers_in
@@ -32,9 +31,6 @@ module _ (h : Head) (xs : List ℕ) (r : Range ℕ) (hr : r ≡ span (limits_of 
   pub timers-lent : listed 32 key_of h.live.timers (lent_at r xs) ≡ (state_of h xs).timers.graft
   unfolding state_of timers_in key_of id_at
   timers-lent = ap (listed 32 key_of h.live.timers) (lent-table l 10 r xs (lit< tt) hr)
-
-  pub timers-room : Fit h xs → length (lent_at r xs) ≡ 32 * (l.T + 1)
-  timers-room fit = lent-room l 10 r xs (lit< tt) hr fit.long
 
   pub timers-goes : (f : List ℕ → List ℕ) (m : ℕ) (ys : List ℕ) → Sound h xs → m ≤ l.T → length ys ≡ length (lent_at r xs)
       → listed 32 key_of m ys ≡ f (state_of h xs).timers.graft

@@ -10,15 +10,15 @@ use Rattle.protocol.specs.Ticks.{per_message}
 use borrow.Author.Tests.{leb-true}
 use lib.Dec.{leb}
 use Rattle.storage.proofs.ListsLaws.MapLaws.{and_left, and_right}
-use Rattle.block.proofs.Cut.{within}
-use Rattle.block.specs.Layout.{place, sizes}
+use Rattle.block.specs.Layout.{place}
 use Rattle.block.specs.LinkSteps.{peer_at}
-use Rattle.block.specs.NoteSteps.{note, LinkIs}
+use Rattle.block.specs.NoteSteps.{note, notes_of, count_of, numbers_of, LinkIs}
 use Rattle.block.specs.View.{state_of, limits_of}
 use Rattle.block.specs.Sound.{Sound}
 use Rattle.block.specs.declared.head.Head.{Head}
+use Rattle.block.specs.declared.note.NoteTable.{NoteTable}
 use Rattle.block.proofs.LinkLaws.{count-links}
-use Rattle.block.proofs.NoteLaws.{count-queue, count-dropped, queue-link, record-link}
+use Rattle.block.proofs.NoteLaws.{count-queue, count-dropped, count-notes, number-there, note-link}
 use Rattle.steps.specs.Queue.{Column}
 
 pub map-at : (f : ℕ → ℕ) (xs : List ℕ) (i : ℕ) → i < length xs → get_or (map f xs) i 0 ≡ f (get_or xs i 0)
@@ -57,20 +57,11 @@ module _ (h : Head) (xs : List ℕ) where
         (λ i q. let b : i < n = omega (arith, q, length-map ns (λ (n : Note). n.peer), f) in get_or-map (λ (n : Note). n.peer) ns i (note 0 0 0) ∙ (is i b).peer ∙ ap (peer_at (state_of h xs)) (sym (g i b)) ∙ sym (map-at (peer_at (state_of h xs)) numbers i (omega (arith, b, e))));
   }
 
-  pub queue-column : (sound : Sound h xs) (a : ℕ) → a ≡ place (limits_of h.limits) 11 → Column (state_of h xs) (state_of h xs).queue (take (a + h.live.queued - a) (drop a xs))
-  queue-column sound a e =
-      let f : a + h.live.queued ≤ length xs = omega (arith, within (sizes (limits_of h.limits)) 11 0 h.live.queued (omega arith) (omega (arith, sound.fit.within.queued)), sound.fit.long, e) in
-      let n = h.live.queued in
+  pub note-column : (sound : Sound h xs) (of : NoteTable) (a : ℕ) → a ≡ place (limits_of h.limits) (numbers_of of) → Column (state_of h xs) (notes_of of (state_of h xs)) (take (a + count_of of h.live - a) (drop a xs))
+  note-column sound of a e =
+      let n = count_of of h.live in
+      let f : a + n ≤ length xs = omega (arith, number-there h xs sound of n (omega arith), e) in
       let l : length (take (a + n - a) (drop a xs)) ≡ n = length-take-le (a + n - a) (drop a xs) (omega (arith, length-drop a xs, f)) ∙ omega arith in
-      column_is sound (state_of h xs).queue a n (take (a + n - a) (drop a xs)) l (count-queue h xs sound)
+      column_is sound (notes_of of (state_of h xs)) a n (take (a + n - a) (drop a xs)) l (count-notes h xs sound of)
       (λ i q. get_or-take (a + n - a) (drop a xs) i 0 (omega (arith, q)) ∙ get_or-drop a xs i 0)
-      (λ i q. rw e (queue-link h xs sound i q))
-
-  pub record-column : (sound : Sound h xs) (a : ℕ) → a ≡ place (limits_of h.limits) 13 → Column (state_of h xs) (state_of h xs).dropped (take (a + h.live.dropped - a) (drop a xs))
-  record-column sound a e =
-      let f : a + h.live.dropped ≤ length xs = omega (arith, within (sizes (limits_of h.limits)) 13 0 h.live.dropped (omega arith) (omega (arith, sound.fit.within.dropped)), sound.fit.long, e) in
-      let n = h.live.dropped in
-      let l : length (take (a + n - a) (drop a xs)) ≡ n = length-take-le (a + n - a) (drop a xs) (omega (arith, length-drop a xs, f)) ∙ omega arith in
-      column_is sound (state_of h xs).dropped a n (take (a + n - a) (drop a xs)) l (count-dropped h xs sound)
-      (λ i q. get_or-take (a + n - a) (drop a xs) i 0 (omega (arith, q)) ∙ get_or-drop a xs i 0)
-      (λ i q. rw e (record-link h xs sound i q))
+      (λ i q. rw e (note-link h xs sound of i q))

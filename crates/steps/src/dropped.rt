@@ -1,7 +1,6 @@
 // `dropped_ihaves`, the record, as AnnounceDropped leaves it: a row written over another, the rest cut off; and its flag.
 use crate::panel::Panel;
-use block::note;
-use block::note::Note;
+use block::note::{Note, NoteTable};
 
 impl<'a> Panel<'a> {
     ghost use Rattle.std.specs.Prelude.{◌≤◌, ◌<◌, false, length};
@@ -16,7 +15,7 @@ impl<'a> Panel<'a> {
         requires { (row < length (state self.old).dropped) × (note.link < length (state self.old).links) }
         ensures { Goes (drop_instead row note.link (id_of note.id) note.round.0) self.old self.new }
     {
-        note::set_dropped(self.head, self.block, row, note);
+        NoteTable::Record.set(self.head, self.block, row, note);
     }
 
     // The record's first rows stay.

@@ -4,7 +4,8 @@ ghost use Rattle.steps.specs.SoundProp.{Sound-prop};
 
 use crate::view::View;
 use block::head::Head;
-use block::{links, note};
+use block::links;
+use block::note::{Note, NoteTable};
 use postcard::units::Round;
 use storage::rows::id::Id;
 
@@ -81,7 +82,7 @@ impl<'a> Panel<'a> {
         requires room { length (state self.old).queue < (state self.old).limits.Q }
         ensures { Goes (queue_also link (id_of id) round.0) self.old self.new }
     {
-        note::store_queued(self.head, self.block, link, id, round);
+        NoteTable::Queue.push(self.head, self.block, Note { link, id, round });
         self.head.live.queued += 1;
     }
 
@@ -98,7 +99,7 @@ impl<'a> Panel<'a> {
         requires room { length (state self.old).dropped < (state self.old).limits.D }
         ensures { Goes (drop_also link (id_of id) round.0) self.old self.new }
     {
-        note::store_dropped(self.head, self.block, link, id, round);
+        NoteTable::Record.push(self.head, self.block, Note { link, id, round });
         self.head.live.dropped += 1;
     }
 

@@ -3,7 +3,7 @@ use crate::groups::MAX_ROWS;
 use crate::panel::Panel;
 use crate::view::View;
 use block::head::Head;
-use block::note::Note;
+use block::note::{Note, NoteTable};
 use block::{head, note};
 use wire::serialized_size;
 
@@ -35,7 +35,7 @@ impl<'a> View<'a> {
         requires { row < length (shown self.now).queue }
         ensures { noted_by (shown self.now) result ≡ note_at (shown self.now).queue row }
     {
-        note::queued_at(self.head, self.block, row)
+        NoteTable::Queue.note_at(self.head, self.block, row)
     }
 
     // "IHave of at most (M − 6) / 35, rounded down".

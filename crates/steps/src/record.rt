@@ -1,8 +1,8 @@
 // `dropped_ihaves`, the record, row by row: the specification, "Record".
 use crate::panel::Panel;
 use crate::view::View;
-use block::note::Note;
-use block::{head, note};
+use block::head;
+use block::note::{Note, NoteTable};
 use protocol::MAX_DROPPED;
 
 impl<'a> View<'a> {
@@ -32,7 +32,7 @@ impl<'a> View<'a> {
         requires { row < length (shown self.now).dropped }
         ensures { NoteOf (shown self.now) (note_at (shown self.now).dropped row) result }
     {
-        note::dropped_at(self.head, self.block, row)
+        NoteTable::Record.note_at(self.head, self.block, row)
     }
 }
 
@@ -47,7 +47,7 @@ impl<'a> Panel<'a> {
         requires { row < length (state self.now).queue }
         ensures { NoteIs self.now.head self.now.block.now (state self.now).queue row result }
     {
-        note::queued_at(self.head, self.block, row)
+        NoteTable::Queue.note_at(self.head, self.block, row)
     }
 
     // The record takes row i of the queue.

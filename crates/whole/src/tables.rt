@@ -1,6 +1,7 @@
 // Question 5 of the tables: one pass over each, and no search. Where a number names a row by its place, that it does is all that is tested:
 // peers are then neighbours, and each cache entry has an expiry entry of its time, by the layout.
-ghost use Rattle.std.specs.Prelude.{◌≡◌, true, ◌&&◌, ◌+◌, ◌*◌, ◌≤◌, ◌<◌, length};
+ghost use Rattle.std.specs.Prelude.{◌≡◌, ℕ, Bool, true, ◌&&◌, List, ◌+◌, ◌-◌, ◌*◌, ◌≤◌, ◌<◌, length};
+ghost use Rattle.std.specs.Fn.{FnReturnsAt};
 ghost use Rattle.storage.specs.Lists.Base.{ascending, sum};
 ghost use Rattle.storage.specs.Rows.Rows.{rows};
 ghost use Rattle.storage.specs.Refs.Refs.{refs, places, Below};
@@ -144,6 +145,26 @@ fn numbers_ascend(numbers: &[u8], link_count: usize) -> bool
     true
 }
 
+// The lists of link numbers and rounds that stand last in rows of one width all pass a test.
+fn lists_pass<F: Fn(&[u8]) -> bool + Drop>(
+    bytes: &[u8],
+    row_width: usize,
+    row_count: usize,
+    test: F,
+) -> bool
+    requires room { (97 ≤ row_width) × (row_count * row_width ≤ length bytes.now) }
+    requires callable { (list : _) → length list.now ≡ 97 → F.pre test list }
+    ensures { (f : List ℕ → Bool) → ((list : List ℕ) (r : Bool) → FnReturnsAt F.Fn test list r → r ≡ f list) → result ≡ all_lists f (row_width - 97) row_width row_count bytes.now }
+{
+    for i in 0..row_count {
+        let at = i * row_width + (row_width - Hops::WIDTH);
+        if !test(&bytes[at..at + Hops::WIDTH]) {
+            return false;
+        }
+    }
+    true
+}
+
 // A list of link numbers and rounds: at most 32 numbers of links, that ascend.
 #[tactic(auto, unfolding(crate::specs::Parts::graft_list, crate::specs::Held::numbers_name))]
 fn graft_list(list: &[u8], link_count: usize) -> bool
@@ -152,20 +173,6 @@ fn graft_list(list: &[u8], link_count: usize) -> bool
 {
     let n = wide(list[0]);
     n <= Hops::CAPACITY && numbers_ascend(&list[1..1 + n], link_count)
-}
-
-// The lists of the grafted entries are such lists.
-fn graft_lists(entries: &[u8], entry_count: usize, link_count: usize) -> bool
-    requires { entry_count * 119 ≤ length entries.now }
-    ensures { result ≡ all_lists (graft_list link_count) 22 119 entry_count entries.now }
-{
-    for i in 0..entry_count {
-        let at = i * grafted::ENTRY_WIDTH + grafted::PEERS;
-        if !graft_list(&entries[at..at + Hops::WIDTH], link_count) {
-            return false;
-        }
-    }
-    true
 }
 
 // The time cache of grafted messages: places name rows, keys once, rows in pop order.
@@ -182,7 +189,13 @@ fn grafted_peers(head: Head, block: &[u8]) -> bool
     ensures { result ≡ grafted_peers head block.now }
 {
     let at = head::grafted_at(head.limits);
-    graft_lists(&block[at..], head.live.grafted, head.live.links)
+    let links = head.live.links;
+    lists_pass(
+        &block[at..],
+        grafted::ENTRY_WIDTH,
+        head.live.grafted,
+        |list| graft_list(list, links),
+    )
 }
 
 // Grafted messages: the time cache in order, and the peers.
@@ -204,20 +217,6 @@ fn missed_list(list: &[u8], link_count: usize) -> bool
     1 <= n && n <= Hops::CAPACITY && refs::numbers(&list[1..1 + n], link_count)
 }
 
-// The lists of the missing messages are such lists.
-fn missed_lists(row_bytes: &[u8], row_count: usize, link_count: usize) -> bool
-    requires { (row_count * 129 ≤ length row_bytes.now) × (link_count ≤ 32) }
-    ensures { result ≡ all_lists (missed_list link_count) 32 129 row_count row_bytes.now }
-{
-    for i in 0..row_count {
-        let at = i * Missed::WIDTH + Missed::ANNOUNCERS;
-        if !missed_list(&row_bytes[at..at + Hops::WIDTH], link_count) {
-            return false;
-        }
-    }
-    true
-}
-
 // Missing messages: keys once.
 fn missing_once(head: Head, block: &[u8]) -> bool
     requires { Fit head block.now }
@@ -233,7 +232,13 @@ fn announcers(head: Head, block: &[u8]) -> bool
     ensures { result ≡ announcers head block.now }
 {
     let at = head::missing_at(head.limits);
-    missed_lists(&block[at..], head.live.missing, head.live.links)
+    let links = head.live.links;
+    lists_pass(
+        &block[at..],
+        Missed::WIDTH,
+        head.live.missing,
+        |list| missed_list(list, links),
+    )
 }
 
 // Missing messages: keys once, and their announcers.

@@ -11,7 +11,7 @@ ghost use Rattle.payloads.specs.EagerPush.Notes.{record_back, back_state, NotesB
 use crate::eager_push::target::{Push, hands_back};
 use arrayvec::ArrayVec;
 use block::head::MAX_LINKS;
-use block::note;
+use block::note::NoteTable;
 use postcard::units::Round;
 use protocol::{MAX_DROPPED, MAX_DROPPED_PER_PEER};
 use steps::call::Call;
@@ -55,9 +55,9 @@ fn marks_after(view: &View, from: [usize; MAX_LINKS], id: Id) -> [usize; MAX_LIN
     let block = view.block;
     let mut marks = from;
     for i in 0..head.live.dropped {
-        let link = note::dropped_link_at(head, block, i);
+        let link = NoteTable::Record.link_at(head, block, i);
         if marks[link] < MAX_DROPPED_PER_PEER {
-            let noted = note::dropped_at(head, block, i);
+            let noted = NoteTable::Record.note_at(head, block, i);
             let same = noted.id == id;
             marks[link] = if same {
                 MAX_DROPPED_PER_PEER

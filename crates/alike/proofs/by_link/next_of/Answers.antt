@@ -13,11 +13,11 @@ use Rattle.protocol.specs.State.{State, Note}
 use Rattle.protocol.specs.Push.{for_peer}
 use Rattle.block.specs.View.{state_of}
 use Rattle.block.specs.LinkSteps.{peer_at}
-use Rattle.block.specs.NoteSteps.{note}
+use Rattle.block.specs.NoteSteps.{note, notes_of}
 use Rattle.block.proofs.LinkLaws.{count-peers}
+use Rattle.block.proofs.NoteLaws.{count-notes}
 use Rattle.block.proofs.Scans.{keys-apart}
-use Rattle.alike.specs.NoteTable.{notes_of}
-use Rattle.alike.proofs.ByLink.{count-of, other-first}
+use Rattle.alike.proofs.ByLink.{other-first}
 use borrow.Author.Rules.{rules}
 use Rattle.alike.proofs.by_link.next_of.Goals as goal
 use Rattle.alike.proofs.by_link.next_of.Goals.{After-count-n, After-link_at, Start}
@@ -46,7 +46,7 @@ module _ (d : After-link_at) where
   e = get_or ns i (note 0 0 0)
 
   here : i < length ns
-  here = omega (arith, count-of s.args.of.table s.args.head s.args.block.now s.requires.0, d.loop-i-test.true, f.count-n.ensures)
+  here = omega (arith, count-notes s.args.head s.args.block.now s.requires.0 s.args.of.table, d.loop-i-test.true, f.count-n.ensures)
 
   is-for : d.link_at.result ≡ s.args.of.link → for_peer p e ≡ true
   is-for t = eq-eqb e.peer p (d.link_at.ensures.peer ∙ ap (peer_at st) t)
@@ -72,7 +72,7 @@ pub returns : goal.returns
 returns c =
     let l = c.loop-i in
     let a = c.args in
-    let n = count-of a.of.table a.head a.block.now c.requires.0 in
+    let n = count-notes a.head a.block.now c.requires.0 a.of.table in
     let at : l.i ≡ c.count-n.result = omega (arith, c.loop-i-test.false, l.invariant.1) in
     record {
       after = omega (arith, l.invariant.0, l.invariant.1);

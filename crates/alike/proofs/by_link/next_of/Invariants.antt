@@ -6,7 +6,7 @@ use Rattle.storage.specs.Lists.Base.{filter}
 use Rattle.protocol.specs.Push.{for_peer}
 use Rattle.block.specs.View.{state_of}
 use Rattle.block.specs.LinkSteps.{peer_at}
-use Rattle.alike.specs.NoteTable.{notes_of}
+use Rattle.block.specs.NoteSteps.{notes_of}
 use Rattle.alike.proofs.by_link.next_of.Given as goal
 
 abbrev pub invariant-loop-i : goal.invariant-loop-i

@@ -11,10 +11,11 @@ use Rattle.protocol.specs.State.{State, Note}
 use Rattle.protocol.specs.Alike.{same_note}
 use Rattle.block.specs.View.{state_of}
 use Rattle.block.specs.LinkSteps.{peer_at}
-use Rattle.block.specs.NoteSteps.{note}
+use Rattle.block.specs.NoteSteps.{note, notes_of, count_of}
 use Rattle.block.specs.declared.note.Note.{Note as LinkNote}
-use Rattle.alike.specs.NoteTable.{notes_of, count_of, NextOf}
-use Rattle.alike.proofs.ByLink.{count-of, Cursors, cursors-short, cursors-differ, cursors-more, cursors-end, same-inside}
+use Rattle.block.proofs.NoteLaws.{count-notes}
+use Rattle.alike.specs.NoteTable.{NextOf}
+use Rattle.alike.proofs.ByLink.{Cursors, cursors-short, cursors-differ, cursors-more, cursors-end, same-inside}
 use Rattle.alike.proofs.by_link.same_for.Goals as goal
 use Rattle.alike.proofs.by_link.same_for.Goals.{After-same_note, At-loop-i, In-loop-i, Start}
 
@@ -36,10 +37,10 @@ module _ (s : Start) where
   ys = notes_of s.args.of.table sb
 
   many_xs : length xs ≡ count_of s.args.of.table s.args.ha.live
-  many_xs = count-of s.args.of.table s.args.ha s.args.a.now s.requires.sound.0
+  many_xs = count-notes s.args.ha s.args.a.now s.requires.sound.0 s.args.of.table
 
   many-ys : length ys ≡ count_of s.args.of.table s.args.hb.live
-  many-ys = count-of s.args.of.table s.args.hb s.args.b.now s.requires.sound.3
+  many-ys = count-notes s.args.hb s.args.b.now s.requires.sound.3 s.args.of.table
 
   -- what was found in the second list, of the one peer
   in-second : (from r : ℕ) → NextOf (peer_at sb s.args.of.link) from ys r → NextOf p from ys r

@@ -2,7 +2,7 @@
 use Prim.Native.Nat.{◌-◌}
 use Rattle.block.specs.View.{state_of}
 use Rattle.block.specs.LinkSteps.{peer_at}
-use Rattle.alike.specs.NoteTable.{notes_of}
+use Rattle.block.specs.NoteSteps.{notes_of}
 use Rattle.alike.proofs.ByLink.{Cursors}
 use Rattle.alike.proofs.by_link.same_for.Given as goal
 

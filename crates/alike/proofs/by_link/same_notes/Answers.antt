@@ -12,7 +12,8 @@ use Rattle.protocol.specs.State.{Note}
 use Rattle.block.specs.View.{state_of}
 use Rattle.block.specs.LinkSteps.{peer_at}
 use Rattle.block.proofs.LinkLaws.{count-peers}
-use Rattle.alike.specs.NoteTable.{notes_of, same_for}
+use Rattle.block.specs.NoteSteps.{notes_of}
+use Rattle.alike.specs.NoteTable.{same_for}
 use Rattle.alike.proofs.ByLink.{notes-no, notes-yes}
 use borrow.Author.Rules.{rules}
 use Rattle.alike.proofs.by_link.same_notes.Goals as goal

@@ -4,7 +4,8 @@ use mathlib.Core.Bool.{true}
 use Prim.Native.Nat.{ℕ, ◌≤◌, ◌<◌}
 use Rattle.block.specs.View.{state_of}
 use Rattle.block.specs.LinkSteps.{peer_at}
-use Rattle.alike.specs.NoteTable.{notes_of, same_for}
+use Rattle.block.specs.NoteSteps.{notes_of}
+use Rattle.alike.specs.NoteTable.{same_for}
 use Rattle.alike.proofs.by_link.same_notes.Given as goal
 
 abbrev pub invariant-loop-link : goal.invariant-loop-link

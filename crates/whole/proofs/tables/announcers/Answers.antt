@@ -1,4 +1,5 @@
 -- `announcers`: the lists of table 9.
+use borrow.Author.Rules.{rules}
 use mathlib.Core.Path.{◌∙◌}
 use native.Mathlib.Omega.{arith}
 use lib.Dec.{lit<}
@@ -13,6 +14,6 @@ returns c =
     let h = c.args.head in
     let xs = c.args.block.now in
     let at = c.missing_at-at in
-    c.missed_lists.ensures
+    c.lists_pass.ensures (missed_list h.live.links) (λ list r t. search rules)
     ∙ lists-lent (limits_of h.limits) xs (missed_list h.live.links) 32 9 129 h.live.missing at.result (lit< tt) (omega (arith, c.requires.0.within.missing)) at.ensures
     ∙ missing-lists h xs c.requires.0 c.requires.1

@@ -1,4 +1,5 @@
 -- `grafted_peers`: the lists of table 7.
+use borrow.Author.Rules.{rules}
 use mathlib.Core.Path.{◌∙◌}
 use native.Mathlib.Omega.{arith}
 use lib.Dec.{lit<}
@@ -13,6 +14,6 @@ returns c =
     let h = c.args.head in
     let xs = c.args.block.now in
     let at = c.grafted_at-at in
-    c.graft_lists.ensures
+    c.lists_pass.ensures (graft_list h.live.links) (λ list r t. search rules)
     ∙ lists-lent (limits_of h.limits) xs (graft_list h.live.links) 22 7 119 h.live.grafted at.result (lit< tt) (omega (arith, c.requires.0.within.grafted)) at.ensures
     ∙ grafted-lists h xs c.requires.0 c.requires.1

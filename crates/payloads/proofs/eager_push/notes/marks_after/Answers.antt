@@ -23,16 +23,16 @@ loop-i-preserved c =
     let up = c.requires.0.consistent.core.links_up in
     let id = id_of c.args.id in
     let l = c.loop-i in
-    let x = c.dropped_link_at-link.result in
+    let x = c.link_at-link.result in
     let m = get_or l.marks x 0 in
     let e : Note = get_or s.dropped l.i (note 0 0 0) in
-    let k = c.dropped_link_at-link.ensures in
+    let k = c.link_at-link.ensures in
     let here : l.i < length s.dropped = omega (arith, count-dropped v.head v.block.now v.sound, c.loop-i-test.true) in
     let long : x < length l.marks = omega (arith, k.below, v.sound.fit.within.links, v.sound.fit.ceilings.N, l.invariant.0) in
     let is-for : eqb e.peer (peer_at s x) ≡ true = eq-eqb e.peer (peer_at s x) k.peer in
     elim c.if-marks-link-lt-MAX_DROPPED_PER_PEER.branch [
       | then-marks-link-lt-MAX_DROPPED_PER_PEER w ↦
-          let same = λ (b : Bool). λ (q : w.eq-same.result ≡ b). ap (λ (n : Note). eqb n.id id) w.dropped_at-noted.ensures.same ∙ sym w.eq-same.ensures ∙ q in
+          let same = λ (b : Bool). λ (q : w.eq-same.result ≡ b). ap (λ (n : Note). eqb n.id id) w.note_at-noted.ensures.same ∙ sym w.eq-same.ensures ∙ q in
           rw w.marks-is (
             length-set l.marks x w.if-same.marks ∙ l.invariant.0,
             seen-set v.head v.block.now up id c.args.from l.marks l.i x here k.below k.peer l.invariant.1 w.if-same.marks long

@@ -1,5 +1,5 @@
 use Rattle.steps.proofs.PanelLaws.{link-below, queue-room}
 use Rattle.steps.proofs.panel.Panel.push_queued.Goals as goal
 
-pub store_queued-requires : goal.store_queued-requires
-store_queued-requires c = let s = c.args.self.now in (s.sound, link-below _ _ _ c.requires.link, queue-room _ _ s.sound c.requires.room)
+pub push-requires : goal.push-requires
+push-requires c = let s = c.args.self.now in (s.sound, link-below _ _ _ c.requires.link, queue-room _ _ s.sound c.requires.room)

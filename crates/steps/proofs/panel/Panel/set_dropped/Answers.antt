@@ -3,5 +3,5 @@ use Rattle.block.proofs.NoteLaws.{count-dropped}
 use Rattle.steps.proofs.PanelLaws.{link-below}
 use Rattle.steps.proofs.panel.Panel.set_dropped.Goals as goal
 
-pub set_dropped-requires : goal.set_dropped-requires
-set_dropped-requires c = let p = c.args.self.now in (p.sound, omega (arith, c.requires.0, count-dropped p.head p.block.now p.sound), link-below p.head p.block.now _ c.requires.1)
+pub set-requires : goal.set-requires
+set-requires c = let p = c.args.self.now in (p.sound, omega (arith, c.requires.0, count-dropped p.head p.block.now p.sound), link-below p.head p.block.now _ c.requires.1)

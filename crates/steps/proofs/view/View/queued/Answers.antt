@@ -2,5 +2,5 @@ use Rattle.std.proofs.Common.{arith}
 use Rattle.block.proofs.NoteLaws.{count-queue}
 use Rattle.steps.proofs.view.View.queued.Goals as goal
 
-pub queued_at-requires : goal.queued_at-requires
-queued_at-requires c = let v = c.args.self.now in (v.sound, omega (arith, c.requires, count-queue v.head v.block.now v.sound))
+pub note_at-requires : goal.note_at-requires
+note_at-requires c = let v = c.args.self.now in (v.sound, omega (arith, c.requires, count-queue v.head v.block.now v.sound))

@@ -1,0 +1,13 @@
+-- `lists_pass`: the lists of the first i rows pass.
+use mathlib.Core.Path.{◌≡◌}
+use mathlib.Core.Bool.{Bool, true}
+use mathlib.Core.List.{List}
+use Prim.Native.Nat.{ℕ, ◌-◌}
+use lib.ListN.{take, drop}
+use Rattle.std.specs.Fn.{FnReturnsAt}
+use Rattle.storage.specs.Lists.Base.{all}
+use Rattle.storage.specs.Rows.Rows.{rows}
+use Rattle.whole.proofs.tables.lists_pass.Given as goal
+
+abbrev pub invariant-loop-i : goal.invariant-loop-i
+invariant-loop-i g l = (f : List ℕ → Bool) → ((list : List ℕ) (r : Bool) → FnReturnsAt g.F.Fn l.test list r → r ≡ f list) → all (λ row. f (drop (l.row_width - 97) row)) (take l.i (rows l.row_width l.row_count l.bytes)) ≡ true

@@ -1,2 +1,3 @@
 pub mod LimitMet
 pub mod Decided
+pub mod Told

@@ -12,6 +12,7 @@ ghost use Rattle.steps.specs.Views.{shown};
 ghost use Rattle.machine.specs.Core.{Shortened, event_size, core_rooms};
 ghost use Rattle.machine.specs.LimitMet.LimitMet.{asking, limit_met};
 ghost use Rattle.machine.specs.LimitMet.Decided.{sizes_past, event_past, step_past};
+ghost use Rattle.machine.specs.LimitMet.Told.{limit_number, limit_told};
 ghost use Rattle.machine.specs.Steps.{after_event, Keeps, Named};
 
 use crate::event::EventCall;
@@ -26,66 +27,89 @@ use steps::on_neighbor_up::up_sizes;
 use steps::view::View;
 use wire::reader::event::Event;
 
-// The first limit that these numbers of entries are past, in the order of the ceilings; 0 if they are within every one. "Expiry entries: 2R, 2C, 2G".
+// A limit, by its number in the order of the ceilings: N, R, C, B, G, S, T, Q, D.
+#[derive(Clone, Copy)]
+pub enum Limit {
+    Neighbours = 1,
+    Received = 2,
+    Cached = 3,
+    Content = 4,
+    Grafted = 5,
+    Missing = 6,
+    Timers = 7,
+    Queued = 8,
+    Dropped = 9,
+}
+
+impl Limit {
+    // Its number.
+    pub fn number(self) -> u8
+        ensures { result ≡ limit_number self }
+    {
+        self as u8
+    }
+}
+
+// The first limit that these numbers of entries are past. "Expiry entries: 2R, 2C, 2G".
 #[tactic(auto, unfolding(crate::specs::LimitMet::Decided::sizes_past))]
-fn limit_past(l: Limits, z: Sizes) -> u8
+fn limit_past(l: Limits, z: Sizes) -> Option<Limit>
     requires { Ceilings (limits_of l) }
-    ensures { result ≡ sizes_past (limits_of l) (sizes_value z) }
+    ensures { limit_told result ≡ sizes_past (limits_of l) (sizes_value z) }
 {
     if l.neighbours < z.links {
-        return 1;
+        return Some(Limit::Neighbours);
     }
     if l.received < z.received {
-        return 2;
+        return Some(Limit::Received);
     }
     if 2 * l.received < z.received_rows {
-        return 2;
+        return Some(Limit::Received);
     }
     if l.cached < z.cached {
-        return 3;
+        return Some(Limit::Cached);
     }
     if 2 * l.cached < z.cached_rows {
-        return 3;
+        return Some(Limit::Cached);
     }
     if l.content < z.contents {
-        return 4;
+        return Some(Limit::Content);
     }
     if l.grafted < z.grafted {
-        return 5;
+        return Some(Limit::Grafted);
     }
     if 2 * l.grafted < z.grafted_rows {
-        return 5;
+        return Some(Limit::Grafted);
     }
     if l.missing < z.missing {
-        return 6;
+        return Some(Limit::Missing);
     }
     if l.timers < z.timers {
-        return 7;
+        return Some(Limit::Timers);
     }
     if l.queued < z.queued {
-        return 8;
+        return Some(Limit::Queued);
     }
     if l.dropped < z.dropped {
-        return 9;
+        return Some(Limit::Dropped);
     }
-    0
+    None
 }
 
 // Questions 12 and 13 of a step.
-fn step_limit(view: &View, call: &Call, step: Step) -> u8
+fn step_limit(view: &View, call: &Call, step: Step) -> Option<Limit>
     requires { Named call.now step (shown view.now) × Keeps (shown view.now) (after_event call.now step (shown view.now)) }
-    ensures { result ≡ step_past call.now step.entry (shown view.now) }
+    ensures { limit_told result ≡ step_past call.now step.entry (shown view.now) }
 {
     if event::is_far(step) {
-        return 0;
+        return None;
     }
     limit_past(view.head.limits, step_sizes(view, call, step))
 }
 
 // Questions 10, 12 and 13 of an event that was read, by its kind. A neighbour told down adds nothing.
-fn event_limit(view: &View, call: &Call, event: Event) -> u8
+fn event_limit(view: &View, call: &Call, event: Event) -> Option<Limit>
     requires { AtRest (shown view.now) × Shortened event }
-    ensures { result ≡ event_past (rooms_of call.now (shown view.now)) call.now.instant.0 (event_size event.entry) (event_value event.entry) (shown view.now) }
+    ensures { limit_told result ≡ event_past (rooms_of call.now (shown view.now)) call.now.instant.0 (event_size event.entry) (event_value event.entry) (shown view.now) }
 {
     match event {
         Event::Received {
@@ -94,7 +118,7 @@ fn event_limit(view: &View, call: &Call, event: Event) -> u8
             message,
         } => {
             if view.head.settings.max_message_size < size as u64 {
-                return 0;
+                return None;
             }
             step_limit(view, call, kinds::message_step(view, call, peer, message))
         }
@@ -107,16 +131,16 @@ fn event_limit(view: &View, call: &Call, event: Event) -> u8
         }
         Event::Timer(timer) => step_limit(view, call, kinds::timer_step(timer)),
         Event::Up(peer) => limit_past(view.head.limits, up_sizes(view, peer)),
-        Event::Down(_) => 0,
+        Event::Down(_) => None,
     }
 }
 
-// The limit that a call met that is answered 13; 0 if the call, with the counts zero, is not answered 13. It takes as long as the call does up to question 13.
-pub fn limit_met(block: &[u8], asked: EventCall) -> u8
-    ensures { result ≡ limit_met identifier (length block.now) (held block.now) (asking asked.entry.instant.0 asked.entry.event.now (core_rooms block.now asked.entry.event.now asked.entry.rooms.now)) }
+// The limit that a call met that is answered 13; none if the call, with the counts zero, is not answered 13. It takes as long as the call does up to question 13.
+pub fn limit_met(block: &[u8], asked: EventCall) -> Option<Limit>
+    ensures { limit_told result ≡ limit_met identifier (length block.now) (held block.now) (asking asked.entry.instant.0 asked.entry.event.now (core_rooms block.now asked.entry.event.now asked.entry.rooms.now)) }
 {
     let Ok(event) = event::read_event(block, asked.instant, asked.event) else {
-        return 0;
+        return None;
     };
     let call = Call {
         instant: asked.instant,

@@ -164,7 +164,10 @@ pub extern "C" fn plumtree_limit_met(
         event,
         rooms: &found,
     };
-    limit_met::limit_met(block, asked)
+    match limit_met::limit_met(block, asked) {
+        Some(limit) => limit.number(),
+        None => 0,
+    }
 }
 
 // "The shortest form", "a writer that reads any message the reader takes and writes its shortest form into a lent buffer": questions 7, 8, 9 and 14. The message is lent alone, without an event's kind and peer.

@@ -12,6 +12,7 @@ use Rattle.machine.specs.Core.{event_size, Shortened}
 use Rattle.machine.specs.Decided.{size_fits}
 use Rattle.machine.specs.Kinds.Meaning.{Means}
 use Rattle.machine.specs.LimitMet.Decided.{event_past}
+use Rattle.machine.specs.LimitMet.Told.{limit_told}
 use Rattle.machine.specs.Steps.{after_event, Keeps, Named}
 use Rattle.machine.specs.declared.kinds.Step.{Step}
 use Rattle.machine.proofs.OutcomeLaws.{keeps-event}
@@ -84,7 +85,7 @@ returns-in-Timer c =
 pub returns-in-Up : goal.returns-in-Up
 returns-in-Up c =
     let a = c.args in
-    up-past (rooms_of a.call.now (shown a.view.now)) a.call.now.instant.0 c.in-Up.peer a.view.now c.up_sizes.result c.limit_past.result c.up_sizes.ensures c.limit_past.ensures
+    up-past (rooms_of a.call.now (shown a.view.now)) a.call.now.instant.0 c.in-Up.peer a.view.now c.up_sizes.result (limit_told c.limit_past.result) c.up_sizes.ensures c.limit_past.ensures
     ∙ as_event (goal.at.returns-in-Up c).Start c.in-Up.is
 
 pub returns-in-Down : goal.returns-in-Down

@@ -9,6 +9,7 @@ use Rattle.steps.specs.Panels.{AtRest}
 use Rattle.block.specs.Sound.{Sound}
 use Rattle.steps.proofs.AtRestLaws.{rest_of}
 use Rattle.machine.specs.Core.{core_rooms}
+use Rattle.machine.specs.LimitMet.Told.{limit_told}
 use Rattle.machine.proofs.CoreLaws.{Reads, begun-reads, begun-of, header-long}
 use Rattle.machine.proofs.LimitMetLaws.LimitLaws.{begun-limit, core-limit}
 use Rattle.machine.proofs.limit_met.limit_met.Goals as goal
@@ -34,7 +35,7 @@ event_limit-requires c = (rest (goal.at.event_limit-requires c).After-load_head,
 pub returns : goal.returns
 returns c =
     let a = c.args in
-    core-limit a.block.now a.asked.event.now a.asked.rooms.now c.load_head.result a.asked.instant.0 c.in-Ok.event c.event_peer.result c.event_limit.result (reads (goal.at.returns c).In-Ok) c.load_head.ensures c.in-Ok.ensures.sized c.event_peer.ensures c.event_limit.ensures
+    core-limit a.block.now a.asked.event.now a.asked.rooms.now c.load_head.result a.asked.instant.0 c.in-Ok.event c.event_peer.result (limit_told c.event_limit.result) (reads (goal.at.returns c).In-Ok) c.load_head.ensures c.in-Ok.ensures.sized c.event_peer.ensures c.event_limit.ensures
 
 pub returns-in_default : goal.returns-in_default
 returns-in_default c =

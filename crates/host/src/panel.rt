@@ -7,11 +7,11 @@ ghost use Rattle.plumtree.specs.Calls.{entries};
 ghost use Rattle.plumtree.specs.CallList.{fresh_list, with_call, LeadsTo};
 
 use crate::past::{Call, Past};
-use refusal::Refusal;
 use block::head::{Limits, Settings};
 use machine::Stats;
 use plumtree::LinkRoom;
 use postcard::units::Millis;
+use refusal::Refusal;
 
 // A panel: a block that is lent, and the counts, as the calls of `past` left them; and so the guarantee holds of that list (`LeadsTo`).
 #[derive(Drop)]

@@ -43,8 +43,7 @@ place-requires c = (c.requires.0.entry_wide, (spot (goal.at.place-requires c).In
 pub key-found-requires : goal.key-found-requires
 key-found-requires c =
     let a = c.args in
-    let i = (goal.at.key-found-requires c).In-loop-lo in
-    (
+    let i = (goal.at.key-found-requires c).In-loop-lo in (
       c.requires.0.expiry_wide,
       named-below a.places.stride a.places.len a.places.bytes.now a.expiry.stride a.expiry.len a.expiry.bytes.now (mid i) c.place.result c.place.ensures (spot i).2 c.requires.0,
       c.requires.0.rows,

@@ -78,7 +78,7 @@ loop-i-preserved c =
     let e : y ≡ get_or k l.i 0 = this (goal.at.loop-i-preserved c).After-key-key in
     let f : (row_at (expiry_rows a.expiry.stride a.expiry.len a.expiry.bytes.now) l.last).key ≡ get_or k (l.i - 1) 0 = before i in
     let up : get_or k (l.i - 1) 0 < get_or k l.i 0 = elim c.else-key-first_word.branch [
-      else-key-first_word-via-then-key-first_word+else-le w ↦ lt_of (id_of w.key.result) y (get_or k (l.i - 1) 0) (get_or k l.i 0) (w.key.ensures ∙ f) e (le_false y (id_of w.key.result) (sym w.le.ensures ∙ w.if-le.false))
+      | else-key-first_word-via-then-key-first_word+else-le w ↦ lt_of (id_of w.key.result) y (get_or k (l.i - 1) 0) (get_or k l.i 0) (w.key.ensures ∙ f) e (le_false y (id_of w.key.result) (sym w.le.ensures ∙ w.if-le.false))
       | else-key-first_word-via-else-key-first_word w ↦ omega (arith, w.if-key-first_word.false, l.invariant.2, e, f)
     ] in (
       b,

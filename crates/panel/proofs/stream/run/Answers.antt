@@ -1,6 +1,5 @@
 -- `run`: each record is answered, and where the input ends, or no record follows, the end is written; where a read or a write fails, what was written is a front.
 use Rattle.std.proofs.Common.{ap, sym, subst, ◌∙◌, List, ℕ}
-use Rattle.std.proofs.lemmas.List.{length-take-le}
 use Rattle.std.proofs.lemmas.Result.{on_ok_weaker, on_err_weaker}
 use Rattle.std.specs.Io.KnownBytes.{Appends}
 use Rattle.panel.specs.Records.Reading.{Whole, Never, Bad}
@@ -15,9 +14,6 @@ records-init g c =
     let start = g.R.Read.remaining c.args.input.now in
     let held = g.W.Write.contents c.args.output.now in
     subst (λ (u : List ℕ). Sofar c.start-panel.result.past.list u start start held held) (sym c.new-unread.ensures) (sofar-start start held c.start-panel.ensures)
-
-pub slice_bounds-write_on-end : goal.slice_bounds-write_on-end
-slice_bounds-write_on-end g c = sym (length-take-le c.answer-n.result c.answer-n.new.reply c.answer-n.ensures.inside)
 
 pub returns-in_err-write_on-in-Whole-clause-err : goal.returns-in_err-write_on-in-Whole-clause-err
 returns-in_err-write_on-in-Whole-clause-err g c =

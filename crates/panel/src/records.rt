@@ -36,7 +36,6 @@ pub enum Record<'a> {
 const MAX_EVENT: u64 = 16384;
 
 // May the length that begins with these bytes, its last one not among them, still be at most 16,384? Of three bytes, 80 80 01 alone is.
-#[tactic(auto, using(crate::proofs::RecordsLaws::Pieces::fits))]
 fn may_fit(bytes: &[u8]) -> bool
     ensures { result ≡ may_fit bytes.now }
 {

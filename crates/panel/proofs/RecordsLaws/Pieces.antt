@@ -523,6 +523,3 @@ other_fault faults.Output h n = omega arith
 pub bad-none : Bad [] → ⊥
 unfolding read_record read_lengthed read_bytes read_number read_groups last_group
 bad-none b = (b.always (0 ∷ 0 ∷ [])).never (record_call 0 []) [] refl
-
--- the test of `may_fit`, by how many bytes there are
-pub ruleset fits = (fit-short, fit-two, fit-long)

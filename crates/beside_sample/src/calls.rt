@@ -3,7 +3,7 @@ ghost use Rattle.std.specs.Prelude.{◌≤◌, length};
 
 use crate::read;
 use block::head::{Config, Limits, MAX_LINKS, Settings};
-use machine::event::{EventCall, Outcome};
+use machine::event::EventCall;
 use machine::{Stats, event};
 use postcard::units::{Millis, Round};
 use steps::call::Rooms;
@@ -59,7 +59,7 @@ fn limits_at(b: &[u8], at: usize) -> Limits {
 pub fn create_at(block: &mut [u8], b: &[u8], at: usize) -> bool {
     let settings = settings_at(b, at);
     let limits = limits_at(b, at);
-    create::create(block, settings, limits) == 0
+    create::create(block, settings, limits).is_ok()
 }
 
 // The link room of a call: three bytes for each bound, the link's number and the room; the number 32 is the event's peer where it has no link.
@@ -89,8 +89,16 @@ fn same_counts(x: Stats, y: Stats) -> bool {
         && x.max_last_delivery_hop == y.max_last_delivery_hop
 }
 
-// Whether a call answered what the Rust did.
-fn agrees(o: Outcome, out: &[u8], number: u8, actions: &[u8], counts: Stats) -> bool {
+// What a call told: its number, the length of the output, and the counts after it.
+#[derive(Clone, Copy)]
+struct Told {
+    number: u8,
+    length: usize,
+    stats: Stats,
+}
+
+// Whether a call told what the Rust did.
+fn agrees(o: Told, out: &[u8], number: u8, actions: &[u8], counts: Stats) -> bool {
     o.number == number
         && o.length == actions.len()
         && begins(out, actions)
@@ -98,9 +106,20 @@ fn agrees(o: Outcome, out: &[u8], number: u8, actions: &[u8], counts: Stats) -> 
 }
 
 // An event call with a part of the output.
-fn call(block: &mut [u8], out: &mut [u8], c: Stats, asked: EventCall, lent: usize) -> Outcome {
+fn call(block: &mut [u8], out: &mut [u8], c: Stats, asked: EventCall, lent: usize) -> Told {
     let m = lent.min(out.len());
-    event::event_core(block, c, asked, &mut out[..m])
+    match event::event_core(block, c, asked, &mut out[..m]) {
+        Ok(done) => Told {
+            number: 0,
+            length: done.length,
+            stats: done.stats,
+        },
+        Err(refusal) => Told {
+            number: refusal.number(),
+            length: 0,
+            stats: c,
+        },
+    }
 }
 
 // What became of an event call of the sample: whether it agrees, where the next record stands, the counts.

@@ -5,7 +5,7 @@ use Rattle.protocol.specs.State.{State}
 use Rattle.steps.specs.Queue.{note_at}
 use Rattle.announcements.specs.QueuedRows.{held_then}
 
--- where the mark of an identifier stands: its low twelve bits
+-- the low twelve bits of an identifier: where its mark stands, and by which a row that has it is found
 unfoldable pub low_of : ℕ → ℕ
 low_of id = id % 4096
 

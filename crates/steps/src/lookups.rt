@@ -26,7 +26,7 @@ impl<'a> View<'a> {
         settled::contains_then::<ReceivedMessages>(self.head, self.block, instant, id)
     }
 
-    // Whether a message is cached then. It is compiled in place: a dispatch tick asks it for each identifier that is handed back.
+    // Whether a message is cached then. It is compiled in place: ticks ask it of many identifiers.
     #[tactic(auto, using(crate::proofs::SettledLaws::ThenLaws::settled_cache))]
     #[inline(always)]
     pub fn is_cached_then(&self, instant: Millis, id: Id) -> bool

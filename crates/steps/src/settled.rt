@@ -28,7 +28,7 @@ use postcard::units::Millis;
 use storage::rows::id::Id;
 use time_cache::cache::TimeBoundCache;
 
-// Whether a time cache has an entry of an identifier then. It is compiled in place, as `View::is_cached_then` is.
+// Whether a time cache has an entry of an identifier then. It may be compiled in place, for `View::is_cached_then`.
 #[inline]
 pub fn contains_then<C: PanelCache>(head: Head, block: &[u8], instant: Millis, id: Id) -> bool
     requires { Sound head block.now × InOrder (C.of (state_of head block.now)) }

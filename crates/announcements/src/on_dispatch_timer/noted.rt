@@ -34,7 +34,7 @@ struct HandedBack<'a> {
     rows: &'a [u16],
 }
 
-// Where the mark of an identifier stands.
+// The low twelve bits of an identifier: where its mark stands, and by which a row that has it is found.
 fn low(id: Id) -> usize
     ensures { result ≡ low_of (id_of id) }
 {
@@ -200,9 +200,9 @@ pub fn to_note(view: &View, call: &Call, noted: &mut ArrayVec<u16, MAX_DROPPED>)
     ensures rows { RowsOf (shown view.now).queue noted.new.items }
 {
     if view.queue_len() <= FEW_ROWS && view.record_len() <= FEW_ROWS {
-        return to_note_in::<FEW_ROWS, FEW_ROWS>(view, call, noted);
+        return to_note_in::<FEW_ROWS, FEW_ROWS, FEW_ROWS>(view, call, noted);
     }
-    to_note_in::<MAX_ROWS, MAX_DROPPED>(view, call, noted);
+    to_note_in::<MAX_ROWS, MAX_DROPPED, MARKS>(view, call, noted);
 }
 
 // Whether a link hands back some of its rows of the queue, which stand together. Its time is that of one pass over the links.
@@ -222,9 +222,9 @@ fn is_handed_back(view: &View, call: &Call, rows: &[u16], starts: &[usize; START
     false
 }
 
-// The same, where the queue has at most `QUEUE` rows and the record at most `RECORD`, a power of two: so many rows are named of those that are found in the message cache.
-// The record is passed over only where something is handed back.
-fn to_note_in<const QUEUE: usize, const RECORD: usize>(
+// The same, where the queue has at most `QUEUE` rows and the record at most `RECORD`. `FOUND` is for how many rows there is place of those that are found in the message
+// cache: all places are used where it is a power of two. The record is passed over only where something is handed back.
+fn to_note_in<const QUEUE: usize, const RECORD: usize, const FOUND: usize>(
     view: &View,
     call: &Call,
     noted: &mut ArrayVec<u16, MAX_DROPPED>,
@@ -232,8 +232,8 @@ fn to_note_in<const QUEUE: usize, const RECORD: usize>(
     requires rest { AtRest (shown view.now) }
     requires queue { length (shown view.now).queue ≤ QUEUE }
     requires record { length (shown view.now).dropped ≤ RECORD }
-    requires some { 0 < RECORD }
-    requires few { (QUEUE ≤ MAX_ROWS) × (RECORD ≤ MAX_DROPPED) }
+    requires some { 0 < FOUND }
+    requires few { (QUEUE ≤ MAX_ROWS) × (RECORD ≤ MAX_DROPPED) × (FOUND ≤ MARKS) }
     requires none { noted.old.items ≡ [] }
     ensures noted { add_batches (held_then call.now.instant.0 (shown view.now)) (dispatch_batches (rooms_of call.now (shown view.now)) (queued_peers (shown view.now).queue) (per_message (shown view.now).settings.max_message_size) (shown view.now).queue) (shown view.now).dropped ≡ (shown view.now).dropped ++ notes_at (shown view.now).queue noted.new.items }
     ensures rows { RowsOf (shown view.now).queue noted.new.items }
@@ -246,7 +246,7 @@ fn to_note_in<const QUEUE: usize, const RECORD: usize>(
     let mut record_rows = [0u16; RECORD];
     let record = group(view.record_links(), &mut record_rows);
     let mut marks = [0u8; MARKS];
-    let mut found = [0u16; RECORD];
+    let mut found = [0u16; FOUND];
     let per_message = view.per_message();
     for link in 0..view.link_count() {
         let queued = link_rows(&queue_rows, &queue, link);

@@ -52,8 +52,8 @@ loop-link-init g c =
       sofar = after-none (held_then c.args.call.now.instant.0 s) c.args.call.now s c.requires.rest (queue-few v.head v.block.now v.sound) ∙ sym (append-nil s.dropped);
       among = All-nil (λ i. i < length s.queue);
       earlier = All-nil (Earlier s 0);
-      found = found-none c.args.call.now.instant.0 s g.row.RECORD;
-      long = length-replicate g.row.RECORD 0;
+      found = found-none c.args.call.now.instant.0 s g.row.FOUND;
+      long = length-replicate g.row.FOUND 0;
     })
 
 -- the next link

@@ -15,5 +15,5 @@ invariant-loop-link g l =
       among : RowsOf s.queue l.noted.items;
       earlier : All (Earlier s l.link) l.noted.items;
       found : Found l.call.instant.0 s l.found;
-      long : length l.found ≡ g.row.RECORD;
+      long : length l.found ≡ g.row.FOUND;
     }

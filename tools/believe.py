@@ -12,7 +12,7 @@ import os, re, signal, sys
 TOP = os.path.dirname(os.path.dirname(os.path.abspath(__file__)))
 CONTRACTS = ("plumtree", "lib")
 LAWS = "laws"
-PROGRAM = ["protocol.Panel.panelrun", "panel.Answering.WritesFront"]  # what the contract of panel::stream::run names
+PROGRAM = ("panel", "stream", "run")
 KIT = "Rattle.std."
 # Words of the logic and of contracts; fields of a lent value; types of the code; and the constructors of the kit's libraries: on the left of a clause any other plain name is a variable.
 WORDS = set("Type Unit tt ⊥ → : = ; , in × _".split())
@@ -32,6 +32,7 @@ class Definition:
         self.indent, self.module, self.bound, self.fixity = 0, None, set(), None  # the module around it, and its parameters
         self.fields, self.constructors = [], []
         self.refs, self.projected, self.kit = [], set(), set()
+        self.parameters = set()  # of a contract or a trait: the type parameters, whose members the bounds' traits have
 
     def key(self):
         return f"{self.crate}.{self.file}.{self.name}"
@@ -180,9 +181,11 @@ class Names:
                 return n
 
     def name(self, t, bound, opened):
-        if t in bound or t in WORDS or re.fullmatch(r"\d+|0x[0-9a-f]+", t):
+        if t in bound or t in WORDS or re.fullmatch(r"\d+|0x[0-9A-Fa-f]+", t):
             return
         first, *fields = t.split(".")
+        if fields and first in self.d.parameters:
+            return
         if fields and first not in self.file.modules:
             self.d.projected.update(fields)
             return self.name(first, bound, opened) if first else None
@@ -342,15 +345,37 @@ class Source(File):
             else:
                 problems.append(f"{d.key()}: the type {w} cannot be told")
 
-    def contract(self, world, name):
-        d = self.declared(rf'pub (extern "C" )?fn {name}\(', r"^{", "contract", name)
-        head, *clauses = re.split(r"^ *ensures (?:\w+ )?(?={)", "\n".join(d.lines[d.above :]), flags=re.M)
-        signature = " ".join(head.split()).split(name + "(", 1)[1]
-        types = re.findall(r"\w+", re.sub(r"\w+: ", "", signature))
-        self.types(world, d, [w for w in types if w not in PRIMITIVE | {"mut"}])
+    # A type or trait of the kit, by the `use` line of its name or of its module.
+    def of_kit(self, path):
+        first = path.split("::")[0]
+        return self.uses.get(first, [first])[0] == "std"
+
+    # What the clauses name; `words`: the types and traits of the signature.
+    def promises(self, world, d, words, clauses, bound):
+        self.types(world, d, [w for w in words if w not in PRIMITIVE | {"mut"} | d.parameters and not self.of_kit(w)])
         for promise in clauses:
             ts = tokens(promise)
-            Names(world, self, d).walk(ts[1 : closing(ts, 0)], ["result", *re.findall(r"(\w+): ", signature)])
+            Names(world, self, d).walk(ts[1 : closing(ts, 0)], ["result", *bound])
+
+    def contract(self, world, name):
+        d = self.declared(rf'pub (extern "C" )?fn {name}[(<]', r"^{", "contract", name)
+        head, *clauses = re.split(r"^ *ensures (?:\w+ )?(?={)", "\n".join(d.code()), flags=re.M)
+        bounds, signature = re.match(r"(?:<(.*?)>)?\((.*)", " ".join(head.split()).split(f"fn {name}", 1)[1]).groups()
+        bounds = re.findall(r"(\w+): ([\w:]+)", bounds or "")
+        d.parameters = {p for p, _ in bounds}
+        types = re.findall(r"[\w:]+", re.sub(r"\w+: ", "", signature))
+        self.promises(world, d, types + [t for _, t in bounds], clauses, re.findall(r"(\w+): ", signature))
+        return d
+
+    # A trait of the repository, whose members a contract names: with the clauses of its methods.
+    def trait_named(self, world, name):
+        d = self.declared(rf"pub trait {name}\b", r"^}", "trait", name)
+        if d:
+            d.lines.append("}")
+            text = "\n".join(d.code())
+            above, *clauses = re.split(r"^ *ensures (?:\w+ )?(?={)", text, flags=re.M)
+            d.parameters = {"Self"}
+            self.promises(world, d, re.findall(r"\w+", d.lines[d.above].partition(":")[2]), clauses, ["self", *re.findall(r"ghost (\w+)", text), *re.findall(r"(\w+): &", text)])
         return d
 
 
@@ -404,8 +429,8 @@ class World:
         file = "/".join(where) or "lib"
         if (crate, file, name) not in self.types:
             source = self.source(crate, file)
-            told = source and (source.constant_named if constant else source.type_named)
-            self.types[crate, file, name] = told and told(self, name)
+            told = source and ([source.constant_named] if constant else [source.type_named, source.trait_named])
+            self.types[crate, file, name] = told and next(filter(None, (t(self, name) for t in told)), None)
         return self.types[crate, file, name]
 
     # What a name of a module stands for: a definition, a name of the kit (a text), or nothing.
@@ -438,6 +463,12 @@ def theorems(world):
     return [source.contract(world, n) for source in sources for n in re.findall(r"^pub fn (\w+)\(\)", "\n".join(source.lines), re.M)]
 
 
+# The program's contract.
+def program(world):
+    crate, file, name = PROGRAM
+    return world.source(crate, file).contract(world, name)
+
+
 def told(theorem):
     return f"{theorem.crate}::{theorem.file}::{theorem.name}"
 
@@ -445,7 +476,7 @@ def told(theorem):
 def named(world, key):
     crate, *file, name = key.split(".")
     file = ".".join(file)
-    if file in (CONTRACTS[1], LAWS) and world.source(crate, file):
+    if file in (CONTRACTS[1], LAWS, PROGRAM[1]) and world.source(crate, file):
         return world.source(crate, file).contract(world, name)
     found = world.file(crate, file)
     if not found or name not in found.names:
@@ -470,7 +501,7 @@ def closure(world, roots):
 
 
 def believed(world, keys=()):
-    return closure(world, [named(world, k) for k in keys] if keys else exported(world) + theorems(world) + [named(world, k) for k in PROGRAM])
+    return closure(world, [named(world, k) for k in keys] if keys else exported(world) + theorems(world) + [program(world)])
 
 
 # ---- what is printed
@@ -480,7 +511,7 @@ def believed(world, keys=()):
 def ordered(world, found):
     for crate in world.order():
         files = world.modules(crate)
-        rank = lambda d: ({"type": 0, "contract": 2}.get(d.kind, 1), files.index(d.file) if d.file in files else 0, d.path, d.first)
+        rank = lambda d: ({"type": 0, "trait": 0, "contract": 2}.get(d.kind, 1), files.index(d.file) if d.file in files else 0, d.path, d.first)
         own = sorted((d for d in found.values() if d.crate == crate), key=rank)
         if own:
             yield crate, own

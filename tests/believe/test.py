@@ -15,7 +15,7 @@ machine.Called.call_of plumtree.Calls.Made plumtree.Calls.entries plumtree.lib.p
 protocol.NoNeighbourPassedOver.NoNeighbourPassedOver protocol.AlikeUnordered.same_bag plumtree.CallList.LeadsTo plumtree.Histories.History.Step protocol.laws.no_neighbour_passed_over postcard.Rewrite.ShortestForm whole.States.Area.LeftBy
 """
 OUT = """
-storage.Rows.Part.Only storage.Rows.Sorted.Ascending storage.Refs.Once.Numbers postcard.Message.event_bytes postcard.Output.FitsAt wire.Reader.Gives.Decodes blake3.WordOrder.order
+storage.Rows.Part.Only storage.Rows.Sorted.Ascending storage.Refs.Once.Numbers postcard.Output.FitsAt wire.Reader.Gives.Decodes
 decide.Settled.settled alike.NoteTable.NextOf block.Goes.Goes block.Sound.Sound whole.States.Calls.Placed protocol.AlikeCalls.Peerwise.Like steps.Stands.Stands machine.Kinds.Meaning.peer_of machine.Core.Begins machine.Core.core_rooms
 machine.Decided.decided machine.Steps.Asked plumtree.Rooms.Found plumtree.Peers.Sender panel.Records.Reading.Whole
 """

@@ -1,6 +1,6 @@
 -- The numbers that a creation and an event call answer, and the length of a refused call's output.
 use Rattle.std.specs.Prelude.{Option, Some, None}
-use Rattle.std.proofs.Common.{ℕ, ◌≡◌, ◌≤◌, ◌<◌, ◌⊎◌, inl, inr, sym, ap, lit≤, Bool, true, false, not, if◌then◌else◌, ◌^◌, List, leb, length, arith}
+use Rattle.std.proofs.Common.{ℕ, ◌≡◌, ◌≤◌, ◌<◌, ◌⊎◌, inl, inr, sym, ap, subst, ◌∙◌, lit≤, Bool, true, false, not, if◌then◌else◌, ◌^◌, List, leb, length, arith}
 use borrow.Author.Tests.{leb-true}
 use Rattle.storage.proofs.ListsLaws.MapLaws.{and_right}
 use Rattle.blake3.specs.Blake3.{identifier}
@@ -16,6 +16,9 @@ use Rattle.block.specs.View.{settings_of, limits_of}
 use Rattle.block.specs.declared.head.Settings.{Settings as HeadSettings}
 use Rattle.block.specs.declared.head.Limits.{Limits as HeadLimits}
 use Rattle.whole.specs.Creation.{Creates}
+use Rattle.refusal.specs.declared.Refusal.{Refusal}
+use Rattle.refusal.specs.Numbers.{number_of}
+use Rattle.refusal.specs.declared.Refusal.TheVariants.{MessageSizeOutOfRange, DurationTooLong, LimitOutOfRange, BlockTooShort, BlockNotWhole, TimeTooLate, EventCut, EventMalformed, EventTooLong, MessageTooLong, CountsFull, NoMoreHops, LimitReached, OutputTooShort, NameNotKept, NamesFull, AreaNotWhole}
 use Rattle.machine.specs.Called.{Lent, Called, Finds}
 use Rattle.plumtree.specs.Calls.{Made}
 
@@ -111,3 +114,48 @@ creates-refused (created s c) before after number f ne = absurd (ne f.number)
 
 pub made-low : (c : HeadSettings) (l : HeadLimits) (block : List ℕ) (counts : Counts) (block' : List ℕ) (counts' : Counts) (number long : ℕ) → Made c l block counts block' counts' number long → number ≤ 17
 made-low c l block counts block' counts' number long m = creates-low _ (low-create (settings_of c) (limits_of l) (length block)) block block' number m.creation
+
+-- an event call that is answered no question's number is answered 0
+pub called-accepted : {k : Call} {before after : Lent} {number long : ℕ} → Called k before after number long → (number ≡ 0) ⊎ (17 < number) → Called k before after 0 long
+called-accepted {k} {before} {after} {number} {long} f o = subst (λ (n : ℕ). Called k before after n long) (accepted_number number (called-answered f).low o) f
+
+-- by other names
+pub made-as : {c : HeadSettings} {l : HeadLimits} {block : List ℕ} {counts : Counts} {block' : List ℕ} {counts' : Counts} {number long number' long' : ℕ} → number ≡ number' → long ≡ long' → Made c l block counts block' counts' number long
+    → Made c l block counts block' counts' number' long'
+made-as {c} {l} {block} {counts} {block'} {counts'} {number} {long} {number'} {long'} p q m =
+    subst (λ (n : ℕ). Made c l block counts block' counts' n long') p (subst (λ (n : ℕ). Made c l block counts block' counts' number n) q m)
+
+-- likewise a creation, whose output has no bytes
+pub made-accepted : {c : HeadSettings} {l : HeadLimits} {block : List ℕ} {counts : Counts} {block' : List ℕ} {counts' : Counts} {number long : ℕ} → Made c l block counts block' counts' number long
+    → (number ≡ 0) ⊎ (17 < number) → Made c l block counts block' counts' 0 0
+made-accepted {c} {l} {block} {counts} {block'} {counts'} {number} {long} m o =
+    made-as (accepted_number number (made-low c l block counts block' counts' number long m) o) m.long m
+
+-- a refusal's number is a question's
+some_question : (r : Refusal) → number_of r ≡ 0 → ⊥
+some_question MessageSizeOutOfRange e = omega (arith, e)
+some_question DurationTooLong e = omega (arith, e)
+some_question LimitOutOfRange e = omega (arith, e)
+some_question BlockTooShort e = omega (arith, e)
+some_question BlockNotWhole e = omega (arith, e)
+some_question TimeTooLate e = omega (arith, e)
+some_question EventCut e = omega (arith, e)
+some_question EventMalformed e = omega (arith, e)
+some_question EventTooLong e = omega (arith, e)
+some_question MessageTooLong e = omega (arith, e)
+some_question CountsFull e = omega (arith, e)
+some_question NoMoreHops e = omega (arith, e)
+some_question LimitReached e = omega (arith, e)
+some_question OutputTooShort e = omega (arith, e)
+some_question NameNotKept e = omega (arith, e)
+some_question NamesFull e = omega (arith, e)
+some_question AreaNotWhole e = omega (arith, e)
+
+-- a creation that is answered a question's number leaves the block as it was
+creates-untouched : (q : Created) (before after : List ℕ) (number : ℕ) → Creates q before after number → (number ≡ 0 → ⊥) → after ≡ before
+creates-untouched (not_created n) before after number f ne = f.block
+creates-untouched (created s c) before after number f ne = absurd (ne f.number)
+
+pub made-untouched : (c : HeadSettings) (l : HeadLimits) (block : List ℕ) (counts : Counts) (block' : List ℕ) (counts' : Counts) {number long : ℕ} (r : Refusal) → number_of r ≡ number
+    → Made c l block counts block' counts' number long → block' ≡ block
+made-untouched c l block counts block' counts' {number} {long} r e m = creates-untouched _ block block' number m.creation (λ z. some_question r (e ∙ z))

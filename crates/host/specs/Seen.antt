@@ -9,3 +9,8 @@ use Rattle.refusal.specs.declared.Refusal.{Refusal}
 abbrev pub seen_in : Result ℕ Refusal → List ℕ → Seen
 seen_in (Ok n) output = record { number = 0; bytes = take n output }
 seen_in (Err r) output = record { number = number_of r; bytes = [] }
+
+-- the length of the output
+abbrev pub length_in : Result ℕ Refusal → ℕ
+length_in (Ok n) = n
+length_in (Err r) = 0

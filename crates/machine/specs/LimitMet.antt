@@ -1,3 +1,4 @@
 pub mod LimitMet
 pub mod Decided
 pub mod Told
+pub mod Exact

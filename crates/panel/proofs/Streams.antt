@@ -1,5 +1,5 @@
 -- A run of the program so far: what was taken from the input, and what was added to the output.
-use Rattle.std.proofs.Common.{ℕ, ◌≡◌, refl, sym, ap, subst, ◌∙◌, IfSome, OnErr, Result, Ok, Err, Option, None, Some, List, [], ◌∷◌, ◌++◌, append-nil, append_assoc, length, drop}
+use Rattle.std.proofs.Common.{ℕ, zero, suc, ◌+◌, ◌-◌, ◌*◌, ◌^◌, ◌≤◌, arith, length-append, length-drop, ◌≡◌, refl, sym, ap, subst, ◌∙◌, IfSome, OnErr, Result, Ok, Err, Option, None, Some, List, [], ◌∷◌, ◌++◌, append-nil, append_assoc, length, drop}
 use Rattle.std.specs.Io.KnownBytes.{Consumes, Appends, Keeps}
 use Rattle.std.proofs.KnownBytes.{Consumes-nil, Consumes-trans, Consumes-kept, Appends-nil, Appends-trans}
 use Rattle.blake3.specs.Blake3.{identifier}
@@ -16,6 +16,7 @@ use Rattle.panel.proofs.RecordsLaws.Pieces.{record-stays}
 use Rattle.panel.proofs.RecordsLaws.RunningLaws.{panelrun-writes, writes-record, writes-never, writes-bad}
 use Rattle.panel.specs.Reading.{ReadOn}
 use Rattle.panel.specs.Writing.{AppendsFront}
+use Rattle.panel.specs.Causes.{Long}
 use Rattle.panel.specs.Answering.{Started, ran, told, Answers, WritesFront}
 
 -- what is written from the state that these calls lead to
@@ -23,9 +24,9 @@ abbrev pub from_here : CallList → List ℕ → List ℕ
 from_here h input = writes identifier (ran h).state (ran h).counts input
 
 pub record Sofar (past : CallList) (unread : List ℕ) (left left' held held' : Option (List ℕ)) : Type 0 where
-  taken : List ℕ
+  pub taken : List ℕ
   wrote : List ℕ
-  given : Consumes left left' taken
+  pub given : Consumes left left' taken
   added : Appends held held' wrote
   same : (rest : List ℕ) → panelrun identifier (taken ++ rest) ≡ wrote ++ from_here past (unread ++ rest)
 
@@ -182,3 +183,40 @@ sofar-as p u l h f = rw (p, u, l, h) f
 pub on_err_always : {T E P : Type 0} (r : Result T E) → P → OnErr r P
 on_err_always (Ok x) p = tt
 on_err_always (Err e) p = p
+
+-- a run so far, in n steps: each took bytes from the input, or used some of those that were unread
+pub record Paced (n : ℕ) (past : CallList) (unread : List ℕ) (left left' held held' : Option (List ℕ)) : Type 0 where
+  pub sofar : Sofar past unread left left' held held'
+  pub pace : n + length unread ≤ 2 * length sofar.taken
+
+pub paced-start : {past : CallList} (left held : Option (List ℕ)) → Started past → Paced 0 past [] left left held held
+paced-start left held s = record { sofar = sofar-start left held s; pace = omega arith }
+
+module _ {n : ℕ} {past : CallList} {unread : List ℕ} {left left' held held' : Option (List ℕ)} (f : Paced n past unread left left' held held') where
+  pub paced-answered : {past' : CallList} {event bytes : List ℕ} {now used : ℕ} {held'' : Option (List ℕ)} → Whole unread now event used
+      → Answers (record_call now event) past past' bytes → Appends held' held'' bytes → Paced (n + 1) past' (drop used unread) left left' held held''
+  unfolding sofar-answered
+  paced-answered {past'} {event} {bytes} {now} {used} {held''} w a b = record {
+    sofar = sofar-answered f.sofar w a b;
+    pace = omega (arith, f.pace, w.some, w.inside, length-drop used unread);
+  }
+
+  pub paced-read : {m : ℕ} {unread' : List ℕ} {left'' : Option (List ℕ)} → ReadOn m unread unread' left' left'' → (m ≡ 0 → ⊥) → Paced (n + 1) past unread' left left'' held held'
+  unfolding sofar-read
+  paced-read {m} {unread'} {left''} r some = record {
+    sofar = sofar-read f.sofar r;
+    pace = omega (arith, f.pace, r.many, ap length r.joined, length-append unread r.came, length-append f.sofar.taken r.came, some_of m some);
+  }
+    where
+      some_of : (k : ℕ) → (k ≡ 0 → ⊥) → 1 ≤ k
+      some_of zero h = absurd (h refl)
+      some_of (suc k) h = omega arith
+
+  -- all its steps are used up
+  pub paced-long : 2 ^ 64 - 1 ≤ n → Long left left'
+  paced-long e = (f.sofar.taken, f.sofar.given, omega (arith, f.pace, e))
+
+-- the same run, by other names
+pub paced-as : {n n' : ℕ} {past past' : CallList} {unread unread' : List ℕ} {left left' left'' held held' held'' : Option (List ℕ)} → n' ≡ n → past' ≡ past → unread' ≡ unread → left'' ≡ left' → held'' ≡ held'
+    → Paced n past unread left left' held held' → Paced n' past' unread' left left'' held held''
+paced-as m p u l h f = rw (m, p, u, l, h) f

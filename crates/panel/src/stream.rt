@@ -1,5 +1,5 @@
 // The program `panelrun`: each record is answered as soon as it is read.
-ghost use Rattle.std.specs.Prelude.{◌≡◌, ◌≤◌, OnOk, OnErr, IfSome, length, take};
+ghost use Rattle.std.specs.Prelude.{◌≡◌, ◌≤◌, OnOk, OnErr, IfErr, IfSome, length, take};
 ghost use Rattle.std.specs.Io.KnownBytes.{Appends};
 ghost use Rattle.blake3.specs.Blake3.{identifier};
 ghost use Rattle.protocol.specs.Panel.{panelrun};
@@ -7,7 +7,9 @@ ghost use Rattle.panel.specs.Records.Reading.{record_call};
 ghost use Rattle.panel.specs.Records.Running.{closing, end_bytes};
 ghost use Rattle.panel.specs.Writing.{AppendsFront};
 ghost use Rattle.panel.specs.Answering.{Started, Answered, Answers, WritesFront};
+ghost use Rattle.panel.specs.Causes.{Cause};
 
+use crate::causes::{Input, Output};
 use crate::records;
 use crate::records::{OUTPUT, REPLY, Record};
 use crate::unread::Unread;
@@ -17,7 +19,7 @@ use host::panel::Panel;
 use postcard::units::{Millis, Round};
 use std::alloc::Global;
 use std::io;
-use std::io::{Error, ErrorKind, Read, Write};
+use std::io::{Error, ErrorKind};
 
 // As many bytes as question 4 asks of these limits.
 const BLOCK: usize = 58880;
@@ -97,9 +99,10 @@ fn answer(
 }
 
 // The end of the input: unread bytes are a record that is cut.
-fn close<W: Write>(unread: &[u8], output: &mut W) -> io::Result<()>
+fn close<W: Output>(unread: &[u8], output: &mut W) -> io::Result<()>
     ensures ok { OnOk result (Appends (W.contents output.old) (W.contents output.new) (closing unread.now)) }
     ensures err { OnErr result (AppendsFront (W.contents output.old) (W.contents output.new) (closing unread.now)) }
+    ensures cause { OnErr result (W.failed output.new) }
 {
     if unread.is_empty() {
         return Ok(());
@@ -110,9 +113,10 @@ fn close<W: Write>(unread: &[u8], output: &mut W) -> io::Result<()>
 // The whole program: what it adds to the output is what the specification says of the input. Where a read or a write fails, or memory is short, it is a front of what the
 // specification says of the bytes that were taken from the input; a read that fails ends the program as the input's end does.
 // A proved loop has to end, and nothing says that the input does: it makes at most as many steps as no run uses up.
-pub fn run<R: Read, W: Write>(alloc: Global, input: &mut R, output: &mut W) -> io::Result<()>
+pub fn run<R: Input, W: Output>(alloc: Global, input: &mut R, output: &mut W) -> io::Result<()>
     ensures ok { OnOk result (IfSome (R.remaining input.old) (λ xs. Appends (W.contents output.old) (W.contents output.new) (panelrun identifier xs))) }
     ensures err { OnErr result (WritesFront (R.remaining input.old) (R.remaining input.new) (W.contents output.old) (W.contents output.new)) }
+    ensures cause { IfErr result (λ e. Cause (R.failed input.new) (W.failed output.new) e (R.remaining input.old) (R.remaining input.new)) }
 {
     let mut block = [0u8; BLOCK];
     let mut panel = start(&mut block);

@@ -1,4 +1,7 @@
 // What no clause says: that a run comes to its end, and what it leaves where a read or a write fails.
+ghost use Rattle.std.specs.Prelude.{⊤};
+
+use crate::causes::{Input, Output};
 use crate::stream::run;
 use std::io;
 use std::io::{Error, ErrorKind, Read, Write};
@@ -30,6 +33,14 @@ impl Read for Broken<'_> {
     }
 }
 
+impl Input for Broken<'_> {
+    ghost failed = { λ _. ⊤ };
+
+    fn take_some(&mut self, buf: &mut [u8]) -> io::Result<usize> {
+        self.read(buf)
+    }
+}
+
 // Takes two bytes a time, and fails when there is no room.
 #[derive(Drop)]
 struct Full {
@@ -50,6 +61,30 @@ impl Write for Full {
 
     fn flush(&mut self) -> io::Result<()> {
         Ok(())
+    }
+}
+
+impl Output for Full {
+    ghost failed = { λ _. ⊤ };
+
+    fn give_some(&mut self, buf: &[u8]) -> io::Result<usize> {
+        self.write(buf)
+    }
+
+    fn pass_on(&mut self) -> io::Result<()> {
+        self.flush()
+    }
+}
+
+impl Output for Vec<u8> {
+    ghost failed = { λ _. ⊤ };
+
+    fn give_some(&mut self, buf: &[u8]) -> io::Result<usize> {
+        self.write(buf)
+    }
+
+    fn pass_on(&mut self) -> io::Result<()> {
+        self.flush()
     }
 }
 

@@ -1,11 +1,13 @@
 // The bytes of an input that were read and not used yet.
-ghost use Rattle.std.specs.Prelude.{◌≡◌, ◌≤◌, [], IfOk, OnErr, length, drop};
+ghost use Rattle.std.specs.Prelude.{◌≡◌, ◌≤◌, ◌⊎◌, [], IfOk, IfErr, OnErr, length, drop};
+ghost use Rattle.std.specs.IoError.{error_kind};
 ghost use Rattle.std.specs.Io.KnownBytes.{Keeps};
 ghost use Rattle.panel.specs.Reading.{ReadOn};
 
+use crate::causes::Input;
 use std::alloc::Global;
 use std::io;
-use std::io::Read;
+use std::io::ErrorKind;
 use std::marker::Model;
 
 // How many bytes one read asks for.
@@ -54,16 +56,17 @@ impl Unread {
     }
 
     // Reads once: how many bytes came. Room is made before anything is read, so that no byte is lost where there is none.
-    pub fn read_on<R: Read>(&mut self, input: &mut R) -> io::Result<usize>
+    pub fn read_on<R: Input>(&mut self, input: &mut R) -> io::Result<usize>
         ensures ok { IfOk result (λ n. ReadOn n self.old self.new (R.remaining input.old) (R.remaining input.new)) }
         ensures same { OnErr result (self.new ≡ self.old) }
         ensures untaken { OnErr result (Keeps (R.remaining input.old) (R.remaining input.new)) }
+        ensures cause { IfErr result (λ e. R.failed input.new ⊎ (error_kind e ≡ ErrorKind.OutOfMemory)) }
     {
         self.buffer.drain(..self.at);
         self.at = 0;
         self.buffer.reserve(CHUNK)?;
         let mut chunk = [0u8; CHUNK];
-        let n = input.read(&mut chunk)?;
+        let n = input.take_some(&mut chunk)?;
         self.buffer.extend_from_slice(&chunk[..n]).unwrap();
         Ok(n)
     }

@@ -1,27 +1,45 @@
 // Bytes written whole, or a front of them where a write fails.
-ghost use Rattle.std.specs.Prelude.{OnOk, OnErr};
-ghost use Rattle.std.specs.Io.KnownBytes.{Appends};
+ghost use Rattle.std.specs.Prelude.{◌≡◌, ◌<◌, IfOk, OnOk, OnErr, length};
+ghost use Rattle.std.specs.Io.{WritesAtMost};
+ghost use Rattle.std.specs.Io.KnownBytes.{Appends, WriteAppends};
 ghost use Rattle.panel.specs.Writing.{AppendsFront};
 
+use crate::causes::Output;
 use std::io;
-use std::io::{Error, ErrorKind, Write};
+use std::io::{Error, ErrorKind};
 
-// Writes bytes and passes them on at once. Where that fails, a front of them may have been written.
-pub fn write_on<W: Write>(output: &mut W, bytes: &[u8]) -> io::Result<()>
-    ensures ok { OnOk result (Appends (W.contents output.old) (W.contents output.new) bytes.now) }
-    ensures err { OnErr result (AppendsFront (W.contents output.old) (W.contents output.new) bytes.now) }
+// How often a write is tried that is interrupted each time.
+const TRIES: u32 = 1 << 30;
+
+// Writes some of the bytes, again where that is interrupted; what the last try answers is told.
+fn write_some<W: Output>(output: &mut W, bytes: &[u8]) -> io::Result<usize>
+    ensures bound { WritesAtMost result bytes.now }
+    ensures bytes { WriteAppends (W.contents output.old) (W.contents output.new) result bytes.now }
+    ensures told { OnErr result (W.failed output.new) }
+    ensures none { IfOk result (λ n. n ≡ 0 → 0 < length bytes.now → W.failed output.new) }
 {
-    let mut rest = bytes;
-    'writes: for _ in 0..u64::MAX {
-        if rest.is_empty() {
-            return output.flush();
-        }
-        match output.write(rest) {
-            Ok(0) => return Err(Error::new(ErrorKind::WriteZero, "no byte was written")),
-            Ok(n) => rest = &rest[n..],
+    'tries: for _ in 0..TRIES {
+        match output.give_some(bytes) {
+            Ok(n) => return Ok(n),
             Err(error) if error.kind() == ErrorKind::Interrupted => {}
             Err(error) => return Err(error),
         }
     }
-    Err(Error::new(ErrorKind::Other, "the bytes do not end"))
+    output.give_some(bytes)
+}
+
+// Writes bytes and passes them on at once. Where that fails, a front of them may have been written.
+pub fn write_on<W: Output>(output: &mut W, bytes: &[u8]) -> io::Result<()>
+    ensures ok { OnOk result (Appends (W.contents output.old) (W.contents output.new) bytes.now) }
+    ensures err { OnErr result (AppendsFront (W.contents output.old) (W.contents output.new) bytes.now) }
+    ensures cause { OnErr result (W.failed output.new) }
+{
+    let mut rest = bytes;
+    'writes: while !rest.is_empty() {
+        match write_some(output, rest)? {
+            0 => return Err(Error::new(ErrorKind::WriteZero, "no byte was written")),
+            n => rest = &rest[n..],
+        }
+    }
+    output.pass_on()
 }

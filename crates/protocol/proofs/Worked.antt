@@ -1,19 +1,16 @@
 -- The specification, "Calls worked through": the starred examples, as one theorem about the definitions, and panelrun's three answers. Each holds by computation.
-use Rattle.std.specs.Prelude.{None}
 use Prim.Native.Nat.{ℕ}
 use mathlib.Core.Path.{◌≡◌, refl}
-use mathlib.Core.Bool.{true, false}
-use mathlib.Core.List.{List, [], ◌∷◌, ◌++◌}
-use lib.ListN.{replicate}
-use Rattle.storage.specs.Lists.Base.{◌▷◌, count, any, filter, member, concat_map, all, sum, ascending}
+use mathlib.Core.List.{List, [], ◌∷◌}
+use Rattle.storage.specs.Lists.Base.{count, any, filter, member, concat_map, all, sum, ascending}
 use Rattle.storage.specs.Lists.Map.{lookup, insert, remove, insert_key, remove_key}
-use Rattle.postcard.specs.Number.{got, groups, number_bytes, number_length, read_round, read_groups, last_group, read_number, kind_number, read_bytes, read_kind}
-use Rattle.postcard.specs.Message.{Swarm, to_swarm, to_neighbors, Gossip, Prune, Graft, IHave, DispatchLazyPush, Received, Sent, Scheduled, Emitted, message_bytes, timer_bytes, action_bytes}
+use Rattle.postcard.specs.Number.{groups, number_bytes, number_length, read_round, read_groups, last_group, read_number, kind_number, read_bytes, read_kind}
+use Rattle.postcard.specs.Message.{message_bytes, timer_bytes, action_bytes}
 use Rattle.postcard.specs.Decode.{message_part, message_kind, read_message, message_of, read_timer, timer_of, event_of, read_event, ended, decode_event}
-use Rattle.time_cache.specs.TimeCache.{holds, put, add_expiry, get, value_of, expires_at, pop, due, later, pop_all, expire_until, expires_on_time, in_pop_order}
+use Rattle.time_cache.specs.TimeCache.{put, add_expiry, get, value_of, expires_at, pop, due, later, pop_all, expire_until, expires_on_time, in_pop_order}
 use Rattle.protocol.specs.Links.{eager_peers, lazy_peers, eager_in, marked, peers_marked, mark_if_there, add_eager, add_lazy, link_up}
 use Rattle.protocol.specs.State.{fresh, zero_counts, size_in_range, durations_in_range, limits_in_range, up_to}
-use Rattle.protocol.specs.Run.{Run, begin, act, send, has_room, use_room}
+use Rattle.protocol.specs.Run.{act, send, has_room, use_room}
 use Rattle.protocol.specs.Push.{schedule_dispatch, send_each, handed_back, note_for_each, note_after, push_to, eager_targets, eager_push, note_for, lazy_push}
 use Rattle.protocol.specs.Gossips.{gossip_size, hops_of, announcers, peers_of, grafted_for, with_first, set_first, graft_out, forget_missing, raise_hops, far_closer, least_from, graft_unless_eager, prune_back, optimize_tree, forget_and_optimise, update_links, mark_received, cache_at, push_on, take_in, on_new, on_gossip, broadcast_to, broadcast}
 use Rattle.protocol.specs.Ticks.{per_message, queued_peers, dispatch_to, clear_dispatch, on_dispatch_timer, evict, on_evict_cache_timer}
@@ -24,66 +21,21 @@ use Rattle.protocol.specs.Whole.{content_held, cache_fits, fits, in_range, keys_
 use Rattle.protocol.specs.Answer.{message_fits, counts_below, counts_stay, output_of, last_two, too_far_message, too_far, ask_of, ask_read, ask, ask_whole}
 use Rattle.protocol.specs.Calls.{state_after, counts_after}
 use Rattle.protocol.specs.Panel.{panel_settings, panel_limits, read_lengthed, read_record, written, or_cut, read_records, run_records, panelrun}
+use Rattle.protocol.specs.WorkedCalls.{WorkedCalls}
 
--- a fresh panel of the example's settings, with M
-abbrev panel : ℕ → Run
-panel M = begin (fresh (record {
-  graft_timeout_1 = 80;
-  graft_timeout_2 = 40;
-  dispatch_timeout = 5;
-  optimization_threshold = 7;
-  message_cache_retention = 30000;
-  message_id_retention = 90000;
-  cache_evict_interval = 1000;
-  max_message_size = M;
-  me = 1;
-}) panel_limits) zero_counts []
+-- "Input (hexadecimal) 00 02 03 02 00 02 02 01 00 03 00 05 01 … Output: 00 00 00 04 02 E8 07 02 00 00"
+panelrun-example : (hash : List ℕ → ℕ) →
+    panelrun hash (0x00 ∷ 0x02 ∷ 0x03 ∷ 0x02 ∷ 0x00 ∷ 0x02 ∷ 0x02 ∷ 0x01 ∷ 0x00 ∷ 0x03 ∷ 0x00 ∷ 0x05 ∷ 0x01 ∷ [])
+    ≡ 0x00 ∷ 0x00 ∷ 0x00 ∷ 0x04 ∷ 0x02 ∷ 0xE8 ∷ 0x07 ∷ 0x02 ∷ 0x00 ∷ 0x00 ∷ []
+unfolding panelrun run_records read_records or_cut read_record read_lengthed written read_number read_bytes read_groups last_group read_kind kind_number message_kind message_part ask_whole ask ask_read ask_of last_two
+    too_far too_far_message message_fits counts_stay counts_below output_of concat_map action_bytes timer_bytes message_bytes number_bytes groups decode_event ended read_event event_of read_timer timer_of read_message message_of
+    state_after counts_after handle handle_message on_message if_neighbour on_timer count_message one_control first_event on_evict_cache_timer evict expire_until due later pop_all
+    on_dispatch_timer dispatch_to queued_peers clear_dispatch per_message on_neighbor_up update_links link_up lookup insert act
+    whole in_range size_in_range durations_in_range limits_in_range up_to fits cache_fits content_held sum keys_once ascending all any neighbours noted_once record_within expires_on_time in_pop_order flags_stand
+    fresh zero_counts panel_settings panel_limits
+panelrun-example hash = refl
 
--- an identifier for every content: 9
-abbrev nine : List ℕ → ℕ
-nine content = 9
-
--- with the neighbours 2, eager, and 3, lazy, of which 3 has announced the message at a round
-abbrev announced_at : ℕ → Run
-announced_at round =
-    panel 4094 ▷ on_neighbor_up 2 ▷ on_neighbor_up 3 ▷ on_prune 3 ▷ handle nine 0 (Received 3 (IHave (record { id = 9; round = round } ∷ [])))
-
--- the bytes of a content of n zeros
-abbrev zeros : ℕ → List ℕ
-zeros n = replicate n 0
-
-pub record Worked (hash : List ℕ → ℕ) : Type 0 where
-  -- "Size, Swarm: 0 → 38; 127 → 165; 128 → 167. Neighbors 0 → 35"
-  pub size0 : gossip_size 0 to_swarm ≡ 38
-  pub size127 : gossip_size 127 to_swarm ≡ 165
-  pub size128 : gossip_size 128 to_swarm ≡ 167
-  pub size_neighbors : gossip_size 0 to_neighbors ≡ 35
-  -- "M 510: content 471 is sent, 472 isn't"
-  pub sent471 : (panel 510 ▷ on_neighbor_up 2 ▷ broadcast hash 0 (zeros 471) to_swarm).actions
-      ≡ (Scheduled 5 DispatchLazyPush ∷ Sent 2 true (Gossip (hash (zeros 471)) (zeros 471) (Swarm 0)) ∷ [])
-  pub unsent472 : (panel 510 ▷ on_neighbor_up 2 ▷ broadcast hash 0 (zeros 472) to_swarm).actions ≡ []
-  -- "IHave 14 per message; M 4,094: 116"
-  pub ihave510 : per_message 510 ≡ 14
-  pub ihave4094 : per_message 4094 ≡ 116
-  -- "Round 127: 7F; 128: 80 01; 65,535: FF FF 03"
-  pub round127 : number_bytes 127 ≡ 0x7F ∷ []
-  pub round128 : number_bytes 128 ≡ 0x80 ∷ 0x01 ∷ []
-  pub round65535 : number_bytes 65535 ≡ 0xFF ∷ 0xFF ∷ 0x03 ∷ []
-  pub read127 : read_round (0x7F ∷ []) ≡ got 127 []
-  pub read128 : read_round (0x80 ∷ 0x01 ∷ []) ≡ got 128 []
-  pub read65535 : read_round (0xFF ∷ 0xFF ∷ 0x03 ∷ []) ≡ got 65535 []
-  -- "Threshold 7, r = 9: announcer round 3 optimises, 4 doesn't": 3 announces the message, and then it comes from 2 at round 9
-  pub optimises : (announced_at 3 ▷ handle nine 0 (Received 2 (Gossip 9 [] (Swarm 9)))).actions
-      ≡ (announced_at 3).actions
-      ++ (Scheduled 5 DispatchLazyPush ∷ Sent 3 true (Graft None 3) ∷ Sent 2 true Prune ∷ Emitted 2 [] (Swarm 9) ∷ [])
-  pub does_not : (announced_at 4 ▷ handle nine 0 (Received 2 (Gossip 9 [] (Swarm 9)))).actions
-      ≡ (announced_at 4).actions ++ (Scheduled 5 DispatchLazyPush ∷ Emitted 2 [] (Swarm 9) ∷ [])
-  -- "Cached at 0: evicting at 29,999 keeps, 30,000 removes; put again at 10,000, evicting at 30,000 keeps"
-  pub keeps : holds 9 (panel 4094 ▷ cache_at 0 9 [] 1 ▷ on_evict_cache_timer 29999).state.cache ≡ true
-  pub removes : holds 9 (panel 4094 ▷ cache_at 0 9 [] 1 ▷ on_evict_cache_timer 30000).state.cache ≡ false
-  pub keeps_put_again : holds 9 (panel 4094 ▷ cache_at 0 9 [] 1 ▷ cache_at 10000 9 [] 1 ▷ on_evict_cache_timer 30000).state.cache ≡ true
-
-pub worked : (hash : List ℕ → ℕ) → Worked hash
+pub worked : (hash : List ℕ → ℕ) → WorkedCalls hash
 unfolding count any filter member lookup insert remove groups number_bytes number_length read_round read_groups last_group put add_expiry get value_of expires_at pop due later pop_all expire_until
     peers_marked eager_peers lazy_peers eager_in marked mark_if_there add_eager add_lazy link_up fresh zero_counts act send has_room use_room schedule_dispatch send_each handed_back note_for_each
     note_after push_to eager_targets eager_push note_for lazy_push gossip_size far_closer least_from graft_unless_eager prune_back optimize_tree update_links mark_received cache_at broadcast_to broadcast
@@ -110,16 +62,5 @@ worked hash = record {
   keeps = refl;
   removes = refl;
   keeps_put_again = refl;
+  panelrun_example = panelrun-example hash;
 }
-
--- "Input (hexadecimal) 00 02 03 02 00 02 02 01 00 03 00 05 01 … Output: 00 00 00 04 02 E8 07 02 00 00"
-pub panelrun-example : (hash : List ℕ → ℕ) →
-    panelrun hash (0x00 ∷ 0x02 ∷ 0x03 ∷ 0x02 ∷ 0x00 ∷ 0x02 ∷ 0x02 ∷ 0x01 ∷ 0x00 ∷ 0x03 ∷ 0x00 ∷ 0x05 ∷ 0x01 ∷ [])
-    ≡ 0x00 ∷ 0x00 ∷ 0x00 ∷ 0x04 ∷ 0x02 ∷ 0xE8 ∷ 0x07 ∷ 0x02 ∷ 0x00 ∷ 0x00 ∷ []
-unfolding panelrun run_records read_records or_cut read_record read_lengthed written read_number read_bytes read_groups last_group read_kind kind_number message_kind message_part ask_whole ask ask_read ask_of last_two
-    too_far too_far_message message_fits counts_stay counts_below output_of concat_map action_bytes timer_bytes message_bytes number_bytes groups decode_event ended read_event event_of read_timer timer_of read_message message_of
-    state_after counts_after handle handle_message on_message if_neighbour on_timer count_message one_control first_event on_evict_cache_timer evict expire_until due later pop_all
-    on_dispatch_timer dispatch_to queued_peers clear_dispatch per_message on_neighbor_up update_links link_up lookup insert act
-    whole in_range size_in_range durations_in_range limits_in_range up_to fits cache_fits content_held sum keys_once ascending all any neighbours noted_once record_within expires_on_time in_pop_order flags_stand
-    fresh zero_counts panel_settings panel_limits
-panelrun-example hash = refl

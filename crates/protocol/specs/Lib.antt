@@ -13,8 +13,15 @@ pub mod Calls
 pub mod SameMeaning
 pub mod Consistent
 pub mod NoNeighbourPassedOver
+pub mod ReadingsFollowTheTree
 pub mod Notings
 pub mod Alike
 pub mod AlikeUnordered
 pub mod Panel
 pub mod AlikeCalls
+pub mod WorkedCalls
+pub mod WhereAPortGoesAstray
+pub mod AnyQuestions
+pub mod NeverFive
+pub mod TookExact
+pub mod Numbers

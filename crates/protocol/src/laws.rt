@@ -1,14 +1,26 @@
 // The theorems over the definitions, each the contract of a function. Nothing runs: a contract is proved, and so these are.
 ghost use Rattle.std.specs.Prelude.{ℕ, List};
 ghost use Rattle.protocol.specs.NoNeighbourPassedOver.{NoNeighbourPassedOver};
+ghost use Rattle.protocol.specs.ReadingsFollowTheTree.{ReadingsFollowTheTree};
 ghost use Rattle.protocol.specs.Notings.{MetFullExact};
 ghost use Rattle.protocol.specs.SameMeaning.{SameMeaning};
 ghost use Rattle.protocol.specs.AlikeCalls.AlikeFiner.{AlikeFiner};
 ghost use Rattle.protocol.specs.AlikeCalls.CommissioningSheet.{CommissioningSheet};
+ghost use Rattle.protocol.specs.AnyQuestions.{AnyQuestions};
+ghost use Rattle.protocol.specs.TookExact.{TookExact};
+ghost use Rattle.protocol.specs.NeverFive.{NeverFive};
+ghost use Rattle.protocol.specs.Numbers.{Numbers};
+ghost use Rattle.protocol.specs.WorkedCalls.{WorkedCalls};
+ghost use Rattle.protocol.specs.WhereAPortGoesAstray.{WhereAPortGoesAstray};
 
 // Whatever the identifier function: "for every list of event calls (…; refused ones too) from a fresh panel, after it this holds".
 pub fn no_neighbour_passed_over()
     ensures { (hash : List ℕ → ℕ) → NoNeighbourPassedOver hash }
+{}
+
+// Whatever the identifier function: tree links carry the reading, other links its identifier only, of each accepted call of every list of event calls from a fresh panel.
+pub fn readings_follow_the_tree()
+    ensures { (hash : List ℕ → ℕ) → ReadingsFollowTheTree hash }
 {}
 
 // "It met a full record when …": what a call's actions and state tell of it is exactly what `note_dropped` came to.
@@ -29,4 +41,34 @@ pub fn alike_is_finer()
 // "from alike blocks and equal counts, the same list of events, times, link room and output space gives the same answers and actions".
 pub fn alike_panels_answer_alike()
     ensures { (hash : List ℕ → ℕ) → CommissioningSheet hash }
+{}
+
+// The guarantee stands on no question: it holds of every list of events, each refused, with any number, or run.
+pub fn any_questions()
+    ensures { (hash : List ℕ → ℕ) → AnyQuestions hash }
+{}
+
+// "It is taken in by the call that puts it into the message cache": `took` is exact.
+pub fn took_is_exact()
+    ensures { (hash : List ℕ → ℕ) → TookExact hash }
+{}
+
+// A panel does not refuse its own block: no call since an accepted creation is answered 5.
+pub fn never_answered_five()
+    ensures { (hash : List ℕ → ℕ) → NeverFive hash }
+{}
+
+// "Calls worked through": the starred ones, "proved together, as one theorem about the definitions", and the example of `panelrun`.
+pub fn worked_calls()
+    ensures { (hash : List ℕ → ℕ) → WorkedCalls hash }
+{}
+
+// "Where a port goes astray", computed; and "65 recorded: the ticks move 64, then 1".
+pub fn where_a_port_goes_astray()
+    ensures { WhereAPortGoesAstray }
+{}
+
+// The numbers of the specification that definitions and code share, each as it says.
+pub fn numbers_are_the_specifications()
+    ensures { Numbers }
 {}

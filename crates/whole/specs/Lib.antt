@@ -2,3 +2,4 @@ pub mod Held
 pub mod Creation
 pub mod Parts
 pub mod States
+pub mod CreationWhole

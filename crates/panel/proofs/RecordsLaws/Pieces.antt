@@ -11,7 +11,7 @@ use lib.Seq.{take-append-le, drop-append-le, drop-append_seam}
 use borrow.Author.Tests.{ltb-true, ltb-false, leb-true, leb-false, eqb-true, eqb-false, le-ltb, le-leb}
 use Rattle.storage.specs.Lists.Base.{all}
 use Rattle.storage.proofs.ListsLaws.MapLaws.{cases, true≢, and_left, and_right}
-use Rattle.postcard.specs.Number.{Read, got, fault, ◌then◌, number_bytes, read_bytes, last_group, read_groups, read_number}
+use Rattle.postcard.specs.Number.{Read, got, fault, ◌then◌, groups, number_bytes, read_bytes, last_group, read_groups, read_number}
 use Rattle.postcard.specs.Wide.{Bytes}
 use Rattle.postcard.proofs.FieldBack.{bytes-head, bytes_back, number-back, joined, not-got, got-value, got-rest}
 use Rattle.wire.specs.Reader.Gives.{number_of}
@@ -459,7 +459,13 @@ cut-event bytes t n rest end d g h k c =
 -- a whole record: all of it stands before what is left
 record Stood (bytes event after : List ℕ) : Type 0 where
   front : List ℕ
+  some : 1 ≤ length front
   same : bytes ≡ front ++ after
+
+-- a number takes a byte at least
+number-some : (n : ℕ) → 1 ≤ length (number_bytes n)
+unfolding number_bytes groups
+number-some n = cases (ltb n 128) (λ p. rw p (omega arith)) (λ p. rw p (omega arith))
 
 stood : (bytes event after : List ℕ) (t n : ℕ) (rest end : List ℕ) → Bytes bytes → read_number bytes ≡ got t rest → read_number rest ≡ got n end → read_bytes n end ≡ got event after → Stood bytes event after
 stood bytes event after t n rest end w d g b =
@@ -468,6 +474,7 @@ stood bytes event after t n rest end w d g b =
     let parts = bytes_back n end event after long.left b in
     record {
       front = number_bytes t ++ (number_bytes n ++ event);
+      some = omega (arith, number-some t, length-append (number_bytes t) (number_bytes n ++ event));
       same = time.same ∙ ap (λ (l : List ℕ). number_bytes t ++ l) (long.same ∙ ap (λ (l : List ℕ). number_bytes n ++ l) parts.same ∙ sym (append_assoc (number_bytes n) event after)) ∙ sym (append_assoc (number_bytes t) (number_bytes n ++ event) after);
     }
 
@@ -482,6 +489,7 @@ unfolding read_record read_lengthed
 whole bytes event after t n rest end w d g h b =
     let s = stood bytes event after t n rest end w d g b in
     record {
+      some = omega (arith, s.some, ap length s.same, length-append s.front after);
       inside = omega arith;
       reads = rw (d, g, le-leb n 16384 h, b) (ap (λ (l : List ℕ). got (record_call t event) l) (suffix s.front after bytes s.same));
     }

@@ -14,6 +14,7 @@ record_call now event = record { now = now; event = event; rooms = []; output = 
 
 -- a whole record: the definition reads its time and its event, and what follows it is left
 pub record Whole (bytes : List ℕ) (now : ℕ) (event : List ℕ) (used : ℕ) : Type 0 where
+  pub some : 1 ≤ used
   pub inside : used ≤ length bytes
   pub reads : read_record bytes ≡ got (record_call now event) (drop used bytes)
 

@@ -1,6 +1,6 @@
 #!/usr/bin/env python3
 # docs/ARCHITECTURE.md against the repository: its crates are those of crates.txt, in that order and in those layers, which are README's too; each function and each word that it names
-# is where it says. Usage, from the repository's top: tests/map/check.py
+# is where it says; the changes that customers asked for are the specification's later sections, and name crates that are there. Usage, from the repository's top: tests/map/check.py
 import glob, re, sys
 
 
@@ -50,6 +50,19 @@ def crates(page, layers):
     need(readme == list(layers), f"README's layers are {readme}, and crates.txt has {list(layers)}")
 
 
+# The sections of the specification behind its first text, each with the crates that it stands in.
+def changes(page, every):
+    headings = re.findall(r"^## (.+)$", read("docs/SPECIFICATION.md"), re.M)
+    asked = headings[headings.index("Forms of the Rust that stand in the way") + 1 :]
+    rows = table(page, "Changes that customers asked for")
+    need([row[0] for row in rows] == asked, f"the changes asked for are {[row[0] for row in rows]}, and docs/SPECIFICATION.md has {asked}")
+    for section, crates_of, begins in rows:
+        need(names(crates_of), f"{section} stands in no crate")
+        need(names(begins), f"{section} begins nowhere")
+        for crate in names(crates_of):
+            need(crate in every, f"{section}: there is no crate {crate}")
+
+
 # A function, or a case of an enum, named by its path: of the crate that the path begins with, or of any.
 def functions(page, every):
     for path in sorted(set(re.findall(r"`(\w+(?:::\w+)+)`", page))):
@@ -75,6 +88,7 @@ def main():
     page, layers = read("docs/ARCHITECTURE.md"), listed()
     every = [c for own in layers.values() for c in own]
     crates(page, layers)
+    changes(page, every)
     functions(page, every)
     words(page)
     if wrong:

@@ -1,6 +1,6 @@
-// Whether the notes of a record stand once, in linear time: n numbers of links, a byte each, and n rows of 34 bytes (identifier, round). Rows
-// of one bucket, told by the identifier's last bits and the number, are chained through two local arrays, and a row is compared with those of
-// its chain alone.
+// Whether the notes of a record stand once: n numbers of links, a byte each, and n rows of 34 bytes (identifier, round). Rows of one bucket, told by the identifier's last
+// bits and the number, are chained through two local arrays, and a row is compared with those of its chain alone. So the time grows with n where the last bits of identifiers
+// are spread, as those of hashes that nobody chose are; it grows with the square of n where all stand in one bucket.
 ghost use Rattle.std.specs.Prelude.{◌≡◌, ◌+◌, ◌*◌, ◌≤◌, ◌<◌, length, get_or};
 ghost use Rattle.storage.specs.Rows.Ident.{id_of};
 ghost use Rattle.storage.specs.Buckets.{id_at, bucket_of, Latest, Chained, TellsNew, TellsBoth, TellsOnce};

@@ -1,4 +1,4 @@
-// What of the queue is handed back and noted: found once, for the numbers of entries and for the record.
+// What of the queue is handed back and noted. A call finds it twice: `dispatch_sizes` counts it for question 13, and `on_dispatch_timer` adds it to the record.
 ghost use Rattle.std.specs.Prelude.{ℕ, ◌≡◌, ◌≤◌, ◌<◌, ◌+◌, ◌*◌, ◌||◌, false, leb, min, length, All, get_or, [], ◌++◌};
 ghost use Rattle.storage.specs.Rows.Ident.{id_of};
 ghost use Rattle.protocol.specs.Ticks.{per_message, queued_peers};

@@ -1,4 +1,4 @@
-// What every event begins with, and what a message that is taken in leaves: eviction, the first event's work, "mark received; cache at".
+// A message that is taken in: "mark received; cache at", and when each entry expires.
 ghost use Rattle.storage.specs.Rows.Ident.{id_of};
 ghost use Rattle.protocol.specs.Ticks.{evict};
 ghost use Rattle.decide.specs.StateAfter.{first_state, taken_state};

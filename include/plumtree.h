@@ -14,7 +14,7 @@
  *
  * WHAT A HOST DOES
  *
- *   1. Lend a block: plumtree_block_size says how many bytes. plumtree_create makes it a panel without neighbours.
+ *   1. Lend a block: plumtree_block_size says how many bytes. plumtree_create makes it a panel without neighbours. Tell it each planned one up.
  *   2. Tell what happens, one plumtree_event each: a neighbour is up or down, a message came over a link, the panel's own reading is to be
  *      broadcast, a timer fired.
  *   3. Carry out the actions that the call wrote, in their order: put the message of each send that was taken onto the link to its peer,
@@ -215,7 +215,7 @@ struct plumtree_limits {
     size_t missing;    /* S: identifiers that were announced and are not here */
     size_t timers;     /* T: identifiers whose graft timer is marked */
     size_t queued;     /* Q: announcements queued, over all neighbours */
-    size_t dropped;    /* D: identifiers recorded since a link handed them back, over all neighbours */
+    size_t dropped;    /* D: identifiers recorded since a link handed them back, over all neighbours, those too whose link is not there yet */
 };
 
 /* Which limit a call met (plumtree_limit_met), in the order of struct plumtree_limits. */
@@ -282,8 +282,9 @@ static inline struct plumtree_limits plumtree_small_limits(void)
  * Limits for a panel among others that take in `per_second` readings a second, of all panels together, of at most `content` bytes each, with
  * the default durations: an identifier is known for 90 seconds and a message cached for 30, to which come one until the next eviction and
  * two to spare, since timers fire late. The rate is the highest over any 33 seconds: a burst over the limits is lost, not delayed, where
- * every panel has the same. What is announced, asked for, queued or recorded can be all that stands in the caches. A limit over its
- * ceiling (more than 15 readings a second, say) is answered 3 by plumtree_create. Plain C, in this header.
+ * every panel has the same. What is announced, asked for, queued or recorded can be all that stands in the caches. `neighbours` counts each
+ * planned one, whether its link is there or not. A limit over its ceiling (more than 15 readings a second, say) is answered 3 by
+ * plumtree_create. Plain C, in this header.
  */
 static inline struct plumtree_limits plumtree_limits_for(size_t neighbours, size_t per_second, size_t content)
 {
@@ -332,7 +333,8 @@ struct plumtree_stats {
 
 /* Link room: how many sends of this call the link to a peer takes. "The first entry for a peer counts, a peer without one has no bound, and
  * the k-th send of a call to a peer is taken when k <= room." Of a socket it is the free bytes, divided by M + 1 and the bytes of the host's
- * framing, rounded down. A link that is broken and will come back has room 0: what a link is said to take and then loses is not sent again. */
+ * framing, rounded down. A link that is not there yet, or is broken and will come back, has room 0: what a link is said to take and then loses is
+ * not sent again. So a link acknowledges what came: bare datagrams lose readings. */
 struct plumtree_link_room {
     uint64_t peer;
     uint16_t room;
@@ -494,12 +496,15 @@ struct plumtree_answer plumtree_return(uint8_t *block, size_t block_length, stru
  * Neighbors: sent once to the eager neighbours, announced to nobody, not sent on; who is lazy does not get it.
  *
  * Up: told at both ends of a link. Who is whose neighbour is the host's business: three each are a good choice. The neighbour gets what is
- * taken in from then on, and not what came before.
+ * taken in from then on, and not what came before. So each planned neighbour is told up right after creation, and has room 0 until its link is
+ * there: the panel records what it misses, within the limit `dropped`, and announces it then. One that was not planned is told up when its link
+ * is there; one that does not come is told down.
  * Down: what waits for the neighbour is forgotten, and it does not get what is taken in until it is up again; so a link that will come back is
  * not told down, but has room 0.
- * Broadcast: told while no neighbour is up it is accepted and reaches nobody: hold it back until one is. The same content told again while it
- * is known (message_id_retention, 90 s) is one message, and nobody emits it a second time: a reading carries its panel's number and a
- * sequence number or a time.
+ * Broadcast: told while no neighbour is up it is accepted and reaches nobody: where none is planned, hold it back until one is. (Holding it back
+ * does not do for planned ones: the first that is up may have no other neighbour yet.) The same content told again while it is known
+ * (message_id_retention, 90 s) is one message, and nobody emits it a second time: a reading carries its panel's number and a sequence number or
+ * a time.
  *
  * A broadcast that would be over M bytes on its way is accepted and sent to nobody: look at its length first (plumtree_longest_content). So a
  * content has at most 4,055 bytes where M is 4,094 and 471 where it is 510, three more for Neighbors: "Size is content + its length's groups

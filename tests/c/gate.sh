@@ -46,7 +46,7 @@ for example in first_broadcast three_panels archive commissioning commissioning_
     $under_valgrind "$out/$example" | diff "examples/c/$example.expected" -
 done
 
-# What a host loses readings by: the tables of docs/LINKING.md; one series of breaks under valgrind.
+# What a host loses readings by: the tables of docs/LINKING.md; fewer runs under valgrind.
 # shellcheck disable=SC2086
 gcc -std=c99 -O2 -g $strict -I include -I examples/c -o "$out/host_rules" tests/c/host_rules.c "$lib/libplumtree.a"
 "$out/host_rules" | diff tests/c/host_rules.expected -

@@ -79,6 +79,7 @@ fn delay(a: u64, b: u64) -> u64 {
 
 fn simulate() -> Result<Vec<String>, Error> {
     let mut swarm = Swarm::new()?;
+    // Each planned neighbour is told up at once. Here the links are there from the start; one that was not would have room 0 until it is.
     for (a, b, _) in LINKS {
         swarm.plan(0, a, &Event::Up(b));
         swarm.plan(0, b, &Event::Up(a));

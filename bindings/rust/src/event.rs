@@ -49,9 +49,10 @@ pub enum Event<'a> {
     /// A timer fired that an [`Action::Schedule`](crate::Action::Schedule) asked for. Where this is refused it has not fired, and is to be told
     /// again: what waits for it is not scheduled anew.
     Timer(Timer),
-    /// A peer is a neighbour from now on.
+    /// A peer is a neighbour from now on: it gets what is taken in from now on, and not what came before. Each planned neighbour is told up right
+    /// after creation, and has room 0 ([`LinkRoom`](crate::LinkRoom)) until its link is there; one that was not planned when its link is there.
     Up(u64),
-    /// A peer is no neighbour any more.
+    /// A peer is no neighbour any more, and what waits for it is forgotten. A link that will come back is not told down, but has room 0.
     Down(u64),
 }
 

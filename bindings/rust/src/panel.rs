@@ -15,7 +15,8 @@ pub struct Stats {
 }
 
 /// How many sends of a call the link to a peer takes: "The first entry for a peer counts, a peer without one has no bound, and the k-th
-/// send of a call to a peer is taken when k ≤ room."
+/// send of a call to a peer is taken when k ≤ room." A link that is not there yet, or is broken and will come back, has room 0: what it is said to
+/// take and then loses is not sent again.
 ///
 /// ```
 /// use plumtree::{Action, Event, Limits, LinkRoom, Panel, Scope, Settings};

@@ -94,7 +94,7 @@ pub struct Limits {
     pub timers: usize,
     /// Q: announcements that are queued, over all neighbours.
     pub queued: usize,
-    /// D: identifiers that are recorded since a link handed them back, over all neighbours.
+    /// D: identifiers that are recorded since a link handed them back, over all neighbours, those too whose link is not there yet.
     pub dropped: usize,
 }
 
@@ -120,8 +120,8 @@ impl Limits {
     /// Limits for a panel among others that take in `per_second` readings a second, of all panels together, of at most `content` bytes each, with
     /// the default durations: an identifier is known for 90 seconds and a message cached for 30, to which come one until the next eviction and
     /// two to spare, since timers fire late. The rate is the highest over any 33 seconds: a burst over the limits is lost, not delayed, where
-    /// every panel has the same. What is announced, asked for, queued or recorded can be all that stands in the caches. A limit over its
-    /// ceiling (more than 15 readings a second, say) is refused at creation.
+    /// every panel has the same. What is announced, asked for, queued or recorded can be all that stands in the caches. `neighbours` counts each
+    /// planned one, whether its link is there or not. A limit over its ceiling (more than 15 readings a second, say) is refused at creation.
     ///
     /// ```
     /// use plumtree::{Limits, Panel, Settings};

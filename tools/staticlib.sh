@@ -38,7 +38,7 @@ if [ -d out/incremental ]; then
     cp -R out/incremental "$work"
     words+=(--incremental "$work/incremental")
 fi
-"$kit/bin/rattle" build "${words[@]}" >"$work/said" 2>&1 || { cat "$work/said"; die "lib$name.a is not built"; }
+{ "$kit/bin/rattle" build "${words[@]}" >"$work/said" 2>&1; } | waiting "the compiler, at lib$name.a," || { cat "$work/said"; die "lib$name.a is not built"; }
 mkdir -p "${archive%/*}"
 mv "$work/lib$name.a" "$archive"
 echo "$sum" >"$archive.sum"

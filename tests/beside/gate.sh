@@ -4,7 +4,7 @@
 set -eu
 cd "$(dirname "$0")/../.."
 . tools/setup.sh
-have_rust || exit 0
+have_rust "the library beside the original Rust (tests/beside)" || exit 0
 need_library
 need_packages valgrind
 LIBRARY=$PLUMTREE_LIB_DIR tests/beside/build.sh

@@ -5,7 +5,7 @@
 set -euo pipefail
 cd "$(dirname "$0")/../.."
 . tools/setup.sh
-have_rust || { echo "left out: the binding for Rust"; exit 0; }
+have_rust "the binding for Rust (tests/bindings)" || exit 0
 need_packages gcc libc6-dev valgrind
 need_library
 export CARGO_TARGET_DIR="$PWD/target/bindings"
@@ -39,7 +39,7 @@ grep -q "there is no $none/libplumtree.a: run \`tools/staticlib.sh plumtree\`, o
 
 cargo test --offline -q >"$out/test.log" 2>&1 || { cat "$out/test.log"; die "cargo test failed"; }
 grep -h '^test result' "$out/test.log"
-if cargo clippy --version >/dev/null 2>&1; then
+if have_clippy "what clippy says of the binding for Rust (tests/bindings)"; then
     cargo clippy --offline -q --all-targets -- -D warnings
 fi
 

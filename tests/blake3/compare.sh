@@ -1,4 +1,4 @@
-#!/bin/sh
+#!/usr/bin/env bash
 # The identifier beside Debian's b3sum: tests/blake3/compare.sh. Each line that the program blake3_vectors writes, LENGTH HEX, is held to
 # what b3sum writes of the same bytes (byte i is i % 251); with the word `stored`, each line of its stored output. It writes
 # 'blake3: N passed, M failed', and its status is 0 where none failed. Needs root where b3sum is to be installed.
@@ -7,10 +7,8 @@ root=$(cd "$(dirname "$0")/../.." && pwd)
 work=$(mktemp -d)
 trap 'rm -rf "$work"' EXIT
 
-if ! command -v b3sum >/dev/null; then
-    apt-get update >/dev/null
-    apt-get install -y --no-install-recommends b3sum >/dev/null
-fi
+. "$root/tools/setup.sh"
+need_packages b3sum
 if [ "${1:-}" = stored ]; then
     cp "$root/crates/blake3_vectors/stdout" "$work/ours"
 else

@@ -3,7 +3,7 @@
 set -eu
 cd "$(dirname "$0")/../.."
 . tools/setup.sh
-have_rust || exit 0
+have_rust "whether the stored outputs of panelrun are the original Rust's (tests/panelrun)" || exit 0
 need_packages python3
 [ -x tests/target/release/oracle ] || tests/rust/build.sh
 python3 tests/panelrun/make.py check

@@ -3,8 +3,8 @@
 set -eu
 cd "$(dirname "$0")/../.."
 . tools/setup.sh
-have_rust || exit 0
-need_packages librust-hex-dev librust-indexmap-dev
+have_rust "the time caches beside the original Rust's (tests/time_cache)" || exit 0
+need_rust_packages
 (cd tests/rust/seed && sha256sum -c --quiet SHA256SUMS)
 tools/staticlib.sh exports
 cd tests/time_cache

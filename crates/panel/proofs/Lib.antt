@@ -1,4 +1,5 @@
 pub mod RecordsLaws
 pub mod Rans
 pub mod Streams
+pub mod Unreads
 pub mod Written

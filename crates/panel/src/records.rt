@@ -35,6 +35,9 @@ pub enum Record<'a> {
 // "an event over 16,384 bytes".
 const MAX_EVENT: u64 = 16384;
 
+// The most bytes that a record has while it is cut: a byte less than two numbers of at most ten bytes and an event.
+pub const MAX_CUT: usize = 16403;
+
 // May the length that begins with these bytes, its last one not among them, still be at most 16,384? Of three bytes, 80 80 01 alone is.
 fn may_fit(bytes: &[u8]) -> bool
     ensures { result ≡ may_fit bytes.now }

@@ -7,7 +7,7 @@ ghost use Rattle.panel.specs.Records.Reading.{record_call};
 ghost use Rattle.panel.specs.Records.Running.{closing, end_bytes};
 ghost use Rattle.panel.specs.Writing.{AppendsFront};
 ghost use Rattle.panel.specs.Answering.{Started, Answered, Answers, WritesFront};
-ghost use Rattle.panel.specs.Causes.{Cause};
+ghost use Rattle.panel.specs.Causes.{Cause, WriteCause};
 
 use crate::causes::{Input, Output};
 use crate::records;
@@ -17,7 +17,6 @@ use crate::writing::write_on;
 use block::head::{Config, Limits, Settings};
 use host::panel::Panel;
 use postcard::units::{Millis, Round};
-use std::alloc::Global;
 use std::io;
 use std::io::{Error, ErrorKind};
 
@@ -102,7 +101,7 @@ fn answer(
 fn close<W: Output>(unread: &[u8], output: &mut W) -> io::Result<()>
     ensures ok { OnOk result (Appends (W.contents output.old) (W.contents output.new) (closing unread.now)) }
     ensures err { OnErr result (AppendsFront (W.contents output.old) (W.contents output.new) (closing unread.now)) }
-    ensures cause { OnErr result (W.failed output.new) }
+    ensures cause { IfErr result (WriteCause (W.failed output.new) (W.took_none output.new)) }
 {
     if unread.is_empty() {
         return Ok(());
@@ -110,19 +109,19 @@ fn close<W: Output>(unread: &[u8], output: &mut W) -> io::Result<()>
     write_on(output, &END)
 }
 
-// The whole program: what it adds to the output is what the specification says of the input. Where a read or a write fails, or memory is short, it is a front of what the
-// specification says of the bytes that were taken from the input; a read that fails ends the program as the input's end does.
+// The whole program: what it adds to the output is what the specification says of the input. Where a read or a write fails, it is a front of what the specification says of
+// the bytes that were taken from the input, and the error is told; a read that fails ends the program as the input's end does.
 // A proved loop has to end, and nothing says that the input does: it makes at most as many steps as no run uses up.
-pub fn run<R: Input, W: Output>(alloc: Global, input: &mut R, output: &mut W) -> io::Result<()>
+pub fn run<R: Input, W: Output>(input: &mut R, output: &mut W) -> io::Result<()>
     ensures ok { OnOk result (IfSome (R.remaining input.old) (λ xs. Appends (W.contents output.old) (W.contents output.new) (panelrun identifier xs))) }
     ensures err { OnErr result (WritesFront (R.remaining input.old) (R.remaining input.new) (W.contents output.old) (W.contents output.new)) }
-    ensures cause { IfErr result (λ e. Cause (R.failed input.new) (W.failed output.new) e (R.remaining input.old) (R.remaining input.new)) }
+    ensures cause { IfErr result (Cause (R.failed input.new) (WriteCause (W.failed output.new) (W.took_none output.new)) (R.remaining input.old) (R.remaining input.new)) }
 {
     let mut block = [0u8; BLOCK];
     let mut panel = start(&mut block);
     let mut out = [0u8; OUTPUT];
     let mut reply = [0u8; REPLY];
-    let mut unread = Unread::new(alloc);
+    let mut unread = Unread::new();
     'records: for _ in 0..u64::MAX {
         match records::read_record(unread.bytes()) {
             Record::Whole {

@@ -1,42 +1,56 @@
-// The bytes of an input that were read and not used yet.
-ghost use Rattle.std.specs.Prelude.{◌≡◌, ◌≤◌, ◌⊎◌, [], IfOk, IfErr, OnErr, length, drop};
-ghost use Rattle.std.specs.IoError.{error_kind};
+// The bytes of an input that were read and not used yet, in an array.
+ghost use Rattle.std.specs.Prelude.{◌≡◌, ◌≤◌, ◌-◌, [], IfOk, IfErr, OnErr, length, take, drop, slice_range};
 ghost use Rattle.std.specs.Io.KnownBytes.{Keeps};
 ghost use Rattle.panel.specs.Reading.{ReadOn};
 
 use crate::causes::Input;
-use std::alloc::Global;
+use crate::records::MAX_CUT;
 use std::io;
-use std::io::ErrorKind;
 use std::marker::Model;
 
-// How many bytes one read asks for.
+// How many bytes a read has room for, at least.
 const CHUNK: usize = 16384;
+
+// The unread bytes before a read, and those that it gives.
+const ROOM: usize = MAX_CUT + CHUNK;
 
 #[derive(Drop)]
 pub struct Unread {
-    buffer: Vec<u8>,
-    at: usize,
+    buffer: [u8; ROOM],
+    start: usize,
+    end: usize,
 }
 
 impl Model for Unread {
-    ghost use Rattle.std.specs.Prelude.{ℕ, List, ◌≤◌, length, drop};
+    ghost use Rattle.std.specs.Prelude.{ℕ, List, ◌≤◌, length, slice_range};
 
     ghost Value = { List ℕ };
 
-    ghost view = { λ u. drop u.at u.buffer.items };
+    ghost view = { λ u. slice_range u.buffer u.start u.end };
 
-    ghost invariant = { λ u. u.at ≤ length u.buffer.items };
+    ghost invariant = { λ u. (u.start ≤ u.end) × (u.end ≤ length u.buffer) };
+}
+
+// Moves a part to the front.
+fn move_to_front(buffer: &mut [u8; ROOM], start: usize, end: usize)
+    requires ordered { start ≤ end }
+    requires inside { end ≤ length buffer.old }
+    ensures { take (end - start) buffer.new ≡ slice_range buffer.old start end }
+{
+    if 0 < start {
+        buffer.copy_within(start..end, 0);
+    }
 }
 
 impl Unread {
     // No bytes yet.
-    pub fn new(alloc: Global) -> Unread
+    pub fn new() -> Unread
         ensures { result ≡ [] }
     {
         Unread {
-            buffer: Vec::new(alloc),
-            at: 0,
+            buffer: [0; ROOM],
+            start: 0,
+            end: 0,
         }
     }
 
@@ -44,7 +58,7 @@ impl Unread {
     pub fn bytes(&self) -> &[u8]
         ensures { result.now ≡ self.now }
     {
-        &self.buffer[self.at..]
+        &self.buffer[self.start..self.end]
     }
 
     // The first `n` bytes were used.
@@ -52,22 +66,22 @@ impl Unread {
         requires { n ≤ length self.old }
         ensures { self.new ≡ drop n self.old }
     {
-        self.at += n;
+        self.start += n;
     }
 
-    // Reads once: how many bytes came. Room is made before anything is read, so that no byte is lost where there is none.
+    // Reads once, behind the unread bytes: how many bytes came.
     pub fn read_on<R: Input>(&mut self, input: &mut R) -> io::Result<usize>
+        requires { length self.old ≤ MAX_CUT }
         ensures ok { IfOk result (λ n. ReadOn n self.old self.new (R.remaining input.old) (R.remaining input.new)) }
         ensures same { OnErr result (self.new ≡ self.old) }
         ensures untaken { OnErr result (Keeps (R.remaining input.old) (R.remaining input.new)) }
-        ensures cause { IfErr result (λ e. R.failed input.new ⊎ (error_kind e ≡ ErrorKind.OutOfMemory)) }
+        ensures cause { IfErr result (R.failed input.new) }
     {
-        self.buffer.drain(..self.at);
-        self.at = 0;
-        self.buffer.reserve(CHUNK)?;
-        let mut chunk = [0u8; CHUNK];
-        let n = input.take_some(&mut chunk)?;
-        self.buffer.extend_from_slice(&chunk[..n]).unwrap();
+        move_to_front(&mut self.buffer, self.start, self.end);
+        self.end -= self.start;
+        self.start = 0;
+        let n = input.take_some(&mut self.buffer[self.end..])?;
+        self.end += n;
         Ok(n)
     }
 }

@@ -1,8 +1,9 @@
 // Bytes written whole, or a front of them where a write fails.
-ghost use Rattle.std.specs.Prelude.{◌≡◌, ◌<◌, IfOk, OnOk, OnErr, length};
+ghost use Rattle.std.specs.Prelude.{◌≡◌, ◌<◌, IfOk, IfErr, OnOk, OnErr, length};
 ghost use Rattle.std.specs.Io.{WritesAtMost};
 ghost use Rattle.std.specs.Io.KnownBytes.{Appends, WriteAppends};
 ghost use Rattle.panel.specs.Writing.{AppendsFront};
+ghost use Rattle.panel.specs.Causes.{WriteCause};
 
 use crate::causes::Output;
 use std::io;
@@ -15,8 +16,8 @@ const TRIES: u32 = 1 << 30;
 fn write_some<W: Output>(output: &mut W, bytes: &[u8]) -> io::Result<usize>
     ensures bound { WritesAtMost result bytes.now }
     ensures bytes { WriteAppends (W.contents output.old) (W.contents output.new) result bytes.now }
-    ensures told { OnErr result (W.failed output.new) }
-    ensures none { IfOk result (λ n. n ≡ 0 → 0 < length bytes.now → W.failed output.new) }
+    ensures told { IfErr result (W.failed output.new) }
+    ensures none { IfOk result (λ n. n ≡ 0 → 0 < length bytes.now → W.took_none output.new) }
 {
     'tries: for _ in 0..TRIES {
         match output.give_some(bytes) {
@@ -32,7 +33,7 @@ fn write_some<W: Output>(output: &mut W, bytes: &[u8]) -> io::Result<usize>
 pub fn write_on<W: Output>(output: &mut W, bytes: &[u8]) -> io::Result<()>
     ensures ok { OnOk result (Appends (W.contents output.old) (W.contents output.new) bytes.now) }
     ensures err { OnErr result (AppendsFront (W.contents output.old) (W.contents output.new) bytes.now) }
-    ensures cause { OnErr result (W.failed output.new) }
+    ensures cause { IfErr result (WriteCause (W.failed output.new) (W.took_none output.new)) }
 {
     let mut rest = bytes;
     'writes: while !rest.is_empty() {

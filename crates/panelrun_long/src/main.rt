@@ -4,5 +4,5 @@
 fn main(rt: HostRuntime) {
     let mut input = rt.stdin();
     let mut output = rt.stdout();
-    let _ = panel::stream::run(rt.alloc(), &mut input, &mut output);
+    let _ = panel::stream::run(&mut input, &mut output);
 }

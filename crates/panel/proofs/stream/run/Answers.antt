@@ -68,4 +68,4 @@ pub returns-clause-err : goal.returns-clause-err
 returns-clause-err g c = sofar-ends c.records.invariant.sofar
 
 pub returns-clause-cause : goal.returns-clause-cause
-returns-clause-cause g c = inr (inr (inr (paced-long c.records.invariant c.records-test.false)))
+returns-clause-cause g c = inr (inr (paced-long c.records.invariant c.records-test.false, c.new.ensures.kind))

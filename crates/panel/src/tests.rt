@@ -13,7 +13,7 @@ const INPUT: [u8; 13] = [0, 2, 3, 2, 0, 2, 2, 1, 0, 3, 0, 5, 1];
 // "Output", "the middle one scheduling EvictCache in 1,000".
 const ANSWERS: [u8; 10] = [0, 0, 0, 4, 2, 0xe8, 7, 2, 0, 0];
 
-// Linux's numbers of two errors: "connection reset", and "no space left".
+// The numbers that Linux gives to two errors: the connection was reset, and no space is left.
 const CONNECTION_RESET: i32 = 104;
 
 const NO_SPACE: i32 = 28;

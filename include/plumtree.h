@@ -303,14 +303,16 @@ static inline struct plumtree_limits plumtree_limits_for(size_t neighbours, size
 
 /*
  * A panel that comes from a creation never answers 14 to an output of this length: a message to each neighbour and an emit, or 50 bytes for
- * each queued announcement. Counted from the forms below and held against the calls of tests/beside, not proved. 37,027 for panelrun's
- * limits, 409,664 at the ceilings. Plain C, in this header.
+ * each queued announcement, or 33 for each cached message, which an eviction tells. Counted from the forms below and held against the calls of
+ * tests/beside, not proved. 37,027 for panelrun's limits, 409,664 at the ceilings. Plain C, in this header.
  */
 static inline size_t plumtree_output_size(struct plumtree_limits limits, uint64_t max_message_size)
 {
     size_t sends = (limits.neighbours + 1) * ((size_t)max_message_size + 13);
     size_t announcements = 50 * limits.queued;
-    return (sends < announcements ? announcements : sends) + 64;
+    size_t forgotten = 33 * limits.cached;
+    size_t most = sends < announcements ? announcements : sends;
+    return (most < forgotten ? forgotten : most) + 64;
 }
 
 /* The longest content that a broadcast sends to all panels (Swarm): 4,055 where M is 4,094. Three bytes more for Neighbors. Plain C. */

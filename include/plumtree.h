@@ -18,7 +18,8 @@
  *   2. Tell what happens, one plumtree_event each: a neighbour is up or down, a message came over a link, the panel's own reading is to be
  *      broadcast, a timer fired.
  *   3. Carry out the actions that the call wrote, in their order: put the message of each send that was taken onto the link to its peer,
- *      start a timer for each schedule, hand the content of each emit to the panel's screen.
+ *      start a timer for each schedule, hand the content of each emit to the panel's screen, which greys the curve of each identifier that is
+ *      told as forgotten.
  *
  * A message goes over a link as the bytes it has in the send action; the host frames them (up to M + 1 bytes). The panel at the other end
  * gets it as an event: a byte 0, the sender's number, and these bytes as they came, damaged or not.
@@ -473,6 +474,7 @@ struct plumtree_answer plumtree_return(uint8_t *block, size_t block_length, stru
  *     send               01  peer  00 taken, 01 handed back  MESSAGE
  *     schedule           02  delay  TIMER
  *     emit               03  peer  length  content  DELIVERY
+ *     forgotten          04  identifier
  *
  *     MESSAGE   Gossip   00  identifier  length  content  DELIVERY
  *               Prune    01
@@ -492,6 +494,11 @@ struct plumtree_answer plumtree_return(uint8_t *block, size_t block_length, stru
  * AnnounceDropped may be told before its time, and then not at it: as soon as a link has room again, or what waits for it is sent late, and
  * lost when it is no longer cached. An EvictCache told in addition goes on beside the others for ever.
  * Emit: a new message, for the panel's own use; `peer` brought it, with this round. A panel's own broadcasts are not emitted.
+ * Forgotten: the message of this identifier, BLAKE3 of its content, has left the message cache, own broadcasts too: "The trend screen greys a curve when
+ * its message leaves the cache". An EvictCache tells it, before its schedule, of each one in the order of removal: by the time to which each was
+ * kept, of one time the oldest first. One cached anew meanwhile is kept longer, and told once. It is told of the message cache alone: the panel knows the
+ * identifier longer (message_id_retention), and emits the content again only after that. A tick that is answered 14 has forgotten nothing: it is told
+ * again with a longer output.
  *
  * Neighbors: sent once to the eager neighbours, announced to nobody, not sent on; who is lazy does not get it.
  *
@@ -508,7 +515,7 @@ struct plumtree_answer plumtree_return(uint8_t *block, size_t block_length, stru
  * + 37, or 34 for Neighbors." A Gossip whose identifier is not that of its content is accepted, counted, and leads to nothing.
  *
  * Examples, in hexadecimal: `03 02` neighbour 2 is up. `02 01` DispatchLazyPush fired. `00 05 01` a Prune from 5.
- * `01 05 31 34 35 32 43 00` broadcast of "1452C" to all panels. The action `02 E8 07 02`: schedule EvictCache in 1,000.
+ * `01 05 31 34 35 32 43 00` broadcast of "1452C" to all panels. The action `02 E8 07 02`: schedule EvictCache in 1,000. `04` and 32 bytes: forgotten.
  */
 enum plumtree_event_kind {
     PLUMTREE_EVENT_RECEIVED = 0,
@@ -521,7 +528,8 @@ enum plumtree_event_kind {
 enum plumtree_action_kind {
     PLUMTREE_ACTION_SEND = 1,
     PLUMTREE_ACTION_SCHEDULE = 2,
-    PLUMTREE_ACTION_EMIT = 3
+    PLUMTREE_ACTION_EMIT = 3,
+    PLUMTREE_ACTION_FORGOTTEN = 4
 };
 
 enum plumtree_message_kind {

@@ -150,6 +150,8 @@ impl Limits {
     /// ```
     /// assert_eq!(plumtree::Limits::SMALL.output_size(4_094), 37_027);
     /// assert_eq!(plumtree::Limits::CEILINGS.output_size(4_094), 409_664);
+    /// let few_links = plumtree::Limits { neighbours: 1, queued: 1, cached: 512, ..plumtree::Limits::SMALL };
+    /// assert_eq!(few_links.output_size(510), 16_960);
     /// ```
     pub const fn output_size(&self, max_message_size: u64) -> usize {
         let sends = (self.neighbours + 1) * (max_message_size as usize + 13);

@@ -499,7 +499,7 @@ impl Pair {
 fn compare_actions(answer: &Answer, actions: &[u8]) -> Same<()> {
     let hex = |bytes: &[u8]| hex::encode(bytes);
     let Some(struck) = wire::struck(actions) else {
-        return Err(format!("no actions: the library {}", hex(actions)));
+        return Err(format!("no actions:\n  the library {}", hex(actions)));
     };
     if struck.others != answer.actions {
         let (a, b) = (hex(&answer.actions), hex(&struck.others));

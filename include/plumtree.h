@@ -494,11 +494,10 @@ struct plumtree_answer plumtree_return(uint8_t *block, size_t block_length, stru
  * AnnounceDropped may be told before its time, and then not at it: as soon as a link has room again, or what waits for it is sent late, and
  * lost when it is no longer cached. An EvictCache told in addition goes on beside the others for ever.
  * Emit: a new message, for the panel's own use; `peer` brought it, with this round. A panel's own broadcasts are not emitted.
- * Forgotten: the message of this identifier, BLAKE3 of its content, has left the message cache, own broadcasts too: "The trend screen greys a curve when
- * its message leaves the cache". An EvictCache tells it, before its schedule, of each one in the order of removal: by the time to which each was
- * kept, of one time the oldest first. One cached anew meanwhile is kept longer, and told once. It is told of the message cache alone: the panel knows the
- * identifier longer (message_id_retention), and emits the content again only after that. A tick that is answered 14 has forgotten nothing: it is told
- * again with a longer output.
+ * Forgotten: the message of this identifier, BLAKE3 of its content, has left the message cache, own broadcasts too: "The trend screen greys a
+ * curve when its message leaves the cache". An EvictCache tells each one before its schedule, in the order of removal: by the time to which each
+ * was kept, of one time the oldest first. One cached anew meanwhile is kept longer, and told once. The identifier is known for message_id_retention,
+ * and the content emitted again only after that. A tick that is answered 14 has forgotten nothing.
  *
  * Neighbors: sent once to the eager neighbours, announced to nobody, not sent on; who is lazy does not get it.
  *

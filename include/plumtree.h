@@ -18,7 +18,8 @@
  *   2. Tell what happens, one plumtree_event each: a neighbour is up or down, a message came over a link, the panel's own reading is to be
  *      broadcast, a timer fired.
  *   3. Carry out the actions that the call wrote, in their order: put the message of each send that was taken onto the link to its peer,
- *      start a timer for each schedule, hand the content of each emit to the panel's screen.
+ *      start a timer for each schedule, hand the content of each emit to the panel's screen, which greys the curve of each identifier that is
+ *      told as forgotten.
  *
  * A message goes over a link as the bytes it has in the send action; the host frames them (up to M + 1 bytes). The panel at the other end
  * gets it as an event: a byte 0, the sender's number, and these bytes as they came, damaged or not.
@@ -304,14 +305,16 @@ static inline struct plumtree_limits plumtree_limits_for(size_t neighbours, size
 
 /*
  * A panel that comes from a creation never answers 14 to an output of this length: a message to each neighbour and an emit, or 50 bytes for
- * each queued announcement. Counted from the forms below and held against the calls of tests/beside, not proved. 37,027 for panelrun's
- * limits, 409,664 at the ceilings. Plain C, in this header.
+ * each queued announcement, or 33 for each cached message, which an eviction tells. Counted from the forms below and held against the calls of
+ * tests/beside, not proved. 37,027 for panelrun's limits, 409,664 at the ceilings. Plain C, in this header.
  */
 static inline size_t plumtree_output_size(struct plumtree_limits limits, uint64_t max_message_size)
 {
     size_t sends = (limits.neighbours + 1) * ((size_t)max_message_size + 13);
     size_t announcements = 50 * limits.queued;
-    return (sends < announcements ? announcements : sends) + 64;
+    size_t forgotten = 33 * limits.cached;
+    size_t most = sends < announcements ? announcements : sends;
+    return (most < forgotten ? forgotten : most) + 64;
 }
 
 /* The longest content that a broadcast sends to all panels (Swarm): 4,055 where M is 4,094. Three bytes more for Neighbors. Plain C. */
@@ -473,6 +476,7 @@ struct plumtree_answer plumtree_return(uint8_t *block, size_t block_length, stru
  *     send               01  peer  00 taken, 01 handed back  MESSAGE
  *     schedule           02  delay  TIMER
  *     emit               03  peer  length  content  DELIVERY
+ *     forgotten          04  identifier
  *
  *     MESSAGE   Gossip   00  identifier  length  content  DELIVERY
  *               Prune    01
@@ -492,6 +496,10 @@ struct plumtree_answer plumtree_return(uint8_t *block, size_t block_length, stru
  * AnnounceDropped may be told before its time, and then not at it: as soon as a link has room again, or what waits for it is sent late, and
  * lost when it is no longer cached. An EvictCache told in addition goes on beside the others for ever.
  * Emit: a new message, for the panel's own use; `peer` brought it, with this round. A panel's own broadcasts are not emitted.
+ * Forgotten: the message of this identifier, BLAKE3 of its content, has left the message cache, own broadcasts too: "The trend screen greys a
+ * curve when its message leaves the cache". An EvictCache tells each one before its schedule, in the order of removal: by the time to which each
+ * was kept, of one time the oldest first. One cached anew meanwhile is kept longer, and told once. The identifier is known for message_id_retention,
+ * and the content emitted again only after that. A tick that is answered 14 has forgotten nothing.
  *
  * Neighbors: sent once to the eager neighbours, announced to nobody, not sent on; who is lazy does not get it.
  *
@@ -511,7 +519,7 @@ struct plumtree_answer plumtree_return(uint8_t *block, size_t block_length, stru
  * + 37, or 34 for Neighbors." A Gossip whose identifier is not that of its content is accepted, counted, and leads to nothing.
  *
  * Examples, in hexadecimal: `03 02` neighbour 2 is up. `02 01` DispatchLazyPush fired. `00 05 01` a Prune from 5.
- * `01 05 31 34 35 32 43 00` broadcast of "1452C" to all panels. The action `02 E8 07 02`: schedule EvictCache in 1,000.
+ * `01 05 31 34 35 32 43 00` broadcast of "1452C" to all panels. The action `02 E8 07 02`: schedule EvictCache in 1,000. `04` and 32 bytes: forgotten.
  */
 enum plumtree_event_kind {
     PLUMTREE_EVENT_RECEIVED = 0,
@@ -524,7 +532,8 @@ enum plumtree_event_kind {
 enum plumtree_action_kind {
     PLUMTREE_ACTION_SEND = 1,
     PLUMTREE_ACTION_SCHEDULE = 2,
-    PLUMTREE_ACTION_EMIT = 3
+    PLUMTREE_ACTION_EMIT = 3,
+    PLUMTREE_ACTION_FORGOTTEN = 4
 };
 
 enum plumtree_message_kind {

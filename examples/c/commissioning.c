@@ -65,6 +65,9 @@ static void print_action(const struct plumtree_action *a)
         printf("    schedule %s in %" PRIu64, timer_names[a->timer[0]], a->delay);
     } else if (a->kind == PLUMTREE_ACTION_EMIT) {
         printf("    emit from %" PRIu64 ": \"%.*s\"", a->peer, (int)a->content_length, (const char *)a->content);
+    } else if (a->kind == PLUMTREE_ACTION_FORGOTTEN) {
+        printf("    forgotten");
+        print_id(a->id);
     } else {
         printf("    %s %" PRIu64 ": %s", a->taken ? "send to" : "handed back, for", a->peer, message_names[a->message.kind]);
         if (a->message.id)

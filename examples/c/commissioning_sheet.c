@@ -121,6 +121,8 @@ static void print_actions(const struct panel *p, size_t length)
     while (plumtree_take_action(&actions, &a)) {
         if (a.kind == PLUMTREE_ACTION_SCHEDULE)
             printf("        schedule %s in %" PRIu64, timer_names[a.timer[0]], a.delay);
+        else if (a.kind == PLUMTREE_ACTION_FORGOTTEN)
+            printf("        forgotten %02x%02x..", a.id[0], a.id[1]);
         else
             printf("        send to %" PRIu64 ": %s", a.peer, message_names[a.message.kind]);
         for (i = 0; i < a.message.count; i++, plumtree_take_round(&a.message.entries)) {

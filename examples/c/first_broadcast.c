@@ -1,6 +1,6 @@
 /*
  * A first broadcast. Panel 1 is told that its neighbours 2 and 3 are up and broadcasts a reading; the link to 3 has no room. Then its timers
- * fire, and the reading is announced to 3. Each event is printed, and below it the actions that it led to.
+ * fire: the reading is announced to 3, and forgotten after 30 seconds. Each event is printed, and below it the actions that it led to.
  *
  *     tools/staticlib.sh plumtree
  *     cc -Wall -Wextra -pedantic -I include -o first_broadcast examples/c/first_broadcast.c target/staticlib/libplumtree.a
@@ -107,6 +107,10 @@ static void print_action(const struct plumtree_action *a)
         printf("emit from %" PRIu64 ": \"%.*s\"", a->peer, (int)a->content_length, (const char *)a->content);
         print_delivery(a->delivery, a->round);
         break;
+    case PLUMTREE_ACTION_FORGOTTEN:
+        printf("forgotten ");
+        print_id(a->id);
+        break;
     }
     printf("\n");
 }
@@ -161,6 +165,9 @@ int main(void)
     tell(&panel, "DispatchLazyPush fires", 15, event, plumtree_put_tick(event, PLUMTREE_TIMER_DISPATCH_LAZY_PUSH), NULL, 0);
     tell(&panel, "AnnounceDropped fires", 1010, event, plumtree_put_tick(event, PLUMTREE_TIMER_ANNOUNCE_DROPPED), NULL, 0);
     tell(&panel, "DispatchLazyPush fires", 1015, event, plumtree_put_tick(event, PLUMTREE_TIMER_DISPATCH_LAZY_PUSH), NULL, 0);
+
+    /* EvictCache fires once a second. The tick of now finds a reading that has been cached for 30 seconds; those before it are left out here. */
+    tell(&panel, "EvictCache fires", 30010, event, plumtree_put_tick(event, PLUMTREE_TIMER_EVICT_CACHE), NULL, 0);
 
     printf("payload messages received %" PRIu64 ", control messages received %" PRIu64 "\n", panel.counts.payload_messages_received,
            panel.counts.control_messages_received);

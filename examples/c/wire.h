@@ -236,6 +236,8 @@ struct plumtree_action {
     size_t content_length;
     uint8_t delivery;
     uint16_t round;
+
+    const uint8_t *id; /* forgotten */
 };
 
 /* The next action; false at the end of the bytes, or where they are bad. */
@@ -267,6 +269,9 @@ static inline bool plumtree_take_action(struct plumtree_reader *r, struct plumtr
         a->content_length = (size_t)plumtree_take_number(r);
         a->content = plumtree_take(r, a->content_length);
         plumtree_take_delivery(r, &a->delivery, &a->round);
+        break;
+    case PLUMTREE_ACTION_FORGOTTEN:
+        a->id = plumtree_take_id(r);
         break;
     default:
         r->bad = true;

@@ -1,5 +1,5 @@
 #!/usr/bin/env bash
-# The binding for Rust, from a copy elsewhere: what it does without the archive, the reader on two runs of panelrun, its tests and examples, its
+# The binding for Rust, from a copy elsewhere: what it does without the archive, the reader on three runs of panelrun, its tests and examples, its
 # documentation's examples, and its tests under valgrind.
 # PLUMTREE_LIB_DIR can name the directory of another libplumtree.a than the proved one.
 set -euo pipefail
@@ -30,7 +30,7 @@ none=$out/none
 without() { PLUMTREE_LIB_DIR=$none cargo "$1" --offline -q --target-dir "$out/without" "${@:2}"; }
 without check --all-targets
 without build --lib
-for run in worked longer; do
+for run in worked forgotten longer; do
     without run --example read -- tests/runs/$run.input tests/runs/$run.output | diff tests/runs/$run.expected -
 done
 if without build --example swarm >"$out/without.log" 2>&1; then die "linked without the archive"; fi

@@ -1,6 +1,6 @@
 /*
  * The library called from C: that the header's structs are where the library reads them, each refusal and that it touches nothing, each limit that
- * a call can meet, messages rewritten, states saved and returned to, null pointers with length 0. Every lent part is a heap block of exactly its length, so that valgrind sees a
+ * a call can meet, what is forgotten, messages rewritten, states saved and returned to, null pointers with length 0. Every lent part is a heap block of exactly its length, so that valgrind sees a
  * step beyond it.
  */
 #include <stdio.h>
@@ -117,6 +117,14 @@ static void schedules(struct plumtree_reader *r, uint8_t kind, uint64_t delay)
     CHECK(a.delay == delay);
 }
 
+/* The next action tells that this identifier is forgotten. */
+static void forgets(struct plumtree_reader *r, const uint8_t *id)
+{
+    struct plumtree_action a;
+    CHECK(plumtree_take_action(r, &a));
+    CHECK(a.kind == PLUMTREE_ACTION_FORGOTTEN && a.id && memcmp(a.id, id, PLUMTREE_ID_BYTES) == 0);
+}
+
 static const uint8_t evict[] = {PLUMTREE_EVENT_TIMER, PLUMTREE_TIMER_EVICT_CACHE};
 
 /* Each setting is where the library reads it: the delays that it writes, the times at which it forgets, whom it takes for itself. */
@@ -191,9 +199,14 @@ static void settings_in_place(void)
     event[3] = 1;
     memcpy(event + 4, message + 1, PLUMTREE_ID_BYTES);
     event[36] = 0;
-    tell(&p, 1999, evict, sizeof evict);
+    r = tell(&p, 1999, evict, sizeof evict);
+    schedules(&r, PLUMTREE_TIMER_EVICT_CACHE, 104);
+    CHECK(r.left == 0);
     CHECK(tell(&p, 1999, event, 37).left > 0);
-    tell(&p, 2000, evict, sizeof evict);
+    r = tell(&p, 2000, evict, sizeof evict);
+    forgets(&r, message + 1);
+    schedules(&r, PLUMTREE_TIMER_EVICT_CACHE, 104);
+    CHECK(r.left == 0);
     CHECK(tell(&p, 2000, event, 37).left == 0);
 
     /* It is known until 3,000: from 2 it is answered by a Prune before, and is new then. */
@@ -511,6 +524,134 @@ static void rooms(void)
     CHECK(!r.bad);
     free(list);
     free_panel(p);
+}
+
+/* A broadcast at this time; its identifier, as the send to a neighbour has it. */
+static void broadcast_at(struct panel *p, uint64_t at, const void *content, size_t length, enum plumtree_delivery_kind scope, uint8_t *id)
+{
+    uint8_t event[64];
+    struct plumtree_reader r = tell(p, at, event, plumtree_put_broadcast(event, content, length, scope));
+    struct plumtree_action a;
+    bool sent = false;
+    while (plumtree_take_action(&r, &a))
+        if (a.kind == PLUMTREE_ACTION_SEND) {
+            memcpy(id, a.message.id, PLUMTREE_ID_BYTES);
+            sent = true;
+        }
+    CHECK(sent);
+}
+
+/* An EvictCache that tells these identifiers, in this order, before it schedules itself: refused where the output is a byte short, and accepted
+ * with just the bytes that it takes. */
+static void evicts(struct panel *p, uint64_t at, uint8_t (*ids)[PLUMTREE_ID_BYTES], size_t count, int line)
+{
+    size_t i, n = count * (1 + PLUMTREE_ID_BYTES) + 4;
+    uint8_t *exact = (uint8_t *)bytes(n, 0x5a);
+    struct plumtree_reader r;
+    struct plumtree_answer a;
+    refused(p, at, evict, sizeof evict, n - 1, PLUMTREE_OUTPUT_TOO_SHORT, line);
+    a = plumtree_event(p->block, p->block_length, p->counts, at, evict, sizeof evict, NULL, 0, exact, n);
+    if (a.number != PLUMTREE_ACCEPTED || a.length != n) {
+        printf("calls.c:%d: an eviction answers %d and %zu bytes\n", line, a.number, a.length);
+        failed = 1;
+    }
+    r = plumtree_actions_of(exact, a.length);
+    for (i = 0; i < count; i++)
+        forgets(&r, ids[i]);
+    schedules(&r, PLUMTREE_TIMER_EVICT_CACHE, 1000);
+    CHECK(r.left == 0);
+    free(exact);
+}
+
+#define EVICTS(p, at, ids, count) evicts(p, at, ids, count, __LINE__)
+
+/* What leaves the message cache is told, in the order of removal, each once; the received identifiers are not. */
+static void forgotten(void)
+{
+    struct plumtree_settings s = plumtree_default_settings(1);
+    struct plumtree_limits l = plumtree_small_limits();
+    uint8_t ids[3][PLUMTREE_ID_BYTES], event[16], *area;
+    size_t area_length;
+    struct panel p;
+
+    s.config.message_cache_retention = 5;
+    p = new_panel(s, l);
+    tell(&p, 0, event, plumtree_put_up(event, 2));
+    area_length = plumtree_area_size(p.block_length);
+    area = (uint8_t *)bytes(area_length, 0);
+
+    /* Not before its time; an output that is too short has forgotten nothing. */
+    broadcast_at(&p, 0, "a", 1, PLUMTREE_DELIVERY_SWARM, ids[0]);
+    CHECK(plumtree_save(p.block, p.block_length, *p.counts, area, area_length, 1).number == PLUMTREE_ACCEPTED);
+    EVICTS(&p, 4, ids, 0);
+    REFUSED(&p, 5, evict, sizeof evict, 4, PLUMTREE_OUTPUT_TOO_SHORT);
+    EVICTS(&p, 5, ids, 1);
+    EVICTS(&p, 5, ids, 0);
+
+    /* What a return brings back is forgotten again. */
+    CHECK(plumtree_return(p.block, p.block_length, p.counts, area, area_length, 1).number == PLUMTREE_ACCEPTED);
+    EVICTS(&p, 6, ids, 1);
+
+    /* Cached anew meanwhile: with its later time, once. */
+    broadcast_at(&p, 10, "a", 1, PLUMTREE_DELIVERY_SWARM, ids[0]);
+    broadcast_at(&p, 13, "a", 1, PLUMTREE_DELIVERY_SWARM, ids[0]);
+    EVICTS(&p, 15, ids, 0);
+    EVICTS(&p, 18, ids, 1);
+
+    /* By the time; of one time the oldest first, and one that was cached anew at this time stays where it was. */
+    broadcast_at(&p, 22, "c", 1, PLUMTREE_DELIVERY_SWARM, ids[2]);
+    broadcast_at(&p, 20, "a", 1, PLUMTREE_DELIVERY_SWARM, ids[0]);
+    broadcast_at(&p, 20, "b", 1, PLUMTREE_DELIVERY_SWARM, ids[1]);
+    broadcast_at(&p, 20, "a", 1, PLUMTREE_DELIVERY_SWARM, ids[0]);
+    EVICTS(&p, 30, ids, 3);
+
+    /* A Neighbors broadcast is not cached. */
+    broadcast_at(&p, 40, "d", 1, PLUMTREE_DELIVERY_NEIGHBORS, ids[0]);
+    EVICTS(&p, 50, ids, 0);
+    free(area);
+    free_panel(p);
+
+    /* An identifier that leaves the received ones while its message stays cached is not told. */
+    s.config.message_id_retention = 5;
+    s.config.message_cache_retention = 20;
+    p = new_panel(s, l);
+    tell(&p, 0, event, plumtree_put_up(event, 2));
+    broadcast_at(&p, 0, "a", 1, PLUMTREE_DELIVERY_SWARM, ids[0]);
+    EVICTS(&p, 5, ids, 0);
+    EVICTS(&p, 20, ids, 1);
+    free_panel(p);
+}
+
+/* One neighbour, and as many cached messages as there can be: all of them forgotten take more bytes than its sends and announcements. */
+static void all_forgotten(void)
+{
+    struct plumtree_settings s = plumtree_default_settings(1);
+    struct plumtree_limits l = {1, PLUMTREE_CEILING_CACHED, PLUMTREE_CEILING_CACHED, 2 * PLUMTREE_CEILING_CACHED, 1, 1, 1, 1, 1};
+    static uint8_t ids[PLUMTREE_CEILING_CACHED][PLUMTREE_ID_BYTES];
+    size_t sends = 2 * (PLUMTREE_LEAST_MESSAGE_SIZE + 13) + 64, most, i;
+    struct plumtree_answer a;
+    struct panel p, q;
+    uint8_t event[16], *out;
+    s.max_message_size = PLUMTREE_LEAST_MESSAGE_SIZE;
+    p = new_panel(s, l);
+    q = new_panel(s, l);
+    most = plumtree_output_size(l, PLUMTREE_LEAST_MESSAGE_SIZE);
+    CHECK(most == 16960);
+    tell(&p, 0, event, plumtree_put_up(event, 2));
+    for (i = 0; i < PLUMTREE_CEILING_CACHED; i++) {
+        uint8_t content[2] = {(uint8_t)(i >> 8), (uint8_t)i};
+        broadcast_at(&p, 0, content, sizeof content, PLUMTREE_DELIVERY_SWARM, ids[i]);
+    }
+    memcpy(q.block, p.block, p.block_length);
+    out = (uint8_t *)bytes(most, 0);
+    REFUSED(&p, 30000, evict, sizeof evict, sends, PLUMTREE_OUTPUT_TOO_SHORT);
+    a = plumtree_event(q.block, q.block_length, q.counts, 30000, evict, sizeof evict, NULL, 0, out, most);
+    CHECK(a.number == PLUMTREE_ACCEPTED);
+    EVICTS(&p, 30000, ids, PLUMTREE_CEILING_CACHED);
+    CHECK(memcmp(p.block, q.block, p.block_length) == 0);
+    free(out);
+    free_panel(p);
+    free_panel(q);
 }
 
 /* The limit that is told for an event at 0 with this link room, before the call and again after a refusal; the call is answered 13 exactly if one is. */
@@ -881,6 +1022,8 @@ int main(void)
     event_lengths();
     events();
     rooms();
+    forgotten();
+    all_forgotten();
     limits_met();
     rewriting();
     states();

@@ -25,7 +25,7 @@ SPECS = {
     "Rattle.storage.specs.Lists.": ["Base", "Map"],
     "Rattle.postcard.specs.": ["Number", "Message", "Decode"],
     "Rattle.time_cache.specs.": ["TimeCache"],
-    "Rattle.protocol.specs.": ["State", "Run", "Answer", "Whole", "Links", "Neighbours", "Push", "Gossips", "Ticks",
+    "Rattle.protocol.specs.": ["State", "Run", "Answer", "Whole", "Links", "Neighbours", "Push", "Gossips", "Ticks", "Screen",
                                      "Control", "Handle", "Calls", "Alike"],
 }
 CRATE = {"Rattle.storage.specs.Lists.": "storage/specs/Lists", "Rattle.postcard.specs.": "postcard/specs", "Rattle.time_cache.specs.": "time_cache/specs",
@@ -81,6 +81,10 @@ def actions_seen(bytes_):
     out, at = [], 0
     while at < len(bytes_):
         kind = bytes_[at]
+        if kind == 4:
+            at += 33
+            out.append(("forgotten",))
+            continue
         n, at = read_number(bytes_, at + 1)
         if kind == 1:
             back = bytes_[at]
@@ -91,6 +95,7 @@ def actions_seen(bytes_):
             at += 33 if timer == 0 else 1
             out.append(("schedule", timer))
         else:
+            assert kind == 3, kind
             n, at = read_number(bytes_, at)
             at += n
             if bytes_[at] == 0:
@@ -433,7 +438,7 @@ use Rattle.postcard.specs.Number.{big_endian}
 use Rattle.protocol.specs.Links.{eager, lazy}
 use Rattle.protocol.specs.State.{State, Settings, Limits, Counts, Hop, Note, fresh}
 use Rattle.protocol.specs.Run.{Room}
-use Rattle.protocol.specs.Answer.{Call, Answer, refuse, accept, output_of}
+use Rattle.protocol.specs.Answer.{Call, Answer, refuse, accept}
 use Rattle.protocol.specs.Calls.{Ran, run_calls}
 use Rattle.protocol.specs.Alike.{same_list, alike}
 
@@ -472,14 +477,14 @@ room p n = record { peer = p; room = n }
 abbrev call : ℕ → List ℕ → List Room → ℕ → Call
 call now event rooms output = record { now = now; event = event; rooms = rooms; output = output }
 
--- what a call answered: a number, or 0 and these bytes
+-- what a call answered: a number, or 0 and these bytes, without the actions 4, which the Rust has not
 data Said : Type 0 where
   no : ℕ → Said
   yes : List ℕ → Said
 
 abbrev said : Answer → Said
 said (refuse n) = no n
-said (accept e r) = yes (output_of r)
+said (accept e r) = yes (Base.concat_map Message.action_bytes (Screen.struck r.actions))
 
 abbrev same_said : Said → Said → Bool
 same_said (no m) (no n) = eqb m n

@@ -2,7 +2,7 @@
 """The stored input of crates/panelrun_long, and what the Rust writes for it.
 
     make.py          # makes crates/panelrun_long/stdin and stdout again, byte for byte
-    make.py check    # compares them, and those of crates/panelrun, with the Rust's answer
+    make.py check    # compares them, and the other stored runs, with the Rust's answer
 
 Both run the oracle (tests/rust/build.sh), whose command `panel` gives what `panelrun` writes: the
 Rust's state machine, with the specification's questions and panelrun's settings and limits around it.
@@ -136,14 +136,23 @@ def answers(out):
         at += n
 
 
+def stored():
+    """The stored inputs and outputs of `panelrun`."""
+    for crate in "panelrun", "panelrun_long":
+        yield CRATES / crate / "stdin", CRATES / crate / "stdout"
+    yield CRATES / "panelrun_show" / "data" / "input", CRATES / "panelrun_show" / "data" / "output"
+    for given in sorted((CRATES.parent / "bindings" / "rust" / "tests" / "runs").glob("*.input")):
+        yield given, given.with_suffix(".output")
+
+
 def main():
-    made, given = CRATES / "panelrun_long", CRATES / "panelrun"
+    made = CRATES / "panelrun_long"
     data = long_input()
     out = panel(data)
     if sys.argv[1:] == ["check"]:
         assert (made / "stdin").read_bytes() == data, "crates/panelrun_long/stdin is not what is made here"
-        for crate in made, given:
-            assert (crate / "stdout").read_bytes() == panel((crate / "stdin").read_bytes()), f"{crate}/stdout is not what the Rust writes"
+        for given, written in stored():
+            assert written.read_bytes() == panel(given.read_bytes()), f"{written} is not what the Rust writes"
         print("panelrun: the stored outputs are the Rust's")
         return
     (made / "stdin").write_bytes(data)

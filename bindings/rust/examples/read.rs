@@ -133,6 +133,15 @@ mod tests {
         assert_eq!(read(&input, &output), lines);
     }
 
+    /// A tick that tells a forgotten message before it schedules itself.
+    #[test]
+    fn forgotten() {
+        let input = [0xb0, 0xea, 0x01, 0x02, 0x02, 0x02];
+        let output = [&[0x00, 0x25, 0x04][..], &[0xe5; 32], &[0x02, 0xe8, 0x07, 0x02]].concat();
+        let lines = ["30000 EvictCache fires", "    forgotten e5e5e5e5..", "    schedule EvictCache in 1000"];
+        assert_eq!(read(&input, &output), lines);
+    }
+
     /// Padded numbers in a message that came: the kind, then the round.
     #[test]
     fn a_padded_message() {

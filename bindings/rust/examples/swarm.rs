@@ -56,6 +56,8 @@ impl Swarm {
                 Action::Send { taken: false, .. } => {}
                 Action::Schedule { delay, timer } => self.plan(at + delay, me, &Event::Timer(timer)),
                 Action::Emit { peer, .. } => self.shown.push(format!("{me} from {peer} at {at}")),
+                // A panel with a screen greys the curve of this identifier.
+                Action::Forgotten { .. } => {}
             }
         }
         Ok(())

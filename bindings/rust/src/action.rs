@@ -2,7 +2,7 @@ use std::fmt;
 
 use crate::text;
 use crate::wire::{Reader, Spelling};
-use crate::{Delivery, Error, Message, Timer};
+use crate::{Delivery, Error, Id, Message, Timer};
 
 /// What a call asks of the host.
 #[derive(Clone, Debug, PartialEq, Eq, Hash)]
@@ -37,6 +37,12 @@ pub enum Action<'a> {
         /// How far it goes; its round is that at which it came.
         delivery: Delivery,
     },
+    /// A message has left the message cache, an own broadcast too: grey its curve. An eviction tells it before it schedules itself, of each one in the
+    /// order of removal. One cached anew meanwhile is kept longer, and told once.
+    Forgotten {
+        /// The message's identifier: BLAKE3 of its content. An emit has none; it stands in the [`Message::Gossip`] that came.
+        id: Id,
+    },
 }
 
 impl<'a> Action<'a> {
@@ -66,6 +72,7 @@ impl<'a> Action<'a> {
                 content: r.content(Spelling::Shortest)?,
                 delivery: Delivery::take(&mut r, Spelling::Shortest)?,
             },
+            4 => Action::Forgotten { id: r.id()? },
             _ => return Err(Error::EventMalformed),
         };
         Ok((action, r.0))
@@ -110,6 +117,7 @@ impl fmt::Display for Action<'_> {
             Action::Send { peer, taken: false, message, .. } => write!(f, "handed back, for {peer}: {message}"),
             Action::Schedule { delay, timer } => write!(f, "schedule {timer} in {delay}"),
             Action::Emit { peer, content, delivery } => write!(f, "emit from {peer}: {}, {delivery}", text::content(content)),
+            Action::Forgotten { id } => write!(f, "forgotten {}", text::id(id)),
         }
     }
 }

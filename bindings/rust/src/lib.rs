@@ -30,6 +30,8 @@
 //!         Action::Schedule { delay, timer } => lines.push(format!("{timer} in {delay}")),
 //!         // A new message, for the panel's screen.
 //!         Action::Emit { content, .. } => lines.push(format!("show {content:?}")),
+//!         // The message has left the message cache: the screen greys its curve.
+//!         Action::Forgotten { id } => lines.push(format!("grey {id:?}")),
 //!     }
 //! }
 //! assert_eq!(lines, ["EvictCache in 1000", "DispatchLazyPush in 5", "57 bytes to 2"]);

@@ -144,19 +144,24 @@ impl Limits {
     }
 
     /// A panel that comes from a creation never refuses an output of this length as too short: a message to each neighbour and an emit, or 50
-    /// bytes for each queued announcement. Counted from the forms of actions and held against the calls of tests/beside, not proved.
+    /// bytes for each queued announcement, or 33 for each cached message, which an eviction tells. Counted from the forms of actions and held
+    /// against the calls of tests/beside, not proved.
     ///
     /// ```
     /// assert_eq!(plumtree::Limits::SMALL.output_size(4_094), 37_027);
     /// assert_eq!(plumtree::Limits::CEILINGS.output_size(4_094), 409_664);
+    /// let few_links = plumtree::Limits { neighbours: 1, queued: 1, cached: 512, ..plumtree::Limits::SMALL };
+    /// assert_eq!(few_links.output_size(510), 16_960);
     /// ```
     pub const fn output_size(&self, max_message_size: u64) -> usize {
         let sends = (self.neighbours + 1) * (max_message_size as usize + 13);
         let announcements = 50 * self.queued;
-        if sends < announcements {
-            announcements + 64
+        let forgotten = 33 * self.cached;
+        let most = if sends < announcements { announcements } else { sends };
+        if most < forgotten {
+            forgotten + 64
         } else {
-            sends + 64
+            most + 64
         }
     }
 }

@@ -1,7 +1,7 @@
 //! Each question answered no once, through the library, with what a refusal promises: block, counts, output and area untouched.
 use plumtree::{
-    alike, area_size, block_size, longest_content, raw, rewrite, Action, Announced, Area, Delivery, Error, Event, Limit, Limits, LinkRoom,
-    Message, Panel, Scope, Settings, Stats, Timer, GREATEST_MESSAGE_SIZE, LEAST_MESSAGE_SIZE,
+    alike, area_size, block_size, longest_content, raw, rewrite, Action, Announced, Area, Delivery, Error, Event, Id, Limit, Limits,
+    LinkRoom, Message, Panel, Scope, Settings, Stats, Timer, GREATEST_MESSAGE_SIZE, LEAST_MESSAGE_SIZE,
 };
 
 const LIMITS: [fn(&mut Limits) -> &mut usize; 9] = [
@@ -320,6 +320,84 @@ fn what_is_beyond_the_length_stays() {
     let n = p.event(0, &Event::Timer(Timer::EvictCache), &[], &mut output).unwrap().bytes().len();
     assert_eq!(n, 4);
     assert!(output[4..].iter().all(|b| *b == 0x5a));
+}
+
+/// What an EvictCache tells: the identifiers, then that it schedules itself. An output that is a byte short is refused, and nothing is forgotten.
+fn evicts(p: &mut Panel, at: u64) -> Vec<Id> {
+    let tick = Event::Timer(Timer::EvictCache);
+    let mut output = vec![0; Limits::CEILINGS.output_size(GREATEST_MESSAGE_SIZE)];
+    let length = p.clone().event(at, &tick, &[], &mut output).unwrap().bytes().len();
+    refused(p, at, &tick.to_bytes(), length - 1, Error::OutputTooShort);
+    let mut ids = Vec::new();
+    let mut actions = p.event(at, &tick, &[], &mut output[..length]).unwrap();
+    let schedule = actions.find(|a| match a {
+        Action::Forgotten { id } => {
+            ids.push(*id);
+            false
+        }
+        _ => true,
+    });
+    assert!(matches!(schedule, Some(Action::Schedule { timer: Timer::EvictCache, .. })));
+    assert!(actions.next().is_none());
+    assert_eq!(length, 33 * ids.len() + 4);
+    ids
+}
+
+/// A broadcast, and its identifier, as the send to a neighbour has it.
+fn broadcast(p: &mut Panel, at: u64, content: &[u8]) -> Id {
+    let mut output = [0; 4096];
+    let mut actions = p.event(at, &Event::Broadcast { content, scope: Scope::Swarm }, &[], &mut output).unwrap();
+    let id = actions.find_map(|a| match a {
+        Action::Send { message: Message::Gossip { id, .. }, .. } => Some(id),
+        _ => None,
+    });
+    id.expect("it is sent to 2")
+}
+
+/// What leaves the message cache is told in the order of removal, each once, and again where a return has brought it back.
+#[test]
+fn what_is_forgotten() {
+    let mut settings = Settings::of_panel(1);
+    settings.config.message_cache_retention = 5;
+    let mut p = Panel::new(settings, Limits::SMALL).unwrap();
+    p.event(0, &Event::Up(2), &[], &mut []).unwrap();
+    let a = broadcast(&mut p, 0, b"a");
+    let mut area = Area::for_panel(&p);
+    p.save(&mut area, *b"cached  ").unwrap();
+    assert!(evicts(&mut p, 4).is_empty());
+    assert_eq!(evicts(&mut p, 5), [a]);
+    assert!(evicts(&mut p, 5).is_empty());
+    p.go_back(&area, *b"cached  ").unwrap();
+    assert_eq!(evicts(&mut p, 6), [a]);
+    // Cached anew meanwhile: once, with its later time.
+    broadcast(&mut p, 10, b"a");
+    broadcast(&mut p, 13, b"a");
+    assert!(evicts(&mut p, 15).is_empty());
+    assert_eq!(evicts(&mut p, 18), [a]);
+    // By the time; of one time the oldest first, and one that was cached anew at this time stays where it was.
+    let c = broadcast(&mut p, 22, b"c");
+    broadcast(&mut p, 20, b"a");
+    let b = broadcast(&mut p, 20, b"b");
+    broadcast(&mut p, 20, b"a");
+    assert_eq!(evicts(&mut p, 30), [a, b, c]);
+}
+
+/// As many cached messages as there can be, and one neighbour: all of them forgotten fit into an output of `output_size`, and not into one that is as long as
+/// the sends need.
+#[test]
+fn all_forgotten() {
+    let limits = Limits { received: 512, cached: 512, content: 1024, ..Limits::SMALL };
+    let limits = Limits { neighbours: 1, grafted: 1, missing: 1, timers: 1, queued: 1, dropped: 1, ..limits };
+    assert_eq!(limits.output_size(LEAST_MESSAGE_SIZE), 16_960);
+    let settings = Settings { max_message_size: LEAST_MESSAGE_SIZE, ..Settings::of_panel(1) };
+    let mut p = Panel::new(settings, limits).unwrap();
+    p.event(0, &Event::Up(2), &[], &mut []).unwrap();
+    let ids: Vec<Id> = (0..512u16).map(|i| broadcast(&mut p, 0, &i.to_be_bytes())).collect();
+    let tick = Event::Timer(Timer::EvictCache);
+    refused(&mut p, 30_000, &tick.to_bytes(), 2 * (LEAST_MESSAGE_SIZE as usize + 13) + 64, Error::OutputTooShort);
+    let mut output = vec![0; limits.output_size(LEAST_MESSAGE_SIZE)];
+    assert_eq!(p.clone().event(30_000, &tick, &[], &mut output).unwrap().count(), 513);
+    assert_eq!(evicts(&mut p, 30_000), ids);
 }
 
 /// Each setting is where the library reads it: the delays that it writes, the times at which it forgets, whom it takes for itself.

@@ -247,6 +247,20 @@ fn sent_bytes() {
     assert_eq!(sends, [(2, true), (3, false), (300, true)]);
 }
 
+/// A forgotten message: 4 and the identifier, cut anywhere else; as text its first bytes.
+#[test]
+fn forgotten() {
+    let bytes = [&[4], &ID[..], &[2, 5, 1]].concat();
+    let (action, rest) = Action::read(&bytes).unwrap();
+    assert_eq!(action, Action::Forgotten { id: ID });
+    assert_eq!(rest, [2, 5, 1]);
+    assert_eq!(action.to_string(), format!("forgotten {:02x}{:02x}{:02x}{:02x}..", ID[0], ID[1], ID[2], ID[3]));
+    for length in 0..33 {
+        assert_eq!(Action::read(&bytes[..length]), Err(Error::EventCut), "{length}");
+    }
+    assert_eq!(Action::read(&[5]), Err(Error::EventMalformed));
+}
+
 /// A number in so many bytes.
 fn spelt(value: u64, length: usize) -> Vec<u8> {
     let group = |i: usize| if 7 * i < 64 { (value >> (7 * i)) as u8 & 127 } else { 0 };

@@ -41,7 +41,7 @@ by-more r false x y u v p q = q refl
 none_more : (r : Run) → r.actions ≡ r.actions ++ []
 none_more r = sym (append-nil r.actions)
 
-timer-actions : (hash : List ℕ → ℕ) (now : ℕ) (t : Timer) (r : Run) → Consistent r.state → (on_timer now t r).actions ≡ r.actions ++ timer_actions hash r.rooms t r.state
+pub timer-actions : (hash : List ℕ → ℕ) (now : ℕ) (t : Timer) (r : Run) → Consistent r.state → (on_timer now t r).actions ≡ r.actions ++ timer_actions hash r.rooms now t r.state
 unfolding on_timer timer_actions
 timer-actions hash now (SendGraft id) r x = send_graft-actions now id r
 timer-actions hash now DispatchLazyPush r x = dispatched-actions r x
@@ -58,7 +58,7 @@ module _ (hash : List ℕ → ℕ) where
       by-more r (not (eqb (hash content) id)) _ _ _ _ (λ t. none_more r)
       (λ t. by-more r (holds id r.state.received) _ _ _ _ (λ h. late-actions sender id _ r) (λ h. on_near-actions now sender id content r))
 
-  message-actions : (now sender : ℕ) (m : Message) (r : Run) → Consistent r.state → (on_message hash now sender m r).actions ≡ r.actions ++ message_actions hash r.rooms sender m r.state
+  pub message-actions : (now sender : ℕ) (m : Message) (r : Run) → Consistent r.state → (on_message hash now sender m r).actions ≡ r.actions ++ message_actions hash r.rooms sender m r.state
   unfolding on_message message_actions if_neighbour
   message-actions now sender (Gossip id content d) r x = gossip-actions now sender id content d r x
   message-actions now sender Prune r x =
@@ -68,7 +68,7 @@ module _ (hash : List ℕ → ℕ) where
   message-actions now sender (IHave hs) r x =
       by-more r (is_neighbour sender r.state.links) _ _ _ _ (λ n. ihave-actions sender hs r x.core.missing_up x.core.timers_up) (λ n. none_more r)
 
-  broadcasted-actions : (now : ℕ) (content : List ℕ) (scope : Scope) (r : Run) → Consistent r.state → (broadcast hash now content scope r).actions ≡
+  pub broadcasted-actions : (now : ℕ) (content : List ℕ) (scope : Scope) (r : Run) → Consistent r.state → (broadcast hash now content scope r).actions ≡
       r.actions ++ (if ltb r.state.settings.max_message_size (gossip_size (length content) scope) then [] else broadcast_actions r.rooms (hash content) content scope r.state)
   unfolding broadcast
   broadcasted-actions now content scope r x =
@@ -79,13 +79,13 @@ module _ (hash : List ℕ → ℕ) where
   unfolding handle handle_message actions_after
   handle-actions now (Received p m) r x =
       message-actions now p m (with_counts (count_message m (first_event now r).counts) (first_event now r)) ((kept-first_event now r).consistent x)
-      ∙ rw (first-actions now r, first-rooms now r, first-state now r x.core) (append_assoc r.actions (settled_actions r.state) (message_actions hash r.rooms p m (settled now r.state)))
+      ∙ rw (first-actions now r, first-rooms now r, first-state now r x.core) (append_assoc r.actions (settled_actions now r.state) (message_actions hash r.rooms p m (settled now r.state)))
   handle-actions now (Broadcast content scope) r x =
       broadcasted-actions now content scope (first_event now r) ((kept-first_event now r).consistent x)
-      ∙ rw (kept-first_event now r).settings (rw (first-actions now r, first-rooms now r, first-state now r x.core) (append_assoc r.actions (settled_actions r.state) _))
+      ∙ rw (kept-first_event now r).settings (rw (first-actions now r, first-rooms now r, first-state now r x.core) (append_assoc r.actions (settled_actions now r.state) _))
   handle-actions now (Fired t) r x =
       timer-actions hash now t (first_event now r) ((kept-first_event now r).consistent x)
-      ∙ rw (first-actions now r, first-rooms now r, first-state now r x.core) (append_assoc r.actions (settled_actions r.state) (timer_actions hash r.rooms t (settled now r.state)))
+      ∙ rw (first-actions now r, first-rooms now r, first-state now r x.core) (append_assoc r.actions (settled_actions now r.state) (timer_actions hash r.rooms now t (settled now r.state)))
   handle-actions now (Up p) r x = up-actions p r ∙ none_more r
   handle-actions now (Down p) r x = down-actions p r ∙ none_more r
 

@@ -7,7 +7,7 @@ use native.Mathlib.Omega.{arith}
 use lib.ListN.{length, length-append}
 use Rattle.storage.specs.Lists.Base.{sum, concat_map}
 use Rattle.postcard.specs.Number.{number_bytes, number_length, big_endian, id_bytes}
-use Rattle.postcard.specs.Message.{Delivery, Swarm, Neighbors, Ihave, Message, Gossip, Prune, Graft, IHave, Timer, SendGraft, DispatchLazyPush, EvictCache, AnnounceDropped, Action, Sent, Scheduled, Emitted, content_bytes, delivery_bytes, ihave_bytes, optional_id_bytes, message_bytes, timer_bytes, taken_byte, action_bytes}
+use Rattle.postcard.specs.Message.{Delivery, Swarm, Neighbors, Ihave, Message, Gossip, Prune, Graft, IHave, Timer, SendGraft, DispatchLazyPush, EvictCache, AnnounceDropped, Action, Sent, Scheduled, Emitted, Forgotten, content_bytes, delivery_bytes, ihave_bytes, optional_id_bytes, message_bytes, timer_bytes, taken_byte, action_bytes}
 use Rattle.protocol.specs.Run.{Run}
 use Rattle.protocol.specs.Answer.{output_of}
 use Rattle.decide.specs.Lengths.{delivery_length, wanted_length, message_length, timer_length, action_length}
@@ -62,6 +62,7 @@ length-action (Sent p taken m) = omega (arith, length-append (number_bytes p) (t
 length-action (Scheduled delay t) = omega (arith, length-append (number_bytes delay) (timer_bytes t), length-timer t)
 length-action (Emitted p content d) =
     unfold number_length in (omega (arith, length-append (number_bytes p ++ content_bytes content) (delivery_bytes d), length-append (number_bytes p) (content_bytes content), length-content content, length-delivery d))
+length-action (Forgotten id) = omega (arith, length-id id)
 
 pub length-actions : (xs : List Action) → length (concat_map action_bytes xs) ≡ sum action_length xs
 unfolding concat_map sum

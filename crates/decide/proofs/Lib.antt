@@ -19,3 +19,5 @@ pub mod Decide
 pub mod BackPart
 pub mod StateLaws
 pub mod StateAfterLaws
+pub mod Counted
+pub mod ScreenRight

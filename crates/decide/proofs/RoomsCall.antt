@@ -9,9 +9,9 @@ use borrow.Author.Tests.{eqb-true, eq-eqb}
 use Rattle.std.specs.Prelude.{if◌then◌else◌, Option, Some, None, is_some}
 use Rattle.storage.specs.Lists.Base.{is_empty, all, any}
 use Rattle.storage.specs.Lists.Map.{keys, lookup, has}
-use Rattle.time_cache.specs.TimeCache.{get, holds}
+use Rattle.time_cache.specs.TimeCache.{get, holds, expired_keys}
 use Rattle.protocol.specs.Links.{Mark, Links, is_neighbour, is_eager, marked, eager_in}
-use Rattle.postcard.specs.Message.{Delivery, Swarm, Neighbors, Scope, to_swarm, to_neighbors, Message, Gossip, Prune, Graft, IHave, Timer, SendGraft, DispatchLazyPush, EvictCache, AnnounceDropped, Event, Received, Broadcast, Fired, Up, Down, Action, Sent, Scheduled, Emitted}
+use Rattle.postcard.specs.Message.{Delivery, Swarm, Neighbors, Scope, to_swarm, to_neighbors, Message, Gossip, Prune, Graft, IHave, Timer, SendGraft, DispatchLazyPush, EvictCache, AnnounceDropped, Event, Received, Broadcast, Fired, Up, Down, Action, Sent, Scheduled, Emitted, Forgotten}
 use Rattle.protocol.specs.State.{State, Counts, Hop, Grafts, Cached}
 use Rattle.protocol.specs.Run.{Room, begin}
 use Rattle.protocol.specs.Push.{eager_targets}
@@ -21,7 +21,7 @@ use Rattle.protocol.specs.Handle.{handle}
 use Rattle.protocol.specs.Whole.{whole}
 use Rattle.protocol.specs.Consistent.{Consistent}
 use Rattle.decide.specs.Rooms.{first_send, back_peers}
-use Rattle.decide.specs.Settled.{settled, settled_actions}
+use Rattle.decide.specs.Settled.{settled, forgotten_actions, settled_actions}
 use Rattle.decide.specs.RecordGrowth.{cached_in, announce_action, push_actions}
 use Rattle.decide.specs.Pieces.{Piece, piece_taken, piece_actions}
 use Rattle.decide.specs.NewIds.{new_ids, known_timer}
@@ -39,64 +39,70 @@ use Rattle.decide.proofs.Dispatch.{near-pieces}
 use Rattle.decide.proofs.EachEvent.{decide-actions}
 use Rattle.decide.proofs.RoomsSteps.{with_rooms, to_peer, sent_to, AgreeOn, fair-handle}
 
--- a send goes to a peer that passes the test
-abbrev send_in : (ℕ → Bool) → Action → Bool
-send_in P (Sent p taken m) = P p
-send_in P (Scheduled delay t) = true
-send_in P (Emitted p content d) = true
+-- a send goes to a peer that passes the test; an action 4 is there only if some may be
+abbrev pub send_in : Bool → (ℕ → Bool) → Action → Bool
+send_in b P (Sent p taken m) = P p
+send_in b P (Scheduled delay t) = true
+send_in b P (Emitted p content d) = true
+send_in b P (Forgotten id) = b
 
-Within : (ℕ → Bool) → List Action → Type 0
-Within P xs = all (send_in P) xs ≡ true
+unfoldable pub Within : Bool → (ℕ → Bool) → List Action → Type 0
+Within b P xs = all (send_in b P) xs ≡ true
 
-one_in : (P : ℕ → Bool) (p : ℕ) (a : Action) → send_in P a ≡ true → to_peer p a ≡ true → P p ≡ true
-one_in P p (Sent q taken m) h t = rw (sym (eqb-true q p t)) h
-one_in P p (Scheduled delay t) h s = true≢ s
-one_in P p (Emitted q content d) h s = true≢ s
+one_in : (b : Bool) (P : ℕ → Bool) (p : ℕ) (a : Action) → send_in b P a ≡ true → to_peer p a ≡ true → P p ≡ true
+one_in b P p (Sent q taken m) h t = rw (sym (eqb-true q p t)) h
+one_in b P p (Scheduled delay t) h s = true≢ s
+one_in b P p (Emitted q content d) h s = true≢ s
+one_in b P p (Forgotten id) h s = true≢ s
 
-sent-in : (P : ℕ → Bool) (p : ℕ) (xs : List Action) → Within P xs → sent_to p xs ≡ true → P p ≡ true
+sent-in : (b : Bool) (P : ℕ → Bool) (p : ℕ) (xs : List Action) → Within b P xs → sent_to p xs ≡ true → P p ≡ true
 unfolding Within any
-sent-in P p [] h s = true≢ s
-sent-in P p (a ∷ xs) h s =
-    cases (to_peer p a) (λ t. one_in P p a (all_head (send_in P) a xs h) t) (λ t. sent-in P p xs (all_tail (send_in P) a xs h) (rw t at s))
+sent-in b P p [] h s = true≢ s
+sent-in b P p (a ∷ xs) h s =
+    cases (to_peer p a) (λ t. one_in b P p a (all_head (send_in b P) a xs h) t) (λ t. sent-in b P p xs (all_tail (send_in b P) a xs h) (rw t at s))
 
-module _ (P : ℕ → Bool) where
-  nil : Within P []
+module _ (b : Bool) (P : ℕ → Bool) where
+  pub nil : Within b P []
   unfolding Within all
   nil = refl
 
-  append : (xs ys : List Action) → Within P xs → Within P ys → Within P (xs ++ ys)
+  append : (xs ys : List Action) → Within b P xs → Within b P ys → Within b P (xs ++ ys)
   unfolding Within
-  append xs ys h k = all_append (send_in P) xs ys h k
+  append xs ys h k = all_append (send_in b P) xs ys h k
 
-  cons : (a : Action) (xs : List Action) → send_in P a ≡ true → Within P xs → Within P (a ∷ xs)
+  cons : (a : Action) (xs : List Action) → send_in b P a ≡ true → Within b P xs → Within b P (a ∷ xs)
   unfolding Within
-  cons a xs h k = all_cons (send_in P) a xs h k
+  cons a xs h k = all_cons (send_in b P) a xs h k
 
-  branch : (b : Bool) (xs ys : List Action) → Within P xs → Within P ys → Within P (if b then xs else ys)
+  pub branch : (t : Bool) (xs ys : List Action) → Within b P xs → Within b P ys → Within b P (if t then xs else ys)
   branch true xs ys h k = h
   branch false xs ys h k = k
 
-  firsts : (rooms : List Room) (m : Message) (ps : List ℕ) → all P ps ≡ true → Within P (map (first_send rooms m) ps)
+  firsts : (rooms : List Room) (m : Message) (ps : List ℕ) → all P ps ≡ true → Within b P (map (first_send rooms m) ps)
   unfolding Within first_send
-  firsts rooms m ps h = all_map (send_in P) (first_send rooms m) ps ∙ unfold first_send in h
+  firsts rooms m ps h = all_map (send_in b P) (first_send rooms m) ps ∙ unfold first_send in h
 
-  noting : (stands flag : Bool) → Within P (announce_action stands flag)
+  noting : (stands flag : Bool) → Within b P (announce_action stands flag)
   unfolding announce_action
   noting stands flag = branch (stands && not flag) _ [] (cons (Scheduled 1000 AnnounceDropped) [] refl nil) nil
 
-  pushed : (rooms : List Room) (m : Message) (ps : List ℕ) (flag : Bool) → all P ps ≡ true → Within P (push_actions rooms m ps flag)
+  pushed : (rooms : List Room) (m : Message) (ps : List ℕ) (flag : Bool) → all P ps ≡ true → Within b P (push_actions rooms m ps flag)
   unfolding push_actions
   pushed rooms m ps flag h = append _ _ (firsts rooms m ps h) (noting (not (is_empty (back_peers rooms ps))) flag)
 
-  settling : (s : State) → Within P (settled_actions s)
-  unfolding settled_actions
-  settling s = branch s.init [] _ nil (cons _ [] refl nil)
+  telling : (now : ℕ) (s : State) → b ≡ true → Within b P (forgotten_actions now s)
+  unfolding Within forgotten_actions
+  telling now s h = all_map (send_in b P) (λ id. Forgotten id) (expired_keys now s.cache) ∙ all-each (λ id. b) (λ id. h) (expired_keys now s.cache)
 
-  dispatching : (s : State) → Within P (dispatch_action s)
+  settling : (now : ℕ) (s : State) → b ≡ true → Within b P (settled_actions now s)
+  unfolding settled_actions evict_actions
+  settling now s h = branch s.init [] _ nil (append _ _ (telling now s h) (cons _ [] refl nil))
+
+  dispatching : (s : State) → Within b P (dispatch_action s)
   unfolding dispatch_action
   dispatching s = branch s.timers.dispatch [] _ nil (cons _ [] refl nil)
 
-  announcing : (s : State) → Within P (announce_actions s)
+  announcing : (s : State) → Within b P (announce_actions s)
   unfolding announce_actions
   announcing s = append _ _ (branch (is_empty (s.queue ++ oldest [] (still_cached s))) [] _ nil (dispatching s)) (noting (not (is_empty (younger [] (still_cached s)))) false)
 
@@ -108,7 +114,7 @@ module _ (P : ℕ → Bool) where
       cases (ltb x.round best.round) (λ t. rw t (least-in x hs (all_head (λ h. P h.peer) x hs h) (all_tail (λ h. P h.peer) x hs h)))
       (λ t. rw t (least-in best hs b (all_tail (λ h. P h.peer) x hs h)))
 
-  optimising : (rooms : List Room) (sender round : ℕ) (hs : List Hop) (s : State) → P sender ≡ true → all (λ h. P h.peer) hs ≡ true → Within P (optimise_actions rooms sender round hs s)
+  optimising : (rooms : List Room) (sender round : ℕ) (hs : List Hop) (s : State) → P sender ≡ true → all (λ h. P h.peer) hs ≡ true → Within b P (optimise_actions rooms sender round hs s)
   unfolding optimise_actions first_send
   optimising rooms sender round [] s p h = nil
   optimising rooms sender round (x ∷ hs) s p h =
@@ -116,16 +122,16 @@ module _ (P : ℕ → Bool) where
       (branch (eager_in (least_from x hs).peer s.links) _ _ (cons _ [] p nil)
       (cons _ _ (least-in x hs (all_head (λ h. P h.peer) x hs h) (all_tail (λ h. P h.peer) x hs h)) (cons _ [] p nil))) nil
 
-  asking : (rooms : List Room) (id : ℕ) (hs : List Hop) (s : State) → all (λ h. P h.peer) hs ≡ true → Within P (ask_actions rooms id hs s)
+  asking : (rooms : List Room) (id : ℕ) (hs : List Hop) (s : State) → all (λ h. P h.peer) hs ≡ true → Within b P (ask_actions rooms id hs s)
   unfolding ask_actions first_send
   asking rooms id [] s h = nil
   asking rooms id (x ∷ hs) s h = cons _ _ (all_head (λ h. P h.peer) x hs h) (cons _ [] refl nil)
 
-  scheduling : (delay : ℕ) (is : List ℕ) → Within P (map (λ i. Scheduled delay (SendGraft i)) is)
+  scheduling : (delay : ℕ) (is : List ℕ) → Within b P (map (λ i. Scheduled delay (SendGraft i)) is)
   unfolding Within
-  scheduling delay is = all_map (send_in P) (λ i. Scheduled delay (SendGraft i)) is ∙ all-each (λ i. true) (λ i. refl) is
+  scheduling delay is = all_map (send_in b P) (λ i. Scheduled delay (SendGraft i)) is ∙ all-each (λ i. true) (λ i. refl) is
 
-  dispatched : (c : ℕ → Bool) (rooms : List Room) (flag : Bool) (xs : List Piece) → all (λ x. P x.peer) xs ≡ true → Within P (piece_actions c rooms flag xs)
+  dispatched : (c : ℕ → Bool) (rooms : List Room) (flag : Bool) (xs : List Piece) → all (λ x. P x.peer) xs ≡ true → Within b P (piece_actions c rooms flag xs)
   unfolding piece_actions
   dispatched c rooms flag [] h = nil
   dispatched c rooms flag (x ∷ xs) h =
@@ -175,17 +181,17 @@ event_peer (Down p) q = false
 abbrev pub reached : State → Event → ℕ → Bool
 reached s e q = is_neighbour q s.links || event_peer e q
 
-abbrev near : State → ℕ → ℕ → Bool
+abbrev pub near : State → ℕ → ℕ → Bool
 near s p q = is_neighbour q s.links || eqb q p
 
 or-all : (f g : ℕ → Bool) (ps : List ℕ) → all f ps ≡ true → all (λ p. f p || g p) ps ≡ true
 or-all f g ps h = all-imp f (λ p. f p || g p) (λ p k. or_left (f p) (g p) k) ps h
 
-lated : (P : ℕ → Bool) (rooms : List Room) (sender : ℕ) (l : Late) → P sender ≡ true → late_in P l ≡ true → Within P (late_actions rooms sender l)
+lated : (b : Bool) (P : ℕ → Bool) (rooms : List Room) (sender : ℕ) (l : Late) → P sender ≡ true → late_in P l ≡ true → Within b P (late_actions rooms sender l)
 unfolding late_actions first_send
-lated P rooms sender duplicate p h = cons P _ [] p (nil P)
-lated P rooms sender repeated p h = nil P
-lated P rooms sender (faster first) p h = cons P _ [] h (nil P)
+lated b P rooms sender duplicate p h = cons b P _ [] p (nil b P)
+lated b P rooms sender repeated p h = nil b P
+lated b P rooms sender (faster first) p h = cons b P _ [] h (nil b P)
 
 late-wider : (f g : ℕ → Bool) (l : Late) → late_in f l ≡ true → late_in (λ q. f q || g q) l ≡ true
 late-wider f g duplicate h = refl
@@ -201,38 +207,38 @@ or-none true = refl
 or-none false = refl
 
 -- a neighbour alone
-abbrev alone : State → ℕ → Bool
+abbrev pub alone : State → ℕ → Bool
 alone s q = is_neighbour q s.links || false
 
 alone-all : (s : State) (ps : List ℕ) → all (λ q. is_neighbour q s.links) ps ≡ true → all (alone s) ps ≡ true
 alone-all s ps h = all-imp (λ q. is_neighbour q s.links) (alone s) (λ q k. or-none (is_neighbour q s.links) ∙ k) ps h
 
-module _ (hash : List ℕ → ℕ) (rooms : List Room) (s : State) (x : Consistent s) where
+module _ (b : Bool) (hash : List ℕ → ℕ) (rooms : List Room) (s : State) (x : Consistent s) where
   known_in : (g : ℕ → Bool) (id : ℕ) → all (λ h. is_neighbour h.peer s.links || g h.peer) (announcers id s) ≡ true
   known_in g id = all-imp (λ h. is_neighbour h.peer s.links) (λ h. is_neighbour h.peer s.links || g h.peer) (λ h k. or_left (is_neighbour h.peer s.links) (g h.peer) k) (announcers id s) (known-announcers id s x).near
 
   self-near : (sender : ℕ) → (is_neighbour sender s.links || eqb sender sender) ≡ true
   self-near sender = or_right (is_neighbour sender s.links) (eqb sender sender) (eq-eqb sender sender refl)
 
-  reply-in : (sender id : ℕ) (o : Option Cached) → Within (near s sender) (reply_actions rooms sender id o s)
+  reply-in : (sender id : ℕ) (o : Option Cached) → Within b (near s sender) (reply_actions rooms sender id o s)
   unfolding reply_actions
-  reply-in sender id None = nil (near s sender)
-  reply-in sender id (Some c) = pushed (near s sender) rooms _ (sender ∷ []) s.timers.announce (all_one (near s sender) sender (self-near sender))
+  reply-in sender id None = nil b (near s sender)
+  reply-in sender id (Some c) = pushed b (near s sender) rooms _ (sender ∷ []) s.timers.announce (all_one (near s sender) sender (self-near sender))
 
-  graft-in : (sender : ℕ) (wanted : Option ℕ) → Within (near s sender) (graft_actions rooms sender wanted s)
+  graft-in : (sender : ℕ) (wanted : Option ℕ) → Within b (near s sender) (graft_actions rooms sender wanted s)
   unfolding graft_actions
-  graft-in sender None = nil (near s sender)
+  graft-in sender None = nil b (near s sender)
   graft-in sender (Some id) = reply-in sender id (get id s.cache)
 
   -- a message, of the settled state
-  message-in : (sender : ℕ) (m : Message) → Within (near s sender) (message_actions hash rooms sender m s)
+  pub message-in : (sender : ℕ) (m : Message) → Within b (near s sender) (message_actions hash rooms sender m s)
   unfolding message_actions gossip_actions new_actions
   message-in sender (Gossip id content (Swarm round)) =
-      branch P (not (eqb (hash content) id)) [] _ (nil P)
-      (branch P (holds id s.received) _ _ (lated P rooms sender (late_kind sender (Swarm round) s.links (get id s.grafted)) self (late-wider (λ q. is_neighbour q s.links) (λ q. eqb q sender) (late_kind sender (Swarm round) s.links (get id s.grafted)) (late-kind sender (Swarm round) s.links (get id s.grafted))))
-      (append P _ _ (append P _ _ (append P _ _ (pushed P rooms _ _ _ (or-all (λ q. is_neighbour q s.links) (λ q. eqb q sender) (eager_targets sender (keys (grafted_for id s)) s) (targets-near sender (keys (grafted_for id s)) s))) (dispatching P s))
-      (branch P (is_neighbour sender s.links && not (graft_out sender round (grafted_for id s))) _ [] (optimising P rooms sender (suc round) (announcers id s) s self (known_in (λ q. eqb q sender) id)) (nil P)))
-      (cons P _ [] refl (nil P))))
+      branch b P (not (eqb (hash content) id)) [] _ (nil b P)
+      (branch b P (holds id s.received) _ _ (lated b P rooms sender (late_kind sender (Swarm round) s.links (get id s.grafted)) self (late-wider (λ q. is_neighbour q s.links) (λ q. eqb q sender) (late_kind sender (Swarm round) s.links (get id s.grafted)) (late-kind sender (Swarm round) s.links (get id s.grafted))))
+      (append b P _ _ (append b P _ _ (append b P _ _ (pushed b P rooms _ _ _ (or-all (λ q. is_neighbour q s.links) (λ q. eqb q sender) (eager_targets sender (keys (grafted_for id s)) s) (targets-near sender (keys (grafted_for id s)) s))) (dispatching b P s))
+      (branch b P (is_neighbour sender s.links && not (graft_out sender round (grafted_for id s))) _ [] (optimising b P rooms sender (suc round) (announcers id s) s self (known_in (λ q. eqb q sender) id)) (nil b P)))
+      (cons b P _ [] refl (nil b P))))
     where
       P : ℕ → Bool
       P q = is_neighbour q s.links || eqb q sender
@@ -240,56 +246,68 @@ module _ (hash : List ℕ → ℕ) (rooms : List Room) (s : State) (x : Consiste
       self : (is_neighbour sender s.links || eqb sender sender) ≡ true
       self = or_right (is_neighbour sender s.links) (eqb sender sender) (eq-eqb sender sender refl)
   message-in sender (Gossip id content Neighbors) =
-      branch (near s sender) (not (eqb (hash content) id)) [] _ (nil (near s sender))
-      (branch (near s sender) (holds id s.received) _ _ (lated (near s sender) rooms sender (late_kind sender Neighbors s.links (get id s.grafted)) (self-near sender) (late-wider (λ q. is_neighbour q s.links) (λ q. eqb q sender) (late_kind sender Neighbors s.links (get id s.grafted)) (late-kind sender Neighbors s.links (get id s.grafted))))
-      (cons (near s sender) _ [] refl (nil (near s sender))))
-  message-in sender Prune = nil (near s sender)
-  message-in sender (Graft wanted round) = branch (near s sender) (is_neighbour sender s.links) _ [] (graft-in sender wanted) (nil (near s sender))
-  message-in sender (IHave hs) = unfold ihave_actions in (branch (near s sender) (is_neighbour sender s.links) _ [] (scheduling (near s sender) s.settings.graft_timeout_1 (new_ids (known_timer s) [] hs)) (nil (near s sender)))
+      branch b (near s sender) (not (eqb (hash content) id)) [] _ (nil b (near s sender))
+      (branch b (near s sender) (holds id s.received) _ _ (lated b (near s sender) rooms sender (late_kind sender Neighbors s.links (get id s.grafted)) (self-near sender) (late-wider (λ q. is_neighbour q s.links) (λ q. eqb q sender) (late_kind sender Neighbors s.links (get id s.grafted)) (late-kind sender Neighbors s.links (get id s.grafted))))
+      (cons b (near s sender) _ [] refl (nil b (near s sender))))
+  message-in sender Prune = nil b (near s sender)
+  message-in sender (Graft wanted round) = branch b (near s sender) (is_neighbour sender s.links) _ [] (graft-in sender wanted) (nil b (near s sender))
+  message-in sender (IHave hs) = unfold ihave_actions in (branch b (near s sender) (is_neighbour sender s.links) _ [] (scheduling b (near s sender) s.settings.graft_timeout_1 (new_ids (known_timer s) [] hs)) (nil b (near s sender)))
 
-  timer-in : (t : Timer) → Within (alone s) (timer_actions hash rooms t s)
-  unfolding timer_actions send_graft_actions dispatch_actions evict_actions
-  timer-in (SendGraft id) = branch (alone s) (holds id s.received) [] _ (nil (alone s)) (asking (alone s) rooms id (announcers id s) s (known_in (λ q. false) id))
-  timer-in DispatchLazyPush =
-      dispatched (alone s) (cached_in s.cache) rooms s.timers.announce _ (all-imp (λ y. is_neighbour y.peer s.links) (λ y. alone s y.peer) (λ y k. or-none (is_neighbour y.peer s.links) ∙ k) _
+  pub send_graft-in : (now id : ℕ) → Within b (alone s) (timer_actions hash rooms now (SendGraft id) s)
+  unfolding timer_actions send_graft_actions
+  send_graft-in now id = branch b (alone s) (holds id s.received) [] _ (nil b (alone s)) (asking b (alone s) rooms id (announcers id s) s (known_in (λ q. false) id))
+
+  pub dispatch-in : (now : ℕ) → Within b (alone s) (timer_actions hash rooms now DispatchLazyPush s)
+  unfolding timer_actions dispatch_actions
+  dispatch-in now =
+      dispatched b (alone s) (cached_in s.cache) rooms s.timers.announce _ (all-imp (λ y. is_neighbour y.peer s.links) (λ y. alone s y.peer) (λ y k. or-none (is_neighbour y.peer s.links) ∙ k) _
       (near-pieces s.links (queued_peers s.queue) (per_message s.settings.max_message_size) s.queue (queued-near s.links s.queue x.core.queued)))
-  timer-in EvictCache = cons (alone s) _ [] refl (nil (alone s))
-  timer-in AnnounceDropped = announcing (alone s) s
 
-  broadcast-in : (id : ℕ) (content : List ℕ) (scope : Scope) → Within (alone s) (broadcast_actions rooms id content scope s)
+  pub announce-in : (now : ℕ) → Within b (alone s) (timer_actions hash rooms now AnnounceDropped s)
+  unfolding timer_actions
+  announce-in now = announcing b (alone s) s
+
+  timer-in : b ≡ true → (now : ℕ) (t : Timer) → Within b (alone s) (timer_actions hash rooms now t s)
+  unfolding timer_actions evict_actions
+  timer-in h now (SendGraft id) = send_graft-in now id
+  timer-in h now DispatchLazyPush = dispatch-in now
+  timer-in h now EvictCache = append b (alone s) _ _ (telling b (alone s) now s h) (cons b (alone s) _ [] refl (nil b (alone s)))
+  timer-in h now AnnounceDropped = announce-in now
+
+  pub broadcast-in : (id : ℕ) (content : List ℕ) (scope : Scope) → Within b (alone s) (broadcast_actions rooms id content scope s)
   unfolding broadcast_actions
   broadcast-in id content to_swarm =
-      append (alone s) _ _ (dispatching (alone s) s) (pushed (alone s) rooms _ _ _ (alone-all s (eager_targets s.settings.me [] s) (targets-near s.settings.me [] s)))
-  broadcast-in id content to_neighbors = firsts (alone s) rooms _ _ (alone-all s (eager_targets s.settings.me [] s) (targets-near s.settings.me [] s))
+      append b (alone s) _ _ (dispatching b (alone s) s) (pushed b (alone s) rooms _ _ _ (alone-all s (eager_targets s.settings.me [] s) (targets-near s.settings.me [] s)))
+  broadcast-in id content to_neighbors = firsts b (alone s) rooms _ _ (alone-all s (eager_targets s.settings.me [] s) (targets-near s.settings.me [] s))
 
 -- the settled state has the same links, and is consistent
 settled-links : (now : ℕ) (s : State) → (settled now s).links ≡ s.links
 unfolding settled
 settled-links now s = if-on (λ (t : State). t.links) s.init _ _ ∙ if-same s.init refl refl
 
-on-links : (g : ℕ → Bool) (xs : List Action) (l l' : Links) → l ≡ l' → Within (λ q. is_neighbour q l || g q) xs → Within (λ q. is_neighbour q l' || g q) xs
-on-links g xs l l' e h = subst (λ (m : Links). Within (λ q. is_neighbour q m || g q) xs) e h
+on-links : (b : Bool) (g : ℕ → Bool) (xs : List Action) (l l' : Links) → l ≡ l' → Within b (λ q. is_neighbour q l || g q) xs → Within b (λ q. is_neighbour q l' || g q) xs
+on-links b g xs l l' e h = subst (λ (m : Links). Within b (λ q. is_neighbour q m || g q) xs) e h
 
-settled-consistent : (now : ℕ) (s : State) (c : Counts) → Consistent s → Consistent (settled now s)
+pub settled-consistent : (now : ℕ) (s : State) (c : Counts) → Consistent s → Consistent (settled now s)
 settled-consistent now s c x = rw (first-state now (begin s c []) x.core) at ((kept-first_event now (begin s c [])).consistent x)
 
 module _ (hash : List ℕ → ℕ) where
-  calls-in : (rooms : List Room) (now : ℕ) (e : Event) (s : State) (c : Counts) → Consistent s → Within (reached s e) (actions_after hash rooms now e s)
+  calls-in : (rooms : List Room) (now : ℕ) (e : Event) (s : State) (c : Counts) → Consistent s → Within true (reached s e) (actions_after hash rooms now e s)
   unfolding actions_after
   calls-in rooms now (Received p m) s c x =
-      append (near s p) _ _ (settling (near s p) s) (on-links (λ q. eqb q p) (message_actions hash rooms p m (settled now s)) (settled now s).links s.links (settled-links now s) (message-in hash rooms (settled now s) (settled-consistent now s c x) p m))
+      append true (near s p) _ _ (settling true (near s p) now s refl) (on-links true (λ q. eqb q p) (message_actions hash rooms p m (settled now s)) (settled now s).links s.links (settled-links now s) (message-in true hash rooms (settled now s) (settled-consistent now s c x) p m))
   calls-in rooms now (Broadcast content scope) s c x =
-      append (alone s) _ _ (settling (alone s) s)
-      (branch (alone s) (ltb s.settings.max_message_size (gossip_size (length content) scope)) [] _ (nil (alone s)) (on-links (λ q. false) (broadcast_actions rooms (hash content) content scope (settled now s)) (settled now s).links s.links (settled-links now s) (broadcast-in hash rooms (settled now s) (settled-consistent now s c x) (hash content) content scope)))
+      append true (alone s) _ _ (settling true (alone s) now s refl)
+      (branch true (alone s) (ltb s.settings.max_message_size (gossip_size (length content) scope)) [] _ (nil true (alone s)) (on-links true (λ q. false) (broadcast_actions rooms (hash content) content scope (settled now s)) (settled now s).links s.links (settled-links now s) (broadcast-in true hash rooms (settled now s) (settled-consistent now s c x) (hash content) content scope)))
   calls-in rooms now (Fired t) s c x =
-      append (alone s) _ _ (settling (alone s) s) (on-links (λ q. false) (timer_actions hash rooms t (settled now s)) (settled now s).links s.links (settled-links now s) (timer-in hash rooms (settled now s) (settled-consistent now s c x) t))
-  calls-in rooms now (Up p) s c x = nil (reached s (Up p))
-  calls-in rooms now (Down p) s c x = nil (reached s (Down p))
+      append true (alone s) _ _ (settling true (alone s) now s refl) (on-links true (λ q. false) (timer_actions hash rooms now t (settled now s)) (settled now s).links s.links (settled-links now s) (timer-in true hash rooms (settled now s) (settled-consistent now s c x) refl now t))
+  calls-in rooms now (Up p) s c x = nil true (reached s (Up p))
+  calls-in rooms now (Down p) s c x = nil true (reached s (Down p))
 
   -- a call sends only to neighbours and to the event's peer
   pub sends-near : (rooms : List Room) (now : ℕ) (e : Event) (s : State) (c : Counts) → whole s ≡ true → (p : ℕ) → sent_to p (handle hash now e (begin s c rooms)).actions ≡ true → reached s e p ≡ true
   sends-near rooms now e s c w p h =
-      sent-in (reached s e) p (actions_after hash rooms now e s) (calls-in rooms now e s c (whole-consistent s w)) (rw (decide-actions hash now e s c rooms w) at h)
+      sent-in true (reached s e) p (actions_after hash rooms now e s) (calls-in rooms now e s c (whole-consistent s w)) (rw (decide-actions hash now e s c rooms w) at h)
 
   -- two room lists that agree at the neighbours and at the event's peer give the same run, but for the rooms left
   pub same-run : (now : ℕ) (e : Event) (s : State) (c : Counts) (rooms rooms' : List Room) → whole s ≡ true → AgreeOn (reached s e) rooms' rooms →

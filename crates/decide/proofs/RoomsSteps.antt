@@ -2,22 +2,22 @@
 use Prim.Native.Nat.{ℕ, suc}
 use mathlib.Core.Path.{◌≡◌, refl, sym, ap, subst, ◌∙◌}
 use mathlib.Core.Bool.{Bool, true, false, not, ◌&&◌, ◌||◌}
-use mathlib.Core.List.{List, [], ◌∷◌, ◌++◌}
+use mathlib.Core.List.{List, [], ◌∷◌, ◌++◌, map}
 use lib.Dec.{ltb, eqb}
 use lib.ListN.{length}
 use borrow.Author.Tests.{eq-eqb, eqb-true}
 use Rattle.std.specs.Prelude.{if◌then◌else◌, Option, Some, None}
 use Rattle.storage.specs.Lists.Base.{is_empty, any, member}
 use Rattle.storage.specs.Lists.Map.{keys}
-use Rattle.time_cache.specs.TimeCache.{get, holds}
+use Rattle.time_cache.specs.TimeCache.{get, holds, expired_keys}
 use Rattle.protocol.specs.Links.{Links, is_neighbour, eager_in, add_eager, add_lazy, link_up}
-use Rattle.postcard.specs.Message.{Delivery, Swarm, Neighbors, Scope, to_swarm, to_neighbors, Ihave, Message, Gossip, Prune, Graft, IHave, Timer, SendGraft, DispatchLazyPush, EvictCache, AnnounceDropped, Event, Received, Broadcast, Fired, Up, Down, Action, Sent, Scheduled, Emitted}
+use Rattle.postcard.specs.Message.{Delivery, Swarm, Neighbors, Scope, to_swarm, to_neighbors, Ihave, Message, Gossip, Prune, Graft, IHave, Timer, SendGraft, DispatchLazyPush, EvictCache, AnnounceDropped, Event, Received, Broadcast, Fired, Up, Down, Action, Sent, Scheduled, Emitted, Forgotten}
 use Rattle.protocol.specs.State.{State, Note, Hop, Cached}
 use Rattle.protocol.specs.Run.{Run, Room, with_state, with_counts, act, has_room, use_room, takes, send}
 use Rattle.protocol.specs.Push.{notes, schedule_dispatch, schedule_announce_dropped, record_full, record_also, note_one, note_each, note_dropped, send_each, handed_back, note_for_each, note_after, push_to, eager_push, lazy_push, send_ihave, eager_targets}
 use Rattle.protocol.specs.Gossips.{mark_received, cache_at, announcers, grafted_for, set_first, graft_out, forget_missing, raise_hops, least_from, far_closer, update_links, graft_unless_eager, prune_back, optimize_tree, forget_and_optimise, push_on, take_in, Late, duplicate, repeated, faster, late_kind, set_kept, on_duplicate, on_late_graft_reply, on_new, gossip_size, on_gossip, broadcast_to, broadcast}
 use Rattle.protocol.specs.Control.{announce, schedule_graft, on_announced, on_ihave, on_prune, reply_with, reply, on_graft, note_graft, leave_announcers, ask_first, unmark, on_send_graft_timer}
-use Rattle.protocol.specs.Ticks.{per_message, queued_peers, chunks, queued_for, send_chunks, dispatch_to, clear_dispatch, on_dispatch_timer, move_oldest, still_cached, dispatch_if_queued, on_announce_dropped_timer, on_evict_cache_timer}
+use Rattle.protocol.specs.Ticks.{per_message, queued_peers, chunks, queued_for, send_chunks, dispatch_to, clear_dispatch, on_dispatch_timer, move_oldest, still_cached, dispatch_if_queued, on_announce_dropped_timer, evict, tell_forgotten, on_evict_cache_timer}
 use Rattle.protocol.specs.Neighbours.{on_neighbor_up, on_neighbor_down}
 use Rattle.protocol.specs.Handle.{first_event, count_message, if_neighbour, on_timer, on_message, handle_message, handle}
 use Rattle.decide.specs.Rooms.{kth_taken}
@@ -33,6 +33,7 @@ abbrev pub to_peer : ℕ → Action → Bool
 to_peer p (Sent q taken m) = eqb q p
 to_peer p (Scheduled delay t) = false
 to_peer p (Emitted q content d) = false
+to_peer p (Forgotten id) = false
 
 -- something is sent to the peer
 abbrev pub sent_to : ℕ → List Action → Bool
@@ -373,9 +374,15 @@ fair-on_announce_dropped_timer r =
     (fair-then r (with_state (move_oldest (still_cached r.state) r.state) r) (λ rooms. with_state (move_oldest (still_cached r.state) r.state) (with_rooms rooms r)) dispatch_if_queued
     (quiet r (with_state (move_oldest (still_cached r.state) r.state) r) refl refl) (fair-dispatch_if_queued _)) (fair-schedule_announce _)
 
+fair-told : (ids : List ℕ) (r : Run) → Fair (tell_forgotten ids) r
+fair-told ids r = record { grows = λ p s. any_left (to_peer p) r.actions (map (λ id. Forgotten id) ids) s; out = λ P c rooms e. record { same = refl; agree = e } }
+
 fair-on_evict_cache_timer : (now : ℕ) (r : Run) → Fair (on_evict_cache_timer now) r
 unfolding on_evict_cache_timer
-fair-on_evict_cache_timer now r = stated _ _ r
+fair-on_evict_cache_timer now r =
+    fair-then r (tell_forgotten (expired_keys now r.state.cache) r) (λ rooms. tell_forgotten (expired_keys now r.state.cache) (with_rooms rooms r))
+    (λ x. act (Scheduled r.state.settings.cache_evict_interval EvictCache) (with_state (evict now r.state) x)) (fair-told (expired_keys now r.state.cache) r)
+    (stated (evict now r.state) (Scheduled r.state.settings.cache_evict_interval EvictCache) (tell_forgotten (expired_keys now r.state.cache) r))
 
 fair-first_event : (now : ℕ) (r : Run) → Fair (first_event now) r
 unfolding first_event

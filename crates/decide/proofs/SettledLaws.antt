@@ -2,7 +2,7 @@
 use Prim.Native.Nat.{ℕ}
 use mathlib.Core.Path.{◌≡◌, refl, sym, ap, ◌∙◌}
 use mathlib.Core.Bool.{Bool, true}
-use mathlib.Core.List.{List, [], ◌∷◌, ◌++◌, append-nil}
+use mathlib.Core.List.{List, [], ◌∷◌, ◌++◌, append-nil, append_assoc}
 use native.Mathlib.Omega.{arith}
 use lib.Dec.{ltb}
 use lib.ListN.{length}
@@ -18,7 +18,7 @@ use Rattle.protocol.specs.Handle.{first_event}
 use Rattle.protocol.specs.Whole.{content_held}
 use Rattle.protocol.specs.Consistent.{CoreOf}
 use Rattle.decide.specs.Sizes.{sizes_of}
-use Rattle.decide.specs.Settled.{alive_at, alive_value, settled, settled_actions}
+use Rattle.decide.specs.Settled.{alive_at, alive_value, settled, forgotten_actions, settled_actions}
 use Rattle.decide.proofs.SizesAfter.{evict_sizes, settled_sizes}
 use Rattle.storage.proofs.ListsLaws.MapLaws.{cases}
 use Rattle.storage.proofs.ListsLaws.ListLaws.{length-filter}
@@ -79,11 +79,11 @@ first-state now r c =
     let e = evicted now r.state c in
     if-on (λ (x : Run). x.state) r.state.init _ _ ∙ if-both r.state.init refl (rw (e.received, e.grafted, e.cache) refl)
 
-pub first-actions : (now : ℕ) (r : Run) → (first_event now r).actions ≡ r.actions ++ settled_actions r.state
-unfolding first_event settled_actions on_evict_cache_timer act
+pub first-actions : (now : ℕ) (r : Run) → (first_event now r).actions ≡ r.actions ++ settled_actions now r.state
+unfolding first_event settled_actions forgotten_actions on_evict_cache_timer act
 first-actions now r =
-    if-on (λ (x : Run). x.actions) r.state.init _ _ ∙ if-both r.state.init (sym (append-nil r.actions)) refl
-    ∙ sym (if-on (λ (xs : List Action). r.actions ++ xs) r.state.init [] (Scheduled r.state.settings.cache_evict_interval EvictCache ∷ []))
+    if-on (λ (x : Run). x.actions) r.state.init _ _ ∙ if-both r.state.init (sym (append-nil r.actions)) (append_assoc r.actions (forgotten_actions now r.state) (Scheduled r.state.settings.cache_evict_interval EvictCache ∷ []))
+    ∙ sym (if-on (λ (xs : List Action). r.actions ++ xs) r.state.init [] (forgotten_actions now r.state ++ (Scheduled r.state.settings.cache_evict_interval EvictCache ∷ [])))
 
 pub first-rooms : (now : ℕ) (r : Run) → (first_event now r).rooms ≡ r.rooms
 unfolding first_event on_evict_cache_timer act

@@ -172,7 +172,7 @@ announce-state r =
     (with_dispatch_scheduled (not (is_empty (r.state.queue ++ oldest [] (still_cached r.state))) || r.state.timers.dispatch) (move_oldest (still_cached r.state) r.state)))
 
 -- a timer
-timer-state : (now : ℕ) (t : Timer) (r : Run) → Consistent r.state → (on_timer now t r).state ≡ timer_state r.rooms now t r.state
+pub timer-state : (now : ℕ) (t : Timer) (r : Run) → Consistent r.state → (on_timer now t r).state ≡ timer_state r.rooms now t r.state
 unfolding on_timer timer_state
 timer-state now (SendGraft id) r x = send_graft-state now id r
 timer-state now DispatchLazyPush r x = dispatched-state r x
@@ -185,7 +185,7 @@ by-if true x y u v p q = p refl
 by-if false x y u v p q = q refl
 
 module _ (hash : List ℕ → ℕ) where
-  message-state : (now sender : ℕ) (m : Message) (r : Run) → Consistent r.state → (on_message hash now sender m r).state ≡ message_state hash r.rooms now sender m r.state
+  pub message-state : (now sender : ℕ) (m : Message) (r : Run) → Consistent r.state → (on_message hash now sender m r).state ≡ message_state hash r.rooms now sender m r.state
   unfolding on_message message_state if_neighbour
   message-state now sender (Gossip id content d) r x = gossip-state hash now sender id content d r x
   message-state now sender Prune r x =

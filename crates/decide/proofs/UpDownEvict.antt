@@ -2,13 +2,13 @@
 use Prim.Native.Nat.{ℕ, suc}
 use mathlib.Core.Path.{◌≡◌, refl, sym, ap, ◌∙◌}
 use mathlib.Core.Bool.{Bool, true, not}
-use mathlib.Core.List.{List, [], ◌∷◌, ◌++◌, append-nil}
+use mathlib.Core.List.{List, [], ◌∷◌, ◌++◌, append-nil, append_assoc}
 use lib.ListN.{length, length-map}
 use Rattle.std.specs.Prelude.{if◌then◌else◌}
 use Rattle.storage.specs.Lists.Base.{is_empty, count, ascending}
 use Rattle.storage.specs.Lists.Map.{Map, keys}
 use Rattle.protocol.specs.Links.{link_down}
-use Rattle.postcard.specs.Message.{DispatchLazyPush, Action, Scheduled}
+use Rattle.postcard.specs.Message.{DispatchLazyPush, EvictCache, Action, Scheduled}
 use Rattle.protocol.specs.State.{State, Hop, with_dispatch_scheduled}
 use Rattle.protocol.specs.Run.{Run, act}
 use Rattle.protocol.specs.Push.{for_peer, schedule_dispatch}
@@ -18,6 +18,7 @@ use Rattle.protocol.specs.Neighbours.{on_neighbor_up, on_neighbor_down, without_
 use Rattle.protocol.specs.Whole.{content_held}
 use Rattle.decide.specs.Sizes.{sizes_of}
 use Rattle.decide.proofs.SizesAfter.{down_sizes}
+use Rattle.decide.specs.Settled.{forgotten_actions}
 use Rattle.decide.specs.ActionsAfter.{evict_actions, dispatch_action}
 use Rattle.storage.proofs.ListsLaws.MapLaws.{cases}
 use Rattle.storage.proofs.ListsLaws.ListLaws.{length-filter}
@@ -52,9 +53,9 @@ down-actions p r = refl
 
 -- EvictCache
 
-pub evict-actions : (now : ℕ) (r : Run) → (on_evict_cache_timer now r).actions ≡ r.actions ++ evict_actions r.state
-unfolding on_evict_cache_timer act evict_actions
-evict-actions now r = refl
+pub evict-actions : (now : ℕ) (r : Run) → (on_evict_cache_timer now r).actions ≡ r.actions ++ evict_actions now r.state
+unfolding on_evict_cache_timer act evict_actions forgotten_actions
+evict-actions now r = append_assoc r.actions (forgotten_actions now r.state) (Scheduled r.state.settings.cache_evict_interval EvictCache ∷ [])
 
 -- dispatch timer
 

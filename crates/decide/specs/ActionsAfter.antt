@@ -11,14 +11,14 @@ use Rattle.protocol.specs.Push.{eager_targets}
 use Rattle.protocol.specs.Gossips.{announcers, grafted_for, graft_out, least_from, far_closer, Late, duplicate, repeated, faster, late_kind, gossip_size}
 use Rattle.protocol.specs.Ticks.{per_message, queued_peers, oldest, younger, still_cached}
 use Rattle.decide.specs.Rooms.{kth_taken, first_send}
-use Rattle.decide.specs.Settled.{settled, settled_actions}
+use Rattle.decide.specs.Settled.{settled, forgotten_actions, settled_actions}
 use Rattle.decide.specs.RecordGrowth.{cached_in, announce_action, push_actions}
 use Rattle.decide.specs.Pieces.{pieces, piece_actions}
 use Rattle.decide.specs.NewIds.{new_ids, known_timer}
 
 -- EvictCache
-unfoldable pub evict_actions : State → List Action
-evict_actions s = Scheduled s.settings.cache_evict_interval EvictCache ∷ []
+unfoldable pub evict_actions : ℕ → State → List Action
+evict_actions now s = forgotten_actions now s ++ (Scheduled s.settings.cache_evict_interval EvictCache ∷ [])
 
 -- a dispatch timer, unless flagged
 unfoldable pub dispatch_action : State → List Action
@@ -107,17 +107,17 @@ module _ (hash : List ℕ → ℕ) where
   message_actions rooms sender (IHave hs) s = if is_neighbour sender s.links then ihave_actions hs s else []
 
   -- a timer
-  unfoldable pub timer_actions : List Room → Timer → State → List Action
-  timer_actions rooms (SendGraft id) s = send_graft_actions rooms id s
-  timer_actions rooms DispatchLazyPush s = dispatch_actions rooms s
-  timer_actions rooms EvictCache s = evict_actions s
-  timer_actions rooms AnnounceDropped s = announce_actions s
+  unfoldable pub timer_actions : List Room → ℕ → Timer → State → List Action
+  timer_actions rooms now (SendGraft id) s = send_graft_actions rooms id s
+  timer_actions rooms now DispatchLazyPush s = dispatch_actions rooms s
+  timer_actions rooms now EvictCache s = evict_actions now s
+  timer_actions rooms now AnnounceDropped s = announce_actions s
 
   -- the actions of the call, of the state before it (question 14)
   unfoldable pub actions_after : List Room → ℕ → Event → State → List Action
-  actions_after rooms now (Received p m) s = settled_actions s ++ message_actions rooms p m (settled now s)
+  actions_after rooms now (Received p m) s = settled_actions now s ++ message_actions rooms p m (settled now s)
   actions_after rooms now (Broadcast content scope) s =
-      settled_actions s ++ (if ltb s.settings.max_message_size (gossip_size (length content) scope) then [] else broadcast_actions rooms (hash content) content scope (settled now s))
-  actions_after rooms now (Fired t) s = settled_actions s ++ timer_actions rooms t (settled now s)
+      settled_actions now s ++ (if ltb s.settings.max_message_size (gossip_size (length content) scope) then [] else broadcast_actions rooms (hash content) content scope (settled now s))
+  actions_after rooms now (Fired t) s = settled_actions now s ++ timer_actions rooms now t (settled now s)
   actions_after rooms now (Up p) s = []
   actions_after rooms now (Down p) s = []

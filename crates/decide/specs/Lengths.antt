@@ -2,7 +2,7 @@
 use Rattle.std.specs.Prelude.{ℕ, ◌+◌, length, Option, Some, None}
 use Rattle.storage.specs.Lists.Base.{sum}
 use Rattle.postcard.specs.Number.{number_length}
-use Rattle.postcard.specs.Message.{Delivery, Swarm, Neighbors, Message, Gossip, Prune, Graft, IHave, Timer, SendGraft, DispatchLazyPush, EvictCache, AnnounceDropped, Action, Sent, Scheduled, Emitted}
+use Rattle.postcard.specs.Message.{Delivery, Swarm, Neighbors, Message, Gossip, Prune, Graft, IHave, Timer, SendGraft, DispatchLazyPush, EvictCache, AnnounceDropped, Action, Sent, Scheduled, Emitted, Forgotten}
 
 -- of a delivery
 unfoldable pub delivery_length : Delivery → ℕ
@@ -33,3 +33,4 @@ unfoldable pub action_length : Action → ℕ
 action_length (Sent p taken m) = 2 + number_length p + message_length m
 action_length (Scheduled delay t) = 1 + number_length delay + timer_length t
 action_length (Emitted p content d) = 1 + number_length p + number_length (length content) + length content + delivery_length d
+action_length (Forgotten id) = 33

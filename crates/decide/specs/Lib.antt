@@ -7,3 +7,4 @@ pub mod Pieces
 pub mod NewIds
 pub mod ActionsAfter
 pub mod StateAfter
+pub mod Counted

@@ -1,8 +1,8 @@
 -- A first event's eviction in advance: what it leaves, and the tests of what it leaves, read from the state before the call. Proved equal to `first_event`.
-use Rattle.std.specs.Prelude.{ℕ, Bool, true, false, not, ◌&&◌, List, [], ◌∷◌, ltb, eqb, if◌then◌else◌, Option, Some, None}
+use Rattle.std.specs.Prelude.{ℕ, Bool, true, false, not, ◌&&◌, List, [], ◌∷◌, ◌++◌, map, ltb, eqb, if◌then◌else◌, Option, Some, None}
 use Rattle.storage.specs.Lists.Map.{lookup}
-use Rattle.time_cache.specs.TimeCache.{Timed, holds, later_cache}
-use Rattle.postcard.specs.Message.{Gossip, Prune, Graft, IHave, EvictCache, Event, Received, Broadcast, Fired, Up, Down, Action, Scheduled}
+use Rattle.time_cache.specs.TimeCache.{Timed, holds, expired_keys, later_cache}
+use Rattle.postcard.specs.Message.{Gossip, Prune, Graft, IHave, EvictCache, Event, Received, Broadcast, Fired, Up, Down, Action, Scheduled, Forgotten}
 use Rattle.protocol.specs.State.{State, with_init, with_received, with_grafted, with_cache}
 use Rattle.protocol.specs.Answer.{last_round}
 
@@ -22,9 +22,13 @@ settled now s =
     if s.init then s
     else with_init true (with_grafted (later_cache now s.grafted) (with_received (later_cache now s.received) (with_cache (later_cache now s.cache) s)))
 
--- its action
-unfoldable pub settled_actions : State → List Action
-settled_actions s = if s.init then [] else Scheduled s.settings.cache_evict_interval EvictCache ∷ []
+-- what an eviction tells: "action 4 with the identifier for each one from the message cache"
+unfoldable pub forgotten_actions : ℕ → State → List Action
+forgotten_actions now s = map (λ id. Forgotten id) (expired_keys now s.cache)
+
+-- its actions: what it tells, "before its schedule"
+unfoldable pub settled_actions : ℕ → State → List Action
+settled_actions now s = if s.init then [] else forgotten_actions now s ++ (Scheduled s.settings.cache_evict_interval EvictCache ∷ [])
 
 -- question 12 of the state before: "unreceived once a first event has evicted"
 unfoldable pub received_before : ℕ → State → ℕ → Bool

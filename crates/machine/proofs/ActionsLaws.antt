@@ -18,31 +18,31 @@ use Rattle.machine.proofs.StepLaws.{settled-rooms}
 
 -- the actions of a step as bytes, of the state that a first event leaves
 abbrev pub step_bytes : Call → Step → State → List ℕ
-step_bytes call r t = concat_map action_bytes (step_actions (rooms_of call t) r t)
+step_bytes call r t = concat_map action_bytes (step_actions (rooms_of call t) call.instant.0 r t)
 
 -- a first event's
-abbrev pub first_bytes : State → List ℕ
-first_bytes s = concat_map action_bytes (settled_actions s)
+abbrev pub first_bytes : ℕ → State → List ℕ
+first_bytes now s = concat_map action_bytes (settled_actions now s)
 
 module _ (call : Call) (r : Step) (s : State) where
-  pub both-bytes : event_bytes call r s ≡ first_bytes s ++ step_bytes call r (settled call.instant.0 s)
+  pub both-bytes : event_bytes call r s ≡ first_bytes call.instant.0 s ++ step_bytes call r (settled call.instant.0 s)
   both-bytes =
-      actions-then (settled_actions s) (step_actions (rooms_of call s) r (settled call.instant.0 s))
-      ∙ ap (λ (rooms : List Room). first_bytes s ++ concat_map action_bytes (step_actions rooms r (settled call.instant.0 s))) (sym (settled-rooms call.instant.0 s call.peer call.rooms.now))
+      actions-then (settled_actions call.instant.0 s) (step_actions (rooms_of call s) call.instant.0 r (settled call.instant.0 s))
+      ∙ ap (λ (rooms : List Room). first_bytes call.instant.0 s ++ concat_map action_bytes (step_actions rooms call.instant.0 r (settled call.instant.0 s))) (sym (settled-rooms call.instant.0 s call.peer call.rooms.now))
 
   module _ (h : Intake) (room : RoomFor (event_bytes call r s) h) where
-    pub first-room : RoomFor (first_bytes s) h
-    first-room = omega (arith, room, ap length both-bytes, length_both (first_bytes s) (step_bytes call r (settled call.instant.0 s)))
+    pub first-room : RoomFor (first_bytes call.instant.0 s) h
+    first-room = omega (arith, room, ap length both-bytes, length_both (first_bytes call.instant.0 s) (step_bytes call r (settled call.instant.0 s)))
 
     -- the step's, by any equal list
-    pub step-room : (bs : List ℕ) (g : Intake) → step_bytes call r (settled call.instant.0 s) ≡ bs → g ≡ after (first_bytes s) h → RoomFor bs g
+    pub step-room : (bs : List ℕ) (g : Intake) → step_bytes call r (settled call.instant.0 s) ≡ bs → g ≡ after (first_bytes call.instant.0 s) h → RoomFor bs g
     step-room bs g e q =
-        omega (arith, room, ap length both-bytes, length_both (first_bytes s) (step_bytes call r (settled call.instant.0 s)), ap length e, ap space_of q, room_after (first_bytes s) h)
+        omega (arith, room, ap length both-bytes, length_both (first_bytes call.instant.0 s) (step_bytes call r (settled call.instant.0 s)), ap length e, ap space_of q, room_after (first_bytes call.instant.0 s) h)
 
-  pub step-done : (h g k : Intake) (bs : List ℕ) → step_bytes call r (settled call.instant.0 s) ≡ bs → g ≡ after (first_bytes s) h → k ≡ after bs g → k ≡ after (event_bytes call r s) h
+  pub step-done : (h g k : Intake) (bs : List ℕ) → step_bytes call r (settled call.instant.0 s) ≡ bs → g ≡ after (first_bytes call.instant.0 s) h → k ≡ after bs g → k ≡ after (event_bytes call r s) h
   step-done h g k bs e q p =
-      p ∙ ap (λ (x : Intake). after bs x) q ∙ ap (λ (l : List ℕ). after l (after (first_bytes s) h)) (sym e)
-      ∙ after_append (first_bytes s) (step_bytes call r (settled call.instant.0 s)) h ∙ ap (λ (l : List ℕ). after l h) (sym both-bytes)
+      p ∙ ap (λ (x : Intake). after bs x) q ∙ ap (λ (l : List ℕ). after l (after (first_bytes call.instant.0 s) h)) (sym e)
+      ∙ after_append (first_bytes call.instant.0 s) (step_bytes call r (settled call.instant.0 s)) h ∙ ap (λ (l : List ℕ). after l h) (sym both-bytes)
 
-  pub none-done : (h g : Intake) → step_bytes call r (settled call.instant.0 s) ≡ [] → g ≡ after (first_bytes s) h → g ≡ after (event_bytes call r s) h
+  pub none-done : (h g : Intake) → step_bytes call r (settled call.instant.0 s) ≡ [] → g ≡ after (first_bytes call.instant.0 s) h → g ≡ after (event_bytes call r s) h
   none-done h g e q = step-done h g g [] e q (sym (after_nil g))

@@ -21,7 +21,7 @@ use Rattle.decide.proofs.StateAfterLaws.{decide-state}
 use Rattle.decide.proofs.RoomsSteps.{with_rooms}
 use Rattle.decide.proofs.RoomsCall.{reached}
 use Rattle.machine.specs.Decided.{bytes_after, last_decided, size_fits, decided}
-use Rattle.machine.proofs.KindsLaws.Counted.{decide-counts}
+use Rattle.decide.proofs.Counted.{decide-counts}
 
 module _ (hash : List ℕ → ℕ) where
   -- what the caller finds of a run

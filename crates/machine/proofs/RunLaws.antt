@@ -39,7 +39,7 @@ use Rattle.steps.proofs.AtRestLaws.{stands_of}
 use Rattle.steps.proofs.SettledLaws.FewLaws.{fit-down, stands-whole}
 use Rattle.machine.specs.Core.{is_payload, counted_as}
 use Rattle.machine.specs.Decided.{bytes_after, last_decided, size_fits, decided}
-use Rattle.machine.specs.Kinds.Counted.{raised, counts_after_call}
+use Rattle.decide.specs.Counted.{raised, counts_after_call}
 use Rattle.machine.specs.Kinds.Meaning.{counted_for}
 use Rattle.machine.specs.Steps.{Keeps}
 use Rattle.machine.proofs.HoldsLaws.{stored-holds}

@@ -11,7 +11,7 @@ use Rattle.protocol.specs.Answer.{counts_stay, Outcome, refused, accepted}
 use Rattle.decide.specs.Settled.{too_far_before}
 use Rattle.decide.specs.ActionsAfter.{actions_after}
 use Rattle.decide.specs.StateAfter.{state_after}
-use Rattle.machine.specs.Kinds.Counted.{counts_after_call}
+use Rattle.decide.specs.Counted.{counts_after_call}
 
 -- (10) "Is a received message at most M bytes?", of how many it has; the other events have none
 unfoldable pub size_fits : ℕ → ℕ → Event → Bool

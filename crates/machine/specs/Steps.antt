@@ -24,7 +24,7 @@ after_event call step s = after_step call step (settled call.instant.0 s)
 
 -- the actions of both, of the state before
 abbrev pub event_bytes : Call → Step → State → List ℕ
-event_bytes call step s = concat_map action_bytes (settled_actions s ++ step_actions (rooms_of call s) step (settled call.instant.0 s))
+event_bytes call step s = concat_map action_bytes (settled_actions call.instant.0 s ++ step_actions (rooms_of call s) call.instant.0 step (settled call.instant.0 s))
 
 -- the limits and the settings are those before
 pub record Keeps (s t : State) : Type 0 where

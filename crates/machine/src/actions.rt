@@ -17,7 +17,7 @@ use payloads::on_late_graft_reply::late_actions;
 use postcard::message::Delivery;
 use postcard::units::Round;
 use steps::call::Call;
-use steps::schedule::{first_event_actions, schedule_evict_cache};
+use steps::on_evict_cache_timer::{evict_actions, first_event_actions};
 use steps::view::View;
 use wire::encode::Encode;
 use wire::encode::message::Gossip;
@@ -45,7 +45,7 @@ impl<'a> Encode for Actions<'a> {
             step,
             ..
         } = *self;
-        first_event_actions(view, out);
+        first_event_actions(view, call, out);
         match step {
             Step::NewSwarm(message) => gossip_actions(view, call, out, &message),
             Step::NewNeighbors { sender, content } => neighbors_actions(out, sender, content),
@@ -80,7 +80,7 @@ impl<'a> Encode for Actions<'a> {
             }
             Step::SendGraft(id) => send_graft_actions(view, call, out, id),
             Step::DispatchLazyPush => dispatch_actions(view, call, out),
-            Step::EvictCache => schedule_evict_cache(view, out),
+            Step::EvictCache => evict_actions(view, call, out),
             Step::AnnounceDropped => announce_actions(view, call, out),
             Step::Prune { .. } | Step::Nothing => {}
         }

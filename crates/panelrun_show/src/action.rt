@@ -1,14 +1,15 @@
 // Actions, as text for people.
 use crate::message::{DeliveryText, MessageText, TimerText};
-use crate::text::ContentText;
+use crate::text::{ContentText, IdText};
 use postcard::message::{Delivery, Timer};
 use std::fmt;
 use std::fmt::{Display, Formatter};
+use storage::rows::id::Id;
 use wire::reader::Reader;
 use wire::reader::fault::Fault;
 use wire::reader::message::Message;
 
-// "1 send (peer, byte 0 taken or 1 handed back, message); 2 schedule (delay, timer); 3 emit (peer, length, content, delivery)".
+// "1 send (peer, byte 0 taken or 1 handed back, message); 2 schedule (delay, timer); 3 emit (peer, length, content, delivery)"; "action 4 with the identifier".
 #[derive(Clone, Copy)]
 pub enum Action<'a> {
     Send {
@@ -24,6 +25,9 @@ pub enum Action<'a> {
         peer: u64,
         content: &'a [u8],
         delivery: Delivery,
+    },
+    Forgotten {
+        id: Id,
     },
 }
 
@@ -60,12 +64,18 @@ fn read_emit<'a>(reader: &mut Reader<'a>) -> Result<Action<'a>, Fault> {
     })
 }
 
+fn read_forgotten<'a>(reader: &mut Reader<'a>) -> Result<Action<'a>, Fault> {
+    let id = reader.id()?;
+    Ok(Action::Forgotten { id })
+}
+
 // An action of any kind.
 pub fn read_action<'a>(reader: &mut Reader<'a>) -> Result<Action<'a>, Fault> {
     match reader.byte()? {
         1 => read_send(reader),
         2 => read_schedule(reader),
         3 => read_emit(reader),
+        4 => read_forgotten(reader),
         _ => Err(Fault::Form),
     }
 }
@@ -97,6 +107,10 @@ impl Display for Action<'_> {
                 let content = ContentText(content);
                 let delivery = DeliveryText(delivery);
                 write!(f, "emit from {peer}: {content}, {delivery}")
+            }
+            Action::Forgotten { id } => {
+                let id = IdText(id);
+                write!(f, "forgotten {id}")
             }
         }
     }

@@ -2,10 +2,11 @@
 use Prim.Native.Nat.{ℕ}
 use mathlib.Core.Path.{◌≡◌, refl, ◌∙◌}
 use mathlib.Core.Bool.{Bool, true, false, ◌||◌}
-use mathlib.Core.List.{List, [], ◌∷◌, ◌++◌}
+use mathlib.Core.List.{List, [], ◌∷◌, ◌++◌, map}
 use Rattle.std.specs.Prelude.{if◌then◌else◌}
 use Rattle.storage.specs.Lists.Base.{any}
-use Rattle.postcard.specs.Message.{Delivery, Emitted}
+use Rattle.postcard.specs.Message.{Delivery, Action, Emitted, Forgotten}
+use Rattle.time_cache.specs.TimeCache.{expired_keys}
 use Rattle.protocol.specs.State.{with_init}
 use Rattle.protocol.specs.Run.{Run, with_state, act, send}
 use Rattle.protocol.specs.Gossips.{update_links, prune_back, Late, duplicate, repeated, faster, set_kept, on_duplicate}
@@ -21,6 +22,19 @@ any-skip f xs x h = any_append f xs (x ∷ []) ∙ rw (any-one f x, h) (or-none 
     or-none true = refl
     or-none false = refl
 
+-- what is told as forgotten passes no test that an action 4 does not pass
+pub any-told : (f : Action → Bool) → ((id : ℕ) → f (Forgotten id) ≡ false) → (ids : List ℕ) (xs : List Action) → any f (xs ++ map (λ id. Forgotten id) ids) ≡ any f xs
+unfolding any
+any-told f h ids xs = any_append f xs (map (λ id. Forgotten id) ids) ∙ rw (untold ids) (or-none (any f xs))
+  where
+    untold : (ids : List ℕ) → any f (map (λ id. Forgotten id) ids) ≡ false
+    untold [] = refl
+    untold (i ∷ is) = rw (h i) (untold is)
+
+    or-none : (b : Bool) → (b || false) ≡ b
+    or-none true = refl
+    or-none false = refl
+
 -- no emit more
 abbrev pub Quiet : Run → Run → Type 0
 Quiet r r' = any is_emit r'.actions ≡ any is_emit r.actions
@@ -31,7 +45,8 @@ quiet_if r x y false p q = q
 
 pub quiet-first : (now : ℕ) (r : Run) → Quiet r (first_event now r)
 unfolding first_event on_evict_cache_timer act is_emit
-quiet-first now r = quiet_if r r (on_evict_cache_timer now (with_state (with_init true r.state) r)) r.state.init refl (any-skip is_emit r.actions _ refl)
+quiet-first now r = quiet_if r r (on_evict_cache_timer now (with_state (with_init true r.state) r)) r.state.init refl
+    (any-skip is_emit (r.actions ++ map (λ id. Forgotten id) (expired_keys now r.state.cache)) _ refl ∙ any-told is_emit (λ id. refl) (expired_keys now r.state.cache) r.actions)
 
 quiet-prune_back : (p : ℕ) (r : Run) → Quiet r (prune_back p r)
 unfolding prune_back update_links send is_emit

@@ -3,23 +3,23 @@ use Rattle.std.specs.Prelude.{Some, None}
 use Prim.Native.Nat.{ℕ, suc}
 use mathlib.Core.Path.{◌≡◌, refl, ◌∙◌}
 use mathlib.Core.Bool.{Bool, false, not, ◌&&◌, ◌||◌}
-use mathlib.Core.List.{List, [], ◌∷◌}
+use mathlib.Core.List.{List, [], ◌∷◌, ◌++◌, map}
 use lib.Dec.{eqb}
 use Rattle.storage.specs.Lists.Base.{is_empty, any, member}
-use Rattle.time_cache.specs.TimeCache.{holds, get}
-use Rattle.postcard.specs.Message.{Delivery, Ihave, Message, Prune, Graft, Sent, Scheduled, Emitted, Timer}
+use Rattle.time_cache.specs.TimeCache.{holds, get, expired_keys}
+use Rattle.postcard.specs.Message.{Delivery, Ihave, Message, Prune, Graft, Sent, Scheduled, Emitted, Forgotten, Timer}
 use Rattle.protocol.specs.Links.{is_neighbour, eager_in}
 use Rattle.protocol.specs.State.{Hop}
 use Rattle.protocol.specs.Run.{Run, act, send, takes}
 use Rattle.protocol.specs.Push.{schedule_dispatch, schedule_announce_dropped, note_one, record_full, record_also, notes, note_each, note_dropped, note_for_each, lazy_push}
 use Rattle.protocol.specs.Gossips.{announcers, grafted_for, graft_out, forget_missing, least_from, far_closer, update_links, graft_unless_eager, prune_back, optimize_tree, forget_and_optimise, Late, duplicate, repeated, faster, late_kind, set_kept, on_duplicate, on_late_graft_reply}
 use Rattle.protocol.specs.Control.{announce, schedule_graft, on_announced, on_ihave, on_prune, note_graft, leave_announcers, ask_first, unmark, on_send_graft_timer}
-use Rattle.protocol.specs.Ticks.{still_cached, move_oldest, dispatch_if_queued, on_announce_dropped_timer, on_evict_cache_timer}
+use Rattle.protocol.specs.Ticks.{still_cached, move_oldest, dispatch_if_queued, on_announce_dropped_timer, tell_forgotten, on_evict_cache_timer}
 use Rattle.protocol.specs.Handle.{first_event, if_neighbour}
 use Rattle.protocol.specs.NoNeighbourPassedOver.{carries, sends, was_handed_back}
 use Rattle.storage.proofs.ListsLaws.MapLaws.{cases}
 use Rattle.storage.proofs.ListsLaws.Lists.{any_append, any-one}
-use Rattle.protocol.proofs.EmitSteps.{any-skip}
+use Rattle.protocol.proofs.EmitSteps.{any-skip, any-told}
 use Rattle.protocol.proofs.Walk.{walk-if}
 
 module _ (p id : ℕ) where
@@ -105,9 +105,13 @@ module _ (p id : ℕ) where
 
   -- the steps by which no message is sent on
 
+  silent-told : (ids : List ℕ) (r : Run) → Silent r (tell_forgotten ids r)
+  unfolding sends
+  silent-told ids r = record { same = any-told (sends p (carries id) was_handed_back) (λ i. refl) ids r.actions }
+
   pub silent-evict : (now : ℕ) (r : Run) → Silent r (on_evict_cache_timer now r)
   unfolding on_evict_cache_timer
-  silent-evict now r = silent-still refl ⨾ (calm-schedule _ _ _).silent
+  silent-evict now r = silent-told (expired_keys now r.state.cache) r ⨾ silent-still refl ⨾ (calm-schedule _ _ _).silent
 
   pub silent-first : (now : ℕ) (r : Run) → Silent r (first_event now r)
   unfolding first_event

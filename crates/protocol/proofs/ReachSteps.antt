@@ -3,7 +3,7 @@ use Rattle.std.specs.Prelude.{Option, Some, None}
 use Prim.Native.Nat.{ℕ}
 use mathlib.Core.Path.{◌≡◌, refl}
 use mathlib.Core.Bool.{Bool, true, false, not, ◌&&◌, ◌||◌}
-use mathlib.Core.List.{List, [], ◌∷◌, ◌++◌}
+use mathlib.Core.List.{List, [], ◌∷◌, ◌++◌, map}
 use mathlib.Core.Logic.{◌⊎◌, inl, inr}
 use native.Mathlib.Omega.{arith}
 use lib.Dec.{leb}
@@ -11,9 +11,9 @@ use lib.ListN.{length, length-append}
 use borrow.Author.Tests.{leb-true, le-leb}
 use Rattle.storage.specs.Lists.Base.{is_empty, any, count, member}
 use Rattle.storage.specs.Lists.Map.{lookup}
-use Rattle.time_cache.specs.TimeCache.{Timed, Cache, holds, pop_all, due, expire_until}
+use Rattle.time_cache.specs.TimeCache.{Timed, Cache, holds, pop_all, due, expire_until, expired_keys}
 use Rattle.protocol.specs.Links.{is_neighbour}
-use Rattle.postcard.specs.Message.{Ihave, Message, Action, Sent, Scheduled, Event}
+use Rattle.postcard.specs.Message.{Ihave, Message, Action, Sent, Scheduled, Forgotten, Event}
 use Rattle.protocol.specs.State.{Hop, Note, Grafts}
 use Rattle.protocol.specs.Run.{Run, with_state, act, send, takes}
 use Rattle.protocol.specs.Push.{for_peer, notes, schedule_dispatch, schedule_announce_dropped, record_full, record_also, note_one, note_each, note_dropped, lazy_push}
@@ -135,7 +135,7 @@ unfolding on_evict_cache_timer evict act
 grows-evict now r = record {
   queue = λ f h. h;
   dropped = λ f h. h;
-  actions = λ f h. any_left f r.actions _ h;
+  actions = λ f h. any_left f (r.actions ++ map (λ id. Forgotten id) (expired_keys now r.state.cache)) _ (any_left f r.actions _ h);
   full = λ p h. h;
   cached = λ id v h. lookup-expire id now v r.state.cache h;
 }

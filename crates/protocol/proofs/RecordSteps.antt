@@ -2,13 +2,13 @@
 use Prim.Native.Nat.{ℕ}
 use mathlib.Core.Path.{◌≡◌, refl, sym, ◌∙◌}
 use mathlib.Core.Bool.{Bool, true, false, not, ◌&&◌, ◌||◌}
-use mathlib.Core.List.{List, [], ◌∷◌, ◌++◌}
+use mathlib.Core.List.{List, [], ◌∷◌, ◌++◌, map}
 use mathlib.Core.Logic.{◌⊎◌, inl, inr}
 use Rattle.std.specs.Prelude.{if◌then◌else◌, Option, Some, None}
 use Rattle.storage.specs.Lists.Base.{is_empty, any, member}
-use Rattle.time_cache.specs.TimeCache.{holds}
+use Rattle.time_cache.specs.TimeCache.{holds, expired_keys}
 use Rattle.protocol.specs.Links.{is_neighbour}
-use Rattle.postcard.specs.Message.{Delivery, Ihave, Message, DispatchLazyPush, AnnounceDropped, Action, Sent, Scheduled, Emitted}
+use Rattle.postcard.specs.Message.{Delivery, Ihave, Message, DispatchLazyPush, AnnounceDropped, Action, Sent, Scheduled, Emitted, Forgotten}
 use Rattle.protocol.specs.State.{Hop, Note, Grafts, with_queue}
 use Rattle.protocol.specs.Run.{Run, with_state, act, send, takes}
 use Rattle.protocol.specs.Push.{notes, schedule_dispatch, schedule_announce_dropped, record_full, record_also, note_one, note_each, note_dropped, lazy_push}
@@ -207,8 +207,16 @@ sound-schedule_graft id r = sound-if (member id r.state.timers.graft) (λ p. sou
     (λ p. let r' : Run = with_state _ r in sound-trans r r' _ (still refl refl refl refl refl refl) (sound-act r' _))
 
 pub sound-evict : (now : ℕ) (r : Run) → Sound r (on_evict_cache_timer now r)
-unfolding on_evict_cache_timer evict
-sound-evict now r = sound-trans r _ _ (still refl refl refl refl refl refl) (sound-act _ _)
+unfolding on_evict_cache_timer evict act
+sound-evict now r = record {
+  settings = refl;
+  within = λ w. w;
+  queue_flag = λ h. h;
+  record_flag = λ h. h;
+  dispatch_timer = λ h. inl h;
+  announce_timer = λ h. inl h;
+  actions = λ f h. any_left f (r.actions ++ map (λ id. Forgotten id) (expired_keys now r.state.cache)) _ (any_left f r.actions _ h);
+}
 
 pub sound-sending : Sending Sound
 sound-sending = record { stays = sound-refl; follows = sound-trans; sends = sound-send; notes = sound-note_dropped }

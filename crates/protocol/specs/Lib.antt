@@ -11,6 +11,7 @@ pub mod Control
 pub mod Handle
 pub mod Calls
 pub mod SameMeaning
+pub mod Screen
 pub mod Consistent
 pub mod NoNeighbourPassedOver
 pub mod ReadingsFollowTheTree

@@ -1,7 +1,7 @@
 -- The guarantee: what holds after every list of event calls from a fresh panel. What is said of the past is read from the event of each accepted call, its actions, and the state after it.
 use Rattle.std.specs.Prelude.{ℕ, ◌≤◌, ◌≡◌, Bool, true, false, not, ◌&&◌, List, [], ◌∷◌, ◌++◌, leb, eqb, length, if◌then◌else◌, Option, Some, None}
 use Rattle.storage.specs.Lists.Base.{any, count, member}
-use Rattle.postcard.specs.Message.{Swarm, Neighbors, Scope, to_swarm, to_neighbors, Ihave, Message, Gossip, Prune, Graft, IHave, Timer, SendGraft, DispatchLazyPush, EvictCache, AnnounceDropped, Event, Received, Broadcast, Fired, Up, Down, Action, Sent, Scheduled, Emitted}
+use Rattle.postcard.specs.Message.{Swarm, Neighbors, Scope, to_swarm, to_neighbors, Ihave, Message, Gossip, Prune, Graft, IHave, Timer, SendGraft, DispatchLazyPush, EvictCache, AnnounceDropped, Event, Received, Broadcast, Fired, Up, Down, Action, Sent, Scheduled, Emitted, Forgotten}
 use Rattle.time_cache.specs.TimeCache.{holds}
 use Rattle.protocol.specs.Links.{eager_peers, lazy_peers}
 use Rattle.protocol.specs.State.{State, Counts, Settings, Limits, created, create}
@@ -72,6 +72,7 @@ unfoldable pub is_emit : Action → Bool
 is_emit (Sent p taken m) = false
 is_emit (Scheduled delay t) = false
 is_emit (Emitted p content d) = true
+is_emit (Forgotten id) = false
 
 -- "a new Swarm Gossip as told above, which came from the event's peer": a call that receives one emits exactly when it is valid and new
 unfoldable pub took_gossip : ℕ → Message → List Action → Option Took
@@ -146,6 +147,7 @@ unfoldable pub sends : ℕ → (Message → Bool) → (Bool → Bool) → Action
 sends p which how (Sent q taken m) = eqb q p && which m && how taken
 sends p which how (Scheduled delay t) = false
 sends p which how (Emitted q content d) = false
+sends p which how (Forgotten id) = false
 
 -- "taken"
 abbrev pub was_taken : Bool → Bool
@@ -193,6 +195,7 @@ unfoldable pub schedules_tick : Tick → Action → Bool
 schedules_tick t (Sent p taken m) = false
 schedules_tick t (Scheduled delay timer) = is_tick t timer
 schedules_tick t (Emitted p content d) = false
+schedules_tick t (Forgotten id) = false
 
 -- the call scheduled it
 unfoldable pub scheduled : Tick → Answer → Bool

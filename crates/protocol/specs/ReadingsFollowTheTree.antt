@@ -5,7 +5,7 @@ use Rattle.std.specs.Prelude.{ℕ, suc, ◌≡◌, Bool, true, false, not, ◌&&
 use Rattle.storage.specs.Lists.Base.{any, member}
 use Rattle.storage.specs.Lists.Map.{has}
 use Rattle.time_cache.specs.TimeCache.{get}
-use Rattle.postcard.specs.Message.{Swarm, Neighbors, to_swarm, to_neighbors, Message, Gossip, Prune, Graft, IHave, Event, Received, Broadcast, Action, Sent, Scheduled, Emitted}
+use Rattle.postcard.specs.Message.{Swarm, Neighbors, to_swarm, to_neighbors, Message, Gossip, Prune, Graft, IHave, Event, Received, Broadcast, Action, Sent, Scheduled, Emitted, Forgotten}
 use Rattle.protocol.specs.Links.{is_neighbour, eager_peers, lazy_peers}
 use Rattle.protocol.specs.State.{State, Counts, Settings, Limits, Cached, created, create}
 use Rattle.protocol.specs.Run.{Run}
@@ -28,6 +28,7 @@ payloads_to p [] = []
 payloads_to p (Sent q taken m ∷ more) = if eqb q p && is_payload m then m ∷ payloads_to p more else payloads_to p more
 payloads_to p (Scheduled delay t ∷ more) = payloads_to p more
 payloads_to p (Emitted q content d ∷ more) = payloads_to p more
+payloads_to p (Forgotten id ∷ more) = payloads_to p more
 
 -- an announcement of the identifier: an IHave that lists it
 unfoldable pub announcement_of : ℕ → Message → Bool

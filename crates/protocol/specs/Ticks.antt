@@ -2,8 +2,8 @@
 use Rattle.std.specs.Prelude.{ℕ, zero, suc, false, List, [], ◌∷◌, ◌++◌, map, ltb, length, take, drop, if◌then◌else◌}
 use Rattle.storage.specs.Lists.Base.{◌▷◌, is_empty, filter, count}
 use Rattle.storage.specs.Lists.Map.{insert_key}
-use Rattle.time_cache.specs.TimeCache.{holds, expire_until}
-use Rattle.postcard.specs.Message.{Ihave, EvictCache}
+use Rattle.time_cache.specs.TimeCache.{holds, expire_until, expired_keys}
+use Rattle.postcard.specs.Message.{Ihave, EvictCache, Forgotten}
 unfoldable pub use Rattle.postcard.specs.Sizes.{per_message}
 use Rattle.protocol.specs.State.{State, Note, with_queue, with_dropped, with_cache, with_received, with_grafted, with_dispatch_scheduled, with_announce_scheduled}
 use Rattle.protocol.specs.Run.{Run, with_state, schedule}
@@ -79,7 +79,11 @@ unfoldable pub evict : ℕ → State → State
 evict now s =
     s ▷ with_cache (expire_until now s.cache) ▷ with_received (expire_until now s.received) ▷ with_grafted (expire_until now s.grafted)
 
--- `on_evict_cache_timer`: "then schedules itself"
+-- "action 4 with the identifier for each one"
+abbrev pub tell_forgotten : List ℕ → Run → Run
+tell_forgotten ids r = record { state = r.state; counts = r.counts; rooms = r.rooms; actions = r.actions ++ map (λ id. Forgotten id) ids }
+
+-- `on_evict_cache_timer`: tells what leaves the message cache, "before its schedule"; "then schedules itself"
 unfoldable pub on_evict_cache_timer : ℕ → Run → Run
 on_evict_cache_timer now r =
-    r ▷ with_state (evict now r.state) ▷ schedule r.state.settings.cache_evict_interval EvictCache
+    r ▷ tell_forgotten (expired_keys now r.state.cache) ▷ with_state (evict now r.state) ▷ schedule r.state.settings.cache_evict_interval EvictCache

@@ -23,3 +23,4 @@ pub mod CutLaws
 pub mod NeighborLaws
 pub mod GroupsLaws
 pub mod RowLaws
+pub mod ForgottenLaws

@@ -1,8 +1,13 @@
-// `on_evict_cache_timer`, and the first event's work, which is the same: the specification, "Ticks". Its action is that of `schedule_evict_cache`.
+// `on_evict_cache_timer`, and the first event's work, which is the same: the specification, "Ticks" and "What was forgotten".
 ghost use Rattle.std.specs.Prelude.{◌≡◌};
+ghost use Rattle.storage.specs.Lists.Base.{concat_map};
+ghost use Rattle.postcard.specs.Message.{action_bytes};
 ghost use Rattle.protocol.specs.Ticks.{evict};
 ghost use Rattle.decide.specs.Sizes.{sizes_of};
-ghost use Rattle.decide.specs.Settled.{settled};
+ghost use Rattle.decide.specs.Settled.{settled, forgotten_actions, settled_actions};
+ghost use Rattle.decide.specs.ActionsAfter.{evict_actions};
+ghost use Rattle.block.specs.Caches.InBlock.{InOrder};
+ghost use Rattle.wire.specs.Encode.Intake.{after, RoomFor};
 ghost use Rattle.steps.specs.Shared.{sizes_value};
 ghost use Rattle.steps.specs.Panels.{AtRest};
 ghost use Rattle.steps.specs.Views.{shown};
@@ -10,9 +15,14 @@ ghost use Rattle.steps.specs.Views.{shown};
 use crate::call::Call;
 use crate::contents::cached;
 use crate::panel::Panel;
+use crate::schedule::schedule_evict_cache;
 use crate::view::View;
 use crate::{Sizes, settled};
+use block::caches::cached::{forgotten_rows, row_id};
 use block::caches::{grafted, received};
+use wire::encode::Encode;
+use wire::encode::action::Forget;
+use wire::encode::sink::Sink;
 
 // The numbers of entries after it (question 13): what expires later stays, also where a first event has evicted at the same instant. Its time is that of one pass over
 // the entries of each time cache.
@@ -21,6 +31,53 @@ pub fn evict_sizes(view: &View, call: &Call) -> Sizes
     ensures { sizes_value result ≡ sizes_of (evict call.now.instant.0 (settled call.now.instant.0 (shown view.now))) }
 {
     settled::later_sizes(view.head, view.block, call.instant)
+}
+
+// "action 4 with the identifier for each one from the message cache", in order of removal.
+fn tell_forgotten<S: Sink>(view: &View, call: &Call, out: &mut S)
+    requires order { InOrder (shown view.now).cache }
+    requires room { RoomFor (concat_map action_bytes (forgotten_actions call.now.instant.0 (shown view.now))) (S.intake out.old) }
+    ensures { S.intake out.new ≡ after (concat_map action_bytes (forgotten_actions call.now.instant.0 (shown view.now))) (S.intake out.old) }
+{
+    let rows = forgotten_rows(view.head, view.block, call.instant);
+    for row in rows.as_slice() {
+        let id = row_id(view.head, view.block, *row as usize);
+        Forget { id }.encode(out);
+    }
+}
+
+// What leaves the message cache is told, "before its schedule".
+fn tell_and_schedule<S: Sink>(view: &View, call: &Call, out: &mut S)
+    requires order { InOrder (shown view.now).cache }
+    requires room { RoomFor (concat_map action_bytes (evict_actions call.now.instant.0 (shown view.now))) (S.intake out.old) }
+    ensures { S.intake out.new ≡ after (concat_map action_bytes (evict_actions call.now.instant.0 (shown view.now))) (S.intake out.old) }
+{
+    tell_forgotten(view, call, out);
+    schedule_evict_cache(view, out);
+}
+
+// Its actions. Where a first event has evicted at the same instant, nothing leaves any more.
+pub fn evict_actions<S: Sink>(view: &View, call: &Call, out: &mut S)
+    requires rest { AtRest (shown view.now) }
+    requires room { RoomFor (concat_map action_bytes (evict_actions call.now.instant.0 (settled call.now.instant.0 (shown view.now)))) (S.intake out.old) }
+    ensures { S.intake out.new ≡ after (concat_map action_bytes (evict_actions call.now.instant.0 (settled call.now.instant.0 (shown view.now)))) (S.intake out.old) }
+{
+    if view.head.live.init {
+        tell_and_schedule(view, call, out);
+    } else {
+        schedule_evict_cache(view, out);
+    }
+}
+
+// "the first other event evicts and schedules EvictCache before anything else": its actions.
+pub fn first_event_actions<S: Sink>(view: &View, call: &Call, out: &mut S)
+    requires rest { AtRest (shown view.now) }
+    requires room { RoomFor (concat_map action_bytes (settled_actions call.now.instant.0 (shown view.now))) (S.intake out.old) }
+    ensures { S.intake out.new ≡ after (concat_map action_bytes (settled_actions call.now.instant.0 (shown view.now))) (S.intake out.old) }
+{
+    if !view.head.live.init {
+        tell_and_schedule(view, call, out);
+    }
 }
 
 impl<'a> Panel<'a> {

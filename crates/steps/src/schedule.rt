@@ -1,10 +1,9 @@
 // The timers that a step schedules, each unless its flag is set.
 ghost use Rattle.std.specs.Prelude.{◌≡◌};
 ghost use Rattle.storage.specs.Lists.Base.{concat_map};
-ghost use Rattle.postcard.specs.Message.{action_bytes};
+ghost use Rattle.postcard.specs.Message.{EvictCache, Scheduled, action_bytes};
 ghost use Rattle.decide.specs.RecordGrowth.{announce_action};
-ghost use Rattle.decide.specs.Settled.{settled_actions};
-ghost use Rattle.decide.specs.ActionsAfter.{dispatch_action, evict_actions};
+ghost use Rattle.decide.specs.ActionsAfter.{dispatch_action};
 ghost use Rattle.steps.specs.Views.{shown};
 ghost use Rattle.wire.specs.Encode.Intake.{after, RoomFor};
 
@@ -46,25 +45,14 @@ pub fn schedule_dispatch<S: Sink>(view: &View, out: &mut S)
 }
 
 // `on_evict_cache_timer`: "then schedules itself".
-#[tactic(auto, unfolding(decide::specs::ActionsAfter::evict_actions, block::specs::View::state_of, storage::specs::Lists::Base::concat_map), using(wire::proofs::EncodeLaws::IntakeLaws::after_append, wire::proofs::EncodeLaws::IntakeLaws::after_nil, wire::proofs::EncodeLaws::IntakeLaws::room_after, wire::proofs::EncodeLaws::IntakeLaws::length_both))]
+#[tactic(auto, unfolding(block::specs::View::state_of, storage::specs::Lists::Base::concat_map), using(wire::proofs::EncodeLaws::IntakeLaws::after_append, wire::proofs::EncodeLaws::IntakeLaws::after_nil, wire::proofs::EncodeLaws::IntakeLaws::room_after, wire::proofs::EncodeLaws::IntakeLaws::length_both))]
 pub fn schedule_evict_cache<S: Sink>(view: &View, out: &mut S)
-    requires { RoomFor (concat_map action_bytes (evict_actions (shown view.now))) (S.intake out.old) }
-    ensures { S.intake out.new ≡ after (concat_map action_bytes (evict_actions (shown view.now))) (S.intake out.old) }
+    requires { RoomFor (action_bytes (Scheduled (shown view.now).settings.cache_evict_interval EvictCache)) (S.intake out.old) }
+    ensures { S.intake out.new ≡ after (action_bytes (Scheduled (shown view.now).settings.cache_evict_interval EvictCache)) (S.intake out.old) }
 {
     Schedule {
         delay: view.head.settings.config.cache_evict_interval,
         timer: Timer::EvictCache,
     }
     .encode(out);
-}
-
-// "the first other event evicts and schedules EvictCache before anything else".
-#[tactic(auto, unfolding(decide::specs::Settled::settled_actions, decide::specs::ActionsAfter::evict_actions, block::specs::View::state_of, storage::specs::Lists::Base::concat_map), using(wire::proofs::EncodeLaws::IntakeLaws::after_append, wire::proofs::EncodeLaws::IntakeLaws::after_nil, wire::proofs::EncodeLaws::IntakeLaws::room_after, wire::proofs::EncodeLaws::IntakeLaws::length_both))]
-pub fn first_event_actions<S: Sink>(view: &View, out: &mut S)
-    requires { RoomFor (concat_map action_bytes (settled_actions (shown view.now))) (S.intake out.old) }
-    ensures { S.intake out.new ≡ after (concat_map action_bytes (settled_actions (shown view.now))) (S.intake out.old) }
-{
-    if !view.head.live.init {
-        schedule_evict_cache(view, out);
-    }
 }

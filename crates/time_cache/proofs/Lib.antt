@@ -18,3 +18,5 @@ pub mod ExpireLaws
 pub mod ValueLaws
 pub mod WriteLaws
 pub mod ViewLaws
+pub mod GoneLaws
+pub mod PassedLaws

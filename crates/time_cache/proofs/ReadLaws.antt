@@ -5,6 +5,7 @@ use mathlib.Core.Path.{◌≡◌, refl, sym, ap, ◌∙◌, subst}
 use mathlib.Core.Bool.{true, false}
 use mathlib.Core.List.{List, [], map}
 use Prim.Native.Nat.{ℕ, ◌+◌, ◌-◌, ◌*◌, ◌<◌}
+use native.Mathlib.Nat.{add_assoc}
 use native.Mathlib.Omega.{arith}
 use lib.Dec.{ltb}
 use lib.ListN.{length, take, drop, length-map, length-drop}
@@ -14,7 +15,7 @@ use Rattle.storage.specs.Lists.Map.{Entry, keys, lookup}
 use Rattle.storage.proofs.ListsLaws.MapLaws.{cases}
 use Rattle.storage.proofs.ListsLaws.ListLaws.{length-filter}
 use Rattle.storage.specs.Rows.Part.{part}
-use Rattle.storage.specs.Rows.Digits.{le_nat}
+use Rattle.storage.specs.Rows.Digits.{le_nat, be_nat}
 use Rattle.storage.specs.Rows.Sorted.{Between, Here}
 use Rattle.storage.specs.Refs.Refs.{Ref, ref, places, names, lowered, left}
 use Rattle.storage.proofs.RefsLaws.Places.{get_or-map-in, length-refs, place_in}
@@ -27,7 +28,7 @@ use Rattle.time_cache.proofs.Orders.{below, of-below, up_of}
 use Rattle.time_cache.proofs.MapPlaces.{lookup-here, lookup-between, passes, lookup-filter}
 use Rattle.time_cache.proofs.Cuts.{cut_later}
 use Rattle.time_cache.proofs.TableLaws.{keys-named, entries-left}
-use Rattle.time_cache.proofs.ExpiryLaws.{length-expiry_rows, time-at}
+use Rattle.time_cache.proofs.ExpiryLaws.{length-expiry_rows, time-at, key-at}
 
 part-drop : (a o k : ℕ) (xs : List ℕ) → part o k (drop a xs) ≡ part (a + o) k xs
 unfolding part
@@ -45,6 +46,12 @@ module _ (c : TimeBoundCache) (xs : List ℕ) where
       time-at c.expiry.stride c.expiry.len p (drop c.expiry.at xs) l.expiry_wide h
       ∙ ap le_nat (part-drop c.expiry.at (p * c.expiry.stride) 8 xs)
 
+  -- the identifier in row p
+  pub key-of : Lies c xs → (p : ℕ) → p < c.expiry.len → (row_at (rows_at c xs) p).key ≡ be_nat (part (c.expiry.at + p * c.expiry.stride + 8) 32 xs)
+  key-of l p h =
+      key-at c.expiry.stride c.expiry.len p (drop c.expiry.at xs) l.expiry_wide h
+      ∙ ap be_nat (part-drop c.expiry.at (p * c.expiry.stride + 8) 32 xs ∙ ap (λ (n : ℕ). part n 32 xs) (sym (add_assoc c.expiry.at (p * c.expiry.stride) 8)))
+
   abbrev pub es : List Ref
   es = refs_at c xs
 
@@ -56,6 +63,16 @@ module _ (c : TimeBoundCache) (xs : List ℕ) where
 
   pub length-rs : length rs ≡ c.expiry.len
   length-rs = length-expiry_rows c.expiry.stride c.expiry.len (drop c.expiry.at xs)
+
+  -- as many entries as rows of places
+  pub count-of : length (cache_at c xs).entries ≡ c.entries.len
+  unfolding cache_of
+  count-of = length-map es (entry_of value_bytes rs) ∙ length-es
+
+  -- as many times as rows
+  pub count-times : length (cache_at c xs).expiry ≡ c.expiry.len
+  unfolding cache_of
+  count-times = length-map rs expiry_of ∙ length-rs
 
   keys-are : named rs es ≡ keys (cache_at c xs).entries
   keys-are = sym (keys-named value_bytes es rs)

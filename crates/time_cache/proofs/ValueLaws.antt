@@ -12,7 +12,7 @@ use lib.ListN.{length, get_or, length-map}
 use Rattle.storage.specs.Lists.Map.{Map, Entry, keys, lookup, insert, remove}
 use Rattle.storage.proofs.ListsLaws.MapLaws.{cases, lookup-insert-same}
 use Rattle.storage.proofs.ListsLaws.ListLaws.{filter_map}
-use Rattle.time_cache.specs.TimeCache.{Timed, Expiry, Cache, value_of, get, holds, put as put_in, with_value, replace, expires_at, pop, due, later, pop_all, expire_until, later_cache}
+use Rattle.time_cache.specs.TimeCache.{Timed, Expiry, Cache, value_of, get, holds, put as put_in, with_value, replace, expires_at, pop, due, later, pop_all, expire_until, later_cache, popped, expired_keys}
 use Rattle.time_cache.specs.Tables.{ExpiryRow, expiry_of, ValueBytes, value_bytes, entry_of, cache_of, read_as, values_as}
 use Rattle.storage.specs.Refs.Refs.{Ref}
 
@@ -95,6 +95,19 @@ module _ {A B : Type 0} (f : A → B) where
   pub expire-as : (t : ℕ) (c : Cache A) → values_as f (expire_until t c) ≡ expire_until t (values_as f c)
   unfolding values_as expire_until
   expire-as t c = λ j. record { entries = pop_all-as (due t c.expiry) c.entries j; expiry = later t c.expiry }
+
+  popped-as : (xs : List Expiry) (m : Map (Timed A)) → popped xs (map (read_as f) m) ≡ popped xs m
+  unfolding popped
+  popped-as [] m = refl
+  popped-as (x ∷ xs) m =
+      let e : expires_at x.time (lookup x.key (map (read_as f) m)) ≡ expires_at x.time (lookup x.key m) = ap (expires_at x.time) (lookup-as x.key m) ∙ expires-as x.time (lookup x.key m) in
+      let k : popped xs (pop x (map (read_as f) m)) ≡ popped xs (pop x m) = ap (popped xs) (sym (pop-as x m)) ∙ popped-as xs (pop x m) in
+      rw (e, k) refl
+
+  -- the keys that go are the same
+  pub expired-as : (t : ℕ) (c : Cache A) → expired_keys t (values_as f c) ≡ expired_keys t c
+  unfolding values_as expired_keys
+  expired-as t c = popped-as (due t c.expiry) c.entries
 
   pub later-as : (t : ℕ) (c : Cache A) → values_as f (later_cache t c) ≡ later_cache t (values_as f c)
   unfolding values_as later_cache

@@ -207,6 +207,20 @@ pub const ALL: &[&str] = &[
     "creation 4",
 ];
 
+/// Paths of what an eviction tells as forgotten. The sample is chosen by the others.
+pub const FORGOTTEN: &[&str] = &[
+    "evict tells none",
+    "evict tells one",
+    "evict tells several",
+    "evict tells a key with the first of its two rows of one time",
+    "evict tells in another order than the rows that the entries name",
+    "first event tells one",
+    "first event tells several",
+    "first event tells, and is EvictCache",
+    "first event tells what it caches anew",
+    "14 by what was forgotten alone",
+];
+
 /// Paths with the number of calls that took them, and what made blocks not whole.
 #[derive(Default)]
 pub struct Paths {
@@ -239,7 +253,7 @@ struct Handed {
 
 impl Paths {
     fn hit(&mut self, name: &'static str) {
-        debug_assert!(ALL.contains(&name), "{name}");
+        debug_assert!(ALL.contains(&name) || FORGOTTEN.contains(&name), "{name}");
         *self.hits.entry(name).or_default() += 1;
     }
 
@@ -422,6 +436,7 @@ impl Paths {
             }
         }
         self.hit_if(answer.number == 14 && out + 1 == answer.need, "14 at one byte");
+        self.hit_if(answer.number == 14 && answer.others <= out, "14 by what was forgotten alone");
         let (Some(b), Some(a), Some(seen)) = (before, after, seen) else {
             return;
         };
@@ -443,7 +458,55 @@ impl Paths {
             self.hit_if(b.cache.len() < n.1, "first event evicts cached");
             self.hit_if(b.grafted.len() < n.2, "first event evicts grafted");
         }
+        self.forgotten(before.expect("a state"), a, seen, now, answer, first);
         self.event(&b, a, seen, now, answer, first);
+    }
+
+    /// What was told as forgotten; `b` is the state before the call.
+    fn forgotten(
+        &mut self,
+        b: &Snap,
+        a: &Snap,
+        seen: &Seen,
+        now: u64,
+        answer: &Answer,
+        first: bool,
+    ) {
+        let told = &answer.forgotten;
+        let several = told.len() > 1;
+        if first {
+            self.hit_if(told.len() == 1, "first event tells one");
+            self.hit_if(several, "first event tells several");
+            let evict = matches!(seen, Seen::Evict);
+            self.hit_if(evict && !told.is_empty(), "first event tells, and is EvictCache");
+            let anew = told.iter().any(|id| a.cache.iter().any(|c| c.id == *id));
+            self.hit_if(anew, "first event tells what it caches anew");
+        } else if matches!(seen, Seen::Evict) {
+            self.hit_if(told.is_empty(), "evict tells none");
+            self.hit_if(told.len() == 1, "evict tells one");
+            self.hit_if(several, "evict tells several");
+        }
+        if told.is_empty() {
+            return;
+        }
+        // The rows that are due and have their key's time; the first of a key takes it out, the last is the one that the entry names.
+        let expires: BTreeMap<Id, u64> = b.cache.iter().map(|c| (c.id, c.expires)).collect();
+        let due: Vec<Id> = b
+            .cexp
+            .iter()
+            .filter(|(t, id)| *t <= now && expires.get(id) == Some(t))
+            .map(|e| e.1)
+            .collect();
+        self.hit_if(
+            due.len() > told.len(),
+            "evict tells a key with the first of its two rows of one time",
+        );
+        let last = |i: usize| !due[i + 1..].contains(&due[i]);
+        let by_last: Vec<Id> = (0..due.len()).filter(|i| last(*i)).map(|i| due[i]).collect();
+        self.hit_if(
+            by_last != *told,
+            "evict tells in another order than the rows that the entries name",
+        );
     }
 
     fn event(&mut self, b: &Snap, a: &Snap, seen: &Seen, now: u64, answer: &Answer, first: bool) {
@@ -787,14 +850,15 @@ impl Paths {
         self.hit_if(announced, "broadcast Swarm to announced");
     }
 
+    /// The paths that calls took, without those of what was forgotten.
     pub fn names(&self) -> impl Iterator<Item = &'static str> + '_ {
-        self.hits.keys().copied()
+        self.hits.keys().copied().filter(|n| !FORGOTTEN.contains(n))
     }
 
     /// Every path, with the number of times it was taken.
     fn all(&self) -> Vec<(u64, String)> {
         let n = |m: &BTreeMap<&'static str, u64>, k: &str| m.get(k).copied().unwrap_or(0);
-        let calls = ALL.iter().map(|k| (n(&self.hits, k), k.to_string()));
+        let calls = ALL.iter().chain(FORGOTTEN).map(|k| (n(&self.hits, k), k.to_string()));
         let faults = block::FAULTS.iter().map(|k| (n(&self.faults, k), format!("not whole: {k}")));
         let alike = likeness::ABOUT.iter().map(|k| (n(&self.faults, k), k.to_string()));
         let rewritten = rewriting::ABOUT.iter().map(|k| (n(&self.faults, k), k.to_string()));

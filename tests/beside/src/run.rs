@@ -1,5 +1,10 @@
 //! Runs commands on both, the Rust and the library, and compares after each.
-use oracle::{snap::Snap, Answer, Limits, Panel};
+use std::collections::BTreeSet;
+
+use oracle::{
+    snap::{Id, Snap},
+    Answer, Limits, Panel, Seen, FORGOTTEN,
+};
 
 use crate::{
     block, library,
@@ -9,6 +14,7 @@ use crate::{
     script::Cmd,
     second::{self, First, Seconds},
     states::{Asked, Keeper},
+    wire,
 };
 
 /// Bytes kept around everything that is lent.
@@ -55,6 +61,7 @@ impl Lent {
 /// What an event call was, for the summary of paths.
 pub struct Call {
     pub before: Option<Snap>,
+    /// With the identifiers that the library told in actions 4.
     pub answer: Answer,
 }
 
@@ -427,7 +434,8 @@ impl Pair {
         let block = self.block.part_mut();
         let a = library::event(block, &mut counts, now, event, rooms, self.out.part_mut());
         same("answer", u64::from(answer.number), a.number)?;
-        same("length", answer.actions.len() as u64, a.length)?;
+        let n = answer.actions.len() + FORGOTTEN * answer.forgotten.len();
+        same("length", n as u64, a.length)?;
         if let Some(s) = before.as_ref().filter(|s| within(s)) {
             let enough = library::output_size(limits.max, s.m);
             holds(a.length <= enough, "more actions than output_size")?;
@@ -436,13 +444,9 @@ impl Pair {
         holds(a.kept, "wrote outside of the counts")?;
         holds(self.block.pads_kept(), "wrote outside of the block")?;
         holds(self.out.pads_kept(), "wrote outside of the output")?;
-        let out = self.out.part();
-        let n = answer.actions.len();
-        if out[..n] != answer.actions[..] {
-            let (a, b) = (hex::encode(&answer.actions), hex::encode(&out[..n]));
-            return Err(format!("actions:\n  the Rust    {a}\n  the library {b}"));
-        }
-        holds(all_are(&out[n..], PATTERN), "wrote beyond the length")?;
+        let (actions, rest) = self.out.part().split_at(n);
+        compare_actions(&answer, actions)?;
+        holds(all_are(rest, PATTERN), "wrote beyond the length")?;
         if answer.number != 0 {
             same("counts of a refused call", self.counts, counts)?;
             holds(self.block.part() == self.before, "a refused call changed the block")?;
@@ -452,14 +456,23 @@ impl Pair {
             let need = block::need(&limits.max);
             holds(self.block.part()[need..] == self.before[need..], "wrote past the need")?;
             self.settle()?;
+            let (before, after) = (before.as_ref(), self.snap.as_ref());
+            let (before, after) = before.zip(after).ok_or("an accepted call upon a block that is not whole")?;
+            let anew = match self.panel().see(event) {
+                Some(Seen::Gossip { id, .. }) => Some(id),
+                Some(Seen::Broadcast { content, .. }) => Some(oracle::identifier(&content)),
+                _ => None,
+            };
+            held_against_the_cache(&answer.forgotten, before, after, anew)?;
         }
         if self.saved.is_none() {
             let (block, number) = (self.block.part(), answer.number.into());
-            let first = First { block, counts: self.counts, number, actions: &answer.actions };
+            let actions = &self.out.part()[..n];
+            let first = First { block, counts: self.counts, number, actions };
             let asked = second::Asked { now, rooms, event, out: limits.out };
             self.seconds.event(first, asked)?;
         }
-        self.keeper.event(answer.number == 0);
+        self.keeper.event(answer.number == 0, &answer.forgotten);
         Ok(Call { before, answer })
     }
 
@@ -482,15 +495,50 @@ impl Pair {
     }
 }
 
+/// The library's actions: with the actions 4 struck out they are the Rust's, and those are its evictions' identifiers in their order, before its schedule.
+fn compare_actions(answer: &Answer, actions: &[u8]) -> Same<()> {
+    let hex = |bytes: &[u8]| hex::encode(bytes);
+    let Some(struck) = wire::struck(actions) else {
+        return Err(format!("no actions:\n  the library {}", hex(actions)));
+    };
+    if struck.others != answer.actions {
+        let (a, b) = (hex(&answer.actions), hex(&struck.others));
+        return Err(format!("actions:\n  the Rust    {a}\n  the library {b}"));
+    }
+    if struck.forgotten != answer.forgotten {
+        let [a, b] = [&answer.forgotten, &struck.forgotten].map(|v| hex(&v.concat()));
+        return Err(format!("forgotten:\n  the Rust    {a}\n  the library {b}"));
+    }
+    holds(struck.first, "forgotten, told behind another action")
+}
+
+/// What was told is what left the Rust's message cache, each once. `anew` may be cached again by the same call.
+fn held_against_the_cache(
+    forgotten: &[Id],
+    before: &Snap,
+    after: &Snap,
+    anew: Option<Id>,
+) -> Same<()> {
+    let keys = |s: &Snap| s.cache.iter().map(|c| c.id).collect::<BTreeSet<Id>>();
+    let (before, after) = (keys(before), keys(after));
+    let told: BTreeSet<Id> = forgotten.iter().copied().collect();
+    holds(told.len() == forgotten.len(), "forgotten, told twice")?;
+    holds(told.is_subset(&before), "forgotten, and not cached before")?;
+    let left: BTreeSet<Id> = before.difference(&after).copied().collect();
+    holds(left.is_subset(&told), "left the message cache and not told")?;
+    let again = told.difference(&left).all(|id| anew == Some(*id));
+    holds(again, "forgotten, and still cached")
+}
+
 /// The first limit of those that the Rust's sizes are over, from 1; 0 if there is none. The numbers of expiry entries, bits 9 to 11, count to their caches.
 fn first_limit(over: u16) -> u64 {
     const BITS: [u16; 9] = [1, 1 << 1 | 1 << 9, 1 << 2 | 1 << 10, 1 << 3, 1 << 4 | 1 << 11, 1 << 5, 1 << 6, 1 << 7, 1 << 8];
     BITS.iter().position(|b| over & b != 0).map_or(0, |i| i as u64 + 1)
 }
 
-/// Whether each cached message came as one of at most M bytes, as in every state that calls lead to from a creation.
+/// Whether each cached message came as one of at most M bytes, and nothing is cached before the first event, as in every state that calls lead to from a creation.
 fn within(s: &Snap) -> bool {
-    s.cache.iter().all(|c| c.content.len() as u64 + 37 <= s.m)
+    (s.init || s.cache.is_empty()) && s.cache.iter().all(|c| c.content.len() as u64 + 37 <= s.m)
 }
 
 /// Grafted peers of an identifier are a map, the block has them ascending.

@@ -116,8 +116,9 @@ fn records(list: &[Cmd]) -> Vec<u8> {
                 o.extend(event);
                 low(&mut o, limits.out as u64, 4);
                 o.push(a.number);
-                low(&mut o, a.actions.len() as u64, 4);
-                o.extend(&a.actions);
+                let actions = a.told();
+                low(&mut o, actions.len() as u64, 4);
+                o.extend(&actions);
                 panel.counts().iter().for_each(|x| low(&mut o, *x, 8));
                 if a.number == 0 {
                     accepted += 1;

@@ -49,9 +49,12 @@ pub const ABOUT: &[&str] = &[
     "second: a longer record, interleaved otherwise",
     "second: down, notes interleaved otherwise",
     "second: in a longer block",
+    "second: forgotten, one",
+    "second: forgotten, several",
     "in another order, told apart by chosen calls: queue",
     "in another order, told apart by chosen calls: record",
     "in another order, told apart by chosen calls: announcers",
+    "in another order, told apart by chosen calls: cached rows",
 ];
 
 /// The paths of `BY_CALLS`.
@@ -214,6 +217,11 @@ impl Seconds {
         for (yes, why) in same {
             holds(yes, why)?;
         }
+        match wire::struck(actions).map_or(0, |s| s.forgotten.len()) {
+            0 => {}
+            1 => self.about.push("second: forgotten, one"),
+            _ => self.about.push("second: forgotten, several"),
+        }
         let told = asked_both_ways(first.block, s.block.part())?;
         holds(told.alike, "second panel: no longer alike")?;
         let [was, is] = [&before[..], s.block.part()].map(block::interleaved);
@@ -247,31 +255,43 @@ fn lent(block: &[u8]) -> Lent {
     l
 }
 
-/// The answer, the actions and the counts of a call at time 0 with room on every link.
-fn answered(block: &mut [u8], counts: &mut [u64; 3], event: &[u8]) -> (u64, Vec<u8>, [u64; 3]) {
+/// The answer, the actions and the counts of a call with room on every link.
+fn answered(
+    block: &mut [u8],
+    counts: &mut [u64; 3],
+    now: u64,
+    event: &[u8],
+) -> (u64, Vec<u8>, [u64; 3]) {
     let mut out = vec![0; 1 << 21];
-    let a = library::event(block, counts, 0, event, &[], &mut out);
+    let a = library::event(block, counts, now, event, &[], &mut out);
     out.truncate(a.length as usize);
     (a.number, out, *counts)
 }
 
-/// Whether chosen calls tell two panels apart: dispatches of what is queued, ticks that bring what is recorded, Grafts to announcers that stand in another order.
+/// Whether chosen calls tell two panels apart: dispatches of what is queued, ticks that bring what is recorded, Grafts to announcers that stand in another order, an
+/// eviction of all that is cached.
 fn told_apart(a: &[u8], b: &[u8]) -> bool {
     let (Ok(x), Ok(y)) = (block::read(a), block::read(b)) else {
         return false;
     };
     let mut events = Vec::new();
     if (&x.queue, &x.dropped) != (&y.queue, &y.dropped) {
-        let ticks = [wire::DISPATCH, wire::ANNOUNCE].map(|e| e.to_vec());
+        let ticks = [wire::DISPATCH, wire::ANNOUNCE].map(|e| (0, e.to_vec()));
         events.extend(std::iter::repeat_n(ticks, 5).flatten());
     }
     for (m, n) in x.missing.iter().zip(&y.missing).filter(|e| e.0 != e.1) {
         assert_eq!(m.0, n.0);
-        events.extend(std::iter::repeat_n(wire::send_graft(&m.0), m.1.len()));
+        events.extend(std::iter::repeat_n((0, wire::send_graft(&m.0)), m.1.len()));
+    }
+    if x.cexp != y.cexp {
+        events.push((1 << 62, wire::EVICT.to_vec()));
     }
     let (mut a, mut b) = (a.to_vec(), b.to_vec());
     let (mut m, mut n) = ([0; 3], [0; 3]);
-    events.iter().any(|e| answered(&mut a, &mut m, e) != answered(&mut b, &mut n, e))
+    let mut differ = |(now, e): &(u64, Vec<u8>)| {
+        answered(&mut a, &mut m, *now, e) != answered(&mut b, &mut n, *now, e)
+    };
+    events.iter().any(&mut differ)
 }
 
 /// The paths of a call that both panels went through. `mixed` tells whether their queues and records were interleaved otherwise before it; `notes` are the link numbers before

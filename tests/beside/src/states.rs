@@ -1,7 +1,10 @@
 //! Named states beside the Rust: an area, what was saved into it with a copy of the Rust's panel for each state, and a plain model of question 17.
-use std::rc::Rc;
+use std::{
+    collections::{BTreeMap, BTreeSet},
+    rc::Rc,
+};
 
-use oracle::Panel;
+use oracle::{snap::Id, Panel};
 
 use crate::{
     block, library,
@@ -77,6 +80,8 @@ pub const ABOUT: &[&str] = &[
     "return: 17 before 15",
     "return: an event accepted behind it",
     "return: an event refused behind it",
+    "return: what came back leaves the message cache",
+    "return: what came back leaves the message cache, which it had left before",
 ];
 
 fn le(b: &[u8], at: usize, k: usize) -> u64 {
@@ -177,6 +182,10 @@ pub struct Keeper {
     /// The area before it was damaged.
     undamaged: Option<(Vec<u8>, Vec<Kept>, usize)>,
     last: Option<u64>,
+    /// The identifiers that were told as forgotten.
+    told: BTreeSet<Id>,
+    /// Those that the state returned to has cached; whether they had been told before the return.
+    back: BTreeMap<Id, bool>,
     pub about: Vec<&'static str>,
     pub calls: u64,
 }
@@ -189,6 +198,8 @@ impl Default for Keeper {
             n: 0,
             undamaged: None,
             last: None,
+            told: BTreeSet::new(),
+            back: BTreeMap::new(),
             about: Vec::new(),
             calls: 0,
         }
@@ -462,6 +473,8 @@ impl Keeper {
         self.returned(&kept, &before, asked.counts, name);
         let mut panel = kept.panel.copy();
         panel.set_counts(counts);
+        let cached = panel.snap().cache.into_iter();
+        self.back = cached.map(|c| (c.id, self.told.contains(&c.id))).collect();
         Ok(Some(Back { panel, counts }))
     }
 
@@ -491,8 +504,17 @@ impl Keeper {
         self.last = Some(name);
     }
 
-    /// An event call behind a return.
-    pub fn event(&mut self, accepted: bool) {
+    /// An event call, and what it told as forgotten.
+    pub fn event(&mut self, accepted: bool, forgotten: &[Id]) {
+        let back: Vec<bool> = forgotten.iter().filter_map(|id| self.back.remove(id)).collect();
+        if !back.is_empty() {
+            self.about.push("return: what came back leaves the message cache");
+        }
+        if back.contains(&true) {
+            self.about
+                .push("return: what came back leaves the message cache, which it had left before");
+        }
+        self.told.extend(forgotten);
         if self.last.take().is_some() {
             self.about.push(if accepted {
                 "return: an event accepted behind it"

@@ -128,6 +128,7 @@ pub enum Action {
     Send { peer: u64, back: bool, message: Message },
     Schedule(Timer),
     Emit,
+    Forgotten(Id),
 }
 
 /// A number by where it stands, a byte too. Those of a message may be padded, but for the byte before
@@ -140,6 +141,7 @@ pub enum Field {
     BroadcastByte,
     TimerKind,
     /// In actions only.
+    ActionKind,
     Delay,
     MessageKind,
     DeliveryKind,
@@ -171,6 +173,7 @@ impl Field {
             Field::BroadcastLength => "broadcast length",
             Field::BroadcastByte => "broadcast byte",
             Field::TimerKind => "timer kind",
+            Field::ActionKind => "action kind",
             Field::Delay => "delay",
             Field::MessageKind => "message kind",
             Field::DeliveryKind => "delivery kind",
@@ -186,7 +189,7 @@ impl Field {
     /// The greatest length in bytes, and the largest last byte of a number of that length.
     pub fn longest(self) -> (usize, u8) {
         match self {
-            Field::EventKind => (1, 4),
+            Field::EventKind | Field::ActionKind => (1, 4),
             Field::TimerKind => (1, 3),
             Field::Peer | Field::Delay | Field::BroadcastLength => (10, 1),
             Field::Length | Field::Count => (10, 1),
@@ -352,7 +355,7 @@ impl<'a> Reader<'a> {
         })
     }
     fn action(&mut self) -> Got<Action> {
-        Ok(match self.byte()? {
+        Ok(match self.number(Field::ActionKind)? {
             1 => Action::Send {
                 peer: self.number(Field::Peer)?,
                 back: self.byte()? == 1,
@@ -368,7 +371,8 @@ impl<'a> Reader<'a> {
                 self.delivery()?;
                 Action::Emit
             }
-            _ => panic!("an action's kind"),
+            4 => Action::Forgotten(self.id()?),
+            _ => return Err(Stop::Unknown(Field::ActionKind, 1)),
         })
     }
     fn event(&mut self) -> Got<()> {
@@ -400,6 +404,34 @@ pub fn actions(bytes: &[u8]) -> Vec<Action> {
         v.push(r.action().expect("an action"));
     }
     v
+}
+
+/// What the library wrote, with the actions 4 struck out.
+#[derive(Default)]
+pub struct Struck {
+    /// The bytes of the other actions.
+    pub others: Vec<u8>,
+    /// The identifiers of those that are struck, in order.
+    pub forgotten: Vec<Id>,
+    /// Whether none of the others stands before them: an eviction's schedule is the first.
+    pub first: bool,
+}
+
+/// None where the bytes are not actions.
+pub fn struck(bytes: &[u8]) -> Option<Struck> {
+    let mut r = Reader::new(bytes);
+    let mut s = Struck { first: true, ..Struck::default() };
+    while r.at < bytes.len() {
+        let at = r.at;
+        match r.action().ok()? {
+            Action::Forgotten(id) => {
+                s.first &= s.others.is_empty();
+                s.forgotten.push(id);
+            }
+            _ => s.others.extend(&bytes[at..r.at]),
+        }
+    }
+    Some(s)
 }
 
 /// The bytes of the messages that the actions send.

@@ -165,14 +165,33 @@ impl Limits {
     }
 }
 
-/// What an event call answers: the number, the actions (none if refused), and what stands behind
-/// a 13 or 14: the sizes over their limits, the bytes that the actions need.
+/// What an event call answers: the number, the Rust's actions (none if refused), the identifiers that its evictions removed from the message
+/// cache in order, which actions 4 tell (none if refused), and what stands behind a 13 or 14: the sizes over their limits, the bytes that all
+/// these actions need, and that those but the actions 4 need.
 #[derive(Clone, Debug, Default, PartialEq, Eq)]
 pub struct Answer {
     pub number: u8,
     pub actions: Vec<u8>,
+    pub forgotten: Vec<snap::Id>,
     pub over: u16,
     pub need: usize,
+    pub others: usize,
+}
+
+/// An action 4 has so many bytes.
+pub const FORGOTTEN: usize = 33;
+
+impl Answer {
+    /// All action bytes: an eviction's actions 4 stand before its schedule, and nothing stands before either.
+    pub fn told(&self) -> Vec<u8> {
+        let mut out = Vec::new();
+        for id in &self.forgotten {
+            out.push(4);
+            out.extend(id);
+        }
+        out.extend(&self.actions);
+        out
+    }
 }
 
 fn refused(number: u8) -> Answer {
@@ -209,14 +228,19 @@ fn call(
         }
     }
     let saved = limits.map(|_| oracle::clone(slot));
+    let forgotten = match &ev {
+        Ev::In(e) => oracle::forgotten(slot, Instant(now), e),
+        Ev::Up(_) | Ev::Down(_) => Vec::new(),
+    };
     let mut io = Io { rooms, sent: Vec::new(), out: Vec::new() };
     handle(slot, ev, now, &mut io);
-    let mut answer = Answer { need: io.out.len(), ..Answer::default() };
+    let need = FORGOTTEN * forgotten.len() + io.out.len();
+    let mut answer = Answer { need, others: io.out.len(), ..Answer::default() };
     if let (Some(l), Some(saved)) = (limits, saved) {
         answer.over = l.over(slot);
         if answer.over != 0 {
             answer.number = 13;
-        } else if io.out.len() > l.out {
+        } else if need > l.out {
             answer.number = 14;
         }
         if answer.number != 0 {
@@ -224,7 +248,7 @@ fn call(
             return answer;
         }
     }
-    answer.actions = io.out;
+    (answer.actions, answer.forgotten) = (io.out, forgotten);
     answer
 }
 
@@ -383,9 +407,10 @@ fn panel(bytes: &[u8]) -> Vec<u8> {
             break;
         };
         let answer = call(&mut state, Some(&limits), now, &[], event);
+        let actions = answer.told();
         out.push(answer.number);
-        put_number(&mut out, answer.actions.len() as u64);
-        out.extend(answer.actions);
+        put_number(&mut out, actions.len() as u64);
+        out.extend(actions);
     }
     out
 }

@@ -1,13 +1,15 @@
 -- The message cache: its tables as the view reads them.
 -- Assumes nothing.
-use mathlib.Core.Path.{◌≡◌, sym, subst}
+use mathlib.Core.Path.{◌≡◌, sym, ap, ◌∙◌, subst}
 use mathlib.Core.List.{List}
-use Prim.Native.Nat.{ℕ}
+use Prim.Native.Nat.{ℕ, ◌≤◌}
 use native.Mathlib.Omega.{arith}
 use lib.Dec.{lit<}
 use lib.ListN.{length}
+use Rattle.time_cache.specs.TimeCache.{expired_keys}
 use Rattle.time_cache.specs.Tables.{cache_at, Lies, FitsOneMore, Sound as SoundCache, values_as}
 use Rattle.time_cache.specs.declared.cache.TimeBoundCache.{TimeBoundCache}
+use Rattle.time_cache.proofs.ValueLaws.{expired-as}
 use Rattle.protocol.specs.State.{Limits}
 use Rattle.block.specs.Layout.{table}
 use Rattle.block.specs.View.{state_of, limits_of, cached_in, cached_of}
@@ -38,6 +40,13 @@ module _ (h : Head) (xs : List ℕ) (fit : Fit h xs) where
   cached-as : values_as (as_value (cached_of (table (limits_of h.limits) 6 xs))) (cache_at (cached_cache h) xs) ≡ (state_of h xs).cache
   unfolding state_of cached_in
   cached-as = cache-in l 4 4 n 5 48 m xs (lit< tt) (omega arith) (lit< tt) (omega arith) (cached_of (table (limits_of h.limits) 6 xs))
+
+  -- what an eviction removes
+  pub cached-expired : (t : ℕ) → expired_keys t (cache_at (cached_cache h) xs) ≡ expired_keys t (state_of h xs).cache
+  cached-expired t = sym (expired-as (as_value (cached_of (table (limits_of h.limits) 6 xs))) t (cache_at (cached_cache h) xs)) ∙ ap (expired_keys t) cached-as
+
+  pub cached-few : ((cached_cache h).entries.len ≤ 512) × ((cached_cache h).expiry.len ≤ 1024)
+  cached-few = (omega arith, omega arith)
 
   pub count-cached : length (state_of h xs).cache.entries ≡ n
   unfolding state_of cached_in

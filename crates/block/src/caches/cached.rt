@@ -1,15 +1,21 @@
 // `cache`, the message cache: an entry is a place and a round; a row is a time, an identifier, and start and length of the content.
-ghost use Rattle.std.specs.Prelude.{◌≡◌, ◌<◌};
+ghost use Rattle.std.specs.Prelude.{◌≡◌, ◌<◌, All, map};
+ghost use Rattle.storage.specs.Rows.Ident.{id_of};
+ghost use Rattle.time_cache.specs.TimeCache.{expired_keys};
 ghost use Rattle.block.specs.View.{state_of};
 ghost use Rattle.block.specs.Sound.{Sound};
-ghost use Rattle.block.specs.Caches.CachedReads.{ContentIs, cached_at};
+ghost use Rattle.block.specs.Caches.CachedReads.{ContentIs, cached_at, row_id};
+ghost use Rattle.block.specs.Caches.InBlock.{InOrder};
 
 use crate::head;
 use crate::head::Head;
 use crate::time_caches::PanelCache;
-use postcard::units::Round;
+use arrayvec::ArrayVec;
+use postcard::units::{Millis, Round};
+use storage::rows::id::Id;
 use storage::rows::word;
 use time_cache::cache::{Table, TimeBoundCache};
+use time_cache::gone::MAX_ENTRIES;
 
 // How many bytes an entry has, and where its round stands.
 pub const ENTRY_WIDTH: usize = 4;
@@ -80,4 +86,21 @@ pub fn cached_round(head: Head, block: &[u8], i: usize) -> Round
 {
     let at = head::cached_at(head.limits) + ENTRY_WIDTH * i;
     Round(word::load2(block, at + ROUND) as u16)
+}
+
+// The rows whose identifiers `expire_until` removes at an instant, "in order of removal". Its time is that of a look-up for each row that is due.
+pub fn forgotten_rows(head: Head, block: &[u8], instant: Millis) -> ArrayVec<u16, MAX_ENTRIES>
+    requires { Sound head block.now × InOrder (state_of head block.now).cache }
+    ensures keys { map (row_id head block.now) result.items ≡ expired_keys instant.0 (state_of head block.now).cache }
+    ensures rows { All (λ r. r < head.live.cached_rows) result.items }
+{
+    MessageCache::table(head).expired_rows(block, instant)
+}
+
+// The identifier of a row.
+pub fn row_id(head: Head, block: &[u8], row: usize) -> Id
+    requires { Sound head block.now × (row < head.live.cached_rows) }
+    ensures { id_of result ≡ row_id head block.now row }
+{
+    MessageCache::table(head).key_at(block, row)
 }

@@ -23,19 +23,22 @@ use Rattle.block.specs.Sound.{Sound, held}
 use Rattle.block.specs.declared.head.Head.{Head}
 use Rattle.block.proofs.LinkLaws.{count-links}
 use Rattle.block.proofs.NoteLaws.{count-queue}
+use Rattle.block.proofs.CachesLaws.CachedLaws.{count-cached-rows}
 use Rattle.machine.proofs.BoundsLaws.Light.{sum-filter}
 
--- of links, queue and contents
+-- of links, queue, contents, and the expiry entries of the message cache
 pub record Small (s : State) : Type 0 where
   pub links : length s.links ≤ 32
   pub queue : length s.queue ≤ 8192
   pub cached : held s.cache.entries ≤ 1048576
+  pub rows : length s.cache.expiry ≤ 1024
 
 pub small-block : (h : Head) (block : List ℕ) → Sound h block → Small (state_of h block)
 small-block h block sound = record {
   links = omega (arith, count-links h block, sound.fit.within.links, sound.fit.ceilings.N);
   queue = omega (arith, count-queue h block sound, sound.fit.within.queued, sound.fit.ceilings.Q);
   cached = omega (arith, used, sound.fit.within.contents, sound.fit.ceilings.B);
+  rows = omega (arith, count-cached-rows h block sound.fit, sound.fit.within.cached_rows, sound.fit.ceilings.C);
 }
   where
     used : held (state_of h block).cache.entries ≡ h.live.contents
@@ -51,6 +54,7 @@ small-settled now s small = by s.init
       links = small.links;
       queue = small.queue;
       cached = omega (arith, small.cached, sum-filter (λ e. length e.value.value.content) (λ e. ltb now e.value.expires) s.cache.entries);
+      rows = omega (arith, small.rows, length-filter (λ x. ltb now x.time) s.cache.expiry, count-length (λ x. ltb now x.time) s.cache.expiry);
     }
 
 -- a cached content is one of the contents

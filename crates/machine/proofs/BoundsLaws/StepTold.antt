@@ -28,34 +28,34 @@ use Rattle.machine.proofs.BoundsLaws.DispatchLight.{dispatch-light}
 use Rattle.machine.proofs.BoundsLaws.StepsLight.{settled-light, evict-light, announce-light, graft-light, send-graft-light, ihave-light, broadcast-light, late-light, new-light, emit-light}
 
 -- the actions of each step; what it names is there in the state `t` before the call, and `s` is the state that a first event leaves
-step-light : (rooms : List Room) (t : State) (r : Step) (s : State) → Small s → StepHeld t r → Light 7314866176 (step_actions rooms r s)
+step-light : (rooms : List Room) (now : ℕ) (t : State) (r : Step) (s : State) → Small s → StepHeld t r → Light 7314866176 (step_actions rooms now r s)
 unfolding step_actions
-step-light rooms t step.Nothing s small held = light-none
-step-light rooms t (step.NewSwarm m) s small held =
+step-light rooms now t step.Nothing s small held = light-none
+step-light rooms now t (step.NewSwarm m) s small held =
     light-more (new-light rooms m.sender (id_of m.id) m.content.now m.round.0 s small held.short) (omega arith)
-step-light rooms t (step.NewNeighbors sender content) s small held =
+step-light rooms now t (step.NewNeighbors sender content) s small held =
     light-more (emit-light sender content.now Neighbors held.short) (omega arith)
-step-light rooms t (step.Late copy) s small held =
+step-light rooms now t (step.Late copy) s small held =
     light-more (late-light rooms copy.sender (copy_kind copy s)) (omega arith)
-step-light rooms t (step.Prune link) s small held = light-none
-step-light rooms t (step.Graft link w) s small held = light-more (graft-light rooms (peer_at s link) (wanted_value w) s small) (omega arith)
-step-light rooms t (step.IHave link ihaves) s small held =
+step-light rooms now t (step.Prune link) s small held = light-none
+step-light rooms now t (step.Graft link w) s small held = light-more (graft-light rooms (peer_at s link) (wanted_value w) s small) (omega arith)
+step-light rooms now t (step.IHave link ihaves) s small held =
     light-more (ihave-light (ihaves_value ihaves) s (omega (arith, announced_count ihaves.count ihaves.bytes.now ihaves.there, held.few))) (omega arith)
-step-light rooms t (step.BroadcastSwarm id content) s small held =
+step-light rooms now t (step.BroadcastSwarm id content) s small held =
     light-more (broadcast-light rooms (id_of id) content.now to_swarm s small held.short) (omega arith)
-step-light rooms t (step.BroadcastNeighbors id content) s small held =
+step-light rooms now t (step.BroadcastNeighbors id content) s small held =
     light-more (broadcast-light rooms (id_of id) content.now to_neighbors s small held.short) (omega arith)
-step-light rooms t (step.SendGraft id) s small held = light-more (send-graft-light rooms (id_of id) s) (omega arith)
-step-light rooms t step.DispatchLazyPush s small held = dispatch-light rooms s small
-step-light rooms t step.EvictCache s small held = light-more (evict-light s) (omega arith)
-step-light rooms t step.AnnounceDropped s small held = light-more (announce-light s) (omega arith)
+step-light rooms now t (step.SendGraft id) s small held = light-more (send-graft-light rooms (id_of id) s) (omega arith)
+step-light rooms now t step.DispatchLazyPush s small held = dispatch-light rooms s small
+step-light rooms now t step.EvictCache s small held = light-more (evict-light now s small) (omega arith)
+step-light rooms now t step.AnnounceDropped s small held = light-more (announce-light s) (omega arith)
 
 module _ (h : Head) (block : List ℕ) (rooms : List Room) (now : ℕ) (r : Step) (stands : Stands h block) (held : StepHeld (state_of h block) r) where
   -- the length of the output
-  pub step-length : length (concat_map action_bytes (settled_actions (state_of h block) ++ step_actions rooms r (settled now (state_of h block)))) ≤ 2 ^ 40
+  pub step-length : length (concat_map action_bytes (settled_actions now (state_of h block) ++ step_actions rooms now r (settled now (state_of h block)))) ≤ 2 ^ 40
   step-length =
       let s : State = state_of h block in
       let small : Small (settled now s) = small-settled now s (small-block h block stands.sound) in
-      let both : Light (44 + 7314866176) (settled_actions s ++ step_actions rooms r (settled now s)) =
-      light-then (settled-light s) (step-light rooms s r (settled now s) small held) in
-      omega (arith, length-actions (settled_actions s ++ step_actions rooms r (settled now s)), both.most)
+      let both : Light (33836 + 7314866176) (settled_actions now s ++ step_actions rooms now r (settled now s)) =
+      light-then (settled-light now s (small-block h block stands.sound)) (step-light rooms now s r (settled now s) small held) in
+      omega (arith, length-actions (settled_actions now s ++ step_actions rooms now r (settled now s)), both.most)

@@ -10,8 +10,8 @@ use Rattle.std.specs.Prelude.{if◌then◌else◌, Option, Some, None}
 use Rattle.storage.specs.Lists.Base.{is_empty, member}
 use Rattle.storage.specs.Lists.Map.{keys}
 use Rattle.storage.proofs.ListsLaws.MapLaws.{cases}
-use Rattle.time_cache.specs.TimeCache.{get, holds}
-use Rattle.postcard.specs.Message.{Delivery, Swarm, Neighbors, Scope, to_swarm, to_neighbors, Ihave, Gossip, SendGraft, DispatchLazyPush, EvictCache, AnnounceDropped, Scheduled, Emitted}
+use Rattle.time_cache.specs.TimeCache.{get, holds, expired_keys}
+use Rattle.postcard.specs.Message.{Delivery, Swarm, Neighbors, Scope, to_swarm, to_neighbors, Ihave, Gossip, SendGraft, DispatchLazyPush, EvictCache, AnnounceDropped, Scheduled, Emitted, Forgotten}
 use Rattle.protocol.specs.Links.{is_neighbour, eager_in}
 use Rattle.protocol.specs.State.{State, Hop, Cached}
 use Rattle.protocol.specs.Run.{Room}
@@ -20,7 +20,9 @@ use Rattle.protocol.specs.Gossips.{announcers, grafted_for, graft_out, least_fro
 use Rattle.protocol.specs.Ticks.{oldest, younger, still_cached}
 use Rattle.decide.specs.Rooms.{kth_taken, first_send, back_peers}
 use Rattle.decide.specs.RecordGrowth.{announce_action, push_actions}
-use Rattle.decide.specs.Settled.{settled_actions}
+use Rattle.decide.specs.Settled.{forgotten_actions, settled_actions}
+use Rattle.decide.specs.Lengths.{action_length}
+use Rattle.time_cache.proofs.GoneLaws.{expired-few}
 use Rattle.decide.specs.NewIds.{new_ids, known_timer}
 use Rattle.decide.proofs.SizesAfter.{content_length}
 use Rattle.decide.specs.ActionsAfter.{evict_actions, dispatch_action, announce_actions, reply_actions, graft_actions, ask_actions, send_graft_actions, ihave_actions, broadcast_actions, late_actions, optimise_actions, new_actions}
@@ -28,13 +30,18 @@ use Rattle.machine.proofs.BoundsLaws.Light.{Light, light-none, light-more, light
 use Rattle.machine.proofs.BoundsLaws.ActionLengths.{scheduled-few, emitted-few, gossip-few, prune-few, graft-few}
 use Rattle.machine.proofs.BoundsLaws.Small.{Small, cached-few, targets-few}
 
-pub settled-light : (s : State) → Light 44 (settled_actions s)
-unfolding settled_actions
-settled-light s = light-if s.init light-none (light-one (scheduled-few s.settings.cache_evict_interval EvictCache))
+-- an action 4 for each of at most 1,024 expiry entries
+told-light : (now : ℕ) (s : State) → Small s → Light 33792 (forgotten_actions now s)
+unfolding forgotten_actions action_length
+told-light now s small = light-more (light-each (λ id. Forgotten id) 33 (λ id. omega arith) (expired_keys now s.cache)) (omega (arith, expired-few now s.cache, small.rows))
 
-pub evict-light : (s : State) → Light 44 (evict_actions s)
+pub evict-light : (now : ℕ) (s : State) → Small s → Light 33836 (evict_actions now s)
 unfolding evict_actions
-evict-light s = light-one (scheduled-few s.settings.cache_evict_interval EvictCache)
+evict-light now s small = light-then (told-light now s small) (light-one (scheduled-few s.settings.cache_evict_interval EvictCache))
+
+pub settled-light : (now : ℕ) (s : State) → Small s → Light 33836 (settled_actions now s)
+unfolding settled_actions
+settled-light now s small = light-if s.init light-none (light-then (told-light now s small) (light-one (scheduled-few s.settings.cache_evict_interval EvictCache)))
 
 timer-light : (s : State) → Light 44 (dispatch_action s)
 unfolding dispatch_action

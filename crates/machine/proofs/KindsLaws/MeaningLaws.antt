@@ -45,7 +45,7 @@ use Rattle.decide.specs.StateAfter.{first_state, broadcast_state, timer_state, g
 use Rattle.decide.proofs.SettledLaws.{evicted, settled-received}
 use Rattle.announcements.specs.Ihaves.New.{is_received}
 use Rattle.announcements.proofs.IhavesLaws.ReceivedLaws.{received-actions, received-state}
-use Rattle.machine.specs.Kinds.Counted.{message_counts, counts_after_call}
+use Rattle.decide.specs.Counted.{message_counts, counts_after_call}
 use Rattle.machine.specs.Kinds.Meaning.{step_actions, step_state, step_far, step_counts, counted_for, ContentHeld, ListHeld, StepHeld, SenderIs, Means}
 use Rattle.machine.specs.declared.kinds.Step.{Step}
 use Rattle.machine.specs.declared.kinds.Step.TheVariants as step
@@ -70,7 +70,7 @@ copied sender i d = step.Late (record { sender = sender; id = i; delivery = d })
 
 -- what a message does, of the state that a first event leaves
 record Does (now : ℕ) (t : State) (r : Step) (sender : ℕ) (m : Message) : Type 0 where
-  actions : (rooms : List Room) → message_actions identifier rooms sender m t ≡ step_actions rooms r t
+  actions : (rooms : List Room) → message_actions identifier rooms sender m t ≡ step_actions rooms now r t
   state : (rooms : List Room) → message_state identifier rooms now sender m t ≡ step_state rooms now r t
   counts : (c : Counts) → message_counts identifier m t c ≡ step_counts r c
 
@@ -79,7 +79,7 @@ means-message : (now : ℕ) (s : State) (r : Step) (sender : ℕ) (m : Message) 
 unfolding actions_after state_after counts_after_call counted_for
 means-message now s r sender m c f d h q = record {
   far = f;
-  actions = λ rooms. ap (λ (l : List _). settled_actions s ++ l) (d.actions rooms);
+  actions = λ rooms. ap (λ (l : List _). settled_actions now s ++ l) (d.actions rooms);
   state = λ rooms. ap (message_state identifier rooms now sender m) (first-settled now s c) ∙ d.state rooms;
   counts = λ n. d.counts _;
   held = h;

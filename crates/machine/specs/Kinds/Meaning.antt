@@ -17,25 +17,25 @@ use Rattle.decide.specs.Settled.{settled, settled_actions, too_far_before}
 use Rattle.decide.specs.ActionsAfter.{new_actions, late_actions, graft_actions, ihave_actions, broadcast_actions, send_graft_actions, dispatch_actions, evict_actions, announce_actions, actions_after}
 use Rattle.decide.specs.StateAfter.{new_state, graft_state, ihave_state, broadcast_state, send_graft_state, dispatch_state, announce_state, state_after}
 use Rattle.payloads.specs.OnLateGraftReply.{copy_kind, after_late}
-use Rattle.machine.specs.Kinds.Counted.{raised, counts_after_call}
+use Rattle.decide.specs.Counted.{raised, counts_after_call}
 use Rattle.machine.specs.declared.kinds.Step.{Step}
 use Rattle.machine.specs.declared.kinds.Step.TheVariants as step
 use Rattle.protocol.specs.declared.TheConstants.{LAST_ROUND}
 
 -- its actions; `s` is the state that a first event leaves
-unfoldable pub step_actions : List Room → Step → State → List Action
-step_actions rooms (step.NewSwarm m) s = new_actions rooms m.sender (id_of m.id) m.content.now m.round.0 s
-step_actions rooms (step.NewNeighbors sender content) s = Emitted sender content.now Neighbors ∷ []
-step_actions rooms (step.Late copy) s = late_actions rooms copy.sender (copy_kind copy s)
-step_actions rooms (step.Graft link w) s = graft_actions rooms (peer_at s link) (wanted_value w) s
-step_actions rooms (step.IHave link ihaves) s = ihave_actions (ihaves_value ihaves) s
-step_actions rooms (step.BroadcastSwarm id content) s = broadcast_actions rooms (id_of id) content.now to_swarm s
-step_actions rooms (step.BroadcastNeighbors id content) s = broadcast_actions rooms (id_of id) content.now to_neighbors s
-step_actions rooms (step.SendGraft id) s = send_graft_actions rooms (id_of id) s
-step_actions rooms step.DispatchLazyPush s = dispatch_actions rooms s
-step_actions rooms step.EvictCache s = evict_actions s
-step_actions rooms step.AnnounceDropped s = announce_actions s
-step_actions rooms _ s = []
+unfoldable pub step_actions : List Room → ℕ → Step → State → List Action
+step_actions rooms now (step.NewSwarm m) s = new_actions rooms m.sender (id_of m.id) m.content.now m.round.0 s
+step_actions rooms now (step.NewNeighbors sender content) s = Emitted sender content.now Neighbors ∷ []
+step_actions rooms now (step.Late copy) s = late_actions rooms copy.sender (copy_kind copy s)
+step_actions rooms now (step.Graft link w) s = graft_actions rooms (peer_at s link) (wanted_value w) s
+step_actions rooms now (step.IHave link ihaves) s = ihave_actions (ihaves_value ihaves) s
+step_actions rooms now (step.BroadcastSwarm id content) s = broadcast_actions rooms (id_of id) content.now to_swarm s
+step_actions rooms now (step.BroadcastNeighbors id content) s = broadcast_actions rooms (id_of id) content.now to_neighbors s
+step_actions rooms now (step.SendGraft id) s = send_graft_actions rooms (id_of id) s
+step_actions rooms now step.DispatchLazyPush s = dispatch_actions rooms s
+step_actions rooms now step.EvictCache s = evict_actions now s
+step_actions rooms now step.AnnounceDropped s = announce_actions s
+step_actions rooms now _ s = []
 
 -- the state after it
 unfoldable pub step_state : List Room → ℕ → Step → State → State
@@ -101,7 +101,7 @@ SenderIs p _ = Unit {0}
 -- the step is that of the event, upon the state `s` before the call
 pub record Means (now : ℕ) (s : State) (r : Step) (e : Event) : Type 0 where
   pub far : too_far_before identifier now e s ≡ step_far r
-  pub actions : (rooms : List Room) → actions_after identifier rooms now e s ≡ settled_actions s ++ step_actions rooms r (settled now s)
+  pub actions : (rooms : List Room) → actions_after identifier rooms now e s ≡ settled_actions now s ++ step_actions rooms now r (settled now s)
   pub state : (rooms : List Room) → state_after identifier rooms now e s ≡ step_state rooms now r (settled now s)
   pub counts : (c : Counts) → counts_after_call identifier now e s c ≡ step_counts r (counted_for e c)
   pub held : StepHeld s r

@@ -3,20 +3,21 @@
 use Prim.Native.Nat.{ℕ, suc}
 use mathlib.Core.Path.{◌≡◌, refl, ap, ◌∙◌}
 use mathlib.Core.Bool.{Bool, true, false, not, ◌&&◌, ◌||◌}
-use mathlib.Core.List.{List, [], ◌∷◌, ◌++◌, append-nil}
+use mathlib.Core.List.{List, [], ◌∷◌, ◌++◌, append-nil, map}
+use Rattle.storage.proofs.ListsLaws.Lists.{any_append}
 use lib.Dec.{eqb}
 use Rattle.std.specs.Prelude.{Option, Some, None}
 use Rattle.storage.specs.Lists.Base.{is_empty, any, member}
 use Rattle.storage.proofs.ListsLaws.MapLaws.{cases}
 use Rattle.time_cache.specs.TimeCache.{holds}
-use Rattle.postcard.specs.Message.{Delivery, Ihave, Message, Prune, Graft, Timer, SendGraft, Action, Sent, Scheduled, Emitted}
+use Rattle.postcard.specs.Message.{Delivery, Ihave, Message, Prune, Graft, Timer, SendGraft, Action, Sent, Scheduled, Emitted, Forgotten}
 use Rattle.protocol.specs.Links.{Links, is_neighbour, eager_in, add_eager, add_lazy}
 use Rattle.protocol.specs.State.{State, Counts, Hop, Grafts, with_init}
 use Rattle.protocol.specs.Run.{Run, with_state, with_counts, act, send}
 use Rattle.protocol.specs.Push.{notes, schedule_dispatch, schedule_announce_dropped, record_full, record_also, note_one, note_each, note_dropped, note_for_each}
 use Rattle.protocol.specs.Gossips.{mark_received, cache_at, announcers, grafted_for, with_first, set_first, graft_out, forget_missing, raise_hops, least_from, far_closer, update_links, graft_unless_eager, prune_back, optimize_tree, forget_and_optimise, Late, duplicate, repeated, faster, with_kept, set_kept, on_duplicate}
 use Rattle.protocol.specs.Control.{announce, schedule_graft, on_announced, on_ihave, on_prune, note_graft, leave_announcers, ask_first, unmark, on_send_graft_timer}
-use Rattle.protocol.specs.Ticks.{evict, on_evict_cache_timer}
+use Rattle.protocol.specs.Ticks.{evict, tell_forgotten, on_evict_cache_timer}
 use Rattle.protocol.specs.Handle.{first_event}
 use Rattle.protocol.specs.NoNeighbourPassedOver.{sends, taken_or_handed_back}
 use Rattle.protocol.specs.ReadingsFollowTheTree.{is_payload, payloads_to, announcement_of}
@@ -34,6 +35,7 @@ payloads-append p (Sent q taken m ∷ xs) ys =
     cases (eqb q p && is_payload m) (λ h. rw h (ap (λ (l : List Message). m ∷ l) (payloads-append p xs ys))) (λ h. rw h (payloads-append p xs ys))
 payloads-append p (Scheduled delay t ∷ xs) ys = payloads-append p xs ys
 payloads-append p (Emitted q content d ∷ xs) ys = payloads-append p xs ys
+payloads-append p (Forgotten id ∷ xs) ys = payloads-append p xs ys
 
 pub payloads-skip : (p : ℕ) (xs : List Action) (a : Action) → payloads_to p (a ∷ []) ≡ [] → payloads_to p (xs ++ (a ∷ [])) ≡ payloads_to p xs
 payloads-skip p xs a h = payloads-append p xs (a ∷ []) ∙ rw h (append-nil (payloads_to p xs))
@@ -234,9 +236,31 @@ plain-on_send_graft_timer now id r =
 
 -- ticks
 
+-- telling what left the message cache
+payloads-forgotten : (p : ℕ) (ids : List ℕ) → payloads_to p (map (λ id. Forgotten id) ids) ≡ []
+unfolding payloads_to
+payloads-forgotten p [] = refl
+payloads-forgotten p (id ∷ ids) = payloads-forgotten p ids
+
+announced-forgotten : (p j : ℕ) (ids : List ℕ) → any (announcing p j) (map (λ id. Forgotten id) ids) ≡ false
+unfolding any sends
+announced-forgotten p j [] = refl
+announced-forgotten p j (id ∷ ids) = announced-forgotten p j ids
+
+plain-tell : (ids : List ℕ) (r : Run) → Plain r (tell_forgotten ids r)
+plain-tell ids r = record {
+  payloads = λ p. payloads-append p r.actions _ ∙ rw (payloads-forgotten p ids) (append-nil (payloads_to p r.actions));
+  announced = λ p j. any_append (announcing p j) r.actions _ ∙ rw (announced-forgotten p j ids) (or-none (any (announcing p j) r.actions));
+  queue = refl;
+}
+  where
+    or-none : (b : Bool) → (b || false) ≡ b
+    or-none true = refl
+    or-none false = refl
+
 pub plain-evict : (now : ℕ) (r : Run) → Plain r (on_evict_cache_timer now r)
 unfolding on_evict_cache_timer evict
-plain-evict now r = plain-state r _ refl ⨾ plain-schedule _ _ _
+plain-evict now r = plain-tell _ r ⨾ plain-state _ _ refl ⨾ plain-schedule _ _ _
 
 -- a first event's work
 pub record Begins (r r' : Run) : Type 0 where

@@ -1,8 +1,9 @@
-// Actions: the specification, "1 send (peer, byte 0 taken or 1 handed back, message); 2 schedule (delay, timer); 3 emit (peer, length, content, delivery)".
+// Actions: the specification, "1 send (peer, byte 0 taken or 1 handed back, message); 2 schedule (delay, timer); 3 emit (peer, length, content, delivery)"; "action 4 with the identifier".
 #![tactic(auto, unfolding(postcard::specs::Message::taken_byte, postcard::specs::Output::send_head, postcard::specs::Message::action_bytes), using(crate::proofs::EncodeLaws::IntakeLaws::after_append, crate::proofs::EncodeLaws::IntakeLaws::room_after, crate::proofs::EncodeLaws::IntakeLaws::length_both))]
 
 ghost use Rattle.std.specs.Prelude.{◌≡◌, [], ◌∷◌, ◌++◌};
-ghost use Rattle.postcard.specs.Message.{Scheduled, Emitted, taken_byte, action_bytes};
+ghost use Rattle.storage.specs.Rows.Ident.{id_of};
+ghost use Rattle.postcard.specs.Message.{Scheduled, Emitted, Forgotten, taken_byte, action_bytes};
 ghost use Rattle.postcard.specs.Output.{send_head};
 ghost use Rattle.postcard.specs.Values.{delivery_value, timer_value};
 
@@ -10,6 +11,7 @@ use crate::encode::Encode;
 use crate::encode::sink::Sink;
 use postcard::message::{Delivery, Timer};
 use postcard::units::Millis;
+use storage::rows::id::Id;
 
 // "byte 0 taken or 1 handed back".
 fn taken_byte(taken: bool) -> u8
@@ -70,5 +72,20 @@ impl<'a> Encode for Emit<'a> {
         self.peer.encode(out);
         self.content.encode(out);
         self.delivery.encode(out);
+    }
+}
+
+// "action 4 with the identifier" of a message that left the message cache.
+#[derive(Clone, Copy)]
+pub struct Forget {
+    pub id: Id,
+}
+
+impl Encode for Forget {
+    ghost bytes = { λ f. action_bytes (Forgotten (id_of f.id)) };
+
+    fn encode<S: Sink>(&self, out: &mut S) {
+        out.byte(4);
+        self.id.encode(out);
     }
 }

@@ -8,7 +8,7 @@ use Rattle.postcard.specs.Message.{Neighbors, Emitted, action_bytes}
 use Rattle.wire.specs.Encode.Intake.{Intake, after, RoomFor}
 use Rattle.decide.specs.Settled.{settled}
 use Rattle.steps.specs.Views.{shown}
-use Rattle.steps.proofs.ActionLaws.{one-action, no-action, settled-evict}
+use Rattle.steps.proofs.ActionLaws.{one-action, no-action}
 use Rattle.machine.specs.Kinds.Meaning.{StepHeld, SenderIs, step_actions, step_far}
 use Rattle.machine.specs.Steps.{event_bytes}
 use Rattle.machine.specs.declared.kinds.Step.{Step}
@@ -19,7 +19,7 @@ use Rattle.machine.proofs.actions.ActionsEncode.encode.Goals.{After-first_event_
 pub first_event_actions-requires : goal.first_event_actions-requires
 first_event_actions-requires g c =
     let a = c.args.self.now in
-    first-room a.call.now a.step (shown a.view.now) (g.S.Sink.intake c.args.out.now) c.requires
+    record { rest = a.rest; room = first-room a.call.now a.step (shown a.view.now) (g.S.Sink.intake c.args.out.now) c.requires }
 
 -- once a first event's actions are written: the step's, by what the match tells of it
 module _ (g : _) (d : After-first_event_actions g) where
@@ -160,19 +160,18 @@ returns-in-DispatchLazyPush g c =
     let d = (goal.at.returns-in-DispatchLazyPush g c).After-first_event_actions in
     done g d (as-step g d c.in-DispatchLazyPush.is) c.dispatch_actions.ensures
 
-pub schedule_evict_cache-requires : goal.schedule_evict_cache-requires
+pub evict_actions-requires : goal.evict_actions-requires
 unfolding step_actions
-schedule_evict_cache-requires g c =
-    let d = (goal.at.schedule_evict_cache-requires g c).After-first_event_actions in
+evict_actions-requires g c =
+    let d = (goal.at.evict_actions-requires g c).After-first_event_actions in
     let a = c.args.self.now in
-    has-room g d (as-step g d c.in-EvictCache.is ∙ ap (concat_map action_bytes) (settled-evict a.call.now.instant.0 (shown a.view.now)))
+    record { rest = a.rest; room = has-room g d (as-step g d c.in-EvictCache.is) }
 
 pub returns-in-EvictCache : goal.returns-in-EvictCache
 unfolding step_actions
 returns-in-EvictCache g c =
     let d = (goal.at.returns-in-EvictCache g c).After-first_event_actions in
-    let a = c.args.self.now in
-    done g d (as-step g d c.in-EvictCache.is ∙ ap (concat_map action_bytes) (settled-evict a.call.now.instant.0 (shown a.view.now))) c.schedule_evict_cache.ensures
+    done g d (as-step g d c.in-EvictCache.is) c.evict_actions.ensures
 
 pub announce_actions-requires : goal.announce_actions-requires
 unfolding step_actions

@@ -24,11 +24,11 @@ use Rattle.protocol.proofs.Consistent.{whole-consistent}
 use Rattle.protocol.proofs.Walk.{Sending, walk-if, walk-eager_push, walk-dispatch_to}
 use Rattle.decide.specs.Settled.{settled}
 use Rattle.decide.proofs.SettledLaws.{first-state}
-use Rattle.machine.specs.Kinds.Counted.{raised, message_counts, counts_after_call}
+use Rattle.decide.specs.Counted.{raised, message_counts, counts_after_call}
 
 -- the counts are as before
-record Same (a b : Run) : Type 0 where
-  counts : b.counts ≡ a.counts
+pub record Same (a b : Run) : Type 0 where
+  pub counts : b.counts ≡ a.counts
 
 still : {r : Run} → Same r r
 still = record { counts = refl }
@@ -144,7 +144,7 @@ queued : (r : Run) → Same r (dispatch_if_queued r)
 unfolding dispatch_if_queued
 queued r = walk-if Same (is_empty r.state.queue) still (same-dispatch r)
 
-same-timer : (now : ℕ) (t : Timer) (r : Run) → Same r (on_timer now t r)
+pub same-timer : (now : ℕ) (t : Timer) (r : Run) → Same r (on_timer now t r)
 unfolding on_timer on_dispatch_timer clear_dispatch on_evict_cache_timer on_announce_dropped_timer act
 same-timer now (SendGraft id) r = same-tick now id r
 same-timer now DispatchLazyPush r = plain r _ (walk-dispatch_to Same same-sending (queued_peers r.state.queue) (per_message r.state.settings.max_message_size) r.state.queue _).counts
@@ -168,14 +168,14 @@ module _ (hash : List ℕ → ℕ) where
   gossip-counts now sender id content Neighbors r =
       (walk-if Same (not (eqb (hash content) id)) still (walk-if Same (holds id r.state.received) (same-late sender id _ r) (plain r _ refl))).counts
 
-  message-counts : (now sender : ℕ) (m : Message) (r : Run) → (on_message hash now sender m r).counts ≡ message_counts hash m r.state r.counts
+  pub message-counts : (now sender : ℕ) (m : Message) (r : Run) → (on_message hash now sender m r).counts ≡ message_counts hash m r.state r.counts
   unfolding on_message message_counts if_neighbour on_prune update_links
   message-counts now sender (Gossip id content d) r = gossip-counts now sender id content d r
   message-counts now sender Prune r = (walk-if Same (is_neighbour sender r.state.links) (plain r _ refl) still).counts
   message-counts now sender (Graft wanted round) r = (walk-if Same (is_neighbour sender r.state.links) (same-graft sender wanted r) still).counts
   message-counts now sender (IHave hs) r = (walk-if Same (is_neighbour sender r.state.links) (same-ihave sender hs r) still).counts
 
-  same-broadcast : (now : ℕ) (content : List ℕ) (scope : Scope) (r : Run) → Same r (broadcast hash now content scope r)
+  pub same-broadcast : (now : ℕ) (content : List ℕ) (scope : Scope) (r : Run) → Same r (broadcast hash now content scope r)
   unfolding broadcast broadcast_to mark_received cache_at
   same-broadcast now content to_swarm r =
       walk-if Same (ltb r.state.settings.max_message_size (gossip_size (length content) to_swarm)) still

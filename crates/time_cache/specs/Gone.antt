@@ -1,0 +1,35 @@
+-- Which rows take entries out, in order: the keys that `expire_until` removes.
+-- Assumes nothing.
+use Rattle.std.specs.Prelude.{ℕ, ◌<◌, ◌≡◌, All, List, map, length, get_or, take, eqb, true, false, if◌then◌else◌, Option, Some, None}
+use Rattle.storage.specs.Lists.Map.{lookup}
+use Rattle.time_cache.specs.TimeCache.{expires_at, pop_all, popped}
+use Rattle.time_cache.specs.Tables.{row_at, refs_at, rows_at, cache_at}
+use Rattle.time_cache.specs.Steps.{ref_at}
+use Rattle.time_cache.specs.declared.cache.TimeBoundCache.{TimeBoundCache}
+
+-- the key of row j
+abbrev pub key_of_row : TimeBoundCache → List ℕ → ℕ → ℕ
+key_of_row c xs j = (row_at (rows_at c xs) j).key
+
+-- the key of entry i
+abbrev pub key_of_entry : TimeBoundCache → List ℕ → ℕ → ℕ
+key_of_entry c xs i = key_of_row c xs (ref_at (refs_at c xs) i).place
+
+-- row j takes entry i out, unless a row before it has: entry i has its key and its time
+pub record TakesAt (c : TimeBoundCache) (xs : List ℕ) (j i : ℕ) : Type 0 where
+  pub entry : i < c.entries.len
+  pub key : key_of_entry c xs i ≡ key_of_row c xs j
+  pub time : expires_at (row_at (rows_at c xs) j).time (lookup (key_of_row c xs j) (cache_at c xs).entries) ≡ true
+
+-- what is answered of row j: the entry that it takes out, or none
+abbrev pub TakesIs : TimeBoundCache → List ℕ → ℕ → Option ℕ → Type 0
+TakesIs c xs j (Some i) = TakesAt c xs j i
+TakesIs c xs j None = expires_at (row_at (rows_at c xs) j).time (lookup (key_of_row c xs j) (cache_at c xs).entries) ≡ false
+
+-- after the first j rows: `gone` marks the entries that these took out, and `told` are the rows that did, in order
+pub record Passed (c : TimeBoundCache) (xs gone told : List ℕ) (j : ℕ) : Type 0 where
+  pub long : length gone ≡ 512
+  pub marks : (i : ℕ) → i < c.entries.len →
+      lookup (key_of_entry c xs i) (pop_all (take j (cache_at c xs).expiry) (cache_at c xs).entries) ≡ (if eqb (get_or gone i 0) 0 then lookup (key_of_entry c xs i) (cache_at c xs).entries else None)
+  pub keys : map (key_of_row c xs) told ≡ popped (take j (cache_at c xs).expiry) (cache_at c xs).entries
+  pub rows : All (λ r. r < c.expiry.len) told

@@ -75,8 +75,8 @@ impl TimeBoundCache {
         told
     }
 
-    // Writes the keys that `expire_until` removes at an instant, in order of removal, as many as there is room for. It is a function of its own so that a call that
-    // lends no room pays for no marks and no rows.
+    // Writes the keys that `expire_until` removes at an instant, in order of removal, as many as there is room for. It is never inlined: no call that lends no room
+    // is to have the marks and the rows on the stack.
     #[inline(never)]
     pub(crate) fn write_keys(self, block: &[u8], instant: Millis, gone: &mut [Id])
         requires lies { Lies self block.now × Sound self block.now }

@@ -1,14 +1,16 @@
 // Time caches for a program in Rust to link: tests/time_cache runs them beside the Rust's own. No function asks anything of its caller: each
 // tests the tables first, and answers no, or 0, and changes nothing where they do not lie in the block, are not sound, or have no room.
 // The entries are given by a, where they start, s, the bytes of a row, and n, how many rows there are; the expiry rows by b, t and m.
-ghost use Rattle.std.specs.Prelude.{◌≡◌, true, ◌+◌, ◌*◌, ◌≤◌, ◌<◌, length};
-ghost use Rattle.time_cache.specs.TimeCache.{holds, later_cache};
+ghost use Rattle.std.specs.Prelude.{◌≡◌, true, MatchBool, ◌+◌, ◌*◌, ◌≤◌, ◌<◌, length};
+ghost use Rattle.time_cache.specs.TimeCache.{holds, later_cache, expired_keys};
 ghost use Rattle.time_cache.specs.Tables.{cache_at, Lies, FitsOneMore};
-ghost use Rattle.exports.specs.TimeCacheC.Handed.{handed, key_of, Whole, Ready, Tells, Said, Done, ToldInsert, ToldExpire};
+ghost use Rattle.time_cache.specs.Gone.{Told};
+ghost use Rattle.exports.specs.TimeCacheC.Handed.{handed, key_of, Whole, Few, Ready, Tells, Said, Done, ToldInsert, ToldExpire};
 
 use postcard::units::Millis;
 use storage::rows::id::Id;
 use time_cache::cache::{Table, TimeBoundCache};
+use time_cache::gone::MAX_ENTRIES;
 
 // The bytes of a place, which an entry starts with.
 const PLACE_LEN: usize = 2;
@@ -44,6 +46,13 @@ fn is_whole(cache: TimeBoundCache, block: &[u8]) -> bool
     ensures { Tells (Whole cache block.now) result }
 {
     lies(cache, block) && cache.is_sound(block)
+}
+
+// Whether the tables lie in the block and are sound, and there are no more entries than a cache of a panel has.
+fn is_few(cache: TimeBoundCache, block: &[u8]) -> bool
+    ensures { Tells (Few cache block.now) result }
+{
+    cache.entries.len <= MAX_ENTRIES && is_whole(cache, block)
 }
 
 // Whether there is room for one row more in each table.
@@ -146,7 +155,7 @@ pub extern "C" fn time_cache_insert(
     true
 }
 
-// `expire_until`; into `out` go the numbers of entries, of rows, and of keys that were removed.
+// `expire_until`; into `out` go the numbers of entries, of rows, and of keys that were removed, and into `gone` these keys, as many as there is room for.
 #[unsafe(no_mangle)]
 pub extern "C" fn time_cache_expire_until(
     block: &mut [u8],
@@ -158,8 +167,10 @@ pub extern "C" fn time_cache_expire_until(
     m: usize,
     instant: Millis,
     out: &mut [u64; 3],
+    gone: &mut [Id],
 ) -> bool
-    ensures { Done (Whole (handed a s n b t m) block.old) (ToldExpire (handed a s n b t m) instant.0 block.old block.new out.new) block.old block.new out.old out.new result }
+    ensures left { Done (Few (handed a s n b t m) block.old) (ToldExpire (handed a s n b t m) instant.0 block.old block.new out.new) block.old block.new out.old out.new result }
+    ensures gone { MatchBool result (Told (expired_keys instant.0 (cache_at (handed a s n b t m) block.old)) gone.old gone.new) (gone.new ≡ gone.old) }
 {
     let cache = TimeBoundCache {
         entries: Table {
@@ -173,10 +184,10 @@ pub extern "C" fn time_cache_expire_until(
             len: m,
         },
     };
-    if !is_whole(cache, block) {
+    if !is_few(cache, block) {
         return false;
     }
-    let expired = cache.expire_until(block, instant);
+    let expired = cache.expire_until(block, instant, gone);
     *out = [
         expired.cache.entries.len as u64,
         expired.cache.expiry.len as u64,

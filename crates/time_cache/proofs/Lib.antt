@@ -1,5 +1,5 @@
 -- Laws of the definitions (CallsWorked, CacheLaws, Timely, Removed), of orders and maps (Orders, MapPlaces, Cuts), of the two tables (TableLaws, ExpiryLaws,
--- NamedLaws), of tables in a block (BlockLaws, LoanLaws, ReadLaws), and of the functions over them (InsertLaws, ExpireLaws, ValueLaws, WriteLaws, ViewLaws).
+-- NamedLaws), of tables in a block (BlockLaws, LoanLaws, ReadLaws), and of the functions over them (InsertLaws, ExpireLaws, ValueLaws, WriteLaws, ViewLaws; what is removed: GoneLaws, PassedLaws, ToldLaws).
 pub mod CallsWorked
 pub mod CacheLaws
 pub mod Timely
@@ -20,3 +20,4 @@ pub mod WriteLaws
 pub mod ViewLaws
 pub mod GoneLaws
 pub mod PassedLaws
+pub mod ToldLaws

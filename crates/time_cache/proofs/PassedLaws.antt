@@ -10,7 +10,7 @@ use native.Mathlib.Numerals.{add-one}
 use native.Mathlib.Omega.{arith}
 use borrow.Author.Tests.{ne_eqb, eq-eqb}
 use lib.Dec.{eqb}
-use lib.ListN.{length, get_or, set, take, replicate, length-set, length-append, length-map, length-replicate, get_or-map}
+use lib.ListN.{length, get_or, set, take, replicate, length-set, length-map, length-replicate, get_or-map}
 use lib.Seq.{take-suc, get_or-set_same, get_or-set_other}
 use Rattle.std.proofs.lemmas.List.{map-append}
 use Rattle.std.proofs.lemmas.List.Elements.{All-nil, All-push}
@@ -113,7 +113,7 @@ module _ (c : TimeBoundCache) (xs gone told : List ℕ) (j : ℕ) (s : Sound c x
   apart : (p q : ℕ) → p < q → q < c.entries.len → key_of_entry c xs p < key_of_entry c xs q
   apart p q h l = omega (arith, up.up p q h (omega (arith, long-named)), key-named p (omega arith), key-named q l)
 
-  module _ (i : ℕ) (t : TakesAt c xs j i) (few : c.entries.len ≤ 512) (z : get_or gone i 0 ≡ 0) where
+  module _ (i : ℕ) (t : TakesAt c xs j i) (z : get_or gone i 0 ≡ 0) where
     before-is : lookup row.key (pop_all (take j rows) (cache_at c xs).entries) ≡ lookup row.key (cache_at c xs).entries
     before-is =
         ap (λ (k : ℕ). lookup k (pop_all (take j rows) (cache_at c xs).entries)) (sym t.key) ∙ g.marks i t.entry
@@ -130,9 +130,9 @@ module _ (c : TimeBoundCache) (xs gone told : List ℕ) (j : ℕ) (s : Sound c x
 
     other : (e : ℕ) → e < c.entries.len → (e ≡ i → ⊥) → (key_of_entry c xs e ≡ row.key → ⊥)
         → lookup (key_of_entry c xs e) (remove row.key (pop_all (take j rows) (cache_at c xs).entries)) ≡ (if eqb (get_or (set gone i 1) e 0) 0 then lookup (key_of_entry c xs e) (cache_at c xs).entries else None)
-    other e l n k =
+    other e l q k =
         lookup-remove-other (key_of_entry c xs e) row.key (pop_all (take j rows) (cache_at c xs).entries) (ne_eqb (key_of_entry c xs e) row.key k)
-        ∙ g.marks e l ∙ ap (λ (v : ℕ). if eqb v 0 then lookup (key_of_entry c xs e) (cache_at c xs).entries else None) (sym (get_or-set_other gone i e 1 0 n))
+        ∙ g.marks e l ∙ ap (λ (v : ℕ). if eqb v 0 then lookup (key_of_entry c xs e) (cache_at c xs).entries else None) (sym (get_or-set_other gone i e 1 0 q))
 
     flag : (e : ℕ) → e < c.entries.len → (e < i) ⊎ ((e ≡ i) ⊎ (i < e))
         → lookup (key_of_entry c xs e) (remove row.key (pop_all (take j rows) (cache_at c xs).entries)) ≡ (if eqb (get_or (set gone i 1) e 0) 0 then lookup (key_of_entry c xs e) (cache_at c xs).entries else None)
@@ -145,34 +145,32 @@ module _ (c : TimeBoundCache) (xs gone told : List ℕ) (j : ℕ) (s : Sound c x
         ∙ lookup-remove-same row.key (pop_all (take j rows) (cache_at c xs).entries)
         ∙ sym (rw (ne_eqb (get_or (set gone i 1) e 0) 0 (λ q. omega arith)) refl)
 
-    -- there is room for its number
-    pub passed-room : length told < 512
-    passed-room = omega (
-      arith,
-      few,
-      popped-count (take (j + 1) rows) (cache_at c xs).entries s.up,
-      count-of c xs,
-      ap length then-told,
-      length-append (popped (take j rows) (cache_at c xs).entries) (row.key ∷ []),
-      ap length g.keys,
-      length-map told (key_of_row c xs),
-    )
-
     -- it takes the entry out
     pub passed-yes : Passed c xs (set gone i 1) (told ++ (j ∷ [])) (j + 1)
     passed-yes = record {
-      long = length-set gone i 1 ∙ g.long;
+      long = omega (arith, g.long, length-set gone i 1);
       marks = λ e l. ap (lookup (key_of_entry c xs e)) then-map ∙ flag e l (tri e i);
       keys = map-append (key_of_row c xs) told (j ∷ []) ∙ ap (λ (ks : List ℕ). ks ++ (row.key ∷ [])) g.keys ∙ sym then-told;
       rows = All-push (λ r. r < c.expiry.len) told j g.rows jm;
     }
 
+-- there are not more rows told than entries
+pub passed-few : (c : TimeBoundCache) (xs gone told : List ℕ) (j : ℕ) → Sound c xs → Passed c xs gone told j → length told ≤ c.entries.len
+passed-few c xs gone told j s g =
+    omega (
+      arith,
+      popped-count (take j (cache_at c xs).expiry) (cache_at c xs).entries s.up,
+      count-of c xs,
+      ap length g.keys,
+      length-map told (key_of_row c xs),
+    )
+
 -- before any row
-pub passed-start : (c : TimeBoundCache) (xs gone : List ℕ) → gone ≡ replicate {A = ℕ} 512 0 → Passed c xs gone [] 0
+pub passed-start : (n : ℕ) (c : TimeBoundCache) (xs gone : List ℕ) → c.entries.len ≤ n → gone ≡ replicate {A = ℕ} n 0 → Passed c xs gone [] 0
 unfolding pop_all popped
-passed-start c xs gone e = record {
-  long = ap length e ∙ length-replicate {A = ℕ} 512 0;
-  marks = λ i h. rw (eq-eqb (get_or gone i 0) 0 (ap (λ (l : List ℕ). get_or l i 0) e ∙ zeros 512 i));
+passed-start n c xs gone l e = record {
+  long = omega (arith, ap length e, length-replicate {A = ℕ} n 0);
+  marks = λ i h. rw (eq-eqb (get_or gone i 0) 0 (ap (λ (l : List ℕ). get_or l i 0) e ∙ zeros n i));
   keys = refl;
   rows = All-nil (λ r. r < c.expiry.len);
 }

@@ -4,11 +4,13 @@ ghost use Rattle.storage.specs.Rows.Ident.{id_of};
 ghost use Rattle.storage.specs.Rows.Part.{put};
 ghost use Rattle.storage.specs.Rows.Sorted.{FoundIs};
 ghost use Rattle.storage.specs.Refs.Refs.{ref, places, Below, moved};
-ghost use Rattle.time_cache.specs.TimeCache.{holds, later_cache};
+ghost use Rattle.time_cache.specs.TimeCache.{holds, later_cache, expired_keys};
 ghost use Rattle.time_cache.specs.Tables.{refs_at, rows_at, cache_at, row_at, named, resized, Cut, Lies, FitsOneMore, Sound, sound};
 ghost use Rattle.time_cache.specs.Steps.{ref_at, GotIs, Opens, Places, Gap, Inserts, Drops, DropsEntries, Expires};
+ghost use Rattle.time_cache.specs.Gone.{Told};
 
 use crate::expiry::Expiry;
+use crate::gone::MAX_ENTRIES;
 use crate::named::Rows;
 use crate::{expiry, named};
 use postcard::units::Millis;
@@ -61,7 +63,7 @@ pub struct Inserted {
     pub row: usize,
 }
 
-// The cache after `expire_until`, and how many keys it removed.
+// The cache after `expire_until`, and how many keys it removed, also where it was lent room for fewer.
 #[derive(Clone, Copy)]
 pub struct Expired {
     pub cache: TimeBoundCache,
@@ -271,10 +273,13 @@ impl TimeBoundCache {
     }
 
     // `expire_until`: "pops entries with time ≤ the instant", and "removes a key only if its present expiry equals the popped time", which is the
-    // time of the row that its entry names.
-    pub fn expire_until(self, block: &mut [u8], instant: Millis) -> Expired
-        requires { Lies self block.old × Sound self block.old }
-        ensures { Expires self instant.0 block.old result block.new }
+    // time of the row that its entry names. Into `gone` go the keys that it removes, "in order of removal", as many as there is room for; where none is lent, they are
+    // not looked for.
+    pub fn expire_until(self, block: &mut [u8], instant: Millis, gone: &mut [Id]) -> Expired
+        requires lies { Lies self block.old × Sound self block.old }
+        requires few { 0 < length gone.old → self.entries.len ≤ MAX_ENTRIES }
+        ensures left { Expires self instant.0 block.old result block.new }
+        ensures gone { Told (expired_keys instant.0 (cache_at self block.old)) gone.old gone.new }
     {
         let due = self.due(block, instant);
         let entries = self.entries.len;
@@ -282,6 +287,9 @@ impl TimeBoundCache {
         if due == 0 {
             let cache = self.resized(entries, rows);
             return Expired { cache, removed: 0 };
+        }
+        if !gone.is_empty() {
+            self.write_keys(block, instant, gone);
         }
         self.drop_rows(block, due);
         let left = self.drop_entries(block, due);

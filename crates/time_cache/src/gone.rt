@@ -1,9 +1,9 @@
 // The keys that `expire_until` removes, in the order in which it removes them: the specification, "Time caches" and "What was forgotten".
-ghost use Rattle.std.specs.Prelude.{◌≡◌, ◌+◌, ◌<◌, ◌≤◌, All, map};
+ghost use Rattle.std.specs.Prelude.{◌≡◌, ℕ, ◌+◌, ◌<◌, ◌≤◌, All, List, map, length};
 ghost use Rattle.storage.specs.Rows.Ident.{id_of};
 ghost use Rattle.time_cache.specs.TimeCache.{expired_keys};
 ghost use Rattle.time_cache.specs.Tables.{cache_at, Lies, Sound};
-ghost use Rattle.time_cache.specs.Gone.{key_of_row, TakesIs, Passed};
+ghost use Rattle.time_cache.specs.Gone.{key_of_row, TakesIs, told_with, Passed, Told};
 
 use crate::cache::TimeBoundCache;
 use crate::expiry;
@@ -12,8 +12,8 @@ use postcard::units::Millis;
 use storage::rows::id;
 use storage::rows::id::Id;
 
-// The message cache has no more entries, and twice as many expiry rows.
-pub const MAX_ENTRIES: usize = 512;
+// No time cache of a panel has more entries: the ceiling of the received messages.
+pub const MAX_ENTRIES: usize = 2048;
 
 impl TimeBoundCache {
     // The key of a row.
@@ -40,43 +40,53 @@ impl TimeBoundCache {
         Some(found.entry)
     }
 
-    // One row more: where it takes an entry out that no row before it has, its number is told.
-    fn pass_row(
-        self,
-        block: &[u8],
-        row: usize,
-        gone: &mut [u8; MAX_ENTRIES],
-        told: &mut ArrayVec<u16, MAX_ENTRIES>,
-    )
+    // Whether a row takes an entry out that no row before it has; the entry is then marked.
+    fn pass_row(self, block: &[u8], row: usize, gone: &mut [u8]) -> bool
         requires lies { Lies self block.now × Sound self block.now }
         requires row { row < self.expiry.len }
-        requires few { (self.entries.len ≤ 512) × (self.expiry.len ≤ 1024) }
-        requires passed { Passed self block.now gone.old told.old.items row }
-        ensures { Passed self block.now gone.new told.new.items (row + 1) }
+        requires few { self.entries.len ≤ length gone.old }
+        ensures { (told : List ℕ) → Passed self block.now gone.old told row → Passed self block.now gone.new (told_with result row told) (row + 1) }
     {
         let Some(entry) = self.taken(block, row) else {
-            return;
+            return false;
         };
         if gone[entry] != 0 {
-            return;
+            return false;
         }
         gone[entry] = 1;
-        told.push(row as u16);
+        true
     }
 
-    // The rows whose keys `expire_until` removes at an instant, "in order of removal": a key leaves with the first row that has its present time. Its time is that of a
-    // look-up for each row that is due.
-    pub fn expired_rows(self, block: &[u8], instant: Millis) -> ArrayVec<u16, MAX_ENTRIES>
+    // The rows whose keys `expire_until` removes at an instant, "in order of removal": a key leaves with the first row that has its present time. There are N entries at
+    // most. Its time is that of a look-up for each row that is due.
+    pub fn expired_rows<const N: usize>(self, block: &[u8], instant: Millis) -> ArrayVec<u16, N>
         requires lies { Lies self block.now × Sound self block.now }
-        requires few { (self.entries.len ≤ 512) × (self.expiry.len ≤ 1024) }
+        requires few { self.entries.len ≤ N }
         ensures keys { map (key_of_row self block.now) result.items ≡ expired_keys instant.0 (cache_at self block.now) }
         ensures rows { All (λ r. r < self.expiry.len) result.items }
     {
-        let mut gone = [0; MAX_ENTRIES];
+        let mut gone = [0; N];
         let mut told = ArrayVec::new();
         for row in 0..self.due(block, instant) {
-            self.pass_row(block, row, &mut gone, &mut told);
+            if self.pass_row(block, row, &mut gone) {
+                told.push(row as u16);
+            }
         }
         told
+    }
+
+    // Writes the keys that `expire_until` removes at an instant, in order of removal, as many as there is room for. It is never inlined: no call that lends no room
+    // is to have the marks and the rows on the stack.
+    #[inline(never)]
+    pub(crate) fn write_keys(self, block: &[u8], instant: Millis, gone: &mut [Id])
+        requires lies { Lies self block.now × Sound self block.now }
+        requires few { self.entries.len ≤ MAX_ENTRIES }
+        ensures { Told (expired_keys instant.0 (cache_at self block.now)) gone.old gone.new }
+    {
+        let rows = self.expired_rows::<MAX_ENTRIES>(block, instant);
+        let room = rows.len().min(gone.len());
+        for (i, row) in rows.as_slice()[..room].iter().enumerate() {
+            gone[i] = self.key_at(block, *row as usize);
+        }
     }
 }

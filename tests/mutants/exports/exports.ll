@@ -16,12 +16,27 @@ define zeroext i1 @time_cache_insert(ptr %block, i64 %length, i64 %a, i64 %s, i6
   ret i1 %r
 }
 
-define zeroext i1 @time_cache_expire_until(ptr %block, i64 %length, i64 %a, i64 %s, i64 %n, i64 %b, i64 %t, i64 %m, i64 %instant, ptr %out) {
-  %r = call zeroext i1 @unproved_time_cache_expire_until(ptr %block, i64 %length, i64 %a, i64 %s, i64 %n, i64 %b, i64 %t, i64 %m, i64 %instant, ptr %out)
+define zeroext i1 @time_cache_expire_until(ptr %block, i64 %length, i64 %a, i64 %s, i64 %n, i64 %b, i64 %t, i64 %m, i64 %instant, ptr %out, ptr %gone, i64 %room) {
+  %r = call zeroext i1 @unproved_time_cache_expire_until(ptr %block, i64 %length, i64 %a, i64 %s, i64 %n, i64 %b, i64 %t, i64 %m, i64 %instant, ptr %out, ptr %gone, i64 %room)
   ret i1 %r
 }
 
 define zeroext i1 @time_cache_contains_key(ptr %block, i64 %length, i64 %a, i64 %s, i64 %n, i64 %b, i64 %t, i64 %m, i64 %w0, i64 %w1, i64 %w2, i64 %w3) {
   %r = call zeroext i1 @unproved_time_cache_contains_key(ptr %block, i64 %length, i64 %a, i64 %s, i64 %n, i64 %b, i64 %t, i64 %m, i64 %w0, i64 %w1, i64 %w2, i64 %w3)
   ret i1 %r
+}
+
+define zeroext i1 @time_cache_contains_later(ptr %block, i64 %length, i64 %a, i64 %s, i64 %n, i64 %b, i64 %t, i64 %m, i64 %w0, i64 %w1, i64 %w2, i64 %w3, i64 %instant) {
+  %r = call zeroext i1 @unproved_time_cache_contains_later(ptr %block, i64 %length, i64 %a, i64 %s, i64 %n, i64 %b, i64 %t, i64 %m, i64 %w0, i64 %w1, i64 %w2, i64 %w3, i64 %instant)
+  ret i1 %r
+}
+
+define i64 @time_cache_entries_later(ptr %block, i64 %length, i64 %a, i64 %s, i64 %n, i64 %b, i64 %t, i64 %m, i64 %instant) {
+  %r = call i64 @unproved_time_cache_entries_later(ptr %block, i64 %length, i64 %a, i64 %s, i64 %n, i64 %b, i64 %t, i64 %m, i64 %instant)
+  ret i64 %r
+}
+
+define i64 @time_cache_rows_later(ptr %block, i64 %length, i64 %a, i64 %s, i64 %n, i64 %b, i64 %t, i64 %m, i64 %instant) {
+  %r = call i64 @unproved_time_cache_rows_later(ptr %block, i64 %length, i64 %a, i64 %s, i64 %n, i64 %b, i64 %t, i64 %m, i64 %instant)
+  ret i64 %r
 }

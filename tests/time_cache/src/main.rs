@@ -5,7 +5,11 @@ mod proto {
     include!(concat!(env!("OUT_DIR"), "/mods.rs"));
 }
 
-use std::{cell::RefCell, collections::BTreeMap, rc::Rc};
+use std::{
+    cell::RefCell,
+    collections::{BTreeMap, BTreeSet},
+    rc::Rc,
+};
 
 use n0_future::time::Instant;
 use proto::util::TimeBoundCache;
@@ -18,7 +22,7 @@ extern "C" {
     ) -> bool;
     fn time_cache_expire_until(
         p: *mut u8, l: usize, a: usize, s: usize, n: usize, b: usize, t: usize, m: usize,
-        instant: u64, out: *mut [u64; 3],
+        instant: u64, out: *mut [u64; 3], gone: *mut [u64; 4], room: usize,
     ) -> bool;
     fn time_cache_contains_key(
         p: *const u8, l: usize, a: usize, s: usize, n: usize, b: usize, t: usize, m: usize,
@@ -40,7 +44,7 @@ type Key = [u8; 32];
 /// What an entry holds: the bytes after its place, and those after its row's identifier.
 type Value = (Vec<u8>, Vec<u8>);
 
-/// A value in the Rust's cache. `expire_until` answers a number only; it drops a value where it removes its key, so
+/// A value in the Rust's cache. Its `expire_until` answers a number only; it drops a value where it removes its key, so
 /// the keys that are written down here are those that it removes, in its order.
 struct Kept {
     value: Value,
@@ -69,11 +73,13 @@ impl Rng {
 }
 
 const ENTRIES: usize = 40;
-const ROWS: usize = 80;
+/// As many as the cache of the received messages has at most.
+const MOST_ENTRIES: usize = 2048;
 
-/// A cache in a block, with other bytes around its tables.
+/// A cache in a block, with other bytes around its tables: room for `most` entries, and for twice as many rows.
 struct Block {
     bytes: Vec<u8>,
+    most: usize,
     a: usize,
     s: usize,
     n: usize,
@@ -83,11 +89,11 @@ struct Block {
 }
 
 impl Block {
-    fn new(rng: &mut Rng, s: usize, t: usize) -> Self {
+    fn new(rng: &mut Rng, s: usize, t: usize, most: usize) -> Self {
         let a = rng.below(50) as usize;
-        let b = a + (ENTRIES + 1) * s + rng.below(50) as usize;
-        let bytes = (0..b + (ROWS + 1) * t + 64).map(|_| rng.next() as u8).collect();
-        Block { bytes, a, s, n: 0, b, t, m: 0 }
+        let b = a + (most + 1) * s + rng.below(50) as usize;
+        let bytes = (0..b + (2 * most + 1) * t + 64).map(|_| rng.next() as u8).collect();
+        Block { bytes, most, a, s, n: 0, b, t, m: 0 }
     }
     fn entry(&self, i: usize) -> &[u8] {
         &self.bytes[self.a + i * self.s..][..self.s]
@@ -123,12 +129,13 @@ impl Block {
         self.bytes[r..r + self.t - 40].copy_from_slice(&value.1);
         true
     }
-    fn expire_until(&mut self, instant: u64) -> Option<usize> {
+    /// How many keys it removes. They go into `gone`, as many as there is room for.
+    fn expire_until(&mut self, instant: u64, gone: &mut [[u64; 4]]) -> Option<usize> {
         let mut out = [0; 3];
         let done = unsafe {
             time_cache_expire_until(
                 self.bytes.as_mut_ptr(), self.bytes.len(), self.a, self.s, self.n, self.b, self.t, self.m,
-                instant, &mut out,
+                instant, &mut out, gone.as_mut_ptr(), gone.len(),
             )
         };
         if !done {
@@ -137,27 +144,13 @@ impl Block {
         (self.n, self.m) = (out[0] as usize, out[1] as usize);
         Some(out[2] as usize)
     }
-    /// The keys that an expiry removes, in order: the rows pop one by one, and "it removes a key only if its present
-    /// expiry equals the popped time".
-    fn expired_keys(&self, instant: u64) -> Vec<Key> {
-        let mut present: BTreeMap<Key, u64> =
-            (0..self.n).map(|i| (self.key(self.place(i)), self.time(self.place(i)))).collect();
-        let mut removed = Vec::new();
-        for q in (0..self.m).take_while(|&q| self.time(q) <= instant) {
-            if present.get(&self.key(q)) == Some(&self.time(q)) {
-                present.remove(&self.key(q));
-                removed.push(self.key(q));
-            }
-        }
-        removed
-    }
     fn is_sound(&self) -> bool {
         unsafe { time_cache_is_sound(self.bytes.as_ptr(), self.bytes.len(), self.a, self.s, self.n, self.b, self.t, self.m) }
     }
     /// What stands outside the two tables and their spare rows.
     fn around(&self) -> [Vec<u8>; 3] {
-        let e = self.a + (ENTRIES + 1) * self.s;
-        let r = self.b + (ROWS + 1) * self.t;
+        let e = self.a + (self.most + 1) * self.s;
+        let r = self.b + (2 * self.most + 1) * self.t;
         [self.bytes[..self.a].into(), self.bytes[e..self.b].into(), self.bytes[r..].into()]
     }
 }
@@ -224,7 +217,8 @@ fn judged(x: &Block) -> bool {
 fn refused(mut x: Block, key: &Key, at: u64) -> bool {
     let before = (x.bytes.clone(), x.n, x.m);
     let value = (vec![0; x.s.clamp(2, 119) - 2], vec![0; x.t.clamp(40, 48) - 40]);
-    let taken = x.insert(key, at, &value) || x.expire_until(u64::MAX).is_some();
+    let mut gone = [[at; 4]; 3];
+    let taken = x.insert(key, at, &value) || x.expire_until(u64::MAX, &mut gone).is_some();
     let (p, l, w) = (x.bytes.as_ptr(), x.bytes.len(), words(key));
     macro_rules! ask {
         ($f:ident $(, $e:expr)*) => { unsafe { $f(p, l, x.a, x.s, x.n, x.b, x.t, x.m $(, $e)*) } };
@@ -235,6 +229,36 @@ fn refused(mut x: Block, key: &Key, at: u64) -> bool {
         && ask!(time_cache_entries_later, 0) == 0
         && ask!(time_cache_rows_later, 0) == 0
         && before == (x.bytes, x.n, x.m)
+        && gone == [[at; 4]; 3]
+}
+
+/// Both caches expire, the library's with room for so many keys. The first difference: how many keys left, which ones and
+/// in which order, and what stands behind them where there was more room.
+fn expires(
+    rng: &mut Rng, x: &mut Block, rust: &mut TimeBoundCache<Key, Kept>, dropped: &RefCell<Vec<Key>>, instant: u64, room: usize,
+) -> Result<usize, String> {
+    let there: BTreeSet<Key> = rust.oracle_entries().map(|e| *e.0).collect();
+    dropped.borrow_mut().clear();
+    let removed = rust.expire_until(Instant(instant));
+    let left: BTreeSet<Key> = rust.oracle_entries().map(|e| *e.0).collect();
+    let lent: Vec<[u64; 4]> = (0..room).map(|_| [0; 4].map(|_: u64| rng.next())).collect();
+    let mut gone = lent.clone();
+    if x.expire_until(instant, &mut gone) != Some(removed) {
+        return Err("expire_until's count".into());
+    }
+    let told = removed.min(room);
+    let order: Vec<[u64; 4]> = dropped.borrow().iter().map(words).collect();
+    if order.len() != removed || gone[..told] != order[..told] {
+        return Err("the keys removed, or their order".into());
+    }
+    if gone[told..] != lent[told..] {
+        return Err("what stands behind the keys removed".into());
+    }
+    let out: BTreeSet<[u64; 4]> = there.difference(&left).map(words).collect();
+    if removed <= room && gone[..told].iter().copied().collect::<BTreeSet<_>>() != out {
+        return Err("the keys that left the Rust's map".into());
+    }
+    Ok(removed)
 }
 
 fn list(seed: u64, number: u64, calls: &mut [u64; 8]) -> Result<(), String> {
@@ -243,7 +267,7 @@ fn list(seed: u64, number: u64, calls: &mut [u64; 8]) -> Result<(), String> {
         rng.next();
     }
     let (s, t) = [(2, 40), (4, 48), (119, 40)][rng.below(3) as usize];
-    let mut x = Block::new(&mut rng, s, t);
+    let mut x = Block::new(&mut rng, s, t, ENTRIES);
     let mut rust: TimeBoundCache<Key, Kept> = TimeBoundCache::default();
     let dropped = Rc::new(RefCell::new(Vec::new()));
     // keys that agree in their first words, so that the later ones decide
@@ -268,7 +292,7 @@ fn list(seed: u64, number: u64, calls: &mut [u64; 8]) -> Result<(), String> {
             _ => clock + rng.below(step),
         };
         let at = clock.wrapping_add(rng.below(3)).wrapping_sub(1);
-        if rng.below(5) != 0 && x.n < ENTRIES && x.m < ROWS {
+        if rng.below(5) != 0 && x.n < ENTRIES && x.m < 2 * ENTRIES {
             let k = keys[rng.below(pool) as usize];
             let expires = clock + rng.below(3 * step);
             let v = ((2..s).map(|_| rng.next() as u8).collect(), (40..t).map(|_| rng.next() as u8).collect());
@@ -279,16 +303,13 @@ fn list(seed: u64, number: u64, calls: &mut [u64; 8]) -> Result<(), String> {
             rust.insert(k, Kept { value: v, key: k, dropped: dropped.clone() }, Instant(expires));
         } else {
             let instant = if x.m > 0 && rng.below(2) == 0 { x.time(rng.below(x.m as u64) as usize) } else { at };
-            let order = x.expired_keys(instant);
-            dropped.borrow_mut().clear();
-            let removed = rust.expire_until(Instant(instant));
+            let room = match rng.below(4) {
+                0 => 0,
+                1 => rng.below(4) as usize,
+                _ => ENTRIES + rng.below(9) as usize,
+            };
+            let removed = expires(&mut rng, &mut x, &mut rust, &dropped, instant, room).map_err(|why| format!("call {call}: {why}"))?;
             calls[match removed { 0 => 3, 1 => 2, _ => 5 }] += 1;
-            if *dropped.borrow() != order {
-                return Err(format!("call {call}: the order of removal"));
-            }
-            if x.expire_until(instant) != Some(removed) {
-                return Err(format!("call {call}: expire_until's count"));
-            }
         }
         if x.around() != before {
             return Err(format!("call {call}: bytes around the tables"));
@@ -346,6 +367,44 @@ fn list(seed: u64, number: u64, calls: &mut [u64; 8]) -> Result<(), String> {
     Ok(())
 }
 
+/// A cache as full as the received messages' can be, each key put in twice, which expires in a few calls. One entry more
+/// is refused.
+fn full(seed: u64) -> Result<usize, String> {
+    let mut rng = Rng(seed.wrapping_mul(0x9e37_79b9_7f4a_7c15) | 1);
+    let mut told = 0;
+    for (s, t) in [(2, 40), (4, 48), (119, 40)] {
+        let mut x = Block::new(&mut rng, s, t, MOST_ENTRIES + 1);
+        let mut rust: TimeBoundCache<Key, Kept> = TimeBoundCache::default();
+        let dropped = Rc::new(RefCell::new(Vec::new()));
+        let keys: Vec<Key> = (0..MOST_ENTRIES).map(|_| std::array::from_fn(|_| rng.next() as u8)).collect();
+        for call in 0..2 * MOST_ENTRIES {
+            // the second time of a key is often the first
+            let (k, expires) = (keys[call % MOST_ENTRIES], rng.below(6));
+            let value = (vec![0; s - 2], vec![0; t - 40]);
+            if !x.insert(&k, expires, &value) {
+                return Err("insert refuses".into());
+            }
+            rust.insert(k, Kept { value, key: k, dropped: dropped.clone() }, Instant(expires));
+        }
+        let mut more = Block { bytes: x.bytes.clone(), ..x };
+        let one: Key = std::array::from_fn(|_| rng.next() as u8);
+        if !more.insert(&one, 9, &(vec![0; s - 2], vec![0; t - 40])) {
+            return Err("insert of one more refuses".into());
+        }
+        let (bytes, mut gone) = (more.bytes.clone(), [[7; 4]; 1]);
+        if more.expire_until(3, &mut gone).is_some() || more.bytes != bytes || gone != [[7; 4]; 1] {
+            return Err("expire_until takes more entries than a cache of a panel has".into());
+        }
+        for instant in 0..7 {
+            told += expires(&mut rng, &mut x, &mut rust, &dropped, instant, MOST_ENTRIES)?;
+            if let Some(why) = differs(&x, &rust, &keys[..4], instant) {
+                return Err(why);
+            }
+        }
+    }
+    Ok(told)
+}
+
 fn main() {
     let args: Vec<u64> = std::env::args().skip(1).map(|a| a.parse().expect("a number")).collect();
     let (seed, lists) = (args.first().copied().unwrap_or(1), args.get(1).copied().unwrap_or(2000));
@@ -356,8 +415,12 @@ fn main() {
             std::process::exit(1);
         }
     }
+    let told = full(seed).unwrap_or_else(|why| {
+        println!("DIFFERENT: seed {seed}, full caches: {why}");
+        std::process::exit(1);
+    });
     println!(
-        "time caches: seed {seed}, {lists} lists, no difference; inserts of new keys {}, of keys that were there {}, expiries that removed one {}, several {}, none {}, damaged tables {} (refused {}), numbers out of range {}",
+        "time caches: seed {seed}, {lists} lists, no difference; inserts of new keys {}, of keys that were there {}, expiries that removed one {}, several {}, none {}, damaged tables {} (refused {}), numbers out of range {}, keys told of full caches {told}",
         calls[0], calls[1], calls[2], calls[5], calls[3], calls[4], calls[6], calls[7]
     );
 }

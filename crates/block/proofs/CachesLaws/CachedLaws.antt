@@ -45,8 +45,8 @@ module _ (h : Head) (xs : List ℕ) (fit : Fit h xs) where
   pub cached-expired : (t : ℕ) → expired_keys t (cache_at (cached_cache h) xs) ≡ expired_keys t (state_of h xs).cache
   cached-expired t = sym (expired-as (as_value (cached_of (table (limits_of h.limits) 6 xs))) t (cache_at (cached_cache h) xs)) ∙ ap (expired_keys t) cached-as
 
-  pub cached-few : ((cached_cache h).entries.len ≤ 512) × ((cached_cache h).expiry.len ≤ 1024)
-  cached-few = (omega arith, omega arith)
+  pub cached-few : (cached_cache h).entries.len ≤ 512
+  cached-few = omega arith
 
   pub count-cached : length (state_of h xs).cache.entries ≡ n
   unfolding state_of cached_in

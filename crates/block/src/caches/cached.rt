@@ -15,7 +15,6 @@ use postcard::units::{Millis, Round};
 use storage::rows::id::Id;
 use storage::rows::word;
 use time_cache::cache::{Table, TimeBoundCache};
-use time_cache::gone::MAX_ENTRIES;
 
 // How many bytes an entry has, and where its round stands.
 pub const ENTRY_WIDTH: usize = 4;
@@ -28,6 +27,9 @@ pub const ROW_WIDTH: usize = 48;
 pub const START: usize = 40;
 
 pub const LEN: usize = 44;
+
+// How many messages are cached at most: the ceiling.
+pub const MAX_CACHED: usize = 512;
 
 // The message cache.
 pub struct MessageCache;
@@ -89,7 +91,7 @@ pub fn cached_round(head: Head, block: &[u8], i: usize) -> Round
 }
 
 // The rows whose identifiers `expire_until` removes at an instant, "in order of removal". Its time is that of a look-up for each row that is due.
-pub fn forgotten_rows(head: Head, block: &[u8], instant: Millis) -> ArrayVec<u16, MAX_ENTRIES>
+pub fn forgotten_rows(head: Head, block: &[u8], instant: Millis) -> ArrayVec<u16, MAX_CACHED>
     requires { Sound head block.now × InOrder (state_of head block.now).cache }
     ensures keys { map (row_id head block.now) result.items ≡ expired_keys instant.0 (state_of head block.now).cache }
     ensures rows { All (λ r. r < head.live.cached_rows) result.items }

@@ -68,7 +68,7 @@ pub fn expire_grafted(mut head: Head, block: &mut [u8], instant: Millis) -> Head
     requires { Sound head block.old × InOrder (state_of head block.old).grafted }
     ensures { Goes (grafted_left instant.0) head block.old result block.new }
 {
-    let expired = GraftedMessages::table(head).expire_until(block, instant);
+    let expired = GraftedMessages::table(head).expire_until(block, instant, &mut []);
     head.live.grafted = expired.cache.entries.len;
     head.live.grafted_rows = expired.cache.expiry.len;
     head

@@ -64,7 +64,7 @@ pub fn expire_received(mut head: Head, block: &mut [u8], instant: Millis) -> Hea
     requires { Sound head block.old × InOrder (state_of head block.old).received }
     ensures { Goes (received_left instant.0) head block.old result block.new }
 {
-    let expired = ReceivedMessages::table(head).expire_until(block, instant);
+    let expired = ReceivedMessages::table(head).expire_until(block, instant, &mut []);
     head.live.received = expired.cache.entries.len;
     head.live.received_rows = expired.cache.expiry.len;
     head

@@ -1,6 +1,6 @@
 -- A cache by six numbers, a key by four words, and what the functions answer of them. They ask nothing of their callers: each tests the tables first.
 -- Assumes nothing.
-use Rattle.std.specs.Prelude.{◌≡◌, Bool, true, false, List, [], ◌∷◌, ℕ}
+use Rattle.std.specs.Prelude.{◌≡◌, Bool, true, false, List, [], ◌∷◌, ℕ, ◌≤◌}
 use Rattle.storage.specs.Rows.Ident.{id_of}
 use Rattle.time_cache.specs.Tables.{Lies, FitsOneMore, Sound}
 use Rattle.time_cache.specs.Steps.{Inserts, Expires}
@@ -19,6 +19,10 @@ key_of w0 w1 w2 w3 = id_of (record { w0 = w0; w1 = w1; w2 = w2; w3 = w3 })
 -- the tables lie in the block, and are sound
 abbrev pub Whole : TimeBoundCache → List ℕ → Type 0
 Whole c block = Lies c block × Sound c block
+
+-- the same, and there are no more entries than a cache of a panel has
+abbrev pub Few : TimeBoundCache → List ℕ → Type 0
+Few c block = (c.entries.len ≤ 2048) × Whole c block
 
 -- there is room for one row more in each, and they are sound
 abbrev pub Ready : TimeBoundCache → List ℕ → Type 0

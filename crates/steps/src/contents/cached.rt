@@ -84,7 +84,7 @@ pub fn expire_cached(mut head: Head, block: &mut [u8], instant: Millis) -> Head
     requires { Sound head block.old × InOrder (state_of head block.old).cache }
     ensures { Goes (cached_left instant.0) head block.old result block.new }
 {
-    let expired = MessageCache::table(head).expire_until(block, instant);
+    let expired = MessageCache::table(head).expire_until(block, instant, &mut []);
     head.live.cached = expired.cache.entries.len;
     head.live.cached_rows = expired.cache.expiry.len;
     close_contents(head, block)

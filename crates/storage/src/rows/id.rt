@@ -12,6 +12,7 @@ use crate::rows::word;
 use std::cmp::Ordering;
 
 // An identifier: its 32 bytes as four words, the first the highest.
+#[repr(C)]
 #[derive(Clone, Copy)]
 pub struct Id {
     pub w0: u64,

@@ -1,5 +1,5 @@
 -- `forgotten_rows`: those of the tables that the message cache stands in.
-use Rattle.std.proofs.Common.{◌≡◌, ◌<◌, ◌≤◌, ℕ, List, map, sym, ap, ◌∙◌}
+use Rattle.std.proofs.Common.{lit<, ◌≡◌, ◌<◌, ◌≤◌, map, sym, ◌∙◌}
 use mathlib.Core.Path.{subst}
 use Rattle.std.specs.Prelude.{All}
 use Rattle.time_cache.specs.TimeCache.{expired_keys}
@@ -9,15 +9,15 @@ use Rattle.time_cache.specs.declared.cache.TimeBoundCache.{TimeBoundCache}
 use Rattle.block.proofs.CachesLaws.CachedLaws.{cached-lies, cached-sound, cached-few, cached-expired}
 use Rattle.block.proofs.caches.cached.forgotten_rows.Goals as goal
 
-pub expired_rows-requires-clause-lies : goal.expired_rows-requires-clause-lies
-expired_rows-requires-clause-lies c =
-    let a = c.args in
-    subst (λ (t : TimeBoundCache). Lies t a.block.now × Sound t a.block.now) (sym c.table.ensures.at) (cached-lies a.head a.block.now c.requires.0.fit, cached-sound a.head a.block.now c.requires.0 c.requires.1)
-
-pub expired_rows-requires-clause-few : goal.expired_rows-requires-clause-few
-expired_rows-requires-clause-few c =
-    let a = c.args in
-    subst (λ (t : TimeBoundCache). (t.entries.len ≤ 512) × (t.expiry.len ≤ 1024)) (sym c.table.ensures.at) (cached-few a.head a.block.now c.requires.0.fit)
+pub expired_rows-requires : goal.expired_rows-requires
+expired_rows-requires c =
+    let a = c.args in (
+      lit< tt,
+      (
+        subst (λ (t : TimeBoundCache). Lies t a.block.now × Sound t a.block.now) (sym c.table.ensures.at) (cached-lies a.head a.block.now c.requires.0.fit, cached-sound a.head a.block.now c.requires.0 c.requires.1),
+        subst (λ (t : TimeBoundCache). t.entries.len ≤ 512) (sym c.table.ensures.at) (cached-few a.head a.block.now c.requires.0.fit),
+      ),
+    )
 
 pub returns-clause-keys : goal.returns-clause-keys
 returns-clause-keys c =

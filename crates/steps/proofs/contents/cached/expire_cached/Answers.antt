@@ -17,10 +17,10 @@ module _ (d : After-expire_until-expired) where
   expired : ExpiredAhead s.args.head s.args.block.now s.args.instant.0 (with_cached_counts d.expire_until-expired.result.cache.entries.len d.expire_until-expired.result.cache.expiry.len s.args.head.live.contents s.args.head) d.expire_until-expired.new.block
   expired =
       expired-ahead s.args.head s.args.block.now d.expire_until-expired.new.block s.args.instant.0 d.expire_until-expired.result s.requires.0 s.requires.1 d.expire_until-expired.auto.block
-      (subst (λ (t : TimeBoundCache). Expires t s.args.instant.0 s.args.block.now d.expire_until-expired.result d.expire_until-expired.new.block) d.table.ensures.at d.expire_until-expired.ensures)
+      (subst (λ (t : TimeBoundCache). Expires t s.args.instant.0 s.args.block.now d.expire_until-expired.result d.expire_until-expired.new.block) d.table.ensures.at d.expire_until-expired.ensures.left)
 
-pub expire_until-expired-requires : goal.expire_until-expired-requires
-expire_until-expired-requires c =
+pub expire_until-expired-requires-clause-lies : goal.expire_until-expired-requires-clause-lies
+expire_until-expired-requires-clause-lies c =
     let h = c.args.head in
     let xs = c.args.block.now in
     subst (λ (t : TimeBoundCache). Lies t xs × Sound t xs) (sym c.table.ensures.at) (cached-lies h xs c.requires.0.fit, cached-sound h xs c.requires.0 c.requires.1)

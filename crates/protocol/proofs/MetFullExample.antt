@@ -1,8 +1,5 @@
 -- 256 stand recorded for 2, and the links of 2 and 3 hand a broadcast back: 2 met a full record, and the account of the notings says so; by computation. Every content has identifier 9.
-use Prim.Native.Nat.{ℕ, zero, suc, ◌+◌}
-use mathlib.Core.Path.{◌≡◌, refl}
-use mathlib.Core.Bool.{true, false}
-use mathlib.Core.List.{List, [], ◌∷◌, map}
+use mathlib.Core.Path.{refl}
 use Rattle.storage.specs.Lists.Base as Base
 use Rattle.storage.specs.Lists.Map as Map
 use Rattle.postcard.specs.Number as Number
@@ -19,14 +16,12 @@ use Rattle.protocol.specs.NoNeighbourPassedOver as NoNeighbourPassedOver
 use Rattle.protocol.specs.Panel as Panel
 use Rattle.protocol.specs.Notings as Notings
 use Rattle.storage.specs.Lists.Map.{entry}
-use Rattle.postcard.specs.Message.{to_swarm, Event, Broadcast}
 use Rattle.protocol.specs.Links.{eager}
 use Rattle.protocol.specs.State.{State, Note, fresh, with_links, with_dropped, with_announce_scheduled, zero_counts}
 use Rattle.protocol.specs.Run.{Room, begin}
 use Rattle.protocol.specs.Push.{record_full}
 use Rattle.protocol.specs.Handle.{handle}
 use Rattle.protocol.specs.Whole.{whole}
-use Rattle.protocol.specs.Answer.{Answer, accept}
 use Rattle.protocol.specs.NoNeighbourPassedOver.{met_full}
 use Rattle.protocol.specs.Panel.{panel_settings}
 use Rattle.protocol.specs.Notings.{Coming, comings_in}

@@ -1,13 +1,8 @@
 -- "Padded numbers", "Question 10 counts the bytes as received", computed: with M 510, a message of 510 bytes in its shortest form is taken so and not with its round padded.
 -- Assumes nothing.
-use Prim.Native.Nat.{ℕ}
-use mathlib.Core.Path.{◌≡◌, refl}
-use mathlib.Core.Bool.{true, false}
-use mathlib.Core.List.{List, [], ◌∷◌, ◌++◌}
-use lib.ListN.{replicate}
+use mathlib.Core.Path.{refl}
 use Rattle.postcard.specs.Number.{big_endian, id_bytes, from_big_endian, read_kind, kind_number, read_bytes, read_id, last_group, read_groups, read_number, read_padded, read_round}
-use Rattle.postcard.specs.Message.{Swarm, Gossip, Event, Received}
-use Rattle.postcard.specs.Decode.{read_padded_content, delivery_of, delivery_kind, read_delivery, message_of, message_kind, read_message, event_of, read_event, message_part, decoded, ended, decode_event}
+use Rattle.postcard.specs.Decode.{read_padded_content, delivery_of, delivery_kind, read_delivery, message_of, message_kind, read_message, event_of, read_event, message_part, ended, decode_event}
 use Rattle.protocol.specs.Answer.{message_fits}
 use Rattle.protocol.specs.GuaranteeExamples.{SizeExamples}
 

@@ -1,4 +1,4 @@
--- The examples of docs/GUARANTEE.md, parts 1 to 4 and "Two spellings of one message": lists of calls, and what the definitions compute of each.
+-- The examples of docs/GUARANTEE.md: lists of calls, and what the definitions compute of each.
 -- Assumes nothing.
 use Rattle.std.specs.Prelude.{ℕ, zero, suc, ◌≡◌, ◌+◌, Bool, true, false, List, [], ◌∷◌, ◌++◌, map, replicate, Some, None}
 use Rattle.storage.specs.Lists.Base.{any}
@@ -78,7 +78,7 @@ near = setup (free (Broadcast (7 ∷ []) to_neighbors) ∷ [])
 abbrev pub asked : List Call
 asked = free (Up 2) ∷ free (Up 3) ∷ free (ihave 2) ∷ free (Fired (SendGraft 9)) ∷ free (Received 2 Prune) ∷ free (gossip 3) ∷ []
 
--- 1. Readings follow the tree
+-- of readings that follow the tree
 pub record TreeExamples : Type 0 where
   -- the reading goes to 2 by the broadcast, to 3 by its Graft, once each
   pub tree2 : to 2 tree ≡ [] ∷ [] ∷ [] ∷ (Gossip 9 (7 ∷ []) (Swarm 0) ∷ []) ∷ [] ∷ [] ∷ []
@@ -139,7 +139,7 @@ plain = free (Up 2) ∷ free (Up 3) ∷ free (gossip 2) ∷ []
 abbrev pub padded : List Call
 padded = free (Up 2) ∷ free (Up 3) ∷ record { now = 0; event = spelled; rooms = []; output = 40960 } ∷ []
 
--- 2. to 4.
+-- of parts 1 to 4, of a return and of two spellings of one message
 pub record ListExamples : Type 0 where
   -- 2 is eager, and 3 in neither set
   pub eager2 : eager_peers (after links).state.links ≡ 2 ∷ []
@@ -191,7 +191,7 @@ full_answer = accept broadcast (handle nine 0 broadcast (begin full zero_counts 
 abbrev pub full_comings : List Coming
 full_comings = comings_in nine full zero_counts both_shut 0 broadcast
 
--- 3. d: one event upon such a state
+-- of part 3, d: one event upon such a state
 pub record MetFullExample : Type 0 where
   pub whole1 : whole full ≡ true
   -- 2 met a full record, 3 did not

@@ -1,10 +1,10 @@
 -- The examples of docs/GUARANTEE.md: lists of calls, and what the definitions compute of each.
 -- Assumes nothing.
-use Rattle.std.specs.Prelude.{ℕ, zero, suc, ◌≡◌, ◌+◌, Bool, true, false, List, [], ◌∷◌, ◌++◌, map, replicate, Some, None}
+use Rattle.std.specs.Prelude.{ℕ, zero, suc, ◌≡◌, ◌+◌, Bool, true, false, List, [], ◌∷◌, ◌++◌, length, map, replicate, Some, None}
 use Rattle.storage.specs.Lists.Base.{any}
 use Rattle.storage.specs.Lists.Map.{entry}
 use Rattle.postcard.specs.Number.{id_bytes}
-use Rattle.postcard.specs.Message.{Swarm, Neighbors, to_swarm, to_neighbors, Message, Gossip, Prune, Graft, IHave, SendGraft, DispatchLazyPush, AnnounceDropped, Event, Received, Broadcast, Fired, Up, Down, event_bytes}
+use Rattle.postcard.specs.Message.{Swarm, Neighbors, to_swarm, to_neighbors, Message, Gossip, Prune, Graft, IHave, SendGraft, DispatchLazyPush, AnnounceDropped, Event, Received, Broadcast, Fired, Up, Down, message_bytes, event_bytes}
 use Rattle.postcard.specs.Decode.{decoded, decode_event}
 use Rattle.time_cache.specs.TimeCache.{holds}
 use Rattle.protocol.specs.Links.{eager, eager_peers, lazy_peers}
@@ -202,15 +202,19 @@ pub record MetFullExample : Type 0 where
   pub ids : map (λ c. c.id) full_comings ≡ 9 ∷ 9 ∷ []
   pub was_full : map (λ c. record_full c.peer c.state.dropped) full_comings ≡ true ∷ false ∷ []
 
--- a Gossip of 473 zeros from peer 2, and its bytes, with the round in this spelling
+-- a Gossip of 473 zeros; from peer 2; and its bytes, with the round in this spelling
+abbrev pub long_message : Message
+long_message = Gossip 9 (replicate 473 0) (Swarm 0)
+
 abbrev pub long : Event
-long = Received 2 (Gossip 9 (replicate 473 0) (Swarm 0))
+long = Received 2 long_message
 
 abbrev pub long_spelled : List ℕ → List ℕ
 long_spelled round = 0x00 ∷ 0x02 ∷ 0x00 ∷ id_bytes 9 ++ (0xD9 ∷ 0x03 ∷ replicate 473 0 ++ (0x00 ∷ round))
 
 -- with M 510: the message is taken in its shortest form, of 510 bytes, and not with its round padded
 pub record SizeExamples : Type 0 where
+  pub shortest : length (message_bytes long_message) ≡ 510
   pub read510 : decode_event (long_spelled (0x00 ∷ [])) ≡ decoded long
   pub taken510 : message_fits 510 (long_spelled (0x00 ∷ [])) long ≡ true
   pub read511 : decode_event (long_spelled (0x80 ∷ 0x00 ∷ [])) ≡ decoded long

@@ -1,6 +1,6 @@
 #!/usr/bin/env python3
 # tools/believe.py held against a reading, against README's numbers and against the kit. Usage, from the repository's top: tests/believe/test.py
-import os, re, shutil, subprocess, sys, tempfile
+import glob, os, re, shutil, subprocess, sys, tempfile
 
 sys.dont_write_bytecode = True
 sys.path.insert(0, "tools")
@@ -19,6 +19,9 @@ storage.Rows.Part.Only storage.Rows.Sorted.Ascending storage.Refs.Once.Numbers p
 decide.Settled.settled alike.NoteTable.NextOf block.Goes.Goes block.Sound.Sound whole.States.Calls.Placed protocol.AlikeCalls.Peerwise.Like steps.Stands.Stands machine.Kinds.Meaning.peer_of machine.Core.Begins machine.Core.core_rooms
 machine.Decided.decided machine.Steps.Asked plumtree.Rooms.Found plumtree.Peers.Sender panel.Records.Reading.Whole
 """
+
+# The laws that tell numbers of the code.
+NUMBERS = "protocol.laws.numbers_are_the_specifications blake3.laws.word_order_is_the_specifications"
 
 
 def by_reading(world, found):
@@ -43,6 +46,31 @@ def theorems_listed(world):
     listed = set(re.findall(r"^\| `(\w+::laws::\w+)` \|", open("README.md").read(), re.M))
     if here != listed:
         sys.exit(f"README.md's list of main theorems: missing {sorted(here - listed)}, too many {sorted(listed - here)}")
+
+
+# docs/PROOFS.md names each main theorem by its function, `protocol`'s without its crate; docs/GUARANTEE.md names none that is not there; and every other name in their backquotes stands in the crates.
+def claims_held(world):
+    here = {believe.told(d) for d in believe.theorems(world)}
+    words = set()
+    for path in glob.glob("crates/*/*/**/*", recursive=True):
+        if path.endswith((".antt", ".rt", ".edit")) and "/out/" not in path:
+            words |= set(re.findall(r"[\w'-]+", open(path, encoding="utf-8").read() + os.path.basename(path)))
+    for page in ("docs/PROOFS.md", "docs/GUARANTEE.md"):
+        text = open(page, encoding="utf-8").read()
+        named = {f"{crate or 'protocol'}::laws::{name}" for crate, name in re.findall(r"`(?:(\w+)::)?laws::(\w+)`", text)}
+        if named - here or page == "docs/PROOFS.md" and here - named:
+            sys.exit(f"{page}: no theorems are {sorted(named - here)}; not named: {sorted(here - named)}")
+        lost = {n for n in re.findall(r"`([\w'.:-]+)`", text) if re.split(r"[.:]", n)[-1] not in words}
+        if lost:
+            sys.exit(f"{page} names what stands nowhere: {sorted(lost)}")
+
+
+# A number that definitions read from the code is told by a law in the specification's words.
+def numbers_told(world, found):
+    told = believe.closure(world, [believe.named(world, k) for k in NUMBERS.split()])
+    read = {d.key() for d in found.values() if d.kind == "type" and " const " in d.lines[d.above]}
+    if read - set(told):
+        sys.exit(f"no law tells these numbers of the code: {sorted(read - set(told))}")
 
 
 # The definitions alone, as a repository of their own: the kit takes them, so nothing that they rest on is left out.
@@ -137,6 +165,8 @@ def main():
     by_reading(world, found)
     readme(found)
     theorems_listed(world)
+    claims_held(world)
+    numbers_told(world, found)
     fails()
     said = taken_by_the_kit(world, found)
     print(f"tests/believe: {believe.count(found)}; alone: {said}")

@@ -1,12 +1,11 @@
 -- A whole call: its actions are a function of the state before it (question 14).
 use Prim.Native.Nat.{ℕ}
-use mathlib.Core.Path.{◌≡◌, refl, sym, ap, ◌∙◌}
+use mathlib.Core.Path.{◌≡◌, refl, sym, ◌∙◌}
 use mathlib.Core.Bool.{Bool, true, false, not}
 use mathlib.Core.List.{List, [], ◌++◌, append-nil, append_assoc}
 use lib.Dec.{ltb, eqb}
 use lib.ListN.{length}
 use Rattle.std.specs.Prelude.{if◌then◌else◌}
-use Rattle.storage.specs.Lists.Base.{sum}
 use Rattle.time_cache.specs.TimeCache.{holds}
 use Rattle.protocol.specs.Links.{is_neighbour}
 use Rattle.postcard.specs.Message.{Delivery, Swarm, Neighbors, Scope, Message, Gossip, Prune, Graft, IHave, Timer, SendGraft, DispatchLazyPush, EvictCache, AnnounceDropped, Event, Received, Broadcast, Fired, Up, Down, Action}
@@ -15,15 +14,12 @@ use Rattle.protocol.specs.Run.{Run, Room, begin, with_counts}
 use Rattle.protocol.specs.Gossips.{on_late_graft_reply, on_gossip, gossip_size, broadcast}
 use Rattle.protocol.specs.Handle.{first_event, count_message, if_neighbour, on_timer, on_message, handle_message, handle}
 use Rattle.protocol.specs.Whole.{whole}
-use Rattle.protocol.specs.Answer.{output_of}
 use Rattle.protocol.specs.Consistent.{Consistent}
-use Rattle.decide.specs.Lengths.{action_length}
 use Rattle.decide.specs.Settled.{settled, settled_actions}
 use Rattle.decide.specs.ActionsAfter.{broadcast_actions, gossip_actions, message_actions, timer_actions, actions_after}
 use Rattle.protocol.proofs.Consistent.{whole-consistent}
 use Rattle.protocol.proofs.WholeKept.{kept-first_event}
 use Rattle.storage.proofs.ListsLaws.Branches.{if-on, if-same}
-use Rattle.decide.proofs.LengthLaws.{length-output}
 use Rattle.decide.proofs.SettledLaws.{first-state, first-actions, first-rooms}
 use Rattle.decide.proofs.UpDownEvict.{up-actions, down-actions, evict-actions}
 use Rattle.decide.proofs.AnnounceDropped.{announce-actions}
@@ -88,10 +84,6 @@ module _ (hash : List ℕ → ℕ) where
       ∙ rw (first-actions now r, first-rooms now r, first-state now r x.core) (append_assoc r.actions (settled_actions now r.state) (timer_actions hash r.rooms now t (settled now r.state)))
   handle-actions now (Up p) r x = up-actions p r ∙ none_more r
   handle-actions now (Down p) r x = down-actions p r ∙ none_more r
-
-  -- question 14, asked of the state before
-  pub decide-14 : (now : ℕ) (e : Event) (s : State) (c : Counts) (rooms : List Room) → whole s ≡ true → length (output_of (handle hash now e (begin s c rooms))) ≡ sum action_length (actions_after hash rooms now e s)
-  decide-14 now e s c rooms w = length-output (handle hash now e (begin s c rooms)) ∙ ap (sum action_length) (handle-actions now e (begin s c rooms) (whole-consistent s w))
 
   -- the actions themselves
   pub decide-actions : (now : ℕ) (e : Event) (s : State) (c : Counts) (rooms : List Room) → whole s ≡ true → (handle hash now e (begin s c rooms)).actions ≡ actions_after hash rooms now e s

@@ -1,4 +1,4 @@
--- The length of each action's bytes is that of specs/Lengths.antt, so question 14 looks at a sum.
+-- The length of each action's bytes is that of specs/Lengths.antt.
 use Rattle.std.specs.Prelude.{Option, Some, None}
 use Prim.Native.Nat.{ℕ, zero, suc, ◌+◌}
 use mathlib.Core.Path.{◌≡◌, refl, ap}
@@ -8,8 +8,6 @@ use lib.ListN.{length, length-append}
 use Rattle.storage.specs.Lists.Base.{sum, concat_map}
 use Rattle.postcard.specs.Number.{number_bytes, number_length, big_endian, id_bytes}
 use Rattle.postcard.specs.Message.{Delivery, Swarm, Neighbors, Ihave, Message, Gossip, Prune, Graft, IHave, Timer, SendGraft, DispatchLazyPush, EvictCache, AnnounceDropped, Action, Sent, Scheduled, Emitted, Forgotten, content_bytes, delivery_bytes, ihave_bytes, optional_id_bytes, message_bytes, timer_bytes, taken_byte, action_bytes}
-use Rattle.protocol.specs.Run.{Run}
-use Rattle.protocol.specs.Answer.{output_of}
 use Rattle.decide.specs.Lengths.{delivery_length, wanted_length, message_length, timer_length, action_length}
 
 length-big : (k n : ℕ) → length (big_endian k n) ≡ k
@@ -68,8 +66,3 @@ pub length-actions : (xs : List Action) → length (concat_map action_bytes xs) 
 unfolding concat_map sum
 length-actions [] = refl
 length-actions (a ∷ xs) = omega (arith, length-append (action_bytes a) (concat_map action_bytes xs), length-action a, length-actions xs)
-
--- question 14 looks at the sum of the actions' lengths
-pub length-output : (r : Run) → length (output_of r) ≡ sum action_length r.actions
-unfolding output_of
-length-output r = length-actions r.actions

@@ -1,9 +1,6 @@
--- The lists of calls of docs/GUARANTEE.md, each with what it shows, by computation. Every content has identifier 9.
-use Rattle.std.specs.Prelude.{Some, None}
-use Prim.Native.Nat.{ℕ}
+-- The lists of calls of docs/GUARANTEE.md, each with what it shows (`ListExamples`), by computation.
 use mathlib.Core.Path.{◌≡◌, refl}
-use mathlib.Core.Bool.{Bool, true, false}
-use mathlib.Core.List.{List, [], ◌∷◌, ◌++◌, map}
+use mathlib.Core.List.{[]}
 use Rattle.storage.specs.Lists.Base as Base
 use Rattle.storage.specs.Lists.Map as Map
 use Rattle.postcard.specs.Number as Number
@@ -33,126 +30,29 @@ use Rattle.protocol.specs.Links.{eager_peers, lazy_peers}
 use Rattle.protocol.specs.State.{State, fresh, zero_counts}
 use Rattle.protocol.specs.Push.{notes}
 use Rattle.protocol.specs.Answer.{Call, Answer, message_fits}
-use Rattle.protocol.specs.SameMeaning.{respelled, none_left, as-it-is, another-spelling}
+use Rattle.protocol.specs.SameMeaning.{none_left, as-it-is, another-spelling}
 use Rattle.protocol.proofs.SameMeaning.{same-meaning}
-use Rattle.protocol.specs.Calls.{Ran, run_calls}
 use Rattle.protocol.specs.NoNeighbourPassedOver.{told_up, took, is_of, announced, is_graft_for, carries, was_taken, was_handed_back, taken_or_handed_back, sent, dispatch_tick, announce_tick, scheduled, fired}
 use Rattle.protocol.specs.Panel.{panel_settings, panel_limits}
+use Rattle.protocol.specs.GuaranteeExamples.{free, gossip, spelled, plain, padded, after, ListExamples}
+use Rattle.protocol.specs.WorkedCalls.{nine}
 
--- an identifier for every content
-abbrev nine : List ℕ → ℕ
-nine content = 9
+-- both spellings are read as the same event, within M
+record Spelled : Type 0 where
+  padded3 : decode_event spelled ≡ decoded (gossip 2)
+  plain3 : decode_event (event_bytes (gossip 2)) ≡ decoded (gossip 2)
+  fits3 : message_fits panel_settings.max_message_size spelled (gossip 2) ≡ message_fits panel_settings.max_message_size (event_bytes (gossip 2)) (gossip 2)
 
--- a call at time 0, with room without bound
-abbrev free : Event → Call
-free e = record { now = 0; event = event_bytes e; rooms = []; output = 40960 }
-
--- a call at time 0 whose sends to this peer are handed back
-abbrev shut : ℕ → Event → Call
-shut p e = record { now = 0; event = event_bytes e; rooms = record { peer = p; room = 0 } ∷ []; output = 40960 }
-
--- the calls upon a fresh panel 1
-abbrev after : List Call → Ran
-after calls = run_calls nine (fresh panel_settings panel_limits) zero_counts calls
-
--- which of the calls pass a test
-abbrev which : (Answer → Bool) → List Call → List Bool
-which f calls = map f (after calls).answers
-
--- the message, announced, and as it comes from a peer
-abbrev ihave : ℕ → Event
-ihave p = Received p (IHave (record { id = 9; round = 3 } ∷ []))
-
-abbrev gossip : ℕ → Event
-gossip p = Received p (Gossip 9 (7 ∷ []) (Swarm 3))
-
-abbrev broadcast : Event
-broadcast = Broadcast (7 ∷ []) to_swarm
-
--- neighbours: up 2, up 3, a Prune from 3, up 2 again, down 3
-abbrev links : List Call
-links = free (Up 2) ∷ free (Up 3) ∷ free (Received 3 Prune) ∷ free (Up 2) ∷ free (Down 3) ∷ []
-
--- it came from there: up 2, the message from 2
-abbrev came : List Call
-came = free (Up 2) ∷ free (gossip 2) ∷ []
-
--- announced and grafted: up 2, up 3, IHave from 2, the graft timer, the message from 3
-abbrev grafted : List Call
-grafted = free (Up 2) ∷ free (Up 3) ∷ free (ihave 2) ∷ free (Fired (SendGraft 9)) ∷ free (gossip 3) ∷ []
-
--- sent and taken: up 2, a broadcast
-abbrev taken : List Call
-taken = free (Up 2) ∷ free broadcast ∷ []
-
--- handed back: up 2, a broadcast that the link of 2 hands back, AnnounceDropped, DispatchLazyPush
-abbrev back : List Call
-back = free (Up 2) ∷ shut 2 broadcast ∷ []
-
-abbrev announcing : List Call
-announcing = free (Up 2) ∷ shut 2 broadcast ∷ free (Fired AnnounceDropped) ∷ []
-
-abbrev dispatched : List Call
-dispatched = free (Up 2) ∷ shut 2 broadcast ∷ free (Fired AnnounceDropped) ∷ free (Fired DispatchLazyPush) ∷ []
-
--- up 2, up 3: the list after up 2, a saving, the broadcast that is handed back, a return and up 3
-abbrev returned : List Call
-returned = free (Up 2) ∷ free (Up 3) ∷ []
-
--- the message from 2 with its kind, its length, its delivery's kind and its round padded by a byte each
-abbrev spelled : List ℕ
-spelled = 0x00 ∷ 0x02 ∷ 0x80 ∷ 0x00 ∷ id_bytes 9 ++ (0x81 ∷ 0x00 ∷ 0x07 ∷ 0x80 ∷ 0x00 ∷ 0x83 ∷ 0x00 ∷ [])
-
--- up 2, up 3, the message from 2; and the same with the message so spelled
-abbrev plain : List Call
-plain = free (Up 2) ∷ free (Up 3) ∷ free (gossip 2) ∷ []
-
-abbrev padded : List Call
-padded = free (Up 2) ∷ free (Up 3) ∷ respelled spelled (free (gossip 2)) ∷ []
-
-pub record Examples : Type 0 where
-  -- 2 was told up and stays eager; 3, lazy by its Prune, is gone
-  pub up2 : told_up 2 (after links).answers ≡ true
-  pub eager2 : eager_peers (after links).state.links ≡ 2 ∷ []
-  pub up3 : told_up 3 (after links).answers ≡ false
-  pub lazy3 : lazy_peers (after links).state.links ≡ []
-  -- the second call took it in, from 2
-  pub cached2 : holds 9 (after came).state.cache ≡ true
-  pub from2 : map (took nine panel_settings) (after came).answers ≡ None ∷ Some (record { id = 9; from = 2 }) ∷ []
-  -- 2 announced it in the third call and was sent a Graft in the fourth; the fifth took it in, from 3, and sent 2 nothing
-  pub announced3 : which (announced 2 9) grafted ≡ false ∷ false ∷ true ∷ false ∷ false ∷ []
-  pub grafted4 : which (sent 2 (is_graft_for 9) taken_or_handed_back) grafted ≡ false ∷ false ∷ false ∷ true ∷ false ∷ []
-  pub took5 : map (took nine panel_settings) (after grafted).answers ≡ None ∷ None ∷ None ∷ None ∷ Some (record { id = 9; from = 3 }) ∷ []
-  pub nothing5 : which (sent 2 (carries 9) taken_or_handed_back) grafted ≡ false ∷ false ∷ false ∷ false ∷ false ∷ []
-  -- its payload went to 2 and was taken
-  pub payload2 : which (sent 2 (carries 9) was_taken) taken ≡ false ∷ true ∷ []
-  -- it was handed back, stands recorded, and the record's timer was scheduled in that call
-  pub back2 : which (sent 2 (carries 9) was_handed_back) back ≡ false ∷ true ∷ []
-  pub recorded2 : any (notes 2 9) (after back).state.dropped ≡ true
-  pub timer2 : which (scheduled announce_tick) back ≡ false ∷ true ∷ []
-  -- the record's timer fired: it stands queued, and dispatch is scheduled
-  pub fired3 : which (fired announce_tick) announcing ≡ false ∷ false ∷ true ∷ []
-  pub queued3 : any (notes 2 9) (after announcing).state.queue ≡ true
-  pub dispatch3 : which (scheduled dispatch_tick) announcing ≡ false ∷ true ∷ false ∷ []
-  -- dispatch fired: its announcement was taken
-  pub announced4 : which (sent 2 (carries 9) was_taken) dispatched ≡ false ∷ false ∷ false ∷ true ∷ []
-  pub empty4 : (after dispatched).state.queue ≡ []
-  -- the broadcast is no part of the list: it is not cached, and nothing stands recorded
-  pub forgotten : holds 9 (after returned).state.cache ≡ false
-  pub nothing : (after returned).state.dropped ≡ []
-  pub both : eager_peers (after returned).state.links ≡ 2 ∷ 3 ∷ []
-  -- both spellings are read as the same event, within M; the message went on to 3
-  pub spelled3 : decode_event spelled ≡ decoded (gossip 2)
-  pub spelled3' : decode_event (event_bytes (gossip 2)) ≡ decoded (gossip 2)
-  pub fits3 : message_fits panel_settings.max_message_size spelled (gossip 2) ≡ message_fits panel_settings.max_message_size (event_bytes (gossip 2)) (gossip 2)
-  pub sent3 : which (sent 3 (carries 9) was_taken) padded ≡ false ∷ false ∷ true ∷ []
-
-pub examples : Examples
+both-spelled : Spelled
 unfolding Base.filter Base.count Base.any Base.all Base.member Base.sum Base.concat_map Base.ascending Base.once Map.lookup Map.insert Map.remove Map.insert_key Map.remove_key Number.groups Number.number_bytes Number.number_length Number.big_endian Number.id_bytes Number.from_big_endian Number.read_kind Number.kind_number Number.read_padded Number.read_bytes Number.read_id Number.last_group Number.read_groups Number.read_round Number.read_number Message.content_bytes Message.delivery_bytes Message.scope_byte Message.ihave_bytes Message.optional_id_bytes Message.message_bytes Message.timer_bytes Message.event_bytes Message.taken_byte Message.action_bytes Decode.read_content Decode.delivery_of Decode.read_delivery Decode.scope_of Decode.optional_id_of Decode.read_ihave Decode.read_ihaves Decode.message_of Decode.read_message Decode.message_kind Decode.delivery_kind Decode.read_padded_content Decode.message_part Decode.timer_of Decode.read_timer Decode.event_of Decode.read_event Decode.ended Decode.decode_event TimeCache.value_of TimeCache.get TimeCache.add_expiry TimeCache.put TimeCache.with_value TimeCache.replace TimeCache.expires_at TimeCache.pop TimeCache.due TimeCache.later TimeCache.pop_all TimeCache.popped TimeCache.expire_until TimeCache.expired_keys TimeCache.expires_on_time TimeCache.in_pop_order TimeCache.later_cache State.fresh State.zero_counts State.size_in_range State.durations_in_range State.up_to State.limits_in_range State.block_need State.create Run.act Run.has_room Run.use_room Run.send Answer.message_fits Answer.counts_below Answer.counts_stay Answer.last_round Answer.output_of Answer.last_two Answer.too_far_message Answer.too_far Answer.ask_of Answer.ask_read Answer.ask Answer.ask_whole Answer.outcome Answer.answer_of Answer.answer_block Whole.content_held Whole.cache_fits Whole.fits Whole.in_range Whole.keys_once Whole.neighbours Whole.announcers_whole Whole.grafts_whole Whole.noted_once Whole.record_within Whole.flags_stand Whole.whole Whole.long_enough Whole.whole_state Links.peers_marked Links.eager_peers Links.lazy_peers Links.marked Links.eager_in Links.mark_if_there Links.add_eager Links.add_lazy Links.link_up Links.link_down Neighbours.on_neighbor_up Neighbours.without_announcer Neighbours.forget_announcer Neighbours.without_notes Neighbours.without_graft Neighbours.forget_grafted Neighbours.forget_peer Neighbours.on_neighbor_down Push.schedule_dispatch Push.schedule_announce_dropped Push.record_full Push.record_also Push.note_one Push.note_each Push.note_dropped Push.send_each Push.handed_back Push.note_for_each Push.eager_targets Push.note_after Push.push_to Push.eager_push Push.note_for Push.lazy_push Push.send_ihave Gossips.mark_received Gossips.cache_at Gossips.hops_of Gossips.announcers Gossips.peers_of Gossips.grafted_for Gossips.with_first Gossips.set_first Gossips.graft_out Gossips.forget_missing Gossips.raise_hops Gossips.least_from Gossips.far_closer Gossips.update_links Gossips.graft_unless_eager Gossips.prune_back Gossips.optimize_tree Gossips.forget_and_optimise Gossips.push_on Gossips.take_in Gossips.same_as Gossips.no_more_hops Gossips.late_from Gossips.late_kind Gossips.with_kept Gossips.set_kept Gossips.on_duplicate Gossips.on_late_graft_reply Gossips.on_new Gossips.gossip_size Gossips.on_gossip Gossips.broadcast_to Gossips.broadcast Ticks.per_message Ticks.chunks Ticks.queued_for Ticks.queued_peers Ticks.send_chunks Ticks.dispatch_to Ticks.clear_dispatch Ticks.on_dispatch_timer Ticks.oldest Ticks.younger Ticks.move_oldest Ticks.still_cached Ticks.dispatch_if_queued Ticks.on_announce_dropped_timer Ticks.evict Ticks.on_evict_cache_timer Control.add_announcer Control.announce Control.schedule_graft Control.on_announced Control.on_ihave Control.on_prune Control.reply_with Control.reply Control.on_graft Control.lower Control.with_graft Control.note_graft Control.leave_announcers Control.ask_first Control.unmark Control.on_send_graft_timer Handle.first_event Handle.one_payload Handle.one_control Handle.count_message Handle.if_neighbour Handle.on_timer Handle.on_message Handle.handle_message Handle.handle Calls.state_after Calls.counts_after Calls.prepend Calls.run_calls NoNeighbourPassedOver.by_event NoNeighbourPassedOver.by_action NoNeighbourPassedOver.is_up NoNeighbourPassedOver.is_down NoNeighbourPassedOver.tells_down NoNeighbourPassedOver.up_after_call NoNeighbourPassedOver.up_after NoNeighbourPassedOver.told_up NoNeighbourPassedOver.is_emit NoNeighbourPassedOver.took_gossip NoNeighbourPassedOver.took_broadcast NoNeighbourPassedOver.took_by_event NoNeighbourPassedOver.took NoNeighbourPassedOver.is_of NoNeighbourPassedOver.lists NoNeighbourPassedOver.announces_in NoNeighbourPassedOver.announced NoNeighbourPassedOver.is_graft_for NoNeighbourPassedOver.carries NoNeighbourPassedOver.sends NoNeighbourPassedOver.sent NoNeighbourPassedOver.left_out NoNeighbourPassedOver.met_full NoNeighbourPassedOver.is_tick NoNeighbourPassedOver.schedules_tick NoNeighbourPassedOver.scheduled NoNeighbourPassedOver.fires_tick NoNeighbourPassedOver.fired Panel.panel_settings Panel.panel_limits Panel.read_lengthed Panel.read_record Panel.written Panel.or_cut Panel.read_records Panel.run_records Panel.panelrun
-examples = record { up2 = refl; eager2 = refl; up3 = refl; lazy3 = refl; cached2 = refl; from2 = refl; announced3 = refl; grafted4 = refl; took5 = refl; nothing5 = refl; payload2 = refl; back2 = refl; recorded2 = refl; timer2 = refl; fired3 = refl; queued3 = refl; dispatch3 = refl; announced4 = refl; empty4 = refl; forgotten = refl; nothing = refl; both = refl; spelled3 = refl; spelled3' = refl; fits3 = refl; sent3 = refl }
+both-spelled = record { padded3 = refl; plain3 = refl; fits3 = refl }
 
 -- so both lists lead to the same answers, actions, counts and state
-pub spellings : after padded ≡ after plain
+spellings : after padded ≡ after plain
 unfolding fresh
 spellings = (same-meaning nine).lists (fresh panel_settings panel_limits) zero_counts plain padded
-    (as-it-is (free (Up 2)) _ _ (as-it-is (free (Up 3)) _ _ (another-spelling (free (gossip 2)) spelled (gossip 2) [] [] examples.spelled3' examples.spelled3 examples.fits3 none_left)))
+    (as-it-is (free (Up 2)) _ _ (as-it-is (free (Up 3)) _ _ (another-spelling (free (gossip 2)) spelled (gossip 2) [] [] both-spelled.plain3 both-spelled.padded3 both-spelled.fits3 none_left)))
+
+pub examples : ListExamples
+unfolding Base.filter Base.count Base.any Base.all Base.member Base.sum Base.concat_map Base.ascending Base.once Map.lookup Map.insert Map.remove Map.insert_key Map.remove_key Number.groups Number.number_bytes Number.number_length Number.big_endian Number.id_bytes Number.from_big_endian Number.read_kind Number.kind_number Number.read_padded Number.read_bytes Number.read_id Number.last_group Number.read_groups Number.read_round Number.read_number Message.content_bytes Message.delivery_bytes Message.scope_byte Message.ihave_bytes Message.optional_id_bytes Message.message_bytes Message.timer_bytes Message.event_bytes Message.taken_byte Message.action_bytes Decode.read_content Decode.delivery_of Decode.read_delivery Decode.scope_of Decode.optional_id_of Decode.read_ihave Decode.read_ihaves Decode.message_of Decode.read_message Decode.message_kind Decode.delivery_kind Decode.read_padded_content Decode.message_part Decode.timer_of Decode.read_timer Decode.event_of Decode.read_event Decode.ended Decode.decode_event TimeCache.value_of TimeCache.get TimeCache.add_expiry TimeCache.put TimeCache.with_value TimeCache.replace TimeCache.expires_at TimeCache.pop TimeCache.due TimeCache.later TimeCache.pop_all TimeCache.popped TimeCache.expire_until TimeCache.expired_keys TimeCache.expires_on_time TimeCache.in_pop_order TimeCache.later_cache State.fresh State.zero_counts State.size_in_range State.durations_in_range State.up_to State.limits_in_range State.block_need State.create Run.act Run.has_room Run.use_room Run.send Answer.message_fits Answer.counts_below Answer.counts_stay Answer.last_round Answer.output_of Answer.last_two Answer.too_far_message Answer.too_far Answer.ask_of Answer.ask_read Answer.ask Answer.ask_whole Answer.outcome Answer.answer_of Answer.answer_block Whole.content_held Whole.cache_fits Whole.fits Whole.in_range Whole.keys_once Whole.neighbours Whole.announcers_whole Whole.grafts_whole Whole.noted_once Whole.record_within Whole.flags_stand Whole.whole Whole.long_enough Whole.whole_state Links.peers_marked Links.eager_peers Links.lazy_peers Links.marked Links.eager_in Links.mark_if_there Links.add_eager Links.add_lazy Links.link_up Links.link_down Neighbours.on_neighbor_up Neighbours.without_announcer Neighbours.forget_announcer Neighbours.without_notes Neighbours.without_graft Neighbours.forget_grafted Neighbours.forget_peer Neighbours.on_neighbor_down Push.schedule_dispatch Push.schedule_announce_dropped Push.record_full Push.record_also Push.note_one Push.note_each Push.note_dropped Push.send_each Push.handed_back Push.note_for_each Push.eager_targets Push.note_after Push.push_to Push.eager_push Push.note_for Push.lazy_push Push.send_ihave Gossips.mark_received Gossips.cache_at Gossips.hops_of Gossips.announcers Gossips.peers_of Gossips.grafted_for Gossips.with_first Gossips.set_first Gossips.graft_out Gossips.forget_missing Gossips.raise_hops Gossips.least_from Gossips.far_closer Gossips.update_links Gossips.graft_unless_eager Gossips.prune_back Gossips.optimize_tree Gossips.forget_and_optimise Gossips.push_on Gossips.take_in Gossips.same_as Gossips.no_more_hops Gossips.late_from Gossips.late_kind Gossips.with_kept Gossips.set_kept Gossips.on_duplicate Gossips.on_late_graft_reply Gossips.on_new Gossips.gossip_size Gossips.on_gossip Gossips.broadcast_to Gossips.broadcast Ticks.per_message Ticks.chunks Ticks.queued_for Ticks.queued_peers Ticks.send_chunks Ticks.dispatch_to Ticks.clear_dispatch Ticks.on_dispatch_timer Ticks.oldest Ticks.younger Ticks.move_oldest Ticks.still_cached Ticks.dispatch_if_queued Ticks.on_announce_dropped_timer Ticks.evict Ticks.on_evict_cache_timer Control.add_announcer Control.announce Control.schedule_graft Control.on_announced Control.on_ihave Control.on_prune Control.reply_with Control.reply Control.on_graft Control.lower Control.with_graft Control.note_graft Control.leave_announcers Control.ask_first Control.unmark Control.on_send_graft_timer Handle.first_event Handle.one_payload Handle.one_control Handle.count_message Handle.if_neighbour Handle.on_timer Handle.on_message Handle.handle_message Handle.handle Calls.state_after Calls.counts_after Calls.prepend Calls.run_calls NoNeighbourPassedOver.by_event NoNeighbourPassedOver.by_action NoNeighbourPassedOver.is_up NoNeighbourPassedOver.is_down NoNeighbourPassedOver.tells_down NoNeighbourPassedOver.up_after_call NoNeighbourPassedOver.up_after NoNeighbourPassedOver.told_up NoNeighbourPassedOver.is_emit NoNeighbourPassedOver.took_gossip NoNeighbourPassedOver.took_broadcast NoNeighbourPassedOver.took_by_event NoNeighbourPassedOver.took NoNeighbourPassedOver.is_of NoNeighbourPassedOver.lists NoNeighbourPassedOver.announces_in NoNeighbourPassedOver.announced NoNeighbourPassedOver.is_graft_for NoNeighbourPassedOver.carries NoNeighbourPassedOver.sends NoNeighbourPassedOver.sent NoNeighbourPassedOver.left_out NoNeighbourPassedOver.met_full NoNeighbourPassedOver.is_tick NoNeighbourPassedOver.schedules_tick NoNeighbourPassedOver.scheduled NoNeighbourPassedOver.fires_tick NoNeighbourPassedOver.fired Panel.panel_settings Panel.panel_limits Panel.read_lengthed Panel.read_record Panel.written Panel.or_cut Panel.read_records Panel.run_records Panel.panelrun
+examples = record { eager2 = refl; lazy3 = refl; from2 = refl; cached2 = refl; announced3 = refl; grafted4 = refl; took5 = refl; nothing5 = refl; payload2 = refl; back2 = refl; recorded2 = refl; timer2 = refl; queued3 = refl; dispatch3 = refl; announced4 = refl; empty4 = refl; forgotten = refl; nothing = refl; both = refl; spellings = spellings; sent3 = refl }

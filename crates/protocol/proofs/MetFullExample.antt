@@ -1,8 +1,5 @@
 -- 256 stand recorded for 2, and the links of 2 and 3 hand a broadcast back: 2 met a full record, and the account of the notings says so; by computation. Every content has identifier 9.
-use Prim.Native.Nat.{ℕ, zero, suc, ◌+◌}
-use mathlib.Core.Path.{◌≡◌, refl}
-use mathlib.Core.Bool.{true, false}
-use mathlib.Core.List.{List, [], ◌∷◌, map}
+use mathlib.Core.Path.{refl}
 use Rattle.storage.specs.Lists.Base as Base
 use Rattle.storage.specs.Lists.Map as Map
 use Rattle.postcard.specs.Number as Number
@@ -19,53 +16,17 @@ use Rattle.protocol.specs.NoNeighbourPassedOver as NoNeighbourPassedOver
 use Rattle.protocol.specs.Panel as Panel
 use Rattle.protocol.specs.Notings as Notings
 use Rattle.storage.specs.Lists.Map.{entry}
-use Rattle.postcard.specs.Message.{to_swarm, Event, Broadcast}
 use Rattle.protocol.specs.Links.{eager}
 use Rattle.protocol.specs.State.{State, Note, fresh, with_links, with_dropped, with_announce_scheduled, zero_counts}
 use Rattle.protocol.specs.Run.{Room, begin}
 use Rattle.protocol.specs.Push.{record_full}
 use Rattle.protocol.specs.Handle.{handle}
 use Rattle.protocol.specs.Whole.{whole}
-use Rattle.protocol.specs.Answer.{Answer, accept}
 use Rattle.protocol.specs.NoNeighbourPassedOver.{met_full}
 use Rattle.protocol.specs.Panel.{panel_settings}
 use Rattle.protocol.specs.Notings.{Coming, comings_in}
-
-abbrev nine : List ℕ → ℕ
-nine content = 9
-
--- so many identifiers recorded for 2, each above 9
-pub recorded : ℕ → List Note
-recorded zero = []
-recorded (suc n) = record { peer = 2; id = n + 10; round = 0 } ∷ recorded n
-
--- panel 1 with the eager neighbours 2 and 3, and room for 512 in the record
-abbrev state : State
-state = with_announce_scheduled true (with_dropped (recorded 256) (with_links (entry 2 eager ∷ entry 3 eager ∷ []) (fresh panel_settings (record { N = 8; R = 64; C = 32; B = 8192; G = 16; S = 16; T = 16; Q = 64; D = 512 }))))
-
--- both links hand back
-abbrev shut : List Room
-shut = record { peer = 2; room = 0 } ∷ record { peer = 3; room = 0 } ∷ []
-
-abbrev event : Event
-event = Broadcast (7 ∷ []) to_swarm
-
-abbrev comings : List Coming
-comings = comings_in nine state zero_counts shut 0 event
-
-abbrev answer : Answer
-answer = accept event (handle nine 0 event (begin state zero_counts shut))
-
-pub record MetFullExample : Type 0 where
-  pub whole1 : whole state ≡ true
-  -- it came to 9 for 2 while 2 had 256, then for 3, which had none
-  pub peers : map (λ c. c.peer) comings ≡ 2 ∷ 3 ∷ []
-  pub ids : map (λ c. c.id) comings ≡ 9 ∷ 9 ∷ []
-  pub full : map (λ c. record_full c.peer c.state.dropped) comings ≡ true ∷ false ∷ []
-  -- 2 met a full record, 3 did not
-  pub met2 : met_full 2 9 answer ≡ true
-  pub met3 : met_full 3 9 answer ≡ false
+use Rattle.protocol.specs.GuaranteeExamples.{recorded, MetFullExample}
 
 pub met-full-example : MetFullExample
 unfolding recorded Base.filter Base.count Base.any Base.all Base.member Base.sum Base.ascending Map.lookup Map.insert Number.groups Number.number_bytes Number.number_length TimeCache.add_expiry TimeCache.put TimeCache.due TimeCache.later TimeCache.pop_all TimeCache.popped TimeCache.expired_keys TimeCache.expire_until TimeCache.expires_on_time TimeCache.in_pop_order State.fresh State.size_in_range State.durations_in_range State.up_to State.limits_in_range Run.act Run.has_room Run.use_room Run.send Whole.content_held Whole.cache_fits Whole.fits Whole.in_range Whole.keys_once Whole.neighbours Whole.noted_once Whole.record_within Whole.flags_stand Whole.whole Links.peers_marked Links.eager_peers Links.lazy_peers Push.schedule_dispatch Push.schedule_announce_dropped Push.record_full Push.record_also Push.note_one Push.note_each Push.note_dropped Push.send_each Push.handed_back Push.note_for_each Push.eager_targets Push.note_after Push.push_to Push.eager_push Push.note_for Push.lazy_push Gossips.mark_received Gossips.cache_at Gossips.gossip_size Gossips.broadcast_to Gossips.broadcast Ticks.evict Ticks.on_evict_cache_timer Handle.first_event Handle.handle NoNeighbourPassedOver.carries NoNeighbourPassedOver.sends NoNeighbourPassedOver.left_out NoNeighbourPassedOver.met_full Panel.panel_settings Notings.note_one' Notings.note_each' Notings.note_dropped' Notings.note_for_each' Notings.note_after' Notings.push_to' Notings.eager_push' Notings.broadcast_to' Notings.broadcast' Notings.handle'
-met-full-example = record { whole1 = refl; peers = refl; ids = refl; full = refl; met2 = refl; met3 = refl }
+met-full-example = record { whole1 = refl; met2 = refl; met3 = refl; peers = refl; ids = refl; was_full = refl }

@@ -1,29 +1,12 @@
 -- "Padded numbers", "Question 10 counts the bytes as received", computed: with M 510, a message of 510 bytes in its shortest form is taken so and not with its round padded.
 -- Assumes nothing.
-use Prim.Native.Nat.{ℕ}
-use mathlib.Core.Path.{◌≡◌, refl}
-use mathlib.Core.Bool.{true, false}
-use mathlib.Core.List.{List, [], ◌∷◌, ◌++◌}
-use lib.ListN.{replicate}
-use Rattle.postcard.specs.Number.{big_endian, id_bytes, from_big_endian, read_kind, kind_number, read_bytes, read_id, last_group, read_groups, read_number, read_padded, read_round}
-use Rattle.postcard.specs.Message.{Swarm, Gossip, Event, Received}
-use Rattle.postcard.specs.Decode.{read_padded_content, delivery_of, delivery_kind, read_delivery, message_of, message_kind, read_message, event_of, read_event, message_part, decoded, ended, decode_event}
+use mathlib.Core.Path.{refl}
+use Rattle.postcard.specs.Number.{groups, number_bytes, big_endian, id_bytes, from_big_endian, read_kind, kind_number, read_bytes, read_id, last_group, read_groups, read_number, read_padded, read_round}
+use Rattle.postcard.specs.Message.{content_bytes, delivery_bytes, message_bytes}
+use Rattle.postcard.specs.Decode.{read_padded_content, delivery_of, delivery_kind, read_delivery, message_of, message_kind, read_message, event_of, read_event, message_part, ended, decode_event}
 use Rattle.protocol.specs.Answer.{message_fits}
-
--- a Gossip of 473 zeros from peer 2, of round 0
-abbrev gossip : Event
-gossip = Received 2 (Gossip 9 (replicate 473 0) (Swarm 0))
-
--- its bytes, with the round in this spelling
-abbrev spelled : List ℕ → List ℕ
-spelled round = 0x00 ∷ 0x02 ∷ 0x00 ∷ id_bytes 9 ++ (0xD9 ∷ 0x03 ∷ replicate 473 0 ++ (0x00 ∷ round))
-
-pub record SizeExamples : Type 0 where
-  pub read510 : decode_event (spelled (0x00 ∷ [])) ≡ decoded gossip
-  pub taken510 : message_fits 510 (spelled (0x00 ∷ [])) gossip ≡ true
-  pub read511 : decode_event (spelled (0x80 ∷ 0x00 ∷ [])) ≡ decoded gossip
-  pub refused511 : message_fits 510 (spelled (0x80 ∷ 0x00 ∷ [])) gossip ≡ false
+use Rattle.protocol.specs.GuaranteeExamples.{SizeExamples}
 
 pub size-examples : SizeExamples
-unfolding big_endian id_bytes from_big_endian read_kind kind_number read_bytes read_id last_group read_groups read_number read_padded read_round read_padded_content delivery_of delivery_kind read_delivery message_of message_kind read_message event_of read_event message_part ended decode_event message_fits
-size-examples = record { read510 = refl; taken510 = refl; read511 = refl; refused511 = refl }
+unfolding groups number_bytes content_bytes delivery_bytes message_bytes big_endian id_bytes from_big_endian read_kind kind_number read_bytes read_id last_group read_groups read_number read_padded read_round read_padded_content delivery_of delivery_kind read_delivery message_of message_kind read_message event_of read_event message_part ended decode_event message_fits
+size-examples = record { shortest = refl; read510 = refl; taken510 = refl; read511 = refl; refused511 = refl }

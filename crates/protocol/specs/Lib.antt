@@ -21,6 +21,7 @@ pub mod AlikeUnordered
 pub mod Panel
 pub mod AlikeCalls
 pub mod WorkedCalls
+pub mod GuaranteeExamples
 pub mod WhereAPortGoesAstray
 pub mod AnyQuestions
 pub mod NeverFive

@@ -41,7 +41,7 @@ announcement_of id (IHave hs) = lists id hs
 abbrev pub tree_link : ℕ → State → Bool
 tree_link p s = member p (eager_peers s.links) && not (eqb p s.settings.me)
 
--- another link than that to the peer where the message came from, and none of the tree
+-- another link: that of a lazy neighbour, but the one that the message came from
 abbrev pub other_link : ℕ → ℕ → State → Bool
 other_link from p s = member p (lazy_peers s.links) && not (eqb p from)
 
@@ -80,15 +80,15 @@ pub record WhyAnnounced (s : State) (e : Event) (p id : ℕ) : Type 0 where
 
 -- tree links carry the reading, other links its identifier only: of an accepted call
 pub record FollowsTree (hash : List ℕ → ℕ) (s : State) (e : Event) (r : Run) : Type 0 where
-  -- no payload goes anywhere else: so none over another link unless its peer asks for it
+  -- each payload that is sent is due: so none goes over another link unless its peer asks for it
   pub only_due : (p : ℕ) (m : Message) (before after : List Message) → payloads_to p r.actions ≡ before ++ (m ∷ after) → Due hash s e r p m
-  -- tree links carry the reading, once
+  -- each payload that is due to a peer is sent to it, once, and no other beside it: tree links carry the reading
   pub each_due : (p : ℕ) (m : Message) → Due hash s e r p m → payloads_to p r.actions ≡ m ∷ []
   -- other links its identifier: of a message that the call takes in it stands queued for each of them but the one it came from
   pub each_queued : (p : ℕ) (t : Took) → took hash s.settings (accept e r) ≡ Some t → other_link t.from p s ≡ true → any (notes p t.id) r.state.queue ≡ true
-  -- and for no other peer
+  -- and nothing else is queued
   pub only_queued : (p id : ℕ) → any (notes p id) r.state.queue ≡ true → WhyQueued hash s e r p id
-  -- what is queued is announced by the next dispatch tick
+  -- what stands queued stays so until the next dispatch tick announces it, or the peer goes down
   pub until_announced : (p id : ℕ) → any (notes p id) s.queue ≡ true → UntilAnnounced e r p id
   -- and nothing else is announced
   pub only_announced : (p id : ℕ) → any (sends p (announcement_of id) taken_or_handed_back) r.actions ≡ true → WhyAnnounced s e p id

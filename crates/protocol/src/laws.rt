@@ -11,6 +11,7 @@ ghost use Rattle.protocol.specs.TookExact.{TookExact};
 ghost use Rattle.protocol.specs.NeverFive.{NeverFive};
 ghost use Rattle.protocol.specs.Numbers.{Numbers};
 ghost use Rattle.protocol.specs.WorkedCalls.{WorkedCalls};
+ghost use Rattle.protocol.specs.GuaranteeExamples.{GuaranteeExamples};
 ghost use Rattle.protocol.specs.WhereAPortGoesAstray.{WhereAPortGoesAstray};
 
 // Whatever the identifier function: "for every list of event calls (…; refused ones too) from a fresh panel, after it this holds".
@@ -61,6 +62,11 @@ pub fn never_answered_five()
 // "Calls worked through": the starred ones, "proved together, as one theorem about the definitions", and the example of `panelrun`.
 pub fn worked_calls()
     ensures { (hash : List ℕ → ℕ) → WorkedCalls hash }
+{}
+
+// The examples of docs/GUARANTEE.md: lists of calls, and what the definitions compute of them.
+pub fn guarantee_examples()
+    ensures { GuaranteeExamples }
 {}
 
 // "Where a port goes astray", computed; and "65 recorded: the ticks move 64, then 1".

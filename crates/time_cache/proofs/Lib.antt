@@ -1,6 +1,5 @@
--- Laws of the definitions (CallsWorked, CacheLaws, Timely, Removed), of orders and maps (Orders, MapPlaces, Cuts), of the two tables (TableLaws, ExpiryLaws,
+-- Laws of the definitions (CacheLaws, Timely, Removed), of orders and maps (Orders, MapPlaces, Cuts), of the two tables (TableLaws, ExpiryLaws,
 -- NamedLaws), of tables in a block (BlockLaws, LoanLaws, ReadLaws), and of the functions over them (InsertLaws, ExpireLaws, ValueLaws, WriteLaws, ViewLaws; what is removed: GoneLaws, PassedLaws, ToldLaws).
-pub mod CallsWorked
 pub mod CacheLaws
 pub mod Timely
 pub mod Removed

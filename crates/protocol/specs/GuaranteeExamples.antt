@@ -1,10 +1,10 @@
 -- The examples of docs/GUARANTEE.md: lists of calls, and what the definitions compute of each.
 -- Assumes nothing.
-use Rattle.std.specs.Prelude.{ℕ, zero, suc, ◌≡◌, ◌+◌, Bool, true, false, List, [], ◌∷◌, ◌++◌, length, map, replicate, Some, None}
+use Rattle.std.specs.Prelude.{ℕ, zero, suc, ◌≡◌, ◌+◌, Bool, true, false, List, [], ◌∷◌, ◌++◌, length, drop, map, replicate, Some, None}
 use Rattle.storage.specs.Lists.Base.{any}
 use Rattle.storage.specs.Lists.Map.{entry}
 use Rattle.postcard.specs.Number.{id_bytes}
-use Rattle.postcard.specs.Message.{Swarm, Neighbors, to_swarm, to_neighbors, Message, Gossip, Prune, Graft, IHave, SendGraft, DispatchLazyPush, AnnounceDropped, Event, Received, Broadcast, Fired, Up, Down, message_bytes, event_bytes}
+use Rattle.postcard.specs.Message.{Swarm, Neighbors, to_swarm, to_neighbors, Message, Gossip, Prune, Graft, IHave, SendGraft, DispatchLazyPush, EvictCache, AnnounceDropped, Event, Received, Broadcast, Fired, Up, Down, Action, Scheduled, Forgotten, message_bytes, event_bytes}
 use Rattle.postcard.specs.Decode.{decoded, decode_event}
 use Rattle.time_cache.specs.TimeCache.{holds}
 use Rattle.protocol.specs.Links.{eager, eager_peers, lazy_peers}
@@ -18,6 +18,7 @@ use Rattle.protocol.specs.Calls.{Ran, run_calls}
 use Rattle.protocol.specs.NoNeighbourPassedOver.{took, announced, is_graft_for, carries, was_taken, was_handed_back, taken_or_handed_back, sent, dispatch_tick, announce_tick, scheduled, met_full}
 use Rattle.protocol.specs.ReadingsFollowTheTree.{payloads_to, announcement_of}
 use Rattle.protocol.specs.Notings.{Coming, comings_in}
+use Rattle.protocol.specs.Screen.{told}
 use Rattle.protocol.specs.Panel.{panel_settings, panel_limits}
 use Rattle.protocol.specs.WorkedCalls.{nine}
 
@@ -165,7 +166,7 @@ pub record ListExamples : Type 0 where
   pub announced4 : which (sent 2 (carries 9) was_taken) dispatched ≡ false ∷ false ∷ false ∷ true ∷ []
   pub empty4 : (after dispatched).state.queue ≡ []
   -- a return: the broadcast is no part of the list; it is not cached, and nothing stands recorded
-  pub forgotten : holds 9 (after returned).state.cache ≡ false
+  pub uncached : holds 9 (after returned).state.cache ≡ false
   pub nothing : (after returned).state.dropped ≡ []
   pub both : eager_peers (after returned).state.links ≡ 2 ∷ 3 ∷ []
   -- two spellings: answers, actions, counts and state are the same; it goes on to 3
@@ -220,8 +221,34 @@ pub record SizeExamples : Type 0 where
   pub read511 : decode_event (long_spelled (0x80 ∷ 0x00 ∷ [])) ≡ decoded long
   pub refused511 : message_fits 510 (long_spelled (0x80 ∷ 0x00 ∷ [])) long ≡ false
 
+-- an identifier for each content: its first byte
+abbrev pub first : List ℕ → ℕ
+first [] = 0
+first (b ∷ content) = b
+
+-- EvictCache at a time
+abbrev pub evict_at : ℕ → Call
+evict_at now = record { now = now; event = event_bytes (Fired EvictCache); rooms = []; output = 40960 }
+
+-- broadcasts of 8, of 5, and of 8 again, all at time 0, which are cached for 30,000; EvictCache just before that, at it, and once more
+abbrev pub greyed : List Call
+greyed = free (Broadcast (8 ∷ []) to_swarm) ∷ free (Broadcast (5 ∷ []) to_swarm) ∷ free (Broadcast (8 ∷ []) to_swarm) ∷ evict_at 29999 ∷ evict_at 30000 ∷ evict_at 30000 ∷ []
+
+-- the actions of each of the calls
+abbrev pub actions_of : Answer → List Action
+actions_of (refuse n) = []
+actions_of (accept e r) = r.actions
+
+-- of what was forgotten
+pub record ScreenExamples : Type 0 where
+  -- each identifier is told by the eviction that removes it, "in order of removal", once, "before its schedule"
+  pub told : map (λ a. told (actions_of a)) (run_calls first (fresh panel_settings panel_limits) zero_counts greyed).answers ≡ [] ∷ [] ∷ [] ∷ [] ∷ (8 ∷ 5 ∷ []) ∷ [] ∷ []
+  pub before : drop 4 (map actions_of (run_calls first (fresh panel_settings panel_limits) zero_counts greyed).answers)
+      ≡ (Forgotten 8 ∷ Forgotten 5 ∷ Scheduled 1000 EvictCache ∷ []) ∷ (Scheduled 1000 EvictCache ∷ []) ∷ []
+
 pub record GuaranteeExamples : Type 0 where
   pub tree : TreeExamples
   pub lists : ListExamples
   pub met_full : MetFullExample
   pub sizes : SizeExamples
+  pub screen : ScreenExamples

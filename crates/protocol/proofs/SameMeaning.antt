@@ -1,6 +1,6 @@
 -- Only question 10 looks at an event's bytes once they are read (`same-meaning`).
 -- Assumes nothing.
-use Prim.Native.Nat.{ℕ, ◌^◌}
+use Prim.Native.Nat.{ℕ}
 use mathlib.Core.Path.{◌≡◌, refl, ap, ◌∙◌}
 use mathlib.Core.Bool.{Bool, true, false, ◌&&◌}
 use mathlib.Core.List.{List}

@@ -1,6 +1,6 @@
 -- "the same list of events, times, link room and output space gives the same answers and actions": each call keeps two states that differ in the interleaving alone so, and no question sees the interleaving.
 -- Assumes nothing.
-use Prim.Native.Nat.{ℕ, ◌^◌}
+use Prim.Native.Nat.{ℕ}
 use mathlib.Core.Path.{◌≡◌, refl, sym, ap, subst, ◌∙◌}
 use mathlib.Core.Bool.{Bool, true, false, not, ◌&&◌}
 use mathlib.Core.List.{List, [], ◌∷◌}

@@ -51,7 +51,7 @@ def theorems_listed(world):
 # docs/PROOFS.md names each main theorem by its function, `protocol`'s without its crate; docs/GUARANTEE.md names none that is not there; and every other name in their backquotes stands in the crates.
 def claims_held(world):
     here = {believe.told(d) for d in believe.theorems(world)}
-    words = set()
+    words = {*world.crates, "check_invariants"}  # the second is the Rust's
     for path in glob.glob("crates/*/*/**/*", recursive=True):
         if path.endswith((".antt", ".rt", ".edit")) and "/out/" not in path:
             words |= set(re.findall(r"[\w'-]+", open(path, encoding="utf-8").read() + os.path.basename(path)))
@@ -60,7 +60,7 @@ def claims_held(world):
         named = {f"{crate or 'protocol'}::laws::{name}" for crate, name in re.findall(r"`(?:(\w+)::)?laws::(\w+)`", text)}
         if named - here or page == "docs/PROOFS.md" and here - named:
             sys.exit(f"{page}: no theorems are {sorted(named - here)}; not named: {sorted(here - named)}")
-        lost = {n for n in re.findall(r"`([\w'.:-]+)`", text) if re.split(r"[.:]", n)[-1] not in words}
+        lost = {n for n in re.findall(r"`([\w'.:-]*\w)`", text) if re.split(r"[.:]", n)[-1].removesuffix("_spec") not in words | {""} and not re.search(r"(^|_)X(_|$)", n)}
         if lost:
             sys.exit(f"{page} names what stands nowhere: {sorted(lost)}")
 

@@ -28,6 +28,7 @@ use Rattle.storage.proofs.ListsLaws.ListLaws.{count-append}
 use Rattle.protocol.proofs.Invariant.{Same, Stands, Settled, was_sent, was_full, queued_now, recorded_now}
 use Rattle.protocol.proofs.Walk.{Sending, Steps, walk-if}
 use Rattle.protocol.proofs.GraftSteps.{lookup-pop_all}
+use Rattle.protocol.specs.declared.TheConstants.{MAX_DROPPED, MAX_DROPPED_PER_PEER}
 
 -- queue, record and actions only grow, and the cache only shrinks
 pub record Grows (r r' : Run) : Type 0 where
@@ -64,13 +65,13 @@ grows-send p m r = record { queue = λ f h. h; dropped = λ f h. h; actions = λ
 -- a full record stays full with one more
 full-more : (p : ℕ) (ns : List Note) (n : Note) → record_full p ns ≡ true → record_full p (ns ++ (n ∷ [])) ≡ true
 unfolding record_full
-full-more p ns n f = on (or_cases (leb 256 (count (for_peer p) ns)) (leb 4096 (length ns)) f)
+full-more p ns n f = on (or_cases (leb MAX_DROPPED_PER_PEER (count (for_peer p) ns)) (leb MAX_DROPPED (length ns)) f)
   where
-    on : (leb 256 (count (for_peer p) ns) ≡ true) ⊎ (leb 4096 (length ns) ≡ true) → (leb 256 (count (for_peer p) (ns ++ (n ∷ []))) || leb 4096 (length (ns ++ (n ∷ [])))) ≡ true
-    on (inl h) = or_left (leb 256 (count (for_peer p) (ns ++ (n ∷ [])))) (leb 4096 (length (ns ++ (n ∷ []))))
-        (le-leb 256 (count (for_peer p) (ns ++ (n ∷ []))) (omega (arith, leb-true 256 (count (for_peer p) ns) h, count-append (for_peer p) ns (n ∷ []))))
-    on (inr h) = or_right (leb 256 (count (for_peer p) (ns ++ (n ∷ [])))) (leb 4096 (length (ns ++ (n ∷ []))))
-        (le-leb 4096 (length (ns ++ (n ∷ []))) (omega (arith, leb-true 4096 (length ns) h, length-append ns (n ∷ []))))
+    on : (leb MAX_DROPPED_PER_PEER (count (for_peer p) ns) ≡ true) ⊎ (leb MAX_DROPPED (length ns) ≡ true) → (leb MAX_DROPPED_PER_PEER (count (for_peer p) (ns ++ (n ∷ []))) || leb MAX_DROPPED (length (ns ++ (n ∷ [])))) ≡ true
+    on (inl h) = or_left (leb MAX_DROPPED_PER_PEER (count (for_peer p) (ns ++ (n ∷ [])))) (leb MAX_DROPPED (length (ns ++ (n ∷ []))))
+        (le-leb MAX_DROPPED_PER_PEER (count (for_peer p) (ns ++ (n ∷ []))) (omega (arith, leb-true MAX_DROPPED_PER_PEER (count (for_peer p) ns) h, count-append (for_peer p) ns (n ∷ []))))
+    on (inr h) = or_right (leb MAX_DROPPED_PER_PEER (count (for_peer p) (ns ++ (n ∷ [])))) (leb MAX_DROPPED (length (ns ++ (n ∷ []))))
+        (le-leb MAX_DROPPED (length (ns ++ (n ∷ []))) (omega (arith, leb-true MAX_DROPPED (length ns) h, length-append ns (n ∷ []))))
 
 pub grows-note_one : (p : ℕ) (h : Ihave) (r : Run) → Grows r (note_one p h r)
 unfolding note_one record_also

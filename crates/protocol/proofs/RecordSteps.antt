@@ -21,6 +21,7 @@ use Rattle.storage.proofs.ListsLaws.MapLaws.{cases, true≢}
 use Rattle.storage.proofs.ListsLaws.Lists.{or_left, or_right, any_left, any-right, any-one}
 use Rattle.protocol.proofs.Walk.{Sending, Steps}
 use Rattle.protocol.proofs.RecordBounds.{within-filter, within-younger, within_more}
+use Rattle.protocol.specs.declared.TheConstants.{ANNOUNCE_DROPPED_INTERVAL}
 
 -- counting
 
@@ -111,7 +112,7 @@ sound-schedule_announce_dropped r = sound-if (is_empty r.state.dropped || r.stat
   queue_flag = λ h. h;
   record_flag = λ h. or_right (is_empty r.state.dropped) true refl;
   dispatch_timer = λ h. inl h;
-  announce_timer = λ h. inr (schedules-announce 1000 r.actions);
+  announce_timer = λ h. inr (schedules-announce ANNOUNCE_DROPPED_INTERVAL.0 r.actions);
   actions = λ f h. any_left f r.actions _ h;
 })
 

@@ -1,6 +1,6 @@
 -- Only question 10 looks at an event's bytes once they are read (`same-meaning`).
 -- Assumes nothing.
-use Prim.Native.Nat.{ℕ, ◌^◌}
+use Prim.Native.Nat.{ℕ}
 use mathlib.Core.Path.{◌≡◌, refl, ap, ◌∙◌}
 use mathlib.Core.Bool.{Bool, true, false, ◌&&◌}
 use mathlib.Core.List.{List}
@@ -17,12 +17,13 @@ use Rattle.protocol.specs.Calls.{state_after, counts_after, Ran, prepend, run_ca
 use Rattle.protocol.specs.SameMeaning.{respelled, Respelled, none_left, as-it-is, another-spelling, SameMeaning}
 use Rattle.protocol.proofs.Accepted.{ask-cases}
 use Rattle.protocol.proofs.WholeKept.{kept-handle}
+use Rattle.protocol.specs.declared.TheConstants.{LATEST}
 
 module _ (hash : List ℕ → ℕ) (c : Counts) (k : Call) (bytes : List ℕ) (e : Event) (read : decode_event k.event ≡ decoded e) (read' : decode_event bytes ≡ decoded e) where
   -- upon a state
   same-ask : (s : State) → message_fits s.settings.max_message_size bytes e ≡ message_fits s.settings.max_message_size k.event e → ask hash s c (respelled bytes k) ≡ ask hash s c k
   unfolding ask ask_read ask_of
-  same-ask s fit = if-both (leb k.now (2 ^ 62)) (rw (read, read') (rw fit refl)) refl
+  same-ask s fit = if-both (leb k.now (LATEST.0)) (rw (read, read') (rw fit refl)) refl
 
   -- upon a block
   same_block : (block_length : ℕ) (held : Option State) → ((s : State) → held ≡ Some s → message_fits s.settings.max_message_size bytes e ≡ message_fits s.settings.max_message_size k.event e) →

@@ -1,6 +1,6 @@
 -- "the same list of events, times, link room and output space gives the same answers and actions": each call keeps two states that differ in the interleaving alone so, and no question sees the interleaving.
 -- Assumes nothing.
-use Prim.Native.Nat.{ℕ, ◌^◌}
+use Prim.Native.Nat.{ℕ}
 use mathlib.Core.Path.{◌≡◌, refl, sym, ap, subst, ◌∙◌}
 use mathlib.Core.Bool.{Bool, true, false, not, ◌&&◌}
 use mathlib.Core.List.{List, [], ◌∷◌}
@@ -25,6 +25,7 @@ use Rattle.protocol.proofs.AlikeCallsLaws.PeerLaws.{peerwise-length}
 use Rattle.protocol.proofs.AlikeCallsLaws.LikeSteps.{like-first_event, like-handle}
 use Rattle.protocol.proofs.AlikeCallsLaws.Reflect.{alike-like}
 use Rattle.protocol.proofs.AlikeCallsLaws.Stay.{like-alike}
+use Rattle.protocol.specs.declared.TheConstants.{LATEST}
 
 -- what two such runs have the same
 
@@ -101,7 +102,7 @@ module _ (hash : List ℕ → ℕ) where
 
   like-ask : (s t : State) (c : Counts) (k : Call) → LikeStates s t → LikeAnswers (ask hash s c k) (ask hash t c k)
   unfolding ask
-  like-ask s t c k l = like-question (leb k.now (2 ^ 62)) (leb k.now (2 ^ 62)) refl (like-ask_read s t c k (decode_event k.event) l) (both-refuse 6)
+  like-ask s t c k l = like-question (leb k.now (LATEST.0)) (leb k.now (LATEST.0)) refl (like-ask_read s t c k (decode_event k.event) l) (both-refuse 6)
 
   like-ask_whole : (s t : State) (c : Counts) (k : Call) → whole s ≡ true → whole t ≡ true → LikeStates s t → LikeAnswers (ask_whole hash s c k) (ask_whole hash t c k)
   unfolding ask_whole

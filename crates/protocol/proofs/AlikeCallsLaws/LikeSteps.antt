@@ -22,6 +22,7 @@ use Rattle.protocol.specs.Neighbours.{on_neighbor_up, without_notes, forget_peer
 use Rattle.protocol.specs.Handle.{first_event, count_message, if_neighbour, on_timer, on_message, handle_message, handle}
 use Rattle.protocol.specs.AlikeCalls.Peerwise.{Peerwise, Like, like}
 use Rattle.protocol.proofs.AlikeCallsLaws.PeerLaws.{peerwise-refl, peerwise-append, peerwise-filter, peerwise-count, peerwise-any, peerwise-length, peerwise-empty, peerwise-oldest, peerwise-younger, peerwise-peers}
+use Rattle.protocol.specs.declared.TheConstants.{ANNOUNCE_DROPPED_INTERVAL, MAX_DROPPED, MAX_DROPPED_PER_PEER}
 
 like-if : {a b x y : Run} (t : Bool) → Like a b → Like x y → Like (if t then a else x) (if t then b else y)
 like-if true l m = l
@@ -118,7 +119,7 @@ like-schedule_announce_dropped : {a b : Run} → Like a b → Like (schedule_ann
 unfolding schedule_announce_dropped act
 like-schedule_announce_dropped (like r q d q' d' e f) =
     rw (peerwise-empty d d' f)
-    (like-if (is_empty d' || r.state.timers.announce) (like r q d q' d' e f) (like-act (Scheduled 1000 AnnounceDropped) (like (with_state (with_announce_scheduled true r.state) r) q d q' d' e f)))
+    (like-if (is_empty d' || r.state.timers.announce) (like r q d q' d' e f) (like-act (Scheduled ANNOUNCE_DROPPED_INTERVAL.0 AnnounceDropped) (like (with_state (with_announce_scheduled true r.state) r) q d q' d' e f)))
 
 -- noting
 
@@ -126,7 +127,7 @@ like-note_one : {a b : Run} (p : ℕ) (h : Ihave) → Like a b → Like (note_on
 unfolding note_one record_also record_full
 like-note_one p h (like r q d q' d' e f) =
     rw (peerwise-count p f, peerwise-length d d' f, peerwise-any p h.id f)
-    (like-if (not (leb 256 (count (for_peer p) d') || leb 4096 (length d')) && holds h.id r.state.cache && not (any (notes p h.id) d'))
+    (like-if (not (leb MAX_DROPPED_PER_PEER (count (for_peer p) d') || leb MAX_DROPPED (length d')) && holds h.id r.state.cache && not (any (notes p h.id) d'))
     (like r q (d ++ one) q' (d' ++ one) e (peerwise-append f (peerwise-refl one))) (like r q d q' d' e f))
   where
     one : List Note

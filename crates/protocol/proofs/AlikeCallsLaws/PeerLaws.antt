@@ -20,6 +20,7 @@ use Rattle.protocol.specs.Push.{for_peer, notes}
 use Rattle.protocol.specs.Ticks.{oldest, younger, queued_peers}
 use Rattle.protocol.proofs.ConsistentTables.{ascending-insert_key}
 use Rattle.protocol.specs.AlikeCalls.Peerwise.{Peerwise, of_peer}
+use Rattle.protocol.specs.declared.TheConstants.{DROPPED_PER_TICK}
 
 pub eqb_refl : (n : ℕ) → eqb n n ≡ true
 eqb_refl n = eq-eqb n n refl
@@ -112,50 +113,50 @@ peerwise-empty (x ∷ xs) (y ∷ ys) h = refl
 -- "the oldest 64 per peer"
 
 -- of one peer the oldest are the first, as many as are left of 64
-pub oldest-of : (p : ℕ) (seen ns : List Note) → of_peer p (oldest seen ns) ≡ take (64 - count (for_peer p) seen) (of_peer p ns)
+pub oldest-of : (p : ℕ) (seen ns : List Note) → of_peer p (oldest seen ns) ≡ take (DROPPED_PER_TICK - count (for_peer p) seen) (of_peer p ns)
 unfolding oldest filter count
-oldest-of p seen [] = sym (take-nil (64 - count (for_peer p) seen))
+oldest-of p seen [] = sym (take-nil (DROPPED_PER_TICK - count (for_peer p) seen))
 oldest-of p seen (n ∷ ns) =
     cases (eqb n.peer p)
     (λ e. let s = eqb-true n.peer p e in
-    cases (ltb (count (for_peer n.peer) seen) 64)
-    (λ l. rw (l, e) (ap (λ (r : List Note). n ∷ r) (rw e at (oldest-of p (n ∷ seen) ns)) ∙ more (ltb-true (count (for_peer p) seen) 64 (rw s at l))))
-    (λ l. rw (l, e) ((rw e at (oldest-of p (n ∷ seen) ns)) ∙ less (ltb-false (count (for_peer p) seen) 64 (rw s at l)))))
-    (λ e. cases (ltb (count (for_peer n.peer) seen) 64)
+    cases (ltb (count (for_peer n.peer) seen) DROPPED_PER_TICK)
+    (λ l. rw (l, e) (ap (λ (r : List Note). n ∷ r) (rw e at (oldest-of p (n ∷ seen) ns)) ∙ more (ltb-true (count (for_peer p) seen) DROPPED_PER_TICK (rw s at l))))
+    (λ l. rw (l, e) ((rw e at (oldest-of p (n ∷ seen) ns)) ∙ less (ltb-false (count (for_peer p) seen) DROPPED_PER_TICK (rw s at l)))))
+    (λ e. cases (ltb (count (for_peer n.peer) seen) DROPPED_PER_TICK)
     (λ l. rw (l, e) (rw e at (oldest-of p (n ∷ seen) ns)))
     (λ l. rw (l, e) (rw e at (oldest-of p (n ∷ seen) ns))))
   where
-    more : count (for_peer p) seen < 64 → (n ∷ take (64 - suc (count (for_peer p) seen)) (of_peer p ns)) ≡ take (64 - count (for_peer p) seen) (n ∷ of_peer p ns)
-    more l = let e : 64 - count (for_peer p) seen ≡ suc (64 - suc (count (for_peer p) seen)) = omega arith in rw e
+    more : count (for_peer p) seen < DROPPED_PER_TICK → (n ∷ take (DROPPED_PER_TICK - suc (count (for_peer p) seen)) (of_peer p ns)) ≡ take (DROPPED_PER_TICK - count (for_peer p) seen) (n ∷ of_peer p ns)
+    more l = let e : DROPPED_PER_TICK - count (for_peer p) seen ≡ suc (DROPPED_PER_TICK - suc (count (for_peer p) seen)) = omega arith in rw e
 
-    less : 64 ≤ count (for_peer p) seen → take (64 - suc (count (for_peer p) seen)) (of_peer p ns) ≡ take (64 - count (for_peer p) seen) (n ∷ of_peer p ns)
-    less l = let e : 64 - count (for_peer p) seen ≡ 0 = omega arith in let f : 64 - suc (count (for_peer p) seen) ≡ 0 = omega arith in rw (e, f)
+    less : DROPPED_PER_TICK ≤ count (for_peer p) seen → take (DROPPED_PER_TICK - suc (count (for_peer p) seen)) (of_peer p ns) ≡ take (DROPPED_PER_TICK - count (for_peer p) seen) (n ∷ of_peer p ns)
+    less l = let e : DROPPED_PER_TICK - count (for_peer p) seen ≡ 0 = omega arith in let f : DROPPED_PER_TICK - suc (count (for_peer p) seen) ≡ 0 = omega arith in rw (e, f)
 
 -- and the younger are the others
-pub younger-of : (p : ℕ) (seen ns : List Note) → of_peer p (younger seen ns) ≡ drop (64 - count (for_peer p) seen) (of_peer p ns)
+pub younger-of : (p : ℕ) (seen ns : List Note) → of_peer p (younger seen ns) ≡ drop (DROPPED_PER_TICK - count (for_peer p) seen) (of_peer p ns)
 unfolding younger filter count
-younger-of p seen [] = sym (drop-nil (64 - count (for_peer p) seen))
+younger-of p seen [] = sym (drop-nil (DROPPED_PER_TICK - count (for_peer p) seen))
 younger-of p seen (n ∷ ns) =
     cases (eqb n.peer p)
     (λ e. let s = eqb-true n.peer p e in
-    cases (ltb (count (for_peer n.peer) seen) 64)
-    (λ l. rw (l, e) ((rw e at (younger-of p (n ∷ seen) ns)) ∙ more (ltb-true (count (for_peer p) seen) 64 (rw s at l))))
-    (λ l. rw (l, e) (ap (λ (r : List Note). n ∷ r) (rw e at (younger-of p (n ∷ seen) ns)) ∙ less (ltb-false (count (for_peer p) seen) 64 (rw s at l)))))
-    (λ e. cases (ltb (count (for_peer n.peer) seen) 64)
+    cases (ltb (count (for_peer n.peer) seen) DROPPED_PER_TICK)
+    (λ l. rw (l, e) ((rw e at (younger-of p (n ∷ seen) ns)) ∙ more (ltb-true (count (for_peer p) seen) DROPPED_PER_TICK (rw s at l))))
+    (λ l. rw (l, e) (ap (λ (r : List Note). n ∷ r) (rw e at (younger-of p (n ∷ seen) ns)) ∙ less (ltb-false (count (for_peer p) seen) DROPPED_PER_TICK (rw s at l)))))
+    (λ e. cases (ltb (count (for_peer n.peer) seen) DROPPED_PER_TICK)
     (λ l. rw (l, e) (rw e at (younger-of p (n ∷ seen) ns)))
     (λ l. rw (l, e) (rw e at (younger-of p (n ∷ seen) ns))))
   where
-    more : count (for_peer p) seen < 64 → drop (64 - suc (count (for_peer p) seen)) (of_peer p ns) ≡ drop (64 - count (for_peer p) seen) (n ∷ of_peer p ns)
-    more l = let e : 64 - count (for_peer p) seen ≡ suc (64 - suc (count (for_peer p) seen)) = omega arith in rw e
+    more : count (for_peer p) seen < DROPPED_PER_TICK → drop (DROPPED_PER_TICK - suc (count (for_peer p) seen)) (of_peer p ns) ≡ drop (DROPPED_PER_TICK - count (for_peer p) seen) (n ∷ of_peer p ns)
+    more l = let e : DROPPED_PER_TICK - count (for_peer p) seen ≡ suc (DROPPED_PER_TICK - suc (count (for_peer p) seen)) = omega arith in rw e
 
-    less : 64 ≤ count (for_peer p) seen → (n ∷ drop (64 - suc (count (for_peer p) seen)) (of_peer p ns)) ≡ drop (64 - count (for_peer p) seen) (n ∷ of_peer p ns)
-    less l = let e : 64 - count (for_peer p) seen ≡ 0 = omega arith in let f : 64 - suc (count (for_peer p) seen) ≡ 0 = omega arith in rw (e, f)
+    less : DROPPED_PER_TICK ≤ count (for_peer p) seen → (n ∷ drop (DROPPED_PER_TICK - suc (count (for_peer p) seen)) (of_peer p ns)) ≡ drop (DROPPED_PER_TICK - count (for_peer p) seen) (n ∷ of_peer p ns)
+    less l = let e : DROPPED_PER_TICK - count (for_peer p) seen ≡ 0 = omega arith in let f : DROPPED_PER_TICK - suc (count (for_peer p) seen) ≡ 0 = omega arith in rw (e, f)
 
 pub peerwise-oldest : {xs ys : List Note} → Peerwise xs ys → Peerwise (oldest [] xs) (oldest [] ys)
-peerwise-oldest {xs} {ys} h = record { same = λ p. oldest-of p [] xs ∙ ap (take (64 - count (for_peer p) [])) (h.same p) ∙ sym (oldest-of p [] ys) }
+peerwise-oldest {xs} {ys} h = record { same = λ p. oldest-of p [] xs ∙ ap (take (DROPPED_PER_TICK - count (for_peer p) [])) (h.same p) ∙ sym (oldest-of p [] ys) }
 
 pub peerwise-younger : {xs ys : List Note} → Peerwise xs ys → Peerwise (younger [] xs) (younger [] ys)
-peerwise-younger {xs} {ys} h = record { same = λ p. younger-of p [] xs ∙ ap (drop (64 - count (for_peer p) [])) (h.same p) ∙ sym (younger-of p [] ys) }
+peerwise-younger {xs} {ys} h = record { same = λ p. younger-of p [] xs ∙ ap (drop (DROPPED_PER_TICK - count (for_peer p) [])) (h.same p) ∙ sym (younger-of p [] ys) }
 
 -- "peers ascending": the same peers
 

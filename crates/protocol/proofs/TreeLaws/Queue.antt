@@ -22,6 +22,7 @@ use Rattle.protocol.specs.ReadingsFollowTheTree.{is_payload, payloads_to, announ
 use Rattle.protocol.proofs.Walk.{walk-if}
 use Rattle.protocol.proofs.Pushes.{eqb_refl, chunks-cover, queued-lists, queued-length, queued-peer}
 use Rattle.protocol.proofs.TreeLaws.Plain.{announcing, payloads-skip, Plain, plain-refl, ◌⨾◌, plain-note_dropped, plain-schedule_dispatch, plain-schedule_announce}
+use Rattle.protocol.specs.declared.TheConstants.{DROPPED_PER_TICK}
 
 -- lists
 
@@ -188,7 +189,7 @@ any-oldest f seen [] h = h
 any-oldest f seen (n ∷ ns) h =
     cases (f n)
     (λ q. rw q)
-    (λ q. rw q (cases (ltb (count (for_peer n.peer) seen) 64) (λ l. any-oldest f (n ∷ seen) ns (rw (l, q) at h)) (λ l. any-oldest f (n ∷ seen) ns (rw l at h))))
+    (λ q. rw q (cases (ltb (count (for_peer n.peer) seen) DROPPED_PER_TICK) (λ l. any-oldest f (n ∷ seen) ns (rw (l, q) at h)) (λ l. any-oldest f (n ∷ seen) ns (rw l at h))))
 
 -- what it moves was recorded
 pub moved-only : (f : Note → Bool) (s : State) → any f (oldest [] (still_cached s)) ≡ true → any f s.dropped ≡ true

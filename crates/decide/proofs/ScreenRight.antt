@@ -3,21 +3,21 @@
 -- Assumes nothing.
 use Prim.Native.Nat.{ℕ}
 use mathlib.Core.Path.{◌≡◌, refl, sym, ap, subst, ◌∙◌}
-use mathlib.Core.Bool.{Bool, true, false, not}
+use mathlib.Core.Bool.{Bool, true, false}
 use mathlib.Core.List.{List, [], ◌∷◌, ◌++◌, map, append-nil, append_assoc}
 use lib.Dec.{ltb}
 use lib.ListN.{length}
 use Rattle.std.specs.Prelude.{if◌then◌else◌}
-use Rattle.storage.specs.Lists.Base.{filter, all}
+use Rattle.storage.specs.Lists.Base.{filter}
 use Rattle.storage.proofs.ListsLaws.MapLaws.{cases, true≢, all_head, all_tail}
-use Rattle.storage.proofs.ListsLaws.Branches.{if-on, if-both, if-same}
-use Rattle.time_cache.specs.TimeCache.{expired_keys, expire_until}
+use Rattle.storage.proofs.ListsLaws.Branches.{if-on, if-both}
+use Rattle.time_cache.specs.TimeCache.{expired_keys}
 use Rattle.time_cache.proofs.GoneLaws.{expired-member, expired-once}
 use Rattle.postcard.specs.Message.{Scope, Message, Timer, SendGraft, DispatchLazyPush, EvictCache, AnnounceDropped, Event, Received, Broadcast, Fired, Up, Down, Action, Sent, Scheduled, Emitted, Forgotten}
 use Rattle.protocol.specs.State.{State, Counts}
-use Rattle.protocol.specs.Run.{Run, Room, begin, with_state, with_counts, act}
-use Rattle.protocol.specs.Gossips.{gossip_size, broadcast_to, broadcast, update_links}
-use Rattle.protocol.specs.Ticks.{evict, tell_forgotten, on_evict_cache_timer}
+use Rattle.protocol.specs.Run.{Run, Room, begin, with_counts, act}
+use Rattle.protocol.specs.Gossips.{gossip_size, broadcast, update_links}
+use Rattle.protocol.specs.Ticks.{evict, on_evict_cache_timer}
 use Rattle.protocol.specs.Neighbours.{on_neighbor_up, on_neighbor_down}
 use Rattle.protocol.specs.Handle.{first_event, count_message, on_timer, on_message, handle_message, handle}
 use Rattle.protocol.specs.Whole.{whole}

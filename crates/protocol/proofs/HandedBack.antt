@@ -3,11 +3,11 @@ use Rattle.std.specs.Prelude.{Some, None}
 use Prim.Native.Nat.{ℕ, suc}
 use mathlib.Core.Path.{◌≡◌, refl, ◌∙◌}
 use mathlib.Core.Bool.{Bool, false, not, ◌&&◌, ◌||◌}
-use mathlib.Core.List.{List, [], ◌∷◌, ◌++◌, map}
+use mathlib.Core.List.{List, [], ◌∷◌}
 use lib.Dec.{eqb}
 use Rattle.storage.specs.Lists.Base.{is_empty, any, member}
 use Rattle.time_cache.specs.TimeCache.{holds, get, expired_keys}
-use Rattle.postcard.specs.Message.{Delivery, Ihave, Message, Prune, Graft, Sent, Scheduled, Emitted, Forgotten, Timer}
+use Rattle.postcard.specs.Message.{Delivery, Ihave, Message, Prune, Graft, Sent, Scheduled, Emitted, Timer}
 use Rattle.protocol.specs.Links.{is_neighbour, eager_in}
 use Rattle.protocol.specs.State.{Hop}
 use Rattle.protocol.specs.Run.{Run, act, send, takes}

@@ -20,7 +20,7 @@ use Rattle.protocol.specs.NoNeighbourPassedOver.{is_emit, Took, took}
 use Rattle.protocol.specs.ReadingsFollowTheTree.{payloads_to, other_link, Due, passed_on, broadcast_by_us, for_neighbours, asked_for, WhyQueued, queued_before, taken_in, UntilAnnounced, still_queued, FollowsTree}
 use Rattle.protocol.proofs.Pushes.{noted-for, member_filter}
 use Rattle.protocol.proofs.TreeLaws.Plain.{announcing, Plain}
-use Rattle.protocol.proofs.TreeLaws.Pushed.{one_if}
+use Rattle.protocol.proofs.EagerTargets.{one_if}
 use Rattle.protocol.proofs.TreeLaws.Queue.{member-filtered, only-noted-for}
 
 pub none-some : {A : Type 0} {P : Type 0} (x : A) → None ≡ Some x → P

@@ -34,7 +34,8 @@ use Rattle.protocol.proofs.Pushes.{queue-dispatch}
 use Rattle.protocol.proofs.TakenIn.{member-keys, schedule_dispatch-state, lazy_push-links, lazy_push-settings, first-links, first-settings}
 use Rattle.protocol.proofs.Step.{ran_on}
 use Rattle.protocol.proofs.TreeLaws.Plain.{announcing, Plain, plain-refl, ◌⨾◌, plain-emit, plain-note_dropped, plain-schedule_dispatch, plain-links, plain-received, plain-cache_at, plain-set_first, plain-settle, plain-on_duplicate, plain-on_ihave, plain-on_prune, plain-on_send_graft_timer, plain-evict, begins}
-use Rattle.protocol.proofs.TreeLaws.Pushed.{copies, one_if, Pushes, pushes, pushes-one, copies-targets}
+use Rattle.protocol.proofs.EagerTargets.{copies, one_if, copies-targets}
+use Rattle.protocol.proofs.TreeLaws.Pushed.{Pushes, pushes, pushes-one}
 use Rattle.protocol.proofs.TreeLaws.Queue.{any-filtered, dispatch-payloads, dispatch-tells, dispatch-only, moved-only, Moves, moves}
 use Rattle.protocol.proofs.TreeLaws.Parts.{none-some, not-true, Ready, carrying, Exact, exact-idle, queued-same, queued-more, only-of, each-of, follows-by, follows-plain, follows-idle}
 

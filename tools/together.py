@@ -10,8 +10,12 @@ PROVED, FAILED = "fn {}: proved", "fn {}: (not proved|no proof: expected answers
 NAMES = r"has no field|is not in scope|has no `"
 
 
-# The edit's file, its old and new texts, and the functions that they are in. `alone` where it can spoil more than one function's own proof: as an edit of specs/ or of a
-# constant, of a contract that the crate itself uses, and one that needs several texts.
+# Where the text of a file ends within an impl or a trait: its name, as the type's, or as `TypeTrait` of a trait for a type.
+IMPLS = r"^impl\b(?:<[^>]*>)? ?(?:(\w+)(?:<[^>]*>)? for )?(?:\w+::)*(\w+)(?:<[^>]*>)? \{$|^(?:pub )?trait (\w+)|^(\})$"
+
+
+# The edit's file, its old and new texts, and the function that they are in: its name, and its module or, where it is a method, its type. `alone` where it can spoil more
+# than one function's own proof: as an edit of specs/ or of a constant, of a contract that the crate itself uses, and one that needs several texts.
 def read(crate, edit):
     lines = [line.split(": ", 1) for line in open(edit).read().splitlines() if line]
     file, old, new = ([text for key, text in lines if key == wanted] for wanted in ("file", "old", "new"))
@@ -22,7 +26,10 @@ def read(crate, edit):
     name = (re.findall(r"\bfn (\w+)", text[:start]) or [""])[-1]
     source = "".join(open(f).read() for f in glob.glob(f"crates/{crate}/src/**/*.rt", recursive=True))
     is_contract = old[0].lstrip().startswith(("requires", "ensures")) and len(re.findall(rf"\b{name}\(", source)) > 1
-    module = file[0][4:-3].replace("/", "::")
+    module = file[0][4:-3].replace("/", "::").removesuffix("::mod")
+    trait, of, itself, closed = (re.findall(IMPLS, text[:start], re.M) or [("", "", "", "}")])[-1]
+    if not closed:
+        module = itself or of + trait
     alone = not file[0].startswith("src/") or is_contract or not name
     return {"edit": edit, "file": f"crates/{crate}/{file[0]}", "start": start, "end": start + len(old[0]), "new": new[0], "in": (module, name), "alone": alone}
 
@@ -40,16 +47,21 @@ def check(crate, edits=()):
     return said
 
 
-# The line of a function itself, as `fn rows::table::find: proved`: an impl's function has its type before its name.
+# What stands before a function's name: its module, or the type of a method with the module in which that is declared.
+def before(place, separator):
+    if place[0] in ("lib", "main"):
+        return ""
+    return (rf"(\w+{separator})*" if place[0][0].isupper() else "") + place[0].replace("::", separator) + separator
+
+
+# The line of a function itself, as `fn rows::table::find: proved`.
 def line_of(crate, place, said, form):
-    module = "" if place[0] in ("lib", "main") else place[0] + "::"
-    return next((l for l in said if re.fullmatch(form.format(rf"{crate}::{module}([A-Z]\w*::)?{place[1]}"), l)), None)
+    return next((l for l in said if re.fullmatch(form.format(rf"{crate}::{before(place, '::')}{place[1]}"), l)), None)
 
 
 # The first error of a function's own proof. That something else was not admitted may be another edit's doing, and so may an error in a lemma.
 def own_error(crate, place, said):
-    module = "" if place[0] in ("lib", "main") else place[0].replace("::", "/") + "/"
-    proof = rf"(\./)?proofs/{module}([A-Z]\w*/)?{place[1]}/\S*: error"
+    proof = rf"(\./)?proofs/{before(place, '/')}{place[1]}/\S*: error"
     errors = [l for l in said if re.match(proof, l) and "was not admitted" not in l]
     return next((l for l in errors if not re.search(NAMES, l)), None) or next(iter(errors), None) or line_of(crate, place, said, FAILED)
 

@@ -1,11 +1,12 @@
 -- What an eviction tells, one identifier after the other.
 -- Assumes nothing.
-use Rattle.std.proofs.Common.{◌≡◌, refl, ℕ, ◌+◌, ◌<◌, ◌≤◌, List, [], ◌∷◌, ◌++◌, map, length, length-append, get_or, drop, sym, ap, ◌∙◌, arith}
+use Rattle.std.proofs.Common.{◌≡◌, false, not, refl, ℕ, ◌+◌, ◌<◌, ◌≤◌, List, [], ◌∷◌, ◌++◌, map, length, length-append, get_or, drop, sym, ap, ◌∙◌, arith}
 use Rattle.std.proofs.lemmas.List.{drop_all}
 use Rattle.std.proofs.Math.Seq.{drop-cons}
 use native.Mathlib.Numerals.{add-one}
-use Rattle.storage.specs.Lists.Base.{concat_map}
-use Rattle.time_cache.specs.TimeCache.{expired_keys}
+use Rattle.storage.specs.Lists.Base.{concat_map, is_empty}
+use Rattle.time_cache.specs.TimeCache.{due, expired_keys}
+use Rattle.time_cache.proofs.PassedLaws.{none-due}
 use Rattle.postcard.specs.Message.{Forgotten, action_bytes}
 use Rattle.wire.specs.Encode.Intake.{Intake, after, RoomFor}
 use Rattle.wire.proofs.EncodeLaws.IntakeLaws.{after_append, after_nil, room_after}
@@ -21,6 +22,11 @@ use Rattle.steps.proofs.ActionLaws.{one-action, actions-then, scheduled}
 pub init-of : (h : Head) (block : List ℕ) → (state_of h block).init ≡ h.live.init
 unfolding state_of
 init-of h block = refl
+
+-- where no row is due, nothing is told
+pub told-none : (now : ℕ) (s : State) (x : Intake) → not (is_empty (due now s.cache.expiry)) ≡ false → x ≡ after (concat_map action_bytes (forgotten_actions now s)) x
+unfolding forgotten_actions concat_map
+told-none now s x h = sym (after_nil x) ∙ ap (λ (ids : List ℕ). after (concat_map action_bytes (map (λ id. Forgotten id) ids)) x) (sym (none-due now s.cache h))
 
 module _ (h : Head) (block rows : List ℕ) where
   -- the actions of the rows from i on, as bytes

@@ -18,7 +18,7 @@ use crate::panel::Panel;
 use crate::schedule::schedule_evict_cache;
 use crate::view::View;
 use crate::{Sizes, settled};
-use block::caches::cached::{forgotten_rows, row_id};
+use block::caches::cached::{forgotten_rows, is_any_due, row_id};
 use block::caches::{grafted, received};
 use wire::encode::Encode;
 use wire::encode::action::Forget;
@@ -33,8 +33,9 @@ pub fn evict_sizes(view: &View, call: &Call) -> Sizes
     settled::later_sizes(view.head, view.block, call.instant)
 }
 
-// "action 4 with the identifier for each one from the message cache", in order of removal.
-fn tell_forgotten<S: Sink>(view: &View, call: &Call, out: &mut S)
+// "action 4 with the identifier for each one from the message cache", in order of removal. It is never inlined: an eviction of nothing is not to clear the places for rows.
+#[inline(never)]
+fn tell_rows<S: Sink>(view: &View, call: &Call, out: &mut S)
     requires order { InOrder (shown view.now).cache }
     requires room { RoomFor (concat_map action_bytes (forgotten_actions call.now.instant.0 (shown view.now))) (S.intake out.old) }
     ensures { S.intake out.new ≡ after (concat_map action_bytes (forgotten_actions call.now.instant.0 (shown view.now))) (S.intake out.old) }
@@ -43,6 +44,17 @@ fn tell_forgotten<S: Sink>(view: &View, call: &Call, out: &mut S)
     for row in rows.as_slice() {
         let id = row_id(view.head, view.block, *row as usize);
         Forget { id }.encode(out);
+    }
+}
+
+// The same; where no row is due, nothing is told.
+fn tell_forgotten<S: Sink>(view: &View, call: &Call, out: &mut S)
+    requires order { InOrder (shown view.now).cache }
+    requires room { RoomFor (concat_map action_bytes (forgotten_actions call.now.instant.0 (shown view.now))) (S.intake out.old) }
+    ensures { S.intake out.new ≡ after (concat_map action_bytes (forgotten_actions call.now.instant.0 (shown view.now))) (S.intake out.old) }
+{
+    if is_any_due(view.head, view.block, call.instant) {
+        tell_rows(view, call, out);
     }
 }
 

@@ -1,5 +1,5 @@
 -- Laws of the definitions (CacheLaws, Timely, Removed), of orders and maps (Orders, MapPlaces, Cuts), of the two tables (TableLaws, ExpiryLaws,
--- NamedLaws), of tables in a block (BlockLaws, LoanLaws, ReadLaws), and of the functions over them (InsertLaws, ExpireLaws, ValueLaws, WriteLaws, ViewLaws; what is removed: GoneLaws, PassedLaws, ToldLaws).
+-- NamedLaws), of tables in a block (BlockLaws, LoanLaws, ReadLaws), and of the functions over them (InsertLaws, ExpireLaws, ValueLaws, WriteLaws, ViewLaws; what is removed: GoneLaws, PassedLaws, NamesLaws, ToldLaws).
 pub mod CacheLaws
 pub mod Timely
 pub mod Removed
@@ -19,4 +19,5 @@ pub mod WriteLaws
 pub mod ViewLaws
 pub mod GoneLaws
 pub mod PassedLaws
+pub mod NamesLaws
 pub mod ToldLaws

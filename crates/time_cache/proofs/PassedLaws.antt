@@ -3,9 +3,10 @@
 use Rattle.std.specs.Prelude.{None, if◌then◌else◌}
 use Prim.Native.Nat.{ℕ, zero, suc, ◌+◌, ◌≤◌, ◌<◌}
 use mathlib.Core.Path.{◌≡◌, refl, sym, ap, subst, ◌∙◌}
-use mathlib.Core.Bool.{true, false}
+use mathlib.Core.Bool.{true, false, not}
 use mathlib.Core.Logic.{◌⊎◌, inl, inr}
 use mathlib.Core.List.{List, [], ◌∷◌, ◌++◌, append-nil, map}
+use native.Mathlib.Nat.{not-suc-le-zero}
 use native.Mathlib.Numerals.{add-one}
 use native.Mathlib.Omega.{arith}
 use borrow.Author.Tests.{ne_eqb, eq-eqb}
@@ -17,10 +18,11 @@ use Rattle.std.proofs.lemmas.List.Elements.{All-nil, All-push}
 use Rattle.storage.specs.Lists.Map.{keys, lookup, remove}
 use Rattle.storage.specs.Rows.Sorted.{Ascending}
 use Rattle.storage.specs.Refs.Refs.{Ref, ref}
-use Rattle.storage.proofs.ListsLaws.MapLaws.{lookup-remove-same, lookup-remove-other}
+use Rattle.storage.proofs.ListsLaws.MapLaws.{true≢, lookup-remove-same, lookup-remove-other}
 use Rattle.storage.proofs.RefsLaws.Places.{get_or-map-in}
 use Rattle.storage.proofs.RowsLaws.Ids.{tri}
-use Rattle.time_cache.specs.TimeCache.{Expiry, expires_at, pop_all, popped, expired_keys}
+use Rattle.storage.specs.Lists.Base.{is_empty}
+use Rattle.time_cache.specs.TimeCache.{Expiry, Cache, expires_at, due, pop_all, popped, expired_keys}
 use Rattle.time_cache.specs.Tables.{expiry_of, no_expiry, no_row, row_at, named, Cut, value_bytes, cache_of, refs_at, rows_at, cache_at, Sound}
 use Rattle.time_cache.specs.Steps.{GotAt}
 use Rattle.time_cache.specs.Gone.{key_of_row, key_of_entry, TakesAt, Passed}
@@ -165,6 +167,11 @@ passed-few c xs gone told j s g =
       length-map told (key_of_row c xs),
     )
 
+pub zeros : (n i : ℕ) → ◌≡◌ {A = ℕ} (get_or (replicate {A = ℕ} n 0) i 0) 0
+zeros zero i = refl
+zeros (suc n) zero = refl
+zeros (suc n) (suc i) = zeros n i
+
 -- before any row
 pub passed-start : (n : ℕ) (c : TimeBoundCache) (xs gone : List ℕ) → c.entries.len ≤ n → gone ≡ replicate {A = ℕ} n 0 → Passed c xs gone [] 0
 unfolding pop_all popped
@@ -174,13 +181,26 @@ passed-start n c xs gone l e = record {
   keys = refl;
   rows = All-nil (λ r. r < c.expiry.len);
 }
-  where
-    zeros : (n i : ℕ) → ◌≡◌ {A = ℕ} (get_or (replicate {A = ℕ} n 0) i 0) 0
-    zeros zero i = refl
-    zeros (suc n) zero = refl
-    zeros (suc n) (suc i) = zeros n i
 
 -- all that are due have popped
 pub passed-done : (c : TimeBoundCache) (xs gone told : List ℕ) (j time : ℕ) → Passed c xs gone told j → Cut (cache_at c xs).expiry time j → map (key_of_row c xs) told ≡ expired_keys time (cache_at c xs)
 unfolding expired_keys
 passed-done c xs gone told j time g cut = g.keys ∙ ap (λ (l : List Expiry). popped l (cache_at c xs).entries) (sym (cut_due (cache_at c xs).expiry time j cut))
+
+-- whether a row is due, by how many are
+pub is-due : (xs : List Expiry) (t k : ℕ) → Cut xs t k → not (is_empty (due t xs)) ≡ not (eqb k 0)
+is-due xs t k cut = ap (λ (l : List Expiry). not (is_empty l)) (cut_due xs t k cut) ∙ some k xs cut.within
+  where
+    some : (k : ℕ) (xs : List Expiry) → k ≤ length xs → not (is_empty (take k xs)) ≡ not (eqb k 0)
+    some zero xs h = refl
+    some (suc k) [] h = absurd (not-suc-le-zero h)
+    some (suc k) (x ∷ xs) h = ap not (sym (ne_eqb (suc k) 0 (λ q. omega (arith, q))))
+
+-- where none is due, no key leaves
+pub none-due : {A : Type 0} (t : ℕ) (c : Cache A) → not (is_empty (due t c.expiry)) ≡ false → expired_keys t c ≡ []
+unfolding expired_keys popped
+none-due t c h = ap (λ (l : List Expiry). popped l c.entries) (empty (due t c.expiry) h)
+  where
+    empty : (l : List Expiry) → not (is_empty l) ≡ false → l ≡ []
+    empty [] h = refl
+    empty (x ∷ l) h = true≢ (sym h)

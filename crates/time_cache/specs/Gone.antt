@@ -1,6 +1,6 @@
 -- Which rows take entries out, in order: the keys that `expire_until` removes.
 -- Assumes nothing.
-use Rattle.std.specs.Prelude.{ℕ, ◌<◌, ◌≤◌, ◌≡◌, All, Bool, List, [], ◌∷◌, ◌++◌, map, length, get_or, take, drop, eqb, true, false, if◌then◌else◌, Option, Some, None}
+use Rattle.std.specs.Prelude.{ℕ, ◌-◌, ◌<◌, ◌≤◌, ◌≡◌, All, Bool, List, [], ◌∷◌, ◌++◌, map, length, get_or, take, drop, eqb, true, false, if◌then◌else◌, Option, Some, None}
 use Rattle.storage.specs.Lists.Map.{lookup}
 use Rattle.storage.specs.Rows.Ident.{id_of}
 use Rattle.storage.specs.declared.rows.id.Id.{Id}
@@ -27,6 +27,10 @@ pub record TakesAt (c : TimeBoundCache) (xs : List ℕ) (j i : ℕ) : Type 0 whe
 abbrev pub TakesIs : TimeBoundCache → List ℕ → ℕ → Option ℕ → Type 0
 TakesIs c xs j (Some i) = TakesAt c xs j i
 TakesIs c xs j None = expires_at (row_at (rows_at c xs) j).time (lookup (key_of_row c xs j) (cache_at c xs).entries) ≡ false
+
+-- each place that is not 0 has the entry that names its row, counted from 1
+abbrev pub NamesRows : TimeBoundCache → List ℕ → List ℕ → Type 0
+NamesRows c xs names = (j : ℕ) → 0 < get_or names j 0 → (get_or names j 0 ≤ c.entries.len) × ((ref_at (refs_at c xs) (get_or names j 0 - 1)).place ≡ j)
 
 -- what is told when row j has passed: its number too, where it has taken an entry out
 abbrev pub told_with : Bool → ℕ → List ℕ → List ℕ

@@ -6,11 +6,11 @@ use Prim.Native.Nat.{ℕ, ◌≤◌}
 use native.Mathlib.Omega.{arith}
 use lib.Dec.{lit<}
 use lib.ListN.{length}
-use Rattle.time_cache.specs.TimeCache.{expired_keys}
+use Rattle.time_cache.specs.TimeCache.{Cache, expired_keys}
 use Rattle.time_cache.specs.Tables.{cache_at, Lies, FitsOneMore, Sound as SoundCache, values_as}
 use Rattle.time_cache.specs.declared.cache.TimeBoundCache.{TimeBoundCache}
 use Rattle.time_cache.proofs.ValueLaws.{expired-as}
-use Rattle.protocol.specs.State.{Limits}
+use Rattle.protocol.specs.State.{Limits, Cached}
 use Rattle.block.specs.Layout.{table}
 use Rattle.block.specs.View.{state_of, limits_of, cached_in, cached_of}
 use Rattle.block.specs.Fit.{Fit}
@@ -44,6 +44,10 @@ module _ (h : Head) (xs : List ℕ) (fit : Fit h xs) where
   -- what an eviction removes
   pub cached-expired : (t : ℕ) → expired_keys t (cache_at (cached_cache h) xs) ≡ expired_keys t (state_of h xs).cache
   cached-expired t = sym (expired-as (as_value (cached_of (table (limits_of h.limits) 6 xs))) t (cache_at (cached_cache h) xs)) ∙ ap (expired_keys t) cached-as
+
+  pub cached-expiry : (cache_at (cached_cache h) xs).expiry ≡ (state_of h xs).cache.expiry
+  unfolding values_as
+  cached-expiry = ap (λ (c : Cache Cached). c.expiry) cached-as
 
   pub cached-few : (cached_cache h).entries.len ≤ 512
   cached-few = omega arith

@@ -1,7 +1,8 @@
 // `cache`, the message cache: an entry is a place and a round; a row is a time, an identifier, and start and length of the content.
-ghost use Rattle.std.specs.Prelude.{◌≡◌, ◌<◌, All, map};
+ghost use Rattle.std.specs.Prelude.{◌≡◌, ◌<◌, not, All, map};
 ghost use Rattle.storage.specs.Rows.Ident.{id_of};
-ghost use Rattle.time_cache.specs.TimeCache.{expired_keys};
+ghost use Rattle.storage.specs.Lists.Base.{is_empty};
+ghost use Rattle.time_cache.specs.TimeCache.{due, expired_keys};
 ghost use Rattle.block.specs.View.{state_of};
 ghost use Rattle.block.specs.Sound.{Sound};
 ghost use Rattle.block.specs.Caches.CachedReads.{ContentIs, cached_at, row_id};
@@ -30,6 +31,8 @@ pub const LEN: usize = 44;
 
 // How many messages are cached at most: the ceiling.
 pub const MAX_CACHED: usize = 512;
+
+const MAX_CACHED_ROWS: usize = 1024;
 
 // The message cache.
 pub struct MessageCache;
@@ -90,13 +93,21 @@ pub fn cached_round(head: Head, block: &[u8], i: usize) -> Round
     Round(word::load2(block, at + ROUND) as u16)
 }
 
-// The rows whose identifiers `expire_until` removes at an instant, "in order of removal". Its time is that of a look-up for each row that is due.
+// Whether a row of the message cache is due at an instant; where none is, `expire_until` removes no identifier.
+pub fn is_any_due(head: Head, block: &[u8], instant: Millis) -> bool
+    requires { Sound head block.now × InOrder (state_of head block.now).cache }
+    ensures { result ≡ not (is_empty (due instant.0 (state_of head block.now).cache.expiry)) }
+{
+    MessageCache::table(head).is_due(block, instant)
+}
+
+// The rows whose identifiers `expire_until` removes at an instant, "in order of removal". Its time is that of a pass over the entries and the rows that are due.
 pub fn forgotten_rows(head: Head, block: &[u8], instant: Millis) -> ArrayVec<u16, MAX_CACHED>
     requires { Sound head block.now × InOrder (state_of head block.now).cache }
     ensures keys { map (row_id head block.now) result.items ≡ expired_keys instant.0 (state_of head block.now).cache }
     ensures rows { All (λ r. r < head.live.cached_rows) result.items }
 {
-    MessageCache::table(head).expired_rows(block, instant)
+    MessageCache::table(head).expired_rows::<MAX_CACHED, MAX_CACHED_ROWS>(block, instant)
 }
 
 // The identifier of a row.

@@ -15,7 +15,7 @@ expired_rows-requires c =
       lit< tt,
       (
         subst (λ (t : TimeBoundCache). Lies t a.block.now × Sound t a.block.now) (sym c.table.ensures.at) (cached-lies a.head a.block.now c.requires.0.fit, cached-sound a.head a.block.now c.requires.0 c.requires.1),
-        subst (λ (t : TimeBoundCache). t.entries.len ≤ 512) (sym c.table.ensures.at) (cached-few a.head a.block.now c.requires.0.fit),
+        (subst (λ (t : TimeBoundCache). t.entries.len ≤ 512) (sym c.table.ensures.at) (cached-few a.head a.block.now c.requires.0.fit), lit< tt, lit< tt),
       ),
     )
 

@@ -12,10 +12,10 @@ use Rattle.time_cache.proofs.cache.TimeBoundCache.expired_rows.Goals.{In-loop-ro
 
 -- the row is one of the table's
 below : (g : Over) (c : In-loop-row g) → c.loop-row.row < c.args.self.expiry.len
-below g c = omega (arith, c.loop-row-test.true, c.due-row-end.ensures.within, count-times c.args.self c.args.block.now)
+below g c = omega (arith, c.loop-row-test.true, c.due-due.ensures.within, count-times c.args.self c.args.block.now)
 
 pub loop-row-init : goal.loop-row-init
-loop-row-init g c = rw c.new-told.ensures (passed-start g.row.N c.args.self c.args.block.now _ c.requires.few refl)
+loop-row-init g c = rw c.new-told.ensures (passed-start g.row.N c.args.self c.args.block.now _ c.requires.few.0 refl)
 
 pub pass_row-requires-clause-row : goal.pass_row-requires-clause-row
 pass_row-requires-clause-row g c = below g (goal.at.pass_row-requires-clause-row g c).In-loop-row
@@ -47,11 +47,11 @@ loop-row-preserved g c =
     ]
 
 -- the last row passed is the last that is due
-final : (g : Over) (c : After-loop-row g) → c.due-row-end.result ≡ c.loop-row.row
+final : (g : Over) (c : After-loop-row g) → c.due-due.result ≡ c.loop-row.row
 final g c = omega (arith, c.loop-row-test.false, c.loop-row.auto.row-end)
 
 pub returns-clause-keys : goal.returns-clause-keys
-returns-clause-keys g c = passed-done c.args.self c.args.block.now c.loop-row.gone c.loop-row.told.items c.loop-row.row c.args.instant.0 c.loop-row.invariant (subst (λ (k : ℕ). Cut (cache_at c.args.self c.args.block.now).expiry c.args.instant.0 k) (final g (goal.at.returns-clause-keys g c).After-loop-row) c.due-row-end.ensures)
+returns-clause-keys g c = passed-done c.args.self c.args.block.now c.loop-row.gone c.loop-row.told.items c.loop-row.row c.args.instant.0 c.loop-row.invariant (subst (λ (k : ℕ). Cut (cache_at c.args.self c.args.block.now).expiry c.args.instant.0 k) (final g (goal.at.returns-clause-keys g c).After-loop-row) c.due-due.ensures)
 
 pub returns-clause-rows : goal.returns-clause-rows
 returns-clause-rows g c = c.loop-row.invariant.rows

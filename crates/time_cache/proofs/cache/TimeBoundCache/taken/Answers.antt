@@ -1,12 +1,16 @@
 -- `taken`: the entry of the row's key, where its present time is the row's.
-use Rattle.std.proofs.Common.{sym, ◌∙◌}
+use Rattle.std.proofs.Common.{sym, ◌∙◌, arith}
 use mathlib.Core.Path.{subst}
 use Rattle.std.specs.Prelude.{Option}
 use Rattle.storage.specs.Rows.Ident.{id_of}
 use Rattle.time_cache.specs.Steps.{GotIs}
 use Rattle.time_cache.specs.declared.cache.Found.{Found}
 use Rattle.time_cache.proofs.PassedLaws.{takes-at, takes-not, takes-none}
+use Rattle.time_cache.proofs.NamesLaws.{takes-named}
 use Rattle.time_cache.proofs.cache.TimeBoundCache.taken.Goals as goal
+
+pub returns-then-names-row-ne0 : goal.returns-then-names-row-ne0
+returns-then-names-row-ne0 c = takes-named c.args.self c.args.block.now c.args.names.now c.args.row c.requires.lies.1 c.requires.names (omega (arith, c.if-names-row-ne0.true))
 
 pub returns-in_default : goal.returns-in_default
 returns-in_default c =

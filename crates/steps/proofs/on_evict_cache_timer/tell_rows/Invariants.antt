@@ -1,8 +1,8 @@
--- `tell_forgotten`: what the rows that are left tell completes what is to be told, and there is room for it.
+-- `tell_rows`: what the rows that are left tell completes what is to be told, and there is room for it.
 use Rattle.std.proofs.Common.{◌≡◌}
 use Rattle.wire.specs.Encode.Intake.{after, RoomFor}
 use Rattle.steps.proofs.ForgottenLaws.{told_from}
-use Rattle.steps.proofs.on_evict_cache_timer.tell_forgotten.Given as goal
+use Rattle.steps.proofs.on_evict_cache_timer.tell_rows.Given as goal
 
 abbrev pub invariant-loop-row : goal.invariant-loop-row
 invariant-loop-row g l =

@@ -63,8 +63,9 @@
  *     where it is accepted, counts.
  *   - "from alike blocks and equal counts, the same list of events, times, link room and output space gives the same answers and actions"
  *     (plumtree_alike).
- *   - Over a list of calls, from a creation on: no neighbour is passed over (docs/GUARANTEE.md). That speaks of lists in which each call
- *     gets block and counts as the one before left them. Times may go back, calls may be refused, links may hand back what they like.
+ *   - Over a list of calls, from a creation on: tree links carry the reading, other links its identifier only, and no neighbour is passed
+ *     over (docs/GUARANTEE.md). That speaks of lists in which each call gets block and counts as the one before left them. Times may go back,
+ *     calls may be refused, links may hand back what they like.
  *   - "From a return on, the list of calls that the guarantees speak about is the one up to the saving, followed by the calls since the return."
  *     That speaks of an area that "starts as zeros" and that savings alone have written.
  *   - From an accepted creation on, no call is answered 5 as long as nobody else writes the block: a return brings back a whole one.

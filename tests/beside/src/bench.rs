@@ -221,9 +221,12 @@ fn cases(f: &Filled) -> Vec<Case> {
         rooms,
         clear: keep,
     });
-    for (name, now) in
-        [("EvictCache, half due", NOW + 15000), ("EvictCache, all due", NOW + 500_000)]
-    {
+    let first_due = f.snap.cache.iter().map(|c| c.expires).min().unwrap_or(NOW);
+    for (name, now) in [
+        ("EvictCache, one due", first_due),
+        ("EvictCache, half due", NOW + 15000),
+        ("EvictCache, all due", NOW + 500_000),
+    ] {
         v.push(Case { name, now, event: wire::EVICT.to_vec(), rooms: vec![], clear: keep });
     }
     v

@@ -124,13 +124,6 @@ unfolding same_option
 none-there true q = refl
 none-there false q = refl
 
-pub mark_same : (m n : Mark) → beq (is_eager m) (is_eager n) ≡ same_mark m n
-unfolding same_mark
-mark_same eager eager = refl
-mark_same eager lazy = refl
-mark_same lazy eager = refl
-mark_same lazy lazy = refl
-
 -- words of bytes that agree
 module _ (i : ℕ) (xs ys : List ℕ) (bytes : Bytes xs) (bytes' : Bytes ys) (h : i + 8 ≤ length xs) (h' : i + 8 ≤ length ys) (e : le_nat (part i 8 xs) ≡ le_nat (part i 8 ys)) where
   word_same : part i 8 xs ≡ part i 8 ys

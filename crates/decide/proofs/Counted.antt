@@ -194,5 +194,5 @@ module _ (hash : List ℕ → ℕ) where
       ∙ ap (λ (x : Counts). message_counts hash m (settled now s) (count_message m x)) (same_first now (begin s c rooms)).counts
   decide-counts now (Broadcast content scope) s c rooms w = (same-broadcast now content scope (first_event now (begin s c rooms))).counts ∙ (same_first now (begin s c rooms)).counts
   decide-counts now (Fired t) s c rooms w = (same-timer now t (first_event now (begin s c rooms))).counts ∙ (same_first now (begin s c rooms)).counts
-  decide-counts now (Up p) s c rooms w = refl
+  decide-counts now (Up as_quiet p) s c rooms w = refl
   decide-counts now (Down p) s c rooms w = refl

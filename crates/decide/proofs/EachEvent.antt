@@ -82,7 +82,7 @@ module _ (hash : List ℕ → ℕ) where
   handle-actions now (Fired t) r x =
       timer-actions hash now t (first_event now r) ((kept-first_event now r).consistent x)
       ∙ rw (first-actions now r, first-rooms now r, first-state now r x.core) (append_assoc r.actions (settled_actions now r.state) (timer_actions hash r.rooms now t (settled now r.state)))
-  handle-actions now (Up p) r x = up-actions p r ∙ none_more r
+  handle-actions now (Up as_quiet p) r x = up-actions as_quiet p r ∙ none_more r
   handle-actions now (Down p) r x = down-actions p r ∙ none_more r
 
   -- the actions themselves

@@ -174,7 +174,7 @@ abbrev pub event_peer : Event → ℕ → Bool
 event_peer (Received p m) q = eqb q p
 event_peer (Broadcast content scope) q = false
 event_peer (Fired t) q = false
-event_peer (Up p) q = false
+event_peer (Up as_quiet p) q = false
 event_peer (Down p) q = false
 
 -- a neighbour, or the event's peer
@@ -301,7 +301,7 @@ module _ (hash : List ℕ → ℕ) where
       (branch true (alone s) (ltb s.settings.max_message_size (gossip_size (length content) scope)) [] _ (nil true (alone s)) (on-links true (λ q. false) (broadcast_actions rooms (hash content) content scope (settled now s)) (settled now s).links s.links (settled-links now s) (broadcast-in true hash rooms (settled now s) (settled-consistent now s c x) (hash content) content scope)))
   calls-in rooms now (Fired t) s c x =
       append true (alone s) _ _ (settling true (alone s) now s refl) (on-links true (λ q. false) (timer_actions hash rooms now t (settled now s)) (settled now s).links s.links (settled-links now s) (timer-in true hash rooms (settled now s) (settled-consistent now s c x) refl now t))
-  calls-in rooms now (Up p) s c x = nil true (reached s (Up p))
+  calls-in rooms now (Up as_quiet p) s c x = nil true (reached s (Up as_quiet p))
   calls-in rooms now (Down p) s c x = nil true (reached s (Down p))
 
   -- a call sends only to neighbours and to the event's peer

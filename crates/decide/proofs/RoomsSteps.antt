@@ -432,5 +432,5 @@ module _ (hash : List ℕ → ℕ) where
       fair-then r _ _ (on_message hash now p m) (fair-then r _ _ (λ x. with_counts (count_message m x.counts) x) (fair-first_event now r) (quiet (first_event now r) (with_counts (count_message m (first_event now r).counts) (first_event now r)) refl refl)) (fair-on_message now p m _)
   fair-handle now (Broadcast content scope) r = seq (first_event now) (broadcast hash now content scope) r (fair-first_event now r) (fair-broadcast now content scope (first_event now r))
   fair-handle now (Fired t) r = seq (first_event now) (on_timer now t) r (fair-first_event now r) (fair-on_timer now t (first_event now r))
-  fair-handle now (Up p) r = fair-links_of (link_up p) r
+  fair-handle now (Up as_quiet p) r = fair-links_of (link_up as_quiet p) r
   fair-handle now (Down p) r = quiet r _ refl refl

@@ -253,7 +253,7 @@ module _ (hash : List ℕ → ℕ) where
   right-rust now (Fired DispatchLazyPush) s c rooms w = unfold rust_timer on_timer in timer-rust hash now s c rooms w DispatchLazyPush (dispatch-in false hash _ _ (fine hash now s c rooms w) now)
   right-rust now (Fired EvictCache) s c rooms w = unfold rust_timer on_timer in evict-rust hash now s c rooms w
   right-rust now (Fired AnnounceDropped) s c rooms w = unfold rust_timer on_timer in timer-rust hash now s c rooms w AnnounceDropped (announce-in false hash _ _ (fine hash now s c rooms w) now)
-  right-rust now (Up p) s c rooms w = record { state = refl; counts = refl; actions = unfold on_neighbor_up update_links struck filter in refl }
+  right-rust now (Up as_quiet p) s c rooms w = record { state = refl; counts = refl; actions = unfold on_neighbor_up update_links struck filter in refl }
   right-rust now (Down p) s c rooms w = record { state = refl; counts = refl; actions = unfold on_neighbor_down struck filter in refl }
 
   right-told : (now : ℕ) (e : Event) (s : State) (c : Counts) (rooms : List Room) → whole s ≡ true → told (handle hash now e (begin s c rooms)).actions ≡ evicted_in now e s
@@ -264,7 +264,7 @@ module _ (hash : List ℕ → ℕ) where
   right-told now (Fired DispatchLazyPush) s c rooms w = timer-told hash now s c rooms w DispatchLazyPush (dispatch-in false hash _ _ (fine hash now s c rooms w) now)
   right-told now (Fired EvictCache) s c rooms w = unfold on_timer in evict-told hash now s c rooms w
   right-told now (Fired AnnounceDropped) s c rooms w = timer-told hash now s c rooms w AnnounceDropped (announce-in false hash _ _ (fine hash now s c rooms w) now)
-  right-told now (Up p) s c rooms w = unfold on_neighbor_up update_links told in refl
+  right-told now (Up as_quiet p) s c rooms w = unfold on_neighbor_up update_links told in refl
   right-told now (Down p) s c rooms w = unfold on_neighbor_down told in refl
 
   pub screen-right : ScreenRight hash

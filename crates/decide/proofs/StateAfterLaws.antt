@@ -213,7 +213,7 @@ module _ (hash : List ℕ → ℕ) where
           (if-on (λ (z : Run). z.state) (ltb y.state.settings.max_message_size (gossip_size (length content) scope)) _ _
           ∙ if-both (ltb y.state.settings.max_message_size (gossip_size (length content) scope)) refl (broadcast-state hash now content scope y c))
   handle-state now (Fired t) r x = timer-state now t (first_event now r) ((kept-first_event now r).consistent x) ∙ rw (first-rooms now r, first-state now r) refl
-  handle-state now (Up p) r x = unfold on_neighbor_up update_links in refl
+  handle-state now (Up as_quiet p) r x = unfold on_neighbor_up update_links in refl
   handle-state now (Down p) r x = unfold on_neighbor_down in refl
 
   -- the state after a call, of the state before

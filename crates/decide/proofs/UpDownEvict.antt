@@ -27,9 +27,9 @@ use Rattle.decide.proofs.TableSizes.{length-remove}
 
 -- up and down
 
-pub up-actions : (p : ℕ) (r : Run) → (on_neighbor_up p r).actions ≡ r.actions
+pub up-actions : (as_quiet : Bool) (p : ℕ) (r : Run) → (on_neighbor_up as_quiet p r).actions ≡ r.actions
 unfolding on_neighbor_up update_links
-up-actions p r = refl
+up-actions as_quiet p r = refl
 
 forget-length : (p : ℕ) (m : Map (List Hop)) → length (forget_announcer p m) ≡ count (λ e. not (is_empty (without_announcer p e.value))) m
 unfolding forget_announcer count

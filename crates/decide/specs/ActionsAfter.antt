@@ -119,5 +119,5 @@ module _ (hash : List ℕ → ℕ) where
   actions_after rooms now (Broadcast content scope) s =
       settled_actions now s ++ (if ltb s.settings.max_message_size (gossip_size (length content) scope) then [] else broadcast_actions rooms (hash content) content scope (settled now s))
   actions_after rooms now (Fired t) s = settled_actions now s ++ timer_actions rooms now t (settled now s)
-  actions_after rooms now (Up p) s = []
+  actions_after rooms now (Up as_quiet p) s = []
   actions_after rooms now (Down p) s = []

@@ -43,5 +43,5 @@ module _ (hash : List ℕ → ℕ) where
   too_far_before now (Received p (IHave hs)) s = false
   too_far_before now (Broadcast content scope) s = false
   too_far_before now (Fired t) s = false
-  too_far_before now (Up p) s = false
+  too_far_before now (Up as_quiet p) s = false
   too_far_before now (Down p) s = false

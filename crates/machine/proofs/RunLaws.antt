@@ -97,13 +97,13 @@ both : {A : Type 0} (x y z : A) (a b : Bool) → a ≡ true → b ≡ true → x
 both x y z a b p q = rw (p, q) refl
 
 module _ (rooms : List Room) (now p : ℕ) (s : State) (c : Counts) (output : ℕ) where
-  pub up-13 : fits (linked (link_up p) s) ≡ false → refused 13 ≡ decided identifier rooms now 0 (Up p) s c output
+  pub up-13 : (as_quiet : Bool) → fits (linked (link_up as_quiet p) s) ≡ false → refused 13 ≡ decided identifier rooms now 0 (Up as_quiet p) s c output
   unfolding decided last_decided bytes_after size_fits counts_stay too_far_before actions_after state_after counts_after_call
-  up-13 e = rw e refl
+  up-13 as_quiet e = rw e refl
 
-  pub up-0 : fits (linked (link_up p) s) ≡ true → accepted (linked (link_up p) s) c [] ≡ decided identifier rooms now 0 (Up p) s c output
+  pub up-0 : (as_quiet : Bool) → fits (linked (link_up as_quiet p) s) ≡ true → accepted (linked (link_up as_quiet p) s) c [] ≡ decided identifier rooms now 0 (Up as_quiet p) s c output
   unfolding decided last_decided bytes_after size_fits counts_stay too_far_before actions_after state_after counts_after_call concat_map
-  up-0 e = both _ _ _ (fits (linked (link_up p) s)) (leb 0 output) e (le-leb 0 output (omega arith))
+  up-0 as_quiet e = both _ _ _ (fits (linked (link_up as_quiet p) s)) (leb 0 output) e (le-leb 0 output (omega arith))
 
   pub down-0 : fits (forget_peer p s) ≡ true → accepted (forget_peer p s) c [] ≡ decided identifier rooms now 0 (Down p) s c output
   unfolding decided last_decided bytes_after size_fits counts_stay too_far_before actions_after state_after counts_after_call concat_map

@@ -31,7 +31,7 @@ step_outcome call step s counted output =
 -- the state after a task; a neighbour up or down has no first event's work
 abbrev pub after_task : Call → Task → State → State
 after_task call (task.Step step) s = after_event call step s
-after_task call (task.Up peer) s = linked (link_up peer) s
+after_task call (task.Up peer as_quiet) s = linked (link_up as_quiet peer) s
 after_task call (task.Down peer) s = forget_peer peer s
 
 -- its actions; a neighbour up or down has none

@@ -130,7 +130,7 @@ fn event_limit(view: &View, call: &Call, event: Event) -> Option<Limit>
             )
         }
         Event::Timer(timer) => step_limit(view, call, kinds::timer_step(timer)),
-        Event::Up(peer) => limit_past(view.head.limits, up_sizes(view, peer)),
+        Event::Up { peer, .. } => limit_past(view.head.limits, up_sizes(view, peer)),
         Event::Down(_) => None,
     }
 }

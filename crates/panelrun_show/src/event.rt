@@ -32,7 +32,8 @@ impl Display for EventText<'_> {
                 let timer = TimerText(timer);
                 write!(f, "{timer} fires")
             }
-            Ok(Event::Up(peer)) => write!(f, "{peer} is up"),
+            Ok(Event::Up { peer, quiet: false }) => write!(f, "{peer} is up"),
+            Ok(Event::Up { peer, quiet: true }) => write!(f, "{peer} is up, quiet"),
             Ok(Event::Down(peer)) => write!(f, "{peer} is down"),
             Err(_) => {
                 let bytes = Hex(self.bytes);

@@ -132,7 +132,7 @@ pub fn event(rt: &impl Print, e: Event) {
             scope(rt, s);
         }
         Event::Timer(t) => timer(rt, t),
-        Event::Up(peer) => {
+        Event::Up { peer, .. } => {
             word(rt, b"Up ");
             number(rt, peer);
         }

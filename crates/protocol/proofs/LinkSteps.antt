@@ -2,13 +2,13 @@
 use Rattle.std.specs.Prelude.{Option, Some, None, is_some}
 use Prim.Native.Nat.{ℕ}
 use mathlib.Core.Path.{◌≡◌, refl, sym, ap, ◌∙◌}
-use mathlib.Core.Bool.{true}
+use mathlib.Core.Bool.{Bool, true, false, not, ◌&&◌}
 use mathlib.Core.List.{List, []}
 use lib.Dec.{eqb}
 use borrow.Author.Tests.{eqb-true}
 use Rattle.storage.specs.Lists.Base.{ascending, is_empty, member}
 use Rattle.storage.specs.Lists.Map.{insert, keys}
-use Rattle.protocol.specs.Links.{Mark, eager, lazy, Links, is_neighbour, mark_if_there, add_eager, add_lazy}
+use Rattle.protocol.specs.Links.{Mark, eager, lazy, Links, is_neighbour, is_quiet, marked, quiet_in, mark_if_there, add_eager, add_lazy}
 use Rattle.postcard.specs.Message.{Delivery, Scope, Message, Gossip, Prune, Graft, IHave, Timer, SendGraft, DispatchLazyPush, EvictCache, AnnounceDropped, Emitted}
 use Rattle.protocol.specs.State.{State, Hop, Grafts, with_queue}
 use Rattle.protocol.specs.Run.{Run, with_state, act, send}
@@ -17,20 +17,21 @@ use Rattle.protocol.specs.Gossips.{mark_received, cache_at, with_first, set_firs
 use Rattle.protocol.specs.Control.{announce, schedule_graft, note_graft, leave_announcers, unmark}
 use Rattle.protocol.specs.Ticks.{clear_dispatch, on_dispatch_timer, move_oldest, still_cached, dispatch_if_queued, on_announce_dropped_timer, evict, on_evict_cache_timer}
 use Rattle.protocol.specs.Handle.{first_event, if_neighbour, on_timer, on_message, handle_message}
-use Rattle.storage.proofs.ListsLaws.MapLaws.{cases, lookup-insert-same, lookup-insert-other, ascending-insert}
+use Rattle.storage.proofs.ListsLaws.MapLaws.{cases, true≢, and_left, and_right, lookup-insert-same, lookup-insert-other, ascending-insert}
 use Rattle.protocol.proofs.Walk.{Sending, Steps, walk-if, walk-dispatch_to, walk-first_event, walk-on_gossip, walk-broadcast, walk-on_prune, walk-on_graft, walk-on_ihave, walk-on_send_graft_timer}
 use Rattle.protocol.proofs.RecordOnly.{only-note_dropped, only-schedule}
 
--- who is a neighbour stays the same
+-- who is a neighbour stays the same, and who is quiet
 pub record Keeps (r r' : Run) : Type 0 where
   pub same : (q : ℕ) → is_neighbour q r'.state.links ≡ is_neighbour q r.state.links
+  pub quiets : (q : ℕ) → quiet_in q r'.state.links ≡ quiet_in q r.state.links
   pub ordered : ascending (keys r.state.links) ≡ true → ascending (keys r'.state.links) ≡ true
 
 keeps-refl : (r : Run) → Keeps r r
-keeps-refl r = record { same = λ q. refl; ordered = λ h. h }
+keeps-refl r = record { same = λ q. refl; quiets = λ q. refl; ordered = λ h. h }
 
 keeps-trans : (a b c : Run) → Keeps a b → Keeps b c → Keeps a c
-keeps-trans a b c k l = record { same = λ q. l.same q ∙ k.same q; ordered = λ h. l.ordered (k.ordered h) }
+keeps-trans a b c k l = record { same = λ q. l.same q ∙ k.same q; quiets = λ q. l.quiets q ∙ k.quiets q; ordered = λ h. l.ordered (k.ordered h) }
 
 infixr 4 ◌⨾◌
 pub ◌⨾◌ : {a b c : Run} → Keeps a b → Keeps b c → Keeps a c
@@ -38,7 +39,7 @@ k ⨾ l = keeps-trans _ _ _ k l
 
 -- the table does not change
 still : {r r' : Run} → r'.state.links ≡ r.state.links → Keeps r r'
-still e = record { same = λ q. ap (λ (l : Links). is_neighbour q l) e; ordered = λ h. rw e h }
+still e = record { same = λ q. ap (λ (l : Links). is_neighbour q l) e; quiets = λ q. ap (λ (l : Links). quiet_in q l) e; ordered = λ h. rw e h }
 
 -- the marks
 
@@ -50,19 +51,34 @@ has-insert q p m l h =
 
 pub has-mark : (q p : ℕ) (m : Mark) (l : Links) → is_neighbour q (mark_if_there p m l) ≡ is_neighbour q l
 unfolding mark_if_there
-has-mark q p m l = cases (is_neighbour p l) (λ h. rw h (has-insert q p m l h)) (λ h. rw h)
+has-mark q p m l = cases (is_neighbour p l && not (quiet_in p l)) (λ h. rw h (has-insert q p m l (and_left (is_neighbour p l) _ h))) (λ h. rw h)
 
 ascending-mark : (p : ℕ) (m : Mark) (l : Links) → ascending (keys l) ≡ true → ascending (keys (mark_if_there p m l)) ≡ true
 unfolding mark_if_there
-ascending-mark p m l h = cases (is_neighbour p l) (λ p'. rw p' (ascending-insert p m l h)) (λ p'. rw p' h)
+ascending-mark p m l h = cases (is_neighbour p l && not (quiet_in p l)) (λ p'. rw p' (ascending-insert p m l h)) (λ p'. rw p' h)
+
+-- another mark, eager or lazy: who is quiet stays so
+quiet-insert : (q p : ℕ) (m : Mark) (l : Links) → is_quiet m ≡ false → quiet_in p l ≡ false → quiet_in q (insert p m l) ≡ quiet_in q l
+unfolding quiet_in marked
+quiet-insert q p m l z n =
+    cases (eqb q p) (λ e. rw (eqb-true q p e) (ap (marked is_quiet) (lookup-insert-same p m l) ∙ z ∙ sym n)) (λ e. ap (marked is_quiet) (lookup-insert-other q p m l e))
+
+quiet-mark : (q p : ℕ) (m : Mark) (l : Links) → is_quiet m ≡ false → quiet_in q (mark_if_there p m l) ≡ quiet_in q l
+unfolding mark_if_there
+quiet-mark q p m l z =
+    cases (is_neighbour p l && not (quiet_in p l)) (λ h. rw h (quiet-insert q p m l z (no (quiet_in p l) (and_right (is_neighbour p l) (not (quiet_in p l)) h)))) (λ h. rw h refl)
+  where
+    no : (b : Bool) → not b ≡ true → b ≡ false
+    no true h = true≢ h
+    no false h = refl
 
 keeps-eager : (p : ℕ) (r : Run) → Keeps r (update_links (add_eager p) r)
 unfolding update_links add_eager
-keeps-eager p r = record { same = λ q. has-mark q p eager r.state.links; ordered = λ h. ascending-mark p eager r.state.links h }
+keeps-eager p r = record { same = λ q. has-mark q p eager r.state.links; quiets = λ q. quiet-mark q p eager r.state.links refl; ordered = λ h. ascending-mark p eager r.state.links h }
 
 keeps-lazy : (p : ℕ) (r : Run) → Keeps r (update_links (add_lazy p) r)
 unfolding update_links add_lazy
-keeps-lazy p r = record { same = λ q. has-mark q p lazy r.state.links; ordered = λ h. ascending-mark p lazy r.state.links h }
+keeps-lazy p r = record { same = λ q. has-mark q p lazy r.state.links; quiets = λ q. quiet-mark q p lazy r.state.links refl; ordered = λ h. ascending-mark p lazy r.state.links h }
 
 -- the other steps
 
@@ -140,7 +156,7 @@ unfolding on_dispatch_timer clear_dispatch
 keeps-dispatch r =
     let k : Keeps r (with_state (with_queue [] r.state) r) = still refl in
     let d = walk-dispatch_to Keeps keeps-sending _ _ _ (with_state (with_queue [] r.state) r) in
-    record { same = λ q. d.same q ∙ k.same q; ordered = λ h. d.ordered (k.ordered h) }
+    record { same = λ q. d.same q ∙ k.same q; quiets = λ q. d.quiets q ∙ k.quiets q; ordered = λ h. d.ordered (k.ordered h) }
 
 keeps-announce_dropped : (r : Run) → Keeps r (on_announce_dropped_timer r)
 unfolding on_announce_dropped_timer move_oldest dispatch_if_queued

@@ -113,5 +113,5 @@ module _ (hash : List ℕ → ℕ) where
   run-handle now (Received p m) a = run-on_message now p m _
   run-handle now (Broadcast content scope) a = run-broadcast now content scope _
   run-handle now (Fired t) a = run-on_timer now t _
-  run-handle now (Up p) a = refl
+  run-handle now (Up as_quiet p) a = refl
   run-handle now (Down p) a = refl

@@ -58,7 +58,7 @@ to p calls = map (sent_by p) (after calls).answers
 
 -- up 2, up 3, a Prune from 3: 2 is of the tree, 3 is not; then these
 abbrev pub setup : List Call → List Call
-setup calls = free (Up 2) ∷ free (Up 3) ∷ free (Received 3 Prune) ∷ calls
+setup calls = free (Up false 2) ∷ free (Up false 3) ∷ free (Received 3 Prune) ∷ calls
 
 -- a broadcast; and then the dispatch tick, and 3 asks for it
 abbrev pub queued : List Call
@@ -77,7 +77,7 @@ near = setup (free (Broadcast (7 ∷ []) to_neighbors) ∷ [])
 
 -- up 2, up 3, IHave from 2, the graft timer, a Prune from 2, the message from 3
 abbrev pub asked : List Call
-asked = free (Up 2) ∷ free (Up 3) ∷ free (ihave 2) ∷ free (Fired (SendGraft 9)) ∷ free (Received 2 Prune) ∷ free (gossip 3) ∷ []
+asked = free (Up false 2) ∷ free (Up false 3) ∷ free (ihave 2) ∷ free (Fired (SendGraft 9)) ∷ free (Received 2 Prune) ∷ free (gossip 3) ∷ []
 
 -- of readings that follow the tree
 pub record TreeExamples : Type 0 where
@@ -101,33 +101,33 @@ pub record TreeExamples : Type 0 where
 
 -- up 2, up 3, a Prune from 3, up 2 again, down 3
 abbrev pub links : List Call
-links = free (Up 2) ∷ free (Up 3) ∷ free (Received 3 Prune) ∷ free (Up 2) ∷ free (Down 3) ∷ []
+links = free (Up false 2) ∷ free (Up false 3) ∷ free (Received 3 Prune) ∷ free (Up false 2) ∷ free (Down 3) ∷ []
 
 -- up 2, the message from 2
 abbrev pub came : List Call
-came = free (Up 2) ∷ free (gossip 2) ∷ []
+came = free (Up false 2) ∷ free (gossip 2) ∷ []
 
 -- up 2, up 3, IHave from 2, the graft timer, the message from 3
 abbrev pub grafted : List Call
-grafted = free (Up 2) ∷ free (Up 3) ∷ free (ihave 2) ∷ free (Fired (SendGraft 9)) ∷ free (gossip 3) ∷ []
+grafted = free (Up false 2) ∷ free (Up false 3) ∷ free (ihave 2) ∷ free (Fired (SendGraft 9)) ∷ free (gossip 3) ∷ []
 
 -- up 2, a broadcast
 abbrev pub taken : List Call
-taken = free (Up 2) ∷ free broadcast ∷ []
+taken = free (Up false 2) ∷ free broadcast ∷ []
 
 -- up 2, a broadcast that the link of 2 hands back; and then AnnounceDropped; and then DispatchLazyPush
 abbrev pub back : List Call
-back = free (Up 2) ∷ shut broadcast ∷ []
+back = free (Up false 2) ∷ shut broadcast ∷ []
 
 abbrev pub announcing : List Call
-announcing = free (Up 2) ∷ shut broadcast ∷ free (Fired AnnounceDropped) ∷ []
+announcing = free (Up false 2) ∷ shut broadcast ∷ free (Fired AnnounceDropped) ∷ []
 
 abbrev pub dispatched : List Call
-dispatched = free (Up 2) ∷ shut broadcast ∷ free (Fired AnnounceDropped) ∷ free (Fired DispatchLazyPush) ∷ []
+dispatched = free (Up false 2) ∷ shut broadcast ∷ free (Fired AnnounceDropped) ∷ free (Fired DispatchLazyPush) ∷ []
 
 -- up 2; a saving, the broadcast that is handed back and a return, which are no members of the list; up 3
 abbrev pub returned : List Call
-returned = free (Up 2) ∷ free (Up 3) ∷ []
+returned = free (Up false 2) ∷ free (Up false 3) ∷ []
 
 -- the message from 2 with its kind, its length, its delivery's kind and its round padded by a byte each
 abbrev pub spelled : List ℕ
@@ -135,10 +135,10 @@ spelled = 0x00 ∷ 0x02 ∷ 0x80 ∷ 0x00 ∷ id_bytes 9 ++ (0x81 ∷ 0x00 ∷ 0
 
 -- up 2, up 3, the message from 2; and the same with the message so spelled
 abbrev pub plain : List Call
-plain = free (Up 2) ∷ free (Up 3) ∷ free (gossip 2) ∷ []
+plain = free (Up false 2) ∷ free (Up false 3) ∷ free (gossip 2) ∷ []
 
 abbrev pub padded : List Call
-padded = free (Up 2) ∷ free (Up 3) ∷ record { now = 0; event = spelled; rooms = []; output = 40960 } ∷ []
+padded = free (Up false 2) ∷ free (Up false 3) ∷ record { now = 0; event = spelled; rooms = []; output = 40960 } ∷ []
 
 -- of parts 1 to 4, of a return and of two spellings of one message
 pub record ListExamples : Type 0 where

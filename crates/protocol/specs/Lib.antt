@@ -15,6 +15,8 @@ pub mod Screen
 pub mod Consistent
 pub mod NoNeighbourPassedOver
 pub mod ReadingsFollowTheTree
+pub mod Quiet
+pub mod Unasked
 pub mod Notings
 pub mod Alike
 pub mod AlikeUnordered

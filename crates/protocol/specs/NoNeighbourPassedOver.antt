@@ -34,7 +34,7 @@ unfoldable pub is_up : ℕ → Event → Bool
 is_up p (Received q m) = false
 is_up p (Broadcast content scope) = false
 is_up p (Fired t) = false
-is_up p (Up q) = eqb p q
+is_up p (Up as_quiet q) = eqb p q
 is_up p (Down q) = false
 
 -- the event tells this peer down
@@ -42,7 +42,7 @@ unfoldable pub is_down : ℕ → Event → Bool
 is_down p (Received q m) = false
 is_down p (Broadcast content scope) = false
 is_down p (Fired t) = false
-is_down p (Up q) = false
+is_down p (Up as_quiet q) = false
 is_down p (Down q) = eqb p q
 
 -- the call told this peer down: a break
@@ -94,7 +94,7 @@ module _ (hash : List ℕ → ℕ) where
   took_by_event c (Received p m) actions = took_gossip p m actions
   took_by_event c (Broadcast content scope) actions = took_broadcast c content scope
   took_by_event c (Fired t) actions = None
-  took_by_event c (Up p) actions = None
+  took_by_event c (Up as_quiet p) actions = None
   took_by_event c (Down p) actions = None
 
   -- "It is taken in by the call that puts it into the message cache"
@@ -119,7 +119,7 @@ announces_in p id (Received q Prune) = false
 announces_in p id (Received q (Graft wanted round)) = false
 announces_in p id (Broadcast content scope) = false
 announces_in p id (Fired t) = false
-announces_in p id (Up q) = false
+announces_in p id (Up as_quiet q) = false
 announces_in p id (Down q) = false
 
 -- "A neighbour announced it by a received IHave that lists it"
@@ -206,7 +206,7 @@ unfoldable pub fires_tick : Tick → Event → Bool
 fires_tick t (Received p m) = false
 fires_tick t (Broadcast content scope) = false
 fires_tick t (Fired timer) = is_tick t timer
-fires_tick t (Up p) = false
+fires_tick t (Up as_quiet p) = false
 fires_tick t (Down p) = false
 
 -- "a timer fires by its event"

@@ -171,7 +171,7 @@ module _ (hash : List ℕ → ℕ) where
   handle' now (Received p m) a = a ▷ plain (first_event now) ▷ handle_message' now p m
   handle' now (Broadcast content scope) a = a ▷ plain (first_event now) ▷ broadcast' now content scope
   handle' now (Fired t) a = a ▷ plain (first_event now) ▷ on_timer' now t
-  handle' now (Up p) a = plain (on_neighbor_up p) a
+  handle' now (Up as_quiet p) a = plain (on_neighbor_up as_quiet p) a
   handle' now (Down p) a = plain (on_neighbor_down p) a
 
   -- what `note_dropped` came to in the event of a call

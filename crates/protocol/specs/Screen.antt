@@ -36,7 +36,7 @@ module _ (hash : List ℕ → ℕ) where
   rust_handle now (Received p m) r = r ▷ rust_first now ▷ handle_message hash now p m
   rust_handle now (Broadcast content scope) r = r ▷ rust_first now ▷ broadcast hash now content scope
   rust_handle now (Fired t) r = r ▷ rust_first now ▷ rust_timer now t
-  rust_handle now (Up p) r = on_neighbor_up p r
+  rust_handle now (Up as_quiet p) r = on_neighbor_up as_quiet p r
   rust_handle now (Down p) r = on_neighbor_down p r
 
 -- an action 4
@@ -78,7 +78,7 @@ evicted_in now (Fired (SendGraft id)) s = evicted_first now s
 evicted_in now (Fired DispatchLazyPush) s = evicted_first now s
 evicted_in now (Fired EvictCache) s = evicted_first now s ++ expired_keys now (cache_first now s)
 evicted_in now (Fired AnnounceDropped) s = evicted_first now s
-evicted_in now (Up p) s = []
+evicted_in now (Up as_quiet p) s = []
 evicted_in now (Down p) s = []
 
 -- what a call makes beside what the Rust makes

@@ -29,7 +29,7 @@ panel rooms = begin (fresh (record {
   me = 1;
 })
     (record { N = 8; R = 64; C = 32; B = 8192; G = 16; S = 16; T = 16; Q = 64; D = 64 })) zero_counts rooms
-    ▷ on_neighbor_up 1 ▷ on_prune 1 ▷ on_neighbor_up 2 ▷ on_neighbor_up 3
+    ▷ on_neighbor_up false 1 ▷ on_prune 1 ▷ on_neighbor_up false 2 ▷ on_neighbor_up false 3
 
 -- 65 recorded for peer 2, and cached
 abbrev pub recorded : ℕ → Run → Run

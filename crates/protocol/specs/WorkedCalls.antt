@@ -35,7 +35,7 @@ nine content = 9
 -- with the neighbours 2, eager, and 3, lazy, of which 3 has announced the message at a round
 abbrev pub announced_at : ℕ → Run
 announced_at round =
-    panel 4094 ▷ on_neighbor_up 2 ▷ on_neighbor_up 3 ▷ on_prune 3 ▷ handle nine 0 (Received 3 (IHave (record { id = 9; round = round } ∷ [])))
+    panel 4094 ▷ on_neighbor_up false 2 ▷ on_neighbor_up false 3 ▷ on_prune 3 ▷ handle nine 0 (Received 3 (IHave (record { id = 9; round = round } ∷ [])))
 
 -- the bytes of a content of n zeros
 abbrev pub zeros : ℕ → List ℕ
@@ -49,9 +49,9 @@ pub record WorkedCalls (hash : List ℕ → ℕ) : Type 0 where
   pub size128 : gossip_size 128 to_swarm ≡ 167
   pub size_neighbors : gossip_size 0 to_neighbors ≡ 35
   -- "M 510: content 471 is sent, 472 isn't"
-  pub sent471 : (panel 510 ▷ on_neighbor_up 2 ▷ broadcast hash 0 (zeros 471) to_swarm).actions
+  pub sent471 : (panel 510 ▷ on_neighbor_up false 2 ▷ broadcast hash 0 (zeros 471) to_swarm).actions
       ≡ (Scheduled 5 DispatchLazyPush ∷ Sent 2 true (Gossip (hash (zeros 471)) (zeros 471) (Swarm 0)) ∷ [])
-  pub unsent472 : (panel 510 ▷ on_neighbor_up 2 ▷ broadcast hash 0 (zeros 472) to_swarm).actions ≡ []
+  pub unsent472 : (panel 510 ▷ on_neighbor_up false 2 ▷ broadcast hash 0 (zeros 472) to_swarm).actions ≡ []
   -- "IHave 14 per message; M 4,094: 116"
   pub ihave510 : per_message 510 ≡ 14
   pub ihave4094 : per_message 4094 ≡ 116

@@ -2,6 +2,7 @@
 ghost use Rattle.std.specs.Prelude.{ℕ, List};
 ghost use Rattle.protocol.specs.NoNeighbourPassedOver.{NoNeighbourPassedOver};
 ghost use Rattle.protocol.specs.ReadingsFollowTheTree.{ReadingsFollowTheTree};
+ghost use Rattle.protocol.specs.Unasked.{NoUnaskedPayload};
 ghost use Rattle.protocol.specs.Notings.{MetFullExact};
 ghost use Rattle.protocol.specs.SameMeaning.{SameMeaning};
 ghost use Rattle.protocol.specs.AlikeCalls.AlikeFiner.{AlikeFiner};
@@ -22,6 +23,11 @@ pub fn no_neighbour_passed_over()
 // Whatever the identifier function: tree links carry the reading, other links its identifier only, of each accepted call of every list of event calls from a fresh panel.
 pub fn readings_follow_the_tree()
     ensures { (hash : List ℕ → ℕ) → ReadingsFollowTheTree hash }
+{}
+
+// "Some links must never carry unasked payload", whatever the identifier function.
+pub fn quiet_links_carry_no_unasked_payload()
+    ensures { (hash : List ℕ → ℕ) → NoUnaskedPayload hash }
 {}
 
 // "It met a full record when …": what a call's actions and state tell of it is exactly what `note_dropped` came to.

@@ -1013,7 +1013,7 @@ section18 = record {
       ∷ (call 2115 (bytes 104 0x0002007b503cda117cb1c579d13d7fd0857de82557483eb7ad2a34e1abb286a8ba468c418cb1aca034ca2ae1059105b19240e49c162aa8a54c47bae9140e2a0eeb14e3be206313b9a9e36d908a8248d007b234fd1da8ac726e24ab0873377e58362abdceb9008001) [] 20)
       ∷ (call 2156 (bytes 12 0x03ffffffffffffffffffff01) ((room 12 0) ∷ []) 20)
       ∷ (call 2156 (bytes 24 0x01ffffffffffffffffffff0138644df11e1ab73c99330600) [] 20)
-      ∷ (call 2156 (bytes 34 0x0500b7ec65121a0389ca718f42ed1600bcc5145c28a5bcaacc5131d00f24760dfa64) [] 20)
+      ∷ (call 2156 (bytes 34 0x0600b7ec65121a0389ca718f42ed1600bcc5145c28a5bcaacc5131d00f24760dfa64) [] 20)
       ∷ (call 2156 (bytes 2 0x0307) [] 20)
       ∷ (call 2156 (bytes 2 0x030c) [] 20)
       ∷ (call 2156 (bytes 37 0x000703018608f99ade06a57eecd7ffa11f88909004b172c26a7552249f3d518c36e9e92001) ((room 2 65535) ∷ (room 6 1) ∷ (room 9 1) ∷ (room 11 0) ∷ []) 20)
@@ -2438,17 +2438,17 @@ agrees : Section → List Bool
 agrees x = compare (run_calls hash x.begin x.counts x.calls) x
 
 rust-sample-1 : map agrees (section1 ∷ section2 ∷ section3 ∷ section4 ∷ section5 ∷ section6 ∷ section7 ∷ section8 ∷ section9 ∷ section10 ∷ section11 ∷ section12 ∷ section13 ∷ section14 ∷ section15 ∷ section16 ∷ section17 ∷ section18 ∷ []) ≡ replicate 18 (true ∷ true ∷ true ∷ [])
-unfolding agrees hash names named section1 section2 section3 section4 section5 section6 section7 section8 section9 section10 section11 section12 section13 section14 section15 section16 section17 section18 Base.filter Base.count Base.any Base.all Base.member Base.sum Base.concat_map Base.ascending Base.once Map.lookup Map.insert Map.remove Map.insert_key Map.remove_key Number.groups Number.number_bytes Number.number_length Number.big_endian Number.id_bytes Number.from_big_endian Number.read_kind Number.read_bytes Number.read_id Number.last_group Number.read_groups Number.read_number Number.read_padded Number.read_round Number.kind_number Message.content_bytes Message.delivery_bytes Message.scope_byte Message.ihave_bytes Message.optional_id_bytes Message.message_bytes Message.timer_bytes Message.event_bytes Message.taken_byte Message.action_bytes Decode.read_content Decode.read_padded_content Decode.delivery_of Decode.delivery_kind Decode.read_delivery Decode.scope_of Decode.optional_id_of Decode.read_optional_id Decode.read_ihave Decode.read_ihaves Decode.ihaves_in Decode.message_of Decode.message_kind Decode.read_message Decode.timer_of Decode.read_timer Decode.event_of Decode.read_event Decode.message_part Decode.ended Decode.decode_event Decode.meaning TimeCache.value_of TimeCache.get TimeCache.add_expiry TimeCache.put TimeCache.with_value TimeCache.replace TimeCache.expires_at TimeCache.pop TimeCache.due TimeCache.later TimeCache.pop_all TimeCache.popped TimeCache.expire_until TimeCache.expired_keys TimeCache.expires_on_time TimeCache.in_pop_order TimeCache.later_cache State.fresh State.zero_counts State.size_in_range State.durations_in_range State.up_to State.limits_in_range State.block_need State.create Run.act Run.has_room Run.use_room Run.send Answer.message_fits Answer.counts_below Answer.counts_stay Answer.last_round Answer.output_of Screen.struck Screen.is_forgotten Answer.last_two Answer.too_far_message Answer.too_far Answer.ask_of Answer.ask_read Answer.ask Answer.ask_whole Answer.outcome Answer.answer_of Answer.answer_block Whole.content_held Whole.cache_fits Whole.fits Whole.in_range Whole.keys_once Whole.neighbours Whole.announcers_whole Whole.grafts_whole Whole.noted_once Whole.record_within Whole.flags_stand Whole.whole Whole.long_enough Whole.whole_state Links.peers_marked Links.eager_peers Links.lazy_peers Links.marked Links.eager_in Links.mark_if_there Links.add_eager Links.add_lazy Links.link_up Links.link_down Neighbours.on_neighbor_up Neighbours.without_announcer Neighbours.forget_announcer Neighbours.without_notes Neighbours.without_graft Neighbours.forget_grafted Neighbours.forget_peer Neighbours.on_neighbor_down Push.schedule_dispatch Push.schedule_announce_dropped Push.record_full Push.record_also Push.note_one Push.note_each Push.note_dropped Push.send_each Push.handed_back Push.note_for_each Push.eager_targets Push.note_after Push.push_to Push.eager_push Push.note_for Push.lazy_push Push.send_ihave Gossips.mark_received Gossips.cache_at Gossips.hops_of Gossips.announcers Gossips.peers_of Gossips.grafted_for Gossips.with_first Gossips.set_first Gossips.graft_out Gossips.forget_missing Gossips.raise_hops Gossips.least_from Gossips.far_closer Gossips.update_links Gossips.graft_unless_eager Gossips.prune_back Gossips.optimize_tree Gossips.forget_and_optimise Gossips.push_on Gossips.take_in Gossips.same_as Gossips.no_more_hops Gossips.late_from Gossips.late_kind Gossips.with_kept Gossips.set_kept Gossips.on_duplicate Gossips.on_late_graft_reply Gossips.on_new Gossips.on_gossip Gossips.broadcast_to Gossips.broadcast Gossips.gossip_size Ticks.chunks Ticks.queued_for Ticks.queued_peers Ticks.send_chunks Ticks.dispatch_to Ticks.clear_dispatch Ticks.on_dispatch_timer Ticks.oldest Ticks.younger Ticks.move_oldest Ticks.still_cached Ticks.dispatch_if_queued Ticks.on_announce_dropped_timer Ticks.evict Ticks.on_evict_cache_timer Ticks.per_message Control.add_announcer Control.announce Control.schedule_graft Control.on_announced Control.on_ihave Control.on_prune Control.reply_with Control.reply Control.on_graft Control.lower Control.with_graft Control.note_graft Control.leave_announcers Control.ask_first Control.unmark Control.on_send_graft_timer Handle.first_event Handle.one_payload Handle.one_control Handle.count_message Handle.if_neighbour Handle.on_timer Handle.on_message Handle.handle_message Handle.handle Calls.state_after Calls.counts_after Calls.prepend Calls.run_calls Alike.same_list Alike.same_option Alike.same_map Alike.same_mark Alike.same_hop Alike.same_note Alike.same_notes Alike.same_expiry Alike.same_grafts Alike.same_cached Alike.same_unit Alike.same_cache Alike.same_settings Alike.same_limits Alike.same_tables Alike.same_caches Alike.same_flags Alike.alike Alike.likeness_of Alike.alike_blocks
+unfolding agrees hash names named section1 section2 section3 section4 section5 section6 section7 section8 section9 section10 section11 section12 section13 section14 section15 section16 section17 section18 Base.filter Base.count Base.any Base.all Base.member Base.sum Base.concat_map Base.ascending Base.once Map.lookup Map.insert Map.remove Map.insert_key Map.remove_key Number.groups Number.number_bytes Number.number_length Number.big_endian Number.id_bytes Number.from_big_endian Number.read_kind Number.read_bytes Number.read_id Number.last_group Number.read_groups Number.read_number Number.read_padded Number.read_round Number.kind_number Message.content_bytes Message.delivery_bytes Message.scope_byte Message.ihave_bytes Message.optional_id_bytes Message.message_bytes Message.timer_bytes Message.event_bytes Message.taken_byte Message.action_bytes Decode.read_content Decode.read_padded_content Decode.delivery_of Decode.delivery_kind Decode.read_delivery Decode.scope_of Decode.optional_id_of Decode.read_optional_id Decode.read_ihave Decode.read_ihaves Decode.ihaves_in Decode.message_of Decode.message_kind Decode.read_message Decode.timer_of Decode.read_timer Decode.event_of Decode.read_event Decode.message_part Decode.ended Decode.decode_event Decode.meaning TimeCache.value_of TimeCache.get TimeCache.add_expiry TimeCache.put TimeCache.with_value TimeCache.replace TimeCache.expires_at TimeCache.pop TimeCache.due TimeCache.later TimeCache.pop_all TimeCache.popped TimeCache.expire_until TimeCache.expired_keys TimeCache.expires_on_time TimeCache.in_pop_order TimeCache.later_cache State.fresh State.zero_counts State.size_in_range State.durations_in_range State.up_to State.limits_in_range State.block_need State.create Run.act Run.has_room Run.use_room Run.send Answer.message_fits Answer.counts_below Answer.counts_stay Answer.last_round Answer.output_of Screen.struck Screen.is_forgotten Answer.last_two Answer.too_far_message Answer.too_far Answer.ask_of Answer.ask_read Answer.ask Answer.ask_whole Answer.outcome Answer.answer_of Answer.answer_block Whole.content_held Whole.cache_fits Whole.fits Whole.in_range Whole.keys_once Whole.neighbours Whole.announcers_whole Whole.grafts_whole Whole.noted_once Whole.record_within Whole.flags_stand Whole.whole Whole.long_enough Whole.whole_state Links.peers_marked Links.eager_peers Links.lazy_peers Links.marked Links.eager_in Links.quiet_in Links.up_mark Links.mark_if_there Links.add_eager Links.add_lazy Links.link_up Links.link_down Neighbours.on_neighbor_up Neighbours.without_announcer Neighbours.forget_announcer Neighbours.without_notes Neighbours.without_graft Neighbours.forget_grafted Neighbours.forget_peer Neighbours.on_neighbor_down Push.schedule_dispatch Push.schedule_announce_dropped Push.record_full Push.record_also Push.note_one Push.note_each Push.note_dropped Push.send_each Push.handed_back Push.note_for_each Push.eager_targets Push.note_after Push.push_to Push.eager_push Push.note_for Push.lazy_push Push.send_ihave Gossips.mark_received Gossips.cache_at Gossips.hops_of Gossips.announcers Gossips.peers_of Gossips.grafted_for Gossips.with_first Gossips.set_first Gossips.graft_out Gossips.forget_missing Gossips.raise_hops Gossips.least_from Gossips.far_closer Gossips.update_links Gossips.graft_unless_eager Gossips.prune_back Gossips.optimize_tree Gossips.forget_and_optimise Gossips.push_on Gossips.take_in Gossips.same_as Gossips.no_more_hops Gossips.late_from Gossips.late_kind Gossips.with_kept Gossips.set_kept Gossips.on_duplicate Gossips.on_late_graft_reply Gossips.on_new Gossips.on_gossip Gossips.broadcast_to Gossips.broadcast Gossips.gossip_size Ticks.chunks Ticks.queued_for Ticks.queued_peers Ticks.send_chunks Ticks.dispatch_to Ticks.clear_dispatch Ticks.on_dispatch_timer Ticks.oldest Ticks.younger Ticks.move_oldest Ticks.still_cached Ticks.dispatch_if_queued Ticks.on_announce_dropped_timer Ticks.evict Ticks.on_evict_cache_timer Ticks.per_message Control.add_announcer Control.announce Control.schedule_graft Control.on_announced Control.on_ihave Control.on_prune Control.reply_with Control.reply Control.on_graft Control.lower Control.with_graft Control.note_graft Control.leave_announcers Control.ask_first Control.unmark Control.on_send_graft_timer Handle.first_event Handle.one_payload Handle.one_control Handle.count_message Handle.if_neighbour Handle.on_timer Handle.on_message Handle.handle_message Handle.handle Calls.state_after Calls.counts_after Calls.prepend Calls.run_calls Alike.same_list Alike.same_option Alike.same_map Alike.same_mark Alike.same_hop Alike.same_note Alike.same_notes Alike.same_expiry Alike.same_grafts Alike.same_cached Alike.same_unit Alike.same_cache Alike.same_settings Alike.same_limits Alike.same_tables Alike.same_caches Alike.same_flags Alike.alike Alike.likeness_of Alike.alike_blocks
 rust-sample-1 = refl
 
 rust-sample-2 : map agrees (section19 ∷ section20 ∷ section21 ∷ section22 ∷ section23 ∷ section24 ∷ section25 ∷ section26 ∷ section27 ∷ section28 ∷ section29 ∷ section30 ∷ section31 ∷ section32 ∷ []) ≡ replicate 14 (true ∷ true ∷ true ∷ [])
-unfolding agrees hash names named section19 section20 section21 section22 section23 section24 section25 section26 section27 section28 section29 section30 section31 section32 Base.filter Base.count Base.any Base.all Base.member Base.sum Base.concat_map Base.ascending Base.once Map.lookup Map.insert Map.remove Map.insert_key Map.remove_key Number.groups Number.number_bytes Number.number_length Number.big_endian Number.id_bytes Number.from_big_endian Number.read_kind Number.read_bytes Number.read_id Number.last_group Number.read_groups Number.read_number Number.read_padded Number.read_round Number.kind_number Message.content_bytes Message.delivery_bytes Message.scope_byte Message.ihave_bytes Message.optional_id_bytes Message.message_bytes Message.timer_bytes Message.event_bytes Message.taken_byte Message.action_bytes Decode.read_content Decode.read_padded_content Decode.delivery_of Decode.delivery_kind Decode.read_delivery Decode.scope_of Decode.optional_id_of Decode.read_optional_id Decode.read_ihave Decode.read_ihaves Decode.ihaves_in Decode.message_of Decode.message_kind Decode.read_message Decode.timer_of Decode.read_timer Decode.event_of Decode.read_event Decode.message_part Decode.ended Decode.decode_event Decode.meaning TimeCache.value_of TimeCache.get TimeCache.add_expiry TimeCache.put TimeCache.with_value TimeCache.replace TimeCache.expires_at TimeCache.pop TimeCache.due TimeCache.later TimeCache.pop_all TimeCache.popped TimeCache.expire_until TimeCache.expired_keys TimeCache.expires_on_time TimeCache.in_pop_order TimeCache.later_cache State.fresh State.zero_counts State.size_in_range State.durations_in_range State.up_to State.limits_in_range State.block_need State.create Run.act Run.has_room Run.use_room Run.send Answer.message_fits Answer.counts_below Answer.counts_stay Answer.last_round Answer.output_of Screen.struck Screen.is_forgotten Answer.last_two Answer.too_far_message Answer.too_far Answer.ask_of Answer.ask_read Answer.ask Answer.ask_whole Answer.outcome Answer.answer_of Answer.answer_block Whole.content_held Whole.cache_fits Whole.fits Whole.in_range Whole.keys_once Whole.neighbours Whole.announcers_whole Whole.grafts_whole Whole.noted_once Whole.record_within Whole.flags_stand Whole.whole Whole.long_enough Whole.whole_state Links.peers_marked Links.eager_peers Links.lazy_peers Links.marked Links.eager_in Links.mark_if_there Links.add_eager Links.add_lazy Links.link_up Links.link_down Neighbours.on_neighbor_up Neighbours.without_announcer Neighbours.forget_announcer Neighbours.without_notes Neighbours.without_graft Neighbours.forget_grafted Neighbours.forget_peer Neighbours.on_neighbor_down Push.schedule_dispatch Push.schedule_announce_dropped Push.record_full Push.record_also Push.note_one Push.note_each Push.note_dropped Push.send_each Push.handed_back Push.note_for_each Push.eager_targets Push.note_after Push.push_to Push.eager_push Push.note_for Push.lazy_push Push.send_ihave Gossips.mark_received Gossips.cache_at Gossips.hops_of Gossips.announcers Gossips.peers_of Gossips.grafted_for Gossips.with_first Gossips.set_first Gossips.graft_out Gossips.forget_missing Gossips.raise_hops Gossips.least_from Gossips.far_closer Gossips.update_links Gossips.graft_unless_eager Gossips.prune_back Gossips.optimize_tree Gossips.forget_and_optimise Gossips.push_on Gossips.take_in Gossips.same_as Gossips.no_more_hops Gossips.late_from Gossips.late_kind Gossips.with_kept Gossips.set_kept Gossips.on_duplicate Gossips.on_late_graft_reply Gossips.on_new Gossips.on_gossip Gossips.broadcast_to Gossips.broadcast Gossips.gossip_size Ticks.chunks Ticks.queued_for Ticks.queued_peers Ticks.send_chunks Ticks.dispatch_to Ticks.clear_dispatch Ticks.on_dispatch_timer Ticks.oldest Ticks.younger Ticks.move_oldest Ticks.still_cached Ticks.dispatch_if_queued Ticks.on_announce_dropped_timer Ticks.evict Ticks.on_evict_cache_timer Ticks.per_message Control.add_announcer Control.announce Control.schedule_graft Control.on_announced Control.on_ihave Control.on_prune Control.reply_with Control.reply Control.on_graft Control.lower Control.with_graft Control.note_graft Control.leave_announcers Control.ask_first Control.unmark Control.on_send_graft_timer Handle.first_event Handle.one_payload Handle.one_control Handle.count_message Handle.if_neighbour Handle.on_timer Handle.on_message Handle.handle_message Handle.handle Calls.state_after Calls.counts_after Calls.prepend Calls.run_calls Alike.same_list Alike.same_option Alike.same_map Alike.same_mark Alike.same_hop Alike.same_note Alike.same_notes Alike.same_expiry Alike.same_grafts Alike.same_cached Alike.same_unit Alike.same_cache Alike.same_settings Alike.same_limits Alike.same_tables Alike.same_caches Alike.same_flags Alike.alike Alike.likeness_of Alike.alike_blocks
+unfolding agrees hash names named section19 section20 section21 section22 section23 section24 section25 section26 section27 section28 section29 section30 section31 section32 Base.filter Base.count Base.any Base.all Base.member Base.sum Base.concat_map Base.ascending Base.once Map.lookup Map.insert Map.remove Map.insert_key Map.remove_key Number.groups Number.number_bytes Number.number_length Number.big_endian Number.id_bytes Number.from_big_endian Number.read_kind Number.read_bytes Number.read_id Number.last_group Number.read_groups Number.read_number Number.read_padded Number.read_round Number.kind_number Message.content_bytes Message.delivery_bytes Message.scope_byte Message.ihave_bytes Message.optional_id_bytes Message.message_bytes Message.timer_bytes Message.event_bytes Message.taken_byte Message.action_bytes Decode.read_content Decode.read_padded_content Decode.delivery_of Decode.delivery_kind Decode.read_delivery Decode.scope_of Decode.optional_id_of Decode.read_optional_id Decode.read_ihave Decode.read_ihaves Decode.ihaves_in Decode.message_of Decode.message_kind Decode.read_message Decode.timer_of Decode.read_timer Decode.event_of Decode.read_event Decode.message_part Decode.ended Decode.decode_event Decode.meaning TimeCache.value_of TimeCache.get TimeCache.add_expiry TimeCache.put TimeCache.with_value TimeCache.replace TimeCache.expires_at TimeCache.pop TimeCache.due TimeCache.later TimeCache.pop_all TimeCache.popped TimeCache.expire_until TimeCache.expired_keys TimeCache.expires_on_time TimeCache.in_pop_order TimeCache.later_cache State.fresh State.zero_counts State.size_in_range State.durations_in_range State.up_to State.limits_in_range State.block_need State.create Run.act Run.has_room Run.use_room Run.send Answer.message_fits Answer.counts_below Answer.counts_stay Answer.last_round Answer.output_of Screen.struck Screen.is_forgotten Answer.last_two Answer.too_far_message Answer.too_far Answer.ask_of Answer.ask_read Answer.ask Answer.ask_whole Answer.outcome Answer.answer_of Answer.answer_block Whole.content_held Whole.cache_fits Whole.fits Whole.in_range Whole.keys_once Whole.neighbours Whole.announcers_whole Whole.grafts_whole Whole.noted_once Whole.record_within Whole.flags_stand Whole.whole Whole.long_enough Whole.whole_state Links.peers_marked Links.eager_peers Links.lazy_peers Links.marked Links.eager_in Links.quiet_in Links.up_mark Links.mark_if_there Links.add_eager Links.add_lazy Links.link_up Links.link_down Neighbours.on_neighbor_up Neighbours.without_announcer Neighbours.forget_announcer Neighbours.without_notes Neighbours.without_graft Neighbours.forget_grafted Neighbours.forget_peer Neighbours.on_neighbor_down Push.schedule_dispatch Push.schedule_announce_dropped Push.record_full Push.record_also Push.note_one Push.note_each Push.note_dropped Push.send_each Push.handed_back Push.note_for_each Push.eager_targets Push.note_after Push.push_to Push.eager_push Push.note_for Push.lazy_push Push.send_ihave Gossips.mark_received Gossips.cache_at Gossips.hops_of Gossips.announcers Gossips.peers_of Gossips.grafted_for Gossips.with_first Gossips.set_first Gossips.graft_out Gossips.forget_missing Gossips.raise_hops Gossips.least_from Gossips.far_closer Gossips.update_links Gossips.graft_unless_eager Gossips.prune_back Gossips.optimize_tree Gossips.forget_and_optimise Gossips.push_on Gossips.take_in Gossips.same_as Gossips.no_more_hops Gossips.late_from Gossips.late_kind Gossips.with_kept Gossips.set_kept Gossips.on_duplicate Gossips.on_late_graft_reply Gossips.on_new Gossips.on_gossip Gossips.broadcast_to Gossips.broadcast Gossips.gossip_size Ticks.chunks Ticks.queued_for Ticks.queued_peers Ticks.send_chunks Ticks.dispatch_to Ticks.clear_dispatch Ticks.on_dispatch_timer Ticks.oldest Ticks.younger Ticks.move_oldest Ticks.still_cached Ticks.dispatch_if_queued Ticks.on_announce_dropped_timer Ticks.evict Ticks.on_evict_cache_timer Ticks.per_message Control.add_announcer Control.announce Control.schedule_graft Control.on_announced Control.on_ihave Control.on_prune Control.reply_with Control.reply Control.on_graft Control.lower Control.with_graft Control.note_graft Control.leave_announcers Control.ask_first Control.unmark Control.on_send_graft_timer Handle.first_event Handle.one_payload Handle.one_control Handle.count_message Handle.if_neighbour Handle.on_timer Handle.on_message Handle.handle_message Handle.handle Calls.state_after Calls.counts_after Calls.prepend Calls.run_calls Alike.same_list Alike.same_option Alike.same_map Alike.same_mark Alike.same_hop Alike.same_note Alike.same_notes Alike.same_expiry Alike.same_grafts Alike.same_cached Alike.same_unit Alike.same_cache Alike.same_settings Alike.same_limits Alike.same_tables Alike.same_caches Alike.same_flags Alike.alike Alike.likeness_of Alike.alike_blocks
 rust-sample-2 = refl
 
 rust-sample-3 : map agrees (section33 ∷ section34 ∷ section35 ∷ section36 ∷ section37 ∷ []) ≡ replicate 5 (true ∷ true ∷ true ∷ [])
-unfolding agrees hash names named section33 section34 section35 section36 section37 Base.filter Base.count Base.any Base.all Base.member Base.sum Base.concat_map Base.ascending Base.once Map.lookup Map.insert Map.remove Map.insert_key Map.remove_key Number.groups Number.number_bytes Number.number_length Number.big_endian Number.id_bytes Number.from_big_endian Number.read_kind Number.read_bytes Number.read_id Number.last_group Number.read_groups Number.read_number Number.read_padded Number.read_round Number.kind_number Message.content_bytes Message.delivery_bytes Message.scope_byte Message.ihave_bytes Message.optional_id_bytes Message.message_bytes Message.timer_bytes Message.event_bytes Message.taken_byte Message.action_bytes Decode.read_content Decode.read_padded_content Decode.delivery_of Decode.delivery_kind Decode.read_delivery Decode.scope_of Decode.optional_id_of Decode.read_optional_id Decode.read_ihave Decode.read_ihaves Decode.ihaves_in Decode.message_of Decode.message_kind Decode.read_message Decode.timer_of Decode.read_timer Decode.event_of Decode.read_event Decode.message_part Decode.ended Decode.decode_event Decode.meaning TimeCache.value_of TimeCache.get TimeCache.add_expiry TimeCache.put TimeCache.with_value TimeCache.replace TimeCache.expires_at TimeCache.pop TimeCache.due TimeCache.later TimeCache.pop_all TimeCache.popped TimeCache.expire_until TimeCache.expired_keys TimeCache.expires_on_time TimeCache.in_pop_order TimeCache.later_cache State.fresh State.zero_counts State.size_in_range State.durations_in_range State.up_to State.limits_in_range State.block_need State.create Run.act Run.has_room Run.use_room Run.send Answer.message_fits Answer.counts_below Answer.counts_stay Answer.last_round Answer.output_of Screen.struck Screen.is_forgotten Answer.last_two Answer.too_far_message Answer.too_far Answer.ask_of Answer.ask_read Answer.ask Answer.ask_whole Answer.outcome Answer.answer_of Answer.answer_block Whole.content_held Whole.cache_fits Whole.fits Whole.in_range Whole.keys_once Whole.neighbours Whole.announcers_whole Whole.grafts_whole Whole.noted_once Whole.record_within Whole.flags_stand Whole.whole Whole.long_enough Whole.whole_state Links.peers_marked Links.eager_peers Links.lazy_peers Links.marked Links.eager_in Links.mark_if_there Links.add_eager Links.add_lazy Links.link_up Links.link_down Neighbours.on_neighbor_up Neighbours.without_announcer Neighbours.forget_announcer Neighbours.without_notes Neighbours.without_graft Neighbours.forget_grafted Neighbours.forget_peer Neighbours.on_neighbor_down Push.schedule_dispatch Push.schedule_announce_dropped Push.record_full Push.record_also Push.note_one Push.note_each Push.note_dropped Push.send_each Push.handed_back Push.note_for_each Push.eager_targets Push.note_after Push.push_to Push.eager_push Push.note_for Push.lazy_push Push.send_ihave Gossips.mark_received Gossips.cache_at Gossips.hops_of Gossips.announcers Gossips.peers_of Gossips.grafted_for Gossips.with_first Gossips.set_first Gossips.graft_out Gossips.forget_missing Gossips.raise_hops Gossips.least_from Gossips.far_closer Gossips.update_links Gossips.graft_unless_eager Gossips.prune_back Gossips.optimize_tree Gossips.forget_and_optimise Gossips.push_on Gossips.take_in Gossips.same_as Gossips.no_more_hops Gossips.late_from Gossips.late_kind Gossips.with_kept Gossips.set_kept Gossips.on_duplicate Gossips.on_late_graft_reply Gossips.on_new Gossips.on_gossip Gossips.broadcast_to Gossips.broadcast Gossips.gossip_size Ticks.chunks Ticks.queued_for Ticks.queued_peers Ticks.send_chunks Ticks.dispatch_to Ticks.clear_dispatch Ticks.on_dispatch_timer Ticks.oldest Ticks.younger Ticks.move_oldest Ticks.still_cached Ticks.dispatch_if_queued Ticks.on_announce_dropped_timer Ticks.evict Ticks.on_evict_cache_timer Ticks.per_message Control.add_announcer Control.announce Control.schedule_graft Control.on_announced Control.on_ihave Control.on_prune Control.reply_with Control.reply Control.on_graft Control.lower Control.with_graft Control.note_graft Control.leave_announcers Control.ask_first Control.unmark Control.on_send_graft_timer Handle.first_event Handle.one_payload Handle.one_control Handle.count_message Handle.if_neighbour Handle.on_timer Handle.on_message Handle.handle_message Handle.handle Calls.state_after Calls.counts_after Calls.prepend Calls.run_calls Alike.same_list Alike.same_option Alike.same_map Alike.same_mark Alike.same_hop Alike.same_note Alike.same_notes Alike.same_expiry Alike.same_grafts Alike.same_cached Alike.same_unit Alike.same_cache Alike.same_settings Alike.same_limits Alike.same_tables Alike.same_caches Alike.same_flags Alike.alike Alike.likeness_of Alike.alike_blocks
+unfolding agrees hash names named section33 section34 section35 section36 section37 Base.filter Base.count Base.any Base.all Base.member Base.sum Base.concat_map Base.ascending Base.once Map.lookup Map.insert Map.remove Map.insert_key Map.remove_key Number.groups Number.number_bytes Number.number_length Number.big_endian Number.id_bytes Number.from_big_endian Number.read_kind Number.read_bytes Number.read_id Number.last_group Number.read_groups Number.read_number Number.read_padded Number.read_round Number.kind_number Message.content_bytes Message.delivery_bytes Message.scope_byte Message.ihave_bytes Message.optional_id_bytes Message.message_bytes Message.timer_bytes Message.event_bytes Message.taken_byte Message.action_bytes Decode.read_content Decode.read_padded_content Decode.delivery_of Decode.delivery_kind Decode.read_delivery Decode.scope_of Decode.optional_id_of Decode.read_optional_id Decode.read_ihave Decode.read_ihaves Decode.ihaves_in Decode.message_of Decode.message_kind Decode.read_message Decode.timer_of Decode.read_timer Decode.event_of Decode.read_event Decode.message_part Decode.ended Decode.decode_event Decode.meaning TimeCache.value_of TimeCache.get TimeCache.add_expiry TimeCache.put TimeCache.with_value TimeCache.replace TimeCache.expires_at TimeCache.pop TimeCache.due TimeCache.later TimeCache.pop_all TimeCache.popped TimeCache.expire_until TimeCache.expired_keys TimeCache.expires_on_time TimeCache.in_pop_order TimeCache.later_cache State.fresh State.zero_counts State.size_in_range State.durations_in_range State.up_to State.limits_in_range State.block_need State.create Run.act Run.has_room Run.use_room Run.send Answer.message_fits Answer.counts_below Answer.counts_stay Answer.last_round Answer.output_of Screen.struck Screen.is_forgotten Answer.last_two Answer.too_far_message Answer.too_far Answer.ask_of Answer.ask_read Answer.ask Answer.ask_whole Answer.outcome Answer.answer_of Answer.answer_block Whole.content_held Whole.cache_fits Whole.fits Whole.in_range Whole.keys_once Whole.neighbours Whole.announcers_whole Whole.grafts_whole Whole.noted_once Whole.record_within Whole.flags_stand Whole.whole Whole.long_enough Whole.whole_state Links.peers_marked Links.eager_peers Links.lazy_peers Links.marked Links.eager_in Links.quiet_in Links.up_mark Links.mark_if_there Links.add_eager Links.add_lazy Links.link_up Links.link_down Neighbours.on_neighbor_up Neighbours.without_announcer Neighbours.forget_announcer Neighbours.without_notes Neighbours.without_graft Neighbours.forget_grafted Neighbours.forget_peer Neighbours.on_neighbor_down Push.schedule_dispatch Push.schedule_announce_dropped Push.record_full Push.record_also Push.note_one Push.note_each Push.note_dropped Push.send_each Push.handed_back Push.note_for_each Push.eager_targets Push.note_after Push.push_to Push.eager_push Push.note_for Push.lazy_push Push.send_ihave Gossips.mark_received Gossips.cache_at Gossips.hops_of Gossips.announcers Gossips.peers_of Gossips.grafted_for Gossips.with_first Gossips.set_first Gossips.graft_out Gossips.forget_missing Gossips.raise_hops Gossips.least_from Gossips.far_closer Gossips.update_links Gossips.graft_unless_eager Gossips.prune_back Gossips.optimize_tree Gossips.forget_and_optimise Gossips.push_on Gossips.take_in Gossips.same_as Gossips.no_more_hops Gossips.late_from Gossips.late_kind Gossips.with_kept Gossips.set_kept Gossips.on_duplicate Gossips.on_late_graft_reply Gossips.on_new Gossips.on_gossip Gossips.broadcast_to Gossips.broadcast Gossips.gossip_size Ticks.chunks Ticks.queued_for Ticks.queued_peers Ticks.send_chunks Ticks.dispatch_to Ticks.clear_dispatch Ticks.on_dispatch_timer Ticks.oldest Ticks.younger Ticks.move_oldest Ticks.still_cached Ticks.dispatch_if_queued Ticks.on_announce_dropped_timer Ticks.evict Ticks.on_evict_cache_timer Ticks.per_message Control.add_announcer Control.announce Control.schedule_graft Control.on_announced Control.on_ihave Control.on_prune Control.reply_with Control.reply Control.on_graft Control.lower Control.with_graft Control.note_graft Control.leave_announcers Control.ask_first Control.unmark Control.on_send_graft_timer Handle.first_event Handle.one_payload Handle.one_control Handle.count_message Handle.if_neighbour Handle.on_timer Handle.on_message Handle.handle_message Handle.handle Calls.state_after Calls.counts_after Calls.prepend Calls.run_calls Alike.same_list Alike.same_option Alike.same_map Alike.same_mark Alike.same_hop Alike.same_note Alike.same_notes Alike.same_expiry Alike.same_grafts Alike.same_cached Alike.same_unit Alike.same_cache Alike.same_settings Alike.same_limits Alike.same_tables Alike.same_caches Alike.same_flags Alike.alike Alike.likeness_of Alike.alike_blocks
 rust-sample-3 = refl
 
 rust-sample-4 : map agrees (section38 ∷ section39 ∷ section40 ∷ []) ≡ replicate 3 (true ∷ true ∷ true ∷ [])
-unfolding agrees hash names named section38 section39 section40 Base.filter Base.count Base.any Base.all Base.member Base.sum Base.concat_map Base.ascending Base.once Map.lookup Map.insert Map.remove Map.insert_key Map.remove_key Number.groups Number.number_bytes Number.number_length Number.big_endian Number.id_bytes Number.from_big_endian Number.read_kind Number.read_bytes Number.read_id Number.last_group Number.read_groups Number.read_number Number.read_padded Number.read_round Number.kind_number Message.content_bytes Message.delivery_bytes Message.scope_byte Message.ihave_bytes Message.optional_id_bytes Message.message_bytes Message.timer_bytes Message.event_bytes Message.taken_byte Message.action_bytes Decode.read_content Decode.read_padded_content Decode.delivery_of Decode.delivery_kind Decode.read_delivery Decode.scope_of Decode.optional_id_of Decode.read_optional_id Decode.read_ihave Decode.read_ihaves Decode.ihaves_in Decode.message_of Decode.message_kind Decode.read_message Decode.timer_of Decode.read_timer Decode.event_of Decode.read_event Decode.message_part Decode.ended Decode.decode_event Decode.meaning TimeCache.value_of TimeCache.get TimeCache.add_expiry TimeCache.put TimeCache.with_value TimeCache.replace TimeCache.expires_at TimeCache.pop TimeCache.due TimeCache.later TimeCache.pop_all TimeCache.popped TimeCache.expire_until TimeCache.expired_keys TimeCache.expires_on_time TimeCache.in_pop_order TimeCache.later_cache State.fresh State.zero_counts State.size_in_range State.durations_in_range State.up_to State.limits_in_range State.block_need State.create Run.act Run.has_room Run.use_room Run.send Answer.message_fits Answer.counts_below Answer.counts_stay Answer.last_round Answer.output_of Screen.struck Screen.is_forgotten Answer.last_two Answer.too_far_message Answer.too_far Answer.ask_of Answer.ask_read Answer.ask Answer.ask_whole Answer.outcome Answer.answer_of Answer.answer_block Whole.content_held Whole.cache_fits Whole.fits Whole.in_range Whole.keys_once Whole.neighbours Whole.announcers_whole Whole.grafts_whole Whole.noted_once Whole.record_within Whole.flags_stand Whole.whole Whole.long_enough Whole.whole_state Links.peers_marked Links.eager_peers Links.lazy_peers Links.marked Links.eager_in Links.mark_if_there Links.add_eager Links.add_lazy Links.link_up Links.link_down Neighbours.on_neighbor_up Neighbours.without_announcer Neighbours.forget_announcer Neighbours.without_notes Neighbours.without_graft Neighbours.forget_grafted Neighbours.forget_peer Neighbours.on_neighbor_down Push.schedule_dispatch Push.schedule_announce_dropped Push.record_full Push.record_also Push.note_one Push.note_each Push.note_dropped Push.send_each Push.handed_back Push.note_for_each Push.eager_targets Push.note_after Push.push_to Push.eager_push Push.note_for Push.lazy_push Push.send_ihave Gossips.mark_received Gossips.cache_at Gossips.hops_of Gossips.announcers Gossips.peers_of Gossips.grafted_for Gossips.with_first Gossips.set_first Gossips.graft_out Gossips.forget_missing Gossips.raise_hops Gossips.least_from Gossips.far_closer Gossips.update_links Gossips.graft_unless_eager Gossips.prune_back Gossips.optimize_tree Gossips.forget_and_optimise Gossips.push_on Gossips.take_in Gossips.same_as Gossips.no_more_hops Gossips.late_from Gossips.late_kind Gossips.with_kept Gossips.set_kept Gossips.on_duplicate Gossips.on_late_graft_reply Gossips.on_new Gossips.on_gossip Gossips.broadcast_to Gossips.broadcast Gossips.gossip_size Ticks.chunks Ticks.queued_for Ticks.queued_peers Ticks.send_chunks Ticks.dispatch_to Ticks.clear_dispatch Ticks.on_dispatch_timer Ticks.oldest Ticks.younger Ticks.move_oldest Ticks.still_cached Ticks.dispatch_if_queued Ticks.on_announce_dropped_timer Ticks.evict Ticks.on_evict_cache_timer Ticks.per_message Control.add_announcer Control.announce Control.schedule_graft Control.on_announced Control.on_ihave Control.on_prune Control.reply_with Control.reply Control.on_graft Control.lower Control.with_graft Control.note_graft Control.leave_announcers Control.ask_first Control.unmark Control.on_send_graft_timer Handle.first_event Handle.one_payload Handle.one_control Handle.count_message Handle.if_neighbour Handle.on_timer Handle.on_message Handle.handle_message Handle.handle Calls.state_after Calls.counts_after Calls.prepend Calls.run_calls Alike.same_list Alike.same_option Alike.same_map Alike.same_mark Alike.same_hop Alike.same_note Alike.same_notes Alike.same_expiry Alike.same_grafts Alike.same_cached Alike.same_unit Alike.same_cache Alike.same_settings Alike.same_limits Alike.same_tables Alike.same_caches Alike.same_flags Alike.alike Alike.likeness_of Alike.alike_blocks
+unfolding agrees hash names named section38 section39 section40 Base.filter Base.count Base.any Base.all Base.member Base.sum Base.concat_map Base.ascending Base.once Map.lookup Map.insert Map.remove Map.insert_key Map.remove_key Number.groups Number.number_bytes Number.number_length Number.big_endian Number.id_bytes Number.from_big_endian Number.read_kind Number.read_bytes Number.read_id Number.last_group Number.read_groups Number.read_number Number.read_padded Number.read_round Number.kind_number Message.content_bytes Message.delivery_bytes Message.scope_byte Message.ihave_bytes Message.optional_id_bytes Message.message_bytes Message.timer_bytes Message.event_bytes Message.taken_byte Message.action_bytes Decode.read_content Decode.read_padded_content Decode.delivery_of Decode.delivery_kind Decode.read_delivery Decode.scope_of Decode.optional_id_of Decode.read_optional_id Decode.read_ihave Decode.read_ihaves Decode.ihaves_in Decode.message_of Decode.message_kind Decode.read_message Decode.timer_of Decode.read_timer Decode.event_of Decode.read_event Decode.message_part Decode.ended Decode.decode_event Decode.meaning TimeCache.value_of TimeCache.get TimeCache.add_expiry TimeCache.put TimeCache.with_value TimeCache.replace TimeCache.expires_at TimeCache.pop TimeCache.due TimeCache.later TimeCache.pop_all TimeCache.popped TimeCache.expire_until TimeCache.expired_keys TimeCache.expires_on_time TimeCache.in_pop_order TimeCache.later_cache State.fresh State.zero_counts State.size_in_range State.durations_in_range State.up_to State.limits_in_range State.block_need State.create Run.act Run.has_room Run.use_room Run.send Answer.message_fits Answer.counts_below Answer.counts_stay Answer.last_round Answer.output_of Screen.struck Screen.is_forgotten Answer.last_two Answer.too_far_message Answer.too_far Answer.ask_of Answer.ask_read Answer.ask Answer.ask_whole Answer.outcome Answer.answer_of Answer.answer_block Whole.content_held Whole.cache_fits Whole.fits Whole.in_range Whole.keys_once Whole.neighbours Whole.announcers_whole Whole.grafts_whole Whole.noted_once Whole.record_within Whole.flags_stand Whole.whole Whole.long_enough Whole.whole_state Links.peers_marked Links.eager_peers Links.lazy_peers Links.marked Links.eager_in Links.quiet_in Links.up_mark Links.mark_if_there Links.add_eager Links.add_lazy Links.link_up Links.link_down Neighbours.on_neighbor_up Neighbours.without_announcer Neighbours.forget_announcer Neighbours.without_notes Neighbours.without_graft Neighbours.forget_grafted Neighbours.forget_peer Neighbours.on_neighbor_down Push.schedule_dispatch Push.schedule_announce_dropped Push.record_full Push.record_also Push.note_one Push.note_each Push.note_dropped Push.send_each Push.handed_back Push.note_for_each Push.eager_targets Push.note_after Push.push_to Push.eager_push Push.note_for Push.lazy_push Push.send_ihave Gossips.mark_received Gossips.cache_at Gossips.hops_of Gossips.announcers Gossips.peers_of Gossips.grafted_for Gossips.with_first Gossips.set_first Gossips.graft_out Gossips.forget_missing Gossips.raise_hops Gossips.least_from Gossips.far_closer Gossips.update_links Gossips.graft_unless_eager Gossips.prune_back Gossips.optimize_tree Gossips.forget_and_optimise Gossips.push_on Gossips.take_in Gossips.same_as Gossips.no_more_hops Gossips.late_from Gossips.late_kind Gossips.with_kept Gossips.set_kept Gossips.on_duplicate Gossips.on_late_graft_reply Gossips.on_new Gossips.on_gossip Gossips.broadcast_to Gossips.broadcast Gossips.gossip_size Ticks.chunks Ticks.queued_for Ticks.queued_peers Ticks.send_chunks Ticks.dispatch_to Ticks.clear_dispatch Ticks.on_dispatch_timer Ticks.oldest Ticks.younger Ticks.move_oldest Ticks.still_cached Ticks.dispatch_if_queued Ticks.on_announce_dropped_timer Ticks.evict Ticks.on_evict_cache_timer Ticks.per_message Control.add_announcer Control.announce Control.schedule_graft Control.on_announced Control.on_ihave Control.on_prune Control.reply_with Control.reply Control.on_graft Control.lower Control.with_graft Control.note_graft Control.leave_announcers Control.ask_first Control.unmark Control.on_send_graft_timer Handle.first_event Handle.one_payload Handle.one_control Handle.count_message Handle.if_neighbour Handle.on_timer Handle.on_message Handle.handle_message Handle.handle Calls.state_after Calls.counts_after Calls.prepend Calls.run_calls Alike.same_list Alike.same_option Alike.same_map Alike.same_mark Alike.same_hop Alike.same_note Alike.same_notes Alike.same_expiry Alike.same_grafts Alike.same_cached Alike.same_unit Alike.same_cache Alike.same_settings Alike.same_limits Alike.same_tables Alike.same_caches Alike.same_flags Alike.alike Alike.likeness_of Alike.alike_blocks
 rust-sample-4 = refl

@@ -13,7 +13,7 @@ use Rattle.protocol.specs.Push.{note_for}
 use Rattle.std.proofs.Math.Seq.{take-suc, take_all}
 use Rattle.std.proofs.lemmas.Grind.{common_steps}
 use Rattle.storage.specs.Lists.Map.{Entry, entry}
-use Rattle.protocol.specs.Links.{Mark, Links, eager, lazy, is_lazy, lazy_peers, peers_marked}
+use Rattle.protocol.specs.Links.{Mark, Links, eager, lazy, quiet, is_lazy, lazy_peers, peers_marked}
 use Rattle.protocol.specs.State.{State, Note, with_queue, with_dispatch_scheduled}
 use Rattle.block.specs.LinkSteps.{link_at}
 use Rattle.block.specs.NoteSteps.{queue_also}
@@ -58,14 +58,15 @@ module _ (id round sender : ℕ) where
   lazy-all [] = refl
   lazy-all (e ∷ l) = each (lazy-all l) e.key e.value
     where
-      one : lazy_notes id round sender l ≡ note_for (filter_of (λ p. not (eqb p sender)) (lazy_peers l)) id round → (k : ℕ) (b : Bool) → map (note_of id round) (if not b then entry k lazy ∷ filter (lazy_target sender) l else filter (lazy_target sender) l)
+      one : lazy_notes id round sender l ≡ note_for (filter_of (λ p. not (eqb p sender)) (lazy_peers l)) id round → (k : ℕ) (m : Mark) (b : Bool) → map (note_of id round) (if not b then entry k m ∷ filter (lazy_target sender) l else filter (lazy_target sender) l)
           ≡ note_for (if not b then k ∷ filter_of (λ p. not (eqb p sender)) (lazy_peers l) else filter_of (λ p. not (eqb p sender)) (lazy_peers l)) id round
-      one all k true = all
-      one all k false = ap (λ (ns : List Note). record { peer = k; id = id; round = round } ∷ ns) all
+      one all k m true = all
+      one all k m false = ap (λ (ns : List Note). record { peer = k; id = id; round = round } ∷ ns) all
 
       each : lazy_notes id round sender l ≡ note_for (filter_of (λ p. not (eqb p sender)) (lazy_peers l)) id round → (k : ℕ) (m : Mark) → lazy_notes id round sender (entry k m ∷ l) ≡ note_for (filter_of (λ p. not (eqb p sender)) (peers_marked is_lazy (entry k m ∷ l))) id round
       each all k eager = all
-      each all k lazy = one all k (eqb k sender)
+      each all k lazy = one all k lazy (eqb k sender)
+      each all k quiet = one all k quiet (eqb k sender)
 
   queue_all : (s : State) → (lazy_state id round sender s).queue ≡ s.queue ++ lazy_notes id round sender s.links
   unfolding lazy_state

@@ -10,8 +10,8 @@ use Rattle.storage.specs.Lists.Base.{ascending}
 use Rattle.storage.specs.Lists.Map.{keys, has, lookup, insert, remove}
 use Rattle.storage.proofs.ListsLaws.MapLaws.{cases, true≢, and_left}
 use Rattle.time_cache.proofs.Orders.{up_of}
-use Rattle.protocol.specs.Links.{Links, eager, is_neighbour, link_up, add_eager, mark_if_there}
-use Rattle.protocol.specs.State.{State, with_links}
+use Rattle.protocol.specs.Links.{Links, up_mark, is_neighbour, link_up}
+use Rattle.protocol.specs.State.{State}
 use Rattle.protocol.specs.Neighbours.{forget_peer}
 use Rattle.protocol.specs.Consistent.{Consistent}
 use Rattle.protocol.specs.Whole.{fits, content_held}
@@ -33,33 +33,28 @@ pub found-neighbour : (s : State) (p : ℕ) (o : Option ℕ) → ascending (keys
 found-neighbour s p None up e = sym e
 found-neighbour s p (Some l) up a = sym (neighbour-here p l s.links (up_of (keys s.links) up) (record { within = omega (arith, a.below, length-map s.links (λ e. e.key)); same = a.peer }))
 
-module _ (p : ℕ) (s : State) (up : ascending (keys s.links) ≡ true) where
-  long : length (link_up p s.links) ≡ grown (is_neighbour p s.links) (length s.links)
+module _ (q : Bool) (p : ℕ) (s : State) (up : ascending (keys s.links) ≡ true) where
+  long : length (link_up q p s.links) ≡ grown (is_neighbour p s.links) (length s.links)
   unfolding link_up
-  long = length-insert p eager s.links up
+  long = length-insert p (up_mark q) s.links up
 
-  up-sizes : sizes_of (linked (link_up p) s) ≡ sized_links (grown (is_neighbour p s.links) (length s.links)) (sizes_of s)
+  up-sizes : sizes_of (linked (link_up q p) s) ≡ sized_links (grown (is_neighbour p s.links) (length s.links)) (sizes_of s)
   unfolding sizes_of content_held
   up-sizes = ap (λ (n : ℕ). sized_links n (sizes_of s)) long
 
-  pub up-there : is_neighbour p s.links ≡ true → sizes_of s ≡ sizes_of (linked (link_up p) s)
+  pub up-there : is_neighbour p s.links ≡ true → sizes_of s ≡ sizes_of (linked (link_up q p) s)
   unfolding sizes_of grown content_held
   up-there e = sym (up-sizes ∙ ap (λ (b : Bool). sized_links (grown b (length s.links)) (sizes_of s)) e)
 
-  pub up-new : is_neighbour p s.links ≡ false → sized_links ((sizes_of s).links + 1) (sizes_of s) ≡ sizes_of (linked (link_up p) s)
+  pub up-new : is_neighbour p s.links ≡ false → sized_links ((sizes_of s).links + 1) (sizes_of s) ≡ sizes_of (linked (link_up q p) s)
   unfolding sizes_of grown content_held
   up-new e = ap (λ (n : ℕ). sized_links n (sizes_of s)) (add-one (length s.links)) ∙ sym (up-sizes ∙ ap (λ (b : Bool). sized_links (grown b (length s.links)) (sizes_of s)) e)
 
-  pub up-room : is_neighbour p s.links ≡ false → fits (linked (link_up p) s) ≡ true → length s.links < s.limits.N
+  pub up-room : is_neighbour p s.links ≡ false → fits (linked (link_up q p) s) ≡ true → length s.links < s.limits.N
   unfolding grown
   up-room e h =
-      let n : length (link_up p s.links) ≡ suc (length s.links) = long ∙ ap (λ (b : Bool). grown b (length s.links)) e in
-      omega (arith, n, fits-links (linked (link_up p) s) h)
-
--- a neighbour that is made eager
-pub eager-up : (p : ℕ) (s : State) → is_neighbour p s.links ≡ true → linked (add_eager p) s ≡ linked (link_up p) s
-unfolding add_eager mark_if_there link_up
-eager-up p s e = ap (λ (b : Bool). with_links (if b then insert p eager s.links else s.links) s) e
+      let n : length (link_up q p s.links) ≡ suc (length s.links) = long ∙ ap (λ (b : Bool). grown b (length s.links)) e in
+      omega (arith, n, fits-links (linked (link_up q p) s) h)
 
 -- a stranger that goes
 remove-away : (p : ℕ) (m : Links) → has p m ≡ false → remove p m ≡ m

@@ -1,6 +1,6 @@
 -- What a panel's state says of its header, a panel that is read, and a link that gets another mark.
 -- Assumes nothing.
-use Rattle.std.proofs.Common.{◌≡◌, ℕ, ◌<◌, length, arith, List, [], ◌∷◌, refl, sym, ap, ◌∙◌, true}
+use Rattle.std.proofs.Common.{◌≡◌, ℕ, ◌<◌, length, arith, List, [], ◌∷◌, refl, sym, ap, ◌∙◌, true, not, ◌&&◌}
 use lib.ListN.{get_or-map, length-map}
 use lib.Seq.{set-get_or}
 use Rattle.storage.specs.Lists.Base.{ascending}
@@ -11,7 +11,7 @@ use Rattle.storage.proofs.RowsLaws.Parts.{set-put}
 use Rattle.storage.proofs.RowsLaws.Views.{map-put}
 use Rattle.time_cache.proofs.MapPlaces.{insert-here}
 use Rattle.time_cache.proofs.Orders.{up_of}
-use Rattle.protocol.specs.Links.{Mark, eager, Links, is_neighbour, mark_if_there}
+use Rattle.protocol.specs.Links.{Mark, eager, Links, is_neighbour, quiet_in, mark_if_there}
 use Rattle.protocol.specs.State.{State}
 use Rattle.block.specs.LinkSteps.{link_at, peer_at}
 use Rattle.block.specs.View.{state_of}
@@ -51,7 +51,7 @@ module _ (l : ℕ) (s : State) (up : ascending (keys s.links) ≡ true) (low : l
 
   pub same_keys : (k : Mark) → keys (mark_if_there (peer_at s l) k s.links) ≡ keys s.links
   unfolding mark_if_there
-  same_keys k = cases (is_neighbour (peer_at s l) s.links) (λ n. rw n inserted) (λ n. rw n refl)
+  same_keys k = cases (is_neighbour (peer_at s l) s.links && not (quiet_in (peer_at s l) s.links)) (λ n. rw n inserted) (λ n. rw n refl)
     where
       inserted : keys (insert (peer_at s l) k s.links) ≡ keys s.links
       inserted =

@@ -1,8 +1,9 @@
 // `on_neighbor_up`: a neighbour comes (the specification, "Sets"). It has no actions.
 ghost use Rattle.std.specs.Prelude.{◌≡◌};
-ghost use Rattle.protocol.specs.Links.{link_up};
+ghost use Rattle.std.specs.Prelude.{Bool};
+ghost use Rattle.protocol.specs.Links.{up_mark, link_up};
 ghost use Rattle.decide.specs.Sizes.{sizes_of};
-ghost use Rattle.block.specs.LinkSteps.{linked};
+ghost use Rattle.block.specs.LinkSteps.{mark_value, linked};
 ghost use Rattle.steps.specs.Shared.{sizes_value};
 ghost use Rattle.steps.specs.Views.{shown};
 ghost use Rattle.steps.specs.Panels.{state, Goes, AtRest, Allowed};
@@ -11,6 +12,7 @@ use crate::panel::Panel;
 use crate::view::View;
 use crate::{Sizes, neighbours, settled};
 use block::links;
+use block::links::Mark;
 
 impl<'a> View<'a> {
     ghost use Rattle.std.specs.Prelude.{◌≡◌, true};
@@ -40,27 +42,35 @@ impl<'a> View<'a> {
 }
 
 impl<'a> Panel<'a> {
-    ghost use Rattle.std.specs.Prelude.{◌<◌, length};
-    ghost use Rattle.storage.specs.Lists.Map.{keys};
+    ghost use Rattle.std.specs.Prelude.{◌≡◌, ◌<◌, length, true};
+    ghost use Rattle.storage.specs.Lists.Base.{ascending};
+    ghost use Rattle.storage.specs.Lists.Map.{keys, insert};
     ghost use Rattle.storage.specs.Rows.Sorted.{Between};
-    ghost use Rattle.protocol.specs.Links.{link_up};
-    ghost use Rattle.block.specs.LinkSteps.{linked};
+    ghost use Rattle.block.specs.LinkSteps.{mark_value, mark_at, linked};
     ghost use Rattle.steps.specs.Panels.{state, Goes};
 
-    // A link that is new, eager, before the link of a number.
-    pub fn insert_link(&mut self, number: usize, peer: u64)
+    // A link's mark anew, quiet or not.
+    pub fn put_mark(&mut self, link: usize, mark: Mark)
+        requires { (ascending (keys (state self.old).links) ≡ true) × (link < length (state self.old).links) }
+        ensures { Goes (mark_at link (mark_value mark)) self.old self.new }
+    {
+        links::put_mark(self.head, self.block, link, mark);
+    }
+
+    // A link that is new, with its mark, before the link of a number.
+    pub fn insert_link(&mut self, number: usize, peer: u64, mark: Mark)
         requires place { Between (keys (state self.old).links) peer number }
         requires room { length (state self.old).links < (state self.old).limits.N }
-        ensures { Goes (linked (link_up peer)) self.old self.new }
+        ensures { Goes (linked (insert peer (mark_value mark))) self.old self.new }
     {
-        self.head = neighbours::insert_link(self.head, self.block, number, peer);
+        self.head = neighbours::insert_link(self.head, self.block, number, peer, mark);
     }
 }
 
-// The numbers of entries after it (question 13): one link more, unless it is there.
+// The numbers of entries after it, quiet or not (question 13): one link more, unless it is there.
 pub fn up_sizes(view: &View, peer: u64) -> Sizes
     requires { AtRest (shown view.now) }
-    ensures { sizes_value result ≡ sizes_of (linked (link_up peer) (shown view.now)) }
+    ensures { (as_quiet : Bool) → sizes_value result ≡ sizes_of (linked (link_up as_quiet peer) (shown view.now)) }
 {
     let mut sizes = view.sizes_now();
     if view.find_link(peer).is_none() {
@@ -69,13 +79,22 @@ pub fn up_sizes(view: &View, peer: u64) -> Sizes
     sizes
 }
 
-// The step: "Up: into eager, out of lazy".
-pub fn on_neighbor_up(panel: &mut Panel, peer: u64)
-    requires { Allowed (linked (link_up peer)) (state panel.old) }
-    ensures { Goes (linked (link_up peer)) panel.old panel.new }
+// The mark of a neighbour told up: by kind 3 eager, by kind 5 quiet.
+#[tactic(auto, unfolding(protocol::specs::Links::up_mark))]
+fn up_mark(quiet: bool) -> Mark
+    ensures { mark_value result ≡ up_mark quiet }
 {
+    if quiet { Mark::Quiet } else { Mark::Eager }
+}
+
+// The step: "Up: into eager, out of lazy"; by kind 5 quiet.
+pub fn on_neighbor_up(panel: &mut Panel, peer: u64, quiet: bool)
+    requires { Allowed (linked (link_up quiet peer)) (state panel.old) }
+    ensures { Goes (linked (link_up quiet peer)) panel.old panel.new }
+{
+    let mark = up_mark(quiet);
     match panel.view().search_links(peer) {
-        Ok(link) => panel.add_eager(link),
-        Err(number) => panel.insert_link(number, peer),
+        Ok(link) => panel.put_mark(link, mark),
+        Err(number) => panel.insert_link(number, peer, mark),
     }
 }

@@ -5,6 +5,7 @@ ghost use Rattle.steps.specs.SoundProp.{Sound-prop};
 use crate::view::View;
 use block::head::Head;
 use block::links;
+use block::links::Mark;
 use block::note::{Note, NoteTable};
 use postcard::units::Round;
 use storage::rows::id::Id;
@@ -65,7 +66,7 @@ impl<'a> Panel<'a> {
         requires { (ascending (keys (state self.old).links) ≡ true) × (link < length (state self.old).links) }
         ensures { Goes (linked (add_eager (peer_at (state self.old) link))) self.old self.new }
     {
-        links::set_mark(self.head, self.block, link, true);
+        links::set_mark(self.head, self.block, link, Mark::Eager);
     }
 
     // `add_lazy`, of the peer of a link.
@@ -73,7 +74,7 @@ impl<'a> Panel<'a> {
         requires { (ascending (keys (state self.old).links) ≡ true) × (link < length (state self.old).links) }
         ensures { Goes (linked (add_lazy (peer_at (state self.old) link))) self.old self.new }
     {
-        links::set_mark(self.head, self.block, link, false);
+        links::set_mark(self.head, self.block, link, Mark::Lazy);
     }
 
     // Queues an identifier for a link.

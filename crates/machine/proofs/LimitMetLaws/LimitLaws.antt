@@ -53,7 +53,7 @@ zero-stays (Received p (Graft wanted round)) = refl
 zero-stays (Received p (IHave hs)) = refl
 zero-stays (Broadcast content scope) = refl
 zero-stays (Fired t) = refl
-zero-stays (Up p) = refl
+zero-stays (Up as_quiet p) = refl
 zero-stays (Down p) = refl
 
 -- what is told of an answer, if a limit x was met

@@ -1,5 +1,5 @@
 -- A step that is an event's is past the limit that the event is past.
-use Rattle.std.proofs.Common.{◌≡◌, ℕ, ◌<◌, refl, sym, ap, ◌∙◌, true, false, List}
+use Rattle.std.proofs.Common.{◌≡◌, ℕ, ◌<◌, refl, sym, ap, ◌∙◌, Bool, true, false, List}
 use Rattle.postcard.specs.Message.{Message, Event, Received, Up, Down}
 use Rattle.protocol.specs.Links.{link_up}
 use Rattle.protocol.specs.Neighbours.{forget_peer}
@@ -51,9 +51,9 @@ near-past call r v z n far same e f = told-past v (after_event call r (shown v))
 
 module _ (rooms : List Room) (now p : ℕ) where
   -- neighbour up
-  pub up-past : (v : View) (z : Sizes) (n : ℕ) → sizes_value z ≡ sizes_of (linked (link_up p) (shown v)) → n ≡ sizes_past (limits_of v.head.limits) (sizes_value z) → n ≡ event_past rooms now 0 (Up p) (shown v)
+  pub up-past : (as_quiet : Bool) (v : View) (z : Sizes) (n : ℕ) → sizes_value z ≡ sizes_of (linked (link_up as_quiet p) (shown v)) → n ≡ sizes_past (limits_of v.head.limits) (sizes_value z) → n ≡ event_past rooms now 0 (Up as_quiet p) (shown v)
   unfolding event_past size_fits too_far_before state_after
-  up-past v z n e f = told-past v (linked (link_up p) (shown v)) z n refl e f
+  up-past as_quiet v z n e f = told-past v (linked (link_up as_quiet p) (shown v)) z n refl e f
 
   -- neighbour down: nothing grows
   pub down-past : (s : State) → fits (forget_peer p s) ≡ true → 0 ≡ event_past rooms now 0 (Down p) s

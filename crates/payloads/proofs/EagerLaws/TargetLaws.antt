@@ -17,7 +17,7 @@ use Rattle.storage.proofs.ListsLaws.MapLaws.{cases, and_left, and_right, all_hea
 use Rattle.storage.proofs.ListsLaws.ListLaws.{filter-append, all_filter}
 use Rattle.storage.proofs.ListsLaws.Places.{at_all}
 use Rattle.time_cache.proofs.Orders.{up_of}
-use Rattle.protocol.specs.Links.{Mark, eager, lazy, Links, is_eager, peers_marked, eager_peers}
+use Rattle.protocol.specs.Links.{Mark, eager, lazy, quiet, Links, is_eager, peers_marked, eager_peers}
 use Rattle.protocol.specs.State.{State}
 use Rattle.protocol.specs.Run.{Room}
 use Rattle.protocol.specs.Push.{eager_targets}
@@ -63,6 +63,7 @@ module _ (me sender : ℕ) (skip : List ℕ) where
       on : (m : Mark) → filter (passes me sender skip) (if is_eager m then e.key ∷ [] else []) ≡ (if is_eager m && passes me sender skip e.key then e.key ∷ [] else [])
       on eager = unfold filter in refl
       on lazy = unfold filter in refl
+      on quiet = unfold filter in refl
 
 module _ (sender : ℕ) (skip : List ℕ) (s : State) where
   -- the targets among the first i links

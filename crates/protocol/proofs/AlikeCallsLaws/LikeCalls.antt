@@ -81,7 +81,7 @@ module _ (hash : List ℕ → ℕ) where
   too_far-same (Received p m) s t e = too_far_message-same m s t e
   too_far-same (Broadcast content scope) s t e = refl
   too_far-same (Fired x) s t e = refl
-  too_far-same (Up p) s t e = refl
+  too_far-same (Up as_quiet p) s t e = refl
   too_far-same (Down p) s t e = refl
 
   like-ask_of : (s t : State) (c : Counts) (k : Call) (v : Event) → LikeStates s t → LikeAnswers (ask_of hash s c k v) (ask_of hash t c k v)

@@ -327,9 +327,9 @@ like-on_neighbor_down p (like r q d q' d' e f) =
     like (with_state (forget_peer p r.state) r) (filter (λ n. not (for_peer p n)) q) (filter (λ n. not (for_peer p n)) d) (filter (λ n. not (for_peer p n)) q') (filter (λ n. not (for_peer p n)) d')
     (peerwise-filter (λ n. not (for_peer p n)) e) (peerwise-filter (λ n. not (for_peer p n)) f)
 
-like-on_neighbor_up : {a b : Run} (p : ℕ) → Like a b → Like (on_neighbor_up p a) (on_neighbor_up p b)
+like-on_neighbor_up : {a b : Run} (as_quiet : Bool) (p : ℕ) → Like a b → Like (on_neighbor_up as_quiet p a) (on_neighbor_up as_quiet p b)
 unfolding on_neighbor_up
-like-on_neighbor_up p l = like-update_links (link_up p) l
+like-on_neighbor_up as_quiet p l = like-update_links (link_up as_quiet p) l
 
 pub like-first_event : {a b : Run} (now : ℕ) → Like a b → Like (first_event now a) (first_event now b)
 unfolding first_event
@@ -379,5 +379,5 @@ module _ (hash : List ℕ → ℕ) where
   like-handle now (Received p m) l = like-on_message now p m (like-count_message m (like-first_event now l))
   like-handle now (Broadcast content scope) l = like-broadcast now content scope (like-first_event now l)
   like-handle now (Fired t) l = like-on_timer now t (like-first_event now l)
-  like-handle now (Up p) l = like-on_neighbor_up p l
+  like-handle now (Up as_quiet p) l = like-on_neighbor_up as_quiet p l
   like-handle now (Down p) l = like-on_neighbor_down p l

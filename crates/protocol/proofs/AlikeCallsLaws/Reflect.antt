@@ -13,7 +13,7 @@ use Rattle.storage.specs.Lists.Map.{Map, Entry, entry}
 use Rattle.storage.proofs.ListsLaws.MapLaws.{cases, true≢, and_left, and_right, all_head, all_tail}
 use Rattle.storage.proofs.ListsLaws.ListLaws.{filter-append}
 use Rattle.time_cache.specs.TimeCache.{Cache, Timed, Expiry}
-use Rattle.protocol.specs.Links.{Links, eager, lazy}
+use Rattle.protocol.specs.Links.{Links, eager, lazy, quiet}
 use Rattle.protocol.specs.State.{State, Settings, Limits, Hop, Note, Grafts, Cached, Timers}
 use Rattle.protocol.specs.Run.{begin}
 use Rattle.protocol.specs.Push.{for_peer}
@@ -58,8 +58,13 @@ tells-mark : Tells same_mark
 unfolding same_mark
 tells-mark eager eager h = refl
 tells-mark eager lazy h = true≢ h
+tells-mark eager quiet h = true≢ h
 tells-mark lazy eager h = true≢ h
 tells-mark lazy lazy h = refl
+tells-mark lazy quiet h = true≢ h
+tells-mark quiet eager h = true≢ h
+tells-mark quiet lazy h = true≢ h
+tells-mark quiet quiet h = refl
 
 tells-flag : Tells beq
 tells-flag true true h = refl

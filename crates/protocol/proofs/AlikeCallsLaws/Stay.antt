@@ -7,7 +7,7 @@ use mathlib.Core.List.{List, [], ◌∷◌, ◌++◌}
 use lib.Dec.{eqb}
 use Rattle.storage.proofs.ListsLaws.MapLaws.{and_intro}
 use Rattle.storage.proofs.ListsLaws.ListLaws.{all-each}
-use Rattle.protocol.specs.Links.{eager, lazy}
+use Rattle.protocol.specs.Links.{eager, lazy, quiet}
 use Rattle.protocol.specs.State.{State, Note, zero_counts}
 use Rattle.protocol.specs.Run.{Run}
 use Rattle.protocol.specs.Alike.{same_list, same_option, same_map, same_mark, same_hop, same_note, same_notes, same_expiry, same_grafts, same_cached, same_unit, same_cache, same_settings, same_limits, same_tables, same_caches, same_flags, alike}
@@ -36,6 +36,7 @@ mark-refl : Refl same_mark
 unfolding same_mark
 mark-refl eager = refl
 mark-refl lazy = refl
+mark-refl quiet = refl
 
 flag-refl : Refl beq
 flag-refl true = refl

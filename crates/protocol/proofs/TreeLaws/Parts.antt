@@ -59,7 +59,7 @@ carrying (Received q (Graft (Some id) round)) = true
 carrying (Received q (IHave hs)) = false
 carrying (Broadcast content scope) = true
 carrying (Fired t) = false
-carrying (Up q) = false
+carrying (Up as_quiet q) = false
 carrying (Down q) = false
 
 module _ (hash : List ℕ → ℕ) (s : State) (e : Event) (r : Run) where

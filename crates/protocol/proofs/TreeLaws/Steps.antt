@@ -571,5 +571,5 @@ module _ (hash : List ℕ → ℕ) (s : State) (links-up : ascending (keys s.lin
   event-follows n rooms now (Fired DispatchLazyPush) one = ticked-dispatch _ (first-ready now n rooms) one
   event-follows n rooms now (Fired EvictCache) one = follows-idle hash s (Fired EvictCache) _ _ (first-ready now n rooms) (plain-evict now _) refl refl
   event-follows n rooms now (Fired AnnounceDropped) one = ticked-announce _ (first-ready now n rooms)
-  event-follows n rooms now (Up q) one = follows-idle hash s (Up q) _ _ (ready n rooms) (plain-links (link_up q) _) refl refl
+  event-follows n rooms now (Up as_quiet q) one = follows-idle hash s (Up as_quiet q) _ _ (ready n rooms) (plain-links (link_up as_quiet q) _) refl refl
   event-follows n rooms now (Down q) one = told-down q _ (ready n rooms)

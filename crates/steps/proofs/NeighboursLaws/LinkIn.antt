@@ -17,7 +17,7 @@ use Rattle.storage.proofs.RowsLaws.Rows.{length-opened}
 use Rattle.storage.proofs.RowsLaws.Views.{map-gap}
 use Rattle.storage.proofs.RowsLaws.Digits.{length-le_bytes, le_nat-le_bytes}
 use Rattle.time_cache.proofs.MapPlaces.{insert-between}
-use Rattle.protocol.specs.Links.{Mark, eager, Links, link_up}
+use Rattle.protocol.specs.Links.{Mark, Links}
 use Rattle.protocol.specs.State.{State, Limits, with_links}
 use Rattle.block.specs.Layout.{place, tables, table}
 use Rattle.block.specs.View.{limits_of, view_with, view_of, state_of, link_of, links_in, mark_of}
@@ -31,31 +31,31 @@ use Rattle.block.proofs.RowLaws.{opened_frame, view-insert, gap_row}
 use Rattle.block.proofs.LinkLaws.{count-peers}
 use Rattle.steps.specs.Neighbours.Raised.{RaisedLinks, with_peer}
 
--- what is stored in the row of a link: its peer, and the mark 0
-abbrev nine : ℕ → List ℕ
-nine p = le_bytes 8 p ++ (0 ∷ [])
+-- what is stored in the row of a link: its peer, and its mark
+abbrev nine : ℕ → ℕ → List ℕ
+nine p z = le_bytes 8 p ++ (z ∷ [])
 
-nine-long : (p : ℕ) → length (nine p) ≡ 9
-nine-long p = length-append (le_bytes 8 p) (0 ∷ []) ∙ (omega (arith, length-le_bytes 8 p))
+nine-long : (p z : ℕ) → length (nine p z) ≡ 9
+nine-long p z = length-append (le_bytes 8 p) (z ∷ []) ∙ (omega (arith, length-le_bytes 8 p))
 
-link-stored : (p : ℕ) (row : List ℕ) → p < 256 ^ 8 → length row ≡ 16 → link_of (put 0 (nine p) row) ≡ entry p eager
+link-stored : (p z : ℕ) (row : List ℕ) → p < 256 ^ 8 → length row ≡ 16 → link_of (put 0 (nine p z) row) ≡ entry p (mark_of z)
 unfolding link_of field_of
-link-stored p row hp e =
+link-stored p z row hp e =
     let lb : length (le_bytes 8 p) ≡ 8 = length-le_bytes 8 p in
     let w : List ℕ = put 0 (le_bytes 8 p) row in
     let lw : length w ≡ 16 = length-put 0 (le_bytes 8 p) row (omega arith) ∙ e in
-    let two : put 0 (nine p) row ≡ put 8 (0 ∷ []) w = sym (put-put-next 0 8 (le_bytes 8 p) (0 ∷ []) row (omega arith) (omega arith)) in
-    let k : part 0 8 (put 8 (0 ∷ []) w) ≡ le_bytes 8 p = part-before 0 8 8 (0 ∷ []) w (omega arith) (omega arith) ∙ part-put 0 8 (le_bytes 8 p) row lb (omega arith) in
-    let m : get_or (put 8 (0 ∷ []) w) 8 0 ≡ 0 = ap (λ (l : List ℕ). get_or l 8 0) (sym (set-put 8 0 w (omega arith))) ∙ get_or-set_same w 8 0 0 (omega arith) in
-    ap link_of two ∙ (λ z. entry ((ap le_nat k ∙ le_nat-le_bytes 8 p hp) z) (mark_of (m z)))
+    let two : put 0 (nine p z) row ≡ put 8 (z ∷ []) w = sym (put-put-next 0 8 (le_bytes 8 p) (z ∷ []) row (omega arith) (omega arith)) in
+    let k : part 0 8 (put 8 (z ∷ []) w) ≡ le_bytes 8 p = part-before 0 8 8 (z ∷ []) w (omega arith) (omega arith) ∙ part-put 0 8 (le_bytes 8 p) row lb (omega arith) in
+    let m : get_or (put 8 (z ∷ []) w) 8 0 ≡ z = ap (λ (l : List ℕ). get_or l 8 0) (sym (set-put 8 z w (omega arith))) ∙ get_or-set_same w 8 z 0 (omega arith) in
+    ap link_of two ∙ (λ k'. entry ((ap le_nat k ∙ le_nat-le_bytes 8 p hp) k') (mark_of (m k')))
 
 -- the links of the table with that row put in
-link-rows : (n i : ℕ) (bytes : List ℕ) (p : ℕ) → i ≤ n → (n + 1) * 16 ≤ length bytes
-    → links_in (n + 1) (put (i * 16) (nine p) (opened 16 n i bytes)) ≡ take i (links_in n bytes) ++ (link_of (gap_row 16 n i bytes (nine p)) ∷ drop i (links_in n bytes))
+link-rows : (n i : ℕ) (bytes : List ℕ) (p z : ℕ) → i ≤ n → (n + 1) * 16 ≤ length bytes
+    → links_in (n + 1) (put (i * 16) (nine p z) (opened 16 n i bytes)) ≡ take i (links_in n bytes) ++ (link_of (gap_row 16 n i bytes (nine p z)) ∷ drop i (links_in n bytes))
 unfolding links_in
-link-rows n i bytes p h room = view-insert 16 n i bytes link_of (nine p) h (omega (arith, nine-long p)) room
+link-rows n i bytes p z h room = view-insert 16 n i bytes link_of (nine p z) h (omega (arith, nine-long p z)) room
 
-module _ (h : Head) (xs : List ℕ) (i p : ℕ) (hp : p < 256 ^ 8) (b : Between (keys (state_of h xs).links) p i) (q : h.live.links < h.limits.neighbours)
+module _ (h : Head) (xs : List ℕ) (i p z : ℕ) (hp : p < 256 ^ 8) (b : Between (keys (state_of h xs).links) p i) (q : h.live.links < h.limits.neighbours)
     (ys : List ℕ) (r : RaisedLinks i h xs ys) where
   abbrev l : Limits
   l = limits_of h.limits
@@ -73,7 +73,7 @@ module _ (h : Head) (xs : List ℕ) (i p : ℕ) (hp : p < 256 ^ 8) (b : Between 
   gap = put (2048 + 16 * i + 16) (part (2048 + 16 * i) (16 * (n - i)) ys) ys
 
   abbrev zs : List ℕ
-  zs = set (put (2048 + 16 * i) (le_bytes 8 p) gap) (2048 + 16 * i + 8) 0
+  zs = set (put (2048 + 16 * i) (le_bytes 8 p) gap) (2048 + 16 * i + 8) z
 
   moved-long : length (part (2048 + 16 * i) (16 * (n - i)) ys) ≡ 16 * (n - i)
   moved-long = length_part (2048 + 16 * i) (16 * (n - i)) ys (omega (arith, r.fit, within-n))
@@ -81,18 +81,18 @@ module _ (h : Head) (xs : List ℕ) (i p : ℕ) (hp : p < 256 ^ 8) (b : Between 
   gap-long : length gap ≡ length ys
   gap-long = length-put (2048 + 16 * i + 16) (part (2048 + 16 * i) (16 * (n - i)) ys) ys (omega (arith, r.fit, within-n, moved-long))
 
-  one-put : zs ≡ put (2048 + 16 * i) (nine p) gap
+  one-put : zs ≡ put (2048 + 16 * i) (nine p z) gap
   one-put =
       let lb : length (le_bytes 8 p) ≡ 8 = length-le_bytes 8 p in
       let lw : length (put (2048 + 16 * i) (le_bytes 8 p) gap) ≡ length ys = length-put (2048 + 16 * i) (le_bytes 8 p) gap (omega (arith, r.fit, within-n, gap-long)) ∙ gap-long in
-      set-put (2048 + 16 * i + 8) 0 (put (2048 + 16 * i) (le_bytes 8 p) gap) (omega (arith, r.fit, within-n))
-      ∙ put-put-next (2048 + 16 * i) (2048 + 16 * i + 8) (le_bytes 8 p) (0 ∷ []) gap (omega arith) (omega (arith, r.fit, within-n, gap-long))
+      set-put (2048 + 16 * i + 8) z (put (2048 + 16 * i) (le_bytes 8 p) gap) (omega (arith, r.fit, within-n))
+      ∙ put-put-next (2048 + 16 * i) (2048 + 16 * i + 8) (le_bytes 8 p) (z ∷ []) gap (omega arith) (omega (arith, r.fit, within-n, gap-long))
 
   zs-long : length zs ≡ length ys
-  zs-long = ap length one-put ∙ length-put (2048 + 16 * i) (nine p) gap (omega (arith, nine-long p, r.fit, within-n, gap-long)) ∙ gap-long
+  zs-long = ap length one-put ∙ length-put (2048 + 16 * i) (nine p z) gap (omega (arith, nine-long p z, r.fit, within-n, gap-long)) ∙ gap-long
 
   abbrev v : List ℕ
-  v = put (i * 16) (nine p) (opened 16 n i (table l 1 ys))
+  v = put (i * 16) (nine p z) (opened 16 n i (table l 1 ys))
 
   framed : tables l zs ≡ set (tables l ys) 1 v
   framed =
@@ -100,27 +100,27 @@ module _ (h : Head) (xs : List ℕ) (i p : ℕ) (hp : p < 256 ^ 8) (b : Between 
       let c : 2048 + 16 * i + 16 ≡ place l 1 + (i * 16 + 16) = omega arith in
       let d : 16 * (n - i) ≡ (n - i) * 16 = omega arith in
       ap (tables l) one-put
-      ∙ (λ k. tables l (put (a k) (nine p) (put (c k) (part (a k) (d k) ys) ys)))
-      ∙ opened_frame l 1 16 n i ys (lit< tt) r.fit.long (nine p) within-n (omega (arith, nine-long p)) (omega (arith, q))
+      ∙ (λ k. tables l (put (a k) (nine p z) (put (c k) (part (a k) (d k) ys) ys)))
+      ∙ opened_frame l 1 16 n i ys (lit< tt) r.fit.long (nine p z) within-n (omega (arith, nine-long p z)) (omega (arith, q))
 
   links-were : links_in n (table l 1 ys) ≡ ls
   links-were = ap (λ (s : State). s.links) (r.same p)
 
-  links-with : links_in (n + 1) v ≡ take i ls ++ (entry p eager ∷ drop i ls)
+  links-with : links_in (n + 1) v ≡ take i ls ++ (entry p (mark_of z) ∷ drop i ls)
   links-with =
       let lt : length (table l 1 ys) ≡ 16 * (l.N + 1) = length-table l 1 ys (lit< tt) r.fit.long in
       let lo : length (opened 16 n i (table l 1 ys)) ≡ length (table l 1 ys) = length-opened 16 n i (table l 1 ys) within-n (omega (arith, q)) in
       let lg : length (part (i * 16) 16 (opened 16 n i (table l 1 ys))) ≡ 16 = length_part (i * 16) 16 (opened 16 n i (table l 1 ys)) (omega (arith, q, within-n)) in
-      link-rows n i (table l 1 ys) p within-n (omega (arith, q))
-      ∙ (λ k. take i (links-were k) ++ (link-stored p (part (i * 16) 16 (opened 16 n i (table l 1 ys))) hp lg k ∷ drop i (links-were k)))
+      link-rows n i (table l 1 ys) p z within-n (omega (arith, q))
+      ∙ (λ k. take i (links-were k) ++ (link-stored p z (part (i * 16) 16 (opened 16 n i (table l 1 ys))) hp lg k ∷ drop i (links-were k)))
 
-  pub link-in : Goes (linked (link_up p)) h xs (with_link_count (n + 1) h) zs
-  unfolding state_of link_up
+  pub link-in : Goes (linked (insert p (mark_of z))) h xs (with_link_count (n + 1) h) zs
+  unfolding state_of
   link-in =
       let t = tables l ys in
       let h1 : Head = with_link_count (n + 1) h in
-      let ks : keys (links_in (n + 1) v) ≡ with_peer i p (keys ls) = ap (λ (m : Links). keys m) links-with ∙ map-gap (λ (e : Entry Mark). e.key) i (entry p eager) ls in
-      let up : links_in (n + 1) v ≡ insert p eager ls = links-with ∙ sym (insert-between p eager i ls b) in
+      let ks : keys (links_in (n + 1) v) ≡ with_peer i p (keys ls) = ap (λ (m : Links). keys m) links-with ∙ map-gap (λ (e : Entry Mark). e.key) i (entry p (mark_of z)) ls in
+      let up : links_in (n + 1) v ≡ insert p (mark_of z) ls = links-with ∙ sym (insert-between p (mark_of z) i ls b) in
       record {
         state = ap (view_of h1) framed
             ∙ ap (λ (ps : List ℕ). view_with ps h1 (set t 1 v)) ks

@@ -28,7 +28,7 @@ abbrev pub event_value : Event → message.Event
 event_value (Received peer size m) = message.Received peer (message_value m)
 event_value (Broadcast content s) = message.Broadcast content.now (scope_value s)
 event_value (Timer t) = message.Fired (timer_value t)
-event_value (Up peer) = message.Up peer
+event_value (Up peer as_quiet) = message.Up as_quiet peer
 event_value (Down peer) = message.Down peer
 
 -- a received message's size is that of its bytes: all that follow the peer, which stands at the start of these
@@ -36,5 +36,5 @@ abbrev pub SizedBehind : List ℕ → Event → Type 0
 SizedBehind bytes (Received peer size m) = size ≡ length (rest_of (read_number bytes))
 SizedBehind bytes (Broadcast content s) = Unit {0}
 SizedBehind bytes (Timer t) = Unit {0}
-SizedBehind bytes (Up peer) = Unit {0}
+SizedBehind bytes (Up peer as_quiet) = Unit {0}
 SizedBehind bytes (Down peer) = Unit {0}

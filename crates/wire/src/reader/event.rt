@@ -11,7 +11,7 @@ use crate::reader::fault::Fault;
 use crate::reader::message::Message;
 use postcard::message::{Scope, Timer};
 
-// "Event kinds: 0 received message, 1 broadcast, 2 timer, 3 neighbour up, 4 neighbour down"; `size` is the number of the message's bytes as received.
+// "Event kinds: 0 received message, 1 broadcast, 2 timer, 3 neighbour up, 4 neighbour down"; "Event kind 5, with a peer, tells a neighbour up as quiet"; `size` is the number of the message's bytes as received.
 #[derive(Clone, Copy)]
 pub enum Event<'a> {
     Received {
@@ -24,7 +24,10 @@ pub enum Event<'a> {
         scope: Scope,
     },
     Timer(Timer),
-    Up(u64),
+    Up {
+        peer: u64,
+        quiet: bool,
+    },
     Down(u64),
 }
 
@@ -106,7 +109,9 @@ impl<'a> Reader<'a> {
         ensures gives { Gives event_value result self.new.rest.now (event_of 3 self.old.rest.now) }
         ensures sized { IfOk result (λ e. SizedBehind self.old.rest.now e) }
     {
-        Ok(Event::Up(self.number()?))
+        let peer = self.number()?;
+        let quiet = false;
+        Ok(Event::Up { peer, quiet })
     }
 
     // "4 neighbour down".
@@ -116,6 +121,17 @@ impl<'a> Reader<'a> {
         ensures sized { IfOk result (λ e. SizedBehind self.old.rest.now e) }
     {
         Ok(Event::Down(self.number()?))
+    }
+
+    // "Event kind 5, with a peer, tells a neighbour up as quiet".
+    #[tactic(auto, unfolding(postcard::specs::Decode::event_of))]
+    fn up_quiet(&mut self) -> Result<Event<'a>, Fault>
+        ensures gives { Gives event_value result self.new.rest.now (event_of 5 self.old.rest.now) }
+        ensures sized { IfOk result (λ e. SizedBehind self.old.rest.now e) }
+    {
+        let peer = self.number()?;
+        let quiet = true;
+        Ok(Event::Up { peer, quiet })
     }
 
     // An event, by its kind; the range above is 8.
@@ -130,7 +146,8 @@ impl<'a> Reader<'a> {
             2 => self.fired(),
             3 => self.up(),
             4 => self.down(),
-            5..=255 => Err(Fault::Form),
+            5 => self.up_quiet(),
+            6..=255 => Err(Fault::Form),
         }
     }
 }

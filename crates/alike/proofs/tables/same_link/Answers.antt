@@ -1,11 +1,11 @@
 -- `tables::same_link`: peer and mark.
 use mathlib.Core.Path.{◌≡◌, sym, ap, ◌∙◌}
-use mathlib.Core.Bool.{Bool, ◌&&◌, beq}
+use mathlib.Core.Bool.{Bool, ◌&&◌}
 use lib.Dec.{eqb}
 use borrow.Author.Tests.{eq-eqb, ne_eqb}
 use Rattle.block.specs.View.{state_of}
 use Rattle.protocol.specs.Alike.{same_mark}
-use Rattle.alike.proofs.Lists.{and-no-left, mark_same}
+use Rattle.alike.proofs.Lists.{and-no-left}
 use Rattle.block.specs.LinkSteps.{link_at}
 use Rattle.alike.proofs.BlockReads.{peer_key}
 use Rattle.alike.proofs.tables.same_link.Goals as goal
@@ -22,7 +22,6 @@ returns-then-peer_at c =
     let x = link_at (state_of c.args.ha c.args.a.now) c.args.i in
     let y = link_at (state_of c.args.hb c.args.b.now) c.args.i in
     let k : eqb c.peer_at.result c.peer_at-2.result ≡ eqb x.key y.key = λ z. eqb ((c.peer_at.ensures ∙ peer_key (state_of c.args.ha c.args.a.now) c.args.i) z) ((c.peer_at-2.ensures ∙ peer_key (state_of c.args.hb c.args.b.now) c.args.i) z) in
-    c.same_flag.ensures
-    ∙ (λ z. beq (c.eager_at.ensures z) (c.eager_at-then-peer_at.ensures z))
-    ∙ mark_same x.value y.value
+    c.same_mark.ensures
+    ∙ (λ z. same_mark (c.mark_at.ensures z) (c.mark_at-then-peer_at.ensures z))
     ∙ sym (ap (λ (t : Bool). t && same_mark x.value y.value) (sym k ∙ eq-eqb _ _ c.if-peer_at.true))

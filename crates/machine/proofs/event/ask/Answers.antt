@@ -118,21 +118,21 @@ returns-in-Timer-clause-outcome c =
     ∙ as_event (goal.at.returns-in-Timer-clause-outcome c).Start c.in-Timer.is
 
 -- (13) of a neighbour up
-up_fit : (c : After-fit) → c.fit.result ≡ fits (linked (link_up c.in-Up.peer) (shown c.args.view.now))
-up_fit c = fitted c.args.view.now (linked (link_up c.in-Up.peer) (shown c.args.view.now)) c.up_sizes.result c.fit.result refl c.up_sizes.ensures c.fit.ensures
+up_fit : (c : After-fit) → c.fit.result ≡ fits (linked (link_up c.in-Up.quiet c.in-Up.peer) (shown c.args.view.now))
+up_fit c = fitted c.args.view.now (linked (link_up c.in-Up.quiet c.in-Up.peer) (shown c.args.view.now)) c.up_sizes.result c.fit.result refl (c.up_sizes.ensures c.in-Up.quiet) c.fit.ensures
 
 pub returns-then-not-fit-clause-outcome : goal.returns-then-not-fit-clause-outcome
 returns-then-not-fit-clause-outcome c =
     let a = c.args in
     let s = shown a.view.now in
-    up-13 (rooms_of a.call.now s) a.call.now.instant.0 c.in-Up.peer s (counts_of a.counts) a.output (no (up_fit (goal.at.returns-then-not-fit-clause-outcome c).After-fit) (ap not c.if-not-fit.true))
+    up-13 (rooms_of a.call.now s) a.call.now.instant.0 c.in-Up.peer s (counts_of a.counts) a.output c.in-Up.quiet (no (up_fit (goal.at.returns-then-not-fit-clause-outcome c).After-fit) (ap not c.if-not-fit.true))
     ∙ as_event (goal.at.returns-then-not-fit-clause-outcome c).Start c.in-Up.is
 
 pub returns-else-not-fit-clause-outcome : goal.returns-else-not-fit-clause-outcome
 returns-else-not-fit-clause-outcome c =
     let a = c.args in
     let s = shown a.view.now in
-    up-0 (rooms_of a.call.now s) a.call.now.instant.0 c.in-Up.peer s (counts_of a.counts) a.output (yes (up_fit (goal.at.returns-else-not-fit-clause-outcome c).After-fit) (ap not c.if-not-fit.false))
+    up-0 (rooms_of a.call.now s) a.call.now.instant.0 c.in-Up.peer s (counts_of a.counts) a.output c.in-Up.quiet (yes (up_fit (goal.at.returns-else-not-fit-clause-outcome c).After-fit) (ap not c.if-not-fit.false))
     ∙ as_event (goal.at.returns-else-not-fit-clause-outcome c).Start c.in-Up.is
 
 pub returns-else-not-fit-clause-accepted : goal.returns-else-not-fit-clause-accepted

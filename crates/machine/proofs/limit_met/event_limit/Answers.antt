@@ -85,7 +85,7 @@ returns-in-Timer c =
 pub returns-in-Up : goal.returns-in-Up
 returns-in-Up c =
     let a = c.args in
-    up-past (rooms_of a.call.now (shown a.view.now)) a.call.now.instant.0 c.in-Up.peer a.view.now c.up_sizes.result (limit_told c.limit_past.result) c.up_sizes.ensures c.limit_past.ensures
+    up-past (rooms_of a.call.now (shown a.view.now)) a.call.now.instant.0 c.in-Up.peer c.in-Up.quiet a.view.now c.up_sizes.result (limit_told c.limit_past.result) (c.up_sizes.ensures c.in-Up.quiet) c.limit_past.ensures
     ∙ as_event (goal.at.returns-in-Up c).Start c.in-Up.is
 
 pub returns-in-Down : goal.returns-in-Down

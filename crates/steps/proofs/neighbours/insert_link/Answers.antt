@@ -5,7 +5,9 @@ use Prim.Native.Nat.{ℕ, ◌+◌, ◌*◌, ◌≤◌, ◌<◌}
 use lib.ListN.{length, set}
 use Rattle.storage.specs.Rows.Part.{put}
 use Rattle.storage.specs.Rows.Digits.{le_bytes}
-use Rattle.protocol.specs.Links.{link_up}
+use Rattle.storage.specs.Lists.Map.{insert}
+use Rattle.protocol.specs.Links.{Mark}
+use Rattle.block.specs.View.{mark_of}
 use Rattle.block.specs.Goes.{Goes}
 use Rattle.block.specs.Heads.{with_link_count}
 use Rattle.block.specs.LinkSteps.{linked}
@@ -58,6 +60,7 @@ returns c =
     let xs = a.block.now in
     let at : ℕ = 2048 + 16 * a.i in
     let ys = c.raise_links.new.block in
-    subst (λ (zs : List ℕ). Goes (linked (link_up a.peer)) h xs (with_link_count (n + 1) h) (set zs (at + 8) 0))
+    subst (λ (m : Mark). Goes (linked (insert a.peer m)) h xs (with_link_count (n + 1) h) (set c.store.new.bytes (at + 8) c.mark_byte.result)) c.mark_byte.ensures
+    (subst (λ (zs : List ℕ). Goes (linked (insert a.peer (mark_of c.mark_byte.result))) h xs (with_link_count (n + 1) h) (set zs (at + 8) c.mark_byte.result))
     (sym (c.store.ensures ∙ ap (put at (le_bytes 8 a.peer)) c.move_up.ensures))
-    (link-in h xs a.i a.peer (omega (arith, c.well_formed)) c.requires.1 c.requires.2 ys c.raise_links.ensures)
+    (link-in h xs a.i a.peer c.mark_byte.result (omega (arith, c.well_formed)) c.requires.1 c.requires.2 ys c.raise_links.ensures))

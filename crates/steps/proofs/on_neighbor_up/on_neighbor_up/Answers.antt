@@ -1,16 +1,16 @@
--- `on_neighbor_up` meets its contract: a neighbour is made eager, and a new one is a link more.
-use Rattle.std.proofs.Common.{◌∙◌, ap, ℕ}
+-- `on_neighbor_up` meets its contract: a neighbour is marked, and a new one is a link more.
+use Rattle.std.proofs.Common.{◌∙◌}
 use mathlib.Core.Path.{subst}
 use Rattle.storage.specs.Lists.Map.{keys}
 use Rattle.storage.specs.Rows.Sorted.{Here, Between}
-use Rattle.time_cache.proofs.Orders.{up_of}
 use Rattle.protocol.specs.State.{State}
-use Rattle.protocol.specs.Links.{add_eager}
+use Rattle.storage.specs.Lists.Map.{insert}
+use Rattle.protocol.specs.Links.{link_up}
 use Rattle.block.specs.LinkSteps.{linked}
-use Rattle.block.proofs.LinkLaws.{neighbour-here, neighbour-between}
+use Rattle.block.proofs.LinkLaws.{neighbour-between}
 use Rattle.steps.specs.Panels.{state}
 use Rattle.steps.proofs.PanelLaws.{same-state}
-use Rattle.steps.proofs.NeighborLaws.{up-room, eager-up}
+use Rattle.steps.proofs.NeighborLaws.{up-room}
 use Rattle.steps.proofs.on_neighbor_up.on_neighbor_up.Goals as goal
 use Rattle.steps.proofs.on_neighbor_up.on_neighbor_up.Goals.{In-Ok}
 
@@ -21,15 +21,19 @@ here c =
 pub insert_link-requires-clause-room : goal.insert_link-requires-clause-room
 insert_link-requires-clause-room c =
     let s = state c.args.panel.now in
-    up-room c.args.peer s c.requires.rest.consistent.core.links_up
+    up-room c.args.quiet c.args.peer s c.requires.rest.consistent.core.links_up
     (neighbour-between c.args.peer c.in-Err.number s.links (subst (λ (s : State). Between (keys s.links) c.args.peer c.in-Err.number) (same-state c.args.panel.now c.view.result c.view.ensures.head c.view.ensures.block) c.in-Err.ensures))
     c.requires.fits
 
 pub returns-in-Ok : goal.returns-in-Ok
+unfolding link_up
 returns-in-Ok c =
     let s = state c.args.panel.now in
     let h = here (goal.at.returns-in-Ok c).In-Ok in
-    record {
-      state = c.add_eager.ensures.state ∙ ap (λ (p : ℕ). linked (add_eager p) s) h.same ∙ eager-up c.args.peer s (neighbour-here c.args.peer c.in-Ok.link s.links (up_of (keys s.links) c.requires.rest.consistent.core.links_up) h);
-      loan = c.add_eager.ensures.loan;
-    }
+    record { state = c.put_mark.ensures.state ∙ (λ k. linked (insert (h.same k) (c.up_mark-mark.ensures k)) s); loan = c.put_mark.ensures.loan }
+
+pub returns-in-Err : goal.returns-in-Err
+unfolding link_up
+returns-in-Err c =
+    let s = state c.args.panel.now in
+    record { state = c.insert_link.ensures.state ∙ (λ k. linked (insert c.args.peer (c.up_mark-mark.ensures k)) s); loan = c.insert_link.ensures.loan }

@@ -19,12 +19,12 @@ overflow_add-sizes c =
     omega (arith, (subst Few (sym c.sizes_now-sizes.ensures) (few-now v.head v.block.now v.sound)).links)
 
 pub returns-then-is_none : goal.returns-then-is_none
-returns-then-is_none c =
+returns-then-is_none c q =
     let s = shown c.args.view.now in
     ap (λ (z : Sizes). sized_links (z.links + 1) z) c.sizes_now-sizes.ensures
-    ∙ up-new c.args.peer s c.requires.consistent.core.links_up (sym (near (goal.at.returns-then-is_none c).After-is_none) ∙ ap not c.if-is_none.true)
+    ∙ up-new q c.args.peer s c.requires.consistent.core.links_up (sym (near (goal.at.returns-then-is_none c).After-is_none) ∙ ap not c.if-is_none.true)
 
 pub returns-else-is_none : goal.returns-else-is_none
-returns-else-is_none c =
+returns-else-is_none c q =
     let s = shown c.args.view.now in
-    c.sizes_now-sizes.ensures ∙ up-there c.args.peer s c.requires.consistent.core.links_up (sym (near (goal.at.returns-else-is_none c).After-is_none) ∙ ap not c.if-is_none.false)
+    c.sizes_now-sizes.ensures ∙ up-there q c.args.peer s c.requires.consistent.core.links_up (sym (near (goal.at.returns-else-is_none c).After-is_none) ∙ ap not c.if-is_none.false)

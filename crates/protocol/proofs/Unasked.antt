@@ -74,7 +74,8 @@ module _ (hash : List ℕ → ℕ) where
 
   -- a fresh panel has no links
   nobody : (p : ℕ) (c : Settings) (l : Limits) (b : ℕ) (s : State) (n : Counts) → create c l b ≡ created s n → quiet_in p s.links ≡ false
-  nobody p c l b s n made = rw (ap (λ (z : State). z.links) (create-fresh c l b s n made).state ∙ unfold fresh in refl) (unfold quiet_in marked lookup in refl)
+  unfolding quiet_in marked lookup fresh
+  nobody p c l b s n made = let e : s.links ≡ [] = ap (λ (z : State). z.links) (create-fresh c l b s n made).state in rw e refl
 
   pub never-unasked : (c : Settings) (l : Limits) (b : ℕ) (s : State) (n : Counts) → create c l b ≡ created s n → (ks : List Call) → NeverUnasked (run_calls hash s n ks).answers
   unfolding told_quiet

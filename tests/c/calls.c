@@ -893,7 +893,8 @@ static uint64_t pruned_by_a_late_reply(bool quiet_2)
     return pruned;
 }
 
-/* A link's mark is one byte of the block: 0 eager, 1 lazy, 2 quiet. Two panels that differ in the mark alone differ in this byte, and these are its values. */
+/* A link's mark is one byte of the block: 0 eager, 1 lazy, 2 quiet. Two panels that differ in the mark alone differ in this byte, and these are its values.
+ * Any other value is read as quiet. */
 static void marked(bool quiet_a, bool pruned_a, uint8_t mark_a, bool quiet_b, bool pruned_b, uint8_t mark_b, int line)
 {
     static const uint8_t prune[] = {PLUMTREE_EVENT_RECEIVED, 2, PLUMTREE_MESSAGE_PRUNE}, prune_4[] = {PLUMTREE_EVENT_RECEIVED, 4, PLUMTREE_MESSAGE_PRUNE};
@@ -916,6 +917,13 @@ static void marked(bool quiet_a, bool pruned_a, uint8_t mark_a, bool quiet_b, bo
     if (differ != 1 || p[0].block[at] != mark_a || p[1].block[at] != mark_b) {
         printf("calls.c:%d: %zu bytes differ, of the marks %d and %d\n", line, differ, p[0].block[at], p[1].block[at]);
         failed = 1;
+    }
+    memcpy(p[0].block, p[1].block, p[0].block_length);
+    for (i = 0; i < 256; i++) {
+        struct plumtree_likeness likeness;
+        p[0].block[at] = (uint8_t)i;
+        likeness = plumtree_alike(p[0].block, p[0].block_length, p[1].block, p[1].block_length);
+        CHECK(likeness.number == PLUMTREE_ACCEPTED && likeness.alike == ((i < 2 ? i : 2) == mark_b));
     }
     free_panel(p[0]);
     free_panel(p[1]);

@@ -893,6 +893,109 @@ static uint64_t pruned_by_a_late_reply(bool quiet_2)
     return pruned;
 }
 
+/* Panels 1 and 2 and the link between them, over which each message crosses at once. Of the Gossips that crossed to an end: how many it had not asked for, and how
+ * many answered its Graft that named them. */
+struct pair {
+    struct panel p[2];
+    int unasked[2], answers[2], emitted;
+    uint8_t timer[2][1 + PLUMTREE_ID_BYTES]; /* SendGraft, where one waits */
+    bool waits[2];
+};
+
+/* An event at an end, with the identifier that it asks for, and all that comes of it. */
+static void carry(struct pair *x, int end, const uint8_t *event, size_t n, const uint8_t *wanted)
+{
+    struct plumtree_reader r = tell(&x->p[end], 0, event, n);
+    uint8_t *actions = (uint8_t *)bytes(r.left, 0), came[128];
+    struct plumtree_action a;
+    if (r.left)
+        memcpy(actions, r.bytes, r.left);
+    r.bytes = actions;
+    while (plumtree_take_action(&r, &a)) {
+        if (a.kind == PLUMTREE_ACTION_EMIT)
+            x->emitted++;
+        if (a.kind == PLUMTREE_ACTION_SCHEDULE && a.timer[0] == PLUMTREE_TIMER_SEND_GRAFT) {
+            memcpy(x->timer[end], a.timer, a.timer_length);
+            x->waits[end] = true;
+        }
+        if (a.kind == PLUMTREE_ACTION_SEND) {
+            const uint8_t *asks = a.message.kind == PLUMTREE_MESSAGE_GRAFT ? a.message.id : NULL;
+            if (a.message.kind == PLUMTREE_MESSAGE_GOSSIP && wanted && memcmp(wanted, a.message.id, PLUMTREE_ID_BYTES) == 0)
+                x->answers[1 - end]++;
+            else if (a.message.kind == PLUMTREE_MESSAGE_GOSSIP)
+                x->unasked[1 - end]++;
+            carry(x, 1 - end, came, plumtree_put_received(came, (uint64_t)end + 1, a.message.bytes, a.message.length), asks);
+        }
+    }
+    CHECK(!r.bad);
+    free(actions);
+}
+
+/* A reading made at an end, the dispatch there, and the other end's SendGraft: it has come. */
+static void reading(struct pair *x, int end, uint8_t content)
+{
+    static const uint8_t dispatch[] = {PLUMTREE_EVENT_TIMER, PLUMTREE_TIMER_DISPATCH_LAZY_PUSH};
+    uint8_t event[64];
+    int i, emitted = x->emitted;
+    carry(x, end, event, plumtree_put_broadcast(event, &content, 1, PLUMTREE_DELIVERY_SWARM), NULL);
+    for (i = 0; i < 2; i++)
+        carry(x, i, dispatch, sizeof dispatch, NULL);
+    for (i = 0; i < 2; i++) {
+        if (x->waits[i])
+            carry(x, i, event, plumtree_put_timer(event, x->timer[i], sizeof x->timer[i]), NULL);
+        x->waits[i] = false;
+    }
+    CHECK(x->emitted == emitted + 1);
+}
+
+/* A link carries payload both ways. Four readings from each end, by turns: what crossed to each unasked. */
+static void both_ends(bool quiet_1, bool quiet_2, int to_1, int to_2, int line)
+{
+    struct pair x;
+    uint8_t event[16], i;
+    memset(&x, 0, sizeof x);
+    for (i = 0; i < 2; i++) {
+        x.p[i] = new_panel(plumtree_default_settings((uint64_t)i + 1), plumtree_small_limits());
+        carry(&x, i, event, (i ? quiet_2 : quiet_1) ? plumtree_put_up_quiet(event, 2 - i) : plumtree_put_up(event, 2 - i), NULL);
+    }
+    for (i = 0; i < 8; i++)
+        reading(&x, i % 2, i);
+    if (x.unasked[0] != to_1 || x.unasked[1] != to_2 || x.unasked[0] + x.answers[0] != 4 || x.unasked[1] + x.answers[1] != 4) {
+        printf("calls.c:%d: %d and %d unasked, %d and %d asked for\n", line, x.unasked[0], x.unasked[1], x.answers[0], x.answers[1]);
+        failed = 1;
+    }
+
+    /* Made ordinary, or quiet, at both ends while readings go on. */
+    for (i = 0; i < 2; i++)
+        carry(&x, i, event, quiet_1 && quiet_2 ? plumtree_put_up(event, 2 - i) : plumtree_put_up_quiet(event, 2 - i), NULL);
+    memset(x.unasked, 0, sizeof x.unasked);
+    for (i = 8; i < 16; i++)
+        reading(&x, i % 2, i);
+    CHECK(x.unasked[0] == (quiet_1 && quiet_2 ? 4 : 0) && x.unasked[1] == x.unasked[0]);
+    free_panel(x.p[0]);
+    free_panel(x.p[1]);
+}
+
+/* A Graft that a panel sends makes the other end push to it: the neighbour 2, which a Prune made lazy, after the first reading that is asked for. */
+static void grafts_open_a_link(void)
+{
+    static const uint8_t prune[] = {PLUMTREE_EVENT_RECEIVED, 1, PLUMTREE_MESSAGE_PRUNE};
+    struct pair x;
+    uint8_t event[16];
+    memset(&x, 0, sizeof x);
+    x.p[0] = new_panel(plumtree_default_settings(1), plumtree_small_limits());
+    x.p[1] = new_panel(plumtree_default_settings(2), plumtree_small_limits());
+    carry(&x, 0, event, plumtree_put_up_quiet(event, 2), NULL);
+    carry(&x, 1, event, plumtree_put_up(event, 1), NULL);
+    carry(&x, 1, prune, sizeof prune, NULL);
+    reading(&x, 1, 0);
+    CHECK(x.unasked[0] == 0 && x.answers[0] == 1);
+    reading(&x, 1, 1);
+    CHECK(x.unasked[0] == 1 && x.answers[0] == 1);
+    free_panel(x.p[0]);
+    free_panel(x.p[1]);
+}
+
 /* A link's mark is one byte of the block: 0 eager, 1 lazy, 2 quiet. Two panels that differ in the mark alone differ in this byte, and these are its values.
  * Any other value is read as quiet. */
 static void marked(bool quiet_a, bool pruned_a, uint8_t mark_a, bool quiet_b, bool pruned_b, uint8_t mark_b, int line)
@@ -934,9 +1037,18 @@ static void marks(void)
     marked(false, false, 0, false, true, 1, __LINE__);
     marked(false, false, 0, true, false, 2, __LINE__);
     marked(false, true, 1, true, true, 2, __LINE__);
+}
+
+static void quiet_links(void)
+{
     /* A quiet one that was asked is not eager, so that its reply is a second copy. */
     CHECK(pruned_by_a_late_reply(false) == 3);
     CHECK(pruned_by_a_late_reply(true) == 2);
+    both_ends(false, false, 4, 4, __LINE__);
+    both_ends(true, false, 4, 0, __LINE__);
+    both_ends(false, true, 0, 4, __LINE__);
+    both_ends(true, true, 0, 0, __LINE__);
+    grafts_open_a_link();
 }
 
 /* The limit that is told for an event at 0 with this link room, before the call and again after a refusal; the call is answered 13 exactly if one is. */
@@ -1306,6 +1418,7 @@ int main(void)
     all_forgotten();
     quiet();
     marks();
+    quiet_links();
     limits_met();
     rewriting();
     states();

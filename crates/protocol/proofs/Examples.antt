@@ -1,5 +1,6 @@
 -- The lists of calls of docs/GUARANTEE.md, each with what it shows (`ListExamples`), by computation.
 use mathlib.Core.Path.{◌≡◌, refl}
+use mathlib.Core.Bool.{false}
 use mathlib.Core.List.{[]}
 use Rattle.storage.specs.Lists.Base as Base
 use Rattle.storage.specs.Lists.Map as Map

@@ -226,13 +226,39 @@ abbrev pub first : List ℕ → ℕ
 first [] = 0
 first (b ∷ content) = b
 
+-- the calls upon a fresh panel 1, with these identifiers
+abbrev pub after_first : List Call → Ran
+after_first calls = run_calls first (fresh panel_settings panel_limits) zero_counts calls
+
+-- a broadcast of one byte
+abbrev pub broadcast_of : ℕ → Event
+broadcast_of b = Broadcast (b ∷ []) to_swarm
+
+-- up 2 by kind 5, a broadcast of 8, the dispatch tick, 2 asks for it, a broadcast of 5; and then up 2 by kind 3, a broadcast of 6
+abbrev pub quiet_link : List Call
+quiet_link = free (Up true 2) ∷ free (broadcast_of 8) ∷ free (Fired DispatchLazyPush) ∷ free (Received 2 (Graft (Some 8) 0)) ∷ free (broadcast_of 5) ∷ []
+
+abbrev pub ordinary_link : List Call
+ordinary_link = quiet_link ++ (free (Up false 2) ∷ free (broadcast_of 6) ∷ [])
+
+-- of a quiet neighbour
+pub record QuietExamples : Type 0 where
+  -- as long as it is told quiet, 2 is sent the reading that it asks for, and no other
+  pub asked2 : map (sent_by 2) (after_first ordinary_link).answers ≡ [] ∷ [] ∷ [] ∷ (Gossip 8 (8 ∷ []) (Swarm 0) ∷ []) ∷ [] ∷ [] ∷ (Gossip 6 (6 ∷ []) (Swarm 0) ∷ []) ∷ []
+  -- the dispatch tick announces it there; and the next one stands queued for it
+  pub announced2 : map (sent 2 (announcement_of 8) was_taken) (after_first quiet_link).answers ≡ false ∷ false ∷ true ∷ false ∷ false ∷ []
+  pub queued2 : (after_first quiet_link).state.queue ≡ record { peer = 2; id = 5; round = 0 } ∷ []
+  -- its Graft leaves it lazy; kind 3 makes it eager
+  pub lazy2 : lazy_peers (after_first quiet_link).state.links ≡ 2 ∷ []
+  pub eager2 : eager_peers (after_first ordinary_link).state.links ≡ 2 ∷ []
+
 -- EvictCache at a time
 abbrev pub evict_at : ℕ → Call
 evict_at now = record { now = now; event = event_bytes (Fired EvictCache); rooms = []; output = 40960 }
 
 -- broadcasts of 8, of 5, and of 8 again, all at time 0, which are cached for 30,000; EvictCache just before that, at it, and once more
 abbrev pub greyed : List Call
-greyed = free (Broadcast (8 ∷ []) to_swarm) ∷ free (Broadcast (5 ∷ []) to_swarm) ∷ free (Broadcast (8 ∷ []) to_swarm) ∷ evict_at 29999 ∷ evict_at 30000 ∷ evict_at 30000 ∷ []
+greyed = free (broadcast_of 8) ∷ free (broadcast_of 5) ∷ free (broadcast_of 8) ∷ evict_at 29999 ∷ evict_at 30000 ∷ evict_at 30000 ∷ []
 
 -- the actions of each of the calls
 abbrev pub actions_of : Answer → List Action
@@ -242,8 +268,8 @@ actions_of (accept e r) = r.actions
 -- of what was forgotten
 pub record ScreenExamples : Type 0 where
   -- each identifier is told by the eviction that removes it, "in order of removal", once, "before its schedule"
-  pub told : map (λ a. told (actions_of a)) (run_calls first (fresh panel_settings panel_limits) zero_counts greyed).answers ≡ [] ∷ [] ∷ [] ∷ [] ∷ (8 ∷ 5 ∷ []) ∷ [] ∷ []
-  pub before : drop 4 (map actions_of (run_calls first (fresh panel_settings panel_limits) zero_counts greyed).answers)
+  pub told : map (λ a. told (actions_of a)) (after_first greyed).answers ≡ [] ∷ [] ∷ [] ∷ [] ∷ (8 ∷ 5 ∷ []) ∷ [] ∷ []
+  pub before : drop 4 (map actions_of (after_first greyed).answers)
       ≡ (Forgotten 8 ∷ Forgotten 5 ∷ Scheduled 1000 EvictCache ∷ []) ∷ (Scheduled 1000 EvictCache ∷ []) ∷ []
 
 pub record GuaranteeExamples : Type 0 where
@@ -251,4 +277,5 @@ pub record GuaranteeExamples : Type 0 where
   pub lists : ListExamples
   pub met_full : MetFullExample
   pub sizes : SizeExamples
+  pub quiet : QuietExamples
   pub screen : ScreenExamples

@@ -5,7 +5,7 @@ use oracle::{snap::Snap, Limits, Panel};
 
 use crate::{
     block,
-    gen::World,
+    gen::{Quiets, World},
     library,
     likeness::{self, LISTS},
     paths::Paths,
@@ -152,6 +152,7 @@ struct Candidate {
 /// Runs a list without loads and damage.
 fn candidate(seed: u64, n: u64) -> Option<Candidate> {
     let mut world = World::new(seed, n);
+    let mut quiets = Quiets::of(seed, n, &mut world);
     let mut pair = Pair::default();
     let mut paths = Paths::default();
     let mut states = Vec::new();
@@ -167,7 +168,8 @@ fn candidate(seed: u64, n: u64) -> Option<Candidate> {
         pair.run(c).ok()?;
     }
     for _ in 0..world.calls {
-        for c in world.next(&pair) {
+        let next = world.next(&pair);
+        for c in quiets.next(&pair, next) {
             if matches!(c, Cmd::Poke(_) | Cmd::Cut(_) | Cmd::Undo) {
                 return None;
             }

@@ -8,7 +8,7 @@ use crate::{
     gen::{Quiets, World},
     library,
     likeness::{self, LISTS},
-    paths::Paths,
+    paths::{Paths, QUIET},
     rng::Rng,
     run::Pair,
     script::Cmd,
@@ -235,7 +235,8 @@ pub fn write(file: &str, seed: u64, calls: usize) {
         }
     }
     std::fs::write(file, &out).unwrap();
-    println!("{file}: {total} calls, {} bytes, {} paths", out.len(), had.len());
+    let quiet = had.iter().filter(|n| QUIET.contains(n)).count();
+    println!("{file}: {total} calls, {} bytes, {} paths, {quiet} of them of a quiet neighbour", out.len(), had.len());
     for (list, n) in LISTS.iter().zip(orders) {
         println!("states in which the order of {} is compared: {n}", list.name());
     }

@@ -342,11 +342,17 @@ fn presence(r: &mut Rng, yes: bool) -> u8 {
 
 /// The mark of a neighbour.
 fn mark(r: &mut Rng, s: &Snap, peer: u64) -> u8 {
-    match (s.lazy.contains(&peer), s.quiet.contains(&peer)) {
-        (true, true) => r.pick(&[2, 2, 3, 128, 255]),
-        (true, false) => LAZY,
-        (false, true) => panic!("a quiet neighbour that is not lazy"),
-        (false, false) => EAGER,
+    let is_quiet = s.quiet.contains(&peer);
+    if !s.lazy.contains(&peer) {
+        assert!(!is_quiet, "a quiet neighbour that is not lazy");
+        return EAGER;
+    }
+    // Drawn for each lazy one, so that what is drawn behind it does not depend on the mark.
+    let quiet = r.pick(&[2, 2, 3, 128, 255]);
+    if is_quiet {
+        quiet
+    } else {
+        LAZY
     }
 }
 

@@ -2,7 +2,7 @@
 """The Rust's answers as a theorem about the definitions.
 
     sample.py extra                         a few sections by hand, for SCRIPT: counts at their end, a full record, `kept`,
-                                            padded numbers
+                                            padded numbers, quiet neighbours
     sample.py choose SCRIPT ANSWERS CALLS   from a long script and the Rust's answers to it, choose short sections that
                                             together show every kind of call and answer, and write both to CALLS
     sample.py module CALLS > MODULE         the module in which the definitions are computed on CALLS and compared
@@ -109,7 +109,7 @@ def actions_seen(bytes_):
 def event_seen(bytes_, answer):
     """What an event is; of one that is not read, only its first byte."""
     if answer in ("7", "8", "9") or not bytes_:
-        return tuple(min(b, 5) for b in bytes_[:1])
+        return tuple(min(b, 6) for b in bytes_[:1])
     if bytes_[0] == 0:
         _, at = read_number(bytes_, 1)
         return ("received",) + message_seen(bytes_, at)[0]
@@ -252,6 +252,88 @@ def extra():
                   "038200", "0181004100", "0101418000", "028100"]:
         ev(2, bytes.fromhex(event))
     print("dump")
+    quiet(panel, ev)
+
+
+def quiet(panel, ev):
+    """Sections with quiet neighbours, each with what tells lazy from eager."""
+    import gen
+    x, y = b"kiln", b"clinker"
+    i, j = gen.blake3(x), gen.blake3(y)
+
+    def begin(quiet, others, limits=""):
+        print(panel)
+        print("stats 0 0 0")
+        if limits:
+            print("limits " + limits)
+        for p in quiet:
+            ev(0, gen.up_quiet(p))
+        for p in others:
+            ev(0, gen.up(p))
+
+    # Bytes that are no event of kind 5. The first event is a message. What is broadcast is queued for 2, but for Neighbors; a Graft is answered and changes
+    # nothing else. By kind 3 it is eager, by kind 5 quiet again, and once it is down it is a stranger.
+    begin([], [])
+    for event in ["05", "058000", "050200", "0602"]:
+        ev(0, bytes.fromhex(event))
+    ev(0, gen.up_quiet(2))
+    ev(0, gen.up(3))
+    ev(1, gen.recv(2, gen.prune()))
+    ev(2, gen.broadcast(x))
+    ev(3, gen.broadcast(b"near", False))
+    ev(7, gen.DISPATCH)
+    ev(8, gen.recv(2, gen.graft(i, 0)))
+    ev(8, gen.recv(2, gen.graft(j, 0)))
+    ev(8, gen.recv(2, gen.graft(None, 0)))
+    ev(9, gen.broadcast(y))
+    for k, again in enumerate([[gen.up(2)], [gen.up_quiet(2)], [gen.down(2), gen.up(2)], [gen.up_quiet(2)]]):
+        for event in again:
+            ev(10, event)
+        ev(10, gen.broadcast(b"meal %d" % k))
+    print("dump")
+    # The first announcer is quiet: asked and noted. Its late copy is a duplicate.
+    begin([2], [3])
+    ev(1, gen.recv(2, gen.ihave([(i, 3)])))
+    ev(81, gen.send_graft(i))
+    for p in (3, 2):
+        ev(90, gen.recv(p, gen.gossip(i, x, 3)))
+    print("dump")
+    # The first copy is of a quiet one: a late copy of an eager one is a duplicate.
+    begin([3], [2])
+    ev(1, gen.recv(2, gen.ihave([(i, 3)])))
+    ev(81, gen.send_graft(i))
+    for p in (3, 2):
+        ev(90, gen.recv(p, gen.gossip(i, x, 3)))
+    print("dump")
+    # The best announcer is quiet: a Graft to it and a Prune, each time.
+    begin([2], [3])
+    for c, k in [(x, i), (y, j)]:
+        ev(1, gen.recv(2, gen.ihave([(k, 0)])))
+        ev(2, gen.recv(3, gen.gossip(k, c, 9)))
+        ev(3, gen.up(3))
+    print("dump")
+    # The sender is quiet and not the best announcer: a Prune, and it stays quiet.
+    begin([3], [2])
+    ev(1, gen.recv(2, gen.ihave([(i, 0)])))
+    ev(2, gen.recv(3, gen.gossip(i, x, 9)))
+    ev(3, gen.recv(3, gen.gossip(i, x, 9)))
+    print("dump")
+    # Two neighbours at most: told again they are no more.
+    begin([2, 3], [], "2 64 32 8192 16 16 16 64 64 40960")
+    for event in [gen.up_quiet(4), gen.up_quiet(2), gen.up(4), gen.down(3), gen.up_quiet(4)]:
+        ev(0, event)
+    print("dump")
+    # What was handed back stays recorded where kind 5 comes; 2 hands back a reply, and what a tick queues. The panel itself is quiet.
+    begin([1], [2, 3])
+    ev(1, gen.broadcast(x), "2:0")
+    ev(2, gen.up_quiet(2))
+    ev(3, gen.broadcast(y), "2:0")
+    ev(4, gen.recv(2, gen.graft(j, 0)), "2:0")
+    ev(8, gen.DISPATCH)
+    ev(9, gen.ANNOUNCE)
+    ev(9, gen.up_quiet(3))
+    ev(10, gen.broadcast(b"meal"))
+    print("dump")
 
 
 # The module.
@@ -338,7 +420,9 @@ def missing(text):
 
 def state(dump, settings, limits):
     d = dict(w.split("=", 1) for w in dump.split())
-    links = sorted([(int(p), "eager") for p in split(d["eager"])] + [(int(p), "lazy") for p in split(d["lazy"])])
+    told = split(d.get("quiet", "-"))
+    marks = [(p, "eager") for p in split(d["eager"])] + [(p, "quiet" if p in told else "lazy") for p in split(d["lazy"])]
+    links = sorted((int(p), mark) for p, mark in marks)
     fields = [
         ("settings", settings), ("limits", limits), ("links", seq("(entry %d %s)" % l for l in links)),
         ("queue", seq(notes(d["queue"]))), ("dropped", seq(notes(d["dropped"]))), ("missing", seq(missing(d["missing"]))),
@@ -435,7 +519,7 @@ use Rattle.std.proofs.Math.ListN.{replicate}
 %s
 use Rattle.storage.specs.Lists.Map.{entry}
 use Rattle.postcard.specs.Number.{big_endian}
-use Rattle.protocol.specs.Links.{eager, lazy}
+use Rattle.protocol.specs.Links.{eager, lazy, quiet}
 use Rattle.protocol.specs.State.{State, Settings, Limits, Counts, Hop, Note, fresh}
 use Rattle.protocol.specs.Run.{Room}
 use Rattle.protocol.specs.Answer.{Call, Answer, refuse, accept}

@@ -19,6 +19,7 @@ enum Event {
     Fired(Timer),
     Up(u64),
     Down(u64),
+    UpQuiet(u64),
 }
 
 fn question(e: Error) -> u8 {
@@ -58,6 +59,7 @@ fn read_kinds(de: &mut De<'_>) -> Result<(Event, usize), Error> {
         }),
         3 => Event::Up(de.number(64)?),
         4 => Event::Down(de.number(64)?),
+        5 => Event::UpQuiet(de.number(64)?),
         _ => return Err(Error::Bad),
     };
     Ok((event, 0))
@@ -100,6 +102,7 @@ fn write(event: &Event) -> Vec<u8> {
         Event::Fired(Timer::AnnounceDropped) => put(2, &[vec![3]]),
         Event::Up(peer) => put(3, &[to_vec(peer).unwrap()]),
         Event::Down(peer) => put(4, &[to_vec(peer).unwrap()]),
+        Event::UpQuiet(peer) => put(5, &[to_vec(peer).unwrap()]),
     }
     out
 }
@@ -123,6 +126,7 @@ fn words(event: &Event, size: usize) -> String {
         Event::Fired(Timer::AnnounceDropped) => "AnnounceDropped".into(),
         Event::Up(peer) => format!("Up {peer}"),
         Event::Down(peer) => format!("Down {peer}"),
+        Event::UpQuiet(peer) => format!("Up {peer} quiet"),
     }
 }
 
@@ -327,9 +331,9 @@ fn shapes() -> Vec<Vec<Field>> {
     use Field::*;
     let id = |first: u8| Bytes((0..32).map(|i| first.wrapping_add(i)).collect());
     let content = || Bytes(vec![7, 8, 9]);
-    let received = |message: &[Field]| [&[Kind(0, 5), Number(300, 64)], message].concat();
+    let received = |message: &[Field]| [&[Kind(0, 6), Number(300, 64)], message].concat();
     let gossip = |delivery: &[Field]| received(&[&[PaddedKind(0, 4), id(16), Padded(3, 64), content()], delivery].concat());
-    let broadcast = |scope: u8| vec![Kind(1, 5), Number(3, 64), content(), Kind(scope, 2)];
+    let broadcast = |scope: u8| vec![Kind(1, 6), Number(3, 64), content(), Kind(scope, 2)];
     vec![
         gossip(&[PaddedKind(0, 2), Padded(20_000, 16)]),
         gossip(&[PaddedKind(0, 2), Padded(0, 16)]),
@@ -342,12 +346,13 @@ fn shapes() -> Vec<Vec<Field>> {
         received(&[PaddedKind(3, 4), Padded(0, 64)]),
         broadcast(0),
         broadcast(1),
-        vec![Kind(2, 5), Kind(0, 4), id(144)],
-        vec![Kind(2, 5), Kind(1, 4)],
-        vec![Kind(2, 5), Kind(2, 4)],
-        vec![Kind(2, 5), Kind(3, 4)],
-        vec![Kind(3, 5), Number(1 << 40, 64)],
-        vec![Kind(4, 5), Number(127, 64)],
+        vec![Kind(2, 6), Kind(0, 4), id(144)],
+        vec![Kind(2, 6), Kind(1, 4)],
+        vec![Kind(2, 6), Kind(2, 4)],
+        vec![Kind(2, 6), Kind(3, 4)],
+        vec![Kind(3, 6), Number(1 << 40, 64)],
+        vec![Kind(4, 6), Number(127, 64)],
+        vec![Kind(5, 6), Number(1 << 63, 64)],
     ]
 }
 
@@ -383,10 +388,12 @@ fn edges(cases: &mut Cases) {
         for v in [low - 1, low, low + 1] {
             cases.accept(&Event::Up(v));
             cases.accept(&Event::Down(v));
+            cases.accept(&Event::UpQuiet(v));
         }
     }
     for v in [u64::MAX - 1, u64::MAX, 1 << 63, (1 << 63) - 1] {
         cases.accept(&Event::Up(v));
+        cases.accept(&Event::UpQuiet(v));
         cases.accept(&Event::Received(v, Message::Prune));
     }
     for r in [0, 1, 126, 127, 128, 129, 255, 256, 16_383, 16_384, 32_767, 32_768, 65_534, 65_535] {
@@ -416,6 +423,7 @@ fn worked(cases: &mut Cases) {
     }
     for (event, bytes) in [
         (Event::Up(2), &[3, 2][..]),
+        (Event::UpQuiet(2), &[5, 2]),
         (Event::Fired(Timer::DispatchLazyPush), &[2, 1]),
         (Event::Received(5, Message::Prune), &[0, 5, 1]),
         (Event::Received(2, Message::Graft(Graft { id: None, round: Round(127) })), &[0, 2, 2, 0, 0x7f]),
@@ -520,8 +528,11 @@ impl Random {
             0..=6 => Event::Received(self.wide(64), self.message()),
             7 => Event::Broadcast(self.content(), if self.below(2) == 0 { Scope::Swarm } else { Scope::Neighbors }),
             8 => Event::Fired(Timer::SendGraft(self.id())),
-            _ if self.below(2) == 0 => Event::Up(self.wide(64)),
-            _ => Event::Down(self.wide(64)),
+            _ => match self.below(3) {
+                0 => Event::Up(self.wide(64)),
+                1 => Event::Down(self.wide(64)),
+                _ => Event::UpQuiet(self.wide(64)),
+            },
         }
     }
     /// The bytes of a field; a number that may be padded is, to any length up to its greatest.

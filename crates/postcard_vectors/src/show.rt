@@ -132,9 +132,12 @@ pub fn event(rt: &impl Print, e: Event) {
             scope(rt, s);
         }
         Event::Timer(t) => timer(rt, t),
-        Event::Up { peer, .. } => {
+        Event::Up { peer, quiet } => {
             word(rt, b"Up ");
             number(rt, peer);
+            if quiet {
+                word(rt, b" quiet");
+            }
         }
         Event::Down(peer) => {
             word(rt, b"Down ");

@@ -198,6 +198,8 @@ fn cases(f: &Filled) -> Vec<Case> {
     put("EvictCache, none due", wire::EVICT.to_vec());
     put("up, new", wire::up(STRANGER));
     put("up, known", wire::up(lazy));
+    put("up quiet, new", wire::up_quiet(STRANGER));
+    put("up quiet, known", wire::up_quiet(lazy));
     put("down", wire::down(eager));
     let rooms: Vec<(u64, u16)> = s.eager.iter().chain(&s.lazy).map(|p| (*p, 0)).collect();
     v.push(Case {
@@ -221,6 +223,15 @@ fn cases(f: &Filled) -> Vec<Case> {
         rooms,
         clear: keep,
     });
+    if let Some(c) = &f.cached {
+        v.push(Case {
+            name: "Graft cached, of a quiet one",
+            now: NOW,
+            event: wire::recv(lazy, &wire::graft(Some(&c.id), 3)),
+            rooms: vec![],
+            clear: |s| s.quiet = s.lazy.clone(),
+        });
+    }
     let first_due = f.snap.cache.iter().map(|c| c.expires).min().unwrap_or(NOW);
     for (name, now) in [
         ("EvictCache, one due", first_due),

@@ -59,6 +59,10 @@ impl Layout {
     }
 }
 
+/// The mark of a link that is eager, and of one that is lazy and not quiet; every other one is quiet.
+const EAGER: u8 = 0;
+const LAZY: u8 = 1;
+
 /// The header's words.
 pub mod word {
     pub const THRESHOLD: usize = 3;
@@ -202,9 +206,9 @@ pub fn read(b: &[u8]) -> Read<Snap> {
 
     let peers: Vec<u64> = (0..n as usize).map(|i| le(b, at.links + 16 * i, 8)).collect();
     ask(peers.windows(2).all(|w| w[0] < w[1]), "peers ascend")?;
-    let eager = |i: usize| b[at.links + 16 * i + 8] == 0;
-    let set = |want: bool| {
-        (0..peers.len()).filter(|i| eager(*i) == want).map(|i| peers[i]).collect::<Vec<_>>()
+    let mark = |i: usize| b[at.links + 16 * i + 8];
+    let marked = |is: fn(u8) -> bool| {
+        (0..peers.len()).filter(|i| is(mark(*i))).map(|i| peers[i]).collect::<Vec<_>>()
     };
 
     let rexp = expiry(b, at.received_rows, 40, rr as usize)?;
@@ -281,8 +285,9 @@ pub fn read(b: &[u8]) -> Read<Snap> {
         init,
         dispatch,
         announce,
-        eager: set(true),
-        lazy: set(false),
+        eager: marked(|m| m == EAGER),
+        lazy: marked(|m| m != EAGER),
+        quiet: marked(|m| m != EAGER && m != LAZY),
         received,
         rexp,
         cache,
@@ -294,6 +299,12 @@ pub fn read(b: &[u8]) -> Read<Snap> {
         queue,
         dropped,
     })
+}
+
+/// The bytes of the marks.
+pub fn marks(b: &[u8]) -> Vec<u8> {
+    let at = Layout::of(&limits(b));
+    (0..live(b)[0] as usize).map(|i| b[at.links + 16 * i + 8]).collect()
 }
 
 /// The link numbers of the queue's notes and of the record's: how the notes of different peers are interleaved.
@@ -321,10 +332,27 @@ fn place(r: &mut Rng, rows: &[(u64, Id)], time: u64, id: &Id) -> usize {
     r.pick(&v)
 }
 
-fn mark(r: &mut Rng, yes: bool) -> u8 {
+/// Whether there is a `first`, or a `kept`.
+fn presence(r: &mut Rng, yes: bool) -> u8 {
     match yes {
         false => 0,
         true => r.pick(&[1, 1, 2, 128, 255]),
+    }
+}
+
+/// The mark of a neighbour.
+fn mark(r: &mut Rng, s: &Snap, peer: u64) -> u8 {
+    let is_quiet = s.quiet.contains(&peer);
+    if !s.lazy.contains(&peer) {
+        assert!(!is_quiet, "a quiet neighbour that is not lazy");
+        return EAGER;
+    }
+    // Drawn for each lazy one, so that what is drawn behind it does not depend on the mark.
+    let quiet = r.pick(&[2, 2, 3, 128, 255]);
+    if is_quiet {
+        quiet
+    } else {
+        LAZY
     }
 }
 
@@ -391,7 +419,7 @@ pub fn write_interleaved(
     let number = |p: &u64| peers.iter().position(|q| q == p).unwrap() as u8;
     for (i, p) in peers.iter().enumerate() {
         put(b, at.links + 16 * i, 8, *p);
-        b[at.links + 16 * i + 8] = mark(r, s.lazy.contains(p));
+        b[at.links + 16 * i + 8] = mark(r, s, *p);
     }
     for (i, (t, id)) in s.rexp.iter().enumerate() {
         put(b, at.received_rows + 40 * i, 8, *t);
@@ -426,12 +454,12 @@ pub fn write_interleaved(
     for (i, g) in s.grafted.iter().enumerate() {
         let e = at.grafted + 119 * i;
         put(b, e, 2, place(r, &s.gexp, g.expires, &g.id) as u64);
-        b[e + 2] = mark(r, g.first.is_some());
+        b[e + 2] = presence(r, g.first.is_some());
         if let Some((p, round)) = g.first {
             put(b, e + 3, 8, p);
             put(b, e + 11, 2, round.into());
         }
-        b[e + 13] = mark(r, g.kept.is_some());
+        b[e + 13] = presence(r, g.kept.is_some());
         if let Some(p) = g.kept {
             put(b, e + 14, 8, p);
         }

@@ -1,5 +1,6 @@
 //! Random lists of calls. A list is determined by its seed and the Rust's answers.
 mod brink;
+mod quiet;
 mod rewrite;
 mod second;
 pub mod spell;
@@ -12,6 +13,7 @@ use oracle::{
     snap::{Cached, Grafted, Id, Notes, Snap},
 };
 
+pub use quiet::Quiets;
 pub use rewrite::Rewrites;
 pub use second::Seconds;
 pub use states::States;
@@ -76,6 +78,8 @@ pub struct World {
     respelled: f64,
     tight: f64,
     damage: f64,
+    /// Whether the list has events of kind 5 (quiet.rs).
+    quiet: bool,
     alike: f64,
     weights: Vec<(&'static str, u64)>,
     pending: Vec<Vec<u8>>,
@@ -261,6 +265,7 @@ impl World {
                 _ => r.pick(&[5.0, 35.0, 70.0]),
             },
             damage: if big { 8.0 } else { r.pick(&[0.0, 0.0, 0.0, 20.0]) },
+            quiet: false,
             alike: if big { 3.0 } else { r.pick(&[0.0, 3.0, 3.0, 20.0]) },
             weights,
             pending: Vec::new(),
@@ -365,6 +370,11 @@ impl World {
         self.damage = percent;
     }
 
+    /// The list has events of kind 5.
+    pub fn set_quiet(&mut self) {
+        self.quiet = true;
+    }
+
     /// The commands that begin the list.
     pub fn begin(&mut self) -> Vec<Cmd> {
         match self.profile {
@@ -423,7 +433,10 @@ impl World {
     pub fn next(&mut self, pair: &Pair) -> Vec<Cmd> {
         let mut v = Vec::new();
         let snap = pair.snap.as_ref().expect("a whole block");
-        let event = self.event(snap);
+        let mut event = self.event(snap);
+        if !self.quiet && event.first() == Some(&wire::QUIET) {
+            event[0] += 1;
+        }
         let mut now = self.now;
         if self.r.chance(0.3) {
             now = self.r.pick(&[TOP + 1, u64::MAX, TOP + 1000]);
@@ -828,7 +841,7 @@ impl World {
             }
             2 => {
                 let any = r.next() as u8;
-                v[i] = r.pick(&[0, 1, 2, 3, 4, 5, 127, 128, 255, any]);
+                v[i] = r.pick(&[0, 1, 2, 3, 4, wire::QUIET, 127, 128, 255, any]);
                 v
             }
             3 => {
@@ -887,7 +900,7 @@ impl World {
                 }
                 1 => [vec![0, 2, 3], vec![255; 9], vec![1], r.bytes(40)].concat(),
                 2 => vec![1, 128, 128, 128, 128, 128, 128, 128, 128, 128, 1, 5, 6],
-                3 => vec![5, 2],
+                3 => vec![wire::QUIET + 1, 2],
                 _ => vec![2, 4],
             },
         }

@@ -69,7 +69,7 @@ fn plain(s: &Snap) -> Snap {
 }
 
 /// The first thing in which two states differ, order ignored: the specification's "own peer number, settings, limits, sets, flags and maps agree, order inside queue,
-/// record, announcer and expiry lists ignored, repeats counted".
+/// record, announcer and expiry lists ignored, repeats counted"; and "The quiet marks belong to the state: [..] alike compares them".
 fn unlike(a: &[u8], b: &[u8], x: &Snap, y: &Snap) -> Option<&'static str> {
     let (p, q) = (plain(x), plain(y));
     let first = [
@@ -78,6 +78,7 @@ fn unlike(a: &[u8], b: &[u8], x: &Snap, y: &Snap) -> Option<&'static str> {
         (p.cfg != q.cfg, "alike not: settings"),
         (block::limits(a) != block::limits(b), "alike not: limits"),
         ([&p.eager, &p.lazy] != [&q.eager, &q.lazy], "alike not: sets"),
+        (p.quiet != q.quiet, "alike not: quiet marks"),
         (
             [p.init, p.dispatch, p.announce] != [q.init, q.dispatch, q.announce],
             "alike not: flags",
@@ -139,14 +140,16 @@ pub fn told(a: &[u8], b: &[u8]) -> Told {
     Told { number: 0, alike: orders.is_empty(), unordered: true, about }
 }
 
-/// In what the blocks of one state differ: how the notes of different peers are interleaved, and which of equal expiry rows an entry names.
+/// In what the blocks of one state differ: how the notes of different peers are interleaved, which of equal expiry rows an entry names, and the bytes of quiet marks.
 fn free(a: &[u8], b: &[u8]) -> &'static str {
     let [queue, record] = mixed(a, b);
+    let marks = block::marks(a) != block::marks(b);
     match (queue, record, block::places_named(a) != block::places_named(b)) {
         (true, true, _) => "alike: queue and record interleaved otherwise",
         (true, false, _) => "alike: queue interleaved otherwise",
         (false, true, _) => "alike: record interleaved otherwise",
         (false, false, true) => "alike: another of equal rows named",
+        (false, false, false) if marks => "alike: quiet marks of other bytes",
         (false, false, false) => "alike: the same tables",
     }
 }
@@ -165,11 +168,13 @@ pub const ABOUT: &[&str] = &[
     "alike: record interleaved otherwise",
     "alike: queue and record interleaved otherwise",
     "alike: another of equal rows named",
+    "alike: quiet marks of other bytes",
     "alike not: own number",
     "alike not: M",
     "alike not: settings",
     "alike not: limits",
     "alike not: sets",
+    "alike not: quiet marks",
     "alike not: flags",
     "alike not: received",
     "alike not: received rows",
@@ -312,6 +317,15 @@ pub fn near(r: &mut Rng, s: &Snap, limits: &[u64; 9]) -> ([u64; 9], Snap) {
     (max, t)
 }
 
+/// A lazy neighbour's quiet mark set, or taken.
+fn mark(quiet: &mut Vec<u64>, peer: u64) {
+    match quiet.iter().position(|p| *p == peer) {
+        Some(i) => drop(quiet.remove(i)),
+        None => quiet.push(peer),
+    }
+    quiet.sort();
+}
+
 /// One thing changed, or none where there is no such thing.
 fn change(r: &mut Rng, t: &mut Snap, max: &mut [u64; 9]) {
     match r.below(23) {
@@ -328,6 +342,12 @@ fn change(r: &mut Rng, t: &mut Snap, max: &mut [u64; 9]) {
         4 => {
             let all: Vec<u64> = t.eager.iter().chain(&t.lazy).copied().collect();
             if let Some(p) = all.get(r.index(all.len())) {
+                // Where some neighbour is quiet, a lazy one also changes between quiet and not.
+                let lazy = t.lazy.contains(p);
+                if !t.quiet.is_empty() && lazy && r.chance(70.0) {
+                    return mark(&mut t.quiet, *p);
+                }
+                t.quiet.retain(|q| q != p);
                 let (from, to) = match t.eager.contains(p) {
                     true => (&mut t.eager, &mut t.lazy),
                     false => (&mut t.lazy, &mut t.eager),

@@ -21,7 +21,7 @@ use std::{
     time::{Duration, Instant},
 };
 
-use gen::{Rewrites, Seconds, States, World};
+use gen::{Quiets, Rewrites, Seconds, States, World};
 use paths::Paths;
 use run::Pair;
 use script::Cmd;
@@ -169,14 +169,16 @@ fn run_list(
     if let Some(percent) = damage {
         world.set_damage(percent);
     }
+    let mut quiets = Quiets::of(seed, number, &mut world);
     let mut rewrites = Rewrites::of(seed, number, world.m);
     let mut states = States::of(seed, number);
     let mut seconds = Seconds::of(seed, number);
     let mut pair = Pair::default();
     let mut calls = 0;
     log.begin(number, before);
+    paths.begins();
     paths.creation(create::check(seed ^ number)?);
-    for c in world.begin() {
+    for c in quiets.begin(world.begin()) {
         let c = log.push(c);
         pair.run(c)?;
         paths.seconds(&mut pair);
@@ -190,7 +192,8 @@ fn run_list(
     while calls < world.calls as u64 {
         let mut damaged = false;
         let mut behind = Vec::new();
-        for c in world.next(&pair) {
+        let next = world.next(&pair);
+        for c in quiets.next(&pair, next) {
             let c = log.push(c);
             damaged = match c {
                 Cmd::Poke(_) | Cmd::Cut(_) => true,
@@ -227,6 +230,7 @@ fn run_list(
         go_along(seconds.behind(&pair), &mut pair, paths, log)?;
         world.goes_on(&pair);
     }
+    paths.ended(quiets.are_there(), calls);
     Ok(calls)
 }
 
@@ -308,6 +312,7 @@ fn work(job: &Job, mut log: Log) -> ExitCode {
     let lists = number - job.from;
     let (rewrites, states) = (paths.rewrites, paths.states);
     println!("{}", paths.second_panels());
+    println!("{}", paths.lists());
     println!(
         "seed {}: {done} calls and {rewrites} rewrites, {states} savings and returns, in {lists} lists, 0 different, {t:.0} s",
         job.seed
@@ -324,7 +329,7 @@ fn short(mut log: Log) -> ExitCode {
     let mut events = vec![vec![]];
     events.extend((0..=255).map(|a| vec![a]));
     events.extend((0..=65535u16).map(|x| x.to_be_bytes().to_vec()));
-    for kind in 0..6u8 {
+    for kind in 0..7u8 {
         events.extend((0..=65535u16).map(|x| [vec![kind], x.to_be_bytes().to_vec()].concat()));
     }
     log.begin(0, 0);

@@ -1,5 +1,5 @@
 //! Which paths the calls took, told from the state before, the event and the answer.
-use std::collections::BTreeMap;
+use std::collections::{BTreeMap, BTreeSet};
 
 use oracle::{
     snap::{Id, Notes, Snap},
@@ -221,10 +221,69 @@ pub const FORGOTTEN: &[&str] = &[
     "14 by what was forgotten alone",
 ];
 
+/// Paths of a quiet neighbour.
+pub const QUIET: &[&str] = &[
+    "up quiet: 7",
+    "up quiet: 8",
+    "up quiet: 9",
+    "up quiet: kind 6 is 8",
+    "up quiet: 13 by neighbours",
+    "up quiet: stranger",
+    "up quiet: eager",
+    "up quiet: lazy",
+    "up quiet: quiet already",
+    "up quiet: the panel itself",
+    "up quiet: before the first event",
+    "up quiet: with queue",
+    "up quiet: with record",
+    "up quiet: announcer",
+    "up quiet: grafted",
+    "up: quiet so far",
+    "up: down since it was quiet",
+    "down: quiet",
+    "down: quiet, with queue",
+    "down: quiet, with record",
+    "quiet: Graft cached, taken",
+    "quiet: Graft cached, handed back and noted",
+    "quiet: Graft cached, noted already",
+    "quiet: Graft not cached",
+    "quiet: Graft without identifier",
+    "quiet: Prune",
+    "quiet: duplicate",
+    "quiet: IHave",
+    "quiet: sendgraft",
+    "quiet: sendgraft handed back",
+    "quiet: optimise, the best announcer",
+    "quiet: optimise, the best announcer again",
+    "quiet: optimise, the sender",
+    "quiet: optimise, both",
+    "quiet: late, the grafted sender alone stands against",
+    "quiet: late, first alone stands against",
+    "quiet: late, first again",
+    "quiet: new Swarm from it",
+    "quiet: new Swarm from it, pushed to eager ones",
+    "quiet: broadcast Swarm, all are quiet",
+    "quiet: broadcast Swarm, the panel itself",
+    "quiet: broadcast Neighbors",
+    "quiet: queued, eager ones sent to",
+    "quiet: queued, grafted for it",
+    "quiet: dispatch",
+    "quiet: dispatch handed back and noted",
+    "quiet: dispatch to the panel itself",
+    "quiet: announce",
+];
+
 /// Paths with the number of calls that took them, and what made blocks not whole.
 #[derive(Default)]
 pub struct Paths {
     hits: BTreeMap<&'static str, u64>,
+    /// Lists without and with events of kind 5, their calls, and those of kind 5 that were accepted.
+    lists: [[u64; 2]; 2],
+    told_quiet: u64,
+    /// The neighbours of the list that went down while they were quiet.
+    gone: BTreeSet<u64>,
+    /// Those that an optimisation asked while they were quiet.
+    asked: BTreeSet<u64>,
     faults: BTreeMap<&'static str, u64>,
     /// Calls of `plumtree_rewrite`.
     pub rewrites: u64,
@@ -253,7 +312,8 @@ struct Handed {
 
 impl Paths {
     fn hit(&mut self, name: &'static str) {
-        debug_assert!(ALL.contains(&name) || FORGOTTEN.contains(&name), "{name}");
+        let is = |all: &[&str]| all.contains(&name);
+        debug_assert!(is(ALL) || is(FORGOTTEN) || is(QUIET), "{name}");
         *self.hits.entry(name).or_default() += 1;
     }
 
@@ -271,6 +331,26 @@ impl Paths {
     /// A path whose name is put together.
     fn hit_named(&mut self, name: String) {
         self.hit(ALL.iter().find(|n| **n == name).unwrap_or_else(|| panic!("{name}")));
+    }
+
+    /// A list begins.
+    pub fn begins(&mut self) {
+        self.gone.clear();
+        self.asked.clear();
+    }
+
+    /// A list has ended after so many calls.
+    pub fn ended(&mut self, quiet: bool, calls: u64) {
+        let [lists, all] = &mut self.lists[usize::from(quiet)];
+        *lists += 1;
+        *all += calls;
+    }
+
+    /// How many lists there were without kind 5 and with it.
+    pub fn lists(&self) -> String {
+        let [[lists, calls], [quiet, among]] = self.lists;
+        let told = self.told_quiet;
+        format!("{calls} calls in {lists} lists without kind 5, {among} in {quiet} with it ({told} of kind 5 accepted)")
     }
 
     /// A creation with this answer.
@@ -370,6 +450,13 @@ impl Paths {
         let read = wire::reading(event);
         let told = Some(answer.number).filter(|n| (7..10).contains(n));
         assert_eq!(read.question, told, "{}", hex::encode(event));
+        match (event.first(), told) {
+            (Some(&wire::QUIET), Some(7)) => self.hit("up quiet: 7"),
+            (Some(&wire::QUIET), Some(8)) => self.hit("up quiet: 8"),
+            (Some(&wire::QUIET), Some(_)) => self.hit("up quiet: 9"),
+            (Some(6), Some(8)) => self.hit("up quiet: kind 6 is 8"),
+            _ => {}
+        }
         match read.stop {
             None => self.padding(b.m as usize, event.len(), &read.message(), answer.number),
             Some(Stop::Long(f)) => {
@@ -435,6 +522,8 @@ impl Paths {
                 );
             }
         }
+        let told = matches!(seen, Some(Seen::UpQuiet(_)));
+        self.hit_if(told && answer.number == 13, "up quiet: 13 by neighbours");
         self.hit_if(answer.number == 14 && out + 1 == answer.need, "14 at one byte");
         self.hit_if(answer.number == 14 && answer.others <= out, "14 by what was forgotten alone");
         let (Some(b), Some(a), Some(seen)) = (before, after, seen) else {
@@ -445,7 +534,7 @@ impl Paths {
         }
         self.hit_if(damaged, "damaged and whole");
         self.hit_if(out > 0 && out == answer.need, "actions fill the output");
-        let timed = !matches!(seen, Seen::Up(_) | Seen::Down(_));
+        let timed = !matches!(seen, Seen::Up(_) | Seen::Down(_) | Seen::UpQuiet(_));
         let first = timed && !b.init;
         let mut b = b.clone();
         if first {
@@ -460,6 +549,7 @@ impl Paths {
         }
         self.forgotten(before.expect("a state"), a, seen, now, answer, first);
         self.event(&b, a, seen, now, answer, first);
+        self.quiet(&b, a, seen, answer);
     }
 
     /// What was told as forgotten; `b` is the state before the call.
@@ -564,7 +654,163 @@ impl Paths {
                 self.hit_if(b.eager.len() + b.lazy.len() == 31, "up with 31 neighbours");
             }
             Seen::Down(p) => self.down(b, a, *p),
+            Seen::UpQuiet(p) => self.up_quiet(b, a, *p),
         }
+    }
+
+    fn up_quiet(&mut self, b: &Snap, a: &Snap, p: u64) {
+        self.told_quiet += 1;
+        self.hit(match (b.eager.contains(&p), b.lazy.contains(&p), b.quiet.contains(&p)) {
+            (true, _, _) => "up quiet: eager",
+            (_, _, true) => "up quiet: quiet already",
+            (_, true, _) => "up quiet: lazy",
+            _ => "up quiet: stranger",
+        });
+        self.hit_if(p == b.me, "up quiet: the panel itself");
+        self.hit_if(!b.init && !a.init, "up quiet: before the first event");
+        self.hit_if(!find(&a.queue, p).is_empty(), "up quiet: with queue");
+        self.hit_if(!find(&a.dropped, p).is_empty(), "up quiet: with record");
+        let mine = |v: &[(u64, u16)]| v.iter().any(|e| e.0 == p);
+        self.hit_if(a.missing.iter().any(|e| mine(&e.1)), "up quiet: announcer");
+        self.hit_if(a.grafted.iter().any(|g| mine(&g.peers)), "up quiet: grafted");
+    }
+
+    /// What became of quiet neighbours; `b` is the state before the call, behind a first event's eviction.
+    fn quiet(&mut self, b: &Snap, a: &Snap, seen: &Seen, answer: &Answer) {
+        if let Seen::Up(p) = seen {
+            self.hit_if(b.quiet.contains(p), "up: quiet so far");
+            let again = self.gone.remove(p) && a.eager.contains(p);
+            self.hit_if(again, "up: down since it was quiet");
+        }
+        if b.quiet.is_empty() {
+            return;
+        }
+        let quiet = |p: &u64| b.quiet.contains(p);
+        let acts = wire::actions(&answer.actions);
+        let sends: Vec<(u64, bool, &Message)> = acts
+            .iter()
+            .filter_map(|x| match x {
+                Action::Send { peer, back, message } => Some((*peer, *back, message)),
+                _ => None,
+            })
+            .collect();
+        let pushed = sends.iter().any(|s| matches!(s.2, Message::Gossip { .. }));
+        match seen {
+            Seen::Down(p) if quiet(p) => {
+                self.gone.insert(*p);
+                self.hit("down: quiet");
+                self.hit_if(!find(&b.queue, *p).is_empty(), "down: quiet, with queue");
+                self.hit_if(!find(&b.dropped, *p).is_empty(), "down: quiet, with record");
+            }
+            Seen::Graft { peer, id, .. } if quiet(peer) => self.hit(match (id, sends.first()) {
+                (None, _) => "quiet: Graft without identifier",
+                (_, None) => "quiet: Graft not cached",
+                (_, Some((_, false, _))) => "quiet: Graft cached, taken",
+                (Some(id), _) if has(&b.dropped, *peer, id) => "quiet: Graft cached, noted already",
+                _ => "quiet: Graft cached, handed back and noted",
+            }),
+            Seen::Prune(p) if quiet(p) => self.hit("quiet: Prune"),
+            Seen::IHave { peer, .. } if quiet(peer) => self.hit("quiet: IHave"),
+            Seen::SendGraft(_) => {
+                let asked = sends.iter().find(|s| quiet(&s.0));
+                self.hit_if(asked.is_some(), "quiet: sendgraft");
+                self.hit_if(asked.is_some_and(|s| s.1), "quiet: sendgraft handed back");
+            }
+            Seen::Dispatch => {
+                self.hit_if(sends.iter().any(|s| quiet(&s.0)), "quiet: dispatch");
+                let mine = sends.iter().any(|s| quiet(&s.0) && s.0 == b.me);
+                self.hit_if(mine, "quiet: dispatch to the panel itself");
+                let more = |p: u64| find(&a.dropped, p).len() > find(&b.dropped, p).len();
+                let noted = sends.iter().any(|s| quiet(&s.0) && s.1 && more(s.0));
+                self.hit_if(noted, "quiet: dispatch handed back and noted");
+            }
+            Seen::Announce => {
+                let moved = |p: &u64| find(&a.queue, *p).len() > find(&b.queue, *p).len();
+                self.hit_if(b.quiet.iter().any(moved), "quiet: announce");
+            }
+            Seen::Broadcast { swarm: false, .. } => self.hit_if(pushed, "quiet: broadcast Neighbors"),
+            Seen::Broadcast { size, .. } if *size as u64 <= b.m => {
+                let all = b.eager.is_empty() && b.lazy == b.quiet;
+                self.hit_if(all, "quiet: broadcast Swarm, all are quiet");
+                self.hit_if(quiet(&b.me), "quiet: broadcast Swarm, the panel itself");
+                self.hit_if(pushed, "quiet: queued, eager ones sent to");
+            }
+            Seen::Gossip { peer, id, round, valid: true, .. } => {
+                match b.received.iter().any(|e| e.0 == *id) {
+                    true => self.quiet_duplicate(b, *peer, id, *round, &sends),
+                    false => self.quiet_new(b, *peer, id, *round, &sends),
+                }
+            }
+            _ => {}
+        }
+    }
+
+    /// A late reply that would be one but for a mark: its other tests say yes.
+    fn quiet_duplicate(
+        &mut self,
+        b: &Snap,
+        p: u64,
+        id: &Id,
+        round: Option<u16>,
+        sends: &[(u64, bool, &Message)],
+    ) {
+        let quiet = |p: &u64| b.quiet.contains(p);
+        let pruned = sends.iter().any(|s| s.0 == p && matches!(s.2, Message::Prune));
+        self.hit_if(quiet(&p) && pruned, "quiet: duplicate");
+        let Some(g) = b.grafted.iter().find(|g| g.id == *id) else {
+            return;
+        };
+        let Some((f, hops)) = g.first else {
+            return;
+        };
+        let in_peers = |q: u64| g.peers.iter().any(|e| e.0 == q);
+        if !in_peers(p) {
+            return;
+        }
+        if f == p || g.kept == Some(p) {
+            return self.hit_if(quiet(&p), "quiet: late, first again");
+        }
+        if in_peers(f) || !round.is_some_and(|r| r <= hops) {
+            return;
+        }
+        let eager = |p: &u64| b.eager.contains(p);
+        let alone = quiet(&p) && eager(&f);
+        self.hit_if(alone && pruned, "quiet: late, the grafted sender alone stands against");
+        let alone = quiet(&f) && eager(&p);
+        self.hit_if(alone && pruned, "quiet: late, first alone stands against");
+    }
+
+    /// A new message.
+    fn quiet_new(
+        &mut self,
+        b: &Snap,
+        p: u64,
+        id: &Id,
+        round: Option<u16>,
+        sends: &[(u64, bool, &Message)],
+    ) {
+        let quiet = |p: &u64| b.quiet.contains(p);
+        if round.is_none() {
+            return;
+        }
+        let pushed = sends.iter().any(|s| matches!(s.2, Message::Gossip { .. }));
+        self.hit_if(quiet(&p), "quiet: new Swarm from it");
+        self.hit_if(quiet(&p) && pushed, "quiet: new Swarm from it, pushed to eager ones");
+        let queued: Vec<u64> = b.quiet.iter().copied().filter(|q| *q != p).collect();
+        self.hit_if(!queued.is_empty() && pushed, "quiet: queued, eager ones sent to");
+        if let Some(g) = b.grafted.iter().find(|g| g.id == *id) {
+            let grafted = queued.iter().any(|q| g.peers.iter().any(|e| e.0 == *q));
+            self.hit_if(grafted, "quiet: queued, grafted for it");
+        }
+        let sent = |is: fn(&Message) -> bool| sends.iter().find(|s| is(s.2)).map(|s| s.0);
+        let graft = sent(|m| matches!(m, Message::Graft { id: None, .. }));
+        let prune = sent(|m| matches!(m, Message::Prune));
+        let best = graft.filter(quiet).is_some();
+        self.hit_if(best, "quiet: optimise, the best announcer");
+        let again = best && !self.asked.insert(graft.expect("a peer"));
+        self.hit_if(again, "quiet: optimise, the best announcer again");
+        self.hit_if(prune.filter(quiet).is_some(), "quiet: optimise, the sender");
+        self.hit_if(best && graft == prune, "quiet: optimise, both");
     }
 
     /// What became of the identifiers handed back.
@@ -858,7 +1104,7 @@ impl Paths {
     /// Every path, with the number of times it was taken.
     fn all(&self) -> Vec<(u64, String)> {
         let n = |m: &BTreeMap<&'static str, u64>, k: &str| m.get(k).copied().unwrap_or(0);
-        let calls = ALL.iter().chain(FORGOTTEN).map(|k| (n(&self.hits, k), k.to_string()));
+        let calls = ALL.iter().chain(FORGOTTEN).chain(QUIET).map(|k| (n(&self.hits, k), k.to_string()));
         let faults = block::FAULTS.iter().map(|k| (n(&self.faults, k), format!("not whole: {k}")));
         let alike = likeness::ABOUT.iter().map(|k| (n(&self.faults, k), k.to_string()));
         let rewritten = rewriting::ABOUT.iter().map(|k| (n(&self.faults, k), k.to_string()));

@@ -1,5 +1,5 @@
 //! Runs commands on both, the Rust and the library, and compares after each.
-use std::collections::BTreeSet;
+use std::collections::{BTreeMap, BTreeSet};
 
 use oracle::{
     snap::{Id, Snap},
@@ -14,7 +14,7 @@ use crate::{
     script::Cmd,
     second::{self, First, Seconds},
     states::{Asked, Keeper},
-    wire,
+    wire::{self, Action, Message},
 };
 
 /// Bytes kept around everything that is lent.
@@ -117,10 +117,14 @@ pub fn holds(yes: bool, what: &str) -> Same<()> {
 /// The words in which two lines of text differ.
 fn unlike(rust: &Snap, ours: &Snap) -> String {
     let (a, b) = (rust.text(), ours.text());
+    let [x, y] = [&a, &b].map(|text| {
+        text.split(' ').filter_map(|w| w.split_once('=')).collect::<BTreeMap<&str, &str>>()
+    });
     let mut o = String::from("state:");
-    for (x, y) in a.split(' ').zip(b.split(' ')) {
-        if x != y {
-            o += &format!("\n  the Rust    {x}\n  the library {y}");
+    for name in x.keys().chain(y.keys()).collect::<BTreeSet<_>>() {
+        let [p, q] = [&x, &y].map(|v| v.get(name).unwrap_or(&"-"));
+        if p != q {
+            o += &format!("\n  the Rust    {name}={p}\n  the library {name}={q}");
         }
     }
     o
@@ -458,12 +462,14 @@ impl Pair {
             self.settle()?;
             let (before, after) = (before.as_ref(), self.snap.as_ref());
             let (before, after) = before.zip(after).ok_or("an accepted call upon a block that is not whole")?;
-            let anew = match self.panel().see(event) {
-                Some(Seen::Gossip { id, .. }) => Some(id),
-                Some(Seen::Broadcast { content, .. }) => Some(oracle::identifier(&content)),
+            let seen = self.panel().see(event);
+            let anew = match &seen {
+                Some(Seen::Gossip { id, .. }) => Some(*id),
+                Some(Seen::Broadcast { content, .. }) => Some(oracle::identifier(content)),
                 _ => None,
             };
             held_against_the_cache(&answer.forgotten, before, after, anew)?;
+            only_asked(&before.quiet, seen.as_ref(), &self.out.part()[..n])?;
         }
         if self.saved.is_none() {
             let (block, number) = (self.block.part(), answer.number.into());
@@ -528,6 +534,22 @@ fn held_against_the_cache(
     holds(left.is_subset(&told), "left the message cache and not told")?;
     let again = told.difference(&left).all(|id| anew == Some(*id));
     holds(again, "forgotten, and still cached")
+}
+
+/// A quiet neighbour is sent no Gossip, taken or handed back, but one that it asks for by this very event.
+fn only_asked(quiet: &[u64], seen: Option<&Seen>, actions: &[u8]) -> Same<()> {
+    let asked = match seen {
+        Some(Seen::Graft { peer, id: Some(id), .. }) => Some((*peer, *id)),
+        _ => None,
+    };
+    let unasked = |a: &Action| match a {
+        Action::Send { peer, message: Message::Gossip { id, .. }, .. } => {
+            quiet.contains(peer) && asked != Some((*peer, *id))
+        }
+        _ => false,
+    };
+    let none = quiet.is_empty() || !wire::actions(actions).iter().any(unasked);
+    holds(none, "a quiet neighbour is sent a payload that it did not ask for")
 }
 
 /// The first limit of those that the Rust's sizes are over, from 1; 0 if there is none. The numbers of expiry entries, bits 9 to 11, count to their caches.

@@ -5,10 +5,10 @@ use oracle::{snap::Snap, Limits, Panel};
 
 use crate::{
     block,
-    gen::World,
+    gen::{Quiets, World},
     library,
     likeness::{self, LISTS},
-    paths::Paths,
+    paths::{Paths, QUIET},
     rng::Rng,
     run::Pair,
     script::Cmd,
@@ -152,6 +152,7 @@ struct Candidate {
 /// Runs a list without loads and damage.
 fn candidate(seed: u64, n: u64) -> Option<Candidate> {
     let mut world = World::new(seed, n);
+    let mut quiets = Quiets::of(seed, n, &mut world);
     let mut pair = Pair::default();
     let mut paths = Paths::default();
     let mut states = Vec::new();
@@ -167,7 +168,8 @@ fn candidate(seed: u64, n: u64) -> Option<Candidate> {
         pair.run(c).ok()?;
     }
     for _ in 0..world.calls {
-        for c in world.next(&pair) {
+        let next = world.next(&pair);
+        for c in quiets.next(&pair, next) {
             if matches!(c, Cmd::Poke(_) | Cmd::Cut(_) | Cmd::Undo) {
                 return None;
             }
@@ -233,7 +235,8 @@ pub fn write(file: &str, seed: u64, calls: usize) {
         }
     }
     std::fs::write(file, &out).unwrap();
-    println!("{file}: {total} calls, {} bytes, {} paths", out.len(), had.len());
+    let quiet = had.iter().filter(|n| QUIET.contains(n)).count();
+    println!("{file}: {total} calls, {} bytes, {} paths, {quiet} of them of a quiet neighbour", out.len(), had.len());
     for (list, n) in LISTS.iter().zip(orders) {
         println!("states in which the order of {} is compared: {n}", list.name());
     }

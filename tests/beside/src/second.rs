@@ -51,6 +51,8 @@ pub const ABOUT: &[&str] = &[
     "second: in a longer block",
     "second: forgotten, one",
     "second: forgotten, several",
+    "second: up quiet",
+    "second: a push, some are quiet",
     "in another order, told apart by chosen calls: queue",
     "in another order, told apart by chosen calls: record",
     "in another order, told apart by chosen calls: announcers",
@@ -221,6 +223,14 @@ impl Seconds {
             0 => {}
             1 => self.about.push("second: forgotten, one"),
             _ => self.about.push("second: forgotten, several"),
+        }
+        if a.number == 0 && asked.event[0] == wire::QUIET {
+            self.about.push("second: up quiet");
+        }
+        let quiet = block::read(first.block).is_ok_and(|s| !s.quiet.is_empty());
+        let gossip = |m: &&[u8]| m.first() == Some(&0);
+        if quiet && wire::sent(actions).iter().any(gossip) {
+            self.about.push("second: a push, some are quiet");
         }
         let told = asked_both_ways(first.block, s.block.part())?;
         holds(told.alike, "second panel: no longer alike")?;

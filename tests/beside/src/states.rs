@@ -29,6 +29,7 @@ pub const ABOUT: &[&str] = &[
     "save: names that differ in their low half alone",
     "save: names that differ in their high half alone",
     "save: another panel",
+    "save: quiet neighbours",
     "save: into an area of another length, one state kept",
     "save: into a damaged area that savings leave",
     "save: 5",
@@ -53,6 +54,7 @@ pub const ABOUT: &[&str] = &[
     "return: another state",
     "return: other counts",
     "return: another panel",
+    "return: other quiet neighbours",
     "return: twice",
     "return: of four",
     "return: from an area of another length, one state kept",
@@ -204,6 +206,11 @@ impl Default for Keeper {
             calls: 0,
         }
     }
+}
+
+/// The quiet neighbours of a whole block.
+fn quiet(block: &[u8]) -> Vec<u64> {
+    block::read(block).map_or(vec![], |s| s.quiet)
 }
 
 /// A path whose name is put together.
@@ -413,6 +420,9 @@ impl Keeper {
         if other {
             about.push("save: another panel");
         }
+        if !quiet(block).is_empty() {
+            about.push("save: quiet neighbours");
+        }
         if self.undamaged.is_some() {
             about.push("save: into a damaged area that savings leave");
         } else if !slots.is_empty() && self.n != block.len() {
@@ -491,6 +501,7 @@ impl Keeper {
         let more = [
             (kept.slot.counts != counts, "return: other counts"),
             (head(block) != head(before), "return: another panel"),
+            (quiet(block) != quiet(before), "return: other quiet neighbours"),
             (self.last == Some(name), "return: twice"),
             (self.kept.len() == MOST, "return: of four"),
             (block.get(need..) != before.get(need..), "return: bytes behind the need"),

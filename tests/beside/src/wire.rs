@@ -107,6 +107,13 @@ pub fn down(peer: u64) -> Vec<u8> {
     [vec![4], num(peer)].concat()
 }
 
+/// Kind 5: up as quiet.
+pub const QUIET: u8 = 5;
+
+pub fn up_quiet(peer: u64) -> Vec<u8> {
+    [vec![QUIET], num(peer)].concat()
+}
+
 #[derive(Clone, Debug, PartialEq)]
 pub enum Message {
     Gossip { id: Id, content: Vec<u8>, round: Option<u16> },
@@ -189,7 +196,8 @@ impl Field {
     /// The greatest length in bytes, and the largest last byte of a number of that length.
     pub fn longest(self) -> (usize, u8) {
         match self {
-            Field::EventKind | Field::ActionKind => (1, 4),
+            Field::EventKind => (1, QUIET),
+            Field::ActionKind => (1, 4),
             Field::TimerKind => (1, 3),
             Field::Peer | Field::Delay | Field::BroadcastLength => (10, 1),
             Field::Length | Field::Count => (10, 1),

@@ -5,6 +5,8 @@
 mod proto;
 pub mod snap;
 
+use std::collections::BTreeSet;
+
 use bytes::Bytes;
 use n0_future::time::{Duration, Instant};
 use postcard::{put_number, De, Error};
@@ -20,6 +22,8 @@ enum Ev {
     In(InEvent<u64>),
     Up(u64),
     Down(u64),
+    /// Kind 5, which the Rust has not.
+    UpQuiet(u64),
 }
 
 fn question(e: Error) -> u8 {
@@ -70,6 +74,7 @@ fn read_kinds(de: &mut De<'_>, size: &mut usize) -> Result<Ev, Error> {
         })),
         3 => Ev::Up(de.number(64)?),
         4 => Ev::Down(de.number(64)?),
+        5 => Ev::UpQuiet(de.number(64)?),
         _ => return Err(Error::Bad),
     })
 }
@@ -200,7 +205,7 @@ fn refused(number: u8) -> Answer {
 
 /// Runs one event.
 fn call(
-    slot: &mut State<u64>,
+    slot: &mut Panel,
     limits: Option<&Limits>,
     now: u64,
     rooms: &[(u64, u16)],
@@ -209,12 +214,12 @@ fn call(
     if now > 1 << 62 {
         return refused(6);
     }
-    let ev = match read_event(bytes, oracle::max_size(slot)) {
+    let ev = match read_event(bytes, oracle::max_size(&slot.state)) {
         Ok(ev) => ev,
         Err(no) => return refused(no),
     };
     if let Ev::In(InEvent::RecvMessage(_, m)) = &ev {
-        let s = &slot.stats;
+        let s = &slot.state.stats;
         let count = if oracle::is_gossip(m) {
             s.payload_messages_received
         } else {
@@ -223,21 +228,21 @@ fn call(
         if count == u64::MAX {
             return refused(11);
         }
-        if oracle::overflows(slot, Instant(now), m) {
+        if oracle::overflows(&slot.state, Instant(now), m) {
             return refused(12);
         }
     }
-    let saved = limits.map(|_| oracle::clone(slot));
+    let saved = limits.map(|_| slot.copy());
     let forgotten = match &ev {
-        Ev::In(e) => oracle::forgotten(slot, Instant(now), e),
-        Ev::Up(_) | Ev::Down(_) => Vec::new(),
+        Ev::In(e) => oracle::forgotten(&slot.state, Instant(now), e),
+        Ev::Up(_) | Ev::Down(_) | Ev::UpQuiet(_) => Vec::new(),
     };
     let mut io = Io { rooms, sent: Vec::new(), out: Vec::new() };
     handle(slot, ev, now, &mut io);
     let need = FORGOTTEN * forgotten.len() + io.out.len();
     let mut answer = Answer { need, others: io.out.len(), ..Answer::default() };
     if let (Some(l), Some(saved)) = (limits, saved) {
-        answer.over = l.over(slot);
+        answer.over = l.over(&slot.state);
         if answer.over != 0 {
             answer.number = 13;
         } else if need > l.out {
@@ -252,17 +257,33 @@ fn call(
     answer
 }
 
-fn handle(slot: &mut State<u64>, ev: Ev, now: u64, io: &mut Io<'_>) {
+/// The Rust's step. Quiet neighbours that it made eager are put back to lazy; nothing in one of its steps reads the eager set behind an `add_eager`, so
+/// that is as if it had not made them eager. Kind 5 is the Rust's neighbour up.
+fn handle(slot: &mut Panel, ev: Ev, now: u64, io: &mut Io<'_>) {
+    let (state, quiet) = (&mut slot.state, &mut slot.quiet);
     match ev {
-        Ev::In(e) => slot.handle(e, Instant(now), io),
-        Ev::Up(p) => oracle::up(slot, p),
-        Ev::Down(p) => oracle::down(slot, p),
+        Ev::In(e) => state.handle(e, Instant(now), io),
+        Ev::Up(p) => {
+            quiet.remove(&p);
+            oracle::up(state, p);
+        }
+        Ev::Down(p) => {
+            quiet.remove(&p);
+            oracle::down(state, p);
+        }
+        Ev::UpQuiet(p) => {
+            quiet.insert(p);
+            oracle::up(state, p);
+        }
     }
+    oracle::put_back(state, quiet);
 }
 
-/// A panel run by the Rust.
+/// A panel run by the Rust, and its quiet neighbours, which the Rust does not know of.
 pub struct Panel {
     state: State<u64>,
+    /// Told by kind 5, and since then neither by kind 3 nor down.
+    quiet: BTreeSet<u64>,
 }
 
 /// An event read from its bytes, to be given to `Panel::handle`.
@@ -272,21 +293,22 @@ impl Panel {
     /// The state of `State::new`. The settings: own peer number, M, then the seven of `Config` in
     /// their order.
     pub fn new(me: u64, m: u64, cfg: [u64; 7]) -> Panel {
-        Panel { state: State::new(me, config(cfg), m as usize) }
+        Panel { state: State::new(me, config(cfg), m as usize), quiet: BTreeSet::new() }
     }
 
     /// The state that a `dump` line tells, counts zero.
     pub fn load(dump: &str) -> Option<Panel> {
         let words: Vec<&str> = dump.split_whitespace().collect();
-        Some(Panel { state: oracle::load(&words)? })
+        let (state, quiet) = oracle::load(&words)?;
+        Some(Panel { state, quiet })
     }
 
     pub fn snap(&self) -> Snap {
-        oracle::snap(&self.state)
+        oracle::snap(&self.state, &self.quiet)
     }
 
     pub fn copy(&self) -> Panel {
-        Panel { state: oracle::clone(&self.state) }
+        Panel { state: oracle::clone(&self.state), quiet: self.quiet.clone() }
     }
 
     pub fn counts(&self) -> [u64; 3] {
@@ -314,7 +336,7 @@ impl Panel {
         rooms: &[(u64, u16)],
         event: &[u8],
     ) -> Answer {
-        call(&mut self.state, limits, now, rooms, event)
+        call(self, limits, now, rooms, event)
     }
 
     /// Reads an event for `handle`.
@@ -325,7 +347,7 @@ impl Panel {
     /// The Rust's step alone; the actions go to `out`.
     pub fn handle(&mut self, ev: Ready, now: u64, rooms: &[(u64, u16)], out: &mut Vec<u8>) {
         let mut io = Io { rooms, sent: Vec::new(), out: std::mem::take(out) };
-        handle(&mut self.state, ev.0, now, &mut io);
+        handle(self, ev.0, now, &mut io);
         *out = io.out;
     }
 
@@ -335,6 +357,7 @@ impl Panel {
             Ev::In(e) => oracle::see(e),
             Ev::Up(p) => Seen::Up(p),
             Ev::Down(p) => Seen::Down(p),
+            Ev::UpQuiet(p) => Seen::UpQuiet(p),
         })
     }
 }
@@ -389,7 +412,8 @@ fn config(cfg: [u64; 7]) -> Config {
 
 /// What `panelrun` writes for this input.
 fn panel(bytes: &[u8]) -> Vec<u8> {
-    let mut state = State::new(1, Config::default(), 4094);
+    let state = State::new(1, Config::default(), 4094);
+    let mut panel = Panel { state, quiet: BTreeSet::new() };
     let limits = Limits { max: [8, 64, 32, 8192, 16, 16, 16, 64, 64], out: 40960 };
     let mut de = De::new(bytes);
     let mut out = Vec::new();
@@ -406,7 +430,7 @@ fn panel(bytes: &[u8]) -> Vec<u8> {
             out.extend([7, 0]);
             break;
         };
-        let answer = call(&mut state, Some(&limits), now, &[], event);
+        let answer = call(&mut panel, Some(&limits), now, &[], event);
         let actions = answer.told();
         out.push(answer.number);
         put_number(&mut out, actions.len() as u64);
@@ -443,10 +467,10 @@ fn rooms(s: &str) -> Option<Vec<(u64, u16)>> {
         .collect()
 }
 
-/// The state that a script's commands go to.
+/// The panel that a script's commands go to.
 #[derive(Default)]
 pub struct Oracle {
-    state: Option<State<u64>>,
+    panel: Option<Panel>,
     limits: Option<Limits>,
 }
 
@@ -465,9 +489,9 @@ impl Oracle {
                 if thresh > u16::MAX.into() {
                     return None;
                 }
-                let config = config([gt1, gt2, dispatch, thresh, cacheret, idret, evict]);
+                let cfg = [gt1, gt2, dispatch, thresh, cacheret, idret, evict];
                 let durations = [gt1, gt2, dispatch, cacheret, idret, evict];
-                self.state = None;
+                self.panel = None;
                 self.limits = None;
                 if !(510..=4094).contains(&m) {
                     return Some("bad 1".into());
@@ -475,7 +499,7 @@ impl Oracle {
                 if durations.iter().any(|d| *d > 1 << 40) {
                     return Some("bad 2".into());
                 }
-                self.state = Some(State::new(me, config, m as usize));
+                self.panel = Some(Panel::new(me, m, cfg));
                 "ok".into()
             }
             "limits" => {
@@ -495,12 +519,9 @@ impl Oracle {
                 "ok".into()
             }
             "stats" => {
-                let v = nums(1)?;
-                let s = self.state.as_mut()?;
-                let [p, c, h] = v[..] else { return None };
-                s.stats.payload_messages_received = p;
-                s.stats.control_messages_received = c;
-                s.stats.max_last_delivery_hop = h.try_into().ok()?;
+                let counts: [u64; 3] = nums(1)?.try_into().ok()?;
+                u16::try_from(counts[2]).ok()?;
+                self.panel.as_mut()?.set_counts(counts);
                 "ok".into()
             }
             "ev" => {
@@ -508,28 +529,21 @@ impl Oracle {
                 let now = now.parse().ok()?;
                 let room = rooms(room)?;
                 let event = unhex(event)?;
-                let s = self.state.as_mut()?;
-                let answer = call(s, self.limits.as_ref(), now, &room, &event);
+                let panel = self.panel.as_mut()?;
+                let answer = panel.call(self.limits.as_ref(), now, &room, &event);
                 if answer.number != 0 {
                     return Some(format!("bad {}", answer.number));
                 }
-                let st = &s.stats;
-                format!(
-                    "ok {} {} {} {}",
-                    hex_or_dash(&answer.actions),
-                    st.payload_messages_received,
-                    st.control_messages_received,
-                    st.max_last_delivery_hop
-                )
+                let [payload, control, hops] = panel.counts();
+                format!("ok {} {payload} {control} {hops}", hex_or_dash(&answer.actions))
             }
             "load" => {
-                let s = oracle::load(&words[1..])?;
-                self.state = Some(s);
+                self.panel = Some(Panel::load(&words[1..].join(" "))?);
                 "ok".into()
             }
-            "dump" => oracle::snap(self.state.as_ref()?).text(),
+            "dump" => self.panel.as_ref()?.snap().text(),
             "sizes" => {
-                let n = oracle::sizes(self.state.as_ref()?);
+                let n = self.panel.as_ref()?.sizes();
                 n.map(|x| x.to_string()).join(" ")
             }
             "blake" => MessageId::from_content(&unhex(words.get(1)?)?).to_string(),

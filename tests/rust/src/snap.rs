@@ -25,7 +25,7 @@ pub struct Cached {
 }
 
 /// Maps stand sorted by their keys, lists in their own order, expiry lists in the order they would
-/// pop.
+/// pop. The quiet neighbours stand among the lazy ones too.
 #[derive(Clone, Debug, Default, PartialEq, Eq)]
 pub struct Snap {
     pub me: u64,
@@ -36,6 +36,7 @@ pub struct Snap {
     pub announce: bool,
     pub eager: Vec<u64>,
     pub lazy: Vec<u64>,
+    pub quiet: Vec<u64>,
     pub received: Vec<(Id, u64)>,
     pub rexp: Vec<(u64, Id)>,
     pub cache: Vec<Cached>,
@@ -91,6 +92,9 @@ impl Snap {
         write!(o, " announce={}", flag(self.announce)).unwrap();
         let peers = |v: &Vec<u64>| list(v.iter(), ',');
         write!(o, " eager={} lazy={}", peers(&self.eager), peers(&self.lazy)).unwrap();
+        if !self.quiet.is_empty() {
+            write!(o, " quiet={}", peers(&self.quiet)).unwrap();
+        }
         let v = list(self.received.iter().map(|(id, t)| format!("{}@{t}", hex(id))), ',');
         write!(o, " received={v} rexp={}", expiry(&self.rexp)).unwrap();
         let cached = |c: &Cached| {

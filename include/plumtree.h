@@ -15,8 +15,8 @@
  * WHAT A HOST DOES
  *
  *   1. Lend a block: plumtree_block_size says how many bytes. plumtree_create makes it a panel without neighbours. Tell it each planned one up.
- *   2. Tell what happens, one plumtree_event each: a neighbour is up or down, a message came over a link, the panel's own reading is to be
- *      broadcast, a timer fired.
+ *   2. Tell what happens, one plumtree_event each: a neighbour is up, up as quiet, or down, a message came over a link, the panel's own reading is
+ *      to be broadcast, a timer fired.
  *   3. Carry out the actions that the call wrote, in their order: put the message of each send that was taken onto the link to its peer,
  *      start a timer for each schedule, hand the content of each emit to the panel's screen, which greys the curve of each identifier that is
  *      told as forgotten.
@@ -64,8 +64,8 @@
  *   - "from alike blocks and equal counts, the same list of events, times, link room and output space gives the same answers and actions"
  *     (plumtree_alike).
  *   - Over a list of calls, from a creation on: tree links carry the reading, other links its identifier only, and no neighbour is passed
- *     over (docs/GUARANTEE.md). That speaks of lists in which each call gets block and counts as the one before left them. Times may go back,
- *     calls may be refused, links may hand back what they like.
+ *     over (docs/GUARANTEE.md). A quiet neighbour is sent no Gossip but in answer to its own Graft that names the identifier. That speaks of lists in
+ *     which each call gets block and counts as the one before left them. Times may go back, calls may be refused, links may hand back what they like.
  *   - "From a return on, the list of calls that the guarantees speak about is the one up to the saving, followed by the calls since the return."
  *     That speaks of an area that "starts as zeros" and that savings alone have written.
  *   - From an accepted creation on, no call is answered 5 as long as nobody else writes the block: a return brings back a whole one.
@@ -74,6 +74,7 @@
  * can leave it half written, and question 5 does not find every such block: whoever keeps a block over that goes on from a copy made
  * between two calls. Question 5 is no checksum either: a block in a file wants one of its own. With the block are kept the timers that have
  * not been told: what waits for one that is lost is never sent. The panel still has its neighbours: one that is gone meanwhile is told down.
+ * A link's mark stands in one byte of the block: 0 eager, 1 lazy, 2 quiet. Blocks from before event kind 5 hold 0 and 1 there, and read as before.
  *
  * An area is plain bytes too. A saving that is cut off can leave it half written: then mostly every call upon it is answered 17, but a state that
  * is damaged and not found so can stand in it; whoever keeps an area over that goes on from a copy made between two calls. A return that is cut off
@@ -384,8 +385,9 @@ struct plumtree_answer plumtree_event(uint8_t *block, size_t block_length, struc
 /*
  * Whether two blocks hold the same: "yes exactly when own peer number, settings, limits, sets, flags and maps agree". It "also compares the order of
  * announcers, queues and records, and the order of expiry entries of one time". Each neighbour has a queue and a record of its own: how the rows of
- * different neighbours are interleaved in the block is not compared, nor the length of the blocks, nor bytes that hold nothing. Comparing bytes says
- * less: alike blocks can be laid out in different bytes. Asks 5 of either block, and nothing else; nothing is written.
+ * different neighbours are interleaved in the block is not compared, nor the length of the blocks, nor bytes that hold nothing. A quiet neighbour and
+ * a lazy one are not alike. Comparing bytes says less: alike blocks can be laid out in different bytes. Asks 5 of either block, and nothing else;
+ * nothing is written.
  * From alike blocks and equal counts the same calls give the same answers, refusals too, and the same actions; then the blocks are alike and the counts
  * equal again. The counts are no part of the block, and are compared by the host (docs/LINKING.md, What a commissioning sheet can rely on).
  */
@@ -471,6 +473,7 @@ struct plumtree_answer plumtree_return(uint8_t *block, size_t block_length, stru
  *     timer              02  TIMER
  *     neighbour up       03  peer
  *     neighbour down     04  peer
+ *     up, quiet          05  peer
  *
  * The actions, one after another:
  *
@@ -502,7 +505,7 @@ struct plumtree_answer plumtree_return(uint8_t *block, size_t block_length, stru
  * was kept, of one time the oldest first. One cached anew meanwhile is kept longer, and told once. The identifier is known for message_id_retention,
  * and the content emitted again only after that. A tick that is answered 14 has forgotten nothing.
  *
- * Neighbors: sent once to the eager neighbours, announced to nobody, not sent on; who is lazy does not get it.
+ * Neighbors: sent once to the eager neighbours, announced to nobody, not sent on; who is lazy or quiet does not get it.
  *
  * Up: told at both ends of a link. Who is whose neighbour is the host's business: three each are a good choice. The neighbour gets what is
  * taken in from then on, and not what came before. So each planned neighbour is told up right after creation, and has room 0 until its link is
@@ -510,6 +513,11 @@ struct plumtree_answer plumtree_return(uint8_t *block, size_t block_length, stru
  * is there; one that does not come is told down.
  * Down: what waits for the neighbour is forgotten, and it does not get what is taken in until it is up again; so a link that will come back is
  * not told down, but has room 0.
+ * Up, quiet: for a link that must never carry unasked payload. A quiet neighbour is lazy, and stays so whatever comes, until it is told down or up by
+ * kind 3. Announcements, Grafts and Prunes go to it as to any lazy one; a Gossip goes to it only in answer to its own Graft that names the identifier.
+ * A link carries payload both ways: a Graft that this panel sends makes the panel at the other end push to it. So a link carries none unasked only when
+ * both ends are told by kind 5. Kind 5 makes a neighbour that is up already quiet, and kind 3 makes a quiet one an ordinary, eager one again; what
+ * waits for it stays either way. The rest is as with up: each planned quiet neighbour is told right after creation, and has room 0 until its link is there.
  * Broadcast: told while no neighbour is up it is accepted and reaches nobody: where none is planned, hold it back until one is. (Holding it back
  * does not do for planned ones: the first that is up may have no other neighbour yet.) The same content told again while it is known
  * (message_id_retention, 90 s) is one message, and nobody emits it a second time: a reading carries its panel's number and a sequence number or
@@ -519,7 +527,7 @@ struct plumtree_answer plumtree_return(uint8_t *block, size_t block_length, stru
  * content has at most 4,055 bytes where M is 4,094 and 471 where it is 510, three more for Neighbors: "Size is content + its length's groups
  * + 37, or 34 for Neighbors." A Gossip whose identifier is not that of its content is accepted, counted, and leads to nothing.
  *
- * Examples, in hexadecimal: `03 02` neighbour 2 is up. `02 01` DispatchLazyPush fired. `00 05 01` a Prune from 5.
+ * Examples, in hexadecimal: `03 02` neighbour 2 is up. `05 02` it is up, quiet. `02 01` DispatchLazyPush fired. `00 05 01` a Prune from 5.
  * `01 05 31 34 35 32 43 00` broadcast of "1452C" to all panels. The action `02 E8 07 02`: schedule EvictCache in 1,000. `04` and 32 bytes: forgotten.
  */
 enum plumtree_event_kind {
@@ -527,7 +535,8 @@ enum plumtree_event_kind {
     PLUMTREE_EVENT_BROADCAST = 1,
     PLUMTREE_EVENT_TIMER = 2,
     PLUMTREE_EVENT_UP = 3,
-    PLUMTREE_EVENT_DOWN = 4
+    PLUMTREE_EVENT_DOWN = 4,
+    PLUMTREE_EVENT_UP_QUIET = 5
 };
 
 enum plumtree_action_kind {

@@ -2,7 +2,7 @@
  * wire.h: events written and actions read, as plumtree.h tells their bytes. Plain C to copy into a host; each name begins with plumtree_.
  *
  * A writer appends to a buffer that holds `length` bytes and answers the new length; the caller sees to it that there is room. The most bytes
- * that an event takes: a received message 11 and the message, a broadcast 12 and the content, a timer 34, up and down 11. A message that a
+ * that an event takes: a received message 11 and the message, a broadcast 12 and the content, a timer 34, up, up as quiet and down 11. A message that a
  * panel sends has at most M + 1 bytes, so 12 + M bytes hold every event of a host whose contents are at most M bytes long.
  *
  * A reader takes fields from the left of `bytes` and sets `bad` where they end early or hold a kind that it does not know; the bytes of an
@@ -32,6 +32,13 @@ static inline size_t plumtree_put_number(uint8_t *out, size_t length, uint64_t v
 static inline size_t plumtree_put_up(uint8_t *out, uint64_t peer)
 {
     out[0] = PLUMTREE_EVENT_UP;
+    return plumtree_put_number(out, 1, peer);
+}
+
+/* Neighbour up, quiet: 2 to 11 bytes. */
+static inline size_t plumtree_put_up_quiet(uint8_t *out, uint64_t peer)
+{
+    out[0] = PLUMTREE_EVENT_UP_QUIET;
     return plumtree_put_number(out, 1, peer);
 }
 

@@ -1,5 +1,5 @@
 #!/usr/bin/env bash
-# The binding for Rust, from a copy elsewhere: what it does without the archive, the reader on three runs of panelrun, its tests and examples, its
+# The binding for Rust, from a copy elsewhere: what it does without the archive, the reader on four runs of panelrun, its tests and examples, its
 # documentation's examples, and its tests under valgrind.
 # PLUMTREE_LIB_DIR can name the directory of another libplumtree.a than the proved one.
 set -euo pipefail
@@ -24,13 +24,13 @@ cd "$copy"
 
 export RUSTFLAGS="-D warnings"
 
-# Without the archive all of it is checked, the library is built, and the reader runs, on the specification's example and on a longer run. A program that
+# Without the archive all of it is checked, the library is built, and the reader runs, on the specification's example and on longer runs. A program that
 # calls the library is not linked, and the message says what is missing.
 none=$out/none
 without() { PLUMTREE_LIB_DIR=$none cargo "$1" --offline -q --target-dir "$out/without" "${@:2}"; }
 without check --all-targets
 without build --lib
-for run in worked forgotten longer; do
+for run in worked forgotten quiet longer; do
     without run --example read -- tests/runs/$run.input tests/runs/$run.output | diff tests/runs/$run.expected -
 done
 if without build --example swarm >"$out/without.log" 2>&1; then die "linked without the archive"; fi

@@ -1,5 +1,5 @@
 /*
- * Whether two panels are alike: the order of announcers, queues and records, and of expiry entries of one time, is seen; how the lists of different neighbours stand in
+ * Whether two panels are alike: the order of announcers, queues and records, and of expiry entries of one time, and who is quiet, is seen; how the lists of different neighbours stand in
  * the block, expiry entries of different times, spare bytes and the block's length are not. The panels are led to by two lists of calls that differ in one thing.
  * From alike blocks and equal counts the same calls give the same answers and actions.
  */
@@ -70,6 +70,12 @@ static void up(struct panel *p, uint64_t peer)
 {
     uint8_t event[16];
     tell(p, 0, event, plumtree_put_up(event, peer), false);
+}
+
+static void up_quiet(struct panel *p, uint64_t peer)
+{
+    uint8_t event[16];
+    tell(p, 0, event, plumtree_put_up_quiet(event, peer), false);
 }
 
 /* A Prune from a neighbour makes it lazy, a Graft without an identifier eager. */
@@ -152,9 +158,13 @@ static void alike_through_calls(struct panel *a, struct panel *b)
         {(uint64_t)1 << 63, false, 2, {PLUMTREE_EVENT_TIMER, PLUMTREE_TIMER_ANNOUNCE_DROPPED}},
         {100, false, 3, {PLUMTREE_EVENT_RECEIVED, 3, PLUMTREE_MESSAGE_PRUNE}},
         {100, false, 2, {PLUMTREE_EVENT_UP, 0x80}},
+        {100, false, 2, {PLUMTREE_EVENT_UP_QUIET, 3}},
         {100, true, 4, {PLUMTREE_EVENT_BROADCAST, 1, 78, PLUMTREE_DELIVERY_SWARM}},
         {100, false, 2, {PLUMTREE_EVENT_TIMER, PLUMTREE_TIMER_ANNOUNCE_DROPPED}},
         {100, false, 2, {PLUMTREE_EVENT_TIMER, PLUMTREE_TIMER_DISPATCH_LAZY_PUSH}},
+        {100, false, 5, {PLUMTREE_EVENT_RECEIVED, 3, PLUMTREE_MESSAGE_GRAFT, 0, 0}},
+        {100, false, 4, {PLUMTREE_EVENT_BROADCAST, 1, 79, PLUMTREE_DELIVERY_SWARM}},
+        {100, false, 2, {PLUMTREE_EVENT_UP, 3}},
         {100, false, 2, {PLUMTREE_EVENT_DOWN, 2}},
         {40000, false, 2, {PLUMTREE_EVENT_TIMER, PLUMTREE_TIMER_EVICT_CACHE}},
     };
@@ -292,6 +302,36 @@ static struct panel *two_announcers(bool other)
     return p;
 }
 
+/* The neighbour 2, told by kind 5 or by kind 3; and pruned, so that the latter is lazy; told so from the first, or told up by the other kind before. */
+static struct panel *one_marked(bool quiet, bool pruned, bool other_before)
+{
+    struct panel *p = new_panel(0, quiet ? 3 : 4);
+    if (other_before)
+        (quiet ? up : up_quiet)(p, 2);
+    (quiet ? up_quiet : up)(p, 2);
+    if (pruned)
+        make_lazy(p, 2);
+    broadcast(p, 0, 1, true);
+    return p;
+}
+
+/* A quiet neighbour and a lazy one, with the same queue: the ticks are answered the same, and after a Graft of the neighbour no more than that. */
+static void quiet_and_lazy(void)
+{
+    struct panel *a = one_marked(true, true, false), *b = one_marked(false, true, false);
+    CHECK(!alike(a, b));
+    tick(a, PLUMTREE_TIMER_DISPATCH_LAZY_PUSH, false);
+    tick(b, PLUMTREE_TIMER_DISPATCH_LAZY_PUSH, false);
+    CHECK(same_answer(a, b) && a->answer.length > 0 && same_counts(a, b));
+    make_eager(a, 2);
+    make_eager(b, 2);
+    broadcast(a, 100, 2, false);
+    broadcast(b, 100, 2, false);
+    CHECK(!same_answer(a, b));
+    free_panel(a);
+    free_panel(b);
+}
+
 /* Two panels that are not alike, though their counts are equal. */
 static void not_alike(struct panel *a, struct panel *b, int line)
 {
@@ -349,6 +389,14 @@ int main(void)
     both_alike(two_broadcasts(false, 5, false, false), two_broadcasts(true, 5, false, false));
     NOT_ALIKE(two_grafts(false, 0), two_grafts(true, 0));
     both_alike(two_grafts(false, 5), two_grafts(true, 5));
+    /* Eager, lazy and quiet are three marks; how a neighbour came to its mark is not seen. */
+    NOT_ALIKE(one_marked(true, true, false), one_marked(false, true, false));
+    NOT_ALIKE(one_marked(true, false, false), one_marked(false, false, false));
+    both_alike(one_marked(true, true, false), one_marked(true, true, true));
+    both_alike(one_marked(false, true, false), one_marked(false, true, true));
+    both_alike(one_marked(true, false, false), one_marked(true, false, true));
+    both_alike(one_marked(false, false, false), one_marked(false, false, true));
+    quiet_and_lazy();
     what_else_is_needed();
     printf("%s\n", failed ? "alike: not as promised" : "alike: as promised");
     return failed;

@@ -1,6 +1,6 @@
 /*
  * The library called from C: that the header's structs are where the library reads them, each refusal and that it touches nothing, each limit that
- * a call can meet, what is forgotten, messages rewritten, states saved and returned to, null pointers with length 0. Every lent part is a heap block of exactly its length, so that valgrind sees a
+ * a call can meet, what is forgotten, quiet neighbours, messages rewritten, states saved and returned to, null pointers with length 0. Every lent part is a heap block of exactly its length, so that valgrind sees a
  * step beyond it.
  */
 #include <stdio.h>
@@ -392,15 +392,20 @@ static void event_lengths(void)
     CHECK(plumtree_put_timer(event, timer, sizeof timer) == 34);
     CHECK(plumtree_put_tick(event, PLUMTREE_TIMER_EVICT_CACHE) == sizeof evict && memcmp(event, evict, sizeof evict) == 0);
     CHECK(plumtree_put_up(event, UINT64_MAX) == 11);
+    CHECK(plumtree_put_up_quiet(event, UINT64_MAX) == 11);
     CHECK(plumtree_put_down(event, UINT64_MAX) == 11);
 }
 
 static void events(void)
 {
-    static const uint8_t unknown[] = {5};
+    static const uint8_t unknown[] = {6}, unknown_up[] = {6, 2}, last[] = {255, 2};
     static const uint8_t cut[] = {PLUMTREE_EVENT_UP, 0x80};
     static const uint8_t longer[] = {PLUMTREE_EVENT_UP, 0x80, 0x00};
     static const uint8_t more[] = {PLUMTREE_EVENT_UP, 4, 0};
+    static const uint8_t quiet_none[] = {PLUMTREE_EVENT_UP_QUIET};
+    static const uint8_t quiet_cut[] = {PLUMTREE_EVENT_UP_QUIET, 0x80};
+    static const uint8_t quiet_longer[] = {PLUMTREE_EVENT_UP_QUIET, 0x80, 0x00};
+    static const uint8_t quiet_more[] = {PLUMTREE_EVENT_UP_QUIET, 2, 0};
     static const uint8_t prune[] = {PLUMTREE_EVENT_RECEIVED, 2, PLUMTREE_MESSAGE_PRUNE};
     static const uint8_t padded[] = {PLUMTREE_EVENT_RECEIVED, 2, PLUMTREE_MESSAGE_GRAFT, 0, 0x80, 0x00};
     static const uint8_t over[] = {PLUMTREE_EVENT_RECEIVED, 2, PLUMTREE_MESSAGE_GRAFT, 0, 0x80, 0x80, 0x80, 0x00};
@@ -423,13 +428,20 @@ static void events(void)
     tell(&p, 0, event, plumtree_put_up(event, 2));
     tell(&p, 0, event, plumtree_put_up(event, 3));
     REFUSED(&p, 0, event, plumtree_put_up(event, 4), 64, PLUMTREE_LIMIT_REACHED);
+    REFUSED(&p, 0, event, plumtree_put_up_quiet(event, 4), 64, PLUMTREE_LIMIT_REACHED);
 
     REFUSED(&p, ((uint64_t)1 << 62) + 1, evict, sizeof evict, 64, PLUMTREE_TIME_TOO_LATE);
     REFUSED(&p, 0, NULL, 0, 64, PLUMTREE_EVENT_CUT);
     REFUSED(&p, 0, cut, sizeof cut, 64, PLUMTREE_EVENT_CUT);
     REFUSED(&p, 0, unknown, sizeof unknown, 64, PLUMTREE_EVENT_MALFORMED);
+    REFUSED(&p, 0, unknown_up, sizeof unknown_up, 64, PLUMTREE_EVENT_MALFORMED);
+    REFUSED(&p, 0, last, sizeof last, 64, PLUMTREE_EVENT_MALFORMED);
     REFUSED(&p, 0, longer, sizeof longer, 64, PLUMTREE_EVENT_MALFORMED);
     REFUSED(&p, 0, more, sizeof more, 64, PLUMTREE_EVENT_TOO_LONG);
+    REFUSED(&p, 0, quiet_none, sizeof quiet_none, 64, PLUMTREE_EVENT_CUT);
+    REFUSED(&p, 0, quiet_cut, sizeof quiet_cut, 64, PLUMTREE_EVENT_CUT);
+    REFUSED(&p, 0, quiet_longer, sizeof quiet_longer, 64, PLUMTREE_EVENT_MALFORMED);
+    REFUSED(&p, 0, quiet_more, sizeof quiet_more, 64, PLUMTREE_EVENT_TOO_LONG);
 
     /* A Gossip of 4,095 bytes, and M is 4,094. */
     memset(event, 0, sizeof event);
@@ -654,6 +666,391 @@ static void all_forgotten(void)
     free_panel(q);
 }
 
+/* How many messages of a kind were sent to a peer by the call whose output stands in `output`, and the identifier of the last of them. */
+static int sent_of(struct plumtree_reader r, uint64_t peer, uint8_t kind, uint8_t *id)
+{
+    struct plumtree_action a;
+    int sends = 0;
+    while (plumtree_take_action(&r, &a))
+        if (a.kind == PLUMTREE_ACTION_SEND && a.peer == peer && a.message.kind == kind) {
+            if (id && a.message.id)
+                memcpy(id, a.message.id, PLUMTREE_ID_BYTES);
+            sends++;
+        }
+    CHECK(!r.bad);
+    return sends;
+}
+
+/* Whether a broadcast pushes to a peer. */
+static bool pushes(struct panel *p, uint64_t peer, const char *content, uint8_t *id)
+{
+    uint8_t event[64];
+    struct plumtree_reader r = tell(p, 0, event, plumtree_put_broadcast(event, content, strlen(content), PLUMTREE_DELIVERY_SWARM));
+    int sends = sent_of(r, peer, PLUMTREE_MESSAGE_GOSSIP, id);
+    CHECK(sends < 2);
+    return sends == 1;
+}
+
+/* What a dispatch tick sends to a peer: how many IHaves, and how many identifiers in the last of them. */
+static int announces(struct panel *p, uint64_t peer, uint64_t *identifiers)
+{
+    static const uint8_t dispatch[] = {PLUMTREE_EVENT_TIMER, PLUMTREE_TIMER_DISPATCH_LAZY_PUSH};
+    struct plumtree_reader r = tell(p, 0, dispatch, sizeof dispatch);
+    struct plumtree_action a;
+    int sends = 0;
+    *identifiers = 0;
+    while (plumtree_take_action(&r, &a))
+        if (a.kind == PLUMTREE_ACTION_SEND && a.peer == peer) {
+            CHECK(a.taken && a.message.kind == PLUMTREE_MESSAGE_IHAVE);
+            *identifiers = a.message.count;
+            sends++;
+        }
+    return sends;
+}
+
+/* The timer of an identifier, 32 times this byte. */
+static size_t send_graft(uint8_t *event, int id)
+{
+    uint8_t timer[1 + PLUMTREE_ID_BYTES];
+    memset(timer, id, sizeof timer);
+    timer[0] = PLUMTREE_TIMER_SEND_GRAFT;
+    return plumtree_put_timer(event, timer, sizeof timer);
+}
+
+/* A Graft for an identifier, or without one; an IHave of it at a round. */
+static size_t graft_of(uint8_t *event, uint8_t peer, const uint8_t *id)
+{
+    uint8_t message[3 + PLUMTREE_ID_BYTES] = {PLUMTREE_MESSAGE_GRAFT, 0, 0};
+    if (!id)
+        return plumtree_put_received(event, peer, message, 3);
+    message[1] = 1;
+    memcpy(message + 2, id, PLUMTREE_ID_BYTES);
+    message[2 + PLUMTREE_ID_BYTES] = 0;
+    return plumtree_put_received(event, peer, message, 3 + PLUMTREE_ID_BYTES);
+}
+
+static size_t ihave_of(uint8_t *event, uint8_t peer, const uint8_t *id, uint8_t round)
+{
+    uint8_t message[3 + PLUMTREE_ID_BYTES] = {PLUMTREE_MESSAGE_IHAVE, 1};
+    memcpy(message + 2, id, PLUMTREE_ID_BYTES);
+    message[2 + PLUMTREE_ID_BYTES] = round;
+    return plumtree_put_received(event, peer, message, sizeof message);
+}
+
+/* A Gossip of this content as panel 9 broadcasts it, with another round (0 to 127). */
+static size_t gossip_of(uint8_t *message, uint8_t *id, const char *content, uint8_t round)
+{
+    struct panel q = new_panel(plumtree_default_settings(9), plumtree_small_limits());
+    struct plumtree_reader r;
+    struct plumtree_action a;
+    uint8_t event[64];
+    size_t n = 0;
+    tell(&q, 0, event, plumtree_put_up(event, 1));
+    r = tell(&q, 0, event, plumtree_put_broadcast(event, content, strlen(content), PLUMTREE_DELIVERY_SWARM));
+    while (plumtree_take_action(&r, &a))
+        if (a.kind == PLUMTREE_ACTION_SEND) {
+            n = a.message.length;
+            memcpy(message, a.message.bytes, n);
+            memcpy(id, a.message.id, PLUMTREE_ID_BYTES);
+            message[n - 1] = round;
+        }
+    free_panel(q);
+    return n;
+}
+
+/* The event kind 5: a quiet neighbour is announced to and answered, and never pushed to, until it is told down or up by kind 3. */
+static void quiet(void)
+{
+    static const uint8_t prune[] = {PLUMTREE_EVENT_RECEIVED, 2, PLUMTREE_MESSAGE_PRUNE};
+    static const uint8_t announce[] = {PLUMTREE_EVENT_TIMER, PLUMTREE_TIMER_ANNOUNCE_DROPPED};
+    struct plumtree_link_room full = {2, 0};
+    struct panel p = new_panel(plumtree_default_settings(1), plumtree_small_limits());
+    struct plumtree_answer answer;
+    struct plumtree_reader r;
+    uint8_t event[128], message[64], id[PLUMTREE_ID_BYTES], other[PLUMTREE_ID_BYTES];
+    uint64_t identifiers;
+    size_t n;
+
+    /* It leads to no action, as up does, and is no first event: the broadcast schedules the eviction. */
+    CHECK(tell(&p, 0, event, plumtree_put_up_quiet(event, 2)).left == 0);
+    CHECK(tell(&p, 0, event, plumtree_put_up(event, 3)).left == 0);
+    r = tell(&p, 0, event, plumtree_put_broadcast(event, "a", 1, PLUMTREE_DELIVERY_SWARM));
+    CHECK(sent_of(r, 2, PLUMTREE_MESSAGE_GOSSIP, NULL) == 0 && sent_of(r, 3, PLUMTREE_MESSAGE_GOSSIP, id) == 1);
+    schedules(&r, PLUMTREE_TIMER_EVICT_CACHE, 1000);
+    schedules(&r, PLUMTREE_TIMER_DISPATCH_LAZY_PUSH, 5);
+
+    /* Queued for it, and announced. */
+    CHECK(announces(&p, 2, &identifiers) == 1 && identifiers == 1);
+    CHECK(announces(&p, 2, &identifiers) == 0);
+
+    /* Its Graft is answered from the cache, and it stays lazy; a Graft without an identifier is answered by nothing. */
+    r = tell(&p, 0, event, graft_of(event, 2, id));
+    CHECK(sent_of(r, 2, PLUMTREE_MESSAGE_GOSSIP, other) == 1 && memcmp(id, other, sizeof id) == 0);
+    CHECK(!pushes(&p, 2, "b", NULL));
+    CHECK(tell(&p, 0, event, graft_of(event, 2, NULL)).left == 0);
+    CHECK(!pushes(&p, 2, "c", NULL));
+    CHECK(announces(&p, 2, &identifiers) == 1 && identifiers == 2);
+
+    /* A Prune leaves it quiet, as a second copy does: the Graft after that makes it eager no more than the first one. */
+    CHECK(tell(&p, 0, prune, sizeof prune).left == 0);
+    tell(&p, 0, event, graft_of(event, 2, id));
+    CHECK(!pushes(&p, 2, "d", NULL));
+    n = gossip_of(message, id, "a", 0);
+    r = tell(&p, 0, event, plumtree_put_received(event, 2, message, n));
+    CHECK(sent_of(r, 2, PLUMTREE_MESSAGE_PRUNE, NULL) == 1);
+    tell(&p, 0, event, graft_of(event, 2, NULL));
+    CHECK(!pushes(&p, 2, "e", NULL));
+
+    /* As the first announcer it is asked, and stays lazy. */
+    memset(other, 8, sizeof other);
+    tell(&p, 0, event, ihave_of(event, 2, other, 3));
+    r = tell(&p, 0, event, send_graft(event, 8));
+    CHECK(sent_of(r, 2, PLUMTREE_MESSAGE_GRAFT, id) == 1 && memcmp(id, other, sizeof id) == 0);
+    CHECK(!pushes(&p, 2, "f", NULL));
+
+    /* Far closer than the sender it is asked for the next ones, each time, and stays lazy; the sender is pruned. */
+    n = gossip_of(message, id, "g", 9);
+    tell(&p, 0, event, ihave_of(event, 2, id, 0));
+    r = tell(&p, 0, event, plumtree_put_received(event, 3, message, n));
+    CHECK(sent_of(r, 2, PLUMTREE_MESSAGE_GRAFT, NULL) == 1 && sent_of(r, 3, PLUMTREE_MESSAGE_PRUNE, NULL) == 1);
+    CHECK(sent_of(r, 2, PLUMTREE_MESSAGE_GOSSIP, NULL) == 0);
+    tell(&p, 0, event, plumtree_put_up(event, 3));
+    n = gossip_of(message, id, "h", 9);
+    tell(&p, 0, event, ihave_of(event, 2, id, 0));
+    r = tell(&p, 0, event, plumtree_put_received(event, 3, message, n));
+    CHECK(sent_of(r, 2, PLUMTREE_MESSAGE_GRAFT, NULL) == 1 && sent_of(r, 3, PLUMTREE_MESSAGE_PRUNE, NULL) == 1);
+    CHECK(!pushes(&p, 2, "i", NULL));
+
+    /* A Neighbors broadcast does not reach it. */
+    r = tell(&p, 0, event, plumtree_put_broadcast(event, "j", 1, PLUMTREE_DELIVERY_NEIGHBORS));
+    CHECK(r.left == 0);
+
+    /* Kind 3 makes it an ordinary, eager neighbour; kind 5 makes that one quiet again; down and up by kind 3 make it eager. */
+    tell(&p, 0, event, plumtree_put_up(event, 2));
+    CHECK(pushes(&p, 2, "k", NULL));
+    tell(&p, 0, event, plumtree_put_up_quiet(event, 2));
+    CHECK(!pushes(&p, 2, "l", NULL));
+    tell(&p, 0, event, graft_of(event, 2, NULL));
+    CHECK(!pushes(&p, 2, "m", NULL));
+    tell(&p, 0, event, plumtree_put_down(event, 2));
+    tell(&p, 0, event, graft_of(event, 2, NULL));
+    tell(&p, 0, event, plumtree_put_up(event, 2));
+    CHECK(pushes(&p, 2, "n", NULL));
+
+    /* Kind 5 for a lazy one, whose Graft would make it eager otherwise. */
+    tell(&p, 0, prune, sizeof prune);
+    tell(&p, 0, event, plumtree_put_up_quiet(event, 2));
+    tell(&p, 0, event, graft_of(event, 2, NULL));
+    CHECK(!pushes(&p, 2, "o", NULL));
+    free_panel(p);
+
+    /* What waits for a neighbour stays when it is told quiet: what is queued, and what a link handed back. */
+    p = new_panel(plumtree_default_settings(1), plumtree_small_limits());
+    tell(&p, 0, event, plumtree_put_up(event, 2));
+    n = plumtree_put_broadcast(event, "a", 1, PLUMTREE_DELIVERY_SWARM);
+    answer = plumtree_event(p.block, p.block_length, p.counts, 0, event, n, &full, 1, output, sizeof output);
+    CHECK(answer.number == PLUMTREE_ACCEPTED);
+    CHECK(sent_of(plumtree_actions_of(output, answer.length), 2, PLUMTREE_MESSAGE_GOSSIP, id) == 1);
+    tell(&p, 0, prune, sizeof prune);
+    CHECK(!pushes(&p, 2, "b", NULL));
+    tell(&p, 0, event, plumtree_put_up_quiet(event, 2));
+    tell(&p, 0, announce, sizeof announce);
+    CHECK(announces(&p, 2, &identifiers) == 1 && identifiers == 2);
+
+    /* What a link of it hands back of an answer is recorded, and announced. */
+    n = graft_of(event, 2, id);
+    answer = plumtree_event(p.block, p.block_length, p.counts, 0, event, n, &full, 1, output, sizeof output);
+    CHECK(sent_of(plumtree_actions_of(output, answer.length), 2, PLUMTREE_MESSAGE_GOSSIP, NULL) == 1);
+    tell(&p, 0, announce, sizeof announce);
+    CHECK(announces(&p, 2, &identifiers) == 1 && identifiers == 1);
+    CHECK(!pushes(&p, 2, "c", NULL));
+    free_panel(p);
+}
+
+/* A message that 2 announced and was asked for comes from 3 and then, as late, from 2: whom the panel prunes. */
+static uint64_t pruned_by_a_late_reply(bool quiet_2)
+{
+    struct panel p = new_panel(plumtree_default_settings(1), plumtree_small_limits());
+    struct plumtree_reader r;
+    struct plumtree_action a;
+    uint8_t event[128], message[64], id[PLUMTREE_ID_BYTES], timer[1 + PLUMTREE_ID_BYTES] = {PLUMTREE_TIMER_SEND_GRAFT};
+    size_t n = gossip_of(message, id, "a", 3);
+    uint64_t pruned = 0;
+    memcpy(timer + 1, id, sizeof id);
+    tell(&p, 0, event, quiet_2 ? plumtree_put_up_quiet(event, 2) : plumtree_put_up(event, 2));
+    tell(&p, 0, event, plumtree_put_up(event, 3));
+    tell(&p, 0, event, ihave_of(event, 2, id, 3));
+    r = tell(&p, 0, event, plumtree_put_timer(event, timer, sizeof timer));
+    CHECK(sent_of(r, 2, PLUMTREE_MESSAGE_GRAFT, NULL) == 1);
+    tell(&p, 0, event, plumtree_put_received(event, 3, message, n));
+    r = tell(&p, 0, event, plumtree_put_received(event, 2, message, n));
+    while (plumtree_take_action(&r, &a))
+        if (a.kind == PLUMTREE_ACTION_SEND && a.message.kind == PLUMTREE_MESSAGE_PRUNE) {
+            CHECK(pruned == 0);
+            pruned = a.peer;
+        }
+    free_panel(p);
+    return pruned;
+}
+
+/* Panels 1 and 2 and the link between them, over which each message crosses at once. Of the Gossips that crossed to an end: how many it had not asked for, and how
+ * many answered its Graft that named them. */
+struct pair {
+    struct panel p[2];
+    int unasked[2], answers[2], emitted;
+    uint8_t timer[2][1 + PLUMTREE_ID_BYTES]; /* SendGraft, where one waits */
+    bool waits[2];
+};
+
+/* An event at an end, with the identifier that it asks for, and all that comes of it. */
+static void carry(struct pair *x, int end, const uint8_t *event, size_t n, const uint8_t *wanted)
+{
+    struct plumtree_reader r = tell(&x->p[end], 0, event, n);
+    uint8_t *actions = (uint8_t *)bytes(r.left, 0), came[128];
+    struct plumtree_action a;
+    if (r.left)
+        memcpy(actions, r.bytes, r.left);
+    r.bytes = actions;
+    while (plumtree_take_action(&r, &a)) {
+        if (a.kind == PLUMTREE_ACTION_EMIT)
+            x->emitted++;
+        if (a.kind == PLUMTREE_ACTION_SCHEDULE && a.timer[0] == PLUMTREE_TIMER_SEND_GRAFT) {
+            memcpy(x->timer[end], a.timer, a.timer_length);
+            x->waits[end] = true;
+        }
+        if (a.kind == PLUMTREE_ACTION_SEND) {
+            const uint8_t *asks = a.message.kind == PLUMTREE_MESSAGE_GRAFT ? a.message.id : NULL;
+            if (a.message.kind == PLUMTREE_MESSAGE_GOSSIP && wanted && memcmp(wanted, a.message.id, PLUMTREE_ID_BYTES) == 0)
+                x->answers[1 - end]++;
+            else if (a.message.kind == PLUMTREE_MESSAGE_GOSSIP)
+                x->unasked[1 - end]++;
+            carry(x, 1 - end, came, plumtree_put_received(came, (uint64_t)end + 1, a.message.bytes, a.message.length), asks);
+        }
+    }
+    CHECK(!r.bad);
+    free(actions);
+}
+
+/* A reading made at an end, the dispatch there, and the other end's SendGraft: it has come. */
+static void reading(struct pair *x, int end, uint8_t content)
+{
+    static const uint8_t dispatch[] = {PLUMTREE_EVENT_TIMER, PLUMTREE_TIMER_DISPATCH_LAZY_PUSH};
+    uint8_t event[64];
+    int i, emitted = x->emitted;
+    carry(x, end, event, plumtree_put_broadcast(event, &content, 1, PLUMTREE_DELIVERY_SWARM), NULL);
+    for (i = 0; i < 2; i++)
+        carry(x, i, dispatch, sizeof dispatch, NULL);
+    for (i = 0; i < 2; i++) {
+        if (x->waits[i])
+            carry(x, i, event, plumtree_put_timer(event, x->timer[i], sizeof x->timer[i]), NULL);
+        x->waits[i] = false;
+    }
+    CHECK(x->emitted == emitted + 1);
+}
+
+/* A link carries payload both ways. Four readings from each end, by turns: what crossed to each unasked. */
+static void both_ends(bool quiet_1, bool quiet_2, int to_1, int to_2, int line)
+{
+    struct pair x;
+    uint8_t event[16], i;
+    memset(&x, 0, sizeof x);
+    for (i = 0; i < 2; i++) {
+        x.p[i] = new_panel(plumtree_default_settings((uint64_t)i + 1), plumtree_small_limits());
+        carry(&x, i, event, (i ? quiet_2 : quiet_1) ? plumtree_put_up_quiet(event, 2 - i) : plumtree_put_up(event, 2 - i), NULL);
+    }
+    for (i = 0; i < 8; i++)
+        reading(&x, i % 2, i);
+    if (x.unasked[0] != to_1 || x.unasked[1] != to_2 || x.unasked[0] + x.answers[0] != 4 || x.unasked[1] + x.answers[1] != 4) {
+        printf("calls.c:%d: %d and %d unasked, %d and %d asked for\n", line, x.unasked[0], x.unasked[1], x.answers[0], x.answers[1]);
+        failed = 1;
+    }
+
+    /* Made ordinary, or quiet, at both ends while readings go on. */
+    for (i = 0; i < 2; i++)
+        carry(&x, i, event, quiet_1 && quiet_2 ? plumtree_put_up(event, 2 - i) : plumtree_put_up_quiet(event, 2 - i), NULL);
+    memset(x.unasked, 0, sizeof x.unasked);
+    for (i = 8; i < 16; i++)
+        reading(&x, i % 2, i);
+    CHECK(x.unasked[0] == (quiet_1 && quiet_2 ? 4 : 0) && x.unasked[1] == x.unasked[0]);
+    free_panel(x.p[0]);
+    free_panel(x.p[1]);
+}
+
+/* A Graft that a panel sends makes the other end push to it: the neighbour 2, which a Prune made lazy, after the first reading that is asked for. */
+static void grafts_open_a_link(void)
+{
+    static const uint8_t prune[] = {PLUMTREE_EVENT_RECEIVED, 1, PLUMTREE_MESSAGE_PRUNE};
+    struct pair x;
+    uint8_t event[16];
+    memset(&x, 0, sizeof x);
+    x.p[0] = new_panel(plumtree_default_settings(1), plumtree_small_limits());
+    x.p[1] = new_panel(plumtree_default_settings(2), plumtree_small_limits());
+    carry(&x, 0, event, plumtree_put_up_quiet(event, 2), NULL);
+    carry(&x, 1, event, plumtree_put_up(event, 1), NULL);
+    carry(&x, 1, prune, sizeof prune, NULL);
+    reading(&x, 1, 0);
+    CHECK(x.unasked[0] == 0 && x.answers[0] == 1);
+    reading(&x, 1, 1);
+    CHECK(x.unasked[0] == 1 && x.answers[0] == 1);
+    free_panel(x.p[0]);
+    free_panel(x.p[1]);
+}
+
+/* A link's mark is one byte of the block: 0 eager, 1 lazy, 2 quiet. Two panels that differ in the mark alone differ in this byte, and these are its values.
+ * Any other value is read as quiet. */
+static void marked(bool quiet_a, bool pruned_a, uint8_t mark_a, bool quiet_b, bool pruned_b, uint8_t mark_b, int line)
+{
+    static const uint8_t prune[] = {PLUMTREE_EVENT_RECEIVED, 2, PLUMTREE_MESSAGE_PRUNE}, prune_4[] = {PLUMTREE_EVENT_RECEIVED, 4, PLUMTREE_MESSAGE_PRUNE};
+    struct panel p[2];
+    uint8_t event[16];
+    size_t i, at = 0, differ = 0;
+    for (i = 0; i < 2; i++) {
+        p[i] = new_panel(plumtree_default_settings(1), plumtree_small_limits());
+        memset(p[i].block, 0, p[i].block_length);
+        CHECK(plumtree_create(p[i].block, p[i].block_length, p[i].counts, plumtree_default_settings(1), plumtree_small_limits()).number == PLUMTREE_ACCEPTED);
+        tell(&p[i], 0, event, plumtree_put_up(event, 3));
+        tell(&p[i], 0, event, (i ? quiet_b : quiet_a) ? plumtree_put_up_quiet(event, 2) : plumtree_put_up(event, 2));
+        tell(&p[i], 0, (i ? pruned_b : pruned_a) ? prune : prune_4, sizeof prune);
+    }
+    for (i = 0; i < p[0].block_length; i++)
+        if (p[0].block[i] != p[1].block[i]) {
+            at = i;
+            differ++;
+        }
+    if (differ != 1 || p[0].block[at] != mark_a || p[1].block[at] != mark_b) {
+        printf("calls.c:%d: %zu bytes differ, of the marks %d and %d\n", line, differ, p[0].block[at], p[1].block[at]);
+        failed = 1;
+    }
+    memcpy(p[0].block, p[1].block, p[0].block_length);
+    for (i = 0; i < 256; i++) {
+        struct plumtree_likeness likeness;
+        p[0].block[at] = (uint8_t)i;
+        likeness = plumtree_alike(p[0].block, p[0].block_length, p[1].block, p[1].block_length);
+        CHECK(likeness.number == PLUMTREE_ACCEPTED && likeness.alike == ((i < 2 ? i : 2) == mark_b));
+    }
+    free_panel(p[0]);
+    free_panel(p[1]);
+}
+
+static void marks(void)
+{
+    marked(false, false, 0, false, true, 1, __LINE__);
+    marked(false, false, 0, true, false, 2, __LINE__);
+    marked(false, true, 1, true, true, 2, __LINE__);
+}
+
+static void quiet_links(void)
+{
+    /* A quiet one that was asked is not eager, so that its reply is a second copy. */
+    CHECK(pruned_by_a_late_reply(false) == 3);
+    CHECK(pruned_by_a_late_reply(true) == 2);
+    both_ends(false, false, 4, 4, __LINE__);
+    both_ends(true, false, 4, 0, __LINE__);
+    both_ends(false, true, 0, 4, __LINE__);
+    both_ends(true, true, 0, 0, __LINE__);
+    grafts_open_a_link();
+}
+
 /* The limit that is told for an event at 0 with this link room, before the call and again after a refusal; the call is answered 13 exactly if one is. */
 static uint8_t met_with(struct panel *p, const uint8_t *event, size_t n, const struct plumtree_link_room *list, size_t length)
 {
@@ -669,7 +1066,7 @@ static uint8_t met(struct panel *p, const uint8_t *event, size_t n)
     return met_with(p, event, n, NULL, 0);
 }
 
-/* An IHave of two identifiers from 2; the timer of the first, or of the second. */
+/* An IHave of two identifiers from 2. */
 static size_t two_announced(uint8_t *event)
 {
     event[0] = PLUMTREE_EVENT_RECEIVED;
@@ -681,14 +1078,6 @@ static size_t two_announced(uint8_t *event)
     memset(event + 37, 9, PLUMTREE_ID_BYTES);
     event[69] = 5;
     return 70;
-}
-
-static size_t send_graft(uint8_t *event, int id)
-{
-    uint8_t timer[1 + PLUMTREE_ID_BYTES];
-    memset(timer, id, sizeof timer);
-    timer[0] = PLUMTREE_TIMER_SEND_GRAFT;
-    return plumtree_put_timer(event, timer, sizeof timer);
 }
 
 /* A panel with the neighbours 2 and 3 and these limits. */
@@ -715,9 +1104,12 @@ static void limits_met(void)
     l.neighbours = 2;
     p = two_neighbours(l);
     CHECK(met(&p, event, plumtree_put_up(event, 4)) == PLUMTREE_LIMIT_NEIGHBOURS);
+    CHECK(met(&p, event, plumtree_put_up_quiet(event, 4)) == PLUMTREE_LIMIT_NEIGHBOURS);
     CHECK(met(&p, event, plumtree_put_up(event, 3)) == PLUMTREE_LIMIT_NONE);
+    CHECK(met(&p, event, plumtree_put_up_quiet(event, 3)) == PLUMTREE_LIMIT_NONE);
     CHECK(met(&p, event, plumtree_put_down(event, 3)) == PLUMTREE_LIMIT_NONE);
-    CHECK(met(&p, event, plumtree_put_up(event, 4)) == PLUMTREE_LIMIT_NONE);
+    CHECK(met(&p, event, plumtree_put_up_quiet(event, 4)) == PLUMTREE_LIMIT_NONE);
+    CHECK(met(&p, event, plumtree_put_up(event, 3)) == PLUMTREE_LIMIT_NEIGHBOURS);
     free_panel(p);
 
     /* One received and one cached: received comes first. The expiry entries of a content that is repeated count to received too. */
@@ -1024,6 +1416,9 @@ int main(void)
     rooms();
     forgotten();
     all_forgotten();
+    quiet();
+    marks();
+    quiet_links();
     limits_met();
     rewriting();
     states();

@@ -201,7 +201,7 @@ static size_t some_event(uint8_t *event)
 {
     static const uint8_t prune[] = {PLUMTREE_EVENT_RECEIVED, 2, PLUMTREE_MESSAGE_PRUNE};
     uint8_t content[3];
-    switch (below(10)) {
+    switch (below(11)) {
     case 0:
         return plumtree_put_up(event, 2 + below(3));
     case 1:
@@ -220,6 +220,8 @@ static size_t some_event(uint8_t *event)
         return send_graft(event, (int)below(4));
     case 8:
         return plumtree_put_tick(event, PLUMTREE_TIMER_DISPATCH_LAZY_PUSH);
+    case 9:
+        return plumtree_put_up_quiet(event, 2 + below(3));
     default:
         return plumtree_put_tick(event, PLUMTREE_TIMER_EVICT_CACHE);
     }
@@ -649,6 +651,42 @@ static void in_full(void)
     free_area(a);
     free_panel(p);
     free_panel(q);
+}
+
+/* A broadcast: how many messages it sends. */
+static size_t pushed(struct panel *p, uint8_t content)
+{
+    uint8_t event[16];
+    struct plumtree_answer answer = tell(p, event, plumtree_put_broadcast(event, &content, 1, PLUMTREE_DELIVERY_SWARM), false);
+    struct plumtree_reader r = plumtree_actions_of(output, answer.length);
+    struct plumtree_action a;
+    size_t sends = 0;
+    CHECK(answer.number == 0);
+    while (plumtree_take_action(&r, &a))
+        sends += a.kind == PLUMTREE_ACTION_SEND;
+    return sends;
+}
+
+/* Who is quiet is kept, and comes back: told up by kind 3 since, the neighbour is quiet again after the return, and its Graft does not make it eager. */
+static void quiet_again(void)
+{
+    static const uint8_t graft[] = {PLUMTREE_EVENT_RECEIVED, 2, PLUMTREE_MESSAGE_GRAFT, 0, 0};
+    struct plumtree_limits l = plumtree_small_limits();
+    struct panel p = new_panel(plumtree_block_size(l), 0xa5, plumtree_default_settings(1), l);
+    struct area a = new_area(plumtree_area_size(p.length));
+    uint8_t event[16];
+    CHECK(tell(&p, event, plumtree_put_up_quiet(event, 2), false).number == 0);
+    SAVES(&p, &a, 1, 0);
+    CHECK(tell(&p, event, plumtree_put_up(event, 2), false).number == 0);
+    CHECK(pushed(&p, 1) == 1);
+    SAVES(&p, &a, 2, 0);
+    RETURNS(&p, &a, 1, 0);
+    CHECK(tell(&p, graft, sizeof graft, false).number == 0);
+    CHECK(pushed(&p, 2) == 0);
+    RETURNS(&p, &a, 2, 0);
+    CHECK(pushed(&p, 3) == 1);
+    free_area(a);
+    free_panel(p);
 }
 
 /* "asked in the order 5, 17, 16 for saving and 5, 17, 15 for returning" */
@@ -1214,6 +1252,7 @@ int main(int n, char **words)
     names();
     in_the_header();
     in_full();
+    quiet_again();
     orders();
     lengths();
     not_left();

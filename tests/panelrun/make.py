@@ -6,6 +6,7 @@
 
 Both run the oracle (tests/rust/build.sh), whose command `panel` gives what `panelrun` writes: the
 Rust's state machine, with the specification's questions and panelrun's settings and limits around it.
+The Rust has no quiet neighbours: a stored run is compared up to its first event of kind 5.
 """
 import collections
 import pathlib
@@ -20,7 +21,10 @@ from b3 import blake3  # noqa: E402
 
 ORACLE = HERE.parent / "target" / "release" / "oracle"
 CRATES = HERE.parent.parent / "crates"
+SHOWN = CRATES / "panelrun_show" / "data"
+RUNS = CRATES.parent / "bindings" / "rust" / "tests" / "runs"
 TOP = 1 << 62
+UP_QUIET = b"\5"
 
 
 def record(now, event):
@@ -34,14 +38,16 @@ def panel(data):
 
 
 def drawn(seed, count, bad):
-    """Records of the oracle's generator, with the default settings."""
+    """Records of the oracle's generator, with the default settings; none of kind 5."""
     s = gen.Section(random.Random(seed), "default", 0, bad, False)
     while s.n < count:
         s.one()
     for line in s.lines:
         words = line.split()
         if words[0] == "ev":
-            yield int(words[1]), b"" if words[3] == "-" else bytes.fromhex(words[3])
+            event = b"" if words[3] == "-" else bytes.fromhex(words[3])
+            if event[:1] != UP_QUIET:
+                yield int(words[1]), event
 
 
 def long_input():
@@ -121,27 +127,59 @@ def long_input():
     return b"".join(rows)
 
 
+def number(data, at):
+    """A number, and the place behind it."""
+    n = shift = 0
+    while True:
+        b, at = data[at], at + 1
+        n |= (b & 127) << shift
+        shift += 7
+        if b < 128:
+            return n, at
+
+
 def answers(out):
     """The answer byte and the actions of each record."""
     at = 0
     while at < len(out):
-        number, at, n, shift = out[at], at + 1, 0, 0
-        while True:
-            b, at = out[at], at + 1
-            n |= (b & 127) << shift
-            shift += 7
-            if b < 128:
-                break
-        yield number, out[at:at + n]
+        answer = out[at]
+        n, at = number(out, at + 1)
+        yield answer, out[at:at + n]
         at += n
+
+
+def before_quiet(data):
+    """The records before the first one of kind 5; all the bytes where there is none."""
+    at = 0
+    try:
+        while at < len(data):
+            begin = at
+            _, at = number(data, at)
+            n, at = number(data, at)
+            if data[at:at + 1] == UP_QUIET and n:
+                return data[:begin]
+            at += n
+    except IndexError:
+        pass
+    return data
+
+
+def check(given, written):
+    """What is stored is the Rust's, up to the first event of kind 5."""
+    before = before_quiet(given.read_bytes())
+    rust, stored = panel(before), written.read_bytes()
+    if before == given.read_bytes():
+        assert stored == rust, f"{written} is not what the Rust writes"
+    else:
+        assert rust and stored.startswith(rust), f"{written} does not begin with what the Rust writes"
 
 
 def stored():
     """The stored inputs and outputs of `panelrun`."""
     for crate in "panelrun", "panelrun_long":
         yield CRATES / crate / "stdin", CRATES / crate / "stdout"
-    yield CRATES / "panelrun_show" / "data" / "input", CRATES / "panelrun_show" / "data" / "output"
-    for given in sorted((CRATES.parent / "bindings" / "rust" / "tests" / "runs").glob("*.input")):
+    yield SHOWN / "input", SHOWN / "output"
+    for given in sorted(RUNS.glob("*.input")):
         yield given, given.with_suffix(".output")
 
 
@@ -152,7 +190,9 @@ def main():
     if sys.argv[1:] == ["check"]:
         assert (made / "stdin").read_bytes() == data, "crates/panelrun_long/stdin is not what is made here"
         for given, written in stored():
-            assert written.read_bytes() == panel(given.read_bytes()), f"{written} is not what the Rust writes"
+            check(given, written)
+        for part in "input", "output":
+            assert (SHOWN / part).read_bytes() == (RUNS / f"quiet.{part}").read_bytes(), f"{SHOWN / part} is not that of the run quiet"
         print("panelrun: the stored outputs are the Rust's")
         return
     (made / "stdin").write_bytes(data)

@@ -18,6 +18,7 @@ pub enum Scope {
 /// ```
 /// use plumtree::{Event, Message, Scope, Timer};
 /// assert_eq!(Event::Up(2).to_bytes(), [3, 2]);
+/// assert_eq!(Event::UpQuiet(2).to_bytes(), [5, 2]);
 /// assert_eq!(Event::Timer(Timer::DispatchLazyPush).to_bytes(), [2, 1]);
 /// assert_eq!(Event::Received { peer: 5, message: Message::Prune }.to_bytes(), [0, 5, 1]);
 /// assert_eq!(Event::ReceivedBytes { peer: 5, bytes: &[1] }.to_bytes(), [0, 5, 1]);
@@ -52,6 +53,10 @@ pub enum Event<'a> {
     /// A peer is a neighbour from now on: it gets what is taken in from now on, and not what came before. Each planned neighbour is told up right
     /// after creation, and has room 0 ([`LinkRoom`](crate::LinkRoom)) until its link is there; one that was not planned when its link is there.
     Up(u64),
+    /// A peer is a quiet neighbour from now on, be it a neighbour already or not: for a link that must never carry unasked payload. It is lazy, and
+    /// stays so whatever comes, until [`Event::Down`] or [`Event::Up`]: announcements, Grafts and Prunes go to it as to any lazy one, a Gossip only in
+    /// answer to its own Graft that names the identifier. A link carries payload both ways, and none unasked only when both ends are told this.
+    UpQuiet(u64),
     /// A peer is no neighbour any more, and what waits for it is forgotten. A link that will come back is not told down, but has room 0.
     Down(u64),
 }
@@ -71,6 +76,7 @@ impl<'a> Event<'a> {
             2 => Event::Timer(Timer::take(&mut r)?),
             3 => Event::Up(r.number(Spelling::Shortest)?),
             4 => Event::Down(r.number(Spelling::Shortest)?),
+            5 => Event::UpQuiet(r.number(Spelling::Shortest)?),
             _ => return Err(Error::EventMalformed),
         };
         r.end()?;
@@ -104,6 +110,10 @@ impl<'a> Event<'a> {
                 out.push(3);
                 write_number(out, *peer);
             }
+            Event::UpQuiet(peer) => {
+                out.push(5);
+                write_number(out, *peer);
+            }
             Event::Down(peer) => {
                 out.push(4);
                 write_number(out, *peer);
@@ -128,6 +138,7 @@ impl fmt::Display for Event<'_> {
             Event::Broadcast { content, scope } => write!(f, "broadcast {}, {scope:?}", text::content(content)),
             Event::Timer(timer) => write!(f, "{timer} fires"),
             Event::Up(peer) => write!(f, "{peer} is up"),
+            Event::UpQuiet(peer) => write!(f, "{peer} is up, quiet"),
             Event::Down(peer) => write!(f, "{peer} is down"),
         }
     }

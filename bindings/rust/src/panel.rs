@@ -57,7 +57,8 @@ pub fn block_size(limits: Limits) -> Option<usize> {
 
 /// Whether two blocks hold the same: "yes exactly when own peer number, settings, limits, sets, flags and maps agree". It "also compares the order of
 /// announcers, queues and records, and the order of expiry entries of one time". Each neighbour has a queue and a record of its own: how the rows of
-/// different neighbours are interleaved in the block is not compared, nor the length of the blocks. [`Error::BlockNotWhole`] for either.
+/// different neighbours are interleaved in the block is not compared, nor the length of the blocks. A quiet neighbour and a lazy one are not alike.
+/// [`Error::BlockNotWhole`] for either.
 ///
 /// From alike blocks and equal counts the same calls give the same answers, refusals too, and the same actions; then the blocks are alike and the
 /// counts equal again. So a commissioning sheet that was taken with one panel serves for the other.

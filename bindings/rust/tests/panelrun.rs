@@ -37,7 +37,7 @@ fn panelrun(mut input: &[u8]) -> Vec<u8> {
 #[test]
 fn stored_runs() {
     let dir = Path::new(env!("CARGO_MANIFEST_DIR")).join("tests/runs");
-    for name in ["worked", "forgotten", "longer"] {
+    for name in ["worked", "forgotten", "quiet", "longer"] {
         let file = |end: &str| fs::read(dir.join(name).with_extension(end)).unwrap();
         assert!(!file("output").is_empty());
         assert_eq!(panelrun(&file("input")), file("output"), "{name}");

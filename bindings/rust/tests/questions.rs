@@ -152,9 +152,14 @@ fn events() {
     refused(&mut p, (1 << 62) + 1, &tick, 64, Error::TimeTooLate);
     refused(&mut p, 0, &[], 64, Error::EventCut);
     refused(&mut p, 0, &[3, 0x80], 64, Error::EventCut);
-    refused(&mut p, 0, &[5], 64, Error::EventMalformed);
+    refused(&mut p, 0, &[5], 64, Error::EventCut);
+    refused(&mut p, 0, &[5, 0x80], 64, Error::EventCut);
+    refused(&mut p, 0, &[6], 64, Error::EventMalformed);
+    refused(&mut p, 0, &[6, 2], 64, Error::EventMalformed);
     refused(&mut p, 0, &[3, 0x80, 0x00], 64, Error::EventMalformed);
+    refused(&mut p, 0, &[5, 0x80, 0x00], 64, Error::EventMalformed);
     refused(&mut p, 0, &[3, 2, 0], 64, Error::EventTooLong);
+    refused(&mut p, 0, &[5, 2, 0], 64, Error::EventTooLong);
 
     // 10: M is 4,094. A content of 4,057 makes a message of 4,094 bytes, at round 128 one more.
     let long = |length: usize, round| {
@@ -187,9 +192,11 @@ fn events() {
 
     // 13: a third neighbour where two are the limit.
     let mut two = panel(Limits { neighbours: 2, ..Limits::SMALL });
-    refused(&mut two, 0, &Event::Up(4).to_bytes(), 64, Error::LimitReached);
-    assert_eq!(two.limit_met(0, &Event::Up(4), &[]), Some(Limit::Neighbours));
-    assert_eq!(two.limit_met(0, &Event::Up(3), &[]), None);
+    for (three, four) in [(Event::Up(3), Event::Up(4)), (Event::UpQuiet(3), Event::UpQuiet(4))] {
+        refused(&mut two, 0, &four.to_bytes(), 64, Error::LimitReached);
+        assert_eq!(two.limit_met(0, &four, &[]), Some(Limit::Neighbours));
+        assert_eq!(two.limit_met(0, &three, &[]), None);
+    }
     two.event(0, &Event::Down(3), &[], &mut []).unwrap();
     two.event(0, &Event::Up(4), &[], &mut []).unwrap();
 
@@ -380,6 +387,73 @@ fn what_is_forgotten() {
     let b = broadcast(&mut p, 20, b"b");
     broadcast(&mut p, 20, b"a");
     assert_eq!(evicts(&mut p, 30), [a, b, c]);
+}
+
+/// Told up by kind 5 a neighbour is announced to and answered, and pushed nothing, until it is told up by kind 3 or down; alike tells it from a lazy one,
+/// and a return brings the mark back.
+#[test]
+fn quiet_neighbours() {
+    let lines = |p: &mut Panel, event: &Event| {
+        let mut output = [0; 4096];
+        p.event(0, event, &[], &mut output).unwrap().map(|a| a.to_string()).collect::<Vec<_>>()
+    };
+    let pushed = |p: &mut Panel, content: &[u8]| {
+        let sent = lines(p, &Event::Broadcast { content, scope: Scope::Swarm });
+        sent.iter().filter(|l| l.starts_with("send to 2: Gossip ")).count()
+    };
+    let received = |message| Event::Received { peer: 2, message };
+    let graft = |id| received(Message::Graft { id, round: 0 });
+    let prune = received(Message::Prune);
+    let dispatch = Event::Timer(Timer::DispatchLazyPush);
+
+    // No action, and no first event: the broadcast schedules the eviction.
+    let mut p = Panel::new(Settings::of_panel(1), Limits::SMALL).unwrap();
+    assert_eq!(lines(&mut p, &Event::UpQuiet(2)), [""; 0]);
+    let sent = lines(&mut p, &Event::Broadcast { content: b"hot", scope: Scope::Swarm });
+    assert_eq!(sent, ["schedule EvictCache in 1000", "schedule DispatchLazyPush in 5"]);
+    let announced = lines(&mut p, &dispatch);
+    assert!(announced.len() == 1 && announced[0].starts_with("send to 2: IHave "), "{announced:?}");
+
+    // Its Graft is answered, and it stays lazy, whatever comes.
+    let Ok(Message::Gossip { id, .. }) = Message::read(&gossip(b"hot", 0)) else { panic!("a Gossip") };
+    let answered = lines(&mut p, &graft(Some(id)));
+    assert!(answered.len() == 1 && answered[0].starts_with("send to 2: Gossip "), "{answered:?}");
+    assert_eq!(pushed(&mut p, b"a"), 0);
+    for event in [graft(None), prune.clone(), graft(Some(id))] {
+        lines(&mut p, &event);
+        assert_eq!(pushed(&mut p, event.to_string().as_bytes()), 0, "{event}");
+    }
+
+    // By kind 3 an ordinary, eager one, and by kind 5 quiet again; a return goes back to what it was.
+    let mut area = Area::for_panel(&p);
+    p.save(&mut area, *b"quiet   ").unwrap();
+    lines(&mut p, &Event::Up(2));
+    assert_eq!(pushed(&mut p, b"b"), 1);
+    lines(&mut p, &Event::UpQuiet(2));
+    lines(&mut p, &graft(None));
+    assert_eq!(pushed(&mut p, b"c"), 0);
+    lines(&mut p, &Event::Down(2));
+    lines(&mut p, &Event::Up(2));
+    assert_eq!(pushed(&mut p, b"d"), 1);
+    p.go_back(&area, *b"quiet   ").unwrap();
+    lines(&mut p, &graft(None));
+    assert_eq!(pushed(&mut p, b"e"), 0);
+
+    // Quiet is not lazy, nor eager.
+    let marked = |events: &[Event]| {
+        let mut p = Panel::new(Settings::of_panel(1), Limits::SMALL).unwrap();
+        for event in events {
+            lines(&mut p, event);
+        }
+        p
+    };
+    let (eager, quiet) = (marked(&[Event::Up(2)]), marked(&[Event::UpQuiet(2)]));
+    assert_eq!(eager.alike(&quiet), Ok(false));
+    assert_eq!(quiet.alike(&marked(&[Event::Up(2), Event::UpQuiet(2)])), Ok(true));
+    let (lazy, quiet) = (marked(&[Event::Up(2), prune.clone()]), marked(&[Event::UpQuiet(2), prune.clone()]));
+    assert_eq!(lazy.stats(), quiet.stats());
+    assert_eq!(lazy.alike(&quiet), Ok(false));
+    assert_eq!(quiet.alike(&lazy), Ok(false));
 }
 
 /// As many cached messages as there can be, and one neighbour: all of them forgotten fit into an output of `output_size`, and not into one that is as long as

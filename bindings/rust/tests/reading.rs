@@ -124,7 +124,7 @@ impl Rng {
     }
 
     fn event<'a>(&mut self, content: &'a [u8]) -> Event<'a> {
-        match self.below(8) {
+        match self.below(9) {
             0 => Event::Broadcast { content, scope: Scope::Swarm },
             1 => Event::Broadcast { content, scope: Scope::Neighbors },
             2 => Event::Timer(
@@ -132,6 +132,7 @@ impl Rng {
             ),
             3 => Event::Up(self.number()),
             4 => Event::Down(self.number()),
+            5 => Event::UpQuiet(self.number()),
             _ => Event::Received { peer: self.number(), message: self.message(content) },
         }
     }

@@ -5,11 +5,10 @@ ghost use Rattle.storage.specs.Rows.Ident.{id_of};
 ghost use Rattle.storage.specs.Refs.Refs.{places, Below};
 ghost use Rattle.time_cache.specs.Tables.{Lies, refs_at, rows_at, row_at, expiry_of};
 ghost use Rattle.time_cache.specs.Steps.{ref_at};
-ghost use Rattle.protocol.specs.Alike.{same_list, same_option, same_hop, same_mark};
+ghost use Rattle.protocol.specs.Alike.{same_list, same_option, same_hop};
 ghost use Rattle.block.specs.View.{state_of};
 ghost use Rattle.block.specs.Fit.{Fit};
 ghost use Rattle.block.specs.Sound.{Sound};
-ghost use Rattle.block.specs.LinkSteps.{mark_value};
 ghost use Rattle.block.specs.MissingSteps.{missed_at};
 ghost use Rattle.block.specs.Caches.GraftSteps.{grafts_at};
 ghost use Rattle.alike.specs.Elements.{same_element, expiry_element};
@@ -22,7 +21,6 @@ use block::caches::grafted::GraftedMessages;
 use block::caches::received::ReceivedMessages;
 use block::caches::{cached, grafted};
 use block::head::{Head, Live};
-use block::links::Mark;
 use block::missing::Missed;
 use block::time_caches::PanelCache;
 use block::{head, links};
@@ -161,37 +159,13 @@ fn same_key(cache_a: TimeBoundCache, a: &[u8], cache_b: TimeBoundCache, b: &[u8]
     sequences::same(x, y)
 }
 
-// Whether two marks agree: the same set, and both quiet or both not.
-#[tactic(auto, unfolding(protocol::specs::Alike::same_mark))]
-fn same_mark(x: Mark, y: Mark) -> bool
-    ensures { result ≡ same_mark (mark_value x) (mark_value y) }
-{
-    match x {
-        Mark::Eager => match y {
-            Mark::Eager => true,
-            Mark::Lazy => false,
-            Mark::Quiet => false,
-        },
-        Mark::Lazy => match y {
-            Mark::Lazy => true,
-            Mark::Eager => false,
-            Mark::Quiet => false,
-        },
-        Mark::Quiet => match y {
-            Mark::Quiet => true,
-            Mark::Eager => false,
-            Mark::Lazy => false,
-        },
-    }
-}
-
 // Link i: peer and mark.
 fn same_link(ha: Head, a: &[u8], hb: Head, b: &[u8], i: usize) -> bool
     requires { Sound ha a.now × (i < ha.live.links) × Sound hb b.now × (i < hb.live.links) }
     ensures { result ≡ same_row Table.Links (state_of ha a.now) (state_of hb b.now) i }
 {
     links::peer_at(ha, a, i) == links::peer_at(hb, b, i)
-        && same_mark(links::mark_at(ha, a, i), links::mark_at(hb, b, i))
+        && links::mark_at(ha, a, i) == links::mark_at(hb, b, i)
 }
 
 // Missing message i: identifier and announcers, "the order of announcers" too.

@@ -1,6 +1,5 @@
 // `on_neighbor_up`: a neighbour comes (the specification, "Sets"). It has no actions.
-ghost use Rattle.std.specs.Prelude.{◌≡◌};
-ghost use Rattle.std.specs.Prelude.{Bool};
+ghost use Rattle.std.specs.Prelude.{◌≡◌, Bool};
 ghost use Rattle.protocol.specs.Links.{up_mark, link_up};
 ghost use Rattle.decide.specs.Sizes.{sizes_of};
 ghost use Rattle.block.specs.LinkSteps.{mark_value, linked};

@@ -29,7 +29,7 @@ pub fn insert_link(mut head: Head, block: &mut [u8], i: usize, peer: u64, mark: 
     let at = HEADER_SIZE + Link::WIDTH * i;
     table::move_up(block, at, at + Link::WIDTH, Link::WIDTH * (n - i));
     word::store(block, at, peer);
-    block[at + Link::MARK] = links::mark_byte(mark);
+    block[at + Link::MARK] = mark.byte();
     head.live.links = n + 1;
     head
 }

@@ -109,9 +109,10 @@ impl<'a> Reader<'a> {
         ensures gives { Gives event_value result self.new.rest.now (event_of 3 self.old.rest.now) }
         ensures sized { IfOk result (λ e. SizedBehind self.old.rest.now e) }
     {
-        let peer = self.number()?;
-        let quiet = false;
-        Ok(Event::Up { peer, quiet })
+        Ok(Event::Up {
+            peer: self.number()?,
+            quiet: false,
+        })
     }
 
     // "4 neighbour down".
@@ -129,9 +130,10 @@ impl<'a> Reader<'a> {
         ensures gives { Gives event_value result self.new.rest.now (event_of 5 self.old.rest.now) }
         ensures sized { IfOk result (λ e. SizedBehind self.old.rest.now e) }
     {
-        let peer = self.number()?;
-        let quiet = true;
-        Ok(Event::Up { peer, quiet })
+        Ok(Event::Up {
+            peer: self.number()?,
+            quiet: true,
+        })
     }
 
     // An event, by its kind; the range above is 8.

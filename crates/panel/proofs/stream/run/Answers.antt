@@ -1,5 +1,5 @@
 -- `run`: each record is answered, and where the input ends, or no record follows, the end is written; where a read or a write fails, what was written is a front.
-use Rattle.std.proofs.Common.{inr, refl, ap, sym, subst, ◌∙◌, List, ℕ}
+use Rattle.std.proofs.Common.{inl, inr, refl, ap, sym, subst, ◌∙◌, List, ℕ}
 use Rattle.std.proofs.lemmas.Result.{on_ok_weaker, on_err_weaker}
 use Rattle.std.specs.Io.KnownBytes.{Appends}
 use Rattle.panel.specs.Records.Reading.{Whole, Never, Bad}
@@ -69,3 +69,6 @@ returns-clause-err g c = sofar-ends c.records.invariant.sofar
 
 pub returns-clause-cause : goal.returns-clause-cause
 returns-clause-cause g c = inr (inr (paced-long c.records.invariant c.records-test.false, c.new.ensures.kind))
+
+pub returns-in-Err-clause-cause : goal.returns-in-Err-clause-cause
+returns-in-Err-clause-cause g c = inl c.in-Err.ensures.cause

@@ -60,7 +60,7 @@ returns c =
     let xs = a.block.now in
     let at : ℕ = 2048 + 16 * a.i in
     let ys = c.raise_links.new.block in
-    subst (λ (m : Mark). Goes (linked (insert a.peer m)) h xs (with_link_count (n + 1) h) (set c.store.new.bytes (at + 8) c.mark_byte.result)) c.mark_byte.ensures
-    (subst (λ (zs : List ℕ). Goes (linked (insert a.peer (mark_of c.mark_byte.result))) h xs (with_link_count (n + 1) h) (set zs (at + 8) c.mark_byte.result))
+    subst (λ (m : Mark). Goes (linked (insert a.peer m)) h xs (with_link_count (n + 1) h) (set c.store.new.bytes (at + 8) c.byte.result)) c.byte.ensures
+    (subst (λ (zs : List ℕ). Goes (linked (insert a.peer (mark_of c.byte.result))) h xs (with_link_count (n + 1) h) (set zs (at + 8) c.byte.result))
     (sym (c.store.ensures ∙ ap (put at (le_bytes 8 a.peer)) c.move_up.ensures))
-    (link-in h xs a.i a.peer c.mark_byte.result (omega (arith, c.well_formed)) c.requires.1 c.requires.2 ys c.raise_links.ensures))
+    (link-in h xs a.i a.peer c.byte.result (omega (arith, c.well_formed)) c.requires.1 c.requires.2 ys c.raise_links.ensures))

@@ -6,4 +6,4 @@ use Rattle.block.proofs.links.LinkRow.load.Goals as goal
 
 pub returns : goal.returns
 unfolding link_of field_of
-returns c = λ k. entry (c.load.ensures k) (c.byte_mark.ensures k)
+returns c = λ k. entry (c.load.ensures k) (c.of_byte.ensures k)

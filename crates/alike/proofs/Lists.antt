@@ -2,7 +2,7 @@
 -- Assumes nothing.
 use mathlib.Core.Path.{◌≡◌, refl, sym, ap, ◌∙◌}
 use mathlib.Core.Logic.{◌⊎◌, inl, inr}
-use mathlib.Core.Bool.{Bool, true, false, not, ◌&&◌, beq}
+use mathlib.Core.Bool.{Bool, true, false, not, ◌&&◌}
 use mathlib.Core.List.{List, [], ◌∷◌, map}
 use Prim.Native.Nat.{ℕ, zero, suc, ◌+◌, ◌-◌, ◌≤◌, ◌<◌, zero-le, suc-le-suc}
 use native.Mathlib.Nat.{le_of_suc-le-suc, not-suc-le-zero}
@@ -20,7 +20,6 @@ use Rattle.storage.proofs.RowsLaws.Parts.{length_part, get_d_part}
 use Rattle.storage.proofs.RowsLaws.Turns.{part_bytes}
 use Rattle.storage.proofs.RefsLaws.Shifts.{low_or_high}
 use Rattle.time_cache.specs.TimeCache.{Expiry}
-use Rattle.protocol.specs.Links.{Mark, eager, lazy, is_eager}
 use Rattle.protocol.specs.State.{State, Hop}
 use Rattle.protocol.specs.Alike.{same_list, same_map, same_option, same_mark, same_hop, same_expiry}
 use Rattle.block.specs.View.{flag_of, only_if}

@@ -8,7 +8,7 @@ use mathlib.Core.List.{List, [], ◌∷◌}
 use lib.Dec.{eqb}
 use borrow.Author.Tests.{eqb-true}
 use Rattle.std.specs.Prelude.{if◌then◌else◌}
-use Rattle.storage.specs.Lists.Map.{lookup, insert, remove}
+use Rattle.storage.specs.Lists.Map.{insert, remove}
 use Rattle.storage.proofs.ListsLaws.MapLaws.{cases, lookup-insert-same, lookup-insert-other, lookup-remove-same, lookup-remove-other}
 use Rattle.postcard.specs.Message.{Event, Received, Broadcast, Fired, Up, Down}
 use Rattle.protocol.specs.Links.{Links, is_quiet, marked, quiet_in, up_mark, link_up, link_down}
@@ -17,7 +17,7 @@ use Rattle.protocol.specs.Run.{Run, begin}
 use Rattle.protocol.specs.Gossips.{update_links}
 use Rattle.protocol.specs.Neighbours.{on_neighbor_up, on_neighbor_down, forget_peer}
 use Rattle.protocol.specs.Handle.{first_event, handle}
-use Rattle.protocol.specs.Answer.{Call, Answer, refuse, accept, ask_whole}
+use Rattle.protocol.specs.Answer.{Call, accept, ask_whole}
 use Rattle.protocol.specs.Calls.{state_after, counts_after, prepend, run_calls}
 use Rattle.protocol.specs.NoNeighbourPassedOver.{by_event, is_up, is_down, tells_down}
 use Rattle.protocol.specs.Quiet.{is_up_quiet, quiet_after_call, quiet_after}

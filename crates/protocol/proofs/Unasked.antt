@@ -11,7 +11,7 @@ use Rattle.storage.specs.Lists.Base.{ascending, member}
 use Rattle.storage.specs.Lists.Map.{keys, lookup}
 use Rattle.storage.proofs.ListsLaws.MapLaws.{true≢, and_left}
 use Rattle.postcard.specs.Message.{Swarm, Message, Event}
-use Rattle.protocol.specs.Links.{Mark, eager, lazy, quiet, Links, is_eager, is_quiet, marked, eager_peers, quiet_in}
+use Rattle.protocol.specs.Links.{Mark, eager, lazy, quiet, is_eager, is_quiet, marked, eager_peers, quiet_in}
 use Rattle.protocol.specs.State.{State, Counts, Settings, Limits, created, create, fresh}
 use Rattle.protocol.specs.Run.{Run}
 use Rattle.protocol.specs.Whole.{whole}

@@ -10,9 +10,8 @@ use borrow.Author.Tests.{leb-true}
 use Rattle.storage.proofs.ListsLaws.MapLaws.{true≢, and_left}
 use Rattle.postcard.specs.Message.{Event}
 use Rattle.protocol.specs.State.{State, Counts, size_in_range}
-use Rattle.protocol.specs.Run.{Run, Room, begin}
+use Rattle.protocol.specs.Run.{Run}
 use Rattle.protocol.specs.Ticks.{per_message}
-use Rattle.protocol.specs.Handle.{handle}
 use Rattle.protocol.specs.Whole.{whole}
 use Rattle.protocol.specs.Answer.{Call, Answer, accept, ask_whole}
 use Rattle.protocol.specs.Calls.{run_calls, state_after, counts_after, prepend}
@@ -22,16 +21,12 @@ use Rattle.protocol.proofs.Consistent.{whole-consistent, whole-ranged}
 use Rattle.protocol.proofs.TreeLaws.Steps.{event-follows}
 
 module _ (hash : List ℕ → ℕ) where
-  -- of a whole state
-  pub upon-whole : (s : State) (n : Counts) (rooms : List Room) (now : ℕ) (e : Event) → whole s ≡ true → FollowsTree hash s e (handle hash now e (begin s n rooms))
-  unfolding per_message size_in_range
-  upon-whole s n rooms now e w =
-      event-follows hash s (whole-consistent s w).core.links_up n rooms now e
-      (omega (arith, leb-true 510 s.settings.max_message_size (and_left (leb 510 s.settings.max_message_size) (leb s.settings.max_message_size 4094) (whole-ranged s w).size)))
-
-  -- so of every accepted call
+  -- of a whole state, so of every accepted call
   pub whole-follows : (s : State) (n : Counts) (k : Call) (e : Event) → whole s ≡ true → FollowsTree hash s e (run_of hash s n k e)
-  whole-follows s n k e w = upon-whole s n k.rooms k.now e w
+  unfolding per_message size_in_range
+  whole-follows s n k e w =
+      event-follows hash s (whole-consistent s w).core.links_up n k.rooms k.now e
+      (omega (arith, leb-true 510 s.settings.max_message_size (and_left (leb 510 s.settings.max_message_size) (leb s.settings.max_message_size 4094) (whole-ranged s w).size)))
 
   -- the answer, if it is accepted
   answer-follows : (s : State) (n : Counts) (k : Call) (e : Event) (r : Run) → ask_whole hash s n k ≡ accept e r → FollowsTree hash s e r

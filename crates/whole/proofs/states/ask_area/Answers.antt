@@ -1,10 +1,9 @@
 -- `ask_area`: the two tests in their order.
 use mathlib.Core.Bool.{not}
-use mathlib.Core.Path.{◌≡◌, refl, sym, ap, ◌∙◌}
+use mathlib.Core.Path.{refl, sym, ap, ◌∙◌}
 use native.Mathlib.Omega.{arith}
 use borrow.Author.Tests.{not-true, not-false}
-use Rattle.whole.specs.Held.{whole_block}
-use Rattle.whole.specs.States.Area.{kept, area_holds}
+use Rattle.whole.specs.States.Area.{kept}
 use Rattle.whole.specs.States.Calls.{area_asked}
 use Rattle.whole.proofs.StatesLaws.HoldsLaws.{holds_of}
 use Rattle.whole.proofs.states.ask_area.Goals as goal

@@ -1,5 +1,4 @@
 -- `go_back`: the tests in their order, and then the block and the counts are read (`returns-0`).
-use mathlib.Core.Bool.{not}
 use mathlib.Core.Path.{◌≡◌, sym, ap, ◌∙◌, subst}
 use mathlib.Core.Bool.{true}
 use mathlib.Core.List.{List}

@@ -1,5 +1,4 @@
 -- `save`: the tests in their order, and then the row, the block and the number are put (`saves-0`).
-use mathlib.Core.Bool.{not}
 use mathlib.Core.Path.{◌≡◌, sym, ap, ◌∙◌, subst}
 use mathlib.Core.Bool.{true}
 use mathlib.Core.List.{List, [], ◌∷◌}

@@ -17,6 +17,7 @@ pub mod NoNeighbourPassedOver
 pub mod ReadingsFollowTheTree
 pub mod Quiet
 pub mod Unasked
+pub mod FourTicks
 pub mod Notings
 pub mod Alike
 pub mod AlikeUnordered

@@ -3,6 +3,7 @@ ghost use Rattle.std.specs.Prelude.{ℕ, List};
 ghost use Rattle.protocol.specs.NoNeighbourPassedOver.{NoNeighbourPassedOver};
 ghost use Rattle.protocol.specs.ReadingsFollowTheTree.{ReadingsFollowTheTree};
 ghost use Rattle.protocol.specs.Unasked.{NoUnaskedPayload};
+ghost use Rattle.protocol.specs.FourTicks.{FourTicks};
 ghost use Rattle.protocol.specs.Notings.{MetFullExact};
 ghost use Rattle.protocol.specs.SameMeaning.{SameMeaning};
 ghost use Rattle.protocol.specs.AlikeCalls.AlikeFiner.{AlikeFiner};
@@ -30,6 +31,11 @@ pub fn quiet_links_carry_no_unasked_payload()
     ensures { (hash : List ℕ → ℕ) → NoUnaskedPayload hash }
 {}
 
+// "For every list of accepted calls: an identifier put on a neighbour's record has left it by the fourth AnnounceDropped tick after."
+pub fn no_announcement_waits()
+    ensures { (hash : List ℕ → ℕ) → FourTicks hash }
+{}
+
 // "It met a full record when …": what a call's actions and state tell of it is exactly what `note_dropped` came to.
 pub fn met_full_is_exact()
     ensures { (hash : List ℕ → ℕ) → MetFullExact hash }
@@ -50,7 +56,7 @@ pub fn alike_panels_answer_alike()
     ensures { (hash : List ℕ → ℕ) → CommissioningSheet hash }
 {}
 
-// The guarantee stands on no question: it holds of every list of events, each refused, with any number, or run.
+// The guarantee, and that no announcement waits past four ticks, stand on no question: they hold of every list of events, each refused, with any number, or run.
 pub fn any_questions()
     ensures { (hash : List ℕ → ℕ) → AnyQuestions hash }
 {}

@@ -1,0 +1,5 @@
+pub mod Places
+pub mod Keeps
+pub mod Tick
+pub mod Lists
+pub mod Examples

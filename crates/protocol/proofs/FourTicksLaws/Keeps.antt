@@ -1,4 +1,4 @@
--- Of one event: what stands recorded for a neighbour stays there, at its place or nearer; what stands queued stays.
+-- Of one event: what stands recorded for a neighbour stays there, at its place or nearer; what stands queued stays; and a panel that has begun stays so.
 use Prim.Native.Nat.{ℕ, ◌≤◌}
 use native.Mathlib.Omega.{arith}
 use mathlib.Core.Path.{◌≡◌, refl, sym, ap, ◌∙◌}
@@ -33,20 +33,22 @@ module _ (p id : ℕ) where
     pub stays : any (notes p id) r.state.dropped ≡ true → any (notes p id) r'.state.dropped ≡ true
     pub nearer : any (notes p id) r.state.dropped ≡ true → place r' ≤ place r
     pub queue : any (notes p id) r.state.queue ≡ true → any (notes p id) r'.state.queue ≡ true
+    pub begun : r.state.init ≡ true → r'.state.init ≡ true
 
   pub keeps-refl : (r : Run) → Keeps r r
-  keeps-refl r = record { stays = λ h. h; nearer = λ h. omega arith; queue = λ h. h }
+  keeps-refl r = record { stays = λ h. h; nearer = λ h. omega arith; queue = λ h. h; begun = λ h. h }
 
   pub keeps-trans : (a b c : Run) → Keeps a b → Keeps b c → Keeps a c
   keeps-trans a b c x y = record {
     stays = λ h. y.stays (x.stays h);
     nearer = λ h. omega (arith, x.nearer h, y.nearer (x.stays h));
     queue = λ h. y.queue (x.queue h);
+    begun = λ h. y.begun (x.begun h);
   }
 
   -- a step that changes neither
-  still : {r r' : Run} → r'.state.dropped ≡ r.state.dropped → r'.state.queue ≡ r.state.queue → Keeps r r'
-  still {r} {r'} e f = record { stays = λ h. rw e h; nearer = λ h. rw e (omega arith); queue = λ h. rw f h }
+  still : {r r' : Run} → r'.state.dropped ≡ r.state.dropped → r'.state.queue ≡ r.state.queue → (r.state.init ≡ true → r'.state.init ≡ true) → Keeps r r'
+  still {r} {r'} e f i = record { stays = λ h. rw e h; nearer = λ h. rw e (omega arith); queue = λ h. rw f h; begun = i }
 
   keeps-if : {r x y : Run} (b : Bool) → Keeps r x → Keeps r y → Keeps r (if b then x else y)
   keeps-if true k l = k
@@ -54,19 +56,19 @@ module _ (p id : ℕ) where
 
   keeps-act : (a : Action) (r : Run) → Keeps r (act a r)
   unfolding act
-  keeps-act a r = still refl refl
+  keeps-act a r = still refl refl (λ i. i)
 
   keeps-send : (q : ℕ) (m : Message) (r : Run) → Keeps r (send q m r)
   unfolding send
-  keeps-send q m r = still refl refl
+  keeps-send q m r = still refl refl (λ i. i)
 
   pub keeps-schedule_dispatch : (r : Run) → Keeps r (schedule_dispatch r)
   unfolding schedule_dispatch act
-  keeps-schedule_dispatch r = keeps-if r.state.timers.dispatch (keeps-refl r) (still refl refl)
+  keeps-schedule_dispatch r = keeps-if r.state.timers.dispatch (keeps-refl r) (still refl refl (λ i. i))
 
   pub keeps-schedule_announce : (r : Run) → Keeps r (schedule_announce_dropped r)
   unfolding schedule_announce_dropped act
-  keeps-schedule_announce r = keeps-if (is_empty r.state.dropped || r.state.timers.announce) (keeps-refl r) (still refl refl)
+  keeps-schedule_announce r = keeps-if (is_empty r.state.dropped || r.state.timers.announce) (keeps-refl r) (still refl refl (λ i. i))
 
   -- an entry of another identifier, or for another peer, behind the others
   behind : (d : List Note) (n : Note) → notes p id n ≡ false → last id (of_peer p (d ++ (n ∷ []))) ≤ last id (of_peer p d)
@@ -84,6 +86,7 @@ module _ (p id : ℕ) where
         stays = λ k. any_left (notes p id) r.state.dropped _ k;
         nearer = λ k. behind r.state.dropped (record { peer = q; id = h.id; round = h.round }) (other k (new c));
         queue = λ k. k;
+        begun = λ i. i;
       }))
       (λ c. rw c (keeps-refl r))
     where
@@ -111,25 +114,25 @@ module _ (p id : ℕ) where
   keeps-lazy_push : (i round sender : ℕ) (r : Run) → Keeps r (lazy_push i round sender r)
   unfolding lazy_push
   keeps-lazy_push i round sender r =
-      keeps-trans _ _ _ (record { stays = λ h. h; nearer = λ h. omega arith; queue = λ h. any_left (notes p id) r.state.queue _ h }) (keeps-schedule_dispatch _)
+      keeps-trans _ _ _ (record { stays = λ h. h; nearer = λ h. omega arith; queue = λ h. any_left (notes p id) r.state.queue _ h; begun = λ i. i }) (keeps-schedule_dispatch _)
 
   with_first-still : (i : ℕ) (h : Hop) (o : Option Grafts) (r : Run) → Keeps r (with_state (with_first i h o r.state) r)
   unfolding with_first
-  with_first-still i h None r = still refl refl
-  with_first-still i h (Some g) r = still refl refl
+  with_first-still i h None r = still refl refl (λ i. i)
+  with_first-still i h (Some g) r = still refl refl (λ i. i)
 
   with_kept-still : (i q : ℕ) (o : Option Grafts) (r : Run) → Keeps r (with_state (with_kept i q o r.state) r)
   unfolding with_kept
-  with_kept-still i q None r = still refl refl
-  with_kept-still i q (Some g) r = still refl refl
+  with_kept-still i q None r = still refl refl (λ i. i)
+  with_kept-still i q (Some g) r = still refl refl (λ i. i)
 
   keeps-schedule_graft : (i : ℕ) (r : Run) → Keeps r (schedule_graft i r)
   unfolding schedule_graft act
-  keeps-schedule_graft i r = keeps-if (member i r.state.timers.graft) (keeps-refl r) (still refl refl)
+  keeps-schedule_graft i r = keeps-if (member i r.state.timers.graft) (keeps-refl r) (still refl refl (λ i. i))
 
   pub keeps-evict : (now : ℕ) (r : Run) → Keeps r (on_evict_cache_timer now r)
   unfolding on_evict_cache_timer evict act
-  keeps-evict now r = still refl refl
+  keeps-evict now r = still refl refl (λ i. i)
 
   pub keeps-sending : Sending Keeps
   keeps-sending = record { stays = keeps-refl; follows = keeps-trans; sends = keeps-send; notes = keeps-note_dropped }
@@ -140,34 +143,34 @@ module _ (p id : ℕ) where
     sending = keeps-sending;
     schedules = λ d t r. keeps-act (Scheduled d t) r;
     queues = keeps-lazy_push;
-    marks_eager = λ q r. still refl refl;
-    marks_lazy = λ q r. still refl refl;
-    receives = λ now i r. still refl refl;
+    marks_eager = λ q r. still refl refl (λ i. i);
+    marks_lazy = λ q r. still refl refl (λ i. i);
+    receives = λ now i r. still refl refl (λ i. i);
     sets_first = λ i sender round r. with_first-still i _ _ r;
     keeps = λ i q r. with_kept-still i q _ r;
-    forgets = λ i r. still refl refl;
-    counts = λ c r. still refl refl;
+    forgets = λ i r. still refl refl (λ i. i);
+    counts = λ c r. still refl refl (λ i. i);
     schedules_graft = keeps-schedule_graft;
-    unmarks = λ i r. still refl refl;
+    unmarks = λ i r. still refl refl (λ i. i);
     evicts = keeps-evict;
-    begins = λ r. still refl refl;
+    begins = λ r. still refl refl (λ i. refl);
   }
 
   pub keeps-caches : (now i : ℕ) (content : List ℕ) (round : ℕ) (r : Run) → Keeps r (cache_at now i content round r)
   unfolding cache_at
-  keeps-caches now i content round r = still refl refl
+  keeps-caches now i content round r = still refl refl (λ i. i)
 
   pub keeps-announces : (i : ℕ) (h : Hop) (r : Run) → Keeps r (announce i h r)
   unfolding announce
-  keeps-announces i h r = still refl refl
+  keeps-announces i h r = still refl refl (λ i. i)
 
   pub keeps-leaves : (i : ℕ) (hs : List Hop) (r : Run) → Keeps r (leave_announcers i hs r)
   unfolding leave_announcers
-  keeps-leaves i hs r = still refl refl
+  keeps-leaves i hs r = still refl refl (λ i. i)
 
   pub keeps-grafts : (now i : ℕ) (h : Hop) (r : Run) → Keeps r (note_graft now i h r)
   unfolding note_graft
-  keeps-grafts now i h r = still refl refl
+  keeps-grafts now i h r = still refl refl (λ i. i)
 
   pub keeps-emits : (q : ℕ) (content : List ℕ) (d : Delivery) (r : Run) → Keeps r (act (Emitted q content d) r)
   keeps-emits q content d r = keeps-act (Emitted q content d) r

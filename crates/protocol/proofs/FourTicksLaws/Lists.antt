@@ -19,15 +19,15 @@ use Rattle.protocol.specs.Answer.{Call, Answer, refuse, accept, ask_whole}
 use Rattle.protocol.specs.Calls.{run_calls, state_after, counts_after, prepend}
 use Rattle.protocol.specs.NoNeighbourPassedOver.{by_event, by_action, Never, is_down, tells_down, sent, taken_or_handed_back, dispatch_tick, announce_tick, fires_tick, fired}
 use Rattle.protocol.specs.AlikeCalls.Peerwise.{of_peer}
-use Rattle.protocol.specs.ReadingsFollowTheTree.{announcement_of}
-use Rattle.protocol.specs.FourTicks.{by_state, on_record, on_queue, off_record, ticks, Leaves, went_down, no_longer_cached, went_to_queue, Waited, still_there, left_by, WaitsFourTicks, FourTicks}
+use Rattle.protocol.specs.ReadingsFollowTheTree.{announcement_of, state_left}
+use Rattle.protocol.specs.FourTicks.{by_state, on_record, on_queue, off_record, ticks, Leaves, went_down, not_cached, went_to_queue, Waited, still_there, left_by, WaitsFourTicks, FourTicks}
 use Rattle.protocol.proofs.Accepted.{ask-cases}
 use Rattle.protocol.proofs.Step.{ran_on}
 use Rattle.protocol.proofs.StepRecord.{timers}
 use Rattle.protocol.proofs.NoNeighbourPassedOver.{Fresh, create-fresh}
 use Rattle.protocol.proofs.AlikeCallsLaws.PeerLaws.{any_of}
 use Rattle.protocol.proofs.FourTicksLaws.Places.{last, last-some, last-length}
-use Rattle.protocol.proofs.FourTicksLaws.Tick.{After, stays, uncached, queues, recorded-step, down-step, queued-step, sent-step}
+use Rattle.protocol.proofs.FourTicksLaws.Tick.{After, stays, uncached, queues, recorded-step, down-step, begun-step, queued-step, sent-step}
 
 none-head : {A : Type 0} (f : A → Bool) (x : A) (xs : List A) → any f (x ∷ xs) ≡ false → f x ≡ false
 unfolding any
@@ -87,27 +87,28 @@ module _ (hash : List ℕ → ℕ) where
         between tick later m (none-tail (fired dispatch_tick) b between nf) f (none-tail (tells_down p) b between nd)
 
     -- the record's ticks, of which t came before
-    data From (t : ℕ) (after : List Answer) : Type 0 where
-      standing : Never (by_state (off_record p id)) after → t + ticks after ≤ 3 → From t after
+    data From (t : ℕ) (s : State) (after : List Answer) : Type 0 where
+      standing : Never (by_state (off_record p id)) after → t + ticks after ≤ 3 → From t s after
       gone : (until : List Answer) (call : Answer) (since : List Answer) → after ≡ until ++ (call ∷ since) →
-          Never (by_state (off_record p id)) until → t + ticks until ≤ 3 → by_state (off_record p id) call ≡ true → Leaves p id call since → From t after
+          Never (by_state (off_record p id)) until → t + ticks until ≤ 3 → by_state (off_record p id) call ≡ true → Leaves p id (state_left s until) call since → From t s after
 
     ticks-cons : (a : Answer) (after : List Answer) → ticks (a ∷ after) ≡ ticks (a ∷ []) + ticks after
     ticks-cons a after = count-append (fired announce_tick) (a ∷ []) after
 
     -- one call more in front, after which it stands
-    in-front : (a : Answer) (t : ℕ) (after : List Answer) → by_state (off_record p id) a ≡ false → From (t + ticks (a ∷ [])) after → From t (a ∷ after)
-    in-front a t after h (standing s l) = standing (none-cons (by_state (off_record p id)) a after h s) (omega (arith, l, ticks-cons a after))
-    in-front a t after h (gone until call since e s l o w) =
-        gone (a ∷ until) call since (ap (λ (xs : List Answer). a ∷ xs) e) (none-cons (by_state (off_record p id)) a until h s) (omega (arith, l, ticks-cons a until)) o w
+    in-front : (s : State) (a : Answer) (t : ℕ) (after : List Answer) → by_state (off_record p id) a ≡ false → From (t + ticks (a ∷ [])) (state_after s a) after → From t s (a ∷ after)
+    unfolding state_left
+    in-front s a t after h (standing n l) = standing (none-cons (by_state (off_record p id)) a after h n) (omega (arith, l, ticks-cons a after))
+    in-front s a t after h (gone until call since e n l o w) =
+        gone (a ∷ until) call since (ap (λ (xs : List Answer). a ∷ xs) e) (none-cons (by_state (off_record p id)) a until h n) (omega (arith, l, ticks-cons a until)) o w
 
     few : (s : State) (t : ℕ) → on_record p id s ≡ true → last id (of_peer p s.dropped) + 64 * t ≤ 256 → t ≤ 3
     few s t h b = omega (arith, b, last-some id (of_peer p s.dropped) (sym (any_of p id s.dropped) ∙ h))
 
     -- it leaves by this call
-    now-gone : (a : Answer) (t : ℕ) (after : List Answer) → t ≤ 3 → by_state (off_record p id) a ≡ true → Leaves p id a after → From t (a ∷ after)
-    unfolding any count
-    now-gone a t after l o w = gone [] a after refl refl (omega (arith, l)) o w
+    now-gone : (s : State) (a : Answer) (t : ℕ) (after : List Answer) → t ≤ 3 → by_state (off_record p id) a ≡ true → Leaves p id s a after → From t s (a ∷ after)
+    unfolding any count state_left
+    now-gone s a t after l o w = gone [] a after refl refl (omega (arith, l)) o w
 
     no-tick : (n t : ℕ) → t + ticks (refuse n ∷ []) ≡ t
     unfolding count fired by_event
@@ -122,61 +123,65 @@ module _ (hash : List ℕ → ℕ) where
         (λ f. rw f (let m : last id (of_peer p r.state.dropped) + 64 ≤ before = rw f at l in omega (arith, m, b)))
         (λ f. rw f (let m : last id (of_peer p r.state.dropped) + 0 ≤ before = rw f at l in omega (arith, m, b)))
 
-    waits : (s : State) (after : List Answer) → Trace s after → (t : ℕ) → One s → on_record p id s ≡ true → last id (of_peer p s.dropped) + 64 * t ≤ 256 → From t after
-    unfolding by_state fired by_event tells_down any count
-    waits s _ (ends _) t one h b = standing refl (omega (arith, few s t h b))
-    waits s _ (refuses _ n more x) t one h b = in-front (refuse n) t more refl (rw (no-tick n t) (waits s more x t one h b))
-    waits s _ (runs _ n rooms now e more x) t one h b =
+    waits : (s : State) (after : List Answer) → Trace s after → (t : ℕ) → One s → s.init ≡ true → on_record p id s ≡ true → last id (of_peer p s.dropped) + 64 * t ≤ 256 → From t s after
+    unfolding by_state fired by_event tells_down any count state_after
+    waits s _ (ends _) t one i h b = standing refl (omega (arith, few s t h b))
+    waits s _ (refuses _ n more x) t one i h b = in-front s (refuse n) t more refl (rw (no-tick n t) (waits s more x t one i h b))
+    waits s _ (runs _ n rooms now e more x) t one i h b =
         cases (is_down p e)
-        (λ d. now-gone (accept e (ran_on hash s n rooms now e)) t more (few s t h b) (rw (down-step p id hash now e (begin s n rooms) d)) (went_down d))
+        (λ d. now-gone s (accept e (ran_on hash s n rooms now e)) t more (few s t h b) (rw (down-step p id hash now e (begin s n rooms) d)) (went_down d))
         (λ d. on (ran_on hash s n rooms now e) (one-step s n rooms now e one) x
-        (λ u o c. waits (ran_on hash s n rooms now e).state more x u (one-step s n rooms now e one) o c) (recorded-step p id hash now e (begin s n rooms) h d))
+        (λ u o c. waits (ran_on hash s n rooms now e).state more x u (one-step s n rooms now e one) (begun-step p id hash now e (begin s n rooms) (λ k. i) o) o c)
+        (recorded-step p id hash now e (begin s n rooms) i h d))
       where
-        on : (r : Run) → One r.state → Trace r.state more → ((u : ℕ) → on_record p id r.state ≡ true → last id (of_peer p r.state.dropped) + 64 * u ≤ 256 → From u more) →
-            After p id (fires_tick announce_tick e) (begin s n rooms) r → From t (accept e r ∷ more)
-        on r o y go (stays d l) = in-front (accept e r) t more (rw d) (go (t + ticks (accept e r ∷ [])) d (nearer e r t _ l b))
-        on r o y go (uncached f g c) = now-gone (accept e r) t more (few s t h b) (rw g) (no_longer_cached f (rw c))
-        on r o y go (queues f g q) = now-gone (accept e r) t more (few s t h b) (rw g) (went_to_queue f q (record { sends = sent-next r.state more y o q }))
+        on : (r : Run) → One r.state → Trace r.state more → ((u : ℕ) → on_record p id r.state ≡ true → last id (of_peer p r.state.dropped) + 64 * u ≤ 256 → From u r.state more) →
+            After p id (fires_tick announce_tick e) (begin s n rooms) r → From t s (accept e r ∷ more)
+        on r o y go (stays d l) = in-front s (accept e r) t more (rw d) (go (t + ticks (accept e r ∷ [])) d (nearer e r t _ l b))
+        on r o y go (uncached f g c) = now-gone s (accept e r) t more (few s t h b) (rw g) (not_cached f c)
+        on r o y go (queues f g q) = now-gone s (accept e r) t more (few s t h b) (rw g) (went_to_queue f q (record { sends = sent-next r.state more y o q }))
 
     -- "records within 256": it stands at most at place 256
     at-most-256 : (s : State) → Within s.dropped → last id (of_peer p s.dropped) + 64 * 0 ≤ 256
     at-most-256 s w = omega (arith, last-length id (of_peer p s.dropped), length-filter (for_peer p) s.dropped, w.each p)
 
-    -- from any state in which it stands recorded, the record within its bounds
-    pub waited-from : (s : State) (after : List Answer) → Trace s after → One s → Within s.dropped → on_record p id s ≡ true → Waited p id after
-    waited-from s after x one w h = on (waits s after x 0 one h (at-most-256 s w))
+    -- a panel on whose record it stands has begun
+    abbrev Begun : State → Type 0
+    Begun s = on_record p id s ≡ true → s.init ≡ true
+
+    -- from any such state in which it stands recorded, the record within its bounds
+    waited-from : (s : State) (after : List Answer) → Trace s after → One s → Within s.dropped → Begun s → on_record p id s ≡ true → Waited p id s after
+    waited-from s after x one w begun h = on (waits s after x 0 one (begun h) h (at-most-256 s w))
       where
-        on : From 0 after → Waited p id after
+        on : From 0 s after → Waited p id s after
         on (standing n l) = still_there n (omega (arith, l))
         on (gone until call since e n l o v) = left_by until call since e n (omega (arith, l)) o v
 
     -- from each place of a list at which it stands recorded
-    waited-in : (s : State) (past : List Answer) → Trace s past → One s → Within s.dropped → (before : List Answer) (call : Answer) (after : List Answer) → past ≡ before ++ (call ∷ after) →
-        by_state (on_record p id) call ≡ true → Waited p id after
-    unfolding by_state
-    waited-in s _ (ends _) one w [] call after e h = let z : false ≡ true = cc in true≢ z
-    waited-in s _ (ends _) one w (b ∷ before) call after e h = let z : false ≡ true = cc in true≢ z
-    waited-in s _ (refuses _ n more x) one w [] call after e h = let a : refuse n ≡ call = cc in true≢ (rw (← a) at h)
-    waited-in s _ (refuses _ n more x) one w (b ∷ before) call after e h = let a : more ≡ before ++ (call ∷ after) = cc in waited-in s more x one w before call after a h
-    waited-in s _ (runs _ n rooms now v more x) one w [] call after e h =
-        let a : accept v (ran_on hash s n rooms now v) ≡ call = cc in
+    waited-in : (s : State) (past : List Answer) → Trace s past → One s → Within s.dropped → Begun s → (before after : List Answer) (e : Event) (r : Run) → past ≡ before ++ (accept e r ∷ after) →
+        on_record p id r.state ≡ true → Waited p id r.state after
+    waited-in s _ (ends _) one w begun [] after e r q h = let z : false ≡ true = cc in true≢ z
+    waited-in s _ (ends _) one w begun (b ∷ before) after e r q h = let z : false ≡ true = cc in true≢ z
+    waited-in s _ (refuses _ n more x) one w begun [] after e r q h = let z : false ≡ true = cc in true≢ z
+    waited-in s _ (refuses _ n more x) one w begun (b ∷ before) after e r q h = let m : more ≡ before ++ (accept e r ∷ after) = cc in waited-in s more x one w begun before after e r m h
+    waited-in s _ (runs _ n rooms now v more x) one w begun [] after e r q h =
+        let a : ran_on hash s n rooms now v ≡ r = cc in
         let m : more ≡ after = cc in
-        rw (← m) (waited-from (ran_on hash s n rooms now v).state more x (one-step s n rooms now v one) ((timers hash now v (begin s n rooms)).within w) (rw (← a) at h))
-    waited-in s _ (runs _ n rooms now v more x) one w (b ∷ before) call after e h =
-        let m : more ≡ before ++ (call ∷ after) = cc in
-        waited-in (ran_on hash s n rooms now v).state more x (one-step s n rooms now v one) ((timers hash now v (begin s n rooms)).within w) before call after m h
+        rw (← m, ← a) (waited-from (ran_on hash s n rooms now v).state more x (one-step s n rooms now v one) ((timers hash now v (begin s n rooms)).within w)
+        (begun-step p id hash now v (begin s n rooms) begun) (rw (← a) at h))
+    waited-in s _ (runs _ n rooms now v more x) one w begun (b ∷ before) after e r q h =
+        let m : more ≡ before ++ (accept e r ∷ after) = cc in
+        waited-in (ran_on hash s n rooms now v).state more x (one-step s n rooms now v one) ((timers hash now v (begin s n rooms)).within w)
+        (begun-step p id hash now v (begin s n rooms) begun) before after e r m h
 
-  -- the answers to any list from such a state
-  pub waits-four-ticks : (s : State) (past : List Answer) → Trace s past → One s → Within s.dropped → WaitsFourTicks past
-  waits-four-ticks s past x one w = record { always = λ p id before call after e h. waited-in p id s past x one w before call after e h }
-
-  -- from what an accepted creation leaves
+  -- from what an accepted creation leaves: the answers to any list
   pub waits-from-fresh : (c : Settings) (l : Limits) (block_length : ℕ) (s : State) (n : Counts) → create c l block_length ≡ created s n → (past : List Answer) → Trace s past → WaitsFourTicks past
-  unfolding per_message fresh count
+  unfolding per_message fresh count any
   waits-from-fresh c l block_length s n h past x =
       let f : Fresh c l s = create-fresh c l block_length s n h in
       let one : 1 ≤ per_message c.max_message_size = omega (arith, f.size) in
-      waits-four-ticks s past x (rw f.state one) (rw f.state (record { each = λ p. omega arith; in_all = omega arith }))
+      record {
+        always = λ p id before after e r q k. waited-in p id s past x (rw f.state one) (rw f.state (record { each = λ p. omega arith; in_all = omega arith })) (λ o. true≢ (rw f.state at o)) before after e r q k;
+      }
 
 pub four-ticks : (hash : List ℕ → ℕ) → FourTicks hash
 four-ticks hash = record {

@@ -13,14 +13,15 @@ use Rattle.std.specs.Prelude.{if◌then◌else◌}
 use Rattle.storage.specs.Lists.Base.{is_empty, filter, any, count}
 use Rattle.storage.proofs.ListsLaws.MapLaws.{cases, true≢, and_left}
 use Rattle.storage.proofs.ListsLaws.Lists.{any_left, any-right, any-filter}
+use Rattle.storage.proofs.ListsLaws.ListLaws.{any-filter-false}
 use Rattle.time_cache.specs.TimeCache.{holds}
-use Rattle.postcard.specs.Message.{Message, Gossip, Prune, Graft, IHave, SendGraft, DispatchLazyPush, EvictCache, AnnounceDropped, Event, Received, Broadcast, Fired, Up, Down}
+use Rattle.postcard.specs.Message.{Scope, Message, Gossip, Prune, Graft, IHave, SendGraft, DispatchLazyPush, EvictCache, AnnounceDropped, Event, Received, Broadcast, Fired, Up, Down}
 use Rattle.protocol.specs.Links.{is_neighbour}
 use Rattle.protocol.specs.State.{Note, with_queue}
 use Rattle.protocol.specs.Run.{Run, with_state, act}
 use Rattle.protocol.specs.Push.{for_peer, notes, schedule_dispatch, schedule_announce_dropped}
 use Rattle.protocol.specs.Gossips.{update_links}
-use Rattle.protocol.specs.Ticks.{per_message, queued_peers, dispatch_to, clear_dispatch, on_dispatch_timer, oldest, younger, move_oldest, still_cached, dispatch_if_queued, on_announce_dropped_timer}
+use Rattle.protocol.specs.Ticks.{per_message, queued_peers, dispatch_to, clear_dispatch, on_dispatch_timer, oldest, younger, move_oldest, still_cached, dispatch_if_queued, on_announce_dropped_timer, evict, on_evict_cache_timer}
 use Rattle.protocol.specs.Neighbours.{without_notes, forget_peer, on_neighbor_up, on_neighbor_down}
 use Rattle.protocol.specs.Handle.{first_event, count_message, if_neighbour, on_timer, on_message, handle_message, handle}
 use Rattle.protocol.specs.NoNeighbourPassedOver.{is_down, dispatch_tick, announce_tick, is_tick, fires_tick}
@@ -39,18 +40,19 @@ record Alone (r r' : Run) : Type 0 where
   dropped : r'.state.dropped ≡ r.state.dropped
   queue : r'.state.queue ≡ r.state.queue
   cache : r'.state.cache ≡ r.state.cache
+  init : r'.state.init ≡ r.state.init
 
 alone-refl : (r : Run) → Alone r r
-alone-refl r = record { dropped = refl; queue = refl; cache = refl }
+alone-refl r = record { dropped = refl; queue = refl; cache = refl; init = refl }
 
 alone-dispatch : (r : Run) → Alone r (dispatch_if_queued r)
 unfolding dispatch_if_queued schedule_dispatch act
 alone-dispatch r =
-    walk-if Alone (is_empty r.state.queue) (alone-refl r) (walk-if Alone r.state.timers.dispatch (alone-refl r) (record { dropped = refl; queue = refl; cache = refl }))
+    walk-if Alone (is_empty r.state.queue) (alone-refl r) (walk-if Alone r.state.timers.dispatch (alone-refl r) (record { dropped = refl; queue = refl; cache = refl; init = refl }))
 
 alone-announce : (r : Run) → Alone r (schedule_announce_dropped r)
 unfolding schedule_announce_dropped act
-alone-announce r = walk-if Alone (is_empty r.state.dropped || r.state.timers.announce) (alone-refl r) (record { dropped = refl; queue = refl; cache = refl })
+alone-announce r = walk-if Alone (is_empty r.state.dropped || r.state.timers.announce) (alone-refl r) (record { dropped = refl; queue = refl; cache = refl; init = refl })
 
 -- the tick beside what it schedules
 tick-alone : (r : Run) → Alone (with_state (move_oldest (still_cached r.state) r.state) r) (on_announce_dropped_timer r)
@@ -59,7 +61,7 @@ tick-alone r =
     let r₁ : Run = with_state (move_oldest (still_cached r.state) r.state) r in
     let x = alone-dispatch r₁ in
     let y = alone-announce (dispatch_if_queued r₁) in
-    record { dropped = y.dropped ∙ x.dropped; queue = y.queue ∙ x.queue; cache = y.cache ∙ x.cache }
+    record { dropped = y.dropped ∙ x.dropped; queue = y.queue ∙ x.queue; cache = y.cache ∙ x.cache; init = y.init ∙ x.init }
 
 module _ (p id : ℕ) where
   infixr 4 ◌⨾◌
@@ -69,7 +71,7 @@ module _ (p id : ℕ) where
   -- what becomes of what stands recorded: it stays, nearer by 64 at a tick; or a tick takes it off, uncached or into the queue
   pub data After (tick : Bool) (r r' : Run) : Type 0 where
     stays : any (notes p id) r'.state.dropped ≡ true → place p id r' + (if tick then 64 else 0) ≤ place p id r → After tick r r'
-    uncached : tick ≡ true → any (notes p id) r'.state.dropped ≡ false → holds id r'.state.cache ≡ false → After tick r r'
+    uncached : tick ≡ true → any (notes p id) r'.state.dropped ≡ false → holds id r.state.cache ≡ false → After tick r r'
     queues : tick ≡ true → any (notes p id) r'.state.dropped ≡ false → any (notes p id) r'.state.queue ≡ true → After tick r r'
 
   kept : {r r' : Run} → any (notes p id) r.state.dropped ≡ true → Keeps p id r r' → After false r r'
@@ -107,7 +109,7 @@ module _ (p id : ℕ) where
       (λ y. stays (rw x.dropped y) (rw x.dropped (nearer-by-64 r y)))
       (λ gone. cases (holds id r.state.cache)
       (λ held. queues refl (rw x.dropped gone) (rw x.queue (moved r h held gone)))
-      (λ not_held. uncached refl (rw x.dropped gone) (rw x.cache not_held)))
+      (λ not_held. uncached refl (rw x.dropped gone) not_held))
 
   -- other peers' entries taken out
   down-other : (q : ℕ) (r : Run) → eqb p q ≡ false → Keeps p id r (on_neighbor_down q r)
@@ -116,6 +118,7 @@ module _ (p id : ℕ) where
     stays = λ h. any-filter (notes p id) (λ n. not (for_peer q n)) (λ n k. stay n k) r.state.dropped h;
     nearer = λ h. omega (arith, ap (last id) (filter-swap (for_peer p) (λ n. not (for_peer q n)) r.state.dropped), last-filter id (λ n. not (for_peer q n)) (of_peer p r.state.dropped));
     queue = λ h. any-filter (notes p id) (λ n. not (for_peer q n)) (λ n k. stay n k) r.state.queue h;
+    begun = λ i. i;
   }
     where
       stay : (n : Note) → notes p id n ≡ true → not (eqb n.peer q) ≡ true
@@ -142,39 +145,56 @@ module _ (p id : ℕ) where
     keeps-on_message now q (Graft wanted round) r = walk-if (Keeps p id) (is_neighbour q r.state.links) (walk-on_graft (Keeps p id) (keeps-steps p id) q wanted r) (keeps-refl p id r)
     keeps-on_message now q (IHave hs) r = walk-if (Keeps p id) (is_neighbour q r.state.links) (walk-on_ihave (Keeps p id) (keeps-steps p id) (keeps-announces p id) q hs r) (keeps-refl p id r)
 
-    keeps-received : (now q : ℕ) (m : Message) (r : Run) → Keeps p id r (handle hash now (Received q m) r)
+    -- the events that are no tick of record or queue, behind what a first event does
+
+    keeps-received : (now q : ℕ) (m : Message) (r : Run) → Keeps p id (first_event now r) (handle hash now (Received q m) r)
     unfolding handle handle_message
-    keeps-received now q m r = keeps-first now r ⨾ (keeps-steps p id).counts (count_message m (first_event now r).counts) (first_event now r) ⨾ keeps-on_message now q m _
+    keeps-received now q m r = (keeps-steps p id).counts (count_message m (first_event now r).counts) (first_event now r) ⨾ keeps-on_message now q m _
+
+    keeps-broadcast : (now : ℕ) (content : List ℕ) (scope : Scope) (r : Run) → Keeps p id (first_event now r) (handle hash now (Broadcast content scope) r)
+    unfolding handle
+    keeps-broadcast now content scope r = walk-broadcast (Keeps p id) (keeps-steps p id) (keeps-caches p id) hash now content scope (first_event now r)
+
+    keeps-send_graft : (now i : ℕ) (r : Run) → Keeps p id (first_event now r) (handle hash now (Fired (SendGraft i)) r)
+    unfolding handle on_timer
+    keeps-send_graft now i r = walk-on_send_graft_timer (Keeps p id) (keeps-steps p id) (keeps-leaves p id) (keeps-grafts p id) now i (first_event now r)
+
+    keeps-evict_timer : (now : ℕ) (r : Run) → Keeps p id (first_event now r) (handle hash now (Fired EvictCache) r)
+    unfolding handle on_timer
+    keeps-evict_timer now r = keeps-evict p id now (first_event now r)
+
+    -- a dispatch tick, once the queue is taken out
+    keeps-dispatch_to : (r : Run) → Keeps p id (with_state (with_queue [] r.state) r) (dispatch_to (queued_peers r.state.queue) (per_message r.state.settings.max_message_size) r.state.queue (with_state (with_queue [] r.state) r))
+    keeps-dispatch_to r = walk-dispatch_to (Keeps p id) (keeps-sending p id) _ _ _ _
 
     dispatch-record : (r : Run) → any (notes p id) r.state.dropped ≡ true → After false r (on_dispatch_timer r)
     unfolding on_dispatch_timer clear_dispatch
-    dispatch-record r h = stays (x.stays h) (omega (arith, x.nearer h))
-      where
-        x : Keeps p id (with_state (with_queue [] r.state) r) (dispatch_to (queued_peers r.state.queue) (per_message r.state.settings.max_message_size) r.state.queue (with_state (with_queue [] r.state) r))
-        x = walk-dispatch_to (Keeps p id) (keeps-sending p id) _ _ _ _
+    dispatch-record r h = let x = keeps-dispatch_to r in stays (x.stays h) (omega (arith, x.nearer h))
 
-    first_then : {tick : Bool} {r₁ : Run} (now : ℕ) (r : Run) → any (notes p id) r.state.dropped ≡ true → (any (notes p id) (first_event now r).state.dropped ≡ true → After tick (first_event now r) r₁) → After tick r r₁
-    first_then {tick} {r₁} now r h f = on (f (k.stays h))
-      where
-        k : Keeps p id r (first_event now r)
-        k = keeps-first now r
+    dispatch-begun : (r : Run) → r.state.init ≡ true → (on_dispatch_timer r).state.init ≡ true
+    unfolding on_dispatch_timer clear_dispatch
+    dispatch-begun r i = (keeps-dispatch_to r).begun i
 
-        on : After tick (first_event now r) r₁ → After tick r r₁
-        on (stays d l) = stays d (omega (arith, l, k.nearer h))
-        on (uncached t d c) = uncached t d c
-        on (queues t d q) = queues t d q
+    -- the first event alone evicts
+    same-first : (now : ℕ) (r : Run) → r.state.init ≡ true → first_event now r ≡ r
+    unfolding first_event
+    same-first now r i = rw i refl
+
+    first-begun : (now : ℕ) (r : Run) → (first_event now r).state.init ≡ true
+    unfolding first_event on_evict_cache_timer evict act
+    first-begun now r = cases r.state.init (λ i. rw i refl) (λ i. rw i refl)
 
     -- an event that does not tell this neighbour down
-    pub recorded-step : (now : ℕ) (e : Event) (r : Run) → any (notes p id) r.state.dropped ≡ true → is_down p e ≡ false → After (fires_tick announce_tick e) r (handle hash now e r)
+    pub recorded-step : (now : ℕ) (e : Event) (r : Run) → r.state.init ≡ true → any (notes p id) r.state.dropped ≡ true → is_down p e ≡ false → After (fires_tick announce_tick e) r (handle hash now e r)
     unfolding handle on_timer fires_tick is_tick is_down on_neighbor_up update_links
-    recorded-step now (Received q m) r h n = kept h (keeps-received now q m r)
-    recorded-step now (Broadcast content scope) r h n = kept h (keeps-first now r ⨾ walk-broadcast (Keeps p id) (keeps-steps p id) (keeps-caches p id) hash now content scope (first_event now r))
-    recorded-step now (Fired (SendGraft i)) r h n = kept h (keeps-first now r ⨾ walk-on_send_graft_timer (Keeps p id) (keeps-steps p id) (keeps-leaves p id) (keeps-grafts p id) now i (first_event now r))
-    recorded-step now (Fired EvictCache) r h n = kept h (keeps-first now r ⨾ keeps-evict p id now (first_event now r))
-    recorded-step now (Fired DispatchLazyPush) r h n = first_then now r h (λ d. dispatch-record (first_event now r) d)
-    recorded-step now (Fired AnnounceDropped) r h n = first_then now r h (λ d. tick-after (first_event now r) d)
-    recorded-step now (Up as_quiet q) r h n = stays h (omega arith)
-    recorded-step now (Down q) r h n = kept h (down-other q r n)
+    recorded-step now (Received q m) r i h n = kept h (keeps-first now r ⨾ keeps-received now q m r)
+    recorded-step now (Broadcast content scope) r i h n = kept h (keeps-first now r ⨾ keeps-broadcast now content scope r)
+    recorded-step now (Fired (SendGraft j)) r i h n = kept h (keeps-first now r ⨾ keeps-send_graft now j r)
+    recorded-step now (Fired EvictCache) r i h n = kept h (keeps-first now r ⨾ keeps-evict_timer now r)
+    recorded-step now (Fired DispatchLazyPush) r i h n = rw (same-first now r i) (dispatch-record r h)
+    recorded-step now (Fired AnnounceDropped) r i h n = rw (same-first now r i) (tick-after r h)
+    recorded-step now (Up as_quiet q) r i h n = stays h (omega arith)
+    recorded-step now (Down q) r i h n = kept h (down-other q r n)
 
     -- an event that does
     pub down-step : (now : ℕ) (e : Event) (r : Run) → is_down p e ≡ true → any (notes p id) (handle hash now e r).state.dropped ≡ false
@@ -185,6 +205,19 @@ module _ (p id : ℕ) where
     down-step now (Up as_quiet q) r d = true≢ d
     down-step now (Down q) r d = rw (← eqb-true p q d) (down-own r)
 
+    -- a panel on whose record it stands has begun; and an event keeps that
+    pub begun-step : (now : ℕ) (e : Event) (r : Run) → (any (notes p id) r.state.dropped ≡ true → r.state.init ≡ true) → any (notes p id) (handle hash now e r).state.dropped ≡ true →
+        (handle hash now e r).state.init ≡ true
+    unfolding handle on_timer on_neighbor_up update_links on_neighbor_down forget_peer without_notes move_oldest
+    begun-step now (Received q m) r b h = (keeps-received now q m r).begun (first-begun now r)
+    begun-step now (Broadcast content scope) r b h = (keeps-broadcast now content scope r).begun (first-begun now r)
+    begun-step now (Fired (SendGraft i)) r b h = (keeps-send_graft now i r).begun (first-begun now r)
+    begun-step now (Fired EvictCache) r b h = (keeps-evict_timer now r).begun (first-begun now r)
+    begun-step now (Fired DispatchLazyPush) r b h = dispatch-begun (first_event now r) (first-begun now r)
+    begun-step now (Fired AnnounceDropped) r b h = (tick-alone (first_event now r)).init ∙ first-begun now r
+    begun-step now (Up as_quiet q) r b h = b h
+    begun-step now (Down q) r b h = b (cases (any (notes p id) r.state.dropped) (λ e. e) (λ e. true≢ (sym (any-filter-false (notes p id) (λ n. not (for_peer q n)) r.state.dropped e) ∙ h)))
+
     announce-queue : (r : Run) → any (notes p id) r.state.queue ≡ true → any (notes p id) (on_announce_dropped_timer r).state.queue ≡ true
     unfolding move_oldest
     announce-queue r h = rw (tick-alone r).queue (any_left (notes p id) r.state.queue _ h)
@@ -192,10 +225,10 @@ module _ (p id : ℕ) where
     -- what stands queued stays at an event that neither tells the neighbour down nor is the queue's tick
     pub queued-step : (now : ℕ) (e : Event) (r : Run) → any (notes p id) r.state.queue ≡ true → is_down p e ≡ false → fires_tick dispatch_tick e ≡ false → any (notes p id) (handle hash now e r).state.queue ≡ true
     unfolding handle on_timer fires_tick is_tick is_down on_neighbor_up update_links
-    queued-step now (Received q m) r h n t = (keeps-received now q m r).queue h
-    queued-step now (Broadcast content scope) r h n t = (keeps-first now r ⨾ walk-broadcast (Keeps p id) (keeps-steps p id) (keeps-caches p id) hash now content scope (first_event now r)).queue h
-    queued-step now (Fired (SendGraft i)) r h n t = (keeps-first now r ⨾ walk-on_send_graft_timer (Keeps p id) (keeps-steps p id) (keeps-leaves p id) (keeps-grafts p id) now i (first_event now r)).queue h
-    queued-step now (Fired EvictCache) r h n t = (keeps-first now r ⨾ keeps-evict p id now (first_event now r)).queue h
+    queued-step now (Received q m) r h n t = (keeps-first now r ⨾ keeps-received now q m r).queue h
+    queued-step now (Broadcast content scope) r h n t = (keeps-first now r ⨾ keeps-broadcast now content scope r).queue h
+    queued-step now (Fired (SendGraft i)) r h n t = (keeps-first now r ⨾ keeps-send_graft now i r).queue h
+    queued-step now (Fired EvictCache) r h n t = (keeps-first now r ⨾ keeps-evict_timer now r).queue h
     queued-step now (Fired DispatchLazyPush) r h n t = true≢ (sym t)
     queued-step now (Fired AnnounceDropped) r h n t = announce-queue (first_event now r) ((keeps-first now r).queue h)
     queued-step now (Up as_quiet q) r h n t = h

@@ -2,4 +2,3 @@ pub mod Places
 pub mod Keeps
 pub mod Tick
 pub mod Lists
-pub mod Examples

@@ -1,15 +1,15 @@
 -- The examples of docs/GUARANTEE.md: lists of calls, and what the definitions compute of each.
 -- Assumes nothing.
-use Rattle.std.specs.Prelude.{ℕ, zero, suc, ◌≡◌, ◌+◌, Bool, true, false, List, [], ◌∷◌, ◌++◌, length, drop, map, replicate, Some, None}
+use Rattle.std.specs.Prelude.{ℕ, zero, suc, ◌≡◌, ◌+◌, Bool, true, false, ◌&&◌, List, [], ◌∷◌, ◌++◌, length, drop, map, replicate, eqb, Some, None}
 use Rattle.storage.specs.Lists.Base.{any}
 use Rattle.storage.specs.Lists.Map.{entry}
 use Rattle.postcard.specs.Number.{id_bytes}
 use Rattle.postcard.specs.Message.{Swarm, Neighbors, to_swarm, to_neighbors, Message, Gossip, Prune, Graft, IHave, SendGraft, DispatchLazyPush, EvictCache, AnnounceDropped, Event, Received, Broadcast, Fired, Up, Down, Action, Scheduled, Forgotten, message_bytes, event_bytes}
 use Rattle.postcard.specs.Decode.{decoded, decode_event}
-use Rattle.time_cache.specs.TimeCache.{holds}
+use Rattle.time_cache.specs.TimeCache.{Cache, empty_cache, put, holds}
 use Rattle.protocol.specs.Links.{eager, eager_peers, lazy_peers}
-use Rattle.protocol.specs.State.{State, Note, fresh, with_links, with_dropped, with_announce_scheduled, zero_counts}
-use Rattle.protocol.specs.Run.{Room, begin}
+use Rattle.protocol.specs.State.{State, Cached, Note, fresh, with_links, with_dropped, with_cache, with_announce_scheduled, with_init, zero_counts}
+use Rattle.protocol.specs.Run.{Run, Room, begin}
 use Rattle.protocol.specs.Push.{notes, record_full}
 use Rattle.protocol.specs.Handle.{handle}
 use Rattle.protocol.specs.Whole.{whole}
@@ -17,6 +17,7 @@ use Rattle.protocol.specs.Answer.{Call, Answer, refuse, accept, message_fits}
 use Rattle.protocol.specs.Calls.{Ran, run_calls}
 use Rattle.protocol.specs.NoNeighbourPassedOver.{took, announced, is_graft_for, carries, was_taken, was_handed_back, taken_or_handed_back, sent, dispatch_tick, announce_tick, scheduled, met_full}
 use Rattle.protocol.specs.ReadingsFollowTheTree.{payloads_to, announcement_of}
+use Rattle.protocol.specs.FourTicks.{by_state, on_record, off_record, on_queue}
 use Rattle.protocol.specs.Notings.{Coming, comings_in}
 use Rattle.protocol.specs.Screen.{told}
 use Rattle.protocol.specs.Panel.{panel_settings, panel_limits}
@@ -272,6 +273,56 @@ pub record ScreenExamples : Type 0 where
   pub before : drop 4 (map actions_of (after_first greyed).answers)
       ≡ (Forgotten 8 ∷ Forgotten 5 ∷ Scheduled 1000 EvictCache ∷ []) ∷ (Scheduled 1000 EvictCache ∷ []) ∷ []
 
+-- so many identifiers, each above 9, cached at time 0 for 30,000
+unfoldable pub cached : ℕ → Cache Cached
+cached zero = empty_cache
+cached (suc n) = put (n + 10) (record { content = 7 ∷ []; round = 0 }) 30000 (cached n)
+
+-- panel 1 with the eager neighbour 2, and 256 identifiers that are cached and stand recorded for 2; that of place 256 is 10
+abbrev pub waiting : State
+waiting =
+    with_init true (with_cache (cached 256) (with_announce_scheduled true (with_dropped (recorded 256) (with_links (entry 2 eager ∷ []) (fresh panel_settings (record { N = 8; R = 64; C = 256; B = 8192; G = 16; S = 16; T = 16; Q = 256; D = 512 }))))))
+
+-- AnnounceDropped fires so many times
+unfoldable pub ticked : ℕ → Run
+ticked zero = begin waiting zero_counts []
+ticked (suc n) = handle nine 0 (Fired AnnounceDropped) (ticked n)
+
+-- after 0 to 4 ticks
+abbrev pub each_tick : {A : Type 0} → (State → A) → List A
+each_tick f = map (λ n. f (ticked n).state) (0 ∷ 1 ∷ 2 ∷ 3 ∷ 4 ∷ [])
+
+-- `dispatched`, whose dispatch tick the link of 2 hands back too; and then the two ticks again
+abbrev pub twice : List Call
+twice = announcing ++ (shut (Fired DispatchLazyPush) ∷ free (Fired AnnounceDropped) ∷ free (Fired DispatchLazyPush) ∷ [])
+
+-- the answers to these calls upon a fresh panel 1 with room for one in the queue: up 2, broadcasts of 8 and of 5 that the link of 2 hands back, AnnounceDropped, EvictCache at 30,000, AnnounceDropped
+abbrev pub narrow : List Answer
+narrow = (run_calls first (fresh panel_settings (record { N = 8; R = 64; C = 32; B = 8192; G = 16; S = 16; T = 16; Q = 1; D = 64 })) zero_counts
+    (free (Up false 2) ∷ shut (broadcast_of 8) ∷ shut (broadcast_of 5) ∷ free (Fired AnnounceDropped) ∷ evict_at 30000 ∷ free (Fired AnnounceDropped) ∷ [])).answers
+
+-- the call is refused with this number
+unfoldable pub refused_with : ℕ → Answer → Bool
+refused_with n (refuse m) = eqb m n
+refused_with n (accept e r) = false
+
+-- of the four ticks
+pub record FourTicksExamples : Type 0 where
+  -- 64 leave at each tick; the last stands until the fourth, by which it goes to the queue
+  pub whole1 : whole waiting ≡ true
+  pub lengths : each_tick (λ s. length s.dropped) ≡ 256 ∷ 192 ∷ 128 ∷ 64 ∷ 0 ∷ []
+  pub last : each_tick (on_record 2 10) ≡ true ∷ true ∷ true ∷ true ∷ false ∷ []
+  pub last_queued : each_tick (on_queue 2 10) ≡ false ∷ false ∷ false ∷ false ∷ true ∷ []
+  -- put on the record by the broadcast, and off it by the tick; put there again by the dispatch tick, and off it by the next tick; each dispatch tick sends it
+  pub recorded2 : which (by_state (on_record 2 9)) twice ≡ false ∷ true ∷ false ∷ true ∷ false ∷ false ∷ []
+  pub queued2 : which (by_state (on_queue 2 9)) twice ≡ false ∷ false ∷ true ∷ false ∷ true ∷ false ∷ []
+  pub sent2 : which (sent 2 (announcement_of 9) taken_or_handed_back) twice ≡ false ∷ false ∷ false ∷ true ∷ false ∷ true ∷ []
+  pub back2 : which (sent 2 (announcement_of 9) was_handed_back) twice ≡ false ∷ false ∷ false ∷ true ∷ false ∷ false ∷ []
+  -- a tick that would queue two is refused, and is none; the one behind the eviction takes both off
+  pub refused4 : map (refused_with 13) narrow ≡ false ∷ false ∷ false ∷ true ∷ false ∷ false ∷ []
+  pub both2 : map (by_state (λ s. on_record 2 8 s && on_record 2 5 s)) narrow ≡ false ∷ false ∷ true ∷ false ∷ true ∷ false ∷ []
+  pub neither2 : map (by_state (λ s. off_record 2 8 s && off_record 2 5 s)) narrow ≡ true ∷ false ∷ false ∷ false ∷ false ∷ true ∷ []
+
 pub record GuaranteeExamples : Type 0 where
   pub tree : TreeExamples
   pub lists : ListExamples
@@ -279,3 +330,4 @@ pub record GuaranteeExamples : Type 0 where
   pub sizes : SizeExamples
   pub quiet : QuietExamples
   pub screen : ScreenExamples
+  pub four_ticks : FourTicksExamples

@@ -14,9 +14,6 @@ use Rattle.protocol.specs.Run as Run
 use Rattle.protocol.specs.State as State
 use Rattle.protocol.specs.Ticks as Ticks
 use Rattle.time_cache.specs.TimeCache as TimeCache
-use Rattle.storage.specs.Lists.Base.{◌▷◌}
-use Rattle.postcard.specs.Message.{Swarm, Gossip, IHave, DispatchLazyPush, EvictCache, AnnounceDropped, Received, Fired, Sent, Scheduled, Emitted}
-use Rattle.protocol.specs.Run.{Run, Room, begin}
 use Rattle.protocol.specs.WhereAPortGoesAstray.{WhereAPortGoesAstray}
 
 pub astray : WhereAPortGoesAstray

@@ -25,15 +25,13 @@ use Rattle.protocol.specs.Calls as Calls
 use Rattle.protocol.specs.NoNeighbourPassedOver as NoNeighbourPassedOver
 use Rattle.protocol.specs.Panel as Panel
 use Rattle.storage.specs.Lists.Base.{any, member}
-use Rattle.postcard.specs.Message.{Swarm, to_swarm, Gossip, Prune, IHave, SendGraft, DispatchLazyPush, AnnounceDropped, Event, Received, Broadcast, Fired, Up, Down, event_bytes}
-use Rattle.time_cache.specs.TimeCache.{holds}
+use Rattle.postcard.specs.Message.{Up, event_bytes}
 use Rattle.protocol.specs.Links.{eager_peers, lazy_peers}
 use Rattle.protocol.specs.State.{State, fresh, zero_counts}
-use Rattle.protocol.specs.Push.{notes}
-use Rattle.protocol.specs.Answer.{Call, Answer, message_fits}
+use Rattle.protocol.specs.Answer.{Answer, message_fits}
 use Rattle.protocol.specs.SameMeaning.{none_left, as-it-is, another-spelling}
 use Rattle.protocol.proofs.SameMeaning.{same-meaning}
-use Rattle.protocol.specs.NoNeighbourPassedOver.{told_up, took, is_of, announced, is_graft_for, carries, was_taken, was_handed_back, taken_or_handed_back, sent, dispatch_tick, announce_tick, scheduled, fired}
+use Rattle.protocol.specs.NoNeighbourPassedOver.{told_up, took, is_of, announced, is_graft_for, carries, sent, scheduled, fired}
 use Rattle.protocol.specs.Panel.{panel_settings, panel_limits}
 use Rattle.protocol.specs.GuaranteeExamples.{free, gossip, spelled, plain, padded, after, ListExamples}
 use Rattle.protocol.specs.WorkedCalls.{nine}

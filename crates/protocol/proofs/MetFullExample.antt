@@ -15,16 +15,12 @@ use Rattle.protocol.specs.Whole as Whole
 use Rattle.protocol.specs.NoNeighbourPassedOver as NoNeighbourPassedOver
 use Rattle.protocol.specs.Panel as Panel
 use Rattle.protocol.specs.Notings as Notings
-use Rattle.storage.specs.Lists.Map.{entry}
-use Rattle.protocol.specs.Links.{eager}
-use Rattle.protocol.specs.State.{State, Note, fresh, with_links, with_dropped, with_announce_scheduled, zero_counts}
-use Rattle.protocol.specs.Run.{Room, begin}
+use Rattle.protocol.specs.State.{State, fresh}
 use Rattle.protocol.specs.Push.{record_full}
 use Rattle.protocol.specs.Handle.{handle}
 use Rattle.protocol.specs.Whole.{whole}
 use Rattle.protocol.specs.NoNeighbourPassedOver.{met_full}
 use Rattle.protocol.specs.Panel.{panel_settings}
-use Rattle.protocol.specs.Notings.{Coming, comings_in}
 use Rattle.protocol.specs.GuaranteeExamples.{recorded, MetFullExample}
 
 pub met-full-example : MetFullExample

@@ -20,11 +20,11 @@ use Rattle.protocol.specs.Calls as Calls
 use Rattle.protocol.specs.NoNeighbourPassedOver as NoNeighbourPassedOver
 use Rattle.protocol.specs.Panel as Panel
 use mathlib.Core.Path.{refl}
-use Rattle.postcard.specs.Message.{Swarm, Neighbors, to_swarm, to_neighbors, Message, Gossip, Prune, Graft, IHave, SendGraft, DispatchLazyPush, Event, Received, Broadcast, Fired, Up, Down, event_bytes}
-use Rattle.protocol.specs.State.{Note, fresh, zero_counts}
-use Rattle.protocol.specs.Answer.{Call, Answer, refuse, accept}
-use Rattle.protocol.specs.Calls.{Ran, run_calls}
-use Rattle.protocol.specs.NoNeighbourPassedOver.{sent, was_taken}
+use Rattle.postcard.specs.Message.{Message, event_bytes}
+use Rattle.protocol.specs.State.{fresh, zero_counts}
+use Rattle.protocol.specs.Answer.{Answer}
+use Rattle.protocol.specs.Calls.{run_calls}
+use Rattle.protocol.specs.NoNeighbourPassedOver.{sent}
 use Rattle.protocol.specs.ReadingsFollowTheTree as ReadingsFollowTheTree
 use Rattle.protocol.specs.ReadingsFollowTheTree.{payloads_to, announcement_of}
 use Rattle.protocol.specs.Panel.{panel_settings, panel_limits}

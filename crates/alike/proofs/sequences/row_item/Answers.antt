@@ -3,7 +3,6 @@ use mathlib.Core.Path.{◌∙◌}
 use Rattle.alike.specs.Elements.{element}
 use Rattle.alike.proofs.BlockReads.{key-read}
 use Rattle.alike.proofs.sequences.row_item.Goals as goal
-use Rattle.alike.proofs.sequences.row_item.Goals.{Start}
 
 pub returns : goal.returns
 returns c =

@@ -6,7 +6,7 @@ use Rattle.steps.specs.Panels.{state}
 use Rattle.machine.specs.Outcomes.{task_bytes}
 use Rattle.machine.specs.declared.event.Task.{Task}
 use Rattle.machine.proofs.event.carry_out.Goals as goal
-use Rattle.machine.proofs.event.carry_out.Goals.{Start, After-view}
+use Rattle.machine.proofs.event.carry_out.Goals.{Start}
 
 as_bytes : (s : Start) {t : Task} → s.args.task ≡ t → put 0 (task_bytes s.args.call.now t (state s.args.panel.now)) s.args.out.now ≡ put 0 (task_bytes s.args.call.now s.args.task (state s.args.panel.now)) s.args.out.now
 as_bytes s e = ap (λ (t : Task). put 0 (task_bytes s.args.call.now t (state s.args.panel.now)) s.args.out.now) (sym e)

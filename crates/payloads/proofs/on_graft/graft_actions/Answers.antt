@@ -20,7 +20,6 @@ use Rattle.steps.specs.declared.view.Link.{Link}
 use Rattle.steps.specs.Calls.{rooms_of}
 use Rattle.payloads.proofs.OnGraftLaws.{no-bytes, not-there, sends}
 use Rattle.payloads.proofs.on_graft.graft_actions.Goals as goal
-use Rattle.payloads.proofs.on_graft.graft_actions.Goals.{Start}
 
 pub takes-taken-requires : goal.takes-taken-requires
 takes-taken-requires g c = omega (arith, c.requires.rest.1, links-few c.args.view.now.head c.args.view.now.block.now c.args.view.now.sound)

@@ -12,7 +12,7 @@ use Rattle.steps.proofs.LookupLaws.{value-missed, value-there}
 use Rattle.payloads.proofs.OnGraftLaws.{first-taken, length-only, length-missed, length-taken, length-noted, length-full}
 use Rattle.steps.proofs.AtRestLaws.{settled-up, settled-low, settled-takes}
 use Rattle.payloads.proofs.on_graft.graft_notes.Goals as goal
-use Rattle.payloads.proofs.on_graft.graft_notes.Goals.{Start, After-takes}
+use Rattle.payloads.proofs.on_graft.graft_notes.Goals.{Start}
 
 abbrev st : Start → State
 st c = shown c.args.view.now

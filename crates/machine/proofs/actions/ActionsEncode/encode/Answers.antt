@@ -3,8 +3,7 @@ use Rattle.std.proofs.Common.{◌≡◌, refl, sym, ap, ◌∙◌, ℕ, List}
 use mathlib.Core.Path.{subst}
 use mathlib.Core.Logic.{inl, inr}
 use borrow.Author.Tests.{eqb-false}
-use Rattle.storage.specs.Lists.Base.{concat_map}
-use Rattle.postcard.specs.Message.{Neighbors, Emitted, action_bytes}
+use Rattle.postcard.specs.Message.{Neighbors, Emitted}
 use Rattle.wire.specs.Encode.Intake.{Intake, after, RoomFor}
 use Rattle.decide.specs.Settled.{settled}
 use Rattle.steps.specs.Views.{shown}

@@ -17,12 +17,12 @@ use Rattle.postcard.specs.Message.{Swarm, Neighbors, Message, Gossip, Prune, Gra
 use Rattle.postcard.specs.Decode.{Decoded, decoded, faulty, decode_event, message_part}
 use Rattle.postcard.proofs.DecodeBack.{decode-wide, message-size}
 use Rattle.postcard.proofs.DecodeFaults.{decode-faults}
-use Rattle.protocol.specs.State.{State, Counts, Settings, Limits, fresh, size_in_range, up_to, limits_in_range, Cached}
+use Rattle.protocol.specs.State.{State, Counts, Settings, Limits, fresh, size_in_range, up_to, limits_in_range, Cached, created, create}
 use Rattle.protocol.specs.Run.{Run, begin, act}
 use Rattle.protocol.specs.Handle.{first_event}
 use Rattle.protocol.specs.Ticks.{on_evict_cache_timer}
 use Rattle.protocol.specs.Whole.{cache_fits, fits, in_range, whole}
-use Rattle.protocol.specs.Answer.{Call, refuse, accept, message_fits, counts_stay, last_round, too_far, too_far_message, output_of, last_two, ask_of, ask_read, ask, ask_whole}
+use Rattle.protocol.specs.Answer.{Call, Answer, refuse, accept, message_fits, counts_stay, last_round, too_far, too_far_message, output_of, last_two, ask_of, ask_read, ask, ask_whole}
 use Rattle.protocol.specs.Calls.{run_calls, prepend}
 use Rattle.protocol.specs.Calls as Calls
 use Rattle.protocol.proofs.Consistent.{whole-ranged}
@@ -106,6 +106,11 @@ read-length M bs (Down p) y d h = omega arith
 first-same : (s : State) (c : Counts) (k : Call) → (first_event k.now (begin s c k.rooms)).state ≡ first_state k.now s
 unfolding first_event first_state on_evict_cache_timer act
 first-same s c k = cases s.init (λ t. rw t refl) (λ t. rw t refl)
+
+-- of each call, with its answer
+pub data EachAnswer (size : ℕ) : List Call → List Answer → Type 0 where
+  no_more : EachAnswer size [] []
+  one_more : (k : Call) (a : Answer) (ks : List Call) (answers : List Answer) → Enough size k a → EachAnswer size ks answers → EachAnswer size (k ∷ ks) (a ∷ answers)
 
 module _ (hash : List ℕ → ℕ) where
   near_of : (m : Message) (s : State) → MessageWide m → too_far_message hash m s ≡ false → Near hash m s
@@ -208,14 +213,29 @@ module _ (hash : List ℕ → ℕ) where
       (λ w. cases (leb k.now (2 ^ 62)) (λ t. rw (w, t) (enough-read s c k (decode_event k.event) refl w g y)) (λ t. rw (w, t) (refused _ 6 k (λ z. omega (arith, z)))))
       (λ w. rw w (refused _ 5 k (λ z. omega (arith, z))))
 
-pub output-size : (hash : List ℕ → ℕ) → OutputSize hash
-unfolding fresh all
-output-size hash = record {
-  always = λ c l b s n h ks y k z.
+  along-fresh : (c : Settings) (l : Limits) (b : ℕ) (s : State) (n : Counts) → create c l b ≡ created s n → Along c l s
+  unfolding fresh
+  along-fresh c l b s n h =
       let f : Fresh c l s = create-fresh c l b s n h in
-      let first : Along hash c l s = subst (λ (x : State). Along hash c l x) (sym f.state) (record { settings = refl; limits = refl; good = begins refl refl refl refl refl }) in
-      let a = along-list hash c l ks y s n first in
-      subst (λ (x : Settings). Enough (output_size l x.max_message_size) k (ask_whole hash (run_calls hash s n ks).state (run_calls hash s n ks).counts k)) a.settings
-      (subst (λ (x : Limits). Enough (output_size x (run_calls hash s n ks).state.settings.max_message_size) k (ask_whole hash (run_calls hash s n ks).state (run_calls hash s n ks).counts k)) a.limits
-      (enough-call hash (run_calls hash s n ks).state (run_calls hash s n ks).counts k (subst (λ (x : Settings). Stands x.max_message_size (run_calls hash s n ks).state) (sym a.settings) a.good) z));
-}
+      subst (λ (x : State). Along c l x) (sym f.state) (record { settings = refl; limits = refl; good = begins refl refl refl refl refl })
+
+  enough-along : (c : Settings) (l : Limits) (s : State) (n : Counts) (k : Call) → Bytes k.event → Along c l s → Enough (output_size l c.max_message_size) k (ask_whole hash s n k)
+  enough-along c l s n k y a =
+      subst (λ (x : Settings). Enough (output_size l x.max_message_size) k (ask_whole hash s n k)) a.settings
+      (subst (λ (x : Limits). Enough (output_size x s.settings.max_message_size) k (ask_whole hash s n k)) a.limits
+      (enough-call s n k (subst (λ (x : Settings). Stands x.max_message_size s) (sym a.settings) a.good) y))
+
+  -- of each call of a list, with its answer
+  each-along : (c : Settings) (l : Limits) (ks : List Call) → AllBytes ks → (s : State) (n : Counts) → Along c l s → EachAnswer (output_size l c.max_message_size) ks (run_calls hash s n ks).answers
+  unfolding run_calls prepend AllBytes
+  each-along c l [] y s n a = no_more
+  each-along c l (k ∷ ks) y s n a =
+      one_more k _ ks _ (enough-along c l s n k y.0 a) (each-along c l ks y.1 (Calls.state_after s (ask_whole hash s n k)) (Calls.counts_after n (ask_whole hash s n k)) (along-call c l s n k y.0 a))
+
+  pub each-enough : (c : Settings) (l : Limits) (b : ℕ) (s : State) (n : Counts) → create c l b ≡ created s n → (ks : List Call) → AllBytes ks → EachAnswer (output_size l c.max_message_size) ks (run_calls hash s n ks).answers
+  each-enough c l b s n h ks y = each-along c l ks y s n (along-fresh c l b s n h)
+
+  pub output-size : OutputSize hash
+  output-size = record {
+    always = λ c l b s n h ks y k z. enough-along c l (run_calls hash s n ks).state (run_calls hash s n ks).counts k z (along-list c l ks y s n (along-fresh c l b s n h));
+  }

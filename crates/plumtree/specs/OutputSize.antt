@@ -1,13 +1,11 @@
 -- An output of `output_size` bytes is enough, over blocks: a panel that comes from a creation never answers 14 to one, and its actions never take more.
 -- Assumes nothing.
-use Rattle.std.specs.Prelude.{ℕ, ◌≤◌, ◌≡◌, List}
-use Rattle.postcard.specs.Wide.{Bytes}
+use Rattle.std.specs.Prelude.{ℕ, ◌≤◌, ◌≡◌, List, [], ◌∷◌, length}
 use Rattle.protocol.specs.State.{Counts}
 use Rattle.protocol.specs.Answer.{Call}
 use Rattle.block.specs.View.{settings_of, limits_of}
 use Rattle.block.specs.declared.head.Settings.{Settings}
 use Rattle.block.specs.declared.head.Limits.{Limits}
-use Rattle.machine.specs.Called.{Lent, Called}
 use Rattle.output_size.specs.OutputSize.{output_size, AllBytes}
 use Rattle.plumtree.specs.Calls.{Made}
 use Rattle.plumtree.specs.Chain.{Seen, Chain}
@@ -16,9 +14,18 @@ use Rattle.plumtree.specs.Chain.{Seen, Chain}
 abbrev pub size_of : Settings → Limits → ℕ
 size_of c l = output_size (limits_of l) (settings_of c).max_message_size
 
--- one call more, after any chain of calls from an accepted creation; each event's bytes are bytes
+-- what is said of a call and of what was seen of it: its actions have at most so many bytes; lent an output of so many or more, it was not answered 14
+pub record WasEnough (size : ℕ) (k : Call) (v : Seen) : Type 0 where
+  pub fits : length v.bytes ≤ size
+  pub never_14 : size ≤ k.output → v.number ≡ 14 → ⊥
+
+-- of each call, with what was seen of it
+pub data EachEnough (size : ℕ) : List Call → List Seen → Type 0 where
+  no_more : EachEnough size [] []
+  one_more : (k : Call) (v : Seen) (ks : List Call) (seen : List Seen) → WasEnough size k v → EachEnough size ks seen → EachEnough size (k ∷ ks) (v ∷ seen)
+
+-- of every chain of calls from a block and counts as an accepted creation left them
 pub record OutputSizeOfBlocks : Type 0 where
   pub always : (c : Settings) (l : Limits) (before : List ℕ) (old : Counts) (block : List ℕ) (counts : Counts) (long : ℕ) → Made c l before old block counts 0 long →
       (ks : List Call) (seen : List Seen) (last : List ℕ) (last_counts : Counts) → Chain block counts ks seen last last_counts → AllBytes ks →
-      (k : Call) → Bytes k.event → (output : List ℕ) (after : Lent) (number output_length : ℕ) → Called k (record { block = last; counts = last_counts; output = output }) after number output_length →
-      (output_length ≤ size_of c l) × (size_of c l ≤ k.output → number ≡ 14 → ⊥)
+      EachEnough (size_of c l) ks seen

@@ -306,9 +306,11 @@ static inline struct plumtree_limits plumtree_limits_for(size_t neighbours, size
 }
 
 /*
- * A panel that comes from a creation never answers 14 to an output of this length: a message to each neighbour and an emit, or 50 bytes for
- * each queued announcement, or 33 for each cached message, which an eviction tells. Counted from the forms below and held against the calls of
- * tests/beside, not proved. 37,027 for panelrun's limits, 409,664 at the ceilings. Plain C, in this header.
+ * A panel that comes from a creation with these limits and this max_message_size, or a lesser one, never answers 14 to an event call with an output
+ * of this length: a message to each neighbour and an emit, or 50 bytes for each queued announcement, or 33 for each cached message, which an
+ * eviction tells. 37,027 for panelrun's limits, 409,664 at the ceilings. After a return settings and limits are those that came back.
+ * That this number is enough is proved (crates/plumtree/specs/OutputSize.antt). This function is plain C, in this header: that it computes the
+ * number is tested, not proved.
  */
 static inline size_t plumtree_output_size(struct plumtree_limits limits, uint64_t max_message_size)
 {

@@ -144,8 +144,8 @@ impl Limits {
     }
 
     /// A panel that comes from a creation never refuses an output of this length as too short: a message to each neighbour and an emit, or 50
-    /// bytes for each queued announcement, or 33 for each cached message, which an eviction tells. Counted from the forms of actions and held
-    /// against the calls of tests/beside, not proved.
+    /// bytes for each queued announcement, or 33 for each cached message, which an eviction tells. That this number is enough is proved
+    /// (`crates/plumtree/specs/OutputSize.antt`); that this function computes it is tested, not proved.
     ///
     /// ```
     /// assert_eq!(plumtree::Limits::SMALL.output_size(4_094), 37_027);

@@ -9,17 +9,22 @@ use Rattle.whole.specs.States.Kept.{Kept}
 use Rattle.whole.specs.States.Area.{kept_in}
 use Rattle.whole.specs.States.Calls.{Returns}
 use Rattle.whole.proofs.StatesLaws.Accepted.{brought}
+use Rattle.postcard.specs.Wide.{Bytes}
 use Rattle.protocol.specs.State.{Counts}
 use Rattle.protocol.specs.Answer.{Call}
 use Rattle.block.specs.declared.head.Settings.{Settings}
 use Rattle.block.specs.declared.head.Limits.{Limits}
 use Rattle.machine.specs.Called.{Lent, Called}
+use Rattle.output_size.specs.OutputSize.{AllBytes}
 use Rattle.plumtree.specs.Calls.{Made}
 use Rattle.plumtree.specs.Chain.{Seen, Chain, done, next}
+use Rattle.plumtree.specs.OutputSize.{no_more}
 use Rattle.plumtree.proofs.Guarantee.{guarantee}
+use Rattle.plumtree.proofs.OutputSizeLaws.{output-size-of-blocks}
 use Rattle.plumtree.specs.CallList.{CallList, fresh_list, with_call, LeadsTo}
 
 pub fresh_list-leads : (c : Settings) (l : Limits) (before : List ℕ) (old : Counts) (block : List ℕ) (counts : Counts) (long : ℕ) → Made c l before old block counts 0 long → LeadsTo (fresh_list c l) block counts
+unfolding AllBytes
 fresh_list-leads c l before old block counts long m = record {
   before = before;
   old = old;
@@ -29,6 +34,8 @@ fresh_list-leads c l before old block counts long m = record {
   made = m;
   chain = done block counts;
   guaranteed = guarantee.always c l before old block counts long m [] [] block counts (done block counts);
+  bytes = tt;
+  enough = no_more;
 }
 
 -- one call more at the end of a chain
@@ -40,11 +47,17 @@ snoc _ _ _ _ _ _ (next block counts j out mid m w g ks seen last n more) k outpu
     next block counts j out mid m w g (ks ++ (k ∷ [])) (seen ++ (record { number = number; bytes = take long after.output } ∷ [])) after.block after.counts
     (snoc mid.block mid.counts ks seen last n more k output after number long f)
 
-pub with_call-leads : (h : CallList) (block : List ℕ) (counts : Counts) → LeadsTo h block counts → (k : Call) (output : List ℕ) (after : Lent) (number long : ℕ) →
+all-bytes-snoc : (ks : List Call) (k : Call) → AllBytes ks → Bytes k.event → AllBytes (ks ++ (k ∷ []))
+unfolding AllBytes
+all-bytes-snoc [] k a b = (b, tt)
+all-bytes-snoc (j ∷ ks) k a b = (a.0, all-bytes-snoc ks k a.1 b)
+
+pub with_call-leads : (h : CallList) (block : List ℕ) (counts : Counts) → LeadsTo h block counts → (k : Call) → Bytes k.event → (output : List ℕ) (after : Lent) (number long : ℕ) →
     Called k (record { block = block; counts = counts; output = output }) after number long →
     LeadsTo (with_call k (record { number = number; bytes = take long after.output }) h) after.block after.counts
-with_call-leads h block counts g k output after number long f =
+with_call-leads h block counts g k b output after number long f =
     let chain = snoc _ _ _ _ _ _ g.chain k output after number long f in
+    let bytes = all-bytes-snoc h.calls k g.bytes b in
     record {
       before = g.before;
       old = g.old;
@@ -54,6 +67,8 @@ with_call-leads h block counts g k output after number long f =
       made = g.made;
       chain = chain;
       guaranteed = guarantee.always h.settings h.limits g.before g.old g.first g.zeroed g.long g.made _ _ _ _ chain;
+      bytes = bytes;
+      enough = output-size-of-blocks.always h.settings h.limits g.before g.old g.first g.zeroed g.long g.made _ _ _ _ chain bytes;
     }
 
 -- the same list and block, by other names

@@ -2,6 +2,7 @@
 ghost use Rattle.plumtree.specs.Chain.{Guarantee};
 ghost use Rattle.plumtree.specs.Histories.History.{Histories};
 ghost use Rattle.plumtree.specs.Histories.Sheet.{CommissioningSheetOfBlocks};
+ghost use Rattle.plumtree.specs.OutputSize.{OutputSizeOfBlocks};
 
 // Over blocks: "for every list of event calls (…; refused ones too) from a fresh panel, after it this holds".
 pub fn no_neighbour_passed_over()
@@ -16,4 +17,9 @@ pub fn guarantees_follow_savings_and_returns()
 // Over blocks: from blocks that are told alike and equal counts, the same calls give the same answers and actions.
 pub fn alike_blocks_answer_alike()
     ensures { CommissioningSheetOfBlocks }
+{}
+
+// Over blocks: a panel that comes from a creation never answers 14 to an output of `output_size` bytes, and its actions never take more.
+pub fn output_size_is_enough()
+    ensures { OutputSizeOfBlocks }
 {}

@@ -28,10 +28,13 @@ use Rattle.whole.specs.States.Calls.{Saves, Returns}
 use Rattle.whole.proofs.StatesLaws.LeftBy.{area-exact}
 use Rattle.whole.proofs.StatesLaws.Accepted.{kept-after, left_after, saved-not, Found, brought, returned-there, returned-not}
 use Rattle.machine.specs.Called.{Lent, Finds, Called}
+use Rattle.output_size.specs.OutputSize.{AllBytes}
 use Rattle.plumtree.specs.Calls.{Made, counts_left}
 use Rattle.plumtree.specs.Chain.{Seen, Chain, done, next, Guaranteed}
+use Rattle.plumtree.specs.OutputSize.{size_of, EachEnough}
 use Rattle.plumtree.proofs.CreationLaws.{made}
 use Rattle.plumtree.proofs.Guarantee.{created-holds, guarantee}
+use Rattle.plumtree.proofs.OutputSizeLaws.{output-size-of-blocks}
 use Rattle.plumtree.specs.CallList.{CallList, fresh_list, with_call}
 use Rattle.plumtree.specs.Histories.History.{Panel, Saved, Area, kept_of, was_accepted, saved_as, list_saved, list_returned, Step, creates, calls, saves, returns, History, begins, opens, joins, goes, Histories}
 
@@ -58,6 +61,10 @@ module _ (n : ℕ) (s : CallList) (block : List ℕ) (counts : Counts) (g : From
   -- the guarantees hold of the list
   from-guaranteed : Guaranteed s.settings s.limits s.calls s.seen block counts
   from-guaranteed = guarantee.always s.settings s.limits g.before g.old g.first g.zeroed g.long g.made s.calls s.seen block counts g.chain
+
+  -- an output of `size_of` bytes was enough for each of its calls
+  from-enough : AllBytes s.calls → EachEnough (size_of s.settings s.limits) s.calls s.seen
+  from-enough y = output-size-of-blocks.always s.settings s.limits g.before g.old g.first g.zeroed g.long g.made s.calls s.seen block counts g.chain y
 
   -- and the block is whole
   from-whole : whole_block block ≡ true
@@ -281,6 +288,7 @@ inv n (goes front p behind left a right h p' a' g) =
 pub histories : Histories
 histories = record {
   always = λ n front p behind areas h. from-guaranteed n p.list p.block p.counts (one (Left n) front p behind (inv n h).0);
+  enough = λ n front p behind areas h. from-enough n p.list p.block p.counts (one (Left n) front p behind (inv n h).0);
   whole = λ n front p behind areas h. from-whole n p.list p.block p.counts (one (Left n) front p behind (inv n h).0);
   kept = λ n ps left a right h. (one (Keeps n) left a right (inv n h).1).same;
   holds = λ n ps left a right h l. (area-exact.exactly n a.bytes).only_when ((one (Keeps n) left a right (inv n h).1).left l);

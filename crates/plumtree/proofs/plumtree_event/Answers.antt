@@ -1,5 +1,7 @@
 -- `plumtree_event`: the call with the array of rooms is the call with the lent entries.
+use native.Mathlib.Omega.{arith}
 use Rattle.refusal.specs.Numbers.{number_of}
+use Rattle.postcard.proofs.FieldBack.{bytes-each}
 use Rattle.machine.specs.Called.{lent, call_of, Called}
 use Rattle.plumtree.specs.Calls.{entries}
 use Rattle.plumtree.proofs.CallLaws.{called-entries}
@@ -24,11 +26,11 @@ returns-in-Ok-clause-called c = rw c.accepted.ensures (accepted (goal.at.returns
 
 pub returns-in-Ok-clause-continues : goal.returns-in-Ok-clause-continues
 returns-in-Ok-clause-continues c =
-    rw c.accepted.ensures (λ h g. with_call-leads h _ _ g _ _ _ _ _ (accepted (goal.at.returns-in-Ok-clause-continues c).In-Ok))
+    rw c.accepted.ensures (λ h g. with_call-leads h _ _ g _ (bytes-each c.args.event.now (λ i. omega (arith, c.type_inv.event i))) _ _ _ _ (accepted (goal.at.returns-in-Ok-clause-continues c).In-Ok))
 
 pub returns-in-Err-clause-called : goal.returns-in-Err-clause-called
 returns-in-Err-clause-called c = rw c.refused.ensures (refused (goal.at.returns-in-Err-clause-called c).In-Err)
 
 pub returns-in-Err-clause-continues : goal.returns-in-Err-clause-continues
 returns-in-Err-clause-continues c =
-    rw c.refused.ensures (λ h g. with_call-leads h _ _ g _ _ _ _ _ (refused (goal.at.returns-in-Err-clause-continues c).In-Err))
+    rw c.refused.ensures (λ h g. with_call-leads h _ _ g _ (bytes-each c.args.event.now (λ i. omega (arith, c.type_inv.event i))) _ _ _ _ (refused (goal.at.returns-in-Err-clause-continues c).In-Err))

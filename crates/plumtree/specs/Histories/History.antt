@@ -12,8 +12,10 @@ use Rattle.whole.specs.States.Kept.{Kept, keep}
 use Rattle.whole.specs.States.Area.{kept_in, area_holds, InWidth}
 use Rattle.whole.specs.States.Calls.{Saves, Returns}
 use Rattle.machine.specs.Called.{Lent, Called}
+use Rattle.output_size.specs.OutputSize.{AllBytes}
 use Rattle.plumtree.specs.Calls.{Made}
 use Rattle.plumtree.specs.Chain.{Guaranteed}
+use Rattle.plumtree.specs.OutputSize.{size_of, EachEnough}
 use Rattle.plumtree.specs.CallList.{CallList, fresh_list, with_call}
 
 -- a panel at a moment: its block and counts, and the list that the guarantees speak about
@@ -87,6 +89,9 @@ pub record Histories : Type 0 where
   -- the guarantees hold of the panel's list
   pub always : (n : ℕ) (front : List Panel) (p : Panel) (behind : List Panel) (areas : List Area) → History n (front ++ (p ∷ behind)) areas →
       Guaranteed p.list.settings p.list.limits p.list.calls p.list.seen p.block p.counts
+  -- an output of `size_of` bytes was enough for each of its calls, whose events are of bytes
+  pub enough : (n : ℕ) (front : List Panel) (p : Panel) (behind : List Panel) (areas : List Area) → History n (front ++ (p ∷ behind)) areas → AllBytes p.list.calls →
+      EachEnough (size_of p.list.settings p.list.limits) p.list.calls p.list.seen
   -- its block is whole, so that no call upon it is answered 5
   pub whole : (n : ℕ) (front : List Panel) (p : Panel) (behind : List Panel) (areas : List Area) → History n (front ++ (p ∷ behind)) areas → whole_block p.block ≡ true
   -- the area's bytes keep the states whose lists are kept, under their names and in their order

@@ -44,7 +44,8 @@
  *   - Each lent part has fewer than 2^63 bytes. `counts` and `rooms` are aligned as C aligns them; bytes need no alignment.
  *   - What is lent has been written once, block, counts, output and area too (calloc or memset will do). Padding does not matter; after a call it
  *     can hold anything, so who keeps the counts keeps the three numbers.
- *   - The thread has 64 KiB of stack left. (Measured at the ceilings, tests/c/stack.c, and not proved: no proof speaks of the stack.)
+ *   - The thread has 64 KiB of stack left. (Not proved: no proof speaks of the stack. tests/c/stack_bound.py reads from the compiled archive a bound of
+ *     every path that its code has, for the compiler and the flags that made it, and tests/c/stack.c measures calls at the ceilings.)
  *
  * Nothing else is asked. There is no order of calls to keep and no event that must not come: a call that cannot be carried out is refused.
  *

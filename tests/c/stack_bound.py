@@ -31,11 +31,11 @@ RETURN_ADDRESS = 8
 RED_ZONE = 128  # what a function may use below the stack pointer without taking it, by the calling convention
 CALLERS = 512  # what a function that measures another can take itself, with the arguments that it puts on the stack
 
-# Of a function that calls itself, how many of its calls can be underway at once: no code says that, and it is by reading.
+# Of a function that calls itself, how many of its calls can be underway at once. The compiled code does not say it: it is by reading the source.
 LEVELS = {
-    # The slice of each is at most the greatest power of two of chunks of 1,024 bytes that is below the length of the one before, which is below 2^63 bytes.
+    # The first slice is below 2^63 bytes, and each other at most the greatest power of two of chunks of 1,024 bytes that is below the length of the one before.
     "blake3::tree::subtree": 54,
-    # The size of each is half that of the one before, down to below 2,048; four times the first is the length of a slice.
+    # The first size is a fourth of a slice's length, and each other half of the one before; one below 2,048 is the last.
     "blake3::lanes::quarters": 51,
 }
 
@@ -72,6 +72,10 @@ class Untold(Exception):
 
 
 # ---- the archive
+
+
+def not_understood(line):
+    sys.exit(f"this line of objdump is not understood: {line}")
 
 
 def objdump(*words):
@@ -131,11 +135,16 @@ class Archive:
             if begins_member(line):
                 self.symbols.append({})
             elif m := re.match(r"RELOCATION RECORDS FOR \[(.+)\]:$", line):
-                section = self.references.setdefault((len(self.symbols) - 1, m[1]), {})
-            elif m := re.match(r"([0-9a-f]{16}) (R_\w+) +(.+?)([+-]0x[0-9a-f]+)?$", line):
-                section[int(m[1], 16)] = Reference(m[2], m[3], int(m[4] or "0", 16))
+                section = len(self.symbols) - 1, m[1]
+                if section in self.references:
+                    raise Untold(f"two sections of one member have the name {m[1]}")
+                self.references[section] = {}
+            elif m := re.match(r"([0-9a-f]{16}) (R_X86_64_\w+) +(.+?)([+-]0x[0-9a-f]+)?$", line):
+                self.references[section][int(m[1], 16)] = Reference(m[2], m[3], int(m[4] or "0", 16))
             elif m := re.match(r"([0-9a-f]{16}) (.{7}) (.+)\t([0-9a-f]{16}) (?:\.(?:hidden|internal|protected) )?(.*)$", line):
                 self.add_symbol(int(m[1], 16), m[2], m[3], int(m[4], 16), m[5])
+            elif not re.match(r"$|In (nested )?archive |SYMBOL TABLE:$|no symbols$|OFFSET ", line):
+                not_understood(line)
 
     # A symbol; of a file's name there is nothing to know.
     def add_symbol(self, place, flags, section, size, name):
@@ -158,10 +167,12 @@ class Archive:
             elif m := re.match(r"Disassembly of section (.+):$", line):
                 section = (member, m[1])
                 if section in code:
-                    sys.exit(f"two sections of one member have the name {m[1]}")
+                    raise Untold(f"two sections of one member have the name {m[1]}")
                 code[section] = []
             elif m := re.match(r" *([0-9a-f]+):\t(.+)$", line):
                 code[section].append((int(m[1], 16), m[2]))
+            elif not re.match(r"$|In (nested )?archive |[0-9a-f]{16} <.*>:$", line):
+                not_understood(line)
         for f in self.functions.values():
             self.fill(f, code.get(f.at[:2], []))
 
@@ -177,11 +188,12 @@ class Archive:
         _, symbol, addend = reference
         places = self.symbols[member].get(symbol, set())
         found = {(member, *p) for p in places if p[0] != "*UND*"} or self.shared.get(symbol, set())
+        if not found:
+            return symbol
         if len(found) > 1:
             raise Untold(f"{symbol} is defined twice")
-        for member, section, place in found:
-            return member, section, place + addend + 4
-        return symbol
+        [(member, section, place)] = found
+        return member, section, place + addend + 4
 
     # The places that a table of numbers leads to, each counted from the table's own place. It ends where another begins, or what is no reference.
     def entries(self, table):
@@ -258,8 +270,9 @@ class Paths:
 
     # The places that are next, each with what the registers hold there.
     def step(self, i, known):
-        if self.is_probing(i, known):
-            return [self.probed(i, known)]
+        loop = self.following(i, 4)
+        if is_probing(loop):
+            return [self.probed(loop, known)]
         self.uses(i, known)
         if i.name == "call":
             self.leads(i, known["rsp"][1])
@@ -417,25 +430,38 @@ class Paths:
             return "entry", *rest
         return None
 
-    # Pages that are touched on the way down: from a `sub $n,%rsp` on a store to (%rsp), a `cmp` of the stack pointer with a register, and a `jne` back to the sub. It comes out
-    # where the stack pointer is what the register holds.
-    def is_probing(self, i, known):
-        code, loop = self.function.code, [i]
-        while len(loop) < 4 and loop[-1].next in code:
-            loop.append(code[loop[-1].next])
-        sub, store, cmp, jne = [(p.name, *p.operands) for p in loop] if len(loop) == 4 else [()] * 4
-        return (
-            sub[:1] == ("sub",) and sub[1].startswith("$") and sub[2] == "%rsp" and store[0] in ("movq", "orq", "movl", "orl") and store[1:] == ("$0x0", "(%rsp)")
-            and cmp[0] == "cmp" and "%rsp" in cmp and jne[0] == "jne" and int(jne[1], 16) == i.place
-        )
+    # An instruction with those behind it, n in all where there are so many.
+    def following(self, i, n):
+        found = [i]
+        while len(found) < n and found[-1].next in self.function.code:
+            found.append(self.function.code[found[-1].next])
+        return found
 
-    def probed(self, i, known):
-        cmp = self.function.code[self.function.code[i.next].next]
-        register = next(o for o in cmp.operands if o != "%rsp")
-        to, step, (_, depth, where) = known.get(whole(register), ("", 0, None)), number(i.operands[0]), known["rsp"]
+    # Behind a loop of probes the stack pointer is what the register held that it is compared with.
+    def probed(self, loop, known):
+        sub, _, compare, back = loop
+        register = next(o for o in compare.operands if o != "%rsp")
+        to, step, (_, depth, where) = known.get(whole(register), ("",)), number(sub.operands[0]), known["rsp"]
         if not is_whole(register) or to[0] != "stack" or to[2] != where or step <= 0 or to[1] <= depth or (to[1] - depth) % step:
             raise Untold("the stack pointer is changed by what is not known before the program runs")
-        return self.function.code[cmp.next].next, known | {"rsp": to}
+        return back.next, known | {"rsp": to}
+
+
+# Pages that are touched on the way down: `sub $n,%rsp`, a store to (%rsp), a `cmp` of the stack pointer with a register, and a `jne` back to the sub.
+def is_probing(loop):
+    if len(loop) < 4:
+        return False
+    sub, store, compare, back = loop
+    return (
+        (sub.name, sub.operands[1:]) == ("sub", ["%rsp"])
+        and sub.operands[0].startswith("$")
+        and store.name in ("movq", "orq", "movl", "orl")
+        and store.operands == ["$0x0", "(%rsp)"]
+        and compare.name == "cmp"
+        and "%rsp" in compare.operands
+        and (back.name, back.reference) == ("jne", None)
+        and int(back.operands[0], 16) == sub.place
+    )
 
 
 # ---- chains of calls
@@ -518,14 +544,13 @@ def main(words):
     except Untold as e:
         sys.exit(f"the stack cannot be told:\n{e}")
     measured = {name: int(n) for name, n in map(str.split, open(measured))} if measured else {}
-    told = [f"{name} {n}" + (f" ({measured[name]})" if name in measured else "") for name, (n, _) in found.items()]
-    print("stack: in bytes, at most" + " (and measured)" * bool(measured) + ": " + ", ".join(told))
+    told = ", ".join(f"{name} {n}" + (f" ({measured[name]})" if name in measured else "") for name, (n, _) in found.items())
+    left = f"; of {limit} at least {int(limit) - max(n for n, _ in found.values())} are left for {', '.join(OUTSIDE)}, which are not counted" if limit else ""
+    print(f"stack: in bytes, at most{' (and measured)' if measured else ''}: {told}{left}")
     for name, (_, chain) in found.items() if chains else []:
         print(f"{name}: {told_chain(chain)}")
     wrong = list(compared(found, measured))
-    if limit:
-        print(f"stack: {int(limit) - max(n for n, _ in found.values())} of {limit} bytes are left for {', '.join(OUTSIDE)}, which are not counted")
-        wrong += [f"{name} takes more than {limit} bytes: {told_chain(chain)}" for name, (n, chain) in found.items() if n > int(limit)]
+    wrong += [f"{name} takes more than {limit} bytes: {told_chain(chain)}" for name, (n, chain) in found.items() if limit and n > int(limit)]
     if wrong:
         sys.exit("\n".join(wrong))
 

@@ -6,6 +6,9 @@ import contextlib, io, os, subprocess, sys, tempfile
 sys.dont_write_bytecode = True
 import stack_bound
 
+ASM = ("-x", "assembler")
+C = ("-x", "c", "-O2", "-fPIC", "-fno-stack-protector", "-fcf-protection=full", "-fno-reorder-blocks-and-partition")
+
 # Functions in assembler and the bytes that each takes. The return address is 8 of them; `leaf` takes these alone, `deep` 1,000 more.
 TOLD = {
     "nothing": ("ret", 8),
@@ -44,6 +47,11 @@ def by_table(instructions, table):
     return f"lea 5f(%rip),%rcx; {instructions}; jmp *%rax; 1: ret; .section .rodata; 5: .long {table}; .text"
 
 
+# A loop of probes behind these instructions.
+def probes(before, taken, store="movq $0,(%rsp)", compare="cmp %r11,%rsp", back="jne 1b"):
+    return f"{before}; 1: {taken}; {store}; {compare}; {back}; ud2"
+
+
 # Functions of which the stack cannot be told, and why.
 UNTOLD = {
     "loaded": ("mov (%rdi),%rsp; ret", "changed by what is not known"),
@@ -54,12 +62,14 @@ UNTOLD = {
     "lost_number": ("mov $64,%eax; sub %rax,%rsp; call memset@PLT; add %rax,%rsp; ret", "changed by what is not known"),
     "written_by_division": ("mov $64,%eax; div %ecx; sub %rax,%rsp; ret", "changed by what is not known"),
     "other_number": ("push %rax; mov $8,%eax; test %edi,%edi; je 1f; mov $16,%eax; 1: add %rax,%rsp; ret", "changed by what is not known"),
-    "probed_past": ("mov %rsp,%r11; sub $0x9001,%r11; 1: sub $0xc00,%rsp; movq $0,(%rsp); cmp %r11,%rsp; jne 1b; add $0x9001,%rsp; ret", "changed by what is not known"),
-    "probed_otherwise": ("lea -0x1800(%rsp),%r11; 1: sub $0xc00,%rsp; movq $0,(%rsp); cmp %r11,%rsp; ja 1b; add $0x1800,%rsp; ret", "as where room is taken in a loop"),
-    "probed_rounded": (
-        "push %rbp; mov %rsp,%rbp; lea -0xc3f(%rsp),%r11; and $-64,%rsp; 1: sub $0xc00,%rsp; movq $0,(%rsp); cmp %r11,%rsp; jne 1b; leave; ret",
-        "changed by what is not known",
-    ),
+    "probed_past": (probes("lea -0x9001(%rsp),%r11", "sub $0xc00,%rsp"), "changed by what is not known"),
+    "probed_upwards": (probes("lea -0xc00(%rsp),%r11", "sub $-0xc00,%rsp"), "changed by what is not known"),
+    "probed_to_above": (probes("lea 0xc00(%rsp),%r11", "sub $0xc00,%rsp"), "changed by what is not known"),
+    "probed_rounded": (probes("push %rbp; mov %rsp,%rbp; lea -0xc3f(%rsp),%r11; and $-64,%rsp", "sub $0xc00,%rsp"), "changed by what is not known"),
+    "probed_otherwise": (probes("lea -0x1800(%rsp),%r11", "sub $0xc00,%rsp", back="ja 1b"), "as where room is taken in a loop"),
+    "probed_from_elsewhere": (probes("lea -0x1800(%rsp),%r11; 2: nop", "sub $0xc00,%rsp", back="jne 2b"), "as where room is taken in a loop"),
+    "probed_by_others": (probes("lea -0x1800(%rsp),%r11", "sub $0xc00,%rsp", compare="cmp %r11,%r10"), "as where room is taken in a loop"),
+    "probed_to_change": (probes("lea -0x1800(%rsp),%r11", "sub $0xc00,%rsp", store="movq %xmm0,%r11"), "as where room is taken in a loop"),
     "by_index": ("lea -64(%rsp,%rdi,8),%rsp; ret", "changed by what is not known"),
     "to_no_power": ("and $-24,%rsp; ret", "changed by what is not known"),
     "rounded": ("and $-16,%rsp; add $15,%rsp; ret", "left with room still taken"),
@@ -171,48 +181,65 @@ def refused(path, why):
         expect(found.get(name, "nothing"), why.get(name, "nothing"), name)
 
 
+def several(functions):
+    return LEAVES + "".join(assembler(f"plumtree_{name}", body) for name, (body, _) in functions.items())
+
+
+def told_and_measured(folder):
+    path = archive(folder, (several(TOLD), *ASM))
+    out, end = said(path, "65536")
+    expect(end, "", "what can be told")
+    expect(out, ": " + ", ".join(f"{name} {n}" for name, (_, n) in sorted(TOLD.items())) + "; of 65536", "the bytes")
+    expect(out, f"; of 65536 at least {65536 - 40008} are left", "what is left")
+    expect(said("--chains", path)[0], "deepest: plumtree_deepest 8 > deep 1008\n", "a chain")
+    expect(said(path, "40007")[1], "by_register takes more than 40007 bytes: plumtree_by_register 40008", "over the limit")
+    measured = os.path.join(folder, "measured")
+    for line, shown, wanted in MEASURED:
+        with open(measured, "w") as f:
+            f.write(line + "\n")
+        out, end = said(path, "65536", measured)
+        expect(out, shown, line)
+        expect(end, wanted, line)
+
+
+# Two members have functions of one name, each its own, and each calls a function of the other.
+def members(folder):
+    one = assembler("plumtree_one", "call help; push %rax; call plumtree_leaf; pop %rax; ret") + assembler("plumtree_end", "ret")
+    two = assembler("plumtree_two", "call help; jmp plumtree_end") + assembler("plumtree_leaf", "sub $96,%rsp; add $96,%rsp; ret")
+    one += assembler("help", "ret", shared=False)
+    two += assembler("help", "push %rax; pop %rax; ret", shared=False)
+    out, end = said(archive(folder, (one, *ASM), (two, *ASM)))
+    expect(out + end, ": end 8, leaf 104, one 120, two 24\n", "two members")
+    again = two + assembler("plumtree_end", "ret")
+    expect(said(archive(folder, (one, *ASM), (again, *ASM)))[1], "plumtree_end is defined twice", "a function that stands twice")
+    expect(said(archive(folder, (LEAVES, *ASM)))[1], "no function has a name that begins with plumtree_", "an archive without calls")
+    expect(said(archive(folder, ("void plumtree_of_32(void) {}", *C, "-m32")))[1], "not for x86-64", "another machine")
+
+
+def compiled(folder):
+    refused(archive(folder, (UNTOLD_C, *C)), WHY_C)
+    expect(said(archive(folder, (LARGE, *C)), "65536")[1], "large takes more than 65536 bytes", "a large frame")
+    expect(said("--chains", archive(folder, (SWITCH, *C)))[0], " > e 10", "a switch, as a compiler writes it")
+
+
+def cycles(folder):
+    for what, calls in (("a pair", "push %rax; call odd; pop %rax; ret"), ("a pair that no call reaches", "ret")):
+        expect(said(archive(folder, (PAIR, *C), (assembler("plumtree_calls", calls), *ASM)))[1], "odd > even", what)
+    # The assembler writes no relocation for a call of a function that no other file knows.
+    itself = assembler("itself", "test %edi,%edi; je 1f; push %rax; dec %edi; call itself; pop %rax; 1: ret", shared=False)
+    path = archive(folder, (itself + assembler("plumtree_calls", "push %rax; call itself; pop %rax; ret"), *ASM))
+    expect(said(path)[1], "a cycle of calls: itself > itself", "a function that calls itself")
+    stack_bound.LEVELS["itself"] = 10
+    expect(said("--chains", path)[0], f"calls {16 + 10 * 16}\ncalls: plumtree_calls 16 > itself 16 (10 times)\n", "ten levels")
+
+
 def main():
     with tempfile.TemporaryDirectory() as folder:
-        asm, c = ("-x", "assembler"), ("-x", "c", "-O2", "-fPIC", "-fno-stack-protector", "-fcf-protection=full", "-fno-reorder-blocks-and-partition")
-        told = archive(folder, (LEAVES + "".join(assembler(f"plumtree_{name}", body) for name, (body, _) in TOLD.items()), *asm))
-        out, end = said(told, "65536")
-        expect(end, "", "what can be told")
-        expect(out, ": " + ", ".join(f"{name} {n}" for name, (_, n) in sorted(TOLD.items())) + "\n", "the bytes")
-        expect(out, f"{65536 - 40008} of 65536 bytes are left", "what is left")
-        expect(said("--chains", told)[0], "deepest: plumtree_deepest 8 > deep 1008\n", "a chain")
-
-        measured = os.path.join(folder, "measured")
-        for line, shown, wanted in MEASURED:
-            with open(measured, "w") as f:
-                f.write(line + "\n")
-            out, end = said(told, "65536", measured)
-            expect(out, shown, line)
-            expect(end, wanted, line)
-        expect(said(told, "40007")[1], "by_register takes more than 40007 bytes: plumtree_by_register 40008", "over the limit")
-
-        # Two members have functions of one name, each its own, and each calls a function of the other.
-        one = assembler("plumtree_one", "call help; push %rax; call plumtree_leaf; pop %rax; ret") + assembler("help", "ret", shared=False) + assembler("plumtree_end", "ret")
-        two = assembler("plumtree_two", "call help; jmp plumtree_end") + assembler("help", "push %rax; pop %rax; ret", shared=False) + assembler("plumtree_leaf", "sub $96,%rsp; add $96,%rsp; ret")
-        out, end = said(archive(folder, (one, *asm), (two, *asm)))
-        expect(out + end, ": end 8, leaf 104, one 120, two 24\n", "two members")
-        expect(said(archive(folder, (one, *asm), (two + assembler("plumtree_end", "ret"), *asm)))[1], "plumtree_end is defined twice", "a function that stands twice")
-
-        refused(archive(folder, (LEAVES + "".join(assembler(f"plumtree_{name}", body) for name, (body, _) in UNTOLD.items()), *asm)), {name: why for name, (_, why) in UNTOLD.items()})
-        refused(archive(folder, (UNTOLD_C, *c)), WHY_C)
-        calls = assembler("plumtree_calls", "push %rax; call odd; pop %rax; ret")
-        expect(said(archive(folder, (PAIR, *c), (calls, *asm)))[1], "odd > even", "a recursive pair")
-        expect(said(archive(folder, (PAIR, *c), (assembler("plumtree_other", "ret"), *asm)))[1], "odd > even", "a recursive pair that no other call reaches")
-        expect(said(archive(folder, (LARGE, *c)), "65536")[1], "large takes more than 65536 bytes", "a large frame")
-        expect(said("--chains", archive(folder, (SWITCH, *c)))[0], " > e 10", "a switch, as a compiler writes it")
-        expect(said(archive(folder, (LEAVES, *asm)))[1], "no function has a name that begins with plumtree_", "an archive without calls")
-        expect(said(archive(folder, ("void plumtree_of_32(void) {}", *c, "-m32")))[1], "not for x86-64", "another machine")
-
-        # The assembler writes no relocation for a call of a function that no other file knows.
-        itself = assembler("itself", "test %edi,%edi; je 1f; push %rax; dec %edi; call itself; pop %rax; 1: ret", shared=False)
-        itself = archive(folder, (itself + assembler("plumtree_calls", "push %rax; call itself; pop %rax; ret"), *asm))
-        expect(said(itself)[1], "a cycle of calls: itself > itself", "a function that calls itself")
-        stack_bound.LEVELS["itself"] = 10
-        expect(said("--chains", itself)[0], f"calls {16 + 10 * 16}\ncalls: plumtree_calls 16 > itself 16 (10 times)\n", "ten levels")
+        told_and_measured(folder)
+        members(folder)
+        refused(archive(folder, (several(UNTOLD), *ASM)), {name: why for name, (_, why) in UNTOLD.items()})
+        compiled(folder)
+        cycles(folder)
     print("tests/c: the bound of the stack is that of the code, and what cannot be told is refused")
 
 

@@ -44,7 +44,9 @@
  *   - Each lent part has fewer than 2^63 bytes. `counts` and `rooms` are aligned as C aligns them; bytes need no alignment.
  *   - What is lent has been written once, block, counts, output and area too (calloc or memset will do). Padding does not matter; after a call it
  *     can hold anything, so who keeps the counts keeps the three numbers.
- *   - The thread has 64 KiB of stack left. (Measured at the ceilings, tests/c/stack.c, and not proved: no proof speaks of the stack.)
+ *   - The thread has 64 KiB of stack left. (Not proved: no proof speaks of the stack. For the compiler and the flags with which the archive was made,
+ *     tests/c/stack_bound.py reads from it a bound of every path of its code, but for what memcpy, memmove and memset take; it leaves the rest of the
+ *     64 KiB to these. tests/c/stack.c measures calls at the ceilings.)
  *
  * Nothing else is asked. There is no order of calls to keep and no event that must not come: a call that cannot be carried out is refused.
  *

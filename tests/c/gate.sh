@@ -1,11 +1,11 @@
 #!/usr/bin/env bash
 # The library called from C: the headers by themselves as C and C++, each number's text, the examples with what they print, what a host loses
-# readings by, each refusal, which panels are alike, and named states beside a model, all under valgrind.
+# readings by, each refusal, which panels are alike, and named states beside a model, all under valgrind; and the stack that its calls take.
 # PLUMTREE_LIB_DIR can name the directory of another libplumtree.a than the proved one.
 set -euo pipefail
 cd "$(dirname "$0")/../.."
 . tools/setup.sh
-need_packages gcc g++ libc6-dev valgrind
+need_packages binutils gcc g++ libc6-dev python3 valgrind
 out=target/c
 mkdir -p "$out"
 strict="-Wall -Wextra -pedantic -Werror"
@@ -29,6 +29,9 @@ done
 # shellcheck disable=SC2086
 gcc -std=c99 -g $strict -I include -o "$out/numbers" tests/c/numbers.c
 $under_valgrind "$out/numbers" | diff bindings/rust/tests/numbers.txt -
+
+# What reads the stack of compiled functions tells what these take, or refuses.
+python3 tests/c/stack_bound_test.py
 
 need_library
 lib=$PLUMTREE_LIB_DIR
@@ -73,8 +76,9 @@ gcc -std=c99 -O2 -g $strict -I include -I examples/c -o "$out/states" tests/c/st
 "$out/states"
 $under_valgrind "$out/states" 12000 397 >/dev/null
 
-# The stack that the calls take, below what the header says.
+# The stack that the calls take, below what the header says: measured, and a bound of every path that the compiled code has.
 # shellcheck disable=SC2086
 gcc -std=c99 -O2 $strict -pthread -I include -I examples/c -o "$out/stack" tests/c/stack.c "$lib/libplumtree.a"
-"$out/stack"
-echo "tests/c: the headers, the examples, the rules of a host, each refusal, which panels are alike and named states are as promised"
+"$out/stack" >"$out/stack.measured"
+python3 tests/c/stack_bound.py "$lib/libplumtree.a" 65536 "$out/stack.measured"
+echo "tests/c: the headers, the examples, the rules of a host, each refusal, which panels are alike, named states and the stack are as promised"

@@ -1,6 +1,7 @@
 /*
- * How much stack the calls take, at the ceilings: each runs in a thread whose stack was painted before. Prints the most that an event and that any
- * call took, and fails where it is over what the header says.
+ * How much stack the calls take, at the ceilings: each runs in a thread whose stack was painted before. Writes a line for each function, its name and
+ * the most bytes that a call of it took, with what the function took that the thread began with, and fails where that is over what the header says.
+ * tests/c/stack_bound.py has the bounds beside these.
  */
 #define _GNU_SOURCE
 #include <pthread.h>
@@ -85,7 +86,7 @@ static void *go_back(void *unused)
 
 static void stop(const char *why)
 {
-    printf("stack: %s\n", why);
+    fprintf(stderr, "stack: %s\n", why);
     exit(1);
 }
 
@@ -228,8 +229,8 @@ int main(void)
     event_of(plumtree_put_tick(event, PLUMTREE_TIMER_EVICT_CACHE));
     event_of(plumtree_put_down(event, 5));
 
-    printf("stack: create %zu bytes, event at most %zu, alike at most %zu, limit_met at most %zu, rewrite at most %zu, save at most %zu, return at most %zu\n",
-           of_create, most_of_events, most_of_alike, most_of_limits, most_of_rewrites, most_of_saves, most_of_returns);
+    printf("create %zu\nevent %zu\nalike %zu\nlimit_met %zu\nrewrite %zu\nsave %zu\nreturn %zu\n", of_create, most_of_events, most_of_alike, most_of_limits,
+           most_of_rewrites, most_of_saves, most_of_returns);
     if (most_of_events == 0 || most_of_alike == 0 || most_of_rewrites == 0 || most_of_saves == 0 || most_of_returns == 0)
         stop("nothing was measured");
     if (of_create > SAID || most_of_events > SAID || most_of_alike > SAID || most_of_limits > SAID || most_of_rewrites > SAID || most_of_saves > SAID ||

@@ -391,7 +391,7 @@ impl World {
             _ => self.r.chance(35.0),
         };
         if load {
-            v.push(Cmd::Load(self.state().text()));
+            v.push(Cmd::Load(Box::new(self.state())));
         }
         if self.r.chance(4.0) {
             let near = |r: &mut Rng| u64::MAX - r.below(6);
@@ -911,7 +911,7 @@ impl World {
     /// A block near to this state, to be asked whether it is alike.
     fn likeness(&mut self, s: &Snap) -> Cmd {
         let (max, near) = likeness::near(&mut self.r, s, &self.max);
-        Cmd::Alike { max, text: near.text() }
+        Cmd::Alike { max, state: Box::new(near) }
     }
 
     /// Damage to a whole block.

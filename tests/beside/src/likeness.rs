@@ -268,7 +268,22 @@ fn row(r: &mut Rng, rows: &mut Vec<(u64, [u8; 32])>, held: &[(u64, [u8; 32])]) {
     rows.sort_by_key(|e| e.0);
 }
 
-/// One note changed: its round, its identifier, or another one twice in its place.
+/// Notes of which each identifier stands once, as in a record: where it stood first, with its last round.
+fn once(list: &mut Vec<(Id, u16)>) {
+    let mut i = 0;
+    while i < list.len() {
+        let (id, round) = list[i];
+        match list[..i].iter().position(|e| e.0 == id) {
+            Some(first) => {
+                list[first].1 = round;
+                list.remove(i);
+            }
+            None => i += 1,
+        }
+    }
+}
+
+/// One note changed: its round, its identifier, or, where the list has repeats, another one twice in its place.
 fn note(r: &mut Rng, v: &mut Notes, repeats: bool) {
     if v.is_empty() {
         return;
@@ -283,6 +298,9 @@ fn note(r: &mut Rng, v: &mut Notes, repeats: bool) {
         _ => {
             list.remove(i);
         }
+    }
+    if !repeats {
+        once(list);
     }
     v.retain(|e| !e.1.is_empty());
 }

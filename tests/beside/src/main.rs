@@ -16,6 +16,7 @@ mod states;
 mod wire;
 
 use std::{
+    fs::File,
     io::{Read, Seek, Write},
     process::{Command, ExitCode, Stdio},
     time::{Duration, Instant},
@@ -131,25 +132,24 @@ fn report(seed: u64, number: u64, calls: u64, list: Vec<Cmd>, why: &str) {
     println!("{}", replay_apart(&least).err().unwrap_or("(no longer)".into()));
 }
 
-/// The commands of the list that is being run, kept in a file for the process above.
+/// The list that is being run. For the process above a file has its number, and with `--commands` each command too, written before it is run.
 struct Log {
     list: Vec<Cmd>,
-    file: Option<std::fs::File>,
+    file: File,
+    commands: bool,
 }
 
 impl Log {
     fn begin(&mut self, number: u64, calls: u64) {
         self.list.clear();
-        if let Some(f) = &mut self.file {
-            f.set_len(0).unwrap();
-            f.rewind().unwrap();
-            writeln!(f, "# list {number} {calls}").unwrap();
-        }
+        self.file.set_len(0).unwrap();
+        self.file.rewind().unwrap();
+        self.file.write_all(format!("# list {number} {calls}\n").as_bytes()).unwrap();
     }
 
     fn push(&mut self, c: Cmd) -> &Cmd {
-        if let Some(f) = &mut self.file {
-            f.write_all((c.text() + "\n").as_bytes()).unwrap();
+        if self.commands {
+            self.file.write_all((c.text() + "\n").as_bytes()).unwrap();
         }
         self.list.push(c);
         self.list.last().unwrap()
@@ -380,23 +380,27 @@ fn short_messages(mut log: Log) -> ExitCode {
     ExitCode::SUCCESS
 }
 
-/// Starts `work` in a process of its own; if a signal ends it, shrinks the list that it ran.
+/// Starts `work` in a process of its own; if that does not end by itself, shrinks the list that it ran.
 fn watch(seed: u64, args: &[String]) -> ExitCode {
     let file = std::env::temp_dir().join(format!("beside-{}.txt", std::process::id()));
-    let status = Command::new(std::env::current_exe().unwrap())
-        .arg("--work")
-        .arg(&file)
-        .args(args)
-        .status()
-        .unwrap();
-    let text = std::fs::read_to_string(&file).unwrap();
-    let _ = std::fs::remove_file(&file);
+    let mut work = Command::new(std::env::current_exe().unwrap());
+    work.arg("--work").arg(&file).args(args);
+    let status = work.status().unwrap();
     if let Some(code @ (0 | 1)) = status.code() {
+        let _ = std::fs::remove_file(&file);
         return ExitCode::from(code as u8);
     }
+    let text = std::fs::read_to_string(&file).unwrap();
     let head = text.lines().next().and_then(|l| l.strip_prefix("# list ")?.split_once(' '));
     let of = |s: &str| s.parse().unwrap_or(0);
     let (number, calls) = head.map_or((0, 0), |(a, b)| (of(a), of(b)));
+    // That list alone, once more: the first value of an argument counts.
+    let mut again = Command::new(std::env::current_exe().unwrap());
+    again.arg("--work").arg(&file).arg("--commands");
+    again.args(["--from", &number.to_string(), "--calls", "1"]).args(args);
+    let _ = again.stdout(Stdio::null()).stderr(Stdio::null()).status();
+    let text = std::fs::read_to_string(&file).unwrap();
+    let _ = std::fs::remove_file(&file);
     match script::parse(&text) {
         Ok(list) => report(seed, number, calls, list, &status.to_string()),
         Err(e) => println!("{status}: {e}"),
@@ -459,8 +463,8 @@ fn main() -> ExitCode {
         return ExitCode::SUCCESS;
     }
     if let Some(file) = value("--work") {
-        let file = Some(std::fs::File::create(file).unwrap());
-        let log = Log { list: Vec::new(), file };
+        let file = File::create(file).unwrap();
+        let log = Log { list: Vec::new(), file, commands: args.iter().any(|a| a == "--commands") };
         if args.iter().any(|a| a == "--short") {
             return short(log);
         }

@@ -183,11 +183,7 @@ impl Pair {
                 self.limits.out = *out;
                 Ok(None)
             }
-            Cmd::Load(text) => {
-                let panel = Panel::load(text).ok_or("script: not a state")?;
-                self.load(panel)?;
-                Ok(None)
-            }
+            Cmd::Load(state) => self.load(loaded(state)?).map(|()| None),
             Cmd::Counts(c) => {
                 self.counts = *c;
                 self.seconds.end();
@@ -196,7 +192,7 @@ impl Pair {
             }
             Cmd::Event { now, rooms, event } => self.event(*now, rooms, event).map(Some),
             Cmd::Rewrite { message, room } => self.rewriter.run(message, *room).map(|()| None),
-            Cmd::Alike { max, text } => self.alike(max, text).map(|()| None),
+            Cmd::Alike { max, state } => self.alike(max, state).map(|()| None),
             Cmd::Poke(v) => {
                 self.save();
                 for (i, b) in v {
@@ -235,8 +231,8 @@ impl Pair {
                 let asked = Asked { block: &mut self.block, counts: self.counts, panel };
                 self.keeper.save(asked, false, *name).map(|()| None)
             }
-            Cmd::SaveOther { name, counts, max, text } => {
-                self.save_other(*name, *counts, max, text).map(|()| None)
+            Cmd::SaveOther { name, counts, max, state } => {
+                self.save_other(*name, *counts, max, state).map(|()| None)
             }
             Cmd::Return(name) => self.go_back(*name).map(|()| None),
             Cmd::PokeArea(v) => {
@@ -294,8 +290,8 @@ impl Pair {
     }
 
     /// A saving of another panel's state, in a block as long as this one.
-    fn save_other(&mut self, name: u64, counts: [u64; 3], max: &[u64; 9], text: &str) -> Same<()> {
-        let mut panel = Panel::load(text).ok_or("script: not a state")?;
+    fn save_other(&mut self, name: u64, counts: [u64; 3], max: &[u64; 9], state: &Snap) -> Same<()> {
+        let mut panel = loaded(state)?;
         panel.set_counts(counts);
         if block::need(max) > self.block.len {
             return Err("script: another panel does not fit".into());
@@ -409,7 +405,7 @@ impl Pair {
         self.snap = None;
         self.fault = read.as_ref().err().copied();
         if let Ok(snap) = read {
-            let mut panel = Panel::load(&snap.text()).ok_or("a state that can't be loaded")?;
+            let mut panel = loaded(&snap)?;
             panel.set_counts(self.counts);
             self.panel = Some(panel);
             self.limits.max = block::limits(self.block.part());
@@ -483,8 +479,7 @@ impl Pair {
     }
 
     /// *Alike*, of the block and one that holds another state, both ways.
-    fn alike(&mut self, max: &[u64; 9], text: &str) -> Same<()> {
-        let other = Panel::load(text).ok_or("script: not a state")?;
+    fn alike(&mut self, max: &[u64; 9], other: &Snap) -> Same<()> {
         let mut second = Lent::new(block::need(max));
         self.garbage.fill(second.part_mut());
         let as_before = *max == self.limits.max && second.len <= self.block.len;
@@ -493,7 +488,7 @@ impl Pair {
             let n = second.len;
             second.part_mut().copy_from_slice(&self.block.part()[..n]);
         }
-        block::write(&mut self.garbage, second.part_mut(), max, &sorted(other.snap()));
+        block::write(&mut self.garbage, second.part_mut(), max, &sorted(other.clone()));
         let (a, b) = (self.block.part(), second.part());
         let told = second::asked_both_ways(a, b)?;
         self.likeness = Some(told.about);
@@ -561,6 +556,11 @@ fn first_limit(over: u16) -> u64 {
 /// Whether each cached message came as one of at most M bytes, and nothing is cached before the first event, as in every state that calls lead to from a creation.
 fn within(s: &Snap) -> bool {
     (s.init || s.cache.is_empty()) && s.cache.iter().all(|c| c.content.len() as u64 + 37 <= s.m)
+}
+
+/// The Rust's panel with this state, counts zero.
+pub fn loaded(s: &Snap) -> Same<Panel> {
+    Panel::load(&s.text()).ok_or("a state that the Rust does not load".into())
 }
 
 /// Grafted peers of an identifier are a map, the block has them ascending.

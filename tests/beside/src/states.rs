@@ -8,7 +8,7 @@ use oracle::{snap::Id, Panel};
 
 use crate::{
     block, library,
-    run::{holds, same, Lent, Same, PATTERN},
+    run::{holds, loaded, same, Lent, Same, PATTERN},
 };
 
 const FRONT: usize = 256;
@@ -305,7 +305,7 @@ impl Keeper {
             "script: a state that nobody saved",
         )?;
         let snap = block::read(&slot.block).map_err(|e| format!("script: {e}"))?;
-        let panel = Panel::load(&snap.text()).ok_or("script: a state that can't be loaded")?;
+        let panel = loaded(&snap)?;
         Ok(Kept { slot, panel: Rc::new(panel) })
     }
 

@@ -243,6 +243,6 @@ impl States {
         let any = r.next();
         let counts =
             [r.pick(&[0, 1, u64::MAX, any]), r.pick(&[0, u64::MAX, any]), r.pick(&[0, 9, 65535])];
-        Cmd::SaveOther { name, counts, max, text: other.text() }
+        Cmd::SaveOther { name, counts, max, state: Box::new(other) }
     }
 }

@@ -432,7 +432,7 @@ impl World {
     /// The next commands.
     pub fn next(&mut self, pair: &Pair) -> Vec<Cmd> {
         let mut v = Vec::new();
-        let snap = pair.snap.as_ref().expect("a whole block");
+        let snap = pair.snap.as_deref().expect("a whole block");
         let mut event = self.event(snap);
         if !self.quiet && event.first() == Some(&wire::QUIET) {
             event[0] += 1;
@@ -478,7 +478,7 @@ impl World {
 
     /// Takes notice of a return: the panel can have another number, other settings and limits.
     pub fn goes_on(&mut self, pair: &Pair) {
-        let s = pair.snap.as_ref().expect("a whole block");
+        let s = pair.snap.as_deref().expect("a whole block");
         (self.me, self.m, self.cfg) = (s.me, s.m, s.cfg);
         self.max = pair.limits.max;
     }

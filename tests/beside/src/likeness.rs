@@ -120,18 +120,19 @@ fn orders(x: &Snap, y: &Snap) -> Vec<List> {
     LISTS.into_iter().filter(differs).collect()
 }
 
-/// *Alike*, "of two blocks (5 for either)".
-pub fn told(a: &[u8], b: &[u8]) -> Told {
-    let (Ok(x), Ok(y)) = (block::read(a), block::read(b)) else {
+/// *Alike*, "of two blocks (5 for either)". `x` is the state of the first one, where it is known.
+pub fn told(a: &[u8], x: Option<&Snap>, b: &[u8]) -> Told {
+    let read = if x.is_none() { block::read(a).ok() } else { None };
+    let (Some(x), Ok(y)) = (x.or(read.as_ref()), block::read(b)) else {
         return Told { number: 5, alike: false, unordered: false, about: "alike: not whole" };
     };
-    if x == y && block::limits(a) == block::limits(b) {
+    if *x == y && block::limits(a) == block::limits(b) {
         return Told { number: 0, alike: true, unordered: true, about: free(a, b) };
     }
-    if let Some(about) = unlike(a, b, &x, &y) {
+    if let Some(about) = unlike(a, b, x, &y) {
         return Told { number: 0, alike: false, unordered: false, about };
     }
-    let orders = orders(&x, &y);
+    let orders = orders(x, &y);
     let about = match orders[..] {
         [] => free(a, b),
         [list] => named("alike not: order of", list.name()),

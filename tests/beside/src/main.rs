@@ -3,6 +3,7 @@ mod bench;
 mod block;
 mod create;
 mod gen;
+mod lent;
 mod library;
 mod likeness;
 mod paths;
@@ -48,7 +49,7 @@ beside --spin KIND [--ceilings] [--times N]
 
 /// Runs a list of commands; the error tells the difference.
 fn replay(list: &[Cmd]) -> Result<(), String> {
-    let mut pair = Pair::default();
+    let mut pair = Pair::looking(1);
     for (i, c) in list.iter().enumerate() {
         pair.run(c).map_err(|e| format!("command {}: {e}\n{}", i + 1, c.text()))?;
     }
@@ -214,9 +215,9 @@ fn run_list(
             let call = pair.run(c)?.expect("an event");
             paths.seconds(&mut pair);
             calls += 1;
-            let after = pair.snap.as_ref();
+            let after = pair.snap.as_deref();
             let out = pair.limits.out;
-            let before = call.before.as_ref();
+            let before = call.before.as_deref();
             paths.call(before, seen.as_ref(), *now, &call.answer, out, after, damaged);
             paths.rooms(before, rooms, &call.answer);
             paths.spelled(before, event, &call.answer);
@@ -230,6 +231,7 @@ fn run_list(
         go_along(seconds.behind(&pair), &mut pair, paths, log)?;
         world.goes_on(&pair);
     }
+    pair.end()?;
     paths.ended(quiets.are_there(), calls);
     Ok(calls)
 }

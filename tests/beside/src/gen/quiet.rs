@@ -57,7 +57,7 @@ impl Quiets {
         let Some(Cmd::Event { now, event, .. }) = list.last().cloned() else {
             panic!("commands that end with a call");
         };
-        let s = pair.snap.as_ref().expect("a whole block");
+        let s = pair.snap.as_deref().expect("a whole block");
         let seen = pair.panel().see(&event);
         if matches!(seen, Some(Seen::Up(_))) && self.r.chance(50.0) {
             for c in &mut list {

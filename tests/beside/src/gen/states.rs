@@ -231,7 +231,7 @@ impl States {
     /// Another panel, in a block as long as this one: near to this one, or new.
     fn other(&mut self, pair: &Pair) -> Cmd {
         let name = self.name(pair, 30.0);
-        let s = pair.snap.as_ref().expect("a whole block");
+        let s = pair.snap.as_deref().expect("a whole block");
         let r = &mut self.r;
         let (mut max, mut other) = likeness::near(r, s, &pair.limits.max);
         if r.chance(40.0) || block::need(&max) > pair.block().len() {

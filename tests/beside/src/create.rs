@@ -60,37 +60,51 @@ pub fn check(seed: u64) -> Result<u64, String> {
     let any = r.index(most);
     let len = r.pick(&[need, need, need + 1, need - 1, need + 500, need / 2, any, 0, 2048, 4096]);
     let mut bytes = r.bytes(len);
-    let before = bytes.clone();
     let any = [r.next(), r.next(), r.below(65536)];
-    let mut counts = any;
-    let told = format!("creation: me {me} M {m} settings {cfg:?} limits {max:?} length {len}");
+    one(me, m, cfg, max, &mut bytes, any).map_err(|e| {
+        format!("creation: me {me} M {m} settings {cfg:?} limits {max:?} length {len}: {e}")
+    })
+}
+
+/// A creation in these bytes, with any counts.
+fn one(
+    me: u64,
+    m: u64,
+    cfg: [u64; 7],
+    max: [u64; 9],
+    bytes: &mut [u8],
+    any: [u64; 3],
+) -> Result<u64, String> {
     let size = if in_range(&max) { block::need(&max) as u64 } else { 0 };
     let ours = library::block_size(max);
     if size != ours {
-        return Err(format!("{told}: block size {size}, the library {ours}"));
+        return Err(format!("block size {size}, the library {ours}"));
     }
-    let number = expected(m, cfg, max, len);
-    let ours = library::create(&mut bytes, &mut counts, me, m, cfg, max);
+    let number = expected(m, cfg, max, bytes.len());
+    // What a creation leaves as it is: all, or what is behind the need.
+    let from = if number == 0 { block::need(&max) } else { 0 };
+    let before = bytes[from..].to_vec();
+    let mut counts = any;
+    let ours = library::create(bytes, &mut counts, me, m, cfg, max);
     if ours != (library::Answer { number, length: 0, kept: true }) {
-        return Err(format!("{told}: {number}, the library {ours:?}"));
+        return Err(format!("{number}, the library {ours:?}"));
     }
+    let untouched = bytes[from..] == before;
     if number != 0 {
-        if bytes != before || counts != any {
-            return Err(format!("{told}: refused, but the block or the counts changed"));
+        if !untouched || counts != any {
+            return Err("refused, but the block or the counts changed".into());
         }
         return Ok(number);
     }
     if counts != [0; 3] {
-        return Err(format!("{told}: counts {counts:?}"));
+        return Err(format!("counts {counts:?}"));
     }
-    let state = block::read(&bytes).map_err(|e| format!("{told}: not whole: {e}"))?;
-    if state.text() != oracle::Panel::new(me, m, cfg).snap().text() || block::limits(&bytes) != max
-    {
-        return Err(format!("{told}: another state"));
+    let state = block::read(bytes).map_err(|e| format!("not whole: {e}"))?;
+    if state != oracle::Panel::new(me, m, cfg).snap() || block::limits(bytes) != max {
+        return Err("another state".into());
     }
-    let need = block::need(&max);
-    if bytes[need..] != before[need..] || !library::whole(&mut bytes) {
-        return Err(format!("{told}: past the need, or not whole"));
+    if !untouched || !library::whole(bytes) {
+        return Err("past the need, or not whole".into());
     }
     Ok(number)
 }

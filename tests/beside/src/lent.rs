@@ -27,13 +27,6 @@ impl Lent {
         lent
     }
 
-    /// A part with these bytes.
-    pub fn of(bytes: &[u8]) -> Lent {
-        let mut lent = Lent::new(0);
-        lent.put(bytes);
-        lent
-    }
-
     /// From here on the part has so many bytes, of any value.
     pub fn set_len(&mut self, len: usize) {
         self.set_padded(len, PATTERN);
@@ -68,6 +61,75 @@ impl Lent {
     pub fn pads_kept(&self) -> bool {
         let p = |v: &[u8]| all_are(v, self.pad);
         p(&self.bytes[..PAD]) && p(&self.bytes[PAD + self.len..])
+    }
+}
+
+/// A block. Where a call must not change it, its bytes are noted before, unless they are since an earlier call.
+pub struct Block {
+    lent: Lent,
+    noted: Vec<u8>,
+    is_noted: bool,
+}
+
+impl Block {
+    /// A block of so many bytes of any value.
+    pub fn new(len: usize) -> Block {
+        Block { lent: Lent::new(len), noted: Vec::new(), is_noted: false }
+    }
+
+    /// A block with these bytes.
+    pub fn of(bytes: &[u8]) -> Block {
+        let mut block = Block::new(0);
+        block.put(bytes);
+        block
+    }
+
+    /// From here on the block has so many bytes, of any value.
+    pub fn set_len(&mut self, len: usize) {
+        self.lent.set_len(len);
+        self.is_noted = false;
+    }
+
+    /// From here on the block has these bytes.
+    pub fn put(&mut self, bytes: &[u8]) {
+        self.lent.put(bytes);
+        self.is_noted = false;
+    }
+
+    pub fn part(&self) -> &[u8] {
+        self.lent.part()
+    }
+
+    pub fn part_mut(&mut self) -> &mut [u8] {
+        self.lent.part_mut()
+    }
+
+    pub fn pads_kept(&self) -> bool {
+        self.lent.pads_kept()
+    }
+
+    /// The bytes of now are those that it should have, until it is changed.
+    pub fn note(&mut self) {
+        if !self.is_noted {
+            self.noted.resize(self.part().len(), 0);
+            self.noted.copy_from_slice(self.lent.part());
+            self.is_noted = true;
+        }
+    }
+
+    /// It was changed by a call that may do so, or by the harness.
+    pub fn changed(&mut self) {
+        self.is_noted = false;
+    }
+
+    /// The bytes that it should have.
+    pub fn noted(&self) -> &[u8] {
+        assert!(self.is_noted, "bytes that are not noted");
+        &self.noted
+    }
+
+    pub fn unchanged(&self) -> bool {
+        self.part() == self.noted()
     }
 }
 

@@ -11,7 +11,7 @@ use oracle::{
 
 use crate::{
     block,
-    lent::{Lent, Output, SELDOM},
+    lent::{Block, Lent, Output, SELDOM},
     library,
     likeness::{self, List},
     rewriting::Rewriter,
@@ -48,9 +48,9 @@ pub struct Pair {
     pub fault: Option<&'static str>,
     /// What the last question of *alike* was about.
     pub likeness: Option<&'static str>,
-    block: Lent,
-    /// The bytes that the block should have.
-    before: Vec<u8>,
+    block: Block,
+    /// The block's bytes behind the needed length.
+    behind: Vec<u8>,
     counts: [u64; 3],
     out: Output,
     saved: Option<Saved>,
@@ -113,8 +113,8 @@ impl Pair {
             snap: None,
             fault: None,
             likeness: None,
-            block: Lent::new(0),
-            before: Vec::new(),
+            block: Block::new(0),
+            behind: Vec::new(),
             counts: [0; 3],
             out: Output::new(every),
             saved: None,
@@ -197,7 +197,6 @@ impl Pair {
                 self.snap = Some(s.snap);
                 self.fault = None;
                 self.block.put(&s.block);
-                self.before = s.block;
                 self.counts = s.counts;
                 self.limits = s.limits;
                 Ok(None)
@@ -229,7 +228,7 @@ impl Pair {
                 self.second(*seed, Some(*list)).map(|()| None)
             }
             Cmd::Aside => {
-                self.seconds.put_aside(&self.before, self.counts);
+                self.seconds.put_aside(self.block.part(), self.counts);
                 Ok(None)
             }
             Cmd::Together(kind) => self.together(*kind).map(|()| None),
@@ -271,24 +270,23 @@ impl Pair {
     fn save_other(&mut self, name: u64, counts: [u64; 3], max: &[u64; 9], state: &Snap) -> Same<()> {
         let mut panel = loaded(state)?;
         panel.set_counts(counts);
-        let len = self.before.len();
+        let len = self.block.part().len();
         if block::need(max) > len {
             return Err("script: another panel does not fit".into());
         }
-        let mut second = Lent::new(len);
+        let mut second = Block::new(len);
         self.garbage.fill(second.part_mut());
         let snap = Rc::new(sorted(panel.snap()));
         block::write(&mut self.garbage, second.part_mut(), max, &snap);
-        let before = second.part().to_vec();
-        let known = block::read(&before).is_ok().then_some((&panel, &snap));
-        let asked = Asked { block: &mut second, before: &before, counts, known };
+        let known = block::read(second.part()).is_ok().then_some((&panel, &snap));
+        let asked = Asked { block: &mut second, counts, known };
         self.keeper.save(asked, true, name)
     }
 
     /// What a saving or a return is asked with, and who answers.
     fn asked(&mut self) -> (Asked<'_>, &mut Keeper) {
         let known = self.panel.as_ref().zip(self.snap.as_ref());
-        let asked = Asked { block: &mut self.block, before: &self.before, counts: self.counts, known };
+        let asked = Asked { block: &mut self.block, counts: self.counts, known };
         (asked, &mut self.keeper)
     }
 
@@ -321,19 +319,21 @@ impl Pair {
         let any = [self.garbage.next(), self.garbage.next(), self.garbage.below(65536)];
         // One byte short: refused, nothing touched.
         self.fill(need - 1);
+        self.block.note();
         let mut counts = any;
         let a = library::create(self.block.part_mut(), &mut counts, me, m, cfg, max);
         let refused = library::Answer { number: 4, length: 0, kept: true };
         same("creation in a short block", refused, a)?;
         same("counts of a refused creation", any, counts)?;
-        holds(self.block.part() == self.before, "a refused creation changed the block")?;
+        holds(self.block.unchanged(), "a refused creation changed the block")?;
         let more = self.garbage.pick(&[0, 0, 1, 7, 100]);
         self.fill(need + more);
+        self.note_behind(need);
         let a = library::create(self.block.part_mut(), &mut counts, me, m, cfg, max);
         same("creation", library::Answer { number: 0, length: 0, kept: true }, a)?;
         same("counts of a creation", [0; 3], counts)?;
         holds(self.block.pads_kept(), "creation wrote outside of the block")?;
-        holds(self.block.part()[need..] == self.before[need..], "creation wrote past the need")?;
+        holds(self.block.part()[need..] == self.behind, "creation wrote past the need")?;
         self.counts = counts;
         self.panel = Some(Panel::new(me, m, cfg));
         self.settle()
@@ -343,18 +343,16 @@ impl Pair {
     fn fill(&mut self, len: usize) {
         self.block.set_len(len);
         self.garbage.fill(self.block.part_mut());
-        self.remember();
     }
 
-    /// The bytes of the block are those that it should have.
-    fn remember(&mut self) {
-        self.before.resize(self.block.part().len(), 0);
-        self.before.copy_from_slice(self.block.part());
+    fn note_behind(&mut self, need: usize) {
+        self.behind.clear();
+        self.behind.extend_from_slice(&self.block.part()[need..]);
     }
 
     fn load(&mut self, panel: Panel) -> Same<()> {
         let snap = sorted(panel.snap());
-        let len = self.before.len();
+        let len = self.block.part().len();
         self.fill(len);
         block::write(&mut self.garbage, self.block.part_mut(), &self.limits.max, &snap);
         self.seconds.end();
@@ -373,7 +371,7 @@ impl Pair {
         }
         same("limits", self.limits.max, block::limits(self.block.part()))?;
         self.snap = Some(Rc::new(rust));
-        self.remember();
+        self.block.changed();
         Ok(())
     }
 
@@ -382,7 +380,7 @@ impl Pair {
             self.saved = Some(Saved {
                 panel: self.panel().copy(),
                 snap: self.snap.clone().expect("a state"),
-                block: self.before.clone(),
+                block: self.block.part().to_vec(),
                 counts: self.counts,
                 limits: self.limits,
             });
@@ -391,7 +389,8 @@ impl Pair {
 
     /// After a poke: whole or not, and if it is, the Rust goes on with what the block tells.
     fn look(&mut self) -> Same<()> {
-        self.remember();
+        self.block.changed();
+        self.block.note();
         let read = block::read(self.block.part());
         let why = read.as_ref().err().copied().unwrap_or("");
         let ours = library::whole(self.block.part_mut());
@@ -401,7 +400,9 @@ impl Pair {
         self.snap = None;
         self.fault = read.as_ref().err().copied();
         if let Ok(snap) = read {
-            let mut panel = loaded(&snap)?;
+            // A poke that changes nothing of the state leaves the Rust's panel as it is.
+            let saved = self.saved.as_ref().filter(|s| *s.snap == snap);
+            let mut panel = saved.map_or_else(|| loaded(&snap), |s| Ok(s.panel.copy()))?;
             panel.set_counts(self.counts);
             self.panel = Some(panel);
             self.limits.max = block::limits(self.block.part());
@@ -420,6 +421,12 @@ impl Pair {
             }
             None => Answer { number: 5, ..Answer::default() },
         };
+        let need = block::need(&limits.max);
+        if answer.number == 0 {
+            self.note_behind(need);
+        } else {
+            self.block.note();
+        }
         // With the counts full a call is answered 11, and the question, which takes them as zero, is another one.
         if answer.number != 11 {
             let ours = library::limit_met(self.block.part(), now, event, rooms);
@@ -443,12 +450,11 @@ impl Pair {
         compare_actions(&answer, self.out.written())?;
         if answer.number != 0 {
             same("counts of a refused call", self.counts, counts)?;
-            holds(self.block.part() == self.before, "a refused call changed the block")?;
+            holds(self.block.unchanged(), "a refused call changed the block")?;
         } else {
             same("counts", self.panel().counts(), counts)?;
             self.counts = counts;
-            let need = block::need(&limits.max);
-            holds(self.block.part()[need..] == self.before[need..], "wrote past the need")?;
+            holds(self.block.part()[need..] == self.behind, "wrote past the need")?;
             self.settle()?;
             let (before, after) = (before.as_deref(), self.snap.as_deref());
             let (before, after) = before.zip(after).ok_or("an accepted call upon a block that is not whole")?;
@@ -483,10 +489,11 @@ impl Pair {
             second.part_mut().copy_from_slice(&self.block.part()[..n]);
         }
         block::write(&mut self.garbage, second.part_mut(), max, &sorted(other.clone()));
+        self.block.note();
         let (a, b) = (self.block.part(), second.part());
         let told = second::asked_both_ways(a, self.snap.as_deref(), b)?;
         self.likeness = Some(told.about);
-        holds(self.block.part() == self.before, "alike changed the block")
+        holds(self.block.unchanged(), "alike changed the block")
     }
 }
 

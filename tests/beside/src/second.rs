@@ -6,7 +6,7 @@ use oracle::snap::Snap;
 
 use crate::{
     block,
-    lent::{Lent, Output},
+    lent::{Block, Output},
     library,
     likeness::{self, Told},
     run::{holds, Same},
@@ -78,9 +78,7 @@ enum Mode {
 }
 
 struct Second {
-    block: Lent,
-    /// The bytes that the block should have.
-    before: Vec<u8>,
+    block: Block,
     counts: [u64; 3],
     mode: Mode,
     /// Whether its queue and its record are interleaved otherwise than the first one's.
@@ -171,7 +169,7 @@ impl Seconds {
     pub fn together(&mut self, first: First) -> Same<Told> {
         let second = self.second.take().filter(|s| s.mode == Mode::Aside);
         let s = second.ok_or("script: no panel aside")?;
-        self.goes_along(first, &s.before, s.counts)
+        self.goes_along(first, s.block.part(), s.counts)
     }
 
     /// A panel with this block and these counts goes along from here on.
@@ -216,6 +214,10 @@ impl Seconds {
             out.look().map_err(in_second)?;
         }
         out.lend(asked.out, first.actions.len()).map_err(in_second)?;
+        let was = block::interleaved(s.block.part());
+        if first.number != 0 || s.mode != Mode::Alike {
+            s.block.note();
+        }
         let mut counts = s.counts;
         let (block, to) = (s.block.part_mut(), out.part_mut());
         let a = library::event(block, &mut counts, asked.now, asked.event, asked.rooms, to);
@@ -223,12 +225,14 @@ impl Seconds {
         holds(s.block.pads_kept(), "second panel: wrote outside of the block")?;
         out.kept(a.length as usize).map_err(in_second)?;
         let actions = out.written();
-        let was = block::interleaved(&s.before);
+        if s.mode == Mode::Alike {
+            holds(a.number == first.number, "second panel: another answer")?;
+        }
         if a.number != 0 {
-            holds(s.block.part() == s.before, "second panel: a refused call changed the block")?;
+            holds(s.block.unchanged(), "second panel: a refused call changed the block")?;
             holds(counts == s.counts, "second panel: a refused call changed the counts")?;
         } else {
-            s.before.copy_from_slice(s.block.part());
+            s.block.changed();
         }
         s.counts = counts;
         let same = [
@@ -240,7 +244,7 @@ impl Seconds {
             if same.iter().any(|e| !e.0) {
                 self.apart.entry(list).or_default()[2] += 1;
                 self.second = None;
-            } else if asked_both_ways(first.block, first.snap, &s.before)?.alike {
+            } else if asked_both_ways(first.block, first.snap, s.block.part())?.alike {
                 self.second = None;
             }
             return Ok(());
@@ -262,18 +266,18 @@ impl Seconds {
         if quiet && wire::sent(actions).iter().any(gossip) {
             self.about.push("second: a push, some are quiet");
         }
-        let told = asked_both_ways(first.block, first.snap, &s.before)?;
+        let told = asked_both_ways(first.block, first.snap, s.block.part())?;
         holds(told.alike, "second panel: no longer alike")?;
-        let is = block::interleaved(&s.before);
+        let is = block::interleaved(s.block.part());
         self.about.extend(paths(a.number, asked.event, s.mixed, [was, is]));
-        s.mixed = likeness::mixed(first.block, &s.before);
+        s.mixed = likeness::mixed(first.block, s.block.part());
         Ok(())
     }
 }
 
 impl Second {
     fn new(block: &[u8], counts: [u64; 3], mode: Mode, mixed: [bool; 2]) -> Second {
-        Second { block: Lent::of(block), before: block.to_vec(), counts, mode, mixed }
+        Second { block: Block::of(block), counts, mode, mixed }
     }
 }
 

@@ -10,8 +10,8 @@ use oracle::{
 };
 
 use crate::{
-    block,
-    lent::{all_are, Lent},
+    block::{self, le},
+    lent::{all_are, Block, Lent},
     library,
     run::{holds, loaded, same, Same},
 };
@@ -92,10 +92,6 @@ pub const ABOUT: &[&str] = &[
     "return: what came back leaves the message cache",
     "return: what came back leaves the message cache, which it had left before",
 ];
-
-fn le(b: &[u8], at: usize, k: usize) -> u64 {
-    b[at..at + k].iter().rev().fold(0, |v, x| v << 8 | u64::from(*x))
-}
 
 /// A state as the bytes of an area tell it.
 #[derive(Clone, PartialEq)]
@@ -198,9 +194,7 @@ struct Area {
 
 /// What a saving or a return is asked with: the block and what is known of it.
 pub struct Asked<'a> {
-    pub block: &'a mut Lent,
-    /// The bytes of the block.
-    pub before: &'a [u8],
+    pub block: &'a mut Block,
     pub counts: [u64; 3],
     /// The Rust's panel and its state; none where the block is not whole.
     pub known: Option<(&'a Panel, &'a Rc<Snap>)>,
@@ -377,7 +371,8 @@ impl Keeper {
     /// A saving of what is asked with, or of another panel's block in its place.
     pub fn save(&mut self, asked: Asked, other: bool, name: u64) -> Same<()> {
         self.last = None;
-        let n = asked.before.len();
+        asked.block.note();
+        let n = asked.block.part().len();
         let told = self.keeps(n);
         let at = |s: &[Slot]| s.iter().position(|s| s.name == name).unwrap_or(s.len());
         let number = match (&asked.known, &told) {
@@ -391,7 +386,7 @@ impl Keeper {
             library::save(asked.block.part(), asked.counts, self.lent.part_mut(), name);
         same("save answer", number, ours)?;
         same("save length", 0, length)?;
-        holds(asked.block.part() == asked.before, "save changed the block")?;
+        holds(asked.block.unchanged(), "save changed the block")?;
         holds(asked.block.pads_kept(), "save wrote outside of the block")?;
         holds(self.lent.pads_kept(), "save wrote outside of the area")?;
         if number != 0 {
@@ -413,7 +408,7 @@ impl Keeper {
         let i = at(&slots);
         self.saved(&slots, i, name, &asked, other);
         let (panel, snap) = asked.known.expect("a panel");
-        let slot = Slot { name, counts: asked.counts, block: asked.before.into() };
+        let slot = Slot { name, counts: asked.counts, block: asked.block.noted().into() };
         let mut kept = slots.into_iter().map(|s| self.kept(s)).collect::<Same<Vec<Kept>>>()?;
         let new = Kept { slot, panel: Rc::new(panel.copy()), snap: snap.clone() };
         if i == kept.len() {
@@ -436,7 +431,7 @@ impl Keeper {
     }
 
     fn saved(&mut self, slots: &[Slot], i: usize, name: u64, asked: &Asked, other: bool) {
-        let block = asked.before;
+        let block = asked.block.noted();
         let about = &mut self.about;
         match slots.get(i) {
             Some(s) if *s.block == *block && s.counts == asked.counts => {
@@ -476,7 +471,8 @@ impl Keeper {
 
     /// A return; none where it is refused.
     pub fn go_back(&mut self, asked: Asked, name: u64) -> Same<Option<Back>> {
-        let n = asked.before.len();
+        asked.block.note();
+        let n = asked.block.part().len();
         let told = self.keeps(n);
         let slot = told.as_ref().ok().and_then(|s| s.iter().find(|s| s.name == name)).cloned();
         let number = match (&asked.known, &told, &slot) {
@@ -496,7 +492,7 @@ impl Keeper {
         holds(self.lent.part() == self.area.bytes, "a return changed the area")?;
         if number != 0 {
             same("counts of a refused return", asked.counts, counts)?;
-            holds(asked.block.part() == asked.before, "a refused return changed the block")?;
+            holds(asked.block.unchanged(), "a refused return changed the block")?;
             match told {
                 _ if number == 5 => self.not_whole("return", n, name),
                 Ok(s) => self.about.push(match (s.is_empty(), name) {
@@ -525,7 +521,7 @@ impl Keeper {
     }
 
     fn returned(&mut self, kept: &Kept, asked: &Asked, name: u64) {
-        let (block, before) = (&kept.slot.block[..], asked.before);
+        let (block, before) = (&kept.slot.block[..], asked.block.noted());
         let (_, snap) = asked.known.expect("a panel");
         let need = block::need(&block::limits(before));
         let head = |b: &[u8]| b[8 * block::word::M..8 * block::word::LIVE].to_vec();

@@ -338,7 +338,7 @@ impl Paths {
     fn hit(&mut self, name: &'static str) {
         let is = |all: &[&str]| all.contains(&name);
         let first = self.hits.tell(name);
-        debug_assert!(!first || is(ALL) || is(FORGOTTEN) || is(QUIET), "{name}");
+        assert!(!first || is(ALL) || is(FORGOTTEN) || is(QUIET), "{name}");
     }
 
     fn hit_if(&mut self, yes: bool, name: &'static str) {
@@ -392,7 +392,7 @@ impl Paths {
         self.rewrites += std::mem::take(&mut r.calls);
         for name in r.about.drain(..) {
             let first = self.faults.tell(name);
-            debug_assert!(!first || rewriting::ABOUT.contains(&name), "{name}");
+            assert!(!first || rewriting::ABOUT.contains(&name), "{name}");
         }
     }
 
@@ -401,7 +401,7 @@ impl Paths {
         self.states += std::mem::take(&mut k.calls);
         for name in k.about.drain(..) {
             let first = self.faults.tell(name);
-            debug_assert!(!first || states::ABOUT.contains(&name), "{name}");
+            assert!(!first || states::ABOUT.contains(&name), "{name}");
         }
     }
 

@@ -29,14 +29,10 @@ impl Lent {
 
     /// From here on the part has so many bytes, of any value.
     pub fn set_len(&mut self, len: usize) {
-        self.set_padded(len, PATTERN);
-    }
-
-    fn set_padded(&mut self, len: usize, pad: u8) {
-        (self.len, self.pad) = (len, pad);
-        self.bytes.resize(len + 2 * PAD, pad);
-        self.bytes[..PAD].fill(pad);
-        self.bytes[PAD + len..].fill(pad);
+        (self.len, self.pad) = (len, PATTERN);
+        self.bytes.resize(len + 2 * PAD, PATTERN);
+        self.bytes[..PAD].fill(PATTERN);
+        self.bytes[PAD + len..].fill(PATTERN);
     }
 
     /// From here on the part has these bytes.
@@ -46,8 +42,12 @@ impl Lent {
 
     /// The same between pads of another byte, for what a step beyond the part would read.
     pub fn put_padded(&mut self, bytes: &[u8], pad: u8) {
-        self.set_padded(bytes.len(), pad);
-        self.part_mut().copy_from_slice(bytes);
+        (self.len, self.pad) = (bytes.len(), pad);
+        self.bytes.clear();
+        self.bytes.reserve(bytes.len() + 2 * PAD);
+        self.bytes.extend_from_slice(&[pad; PAD]);
+        self.bytes.extend_from_slice(bytes);
+        self.bytes.extend_from_slice(&[pad; PAD]);
     }
 
     pub fn part(&self) -> &[u8] {
@@ -111,8 +111,8 @@ impl Block {
     /// The bytes of now are those that it should have, until it is changed.
     pub fn note(&mut self) {
         if !self.is_noted {
-            self.noted.resize(self.part().len(), 0);
-            self.noted.copy_from_slice(self.lent.part());
+            self.noted.clear();
+            self.noted.extend_from_slice(self.lent.part());
             self.is_noted = true;
         }
     }

@@ -23,9 +23,10 @@ use std::{
     time::{Duration, Instant},
 };
 
+use create::Creations;
 use gen::{Quiets, Rewrites, Seconds, States, World};
 use paths::Paths;
-use run::Pair;
+use run::{Call, Pair, Same};
 use script::Cmd;
 
 const HELP: &str = "\
@@ -157,45 +158,73 @@ impl Log {
     }
 }
 
-/// Runs list `number`. Answers the number of event calls, or the difference.
-fn run_list(
-    seed: u64,
-    number: u64,
-    before: u64,
-    damage: Option<f64>,
-    paths: &mut Paths,
-    log: &mut Log,
-) -> Result<u64, String> {
-    let mut world = World::of(seed, number);
-    if let Some(percent) = damage {
-        world.set_damage(percent);
-    }
-    let mut quiets = Quiets::of(seed, number, &mut world);
-    let mut rewrites = Rewrites::of(seed, number, world.m);
-    let mut states = States::of(seed, number);
-    let mut seconds = Seconds::of(seed, number);
-    let mut pair = Pair::default();
-    let mut calls = 0;
-    log.begin(number, before);
-    paths.begins();
-    paths.creation(create::check(seed ^ number)?);
-    for c in quiets.begin(world.begin()) {
-        let c = log.push(c);
-        pair.run(c)?;
-        paths.seconds(&mut pair);
-        if let Cmd::Together(kind) = c {
-            paths.by_calls(*kind)?;
+/// Lists that are run one after the other, and what they share.
+struct Lists {
+    log: Log,
+    paths: Paths,
+    pair: Pair,
+    creations: Creations,
+}
+
+impl Lists {
+    fn new(log: Log) -> Lists {
+        Lists {
+            log,
+            paths: Paths::default(),
+            pair: Pair::default(),
+            creations: Creations::default(),
         }
     }
-    rewrite(rewrites.begin(), &mut pair, paths, log)?;
-    keep(states.begin(&pair), &mut pair, paths, log)?;
-    go_along(seconds.begin(&pair), &mut pair, paths, log)?;
-    while calls < world.calls as u64 {
+
+    /// Runs list `number`, `before` calls being made. Answers the number of event calls, or the difference.
+    fn run(&mut self, seed: u64, number: u64, before: u64, damage: Option<f64>) -> Same<u64> {
+        let mut world = World::of(seed, number);
+        if let Some(percent) = damage {
+            world.set_damage(percent);
+        }
+        let mut quiets = Quiets::of(seed, number, &mut world);
+        let mut rewrites = Rewrites::of(seed, number, world.m);
+        let mut states = States::of(seed, number);
+        let mut seconds = Seconds::of(seed, number);
+        let mut calls = 0;
+        self.log.begin(number, before);
+        self.paths.begins();
+        self.paths.creation(self.creations.check(seed ^ number)?);
+        for c in quiets.begin(world.begin()) {
+            let c = self.log.push(c);
+            self.pair.run(c)?;
+            self.paths.seconds(&mut self.pair);
+            if let Cmd::Together(kind) = c {
+                self.paths.by_calls(*kind)?;
+            }
+        }
+        self.rewrite(rewrites.begin())?;
+        self.keep(states.begin(&self.pair))?;
+        self.go_along(seconds.begin(&self.pair))?;
+        while calls < world.calls as u64 {
+            let mut behind = Vec::new();
+            let next = world.next(&self.pair);
+            calls += self.calls(quiets.next(&self.pair, next), |event, call| {
+                world.heard(call);
+                behind = rewrites.behind(event, &call.answer.actions);
+            })?;
+            self.rewrite(behind)?;
+            self.keep(states.behind(&self.pair))?;
+            self.go_along(seconds.behind(&self.pair))?;
+            world.goes_on(&self.pair);
+        }
+        self.pair.end()?;
+        self.paths.ended(quiets.are_there(), calls);
+        Ok(calls)
+    }
+
+    /// Runs event calls and what stands before them. `heard` gets each call upon a block that is not damaged. Answers how many calls there were.
+    fn calls(&mut self, list: Vec<Cmd>, mut heard: impl FnMut(&[u8], &Call)) -> Same<u64> {
+        let (pair, paths) = (&mut self.pair, &mut self.paths);
+        let mut calls = 0;
         let mut damaged = false;
-        let mut behind = Vec::new();
-        let next = world.next(&pair);
-        for c in quiets.next(&pair, next) {
-            let c = log.push(c);
+        for c in list {
+            let c = self.log.push(c);
             damaged = match c {
                 Cmd::Poke(_) | Cmd::Cut(_) => true,
                 Cmd::Undo => false,
@@ -213,7 +242,7 @@ fn run_list(
             };
             let seen = pair.panel().see(event);
             let call = pair.run(c)?.expect("an event");
-            paths.seconds(&mut pair);
+            paths.seconds(pair);
             calls += 1;
             let after = pair.snap.as_deref();
             let out = pair.limits.out;
@@ -222,55 +251,38 @@ fn run_list(
             paths.rooms(before, rooms, &call.answer);
             paths.spelled(before, event, &call.answer);
             if !damaged {
-                world.heard(&call);
-                behind = rewrites.behind(event, &call.answer.actions);
+                heard(event, &call);
             }
         }
-        rewrite(behind, &mut pair, paths, log)?;
-        keep(states.behind(&pair), &mut pair, paths, log)?;
-        go_along(seconds.behind(&pair), &mut pair, paths, log)?;
-        world.goes_on(&pair);
+        Ok(calls)
     }
-    pair.end()?;
-    paths.ended(quiets.are_there(), calls);
-    Ok(calls)
-}
 
-/// Begins with second panels.
-fn go_along(
-    list: Vec<Cmd>,
-    pair: &mut Pair,
-    paths: &mut Paths,
-    log: &mut Log,
-) -> Result<(), String> {
-    for c in list {
-        pair.run(log.push(c))?;
-        paths.seconds(pair);
+    /// Begins with second panels.
+    fn go_along(&mut self, list: Vec<Cmd>) -> Same<()> {
+        for c in list {
+            self.pair.run(self.log.push(c))?;
+            self.paths.seconds(&mut self.pair);
+        }
+        Ok(())
     }
-    Ok(())
-}
 
-/// Runs savings and returns.
-fn keep(list: Vec<Cmd>, pair: &mut Pair, paths: &mut Paths, log: &mut Log) -> Result<(), String> {
-    for c in list {
-        pair.run(log.push(c))?;
-        paths.kept(&mut pair.keeper);
+    /// Runs savings and returns.
+    fn keep(&mut self, list: Vec<Cmd>) -> Same<()> {
+        for c in list {
+            self.pair.run(self.log.push(c))?;
+            self.paths.kept(&mut self.pair.keeper);
+        }
+        Ok(())
     }
-    Ok(())
-}
 
-/// Runs rewrites.
-fn rewrite(
-    list: Vec<Cmd>,
-    pair: &mut Pair,
-    paths: &mut Paths,
-    log: &mut Log,
-) -> Result<(), String> {
-    for c in list {
-        pair.run(log.push(c))?;
-        paths.rewritten(&mut pair.rewriter);
+    /// Runs rewrites.
+    fn rewrite(&mut self, list: Vec<Cmd>) -> Same<()> {
+        for c in list {
+            self.pair.run(self.log.push(c))?;
+            self.paths.rewritten(&mut self.pair.rewriter);
+        }
+        Ok(())
     }
-    Ok(())
 }
 
 /// What a run is asked for.
@@ -285,17 +297,17 @@ struct Job {
 }
 
 /// Runs lists until the calls or the time are spent.
-fn work(job: &Job, mut log: Log) -> ExitCode {
+fn work(job: &Job, log: Log) -> ExitCode {
     let start = Instant::now();
-    let mut paths = Paths::default();
+    let mut lists = Lists::new(log);
     let mut done = 0;
     let mut number = job.from;
     let mut shown = start;
     while done < job.calls && start.elapsed() < Duration::from_secs(job.seconds) {
-        match run_list(job.seed, number, done, job.damage, &mut paths, &mut log) {
+        match lists.run(job.seed, number, done, job.damage) {
             Ok(n) => done += n,
             Err(why) => {
-                report(job.seed, number, done, log.list, &why);
+                report(job.seed, number, done, lists.log.list, &why);
                 return ExitCode::from(1);
             }
         }
@@ -309,6 +321,7 @@ fn work(job: &Job, mut log: Log) -> ExitCode {
             );
         }
     }
+    let paths = &lists.paths;
     print!("{}", paths.table(job.brief));
     let t = start.elapsed().as_secs_f64();
     let lists = number - job.from;

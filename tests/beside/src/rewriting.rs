@@ -84,6 +84,11 @@ impl Rewriter {
         }
     }
 
+    /// Goes on with the output of an earlier one.
+    pub fn take_output(&mut self, old: Rewriter) {
+        self.out = old.out;
+    }
+
     /// At the end of a list: nothing was written beyond a length.
     pub fn end(&mut self) -> Same<()> {
         self.out.look().map_err(|e| format!("rewrite {e}"))

@@ -146,10 +146,11 @@ impl Pair {
         match cmd {
             Cmd::New { me, m, cfg } => {
                 self.end()?;
-                self.seconds.created();
-                let new = Pair::looking(self.every);
-                let seconds = std::mem::replace(&mut self.seconds, Seconds::new(self.every));
-                *self = Pair { seconds, ..new };
+                let old = std::mem::replace(self, Pair::looking(self.every));
+                // Of what was before, the outputs stay as memory, and a panel that was put aside.
+                self.out = old.out;
+                self.rewriter.take_output(old.rewriter);
+                self.seconds.go_on(old.seconds);
                 self.settings = Some((*me, *m, *cfg));
                 self.garbage = Rng::new(*me ^ *m ^ cfg[4]);
                 Ok(None)

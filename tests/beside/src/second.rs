@@ -110,6 +110,8 @@ pub type Apart = BTreeMap<&'static str, [u64; 3]>;
 pub struct Seconds {
     second: Option<Second>,
     out: Output,
+    /// The outputs of chosen calls.
+    chosen: [Vec<u8>; 2],
     pub about: Vec<&'static str>,
     /// Pairs that are alike, and calls that both went through.
     pub alike: u64,
@@ -133,6 +135,7 @@ impl Seconds {
         Seconds {
             second: None,
             out: Output::new(every),
+            chosen: [Vec::new(), Vec::new()],
             about: Vec::new(),
             alike: 0,
             calls: 0,
@@ -155,9 +158,10 @@ impl Seconds {
         self.second = Some(Second::new(block, counts, Mode::Aside, [false; 2]));
     }
 
-    /// A creation begins: only a panel that is put aside stays.
-    pub fn created(&mut self) {
-        self.second = self.second.take().filter(|s| s.mode == Mode::Aside);
+    /// A creation begins: of what was before, a panel that is put aside stays, and the outputs.
+    pub fn go_on(&mut self, old: Seconds) {
+        self.second = old.second.filter(|s| s.mode == Mode::Aside);
+        (self.out, self.chosen) = (old.out, old.chosen);
     }
 
     /// The first panel is another one from here on.
@@ -185,7 +189,7 @@ impl Seconds {
             Mode::Apart(list) => {
                 let n = self.apart.entry(list).or_default();
                 n[0] += 1;
-                if told_apart(first.block, block) {
+                if told_apart(first.block, block, &mut self.chosen) {
                     n[1] += 1;
                     self.about.extend(named(format!(
                         "in another order, told apart by chosen calls: {list}"
@@ -300,28 +304,28 @@ pub fn asked_both_ways(a: &[u8], x: Option<&Snap>, b: &[u8]) -> Same<Told> {
 }
 
 /// A panel that chosen calls are run on, with an output that is long enough.
-struct Chosen {
+struct Chosen<'a> {
     block: Vec<u8>,
     counts: [u64; 3],
-    out: Vec<u8>,
+    out: &'a mut Vec<u8>,
 }
 
-impl Chosen {
-    fn new(block: &[u8]) -> Chosen {
-        Chosen { block: block.to_vec(), counts: [0; 3], out: vec![0; 1 << 21] }
+impl Chosen<'_> {
+    fn new<'a>(block: &[u8], out: &'a mut Vec<u8>) -> Chosen<'a> {
+        out.resize(1 << 21, 0);
+        Chosen { block: block.to_vec(), counts: [0; 3], out }
     }
 
     /// The answer, the actions and the counts of a call with room on every link.
     fn answered(&mut self, now: u64, event: &[u8]) -> (u64, &[u8], [u64; 3]) {
-        let (block, out) = (&mut self.block, &mut self.out);
-        let a = library::event(block, &mut self.counts, now, event, &[], out);
-        (a.number, &out[..a.length as usize], self.counts)
+        let a = library::event(&mut self.block, &mut self.counts, now, event, &[], self.out);
+        (a.number, &self.out[..a.length as usize], self.counts)
     }
 }
 
 /// Whether chosen calls tell two panels apart: dispatches of what is queued, ticks that bring what is recorded, Grafts to announcers that stand in another order, an
 /// eviction of all that is cached.
-fn told_apart(a: &[u8], b: &[u8]) -> bool {
+fn told_apart(a: &[u8], b: &[u8], outs: &mut [Vec<u8>; 2]) -> bool {
     let (Ok(x), Ok(y)) = (block::read(a), block::read(b)) else {
         return false;
     };
@@ -337,7 +341,8 @@ fn told_apart(a: &[u8], b: &[u8]) -> bool {
     if x.cexp != y.cexp {
         events.push((1 << 62, wire::EVICT.to_vec()));
     }
-    let (mut a, mut b) = (Chosen::new(a), Chosen::new(b));
+    let [m, n] = outs;
+    let (mut a, mut b) = (Chosen::new(a, m), Chosen::new(b, n));
     events.iter().any(|(now, e)| a.answered(*now, e) != b.answered(*now, e))
 }
 

@@ -14,6 +14,7 @@ mod sample;
 mod script;
 mod second;
 mod states;
+mod text;
 mod wire;
 
 use std::{

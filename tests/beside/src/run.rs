@@ -19,6 +19,7 @@ use crate::{
     script::Cmd,
     second::{self, First, Seconds},
     states::{Asked, Keeper},
+    text,
     wire::{self, Action, Message},
 };
 
@@ -561,7 +562,7 @@ fn within(s: &Snap) -> bool {
 
 /// The Rust's panel with this state, counts zero.
 pub fn loaded(s: &Snap) -> Same<Panel> {
-    Panel::load(&s.text()).ok_or("a state that the Rust does not load".into())
+    Panel::load(&text::of(s)).ok_or("a state that the Rust does not load".into())
 }
 
 /// Grafted peers of an identifier are a map, the block has them ascending.

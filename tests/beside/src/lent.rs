@@ -5,7 +5,7 @@ use crate::run::{holds, Same};
 const PAD: usize = 64;
 const PATTERN: u8 = 0xa5;
 /// All of an output is looked at behind so many calls.
-pub const SELDOM: u32 = 64;
+pub const SELDOM: u32 = 256;
 
 /// Whether each byte is this one: the first is, and each is as the one before it.
 pub fn all_are(v: &[u8], byte: u8) -> bool {
@@ -136,11 +136,13 @@ impl Block {
 /// An output. Its bytes are `PATTERN`; each call is lent a front of them, and what it may write, up to the length that it answers, is set back before the next one.
 ///
 /// All others must stay as they are. Behind each call this is asked of as many as calls have used since all were looked at, and of the last ones of the part with the pads; of all
-/// behind every `every`th call and at the end of a list. Where a call is about to use more, it is first asked of those. So a byte that was written beyond a length is found in
-/// the same list, by this call or a later one, unless somebody writes `PATTERN` there again.
+/// that were lent, with the pads, behind every `every`th call and at the end of a list. Where a call is about to use more, it is first asked of those. So a byte that was written
+/// beyond a length is found in the same list, by this call or a later one, unless somebody writes `PATTERN` there again.
 pub struct Output {
     bytes: Vec<u8>,
     len: usize,
+    /// The most bytes lent since all were looked at.
+    most: usize,
     /// So many bytes the last call has written.
     written: usize,
     /// So many bytes are looked at behind each call.
@@ -152,7 +154,8 @@ pub struct Output {
 
 impl Output {
     pub fn new(every: u32) -> Output {
-        Output { bytes: vec![PATTERN; 2 * PAD], len: 0, written: 0, used: 0, calls: 0, every }
+        let bytes = vec![PATTERN; 2 * PAD];
+        Output { bytes, len: 0, most: 0, written: 0, used: 0, calls: 0, every }
     }
 
     /// Lends so many bytes to a call that should write `expected` of them.
@@ -163,6 +166,7 @@ impl Output {
             self.bytes.resize(len + 2 * PAD, PATTERN);
         }
         self.len = len;
+        self.most = self.most.max(len);
         self.untouched(self.used, expected)?;
         self.used = self.used.max(expected);
         Ok(())
@@ -195,9 +199,10 @@ impl Output {
 
     /// Nothing but what the last call may write was written.
     pub fn look(&mut self) -> Same<()> {
+        let most = std::mem::replace(&mut self.most, self.len);
         (self.calls, self.used) = (0, self.written);
         self.untouched(self.written, self.len)?;
-        self.pads(self.bytes.len() - PAD - self.len)
+        self.pads(most - self.len + PAD)
     }
 
     /// The part's bytes from one place up to another, if there are any.

@@ -31,9 +31,10 @@ use run::{Call, Pair, Same};
 use script::Cmd;
 
 const HELP: &str = "\
-beside [--seed N] [--calls N] [--seconds N] [--from LIST] [--damage PERCENT] [--brief] [--every-path] [--no-shrink]
-    random lists of calls, rewrites, savings and returns on both, compared after each; --brief: no table, only the paths never
-    taken; --every-path: such a path is a failure
+beside [--seed N] [--seeds N] [--calls N] [--seconds N] [--from LIST] [--damage PERCENT] [--brief] [--every-path] [--no-shrink] [--sums FILE]
+    random lists of calls, rewrites, savings and returns on both, compared after each; --seeds: so many seeds, one after the
+    other, with so many calls each; --brief: no table, only the paths never taken; --every-path: such a path is a failure;
+    --sums: if nothing differs, what was counted goes into a file, for long.sh
 beside --short
     every event of at most two bytes, and of three that begin with a kind; every message of at most
     three bytes, rewritten
@@ -135,7 +136,8 @@ fn report(seed: u64, number: u64, calls: u64, list: Vec<Cmd>, why: &str) {
     println!("{}", replay_apart(&least).err().unwrap_or("(no longer)".into()));
 }
 
-/// The list that is being run. For the process above a file has its number, and with `--commands` each command too, written before it is run.
+/// The list that is being run. For other processes a file has its seed, its number and how many calls were made before it, in a line of always as many bytes; with `--commands` each
+/// command too, written before it is run.
 struct Log {
     list: Vec<Cmd>,
     file: File,
@@ -143,11 +145,20 @@ struct Log {
 }
 
 impl Log {
-    fn begin(&mut self, number: u64, calls: u64) {
+    fn begin(&mut self, seed: u64, number: u64, calls: u64) {
         self.list.clear();
-        self.file.set_len(0).unwrap();
+        if self.commands {
+            self.file.set_len(0).unwrap();
+        }
         self.file.rewind().unwrap();
-        self.file.write_all(format!("# list {number} {calls}\n").as_bytes()).unwrap();
+        writeln!(self.file, "# seed {seed:<20} list {number:<20} {calls:<20}").unwrap();
+    }
+
+    /// The seed, the number and the calls before that the text of such a file tells.
+    fn told(text: &str) -> Option<(u64, u64, u64)> {
+        let words: Vec<&str> = text.lines().next()?.split_whitespace().collect();
+        let ["#", "seed", seed, "list", number, calls] = words[..] else { return None };
+        Some((seed.parse().ok()?, number.parse().ok()?, calls.parse().ok()?))
     }
 
     fn push(&mut self, c: Cmd) -> &Cmd {
@@ -188,7 +199,7 @@ impl Lists {
         let mut states = States::of(seed, number);
         let mut seconds = Seconds::of(seed, number);
         let mut calls = 0;
-        self.log.begin(number, before);
+        self.log.begin(seed, number, before);
         self.paths.begins();
         self.paths.creation(self.creations.check(seed ^ number)?);
         for c in quiets.begin(world.begin()) {
@@ -287,52 +298,59 @@ impl Lists {
 }
 
 /// What a run is asked for.
-struct Job {
+struct Job<'a> {
     seed: u64,
+    seeds: u64,
     from: u64,
     calls: u64,
     seconds: u64,
     damage: Option<f64>,
     brief: bool,
     every_path: bool,
+    sums: Option<&'a str>,
 }
 
-/// Runs lists until the calls or the time are spent.
+/// Runs lists until the calls of each seed or the time are spent.
 fn work(job: &Job, log: Log) -> ExitCode {
     let start = Instant::now();
     let mut lists = Lists::new(log);
-    let mut done = 0;
-    let mut number = job.from;
+    let (mut all, mut lists_run) = (0, 0);
     let mut shown = start;
-    while done < job.calls && start.elapsed() < Duration::from_secs(job.seconds) {
-        match lists.run(job.seed, number, done, job.damage) {
-            Ok(n) => done += n,
-            Err(why) => {
-                report(job.seed, number, done, lists.log.list, &why);
-                return ExitCode::from(1);
+    for seed in (job.seed..).take(job.seeds as usize) {
+        let mut done = 0;
+        let mut number = job.from;
+        while done < job.calls && start.elapsed() < Duration::from_secs(job.seconds) {
+            match lists.run(seed, number, done, job.damage) {
+                Ok(n) => done += n,
+                Err(why) => {
+                    report(seed, number, done, lists.log.list, &why);
+                    return ExitCode::from(1);
+                }
+            }
+            number += 1;
+            lists_run += 1;
+            if !job.brief && shown.elapsed() > Duration::from_secs(20) {
+                shown = Instant::now();
+                let (calls, seconds) = (all + done, start.elapsed().as_secs());
+                println!("{calls} calls in {lists_run} lists, {seconds} s");
             }
         }
-        number += 1;
-        if !job.brief && shown.elapsed() > Duration::from_secs(20) {
-            shown = Instant::now();
-            println!(
-                "{done} calls in {} lists, {} s",
-                number - job.from,
-                start.elapsed().as_secs()
-            );
-        }
+        all += done;
     }
     let paths = &lists.paths;
     print!("{}", paths.table(job.brief));
     let t = start.elapsed().as_secs_f64();
-    let lists = number - job.from;
     let (rewrites, states) = (paths.rewrites, paths.states);
     println!("{}", paths.second_panels());
     println!("{}", paths.lists());
-    println!(
-        "seed {}: {done} calls and {rewrites} rewrites, {states} savings and returns, in {lists} lists, 0 different, {t:.0} s",
-        job.seed
-    );
+    let seeds = match job.seeds {
+        1 => format!("seed {}", job.seed),
+        n => format!("seeds {} to {}", job.seed, job.seed + n - 1),
+    };
+    println!("{seeds}: {all} calls and {rewrites} rewrites, {states} savings and returns, in {lists_run} lists, 0 different, {t:.0} s");
+    if let Some(file) = job.sums {
+        std::fs::write(file, paths.sums()).unwrap();
+    }
     if job.every_path && paths.never() > 0 {
         println!("paths that no call took: {}", paths.never());
         return ExitCode::from(1);
@@ -348,7 +366,7 @@ fn short(mut log: Log) -> ExitCode {
     for kind in 0..7u8 {
         events.extend((0..=65535u16).map(|x| [vec![kind], x.to_be_bytes().to_vec()].concat()));
     }
-    log.begin(0, 0);
+    log.begin(0, 0, 0);
     let mut pair = Pair::default();
     let cfg = [80, 40, 5, 7, 30000, 90000, 1000];
     let mut begin =
@@ -362,6 +380,10 @@ fn short(mut log: Log) -> ExitCode {
             report(0, 0, 0, log.list, &why);
             return ExitCode::from(1);
         }
+    }
+    if let Err(why) = pair.end() {
+        report(0, 0, 0, log.list, &why);
+        return ExitCode::from(1);
     }
     println!("short events: {n} commands, 0 different");
     short_messages(log)
@@ -381,13 +403,17 @@ fn short_messages(mut log: Log) -> ExitCode {
         if x == 0 {
             messages.push(vec![]);
         }
-        log.begin(0, 0);
+        log.begin(0, 0, 0);
         for message in messages {
             n += 1;
             if let Err(why) = pair.run(log.push(Cmd::Rewrite { message, room: 2 })) {
                 report(0, 0, 0, log.list, &why);
                 return ExitCode::from(1);
             }
+        }
+        if let Err(why) = pair.end() {
+            report(0, 0, 0, log.list, &why);
+            return ExitCode::from(1);
         }
         pair.rewriter.about.clear();
     }
@@ -397,7 +423,7 @@ fn short_messages(mut log: Log) -> ExitCode {
 }
 
 /// Starts `work` in a process of its own; if that does not end by itself, shrinks the list that it ran.
-fn watch(seed: u64, args: &[String]) -> ExitCode {
+fn watch(args: &[String]) -> ExitCode {
     let file = std::env::temp_dir().join(format!("beside-{}.txt", std::process::id()));
     let mut work = Command::new(std::env::current_exe().unwrap());
     work.arg("--work").arg(&file).args(args);
@@ -407,12 +433,11 @@ fn watch(seed: u64, args: &[String]) -> ExitCode {
         return ExitCode::from(code as u8);
     }
     let text = std::fs::read_to_string(&file).unwrap();
-    let head = text.lines().next().and_then(|l| l.strip_prefix("# list ")?.split_once(' '));
-    let of = |s: &str| s.parse().unwrap_or(0);
-    let (number, calls) = head.map_or((0, 0), |(a, b)| (of(a), of(b)));
+    let (seed, number, calls) = Log::told(&text).unwrap_or_default();
     // That list alone, once more: the first value of an argument counts.
     let mut again = Command::new(std::env::current_exe().unwrap());
     again.arg("--work").arg(&file).arg("--commands");
+    again.args(["--seed", &seed.to_string(), "--seeds", "1"]);
     again.args(["--from", &number.to_string(), "--calls", "1"]).args(args);
     let _ = again.stdout(Stdio::null()).stderr(Stdio::null()).status();
     let text = std::fs::read_to_string(&file).unwrap();
@@ -487,14 +512,16 @@ fn main() -> ExitCode {
         let timed = value("--seconds").is_some();
         let job = Job {
             seed,
+            seeds: number("--seeds", 1).max(1),
             from: number("--from", 0),
             calls: number("--calls", if timed { u64::MAX } else { 100_000 }),
             seconds: number("--seconds", u64::MAX / 4),
             damage: value("--damage").map(|v| v.parse().expect("a number")),
             brief: args.iter().any(|a| a == "--brief"),
             every_path: args.iter().any(|a| a == "--every-path"),
+            sums: value("--sums").map(|s| s.as_str()),
         };
         return work(&job, log);
     }
-    watch(seed, &args)
+    watch(&args)
 }

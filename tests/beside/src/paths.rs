@@ -1138,6 +1138,33 @@ impl Paths {
         calls.chain(faults).chain(alike).chain(rewritten).chain(kept).chain(seconds).collect()
     }
 
+    /// What was counted, to be added to that of other runs: lines of a kind, a number and a name, with tabs between.
+    pub fn sums(&self) -> String {
+        let mut o = String::new();
+        let mut line = |kind: &str, n: u64, name: &str| o += &format!("{kind}\t{n}\t{name}\n");
+        for (n, name) in self.all() {
+            line("path", n, &name);
+        }
+        let [[lists, calls], [quiet, among]] = self.lists;
+        line("total", calls + among, "calls");
+        line("total", self.rewrites, "rewrites");
+        line("total", self.states, "savings and returns");
+        line("total", lists + quiet, "lists");
+        line("total", calls, "calls in lists without kind 5");
+        line("total", lists, "lists without kind 5");
+        line("total", among, "calls in lists with kind 5");
+        line("total", quiet, "lists with kind 5");
+        line("total", self.told_quiet, "events of kind 5 accepted");
+        line("total", self.alike.0, "second panels alike");
+        line("total", self.alike.1, "calls of second panels alike");
+        for (list, [all, chosen, followed]) in &self.apart {
+            line("apart", *all, list);
+            line("apart by chosen calls", *chosen, list);
+            line("apart by those that followed", *followed, list);
+        }
+        o
+    }
+
     /// How many paths no call took.
     pub fn never(&self) -> usize {
         self.all().iter().filter(|e| e.0 == 0).count()

@@ -165,7 +165,6 @@ for ((n = 0; n < pieces; n++)); do
     file=$(file_of "$n")
     if [ -e "$file.different" ]; then
         different+=("$n")
-        show "$(head -n 1 "$file.different")"
     elif [ -e "$file" ]; then
         sums+=("$file")
     fi
@@ -174,14 +173,14 @@ table=$kept/sums-seed-$first-calls-$calls
 if [ ${#sums[@]} -gt 0 ]; then
     awk -F '\t' -v OFS='\t' '
         { key = $1 OFS $3; if (!(key in n)) order[++all] = key; n[key] += $2 }
-        END { for (i = 1; i <= all; i++) { split(order[i], w, OFS); printf "%s\t%d\t%s\n", w[1], n[order[i]], w[2] } }' "${sums[@]}" >"$halves/table"
+        END { for (i = 1; i <= all; i++) { split(order[i], w, OFS); printf "%s\t%.0f\t%s\n", w[1], n[order[i]], w[2] } }' "${sums[@]}" >"$halves/table"
     mv "$halves/table" "$table"
 else
     : >"$table"
 fi
 
 of() { # KIND NAME
-    awk -F '\t' -v kind="$1" -v name="$2" '$1 == kind && $3 == name { n = $2 } END { print n + 0 }' "$table"
+    awk -F '\t' -v kind="$1" -v name="$2" '$1 == kind && $3 == name { n = $2 } END { printf "%.0f\n", n }' "$table"
 }
 
 total() { of total "$1"; }
@@ -197,8 +196,9 @@ done
 echo "$(total "calls in lists without kind 5") calls in $(total "lists without kind 5") lists without kind 5, $(total "calls in lists with kind 5") in $(total "lists with kind 5") with it ($(total "events of kind 5 accepted") of kind 5 accepted)"
 echo "the whole table: $table"
 for n in "${different[@]}"; do
+    head -n 1 "$(file_of "$n").different"
     list=$(sed -nE '1s/^DIFFERENT: seed [0-9]+ list ([0-9]+) .*/\1/p' "$(file_of "$n").different")
-    echo "its least list: $beside --seed $((first + n)) --from $list --calls 1"
+    echo "to make its list shorter: $beside --seed $((first + n)) --from $list --calls 1"
 done
 [ "$failed" -eq 0 ] || echo "pieces that did not run to their end: $failed"
 told="${#different[@]} different"

@@ -167,6 +167,7 @@ impl Pair {
                 self.limits.out = *out;
                 Ok(None)
             }
+            Cmd::Load(_) if self.panel.is_none() => Err("script: load before limits".into()),
             Cmd::Load(state) => self.load(loaded(state)?).map(|()| None),
             Cmd::Counts(c) => {
                 self.counts = *c;

@@ -74,8 +74,12 @@ pub mod word {
     pub const END: usize = 33;
 }
 
-fn le(b: &[u8], at: usize, k: usize) -> u64 {
-    b[at..at + k].iter().rev().fold(0, |v, x| v << 8 | u64::from(*x))
+/// A number of k bytes, at most 8.
+#[inline]
+pub fn le(b: &[u8], at: usize, k: usize) -> u64 {
+    let mut v = [0; 8];
+    v[..k].copy_from_slice(&b[at..at + k]);
+    u64::from_le_bytes(v)
 }
 
 fn put(b: &mut [u8], at: usize, k: usize, v: u64) {
@@ -143,8 +147,8 @@ fn ask(yes: bool, what: &'static str) -> Read<()> {
 
 /// Rows of an expiry list.
 fn expiry(b: &[u8], at: usize, stride: usize, n: usize) -> Read<Vec<(u64, Id)>> {
-    let v: Vec<_> =
-        (0..n).map(|i| (le(b, at + stride * i, 8), id_at(b, at + stride * i + 8))).collect();
+    let rows = b[at..at + stride * n].chunks_exact(stride);
+    let v: Vec<_> = rows.map(|row| (le(row, 0, 8), id_at(row, 8))).collect();
     ask(v.windows(2).all(|w| w[0].0 <= w[1].0), "expiry rows in the order of time")?;
     Ok(v)
 }
@@ -172,13 +176,30 @@ fn numbered(
 }
 
 fn notes(b: &[u8], numbers: usize, rows: usize, n: usize, peers: &[u64]) -> Read<Notes> {
-    let mut lists: Vec<Vec<(Id, u16)>> = vec![Vec::new(); peers.len()];
-    for i in 0..n {
-        let l = b[numbers + i] as usize;
-        ask(l < peers.len(), "notes' peers are neighbours")?;
-        lists[l].push((id_at(b, rows + 34 * i), le(b, rows + 34 * i + 32, 2) as u16));
+    let numbers = &b[numbers..numbers + n];
+    let mut many = vec![0; peers.len()];
+    for l in numbers {
+        ask(usize::from(*l) < peers.len(), "notes' peers are neighbours")?;
+        many[usize::from(*l)] += 1;
+    }
+    let mut lists: Vec<Vec<(Id, u16)>> = many.into_iter().map(Vec::with_capacity).collect();
+    for (l, row) in numbers.iter().zip(b[rows..rows + 34 * n].chunks_exact(34)) {
+        lists[usize::from(*l)].push((id_at(row, 0), le(row, 32, 2) as u16));
     }
     Ok(peers.iter().copied().zip(lists).filter(|e| !e.1.is_empty()).collect())
+}
+
+/// Whether each identifier of a list stands once.
+fn once(list: &[(Id, u16)]) -> bool {
+    // Most differ in their first eight bytes.
+    let mut fronts: Vec<u64> = list.iter().map(|e| le(&e.0, 0, 8)).collect();
+    fronts.sort_unstable();
+    if fronts.windows(2).all(|w| w[0] < w[1]) {
+        return true;
+    }
+    let mut ids: Vec<&Id> = list.iter().map(|e| &e.0).collect();
+    ids.sort_unstable();
+    ids.windows(2).all(|w| w[0] < w[1])
 }
 
 fn to_peers(v: Vec<(usize, u16)>, peers: &[u64]) -> Vec<(u64, u16)> {
@@ -274,9 +295,7 @@ pub fn read(b: &[u8]) -> Read<Snap> {
     ask(dropped.is_empty() || announce, "a record with its flag")?;
     for (_, v) in &dropped {
         ask(v.len() <= 256, "records within 256")?;
-        let mut ids: Vec<_> = v.iter().map(|e| e.0).collect();
-        ids.sort();
-        ask(ids.windows(2).all(|w| w[0] < w[1]), "recorded once")?;
+        ask(once(v), "recorded once")?;
     }
     Ok(Snap {
         me,
@@ -326,8 +345,9 @@ pub fn places_named(b: &[u8]) -> Vec<u64> {
 
 /// One of the rows of this time and identifier.
 fn place(r: &mut Rng, rows: &[(u64, Id)], time: u64, id: &Id) -> usize {
-    let v: Vec<usize> =
-        (0..rows.len()).filter(|i| rows[*i].0 == time && rows[*i].1 == *id).collect();
+    // The rows stand in the order of time.
+    let (from, to) = (rows.partition_point(|e| e.0 < time), rows.partition_point(|e| e.0 <= time));
+    let v: Vec<usize> = (from..to).filter(|i| rows[*i].1 == *id).collect();
     assert!(!v.is_empty(), "an entry without an expiry row");
     r.pick(&v)
 }

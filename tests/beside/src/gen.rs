@@ -391,7 +391,7 @@ impl World {
             _ => self.r.chance(35.0),
         };
         if load {
-            v.push(Cmd::Load(self.state().text()));
+            v.push(Cmd::Load(Box::new(self.state())));
         }
         if self.r.chance(4.0) {
             let near = |r: &mut Rng| u64::MAX - r.below(6);
@@ -432,7 +432,7 @@ impl World {
     /// The next commands.
     pub fn next(&mut self, pair: &Pair) -> Vec<Cmd> {
         let mut v = Vec::new();
-        let snap = pair.snap.as_ref().expect("a whole block");
+        let snap = pair.snap.as_deref().expect("a whole block");
         let mut event = self.event(snap);
         if !self.quiet && event.first() == Some(&wire::QUIET) {
             event[0] += 1;
@@ -478,7 +478,7 @@ impl World {
 
     /// Takes notice of a return: the panel can have another number, other settings and limits.
     pub fn goes_on(&mut self, pair: &Pair) {
-        let s = pair.snap.as_ref().expect("a whole block");
+        let s = pair.snap.as_deref().expect("a whole block");
         (self.me, self.m, self.cfg) = (s.me, s.m, s.cfg);
         self.max = pair.limits.max;
     }
@@ -911,7 +911,7 @@ impl World {
     /// A block near to this state, to be asked whether it is alike.
     fn likeness(&mut self, s: &Snap) -> Cmd {
         let (max, near) = likeness::near(&mut self.r, s, &self.max);
-        Cmd::Alike { max, text: near.text() }
+        Cmd::Alike { max, state: Box::new(near) }
     }
 
     /// Damage to a whole block.

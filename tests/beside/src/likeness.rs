@@ -120,18 +120,19 @@ fn orders(x: &Snap, y: &Snap) -> Vec<List> {
     LISTS.into_iter().filter(differs).collect()
 }
 
-/// *Alike*, "of two blocks (5 for either)".
-pub fn told(a: &[u8], b: &[u8]) -> Told {
-    let (Ok(x), Ok(y)) = (block::read(a), block::read(b)) else {
+/// *Alike*, "of two blocks (5 for either)". `x` is the state of the first one, where it is known.
+pub fn told(a: &[u8], x: Option<&Snap>, b: &[u8]) -> Told {
+    let read = if x.is_none() { block::read(a).ok() } else { None };
+    let (Some(x), Ok(y)) = (x.or(read.as_ref()), block::read(b)) else {
         return Told { number: 5, alike: false, unordered: false, about: "alike: not whole" };
     };
-    if x == y && block::limits(a) == block::limits(b) {
+    if *x == y && block::limits(a) == block::limits(b) {
         return Told { number: 0, alike: true, unordered: true, about: free(a, b) };
     }
-    if let Some(about) = unlike(a, b, &x, &y) {
+    if let Some(about) = unlike(a, b, x, &y) {
         return Told { number: 0, alike: false, unordered: false, about };
     }
-    let orders = orders(&x, &y);
+    let orders = orders(x, &y);
     let about = match orders[..] {
         [] => free(a, b),
         [list] => named("alike not: order of", list.name()),
@@ -268,7 +269,22 @@ fn row(r: &mut Rng, rows: &mut Vec<(u64, [u8; 32])>, held: &[(u64, [u8; 32])]) {
     rows.sort_by_key(|e| e.0);
 }
 
-/// One note changed: its round, its identifier, or another one twice in its place.
+/// Notes of which each identifier stands once, as in a record: where it stood first, with its last round.
+fn once(list: &mut Vec<(Id, u16)>) {
+    let mut i = 0;
+    while i < list.len() {
+        let (id, round) = list[i];
+        match list[..i].iter().position(|e| e.0 == id) {
+            Some(first) => {
+                list[first].1 = round;
+                list.remove(i);
+            }
+            None => i += 1,
+        }
+    }
+}
+
+/// One note changed: its round, its identifier, or, where the list has repeats, another one twice in its place.
 fn note(r: &mut Rng, v: &mut Notes, repeats: bool) {
     if v.is_empty() {
         return;
@@ -283,6 +299,9 @@ fn note(r: &mut Rng, v: &mut Notes, repeats: bool) {
         _ => {
             list.remove(i);
         }
+    }
+    if !repeats {
+        once(list);
     }
     v.retain(|e| !e.1.is_empty());
 }

@@ -3,6 +3,7 @@ mod bench;
 mod block;
 mod create;
 mod gen;
+mod lent;
 mod library;
 mod likeness;
 mod paths;
@@ -13,23 +14,27 @@ mod sample;
 mod script;
 mod second;
 mod states;
+mod text;
 mod wire;
 
 use std::{
+    fs::File,
     io::{Read, Seek, Write},
     process::{Command, ExitCode, Stdio},
     time::{Duration, Instant},
 };
 
+use create::Creations;
 use gen::{Quiets, Rewrites, Seconds, States, World};
 use paths::Paths;
-use run::Pair;
+use run::{Call, Pair, Same};
 use script::Cmd;
 
 const HELP: &str = "\
-beside [--seed N] [--calls N] [--seconds N] [--from LIST] [--damage PERCENT] [--brief] [--every-path] [--no-shrink]
-    random lists of calls, rewrites, savings and returns on both, compared after each; --brief: no table, only the paths never
-    taken; --every-path: such a path is a failure
+beside [--seed N] [--seeds N] [--calls N] [--seconds N] [--from LIST] [--damage PERCENT] [--brief] [--every-path] [--no-shrink] [--sums FILE]
+    random lists of calls, rewrites, savings and returns on both, compared after each; --seeds: so many seeds, one after the
+    other, with so many calls each; --brief: no table, only the paths never taken; --every-path: such a path is a failure;
+    --sums: if nothing differs, what was counted goes into a file, for long.sh
 beside --short
     every event of at most two bytes, and of three that begin with a kind; every message of at most
     three bytes, rewritten
@@ -47,7 +52,7 @@ beside --spin KIND [--ceilings] [--times N]
 
 /// Runs a list of commands; the error tells the difference.
 fn replay(list: &[Cmd]) -> Result<(), String> {
-    let mut pair = Pair::default();
+    let mut pair = Pair::looking(1);
     for (i, c) in list.iter().enumerate() {
         pair.run(c).map_err(|e| format!("command {}: {e}\n{}", i + 1, c.text()))?;
     }
@@ -131,70 +136,107 @@ fn report(seed: u64, number: u64, calls: u64, list: Vec<Cmd>, why: &str) {
     println!("{}", replay_apart(&least).err().unwrap_or("(no longer)".into()));
 }
 
-/// The commands of the list that is being run, kept in a file for the process above.
+/// The list that is being run. For other processes a file has its seed, its number and how many calls were made before it, in a line of always as many bytes; with `--commands` each
+/// command too, written before it is run.
 struct Log {
     list: Vec<Cmd>,
-    file: Option<std::fs::File>,
+    file: File,
+    commands: bool,
 }
 
 impl Log {
-    fn begin(&mut self, number: u64, calls: u64) {
+    fn begin(&mut self, seed: u64, number: u64, calls: u64) {
         self.list.clear();
-        if let Some(f) = &mut self.file {
-            f.set_len(0).unwrap();
-            f.rewind().unwrap();
-            writeln!(f, "# list {number} {calls}").unwrap();
+        if self.commands {
+            self.file.set_len(0).unwrap();
         }
+        self.file.rewind().unwrap();
+        writeln!(self.file, "# seed {seed:<20} list {number:<20} {calls:<20}").unwrap();
+    }
+
+    /// The seed, the number and the calls before that the text of such a file tells.
+    fn told(text: &str) -> Option<(u64, u64, u64)> {
+        let words: Vec<&str> = text.lines().next()?.split_whitespace().collect();
+        let ["#", "seed", seed, "list", number, calls] = words[..] else { return None };
+        Some((seed.parse().ok()?, number.parse().ok()?, calls.parse().ok()?))
     }
 
     fn push(&mut self, c: Cmd) -> &Cmd {
-        if let Some(f) = &mut self.file {
-            f.write_all((c.text() + "\n").as_bytes()).unwrap();
+        if self.commands {
+            self.file.write_all((c.text() + "\n").as_bytes()).unwrap();
         }
         self.list.push(c);
         self.list.last().unwrap()
     }
 }
 
-/// Runs list `number`. Answers the number of event calls, or the difference.
-fn run_list(
-    seed: u64,
-    number: u64,
-    before: u64,
-    damage: Option<f64>,
-    paths: &mut Paths,
-    log: &mut Log,
-) -> Result<u64, String> {
-    let mut world = World::of(seed, number);
-    if let Some(percent) = damage {
-        world.set_damage(percent);
-    }
-    let mut quiets = Quiets::of(seed, number, &mut world);
-    let mut rewrites = Rewrites::of(seed, number, world.m);
-    let mut states = States::of(seed, number);
-    let mut seconds = Seconds::of(seed, number);
-    let mut pair = Pair::default();
-    let mut calls = 0;
-    log.begin(number, before);
-    paths.begins();
-    paths.creation(create::check(seed ^ number)?);
-    for c in quiets.begin(world.begin()) {
-        let c = log.push(c);
-        pair.run(c)?;
-        paths.seconds(&mut pair);
-        if let Cmd::Together(kind) = c {
-            paths.by_calls(*kind)?;
+/// Lists that are run one after the other, and what they share.
+struct Lists {
+    log: Log,
+    paths: Paths,
+    pair: Pair,
+    creations: Creations,
+}
+
+impl Lists {
+    fn new(log: Log) -> Lists {
+        Lists {
+            log,
+            paths: Paths::default(),
+            pair: Pair::default(),
+            creations: Creations::default(),
         }
     }
-    rewrite(rewrites.begin(), &mut pair, paths, log)?;
-    keep(states.begin(&pair), &mut pair, paths, log)?;
-    go_along(seconds.begin(&pair), &mut pair, paths, log)?;
-    while calls < world.calls as u64 {
+
+    /// Runs list `number`, `before` calls being made. Answers the number of event calls, or the difference.
+    fn run(&mut self, seed: u64, number: u64, before: u64, damage: Option<f64>) -> Same<u64> {
+        let mut world = World::of(seed, number);
+        if let Some(percent) = damage {
+            world.set_damage(percent);
+        }
+        let mut quiets = Quiets::of(seed, number, &mut world);
+        let mut rewrites = Rewrites::of(seed, number, world.m);
+        let mut states = States::of(seed, number);
+        let mut seconds = Seconds::of(seed, number);
+        let mut calls = 0;
+        self.log.begin(seed, number, before);
+        self.paths.begins();
+        self.paths.creation(self.creations.check(seed ^ number)?);
+        for c in quiets.begin(world.begin()) {
+            let c = self.log.push(c);
+            self.pair.run(c)?;
+            self.paths.seconds(&mut self.pair);
+            if let Cmd::Together(kind) = c {
+                self.paths.by_calls(*kind)?;
+            }
+        }
+        self.rewrite(rewrites.begin())?;
+        self.keep(states.begin(&self.pair))?;
+        self.go_along(seconds.begin(&self.pair))?;
+        while calls < world.calls as u64 {
+            let mut behind = Vec::new();
+            let next = world.next(&self.pair);
+            calls += self.calls(quiets.next(&self.pair, next), |event, call| {
+                world.heard(call);
+                behind = rewrites.behind(event, &call.answer.actions);
+            })?;
+            self.rewrite(behind)?;
+            self.keep(states.behind(&self.pair))?;
+            self.go_along(seconds.behind(&self.pair))?;
+            world.goes_on(&self.pair);
+        }
+        self.pair.end()?;
+        self.paths.ended(quiets.are_there(), calls);
+        Ok(calls)
+    }
+
+    /// Runs event calls and what stands before them. `heard` gets each call upon a block that is not damaged. Answers how many calls there were.
+    fn calls(&mut self, list: Vec<Cmd>, mut heard: impl FnMut(&[u8], &Call)) -> Same<u64> {
+        let (pair, paths) = (&mut self.pair, &mut self.paths);
+        let mut calls = 0;
         let mut damaged = false;
-        let mut behind = Vec::new();
-        let next = world.next(&pair);
-        for c in quiets.next(&pair, next) {
-            let c = log.push(c);
+        for c in list {
+            let c = self.log.push(c);
             damaged = match c {
                 Cmd::Poke(_) | Cmd::Cut(_) => true,
                 Cmd::Undo => false,
@@ -212,111 +254,103 @@ fn run_list(
             };
             let seen = pair.panel().see(event);
             let call = pair.run(c)?.expect("an event");
-            paths.seconds(&mut pair);
+            paths.seconds(pair);
             calls += 1;
-            let after = pair.snap.as_ref();
+            let after = pair.snap.as_deref();
             let out = pair.limits.out;
-            let before = call.before.as_ref();
+            let before = call.before.as_deref();
             paths.call(before, seen.as_ref(), *now, &call.answer, out, after, damaged);
             paths.rooms(before, rooms, &call.answer);
             paths.spelled(before, event, &call.answer);
             if !damaged {
-                world.heard(&call);
-                behind = rewrites.behind(event, &call.answer.actions);
+                heard(event, &call);
             }
         }
-        rewrite(behind, &mut pair, paths, log)?;
-        keep(states.behind(&pair), &mut pair, paths, log)?;
-        go_along(seconds.behind(&pair), &mut pair, paths, log)?;
-        world.goes_on(&pair);
+        Ok(calls)
     }
-    paths.ended(quiets.are_there(), calls);
-    Ok(calls)
-}
 
-/// Begins with second panels.
-fn go_along(
-    list: Vec<Cmd>,
-    pair: &mut Pair,
-    paths: &mut Paths,
-    log: &mut Log,
-) -> Result<(), String> {
-    for c in list {
-        pair.run(log.push(c))?;
-        paths.seconds(pair);
+    /// Begins with second panels.
+    fn go_along(&mut self, list: Vec<Cmd>) -> Same<()> {
+        for c in list {
+            self.pair.run(self.log.push(c))?;
+            self.paths.seconds(&mut self.pair);
+        }
+        Ok(())
     }
-    Ok(())
-}
 
-/// Runs savings and returns.
-fn keep(list: Vec<Cmd>, pair: &mut Pair, paths: &mut Paths, log: &mut Log) -> Result<(), String> {
-    for c in list {
-        pair.run(log.push(c))?;
-        paths.kept(&mut pair.keeper);
+    /// Runs savings and returns.
+    fn keep(&mut self, list: Vec<Cmd>) -> Same<()> {
+        for c in list {
+            self.pair.run(self.log.push(c))?;
+            self.paths.kept(&mut self.pair.keeper);
+        }
+        Ok(())
     }
-    Ok(())
-}
 
-/// Runs rewrites.
-fn rewrite(
-    list: Vec<Cmd>,
-    pair: &mut Pair,
-    paths: &mut Paths,
-    log: &mut Log,
-) -> Result<(), String> {
-    for c in list {
-        pair.run(log.push(c))?;
-        paths.rewritten(&mut pair.rewriter);
+    /// Runs rewrites.
+    fn rewrite(&mut self, list: Vec<Cmd>) -> Same<()> {
+        for c in list {
+            self.pair.run(self.log.push(c))?;
+            self.paths.rewritten(&mut self.pair.rewriter);
+        }
+        Ok(())
     }
-    Ok(())
 }
 
 /// What a run is asked for.
-struct Job {
+struct Job<'a> {
     seed: u64,
+    seeds: u64,
     from: u64,
     calls: u64,
     seconds: u64,
     damage: Option<f64>,
     brief: bool,
     every_path: bool,
+    sums: Option<&'a str>,
 }
 
-/// Runs lists until the calls or the time are spent.
-fn work(job: &Job, mut log: Log) -> ExitCode {
+/// Runs lists until the calls of each seed or the time are spent.
+fn work(job: &Job, log: Log) -> ExitCode {
     let start = Instant::now();
-    let mut paths = Paths::default();
-    let mut done = 0;
-    let mut number = job.from;
+    let mut lists = Lists::new(log);
+    let (mut all, mut lists_run) = (0, 0);
     let mut shown = start;
-    while done < job.calls && start.elapsed() < Duration::from_secs(job.seconds) {
-        match run_list(job.seed, number, done, job.damage, &mut paths, &mut log) {
-            Ok(n) => done += n,
-            Err(why) => {
-                report(job.seed, number, done, log.list, &why);
-                return ExitCode::from(1);
+    for seed in (job.seed..).take(job.seeds as usize) {
+        let mut done = 0;
+        let mut number = job.from;
+        while done < job.calls && start.elapsed() < Duration::from_secs(job.seconds) {
+            match lists.run(seed, number, done, job.damage) {
+                Ok(n) => done += n,
+                Err(why) => {
+                    report(seed, number, done, lists.log.list, &why);
+                    return ExitCode::from(1);
+                }
+            }
+            number += 1;
+            lists_run += 1;
+            if !job.brief && shown.elapsed() > Duration::from_secs(20) {
+                shown = Instant::now();
+                let (calls, seconds) = (all + done, start.elapsed().as_secs());
+                println!("{calls} calls in {lists_run} lists, {seconds} s");
             }
         }
-        number += 1;
-        if !job.brief && shown.elapsed() > Duration::from_secs(20) {
-            shown = Instant::now();
-            println!(
-                "{done} calls in {} lists, {} s",
-                number - job.from,
-                start.elapsed().as_secs()
-            );
-        }
+        all += done;
     }
+    let paths = &lists.paths;
     print!("{}", paths.table(job.brief));
     let t = start.elapsed().as_secs_f64();
-    let lists = number - job.from;
     let (rewrites, states) = (paths.rewrites, paths.states);
     println!("{}", paths.second_panels());
     println!("{}", paths.lists());
-    println!(
-        "seed {}: {done} calls and {rewrites} rewrites, {states} savings and returns, in {lists} lists, 0 different, {t:.0} s",
-        job.seed
-    );
+    let seeds = match job.seeds {
+        1 => format!("seed {}", job.seed),
+        n => format!("seeds {} to {}", job.seed, job.seed + n - 1),
+    };
+    println!("{seeds}: {all} calls and {rewrites} rewrites, {states} savings and returns, in {lists_run} lists, 0 different, {t:.0} s");
+    if let Some(file) = job.sums {
+        std::fs::write(file, paths.sums()).unwrap();
+    }
     if job.every_path && paths.never() > 0 {
         println!("paths that no call took: {}", paths.never());
         return ExitCode::from(1);
@@ -332,7 +366,7 @@ fn short(mut log: Log) -> ExitCode {
     for kind in 0..7u8 {
         events.extend((0..=65535u16).map(|x| [vec![kind], x.to_be_bytes().to_vec()].concat()));
     }
-    log.begin(0, 0);
+    log.begin(0, 0, 0);
     let mut pair = Pair::default();
     let cfg = [80, 40, 5, 7, 30000, 90000, 1000];
     let mut begin =
@@ -346,6 +380,10 @@ fn short(mut log: Log) -> ExitCode {
             report(0, 0, 0, log.list, &why);
             return ExitCode::from(1);
         }
+    }
+    if let Err(why) = pair.end() {
+        report(0, 0, 0, log.list, &why);
+        return ExitCode::from(1);
     }
     println!("short events: {n} commands, 0 different");
     short_messages(log)
@@ -365,13 +403,17 @@ fn short_messages(mut log: Log) -> ExitCode {
         if x == 0 {
             messages.push(vec![]);
         }
-        log.begin(0, 0);
+        log.begin(0, 0, 0);
         for message in messages {
             n += 1;
             if let Err(why) = pair.run(log.push(Cmd::Rewrite { message, room: 2 })) {
                 report(0, 0, 0, log.list, &why);
                 return ExitCode::from(1);
             }
+        }
+        if let Err(why) = pair.end() {
+            report(0, 0, 0, log.list, &why);
+            return ExitCode::from(1);
         }
         pair.rewriter.about.clear();
     }
@@ -380,23 +422,26 @@ fn short_messages(mut log: Log) -> ExitCode {
     ExitCode::SUCCESS
 }
 
-/// Starts `work` in a process of its own; if a signal ends it, shrinks the list that it ran.
-fn watch(seed: u64, args: &[String]) -> ExitCode {
+/// Starts `work` in a process of its own; if that does not end by itself, shrinks the list that it ran.
+fn watch(args: &[String]) -> ExitCode {
     let file = std::env::temp_dir().join(format!("beside-{}.txt", std::process::id()));
-    let status = Command::new(std::env::current_exe().unwrap())
-        .arg("--work")
-        .arg(&file)
-        .args(args)
-        .status()
-        .unwrap();
-    let text = std::fs::read_to_string(&file).unwrap();
-    let _ = std::fs::remove_file(&file);
+    let mut work = Command::new(std::env::current_exe().unwrap());
+    work.arg("--work").arg(&file).args(args);
+    let status = work.status().unwrap();
     if let Some(code @ (0 | 1)) = status.code() {
+        let _ = std::fs::remove_file(&file);
         return ExitCode::from(code as u8);
     }
-    let head = text.lines().next().and_then(|l| l.strip_prefix("# list ")?.split_once(' '));
-    let of = |s: &str| s.parse().unwrap_or(0);
-    let (number, calls) = head.map_or((0, 0), |(a, b)| (of(a), of(b)));
+    let text = std::fs::read_to_string(&file).unwrap();
+    let (seed, number, calls) = Log::told(&text).unwrap_or_default();
+    // That list alone, once more: the first value of an argument counts.
+    let mut again = Command::new(std::env::current_exe().unwrap());
+    again.arg("--work").arg(&file).arg("--commands");
+    again.args(["--seed", &seed.to_string(), "--seeds", "1"]);
+    again.args(["--from", &number.to_string(), "--calls", "1"]).args(args);
+    let _ = again.stdout(Stdio::null()).stderr(Stdio::null()).status();
+    let text = std::fs::read_to_string(&file).unwrap();
+    let _ = std::fs::remove_file(&file);
     match script::parse(&text) {
         Ok(list) => report(seed, number, calls, list, &status.to_string()),
         Err(e) => println!("{status}: {e}"),
@@ -459,22 +504,24 @@ fn main() -> ExitCode {
         return ExitCode::SUCCESS;
     }
     if let Some(file) = value("--work") {
-        let file = Some(std::fs::File::create(file).unwrap());
-        let log = Log { list: Vec::new(), file };
+        let file = File::create(file).unwrap();
+        let log = Log { list: Vec::new(), file, commands: args.iter().any(|a| a == "--commands") };
         if args.iter().any(|a| a == "--short") {
             return short(log);
         }
         let timed = value("--seconds").is_some();
         let job = Job {
             seed,
+            seeds: number("--seeds", 1).max(1),
             from: number("--from", 0),
             calls: number("--calls", if timed { u64::MAX } else { 100_000 }),
             seconds: number("--seconds", u64::MAX / 4),
             damage: value("--damage").map(|v| v.parse().expect("a number")),
             brief: args.iter().any(|a| a == "--brief"),
             every_path: args.iter().any(|a| a == "--every-path"),
+            sums: value("--sums").map(|s| s.as_str()),
         };
         return work(&job, log);
     }
-    watch(seed, &args)
+    watch(&args)
 }

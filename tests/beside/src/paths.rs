@@ -1,5 +1,8 @@
 //! Which paths the calls took, told from the state before, the event and the answer.
-use std::collections::{BTreeMap, BTreeSet};
+use std::{
+    borrow::Cow,
+    collections::{BTreeMap, BTreeSet},
+};
 
 use oracle::{
     snap::{Id, Notes, Snap},
@@ -273,10 +276,31 @@ pub const QUIET: &[&str] = &[
     "quiet: announce",
 ];
 
+/// How often each name was told. A name is known by the place of its text, which is sooner compared than the text; the same text may have several places.
+#[derive(Default)]
+struct Hits(BTreeMap<(*const u8, usize), (&'static str, u64)>);
+
+impl Hits {
+    /// Answers whether the name is told for the first time.
+    fn tell(&mut self, name: &'static str) -> bool {
+        let (_, times) = self.0.entry((name.as_ptr(), name.len())).or_insert((name, 0));
+        *times += 1;
+        *times == 1
+    }
+
+    fn times(&self, name: &str) -> u64 {
+        self.0.values().filter(|e| e.0 == name).map(|e| e.1).sum()
+    }
+
+    fn names(&self) -> BTreeSet<&'static str> {
+        self.0.values().map(|e| e.0).collect()
+    }
+}
+
 /// Paths with the number of calls that took them, and what made blocks not whole.
 #[derive(Default)]
 pub struct Paths {
-    hits: BTreeMap<&'static str, u64>,
+    hits: Hits,
     /// Lists without and with events of kind 5, their calls, and those of kind 5 that were accepted.
     lists: [[u64; 2]; 2],
     told_quiet: u64,
@@ -284,7 +308,7 @@ pub struct Paths {
     gone: BTreeSet<u64>,
     /// Those that an optimisation asked while they were quiet.
     asked: BTreeSet<u64>,
-    faults: BTreeMap<&'static str, u64>,
+    faults: Hits,
     /// Calls of `plumtree_rewrite`.
     pub rewrites: u64,
     /// Calls of `plumtree_save` and `plumtree_return`.
@@ -313,8 +337,8 @@ struct Handed {
 impl Paths {
     fn hit(&mut self, name: &'static str) {
         let is = |all: &[&str]| all.contains(&name);
-        debug_assert!(is(ALL) || is(FORGOTTEN) || is(QUIET), "{name}");
-        *self.hits.entry(name).or_default() += 1;
+        let first = self.hits.tell(name);
+        assert!(!first || is(ALL) || is(FORGOTTEN) || is(QUIET), "{name}");
     }
 
     fn hit_if(&mut self, yes: bool, name: &'static str) {
@@ -325,7 +349,7 @@ impl Paths {
 
     /// A poke made the block not whole.
     pub fn fault(&mut self, why: &'static str) {
-        *self.faults.entry(why).or_default() += 1;
+        self.faults.tell(why);
     }
 
     /// A path whose name is put together.
@@ -360,15 +384,15 @@ impl Paths {
 
     /// A question of *alike*.
     pub fn alike(&mut self, about: &'static str) {
-        *self.faults.entry(about).or_default() += 1;
+        self.faults.tell(about);
     }
 
     /// Rewrites, and what they were about.
     pub fn rewritten(&mut self, r: &mut Rewriter) {
         self.rewrites += std::mem::take(&mut r.calls);
         for name in r.about.drain(..) {
-            debug_assert!(rewriting::ABOUT.contains(&name), "{name}");
-            *self.faults.entry(name).or_default() += 1;
+            let first = self.faults.tell(name);
+            assert!(!first || rewriting::ABOUT.contains(&name), "{name}");
         }
     }
 
@@ -376,8 +400,8 @@ impl Paths {
     pub fn kept(&mut self, k: &mut Keeper) {
         self.states += std::mem::take(&mut k.calls);
         for name in k.about.drain(..) {
-            debug_assert!(states::ABOUT.contains(&name), "{name}");
-            *self.faults.entry(name).or_default() += 1;
+            let first = self.faults.tell(name);
+            assert!(!first || states::ABOUT.contains(&name), "{name}");
         }
     }
 
@@ -395,7 +419,7 @@ impl Paths {
             (0..3).for_each(|i| n[i] += more[i]);
         }
         for name in s.about.drain(..) {
-            *self.faults.entry(name).or_default() += 1;
+            self.faults.tell(name);
             self.last = name;
         }
     }
@@ -536,10 +560,11 @@ impl Paths {
         self.hit_if(out > 0 && out == answer.need, "actions fill the output");
         let timed = !matches!(seen, Seen::Up(_) | Seen::Down(_) | Seen::UpQuiet(_));
         let first = timed && !b.init;
-        let mut b = b.clone();
+        let mut b = Cow::Borrowed(b);
         if first {
             self.hit("first event");
             let n = (b.received.len(), b.cache.len(), b.grafted.len());
+            let b = b.to_mut();
             b.received.retain(|e| e.1 > now);
             b.cache.retain(|e| e.expires > now);
             b.grafted.retain(|e| e.expires > now);
@@ -1098,20 +1123,46 @@ impl Paths {
 
     /// The paths that calls took, without those of what was forgotten.
     pub fn names(&self) -> impl Iterator<Item = &'static str> + '_ {
-        self.hits.keys().copied().filter(|n| !FORGOTTEN.contains(n))
+        self.hits.names().into_iter().filter(|n| !FORGOTTEN.contains(n))
     }
 
     /// Every path, with the number of times it was taken.
     fn all(&self) -> Vec<(u64, String)> {
-        let n = |m: &BTreeMap<&'static str, u64>, k: &str| m.get(k).copied().unwrap_or(0);
-        let calls = ALL.iter().chain(FORGOTTEN).chain(QUIET).map(|k| (n(&self.hits, k), k.to_string()));
-        let faults = block::FAULTS.iter().map(|k| (n(&self.faults, k), format!("not whole: {k}")));
-        let alike = likeness::ABOUT.iter().map(|k| (n(&self.faults, k), k.to_string()));
-        let rewritten = rewriting::ABOUT.iter().map(|k| (n(&self.faults, k), k.to_string()));
-        let kept = states::ABOUT.iter().map(|k| (n(&self.faults, k), k.to_string()));
+        let calls = ALL.iter().chain(FORGOTTEN).chain(QUIET).map(|k| (self.hits.times(k), k.to_string()));
+        let faults = block::FAULTS.iter().map(|k| (self.faults.times(k), format!("not whole: {k}")));
+        let alike = likeness::ABOUT.iter().map(|k| (self.faults.times(k), k.to_string()));
+        let rewritten = rewriting::ABOUT.iter().map(|k| (self.faults.times(k), k.to_string()));
+        let kept = states::ABOUT.iter().map(|k| (self.faults.times(k), k.to_string()));
         let seconds = second::ABOUT.iter().copied().chain(second::by_calls());
-        let seconds = seconds.map(|k| (n(&self.faults, k), k.to_string()));
+        let seconds = seconds.map(|k| (self.faults.times(k), k.to_string()));
         calls.chain(faults).chain(alike).chain(rewritten).chain(kept).chain(seconds).collect()
+    }
+
+    /// What was counted, to be added to that of other runs: lines of a kind, a number and a name, with tabs between.
+    pub fn sums(&self) -> String {
+        let mut o = String::new();
+        let mut line = |kind: &str, n: u64, name: &str| o += &format!("{kind}\t{n}\t{name}\n");
+        for (n, name) in self.all() {
+            line("path", n, &name);
+        }
+        let [[lists, calls], [quiet, among]] = self.lists;
+        line("total", calls + among, "calls");
+        line("total", self.rewrites, "rewrites");
+        line("total", self.states, "savings and returns");
+        line("total", lists + quiet, "lists");
+        line("total", calls, "calls in lists without kind 5");
+        line("total", lists, "lists without kind 5");
+        line("total", among, "calls in lists with kind 5");
+        line("total", quiet, "lists with kind 5");
+        line("total", self.told_quiet, "events of kind 5 accepted");
+        line("total", self.alike.0, "second panels alike");
+        line("total", self.alike.1, "calls of second panels alike");
+        for (list, [all, chosen, followed]) in &self.apart {
+            line("apart", *all, list);
+            line("apart by chosen calls", *chosen, list);
+            line("apart by those that followed", *followed, list);
+        }
+        o
     }
 
     /// How many paths no call took.

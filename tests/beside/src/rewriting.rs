@@ -2,8 +2,9 @@
 use oracle::Message;
 
 use crate::{
+    lent::{Lent, Output},
     library,
-    run::{holds, same, Lent, Same, PATTERN},
+    run::{holds, same, Same},
     wire::{self, Field},
 };
 
@@ -66,38 +67,48 @@ struct Kept {
 pub struct Rewriter {
     kept: Vec<Kept>,
     message: Lent,
-    out: Lent,
+    out: Output,
     pub about: Vec<&'static str>,
     pub calls: u64,
 }
 
-impl Default for Rewriter {
-    fn default() -> Rewriter {
+impl Rewriter {
+    /// All of the output is looked at behind so many calls.
+    pub fn new(every: u32) -> Rewriter {
         Rewriter {
             kept: Vec::new(),
             message: Lent::new(0),
-            out: Lent::new(0),
+            out: Output::new(every),
             about: Vec::new(),
             calls: 0,
         }
     }
-}
 
-impl Rewriter {
+    /// Goes on with the output of an earlier one.
+    pub fn take_output(&mut self, old: Rewriter) {
+        self.out = old.out;
+    }
+
+    /// At the end of a list: nothing was written beyond a length.
+    pub fn end(&mut self) -> Same<()> {
+        self.out.look().map_err(|e| format!("rewrite {e}"))
+    }
+
     /// Rewrites a message into an output of so many bytes, and into outputs around its shortest form.
     pub fn run(&mut self, came: &[u8], room: usize) -> Same<()> {
         let (read, spelling) = wire::message(came);
         let value = Message::read(came);
         assert_eq!(spelling.question, value.as_ref().err().copied(), "{}", hex::encode(came));
         let form = value.as_ref().map(Message::to_bytes).map_err(|n| *n);
-        self.lend(came);
-        self.call(&form, room)?;
-        self.call(&form, 0)?;
-        if let Ok(f) = &form {
-            self.call(&form, f.len() - 1)?;
-            self.call(&form, f.len())?;
+        let form = form.as_deref().map_err(|n| *n);
+        self.message.put(came);
+        self.call(form, room)?;
+        self.call(form, 0)?;
+        if let Ok(f) = form {
+            self.call(form, f.len() - 1)?;
+            self.call(form, f.len())?;
         }
-        self.call(&form, came.len())?;
+        self.call(form, came.len())?;
         holds(self.message.part() == came, "rewrite changed the message")?;
         let (Ok(value), Some(read)) = (value, read) else {
             let behind = spelling.numbers.iter().any(|n| n.field == Field::EntryRound);
@@ -109,10 +120,9 @@ impl Rewriter {
             return Ok(());
         };
         // What was written is rewritten to itself.
-        let n = form.as_ref().map_or(0, Vec::len);
-        let ours = self.out.part()[..n].to_vec();
-        self.lend(&ours);
-        self.call(&Ok(ours.clone()), n).map_err(|e| format!("rewritten again, {e}"))?;
+        let ours = self.out.written().to_vec();
+        self.message.put(&ours);
+        self.call(Ok(&ours), ours.len()).map_err(|e| format!("rewritten again, {e}"))?;
         let new = Kept { came: came.to_vec(), read, value, form: ours };
         self.pairs(&new)?;
         self.told(&new);
@@ -121,23 +131,15 @@ impl Rewriter {
         Ok(())
     }
 
-    fn lend(&mut self, message: &[u8]) {
-        self.message.set_len(message.len());
-        self.message.part_mut().copy_from_slice(message);
-    }
-
     /// One call. `form` is what the Rust writes for the lent message, or its question answered no.
-    fn call(&mut self, form: &Result<Vec<u8>, u8>, room: usize) -> Same<()> {
+    fn call(&mut self, form: Result<&[u8], u8>, room: usize) -> Same<()> {
         let (number, form): (u8, &[u8]) = match form {
             Ok(f) if f.len() <= room => (0, f),
             Ok(_) => (14, &[]),
-            Err(n) => (*n, &[]),
+            Err(n) => (n, &[]),
         };
-        self.out.set_len(room);
         self.calls += 1;
-        let (ours, length) = library::rewrite(self.message.part(), self.out.part_mut());
-        self.compared(number, form, ours, length)
-            .map_err(|e| format!("rewrite {e} (room {room})"))?;
+        self.compared(number, form, room).map_err(|e| format!("rewrite {e} (room {room})"))?;
         let n = form.len();
         match number {
             0 if n == room => self.about.push("rewrite: shortest form fills the output"),
@@ -157,20 +159,20 @@ impl Rewriter {
         Ok(())
     }
 
-    fn compared(&self, number: u8, form: &[u8], ours: u64, length: u64) -> Same<()> {
-        let out = self.out.part();
+    fn compared(&mut self, number: u8, form: &[u8], room: usize) -> Same<()> {
+        self.out.lend(room, form.len())?;
+        let (ours, length) = library::rewrite(self.message.part(), self.out.part_mut());
         holds(
-            ours != 14 || out.len() < self.message.part().len(),
+            ours != 14 || room < self.message.part().len(),
             "14 for an output as long as the message",
         )?;
         same("answer", u64::from(number), ours)?;
         same("length", form.len() as u64, length)?;
-        if out[..form.len()] != *form {
-            let (a, b) = (hex::encode(form), hex::encode(&out[..form.len()]));
+        self.out.kept(form.len())?;
+        if self.out.written() != form {
+            let (a, b) = (hex::encode(form), hex::encode(self.out.written()));
             return Err(format!("bytes:\n  the Rust    {a}\n  the library {b}\n"));
         }
-        holds(out[form.len()..].iter().all(|b| *b == PATTERN), "wrote beyond the length")?;
-        holds(self.out.pads_kept(), "wrote outside of the output")?;
         holds(self.message.pads_kept(), "wrote outside of the message")
     }
 

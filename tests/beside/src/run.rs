@@ -1,5 +1,8 @@
 //! Runs commands on both, the Rust and the library, and compares after each.
-use std::collections::{BTreeMap, BTreeSet};
+use std::{
+    collections::{BTreeMap, BTreeSet},
+    rc::Rc,
+};
 
 use oracle::{
     snap::{Id, Snap},
@@ -7,86 +10,50 @@ use oracle::{
 };
 
 use crate::{
-    block, library,
+    block,
+    lent::{Block, Lent, Output, SELDOM},
+    library,
     likeness::{self, List},
     rewriting::Rewriter,
     rng::Rng,
     script::Cmd,
     second::{self, First, Seconds},
     states::{Asked, Keeper},
+    text,
     wire::{self, Action, Message},
 };
 
-/// Bytes kept around everything that is lent.
-const PAD: usize = 64;
-pub const PATTERN: u8 = 0xa5;
-
-/// Whether each byte is this one: the first is, and each is as the one before it.
-pub fn all_are(v: &[u8], byte: u8) -> bool {
-    v.first().is_none_or(|b| *b == byte && v[1..] == v[..v.len() - 1])
-}
-
-/// A lent part between two pads.
-pub struct Lent {
-    bytes: Vec<u8>,
-    len: usize,
-    pad: u8,
-}
-
-impl Lent {
-    pub fn new(len: usize) -> Lent {
-        Lent { bytes: vec![PATTERN; len + 2 * PAD], len, pad: PATTERN }
-    }
-    pub fn set_len(&mut self, len: usize) {
-        self.set_padded(len, PATTERN);
-    }
-    /// With pads of another byte, for what a step beyond the part would read.
-    pub fn set_padded(&mut self, len: usize, pad: u8) {
-        self.bytes.clear();
-        self.bytes.resize(len + 2 * PAD, pad);
-        (self.len, self.pad) = (len, pad);
-    }
-    pub fn part(&self) -> &[u8] {
-        &self.bytes[PAD..PAD + self.len]
-    }
-    pub fn part_mut(&mut self) -> &mut [u8] {
-        &mut self.bytes[PAD..PAD + self.len]
-    }
-    pub fn pads_kept(&self) -> bool {
-        let p = |v: &[u8]| all_are(v, self.pad);
-        p(&self.bytes[..PAD]) && p(&self.bytes[PAD + self.len..])
-    }
-}
-
 /// What an event call was, for the summary of paths.
 pub struct Call {
-    pub before: Option<Snap>,
+    pub before: Option<Rc<Snap>>,
     /// With the identifiers that the library told in actions 4.
     pub answer: Answer,
 }
 
 struct Saved {
     panel: Panel,
-    snap: Snap,
+    snap: Rc<Snap>,
     block: Vec<u8>,
     counts: [u64; 3],
     limits: Limits,
 }
 
 pub struct Pair {
+    every: u32,
     settings: Option<(u64, u64, [u64; 7])>,
     pub limits: Limits,
     panel: Option<Panel>,
     /// The state; none if the block is not whole.
-    pub snap: Option<Snap>,
+    pub snap: Option<Rc<Snap>>,
     /// Why the block is not whole.
     pub fault: Option<&'static str>,
     /// What the last question of *alike* was about.
     pub likeness: Option<&'static str>,
-    block: Lent,
-    before: Vec<u8>,
+    block: Block,
+    /// The block's bytes behind the needed length.
+    behind: Vec<u8>,
     counts: [u64; 3],
-    out: Lent,
+    out: Output,
     saved: Option<Saved>,
     garbage: Rng,
     pub rewriter: Rewriter,
@@ -132,27 +99,40 @@ fn unlike(rust: &Snap, ours: &Snap) -> String {
 
 impl Default for Pair {
     fn default() -> Pair {
+        Pair::looking(SELDOM)
+    }
+}
+
+impl Pair {
+    /// All of an output is looked at behind so many calls.
+    pub fn looking(every: u32) -> Pair {
         Pair {
+            every,
             settings: None,
             limits: Limits { max: [0; 9], out: 0 },
             panel: None,
             snap: None,
             fault: None,
             likeness: None,
-            block: Lent::new(0),
-            before: Vec::new(),
+            block: Block::new(0),
+            behind: Vec::new(),
             counts: [0; 3],
-            out: Lent::new(0),
+            out: Output::new(every),
             saved: None,
             garbage: Rng::new(7),
-            rewriter: Rewriter::default(),
+            rewriter: Rewriter::new(every),
             keeper: Keeper::default(),
-            seconds: Seconds::default(),
+            seconds: Seconds::new(every),
         }
     }
-}
 
-impl Pair {
+    /// At the end of a list: what was lent is as it should be where that was not looked at yet.
+    pub fn end(&mut self) -> Same<()> {
+        self.out.look()?;
+        self.rewriter.end()?;
+        self.seconds.look()
+    }
+
     /// The Rust's panel.
     pub fn panel(&self) -> &Panel {
         self.panel.as_ref().expect("a panel")
@@ -166,8 +146,12 @@ impl Pair {
     pub fn run(&mut self, cmd: &Cmd) -> Same<Option<Call>> {
         match cmd {
             Cmd::New { me, m, cfg } => {
-                let seconds = std::mem::take(&mut self.seconds).created();
-                *self = Pair { seconds, ..Pair::default() };
+                self.end()?;
+                let old = std::mem::replace(self, Pair::looking(self.every));
+                // Of what was before, the outputs stay as memory, and a panel that was put aside.
+                self.out = old.out;
+                self.rewriter.take_output(old.rewriter);
+                self.seconds.go_on(old.seconds);
                 self.settings = Some((*me, *m, *cfg));
                 self.garbage = Rng::new(*me ^ *m ^ cfg[4]);
                 Ok(None)
@@ -183,11 +167,8 @@ impl Pair {
                 self.limits.out = *out;
                 Ok(None)
             }
-            Cmd::Load(text) => {
-                let panel = Panel::load(text).ok_or("script: not a state")?;
-                self.load(panel)?;
-                Ok(None)
-            }
+            Cmd::Load(_) if self.panel.is_none() => Err("script: load before limits".into()),
+            Cmd::Load(state) => self.load(loaded(state)?).map(|()| None),
             Cmd::Counts(c) => {
                 self.counts = *c;
                 self.seconds.end();
@@ -196,7 +177,7 @@ impl Pair {
             }
             Cmd::Event { now, rooms, event } => self.event(*now, rooms, event).map(Some),
             Cmd::Rewrite { message, room } => self.rewriter.run(message, *room).map(|()| None),
-            Cmd::Alike { max, text } => self.alike(max, text).map(|()| None),
+            Cmd::Alike { max, state } => self.alike(max, state).map(|()| None),
             Cmd::Poke(v) => {
                 self.save();
                 for (i, b) in v {
@@ -208,10 +189,9 @@ impl Pair {
             }
             Cmd::Cut(n) => {
                 self.save();
-                let n = (*n).min(self.block.len);
+                let n = (*n).min(self.block.part().len());
                 let kept = self.block.part()[..n].to_vec();
-                self.block.set_len(n);
-                self.block.part_mut().copy_from_slice(&kept);
+                self.block.put(&kept);
                 self.look().map(|()| None)
             }
             Cmd::Undo => {
@@ -219,9 +199,7 @@ impl Pair {
                 self.panel = Some(s.panel);
                 self.snap = Some(s.snap);
                 self.fault = None;
-                self.block.set_len(s.block.len());
-                self.block.part_mut().copy_from_slice(&s.block);
-                self.before = s.block;
+                self.block.put(&s.block);
                 self.counts = s.counts;
                 self.limits = s.limits;
                 Ok(None)
@@ -231,12 +209,11 @@ impl Pair {
                 Ok(None)
             }
             Cmd::Save(name) => {
-                let panel = self.snap.is_some().then_some(self.panel.as_ref()).flatten();
-                let asked = Asked { block: &mut self.block, counts: self.counts, panel };
-                self.keeper.save(asked, false, *name).map(|()| None)
+                let (asked, keeper) = self.asked();
+                keeper.save(asked, false, *name).map(|()| None)
             }
-            Cmd::SaveOther { name, counts, max, text } => {
-                self.save_other(*name, *counts, max, text).map(|()| None)
+            Cmd::SaveOther { name, counts, max, state } => {
+                self.save_other(*name, *counts, max, state).map(|()| None)
             }
             Cmd::Return(name) => self.go_back(*name).map(|()| None),
             Cmd::PokeArea(v) => {
@@ -263,7 +240,8 @@ impl Pair {
 
     /// A second panel with this state, or with one of its lists in another order.
     fn second(&mut self, seed: u64, list: Option<List>) -> Same<()> {
-        let mut snap = self.snap.clone().ok_or("script: a block that is not whole")?;
+        let state = self.snap.clone().ok_or("script: a block that is not whole")?;
+        let mut snap = Snap::clone(&state);
         let mut r = Rng::new(seed);
         if list.is_some_and(|list| !likeness::reorder(&mut r, &mut snap, list)) {
             return Ok(());
@@ -271,9 +249,8 @@ impl Pair {
         let mut block = vec![0; block::need(&self.limits.max) + r.pick(&[0, 1, 50, 3000])];
         r.fill(&mut block);
         block::write(&mut r, &mut block, &self.limits.max, &snap);
-        let first =
-            First { block: self.block.part(), counts: self.counts, number: 0, actions: &[] };
-        let told = self.seconds.goes_along(first, &block, self.counts)?;
+        let (first, seconds) = self.first();
+        let told = seconds.goes_along(first, &block, first.counts)?;
         self.likeness = Some(told.about);
         holds(told.unordered, "second panel: not alike in the old way")?;
         holds(told.alike == list.is_none(), "second panel: not as it was written")
@@ -282,9 +259,8 @@ impl Pair {
     /// The panel that was put aside and this one, by two lists of calls of this kind.
     fn together(&mut self, kind: usize) -> Same<()> {
         let (name, alike, about) = second::BY_CALLS.get(kind).ok_or("script: no such lists")?;
-        let first =
-            First { block: self.block.part(), counts: self.counts, number: 0, actions: &[] };
-        let told = self.seconds.together(first)?;
+        let (first, seconds) = self.first();
+        let told = seconds.together(first)?;
         self.likeness = Some(told.about);
         let should = told.unordered && told.alike == *alike && told.about == *about;
         if should && self.seconds.is_there() {
@@ -294,25 +270,40 @@ impl Pair {
     }
 
     /// A saving of another panel's state, in a block as long as this one.
-    fn save_other(&mut self, name: u64, counts: [u64; 3], max: &[u64; 9], text: &str) -> Same<()> {
-        let mut panel = Panel::load(text).ok_or("script: not a state")?;
+    fn save_other(&mut self, name: u64, counts: [u64; 3], max: &[u64; 9], state: &Snap) -> Same<()> {
+        let mut panel = loaded(state)?;
         panel.set_counts(counts);
-        if block::need(max) > self.block.len {
+        let len = self.block.part().len();
+        if block::need(max) > len {
             return Err("script: another panel does not fit".into());
         }
-        let mut second = Lent::new(self.block.len);
+        let mut second = Block::new(len);
         self.garbage.fill(second.part_mut());
-        block::write(&mut self.garbage, second.part_mut(), max, &sorted(panel.snap()));
-        let whole = block::read(second.part()).is_ok();
-        let asked = Asked { block: &mut second, counts, panel: whole.then_some(&panel) };
+        let snap = Rc::new(sorted(panel.snap()));
+        block::write(&mut self.garbage, second.part_mut(), max, &snap);
+        let known = block::read(second.part()).is_ok().then_some((&panel, &snap));
+        let asked = Asked { block: &mut second, counts, known };
         self.keeper.save(asked, true, name)
+    }
+
+    /// What a saving or a return is asked with, and who answers.
+    fn asked(&mut self) -> (Asked<'_>, &mut Keeper) {
+        let known = self.panel.as_ref().zip(self.snap.as_ref());
+        let asked = Asked { block: &mut self.block, counts: self.counts, known };
+        (asked, &mut self.keeper)
+    }
+
+    /// The first panel before a call, and the second one.
+    fn first(&mut self) -> (First<'_>, &mut Seconds) {
+        let (block, snap) = (self.block.part(), self.snap.as_deref());
+        let first = First { block, snap, counts: self.counts, number: 0, actions: &[] };
+        (first, &mut self.seconds)
     }
 
     /// A return: the Rust goes on from its copy of the time of the saving.
     fn go_back(&mut self, name: u64) -> Same<()> {
-        let panel = self.snap.is_some().then_some(self.panel.as_ref()).flatten();
-        let asked = Asked { block: &mut self.block, counts: self.counts, panel };
-        let Some(back) = self.keeper.go_back(asked, name)? else {
+        let (asked, keeper) = self.asked();
+        let Some(back) = keeper.go_back(asked, name)? else {
             return Ok(());
         };
         self.seconds.end();
@@ -331,19 +322,21 @@ impl Pair {
         let any = [self.garbage.next(), self.garbage.next(), self.garbage.below(65536)];
         // One byte short: refused, nothing touched.
         self.fill(need - 1);
+        self.block.note();
         let mut counts = any;
         let a = library::create(self.block.part_mut(), &mut counts, me, m, cfg, max);
         let refused = library::Answer { number: 4, length: 0, kept: true };
         same("creation in a short block", refused, a)?;
         same("counts of a refused creation", any, counts)?;
-        holds(self.block.part() == self.before, "a refused creation changed the block")?;
+        holds(self.block.unchanged(), "a refused creation changed the block")?;
         let more = self.garbage.pick(&[0, 0, 1, 7, 100]);
         self.fill(need + more);
+        self.note_behind(need);
         let a = library::create(self.block.part_mut(), &mut counts, me, m, cfg, max);
         same("creation", library::Answer { number: 0, length: 0, kept: true }, a)?;
         same("counts of a creation", [0; 3], counts)?;
         holds(self.block.pads_kept(), "creation wrote outside of the block")?;
-        holds(self.block.part()[need..] == self.before[need..], "creation wrote past the need")?;
+        holds(self.block.part()[need..] == self.behind, "creation wrote past the need")?;
         self.counts = counts;
         self.panel = Some(Panel::new(me, m, cfg));
         self.settle()
@@ -353,16 +346,18 @@ impl Pair {
     fn fill(&mut self, len: usize) {
         self.block.set_len(len);
         self.garbage.fill(self.block.part_mut());
-        self.before.clear();
-        self.before.extend_from_slice(self.block.part());
+    }
+
+    fn note_behind(&mut self, need: usize) {
+        self.behind.clear();
+        self.behind.extend_from_slice(&self.block.part()[need..]);
     }
 
     fn load(&mut self, panel: Panel) -> Same<()> {
         let snap = sorted(panel.snap());
-        let len = self.block.len;
+        let len = self.block.part().len();
         self.fill(len);
-        let (r, l) = (&mut self.garbage, &self.limits.max);
-        block::write(r, &mut self.block.bytes[PAD..PAD + len], l, &snap);
+        block::write(&mut self.garbage, self.block.part_mut(), &self.limits.max, &snap);
         self.seconds.end();
         self.panel = Some(panel);
         self.counts = [0; 3];
@@ -378,9 +373,8 @@ impl Pair {
             return Err(unlike(&rust, &ours));
         }
         same("limits", self.limits.max, block::limits(self.block.part()))?;
-        self.snap = Some(rust);
-        self.before.clear();
-        self.before.extend_from_slice(self.block.part());
+        self.snap = Some(Rc::new(rust));
+        self.block.changed();
         Ok(())
     }
 
@@ -398,8 +392,8 @@ impl Pair {
 
     /// After a poke: whole or not, and if it is, the Rust goes on with what the block tells.
     fn look(&mut self) -> Same<()> {
-        self.before.clear();
-        self.before.extend_from_slice(self.block.part());
+        self.block.changed();
+        self.block.note();
         let read = block::read(self.block.part());
         let why = read.as_ref().err().copied().unwrap_or("");
         let ours = library::whole(self.block.part_mut());
@@ -409,11 +403,13 @@ impl Pair {
         self.snap = None;
         self.fault = read.as_ref().err().copied();
         if let Ok(snap) = read {
-            let mut panel = Panel::load(&snap.text()).ok_or("a state that can't be loaded")?;
+            // A poke that changes nothing of the state leaves the Rust's panel as it is.
+            let saved = self.saved.as_ref().filter(|s| *s.snap == snap);
+            let mut panel = saved.map_or_else(|| loaded(&snap), |s| Ok(s.panel.copy()))?;
             panel.set_counts(self.counts);
             self.panel = Some(panel);
             self.limits.max = block::limits(self.block.part());
-            self.snap = Some(snap);
+            self.snap = Some(Rc::new(snap));
         }
         Ok(())
     }
@@ -428,17 +424,23 @@ impl Pair {
             }
             None => Answer { number: 5, ..Answer::default() },
         };
+        let need = block::need(&limits.max);
+        if answer.number == 0 {
+            self.note_behind(need);
+        } else {
+            self.block.note();
+        }
         // With the counts full a call is answered 11, and the question, which takes them as zero, is another one.
         if answer.number != 11 {
             let ours = library::limit_met(self.block.part(), now, event, rooms);
             same("limit met", first_limit(answer.over), ours)?;
         }
-        self.out.set_len(limits.out);
+        let n = answer.actions.len() + FORGOTTEN * answer.forgotten.len();
+        self.out.lend(limits.out, n)?;
         let mut counts = self.counts;
         let block = self.block.part_mut();
         let a = library::event(block, &mut counts, now, event, rooms, self.out.part_mut());
         same("answer", u64::from(answer.number), a.number)?;
-        let n = answer.actions.len() + FORGOTTEN * answer.forgotten.len();
         same("length", n as u64, a.length)?;
         if let Some(s) = before.as_ref().filter(|s| within(s)) {
             let enough = library::output_size(limits.max, s.m);
@@ -447,20 +449,17 @@ impl Pair {
         }
         holds(a.kept, "wrote outside of the counts")?;
         holds(self.block.pads_kept(), "wrote outside of the block")?;
-        holds(self.out.pads_kept(), "wrote outside of the output")?;
-        let (actions, rest) = self.out.part().split_at(n);
-        compare_actions(&answer, actions)?;
-        holds(all_are(rest, PATTERN), "wrote beyond the length")?;
+        self.out.kept(n)?;
+        compare_actions(&answer, self.out.written())?;
         if answer.number != 0 {
             same("counts of a refused call", self.counts, counts)?;
-            holds(self.block.part() == self.before, "a refused call changed the block")?;
+            holds(self.block.unchanged(), "a refused call changed the block")?;
         } else {
             same("counts", self.panel().counts(), counts)?;
             self.counts = counts;
-            let need = block::need(&limits.max);
-            holds(self.block.part()[need..] == self.before[need..], "wrote past the need")?;
+            holds(self.block.part()[need..] == self.behind, "wrote past the need")?;
             self.settle()?;
-            let (before, after) = (before.as_ref(), self.snap.as_ref());
+            let (before, after) = (before.as_deref(), self.snap.as_deref());
             let (before, after) = before.zip(after).ok_or("an accepted call upon a block that is not whole")?;
             let seen = self.panel().see(event);
             let anew = match &seen {
@@ -469,12 +468,12 @@ impl Pair {
                 _ => None,
             };
             held_against_the_cache(&answer.forgotten, before, after, anew)?;
-            only_asked(&before.quiet, seen.as_ref(), &self.out.part()[..n])?;
+            only_asked(&before.quiet, seen.as_ref(), self.out.written())?;
         }
         if self.saved.is_none() {
-            let (block, number) = (self.block.part(), answer.number.into());
-            let actions = &self.out.part()[..n];
-            let first = First { block, counts: self.counts, number, actions };
+            let (block, snap) = (self.block.part(), self.snap.as_deref());
+            let (number, actions) = (answer.number.into(), self.out.written());
+            let first = First { block, snap, counts: self.counts, number, actions };
             let asked = second::Asked { now, rooms, event, out: limits.out };
             self.seconds.event(first, asked)?;
         }
@@ -483,21 +482,21 @@ impl Pair {
     }
 
     /// *Alike*, of the block and one that holds another state, both ways.
-    fn alike(&mut self, max: &[u64; 9], text: &str) -> Same<()> {
-        let other = Panel::load(text).ok_or("script: not a state")?;
+    fn alike(&mut self, max: &[u64; 9], other: &Snap) -> Same<()> {
         let mut second = Lent::new(block::need(max));
         self.garbage.fill(second.part_mut());
-        let as_before = *max == self.limits.max && second.len <= self.block.len;
+        let as_before = *max == self.limits.max && second.part().len() <= self.block.part().len();
         if as_before && self.garbage.chance(50.0) {
             // What the state leaves free are the bytes of this block, rows behind shorter lists too.
-            let n = second.len;
+            let n = second.part().len();
             second.part_mut().copy_from_slice(&self.block.part()[..n]);
         }
-        block::write(&mut self.garbage, second.part_mut(), max, &sorted(other.snap()));
+        block::write(&mut self.garbage, second.part_mut(), max, &sorted(other.clone()));
+        self.block.note();
         let (a, b) = (self.block.part(), second.part());
-        let told = second::asked_both_ways(a, b)?;
+        let told = second::asked_both_ways(a, self.snap.as_deref(), b)?;
         self.likeness = Some(told.about);
-        holds(self.block.part() == self.before, "alike changed the block")
+        holds(self.block.unchanged(), "alike changed the block")
     }
 }
 
@@ -525,14 +524,13 @@ fn held_against_the_cache(
     after: &Snap,
     anew: Option<Id>,
 ) -> Same<()> {
-    let keys = |s: &Snap| s.cache.iter().map(|c| c.id).collect::<BTreeSet<Id>>();
-    let (before, after) = (keys(before), keys(after));
-    let told: BTreeSet<Id> = forgotten.iter().copied().collect();
+    let caches = |s: &Snap, id: &Id| s.cache.binary_search_by(|c| c.id.cmp(id)).is_ok();
+    let told: BTreeSet<&Id> = forgotten.iter().collect();
     holds(told.len() == forgotten.len(), "forgotten, told twice")?;
-    holds(told.is_subset(&before), "forgotten, and not cached before")?;
-    let left: BTreeSet<Id> = before.difference(&after).copied().collect();
-    holds(left.is_subset(&told), "left the message cache and not told")?;
-    let again = told.difference(&left).all(|id| anew == Some(*id));
+    holds(told.iter().all(|id| caches(before, id)), "forgotten, and not cached before")?;
+    let mut left = before.cache.iter().map(|c| &c.id).filter(|id| !caches(after, id));
+    holds(left.all(|id| told.contains(id)), "left the message cache and not told")?;
+    let again = told.iter().all(|id| !caches(after, id) || anew == Some(**id));
     holds(again, "forgotten, and still cached")
 }
 
@@ -561,6 +559,11 @@ fn first_limit(over: u16) -> u64 {
 /// Whether each cached message came as one of at most M bytes, and nothing is cached before the first event, as in every state that calls lead to from a creation.
 fn within(s: &Snap) -> bool {
     (s.init || s.cache.is_empty()) && s.cache.iter().all(|c| c.content.len() as u64 + 37 <= s.m)
+}
+
+/// The Rust's panel with this state, counts zero.
+pub fn loaded(s: &Snap) -> Same<Panel> {
+    Panel::load(&text::of(s)).ok_or("a state that the Rust does not load".into())
 }
 
 /// Grafted peers of an identifier are a map, the block has them ascending.

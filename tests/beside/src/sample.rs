@@ -182,7 +182,7 @@ fn candidate(seed: u64, n: u64) -> Option<Candidate> {
             if let Cmd::Event { now, event, .. } = &c {
                 let seen = pair.panel().see(event);
                 let call = pair.run(&c).ok()??;
-                let (before, after) = (call.before.as_ref(), pair.snap.as_ref());
+                let (before, after) = (call.before.as_deref(), pair.snap.as_deref());
                 let out = pair.limits.out;
                 if out > MOST {
                     return None;
@@ -193,7 +193,7 @@ fn candidate(seed: u64, n: u64) -> Option<Candidate> {
                 if call.answer.number == 0 {
                     accepted += 1;
                     if accepted % EVERY == 0 {
-                        states.extend(pair.snap.clone());
+                        states.extend(pair.snap.as_deref().cloned());
                     }
                 }
             } else {
@@ -202,7 +202,7 @@ fn candidate(seed: u64, n: u64) -> Option<Candidate> {
             list.push(c);
         }
     }
-    states.extend(pair.snap.clone());
+    states.extend(pair.snap.as_deref().cloned());
     Some(Candidate { list, paths, orders: orders(&states) })
 }
 
@@ -318,7 +318,7 @@ pub fn check(file: &str) -> Result<(usize, usize), String> {
                     other[at..at + run.len()].copy_from_slice(run);
                 }
                 states += 1;
-                let told = likeness::told(&block, &other);
+                let told = likeness::told(&block, None, &other);
                 if (told.number, told.alike) != (0, true) || library::alike(&block, &other) != (0, true) {
                     return Err(format!("behind call {n} the state differs: {}", told.about));
                 }

@@ -3,6 +3,8 @@
 //! `pokearea`, `cutarea` and `undoarea` for named states, and `second`, `reordered`, `aside` and `together` for a second panel.
 use std::fmt::Write;
 
+use oracle::{snap::Snap, Panel};
+
 #[derive(Clone, Debug, PartialEq)]
 pub enum Cmd {
     New {
@@ -16,8 +18,7 @@ pub enum Cmd {
         max: [u64; 9],
         out: usize,
     },
-    /// A state, as its line of text.
-    Load(String),
+    Load(Box<Snap>),
     Counts([u64; 3]),
     Event {
         now: u64,
@@ -32,7 +33,7 @@ pub enum Cmd {
     /// *Alike*, of the block and one with these limits and this state.
     Alike {
         max: [u64; 9],
-        text: String,
+        state: Box<Snap>,
     },
     /// Changes bytes of the block.
     Poke(Vec<(usize, u8)>),
@@ -49,7 +50,7 @@ pub enum Cmd {
         name: u64,
         counts: [u64; 3],
         max: [u64; 9],
-        text: String,
+        state: Box<Snap>,
     },
     /// Returns to this name.
     Return(u64),
@@ -92,6 +93,11 @@ fn list<T, F: Fn(&T) -> String>(v: &[T], f: F) -> String {
     v.iter().map(f).collect::<Vec<_>>().join(",")
 }
 
+/// The state of a line of text.
+fn state(text: &str) -> Option<Box<Snap>> {
+    Some(Box::new(Panel::load(text)?.snap()))
+}
+
 fn words<T: ToString>(v: &[T]) -> String {
     v.iter().map(|x| x.to_string()).collect::<Vec<_>>().join(" ")
 }
@@ -101,21 +107,21 @@ impl Cmd {
         match self {
             Cmd::New { me, m, cfg } => format!("new {me} {m} {}", words(cfg)),
             Cmd::Limits { max, out } => format!("limits {} {out}", words(max)),
-            Cmd::Load(s) => format!("load {s}"),
+            Cmd::Load(state) => format!("load {}", state.text()),
             Cmd::Counts(c) => format!("stats {}", words(c)),
             Cmd::Event { now, rooms, event } => {
                 let rooms = list(rooms, |(p, r)| format!("{p}:{r}"));
                 format!("ev {now} {rooms} {}", hex_or_dash(event))
             }
             Cmd::Rewrite { message, room } => format!("rewrite {} {room}", hex_or_dash(message)),
-            Cmd::Alike { max, text } => format!("alike {} {text}", words(max)),
+            Cmd::Alike { max, state } => format!("alike {} {}", words(max), state.text()),
             Cmd::Poke(v) => format!("poke {}", list(v, |(i, b)| format!("{i}:{b}"))),
             Cmd::Cut(n) => format!("cut {n}"),
             Cmd::Undo => "undo".into(),
             Cmd::Area(n) => format!("area {n}"),
             Cmd::Save(name) => format!("save {name}"),
-            Cmd::SaveOther { name, counts, max, text } => {
-                format!("saveother {name} {} {} {text}", words(counts), words(max))
+            Cmd::SaveOther { name, counts, max, state } => {
+                format!("saveother {name} {} {} {}", words(counts), words(max), state.text())
             }
             Cmd::Return(name) => format!("return {name}"),
             Cmd::PokeArea(v) => format!("pokearea {}", list(v, |(i, b)| format!("{i}:{b}"))),
@@ -157,7 +163,7 @@ impl Cmd {
                 let v = nums()?;
                 Cmd::Limits { max: v.get(..9)?.try_into().ok()?, out: *v.get(9)? as usize }
             }
-            "load" => Cmd::Load(line.trim().strip_prefix("load")?.trim().into()),
+            "load" => Cmd::Load(state(line.trim().strip_prefix("load")?)?),
             "stats" => Cmd::Counts(nums()?.try_into().ok()?),
             "ev" => Cmd::Event {
                 now: w.get(1)?.parse().ok()?,
@@ -165,9 +171,10 @@ impl Cmd {
                 event: unhex(w.get(3)?)?,
             },
             "rewrite" => Cmd::Rewrite { message: unhex(w.get(1)?)?, room: w.get(2)?.parse().ok()? },
-            "alike" => {
-                Cmd::Alike { max: some(1, 10)?.try_into().ok()?, text: w.get(10..)?.join(" ") }
-            }
+            "alike" => Cmd::Alike {
+                max: some(1, 10)?.try_into().ok()?,
+                state: state(&w.get(10..)?.join(" "))?,
+            },
             "poke" => Cmd::Poke(pokes()?),
             "area" => Cmd::Area(*nums()?.first()? as usize),
             "save" => Cmd::Save(*nums()?.first()?),
@@ -175,7 +182,7 @@ impl Cmd {
                 name: w.get(1)?.parse().ok()?,
                 counts: some(2, 5)?.try_into().ok()?,
                 max: some(5, 14)?.try_into().ok()?,
-                text: w.get(14..)?.join(" "),
+                state: state(&w.get(14..)?.join(" "))?,
             },
             "return" => Cmd::Return(*nums()?.first()?),
             "pokearea" => Cmd::PokeArea(pokes()?),

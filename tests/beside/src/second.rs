@@ -2,10 +2,14 @@
 //! order goes through them too, to count how many calls tell apart.
 use std::collections::BTreeMap;
 
+use oracle::snap::Snap;
+
 use crate::{
-    block, library,
+    block,
+    lent::{Block, Output},
+    library,
     likeness::{self, Told},
-    run::{all_are, holds, Lent, Same, PATTERN},
+    run::{holds, Same},
     wire,
 };
 
@@ -74,7 +78,7 @@ enum Mode {
 }
 
 struct Second {
-    block: Lent,
+    block: Block,
     counts: [u64; 3],
     mode: Mode,
     /// Whether its queue and its record are interleaved otherwise than the first one's.
@@ -82,8 +86,11 @@ struct Second {
 }
 
 /// The first panel, after a call or before all of them.
+#[derive(Clone, Copy)]
 pub struct First<'a> {
     pub block: &'a [u8],
+    /// The state that was read off the block; none if it is not whole.
+    pub snap: Option<&'a Snap>,
     pub counts: [u64; 3],
     pub number: u64,
     pub actions: &'a [u8],
@@ -100,9 +107,11 @@ pub struct Asked<'a> {
 /// Pairs by the order that differs: how many there were, how many of them chosen calls tell apart, and how many the calls of the list.
 pub type Apart = BTreeMap<&'static str, [u64; 3]>;
 
-#[derive(Default)]
 pub struct Seconds {
     second: Option<Second>,
+    out: Output,
+    /// The outputs of chosen calls.
+    chosen: [Vec<u8>; 2],
     pub about: Vec<&'static str>,
     /// Pairs that are alike, and calls that both went through.
     pub alike: u64,
@@ -121,6 +130,24 @@ fn order(about: &'static str) -> &'static str {
 }
 
 impl Seconds {
+    /// All of the output is looked at behind so many calls.
+    pub fn new(every: u32) -> Seconds {
+        Seconds {
+            second: None,
+            out: Output::new(every),
+            chosen: [Vec::new(), Vec::new()],
+            about: Vec::new(),
+            alike: 0,
+            calls: 0,
+            apart: Apart::new(),
+        }
+    }
+
+    /// At the end of a list: nothing was written beyond a length.
+    pub fn look(&mut self) -> Same<()> {
+        self.out.look().map_err(|e| format!("second panel: {e}"))
+    }
+
     /// Whether a second panel goes along.
     pub fn is_there(&self) -> bool {
         self.second.is_some()
@@ -128,13 +155,13 @@ impl Seconds {
 
     /// The first panel is put aside: it is the second one of the panel that is created next.
     pub fn put_aside(&mut self, block: &[u8], counts: [u64; 3]) {
-        self.second =
-            Some(Second { block: lent(block), counts, mode: Mode::Aside, mixed: [false; 2] });
+        self.second = Some(Second::new(block, counts, Mode::Aside, [false; 2]));
     }
 
-    /// A creation begins: only a panel that is put aside stays.
-    pub fn created(self) -> Seconds {
-        Seconds { second: self.second.filter(|s| s.mode == Mode::Aside), ..Seconds::default() }
+    /// A creation begins: of what was before, a panel that is put aside stays, and the outputs.
+    pub fn go_on(&mut self, old: Seconds) {
+        self.second = old.second.filter(|s| s.mode == Mode::Aside);
+        (self.out, self.chosen) = (old.out, old.chosen);
     }
 
     /// The first panel is another one from here on.
@@ -146,13 +173,12 @@ impl Seconds {
     pub fn together(&mut self, first: First) -> Same<Told> {
         let second = self.second.take().filter(|s| s.mode == Mode::Aside);
         let s = second.ok_or("script: no panel aside")?;
-        let (block, counts) = (s.block.part().to_vec(), s.counts);
-        self.goes_along(first, &block, counts)
+        self.goes_along(first, s.block.part(), s.counts)
     }
 
     /// A panel with this block and these counts goes along from here on.
     pub fn goes_along(&mut self, first: First, block: &[u8], counts: [u64; 3]) -> Same<Told> {
-        let told = asked_both_ways(first.block, block)?;
+        let told = asked_both_ways(first.block, first.snap, block)?;
         self.second = None;
         let mode = match told.number == 0 && told.alike {
             true if counts == first.counts => Mode::Alike,
@@ -163,7 +189,7 @@ impl Seconds {
             Mode::Apart(list) => {
                 let n = self.apart.entry(list).or_default();
                 n[0] += 1;
-                if told_apart(first.block, block) {
+                if told_apart(first.block, block, &mut self.chosen) {
                     n[1] += 1;
                     self.about.extend(named(format!(
                         "in another order, told apart by chosen calls: {list}"
@@ -176,7 +202,7 @@ impl Seconds {
             self.about.push("second: in a longer block");
         }
         let mixed = likeness::mixed(first.block, block);
-        self.second = Some(Second { block: lent(block), counts, mode, mixed });
+        self.second = Some(Second::new(block, counts, mode, mixed));
         Ok(told)
     }
 
@@ -185,20 +211,32 @@ impl Seconds {
         let Some(s) = self.second.as_mut().filter(|s| s.mode != Mode::Aside) else {
             return Ok(());
         };
-        let before = s.block.part().to_vec();
-        let mut out = Lent::new(asked.out);
+        let out = &mut self.out;
+        let in_second = |e: String| format!("second panel: {e}");
+        if s.mode != Mode::Alike {
+            // How much it writes is not known before.
+            out.look().map_err(in_second)?;
+        }
+        out.lend(asked.out, first.actions.len()).map_err(in_second)?;
+        let was = block::interleaved(s.block.part());
+        if first.number != 0 || s.mode != Mode::Alike {
+            s.block.note();
+        }
         let mut counts = s.counts;
         let (block, to) = (s.block.part_mut(), out.part_mut());
         let a = library::event(block, &mut counts, asked.now, asked.event, asked.rooms, to);
         holds(a.kept, "second panel: wrote outside of the counts")?;
         holds(s.block.pads_kept(), "second panel: wrote outside of the block")?;
-        holds(out.pads_kept(), "second panel: wrote outside of the output")?;
-        holds(a.length as usize <= asked.out, "second panel: a length beyond the output")?;
-        let (actions, rest) = out.part().split_at(a.length as usize);
-        holds(all_are(rest, PATTERN), "second panel: wrote beyond the length")?;
+        out.kept(a.length as usize).map_err(in_second)?;
+        let actions = out.written();
+        if s.mode == Mode::Alike {
+            holds(a.number == first.number, "second panel: another answer")?;
+        }
         if a.number != 0 {
-            holds(s.block.part() == before, "second panel: a refused call changed the block")?;
+            holds(s.block.unchanged(), "second panel: a refused call changed the block")?;
             holds(counts == s.counts, "second panel: a refused call changed the counts")?;
+        } else {
+            s.block.changed();
         }
         s.counts = counts;
         let same = [
@@ -210,7 +248,7 @@ impl Seconds {
             if same.iter().any(|e| !e.0) {
                 self.apart.entry(list).or_default()[2] += 1;
                 self.second = None;
-            } else if asked_both_ways(first.block, s.block.part())?.alike {
+            } else if asked_both_ways(first.block, first.snap, s.block.part())?.alike {
                 self.second = None;
             }
             return Ok(());
@@ -227,23 +265,29 @@ impl Seconds {
         if a.number == 0 && asked.event[0] == wire::QUIET {
             self.about.push("second: up quiet");
         }
-        let quiet = block::read(first.block).is_ok_and(|s| !s.quiet.is_empty());
+        let quiet = first.snap.is_some_and(|s| !s.quiet.is_empty());
         let gossip = |m: &&[u8]| m.first() == Some(&0);
         if quiet && wire::sent(actions).iter().any(gossip) {
             self.about.push("second: a push, some are quiet");
         }
-        let told = asked_both_ways(first.block, s.block.part())?;
+        let told = asked_both_ways(first.block, first.snap, s.block.part())?;
         holds(told.alike, "second panel: no longer alike")?;
-        let [was, is] = [&before[..], s.block.part()].map(block::interleaved);
+        let is = block::interleaved(s.block.part());
         self.about.extend(paths(a.number, asked.event, s.mixed, [was, is]));
         s.mixed = likeness::mixed(first.block, s.block.part());
         Ok(())
     }
 }
 
-/// *Alike*, both ways, held against the model.
-pub fn asked_both_ways(a: &[u8], b: &[u8]) -> Same<Told> {
-    let told = likeness::told(a, b);
+impl Second {
+    fn new(block: &[u8], counts: [u64; 3], mode: Mode, mixed: [bool; 2]) -> Second {
+        Second { block: Block::of(block), counts, mode, mixed }
+    }
+}
+
+/// *Alike*, both ways, held against the model. `x` is the state that was read off the first block, where that was done before.
+pub fn asked_both_ways(a: &[u8], x: Option<&Snap>, b: &[u8]) -> Same<Told> {
+    let told = likeness::told(a, x, b);
     let model = (told.number, told.alike);
     for (what, ours) in
         [("alike", library::alike(a, b)), ("alike, the other way", library::alike(b, a))]
@@ -259,28 +303,29 @@ pub fn asked_both_ways(a: &[u8], b: &[u8]) -> Same<Told> {
     Ok(told)
 }
 
-fn lent(block: &[u8]) -> Lent {
-    let mut l = Lent::new(block.len());
-    l.part_mut().copy_from_slice(block);
-    l
+/// A panel that chosen calls are run on, with an output that is long enough.
+struct Chosen<'a> {
+    block: Vec<u8>,
+    counts: [u64; 3],
+    out: &'a mut Vec<u8>,
 }
 
-/// The answer, the actions and the counts of a call with room on every link.
-fn answered(
-    block: &mut [u8],
-    counts: &mut [u64; 3],
-    now: u64,
-    event: &[u8],
-) -> (u64, Vec<u8>, [u64; 3]) {
-    let mut out = vec![0; 1 << 21];
-    let a = library::event(block, counts, now, event, &[], &mut out);
-    out.truncate(a.length as usize);
-    (a.number, out, *counts)
+impl Chosen<'_> {
+    fn new<'a>(block: &[u8], out: &'a mut Vec<u8>) -> Chosen<'a> {
+        out.resize(1 << 21, 0);
+        Chosen { block: block.to_vec(), counts: [0; 3], out }
+    }
+
+    /// The answer, the actions and the counts of a call with room on every link.
+    fn answered(&mut self, now: u64, event: &[u8]) -> (u64, &[u8], [u64; 3]) {
+        let a = library::event(&mut self.block, &mut self.counts, now, event, &[], self.out);
+        (a.number, &self.out[..a.length as usize], self.counts)
+    }
 }
 
 /// Whether chosen calls tell two panels apart: dispatches of what is queued, ticks that bring what is recorded, Grafts to announcers that stand in another order, an
 /// eviction of all that is cached.
-fn told_apart(a: &[u8], b: &[u8]) -> bool {
+fn told_apart(a: &[u8], b: &[u8], outs: &mut [Vec<u8>; 2]) -> bool {
     let (Ok(x), Ok(y)) = (block::read(a), block::read(b)) else {
         return false;
     };
@@ -296,12 +341,9 @@ fn told_apart(a: &[u8], b: &[u8]) -> bool {
     if x.cexp != y.cexp {
         events.push((1 << 62, wire::EVICT.to_vec()));
     }
-    let (mut a, mut b) = (a.to_vec(), b.to_vec());
-    let (mut m, mut n) = ([0; 3], [0; 3]);
-    let mut differ = |(now, e): &(u64, Vec<u8>)| {
-        answered(&mut a, &mut m, *now, e) != answered(&mut b, &mut n, *now, e)
-    };
-    events.iter().any(&mut differ)
+    let [m, n] = outs;
+    let (mut a, mut b) = (Chosen::new(a, m), Chosen::new(b, n));
+    events.iter().any(|(now, e)| a.answered(*now, e) != b.answered(*now, e))
 }
 
 /// The paths of a call that both panels went through. `mixed` tells whether their queues and records were interleaved otherwise before it; `notes` are the link numbers before

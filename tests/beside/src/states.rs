@@ -4,17 +4,24 @@ use std::{
     rc::Rc,
 };
 
-use oracle::{snap::Id, Panel};
+use oracle::{
+    snap::{Id, Snap},
+    Panel,
+};
 
 use crate::{
-    block, library,
-    run::{holds, same, Lent, Same, PATTERN},
+    block::{self, le},
+    lent::{all_are, Block, Lent},
+    library,
+    run::{holds, loaded, same, Same},
 };
 
 const FRONT: usize = 256;
 const ROW: usize = 26;
 const COUNT: usize = 255;
 const MOST: usize = 4;
+/// Behind so many savings the whole area is held against the model.
+const SELDOM: u64 = 16;
 
 /// Paths of savings and returns.
 pub const ABOUT: &[&str] = &[
@@ -86,30 +93,32 @@ pub const ABOUT: &[&str] = &[
     "return: what came back leaves the message cache, which it had left before",
 ];
 
-fn le(b: &[u8], at: usize, k: usize) -> u64 {
-    b[at..at + k].iter().rev().fold(0, |v, x| v << 8 | u64::from(*x))
-}
-
 /// A state as the bytes of an area tell it.
 #[derive(Clone, PartialEq)]
 struct Slot {
     name: u64,
     counts: [u64; 3],
-    block: Vec<u8>,
+    block: Rc<[u8]>,
 }
 
-/// The bytes of an area of this length that keeps these states: rows of name 8, payload 8, control 8, hops 2; zeros; how many; the blocks; zeros.
+impl Slot {
+    /// Writes the state as number i of an area: a row of name 8, payload 8, control 8, hops 2; and the block.
+    fn put(&self, area: &mut [u8], i: usize) {
+        let row = &mut area[ROW * i..][..ROW];
+        row[..8].copy_from_slice(&self.name.to_le_bytes());
+        row[8..16].copy_from_slice(&self.counts[0].to_le_bytes());
+        row[16..24].copy_from_slice(&self.counts[1].to_le_bytes());
+        row[24..].copy_from_slice(&(self.counts[2] as u16).to_le_bytes());
+        let n = self.block.len();
+        area[FRONT + n * i..][..n].copy_from_slice(&self.block);
+    }
+}
+
+/// The bytes of an area of this length that keeps these states: the rows; zeros; how many; the blocks; zeros.
 fn lay_out(length: usize, slots: &[Slot]) -> Vec<u8> {
     let mut v = vec![0; length];
-    let mut at = FRONT;
     for (i, s) in slots.iter().enumerate() {
-        let row = &mut v[ROW * i..][..ROW];
-        row[..8].copy_from_slice(&s.name.to_le_bytes());
-        row[8..16].copy_from_slice(&s.counts[0].to_le_bytes());
-        row[16..24].copy_from_slice(&s.counts[1].to_le_bytes());
-        row[24..].copy_from_slice(&(s.counts[2] as u16).to_le_bytes());
-        v[at..at + s.block.len()].copy_from_slice(&s.block);
-        at += s.block.len();
+        s.put(&mut v, i);
     }
     v[COUNT] = slots.len() as u8;
     v
@@ -128,31 +137,37 @@ fn keeps(area: &[u8], n: usize) -> Result<Vec<Slot>, &'static str> {
         let fifth = area.get(FRONT + MOST * n..FRONT + 5 * n).filter(|b| block::read(b).is_ok());
         return Err(if kept == 5 && fifth.is_some() { "a fifth state" } else { "more than four" });
     }
-    let slots: Vec<Slot> = (0..kept)
-        .map(|i| Slot {
-            name: le(area, ROW * i, 8),
-            counts: [(8, 8), (16, 8), (24, 2)].map(|(at, k)| le(area, ROW * i + at, k)),
-            block: area[FRONT + n * i..][..n].to_vec(),
-        })
-        .collect();
-    if (0..kept).any(|i| slots[..i].iter().any(|s| s.name == slots[i].name)) {
+    let name = |i: usize| le(area, ROW * i, 8);
+    if (0..kept).any(|i| (0..i).any(|j| name(j) == name(i))) {
         return Err("a name twice");
     }
-    if let Some(i) = slots.iter().position(|s| block::read(&s.block).is_err()) {
+    let block = |i: usize| &area[FRONT + n * i..][..n];
+    if let Some(i) = (0..kept).find(|i| block::read(block(*i)).is_err()) {
         return Err(if i == 0 {
             "the first block not whole"
         } else {
             "the last of the blocks not whole"
         });
     }
-    let should = lay_out(area.len(), &slots);
-    match (0..area.len()).find(|i| should[*i] != area[*i]) {
-        None => Ok(slots),
-        Some(i) if i == COUNT - 1 => Err("the byte before how many"),
-        Some(i) if i < COUNT => Err("an unused row"),
-        Some(i) if i < FRONT + 4 * n => Err("an unused block"),
-        Some(_) => Err("a byte behind the blocks"),
+    let unused = |from: usize, to: usize| all_are(&area[from..to], 0);
+    if !unused(ROW * kept, COUNT - 1) {
+        return Err("an unused row");
     }
+    if area[COUNT - 1] != 0 {
+        return Err("the byte before how many");
+    }
+    if !unused(FRONT + n * kept, FRONT + MOST * n) {
+        return Err("an unused block");
+    }
+    if !unused(FRONT + MOST * n, area.len()) {
+        return Err("a byte behind the blocks");
+    }
+    let slot = |i: usize| Slot {
+        name: name(i),
+        counts: [(8, 8), (16, 8), (24, 2)].map(|(at, k)| le(area, ROW * i + at, k)),
+        block: block(i).into(),
+    };
+    Ok((0..kept).map(slot).collect())
 }
 
 /// A state that was saved, with the Rust's panel as it was then.
@@ -160,14 +175,29 @@ fn keeps(area: &[u8], n: usize) -> Result<Vec<Slot>, &'static str> {
 struct Kept {
     slot: Slot,
     panel: Rc<Panel>,
+    snap: Rc<Snap>,
+}
+
+/// What an area keeps for blocks of one length, or why no savings leave it.
+type Told = Result<Vec<Slot>, &'static str>;
+
+/// The bytes that an area should have, and what is known of them.
+#[derive(Clone, Default)]
+struct Area {
+    bytes: Vec<u8>,
+    kept: Vec<Kept>,
+    /// The length of the blocks saved last.
+    n: usize,
+    /// For this length of blocks the model told that, and no byte was changed since.
+    told: Option<(usize, Told)>,
 }
 
 /// What a saving or a return is asked with: the block and what is known of it.
 pub struct Asked<'a> {
-    pub block: &'a mut Lent,
+    pub block: &'a mut Block,
     pub counts: [u64; 3],
-    /// The Rust's panel; none where the block is not whole.
-    pub panel: Option<&'a Panel>,
+    /// The Rust's panel and its state; none where the block is not whole.
+    pub known: Option<(&'a Panel, &'a Rc<Snap>)>,
 }
 
 /// What a return brought back.
@@ -177,12 +207,12 @@ pub struct Back {
 }
 
 pub struct Keeper {
-    area: Lent,
-    kept: Vec<Kept>,
-    /// The length of the blocks saved last.
-    n: usize,
+    lent: Lent,
+    area: Area,
     /// The area before it was damaged.
-    undamaged: Option<(Vec<u8>, Vec<Kept>, usize)>,
+    undamaged: Option<Area>,
+    /// Accepted savings.
+    savings: u64,
     last: Option<u64>,
     /// The identifiers that were told as forgotten.
     told: BTreeSet<Id>,
@@ -195,10 +225,10 @@ pub struct Keeper {
 impl Default for Keeper {
     fn default() -> Keeper {
         Keeper {
-            area: Lent::new(0),
-            kept: Vec::new(),
-            n: 0,
+            lent: Lent::new(0),
+            area: Area::default(),
             undamaged: None,
+            savings: 0,
             last: None,
             told: BTreeSet::new(),
             back: BTreeMap::new(),
@@ -208,9 +238,13 @@ impl Default for Keeper {
     }
 }
 
-/// The quiet neighbours of a whole block.
-fn quiet(block: &[u8]) -> Vec<u64> {
-    block::read(block).map_or(vec![], |s| s.quiet)
+/// The bytes are as they should be.
+fn same_bytes(what: &str, should: &[u8], ours: &[u8]) -> Same<()> {
+    if should == ours {
+        return Ok(());
+    }
+    let i = should.iter().zip(ours).position(|(a, b)| a != b).unwrap_or(0);
+    Err(format!("{what}, byte {i}: the Rust {}, the library {}", should[i], ours[i]))
 }
 
 /// A path whose name is put together.
@@ -221,33 +255,36 @@ fn named(call: &str, rest: &str) -> &'static str {
 
 impl Keeper {
     pub fn area(&self) -> &[u8] {
-        self.area.part()
+        &self.area.bytes
     }
 
     /// The names kept, in their order.
     pub fn names(&self) -> Vec<u64> {
-        self.kept.iter().map(|k| k.slot.name).collect()
+        self.area.kept.iter().map(|k| k.slot.name).collect()
     }
 
     /// A new area of zeros.
     pub fn begin(&mut self, length: usize) {
-        self.put(&vec![0; length]);
-        self.kept.clear();
+        self.area = Area { bytes: vec![0; length], n: self.area.n, ..Area::default() };
         self.undamaged = None;
+        self.lend();
     }
 
+    /// The area is about to be damaged.
     fn remember(&mut self) {
         if self.undamaged.is_none() {
-            self.undamaged = Some((self.area.part().to_vec(), self.kept.clone(), self.n));
+            self.undamaged = Some(self.area.clone());
         }
+        self.area.told = None;
     }
 
     /// Bytes of the area changed by somebody else.
     pub fn poke(&mut self, v: &[(usize, u8)]) {
         self.remember();
         for (i, b) in v {
-            if let Some(x) = self.area.part_mut().get_mut(*i) {
+            if let Some(x) = self.area.bytes.get_mut(*i) {
                 *x = *b;
+                self.lent.part_mut()[*i] = *b;
             }
         }
     }
@@ -255,38 +292,47 @@ impl Keeper {
     /// Only so many bytes of the area are lent.
     pub fn cut(&mut self, n: usize) {
         self.remember();
-        let kept = self.area.part()[..n.min(self.area.part().len())].to_vec();
-        self.put(&kept);
+        self.area.bytes.truncate(n);
+        self.lend();
     }
 
-    /// The bytes of the area. Behind one that is too short for the byte that says how many are kept stands a 0, which would say that none are.
-    fn put(&mut self, bytes: &[u8]) {
-        self.area.set_padded(bytes.len(), if bytes.len() < FRONT { 0 } else { PATTERN });
-        self.area.part_mut().copy_from_slice(bytes);
+    /// Lends the bytes of the area. Behind one that is too short for the byte that says how many are kept stands a 0, which would say that none are.
+    fn lend(&mut self) {
+        let bytes = &self.area.bytes;
+        if bytes.len() < FRONT {
+            self.lent.put_padded(bytes, 0);
+        } else {
+            self.lent.put(bytes);
+        }
     }
 
     pub fn undo(&mut self) -> Same<()> {
-        let (bytes, kept, n) = self.undamaged.take().ok_or("script: no area to undo")?;
-        self.put(&bytes);
-        (self.kept, self.n) = (kept, n);
+        self.area = self.undamaged.take().ok_or("script: no area to undo")?;
+        self.lend();
         Ok(())
     }
 
-    /// What the area keeps for blocks of n bytes. Where nobody but savings of this length wrote it, that is what was saved.
-    fn keeps(&self, n: usize) -> Result<Vec<Slot>, &'static str> {
-        let told = keeps(self.area.part(), n);
-        if self.undamaged.is_none() && self.area.part().len() >= 4 * n + FRONT {
-            if n == self.n || self.kept.is_empty() {
-                let saved: Vec<Slot> = self.kept.iter().map(|k| k.slot.clone()).collect();
+    /// What the area keeps for blocks of n bytes, asked of its bytes where they or n are others than the last time. Where nobody but savings of this length wrote it, that is what
+    /// was saved.
+    fn keeps(&mut self, n: usize) -> Told {
+        let area = &mut self.area;
+        if let Some((_, told)) = area.told.as_ref().filter(|t| t.0 == n) {
+            return told.clone();
+        }
+        let mut told = keeps(&area.bytes, n);
+        if self.undamaged.is_none() && area.bytes.len() >= 4 * n + FRONT {
+            if n == area.n || area.kept.is_empty() {
+                let saved: Vec<Slot> = area.kept.iter().map(|k| k.slot.clone()).collect();
                 assert!(
                     told.as_ref().is_ok_and(|t| *t == saved),
                     "an area of savings: {:?}",
                     told.err()
                 );
             } else if told.is_err() {
-                return Err("blocks of another length");
+                told = Err("blocks of another length");
             }
         }
+        area.told = Some((n, told.clone()));
         told
     }
 
@@ -294,25 +340,25 @@ impl Keeper {
     fn kept(&self, slot: Slot) -> Same<Kept> {
         let like = |k: &&Kept| {
             let least = slot.block.len().min(k.slot.block.len());
-            k.slot.name == slot.name && k.slot.block[..least] == slot.block[..least]
+            let same = |a: &Rc<[u8]>, b: &Rc<[u8]>| Rc::ptr_eq(a, b) || a[..least] == b[..least];
+            k.slot.name == slot.name && same(&k.slot.block, &slot.block)
         };
-        if let Some(k) = self.kept.iter().find(like) {
-            let panel = k.panel.clone();
-            return Ok(Kept { slot, panel });
+        if let Some(k) = self.area.kept.iter().find(like) {
+            return Ok(Kept { slot, ..k.clone() });
         }
         holds(
-            self.undamaged.is_some() || self.n != slot.block.len(),
+            self.undamaged.is_some() || self.area.n != slot.block.len(),
             "script: a state that nobody saved",
         )?;
         let snap = block::read(&slot.block).map_err(|e| format!("script: {e}"))?;
-        let panel = Panel::load(&snap.text()).ok_or("script: a state that can't be loaded")?;
-        Ok(Kept { slot, panel: Rc::new(panel) })
+        let panel = loaded(&snap)?;
+        Ok(Kept { slot, panel: Rc::new(panel), snap: Rc::new(snap) })
     }
 
     /// Question 5 before the others, for the paths.
     fn not_whole(&mut self, call: &str, n: usize, name: u64) {
-        let full = self.kept.len() == MOST && !self.names().contains(&name);
-        match keeps(self.area.part(), n) {
+        let full = self.area.kept.len() == MOST && !self.names().contains(&name);
+        match self.keeps(n) {
             Err(_) => self.about.push(named(call, "5 before 17")),
             Ok(_) if call == "save" && full => self.about.push("save: 5 before 16"),
             Ok(s) if call == "return" && s.iter().all(|s| s.name != name) => {
@@ -325,12 +371,11 @@ impl Keeper {
     /// A saving of what is asked with, or of another panel's block in its place.
     pub fn save(&mut self, asked: Asked, other: bool, name: u64) -> Same<()> {
         self.last = None;
+        asked.block.note();
         let n = asked.block.part().len();
-        let before = asked.block.part().to_vec();
-        let area = self.area.part().to_vec();
         let told = self.keeps(n);
         let at = |s: &[Slot]| s.iter().position(|s| s.name == name).unwrap_or(s.len());
-        let number = match (&asked.panel, &told) {
+        let number = match (&asked.known, &told) {
             (None, _) => 5,
             (_, Err(_)) => 17,
             (_, Ok(s)) if at(s) == MOST => 16,
@@ -338,20 +383,20 @@ impl Keeper {
         };
         self.calls += 1;
         let (ours, length) =
-            library::save(asked.block.part(), asked.counts, self.area.part_mut(), name);
+            library::save(asked.block.part(), asked.counts, self.lent.part_mut(), name);
         same("save answer", number, ours)?;
         same("save length", 0, length)?;
-        holds(asked.block.part() == before, "save changed the block")?;
+        holds(asked.block.unchanged(), "save changed the block")?;
         holds(asked.block.pads_kept(), "save wrote outside of the block")?;
-        holds(self.area.pads_kept(), "save wrote outside of the area")?;
+        holds(self.lent.pads_kept(), "save wrote outside of the area")?;
         if number != 0 {
-            holds(self.area.part() == area, "a refused saving changed the area")?;
+            holds(self.lent.part() == self.area.bytes, "a refused saving changed the area")?;
             match told {
                 _ if number == 5 => self.not_whole("save", n, name),
                 Ok(_) => self.about.push("save: 16"),
                 Err(why) => {
                     self.about.push(named("save", &format!("17, {why}")));
-                    let full = self.kept.len() == MOST && !self.names().contains(&name);
+                    let full = self.area.kept.len() == MOST && !self.names().contains(&name);
                     if full && why != "shorter than 256" {
                         self.about.push("save: 17 before 16");
                     }
@@ -361,41 +406,35 @@ impl Keeper {
         }
         let slots = told.expect("an area");
         let i = at(&slots);
-        let panel = Rc::new(asked.panel.expect("a panel").copy());
-        self.saved(&slots, i, name, &before, asked.counts, other);
-        let slot = Slot { name, counts: asked.counts, block: before };
+        self.saved(&slots, i, name, &asked, other);
+        let (panel, snap) = asked.known.expect("a panel");
+        let slot = Slot { name, counts: asked.counts, block: asked.block.noted().into() };
         let mut kept = slots.into_iter().map(|s| self.kept(s)).collect::<Same<Vec<Kept>>>()?;
-        let new = Kept { slot, panel };
+        let new = Kept { slot, panel: Rc::new(panel.copy()), snap: snap.clone() };
         if i == kept.len() {
             kept.push(new);
         } else {
             kept[i] = new;
         }
         let all: Vec<Slot> = kept.iter().map(|k| k.slot.clone()).collect();
-        let should = lay_out(area.len(), &all);
-        if let Some(i) = (0..area.len()).find(|i| should[*i] != self.area.part()[*i]) {
-            return Err(format!(
-                "area after a saving, byte {i}: the Rust {}, the library {}",
-                should[i],
-                self.area.part()[i]
-            ));
+        let bytes = &mut self.area.bytes;
+        all[i].put(bytes, i);
+        bytes[COUNT] = all.len() as u8;
+        same_bytes("area after a saving", bytes, self.lent.part())?;
+        self.savings += 1;
+        if self.savings % SELDOM == 0 {
+            assert!(*bytes == lay_out(bytes.len(), &all), "an area of savings, laid out");
+            assert!(keeps(bytes, n) == Ok(all.clone()), "an area of savings, read");
         }
-        (self.kept, self.n) = (kept, n);
+        (self.area.kept, self.area.n, self.area.told) = (kept, n, Some((n, Ok(all))));
         Ok(())
     }
 
-    fn saved(
-        &mut self,
-        slots: &[Slot],
-        i: usize,
-        name: u64,
-        block: &[u8],
-        counts: [u64; 3],
-        other: bool,
-    ) {
+    fn saved(&mut self, slots: &[Slot], i: usize, name: u64, asked: &Asked, other: bool) {
+        let block = asked.block.noted();
         let about = &mut self.about;
         match slots.get(i) {
-            Some(s) if s.block == block && s.counts == counts => {
+            Some(s) if *s.block == *block && s.counts == asked.counts => {
                 about.push("save: used name, the same again")
             }
             Some(_) if slots.len() == MOST => about.push("save: used name of four"),
@@ -420,24 +459,23 @@ impl Keeper {
         if other {
             about.push("save: another panel");
         }
-        if !quiet(block).is_empty() {
+        if asked.known.is_some_and(|(_, snap)| !snap.quiet.is_empty()) {
             about.push("save: quiet neighbours");
         }
         if self.undamaged.is_some() {
             about.push("save: into a damaged area that savings leave");
-        } else if !slots.is_empty() && self.n != block.len() {
+        } else if !slots.is_empty() && self.area.n != block.len() {
             about.push("save: into an area of another length, one state kept");
         }
     }
 
     /// A return; none where it is refused.
     pub fn go_back(&mut self, asked: Asked, name: u64) -> Same<Option<Back>> {
+        asked.block.note();
         let n = asked.block.part().len();
-        let before = asked.block.part().to_vec();
-        let area = self.area.part().to_vec();
         let told = self.keeps(n);
         let slot = told.as_ref().ok().and_then(|s| s.iter().find(|s| s.name == name)).cloned();
-        let number = match (&asked.panel, &told, &slot) {
+        let number = match (&asked.known, &told, &slot) {
             (None, _, _) => 5,
             (_, Err(_), _) => 17,
             (_, _, None) => 15,
@@ -445,16 +483,16 @@ impl Keeper {
         };
         self.calls += 1;
         let mut counts = asked.counts;
-        let a = library::go_back(asked.block.part_mut(), &mut counts, self.area.part(), name);
+        let a = library::go_back(asked.block.part_mut(), &mut counts, self.lent.part(), name);
         same("return answer", number, a.number)?;
         same("return length", 0, a.length)?;
         holds(a.kept, "return wrote outside of the counts")?;
         holds(asked.block.pads_kept(), "return wrote outside of the block")?;
-        holds(self.area.pads_kept(), "return wrote outside of the area")?;
-        holds(self.area.part() == area, "a return changed the area")?;
+        holds(self.lent.pads_kept(), "return wrote outside of the area")?;
+        holds(self.lent.part() == self.area.bytes, "a return changed the area")?;
         if number != 0 {
             same("counts of a refused return", asked.counts, counts)?;
-            holds(asked.block.part() == before, "a refused return changed the block")?;
+            holds(asked.block.unchanged(), "a refused return changed the block")?;
             match told {
                 _ if number == 5 => self.not_whole("return", n, name),
                 Ok(s) => self.about.push(match (s.is_empty(), name) {
@@ -473,23 +511,18 @@ impl Keeper {
         }
         let kept = self.kept(slot.expect("a state"))?;
         same("counts of a return", kept.slot.counts, counts)?;
-        if let Some(i) = (0..n).find(|i| kept.slot.block[*i] != asked.block.part()[*i]) {
-            return Err(format!(
-                "block after a return, byte {i}: the Rust {}, the library {}",
-                kept.slot.block[i],
-                asked.block.part()[i]
-            ));
-        }
-        self.returned(&kept, &before, asked.counts, name);
+        same_bytes("block after a return", &kept.slot.block, asked.block.part())?;
+        self.returned(&kept, &asked, name);
         let mut panel = kept.panel.copy();
         panel.set_counts(counts);
-        let cached = panel.snap().cache.into_iter();
+        let cached = kept.snap.cache.iter();
         self.back = cached.map(|c| (c.id, self.told.contains(&c.id))).collect();
         Ok(Some(Back { panel, counts }))
     }
 
-    fn returned(&mut self, kept: &Kept, before: &[u8], counts: [u64; 3], name: u64) {
-        let block = &kept.slot.block;
+    fn returned(&mut self, kept: &Kept, asked: &Asked, name: u64) {
+        let (block, before) = (&kept.slot.block[..], asked.block.noted());
+        let (_, snap) = asked.known.expect("a panel");
         let need = block::need(&block::limits(before));
         let head = |b: &[u8]| b[8 * block::word::M..8 * block::word::LIVE].to_vec();
         let about = &mut self.about;
@@ -499,15 +532,15 @@ impl Keeper {
             "return: another state"
         });
         let more = [
-            (kept.slot.counts != counts, "return: other counts"),
+            (kept.slot.counts != asked.counts, "return: other counts"),
             (head(block) != head(before), "return: another panel"),
-            (quiet(block) != quiet(before), "return: other quiet neighbours"),
+            (kept.snap.quiet != snap.quiet, "return: other quiet neighbours"),
             (self.last == Some(name), "return: twice"),
-            (self.kept.len() == MOST, "return: of four"),
+            (self.area.kept.len() == MOST, "return: of four"),
             (block.get(need..) != before.get(need..), "return: bytes behind the need"),
             (self.undamaged.is_some(), "return: from a damaged area that savings leave"),
             (
-                self.undamaged.is_none() && self.n != block.len(),
+                self.undamaged.is_none() && self.area.n != block.len(),
                 "return: from an area of another length, one state kept",
             ),
         ];

@@ -40,7 +40,7 @@ impl World {
         vec![
             Cmd::New { me: self.me, m: self.m, cfg: self.cfg },
             Cmd::Limits { max: self.max, out: self.out },
-            Cmd::Load(state.text()),
+            Cmd::Load(Box::new(state)),
         ]
     }
 

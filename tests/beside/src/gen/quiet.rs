@@ -2,7 +2,7 @@
 //! stays what it is.
 use oracle::{
     snap::{Id, Snap},
-    Panel, Seen,
+    Seen,
 };
 
 use super::World;
@@ -42,10 +42,8 @@ impl Quiets {
         }
         let some = self.r.pick(&[0.0, 30.0, 100.0]);
         for c in &mut list {
-            if let Cmd::Load(text) = c {
-                let mut s = Panel::load(text).expect("a state").snap();
+            if let Cmd::Load(s) = c {
                 s.quiet = s.lazy.iter().copied().filter(|_| self.r.chance(some)).collect();
-                *text = s.text();
             }
         }
         list
@@ -59,7 +57,7 @@ impl Quiets {
         let Some(Cmd::Event { now, event, .. }) = list.last().cloned() else {
             panic!("commands that end with a call");
         };
-        let s = pair.snap.as_ref().expect("a whole block");
+        let s = pair.snap.as_deref().expect("a whole block");
         let seen = pair.panel().see(&event);
         if matches!(seen, Some(Seen::Up(_))) && self.r.chance(50.0) {
             for c in &mut list {

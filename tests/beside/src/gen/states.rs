@@ -231,7 +231,7 @@ impl States {
     /// Another panel, in a block as long as this one: near to this one, or new.
     fn other(&mut self, pair: &Pair) -> Cmd {
         let name = self.name(pair, 30.0);
-        let s = pair.snap.as_ref().expect("a whole block");
+        let s = pair.snap.as_deref().expect("a whole block");
         let r = &mut self.r;
         let (mut max, mut other) = likeness::near(r, s, &pair.limits.max);
         if r.chance(40.0) || block::need(&max) > pair.block().len() {
@@ -243,6 +243,6 @@ impl States {
         let any = r.next();
         let counts =
             [r.pick(&[0, 1, u64::MAX, any]), r.pick(&[0, u64::MAX, any]), r.pick(&[0, 9, 65535])];
-        Cmd::SaveOther { name, counts, max, text: other.text() }
+        Cmd::SaveOther { name, counts, max, state: Box::new(other) }
     }
 }

@@ -203,5 +203,7 @@ done
 [ "$failed" -eq 0 ] || echo "pieces that did not run to their end: $failed"
 told="${#different[@]} different"
 for n in "${different[@]}"; do told+=", the piece of seed $((first + n))"; done
-echo "seeds $first to $((first + pieces - 1)): $(total calls) calls and $(total rewrites) rewrites, $(total "savings and returns") savings and returns, in $(total lists) lists, $told, $(so_far)"
+seeds="seed $first"
+[ "$pieces" -eq 1 ] || seeds="seeds $first to $((first + pieces - 1))"
+echo "$seeds: $(total calls) calls and $(total rewrites) rewrites, $(total "savings and returns") savings and returns, in $(total lists) lists, $told, $(so_far)"
 [ ${#different[@]} -eq 0 ] && [ "$failed" -eq 0 ] && [ "$never" -eq 0 ] && [ "$paths" -gt 0 ]

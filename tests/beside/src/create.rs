@@ -74,7 +74,8 @@ impl Creations {
         let most = block::need(&CEILINGS);
         let need = if good { block::need(&max) } else { r.index(most) };
         let any = r.index(most);
-        let len = r.pick(&[need, need, need + 1, need - 1, need + MORE, need / 2, any, 0, 2048, 4096]);
+        let len =
+            r.pick(&[need, need, need + 1, need - 1, need + MORE, need / 2, any, 0, 2048, 4096]);
         // At the end of the memory, so that valgrind tells a step beyond the block.
         let from = self.bytes.len() - len;
         let bytes = &mut self.bytes[from..];

@@ -39,6 +39,7 @@ struct Saved {
 }
 
 pub struct Pair {
+    /// All of an output is looked at behind so many calls.
     every: u32,
     settings: Option<(u64, u64, [u64; 7])>,
     pub limits: Limits,
@@ -270,7 +271,13 @@ impl Pair {
     }
 
     /// A saving of another panel's state, in a block as long as this one.
-    fn save_other(&mut self, name: u64, counts: [u64; 3], max: &[u64; 9], state: &Snap) -> Same<()> {
+    fn save_other(
+        &mut self,
+        name: u64,
+        counts: [u64; 3],
+        max: &[u64; 9],
+        state: &Snap,
+    ) -> Same<()> {
         let mut panel = loaded(state)?;
         panel.set_counts(counts);
         let len = self.block.part().len();

@@ -7,11 +7,9 @@ pub fn of(s: &Snap) -> String {
     t.named("me=", |t| t.number(s.me));
     t.named(" M=", |t| t.number(s.m));
     t.named(" cfg=", |t| t.numbers(&s.cfg));
-    for (name, flag) in
-        [(" init=", s.init), (" dispatch=", s.dispatch), (" announce=", s.announce)]
-    {
-        t.named(name, |t| t.number(flag.into()));
-    }
+    t.named(" init=", |t| t.number(s.init.into()));
+    t.named(" dispatch=", |t| t.number(s.dispatch.into()));
+    t.named(" announce=", |t| t.number(s.announce.into()));
     t.named(" eager=", |t| t.numbers(&s.eager));
     t.named(" lazy=", |t| t.numbers(&s.lazy));
     if !s.quiet.is_empty() {

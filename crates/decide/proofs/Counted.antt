@@ -9,7 +9,7 @@ use lib.ListN.{length}
 use Rattle.storage.specs.Lists.Base.{is_empty, member, any}
 use Rattle.storage.proofs.ListsLaws.Branches.{if-on, if-both}
 use Rattle.time_cache.specs.TimeCache.{holds}
-use Rattle.postcard.specs.Message.{Delivery, Swarm, Neighbors, Scope, to_swarm, to_neighbors, Ihave, Message, Gossip, Prune, Graft, IHave, Timer, SendGraft, DispatchLazyPush, EvictCache, AnnounceDropped, Event, Received, Broadcast, Fired, Up, Down}
+use Rattle.postcard.specs.Message.{Delivery, Swarm, Neighbors, Ihave, Message, Gossip, Prune, Graft, IHave, Timer, SendGraft, DispatchLazyPush, EvictCache, AnnounceDropped, Event, Received, Broadcast, Fired, Up, Down}
 use Rattle.protocol.specs.Links.{is_neighbour, eager_in}
 use Rattle.protocol.specs.State.{State, Counts, Hop, Cached}
 use Rattle.protocol.specs.Run.{Run, Room, begin, with_state, with_counts, act, send, takes}
@@ -175,10 +175,10 @@ module _ (hash : List ℕ → ℕ) where
   message-counts now sender (Graft wanted round) r = (walk-if Same (is_neighbour sender r.state.links) (same-graft sender wanted r) still).counts
   message-counts now sender (IHave hs) r = (walk-if Same (is_neighbour sender r.state.links) (same-ihave sender hs r) still).counts
 
-  pub same-broadcast : (now : ℕ) (content : List ℕ) (scope : Scope) (r : Run) → Same r (broadcast hash now content scope r)
+  pub same-broadcast : (now : ℕ) (content : List ℕ) (r : Run) → Same r (broadcast hash now content r)
   unfolding broadcast broadcast_to mark_received cache_at
-  same-broadcast now content to_swarm r =
-      walk-if Same (ltb r.state.settings.max_message_size (gossip_size (length content) to_swarm)) still
+  same-broadcast now content r =
+      walk-if Same (ltb r.state.settings.max_message_size (gossip_size (length content))) still
       (plain r _ ((walk-eager_push Same same-sending (hash content) content (Swarm 0) r.state.settings.me [] _).counts ∙ (same-lazy (hash content) 0 r.state.settings.me _).counts))
   same-broadcast now content to_neighbors r =
       walk-if Same (ltb r.state.settings.max_message_size (gossip_size (length content) to_neighbors)) still
@@ -192,7 +192,7 @@ module _ (hash : List ℕ → ℕ) where
       message-counts now p m (with_counts (count_message m r.counts) r)
       ∙ ap (λ (x : State). message_counts hash m x (count_message m r.counts)) (first-state now (begin s c rooms) (whole-consistent s w).core)
       ∙ ap (λ (x : Counts). message_counts hash m (settled now s) (count_message m x)) (same_first now (begin s c rooms)).counts
-  decide-counts now (Broadcast content scope) s c rooms w = (same-broadcast now content scope (first_event now (begin s c rooms))).counts ∙ (same_first now (begin s c rooms)).counts
+  decide-counts now (Broadcast content) s c rooms w = (same-broadcast now content (first_event now (begin s c rooms))).counts ∙ (same_first now (begin s c rooms)).counts
   decide-counts now (Fired t) s c rooms w = (same-timer now t (first_event now (begin s c rooms))).counts ∙ (same_first now (begin s c rooms)).counts
   decide-counts now (Up as_quiet p) s c rooms w = refl
   decide-counts now (Down p) s c rooms w = refl

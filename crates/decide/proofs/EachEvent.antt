@@ -8,7 +8,7 @@ use lib.ListN.{length}
 use Rattle.std.specs.Prelude.{if◌then◌else◌}
 use Rattle.time_cache.specs.TimeCache.{holds}
 use Rattle.protocol.specs.Links.{is_neighbour}
-use Rattle.postcard.specs.Message.{Delivery, Swarm, Neighbors, Scope, Message, Gossip, Prune, Graft, IHave, Timer, SendGraft, DispatchLazyPush, EvictCache, AnnounceDropped, Event, Received, Broadcast, Fired, Up, Down, Action}
+use Rattle.postcard.specs.Message.{Delivery, Swarm, Neighbors, Message, Gossip, Prune, Graft, IHave, Timer, SendGraft, DispatchLazyPush, EvictCache, AnnounceDropped, Event, Received, Broadcast, Fired, Up, Down, Action}
 use Rattle.protocol.specs.State.{State, Counts}
 use Rattle.protocol.specs.Run.{Run, Room, begin, with_counts}
 use Rattle.protocol.specs.Gossips.{on_late_graft_reply, on_gossip, gossip_size, broadcast}
@@ -64,11 +64,11 @@ module _ (hash : List ℕ → ℕ) where
   message-actions now sender (IHave hs) r x =
       by-more r (is_neighbour sender r.state.links) _ _ _ _ (λ n. ihave-actions sender hs r x.core.missing_up x.core.timers_up) (λ n. none_more r)
 
-  pub broadcasted-actions : (now : ℕ) (content : List ℕ) (scope : Scope) (r : Run) → Consistent r.state → (broadcast hash now content scope r).actions ≡
-      r.actions ++ (if ltb r.state.settings.max_message_size (gossip_size (length content) scope) then [] else broadcast_actions r.rooms (hash content) content scope r.state)
+  pub broadcasted-actions : (now : ℕ) (content : List ℕ) (r : Run) → Consistent r.state → (broadcast hash now content r).actions ≡
+      r.actions ++ (if ltb r.state.settings.max_message_size (gossip_size (length content)) then [] else broadcast_actions r.rooms (hash content) content r.state)
   unfolding broadcast
-  broadcasted-actions now content scope r x =
-      by-more r (ltb r.state.settings.max_message_size (gossip_size (length content) scope)) _ _ _ _ (λ t. none_more r) (λ t. broadcast-actions hash now content scope r x.core)
+  broadcasted-actions now content r x =
+      by-more r (ltb r.state.settings.max_message_size (gossip_size (length content))) _ _ _ _ (λ t. none_more r) (λ t. broadcast-actions hash now content r x.core)
 
   -- the actions of any event
   pub handle-actions : (now : ℕ) (e : Event) (r : Run) → Consistent r.state → (handle hash now e r).actions ≡ r.actions ++ actions_after hash r.rooms now e r.state
@@ -76,8 +76,8 @@ module _ (hash : List ℕ → ℕ) where
   handle-actions now (Received p m) r x =
       message-actions now p m (with_counts (count_message m (first_event now r).counts) (first_event now r)) ((kept-first_event now r).consistent x)
       ∙ rw (first-actions now r, first-rooms now r, first-state now r x.core) (append_assoc r.actions (settled_actions now r.state) (message_actions hash r.rooms p m (settled now r.state)))
-  handle-actions now (Broadcast content scope) r x =
-      broadcasted-actions now content scope (first_event now r) ((kept-first_event now r).consistent x)
+  handle-actions now (Broadcast content) r x =
+      broadcasted-actions now content (first_event now r) ((kept-first_event now r).consistent x)
       ∙ rw (kept-first_event now r).settings (rw (first-actions now r, first-rooms now r, first-state now r x.core) (append_assoc r.actions (settled_actions now r.state) _))
   handle-actions now (Fired t) r x =
       timer-actions hash now t (first_event now r) ((kept-first_event now r).consistent x)

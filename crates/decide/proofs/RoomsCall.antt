@@ -11,7 +11,7 @@ use Rattle.storage.specs.Lists.Base.{is_empty, all, any}
 use Rattle.storage.specs.Lists.Map.{keys, lookup, has}
 use Rattle.time_cache.specs.TimeCache.{get, holds, expired_keys}
 use Rattle.protocol.specs.Links.{Mark, Links, is_neighbour, is_eager, marked, eager_in}
-use Rattle.postcard.specs.Message.{Delivery, Swarm, Neighbors, Scope, to_swarm, to_neighbors, Message, Gossip, Prune, Graft, IHave, Timer, SendGraft, DispatchLazyPush, EvictCache, AnnounceDropped, Event, Received, Broadcast, Fired, Up, Down, Action, Sent, Scheduled, Emitted, Forgotten}
+use Rattle.postcard.specs.Message.{Delivery, Swarm, Neighbors, Message, Gossip, Prune, Graft, IHave, Timer, SendGraft, DispatchLazyPush, EvictCache, AnnounceDropped, Event, Received, Broadcast, Fired, Up, Down, Action, Sent, Scheduled, Emitted, Forgotten}
 use Rattle.protocol.specs.State.{State, Counts, Hop, Grafts, Cached}
 use Rattle.protocol.specs.Run.{Room, begin}
 use Rattle.protocol.specs.Push.{eager_targets}
@@ -172,7 +172,7 @@ late-kind sender d l (Some g) = late-from sender d l g g.first
 -- the event's peer
 abbrev pub event_peer : Event → ℕ → Bool
 event_peer (Received p m) q = eqb q p
-event_peer (Broadcast content scope) q = false
+event_peer (Broadcast content) q = false
 event_peer (Fired t) q = false
 event_peer (Up as_quiet p) q = false
 event_peer (Down p) q = false
@@ -274,7 +274,7 @@ module _ (b : Bool) (hash : List ℕ → ℕ) (rooms : List Room) (s : State) (x
   timer-in h now EvictCache = append b (alone s) _ _ (telling b (alone s) now s h) (cons b (alone s) _ [] refl (nil b (alone s)))
   timer-in h now AnnounceDropped = announce-in now
 
-  pub broadcast-in : (id : ℕ) (content : List ℕ) (scope : Scope) → Within b (alone s) (broadcast_actions rooms id content scope s)
+  pub broadcast-in : (id : ℕ) (content : List ℕ) → Within b (alone s) (broadcast_actions rooms id content s)
   unfolding broadcast_actions
   broadcast-in id content to_swarm =
       append b (alone s) _ _ (dispatching b (alone s) s) (pushed b (alone s) rooms _ _ _ (alone-all s (eager_targets s.settings.me [] s) (targets-near s.settings.me [] s)))
@@ -296,9 +296,9 @@ module _ (hash : List ℕ → ℕ) where
   unfolding actions_after
   calls-in rooms now (Received p m) s c x =
       append true (near s p) _ _ (settling true (near s p) now s refl) (on-links true (λ q. eqb q p) (message_actions hash rooms p m (settled now s)) (settled now s).links s.links (settled-links now s) (message-in true hash rooms (settled now s) (settled-consistent now s c x) p m))
-  calls-in rooms now (Broadcast content scope) s c x =
+  calls-in rooms now (Broadcast content) s c x =
       append true (alone s) _ _ (settling true (alone s) now s refl)
-      (branch true (alone s) (ltb s.settings.max_message_size (gossip_size (length content) scope)) [] _ (nil true (alone s)) (on-links true (λ q. false) (broadcast_actions rooms (hash content) content scope (settled now s)) (settled now s).links s.links (settled-links now s) (broadcast-in true hash rooms (settled now s) (settled-consistent now s c x) (hash content) content scope)))
+      (branch true (alone s) (ltb s.settings.max_message_size (gossip_size (length content))) [] _ (nil true (alone s)) (on-links true (λ q. false) (broadcast_actions rooms (hash content) content (settled now s)) (settled now s).links s.links (settled-links now s) (broadcast-in true hash rooms (settled now s) (settled-consistent now s c x) (hash content) content)))
   calls-in rooms now (Fired t) s c x =
       append true (alone s) _ _ (settling true (alone s) now s refl) (on-links true (λ q. false) (timer_actions hash rooms now t (settled now s)) (settled now s).links s.links (settled-links now s) (timer-in true hash rooms (settled now s) (settled-consistent now s c x) refl now t))
   calls-in rooms now (Up as_quiet p) s c x = nil true (reached s (Up as_quiet p))

@@ -11,7 +11,7 @@ use Rattle.storage.specs.Lists.Base.{is_empty, any, member}
 use Rattle.storage.specs.Lists.Map.{keys}
 use Rattle.time_cache.specs.TimeCache.{get, holds, expired_keys}
 use Rattle.protocol.specs.Links.{Links, is_neighbour, eager_in, add_eager, add_lazy, link_up}
-use Rattle.postcard.specs.Message.{Delivery, Swarm, Neighbors, Scope, to_swarm, to_neighbors, Ihave, Message, Gossip, Prune, Graft, IHave, Timer, SendGraft, DispatchLazyPush, EvictCache, AnnounceDropped, Event, Received, Broadcast, Fired, Up, Down, Action, Sent, Scheduled, Emitted, Forgotten}
+use Rattle.postcard.specs.Message.{Delivery, Swarm, Neighbors, Ihave, Message, Gossip, Prune, Graft, IHave, Timer, SendGraft, DispatchLazyPush, EvictCache, AnnounceDropped, Event, Received, Broadcast, Fired, Up, Down, Action, Sent, Scheduled, Emitted, Forgotten}
 use Rattle.protocol.specs.State.{State, Note, Hop, Cached}
 use Rattle.protocol.specs.Run.{Run, Room, with_state, with_counts, act, has_room, use_room, takes, send}
 use Rattle.protocol.specs.Push.{notes, schedule_dispatch, schedule_announce_dropped, record_full, record_also, note_one, note_each, note_dropped, send_each, handed_back, note_for_each, note_after, push_to, eager_push, lazy_push, send_ihave, eager_targets}
@@ -405,18 +405,18 @@ module _ (hash : List ℕ → ℕ) where
       fair-if (not (eqb (hash content) id)) r _ _ _ _ (fair-refl r)
       (fair-if (holds id r.state.received) r _ _ _ _ (fair-on_duplicate sender id (late_kind sender d r.state.links (get id r.state.grafted)) r) (fair-on_new now sender id content d r))
 
-  fair-broadcast_to : (now : ℕ) (content : List ℕ) (scope : Scope) (r : Run) → Fair (broadcast_to hash now content scope) r
+  fair-broadcast_to : (now : ℕ) (content : List ℕ) (r : Run) → Fair (broadcast_to hash now content) r
   unfolding broadcast_to
-  fair-broadcast_to now content to_swarm r =
+  fair-broadcast_to now content r =
       fair-then r _ _ (eager_push (hash content) content (Swarm 0) r.state.settings.me []) (fair-then r _ _ (lazy_push (hash content) 0 r.state.settings.me)
       (seq (mark_received now (hash content)) (cache_at now (hash content) content 0) r (fair-mark_received now (hash content) r) (fair-cache_at now (hash content) content 0 _)) (fair-lazy_push (hash content) 0 r.state.settings.me _))
       (fair-eager_push (hash content) content (Swarm 0) r.state.settings.me [] _)
   fair-broadcast_to now content to_neighbors r = fair-eager_push (hash content) content Neighbors r.state.settings.me [] r
 
-  fair-broadcast : (now : ℕ) (content : List ℕ) (scope : Scope) (r : Run) → Fair (broadcast hash now content scope) r
+  fair-broadcast : (now : ℕ) (content : List ℕ) (r : Run) → Fair (broadcast hash now content) r
   unfolding broadcast
-  fair-broadcast now content scope r =
-      fair-if (ltb r.state.settings.max_message_size (gossip_size (length content) scope)) r _ _ _ _ (fair-refl r) (fair-broadcast_to now content scope r)
+  fair-broadcast now content r =
+      fair-if (ltb r.state.settings.max_message_size (gossip_size (length content))) r _ _ _ _ (fair-refl r) (fair-broadcast_to now content r)
 
   fair-on_message : (now sender : ℕ) (m : Message) (r : Run) → Fair (on_message hash now sender m) r
   unfolding on_message if_neighbour
@@ -430,7 +430,7 @@ module _ (hash : List ℕ → ℕ) where
   unfolding handle handle_message on_neighbor_up on_neighbor_down
   fair-handle now (Received p m) r =
       fair-then r _ _ (on_message hash now p m) (fair-then r _ _ (λ x. with_counts (count_message m x.counts) x) (fair-first_event now r) (quiet (first_event now r) (with_counts (count_message m (first_event now r).counts) (first_event now r)) refl refl)) (fair-on_message now p m _)
-  fair-handle now (Broadcast content scope) r = seq (first_event now) (broadcast hash now content scope) r (fair-first_event now r) (fair-broadcast now content scope (first_event now r))
+  fair-handle now (Broadcast content) r = seq (first_event now) (broadcast hash now content) r (fair-first_event now r) (fair-broadcast now content (first_event now r))
   fair-handle now (Fired t) r = seq (first_event now) (on_timer now t) r (fair-first_event now r) (fair-on_timer now t (first_event now r))
   fair-handle now (Up as_quiet p) r = fair-links_of (link_up as_quiet p) r
   fair-handle now (Down p) r = quiet r _ refl refl

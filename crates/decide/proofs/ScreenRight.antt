@@ -13,7 +13,7 @@ use Rattle.storage.proofs.ListsLaws.MapLaws.{cases, true≢, all_head, all_tail}
 use Rattle.storage.proofs.ListsLaws.Branches.{if-on, if-both}
 use Rattle.time_cache.specs.TimeCache.{expired_keys}
 use Rattle.time_cache.proofs.GoneLaws.{expired-member, expired-once}
-use Rattle.postcard.specs.Message.{Scope, Message, Timer, SendGraft, DispatchLazyPush, EvictCache, AnnounceDropped, Event, Received, Broadcast, Fired, Up, Down, Action, Sent, Scheduled, Emitted, Forgotten}
+use Rattle.postcard.specs.Message.{Message, Timer, SendGraft, DispatchLazyPush, EvictCache, AnnounceDropped, Event, Received, Broadcast, Fired, Up, Down, Action, Sent, Scheduled, Emitted, Forgotten}
 use Rattle.protocol.specs.State.{State, Counts}
 use Rattle.protocol.specs.Run.{Run, Room, begin, with_counts, act}
 use Rattle.protocol.specs.Gossips.{gossip_size, broadcast, update_links}
@@ -110,12 +110,12 @@ told-evict now s =
     ∙ append-nil (expired_keys now s.cache)
 
 -- a broadcast, of the run before it
-broadcast-of : (hash : List ℕ → ℕ) (now : ℕ) (content : List ℕ) (scope : Scope) (y : Run) → Consistent y.state → (broadcast hash now content scope y).state ≡
-    (if ltb y.state.settings.max_message_size (gossip_size (length content) scope) then y.state else broadcast_state y.rooms now (hash content) content scope y.state)
+broadcast-of : (hash : List ℕ → ℕ) (now : ℕ) (content : List ℕ) (y : Run) → Consistent y.state → (broadcast hash now content y).state ≡
+    (if ltb y.state.settings.max_message_size (gossip_size (length content)) then y.state else broadcast_state y.rooms now (hash content) content y.state)
 unfolding broadcast
-broadcast-of hash now content scope y c =
-    if-on (λ (z : Run). z.state) (ltb y.state.settings.max_message_size (gossip_size (length content) scope)) _ _
-    ∙ if-both (ltb y.state.settings.max_message_size (gossip_size (length content) scope)) refl (broadcast-state hash now content scope y c)
+broadcast-of hash now content y c =
+    if-on (λ (z : Run). z.state) (ltb y.state.settings.max_message_size (gossip_size (length content))) _ _
+    ∙ if-both (ltb y.state.settings.max_message_size (gossip_size (length content))) refl (broadcast-state hash now content y c)
 
 module _ (hash : List ℕ → ℕ) (now : ℕ) (s : State) (c : Counts) (rooms : List Room) (w : whole s ≡ true) where
   abbrev start : Run
@@ -196,24 +196,24 @@ module _ (hash : List ℕ → ℕ) (now : ℕ) (s : State) (c : Counts) (rooms :
     message-told = step-told (on_message hash now p m mine) (on_message hash now p m theirs) _ _ (near ours.state p) (message-actions hash now p m mine fine) (message-actions hash now p m theirs fine') message-same (message-in false hash ours.rooms ours.state fine p m)
 
   -- a broadcast
-  module _ (content : List ℕ) (scope : Scope) where
+  module _ (content : List ℕ) where
     abbrev sent : List Room → State → List Action
-    sent rs t = if ltb t.settings.max_message_size (gossip_size (length content) scope) then [] else broadcast_actions rs (hash content) content scope t
+    sent rs t = if ltb t.settings.max_message_size (gossip_size (length content)) then [] else broadcast_actions rs (hash content) content t
 
     sent-in : Within false (alone ours.state) (sent ours.rooms ours.state)
-    sent-in = branch false (alone ours.state) (ltb ours.state.settings.max_message_size (gossip_size (length content) scope)) [] _ (nil false (alone ours.state)) (broadcast-in false hash ours.rooms ours.state fine (hash content) content scope)
+    sent-in = branch false (alone ours.state) (ltb ours.state.settings.max_message_size (gossip_size (length content))) [] _ (nil false (alone ours.state)) (broadcast-in false hash ours.rooms ours.state fine (hash content) content)
 
-    broadcast-rust : BesideRust (broadcast hash now content scope ours) (broadcast hash now content scope rusts)
+    broadcast-rust : BesideRust (broadcast hash now content ours) (broadcast hash now content rusts)
     broadcast-rust = record {
-      state = broadcast-of hash now content scope ours fine
-          ∙ (λ i. if ltb ((states i).settings.max_message_size) (gossip_size (length content) scope) then states i else broadcast_state (roomy i) now (hash content) content scope (states i))
-          ∙ sym (broadcast-of hash now content scope rusts fine');
-      counts = (same-broadcast hash now content scope ours).counts ∙ counted ∙ sym (same-broadcast hash now content scope rusts).counts;
-      actions = step-struck (broadcast hash now content scope ours) (broadcast hash now content scope rusts) _ _ (alone ours.state) (broadcasted-actions hash now content scope ours fine) (broadcasted-actions hash now content scope rusts fine') (λ i. sent (roomy i) (states i)) sent-in;
+      state = broadcast-of hash now content ours fine
+          ∙ (λ i. if ltb ((states i).settings.max_message_size) (gossip_size (length content)) then states i else broadcast_state (roomy i) now (hash content) content (states i))
+          ∙ sym (broadcast-of hash now content rusts fine');
+      counts = (same-broadcast hash now content ours).counts ∙ counted ∙ sym (same-broadcast hash now content rusts).counts;
+      actions = step-struck (broadcast hash now content ours) (broadcast hash now content rusts) _ _ (alone ours.state) (broadcasted-actions hash now content ours fine) (broadcasted-actions hash now content rusts fine') (λ i. sent (roomy i) (states i)) sent-in;
     }
 
-    broadcast-told : told (broadcast hash now content scope ours).actions ≡ evicted_first now s
-    broadcast-told = step-told (broadcast hash now content scope ours) (broadcast hash now content scope rusts) _ _ (alone ours.state) (broadcasted-actions hash now content scope ours fine) (broadcasted-actions hash now content scope rusts fine') (λ i. sent (roomy i) (states i)) sent-in
+    broadcast-told : told (broadcast hash now content ours).actions ≡ evicted_first now s
+    broadcast-told = step-told (broadcast hash now content ours) (broadcast hash now content rusts) _ _ (alone ours.state) (broadcasted-actions hash now content ours fine) (broadcasted-actions hash now content rusts fine') (λ i. sent (roomy i) (states i)) sent-in
 
   -- a timer but EvictCache
   module _ (t : Timer) (h : Within false (alone ours.state) (timer_actions hash ours.rooms now t ours.state)) where
@@ -248,7 +248,7 @@ module _ (hash : List ℕ → ℕ) where
   right-rust : (now : ℕ) (e : Event) (s : State) (c : Counts) (rooms : List Room) → whole s ≡ true → BesideRust (handle hash now e (begin s c rooms)) (rust_handle hash now e (begin s c rooms))
   unfolding handle rust_handle handle_message
   right-rust now (Received p m) s c rooms w = message-rust hash now s c rooms w p m
-  right-rust now (Broadcast content scope) s c rooms w = broadcast-rust hash now s c rooms w content scope
+  right-rust now (Broadcast content) s c rooms w = broadcast-rust hash now s c rooms w content
   right-rust now (Fired (SendGraft id)) s c rooms w = unfold rust_timer on_timer in timer-rust hash now s c rooms w (SendGraft id) (send_graft-in false hash _ _ (fine hash now s c rooms w) now id)
   right-rust now (Fired DispatchLazyPush) s c rooms w = unfold rust_timer on_timer in timer-rust hash now s c rooms w DispatchLazyPush (dispatch-in false hash _ _ (fine hash now s c rooms w) now)
   right-rust now (Fired EvictCache) s c rooms w = unfold rust_timer on_timer in evict-rust hash now s c rooms w
@@ -259,7 +259,7 @@ module _ (hash : List ℕ → ℕ) where
   right-told : (now : ℕ) (e : Event) (s : State) (c : Counts) (rooms : List Room) → whole s ≡ true → told (handle hash now e (begin s c rooms)).actions ≡ evicted_in now e s
   unfolding handle handle_message evicted_in
   right-told now (Received p m) s c rooms w = message-told hash now s c rooms w p m
-  right-told now (Broadcast content scope) s c rooms w = broadcast-told hash now s c rooms w content scope
+  right-told now (Broadcast content) s c rooms w = broadcast-told hash now s c rooms w content
   right-told now (Fired (SendGraft id)) s c rooms w = timer-told hash now s c rooms w (SendGraft id) (send_graft-in false hash _ _ (fine hash now s c rooms w) now id)
   right-told now (Fired DispatchLazyPush) s c rooms w = timer-told hash now s c rooms w DispatchLazyPush (dispatch-in false hash _ _ (fine hash now s c rooms w) now)
   right-told now (Fired EvictCache) s c rooms w = unfold on_timer in evict-told hash now s c rooms w

@@ -8,7 +8,7 @@ use lib.ListN.{length}
 use Rattle.std.specs.Prelude.{if◌then◌else◌, Option, Some, None}
 use Rattle.storage.specs.Lists.Base.{is_empty, member, all, once}
 use Rattle.time_cache.specs.TimeCache.{get, holds}
-use Rattle.postcard.specs.Message.{Delivery, Swarm, Neighbors, Scope, to_swarm, to_neighbors, Ihave, Message, Gossip, Prune, Graft, IHave, Timer, SendGraft, DispatchLazyPush, EvictCache, AnnounceDropped, Event, Received, Broadcast, Fired, Up, Down}
+use Rattle.postcard.specs.Message.{Delivery, Swarm, Neighbors, Ihave, Message, Gossip, Prune, Graft, IHave, Timer, SendGraft, DispatchLazyPush, EvictCache, AnnounceDropped, Event, Received, Broadcast, Fired, Up, Down}
 use Rattle.protocol.specs.Links.{eager, is_neighbour, add_lazy, add_eager}
 use Rattle.protocol.specs.State.{State, Counts, Hop, Cached, with_links, with_dispatch_scheduled, with_announce_scheduled}
 use Rattle.protocol.specs.Run.{Run, Room, begin, with_state, with_counts, act, send, takes}
@@ -63,7 +63,7 @@ module _ (hash : List ℕ → ℕ) where
       (if-on (λ (y : Run). y.state) (holds id r.state.received) _ _
       ∙ if-both (holds id r.state.received) (late-state sender id _ r) refl)
 
-  pub broadcast-state : (now : ℕ) (content : List ℕ) (scope : Scope) (r : Run) → Consistent r.state → (broadcast_to hash now content scope r).state ≡ broadcast_state r.rooms now (hash content) content scope r.state
+  pub broadcast-state : (now : ℕ) (content : List ℕ) (r : Run) → Consistent r.state → (broadcast_to hash now content r).state ≡ broadcast_state r.rooms now (hash content) content r.state
   unfolding broadcast_to broadcast_state eager_push
   broadcast-state now content to_swarm r x =
       let id = hash content in
@@ -202,16 +202,16 @@ module _ (hash : List ℕ → ℕ) where
   handle-state now (Received p m) r x =
       message-state now p m (with_counts (count_message m (first_event now r).counts) (first_event now r)) ((kept-first_event now r).consistent x)
       ∙ rw (first-rooms now r, first-state now r) refl
-  handle-state now (Broadcast content scope) r x =
+  handle-state now (Broadcast content) r x =
       broadcasted (first_event now r) ((kept-first_event now r).consistent x)
       ∙ rw (kept-first_event now r).settings (rw (first-rooms now r, first-state now r) refl)
     where
-      broadcasted : (y : Run) → Consistent y.state → (broadcast hash now content scope y).state ≡
-          (if ltb y.state.settings.max_message_size (gossip_size (length content) scope) then y.state else broadcast_state y.rooms now (hash content) content scope y.state)
+      broadcasted : (y : Run) → Consistent y.state → (broadcast hash now content y).state ≡
+          (if ltb y.state.settings.max_message_size (gossip_size (length content)) then y.state else broadcast_state y.rooms now (hash content) content y.state)
       broadcasted y c =
           unfold broadcast in
-          (if-on (λ (z : Run). z.state) (ltb y.state.settings.max_message_size (gossip_size (length content) scope)) _ _
-          ∙ if-both (ltb y.state.settings.max_message_size (gossip_size (length content) scope)) refl (broadcast-state hash now content scope y c))
+          (if-on (λ (z : Run). z.state) (ltb y.state.settings.max_message_size (gossip_size (length content))) _ _
+          ∙ if-both (ltb y.state.settings.max_message_size (gossip_size (length content))) refl (broadcast-state hash now content y c))
   handle-state now (Fired t) r x = timer-state now t (first_event now r) ((kept-first_event now r).consistent x) ∙ rw (first-rooms now r, first-state now r) refl
   handle-state now (Up as_quiet p) r x = unfold on_neighbor_up update_links in refl
   handle-state now (Down p) r x = unfold on_neighbor_down in refl

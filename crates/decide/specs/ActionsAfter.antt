@@ -4,7 +4,7 @@ use Rattle.storage.specs.Lists.Base.{is_empty}
 use Rattle.storage.specs.Lists.Map.{keys}
 use Rattle.time_cache.specs.TimeCache.{holds, get}
 use Rattle.protocol.specs.Links.{is_neighbour, eager_in}
-use Rattle.postcard.specs.Message.{Delivery, Swarm, Neighbors, Scope, to_swarm, to_neighbors, Ihave, Message, Gossip, Prune, Graft, IHave, Timer, SendGraft, DispatchLazyPush, EvictCache, AnnounceDropped, Event, Received, Broadcast, Fired, Up, Down, Action, Sent, Scheduled, Emitted}
+use Rattle.postcard.specs.Message.{Delivery, Swarm, Neighbors, Ihave, Message, Gossip, Prune, Graft, IHave, Timer, SendGraft, DispatchLazyPush, EvictCache, AnnounceDropped, Event, Received, Broadcast, Fired, Up, Down, Action, Sent, Scheduled, Emitted}
 use Rattle.protocol.specs.State.{State, Hop, Cached}
 use Rattle.protocol.specs.Run.{Room}
 use Rattle.protocol.specs.Push.{eager_targets}
@@ -54,10 +54,9 @@ unfoldable pub ihave_actions : List Ihave → State → List Action
 ihave_actions hs s = map (λ i. Scheduled s.settings.graft_timeout_1 (SendGraft i)) (new_ids (known_timer s) [] hs)
 
 -- a broadcast of size at most M
-unfoldable pub broadcast_actions : List Room → ℕ → List ℕ → Scope → State → List Action
-broadcast_actions rooms id content to_swarm s =
+unfoldable pub broadcast_actions : List Room → ℕ → List ℕ → State → List Action
+broadcast_actions rooms id content s =
     dispatch_action s ++ push_actions rooms (Gossip id content (Swarm 0)) (eager_targets s.settings.me [] s) s.timers.announce
-broadcast_actions rooms id content to_neighbors s = map (first_send rooms (Gossip id content Neighbors)) (eager_targets s.settings.me [] s)
 
 -- "Received before"
 unfoldable pub late_actions : List Room → ℕ → Late → List Action
@@ -116,8 +115,8 @@ module _ (hash : List ℕ → ℕ) where
   -- the actions of the call, of the state before it (question 14)
   unfoldable pub actions_after : List Room → ℕ → Event → State → List Action
   actions_after rooms now (Received p m) s = settled_actions now s ++ message_actions rooms p m (settled now s)
-  actions_after rooms now (Broadcast content scope) s =
-      settled_actions now s ++ (if ltb s.settings.max_message_size (gossip_size (length content) scope) then [] else broadcast_actions rooms (hash content) content scope (settled now s))
+  actions_after rooms now (Broadcast content) s =
+      settled_actions now s ++ (if ltb s.settings.max_message_size (gossip_size (length content)) then [] else broadcast_actions rooms (hash content) content (settled now s))
   actions_after rooms now (Fired t) s = settled_actions now s ++ timer_actions rooms now t (settled now s)
   actions_after rooms now (Up as_quiet p) s = []
   actions_after rooms now (Down p) s = []

@@ -26,7 +26,7 @@ module _ (hash : List ℕ → ℕ) where
   -- the counts after the call
   unfoldable pub counts_after_call : ℕ → Event → State → Counts → Counts
   counts_after_call now (Received p m) s c = message_counts m (settled now s) (count_message m c)
-  counts_after_call now (Broadcast content scope) s c = c
+  counts_after_call now (Broadcast content) s c = c
   counts_after_call now (Fired t) s c = c
   counts_after_call now (Up as_quiet p) s c = c
   counts_after_call now (Down p) s c = c

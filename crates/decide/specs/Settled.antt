@@ -41,7 +41,7 @@ module _ (hash : List ℕ → ℕ) where
   too_far_before now (Received p Prune) s = false
   too_far_before now (Received p (Graft wanted round)) s = false
   too_far_before now (Received p (IHave hs)) s = false
-  too_far_before now (Broadcast content scope) s = false
+  too_far_before now (Broadcast content) s = false
   too_far_before now (Fired t) s = false
   too_far_before now (Up as_quiet p) s = false
   too_far_before now (Down p) s = false

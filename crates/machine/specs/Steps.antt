@@ -71,8 +71,7 @@ StepHeld-prop s (kinds.NewNeighbors sender content) = Prim.hlevel props
 StepHeld-prop s (kinds.Prune link) = Prim.hlevel props
 StepHeld-prop s (kinds.Graft link wanted) = Prim.hlevel props
 StepHeld-prop s (kinds.IHave link ihaves) = Prim.hlevel props
-StepHeld-prop s (kinds.BroadcastSwarm id content) = Prim.hlevel props
-StepHeld-prop s (kinds.BroadcastNeighbors id content) = Prim.hlevel props
+StepHeld-prop s (kinds.Broadcast id content) = Prim.hlevel props
 StepHeld-prop s _ = Prim.hlevel props
 
 pub SenderIs-prop : (p : ℕ) (step : Step) → IsProp (SenderIs p step)

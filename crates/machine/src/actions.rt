@@ -14,13 +14,10 @@ use payloads::broadcast::broadcast_actions;
 use payloads::on_gossip::{gossip_actions, neighbors_actions};
 use payloads::on_graft::graft_actions;
 use payloads::on_late_graft_reply::late_actions;
-use postcard::message::Delivery;
-use postcard::units::Round;
 use steps::call::Call;
 use steps::on_evict_cache_timer::{evict_actions, first_event_actions};
 use steps::view::View;
 use wire::encode::Encode;
-use wire::encode::message::Gossip;
 use wire::encode::sink::Sink;
 
 // A step, what the call brings, and the panel as it stands before.
@@ -52,32 +49,7 @@ impl<'a> Encode for Actions<'a> {
             Step::Late(copy) => late_actions(view, call, out, copy),
             Step::Graft { link, wanted } => graft_actions(view, call, out, link, wanted),
             Step::IHave { ihaves, .. } => ihave_actions(view, call, out, ihaves),
-            Step::BroadcastSwarm { id, content } => {
-                let delivery = Delivery::Swarm(Round(0));
-                broadcast_actions(
-                    view,
-                    call,
-                    out,
-                    &Gossip {
-                        id,
-                        content,
-                        delivery,
-                    },
-                );
-            }
-            Step::BroadcastNeighbors { id, content } => {
-                let delivery = Delivery::Neighbors;
-                broadcast_actions(
-                    view,
-                    call,
-                    out,
-                    &Gossip {
-                        id,
-                        content,
-                        delivery,
-                    },
-                );
-            }
+            Step::Broadcast { id, content } => broadcast_actions(view, call, out, id, content),
             Step::SendGraft(id) => send_graft_actions(view, call, out, id),
             Step::DispatchLazyPush => dispatch_actions(view, call, out),
             Step::EvictCache => evict_actions(view, call, out),

@@ -2,7 +2,7 @@
 ghost use Rattle.std.specs.Prelude.{ℕ, ◌≤◌, length};
 ghost use Rattle.postcard.specs.Message as message;
 ghost use Rattle.postcard.specs.Message.{Received, Broadcast, Fired, IHave, message_bytes};
-ghost use Rattle.postcard.specs.Values.{delivery_value, scope_value, timer_value};
+ghost use Rattle.postcard.specs.Values.{delivery_value, timer_value};
 ghost use Rattle.wire.specs.Reader.Values.{ihaves_value, message_value};
 ghost use Rattle.storage.specs.Rows.Ident.{id_of};
 ghost use Rattle.protocol.specs.State.{State};
@@ -15,7 +15,7 @@ ghost use Rattle.machine.specs.Kinds.Meaning.{ListHeld, Means};
 use announcements::on_ihave::all_received;
 use payloads::on_gossip::NewMessage;
 use payloads::on_late_graft_reply::LateCopy;
-use postcard::message::{Delivery, Scope, Timer};
+use postcard::message::{Delivery, Timer};
 use steps::call::Call;
 use steps::view::View;
 use storage::rows::id::Id;
@@ -39,8 +39,7 @@ pub enum Step<'a> {
     Graft { link: usize, wanted: Option<Id> },
     IHave { link: usize, ihaves: Ihaves<'a> },
     // a broadcast of size at most M
-    BroadcastSwarm { id: Id, content: &'a [u8] },
-    BroadcastNeighbors { id: Id, content: &'a [u8] },
+    Broadcast { id: Id, content: &'a [u8] },
     SendGraft(Id),
     DispatchLazyPush,
     EvictCache,
@@ -119,18 +118,17 @@ pub fn message_step<'a>(view: &View, call: &Call, sender: u64, message: Message<
 }
 
 // The step of a broadcast: "Size over M: accepted, only a first event's work". Linear in the content, if it is sent.
-pub fn broadcast_step<'a>(view: &View, call: &Call, content: &'a [u8], scope: Scope) -> Step<'a>
+pub fn broadcast_step<'a>(view: &View, call: &Call, content: &'a [u8]) -> Step<'a>
     requires { AtRest (shown view.now) }
-    ensures { Means call.now.instant.0 (shown view.now) result (Broadcast content.now (scope_value scope)) }
+    ensures { Means call.now.instant.0 (shown view.now) result (Broadcast content.now) }
 {
     let max = view.head.settings.max_message_size as usize;
-    if !serialized_size::broadcast_fits(content.len(), scope, max) {
+    if !serialized_size::broadcast_fits(content.len(), max) {
         return Step::Nothing;
     }
-    let id = blake3::hash(content);
-    match scope {
-        Scope::Swarm => Step::BroadcastSwarm { id, content },
-        Scope::Neighbors => Step::BroadcastNeighbors { id, content },
+    Step::Broadcast {
+        id: blake3::hash(content),
+        content,
     }
 }
 

@@ -122,12 +122,8 @@ fn event_limit(view: &View, call: &Call, event: Event) -> Option<Limit>
             }
             step_limit(view, call, kinds::message_step(view, call, peer, message))
         }
-        Event::Broadcast { content, scope } => {
-            step_limit(
-                view,
-                call,
-                kinds::broadcast_step(view, call, content, scope),
-            )
+        Event::Broadcast { content } => {
+            step_limit(view, call, kinds::broadcast_step(view, call, content))
         }
         Event::Timer(timer) => step_limit(view, call, kinds::timer_step(timer)),
         Event::Up { peer, .. } => limit_past(view.head.limits, up_sizes(view, peer)),

@@ -17,7 +17,7 @@ use Rattle.storage.proofs.ListsLaws.ListLaws.{length-filter, count-length}
 use Rattle.storage.proofs.ListsLaws.MapLaws.{cases, true≢, all_head, all_tail, all_cons}
 use Rattle.time_cache.specs.TimeCache.{get, holds, later_cache}
 use Rattle.postcard.specs.Sizes.{gossip_size}
-use Rattle.postcard.specs.Message.{Delivery, Swarm, Neighbors, Scope, to_swarm, to_neighbors, Message, Gossip, Prune, Graft, IHave, Timer, SendGraft, DispatchLazyPush, EvictCache, AnnounceDropped, Event, Received, Broadcast, Fired, Up, Down, Action, Emitted}
+use Rattle.postcard.specs.Message.{Delivery, Swarm, Neighbors, Message, Gossip, Prune, Graft, IHave, Timer, SendGraft, DispatchLazyPush, EvictCache, AnnounceDropped, Event, Received, Broadcast, Fired, Up, Down, Action, Emitted}
 use Rattle.protocol.specs.Links.{is_neighbour}
 use Rattle.protocol.specs.State.{State, Settings, Limits, with_init, with_received, with_grafted, with_cache}
 use Rattle.protocol.specs.Run.{Room}
@@ -67,7 +67,7 @@ bounded-settled now s b = by s.init
 -- a message read is at most M bytes (question 10)
 unfoldable pub event_length : Event → ℕ
 event_length (Received p m) = message_length m
-event_length (Broadcast content scope) = 0
+event_length (Broadcast content) = 0
 event_length (Fired t) = 0
 event_length (Up as_quiet p) = 0
 event_length (Down p) = 0
@@ -113,13 +113,13 @@ module _ (hash : List ℕ → ℕ) (rooms : List Room) (s : State) (b : Bounded 
   message-few sender (IHave hs) h =
       weight-if _ _ _ (is_neighbour sender s.links) (omega (arith, ihave-weight s.settings.max_message_size hs s h, one-send)) (omega (arith, weight-none))
 
-  broadcast-few : (M : ℕ) → M ≡ s.settings.max_message_size → (content : List ℕ) (scope : Scope) →
-      weight (if ltb M (gossip_size (length content) scope) then [] else broadcast_actions rooms (hash content) content scope s) ≤ s.limits.N * (s.settings.max_message_size + 13) + s.settings.max_message_size + 65
-  broadcast-few M e content scope =
-      cases (ltb M (gossip_size (length content) scope)) (λ t. rw t (omega (arith, weight-none)))
-      (λ t. rw t (on scope (omega (arith, e, ltb-false M (gossip_size (length content) scope) t))))
+  broadcast-few : (M : ℕ) → M ≡ s.settings.max_message_size → (content : List ℕ) →
+      weight (if ltb M (gossip_size (length content)) then [] else broadcast_actions rooms (hash content) content s) ≤ s.limits.N * (s.settings.max_message_size + 13) + s.settings.max_message_size + 65
+  broadcast-few M e content =
+      cases (ltb M (gossip_size (length content))) (λ t. rw t (omega (arith, weight-none)))
+      (λ t. rw t (on scope (omega (arith, e, ltb-false M (gossip_size (length content)) t))))
     where
-      on : (scope : Scope) → gossip_size (length content) scope ≤ s.settings.max_message_size → weight (broadcast_actions rooms (hash content) content scope s) ≤ s.limits.N * (s.settings.max_message_size + 13) + s.settings.max_message_size + 65
+      on : → gossip_size (length content) scope ≤ s.settings.max_message_size → weight (broadcast_actions rooms (hash content) content s) ≤ s.limits.N * (s.settings.max_message_size + 13) + s.settings.max_message_size + 65
       on to_swarm h = omega (arith, b.size, broadcast-weight s.settings.max_message_size s.limits.N rooms (hash content) content s b.links h)
       on to_neighbors h = omega (arith, broadcast_near-weight s.settings.max_message_size s.limits.N rooms (hash content) content s b.links h)
 
@@ -149,9 +149,9 @@ module _ (hash : List ℕ → ℕ) (rooms : List Room) (now : ℕ) (s : State) (
       let c = bounded-settled now s b in
       behind (message_actions hash rooms p m (settled now s))
       (few-sends (settled now s).limits (settled now s).settings.max_message_size _ (message-few hash rooms (settled now s) c p m (omega (arith, h, ap (λ (x : Settings). x.max_message_size) (settled-settings now s)))))
-  actions-weight (Broadcast content scope) h =
+  actions-weight (Broadcast content) h =
       let c = bounded-settled now s b in
-      behind _ (few-sends (settled now s).limits (settled now s).settings.max_message_size _ (broadcast-few hash rooms (settled now s) c s.settings.max_message_size (sym (ap (λ (x : Settings). x.max_message_size) (settled-settings now s))) content scope))
+      behind _ (few-sends (settled now s).limits (settled now s).settings.max_message_size _ (broadcast-few hash rooms (settled now s) c s.settings.max_message_size (sym (ap (λ (x : Settings). x.max_message_size) (settled-settings now s))) content))
   actions-weight (Fired t) h = behind (timer_actions hash rooms now t (settled now s)) (timer-few hash rooms (settled now s) (bounded-settled now s b) now t)
   actions-weight (Up as_quiet p) h = omega (arith, weight-none)
   actions-weight (Down p) h = omega (arith, weight-none)

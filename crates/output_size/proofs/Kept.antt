@@ -16,7 +16,7 @@ use Rattle.storage.proofs.ListsLaws.ListLaws.{all-insert-entry, all-remove-entry
 use Rattle.time_cache.specs.TimeCache.{Timed, Expiry, get, value_of, holds, pop, pop_all, due, expires_at, expire_until, put}
 use Rattle.postcard.specs.Number.{number_length}
 use Rattle.postcard.specs.Sizes.{gossip_size}
-use Rattle.postcard.specs.Message.{Delivery, Swarm, Neighbors, Scope, to_swarm, to_neighbors, Ihave, Message, Gossip, Prune, Graft, IHave, Timer, SendGraft, DispatchLazyPush, EvictCache, AnnounceDropped, Event, Received, Broadcast, Fired, Up, Down}
+use Rattle.postcard.specs.Message.{Delivery, Swarm, Neighbors, Ihave, Message, Gossip, Prune, Graft, IHave, Timer, SendGraft, DispatchLazyPush, EvictCache, AnnounceDropped, Event, Received, Broadcast, Fired, Up, Down}
 use Rattle.protocol.specs.Links.{is_neighbour, lazy_peers}
 use Rattle.protocol.specs.State.{State, Note, Hop, Grafts, Cached, with_init}
 use Rattle.protocol.specs.Run.{Room}
@@ -241,7 +241,7 @@ good-late M sender id (faster first) s g = still M (with_kept id sender (get id 
     kept None = unfold with_kept in g
     kept (Some x) = unfold with_kept in (still M s _ refl refl refl refl refl g)
 
-good-broadcast : (M : ℕ) (rooms : List Room) (now id : ℕ) (content : List ℕ) (scope : Scope) (s : State) → gossip_size (length content) scope ≤ M → Good M s → Good M (broadcast_state rooms now id content scope s)
+good-broadcast : (M : ℕ) (rooms : List Room) (now id : ℕ) (content : List ℕ) (s : State) → gossip_size (length content) scope ≤ M → Good M s → Good M (broadcast_state rooms now id content s)
 unfolding broadcast_state gossip_size
 good-broadcast M rooms now id content to_swarm s h g =
     good-pushed M rooms _ (record { id = id; round = 0 }) _ refl
@@ -361,7 +361,7 @@ module _ (hash : List ℕ → ℕ) where
 
   unfoldable pub NearEvent : ℕ → Event → State → Type 0
   NearEvent now (Received p m) s = Near m (first_state now s)
-  NearEvent now (Broadcast content scope) s = Unit {0}
+  NearEvent now (Broadcast content) s = Unit {0}
   NearEvent now (Fired t) s = Unit {0}
   NearEvent now (Up as_quiet p) s = Unit {0}
   NearEvent now (Down p) s = Unit {0}
@@ -369,10 +369,10 @@ module _ (hash : List ℕ → ℕ) where
   pub good-after : (M : ℕ) (rooms : List Room) (now : ℕ) (e : Event) (s : State) → event_length e ≤ M → NearEvent now e s → Stands M s → Stands M (state_after hash rooms now e s)
   unfolding state_after event_length NearEvent
   good-after M rooms now (Received p m) s h near g = goes_on (good-message M rooms now p m (first_state now s) h near (good-first M now s g))
-  good-after M rooms now (Broadcast content scope) s h near g =
-      cases (ltb s.settings.max_message_size (gossip_size (length content) scope))
+  good-after M rooms now (Broadcast content) s h near g =
+      cases (ltb s.settings.max_message_size (gossip_size (length content)))
       (λ t. rw t (goes_on (good-first M now s g)))
-      (λ t. rw t (goes_on (good-broadcast M rooms now (hash content) content scope (first_state now s) (omega (arith, stands-size M s g, ltb-false s.settings.max_message_size (gossip_size (length content) scope) t)) (good-first M now s g))))
+      (λ t. rw t (goes_on (good-broadcast M rooms now (hash content) content (first_state now s) (omega (arith, stands-size M s g, ltb-false s.settings.max_message_size (gossip_size (length content)) t)) (good-first M now s g))))
   good-after M rooms now (Fired t) s h near g = goes_on (good-timer M rooms now t (first_state now s) (good-first M now s g))
   good-after M rooms now (Up as_quiet p) s h near g = stands-still M s _ refl refl refl refl refl g
   good-after M rooms now (Down p) s h near g = stands-forget M p s g

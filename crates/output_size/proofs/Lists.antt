@@ -98,7 +98,7 @@ read-length : (M : ℕ) (bs : List ℕ) (e : Event) → Bytes bs → decode_even
 unfolding message_fits event_length
 read-length M bs (Received p m) y d h =
     omega (arith, (message-size bs p m y d).1, length-message m, leb-true (length (message_part bs)) M h)
-read-length M bs (Broadcast content scope) y d h = omega arith
+read-length M bs (Broadcast content) y d h = omega arith
 read-length M bs (Fired t) y d h = omega arith
 read-length M bs (Up as_quiet p) y d h = omega arith
 read-length M bs (Down p) y d h = omega arith
@@ -127,7 +127,7 @@ module _ (hash : List ℕ → ℕ) where
   near-event : (now : ℕ) (bs : List ℕ) (e : Event) (s : State) → Bytes bs → decode_event bs ≡ decoded e → too_far hash e (first_state now s) ≡ false → NearEvent hash now e s
   unfolding NearEvent too_far
   near-event now bs (Received p m) s y d f = near_of m (first_state now s) (decode-wide bs (Received p m) y d).1 f
-  near-event now bs (Broadcast content scope) s y d f = tt
+  near-event now bs (Broadcast content) s y d f = tt
   near-event now bs (Fired t) s y d f = tt
   near-event now bs (Up as_quiet p) s y d f = tt
   near-event now bs (Down p) s y d f = tt

@@ -17,7 +17,7 @@ use Rattle.storage.proofs.ListsLaws.ListLaws.{length-filter, count-length}
 use Rattle.time_cache.specs.TimeCache.{Timed, Expiry, get, value_of, holds, expires_at, pop, due, popped, expired_keys}
 use Rattle.postcard.specs.Number.{number_length}
 use Rattle.postcard.specs.Sizes.{gossip_size}
-use Rattle.postcard.specs.Message.{Delivery, Swarm, Neighbors, to_swarm, to_neighbors, Ihave, Message, Gossip, Prune, Graft, IHave, SendGraft, DispatchLazyPush, EvictCache, AnnounceDropped, Action, Sent, Scheduled, Emitted, Forgotten}
+use Rattle.postcard.specs.Message.{Delivery, Swarm, Neighbors, Ihave, Message, Gossip, Prune, Graft, IHave, SendGraft, DispatchLazyPush, EvictCache, AnnounceDropped, Action, Sent, Scheduled, Emitted, Forgotten}
 use Rattle.postcard.proofs.Lengths.{number-few}
 use Rattle.protocol.specs.Links.{Mark, Links, is_eager, peers_marked, eager_peers, is_neighbour, eager_in}
 use Rattle.protocol.specs.State.{State, Hop, Cached}

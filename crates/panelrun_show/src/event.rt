@@ -1,7 +1,6 @@
 // Events, as text for people.
 use crate::message::{MessageText, TimerText};
 use crate::text::{ContentText, Hex};
-use postcard::message::Scope;
 use std::fmt;
 use std::fmt::{Display, Formatter};
 use wire::reader::event;
@@ -20,13 +19,9 @@ impl Display for EventText<'_> {
                 let message = MessageText(message);
                 write!(f, "from {peer}: {message}")
             }
-            Ok(Event::Broadcast { content, scope }) => {
+            Ok(Event::Broadcast { content }) => {
                 let content = ContentText(content);
-                let scope = match scope {
-                    Scope::Swarm => "Swarm",
-                    Scope::Neighbors => "Neighbors",
-                };
-                write!(f, "broadcast {content}, {scope}")
+                write!(f, "broadcast {content}, Swarm")
             }
             Ok(Event::Timer(timer)) => {
                 let timer = TimerText(timer);

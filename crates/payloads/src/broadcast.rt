@@ -7,10 +7,10 @@ ghost use Rattle.wire.specs.Encode.Intake.{after, RoomFor};
 ghost use Rattle.steps.specs.Views.{shown};
 ghost use Rattle.steps.specs.Shared.{sizes_value};
 ghost use Rattle.steps.specs.Panels.{state, Goes, AtRest, Allowed};
-ghost use Rattle.payloads.specs.Broadcast.{AtFirst, broadcast_bytes, after_broadcast};
+ghost use Rattle.payloads.specs.Broadcast.{broadcast_bytes, after_broadcast};
 
 use crate::eager_push::notes::{note_back, to_note};
-use crate::eager_push::sends::{eager_push, push_sends};
+use crate::eager_push::sends::eager_push;
 use crate::eager_push::target::Push;
 use postcard::message::Delivery;
 use postcard::units::Round;
@@ -24,30 +24,26 @@ use storage::rows::id::Id;
 use wire::encode::message::Gossip;
 use wire::encode::sink::Sink;
 
-// Its actions: of a Swarm message a dispatch timer unless flagged, then the eager push; of a Neighbors message the "eager push only". "The panel is the sender in
-// both pushes". Its time is that of one pass over the links.
-pub fn broadcast_actions<S: Sink>(view: &View, call: &Call, out: &mut S, message: &Gossip)
+// Its actions: a dispatch timer unless flagged, then the eager push, at round 0; "The panel is the sender in both pushes". Its time is that of one pass over the links.
+pub fn broadcast_actions<S: Sink>(view: &View, call: &Call, out: &mut S, id: Id, content: &[u8])
     requires rest { AtRest (shown view.now) }
-    requires first { AtFirst (delivery_value message.now.delivery) }
-    requires room { RoomFor (broadcast_bytes call.now message.now (settled call.now.instant.0 (shown view.now))) (S.intake out.old) }
-    ensures { S.intake out.new ≡ after (broadcast_bytes call.now message.now (settled call.now.instant.0 (shown view.now))) (S.intake out.old) }
+    requires room { RoomFor (broadcast_bytes call.now id content.now (settled call.now.instant.0 (shown view.now))) (S.intake out.old) }
+    ensures { S.intake out.new ≡ after (broadcast_bytes call.now id content.now (settled call.now.instant.0 (shown view.now))) (S.intake out.old) }
 {
     let push = Push {
         sender: view.head.settings.me,
         skip: None,
     };
-    match message.delivery {
-        Delivery::Swarm(_) => {
-            schedule_dispatch(view, out);
-            eager_push(view, call, out, &push, message);
-        }
-        Delivery::Neighbors => {
-            push_sends(view, call, out, &push, message);
-        }
-    }
+    let pushed = Gossip {
+        id,
+        content,
+        delivery: Delivery::Swarm(Round(0)),
+    };
+    schedule_dispatch(view, out);
+    eager_push(view, call, out, &push, &pushed);
 }
 
-// The numbers of entries after a Swarm broadcast (question 13). Its time is that of one pass over the caches, one over the links, and one over the record's column of
+// The numbers of entries after a broadcast (question 13). Its time is that of one pass over the caches, one over the links, and one over the record's column of
 // link numbers.
 pub fn broadcast_sizes(view: &View, call: &Call, id: Id, content: &[u8]) -> Sizes
     requires { AtRest (shown view.now) }
@@ -64,7 +60,7 @@ pub fn broadcast_sizes(view: &View, call: &Call, id: Id, content: &[u8]) -> Size
     sizes
 }
 
-// The step of a Swarm broadcast: "mark received, cache at round 0, lazy push, then eager push"; "The panel is the sender in both pushes". Its time is that of one pass
+// The step of a broadcast: "mark received, cache at round 0, lazy push, then eager push"; "The panel is the sender in both pushes". Its time is that of one pass
 // over the caches and contents, one over the links, and one over the record's column of link numbers.
 pub fn broadcast(panel: &mut Panel, call: &Call, id: Id, content: &[u8])
     requires { Allowed (after_broadcast call.now id content.now) (state panel.old) × (call.now.instant.0 ≤ LATEST.0) }

@@ -1,5 +1,5 @@
 // Writes what an event holds, in words; contents and identifiers in hexadecimal.
-use postcard::message::{Delivery, Ihave, Scope, Timer};
+use postcard::message::{Delivery, Ihave, Timer};
 use storage::rows::id::Id;
 use wire::reader::event::Event;
 use wire::reader::message::Message;
@@ -101,13 +101,6 @@ fn timer(rt: &impl Print, t: Timer) {
     }
 }
 
-fn scope(rt: &impl Print, s: Scope) {
-    match s {
-        Scope::Swarm => word(rt, b" Swarm"),
-        Scope::Neighbors => word(rt, b" Neighbors"),
-    }
-}
-
 // An event: of a received message its peer and its size first.
 pub fn event(rt: &impl Print, e: Event) {
     match e {
@@ -123,13 +116,10 @@ pub fn event(rt: &impl Print, e: Event) {
             word(rt, b" ");
             message(rt, m);
         }
-        Event::Broadcast {
-            content: c,
-            scope: s,
-        } => {
+        Event::Broadcast { content: c } => {
             word(rt, b"Broadcast ");
             content(rt, c);
-            scope(rt, s);
+            word(rt, b" Swarm");
         }
         Event::Timer(t) => timer(rt, t),
         Event::Up { peer, quiet } => {

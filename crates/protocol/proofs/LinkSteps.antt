@@ -9,7 +9,7 @@ use borrow.Author.Tests.{eqb-true}
 use Rattle.storage.specs.Lists.Base.{ascending, is_empty, member}
 use Rattle.storage.specs.Lists.Map.{insert, keys}
 use Rattle.protocol.specs.Links.{Mark, eager, lazy, Links, is_neighbour, is_quiet, marked, quiet_in, mark_if_there, add_eager, add_lazy}
-use Rattle.postcard.specs.Message.{Delivery, Scope, Message, Gossip, Prune, Graft, IHave, Timer, SendGraft, DispatchLazyPush, EvictCache, AnnounceDropped, Emitted}
+use Rattle.postcard.specs.Message.{Delivery, Message, Gossip, Prune, Graft, IHave, Timer, SendGraft, DispatchLazyPush, EvictCache, AnnounceDropped, Emitted}
 use Rattle.protocol.specs.State.{State, Hop, Grafts, with_queue}
 use Rattle.protocol.specs.Run.{Run, with_state, act, send}
 use Rattle.protocol.specs.Push.{schedule_dispatch, lazy_push}

@@ -7,7 +7,7 @@ use lib.Dec.{ltb, eqb}
 use lib.ListN.{length}
 use Rattle.std.specs.Prelude.{if◌then◌else◌, Option, Some, None}
 use Rattle.time_cache.specs.TimeCache.{holds}
-use Rattle.postcard.specs.Message.{Delivery, Swarm, Neighbors, Scope, to_swarm, to_neighbors, Ihave, Message, Gossip, Prune, Graft, IHave, Timer, SendGraft, DispatchLazyPush, EvictCache, AnnounceDropped, Event, Received, Broadcast, Fired, Up, Down}
+use Rattle.postcard.specs.Message.{Delivery, Swarm, Neighbors, Ihave, Message, Gossip, Prune, Graft, IHave, Timer, SendGraft, DispatchLazyPush, EvictCache, AnnounceDropped, Event, Received, Broadcast, Fired, Up, Down}
 use Rattle.protocol.specs.Links.{is_neighbour}
 use Rattle.protocol.specs.State.{Note, Cached}
 use Rattle.protocol.specs.Run.{Run, takes, emit}
@@ -92,14 +92,14 @@ module _ (hash : List ℕ → ℕ) where
   run-on_gossip now sender id content d a =
       run-if (not (eqb (hash content) id)) _ _ refl (run-if (holds id a.run.state.received) _ _ refl (run-on_new now sender id content d a))
 
-  run-broadcast_to : (now : ℕ) (content : List ℕ) (scope : Scope) (a : Account) → (broadcast_to' hash now content scope a).run ≡ broadcast_to hash now content scope a.run
+  run-broadcast_to : (now : ℕ) (content : List ℕ) (a : Account) → (broadcast_to' hash now content a).run ≡ broadcast_to hash now content a.run
   unfolding broadcast_to' broadcast_to
-  run-broadcast_to now content to_swarm a = run-eager_push _ content (Swarm 0) _ [] _
+  run-broadcast_to now content a = run-eager_push _ content (Swarm 0) _ [] _
   run-broadcast_to now content to_neighbors a = run-eager_push _ content Neighbors _ [] a
 
-  run-broadcast : (now : ℕ) (content : List ℕ) (scope : Scope) (a : Account) → (broadcast' hash now content scope a).run ≡ broadcast hash now content scope a.run
+  run-broadcast : (now : ℕ) (content : List ℕ) (a : Account) → (broadcast' hash now content a).run ≡ broadcast hash now content a.run
   unfolding broadcast' broadcast
-  run-broadcast now content scope a = run-if (ltb a.run.state.settings.max_message_size (gossip_size (length content) scope)) _ _ refl (run-broadcast_to now content scope a)
+  run-broadcast now content a = run-if (ltb a.run.state.settings.max_message_size (gossip_size (length content))) _ _ refl (run-broadcast_to now content a)
 
   run-on_message : (now sender : ℕ) (m : Message) (a : Account) → (on_message' hash now sender m a).run ≡ on_message hash now sender m a.run
   unfolding on_message' on_message if_neighbour' if_neighbour
@@ -111,7 +111,7 @@ module _ (hash : List ℕ → ℕ) where
   pub run-handle : (now : ℕ) (e : Event) (a : Account) → (handle' hash now e a).run ≡ handle hash now e a.run
   unfolding handle' handle handle_message' handle_message
   run-handle now (Received p m) a = run-on_message now p m _
-  run-handle now (Broadcast content scope) a = run-broadcast now content scope _
+  run-handle now (Broadcast content) a = run-broadcast now content _
   run-handle now (Fired t) a = run-on_timer now t _
   run-handle now (Up as_quiet p) a = refl
   run-handle now (Down p) a = refl

@@ -46,7 +46,7 @@ module _ (hash : List ℕ → ℕ) where
       quiet_in q (handle hash now e r).state.links ≡ quiet_after_call q (accept e (handle hash now e r)) (quiet_in q r.state.links)
   unfolding handle quiet_after_call by_event tells_down is_up is_down is_up_quiet on_neighbor_up on_neighbor_down forget_peer update_links link_up link_down
   step-quiet now (Received p m) r q = (keeps-first_event now r ⨾ keeps-handle_message hash now p m (first_event now r)).quiets q
-  step-quiet now (Broadcast content scope) r q = (keeps-first_event now r ⨾ keeps-broadcast_event hash now content scope (first_event now r)).quiets q
+  step-quiet now (Broadcast content) r q = (keeps-first_event now r ⨾ keeps-broadcast_event hash now content (first_event now r)).quiets q
   step-quiet now (Fired t) r q = (keeps-first_event now r ⨾ keeps-on_timer now t (first_event now r)).quiets q
   step-quiet now (Up as_quiet p) r q = quiet-up as_quiet q p r.state.links
   step-quiet now (Down p) r q = quiet-down q p r.state.links

@@ -4,7 +4,7 @@ use Rattle.std.specs.Prelude.{ℕ, zero, suc, ◌≡◌, ◌+◌, Bool, true, fa
 use Rattle.storage.specs.Lists.Base.{any}
 use Rattle.storage.specs.Lists.Map.{entry}
 use Rattle.postcard.specs.Number.{id_bytes}
-use Rattle.postcard.specs.Message.{Swarm, Neighbors, to_swarm, to_neighbors, Message, Gossip, Prune, Graft, IHave, SendGraft, DispatchLazyPush, EvictCache, AnnounceDropped, Event, Received, Broadcast, Fired, Up, Down, Action, Scheduled, Forgotten, message_bytes, event_bytes}
+use Rattle.postcard.specs.Message.{Swarm, Neighbors, Message, Gossip, Prune, Graft, IHave, SendGraft, DispatchLazyPush, EvictCache, AnnounceDropped, Event, Received, Broadcast, Fired, Up, Down, Action, Scheduled, Forgotten, message_bytes, event_bytes}
 use Rattle.postcard.specs.Decode.{decoded, decode_event}
 use Rattle.time_cache.specs.TimeCache.{Cache, empty_cache, put, holds}
 use Rattle.protocol.specs.Links.{eager, eager_peers, lazy_peers}
@@ -47,7 +47,7 @@ abbrev pub ihave : ℕ → Event
 ihave p = Received p (IHave (record { id = 9; round = 3 } ∷ []))
 
 abbrev pub broadcast : Event
-broadcast = Broadcast (7 ∷ []) to_swarm
+broadcast = Broadcast (7 ∷ [])
 
 -- the payloads that each of the calls sends to the peer
 unfoldable pub sent_by : ℕ → Answer → List Message
@@ -72,9 +72,9 @@ tree = setup (free broadcast ∷ free (Fired DispatchLazyPush) ∷ free (Receive
 abbrev pub passed : List Call
 passed = setup (free (gossip 3) ∷ [])
 
--- a Neighbors broadcast
+-- a Neighbors message from 3
 abbrev pub near : List Call
-near = setup (free (Broadcast (7 ∷ []) to_neighbors) ∷ [])
+near = setup (free (Received 3 (Gossip 9 (7 ∷ []) Neighbors)) ∷ [])
 
 -- up 2, up 3, IHave from 2, the graft timer, a Prune from 2, the message from 3
 abbrev pub asked : List Call
@@ -92,8 +92,8 @@ pub record TreeExamples : Type 0 where
   pub passed2 : to 2 passed ≡ [] ∷ [] ∷ [] ∷ (Gossip 9 (7 ∷ []) (Swarm 4) ∷ []) ∷ []
   pub passed3 : to 3 passed ≡ [] ∷ [] ∷ [] ∷ [] ∷ []
   pub passed_queue : (after passed).state.queue ≡ []
-  -- a Neighbors broadcast goes to 2, and 3 gets nothing of it
-  pub near2 : to 2 near ≡ [] ∷ [] ∷ [] ∷ (Gossip 9 (7 ∷ []) Neighbors ∷ []) ∷ []
+  -- a Neighbors message from 3 goes on to nobody, and is queued for nobody
+  pub near2 : to 2 near ≡ [] ∷ [] ∷ [] ∷ [] ∷ []
   pub near3 : to 3 near ≡ [] ∷ [] ∷ [] ∷ [] ∷ []
   pub near_queue : (after near).state.queue ≡ []
   -- 2 was asked for the message and is not pushed to; its link is none of the tree, and it is queued for
@@ -233,7 +233,7 @@ after_first calls = run_calls first (fresh panel_settings panel_limits) zero_cou
 
 -- a broadcast of one byte
 abbrev pub broadcast_of : ℕ → Event
-broadcast_of b = Broadcast (b ∷ []) to_swarm
+broadcast_of b = Broadcast (b ∷ [])
 
 -- up 2 by kind 5, a broadcast of 8, the dispatch tick, 2 asks for it, a broadcast of 5; and then up 2 by kind 3, a broadcast of 6
 abbrev pub quiet_link : List Call

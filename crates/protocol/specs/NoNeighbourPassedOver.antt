@@ -1,7 +1,7 @@
 -- The guarantee: what holds after every list of event calls from a fresh panel. What is said of the past is read from the event of each accepted call, its actions, and the state after it.
 use Rattle.std.specs.Prelude.{ℕ, ◌≤◌, ◌≡◌, Bool, true, false, not, ◌&&◌, List, [], ◌∷◌, ◌++◌, leb, eqb, length, if◌then◌else◌, Option, Some, None}
 use Rattle.storage.specs.Lists.Base.{any, count, member}
-use Rattle.postcard.specs.Message.{Swarm, Neighbors, Scope, to_swarm, to_neighbors, Ihave, Message, Gossip, Prune, Graft, IHave, Timer, SendGraft, DispatchLazyPush, EvictCache, AnnounceDropped, Event, Received, Broadcast, Fired, Up, Down, Action, Sent, Scheduled, Emitted, Forgotten}
+use Rattle.postcard.specs.Message.{Swarm, Neighbors, Ihave, Message, Gossip, Prune, Graft, IHave, Timer, SendGraft, DispatchLazyPush, EvictCache, AnnounceDropped, Event, Received, Broadcast, Fired, Up, Down, Action, Sent, Scheduled, Emitted, Forgotten}
 use Rattle.time_cache.specs.TimeCache.{holds}
 use Rattle.protocol.specs.Links.{eager_peers, lazy_peers}
 use Rattle.protocol.specs.State.{State, Counts, Settings, Limits, created, create}
@@ -32,7 +32,7 @@ Never f past = any f past ≡ false
 -- the event tells this peer up
 unfoldable pub is_up : ℕ → Event → Bool
 is_up p (Received q m) = false
-is_up p (Broadcast content scope) = false
+is_up p (Broadcast content) = false
 is_up p (Fired t) = false
 is_up p (Up as_quiet q) = eqb p q
 is_up p (Down q) = false
@@ -40,7 +40,7 @@ is_up p (Down q) = false
 -- the event tells this peer down
 unfoldable pub is_down : ℕ → Event → Bool
 is_down p (Received q m) = false
-is_down p (Broadcast content scope) = false
+is_down p (Broadcast content) = false
 is_down p (Fired t) = false
 is_down p (Up as_quiet q) = false
 is_down p (Down q) = eqb p q
@@ -84,15 +84,14 @@ took_gossip p (IHave hs) actions = None
 
 module _ (hash : List ℕ → ℕ) where
   -- "or a Swarm broadcast of size at most M, which came from the panel"
-  unfoldable pub took_broadcast : Settings → List ℕ → Scope → Option Took
-  took_broadcast c content to_swarm =
-      if leb (gossip_size (length content) to_swarm) c.max_message_size then Some (record { id = hash content; from = c.me }) else None
-  took_broadcast c content to_neighbors = None
+  unfoldable pub took_broadcast : Settings → List ℕ → Option Took
+  took_broadcast c content =
+      if leb (gossip_size (length content)) c.max_message_size then Some (record { id = hash content; from = c.me }) else None
 
   -- what an event with these actions takes in
   unfoldable pub took_by_event : Settings → Event → List Action → Option Took
   took_by_event c (Received p m) actions = took_gossip p m actions
-  took_by_event c (Broadcast content scope) actions = took_broadcast c content scope
+  took_by_event c (Broadcast content) actions = took_broadcast c content
   took_by_event c (Fired t) actions = None
   took_by_event c (Up as_quiet p) actions = None
   took_by_event c (Down p) actions = None
@@ -117,7 +116,7 @@ announces_in p id (Received q (IHave hs)) = eqb q p && lists id hs
 announces_in p id (Received q (Gossip j content d)) = false
 announces_in p id (Received q Prune) = false
 announces_in p id (Received q (Graft wanted round)) = false
-announces_in p id (Broadcast content scope) = false
+announces_in p id (Broadcast content) = false
 announces_in p id (Fired t) = false
 announces_in p id (Up as_quiet q) = false
 announces_in p id (Down q) = false
@@ -204,7 +203,7 @@ scheduled t a = by_action (schedules_tick t) a
 -- the event is this timer's
 unfoldable pub fires_tick : Tick → Event → Bool
 fires_tick t (Received p m) = false
-fires_tick t (Broadcast content scope) = false
+fires_tick t (Broadcast content) = false
 fires_tick t (Fired timer) = is_tick t timer
 fires_tick t (Up as_quiet p) = false
 fires_tick t (Down p) = false

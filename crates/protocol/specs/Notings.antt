@@ -4,7 +4,7 @@ use Rattle.std.specs.Prelude.{ℕ, suc, ◌≡◌, true, false, not, List, [], �
 use Rattle.storage.specs.Lists.Base.{◌▷◌, any}
 use Rattle.storage.specs.Lists.Map.{keys}
 use Rattle.time_cache.specs.TimeCache.{get, holds}
-use Rattle.postcard.specs.Message.{Delivery, Swarm, Neighbors, Scope, to_swarm, to_neighbors, Ihave, Message, Gossip, Prune, Graft, IHave, Timer, SendGraft, DispatchLazyPush, EvictCache, AnnounceDropped, Event, Received, Broadcast, Fired, Up, Down}
+use Rattle.postcard.specs.Message.{Delivery, Swarm, Neighbors, Ihave, Message, Gossip, Prune, Graft, IHave, Timer, SendGraft, DispatchLazyPush, EvictCache, AnnounceDropped, Event, Received, Broadcast, Fired, Up, Down}
 use Rattle.protocol.specs.Links.{is_neighbour, add_eager}
 use Rattle.protocol.specs.State.{State, Counts, Note, Cached, with_queue}
 use Rattle.protocol.specs.Run.{Run, Room, begin, with_state, with_counts, takes, send, emit}
@@ -51,19 +51,15 @@ unfoldable pub note_for_each' : List ℕ → Ihave → Account → Account
 note_for_each' [] h a = a
 note_for_each' (p ∷ ps) h a = note_for_each' ps h (note_dropped' p (h ∷ []) a)
 
--- `note_after`
-unfoldable pub note_after' : List ℕ → ℕ → Delivery → Account → Account
-note_after' back id (Swarm round) a = note_for_each' back (record { id = id; round = round }) a
-note_after' back id Neighbors a = a
-
 -- `push_to`
-unfoldable pub push_to' : List ℕ → ℕ → List ℕ → Delivery → Account → Account
-push_to' peers id content d a =
-    a ▷ plain (send_each peers (Gossip id content d)) ▷ note_after' (handed_back peers (Gossip id content d) a.run) id d
+unfoldable pub push_to' : List ℕ → ℕ → List ℕ → ℕ → Account → Account
+push_to' peers id content round a =
+    a ▷ plain (send_each peers (Gossip id content (Swarm round)))
+    ▷ note_for_each' (handed_back peers (Gossip id content (Swarm round)) a.run) (record { id = id; round = round })
 
 -- `eager_push`
-unfoldable pub eager_push' : ℕ → List ℕ → Delivery → ℕ → List ℕ → Account → Account
-eager_push' id content d sender skip a = push_to' (eager_targets sender skip a.run.state) id content d a
+unfoldable pub eager_push' : ℕ → List ℕ → ℕ → ℕ → List ℕ → Account → Account
+eager_push' id content round sender skip a = push_to' (eager_targets sender skip a.run.state) id content round a
 
 -- `send_ihave`
 unfoldable pub send_ihave' : ℕ → List Ihave → Account → Account
@@ -71,7 +67,7 @@ send_ihave' p hs a = if takes p a.run then plain (send p (IHave hs)) a else note
 
 -- `push_on`
 unfoldable pub push_on' : ℕ → List ℕ → ℕ → ℕ → Account → Account
-push_on' id content round sender a = eager_push' id content (Swarm round) sender (keys (grafted_for id a.run.state)) a
+push_on' id content round sender a = eager_push' id content round sender (keys (grafted_for id a.run.state)) a
 
 -- `take_in`
 unfoldable pub take_in' : ℕ → ℕ → ℕ → List ℕ → ℕ → Account → Account
@@ -142,18 +138,17 @@ module _ (hash : List ℕ → ℕ) where
       else on_new' now sender id content d a
 
   -- `broadcast_to`
-  unfoldable pub broadcast_to' : ℕ → List ℕ → Scope → Account → Account
-  broadcast_to' now content to_swarm a =
+  unfoldable pub broadcast_to' : ℕ → List ℕ → Account → Account
+  broadcast_to' now content a =
       a ▷ plain (mark_received now (hash content))
       ▷ plain (cache_at now (hash content) content 0)
       ▷ plain (lazy_push (hash content) 0 a.run.state.settings.me)
-      ▷ eager_push' (hash content) content (Swarm 0) a.run.state.settings.me []
-  broadcast_to' now content to_neighbors a = a ▷ eager_push' (hash content) content Neighbors a.run.state.settings.me []
+      ▷ eager_push' (hash content) content 0 a.run.state.settings.me []
 
   -- `broadcast`
-  unfoldable pub broadcast' : ℕ → List ℕ → Scope → Account → Account
-  broadcast' now content scope a =
-      if ltb a.run.state.settings.max_message_size (gossip_size (length content) scope) then a else broadcast_to' now content scope a
+  unfoldable pub broadcast' : ℕ → List ℕ → Account → Account
+  broadcast' now content a =
+      if ltb a.run.state.settings.max_message_size (gossip_size (length content)) then a else broadcast_to' now content a
 
   -- `on_message`
   unfoldable pub on_message' : ℕ → ℕ → Message → Account → Account
@@ -169,7 +164,7 @@ module _ (hash : List ℕ → ℕ) where
   -- `handle`
   unfoldable pub handle' : ℕ → Event → Account → Account
   handle' now (Received p m) a = a ▷ plain (first_event now) ▷ handle_message' now p m
-  handle' now (Broadcast content scope) a = a ▷ plain (first_event now) ▷ broadcast' now content scope
+  handle' now (Broadcast content) a = a ▷ plain (first_event now) ▷ broadcast' now content
   handle' now (Fired t) a = a ▷ plain (first_event now) ▷ on_timer' now t
   handle' now (Up as_quiet p) a = plain (on_neighbor_up as_quiet p) a
   handle' now (Down p) a = plain (on_neighbor_down p) a

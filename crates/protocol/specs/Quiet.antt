@@ -7,7 +7,7 @@ use Rattle.protocol.specs.NoNeighbourPassedOver.{by_event, is_up, tells_down}
 -- the event tells this peer up as quiet
 unfoldable pub is_up_quiet : ℕ → Event → Bool
 is_up_quiet p (Received q m) = false
-is_up_quiet p (Broadcast content scope) = false
+is_up_quiet p (Broadcast content) = false
 is_up_quiet p (Fired t) = false
 is_up_quiet p (Up as_quiet q) = eqb p q && as_quiet
 is_up_quiet p (Down q) = false

@@ -5,7 +5,7 @@ use Rattle.std.specs.Prelude.{ℕ, suc, ◌≡◌, Bool, true, false, not, ◌&&
 use Rattle.storage.specs.Lists.Base.{any, member}
 use Rattle.storage.specs.Lists.Map.{has}
 use Rattle.time_cache.specs.TimeCache.{get}
-use Rattle.postcard.specs.Message.{Swarm, Neighbors, to_swarm, to_neighbors, Message, Gossip, Prune, Graft, IHave, Event, Received, Broadcast, Action, Sent, Scheduled, Emitted, Forgotten}
+use Rattle.postcard.specs.Message.{Swarm, Neighbors, Message, Gossip, Prune, Graft, IHave, Event, Received, Broadcast, Action, Sent, Scheduled, Emitted, Forgotten}
 use Rattle.protocol.specs.Links.{is_neighbour, eager_peers, lazy_peers}
 use Rattle.protocol.specs.State.{State, Counts, Settings, Limits, Cached, created, create}
 use Rattle.protocol.specs.Run.{Run}
@@ -51,11 +51,8 @@ pub data Due (hash : List ℕ → ℕ) (s : State) (e : Event) (r : Run) (p : �
   passed_on : (from id round : ℕ) (content : List ℕ) → e ≡ Received from (Gossip id content (Swarm round)) → took hash s.settings (accept e r) ≡ Some (record { id = id; from = from }) →
       tree_link p s ≡ true → eqb p from ≡ false → has p (grafted_for id r.state) ≡ false → Due hash s e r p (Gossip id content (Swarm (suc round)))
   -- a Swarm broadcast that the call takes in: to each tree link
-  broadcast_by_us : (content : List ℕ) → e ≡ Broadcast content to_swarm → took hash s.settings (accept e r) ≡ Some (record { id = hash content; from = s.settings.me }) →
+  broadcast_by_us : (content : List ℕ) → e ≡ Broadcast content → took hash s.settings (accept e r) ≡ Some (record { id = hash content; from = s.settings.me }) →
       tree_link p s ≡ true → Due hash s e r p (Gossip (hash content) content (Swarm 0))
-  -- a Neighbors broadcast of size at most M: to each tree link
-  for_neighbours : (content : List ℕ) → e ≡ Broadcast content to_neighbors → leb (gossip_size (length content) to_neighbors) s.settings.max_message_size ≡ true →
-      tree_link p s ≡ true → Due hash s e r p (Gossip (hash content) content Neighbors)
   -- a message that this peer, a neighbour, asks for by a Graft that names it: as it is cached, over a link of either kind
   asked_for : (id round : ℕ) (m : Cached) → e ≡ Received p (Graft (Some id) round) → is_neighbour p s.links ≡ true → get id r.state.cache ≡ Some m →
       Due hash s e r p (Gossip id m.content (Swarm m.round))

@@ -34,7 +34,7 @@ module _ (hash : List ℕ → ℕ) where
   -- the Rust's `handle`
   unfoldable pub rust_handle : ℕ → Event → Run → Run
   rust_handle now (Received p m) r = r ▷ rust_first now ▷ handle_message hash now p m
-  rust_handle now (Broadcast content scope) r = r ▷ rust_first now ▷ broadcast hash now content scope
+  rust_handle now (Broadcast content) r = r ▷ rust_first now ▷ broadcast hash now content
   rust_handle now (Fired t) r = r ▷ rust_first now ▷ rust_timer now t
   rust_handle now (Up as_quiet p) r = on_neighbor_up as_quiet p r
   rust_handle now (Down p) r = on_neighbor_down p r
@@ -73,7 +73,7 @@ cache_first now s = if s.init then s.cache else expire_until now s.cache
 -- "the identifiers that evictions in the call removed from that cache": one by the first event, one by EvictCache
 unfoldable pub evicted_in : ℕ → Event → State → List ℕ
 evicted_in now (Received p m) s = evicted_first now s
-evicted_in now (Broadcast content scope) s = evicted_first now s
+evicted_in now (Broadcast content) s = evicted_first now s
 evicted_in now (Fired (SendGraft id)) s = evicted_first now s
 evicted_in now (Fired DispatchLazyPush) s = evicted_first now s
 evicted_in now (Fired EvictCache) s = evicted_first now s ++ expired_keys now (cache_first now s)

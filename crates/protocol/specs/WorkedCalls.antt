@@ -1,9 +1,9 @@
 -- The specification, "Calls worked through": the starred examples, as one statement about the definitions.
 -- Assumes nothing.
-use Rattle.std.specs.Prelude.{ℕ, ◌≡◌, true, false, List, [], ◌∷◌, ◌++◌, None, replicate}
+use Rattle.std.specs.Prelude.{ℕ, ◌≡◌, true, false, List, [], ◌∷◌, ◌++◌, length, None, replicate}
 use Rattle.storage.specs.Lists.Base.{◌▷◌}
 use Rattle.postcard.specs.Number.{got, number_bytes, read_round}
-use Rattle.postcard.specs.Message.{Swarm, to_swarm, to_neighbors, Gossip, Prune, Graft, IHave, DispatchLazyPush, Received, Sent, Scheduled, Emitted}
+use Rattle.postcard.specs.Message.{Swarm, Neighbors, Gossip, Prune, Graft, IHave, DispatchLazyPush, Received, Sent, Scheduled, Emitted, message_bytes}
 use Rattle.time_cache.specs.TimeCache.{holds}
 use Rattle.protocol.specs.State.{fresh, zero_counts}
 use Rattle.protocol.specs.Run.{Run, begin}
@@ -44,14 +44,14 @@ zeros n = replicate n 0
 -- the starred calls, and the example of `panelrun`
 pub record WorkedCalls (hash : List ℕ → ℕ) : Type 0 where
   -- "Size, Swarm: 0 → 38; 127 → 165; 128 → 167. Neighbors 0 → 35"
-  pub size0 : gossip_size 0 to_swarm ≡ 38
-  pub size127 : gossip_size 127 to_swarm ≡ 165
-  pub size128 : gossip_size 128 to_swarm ≡ 167
-  pub size_neighbors : gossip_size 0 to_neighbors ≡ 35
+  pub size0 : gossip_size 0 ≡ 38
+  pub size127 : gossip_size 127 ≡ 165
+  pub size128 : gossip_size 128 ≡ 167
+  pub size_neighbors : (id : ℕ) → length (message_bytes (Gossip id [] Neighbors)) ≡ 35
   -- "M 510: content 471 is sent, 472 isn't"
-  pub sent471 : (panel 510 ▷ on_neighbor_up false 2 ▷ broadcast hash 0 (zeros 471) to_swarm).actions
+  pub sent471 : (panel 510 ▷ on_neighbor_up false 2 ▷ broadcast hash 0 (zeros 471)).actions
       ≡ (Scheduled 5 DispatchLazyPush ∷ Sent 2 true (Gossip (hash (zeros 471)) (zeros 471) (Swarm 0)) ∷ [])
-  pub unsent472 : (panel 510 ▷ on_neighbor_up false 2 ▷ broadcast hash 0 (zeros 472) to_swarm).actions ≡ []
+  pub unsent472 : (panel 510 ▷ on_neighbor_up false 2 ▷ broadcast hash 0 (zeros 472)).actions ≡ []
   -- "IHave 14 per message; M 4,094: 116"
   pub ihave510 : per_message 510 ≡ 14
   pub ihave4094 : per_message 4094 ≡ 116

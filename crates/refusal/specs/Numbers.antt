@@ -2,7 +2,7 @@
 -- Assumes nothing.
 use Rattle.std.specs.Prelude.{ℕ, Result, Ok, Err}
 use Rattle.refusal.specs.declared.Refusal.{Refusal}
-use Rattle.refusal.specs.declared.Refusal.TheVariants.{MessageSizeOutOfRange, DurationTooLong, LimitOutOfRange, BlockTooShort, BlockNotWhole, TimeTooLate, EventCut, EventMalformed, EventTooLong, MessageTooLong, CountsFull, NoMoreHops, LimitReached, OutputTooShort, NameNotKept, NamesFull, AreaNotWhole}
+use Rattle.refusal.specs.declared.Refusal.TheVariants.{MessageSizeOutOfRange, DurationTooLong, LimitOutOfRange, BlockTooShort, BlockNotWhole, TimeTooLate, EventCut, EventMalformed, EventTooLong, MessageTooLong, CountsFull, NoMoreHops, LimitReached, OutputTooShort, NameNotKept, NamesFull, AreaNotWhole, NeighborsBroadcast}
 
 -- the question that was answered no
 abbrev pub number_of : Refusal → ℕ
@@ -23,6 +23,7 @@ number_of OutputTooShort = 14
 number_of NameNotKept = 15
 number_of NamesFull = 16
 number_of AreaNotWhole = 17
+number_of NeighborsBroadcast = 23
 
 -- what a call answers: "Answer 0 is yes to all", and else the number of the refusal
 abbrev pub answer_of : {A : Type 0} → Result A Refusal → ℕ

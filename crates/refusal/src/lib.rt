@@ -1,12 +1,12 @@
 // Why a call is refused: the specification's questions, by their numbers.
 #![tactic(auto)]
 
-ghost use Rattle.std.specs.Prelude.{◌≡◌, ◌<◌, ◌⊎◌, IfSome, IfNone};
+ghost use Rattle.std.specs.Prelude.{◌≡◌, ◌≢◌, ◌<◌, ◌×◌, ◌⊎◌, IfSome, IfNone};
 
 use std::error::Error;
 use std::fmt;
 
-// The question that was answered no, by its number; 15 to 17 are the ones that savings and returns add.
+// The question that was answered no, by its number; 15 to 17 are those of savings and returns, 23 that of a broadcast for neighbours alone.
 #[derive(Clone, Copy, Debug, PartialEq, Eq)]
 pub enum Refusal {
     MessageSizeOutOfRange = 1,
@@ -26,6 +26,7 @@ pub enum Refusal {
     NameNotKept = 15,
     NamesFull = 16,
     AreaNotWhole = 17,
+    NeighborsBroadcast = 23,
 }
 
 impl Refusal {
@@ -34,7 +35,7 @@ impl Refusal {
     // The refusal with this number, if one has it.
     pub fn of(number: u8) -> Option<Refusal>
         ensures known { IfSome result (λ r. number_of r ≡ number) }
-        ensures unknown { IfNone result ((number ≡ 0) ⊎ (17 < number)) }
+        ensures unknown { IfNone result ((number ≡ 0) ⊎ ((17 < number) × (number ≢ 23))) }
     {
         Some(match number {
             1 => Refusal::MessageSizeOutOfRange,
@@ -54,6 +55,7 @@ impl Refusal {
             15 => Refusal::NameNotKept,
             16 => Refusal::NamesFull,
             17 => Refusal::AreaNotWhole,
+            23 => Refusal::NeighborsBroadcast,
             _ => return None,
         })
     }
@@ -86,6 +88,7 @@ impl Refusal {
             Refusal::NamesFull => "four states are kept under other names",
             Refusal::AreaNotWhole =>
                 "the area is too short, damaged, or of blocks of another length",
+            Refusal::NeighborsBroadcast => "neighbours-only broadcasts are retired",
         }
     }
 
@@ -112,6 +115,7 @@ impl Refusal {
             Refusal::NamesFull => "saving a fifth name",
             Refusal::AreaNotWhole =>
                 "an area too short, or one that savings of blocks of this length couldn't have left",
+            Refusal::NeighborsBroadcast => "Is it anything but a Neighbors broadcast?",
         }
     }
 }

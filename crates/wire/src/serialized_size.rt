@@ -1,11 +1,9 @@
 // The specification's two sizes: whether a broadcast is sent, and how many entries an IHave takes.
 ghost use Rattle.std.specs.Prelude.{◌≡◌, ◌≤◌, leb};
 ghost use Rattle.postcard.specs.Number.{number_length};
-ghost use Rattle.postcard.specs.Values.{scope_value};
 ghost use Rattle.postcard.specs.Sizes.{gossip_size, per_message};
 
 use crate::encode;
-use postcard::message::Scope;
 
 // "its length's groups": how many bytes a number takes.
 #[tactic(auto, unfolding(postcard::specs::Number::number_length))]
@@ -15,22 +13,14 @@ fn number_size(v: u64) -> usize
     encode::size(&v)
 }
 
-// The largest size of a Gossip without content: the largest round takes three bytes.
-#[tactic(auto, unfolding(postcard::specs::Number::groups, postcard::specs::Number::number_bytes, postcard::specs::Number::number_length, postcard::specs::Sizes::gossip_size))]
-fn empty_gossip_size(scope: Scope) -> usize
-    ensures { result ≡ gossip_size 0 (scope_value scope) }
-{
-    match scope {
-        Scope::Swarm => 38,
-        Scope::Neighbors => 35,
-    }
-}
+// The largest size of a Gossip's fields but its content and that content's length: a kind, an identifier, a kind of delivery, and three bytes of the largest round.
+const GOSSIP_FIELDS: usize = 37;
 
-// Whether a broadcast of this content, of any length, is sent: its size (`max_gossip_size`), "content + its length's groups + 37, or 34 for Neighbors", is at most M.
-pub fn broadcast_fits(len: usize, scope: Scope, max: usize) -> bool
-    ensures { result ≡ leb (gossip_size len (scope_value scope)) max }
+// Whether a broadcast of this content, of any length, is sent: its size (`max_gossip_size`), "content + its length's groups + 37", is at most M.
+pub fn broadcast_fits(len: usize, max: usize) -> bool
+    ensures { result ≡ leb (gossip_size len) max }
 {
-    let prefix = empty_gossip_size(scope) - 1 + number_size(len as u64);
+    let prefix = GOSSIP_FIELDS + number_size(len as u64);
     if max < prefix {
         return false;
     }

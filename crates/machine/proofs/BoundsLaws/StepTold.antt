@@ -6,7 +6,7 @@ use native.Mathlib.Omega.{arith}
 use lib.ListN.{length}
 use Rattle.storage.specs.Lists.Base.{concat_map}
 use Rattle.storage.specs.Rows.Ident.{id_of}
-use Rattle.postcard.specs.Message.{Neighbors, to_swarm, to_neighbors, action_bytes}
+use Rattle.postcard.specs.Message.{Neighbors, action_bytes}
 use Rattle.postcard.specs.Values.{wanted_value}
 use Rattle.wire.specs.Reader.Values.{ihaves_value}
 use Rattle.wire.proofs.ReaderLaws.AnnouncedLaws.{announced_count}

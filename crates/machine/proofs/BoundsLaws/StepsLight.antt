@@ -11,7 +11,7 @@ use Rattle.storage.specs.Lists.Base.{is_empty, member}
 use Rattle.storage.specs.Lists.Map.{keys}
 use Rattle.storage.proofs.ListsLaws.MapLaws.{cases}
 use Rattle.time_cache.specs.TimeCache.{get, holds, expired_keys}
-use Rattle.postcard.specs.Message.{Delivery, Swarm, Neighbors, Scope, to_swarm, to_neighbors, Ihave, Gossip, SendGraft, DispatchLazyPush, EvictCache, AnnounceDropped, Scheduled, Emitted, Forgotten}
+use Rattle.postcard.specs.Message.{Delivery, Swarm, Neighbors, Ihave, Gossip, SendGraft, DispatchLazyPush, EvictCache, AnnounceDropped, Scheduled, Emitted, Forgotten}
 use Rattle.protocol.specs.Links.{is_neighbour, eager_in}
 use Rattle.protocol.specs.State.{State, Hop, Cached}
 use Rattle.protocol.specs.Run.{Room}
@@ -104,7 +104,7 @@ ihave-light hs s h =
     light-more (light-each (λ i. Scheduled s.settings.graft_timeout_1 (SendGraft i)) 44 (λ i. scheduled-few s.settings.graft_timeout_1 (SendGraft i)) (new_ids (known_timer s) [] hs))
     (omega (arith, new-few (known_timer s) [] hs))
 
-pub broadcast-light : (rooms : List Room) (id : ℕ) (content : List ℕ) (scope : Scope) (s : State) → Small s → length content ≤ 4094 → Light 133208 (broadcast_actions rooms id content scope s)
+pub broadcast-light : (rooms : List Room) (id : ℕ) (content : List ℕ) (s : State) → Small s → length content ≤ 4094 → Light 133208 (broadcast_actions rooms id content s)
 unfolding broadcast_actions
 broadcast-light rooms id content to_swarm s small h =
     light-more

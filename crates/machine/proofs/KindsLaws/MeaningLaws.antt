@@ -18,9 +18,9 @@ use Rattle.std.specs.Borrow.{Bor}
 use Rattle.storage.specs.declared.rows.id.Id.{Id}
 use Rattle.blake3.specs.Blake3.{identifier}
 use Rattle.time_cache.specs.TimeCache.{holds}
-use Rattle.postcard.specs.Message.{Delivery, Swarm, Neighbors, Scope, to_swarm, to_neighbors, Ihave, Message, Gossip, Prune, Graft, IHave, Received, Broadcast, Fired, SendGraft, DispatchLazyPush, EvictCache, AnnounceDropped, ihave_bytes, message_bytes}
+use Rattle.postcard.specs.Message.{Delivery, Swarm, Neighbors, Ihave, Message, Gossip, Prune, Graft, IHave, Received, Broadcast, Fired, SendGraft, DispatchLazyPush, EvictCache, AnnounceDropped, ihave_bytes, message_bytes}
 use Rattle.postcard.specs.Sizes.{gossip_size}
-use Rattle.postcard.specs.Values.{delivery_value, wanted_value, scope_value}
+use Rattle.postcard.specs.Values.{delivery_value, wanted_value}
 use Rattle.wire.specs.Reader.Values.{ihaves_value}
 use Rattle.postcard.specs.declared.message.Delivery as declared
 use Rattle.postcard.specs.declared.message.Delivery.TheVariants as delivery
@@ -243,10 +243,10 @@ module _ (now : ℕ) (s : State) (sender link : ℕ) (core : CoreOf s) (there : 
   means-known-ihave hs k = means-message now s step.Nothing sender (IHave hs) core refl (does-known-ihave hs (settled now s) there-settled k) tt tt
 
 -- a broadcast of size over M
-pub means-oversize : (now : ℕ) (s : State) (content : List ℕ) (scope : Scope) → CoreOf s → ltb s.settings.max_message_size (gossip_size (length content) scope) ≡ true →
-    Means now s step.Nothing (Broadcast content scope)
+pub means-oversize : (now : ℕ) (s : State) (content : List ℕ) → CoreOf s → ltb s.settings.max_message_size (gossip_size (length content)) ≡ true →
+    Means now s step.Nothing (Broadcast content)
 unfolding too_far_before actions_after state_after counts_after_call counted_for step_far step_actions step_state step_counts
-means-oversize now s content scope c e = record {
+means-oversize now s content c e = record {
   far = refl;
   actions = λ rooms. rw e refl;
   state = λ rooms. rw e (first-settled now s c);
@@ -332,22 +332,22 @@ ihaves-held s link ihaves r t q = record {
   few = omega (arith, max-few s r, announced_count ihaves.count ihaves.bytes.now ihaves.there, length-ihaves (ihaves_value ihaves), ihaves-long (ihaves_value ihaves));
 }
 
-size-long : (n : ℕ) (scope : Scope) → n ≤ gossip_size n scope
+size-long : (n : ℕ) → n ≤ gossip_size n scope
 unfolding gossip_size
 size-long n to_swarm = omega arith
 size-long n to_neighbors = omega arith
 
 -- a broadcast of size at most M
-pub broadcast-held : (s : State) (content : List ℕ) (scope : Scope) → Ranged s → leb (gossip_size (length content) scope) s.settings.max_message_size ≡ true → ContentHeld content
-broadcast-held s content scope r e =
-    record { short = omega (arith, max-few s r, size-long (length content) scope, leb-true (gossip_size (length content) scope) s.settings.max_message_size e) }
+pub broadcast-held : (s : State) (content : List ℕ) → Ranged s → leb (gossip_size (length content)) s.settings.max_message_size ≡ true → ContentHeld content
+broadcast-held s content r e =
+    record { short = omega (arith, max-few s r, size-long (length content) scope, leb-true (gossip_size (length content)) s.settings.max_message_size e) }
 
 over-not : (m n : ℕ) (b : Bool) → leb n m ≡ b → ltb m n ≡ not b
 over-not m n true e = le-ltb m n (leb-true n m e)
 over-not m n false e = lt-ltb m n (leb-false n m e)
 
 -- the same test the other way round
-pub over-of : (s : State) (len : ℕ) (scope : Scope) (b : Bool) → leb (gossip_size len scope) s.settings.max_message_size ≡ b → ltb s.settings.max_message_size (gossip_size len scope) ≡ not b
+pub over-of : (s : State) (len : ℕ) (b : Bool) → leb (gossip_size len scope) s.settings.max_message_size ≡ b → ltb s.settings.max_message_size (gossip_size len scope) ≡ not b
 over-of s len scope b e = over-not s.settings.max_message_size (gossip_size len scope) b e
 
 -- the test of the code

@@ -3,7 +3,7 @@
 use Rattle.std.specs.Prelude.{ℕ, suc, ◌≤◌, ◌<◌, ◌≡◌, Bool, false, List, [], ◌∷◌, ◌++◌, eqb, length}
 use Rattle.storage.specs.Rows.Ident.{id_of}
 use Rattle.blake3.specs.Blake3.{identifier}
-use Rattle.postcard.specs.Message.{Neighbors, to_swarm, to_neighbors, Event, Received, Action, Emitted}
+use Rattle.postcard.specs.Message.{Neighbors, Event, Received, Action, Emitted}
 use Rattle.postcard.specs.Values.{wanted_value}
 use Rattle.wire.specs.Reader.Values.{ihaves_value}
 use Rattle.wire.specs.declared.reader.ihaves.Ihaves.{Ihaves}
@@ -29,8 +29,7 @@ step_actions rooms now (step.NewNeighbors sender content) s = Emitted sender con
 step_actions rooms now (step.Late copy) s = late_actions rooms copy.sender (copy_kind copy s)
 step_actions rooms now (step.Graft link w) s = graft_actions rooms (peer_at s link) (wanted_value w) s
 step_actions rooms now (step.IHave link ihaves) s = ihave_actions (ihaves_value ihaves) s
-step_actions rooms now (step.BroadcastSwarm id content) s = broadcast_actions rooms (id_of id) content.now to_swarm s
-step_actions rooms now (step.BroadcastNeighbors id content) s = broadcast_actions rooms (id_of id) content.now to_neighbors s
+step_actions rooms now (step.Broadcast id content) s = broadcast_actions rooms (id_of id) content.now s
 step_actions rooms now (step.SendGraft id) s = send_graft_actions rooms (id_of id) s
 step_actions rooms now step.DispatchLazyPush s = dispatch_actions rooms s
 step_actions rooms now step.EvictCache s = evict_actions now s
@@ -44,7 +43,7 @@ step_state rooms now (step.Late copy) s = after_late copy s
 step_state rooms now (step.Prune link) s = with_links (add_lazy (peer_at s link) s.links) s
 step_state rooms now (step.Graft link w) s = graft_state rooms (peer_at s link) (wanted_value w) s
 step_state rooms now (step.IHave link ihaves) s = ihave_state (peer_at s link) (ihaves_value ihaves) s
-step_state rooms now (step.BroadcastSwarm id content) s = broadcast_state rooms now (id_of id) content.now to_swarm s
+step_state rooms now (step.Broadcast id content) s = broadcast_state rooms now (id_of id) content.now s
 step_state rooms now (step.SendGraft id) s = send_graft_state now (id_of id) s
 step_state rooms now step.DispatchLazyPush s = dispatch_state rooms s
 step_state rooms now step.EvictCache s = evict now s
@@ -82,8 +81,7 @@ StepHeld s (step.NewNeighbors sender content) = ContentHeld content.now
 StepHeld s (step.Prune link) = link < length s.links
 StepHeld s (step.Graft link w) = link < length s.links
 StepHeld s (step.IHave link ihaves) = ListHeld s link ihaves
-StepHeld s (step.BroadcastSwarm id content) = ContentHeld content.now
-StepHeld s (step.BroadcastNeighbors id content) = ContentHeld content.now
+StepHeld s (step.Broadcast id content) = ContentHeld content.now
 StepHeld s _ = Unit {0}
 
 -- the peer of an event: a received message's sender; 0 for the others

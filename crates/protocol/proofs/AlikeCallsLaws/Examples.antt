@@ -27,7 +27,7 @@ use Rattle.protocol.specs.Panel as Panel
 use Rattle.protocol.specs.Alike as Alike
 use Rattle.protocol.specs.AlikeUnordered as AlikeUnordered
 use Rattle.storage.specs.Lists.Map.{entry}
-use Rattle.postcard.specs.Message.{Swarm, to_swarm, Gossip, Graft, IHave, DispatchLazyPush, AnnounceDropped, Event, Received, Broadcast, Fired, Up, Action, Sent, event_bytes}
+use Rattle.postcard.specs.Message.{Swarm, Gossip, Graft, IHave, DispatchLazyPush, AnnounceDropped, Event, Received, Broadcast, Fired, Up, Action, Sent, event_bytes}
 use Rattle.time_cache.specs.TimeCache.{Cache, Expiry, empty_cache, put}
 use Rattle.protocol.specs.State.{State, Note, fresh, zero_counts, with_queue, with_dropped, with_missing, with_received, with_grafted, with_cache}
 use Rattle.protocol.specs.Whole.{whole}

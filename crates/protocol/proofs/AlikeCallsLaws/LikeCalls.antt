@@ -79,7 +79,7 @@ module _ (hash : List ℕ → ℕ) where
   too_far-same : (v : Event) (s t : State) → s.received ≡ t.received → too_far hash v s ≡ too_far hash v t
   unfolding too_far
   too_far-same (Received p m) s t e = too_far_message-same m s t e
-  too_far-same (Broadcast content scope) s t e = refl
+  too_far-same (Broadcast content) s t e = refl
   too_far-same (Fired x) s t e = refl
   too_far-same (Up as_quiet p) s t e = refl
   too_far-same (Down p) s t e = refl

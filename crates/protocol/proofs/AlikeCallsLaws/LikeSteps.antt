@@ -10,7 +10,7 @@ use Rattle.std.specs.Prelude.{if◌then◌else◌, Option, Some, None}
 use Rattle.storage.specs.Lists.Base.{is_empty, filter, count, any, member}
 use Rattle.storage.specs.Lists.Map.{keys, insert_key}
 use Rattle.time_cache.specs.TimeCache.{holds, get}
-use Rattle.postcard.specs.Message.{Delivery, Swarm, Neighbors, Scope, to_swarm, to_neighbors, Ihave, Message, Gossip, Prune, Graft, IHave, Timer, SendGraft, DispatchLazyPush, EvictCache, AnnounceDropped, Event, Received, Broadcast, Fired, Up, Down, Action, Scheduled, Emitted}
+use Rattle.postcard.specs.Message.{Delivery, Swarm, Neighbors, Ihave, Message, Gossip, Prune, Graft, IHave, Timer, SendGraft, DispatchLazyPush, EvictCache, AnnounceDropped, Event, Received, Broadcast, Fired, Up, Down, Action, Scheduled, Emitted}
 use Rattle.protocol.specs.Links.{Links, lazy_peers, is_neighbour, eager_in, add_eager, add_lazy, link_up}
 use Rattle.protocol.specs.State.{Hop, Note, Grafts, Cached, with_init, with_graft_timers, with_dispatch_scheduled, with_announce_scheduled}
 use Rattle.protocol.specs.Run.{Run, with_state, with_counts, act, send, takes}
@@ -353,18 +353,18 @@ module _ (hash : List ℕ → ℕ) where
       let l = like r q dr q' d' e f in
       like-if (not (eqb (hash content) id)) l (like-if (holds id r.state.received) (like-on_late_graft_reply sender id d l) (like-on_new now sender id content d l))
 
-  like-broadcast_to : {a b : Run} (now : ℕ) (content : List ℕ) (scope : Scope) → Like a b → Like (broadcast_to hash now content scope a) (broadcast_to hash now content scope b)
+  like-broadcast_to : {a b : Run} (now : ℕ) (content : List ℕ) → Like a b → Like (broadcast_to hash now content a) (broadcast_to hash now content b)
   unfolding broadcast_to
-  like-broadcast_to now content to_swarm (like r q d q' d' e f) =
+  like-broadcast_to now content (like r q d q' d' e f) =
       like-eager_push (hash content) content (Swarm 0) r.state.settings.me []
       (like-lazy_push (hash content) 0 r.state.settings.me (like-cache_at now (hash content) content 0 (like-mark_received now (hash content) (like r q d q' d' e f))))
   like-broadcast_to now content to_neighbors (like r q d q' d' e f) = like-eager_push (hash content) content Neighbors r.state.settings.me [] (like r q d q' d' e f)
 
-  like-broadcast : {a b : Run} (now : ℕ) (content : List ℕ) (scope : Scope) → Like a b → Like (broadcast hash now content scope a) (broadcast hash now content scope b)
+  like-broadcast : {a b : Run} (now : ℕ) (content : List ℕ) → Like a b → Like (broadcast hash now content a) (broadcast hash now content b)
   unfolding broadcast
-  like-broadcast now content scope (like r q d q' d' e f) =
+  like-broadcast now content (like r q d q' d' e f) =
       let l = like r q d q' d' e f in
-      like-if (ltb r.state.settings.max_message_size (gossip_size (length content) scope)) l (like-broadcast_to now content scope l)
+      like-if (ltb r.state.settings.max_message_size (gossip_size (length content))) l (like-broadcast_to now content l)
 
   like-on_message : {a b : Run} (now sender : ℕ) (m : Message) → Like a b → Like (on_message hash now sender m a) (on_message hash now sender m b)
   unfolding on_message
@@ -377,7 +377,7 @@ module _ (hash : List ℕ → ℕ) where
   pub like-handle : {a b : Run} (now : ℕ) (v : Event) → Like a b → Like (handle hash now v a) (handle hash now v b)
   unfolding handle handle_message
   like-handle now (Received p m) l = like-on_message now p m (like-count_message m (like-first_event now l))
-  like-handle now (Broadcast content scope) l = like-broadcast now content scope (like-first_event now l)
+  like-handle now (Broadcast content) l = like-broadcast now content (like-first_event now l)
   like-handle now (Fired t) l = like-on_timer now t (like-first_event now l)
   like-handle now (Up as_quiet p) l = like-on_neighbor_up as_quiet p l
   like-handle now (Down p) l = like-on_neighbor_down p l

@@ -15,7 +15,7 @@ use Rattle.storage.proofs.ListsLaws.MapLaws.{cases, true≢, and_left}
 use Rattle.storage.proofs.ListsLaws.Lists.{any_left, any-right, any-filter}
 use Rattle.storage.proofs.ListsLaws.ListLaws.{any-filter-false}
 use Rattle.time_cache.specs.TimeCache.{holds}
-use Rattle.postcard.specs.Message.{Scope, Message, Gossip, Prune, Graft, IHave, SendGraft, DispatchLazyPush, EvictCache, AnnounceDropped, Event, Received, Broadcast, Fired, Up, Down}
+use Rattle.postcard.specs.Message.{Message, Gossip, Prune, Graft, IHave, SendGraft, DispatchLazyPush, EvictCache, AnnounceDropped, Event, Received, Broadcast, Fired, Up, Down}
 use Rattle.protocol.specs.Links.{is_neighbour}
 use Rattle.protocol.specs.State.{Note, with_queue}
 use Rattle.protocol.specs.Run.{Run, with_state, act}
@@ -151,9 +151,9 @@ module _ (p id : ℕ) where
     unfolding handle handle_message
     keeps-received now q m r = (keeps-steps p id).counts (count_message m (first_event now r).counts) (first_event now r) ⨾ keeps-on_message now q m _
 
-    keeps-broadcast : (now : ℕ) (content : List ℕ) (scope : Scope) (r : Run) → Keeps p id (first_event now r) (handle hash now (Broadcast content scope) r)
+    keeps-broadcast : (now : ℕ) (content : List ℕ) (r : Run) → Keeps p id (first_event now r) (handle hash now (Broadcast content) r)
     unfolding handle
-    keeps-broadcast now content scope r = walk-broadcast (Keeps p id) (keeps-steps p id) (keeps-caches p id) hash now content scope (first_event now r)
+    keeps-broadcast now content r = walk-broadcast (Keeps p id) (keeps-steps p id) (keeps-caches p id) hash now content (first_event now r)
 
     keeps-send_graft : (now i : ℕ) (r : Run) → Keeps p id (first_event now r) (handle hash now (Fired (SendGraft i)) r)
     unfolding handle on_timer
@@ -188,7 +188,7 @@ module _ (p id : ℕ) where
     pub recorded-step : (now : ℕ) (e : Event) (r : Run) → r.state.init ≡ true → any (notes p id) r.state.dropped ≡ true → is_down p e ≡ false → After (fires_tick announce_tick e) r (handle hash now e r)
     unfolding handle on_timer fires_tick is_tick is_down on_neighbor_up update_links
     recorded-step now (Received q m) r i h n = kept h (keeps-first now r ⨾ keeps-received now q m r)
-    recorded-step now (Broadcast content scope) r i h n = kept h (keeps-first now r ⨾ keeps-broadcast now content scope r)
+    recorded-step now (Broadcast content) r i h n = kept h (keeps-first now r ⨾ keeps-broadcast now content r)
     recorded-step now (Fired (SendGraft j)) r i h n = kept h (keeps-first now r ⨾ keeps-send_graft now j r)
     recorded-step now (Fired EvictCache) r i h n = kept h (keeps-first now r ⨾ keeps-evict_timer now r)
     recorded-step now (Fired DispatchLazyPush) r i h n = rw (same-first now r i) (dispatch-record r h)
@@ -200,7 +200,7 @@ module _ (p id : ℕ) where
     pub down-step : (now : ℕ) (e : Event) (r : Run) → is_down p e ≡ true → any (notes p id) (handle hash now e r).state.dropped ≡ false
     unfolding handle is_down
     down-step now (Received q m) r d = true≢ d
-    down-step now (Broadcast content scope) r d = true≢ d
+    down-step now (Broadcast content) r d = true≢ d
     down-step now (Fired t) r d = true≢ d
     down-step now (Up as_quiet q) r d = true≢ d
     down-step now (Down q) r d = rw (← eqb-true p q d) (down-own r)
@@ -210,7 +210,7 @@ module _ (p id : ℕ) where
         (handle hash now e r).state.init ≡ true
     unfolding handle on_timer on_neighbor_up update_links on_neighbor_down forget_peer without_notes move_oldest
     begun-step now (Received q m) r b h = (keeps-received now q m r).begun (first-begun now r)
-    begun-step now (Broadcast content scope) r b h = (keeps-broadcast now content scope r).begun (first-begun now r)
+    begun-step now (Broadcast content) r b h = (keeps-broadcast now content r).begun (first-begun now r)
     begun-step now (Fired (SendGraft i)) r b h = (keeps-send_graft now i r).begun (first-begun now r)
     begun-step now (Fired EvictCache) r b h = (keeps-evict_timer now r).begun (first-begun now r)
     begun-step now (Fired DispatchLazyPush) r b h = dispatch-begun (first_event now r) (first-begun now r)
@@ -226,7 +226,7 @@ module _ (p id : ℕ) where
     pub queued-step : (now : ℕ) (e : Event) (r : Run) → any (notes p id) r.state.queue ≡ true → is_down p e ≡ false → fires_tick dispatch_tick e ≡ false → any (notes p id) (handle hash now e r).state.queue ≡ true
     unfolding handle on_timer fires_tick is_tick is_down on_neighbor_up update_links
     queued-step now (Received q m) r h n t = (keeps-first now r ⨾ keeps-received now q m r).queue h
-    queued-step now (Broadcast content scope) r h n t = (keeps-first now r ⨾ keeps-broadcast now content scope r).queue h
+    queued-step now (Broadcast content) r h n t = (keeps-first now r ⨾ keeps-broadcast now content r).queue h
     queued-step now (Fired (SendGraft i)) r h n t = (keeps-first now r ⨾ keeps-send_graft now i r).queue h
     queued-step now (Fired EvictCache) r h n t = (keeps-first now r ⨾ keeps-evict_timer now r).queue h
     queued-step now (Fired DispatchLazyPush) r h n t = true≢ (sym t)
@@ -238,7 +238,7 @@ module _ (p id : ℕ) where
     pub sent-step : (now : ℕ) (e : Event) (r : Run) → 1 ≤ per_message r.state.settings.max_message_size → any (notes p id) r.state.queue ≡ true → fires_tick dispatch_tick e ≡ true → any (announcing p id) (handle hash now e r).actions ≡ true
     unfolding handle on_timer fires_tick is_tick
     sent-step now (Received q m) r one h t = true≢ t
-    sent-step now (Broadcast content scope) r one h t = true≢ t
+    sent-step now (Broadcast content) r one h t = true≢ t
     sent-step now (Fired (SendGraft i)) r one h t = true≢ t
     sent-step now (Fired EvictCache) r one h t = true≢ t
     sent-step now (Fired DispatchLazyPush) r one h t = dispatch-tells p id (first_event now r) (rw (sound-first now r).settings one) ((keeps-first now r).queue h)

@@ -14,7 +14,7 @@ use Rattle.storage.specs.Lists.Map.{Map, keys, has}
 use Rattle.storage.proofs.ListsLaws.MapLaws.{cases, true≢, and_left, and_right, and_intro}
 use Rattle.storage.proofs.ListsLaws.Lists.{or_cases, any_append, any_left, any-filter}
 use Rattle.time_cache.specs.TimeCache.{Cache, get, holds}
-use Rattle.postcard.specs.Message.{Swarm, Neighbors, Scope, to_swarm, to_neighbors, Message, Gossip, Prune, Graft, IHave, SendGraft, DispatchLazyPush, EvictCache, AnnounceDropped, Event, Received, Broadcast, Fired, Up, Down, Emitted}
+use Rattle.postcard.specs.Message.{Swarm, Neighbors, Message, Gossip, Prune, Graft, IHave, SendGraft, DispatchLazyPush, EvictCache, AnnounceDropped, Event, Received, Broadcast, Fired, Up, Down, Emitted}
 use Rattle.protocol.specs.Links.{Links, is_neighbour, eager_in, eager_peers, lazy_peers, add_eager, link_up}
 use Rattle.protocol.specs.State.{State, Settings, Counts, Hop, Grafts, Cached, Note, with_queue}
 use Rattle.protocol.specs.Run.{Run, Room, begin, with_state, with_counts, act, send, takes}
@@ -236,20 +236,20 @@ module _ (hash : List ℕ → ℕ) (s : State) (links-up : ascending (keys s.lin
 
   -- broadcasts
 
-  broadcast-large : (content : List ℕ) (scope : Scope) (r₁ : Run) → Ready s r₁ → leb (gossip_size (length content) scope) s.settings.max_message_size ≡ false → FollowsTree hash s (Broadcast content scope) r₁
-  broadcast-large content scope r₁ b l = follows-plain hash s (Broadcast content scope) r₁ r₁ b (plain-refl r₁) (none scope l) (λ p m d. undue p m d)
+  broadcast-large : (content : List ℕ) (r₁ : Run) → Ready s r₁ → leb (gossip_size (length content)) s.settings.max_message_size ≡ false → FollowsTree hash s (Broadcast content) r₁
+  broadcast-large content r₁ b l = follows-plain hash s (Broadcast content) r₁ r₁ b (plain-refl r₁) (none scope l) (λ p m d. undue p m d)
     where
-      none : (scope : Scope) → leb (gossip_size (length content) scope) s.settings.max_message_size ≡ false → took hash s.settings (accept (Broadcast content scope) r₁) ≡ None
+      none : → leb (gossip_size (length content)) s.settings.max_message_size ≡ false → took hash s.settings (accept (Broadcast content) r₁) ≡ None
       none to_swarm l = unfold took took_by_event took_broadcast in (rw l refl)
       none to_neighbors l = unfold took took_by_event took_broadcast in refl
 
-      undue : (p : ℕ) (m : Message) → Due hash s (Broadcast content scope) r₁ p m → false ≡ true
+      undue : (p : ℕ) (m : Message) → Due hash s (Broadcast content) r₁ p m → false ≡ true
       undue p _ (passed_on from j round content' h t k n g) = cc
       undue p _ (broadcast_by_us content' h t k) = none-some _ (sym (none scope l) ∙ t)
       undue p _ (for_neighbours content' h t k) = cc
       undue p _ (asked_for j round m h n g) = cc
 
-  module _ (now : ℕ) (content : List ℕ) (r₁ : Run) (b : Ready s r₁) (small : leb (gossip_size (length content) to_swarm) s.settings.max_message_size ≡ true) where
+  module _ (now : ℕ) (content : List ℕ) (r₁ : Run) (b : Ready s r₁) (small : leb (gossip_size (length content)) s.settings.max_message_size ≡ true) where
     abbrev own-cached : Run
     own-cached = cache_at now (hash content) content 0 (mark_received now (hash content) r₁)
 
@@ -280,7 +280,7 @@ module _ (hash : List ℕ → ℕ) (s : State) (links-up : ascending (keys s.lin
         (targets-of r₁.state.settings.me [] own-lazied.state s own-links own-settings ∙ ap (λ (x : ℕ). eager_targets x [] s) me-same)
         (pushes (eager_targets r₁.state.settings.me [] own-lazied.state) (hash content) content (Swarm 0) own-lazied)
 
-    own-took : took hash s.settings (accept (Broadcast content to_swarm) own-ended) ≡ Some (record { id = hash content; from = s.settings.me })
+    own-took : took hash s.settings (accept (Broadcast content) own-ended) ≡ Some (record { id = hash content; from = s.settings.me })
     unfolding took took_by_event took_broadcast
     own-took = rw small refl
 
@@ -293,7 +293,7 @@ module _ (hash : List ℕ → ℕ) (s : State) (links-up : ascending (keys s.lin
         own-pushes.payloads p ∙ rw (own-lazily.payloads p, own-plain.payloads p, b.payloads p) (copies-targets p s.settings.me [] s (Gossip (hash content) content (Swarm 0)) links-up)
         ∙ ap (λ (c : Bool). one_if c (Gossip (hash content) content (Swarm 0))) (regroup-own (member p (eager_peers s.links)) (eqb p s.settings.me))
 
-    own-exact : (p : ℕ) → Exact hash s (Broadcast content to_swarm) own-ended p
+    own-exact : (p : ℕ) → Exact hash s (Broadcast content) own-ended p
     own-exact p = record {
       to = tree_link p s;
       payload = Gossip (hash content) content (Swarm 0);
@@ -302,15 +302,15 @@ module _ (hash : List ℕ → ℕ) (s : State) (links-up : ascending (keys s.lin
       alone = λ m d. alone m d;
     }
       where
-        alone : (m : Message) → Due hash s (Broadcast content to_swarm) own-ended p m → (tree_link p s ≡ true) × (Gossip (hash content) content (Swarm 0) ≡ m)
+        alone : (m : Message) → Due hash s (Broadcast content) own-ended p m → (tree_link p s ≡ true) × (Gossip (hash content) content (Swarm 0) ≡ m)
         alone _ (passed_on from j round content' h t l n g) = absurd (let z : false ≡ true = cc in true≢ z)
         alone _ (broadcast_by_us content' h t l) = let c : content ≡ content' = cc in (l, cc)
         alone _ (for_neighbours content' h t l) = absurd (let z : false ≡ true = cc in true≢ z)
         alone _ (asked_for j round' m h n g) = absurd (let z : false ≡ true = cc in true≢ z)
 
-    broadcast-swarm : FollowsTree hash s (Broadcast content to_swarm) own-ended
+    broadcast-swarm : FollowsTree hash s (Broadcast content) own-ended
     broadcast-swarm =
-        follows-by hash s (Broadcast content to_swarm) own-ended own-exact (queued-more hash s (Broadcast content to_swarm) own-ended (hash content) s.settings.me 0 own-took own-queue)
+        follows-by hash s (Broadcast content) own-ended own-exact (queued-more hash s (Broadcast content) own-ended (hash content) s.settings.me 0 own-took own-queue)
         (λ p j. own-pushes.announced p j ∙ own-lazily.announced p j ∙ own-plain.announced p j ∙ b.announced p j)
 
   module _ (content : List ℕ) (r₁ : Run) (b : Ready s r₁) (small : leb (gossip_size (length content) to_neighbors) s.settings.max_message_size ≡ true) where
@@ -350,20 +350,20 @@ module _ (hash : List ℕ → ℕ) (s : State) (links-up : ascending (keys s.lin
         follows-by hash s (Broadcast content to_neighbors) near-ended near-exact (queued-same hash s (Broadcast content to_neighbors) near-ended (near-pushes.queue ∙ b.queue) refl)
         (λ p j. near-pushes.announced p j ∙ b.announced p j)
 
-  broadcasts : (now : ℕ) (content : List ℕ) (scope : Scope) (r₁ : Run) → Ready s r₁ → FollowsTree hash s (Broadcast content scope) (broadcast hash now content scope r₁)
+  broadcasts : (now : ℕ) (content : List ℕ) (r₁ : Run) → Ready s r₁ → FollowsTree hash s (Broadcast content) (broadcast hash now content r₁)
   unfolding broadcast
-  broadcasts now content scope r₁ b =
-      cases (leb (gossip_size (length content) scope) s.settings.max_message_size)
+  broadcasts now content r₁ b =
+      cases (leb (gossip_size (length content)) s.settings.max_message_size)
       (λ e. rw (fits e) (on scope e))
-      (λ e. rw (large e) (broadcast-large content scope r₁ b e))
+      (λ e. rw (large e) (broadcast-large content r₁ b e))
     where
-      fits : leb (gossip_size (length content) scope) s.settings.max_message_size ≡ true → ltb r₁.state.settings.max_message_size (gossip_size (length content) scope) ≡ false
-      fits e = rw b.settings (le-ltb s.settings.max_message_size (gossip_size (length content) scope) (leb-true (gossip_size (length content) scope) s.settings.max_message_size e))
+      fits : leb (gossip_size (length content)) s.settings.max_message_size ≡ true → ltb r₁.state.settings.max_message_size (gossip_size (length content)) ≡ false
+      fits e = rw b.settings (le-ltb s.settings.max_message_size (gossip_size (length content)) (leb-true (gossip_size (length content)) s.settings.max_message_size e))
 
-      large : leb (gossip_size (length content) scope) s.settings.max_message_size ≡ false → ltb r₁.state.settings.max_message_size (gossip_size (length content) scope) ≡ true
-      large e = rw b.settings (lt-ltb s.settings.max_message_size (gossip_size (length content) scope) (leb-false (gossip_size (length content) scope) s.settings.max_message_size e))
+      large : leb (gossip_size (length content)) s.settings.max_message_size ≡ false → ltb r₁.state.settings.max_message_size (gossip_size (length content)) ≡ true
+      large e = rw b.settings (lt-ltb s.settings.max_message_size (gossip_size (length content)) (leb-false (gossip_size (length content)) s.settings.max_message_size e))
 
-      on : (scope : Scope) → leb (gossip_size (length content) scope) s.settings.max_message_size ≡ true → FollowsTree hash s (Broadcast content scope) (broadcast_to hash now content scope r₁)
+      on : → leb (gossip_size (length content)) s.settings.max_message_size ≡ true → FollowsTree hash s (Broadcast content) (broadcast_to hash now content r₁)
       on to_swarm e = unfold broadcast_to in (broadcast-swarm now content r₁ b e)
       on to_neighbors e = unfold broadcast_to in (broadcast-near content r₁ b e)
 
@@ -566,7 +566,7 @@ module _ (hash : List ℕ → ℕ) (s : State) (links-up : ascending (keys s.lin
   pub event-follows : (n : Counts) (rooms : List Room) (now : ℕ) (e : Event) → 1 ≤ per_message s.settings.max_message_size → FollowsTree hash s e (ran_on hash s n rooms now e)
   unfolding handle handle_message on_timer on_neighbor_up took took_by_event carrying
   event-follows n rooms now (Received q m) one = received now q m _ (counted _ _ (first-ready now n rooms))
-  event-follows n rooms now (Broadcast content scope) one = broadcasts now content scope _ (first-ready now n rooms)
+  event-follows n rooms now (Broadcast content) one = broadcasts now content _ (first-ready now n rooms)
   event-follows n rooms now (Fired (SendGraft id)) one = follows-idle hash s (Fired (SendGraft id)) _ _ (first-ready now n rooms) (plain-on_send_graft_timer now id _) refl refl
   event-follows n rooms now (Fired DispatchLazyPush) one = ticked-dispatch _ (first-ready now n rooms) one
   event-follows n rooms now (Fired EvictCache) one = follows-idle hash s (Fired EvictCache) _ _ (first-ready now n rooms) (plain-evict now _) refl refl

@@ -5,15 +5,16 @@ use Rattle.postcard.specs.Number.{Read, got, fault}
 use Rattle.postcard.specs.Decode.{Decoded, decoded, faulty}
 use Rattle.refusal.specs.Numbers.{number_of as number_of_refusal}
 use Rattle.refusal.specs.declared.Refusal.{Refusal}
-use Rattle.refusal.specs.declared.Refusal.TheVariants.{EventCut, EventMalformed, EventTooLong, OutputTooShort}
+use Rattle.refusal.specs.declared.Refusal.TheVariants.{EventCut, EventMalformed, EventTooLong, NeighborsBroadcast, OutputTooShort}
 use Rattle.wire.specs.declared.reader.fault.Fault.{Fault}
-use Rattle.wire.specs.declared.reader.fault.Fault.TheVariants.{Ends, Form, Left, Output}
+use Rattle.wire.specs.declared.reader.fault.Fault.TheVariants.{Ends, Form, Left, Retired, Output}
 
 -- the question that is answered no, as a refusal and by its number
 abbrev pub refusal_of : Fault → Refusal
 refusal_of Ends = EventCut
 refusal_of Form = EventMalformed
 refusal_of Left = EventTooLong
+refusal_of Retired = NeighborsBroadcast
 refusal_of Output = OutputTooShort
 
 abbrev pub number_of : Fault → ℕ

@@ -5,7 +5,7 @@ use Rattle.storage.specs.Rows.Ident.{id_of}
 use Rattle.postcard.specs.Message as message
 use Rattle.postcard.specs.Number.{read_number}
 use Rattle.postcard.specs.Decode.{read_ihaves, ihaves_in, rest_of}
-use Rattle.postcard.specs.Values.{delivery_value, scope_value, wanted_value, timer_value}
+use Rattle.postcard.specs.Values.{delivery_value, wanted_value, timer_value}
 use Rattle.wire.specs.declared.reader.ihaves.Ihaves.{Ihaves}
 use Rattle.wire.specs.declared.reader.message.Message.{Message}
 use Rattle.wire.specs.declared.reader.message.Message.TheVariants.{Gossip, Prune, Graft, IHave}
@@ -26,7 +26,7 @@ message_value (IHave hs) = message.IHave (ihaves_value hs)
 -- an event
 abbrev pub event_value : Event → message.Event
 event_value (Received peer size m) = message.Received peer (message_value m)
-event_value (Broadcast content s) = message.Broadcast content.now (scope_value s)
+event_value (Broadcast content) = message.Broadcast content.now
 event_value (Timer t) = message.Fired (timer_value t)
 event_value (Up peer as_quiet) = message.Up as_quiet peer
 event_value (Down peer) = message.Down peer
@@ -34,7 +34,7 @@ event_value (Down peer) = message.Down peer
 -- a received message's size is that of its bytes: all that follow the peer, which stands at the start of these
 abbrev pub SizedBehind : List ℕ → Event → Type 0
 SizedBehind bytes (Received peer size m) = size ≡ length (rest_of (read_number bytes))
-SizedBehind bytes (Broadcast content s) = Unit {0}
+SizedBehind bytes (Broadcast content) = Unit {0}
 SizedBehind bytes (Timer t) = Unit {0}
 SizedBehind bytes (Up peer as_quiet) = Unit {0}
 SizedBehind bytes (Down peer) = Unit {0}

@@ -12,6 +12,8 @@ pub enum Fault {
     Form,
     // (9) "Do the bytes end there?"
     Left,
+    // (23) "Such a broadcast answers 23".
+    Retired,
     // (14) "Do the actions fit the output?"
     Output,
 }
@@ -24,6 +26,7 @@ impl From<Fault> for Refusal {
             Fault::Ends => Refusal::EventCut,
             Fault::Form => Refusal::EventMalformed,
             Fault::Left => Refusal::EventTooLong,
+            Fault::Retired => Refusal::NeighborsBroadcast,
             Fault::Output => Refusal::OutputTooShort,
         }
     }

@@ -5,7 +5,7 @@ use Rattle.std.specs.Prelude.{IfSome, Option, is_some}
 use Rattle.machine.specs.declared.Stats.{Stats}
 use Rattle.blake3.specs.Blake3.{identifier}
 use Rattle.postcard.specs.Message.{Event, Received, Broadcast, Fired}
-use Rattle.postcard.specs.Values.{scope_value, timer_value}
+use Rattle.postcard.specs.Values.{timer_value}
 use Rattle.wire.specs.Reader.Values.{message_value, event_value}
 use Rattle.wire.specs.declared.reader.event.Event.{Event as Read}
 use Rattle.protocol.specs.Links.{link_up}

@@ -6,7 +6,6 @@ use borrow.Author.Tests.{not-false}
 use lib.Dec.{ltb}
 use lib.ListN.{length}
 use Rattle.postcard.specs.Sizes.{gossip_size}
-use Rattle.postcard.specs.Values.{scope_value}
 use Rattle.block.specs.View.{state_of}
 use Rattle.steps.specs.Views.{shown}
 use Rattle.machine.proofs.KindsLaws.MeaningLaws.{means-oversize, means-sent-swarm, means-sent-near, broadcast-held, over-of}

@@ -2,7 +2,7 @@
 use Rattle.std.proofs.Common.{◌≡◌, ℕ, ap, sym, ◌∙◌, refl, arith}
 use mathlib.Core.Path.{subst}
 use Rattle.postcard.specs.Message.{Event, Received, Broadcast, Fired}
-use Rattle.postcard.specs.Values.{scope_value, timer_value}
+use Rattle.postcard.specs.Values.{timer_value}
 use Rattle.wire.specs.Reader.Values.{message_value, event_value}
 use Rattle.wire.specs.declared.reader.event.Event.{Event as Read}
 use Rattle.protocol.specs.State.{State}

@@ -5,7 +5,6 @@ use native.Mathlib.Omega.{arith}
 use borrow.Author.Tests.{lt-leb}
 use lib.Dec.{leb}
 use Rattle.postcard.specs.Sizes.{gossip_size}
-use Rattle.postcard.specs.Values.{scope_value}
 use Rattle.postcard.proofs.Lengths.{number-few, empty-size, size-from-empty, fits_after}
 use Rattle.wire.proofs.serialized_size.broadcast_fits.Goals as goal
 use Rattle.wire.proofs.serialized_size.broadcast_fits.Goals.{After-number_size}

@@ -17,7 +17,7 @@ use wire::encode::message::Gossip;
 use wire::encode::sink::Sink;
 
 // The sends of a push, ascending, and whether any was handed back. Its time is that of one pass over the links.
-pub fn push_sends<S: Sink>(
+fn push_sends<S: Sink>(
     view: &View,
     call: &Call,
     out: &mut S,

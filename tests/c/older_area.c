@@ -4,7 +4,8 @@
  * the same calls without that broadcast lead to the same states. Every lent part is a heap block of exactly its length, so that valgrind sees a step
  * beyond it.
  *
- *     older_area make            writes the area, what was saved and the calls since to standard output; upon that library it made older_area.txt
+ *     older_area make            writes the area, what was saved and the calls since to standard output. Linked with that library, compiled without its
+ *                                proofs (tests/mutants/build.sh), it wrote older_area.txt; with today's it fails at the first such broadcast
  *     older_area FILE            holds the library against such a file
  *
  * The file is words between blanks. Bytes are a length and then runs, each the place of its first byte, a colon, and the bytes in hexadecimal; what

@@ -485,7 +485,7 @@ struct plumtree_answer plumtree_return(uint8_t *block, size_t block_length, stru
  *     neighbour down     04  peer
  *     up, quiet          05  peer
  *
- * "A broadcast event with byte 1 is turned down": 01 in the place of its last byte, once for neighbours alone, is answered 23, and another byte 8.
+ * "A broadcast event with byte 1 is turned down": 01 in the place of its last byte, which was for neighbours alone, is answered 23, and any other byte 8.
  *
  * The actions, one after another:
  *

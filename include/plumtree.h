@@ -99,10 +99,11 @@ extern "C" {
 /*
  * ANSWERS
  *
- * "Answer 0 is yes to all. The first no gives its number". Creation asks 1 to 4, an event 5 to 14, plumtree_alike 5, plumtree_rewrite 7, 8, 9
- * and 14, plumtree_save 5, 17, 16 and plumtree_return 5, 17, 15, each in this order. The questions stand in plumtree_number_text below: 1 to 14 are
- * the specification's from the first, 15 to 17 those of "Named states", which has no question in words but what is answered so. Those of plumtree_rewrite are asked of the message
- * it is lent, and 14 of what it writes. Question 5 of plumtree_return is asked of the block as it is lent.
+ * "Answer 0 is yes to all. The first no gives its number". Creation asks 1 to 4, an event 5 to 9, 23 and 10 to 14, plumtree_alike 5, plumtree_rewrite
+ * 7, 8, 9 and 14, plumtree_save 5, 17, 16 and plumtree_return 5, 17, 15, each in this order. The questions stand in plumtree_number_text below: 1 to 14
+ * are the specification's from the first, 15 to 17 those of "Named states", which has no question in words but what is answered so; of 23 it says "Such a
+ * broadcast answers 23, asked between 9 and 10." Those of plumtree_rewrite are asked of the message it is lent, and 14 of what it writes. Question 5 of
+ * plumtree_return is asked of the block as it is lent.
  */
 enum plumtree_number {
     PLUMTREE_ACCEPTED = 0,
@@ -136,7 +137,10 @@ enum plumtree_number {
     /* Save under one of the four names, or into another area. */
     PLUMTREE_NAMES_FULL = 16,
     /* It is shorter than plumtree_area_size says, did not start as zeros, was written by somebody else, or keeps blocks of another length. */
-    PLUMTREE_AREA_NOT_WHOLE = 17
+    PLUMTREE_AREA_NOT_WHOLE = 17,
+
+    /* A broadcast whose last byte is 01, for neighbours alone. It is refused each time; one for all panels ends with 00. */
+    PLUMTREE_NEIGHBORS_BROADCAST = 23
 };
 
 /* An answer's number as text for people: what it means, then the question, in UTF-8. Plain C, in this header. */
@@ -183,6 +187,8 @@ static inline const char *plumtree_number_text(uint8_t number)
     case PLUMTREE_AREA_NOT_WHOLE:
         return "the area is too short, damaged, or of blocks of another length (question 17: "
                "\"an area too short, or one that savings of blocks of this length couldn't have left\")";
+    case PLUMTREE_NEIGHBORS_BROADCAST:
+        return "neighbours-only broadcasts are retired (question 23: \"Is it anything but a Neighbors broadcast?\")";
     default:
         return "no answer of this library";
     }
@@ -323,7 +329,7 @@ static inline size_t plumtree_output_size(struct plumtree_limits limits, uint64_
     return (most < forgotten ? forgotten : most) + 64;
 }
 
-/* The longest content that a broadcast sends to all panels (Swarm): 4,055 where M is 4,094. Three bytes more for Neighbors. Plain C. */
+/* The longest content that a broadcast sends: 4,055 where M is 4,094. Plain C. */
 static inline size_t plumtree_longest_content(uint64_t max_message_size)
 {
     return (size_t)max_message_size - 39;
@@ -376,8 +382,8 @@ struct plumtree_answer plumtree_create(uint8_t *block, size_t block_length, stru
                                        struct plumtree_limits limits);
 
 /*
- * One event at the time `at`, in milliseconds. Asks 5 to 14 in their order, then does what the specification says of the event. One that is refused
- * has not happened: a timer, an up or a broadcast is told again later, since what waits for it waits on; a message is lost as on a bad
+ * One event at the time `at`, in milliseconds. Asks 5 to 9, 23 and 10 to 14 in this order, then does what the specification says of the event. One that
+ * is refused has not happened: a timer, an up or a broadcast is told again later, since what waits for it waits on; a message is lost as on a bad
  * link, an IHave whole. A clock that starts at 0 again keeps what was taken in before until it has passed the old times, and fills the limits.
  * `rooms` is the link room of this call; none (null, 0): every send is taken.
  * `output` takes the actions: plumtree_output_size bytes are always enough; a host that lends less and is answered 14 calls again with more.
@@ -473,11 +479,13 @@ struct plumtree_answer plumtree_return(uint8_t *block, size_t block_length, stru
  * An event:
  *
  *     received message   00  peer  MESSAGE
- *     broadcast          01  length  content  00 Swarm, 01 Neighbors
+ *     broadcast          01  length  content  00
  *     timer              02  TIMER
  *     neighbour up       03  peer
  *     neighbour down     04  peer
  *     up, quiet          05  peer
+ *
+ * "A broadcast event with byte 1 is turned down": 01 in the place of its last byte, which was for neighbours alone, is answered 23, and any other byte 8.
  *
  * The actions, one after another:
  *
@@ -490,12 +498,12 @@ struct plumtree_answer plumtree_return(uint8_t *block, size_t block_length, stru
  *               Prune    01
  *               Graft    02  00, or 01 and identifier  round
  *               IHave    03  count  (identifier  round) for each
- *     DELIVERY           00  round: Swarm, for all panels        01: Neighbors, for eager neighbours alone
+ *     DELIVERY           00  round: Swarm, for all panels        01: Neighbors, for eager neighbours alone (received and emitted, never sent)
  *     TIMER              00  identifier: SendGraft    01: DispatchLazyPush    02: EvictCache    03: AnnounceDropped
  *
  * Send: the message is for that peer, which need not be a neighbour (a Prune goes to whoever sent a reading twice): without a link to it,
  * drop the message. Taken: put it onto the link. Handed back: the link had no room in this call (struct plumtree_link_room); put nothing
- * there. Of a Swarm Gossip and of an IHave the panel has noted the identifiers and announces them later, unless its record is full
+ * there. Of a Gossip and of an IHave the panel has noted the identifiers and announces them later, unless its record is full
  * (docs/GUARANTEE.md, 3 d); of the other messages it has noted nothing. A Graft that is handed back the host keeps, and puts onto the link when
  * there is room: the panel does not ask this neighbour again, and where no other announces the reading it is lost. A message's length is not
  * written: it ends where its fields end. It can be one byte longer than M: a round that goes from 127 to 128 takes a byte more.
@@ -509,7 +517,8 @@ struct plumtree_answer plumtree_return(uint8_t *block, size_t block_length, stru
  * was kept, of one time the oldest first. One cached anew meanwhile is kept longer, and told once. The identifier is known for message_id_retention,
  * and the content emitted again only after that. A tick that is answered 14 has forgotten nothing.
  *
- * Neighbors: sent once to the eager neighbours, announced to nobody, not sent on; who is lazy or quiet does not get it.
+ * Neighbors: "Messages of that delivery from older panels are still read and emitted." They were sent once, to the older panel's eager neighbours. Here
+ * such a message is counted and emitted; it is not cached, announced to nobody, and not sent on.
  *
  * Up: told at both ends of a link. Who is whose neighbour is the host's business: three each are a good choice. The neighbour gets what is
  * taken in from then on, and not what came before. So each planned neighbour is told up right after creation, and has room 0 until its link is
@@ -528,8 +537,8 @@ struct plumtree_answer plumtree_return(uint8_t *block, size_t block_length, stru
  * a time.
  *
  * A broadcast that would be over M bytes on its way is accepted and sent to nobody: look at its length first (plumtree_longest_content). So a
- * content has at most 4,055 bytes where M is 4,094 and 471 where it is 510, three more for Neighbors: "Size is content + its length's groups
- * + 37, or 34 for Neighbors." A Gossip whose identifier is not that of its content is accepted, counted, and leads to nothing.
+ * content has at most 4,055 bytes where M is 4,094 and 471 where it is 510: "Size is content + its length's groups + 37". A Gossip whose identifier
+ * is not that of its content is accepted, counted, and leads to nothing.
  *
  * Examples, in hexadecimal: `03 02` neighbour 2 is up. `05 02` it is up, quiet. `02 01` DispatchLazyPush fired. `00 05 01` a Prune from 5.
  * `01 05 31 34 35 32 43 00` broadcast of "1452C" to all panels. The action `02 E8 07 02`: schedule EvictCache in 1,000. `04` and 32 bytes: forgotten.

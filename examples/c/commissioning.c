@@ -115,7 +115,7 @@ static void neighbour(uint64_t peer, bool up)
 static void broadcast(const char *reading, const struct plumtree_link_room *rooms, size_t rooms_length)
 {
     uint8_t event[64];
-    tell("broadcast", reading, event, plumtree_put_broadcast(event, reading, strlen(reading), PLUMTREE_DELIVERY_SWARM), rooms, rooms_length);
+    tell("broadcast", reading, event, plumtree_put_broadcast(event, reading, strlen(reading)), rooms, rooms_length);
 }
 
 /* The timers that are due by then, in their order. */

@@ -85,7 +85,7 @@ static void prune(struct panel *p, uint64_t at)
 static void broadcast(struct panel *p, uint64_t at, const char *reading)
 {
     uint8_t event[64];
-    tell(p, at, event, plumtree_put_broadcast(event, reading, strlen(reading), PLUMTREE_DELIVERY_SWARM));
+    tell(p, at, event, plumtree_put_broadcast(event, reading, strlen(reading)));
 }
 
 static void dispatch(struct panel *p, uint64_t at)

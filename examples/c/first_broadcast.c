@@ -159,7 +159,7 @@ int main(void)
     tell(&panel, "neighbour 3 is up", 0, event, plumtree_put_up(event, 3), NULL, 0);
 
     /* The reading goes to both; the link to 3 hands it back, so its identifier is recorded for 3. */
-    tell(&panel, "broadcast", 10, event, plumtree_put_broadcast(event, reading, strlen(reading), PLUMTREE_DELIVERY_SWARM), full, 1);
+    tell(&panel, "broadcast", 10, event, plumtree_put_broadcast(event, reading, strlen(reading)), full, 1);
 
     /* The timers that were scheduled fire: 3 gets the announcement, and may ask for the reading. */
     tell(&panel, "DispatchLazyPush fires", 15, event, plumtree_put_tick(event, PLUMTREE_TIMER_DISPATCH_LAZY_PUSH), NULL, 0);

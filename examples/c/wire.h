@@ -49,15 +49,15 @@ static inline size_t plumtree_put_down(uint8_t *out, uint64_t peer)
     return plumtree_put_number(out, 1, peer);
 }
 
-/* A broadcast of a content: at most 12 bytes more than it has. */
-static inline size_t plumtree_put_broadcast(uint8_t *out, const void *content, size_t content_length, enum plumtree_delivery_kind scope)
+/* A broadcast of a content, to all panels: at most 12 bytes more than it has. */
+static inline size_t plumtree_put_broadcast(uint8_t *out, const void *content, size_t content_length)
 {
     size_t n;
     out[0] = PLUMTREE_EVENT_BROADCAST;
     n = plumtree_put_number(out, 1, content_length);
     memcpy(out + n, content, content_length);
     n += content_length;
-    out[n++] = (uint8_t)scope;
+    out[n++] = PLUMTREE_DELIVERY_SWARM;
     return n;
 }
 

@@ -95,7 +95,7 @@ static void make_eager(struct panel *p, uint8_t peer)
 static void broadcast(struct panel *p, uint64_t at, uint8_t content, bool back)
 {
     uint8_t event[16];
-    tell(p, at, event, plumtree_put_broadcast(event, &content, 1, PLUMTREE_DELIVERY_SWARM), back);
+    tell(p, at, event, plumtree_put_broadcast(event, &content, 1), back);
 }
 
 static void tick(struct panel *p, enum plumtree_timer_kind kind, bool back)

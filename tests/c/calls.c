@@ -1,6 +1,6 @@
 /*
  * The library called from C: that the header's structs are where the library reads them, each refusal and that it touches nothing, each limit that
- * a call can meet, what is forgotten, quiet neighbours, messages rewritten, states saved and returned to, null pointers with length 0. Every lent part is a heap block of exactly its length, so that valgrind sees a
+ * a call can meet, what is forgotten, quiet neighbours, broadcasts for neighbours alone turned down and messages for them taken in, messages rewritten, states saved and returned to, null pointers with length 0. Every lent part is a heap block of exactly its length, so that valgrind sees a
  * step beyond it.
  */
 #include <stdio.h>
@@ -179,7 +179,7 @@ static void settings_in_place(void)
     CHECK(r.left == 0);
 
     /* A broadcast: sent to 2, and not to 7, which is the panel itself. */
-    n = plumtree_put_broadcast(event, "hot", 3, PLUMTREE_DELIVERY_SWARM);
+    n = plumtree_put_broadcast(event, "hot", 3);
     r = tell(&p, 0, event, n);
     schedules(&r, PLUMTREE_TIMER_DISPATCH_LAZY_PUSH, 103);
     while (plumtree_take_action(&r, &a)) {
@@ -245,7 +245,7 @@ static bool optimises(uint16_t threshold, uint8_t announced)
     /* The bytes of a message, from a broadcast of another panel. */
     p = new_panel(s, plumtree_small_limits());
     tell(&p, 0, event, plumtree_put_up(event, 2));
-    r = tell(&p, 0, event, plumtree_put_broadcast(event, "hot", 3, PLUMTREE_DELIVERY_SWARM));
+    r = tell(&p, 0, event, plumtree_put_broadcast(event, "hot", 3));
     while (plumtree_take_action(&r, &a))
         if (a.kind == PLUMTREE_ACTION_SEND) {
             memcpy(message, a.message.bytes, a.message.length);
@@ -388,7 +388,7 @@ static void event_lengths(void)
     static uint8_t content[471], event[12 + PLUMTREE_LEAST_MESSAGE_SIZE];
     uint8_t timer[1 + PLUMTREE_ID_BYTES] = {PLUMTREE_TIMER_SEND_GRAFT};
     CHECK(plumtree_put_received(event, UINT64_MAX, content, sizeof content) == 11 + sizeof content);
-    CHECK(plumtree_put_broadcast(event, content, sizeof content, PLUMTREE_DELIVERY_SWARM) == 4 + sizeof content);
+    CHECK(plumtree_put_broadcast(event, content, sizeof content) == 4 + sizeof content);
     CHECK(plumtree_put_timer(event, timer, sizeof timer) == 34);
     CHECK(plumtree_put_tick(event, PLUMTREE_TIMER_EVICT_CACHE) == sizeof evict && memcmp(event, evict, sizeof evict) == 0);
     CHECK(plumtree_put_up(event, UINT64_MAX) == 11);
@@ -470,7 +470,7 @@ static void events(void)
     /* A message of the last round: that of a broadcast, with its round put to 65,535. */
     q = new_panel(plumtree_default_settings(9), l);
     tell(&q, 0, event, plumtree_put_up(event, 1));
-    r = tell(&q, 0, event, plumtree_put_broadcast(event, "hot", 3, PLUMTREE_DELIVERY_SWARM));
+    r = tell(&q, 0, event, plumtree_put_broadcast(event, "hot", 3));
     while (plumtree_take_action(&r, &a))
         if (a.kind == PLUMTREE_ACTION_SEND) {
             memcpy(message, a.message.bytes, a.message.length);
@@ -523,7 +523,7 @@ static void rooms(void)
     list[1].room = 0;
     list[2].peer = 3;
     list[2].room = 65535;
-    n = plumtree_put_broadcast(event, "hot", 3, PLUMTREE_DELIVERY_SWARM);
+    n = plumtree_put_broadcast(event, "hot", 3);
     answer = plumtree_event(p.block, p.block_length, p.counts, 0, event, n, list, 3, output, sizeof output);
     CHECK(answer.number == PLUMTREE_ACCEPTED);
     r = plumtree_actions_of(output, answer.length);
@@ -539,10 +539,10 @@ static void rooms(void)
 }
 
 /* A broadcast at this time; its identifier, as the send to a neighbour has it. */
-static void broadcast_at(struct panel *p, uint64_t at, const void *content, size_t length, enum plumtree_delivery_kind scope, uint8_t *id)
+static void broadcast_at(struct panel *p, uint64_t at, const void *content, size_t length, uint8_t *id)
 {
     uint8_t event[64];
-    struct plumtree_reader r = tell(p, at, event, plumtree_put_broadcast(event, content, length, scope));
+    struct plumtree_reader r = tell(p, at, event, plumtree_put_broadcast(event, content, length));
     struct plumtree_action a;
     bool sent = false;
     while (plumtree_take_action(&r, &a))
@@ -593,7 +593,7 @@ static void forgotten(void)
     area = (uint8_t *)bytes(area_length, 0);
 
     /* Not before its time; an output that is too short has forgotten nothing. */
-    broadcast_at(&p, 0, "a", 1, PLUMTREE_DELIVERY_SWARM, ids[0]);
+    broadcast_at(&p, 0, "a", 1, ids[0]);
     CHECK(plumtree_save(p.block, p.block_length, *p.counts, area, area_length, 1).number == PLUMTREE_ACCEPTED);
     EVICTS(&p, 4, ids, 0);
     REFUSED(&p, 5, evict, sizeof evict, 4, PLUMTREE_OUTPUT_TOO_SHORT);
@@ -605,21 +605,18 @@ static void forgotten(void)
     EVICTS(&p, 6, ids, 1);
 
     /* Cached anew meanwhile: with its later time, once. */
-    broadcast_at(&p, 10, "a", 1, PLUMTREE_DELIVERY_SWARM, ids[0]);
-    broadcast_at(&p, 13, "a", 1, PLUMTREE_DELIVERY_SWARM, ids[0]);
+    broadcast_at(&p, 10, "a", 1, ids[0]);
+    broadcast_at(&p, 13, "a", 1, ids[0]);
     EVICTS(&p, 15, ids, 0);
     EVICTS(&p, 18, ids, 1);
 
     /* By the time; of one time the oldest first, and one that was cached anew at this time stays where it was. */
-    broadcast_at(&p, 22, "c", 1, PLUMTREE_DELIVERY_SWARM, ids[2]);
-    broadcast_at(&p, 20, "a", 1, PLUMTREE_DELIVERY_SWARM, ids[0]);
-    broadcast_at(&p, 20, "b", 1, PLUMTREE_DELIVERY_SWARM, ids[1]);
-    broadcast_at(&p, 20, "a", 1, PLUMTREE_DELIVERY_SWARM, ids[0]);
+    broadcast_at(&p, 22, "c", 1, ids[2]);
+    broadcast_at(&p, 20, "a", 1, ids[0]);
+    broadcast_at(&p, 20, "b", 1, ids[1]);
+    broadcast_at(&p, 20, "a", 1, ids[0]);
     EVICTS(&p, 30, ids, 3);
 
-    /* A Neighbors broadcast is not cached. */
-    broadcast_at(&p, 40, "d", 1, PLUMTREE_DELIVERY_NEIGHBORS, ids[0]);
-    EVICTS(&p, 50, ids, 0);
     free(area);
     free_panel(p);
 
@@ -628,7 +625,7 @@ static void forgotten(void)
     s.config.message_cache_retention = 20;
     p = new_panel(s, l);
     tell(&p, 0, event, plumtree_put_up(event, 2));
-    broadcast_at(&p, 0, "a", 1, PLUMTREE_DELIVERY_SWARM, ids[0]);
+    broadcast_at(&p, 0, "a", 1, ids[0]);
     EVICTS(&p, 5, ids, 0);
     EVICTS(&p, 20, ids, 1);
     free_panel(p);
@@ -652,7 +649,7 @@ static void all_forgotten(void)
     tell(&p, 0, event, plumtree_put_up(event, 2));
     for (i = 0; i < PLUMTREE_CEILING_CACHED; i++) {
         uint8_t content[2] = {(uint8_t)(i >> 8), (uint8_t)i};
-        broadcast_at(&p, 0, content, sizeof content, PLUMTREE_DELIVERY_SWARM, ids[i]);
+        broadcast_at(&p, 0, content, sizeof content, ids[i]);
     }
     memcpy(q.block, p.block, p.block_length);
     out = (uint8_t *)bytes(most, 0);
@@ -685,7 +682,7 @@ static int sent_of(struct plumtree_reader r, uint64_t peer, uint8_t kind, uint8_
 static bool pushes(struct panel *p, uint64_t peer, const char *content, uint8_t *id)
 {
     uint8_t event[64];
-    struct plumtree_reader r = tell(p, 0, event, plumtree_put_broadcast(event, content, strlen(content), PLUMTREE_DELIVERY_SWARM));
+    struct plumtree_reader r = tell(p, 0, event, plumtree_put_broadcast(event, content, strlen(content)));
     int sends = sent_of(r, peer, PLUMTREE_MESSAGE_GOSSIP, id);
     CHECK(sends < 2);
     return sends == 1;
@@ -746,7 +743,7 @@ static size_t gossip_of(uint8_t *message, uint8_t *id, const char *content, uint
     uint8_t event[64];
     size_t n = 0;
     tell(&q, 0, event, plumtree_put_up(event, 1));
-    r = tell(&q, 0, event, plumtree_put_broadcast(event, content, strlen(content), PLUMTREE_DELIVERY_SWARM));
+    r = tell(&q, 0, event, plumtree_put_broadcast(event, content, strlen(content)));
     while (plumtree_take_action(&r, &a))
         if (a.kind == PLUMTREE_ACTION_SEND) {
             n = a.message.length;
@@ -774,7 +771,7 @@ static void quiet(void)
     /* It leads to no action, as up does, and is no first event: the broadcast schedules the eviction. */
     CHECK(tell(&p, 0, event, plumtree_put_up_quiet(event, 2)).left == 0);
     CHECK(tell(&p, 0, event, plumtree_put_up(event, 3)).left == 0);
-    r = tell(&p, 0, event, plumtree_put_broadcast(event, "a", 1, PLUMTREE_DELIVERY_SWARM));
+    r = tell(&p, 0, event, plumtree_put_broadcast(event, "a", 1));
     CHECK(sent_of(r, 2, PLUMTREE_MESSAGE_GOSSIP, NULL) == 0 && sent_of(r, 3, PLUMTREE_MESSAGE_GOSSIP, id) == 1);
     schedules(&r, PLUMTREE_TIMER_EVICT_CACHE, 1000);
     schedules(&r, PLUMTREE_TIMER_DISPATCH_LAZY_PUSH, 5);
@@ -821,10 +818,6 @@ static void quiet(void)
     CHECK(sent_of(r, 2, PLUMTREE_MESSAGE_GRAFT, NULL) == 1 && sent_of(r, 3, PLUMTREE_MESSAGE_PRUNE, NULL) == 1);
     CHECK(!pushes(&p, 2, "i", NULL));
 
-    /* A Neighbors broadcast does not reach it. */
-    r = tell(&p, 0, event, plumtree_put_broadcast(event, "j", 1, PLUMTREE_DELIVERY_NEIGHBORS));
-    CHECK(r.left == 0);
-
     /* Kind 3 makes it an ordinary, eager neighbour; kind 5 makes that one quiet again; down and up by kind 3 make it eager. */
     tell(&p, 0, event, plumtree_put_up(event, 2));
     CHECK(pushes(&p, 2, "k", NULL));
@@ -847,7 +840,7 @@ static void quiet(void)
     /* What waits for a neighbour stays when it is told quiet: what is queued, and what a link handed back. */
     p = new_panel(plumtree_default_settings(1), plumtree_small_limits());
     tell(&p, 0, event, plumtree_put_up(event, 2));
-    n = plumtree_put_broadcast(event, "a", 1, PLUMTREE_DELIVERY_SWARM);
+    n = plumtree_put_broadcast(event, "a", 1);
     answer = plumtree_event(p.block, p.block_length, p.counts, 0, event, n, &full, 1, output, sizeof output);
     CHECK(answer.number == PLUMTREE_ACCEPTED);
     CHECK(sent_of(plumtree_actions_of(output, answer.length), 2, PLUMTREE_MESSAGE_GOSSIP, id) == 1);
@@ -937,7 +930,7 @@ static void reading(struct pair *x, int end, uint8_t content)
     static const uint8_t dispatch[] = {PLUMTREE_EVENT_TIMER, PLUMTREE_TIMER_DISPATCH_LAZY_PUSH};
     uint8_t event[64];
     int i, emitted = x->emitted;
-    carry(x, end, event, plumtree_put_broadcast(event, &content, 1, PLUMTREE_DELIVERY_SWARM), NULL);
+    carry(x, end, event, plumtree_put_broadcast(event, &content, 1), NULL);
     for (i = 0; i < 2; i++)
         carry(x, i, dispatch, sizeof dispatch, NULL);
     for (i = 0; i < 2; i++) {
@@ -1116,29 +1109,28 @@ static void limits_met(void)
     l = plumtree_small_limits();
     l.received = 1;
     p = two_neighbours(l);
-    CHECK(met(&p, event, plumtree_put_broadcast(event, "a", 1, PLUMTREE_DELIVERY_SWARM)) == PLUMTREE_LIMIT_NONE);
-    CHECK(met(&p, event, plumtree_put_broadcast(event, "b", 1, PLUMTREE_DELIVERY_SWARM)) == PLUMTREE_LIMIT_RECEIVED);
-    CHECK(met(&p, event, plumtree_put_broadcast(event, "a", 1, PLUMTREE_DELIVERY_SWARM)) == PLUMTREE_LIMIT_NONE);
-    CHECK(met(&p, event, plumtree_put_broadcast(event, "a", 1, PLUMTREE_DELIVERY_SWARM)) == PLUMTREE_LIMIT_RECEIVED);
+    CHECK(met(&p, event, plumtree_put_broadcast(event, "a", 1)) == PLUMTREE_LIMIT_NONE);
+    CHECK(met(&p, event, plumtree_put_broadcast(event, "b", 1)) == PLUMTREE_LIMIT_RECEIVED);
+    CHECK(met(&p, event, plumtree_put_broadcast(event, "a", 1)) == PLUMTREE_LIMIT_NONE);
+    CHECK(met(&p, event, plumtree_put_broadcast(event, "a", 1)) == PLUMTREE_LIMIT_RECEIVED);
     free_panel(p);
     l.cached = 1;
     p = two_neighbours(l);
-    CHECK(met(&p, event, plumtree_put_broadcast(event, "a", 1, PLUMTREE_DELIVERY_SWARM)) == PLUMTREE_LIMIT_NONE);
-    CHECK(met(&p, event, plumtree_put_broadcast(event, "b", 1, PLUMTREE_DELIVERY_SWARM)) == PLUMTREE_LIMIT_RECEIVED);
+    CHECK(met(&p, event, plumtree_put_broadcast(event, "a", 1)) == PLUMTREE_LIMIT_NONE);
+    CHECK(met(&p, event, plumtree_put_broadcast(event, "b", 1)) == PLUMTREE_LIMIT_RECEIVED);
     free_panel(p);
     l = plumtree_small_limits();
     l.cached = 1;
     p = two_neighbours(l);
-    CHECK(met(&p, event, plumtree_put_broadcast(event, "a", 1, PLUMTREE_DELIVERY_SWARM)) == PLUMTREE_LIMIT_NONE);
-    CHECK(met(&p, event, plumtree_put_broadcast(event, "b", 1, PLUMTREE_DELIVERY_SWARM)) == PLUMTREE_LIMIT_CACHED);
+    CHECK(met(&p, event, plumtree_put_broadcast(event, "a", 1)) == PLUMTREE_LIMIT_NONE);
+    CHECK(met(&p, event, plumtree_put_broadcast(event, "b", 1)) == PLUMTREE_LIMIT_CACHED);
     free_panel(p);
 
     l = plumtree_small_limits();
     l.content = 3;
     p = two_neighbours(l);
-    CHECK(met(&p, event, plumtree_put_broadcast(event, "abc", 3, PLUMTREE_DELIVERY_SWARM)) == PLUMTREE_LIMIT_NONE);
-    CHECK(met(&p, event, plumtree_put_broadcast(event, "d", 1, PLUMTREE_DELIVERY_SWARM)) == PLUMTREE_LIMIT_CONTENT);
-    CHECK(met(&p, event, plumtree_put_broadcast(event, "d", 1, PLUMTREE_DELIVERY_NEIGHBORS)) == PLUMTREE_LIMIT_NONE);
+    CHECK(met(&p, event, plumtree_put_broadcast(event, "abc", 3)) == PLUMTREE_LIMIT_NONE);
+    CHECK(met(&p, event, plumtree_put_broadcast(event, "d", 1)) == PLUMTREE_LIMIT_CONTENT);
     free_panel(p);
 
     l = plumtree_small_limits();
@@ -1164,16 +1156,16 @@ static void limits_met(void)
     p = two_neighbours(l);
     CHECK(met(&p, prune, sizeof prune) == PLUMTREE_LIMIT_NONE);
     CHECK(met(&p, prune_3, sizeof prune_3) == PLUMTREE_LIMIT_NONE);
-    CHECK(met(&p, event, plumtree_put_broadcast(event, "a", 1, PLUMTREE_DELIVERY_SWARM)) == PLUMTREE_LIMIT_QUEUED);
+    CHECK(met(&p, event, plumtree_put_broadcast(event, "a", 1)) == PLUMTREE_LIMIT_QUEUED);
     free_panel(p);
 
     /* What is handed back is recorded: the limit is met by the link room. */
     l = plumtree_small_limits();
     l.dropped = 1;
     p = two_neighbours(l);
-    CHECK(met_with(&p, event, plumtree_put_broadcast(event, "a", 1, PLUMTREE_DELIVERY_SWARM), none, 2) == PLUMTREE_LIMIT_DROPPED);
-    CHECK(met_with(&p, event, plumtree_put_broadcast(event, "a", 1, PLUMTREE_DELIVERY_SWARM), none, 1) == PLUMTREE_LIMIT_NONE);
-    CHECK(met(&p, event, plumtree_put_broadcast(event, "b", 1, PLUMTREE_DELIVERY_SWARM)) == PLUMTREE_LIMIT_NONE);
+    CHECK(met_with(&p, event, plumtree_put_broadcast(event, "a", 1), none, 2) == PLUMTREE_LIMIT_DROPPED);
+    CHECK(met_with(&p, event, plumtree_put_broadcast(event, "a", 1), none, 1) == PLUMTREE_LIMIT_NONE);
+    CHECK(met(&p, event, plumtree_put_broadcast(event, "b", 1)) == PLUMTREE_LIMIT_NONE);
     free_panel(p);
 
     /* Other questions come first: no panel, a time too late, an event that is none. An output is not asked for. */
@@ -1187,6 +1179,177 @@ static void limits_met(void)
     CHECK(plumtree_limit_met(p.block, p.block_length, 0, NULL, 0, NULL, 0) == PLUMTREE_LIMIT_NONE);
     CHECK(plumtree_limit_met(p.block, p.block_length, 0, event, plumtree_put_up(event, 4) - 1, NULL, 0) == PLUMTREE_LIMIT_NONE);
     CHECK(plumtree_limit_met(p.block, p.block_length, 0, evict, sizeof evict, NULL, 0) == PLUMTREE_LIMIT_NONE);
+    free_panel(p);
+}
+
+/* A broadcast for neighbours alone: 01, length, content, 01. */
+static size_t put_for_neighbours(uint8_t *event, const void *content, size_t length)
+{
+    size_t n = plumtree_put_broadcast(event, content, length);
+    event[n - 1] = 1;
+    return n;
+}
+
+/* It is refused with 23, without an output, with one that is too short for an action and with one for all of them, and meets no limit. */
+static void turned_down(struct panel *p, uint64_t at, const void *content, size_t length, int line)
+{
+    static const size_t output_lengths[] = {0, 3, sizeof output};
+    struct plumtree_link_room full = {2, 0};
+    uint8_t *event = (uint8_t *)bytes(12 + length, 0);
+    size_t n = put_for_neighbours(event, content, length), i;
+    for (i = 0; i < sizeof output_lengths / sizeof *output_lengths; i++)
+        refused(p, at, event, n, output_lengths[i], PLUMTREE_NEIGHBORS_BROADCAST, line);
+    CHECK(plumtree_limit_met(p->block, p->block_length, at, event, n, NULL, 0) == PLUMTREE_LIMIT_NONE);
+    CHECK(plumtree_limit_met(p->block, p->block_length, at, event, n, &full, 1) == PLUMTREE_LIMIT_NONE);
+    free(event);
+}
+
+#define TURNED_DOWN(p, at, content, length) turned_down(p, at, content, length, __LINE__)
+
+/* "A broadcast event with byte 1 is turned down", whatever the panel and the content; 5 to 9 are asked before, and 13 and 14 after. */
+static void neighbours_only(void)
+{
+    static const uint8_t last_is_2[] = {1, 1, 'A', 2}, last_is_padded[] = {1, 1, 'A', 0x81, 0}, length_is_padded[] = {1, 0x81, 0, 'A', 1};
+    static const uint8_t more[] = {1, 1, 'A', 1, 0}, cut[] = {1, 2, 'A', 1}, whole[] = {1, 1, 'A', 1};
+    static const uint8_t prune[] = {PLUMTREE_EVENT_RECEIVED, 2, PLUMTREE_MESSAGE_PRUNE};
+    static const uint8_t dispatch[] = {PLUMTREE_EVENT_TIMER, PLUMTREE_TIMER_DISPATCH_LAZY_PUSH};
+    static uint8_t content[5000];
+    static const size_t lengths[] = {0, 1, 127, 128, 471, 474, 475, 4055, 4058, 4059, sizeof content};
+    struct plumtree_limits l = {2, 1, 1, 1, 1, 1, 1, 1, 1};
+    struct plumtree_settings s = plumtree_default_settings(1);
+    struct plumtree_link_room full = {3, 0};
+    struct plumtree_reader r;
+    struct panel p = new_panel(s, plumtree_small_limits());
+    uint8_t event[64], ids[1][PLUMTREE_ID_BYTES];
+    size_t i;
+    memset(content, 'A', sizeof content);
+
+    /* As the first event it is none: the dispatch tick after it is, and schedules the eviction, once. */
+    TURNED_DOWN(&p, 0, content, 1);
+    tell(&p, 0, event, plumtree_put_up(event, 2));
+    tell(&p, 0, event, plumtree_put_up(event, 3));
+    for (i = 0; i < sizeof lengths / sizeof *lengths; i++)
+        TURNED_DOWN(&p, 0, content, lengths[i]);
+    r = tell(&p, 0, dispatch, sizeof dispatch);
+    schedules(&r, PLUMTREE_TIMER_EVICT_CACHE, 1000);
+    CHECK(r.left == 0);
+    for (i = 0; i < sizeof lengths / sizeof *lengths; i++)
+        TURNED_DOWN(&p, 0, content, lengths[i]);
+    CHECK(tell(&p, 0, dispatch, sizeof dispatch).left == 0);
+
+    /* Upon what is queued, recorded and cached; of a content that is cached; at the last time. Nothing of it is announced or told as forgotten. */
+    tell(&p, 0, prune, sizeof prune);
+    broadcast_at(&p, 0, "A", 1, ids[0]);
+    TURNED_DOWN(&p, 5, "A", 1);
+    TURNED_DOWN(&p, 5, "B", 1);
+    r = tell(&p, 5, dispatch, sizeof dispatch);
+    CHECK(sent_of(r, 2, PLUMTREE_MESSAGE_IHAVE, NULL) == 1 && r.left == 4 + 1 + PLUMTREE_ID_BYTES + 1);
+    EVICTS(&p, 30000, ids, 1);
+    TURNED_DOWN(&p, (uint64_t)1 << 62, "A", 1);
+
+    /* The order of the questions: 5 to 9 come before it. */
+    REFUSED(&p, ((uint64_t)1 << 62) + 1, whole, sizeof whole, 64, PLUMTREE_TIME_TOO_LATE);
+    for (i = 0; i < sizeof whole; i++)
+        REFUSED(&p, 0, whole, i, 64, PLUMTREE_EVENT_CUT);
+    REFUSED(&p, 0, cut, sizeof cut, 64, PLUMTREE_EVENT_CUT);
+    REFUSED(&p, 0, last_is_2, sizeof last_is_2, 64, PLUMTREE_EVENT_MALFORMED);
+    REFUSED(&p, 0, last_is_padded, sizeof last_is_padded, 64, PLUMTREE_EVENT_MALFORMED);
+    REFUSED(&p, 0, length_is_padded, sizeof length_is_padded, 64, PLUMTREE_EVENT_MALFORMED);
+    REFUSED(&p, 0, more, sizeof more, 64, PLUMTREE_EVENT_TOO_LONG);
+    p.block_length--;
+    REFUSED(&p, 0, whole, sizeof whole, 64, PLUMTREE_BLOCK_NOT_WHOLE);
+    p.block_length++;
+
+    /* The counts may be any: no count is brought up to date. */
+    memset(p.counts, 0xff, sizeof *p.counts);
+    TURNED_DOWN(&p, 0, "A", 1);
+    free_panel(p);
+
+    /* Upon a state in which every table is full: a broadcast to all panels is 13 there, and 14 is asked after it. */
+    p = two_neighbours(l);
+    CHECK(met(&p, prune, sizeof prune) == PLUMTREE_LIMIT_NONE);
+    CHECK(met_with(&p, event, plumtree_put_broadcast(event, "A", 1), &full, 1) == PLUMTREE_LIMIT_NONE);
+    event[0] = PLUMTREE_EVENT_RECEIVED;
+    event[1] = 2;
+    event[2] = PLUMTREE_MESSAGE_IHAVE;
+    event[3] = 1;
+    memset(event + 4, 8, PLUMTREE_ID_BYTES);
+    event[36] = 5;
+    CHECK(met(&p, event, 37) == PLUMTREE_LIMIT_NONE);
+    CHECK(met(&p, event, send_graft(event, 8)) == PLUMTREE_LIMIT_NONE);
+    memset(ids[0], 9, sizeof ids[0]);
+    CHECK(met(&p, event, ihave_of(event, 2, ids[0], 5)) == PLUMTREE_LIMIT_NONE);
+    CHECK(met(&p, event, plumtree_put_broadcast(event, "B", 1)) == PLUMTREE_LIMIT_RECEIVED);
+    CHECK(met(&p, event, send_graft(event, 9)) == PLUMTREE_LIMIT_GRAFTED);
+    memset(ids[0], 7, sizeof ids[0]);
+    CHECK(met(&p, event, ihave_of(event, 2, ids[0], 5)) == PLUMTREE_LIMIT_MISSING);
+    TURNED_DOWN(&p, 0, "A", 1);
+    TURNED_DOWN(&p, 0, "B", 1);
+    TURNED_DOWN(&p, 0, content, sizeof content);
+    free_panel(p);
+}
+
+/* "Messages of that delivery from older panels are still read and emitted." */
+static void for_neighbours_only(void)
+{
+    struct panel p = new_panel(plumtree_default_settings(1), plumtree_small_limits());
+    struct plumtree_reader r;
+    uint8_t event[128], message[64], id[PLUMTREE_ID_BYTES], *block;
+    size_t n = gossip_of(message, id, "A", 0), m;
+    CHECK(n == 37);
+    message[n - 2] = 1;
+    n--;
+
+    /* As the first event: evicted first. */
+    tell(&p, 0, event, plumtree_put_up(event, 2));
+    tell(&p, 0, event, plumtree_put_up(event, 3));
+    m = plumtree_put_received(event, 2, message, n);
+    CHECK(m == 2 + 33 + 3);
+    r = tell(&p, 0, event, m);
+    schedules(&r, PLUMTREE_TIMER_EVICT_CACHE, 1000);
+    CHECK(r.left == 5 && memcmp(r.bytes, "\x03\x02\x01" "A" "\x01", 5) == 0);
+    CHECK(p.counts->payload_messages_received == 1 && p.counts->control_messages_received == 0 && p.counts->max_last_delivery_hop == 0);
+
+    /* Later: the emit alone, and again when it comes again, since it is not marked received. It leaves the state as it was. */
+    block = (uint8_t *)bytes(p.block_length, 0);
+    memcpy(block, p.block, p.block_length);
+    REFUSED(&p, 0, event, m, 4, PLUMTREE_OUTPUT_TOO_SHORT);
+    r = tell(&p, 0, event, m);
+    CHECK(r.left == 5 && memcmp(r.bytes, "\x03\x02\x01" "A" "\x01", 5) == 0);
+    CHECK(p.counts->payload_messages_received == 2 && p.counts->control_messages_received == 0 && p.counts->max_last_delivery_hop == 0);
+
+    /* With padded numbers; from a stranger. */
+    event[m - 1] = 0x81;
+    event[m] = 0x80;
+    event[m + 1] = 0x00;
+    r = tell(&p, 0, event, m + 2);
+    CHECK(r.left == 5 && memcmp(r.bytes, "\x03\x02\x01" "A" "\x01", 5) == 0);
+    r = tell(&p, 0, event, plumtree_put_received(event, 9, message, n));
+    CHECK(r.left == 5 && memcmp(r.bytes, "\x03\x09\x01" "A" "\x01", 5) == 0);
+    CHECK(p.counts->payload_messages_received == 4);
+
+    /* It is not cached: a Graft for it is answered by nothing, and nothing is forgotten. */
+    CHECK(tell(&p, 0, event, graft_of(event, 3, id)).left == 0);
+    CHECK(memcmp(block, p.block, p.block_length) == 0);
+    EVICTS(&p, 30000, NULL, 0);
+    CHECK(memcmp(block, p.block, p.block_length) == 0);
+
+    /* A wrong identifier: counted, and nothing. */
+    message[1] ^= 1;
+    CHECK(tell(&p, 0, event, plumtree_put_received(event, 2, message, n)).left == 0);
+    message[1] ^= 1;
+    CHECK(p.counts->payload_messages_received == 5);
+    CHECK(memcmp(block, p.block, p.block_length) == 0);
+    p.counts->payload_messages_received = UINT64_MAX;
+    REFUSED(&p, 0, event, plumtree_put_received(event, 2, message, n), 64, PLUMTREE_COUNTS_FULL);
+    p.counts->payload_messages_received = 5;
+
+    /* One whose identifier is received is a second copy. */
+    CHECK(pushes(&p, 2, "A", NULL));
+    r = tell(&p, 0, event, plumtree_put_received(event, 2, message, n));
+    CHECK(r.left == 4 && memcmp(r.bytes, "\x01\x02\x00\x01", 4) == 0);
+    CHECK(p.counts->payload_messages_received == 6);
+    free(block);
     free_panel(p);
 }
 
@@ -1276,6 +1439,13 @@ static void rewriting(void)
     SHORTEST(padded, n, form, m);
     for (i = 0; i < n; i++)
         NOT_REWRITTEN(padded, i, PLUMTREE_EVENT_CUT);
+
+    /* One of delivery Neighbors. */
+    n = add_id(padded, add(padded, 0, "\x80\x00", 2), 9);
+    n = add(padded, n, "\x83\x00" "hot" "\x81\x80\x80\x80\x00", 10);
+    m = add_id(form, add(form, 0, "\x00", 1), 9);
+    m = add(form, m, "\x03" "hot" "\x01", 5);
+    SHORTEST(padded, n, form, m);
 
     /* An IHave: its order stays, and what stands twice. */
     n = add(padded, 0, "\x03\x83\x00", 3);
@@ -1420,6 +1590,8 @@ int main(void)
     marks();
     quiet_links();
     limits_met();
+    neighbours_only();
+    for_neighbours_only();
     rewriting();
     states();
     printf("%s\n", failed ? "calls from C: not as promised" : "calls from C: as promised");

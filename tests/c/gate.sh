@@ -1,6 +1,7 @@
 #!/usr/bin/env bash
 # The library called from C: the headers by themselves as C and C++, each number's text, the examples with what they print, what a host loses
-# readings by, each refusal, which panels are alike, and named states beside a model, all under valgrind; and the stack that its calls take.
+# readings by, each refusal, which panels are alike, named states beside a model and those of an older library, all under valgrind; and the stack that
+# its calls take.
 # PLUMTREE_LIB_DIR can name the directory of another libplumtree.a than the proved one.
 set -euo pipefail
 cd "$(dirname "$0")/../.."
@@ -75,6 +76,11 @@ $under_valgrind "$out/alike"
 gcc -std=c99 -O2 -g $strict -I include -I examples/c -o "$out/states" tests/c/states.c "$lib/libplumtree.a"
 "$out/states"
 $under_valgrind "$out/states" 12000 397 >/dev/null
+
+# Named states that an older library wrote, one that took a broadcast for neighbours alone.
+# shellcheck disable=SC2086
+gcc -std=c99 -g $strict -I include -I examples/c -o "$out/older_area" tests/c/older_area.c "$lib/libplumtree.a"
+$under_valgrind "$out/older_area" tests/c/older_area.txt
 
 # The stack that the calls take, below what the header says: measured, and a bound of every path that the compiled code has.
 # shellcheck disable=SC2086

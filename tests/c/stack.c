@@ -172,7 +172,7 @@ int main(void)
     /* The longest message that goes out, from the panel's own broadcast; then it comes to a new one. */
     of_create = taken(create);
     event_of(plumtree_put_up(event, 3));
-    event_of(plumtree_put_broadcast(event, content, 4055, PLUMTREE_DELIVERY_SWARM));
+    event_of(plumtree_put_broadcast(event, content, 4055));
     actions = plumtree_actions_of(output, answer.length);
     while (plumtree_take_action(&actions, &action))
         if (action.kind == PLUMTREE_ACTION_SEND) {
@@ -180,6 +180,11 @@ int main(void)
             memcpy(message, action.message.bytes, n);
         }
     taken(create);
+
+    /* One of delivery Neighbors, which is emitted and leaves it new. */
+    message[n - 2] = PLUMTREE_DELIVERY_NEIGHBORS;
+    received(3, message, n - 1);
+    message[n - 2] = PLUMTREE_DELIVERY_SWARM;
 
     for (peer = 2; peer < 34; peer++) {
         rooms[peer - 2].peer = peer;
@@ -189,10 +194,9 @@ int main(void)
     received(4, message, n);
     for (i = 0; i < 400; i++) {
         memcpy(content, &i, sizeof i);
-        event_of(plumtree_put_broadcast(event, content, 1000, PLUMTREE_DELIVERY_SWARM));
+        event_of(plumtree_put_broadcast(event, content, 1000));
     }
-    event_of(plumtree_put_broadcast(event, content, (size_t)1 << 20, PLUMTREE_DELIVERY_SWARM));
-    event_of(plumtree_put_broadcast(event, content, 1000, PLUMTREE_DELIVERY_NEIGHBORS));
+    event_of(plumtree_put_broadcast(event, content, (size_t)1 << 20));
     message[0] = PLUMTREE_MESSAGE_PRUNE;
     received(5, message, 1);
     message[0] = PLUMTREE_MESSAGE_GRAFT;
@@ -213,7 +217,7 @@ int main(void)
     measure(&most_of_alike, alike);
     rooms_length = 32;
     event_of(plumtree_put_tick(event, PLUMTREE_TIMER_DISPATCH_LAZY_PUSH));
-    event_of(plumtree_put_broadcast(event, content, 999, PLUMTREE_DELIVERY_SWARM));
+    event_of(plumtree_put_broadcast(event, content, 999));
     measure(&most_of_alike, alike);
     rooms_length = 0;
     event_of(plumtree_put_tick(event, PLUMTREE_TIMER_ANNOUNCE_DROPPED));

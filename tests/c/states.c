@@ -209,7 +209,7 @@ static size_t some_event(uint8_t *event)
     case 2:
     case 3:
         put_le(content, sizeof content, any());
-        return plumtree_put_broadcast(event, content, below(4), PLUMTREE_DELIVERY_SWARM);
+        return plumtree_put_broadcast(event, content, below(4));
     case 4:
         memcpy(event, prune, sizeof prune);
         return sizeof prune;
@@ -528,7 +528,7 @@ static void two_panels(struct panel *p, struct panel *q)
     *p = new_panel(n, 0xa5, plumtree_default_settings(1), least_limits());
     *q = new_panel(n, 0x3c, s, wider_limits());
     CHECK(tell(p, event, plumtree_put_up(event, 2), false).number == 0);
-    CHECK(tell(p, event, plumtree_put_broadcast(event, "a", 1, PLUMTREE_DELIVERY_SWARM), true).number == 0);
+    CHECK(tell(p, event, plumtree_put_broadcast(event, "a", 1), true).number == 0);
     CHECK(tell(q, event, plumtree_put_up(event, 2), false).number == 0);
     CHECK(tell(q, event, plumtree_put_up(event, 3), false).number == 0);
     CHECK(tell(q, event, announced(event, 9), false).number == 0);
@@ -657,7 +657,7 @@ static void in_full(void)
 static size_t pushed(struct panel *p, uint8_t content)
 {
     uint8_t event[16];
-    struct plumtree_answer answer = tell(p, event, plumtree_put_broadcast(event, &content, 1, PLUMTREE_DELIVERY_SWARM), false);
+    struct plumtree_answer answer = tell(p, event, plumtree_put_broadcast(event, &content, 1), false);
     struct plumtree_reader r = plumtree_actions_of(output, answer.length);
     struct plumtree_action a;
     size_t sends = 0;
@@ -1227,9 +1227,9 @@ static void all_bits(size_t stride)
         *states[i].counts = counts_of(any(), any(), (uint16_t)any());
     }
     /* A reading handed back and recorded; one queued; an announcement and what was asked for; a new panel. */
-    CHECK(tell(&states[0], event, plumtree_put_broadcast(event, "a", 1, PLUMTREE_DELIVERY_SWARM), true).number == 0);
+    CHECK(tell(&states[0], event, plumtree_put_broadcast(event, "a", 1), true).number == 0);
     CHECK(tell(&states[1], prune, sizeof prune, false).number == 0);
-    CHECK(tell(&states[1], event, plumtree_put_broadcast(event, "a", 1, PLUMTREE_DELIVERY_SWARM), false).number == 0);
+    CHECK(tell(&states[1], event, plumtree_put_broadcast(event, "a", 1), false).number == 0);
     CHECK(tell(&states[2], event, announced(event, 9), false).number == 0);
     CHECK(tell(&states[2], event, send_graft(event, 9), false).number == 0);
     CHECK(tell(&states[2], event, announced(event, 9), false).number == 0);

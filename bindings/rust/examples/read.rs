@@ -79,11 +79,11 @@ fn event_text(event: &[u8]) -> String {
     }
 }
 
-/// The actions, or why there are none. An event is answered by no number over 14.
+/// The actions, or why there are none. An event is answered by no number over 14 but 23.
 fn answer_lines(number: u8, mut actions: &[u8], lines: &mut Vec<String>) {
     match (number, Error::from_number(number)) {
         (0, _) => {}
-        (_, Some(e)) if e <= Error::OutputTooShort => lines.push(format!("    refused: {e}")),
+        (_, Some(e)) if e <= Error::OutputTooShort || e == Error::NeighborsBroadcast => lines.push(format!("    refused: {e}")),
         (n, _) => lines.push(format!("    {n} is no answer")),
     }
     while !actions.is_empty() {
@@ -165,6 +165,18 @@ mod tests {
             "    refused: the bytes end within a field (question 7: \"Does each field end within the bytes?\")",
         ];
         assert_eq!(read(&input, &output), lines);
+    }
+
+    /// A broadcast for neighbours alone is refused, and the program goes on with the next record.
+    #[test]
+    fn for_neighbours_alone() {
+        let input = [0, 4, 1, 1, b'A', 1, 0, 2, 3, 2];
+        let lines = [
+            "0 no event: 01014101",
+            "    refused: neighbours-only broadcasts are retired (question 23: \"Is it anything but a Neighbors broadcast?\")",
+            "0 2 is up",
+        ];
+        assert_eq!(read(&input, &[23, 0, 0, 0]), lines);
     }
 
     #[test]

@@ -7,7 +7,7 @@
 use std::cmp::Reverse;
 use std::collections::{BTreeMap, BinaryHeap};
 
-use plumtree::{Action, Error, Event, Limits, Message, Panel, Scope, Settings};
+use plumtree::{Action, Error, Event, Limits, Message, Panel, Settings};
 
 const PANELS: u64 = 6;
 /// Two ends, and how many milliseconds a message takes.
@@ -94,7 +94,7 @@ fn simulate() -> Result<Vec<String>, Error> {
             swarm.plan(at, 4, &Event::Down(3));
             lines.push("the link between 3 and 4 breaks".to_string());
         }
-        swarm.plan(at, 1, &Event::Broadcast { content: content.as_bytes(), scope: Scope::Swarm });
+        swarm.plan(at, 1, &Event::Broadcast(content.as_bytes()));
         swarm.run(at + 1000)?;
         lines.push(format!("{content}: {}", swarm.shown.join(", ")));
         lines.push(format!("    {} payloads, {} other messages", swarm.payloads, swarm.others));

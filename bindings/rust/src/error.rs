@@ -5,9 +5,10 @@ macro_rules! questions {
     ($($name:ident = $number:literal, $meaning:literal, $question:literal $(, $more:literal)?;)*) => {
         /// The question that was answered no; "The first no gives its number". Nothing has changed then: neither block, counts, output nor area.
         ///
-        /// Creation asks 1 to 4, an event 5 to 14, [`alike`](crate::alike) 5, [`rewrite`](crate::rewrite) 7, 8, 9 and 14,
+        /// Creation asks 1 to 4, an event 5 to 9, 23 and 10 to 14, [`alike`](crate::alike) 5, [`rewrite`](crate::rewrite) 7, 8, 9 and 14,
         /// [`save`](crate::Panel::save) 5, 17, 16 and [`go_back`](crate::Panel::go_back) 5, 17, 15, each in this order. The readers of this crate
-        /// ([`Event::read`](crate::Event::read), [`Message::read`](crate::Message::read), [`Action::read`](crate::Action::read)) use 7, 8 and 9.
+        /// ([`Event::read`](crate::Event::read), [`Message::read`](crate::Message::read), [`Action::read`](crate::Action::read)) use 7, 8 and 9, that of
+        /// events 23 too.
         #[repr(u8)]
         #[derive(Clone, Copy, Debug, PartialEq, Eq, Hash, PartialOrd, Ord)]
         pub enum Error {
@@ -18,8 +19,8 @@ macro_rules! questions {
         }
 
         impl Error {
-            /// All seventeen, in their order.
-            pub const ALL: [Error; 17] = [$(Error::$name),*];
+            /// All eighteen, by their numbers.
+            pub const ALL: [Error; 18] = [$(Error::$name),*];
 
             /// What the refusal means.
             pub fn meaning(self) -> &'static str {
@@ -28,7 +29,8 @@ macro_rules! questions {
                 }
             }
 
-            /// The question, in the specification's words; of 15 to 17 what is answered so, in the words of the request that adds them.
+            /// The question, in the specification's words; of 15 to 17 what is answered so, in the words of the request that adds them; of 23 in
+            /// words of this library.
             pub fn question(self) -> &'static str {
                 match self {
                     $(Error::$name => $question,)*
@@ -69,16 +71,17 @@ questions! {
     AreaNotWhole = 17, "the area is too short, damaged, or of blocks of another length",
         "an area too short, or one that savings of blocks of this length couldn't have left",
         "[`Area::for_panel`](crate::Area::for_panel) makes one of the right length.";
+    NeighborsBroadcast = 23, "neighbours-only broadcasts are retired", "Is it anything but a Neighbors broadcast?",
+        "It is refused each time; [`Event::Broadcast`](crate::Event::Broadcast) is for all panels.";
 }
 
 impl Error {
-    /// The error of a number from 1 to 17.
+    /// The error of a number, from 1 to 17 and 23.
     pub fn from_number(number: u8) -> Option<Error> {
-        let place = usize::from(number).checked_sub(1)?;
-        Error::ALL.get(place).copied()
+        Error::ALL.into_iter().find(|e| e.number() == number)
     }
 
-    /// Its number, from 1 to 17.
+    /// Its number, from 1 to 17 or 23.
     pub fn number(self) -> u8 {
         self as u8
     }
@@ -87,7 +90,7 @@ impl Error {
     pub(crate) fn check(number: u8) -> Result<(), Error> {
         match number {
             0 => Ok(()),
-            n => Err(Error::from_number(n).expect("the library answers 0 to 17")),
+            n => Err(Error::from_number(n).expect("the library answers 0 to 17 and 23")),
         }
     }
 }

@@ -4,25 +4,16 @@ use crate::text;
 use crate::wire::{write_number, Reader, Spelling};
 use crate::{Error, Message, Timer};
 
-/// Who a broadcast is for.
-#[derive(Clone, Copy, Debug, PartialEq, Eq, Hash)]
-pub enum Scope {
-    /// All panels.
-    Swarm,
-    /// The eager neighbours alone, once: announced to nobody, and not sent on.
-    Neighbors,
-}
-
 /// What a panel is told.
 ///
 /// ```
-/// use plumtree::{Event, Message, Scope, Timer};
+/// use plumtree::{Event, Message, Timer};
 /// assert_eq!(Event::Up(2).to_bytes(), [3, 2]);
 /// assert_eq!(Event::UpQuiet(2).to_bytes(), [5, 2]);
 /// assert_eq!(Event::Timer(Timer::DispatchLazyPush).to_bytes(), [2, 1]);
 /// assert_eq!(Event::Received { peer: 5, message: Message::Prune }.to_bytes(), [0, 5, 1]);
 /// assert_eq!(Event::ReceivedBytes { peer: 5, bytes: &[1] }.to_bytes(), [0, 5, 1]);
-/// assert_eq!(Event::Broadcast { content: b"1452C", scope: Scope::Swarm }.to_bytes(), *b"\x01\x051452C\x00");
+/// assert_eq!(Event::Broadcast(b"1452C").to_bytes(), *b"\x01\x051452C\x00");
 /// ```
 #[derive(Clone, Debug, PartialEq, Eq, Hash)]
 pub enum Event<'a> {
@@ -40,13 +31,9 @@ pub enum Event<'a> {
         /// The bytes, as they came. Numbers in them may be padded ([`Message::read`]), and M bounds the bytes as they are.
         bytes: &'a [u8],
     },
-    /// The panel's own message is to go out. A content over [`longest_content`](crate::longest_content) is accepted and sent to nobody.
-    Broadcast {
-        /// The content.
-        content: &'a [u8],
-        /// Who it is for.
-        scope: Scope,
-    },
+    /// The panel's own message, with this content, is to go out to all panels. One over [`longest_content`](crate::longest_content) is accepted and sent
+    /// to nobody. A broadcast for neighbours alone, whose last byte is 1, is turned down ([`Error::NeighborsBroadcast`]) and has no form here.
+    Broadcast(&'a [u8]),
     /// A timer fired that an [`Action::Schedule`](crate::Action::Schedule) asked for. Where this is refused it has not fired, and is to be told
     /// again: what waits for it is not scheduled anew.
     Timer(Timer),
@@ -62,7 +49,7 @@ pub enum Event<'a> {
 }
 
 impl<'a> Event<'a> {
-    /// Reads an event that is these bytes: questions 7, 8 and 9 of them, answered as the library does. A message is read as
+    /// Reads an event that is these bytes: questions 7, 8, 9 and 23 of them, answered as the library does. A message is read as
     /// [`Event::Received`]; its numbers may be padded ([`Message::read`]), the event's own may not.
     pub fn read(bytes: &'a [u8]) -> Result<Event<'a>, Error> {
         let mut r = Reader(bytes);
@@ -70,8 +57,11 @@ impl<'a> Event<'a> {
             0 => Event::Received { peer: r.number(Spelling::Shortest)?, message: Message::take(&mut r, Spelling::Padded)? },
             1 => {
                 let content = r.content(Spelling::Shortest)?;
-                let scope = if r.flag()? { Scope::Neighbors } else { Scope::Swarm };
-                Event::Broadcast { content, scope }
+                if r.flag()? {
+                    r.end()?;
+                    return Err(Error::NeighborsBroadcast);
+                }
+                Event::Broadcast(content)
             }
             2 => Event::Timer(Timer::take(&mut r)?),
             3 => Event::Up(r.number(Spelling::Shortest)?),
@@ -96,11 +86,11 @@ impl<'a> Event<'a> {
                 write_number(out, *peer);
                 out.extend_from_slice(bytes);
             }
-            Event::Broadcast { content, scope } => {
+            Event::Broadcast(content) => {
                 out.push(1);
                 write_number(out, content.len() as u64);
                 out.extend_from_slice(content);
-                out.push((*scope == Scope::Neighbors).into());
+                out.push(0);
             }
             Event::Timer(timer) => {
                 out.push(2);
@@ -135,7 +125,7 @@ impl fmt::Display for Event<'_> {
         match self {
             Event::Received { peer, message } => write!(f, "from {peer}: {message}"),
             Event::ReceivedBytes { peer, bytes } => write!(f, "from {peer}: the bytes {}", text::hex(bytes)),
-            Event::Broadcast { content, scope } => write!(f, "broadcast {}, {scope:?}", text::content(content)),
+            Event::Broadcast(content) => write!(f, "broadcast {}, Swarm", text::content(content)),
             Event::Timer(timer) => write!(f, "{timer} fires"),
             Event::Up(peer) => write!(f, "{peer} is up"),
             Event::UpQuiet(peer) => write!(f, "{peer} is up, quiet"),

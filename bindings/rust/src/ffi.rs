@@ -80,8 +80,8 @@ pub fn create(block: &mut [u8], counts: &mut Stats, settings: Settings, limits: 
     unsafe { plumtree_create(block.as_mut_ptr(), block.len(), counts, settings, limits) }
 }
 
-/// One event at a time in milliseconds: questions 5 to 14. The first `length` bytes of the output are the actions. A refused call leaves block,
-/// counts and output as they are.
+/// One event at a time in milliseconds: questions 5 to 9, 23 and 10 to 14. The first `length` bytes of the output are the actions. A refused call
+/// leaves block, counts and output as they are.
 pub fn event(block: &mut [u8], counts: &mut Stats, at: u64, event: &[u8], rooms: &[LinkRoom], output: &mut [u8]) -> Answer {
     // SAFETY: `block`, `counts` and `output` are exclusive references, so valid for the call and apart from each other and from the two
     // shared ones, which are valid for reading and which nobody writes before the call returns.

@@ -8,7 +8,7 @@
 //! # A first broadcast
 //!
 //! ```
-//! use plumtree::{Action, Event, Limits, Panel, Scope, Settings};
+//! use plumtree::{Action, Event, Limits, Panel, Settings};
 //!
 //! # fn main() -> Result<(), plumtree::Error> {
 //! let mut panel = Panel::new(Settings::of_panel(1), Limits::SMALL)?;
@@ -18,7 +18,7 @@
 //! assert_eq!(panel.event(0, &Event::Up(2), &[], &mut output)?.count(), 0);
 //!
 //! // At 10 the panel's own reading goes out, with its number and a sequence number: the same content twice is one message.
-//! let reading = Event::Broadcast { content: b"1/17 burner 3: 1452 C", scope: Scope::Swarm };
+//! let reading = Event::Broadcast(b"1/17 burner 3: 1452 C");
 //! let mut lines = Vec::new();
 //! for action in panel.event(10, &reading, &[], &mut output)? {
 //!     match action {
@@ -45,7 +45,7 @@
 //! [`Event::ReceivedBytes`].
 //!
 //! ```
-//! use plumtree::{Action, Delivery, Event, Limits, Panel, Scope, Settings};
+//! use plumtree::{Action, Delivery, Event, Limits, Panel, Settings};
 //!
 //! # fn main() -> Result<(), plumtree::Error> {
 //! let mut one = Panel::new(Settings::of_panel(1), Limits::SMALL)?;
@@ -55,7 +55,7 @@
 //! two.event(0, &Event::Up(1), &[], &mut output)?;
 //!
 //! let mut link = Vec::new();
-//! for action in one.event(5, &Event::Broadcast { content: b"hot", scope: Scope::Swarm }, &[], &mut output)? {
+//! for action in one.event(5, &Event::Broadcast(b"hot"), &[], &mut output)? {
 //!     if let Action::Send { peer: 2, taken: true, bytes, .. } = action {
 //!         link.push(bytes.to_vec());
 //!     }
@@ -81,7 +81,7 @@
 //! [`Area`]. The timers are the host's, so it keeps them with the name.
 //!
 //! ```
-//! use plumtree::{Action, Area, Event, Limits, Panel, Scope, Settings, Timer};
+//! use plumtree::{Action, Area, Event, Limits, Panel, Settings, Timer};
 //!
 //! # fn main() -> Result<(), plumtree::Error> {
 //! let mut panel = Panel::new(Settings::of_panel(1), Limits::SMALL)?;
@@ -91,7 +91,7 @@
 //! // Plan A: the neighbour 2. The timers wait, each with the time at which it is to be told.
 //! panel.event(0, &Event::Up(2), &[], &mut output)?;
 //! let mut timers = Vec::new();
-//! for action in panel.event(10, &Event::Broadcast { content: b"1/17", scope: Scope::Swarm }, &[], &mut output)? {
+//! for action in panel.event(10, &Event::Broadcast(b"1/17"), &[], &mut output)? {
 //!     if let Action::Schedule { delay, timer } = action {
 //!         timers.push((10 + delay, timer));
 //!     }
@@ -112,7 +112,7 @@
 //! assert_eq!(timers, [(1498, Timer::EvictCache), (503, Timer::DispatchLazyPush)]);
 //!
 //! // The neighbour is 2 again. Clock and sequence number go on.
-//! let actions = panel.event(501, &Event::Broadcast { content: b"1/18", scope: Scope::Swarm }, &[], &mut output)?;
+//! let actions = panel.event(501, &Event::Broadcast(b"1/18"), &[], &mut output)?;
 //! let peers = actions.filter_map(|action| if let Action::Send { peer, .. } = action { Some(peer) } else { None });
 //! assert_eq!(peers.collect::<Vec<_>>(), [2]);
 //! # Ok(())
@@ -121,7 +121,7 @@
 //!
 //! # Refusals
 //!
-//! A call that cannot be carried out is refused by one of seventeen questions ([`Error`]); nothing has changed then.
+//! A call that cannot be carried out is refused by one of eighteen questions ([`Error`]); nothing has changed then.
 //!
 //! ```
 //! use plumtree::{Error, Event, Limit, Limits, Panel, Settings};
@@ -162,7 +162,7 @@ mod wire;
 pub use action::{Action, Actions};
 pub use area::{area_size, Area};
 pub use error::Error;
-pub use event::{Event, Scope};
+pub use event::Event;
 pub use limit::Limit;
 pub use message::{rewrite, Announced, Delivery, Id, Message, Timer};
 pub use panel::{alike, block_size, LinkRoom, Panel, Stats};

@@ -15,7 +15,7 @@ pub enum Delivery {
         /// How many hops it has made.
         round: u16,
     },
-    /// To the sender's eager neighbours alone.
+    /// To the sender's eager neighbours alone. Such messages come from older panels; they are emitted, and go no further.
     Neighbors,
 }
 

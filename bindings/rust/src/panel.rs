@@ -19,13 +19,13 @@ pub struct Stats {
 /// take and then loses is not sent again.
 ///
 /// ```
-/// use plumtree::{Action, Event, Limits, LinkRoom, Panel, Scope, Settings};
+/// use plumtree::{Action, Event, Limits, LinkRoom, Panel, Settings};
 /// # fn main() -> Result<(), plumtree::Error> {
 /// let mut panel = Panel::new(Settings::of_panel(1), Limits::SMALL)?;
 /// let mut output = [0; 4096];
 /// panel.event(0, &Event::Up(2), &[], &mut output)?;
 /// let full = [LinkRoom { peer: 2, room: 0 }];
-/// let reading = Event::Broadcast { content: b"hot", scope: Scope::Swarm };
+/// let reading = Event::Broadcast(b"hot");
 /// let mut actions = panel.event(0, &reading, &full, &mut output)?;
 /// assert!(actions.any(|a| matches!(a, Action::Send { peer: 2, taken: false, .. })));
 /// # Ok(())
@@ -64,7 +64,7 @@ pub fn block_size(limits: Limits) -> Option<usize> {
 /// counts equal again. So a commissioning sheet that was taken with one panel serves for the other.
 ///
 /// ```
-/// use plumtree::{Error, Event, Limits, LinkRoom, Panel, Scope, Settings};
+/// use plumtree::{Error, Event, Limits, LinkRoom, Panel, Settings};
 ///
 /// # fn main() -> Result<(), Error> {
 /// // The link to 2 hands back two readings, each told at its time.
@@ -73,7 +73,7 @@ pub fn block_size(limits: Limits) -> Option<usize> {
 ///     let mut output = vec![0; 40960];
 ///     panel.event(0, &Event::Up(2), &[], &mut output)?;
 ///     for (at, content) in readings {
-///         panel.event(at, &Event::Broadcast { content, scope: Scope::Swarm }, &[LinkRoom { peer: 2, room: 0 }], &mut output)?;
+///         panel.event(at, &Event::Broadcast(content), &[LinkRoom { peer: 2, room: 0 }], &mut output)?;
 ///     }
 ///     Ok(panel)
 /// };
@@ -147,7 +147,8 @@ impl<B: AsRef<[u8]> + AsMut<[u8]>> Panel<B> {
         Panel { block, stats, event: Vec::new() }
     }
 
-    /// One event at a time in milliseconds: questions 5 to 14. The actions stand in the output, in the order in which they are to be carried out.
+    /// One event at a time in milliseconds: questions 5 to 9, 23 and 10 to 14. The actions stand in the output, in the order in which they are to be
+    /// carried out.
     ///
     /// `rooms` is the link room of this call; with none every send is taken. An output of [`Limits::output_size`] is always enough; a call that is
     /// refused with [`Error::OutputTooShort`] goes through with a longer one. Times may come in any order.

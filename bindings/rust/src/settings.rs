@@ -4,8 +4,7 @@ pub const LEAST_MESSAGE_SIZE: u64 = 510;
 /// The greatest M that a panel can be given.
 pub const GREATEST_MESSAGE_SIZE: u64 = 4_094;
 
-/// The longest content that a broadcast to all panels ([`Scope::Swarm`](crate::Scope::Swarm)) sends: a longer one is accepted and sent to nobody. Three
-/// bytes more for [`Scope::Neighbors`](crate::Scope::Neighbors).
+/// The longest content that a broadcast sends: a longer one is accepted and sent to nobody.
 ///
 /// ```
 /// use plumtree::{longest_content, GREATEST_MESSAGE_SIZE, LEAST_MESSAGE_SIZE};

@@ -1,7 +1,7 @@
 //! Each question answered no once, through the library, with what a refusal promises: block, counts, output and area untouched.
 use plumtree::{
     alike, area_size, block_size, longest_content, raw, rewrite, Action, Announced, Area, Delivery, Error, Event, Id, Limit, Limits,
-    LinkRoom, Message, Panel, Scope, Settings, Stats, Timer, GREATEST_MESSAGE_SIZE, LEAST_MESSAGE_SIZE,
+    LinkRoom, Message, Panel, Settings, Stats, Timer, GREATEST_MESSAGE_SIZE, LEAST_MESSAGE_SIZE,
 };
 
 const LIMITS: [fn(&mut Limits) -> &mut usize; 9] = [
@@ -115,7 +115,7 @@ fn panel(limits: Limits) -> Panel {
 fn gossip(content: &[u8], round: u16) -> Vec<u8> {
     let mut output = [0; 4096];
     let mut p = panel(Limits::SMALL);
-    let mut actions = p.event(0, &Event::Broadcast { content, scope: Scope::Swarm }, &[], &mut output).unwrap();
+    let mut actions = p.event(0, &Event::Broadcast(content), &[], &mut output).unwrap();
     let Some(Action::Send { message: Message::Gossip { id, content, .. }, .. }) = actions.find(|a| matches!(a, Action::Send { .. })) else {
         panic!("it is sent to 2");
     };
@@ -205,6 +205,61 @@ fn events() {
     refused(&mut p, 0, &tick, 0, Error::OutputTooShort);
     let mut four = [0; 4];
     assert_eq!(p.event_bytes(0, &tick, &[], &mut four).unwrap().bytes(), [2, 0xe8, 7, 2]);
+}
+
+/// "A broadcast event with byte 1 is turned down": 23, behind 5 to 9 and before 13 and 14, whatever the content, and as the first event too.
+#[test]
+fn for_neighbours_alone() {
+    let retired = |content: &[u8]| {
+        let mut event = Event::Broadcast(content).to_bytes();
+        *event.last_mut().unwrap() = 1;
+        event
+    };
+    let mut p = Panel::new(Settings::of_panel(1), Limits { received: 1, ..Limits::SMALL }).unwrap();
+    let mut output = [0; 4096];
+    p.event(0, &Event::Up(2), &[], &mut output).unwrap();
+    let turned_down = |p: &mut Panel| {
+        for length in [0, 1, 4055, 4058, 5000] {
+            let event = retired(&vec![0x41; length]);
+            for output_length in [0, 40_960] {
+                refused(p, 0, &event, output_length, Error::NeighborsBroadcast);
+            }
+            assert_eq!(raw::limit_met(p.block(), 0, &event, &[]), 0);
+        }
+        refused(p, (1 << 62) + 1, &retired(b"A"), 64, Error::TimeTooLate);
+        refused(p, 0, &[1, 2, 0x41, 1], 64, Error::EventCut);
+        refused(p, 0, &[1, 1, 0x41, 2], 64, Error::EventMalformed);
+        refused(p, 0, &[1, 1, 0x41, 0x81, 0x00], 64, Error::EventMalformed);
+        refused(p, 0, &[1, 1, 0x41, 1, 0], 64, Error::EventTooLong);
+    };
+    turned_down(&mut p);
+    // It was no first event; and it stays 23 where a broadcast to all panels is 13.
+    let tick = p.event(0, &Event::Timer(Timer::DispatchLazyPush), &[], &mut output).unwrap();
+    assert_eq!(tick.bytes(), [2, 0xe8, 7, 2]);
+    p.event(0, &Event::Broadcast(b"A"), &[], &mut output).unwrap();
+    refused(&mut p, 0, &Event::Broadcast(b"B").to_bytes(), 4096, Error::LimitReached);
+    turned_down(&mut p);
+}
+
+/// "Messages of that delivery from older panels are still read and emitted": each time, since nothing of them is kept.
+#[test]
+fn a_message_for_neighbours_alone() {
+    let swarm = gossip(b"A", 0);
+    let Ok(Message::Gossip { id, content, .. }) = Message::read(&swarm) else { panic!("a Gossip") };
+    let message = Message::Gossip { id, content, delivery: Delivery::Neighbors };
+    let event = Event::Received { peer: 2, message: message.clone() };
+    assert_eq!(message.to_bytes(), [&[0], &id[..], &[1, 0x41, 1]].concat());
+    let mut p = panel(Limits::SMALL);
+    let block = p.block().to_vec();
+    let mut output = [0; 4096];
+    for n in 1..3 {
+        let actions: Vec<_> = p.event(0, &event, &[], &mut output).unwrap().collect();
+        assert_eq!(actions, [Action::Emit { peer: 2, content: b"A", delivery: Delivery::Neighbors }]);
+        assert_eq!(output[..5], [3, 2, 1, 0x41, 1]);
+        assert_eq!(p.stats(), Stats { payload_messages_received: n, ..Stats::default() });
+        assert!(p.block() == block);
+    }
+    refused(&mut p, 0, &event.to_bytes(), 4, Error::OutputTooShort);
 }
 
 /// A send can be a byte longer than M, where the round has grown to 128; a panel of the same M then refuses it.
@@ -304,19 +359,17 @@ fn rewriting() {
 /// The longest content goes to both neighbours, a byte more to nobody.
 #[test]
 fn longest_contents() {
-    let sends = |max_message_size, length, scope| {
+    let sends = |max_message_size, length| {
         let mut p = Panel::new(Settings { max_message_size, ..Settings::of_panel(1) }, Limits::SMALL).unwrap();
         let mut output = vec![0; Limits::SMALL.output_size(max_message_size)];
         for peer in [2, 3] {
             p.event(0, &Event::Up(peer), &[], &mut output).unwrap();
         }
-        let event = Event::Broadcast { content: &vec![7; length], scope };
-        p.event(0, &event, &[], &mut output).unwrap().filter(|a| matches!(a, Action::Send { .. })).count()
+        p.event(0, &Event::Broadcast(&vec![7; length]), &[], &mut output).unwrap().filter(|a| matches!(a, Action::Send { .. })).count()
     };
     for m in [LEAST_MESSAGE_SIZE, GREATEST_MESSAGE_SIZE] {
-        for (scope, longest) in [(Scope::Swarm, longest_content(m)), (Scope::Neighbors, longest_content(m) + 3)] {
-            assert_eq!((sends(m, longest, scope), sends(m, longest + 1, scope)), (2, 0), "M {m}, {scope:?}");
-        }
+        let longest = longest_content(m);
+        assert_eq!((sends(m, longest), sends(m, longest + 1)), (2, 0), "M {m}");
     }
 }
 
@@ -353,7 +406,7 @@ fn evicts(p: &mut Panel, at: u64) -> Vec<Id> {
 /// A broadcast, and its identifier, as the send to a neighbour has it.
 fn broadcast(p: &mut Panel, at: u64, content: &[u8]) -> Id {
     let mut output = [0; 4096];
-    let mut actions = p.event(at, &Event::Broadcast { content, scope: Scope::Swarm }, &[], &mut output).unwrap();
+    let mut actions = p.event(at, &Event::Broadcast(content), &[], &mut output).unwrap();
     let id = actions.find_map(|a| match a {
         Action::Send { message: Message::Gossip { id, .. }, .. } => Some(id),
         _ => None,
@@ -398,7 +451,7 @@ fn quiet_neighbours() {
         p.event(0, event, &[], &mut output).unwrap().map(|a| a.to_string()).collect::<Vec<_>>()
     };
     let pushed = |p: &mut Panel, content: &[u8]| {
-        let sent = lines(p, &Event::Broadcast { content, scope: Scope::Swarm });
+        let sent = lines(p, &Event::Broadcast(content));
         sent.iter().filter(|l| l.starts_with("send to 2: Gossip ")).count()
     };
     let received = |message| Event::Received { peer: 2, message };
@@ -409,7 +462,7 @@ fn quiet_neighbours() {
     // No action, and no first event: the broadcast schedules the eviction.
     let mut p = Panel::new(Settings::of_panel(1), Limits::SMALL).unwrap();
     assert_eq!(lines(&mut p, &Event::UpQuiet(2)), [""; 0]);
-    let sent = lines(&mut p, &Event::Broadcast { content: b"hot", scope: Scope::Swarm });
+    let sent = lines(&mut p, &Event::Broadcast(b"hot"));
     assert_eq!(sent, ["schedule EvictCache in 1000", "schedule DispatchLazyPush in 5"]);
     let announced = lines(&mut p, &dispatch);
     assert!(announced.len() == 1 && announced[0].starts_with("send to 2: IHave "), "{announced:?}");
@@ -501,7 +554,7 @@ fn settings_in_place() {
     assert_eq!(lines(0, &timer), ["send to 2: Graft 09090909.., round 5", "schedule SendGraft 09090909.. in 102"]);
 
     // Not to 7, which is the panel itself.
-    let sent = lines(0, &Event::Broadcast { content: b"hot", scope: Scope::Swarm });
+    let sent = lines(0, &Event::Broadcast(b"hot"));
     assert_eq!(sent.len(), 2);
     assert_eq!(sent[0], "schedule DispatchLazyPush in 103");
     assert!(sent[1].starts_with("send to 2: Gossip ") && sent[1].ends_with(" \"hot\", Swarm, round 0"), "{}", sent[1]);
@@ -552,7 +605,7 @@ fn threshold_in_place() {
 
 #[test]
 fn rooms() {
-    let reading = Event::Broadcast { content: b"hot", scope: Scope::Swarm };
+    let reading = Event::Broadcast(b"hot");
     let taken = |rooms: &[LinkRoom]| {
         let mut output = [0; 4096];
         let mut v = Vec::new();
@@ -579,15 +632,15 @@ fn limits_met() {
     }
     assert_eq!([0, 10, 255].map(Limit::from_number), [None; 3]);
     let full = [LinkRoom { peer: 2, room: 0 }, LinkRoom { peer: 3, room: 0 }];
-    let reading = Event::Broadcast { content: b"hot", scope: Scope::Swarm };
+    let reading = Event::Broadcast(b"hot");
     let two = vec![Announced { id: [8; 32], round: 5 }, Announced { id: [9; 32], round: 5 }];
     let ihave = Event::Received { peer: 2, message: Message::IHave(two) };
     let graft = |id| Event::Timer(Timer::SendGraft([id; 32]));
     let prune = |peer| Event::Received { peer, message: Message::Prune };
     let cases: [(Limit, Vec<Event>, Event, &[LinkRoom]); 9] = [
         (Limit::Neighbours, vec![Event::Down(3)], Event::Up(3), &[]),
-        (Limit::Received, vec![reading.clone()], Event::Broadcast { content: b"hotter", scope: Scope::Swarm }, &[]),
-        (Limit::Cached, vec![reading.clone()], Event::Broadcast { content: b"hotter", scope: Scope::Swarm }, &[]),
+        (Limit::Received, vec![reading.clone()], Event::Broadcast(b"hotter"), &[]),
+        (Limit::Cached, vec![reading.clone()], Event::Broadcast(b"hotter"), &[]),
         (Limit::Content, vec![], reading.clone(), &[]),
         (Limit::Grafted, vec![ihave.clone(), graft(8)], graft(9), &[]),
         (Limit::Missing, vec![], ihave.clone(), &[]),
@@ -660,7 +713,7 @@ fn states() -> [Panel; 5] {
             p.event(0, &Event::Received { peer: 2, message: Message::Prune }, &[], &mut output).unwrap();
         }
         if i > 0 {
-            p.event(0, &Event::Broadcast { content: &[i], scope: Scope::Swarm }, &[], &mut output).unwrap();
+            p.event(0, &Event::Broadcast(&[i]), &[], &mut output).unwrap();
         }
         p
     })
@@ -723,17 +776,17 @@ fn as_if_nothing_had_been_told_since() {
         for at in [40, 50] {
             actions.push(tell(p, at, &Event::Timer(Timer::AnnounceDropped)));
             actions.push(tell(p, at, &Event::Timer(Timer::DispatchLazyPush)));
-            actions.push(tell(p, at, &Event::Broadcast { content: &reading(at as u8), scope: Scope::Swarm }));
+            actions.push(tell(p, at, &Event::Broadcast(&reading(at as u8))));
         }
         actions
     };
     let mut p = panel(Limits::SMALL);
-    tell(&mut p, 10, &Event::Broadcast { content: &reading(1), scope: Scope::Swarm });
+    tell(&mut p, 10, &Event::Broadcast(&reading(1)));
     let mut area = Area::for_panel(&p);
     p.save(&mut area, *b"plan A  ").unwrap();
     let mut other = p.clone();
 
-    for event in [Event::Up(4), Event::Down(3), Event::Broadcast { content: &reading(2), scope: Scope::Swarm }] {
+    for event in [Event::Up(4), Event::Down(3), Event::Broadcast(&reading(2))] {
         tell(&mut p, 20, &event);
     }
     assert_eq!(p.alike(&other), Ok(false));
@@ -881,12 +934,12 @@ fn no_checksum() {
 
 #[test]
 fn error_numbers() {
-    for (i, e) in Error::ALL.iter().enumerate() {
-        assert_eq!(usize::from(e.number()), i + 1);
-        assert_eq!(Error::from_number(e.number()), Some(*e));
+    let numbers: Vec<u8> = (1..=17).chain([23]).collect();
+    assert_eq!(Error::ALL.map(Error::number), numbers[..]);
+    assert!(Error::ALL.is_sorted());
+    for n in 0..=u8::MAX {
+        assert_eq!(Error::from_number(n).map(Error::number), numbers.contains(&n).then_some(n));
     }
-    assert_eq!(Error::from_number(0), None);
-    assert_eq!(Error::from_number(18), None);
 }
 
 /// The header's words for each number (tests/c/gate.sh holds `plumtree_number_text` against the same lines).

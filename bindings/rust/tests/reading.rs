@@ -4,12 +4,12 @@
 use std::collections::HashSet;
 use std::{env, fs};
 
-use plumtree::{rewrite, Action, Announced, Delivery, Error, Event, Limits, LinkRoom, Message, Panel, Scope, Settings, Timer};
+use plumtree::{rewrite, Action, Announced, Delivery, Error, Event, Limits, LinkRoom, Message, Panel, Settings, Timer};
 
-/// The library's answer to an event where it is 7, 8 or 9; none where the event was read.
+/// The library's answer to an event where it is 7, 8, 9 or 23; none where the event was read.
 fn library(p: &mut Panel, event: &[u8], output: &mut [u8]) -> Option<Error> {
     match p.event_bytes(0, event, &[], output) {
-        Err(e @ (Error::EventCut | Error::EventMalformed | Error::EventTooLong)) => Some(e),
+        Err(e @ (Error::EventCut | Error::EventMalformed | Error::EventTooLong | Error::NeighborsBroadcast)) => Some(e),
         _ => None,
     }
 }
@@ -125,8 +125,7 @@ impl Rng {
 
     fn event<'a>(&mut self, content: &'a [u8]) -> Event<'a> {
         match self.below(9) {
-            0 => Event::Broadcast { content, scope: Scope::Swarm },
-            1 => Event::Broadcast { content, scope: Scope::Neighbors },
+            0 | 1 => Event::Broadcast(content),
             2 => Event::Timer(
                 [Timer::SendGraft(self.id()), Timer::DispatchLazyPush, Timer::EvictCache, Timer::AnnounceDropped][self.below(4)],
             ),
@@ -203,12 +202,16 @@ fn damaged_events() {
     let mut p = Panel::new(Settings::of_panel(1), Limits::SMALL).unwrap();
     let mut output = vec![0; 40_960];
     let mut r = Rng(0x9e37_79b9_7f4a_7c15);
-    let mut met = [0; 4];
+    let mut met = [0; 5];
     for _ in 0..40_000 {
         let content: Vec<u8> = (0..r.below(200)).map(|_| r.next() as u8).collect();
         let event = r.event(&content);
         let mut bytes = event.to_bytes();
+        let for_neighbours = matches!(event, Event::Broadcast(_)) && r.below(2) == 0;
         assert_eq!(Event::read(&bytes), Ok(event));
+        if for_neighbours {
+            *bytes.last_mut().unwrap() = 1;
+        }
         if r.below(4) != 0 {
             r.damage(&mut bytes);
         }
@@ -217,9 +220,9 @@ fn damaged_events() {
         if let Some(message) = message_of(&bytes) {
             assert_eq!(rewrites(message).err(), answer);
         }
-        met[answer.map_or(0, |e| usize::from(e.number()) - 6)] += 1;
+        met[answer.map_or(0, |e| if e == Error::NeighborsBroadcast { 4 } else { usize::from(e.number()) - 6 })] += 1;
     }
-    assert!(met.iter().all(|n| *n > 1000), "read, 7, 8, 9: {met:?}");
+    assert!(met.iter().all(|n| *n > 1000), "read, 7, 8, 9, 23: {met:?}");
 }
 
 /// A send's `bytes` are its message's, no more and no less, and a reading of all actions takes all bytes.
@@ -231,7 +234,7 @@ fn sent_bytes() {
         p.event(0, &Event::Up(peer), &[], &mut output).unwrap();
     }
     let full = [LinkRoom { peer: 3, room: 0 }];
-    let actions = p.event(0, &Event::Broadcast { content: b"hot", scope: Scope::Swarm }, &full, &mut output).unwrap();
+    let actions = p.event(0, &Event::Broadcast(b"hot"), &full, &mut output).unwrap();
     let mut sends = Vec::new();
     let mut left = actions.bytes();
     for action in actions {
@@ -382,7 +385,7 @@ fn long_messages() {
 /// A kind is judged at its last byte, and no sooner; a Graft's byte 0 or 1 is no number; an event's own fields have one form.
 #[test]
 fn padded_or_not() {
-    use Error::{EventCut, EventMalformed};
+    use Error::{EventCut, EventMalformed, EventTooLong, NeighborsBroadcast};
     let mut p = Panel::new(Settings::of_panel(1), Limits::SMALL).unwrap();
     let mut output = vec![0; 40_960];
     for (event, answer) in [
@@ -410,6 +413,17 @@ fn padded_or_not() {
         (&[4, 0x82, 0x00], Some(EventMalformed)),
         (&[1, 0x81, 0x00, 0x41, 0], Some(EventMalformed)),
         (&[1, 1, 0x41, 0x80, 0x00], Some(EventMalformed)),
+        // That byte is 1: the event is turned down where it is one otherwise.
+        (&[1, 1, 0x41, 0], None),
+        (&[1, 1, 0x41, 1], Some(NeighborsBroadcast)),
+        (&[1, 0, 1], Some(NeighborsBroadcast)),
+        (&[1, 2, 0x41, 1], Some(EventCut)),
+        (&[1, 1, 0x41, 2], Some(EventMalformed)),
+        (&[1, 1, 0x41, 0x81, 0x00], Some(EventMalformed)),
+        (&[1, 0x81, 0x00, 0x41, 1], Some(EventMalformed)),
+        (&[1, 1, 0x41, 1, 0], Some(EventTooLong)),
+        // Inside a message it is the kind of a delivery, as it was.
+        (&[&[0, 2, 0], &ID[..], &[1, 0x41, 1]].concat(), None),
         (&[2, 0x81, 0x00], Some(EventMalformed)),
     ] {
         assert_eq!(crates(event), answer, "{event:02x?}");

@@ -101,7 +101,7 @@ raised-takes now sender id content round r =
     let a = set_first id sender round (cache_at now id content (suc round) (mark_received now id r)) in
     let b = push_on id content (suc round) sender a in
     let c = lazy_push id (suc round) sender b in
-    ap (raised (suc round)) ((same-forget id sender round c).counts ∙ (same-lazy id (suc round) sender b).counts ∙ (walk-eager_push Same same-sending id content (Swarm (suc round)) sender _ a).counts)
+    ap (raised (suc round)) ((same-forget id sender round c).counts ∙ (same-lazy id (suc round) sender b).counts ∙ (walk-eager_push Same same-sending id content (suc round) sender _ a).counts)
 
 same-late : (sender id : ℕ) (l : Late) (r : Run) → Same r (on_duplicate sender id l r)
 unfolding on_duplicate set_kept
@@ -179,10 +179,7 @@ module _ (hash : List ℕ → ℕ) where
   unfolding broadcast broadcast_to mark_received cache_at
   same-broadcast now content r =
       walk-if Same (ltb r.state.settings.max_message_size (gossip_size (length content))) still
-      (plain r _ ((walk-eager_push Same same-sending (hash content) content (Swarm 0) r.state.settings.me [] _).counts ∙ (same-lazy (hash content) 0 r.state.settings.me _).counts))
-  same-broadcast now content to_neighbors r =
-      walk-if Same (ltb r.state.settings.max_message_size (gossip_size (length content) to_neighbors)) still
-      (walk-eager_push Same same-sending (hash content) content Neighbors r.state.settings.me [] r)
+      (plain r _ ((walk-eager_push Same same-sending (hash content) content 0 r.state.settings.me [] _).counts ∙ (same-lazy (hash content) 0 r.state.settings.me _).counts))
 
   -- the counts after the call
   pub decide-counts : (now : ℕ) (e : Event) (s : State) (c : Counts) (rooms : List Room) → whole s ≡ true → (handle hash now e (begin s c rooms)).counts ≡ counts_after_call hash now e s c

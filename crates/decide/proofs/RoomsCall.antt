@@ -276,9 +276,8 @@ module _ (b : Bool) (hash : List ℕ → ℕ) (rooms : List Room) (s : State) (x
 
   pub broadcast-in : (id : ℕ) (content : List ℕ) → Within b (alone s) (broadcast_actions rooms id content s)
   unfolding broadcast_actions
-  broadcast-in id content to_swarm =
+  broadcast-in id content =
       append b (alone s) _ _ (dispatching b (alone s) s) (pushed b (alone s) rooms _ _ _ (alone-all s (eager_targets s.settings.me [] s) (targets-near s.settings.me [] s)))
-  broadcast-in id content to_neighbors = firsts b (alone s) rooms _ _ (alone-all s (eager_targets s.settings.me [] s) (targets-near s.settings.me [] s))
 
 -- the settled state has the same links, and is consistent
 settled-links : (now : ℕ) (s : State) → (settled now s).links ≡ s.links

@@ -14,7 +14,7 @@ use Rattle.protocol.specs.Links.{Links, is_neighbour, eager_in, add_eager, add_l
 use Rattle.postcard.specs.Message.{Delivery, Swarm, Neighbors, Ihave, Message, Gossip, Prune, Graft, IHave, Timer, SendGraft, DispatchLazyPush, EvictCache, AnnounceDropped, Event, Received, Broadcast, Fired, Up, Down, Action, Sent, Scheduled, Emitted, Forgotten}
 use Rattle.protocol.specs.State.{State, Note, Hop, Cached}
 use Rattle.protocol.specs.Run.{Run, Room, with_state, with_counts, act, has_room, use_room, takes, send}
-use Rattle.protocol.specs.Push.{notes, schedule_dispatch, schedule_announce_dropped, record_full, record_also, note_one, note_each, note_dropped, send_each, handed_back, note_for_each, note_after, push_to, eager_push, lazy_push, send_ihave, eager_targets}
+use Rattle.protocol.specs.Push.{notes, schedule_dispatch, schedule_announce_dropped, record_full, record_also, note_one, note_each, note_dropped, send_each, handed_back, note_for_each, push_to, eager_push, lazy_push, send_ihave, eager_targets}
 use Rattle.protocol.specs.Gossips.{mark_received, cache_at, announcers, grafted_for, set_first, graft_out, forget_missing, raise_hops, least_from, far_closer, update_links, graft_unless_eager, prune_back, optimize_tree, forget_and_optimise, push_on, take_in, Late, duplicate, repeated, faster, late_kind, set_kept, on_duplicate, on_late_graft_reply, on_new, gossip_size, on_gossip, broadcast_to, broadcast}
 use Rattle.protocol.specs.Control.{announce, schedule_graft, on_announced, on_ihave, on_prune, reply_with, reply, on_graft, note_graft, leave_announcers, ask_first, unmark, on_send_graft_timer}
 use Rattle.protocol.specs.Ticks.{per_message, queued_peers, chunks, queued_for, send_chunks, dispatch_to, clear_dispatch, on_dispatch_timer, move_oldest, still_cached, dispatch_if_queued, on_announce_dropped_timer, evict, tell_forgotten, on_evict_cache_timer}
@@ -144,11 +144,6 @@ unfolding note_for_each
 fair-note_for_each [] h r = fair-refl r
 fair-note_for_each (p ∷ ps) h r = seq (note_dropped p (h ∷ [])) (note_for_each ps h) r (fair-note_dropped p (h ∷ []) r) (fair-note_for_each ps h (note_dropped p (h ∷ []) r))
 
-fair-note_after : (back : List ℕ) (id : ℕ) (d : Delivery) (r : Run) → Fair (note_after back id d) r
-unfolding note_after
-fair-note_after back id (Swarm round) r = fair-note_for_each back _ r
-fair-note_after back id Neighbors r = fair-refl r
-
 sent-now : (p : ℕ) (m : Message) (r : Run) → sent_to p (send p m r).actions ≡ true
 unfolding send
 sent-now p m r = sent-last p (takes p r) m r.actions
@@ -164,20 +159,21 @@ handed-same P (p ∷ ps) m r rooms c a =
     ap (handed_back ps m) o.same ∙ handed-same P ps m (send p m r) (send p m (with_rooms rooms r)).rooms c o.agree in
     rw (same-room P p rooms r.rooms h a, t) refl
 
-fair-push_to : (ps : List ℕ) (id : ℕ) (content : List ℕ) (d : Delivery) (r : Run) → Fair (push_to ps id content d) r
+fair-push_to : (ps : List ℕ) (id : ℕ) (content : List ℕ) (round : ℕ) (r : Run) → Fair (push_to ps id content round) r
 unfolding push_to
-fair-push_to ps id content d r =
-    let m = Gossip id content d in
-    let n = fair-note_after (handed_back ps m r) id d (send_each ps m r) in
-    let b = seq (send_each ps m) (note_after (handed_back ps m r) id d) r (fair-send_each ps m r) n in
+fair-push_to ps id content round r =
+    let m = Gossip id content (Swarm round) in
+    let h : Ihave = record { id = id; round = round } in
+    let n = fair-note_for_each (handed_back ps m r) h (send_each ps m r) in
+    let b = seq (send_each ps m) (note_for_each (handed_back ps m r) h) r (fair-send_each ps m r) n in
     record {
       grows = b.grows;
       out = λ P c rooms a. rw (handed-same P ps m r rooms (λ p s. c p (n.grows p s)) a) (b.out P c rooms a);
     }
 
-fair-eager_push : (id : ℕ) (content : List ℕ) (d : Delivery) (sender : ℕ) (skip : List ℕ) (r : Run) → Fair (eager_push id content d sender skip) r
+fair-eager_push : (id : ℕ) (content : List ℕ) (round sender : ℕ) (skip : List ℕ) (r : Run) → Fair (eager_push id content round sender skip) r
 unfolding eager_push
-fair-eager_push id content d sender skip r = fair-push_to (eager_targets sender skip r.state) id content d r
+fair-eager_push id content round sender skip r = fair-push_to (eager_targets sender skip r.state) id content round r
 
 fair-lazy_push : (id round sender : ℕ) (r : Run) → Fair (lazy_push id round sender) r
 unfolding lazy_push
@@ -247,7 +243,7 @@ fair-forget_and_optimise id sender round r =
 
 fair-push_on : (id : ℕ) (content : List ℕ) (round sender : ℕ) (r : Run) → Fair (push_on id content round sender) r
 unfolding push_on
-fair-push_on id content round sender r = fair-eager_push id content (Swarm round) sender (keys (grafted_for id r.state)) r
+fair-push_on id content round sender r = fair-eager_push id content round sender (keys (grafted_for id r.state)) r
 
 fair-raise_hops : (round : ℕ) (r : Run) → Fair (raise_hops round) r
 unfolding raise_hops
@@ -408,10 +404,9 @@ module _ (hash : List ℕ → ℕ) where
   fair-broadcast_to : (now : ℕ) (content : List ℕ) (r : Run) → Fair (broadcast_to hash now content) r
   unfolding broadcast_to
   fair-broadcast_to now content r =
-      fair-then r _ _ (eager_push (hash content) content (Swarm 0) r.state.settings.me []) (fair-then r _ _ (lazy_push (hash content) 0 r.state.settings.me)
+      fair-then r _ _ (eager_push (hash content) content 0 r.state.settings.me []) (fair-then r _ _ (lazy_push (hash content) 0 r.state.settings.me)
       (seq (mark_received now (hash content)) (cache_at now (hash content) content 0) r (fair-mark_received now (hash content) r) (fair-cache_at now (hash content) content 0 _)) (fair-lazy_push (hash content) 0 r.state.settings.me _))
-      (fair-eager_push (hash content) content (Swarm 0) r.state.settings.me [] _)
-  fair-broadcast_to now content to_neighbors r = fair-eager_push (hash content) content Neighbors r.state.settings.me [] r
+      (fair-eager_push (hash content) content 0 r.state.settings.me [] _)
 
   fair-broadcast : (now : ℕ) (content : List ℕ) (r : Run) → Fair (broadcast hash now content) r
   unfolding broadcast

@@ -12,7 +12,7 @@ use Rattle.postcard.specs.Message.{Delivery, Swarm, Neighbors, Ihave, Message, G
 use Rattle.protocol.specs.Links.{eager, is_neighbour, add_lazy, add_eager}
 use Rattle.protocol.specs.State.{State, Counts, Hop, Cached, with_links, with_dispatch_scheduled, with_announce_scheduled}
 use Rattle.protocol.specs.Run.{Run, Room, begin, with_state, with_counts, act, send, takes}
-use Rattle.protocol.specs.Push.{schedule_announce_dropped, note_dropped, send_each, handed_back, note_for_each, eager_targets, note_after, push_to, eager_push, lazy_push}
+use Rattle.protocol.specs.Push.{schedule_announce_dropped, note_dropped, send_each, handed_back, note_for_each, eager_targets, push_to, eager_push, lazy_push}
 use Rattle.protocol.specs.Gossips.{mark_received, cache_at, update_links, prune_back, announcers, set_kept, Late, duplicate, repeated, faster, on_duplicate, on_late_graft_reply, on_new, on_gossip, gossip_size, broadcast_to, broadcast}
 use Rattle.protocol.specs.Control.{announce, schedule_graft, on_announced, on_ihave, on_prune, reply_with, reply, on_graft, note_graft, leave_announcers, ask_first, unmark, on_send_graft_timer}
 use Rattle.protocol.specs.Ticks.{oldest, younger, move_oldest, still_cached, dispatch_if_queued, on_announce_dropped_timer, on_evict_cache_timer}
@@ -29,7 +29,6 @@ use Rattle.decide.proofs.SettledLaws.{first-rooms}
 use Rattle.decide.proofs.Broadcast.{lazy-rooms}
 use Rattle.decide.proofs.Dispatch.{dispatched-state}
 use Rattle.decide.proofs.UpDownEvict.{dispatch-state}
-use Rattle.decide.proofs.PushLaws.{sent-state}
 use Rattle.decide.proofs.StateLaws.{push-state, eager-state, lazy-state, taken-state, new-state}
 
 -- a first event's work
@@ -43,11 +42,6 @@ unfolding on_duplicate late_state prune_back update_links send set_kept
 late-state sender id duplicate r = refl
 late-state sender id repeated r = refl
 late-state sender id (faster first) r = refl
-
--- a push for Neighbors notes nothing
-near-state : (ps : List ℕ) (id : ℕ) (content : List ℕ) (r : Run) → (push_to ps id content Neighbors r).state ≡ r.state
-unfolding push_to note_after
-near-state ps id content r = sent-state ps (Gossip id content Neighbors) r
 
 module _ (hash : List ℕ → ℕ) where
   pub gossip-state : (now sender id : ℕ) (content : List ℕ) (d : Delivery) (r : Run) → Consistent r.state → (on_gossip hash now sender id content d r).state ≡ gossip_state hash r.rooms now sender id content d r.state
@@ -65,7 +59,7 @@ module _ (hash : List ℕ → ℕ) where
 
   pub broadcast-state : (now : ℕ) (content : List ℕ) (r : Run) → Consistent r.state → (broadcast_to hash now content r).state ≡ broadcast_state r.rooms now (hash content) content r.state
   unfolding broadcast_to broadcast_state eager_push
-  broadcast-state now content to_swarm r x =
+  broadcast-state now content r x =
       let id = hash content in
       let me = r.state.settings.me in
       let r₂ = cache_at now id content 0 (mark_received now id r) in
@@ -75,7 +69,6 @@ module _ (hash : List ℕ → ℕ) where
       eager-state id content 0 me [] r₃ (rw s₃ (unfold lazy_state taken_state in x.core.links_up)) (rw s₃ (unfold lazy_state taken_state in x.record_flag))
       ∙ ap (λ (rooms : List Room). pushed_state rooms (eager_targets me [] r₃.state) (record { id = id; round = 0 }) r₃.state) same
       ∙ ap (λ (s : State). pushed_state r.rooms (eager_targets me [] s) (record { id = id; round = 0 }) s) s₃
-  broadcast-state now content to_neighbors r x = near-state (eager_targets r.state.settings.me [] r.state) (hash content) content r
 
 -- IHave
 announced-state : (sender : ℕ) (h : Ihave) (r : Run) → (on_announced sender h r).state ≡ announced_state sender h r.state
@@ -102,8 +95,8 @@ send_graft-state now id r =
     ∙ if-both (holds id r.state.received) refl (asked-state now id (announcers id r.state) (unmark id r) ∙ unfold unmark in refl)
 
 -- a Graft reply is a push to one peer
-reply-push : (sender id : ℕ) (c : Cached) (r : Run) → reply_with sender id (Some c) r ≡ push_to (sender ∷ []) id c.content (Swarm c.round) r
-unfolding reply_with push_to note_after note_for_each handed_back send_each
+reply-push : (sender id : ℕ) (c : Cached) (r : Run) → reply_with sender id (Some c) r ≡ push_to (sender ∷ []) id c.content c.round r
+unfolding reply_with push_to note_for_each handed_back send_each
 reply-push sender id c r = on (takes sender r)
   where
     m : Message

@@ -57,7 +57,7 @@ module _ (t : State) (x : Consistent t) where
       → ((m : NewMessage) → r ≡ step.NewSwarm m → ⊥)
       → ((link : ℕ) (w : Option Id) → r ≡ step.Graft link w → ⊥)
       → ((link : ℕ) (ihaves : Ihaves) → r ≡ step.IHave link ihaves → ⊥)
-      → ((id : Id) (content : Bor (List ℕ)) → r ≡ step.BroadcastSwarm id content → ⊥)
+      → ((id : Id) (content : Bor (List ℕ)) → r ≡ step.Broadcast id content → ⊥)
       → ((id : Id) → r ≡ step.SendGraft id → ⊥)
       → (r ≡ step.DispatchLazyPush → ⊥)
       → (r ≡ step.EvictCache → ⊥)
@@ -71,8 +71,7 @@ module _ (t : State) (x : Consistent t) where
   others-sized call (step.Prune link) a b c d e f g h = prune-sized (peer_at t link)
   others-sized call (step.Graft link w) a b c d e f g h = absurd (b link w refl)
   others-sized call (step.IHave link ihaves) a b c d e f g h = absurd (c link ihaves refl)
-  others-sized call (step.BroadcastSwarm id content) a b c d e f g h = absurd (d id content refl)
-  others-sized call (step.BroadcastNeighbors id content) a b c d e f g h = refl
+  others-sized call (step.Broadcast id content) a b c d e f g h = absurd (d id content refl)
   others-sized call (step.SendGraft id) a b c d e f g h = absurd (e id refl)
   others-sized call step.DispatchLazyPush a b c d e f g h = absurd (f refl)
   others-sized call step.EvictCache a b c d e f g h = absurd (g refl)
@@ -85,7 +84,7 @@ pub others-still : (call : Call) (r : Step) (t : State)
     → ((link : ℕ) → r ≡ step.Prune link → ⊥)
     → ((link : ℕ) (w : Option Id) → r ≡ step.Graft link w → ⊥)
     → ((link : ℕ) (ihaves : Ihaves) → r ≡ step.IHave link ihaves → ⊥)
-    → ((id : Id) (content : Bor (List ℕ)) → r ≡ step.BroadcastSwarm id content → ⊥)
+    → ((id : Id) (content : Bor (List ℕ)) → r ≡ step.Broadcast id content → ⊥)
     → ((id : Id) → r ≡ step.SendGraft id → ⊥)
     → (r ≡ step.DispatchLazyPush → ⊥)
     → (r ≡ step.EvictCache → ⊥)
@@ -99,8 +98,7 @@ others-still call (step.Late copy) t a b c d e f g h i j = absurd (b copy refl)
 others-still call (step.Prune link) t a b c d e f g h i j = absurd (c link refl)
 others-still call (step.Graft link w) t a b c d e f g h i j = absurd (d link w refl)
 others-still call (step.IHave link ihaves) t a b c d e f g h i j = absurd (e link ihaves refl)
-others-still call (step.BroadcastSwarm id content) t a b c d e f g h i j = absurd (f id content refl)
-others-still call (step.BroadcastNeighbors id content) t a b c d e f g h i j = refl
+others-still call (step.Broadcast id content) t a b c d e f g h i j = absurd (f id content refl)
 others-still call (step.SendGraft id) t a b c d e f g h i j = absurd (g id refl)
 others-still call step.DispatchLazyPush t a b c d e f g h i j = absurd (h refl)
 others-still call step.EvictCache t a b c d e f g h i j = absurd (i refl)
@@ -124,8 +122,7 @@ held_same s t (step.Late copy) e a = a
 held_same s t (step.Prune link) e a = subst (λ (n : ℕ). link < n) e a
 held_same s t (step.Graft link w) e a = subst (λ (n : ℕ). link < n) e a
 held_same s t (step.IHave link ihaves) e a = record { there = subst (λ (n : ℕ). link < n) e a.there; few = a.few }
-held_same s t (step.BroadcastSwarm id content) e a = a
-held_same s t (step.BroadcastNeighbors id content) e a = a
+held_same s t (step.Broadcast id content) e a = a
 held_same s t (step.SendGraft id) e a = a
 held_same s t step.DispatchLazyPush e a = a
 held_same s t step.EvictCache e a = a

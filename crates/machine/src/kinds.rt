@@ -126,10 +126,8 @@ pub fn broadcast_step<'a>(view: &View, call: &Call, content: &'a [u8]) -> Step<'
     if !serialized_size::broadcast_fits(content.len(), max) {
         return Step::Nothing;
     }
-    Step::Broadcast {
-        id: blake3::hash(content),
-        content,
-    }
+    let id = blake3::hash(content);
+    Step::Broadcast { id, content }
 }
 
 // The step of a timer.

@@ -28,7 +28,7 @@ use Rattle.decide.specs.Settled.{settled, settled_actions}
 use Rattle.decide.specs.ActionsAfter.{broadcast_actions, gossip_actions, message_actions, timer_actions, actions_after}
 use Rattle.output_size.specs.OutputSize.{output_size}
 use Rattle.output_size.proofs.Weights.{weight, weight-append, weight-one, weight-none, weight-if}
-use Rattle.output_size.proofs.Steps.{entry_fits, settled-weight, evict-weight, announce-weight, graft-weight, send_graft-weight, ihave-weight, broadcast-weight, broadcast_near-weight, late-weight, emit-weight, new-weight}
+use Rattle.output_size.proofs.Steps.{entry_fits, settled-weight, evict-weight, announce-weight, graft-weight, send_graft-weight, ihave-weight, broadcast-weight, late-weight, emit-weight, new-weight}
 use Rattle.output_size.proofs.DispatchWeight.{short_note, dispatch-weight}
 
 -- what bounds the actions upon the state
@@ -117,11 +117,7 @@ module _ (hash : List ℕ → ℕ) (rooms : List Room) (s : State) (b : Bounded 
       weight (if ltb M (gossip_size (length content)) then [] else broadcast_actions rooms (hash content) content s) ≤ s.limits.N * (s.settings.max_message_size + 13) + s.settings.max_message_size + 65
   broadcast-few M e content =
       cases (ltb M (gossip_size (length content))) (λ t. rw t (omega (arith, weight-none)))
-      (λ t. rw t (on scope (omega (arith, e, ltb-false M (gossip_size (length content)) t))))
-    where
-      on : → gossip_size (length content) scope ≤ s.settings.max_message_size → weight (broadcast_actions rooms (hash content) content s) ≤ s.limits.N * (s.settings.max_message_size + 13) + s.settings.max_message_size + 65
-      on to_swarm h = omega (arith, b.size, broadcast-weight s.settings.max_message_size s.limits.N rooms (hash content) content s b.links h)
-      on to_neighbors h = omega (arith, broadcast_near-weight s.settings.max_message_size s.limits.N rooms (hash content) content s b.links h)
+      (λ t. rw t (omega (arith, b.size, broadcast-weight s.settings.max_message_size s.limits.N rooms (hash content) content s b.links (omega (arith, e, ltb-false M (gossip_size (length content)) t)))))
 
   timer-few : (now : ℕ) (t : Timer) → weight (timer_actions hash rooms now t s) + 12 ≤ output_size s.limits s.settings.max_message_size
   unfolding timer_actions per_message

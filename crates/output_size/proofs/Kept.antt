@@ -241,13 +241,12 @@ good-late M sender id (faster first) s g = still M (with_kept id sender (get id 
     kept None = unfold with_kept in g
     kept (Some x) = unfold with_kept in (still M s _ refl refl refl refl refl g)
 
-good-broadcast : (M : ℕ) (rooms : List Room) (now id : ℕ) (content : List ℕ) (s : State) → gossip_size (length content) scope ≤ M → Good M s → Good M (broadcast_state rooms now id content s)
+good-broadcast : (M : ℕ) (rooms : List Room) (now id : ℕ) (content : List ℕ) (s : State) → gossip_size (length content) ≤ M → Good M s → Good M (broadcast_state rooms now id content s)
 unfolding broadcast_state gossip_size
-good-broadcast M rooms now id content to_swarm s h g =
+good-broadcast M rooms now id content s h g =
     good-pushed M rooms _ (record { id = id; round = 0 }) _ refl
     (good-lazy M id 0 s.settings.me _ refl
     (good-taken M now id content 0 s (omega (arith, number-one 0 (omega arith), h)) refl g))
-good-broadcast M rooms now id content to_neighbors s h g = g
 
 good-announced : (M sender : ℕ) (h : Ihave) (s : State) → Good M s → Good M (announced_state sender h s)
 unfolding announced_state

@@ -2,7 +2,7 @@
 -- Assumes nothing.
 use Prim.Native.Nat.{ℕ, ◌≤◌, ◌<◌, ◌^◌}
 use mathlib.Core.Path.{◌≡◌, refl, sym, ap, subst, ◌∙◌}
-use mathlib.Core.Bool.{true, false, ◌&&◌}
+use mathlib.Core.Bool.{true, false, ◌&&◌, ◌||◌}
 use mathlib.Core.List.{List, [], ◌∷◌}
 use native.Mathlib.Omega.{arith}
 use lib.Dec.{eqb, leb}
@@ -195,8 +195,8 @@ module _ (hash : List ℕ → ℕ) where
   unfolding ask_read ask_of
   enough-read s c k (faulty n) q w g y = refused _ n k (λ z. not-14 n z (rw q at (decode-faults k.event)))
     where
-      not-14 : (n : ℕ) → n ≡ 14 → (leb 7 n && leb n 9) ≡ true → ⊥
-      not-14 n z f = omega (arith, z, leb-true n 9 (and_right (leb 7 n) (leb n 9) f))
+      not-14 : (n : ℕ) → n ≡ 14 → (leb 7 n && leb n 9 || eqb n 23) ≡ true → ⊥
+      not-14 n z f = true≢ (rw z at f)
   enough-read s c k (decoded e) q w g y =
       cases (message_fits s.settings.max_message_size k.event e)
       (λ a. cases (counts_stay e c)

@@ -17,7 +17,7 @@ use Rattle.storage.proofs.ListsLaws.ListLaws.{length-filter, count-length}
 use Rattle.time_cache.specs.TimeCache.{Timed, Expiry, get, value_of, holds, expires_at, pop, due, popped, expired_keys}
 use Rattle.postcard.specs.Number.{number_length}
 use Rattle.postcard.specs.Sizes.{gossip_size}
-use Rattle.postcard.specs.Message.{Delivery, Swarm, Neighbors, Ihave, Message, Gossip, Prune, Graft, IHave, SendGraft, DispatchLazyPush, EvictCache, AnnounceDropped, Action, Sent, Scheduled, Emitted, Forgotten}
+use Rattle.postcard.specs.Message.{Delivery, Swarm, Ihave, Message, Gossip, Prune, Graft, IHave, SendGraft, DispatchLazyPush, EvictCache, AnnounceDropped, Action, Sent, Scheduled, Emitted, Forgotten}
 use Rattle.postcard.proofs.Lengths.{number-few}
 use Rattle.protocol.specs.Links.{Mark, Links, is_eager, peers_marked, eager_peers, is_neighbour, eager_in}
 use Rattle.protocol.specs.State.{State, Hop, Cached}
@@ -212,19 +212,13 @@ ihave-weight M hs s h =
       h,
     )
 
-pub broadcast-weight : (M N : ℕ) (rooms : List Room) (id : ℕ) (content : List ℕ) (s : State) → length s.links ≤ N → gossip_size (length content) to_swarm ≤ M → weight (broadcast_actions rooms id content to_swarm s) ≤ N * (M + 13) + 24
+pub broadcast-weight : (M N : ℕ) (rooms : List Room) (id : ℕ) (content : List ℕ) (s : State) → length s.links ≤ N → gossip_size (length content) ≤ M → weight (broadcast_actions rooms id content s) ≤ N * (M + 13) + 24
 unfolding broadcast_actions gossip_size
 broadcast-weight M N rooms id content s n h =
     let x : List Action = push_actions rooms (Gossip id content (Swarm 0)) (eager_targets s.settings.me [] s) s.timers.announce in
     let a : weight x ≤ N * (M + 13) + 12 =
     push-weight rooms (Gossip id content (Swarm 0)) (eager_targets s.settings.me [] s) s.timers.announce N (M + 13) (omega (arith, targets-few s.settings.me [] s, n)) (omega (arith, gossip-length id content 0, number-one 0 (omega arith), h)) in
     omega (arith, weight-append (dispatch_action s) x, dispatch_action-weight s, a)
-
-pub broadcast_near-weight : (M N : ℕ) (rooms : List Room) (id : ℕ) (content : List ℕ) (s : State) → length s.links ≤ N → gossip_size (length content) to_neighbors ≤ M → weight (broadcast_actions rooms id content to_neighbors s) ≤ N * (M + 13)
-unfolding broadcast_actions gossip_size
-broadcast_near-weight M N rooms id content s n h =
-    sends-weight rooms (Gossip id content Neighbors) (eager_targets s.settings.me [] s) N (M + 13) (omega (arith, targets-few s.settings.me [] s, n))
-    (unfold message_length delivery_length in (omega (arith, h)))
 
 prune-weight : (p : ℕ) (taken : Bool) → action_length (Sent p taken Prune) ≤ 13
 prune-weight p taken = unfold message_length in (omega (arith, sent-weight p taken Prune))

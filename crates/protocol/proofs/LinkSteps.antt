@@ -190,5 +190,5 @@ module _ (hash : List ℕ → ℕ) where
   unfolding handle_message
   keeps-handle_message now sender m r = let k : Keeps r _ = still refl in k ⨾ keeps-on_message now sender m _
 
-  pub keeps-broadcast_event : (now : ℕ) (content : List ℕ) (s : Scope) (r : Run) → Keeps r (broadcast hash now content s r)
-  keeps-broadcast_event now content s r = walk-broadcast Keeps keeps-steps keeps-caches hash now content s r
+  pub keeps-broadcast_event : (now : ℕ) (content : List ℕ) (r : Run) → Keeps r (broadcast hash now content r)
+  keeps-broadcast_event now content r = walk-broadcast Keeps keeps-steps keeps-caches hash now content r

@@ -11,12 +11,12 @@ use Rattle.postcard.specs.Message.{Delivery, Swarm, Neighbors, Ihave, Message, G
 use Rattle.protocol.specs.Links.{is_neighbour}
 use Rattle.protocol.specs.State.{Note, Cached}
 use Rattle.protocol.specs.Run.{Run, takes, emit}
-use Rattle.protocol.specs.Push.{schedule_announce_dropped, note_each, note_dropped, note_for_each, note_after, push_to, eager_push, lazy_push, send_ihave}
+use Rattle.protocol.specs.Push.{schedule_announce_dropped, note_each, note_dropped, note_for_each, push_to, eager_push, lazy_push, send_ihave}
 use Rattle.protocol.specs.Gossips.{forget_and_optimise, raise_hops, push_on, take_in, on_new, gossip_size, on_gossip, broadcast_to, broadcast}
 use Rattle.protocol.specs.Control.{reply_with, reply, on_graft}
 use Rattle.protocol.specs.Ticks.{chunks, queued_for, send_chunks, dispatch_to, clear_dispatch, on_dispatch_timer}
 use Rattle.protocol.specs.Handle.{if_neighbour, on_timer, on_message, handle_message, handle}
-use Rattle.protocol.specs.Notings.{Account, plain, note_one', note_each', note_dropped', note_for_each', note_after', push_to', eager_push', send_ihave', push_on', take_in', on_new', reply_with', reply', on_graft', send_chunks', dispatch_to', on_dispatch_timer', if_neighbour', on_timer', on_gossip', broadcast_to', broadcast', on_message', handle_message', handle'}
+use Rattle.protocol.specs.Notings.{Account, plain, note_one', note_each', note_dropped', note_for_each', push_to', eager_push', send_ihave', push_on', take_in', on_new', reply_with', reply', on_graft', send_chunks', dispatch_to', on_dispatch_timer', if_neighbour', on_timer', on_gossip', broadcast_to', broadcast', on_message', handle_message', handle'}
 
 run-if : (b : Bool) (x y : Account) {u v : Run} → x.run ≡ u → y.run ≡ v → (if b then x else y).run ≡ (if b then u else v)
 run-if true x y p q = p
@@ -36,14 +36,9 @@ unfolding note_for_each' note_for_each
 run-note_for_each [] h a = refl
 run-note_for_each (p ∷ ps) h a = run-note_for_each ps h (note_dropped' p (h ∷ []) a) ∙ ap (note_for_each ps h) (run-note_dropped p (h ∷ []) a)
 
-run-note_after : (back : List ℕ) (id : ℕ) (d : Delivery) (a : Account) → (note_after' back id d a).run ≡ note_after back id d a.run
-unfolding note_after' note_after
-run-note_after back id (Swarm round) a = run-note_for_each _ _ a
-run-note_after back id Neighbors a = refl
-
-run-eager_push : (id : ℕ) (content : List ℕ) (d : Delivery) (sender : ℕ) (skip : List ℕ) (a : Account) → (eager_push' id content d sender skip a).run ≡ eager_push id content d sender skip a.run
+run-eager_push : (id : ℕ) (content : List ℕ) (round sender : ℕ) (skip : List ℕ) (a : Account) → (eager_push' id content round sender skip a).run ≡ eager_push id content round sender skip a.run
 unfolding eager_push' eager_push push_to' push_to
-run-eager_push id content d sender skip a = run-note_after _ id d _
+run-eager_push id content round sender skip a = run-note_for_each _ _ _
 
 pub run-send_ihave : (p : ℕ) (hs : List Ihave) (a : Account) → (send_ihave' p hs a).run ≡ send_ihave p hs a.run
 unfolding send_ihave' send_ihave
@@ -52,7 +47,7 @@ run-send_ihave p hs a = run-if (takes p a.run) _ _ refl (run-note_dropped p hs _
 run-take_in : (now sender id : ℕ) (content : List ℕ) (round : ℕ) (a : Account) → (take_in' now sender id content round a).run ≡ take_in now sender id content round a.run
 unfolding take_in' take_in push_on' push_on
 run-take_in now sender id content round a =
-    ap (λ r. raise_hops (suc round) (forget_and_optimise id sender round (lazy_push id (suc round) sender r))) (run-eager_push id content (Swarm (suc round)) sender _ _)
+    ap (λ r. raise_hops (suc round) (forget_and_optimise id sender round (lazy_push id (suc round) sender r))) (run-eager_push id content (suc round) sender _ _)
 
 run-on_new : (now sender id : ℕ) (content : List ℕ) (d : Delivery) (a : Account) → (on_new' now sender id content d a).run ≡ on_new now sender id content d a.run
 unfolding on_new' on_new
@@ -94,8 +89,7 @@ module _ (hash : List ℕ → ℕ) where
 
   run-broadcast_to : (now : ℕ) (content : List ℕ) (a : Account) → (broadcast_to' hash now content a).run ≡ broadcast_to hash now content a.run
   unfolding broadcast_to' broadcast_to
-  run-broadcast_to now content a = run-eager_push _ content (Swarm 0) _ [] _
-  run-broadcast_to now content to_neighbors a = run-eager_push _ content Neighbors _ [] a
+  run-broadcast_to now content a = run-eager_push _ content 0 _ [] _
 
   run-broadcast : (now : ℕ) (content : List ℕ) (a : Account) → (broadcast' hash now content a).run ≡ broadcast hash now content a.run
   unfolding broadcast' broadcast

@@ -18,7 +18,7 @@ use Rattle.protocol.specs.Whole.{whole}
 use Rattle.protocol.specs.Answer.{Call, Answer, accept, ask_whole}
 use Rattle.protocol.specs.Calls.{run_calls, state_after, counts_after, prepend}
 use Rattle.protocol.specs.Quiet.{quiet_after_call, quiet_after, told_quiet}
-use Rattle.protocol.specs.ReadingsFollowTheTree.{tree_link, Due, passed_on, broadcast_by_us, for_neighbours, asked_for}
+use Rattle.protocol.specs.ReadingsFollowTheTree.{tree_link, Due, passed_on, broadcast_by_us, asked_for}
 use Rattle.protocol.specs.Unasked.{AskedFor, OnlyAsked, NeverUnasked, NoUnaskedPayload}
 use Rattle.protocol.proofs.Accepted.{run_of, ask-cases}
 use Rattle.protocol.proofs.Consistent.{whole-consistent}
@@ -44,7 +44,6 @@ module _ (hash : List ℕ → ℕ) where
   due-asked : (s : State) (e : Event) (r : Run) (p : ℕ) (m : Message) → ascending (keys s.links) ≡ true → quiet_in p s.links ≡ true → Due hash s e r p m → AskedFor p e m
   due-asked s e r p _ up still (passed_on from id round content i t tree elsewhere ungrafted) = true≢ (no-tree-link p s up still tree)
   due-asked s e r p _ up still (broadcast_by_us content i t tree) = true≢ (no-tree-link p s up still tree)
-  due-asked s e r p _ up still (for_neighbours content i small tree) = true≢ (no-tree-link p s up still tree)
   due-asked s e r p _ up still (asked_for id round c i neighbour cached) = record { id = id; round = round; content = c.content; delivery = Swarm c.round; graft = i; payload = refl }
 
   -- an accepted call upon a whole state sends a neighbour that is quiet before it only what it asks for

@@ -28,5 +28,6 @@ pub mod GuaranteeExamples
 pub mod WhereAPortGoesAstray
 pub mod AnyQuestions
 pub mod NeverFive
+pub mod RetiredBroadcasts
 pub mod TookExact
 pub mod Numbers

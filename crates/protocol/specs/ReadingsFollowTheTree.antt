@@ -1,16 +1,16 @@
 -- The first half of the rule: tree links carry the reading, other links its identifier only. Of each accepted call: to whom it sends a payload, for whom it queues an identifier, and what becomes of
 -- what stands queued. Links are taken as they stand before the call: a tree link is that of an eager neighbour, another link that of a lazy one.
 -- Assumes nothing.
-use Rattle.std.specs.Prelude.{ℕ, suc, ◌≡◌, Bool, true, false, not, ◌&&◌, List, [], ◌∷◌, ◌++◌, leb, eqb, length, if◌then◌else◌, Some}
+use Rattle.std.specs.Prelude.{ℕ, suc, ◌≡◌, Bool, true, false, not, ◌&&◌, List, [], ◌∷◌, ◌++◌, eqb, if◌then◌else◌, Some}
 use Rattle.storage.specs.Lists.Base.{any, member}
 use Rattle.storage.specs.Lists.Map.{has}
 use Rattle.time_cache.specs.TimeCache.{get}
-use Rattle.postcard.specs.Message.{Swarm, Neighbors, Message, Gossip, Prune, Graft, IHave, Event, Received, Broadcast, Action, Sent, Scheduled, Emitted, Forgotten}
+use Rattle.postcard.specs.Message.{Swarm, Message, Gossip, Prune, Graft, IHave, Event, Received, Broadcast, Action, Sent, Scheduled, Emitted, Forgotten}
 use Rattle.protocol.specs.Links.{is_neighbour, eager_peers, lazy_peers}
 use Rattle.protocol.specs.State.{State, Counts, Settings, Limits, Cached, created, create}
 use Rattle.protocol.specs.Run.{Run}
 use Rattle.protocol.specs.Push.{notes}
-use Rattle.protocol.specs.Gossips.{grafted_for, gossip_size}
+use Rattle.protocol.specs.Gossips.{grafted_for}
 use Rattle.protocol.specs.Answer.{Call, Answer, accept}
 use Rattle.protocol.specs.Calls.{state_after, run_calls}
 use Rattle.protocol.specs.NoNeighbourPassedOver.{is_down, Took, took, lists, sends, taken_or_handed_back, dispatch_tick, announce_tick, fires_tick}

@@ -11,6 +11,7 @@ ghost use Rattle.protocol.specs.AlikeCalls.CommissioningSheet.{CommissioningShee
 ghost use Rattle.protocol.specs.AnyQuestions.{AnyQuestions};
 ghost use Rattle.protocol.specs.TookExact.{TookExact};
 ghost use Rattle.protocol.specs.NeverFive.{NeverFive};
+ghost use Rattle.protocol.specs.RetiredBroadcasts.{RetiredBroadcasts};
 ghost use Rattle.protocol.specs.Numbers.{Numbers};
 ghost use Rattle.protocol.specs.WorkedCalls.{WorkedCalls};
 ghost use Rattle.protocol.specs.GuaranteeExamples.{GuaranteeExamples};
@@ -69,6 +70,11 @@ pub fn took_is_exact()
 // A panel does not refuse its own block: no call since an accepted creation is answered 5.
 pub fn never_answered_five()
     ensures { (hash : List ℕ → ℕ) → NeverFive hash }
+{}
+
+// "A broadcast event with byte 1 is turned down … Such a broadcast answers 23, asked between 9 and 10": 23 is answered of it, and of nothing else.
+pub fn retired_broadcasts_are_answered_23()
+    ensures { (hash : List ℕ → ℕ) → RetiredBroadcasts hash }
 {}
 
 // "Calls worked through": the starred ones, "proved together, as one theorem about the definitions", and the example of `panelrun`.

@@ -3,7 +3,7 @@ use native.Mathlib.Omega.{arith}
 use mathlib.Core.Path.{◌≡◌}
 use Rattle.refusal.specs.Numbers.{number_of}
 use Rattle.refusal.specs.declared.Refusal.{Refusal}
-use Rattle.refusal.specs.declared.Refusal.TheVariants.{MessageSizeOutOfRange, DurationTooLong, LimitOutOfRange, BlockTooShort, BlockNotWhole, TimeTooLate, EventCut, EventMalformed, EventTooLong, MessageTooLong, CountsFull, NoMoreHops, LimitReached, OutputTooShort, NameNotKept, NamesFull, AreaNotWhole}
+use Rattle.refusal.specs.declared.Refusal.TheVariants.{MessageSizeOutOfRange, DurationTooLong, LimitOutOfRange, BlockTooShort, BlockNotWhole, TimeTooLate, EventCut, EventMalformed, EventTooLong, MessageTooLong, CountsFull, NoMoreHops, LimitReached, OutputTooShort, NameNotKept, NamesFull, AreaNotWhole, NeighborsBroadcast}
 
 pub not_0 : (r : Refusal) → number_of r ≡ 0 → ⊥
 not_0 MessageSizeOutOfRange e = omega arith
@@ -23,3 +23,4 @@ not_0 OutputTooShort e = omega arith
 not_0 NameNotKept e = omega arith
 not_0 NamesFull e = omega arith
 not_0 AreaNotWhole e = omega arith
+not_0 NeighborsBroadcast e = omega arith

@@ -41,10 +41,8 @@ step-light rooms now t (step.Prune link) s small held = light-none
 step-light rooms now t (step.Graft link w) s small held = light-more (graft-light rooms (peer_at s link) (wanted_value w) s small) (omega arith)
 step-light rooms now t (step.IHave link ihaves) s small held =
     light-more (ihave-light (ihaves_value ihaves) s (omega (arith, announced_count ihaves.count ihaves.bytes.now ihaves.there, held.few))) (omega arith)
-step-light rooms now t (step.BroadcastSwarm id content) s small held =
-    light-more (broadcast-light rooms (id_of id) content.now to_swarm s small held.short) (omega arith)
-step-light rooms now t (step.BroadcastNeighbors id content) s small held =
-    light-more (broadcast-light rooms (id_of id) content.now to_neighbors s small held.short) (omega arith)
+step-light rooms now t (step.Broadcast id content) s small held =
+    light-more (broadcast-light rooms (id_of id) content.now s small held.short) (omega arith)
 step-light rooms now t (step.SendGraft id) s small held = light-more (send-graft-light rooms (id_of id) s) (omega arith)
 step-light rooms now t step.DispatchLazyPush s small held = dispatch-light rooms s small
 step-light rooms now t step.EvictCache s small held = light-more (evict-light now s small) (omega arith)

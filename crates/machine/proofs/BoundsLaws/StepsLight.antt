@@ -106,12 +106,10 @@ ihave-light hs s h =
 
 pub broadcast-light : (rooms : List Room) (id : ℕ) (content : List ℕ) (s : State) → Small s → length content ≤ 4094 → Light 133208 (broadcast_actions rooms id content s)
 unfolding broadcast_actions
-broadcast-light rooms id content to_swarm s small h =
+broadcast-light rooms id content s small h =
     light-more
     (light-then (timer-light s) (push-light rooms id content (Swarm 0) (eager_targets s.settings.me [] s) s.timers.announce 4160 (omega arith)))
     (omega (arith, targets-few s.settings.me [] s small))
-broadcast-light rooms id content to_neighbors s small h =
-    light-more (sends-light rooms id content Neighbors (eager_targets s.settings.me [] s) 4160 (omega arith)) (omega (arith, targets-few s.settings.me [] s small))
 
 pub late-light : (rooms : List Room) (sender : ℕ) (k : Late) → Light 13 (late_actions rooms sender k)
 unfolding late_actions first_send

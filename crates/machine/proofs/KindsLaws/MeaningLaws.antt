@@ -24,8 +24,6 @@ use Rattle.postcard.specs.Values.{delivery_value, wanted_value}
 use Rattle.wire.specs.Reader.Values.{ihaves_value}
 use Rattle.postcard.specs.declared.message.Delivery as declared
 use Rattle.postcard.specs.declared.message.Delivery.TheVariants as delivery
-use Rattle.postcard.specs.declared.message.Scope as declared_scope
-use Rattle.postcard.specs.declared.message.Scope.TheVariants as scopes
 use Rattle.postcard.specs.declared.units.Round.{Round}
 use Rattle.postcard.proofs.Lengths.{length-content, length-gossip, length-ihave, length-ihaves}
 use Rattle.wire.specs.declared.reader.ihaves.Ihaves.{Ihaves}
@@ -257,10 +255,9 @@ means-oversize now s content c e = record {
 
 -- one of size at most M
 module _ (now : ℕ) (s : State) (i : Id) (content : Bor (List ℕ)) (core : CoreOf s) (of : id_of i ≡ identifier content.now) (held : ContentHeld content.now) where
-  pub means-broadcast-swarm : ltb s.settings.max_message_size (gossip_size (length content.now) to_swarm) ≡ false →
-      Means now s (step.BroadcastSwarm i content) (Broadcast content.now to_swarm)
+  pub means-broadcast : ltb s.settings.max_message_size (gossip_size (length content.now)) ≡ false → Means now s (step.Broadcast i content) (Broadcast content.now)
   unfolding too_far_before actions_after state_after counts_after_call counted_for step_far step_actions step_state step_counts
-  means-broadcast-swarm e = record {
+  means-broadcast e = record {
     far = refl;
     actions = λ rooms. rw (e, ← of) refl;
     state = λ rooms. rw (e, first-settled now s core, ← of) refl;
@@ -268,30 +265,6 @@ module _ (now : ℕ) (s : State) (i : Id) (content : Bor (List ℕ)) (core : Cor
     held = held;
     sender = tt;
   }
-
-  pub means-broadcast-neighbors : ltb s.settings.max_message_size (gossip_size (length content.now) to_neighbors) ≡ false →
-      Means now s (step.BroadcastNeighbors i content) (Broadcast content.now to_neighbors)
-  unfolding too_far_before actions_after state_after counts_after_call counted_for step_far step_actions step_state step_counts broadcast_state
-  means-broadcast-neighbors e = record {
-    far = refl;
-    actions = λ rooms. rw (e, ← of) refl;
-    state = λ rooms. rw e (first-settled now s core);
-    counts = λ n. refl;
-    held = held;
-    sender = tt;
-  }
-
-  pub means-sent-swarm : (v : declared_scope.Scope) → v ≡ scopes.Swarm → ltb s.settings.max_message_size (gossip_size (length content.now) (scope_value v)) ≡ false →
-      Means now s (step.BroadcastSwarm i content) (Broadcast content.now (scope_value v))
-  means-sent-swarm v e o =
-      subst (λ (x : declared_scope.Scope). Means now s (step.BroadcastSwarm i content) (Broadcast content.now (scope_value x))) (sym e)
-      (means-broadcast-swarm (subst (λ (x : declared_scope.Scope). ltb s.settings.max_message_size (gossip_size (length content.now) (scope_value x)) ≡ false) e o))
-
-  pub means-sent-near : (v : declared_scope.Scope) → v ≡ scopes.Neighbors → ltb s.settings.max_message_size (gossip_size (length content.now) (scope_value v)) ≡ false →
-      Means now s (step.BroadcastNeighbors i content) (Broadcast content.now (scope_value v))
-  means-sent-near v e o =
-      subst (λ (x : declared_scope.Scope). Means now s (step.BroadcastNeighbors i content) (Broadcast content.now (scope_value x))) (sym e)
-      (means-broadcast-neighbors (subst (λ (x : declared_scope.Scope). ltb s.settings.max_message_size (gossip_size (length content.now) (scope_value x)) ≡ false) e o))
 
 -- timers
 module _ (now : ℕ) (s : State) (core : CoreOf s) where
@@ -332,23 +305,22 @@ ihaves-held s link ihaves r t q = record {
   few = omega (arith, max-few s r, announced_count ihaves.count ihaves.bytes.now ihaves.there, length-ihaves (ihaves_value ihaves), ihaves-long (ihaves_value ihaves));
 }
 
-size-long : (n : ℕ) → n ≤ gossip_size n scope
+size-long : (n : ℕ) → n ≤ gossip_size n
 unfolding gossip_size
-size-long n to_swarm = omega arith
-size-long n to_neighbors = omega arith
+size-long n = omega arith
 
 -- a broadcast of size at most M
 pub broadcast-held : (s : State) (content : List ℕ) → Ranged s → leb (gossip_size (length content)) s.settings.max_message_size ≡ true → ContentHeld content
 broadcast-held s content r e =
-    record { short = omega (arith, max-few s r, size-long (length content) scope, leb-true (gossip_size (length content)) s.settings.max_message_size e) }
+    record { short = omega (arith, max-few s r, size-long (length content), leb-true (gossip_size (length content)) s.settings.max_message_size e) }
 
 over-not : (m n : ℕ) (b : Bool) → leb n m ≡ b → ltb m n ≡ not b
 over-not m n true e = le-ltb m n (leb-true n m e)
 over-not m n false e = lt-ltb m n (leb-false n m e)
 
 -- the same test the other way round
-pub over-of : (s : State) (len : ℕ) (b : Bool) → leb (gossip_size len scope) s.settings.max_message_size ≡ b → ltb s.settings.max_message_size (gossip_size len scope) ≡ not b
-over-of s len scope b e = over-not s.settings.max_message_size (gossip_size len scope) b e
+pub over-of : (s : State) (len : ℕ) (b : Bool) → leb (gossip_size len) s.settings.max_message_size ≡ b → ltb s.settings.max_message_size (gossip_size len) ≡ not b
+over-of s len b e = over-not s.settings.max_message_size (gossip_size len) b e
 
 -- the test of the code
 pub valid-of : (b : Bool) (n m k : ℕ) → b ≡ eqb n k → n ≡ m → eqb m k ≡ b

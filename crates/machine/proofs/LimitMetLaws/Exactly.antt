@@ -11,7 +11,7 @@ use Rattle.storage.proofs.ListsLaws.MapLaws.{cases, true≢, and_right}
 use Rattle.blake3.specs.Blake3.{identifier}
 use Rattle.postcard.specs.Message.{Event}
 use Rattle.postcard.specs.Decode.{Decoded, decoded, faulty, message_part, decode_event}
-use Rattle.postcard.proofs.DecodeFaults.{fault_of, decode-faults}
+use Rattle.postcard.proofs.DecodeFaults.{event_fault, decode-faults}
 use Rattle.protocol.specs.State.{State, Counts, zero_counts}
 use Rattle.protocol.specs.Run.{Room}
 use Rattle.protocol.specs.Whole.{fits}
@@ -67,8 +67,8 @@ module _ (rooms : List Room) (now size : ℕ) (e : Event) (s : State) (output : 
       (λ m. absurd (z (rw m refl)))
 
 -- a fault of the decoder is not 13
-not-fault : (n : ℕ) → fault_of {A = Event} (faulty n) ≡ true → n ≡ 13 → ⊥
-not-fault n h q = omega (arith, leb-true n 9 (and_right (leb 7 n) (leb n 9) h), q)
+not-fault : (n : ℕ) → event_fault (faulty n) ≡ true → n ≡ 13 → ⊥
+not-fault n h q = let z : false ≡ true = rw q at h in true≢ z
 
 module _ (block : List ℕ) (k : Call) where
   abbrev asked : Call
@@ -79,7 +79,7 @@ module _ (block : List ℕ) (k : Call) where
 
   read-met : (c : Counts) (d : Decoded Event) → Wholly block → k.now ≤ 2 ^ 62 → decode_event k.event ≡ d → answer_block identifier (length block) (held block) c k ≡ refused 13 → met ≡ 0 → ⊥
   unfolding number_of
-  read-met c (faulty n) w l q a z = not-fault n (ap fault_of (sym q) ∙ decode-faults k.event) (ap number_of (sym (answer-fault block w c k n l q) ∙ a))
+  read-met c (faulty n) w l q a z = not-fault n (ap event_fault (sym q) ∙ decode-faults k.event) (ap number_of (sym (answer-fault block w c k n l q) ∙ a))
   read-met c (decoded e) w l q a z =
       decided-met k.rooms k.now (length (message_part k.event)) e (state_of (head_in block) block) k.output c (sym (answer-event block w c k e (length (message_part k.event)) l q (part-fit _ k.event e)) ∙ a) (sym (limit-event block w asked e (length (message_part k.event)) l q (part-fit _ k.event e)) ∙ z)
 

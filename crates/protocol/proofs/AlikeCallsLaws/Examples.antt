@@ -92,7 +92,7 @@ shut e = record { now = 0; event = event_bytes e; rooms = record { peer = 2; roo
 -- two broadcasts reach 2, which then asks for them in this order; its link hands the replies back
 abbrev asked : ℕ → ℕ → Ran
 asked x y = run_calls first_byte panel zero_counts
-    (free (Up false 2) ∷ free (Broadcast (7 ∷ []) to_swarm) ∷ free (Broadcast (8 ∷ []) to_swarm) ∷ shut (Received 2 (Graft (Some x) 0)) ∷ shut (Received 2 (Graft (Some y) 0)) ∷ [])
+    (free (Up false 2) ∷ free (Broadcast (7 ∷ [])) ∷ free (Broadcast (8 ∷ [])) ∷ shut (Received 2 (Graft (Some x) 0)) ∷ shut (Received 2 (Graft (Some y) 0)) ∷ [])
 
 -- the actions of the next two ticks
 abbrev ticks : Ran → List (List Action)
@@ -143,5 +143,5 @@ pub record AlikeExamples : Type 0 where
   pub output2 : with_output 3 ≡ 14 ∷ []
 
 pub alike-examples : AlikeExamples
-unfolding Base.filter Base.count Base.any Base.all Base.member Base.sum Base.concat_map Base.ascending Map.lookup Map.insert Number.groups Number.number_bytes Number.big_endian Number.id_bytes Number.from_big_endian Number.read_kind Number.kind_number Number.read_padded Number.read_bytes Number.read_id Number.last_group Number.read_groups Number.read_round Number.read_number Message.content_bytes Message.delivery_bytes Message.scope_byte Message.optional_id_bytes Message.message_bytes Message.timer_bytes Message.event_bytes Message.taken_byte Message.action_bytes Decode.read_content Decode.delivery_of Decode.read_delivery Decode.scope_of Decode.optional_id_of Decode.message_of Decode.read_message Decode.message_kind Decode.delivery_kind Decode.read_padded_content Decode.message_part Decode.timer_of Decode.read_timer Decode.event_of Decode.read_event Decode.ended Decode.decode_event TimeCache.value_of TimeCache.get TimeCache.add_expiry TimeCache.put TimeCache.expires_at TimeCache.pop TimeCache.due TimeCache.later TimeCache.pop_all TimeCache.popped TimeCache.expired_keys TimeCache.expire_until TimeCache.expires_on_time TimeCache.in_pop_order State.fresh State.zero_counts State.size_in_range State.durations_in_range State.up_to State.limits_in_range Run.act Run.has_room Run.use_room Run.send Answer.message_fits Answer.counts_below Answer.counts_stay Answer.last_round Answer.output_of Answer.last_two Answer.too_far_message Answer.too_far Answer.ask_of Answer.ask_read Answer.ask Answer.ask_whole Whole.content_held Whole.cache_fits Whole.fits Whole.in_range Whole.keys_once Whole.neighbours Whole.noted_once Whole.record_within Whole.flags_stand Whole.whole Links.peers_marked Links.eager_peers Links.lazy_peers Links.marked Links.eager_in Links.quiet_in Links.up_mark Links.mark_if_there Links.add_eager Links.add_lazy Links.link_up Neighbours.on_neighbor_up Push.schedule_dispatch Push.schedule_announce_dropped Push.record_full Push.record_also Push.note_one Push.note_each Push.note_dropped Push.send_each Push.handed_back Push.note_for_each Push.eager_targets Push.note_after Push.push_to Push.eager_push Push.note_for Push.lazy_push Push.send_ihave Gossips.mark_received Gossips.cache_at Gossips.hops_of Gossips.announcers Gossips.peers_of Gossips.grafted_for Gossips.with_first Gossips.set_first Gossips.graft_out Gossips.forget_missing Gossips.raise_hops Gossips.update_links Gossips.forget_and_optimise Gossips.push_on Gossips.take_in Gossips.on_new Gossips.gossip_size Gossips.on_gossip Gossips.broadcast_to Gossips.broadcast Ticks.per_message Ticks.chunks Ticks.queued_for Ticks.queued_peers Ticks.send_chunks Ticks.dispatch_to Ticks.clear_dispatch Ticks.on_dispatch_timer Ticks.oldest Ticks.younger Ticks.move_oldest Ticks.still_cached Ticks.dispatch_if_queued Ticks.on_announce_dropped_timer Ticks.evict Ticks.on_evict_cache_timer Control.reply_with Control.reply Control.on_graft Handle.first_event Handle.one_payload Handle.one_control Handle.count_message Handle.if_neighbour Handle.on_timer Handle.on_message Handle.handle_message Handle.handle Calls.state_after Calls.counts_after Calls.prepend Calls.run_calls Panel.panel_settings Panel.panel_limits Decode.read_optional_id Alike.same_list Alike.same_option Alike.same_map Alike.same_mark Alike.same_hop Alike.same_note Alike.same_notes Alike.same_expiry Alike.same_grafts Alike.same_cached Alike.same_unit Alike.same_cache Alike.same_settings Alike.same_limits Alike.same_tables Alike.same_caches Alike.same_flags Alike.alike AlikeUnordered.same_bag AlikeUnordered.same_cache_unordered AlikeUnordered.same_tables_unordered AlikeUnordered.same_caches_unordered AlikeUnordered.alike_unordered number_of actions_of Number.number_length Map.insert_key Message.ihave_bytes Map.remove Map.remove_key
+unfolding Base.filter Base.count Base.any Base.all Base.member Base.sum Base.concat_map Base.ascending Map.lookup Map.insert Number.groups Number.number_bytes Number.big_endian Number.id_bytes Number.from_big_endian Number.read_kind Number.kind_number Number.read_padded Number.read_bytes Number.read_id Number.last_group Number.read_groups Number.read_round Number.read_number Message.content_bytes Message.delivery_bytes Message.optional_id_bytes Message.message_bytes Message.timer_bytes Message.event_bytes Message.taken_byte Message.action_bytes Decode.read_content Decode.delivery_of Decode.read_delivery Decode.broadcast_of Decode.optional_id_of Decode.message_of Decode.read_message Decode.message_kind Decode.delivery_kind Decode.read_padded_content Decode.message_part Decode.timer_of Decode.read_timer Decode.event_of Decode.read_event Decode.ended Decode.unless_retired Decode.decode_event TimeCache.value_of TimeCache.get TimeCache.add_expiry TimeCache.put TimeCache.expires_at TimeCache.pop TimeCache.due TimeCache.later TimeCache.pop_all TimeCache.popped TimeCache.expired_keys TimeCache.expire_until TimeCache.expires_on_time TimeCache.in_pop_order State.fresh State.zero_counts State.size_in_range State.durations_in_range State.up_to State.limits_in_range Run.act Run.has_room Run.use_room Run.send Answer.message_fits Answer.counts_below Answer.counts_stay Answer.last_round Answer.output_of Answer.last_two Answer.too_far_message Answer.too_far Answer.ask_of Answer.ask_read Answer.ask Answer.ask_whole Whole.content_held Whole.cache_fits Whole.fits Whole.in_range Whole.keys_once Whole.neighbours Whole.noted_once Whole.record_within Whole.flags_stand Whole.whole Links.peers_marked Links.eager_peers Links.lazy_peers Links.marked Links.eager_in Links.quiet_in Links.up_mark Links.mark_if_there Links.add_eager Links.add_lazy Links.link_up Neighbours.on_neighbor_up Push.schedule_dispatch Push.schedule_announce_dropped Push.record_full Push.record_also Push.note_one Push.note_each Push.note_dropped Push.send_each Push.handed_back Push.note_for_each Push.eager_targets Push.push_to Push.eager_push Push.note_for Push.lazy_push Push.send_ihave Gossips.mark_received Gossips.cache_at Gossips.hops_of Gossips.announcers Gossips.peers_of Gossips.grafted_for Gossips.with_first Gossips.set_first Gossips.graft_out Gossips.forget_missing Gossips.raise_hops Gossips.update_links Gossips.forget_and_optimise Gossips.push_on Gossips.take_in Gossips.on_new Gossips.gossip_size Gossips.on_gossip Gossips.broadcast_to Gossips.broadcast Ticks.per_message Ticks.chunks Ticks.queued_for Ticks.queued_peers Ticks.send_chunks Ticks.dispatch_to Ticks.clear_dispatch Ticks.on_dispatch_timer Ticks.oldest Ticks.younger Ticks.move_oldest Ticks.still_cached Ticks.dispatch_if_queued Ticks.on_announce_dropped_timer Ticks.evict Ticks.on_evict_cache_timer Control.reply_with Control.reply Control.on_graft Handle.first_event Handle.one_payload Handle.one_control Handle.count_message Handle.if_neighbour Handle.on_timer Handle.on_message Handle.handle_message Handle.handle Calls.state_after Calls.counts_after Calls.prepend Calls.run_calls Panel.panel_settings Panel.panel_limits Decode.read_optional_id Alike.same_list Alike.same_option Alike.same_map Alike.same_mark Alike.same_hop Alike.same_note Alike.same_notes Alike.same_expiry Alike.same_grafts Alike.same_cached Alike.same_unit Alike.same_cache Alike.same_settings Alike.same_limits Alike.same_tables Alike.same_caches Alike.same_flags Alike.alike AlikeUnordered.same_bag AlikeUnordered.same_cache_unordered AlikeUnordered.same_tables_unordered AlikeUnordered.same_caches_unordered AlikeUnordered.alike_unordered number_of actions_of Number.number_length Map.insert_key Message.ihave_bytes Map.remove Map.remove_key
 alike-examples = record { record1 = refl; record2 = refl; queue1 = refl; queue2 = refl; interleaved1 = refl; interleaved2 = refl; second1 = refl; first1 = refl; announcers1 = refl; announcers2 = refl; received1 = refl; received2 = refl; grafted1 = refl; grafted2 = refl; cached1 = refl; cached2 = refl; times = refl; asked_whole = refl; asked_new = refl; asked_old = refl; ticks78 = refl; ticks87 = refl; payloads1 = refl; payloads2 = refl; output1 = refl; output2 = refl }

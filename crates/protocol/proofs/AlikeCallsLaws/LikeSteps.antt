@@ -14,7 +14,7 @@ use Rattle.postcard.specs.Message.{Delivery, Swarm, Neighbors, Ihave, Message, G
 use Rattle.protocol.specs.Links.{Links, lazy_peers, is_neighbour, eager_in, add_eager, add_lazy, link_up}
 use Rattle.protocol.specs.State.{Hop, Note, Grafts, Cached, with_init, with_graft_timers, with_dispatch_scheduled, with_announce_scheduled}
 use Rattle.protocol.specs.Run.{Run, with_state, with_counts, act, send, takes}
-use Rattle.protocol.specs.Push.{schedule_dispatch, schedule_announce_dropped, for_peer, notes, record_full, record_also, note_one, note_each, note_dropped, send_each, handed_back, note_for_each, eager_targets, note_after, push_to, eager_push, note_for, lazy_push, send_ihave}
+use Rattle.protocol.specs.Push.{schedule_dispatch, schedule_announce_dropped, for_peer, notes, record_full, record_also, note_one, note_each, note_dropped, send_each, handed_back, note_for_each, eager_targets, push_to, eager_push, note_for, lazy_push, send_ihave}
 use Rattle.protocol.specs.Gossips.{mark_received, cache_at, announcers, grafted_for, with_first, set_first, graft_out, forget_missing, raise_hops, least_from, far_closer, update_links, graft_unless_eager, prune_back, optimize_tree, forget_and_optimise, push_on, take_in, Late, duplicate, repeated, faster, late_kind, with_kept, set_kept, on_duplicate, on_late_graft_reply, on_new, gossip_size, on_gossip, broadcast_to, broadcast}
 use Rattle.protocol.specs.Control.{announce, schedule_graft, on_announced, on_ihave, on_prune, reply_with, reply, on_graft, note_graft, leave_announcers, ask_first, unmark, on_send_graft_timer}
 use Rattle.protocol.specs.Ticks.{chunks, queued_for, queued_peers, per_message, send_chunks, dispatch_to, clear_dispatch, on_dispatch_timer, oldest, younger, move_oldest, still_cached, dispatch_if_queued, on_announce_dropped_timer, evict, on_evict_cache_timer}
@@ -148,11 +148,6 @@ unfolding note_for_each
 like-note_for_each [] h l = l
 like-note_for_each {a = a} {b = b} (p ∷ ps) h l = like-note_for_each {a = note_dropped p (h ∷ []) a} {b = note_dropped p (h ∷ []) b} ps h (like-note_dropped p (h ∷ []) l)
 
-like-note_after : {a b : Run} (ps : List ℕ) (id : ℕ) (d : Delivery) → Like a b → Like (note_after ps id d a) (note_after ps id d b)
-unfolding note_after
-like-note_after ps id (Swarm round) l = like-note_for_each ps _ l
-like-note_after ps id Neighbors l = l
-
 -- pushes
 
 like-send_each : {a b : Run} (ps : List ℕ) (m : Message) → Like a b → Like (send_each ps m a) (send_each ps m b)
@@ -168,13 +163,14 @@ unfolding handed_back
 handed_back-same [] m l = refl
 handed_back-same {a = a} {b = b} (p ∷ ps) m l = rw (takes_same p l, handed_back-same {a = send p m a} {b = send p m b} ps m (like-send p m l))
 
-like-push_to : {a b : Run} (ps : List ℕ) (id : ℕ) (content : List ℕ) (d : Delivery) → Like a b → Like (push_to ps id content d a) (push_to ps id content d b)
+like-push_to : {a b : Run} (ps : List ℕ) (id : ℕ) (content : List ℕ) (round : ℕ) → Like a b → Like (push_to ps id content round a) (push_to ps id content round b)
 unfolding push_to
-like-push_to ps id content d l = rw (handed_back-same ps (Gossip id content d) l) (like-note_after _ id d (like-send_each ps (Gossip id content d) l))
+like-push_to ps id content round l =
+    rw (handed_back-same ps (Gossip id content (Swarm round)) l) (like-note_for_each _ (record { id = id; round = round }) (like-send_each ps (Gossip id content (Swarm round)) l))
 
-like-eager_push : {a b : Run} (id : ℕ) (content : List ℕ) (d : Delivery) (sender : ℕ) (skip : List ℕ) → Like a b → Like (eager_push id content d sender skip a) (eager_push id content d sender skip b)
+like-eager_push : {a b : Run} (id : ℕ) (content : List ℕ) (round sender : ℕ) (skip : List ℕ) → Like a b → Like (eager_push id content round sender skip a) (eager_push id content round sender skip b)
 unfolding eager_push eager_targets
-like-eager_push id content d sender skip (like r q dr q' d' e f) = like-push_to _ id content d (like r q dr q' d' e f)
+like-eager_push id content round sender skip (like r q d q' d' e f) = like-push_to _ id content round (like r q d q' d' e f)
 
 like-lazy_push : {a b : Run} (id round sender : ℕ) → Like a b → Like (lazy_push id round sender a) (lazy_push id round sender b)
 unfolding lazy_push
@@ -214,7 +210,7 @@ like-forget_and_optimise id sender round (like r q d q' d' e f) =
 
 like-push_on : {a b : Run} (id : ℕ) (content : List ℕ) (round sender : ℕ) → Like a b → Like (push_on id content round sender a) (push_on id content round sender b)
 unfolding push_on grafted_for
-like-push_on id content round sender (like r q d q' d' e f) = like-eager_push id content (Swarm round) sender (keys (grafted_for id r.state)) (like r q d q' d' e f)
+like-push_on id content round sender (like r q d q' d' e f) = like-eager_push id content round sender (keys (grafted_for id r.state)) (like r q d q' d' e f)
 
 like-take_in : {a b : Run} (now sender id : ℕ) (content : List ℕ) (round : ℕ) → Like a b → Like (take_in now sender id content round a) (take_in now sender id content round b)
 unfolding take_in
@@ -356,9 +352,8 @@ module _ (hash : List ℕ → ℕ) where
   like-broadcast_to : {a b : Run} (now : ℕ) (content : List ℕ) → Like a b → Like (broadcast_to hash now content a) (broadcast_to hash now content b)
   unfolding broadcast_to
   like-broadcast_to now content (like r q d q' d' e f) =
-      like-eager_push (hash content) content (Swarm 0) r.state.settings.me []
+      like-eager_push (hash content) content 0 r.state.settings.me []
       (like-lazy_push (hash content) 0 r.state.settings.me (like-cache_at now (hash content) content 0 (like-mark_received now (hash content) (like r q d q' d' e f))))
-  like-broadcast_to now content to_neighbors (like r q d q' d' e f) = like-eager_push (hash content) content Neighbors r.state.settings.me [] (like r q d q' d' e f)
 
   like-broadcast : {a b : Run} (now : ℕ) (content : List ℕ) → Like a b → Like (broadcast hash now content a) (broadcast hash now content b)
   unfolding broadcast

@@ -2,7 +2,7 @@
 -- Assumes nothing.
 use Prim.Native.Nat.{ℕ, zero, suc, ◌+◌, ◌≤◌}
 use native.Mathlib.Omega.{arith}
-use mathlib.Core.Path.{◌≡◌, refl, sym, ap}
+use mathlib.Core.Path.{◌≡◌, refl, ap}
 use mathlib.Core.Bool.{Bool, true, false}
 use mathlib.Core.List.{List, [], ◌∷◌, ◌++◌}
 use lib.Dec.{eqb}
@@ -36,10 +36,6 @@ pub last-length : (id : ℕ) (ns : List Note) → last id ns ≤ length ns
 unfolding last
 last-length id [] = omega arith
 last-length id (n ∷ ns) = cases (any (is_id id) (n ∷ ns)) (λ e. rw e (omega (arith, last-length id ns))) (λ e. rw e (omega arith))
-
-tail-none : (id : ℕ) (n : Note) (ns : List Note) → any (is_id id) (n ∷ ns) ≡ false → any (is_id id) ns ≡ false
-unfolding any
-tail-none id n ns h = cases (eqb n.id id) (λ e. true≢ (sym (rw e at h))) (λ e. rw e at h)
 
 -- others taken out
 pub last-filter : (id : ℕ) (f : Note → Bool) (ns : List Note) → last id (filter f ns) ≤ last id ns

@@ -17,7 +17,7 @@ use Rattle.protocol.specs.Run.{Run}
 use Rattle.protocol.specs.Push.{notes, note_for}
 use Rattle.protocol.specs.Answer.{accept}
 use Rattle.protocol.specs.NoNeighbourPassedOver.{is_emit, Took, took}
-use Rattle.protocol.specs.ReadingsFollowTheTree.{payloads_to, other_link, Due, passed_on, broadcast_by_us, for_neighbours, asked_for, WhyQueued, queued_before, taken_in, UntilAnnounced, still_queued, FollowsTree}
+use Rattle.protocol.specs.ReadingsFollowTheTree.{payloads_to, other_link, Due, passed_on, broadcast_by_us, asked_for, WhyQueued, queued_before, taken_in, UntilAnnounced, still_queued, FollowsTree}
 use Rattle.protocol.proofs.Pushes.{noted-for, member_filter}
 use Rattle.protocol.proofs.TreeLaws.Plain.{announcing, Plain}
 use Rattle.protocol.proofs.EagerTargets.{one_if}
@@ -67,7 +67,6 @@ module _ (hash : List ℕ → ℕ) (s : State) (e : Event) (r : Run) where
   unfolding carrying
   due-carrying p _ (passed_on from id round content h t l n g) = ap carrying h
   due-carrying p _ (broadcast_by_us content h t l) = ap carrying h
-  due-carrying p _ (for_neighbours content h t l) = ap carrying h
   due-carrying p _ (asked_for id round m h n g) = ap carrying h
 
   -- the payloads to one peer: this one or none, as is due

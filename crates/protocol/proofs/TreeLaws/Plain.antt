@@ -12,8 +12,8 @@ use Rattle.storage.proofs.ListsLaws.MapLaws.{cases}
 use Rattle.time_cache.specs.TimeCache.{holds}
 use Rattle.postcard.specs.Message.{Delivery, Ihave, Message, Prune, Graft, Timer, SendGraft, Action, Sent, Scheduled, Emitted, Forgotten}
 use Rattle.protocol.specs.Links.{Links, is_neighbour, eager_in, add_eager, add_lazy}
-use Rattle.protocol.specs.State.{State, Counts, Hop, Grafts, with_init}
-use Rattle.protocol.specs.Run.{Run, with_state, with_counts, act, send}
+use Rattle.protocol.specs.State.{State, Hop, Grafts, with_init}
+use Rattle.protocol.specs.Run.{Run, with_state, act, send}
 use Rattle.protocol.specs.Push.{notes, schedule_dispatch, schedule_announce_dropped, record_full, record_also, note_one, note_each, note_dropped, note_for_each}
 use Rattle.protocol.specs.Gossips.{mark_received, cache_at, announcers, grafted_for, with_first, set_first, graft_out, forget_missing, raise_hops, least_from, far_closer, update_links, graft_unless_eager, prune_back, optimize_tree, forget_and_optimise, Late, duplicate, repeated, faster, with_kept, set_kept, on_duplicate}
 use Rattle.protocol.specs.Control.{announce, schedule_graft, on_announced, on_ihave, on_prune, note_graft, leave_announcers, ask_first, unmark, on_send_graft_timer}
@@ -181,9 +181,6 @@ plain-settle id sender round r =
   where
     counted : (r : Run) → Plain r (raise_hops (suc round) r)
     counted r = record { payloads = λ p. refl; announced = λ p id. refl; queue = refl }
-
-pub plain-counts : (c : Counts) (r : Run) → Plain r (with_counts c r)
-plain-counts c r = record { payloads = λ p. refl; announced = λ p id. refl; queue = refl }
 
 pub plain-on_duplicate : (sender id : ℕ) (l : Late) (r : Run) → Plain r (on_duplicate sender id l r)
 unfolding on_duplicate

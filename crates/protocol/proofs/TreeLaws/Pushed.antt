@@ -8,14 +8,14 @@ use lib.Dec.{eqb}
 use Rattle.std.specs.Prelude.{if◌then◌else◌}
 use Rattle.storage.specs.Lists.Base.{any}
 use Rattle.storage.proofs.ListsLaws.MapLaws.{cases}
-use Rattle.postcard.specs.Message.{Delivery, Swarm, Neighbors, Message, Gossip, Sent}
+use Rattle.postcard.specs.Message.{Swarm, Message, Gossip, Sent}
 use Rattle.protocol.specs.Run.{Run, send, takes}
-use Rattle.protocol.specs.Push.{send_each, handed_back, note_after, push_to}
+use Rattle.protocol.specs.Push.{send_each, handed_back, push_to}
 use Rattle.protocol.specs.NoNeighbourPassedOver.{sends}
 use Rattle.protocol.specs.ReadingsFollowTheTree.{is_payload, payloads_to, announcement_of}
 use Rattle.protocol.proofs.EmitSteps.{any-skip}
 use Rattle.protocol.proofs.EagerTargets.{copies}
-use Rattle.protocol.proofs.TreeLaws.Plain.{announcing, payloads-append, Plain, plain-refl, plain-note_for_each}
+use Rattle.protocol.proofs.TreeLaws.Plain.{announcing, payloads-append, Plain, plain-note_for_each}
 
 copies-send_each : (p : ℕ) (ps : List ℕ) (m : Message) (r : Run) → is_payload m ≡ true → payloads_to p (send_each ps m r).actions ≡ payloads_to p r.actions ++ copies p ps m
 unfolding send_each copies send
@@ -44,22 +44,17 @@ unfolding send_each send
 queue-send_each [] m r = refl
 queue-send_each (x ∷ ps) m r = queue-send_each ps m (send x m r)
 
-plain-note_after : (back : List ℕ) (id : ℕ) (d : Delivery) (r : Run) → Plain r (note_after back id d r)
-unfolding note_after
-plain-note_after back id (Swarm round) r = plain-note_for_each _ _ r
-plain-note_after back id Neighbors r = plain-refl r
-
 -- what a push does
 pub record Pushes (ps : List ℕ) (m : Message) (r r' : Run) : Type 0 where
   pub payloads : (p : ℕ) → payloads_to p r'.actions ≡ payloads_to p r.actions ++ copies p ps m
   pub announced : (p id : ℕ) → any (announcing p id) r'.actions ≡ any (announcing p id) r.actions
   pub queue : r'.state.queue ≡ r.state.queue
 
-pub pushes : (ps : List ℕ) (id : ℕ) (content : List ℕ) (d : Delivery) (r : Run) → Pushes ps (Gossip id content d) r (push_to ps id content d r)
+pub pushes : (ps : List ℕ) (id : ℕ) (content : List ℕ) (round : ℕ) (r : Run) → Pushes ps (Gossip id content (Swarm round)) r (push_to ps id content round r)
 unfolding push_to is_payload announcement_of
-pushes ps id content d r =
-    let m : Message = Gossip id content d in
-    let n : Plain (send_each ps m r) (push_to ps id content d r) = plain-note_after (handed_back ps m r) id d (send_each ps m r) in
+pushes ps id content round r =
+    let m : Message = Gossip id content (Swarm round) in
+    let n : Plain (send_each ps m r) (push_to ps id content round r) = plain-note_for_each (handed_back ps m r) (record { id = id; round = round }) (send_each ps m r) in
     record {
       payloads = λ p. n.payloads p ∙ copies-send_each p ps m r refl;
       announced = λ p j. n.announced p j ∙ announced-send_each p j ps m r refl;

@@ -26,7 +26,7 @@ use Rattle.protocol.specs.Neighbours.{without_notes, forget_peer, on_neighbor_up
 use Rattle.protocol.specs.Handle.{first_event, if_neighbour, on_timer, on_message, handle_message, handle}
 use Rattle.protocol.specs.Answer.{accept}
 use Rattle.protocol.specs.NoNeighbourPassedOver.{is_down, is_emit, took_gossip, took_broadcast, took_by_event, took, is_tick, fires_tick}
-use Rattle.protocol.specs.ReadingsFollowTheTree.{is_payload, payloads_to, announcement_of, tree_link, Due, passed_on, broadcast_by_us, for_neighbours, asked_for, WhyQueued, queued_before, stood_recorded, still_queued, peer_down, announced_now, FollowsTree}
+use Rattle.protocol.specs.ReadingsFollowTheTree.{is_payload, payloads_to, announcement_of, tree_link, Due, passed_on, broadcast_by_us, asked_for, WhyQueued, queued_before, stood_recorded, still_queued, peer_down, announced_now, FollowsTree}
 use Rattle.protocol.proofs.Walk.{walk-if, walk-eager_push}
 use Rattle.protocol.proofs.RecordOnly.{RecordOnly, only-sending, only-send, only-note_dropped}
 use Rattle.protocol.proofs.EmitSteps.{quiet-first, quiet-duplicate, emits}
@@ -111,7 +111,6 @@ module _ (hash : List ℕ → ℕ) (s : State) (links-up : ascending (keys s.lin
       undue : (p : ℕ) (m : Message) → Due hash s (Received q (Gossip id content (Swarm round))) r p m → false ≡ true
       undue p _ (passed_on from j round' content' h t l n g) = none-some _ (sym none ∙ t)
       undue p _ (broadcast_by_us content' h t l) = cc
-      undue p _ (for_neighbours content' h t l) = cc
       undue p _ (asked_for j round' m h n g) = cc
 
   -- one that is
@@ -154,11 +153,11 @@ module _ (hash : List ℕ → ℕ) (s : State) (links-up : ascending (keys s.lin
 
     push-pushes : Pushes (eager_targets q skips s) payload firsted pushed
     unfolding payload skips
-    push-pushes = unfold push_on eager_push in (subst (λ (ps : List ℕ). Pushes ps payload firsted pushed) (targets-of q skips firsted.state s links-first settings-first) (pushes (eager_targets q skips firsted.state) id content (Swarm (suc round)) firsted))
+    push-pushes = unfold push_on eager_push in (subst (λ (ps : List ℕ). Pushes ps payload firsted pushed) (targets-of q skips firsted.state s links-first settings-first) (pushes (eager_targets q skips firsted.state) id content (suc round) firsted))
 
     push-only : RecordOnly firsted pushed
     unfolding skips
-    push-only = unfold push_on in (walk-eager_push RecordOnly only-sending id content (Swarm (suc round)) q skips firsted)
+    push-only = unfold push_on in (walk-eager_push RecordOnly only-sending id content (suc round) q skips firsted)
 
     lazy-lazily : Lazily id q (suc round) pushed lazied
     lazy-lazily = lazily id (suc round) q pushed
@@ -209,7 +208,6 @@ module _ (hash : List ℕ → ℕ) (s : State) (links-up : ascending (keys s.lin
             let g' : has p (grafted_for id ended.state) ≡ false = subst (λ (x : ℕ). has p (grafted_for x ended.state) ≡ false) (sym i) g in
             (and_intro (and_intro l (rw n' refl)) (rw g' refl), cc)
         alone _ (broadcast_by_us content' h t l) = absurd (let z : false ≡ true = cc in true≢ z)
-        alone _ (for_neighbours content' h t l) = absurd (let z : false ≡ true = cc in true≢ z)
         alone _ (asked_for j round' m h n g) = absurd (let z : false ≡ true = cc in true≢ z)
 
     gossip-new : FollowsTree hash s new-event ended
@@ -237,16 +235,14 @@ module _ (hash : List ℕ → ℕ) (s : State) (links-up : ascending (keys s.lin
   -- broadcasts
 
   broadcast-large : (content : List ℕ) (r₁ : Run) → Ready s r₁ → leb (gossip_size (length content)) s.settings.max_message_size ≡ false → FollowsTree hash s (Broadcast content) r₁
-  broadcast-large content r₁ b l = follows-plain hash s (Broadcast content) r₁ r₁ b (plain-refl r₁) (none scope l) (λ p m d. undue p m d)
+  broadcast-large content r₁ b l = follows-plain hash s (Broadcast content) r₁ r₁ b (plain-refl r₁) none (λ p m d. undue p m d)
     where
-      none : → leb (gossip_size (length content)) s.settings.max_message_size ≡ false → took hash s.settings (accept (Broadcast content) r₁) ≡ None
-      none to_swarm l = unfold took took_by_event took_broadcast in (rw l refl)
-      none to_neighbors l = unfold took took_by_event took_broadcast in refl
+      none : took hash s.settings (accept (Broadcast content) r₁) ≡ None
+      none = unfold took took_by_event took_broadcast in (rw l refl)
 
       undue : (p : ℕ) (m : Message) → Due hash s (Broadcast content) r₁ p m → false ≡ true
       undue p _ (passed_on from j round content' h t k n g) = cc
-      undue p _ (broadcast_by_us content' h t k) = none-some _ (sym (none scope l) ∙ t)
-      undue p _ (for_neighbours content' h t k) = cc
+      undue p _ (broadcast_by_us content' h t k) = none-some _ (sym none ∙ t)
       undue p _ (asked_for j round m h n g) = cc
 
   module _ (now : ℕ) (content : List ℕ) (r₁ : Run) (b : Ready s r₁) (small : leb (gossip_size (length content)) s.settings.max_message_size ≡ true) where
@@ -257,7 +253,7 @@ module _ (hash : List ℕ → ℕ) (s : State) (links-up : ascending (keys s.lin
     own-lazied = lazy_push (hash content) 0 r₁.state.settings.me own-cached
 
     abbrev own-ended : Run
-    own-ended = eager_push (hash content) content (Swarm 0) r₁.state.settings.me [] own-lazied
+    own-ended = eager_push (hash content) content 0 r₁.state.settings.me [] own-lazied
 
     me-same : r₁.state.settings.me ≡ s.settings.me
     me-same = ap (λ (c : Settings). c.me) b.settings
@@ -278,7 +274,7 @@ module _ (hash : List ℕ → ℕ) (s : State) (links-up : ascending (keys s.lin
     unfolding eager_push
     own-pushes = subst (λ (ps : List ℕ). Pushes ps (Gossip (hash content) content (Swarm 0)) own-lazied own-ended)
         (targets-of r₁.state.settings.me [] own-lazied.state s own-links own-settings ∙ ap (λ (x : ℕ). eager_targets x [] s) me-same)
-        (pushes (eager_targets r₁.state.settings.me [] own-lazied.state) (hash content) content (Swarm 0) own-lazied)
+        (pushes (eager_targets r₁.state.settings.me [] own-lazied.state) (hash content) content 0 own-lazied)
 
     own-took : took hash s.settings (accept (Broadcast content) own-ended) ≡ Some (record { id = hash content; from = s.settings.me })
     unfolding took took_by_event took_broadcast
@@ -305,56 +301,18 @@ module _ (hash : List ℕ → ℕ) (s : State) (links-up : ascending (keys s.lin
         alone : (m : Message) → Due hash s (Broadcast content) own-ended p m → (tree_link p s ≡ true) × (Gossip (hash content) content (Swarm 0) ≡ m)
         alone _ (passed_on from j round content' h t l n g) = absurd (let z : false ≡ true = cc in true≢ z)
         alone _ (broadcast_by_us content' h t l) = let c : content ≡ content' = cc in (l, cc)
-        alone _ (for_neighbours content' h t l) = absurd (let z : false ≡ true = cc in true≢ z)
         alone _ (asked_for j round' m h n g) = absurd (let z : false ≡ true = cc in true≢ z)
 
-    broadcast-swarm : FollowsTree hash s (Broadcast content) own-ended
-    broadcast-swarm =
+    broadcast-small : FollowsTree hash s (Broadcast content) own-ended
+    broadcast-small =
         follows-by hash s (Broadcast content) own-ended own-exact (queued-more hash s (Broadcast content) own-ended (hash content) s.settings.me 0 own-took own-queue)
         (λ p j. own-pushes.announced p j ∙ own-lazily.announced p j ∙ own-plain.announced p j ∙ b.announced p j)
-
-  module _ (content : List ℕ) (r₁ : Run) (b : Ready s r₁) (small : leb (gossip_size (length content) to_neighbors) s.settings.max_message_size ≡ true) where
-    abbrev near-ended : Run
-    near-ended = eager_push (hash content) content Neighbors r₁.state.settings.me [] r₁
-
-    near-pushes : Pushes (eager_targets s.settings.me [] s) (Gossip (hash content) content Neighbors) r₁ near-ended
-    unfolding eager_push
-    near-pushes = subst (λ (ps : List ℕ). Pushes ps (Gossip (hash content) content Neighbors) r₁ near-ended)
-        (targets-of r₁.state.settings.me [] r₁.state s b.links b.settings ∙ ap (λ (c : Settings). eager_targets c.me [] s) b.settings)
-        (pushes (eager_targets r₁.state.settings.me [] r₁.state) (hash content) content Neighbors r₁)
-
-    near-are : (p : ℕ) → payloads_to p near-ended.actions ≡ one_if (tree_link p s) (Gossip (hash content) content Neighbors)
-    unfolding member
-    near-are p =
-        near-pushes.payloads p ∙ rw (b.payloads p) (copies-targets p s.settings.me [] s (Gossip (hash content) content Neighbors) links-up)
-        ∙ ap (λ (c : Bool). one_if c (Gossip (hash content) content Neighbors)) (regroup-own (member p (eager_peers s.links)) (eqb p s.settings.me))
-
-    near-exact : (p : ℕ) → Exact hash s (Broadcast content to_neighbors) near-ended p
-    near-exact p = record {
-      to = tree_link p s;
-      payload = Gossip (hash content) content Neighbors;
-      are = near-are p;
-      due = λ h. for_neighbours content refl small h;
-      alone = λ m d. alone m d;
-    }
-      where
-        alone : (m : Message) → Due hash s (Broadcast content to_neighbors) near-ended p m → (tree_link p s ≡ true) × (Gossip (hash content) content Neighbors ≡ m)
-        alone _ (passed_on from j round content' h t l n g) = absurd (let z : false ≡ true = cc in true≢ z)
-        alone _ (broadcast_by_us content' h t l) = absurd (let z : false ≡ true = cc in true≢ z)
-        alone _ (for_neighbours content' h t l) = let c : content ≡ content' = cc in (l, cc)
-        alone _ (asked_for j round' m h n g) = absurd (let z : false ≡ true = cc in true≢ z)
-
-    broadcast-near : FollowsTree hash s (Broadcast content to_neighbors) near-ended
-    unfolding took took_by_event took_broadcast
-    broadcast-near =
-        follows-by hash s (Broadcast content to_neighbors) near-ended near-exact (queued-same hash s (Broadcast content to_neighbors) near-ended (near-pushes.queue ∙ b.queue) refl)
-        (λ p j. near-pushes.announced p j ∙ b.announced p j)
 
   broadcasts : (now : ℕ) (content : List ℕ) (r₁ : Run) → Ready s r₁ → FollowsTree hash s (Broadcast content) (broadcast hash now content r₁)
   unfolding broadcast
   broadcasts now content r₁ b =
       cases (leb (gossip_size (length content)) s.settings.max_message_size)
-      (λ e. rw (fits e) (on scope e))
+      (λ e. rw (fits e) (unfold broadcast_to in (broadcast-small now content r₁ b e)))
       (λ e. rw (large e) (broadcast-large content r₁ b e))
     where
       fits : leb (gossip_size (length content)) s.settings.max_message_size ≡ true → ltb r₁.state.settings.max_message_size (gossip_size (length content)) ≡ false
@@ -363,10 +321,6 @@ module _ (hash : List ℕ → ℕ) (s : State) (links-up : ascending (keys s.lin
       large : leb (gossip_size (length content)) s.settings.max_message_size ≡ false → ltb r₁.state.settings.max_message_size (gossip_size (length content)) ≡ true
       large e = rw b.settings (lt-ltb s.settings.max_message_size (gossip_size (length content)) (leb-false (gossip_size (length content)) s.settings.max_message_size e))
 
-      on : → leb (gossip_size (length content)) s.settings.max_message_size ≡ true → FollowsTree hash s (Broadcast content) (broadcast_to hash now content r₁)
-      on to_swarm e = unfold broadcast_to in (broadcast-swarm now content r₁ b e)
-      on to_neighbors e = unfold broadcast_to in (broadcast-near content r₁ b e)
-
   -- Grafts
 
   -- nothing is due to a stranger, nor of what is not cached
@@ -374,7 +328,6 @@ module _ (hash : List ℕ → ℕ) (s : State) (links-up : ascending (keys s.lin
       (p : ℕ) (m : Message) → Due hash s (Received q (Graft (Some id) round)) r p m → false ≡ true
   graft-undue q id round r w p _ (passed_on from j round' content' h t l n g) = cc
   graft-undue q id round r w p _ (broadcast_by_us content' h t l) = cc
-  graft-undue q id round r w p _ (for_neighbours content' h t l) = cc
   graft-undue q id round r w p _ (asked_for j round' m h n g) =
       let i : id ≡ j = cc in
       let f : q ≡ p = cc in
@@ -428,7 +381,6 @@ module _ (hash : List ℕ → ℕ) (s : State) (links-up : ascending (keys s.lin
         alone : (m : Message) → Due hash s (Received q (Graft (Some id) round)) answered p m → (eqb q p ≡ true) × (answer ≡ m)
         alone _ (passed_on from j round' content' h t l n g) = absurd (let z : false ≡ true = cc in true≢ z)
         alone _ (broadcast_by_us content' h t l) = absurd (let z : false ≡ true = cc in true≢ z)
-        alone _ (for_neighbours content' h t l) = absurd (let z : false ≡ true = cc in true≢ z)
         alone _ (asked_for j round' m h n g) =
             let i : id ≡ j = cc in
             let f : q ≡ p = cc in

@@ -79,7 +79,7 @@ ask_step-requires c = askable (goal.at.ask_step-requires c).Start c.message_step
 
 pub ask_step-requires-in-Broadcast : goal.ask_step-requires-in-Broadcast
 ask_step-requires-in-Broadcast c =
-    askable (goal.at.ask_step-requires-in-Broadcast c).Start c.broadcast_step-step.result (Broadcast c.in-Broadcast.content.now (scope_value c.in-Broadcast.scope)) (sym (ap event_peer c.in-Broadcast.is)) c.broadcast_step-step.ensures
+    askable (goal.at.ask_step-requires-in-Broadcast c).Start c.broadcast_step-step.result (Broadcast c.in-Broadcast.content.now) (sym (ap event_peer c.in-Broadcast.is)) c.broadcast_step-step.ensures
 
 pub ask_step-requires-in-Timer : goal.ask_step-requires-in-Timer
 ask_step-requires-in-Timer c =
@@ -104,7 +104,7 @@ unfolding size_fits counts_stay counted_for
 returns-in-Broadcast-clause-outcome c =
     let a = c.args in
     let s = shown a.view.now in
-    stepped (goal.at.returns-in-Broadcast-clause-outcome c).Start c.broadcast_step-step.result (Broadcast c.in-Broadcast.content.now (scope_value c.in-Broadcast.scope)) 0 (counts_of a.counts) (outcome_of a.call.now s c.ask_step-in-Broadcast.result)
+    stepped (goal.at.returns-in-Broadcast-clause-outcome c).Start c.broadcast_step-step.result (Broadcast c.in-Broadcast.content.now) 0 (counts_of a.counts) (outcome_of a.call.now s c.ask_step-in-Broadcast.result)
     c.broadcast_step-step.ensures refl refl refl c.ask_step-in-Broadcast.ensures.outcome
     ∙ as_event (goal.at.returns-in-Broadcast-clause-outcome c).Start c.in-Broadcast.is
 

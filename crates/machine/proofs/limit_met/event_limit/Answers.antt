@@ -50,7 +50,7 @@ pub step_limit-requires : goal.step_limit-requires
 step_limit-requires c = askable (goal.at.step_limit-requires c).Start c.message_step.result (Received c.in-Received.peer (message_value c.in-Received.message)) c.message_step.ensures
 
 pub step_limit-requires-in-Broadcast : goal.step_limit-requires-in-Broadcast
-step_limit-requires-in-Broadcast c = askable (goal.at.step_limit-requires-in-Broadcast c).Start c.broadcast_step.result (Broadcast c.in-Broadcast.content.now (scope_value c.in-Broadcast.scope)) c.broadcast_step.ensures
+step_limit-requires-in-Broadcast c = askable (goal.at.step_limit-requires-in-Broadcast c).Start c.broadcast_step.result (Broadcast c.in-Broadcast.content.now) c.broadcast_step.ensures
 
 pub step_limit-requires-in-Timer : goal.step_limit-requires-in-Timer
 step_limit-requires-in-Timer c =
@@ -70,7 +70,7 @@ unfolding size_fits
 returns-in-Broadcast c =
     let a = c.args in
     c.step_limit-in-Broadcast.ensures
-    ∙ step-event a.call.now c.broadcast_step.result (shown a.view.now) 0 (Broadcast c.in-Broadcast.content.now (scope_value c.in-Broadcast.scope)) c.broadcast_step.ensures refl
+    ∙ step-event a.call.now c.broadcast_step.result (shown a.view.now) 0 (Broadcast c.in-Broadcast.content.now) c.broadcast_step.ensures refl
     ∙ as_event (goal.at.returns-in-Broadcast c).Start c.in-Broadcast.is
 
 pub returns-in-Timer : goal.returns-in-Timer

@@ -26,7 +26,7 @@ returns-in_default c =
     let k = c.args.call.now in
     let s = shown c.args.view.now in
     let d = c.in_default in
-    c.sizes_then.ensures ∙ others-sized (settled k.instant.0 s) (settled-consistent k.instant.0 s c.requires.rest.consistent) k c.args.step d.not-NewSwarm d.not-Graft d.not-IHave d.not-BroadcastSwarm d.not-SendGraft d.not-DispatchLazyPush d.not-EvictCache d.not-AnnounceDropped
+    c.sizes_then.ensures ∙ others-sized (settled k.instant.0 s) (settled-consistent k.instant.0 s c.requires.rest.consistent) k c.args.step d.not-NewSwarm d.not-Graft d.not-IHave d.not-Broadcast d.not-SendGraft d.not-DispatchLazyPush d.not-EvictCache d.not-AnnounceDropped
 
 pub returns-in-NewSwarm : goal.returns-in-NewSwarm
 unfolding step_state
@@ -36,9 +36,9 @@ pub returns-in-IHave : goal.returns-in-IHave
 unfolding step_state
 returns-in-IHave c = c.ihave_sizes.ensures c.in-IHave.link ∙ as_step (goal.at.returns-in-IHave c).Start c.in-IHave.is
 
-pub returns-in-BroadcastSwarm : goal.returns-in-BroadcastSwarm
+pub returns-in-Broadcast : goal.returns-in-Broadcast
 unfolding step_state
-returns-in-BroadcastSwarm c = c.broadcast_sizes.ensures ∙ as_step (goal.at.returns-in-BroadcastSwarm c).Start c.in-BroadcastSwarm.is
+returns-in-Broadcast c = c.broadcast_sizes.ensures ∙ as_step (goal.at.returns-in-Broadcast c).Start c.in-Broadcast.is
 
 pub returns-in-SendGraft : goal.returns-in-SendGraft
 unfolding step_state

@@ -41,7 +41,7 @@ on_ihave-requires c =
 pub broadcast-requires : goal.broadcast-requires
 unfolding step_state
 broadcast-requires c =
-    let k = known (goal.at.broadcast-requires c).Start c.in-BroadcastSwarm.is in
+    let k = known (goal.at.broadcast-requires c).Start c.in-Broadcast.is in
     (record { rest = k.allowed.rest; fits = k.allowed.fits }, k.early)
 
 pub on_send_graft_timer-requires : goal.on_send_graft_timer-requires
@@ -70,7 +70,7 @@ pub returns-in_default : goal.returns-in_default
 returns-in_default c =
     let d = c.in_default in
     record {
-      state = others-still c.args.call.now c.args.step (state c.args.panel.now) d.not-NewSwarm d.not-Late d.not-Prune d.not-Graft d.not-IHave d.not-BroadcastSwarm d.not-SendGraft d.not-DispatchLazyPush d.not-EvictCache d.not-AnnounceDropped;
+      state = others-still c.args.call.now c.args.step (state c.args.panel.now) d.not-NewSwarm d.not-Late d.not-Prune d.not-Graft d.not-IHave d.not-Broadcast d.not-SendGraft d.not-DispatchLazyPush d.not-EvictCache d.not-AnnounceDropped;
       loan = refl;
     }
 
@@ -90,9 +90,9 @@ pub returns-in-IHave : goal.returns-in-IHave
 unfolding step_state
 returns-in-IHave c = goes (goal.at.returns-in-IHave c).Start c.in-IHave.is c.on_ihave.ensures
 
-pub returns-in-BroadcastSwarm : goal.returns-in-BroadcastSwarm
+pub returns-in-Broadcast : goal.returns-in-Broadcast
 unfolding step_state
-returns-in-BroadcastSwarm c = goes (goal.at.returns-in-BroadcastSwarm c).Start c.in-BroadcastSwarm.is c.broadcast.ensures
+returns-in-Broadcast c = goes (goal.at.returns-in-Broadcast c).Start c.in-Broadcast.is c.broadcast.ensures
 
 pub returns-in-SendGraft : goal.returns-in-SendGraft
 unfolding step_state

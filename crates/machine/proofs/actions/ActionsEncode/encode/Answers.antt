@@ -112,26 +112,13 @@ unfolding step_actions
 broadcast_actions-requires g c =
     let d = (goal.at.broadcast_actions-requires g c).After-first_event_actions in
     let a = c.args.self.now in
-    record { rest = a.rest; first = refl; room = has-room g d (as-step g d c.in-BroadcastSwarm.is) }
+    record { rest = a.rest; room = has-room g d (as-step g d c.in-Broadcast.is) }
 
-pub returns-in-BroadcastSwarm : goal.returns-in-BroadcastSwarm
+pub returns-in-Broadcast : goal.returns-in-Broadcast
 unfolding step_actions
-returns-in-BroadcastSwarm g c =
-    let d = (goal.at.returns-in-BroadcastSwarm g c).After-first_event_actions in
-    done g d (as-step g d c.in-BroadcastSwarm.is) c.broadcast_actions.ensures
-
-pub broadcast_actions-requires-in-BroadcastNeighbors : goal.broadcast_actions-requires-in-BroadcastNeighbors
-unfolding step_actions
-broadcast_actions-requires-in-BroadcastNeighbors g c =
-    let d = (goal.at.broadcast_actions-requires-in-BroadcastNeighbors g c).After-first_event_actions in
-    let a = c.args.self.now in
-    record { rest = a.rest; first = tt; room = has-room g d (as-step g d c.in-BroadcastNeighbors.is) }
-
-pub returns-in-BroadcastNeighbors : goal.returns-in-BroadcastNeighbors
-unfolding step_actions
-returns-in-BroadcastNeighbors g c =
-    let d = (goal.at.returns-in-BroadcastNeighbors g c).After-first_event_actions in
-    done g d (as-step g d c.in-BroadcastNeighbors.is) c.broadcast_actions-in-BroadcastNeighbors.ensures
+returns-in-Broadcast g c =
+    let d = (goal.at.returns-in-Broadcast g c).After-first_event_actions in
+    done g d (as-step g d c.in-Broadcast.is) c.broadcast_actions.ensures
 
 pub send_graft_actions-requires : goal.send_graft_actions-requires
 unfolding step_actions

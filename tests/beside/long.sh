@@ -193,7 +193,7 @@ echo "second panels: $(total "second panels alike") alike went through $(total "
 awk -F '\t' '$1 == "apart" { print $3 }' "$table" | while IFS= read -r list; do
     echo "    $list in another order: $(of apart "$list"), told apart by chosen calls $(of "apart by chosen calls" "$list"), by those that followed $(of "apart by those that followed" "$list")"
 done
-echo "$(total "calls in lists without kind 5") calls in $(total "lists without kind 5") lists without kind 5, $(total "calls in lists with kind 5") in $(total "lists with kind 5") with it ($(total "events of kind 5 accepted") of kind 5 accepted)"
+echo "$(total "calls in lists without kind 5") calls in $(total "lists without kind 5") lists without kind 5, $(total "calls in lists with kind 5") in $(total "lists with kind 5") with it ($(total "events of kind 5 accepted") of kind 5 accepted); $(of path "answer 23") answered 23"
 echo "the whole table: $table"
 for n in "${different[@]}"; do
     head -n 1 "$(file_of "$n").different"

@@ -271,7 +271,7 @@ def quiet(panel, ev):
         for p in others:
             ev(0, gen.up(p))
 
-    # Bytes that are no event of kind 5. The first event is a message. What is broadcast is queued for 2, but for Neighbors; a Graft is answered and changes
+    # Bytes that are no event of kind 5. The first event is a message. What is broadcast is queued for 2, but for byte 1, which is refused; a Graft is answered and changes
     # nothing else. By kind 3 it is eager, by kind 5 quiet again, and once it is down it is a stranger.
     begin([], [])
     for event in ["05", "058000", "050200", "0602"]:
@@ -280,7 +280,7 @@ def quiet(panel, ev):
     ev(0, gen.up(3))
     ev(1, gen.recv(2, gen.prune()))
     ev(2, gen.broadcast(x))
-    ev(3, gen.broadcast(b"near", False))
+    ev(3, gen.broadcast(b"near", 1))
     ev(7, gen.DISPATCH)
     ev(8, gen.recv(2, gen.graft(i, 0)))
     ev(8, gen.recv(2, gen.graft(j, 0)))

@@ -92,9 +92,9 @@ def long_input():
     call(165, gen.recv(5, gen.prune(5)))
     for over in [gen.prune(6), gen.graft(None, 0, hops=4), gen.ihave([], count=11), gen.gossip(mill, b"mill 2", 0, length=11), b"\x84", b"\x84\0"]:
         call(166, gen.recv(2, over))
-    # Broadcasts: small, for neighbours, the largest that is sent, larger, and as large as an event can be.
+    # Broadcasts: small, with byte 1, the largest that is sent, larger, and as large as an event can be.
     call(200, gen.broadcast(b"kiln 1 stop"))
-    call(201, gen.broadcast(b"kiln 2 stop", False))
+    call(201, gen.broadcast(b"kiln 2 stop", 1))
     call(202, gen.broadcast(r.randbytes(4055)))
     call(203, gen.broadcast(r.randbytes(4056)))
     call(204, gen.broadcast(r.randbytes(16380)))
@@ -200,7 +200,7 @@ def main():
     count = collections.Counter(n for n, _ in answers(out))
     first = collections.Counter(a[0] for n, a in answers(out) if a)
     print(f"{len(data)} bytes, {sum(count.values())} answers: {dict(sorted(count.items()))}; {len(out)} bytes written; first actions {dict(sorted(first.items()))}")
-    assert set(count) == {0, 6, 7, 8, 9, 10, 12, 13} and out.endswith(b"\7\0")
+    assert set(count) == {0, 6, 7, 8, 9, 10, 12, 13, 23} and out.endswith(b"\7\0")
 
 
 if __name__ == "__main__":

@@ -7,7 +7,7 @@
 use bytes::Bytes;
 use postcard::{put_number, to_vec, De, Error};
 use serde::{Deserialize, Serialize};
-use std::collections::HashSet;
+use std::collections::{BTreeMap, HashSet};
 use std::fmt::Write;
 
 include!("types.rs");
@@ -34,10 +34,13 @@ fn question(e: Error) -> u8 {
 fn read(bytes: &[u8]) -> Result<(Event, usize), u8> {
     let mut de = De::new(bytes);
     let got = read_kinds(&mut de).map_err(question)?;
-    if de.rest.is_empty() {
-        Ok(got)
-    } else {
-        Err(9)
+    if !de.rest.is_empty() {
+        return Err(9);
+    }
+    // Neighbours-only broadcasts are retired.
+    match got {
+        (Event::Broadcast(_, Scope::Neighbors), _) => Err(23),
+        _ => Ok(got),
     }
 }
 
@@ -118,8 +121,10 @@ fn hex(bytes: &[u8]) -> String {
 fn words(event: &Event, size: usize) -> String {
     match event {
         Event::Received(peer, m) => format!("Received {peer} {size} {}", message_words(m)),
-        Event::Broadcast(content, Scope::Swarm) => format!("Broadcast {} Swarm", hex(content)),
-        Event::Broadcast(content, Scope::Neighbors) => format!("Broadcast {} Neighbors", hex(content)),
+        Event::Broadcast(content, scope) => {
+            assert!(*scope == Scope::Swarm);
+            format!("Broadcast {} Swarm", hex(content))
+        }
         Event::Fired(Timer::SendGraft(id)) => format!("SendGraft {}", hex(&id.0)),
         Event::Fired(Timer::DispatchLazyPush) => "DispatchLazyPush".into(),
         Event::Fired(Timer::EvictCache) => "EvictCache".into(),
@@ -148,13 +153,13 @@ fn message_words(m: &Message) -> String {
     }
 }
 
-/// The two files, each event once, and how many cases there are of each answer.
+/// The two files, each event once, and how many cases there are of each answer, 0 where the event is read.
 #[derive(Default)]
 struct Cases {
     seen: HashSet<Vec<u8>>,
     events: String,
     answers: String,
-    counts: [usize; 4],
+    counts: BTreeMap<u8, usize>,
 }
 
 impl Cases {
@@ -174,7 +179,7 @@ impl Cases {
                 write!(line, "; {}", rewritten.map_or_else(|n| n.to_string(), |shortest| hex(&shortest))).unwrap();
             }
             writeln!(self.answers, "{line}").unwrap();
-            self.counts[answer.as_ref().map_or_else(|n| *n as usize - 6, |_| 0)] += 1;
+            *self.counts.entry(answer.as_ref().err().copied().unwrap_or(0)).or_default() += 1;
         }
         answer.map(|(event, _)| event)
     }
@@ -188,8 +193,13 @@ impl Cases {
         assert!(self.add(bytes).ok().as_ref() == Some(event), "{}", hex(bytes));
     }
 
-    fn accept(&mut self, event: &Event) {
-        self.read_as(&write(event), event);
+    /// An event as it is written: it is read, but for a broadcast to neighbours only.
+    fn written(&mut self, event: &Event) {
+        let bytes = write(event);
+        match event {
+            Event::Broadcast(_, Scope::Neighbors) => self.refuse(&bytes, 23),
+            _ => self.read_as(&bytes, event),
+        }
     }
 }
 
@@ -305,7 +315,8 @@ fn read_padded(f: &Field) -> Vec<Vec<u8>> {
 /// Each refusal at each field of an event, and each length in which a number of a message is read.
 fn refusals(cases: &mut Cases, fields: &[Field]) {
     let whole: Vec<u8> = fields.iter().flat_map(spelt).collect();
-    let event = cases.add(&whole).unwrap_or_else(|n| panic!("{} is {n}", hex(&whole)));
+    let event = cases.add(&whole);
+    assert!(matches!(event, Ok(_) | Err(23)), "{}", hex(&whole));
     for cut in 0..whole.len() {
         cases.refuse(&whole[..cut], 7);
     }
@@ -321,7 +332,8 @@ fn refusals(cases: &mut Cases, fields: &[Field]) {
             }
         }
         for good in read_padded(f) {
-            cases.read_as(&[before.clone(), good, after.clone()].concat(), &event);
+            let read = event.as_ref().expect("an event with a message is read");
+            cases.read_as(&[before.clone(), good, after.clone()].concat(), read);
         }
     }
 }
@@ -386,18 +398,18 @@ fn edges(cases: &mut Cases) {
     for k in 0..10 {
         let low = 1u64.checked_shl(7 * k).unwrap();
         for v in [low - 1, low, low + 1] {
-            cases.accept(&Event::Up(v));
-            cases.accept(&Event::Down(v));
-            cases.accept(&Event::UpQuiet(v));
+            cases.written(&Event::Up(v));
+            cases.written(&Event::Down(v));
+            cases.written(&Event::UpQuiet(v));
         }
     }
     for v in [u64::MAX - 1, u64::MAX, 1 << 63, (1 << 63) - 1] {
-        cases.accept(&Event::Up(v));
-        cases.accept(&Event::UpQuiet(v));
-        cases.accept(&Event::Received(v, Message::Prune));
+        cases.written(&Event::Up(v));
+        cases.written(&Event::UpQuiet(v));
+        cases.written(&Event::Received(v, Message::Prune));
     }
     for r in [0, 1, 126, 127, 128, 129, 255, 256, 16_383, 16_384, 32_767, 32_768, 65_534, 65_535] {
-        cases.accept(&Event::Received(1, Message::Graft(Graft { id: None, round: Round(r) })));
+        cases.written(&Event::Received(1, Message::Graft(Graft { id: None, round: Round(r) })));
     }
 }
 
@@ -416,10 +428,10 @@ fn worked(cases: &mut Cases) {
     for (len, scope, size) in [(0, top, 38), (127, top, 165), (128, top, 167), (0, DeliveryScope::Neighbors, 35), (471, top, 510), (472, top, 511)] {
         let message = gossip(len, scope);
         assert_eq!(to_vec(&message).unwrap().len(), size);
-        cases.accept(&Event::Received(2, message));
+        cases.written(&Event::Received(2, message));
     }
     for n in [14, 116] {
-        cases.accept(&Event::Received(2, announcements(n, 65_535)));
+        cases.written(&Event::Received(2, announcements(n, 65_535)));
     }
     for (event, bytes) in [
         (Event::Up(2), &[3, 2][..]),
@@ -431,7 +443,7 @@ fn worked(cases: &mut Cases) {
         (Event::Received(2, Message::Graft(Graft { id: None, round: Round(65_535) })), &[0, 2, 2, 0, 0xff, 0xff, 3]),
     ] {
         assert_eq!(write(&event), bytes);
-        cases.accept(&event);
+        cases.written(&event);
     }
 }
 
@@ -464,8 +476,8 @@ fn too_long(cases: &mut Cases) {
         cases.refuse(&[vec![1], number(len), short.clone()].concat(), 7);
         cases.refuse(&[vec![0, 2, 0], id.to_vec(), number(len), short].concat(), 7);
     }
-    cases.accept(&Event::Received(2, Message::IHave(vec![])));
-    cases.accept(&Event::Broadcast(Bytes::new(), Scope::Neighbors));
+    cases.written(&Event::Received(2, Message::IHave(vec![])));
+    cases.written(&Event::Broadcast(Bytes::new(), Scope::Neighbors));
 }
 
 /// Numbers from a seed (xorshift64*).
@@ -589,12 +601,12 @@ fn main() {
     edges(&mut cases);
     too_long(&mut cases);
     shapes().iter().for_each(|s| refusals(&mut cases, s));
-    let chosen: usize = cases.counts.iter().sum();
+    let chosen: usize = cases.counts.values().sum();
     let mut random = Random(0x9e37_79b9_7f4a_7c15);
     for _ in 0..2_400 {
         let event = random.event();
         if random.below(5) < 3 {
-            cases.accept(&event);
+            cases.written(&event);
         } else {
             let mut bytes = write(&event);
             random.damage(&mut bytes);
@@ -608,6 +620,6 @@ fn main() {
     spellings(&mut cases, &mut random);
     std::fs::write(&args[1], &cases.events).unwrap();
     std::fs::write(&args[2], &cases.answers).unwrap();
-    let [read, seven, eight, nine] = cases.counts;
-    println!("{chosen} chosen, others random: {read} read, {seven} of 7, {eight} of 8, {nine} of 9");
+    let [read, seven, eight, nine, retired] = [0, 7, 8, 9, 23].map(|n| cases.counts[&n]);
+    println!("{chosen} chosen, others random: {read} read, {seven} of 7, {eight} of 8, {nine} of 9, {retired} of 23");
 }

@@ -19,8 +19,9 @@ use wire::reader::fault::Fault;
 // "an event over 16,384 bytes" ends the program as a cut record does.
 const LONGEST_EVENT: u64 = 16384;
 
-// An event is answered by no number over 14.
+// An event is answered by no number over 14 but 23.
 const LAST_ANSWER: u8 = Refusal::OutputTooShort as u8;
+const NEIGHBORS_BROADCAST: u8 = Refusal::NeighborsBroadcast as u8;
 
 // A record: "now, length, event".
 fn read_record<'a>(input: &mut Reader<'a>) -> std::result::Result<(u64, EventText<'a>), Fault> {
@@ -44,7 +45,9 @@ fn read_answer<'a>(output: &mut Reader<'a>) -> std::result::Result<(u8, &'a [u8]
 // Why a call was refused, and its actions.
 fn show_answer(rt: &impl Print, number: u8, actions: &[u8]) -> Result<()> {
     match Refusal::of(number) {
-        Some(refusal) if number <= LAST_ANSWER => println!(rt; "    refused: {refusal}")?,
+        Some(refusal) if number <= LAST_ANSWER || number == NEIGHBORS_BROADCAST => {
+            println!(rt; "    refused: {refusal}")?
+        }
         None if number == 0 => {}
         _ => println!(rt; "    {number} is no answer")?,
     }

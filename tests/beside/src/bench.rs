@@ -188,8 +188,7 @@ fn cases(f: &Filled) -> Vec<Case> {
         let list: Vec<(Id, u16)> = (0..100).map(|k| (s.received[k * 7 % n].0, 3)).collect();
         put("IHave of 100, received", wire::recv(lazy, &wire::ihave(&list)));
     }
-    put("Broadcast Swarm, 100 B", wire::broadcast(&fresh(2), true));
-    put("Broadcast Neighbors, 100 B", wire::broadcast(&fresh(2), false));
+    put("Broadcast Swarm, 100 B", wire::broadcast(&fresh(2)));
     if let Some(id) = &f.missing {
         put("SendGraft", wire::send_graft(id));
     }
@@ -219,7 +218,7 @@ fn cases(f: &Filled) -> Vec<Case> {
     v.push(Case {
         name: "Broadcast Swarm, handed back",
         now: NOW,
-        event: wire::broadcast(&fresh(2), true),
+        event: wire::broadcast(&fresh(2)),
         rooms,
         clear: keep,
     });

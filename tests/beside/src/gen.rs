@@ -1,6 +1,7 @@
 //! Random lists of calls. A list is determined by its seed and the Rust's answers.
 mod brink;
 mod quiet;
+mod retired;
 mod rewrite;
 mod second;
 pub mod spell;
@@ -14,6 +15,7 @@ use oracle::{
 };
 
 pub use quiet::Quiets;
+pub use retired::Retired;
 pub use rewrite::Rewrites;
 pub use second::Seconds;
 pub use states::States;
@@ -404,7 +406,7 @@ impl World {
             self.plan = peers[1..].iter().map(|p| wire::up(*p)).collect();
             let n = self.r.pick(&[140, 200, 257, 300]);
             for k in 0..n.min(self.contents.len()) {
-                self.plan.push(wire::broadcast(&self.contents[k], true));
+                self.plan.push(wire::broadcast(&self.contents[k]));
             }
             if n > 200 {
                 self.plan.drain(7..31);
@@ -681,8 +683,10 @@ impl World {
             "prune" => wire::recv(p, &wire::prune()),
             "broadcast" => {
                 let k = self.r.index(self.contents.len());
-                let swarm = self.r.chance(85.0);
-                wire::broadcast(&self.contents[k], swarm)
+                match self.r.chance(85.0) {
+                    true => wire::broadcast(&self.contents[k]),
+                    false => wire::retired(&self.contents[k]),
+                }
             }
             "dispatch" => wire::DISPATCH.to_vec(),
             "announce" => wire::ANNOUNCE.to_vec(),

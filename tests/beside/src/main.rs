@@ -25,7 +25,7 @@ use std::{
 };
 
 use create::Creations;
-use gen::{Quiets, Rewrites, Seconds, States, World};
+use gen::{Quiets, Retired, Rewrites, Seconds, States, World};
 use paths::Paths;
 use run::{Call, Pair, Same};
 use script::Cmd;
@@ -195,6 +195,7 @@ impl Lists {
             world.set_damage(percent);
         }
         let mut quiets = Quiets::of(seed, number, &mut world);
+        let mut retired = Retired::of(seed, number);
         let mut rewrites = Rewrites::of(seed, number, world.m);
         let mut states = States::of(seed, number);
         let mut seconds = Seconds::of(seed, number);
@@ -213,10 +214,11 @@ impl Lists {
         self.rewrite(rewrites.begin())?;
         self.keep(states.begin(&self.pair))?;
         self.go_along(seconds.begin(&self.pair))?;
-        while calls < world.calls as u64 {
+        while calls < world.calls as u64 + retired.drawn {
             let mut behind = Vec::new();
             let next = world.next(&self.pair);
-            calls += self.calls(quiets.next(&self.pair, next), |event, call| {
+            let next = quiets.next(&self.pair, next);
+            calls += self.calls(retired.next(&world, next), |event, call| {
                 world.heard(call);
                 behind = rewrites.behind(event, &call.answer.actions);
             })?;
@@ -262,6 +264,7 @@ impl Lists {
             paths.call(before, seen.as_ref(), *now, &call.answer, out, after, damaged);
             paths.rooms(before, rooms, &call.answer);
             paths.spelled(before, event, &call.answer);
+            paths.retired(pair, *now, rooms, event, &call.answer);
             if !damaged {
                 heard(event, &call);
             }

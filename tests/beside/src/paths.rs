@@ -31,6 +31,7 @@ pub const ALL: &[&str] = &[
     "answer 12",
     "answer 13",
     "answer 14",
+    "answer 23",
     "13 by neighbours",
     "13 by received",
     "13 by cached",
@@ -160,9 +161,6 @@ pub const ALL: &[&str] = &[
     "broadcast Swarm to announced",
     "broadcast Swarm too large",
     "broadcast Swarm of largest size",
-    "broadcast Neighbors",
-    "broadcast Neighbors too large",
-    "broadcast Neighbors handed back",
     "broadcast to eager panel itself",
     "room: second entry of a peer, the first counts",
     "room of a stranger",
@@ -224,6 +222,21 @@ pub const FORGOTTEN: &[&str] = &[
     "14 by what was forgotten alone",
 ];
 
+/// Paths of a broadcast with byte 1, where the same with byte 0 would be what stands behind 23, or is not asked since another number comes first.
+pub const RETIRED: &[&str] = &[
+    "byte 1: 5",
+    "byte 1: 6",
+    "byte 1: 8, the byte is padded",
+    "byte 1: 9",
+    "byte 1: 23, byte 0 is accepted",
+    "byte 1: 23, byte 0 is 13",
+    "byte 1: 23, byte 0 is 14",
+    "byte 1: 23, byte 0 is the first event",
+    "byte 1: 23, byte 0 is the first event and evicts",
+    "byte 1: 23, byte 0 is too large",
+    "byte 1: 23, some are quiet",
+];
+
 /// Paths of a quiet neighbour.
 pub const QUIET: &[&str] = &[
     "up quiet: 7",
@@ -267,7 +280,6 @@ pub const QUIET: &[&str] = &[
     "quiet: new Swarm from it, pushed to eager ones",
     "quiet: broadcast Swarm, all are quiet",
     "quiet: broadcast Swarm, the panel itself",
-    "quiet: broadcast Neighbors",
     "quiet: queued, eager ones sent to",
     "quiet: queued, grafted for it",
     "quiet: dispatch",
@@ -338,7 +350,8 @@ impl Paths {
     fn hit(&mut self, name: &'static str) {
         let is = |all: &[&str]| all.contains(&name);
         let first = self.hits.tell(name);
-        assert!(!first || is(ALL) || is(FORGOTTEN) || is(QUIET), "{name}");
+        let known = is(ALL) || is(FORGOTTEN) || is(RETIRED) || is(QUIET);
+        assert!(!first || known, "{name}");
     }
 
     fn hit_if(&mut self, yes: bool, name: &'static str) {
@@ -370,11 +383,11 @@ impl Paths {
         *all += calls;
     }
 
-    /// How many lists there were without kind 5 and with it.
+    /// How many lists there were without kind 5 and with it, and how many calls were answered 23.
     pub fn lists(&self) -> String {
         let [[lists, calls], [quiet, among]] = self.lists;
-        let told = self.told_quiet;
-        format!("{calls} calls in {lists} lists without kind 5, {among} in {quiet} with it ({told} of kind 5 accepted)")
+        let (told, retired) = (self.told_quiet, self.hits.times("answer 23"));
+        format!("{calls} calls in {lists} lists without kind 5, {among} in {quiet} with it ({told} of kind 5 accepted); {retired} answered 23")
     }
 
     /// A creation with this answer.
@@ -472,7 +485,7 @@ impl Paths {
             return;
         };
         let read = wire::reading(event);
-        let told = Some(answer.number).filter(|n| (7..10).contains(n));
+        let told = Some(answer.number).filter(|n| matches!(n, 7..=9 | 23));
         assert_eq!(read.question, told, "{}", hex::encode(event));
         match (event.first(), told) {
             (Some(&wire::QUIET), Some(7)) => self.hit("up quiet: 7"),
@@ -520,6 +533,51 @@ impl Paths {
         }
     }
 
+    /// A broadcast with byte 1, behind its call: what was answered, and what the same with byte 0 would be.
+    pub fn retired(
+        &mut self,
+        pair: &Pair,
+        now: u64,
+        rooms: &[(u64, u16)],
+        event: &[u8],
+        answer: &Answer,
+    ) {
+        if event.first() != Some(&1) {
+            return;
+        }
+        let read = wire::reading(event);
+        let whole = read.question == Some(23);
+        match answer.number {
+            5 => self.hit_if(whole, "byte 1: 5"),
+            6 => self.hit_if(whole, "byte 1: 6"),
+            8 => self.hit_if(event.ends_with(&[0x81, 0]), "byte 1: 8, the byte is padded"),
+            9 => self.hit_if(read.retired(), "byte 1: 9"),
+            _ => {}
+        }
+        if answer.number != 23 {
+            return;
+        }
+        let mut swarm = event.to_vec();
+        *swarm.last_mut().expect("a byte") = 0;
+        let mut panel = pair.panel().copy();
+        let Some(Seen::Broadcast { size, .. }) = panel.see(&swarm) else {
+            panic!("no broadcast");
+        };
+        let s = pair.snap.as_deref().expect("a whole block");
+        let a = panel.call(Some(&pair.limits), now, rooms, &swarm);
+        self.hit(match a.number {
+            0 => "byte 1: 23, byte 0 is accepted",
+            13 => "byte 1: 23, byte 0 is 13",
+            _ => "byte 1: 23, byte 0 is 14",
+        });
+        let due = |v: &[(u64, Id)]| v.iter().any(|e| e.0 <= now);
+        let evicts = due(&s.rexp) || due(&s.cexp) || due(&s.gexp);
+        self.hit_if(!s.init, "byte 1: 23, byte 0 is the first event");
+        self.hit_if(!s.init && evicts, "byte 1: 23, byte 0 is the first event and evicts");
+        self.hit_if(size as u64 > s.m, "byte 1: 23, byte 0 is too large");
+        self.hit_if(!s.quiet.is_empty(), "byte 1: 23, some are quiet");
+    }
+
     /// Takes in a call. `before` is none if the block was not whole, `seen` if the event isn't one.
     #[allow(clippy::too_many_arguments)]
     pub fn call(
@@ -535,6 +593,7 @@ impl Paths {
         self.hit(
             ALL[match answer.number {
                 0 => 0,
+                23 => 11,
                 n => n as usize - 4,
             }],
         );
@@ -542,7 +601,7 @@ impl Paths {
             for i in 0..12 {
                 self.hit_if(
                     answer.over >> i & 1 == 1 && answer.over.count_ones() == 1,
-                    ALL[11 + i],
+                    ALL[12 + i],
                 );
             }
         }
@@ -662,9 +721,7 @@ impl Paths {
             }),
             Seen::Graft { peer, id, .. } => self.graft(b, *peer, id.as_ref(), &handed),
             Seen::IHave { peer, list } => self.ihave(b, *peer, list),
-            Seen::Broadcast { content, swarm, size } => {
-                self.broadcast(b, content, *swarm, *size, &handed)
-            }
+            Seen::Broadcast { content, size } => self.broadcast(b, content, *size),
             Seen::SendGraft(id) => self.send_graft(b, id, &handed),
             Seen::Dispatch => self.dispatch(b, &acts, &handed),
             Seen::Announce => self.announce(b, a),
@@ -753,7 +810,6 @@ impl Paths {
                 let moved = |p: &u64| find(&a.queue, *p).len() > find(&b.queue, *p).len();
                 self.hit_if(b.quiet.iter().any(moved), "quiet: announce");
             }
-            Seen::Broadcast { swarm: false, .. } => self.hit_if(pushed, "quiet: broadcast Neighbors"),
             Seen::Broadcast { size, .. } if *size as u64 <= b.m => {
                 let all = b.eager.is_empty() && b.lazy == b.quiet;
                 self.hit_if(all, "quiet: broadcast Swarm, all are quiet");
@@ -1100,17 +1156,11 @@ impl Paths {
         self.hit_if(b.grafted.iter().any(|g| mine(&g.peers)), "down grafted");
     }
 
-    fn broadcast(&mut self, b: &Snap, content: &[u8], swarm: bool, size: usize, handed: &[Handed]) {
-        let fits = size as u64 <= b.m;
-        self.hit_if(fits && b.eager.contains(&b.me), "broadcast to eager panel itself");
-        if !swarm {
-            self.hit(if fits { "broadcast Neighbors" } else { "broadcast Neighbors too large" });
-            self.hit_if(handed.iter().any(|h| h.back), "broadcast Neighbors handed back");
-            return;
-        }
-        if !fits {
+    fn broadcast(&mut self, b: &Snap, content: &[u8], size: usize) {
+        if size as u64 > b.m {
             return self.hit("broadcast Swarm too large");
         }
+        self.hit_if(b.eager.contains(&b.me), "broadcast to eager panel itself");
         self.hit_if(size as u64 == b.m, "broadcast Swarm of largest size");
         let id = oracle::identifier(content);
         self.hit(match b.received.iter().any(|e| e.0 == id) {
@@ -1128,7 +1178,8 @@ impl Paths {
 
     /// Every path, with the number of times it was taken.
     fn all(&self) -> Vec<(u64, String)> {
-        let calls = ALL.iter().chain(FORGOTTEN).chain(QUIET).map(|k| (self.hits.times(k), k.to_string()));
+        let calls = ALL.iter().chain(FORGOTTEN).chain(RETIRED).chain(QUIET);
+        let calls = calls.map(|k| (self.hits.times(k), k.to_string()));
         let faults = block::FAULTS.iter().map(|k| (self.faults.times(k), format!("not whole: {k}")));
         let alike = likeness::ABOUT.iter().map(|k| (self.faults.times(k), k.to_string()));
         let rewritten = rewriting::ABOUT.iter().map(|k| (self.faults.times(k), k.to_string()));

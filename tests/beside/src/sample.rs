@@ -179,7 +179,7 @@ fn candidate(seed: u64, n: u64) -> Option<Candidate> {
             if matches!(c, Cmd::Limits { out, .. } if out > MOST) {
                 return None;
             }
-            if let Cmd::Event { now, event, .. } = &c {
+            if let Cmd::Event { now, rooms, event } = &c {
                 let seen = pair.panel().see(event);
                 let call = pair.run(&c).ok()??;
                 let (before, after) = (call.before.as_deref(), pair.snap.as_deref());
@@ -189,6 +189,7 @@ fn candidate(seed: u64, n: u64) -> Option<Candidate> {
                 }
                 paths.call(before, seen.as_ref(), *now, &call.answer, out, after, false);
                 paths.spelled(before, event, &call.answer);
+                paths.retired(&pair, *now, rooms, event, &call.answer);
                 world.heard(&call);
                 if call.answer.number == 0 {
                     accepted += 1;

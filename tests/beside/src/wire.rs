@@ -81,11 +81,18 @@ pub fn recv(peer: u64, message: &[u8]) -> Vec<u8> {
     o
 }
 
-pub fn broadcast(content: &[u8], swarm: bool) -> Vec<u8> {
+pub fn broadcast(content: &[u8]) -> Vec<u8> {
     let mut o = vec![1];
     number(&mut o, content.len() as u64);
     o.extend(content);
-    o.push(!swarm as u8);
+    o.push(0);
+    o
+}
+
+/// A broadcast with byte 1, to neighbours only: 23.
+pub fn retired(content: &[u8]) -> Vec<u8> {
+    let mut o = broadcast(content);
+    *o.last_mut().unwrap() = 1;
     o
 }
 
@@ -467,12 +474,17 @@ pub fn received(event: &[u8]) -> Option<&[u8]> {
 pub struct Reading {
     /// Its numbers, up to where reading stops.
     pub numbers: Vec<Spelled>,
-    /// The first of questions 7 to 9 that is answered no, and why reading stops, if it does.
+    /// The first of questions 7, 8, 9 and 23 that is answered no, and why reading stops, if it does.
     pub question: Option<u8>,
     pub stop: Option<Stop>,
 }
 
 impl Reading {
+    /// Whether it is a broadcast with byte 1, whatever follows.
+    pub fn retired(&self) -> bool {
+        self.numbers.last().is_some_and(|n| n.field == Field::BroadcastByte && n.value == 1)
+    }
+
     /// The numbers of its message.
     pub fn message(&self) -> Vec<Spelled> {
         let inside = |n: &&Spelled| Field::INSIDE.contains(&n.field);
@@ -490,7 +502,9 @@ impl Reader<'_> {
 pub fn reading(event: &[u8]) -> Reading {
     let mut r = Reader::new(event);
     let stop = r.event().err();
-    r.told(stop)
+    let read = r.told(stop);
+    let question = read.question.or(Some(23).filter(|_| read.retired()));
+    Reading { question, ..read }
 }
 
 /// A message alone: what it is, if it is one, and how it is spelled.

@@ -87,6 +87,9 @@ struct plumtree_answer plumtree_event(uint8_t *block, size_t length, struct plum
     change(29, first, (uint8_t *)(counts + 1));                      /* event: behind the counts | wrote outside of the counts */
     change(30, yes && a.length > 0, output);                         /* event: an action | actions */
     change(31, yes, block + HEADER);                                 /* event: the state, or a byte of no row | state */
+    change(32, no && a.number == 23 && wide, block + length - 1);    /* event, refused with 23: the block's last byte | a refused call changed the block */
+    change(33, no && a.number == 23, counts);                        /* event, refused with 23: the counts | counts of a refused call */
+    change(34, no && a.number == 23, output);                        /* event, refused with 23: the output's first byte | wrote beyond the length */
     yes = second && a.number == 0, no = second && !yes;
     change(40, yes && a.length < room, behind);                      /* second panel: the output's byte at the length | second panel: wrote beyond the length */
     change(41, yes && a.length + 5000 < room, behind + 5000);        /* second panel: far behind the length | second panel: wrote */

@@ -34,13 +34,16 @@ fn question(e: Error) -> u8 {
     }
 }
 
-/// Reads an event; the error is the number of the first question (7 to 10) answered no.
+/// Reads an event; the error is the number of the first question (7, 8, 9, 23, 10) answered no. So the Rust gets no broadcast to its neighbours only.
 fn read_event(bytes: &[u8], m: usize) -> Result<Ev, u8> {
     let mut de = De::new(bytes);
     let mut size = 0;
     let ev = read_kinds(&mut de, &mut size).map_err(question)?;
     if !de.rest.is_empty() {
         return Err(9);
+    }
+    if matches!(ev, Ev::In(InEvent::Broadcast(_, Scope::Neighbors))) {
+        return Err(23);
     }
     if size > m {
         return Err(10);
@@ -328,7 +331,7 @@ impl Panel {
         oracle::sizes(&self.state)
     }
 
-    /// An event call: questions 6 to 14 (13 and 14 with limits only), then `handle`.
+    /// An event call: questions 6 to 14 (13 and 14 with limits only) and 23, then `handle`.
     pub fn call(
         &mut self,
         limits: Option<&Limits>,
@@ -351,7 +354,7 @@ impl Panel {
         *out = io.out;
     }
 
-    /// What an event is about; none if it is answered with 7 to 10.
+    /// What an event is about; none if it is answered with 7 to 10 or 23.
     pub fn see(&self, event: &[u8]) -> Option<Seen> {
         Some(match read_event(event, oracle::max_size(&self.state)).ok()? {
             Ev::In(e) => oracle::see(e),

@@ -110,7 +110,7 @@ impl World {
     fn push_of_new(&mut self, s: &Snap) -> Vec<u8> {
         let (id, content) = self.new_content();
         if self.r.chance(60.0) {
-            return wire::broadcast(&content, true);
+            return wire::broadcast(&content);
         }
         let p = self.r.pick(&neighbours(s));
         let round = self.r.below(12) as u16;
@@ -276,7 +276,7 @@ impl World {
         let room = later + content.len() + self.r.pick(&[0, 0, 1, 2]) - 1;
         self.roomy(room.max(all).max(1), 400);
         self.plan.push(e);
-        self.plan.push(wire::broadcast(&content, true));
+        self.plan.push(wire::broadcast(&content));
         s
     }
 

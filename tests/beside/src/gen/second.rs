@@ -116,7 +116,7 @@ impl Lists<'_> {
     }
 
     fn broadcasts(&self, apart: u64, other: bool, back: bool) -> Vec<Told> {
-        self.each(apart, other, back, |_, content| wire::broadcast(content, true))
+        self.each(apart, other, back, |_, content| wire::broadcast(content))
     }
 
     /// An IHave of everything from a peer.

@@ -61,7 +61,7 @@ low-fault n f =
     (λ e. let z : leb 7 n && leb n 9 || false ≡ true = rw e at f in inl (omega (arith, leb-true n 9 (and_right (leb 7 n) (leb n 9) (or-no _ z)))))
   where
     or-no : (b : Bool) → b || false ≡ true → b ≡ true
-    or-no true h = refl
+    or-no true h = h
     or-no false h = h
 
 low-read : (s : State) (c : Counts) (k : Call) (d : Decoded Event) → event_fault d ≡ true → Low (ask_read identifier s c k d)

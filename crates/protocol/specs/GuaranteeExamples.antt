@@ -1,6 +1,6 @@
 -- The examples of docs/GUARANTEE.md: lists of calls, and what the definitions compute of each.
 -- Assumes nothing.
-use Rattle.std.specs.Prelude.{ℕ, zero, suc, ◌≡◌, ◌+◌, Bool, true, false, ◌&&◌, List, [], ◌∷◌, ◌++◌, length, drop, map, replicate, eqb, Some, None}
+use Rattle.std.specs.Prelude.{ℕ, zero, suc, ◌≡◌, ◌+◌, Bool, true, false, ◌&&◌, List, [], ◌∷◌, ◌++◌, length, drop, map, replicate, Some, None}
 use Rattle.storage.specs.Lists.Base.{any}
 use Rattle.storage.specs.Lists.Map.{entry}
 use Rattle.postcard.specs.Number.{id_bytes}
@@ -14,6 +14,7 @@ use Rattle.protocol.specs.Push.{notes, record_full}
 use Rattle.protocol.specs.Handle.{handle}
 use Rattle.protocol.specs.Whole.{whole}
 use Rattle.protocol.specs.Answer.{Call, Answer, refuse, accept, message_fits}
+use Rattle.protocol.specs.AlikeCalls.CommissioningSheet.{number_of}
 use Rattle.protocol.specs.Calls.{Ran, run_calls}
 use Rattle.protocol.specs.NoNeighbourPassedOver.{took, announced, is_graft_for, carries, was_taken, was_handed_back, taken_or_handed_back, sent, dispatch_tick, announce_tick, scheduled, met_full}
 use Rattle.protocol.specs.ReadingsFollowTheTree.{payloads_to, announcement_of}
@@ -301,11 +302,6 @@ abbrev pub narrow : List Answer
 narrow = (run_calls first (fresh panel_settings (record { N = 8; R = 64; C = 32; B = 8192; G = 16; S = 16; T = 16; Q = 1; D = 64 })) zero_counts
     (free (Up false 2) ∷ shut (broadcast_of 8) ∷ shut (broadcast_of 5) ∷ free (Fired AnnounceDropped) ∷ evict_at 30000 ∷ free (Fired AnnounceDropped) ∷ [])).answers
 
--- the call is refused with this number
-unfoldable pub refused_with : ℕ → Answer → Bool
-refused_with n (refuse m) = eqb m n
-refused_with n (accept e r) = false
-
 -- of the four ticks
 pub record FourTicksExamples : Type 0 where
   -- 64 leave at each tick; the last stands until the fourth, by which it goes to the queue
@@ -319,7 +315,7 @@ pub record FourTicksExamples : Type 0 where
   pub sent2 : which (sent 2 (announcement_of 9) taken_or_handed_back) twice ≡ false ∷ false ∷ false ∷ true ∷ false ∷ true ∷ []
   pub back2 : which (sent 2 (announcement_of 9) was_handed_back) twice ≡ false ∷ false ∷ false ∷ true ∷ false ∷ false ∷ []
   -- a tick that would queue two is refused, and is none; the one behind the eviction takes both off
-  pub refused4 : map (refused_with 13) narrow ≡ false ∷ false ∷ false ∷ true ∷ false ∷ false ∷ []
+  pub refused4 : map number_of narrow ≡ 0 ∷ 0 ∷ 0 ∷ 13 ∷ 0 ∷ 0 ∷ []
   pub both2 : map (by_state (λ s. on_record 2 8 s && on_record 2 5 s)) narrow ≡ false ∷ false ∷ true ∷ false ∷ true ∷ false ∷ []
   pub neither2 : map (by_state (λ s. off_record 2 8 s && off_record 2 5 s)) narrow ≡ true ∷ false ∷ false ∷ false ∷ false ∷ true ∷ []
 

@@ -11,7 +11,7 @@ use Rattle.storage.specs.Lists.Base.{is_empty, member}
 use Rattle.storage.specs.Lists.Map.{keys}
 use Rattle.storage.proofs.ListsLaws.MapLaws.{cases}
 use Rattle.time_cache.specs.TimeCache.{get, holds, expired_keys}
-use Rattle.postcard.specs.Message.{Delivery, Swarm, Neighbors, Ihave, Gossip, SendGraft, DispatchLazyPush, EvictCache, AnnounceDropped, Scheduled, Emitted, Forgotten}
+use Rattle.postcard.specs.Message.{Delivery, Swarm, Ihave, Gossip, SendGraft, DispatchLazyPush, EvictCache, AnnounceDropped, Scheduled, Emitted, Forgotten}
 use Rattle.protocol.specs.Links.{is_neighbour, eager_in}
 use Rattle.protocol.specs.State.{State, Hop, Cached}
 use Rattle.protocol.specs.Run.{Room}

@@ -39,7 +39,7 @@ use Rattle.steps.specs.Found.{LinkAt}
 use Rattle.steps.proofs.NeighborLaws.{found-neighbour}
 use Rattle.decide.specs.Settled.{settled, settled_actions, received_before, too_far_before}
 use Rattle.decide.specs.ActionsAfter.{gossip_actions, message_actions, timer_actions, actions_after}
-use Rattle.decide.specs.StateAfter.{first_state, broadcast_state, timer_state, gossip_state, message_state, state_after}
+use Rattle.decide.specs.StateAfter.{first_state, timer_state, gossip_state, message_state, state_after}
 use Rattle.decide.proofs.SettledLaws.{evicted, settled-received}
 use Rattle.announcements.specs.Ihaves.New.{is_received}
 use Rattle.announcements.proofs.IhavesLaws.ReceivedLaws.{received-actions, received-state}

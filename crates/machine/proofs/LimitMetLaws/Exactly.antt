@@ -2,12 +2,12 @@
 use Prim.Native.Nat.{ℕ, ◌^◌, ◌≤◌}
 use native.Mathlib.Omega.{arith}
 use mathlib.Core.Path.{◌≡◌, refl, sym, ap, ◌∙◌}
-use mathlib.Core.Bool.{true}
+use mathlib.Core.Bool.{true, false}
 use mathlib.Core.List.{List}
 use lib.Dec.{leb}
 use lib.ListN.{length}
 use borrow.Author.Tests.{leb-true, leb-false}
-use Rattle.storage.proofs.ListsLaws.MapLaws.{cases, true≢, and_right}
+use Rattle.storage.proofs.ListsLaws.MapLaws.{cases, true≢}
 use Rattle.blake3.specs.Blake3.{identifier}
 use Rattle.postcard.specs.Message.{Event}
 use Rattle.postcard.specs.Decode.{Decoded, decoded, faulty, message_part, decode_event}

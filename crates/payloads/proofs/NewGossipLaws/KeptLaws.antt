@@ -5,7 +5,6 @@ use mathlib.Core.List.{List, []}
 use Prim.Native.Nat.{ℕ}
 use lib.Dec.{leb}
 use Rattle.storage.specs.Lists.Map.{keys}
-use Rattle.postcard.specs.Message.{Swarm}
 use Rattle.protocol.specs.State.{State, Settings, zero_counts, size_in_range, durations_in_range, limits_in_range}
 use Rattle.protocol.specs.Run.{Run, Room, begin}
 use Rattle.protocol.specs.Push.{eager_push, lazy_push}
@@ -38,7 +37,7 @@ kept-pushed-on rooms id round sender s k =
     let r : Run = begin s zero_counts rooms in
     let skip : List ℕ = keys (grafted_for id s) in
     subst Kept (eager-state id [] round sender skip r k.consistent.core.links_up k.consistent.record_flag)
-    (kept_by r (eager_push id [] (Swarm round) sender skip r) (walk-eager_push KeptRun kept-sending id [] (Swarm round) sender skip r) k)
+    (kept_by r (eager_push id [] round sender skip r) (walk-eager_push KeptRun kept-sending id [] round sender skip r) k)
 
 pub kept-lazy : (id round sender : ℕ) (s : State) → Kept s → Kept (lazy_state id round sender s)
 kept-lazy id round sender s k =

@@ -17,13 +17,7 @@ use wire::encode::message::Gossip;
 use wire::encode::sink::Sink;
 
 // The sends of a push, ascending, and whether any was handed back. Its time is that of one pass over the links.
-fn push_sends<S: Sink>(
-    view: &View,
-    call: &Call,
-    out: &mut S,
-    push: &Push,
-    message: &Gossip,
-) -> bool
+fn push_sends<S: Sink>(view: &View, call: &Call, out: &mut S, push: &Push, message: &Gossip) -> bool
     requires rest { AtRest (shown view.now) × SkipThere push.now.skip (shown view.now) }
     requires room { RoomFor (sends_bytes call.now push.now message.now (shown view.now)) (S.intake out.old) }
     ensures sent { S.intake out.new ≡ after (sends_bytes call.now push.now message.now (shown view.now)) (S.intake out.old) }

@@ -69,7 +69,7 @@ impl<'a> Reader<'a> {
         })
     }
 
-    // "1 has length, content, byte 0 Swarm or 1 Neighbors"; the range above is 8. "A broadcast event with byte 1 is turned down": it is none.
+    // "1 has length, content, byte 0 Swarm or 1 Neighbors"; the range above is 8. "A broadcast event with byte 1 is turned down": `None`.
     #[tactic(auto, unfolding(postcard::specs::Decode::event_of, postcard::specs::Decode::broadcast_of), using(crate::proofs::ReaderLaws::KindLaws::kind_end, crate::proofs::ReaderLaws::KindLaws::kind_known, crate::proofs::ReaderLaws::KindLaws::kind_unknown))]
     fn broadcast(&mut self) -> Result<Option<Event<'a>>, Fault>
         ensures gives { Gives (option_map event_value) result self.new.rest.now (event_of 1 self.old.rest.now) }
@@ -125,7 +125,7 @@ impl<'a> Reader<'a> {
         })
     }
 
-    // An event, by its kind; the range above is 8. None is a broadcast that is turned down.
+    // An event, by its kind; the range above is 8. `None` is a broadcast that is turned down.
     #[tactic(auto, unfolding(postcard::specs::Decode::read_event, postcard::specs::Decode::event_of), using(crate::proofs::ReaderLaws::KindLaws::kind_end, crate::proofs::ReaderLaws::KindLaws::kind_known, crate::proofs::ReaderLaws::KindLaws::kind_unknown, crate::proofs::ReaderLaws::KindLaws::drop_byte))]
     fn event(&mut self) -> Result<Option<Event<'a>>, Fault>
         ensures gives { Gives (option_map event_value) result self.new.rest.now (read_event self.old.rest.now) }

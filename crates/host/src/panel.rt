@@ -61,7 +61,7 @@ impl<'a> Panel<'a> {
         }
     }
 
-    // An event call, questions 5 to 14: the length of the output. Refused or not, it is one more of the list, of which the guarantee holds again (`leads`).
+    // An event call, questions 5 to 14 and 23: the length of the output. Refused or not, it is one more of the list, of which the guarantee holds again (`leads`).
     pub fn event(
         &mut self,
         at: Millis,

@@ -103,7 +103,7 @@ pub extern "C" fn plumtree_create(
     }
 }
 
-// An event call: the room of each peer to whom it can send is looked up, then questions 5 to 14 are asked. "The counts record is brought up to date by
+// An event call: the room of each peer to whom it can send is looked up, then questions 5 to 14 and 23 are asked. "The counts record is brought up to date by
 // the call"; a refused one leaves it "untouched".
 #[unsafe(no_mangle)]
 pub extern "C" fn plumtree_event(

@@ -1,4 +1,4 @@
--- `event_core`: questions 5 to 14, then the event.
+-- `event_core`: questions 5 to 14 and 23, then the event.
 use Rattle.std.specs.Prelude.{Some}
 use Rattle.std.proofs.Common.{◌≡◌, ℕ, ◌≤◌, List, ap, sym, ◌∙◌, refl, arith, length}
 use mathlib.Core.Path.{subst}

@@ -1,4 +1,4 @@
--- `read_event` meets its contract: questions 5 to 9.
+-- `read_event` meets its contract: questions 5 to 9 and 23.
 use Rattle.std.proofs.Common.{◌≡◌, ap, ◌∙◌, refl, arith, ◌^◌, not}
 use borrow.Author.Tests.{le-leb, lt-leb}
 use Rattle.postcard.proofs.FieldBack.{bytes-each}

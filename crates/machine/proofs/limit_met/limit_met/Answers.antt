@@ -1,4 +1,4 @@
--- `limit_met`: questions 5 to 9, then the event.
+-- `limit_met`: questions 5 to 9 and 23, then the event.
 use Rattle.std.proofs.Common.{sym}
 use mathlib.Core.Path.{subst}
 use Rattle.refusal.specs.Numbers.{number_of}

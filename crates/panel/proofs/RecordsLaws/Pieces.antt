@@ -525,6 +525,7 @@ pub other_fault : (e : Fault) → (e ≡ faults.Ends → ⊥) → number_of e �
 other_fault faults.Ends h n = h refl
 other_fault faults.Form h n = omega arith
 other_fault faults.Left h n = omega arith
+other_fault faults.Retired h n = omega arith
 other_fault faults.Output h n = omega arith
 
 -- where there is no byte, one can follow

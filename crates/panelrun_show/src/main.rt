@@ -19,7 +19,7 @@ use wire::reader::fault::Fault;
 // "an event over 16,384 bytes" ends the program as a cut record does.
 const LONGEST_EVENT: u64 = 16384;
 
-// An event is answered by no number over 14 but the next one.
+// An event is answered by no number over 14 but 23.
 const LAST_ANSWER: u8 = Refusal::OutputTooShort as u8;
 
 // "Such a broadcast answers 23".

@@ -92,7 +92,7 @@ impl Refusal {
         }
     }
 
-    // The question, in the specification's words; of 15 to 17 what is answered so.
+    // The question, in the specification's words; of 15 to 17 what is answered so; of 23 in the library's own, since the specification gives none.
     pub fn question(self) -> &'static str {
         match self {
             Refusal::MessageSizeOutOfRange => "Is M, `max_message_size`, from 510 to 4,094?",

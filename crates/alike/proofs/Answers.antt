@@ -1,13 +1,6 @@
 -- The answer, of what the two blocks hold.
 -- Assumes nothing.
-use mathlib.Core.Path.{◌≡◌, refl, ap, ◌∙◌}
-use mathlib.Core.Bool.{Bool, true, false, ◌&&◌}
-use mathlib.Core.List.{List}
-use Prim.Native.Nat.{ℕ, ◌≤◌}
-use borrow.Author.Tests.{leb-true}
-use lib.Dec.{leb}
-use lib.ListN.{length}
-use Rattle.std.specs.Prelude.{if◌then◌else◌, Option, Some, None}
+use Rattle.std.proofs.Common.{◌≡◌, refl, ap, ◌∙◌, Bool, true, false, ◌&&◌, List, ℕ, ◌≤◌, leb-true, leb, length, if◌then◌else◌, Option, Some, None}
 use Rattle.storage.proofs.ListsLaws.MapLaws.{and_left, and_right, and_intro}
 use Rattle.protocol.specs.State.{State, limits_in_range, block_need}
 use Rattle.protocol.specs.Whole.{whole, long_enough, whole_state}

@@ -1,12 +1,7 @@
 -- What is read from a block, as the state has it.
 -- Assumes nothing.
-use mathlib.Core.Path.{◌≡◌, sym, ap, ◌∙◌, subst}
-use mathlib.Core.List.{List, [], map}
-use Prim.Native.Nat.{ℕ, ◌+◌, ◌*◌, ◌≤◌, ◌<◌}
-use native.Mathlib.Omega.{arith}
-use lib.Dec.{lit<}
-use lib.ListN.{length, take, drop, get_or, length-map, get_or-map}
-use lib.Seq.{drop-drop, get_or-drop}
+use Rattle.std.proofs.Common.{◌≡◌, sym, ap, ◌∙◌, subst, List, [], map, ℕ, ◌+◌, ◌*◌, ◌≤◌, ◌<◌, arith, lit<, length, take, drop, get_or, drop-drop, get_or-drop}
+use lib.ListN.{length-map, get_or-map}
 use Rattle.storage.specs.Lists.Map.{Entry, entry, keys}
 use Rattle.storage.specs.Rows.Part.{part}
 use Rattle.storage.specs.Rows.Digits.{le_nat, be_nat}

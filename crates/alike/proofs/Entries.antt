@@ -1,13 +1,6 @@
 -- Rows of the tables that are kept in order, and all rows of one.
 -- Assumes nothing.
-use Rattle.std.specs.Prelude.{None}
-use mathlib.Core.Path.{◌≡◌, refl, sym, ap, ◌∙◌}
-use mathlib.Core.Bool.{Bool, true, false, ◌&&◌}
-use mathlib.Core.List.{List, []}
-use Prim.Native.Nat.{ℕ, ◌<◌}
-use native.Mathlib.Omega.{arith}
-use borrow.Author.Tests.{eq-eqb}
-use lib.Dec.{eqb, lit<}
+use Rattle.std.proofs.Common.{None, ◌≡◌, refl, sym, ap, ◌∙◌, Bool, true, false, ◌&&◌, List, [], ℕ, ◌<◌, arith, eq-eqb, eqb, lit<}
 use Rattle.storage.specs.Lists.Map.{Entry, entry, keys}
 use Rattle.storage.specs.Refs.Refs.{places, Below}
 use Rattle.time_cache.specs.TimeCache.{Timed}

@@ -1,11 +1,7 @@
 -- AnnounceDropped: the pass over the record, of states; what moves and what stays, as numbers and as questions; and the step.
 -- Assumes nothing.
-use Rattle.std.proofs.Common.{◌≡◌, ℕ, ◌+◌, ◌≤◌, ◌<◌, zero-le, length, get_or, set, take, drop, replicate, refl, sym, ap, ◌∙◌, arith, Bool, true, false, not, ◌||◌, ltb, List, [], ◌∷◌, ◌++◌, append_assoc, if◌then◌else◌}
-use mathlib.Core.Path.{subst}
-use mathlib.Core.List.{append-nil}
-use borrow.Author.Tests.{leb-true, lt-ltb}
-use lib.ListN.{length-map, length-append, take-append-drop}
-use lib.Seq.{take_all}
+use Rattle.std.proofs.Common.{◌≡◌, ℕ, ◌+◌, ◌≤◌, ◌<◌, zero-le, length, get_or, set, take, drop, replicate, refl, sym, ap, ◌∙◌, arith, Bool, true, false, not, ◌||◌, ltb, List, [], ◌∷◌, ◌++◌, append_assoc, if◌then◌else◌, subst, append-nil, leb-true, lt-ltb, length-append, take-append-drop, take_all}
+use lib.ListN.{length-map}
 use Rattle.storage.specs.Lists.Base.{is_empty, filter, count, concat_map}
 use Rattle.storage.specs.Lists.Map.{keys}
 use Rattle.storage.specs.Rows.Part.{part, put}

@@ -1,12 +1,8 @@
 -- An IHave from the neighbour of a link: one announcement, all of them, and what they add and schedule.
 -- Assumes nothing.
-use Rattle.std.proofs.Common.{◌≡◌, ℕ, ◌+◌, ◌≤◌, ◌<◌, length, get_or, take, drop, refl, sym, ap, ◌∙◌, arith, Bool, true, false, not, ◌&&◌, List, [], ◌∷◌, ◌++◌, map, append_assoc, if◌then◌else◌}
-use mathlib.Core.Path.{subst}
-use mathlib.Core.List.{append-nil}
-use lib.ListN.{length-map, length-append, length-take, take-append-drop}
-use native.Mathlib.Nat.{add-zero}
+use Rattle.std.proofs.Common.{◌≡◌, ℕ, ◌+◌, ◌≤◌, ◌<◌, length, get_or, take, drop, refl, sym, ap, ◌∙◌, arith, Bool, true, false, not, ◌&&◌, List, [], ◌∷◌, ◌++◌, map, append_assoc, if◌then◌else◌, subst, append-nil, length-append, length-take, take-append-drop, add-zero, take_all}
+use lib.ListN.{length-map}
 use mir.Val.{bool_byte}
-use lib.Seq.{take_all}
 use Rattle.storage.specs.Lists.Base.{any, member, concat_map}
 use Rattle.storage.specs.Lists.Map.{keys, has}
 use Rattle.storage.proofs.ListsLaws.MapLaws.{true≢}

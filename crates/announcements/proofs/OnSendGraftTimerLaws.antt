@@ -1,11 +1,8 @@
 -- SendGraft: what is left once the mark is gone, and what asking the first announcer leaves and sends.
 -- Assumes nothing.
-use Rattle.std.proofs.Common.{◌≡◌, ℕ, suc, ◌+◌, ◌-◌, ◌*◌, ◌^◌, ◌≤◌, ◌<◌, length, get_or, drop, refl, sym, ap, ◌∙◌, arith, Bool, true, false, List, [], ◌∷◌, ◌++◌, append_assoc, add-one, if◌then◌else◌}
-use mathlib.Core.Path.{subst}
-use Rattle.std.specs.Prelude.{Option as Option', Some, None, Option, is_some}
+use Rattle.std.proofs.Common.{◌≡◌, ℕ, suc, ◌+◌, ◌-◌, ◌*◌, ◌^◌, ◌≤◌, ◌<◌, length, get_or, drop, refl, sym, ap, ◌∙◌, arith, Bool, true, false, List, [], ◌∷◌, ◌++◌, append_assoc, add-one, if◌then◌else◌, subst, Some, None, Option, is_some, leb-true, ne_eqb, leb, ltb, eqb}
+use Rattle.std.specs.Prelude.{Option as Option'}
 use Rattle.std.specs.Option as std
-use borrow.Author.Tests.{leb-true, ne_eqb}
-use lib.Dec.{leb, ltb, eqb}
 use lib.ListN.{length-map}
 use mir.Val.{bool_byte}
 use Rattle.storage.specs.Lists.Base.{is_empty, ascending, member, concat_map}

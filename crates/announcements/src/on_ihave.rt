@@ -3,7 +3,7 @@ ghost use Rattle.std.specs.Prelude.{◌≡◌, ◌<◌, ◌^◌, ◌&&◌, not, 
 ghost use Rattle.storage.specs.Lists.Base.{any, all};
 ghost use Rattle.storage.specs.Rows.Ident.{id_of};
 ghost use Rattle.wire.specs.Reader.Values.{ihaves_value};
-ghost use Rattle.wire.specs.Encode.Intake.{after, RoomFor};
+ghost use Rattle.wire.specs.Encode.Intake.{after};
 ghost use Rattle.decide.specs.Sizes.{sizes_of};
 ghost use Rattle.decide.specs.Settled.{settled};
 ghost use Rattle.decide.specs.NewIds.{known_timer};
@@ -122,7 +122,6 @@ pub fn ihave_sizes(view: &View, call: &Call, ihaves: Ihaves) -> Sizes
 // Its actions: a SendGraft timer for each identifier that gets one, in the order of the message. Its time is that of `ihave_sizes`.
 pub fn ihave_actions<S: Sink>(view: &View, call: &Call, out: &mut S, ihaves: Ihaves)
     requires rest { AtRest (shown view.now) }
-    requires room { RoomFor (ihave_bytes ihaves (settled call.now.instant.0 (shown view.now))) (S.intake out.old) }
     ensures { S.intake out.new ≡ after (ihave_bytes ihaves.entry (settled call.now.instant.0 (shown view.now))) (S.intake out.old) }
 {
     let delay = view.head.settings.config.graft_timeout_1;

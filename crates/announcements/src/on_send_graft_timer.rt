@@ -4,7 +4,7 @@ ghost use Rattle.storage.specs.Rows.Ident.{id_of};
 ghost use Rattle.protocol.specs.declared.TheConstants.{LATEST};
 ghost use Rattle.decide.specs.Sizes.{sizes_of};
 ghost use Rattle.decide.specs.Settled.{settled};
-ghost use Rattle.wire.specs.Encode.Intake.{after, RoomFor};
+ghost use Rattle.wire.specs.Encode.Intake.{after};
 ghost use Rattle.steps.specs.Shared.{sizes_value};
 ghost use Rattle.steps.specs.Views.{shown};
 ghost use Rattle.steps.specs.Panels.{state, Goes, AtRest, Allowed};
@@ -48,7 +48,6 @@ pub fn send_graft_sizes(view: &View, call: &Call, id: Id) -> Sizes
 // Its actions: a Graft to the first announcer, and "after asking schedules again without marking".
 pub fn send_graft_actions<S: Sink>(view: &View, call: &Call, out: &mut S, id: Id)
     requires rest { AtRest (shown view.now) }
-    requires room { RoomFor (send_graft_bytes call.now id (settled call.now.instant.0 (shown view.now))) (S.intake out.old) }
     ensures { S.intake out.new ≡ after (send_graft_bytes call.now id (settled call.now.instant.0 (shown view.now))) (S.intake out.old) }
 {
     if view.is_received_then(call.instant, id) {

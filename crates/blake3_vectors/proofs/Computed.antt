@@ -1,8 +1,6 @@
 -- The definition, computed on two contents of BLAKE3's own test vectors, whose byte i is i % 251: the empty one, and 1,025 bytes, which
 -- are a whole chunk, a chunk of one byte and their parent. Assumes nothing.
-use mathlib.Core.Path.{◌≡◌, refl}
-use mathlib.Core.List.{List, [], ◌∷◌}
-use Prim.Native.Nat.{ℕ, zero, suc, ◌+◌, ◌%◌}
+use Rattle.std.proofs.Common.{◌≡◌, refl, List, [], ◌∷◌, ℕ, zero, suc, ◌+◌, ◌%◌}
 use Rattle.storage.specs.Rows.Digits.{le_nat, le_bytes, be_from}
 use Rattle.blake3.specs.Blake3 as B
 

@@ -1,11 +1,6 @@
 -- The rows of graft timers: what another list of them does to the state.
 -- Assumes nothing.
-use mathlib.Core.Path.{◌≡◌, sym, ap, ◌∙◌, subst}
-use mathlib.Core.List.{List}
-use Prim.Native.Nat.{ℕ, ◌≤◌}
-use native.Mathlib.Omega.{arith}
-use lib.Dec.{lit<}
-use lib.ListN.{length}
+use Rattle.std.proofs.Common.{◌≡◌, sym, ap, ◌∙◌, subst, List, ℕ, ◌≤◌, arith, lit<, length}
 use Rattle.std.specs.declared.ops.Range.{Range}
 use Rattle.storage.specs.Rows.Sorted.{key_of}
 use Rattle.storage.specs.Tables.Listed.{listed}

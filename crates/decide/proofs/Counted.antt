@@ -1,11 +1,5 @@
 -- The counts after a call are those of `handle`: no step changes them but the count of a message and `raise_hops`.
-use Rattle.std.specs.Prelude.{Option, Some, None}
-use Prim.Native.Nat.{ℕ, suc}
-use mathlib.Core.Path.{◌≡◌, refl, ap, ◌∙◌}
-use mathlib.Core.Bool.{true, not, ◌&&◌, ◌||◌}
-use mathlib.Core.List.{List, [], ◌∷◌}
-use lib.Dec.{ltb, eqb}
-use lib.ListN.{length}
+use Rattle.std.proofs.Common.{Option, Some, None, ℕ, suc, ◌≡◌, refl, ap, ◌∙◌, true, not, ◌&&◌, ◌||◌, List, [], ◌∷◌, ltb, eqb, length}
 use Rattle.storage.specs.Lists.Base.{is_empty, member, any}
 use Rattle.storage.proofs.ListsLaws.Branches.{if-on, if-both}
 use Rattle.time_cache.specs.TimeCache.{holds}

@@ -1,10 +1,5 @@
 -- The length of each action's bytes is that of specs/Lengths.antt.
-use Rattle.std.specs.Prelude.{Option, Some, None}
-use Prim.Native.Nat.{ℕ, zero, suc, ◌+◌}
-use mathlib.Core.Path.{◌≡◌, refl, ap}
-use mathlib.Core.List.{List, [], ◌∷◌, ◌++◌}
-use native.Mathlib.Omega.{arith}
-use lib.ListN.{length, length-append}
+use Rattle.std.proofs.Common.{Option, Some, None, ℕ, zero, suc, ◌+◌, ◌≡◌, refl, ap, List, [], ◌∷◌, ◌++◌, arith, length, length-append}
 use Rattle.storage.specs.Lists.Base.{sum, concat_map}
 use Rattle.postcard.specs.Number.{number_bytes, number_length, big_endian, id_bytes}
 use Rattle.postcard.specs.Message.{Delivery, Swarm, Neighbors, Ihave, Message, Gossip, Prune, Graft, IHave, Timer, SendGraft, DispatchLazyPush, EvictCache, AnnounceDropped, Action, Sent, Scheduled, Emitted, Forgotten, content_bytes, delivery_bytes, ihave_bytes, optional_id_bytes, message_bytes, timer_bytes, taken_byte, action_bytes}

@@ -1,12 +1,5 @@
 -- A call sends only to neighbours and to the event's peer; so two room lists that agree there give the same run.
-use Prim.Native.Nat.{ℕ, suc}
-use mathlib.Core.Path.{◌≡◌, refl, sym, subst, ◌∙◌}
-use mathlib.Core.Bool.{Bool, true, false, not, ◌&&◌, ◌||◌}
-use mathlib.Core.List.{List, [], ◌∷◌, ◌++◌, map}
-use lib.Dec.{ltb, eqb}
-use lib.ListN.{length}
-use borrow.Author.Tests.{eqb-true, eq-eqb}
-use Rattle.std.specs.Prelude.{if◌then◌else◌, Option, Some, None, is_some}
+use Rattle.std.proofs.Common.{ℕ, suc, ◌≡◌, refl, sym, subst, ◌∙◌, Bool, true, false, not, ◌&&◌, ◌||◌, List, [], ◌∷◌, ◌++◌, map, ltb, eqb, length, eqb-true, eq-eqb, if◌then◌else◌, Option, Some, None, is_some}
 use Rattle.storage.specs.Lists.Base.{is_empty, all, any}
 use Rattle.storage.specs.Lists.Map.{keys, lookup, has}
 use Rattle.time_cache.specs.TimeCache.{get, holds, expired_keys}

@@ -1,13 +1,7 @@
 -- The screen is right (`ScreenRight`). A call and the Rust's call are the same step upon what the first event left, and that differs in its actions alone;
 -- a step but EvictCache adds no action 4, and adds the same actions to both.
 -- Assumes nothing.
-use Prim.Native.Nat.{ℕ}
-use mathlib.Core.Path.{◌≡◌, refl, sym, ap, subst, ◌∙◌}
-use mathlib.Core.Bool.{Bool, true, false}
-use mathlib.Core.List.{List, [], ◌∷◌, ◌++◌, map, append-nil, append_assoc}
-use lib.Dec.{ltb}
-use lib.ListN.{length}
-use Rattle.std.specs.Prelude.{if◌then◌else◌}
+use Rattle.std.proofs.Common.{ℕ, ◌≡◌, refl, sym, ap, subst, ◌∙◌, Bool, true, false, List, [], ◌∷◌, ◌++◌, map, append-nil, append_assoc, ltb, length, if◌then◌else◌}
 use Rattle.storage.specs.Lists.Base.{filter}
 use Rattle.storage.proofs.ListsLaws.MapLaws.{cases, true≢, all_head, all_tail}
 use Rattle.storage.proofs.ListsLaws.Branches.{if-on, if-both}

@@ -1,12 +1,5 @@
 -- What a first event leaves, and its sizes and tests read from the state before.
-use Prim.Native.Nat.{ℕ}
-use mathlib.Core.Path.{◌≡◌, refl, sym, ap, ◌∙◌}
-use mathlib.Core.Bool.{Bool, true}
-use mathlib.Core.List.{List, [], ◌∷◌, ◌++◌, append-nil, append_assoc}
-use native.Mathlib.Omega.{arith}
-use lib.Dec.{ltb}
-use lib.ListN.{length}
-use Rattle.std.specs.Prelude.{if◌then◌else◌, Option, Some, None, is_some}
+use Rattle.std.proofs.Common.{ℕ, ◌≡◌, refl, sym, ap, ◌∙◌, Bool, true, List, [], ◌∷◌, ◌++◌, append-nil, append_assoc, arith, ltb, length, if◌then◌else◌, Option, Some, None, is_some}
 use Rattle.storage.specs.Lists.Base.{filter, count, sum, ascending}
 use Rattle.storage.specs.Lists.Map.{keys, lookup}
 use Rattle.time_cache.specs.TimeCache.{Timed, Cache, value_of, get, holds, expire_until, later_cache, Timely}

@@ -1,6 +1,6 @@
 -- The sizes of the state after a step, as functions of the state before it; `s` is the state that a first event leaves (`settled`) unless a comment says otherwise.
 -- Proved equal to the lengths of that state; no contract cites them.
-use Rattle.std.specs.Prelude.{if◌then◌else◌, ℕ, suc, ◌+◌, ◌-◌, not, List, [], ◌∷◌, ltb, eqb, length, Option, Some, None}
+use Rattle.std.proofs.Common.{if◌then◌else◌, ℕ, suc, ◌+◌, ◌-◌, not, List, [], ◌∷◌, ltb, eqb, length, Option, Some, None}
 use Rattle.storage.specs.Lists.Base.{is_empty, filter, count, member, sum}
 use Rattle.storage.specs.Lists.Map.{keys, has}
 use Rattle.time_cache.specs.TimeCache.{holds, get}

@@ -1,10 +1,6 @@
 -- Sizes and actions of neighbour up, neighbour down and EvictCache, of the state before.
-use Prim.Native.Nat.{ℕ, suc}
-use mathlib.Core.Path.{◌≡◌, refl, sym, ap, ◌∙◌}
-use mathlib.Core.Bool.{Bool, true, not}
-use mathlib.Core.List.{List, [], ◌∷◌, ◌++◌, append-nil, append_assoc}
-use lib.ListN.{length, length-map}
-use Rattle.std.specs.Prelude.{if◌then◌else◌}
+use Rattle.std.proofs.Common.{ℕ, suc, ◌≡◌, refl, sym, ap, ◌∙◌, Bool, true, not, List, [], ◌∷◌, ◌++◌, append-nil, append_assoc, length, if◌then◌else◌}
+use lib.ListN.{length-map}
 use Rattle.storage.specs.Lists.Base.{is_empty, count, ascending}
 use Rattle.storage.specs.Lists.Map.{Map, keys}
 use Rattle.protocol.specs.Links.{link_down}

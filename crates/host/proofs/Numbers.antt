@@ -1,7 +1,5 @@
 -- The numbers that a creation and an event call answer, and the length of a refused call's output.
-use Rattle.std.specs.Prelude.{Option, Some, None}
-use Rattle.std.proofs.Common.{ℕ, ◌≡◌, ◌≤◌, ◌<◌, ◌⊎◌, inl, inr, sym, ap, subst, ◌∙◌, lit≤, Bool, true, false, not, ◌&&◌, ◌||◌, if◌then◌else◌, eqb, ◌≢◌, ◌^◌, List, leb, length, arith}
-use borrow.Author.Tests.{leb-true, eqb-true}
+use Rattle.std.proofs.Common.{Option, Some, None, ℕ, ◌≡◌, ◌≤◌, ◌<◌, ◌⊎◌, inl, inr, sym, ap, subst, ◌∙◌, lit≤, Bool, true, false, not, ◌&&◌, ◌||◌, if◌then◌else◌, eqb, ◌≢◌, ◌^◌, List, leb, length, arith, leb-true, eqb-true}
 use Rattle.storage.proofs.ListsLaws.MapLaws.{cases, and_right}
 use Rattle.blake3.specs.Blake3.{identifier}
 use Rattle.postcard.specs.Message.{Event}

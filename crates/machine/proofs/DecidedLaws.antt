@@ -1,11 +1,5 @@
 -- What the code computes is what the definitions say (`decided-ask`), also with another list of rooms that tells the same of the peers that a call can reach (`decided-rooms`).
-use Prim.Native.Nat.{ℕ}
-use mathlib.Core.Path.{◌≡◌, refl, sym, ap, ◌∙◌}
-use mathlib.Core.Bool.{Bool, true, not}
-use mathlib.Core.List.{List}
-use lib.Dec.{leb}
-use lib.ListN.{length}
-use Rattle.std.specs.Prelude.{if◌then◌else◌}
+use Rattle.std.proofs.Common.{ℕ, ◌≡◌, refl, sym, ap, ◌∙◌, Bool, true, not, List, leb, length, if◌then◌else◌}
 use Rattle.storage.proofs.ListsLaws.Branches.{if-on, if-both}
 use Rattle.postcard.specs.Message.{Event}
 use Rattle.protocol.specs.State.{State, Counts}

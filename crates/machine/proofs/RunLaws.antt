@@ -1,8 +1,7 @@
 -- What the questions find, and what an accepted call leaves.
-use Rattle.std.specs.Prelude.{Some}
-use Rattle.std.proofs.Common.{◌≡◌, ℕ, suc, max, ◌+◌, ◌^◌, ◌≤◌, ◌<◌, refl, sym, ap, ◌∙◌, arith, Bool, true, false, ◌&&◌, List, [], length, leb, ltb, if◌then◌else◌}
+use Rattle.std.proofs.Common.{Some, ◌≡◌, ℕ, suc, max, ◌+◌, ◌^◌, ◌≤◌, ◌<◌, refl, sym, ap, ◌∙◌, arith, Bool, true, false, ◌&&◌, List, [], length, leb, ltb, if◌then◌else◌, le-leb, leb-true, lt-ltb, le-ltb, ltb-true, ltb-false}
 use native.Mathlib.Nat.{max-eq_left, max-eq_right}
-use borrow.Author.Tests.{le-leb, lt-leb, leb-true, lt-ltb, le-ltb, ltb-true, ltb-false}
+use borrow.Author.Tests.{lt-leb}
 use Rattle.storage.specs.Lists.Base.{concat_map}
 use Rattle.storage.proofs.ListsLaws.MapLaws.{cases, and_intro}
 use Rattle.blake3.specs.Blake3.{identifier}

@@ -1,14 +1,8 @@
 -- How many bytes the actions of a dispatch have: at most 50 for each queued announcement, and a timer.
 -- Assumes nothing.
-use Prim.Native.Nat.{ℕ, zero, suc, ◌+◌, ◌*◌, ◌≤◌}
-use mathlib.Core.Path.{◌≡◌, refl, sym, ap, ◌∙◌}
-use mathlib.Core.Bool.{Bool, true, false, not, ◌&&◌, ◌||◌}
-use mathlib.Core.List.{List, [], ◌∷◌, ◌++◌}
-use native.Mathlib.Omega.{arith}
-use lib.Dec.{eqb, leb, ltb}
-use lib.ListN.{length, take, drop, length-append, length-map, take-append-drop}
-use borrow.Author.Tests.{leb-true, le-leb, ltb-true, eqb-true, eqb-false}
-use Rattle.std.specs.Prelude.{if◌then◌else◌}
+use Rattle.std.proofs.Common.{ℕ, zero, suc, ◌+◌, ◌*◌, ◌≤◌, ◌≡◌, refl, sym, ap, ◌∙◌, Bool, true, false, not, ◌&&◌, ◌||◌, List, [], ◌∷◌, ◌++◌, arith, eqb, leb, ltb, length, take, drop, length-append, take-append-drop, leb-true, le-leb, ltb-true, eqb-true, if◌then◌else◌}
+use lib.ListN.{length-map}
+use borrow.Author.Tests.{eqb-false}
 use Rattle.storage.specs.Lists.Base.{filter, any, all, count, sum, ascending}
 use Rattle.storage.proofs.ListsLaws.MapLaws.{cases, true≢, and_left, and_right, and_intro, all_head, all_tail, all_cons}
 use Rattle.storage.proofs.ListsLaws.ListLaws.{length-filter}

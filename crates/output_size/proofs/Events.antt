@@ -1,16 +1,8 @@
 -- `output_size` bytes hold the actions of any event upon a state whose tables are within its limits, whose queued rounds are 16-bit numbers and whose cached messages were at most M bytes.
 -- Assumes nothing.
-use Prim.Native.Nat.{ℕ, ◌+◌, ◌*◌, ◌≤◌}
-use mathlib.Core.Path.{◌≡◌, refl, sym, ap}
-use mathlib.Core.Bool.{Bool, true, false, not}
-use mathlib.Core.List.{List, [], ◌∷◌, ◌++◌}
-use native.Mathlib.Omega.{arith}
-use lib.Dec.{eqb, ltb}
-use lib.ListN.{length}
-use borrow.Author.Tests.{ltb-false}
+use Rattle.std.proofs.Common.{ℕ, ◌+◌, ◌*◌, ◌≤◌, ◌≡◌, refl, sym, ap, Bool, true, false, not, List, [], ◌∷◌, ◌++◌, arith, eqb, ltb, length, ltb-false, if◌then◌else◌, max}
 use Rattle.std.proofs.lemmas.Nat.{mul-le}
 use Rattle.std.proofs.Math.Nat.{le-max_left, le-max_right}
-use Rattle.std.specs.Prelude.{if◌then◌else◌, max}
 use Rattle.storage.specs.Lists.Base.{all, filter}
 use Rattle.storage.proofs.RowsLaws.Rows.{mul-more}
 use Rattle.storage.proofs.ListsLaws.ListLaws.{length-filter, count-length}

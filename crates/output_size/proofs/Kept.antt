@@ -1,14 +1,6 @@
 -- What bounds the actions is kept by every event: cached messages were at most M bytes as they came, and their rounds, and those of queue and record, are 16-bit numbers.
 -- Assumes nothing.
-use Prim.Native.Nat.{ℕ, zero, suc, ◌+◌, ◌≤◌}
-use mathlib.Core.Path.{◌≡◌, refl, sym}
-use mathlib.Core.Bool.{Bool, true, false, not, ◌&&◌}
-use mathlib.Core.List.{List, [], ◌∷◌}
-use native.Mathlib.Omega.{arith}
-use lib.Dec.{eqb, ltb, leb}
-use lib.ListN.{length, take, drop}
-use borrow.Author.Tests.{ltb-false, le-leb}
-use Rattle.std.specs.Prelude.{if◌then◌else◌, Option, Some, None}
+use Rattle.std.proofs.Common.{ℕ, zero, suc, ◌+◌, ◌≤◌, ◌≡◌, refl, sym, Bool, true, false, not, ◌&&◌, List, [], ◌∷◌, arith, eqb, ltb, leb, length, take, drop, ltb-false, le-leb, if◌then◌else◌, Option, Some, None}
 use Rattle.storage.specs.Lists.Base.{all, any, filter, count, member}
 use Rattle.storage.specs.Lists.Map.{Map, Entry, lookup, remove}
 use Rattle.storage.proofs.ListsLaws.MapLaws.{cases, true≢, and_right, and_intro, all_head, all_tail, all_cons}

@@ -1,8 +1,7 @@
 -- Unread bytes in an array: those that are left after some were used, and those that a read left behind them.
-use Rattle.std.proofs.Common.{ℕ, ◌≡◌, ◌≤◌, ◌<◌, ◌+◌, ◌-◌, arith, sym, ap, ◌∙◌, List, ◌++◌, length, take, drop, length-drop}
+use Rattle.std.proofs.Common.{ℕ, ◌≡◌, ◌≤◌, ◌<◌, ◌+◌, ◌-◌, arith, sym, ap, ◌∙◌, List, ◌++◌, length, take, drop, length-drop, length-take}
 use Rattle.std.specs.List.{copy_within, slice_range}
 use borrow.Rule.Slice.PartMut.{put_mid, mid_of, post_of, mid_len}
-use lib.ListN.{length-take}
 use Rattle.std.proofs.lemmas.List.{drop-drop, drop-take, take-append-le, take_at}
 use Rattle.std.proofs.lemmas.Slice.{between_from_start}
 use Rattle.std.proofs.Math.Seq.{take-append-add}

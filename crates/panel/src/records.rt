@@ -102,7 +102,7 @@ pub struct Answer<'a> {
 impl<'a> Encode for Answer<'a> {
     ghost bytes = { λ a. answer_bytes a.number a.actions.now };
 
-    #[tactic(auto, unfolding(crate::specs::Records::Running::answer_bytes, postcard::specs::Message::content_bytes), using(wire::proofs::EncodeLaws::IntakeLaws::after_append, wire::proofs::EncodeLaws::IntakeLaws::room_after, wire::proofs::EncodeLaws::IntakeLaws::length_both))]
+    #[tactic(auto, unfolding(crate::specs::Records::Running::answer_bytes, postcard::specs::Message::content_bytes), using(wire::proofs::EncodeLaws::IntakeLaws::after_append))]
     fn encode<S: Sink>(&self, out: &mut S) {
         out.byte(self.number);
         self.actions.encode(out);

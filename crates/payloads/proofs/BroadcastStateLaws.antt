@@ -1,7 +1,6 @@
 -- A Swarm broadcast: what each of its steps asks, that together they are the broadcast, and the numbers of entries after it.
 -- Assumes nothing.
-use Rattle.std.proofs.Common.{◌≡◌, refl, sym, ap, ◌∙◌, Bool, true, ◌&&◌, not, ℕ, ◌+◌, ◌≤◌, ◌^◌, arith, length, List, []}
-use Rattle.std.specs.Prelude.{None, ◌==◌, count_by}
+use Rattle.std.proofs.Common.{◌≡◌, refl, sym, ap, ◌∙◌, Bool, true, ◌&&◌, not, ℕ, ◌+◌, ◌≤◌, ◌^◌, arith, length, List, [], None, ◌==◌, count_by}
 use Rattle.std.proofs.Math.Path.{subst}
 use Rattle.storage.specs.Rows.Ident.{id_of}
 use Rattle.storage.specs.declared.rows.id.Id.{Id}

@@ -1,9 +1,7 @@
 -- A Graft from the neighbour of a link: what is sent, and the state after it.
 -- Assumes nothing.
-use Rattle.std.proofs.Common.{◌≡◌, ℕ, ◌+◌, ◌≤◌, ◌<◌, length, get_or, sym, ◌∙◌, ap, refl, arith, Bool, true, false, not, ◌&&◌, List, [], ◌∷◌, ◌++◌, append_assoc}
-use lib.Dec.{leb}
-use borrow.Author.Tests.{leb-true}
-use lib.ListN.{length-map, length-append}
+use Rattle.std.proofs.Common.{◌≡◌, ℕ, ◌+◌, ◌≤◌, ◌<◌, length, get_or, sym, ◌∙◌, ap, refl, arith, Bool, true, false, not, ◌&&◌, List, [], ◌∷◌, ◌++◌, append_assoc, leb, leb-true, length-append, Some, Option, None}
+use lib.ListN.{length-map}
 use Rattle.storage.specs.Lists.Base.{is_empty, concat_map, ascending}
 use Rattle.storage.specs.Lists.Map.{keys}
 use Rattle.storage.proofs.ListsLaws.MapLaws.{and_right}
@@ -33,7 +31,7 @@ use Rattle.steps.specs.Record.{takes_note, Notable}
 use Rattle.payloads.proofs.EagerLaws.BackLaws.{for-one, for-none, recorded-same}
 use Rattle.steps.proofs.PanelLaws.{same_keys, link-key}
 use Rattle.steps.proofs.RecordLaws.{noted-yes, noted-no, holds_found}
-use Rattle.std.specs.Prelude.{Option as Option', Some, Option, None}
+use Rattle.std.specs.Prelude.{Option as Option'}
 use Rattle.storage.specs.Rows.Ident.{id_of}
 use Rattle.storage.specs.declared.rows.id.Id.{Id}
 use Rattle.decide.specs.Settled.{settled}

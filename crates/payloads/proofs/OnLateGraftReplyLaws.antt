@@ -1,9 +1,6 @@
 -- What a copy of a message received before is, case by case, and what follows.
 -- Assumes nothing.
-use Rattle.std.proofs.Common.{◌≡◌, ℕ, get_or, refl, sym, ap, ◌∙◌, arith, Bool, true, false, not, ◌&&◌, ◌||◌, List, [], ◌∷◌, ◌++◌}
-use mathlib.Core.List.{append-nil}
-use Rattle.std.specs.Prelude.{leb, eqb, if◌then◌else◌, Option, Some, None, is_some}
-use borrow.Author.Tests.{eqb-true}
+use Rattle.std.proofs.Common.{◌≡◌, ℕ, get_or, refl, sym, ap, ◌∙◌, arith, Bool, true, false, not, ◌&&◌, ◌||◌, List, [], ◌∷◌, ◌++◌, append-nil, leb, eqb, if◌then◌else◌, Option, Some, None, is_some, eqb-true}
 use lib.ListN.{length-map}
 use Rattle.storage.specs.Lists.Base.{all, ascending, concat_map}
 use Rattle.storage.specs.Lists.Map.{Map, keys, has, lookup}

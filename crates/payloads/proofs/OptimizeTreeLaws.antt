@@ -1,10 +1,8 @@
 -- What the tree is optimised by after a new Swarm message: which announcer, for which sender, the links and the actions by it.
 -- Assumes nothing.
-use Rattle.std.proofs.Common.{◌≡◌, ℕ, suc, ◌+◌, ◌-◌, ◌≤◌, ◌<◌, length, get_or, refl, sym, ap, ◌∙◌, arith, Bool, true, false, not, ◌&&◌, List, [], ◌∷◌, ◌++◌, map, drop, add-one, drop-cons}
+use Rattle.std.proofs.Common.{◌≡◌, ℕ, suc, ◌+◌, ◌-◌, ◌≤◌, ◌<◌, length, get_or, refl, sym, ap, ◌∙◌, arith, Bool, true, false, not, ◌&&◌, List, [], ◌∷◌, ◌++◌, map, drop, add-one, drop-cons, append-nil, leb, ltb, eqb, if◌then◌else◌, Option, Some, None, lt-ltb, le-ltb, le-leb, eq-eqb, ne_eqb, eqb-true}
 use Rattle.std.proofs.lemmas.List.{drop_all}
-use mathlib.Core.List.{append-nil}
-use Rattle.std.specs.Prelude.{leb, ltb, eqb, if◌then◌else◌, Option, Some, None}
-use borrow.Author.Tests.{lt-ltb, le-ltb, le-leb, lt-leb, eq-eqb, ne_eqb, eqb-true, eqb-false}
+use borrow.Author.Tests.{lt-leb, eqb-false}
 use lib.ListN.{length-map, get_or-map}
 use Rattle.storage.specs.Lists.Base.{is_empty, once, ascending, concat_map}
 use Rattle.storage.specs.Lists.Map.{Entry, entry, keys}

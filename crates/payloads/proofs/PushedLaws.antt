@@ -1,9 +1,6 @@
 -- A message that is taken in and pushed: what its steps ask where the state at the end is within its limits, and the numbers of entries then.
 -- Assumes nothing.
-use Rattle.std.proofs.Common.{◌≡◌, refl, ap, ◌∙◌, Bool, true, ◌&&◌, not, ℕ, ◌+◌, ◌≤◌, arith, length, List}
-use lib.Dec.{leb}
-use Rattle.std.specs.Prelude.{◌==◌, count_by}
-use borrow.Author.Tests.{leb-true}
+use Rattle.std.proofs.Common.{◌≡◌, refl, ap, ◌∙◌, Bool, true, ◌&&◌, not, ℕ, ◌+◌, ◌≤◌, arith, length, List, leb, ◌==◌, count_by, leb-true}
 use Rattle.storage.proofs.ListsLaws.MapLaws.{and_left, and_right}
 use Rattle.protocol.specs.State.{State}
 use Rattle.protocol.specs.Links.{Links}

@@ -3,7 +3,7 @@ ghost use Rattle.std.specs.Prelude.{◌≡◌, ◌≤◌};
 ghost use Rattle.postcard.specs.Values.{delivery_value};
 ghost use Rattle.decide.specs.Sizes.{sizes_of};
 ghost use Rattle.decide.specs.Settled.{settled};
-ghost use Rattle.wire.specs.Encode.Intake.{after, RoomFor};
+ghost use Rattle.wire.specs.Encode.Intake.{after};
 ghost use Rattle.steps.specs.Views.{shown};
 ghost use Rattle.steps.specs.Shared.{sizes_value};
 ghost use Rattle.steps.specs.Panels.{state, Goes, AtRest, Allowed};
@@ -27,7 +27,6 @@ use wire::encode::sink::Sink;
 // Its actions: a dispatch timer unless flagged, then the eager push, at round 0; "The panel is the sender in both pushes". Its time is that of one pass over the links.
 pub fn broadcast_actions<S: Sink>(view: &View, call: &Call, out: &mut S, id: Id, content: &[u8])
     requires rest { AtRest (shown view.now) }
-    requires room { RoomFor (broadcast_bytes call.now id content.now (settled call.now.instant.0 (shown view.now))) (S.intake out.old) }
     ensures { S.intake out.new ≡ after (broadcast_bytes call.now id content.now (settled call.now.instant.0 (shown view.now))) (S.intake out.old) }
 {
     let push = Push {

@@ -3,7 +3,7 @@ ghost use Rattle.std.specs.Prelude.{◌≡◌, ◌≢◌, ◌≤◌, true};
 ghost use Rattle.postcard.specs.Message.{Emitted, Neighbors, action_bytes};
 ghost use Rattle.decide.specs.Sizes.{sizes_of};
 ghost use Rattle.decide.specs.Settled.{settled};
-ghost use Rattle.wire.specs.Encode.Intake.{after, RoomFor};
+ghost use Rattle.wire.specs.Encode.Intake.{after};
 ghost use Rattle.steps.specs.Shared.{sizes_value};
 ghost use Rattle.steps.specs.Views.{shown};
 ghost use Rattle.steps.specs.Panels.{state, Goes, AtRest, Allowed};
@@ -38,7 +38,6 @@ pub struct NewMessage<'a> {
 
 // The actions of a Neighbors message: "New Neighbors: emit". Linear in the content.
 pub fn neighbors_actions<S: Sink>(out: &mut S, sender: u64, content: &[u8])
-    requires { RoomFor (action_bytes (Emitted sender content.now Neighbors)) (S.intake out.old) }
     ensures { S.intake out.new ≡ after (action_bytes (Emitted sender content.now Neighbors)) (S.intake out.old) }
 {
     Emit {
@@ -73,7 +72,6 @@ pub fn gossip_sizes(view: &View, call: &Call, message: &NewMessage) -> Sizes
 // The actions of a Swarm message: "eager push, lazy push; .. optimise as `on_gossip` says; emit at r". Its time is that of the eager push.
 pub fn gossip_actions<S: Sink>(view: &View, call: &Call, out: &mut S, message: &NewMessage)
     requires rest { AtRest (shown view.now) × (message.now.round.0 ≢ LAST_ROUND.0) }
-    requires room { RoomFor (gossip_bytes call.now message.now (settled call.now.instant.0 (shown view.now))) (S.intake out.old) }
     ensures { S.intake out.new ≡ after (gossip_bytes call.now message.now (settled call.now.instant.0 (shown view.now))) (S.intake out.old) }
 {
     let NewMessage {

@@ -3,7 +3,7 @@
 ghost use Rattle.std.specs.Prelude.{◌≡◌, ◌+◌, ◌≤◌, ◌<◌, length};
 ghost use Rattle.decide.specs.Sizes.{sizes_of};
 ghost use Rattle.decide.specs.Settled.{settled};
-ghost use Rattle.wire.specs.Encode.Intake.{after, RoomFor};
+ghost use Rattle.wire.specs.Encode.Intake.{after};
 ghost use Rattle.steps.specs.Shared.{sizes_value};
 ghost use Rattle.steps.specs.Views.{shown};
 ghost use Rattle.steps.specs.Panels.{state, Goes, AtRest, Allowed};
@@ -59,7 +59,6 @@ pub fn graft_actions<'a, S: Sink>(
     wanted: Option<Id>,
 )
     requires rest { AtRest (shown view.now) × (link < length (shown view.now).links) }
-    requires room { RoomFor (graft_bytes call.now link wanted (settled call.now.instant.0 (shown view.now))) (S.intake out.old) }
     ensures { S.intake out.new ≡ after (graft_bytes call.now link wanted (settled call.now.instant.0 (shown view.now))) (S.intake out.old) }
 {
     let Some(id) = wanted else {

@@ -10,7 +10,7 @@ ghost use Rattle.protocol.specs.Gossips.{same_as, no_more_hops};
 ghost use Rattle.decide.specs.Settled.{settled};
 ghost use Rattle.decide.specs.Rooms.{kth_taken};
 ghost use Rattle.block.specs.Caches.GraftSteps.{grafts_at};
-ghost use Rattle.wire.specs.Encode.Intake.{after, RoomFor};
+ghost use Rattle.wire.specs.Encode.Intake.{after};
 ghost use Rattle.steps.specs.Calls.{rooms_of};
 ghost use Rattle.steps.specs.Found.{LinkIf};
 ghost use Rattle.steps.specs.Views.{shown};
@@ -117,7 +117,6 @@ fn takes_back(view: &View, call: &Call, peer: u64) -> bool
 // Its actions: a Prune to the sender, or to the first sender, or none.
 pub fn late_actions<S: Sink>(view: &View, call: &Call, out: &mut S, copy: LateCopy)
     requires rest { AtRest (shown view.now) × (copy.sender ≡ call.now.peer) }
-    requires room { RoomFor (late_bytes call.now copy (settled call.now.instant.0 (shown view.now))) (S.intake out.old) }
     ensures { S.intake out.new ≡ after (late_bytes call.now copy (settled call.now.instant.0 (shown view.now))) (S.intake out.old) }
 {
     match late_kind(view, call, copy) {

@@ -7,7 +7,7 @@ ghost use Rattle.protocol.specs.Gossips.{announcers};
 ghost use Rattle.decide.specs.Settled.{settled};
 ghost use Rattle.decide.specs.StateAfter.{closed_state};
 ghost use Rattle.block.specs.MissingSteps.{hops_at};
-ghost use Rattle.wire.specs.Encode.Intake.{after, RoomFor};
+ghost use Rattle.wire.specs.Encode.Intake.{after};
 ghost use Rattle.steps.specs.Found.{LinkIf, HopOf};
 ghost use Rattle.steps.specs.Views.{shown};
 ghost use Rattle.steps.specs.Panels.{state, Goes, AtRest};
@@ -109,7 +109,6 @@ fn takes_prune(call: &Call, shortcut: Shortcut) -> bool
 // "Graft without identifier unless eager, then sender lazy, Prune": the Graft and the Prune.
 fn shortcut_actions<S: Sink>(view: &View, call: &Call, out: &mut S, shortcut: Shortcut)
     requires rest { AtRest (shown view.now) × (shortcut.sender < length (shown view.now).links) × (shortcut.announcer.link < length (shown view.now).links) }
-    requires room { RoomFor (shortcut_bytes call.now shortcut (shown view.now)) (S.intake out.old) }
     ensures { S.intake out.new ≡ after (shortcut_bytes call.now shortcut (shown view.now)) (S.intake out.old) }
 {
     let sender = view.link(shortcut.sender).peer;
@@ -143,7 +142,6 @@ fn shortcut_actions<S: Sink>(view: &View, call: &Call, out: &mut S, shortcut: Sh
 // Its actions: the announcer is grafted unless it is eager, and the sender is pruned.
 pub fn optimize_actions<S: Sink>(view: &View, call: &Call, out: &mut S, arrival: Arrival)
     requires rest { AtRest (shown view.now) × (arrival.round.0 < LAST_ROUND.0) }
-    requires room { RoomFor (optimize_bytes call.now arrival (settled call.now.instant.0 (shown view.now))) (S.intake out.old) }
     ensures { S.intake out.new ≡ after (optimize_bytes call.now arrival (settled call.now.instant.0 (shown view.now))) (S.intake out.old) }
 {
     if let Some(shortcut) = find_shortcut(view, call, arrival) {

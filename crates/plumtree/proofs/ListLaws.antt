@@ -1,9 +1,5 @@
 -- A list of calls leads to a block and counts: an empty one from a creation, one call more from an event call, the saved one from a return.
-use Rattle.std.specs.Prelude.{Some}
-use Prim.Native.Nat.{ℕ}
-use mathlib.Core.Path.{◌≡◌, sym, subst}
-use mathlib.Core.List.{List, [], ◌∷◌, ◌++◌}
-use lib.ListN.{length, take}
+use Rattle.std.proofs.Common.{Some, ℕ, ◌≡◌, sym, subst, List, [], ◌∷◌, ◌++◌, length, take}
 use Rattle.storage.specs.Lists.Map.{lookup}
 use Rattle.whole.specs.States.Kept.{Kept}
 use Rattle.whole.specs.States.Area.{kept_in}

@@ -1,10 +1,6 @@
 -- An output of `output_size` bytes is enough, over blocks.
 -- Assumes nothing.
-use Prim.Native.Nat.{ℕ}
-use native.Mathlib.Omega.{arith}
-use mathlib.Core.Path.{refl, sym, ap, subst, ◌∙◌}
-use mathlib.Core.List.{List, map}
-use lib.ListN.{length}
+use Rattle.std.proofs.Common.{ℕ, arith, refl, sym, ap, subst, ◌∙◌, List, map, length}
 use Rattle.blake3.specs.Blake3.{identifier}
 use Rattle.protocol.specs.State.{Counts, fresh, zero_counts}
 use Rattle.protocol.specs.Answer.{Call, Answer, refuse, accept}

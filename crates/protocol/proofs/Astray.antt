@@ -1,5 +1,5 @@
 -- The specification, "Where a port goes astray", and the unstarred "65 recorded": each as a run that the definitions compute.
-use mathlib.Core.Path.{refl}
+use Rattle.std.proofs.Common.{refl}
 use Rattle.storage.specs.Lists.Base as Base
 use Rattle.protocol.specs.Control as Control
 use Rattle.protocol.specs.Gossips as Gossips

@@ -1,11 +1,6 @@
 -- Each step keeps the settings, the limits, and what `whole` asks apart from them.
-use Prim.Native.Nat.{ℕ}
-use mathlib.Core.Path.{◌≡◌, refl, ◌∙◌}
-use mathlib.Core.Bool.{Bool, true, false, not, ◌&&◌, ◌||◌}
-use mathlib.Core.List.{List, [], ◌∷◌}
-use lib.Dec.{eqb}
+use Rattle.std.proofs.Common.{ℕ, ◌≡◌, refl, ◌∙◌, Bool, true, false, not, ◌&&◌, ◌||◌, List, [], ◌∷◌, eqb, if◌then◌else◌, Option, Some, None}
 use borrow.Author.Tests.{not-true}
-use Rattle.std.specs.Prelude.{if◌then◌else◌, Option, Some, None}
 use Rattle.storage.specs.Lists.Base.{is_empty, all, any, filter, ascending, member}
 use Rattle.storage.specs.Lists.Map.{Map, keys}
 use Rattle.time_cache.specs.TimeCache.{Cache, get, holds, replace, expire_until, later_cache, Timely}

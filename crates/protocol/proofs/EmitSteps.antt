@@ -1,9 +1,5 @@
 -- A first event's work and a copy of a message received before emit nothing; a new message is emitted.
-use Prim.Native.Nat.{ℕ}
-use mathlib.Core.Path.{◌≡◌, refl, ◌∙◌}
-use mathlib.Core.Bool.{Bool, true, false, ◌||◌}
-use mathlib.Core.List.{List, [], ◌∷◌, ◌++◌, map}
-use Rattle.std.specs.Prelude.{if◌then◌else◌}
+use Rattle.std.proofs.Common.{ℕ, ◌≡◌, refl, ◌∙◌, Bool, true, false, ◌||◌, List, [], ◌∷◌, ◌++◌, map, if◌then◌else◌}
 use Rattle.storage.specs.Lists.Base.{any}
 use Rattle.postcard.specs.Message.{Delivery, Action, Emitted, Forgotten}
 use Rattle.time_cache.specs.TimeCache.{expired_keys}

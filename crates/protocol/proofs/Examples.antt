@@ -1,7 +1,5 @@
 -- The lists of calls of docs/GUARANTEE.md, each with what it shows (`ListExamples`), by computation.
-use mathlib.Core.Path.{◌≡◌, refl}
-use mathlib.Core.Bool.{false}
-use mathlib.Core.List.{[]}
+use Rattle.std.proofs.Common.{◌≡◌, refl, false, []}
 use Rattle.storage.specs.Lists.Base as Base
 use Rattle.storage.specs.Lists.Map as Map
 use Rattle.postcard.specs.Number as Number

@@ -1,13 +1,5 @@
 -- Announcers and grafted peers: no step but an IHave adds an announcer, and none but SendGraft a grafted peer.
-use Prim.Native.Nat.{ℕ}
-use mathlib.Core.Path.{◌≡◌, refl, sym, ap, subst, ◌∙◌}
-use mathlib.Core.Bool.{Bool, true, false}
-use mathlib.Core.List.{List, [], ◌∷◌, map}
-use mathlib.Core.Logic.{◌⊎◌, inl, inr}
-use native.Mathlib.Omega.{arith}
-use lib.Dec.{ltb, eqb}
-use borrow.Author.Tests.{eqb-true, ne_eqb, ltb-true}
-use Rattle.std.specs.Prelude.{if◌then◌else◌, Option, Some, None, is_some}
+use Rattle.std.proofs.Common.{ℕ, ◌≡◌, refl, sym, ap, subst, ◌∙◌, Bool, true, false, List, [], ◌∷◌, map, ◌⊎◌, inl, inr, arith, ltb, eqb, eqb-true, ne_eqb, ltb-true, if◌then◌else◌, Option, Some, None, is_some}
 use Rattle.storage.specs.Lists.Base.{is_empty, any, all, filter, member, ascending}
 use Rattle.storage.specs.Lists.Map.{Map, keys, lookup, has, insert, remove}
 use Rattle.time_cache.specs.TimeCache.{Cache, Timed, Expiry, value_of, get, holds, put, with_value, replace, expires_at, pop, pop_all, due, expire_until}

@@ -1,10 +1,5 @@
 -- The steps by which no payload and no announcement is handed back (`Silent`); those among them that leave record and cache alone as well (`Calm`).
-use Rattle.std.specs.Prelude.{Some, None}
-use Prim.Native.Nat.{ℕ, suc}
-use mathlib.Core.Path.{◌≡◌, refl, ◌∙◌}
-use mathlib.Core.Bool.{Bool, false, not, ◌&&◌, ◌||◌}
-use mathlib.Core.List.{List, [], ◌∷◌}
-use lib.Dec.{eqb}
+use Rattle.std.proofs.Common.{Some, None, ℕ, suc, ◌≡◌, refl, ◌∙◌, Bool, false, not, ◌&&◌, ◌||◌, List, [], ◌∷◌, eqb}
 use Rattle.storage.specs.Lists.Base.{is_empty, any, member}
 use Rattle.time_cache.specs.TimeCache.{holds, get, expired_keys}
 use Rattle.postcard.specs.Message.{Delivery, Ihave, Message, Prune, Graft, Sent, Scheduled, Emitted, Timer}

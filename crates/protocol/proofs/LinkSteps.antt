@@ -1,11 +1,5 @@
 -- The guarantee, first sentence: no step but "up" and "down" changes who is a neighbour.
-use Rattle.std.specs.Prelude.{Option, Some, None, is_some}
-use Prim.Native.Nat.{ℕ}
-use mathlib.Core.Path.{◌≡◌, refl, sym, ap, ◌∙◌}
-use mathlib.Core.Bool.{Bool, true, false, not, ◌&&◌}
-use mathlib.Core.List.{List, []}
-use lib.Dec.{eqb}
-use borrow.Author.Tests.{eqb-true}
+use Rattle.std.proofs.Common.{Option, Some, None, is_some, ℕ, ◌≡◌, refl, sym, ap, ◌∙◌, Bool, true, false, not, ◌&&◌, List, [], eqb, eqb-true}
 use Rattle.storage.specs.Lists.Base.{ascending, is_empty, member}
 use Rattle.storage.specs.Lists.Map.{insert, keys}
 use Rattle.protocol.specs.Links.{Mark, eager, lazy, Links, is_neighbour, is_quiet, marked, quiet_in, mark_if_there, add_eager, add_lazy}

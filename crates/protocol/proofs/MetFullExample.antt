@@ -1,5 +1,5 @@
 -- 256 stand recorded for 2, and the links of 2 and 3 hand a broadcast back: 2 met a full record, and the account of the notings says so; by computation. Every content has identifier 9.
-use mathlib.Core.Path.{refl}
+use Rattle.std.proofs.Common.{refl}
 use Rattle.storage.specs.Lists.Base as Base
 use Rattle.storage.specs.Lists.Map as Map
 use Rattle.postcard.specs.Number as Number

@@ -1,12 +1,5 @@
 -- The guarantee: "for every list of event calls (…; refused ones too) from a fresh panel, after it this holds".
-use Prim.Native.Nat.{ℕ, ◌≤◌}
-use mathlib.Core.Path.{◌≡◌, refl, sym, subst, ◌∙◌}
-use mathlib.Core.Bool.{Bool, true, false}
-use mathlib.Core.List.{List, [], ◌∷◌, ◌++◌, append_assoc, append-nil}
-use mathlib.Core.Logic.{inl, inr}
-use native.Mathlib.Omega.{arith}
-use lib.Dec.{leb}
-use borrow.Author.Tests.{leb-true}
+use Rattle.std.proofs.Common.{ℕ, ◌≤◌, ◌≡◌, refl, sym, subst, ◌∙◌, Bool, true, false, List, [], ◌∷◌, ◌++◌, append_assoc, append-nil, inl, inr, arith, leb, leb-true}
 use Rattle.storage.specs.Lists.Base.{any, count, ascending}
 use Rattle.storage.specs.Lists.Map.{lookup, keys}
 use Rattle.time_cache.specs.TimeCache.{get, value_of}

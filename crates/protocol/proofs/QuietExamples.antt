@@ -1,5 +1,5 @@
 -- The example of a quiet neighbour (`QuietExamples`), by computation.
-use mathlib.Core.Path.{refl}
+use Rattle.std.proofs.Common.{refl}
 use Rattle.storage.specs.Lists.Base as Base
 use Rattle.storage.specs.Lists.Map as Map
 use Rattle.postcard.specs.Number as Number

@@ -1,13 +1,6 @@
 -- "A quiet neighbour is lazy until it goes down or is told up by kind 3": after every list of calls the quiet marks are those that the answers tell.
 -- Assumes nothing.
-use Rattle.std.specs.Prelude.{Some}
-use Prim.Native.Nat.{ℕ}
-use mathlib.Core.Path.{◌≡◌, refl, ap, ◌∙◌}
-use mathlib.Core.Bool.{Bool, true, false, ◌&&◌}
-use mathlib.Core.List.{List, [], ◌∷◌}
-use lib.Dec.{eqb}
-use borrow.Author.Tests.{eqb-true}
-use Rattle.std.specs.Prelude.{if◌then◌else◌}
+use Rattle.std.proofs.Common.{Some, ℕ, ◌≡◌, refl, ap, ◌∙◌, Bool, true, false, ◌&&◌, List, [], ◌∷◌, eqb, eqb-true, if◌then◌else◌}
 use Rattle.storage.specs.Lists.Map.{insert, remove}
 use Rattle.storage.proofs.ListsLaws.MapLaws.{cases, lookup-insert-same, lookup-insert-other, lookup-remove-same, lookup-remove-other}
 use Rattle.postcard.specs.Message.{Event, Received, Broadcast, Fired, Up, Down}

@@ -1,14 +1,5 @@
 -- The guarantee, third sentence, of one event: a step never loses an identifier for a peer. Where it leaves queue or record it goes out, or comes back to a full record.
-use Rattle.std.specs.Prelude.{Option, Some, None}
-use Prim.Native.Nat.{ℕ}
-use mathlib.Core.Path.{◌≡◌, refl}
-use mathlib.Core.Bool.{Bool, true, false, not, ◌&&◌, ◌||◌}
-use mathlib.Core.List.{List, [], ◌∷◌, ◌++◌, map}
-use mathlib.Core.Logic.{◌⊎◌, inl, inr}
-use native.Mathlib.Omega.{arith}
-use lib.Dec.{leb}
-use lib.ListN.{length, length-append}
-use borrow.Author.Tests.{leb-true, le-leb}
+use Rattle.std.proofs.Common.{Option, Some, None, ℕ, ◌≡◌, refl, Bool, true, false, not, ◌&&◌, ◌||◌, List, [], ◌∷◌, ◌++◌, map, ◌⊎◌, inl, inr, arith, leb, length, length-append, leb-true, le-leb}
 use Rattle.storage.specs.Lists.Base.{is_empty, any, count, member}
 use Rattle.storage.specs.Lists.Map.{lookup}
 use Rattle.time_cache.specs.TimeCache.{Timed, Cache, holds, pop_all, due, expire_until, expired_keys}

@@ -1,12 +1,6 @@
 -- A call is answered 23 exactly where its bytes are those of a broadcast that is turned down: no other question has this number.
 -- Assumes nothing.
-use Prim.Native.Nat.{ℕ, ◌≤◌}
-use mathlib.Core.Path.{◌≡◌, refl, sym, ap, ◌∙◌}
-use mathlib.Core.Bool.{Bool, true, false}
-use mathlib.Core.List.{List}
-use lib.Dec.{leb, eqb}
-use lib.ListN.{length}
-use borrow.Author.Tests.{le-leb, eqb-true}
+use Rattle.std.proofs.Common.{ℕ, ◌≤◌, ◌≡◌, refl, sym, ap, ◌∙◌, Bool, true, false, List, leb, eqb, length, le-leb, eqb-true}
 use Rattle.storage.proofs.ListsLaws.MapLaws.{cases, true≢}
 use Rattle.postcard.specs.Message.{Event}
 use Rattle.postcard.specs.Decode.{Decoded, decoded, faulty, decode_event}

@@ -1,11 +1,6 @@
 -- Only question 10 looks at an event's bytes once they are read (`same-meaning`).
 -- Assumes nothing.
-use Prim.Native.Nat.{ℕ}
-use mathlib.Core.Path.{◌≡◌, refl, ap, ◌∙◌}
-use mathlib.Core.Bool.{Bool, true, false, ◌&&◌}
-use mathlib.Core.List.{List}
-use lib.Dec.{leb}
-use Rattle.std.specs.Prelude.{if◌then◌else◌, Option, Some, None}
+use Rattle.std.proofs.Common.{ℕ, ◌≡◌, refl, ap, ◌∙◌, Bool, true, false, ◌&&◌, List, leb, if◌then◌else◌, Option, Some, None}
 use Rattle.storage.proofs.ListsLaws.Branches.{if-both}
 use Rattle.postcard.specs.Message.{Event}
 use Rattle.postcard.specs.Decode.{decoded, decode_event}

@@ -1,12 +1,7 @@
 -- "Some links must never carry unasked payload": a call sends payloads only where they are due (`only_due` of ReadingsFollowTheTree), and a quiet neighbour's link is none of the tree, so to it only
 -- what its Graft names.
 -- Assumes nothing.
-use Rattle.std.specs.Prelude.{Option, Some, None}
-use Prim.Native.Nat.{ℕ}
-use mathlib.Core.Path.{◌≡◌, refl, sym, ap, subst, ◌∙◌}
-use mathlib.Core.Bool.{Bool, true, false, not}
-use mathlib.Core.List.{List, [], ◌∷◌, ◌++◌}
-use lib.Dec.{eqb}
+use Rattle.std.proofs.Common.{Option, Some, None, ℕ, ◌≡◌, refl, sym, ap, subst, ◌∙◌, Bool, true, false, not, List, [], ◌∷◌, ◌++◌, eqb}
 use Rattle.storage.specs.Lists.Base.{ascending, member}
 use Rattle.storage.specs.Lists.Map.{keys, lookup}
 use Rattle.storage.proofs.ListsLaws.MapLaws.{true≢, and_left}

@@ -1,7 +1,5 @@
 -- The specification, "Calls worked through": the starred examples, as one theorem about the definitions, and panelrun's three answers. Each holds by computation.
-use Prim.Native.Nat.{ℕ}
-use mathlib.Core.Path.{◌≡◌, refl}
-use mathlib.Core.List.{List, [], ◌∷◌}
+use Rattle.std.proofs.Common.{ℕ, ◌≡◌, refl, List, [], ◌∷◌}
 use Rattle.storage.specs.Lists.Base.{count, any, filter, member, concat_map, all, sum, ascending}
 use Rattle.storage.specs.Lists.Map.{lookup, insert, remove, insert_key, remove_key}
 use Rattle.postcard.specs.Number.{groups, number_bytes, number_length, read_round, read_groups, last_group, read_number, kind_number, read_bytes, read_kind}

@@ -1,11 +1,7 @@
 -- Actions: the bytes of none, of one, and of some and then others; those of a first event's eviction, and of EvictCache behind it.
 -- Assumes nothing.
-use mathlib.Core.Path.{◌≡◌, refl, ap}
-use mathlib.Core.Bool.{true, false}
-use mathlib.Core.List.{List, [], ◌∷◌, ◌++◌, map}
-use Prim.Native.Nat.{ℕ}
-use lib.Dec.{ltb}
-use borrow.Author.Tests.{ltb-true, lt-leb}
+use Rattle.std.proofs.Common.{◌≡◌, refl, ap, true, false, List, [], ◌∷◌, ◌++◌, map, ℕ, ltb, ltb-true}
+use borrow.Author.Tests.{lt-leb}
 use Rattle.storage.specs.Lists.Base.{concat_map, filter}
 use Rattle.storage.proofs.ListsLaws.MapLaws.{cases}
 use Rattle.storage.proofs.ListsLaws.ListLaws.{concat-append, concat-one}

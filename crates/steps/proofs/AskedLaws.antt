@@ -1,7 +1,6 @@
 -- A mark for a graft timer, by where its identifier stands; what is asked of a block, out of what is asked of the state.
 -- Assumes nothing.
-use Rattle.std.proofs.Common.{◌≡◌, ℕ, ◌+◌, ◌≤◌, ◌<◌, length, refl, sym, ap, ◌∙◌, arith, Bool, true, List}
-use Rattle.std.specs.Prelude.{Result, Ok, Err, is_some}
+use Rattle.std.proofs.Common.{◌≡◌, ℕ, ◌+◌, ◌≤◌, ◌<◌, length, refl, sym, ap, ◌∙◌, arith, Bool, true, List, Result, Ok, Err, is_some}
 use Rattle.std.specs.Result.{is_ok}
 use Rattle.storage.specs.Lists.Base.{member, ascending}
 use Rattle.storage.specs.Lists.Map.{Map, entry, keys, has}

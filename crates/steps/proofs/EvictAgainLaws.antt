@@ -1,13 +1,6 @@
 -- Eviction twice at one instant leaves as many as eviction once.
 -- Assumes nothing.
-use Prim.Native.Nat.{ℕ, suc, ◌+◌}
-use mathlib.Core.Path.{◌≡◌, refl, ap}
-use mathlib.Core.Bool.{Bool, false}
-use mathlib.Core.List.{List, [], ◌∷◌}
-use native.Mathlib.Omega.{arith}
-use lib.Dec.{ltb}
-use lib.ListN.{length}
-use Rattle.std.specs.Prelude.{if◌then◌else◌}
+use Rattle.std.proofs.Common.{ℕ, suc, ◌+◌, ◌≡◌, refl, ap, Bool, false, List, [], ◌∷◌, arith, ltb, length, if◌then◌else◌}
 use Rattle.storage.specs.Lists.Base.{filter, count, sum}
 use Rattle.storage.proofs.ListsLaws.MapLaws.{cases}
 use Rattle.time_cache.specs.TimeCache.{later_cache}

@@ -1,7 +1,6 @@
 -- Eviction and the first event's work: what they leave of a state at rest, and the numbers of entries.
 -- Assumes nothing.
-use Rattle.std.proofs.Common.{◌≡◌, ℕ, refl, sym, ap, ◌∙◌, Bool, true, false, List, if◌then◌else◌}
-use mathlib.Core.Path.{subst}
+use Rattle.std.proofs.Common.{◌≡◌, ℕ, refl, sym, ap, ◌∙◌, Bool, true, false, List, if◌then◌else◌, subst}
 use Rattle.time_cache.specs.TimeCache.{later_cache}
 use Rattle.protocol.specs.State.{State, with_init, with_received, with_grafted, with_cache}
 use Rattle.protocol.specs.Ticks.{evict}

@@ -1,9 +1,8 @@
 -- What an eviction tells, one identifier after the other.
 -- Assumes nothing.
-use Rattle.std.proofs.Common.{◌≡◌, false, not, refl, ℕ, ◌+◌, ◌<◌, ◌≤◌, List, [], ◌∷◌, ◌++◌, map, length, length-append, get_or, drop, sym, ap, ◌∙◌, arith}
+use Rattle.std.proofs.Common.{◌≡◌, false, not, refl, ℕ, ◌+◌, ◌<◌, ◌≤◌, List, [], ◌∷◌, ◌++◌, map, length, length-append, get_or, drop, sym, ap, ◌∙◌, arith, add-one}
 use Rattle.std.proofs.lemmas.List.{drop_all}
 use Rattle.std.proofs.Math.Seq.{drop-cons}
-use native.Mathlib.Numerals.{add-one}
 use Rattle.storage.specs.Lists.Base.{concat_map, is_empty}
 use Rattle.time_cache.specs.TimeCache.{due, expired_keys}
 use Rattle.time_cache.proofs.PassedLaws.{none-due}

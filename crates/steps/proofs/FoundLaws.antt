@@ -1,11 +1,9 @@
 -- What a look-up in the links, the missing and the grafted messages answers.
 -- Assumes nothing.
-use Rattle.std.proofs.Common.{◌≡◌, ℕ, ◌<◌, length, refl, ap, arith, true, List, []}
+use Rattle.std.proofs.Common.{◌≡◌, ℕ, ◌<◌, length, refl, ap, arith, true, List, [], eqb, Result, Ok, Err, Option, Some, None}
 use Rattle.std.specs.Result.{result_ok}
 use Rattle.std.specs.Option.{option_eq}
-use lib.Dec.{eqb}
 use Rattle.storage.proofs.ListsLaws.KeyLaws.{eqb-sym}
-use Rattle.std.specs.Prelude.{Result, Ok, Err, Option, Some, None}
 use lib.ListN.{length-map}
 use Rattle.storage.specs.Lists.Base.{ascending}
 use Rattle.storage.specs.Lists.Map.{entry, keys}

@@ -1,14 +1,6 @@
 -- What the place of a key says of the set: whether it is there.
 -- Assumes nothing.
-use mathlib.Core.Path.{◌≡◌, refl, sym}
-use mathlib.Core.Bool.{true, false}
-use mathlib.Core.List.{List, [], ◌∷◌}
-use Prim.Native.Nat.{ℕ, zero, suc, ◌<◌, zero-le, suc-le-suc}
-use native.Mathlib.Nat.{not-suc-le-zero}
-use native.Mathlib.Omega.{arith}
-use borrow.Author.Tests.{eq-eqb, ne_eqb, ltb-true, ltb-false}
-use lib.Dec.{ltb, eqb}
-use lib.ListN.{length, get_or}
+use Rattle.std.proofs.Common.{◌≡◌, refl, sym, true, false, List, [], ◌∷◌, ℕ, zero, suc, ◌<◌, zero-le, suc-le-suc, not-suc-le-zero, arith, eq-eqb, ne_eqb, ltb-true, ltb-false, ltb, eqb, length, get_or}
 use Rattle.storage.specs.Lists.Base.{member}
 use Rattle.storage.proofs.ListsLaws.MapLaws.{cases}
 use Rattle.storage.specs.Rows.Sorted.{Here, Between}

@@ -1,8 +1,6 @@
 -- The notes of a lazy push, link by link, and how many they are.
 -- Assumes nothing.
-use Rattle.std.proofs.Common.{◌≡◌, ℕ, suc, ◌+◌, ◌<◌, ◌≤◌, length, sym, ◌∙◌, ap, refl, arith, get_or, Bool, true, false, List, [], ◌∷◌, ◌++◌, take, map, filter, append_assoc, length-append, add-one, drop, not, ◌&&◌, if◌then◌else◌}
-use Rattle.std.specs.Prelude.{◌==◌, count_by, cond}
-use lib.Dec.{eqb}
+use Rattle.std.proofs.Common.{◌≡◌, ℕ, suc, ◌+◌, ◌<◌, ◌≤◌, length, sym, ◌∙◌, ap, refl, arith, get_or, Bool, true, false, List, [], ◌∷◌, ◌++◌, take, map, filter, append_assoc, length-append, add-one, drop, not, ◌&&◌, if◌then◌else◌, ◌==◌, count_by, cond, eqb}
 use lib.ListN.{get_or-map}
 use Rattle.std.proofs.lemmas.List.Sums.{sum_by-cons}
 use Rattle.std.proofs.lemmas.List.Elements.{filter-append}

@@ -1,9 +1,8 @@
 -- What a look-up in the message cache finds.
 -- Assumes nothing.
-use Rattle.std.proofs.Common.{◌≡◌, ℕ, ap, ◌∙◌, sym, refl, List, []}
+use Rattle.std.proofs.Common.{◌≡◌, ℕ, ap, ◌∙◌, sym, refl, List, [], Bool, true, false, not, Some, None}
 use Rattle.storage.specs.Lists.Map.{Entry, entry, keys}
-use Rattle.std.proofs.Common.{Bool, true, false, not}
-use Rattle.std.specs.Prelude.{Option as Option', Some, None}
+use Rattle.std.specs.Prelude.{Option as Option'}
 use Rattle.std.specs.Option.{is_some}
 use Rattle.storage.proofs.ListsLaws.MapLaws.{true≢}
 use Rattle.steps.specs.Lookups.{cached_value}

@@ -1,11 +1,8 @@
 -- A neighbour that comes or goes, of the state alone.
 -- Assumes nothing.
-use Rattle.std.proofs.Common.{◌≡◌, ℕ, suc, ◌+◌, ◌≤◌, ◌<◌, length, refl, sym, ap, ◌∙◌, arith, true, false, Bool, add-one, List, [], ◌∷◌}
-use Rattle.std.specs.Prelude.{eqb}
-use Rattle.std.specs.Prelude.{Option, Some, None}
+use Rattle.std.proofs.Common.{◌≡◌, ℕ, suc, ◌+◌, ◌≤◌, ◌<◌, length, refl, sym, ap, ◌∙◌, arith, true, false, Bool, add-one, List, [], ◌∷◌, eqb, Option, Some, None, leb-true}
 use Rattle.std.specs.Option.{is_some}
 use lib.ListN.{length-map}
-use borrow.Author.Tests.{leb-true}
 use Rattle.storage.specs.Lists.Base.{ascending}
 use Rattle.storage.specs.Lists.Map.{keys, has, lookup, remove}
 use Rattle.storage.proofs.ListsLaws.MapLaws.{cases, true≢, and_left}

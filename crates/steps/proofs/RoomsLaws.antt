@@ -1,14 +1,6 @@
 -- The link room of a peer, out of the numbers that a call brings.
-use Rattle.std.specs.Prelude.{None}
-use Prim.Native.Nat.{ℕ, zero, suc, ◌≤◌, ◌<◌}
-use native.Mathlib.Nat.{not-suc-le-zero}
-use native.Mathlib.Omega.{arith}
-use mathlib.Core.Path.{◌≡◌, refl, sym, ap, ◌∙◌}
-use mathlib.Core.Bool.{true, false}
-use mathlib.Core.List.{List, [], ◌∷◌, ◌++◌}
-use lib.Dec.{leb, ltb, eqb}
-use lib.ListN.{length, get_or, length-map}
-use borrow.Author.Tests.{ltb-true, ltb-false, eq-eqb, ne_eqb, le-leb}
+use Rattle.std.proofs.Common.{None, ℕ, zero, suc, ◌≤◌, ◌<◌, not-suc-le-zero, arith, ◌≡◌, refl, sym, ap, ◌∙◌, true, false, List, [], ◌∷◌, ◌++◌, leb, ltb, eqb, length, get_or, ltb-true, ltb-false, eq-eqb, ne_eqb, le-leb}
+use lib.ListN.{length-map}
 use Rattle.storage.specs.Lists.Base.{all, ascending, member}
 use Rattle.storage.specs.Lists.Map.{Map, keys, lookup, has}
 use Rattle.storage.proofs.ListsLaws.MapLaws.{cases, true≢, and_left, and_right, all_head, all_tail}

@@ -1,14 +1,12 @@
 -- The columns of link numbers of the queue and the record, and how many identifiers an IHave takes.
 -- Assumes nothing.
-use Rattle.std.proofs.Common.{zero, suc, ◌≡◌, ℕ, ◌+◌, ◌-◌, ◌<◌, ◌≤◌, length, sym, arith, List, ◌∙◌, ap, map, get_or, take, drop, [], ◌∷◌, refl}
+use Rattle.std.proofs.Common.{zero, suc, ◌≡◌, ℕ, ◌+◌, ◌-◌, ◌<◌, ◌≤◌, length, sym, arith, List, ◌∙◌, ap, map, get_or, take, drop, [], ◌∷◌, refl, leb-true, leb}
 use Rattle.std.proofs.lemmas.List.{ext_get_or, length-map, get_or-take, get_or-drop, length-take-le, length-drop}
 use lib.ListN.{get_or-map}
 use Rattle.std.proofs.lemmas.List.Elements.{All-from_get_or}
 use Rattle.protocol.specs.State.{State, Note, size_in_range}
 use Rattle.protocol.specs.Consistent.{Ranged}
 use Rattle.protocol.specs.Ticks.{per_message}
-use borrow.Author.Tests.{leb-true}
-use lib.Dec.{leb}
 use Rattle.storage.proofs.ListsLaws.MapLaws.{and_left, and_right}
 use Rattle.block.specs.Layout.{place}
 use Rattle.block.specs.LinkSteps.{peer_at}

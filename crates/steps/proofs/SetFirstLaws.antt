@@ -1,7 +1,6 @@
 -- `first` of a grafted message, where a first event's work is done.
 -- Assumes nothing.
-use Rattle.std.specs.Prelude.{Option, Some, None}
-use Rattle.std.proofs.Common.{◌≡◌, ℕ, sym, ap, ◌∙◌, true}
+use Rattle.std.proofs.Common.{Option, Some, None, ◌≡◌, ℕ, sym, ap, ◌∙◌, true}
 use Rattle.time_cache.specs.TimeCache.{get, replace}
 use Rattle.protocol.specs.State.{State, Grafts, with_grafted}
 use Rattle.protocol.specs.Gossips.{with_first}

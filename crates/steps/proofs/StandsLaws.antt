@@ -1,6 +1,5 @@
 -- What the functions of the tables ask, out of `Stands`.
-use mathlib.Core.List.{List}
-use Prim.Native.Nat.{ℕ}
+use Rattle.std.proofs.Common.{List, ℕ}
 use Rattle.time_cache.specs.TimeCache.{Cache, Timely}
 use Rattle.block.specs.View.{state_of}
 use Rattle.block.specs.LinkSteps.{LinksAscend}

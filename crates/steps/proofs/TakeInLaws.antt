@@ -1,10 +1,7 @@
 -- A message taken in: the numbers of entries with it, and what it asks of a state that is within its limits after.
 -- Assumes nothing.
-use Rattle.std.specs.Prelude.{Option, Some, None, is_some}
-use Rattle.std.proofs.Common.{◌≡◌, ℕ, suc, ◌+◌, ◌-◌, ◌≤◌, ◌^◌, length, sym, ◌∙◌, ap, refl, arith, add-one, Bool, true, false, not, ◌&&◌, List, [], ◌∷◌}
+use Rattle.std.proofs.Common.{Option, Some, None, is_some, ◌≡◌, ℕ, suc, ◌+◌, ◌-◌, ◌≤◌, ◌^◌, length, sym, ◌∙◌, ap, refl, arith, add-one, Bool, true, false, not, ◌&&◌, List, [], ◌∷◌, leb, eqb, leb-true}
 use Rattle.std.proofs.Math.Path.{subst}
-use lib.Dec.{leb, eqb}
-use borrow.Author.Tests.{leb-true}
 use mir.Val.{bool_byte}
 use Rattle.storage.specs.Lists.Base.{sum}
 use Rattle.storage.specs.Lists.Map.{Map, lookup}

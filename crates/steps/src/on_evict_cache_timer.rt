@@ -7,7 +7,7 @@ ghost use Rattle.decide.specs.Sizes.{sizes_of};
 ghost use Rattle.decide.specs.Settled.{settled, forgotten_actions, settled_actions};
 ghost use Rattle.decide.specs.ActionsAfter.{evict_actions};
 ghost use Rattle.block.specs.Caches.InBlock.{InOrder};
-ghost use Rattle.wire.specs.Encode.Intake.{after, RoomFor};
+ghost use Rattle.wire.specs.Encode.Intake.{after};
 ghost use Rattle.steps.specs.Shared.{sizes_value};
 ghost use Rattle.steps.specs.Panels.{AtRest};
 ghost use Rattle.steps.specs.Views.{shown};
@@ -37,7 +37,6 @@ pub fn evict_sizes(view: &View, call: &Call) -> Sizes
 #[inline(never)]
 fn tell_rows<S: Sink>(view: &View, call: &Call, out: &mut S)
     requires order { InOrder (shown view.now).cache }
-    requires room { RoomFor (concat_map action_bytes (forgotten_actions call.now.instant.0 (shown view.now))) (S.intake out.old) }
     ensures { S.intake out.new ≡ after (concat_map action_bytes (forgotten_actions call.now.instant.0 (shown view.now))) (S.intake out.old) }
 {
     let rows = forgotten_rows(view.head, view.block, call.instant);
@@ -50,7 +49,6 @@ fn tell_rows<S: Sink>(view: &View, call: &Call, out: &mut S)
 // The same; where no row is due, nothing is told.
 fn tell_forgotten<S: Sink>(view: &View, call: &Call, out: &mut S)
     requires order { InOrder (shown view.now).cache }
-    requires room { RoomFor (concat_map action_bytes (forgotten_actions call.now.instant.0 (shown view.now))) (S.intake out.old) }
     ensures { S.intake out.new ≡ after (concat_map action_bytes (forgotten_actions call.now.instant.0 (shown view.now))) (S.intake out.old) }
 {
     if is_any_due(view.head, view.block, call.instant) {
@@ -61,7 +59,6 @@ fn tell_forgotten<S: Sink>(view: &View, call: &Call, out: &mut S)
 // What leaves the message cache is told, "before its schedule".
 fn tell_and_schedule<S: Sink>(view: &View, call: &Call, out: &mut S)
     requires order { InOrder (shown view.now).cache }
-    requires room { RoomFor (concat_map action_bytes (evict_actions call.now.instant.0 (shown view.now))) (S.intake out.old) }
     ensures { S.intake out.new ≡ after (concat_map action_bytes (evict_actions call.now.instant.0 (shown view.now))) (S.intake out.old) }
 {
     tell_forgotten(view, call, out);
@@ -71,7 +68,6 @@ fn tell_and_schedule<S: Sink>(view: &View, call: &Call, out: &mut S)
 // Its actions. Where a first event has evicted at the same instant, nothing leaves any more.
 pub fn evict_actions<S: Sink>(view: &View, call: &Call, out: &mut S)
     requires rest { AtRest (shown view.now) }
-    requires room { RoomFor (concat_map action_bytes (evict_actions call.now.instant.0 (settled call.now.instant.0 (shown view.now)))) (S.intake out.old) }
     ensures { S.intake out.new ≡ after (concat_map action_bytes (evict_actions call.now.instant.0 (settled call.now.instant.0 (shown view.now)))) (S.intake out.old) }
 {
     if view.head.live.init {
@@ -84,7 +80,6 @@ pub fn evict_actions<S: Sink>(view: &View, call: &Call, out: &mut S)
 // "the first other event evicts and schedules EvictCache before anything else": its actions.
 pub fn first_event_actions<S: Sink>(view: &View, call: &Call, out: &mut S)
     requires rest { AtRest (shown view.now) }
-    requires room { RoomFor (concat_map action_bytes (settled_actions call.now.instant.0 (shown view.now))) (S.intake out.old) }
     ensures { S.intake out.new ≡ after (concat_map action_bytes (settled_actions call.now.instant.0 (shown view.now))) (S.intake out.old) }
 {
     if !view.head.live.init {

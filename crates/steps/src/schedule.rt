@@ -5,7 +5,7 @@ ghost use Rattle.postcard.specs.Message.{EvictCache, Scheduled, action_bytes};
 ghost use Rattle.decide.specs.RecordGrowth.{announce_action};
 ghost use Rattle.decide.specs.ActionsAfter.{dispatch_action};
 ghost use Rattle.steps.specs.Views.{shown};
-ghost use Rattle.wire.specs.Encode.Intake.{after, RoomFor};
+ghost use Rattle.wire.specs.Encode.Intake.{after};
 
 use crate::view::View;
 use postcard::message::Timer;
@@ -15,9 +15,8 @@ use wire::encode::action::Schedule;
 use wire::encode::sink::Sink;
 
 // `schedule_announce_dropped`: "a nonempty record and a clear flag schedule AnnounceDropped (1,000)"; `stands` tells whether the record is nonempty, `flag` its flag.
-#[tactic(auto, unfolding(decide::specs::RecordGrowth::announce_action, storage::specs::Lists::Base::concat_map), using(wire::proofs::EncodeLaws::IntakeLaws::after_append, wire::proofs::EncodeLaws::IntakeLaws::after_nil, wire::proofs::EncodeLaws::IntakeLaws::room_after, wire::proofs::EncodeLaws::IntakeLaws::length_both))]
+#[tactic(auto, unfolding(decide::specs::RecordGrowth::announce_action, storage::specs::Lists::Base::concat_map), using(wire::proofs::EncodeLaws::IntakeLaws::after_append, wire::proofs::EncodeLaws::IntakeLaws::after_nil))]
 pub fn schedule_announce_dropped<S: Sink>(out: &mut S, stands: bool, flag: bool)
-    requires { RoomFor (concat_map action_bytes (announce_action stands flag)) (S.intake out.old) }
     ensures { S.intake out.new ≡ after (concat_map action_bytes (announce_action stands flag)) (S.intake out.old) }
 {
     if stands && !flag {
@@ -30,9 +29,8 @@ pub fn schedule_announce_dropped<S: Sink>(out: &mut S, stands: bool, flag: bool)
 }
 
 // `schedule_dispatch`: "schedules dispatch unless flagged".
-#[tactic(auto, unfolding(decide::specs::ActionsAfter::dispatch_action, block::specs::View::state_of, storage::specs::Lists::Base::concat_map), using(wire::proofs::EncodeLaws::IntakeLaws::after_append, wire::proofs::EncodeLaws::IntakeLaws::after_nil, wire::proofs::EncodeLaws::IntakeLaws::room_after, wire::proofs::EncodeLaws::IntakeLaws::length_both))]
+#[tactic(auto, unfolding(decide::specs::ActionsAfter::dispatch_action, block::specs::View::state_of, storage::specs::Lists::Base::concat_map), using(wire::proofs::EncodeLaws::IntakeLaws::after_append, wire::proofs::EncodeLaws::IntakeLaws::after_nil))]
 pub fn schedule_dispatch<S: Sink>(view: &View, out: &mut S)
-    requires { RoomFor (concat_map action_bytes (dispatch_action (shown view.now))) (S.intake out.old) }
     ensures { S.intake out.new ≡ after (concat_map action_bytes (dispatch_action (shown view.now))) (S.intake out.old) }
 {
     if !view.head.live.dispatch_timer_scheduled {
@@ -45,9 +43,8 @@ pub fn schedule_dispatch<S: Sink>(view: &View, out: &mut S)
 }
 
 // `on_evict_cache_timer`: "then schedules itself".
-#[tactic(auto, unfolding(block::specs::View::state_of, storage::specs::Lists::Base::concat_map), using(wire::proofs::EncodeLaws::IntakeLaws::after_append, wire::proofs::EncodeLaws::IntakeLaws::after_nil, wire::proofs::EncodeLaws::IntakeLaws::room_after, wire::proofs::EncodeLaws::IntakeLaws::length_both))]
+#[tactic(auto, unfolding(block::specs::View::state_of, storage::specs::Lists::Base::concat_map), using(wire::proofs::EncodeLaws::IntakeLaws::after_append, wire::proofs::EncodeLaws::IntakeLaws::after_nil))]
 pub fn schedule_evict_cache<S: Sink>(view: &View, out: &mut S)
-    requires { RoomFor (action_bytes (Scheduled (shown view.now).settings.cache_evict_interval EvictCache)) (S.intake out.old) }
     ensures { S.intake out.new ≡ after (action_bytes (Scheduled (shown view.now).settings.cache_evict_interval EvictCache)) (S.intake out.old) }
 {
     Schedule {

@@ -1,14 +1,8 @@
 -- `expire_until`: the steps put together.
 -- Assumes nothing.
-use mathlib.Core.Path.{◌≡◌, refl, sym, ap, ◌∙◌, subst}
-use mathlib.Core.Bool.{true}
-use mathlib.Core.List.{List, [], ◌∷◌, map}
-use Prim.Native.Nat.{ℕ, ◌+◌, ◌-◌, ◌*◌, ◌≤◌}
+use Rattle.std.proofs.Common.{◌≡◌, refl, sym, ap, ◌∙◌, subst, true, List, [], ◌∷◌, map, ℕ, ◌+◌, ◌-◌, ◌*◌, ◌≤◌, arith, ltb-true, lt-ltb, le-leb, leb-true, ltb, length, drop}
 use native.Mathlib.Nat.{sub-zero}
-use native.Mathlib.Omega.{arith}
-use borrow.Author.Tests.{ltb-true, lt-ltb, le-leb, leb-true}
-use lib.Dec.{ltb}
-use lib.ListN.{length, drop, length-map}
+use lib.ListN.{length-map}
 use Rattle.storage.specs.Lists.Base.{filter}
 use Rattle.storage.proofs.ListsLaws.ListLaws.{all_map, all-filter-imp}
 use Rattle.storage.specs.Refs.Refs.{Ref, ref, places, names, lowered, left}

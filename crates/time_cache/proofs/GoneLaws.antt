@@ -1,15 +1,6 @@
 -- The keys that `expire_until` removes (`popped`): just those that were there and are no more, each once; at the same instant none is removed twice.
 -- Assumes nothing.
-use Rattle.std.specs.Prelude.{Option, Some, None, is_some, if◌then◌else◌}
-use Prim.Native.Nat.{ℕ, ◌≤◌}
-use native.Mathlib.Omega.{arith}
-use mathlib.Core.Path.{◌≡◌, refl, ap, ◌∙◌}
-use mathlib.Core.Bool.{Bool, true, false, not, ◌&&◌}
-use mathlib.Core.Logic.{◌⊎◌, inl, inr}
-use mathlib.Core.List.{List, [], ◌∷◌, ◌++◌}
-use borrow.Author.Tests.{eqb-true}
-use lib.Dec.{eqb, leb}
-use lib.ListN.{length}
+use Rattle.std.proofs.Common.{Option, Some, None, is_some, if◌then◌else◌, ℕ, ◌≤◌, arith, ◌≡◌, refl, ap, ◌∙◌, Bool, true, false, not, ◌&&◌, ◌⊎◌, inl, inr, List, [], ◌∷◌, ◌++◌, eqb-true, eqb, leb, length}
 use Rattle.storage.specs.Lists.Base.{member, once}
 use Rattle.storage.specs.Lists.Map.{Map, lookup, has, remove}
 use Rattle.storage.proofs.ListsLaws.MapLaws.{cases, lookup-remove-same, lookup-remove-other}

@@ -1,13 +1,8 @@
 -- The entries that name rows (`NamesRows`): each takes its row's key out.
 -- Assumes nothing.
-use Prim.Native.Nat.{ℕ, ◌+◌, ◌-◌, ◌<◌}
-use mathlib.Core.Path.{◌≡◌, refl, sym, ap, ◌∙◌}
-use mathlib.Core.List.{List, []}
-use native.Mathlib.Omega.{arith}
-use borrow.Author.Tests.{eqb-true, eqb-false}
-use lib.Dec.{eqb}
-use lib.ListN.{length, get_or, set, replicate, length-map}
-use lib.Seq.{get_or-set_same, get_or-set_other}
+use Rattle.std.proofs.Common.{ℕ, ◌+◌, ◌-◌, ◌<◌, ◌≡◌, refl, sym, ap, ◌∙◌, List, [], arith, eqb-true, eqb, length, get_or, set, replicate, get_or-set_same, get_or-set_other}
+use borrow.Author.Tests.{eqb-false}
+use lib.ListN.{length-map}
 use Rattle.storage.specs.Rows.Sorted.{Here}
 use Rattle.storage.specs.Refs.Refs.{Ref, ref}
 use Rattle.storage.proofs.ListsLaws.MapLaws.{cases}

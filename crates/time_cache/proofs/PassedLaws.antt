@@ -1,18 +1,7 @@
 -- What `expired_rows` tells: after the first j rows a mark stands for each entry that one of them took out, and the rows that did are told (`Passed`).
 -- Assumes nothing.
-use Rattle.std.specs.Prelude.{None, if◌then◌else◌}
-use Prim.Native.Nat.{ℕ, zero, suc, ◌+◌, ◌≤◌, ◌<◌}
-use mathlib.Core.Path.{◌≡◌, refl, sym, ap, subst, ◌∙◌}
-use mathlib.Core.Bool.{true, false, not}
-use mathlib.Core.Logic.{◌⊎◌, inl, inr}
-use mathlib.Core.List.{List, [], ◌∷◌, ◌++◌, append-nil, map}
-use native.Mathlib.Nat.{not-suc-le-zero}
-use native.Mathlib.Numerals.{add-one}
-use native.Mathlib.Omega.{arith}
-use borrow.Author.Tests.{ne_eqb, eq-eqb}
-use lib.Dec.{eqb}
-use lib.ListN.{length, get_or, set, take, replicate, length-set, length-map, length-replicate, get_or-map}
-use lib.Seq.{take-suc, get_or-set_same, get_or-set_other}
+use Rattle.std.proofs.Common.{None, if◌then◌else◌, ℕ, zero, suc, ◌+◌, ◌≤◌, ◌<◌, ◌≡◌, refl, sym, ap, subst, ◌∙◌, true, false, not, ◌⊎◌, inl, inr, List, [], ◌∷◌, ◌++◌, append-nil, map, not-suc-le-zero, add-one, arith, ne_eqb, eq-eqb, eqb, length, get_or, set, take, replicate, length-set, take-suc, get_or-set_same, get_or-set_other}
+use lib.ListN.{length-map, length-replicate, get_or-map}
 use Rattle.std.proofs.lemmas.List.{map-append}
 use Rattle.std.proofs.lemmas.List.Elements.{All-nil, All-push}
 use Rattle.storage.specs.Lists.Map.{keys, lookup, remove}

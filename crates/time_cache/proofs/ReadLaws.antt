@@ -1,15 +1,7 @@
 -- What is read of a sound cache in a block: look-ups, and what is later than an instant.
 -- Assumes nothing.
-use Rattle.std.specs.Prelude.{Some, None, is_some}
-use mathlib.Core.Path.{◌≡◌, refl, sym, ap, ◌∙◌, subst}
-use mathlib.Core.Bool.{true, false}
-use mathlib.Core.List.{List, [], map}
-use Prim.Native.Nat.{ℕ, ◌+◌, ◌-◌, ◌*◌, ◌<◌}
-use native.Mathlib.Nat.{add_assoc}
-use native.Mathlib.Omega.{arith}
-use lib.Dec.{ltb}
-use lib.ListN.{length, take, drop, length-map, length-drop}
-use lib.Seq.{drop-drop}
+use Rattle.std.proofs.Common.{Some, None, is_some, ◌≡◌, refl, sym, ap, ◌∙◌, subst, true, false, List, [], map, ℕ, ◌+◌, ◌-◌, ◌*◌, ◌<◌, add_assoc, arith, ltb, length, take, drop, length-drop, drop-drop}
+use lib.ListN.{length-map}
 use Rattle.storage.specs.Lists.Base.{filter, count}
 use Rattle.storage.specs.Lists.Map.{Entry, keys, lookup}
 use Rattle.storage.proofs.ListsLaws.MapLaws.{cases}

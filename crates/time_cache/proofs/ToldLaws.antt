@@ -1,13 +1,7 @@
 -- What `write_keys` writes: one key after the other, and nothing behind them (`Told`).
 -- Assumes nothing.
-use Prim.Native.Nat.{ℕ, ◌+◌, ◌-◌, ◌≤◌, ◌<◌, min}
-use mathlib.Core.Path.{◌≡◌, refl, sym, ap, ◌∙◌}
-use mathlib.Core.Logic.{◌⊎◌, inl, inr}
-use mathlib.Core.List.{List, [], ◌∷◌, ◌++◌, map}
-use native.Mathlib.Numerals.{add-one}
-use native.Mathlib.Omega.{arith}
-use lib.ListN.{length, get_or, set, take, drop, length-set, length-map, length-take}
-use lib.Seq.{take-suc, take-suc-set, take_all, take-take, drop-drop, drop-set-lt}
+use Rattle.std.proofs.Common.{ℕ, ◌+◌, ◌-◌, ◌≤◌, ◌<◌, min, ◌≡◌, refl, sym, ap, ◌∙◌, ◌⊎◌, inl, inr, List, [], ◌∷◌, ◌++◌, map, add-one, arith, length, get_or, set, take, drop, length-set, length-take, take-suc, take-suc-set, take_all, take-take, drop-drop, drop-set-lt}
+use lib.ListN.{length-map}
 use Rattle.std.proofs.lemmas.List.{map-append, take-map}
 use Rattle.storage.specs.Rows.Ident.{id_of}
 use Rattle.storage.specs.declared.rows.id.Id.{Id}

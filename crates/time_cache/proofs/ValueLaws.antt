@@ -1,14 +1,9 @@
 -- Values: the functions of a cache do not look at them, so what holds of values as bytes holds of values read from them; and what a write of a
 -- value's bytes is to the cache.
 -- Assumes nothing.
-use Rattle.std.specs.Prelude.{Option, Some, None, is_some}
-use mathlib.Core.Path.{◌≡◌, refl, sym, ap, ◌∙◌}
-use mathlib.Core.List.{List, [], ◌∷◌, map, map-map}
-use Prim.Native.Nat.{ℕ, suc, ◌<◌}
-use native.Mathlib.Omega.{arith}
-use borrow.Author.Tests.{eq-eqb, le-ltb}
-use lib.Dec.{ltb, eqb}
-use lib.ListN.{length, get_or, length-map}
+use Rattle.std.proofs.Common.{Option, Some, None, is_some, ◌≡◌, refl, sym, ap, ◌∙◌, List, [], ◌∷◌, map, ℕ, suc, ◌<◌, arith, eq-eqb, le-ltb, ltb, eqb, length, get_or}
+use mathlib.Core.List.{map-map}
+use lib.ListN.{length-map}
 use Rattle.storage.specs.Lists.Map.{Map, Entry, keys, lookup, insert, remove}
 use Rattle.storage.proofs.ListsLaws.MapLaws.{cases, lookup-insert-same}
 use Rattle.storage.proofs.ListsLaws.ListLaws.{filter_map}

@@ -1,16 +1,6 @@
 -- Contents of cached messages: that they adjoin, told row by row, and that the lengths of the rows that entries name are those of the messages' contents.
 -- Assumes nothing.
-use mathlib.Core.Path.{◌≡◌, refl, sym, ap, ◌∙◌, subst}
-use mathlib.Core.Bool.{Bool, true, false, ◌&&◌}
-use mathlib.Core.List.{List, [], ◌∷◌, ◌++◌, map}
-use Prim.Native.Nat.{ℕ, zero, suc, ◌+◌, ◌*◌, ◌≤◌, ◌<◌}
-use native.Mathlib.Nat.{le_of_suc-le-suc, not-suc-le-zero}
-use native.Mathlib.Numerals.{add-one}
-use native.Mathlib.Omega.{arith}
-use borrow.Author.Tests.{eq-eqb, ne_eqb, ltb-true}
-use lib.Dec.{eqb, ltb, lit<}
-use lib.ListN.{length, take, drop, get_or, drop_of_length-le}
-use lib.Seq.{drop-cons, drop-drop, take-suc}
+use Rattle.std.proofs.Common.{◌≡◌, refl, sym, ap, ◌∙◌, subst, Bool, true, false, ◌&&◌, List, [], ◌∷◌, ◌++◌, map, ℕ, zero, suc, ◌+◌, ◌*◌, ◌≤◌, ◌<◌, le_of_suc-le-suc, not-suc-le-zero, add-one, arith, eq-eqb, ne_eqb, ltb-true, eqb, ltb, lit<, length, take, drop, get_or, drop_of_length-le, drop-cons, drop-drop, take-suc}
 use Rattle.storage.specs.Lists.Base.{sum}
 use Rattle.storage.proofs.ListsLaws.MapLaws.{all_head, all_tail}
 use Rattle.storage.specs.Rows.Part.{part}

@@ -1,14 +1,8 @@
 -- Creation: its four questions in order, and the block that it leaves.
 -- Assumes nothing.
-use mathlib.Core.Path.{◌≡◌, refl, ap, ◌∙◌, subst}
-use mathlib.Core.Bool.{Bool, true, false, ◌&&◌}
-use mathlib.Core.List.{List}
-use Prim.Native.Nat.{ℕ, ◌≤◌, ◌<◌}
-use native.Mathlib.Omega.{arith}
-use borrow.Author.Tests.{le-leb, lt-leb, leb-true, leb-false}
-use lib.Dec.{leb, leb-zero, lit<}
-use lib.ListN.{length, drop}
-use Rattle.std.specs.Prelude.{if◌then◌else◌, Some, None}
+use Rattle.std.proofs.Common.{◌≡◌, refl, ap, ◌∙◌, subst, Bool, true, false, ◌&&◌, List, ℕ, ◌≤◌, ◌<◌, arith, le-leb, leb-true, leb-false, leb, lit<, length, drop, if◌then◌else◌, Some, None}
+use borrow.Author.Tests.{lt-leb}
+use lib.Dec.{leb-zero}
 use Rattle.storage.specs.Lists.Base.{all, sum}
 use Rattle.storage.proofs.ListsLaws.MapLaws.{cases, and_intro}
 use Rattle.storage.specs.Rows.Part.{put}

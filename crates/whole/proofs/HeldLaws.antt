@@ -1,14 +1,6 @@
 -- What is known of a block that holds a state.
 -- Assumes nothing.
-use Rattle.std.specs.Prelude.{Some}
-use mathlib.Core.Path.{◌≡◌, subst}
-use mathlib.Core.Bool.{Bool, true, ◌&&◌}
-use mathlib.Core.List.{List, [], ◌∷◌}
-use Prim.Native.Nat.{ℕ, ◌+◌, ◌*◌, ◌≤◌}
-use native.Mathlib.Omega.{arith}
-use borrow.Author.Tests.{leb-true, eqb-true}
-use lib.Dec.{leb, eqb}
-use lib.ListN.{length, take, drop, get_or}
+use Rattle.std.proofs.Common.{Some, ◌≡◌, subst, Bool, true, ◌&&◌, List, [], ◌∷◌, ℕ, ◌+◌, ◌*◌, ◌≤◌, arith, leb-true, eqb-true, leb, eqb, length, take, drop, get_or}
 use Rattle.storage.proofs.ListsLaws.MapLaws.{cases, true≢, and_left, and_right}
 use Rattle.storage.proofs.ListsLaws.Places.{all-at}
 use Rattle.storage.specs.Rows.Part.{part}

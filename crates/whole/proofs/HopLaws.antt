@@ -1,15 +1,6 @@
 -- Lists of link numbers and rounds: the tests of the numbers are those of the announcers and of the grafted peers.
 -- Assumes nothing.
-use mathlib.Core.Path.{◌≡◌, refl, sym, ap, ◌∙◌, subst}
-use mathlib.Core.Bool.{Bool, true, not, ◌&&◌}
-use mathlib.Core.List.{List, [], ◌∷◌, map}
-use Prim.Native.Nat.{ℕ, zero, suc, ◌*◌, ◌≤◌, ◌<◌, zero-le, suc-le-suc}
-use native.Mathlib.Nat.{le_of_suc-le-suc, not-suc-le-zero}
-use native.Mathlib.Omega.{arith}
-use borrow.Author.Tests.{leb-true, lt-ltb, le-ltb}
-use lib.Dec.{leb, ltb, lit<}
-use lib.ListN.{length, take, drop, get_or, length-drop}
-use lib.Seq.{drop-drop}
+use Rattle.std.proofs.Common.{◌≡◌, refl, sym, ap, ◌∙◌, subst, Bool, true, not, ◌&&◌, List, [], ◌∷◌, map, ℕ, zero, suc, ◌*◌, ◌≤◌, ◌<◌, zero-le, suc-le-suc, le_of_suc-le-suc, not-suc-le-zero, arith, leb-true, lt-ltb, le-ltb, leb, ltb, lit<, length, take, drop, get_or, length-drop, drop-drop}
 use Rattle.storage.specs.Lists.Base.{is_empty, all, ascending, once}
 use Rattle.storage.specs.Lists.Map.{Entry, keys}
 use Rattle.storage.proofs.ListsLaws.MapLaws.{and_left, and_right}

@@ -1,17 +1,7 @@
 -- The record: how often a link number stands is how many notes its peer has, and numbers and identifiers that stand once are notes that do.
 -- Assumes nothing.
-use mathlib.Core.Path.{◌≡◌, refl, sym, ap, ◌∙◌, subst}
-use mathlib.Core.Logic.{◌⊎◌, inl, inr}
-use mathlib.Core.Bool.{Bool, true, false, not, ◌&&◌}
-use mathlib.Core.List.{List, [], ◌∷◌, map}
-use Prim.Native.Nat.{ℕ, zero, suc, ◌+◌, ◌*◌, ◌≤◌, ◌<◌, zero-le, suc-le-suc}
-use native.Mathlib.Nat.{le_of_suc-le-suc, not-suc-le-zero, add-zero}
-use native.Mathlib.Numerals.{add-one}
-use native.Mathlib.Omega.{arith}
-use borrow.Author.Tests.{ltb-true, le-leb, lt-leb, eqb-true, eq-eqb, ne_eqb, not-true}
-use lib.Dec.{leb, ltb, eqb, lit<}
-use lib.ListN.{length, take, drop, get_or, set, replicate, length-set, take-append-drop}
-use lib.Seq.{take-suc, take_all, length-take-le, get_or-set_same, get_or-set_other}
+use Rattle.std.proofs.Common.{◌≡◌, refl, sym, ap, ◌∙◌, subst, ◌⊎◌, inl, inr, Bool, true, false, not, ◌&&◌, List, [], ◌∷◌, map, ℕ, zero, suc, ◌+◌, ◌*◌, ◌≤◌, ◌<◌, zero-le, suc-le-suc, le_of_suc-le-suc, not-suc-le-zero, add-zero, add-one, arith, ltb-true, le-leb, eqb-true, eq-eqb, ne_eqb, leb, ltb, eqb, lit<, length, take, drop, get_or, set, replicate, length-set, take-append-drop, take-suc, take_all, length-take-le, get_or-set_same, get_or-set_other}
+use borrow.Author.Tests.{lt-leb, not-true}
 use Rattle.storage.specs.Lists.Base.{all, any, count, ascending}
 use Rattle.storage.specs.Lists.Map.{keys}
 use Rattle.storage.proofs.ListsLaws.MapLaws.{cases, true≢, and_left, and_right, and_intro, all_head, all_tail}

@@ -1,15 +1,7 @@
 -- Question 5 is the tests of the header's numbers and of the tables: each follows from the others.
 -- Assumes nothing.
-use mathlib.Core.Path.{◌≡◌, refl, sym, ap, ◌∙◌, subst}
-use mathlib.Core.Bool.{Bool, true, false, ◌&&◌, ◌||◌}
-use mathlib.Core.List.{List, [], ◌∷◌, map}
-use Prim.Native.Nat.{ℕ, zero, suc, ◌*◌, ◌≤◌, zero-le}
-use native.Mathlib.Omega.{arith}
-use borrow.Author.Tests.{leb-true, le-leb, eqb-true, eq-eqb, ne_eqb}
-use lib.Dec.{leb, eqb, lit<}
-use lib.ListN.{length, take, drop, length-map}
-use lib.Seq.{take-take}
-use Rattle.std.specs.Prelude.{if◌then◌else◌, Some, None}
+use Rattle.std.proofs.Common.{◌≡◌, refl, sym, ap, ◌∙◌, subst, Bool, true, false, ◌&&◌, ◌||◌, List, [], ◌∷◌, map, ℕ, zero, suc, ◌*◌, ◌≤◌, zero-le, arith, leb-true, le-leb, eqb-true, eq-eqb, ne_eqb, leb, eqb, lit<, length, take, drop, take-take, if◌then◌else◌, Some, None}
+use lib.ListN.{length-map}
 use Rattle.storage.specs.Lists.Base.{is_empty, all, ascending}
 use Rattle.storage.specs.Lists.Map.{keys}
 use Rattle.storage.proofs.ListsLaws.MapLaws.{cases, true≢, and_left, and_right, and_intro}

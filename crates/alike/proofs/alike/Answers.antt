@@ -1,8 +1,5 @@
 -- `alike`: both blocks whole, then their states.
-use Rattle.std.specs.Prelude.{Option}
-use mathlib.Core.Bool.{not}
-use mathlib.Core.Path.{sym, ap, ◌∙◌, subst}
-use lib.ListN.{length}
+use Rattle.std.proofs.Common.{Option, not, sym, ap, ◌∙◌, subst, length}
 use Rattle.whole.proofs.Tests.{no, yes}
 use Rattle.block.specs.View.{state_of}
 use Rattle.block.specs.declared.head.Head.{Head}

@@ -1,17 +1,6 @@
 -- The record passed entry by entry: what stands of the first i entries, what of that moves to the queue and what stays, and how many stand for each link.
 -- Assumes nothing.
-use mathlib.Core.Path.{◌≡◌, refl, sym, ap, ◌∙◌, subst}
-use mathlib.Core.Logic.{◌⊎◌, inl, inr}
-use mathlib.Core.Bool.{Bool, true, false}
-use mathlib.Core.List.{List, [], ◌∷◌, ◌++◌, append-nil}
-use Prim.Native.Nat.{ℕ, zero, suc, ◌+◌, ◌≤◌, ◌<◌, zero-le, suc-le-suc}
-use native.Mathlib.Nat.{add-zero, zero-add}
-use native.Mathlib.Omega.{arith}
-use borrow.Author.Tests.{eq-eqb, ne_eqb, lt-ltb, le-ltb}
-use lib.Dec.{ltb}
-use lib.ListN.{length, take, drop, get_or, set, replicate, length-set, take-append-drop}
-use lib.Seq.{get_or-set_same, get_or-set_other, length-take-le}
-use Rattle.std.specs.Prelude.{if◌then◌else◌}
+use Rattle.std.proofs.Common.{◌≡◌, refl, sym, ap, ◌∙◌, subst, ◌⊎◌, inl, inr, Bool, true, false, List, [], ◌∷◌, ◌++◌, append-nil, ℕ, zero, suc, ◌+◌, ◌≤◌, ◌<◌, zero-le, suc-le-suc, add-zero, zero-add, arith, eq-eqb, ne_eqb, lt-ltb, le-ltb, ltb, length, take, drop, get_or, set, replicate, length-set, take-append-drop, get_or-set_same, get_or-set_other, length-take-le, if◌then◌else◌}
 use Rattle.storage.specs.Lists.Base.{filter, count}
 use Rattle.storage.proofs.ListsLaws.Branches.{if-on}
 use Rattle.storage.proofs.ListsLaws.MapLaws.{cases}

@@ -1,11 +1,7 @@
 -- What an announcement leaves as it is, and what it keeps: limits, settings and links; that the state is consistent; and that tables grow.
 -- Assumes nothing.
-use mathlib.Core.Path.{◌≡◌, refl, sym, ap, ◌∙◌, subst}
-use mathlib.Core.Bool.{true, false}
-use mathlib.Core.List.{List, [], ◌∷◌, ◌++◌, map}
-use Prim.Native.Nat.{ℕ, ◌≤◌, ◌<◌}
-use native.Mathlib.Omega.{arith}
-use lib.ListN.{length, length-map}
+use Rattle.std.proofs.Common.{◌≡◌, refl, sym, ap, ◌∙◌, subst, true, false, List, [], ◌∷◌, ◌++◌, map, ℕ, ◌≤◌, ◌<◌, arith, length}
+use lib.ListN.{length-map}
 use Rattle.storage.specs.Lists.Base.{member, ascending}
 use Rattle.storage.specs.Lists.Map.{Map, keys, insert, insert_key}
 use Rattle.storage.proofs.ListsLaws.MapLaws.{cases, ascending-insert}

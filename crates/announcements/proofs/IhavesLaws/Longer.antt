@@ -1,13 +1,6 @@
 -- Tables that grow by an entry or not at all, and the limits of a state whose missing messages and timers grow.
 -- Assumes nothing.
-use mathlib.Core.Path.{◌≡◌}
-use mathlib.Core.Bool.{Bool, true, ◌&&◌}
-use mathlib.Core.List.{List, [], ◌∷◌}
-use Prim.Native.Nat.{ℕ, ◌≤◌, zero-le, suc-le-suc}
-use native.Mathlib.Omega.{arith}
-use borrow.Author.Tests.{leb-true, le-leb}
-use lib.Dec.{leb, ltb, eqb}
-use lib.ListN.{length}
+use Rattle.std.proofs.Common.{◌≡◌, Bool, true, ◌&&◌, List, [], ◌∷◌, ℕ, ◌≤◌, zero-le, suc-le-suc, arith, leb-true, le-leb, leb, ltb, eqb, length}
 use Rattle.storage.specs.Lists.Map.{Map, insert, insert_key}
 use Rattle.storage.proofs.ListsLaws.MapLaws.{cases, and_left, and_right, and_intro}
 use Rattle.protocol.specs.State.{State, Hop, with_missing, with_graft_timers}

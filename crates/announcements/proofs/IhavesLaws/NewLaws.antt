@@ -1,13 +1,6 @@
 -- The identifiers of a message that are not known, entry by entry.
 -- Assumes nothing.
-use mathlib.Core.Path.{◌≡◌, refl, sym, ap, ◌∙◌}
-use mathlib.Core.Bool.{Bool, true, false, ◌||◌}
-use mathlib.Core.List.{List, [], ◌∷◌, ◌++◌}
-use Prim.Native.Nat.{ℕ, ◌+◌, ◌≤◌, zero-le, suc-le-suc}
-use native.Mathlib.Omega.{arith}
-use lib.Dec.{eqb}
-use lib.ListN.{length, take, drop, length-append, take-append-drop}
-use Rattle.std.specs.Prelude.{if◌then◌else◌}
+use Rattle.std.proofs.Common.{◌≡◌, refl, sym, ap, ◌∙◌, Bool, true, false, ◌||◌, List, [], ◌∷◌, ◌++◌, ℕ, ◌+◌, ◌≤◌, zero-le, suc-le-suc, arith, eqb, length, take, drop, length-append, take-append-drop, if◌then◌else◌}
 use Rattle.storage.specs.Lists.Base.{any, member}
 use Rattle.storage.specs.Lists.Map.{has}
 use Rattle.storage.proofs.ListsLaws.MapLaws.{cases}

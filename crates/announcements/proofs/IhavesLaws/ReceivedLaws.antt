@@ -1,10 +1,6 @@
 -- An IHave whose identifiers are all received adds nothing, schedules nothing and changes nothing; and the pass that finds it out.
 -- Assumes nothing.
-use mathlib.Core.Path.{◌≡◌, refl, sym, ap, ◌∙◌}
-use mathlib.Core.Bool.{Bool, true, false, ◌||◌}
-use mathlib.Core.List.{List, [], ◌∷◌}
-use Prim.Native.Nat.{ℕ, ◌+◌, ◌≤◌}
-use lib.ListN.{length, drop, drop_of_length-le}
+use Rattle.std.proofs.Common.{◌≡◌, refl, sym, ap, ◌∙◌, Bool, true, false, ◌||◌, List, [], ◌∷◌, ℕ, ◌+◌, ◌≤◌, length, drop, drop_of_length-le}
 use Rattle.storage.specs.Lists.Base.{all, member}
 use Rattle.storage.proofs.ListsLaws.MapLaws.{all_head, all_tail}
 use Rattle.storage.proofs.ListsLaws.ListLaws.{all-imp}

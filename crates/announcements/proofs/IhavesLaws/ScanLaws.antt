@@ -1,11 +1,6 @@
 -- A pass over the first entries of an IHave that looks for an identifier.
 -- Assumes nothing.
-use mathlib.Core.Path.{◌≡◌, refl, sym, ap, ◌∙◌}
-use mathlib.Core.Bool.{true, false}
-use mathlib.Core.List.{List, [], ◌∷◌, ◌++◌}
-use Prim.Native.Nat.{ℕ, ◌+◌, ◌≤◌}
-use lib.ListN.{length, take, drop, take-append-drop}
-use lib.Seq.{take_all}
+use Rattle.std.proofs.Common.{◌≡◌, refl, sym, ap, ◌∙◌, true, false, List, [], ◌∷◌, ◌++◌, ℕ, ◌+◌, ◌≤◌, length, take, drop, take-append-drop, take_all}
 use Rattle.storage.specs.Lists.Base.{any}
 use Rattle.storage.proofs.ListsLaws.Lists.{any_left, any-right, any_none, any-one}
 use Rattle.postcard.specs.Message.{Ihave}

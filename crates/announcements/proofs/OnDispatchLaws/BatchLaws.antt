@@ -1,15 +1,11 @@
 -- The links one after the other: the record after the first i, and at the end that of the whole dispatch.
 -- Assumes nothing.
-use Rattle.std.proofs.Common.{◌≡◌, ℕ, zero, suc, ◌+◌, ◌*◌, ◌≤◌, ◌<◌, length, sym, ◌∙◌, ap, refl, arith, Bool, true, false, List, [], ◌∷◌, ◌++◌, get_or, take, drop, map, min, add-one}
-use Rattle.std.specs.Prelude.{All, ltb, Option, Some, None}
+use Rattle.std.proofs.Common.{◌≡◌, ℕ, zero, suc, ◌+◌, ◌*◌, ◌≤◌, ◌<◌, length, sym, ◌∙◌, ap, refl, arith, Bool, true, false, List, [], ◌∷◌, ◌++◌, get_or, take, drop, map, min, add-one, All, ltb, Option, Some, None, leb, leb-true, leb-false, ltb-false, lt-ltb, le-mul_of_pos_right}
 use Rattle.std.proofs.lemmas.List.{length-map, map-append, drop_all}
 use Rattle.std.proofs.lemmas.List.Elements.{All-weaker}
 use Rattle.std.proofs.Math.Seq.{take-suc, take_all}
 use Rattle.std.specs.List.{drop-map}
-use lib.Dec.{leb}
 use lib.Seq.{drop-nil}
-use borrow.Author.Tests.{leb-true, leb-false, ltb-false, lt-ltb}
-use native.Mathlib.Nat.{le-mul_of_pos_right}
 use Rattle.storage.specs.Lists.Map.{Entry, keys}
 use Rattle.storage.proofs.ListsLaws.MapLaws.{cases}
 use Rattle.time_cache.proofs.Orders.{up_of}

@@ -1,10 +1,7 @@
 -- What was found in the message cache, one identifier after the other.
 -- Assumes nothing.
-use Rattle.std.proofs.Common.{◌≡◌, ℕ, ◌+◌, ◌<◌, length, get_or, set, replicate, sym, ap, ◌∙◌, arith, true, List}
-use mathlib.Core.Path.{subst}
-use lib.Dec.{eqb}
-use lib.Seq.{get_or-set_same, get_or-set_other}
-use borrow.Author.Tests.{eqb-true, eqb-false}
+use Rattle.std.proofs.Common.{◌≡◌, ℕ, ◌+◌, ◌<◌, length, get_or, set, replicate, sym, ap, ◌∙◌, arith, true, List, subst, eqb, get_or-set_same, get_or-set_other, eqb-true}
+use borrow.Author.Tests.{eqb-false}
 use Rattle.storage.proofs.ListsLaws.MapLaws.{cases}
 use Rattle.protocol.specs.State.{State}
 use Rattle.steps.specs.Queue.{note_at}

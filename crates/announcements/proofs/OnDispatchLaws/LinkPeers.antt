@@ -1,12 +1,7 @@
 -- The peers for whom something is queued are among the links: noting link by link is noting peer by peer.
 -- Assumes nothing.
-use mathlib.Core.Path.{◌≡◌, refl, sym, ap, ◌∙◌}
-use mathlib.Core.Bool.{Bool, true, false, ◌||◌}
-use mathlib.Core.List.{List, [], ◌∷◌, ◌++◌, map}
-use Prim.Native.Nat.{ℕ, ◌<◌}
-use native.Mathlib.Omega.{arith}
-use borrow.Author.Tests.{ltb-true, eqb-true, eqb-false, eq-eqb, ne_eqb}
-use lib.Dec.{ltb, eqb}
+use Rattle.std.proofs.Common.{◌≡◌, refl, sym, ap, ◌∙◌, Bool, true, false, ◌||◌, List, [], ◌∷◌, ◌++◌, map, ℕ, ◌<◌, arith, ltb-true, eqb-true, eq-eqb, ne_eqb, ltb, eqb}
+use borrow.Author.Tests.{eqb-false}
 use Rattle.storage.specs.Lists.Base.{filter, all, member, ascending}
 use Rattle.storage.specs.Lists.Map.{keys, insert_key}
 use Rattle.storage.proofs.ListsLaws.MapLaws.{cases, true≢, and_left, and_right, all_head, all_tail}

@@ -1,13 +1,11 @@
 -- The rows of a link, which stand together in a grouped table.
 -- Assumes nothing.
-use Rattle.std.proofs.Common.{◌≡◌, ℕ, zero, suc, ◌<◌, ◌≤◌, length, sym, ◌∙◌, ap, arith, true, false, List, [], ◌∷◌, ◌++◌, get_or, take, add-one, ◌⊎◌, inl, inr}
-use Rattle.std.specs.Prelude.{All}
+use Rattle.std.proofs.Common.{◌≡◌, ℕ, zero, suc, ◌<◌, ◌≤◌, length, sym, ◌∙◌, ap, arith, true, false, List, [], ◌∷◌, ◌++◌, get_or, take, add-one, ◌⊎◌, inl, inr, All, eq-eqb, ne_eqb}
 use Rattle.std.proofs.lemmas.List.{length-map, map-append}
 use Rattle.std.proofs.lemmas.List.Elements.{All-nil, All-push, All-weaker, All-same}
 use Rattle.std.proofs.lemmas.Bool.{cases_order}
 use Rattle.std.proofs.Math.Seq.{take_all}
 use lib.ListN.{get_or-map}
-use borrow.Author.Tests.{eq-eqb, ne_eqb}
 use Rattle.storage.specs.Lists.Base.{ascending}
 use Rattle.storage.specs.Lists.Map.{Entry, keys}
 use Rattle.time_cache.proofs.Orders.{up_of}

@@ -1,13 +1,9 @@
 -- What is queued for a peer, entry by entry, and the record that grows by it.
 -- Assumes nothing.
-use mathlib.Core.Path.{◌≡◌, refl, ap, ◌∙◌}
-use mathlib.Core.Bool.{Bool, true, false}
-use mathlib.Core.List.{List, [], ◌∷◌, ◌++◌, map, map-append, append-nil}
-use Prim.Native.Nat.{ℕ, ◌+◌, ◌≤◌, ◌<◌}
-use native.Mathlib.Omega.{arith}
-use lib.ListN.{length, take, drop, get_or, length-map}
+use Rattle.std.proofs.Common.{◌≡◌, refl, ap, ◌∙◌, Bool, true, false, List, [], ◌∷◌, ◌++◌, map, append-nil, ℕ, ◌+◌, ◌≤◌, ◌<◌, arith, length, take, drop, get_or, if◌then◌else◌}
+use mathlib.Core.List.{map-append}
+use lib.ListN.{length-map}
 use lib.Seq.{drop-append-le}
-use Rattle.std.specs.Prelude.{if◌then◌else◌}
 use Rattle.storage.specs.Lists.Base.{filter}
 use Rattle.storage.proofs.ListsLaws.ListLaws.{length-filter, count-length}
 use Rattle.storage.proofs.ListsLaws.Firsts.{filter_more}

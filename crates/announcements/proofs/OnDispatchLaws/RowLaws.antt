@@ -1,14 +1,10 @@
 -- Rows of the queue or of the record, one after the other.
 -- Assumes nothing.
-use Rattle.std.proofs.Common.{◌≡◌, ℕ, ◌+◌, ◌-◌, length-drop, ◌<◌, ◌≤◌, length, length-append, sym, ◌∙◌, ap, refl, arith, Bool, true, false, List, [], ◌∷◌, ◌++◌, get_or, take, drop, add-one, append-nil}
+use Rattle.std.proofs.Common.{◌≡◌, ℕ, ◌+◌, ◌-◌, length-drop, ◌<◌, ◌≤◌, length, length-append, sym, ◌∙◌, ap, refl, arith, Bool, true, false, List, [], ◌∷◌, ◌++◌, get_or, take, drop, add-one, append-nil, ltb, min, leb-true, leb-false, leb, drop-cons}
 use Rattle.std.proofs.lemmas.List.{take-append-drop, map-append, drop_all, nil_from_length, take-map}
 use Rattle.std.proofs.lemmas.List.Elements.{All-same, All-take, All-drop}
 use Rattle.std.specs.List.{drop-map}
-use Rattle.std.specs.Prelude.{ltb, min}
-use borrow.Author.Tests.{leb-true, leb-false}
-use lib.Dec.{leb}
 use Rattle.std.proofs.Math.Seq.{take-suc, take_all, take-append_seam, drop-append_seam}
-use lib.Seq.{drop-cons}
 use Rattle.storage.specs.Lists.Base.{any, concat_map}
 use Rattle.storage.proofs.ListsLaws.Lists.{any_append}
 use Rattle.postcard.specs.Message.{Ihave, IHave, ihave_bytes, message_bytes}

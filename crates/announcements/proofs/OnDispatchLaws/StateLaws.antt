@@ -1,9 +1,7 @@
 -- The state after a dispatch, and the numbers of its entries.
 -- Assumes nothing.
-use Rattle.std.proofs.Common.{◌≡◌, ℕ, ◌≤◌, length, sym, ◌∙◌, ap, refl, Bool, true, false, List, [], ◌++◌, take}
-use lib.Dec.{leb}
+use Rattle.std.proofs.Common.{◌≡◌, ℕ, ◌≤◌, length, sym, ◌∙◌, ap, refl, Bool, true, false, List, [], ◌++◌, take, leb, leb-true}
 use Rattle.std.proofs.Math.Seq.{take_all}
-use borrow.Author.Tests.{leb-true}
 use Rattle.storage.proofs.ListsLaws.MapLaws.{and_left, and_right}
 use Rattle.storage.specs.Lists.Map.{keys}
 use Rattle.protocol.specs.Links.{Links}

@@ -3,7 +3,7 @@ ghost use Rattle.std.specs.Prelude.{◌≡◌, ◌<◌, ◌≤◌, length, All};
 ghost use Rattle.std.proofs.Props.{props};
 ghost use Rattle.storage.specs.Lists.Base.{concat_map};
 ghost use Rattle.postcard.specs.Message.{IHave, ihave_bytes, message_bytes};
-ghost use Rattle.wire.specs.Encode.Intake.{after, RoomFor};
+ghost use Rattle.wire.specs.Encode.Intake.{after};
 ghost use Rattle.steps.specs.Views.{shown};
 ghost use Rattle.announcements.specs.QueuedRows.{ihaves_at, RowsOf};
 
@@ -22,7 +22,6 @@ pub struct QueuedIhave<'a> {
 
 // Its entries, one by one.
 fn encode_entries<S: Sink>(ihave: &QueuedIhave, out: &mut S)
-    requires { RoomFor (concat_map ihave_bytes (ihaves_at (shown ihave.now.view).queue ihave.now.rows.now)) (S.intake out.old) }
     ensures { S.intake out.new ≡ after (concat_map ihave_bytes (ihaves_at (shown ihave.now.view).queue ihave.now.rows.now)) (S.intake out.old) }
 {
     for row in ihave.rows {

@@ -2,7 +2,7 @@
 ghost use Rattle.std.specs.Prelude.{◌≡◌, ◌+◌, ◌≤◌, ◌<◌, true, length, ◌++◌};
 ghost use Rattle.decide.specs.Sizes.{sizes_of};
 ghost use Rattle.decide.specs.Settled.{settled};
-ghost use Rattle.wire.specs.Encode.Intake.{after, RoomFor};
+ghost use Rattle.wire.specs.Encode.Intake.{after};
 ghost use Rattle.steps.specs.Panels.{state, Goes, AtRest, Allowed};
 ghost use Rattle.steps.specs.Shared.{sizes_value};
 ghost use Rattle.steps.specs.Views.{shown};
@@ -50,7 +50,6 @@ pub fn dispatch_sizes(view: &View, call: &Call) -> Sizes
 // Its actions: the IHaves, and the record's timer behind the first that is handed back with a cached identifier.
 pub fn dispatch_actions<S: Sink>(view: &View, call: &Call, out: &mut S)
     requires rest { AtRest (shown view.now) }
-    requires room { RoomFor (dispatch_bytes call.now (settled call.now.instant.0 (shown view.now))) (S.intake out.old) }
     ensures { S.intake out.new ≡ after (dispatch_bytes call.now (settled call.now.instant.0 (shown view.now))) (S.intake out.old) }
 {
     if view.queue_len() > 0 {

@@ -7,7 +7,7 @@ ghost use Rattle.protocol.specs.Ticks.{per_message};
 ghost use Rattle.decide.specs.Settled.{settled};
 ghost use Rattle.decide.specs.Pieces.{peer_pieces, piece_actions};
 ghost use Rattle.block.specs.LinkSteps.{peer_at};
-ghost use Rattle.wire.specs.Encode.Intake.{after, RoomFor};
+ghost use Rattle.wire.specs.Encode.Intake.{after};
 ghost use Rattle.steps.specs.Calls.{rooms_of};
 ghost use Rattle.steps.specs.Panels.{AtRest};
 ghost use Rattle.steps.specs.Views.{shown};
@@ -60,7 +60,6 @@ fn is_quiet(taken: bool, flag: bool) -> bool
 // `send_ihave`: an IHave, and the record's timer behind it where it is handed back and an identifier of it is cached, unless flagged. It tells the flag then.
 fn send_ihave<S: Sink>(out: &mut S, instant: Millis, send: &Send<QueuedIhave>, flag: bool) -> bool
     requires rest { AtRest (shown send.now.message.view) }
-    requires room { RoomFor (concat_map action_bytes (one_send (held_then instant.0 (shown send.now.message.view)) send.now.taken flag send.now.peer (ihaves_at (shown send.now.message.view).queue send.now.message.rows.now))) (S.intake out.old) }
     ensures sent { S.intake out.new ≡ after (concat_map action_bytes (one_send (held_then instant.0 (shown send.now.message.view)) send.now.taken flag send.now.peer (ihaves_at (shown send.now.message.view).queue send.now.message.rows.now))) (S.intake out.old) }
     ensures flags { result ≡ flag_after (held_then instant.0 (shown send.now.message.view)) send.now.taken flag (ihaves_at (shown send.now.message.view).queue send.now.message.rows.now) }
 {
@@ -84,7 +83,6 @@ fn send_link<S: Sink>(
     requires rest { AtRest (shown view.now) }
     requires link { queued.now.link < length (shown view.now).links }
     requires mine { Mine (shown view.now) (shown view.now).queue queued.now.link queued.now.rows.now }
-    requires room { RoomFor (concat_map action_bytes (piece_actions (held_then call.now.instant.0 (shown view.now)) (rooms_of call.now (shown view.now)) before (peer_pieces (per_message (shown view.now).settings.max_message_size) (shown view.now).queue (peer_at (shown view.now) queued.now.link)))) (S.intake out.old) }
     ensures sent { S.intake out.new ≡ after (concat_map action_bytes (piece_actions (held_then call.now.instant.0 (shown view.now)) (rooms_of call.now (shown view.now)) before (peer_pieces (per_message (shown view.now).settings.max_message_size) (shown view.now).queue (peer_at (shown view.now) queued.now.link)))) (S.intake out.old) }
     ensures flags { result ≡ flag_after_all (held_then call.now.instant.0 (shown view.now)) (rooms_of call.now (shown view.now)) before (peer_pieces (per_message (shown view.now).settings.max_message_size) (shown view.now).queue (peer_at (shown view.now) queued.now.link)) }
 {
@@ -114,7 +112,6 @@ fn send_link<S: Sink>(
 fn send_all<S: Sink>(view: &View, call: &Call, out: &mut S, rows: &mut [u16])
     requires rest { AtRest (shown view.now) }
     requires long { length (shown view.now).queue ≤ length rows.old }
-    requires room { RoomFor (dispatch_bytes call.now (settled call.now.instant.0 (shown view.now))) (S.intake out.old) }
     ensures { S.intake out.new ≡ after (dispatch_bytes call.now (settled call.now.instant.0 (shown view.now))) (S.intake out.old) }
 {
     let starts = group(view.queue_links(), rows);
@@ -133,7 +130,6 @@ fn send_all<S: Sink>(view: &View, call: &Call, out: &mut S, rows: &mut [u16])
 #[inline(never)]
 pub fn send_queued<S: Sink>(view: &View, call: &Call, out: &mut S)
     requires rest { AtRest (shown view.now) }
-    requires room { RoomFor (dispatch_bytes call.now (settled call.now.instant.0 (shown view.now))) (S.intake out.old) }
     ensures { S.intake out.new ≡ after (dispatch_bytes call.now (settled call.now.instant.0 (shown view.now))) (S.intake out.old) }
 {
     if view.queue_len() <= FEW_ROWS {

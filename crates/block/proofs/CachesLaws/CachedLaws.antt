@@ -1,11 +1,6 @@
 -- The message cache: its tables as the view reads them.
 -- Assumes nothing.
-use mathlib.Core.Path.{◌≡◌, sym, ap, ◌∙◌, subst}
-use mathlib.Core.List.{List}
-use Prim.Native.Nat.{ℕ, ◌≤◌}
-use native.Mathlib.Omega.{arith}
-use lib.Dec.{lit<}
-use lib.ListN.{length}
+use Rattle.std.proofs.Common.{◌≡◌, sym, ap, ◌∙◌, subst, List, ℕ, ◌≤◌, arith, lit<, length}
 use Rattle.time_cache.specs.TimeCache.{Cache, expired_keys}
 use Rattle.time_cache.specs.Tables.{cache_at, Lies, FitsOneMore, Sound as SoundCache, values_as}
 use Rattle.time_cache.specs.declared.cache.TimeBoundCache.{TimeBoundCache}

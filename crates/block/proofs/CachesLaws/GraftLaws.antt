@@ -1,13 +1,6 @@
 -- One grafted message: its bytes as the view reads them, and what a write of its `first` or `kept` does to the state.
 -- Assumes nothing.
-use Rattle.std.specs.Prelude.{None}
-use mathlib.Core.Path.{◌≡◌, sym, ap, ◌∙◌, subst}
-use mathlib.Core.List.{List, []}
-use Prim.Native.Nat.{ℕ, ◌+◌, ◌*◌, ◌≤◌, ◌<◌}
-use native.Mathlib.Omega.{arith}
-use lib.Dec.{lit<}
-use lib.ListN.{length, take, drop, get_or, length-drop}
-use lib.Seq.{take_all, get_or-drop, get_or-take, length-take-le}
+use Rattle.std.proofs.Common.{None, ◌≡◌, sym, ap, ◌∙◌, subst, List, [], ℕ, ◌+◌, ◌*◌, ◌≤◌, ◌<◌, arith, lit<, length, take, drop, get_or, length-drop, take_all, get_or-drop, get_or-take, length-take-le}
 use Rattle.storage.specs.Lists.Map.{Map, Entry, entry}
 use Rattle.storage.specs.Rows.Part.{part}
 use Rattle.storage.specs.Rows.Digits.{le_nat}

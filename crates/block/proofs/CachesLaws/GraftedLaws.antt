@@ -1,14 +1,6 @@
 -- The grafted messages: their tables, and what `expire_until` does to the state.
 -- Assumes nothing.
-use mathlib.Core.Path.{◌≡◌, sym, ap, ◌∙◌, subst}
-use mathlib.Core.List.{List, [], ◌∷◌, map}
-use mathlib.Core.Bool.{Bool, true, false}
-use Prim.Native.Nat.{ℕ, zero, suc, ◌+◌, ◌-◌, ◌*◌, ◌≤◌, ◌<◌}
-use native.Mathlib.Omega.{arith}
-use lib.Dec.{lit<}
-use lib.ListN.{length, drop, set}
-use lib.Seq.{drop-drop}
-use Rattle.std.specs.Prelude.{if◌then◌else◌}
+use Rattle.std.proofs.Common.{◌≡◌, sym, ap, ◌∙◌, subst, List, [], ◌∷◌, map, Bool, true, false, ℕ, zero, suc, ◌+◌, ◌-◌, ◌*◌, ◌≤◌, ◌<◌, arith, lit<, length, drop, set, drop-drop, if◌then◌else◌}
 use Rattle.storage.specs.Lists.Base.{filter}
 use Rattle.storage.specs.Rows.Part.{part}
 use Rattle.storage.specs.Refs.Refs.{Ref, ref, ref_of, refs, places, Below, names, lowered, left}

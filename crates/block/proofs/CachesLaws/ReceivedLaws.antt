@@ -1,11 +1,6 @@
 -- The received messages: their tables, and what an insert and `expire_until` do to the state.
 -- Assumes nothing.
-use mathlib.Core.Path.{◌≡◌, sym, ap, ◌∙◌, subst}
-use mathlib.Core.List.{List}
-use Prim.Native.Nat.{ℕ, ◌+◌, ◌*◌, ◌≤◌}
-use native.Mathlib.Omega.{arith}
-use lib.Dec.{lit<}
-use lib.ListN.{length, set}
+use Rattle.std.proofs.Common.{◌≡◌, sym, ap, ◌∙◌, subst, List, ℕ, ◌+◌, ◌*◌, ◌≤◌, arith, lit<, length, set}
 use Rattle.storage.specs.Refs.Refs.{Ref, places, Below}
 use Rattle.time_cache.specs.TimeCache.{Cache, put as put_in, expire_until}
 use Rattle.time_cache.specs.Tables.{cache_at, Lies, FitsOneMore, Sound as SoundCache, OnlyTwo, values_as}

@@ -1,11 +1,6 @@
 -- How long each kind of action is at most, from the length of what it holds. A number takes at most ten bytes.
 -- Assumes nothing.
-use Rattle.std.specs.Prelude.{Option, Some, None}
-use Prim.Native.Nat.{ℕ, ◌+◌, ◌*◌, ◌≤◌}
-use mathlib.Core.Bool.{Bool}
-use mathlib.Core.List.{List, [], ◌∷◌}
-use native.Mathlib.Omega.{arith}
-use lib.ListN.{length}
+use Rattle.std.proofs.Common.{Option, Some, None, ℕ, ◌+◌, ◌*◌, ◌≤◌, Bool, List, [], ◌∷◌, arith, length}
 use Rattle.storage.specs.Lists.Base.{sum}
 use Rattle.postcard.specs.Number.{number_length}
 use Rattle.postcard.specs.Message.{Delivery, Swarm, Neighbors, Ihave, Gossip, Prune, Graft, IHave, Timer, SendGraft, DispatchLazyPush, EvictCache, AnnounceDropped, Sent, Scheduled, Emitted}

@@ -1,13 +1,7 @@
 -- The actions of a dispatch: for each peer at most as many IHave messages, and as many announcements in them, as the queue is long.
 -- Assumes nothing.
-use Prim.Native.Nat.{ℕ, zero, suc, ◌+◌, ◌*◌, ◌≤◌}
-use mathlib.Core.Path.{◌≡◌, refl, ap}
-use mathlib.Core.Bool.{Bool, true, not, ◌||◌}
-use mathlib.Core.List.{List, [], ◌∷◌}
-use native.Mathlib.Omega.{arith}
-use lib.Dec.{eqb, ltb}
-use lib.ListN.{length, take, drop, length-append, length-map, take-append-drop}
-use Rattle.std.specs.Prelude.{if◌then◌else◌}
+use Rattle.std.proofs.Common.{ℕ, zero, suc, ◌+◌, ◌*◌, ◌≤◌, ◌≡◌, refl, ap, Bool, true, not, ◌||◌, List, [], ◌∷◌, arith, eqb, ltb, length, take, drop, length-append, take-append-drop, if◌then◌else◌}
+use lib.ListN.{length-map}
 use Rattle.storage.specs.Lists.Base.{filter, any, sum}
 use Rattle.storage.specs.Lists.Map.{insert_key}
 use Rattle.storage.proofs.ListsLaws.MapLaws.{cases}

@@ -1,13 +1,7 @@
 -- Actions whose bytes are at most n in all, and how such lists are put together.
 -- Assumes nothing.
-use Prim.Native.Nat.{ℕ, ◌+◌, ◌*◌, ◌≤◌}
-use mathlib.Core.Path.{◌≡◌}
-use mathlib.Core.Bool.{Bool, true, false}
-use mathlib.Core.List.{List, [], ◌∷◌, ◌++◌, map}
-use native.Mathlib.Omega.{arith}
-use lib.ListN.{length}
+use Rattle.std.proofs.Common.{ℕ, ◌+◌, ◌*◌, ◌≤◌, ◌≡◌, Bool, true, false, List, [], ◌∷◌, ◌++◌, map, arith, length, if◌then◌else◌}
 use Rattle.storage.proofs.RowsLaws.Rows.{mul-more}
-use Rattle.std.specs.Prelude.{if◌then◌else◌}
 use Rattle.storage.specs.Lists.Base.{filter, sum}
 use Rattle.storage.proofs.ListsLaws.MapLaws.{cases}
 use Rattle.postcard.specs.Message.{Action}

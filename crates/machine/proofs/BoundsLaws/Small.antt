@@ -1,13 +1,6 @@
 -- What bounds the actions of a step: the links, the queue and the contents of the state are within the specification's ceilings, also once a first event has evicted.
 -- Assumes nothing.
-use Prim.Native.Nat.{ℕ, ◌≤◌}
-use mathlib.Core.Path.{◌≡◌}
-use mathlib.Core.Bool.{Bool, true, false, not, ◌&&◌}
-use mathlib.Core.List.{List, [], ◌∷◌}
-use native.Mathlib.Omega.{arith}
-use lib.Dec.{eqb, ltb}
-use lib.ListN.{length}
-use Rattle.std.specs.Prelude.{if◌then◌else◌}
+use Rattle.std.proofs.Common.{ℕ, ◌≤◌, ◌≡◌, Bool, true, false, not, ◌&&◌, List, [], ◌∷◌, arith, eqb, ltb, length, if◌then◌else◌}
 use Rattle.storage.specs.Lists.Base.{member, sum}
 use Rattle.storage.specs.Lists.Map.{Map, lookup}
 use Rattle.storage.proofs.ListsLaws.MapLaws.{cases}

@@ -1,9 +1,6 @@
 -- The output of any step can be told: its bytes, with those of a first event's work, are at most 2^40.
 -- Assumes nothing.
-use Prim.Native.Nat.{ℕ, ◌+◌, ◌^◌, ◌≤◌}
-use mathlib.Core.List.{List, ◌++◌}
-use native.Mathlib.Omega.{arith}
-use lib.ListN.{length}
+use Rattle.std.proofs.Common.{ℕ, ◌+◌, ◌^◌, ◌≤◌, List, ◌++◌, arith, length}
 use Rattle.storage.specs.Lists.Base.{concat_map}
 use Rattle.storage.specs.Rows.Ident.{id_of}
 use Rattle.postcard.specs.Message.{Neighbors, action_bytes}

@@ -1,19 +1,11 @@
 -- Each event's step: once the tests are answered, the definitions of the whole call are those of the step.
 -- Assumes nothing.
-use Prim.Native.Nat.{ℕ, ◌≤◌, ◌<◌}
-use mathlib.Core.Path.{◌≡◌, refl, sym, ap, ◌∙◌, subst}
-use mathlib.Core.Bool.{Bool, true, false, not, ◌&&◌}
-use mathlib.Core.List.{List, [], ◌∷◌, ◌++◌}
-use native.Mathlib.Omega.{arith}
-use borrow.Author.Tests.{leb-true, leb-false, lt-ltb, le-ltb}
-use lib.Dec.{eqb, ltb, leb}
-use lib.ListN.{length, get_or, length-append}
+use Rattle.std.proofs.Common.{ℕ, ◌≤◌, ◌<◌, ◌≡◌, refl, sym, ap, ◌∙◌, subst, Bool, true, false, not, ◌&&◌, List, [], ◌∷◌, ◌++◌, arith, leb-true, leb-false, lt-ltb, le-ltb, eqb, ltb, leb, length, get_or, length-append, Option, Some}
 use Rattle.storage.specs.Lists.Base.{concat_map, all}
 use Rattle.storage.specs.Lists.Map.{keys}
 use Rattle.storage.proofs.ListsLaws.Branches.{if-on, if-both, if-same}
 use Rattle.storage.proofs.ListsLaws.MapLaws.{and_right}
 use Rattle.storage.specs.Rows.Ident.{id_of}
-use Rattle.std.specs.Prelude.{Option, Some}
 use Rattle.std.specs.Borrow.{Bor}
 use Rattle.storage.specs.declared.rows.id.Id.{Id}
 use Rattle.blake3.specs.Blake3.{identifier}

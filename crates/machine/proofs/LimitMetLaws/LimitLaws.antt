@@ -1,12 +1,6 @@
 -- What the code computes is what the definitions say: question by question (`limit-5`, `limit-6`, `limit-fault`, `limit-event`), and with the link room in numbers (`core-limit`).
-use Prim.Native.Nat.{ℕ, ◌^◌, ◌≤◌, ◌<◌, zero-le}
-use mathlib.Core.Path.{◌≡◌, refl, sym, ap, subst, ◌∙◌}
-use mathlib.Core.Bool.{Bool, true, false, not, ◌&&◌}
-use mathlib.Core.List.{List}
-use lib.Dec.{leb}
-use lib.ListN.{length, drop}
-use borrow.Author.Tests.{le-leb, lt-leb, leb-true, leb-false}
-use Rattle.std.specs.Prelude.{if◌then◌else◌, Option, Some, None}
+use Rattle.std.proofs.Common.{ℕ, ◌^◌, ◌≤◌, ◌<◌, zero-le, ◌≡◌, refl, sym, ap, subst, ◌∙◌, Bool, true, false, not, ◌&&◌, List, leb, length, drop, le-leb, leb-true, leb-false, if◌then◌else◌, Option, Some, None}
+use borrow.Author.Tests.{lt-leb}
 use Rattle.storage.proofs.ListsLaws.Branches.{if-on, if-both, if-same}
 use Rattle.storage.proofs.ListsLaws.MapLaws.{cases}
 use Rattle.blake3.specs.Blake3.{identifier}

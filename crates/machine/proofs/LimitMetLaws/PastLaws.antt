@@ -1,11 +1,5 @@
 -- The first limit that a state is past: a function of the twelve numbers that question 13 looks at (`past-sizes`), and none exactly if the state is within every limit (`past-none`, `none-past`).
-use Prim.Native.Nat.{ℕ, suc, ◌*◌}
-use native.Mathlib.Omega.{arith}
-use mathlib.Core.Path.{◌≡◌, refl, sym, ◌∙◌}
-use mathlib.Core.Bool.{Bool, true, false, not, ◌&&◌}
-use lib.Dec.{leb}
-use lib.ListN.{length}
-use Rattle.std.specs.Prelude.{if◌then◌else◌}
+use Rattle.std.proofs.Common.{ℕ, suc, ◌*◌, arith, ◌≡◌, refl, sym, ◌∙◌, Bool, true, false, not, ◌&&◌, leb, length, if◌then◌else◌}
 use Rattle.storage.proofs.ListsLaws.Branches.{if-both}
 use Rattle.storage.proofs.ListsLaws.MapLaws.{and_left, and_right, and_intro}
 use Rattle.protocol.specs.State.{State, Limits}

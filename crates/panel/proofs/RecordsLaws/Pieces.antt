@@ -1,14 +1,8 @@
 -- Reading in pieces: what is read stays so whatever bytes follow, and what a record that is cut still lacks.
 -- Assumes nothing.
-use Prim.Native.Nat.{ℕ, zero, suc, ◌+◌, ◌*◌, ◌-◌, ◌≤◌, ◌<◌}
-use mathlib.Core.Path.{◌≡◌, refl, sym, ap, subst, ◌∙◌}
-use mathlib.Core.Bool.{Bool, true, false, not, ◌&&◌}
-use mathlib.Core.List.{List, [], ◌∷◌, ◌++◌, append_assoc}
-use native.Mathlib.Omega.{arith}
-use lib.Dec.{leb, ltb, eqb}
-use lib.ListN.{length, take, drop, get_or, length-append, length-drop}
+use Rattle.std.proofs.Common.{ℕ, zero, suc, ◌+◌, ◌*◌, ◌-◌, ◌≤◌, ◌<◌, ◌≡◌, refl, sym, ap, subst, ◌∙◌, Bool, true, false, not, ◌&&◌, List, [], ◌∷◌, ◌++◌, append_assoc, arith, leb, ltb, eqb, length, take, drop, get_or, length-append, length-drop, ltb-true, ltb-false, leb-true, leb-false, eqb-true, le-ltb, le-leb}
 use lib.Seq.{take-append-le, drop-append-le, drop-append_seam}
-use borrow.Author.Tests.{ltb-true, ltb-false, leb-true, leb-false, eqb-true, eqb-false, le-ltb, le-leb}
+use borrow.Author.Tests.{eqb-false}
 use Rattle.storage.specs.Lists.Base.{all}
 use Rattle.storage.proofs.ListsLaws.MapLaws.{cases, true≢, and_left, and_right}
 use Rattle.postcard.specs.Number.{Read, got, fault, ◌then◌, groups, number_bytes, read_bytes, last_group, read_groups, read_number}

@@ -1,12 +1,7 @@
 -- A reply: there is room for it, and its pieces one after the other.
 -- Assumes nothing.
-use Prim.Native.Nat.{ℕ, ◌+◌, ◌≤◌}
-use mathlib.Core.Path.{◌≡◌, refl}
-use mathlib.Core.Bool.{true, false}
-use mathlib.Core.List.{List, [], ◌∷◌}
-use native.Mathlib.Omega.{arith}
-use lib.ListN.{length, take, drop, length-append}
-use lib.Seq.{take-append_seam, length-take-le}
+use Rattle.std.proofs.Common.{ℕ, ◌+◌, ◌≤◌, ◌≡◌, refl, true, false, List, [], ◌∷◌, arith, length, take, drop, length-append, length-take-le}
+use lib.Seq.{take-append_seam}
 use Rattle.storage.specs.Rows.Part.{put}
 use Rattle.postcard.specs.Number.{number_bytes, number_length}
 use Rattle.postcard.specs.Output.{FitsAt, Wrote}

@@ -1,10 +1,6 @@
 -- The definition's output, record by record: what `panelrun` writes for the first record, then for the rest of the input.
 -- Assumes nothing.
-use Prim.Native.Nat.{ℕ, zero, suc, ◌≤◌, ◌<◌}
-use mathlib.Core.Path.{◌≡◌, refl, ap}
-use mathlib.Core.List.{List, [], ◌∷◌, ◌++◌}
-use native.Mathlib.Omega.{arith}
-use lib.ListN.{length}
+use Rattle.std.proofs.Common.{ℕ, zero, suc, ◌≤◌, ◌<◌, ◌≡◌, refl, ap, List, [], ◌∷◌, ◌++◌, arith, length}
 use Rattle.postcard.specs.Number.{Read, got, fault}
 use Rattle.protocol.specs.State.{State, Counts, fresh, zero_counts}
 use Rattle.protocol.specs.Answer.{Call, ask_whole}

@@ -1,9 +1,6 @@
 -- The notes of what a push got back, link by link, and the loop that adds them.
 -- Assumes nothing.
-use mathlib.Core.Path.{◌≡◌, refl, sym}
-use mathlib.Core.Bool.{Bool}
-use mathlib.Core.List.{List, [], ◌∷◌}
-use Prim.Native.Nat.{ℕ}
+use Rattle.std.proofs.Common.{◌≡◌, refl, sym, Bool, List, [], ◌∷◌, ℕ}
 use Rattle.storage.specs.Lists.Base.{is_empty}
 use Rattle.postcard.specs.Message.{Ihave}
 use Rattle.protocol.specs.State.{State, Note, with_announce_scheduled}

@@ -1,18 +1,8 @@
 -- One pass over the record for all links: a number for each.
 -- Assumes nothing.
-use mathlib.Core.Path.{◌≡◌, refl, sym, ap, ◌∙◌, subst}
-use mathlib.Core.Logic.{◌⊎◌, inl, inr}
-use mathlib.Core.Bool.{Bool, true, false, not, ◌&&◌, ◌||◌}
-use mathlib.Core.List.{List, [], ◌∷◌, ◌++◌}
-use Prim.Native.Nat.{ℕ, suc, ◌+◌, ◌≤◌, ◌<◌}
-use native.Mathlib.Omega.{arith}
-use native.Mathlib.Numerals.{add-one}
-use borrow.Author.Tests.{leb-true, leb-false, le-leb, lt-leb, lt-ltb, le-ltb, ne_eqb}
-use lib.Dec.{eqb, leb, ltb}
-use lib.ListN.{length, take, get_or, set}
-use lib.Seq.{take-suc, take_all, get_or-set_same, get_or-set_other}
+use Rattle.std.proofs.Common.{◌≡◌, refl, sym, ap, ◌∙◌, subst, ◌⊎◌, inl, inr, Bool, true, false, not, ◌&&◌, ◌||◌, List, [], ◌∷◌, ◌++◌, ℕ, suc, ◌+◌, ◌≤◌, ◌<◌, arith, add-one, leb-true, leb-false, le-leb, lt-ltb, le-ltb, ne_eqb, eqb, leb, ltb, length, take, get_or, set, take-suc, take_all, get_or-set_same, get_or-set_other, if◌then◌else◌}
+use borrow.Author.Tests.{lt-leb}
 use Rattle.storage.proofs.RowsLaws.Ids.{tri}
-use Rattle.std.specs.Prelude.{if◌then◌else◌}
 use Rattle.storage.specs.Lists.Base.{count, any}
 use Rattle.storage.specs.Lists.Map.{keys}
 use Rattle.storage.proofs.ListsLaws.MapLaws.{cases}

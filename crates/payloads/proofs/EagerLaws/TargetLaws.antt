@@ -1,16 +1,8 @@
 -- The targets of an eager push, link by link, and those of them that hand it back.
 -- Assumes nothing.
-use mathlib.Core.Path.{◌≡◌, refl, sym, ap, ◌∙◌, subst}
-use mathlib.Core.Bool.{Bool, true, false, not, ◌&&◌}
-use mathlib.Core.List.{List, [], ◌∷◌, ◌++◌, append-nil}
-use Prim.Native.Nat.{ℕ, zero, suc, ◌+◌, ◌≤◌, ◌<◌}
-use native.Mathlib.Omega.{arith}
-use native.Mathlib.Numerals.{add-one}
-use borrow.Author.Tests.{not-true, not-false, ltb-true, lt-ltb, ne_eqb}
-use lib.Dec.{eqb, leb, ltb}
-use lib.ListN.{length, take, drop, get_or, take-append-drop, length-map, get_or-map}
-use lib.Seq.{take-suc, take_all, get_or-take, length-take-le}
-use Rattle.std.specs.Prelude.{if◌then◌else◌}
+use Rattle.std.proofs.Common.{◌≡◌, refl, sym, ap, ◌∙◌, subst, Bool, true, false, not, ◌&&◌, List, [], ◌∷◌, ◌++◌, append-nil, ℕ, zero, suc, ◌+◌, ◌≤◌, ◌<◌, arith, add-one, ltb-true, lt-ltb, ne_eqb, eqb, leb, ltb, length, take, drop, get_or, take-append-drop, take-suc, take_all, get_or-take, length-take-le, if◌then◌else◌}
+use borrow.Author.Tests.{not-true, not-false}
+use lib.ListN.{length-map, get_or-map}
 use Rattle.storage.specs.Lists.Base.{filter, member, all, ascending}
 use Rattle.storage.specs.Lists.Map.{Map, Entry, entry, keys}
 use Rattle.storage.proofs.ListsLaws.MapLaws.{cases, and_left, and_right, all_head, all_tail, all_cons}

@@ -1,14 +1,13 @@
 -- The sends of an eager push, link by link.
 -- Assumes nothing.
-use Rattle.std.proofs.Common.{◌≡◌, ℕ, ◌+◌, ◌≤◌, ◌<◌, refl, sym, ap, ◌∙◌, arith, Bool, true, false, not, ◌||◌, List, [], ◌∷◌, ◌++◌, map, length, get_or, append_assoc, length-append}
-use lib.Dec.{leb}
+use Rattle.std.proofs.Common.{◌≡◌, ℕ, ◌+◌, ◌≤◌, ◌<◌, refl, sym, ap, ◌∙◌, arith, Bool, true, false, not, ◌||◌, List, [], ◌∷◌, ◌++◌, map, length, get_or, append_assoc, length-append, leb}
 use Rattle.storage.specs.Lists.Base.{is_empty, concat_map}
 use Rattle.storage.proofs.ListsLaws.ListLaws.{concat-append, concat-one}
 use Rattle.postcard.specs.Number.{number_bytes}
 use Rattle.postcard.specs.Message.{Sent, message_bytes, action_bytes, taken_byte}
 use Rattle.postcard.specs.Output.{send_head}
-use Rattle.wire.specs.Encode.Intake.{Intake, after, RoomFor}
-use Rattle.wire.proofs.EncodeLaws.IntakeLaws.{after_append, after_nil, room_after}
+use Rattle.wire.specs.Encode.Intake.{Intake, after}
+use Rattle.wire.proofs.EncodeLaws.IntakeLaws.{after_append, after_nil}
 use Rattle.protocol.specs.State.{State}
 use Rattle.decide.specs.Rooms.{first_send}
 use Rattle.decide.specs.RecordGrowth.{announce_action, push_actions}
@@ -87,13 +86,6 @@ module _ (call : Call) (push : Push) (g : Gossip) (s : State) where
           ap sends (first-in push.sender skip s i q (sym k ∙ t))
           ∙ sends-append (first push.sender skip s i) (peer_at s i ∷ [])
           ∙ ap (λ (l : List ℕ). sends_to i ++ l) (concat-one action_bytes (first_send (rooms_of call s) (gossip_value g) (peer_at s i)) ∙ ap action_bytes same-send ∙ one)
-
-      pub sends-room : (h now : Intake) → now ≡ after (sends_to i) h → RoomFor (sends_bytes call push g s) h → RoomFor sent now
-      sends-room h now a r =
-          let whole : sends_bytes call push g s ≡ sends_to (i + 1) ++ sends (rest push.sender skip s (i + 1)) =
-          ap sends (first_rest push.sender skip s (i + 1)) ∙ sends-append (first push.sender skip s (i + 1)) (rest push.sender skip s (i + 1)) in
-          rw (a, room_after (sends_to i) h)
-          (omega (arith, r, ap length whole, length-append (sends_to (i + 1)) (sends (rest push.sender skip s (i + 1))), ap length more, length-append (sends_to i) sent))
 
       pub sends-more : (h now next : Intake) → now ≡ after (sends_to i) h → next ≡ after sent now → next ≡ after (sends_to (i + 1)) h
       sends-more h now next a e = e ∙ ap (after sent) a ∙ after_append (sends_to i) sent h ∙ ap (λ (l : List ℕ). after l h) (sym more)

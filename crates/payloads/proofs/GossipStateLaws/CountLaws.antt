@@ -1,9 +1,7 @@
 -- The numbers of entries after a new Swarm message.
 -- Assumes nothing.
-use Rattle.std.proofs.Common.{◌≡◌, refl, sym, ap, ◌∙◌, Bool, true, false, not, ◌&&◌, ℕ, suc, ◌+◌, ◌-◌, ◌≤◌, arith, length, List, [], ◌∷◌, ◌++◌}
-use Rattle.std.specs.Prelude.{◌==◌, count_by, Option, Some, None}
+use Rattle.std.proofs.Common.{◌≡◌, refl, sym, ap, ◌∙◌, Bool, true, false, not, ◌&&◌, ℕ, suc, ◌+◌, ◌-◌, ◌≤◌, arith, length, List, [], ◌∷◌, ◌++◌, ◌==◌, count_by, Option, Some, None, eqb}
 use mir.Val.{bool_byte}
-use lib.Dec.{eqb}
 use Rattle.storage.specs.Lists.Base.{member, filter, sum}
 use Rattle.storage.specs.Lists.Map.{Map, keys, has, lookup}
 use Rattle.storage.proofs.ListsLaws.MapLaws.{true≢, lookup-insert-same}

@@ -1,9 +1,6 @@
 -- The stages of a new Swarm message keep what every event keeps.
 -- Assumes nothing.
-use mathlib.Core.Path.{ap, ◌∙◌, subst}
-use mathlib.Core.List.{List, []}
-use Prim.Native.Nat.{ℕ}
-use lib.Dec.{leb}
+use Rattle.std.proofs.Common.{ap, ◌∙◌, subst, List, [], ℕ, leb}
 use Rattle.storage.specs.Lists.Map.{keys}
 use Rattle.protocol.specs.State.{State, Settings, zero_counts, size_in_range, durations_in_range, limits_in_range}
 use Rattle.protocol.specs.Run.{Run, Room, begin}

@@ -1,7 +1,7 @@
 // What an eager push sends.
 ghost use Rattle.std.specs.Prelude.{◌≡◌, not};
 ghost use Rattle.storage.specs.Lists.Base.{is_empty};
-ghost use Rattle.wire.specs.Encode.Intake.{after, RoomFor};
+ghost use Rattle.wire.specs.Encode.Intake.{after};
 ghost use Rattle.steps.specs.Views.{shown};
 ghost use Rattle.steps.specs.Panels.{AtRest};
 ghost use Rattle.payloads.specs.EagerPush.Targets.{SkipThere, push_backs};
@@ -19,7 +19,6 @@ use wire::encode::sink::Sink;
 // The sends of a push, ascending, and whether any was handed back. Its time is that of one pass over the links.
 fn push_sends<S: Sink>(view: &View, call: &Call, out: &mut S, push: &Push, message: &Gossip) -> bool
     requires rest { AtRest (shown view.now) × SkipThere push.now.skip (shown view.now) }
-    requires room { RoomFor (sends_bytes call.now push.now message.now (shown view.now)) (S.intake out.old) }
     ensures sent { S.intake out.new ≡ after (sends_bytes call.now push.now message.now (shown view.now)) (S.intake out.old) }
     ensures back { result ≡ not (is_empty (push_backs call.now push.now (shown view.now))) }
 {
@@ -43,7 +42,6 @@ fn push_sends<S: Sink>(view: &View, call: &Call, out: &mut S, push: &Push, messa
 // one pass over the links.
 pub fn eager_push<S: Sink>(view: &View, call: &Call, out: &mut S, push: &Push, message: &Gossip)
     requires rest { AtRest (shown view.now) × SkipThere push.now.skip (shown view.now) }
-    requires room { RoomFor (push_bytes call.now push.now message.now (shown view.now)) (S.intake out.old) }
     ensures { S.intake out.new ≡ after (push_bytes call.now push.now message.now (shown view.now)) (S.intake out.old) }
 {
     let back = push_sends(view, call, out, push, message);

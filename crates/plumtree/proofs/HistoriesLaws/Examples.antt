@@ -1,8 +1,6 @@
 -- The list of docs/GUARANTEE.md, computed, for any calls: one, a saving under the name 1, a second, a return, a third.
 -- Assumes nothing.
-use Prim.Native.Nat.{ℕ}
-use mathlib.Core.Path.{◌≡◌, refl}
-use mathlib.Core.List.{List, [], ◌∷◌}
+use Rattle.std.proofs.Common.{ℕ, ◌≡◌, refl, List, [], ◌∷◌}
 use Rattle.storage.specs.Lists.Map.{Entry, lookup}
 use Rattle.protocol.specs.State.{Counts}
 use Rattle.protocol.specs.Answer.{Call}

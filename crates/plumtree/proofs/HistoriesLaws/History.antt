@@ -1,13 +1,8 @@
 -- The guarantees after savings and returns: block and counts of each panel, and of each state kept, are what its list of calls left (`From`), and so `guarantee` speaks of it.
 -- Assumes nothing.
-use Prim.Native.Nat.{ℕ, zero, suc, ◌+◌, ◌*◌, ◌≤◌}
-use mathlib.Core.Path.{◌≡◌, refl, sym, ap, subst, ◌∙◌}
-use mathlib.Core.Bool.{true, false}
-use mathlib.Core.List.{List, [], ◌∷◌, ◌++◌, map}
-use borrow.Author.Tests.{eqb-true, eqb-false, le-leb}
-use lib.Dec.{eqb}
-use lib.ListN.{length, get_or, take, replicate, length-replicate}
-use Rattle.std.specs.Prelude.{if◌then◌else◌, Some}
+use Rattle.std.proofs.Common.{ℕ, zero, suc, ◌+◌, ◌*◌, ◌≤◌, ◌≡◌, refl, sym, ap, subst, ◌∙◌, true, false, List, [], ◌∷◌, ◌++◌, map, eqb-true, le-leb, eqb, length, get_or, take, replicate, if◌then◌else◌, Some}
+use borrow.Author.Tests.{eqb-false}
+use lib.ListN.{length-replicate}
 use Rattle.storage.specs.Lists.Map.{Entry, lookup}
 use Rattle.storage.proofs.ListsLaws.MapLaws.{cases, true≢}
 use Rattle.protocol.specs.State.{Counts, Created, created, not_created, create, fresh, zero_counts, Settings as PanelSettings, Limits as PanelLimits}

@@ -1,5 +1,5 @@
 -- `plumtree_create`: an accepted creation leaves the counts zero, a refused one leaves them.
-use mathlib.Core.Path.{refl, sym}
+use Rattle.std.proofs.Common.{refl, sym}
 use Rattle.refusal.specs.Numbers.{number_of}
 use Rattle.refusal.proofs.NumberLaws.{not_0}
 use Rattle.protocol.specs.State.{zero_counts}

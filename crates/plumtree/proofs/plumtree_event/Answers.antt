@@ -1,5 +1,5 @@
 -- `plumtree_event`: the call with the array of rooms is the call with the lent entries.
-use native.Mathlib.Omega.{arith}
+use Rattle.std.proofs.Common.{arith}
 use Rattle.refusal.specs.Numbers.{number_of}
 use Rattle.postcard.proofs.FieldBack.{bytes-each}
 use Rattle.machine.specs.Called.{lent, call_of, Called}

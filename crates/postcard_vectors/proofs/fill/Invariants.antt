@@ -1,7 +1,5 @@
 -- `fill` is safe and ends: two digits a turn.
-use Prim.Native.Nat.{◌≤◌, ◌-◌}
-use mathlib.Core.Path.{◌≡◌}
-use lib.ListN.{length}
+use Rattle.std.proofs.Common.{◌≤◌, ◌-◌, ◌≡◌, length}
 use Rattle.postcard_vectors.proofs.fill.Given as goal
 
 abbrev pub invariant-loop-n : goal.invariant-loop-n

@@ -1,11 +1,6 @@
 -- "Two blocks alike in the new way are alike in the old way": lists in the same order have each element as often.
 -- Assumes nothing.
-use Rattle.std.specs.Prelude.{Option, Some, None}
-use mathlib.Core.Path.{◌≡◌, refl, sym, ap, ◌∙◌}
-use mathlib.Core.Bool.{Bool, true, ◌&&◌}
-use mathlib.Core.List.{List, [], ◌∷◌}
-use lib.Dec.{eqb}
-use borrow.Author.Tests.{eq-eqb}
+use Rattle.std.proofs.Common.{Option, Some, None, ◌≡◌, refl, sym, ap, ◌∙◌, Bool, true, ◌&&◌, List, [], ◌∷◌, eqb, eq-eqb}
 use Rattle.storage.specs.Lists.Base.{filter, count}
 use Rattle.storage.specs.Lists.Map.{Map, Entry}
 use Rattle.storage.proofs.ListsLaws.MapLaws.{cases, and_intro}

@@ -1,12 +1,6 @@
 -- "the same list of events, times, link room and output space gives the same answers and actions": each call keeps two states that differ in the interleaving alone so, and no question sees the interleaving.
 -- Assumes nothing.
-use Prim.Native.Nat.{ℕ}
-use mathlib.Core.Path.{◌≡◌, refl, sym, ap, subst, ◌∙◌}
-use mathlib.Core.Bool.{Bool, true, false, not, ◌&&◌}
-use mathlib.Core.List.{List, [], ◌∷◌}
-use lib.Dec.{leb, eqb}
-use lib.ListN.{length}
-use Rattle.std.specs.Prelude.{if◌then◌else◌}
+use Rattle.std.proofs.Common.{ℕ, ◌≡◌, refl, sym, ap, subst, ◌∙◌, Bool, true, false, not, ◌&&◌, List, [], ◌∷◌, leb, eqb, length, if◌then◌else◌}
 use Rattle.storage.specs.Lists.Base.{concat_map}
 use Rattle.storage.proofs.ListsLaws.MapLaws.{true≢}
 use Rattle.time_cache.specs.TimeCache.{Cache, holds}

@@ -1,12 +1,6 @@
 -- Each step keeps two runs `Like`: they have the same counts, room left and actions, and states that differ in the interleaving alone.
 -- Assumes nothing.
-use Prim.Native.Nat.{ℕ, suc}
-use mathlib.Core.Path.{◌≡◌, refl}
-use mathlib.Core.Bool.{Bool, true, false, not, ◌&&◌, ◌||◌}
-use mathlib.Core.List.{List, [], ◌∷◌, ◌++◌}
-use lib.Dec.{leb, ltb, eqb}
-use lib.ListN.{length}
-use Rattle.std.specs.Prelude.{if◌then◌else◌, Option, Some, None}
+use Rattle.std.proofs.Common.{ℕ, suc, ◌≡◌, refl, Bool, true, false, not, ◌&&◌, ◌||◌, List, [], ◌∷◌, ◌++◌, leb, ltb, eqb, length, if◌then◌else◌, Option, Some, None}
 use Rattle.storage.specs.Lists.Base.{is_empty, filter, count, any, member}
 use Rattle.storage.specs.Lists.Map.{keys, insert_key}
 use Rattle.time_cache.specs.TimeCache.{holds, get}

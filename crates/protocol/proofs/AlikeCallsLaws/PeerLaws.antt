@@ -1,15 +1,7 @@
 -- Two lists in which each peer has the same: their lengths, counts and tests, and what the ticks make of them.
 -- Assumes nothing.
-use Prim.Native.Nat.{ℕ, suc, ◌-◌, ◌≤◌, ◌<◌}
-use native.Mathlib.Omega.{arith}
-use mathlib.Core.Path.{◌≡◌, refl, sym, ap, ◌∙◌}
-use mathlib.Core.Bool.{Bool, true, false, not}
-use mathlib.Core.List.{List, [], ◌∷◌, ◌++◌}
-use lib.Dec.{ltb, eqb}
-use lib.ListN.{length, length-append, take, drop}
+use Rattle.std.proofs.Common.{ℕ, suc, ◌-◌, ◌≤◌, ◌<◌, arith, ◌≡◌, refl, sym, ap, ◌∙◌, Bool, true, false, not, List, [], ◌∷◌, ◌++◌, ltb, eqb, length, length-append, take, drop, ltb-true, ltb-false, eqb-true, eq-eqb, if◌then◌else◌}
 use lib.Seq.{take-nil, drop-nil}
-use borrow.Author.Tests.{ltb-true, ltb-false, eqb-true, eq-eqb}
-use Rattle.std.specs.Prelude.{if◌then◌else◌}
 use Rattle.storage.specs.Lists.Base.{is_empty, filter, count, any, all, member, ascending}
 use Rattle.storage.specs.Lists.Map.{insert_key}
 use Rattle.storage.proofs.ListsLaws.MapLaws.{cases, true≢, and_left, and_right, all_head, all_tail}

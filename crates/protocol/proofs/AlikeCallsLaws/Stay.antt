@@ -1,10 +1,7 @@
 -- States that differ in the interleaving alone are alike.
 -- Assumes nothing.
-use Rattle.std.specs.Prelude.{Some, None}
-use mathlib.Core.Path.{◌≡◌, refl}
-use mathlib.Core.Bool.{Bool, true, false, ◌&&◌, beq}
-use mathlib.Core.List.{List, [], ◌∷◌, ◌++◌}
-use lib.Dec.{eqb}
+use Rattle.std.proofs.Common.{Some, None, ◌≡◌, refl, Bool, true, false, ◌&&◌, List, [], ◌∷◌, ◌++◌, eqb}
+use mathlib.Core.Bool.{beq}
 use Rattle.storage.proofs.ListsLaws.MapLaws.{and_intro}
 use Rattle.storage.proofs.ListsLaws.ListLaws.{all-each}
 use Rattle.protocol.specs.Links.{eager, lazy, quiet}

@@ -1,11 +1,6 @@
 -- "No announcement waits past four ticks": over the list of calls. No question is used: it holds of every list in which each event is refused, with any number, or run.
 -- Assumes nothing.
-use Prim.Native.Nat.{ℕ, ◌+◌, ◌*◌, ◌≤◌}
-use native.Mathlib.Omega.{arith}
-use mathlib.Core.Path.{◌≡◌, refl, sym, ap, subst, ◌∙◌}
-use mathlib.Core.Bool.{Bool, true, false}
-use mathlib.Core.List.{List, [], ◌∷◌, ◌++◌}
-use Rattle.std.specs.Prelude.{if◌then◌else◌}
+use Rattle.std.proofs.Common.{ℕ, ◌+◌, ◌*◌, ◌≤◌, arith, ◌≡◌, refl, sym, ap, subst, ◌∙◌, Bool, true, false, List, [], ◌∷◌, ◌++◌, if◌then◌else◌}
 use Rattle.storage.specs.Lists.Base.{any, count}
 use Rattle.storage.proofs.ListsLaws.MapLaws.{cases, true≢}
 use Rattle.storage.proofs.ListsLaws.ListLaws.{length-filter, count-append}

@@ -1,15 +1,6 @@
 -- Of one event: what becomes of an identifier that stands recorded, or queued, for a neighbour.
 -- Assumes nothing.
-use Prim.Native.Nat.{ℕ, ◌+◌, ◌≤◌}
-use native.Mathlib.Omega.{arith}
-use mathlib.Core.Path.{◌≡◌, refl, sym, ap, ◌∙◌}
-use mathlib.Core.Bool.{Bool, true, false, not, ◌||◌}
-use mathlib.Core.List.{List, [], ◌∷◌, ◌++◌}
-use mathlib.Core.Logic.{◌⊎◌, inl, inr}
-use lib.Dec.{eqb}
-use lib.ListN.{drop}
-use borrow.Author.Tests.{eqb-true}
-use Rattle.std.specs.Prelude.{if◌then◌else◌}
+use Rattle.std.proofs.Common.{ℕ, ◌+◌, ◌≤◌, arith, ◌≡◌, refl, sym, ap, ◌∙◌, Bool, true, false, not, ◌||◌, List, [], ◌∷◌, ◌++◌, ◌⊎◌, inl, inr, eqb, drop, eqb-true, if◌then◌else◌}
 use Rattle.storage.specs.Lists.Base.{is_empty, filter, any, count}
 use Rattle.storage.proofs.ListsLaws.MapLaws.{cases, true≢, and_left}
 use Rattle.storage.proofs.ListsLaws.Lists.{any_left, any-right, any-filter}

@@ -19,7 +19,7 @@ use Rattle.protocol.specs.Handle as Handle
 use Rattle.protocol.specs.Calls as Calls
 use Rattle.protocol.specs.NoNeighbourPassedOver as NoNeighbourPassedOver
 use Rattle.protocol.specs.Panel as Panel
-use mathlib.Core.Path.{refl}
+use Rattle.std.proofs.Common.{refl}
 use Rattle.postcard.specs.Message.{Message, event_bytes}
 use Rattle.protocol.specs.State.{fresh, zero_counts}
 use Rattle.protocol.specs.Answer.{Answer}

@@ -1,12 +1,6 @@
 -- Tree links carry the reading, other links its identifier only: over a list of calls.
 -- Assumes nothing.
-use Prim.Native.Nat.{ℕ}
-use native.Mathlib.Omega.{arith}
-use mathlib.Core.Path.{◌≡◌, subst}
-use mathlib.Core.Bool.{true, false}
-use mathlib.Core.List.{List, [], ◌∷◌, ◌++◌}
-use lib.Dec.{leb}
-use borrow.Author.Tests.{leb-true}
+use Rattle.std.proofs.Common.{ℕ, arith, ◌≡◌, subst, true, false, List, [], ◌∷◌, ◌++◌, leb, leb-true}
 use Rattle.storage.proofs.ListsLaws.MapLaws.{true≢, and_left}
 use Rattle.postcard.specs.Message.{Event}
 use Rattle.protocol.specs.State.{State, Counts, size_in_range}

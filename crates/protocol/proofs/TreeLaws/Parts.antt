@@ -1,12 +1,6 @@
 -- The parts of `FollowsTree`: payloads, queue and announcements of one event.
 -- Assumes nothing.
-use Prim.Native.Nat.{ℕ}
-use mathlib.Core.Path.{◌≡◌, refl, sym, ap, ◌∙◌}
-use mathlib.Core.Bool.{Bool, true, false, not}
-use mathlib.Core.List.{List, [], ◌∷◌, ◌++◌}
-use mathlib.Core.Logic.{◌⊎◌, inl, inr}
-use lib.Dec.{eqb}
-use Rattle.std.specs.Prelude.{Some, None}
+use Rattle.std.proofs.Common.{ℕ, ◌≡◌, refl, sym, ap, ◌∙◌, Bool, true, false, not, List, [], ◌∷◌, ◌++◌, ◌⊎◌, inl, inr, eqb, Some, None}
 use Rattle.storage.specs.Lists.Base.{any, filter, member}
 use Rattle.storage.proofs.ListsLaws.MapLaws.{true≢, and_left, and_right}
 use Rattle.storage.proofs.ListsLaws.Lists.{or_cases, any_append, any_left, any-right}

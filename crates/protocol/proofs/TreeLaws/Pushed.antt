@@ -1,11 +1,6 @@
 -- The payloads of a push: one to each of the peers it goes to.
 -- Assumes nothing.
-use Prim.Native.Nat.{ℕ}
-use mathlib.Core.Path.{◌≡◌, refl, sym, ap, ◌∙◌}
-use mathlib.Core.Bool.{true, false}
-use mathlib.Core.List.{List, [], ◌∷◌, ◌++◌, append_assoc, append-nil}
-use lib.Dec.{eqb}
-use Rattle.std.specs.Prelude.{if◌then◌else◌}
+use Rattle.std.proofs.Common.{ℕ, ◌≡◌, refl, sym, ap, ◌∙◌, true, false, List, [], ◌∷◌, ◌++◌, append_assoc, append-nil, eqb, if◌then◌else◌}
 use Rattle.storage.specs.Lists.Base.{any}
 use Rattle.storage.proofs.ListsLaws.MapLaws.{cases}
 use Rattle.postcard.specs.Message.{Swarm, Message, Gossip, Sent}

@@ -1,12 +1,6 @@
 -- The two ticks and the queue: a dispatch tick announces exactly what stands queued, an AnnounceDropped tick queues what stands recorded.
 -- Assumes nothing.
-use Prim.Native.Nat.{ℕ, zero, suc, ◌≤◌}
-use mathlib.Core.Path.{◌≡◌, refl, sym, ap, ◌∙◌}
-use mathlib.Core.Bool.{Bool, true, false, ◌&&◌, ◌||◌}
-use mathlib.Core.List.{List, [], ◌∷◌, ◌++◌}
-use lib.Dec.{ltb, eqb}
-use lib.ListN.{length, take, drop, take-append-drop}
-use borrow.Author.Tests.{eqb-true}
+use Rattle.std.proofs.Common.{ℕ, zero, suc, ◌≤◌, ◌≡◌, refl, sym, ap, ◌∙◌, Bool, true, false, ◌&&◌, ◌||◌, List, [], ◌∷◌, ◌++◌, ltb, eqb, length, take, drop, take-append-drop, eqb-true}
 use Rattle.storage.specs.Lists.Base.{is_empty, any, filter, count, member}
 use Rattle.storage.proofs.ListsLaws.MapLaws.{cases, true≢, and_left, and_right}
 use Rattle.storage.proofs.ListsLaws.KeyLaws.{eqb-sym}

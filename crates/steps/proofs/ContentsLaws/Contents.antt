@@ -1,13 +1,8 @@
 -- The message cache as rows, places and contents: contents that move with the starts of their rows, and the bytes that the entries hold.
 -- Assumes nothing.
-use mathlib.Core.Path.{◌≡◌, refl, sym, ap, ◌∙◌}
-use mathlib.Core.Bool.{true}
-use mathlib.Core.List.{List, [], ◌∷◌, map, map-map}
-use Prim.Native.Nat.{ℕ, ◌+◌, ◌≤◌, ◌<◌}
-use native.Mathlib.Omega.{arith}
-use borrow.Author.Tests.{ltb-true}
-use lib.Dec.{ltb}
-use lib.ListN.{length, drop, get_or, length-map}
+use Rattle.std.proofs.Common.{◌≡◌, refl, sym, ap, ◌∙◌, true, List, [], ◌∷◌, map, ℕ, ◌+◌, ◌≤◌, ◌<◌, arith, ltb-true, ltb, length, drop, get_or}
+use mathlib.Core.List.{map-map}
+use lib.ListN.{length-map}
 use Rattle.storage.specs.Lists.Base.{sum, ascending}
 use Rattle.storage.specs.Lists.Map.{entry}
 use Rattle.storage.proofs.ListsLaws.MapLaws.{all_head, all_tail}

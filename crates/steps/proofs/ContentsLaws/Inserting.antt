@@ -1,12 +1,7 @@
 -- A message put into the two tables without its content.
 -- Assumes nothing.
-use mathlib.Core.Path.{◌≡◌, refl, sym, ap, ◌∙◌, subst}
-use mathlib.Core.List.{List, [], ◌∷◌, ◌++◌}
-use Prim.Native.Nat.{ℕ, ◌+◌, ◌-◌, ◌*◌, ◌≤◌, ◌<◌}
-use native.Mathlib.Omega.{arith}
-use lib.Dec.{lit<}
-use lib.ListN.{length, take, drop, get_or, set, length-drop}
-use lib.Seq.{length-take-le, get_or_at, drop-append-add}
+use Rattle.std.proofs.Common.{◌≡◌, refl, sym, ap, ◌∙◌, subst, List, [], ◌∷◌, ◌++◌, ℕ, ◌+◌, ◌-◌, ◌*◌, ◌≤◌, ◌<◌, arith, lit<, length, take, drop, get_or, set, length-drop, length-take-le}
+use lib.Seq.{get_or_at, drop-append-add}
 use Rattle.storage.specs.Rows.Part.{part, put}
 use Rattle.storage.specs.Rows.Digits.{le_nat, le_bytes}
 use Rattle.storage.proofs.RowsLaws.Parts.{length_part, length-put, part-put, part-zero}

@@ -1,14 +1,10 @@
 -- Another content for the message that row p has: the rows, the contents and the state.
 -- Assumes nothing.
-use Rattle.std.specs.Prelude.{Option, Some}
-use mathlib.Core.Path.{◌≡◌, refl, sym, ap, ◌∙◌, subst}
-use mathlib.Core.Logic.{◌⊎◌, inl, inr}
-use mathlib.Core.List.{List, [], ◌∷◌, ◌++◌, map, map-append}
-use Prim.Native.Nat.{ℕ, zero, suc, ◌+◌, ◌-◌, ◌≤◌, ◌<◌}
-use native.Mathlib.Omega.{arith}
+use Rattle.std.proofs.Common.{Option, Some, ◌≡◌, refl, sym, ap, ◌∙◌, subst, ◌⊎◌, inl, inr, List, [], ◌∷◌, ◌++◌, map, ℕ, zero, suc, ◌+◌, ◌-◌, ◌≤◌, ◌<◌, arith, length, take, drop, get_or, length-drop, get_or-take, get_or-drop, get_or-append-add, length-take-le}
+use mathlib.Core.List.{map-append}
 use Rattle.storage.proofs.RowsLaws.Ids.{tri}
-use lib.ListN.{length, take, drop, get_or, length-drop, length-map, get_or-append, get_or-map}
-use lib.Seq.{get_or-take, get_or-drop, get_or_at, get_or-append-add, length-take-le}
+use lib.ListN.{length-map, get_or-append, get_or-map}
+use lib.Seq.{get_or_at}
 use Rattle.storage.specs.Lists.Base.{sum}
 use Rattle.storage.specs.Lists.Map.{Map, Entry, entry, keys, lookup, insert}
 use Rattle.storage.specs.Rows.Part.{part, put}

@@ -1,14 +1,7 @@
 -- Another content in row p, out of the stores that make it, and what it is to the state.
 -- Assumes nothing.
-use Rattle.std.specs.Prelude.{Option, Some}
-use mathlib.Core.Path.{◌≡◌, refl, sym, ap, ◌∙◌, subst}
-use mathlib.Core.Bool.{true}
-use mathlib.Core.List.{List, [], ◌∷◌, ◌++◌, map}
-use Prim.Native.Nat.{ℕ, zero, suc, ◌+◌, ◌-◌, ◌*◌, ◌≤◌, ◌<◌}
-use native.Mathlib.Omega.{arith}
-use native.Mathlib.Numerals.{add-one}
-use lib.Dec.{lit<}
-use lib.ListN.{length, take, drop, get_or, set, length-map}
+use Rattle.std.proofs.Common.{Option, Some, ◌≡◌, refl, sym, ap, ◌∙◌, subst, true, List, [], ◌∷◌, ◌++◌, map, ℕ, zero, suc, ◌+◌, ◌-◌, ◌*◌, ◌≤◌, ◌<◌, arith, add-one, lit<, length, take, drop, get_or, set}
+use lib.ListN.{length-map}
 use Rattle.storage.specs.Lists.Base.{sum, ascending}
 use Rattle.storage.specs.Lists.Map.{Map, Entry, entry, keys, lookup}
 use Rattle.storage.specs.Rows.Part.{part, put}

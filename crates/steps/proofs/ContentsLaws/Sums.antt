@@ -1,15 +1,7 @@
 -- Sums over places that name each row at most once: where such a sum is that of all rows, the rows that no place names have nothing.
 -- Assumes nothing.
-use mathlib.Core.Path.{◌≡◌, refl, ap, ◌∙◌}
-use mathlib.Core.Bool.{true}
-use mathlib.Core.List.{List, [], ◌∷◌, map}
-use Prim.Native.Nat.{ℕ, zero, suc, ◌+◌, ◌≤◌, ◌<◌}
-use native.Mathlib.Nat.{le_of_suc-le-suc, not-suc-le-zero}
-use native.Mathlib.Omega.{arith}
-use borrow.Author.Tests.{ltb-true, eqb-true, leb-true}
-use lib.Dec.{leb, ltb, eqb, leb-zero, leb-suc-zero, leb-suc-suc, eqb-zero-suc, eqb-suc-zero, eqb-suc-suc}
-use lib.ListN.{length, drop}
-use Rattle.std.specs.Prelude.{if◌then◌else◌}
+use Rattle.std.proofs.Common.{◌≡◌, refl, ap, ◌∙◌, true, List, [], ◌∷◌, map, ℕ, zero, suc, ◌+◌, ◌≤◌, ◌<◌, le_of_suc-le-suc, not-suc-le-zero, arith, ltb-true, eqb-true, leb-true, leb, ltb, eqb, length, drop, if◌then◌else◌}
+use lib.Dec.{leb-zero, leb-suc-zero, leb-suc-suc, eqb-zero-suc, eqb-suc-zero, eqb-suc-suc}
 use Rattle.storage.specs.Lists.Base.{all, sum, ascending, filter}
 use Rattle.storage.proofs.ListsLaws.MapLaws.{cases, and_left, and_right, all_head, all_tail}
 use Rattle.storage.specs.Refs.Refs.{Ref, places, left}

@@ -1,13 +1,6 @@
 -- A message taken in: the times fit a word, and the two inserts are the step.
 -- Assumes nothing.
-use mathlib.Core.Path.{◌≡◌, sym, ap, ◌∙◌, subst}
-use mathlib.Core.Bool.{Bool, true, ◌&&◌}
-use mathlib.Core.List.{List}
-use Prim.Native.Nat.{ℕ, ◌*◌, ◌≤◌, ◌^◌}
-use native.Mathlib.Omega.{arith}
-use borrow.Author.Tests.{leb-true}
-use lib.Dec.{leb}
-use lib.ListN.{length}
+use Rattle.std.proofs.Common.{◌≡◌, sym, ap, ◌∙◌, subst, Bool, true, ◌&&◌, List, ℕ, ◌*◌, ◌≤◌, ◌^◌, arith, leb-true, leb, length}
 use Rattle.storage.proofs.ListsLaws.MapLaws.{and_left, and_right}
 use Rattle.time_cache.specs.TimeCache.{Cache, put}
 use Rattle.protocol.specs.State.{State, Settings, durations_in_range}

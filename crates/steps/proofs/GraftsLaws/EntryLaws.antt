@@ -1,17 +1,11 @@
 -- A new entry among the grafted messages: what the insert and the zeros after it leave, and the first peer of it.
 -- Assumes nothing.
-use mathlib.Core.Path.{◌≡◌, refl, sym, ap, ◌∙◌, subst}
-use mathlib.Core.Logic.{◌⊎◌, inl, inr}
-use mathlib.Core.List.{List, [], ◌∷◌, ◌++◌, map}
-use Prim.Native.Nat.{ℕ, zero, suc, ◌+◌, ◌*◌, ◌^◌, ◌≤◌, ◌<◌}
-use native.Mathlib.Omega.{arith}
-use lib.Dec.{lit<}
-use lib.ListN.{length, take, drop, get_or, length-map}
+use Rattle.std.proofs.Common.{◌≡◌, refl, sym, ap, ◌∙◌, subst, ◌⊎◌, inl, inr, List, [], ◌∷◌, ◌++◌, map, ℕ, zero, suc, ◌+◌, ◌*◌, ◌^◌, ◌≤◌, ◌<◌, arith, lit<, length, take, drop, get_or, Result, Ok, Err}
+use lib.ListN.{length-map}
 use Rattle.storage.specs.Lists.Map.{Entry, entry, keys}
 use Rattle.storage.proofs.ListsLaws.MapLaws.{ascending-insert}
 use Rattle.storage.specs.Rows.Part.{part, put}
 use Rattle.storage.specs.Rows.Digits.{le_bytes}
-use Rattle.std.specs.Prelude.{Result, Ok, Err}
 use Rattle.storage.proofs.RowsLaws.Digits.{length-le_bytes, le_nat-le_bytes}
 use Rattle.storage.proofs.RowsLaws.Ids.{tri}
 use Rattle.storage.proofs.RowsLaws.Parts.{length-put, get_d_part, get_or-put-before, get_or-put-after}

@@ -1,13 +1,7 @@
 -- Lists of link numbers and rounds: one more in its order, and another round of one of them.
 -- Assumes nothing.
-use mathlib.Core.Path.{◌≡◌, refl, sym, ap, ◌∙◌, subst}
-use mathlib.Core.List.{List, [], ◌∷◌, ◌++◌, append_assoc}
-use Prim.Native.Nat.{ℕ, zero, suc, ◌+◌, ◌-◌, ◌*◌, ◌≤◌, ◌<◌}
-use native.Mathlib.Omega.{arith}
-use borrow.Author.Tests.{lt-ltb}
-use lib.Dec.{ltb}
-use lib.ListN.{length, take, drop, get_or, set, length-append, length-drop}
-use lib.Seq.{take_all, take-append-le, take-take, length-take-le, drop-drop, get_or-drop, get_or-take}
+use Rattle.std.proofs.Common.{◌≡◌, refl, sym, ap, ◌∙◌, subst, List, [], ◌∷◌, ◌++◌, append_assoc, ℕ, zero, suc, ◌+◌, ◌-◌, ◌*◌, ◌≤◌, ◌<◌, arith, lt-ltb, ltb, length, take, drop, get_or, set, length-append, length-drop, take_all, take-take, length-take-le, drop-drop, get_or-drop, get_or-take}
+use lib.Seq.{take-append-le}
 use Rattle.storage.specs.Rows.Part.{part, put}
 use Rattle.storage.specs.Rows.Digits.{le_bytes}
 use Rattle.storage.specs.Rows.Rows.{rows, opened}

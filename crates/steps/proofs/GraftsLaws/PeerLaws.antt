@@ -1,14 +1,7 @@
 -- The grafted peers of a message: in order, neighbours, and no more than the links.
 -- Assumes nothing.
-use Rattle.std.specs.Prelude.{None}
-use mathlib.Core.Path.{◌≡◌, refl, sym, ap, ◌∙◌}
-use mathlib.Core.Bool.{Bool, true, false, not, ◌&&◌}
-use mathlib.Core.List.{List, [], ◌∷◌}
-use Prim.Native.Nat.{ℕ, ◌≤◌, ◌<◌}
-use native.Mathlib.Omega.{arith}
-use borrow.Author.Tests.{ltb-true, ne_eqb}
-use lib.Dec.{leb, ltb}
-use lib.ListN.{length, get_or, length-map, get_or-map}
+use Rattle.std.proofs.Common.{None, ◌≡◌, refl, sym, ap, ◌∙◌, Bool, true, false, not, ◌&&◌, List, [], ◌∷◌, ℕ, ◌≤◌, ◌<◌, arith, ltb-true, ne_eqb, leb, ltb, length, get_or}
+use lib.ListN.{length-map, get_or-map}
 use Rattle.storage.specs.Lists.Base.{all, any, member, once, ascending}
 use Rattle.storage.specs.Lists.Map.{Map, Entry, entry, keys, insert, has}
 use Rattle.storage.proofs.ListsLaws.MapLaws.{and_left, and_right, and_intro, all_head, all_tail}

@@ -1,15 +1,6 @@
 -- What the bytes of a grafted message say: its `first` and its `kept`.
 -- Assumes nothing.
-use mathlib.Core.Path.{◌≡◌, ap, ◌∙◌}
-use mathlib.Core.Bool.{Bool, true, false}
-use mathlib.Core.List.{List, []}
-use Prim.Native.Nat.{ℕ, ◌+◌, ◌*◌, ◌≤◌, ◌<◌}
-use native.Mathlib.Omega.{arith}
-use borrow.Author.Tests.{eq-eqb, ne_eqb}
-use lib.Dec.{lit<}
-use lib.ListN.{take, drop, get_or}
-use lib.Seq.{drop-drop, get_or-drop}
-use Rattle.std.specs.Prelude.{if◌then◌else◌, Some, None}
+use Rattle.std.proofs.Common.{◌≡◌, ap, ◌∙◌, Bool, true, false, List, [], ℕ, ◌+◌, ◌*◌, ◌≤◌, ◌<◌, arith, eq-eqb, ne_eqb, lit<, take, drop, get_or, drop-drop, get_or-drop, if◌then◌else◌, Some, None}
 use Rattle.storage.specs.Lists.Map.{Entry}
 use Rattle.storage.specs.Rows.Part.{part}
 use Rattle.storage.specs.Rows.Digits.{le_nat}

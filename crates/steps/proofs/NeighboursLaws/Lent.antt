@@ -1,9 +1,6 @@
 -- Rows that are lent as a part of the block: what comes back in their place, and nothing else has changed.
 -- Assumes nothing.
-use mathlib.Core.Path.{◌≡◌, ap, ◌∙◌}
-use mathlib.Core.List.{List, ◌++◌, map}
-use Prim.Native.Nat.{ℕ, ◌+◌, ◌≤◌}
-use lib.ListN.{length, take, drop}
+use Rattle.std.proofs.Common.{◌≡◌, ap, ◌∙◌, List, ◌++◌, map, ℕ, ◌+◌, ◌≤◌, length, take, drop, arith}
 use Rattle.storage.specs.Lists.Base.{filter}
 use Rattle.storage.specs.Rows.Part.{part, Only}
 use Rattle.storage.specs.Rows.Rows.{rows}
@@ -12,7 +9,6 @@ use Rattle.storage.proofs.RowsLaws.Parts.{length_part, length-put, loan-put}
 use Rattle.storage.proofs.RowsLaws.Views.{loan-part, loan-only}
 use Rattle.steps.specs.Neighbours.Raised.{raised_row, RaisedIn}
 use Rattle.steps.specs.Neighbours.Lowered.{listed, lower_listed, announced, LoweredIn, MissedIn, NotesIn}
-use native.Mathlib.Omega.{arith}
 
 -- the block with other bytes in place of the k at a
 abbrev pub lent : ℕ → ℕ → List ℕ → List ℕ → List ℕ

@@ -1,8 +1,6 @@
 -- What is read from numbers with rows beside them goes by the pairs of both.
 -- Assumes nothing.
-use mathlib.Core.Path.{◌≡◌, refl, ap}
-use mathlib.Core.List.{List, [], ◌∷◌, map}
-use Prim.Native.Nat.{ℕ}
+use Rattle.std.proofs.Common.{◌≡◌, refl, ap, List, [], ◌∷◌, map, ℕ}
 use Rattle.storage.specs.Refs.Refs.{Ref, ref}
 use Rattle.storage.specs.Refs.Numbers.{pairs}
 

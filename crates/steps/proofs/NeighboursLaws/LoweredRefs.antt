@@ -1,16 +1,8 @@
 -- Numbers with rows beside them after a link went: what is read from them, and that they are below one link less.
 -- Assumes nothing.
-use mathlib.Core.Path.{◌≡◌, refl, sym, ap, ◌∙◌, subst}
-use mathlib.Core.Logic.{◌⊎◌, inl, inr}
-use mathlib.Core.Bool.{Bool, true, false, not}
-use mathlib.Core.List.{List, [], ◌∷◌, map}
-use Prim.Native.Nat.{ℕ, zero, suc, ◌-◌, ◌≤◌, ◌<◌, zero-le, suc-le-suc}
-use native.Mathlib.Nat.{le_of_suc-le-suc, not-suc-le-zero}
-use native.Mathlib.Omega.{arith}
-use borrow.Author.Tests.{eq-eqb, ne_eqb, eqb-false, eqb-true}
-use lib.Dec.{eqb}
-use lib.ListN.{length, take, get_or, length-map}
-use Rattle.std.specs.Prelude.{if◌then◌else◌}
+use Rattle.std.proofs.Common.{◌≡◌, refl, sym, ap, ◌∙◌, subst, ◌⊎◌, inl, inr, Bool, true, false, not, List, [], ◌∷◌, map, ℕ, zero, suc, ◌-◌, ◌≤◌, ◌<◌, zero-le, suc-le-suc, le_of_suc-le-suc, not-suc-le-zero, arith, eq-eqb, ne_eqb, eqb-true, eqb, length, take, get_or, if◌then◌else◌}
+use borrow.Author.Tests.{eqb-false}
+use lib.ListN.{length-map}
 use Rattle.storage.specs.Lists.Base.{filter}
 use Rattle.storage.specs.Lists.Map.{Map, Entry, entry, remove}
 use Rattle.storage.proofs.ListsLaws.MapLaws.{cases, true≢}

@@ -1,11 +1,6 @@
 -- Rows that end with a list of link numbers, after a link went: the list, the row, and one row after the other.
 -- Assumes nothing.
-use mathlib.Core.Path.{◌≡◌, sym, ap, ◌∙◌}
-use mathlib.Core.List.{List, [], ◌∷◌, ◌++◌, map}
-use Prim.Native.Nat.{ℕ, ◌+◌, ◌*◌, ◌≤◌, ◌<◌}
-use native.Mathlib.Omega.{arith}
-use lib.ListN.{length, take, drop, get_or, set, length-drop}
-use lib.Seq.{drop-drop, get_or-drop}
+use Rattle.std.proofs.Common.{◌≡◌, sym, ap, ◌∙◌, List, [], ◌∷◌, ◌++◌, map, ℕ, ◌+◌, ◌*◌, ◌≤◌, ◌<◌, arith, length, take, drop, get_or, set, length-drop, drop-drop, get_or-drop}
 use Rattle.storage.specs.Lists.Base.{filter}
 use Rattle.storage.proofs.ListsLaws.ListLaws.{filter_map}
 use Rattle.storage.specs.Rows.Part.{part, put}

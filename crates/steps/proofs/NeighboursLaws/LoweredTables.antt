@@ -1,16 +1,7 @@
 -- What the tables hold after a link went: notes, missing messages, grafted messages.
 -- Assumes nothing.
-use mathlib.Core.Path.{◌≡◌, refl, sym, ap, ◌∙◌, subst}
-use mathlib.Core.Bool.{Bool, true, false, not}
-use mathlib.Core.List.{List, [], ◌∷◌, map, map-map}
-use Prim.Native.Nat.{ℕ, zero, suc, ◌+◌, ◌-◌, ◌≤◌, ◌<◌, zero-le, suc-le-suc}
-use native.Mathlib.Nat.{le_of_suc-le-suc, not-suc-le-zero}
-use native.Mathlib.Omega.{arith}
-use borrow.Author.Tests.{eq-eqb, ne_eqb}
-use lib.Dec.{eqb}
-use lib.ListN.{length, take, drop, get_or}
-use lib.Seq.{drop-drop, get_or-drop, take-take}
-use Rattle.std.specs.Prelude.{if◌then◌else◌}
+use Rattle.std.proofs.Common.{◌≡◌, refl, sym, ap, ◌∙◌, subst, Bool, true, false, not, List, [], ◌∷◌, map, ℕ, zero, suc, ◌+◌, ◌-◌, ◌≤◌, ◌<◌, zero-le, suc-le-suc, le_of_suc-le-suc, not-suc-le-zero, arith, eq-eqb, ne_eqb, eqb, length, take, drop, get_or, drop-drop, get_or-drop, take-take, if◌then◌else◌}
+use mathlib.Core.List.{map-map}
 use Rattle.storage.specs.Lists.Base.{filter, is_empty}
 use Rattle.storage.specs.Lists.Map.{Map, Entry, entry}
 use Rattle.storage.specs.Rows.Part.{part}

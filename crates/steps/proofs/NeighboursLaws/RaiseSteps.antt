@@ -1,11 +1,6 @@
 -- The four changes that raise the link numbers of a block, one after the other: queue, record, grafted rows, missing rows.
 -- Assumes nothing.
-use mathlib.Core.Path.{◌≡◌, refl, sym, ap, ◌∙◌, subst}
-use mathlib.Core.List.{List, [], map}
-use Prim.Native.Nat.{ℕ, ◌+◌, ◌-◌, ◌≤◌, ◌<◌}
-use native.Mathlib.Omega.{arith}
-use lib.Dec.{lit<}
-use lib.ListN.{length, take, get_or, set}
+use Rattle.std.proofs.Common.{◌≡◌, refl, sym, ap, ◌∙◌, subst, List, [], map, ℕ, ◌+◌, ◌-◌, ◌≤◌, ◌<◌, arith, lit<, length, take, get_or, set}
 use Rattle.storage.specs.Rows.Part.{part}
 use Rattle.storage.specs.Rows.Rows.{rows}
 use Rattle.storage.specs.Refs.Refs.{Below}

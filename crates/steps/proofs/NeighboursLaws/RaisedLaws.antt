@@ -1,11 +1,8 @@
 -- Link numbers after a link came in stand for the same peers: one law for numbers with rows beside them, and from it queue, record, missing and grafted.
 -- Assumes nothing.
-use mathlib.Core.Path.{◌≡◌, refl, sym, ap, ◌∙◌, subst}
-use mathlib.Core.List.{List, [], ◌∷◌, ◌++◌, map, map-map}
-use Prim.Native.Nat.{ℕ, suc, ◌+◌, ◌*◌, ◌≤◌, ◌<◌, zero-le, suc-le-suc}
-use native.Mathlib.Omega.{arith}
-use lib.ListN.{length, take, drop, get_or, length-map, length-drop}
-use lib.Seq.{drop-drop, get_or-drop, length-take-le}
+use Rattle.std.proofs.Common.{◌≡◌, refl, sym, ap, ◌∙◌, subst, List, [], ◌∷◌, ◌++◌, map, ℕ, suc, ◌+◌, ◌*◌, ◌≤◌, ◌<◌, zero-le, suc-le-suc, arith, length, take, drop, get_or, length-drop, drop-drop, get_or-drop, length-take-le}
+use mathlib.Core.List.{map-map}
+use lib.ListN.{length-map}
 use Rattle.storage.specs.Lists.Map.{entry}
 use Rattle.storage.specs.Rows.Part.{part, put}
 use Rattle.storage.specs.Rows.Digits.{le_nat, be_nat}

@@ -1,12 +1,7 @@
 -- A peer that is no neighbour has left no trace: nothing changes when it goes.
 -- Assumes nothing.
-use mathlib.Core.Path.{◌≡◌, refl, sym, ap, ◌∙◌}
-use mathlib.Core.Bool.{Bool, true, false, not, ◌&&◌}
-use mathlib.Core.List.{List, [], ◌∷◌, map}
-use Prim.Native.Nat.{ℕ}
-use borrow.Author.Tests.{eqb-true, not-true}
-use lib.Dec.{eqb}
-use Rattle.std.specs.Prelude.{if◌then◌else◌}
+use Rattle.std.proofs.Common.{◌≡◌, refl, sym, ap, ◌∙◌, Bool, true, false, not, ◌&&◌, List, [], ◌∷◌, map, ℕ, eqb-true, eqb, if◌then◌else◌}
+use borrow.Author.Tests.{not-true}
 use Rattle.storage.specs.Lists.Base.{is_empty, all, once, ascending}
 use Rattle.storage.specs.Lists.Map.{Map, Entry, entry, keys, remove}
 use Rattle.storage.proofs.ListsLaws.MapLaws.{cases, true≢, and_left, and_right, all_head, all_tail}

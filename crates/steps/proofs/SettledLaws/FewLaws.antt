@@ -1,11 +1,6 @@
 -- The numbers of entries of a state that stands, and of what a first event, EvictCache and neighbour down leave of it: within the limits, and so within the specification's ceilings.
 -- Assumes nothing.
-use Prim.Native.Nat.{ℕ, ◌≤◌}
-use mathlib.Core.Path.{◌≡◌, refl, sym, ◌∙◌, subst}
-use mathlib.Core.Bool.{true}
-use mathlib.Core.List.{List}
-use native.Mathlib.Omega.{arith}
-use borrow.Author.Tests.{le-leb}
+use Rattle.std.proofs.Common.{ℕ, ◌≤◌, ◌≡◌, refl, sym, ◌∙◌, subst, true, List, arith, le-leb}
 use Rattle.storage.proofs.ListsLaws.MapLaws.{cases, and_intro}
 use Rattle.protocol.specs.State.{State}
 use Rattle.protocol.specs.Whole.{fits, whole}

@@ -1,13 +1,7 @@
 -- What a first event's eviction leaves of a time cache, found in the cache as it stands.
 -- Assumes nothing.
-use Prim.Native.Nat.{ℕ, ◌*◌, ◌≤◌, ◌<◌}
-use mathlib.Core.Path.{◌≡◌, refl, sym, ap, ◌∙◌, subst}
-use mathlib.Core.Bool.{Bool, true, false}
-use mathlib.Core.List.{List, [], map}
-use native.Mathlib.Omega.{arith}
-use lib.Dec.{ltb, lit<}
-use lib.ListN.{length, get_or, length-map}
-use Rattle.std.specs.Prelude.{if◌then◌else◌, Some, None}
+use Rattle.std.proofs.Common.{ℕ, ◌*◌, ◌≤◌, ◌<◌, ◌≡◌, refl, sym, ap, ◌∙◌, subst, Bool, true, false, List, [], map, arith, ltb, lit<, length, get_or, if◌then◌else◌, Some, None}
+use lib.ListN.{length-map}
 use Rattle.storage.specs.Lists.Map.{Map, Entry, entry, lookup}
 use Rattle.storage.proofs.ListsLaws.MapLaws.{cases}
 use Rattle.storage.proofs.ListsLaws.Branches.{if-on, if-both}
@@ -29,7 +23,7 @@ use Rattle.block.proofs.CachesLaws.CacheLaws.{refs-in, rows_in}
 use Rattle.decide.specs.Settled.{alive_value, settled}
 use Rattle.decide.proofs.SettledLaws.{get-later}
 use Rattle.steps.specs.Shared.{HeldAt, EntryIs}
-use Rattle.std.specs.Prelude.{Option as Answer, Some, None}
+use Rattle.std.specs.Prelude.{Option as Answer}
 use Rattle.steps.specs.Settled.Then.{no_held, no_cached, no_grafts, left_then}
 
 -- the settled state, where `init` is set and where it is not

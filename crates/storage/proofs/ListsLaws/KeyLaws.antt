@@ -1,12 +1,6 @@
 -- A key below all keys of a map is not in it; what a filtered map has at a key; the test of two keys in either order.
-use Prim.Native.Nat.{ℕ}
-use mathlib.Core.Path.{◌≡◌, refl, sym, ap, ◌∙◌}
-use mathlib.Core.Bool.{Bool, true}
-use mathlib.Core.List.{[], ◌∷◌}
-use native.Mathlib.Omega.{arith}
-use lib.Dec.{ltb, eqb}
-use borrow.Author.Tests.{ltb-true, lt-ltb, eqb-true, eqb-false, eq-eqb, ne_eqb}
-use Rattle.std.specs.Prelude.{if◌then◌else◌, Option, Some, None}
+use Rattle.std.proofs.Common.{ℕ, ◌≡◌, refl, sym, ap, ◌∙◌, Bool, true, [], ◌∷◌, arith, ltb, eqb, ltb-true, lt-ltb, eqb-true, eq-eqb, ne_eqb, if◌then◌else◌, Option, Some, None}
+use borrow.Author.Tests.{eqb-false}
 use Rattle.storage.specs.Lists.Base.{all, filter, ascending}
 use Rattle.storage.specs.Lists.Map.{Map, Entry, entry, keys, lookup, remove}
 use Rattle.storage.proofs.ListsLaws.MapLaws.{cases, and_left, and_right, all_head, all_tail}

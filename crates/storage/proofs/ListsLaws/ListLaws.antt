@@ -1,13 +1,5 @@
 -- Laws of `all`, `any`, `filter`, `count`, `length` and `concat_map` on lists, and of the tests of a map's entries.
-use Rattle.std.specs.Prelude.{Some, is_some}
-use Prim.Native.Nat.{ℕ, suc, ◌+◌, ◌≤◌}
-use mathlib.Core.Path.{◌≡◌, refl, sym, ap, ◌∙◌}
-use mathlib.Core.Bool.{Bool, true, false, not, ◌&&◌, ◌||◌}
-use mathlib.Core.List.{List, [], ◌∷◌, ◌++◌, map, append_assoc, append-nil}
-use native.Mathlib.Omega.{arith}
-use lib.Dec.{ltb, eqb}
-use lib.ListN.{length}
-use borrow.Author.Tests.{eqb-true}
+use Rattle.std.proofs.Common.{Some, is_some, ℕ, suc, ◌+◌, ◌≤◌, ◌≡◌, refl, sym, ap, ◌∙◌, Bool, true, false, not, ◌&&◌, ◌||◌, List, [], ◌∷◌, ◌++◌, map, append_assoc, append-nil, arith, ltb, eqb, length, eqb-true}
 use Rattle.storage.specs.Lists.Base.{all, any, filter, count, concat_map, ascending}
 use Rattle.storage.specs.Lists.Map.{Map, Entry, entry, keys, lookup, insert, remove, has}
 use Rattle.storage.proofs.ListsLaws.MapLaws.{cases, true≢, and_left, and_right, and_intro, all_head, all_tail, all_cons, lookup-insert-same, lookup-insert-other, lookup-remove-same, lookup-remove-other}

@@ -1,8 +1,5 @@
 -- Laws of `any` and of truth values that the proof of the guarantee shares.
-use mathlib.Core.Path.{◌≡◌, refl, sym, ◌∙◌}
-use mathlib.Core.Bool.{Bool, true, false, ◌||◌}
-use mathlib.Core.List.{List, [], ◌∷◌, ◌++◌}
-use mathlib.Core.Logic.{◌⊎◌, inl, inr}
+use Rattle.std.proofs.Common.{◌≡◌, refl, sym, ◌∙◌, Bool, true, false, ◌||◌, List, [], ◌∷◌, ◌++◌, ◌⊎◌, inl, inr}
 use Rattle.storage.specs.Lists.Base.{any, filter}
 use Rattle.storage.proofs.ListsLaws.MapLaws.{cases, true≢}
 

@@ -1,12 +1,6 @@
 -- The laws of `specs/Map.antt`: what `insert` and `remove` do to `lookup`, and that the keys stay ascending.
-use Prim.Native.Nat.{ℕ, ◌<◌}
-use mathlib.Core.Path.{◌≡◌, refl, ap, subst}
-use mathlib.Core.Bool.{Bool, true, false, ◌&&◌}
-use mathlib.Core.List.{List, [], ◌∷◌}
-use native.Mathlib.Omega.{arith}
-use lib.Dec.{ltb, eqb}
-use borrow.Author.Tests.{ltb-true, ltb-false, eqb-true, eqb-false, eq-eqb, lt-ltb}
-use Rattle.std.specs.Prelude.{if◌then◌else◌, Option, Some, None}
+use Rattle.std.proofs.Common.{ℕ, ◌<◌, ◌≡◌, refl, ap, subst, Bool, true, false, ◌&&◌, List, [], ◌∷◌, arith, ltb, eqb, ltb-true, ltb-false, eqb-true, eq-eqb, lt-ltb, if◌then◌else◌, Option, Some, None}
+use borrow.Author.Tests.{eqb-false}
 use Rattle.storage.specs.Lists.Base.{all, ascending}
 use Rattle.storage.specs.Lists.Map.{Map, keys, lookup, insert, remove}
 

@@ -1,12 +1,6 @@
 -- Tests of a list told by its places: each element passes, each number stands once.
-use Prim.Native.Nat.{ℕ, zero, suc, ◌<◌, zero-le, suc-le-suc}
-use mathlib.Core.Path.{◌≡◌, refl, sym, ap}
-use mathlib.Core.Bool.{Bool, true, false, not}
-use mathlib.Core.List.{List, [], ◌∷◌}
-use native.Mathlib.Nat.{le_of_suc-le-suc, not-suc-le-zero}
-use borrow.Author.Tests.{eq-eqb, ne_eqb, not-true}
-use lib.Dec.{eqb}
-use lib.ListN.{length, get_or}
+use Rattle.std.proofs.Common.{ℕ, zero, suc, ◌<◌, zero-le, suc-le-suc, ◌≡◌, refl, sym, ap, Bool, true, false, not, List, [], ◌∷◌, le_of_suc-le-suc, not-suc-le-zero, eq-eqb, ne_eqb, eqb, length, get_or}
+use borrow.Author.Tests.{not-true}
 use Rattle.storage.specs.Lists.Base.{all, member, once}
 use Rattle.storage.proofs.ListsLaws.MapLaws.{cases, true≢, and_left, and_right, and_intro, all_head, all_tail, all_cons}
 

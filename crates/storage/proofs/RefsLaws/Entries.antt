@@ -1,13 +1,6 @@
 -- Numbers at the start of a slice and rows at o of it: one of them, one anew, and the first of them.
 -- Assumes nothing.
-use mathlib.Core.Path.{◌≡◌, refl, sym, ap, ◌∙◌, subst}
-use mathlib.Core.Bool.{not}
-use mathlib.Core.List.{List, [], ◌∷◌}
-use Prim.Native.Nat.{ℕ, zero, suc, ◌+◌, ◌-◌, ◌*◌, ◌≤◌, ◌<◌}
-use native.Mathlib.Omega.{arith}
-use borrow.Author.Tests.{eq-eqb, ne_eqb}
-use lib.ListN.{length, take, drop, get_or, set, length-drop}
-use lib.Seq.{take-take, drop-drop, length-take-le}
+use Rattle.std.proofs.Common.{◌≡◌, refl, sym, ap, ◌∙◌, subst, not, List, [], ◌∷◌, ℕ, zero, suc, ◌+◌, ◌-◌, ◌*◌, ◌≤◌, ◌<◌, arith, eq-eqb, ne_eqb, length, take, drop, get_or, set, length-drop, take-take, drop-drop, length-take-le}
 use Rattle.storage.specs.Rows.Part.{part, put}
 use Rattle.storage.specs.Rows.Rows.{rows}
 use Rattle.storage.proofs.RowsLaws.Parts.{part-inside, take_put, drop-put, length-put, length_part, set-put, put-drop}

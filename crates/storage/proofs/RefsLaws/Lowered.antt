@@ -1,14 +1,7 @@
 -- Link numbers after a link went: one that is left names the same row; and an entry anew among numbers with rows beside them.
 -- Assumes nothing.
-use mathlib.Core.Path.{◌≡◌, refl, ap, ◌∙◌}
-use mathlib.Core.Logic.{◌⊎◌, inl, inr}
-use mathlib.Core.List.{List, [], ◌∷◌, ◌++◌}
-use Prim.Native.Nat.{ℕ, zero, suc, ◌+◌, ◌-◌, ◌≤◌, ◌<◌}
-use native.Mathlib.Nat.{le_of_suc-le-suc, not-suc-le-zero}
-use native.Mathlib.Omega.{arith}
-use borrow.Author.Tests.{lt-ltb, le-ltb}
-use lib.ListN.{length, take, drop, get_or, get_or-append}
-use lib.Seq.{get_or-take, get_or-drop, get_or-append-add, length-take-le}
+use Rattle.std.proofs.Common.{◌≡◌, refl, ap, ◌∙◌, ◌⊎◌, inl, inr, List, [], ◌∷◌, ◌++◌, ℕ, zero, suc, ◌+◌, ◌-◌, ◌≤◌, ◌<◌, le_of_suc-le-suc, not-suc-le-zero, arith, lt-ltb, le-ltb, length, take, drop, get_or, get_or-take, get_or-drop, get_or-append-add, length-take-le}
+use lib.ListN.{get_or-append}
 use Rattle.storage.specs.Rows.Part.{put}
 use Rattle.storage.specs.Refs.Refs.{Ref, ref}
 use Rattle.storage.specs.Refs.Numbers.{pairs, lowered}

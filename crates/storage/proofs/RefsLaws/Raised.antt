@@ -1,10 +1,8 @@
 -- Link numbers after a link came in, one after the other.
 -- Assumes nothing.
-use mathlib.Core.Path.{◌≡◌, sym, ap, ◌∙◌}
-use mathlib.Core.List.{List, [], ◌∷◌, map, map-append}
-use Prim.Native.Nat.{ℕ, ◌+◌, ◌≤◌, ◌<◌}
-use native.Mathlib.Omega.{arith}
-use lib.ListN.{length, get_or, set, length-map}
+use Rattle.std.proofs.Common.{◌≡◌, sym, ap, ◌∙◌, List, [], ◌∷◌, map, ℕ, ◌+◌, ◌≤◌, ◌<◌, arith, length, get_or, set}
+use mathlib.Core.List.{map-append}
+use lib.ListN.{length-map}
 use Rattle.storage.specs.Rows.Part.{part, put}
 use Rattle.storage.proofs.RowsLaws.Parts.{length_part, part-snoc, put-snoc, get_or-put-after, part-zero, put-nil}
 use Rattle.storage.specs.Refs.Refs.{shifted}

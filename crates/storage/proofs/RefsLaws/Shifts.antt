@@ -1,17 +1,9 @@
 -- A loop that changes one row after the other, and places after a row was put in: the rows that they name stay the same.
 -- Assumes nothing.
-use mathlib.Core.Path.{◌≡◌, refl, sym, ap, ◌∙◌}
-use mathlib.Core.Logic.{◌⊎◌, inl, inr}
-use mathlib.Core.Bool.{Bool, true, false}
-use mathlib.Core.List.{List, [], ◌∷◌, map, ◌++◌, map-append}
-use Prim.Native.Nat.{ℕ, suc, ◌+◌, ◌-◌, ◌≤◌, ◌<◌}
-use native.Mathlib.Nat.{zero-add}
-use native.Mathlib.Omega.{arith}
-use borrow.Author.Tests.{lt-ltb, le-ltb, ltb-true, ltb-false}
-use lib.Dec.{ltb}
-use lib.ListN.{length, get_or, take, drop, length-map, get_or-append}
-use lib.Seq.{get_or-take, get_or-drop, get_or-append-add, length-take-le, take-length}
-use Rattle.std.specs.Prelude.{if◌then◌else◌}
+use Rattle.std.proofs.Common.{◌≡◌, refl, sym, ap, ◌∙◌, ◌⊎◌, inl, inr, Bool, true, false, List, [], ◌∷◌, map, ◌++◌, ℕ, suc, ◌+◌, ◌-◌, ◌≤◌, ◌<◌, zero-add, arith, lt-ltb, le-ltb, ltb-true, ltb-false, ltb, length, get_or, take, drop, get_or-take, get_or-drop, get_or-append-add, length-take-le, if◌then◌else◌}
+use mathlib.Core.List.{map-append}
+use lib.ListN.{length-map, get_or-append}
+use lib.Seq.{take-length}
 use Rattle.storage.specs.Rows.Part.{part, put}
 use Rattle.storage.proofs.RowsLaws.Parts.{put-put-next, part-snoc, length_part, part-put, length-put, get_or-put-after}
 use Rattle.storage.specs.Refs.Refs.{shifted}

@@ -1,12 +1,7 @@
 -- Numbers as bytes, at every width: the round trips, the bounds, and the steps that a loop takes.
 -- Assumes nothing.
-use mathlib.Core.Path.{◌≡◌, refl, sym, ap, ◌∙◌}
-use mathlib.Core.List.{List, [], ◌∷◌, ◌++◌, append_assoc, append-nil}
-use Prim.Native.Nat.{ℕ, zero, suc, ◌+◌, ◌*◌, ◌/◌, ◌%◌, ◌^◌, ◌≤◌, ◌<◌}
-use native.Mathlib.Nat.{zero-add, add-zero, mul-one, mul_comm, mul_assoc, pow-suc, div-one, div-div-eq-div-mul, add-mul, add_comm, mul-le-mul_right, add-suc}
-use native.Mathlib.Numerals.{add-one}
-use native.Mathlib.Omega.{arith}
-use lib.ListN.{length, get_or, length-append}
+use Rattle.std.proofs.Common.{◌≡◌, refl, sym, ap, ◌∙◌, List, [], ◌∷◌, ◌++◌, append_assoc, append-nil, ℕ, zero, suc, ◌+◌, ◌*◌, ◌/◌, ◌%◌, ◌^◌, ◌≤◌, ◌<◌, zero-add, add-zero, mul-one, mul_comm, mul_assoc, pow-suc, div-one, add-mul, add_comm, mul-le-mul_right, add-suc, add-one, arith, length, get_or, length-append}
+use native.Mathlib.Nat.{div-div-eq-div-mul}
 use lib.Arith.{digits_div}
 use Rattle.storage.specs.Rows.Digits.{le_nat, le_bytes, be_from, be_nat, be_bytes}
 

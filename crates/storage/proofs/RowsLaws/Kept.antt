@@ -1,14 +1,7 @@
 -- A loop that keeps some rows, changed, one behind the other: a turn of it, for any test and any change; and for the test of one byte of a row.
 -- Assumes nothing.
-use mathlib.Core.Path.{◌≡◌, refl, sym, ap, ◌∙◌, subst}
-use mathlib.Core.Bool.{Bool, true, false, not}
-use mathlib.Core.List.{List, [], ◌∷◌, map, ◌++◌, map-append, map-id, append-nil}
-use Prim.Native.Nat.{ℕ, ◌+◌, ◌*◌, ◌≤◌, ◌<◌}
-use native.Mathlib.Omega.{arith}
-use borrow.Author.Tests.{eq-eqb, ne_eqb}
-use lib.ListN.{length, get_or, take, length-append}
-use lib.Seq.{take_all}
-use Rattle.std.specs.Prelude.{if◌then◌else◌}
+use Rattle.std.proofs.Common.{◌≡◌, refl, sym, ap, ◌∙◌, subst, Bool, true, false, not, List, [], ◌∷◌, map, ◌++◌, map-id, append-nil, ℕ, ◌+◌, ◌*◌, ◌≤◌, ◌<◌, arith, eq-eqb, ne_eqb, length, get_or, take, length-append, take_all, if◌then◌else◌}
+use mathlib.Core.List.{map-append}
 use Rattle.storage.specs.Lists.Base.{filter}
 use Rattle.storage.proofs.ListsLaws.Firsts.{only, filter_more}
 use Rattle.storage.specs.Rows.Part.{part, put}

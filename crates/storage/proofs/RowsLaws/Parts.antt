@@ -1,13 +1,7 @@
 -- The laws of `part` and `put`.
 -- Assumes nothing.
-use mathlib.Core.Path.{◌≡◌, refl, sym, ap, ◌∙◌}
-use mathlib.Core.List.{List, [], ◌∷◌, ◌++◌, append_assoc, append-nil}
-use Prim.Native.Nat.{ℕ, zero, suc, ◌+◌, ◌-◌, ◌≤◌, ◌<◌}
-use native.Mathlib.Nat.{zero-add, add-sub_of_le, suc-add}
-use native.Mathlib.Numerals.{add-one}
-use native.Mathlib.Omega.{arith}
-use lib.ListN.{length, take, drop, get_or, set, length-append, length-take, length-drop, take-append-drop, drop_of_length-le}
-use lib.Seq.{take-append-le, drop-append-le, drop-append-add, take-append-add, take_at, drop_at, drop-drop, take-take, take-add, drop-cons, set_split, length-take-le, get_or-take, get_or-drop, take-nil}
+use Rattle.std.proofs.Common.{◌≡◌, refl, sym, ap, ◌∙◌, List, [], ◌∷◌, ◌++◌, append_assoc, append-nil, ℕ, zero, suc, ◌+◌, ◌-◌, ◌≤◌, ◌<◌, zero-add, add-sub_of_le, suc-add, add-one, arith, length, take, drop, get_or, set, length-append, length-take, length-drop, take-append-drop, drop_of_length-le, take_at, drop_at, drop-drop, take-take, take-add, drop-cons, length-take-le, get_or-take, get_or-drop}
+use lib.Seq.{take-append-le, drop-append-le, drop-append-add, take-append-add, set_split, take-nil}
 use Rattle.storage.specs.Rows.Part.{part, put}
 
 module _ {A : Type 0} where

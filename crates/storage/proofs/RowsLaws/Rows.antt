@@ -1,12 +1,8 @@
 -- The laws of `rows`: what a part, a put and a move of bytes are to the rows.
 -- Assumes nothing.
-use mathlib.Core.Path.{◌≡◌, refl, sym, ap, ◌∙◌}
-use mathlib.Core.List.{List, [], ◌∷◌, ◌++◌, append_assoc, append-nil}
-use Prim.Native.Nat.{ℕ, zero, suc, ◌+◌, ◌-◌, ◌*◌, ◌≤◌, ◌<◌}
-use native.Mathlib.Nat.{add-mul, suc-mul, zero-mul, zero-add, suc-add, mul-le-mul_right, one-mul, le_of_suc-le-suc, not-suc-le-zero, suc-sub-suc, zero-sub, sub-zero}
-use native.Mathlib.Omega.{arith}
-use lib.ListN.{length, take, drop, get_or, length-drop, drop_of_length-le}
-use lib.Seq.{take-append-le, drop-append-le, take-take, drop-drop, take_all, length-take-le}
+use Rattle.std.proofs.Common.{◌≡◌, refl, sym, ap, ◌∙◌, List, [], ◌∷◌, ◌++◌, append_assoc, append-nil, ℕ, zero, suc, ◌+◌, ◌-◌, ◌*◌, ◌≤◌, ◌<◌, add-mul, suc-mul, zero-mul, zero-add, suc-add, mul-le-mul_right, one-mul, le_of_suc-le-suc, not-suc-le-zero, arith, length, take, drop, get_or, length-drop, drop_of_length-le, take-take, drop-drop, take_all, length-take-le}
+use native.Mathlib.Nat.{suc-sub-suc, zero-sub, sub-zero}
+use lib.Seq.{take-append-le, drop-append-le}
 use Rattle.storage.specs.Rows.Part.{part, put}
 use Rattle.storage.specs.Rows.Rows.{rows, opened, closed}
 use Rattle.storage.proofs.RowsLaws.Parts.{drop-take, length_part, length-put, put-inside, part-snoc, put-at}

@@ -1,12 +1,6 @@
 -- What a saving and a return mean for what the area keeps: the steps of a history.
 -- Assumes nothing.
-use Rattle.std.specs.Prelude.{Option, Some, None}
-use mathlib.Core.Path.{◌≡◌, refl, sym, ap, ◌∙◌, subst}
-use mathlib.Core.Bool.{true}
-use mathlib.Core.List.{List, [], ◌∷◌}
-use Prim.Native.Nat.{ℕ}
-use native.Mathlib.Omega.{arith}
-use lib.ListN.{length}
+use Rattle.std.proofs.Common.{Option, Some, None, ◌≡◌, refl, sym, ap, ◌∙◌, subst, true, List, [], ◌∷◌, ℕ, arith, length}
 use Rattle.storage.specs.Lists.Map.{Entry, entry, lookup}
 use Rattle.storage.proofs.ListsLaws.MapLaws.{cases}
 use Rattle.storage.specs.Rows.Part.{put}

@@ -1,11 +1,6 @@
 -- "Named states", computed: areas that question 17 takes and refuses, and names.
 -- Assumes nothing.
-use Rattle.std.specs.Prelude.{Some}
-use Prim.Native.Nat.{ℕ}
-use mathlib.Core.Path.{◌≡◌, refl}
-use mathlib.Core.Bool.{true, false}
-use mathlib.Core.List.{List, [], ◌∷◌, ◌++◌}
-use lib.ListN.{replicate}
+use Rattle.std.proofs.Common.{Some, ℕ, ◌≡◌, refl, true, false, List, [], ◌∷◌, ◌++◌, replicate}
 use Rattle.storage.specs.Lists.Base.{all, once, member, concat_map}
 use Rattle.storage.specs.Lists.Map.{Entry, entry, lookup}
 use Rattle.storage.specs.Rows.Part.{part, put}

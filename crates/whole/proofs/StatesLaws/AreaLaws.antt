@@ -1,13 +1,8 @@
 -- The bytes of an area and what they keep: what is read from `area_bytes` is what was kept, and bytes whose spare places are 0 are those of what they keep.
 -- Assumes nothing.
-use mathlib.Core.Path.{◌≡◌, refl, sym, ap, ◌∙◌, subst}
-use mathlib.Core.Logic.{◌⊎◌, inl, inr}
-use mathlib.Core.List.{List, [], ◌∷◌, ◌++◌}
-use Prim.Native.Nat.{ℕ, zero, suc, ◌+◌, ◌-◌, ◌*◌, ◌^◌, ◌≤◌, ◌<◌}
-use native.Mathlib.Nat.{mul-zero, mul-suc, zero-add, add-zero, eq-or-lt_of_le}
-use native.Mathlib.Omega.{arith}
-use lib.ListN.{length, get_or, take, replicate, length-append, length-replicate, get_or-replicate, get_or-append}
-use lib.Seq.{take-suc, take-length, get_or_at, ext_get_or}
+use Rattle.std.proofs.Common.{◌≡◌, refl, sym, ap, ◌∙◌, subst, ◌⊎◌, inl, inr, List, [], ◌∷◌, ◌++◌, ℕ, zero, suc, ◌+◌, ◌-◌, ◌*◌, ◌^◌, ◌≤◌, ◌<◌, mul-zero, mul-suc, zero-add, add-zero, eq-or-lt_of_le, arith, length, get_or, take, replicate, length-append, take-suc, ext_get_or}
+use lib.ListN.{length-replicate, get_or-replicate, get_or-append}
+use lib.Seq.{take-length, get_or_at}
 use Rattle.storage.specs.Lists.Base.{concat_map}
 use Rattle.storage.specs.Lists.Map.{Entry, entry}
 use Rattle.storage.proofs.ListsLaws.ListLaws.{concat-append, concat-one}

@@ -1,13 +1,6 @@
 -- One state more, or another under its name: where it stands, and the bytes.
 -- Assumes nothing.
-use Rattle.std.specs.Prelude.{Some, None}
-use mathlib.Core.Path.{◌≡◌, refl, sym, ap, ◌∙◌}
-use mathlib.Core.List.{List, [], ◌∷◌}
-use Prim.Native.Nat.{ℕ, zero, suc, ◌+◌, ◌-◌, ◌*◌, ◌≤◌, ◌<◌, zero-le, suc-le-suc}
-use native.Mathlib.Nat.{le_of_suc-le-suc, not-suc-le-zero, zero-add}
-use native.Mathlib.Omega.{arith}
-use borrow.Author.Tests.{eq-eqb, ne_eqb}
-use lib.ListN.{length, get_or, replicate, length-append, length-take, length-drop}
+use Rattle.std.proofs.Common.{Some, None, ◌≡◌, refl, sym, ap, ◌∙◌, List, [], ◌∷◌, ℕ, zero, suc, ◌+◌, ◌-◌, ◌*◌, ◌≤◌, ◌<◌, zero-le, suc-le-suc, le_of_suc-le-suc, not-suc-le-zero, zero-add, arith, eq-eqb, ne_eqb, length, get_or, replicate, length-append, length-take, length-drop}
 use Rattle.storage.specs.Lists.Base.{concat_map}
 use Rattle.storage.specs.Lists.Map.{Entry, lookup}
 use Rattle.storage.specs.Rows.Part.{put}

@@ -1,16 +1,9 @@
 -- Question 17 is answered yes exactly of the areas that savings left: `area-exact`.
 -- Assumes nothing.
-use mathlib.Core.Path.{◌≡◌, refl, sym, ap, ◌∙◌, subst}
-use mathlib.Core.Bool.{true, false}
-use mathlib.Core.List.{List, [], ◌∷◌, ◌++◌, map}
-use Prim.Native.Nat.{ℕ, zero, suc, ◌+◌, ◌*◌, ◌≤◌, ◌<◌, zero-le, suc-le-suc}
-use native.Mathlib.Nat.{le_of_suc-le-suc, not-suc-le-zero}
-use native.Mathlib.Omega.{arith}
-use borrow.Author.Tests.{le-leb, eqb-true, eqb-false}
-use lib.Dec.{eqb}
-use lib.ListN.{length, get_or, take, replicate, length-replicate, get_or-replicate, set, length-map, get_or-map}
-use lib.Seq.{take-suc, take-length, length-take-le, get_or-take, drop-length, set-get_or}
-use Rattle.std.specs.Prelude.{if◌then◌else◌}
+use Rattle.std.proofs.Common.{◌≡◌, refl, sym, ap, ◌∙◌, subst, true, false, List, [], ◌∷◌, ◌++◌, map, ℕ, zero, suc, ◌+◌, ◌*◌, ◌≤◌, ◌<◌, zero-le, suc-le-suc, le_of_suc-le-suc, not-suc-le-zero, arith, le-leb, eqb-true, eqb, length, get_or, take, replicate, set, take-suc, length-take-le, get_or-take, if◌then◌else◌}
+use borrow.Author.Tests.{eqb-false}
+use lib.ListN.{length-replicate, get_or-replicate, length-map, get_or-map}
+use lib.Seq.{take-length, drop-length, set-get_or}
 use Rattle.storage.specs.Lists.Base.{concat_map}
 use Rattle.storage.specs.Lists.Map.{Entry, entry}
 use Rattle.storage.proofs.ListsLaws.MapLaws.{cases, true≢, and_intro}

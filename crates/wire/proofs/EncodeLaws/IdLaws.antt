@@ -1,8 +1,7 @@
 -- An identifier is written as its four words, each highest byte first.
 -- Assumes nothing.
-use Rattle.std.proofs.Common.{◌≡◌, ℕ, ◌+◌, ◌*◌, ◌^◌, ◌/◌, ◌%◌, ◌<◌, List, [], ◌∷◌, ◌++◌, sym, ap, ◌∙◌}
+use Rattle.std.proofs.Common.{◌≡◌, ℕ, ◌+◌, ◌*◌, ◌^◌, ◌/◌, ◌%◌, ◌<◌, List, [], ◌∷◌, ◌++◌, sym, ap, ◌∙◌, div-one}
 use Rattle.std.specs.Int.{w64, to_be_bytes}
-use native.Mathlib.Nat.{div-one}
 use Rattle.storage.specs.Rows.Digits.{be_bytes}
 use Rattle.storage.proofs.RowsLaws.Ids.{bytes_after}
 use Rattle.postcard.specs.Number.{big_endian, id_bytes}

@@ -6,9 +6,9 @@ use Rattle.postcard.specs.Message.{Ihave, IHave, ihave_bytes, message_bytes}
 use Rattle.postcard.specs.Output.{ihave_head}
 use Rattle.postcard.specs.Decode.{read_ihaves, ihaves_in}
 use Rattle.postcard.proofs.Listed.{ihave-listed}
-use Rattle.wire.specs.Encode.Intake.{Intake, after, RoomFor}
+use Rattle.wire.specs.Encode.Intake.{Intake, after}
 use Rattle.wire.specs.Reader.Announced.{is_got}
-use Rattle.wire.proofs.EncodeLaws.IntakeLaws.{after_append, after_nil, room_after}
+use Rattle.wire.proofs.EncodeLaws.IntakeLaws.{after_append, after_nil}
 use Rattle.wire.proofs.ReaderLaws.AnnouncedLaws.{announced_count}
 
 -- an announcement and those after it
@@ -17,18 +17,12 @@ module _ {hs others : List Ihave} {h : Ihave} (taken : hs ≡ h ∷ others) wher
   unfolding concat_map
   entry = ap (concat_map ihave_bytes) taken
 
-  pub entry-room : (x : Intake) → RoomFor (concat_map ihave_bytes hs) x → RoomFor (ihave_bytes h) x
-  entry-room x r = omega (arith, r, ap length entry, length-append (ihave_bytes h) (concat_map ihave_bytes others))
-
   pub entry-same : (x y z : Intake) → after (concat_map ihave_bytes hs) x ≡ z → y ≡ after (ihave_bytes h) x → after (concat_map ihave_bytes others) y ≡ z
   entry-same x y z s e =
       ap (after (concat_map ihave_bytes others)) e
       ∙ after_append (ihave_bytes h) (concat_map ihave_bytes others) x
       ∙ ap (λ (l : List ℕ). after l x) (sym entry)
       ∙ s
-
-  pub entry-left : (x y : Intake) → RoomFor (concat_map ihave_bytes hs) x → y ≡ after (ihave_bytes h) x → RoomFor (concat_map ihave_bytes others) y
-  entry-left x y r e = rw e (rw (room_after (ihave_bytes h) x) (omega (arith, r, ap length entry, length-append (ihave_bytes h) (concat_map ihave_bytes others))))
 
 -- all were written
 pub entries-done : (hs : List Ihave) (x z : Intake) → hs ≡ [] → after (concat_map ihave_bytes hs) x ≡ z → x ≡ z
@@ -39,12 +33,6 @@ entries-done hs x z n s = sym (ap (λ (l : List Ihave). after (concat_map ihave_
 module _ (count : ℕ) (bytes : List ℕ) (there : is_got (read_ihaves count bytes) ≡ true) (x : Intake) where
   whole : message_bytes (IHave (ihaves_in (read_ihaves count bytes))) ≡ ihave_head count ++ concat_map ihave_bytes (ihaves_in (read_ihaves count bytes))
   whole = ihave-listed (ihaves_in (read_ihaves count bytes)) count (announced_count count bytes there)
-
-  pub head-room : RoomFor (message_bytes (IHave (ihaves_in (read_ihaves count bytes)))) x → RoomFor (ihave_head count) x
-  head-room r = omega (arith, r, ap length whole, length-append (ihave_head count) (concat_map ihave_bytes (ihaves_in (read_ihaves count bytes))))
-
-  pub entries-room : (y : Intake) → RoomFor (message_bytes (IHave (ihaves_in (read_ihaves count bytes)))) x → y ≡ after (ihave_head count) x → RoomFor (concat_map ihave_bytes (ihaves_in (read_ihaves count bytes))) y
-  entries-room y r e = rw (e, room_after (ihave_head count) x) (omega (arith, r, ap length whole, length-append (ihave_head count) (concat_map ihave_bytes (ihaves_in (read_ihaves count bytes)))))
 
   pub ihave-after : (y z : Intake) → y ≡ after (ihave_head count) x → z ≡ after (concat_map ihave_bytes (ihaves_in (read_ihaves count bytes))) y → z ≡ after (message_bytes (IHave (ihaves_in (read_ihaves count bytes)))) x
   ihave-after y z e k =

@@ -1,8 +1,8 @@
 -- Groups of seven bits read one after the other, as the loop of `groups` does.
 -- Assumes nothing.
-use Rattle.std.proofs.Common.{◌≡◌, ℕ, zero, suc, ◌+◌, ◌*◌, ◌-◌, ◌^◌, ◌≤◌, ◌<◌, Bool, true, false, List, [], ◌∷◌, Result, refl, sym, ap, subst, ◌∙◌, arith}
-use native.Mathlib.Nat.{pow-succ', le_trans, mul-le-mul, mul-le-mul_left, mul-add, mul_assoc, add_assoc, one-mul, zero-add}
-use borrow.Author.Tests.{lt-ltb, le-ltb, lt-leb, le-leb, ne_eqb}
+use Rattle.std.proofs.Common.{◌≡◌, ℕ, zero, suc, ◌+◌, ◌*◌, ◌-◌, ◌^◌, ◌≤◌, ◌<◌, Bool, true, false, List, [], ◌∷◌, Result, refl, sym, ap, subst, ◌∙◌, arith, le_trans, mul-le-mul, mul-le-mul_left, mul-add, mul_assoc, add_assoc, one-mul, zero-add, lt-ltb, le-ltb, le-leb, ne_eqb}
+use native.Mathlib.Nat.{pow-succ'}
+use borrow.Author.Tests.{lt-leb}
 use Rattle.postcard.specs.Number.{Read, got, fault, ◌then◌, last_group, read_groups}
 use Rattle.wire.specs.declared.reader.fault.Fault.{Fault}
 use Rattle.wire.specs.Reader.Gives.{Gives, read_byte, raised}

@@ -1,8 +1,6 @@
 -- A kind byte: read, and then asked whether it is known.
 -- Assumes nothing.
-use Rattle.std.proofs.Common.{◌≡◌, ℕ, List, [], ◌∷◌, ◌≤◌, ◌<◌, drop, refl, if◌then◌else◌}
-use Rattle.std.specs.Prelude.{ltb}
-use borrow.Author.Tests.{lt-ltb, le-ltb}
+use Rattle.std.proofs.Common.{◌≡◌, ℕ, List, [], ◌∷◌, ◌≤◌, ◌<◌, drop, refl, if◌then◌else◌, ltb, lt-ltb, le-ltb}
 use Rattle.postcard.specs.Number.{Read, got, fault, ◌then◌, read_kind}
 use Rattle.postcard.specs.Decode.{delivery_kind, message_kind}
 use Rattle.wire.specs.Reader.Gives.{read_byte}

@@ -1,7 +1,7 @@
 -- What the caller of `rewrite` finds.
 -- Assumes nothing.
-use Rattle.std.proofs.Common.{◌≡◌, ℕ, ◌≤◌, ◌<◌, List, [], length, refl, arith}
-use borrow.Author.Tests.{le-leb, lt-leb}
+use Rattle.std.proofs.Common.{◌≡◌, ℕ, ◌≤◌, ◌<◌, List, [], length, refl, arith, le-leb}
+use borrow.Author.Tests.{lt-leb}
 use Rattle.postcard.specs.Message.{Message, message_bytes}
 use Rattle.postcard.specs.Decode.{decoded, faulty, meaning, read_message}
 use Rattle.postcard.specs.Output.{Wrote}

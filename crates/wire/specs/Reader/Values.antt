@@ -18,9 +18,9 @@ ihaves_value hs = ihaves_in (read_ihaves hs.count hs.bytes.now)
 
 -- a message
 abbrev pub message_value : Message → message.Message
-message_value (Gossip id content d) = message.Gossip (id_of id) content.now (delivery_value d)
+message_value (Gossip g) = message.Gossip (id_of g.id) g.content.now (delivery_value g.delivery)
 message_value Prune = message.Prune
-message_value (Graft w r) = message.Graft (wanted_value w) r.0
+message_value (Graft g) = message.Graft (wanted_value g.wanted) g.round.0
 message_value (IHave hs) = message.IHave (ihaves_value hs)
 
 -- an event

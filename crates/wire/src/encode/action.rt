@@ -1,5 +1,5 @@
 // Actions: the specification, "1 send (peer, byte 0 taken or 1 handed back, message); 2 schedule (delay, timer); 3 emit (peer, length, content, delivery)"; "action 4 with the identifier".
-#![tactic(auto, unfolding(postcard::specs::Message::taken_byte, postcard::specs::Output::send_head, postcard::specs::Message::action_bytes), using(crate::proofs::EncodeLaws::IntakeLaws::after_append, crate::proofs::EncodeLaws::IntakeLaws::room_after, crate::proofs::EncodeLaws::IntakeLaws::length_both))]
+#![tactic(auto, unfolding(postcard::specs::Message::taken_byte, postcard::specs::Output::send_head, postcard::specs::Message::action_bytes), using(crate::proofs::EncodeLaws::IntakeLaws::after_append))]
 
 ghost use Rattle.std.specs.Prelude.{◌≡◌, [], ◌∷◌, ◌++◌};
 ghost use Rattle.storage.specs.Rows.Ident.{id_of};

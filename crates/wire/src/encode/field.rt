@@ -1,5 +1,5 @@
 // The fields that messages, timers and actions are made of.
-#![tactic(auto, unfolding(postcard::specs::Message::content_bytes, postcard::specs::Message::delivery_bytes, postcard::specs::Message::optional_id_bytes, postcard::specs::Message::timer_bytes), using(crate::proofs::EncodeLaws::IntakeLaws::after_append, crate::proofs::EncodeLaws::IntakeLaws::room_after, crate::proofs::EncodeLaws::IntakeLaws::length_both, crate::proofs::EncodeLaws::IntakeLaws::id_long, crate::proofs::EncodeLaws::IdLaws::id_words))]
+#![tactic(auto, unfolding(postcard::specs::Message::content_bytes, postcard::specs::Message::delivery_bytes, postcard::specs::Message::optional_id_bytes, postcard::specs::Message::timer_bytes), using(crate::proofs::EncodeLaws::IntakeLaws::after_append, crate::proofs::EncodeLaws::IdLaws::id_words))]
 
 ghost use Rattle.std.specs.Prelude.{◌≡◌, [], ◌∷◌, ◌++◌, List, ℕ};
 ghost use Rattle.storage.specs.Rows.Ident.{id_of};

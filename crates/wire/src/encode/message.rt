@@ -1,5 +1,5 @@
 // Messages: the specification, "Numbers and messages (Postcard)".
-#![tactic(auto, unfolding(postcard::specs::Message::message_bytes, postcard::specs::Output::ihave_head, postcard::specs::Message::ihave_bytes), using(crate::proofs::EncodeLaws::IntakeLaws::after_append, crate::proofs::EncodeLaws::IntakeLaws::room_after, crate::proofs::EncodeLaws::IntakeLaws::length_both))]
+#![tactic(auto, unfolding(postcard::specs::Message::message_bytes, postcard::specs::Output::ihave_head, postcard::specs::Message::ihave_bytes), using(crate::proofs::EncodeLaws::IntakeLaws::after_append))]
 
 ghost use Rattle.std.specs.Prelude.{◌≡◌, [], ◌∷◌, ◌++◌};
 ghost use Rattle.storage.specs.Lists.Base.{concat_map};
@@ -8,7 +8,7 @@ ghost use Rattle.postcard.specs.Message as message;
 ghost use Rattle.postcard.specs.Message.{ihave_bytes, message_bytes};
 ghost use Rattle.postcard.specs.Output.{ihave_head};
 ghost use Rattle.postcard.specs.Values.{delivery_value, wanted_value, ihave_value};
-ghost use Rattle.wire.specs.Encode.Intake.{after, RoomFor};
+ghost use Rattle.wire.specs.Encode.Intake.{after};
 ghost use Rattle.wire.specs.Reader.Values.{ihaves_value, message_value};
 
 use crate::encode::Encode;
@@ -94,7 +94,6 @@ impl Encode for Ihave {
 
 // The entries of an IHave, one by one.
 fn encode_entries<S: Sink>(ihaves: Ihaves, out: &mut S)
-    requires { RoomFor (concat_map ihave_bytes (ihaves_value ihaves)) (S.intake out.old) }
     ensures { S.intake out.new ≡ after (concat_map ihave_bytes (ihaves_value ihaves.entry)) (S.intake out.old) }
 {
     for ihave in ihaves {
@@ -117,19 +116,10 @@ impl<'a> Encode for Message<'a> {
     ghost bytes = { λ m. message_bytes (message_value m) };
 
     fn encode<S: Sink>(&self, out: &mut S) {
-        match *self {
-            Message::Gossip {
-                id,
-                content,
-                delivery,
-            } => Gossip {
-                id,
-                content,
-                delivery,
-            }
-            .encode(out),
+        match self {
+            Message::Gossip(gossip) => gossip.encode(out),
             Message::Prune => Prune.encode(out),
-            Message::Graft { wanted, round } => Graft { wanted, round }.encode(out),
+            Message::Graft(graft) => graft.encode(out),
             Message::IHave(ihaves) => ihaves.encode(out),
         }
     }

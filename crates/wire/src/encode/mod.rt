@@ -1,7 +1,7 @@
 // What is written, field by field, from the left: the specification, "Numbers and messages (Postcard)".
 ghost use Rattle.std.specs.Prelude.{◌≡◌, ◌^◌, ◌<◌, List, ℕ, length};
 ghost use Rattle.postcard.specs.Output.{FitsAt, Wrote};
-ghost use Rattle.wire.specs.Encode.Intake.{after, RoomFor};
+ghost use Rattle.wire.specs.Encode.Intake.{after};
 
 pub mod action;
 pub mod field;
@@ -15,7 +15,6 @@ pub trait Encode {
     ghost bytes: { Self → List ℕ };
 
     fn encode<S: Sink>(&self, out: &mut S)
-        requires { RoomFor (bytes self.now) (S.intake out.old) }
         ensures { S.intake out.new ≡ after (bytes self.now) (S.intake out.old) };
 }
 

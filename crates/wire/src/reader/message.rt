@@ -7,26 +7,19 @@ ghost use Rattle.postcard.specs.Values.{delivery_value, wanted_value, ihave_valu
 ghost use Rattle.wire.specs.Reader.Gives.{Gives, Decodes};
 ghost use Rattle.wire.specs.Reader.Values.{ihaves_value, message_value};
 
+use crate::encode::message::{Gossip, Graft};
 use crate::reader::Reader;
 use crate::reader::fault::Fault;
 use crate::reader::ihaves::Ihaves;
 use postcard::message::{Delivery, Ihave};
-use postcard::units::Round;
 use storage::rows::id::Id;
 
 // "Message: 0 Gossip (identifier 32 bytes, length, content, delivery), 1 Prune, 2 Graft (byte 0, or 1 and identifier; round), 3 IHave (count, then identifier and round each)".
 #[derive(Clone, Copy)]
 pub enum Message<'a> {
-    Gossip {
-        id: Id,
-        content: &'a [u8],
-        delivery: Delivery,
-    },
+    Gossip(Gossip<'a>),
     Prune,
-    Graft {
-        wanted: Option<Id>,
-        round: Round,
-    },
+    Graft(Graft),
     IHave(Ihaves<'a>),
 }
 
@@ -93,11 +86,11 @@ impl<'a> Reader<'a> {
         let id = self.id()?;
         let content = self.padded_content()?;
         let delivery = self.delivery()?;
-        Ok(Message::Gossip {
+        Ok(Message::Gossip(Gossip {
             id,
             content,
             delivery,
-        })
+        }))
     }
 
     // "2 Graft (byte 0, or 1 and identifier; round)".
@@ -107,7 +100,7 @@ impl<'a> Reader<'a> {
     {
         let wanted = self.wanted()?;
         let round = self.round()?;
-        Ok(Message::Graft { wanted, round })
+        Ok(Message::Graft(Graft { wanted, round }))
     }
 
     // "3 IHave (count, then identifier and round each)".

@@ -1,11 +1,5 @@
 -- `by_link::next_of`: no note from `from` up to i is for the link.
-use mathlib.Core.Path.{◌≡◌, sym, ap, ◌∙◌}
-use mathlib.Core.Bool.{true, false}
-use mathlib.Core.List.{List}
-use Prim.Native.Nat.{ℕ, ◌<◌}
-use native.Mathlib.Omega.{arith}
-use borrow.Author.Tests.{eq-eqb, ne_eqb}
-use lib.ListN.{length, drop, get_or}
+use Rattle.std.proofs.Common.{◌≡◌, sym, ap, ◌∙◌, true, false, List, ℕ, ◌<◌, arith, eq-eqb, ne_eqb, length, drop, get_or, rules}
 use Rattle.storage.specs.Lists.Base.{filter}
 use Rattle.storage.specs.Lists.Map.{keys}
 use Rattle.time_cache.proofs.Orders.{up_of}
@@ -18,7 +12,6 @@ use Rattle.block.proofs.LinkLaws.{count-peers}
 use Rattle.block.proofs.NoteLaws.{count-notes}
 use Rattle.block.proofs.Scans.{keys-apart}
 use Rattle.alike.proofs.ByLink.{other-first}
-use borrow.Author.Rules.{rules}
 use Rattle.alike.proofs.by_link.next_of.Goals as goal
 use Rattle.alike.proofs.by_link.next_of.Goals.{After-count-n, After-link_at, Start}
 

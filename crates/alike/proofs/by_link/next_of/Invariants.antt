@@ -1,7 +1,5 @@
 -- `by_link::next_of`: no note from `from` up to i is for the link.
-use mathlib.Core.Path.{◌≡◌}
-use Prim.Native.Nat.{◌≤◌}
-use lib.ListN.{drop}
+use Rattle.std.proofs.Common.{◌≡◌, ◌≤◌, drop}
 use Rattle.storage.specs.Lists.Base.{filter}
 use Rattle.protocol.specs.Push.{for_peer}
 use Rattle.block.specs.View.{state_of}

@@ -1,11 +1,5 @@
 -- `by_link::same_for`: the notes before the two cursors agree. The measure is n - i.
-use mathlib.Core.Bool.{not}
-use mathlib.Core.Path.{◌≡◌, sym, ap, ◌∙◌, subst}
-use mathlib.Core.List.{List}
-use Prim.Native.Nat.{ℕ, ◌+◌, ◌<◌}
-use native.Mathlib.Omega.{arith}
-use lib.Dec.{leb}
-use lib.ListN.{length, get_or}
+use Rattle.std.proofs.Common.{not, ◌≡◌, sym, ap, ◌∙◌, subst, List, ℕ, ◌+◌, ◌<◌, arith, leb, length, get_or}
 use Rattle.whole.proofs.Tests.{no, yes}
 use Rattle.protocol.specs.State.{State, Note}
 use Rattle.protocol.specs.Alike.{same_note}

@@ -1,5 +1,5 @@
 -- `by_link::same_for`: the notes before the two cursors agree. The measure is n - i.
-use Prim.Native.Nat.{◌-◌}
+use Rattle.std.proofs.Common.{◌-◌}
 use Rattle.block.specs.View.{state_of}
 use Rattle.block.specs.LinkSteps.{peer_at}
 use Rattle.block.specs.NoteSteps.{notes_of}

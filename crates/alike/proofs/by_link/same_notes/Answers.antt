@@ -1,12 +1,5 @@
 -- `by_link::same_notes`: the notes of the first l links agree.
-use mathlib.Core.Bool.{not}
-use mathlib.Core.Path.{◌≡◌, sym, ap, ◌∙◌}
-use mathlib.Core.Bool.{true}
-use mathlib.Core.List.{List}
-use Prim.Native.Nat.{ℕ, ◌<◌}
-use native.Mathlib.Omega.{arith}
-use borrow.Author.Count.{below_more}
-use lib.ListN.{length, get_or}
+use Rattle.std.proofs.Common.{not, ◌≡◌, sym, ap, ◌∙◌, true, List, ℕ, ◌<◌, arith, below_more, length, get_or, rules}
 use Rattle.whole.proofs.Tests.{no, yes}
 use Rattle.protocol.specs.State.{Note}
 use Rattle.block.specs.View.{state_of}
@@ -15,7 +8,6 @@ use Rattle.block.proofs.LinkLaws.{count-peers}
 use Rattle.block.specs.NoteSteps.{notes_of}
 use Rattle.alike.specs.NoteTable.{same_for}
 use Rattle.alike.proofs.ByLink.{notes-no, notes-yes}
-use borrow.Author.Rules.{rules}
 use Rattle.alike.proofs.by_link.same_notes.Goals as goal
 use Rattle.alike.proofs.by_link.same_notes.Goals.{Start}
 

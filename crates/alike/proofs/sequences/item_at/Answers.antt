@@ -1,9 +1,6 @@
 -- `sequences::item_at`: by the list.
-use mathlib.Core.Path.{◌≡◌, sym, ap, ◌∙◌, subst}
-use mathlib.Core.List.{List}
-use Prim.Native.Nat.{ℕ, ◌<◌}
-use lib.Dec.{lit<}
-use lib.ListN.{length, get_or, length-map}
+use Rattle.std.proofs.Common.{◌≡◌, sym, ap, ◌∙◌, subst, List, ℕ, ◌<◌, lit<, length, get_or, arith}
+use lib.ListN.{length-map}
 use Rattle.alike.specs.Elements.{Element, element, expiry_element, sequence_of}
 use Rattle.block.specs.View.{state_of, limits_of, received_in, grafted_in, cached_in, nothing_of, grafts_of, cached_of}
 use Rattle.block.specs.declared.head.Head.{Head}
@@ -19,7 +16,6 @@ use Rattle.block.specs.Layout.{table}
 use Rattle.block.specs.Fit.{Fit}
 use Rattle.block.specs.TimeCaches.{received_cache, grafted_cache, cached_cache}
 use Rattle.alike.proofs.BlockReads.{expiry-read}
-use native.Mathlib.Omega.{arith}
 use Rattle.alike.proofs.sequences.item_at.Goals as goal
 use Rattle.alike.proofs.sequences.item_at.Goals.{Start}
 

@@ -1,5 +1,5 @@
 -- `sequences::row_item`: time and key of the row.
-use mathlib.Core.Path.{◌∙◌}
+use Rattle.std.proofs.Common.{◌∙◌}
 use Rattle.alike.specs.Elements.{element}
 use Rattle.alike.proofs.BlockReads.{key-read}
 use Rattle.alike.proofs.sequences.row_item.Goals as goal

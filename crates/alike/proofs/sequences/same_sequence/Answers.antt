@@ -1,17 +1,9 @@
 -- `sequences::same_sequence`: the first j elements agree.
-use mathlib.Core.Path.{ap}
-use mathlib.Core.Bool.{not}
-use mathlib.Core.Path.{◌≡◌, sym, ◌∙◌}
-use mathlib.Core.List.{List}
-use Prim.Native.Nat.{ℕ, ◌<◌}
-use lib.ListN.{length, get_or}
+use Rattle.std.proofs.Common.{ap, not, ◌≡◌, sym, ◌∙◌, List, ℕ, ◌<◌, length, get_or, below_more, arith, rules}
 use Rattle.whole.proofs.Tests.{no, yes}
 use Rattle.block.specs.View.{state_of}
 use Rattle.alike.specs.Elements.{Element, element, same_element, sequence_of}
 use Rattle.alike.proofs.Lists.{list-yes, list-no, list_length}
-use borrow.Author.Count.{below_more}
-use native.Mathlib.Omega.{arith}
-use borrow.Author.Rules.{rules}
 use Rattle.alike.proofs.sequences.same_sequence.Invariants.{Agree}
 use Rattle.alike.proofs.sequences.same_sequence.Goals as goal
 use Rattle.alike.proofs.sequences.same_sequence.Goals.{After-same, Start}

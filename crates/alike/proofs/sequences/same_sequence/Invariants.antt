@@ -1,10 +1,6 @@
 -- `sequences::same_sequence`: the first j elements agree.
-use Prim.Native.Nat.{ℕ, ◌≤◌, ◌<◌}
+use Rattle.std.proofs.Common.{ℕ, ◌≤◌, ◌<◌, ◌≡◌, true, List, get_or}
 use Rattle.block.specs.View.{state_of}
-use mathlib.Core.Path.{◌≡◌}
-use mathlib.Core.Bool.{true}
-use mathlib.Core.List.{List}
-use lib.ListN.{get_or}
 use Rattle.alike.specs.Elements.{Element, element, same_element, sequence_of}
 use Rattle.alike.proofs.sequences.same_sequence.Given as goal
 

@@ -1,6 +1,6 @@
 -- `sequences::size`: the number that the header has, or the count of the list.
-use mathlib.Core.Path.{sym, ap, ◌∙◌}
-use lib.ListN.{length, length-map}
+use Rattle.std.proofs.Common.{sym, ap, ◌∙◌, length}
+use lib.ListN.{length-map}
 use Rattle.alike.specs.Elements.{expiry_element, sequence_of}
 use Rattle.block.specs.View.{state_of}
 use Rattle.block.proofs.CachesLaws.ReceivedLaws.{count-received-rows}

@@ -1,7 +1,5 @@
 -- `tables::first_at`: flag, peer and round after the place of the entry.
-use mathlib.Core.Path.{ap, ◌∙◌}
-use Prim.Native.Nat.{ℕ, ◌+◌, ◌*◌}
-use lib.ListN.{get_or}
+use Rattle.std.proofs.Common.{ap, ◌∙◌, ℕ, ◌+◌, ◌*◌, get_or}
 use Rattle.alike.proofs.Lists.{flag_is}
 use Rattle.block.specs.View.{only_if}
 use Rattle.alike.proofs.BlockReads.{first_read}

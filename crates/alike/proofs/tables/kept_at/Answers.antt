@@ -1,7 +1,5 @@
 -- `tables::kept_at`: flag and peer after the `first` of the entry.
-use mathlib.Core.Path.{refl, ap, ◌∙◌}
-use Prim.Native.Nat.{ℕ, ◌+◌, ◌*◌}
-use lib.ListN.{get_or}
+use Rattle.std.proofs.Common.{refl, ap, ◌∙◌, ℕ, ◌+◌, ◌*◌, get_or}
 use Rattle.alike.proofs.Lists.{flag_is}
 use Rattle.block.specs.View.{only_if}
 use Rattle.alike.proofs.BlockReads.{kept_read}

@@ -1,5 +1,5 @@
 -- `tables::missed_at`: the row of the message.
-use mathlib.Core.Path.{◌∙◌}
+use Rattle.std.proofs.Common.{◌∙◌}
 use Rattle.alike.proofs.BlockReads.{missed-read}
 use Rattle.alike.proofs.tables.missed_at.Goals as goal
 

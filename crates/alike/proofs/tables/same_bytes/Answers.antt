@@ -1,9 +1,6 @@
 -- `tables::same_bytes`: the first i bytes agree.
-use mathlib.Core.Path.{sym}
-use lib.Dec.{eqb}
-use borrow.Author.Tests.{ne_eqb}
+use Rattle.std.proofs.Common.{sym, eqb, ne_eqb, arith}
 use Rattle.alike.proofs.Lists.{list-yes, list-no, list_length}
-use native.Mathlib.Omega.{arith}
 use Rattle.alike.proofs.tables.same_bytes.Goals as goal
 
 pub returns-then-a-b : goal.returns-then-a-b

@@ -1,9 +1,5 @@
 -- `tables::same_bytes`: the first i bytes agree.
-use mathlib.Core.Path.{◌≡◌}
-use mathlib.Core.Bool.{true}
-use Prim.Native.Nat.{ℕ, ◌≤◌, ◌<◌}
-use lib.Dec.{eqb}
-use lib.ListN.{length, get_or}
+use Rattle.std.proofs.Common.{◌≡◌, true, ℕ, ◌≤◌, ◌<◌, eqb, length, get_or}
 use Rattle.alike.proofs.tables.same_bytes.Given as goal
 
 abbrev pub invariant-loop-i : goal.invariant-loop-i

@@ -1,12 +1,5 @@
 -- `tables::same_cached`: key and expiry, round, content.
-use mathlib.Core.Bool.{not}
-use mathlib.Core.Path.{◌≡◌, sym, ap, ◌∙◌, subst}
-use mathlib.Core.Bool.{◌&&◌}
-use mathlib.Core.List.{List}
-use Prim.Native.Nat.{ℕ, ◌+◌, ◌-◌}
-use lib.Dec.{eqb}
-use lib.ListN.{take, drop}
-use borrow.Author.Tests.{eq-eqb, ne_eqb}
+use Rattle.std.proofs.Common.{not, ◌≡◌, sym, ap, ◌∙◌, subst, ◌&&◌, List, ℕ, ◌+◌, ◌-◌, eqb, take, drop, eq-eqb, ne_eqb}
 use Rattle.whole.proofs.Tests.{no, yes}
 use Rattle.block.specs.View.{state_of, limits_of}
 use Rattle.block.specs.declared.head.Head.{Head}

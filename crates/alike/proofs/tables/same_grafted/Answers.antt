@@ -1,7 +1,5 @@
 -- `tables::same_grafted`: key and expiry, `first`, `kept`, peers.
-use mathlib.Core.Path.{◌≡◌, refl, sym, ap, ◌∙◌, subst}
-use mathlib.Core.Bool.{Bool, true, false, ◌&&◌}
-use lib.Dec.{eqb}
+use Rattle.std.proofs.Common.{◌≡◌, refl, sym, ap, ◌∙◌, subst, Bool, true, false, ◌&&◌, eqb}
 use Rattle.block.specs.View.{state_of}
 use Rattle.protocol.specs.Alike.{same_map, same_option, same_hop, same_grafts}
 use Rattle.alike.proofs.Lists.{list_grafts}

@@ -1,6 +1,6 @@
 -- `tables::same_key`: the rows that the entries name.
 use Rattle.alike.proofs.BlockReads.{place-below}
-use native.Mathlib.Omega.{arith}
+use Rattle.std.proofs.Common.{arith}
 use Rattle.alike.proofs.tables.same_key.Goals as goal
 
 pub row_item-x-requires : goal.row_item-x-requires

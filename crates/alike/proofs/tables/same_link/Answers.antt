@@ -1,9 +1,6 @@
 -- `tables::same_link`: peer and mark; two marks are equal exactly if those of the definitions are.
-use mathlib.Core.Path.{◌≡◌, refl, sym, ap, ◌∙◌}
-use mathlib.Core.Bool.{Bool, ◌&&◌}
-use lib.Dec.{eqb}
+use Rattle.std.proofs.Common.{◌≡◌, refl, sym, ap, ◌∙◌, Bool, ◌&&◌, eqb, eq-eqb, ne_eqb}
 use denote.Enum.Bare.{sameb}
-use borrow.Author.Tests.{eq-eqb, ne_eqb}
 use Rattle.block.specs.View.{state_of}
 use Rattle.protocol.specs.Alike.{same_mark}
 use Rattle.alike.proofs.Lists.{and-no-left}

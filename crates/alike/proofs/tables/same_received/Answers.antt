@@ -1,5 +1,5 @@
 -- `tables::same_received`: key and expiry.
-use mathlib.Core.Path.{sym, ap, ◌∙◌, subst}
+use Rattle.std.proofs.Common.{sym, ap, ◌∙◌, subst}
 use Rattle.block.specs.View.{state_of}
 use Rattle.protocol.specs.Alike.{same_unit}
 use Rattle.alike.proofs.Lists.{and_yes}

@@ -1,16 +1,9 @@
 -- `tables::same_rows`: the first i rows agree.
-use mathlib.Core.Path.{ap}
-use mathlib.Core.Bool.{not}
-use mathlib.Core.Path.{◌≡◌, sym, ◌∙◌}
-use mathlib.Core.Bool.{true}
-use Prim.Native.Nat.{ℕ}
+use Rattle.std.proofs.Common.{ap, not, ◌≡◌, sym, ◌∙◌, true, ℕ, below_more, arith, rules}
 use Rattle.whole.proofs.Tests.{no, yes}
 use Rattle.block.specs.View.{state_of}
 use Rattle.alike.specs.Rows.{same_row}
-use borrow.Author.Count.{below_more}
 use Rattle.alike.proofs.Entries.{rows-yes, rows-no, rows-length}
-use native.Mathlib.Omega.{arith}
-use borrow.Author.Rules.{rules}
 use Rattle.alike.proofs.tables.same_rows.Goals as goal
 
 pub returns-then-n-rows_of : goal.returns-then-n-rows_of

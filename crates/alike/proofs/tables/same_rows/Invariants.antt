@@ -1,7 +1,5 @@
 -- `tables::same_rows`: the first i rows agree.
-use mathlib.Core.Path.{◌≡◌}
-use mathlib.Core.Bool.{true}
-use Prim.Native.Nat.{ℕ, ◌≤◌, ◌<◌}
+use Rattle.std.proofs.Common.{◌≡◌, true, ℕ, ◌≤◌, ◌<◌}
 use Rattle.block.specs.View.{state_of}
 use Rattle.alike.specs.Rows.{same_row}
 use Rattle.alike.proofs.tables.same_rows.Given as goal

@@ -1,8 +1,5 @@
 -- `tables::same_sender`: by whether they are there.
-use mathlib.Core.Path.{sym, ap, ◌∙◌}
-use mathlib.Core.Bool.{Bool, ◌&&◌}
-use lib.Dec.{eqb}
-use borrow.Author.Tests.{eq-eqb, ne_eqb}
+use Rattle.std.proofs.Common.{sym, ap, ◌∙◌, Bool, ◌&&◌, eqb, eq-eqb, ne_eqb}
 use Rattle.protocol.specs.Alike.{same_option, same_hop}
 use Rattle.alike.proofs.Lists.{and-no-left, none-there}
 use Rattle.alike.specs.Rows.{first_of}

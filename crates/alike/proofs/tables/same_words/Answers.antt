@@ -1,6 +1,5 @@
 -- `tables::same_words`: the first i bytes agree. The measure is what is left.
-use mathlib.Core.Path.{sym, ◌∙◌}
-use native.Mathlib.Omega.{arith}
+use Rattle.std.proofs.Common.{sym, ◌∙◌, arith}
 use Rattle.alike.proofs.Lists.{same_word}
 use Rattle.alike.proofs.tables.same_words.Goals as goal
 

@@ -1,6 +1,5 @@
 -- `tables::same_words`: the first i bytes agree. The measure is what is left.
-use Prim.Native.Nat.{◌-◌, ◌≤◌}
-use lib.ListN.{length}
+use Rattle.std.proofs.Common.{◌-◌, ◌≤◌, length}
 use Rattle.alike.specs.Rows.{SameUpTo}
 use Rattle.alike.proofs.tables.same_words.Given as goal
 

@@ -1,5 +1,5 @@
 -- `tables::timer_at`: the row of the timer.
-use mathlib.Core.Path.{◌∙◌}
+use Rattle.std.proofs.Common.{◌∙◌}
 use Rattle.alike.proofs.BlockReads.{timer-read}
 use Rattle.alike.proofs.tables.timer_at.Goals as goal
 

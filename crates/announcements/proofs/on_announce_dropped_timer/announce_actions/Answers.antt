@@ -1,6 +1,5 @@
 -- `announce_actions` meets its contract: dispatch if a queue stands, then itself if a record does.
-use Rattle.std.proofs.Common.{refl, ◌≡◌, ◌++◌, ◌∙◌, sym, ap, length, arith, List, ℕ, true, false, Bool}
-use lib.ListN.{length-append}
+use Rattle.std.proofs.Common.{refl, ◌≡◌, ◌++◌, ◌∙◌, sym, ap, length, arith, List, ℕ, true, false, Bool, length-append}
 use Rattle.storage.specs.Lists.Base.{concat_map}
 use Rattle.postcard.specs.Message.{action_bytes}
 use Rattle.decide.specs.RecordGrowth.{announce_action}

@@ -1,7 +1,6 @@
 -- `announce_sizes` meets its contract: the settled sizes, with what moves and what stays.
-use Rattle.std.proofs.Common.{◌+◌, ◌<◌, ◌≤◌, ◌∙◌, sym, ap, length, get_or, arith, List, [], ◌∷◌, not}
-use borrow.Author.Tests.{ltb-true, ltb-false, not-true, not-false}
-use lib.ListN.{length-append}
+use Rattle.std.proofs.Common.{◌+◌, ◌<◌, ◌≤◌, ◌∙◌, sym, ap, length, get_or, arith, List, [], ◌∷◌, not, ltb-true, ltb-false, length-append}
+use borrow.Author.Tests.{not-true, not-false}
 use Rattle.storage.specs.Rows.Ident.{id_of}
 use Rattle.storage.specs.Lists.Map.{keys}
 use Rattle.protocol.specs.State.{State, Note}

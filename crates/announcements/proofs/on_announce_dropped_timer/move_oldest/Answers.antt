@@ -1,7 +1,6 @@
 -- `move_oldest` meets its contract: row by row, and the record cut behind what stays.
-use Rattle.std.proofs.Common.{◌≡◌, ◌<◌, ◌≤◌, ◌∙◌, sym, ap, refl, length, get_or, arith, List, [], not, false, true, Bool}
-use mathlib.Core.Path.{subst}
-use borrow.Author.Tests.{ltb-true, ltb-false, not-true, not-false}
+use Rattle.std.proofs.Common.{◌≡◌, ◌<◌, ◌≤◌, ◌∙◌, sym, ap, refl, length, get_or, arith, List, [], not, false, true, Bool, subst, ltb-true, ltb-false}
+use borrow.Author.Tests.{not-true, not-false}
 use Rattle.storage.specs.Rows.Ident.{id_of}
 use Rattle.storage.specs.Lists.Map.{keys}
 use Rattle.time_cache.specs.TimeCache.{holds}

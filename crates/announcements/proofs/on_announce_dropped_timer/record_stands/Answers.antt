@@ -1,7 +1,6 @@
 -- `record_stands` meets its contract: the first row that is left.
-use Rattle.std.proofs.Common.{◌+◌, ◌<◌, ◌≤◌, ◌∙◌, sym, ap, length, get_or, arith, [], ◌∷◌, not}
-use borrow.Author.Tests.{ltb-true, ltb-false, not-true, not-false}
-use lib.ListN.{length-append}
+use Rattle.std.proofs.Common.{◌+◌, ◌<◌, ◌≤◌, ◌∙◌, sym, ap, length, get_or, arith, [], ◌∷◌, not, ltb-true, ltb-false, length-append}
+use borrow.Author.Tests.{not-true, not-false}
 use Rattle.storage.specs.Rows.Ident.{id_of}
 use Rattle.storage.specs.Lists.Map.{keys}
 use Rattle.protocol.specs.State.{State}

@@ -1,6 +1,6 @@
 -- `dispatch_notes` meets its contract: they are what is noted.
-use Rattle.std.proofs.Common.{length, ap, ◌∙◌, arith}
-use lib.ListN.{length-map, length-append}
+use Rattle.std.proofs.Common.{length, ap, ◌∙◌, arith, length-append}
+use lib.ListN.{length-map}
 use Rattle.steps.specs.Queue.{note_at}
 use Rattle.steps.specs.Views.{shown}
 use Rattle.steps.proofs.AtRestLaws.{same_dropped}

@@ -1,7 +1,6 @@
 -- `note_back` meets its contract: what was found is what the record takes.
-use Rattle.std.proofs.Common.{◌≡◌, ℕ, ◌++◌, length, ap, sym, ◌∙◌, arith, Bool, List}
-use mathlib.Core.Path.{subst}
-use lib.ListN.{length-map, length-append}
+use Rattle.std.proofs.Common.{◌≡◌, ℕ, ◌++◌, length, ap, sym, ◌∙◌, arith, Bool, List, subst, length-append}
+use lib.ListN.{length-map}
 use Rattle.protocol.specs.State.{State, Note}
 use Rattle.decide.specs.RecordGrowth.{cached_in}
 use Rattle.decide.specs.StateAfter.{recorded_state}

@@ -1,6 +1,5 @@
 -- `on_dispatch_timer` meets its contract.
-use Rattle.std.proofs.Common.{ℕ, ◌<◌, ◌≤◌, length, get_or, ap, sym, ◌∙◌, false, []}
-use mathlib.Core.Path.{subst}
+use Rattle.std.proofs.Common.{ℕ, ◌<◌, ◌≤◌, length, get_or, ap, sym, ◌∙◌, false, [], subst}
 use Rattle.protocol.specs.State.{State, with_queue, with_dispatch_scheduled}
 use Rattle.decide.specs.RecordGrowth.{cached_in}
 use Rattle.steps.specs.Panels.{state}

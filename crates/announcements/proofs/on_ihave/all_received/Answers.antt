@@ -1,8 +1,5 @@
 -- `all_received`: the entries that are left decide.
-use Prim.Native.Nat.{◌+◌}
-use borrow.Author.Rules.{rules}
-use mathlib.Core.Bool.{not}
-use mathlib.Core.Path.{sym, ap, ◌∙◌}
+use Rattle.std.proofs.Common.{◌+◌, rules, not, sym, ap, ◌∙◌}
 use borrow.Author.Tests.{not-true, not-false}
 use Rattle.postcard.specs.Values.{ihave_value}
 use Rattle.wire.specs.Reader.Values.{ihaves_value}

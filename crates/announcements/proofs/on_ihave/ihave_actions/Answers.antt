@@ -1,7 +1,5 @@
 -- `ihave_actions`: after i entries the timers of the first i are written.
-use Rattle.std.proofs.Common.{ℕ, ◌+◌, ◌≡◌, ◌<◌, ◌≤◌, true, false, Bool, List, [], ◌∷◌, ◌++◌, ap, sym, ◌∙◌, arith, take, length}
-use mathlib.Core.Path.{subst}
-use borrow.Author.Rules.{rules}
+use Rattle.std.proofs.Common.{ℕ, ◌+◌, ◌≡◌, ◌<◌, ◌≤◌, true, false, Bool, List, [], ◌∷◌, ◌++◌, ap, sym, ◌∙◌, arith, take, length, subst, rules}
 use Rattle.postcard.specs.Message.{Ihave, Scheduled, SendGraft, action_bytes}
 use Rattle.postcard.specs.Values.{ihave_value}
 use Rattle.wire.specs.Encode.Intake.{after, space_of}

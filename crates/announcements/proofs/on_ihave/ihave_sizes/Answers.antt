@@ -1,7 +1,5 @@
 -- `ihave_sizes`: after i entries the numbers are those with the first i.
-use Rattle.std.proofs.Common.{◌<◌, ◌∙◌, arith, List, take}
-use mathlib.Core.Path.{subst}
-use borrow.Author.Rules.{rules}
+use Rattle.std.proofs.Common.{◌<◌, ◌∙◌, arith, List, take, subst, rules}
 use Rattle.storage.specs.Rows.Ident.{id_of}
 use Rattle.postcard.specs.Message.{Ihave}
 use Rattle.postcard.specs.Values.{ihave_value}

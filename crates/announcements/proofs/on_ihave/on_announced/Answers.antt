@@ -1,6 +1,5 @@
 -- `on_announced` meets its contract: a message that is received changes nothing, and any other gets an announcer and a mark.
-use Rattle.std.proofs.Common.{true, false, refl, sym, ap, ◌∙◌, ◌≡◌, ◌≤◌, Bool, length}
-use mathlib.Core.Path.{subst}
+use Rattle.std.proofs.Common.{true, false, refl, sym, ap, ◌∙◌, ◌≡◌, ◌≤◌, Bool, length, subst}
 use Rattle.storage.specs.Rows.Ident.{id_of}
 use Rattle.time_cache.specs.TimeCache.{holds}
 use Rattle.protocol.specs.State.{State}

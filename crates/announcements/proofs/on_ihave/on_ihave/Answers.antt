@@ -1,7 +1,5 @@
 -- `on_ihave`: after i entries the state is that of the first i.
-use Prim.Native.Nat.{◌+◌}
-use borrow.Author.Rules.{rules}
-use mathlib.Core.Path.{refl, ◌∙◌}
+use Rattle.std.proofs.Common.{◌+◌, rules, refl, ◌∙◌}
 use Rattle.postcard.specs.Values.{ihave_value}
 use Rattle.wire.specs.Reader.Values.{ihaves_value}
 use Rattle.steps.specs.Panels.{state}

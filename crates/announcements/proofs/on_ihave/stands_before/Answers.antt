@@ -1,7 +1,5 @@
 -- `stands_before`: the identifier is not among the entries taken.
-use Prim.Native.Nat.{◌+◌}
-use borrow.Author.Rules.{rules}
-use mathlib.Core.Path.{sym, ◌∙◌}
+use Rattle.std.proofs.Common.{◌+◌, rules, sym, ◌∙◌}
 use Rattle.storage.specs.Rows.Ident.{id_of}
 use Rattle.postcard.specs.Values.{ihave_value}
 use Rattle.wire.specs.Reader.Values.{ihaves_value}

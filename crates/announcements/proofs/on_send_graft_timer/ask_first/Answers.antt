@@ -1,6 +1,5 @@
 -- `ask_first` meets its contract: the first announcer leaves, becomes eager, and is grafted for the message.
-use Rattle.std.proofs.Common.{sym, ap, ◌∙◌, ◌≡◌, ◌<◌, get_or, length}
-use mathlib.Core.Path.{subst}
+use Rattle.std.proofs.Common.{sym, ap, ◌∙◌, ◌≡◌, ◌<◌, get_or, length, subst}
 use Rattle.storage.specs.Rows.Ident.{id_of}
 use Rattle.protocol.specs.Links.{add_eager}
 use Rattle.protocol.specs.State.{State}

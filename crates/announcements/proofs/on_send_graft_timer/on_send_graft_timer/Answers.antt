@@ -1,6 +1,5 @@
 -- `on_send_graft_timer` meets its contract: the mark goes, and unless the message is received its first announcer is asked.
-use Rattle.std.proofs.Common.{true, false, sym, ap, ◌∙◌, ◌≡◌, Bool, []}
-use mathlib.Core.Path.{subst}
+use Rattle.std.proofs.Common.{true, false, sym, ap, ◌∙◌, ◌≡◌, Bool, [], subst}
 use Rattle.storage.specs.Rows.Ident.{id_of}
 use Rattle.time_cache.specs.TimeCache.{holds}
 use Rattle.protocol.specs.State.{State}

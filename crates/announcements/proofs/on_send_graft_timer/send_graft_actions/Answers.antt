@@ -1,7 +1,5 @@
 -- `send_graft_actions` meets its contract: none of a message that is received or that nobody announced, and else the Graft, then the timer.
-use Rattle.std.specs.Prelude.{Some}
-use Rattle.std.proofs.Common.{arith, sym, ap, ◌∙◌, ◌≡◌, ◌++◌, ℕ, List, length}
-use lib.ListN.{length-append}
+use Rattle.std.proofs.Common.{Some, arith, sym, ap, ◌∙◌, ◌≡◌, ◌++◌, ℕ, List, length, length-append}
 use Rattle.storage.specs.Rows.Ident.{id_of}
 use Rattle.postcard.specs.Message.{Graft, Scheduled, SendGraft, message_bytes, action_bytes}
 use Rattle.postcard.specs.Output.{send_head}

@@ -1,6 +1,5 @@
 -- `send_graft_sizes` meets its contract: the mark gone, and where the message is not received what asking leaves.
-use Rattle.std.proofs.Common.{arith, sym, ◌∙◌, ◌-◌}
-use lib.Dec.{eqb}
+use Rattle.std.proofs.Common.{arith, sym, ◌∙◌, ◌-◌, eqb}
 use mir.Val.{bool_byte}
 use Rattle.storage.specs.Rows.Ident.{id_of}
 use Rattle.time_cache.specs.TimeCache.{get}

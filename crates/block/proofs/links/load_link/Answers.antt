@@ -1,7 +1,5 @@
 -- `load_link`: the row read is the link of the view.
-use mathlib.Core.Path.{sym, ap, ◌∙◌}
-use mathlib.Core.List.{List}
-use lib.ListN.{get_or}
+use Rattle.std.proofs.Common.{sym, ap, ◌∙◌, List, get_or}
 use Rattle.storage.specs.Lists.Map.{Entry, entry}
 use Rattle.protocol.specs.Links.{Mark, eager}
 use Rattle.block.proofs.LinkLaws.{links-lent}

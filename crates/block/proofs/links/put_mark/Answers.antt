@@ -1,7 +1,5 @@
 -- `put_mark`: the row stored is a mark anew.
-use mathlib.Core.Path.{ap, ◌∙◌}
-use mathlib.Core.List.{[], ◌∷◌}
-use Prim.Native.Nat.{ℕ}
+use Rattle.std.proofs.Common.{ap, ◌∙◌, [], ◌∷◌, ℕ}
 use Rattle.storage.specs.Rows.Part.{put}
 use Rattle.storage.specs.Lists.Map.{entry}
 use Rattle.storage.specs.Tables.Listed.{listed}

@@ -1,8 +1,6 @@
 -- `rows_fit`: a division tells what a product, which might not fit, would.
-use Rattle.std.proofs.Common.{◌+◌, ◌*◌, ◌-◌, ◌/◌, ◌≤◌, arith}
+use Rattle.std.proofs.Common.{◌+◌, ◌*◌, ◌-◌, ◌/◌, ◌≤◌, arith, leb, le-div_iff_mul-le}
 use Rattle.std.proofs.lemmas.Bool.{leb-true, leb-false}
-use lib.Dec.{leb}
-use native.Mathlib.Nat.{le-div_iff_mul-le}
 use Rattle.exports.proofs.TimeCacheCLaws.Tested.{told_as}
 use Rattle.exports.proofs.time_cache_c.rows_fit.Goals as goal
 

@@ -1,7 +1,5 @@
 -- `ask` meets its contract: by the event.
-use Rattle.std.proofs.Common.{◌≡◌, ℕ, ap, sym, ◌∙◌, refl, arith, true, not}
-use mathlib.Core.Path.{subst}
-use Rattle.std.specs.Prelude.{IfSome, Option, is_some}
+use Rattle.std.proofs.Common.{◌≡◌, ℕ, ap, sym, ◌∙◌, refl, arith, true, not, subst, IfSome, Option, is_some}
 use Rattle.machine.specs.declared.Stats.{Stats}
 use Rattle.blake3.specs.Blake3.{identifier}
 use Rattle.postcard.specs.Message.{Event, Received, Broadcast, Fired}

@@ -1,6 +1,6 @@
 -- `ask_step` meets its contract: questions 12, 13 and 14 are answered by what the step tells of itself.
-use Rattle.std.proofs.Common.{◌≡◌, ap, sym, ◌∙◌, arith, not}
-use borrow.Author.Tests.{le-leb, lt-leb}
+use Rattle.std.proofs.Common.{◌≡◌, ap, sym, ◌∙◌, arith, not, le-leb}
+use borrow.Author.Tests.{lt-leb}
 use Rattle.protocol.specs.State.{Counts}
 use Rattle.protocol.specs.Whole.{fits}
 use Rattle.protocol.specs.Answer.{accepted}

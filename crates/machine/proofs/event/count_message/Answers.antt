@@ -1,7 +1,5 @@
 -- `count_message`: by the kind of message.
-use Rattle.std.proofs.Common.{◌≡◌, ◌^◌, ◌<◌, sym, ap, ◌∙◌, arith, true, false, Bool}
-use lib.Dec.{ltb}
-use borrow.Author.Tests.{lt-ltb, le-ltb}
+use Rattle.std.proofs.Common.{◌≡◌, ◌^◌, ◌<◌, sym, ap, ◌∙◌, arith, true, false, Bool, ltb, lt-ltb, le-ltb}
 use Rattle.protocol.specs.Handle.{one_payload, one_control}
 use Rattle.protocol.specs.Answer.{counts_below}
 use Rattle.machine.specs.Called.{counts_of}

@@ -1,7 +1,5 @@
 -- `event_core`: questions 5 to 14 and 23, then the event.
-use Rattle.std.specs.Prelude.{Some}
-use Rattle.std.proofs.Common.{◌≡◌, ℕ, ◌≤◌, List, ap, sym, ◌∙◌, refl, arith, length}
-use mathlib.Core.Path.{subst}
+use Rattle.std.proofs.Common.{Some, ◌≡◌, ℕ, ◌≤◌, List, ap, sym, ◌∙◌, refl, arith, length, subst}
 use Rattle.std.proofs.lemmas.Result.{err_from_is_err_and}
 use Rattle.refusal.specs.Numbers.{number_of}
 use Rattle.blake3.specs.Blake3.{identifier}

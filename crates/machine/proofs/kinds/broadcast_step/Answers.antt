@@ -1,10 +1,6 @@
 -- `broadcast_step`: by its size.
-use mathlib.Core.Path.{ap}
-use mathlib.Core.Path.{◌≡◌, sym, ◌∙◌}
-use mathlib.Core.Bool.{not}
+use Rattle.std.proofs.Common.{ap, ◌≡◌, sym, ◌∙◌, not, ltb, length}
 use borrow.Author.Tests.{not-false}
-use lib.Dec.{ltb}
-use lib.ListN.{length}
 use Rattle.postcard.specs.Sizes.{gossip_size}
 use Rattle.block.specs.View.{state_of}
 use Rattle.steps.specs.Views.{shown}

@@ -1,8 +1,5 @@
 -- `gossip_step`: the tests in turn.
-use mathlib.Core.Path.{ap}
-use mathlib.Core.Bool.{Bool, true, false, not}
-use mathlib.Core.Path.{◌≡◌, refl, sym, ◌∙◌}
-use lib.Dec.{eqb}
+use Rattle.std.proofs.Common.{ap, Bool, true, false, not, ◌≡◌, refl, sym, ◌∙◌, eqb}
 use Rattle.storage.specs.Rows.Ident.{id_of}
 use Rattle.blake3.specs.Blake3.{identifier}
 use Rattle.postcard.specs.Values.{delivery_value}

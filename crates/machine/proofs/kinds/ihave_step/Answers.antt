@@ -1,5 +1,5 @@
 -- `ihave_step`: by whether every identifier is received.
-use mathlib.Core.Path.{refl, sym, ◌∙◌}
+use Rattle.std.proofs.Common.{refl, sym, ◌∙◌}
 use Rattle.wire.specs.Reader.Values.{ihaves_value}
 use Rattle.steps.specs.Views.{shown}
 use Rattle.block.specs.LinkSteps.{peer_at}

@@ -1,8 +1,5 @@
 -- `message_step`: by the message, and by whether its sender is a neighbour.
-use mathlib.Core.Path.{◌≡◌, sym, subst}
-use Prim.Native.Nat.{ℕ, ◌≤◌}
-use lib.ListN.{length}
-use Rattle.std.specs.Prelude.{Option}
+use Rattle.std.proofs.Common.{◌≡◌, sym, subst, ℕ, ◌≤◌, length, Option}
 use Rattle.postcard.specs.Message.{Received, message_bytes}
 use Rattle.wire.specs.Reader.Values.{message_value}
 use Rattle.wire.specs.declared.reader.message.Message.{Message}

@@ -1,5 +1,5 @@
 -- `timer_step`: each timer has its step.
-use mathlib.Core.Path.{sym, subst}
+use Rattle.std.proofs.Common.{sym, subst}
 use Rattle.postcard.specs.Message.{Fired}
 use Rattle.postcard.specs.Values.{timer_value}
 use Rattle.postcard.specs.declared.message.Timer.{Timer}

@@ -1,6 +1,5 @@
 -- `event_limit` meets its contract: by the event.
-use Rattle.std.proofs.Common.{◌≡◌, ℕ, ap, sym, ◌∙◌, refl, arith}
-use mathlib.Core.Path.{subst}
+use Rattle.std.proofs.Common.{◌≡◌, ℕ, ap, sym, ◌∙◌, refl, arith, subst}
 use Rattle.postcard.specs.Message.{Event, Received, Broadcast, Fired}
 use Rattle.postcard.specs.Values.{timer_value}
 use Rattle.wire.specs.Reader.Values.{message_value, event_value}

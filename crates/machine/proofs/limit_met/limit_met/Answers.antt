@@ -1,6 +1,5 @@
 -- `limit_met`: questions 5 to 9 and 23, then the event.
-use Rattle.std.proofs.Common.{sym}
-use mathlib.Core.Path.{subst}
+use Rattle.std.proofs.Common.{sym, subst}
 use Rattle.refusal.specs.Numbers.{number_of}
 use Rattle.wire.specs.Reader.Values.{event_value}
 use Rattle.block.specs.View.{state_of}

@@ -1,6 +1,5 @@
 -- `step_state` meets its contract: each arm is its step.
-use Rattle.std.proofs.Common.{◌≡◌, sym, refl}
-use mathlib.Core.Path.{subst}
+use Rattle.std.proofs.Common.{◌≡◌, sym, refl, subst}
 use borrow.Author.Tests.{eqb-false}
 use Rattle.steps.specs.Panels.{state, Goes}
 use Rattle.steps.specs.declared.panel.Panel.{Panel}

@@ -1,8 +1,5 @@
 -- `may_fit` is the definition's test, by how many bytes there are.
-use mathlib.Core.Path.{sym, ◌∙◌, refl}
-use lib.ListN.{get_or}
-use borrow.Author.Tests.{eq-eqb, ne_eqb}
-use native.Mathlib.Omega.{arith}
+use Rattle.std.proofs.Common.{sym, ◌∙◌, refl, get_or, eq-eqb, ne_eqb, arith}
 use Rattle.panel.proofs.RecordsLaws.Pieces.{fit-short, fit-long, fit-two}
 use Rattle.panel.proofs.records.may_fit.Goals as goal
 

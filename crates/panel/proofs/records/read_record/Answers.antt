@@ -1,6 +1,5 @@
 -- `read_record`: the time is read, bad, or cut; then the length; then the event is there, or cut.
-use mathlib.Core.Path.{sym, ◌∙◌}
-use native.Mathlib.Omega.{arith}
+use Rattle.std.proofs.Common.{sym, ◌∙◌, arith}
 use Rattle.postcard.proofs.FieldBack.{bytes-each}
 use Rattle.wire.specs.Reader.Gives.{number_of}
 use Rattle.panel.proofs.RecordsLaws.Pieces.{other_fault, bad-time, cut-time, bad-length, bad-fit, bad-event, cut-length, cut-event, whole, whole-inside}

@@ -1,6 +1,5 @@
 -- `answer`: what was put at the start of the reply is the answer of the call.
-use Rattle.std.proofs.Common.{◌∙◌, take, length, arith}
-use lib.ListN.{length-take}
+use Rattle.std.proofs.Common.{◌∙◌, take, length, arith, length-take}
 use native.Mathlib.Nat.{min-le_left}
 use Rattle.panel.proofs.RecordsLaws.Replies.{wrote-first, answer-few}
 use Rattle.panel.proofs.stream.answer.Goals as goal

@@ -1,6 +1,5 @@
 -- `graft_notes` meets its contract: nothing is asked for, nothing is cached, the send is taken, or the record takes the note or not.
-use Rattle.std.proofs.Common.{arith, true, false, ap, sym, ◌∙◌, ◌≡◌, ◌+◌, ℕ, length}
-use Rattle.std.specs.Prelude.{Option}
+use Rattle.std.proofs.Common.{arith, true, false, ap, sym, ◌∙◌, ◌≡◌, ◌+◌, ℕ, length, Option}
 use Rattle.storage.specs.Rows.Ident.{id_of}
 use Rattle.storage.specs.declared.rows.id.Id.{Id}
 use Rattle.decide.specs.Settled.{settled}

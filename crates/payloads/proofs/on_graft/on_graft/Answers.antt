@@ -1,7 +1,5 @@
 -- `on_graft` meets its contract: the mark, and what is noted behind it.
-use Rattle.std.proofs.Common.{arith, true, false, ap, sym, ◌∙◌, ◌≡◌, ℕ, List}
-use mathlib.Core.Path.{subst}
-use Rattle.std.specs.Prelude.{Option, Some}
+use Rattle.std.proofs.Common.{arith, true, false, ap, sym, ◌∙◌, ◌≡◌, ℕ, List, subst, Option, Some}
 use Rattle.storage.specs.Rows.Ident.{id_of}
 use Rattle.storage.specs.declared.rows.id.Id.{Id}
 use Rattle.postcard.specs.declared.units.Round.{Round}

@@ -1,7 +1,5 @@
 -- `lazy_first` meets its contract: by the link of the first sender, and the two tests.
-use Rattle.std.proofs.Common.{◌∙◌, ap, sym, ℕ, Bool, not, ◌&&◌}
-use mathlib.Core.Path.{subst}
-use Rattle.std.specs.Prelude.{Option}
+use Rattle.std.proofs.Common.{◌∙◌, ap, sym, ℕ, Bool, not, ◌&&◌, subst, Option}
 use Rattle.std.proofs.lemmas.Bool.{not-true, not-false}
 use Rattle.storage.specs.Lists.Map.{has}
 use Rattle.protocol.specs.Links.{eager_in}

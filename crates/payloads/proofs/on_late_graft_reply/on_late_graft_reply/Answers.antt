@@ -1,8 +1,7 @@
 -- `on_late_graft_reply` meets its contract: by what the copy is.
-use Rattle.std.proofs.Common.{◌≡◌, ◌∙◌, ap, refl}
+use Rattle.std.proofs.Common.{◌≡◌, ◌∙◌, ap, refl, subst}
 use Rattle.storage.specs.Rows.Ident.{id_of}
 use Rattle.time_cache.specs.TimeCache.{get}
-use mathlib.Core.Path.{subst}
 use Rattle.protocol.specs.State.{State}
 use Rattle.protocol.specs.Links.{add_lazy}
 use Rattle.decide.specs.Settled.{settled}

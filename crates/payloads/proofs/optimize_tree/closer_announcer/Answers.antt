@@ -1,7 +1,5 @@
 -- `closer_announcer` meets its contract: by the least announcer, and the two tests.
-use Rattle.std.proofs.Common.{arith, sym}
-use mathlib.Core.Path.{subst}
-use Rattle.std.specs.Prelude.{Option}
+use Rattle.std.proofs.Common.{arith, sym, subst, Option}
 use Rattle.storage.specs.Rows.Ident.{id_of}
 use Rattle.protocol.specs.Gossips.{announcers}
 use Rattle.block.specs.MissingSteps.{hops_at}

@@ -1,7 +1,5 @@
 -- `find_shortcut` meets its contract: by the sender, and the announcer that was found.
-use Rattle.std.proofs.Common.{◌∙◌, sym}
-use mathlib.Core.Path.{subst}
-use Rattle.std.specs.Prelude.{Option}
+use Rattle.std.proofs.Common.{◌∙◌, sym, subst, Option}
 use Rattle.storage.specs.Rows.Ident.{id_of}
 use Rattle.decide.specs.Settled.{settled}
 use Rattle.steps.specs.Views.{shown}

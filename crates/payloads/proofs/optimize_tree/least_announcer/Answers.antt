@@ -1,6 +1,5 @@
 -- `least_announcer` meets its contract: the least so far, and those that are left.
-use Rattle.std.proofs.Common.{◌≡◌, ◌∙◌, ◌<◌, ◌+◌, ap, sym, arith, drop, length, get_or, List}
-use mathlib.Core.Path.{subst}
+use Rattle.std.proofs.Common.{◌≡◌, ◌∙◌, ◌<◌, ◌+◌, ap, sym, arith, drop, length, get_or, List, subst}
 use Rattle.protocol.specs.State.{Hop}
 use Rattle.protocol.specs.Gossips.{least_from}
 use Rattle.block.specs.MissingSteps.{hop, hops_at}

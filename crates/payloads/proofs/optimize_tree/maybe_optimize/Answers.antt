@@ -1,6 +1,5 @@
 -- `maybe_optimize` meets its contract: by what was found.
-use Rattle.std.proofs.Common.{◌≡◌, ◌∙◌, refl, sym}
-use mathlib.Core.Path.{subst}
+use Rattle.std.proofs.Common.{◌≡◌, ◌∙◌, refl, sym, subst}
 use Rattle.storage.specs.Rows.Ident.{id_of}
 use Rattle.protocol.specs.State.{State}
 use Rattle.decide.specs.Settled.{settled}

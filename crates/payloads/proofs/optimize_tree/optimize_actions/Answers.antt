@@ -6,10 +6,6 @@ use Rattle.steps.specs.Views.{shown}
 use Rattle.payloads.proofs.OptimizeTreeLaws.{bytes-some, bytes-none}
 use Rattle.payloads.proofs.optimize_tree.optimize_actions.Goals as goal
 
-pub shortcut_actions-requires-clause-room : goal.shortcut_actions-requires-clause-room
-shortcut_actions-requires-clause-room g c =
-    omega (arith, c.requires.room, ap length (bytes-some c.args.call.now c.args.arrival (shown c.args.view.now) c.in-Some.shortcut c.in-Some.ensures.0 c.in-Some.ensures.1))
-
 pub returns-in-Some : goal.returns-in-Some
 returns-in-Some g c =
     c.shortcut_actions.ensures

@@ -1,6 +1,5 @@
 -- `optimize_tree` meets its contract: the announcer's mark, then the sender's.
-use Rattle.std.proofs.Common.{◌≡◌, ◌∙◌, ap, sym, true, length, ◌<◌}
-use mathlib.Core.Path.{subst}
+use Rattle.std.proofs.Common.{◌≡◌, ◌∙◌, ap, sym, true, length, ◌<◌, subst}
 use Rattle.storage.specs.Lists.Base.{ascending}
 use Rattle.storage.specs.Lists.Map.{keys}
 use Rattle.protocol.specs.Links.{add_lazy}

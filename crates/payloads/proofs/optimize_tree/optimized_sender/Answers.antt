@@ -1,6 +1,4 @@
-use Rattle.std.proofs.Common.{◌∙◌, ap, not, sym, ℕ}
-use mathlib.Core.Path.{subst}
-use Rattle.std.specs.Prelude.{Option}
+use Rattle.std.proofs.Common.{◌∙◌, ap, not, sym, ℕ, subst, Option}
 use Rattle.decide.specs.Settled.{settled}
 use Rattle.payloads.specs.OptimizeTree.{wanted}
 use Rattle.steps.specs.Found.{LinkIf}

@@ -1,11 +1,9 @@
 -- `shortcut_actions` meets its contract: a Prune alone, or a Graft and a Prune.
-use Rattle.std.proofs.Common.{◌∙◌, ap, sym, refl, ℕ, Bool, List, ◌++◌, length, get_or, arith}
-use Rattle.std.specs.Prelude.{leb, eqb, if◌then◌else◌, None}
-use lib.ListN.{length-append}
+use Rattle.std.proofs.Common.{◌∙◌, ap, sym, refl, ℕ, Bool, List, ◌++◌, length, get_or, arith, leb, eqb, if◌then◌else◌, None, length-append}
 use Rattle.postcard.specs.Message.{Prune, Graft, message_bytes}
 use Rattle.postcard.specs.Output.{send_head}
 use Rattle.wire.specs.Encode.Intake.{after}
-use Rattle.wire.proofs.EncodeLaws.IntakeLaws.{after_append, room_after}
+use Rattle.wire.proofs.EncodeLaws.IntakeLaws.{after_append}
 use Rattle.steps.specs.Views.{shown}
 use Rattle.steps.proofs.ViewLaws.{links-few}
 use Rattle.payloads.proofs.OptimizeTreeLaws.{sent-eager, sent-lazy}
@@ -20,16 +18,6 @@ Asked p t r = send_head p t ++ message_bytes (Graft None r)
 pub takes-requires : goal.takes-requires
 takes-requires g c = let v = c.args.view.now in omega (arith, c.requires.rest.1, links-few v.head v.block.now v.sound)
 
-pub encode-requires : goal.encode-requires
-encode-requires g c =
-    let v = c.args.view.now in
-    let r = c.args.shortcut in
-    omega (
-      arith,
-      c.requires.room,
-      ap length (sent-eager c.args.call.now r (shown v) c.requires.rest.0.consistent.core.links_up c.requires.rest.1 c.requires.rest.2 c.link-sender.result c.link-announcer.result c.link-sender.ensures c.link-announcer.ensures c.if-announcer.true c.takes.result c.takes.ensures),
-    )
-
 pub returns-then-announcer : goal.returns-then-announcer
 returns-then-announcer g c =
     let v = c.args.view.now in
@@ -41,35 +29,8 @@ returns-then-announcer g c =
 pub takes-requires-2 : goal.takes-requires-2
 takes-requires-2 g c = let v = c.args.view.now in omega (arith, c.requires.rest.2, links-few v.head v.block.now v.sound)
 
-pub encode-requires-2 : goal.encode-requires-2
-encode-requires-2 g c =
-    let v = c.args.view.now in
-    let r = c.args.shortcut in
-    let a = Asked c.link-announcer.result.peer c.takes-2.result r.announcer.round.0 in
-    let u = leb (if eqb r.sender r.announcer.link then 2 else 1) (get_or c.args.call.now.rooms.now.links r.sender 0) in
-    omega (
-      arith,
-      c.requires.room,
-      length-append a (Alone c.link-sender.result.peer u),
-      ap length (sent-lazy c.args.call.now r (shown v) c.requires.rest.0.consistent.core.links_up c.requires.rest.1 c.requires.rest.2 c.link-sender.result c.link-announcer.result c.link-sender.ensures c.link-announcer.ensures c.if-announcer.false c.takes-2.result u c.takes-2.ensures refl),
-    )
-
 pub takes_prune-requires : goal.takes_prune-requires
 takes_prune-requires g c = let v = c.args.view.now in omega (arith, c.requires.rest.1, links-few v.head v.block.now v.sound)
-
-pub encode-requires-3 : goal.encode-requires-3
-encode-requires-3 g c =
-    let v = c.args.view.now in
-    let r = c.args.shortcut in
-    let h = g.S.Sink.intake c.args.out.now in
-    let a = Asked c.link-announcer.result.peer c.takes-2.result r.announcer.round.0 in
-    let b = Alone c.link-sender.result.peer c.takes_prune.result in
-    rw c.encode-2.ensures (rw (room_after a h) (omega (
-      arith,
-      c.requires.room,
-      length-append a b,
-      ap length (sent-lazy c.args.call.now r (shown v) c.requires.rest.0.consistent.core.links_up c.requires.rest.1 c.requires.rest.2 c.link-sender.result c.link-announcer.result c.link-sender.ensures c.link-announcer.ensures c.if-announcer.false c.takes-2.result c.takes_prune.result c.takes-2.ensures c.takes_prune.ensures),
-    )))
 
 pub returns : goal.returns
 returns g c =

@@ -1,10 +1,8 @@
-use Rattle.std.proofs.Common.{arith, ℕ}
-use mathlib.Core.Path.{subst}
+use Rattle.std.proofs.Common.{arith, ℕ, subst, Result}
 use lib.ListN.{length-map}
 use Rattle.storage.specs.Lists.Map.{keys}
 use Rattle.storage.specs.Rows.Ident.{id_of}
 use Rattle.storage.specs.Rows.Sorted.{FoundIs, Here}
-use Rattle.std.specs.Prelude.{Result}
 use Rattle.block.proofs.CachesLaws.CachedLaws.{count-cached}
 use Rattle.steps.specs.Views.{shown}
 use Rattle.steps.proofs.LookupLaws.{round-here, round-between}

@@ -1,12 +1,10 @@
-use Rattle.std.proofs.Common.{arith, ◌<◌}
-use mathlib.Core.Path.{subst}
+use Rattle.std.proofs.Common.{arith, ◌<◌, subst, Option, ℕ}
 use Rattle.storage.specs.Rows.Ident.{id_of}
 use Rattle.time_cache.specs.TimeCache.{get}
 use Rattle.decide.specs.Settled.{settled}
 use Rattle.block.proofs.CachesLaws.CachedLaws.{count-cached}
 use Rattle.steps.specs.Settled.Then.{no_cached}
 use Rattle.steps.specs.Shared.{EntryIs, HeldAt}
-use Rattle.std.specs.Prelude.{Option, ℕ}
 use Rattle.steps.specs.Views.{shown}
 use Rattle.steps.proofs.message_cache.cached_then.Goals as goal
 use Rattle.steps.proofs.message_cache.cached_then.Goals.{In-Some}

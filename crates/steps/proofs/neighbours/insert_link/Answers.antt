@@ -1,8 +1,5 @@
 -- `insert_link`: the raised numbers, the move and the two stores are a link more.
-use mathlib.Core.Path.{sym, ap, ◌∙◌, subst}
-use mathlib.Core.List.{List}
-use Prim.Native.Nat.{ℕ, ◌+◌, ◌*◌, ◌≤◌, ◌<◌}
-use lib.ListN.{length, set}
+use Rattle.std.proofs.Common.{sym, ap, ◌∙◌, subst, List, ℕ, ◌+◌, ◌*◌, ◌≤◌, ◌<◌, length, set, arith}
 use Rattle.storage.specs.Rows.Part.{put}
 use Rattle.storage.specs.Rows.Digits.{le_bytes}
 use Rattle.storage.specs.Lists.Map.{insert}
@@ -13,7 +10,6 @@ use Rattle.block.specs.Heads.{with_link_count}
 use Rattle.block.specs.LinkSteps.{linked}
 use Rattle.block.proofs.LinkLaws.{count-peers}
 use Rattle.steps.proofs.NeighboursLaws.LinkIn.{link-in}
-use native.Mathlib.Omega.{arith}
 use Rattle.steps.proofs.neighbours.insert_link.Goals as goal
 use Rattle.steps.proofs.neighbours.insert_link.Goals.{Start}
 

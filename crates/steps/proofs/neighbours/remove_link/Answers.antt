@@ -1,8 +1,5 @@
 -- `remove_link`: the link numbers are lowered, then the rows after the link move down.
-use mathlib.Core.Path.{sym, subst}
-use mathlib.Core.List.{List}
-use Prim.Native.Nat.{ℕ, ◌-◌}
-use lib.ListN.{get_or}
+use Rattle.std.proofs.Common.{sym, subst, List, ℕ, ◌-◌, get_or}
 use Rattle.storage.specs.Lists.Map.{keys}
 use Rattle.protocol.specs.Neighbours.{forget_peer}
 use Rattle.block.specs.View.{state_of}

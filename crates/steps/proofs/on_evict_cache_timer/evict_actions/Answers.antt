@@ -1,7 +1,5 @@
 -- `evict_actions`: those of the eviction; where a first event evicts before it, its schedule alone.
-use Rattle.std.proofs.Common.{List, ap, sym, ◌∙◌}
-use Prim.Native.Nat.{ℕ}
-use mathlib.Core.Path.{subst}
+use Rattle.std.proofs.Common.{List, ap, sym, ◌∙◌, ℕ, subst}
 use Rattle.storage.specs.Lists.Base.{concat_map}
 use Rattle.postcard.specs.Message.{Action, action_bytes}
 use Rattle.wire.specs.Encode.Intake.{after, RoomFor}

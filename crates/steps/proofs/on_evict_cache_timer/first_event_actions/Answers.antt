@@ -1,7 +1,5 @@
 -- `first_event_actions`: those of the eviction, unless a first event was.
-use Rattle.std.proofs.Common.{List, ap, sym, ◌∙◌}
-use Prim.Native.Nat.{ℕ}
-use mathlib.Core.Path.{subst}
+use Rattle.std.proofs.Common.{List, ap, sym, ◌∙◌, ℕ, subst}
 use Rattle.storage.specs.Lists.Base.{concat_map}
 use Rattle.postcard.specs.Message.{Action, action_bytes}
 use Rattle.wire.specs.Encode.Intake.{after, RoomFor}

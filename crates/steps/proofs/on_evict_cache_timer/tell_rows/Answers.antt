@@ -1,7 +1,5 @@
 -- `tell_rows`: one identifier after the other.
-use Rattle.std.proofs.Common.{◌≡◌, ◌<◌, ℕ, List, refl, sym, ap, ◌∙◌, map}
-use mathlib.Core.Path.{subst}
-use Rattle.std.specs.Prelude.{All}
+use Rattle.std.proofs.Common.{◌≡◌, ◌<◌, ℕ, List, refl, sym, ap, ◌∙◌, map, subst, All}
 use Rattle.std.proofs.lemmas.List.Elements.{All-get_or}
 use Rattle.storage.specs.Lists.Base.{concat_map}
 use Rattle.storage.specs.Rows.Ident.{id_of}

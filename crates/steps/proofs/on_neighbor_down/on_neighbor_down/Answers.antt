@@ -1,6 +1,5 @@
 -- `on_neighbor_down` meets its contract: a neighbour goes, and of a stranger there is nothing that could go.
-use Rattle.std.proofs.Common.{◌≡◌, refl, false}
-use mathlib.Core.Path.{subst}
+use Rattle.std.proofs.Common.{◌≡◌, refl, false, subst}
 use Rattle.protocol.specs.Links.{is_neighbour}
 use Rattle.protocol.specs.State.{State}
 use Rattle.steps.specs.Panels.{state}

@@ -1,6 +1,5 @@
 -- `on_neighbor_up` meets its contract: a neighbour is marked, and a new one is a link more.
-use Rattle.std.proofs.Common.{◌∙◌}
-use mathlib.Core.Path.{subst}
+use Rattle.std.proofs.Common.{◌∙◌, subst}
 use Rattle.storage.specs.Lists.Map.{keys}
 use Rattle.storage.specs.Rows.Sorted.{Here, Between}
 use Rattle.protocol.specs.State.{State}

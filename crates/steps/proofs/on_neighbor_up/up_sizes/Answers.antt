@@ -1,6 +1,5 @@
 -- `up_sizes` meets its contract: by whether the peer has a link.
-use Rattle.std.proofs.Common.{◌≡◌, ◌∙◌, ap, sym, not, arith, ◌+◌}
-use mathlib.Core.Path.{subst}
+use Rattle.std.proofs.Common.{◌≡◌, ◌∙◌, ap, sym, not, arith, ◌+◌, subst}
 use Rattle.protocol.specs.Links.{is_neighbour}
 use Rattle.decide.specs.Sizes.{Sizes, sized_links}
 use Rattle.steps.specs.Views.{shown}

@@ -1,7 +1,5 @@
 -- `contents_later`: the bytes of the first i contents that expire later.
-use mathlib.Core.Path.{◌∙◌}
-use native.Mathlib.Omega.{arith}
-use borrow.Author.Tests.{lt-ltb, le-ltb}
+use Rattle.std.proofs.Common.{◌∙◌, arith, lt-ltb, le-ltb}
 use Rattle.steps.proofs.SettledLaws.SizeLaws.{bytes-start, bytes-later, bytes-gone, bytes-end}
 use Rattle.steps.proofs.settled.contents_later.Goals as goal
 use Rattle.steps.proofs.settled.contents_later.Goals.{then-instant-expires, else-instant-expires}

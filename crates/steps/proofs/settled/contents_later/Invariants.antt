@@ -1,5 +1,5 @@
 -- `contents_later`: the bytes of the first i contents that expire later.
-use Prim.Native.Nat.{◌*◌, ◌≤◌}
+use Rattle.std.proofs.Common.{◌*◌, ◌≤◌}
 use Rattle.steps.proofs.SettledLaws.SizeLaws.{Bytes}
 use Rattle.steps.proofs.settled.contents_later.Given as goal
 

@@ -1,8 +1,5 @@
 -- `held_then`: what `get` found, and the time of the row.
-use mathlib.Core.Path.{sym, ap, ◌∙◌, subst}
-use borrow.Author.Tests.{lt-ltb, le-ltb}
-use lib.Dec.{ltb}
-use Rattle.std.specs.Prelude.{Option}
+use Rattle.std.proofs.Common.{sym, ap, ◌∙◌, subst, lt-ltb, le-ltb, ltb, Option}
 use Rattle.storage.specs.Rows.Ident.{id_of}
 use Rattle.time_cache.specs.Steps.{GotIs, GotAt}
 use Rattle.time_cache.specs.declared.cache.Found.{Found}

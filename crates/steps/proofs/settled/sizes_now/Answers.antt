@@ -1,5 +1,5 @@
 -- `sizes_now`: the header's numbers are those of the state.
-use mathlib.Core.Path.{refl}
+use Rattle.std.proofs.Common.{refl}
 use Rattle.steps.proofs.SettledLaws.SizeLaws.{sizes-live}
 use Rattle.steps.proofs.settled.sizes_now.Goals as goal
 

@@ -1,5 +1,5 @@
 -- `sizes_then`: with `init` set the numbers stand, and else those of what is later.
-use mathlib.Core.Path.{sym, ◌∙◌}
+use Rattle.std.proofs.Common.{sym, ◌∙◌}
 use Rattle.block.specs.View.{state_of}
 use Rattle.steps.proofs.SettledLaws.ThenLaws.{init-of}
 use Rattle.steps.proofs.EvictStepLaws.{evict-lengths}

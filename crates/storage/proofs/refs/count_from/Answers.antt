@@ -1,18 +1,11 @@
 -- `count_from`: of the first i rows, `later` name none of the first k.
-use mathlib.Core.Path.{◌≡◌, refl, sym, ap, ◌∙◌}
-use mathlib.Core.List.{[]}
-use Prim.Native.Nat.{ℕ, ◌+◌, ◌*◌, ◌≤◌, ◌<◌}
-use borrow.Author.Tests.{le-leb, lt-leb}
-use lib.Dec.{leb}
-use lib.ListN.{length, get_or}
-use lib.Seq.{take_all}
+use Rattle.std.proofs.Common.{◌≡◌, refl, sym, ap, ◌∙◌, [], ℕ, ◌+◌, ◌*◌, ◌≤◌, ◌<◌, le-leb, leb, length, get_or, take_all, arith, rules}
+use borrow.Author.Tests.{lt-leb}
 use Rattle.storage.specs.Lists.Base.{count}
 use Rattle.storage.specs.Refs.Refs.{ref, refs, names}
 use Rattle.storage.proofs.RefsLaws.Places.{length-refs, place_in}
 use Rattle.storage.proofs.RowsLaws.Rows.{row-end}
 use Rattle.storage.proofs.ListsLaws.Firsts.{count-keep, count-drop}
-use native.Mathlib.Omega.{arith}
-use borrow.Author.Rules.{rules}
 use Rattle.storage.proofs.refs.count_from.Goals as goal
 use Rattle.storage.proofs.refs.count_from.Goals.{After-load2-place, In-loop-i, then-k-place, else-k-place}
 

@@ -1,7 +1,5 @@
 -- `count_from`: of the first i rows, `later` name none of the first k.
-use mathlib.Core.Path.{◌≡◌}
-use Prim.Native.Nat.{◌≤◌}
-use lib.ListN.{take}
+use Rattle.std.proofs.Common.{◌≡◌, ◌≤◌, take}
 use Rattle.storage.specs.Lists.Base.{count}
 use Rattle.storage.specs.Refs.Refs.{refs, names}
 use Rattle.storage.proofs.refs.count_from.Given as goal

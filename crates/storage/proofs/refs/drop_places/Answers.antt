@@ -1,10 +1,6 @@
 -- `drop_places`: of the first i rows, those that are left stand first (`Going`).
-use mathlib.Core.Path.{◌≡◌, refl, sym, ap, ◌∙◌, subst}
-use mathlib.Core.List.{List, [], ◌∷◌}
-use Prim.Native.Nat.{ℕ, ◌+◌, ◌-◌, ◌*◌, ◌≤◌, ◌<◌}
-use borrow.Author.Tests.{le-leb, lt-leb}
-use lib.Dec.{leb}
-use lib.ListN.{length, get_or}
+use Rattle.std.proofs.Common.{◌≡◌, refl, sym, ap, ◌∙◌, subst, List, [], ◌∷◌, ℕ, ◌+◌, ◌-◌, ◌*◌, ◌≤◌, ◌<◌, le-leb, leb, length, get_or, arith}
+use borrow.Author.Tests.{lt-leb}
 use Rattle.storage.specs.Rows.Part.{put}
 use Rattle.storage.specs.Rows.Digits.{le_bytes}
 use Rattle.storage.specs.Refs.Refs.{Ref, ref, refs, names, lowered, left}
@@ -12,7 +8,6 @@ use Rattle.storage.proofs.RefsLaws.Places.{length-refs, place_in, refs-first}
 use Rattle.storage.proofs.RowsLaws.Rows.{row-end, mul-up}
 use Rattle.storage.proofs.RefsLaws.Left.{row_moved}
 use Rattle.storage.proofs.RowsLaws.Kept.{Going, going_start, going-read, going-keep, going_drop, going_done}
-use native.Mathlib.Omega.{arith}
 use Rattle.storage.proofs.refs.drop_places.Goals as goal
 use Rattle.storage.proofs.refs.drop_places.Goals.{After-load2-place, In-loop-i}
 

@@ -1,7 +1,5 @@
 -- `drop_places`: of the first i rows, those that are left stand first (`Going`).
-use mathlib.Core.Path.{◌≡◌}
-use mathlib.Core.List.{[]}
-use lib.ListN.{length}
+use Rattle.std.proofs.Common.{◌≡◌, [], length}
 use Rattle.storage.specs.Refs.Refs.{ref, refs, names, lowered}
 use Rattle.storage.proofs.RowsLaws.Kept.{Going}
 use Rattle.storage.proofs.refs.drop_places.Given as goal

@@ -1,14 +1,10 @@
 -- `make_room`: the first j rows are renamed, the others are as they were.
-use mathlib.Core.Path.{◌≡◌, refl, sym, ap, ◌∙◌}
-use mathlib.Core.List.{List, [], ◌∷◌}
-use Prim.Native.Nat.{ℕ, ◌+◌, ◌*◌, ◌≤◌, ◌<◌}
-use lib.ListN.{get_or}
+use Rattle.std.proofs.Common.{◌≡◌, refl, sym, ap, ◌∙◌, List, [], ◌∷◌, ℕ, ◌+◌, ◌*◌, ◌≤◌, ◌<◌, get_or, arith}
 use Rattle.storage.specs.Rows.Part.{put}
 use Rattle.storage.specs.Refs.Refs.{Ref, ref, refs, shifted, moved}
 use Rattle.storage.proofs.RefsLaws.Places.{length-refs, length-places, place_in, get_or-map-in, store-place}
 use Rattle.storage.proofs.RowsLaws.Rows.{row-end}
 use Rattle.storage.proofs.RefsLaws.Shifts.{done, done-start, done-read, done_more, done_all, shifted-le}
-use native.Mathlib.Omega.{arith}
 use Rattle.storage.proofs.refs.make_room.Goals as goal
 use Rattle.storage.proofs.refs.make_room.Goals.{After-load2-place, In-loop-j}
 

@@ -1,7 +1,5 @@
 -- `make_room`: the first j rows are renamed, the others are as they were.
-use mathlib.Core.Path.{◌≡◌}
-use mathlib.Core.List.{[]}
-use lib.ListN.{length}
+use Rattle.std.proofs.Common.{◌≡◌, [], length}
 use Rattle.storage.specs.Refs.Refs.{ref, refs, moved}
 use Rattle.storage.proofs.RefsLaws.Shifts.{done}
 use Rattle.storage.proofs.refs.make_room.Given as goal

@@ -1,5 +1,5 @@
 -- `numbers`: a flag stands for each number of the first i.
-use mathlib.Core.Path.{refl}
+use Rattle.std.proofs.Common.{refl}
 use Rattle.storage.proofs.RefsLaws.Flags.{seen_start}
 use Rattle.storage.proofs.refs.numbers.Goals as goal
 

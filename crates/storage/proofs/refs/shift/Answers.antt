@@ -1,7 +1,6 @@
 -- `shift`: by cases, as `shifted` is.
-use mathlib.Core.Path.{sym}
+use Rattle.std.proofs.Common.{sym, arith}
 use Rattle.storage.proofs.RefsLaws.Shifts.{shifted-low, shifted-high}
-use native.Mathlib.Omega.{arith}
 use Rattle.storage.proofs.refs.shift.Goals as goal
 
 pub returns-then-place-i : goal.returns-then-place-i

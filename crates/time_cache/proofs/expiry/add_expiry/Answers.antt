@@ -1,6 +1,5 @@
 -- `add_expiry`: a gap, and the row's time and identifier in it.
-use mathlib.Core.Path.{ap, ◌∙◌}
-use Prim.Native.Nat.{◌+◌, ◌*◌, ◌≤◌}
+use Rattle.std.proofs.Common.{ap, ◌∙◌, ◌+◌, ◌*◌, ◌≤◌, arith}
 use Rattle.storage.specs.Rows.Part.{put}
 use Rattle.storage.specs.Rows.Digits.{le_bytes, be_bytes}
 use Rattle.storage.specs.Rows.Ident.{id_of}
@@ -8,7 +7,6 @@ use Rattle.storage.proofs.RowsLaws.Ids.{id-lt}
 use Rattle.storage.proofs.RowsLaws.Rows.{row-end}
 use Rattle.time_cache.specs.Tables.{expiry_rows}
 use Rattle.time_cache.proofs.ExpiryLaws.{row-added}
-use native.Mathlib.Omega.{arith}
 use Rattle.time_cache.proofs.expiry.add_expiry.Goals as goal
 use Rattle.time_cache.proofs.expiry.add_expiry.Goals.{Start}
 

@@ -1,6 +1,5 @@
 -- `drop_expiry`: `remove_rows`, as expiry rows.
-use mathlib.Core.Path.{ap, ◌∙◌}
-use Prim.Native.Nat.{◌-◌}
+use Rattle.std.proofs.Common.{ap, ◌∙◌, ◌-◌}
 use Rattle.time_cache.specs.Tables.{expiry_rows}
 use Rattle.time_cache.proofs.ExpiryLaws.{rows_dropped}
 use Rattle.time_cache.proofs.expiry.drop_expiry.Goals as goal

@@ -1,13 +1,9 @@
 -- `due`: the cut lies between lo and hi. The measure is hi - lo.
-use mathlib.Core.Path.{◌≡◌, sym, ◌∙◌}
-use mathlib.Core.List.{map}
-use Prim.Native.Nat.{◌+◌, ◌-◌, ◌*◌, ◌/◌, ◌≤◌, ◌<◌}
-use lib.ListN.{get_or}
+use Rattle.std.proofs.Common.{◌≡◌, sym, ◌∙◌, map, ◌+◌, ◌-◌, ◌*◌, ◌/◌, ◌≤◌, ◌<◌, get_or, arith}
 use Rattle.storage.proofs.RowsLaws.Rows.{row-end}
 use Rattle.time_cache.specs.Tables.{expiry_rows, expiry_of, no_expiry}
 use Rattle.time_cache.proofs.Orders.{rising-of}
 use Rattle.time_cache.proofs.ExpiryLaws.{length-expiries, expiry-time, around-start, around-up, around-down, around-done}
-use native.Mathlib.Omega.{arith}
 use Rattle.time_cache.proofs.expiry.due.Goals as goal
 use Rattle.time_cache.proofs.expiry.due.Goals.{After-load-t, In-loop-lo}
 

@@ -1,6 +1,5 @@
 -- `due`: the cut lies between lo and hi. The measure is hi - lo.
-use mathlib.Core.List.{map}
-use Prim.Native.Nat.{◌-◌}
+use Rattle.std.proofs.Common.{map, ◌-◌}
 use Rattle.time_cache.specs.Tables.{expiry_rows, expiry_of}
 use Rattle.time_cache.proofs.ExpiryLaws.{Around}
 use Rattle.time_cache.proofs.expiry.due.Given as goal

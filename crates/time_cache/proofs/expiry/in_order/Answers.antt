@@ -1,13 +1,9 @@
 -- `in_order`: the first i times rise, and the last of them is `last`.
-use mathlib.Core.Path.{◌≡◌, sym, ◌∙◌}
-use mathlib.Core.List.{map}
-use Prim.Native.Nat.{◌+◌, ◌*◌, ◌≤◌}
-use lib.ListN.{get_or}
+use Rattle.std.proofs.Common.{◌≡◌, sym, ◌∙◌, map, ◌+◌, ◌*◌, ◌≤◌, get_or, arith}
 use Rattle.storage.proofs.RowsLaws.Rows.{row-end}
 use Rattle.time_cache.specs.Tables.{expiry_rows, expiry_of, no_expiry}
 use Rattle.time_cache.proofs.Orders.{of_rising, not-rising}
 use Rattle.time_cache.proofs.ExpiryLaws.{length-expiries, expiry-time, rising-more, rising-done, rising-not}
-use native.Mathlib.Omega.{arith}
 use Rattle.time_cache.proofs.expiry.in_order.Goals as goal
 use Rattle.time_cache.proofs.expiry.in_order.Goals.{After-load-time, In-loop-i}
 

@@ -1,5 +1,5 @@
 -- `in_order`: the first i times rise, and the last of them is `last`.
-use mathlib.Core.List.{map}
+use Rattle.std.proofs.Common.{map}
 use Rattle.time_cache.specs.Tables.{expiry_rows, expiry_of}
 use Rattle.time_cache.proofs.ExpiryLaws.{RisingTo}
 use Rattle.time_cache.proofs.expiry.in_order.Given as goal

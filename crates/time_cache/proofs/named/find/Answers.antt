@@ -1,14 +1,9 @@
 -- `find`: lo and hi bracket the key; the key that the middle names settles one side. The measure is hi - lo.
-use mathlib.Core.Path.{◌≡◌, sym, ◌∙◌, subst}
-use mathlib.Core.List.{List}
-use Prim.Native.Nat.{ℕ, ◌+◌, ◌-◌, ◌/◌, ◌≤◌, ◌<◌}
-use lib.ListN.{get_or}
+use Rattle.std.proofs.Common.{◌≡◌, sym, ◌∙◌, subst, List, ℕ, ◌+◌, ◌-◌, ◌/◌, ◌≤◌, ◌<◌, get_or, Less, Equal, Greater, arith}
 use Rattle.storage.specs.Rows.Ident.{id_of}
 use Rattle.storage.proofs.RowsLaws.Sorted.{bracket-start, bracket-up, bracket-down}
-use Rattle.std.proofs.Common.{Less, Equal, Greater}
 use Rattle.std.proofs.lemmas.Cmp.{ranked}
 use Rattle.time_cache.proofs.NamedLaws.{keys_in, length-named, named-below, named-key}
-use native.Mathlib.Omega.{arith}
 use Rattle.time_cache.proofs.named.find.Goals as goal
 use Rattle.time_cache.proofs.named.find.Goals.{After-key-found, In-loop-lo}
 

@@ -1,5 +1,5 @@
 -- `find`: lo and hi bracket the key; the key that the middle names settles one side. The measure is hi - lo.
-use Prim.Native.Nat.{◌-◌}
+use Rattle.std.proofs.Common.{◌-◌}
 use Rattle.storage.specs.Rows.Ident.{id_of}
 use Rattle.storage.proofs.RowsLaws.Sorted.{Bracket}
 use Rattle.time_cache.proofs.NamedLaws.{keys_in}

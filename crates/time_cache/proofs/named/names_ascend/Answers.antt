@@ -1,8 +1,5 @@
 -- `names_ascend`: the first i places name rows, and the keys of these ascend (`Seen`); `last` is the last of the places, and `first_word` the first word of its key.
-use mathlib.Core.Path.{◌≡◌, refl, sym, ap, ◌∙◌}
-use mathlib.Core.List.{List}
-use Prim.Native.Nat.{ℕ, ◌-◌, ◌<◌}
-use lib.ListN.{get_or}
+use Rattle.std.proofs.Common.{◌≡◌, refl, sym, ap, ◌∙◌, List, ℕ, ◌-◌, ◌<◌, get_or, arith}
 use Rattle.storage.specs.Refs.Refs.{refs, places}
 use Rattle.storage.specs.Rows.Ident.{id_of}
 use Rattle.storage.proofs.RowsLaws.Sorted.{lt_of, not-lt-of}
@@ -10,7 +7,6 @@ use Rattle.storage.proofs.RowsLaws.Ids.{le_false}
 use Rattle.std.proofs.lemmas.Map.Keys.{le_from_is_le}
 use Rattle.time_cache.specs.Tables.{row_at, expiry_rows}
 use Rattle.time_cache.proofs.NamedLaws.{keys_in, named-key, seen_one, seen_more, seen_all, seen_none, not_named, not-up}
-use native.Mathlib.Omega.{arith}
 use Rattle.time_cache.proofs.named.names_ascend.Goals as goal
 use Rattle.time_cache.proofs.named.names_ascend.Goals.{After-key-key, In-loop-i, else-key-first_word-via-then-key-first_word+else-le, else-key-first_word-via-else-key-first_word}
 

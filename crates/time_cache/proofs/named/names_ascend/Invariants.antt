@@ -1,7 +1,5 @@
 -- `names_ascend`: the first i places name rows, and the keys of these ascend (`Seen`); `last` is the last of the places, and `first_word` the first word of its key.
-use mathlib.Core.Path.{◌≡◌}
-use Prim.Native.Nat.{◌-◌, ◌/◌, ◌^◌, ◌<◌}
-use lib.ListN.{get_or}
+use Rattle.std.proofs.Common.{◌≡◌, ◌-◌, ◌/◌, ◌^◌, ◌<◌, get_or}
 use Rattle.storage.specs.Refs.Refs.{refs, places}
 use Rattle.time_cache.specs.Tables.{row_at, expiry_rows}
 use Rattle.time_cache.proofs.NamedLaws.{Seen}

@@ -1,5 +1,5 @@
 -- `block_need`: the sum fits, and is the need.
-use native.Mathlib.Omega.{arith}
+use Rattle.std.proofs.Common.{arith}
 use Rattle.protocol.specs.State.{block_need}
 use Rattle.whole.proofs.create.block_need.Goals as goal
 

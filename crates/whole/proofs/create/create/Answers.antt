@@ -1,11 +1,5 @@
 -- `create`: the four questions in order, then the header of `State::new`.
-use mathlib.Core.Path.{ap}
-use mathlib.Core.Bool.{not}
-use mathlib.Core.Path.{◌≡◌, refl, sym, subst}
-use mathlib.Core.Bool.{true}
-use Prim.Native.Nat.{◌≤◌}
-use native.Mathlib.Omega.{arith}
-use lib.ListN.{length}
+use Rattle.std.proofs.Common.{ap, not, ◌≡◌, refl, sym, subst, true, ◌≤◌, arith, length}
 use Rattle.protocol.specs.State.{Created, size_in_range, durations_in_range, limits_in_range, block_need}
 use Rattle.block.specs.View.{settings_of, limits_of}
 use Rattle.block.specs.Header.{Stored}

@@ -1,12 +1,6 @@
 -- `area_holds`: each test is a part of question 17 (`Holds`).
-use mathlib.Core.Path.{ap}
-use mathlib.Core.Bool.{not}
-use mathlib.Core.Path.{sym}
-use mathlib.Core.List.{List}
-use Prim.Native.Nat.{ℕ, ◌+◌, ◌*◌}
-use native.Mathlib.Omega.{arith}
+use Rattle.std.proofs.Common.{ap, not, sym, List, ℕ, ◌+◌, ◌*◌, arith, length, get_or}
 use borrow.Author.Tests.{not-true, not-false}
-use lib.ListN.{length, get_or}
 use Rattle.whole.specs.States.Area.{kept, area_holds}
 use Rattle.whole.specs.States.Calls.{Zeros, SlotsHold}
 use Rattle.whole.proofs.StatesLaws.Leaves.{told-yes, told-no, told_same}

@@ -1,7 +1,5 @@
 -- `ask_area`: the two tests in their order.
-use mathlib.Core.Bool.{not}
-use mathlib.Core.Path.{refl, sym, ap, ◌∙◌}
-use native.Mathlib.Omega.{arith}
+use Rattle.std.proofs.Common.{not, refl, sym, ap, ◌∙◌, arith}
 use borrow.Author.Tests.{not-true, not-false}
 use Rattle.whole.specs.States.Area.{kept}
 use Rattle.whole.specs.States.Calls.{area_asked}

@@ -1,11 +1,6 @@
 -- `go_back`: the tests in their order, and then the block and the counts are read (`returns-0`).
-use mathlib.Core.Path.{◌≡◌, sym, ap, ◌∙◌, subst}
-use mathlib.Core.Bool.{true}
-use mathlib.Core.List.{List}
-use Prim.Native.Nat.{ℕ, ◌+◌, ◌*◌, ◌-◌, ◌≤◌, ◌<◌}
-use native.Mathlib.Omega.{arith}
+use Rattle.std.proofs.Common.{◌≡◌, sym, ap, ◌∙◌, subst, true, List, ℕ, ◌+◌, ◌*◌, ◌-◌, ◌≤◌, ◌<◌, arith, length, take, drop}
 use Rattle.std.proofs.lemmas.Result.{err_from_is_err_and}
-use lib.ListN.{length, take, drop}
 use Rattle.storage.specs.Rows.Part.{part, put}
 use Rattle.storage.proofs.RowsLaws.Parts.{length_part, put_all}
 use Rattle.protocol.specs.State.{Counts}

@@ -1,8 +1,5 @@
 -- `place_of`: none of the first i rows has the name.
-use mathlib.Core.Path.{sym, ◌∙◌}
-use native.Mathlib.Omega.{arith}
-use borrow.Author.Rules.{rules}
-use borrow.Author.Count.{below_more}
+use Rattle.std.proofs.Common.{sym, ◌∙◌, arith, rules, below_more}
 use Rattle.whole.specs.States.Area.{name_at}
 use Rattle.whole.proofs.states.place_of.Goals as goal
 

@@ -1,6 +1,5 @@
 -- `place_of`: none of the first i rows has the name.
-use mathlib.Core.Path.{◌≡◌}
-use Prim.Native.Nat.{ℕ, ◌≤◌, ◌<◌}
+use Rattle.std.proofs.Common.{◌≡◌, ℕ, ◌≤◌, ◌<◌}
 use Rattle.whole.specs.States.Area.{name_at}
 use Rattle.whole.proofs.states.place_of.Given as goal
 

@@ -1,6 +1,5 @@
 -- `put_row`: four puts, each where the one before it ends, are one.
-use mathlib.Core.Path.{ap, ◌∙◌}
-use Prim.Native.Nat.{◌+◌}
+use Rattle.std.proofs.Common.{ap, ◌∙◌, ◌+◌}
 use Rattle.storage.specs.Rows.Part.{put}
 use Rattle.storage.specs.Rows.Digits.{le_bytes}
 use Rattle.storage.proofs.RowsLaws.Digits.{length-le_bytes}

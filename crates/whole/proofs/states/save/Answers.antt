@@ -1,11 +1,6 @@
 -- `save`: the tests in their order, and then the row, the block and the number are put (`saves-0`).
-use mathlib.Core.Path.{◌≡◌, sym, ap, ◌∙◌, subst}
-use mathlib.Core.Bool.{true}
-use mathlib.Core.List.{List, [], ◌∷◌}
-use Prim.Native.Nat.{ℕ, ◌+◌, ◌-◌, ◌*◌, ◌≤◌, ◌<◌}
-use native.Mathlib.Omega.{arith}
+use Rattle.std.proofs.Common.{◌≡◌, sym, ap, ◌∙◌, subst, true, List, [], ◌∷◌, ℕ, ◌+◌, ◌-◌, ◌*◌, ◌≤◌, ◌<◌, arith, length, set}
 use Rattle.std.proofs.lemmas.Result.{err_from_is_err_and}
-use lib.ListN.{length, set}
 use Rattle.storage.specs.Lists.Map.{Entry, entry}
 use Rattle.storage.specs.Rows.Part.{put}
 use Rattle.storage.proofs.RowsLaws.Parts.{length-put, set-put}

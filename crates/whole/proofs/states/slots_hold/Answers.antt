@@ -1,11 +1,6 @@
 -- `slots_hold`: the first i names differ, and the first i blocks are whole.
-use mathlib.Core.Bool.{not}
-use mathlib.Core.Path.{◌≡◌, sym, ap, ◌∙◌}
-use Prim.Native.Nat.{ℕ, ◌+◌, ◌*◌, ◌-◌}
-use native.Mathlib.Omega.{arith}
-use borrow.Author.Rules.{rules}
+use Rattle.std.proofs.Common.{not, ◌≡◌, sym, ap, ◌∙◌, ℕ, ◌+◌, ◌*◌, ◌-◌, arith, rules, take, drop}
 use borrow.Author.Tests.{not-true, not-false}
-use lib.ListN.{take, drop}
 use Rattle.storage.proofs.ListsLaws.MapLaws.{true≢}
 use Rattle.storage.specs.Rows.Part.{part}
 use Rattle.whole.specs.Held.{whole_block}

@@ -1,5 +1,5 @@
 -- `slots_hold`: the first i names differ, and the first i blocks are whole.
-use Prim.Native.Nat.{◌≤◌}
+use Rattle.std.proofs.Common.{◌≤◌}
 use Rattle.whole.specs.States.Calls.{SlotsHold}
 use Rattle.whole.proofs.states.slots_hold.Given as goal
 

@@ -1,6 +1,5 @@
 -- `zero_words`: no byte from `from` to i is other than 0. The measure is what is left.
-use mathlib.Core.Path.{sym, ◌∙◌}
-use native.Mathlib.Omega.{arith}
+use Rattle.std.proofs.Common.{sym, ◌∙◌, arith}
 use Rattle.whole.proofs.StatesLaws.Leaves.{zeros-word}
 use Rattle.whole.proofs.states.zero_words.Goals as goal
 

@@ -1,5 +1,5 @@
 -- `zero_words`: no byte from `from` to i is other than 0. The measure is what is left.
-use Prim.Native.Nat.{◌-◌, ◌≤◌}
+use Rattle.std.proofs.Common.{◌-◌, ◌≤◌}
 use Rattle.whole.specs.States.Calls.{Zeros}
 use Rattle.whole.proofs.states.zero_words.Given as goal
 

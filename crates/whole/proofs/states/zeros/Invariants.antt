@@ -1,5 +1,5 @@
 -- `zeros`: no byte from `from` to i is other than 0.
-use Prim.Native.Nat.{◌≤◌}
+use Rattle.std.proofs.Common.{◌≤◌}
 use Rattle.whole.specs.States.Calls.{Zeros}
 use Rattle.whole.proofs.states.zeros.Given as goal
 

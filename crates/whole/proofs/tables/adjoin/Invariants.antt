@@ -1,6 +1,5 @@
 -- `adjoin`: the contents from row i on adjoin from `at` just if all adjoin from 0.
-use mathlib.Core.Path.{◌≡◌}
-use lib.ListN.{drop}
+use Rattle.std.proofs.Common.{◌≡◌, drop}
 use Rattle.storage.specs.Rows.Rows.{rows}
 use Rattle.whole.specs.Held.{adjoin}
 use Rattle.whole.proofs.tables.adjoin.Given as goal

@@ -1,8 +1,5 @@
 -- `announcers`: the lists of table 9.
-use borrow.Author.Rules.{rules}
-use mathlib.Core.Path.{◌∙◌}
-use native.Mathlib.Omega.{arith}
-use lib.Dec.{lit<}
+use Rattle.std.proofs.Common.{rules, ◌∙◌, arith, lit<}
 use Rattle.block.specs.View.{limits_of}
 use Rattle.whole.specs.Parts.{missed_list}
 use Rattle.whole.proofs.LentLaws.{lists-lent}

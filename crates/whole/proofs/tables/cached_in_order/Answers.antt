@@ -1,9 +1,5 @@
 -- `cached_in_order`: the test of the time cache in tables 4 and 5.
-use mathlib.Core.Path.{◌≡◌, ap, ◌∙◌}
-use mathlib.Core.List.{List}
-use Prim.Native.Nat.{ℕ}
-use native.Mathlib.Omega.{arith}
-use lib.Dec.{lit<}
+use Rattle.std.proofs.Common.{◌≡◌, ap, ◌∙◌, List, ℕ, arith, lit<}
 use Rattle.time_cache.specs.Tables.{sound}
 use Rattle.time_cache.specs.declared.cache.TimeBoundCache.{TimeBoundCache}
 use Rattle.block.specs.View.{limits_of, state_of, cached_in, cached_of}

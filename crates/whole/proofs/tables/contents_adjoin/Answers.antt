@@ -1,9 +1,5 @@
 -- `contents_adjoin`: the rows of table 5.
-use mathlib.Core.Path.{ap, ◌∙◌}
-use mathlib.Core.List.{List}
-use Prim.Native.Nat.{ℕ}
-use native.Mathlib.Omega.{arith}
-use lib.Dec.{lit<}
+use Rattle.std.proofs.Common.{ap, ◌∙◌, List, ℕ, arith, lit<}
 use Rattle.block.specs.View.{limits_of}
 use Rattle.whole.specs.Held.{adjoin}
 use Rattle.whole.proofs.LentLaws.{rows-lent}

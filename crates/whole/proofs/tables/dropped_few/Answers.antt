@@ -1,10 +1,5 @@
 -- `dropped_few`: how often each number of table 13 stands.
-use mathlib.Core.Path.{◌≡◌, sym, ap, ◌∙◌, subst}
-use mathlib.Core.List.{List}
-use Prim.Native.Nat.{ℕ, ◌+◌, ◌-◌}
-use native.Mathlib.Omega.{arith}
-use lib.Dec.{lit<}
-use lib.ListN.{take, drop}
+use Rattle.std.proofs.Common.{◌≡◌, sym, ap, ◌∙◌, subst, List, ℕ, ◌+◌, ◌-◌, arith, lit<, take, drop}
 use Rattle.storage.specs.Refs.Refs.{Below}
 use Rattle.time_cache.proofs.Orders.{below_of}
 use Rattle.block.specs.Layout.{place}

@@ -1,7 +1,5 @@
 -- `dropped_named`: the numbers of table 13.
-use mathlib.Core.Path.{ap, ◌∙◌}
-use native.Mathlib.Omega.{arith}
-use lib.Dec.{lit<}
+use Rattle.std.proofs.Common.{ap, ◌∙◌, arith, lit<}
 use Rattle.block.specs.View.{limits_of}
 use Rattle.whole.specs.Held.{all_below}
 use Rattle.whole.proofs.LentLaws.{bytes-lent}

@@ -1,10 +1,5 @@
 -- `dropped_once`: each note of tables 13 and 14 stands once.
-use mathlib.Core.Path.{subst}
-use mathlib.Core.List.{List}
-use Prim.Native.Nat.{ℕ, ◌-◌}
-use native.Mathlib.Omega.{arith}
-use lib.Dec.{lit<}
-use lib.ListN.{length, take, drop}
+use Rattle.std.proofs.Common.{subst, List, ℕ, ◌-◌, arith, lit<, length, take, drop}
 use Rattle.storage.specs.Buckets.{TellsOnce}
 use Rattle.block.specs.View.{limits_of}
 use Rattle.whole.proofs.LentLaws.{bytes-lent, rows-lent}

@@ -1,7 +1,5 @@
 -- `few_each`: a count for each number of the first i, at most 256.
-use mathlib.Core.Path.{refl}
-use Prim.Native.Nat.{◌<◌}
-use native.Mathlib.Omega.{arith}
+use Rattle.std.proofs.Common.{refl, ◌<◌, arith}
 use Rattle.whole.proofs.RecordLaws.{counted_start, counted-more, counted-over, counted-done, few-short}
 use Rattle.whole.proofs.tables.few_each.Goals as goal
 use Rattle.whole.proofs.tables.few_each.Goals.{After-wide-number}

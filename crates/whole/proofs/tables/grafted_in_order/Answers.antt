@@ -1,9 +1,5 @@
 -- `grafted_in_order`: the test of the time cache in tables 7 and 8.
-use mathlib.Core.Path.{◌≡◌, ap, ◌∙◌}
-use mathlib.Core.List.{List}
-use Prim.Native.Nat.{ℕ}
-use native.Mathlib.Omega.{arith}
-use lib.Dec.{lit<}
+use Rattle.std.proofs.Common.{◌≡◌, ap, ◌∙◌, List, ℕ, arith, lit<}
 use Rattle.storage.specs.Lists.Map.{keys}
 use Rattle.time_cache.specs.Tables.{sound}
 use Rattle.time_cache.specs.declared.cache.TimeBoundCache.{TimeBoundCache}

@@ -1,8 +1,5 @@
 -- `grafted_peers`: the lists of table 7.
-use borrow.Author.Rules.{rules}
-use mathlib.Core.Path.{◌∙◌}
-use native.Mathlib.Omega.{arith}
-use lib.Dec.{lit<}
+use Rattle.std.proofs.Common.{rules, ◌∙◌, arith, lit<}
 use Rattle.block.specs.View.{limits_of}
 use Rattle.whole.specs.Parts.{graft_list}
 use Rattle.whole.proofs.LentLaws.{lists-lent}

@@ -1,6 +1,5 @@
 -- `links_whole`: the first i peers ascend; a turn compares neighbours.
-use mathlib.Core.Bool.{true, false}
-use native.Mathlib.Omega.{arith}
+use Rattle.std.proofs.Common.{true, false, arith}
 use Rattle.storage.specs.Lists.Map.{keys}
 use Rattle.storage.proofs.RowsLaws.Sorted.{ascend-more, ascend-done, ascend-not}
 use Rattle.time_cache.proofs.Orders.{tells-ascending}

@@ -1,5 +1,5 @@
 -- `links_whole`: the first i peers ascend; a turn compares neighbours.
-use Prim.Native.Nat.{◌<◌}
+use Rattle.std.proofs.Common.{◌<◌}
 use Rattle.storage.specs.Lists.Map.{keys}
 use Rattle.storage.proofs.RowsLaws.Sorted.{AscendTo}
 use Rattle.block.specs.View.{state_of}

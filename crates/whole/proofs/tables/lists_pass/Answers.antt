@@ -1,10 +1,5 @@
 -- `lists_pass`: the lists of the first i rows pass.
-use mathlib.Core.Path.{refl, sym, ap, ◌∙◌}
-use mathlib.Core.Bool.{not}
-use mathlib.Core.List.{[]}
-use Prim.Native.Nat.{◌-◌}
-use native.Mathlib.Omega.{arith}
-use lib.ListN.{drop}
+use Rattle.std.proofs.Common.{refl, sym, ap, ◌∙◌, not, [], ◌-◌, arith, drop}
 use Rattle.storage.specs.Rows.Rows.{rows}
 use Rattle.storage.proofs.RowsLaws.Rows.{length-rows}
 use Rattle.whole.specs.Held.{all_lists}

@@ -1,9 +1,5 @@
 -- `lists_pass`: the lists of the first i rows pass.
-use mathlib.Core.Path.{◌≡◌}
-use mathlib.Core.Bool.{Bool, true}
-use mathlib.Core.List.{List}
-use Prim.Native.Nat.{ℕ, ◌-◌}
-use lib.ListN.{take, drop}
+use Rattle.std.proofs.Common.{◌≡◌, Bool, true, List, ℕ, ◌-◌, take, drop}
 use Rattle.std.specs.Fn.{FnReturnsAt}
 use Rattle.storage.specs.Lists.Base.{all}
 use Rattle.storage.specs.Rows.Rows.{rows}

@@ -1,11 +1,5 @@
 -- `missed_list`: the count, then the numbers.
-use mathlib.Core.Path.{◌≡◌, sym, ap, ◌∙◌}
-use mathlib.Core.Bool.{true, ◌&&◌}
-use Prim.Native.Nat.{ℕ, ◌+◌, ◌-◌}
-use native.Mathlib.Omega.{arith}
-use borrow.Author.Tests.{le-leb, lt-ltb}
-use lib.Dec.{leb, ltb}
-use lib.ListN.{take, drop, get_or}
+use Rattle.std.proofs.Common.{◌≡◌, sym, ap, ◌∙◌, true, ◌&&◌, ℕ, ◌+◌, ◌-◌, arith, le-leb, lt-ltb, leb, ltb, take, drop, get_or}
 use Rattle.storage.specs.Lists.Base.{once}
 use Rattle.whole.specs.Held.{all_below, numbers_name}
 use Rattle.whole.specs.Parts.{missed_list}

@@ -1,9 +1,5 @@
 -- `numbers_below`: `bad` is 0 just if the first i numbers are below it.
-use mathlib.Core.Path.{sym, ap, ◌∙◌}
-use Prim.Native.Nat.{ℕ}
-use borrow.Author.Tests.{lt-ltb, le-ltb}
-use lib.Dec.{eqb, ltb}
-use lib.ListN.{get_or}
+use Rattle.std.proofs.Common.{sym, ap, ◌∙◌, ℕ, lt-ltb, le-ltb, eqb, ltb, get_or}
 use Rattle.whole.proofs.AllLaws.{all_none, all_keep, all_drop}
 use Rattle.whole.proofs.tables.numbers_below.Goals as goal
 use Rattle.whole.proofs.tables.numbers_below.Goals.{then-link_count-numbers, else-link_count-numbers}

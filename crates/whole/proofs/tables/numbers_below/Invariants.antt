@@ -1,7 +1,5 @@
 -- `numbers_below`: `bad` is 0 just if the first i numbers are below it.
-use mathlib.Core.Path.{◌≡◌}
-use lib.Dec.{eqb}
-use lib.ListN.{take}
+use Rattle.std.proofs.Common.{◌≡◌, eqb, take}
 use Rattle.whole.specs.Held.{all_below}
 use Rattle.whole.proofs.tables.numbers_below.Given as goal
 

@@ -1,7 +1,5 @@
 -- `queue_whole`: the numbers of table 11.
-use mathlib.Core.Path.{ap, ◌∙◌}
-use native.Mathlib.Omega.{arith}
-use lib.Dec.{lit<}
+use Rattle.std.proofs.Common.{ap, ◌∙◌, arith, lit<}
 use Rattle.block.specs.View.{limits_of}
 use Rattle.whole.specs.Held.{all_below}
 use Rattle.whole.specs.Parts.{queue_whole}

@@ -1,6 +1,5 @@
 -- `record_whole`: an empty record is whole.
-use mathlib.Core.Path.{◌∙◌}
-use borrow.Author.Tests.{eq-eqb}
+use Rattle.std.proofs.Common.{◌∙◌, eq-eqb}
 use Rattle.whole.proofs.RecordLaws.{record-none}
 use Rattle.whole.proofs.tables.record_whole.Goals as goal
 

@@ -1,10 +1,5 @@
 -- `timers_whole`: the keys of table 10.
-use mathlib.Core.Path.{◌≡◌, refl, ap, ◌∙◌}
-use mathlib.Core.List.{List}
-use Prim.Native.Nat.{ℕ, ◌-◌}
-use native.Mathlib.Omega.{arith}
-use lib.Dec.{lit<}
-use lib.ListN.{length, take, drop}
+use Rattle.std.proofs.Common.{◌≡◌, refl, ap, ◌∙◌, List, ℕ, ◌-◌, arith, lit<, length, take, drop}
 use Rattle.storage.specs.Lists.Base.{ascending}
 use Rattle.storage.specs.Rows.Sorted.{key_of, keys}
 use Rattle.time_cache.proofs.Orders.{tells-ascending}

@@ -1,9 +1,6 @@
 -- `broadcast_fits`: the test without the sum that could wrap is the test of the size (`fits_after`).
-use mathlib.Core.Path.{◌≡◌, sym, ap, ◌∙◌}
-use Prim.Native.Nat.{ℕ, ◌+◌}
-use native.Mathlib.Omega.{arith}
+use Rattle.std.proofs.Common.{◌≡◌, sym, ap, ◌∙◌, ℕ, ◌+◌, arith, leb}
 use borrow.Author.Tests.{lt-leb}
-use lib.Dec.{leb}
 use Rattle.postcard.specs.Number.{number_length}
 use Rattle.postcard.specs.Sizes.{gossip_size}
 use Rattle.postcard.proofs.Lengths.{number-few, fits_after}

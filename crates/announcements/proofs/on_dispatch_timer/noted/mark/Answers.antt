@@ -1,9 +1,6 @@
 -- `mark` meets its contract.
-use Rattle.std.proofs.Common.{rules, ℕ, ◌+◌, ◌<◌, sym, ap, ◌∙◌, false, take, set, List}
-use mathlib.Core.Logic.{inl, inr, ⊎_elim}
-use mathlib.Core.Path.{subst}
+use Rattle.std.proofs.Common.{rules, ℕ, ◌+◌, ◌<◌, sym, ap, ◌∙◌, false, take, set, List, inl, inr, ⊎_elim, subst, eqb}
 use Rattle.std.proofs.Math.Seq.{take_all}
-use lib.Dec.{eqb}
 use Rattle.storage.specs.Rows.Ident.{id_of}
 use Rattle.postcard.specs.Message.{Ihave}
 use Rattle.protocol.specs.State.{Note}

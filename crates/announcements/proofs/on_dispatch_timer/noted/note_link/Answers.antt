@@ -1,8 +1,7 @@
 -- `note_link` meets its contract.
-use Rattle.std.proofs.Common.{◌≡◌, ℕ, List, [], ◌∷◌, ◌++◌, ◌+◌, ◌-◌, ◌<◌, length, get_or, take, drop, set, sym, refl, ap, ◌∙◌, arith, true, false, ◌||◌}
-use mathlib.Core.Path.{subst}
+use Rattle.std.proofs.Common.{◌≡◌, ℕ, List, [], ◌∷◌, ◌++◌, ◌+◌, ◌-◌, ◌<◌, length, get_or, take, drop, set, sym, refl, ap, ◌∙◌, arith, true, false, ◌||◌, subst, length-append, length-drop}
 use borrow.Author.Tests.{eqb-false}
-use lib.ListN.{length-map, length-append, length-drop}
+use lib.ListN.{length-map}
 use Rattle.std.proofs.lemmas.List.Elements.{All-same, All-drop}
 use Rattle.storage.specs.Rows.Ident.{id_of}
 use Rattle.protocol.specs.State.{State, Note}

@@ -1,8 +1,7 @@
 -- `send_link` meets its contract.
-use Rattle.std.proofs.Common.{◌≡◌, ℕ, List, ◌+◌, ◌<◌, ◌≤◌, length, sym, refl, ap, ◌∙◌, rules, arith, Bool, ◌++◌, get_or}
-use lib.ListN.{length-map, length-append}
+use Rattle.std.proofs.Common.{◌≡◌, ℕ, List, ◌+◌, ◌<◌, ◌≤◌, length, sym, refl, ap, ◌∙◌, rules, arith, Bool, ◌++◌, get_or, length-append, ltb, min}
+use lib.ListN.{length-map}
 use Rattle.std.specs.Slice.Iter.{chunks_rest, chunks_size}
-use Rattle.std.specs.Prelude.{ltb, min}
 use Rattle.protocol.specs.State.{State}
 use Rattle.protocol.specs.Ticks.{per_message}
 use Rattle.decide.specs.Rooms.{kth_taken}

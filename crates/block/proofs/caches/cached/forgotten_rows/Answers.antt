@@ -1,7 +1,5 @@
 -- `forgotten_rows`: those of the tables that the message cache stands in.
-use Rattle.std.proofs.Common.{lit<, ◌≡◌, ◌<◌, ◌≤◌, map, sym, ◌∙◌}
-use mathlib.Core.Path.{subst}
-use Rattle.std.specs.Prelude.{All}
+use Rattle.std.proofs.Common.{lit<, ◌≡◌, ◌<◌, ◌≤◌, map, sym, ◌∙◌, subst, All}
 use Rattle.time_cache.specs.TimeCache.{expired_keys}
 use Rattle.time_cache.specs.Tables.{Lies, Sound, cache_at}
 use Rattle.time_cache.specs.Gone.{key_of_row}

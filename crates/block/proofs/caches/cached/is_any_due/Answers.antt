@@ -1,6 +1,5 @@
 -- `is_any_due`: of the table that the message cache stands in.
-use Rattle.std.proofs.Common.{◌≡◌, not, ap, ◌∙◌, List}
-use mathlib.Core.Path.{subst}
+use Rattle.std.proofs.Common.{◌≡◌, not, ap, ◌∙◌, List, subst}
 use Rattle.storage.specs.Lists.Base.{is_empty}
 use Rattle.time_cache.specs.TimeCache.{Expiry, due}
 use Rattle.time_cache.specs.Tables.{cache_at}

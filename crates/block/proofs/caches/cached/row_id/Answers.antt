@@ -1,6 +1,5 @@
 -- `row_id`: the key of the row, in the tables that the message cache stands in.
-use Rattle.std.proofs.Common.{◌≡◌, ◌<◌, sym}
-use mathlib.Core.Path.{subst}
+use Rattle.std.proofs.Common.{◌≡◌, ◌<◌, sym, subst}
 use Rattle.storage.specs.Rows.Ident.{id_of}
 use Rattle.time_cache.specs.Tables.{Lies}
 use Rattle.time_cache.specs.Gone.{key_of_row}

@@ -1,5 +1,5 @@
 -- `grafted::expire_grafted` meets its contract: the two tables are left to `expire_until`.
-use mathlib.Core.Path.{sym, subst}
+use Rattle.std.proofs.Common.{sym, subst}
 use Rattle.time_cache.specs.Tables.{Lies, Sound}
 use Rattle.time_cache.specs.Steps.{Expires}
 use Rattle.time_cache.specs.declared.cache.TimeBoundCache.{TimeBoundCache}

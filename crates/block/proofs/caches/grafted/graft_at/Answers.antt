@@ -1,9 +1,7 @@
 -- `grafted::graft_at` meets its contract: number and round read are a grafted peer of the view.
-use mathlib.Core.Path.{ap, subst}
-use Prim.Native.Nat.{ℕ, ◌+◌, ◌*◌}
+use Rattle.std.proofs.Common.{ap, subst, ℕ, ◌+◌, ◌*◌, arith}
 use Rattle.block.specs.HopSteps.{HopIn}
 use Rattle.block.proofs.CachesLaws.GraftLaws.{graft-many, graft-few, graft-hop}
-use native.Mathlib.Omega.{arith}
 use Rattle.block.proofs.caches.grafted.graft_at.Goals as goal
 
 pub hop_at-requires : goal.hop_at-requires

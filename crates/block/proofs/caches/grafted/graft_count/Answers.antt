@@ -1,7 +1,5 @@
 -- `grafted::graft_count` meets its contract: the byte read is the number of grafted peers of the view.
-use mathlib.Core.Path.{sym, ap, ◌∙◌, subst}
-use Prim.Native.Nat.{ℕ, ◌+◌, ◌*◌, ◌≤◌}
-use lib.ListN.{get_or}
+use Rattle.std.proofs.Common.{sym, ap, ◌∙◌, subst, ℕ, ◌+◌, ◌*◌, ◌≤◌, get_or}
 use Rattle.block.proofs.CachesLaws.GraftLaws.{graft-many, graft-few}
 use Rattle.block.proofs.caches.grafted.graft_count.Goals as goal
 

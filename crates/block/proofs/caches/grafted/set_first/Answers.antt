@@ -1,7 +1,5 @@
 -- `grafted::set_first` meets its contract: flag, peer and round are the `first` of the view.
-use mathlib.Core.Path.{sym, ap, ◌∙◌, subst}
-use Prim.Native.Nat.{ℕ, ◌+◌, ◌*◌}
-use native.Mathlib.Omega.{arith}
+use Rattle.std.proofs.Common.{sym, ap, ◌∙◌, subst, ℕ, ◌+◌, ◌*◌, arith}
 use Rattle.storage.specs.Rows.Part.{put}
 use Rattle.storage.specs.Rows.Digits.{le_bytes}
 use Rattle.block.specs.Goes.{Goes}

@@ -1,7 +1,5 @@
 -- `grafted::set_kept` meets its contract: flag and peer are the `kept` of the view.
-use mathlib.Core.Path.{sym, ap, subst}
-use Prim.Native.Nat.{ℕ, ◌+◌, ◌*◌}
-use native.Mathlib.Omega.{arith}
+use Rattle.std.proofs.Common.{sym, ap, subst, ℕ, ◌+◌, ◌*◌, arith}
 use Rattle.block.specs.Goes.{Goes}
 use Rattle.block.specs.Caches.GraftSteps.{kept_at}
 use Rattle.block.proofs.CachesLaws.GraftWrites.{kept_goes}

@@ -1,5 +1,5 @@
 -- `received::insert_received` meets its contract: the two tables are left to `insert`.
-use mathlib.Core.Path.{sym, subst}
+use Rattle.std.proofs.Common.{sym, subst}
 use Rattle.storage.specs.Rows.Ident.{id_of}
 use Rattle.time_cache.specs.Tables.{FitsOneMore, Sound}
 use Rattle.time_cache.specs.Steps.{Inserts}

@@ -1,8 +1,5 @@
 -- `load`: what follows the identifier is the list.
-use mathlib.Core.Path.{◌≡◌, ◌∙◌}
-use native.Mathlib.Omega.{arith}
-use lib.ListN.{drop, length-drop}
-use lib.Seq.{take_all}
+use Rattle.std.proofs.Common.{◌≡◌, ◌∙◌, arith, drop, length-drop, take_all}
 use Rattle.block.specs.Rows.{missed}
 use Rattle.block.specs.View.{id_at}
 use Rattle.block.proofs.missing.MissedRow.load.Goals as goal

@@ -1,7 +1,5 @@
 -- `link_at`: the byte read is the link number of the view.
-use mathlib.Core.Path.{sym, ap, subst}
-use Prim.Native.Nat.{ℕ, ◌+◌}
-use lib.ListN.{get_or}
+use Rattle.std.proofs.Common.{sym, ap, subst, ℕ, ◌+◌, get_or}
 use Rattle.block.specs.View.{state_of}
 use Rattle.block.specs.NoteSteps.{LinkIs, notes_of}
 use Rattle.block.proofs.NoteLaws.{note-link}

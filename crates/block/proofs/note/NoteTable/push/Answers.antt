@@ -1,8 +1,5 @@
 -- `push`: number and row are a note more.
-use mathlib.Core.Path.{ap}
-use Prim.Native.Nat.{ℕ, ◌+◌}
-use native.Mathlib.Omega.{arith}
-use lib.ListN.{length-set}
+use Rattle.std.proofs.Common.{ap, ℕ, ◌+◌, arith, length-set}
 use Rattle.storage.specs.Rows.Ident.{id_of}
 use Rattle.block.proofs.NoteLaws.{note-more}
 use Rattle.block.proofs.note.NoteTable.push.Goals as goal

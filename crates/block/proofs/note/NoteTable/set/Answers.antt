@@ -1,8 +1,5 @@
 -- `set`: number and row are another note in their place.
-use mathlib.Core.Path.{ap}
-use Prim.Native.Nat.{ℕ, ◌+◌}
-use native.Mathlib.Omega.{arith}
-use lib.ListN.{length-set}
+use Rattle.std.proofs.Common.{ap, ℕ, ◌+◌, arith, length-set}
 use Rattle.storage.specs.Rows.Ident.{id_of}
 use Rattle.block.proofs.NoteLaws.{note-other}
 use Rattle.block.proofs.note.NoteTable.set.Goals as goal

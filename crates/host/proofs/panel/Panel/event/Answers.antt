@@ -1,7 +1,6 @@
 -- `Panel::event`: the list that led to the block and counts before leads, with this call, to those after; a call with no refusal is answered 0.
-use Rattle.std.proofs.Common.{ℕ, refl, ap, ◌∙◌}
+use Rattle.std.proofs.Common.{ℕ, refl, ap, ◌∙◌, take}
 use mathlib.Core.Logic.{∥∥₁_map}
-use lib.ListN.{take}
 use Rattle.machine.specs.Called.{call_of}
 use Rattle.plumtree.specs.Calls.{entries}
 use Rattle.plumtree.specs.CallList.{with_call}

@@ -1,7 +1,5 @@
 -- `Actions::encode` meets its contract: a first event's, then the step's by its kind.
-use Rattle.std.proofs.Common.{◌≡◌, sym, ap, ◌∙◌, ℕ, List}
-use mathlib.Core.Path.{subst}
-use mathlib.Core.Logic.{inl, inr}
+use Rattle.std.proofs.Common.{◌≡◌, sym, ap, ◌∙◌, ℕ, List, subst, inl, inr}
 use borrow.Author.Tests.{eqb-false}
 use Rattle.postcard.specs.Message.{Neighbors, Emitted}
 use Rattle.wire.specs.Encode.Intake.{Intake, after, RoomFor}

@@ -1,6 +1,4 @@
-use Rattle.std.proofs.Common.{◌≡◌, sym, ap, ◌∙◌, arith, Bool, ℕ, ◌<◌}
-use lib.ListN.{length-set}
-use Rattle.std.specs.Prelude.{if◌then◌else◌}
+use Rattle.std.proofs.Common.{◌≡◌, sym, ap, ◌∙◌, arith, Bool, ℕ, ◌<◌, length-set, if◌then◌else◌}
 use Rattle.steps.specs.Views.{shown}
 use Rattle.steps.proofs.ViewLaws.{links-few}
 use Rattle.payloads.specs.Eager.Targets.{hands_back}

@@ -1,7 +1,4 @@
-use Rattle.std.proofs.Common.{◌≡◌, sym, ◌∙◌, ap, arith, Bool, true, false, ◌<◌, length, get_or}
-use borrow.Author.Tests.{eq-eqb}
-use lib.Dec.{eqb}
-use lib.ListN.{length-set}
+use Rattle.std.proofs.Common.{◌≡◌, sym, ◌∙◌, ap, arith, Bool, true, false, ◌<◌, length, get_or, eq-eqb, eqb, length-set}
 use Rattle.storage.specs.Rows.Ident.{id_of}
 use Rattle.protocol.specs.State.{Note}
 use Rattle.block.specs.LinkSteps.{peer_at}

@@ -1,8 +1,4 @@
-use Rattle.std.proofs.Common.{◌≡◌, ◌<◌, ◌∙◌, sym, length, arith, [], ◌∷◌, Bool, true, false, get_or}
-use lib.Dec.{ltb}
-use lib.ListN.{length-append}
-use borrow.Author.Tests.{lt-ltb, le-ltb}
-use borrow.Author.Rules.{rules}
+use Rattle.std.proofs.Common.{◌≡◌, ◌<◌, ◌∙◌, sym, length, arith, [], ◌∷◌, Bool, true, false, get_or, ltb, length-append, lt-ltb, le-ltb, rules}
 use Rattle.storage.specs.Rows.Ident.{id_of}
 use Rattle.block.proofs.NoteLaws.{count-dropped}
 use Rattle.steps.specs.Views.{shown}

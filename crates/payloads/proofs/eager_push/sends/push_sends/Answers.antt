@@ -2,7 +2,7 @@
 use Rattle.std.proofs.Common.{arith, ap, ◌∙◌, ◌<◌, length}
 use Rattle.steps.specs.Views.{shown}
 use Rattle.payloads.proofs.EagerPushLaws.TargetLaws.{few_links}
-use Rattle.payloads.proofs.EagerPushLaws.SendLaws.{sends-start, sends-done, sends-skip, sends-room, sends-more, back-start, back-done, back-skip, back-more}
+use Rattle.payloads.proofs.EagerPushLaws.SendLaws.{sends-start, sends-done, sends-skip, sends-more, back-start, back-done, back-skip, back-more}
 use Rattle.payloads.proofs.eager_push.sends.push_sends.Goals as goal
 use Rattle.payloads.proofs.eager_push.sends.push_sends.Goals.{then-is_target, else-is_target}
 
@@ -18,12 +18,6 @@ pub takes-taken-requires : goal.takes-taken-requires
 takes-taken-requires g c =
     let v = c.args.view.now in
     omega (arith, c.loop-link-test.true, c.link_count-link-end.ensures, few_links v.head v.block.now v.sound)
-
-pub encode-requires : goal.encode-requires
-encode-requires g c =
-    let a = c.args in
-    sends-room a.call.now a.push.now a.message.now (shown a.view.now) c.loop-link.link (omega (arith, c.loop-link-test.true, c.link_count-link-end.ensures)) c.requires.rest.0
-    c.is_target.result c.is_target.ensures c.if-is_target.true c.link.result c.link.ensures c.takes-taken.result c.takes-taken.ensures _ _ c.loop-link.invariant.sent c.requires.room
 
 pub loop-link-preserved : goal.loop-link-preserved
 loop-link-preserved g c = elim c.if-is_target.branch [

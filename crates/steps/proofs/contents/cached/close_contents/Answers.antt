@@ -1,5 +1,5 @@
 -- `cached::close_contents` meets its contract: one move, and the starts go down by as much.
-use native.Mathlib.Omega.{arith}
+use Rattle.std.proofs.Common.{arith}
 use Rattle.steps.proofs.ContentsLaws.Closing.{close-still, close-fit, close-above, close-shifts}
 use Rattle.steps.proofs.contents.cached.close_contents.Goals as goal
 

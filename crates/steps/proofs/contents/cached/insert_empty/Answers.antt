@@ -1,7 +1,5 @@
 -- `cached::insert_empty` meets its contract: the two tables are left to `insert`, and the row has a content of no bytes where the next row's starts.
-use mathlib.Core.Path.{sym, subst}
-use Prim.Native.Nat.{◌<◌}
-use native.Mathlib.Omega.{arith}
+use Rattle.std.proofs.Common.{sym, subst, ◌<◌, arith}
 use Rattle.storage.specs.Rows.Ident.{id_of}
 use Rattle.time_cache.specs.Tables.{FitsOneMore, Sound}
 use Rattle.time_cache.specs.Steps.{Inserts}

@@ -1,8 +1,5 @@
 -- `cached::resize_row` meets its contract: the contents behind move, their starts with them, and content and length are stored.
-use mathlib.Core.Path.{◌≡◌}
-use Prim.Native.Nat.{ℕ, ◌+◌, ◌≤◌, ◌<◌}
-use native.Mathlib.Omega.{arith}
-use lib.ListN.{length}
+use Rattle.std.proofs.Common.{◌≡◌, ℕ, ◌+◌, ◌≤◌, ◌<◌, arith, length}
 use Rattle.time_cache.specs.Tables.{row_at}
 use Rattle.steps.specs.Contents.Starts.{start_of}
 use Rattle.steps.specs.Contents.CacheSteps.{cached_rows}

@@ -1,12 +1,8 @@
 -- `cached::set_content` meets its contract: found, the row that the entry names has another content, and else there is nothing to change.
-use mathlib.Core.Path.{◌≡◌, sym, ap, ◌∙◌, subst}
-use Prim.Native.Nat.{ℕ, ◌+◌, ◌≤◌, ◌<◌}
-use native.Mathlib.Omega.{arith}
-use lib.ListN.{length}
+use Rattle.std.proofs.Common.{◌≡◌, sym, ap, ◌∙◌, subst, ℕ, ◌+◌, ◌≤◌, ◌<◌, arith, length, Result}
 use Rattle.storage.specs.Lists.Map.{keys}
 use Rattle.storage.specs.Rows.Ident.{id_of}
 use Rattle.storage.specs.Rows.Sorted.{Here, FoundIs}
-use Rattle.std.specs.Prelude.{Result}
 use Rattle.time_cache.specs.Tables.{Lies, row_at, refs_at}
 use Rattle.time_cache.specs.Steps.{ref_at}
 use Rattle.time_cache.specs.declared.cache.TimeBoundCache.{TimeBoundCache}

@@ -1,9 +1,5 @@
 -- `cached::shift_rows` meets its contract: the rows are lent, and come back with other starts.
-use mathlib.Core.Path.{◌≡◌, sym, ◌∙◌, subst}
-use Prim.Native.Nat.{ℕ, ◌+◌, ◌-◌, ◌*◌, ◌≤◌}
-use native.Mathlib.Omega.{arith}
-use lib.ListN.{length, take, drop, length-drop}
-use lib.Seq.{length-take-le}
+use Rattle.std.proofs.Common.{◌≡◌, sym, ◌∙◌, subst, ℕ, ◌+◌, ◌-◌, ◌*◌, ◌≤◌, arith, length, take, drop, length-drop, length-take-le}
 use Rattle.block.specs.Layout.{place}
 use Rattle.block.specs.View.{limits_of}
 use Rattle.steps.specs.Contents.Starts.{Above}

@@ -1,9 +1,5 @@
 -- `cached::shift_starts` meets its contract: the first i rows are done, the others are as they were.
-use mathlib.Core.Path.{◌≡◌, refl, sym, ap, ◌∙◌}
-use mathlib.Core.List.{List, [], ◌∷◌}
-use Prim.Native.Nat.{ℕ, ◌+◌, ◌-◌, ◌<◌}
-use native.Mathlib.Omega.{arith}
-use lib.ListN.{length}
+use Rattle.std.proofs.Common.{◌≡◌, refl, sym, ap, ◌∙◌, List, [], ◌∷◌, ℕ, ◌+◌, ◌-◌, ◌<◌, arith, length}
 use Rattle.storage.specs.Rows.Part.{put}
 use Rattle.storage.proofs.RefsLaws.Shifts.{done, done-start, done-read, done_more, done_all}
 use Rattle.time_cache.specs.Tables.{ExpiryRow, expiry_rows, row_at, no_row}

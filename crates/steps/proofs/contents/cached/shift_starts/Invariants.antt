@@ -1,6 +1,5 @@
 -- `cached::shift_starts` meets its contract: the first i rows are done, the others are as they were.
-use mathlib.Core.Path.{◌≡◌}
-use lib.ListN.{length}
+use Rattle.std.proofs.Common.{◌≡◌, length}
 use Rattle.storage.proofs.RefsLaws.Shifts.{done}
 use Rattle.time_cache.specs.Tables.{expiry_rows, no_row}
 use Rattle.steps.specs.Contents.Starts.{shifted_row}

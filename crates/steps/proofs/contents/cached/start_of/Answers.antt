@@ -1,5 +1,5 @@
 -- `cached::start_of` meets its contract: the start is read from the row.
-use native.Mathlib.Omega.{arith}
+use Rattle.std.proofs.Common.{arith}
 use Rattle.steps.proofs.ContentsLaws.Shifts.{first_read, first_past}
 use Rattle.steps.proofs.contents.cached.start_of.Goals as goal
 

@@ -1,5 +1,5 @@
 -- `taking::take_in` meets its contract: the message is marked received, and then cached.
-use native.Mathlib.Omega.{arith}
+use Rattle.std.proofs.Common.{arith}
 use Rattle.storage.specs.Rows.Ident.{id_of}
 use Rattle.steps.specs.Contents.Taking.{forgotten_at, uncached_at}
 use Rattle.steps.proofs.ContentsLaws.Takings.{times-fit, order-then, most-then, bytes-then, taken-goes}

@@ -1,6 +1,5 @@
 -- `note::enter_graft` meets its contract: the two tables are left to `insert`, and the zeros are an entry with no grafts.
-use mathlib.Core.Path.{◌≡◌, refl, sym, ap, ◌∙◌, subst}
-use Prim.Native.Nat.{ℕ, ◌+◌, ◌*◌}
+use Rattle.std.proofs.Common.{◌≡◌, refl, sym, ap, ◌∙◌, subst, ℕ, ◌+◌, ◌*◌, arith}
 use Rattle.storage.specs.Rows.Ident.{id_of}
 use Rattle.storage.specs.Rows.Part.{put}
 use Rattle.storage.specs.Rows.Digits.{le_bytes}
@@ -13,7 +12,6 @@ use Rattle.block.specs.TimeCaches.{grafted_cache}
 use Rattle.block.proofs.CachesLaws.GraftedLaws.{grafted-room, grafted-sound}
 use Rattle.steps.specs.Grafts.NoteSteps.{Enters}
 use Rattle.steps.proofs.GraftsLaws.EntryLaws.{entered}
-use native.Mathlib.Omega.{arith}
 use Rattle.steps.proofs.grafts.note.enter_graft.Goals as goal
 use Rattle.steps.proofs.grafts.note.enter_graft.Goals.{After-insert-inserted}
 

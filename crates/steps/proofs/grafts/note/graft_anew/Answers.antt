@@ -1,8 +1,5 @@
 -- `note::graft_anew` meets its contract: a new entry, and its first peer.
-use mathlib.Core.Path.{sym, ap, ◌∙◌, subst}
-use mathlib.Core.List.{[], ◌∷◌}
-use Prim.Native.Nat.{ℕ, ◌+◌, ◌*◌}
-use lib.ListN.{get_or}
+use Rattle.std.proofs.Common.{sym, ap, ◌∙◌, subst, [], ◌∷◌, ℕ, ◌+◌, ◌*◌, get_or, arith}
 use Rattle.storage.specs.Lists.Map.{entry}
 use Rattle.storage.specs.Rows.Ident.{id_of}
 use Rattle.storage.specs.Rows.Part.{part, put}
@@ -13,7 +10,6 @@ use Rattle.block.specs.HopSteps.{pushed_hop}
 use Rattle.block.specs.LinkSteps.{peer_at}
 use Rattle.steps.specs.Grafts.NoteSteps.{no_grafts}
 use Rattle.steps.proofs.GraftsLaws.EntryLaws.{none_yet, anew-goes}
-use native.Mathlib.Omega.{arith}
 use Rattle.steps.proofs.grafts.note.graft_anew.Goals as goal
 
 pub push_hop-requires : goal.push_hop-requires

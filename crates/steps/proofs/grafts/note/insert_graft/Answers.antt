@@ -1,7 +1,6 @@
 -- `note::insert_graft` meets its contract: a peer more, at its place.
-use mathlib.Core.Path.{sym, ap, ◌∙◌, subst}
-use Prim.Native.Nat.{ℕ, ◌+◌, ◌*◌}
-use lib.ListN.{get_or, length-map}
+use Rattle.std.proofs.Common.{sym, ap, ◌∙◌, subst, ℕ, ◌+◌, ◌*◌, get_or, arith}
+use lib.ListN.{length-map}
 use Rattle.storage.specs.Lists.Map.{Entry}
 use Rattle.storage.specs.Rows.Part.{part, put}
 use Rattle.block.specs.View.{state_of}
@@ -12,7 +11,6 @@ use Rattle.block.proofs.CachesLaws.GraftLaws.{graft-many}
 use Rattle.steps.specs.Grafts.NoteSteps.{inserted_hop, peers_to, peers_with}
 use Rattle.steps.proofs.GraftsLaws.PeerLaws.{peers-few}
 use Rattle.steps.proofs.GraftsLaws.NoteLaws.{insert-goes}
-use native.Mathlib.Omega.{arith}
 use Rattle.steps.proofs.grafts.note.insert_graft.Goals as goal
 
 pub insert_hop-requires : goal.insert_hop-requires

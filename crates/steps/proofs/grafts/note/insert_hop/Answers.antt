@@ -1,6 +1,6 @@
 -- `note::insert_hop` meets its contract: the moves and the stores are one put of the list with a number more.
 use Rattle.steps.proofs.GraftsLaws.ListWrites.{write-insert}
-use native.Mathlib.Omega.{arith}
+use Rattle.std.proofs.Common.{arith}
 use Rattle.steps.proofs.grafts.note.insert_hop.Goals as goal
 
 pub returns : goal.returns

@@ -1,7 +1,6 @@
 -- `note::lower_graft` meets its contract: the known round stays where it is no higher, and a lower one is stored.
-use mathlib.Core.Path.{sym, ap, ◌∙◌, subst}
-use Prim.Native.Nat.{ℕ, ◌+◌, ◌*◌, ◌<◌}
-use lib.ListN.{length, length-map}
+use Rattle.std.proofs.Common.{sym, ap, ◌∙◌, subst, ℕ, ◌+◌, ◌*◌, ◌<◌, length, arith}
+use lib.ListN.{length-map}
 use Rattle.storage.specs.Lists.Map.{Entry}
 use Rattle.storage.specs.Rows.Part.{put}
 use Rattle.storage.specs.Rows.Digits.{le_bytes}
@@ -12,7 +11,6 @@ use Rattle.block.specs.Caches.GraftSteps.{grafts_at}
 use Rattle.block.proofs.CachesLaws.GraftLaws.{graft-many, graft-few}
 use Rattle.steps.specs.Grafts.NoteSteps.{peers_to, peers_with}
 use Rattle.steps.proofs.GraftsLaws.NoteLaws.{lower-goes, same-goes}
-use native.Mathlib.Omega.{arith}
 use Rattle.steps.proofs.grafts.note.lower_graft.Goals as goal
 use Rattle.steps.proofs.grafts.note.lower_graft.Goals.{Start}
 

@@ -1,19 +1,15 @@
 -- `note::note_graft` meets its contract: by what the search found.
-use mathlib.Core.Path.{◌∙◌, subst}
-use mathlib.Core.List.{List}
-use Prim.Native.Nat.{ℕ}
+use Rattle.std.proofs.Common.{◌∙◌, subst, List, ℕ, Result, arith}
 use lib.ListN.{length-map}
 use Rattle.storage.specs.Lists.Map.{Entry, keys}
 use Rattle.storage.specs.Rows.Ident.{id_of}
 use Rattle.storage.specs.Rows.Sorted.{Here, FoundIs}
-use Rattle.std.specs.Prelude.{Result}
 use Rattle.time_cache.specs.TimeCache.{Timed}
 use Rattle.time_cache.proofs.Orders.{up_of}
 use Rattle.protocol.specs.State.{State, Grafts}
 use Rattle.block.specs.View.{state_of}
 use Rattle.block.proofs.CachesLaws.GraftedLaws.{count-grafted}
 use Rattle.steps.proofs.GraftsLaws.NoteLaws.{noted_here, noted-new, new-most}
-use native.Mathlib.Omega.{arith}
 use Rattle.steps.proofs.grafts.note.note_graft.Goals as goal
 use Rattle.steps.proofs.grafts.note.note_graft.Goals.{In-Ok, Start}
 

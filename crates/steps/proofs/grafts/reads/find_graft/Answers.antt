@@ -1,7 +1,6 @@
 -- `reads::find_graft` meets its contract: the peers before j are below the peer of the link, since links ascend by their peers.
-use mathlib.Core.Path.{◌≡◌, sym, ap, ◌∙◌}
-use Prim.Native.Nat.{ℕ, ◌<◌}
-use lib.ListN.{length, get_or, length-map}
+use Rattle.std.proofs.Common.{◌≡◌, sym, ap, ◌∙◌, ℕ, ◌<◌, length, get_or, arith}
+use lib.ListN.{length-map}
 use Rattle.storage.specs.Lists.Map.{Map, Entry, keys}
 use Rattle.time_cache.proofs.Orders.{up_of}
 use Rattle.protocol.specs.State.{State}
@@ -11,7 +10,6 @@ use Rattle.block.proofs.LinkLaws.{count-peers}
 use Rattle.block.proofs.Scans.{scan-more, scan-above, scan-end}
 use Rattle.block.specs.Caches.GraftSteps.{grafts_at}
 use Rattle.steps.proofs.GraftsLaws.PeerLaws.{peers-up, key-at}
-use native.Mathlib.Omega.{arith}
 use Rattle.steps.proofs.grafts.reads.find_graft.Goals as goal
 use Rattle.steps.proofs.grafts.reads.find_graft.Goals.{After-graft_at-graft, Start}
 

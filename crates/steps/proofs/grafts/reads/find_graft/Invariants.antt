@@ -1,6 +1,5 @@
 -- `reads::find_graft` meets its contract: the peers before j are below the peer of the link, since links ascend by their peers.
-use Prim.Native.Nat.{ℕ, ◌<◌}
-use lib.ListN.{get_or}
+use Rattle.std.proofs.Common.{ℕ, ◌<◌, get_or}
 use Rattle.storage.specs.Lists.Map.{keys}
 use Rattle.block.specs.View.{state_of}
 use Rattle.block.specs.LinkSteps.{peer_at}

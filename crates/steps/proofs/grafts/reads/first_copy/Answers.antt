@@ -1,8 +1,5 @@
 -- `reads::first_copy` meets its contract: flag, sender and round read are the `first` of the view.
-use Rattle.std.specs.Prelude.{Some}
-use mathlib.Core.Path.{sym, ap, ◌∙◌}
-use Prim.Native.Nat.{ℕ, ◌+◌, ◌*◌}
-use lib.ListN.{get_or}
+use Rattle.std.proofs.Common.{Some, sym, ap, ◌∙◌, ℕ, ◌+◌, ◌*◌, get_or}
 use Rattle.storage.specs.Rows.Part.{part}
 use Rattle.storage.specs.Rows.Digits.{le_nat}
 use Rattle.block.specs.MissingSteps.{hop}

@@ -1,17 +1,11 @@
 -- `reads::grafted_within` meets its contract: no peer passed is grafted over so few hops.
-use mathlib.Core.Path.{◌≡◌, refl, sym, ap, ◌∙◌}
-use mathlib.Core.Bool.{Bool}
-use Prim.Native.Nat.{ℕ, ◌<◌}
-use borrow.Author.Tests.{le-leb, lt-leb}
-use lib.Dec.{leb}
-use lib.ListN.{length, take, get_or}
-use lib.Seq.{take_all}
+use Rattle.std.proofs.Common.{◌≡◌, refl, sym, ap, ◌∙◌, Bool, ℕ, ◌<◌, le-leb, leb, length, take, get_or, take_all, arith}
+use borrow.Author.Tests.{lt-leb}
 use Rattle.storage.specs.Lists.Base.{any}
 use Rattle.storage.specs.Lists.Map.{Map, Entry, entry}
 use Rattle.block.specs.View.{state_of}
 use Rattle.block.proofs.Scans.{any_found, any-drop}
 use Rattle.block.specs.Caches.GraftSteps.{grafts_at}
-use native.Mathlib.Omega.{arith}
 use Rattle.steps.proofs.grafts.reads.grafted_within.Goals as goal
 use Rattle.steps.proofs.grafts.reads.grafted_within.Goals.{After-graft_at, Start}
 

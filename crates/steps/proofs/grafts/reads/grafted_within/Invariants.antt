@@ -1,8 +1,5 @@
 -- `reads::grafted_within` meets its contract: no peer passed is grafted over so few hops.
-use mathlib.Core.Path.{◌≡◌}
-use mathlib.Core.Bool.{false}
-use lib.Dec.{leb}
-use lib.ListN.{take}
+use Rattle.std.proofs.Common.{◌≡◌, false, leb, take}
 use Rattle.storage.specs.Lists.Base.{any}
 use Rattle.block.specs.View.{state_of}
 use Rattle.block.specs.Caches.GraftSteps.{grafts_at}

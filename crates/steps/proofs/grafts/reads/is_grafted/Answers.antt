@@ -1,5 +1,5 @@
 -- `reads::is_grafted` meets its contract: by what the search found.
-use mathlib.Core.Path.{◌∙◌}
+use Rattle.std.proofs.Common.{◌∙◌}
 use Rattle.block.specs.View.{state_of}
 use Rattle.block.specs.LinkSteps.{peer_at}
 use Rattle.block.specs.Caches.GraftSteps.{grafts_at}

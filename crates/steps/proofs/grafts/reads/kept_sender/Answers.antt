@@ -1,8 +1,5 @@
 -- `reads::kept_sender` meets its contract: flag and peer read are the `kept` of the view.
-use Rattle.std.specs.Prelude.{Some}
-use mathlib.Core.Path.{sym, ap, ◌∙◌}
-use Prim.Native.Nat.{ℕ, ◌+◌, ◌*◌}
-use lib.ListN.{get_or}
+use Rattle.std.proofs.Common.{Some, sym, ap, ◌∙◌, ℕ, ◌+◌, ◌*◌, get_or}
 use Rattle.storage.specs.Rows.Part.{part}
 use Rattle.storage.specs.Rows.Digits.{le_nat}
 use Rattle.steps.proofs.GraftsLaws.ReadLaws.{read_kept, flag-none, flag-some}

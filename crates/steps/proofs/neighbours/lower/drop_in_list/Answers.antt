@@ -1,13 +1,8 @@
 -- `lower::drop_in_list`: the numbers and rounds after the count, then the count.
-use mathlib.Core.Path.{◌≡◌, sym, ap, ◌∙◌, subst}
-use mathlib.Core.List.{List, ◌++◌}
-use Prim.Native.Nat.{ℕ, ◌-◌}
-use lib.ListN.{length, take, drop, set, length-drop}
-use lib.Seq.{take_all}
+use Rattle.std.proofs.Common.{◌≡◌, sym, ap, ◌∙◌, subst, List, ◌++◌, ℕ, ◌-◌, length, take, drop, set, length-drop, take_all, arith}
 use Rattle.steps.specs.Neighbours.Lowered.{listed_of, lower_listed}
 use Rattle.storage.specs.Refs.Numbers.{lower_all, entries}
 use Rattle.steps.proofs.NeighboursLaws.LoweredRows.{list-after, list-lowered}
-use native.Mathlib.Omega.{arith}
 use Rattle.steps.proofs.neighbours.lower.drop_in_list.Goals as goal
 
 pub returns : goal.returns

@@ -1,15 +1,11 @@
 -- `lower::drop_in_rows`: the lists of the first k rows are lowered, the other rows are as they were.
-use mathlib.Core.Path.{◌≡◌, refl, ap, ◌∙◌}
-use mathlib.Core.List.{List, ◌++◌}
-use Prim.Native.Nat.{ℕ, ◌+◌, ◌-◌, ◌*◌, ◌≤◌}
-use lib.ListN.{length, get_or, take, drop}
+use Rattle.std.proofs.Common.{◌≡◌, refl, ap, ◌∙◌, List, ◌++◌, ℕ, ◌+◌, ◌-◌, ◌*◌, ◌≤◌, length, get_or, take, drop, arith}
 use Rattle.storage.specs.Rows.Part.{part, put}
 use Rattle.storage.proofs.RowsLaws.Parts.{length_part, length-put, part-between, loan-put, get_d_part}
 use Rattle.storage.proofs.RowsLaws.Rows.{row-end}
 use Rattle.storage.proofs.RefsLaws.Shifts.{done, done-start, done_all}
 use Rattle.steps.specs.Neighbours.Lowered.{listed_of, listed, lower_listed}
 use Rattle.steps.proofs.NeighboursLaws.LoweredRows.{no_listed, count-was, rows_more, length-listed}
-use native.Mathlib.Omega.{arith}
 use Rattle.steps.proofs.neighbours.lower.drop_in_rows.Goals as goal
 use Rattle.steps.proofs.neighbours.lower.drop_in_rows.Goals.{In-loop-k, Start}
 

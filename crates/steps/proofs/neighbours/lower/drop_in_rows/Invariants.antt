@@ -1,6 +1,5 @@
 -- `lower::drop_in_rows`: the lists of the first k rows are lowered, the other rows are as they were.
-use mathlib.Core.Path.{◌≡◌}
-use lib.ListN.{length}
+use Rattle.std.proofs.Common.{◌≡◌, length}
 use Rattle.storage.proofs.RefsLaws.Shifts.{done}
 use Rattle.steps.specs.Neighbours.Lowered.{listed, lower_listed}
 use Rattle.steps.proofs.NeighboursLaws.LoweredRows.{no_listed}

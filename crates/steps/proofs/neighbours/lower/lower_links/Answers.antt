@@ -1,8 +1,5 @@
 -- `lower::lower_links`: the four changes one after the other.
-use mathlib.Core.Path.{◌≡◌}
-use mathlib.Core.List.{List, map}
-use Prim.Native.Nat.{ℕ, ◌+◌, ◌-◌, ◌*◌, ◌≤◌}
-use lib.ListN.{length}
+use Rattle.std.proofs.Common.{◌≡◌, List, map, ℕ, ◌+◌, ◌-◌, ◌*◌, ◌≤◌, length, arith}
 use Rattle.storage.specs.Lists.Base.{filter}
 use Rattle.storage.specs.Rows.Part.{part}
 use Rattle.storage.specs.Refs.Numbers.{lower_all, entries}
@@ -13,7 +10,6 @@ use Rattle.block.specs.declared.head.Head.{Head}
 use Rattle.steps.specs.Neighbours.Lowered.{listed, lower_listed, announced, AllFew, NotesIn, LoweredIn, LoweredLinks}
 use Rattle.steps.proofs.NeighboursLaws.Lent.{lent, notes-in, lowered-in, missed-in}
 use Rattle.steps.proofs.NeighboursLaws.LowerSteps.{long2, third-asks, long3, fourth-asks, left_head, all-steps}
-use native.Mathlib.Omega.{arith}
 use Rattle.steps.proofs.neighbours.lower.lower_links.Goals as goal
 use Rattle.steps.proofs.neighbours.lower.lower_links.Goals.{After-timers_at-timers, Start}
 

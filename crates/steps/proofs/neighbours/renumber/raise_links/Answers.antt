@@ -1,8 +1,5 @@
 -- `renumber::raise_links`: the four changes one after the other.
-use mathlib.Core.Path.{◌≡◌}
-use mathlib.Core.List.{List, map}
-use Prim.Native.Nat.{ℕ, ◌+◌, ◌-◌, ◌*◌, ◌≤◌}
-use lib.ListN.{length}
+use Rattle.std.proofs.Common.{◌≡◌, List, map, ℕ, ◌+◌, ◌-◌, ◌*◌, ◌≤◌, length, arith}
 use Rattle.storage.specs.Rows.Part.{part}
 use Rattle.storage.specs.Refs.Refs.{Below}
 use Rattle.block.specs.Layout.{place}
@@ -15,7 +12,6 @@ use Rattle.storage.specs.Rows.Rows.{rows}
 use Rattle.storage.proofs.RowsLaws.Parts.{length_part}
 use Rattle.steps.proofs.NeighboursLaws.Lent.{lent, raised-in}
 use Rattle.steps.proofs.NeighboursLaws.RaiseSteps.{first-asks, long1, second-asks, long2, third-asks, long3, fourth-asks, all-steps}
-use native.Mathlib.Omega.{arith}
 use Rattle.steps.proofs.neighbours.renumber.raise_links.Goals as goal
 use Rattle.steps.proofs.neighbours.renumber.raise_links.Goals.{After-timers_at-timers, Start}
 

@@ -1,8 +1,5 @@
 -- `renumber::raise_rows`: the numbers of the first k rows are raised, the other rows are as they were.
-use mathlib.Core.Path.{◌≡◌, refl, sym, ap, ◌∙◌, subst}
-use mathlib.Core.List.{List, []}
-use Prim.Native.Nat.{ℕ, ◌+◌, ◌*◌, ◌≤◌}
-use lib.ListN.{length, get_or}
+use Rattle.std.proofs.Common.{◌≡◌, refl, sym, ap, ◌∙◌, subst, List, [], ℕ, ◌+◌, ◌*◌, ◌≤◌, length, get_or, arith}
 use Rattle.storage.specs.Rows.Part.{part}
 use Rattle.storage.specs.Rows.Rows.{rows}
 use Rattle.storage.proofs.RowsLaws.Rows.{length-rows, row-end}
@@ -11,7 +8,6 @@ use Rattle.storage.proofs.RefsLaws.Shifts.{done, done-start, done_all}
 use Rattle.block.specs.View.{byte_at}
 use Rattle.steps.specs.Neighbours.Raised.{raised_row}
 use Rattle.steps.proofs.NeighboursLaws.RaisedRows.{few-in, below_in, count-was, numbers-were, rows_more}
-use native.Mathlib.Omega.{arith}
 use Rattle.steps.proofs.neighbours.renumber.raise_rows.Goals as goal
 use Rattle.steps.proofs.neighbours.renumber.raise_rows.Goals.{In-loop-k, Start}
 

@@ -1,7 +1,5 @@
 -- `renumber::raise_rows`: the numbers of the first k rows are raised, the other rows are as they were.
-use mathlib.Core.Path.{◌≡◌}
-use mathlib.Core.List.{[]}
-use lib.ListN.{length}
+use Rattle.std.proofs.Common.{◌≡◌, [], length}
 use Rattle.storage.specs.Rows.Rows.{rows}
 use Rattle.storage.proofs.RefsLaws.Shifts.{done}
 use Rattle.steps.specs.Neighbours.Raised.{raised_row}

@@ -1,6 +1,5 @@
 -- `Panel::first_event` meets its contract: where the flag stands nothing is left to do, and else eviction and the flag are.
-use Rattle.std.proofs.Common.{true, refl, ap, sym, ◌∙◌, ◌≡◌}
-use mathlib.Core.Path.{subst}
+use Rattle.std.proofs.Common.{true, refl, ap, sym, ◌∙◌, ◌≡◌, subst}
 use Rattle.protocol.specs.State.{with_init}
 use Rattle.decide.specs.StateAfter.{first_state}
 use Rattle.steps.specs.Panels.{state, AtRest}

@@ -1,5 +1,4 @@
-use Rattle.std.proofs.Common.{arith, ap, sym, ◌∙◌, ◌≡◌, length, ◌∷◌, []}
-use lib.ListN.{length-append}
+use Rattle.std.proofs.Common.{arith, ap, sym, ◌∙◌, ◌≡◌, length, ◌∷◌, [], length-append}
 use Rattle.storage.specs.Rows.Ident.{id_of}
 use Rattle.protocol.specs.State.{State}
 use Rattle.block.specs.LinkSteps.{peer_at}

@@ -1,6 +1,5 @@
 -- The entry that is found, if there is one.
-use Rattle.std.specs.Prelude.{None}
-use Rattle.std.proofs.Common.{◌≡◌, ◌∙◌, refl, arith}
+use Rattle.std.proofs.Common.{None, ◌≡◌, ◌∙◌, refl, arith}
 use Rattle.std.proofs.Math.Path.{subst}
 use Rattle.storage.specs.Rows.Ident.{id_of}
 use Rattle.time_cache.specs.TimeCache.{get}

@@ -1,5 +1,4 @@
-use mathlib.Core.Path.{sym, subst}
-use Rattle.std.specs.Prelude.{ℕ, Option}
+use Rattle.std.proofs.Common.{sym, subst, ℕ, Option}
 use Rattle.storage.specs.Rows.Ident.{id_of}
 use Rattle.steps.specs.Views.{shown}
 use Rattle.steps.specs.Found.{MissingOf}

@@ -1,5 +1,4 @@
-use Rattle.std.proofs.Common.{arith, not, sym, ap, ◌∙◌}
-use borrow.Author.Tests.{ltb-true, ltb-false}
+use Rattle.std.proofs.Common.{arith, not, sym, ap, ◌∙◌, ltb-true, ltb-false}
 use Rattle.storage.specs.Rows.Ident.{id_of}
 use Rattle.block.specs.LinkSteps.{peer_at}
 use Rattle.block.proofs.NoteLaws.{count-dropped}

@@ -1,9 +1,6 @@
 -- `has`: the second test tells.
-use mathlib.Core.Path.{◌≡◌, sym, ◌∙◌}
-use mathlib.Core.Bool.{Bool, true, false}
-use Prim.Native.Nat.{ℕ}
-use lib.Dec.{eqb}
-use borrow.Author.Tests.{eqb-true, eqb-false}
+use Rattle.std.proofs.Common.{◌≡◌, sym, ◌∙◌, Bool, true, false, ℕ, eqb, eqb-true}
+use borrow.Author.Tests.{eqb-false}
 use Rattle.storage.specs.Rows.Ident.{id_of}
 use Rattle.storage.specs.Buckets.{id_at, TellsBoth}
 use Rattle.storage.proofs.notes.Columns.has.Goals as goal

@@ -1,13 +1,9 @@
 -- `once`: the first i notes stand once, and are chained by buckets.
-use mathlib.Core.Path.{◌≡◌, refl, sym, ap, ◌∙◌, subst}
-use mathlib.Core.Bool.{Bool}
-use Prim.Native.Nat.{ℕ, ◌<◌}
-use lib.ListN.{get_or, length-set}
+use Rattle.std.proofs.Common.{◌≡◌, refl, sym, ap, ◌∙◌, subst, Bool, ℕ, ◌<◌, get_or, length-set, arith}
 use Rattle.storage.specs.Rows.Ident.{id_of}
 use Rattle.storage.specs.Buckets.{id_at, bucket_of, bucket, TellsNew}
 use Rattle.storage.proofs.NotesLaws.Walks.{in-range, heads-start, heads-more, chained-start, chained_more, once-start, once_more, once-not}
 use Rattle.std.proofs.lemmas.List.{length-replicate}
-use native.Mathlib.Omega.{arith}
 use Rattle.storage.proofs.notes.Columns.once.Goals as goal
 
 pub loop-i-init : goal.loop-i-init

@@ -1,6 +1,5 @@
 -- `once`: the first i notes stand once, and are chained by buckets.
-use mathlib.Core.Path.{◌≡◌}
-use lib.ListN.{length}
+use Rattle.std.proofs.Common.{◌≡◌, length}
 use Rattle.storage.specs.Buckets.{Chained, Once}
 use Rattle.storage.proofs.NotesLaws.Walks.{Heads}
 use Rattle.storage.proofs.notes.Columns.once.Given as goal

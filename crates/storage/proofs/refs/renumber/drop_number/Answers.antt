@@ -1,14 +1,10 @@
 -- `renumber::drop_number`: of the first j entries, those that are left stand first (`Going`).
-use mathlib.Core.Path.{refl, sym, ◌∙◌, subst}
-use mathlib.Core.List.{List, []}
-use Prim.Native.Nat.{ℕ, ◌+◌, ◌*◌, ◌≤◌}
-use lib.ListN.{set, length-set}
+use Rattle.std.proofs.Common.{refl, sym, ◌∙◌, subst, List, [], ℕ, ◌+◌, ◌*◌, ◌≤◌, set, length-set, arith}
 use Rattle.storage.proofs.RowsLaws.Rows.{mul-up, row-end}
 use Rattle.storage.specs.Refs.Refs.{ref}
 use Rattle.storage.proofs.RowsLaws.Kept.{Going, going_start, going_done}
 use Rattle.storage.specs.Refs.Numbers.{stays, lower, lower_all, entries}
 use Rattle.storage.proofs.RefsLaws.Entries.{entries-long, entries-first, turn-drop, turn-keep}
-use native.Mathlib.Omega.{arith}
 use Rattle.storage.proofs.refs.renumber.drop_number.Goals as goal
 use Rattle.storage.proofs.refs.renumber.drop_number.Goals.{In-loop-j}
 

@@ -1,7 +1,5 @@
 -- `renumber::drop_number`: of the first j entries, those that are left stand first (`Going`).
-use mathlib.Core.Path.{◌≡◌}
-use mathlib.Core.List.{[]}
-use lib.ListN.{length}
+use Rattle.std.proofs.Common.{◌≡◌, [], length}
 use Rattle.storage.specs.Refs.Refs.{ref}
 use Rattle.storage.proofs.RowsLaws.Kept.{Going}
 use Rattle.storage.specs.Refs.Numbers.{stays, lower, entries}

@@ -1,7 +1,6 @@
 -- `renumber::lower_one`: by cases, as `lowered` is.
-use mathlib.Core.Path.{sym}
+use Rattle.std.proofs.Common.{sym, arith}
 use Rattle.storage.proofs.RefsLaws.Lowered.{lowered-low, lowered-high}
-use native.Mathlib.Omega.{arith}
 use Rattle.storage.proofs.refs.renumber.lower_one.Goals as goal
 
 pub returns-then-number-i : goal.returns-then-number-i

@@ -1,7 +1,6 @@
 -- `renumber::raise`: by cases, as `shifted` is.
-use mathlib.Core.Path.{sym}
+use Rattle.std.proofs.Common.{sym, arith}
 use Rattle.storage.proofs.RefsLaws.Shifts.{shifted-low, shifted-high}
-use native.Mathlib.Omega.{arith}
 use Rattle.storage.proofs.refs.renumber.raise.Goals as goal
 
 pub returns-then-number-i : goal.returns-then-number-i

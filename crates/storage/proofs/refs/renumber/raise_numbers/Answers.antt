@@ -1,12 +1,8 @@
 -- `renumber::raise_numbers`: the first j numbers are raised, the rest is as it was.
-use mathlib.Core.Path.{◌≡◌, refl, ap, ◌∙◌}
-use mathlib.Core.List.{List}
-use Prim.Native.Nat.{ℕ, ◌+◌, ◌<◌}
-use lib.ListN.{get_or, set, length-set}
+use Rattle.std.proofs.Common.{◌≡◌, refl, ap, ◌∙◌, List, ℕ, ◌+◌, ◌<◌, get_or, set, length-set, arith}
 use Rattle.storage.specs.Refs.Refs.{shifted}
 use Rattle.storage.proofs.RowsLaws.Parts.{get_d_part, length_part}
 use Rattle.storage.proofs.RefsLaws.Raised.{raised-start, raised-read, raised-more}
-use native.Mathlib.Omega.{arith}
 use Rattle.storage.proofs.refs.renumber.raise_numbers.Goals as goal
 use Rattle.storage.proofs.refs.renumber.raise_numbers.Goals.{After-slice_known-in-loop-j-1}
 

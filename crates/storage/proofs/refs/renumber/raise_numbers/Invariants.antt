@@ -1,6 +1,5 @@
 -- `renumber::raise_numbers`: the first j numbers are raised, the rest is as it was.
-use mathlib.Core.Path.{◌≡◌}
-use lib.ListN.{length}
+use Rattle.std.proofs.Common.{◌≡◌, length}
 use Rattle.storage.specs.Refs.Numbers.{raised}
 use Rattle.storage.proofs.refs.renumber.raise_numbers.Given as goal
 

@@ -1,8 +1,5 @@
 -- `copy_bytes`: the part that is lent is the bytes.
-use mathlib.Core.Path.{ap, ◌∙◌}
-use mathlib.Core.List.{List}
-use Prim.Native.Nat.{ℕ}
-use lib.ListN.{length}
+use Rattle.std.proofs.Common.{ap, ◌∙◌, List, ℕ, length}
 use Rattle.storage.specs.Rows.Part.{put}
 use Rattle.storage.proofs.RowsLaws.Moves.{lent-put}
 use Rattle.storage.proofs.rows.bytes.copy_bytes.Goals as goal

@@ -1,6 +1,6 @@
 -- `load_id`: four words, one after the other, are the number of the 32 bytes (`read-id`).
 use Rattle.storage.proofs.RowsLaws.Ids.{read-id}
-use native.Mathlib.Omega.{arith}
+use Rattle.std.proofs.Common.{arith}
 use Rattle.storage.proofs.rows.id.load_id.Goals as goal
 
 pub returns : goal.returns

@@ -1,10 +1,8 @@
 -- `store_id`: four puts, each where the one before it ends, are one put of the 32 bytes (`write-id`).
-use mathlib.Core.Path.{ap, ◌∙◌}
-use Prim.Native.Nat.{◌+◌}
+use Rattle.std.proofs.Common.{ap, ◌∙◌, ◌+◌, arith}
 use Rattle.storage.specs.Rows.Part.{put}
 use Rattle.storage.specs.Rows.Digits.{be_bytes}
 use Rattle.storage.proofs.RowsLaws.Ids.{write-id}
-use native.Mathlib.Omega.{arith}
 use Rattle.storage.proofs.rows.id.store_id.Goals as goal
 use Rattle.storage.proofs.rows.id.store_id.Goals.{Start}
 

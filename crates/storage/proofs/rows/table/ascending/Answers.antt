@@ -1,15 +1,11 @@
 -- `ascending`: the first i keys ascend; a turn compares neighbours.
-use mathlib.Core.Path.{◌≡◌, sym, ◌∙◌}
-use mathlib.Core.List.{List}
-use Prim.Native.Nat.{ℕ, ◌+◌, ◌-◌, ◌*◌, ◌≤◌}
-use lib.ListN.{length, get_or}
+use Rattle.std.proofs.Common.{◌≡◌, sym, ◌∙◌, List, ℕ, ◌+◌, ◌-◌, ◌*◌, ◌≤◌, length, get_or, arith}
 use Rattle.storage.specs.Rows.Ident.{id_of}
 use Rattle.storage.specs.Rows.Sorted.{keys}
 use Rattle.storage.proofs.RowsLaws.Sorted.{length-keys, key-at, ascend-more, ascend-done, ascend-not, lt_of, not-lt-of}
 use Rattle.storage.proofs.RowsLaws.Ids.{le_false}
 use Rattle.std.proofs.lemmas.Map.Keys.{le_from_is_le}
 use Rattle.storage.proofs.RowsLaws.Rows.{mul-up, mul-more}
-use native.Mathlib.Omega.{arith}
 use Rattle.storage.proofs.rows.table.ascending.Goals as goal
 use Rattle.storage.proofs.rows.table.ascending.Goals.{After-load_id-key, In-loop-i, Start}
 

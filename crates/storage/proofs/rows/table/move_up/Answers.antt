@@ -1,8 +1,6 @@
 -- `move_up`: the loop counts down; the slice is what it was with the bytes from `from + i` put at `to + i`. The byte that a turn reads lies before that put.
-use mathlib.Core.Path.{refl}
-use lib.ListN.{length-set}
+use Rattle.std.proofs.Common.{refl, length-set, arith}
 use Rattle.storage.proofs.RowsLaws.Parts.{move-up-step, move_start}
-use native.Mathlib.Omega.{arith}
 use Rattle.storage.proofs.rows.table.move_up.Goals as goal
 
 pub loop-i-init : goal.loop-i-init

@@ -1,7 +1,5 @@
 -- `move_up`: the loop counts down; the slice is what it was with the bytes from `from + i` put at `to + i`. The byte that a turn reads lies before that put.
-use mathlib.Core.Path.{◌≡◌}
-use Prim.Native.Nat.{◌+◌, ◌-◌}
-use lib.ListN.{length}
+use Rattle.std.proofs.Common.{◌≡◌, ◌+◌, ◌-◌, length}
 use Rattle.storage.specs.Rows.Part.{part, put}
 use Rattle.storage.proofs.rows.table.move_up.Given as goal
 

@@ -1,12 +1,8 @@
 -- `table::retain`: of the first i rows, those that are kept stand first (`Going`).
-use mathlib.Core.Path.{refl, sym, ◌∙◌, subst}
-use mathlib.Core.List.{List, []}
-use Prim.Native.Nat.{ℕ, ◌+◌, ◌*◌, ◌≤◌}
-use lib.ListN.{length}
+use Rattle.std.proofs.Common.{refl, sym, ◌∙◌, subst, List, [], ℕ, ◌+◌, ◌*◌, ◌≤◌, length, arith}
 use Rattle.storage.specs.Rows.Rows.{rows, differs}
 use Rattle.storage.proofs.RowsLaws.Rows.{length-rows, mul-up, row-end}
 use Rattle.storage.proofs.RowsLaws.Kept.{Going, going_start, turn-gone, turn-stays, retained}
-use native.Mathlib.Omega.{arith}
 use Rattle.storage.proofs.rows.table.retain.Goals as goal
 use Rattle.storage.proofs.rows.table.retain.Goals.{In-loop-i}
 

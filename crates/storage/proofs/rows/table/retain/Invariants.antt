@@ -1,8 +1,5 @@
 -- `table::retain`: of the first i rows, those that are kept stand first (`Going`).
-use mathlib.Core.Path.{◌≡◌}
-use mathlib.Core.List.{List, []}
-use Prim.Native.Nat.{ℕ}
-use lib.ListN.{length}
+use Rattle.std.proofs.Common.{◌≡◌, List, [], ℕ, length}
 use Rattle.storage.specs.Rows.Rows.{rows, differs}
 use Rattle.storage.proofs.RowsLaws.Kept.{Going}
 use Rattle.storage.proofs.rows.table.retain.Given as goal

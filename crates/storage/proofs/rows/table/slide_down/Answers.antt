@@ -1,9 +1,7 @@
 -- `slide_down`: the slice is what it was with the first i bytes from `from` put at `to`. The byte that a turn reads lies after that put.
-use mathlib.Core.Path.{refl, sym}
-use lib.ListN.{length-set}
+use Rattle.std.proofs.Common.{refl, sym, length-set, arith}
 use Rattle.storage.specs.Rows.Part.{part}
 use Rattle.storage.proofs.RowsLaws.Parts.{move-down-step, put-nil}
-use native.Mathlib.Omega.{arith}
 use Rattle.storage.proofs.rows.table.slide_down.Goals as goal
 
 pub loop-i-init : goal.loop-i-init

@@ -1,6 +1,5 @@
 -- `slide_down`: the slice is what it was with the first i bytes from `from` put at `to`. The byte that a turn reads lies after that put.
-use mathlib.Core.Path.{◌≡◌}
-use lib.ListN.{length}
+use Rattle.std.proofs.Common.{◌≡◌, length}
 use Rattle.storage.specs.Rows.Part.{part, put}
 use Rattle.storage.proofs.rows.table.slide_down.Given as goal
 

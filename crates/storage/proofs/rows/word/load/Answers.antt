@@ -1,8 +1,9 @@
--- `load`: the two halves, by `le_nat-part`.
-use Rattle.storage.proofs.RowsLaws.Turns.{le_nat-part}
-use native.Mathlib.Omega.{arith}
+use Rattle.std.proofs.Common.{◌≡◌, ◌∙◌}
+use Rattle.byteorder.specs.Endian.{little_number}
+use Rattle.storage.proofs.RowsLaws.Turns.{from, little-at}
 use Rattle.storage.proofs.rows.word.load.Goals as goal
 
 pub returns : goal.returns
 returns c =
-    omega (arith, le_nat-part c.args.at 4 4 c.args.bytes.now (omega arith), c.load4.ensures, c.load4-2.ensures)
+    let e : c.read_u64.result ≡ little_number 8 (from c.args.at c.args.bytes.now) = c.read_u64.ensures in
+    e ∙ little-at c.args.at 8 c.args.bytes.now c.requires

@@ -1,11 +1,9 @@
--- `load2`: two digits, by `two`.
-use Rattle.storage.proofs.RowsLaws.Turns.{two}
-use Prim.Native.Nat.{◌+◌, ◌<◌}
-use native.Mathlib.Omega.{arith}
+use Rattle.std.proofs.Common.{◌≡◌, ◌∙◌, arith}
+use Rattle.byteorder.specs.Endian.{little_number}
+use Rattle.storage.proofs.RowsLaws.Turns.{from, little-at}
 use Rattle.storage.proofs.rows.word.load2.Goals as goal
 
 pub returns : goal.returns
 returns c =
-    let x : c.wide.result < 256 = omega (arith, c.wide.ensures, c.shared_slice_known-2-1.given c.args.at) in
-    let y : c.wide-2.result < 256 = omega (arith, c.wide-2.ensures, c.shared_slice_known-3-1.given (c.args.at + 1)) in
-    (two c.args.bytes.now c.args.at c.wide.result c.wide-2.result c.requires c.wide.ensures c.wide-2.ensures, omega arith)
+    let e : c.read_u16.result ≡ little_number 2 (from c.args.at c.args.bytes.now) = c.read_u16.ensures in
+    (e ∙ little-at c.args.at 2 c.args.bytes.now c.requires, omega (arith, c.read_u16.type_inv))

@@ -1,8 +1,9 @@
--- `load4`: the two halves, by `le_nat-part`.
-use Rattle.storage.proofs.RowsLaws.Turns.{le_nat-part}
-use native.Mathlib.Omega.{arith}
+use Rattle.std.proofs.Common.{◌≡◌, ◌∙◌, arith}
+use Rattle.byteorder.specs.Endian.{little_number}
+use Rattle.storage.proofs.RowsLaws.Turns.{from, little-at}
 use Rattle.storage.proofs.rows.word.load4.Goals as goal
 
 pub returns : goal.returns
 returns c =
-    (omega (arith, le_nat-part c.args.at 2 2 c.args.bytes.now (omega arith), c.load2.ensures, c.load2-2.ensures), omega (arith, c.load2.ensures, c.load2-2.ensures))
+    let e : c.read_u32.result ≡ little_number 4 (from c.args.at c.args.bytes.now) = c.read_u32.ensures in
+    (e ∙ little-at c.args.at 4 c.args.bytes.now c.requires, omega (arith, c.read_u32.type_inv))

@@ -1,15 +1,11 @@
--- `store_high`: the word, turned round, is stored low byte first (`turned-written`).
-use mathlib.Core.Path.{ap, ◌∙◌}
-use mathlib.Core.List.{List}
-use Prim.Native.Nat.{ℕ}
-use Rattle.storage.specs.Rows.Part.{put}
-use Rattle.storage.specs.Rows.Digits.{le_bytes}
-use Rattle.storage.proofs.RowsLaws.Turns.{turned-written}
-use native.Mathlib.Omega.{arith}
+use Rattle.std.proofs.Common.{◌≡◌, ℕ, ◌-◌, List, ◌++◌, drop, length, ap, ◌∙◌, arith}
+use borrow.Rule.Slice.PartMut.{put_mid}
+use Rattle.byteorder.specs.Endian.{big_bytes}
+use Rattle.storage.proofs.RowsLaws.Turns.{from, put-high}
 use Rattle.storage.proofs.rows.word.store_high.Goals as goal
 
 pub returns : goal.returns
 returns c =
-    c.store.ensures
-    ∙ ap (λ (w : ℕ). put c.args.at (le_bytes 8 w) c.args.bytes.now) c.turn8.ensures
-    ∙ ap (λ (l : List ℕ). put c.args.at l c.args.bytes.now) (turned-written 8 c.args.value (omega (arith, c.well_formed)))
+    let xs = c.args.bytes.now in
+    let e : c.write_u64.new.buf ≡ big_bytes 8 c.args.value ++ drop 8 (from c.args.at xs) = c.write_u64.ensures in
+    ap (λ (ys : List ℕ). put_mid c.args.at (length xs - c.args.at) xs ys) e ∙ put-high c.args.at 8 c.args.value xs (omega (arith, c.requires))

@@ -1,12 +1,8 @@
 -- `store_le`: the slice is what it was with the first i bytes of the value put at `at`, and `rest` is the value without them.
-use mathlib.Core.Path.{refl, sym}
-use Prim.Native.Nat.{◌+◌}
-use lib.ListN.{length-set}
+use Rattle.std.proofs.Common.{refl, sym, ◌+◌, length-set, div-one, arith}
 use Rattle.storage.specs.Rows.Digits.{le_bytes}
 use Rattle.storage.proofs.RowsLaws.Words.{le_write, div-next}
-use native.Mathlib.Nat.{div-one}
 use Rattle.storage.proofs.RowsLaws.Parts.{put-nil}
-use native.Mathlib.Omega.{arith}
 use Rattle.storage.proofs.rows.word.store_le.Goals as goal
 
 pub loop-i-init : goal.loop-i-init

@@ -1,7 +1,5 @@
 -- `store_le`: the slice is what it was with the first i bytes of the value put at `at`, and `rest` is the value without them.
-use mathlib.Core.Path.{◌≡◌}
-use Prim.Native.Nat.{◌/◌, ◌^◌}
-use lib.ListN.{length}
+use Rattle.std.proofs.Common.{◌≡◌, ◌/◌, ◌^◌, length}
 use Rattle.storage.specs.Rows.Part.{put}
 use Rattle.storage.specs.Rows.Digits.{le_bytes}
 use Rattle.storage.proofs.rows.word.store_le.Given as goal

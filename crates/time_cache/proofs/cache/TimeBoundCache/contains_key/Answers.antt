@@ -1,7 +1,5 @@
 -- `contains_key`: what the search found.
-use mathlib.Core.Path.{◌≡◌, sym, ap, ◌∙◌}
-use Prim.Native.Nat.{ℕ}
-use Rattle.std.specs.Prelude.{Result, Ok, Err, is_ok, is_some}
+use Rattle.std.proofs.Common.{◌≡◌, sym, ap, ◌∙◌, ℕ, Result, Ok, Err, is_ok, is_some}
 use Rattle.storage.specs.Rows.Ident.{id_of}
 use Rattle.storage.specs.Rows.Sorted.{FoundIs}
 use Rattle.time_cache.specs.Tables.{cache_at, named, refs_at, rows_at}

@@ -1,7 +1,5 @@
 -- `contains_later`: what `get` found, and the time of the row.
-use mathlib.Core.Path.{sym, ap, subst, ◌∙◌}
-use Rattle.std.specs.Prelude.{Option}
-use lib.Dec.{ltb}
+use Rattle.std.proofs.Common.{sym, ap, subst, ◌∙◌, Option, ltb}
 use Rattle.storage.specs.Rows.Ident.{id_of}
 use Rattle.time_cache.specs.Steps.{GotIs}
 use Rattle.time_cache.specs.declared.cache.Found.{Found}

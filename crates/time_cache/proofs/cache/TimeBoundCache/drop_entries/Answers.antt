@@ -1,13 +1,10 @@
 -- `drop_entries`: `drop_places` in the entries, lent.
-use mathlib.Core.Path.{◌≡◌, ap, ◌∙◌}
-use Prim.Native.Nat.{ℕ, ◌+◌, ◌-◌, ◌*◌, ◌≤◌}
-use lib.ListN.{length}
+use Rattle.std.proofs.Common.{◌≡◌, ap, ◌∙◌, ℕ, ◌+◌, ◌-◌, ◌*◌, ◌≤◌, length, arith}
 use Rattle.storage.specs.Rows.Part.{part}
 use Rattle.storage.proofs.RowsLaws.Parts.{length_part}
 use Rattle.storage.proofs.RowsLaws.Rows.{mul-up}
 use Rattle.storage.specs.Refs.Refs.{left}
 use Rattle.time_cache.proofs.LoanLaws.{refs-lent, refs-back, size_of, only-back}
-use native.Mathlib.Omega.{arith}
 use Rattle.time_cache.proofs.cache.TimeBoundCache.drop_entries.Goals as goal
 use Rattle.time_cache.proofs.cache.TimeBoundCache.drop_entries.Goals.{Start}
 

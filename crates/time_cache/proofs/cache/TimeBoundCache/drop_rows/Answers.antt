@@ -1,12 +1,9 @@
 -- `drop_rows`: `drop_expiry` in the expiry rows, lent.
-use mathlib.Core.Path.{◌≡◌, ap, ◌∙◌}
-use Prim.Native.Nat.{ℕ, ◌+◌, ◌-◌, ◌*◌, ◌≤◌}
-use lib.ListN.{length, drop}
+use Rattle.std.proofs.Common.{◌≡◌, ap, ◌∙◌, ℕ, ◌+◌, ◌-◌, ◌*◌, ◌≤◌, length, drop, arith}
 use Rattle.storage.specs.Rows.Part.{part}
 use Rattle.storage.proofs.RowsLaws.Parts.{length_part}
 use Rattle.storage.proofs.RowsLaws.Rows.{mul-up}
 use Rattle.time_cache.proofs.LoanLaws.{expiry-lent, expiry-back, size_of, only-back}
-use native.Mathlib.Omega.{arith}
 use Rattle.time_cache.proofs.cache.TimeBoundCache.drop_rows.Goals as goal
 use Rattle.time_cache.proofs.cache.TimeBoundCache.drop_rows.Goals.{Start}
 

@@ -1,6 +1,5 @@
 -- `due`: the search by time, in the expiry rows lent to the block's end.
-use mathlib.Core.Path.{ap, ◌∙◌, subst}
-use mathlib.Core.List.{List, map}
+use Rattle.std.proofs.Common.{ap, ◌∙◌, subst, List, map}
 use Rattle.time_cache.specs.TimeCache.{in_pop_order}
 use Rattle.time_cache.specs.Tables.{ExpiryRow, expiry_of, Cut, cache_of}
 use Rattle.time_cache.proofs.BlockLaws.{rows-open, expiry-long, sound-order}

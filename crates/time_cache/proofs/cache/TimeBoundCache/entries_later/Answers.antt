@@ -1,5 +1,5 @@
 -- `entries_later`: the entries that name no row that is due.
-use mathlib.Core.Path.{sym, ap, ◌∙◌}
+use Rattle.std.proofs.Common.{sym, ap, ◌∙◌}
 use Rattle.storage.specs.Lists.Base.{count}
 use Rattle.storage.specs.Refs.Refs.{names}
 use Rattle.time_cache.proofs.BlockLaws.{refs-open}

@@ -1,6 +1,5 @@
 -- `expire_until`: the rows that are due go, and the entries that name them. `ExpireLaws` puts the steps together.
-use mathlib.Core.Path.{sym, subst}
-use Prim.Native.Nat.{ℕ, ◌-◌, ◌≤◌}
+use Rattle.std.proofs.Common.{sym, subst, ℕ, ◌-◌, ◌≤◌, arith, eqb-true}
 use lib.ListN.{length-map}
 use Rattle.time_cache.specs.Tables.{expiry_of, Cut, cache_of, cache_at, rows_at, resized}
 use Rattle.time_cache.specs.Steps.{Expires}
@@ -8,8 +7,6 @@ use Rattle.time_cache.specs.declared.cache.TimeBoundCache.{TimeBoundCache}
 use Rattle.time_cache.proofs.ReadLaws.{length-rs}
 use Rattle.time_cache.proofs.ExpireLaws.{expires, expires-none}
 use Rattle.time_cache.proofs.ToldLaws.{told-nothing, told-no-room}
-use native.Mathlib.Omega.{arith}
-use borrow.Author.Tests.{eqb-true}
 use Rattle.time_cache.proofs.cache.TimeBoundCache.expire_until.Goals as goal
 use Rattle.time_cache.proofs.cache.TimeBoundCache.expire_until.Goals.{After-due-due, Then-due-eq0, then-not-is_empty, else-not-is_empty}
 

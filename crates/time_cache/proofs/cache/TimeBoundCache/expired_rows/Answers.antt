@@ -1,9 +1,7 @@
 -- `expired_rows`: the rows that are due have passed, one after the other.
-use Rattle.std.proofs.Common.{◌≡◌, ◌+◌, ◌<◌, ℕ, Bool, true, false, [], ◌∷◌, ◌++◌, refl, arith}
-use mathlib.Core.Path.{subst}
+use Rattle.std.proofs.Common.{◌≡◌, ◌+◌, ◌<◌, ℕ, Bool, true, false, [], ◌∷◌, ◌++◌, refl, arith, subst, length-append}
 use Rattle.time_cache.specs.Tables.{cache_at, Cut}
 use Rattle.time_cache.proofs.ReadLaws.{count-times}
-use lib.ListN.{length-append}
 use Rattle.time_cache.specs.Gone.{Passed, told_with}
 use Rattle.time_cache.proofs.PassedLaws.{passed-few, passed-start, passed-done}
 use Rattle.time_cache.proofs.cache.TimeBoundCache.expired_rows.Given.{Over}

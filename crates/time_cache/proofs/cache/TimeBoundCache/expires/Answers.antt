@@ -1,6 +1,5 @@
 -- `expires`: the time at the start of an expiry row.
-use mathlib.Core.Path.{sym, ◌∙◌}
-use Prim.Native.Nat.{◌+◌, ◌*◌, ◌≤◌}
+use Rattle.std.proofs.Common.{sym, ◌∙◌, ◌+◌, ◌*◌, ◌≤◌}
 use Rattle.storage.proofs.RowsLaws.Rows.{row-end}
 use Rattle.time_cache.proofs.ReadLaws.{time-of}
 use Rattle.time_cache.proofs.cache.TimeBoundCache.expires.Goals as goal

@@ -1,8 +1,7 @@
 -- `get`: what the search found, and the place that stands there.
-use mathlib.Core.Path.{subst}
+use Rattle.std.proofs.Common.{subst, ℕ, Result}
 use Rattle.storage.specs.Rows.Ident.{id_of}
 use Rattle.storage.specs.Rows.Sorted.{FoundIs}
-use Rattle.std.specs.Prelude.{ℕ, Result}
 use Rattle.time_cache.specs.Tables.{named, refs_at, rows_at}
 use Rattle.time_cache.proofs.ReadLaws.{found_within, found_none, got-at}
 use Rattle.time_cache.proofs.cache.TimeBoundCache.get.Goals as goal

@@ -1,12 +1,9 @@
 -- `insert`: the search, the new row, the places, and the key's entry. What was found says which way; `InsertLaws` puts the steps together.
-use mathlib.Core.Path.{◌≡◌, sym, ◌∙◌, subst}
-use mathlib.Core.List.{List, [], ◌∷◌}
-use Prim.Native.Nat.{ℕ, ◌+◌, ◌*◌, ◌≤◌, ◌<◌}
-use lib.ListN.{length, length-map}
+use Rattle.std.proofs.Common.{◌≡◌, sym, ◌∙◌, subst, List, [], ◌∷◌, ℕ, ◌+◌, ◌*◌, ◌≤◌, ◌<◌, length, Result, arith}
+use lib.ListN.{length-map}
 use Rattle.storage.specs.Rows.Ident.{id_of}
 use Rattle.storage.specs.Rows.Part.{put}
 use Rattle.storage.specs.Rows.Sorted.{FoundIs, Between}
-use Rattle.std.specs.Prelude.{Result}
 use Rattle.storage.specs.Refs.Refs.{Ref, ref, places, Below}
 use Rattle.time_cache.specs.Tables.{expiry_of, named, cache_of, refs_at, rows_at, row_at, resized, Lies}
 use Rattle.time_cache.specs.Steps.{ref_at, Inserts, Places}
@@ -14,7 +11,6 @@ use Rattle.time_cache.specs.declared.cache.TimeBoundCache.{TimeBoundCache}
 use Rattle.time_cache.proofs.ReadLaws.{length-es, length-rs, found_within}
 use Rattle.time_cache.proofs.LoanLaws.{refs-before}
 use Rattle.time_cache.proofs.InsertLaws.{lies-kept, room-lies, inserts-over, inserts-between}
-use native.Mathlib.Omega.{arith}
 use Rattle.time_cache.proofs.cache.TimeBoundCache.insert.Goals as goal
 use Rattle.time_cache.proofs.cache.TimeBoundCache.insert.Goals.{After-due-row, After-move_places}
 

@@ -1,4 +1,4 @@
-use mathlib.Core.Path.{sym}
+use Rattle.std.proofs.Common.{sym}
 use Rattle.time_cache.specs.Tables.{cache_at}
 use Rattle.time_cache.proofs.PassedLaws.{is-due}
 use Rattle.time_cache.proofs.cache.TimeBoundCache.is_due.Goals as goal

@@ -1,5 +1,5 @@
 -- `is_sound`: the two passes, as the definition joins them.
-use mathlib.Core.Path.{◌≡◌, sym, ◌∙◌}
+use Rattle.std.proofs.Common.{◌≡◌, sym, ◌∙◌}
 use Rattle.storage.specs.Refs.Refs.{refs}
 use Rattle.time_cache.specs.Tables.{expiry_rows, names_ascend, refs_at, rows_at}
 use Rattle.time_cache.proofs.BlockLaws.{sound-low, sound-all}

@@ -1,6 +1,5 @@
 -- `key_at`: the identifier behind the time of an expiry row.
-use mathlib.Core.Path.{sym, ◌∙◌}
-use Prim.Native.Nat.{◌+◌, ◌*◌, ◌≤◌}
+use Rattle.std.proofs.Common.{sym, ◌∙◌, ◌+◌, ◌*◌, ◌≤◌}
 use Rattle.storage.proofs.RowsLaws.Rows.{row-end}
 use Rattle.time_cache.proofs.ReadLaws.{key-of}
 use Rattle.time_cache.proofs.cache.TimeBoundCache.key_at.Goals as goal

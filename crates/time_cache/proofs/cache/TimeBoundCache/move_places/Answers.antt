@@ -1,8 +1,5 @@
 -- `move_places`: `make_room` in the entries, lent; or nothing, where no place is that high.
-use mathlib.Core.Path.{◌≡◌, sym, ap, ◌∙◌, subst}
-use mathlib.Core.List.{List, map}
-use Prim.Native.Nat.{ℕ, ◌+◌, ◌-◌, ◌*◌, ◌≤◌}
-use lib.ListN.{length}
+use Rattle.std.proofs.Common.{◌≡◌, sym, ap, ◌∙◌, subst, List, map, ℕ, ◌+◌, ◌-◌, ◌*◌, ◌≤◌, length, arith}
 use Rattle.storage.specs.Rows.Part.{part}
 use Rattle.storage.proofs.RowsLaws.Parts.{length_part}
 use Rattle.storage.specs.Refs.Refs.{Ref, refs, places, Below, moved}
@@ -10,7 +7,6 @@ use Rattle.time_cache.specs.Tables.{refs_at}
 use Rattle.time_cache.proofs.Orders.{of-below}
 use Rattle.time_cache.proofs.TableLaws.{moved_none}
 use Rattle.time_cache.proofs.LoanLaws.{refs-lent, refs-back, size_of, only-back, only_same}
-use native.Mathlib.Omega.{arith}
 use Rattle.time_cache.proofs.cache.TimeBoundCache.move_places.Goals as goal
 use Rattle.time_cache.proofs.cache.TimeBoundCache.move_places.Goals.{Start}
 

@@ -1,15 +1,11 @@
 -- `open_entry`: `insert_row` in the entries, lent with room for one more.
-use mathlib.Core.Path.{◌≡◌, ap, ◌∙◌}
-use mathlib.Core.List.{List, ◌∷◌, ◌++◌}
-use Prim.Native.Nat.{ℕ, ◌+◌, ◌-◌, ◌*◌, ◌≤◌}
-use lib.ListN.{length, take, drop}
+use Rattle.std.proofs.Common.{◌≡◌, ap, ◌∙◌, List, ◌∷◌, ◌++◌, ℕ, ◌+◌, ◌-◌, ◌*◌, ◌≤◌, length, take, drop, arith}
 use Rattle.storage.specs.Rows.Part.{part}
 use Rattle.storage.proofs.RowsLaws.Parts.{length_part}
 use Rattle.storage.proofs.RowsLaws.Rows.{mul-more}
 use Rattle.storage.specs.Refs.Refs.{Ref, ref_of, refs}
 use Rattle.storage.proofs.RefsLaws.Places.{refs-opened}
 use Rattle.time_cache.proofs.LoanLaws.{refs-lent, refs-back, size_of, only-back}
-use native.Mathlib.Omega.{arith}
 use Rattle.time_cache.proofs.cache.TimeBoundCache.open_entry.Goals as goal
 use Rattle.time_cache.proofs.cache.TimeBoundCache.open_entry.Goals.{Start}
 

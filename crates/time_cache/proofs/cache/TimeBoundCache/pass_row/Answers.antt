@@ -1,7 +1,5 @@
 -- `pass_row`: nothing leaves with the row, or its entry left before, or it leaves now and is told.
-use Rattle.std.proofs.Common.{ℕ, arith}
-use mathlib.Core.Path.{subst}
-use Rattle.std.specs.Prelude.{Option}
+use Rattle.std.proofs.Common.{ℕ, arith, subst, Option}
 use Rattle.time_cache.specs.Gone.{TakesIs, TakesAt}
 use Rattle.time_cache.proofs.PassedLaws.{passed-none, passed-gone, passed-yes}
 use Rattle.time_cache.proofs.cache.TimeBoundCache.pass_row.Goals as goal

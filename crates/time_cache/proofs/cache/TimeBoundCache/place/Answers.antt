@@ -1,6 +1,5 @@
 -- `place`: the place at the start of an entry's row.
-use mathlib.Core.Path.{sym, ◌∙◌}
-use Prim.Native.Nat.{◌+◌, ◌*◌, ◌≤◌}
+use Rattle.std.proofs.Common.{sym, ◌∙◌, ◌+◌, ◌*◌, ◌≤◌}
 use Rattle.storage.proofs.RowsLaws.Rows.{row-end}
 use Rattle.time_cache.proofs.ReadLaws.{place_of}
 use Rattle.time_cache.proofs.cache.TimeBoundCache.place.Goals as goal

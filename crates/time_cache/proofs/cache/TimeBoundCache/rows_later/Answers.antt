@@ -1,10 +1,8 @@
 -- `rows_later`: all rows but those that are due.
-use mathlib.Core.Path.{sym}
-use Prim.Native.Nat.{◌≤◌}
+use Rattle.std.proofs.Common.{sym, ◌≤◌, arith}
 use lib.ListN.{length-map}
 use Rattle.time_cache.specs.Tables.{expiry_of, cache_of, rows_at}
 use Rattle.time_cache.proofs.ReadLaws.{length-rs, count-rows}
-use native.Mathlib.Omega.{arith}
 use Rattle.time_cache.proofs.cache.TimeBoundCache.rows_later.Goals as goal
 use Rattle.time_cache.proofs.cache.TimeBoundCache.rows_later.Goals.{After-due}
 

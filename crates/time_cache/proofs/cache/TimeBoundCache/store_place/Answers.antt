@@ -1,9 +1,6 @@
 -- `store_place`: the two bytes at the start of the entry's row.
-use mathlib.Core.Path.{sym, ap, ◌∙◌, subst}
+use Rattle.std.proofs.Common.{sym, ap, ◌∙◌, subst, List, [], ℕ, ◌+◌, ◌*◌, ◌≤◌, drop, length-drop, arith}
 use Rattle.storage.specs.Rows.Part.{Only}
-use mathlib.Core.List.{List, []}
-use Prim.Native.Nat.{ℕ, ◌+◌, ◌*◌, ◌≤◌}
-use lib.ListN.{drop, length-drop}
 use Rattle.storage.specs.Rows.Digits.{le_bytes}
 use Rattle.storage.proofs.RowsLaws.Parts.{put-drop}
 use Rattle.storage.proofs.RowsLaws.Digits.{length-le_bytes}
@@ -11,7 +8,6 @@ use Rattle.storage.specs.Refs.Refs.{ref, refs}
 use Rattle.storage.proofs.RefsLaws.Places.{store-place}
 use Rattle.storage.proofs.RowsLaws.Rows.{row-end}
 use Rattle.time_cache.proofs.LoanLaws.{only-put}
-use native.Mathlib.Omega.{arith}
 use Rattle.time_cache.proofs.cache.TimeBoundCache.store_place.Goals as goal
 use Rattle.time_cache.proofs.cache.TimeBoundCache.store_place.Goals.{Start}
 

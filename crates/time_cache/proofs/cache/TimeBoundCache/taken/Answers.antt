@@ -1,7 +1,5 @@
 -- `taken`: the entry of the row's key, where its present time is the row's.
-use Rattle.std.proofs.Common.{sym, ◌∙◌, arith}
-use mathlib.Core.Path.{subst}
-use Rattle.std.specs.Prelude.{Option}
+use Rattle.std.proofs.Common.{sym, ◌∙◌, arith, subst, Option}
 use Rattle.storage.specs.Rows.Ident.{id_of}
 use Rattle.time_cache.specs.Steps.{GotIs}
 use Rattle.time_cache.specs.declared.cache.Found.{Found}

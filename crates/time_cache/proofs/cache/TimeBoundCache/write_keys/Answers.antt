@@ -1,8 +1,5 @@
 -- `write_keys`: the keys of the rows that `expired_rows` tells, one after the other.
-use Rattle.std.proofs.Common.{◌≡◌, ◌<◌, ℕ, arith, length, List, ap, ◌∙◌}
-use mathlib.Core.Path.{subst}
-use Prim.Native.Nat.{min}
-use lib.ListN.{take, length-take}
+use Rattle.std.proofs.Common.{◌≡◌, ◌<◌, ℕ, arith, length, List, ap, ◌∙◌, subst, min, take, length-take}
 use Rattle.time_cache.specs.Gone.{key_of_row}
 use Rattle.time_cache.proofs.ToldLaws.{Written, written-none, written-more, written-done}
 use Rattle.time_cache.proofs.cache.TimeBoundCache.write_keys.Goals as goal

@@ -1,5 +1,8 @@
-use Rattle.wire.proofs.EncodeLaws.IntakeLaws.{set_after, room_place}
+use Rattle.wire.proofs.EncodeLaws.IntakeLaws.{set_after, full_after}
 use Rattle.wire.proofs.encode.sink.WriterSink.byte.Goals as goal
 
-pub returns : goal.returns
-returns c = set_after c.args.self.now.at c.args.b c.args.self.now.out.now c.args.self.now.out.ghost_name (room_place _ c.args.b _ _ c.args.self.now.out.ghost_name c.requires)
+pub returns-then-self : goal.returns-then-self
+returns-then-self c = let w = c.args.self.now in set_after w.at c.args.b w.out.now w.out.ghost_name c.if-self.true
+
+pub returns-else-self : goal.returns-else-self
+returns-else-self c = let w = c.args.self.now in full_after w.at c.args.b w.out.now w.out.ghost_name c.if-self.false

@@ -25,12 +25,11 @@ use Rattle.decide.specs.ActionsAfter.{dispatch_action, announce_actions}
 use Rattle.decide.specs.RecordGrowth.{announce_action}
 use Rattle.decide.proofs.AnnounceDropped.{announce-sizes, moved_all}
 use Rattle.decide.proofs.StateAfterLaws.{announce-state}
-use Rattle.block.specs.NoteSteps.{note, note_for, queue_also, drop_instead}
+use Rattle.block.specs.NoteSteps.{note, note_for, queue_also, drop_instead, NoteOf, record_cut, standing as flagged}
 use Rattle.block.specs.declared.note.Note.{Note as LinkNote}
 use Rattle.wire.specs.Encode.Intake.{Intake, after}
 use Rattle.wire.proofs.EncodeLaws.IntakeLaws.{after_nil}
-use Rattle.steps.specs.Dropped.{NoteOf, record_cut}
-use Rattle.steps.specs.Panels.{AtRest, Allowed, standing as flagged}
+use Rattle.block.specs.Panels.{AtRest, Allowed}
 use Rattle.steps.specs.Shared.{sizes_value}
 use Rattle.steps.specs.declared.Sizes.{Sizes as CodeSizes}
 use Rattle.steps.proofs.AtRestLaws.{settled-as}

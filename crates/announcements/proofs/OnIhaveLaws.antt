@@ -21,11 +21,11 @@ use Rattle.decide.specs.ActionsAfter.{ihave_actions}
 use Rattle.decide.proofs.IHave.{ihave-sizes}
 use Rattle.decide.proofs.StateAfterLaws.{ihave-state}
 use Rattle.block.specs.LinkSteps.{peer_at}
-use Rattle.block.specs.MissingSteps.{hop, announced_by}
+use Rattle.block.specs.MissingSteps.{hop, announced_by, Announcing}
 use Rattle.wire.specs.Encode.Intake.{Intake, after, space_of}
 use Rattle.wire.proofs.EncodeLaws.IntakeLaws.{after_append, after_nil, room_after}
-use Rattle.steps.specs.Asked.{timer_marked, Announcing}
-use Rattle.steps.specs.Panels.{AtRest, Allowed}
+use Rattle.block.specs.TimerSteps.{timer_marked}
+use Rattle.block.specs.Panels.{AtRest, Allowed}
 use Rattle.steps.specs.Shared.{sizes_value}
 use Rattle.steps.specs.declared.Sizes.{Sizes as CodeSizes}
 use Rattle.block.specs.View.{state_of}

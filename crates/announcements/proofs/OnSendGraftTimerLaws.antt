@@ -11,8 +11,7 @@ use Rattle.storage.specs.Rows.Ident.{id_of}
 use Rattle.storage.specs.declared.rows.id.Id.{Id}
 use Rattle.storage.proofs.ListsLaws.MapLaws.{true≢, and_left, and_right}
 use Rattle.storage.proofs.ListsLaws.Places.{all-at}
-use Rattle.storage.proofs.ListsLaws.ListLaws.{length-filter, count-length}
-use Rattle.storage.proofs.ListsLaws.ListLaws.{concat-append, concat-one}
+use Rattle.storage.proofs.ListsLaws.ListLaws.{length-filter, count-length, concat-append, concat-one}
 use Rattle.time_cache.specs.TimeCache.{Timed, Expiry, Cache, value_of, get, holds, later_cache}
 use Rattle.postcard.specs.Number.{number_bytes}
 use Rattle.postcard.specs.Message.{Action, Sent, Scheduled, Graft, SendGraft, action_bytes, message_bytes, taken_byte}
@@ -44,14 +43,14 @@ use Rattle.block.specs.declared.hops.Hop.{Hop as LinkHop}
 use Rattle.block.specs.Caches.InBlock.{AtMost}
 use Rattle.steps.specs.Asked.{grafted_until, Graftable}
 use Rattle.steps.specs.Calls.{rooms_of}
-use Rattle.steps.specs.Found.{MissingAt, HopOf}
-use Rattle.steps.specs.Panels.{AtRest}
+use Rattle.block.specs.Found.{MissingAt, HopOf}
+use Rattle.block.specs.Panels.{AtRest}
 use Rattle.steps.specs.Shared.{EntryIs, sizes_value}
 use Rattle.steps.specs.declared.call.Call.{Call}
 use Rattle.steps.specs.declared.Sizes.{Sizes as CodeSizes}
 use Rattle.steps.proofs.AtRestLaws.{settled-as, settled-up, settled-low}
 use Rattle.steps.proofs.EvictStepLaws.{rest-settled}
-use Rattle.steps.proofs.PanelLaws.{same_keys, link-key}
+use Rattle.block.proofs.PanelLaws.{same_keys, link-key}
 use Rattle.steps.proofs.RoomsLaws.{kth-link}
 use Rattle.steps.proofs.StandsLaws.{in_order}
 use Rattle.steps.proofs.TakeInLaws.{byte-small}

@@ -2,7 +2,7 @@
 -- Assumes nothing.
 use Rattle.std.specs.Prelude.{ℕ, ◌+◌, ◌%◌, ◌<◌, ◌≡◌, Bool, true, List, length, get_or}
 use Rattle.protocol.specs.State.{State}
-use Rattle.steps.specs.Queue.{note_at}
+use Rattle.block.specs.NoteSteps.{note_at}
 use Rattle.announcements.specs.QueuedRows.{held_then}
 
 -- the low twelve bits of an identifier: where its mark stands, and by which a row that has it is found

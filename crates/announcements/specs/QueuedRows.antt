@@ -13,7 +13,7 @@ use Rattle.decide.specs.StateAfter.{recorded_state}
 use Rattle.decide.specs.Pieces.{Piece, piece_taken, dispatch_batches}
 use Rattle.block.specs.LinkSteps.{peer_at}
 use Rattle.steps.specs.Calls.{rooms_of}
-use Rattle.steps.specs.Queue.{note_at}
+use Rattle.block.specs.NoteSteps.{note_at}
 use Rattle.steps.specs.declared.call.Call.{Call}
 
 -- which identifiers are cached once a first event has evicted

@@ -6,9 +6,9 @@ ghost use Rattle.decide.specs.Sizes.{sizes_of};
 ghost use Rattle.decide.specs.Settled.{settled};
 ghost use Rattle.wire.specs.Encode.Intake.{after};
 ghost use Rattle.steps.specs.Shared.{sizes_value};
-ghost use Rattle.steps.specs.Views.{shown};
-ghost use Rattle.steps.specs.Panels.{state, Goes, AtRest, Allowed};
-ghost use Rattle.steps.specs.Found.{MissingAt};
+ghost use Rattle.block.specs.Views.{shown};
+ghost use Rattle.block.specs.Panels.{state, Goes, AtRest, Allowed};
+ghost use Rattle.block.specs.Found.{MissingAt};
 ghost use Rattle.announcements.specs.SendGraft.Asks.{asked_first};
 ghost use Rattle.announcements.specs.OnSendGraftTimer.{after_send_graft, send_graft_bytes};
 

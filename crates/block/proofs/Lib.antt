@@ -1,15 +1,23 @@
--- Laws on plain values. Cut, Tables: pieces of a list, and the frame of a put in one table. HeaderLaws: the header. Scans, LinkLaws: the links.
--- NoteLaws: queue and record. RowLaws, KeyPlaces, Each: a row more or less in a table.
--- TimerLaws: graft timers. HopLaws, MissingLaws, AnnounceLaws, Few: missing messages and their announcers. GoesLaws: steps one after the other.
+-- Laws on plain values. Cut, Tables: pieces of a list, and the frame of a put in one table. HeaderLaws: the header.
+-- Scans, LinkLaws, ViewLaws, PanelLaws, FoundLaws: the links, and what is found in tables. NoteLaws, NoteRowLaws, CutLaws: queue and record. RowLaws, KeyPlaces, KeyMembers, Each: a row more or less in a table.
+-- TimerLaws, MarkLaws: graft timers. HopLaws, MissingLaws, AnnounceLaws, Few: missing messages and their announcers. GoesLaws: steps one after the other.
+-- CachesLaws, LookupLaws: the time caches. GraftsLaws: grafts. ContentsLaws: the contents of cached messages. NeighboursLaws: a link more or less, and the link numbers of all tables.
 pub mod Cut
 pub mod Tables
 pub mod HeaderLaws
 pub mod Scans
 pub mod LinkLaws
+pub mod ViewLaws
+pub mod PanelLaws
+pub mod FoundLaws
 pub mod NoteLaws
+pub mod NoteRowLaws
+pub mod CutLaws
 pub mod RowLaws
 pub mod KeyPlaces
+pub mod KeyMembers
 pub mod TimerLaws
+pub mod MarkLaws
 pub mod Each
 pub mod HopLaws
 pub mod MissingLaws
@@ -17,4 +25,8 @@ pub mod AnnounceLaws
 pub mod GoesLaws
 pub mod Few
 pub mod CachesLaws
+pub mod LookupLaws
+pub mod GraftsLaws
+pub mod ContentsLaws
+pub mod NeighboursLaws
 pub mod Lent

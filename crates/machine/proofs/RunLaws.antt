@@ -29,11 +29,11 @@ use Rattle.decide.specs.ActionsAfter.{actions_after}
 use Rattle.decide.specs.StateAfter.{state_after}
 use Rattle.decide.proofs.TableSizes.{fits-sizes}
 use Rattle.decide.proofs.UpDownEvict.{down-sizes}
-use Rattle.steps.specs.Panels.{AtRest}
+use Rattle.block.specs.Panels.{AtRest}
 use Rattle.steps.specs.Shared.{sizes_value}
-use Rattle.steps.specs.Views.{shown}
+use Rattle.block.specs.Views.{shown}
 use Rattle.steps.specs.declared.Sizes.{Sizes as CodeSizes}
-use Rattle.steps.specs.declared.view.View.{View}
+use Rattle.block.specs.declared.panel.View.{View}
 use Rattle.steps.proofs.AtRestLaws.{stands_of}
 use Rattle.steps.proofs.SettledLaws.FewLaws.{fit-down, stands-whole}
 use Rattle.machine.specs.Core.{is_payload, counted_as}

@@ -10,7 +10,7 @@ use Rattle.protocol.specs.Neighbours.{forget_peer}
 use Rattle.protocol.specs.Whole.{fits}
 use Rattle.protocol.specs.Answer.{Outcome, refused, accepted}
 use Rattle.block.specs.LinkSteps.{linked}
-use Rattle.steps.specs.Panels.{Allowed}
+use Rattle.block.specs.Panels.{Allowed}
 use Rattle.steps.specs.declared.call.Call.{Call}
 use Rattle.machine.specs.Called.{counts_of}
 use Rattle.machine.specs.Kinds.Meaning.{step_far, step_counts, SenderIs}

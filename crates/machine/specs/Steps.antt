@@ -7,7 +7,7 @@ use Rattle.protocol.specs.State.{State}
 use Rattle.protocol.specs.declared.TheConstants.{LATEST}
 use Rattle.decide.specs.Settled.{settled, settled_actions}
 use Rattle.steps.specs.Calls.{rooms_of}
-use Rattle.steps.specs.Panels.{AtRest, Allowed}
+use Rattle.block.specs.Panels.{AtRest, Allowed}
 use Rattle.steps.specs.declared.call.Call.{Call}
 use Rattle.machine.specs.Kinds.Meaning.{step_actions, step_state, step_far, StepHeld, SenderIs}
 use Rattle.machine.specs.declared.kinds.Step.{Step}

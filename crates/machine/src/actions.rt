@@ -1,7 +1,7 @@
 // The actions of a call: a first event's timer, then those of the step. They are counted for question 14, then written, by one walk.
 ghost use Rattle.std.specs.Prelude.{◌≡◌, false};
-ghost use Rattle.steps.specs.Panels.{AtRest};
-ghost use Rattle.steps.specs.Views.{shown};
+ghost use Rattle.block.specs.Panels.{AtRest};
+ghost use Rattle.block.specs.Views.{shown};
 ghost use Rattle.machine.specs.Kinds.Meaning.{StepHeld, SenderIs, step_far};
 ghost use Rattle.machine.specs.Steps.{event_bytes, AtRest-prop, StepHeld-prop, SenderIs-prop, near-prop};
 

@@ -8,8 +8,8 @@ ghost use Rattle.storage.specs.Rows.Ident.{id_of};
 ghost use Rattle.protocol.specs.State.{State};
 ghost use Rattle.protocol.specs.Consistent.{CoreOf};
 ghost use Rattle.block.specs.LinkSteps.{peer_at};
-ghost use Rattle.steps.specs.Panels.{AtRest};
-ghost use Rattle.steps.specs.Views.{shown};
+ghost use Rattle.block.specs.Panels.{AtRest};
+ghost use Rattle.block.specs.Views.{shown};
 ghost use Rattle.machine.specs.Kinds.Meaning.{ListHeld, Means};
 
 use announcements::on_ihave::all_received;

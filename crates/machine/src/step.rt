@@ -2,8 +2,8 @@
 ghost use Rattle.std.specs.Prelude.{◌≡◌};
 ghost use Rattle.decide.specs.Sizes.{sizes_of};
 ghost use Rattle.steps.specs.Shared.{sizes_value};
-ghost use Rattle.steps.specs.Views.{shown};
-ghost use Rattle.steps.specs.Panels.{state, Goes};
+ghost use Rattle.block.specs.Views.{shown};
+ghost use Rattle.block.specs.Panels.{state, Goes};
 ghost use Rattle.machine.specs.Steps.{after_step, after_event, Named, Ready, Due};
 
 use crate::kinds::Step;

@@ -18,8 +18,8 @@ use Rattle.block.specs.View.{state_of}
 use Rattle.block.specs.declared.head.Head.{Head}
 use Rattle.steps.specs.Rooms.{rooms_in}
 use Rattle.steps.specs.Shared.{sizes_value}
-use Rattle.steps.specs.Views.{links_from}
-use Rattle.steps.specs.Panels.{AtRest, Allowed}
+use Rattle.block.specs.Views.{links_from}
+use Rattle.block.specs.Panels.{AtRest, Allowed}
 use Rattle.steps.specs.Record.{with_these}
 use Rattle.steps.specs.TakeIn.{Takes}
 use Rattle.steps.specs.declared.Sizes.{Sizes as CodeSizes}

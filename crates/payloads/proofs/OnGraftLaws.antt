@@ -29,7 +29,7 @@ use Rattle.steps.specs.declared.Sizes.{Sizes as CodeSizes}
 use Rattle.steps.proofs.RoomsLaws.{kth-link}
 use Rattle.steps.specs.Record.{takes_note, Notable}
 use Rattle.payloads.proofs.EagerLaws.BackLaws.{for-one, for-none, recorded-same}
-use Rattle.steps.proofs.PanelLaws.{same_keys, link-key}
+use Rattle.block.proofs.PanelLaws.{same_keys, link-key}
 use Rattle.steps.proofs.RecordLaws.{noted-yes, noted-no, holds_found}
 use Rattle.std.specs.Prelude.{Option as Option'}
 use Rattle.storage.specs.Rows.Ident.{id_of}
@@ -37,11 +37,11 @@ use Rattle.storage.specs.declared.rows.id.Id.{Id}
 use Rattle.decide.specs.Settled.{settled}
 use Rattle.block.specs.View.{state_of}
 use Rattle.block.specs.declared.head.Head.{Head}
-use Rattle.steps.specs.Lookups.{cached_value}
-use Rattle.steps.specs.Panels.{AtRest}
+use Rattle.block.specs.Caches.CachedReads.{cached_value}
+use Rattle.block.specs.Panels.{AtRest}
 use Rattle.payloads.specs.OnGraft.{graft_bytes}
 use Rattle.steps.specs.declared.call.Call.{Call}
-use Rattle.steps.specs.declared.message_cache.CachedMessage.{CachedMessage}
+use Rattle.block.specs.declared.caches.cached.CachedMessage.{CachedMessage}
 use Rattle.steps.proofs.AtRestLaws.{settled-up, settled-low, same_links, same_flag}
 use Rattle.steps.specs.Calls.{rooms_of}
 

@@ -16,8 +16,7 @@ use Rattle.postcard.proofs.Listed.{sent_head}
 use Rattle.protocol.specs.Links.{Mark, Links, marked, is_eager, is_neighbour, eager_in, add_lazy}
 use Rattle.protocol.specs.State.{State, Hop, Grafts, with_grafted}
 use Rattle.protocol.specs.Whole.{grafts_whole, neighbours}
-use Rattle.protocol.specs.Gossips.{same_as, no_more_hops, late_from, late_kind, with_kept, duplicate, repeated, faster}
-use Rattle.protocol.specs.Gossips.{Late as LateKind}
+use Rattle.protocol.specs.Gossips.{same_as, no_more_hops, late_from, late_kind, with_kept, duplicate, repeated, faster, Late as LateKind}
 use Rattle.decide.specs.Rooms.{kth_taken, first_send}
 use Rattle.decide.specs.Settled.{settled}
 use Rattle.decide.specs.ActionsAfter.{late_actions}
@@ -26,14 +25,14 @@ use Rattle.block.specs.LinkSteps.{link_at, linked}
 use Rattle.block.specs.Caches.GraftSteps.{grafts_at, kept_at}
 use Rattle.block.proofs.LinkLaws.{eager-here}
 use Rattle.steps.specs.Calls.{rooms_of}
-use Rattle.steps.specs.Found.{LinkAt}
-use Rattle.steps.specs.Panels.{AtRest}
+use Rattle.block.specs.Found.{LinkAt}
+use Rattle.block.specs.Panels.{AtRest}
 use Rattle.steps.specs.Rooms.{rooms_in}
 use Rattle.steps.specs.Settled.Then.{no_grafts}
 use Rattle.steps.specs.Shared.{HeldAt}
-use Rattle.steps.specs.Views.{numbered_link}
+use Rattle.block.specs.Views.{numbered_link}
 use Rattle.steps.specs.declared.call.Call.{Call}
-use Rattle.steps.specs.declared.view.Link.{Link}
+use Rattle.block.specs.declared.links.NumberedLink.{NumberedLink}
 use Rattle.steps.proofs.AtRestLaws.{settled-as, same_links}
 use Rattle.steps.proofs.RoomsLaws.{kth-link, kth-stranger}
 use Rattle.payloads.specs.OnLateGraftReply.{copy_kind, after_late, late_bytes}

@@ -32,14 +32,14 @@ use Rattle.block.specs.declared.hops.Hop.{Hop as LinkHop}
 use Rattle.block.proofs.LinkLaws.{neighbour-here, eager-here}
 use Rattle.block.proofs.Scans.{keys-apart}
 use Rattle.steps.specs.Calls.{rooms_of}
-use Rattle.steps.specs.Found.{LinkAt, hop_of, HopOf}
-use Rattle.steps.specs.Panels.{AtRest}
+use Rattle.block.specs.Found.{LinkAt, hop_of, HopOf}
+use Rattle.block.specs.Panels.{AtRest}
 use Rattle.steps.specs.Rooms.{rooms_in}
-use Rattle.steps.specs.Views.{numbered_link}
-use Rattle.steps.specs.declared.view.Link.{Link}
+use Rattle.block.specs.Views.{numbered_link}
+use Rattle.block.specs.declared.links.NumberedLink.{NumberedLink}
 use Rattle.steps.specs.declared.call.Call.{Call}
 use Rattle.steps.proofs.AtRestLaws.{settled-as, same_links}
-use Rattle.steps.proofs.PanelLaws.{here, same_keys}
+use Rattle.block.proofs.PanelLaws.{here, same_keys}
 use Rattle.steps.proofs.RoomsLaws.{kth-link}
 use Rattle.payloads.specs.OptimizeTree.{least_of, nearest, wanted, optimised_on, best_actions, optimise_on, NearestAt, shortcut, shortcut_bytes, optimize_bytes, after_shortcut}
 use Rattle.payloads.specs.declared.optimize_tree.Arrival.{Arrival}

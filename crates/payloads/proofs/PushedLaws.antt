@@ -17,8 +17,8 @@ use Rattle.steps.specs.declared.Sizes.{Sizes as CodeSizes}
 use Rattle.decide.specs.StateAfter.{taken_state, lazy_state}
 use Rattle.block.specs.Sound.{Sound}
 use Rattle.steps.specs.Shared.{sizes_value}
-use Rattle.steps.specs.Views.{links_from}
-use Rattle.steps.specs.declared.view.Link.{Link}
+use Rattle.block.specs.Views.{links_from}
+use Rattle.block.specs.declared.links.NumberedLink.{NumberedLink}
 use Rattle.steps.proofs.AtRestLaws.{settled-as, same_links, same_dropped}
 use Rattle.steps.proofs.LazyPushLaws.{lazy-more-queued}
 use Rattle.steps.proofs.SettledLaws.FewLaws.{few-then}

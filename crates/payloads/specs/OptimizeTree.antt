@@ -16,7 +16,7 @@ use Rattle.block.specs.LinkSteps.{peer_at, linked}
 use Rattle.block.specs.MissingSteps.{hop}
 use Rattle.block.specs.declared.hops.Hop.{Hop as LinkHop}
 use Rattle.steps.specs.Calls.{rooms_of}
-use Rattle.steps.specs.Found.{LinkAt, hop_of}
+use Rattle.block.specs.Found.{LinkAt, hop_of}
 use Rattle.steps.specs.declared.call.Call.{Call}
 use Rattle.payloads.specs.declared.optimize_tree.Arrival.{Arrival}
 use Rattle.payloads.specs.declared.optimize_tree.Shortcut.{Shortcut}

@@ -5,8 +5,8 @@ ghost use Rattle.decide.specs.Sizes.{sizes_of};
 ghost use Rattle.decide.specs.Settled.{settled};
 ghost use Rattle.wire.specs.Encode.Intake.{after};
 ghost use Rattle.steps.specs.Shared.{sizes_value};
-ghost use Rattle.steps.specs.Views.{shown};
-ghost use Rattle.steps.specs.Panels.{state, Goes, AtRest, Allowed};
+ghost use Rattle.block.specs.Views.{shown};
+ghost use Rattle.block.specs.Panels.{state, Goes, AtRest, Allowed};
 ghost use Rattle.payloads.specs.OnGossip.{after_gossip, gossip_bytes};
 
 use crate::eager_push::notes::{note_back, to_note};

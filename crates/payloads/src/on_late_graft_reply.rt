@@ -12,9 +12,9 @@ ghost use Rattle.decide.specs.Rooms.{kth_taken};
 ghost use Rattle.block.specs.Caches.GraftSteps.{grafts_at};
 ghost use Rattle.wire.specs.Encode.Intake.{after};
 ghost use Rattle.steps.specs.Calls.{rooms_of};
-ghost use Rattle.steps.specs.Found.{LinkIf};
-ghost use Rattle.steps.specs.Views.{shown};
-ghost use Rattle.steps.specs.Panels.{state, Goes, AtRest};
+ghost use Rattle.block.specs.Found.{LinkIf};
+ghost use Rattle.block.specs.Views.{shown};
+ghost use Rattle.block.specs.Panels.{state, Goes, AtRest};
 ghost use Rattle.payloads.specs.OnLateGraftReply.{copy_kind, LateIs, late_bytes, after_late};
 
 use postcard::message::Delivery;

@@ -4,7 +4,7 @@ ghost use Rattle.storage.specs.Lists.Base.{ascending};
 ghost use Rattle.storage.specs.Lists.Map.{keys};
 ghost use Rattle.protocol.specs.Links.{add_lazy};
 ghost use Rattle.block.specs.LinkSteps.{peer_at, linked};
-ghost use Rattle.steps.specs.Panels.{state, Goes};
+ghost use Rattle.block.specs.Panels.{state, Goes};
 
 use steps::panel::Panel;
 

@@ -8,9 +8,9 @@ ghost use Rattle.decide.specs.Settled.{settled};
 ghost use Rattle.decide.specs.StateAfter.{closed_state};
 ghost use Rattle.block.specs.MissingSteps.{hops_at};
 ghost use Rattle.wire.specs.Encode.Intake.{after};
-ghost use Rattle.steps.specs.Found.{LinkIf, HopOf};
-ghost use Rattle.steps.specs.Views.{shown};
-ghost use Rattle.steps.specs.Panels.{state, Goes, AtRest};
+ghost use Rattle.block.specs.Found.{LinkIf, HopOf};
+ghost use Rattle.block.specs.Views.{shown};
+ghost use Rattle.block.specs.Panels.{state, Goes, AtRest};
 ghost use Rattle.payloads.specs.OptimizeTree.{least_of, nearest, NearestOf, wanted, optimised_on, shortcut, ShortcutOf, shortcut_bytes, optimize_bytes, after_shortcut};
 
 use block::head::MAX_LINKS;

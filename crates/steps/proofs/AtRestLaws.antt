@@ -12,7 +12,7 @@ use Rattle.block.specs.Sound.{Sound}
 use Rattle.block.specs.LinkSteps.{peer_at}
 use Rattle.block.specs.declared.head.Head.{Head}
 use Rattle.steps.specs.Stands.{Stands}
-use Rattle.steps.specs.Panels.{AtRest}
+use Rattle.block.specs.Panels.{AtRest}
 use Rattle.steps.specs.Record.{takes_note}
 
 pub stands_of : (h : Head) (xs : List ℕ) → Sound h xs → AtRest (state_of h xs) → Stands h xs

@@ -13,8 +13,8 @@ use Rattle.decide.specs.StateAfter.{first_state}
 use Rattle.decide.proofs.SettledLaws.{evicted, length-later, expiry-later, content-later}
 use Rattle.block.specs.View.{state_of}
 use Rattle.block.specs.declared.head.Head.{Head}
-use Rattle.steps.specs.Panels.{AtRest}
-use Rattle.steps.proofs.ContentsLaws.StandsAfter.{Kept, kept-first}
+use Rattle.block.specs.Panels.{AtRest}
+use Rattle.steps.proofs.StandsAfter.{Kept, kept-first}
 use Rattle.steps.proofs.EvictAgainLaws.{evict-again}
 
 kept_at : {s : State} → AtRest s → Kept s

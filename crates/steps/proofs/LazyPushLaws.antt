@@ -16,8 +16,8 @@ use Rattle.protocol.specs.State.{State, Note, with_queue, with_dispatch_schedule
 use Rattle.block.specs.LinkSteps.{link_at}
 use Rattle.block.specs.NoteSteps.{queue_also}
 use Rattle.steps.specs.LazyPush.{lazy_target}
-use Rattle.steps.specs.Views.{links_from, numbered_link}
-use Rattle.steps.specs.declared.view.Link.{Link}
+use Rattle.block.specs.Views.{links_from, numbered_link}
+use Rattle.block.specs.declared.links.NumberedLink.{NumberedLink}
 
 -- the note of a link
 abbrev note_of : ℕ → ℕ → Entry Mark → Note

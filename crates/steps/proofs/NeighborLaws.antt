@@ -18,8 +18,8 @@ use Rattle.block.specs.LinkSteps.{linked}
 use Rattle.block.specs.View.{state_of}
 use Rattle.block.specs.declared.head.Head.{Head}
 use Rattle.block.proofs.LinkLaws.{neighbour-here, count-links}
-use Rattle.steps.proofs.NeighboursLaws.Strangers.{stranger}
-use Rattle.steps.specs.Found.{LinkOf}
+use Rattle.block.proofs.NeighboursLaws.Strangers.{stranger}
+use Rattle.block.specs.Found.{LinkOf}
 
 fits-links : (s : State) → fits s ≡ true → length s.links ≤ s.limits.N
 unfolding fits

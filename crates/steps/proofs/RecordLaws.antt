@@ -11,9 +11,8 @@ use Rattle.protocol.specs.Push.{for_peer, notes, record_full}
 use Rattle.decide.specs.RecordGrowth.{add_note}
 use Rattle.decide.specs.StateAfter.{recorded_state}
 use Rattle.block.specs.LinkSteps.{peer_at}
-use Rattle.block.specs.NoteSteps.{note, drop_also}
+use Rattle.block.specs.NoteSteps.{note, drop_also, standing}
 use Rattle.steps.specs.Pushes.Noted.{noted, noted_state}
-use Rattle.steps.specs.Panels.{standing}
 use Rattle.steps.specs.Record.{takes_note}
 
 -- the tests, one by one

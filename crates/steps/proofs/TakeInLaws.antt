@@ -22,14 +22,14 @@ use Rattle.protocol.specs.Ticks.{evict}
 use Rattle.block.specs.View.{state_of}
 use Rattle.block.specs.Sound.{Sound}
 use Rattle.block.specs.declared.head.Head.{Head}
-use Rattle.steps.specs.Panels.{AtRest}
+use Rattle.block.specs.Panels.{AtRest}
 use Rattle.steps.specs.Shared.{sizes_value}
 use Rattle.steps.specs.TakeIn.{Takes}
-use Rattle.steps.specs.Contents.Taking.{TakesIn}
+use Rattle.steps.specs.Taking.{TakesIn}
 use Rattle.steps.specs.declared.Sizes.{Sizes as CodeSizes}
 use Rattle.steps.proofs.AtRestLaws.{stands_of}
-use Rattle.steps.proofs.ContentsLaws.StandsAfter.{Kept, kept-first, kept-taken}
-use Rattle.steps.proofs.ContentsLaws.Takings.{at_most}
+use Rattle.steps.proofs.StandsAfter.{Kept, kept-first, kept-taken}
+use Rattle.steps.proofs.Takings.{at_most}
 
 -- a key is there where a value is found
 module _ {A : Type 0} (k : ℕ) (c : Cache A) where

@@ -1,30 +1,17 @@
--- What is asked before a message is announced, marked and grafted, and what these leave.
+-- What is asked before a peer is grafted for a message, and what that leaves.
 -- Assumes nothing.
-use Rattle.std.specs.Prelude.{ℕ, ◌+◌, ◌≤◌, ◌<◌, ◌≡◌, true, length, if◌then◌else◌}
-use Rattle.storage.specs.Lists.Base.{all, member, ascending}
+use Rattle.std.specs.Prelude.{ℕ, ◌+◌, ◌≤◌, ◌<◌, ◌≡◌, true, length}
+use Rattle.storage.specs.Lists.Base.{all, ascending}
 use Rattle.storage.specs.Lists.Map.{keys}
 use Rattle.protocol.specs.State.{State}
 use Rattle.protocol.specs.Whole.{grafts_whole}
 use Rattle.protocol.specs.declared.TheConstants.{LATEST}
-use Rattle.block.specs.MissingSteps.{Announces}
-use Rattle.block.specs.TimerSteps.{timer_also}
 use Rattle.block.specs.Caches.InBlock.{InOrder, AtMost}
-use Rattle.steps.specs.Grafts.NoteSteps.{graft_noted}
-
--- a timer for an identifier, unless one is marked
-unfoldable pub timer_marked : ℕ → State → State
-timer_marked id s = if member id s.timers.graft then s else timer_also id s
+use Rattle.block.specs.Caches.GraftSteps.{graft_noted}
 
 -- the peer of a link is grafted for a message from an instant on, as long as a message is cached
 abbrev pub grafted_until : ℕ → ℕ → ℕ → ℕ → State → State
 grafted_until now l id r s = graft_noted id l r (now + s.settings.message_cache_retention) s
-
--- what announcing asks: links and missing messages that ascend, a link among them, and room
-pub record Announcing (l id r : ℕ) (s : State) : Type 0 where
-  pub links : ascending (keys s.links) ≡ true
-  pub missing : ascending (keys s.missing) ≡ true
-  pub link : l < length s.links
-  pub room : Announces id l r s
 
 -- what grafting asks: links that ascend, a link among them, grafted messages in order, whose peers are neighbours, room, and an instant and a duration in range
 pub record Graftable (now l id r : ℕ) (s : State) : Type 0 where

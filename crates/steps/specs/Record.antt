@@ -7,8 +7,7 @@ use Rattle.time_cache.specs.TimeCache.{holds}
 use Rattle.protocol.specs.State.{State, Note, with_dropped}
 use Rattle.protocol.specs.Push.{notes, record_full}
 use Rattle.block.specs.LinkSteps.{peer_at}
-use Rattle.block.specs.NoteSteps.{note}
-use Rattle.steps.specs.Panels.{standing}
+use Rattle.block.specs.NoteSteps.{note, standing}
 use Rattle.steps.specs.Pushes.Noted.{noted}
 
 -- "not already there is added unless the peer has 256 or all have 4,096"

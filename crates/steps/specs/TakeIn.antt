@@ -5,7 +5,7 @@ use Rattle.protocol.specs.State.{State}
 use Rattle.protocol.specs.Whole.{cache_fits, content_held}
 use Rattle.protocol.specs.declared.TheConstants.{LATEST}
 use Rattle.decide.specs.StateAfter.{taken_state}
-use Rattle.steps.specs.Panels.{AtRest}
+use Rattle.block.specs.Panels.{AtRest}
 
 -- what taking it in asks: the message caches with it are within their limits
 pub record Takes (instant id : ℕ) (content : List ℕ) (round : ℕ) (s : State) : Type 0 where

@@ -10,9 +10,9 @@ impl<'a> View<'a> {
     ghost use Rattle.storage.specs.Lists.Base.{ascending};
     ghost use Rattle.storage.specs.Lists.Map.{keys};
     ghost use Rattle.storage.specs.Rows.Ident.{id_of};
-    ghost use Rattle.block.specs.MissingSteps.{hop, hops_at};
-    ghost use Rattle.steps.specs.Views.{shown};
-    ghost use Rattle.steps.specs.Found.{MissingOf, HopOf};
+    ghost use Rattle.block.specs.MissingSteps.{hop, hops_at, miss_out};
+    ghost use Rattle.block.specs.Views.{shown};
+    ghost use Rattle.block.specs.Found.{MissingOf, HopOf};
 
     // The number of the missing message of an identifier, if it is missing. Its time is that of a look-up by halving.
     pub fn find_missing(&self, id: Id) -> Option<usize>
@@ -40,13 +40,8 @@ impl<'a> View<'a> {
 }
 
 impl<'a> Panel<'a> {
-    ghost use Rattle.std.specs.Prelude.{◌≡◌, true};
-    ghost use Rattle.storage.specs.Lists.Base.{ascending};
-    ghost use Rattle.storage.specs.Lists.Map.{keys};
-    ghost use Rattle.storage.specs.Rows.Ident.{id_of};
-    ghost use Rattle.block.specs.MissingSteps.{miss_out};
     ghost use Rattle.block.specs.TimerSteps.{timer_out};
-    ghost use Rattle.steps.specs.Panels.{state, Goes};
+    ghost use Rattle.block.specs.Panels.{state, Goes};
 
     // "drop graft-timer mark".
     pub fn forget_timer(&mut self, id: Id)

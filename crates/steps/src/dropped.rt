@@ -6,9 +6,8 @@ impl<'a> Panel<'a> {
     ghost use Rattle.std.specs.Prelude.{◌≤◌, ◌<◌, false, length};
     ghost use Rattle.storage.specs.Rows.Ident.{id_of};
     ghost use Rattle.protocol.specs.State.{with_announce_scheduled};
-    ghost use Rattle.block.specs.NoteSteps.{drop_instead};
-    ghost use Rattle.steps.specs.Panels.{state, Goes};
-    ghost use Rattle.steps.specs.Dropped.{record_cut};
+    ghost use Rattle.block.specs.NoteSteps.{drop_instead, record_cut};
+    ghost use Rattle.block.specs.Panels.{state, Goes};
 
     // Another note in a row of the record.
     pub fn set_dropped(&mut self, row: usize, note: Note)

@@ -7,8 +7,8 @@ impl<'a> View<'a> {
     ghost use Rattle.std.specs.Prelude.{◌≡◌, true};
     ghost use Rattle.storage.specs.Lists.Base.{ascending};
     ghost use Rattle.storage.specs.Lists.Map.{keys};
-    ghost use Rattle.steps.specs.Views.{shown};
-    ghost use Rattle.steps.specs.Found.{LinkOf};
+    ghost use Rattle.block.specs.Views.{shown};
+    ghost use Rattle.block.specs.Found.{LinkOf};
 
     // The number of a peer's link, if it has one. Its time is that of one pass over the links.
     pub fn find_link(&self, peer: u64) -> Option<usize>
@@ -20,12 +20,9 @@ impl<'a> View<'a> {
 }
 
 impl<'a> Panel<'a> {
-    ghost use Rattle.std.specs.Prelude.{◌≡◌, true};
-    ghost use Rattle.storage.specs.Lists.Base.{ascending};
-    ghost use Rattle.storage.specs.Lists.Map.{keys};
     ghost use Rattle.protocol.specs.Links.{add_lazy};
     ghost use Rattle.block.specs.LinkSteps.{linked};
-    ghost use Rattle.steps.specs.Panels.{state, Goes};
+    ghost use Rattle.block.specs.Panels.{state, Goes};
 
     // `add_lazy`, of whatever peer: "a stranger, or one gone down since, stays in neither".
     pub fn add_lazy_peer(&mut self, peer: u64)

@@ -8,7 +8,7 @@ use storage::rows::id::Id;
 
 impl<'a> Panel<'a> {
     ghost use Rattle.storage.specs.Rows.Ident.{id_of};
-    ghost use Rattle.steps.specs.Panels.{state, Goes};
+    ghost use Rattle.block.specs.Panels.{state, Goes};
     ghost use Rattle.steps.specs.Asked.{grafted_until, Graftable};
 
     // The peer of a link is grafted for a message, for as long as a message is cached; where a round is known, the lower stays. Its time is that of an insert into a time

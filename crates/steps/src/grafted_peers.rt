@@ -16,10 +16,9 @@ impl<'a> View<'a> {
     ghost use Rattle.protocol.specs.Gossips.{same_as, grafted_for, graft_out};
     ghost use Rattle.decide.specs.Settled.{settled};
     ghost use Rattle.block.specs.LinkSteps.{peer_at};
-    ghost use Rattle.block.specs.Caches.GraftSteps.{grafts_at};
-    ghost use Rattle.steps.specs.Panels.{AtRest};
-    ghost use Rattle.steps.specs.Views.{shown};
-    ghost use Rattle.steps.specs.Grafts.Firsts.{first_value};
+    ghost use Rattle.block.specs.Caches.GraftSteps.{grafts_at, first_value, kept_at};
+    ghost use Rattle.block.specs.Panels.{AtRest, state, Goes};
+    ghost use Rattle.block.specs.Views.{shown};
 
     // Whether the peer of a link is grafted for a grafted message. Its time is that of one pass over these peers, at most 32.
     pub fn is_grafted(&self, entry: usize, link: usize) -> bool
@@ -66,10 +65,7 @@ impl<'a> View<'a> {
 }
 
 impl<'a> Panel<'a> {
-    ghost use Rattle.std.specs.Prelude.{◌<◌, length};
     ghost use Rattle.block.specs.Caches.InBlock.{InOrder};
-    ghost use Rattle.block.specs.Caches.GraftSteps.{kept_at};
-    ghost use Rattle.steps.specs.Panels.{state, Goes};
 
     // A peer is kept for a grafted message.
     pub fn keep_sender(&mut self, entry: usize, peer: u64)

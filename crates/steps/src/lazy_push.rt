@@ -5,8 +5,8 @@ use postcard::units::Round;
 use storage::rows::id::Id;
 
 impl<'a> View<'a> {
-    ghost use Rattle.std.specs.Prelude.{◌≡◌, ◌≤◌, ◌&&◌, ◌==◌, not, count_by};
-    ghost use Rattle.steps.specs.Views.{shown, links_from};
+    ghost use Rattle.std.specs.Prelude.{◌≡◌, ◌≤◌, ◌&&◌, ◌==◌, not, count_by, ◌<◌, length};
+    ghost use Rattle.block.specs.Views.{shown, links_from};
 
     // How many links a lazy push goes to: "Lazy push skips only the sender". Its time is that of one pass over the links.
     pub fn lazy_count(&self, sender: u64) -> usize
@@ -20,12 +20,11 @@ impl<'a> View<'a> {
 }
 
 impl<'a> Panel<'a> {
-    ghost use Rattle.std.specs.Prelude.{◌≡◌, ◌≤◌, ◌<◌, length};
     ghost use Rattle.storage.specs.Rows.Ident.{id_of};
     ghost use Rattle.decide.specs.StateAfter.{lazy_state};
     ghost use Rattle.block.specs.LinkSteps.{link_at};
     ghost use Rattle.steps.specs.LazyPush.{lazy_target};
-    ghost use Rattle.steps.specs.Panels.{state, Goes};
+    ghost use Rattle.block.specs.Panels.{state, Goes};
 
     // "Lazy push skips only the sender": is this link lazy, and not the sender's?
     fn is_lazy_target(&self, link: usize, sender: u64) -> bool

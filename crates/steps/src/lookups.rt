@@ -14,8 +14,8 @@ impl<'a> View<'a> {
     ghost use Rattle.decide.specs.Settled.{settled};
     ghost use Rattle.steps.specs.Settled.Then.{no_cached, no_grafts};
     ghost use Rattle.steps.specs.Shared.{EntryIs};
-    ghost use Rattle.steps.specs.Panels.{AtRest};
-    ghost use Rattle.steps.specs.Views.{shown};
+    ghost use Rattle.block.specs.Panels.{AtRest};
+    ghost use Rattle.block.specs.Views.{shown};
 
     // Whether a message is received then.
     #[tactic(auto, using(crate::proofs::SettledLaws::ThenLaws::settled_received))]

@@ -4,9 +4,9 @@ ghost use Rattle.storage.specs.Rows.Ident.{id_of};
 ghost use Rattle.time_cache.specs.TimeCache.{get};
 ghost use Rattle.block.specs.Caches.InBlock.{InOrder};
 ghost use Rattle.decide.specs.Settled.{settled};
-ghost use Rattle.steps.specs.Lookups.{cached_value, RoundOf};
-ghost use Rattle.steps.specs.Views.{shown};
-ghost use Rattle.steps.specs.Panels.{AtRest};
+ghost use Rattle.block.specs.Caches.CachedReads.{cached_value, RoundOf};
+ghost use Rattle.block.specs.Views.{shown};
+ghost use Rattle.block.specs.Panels.{AtRest};
 
 use crate::call::Call;
 use crate::view::View;

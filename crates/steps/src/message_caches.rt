@@ -10,7 +10,7 @@ impl<'a> View<'a> {
     ghost use Rattle.storage.specs.Rows.Ident.{id_of};
     ghost use Rattle.time_cache.specs.TimeCache.{holds};
     ghost use Rattle.block.specs.Caches.InBlock.{InOrder};
-    ghost use Rattle.steps.specs.Views.{shown};
+    ghost use Rattle.block.specs.Views.{shown};
 
     // Whether a message is received. Its time is that of a look-up in a time cache.
     pub fn is_received(&self, id: Id) -> bool

@@ -6,11 +6,11 @@ use postcard::units::Round;
 use storage::rows::id::Id;
 
 impl<'a> View<'a> {
-    ghost use Rattle.std.specs.Prelude.{◌≡◌, true};
+    ghost use Rattle.std.specs.Prelude.{◌≡◌, true, ◌<◌, length};
     ghost use Rattle.storage.specs.Lists.Base.{ascending};
     ghost use Rattle.storage.specs.Lists.Map.{keys, has};
     ghost use Rattle.storage.specs.Rows.Ident.{id_of};
-    ghost use Rattle.steps.specs.Views.{shown};
+    ghost use Rattle.block.specs.Views.{shown};
 
     // Whether somebody announced a message that is not received. Its time is that of a look-up by halving.
     pub fn is_missing(&self, id: Id) -> bool
@@ -22,13 +22,8 @@ impl<'a> View<'a> {
 }
 
 impl<'a> Panel<'a> {
-    ghost use Rattle.std.specs.Prelude.{◌≡◌, ◌<◌, true, length};
-    ghost use Rattle.storage.specs.Lists.Base.{ascending};
-    ghost use Rattle.storage.specs.Lists.Map.{keys};
-    ghost use Rattle.storage.specs.Rows.Ident.{id_of};
-    ghost use Rattle.block.specs.MissingSteps.{hops_at, left_after, announced_by};
-    ghost use Rattle.steps.specs.Panels.{state, Goes};
-    ghost use Rattle.steps.specs.Asked.{Announcing};
+    ghost use Rattle.block.specs.MissingSteps.{hops_at, left_after, announced_by, Announcing};
+    ghost use Rattle.block.specs.Panels.{state, Goes};
 
     // The peer of a link announced a message: it is among the announcers, once.
     pub fn announce(&mut self, link: usize, id: Id, round: Round)

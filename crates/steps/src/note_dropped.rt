@@ -12,8 +12,8 @@ impl<'a> View<'a> {
     ghost use Rattle.storage.specs.Lists.Map.{keys};
     ghost use Rattle.storage.specs.Rows.Ident.{id_of};
     ghost use Rattle.block.specs.LinkSteps.{peer_at};
-    ghost use Rattle.steps.specs.Views.{shown};
-    ghost use Rattle.steps.specs.Record.{takes_note};
+    ghost use Rattle.block.specs.Views.{shown};
+    ghost use Rattle.steps.specs.Record.{takes_note, Notable};
 
     // Whether the record takes a note: "not already there is added unless the peer has 256 or all have 4,096". Its time is that of one pass over the record's
     // column of link numbers.
@@ -27,10 +27,8 @@ impl<'a> View<'a> {
 }
 
 impl<'a> Panel<'a> {
-    ghost use Rattle.storage.specs.Rows.Ident.{id_of};
     ghost use Rattle.steps.specs.Pushes.Noted.{noted_state};
-    ghost use Rattle.steps.specs.Panels.{state, Goes};
-    ghost use Rattle.steps.specs.Record.{Notable};
+    ghost use Rattle.block.specs.Panels.{state, Goes};
 
     // `note_dropped`: added if the record takes it; a record that holds anything stands with its flag.
     pub fn note_dropped(&mut self, link: usize, id: Id, round: Round)

@@ -8,7 +8,7 @@ use storage::rows::id::Id;
 impl<'a> Panel<'a> {
     ghost use Rattle.std.specs.Prelude.{◌+◌, ◌<◌, ◌≤◌, length, All};
     ghost use Rattle.storage.specs.Rows.Ident.{id_of};
-    ghost use Rattle.steps.specs.Panels.{state, Goes};
+    ghost use Rattle.block.specs.Panels.{state, Goes};
     ghost use Rattle.steps.specs.Record.{these_noted};
 
     // These links get a note of an identifier; a record that holds anything stands with its flag.

@@ -9,8 +9,8 @@ ghost use Rattle.decide.specs.ActionsAfter.{evict_actions};
 ghost use Rattle.block.specs.Caches.InBlock.{InOrder};
 ghost use Rattle.wire.specs.Encode.Intake.{after};
 ghost use Rattle.steps.specs.Shared.{sizes_value};
-ghost use Rattle.steps.specs.Panels.{AtRest};
-ghost use Rattle.steps.specs.Views.{shown};
+ghost use Rattle.block.specs.Panels.{AtRest};
+ghost use Rattle.block.specs.Views.{shown};
 
 use crate::call::Call;
 use crate::contents::cached;
@@ -93,8 +93,8 @@ impl<'a> Panel<'a> {
     ghost use Rattle.protocol.specs.State.{with_init};
     ghost use Rattle.decide.specs.StateAfter.{first_state};
     ghost use Rattle.block.specs.Caches.InBlock.{InOrder, received_left, grafted_left};
-    ghost use Rattle.steps.specs.Contents.CacheSteps.{cached_left};
-    ghost use Rattle.steps.specs.Panels.{state, Goes, AtRest};
+    ghost use Rattle.block.specs.Contents.CacheSteps.{cached_left};
+    ghost use Rattle.block.specs.Panels.{state, Goes, AtRest};
 
     // `expire_until` of the message cache: "pops entries with time ≤ the instant".
     fn expire_cached(&mut self, call: &Call)

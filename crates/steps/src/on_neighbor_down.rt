@@ -1,6 +1,6 @@
 // `on_neighbor_down`: a neighbour goes (the specification, "Sets"). It adds nothing to the tables, and has no actions.
 ghost use Rattle.protocol.specs.Neighbours.{forget_peer};
-ghost use Rattle.steps.specs.Panels.{state, Goes, AtRest};
+ghost use Rattle.block.specs.Panels.{state, Goes, AtRest};
 
 use crate::neighbours;
 use crate::panel::Panel;
@@ -11,7 +11,7 @@ impl<'a> Panel<'a> {
     ghost use Rattle.storage.specs.Lists.Map.{keys};
     ghost use Rattle.protocol.specs.Neighbours.{forget_peer};
     ghost use Rattle.block.specs.LinkSteps.{peer_at};
-    ghost use Rattle.steps.specs.Panels.{state, Goes};
+    ghost use Rattle.block.specs.Panels.{state, Goes};
 
     // A link goes. Its time is that of one pass over queue, record, grafted and missing messages.
     pub fn remove_link(&mut self, link: usize)

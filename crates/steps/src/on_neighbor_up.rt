@@ -4,8 +4,8 @@ ghost use Rattle.protocol.specs.Links.{up_mark, link_up};
 ghost use Rattle.decide.specs.Sizes.{sizes_of};
 ghost use Rattle.block.specs.LinkSteps.{mark_value, linked};
 ghost use Rattle.steps.specs.Shared.{sizes_value};
-ghost use Rattle.steps.specs.Views.{shown};
-ghost use Rattle.steps.specs.Panels.{state, Goes, AtRest, Allowed};
+ghost use Rattle.block.specs.Views.{shown};
+ghost use Rattle.block.specs.Panels.{state, Goes, AtRest, Allowed};
 
 use crate::panel::Panel;
 use crate::view::View;
@@ -14,14 +14,14 @@ use block::links;
 use block::links::Mark;
 
 impl<'a> View<'a> {
-    ghost use Rattle.std.specs.Prelude.{◌≡◌, true};
+    ghost use Rattle.std.specs.Prelude.{◌≡◌, true, ◌<◌, length};
     ghost use Rattle.storage.specs.Lists.Base.{ascending};
-    ghost use Rattle.storage.specs.Lists.Map.{keys};
-    ghost use Rattle.storage.specs.Rows.Sorted.{FoundIs};
+    ghost use Rattle.storage.specs.Lists.Map.{keys, insert};
+    ghost use Rattle.storage.specs.Rows.Sorted.{FoundIs, Between};
     ghost use Rattle.decide.specs.Sizes.{sizes_of};
     ghost use Rattle.steps.specs.Shared.{sizes_value};
-    ghost use Rattle.steps.specs.Views.{shown};
-    ghost use Rattle.steps.specs.Panels.{AtRest};
+    ghost use Rattle.block.specs.Views.{shown};
+    ghost use Rattle.block.specs.Panels.{AtRest, state, Goes};
 
     // The numbers of entries.
     pub fn sizes_now(&self) -> Sizes
@@ -41,12 +41,7 @@ impl<'a> View<'a> {
 }
 
 impl<'a> Panel<'a> {
-    ghost use Rattle.std.specs.Prelude.{◌≡◌, ◌<◌, length, true};
-    ghost use Rattle.storage.specs.Lists.Base.{ascending};
-    ghost use Rattle.storage.specs.Lists.Map.{keys, insert};
-    ghost use Rattle.storage.specs.Rows.Sorted.{Between};
     ghost use Rattle.block.specs.LinkSteps.{mark_value, mark_at, linked};
-    ghost use Rattle.steps.specs.Panels.{state, Goes};
 
     // A link's mark anew, quiet or not.
     pub fn put_mark(&mut self, link: usize, mark: Mark)

@@ -1,6 +1,6 @@
 // The panel while a call runs: its header by value, and the block.
 ghost use Rattle.block.specs.Sound.{Sound};
-ghost use Rattle.steps.specs.SoundProp.{Sound-prop};
+ghost use Rattle.block.proofs.SoundProp.{Sound-prop};
 
 use crate::view::View;
 use block::head::Head;
@@ -24,8 +24,8 @@ impl<'a> Panel<'a> {
     ghost use Rattle.protocol.specs.Links.{is_eager, add_eager, add_lazy};
     ghost use Rattle.protocol.specs.State.{with_dispatch_scheduled};
     ghost use Rattle.block.specs.LinkSteps.{link_at, peer_at, linked};
-    ghost use Rattle.block.specs.NoteSteps.{queue_also, drop_also};
-    ghost use Rattle.steps.specs.Panels.{state, Goes, standing};
+    ghost use Rattle.block.specs.NoteSteps.{queue_also, drop_also, standing};
+    ghost use Rattle.block.specs.Panels.{state, Goes};
 
     // The panel as it is read.
     pub fn view(&self) -> View<'_>

@@ -8,11 +8,11 @@ use block::{head, note};
 use wire::serialized_size;
 
 impl<'a> View<'a> {
-    ghost use Rattle.std.specs.Prelude.{◌≡◌, ◌<◌, ◌≤◌, length};
+    ghost use Rattle.std.specs.Prelude.{◌≡◌, ◌<◌, ◌≤◌, length, false, []};
     ghost use Rattle.postcard.specs.Sizes.{per_message};
-    ghost use Rattle.steps.specs.Panels.{AtRest};
-    ghost use Rattle.steps.specs.Views.{shown};
-    ghost use Rattle.steps.specs.Queue.{Column, note_at, noted_by};
+    ghost use Rattle.block.specs.Panels.{AtRest, Goes};
+    ghost use Rattle.block.specs.Views.{shown};
+    ghost use Rattle.block.specs.NoteSteps.{Column, note_at, noted_by};
 
     // How many identifiers are queued.
     pub fn queue_len(&self) -> usize
@@ -48,10 +48,8 @@ impl<'a> View<'a> {
 }
 
 impl<'a> Panel<'a> {
-    ghost use Rattle.std.specs.Prelude.{false, []};
     ghost use Rattle.protocol.specs.State.{with_dispatch_scheduled, with_queue};
     ghost use Rattle.block.specs.Goes.{Goes as InBlock};
-    ghost use Rattle.steps.specs.Panels.{Goes};
 
     // The header with an empty queue.
     fn cleared(&self) -> Head

@@ -7,9 +7,8 @@ use protocol::MAX_DROPPED;
 
 impl<'a> View<'a> {
     ghost use Rattle.std.specs.Prelude.{◌≡◌, ◌<◌, ◌≤◌, length};
-    ghost use Rattle.steps.specs.Views.{shown};
-    ghost use Rattle.steps.specs.Dropped.{NoteOf};
-    ghost use Rattle.steps.specs.Queue.{Column, note_at};
+    ghost use Rattle.block.specs.Views.{shown};
+    ghost use Rattle.block.specs.NoteSteps.{NoteOf, Column, note_at, NoteIs, note_again};
 
     // How many the record holds.
     pub fn record_len(&self) -> usize
@@ -37,10 +36,7 @@ impl<'a> View<'a> {
 }
 
 impl<'a> Panel<'a> {
-    ghost use Rattle.std.specs.Prelude.{◌≡◌, ◌<◌, ◌≤◌, length};
-    ghost use Rattle.block.specs.NoteSteps.{NoteIs};
-    ghost use Rattle.steps.specs.Panels.{state, Goes};
-    ghost use Rattle.steps.specs.Queue.{note_again};
+    ghost use Rattle.block.specs.Panels.{state, Goes};
 
     // Row i of the queue.
     fn queued(&self, row: usize) -> Note

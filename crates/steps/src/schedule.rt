@@ -4,7 +4,7 @@ ghost use Rattle.storage.specs.Lists.Base.{concat_map};
 ghost use Rattle.postcard.specs.Message.{EvictCache, Scheduled, action_bytes};
 ghost use Rattle.decide.specs.RecordGrowth.{announce_action};
 ghost use Rattle.decide.specs.ActionsAfter.{dispatch_action};
-ghost use Rattle.steps.specs.Views.{shown};
+ghost use Rattle.block.specs.Views.{shown};
 ghost use Rattle.wire.specs.Encode.Intake.{after};
 
 use crate::view::View;

@@ -9,7 +9,7 @@ impl<'a> Panel<'a> {
     ghost use Rattle.std.specs.Prelude.{◌≡◌, true};
     ghost use Rattle.storage.specs.Rows.Ident.{id_of};
     ghost use Rattle.decide.specs.StateAfter.{first_set_state};
-    ghost use Rattle.steps.specs.Panels.{state, Goes, AtRest};
+    ghost use Rattle.block.specs.Panels.{state, Goes, AtRest};
 
     // "set a grafted entry's `first` to sender and r", where a first event's work is done. Its time is that of a look-up by halving.
     pub fn set_first(&mut self, call: &Call, id: Id, sender: u64, round: Round)

@@ -15,8 +15,8 @@ impl<'a> View<'a> {
     ghost use Rattle.decide.specs.Settled.{settled};
     ghost use Rattle.decide.specs.StateAfter.{taken_state};
     ghost use Rattle.steps.specs.Shared.{sizes_value};
-    ghost use Rattle.steps.specs.Panels.{AtRest};
-    ghost use Rattle.steps.specs.Views.{shown};
+    ghost use Rattle.block.specs.Panels.{AtRest, state, Goes};
+    ghost use Rattle.block.specs.Views.{shown};
 
     // The numbers of entries once a first event has evicted and the message is taken in; they do not depend on the round. A content that is cached for the identifier
     // goes. Its time is that of `sizes_then`.
@@ -43,10 +43,7 @@ impl<'a> View<'a> {
 }
 
 impl<'a> Panel<'a> {
-    ghost use Rattle.storage.specs.Rows.Ident.{id_of};
-    ghost use Rattle.decide.specs.StateAfter.{taken_state};
     ghost use Rattle.steps.specs.TakeIn.{Takes};
-    ghost use Rattle.steps.specs.Panels.{state, Goes};
 
     // "mark received; cache at" a round: requires that the caches with the message are within their limits. Its time is that of one pass over entries, rows and
     // contents.

@@ -1,6 +1,6 @@
 // The panel as it is read: its header by value, and the block.
 ghost use Rattle.block.specs.Sound.{Sound};
-ghost use Rattle.steps.specs.SoundProp.{Sound-prop};
+ghost use Rattle.block.proofs.SoundProp.{Sound-prop};
 
 use crate::{Sizes, settled};
 use block::head::Head;
@@ -35,8 +35,8 @@ impl<'a> View<'a> {
     ghost use Rattle.decide.specs.Sizes.{sizes_of};
     ghost use Rattle.decide.specs.Settled.{settled};
     ghost use Rattle.steps.specs.Shared.{sizes_value};
-    ghost use Rattle.steps.specs.Panels.{AtRest};
-    ghost use Rattle.steps.specs.Views.{shown, numbered_link, links_left, links_from};
+    ghost use Rattle.block.specs.Panels.{AtRest};
+    ghost use Rattle.block.specs.Views.{shown, numbered_link, links_left, links_from};
 
     // How many links there are.
     pub fn link_count(&self) -> usize
@@ -81,7 +81,6 @@ impl<'a> Iterator for LinkIter<'a> {
     type Item = Link;
 
     ghost use Rattle.std.specs.Iterator.{YieldsFirst, item_count};
-    ghost use Rattle.steps.specs.Views.{links_left};
 
     ghost next_gives = { YieldsFirst links_left };
 

@@ -18,7 +18,8 @@ use Rattle.block.specs.Fit.{Fit}
 use Rattle.block.specs.Sound.{Adjoining, done, next}
 use Rattle.block.specs.declared.head.Head.{Head}
 use Rattle.block.proofs.Tables.{length-table}
-use Rattle.whole.specs.Held.{all_below, places_name, adjoin}
+use Rattle.block.specs.Sound.{adjoin}
+use Rattle.whole.specs.Held.{all_below, places_name}
 use Rattle.whole.specs.Parts.{length_at, table_of}
 use Rattle.whole.proofs.HeldLaws.{adjoining-of}
 

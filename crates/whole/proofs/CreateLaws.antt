@@ -21,7 +21,8 @@ use Rattle.block.specs.declared.head.Head.{Head}
 use Rattle.block.specs.declared.head.Settings.{Settings as HeadSettings}
 use Rattle.block.specs.declared.head.Limits.{Limits as HeadLimits}
 use Rattle.block.proofs.HeaderLaws.{word_back, head-words, head_words, length-head}
-use Rattle.whole.specs.Held.{has_header, has_tables, counts_within, all_lists, adjoin, laid_out, holds_with, held, whole_held, whole_block}
+use Rattle.block.specs.Sound.{adjoin}
+use Rattle.whole.specs.Held.{has_header, has_tables, counts_within, all_lists, laid_out, holds_with, held, whole_held, whole_block}
 use Rattle.whole.specs.Creation.{Refused, Accepted, Creates, Creation, fresh_live}
 
 -- the first no gives its number

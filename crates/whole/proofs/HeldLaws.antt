@@ -17,7 +17,8 @@ use Rattle.block.specs.Header.{head_in}
 use Rattle.block.specs.declared.head.Head.{Head}
 use Rattle.block.specs.declared.head.Live.{Live}
 use Rattle.block.proofs.Tables.{within-need}
-use Rattle.whole.specs.Held.{has_header, has_tables, counts_within, all_below, places_name, numbers_name, all_lists, adjoin, laid_out, holds_with, held, whole_held, whole_block}
+use Rattle.block.specs.Sound.{adjoin}
+use Rattle.whole.specs.Held.{has_header, has_tables, counts_within, all_below, places_name, numbers_name, all_lists, laid_out, holds_with, held, whole_held, whole_block}
 use Rattle.whole.proofs.Tests.{each}
 
 pub numbered_of : (m : ℕ) (list : List ℕ) → numbers_name m list ≡ true → Numbered m list

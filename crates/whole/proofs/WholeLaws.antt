@@ -26,7 +26,8 @@ use Rattle.block.specs.declared.head.Live.{Live}
 use Rattle.block.proofs.LinkLaws.{count-links, count-peers}
 use Rattle.storage.proofs.RefsLaws.Numbered.{length-numbered}
 use Rattle.block.proofs.Tables.{length-view, length-table}
-use Rattle.whole.specs.Held.{has_header, has_tables, counts_within, all_below, places_name, numbers_name, all_lists, adjoin, laid_out, holds_with, held, whole_held, whole_block}
+use Rattle.block.specs.Sound.{adjoin}
+use Rattle.whole.specs.Held.{has_header, has_tables, counts_within, all_below, places_name, numbers_name, all_lists, laid_out, holds_with, held, whole_held, whole_block}
 use Rattle.whole.specs.Parts.{table_of, cache_whole, links_whole, received_whole, cached_whole, grafted_peers, grafted_whole, announcers, missing_whole, timers_whole, queue_whole, record_whole, tables_whole, flags_with, head_whole}
 use Rattle.whole.proofs.Tests.{conj, Each, each, from_each, picks, both_ways}
 use Rattle.whole.proofs.HeldLaws.{fit_of, wholly_of}

@@ -7,8 +7,9 @@ use Rattle.storage.specs.Refs.Refs.{refs, places}
 use Rattle.protocol.specs.State.{State, Limits, limits_in_range, block_need}
 use Rattle.protocol.specs.Whole.{content_held, whole}
 use Rattle.block.specs.Layout.{tables}
-use Rattle.block.specs.View.{limits_of, byte_at, four_at, view_of, state_of}
+use Rattle.block.specs.View.{limits_of, byte_at, view_of, state_of}
 use Rattle.block.specs.Header.{word_at, head_in}
+use Rattle.block.specs.Sound.{adjoin}
 use Rattle.block.specs.declared.head.Head.{Head}
 use Rattle.block.specs.declared.head.Live.{Live}
 
@@ -47,11 +48,6 @@ numbers_name m list = leb (byte_at 0 list) 32 && all_below m (take (byte_at 0 li
 -- the lists that stand at o in n rows of s bytes pass a test
 unfoldable pub all_lists : (List ℕ → Bool) → ℕ → ℕ → ℕ → List ℕ → Bool
 all_lists f o s n bytes = all (λ row. f (drop o row)) (rows s n bytes)
-
--- the contents of the cached rows adjoin: the first starts at a, each other one where the one before it ends, and the last ends at e
-unfoldable pub adjoin : ℕ → List (List ℕ) → ℕ → Bool
-adjoin a [] e = eqb a e
-adjoin a (row ∷ more) e = eqb (four_at 40 row) a && adjoin (a + four_at 44 row) more e
 
 -- places and link numbers name rows; contents adjoin, and those of the cached messages add up to what is used of the store
 unfoldable pub laid_out : Head → List (List ℕ) → Bool

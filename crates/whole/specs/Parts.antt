@@ -11,7 +11,8 @@ use Rattle.block.specs.Layout.{table}
 use Rattle.block.specs.View.{settings_of, limits_of, byte_at, four_at, state_of}
 use Rattle.block.specs.declared.head.Head.{Head}
 use Rattle.block.specs.declared.head.Live.{Live}
-use Rattle.whole.specs.Held.{has_tables, counts_within, all_below, places_name, numbers_name, all_lists, adjoin}
+use Rattle.block.specs.Sound.{adjoin}
+use Rattle.whole.specs.Held.{has_tables, counts_within, all_below, places_name, numbers_name, all_lists}
 
 -- links: their peers ascend
 unfoldable pub links_whole : Head → List ℕ → Bool

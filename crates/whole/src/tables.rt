@@ -9,7 +9,8 @@ ghost use Rattle.protocol.specs.Whole.{record_within, noted_once};
 ghost use Rattle.block.specs.View.{state_of};
 ghost use Rattle.block.specs.Fit.{Fit};
 ghost use Rattle.block.specs.LinkSteps.{LinksAscend};
-ghost use Rattle.whole.specs.Held.{all_below, adjoin, all_lists};
+ghost use Rattle.block.specs.Sound.{adjoin};
+ghost use Rattle.whole.specs.Held.{all_below, all_lists};
 ghost use Rattle.whole.specs.Parts.{length_at, graft_list, missed_list, few, links_whole, received_whole, cached_in_order, contents_adjoin, contents_used, cached_whole, grafted_in_order, grafted_peers, grafted_whole, missing_once, announcers, missing_whole, timers_whole, queue_whole, dropped_named, record_whole, tables_whole};
 
 use block::caches::cached::MessageCache;

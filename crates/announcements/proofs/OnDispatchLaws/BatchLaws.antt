@@ -20,11 +20,11 @@ use Rattle.decide.specs.Pieces.{dispatch_batches, back_part}
 use Rattle.decide.proofs.BackPart.{batches-parts}
 use Rattle.decide.proofs.Dispatch.{queued-ascending}
 use Rattle.block.specs.LinkSteps.{peer_at}
-use Rattle.steps.specs.Panels.{AtRest}
-use Rattle.steps.specs.Queue.{note_at}
+use Rattle.block.specs.Panels.{AtRest}
+use Rattle.block.specs.NoteSteps.{note_at}
 use Rattle.steps.specs.Rooms.{room_at}
 use Rattle.steps.proofs.RoomsLaws.{first-link}
-use Rattle.steps.proofs.RowLaws.{per-message}
+use Rattle.block.proofs.NoteRowLaws.{per-message}
 use Rattle.steps.specs.Calls.{rooms_of}
 use Rattle.steps.specs.declared.call.Call.{Call}
 use Rattle.announcements.specs.QueuedRows.{ihave_of, ihaves_at}

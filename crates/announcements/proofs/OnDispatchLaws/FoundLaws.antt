@@ -4,7 +4,7 @@ use Rattle.std.proofs.Common.{◌≡◌, ℕ, ◌+◌, ◌<◌, length, get_or, 
 use borrow.Author.Tests.{eqb-false}
 use Rattle.storage.proofs.ListsLaws.MapLaws.{cases}
 use Rattle.protocol.specs.State.{State}
-use Rattle.steps.specs.Queue.{note_at}
+use Rattle.block.specs.NoteSteps.{note_at}
 use Rattle.announcements.specs.QueuedRows.{held_then}
 use Rattle.announcements.specs.Marks.{Found}
 use Rattle.announcements.proofs.AnnounceLaws.Turns.{zeros}

@@ -15,12 +15,11 @@ use Rattle.protocol.specs.Push.{for_peer}
 use Rattle.protocol.specs.Ticks.{queued_for}
 use Rattle.protocol.specs.Links.{Mark}
 use Rattle.block.specs.LinkSteps.{peer_at}
-use Rattle.block.specs.NoteSteps.{note}
+use Rattle.block.specs.NoteSteps.{note, note_at, Column}
 use Rattle.block.proofs.Scans.{keys-apart}
 use Rattle.steps.specs.Groups.{places, part, Grouped}
-use Rattle.steps.specs.Queue.{note_at, Column}
 use Rattle.steps.proofs.GroupsLaws.PlaceLaws.{hit, miss, places_none}
-use Rattle.steps.proofs.RowLaws.{map-at}
+use Rattle.block.proofs.NoteRowLaws.{map-at}
 use Rattle.announcements.specs.QueuedRows.{ihave_of, ihaves_at, Mine}
 use Rattle.announcements.proofs.OnDispatchLaws.QueueLaws.{queued-more, queued-same, queued-none}
 

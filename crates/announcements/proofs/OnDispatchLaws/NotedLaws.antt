@@ -12,7 +12,7 @@ use Rattle.protocol.specs.State.{Note}
 use Rattle.protocol.specs.Push.{for_peer, notes, record_full}
 use Rattle.protocol.specs.Ticks.{queued_for}
 use Rattle.decide.specs.RecordGrowth.{add_note, add_notes}
-use Rattle.steps.specs.Queue.{note_at}
+use Rattle.block.specs.NoteSteps.{note_at}
 use Rattle.announcements.specs.Marks.{low_of, Covers}
 use Rattle.announcements.specs.QueuedRows.{ihave_of, ihaves_at, notes_at, among, RowsOf}
 use Rattle.announcements.proofs.OnDispatchLaws.MarkLaws.{covers_more}

@@ -13,7 +13,7 @@ use Rattle.postcard.proofs.Listed.{ihave-listed}
 use Rattle.wire.specs.Encode.Intake.{Intake, after, RoomFor}
 use Rattle.wire.proofs.EncodeLaws.IntakeLaws.{after_append, room_after}
 use Rattle.protocol.specs.State.{Note}
-use Rattle.steps.specs.Queue.{note_at}
+use Rattle.block.specs.NoteSteps.{note_at}
 use Rattle.announcements.specs.QueuedRows.{ihave_of, ihaves_at, RowsOf}
 
 module _ (ns : List Note) (rows : List ℕ) where

@@ -5,7 +5,7 @@ use Rattle.std.proofs.Math.Seq.{take_all}
 use Rattle.storage.proofs.ListsLaws.MapLaws.{and_left, and_right}
 use Rattle.storage.specs.Lists.Map.{keys}
 use Rattle.protocol.specs.Links.{Links}
-use Rattle.protocol.specs.State.{State, Note, with_dropped, with_queue, with_dispatch_scheduled}
+use Rattle.protocol.specs.State.{State, Note, with_dropped, with_queue, with_dispatch_scheduled, with_announce_scheduled}
 use Rattle.protocol.specs.Ticks.{per_message, queued_peers}
 use Rattle.protocol.specs.Whole.{fits, content_held}
 use Rattle.protocol.specs.Consistent.{Flagged}
@@ -16,9 +16,8 @@ use Rattle.decide.specs.Sizes.{Sizes, sizes_of, sized_queued, sized_recorded}
 use Rattle.decide.specs.StateAfter.{recorded_state, dispatch_state}
 use Rattle.decide.proofs.StateLaws.{flag-stands}
 use Rattle.storage.specs.Lists.Base.{is_empty}
-use Rattle.protocol.specs.State.{with_announce_scheduled}
 use Rattle.steps.specs.Calls.{rooms_of}
-use Rattle.steps.specs.Panels.{standing}
+use Rattle.block.specs.NoteSteps.{standing}
 use Rattle.steps.specs.Shared.{sizes_value}
 use Rattle.steps.specs.declared.Sizes.{Sizes as CodeSizes}
 use Rattle.steps.specs.declared.call.Call.{Call}

@@ -4,7 +4,7 @@ ghost use Rattle.std.proofs.Props.{props};
 ghost use Rattle.storage.specs.Lists.Base.{concat_map};
 ghost use Rattle.postcard.specs.Message.{IHave, ihave_bytes, message_bytes};
 ghost use Rattle.wire.specs.Encode.Intake.{after};
-ghost use Rattle.steps.specs.Views.{shown};
+ghost use Rattle.block.specs.Views.{shown};
 ghost use Rattle.announcements.specs.QueuedRows.{ihaves_at, RowsOf};
 
 use postcard::message::Ihave;

@@ -3,9 +3,9 @@ ghost use Rattle.std.specs.Prelude.{◌≡◌, ◌+◌, ◌≤◌, ◌<◌, true
 ghost use Rattle.decide.specs.Sizes.{sizes_of};
 ghost use Rattle.decide.specs.Settled.{settled};
 ghost use Rattle.wire.specs.Encode.Intake.{after};
-ghost use Rattle.steps.specs.Panels.{state, Goes, AtRest, Allowed};
+ghost use Rattle.block.specs.Panels.{state, Goes, AtRest, Allowed};
 ghost use Rattle.steps.specs.Shared.{sizes_value};
-ghost use Rattle.steps.specs.Views.{shown};
+ghost use Rattle.block.specs.Views.{shown};
 ghost use Rattle.announcements.specs.OnDispatchTimer.{after_dispatch, dispatch_bytes};
 ghost use Rattle.announcements.specs.QueuedRows.{noted_again, back_noted, RowsOf};
 

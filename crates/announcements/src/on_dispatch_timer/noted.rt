@@ -7,9 +7,9 @@ ghost use Rattle.decide.specs.Pieces.{dispatch_batches};
 ghost use Rattle.block.specs.LinkSteps.{peer_at};
 ghost use Rattle.steps.specs.Calls.{rooms_of};
 ghost use Rattle.steps.specs.Groups.{Apart, part};
-ghost use Rattle.steps.specs.Panels.{AtRest};
-ghost use Rattle.steps.specs.Queue.{note_at};
-ghost use Rattle.steps.specs.Views.{shown};
+ghost use Rattle.block.specs.Panels.{AtRest};
+ghost use Rattle.block.specs.NoteSteps.{note_at};
+ghost use Rattle.block.specs.Views.{shown};
 ghost use Rattle.announcements.specs.Marks.{low_of, Covers, Found};
 ghost use Rattle.announcements.specs.QueuedRows.{held_then, ihaves_at, notes_at, among, RowsOf, Mine, LinkPart};
 

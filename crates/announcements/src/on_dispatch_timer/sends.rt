@@ -9,8 +9,8 @@ ghost use Rattle.decide.specs.Pieces.{peer_pieces, piece_actions};
 ghost use Rattle.block.specs.LinkSteps.{peer_at};
 ghost use Rattle.wire.specs.Encode.Intake.{after};
 ghost use Rattle.steps.specs.Calls.{rooms_of};
-ghost use Rattle.steps.specs.Panels.{AtRest};
-ghost use Rattle.steps.specs.Views.{shown};
+ghost use Rattle.block.specs.Panels.{AtRest};
+ghost use Rattle.block.specs.Views.{shown};
 ghost use Rattle.announcements.specs.OnDispatchTimer.{dispatch_bytes};
 ghost use Rattle.announcements.specs.QueuedRows.{held_then, some_held, one_send, flag_after, flag_after_all, ihaves_at, RowsOf, Mine};
 

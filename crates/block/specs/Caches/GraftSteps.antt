@@ -1,13 +1,17 @@
 -- What is read from a grafted message, and the steps on it.
 -- Assumes nothing.
-use Rattle.std.specs.Prelude.{ℕ, ◌<◌, ◌≡◌, List, [], get_or, Some, None}
-use Rattle.storage.specs.Lists.Map.{Map, Entry, entry}
-use Rattle.time_cache.specs.TimeCache.{Timed, replace}
-use Rattle.protocol.specs.State.{State, Grafts, with_grafted}
-use Rattle.block.specs.View.{state_of}
+use Rattle.std.specs.Prelude.{ℕ, ◌<◌, ◌≡◌, true, [], length, get_or, Option, Some, None, option_map}
+use Rattle.storage.specs.Lists.Base.{all, ascending}
+use Rattle.storage.specs.Lists.Map.{Map, Entry, entry, keys, lookup, insert}
+use Rattle.time_cache.specs.TimeCache.{Timed, get, put, replace}
+use Rattle.protocol.specs.State.{State, Grafts, Hop, with_grafted}
+use Rattle.protocol.specs.Whole.{grafts_whole}
+use Rattle.protocol.specs.Control.{lower, with_graft}
 use Rattle.block.specs.LinkSteps.{peer_at}
-use Rattle.block.specs.declared.head.Head.{Head}
+use Rattle.block.specs.MissingSteps.{hop}
+use Rattle.block.specs.Caches.InBlock.{InOrder}
 use Rattle.block.specs.declared.hops.Hop.{Hop as LinkHop}
+use Rattle.block.specs.declared.caches.grafted.FirstCopy.{FirstCopy}
 
 -- grafted message i
 abbrev pub grafted_at : State → ℕ → Entry (Timed Grafts)
@@ -18,9 +22,19 @@ abbrev pub grafts_at : State → ℕ → Grafts
 grafts_at s i = (grafted_at s i).value.value
 
 -- peer j of the grafts, by the number of its link
-pub record GraftIs (h : Head) (block : List ℕ) (peers : Map ℕ) (j : ℕ) (r : LinkHop) : Type 0 where
-  pub below : r.link < h.live.links
-  pub same : get_or peers j (entry 0 0) ≡ entry (peer_at (state_of h block) r.link) r.round.0
+pub record GraftIs (s : State) (peers : Map ℕ) (j : ℕ) (r : LinkHop) : Type 0 where
+  pub below : r.link < length s.links
+  pub same : get_or peers j (entry 0 0) ≡ entry (peer_at s r.link) r.round.0
+
+-- the first copy
+abbrev pub first_value : Option FirstCopy → Option Hop
+first_value = option_map (λ f. hop f.sender f.round.0)
+
+-- a part of being whole: the links ascend, the grafted messages are in order, and the peers of each ascend and are neighbours
+pub record Grafting (s : State) : Type 0 where
+  pub links_up : ascending (keys s.links) ≡ true
+  pub order : InOrder s.grafted
+  pub whole : all (grafts_whole s.links) s.grafted.entries ≡ true
 
 -- "set a grafted entry's `first` to sender and r"
 abbrev pub first_at : ℕ → ℕ → ℕ → State → State
@@ -29,3 +43,29 @@ first_at i p r s = with_grafted (replace (grafted_at s i).key (record { first = 
 -- the entry's `kept` is the sender
 abbrev pub kept_at : ℕ → ℕ → State → State
 kept_at i p s = with_grafted (replace (grafted_at s i).key (record { first = (grafts_at s i).first; kept = Some p; peers = (grafts_at s i).peers }) s.grafted) s
+
+-- the grafted message i with other peers
+abbrev pub peers_to : ℕ → Map ℕ → State → State
+peers_to i m s = with_grafted (replace (grafted_at s i).key (record { first = (grafts_at s i).first; kept = (grafts_at s i).kept; peers = m }) s.grafted) s
+
+-- the peers of the grafted message i with a peer's round, the lower where it has one
+abbrev pub peers_with : ℕ → ℕ → ℕ → State → Map ℕ
+peers_with i p r s = insert p (lower (lookup p (grafts_at s i).peers) r) (grafts_at s i).peers
+
+-- the grafts of a new entry
+abbrev pub no_grafts : Grafts
+no_grafts = record { first = None; kept = None; peers = [] }
+
+-- a new entry, for which no peer is grafted yet
+abbrev pub entered_state : ℕ → ℕ → State → State
+entered_state id expires s = with_grafted (put id no_grafts expires s.grafted) s
+
+-- where a new entry stands
+pub record EnteredAt (id : ℕ) (s : State) (i : ℕ) : Type 0 where
+  pub below : i < length s.grafted.entries
+  pub key : (grafted_at s i).key ≡ id
+  pub none : grafts_at s i ≡ no_grafts
+
+-- the Graft goes into the entry of its identifier, or a new entry
+abbrev pub graft_noted : ℕ → ℕ → ℕ → ℕ → State → State
+graft_noted id link round expires s = with_grafted (with_graft id expires (hop (peer_at s link) round) (get id s.grafted) s.grafted) s

@@ -1,15 +1,8 @@
 // `cache`, the message cache: an entry is a place and a round; a row is a time, an identifier, and start and length of the content.
-ghost use Rattle.std.specs.Prelude.{◌≡◌, ◌<◌, not, All, map};
-ghost use Rattle.storage.specs.Rows.Ident.{id_of};
-ghost use Rattle.storage.specs.Lists.Base.{is_empty};
-ghost use Rattle.time_cache.specs.TimeCache.{due, expired_keys};
-ghost use Rattle.block.specs.View.{state_of};
-ghost use Rattle.block.specs.Sound.{Sound};
-ghost use Rattle.block.specs.Caches.CachedReads.{ContentIs, cached_at, row_id};
-ghost use Rattle.block.specs.Caches.InBlock.{InOrder};
-
+use crate::caches::contents;
 use crate::head;
 use crate::head::Head;
+use crate::panel::{Panel, View};
 use crate::time_caches::PanelCache;
 use arrayvec::ArrayVec;
 use postcard::units::{Millis, Round};
@@ -20,7 +13,7 @@ use time_cache::cache::{Table, TimeBoundCache};
 // How many bytes an entry has, and where its round stands.
 pub const ENTRY_WIDTH: usize = 4;
 
-const ROUND: usize = 2;
+pub const ROUND: usize = 2;
 
 // How many bytes an expiry row has, and where start and length of the content stand.
 pub const ROW_WIDTH: usize = 48;
@@ -33,6 +26,13 @@ pub const LEN: usize = 44;
 pub const MAX_CACHED: usize = 512;
 
 const MAX_CACHED_ROWS: usize = 1024;
+
+// A message as it is cached: its content, and the round at which it is sent on.
+#[derive(Clone, Copy)]
+pub struct CachedMessage<'a> {
+    pub content: &'a [u8],
+    pub round: Round,
+}
 
 // The message cache.
 pub struct MessageCache;
@@ -49,7 +49,7 @@ impl PanelCache for MessageCache {
 
     // Tables 4 and 5.
     #[tactic(auto, using(crate::proofs::CachesLaws::CachedLaws::cached_stands))]
-    fn table(head: Head) -> TimeBoundCache {
+    fn table(head: &Head) -> TimeBoundCache {
         let entries = Table {
             at: head::cached_at(head.limits),
             stride: ENTRY_WIDTH,
@@ -64,56 +64,142 @@ impl PanelCache for MessageCache {
     }
 }
 
-// Where the content of a cached message stands among the contents: table 6.
-#[derive(Clone, Copy)]
-pub struct Extent {
-    pub start: usize,
-    pub len: usize,
-}
+impl<'a> View<'a> {
+    ghost use Rattle.std.specs.Prelude.{◌≡◌, ◌<◌, not, All, map, length};
+    ghost use Rattle.storage.specs.Rows.Ident.{id_of};
+    ghost use Rattle.storage.specs.Lists.Base.{is_empty};
+    ghost use Rattle.time_cache.specs.TimeCache.{holds, get, due, expired_keys};
+    ghost use Rattle.block.specs.Caches.CachedReads.{cached_at, row_id, RoundOf};
+    ghost use Rattle.block.specs.Caches.InBlock.{InOrder};
+    ghost use Rattle.block.specs.Views.{shown};
 
-// The content of cached message i: start and length in the row that its entry names.
-pub fn cached_content(head: Head, block: &[u8], i: usize) -> Extent
-    requires { Sound head block.now × (i < head.live.cached) }
-    ensures { ContentIs head block.now i result }
-{
-    let place = MessageCache::table(head).place(block, i);
-    let at = head::cached_rows_at(head.limits) + ROW_WIDTH * place;
-    Extent {
-        start: word::load4(block, at + START) as usize,
-        len: word::load4(block, at + LEN) as usize,
+    // Whether a message is cached. Its time is that of a look-up in a time cache.
+    pub fn is_cached(&self, id: Id) -> bool
+        requires { InOrder (shown self.now).cache }
+        ensures { result ≡ holds (id_of id) (shown self.now).cache }
+    {
+        MessageCache::contains_key(self, id)
+    }
+
+    // The content of a cached message, where it stands in the block.
+    pub fn cached_content(&self, entry: usize) -> &'a [u8]
+        requires { entry < length (shown self.now).cache.entries }
+        ensures { result.now ≡ (cached_at (shown self.now) entry).content }
+    {
+        let place = MessageCache::table(self.head).place(self.block, entry);
+        let row = head::cached_rows_at(self.head.limits) + ROW_WIDTH * place;
+        let start = word::load4(self.block, row + START) as usize;
+        let len = word::load4(self.block, row + LEN) as usize;
+        let at = head::contents_at(self.head.limits) + start;
+        &self.block[at..at + len]
+    }
+
+    // The round at which a cached message is sent on.
+    pub fn cached_round(&self, entry: usize) -> Round
+        requires { entry < length (shown self.now).cache.entries }
+        ensures { result.0 ≡ (cached_at (shown self.now) entry).round }
+    {
+        let at = head::cached_at(self.head.limits) + ENTRY_WIDTH * entry;
+        Round(word::load2(self.block, at + ROUND) as u16)
+    }
+
+    // The round of the cached message of an identifier. Its time is that of a look-up in a time cache.
+    pub fn round_of_cached(&self, id: Id) -> Option<Round>
+        requires { InOrder (shown self.now).cache }
+        ensures { RoundOf result (get (id_of id) (shown self.now).cache) }
+    {
+        match MessageCache::find(self, id) {
+            Ok(entry) => Some(self.cached_round(entry)),
+            Err(_) => None,
+        }
+    }
+
+    // Whether a row of the message cache is due at an instant; where none is, `expire_until` removes no identifier.
+    pub fn is_any_due(&self, instant: Millis) -> bool
+        requires { InOrder (shown self.now).cache }
+        ensures { result ≡ not (is_empty (due instant.0 (shown self.now).cache.expiry)) }
+    {
+        MessageCache::table(self.head).is_due(self.block, instant)
+    }
+
+    // The rows whose identifiers `expire_until` removes at an instant, "in order of removal". Its time is that of a pass over the entries and the rows that are due.
+    pub fn forgotten_rows(&self, instant: Millis) -> ArrayVec<u16, MAX_CACHED>
+        requires { InOrder (shown self.now).cache }
+        ensures keys { map (row_id self.now.head.now self.now.block.now) result.items ≡ expired_keys instant.0 (shown self.now).cache }
+        ensures rows { All (λ r. r < self.now.head.now.live.cached_rows) result.items }
+    {
+        let cache = MessageCache::table(self.head);
+        cache.expired_rows::<MAX_CACHED, MAX_CACHED_ROWS>(self.block, instant)
+    }
+
+    // The identifier of a row.
+    pub fn row_id(&self, row: usize) -> Id
+        requires { row < self.now.head.now.live.cached_rows }
+        ensures { id_of result ≡ row_id self.now.head.now self.now.block.now row }
+    {
+        MessageCache::table(self.head).key_at(self.block, row)
     }
 }
 
-// The round at which cached message i is sent on.
-pub fn cached_round(head: Head, block: &[u8], i: usize) -> Round
-    requires { Sound head block.now × (i < head.live.cached) }
-    ensures { result.0 ≡ (cached_at (state_of head block.now) i).round }
-{
-    let at = head::cached_at(head.limits) + ENTRY_WIDTH * i;
-    Round(word::load2(block, at + ROUND) as u16)
-}
+impl<'a> Panel<'a> {
+    ghost use Rattle.std.specs.Prelude.{◌≡◌, ◌≤◌, []};
+    ghost use Rattle.storage.specs.Rows.Ident.{id_of};
+    ghost use Rattle.time_cache.specs.TimeCache.{put};
+    ghost use Rattle.block.specs.Sound.{held};
+    ghost use Rattle.block.specs.Caches.InBlock.{InOrder, AtMost};
+    ghost use Rattle.block.specs.Contents.CacheSteps.{cached_left, cached_also, message, refill, refilled};
+    ghost use Rattle.block.specs.Panels.{state, Goes};
 
-// Whether a row of the message cache is due at an instant; where none is, `expire_until` removes no identifier.
-pub fn is_any_due(head: Head, block: &[u8], instant: Millis) -> bool
-    requires { Sound head block.now × InOrder (state_of head block.now).cache }
-    ensures { result ≡ not (is_empty (due instant.0 (state_of head block.now).cache.expiry)) }
-{
-    MessageCache::table(head).is_due(block, instant)
-}
+    // `expire_until` of the message cache: "pops entries with time ≤ the instant". The contents of the rows that go are the first of the contents. Its time is
+    // that of a search by halving where nothing is due, and else that of one pass over entries, rows and contents.
+    pub fn expire_cached(&mut self, instant: Millis)
+        requires { InOrder (state self.old).cache }
+        ensures { Goes (cached_left instant.0) self.old self.new }
+    {
+        let cache = MessageCache::table(&self.head);
+        let expired = cache.expire_until(self.block, instant, &mut []);
+        let mut head = self.head;
+        head.live.cached = expired.cache.entries.len;
+        head.live.cached_rows = expired.cache.expiry.len;
+        self.head = contents::close_contents(head, self.block);
+    }
 
-// The rows whose identifiers `expire_until` removes at an instant, "in order of removal". Its time is that of a pass over the entries and the rows that are due.
-pub fn forgotten_rows(head: Head, block: &[u8], instant: Millis) -> ArrayVec<u16, MAX_CACHED>
-    requires { Sound head block.now × InOrder (state_of head block.now).cache }
-    ensures keys { map (row_id head block.now) result.items ≡ expired_keys instant.0 (state_of head block.now).cache }
-    ensures rows { All (λ r. r < head.live.cached_rows) result.items }
-{
-    MessageCache::table(head).expired_rows::<MAX_CACHED, MAX_CACHED_ROWS>(block, instant)
-}
+    // Gives a cached message another content, and leaves a message that is not cached. Its time is that of one pass over the contents and the rows behind it.
+    fn set_content(&mut self, id: Id, content: &[u8])
+        requires order { InOrder (state self.old).cache }
+        requires room { held (refill (id_of id) content.now (state self.old).cache).entries ≤ (state self.old).limits.B }
+        ensures { Goes (refilled (id_of id) content.now) self.old self.new }
+    {
+        if let Ok(entry) = MessageCache::find(&self.view(), id) {
+            let place = MessageCache::table(&self.head).place(self.block, entry);
+            self.head = contents::resize_row(self.head, self.block, place, content);
+        }
+    }
 
-// The identifier of a row.
-pub fn row_id(head: Head, block: &[u8], row: usize) -> Id
-    requires { Sound head block.now × (row < head.live.cached_rows) }
-    ensures { id_of result ≡ row_id head block.now row }
-{
-    MessageCache::table(head).key_at(block, row)
+    // Puts a message in without its content: requires that no content is left of an entry that it overwrites.
+    fn insert_empty(&mut self, id: Id, round: Round, expires: Millis)
+        requires order { InOrder (state self.old).cache }
+        requires room { AtMost (state self.old).limits.C (put (id_of id) (message [] round.0) expires.0 (state self.old).cache) }
+        requires empty { held (put (id_of id) (message [] round.0) expires.0 (state self.old).cache).entries ≡ held (state self.old).cache.entries }
+        ensures { Goes (cached_also (id_of id) [] round.0 expires.0) self.old self.new }
+    {
+        let cache = MessageCache::table(&self.head);
+        let inserted = cache.insert(self.block, id, expires);
+        self.head.live.cached = inserted.cache.entries.len;
+        self.head.live.cached_rows = inserted.cache.expiry.len;
+        let start = contents::start_of(self.head, self.block, inserted.row + 1);
+        contents::store_empty(self.head, self.block, inserted, start, round);
+    }
+
+    // "cache at" a round, until `expires`: requires that what it leaves is within the limits. Its time is that of one pass over entries, rows and contents.
+    pub fn insert_cached(&mut self, id: Id, cached: CachedMessage, expires: Millis)
+        requires order { InOrder (state self.old).cache }
+        requires room { AtMost (state self.old).limits.C (put (id_of id) (message cached.content.now cached.round.0) expires.0 (state self.old).cache) }
+        requires bytes { held (put (id_of id) (message cached.content.now cached.round.0) expires.0 (state self.old).cache).entries ≤ (state self.old).limits.B }
+        ensures { Goes (cached_also (id_of id) cached.entry.content.now cached.entry.round.0 expires.0) self.old self.new }
+    {
+        self.set_content(id, &cached.content[0..0]);
+        self.insert_empty(id, cached.round, expires);
+        self.set_content(id, cached.content);
+    }
 }

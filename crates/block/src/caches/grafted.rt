@@ -1,16 +1,16 @@
 // `grafted`: an entry is a place, first, kept, and the grafted peers with their rounds; a row is a time and an identifier.
-ghost use Rattle.std.specs.Prelude.{◌≡◌, ◌≤◌, ◌<◌, length};
-ghost use Rattle.block.specs.View.{state_of};
-ghost use Rattle.block.specs.Sound.{Sound};
-ghost use Rattle.block.specs.Goes.{Goes};
-ghost use Rattle.block.specs.Caches.InBlock.{InOrder, grafted_left};
-ghost use Rattle.block.specs.Caches.GraftSteps.{grafts_at, GraftIs, first_at, kept_at};
+ghost use Rattle.std.specs.Prelude.{◌≡◌, ◌+◌, ◌*◌, ◌<◌};
+ghost use Rattle.block.specs.Layout.{place};
+ghost use Rattle.block.specs.View.{limits_of};
+ghost use Rattle.block.specs.Fit.{Ceilings};
 
 use crate::head::Head;
 use crate::hops::Hop;
+use crate::panel::{Panel, View};
 use crate::time_caches::PanelCache;
 use crate::{head, hops};
 use postcard::units::{Millis, Round};
+use storage::rows::id::Id;
 use storage::rows::word;
 use time_cache::cache::{Table, TimeBoundCache};
 
@@ -33,6 +33,13 @@ pub const PEERS: usize = 22;
 // How many bytes an expiry row has.
 pub const ROW_WIDTH: usize = 40;
 
+// The sender of a first copy, and its round.
+#[derive(Clone, Copy)]
+pub struct FirstCopy {
+    pub sender: u64,
+    pub round: Round,
+}
+
 // The grafted messages.
 pub struct GraftedMessages;
 
@@ -48,7 +55,7 @@ impl PanelCache for GraftedMessages {
 
     // Tables 7 and 8.
     #[tactic(auto, using(crate::proofs::CachesLaws::GraftedLaws::grafted_stands))]
-    fn table(head: Head) -> TimeBoundCache {
+    fn table(head: &Head) -> TimeBoundCache {
         let entries = Table {
             at: head::grafted_at(head.limits),
             stride: ENTRY_WIDTH,
@@ -63,52 +70,236 @@ impl PanelCache for GraftedMessages {
     }
 }
 
-// `expire_until` of the grafted messages.
-pub fn expire_grafted(mut head: Head, block: &mut [u8], instant: Millis) -> Head
-    requires { Sound head block.old × InOrder (state_of head block.old).grafted }
-    ensures { Goes (grafted_left instant.0) head block.old result block.new }
+// Where the grafted message i stands.
+fn entry_at(head: &Head, i: usize) -> usize
+    requires { Ceilings (limits_of head.now.limits) × (i < 512) }
+    ensures { result ≡ place (limits_of head.now.limits) 7 + 119 * i }
 {
-    let expired = GraftedMessages::table(head).expire_until(block, instant, &mut []);
-    head.live.grafted = expired.cache.entries.len;
-    head.live.grafted_rows = expired.cache.expiry.len;
-    head
+    head::grafted_at(head.limits) + ENTRY_WIDTH * i
 }
 
-// How many peers are grafted for the grafted message i.
-pub fn graft_count(head: Head, block: &[u8], i: usize) -> usize
-    requires { Sound head block.now × (i < head.live.grafted) }
-    ensures { (result ≡ length (grafts_at (state_of head block.now) i).peers) × (result ≤ 32) }
-{
-    let at = head::grafted_at(head.limits) + ENTRY_WIDTH * i + PEERS;
-    hops::count(block, at)
+impl<'a> View<'a> {
+    ghost use Rattle.std.specs.Prelude.{◌≡◌, ◌≤◌, ◌<◌, leb, length};
+    ghost use Rattle.storage.specs.Lists.Base.{any};
+    ghost use Rattle.storage.specs.Lists.Map.{keys, has};
+    ghost use Rattle.storage.specs.Rows.Sorted.{FoundIs};
+    ghost use Rattle.protocol.specs.Gossips.{same_as};
+    ghost use Rattle.block.specs.LinkSteps.{peer_at};
+    ghost use Rattle.block.specs.Caches.GraftSteps.{grafts_at, GraftIs, Grafting, first_value};
+    ghost use Rattle.block.specs.Views.{shown};
+
+    // How many peers are grafted for a grafted message.
+    pub fn graft_count(&self, entry: usize) -> usize
+        requires { entry < length (shown self.now).grafted.entries }
+        ensures { (result ≡ length (grafts_at (shown self.now) entry).peers) × (result ≤ 32) }
+    {
+        hops::count(self.block, entry_at(self.head, entry) + PEERS)
+    }
+
+    // A peer that is grafted for a grafted message, by the number of its link, and its round.
+    pub fn graft(&self, entry: usize, number: usize) -> Hop
+        requires { (entry < length (shown self.now).grafted.entries) × (number < length (grafts_at (shown self.now) entry).peers) }
+        ensures { GraftIs (shown self.now) (grafts_at (shown self.now) entry).peers number result }
+    {
+        hops::hop_at(self.block, entry_at(self.head, entry) + PEERS, number)
+    }
+
+    // The first copy of a grafted message, if it came.
+    pub fn first_copy(&self, entry: usize) -> Option<FirstCopy>
+        requires { entry < length (shown self.now).grafted.entries }
+        ensures { first_value result ≡ (grafts_at (shown self.now) entry).first }
+    {
+        let at = entry_at(self.head, entry);
+        if self.block[at + FIRST] == 0 {
+            return None;
+        }
+        Some(FirstCopy {
+            sender: word::load(self.block, at + FIRST_PEER),
+            round: Round(word::load2(self.block, at + FIRST_ROUND) as u16),
+        })
+    }
+
+    // The peer that is kept for a grafted message, for a faster copy, if there is one.
+    pub fn kept_sender(&self, entry: usize) -> Option<u64>
+        requires { entry < length (shown self.now).grafted.entries }
+        ensures { result ≡ (grafts_at (shown self.now) entry).kept }
+    {
+        let at = entry_at(self.head, entry);
+        if self.block[at + KEPT] == 0 {
+            return None;
+        }
+        Some(word::load(self.block, at + KEPT_PEER))
+    }
+
+    // Whether a peer is the one that is kept for a grafted message.
+    pub fn is_kept(&self, entry: usize, peer: u64) -> bool
+        requires { entry < length (shown self.now).grafted.entries }
+        ensures { result ≡ same_as peer (grafts_at (shown self.now) entry).kept }
+    {
+        self.kept_sender(entry) == Some(peer)
+    }
+
+    // Where the peer of a link stands among those that are grafted for a grafted message, or before which it would stand. Its time is that of one pass over these peers, at
+    // most 32.
+    fn find_graft(&self, entry: usize, link: usize) -> Result<usize, usize>
+        requires { Grafting (shown self.now) × (entry < length (shown self.now).grafted.entries) × (link < length (shown self.now).links) }
+        ensures { FoundIs (keys (grafts_at (shown self.now) entry).peers) (peer_at (shown self.now) link) result }
+    {
+        let n = self.graft_count(entry);
+        for j in 0..n {
+            let graft = self.graft(entry, j);
+            if graft.link == link {
+                return Ok(j);
+            }
+            if link < graft.link {
+                return Err(j);
+            }
+        }
+        Err(n)
+    }
+
+    // Whether the peer of a link is grafted for a grafted message. Its time is that of one pass over these peers, at most 32.
+    pub fn is_grafted(&self, entry: usize, link: usize) -> bool
+        requires { Grafting (shown self.now) × (entry < length (shown self.now).grafted.entries) × (link < length (shown self.now).links) }
+        ensures { result ≡ has (peer_at (shown self.now) link) (grafts_at (shown self.now) entry).peers }
+    {
+        self.find_graft(entry, link).is_ok()
+    }
+
+    // Whether a peer is grafted for a grafted message over no more hops than `round`. Its time is that of one pass over these peers, at most 32.
+    pub fn is_grafted_within(&self, entry: usize, round: Round) -> bool
+        requires { entry < length (shown self.now).grafted.entries }
+        ensures { result ≡ any (λ e. leb e.value round.0) (grafts_at (shown self.now) entry).peers }
+    {
+        for j in 0..self.graft_count(entry) {
+            if self.graft(entry, j).round.0 <= round.0 {
+                return true;
+            }
+        }
+        false
+    }
 }
 
-// Peer j of the grafted message i, by the number of its link, and its round.
-pub fn graft_at(head: Head, block: &[u8], i: usize, j: usize) -> Hop
-    requires { Sound head block.now × (i < head.live.grafted) × (j < length (grafts_at (state_of head block.now) i).peers) }
-    ensures { GraftIs head block.now (grafts_at (state_of head block.now) i).peers j result }
-{
-    let at = head::grafted_at(head.limits) + ENTRY_WIDTH * i + PEERS;
-    hops::hop_at(block, at, j)
-}
+impl<'a> Panel<'a> {
+    ghost use Rattle.std.specs.Prelude.{◌≡◌, ◌<◌, [], ◌∷◌, length};
+    ghost use Rattle.storage.specs.Lists.Map.{keys, entry};
+    ghost use Rattle.storage.specs.Rows.Ident.{id_of};
+    ghost use Rattle.storage.specs.Rows.Sorted.{Between, Here};
+    ghost use Rattle.time_cache.specs.TimeCache.{put};
+    ghost use Rattle.protocol.specs.State.{with_grafted};
+    ghost use Rattle.block.specs.LinkSteps.{peer_at};
+    ghost use Rattle.block.specs.Caches.InBlock.{InOrder, AtMost, grafted_left};
+    ghost use Rattle.block.specs.Caches.GraftSteps.{grafted_at, grafts_at, first_at, kept_at, Grafting, peers_to, peers_with, no_grafts, entered_state, EnteredAt, graft_noted};
+    ghost use Rattle.block.specs.Panels.{state, Goes};
 
-// "set a grafted entry's `first` to sender and r": of the grafted message i.
-pub fn set_first(head: Head, block: &mut [u8], i: usize, peer: u64, round: Round)
-    requires { Sound head block.old × InOrder (state_of head block.old).grafted × (i < head.live.grafted) }
-    ensures { Goes (first_at i peer round.0) head block.old head block.new }
-{
-    let at = head::grafted_at(head.limits) + ENTRY_WIDTH * i;
-    block[at + FIRST] = 1;
-    word::store(block, at + FIRST_PEER, peer);
-    word::store_le(block, at + FIRST_ROUND, 2, round.0 as u64);
-}
+    // `expire_until` of the grafted messages.
+    pub fn expire_grafted(&mut self, instant: Millis)
+        requires { InOrder (state self.old).grafted }
+        ensures { Goes (grafted_left instant.0) self.old self.new }
+    {
+        let cache = GraftedMessages::table(&self.head);
+        let expired = cache.expire_until(self.block, instant, &mut []);
+        self.head.live.grafted = expired.cache.entries.len;
+        self.head.live.grafted_rows = expired.cache.expiry.len;
+    }
 
-// The entry's `kept` is the sender: of the grafted message i.
-pub fn set_kept(head: Head, block: &mut [u8], i: usize, peer: u64)
-    requires { Sound head block.old × InOrder (state_of head block.old).grafted × (i < head.live.grafted) }
-    ensures { Goes (kept_at i peer) head block.old head block.new }
-{
-    let at = head::grafted_at(head.limits) + ENTRY_WIDTH * i;
-    block[at + KEPT] = 1;
-    word::store(block, at + KEPT_PEER, peer);
+    // "set a grafted entry's `first` to sender and r".
+    pub fn set_first(&mut self, entry: usize, sender: u64, round: Round)
+        requires { InOrder (state self.old).grafted × (entry < length (state self.old).grafted.entries) }
+        ensures { Goes (first_at entry sender round.0) self.old self.new }
+    {
+        let at = entry_at(&self.head, entry);
+        self.block[at + FIRST] = 1;
+        word::store(self.block, at + FIRST_PEER, sender);
+        word::store_le(self.block, at + FIRST_ROUND, 2, round.0 as u64);
+    }
+
+    // A peer is kept for a grafted message.
+    pub fn keep_sender(&mut self, entry: usize, peer: u64)
+        requires { InOrder (state self.old).grafted × (entry < length (state self.old).grafted.entries) }
+        ensures { Goes (kept_at entry peer) self.old self.new }
+    {
+        let at = entry_at(&self.head, entry);
+        self.block[at + KEPT] = 1;
+        word::store(self.block, at + KEPT_PEER, peer);
+    }
+
+    // A peer more of a grafted message, before its peer j.
+    fn insert_graft(&mut self, i: usize, j: usize, hop: Hop)
+        requires grafting { Grafting (state self.old) }
+        requires there { (i < length (state self.old).grafted.entries) × (hop.link < length (state self.old).links) }
+        requires place { Between (keys (grafts_at (state self.old) i).peers) (peer_at (state self.old) hop.link) j }
+        ensures { Goes (λ s. peers_to i (peers_with i (peer_at s hop.link) hop.round.0 s) s) self.old self.new }
+    {
+        let at = entry_at(&self.head, i) + PEERS;
+        hops::insert_hop(self.block, at, j, hop);
+    }
+
+    // The round of peer j of a grafted message: the lower of the known one and a new one.
+    fn lower_graft(&mut self, i: usize, j: usize, hop: Hop)
+        requires grafting { Grafting (state self.old) }
+        requires there { (i < length (state self.old).grafted.entries) × (hop.link < length (state self.old).links) }
+        requires place { Here (keys (grafts_at (state self.old) i).peers) (peer_at (state self.old) hop.link) j }
+        ensures { Goes (λ s. peers_to i (peers_with i (peer_at s hop.link) hop.round.0 s) s) self.old self.new }
+    {
+        if self.view().graft(i, j).round.0 <= hop.round.0 {
+            return;
+        }
+        let at = entry_at(&self.head, i) + PEERS;
+        hops::set_round(self.block, at, j, hop.round);
+    }
+
+    // The peer of a link is grafted for a message that has an entry.
+    fn graft_again(&mut self, i: usize, hop: Hop)
+        requires grafting { Grafting (state self.old) }
+        requires there { (i < length (state self.old).grafted.entries) × (hop.link < length (state self.old).links) }
+        ensures { Goes (λ s. peers_to i (peers_with i (peer_at s hop.link) hop.round.0 s) s) self.old self.new }
+    {
+        match self.view().find_graft(i, hop.link) {
+            Ok(j) => self.lower_graft(i, j, hop),
+            Err(j) => self.insert_graft(i, j, hop),
+        }
+    }
+
+    // A new entry, for which no peer is grafted yet: its number. Its time is that of an insert into a time cache.
+    fn enter_graft(&mut self, id: Id, expires: Millis) -> usize
+        requires order { InOrder (state self.old).grafted }
+        requires room { AtMost (state self.old).limits.G (put (id_of id) no_grafts expires.0 (state self.old).grafted) }
+        ensures goes { Goes (entered_state (id_of id) expires.0) self.old self.new }
+        ensures entry { EnteredAt (id_of id) (state self.new) result }
+    {
+        let cache = GraftedMessages::table(&self.head);
+        let inserted = cache.insert(self.block, id, expires);
+        let at = entry_at(&self.head, inserted.entry) + FIRST;
+        word::store_le(self.block, at, PEERS + 1 - FIRST, 0);
+        self.head.live.grafted = inserted.cache.entries.len;
+        self.head.live.grafted_rows = inserted.cache.expiry.len;
+        inserted.entry
+    }
+
+    // A new entry, for which the peer of a link is grafted.
+    fn graft_new(&mut self, id: Id, hop: Hop, expires: Millis)
+        requires order { InOrder (state self.old).grafted }
+        requires link { hop.link < length (state self.old).links }
+        requires room { AtMost (state self.old).limits.G (put (id_of id) no_grafts expires.0 (state self.old).grafted) }
+        ensures { Goes (λ s. with_grafted (put (id_of id) (record { first = no_grafts.first; kept = no_grafts.kept; peers = entry (peer_at s hop.link) hop.round.0 ∷ [] }) expires.0 s.grafted) s) self.old self.new }
+    {
+        let i = self.enter_graft(id, expires);
+        let at = entry_at(&self.head, i) + PEERS;
+        hops::push_hop(self.block, at, hop.link, hop.round);
+    }
+
+    // The peer of a link is grafted for a message: in the entry of its identifier, where a known round takes the lower, or in a new entry that expires at
+    // `expires`. Its time is that of an insert into a time cache.
+    pub fn insert_grafted(&mut self, id: Id, hop: Hop, expires: Millis)
+        requires grafting { Grafting (state self.old) }
+        requires link { hop.link < length (state self.old).links }
+        requires room { AtMost (state self.old).limits.G (graft_noted (id_of id) hop.link hop.round.0 expires.0 (state self.old)).grafted }
+        ensures { Goes (graft_noted (id_of id) hop.link hop.round.0 expires.0) self.old self.new }
+    {
+        match GraftedMessages::find(&self.view(), id) {
+            Ok(i) => self.graft_again(i, hop),
+            Err(_) => self.graft_new(id, hop, expires),
+        }
+    }
 }

@@ -1,13 +1,7 @@
 // `received_messages`: an entry is a place, a row is a time and an identifier.
-ghost use Rattle.storage.specs.Rows.Ident.{id_of};
-ghost use Rattle.time_cache.specs.TimeCache.{put};
-ghost use Rattle.block.specs.View.{state_of};
-ghost use Rattle.block.specs.Sound.{Sound};
-ghost use Rattle.block.specs.Goes.{Goes};
-ghost use Rattle.block.specs.Caches.InBlock.{InOrder, AtMost, received_also, received_left};
-
 use crate::head;
 use crate::head::Head;
+use crate::panel::{Panel, View};
 use crate::time_caches::PanelCache;
 use postcard::units::Millis;
 use storage::rows::id::Id;
@@ -33,7 +27,7 @@ impl PanelCache for ReceivedMessages {
 
     // Tables 2 and 3.
     #[tactic(auto, using(crate::proofs::CachesLaws::ReceivedLaws::received_stands))]
-    fn table(head: Head) -> TimeBoundCache {
+    fn table(head: &Head) -> TimeBoundCache {
         let entries = Table {
             at: head::received_at(head.limits),
             stride: ENTRY_WIDTH,
@@ -48,24 +42,48 @@ impl PanelCache for ReceivedMessages {
     }
 }
 
-// "mark received" until `expires`: requires that what it leaves is within the limits.
-pub fn insert_received(mut head: Head, block: &mut [u8], id: Id, expires: Millis) -> Head
-    requires { Sound head block.old × InOrder (state_of head block.old).received × AtMost head.limits.received (put (id_of id) tt expires.0 (state_of head block.old).received) }
-    ensures { Goes (received_also (id_of id) expires.0) head block.old result block.new }
-{
-    let inserted = ReceivedMessages::table(head).insert(block, id, expires);
-    head.live.received = inserted.cache.entries.len;
-    head.live.received_rows = inserted.cache.expiry.len;
-    head
+impl<'a> View<'a> {
+    ghost use Rattle.std.specs.Prelude.{◌≡◌};
+    ghost use Rattle.storage.specs.Rows.Ident.{id_of};
+    ghost use Rattle.time_cache.specs.TimeCache.{holds};
+    ghost use Rattle.block.specs.Caches.InBlock.{InOrder};
+    ghost use Rattle.block.specs.Views.{shown};
+
+    // Whether a message is received. Its time is that of a look-up in a time cache.
+    pub fn is_received(&self, id: Id) -> bool
+        requires { InOrder (shown self.now).received }
+        ensures { result ≡ holds (id_of id) (shown self.now).received }
+    {
+        ReceivedMessages::contains_key(self, id)
+    }
 }
 
-// `expire_until` of the received messages.
-pub fn expire_received(mut head: Head, block: &mut [u8], instant: Millis) -> Head
-    requires { Sound head block.old × InOrder (state_of head block.old).received }
-    ensures { Goes (received_left instant.0) head block.old result block.new }
-{
-    let expired = ReceivedMessages::table(head).expire_until(block, instant, &mut []);
-    head.live.received = expired.cache.entries.len;
-    head.live.received_rows = expired.cache.expiry.len;
-    head
+impl<'a> Panel<'a> {
+    ghost use Rattle.storage.specs.Rows.Ident.{id_of};
+    ghost use Rattle.time_cache.specs.TimeCache.{put};
+    ghost use Rattle.block.specs.Caches.InBlock.{InOrder, AtMost, received_also, received_left};
+    ghost use Rattle.block.specs.Panels.{state, Goes};
+
+    // "mark received" until `expires`: requires that what it leaves is within the limits.
+    pub fn insert_received(&mut self, id: Id, expires: Millis)
+        requires order { InOrder (state self.old).received }
+        requires room { AtMost (state self.old).limits.R (put (id_of id) tt expires.0 (state self.old).received) }
+        ensures { Goes (received_also (id_of id) expires.0) self.old self.new }
+    {
+        let cache = ReceivedMessages::table(&self.head);
+        let inserted = cache.insert(self.block, id, expires);
+        self.head.live.received = inserted.cache.entries.len;
+        self.head.live.received_rows = inserted.cache.expiry.len;
+    }
+
+    // `expire_until` of the received messages.
+    pub fn expire_received(&mut self, instant: Millis)
+        requires { InOrder (state self.old).received }
+        ensures { Goes (received_left instant.0) self.old self.new }
+    {
+        let cache = ReceivedMessages::table(&self.head);
+        let expired = cache.expire_until(self.block, instant, &mut []);
+        self.head.live.received = expired.cache.entries.len;
+        self.head.live.received_rows = expired.cache.expiry.len;
+    }
 }

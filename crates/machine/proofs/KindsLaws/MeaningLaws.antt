@@ -27,7 +27,7 @@ use Rattle.protocol.specs.Answer.{last_round}
 use Rattle.protocol.specs.Ticks.{evict}
 use Rattle.protocol.specs.Consistent.{CoreOf, Ranged}
 use Rattle.block.specs.LinkSteps.{peer_at}
-use Rattle.steps.specs.Found.{LinkAt}
+use Rattle.block.specs.Found.{LinkAt}
 use Rattle.steps.proofs.NeighborLaws.{found-neighbour}
 use Rattle.decide.specs.Settled.{settled, settled_actions, received_before, too_far_before}
 use Rattle.decide.specs.ActionsAfter.{gossip_actions, message_actions, timer_actions, actions_after}

@@ -13,10 +13,10 @@ use Rattle.block.specs.View.{limits_of}
 use Rattle.block.specs.LinkSteps.{linked}
 use Rattle.steps.specs.Calls.{rooms_of}
 use Rattle.steps.specs.Shared.{sizes_value}
-use Rattle.steps.specs.Views.{shown}
+use Rattle.block.specs.Views.{shown}
 use Rattle.steps.specs.declared.Sizes.{Sizes}
 use Rattle.steps.specs.declared.call.Call.{Call}
-use Rattle.steps.specs.declared.view.View.{View}
+use Rattle.block.specs.declared.panel.View.{View}
 use Rattle.machine.specs.Decided.{size_fits}
 use Rattle.machine.specs.Kinds.Meaning.{step_far, Means}
 use Rattle.machine.specs.declared.kinds.Step.{Step}

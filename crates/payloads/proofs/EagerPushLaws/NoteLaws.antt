@@ -16,8 +16,8 @@ use Rattle.decide.specs.RecordGrowth.{cached_in, add_note, add_notes, Batch, add
 use Rattle.decide.specs.StateAfter.{recorded_state, pushed_state}
 use Rattle.decide.proofs.RecordGrowthLaws.{Agree}
 use Rattle.block.specs.LinkSteps.{peer_at}
-use Rattle.block.specs.NoteSteps.{note}
-use Rattle.steps.specs.Panels.{AtRest, standing}
+use Rattle.block.specs.NoteSteps.{note, standing}
+use Rattle.block.specs.Panels.{AtRest}
 use Rattle.steps.specs.Record.{note_of, with_these, these_noted}
 use Rattle.steps.specs.declared.call.Call.{Call}
 use Rattle.payloads.specs.Eager.Targets.{hands_back}

@@ -14,10 +14,10 @@ use Rattle.decide.specs.RecordGrowth.{announce_action, push_actions}
 use Rattle.block.specs.LinkSteps.{peer_at, link_at}
 use Rattle.wire.specs.declared.encode.message.Gossip.{Gossip}
 use Rattle.steps.specs.Calls.{rooms_of}
-use Rattle.steps.specs.Panels.{AtRest}
-use Rattle.steps.specs.Views.{numbered_link}
+use Rattle.block.specs.Panels.{AtRest}
+use Rattle.block.specs.Views.{numbered_link}
 use Rattle.steps.specs.declared.call.Call.{Call}
-use Rattle.steps.specs.declared.view.Link.{Link}
+use Rattle.block.specs.declared.links.NumberedLink.{NumberedLink}
 use Rattle.payloads.specs.declared.eager_push.target.Push.{Push}
 use Rattle.payloads.specs.Eager.Targets.{is_target}
 use Rattle.payloads.proofs.EagerLaws.TargetLaws.{Roomed, first, rest, first-none, first-in, first_out, first-all, first_rest, backs_to, backs-none, backs-held, backs-taken, backs-out, backs-all}

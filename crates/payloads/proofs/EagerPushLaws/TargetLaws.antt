@@ -10,10 +10,10 @@ use Rattle.block.specs.LinkSteps.{peer_at, link_at}
 use Rattle.block.specs.View.{state_of}
 use Rattle.block.specs.Sound.{Sound}
 use Rattle.block.specs.declared.head.Head.{Head}
-use Rattle.steps.specs.Panels.{AtRest}
+use Rattle.block.specs.Panels.{AtRest}
 use Rattle.payloads.proofs.EagerLaws.TargetLaws.{Roomed}
 use Rattle.steps.proofs.RoomsLaws.{kth-link, has-member}
-use Rattle.steps.proofs.ViewLaws.{links-few}
+use Rattle.block.proofs.ViewLaws.{links-few}
 use Rattle.steps.specs.declared.call.Call.{Call}
 
 pub few_links : (h : Head) (xs : List ℕ) → Sound h xs → length (state_of h xs).links ≤ 32

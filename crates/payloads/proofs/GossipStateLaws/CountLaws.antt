@@ -24,11 +24,11 @@ use Rattle.decide.proofs.StateLaws.{new-state}
 use Rattle.block.specs.View.{state_of}
 use Rattle.block.specs.declared.head.Head.{Head}
 use Rattle.steps.specs.Calls.{rooms_of}
-use Rattle.steps.specs.Panels.{AtRest}
+use Rattle.block.specs.Panels.{AtRest}
 use Rattle.steps.specs.Record.{with_these}
 use Rattle.steps.specs.Settled.Then.{no_grafts}
 use Rattle.steps.specs.Shared.{EntryIs, sizes_value}
-use Rattle.steps.specs.Views.{links_from}
+use Rattle.block.specs.Views.{links_from}
 use Rattle.steps.specs.declared.Sizes.{Sizes as CodeSizes}
 use Rattle.steps.specs.declared.call.Call.{Call}
 use Rattle.steps.proofs.AtRestLaws.{settled-as}

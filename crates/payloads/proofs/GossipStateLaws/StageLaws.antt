@@ -15,7 +15,7 @@ use Rattle.decide.specs.StateAfter.{recorded_state, pushed_state, pushed_on_stat
 use Rattle.decide.proofs.Broadcast.{holds-put}
 use Rattle.steps.specs.Calls.{rooms_of}
 use Rattle.steps.specs.Rooms.{rooms_in}
-use Rattle.steps.specs.Panels.{AtRest, Allowed}
+use Rattle.block.specs.Panels.{AtRest, Allowed}
 use Rattle.steps.specs.Settled.Then.{no_grafts}
 use Rattle.steps.specs.Shared.{EntryIs}
 use Rattle.steps.specs.TakeIn.{Takes}

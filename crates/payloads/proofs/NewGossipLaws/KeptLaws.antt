@@ -10,7 +10,7 @@ use Rattle.protocol.proofs.Walk.{walk-eager_push}
 use Rattle.protocol.proofs.ConsistentSteps.{Kept as KeptRun, kept-set_first, kept-sending, kept-lazy_push}
 use Rattle.decide.specs.StateAfter.{first_set_state, pushed_on_state, lazy_state}
 use Rattle.decide.proofs.StateLaws.{eager-state, lazy-state}
-use Rattle.steps.proofs.ContentsLaws.StandsAfter.{Kept}
+use Rattle.steps.proofs.StandsAfter.{Kept}
 
 -- a run that is kept
 kept_by : (r r' : Run) → KeptRun r r' → Kept r.state → Kept r'.state

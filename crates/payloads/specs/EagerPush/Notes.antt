@@ -6,7 +6,7 @@ use Rattle.protocol.specs.State.{State, Note}
 use Rattle.decide.specs.RecordGrowth.{batches_for, add_batches}
 use Rattle.decide.specs.StateAfter.{pushed_state}
 use Rattle.steps.specs.Calls.{rooms_of}
-use Rattle.steps.specs.Panels.{AtRest}
+use Rattle.block.specs.Panels.{AtRest}
 use Rattle.steps.specs.declared.call.Call.{Call}
 use Rattle.payloads.specs.declared.eager_push.target.Push.{Push}
 use Rattle.payloads.specs.EagerPush.Targets.{SkipThere, push_targets, push_backs}

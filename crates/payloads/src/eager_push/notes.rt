@@ -1,8 +1,8 @@
 // What is handed back of an eager push is noted: the specification, "Record".
 ghost use Rattle.std.specs.Prelude.{ℕ, Bool, ◌≡◌, ◌<◌, ◌≤◌, true, false, length, All, []};
 ghost use Rattle.storage.specs.Rows.Ident.{id_of};
-ghost use Rattle.steps.specs.Views.{shown};
-ghost use Rattle.steps.specs.Panels.{state, Goes, AtRest};
+ghost use Rattle.block.specs.Views.{shown};
+ghost use Rattle.block.specs.Panels.{state, Goes, AtRest};
 ghost use Rattle.steps.specs.Record.{with_these};
 ghost use Rattle.payloads.specs.Eager.Scan.{Starts, SeenFor};
 ghost use Rattle.payloads.specs.EagerPush.Targets.{skipped_peers, SkipThere, push_backs};

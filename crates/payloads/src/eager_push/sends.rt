@@ -2,8 +2,8 @@
 ghost use Rattle.std.specs.Prelude.{◌≡◌, not};
 ghost use Rattle.storage.specs.Lists.Base.{is_empty};
 ghost use Rattle.wire.specs.Encode.Intake.{after};
-ghost use Rattle.steps.specs.Views.{shown};
-ghost use Rattle.steps.specs.Panels.{AtRest};
+ghost use Rattle.block.specs.Views.{shown};
+ghost use Rattle.block.specs.Panels.{AtRest};
 ghost use Rattle.payloads.specs.EagerPush.Targets.{SkipThere, push_backs};
 ghost use Rattle.payloads.specs.EagerPush.Sends.{sends_bytes, push_bytes};
 

@@ -2,8 +2,8 @@
 ghost use Rattle.std.specs.Prelude.{◌≡◌, ◌<◌, length};
 ghost use Rattle.storage.specs.Lists.Base.{member};
 ghost use Rattle.block.specs.LinkSteps.{peer_at};
-ghost use Rattle.steps.specs.Views.{shown};
-ghost use Rattle.steps.specs.Panels.{AtRest};
+ghost use Rattle.block.specs.Views.{shown};
+ghost use Rattle.block.specs.Panels.{AtRest};
 ghost use Rattle.payloads.specs.Eager.Targets.{is_target, hands_back};
 ghost use Rattle.payloads.specs.EagerPush.Targets.{skipped_peers, SkipThere};
 

@@ -4,7 +4,7 @@ ghost use Rattle.protocol.specs.Ticks.{evict};
 ghost use Rattle.decide.specs.StateAfter.{first_state, taken_state};
 ghost use Rattle.block.specs.Goes.{Goes};
 ghost use Rattle.steps.specs.Stands.{Stands};
-ghost use Rattle.steps.specs.Contents.Taking.{TakesIn};
+ghost use Rattle.steps.specs.Taking.{TakesIn};
 
 use crate::contents::cached;
 use crate::message_cache::CachedMessage;

@@ -6,7 +6,7 @@ use Rattle.decide.specs.RecordGrowth.{announce_action}
 use Rattle.decide.specs.Settled.{settled}
 use Rattle.wire.specs.Encode.Intake.{after}
 use Rattle.wire.proofs.EncodeLaws.IntakeLaws.{after_append, room_after}
-use Rattle.steps.specs.Views.{shown}
+use Rattle.block.specs.Views.{shown}
 use Rattle.announcements.specs.OnAnnounceDroppedTimer.{announce_bytes, record_stands}
 use Rattle.announcements.proofs.OnAnnounceDroppedTimerLaws.{stands-bytes, queue_bytes, none-after}
 use Rattle.announcements.proofs.on_announce_dropped_timer.announce_actions.Goals as goal

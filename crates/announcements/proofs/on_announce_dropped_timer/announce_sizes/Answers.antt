@@ -7,9 +7,9 @@ use Rattle.protocol.specs.State.{State, Note}
 use Rattle.protocol.specs.Ticks.{oldest, younger}
 use Rattle.block.specs.NoteSteps.{note}
 use Rattle.block.proofs.NoteLaws.{count-queue, count-dropped}
-use Rattle.steps.specs.Views.{shown}
+use Rattle.block.specs.Views.{shown}
 use Rattle.steps.specs.Shared.{sizes_value}
-use Rattle.steps.proofs.ViewLaws.{links-few}
+use Rattle.block.proofs.ViewLaws.{links-few}
 use Rattle.announcements.proofs.AnnounceLaws.Turns.{Read, moves, moves-alone, stays, stays-alone}
 use Rattle.announcements.proofs.OnAnnounceDroppedTimerLaws.{still, held_then, entry, passing-start, passing-skip, passing-more, link-low, seen-small, still-not, passed-few, oldest-start, younger-start, sized-end, queued-of}
 use Rattle.announcements.proofs.on_announce_dropped_timer.announce_sizes.Goals as goal

@@ -6,12 +6,11 @@ use Rattle.storage.specs.Lists.Map.{keys}
 use Rattle.time_cache.specs.TimeCache.{holds}
 use Rattle.protocol.specs.State.{State, Note}
 use Rattle.protocol.specs.Ticks.{younger}
-use Rattle.block.specs.NoteSteps.{note}
+use Rattle.block.specs.NoteSteps.{note, NoteOf}
 use Rattle.block.proofs.NoteLaws.{count-dropped}
-use Rattle.steps.specs.Dropped.{NoteOf}
-use Rattle.steps.specs.Panels.{state}
-use Rattle.steps.proofs.PanelLaws.{same-state}
-use Rattle.steps.proofs.ViewLaws.{links-few}
+use Rattle.block.specs.Panels.{state}
+use Rattle.block.proofs.PanelLaws.{same-state}
+use Rattle.block.proofs.ViewLaws.{links-few}
 use Rattle.announcements.proofs.AnnounceLaws.Turns.{Read}
 use Rattle.announcements.proofs.OnAnnounceDroppedTimerLaws.{held_now, entry, passing-start, passing-skip, passing-more, link-low, seen-small, still-not, younger-start, move-start, kept-few, same-rows, same-links, cached-in, row-in, move-skip, move-room, move-take, take-kept, keep-room, move-keep, keep-kept, move-end}
 use Rattle.announcements.proofs.on_announce_dropped_timer.move_oldest.Goals as goal

@@ -2,7 +2,7 @@
 use Rattle.std.proofs.Common.{◌≡◌, [], length}
 use Rattle.time_cache.specs.TimeCache.{holds}
 use Rattle.protocol.specs.Ticks.{younger}
-use Rattle.steps.specs.Panels.{state, Goes}
+use Rattle.block.specs.Panels.{state, Goes}
 use Rattle.announcements.proofs.OnAnnounceDroppedTimerLaws.{still, Passing, passed_by}
 use Rattle.announcements.proofs.on_announce_dropped_timer.move_oldest.Given as goal
 

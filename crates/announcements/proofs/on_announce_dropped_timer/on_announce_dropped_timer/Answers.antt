@@ -2,8 +2,9 @@
 use Rattle.std.proofs.Common.{◌≡◌, ◌∙◌, ap, length, arith, true, false}
 use Rattle.protocol.specs.State.{State, with_announce_scheduled, with_dispatch_scheduled}
 use Rattle.block.proofs.NoteLaws.{count-queue}
-use Rattle.steps.specs.Panels.{state, standing}
-use Rattle.steps.specs.declared.panel.Panel.{Panel}
+use Rattle.block.specs.Panels.{state}
+use Rattle.block.specs.NoteSteps.{standing}
+use Rattle.block.specs.declared.panel.Panel.{Panel}
 use Rattle.announcements.specs.Announce.Moves.{moved_state}
 use Rattle.announcements.proofs.OnAnnounceDroppedTimerLaws.{flags-some, flags-none}
 use Rattle.announcements.proofs.on_announce_dropped_timer.on_announce_dropped_timer.Goals as goal

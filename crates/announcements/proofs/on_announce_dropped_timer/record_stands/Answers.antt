@@ -7,8 +7,8 @@ use Rattle.protocol.specs.State.{State}
 use Rattle.protocol.specs.Ticks.{younger}
 use Rattle.block.specs.NoteSteps.{note}
 use Rattle.block.proofs.NoteLaws.{count-dropped}
-use Rattle.steps.specs.Views.{shown}
-use Rattle.steps.proofs.ViewLaws.{links-few}
+use Rattle.block.specs.Views.{shown}
+use Rattle.block.proofs.ViewLaws.{links-few}
 use Rattle.announcements.proofs.AnnounceLaws.Turns.{Read, moves-alone, stays}
 use Rattle.announcements.proofs.OnAnnounceDroppedTimerLaws.{still, held_then, entry, passing-start, passing-skip, passing-more, link-low, seen-small, still-not, record-none, record-some, record-end, younger-start}
 use Rattle.announcements.proofs.on_announce_dropped_timer.record_stands.Goals as goal

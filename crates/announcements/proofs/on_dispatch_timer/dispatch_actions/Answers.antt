@@ -6,7 +6,7 @@ use Rattle.decide.specs.Settled.{settled}
 use Rattle.wire.specs.Encode.Intake.{after}
 use Rattle.wire.proofs.EncodeLaws.IntakeLaws.{after_nil}
 use Rattle.steps.specs.Calls.{rooms_of}
-use Rattle.steps.specs.Views.{shown}
+use Rattle.block.specs.Views.{shown}
 use Rattle.steps.proofs.AtRestLaws.{settled-as}
 use Rattle.announcements.proofs.OnDispatchLaws.SendLaws.{no-sends}
 use Rattle.announcements.proofs.on_dispatch_timer.dispatch_actions.Goals as goal

@@ -1,8 +1,8 @@
 -- `dispatch_notes` meets its contract: they are what is noted.
 use Rattle.std.proofs.Common.{length, ap, ◌∙◌, arith, length-append}
 use lib.ListN.{length-map}
-use Rattle.steps.specs.Queue.{note_at}
-use Rattle.steps.specs.Views.{shown}
+use Rattle.block.specs.NoteSteps.{note_at}
+use Rattle.block.specs.Views.{shown}
 use Rattle.steps.proofs.AtRestLaws.{same_dropped}
 use Rattle.announcements.specs.QueuedRows.{notes_at}
 use Rattle.announcements.proofs.OnDispatchLaws.StateLaws.{settled-dropped}

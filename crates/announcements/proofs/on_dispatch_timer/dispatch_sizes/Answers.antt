@@ -2,9 +2,9 @@
 use Rattle.std.proofs.Common.{arith, ap, sym, ◌∙◌, ◌≡◌, ◌+◌, ℕ, length}
 use Rattle.decide.specs.Settled.{settled}
 use Rattle.decide.specs.Sizes.{Sizes, sizes_of, sized_queued, sized_recorded}
-use Rattle.steps.specs.Views.{shown}
+use Rattle.block.specs.Views.{shown}
 use Rattle.steps.proofs.AtRestLaws.{same_dropped}
-use Rattle.steps.proofs.RowLaws.{record-few, queue-few}
+use Rattle.block.proofs.NoteRowLaws.{record-few, queue-few}
 use Rattle.announcements.specs.OnDispatchTimer.{after_dispatch}
 use Rattle.announcements.specs.QueuedRows.{held_then}
 use Rattle.announcements.proofs.OnDispatchLaws.BatchLaws.{none-noted}

@@ -4,9 +4,9 @@ use lib.ListN.{length-map}
 use Rattle.protocol.specs.State.{State, Note}
 use Rattle.decide.specs.RecordGrowth.{cached_in}
 use Rattle.decide.specs.StateAfter.{recorded_state}
-use Rattle.steps.specs.Panels.{state}
-use Rattle.steps.specs.Queue.{note_at}
-use Rattle.steps.proofs.PanelLaws.{same-state}
+use Rattle.block.specs.Panels.{state}
+use Rattle.block.specs.NoteSteps.{note_at}
+use Rattle.block.proofs.PanelLaws.{same-state}
 use Rattle.announcements.specs.QueuedRows.{held_then, notes_at}
 use Rattle.announcements.proofs.OnDispatchLaws.StateLaws.{noted_by, noted-fits, held-now}
 use Rattle.announcements.proofs.on_dispatch_timer.note_back.Goals as goal

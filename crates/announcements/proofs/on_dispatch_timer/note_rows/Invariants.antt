@@ -1,5 +1,5 @@
 -- `note_rows`: the record has taken the rows before this one.
-use Rattle.steps.specs.Panels.{Goes}
+use Rattle.block.specs.Panels.{Goes}
 use Rattle.announcements.proofs.OnDispatchLaws.StateLaws.{noted_first}
 use Rattle.announcements.proofs.on_dispatch_timer.note_rows.Given as goal
 

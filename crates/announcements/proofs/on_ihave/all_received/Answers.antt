@@ -4,7 +4,7 @@ use borrow.Author.Tests.{not-true, not-false}
 use Rattle.postcard.specs.Values.{ihave_value}
 use Rattle.wire.specs.Reader.Values.{ihaves_value}
 use Rattle.decide.specs.Settled.{settled}
-use Rattle.steps.specs.Views.{shown}
+use Rattle.block.specs.Views.{shown}
 use Rattle.announcements.specs.Ihaves.New.{is_received}
 use Rattle.announcements.proofs.IhavesLaws.ReceivedLaws.{rest-start, rest_end, rest-next, rest-fails}
 use Rattle.announcements.proofs.IhavesLaws.WalkLaws.{after_none, after-end, after-here, after-next}

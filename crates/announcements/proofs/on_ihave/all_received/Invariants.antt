@@ -1,7 +1,7 @@
 -- `all_received`: the entries that are left decide.
 use Rattle.wire.specs.Reader.Values.{ihaves_value}
 use Rattle.decide.specs.Settled.{settled}
-use Rattle.steps.specs.Views.{shown}
+use Rattle.block.specs.Views.{shown}
 use Rattle.announcements.specs.Ihaves.New.{is_received}
 use Rattle.announcements.proofs.IhavesLaws.ReceivedLaws.{Rest}
 use Rattle.announcements.proofs.IhavesLaws.WalkLaws.{Walk}

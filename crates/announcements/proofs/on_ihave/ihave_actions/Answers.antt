@@ -8,7 +8,7 @@ use Rattle.wire.proofs.ReaderLaws.AnnouncedLaws.{announced_count}
 use Rattle.protocol.specs.State.{State}
 use Rattle.decide.specs.Settled.{settled}
 use Rattle.decide.specs.NewIds.{known_timer}
-use Rattle.steps.specs.Views.{shown}
+use Rattle.block.specs.Views.{shown}
 use Rattle.announcements.specs.Ihaves.New.{is_new}
 use Rattle.announcements.proofs.OnIhaveLaws.{schedule-start, schedule-end, schedule-skip, schedule-next, schedule-room, then-delay}
 use Rattle.announcements.proofs.IhavesLaws.WalkLaws.{after_none, after-end, after-taken, after-next, after-below}

@@ -3,7 +3,7 @@ use Rattle.std.proofs.Common.{◌≡◌, take}
 use Rattle.wire.specs.Encode.Intake.{after}
 use Rattle.wire.specs.Reader.Values.{ihaves_value}
 use Rattle.decide.specs.Settled.{settled}
-use Rattle.steps.specs.Views.{shown}
+use Rattle.block.specs.Views.{shown}
 use Rattle.announcements.proofs.OnIhaveLaws.{scheduled}
 use Rattle.announcements.proofs.IhavesLaws.WalkLaws.{After}
 use Rattle.announcements.proofs.on_ihave.ihave_actions.Given as goal

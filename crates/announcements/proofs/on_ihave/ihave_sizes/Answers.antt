@@ -9,7 +9,7 @@ use Rattle.decide.specs.Settled.{settled}
 use Rattle.block.specs.LinkSteps.{peer_at}
 use Rattle.block.proofs.TimerLaws.{count-timers}
 use Rattle.block.proofs.MissingLaws.{count-missing}
-use Rattle.steps.specs.Views.{shown}
+use Rattle.block.specs.Views.{shown}
 use Rattle.steps.proofs.EvictStepLaws.{rest-settled}
 use Rattle.announcements.specs.OnIhave.{Adds}
 use Rattle.announcements.proofs.OnIhaveLaws.{sized-start, sized-next, sized-end, sized-few, byte-few, then-missing, then-timers}

@@ -4,7 +4,7 @@ use Rattle.wire.specs.Reader.Values.{ihaves_value}
 use Rattle.decide.specs.Settled.{settled}
 use Rattle.decide.proofs.SizesAfter.{ihave_sizes}
 use Rattle.steps.specs.Shared.{sizes_value}
-use Rattle.steps.specs.Views.{shown}
+use Rattle.block.specs.Views.{shown}
 use Rattle.announcements.proofs.IhavesLaws.WalkLaws.{After}
 use Rattle.announcements.proofs.on_ihave.ihave_sizes.Given as goal
 

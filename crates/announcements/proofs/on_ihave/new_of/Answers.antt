@@ -2,7 +2,7 @@
 use Rattle.std.proofs.Common.{sym, ◌∙◌}
 use Rattle.storage.specs.Rows.Ident.{id_of}
 use Rattle.wire.specs.Reader.Values.{ihaves_value}
-use Rattle.steps.specs.Views.{shown}
+use Rattle.block.specs.Views.{shown}
 use Rattle.announcements.proofs.OnIhaveLaws.{adds-received, adds-before, adds-known, adds-new}
 use Rattle.announcements.proofs.on_ihave.new_of.Goals as goal
 

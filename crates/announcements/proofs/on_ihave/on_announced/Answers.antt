@@ -3,10 +3,10 @@ use Rattle.std.proofs.Common.{true, false, refl, sym, ap, ◌∙◌, ◌≡◌, 
 use Rattle.storage.specs.Rows.Ident.{id_of}
 use Rattle.time_cache.specs.TimeCache.{holds}
 use Rattle.protocol.specs.State.{State}
-use Rattle.steps.specs.Asked.{timer_marked}
-use Rattle.steps.specs.Panels.{state}
-use Rattle.steps.proofs.PanelLaws.{same-state}
-use Rattle.steps.proofs.ViewLaws.{links-few}
+use Rattle.block.specs.TimerSteps.{timer_marked}
+use Rattle.block.specs.Panels.{state}
+use Rattle.block.proofs.PanelLaws.{same-state}
+use Rattle.block.proofs.ViewLaws.{links-few}
 use Rattle.announcements.proofs.OnIhaveLaws.{announced-still, announced-new, announcing, mark-within}
 use Rattle.announcements.proofs.on_ihave.on_announced.Goals as goal
 use Rattle.announcements.proofs.on_ihave.on_announced.Goals.{After-is_received}

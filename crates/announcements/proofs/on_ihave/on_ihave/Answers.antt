@@ -2,7 +2,7 @@
 use Rattle.std.proofs.Common.{◌+◌, rules, refl, ◌∙◌}
 use Rattle.postcard.specs.Values.{ihave_value}
 use Rattle.wire.specs.Reader.Values.{ihaves_value}
-use Rattle.steps.specs.Panels.{state}
+use Rattle.block.specs.Panels.{state}
 use Rattle.announcements.proofs.OnIhaveLaws.{heard-start, heard-end, link-there, step-next, heard-next}
 use Rattle.announcements.proofs.IhavesLaws.WalkLaws.{after_none, after-end, after-taken, after-next}
 use Rattle.announcements.proofs.on_ihave.on_ihave.Goals as goal

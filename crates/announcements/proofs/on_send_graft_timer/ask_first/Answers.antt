@@ -6,9 +6,9 @@ use Rattle.protocol.specs.State.{State}
 use Rattle.block.specs.LinkSteps.{peer_at, linked}
 use Rattle.block.specs.MissingSteps.{hop, hops_at}
 use Rattle.steps.specs.Asked.{Graftable, grafted_until}
-use Rattle.steps.specs.Found.{HopOf}
-use Rattle.steps.specs.Panels.{state}
-use Rattle.steps.proofs.PanelLaws.{same-state}
+use Rattle.block.specs.Found.{HopOf}
+use Rattle.block.specs.Panels.{state}
+use Rattle.block.proofs.PanelLaws.{same-state}
 use Rattle.announcements.proofs.OnSendGraftTimerLaws.{some-hops, mid, asked-graft, asked-graftable}
 use Rattle.announcements.proofs.on_send_graft_timer.ask_first.Goals as goal
 use Rattle.announcements.proofs.on_send_graft_timer.ask_first.Goals.{Start, After-announcer-first, After-add_eager}

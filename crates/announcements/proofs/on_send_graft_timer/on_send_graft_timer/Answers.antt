@@ -5,8 +5,8 @@ use Rattle.time_cache.specs.TimeCache.{holds}
 use Rattle.protocol.specs.State.{State}
 use Rattle.protocol.specs.Whole.{fits}
 use Rattle.protocol.specs.Gossips.{announcers}
-use Rattle.steps.specs.Panels.{state, AtRest}
-use Rattle.steps.proofs.PanelLaws.{same-state}
+use Rattle.block.specs.Panels.{state, AtRest}
+use Rattle.block.proofs.PanelLaws.{same-state}
 use Rattle.announcements.specs.SendGraft.Asks.{asked_first}
 use Rattle.announcements.proofs.OnSendGraftTimerLaws.{unmarked-rest, sent-received, sent-asked, sent-nobody}
 use Rattle.announcements.proofs.on_send_graft_timer.on_send_graft_timer.Goals as goal

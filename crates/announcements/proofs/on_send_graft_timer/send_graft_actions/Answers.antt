@@ -6,9 +6,9 @@ use Rattle.postcard.specs.Output.{send_head}
 use Rattle.decide.specs.Settled.{settled}
 use Rattle.wire.specs.Encode.Intake.{after}
 use Rattle.wire.proofs.EncodeLaws.IntakeLaws.{after_append, after_nil, room_after}
-use Rattle.steps.specs.Views.{shown}
-use Rattle.steps.specs.declared.view.Link.{Link}
-use Rattle.steps.proofs.ViewLaws.{links-few}
+use Rattle.block.specs.Views.{shown}
+use Rattle.block.specs.declared.links.NumberedLink.{NumberedLink}
+use Rattle.block.proofs.ViewLaws.{links-few}
 use Rattle.announcements.specs.OnSendGraftTimer.{send_graft_bytes}
 use Rattle.announcements.proofs.OnSendGraftTimerLaws.{some-hops, bytes-received, bytes-nobody, bytes-asked}
 use Rattle.announcements.proofs.on_send_graft_timer.send_graft_actions.Goals as goal

@@ -7,7 +7,7 @@ use Rattle.decide.specs.Settled.{settled}
 use Rattle.block.proofs.CachesLaws.GraftedLaws.{count-grafted, count-grafted-rows}
 use Rattle.steps.specs.Settled.Then.{no_grafts}
 use Rattle.steps.specs.Shared.{sizes_value}
-use Rattle.steps.specs.Views.{shown}
+use Rattle.block.specs.Views.{shown}
 use Rattle.announcements.proofs.OnSendGraftTimerLaws.{entry-there, entry-gone, marks-fewer, marks-left, missing-fewer, missing-left, sized-received, sized-nobody, sized-there, sized-new, sized-few}
 use Rattle.announcements.proofs.on_send_graft_timer.send_graft_sizes.Goals as goal
 

@@ -13,7 +13,7 @@ use Rattle.protocol.specs.Answer.{Outcome, counts_stay}
 use Rattle.block.specs.LinkSteps.{linked}
 use Rattle.steps.proofs.SettledLaws.SizeLaws.{yes, no}
 use Rattle.steps.specs.Calls.{rooms_of}
-use Rattle.steps.specs.Views.{shown}
+use Rattle.block.specs.Views.{shown}
 use Rattle.machine.specs.Called.{counts_of}
 use Rattle.machine.specs.Core.{event_size, event_peer, Shortened, is_payload, counted_as}
 use Rattle.machine.specs.Decided.{size_fits, decided}

@@ -6,7 +6,7 @@ use Rattle.protocol.specs.Whole.{fits}
 use Rattle.protocol.specs.Answer.{accepted}
 use Rattle.steps.proofs.SettledLaws.SizeLaws.{yes, no}
 use Rattle.steps.specs.Calls.{rooms_of}
-use Rattle.steps.specs.Views.{shown}
+use Rattle.block.specs.Views.{shown}
 use Rattle.steps.proofs.AtRestLaws.{stands_of}
 use Rattle.machine.proofs.BoundsLaws.StepTold.{step-length}
 use Rattle.machine.specs.Called.{counts_of}

@@ -2,7 +2,7 @@
 use Rattle.std.proofs.Common.{◌≡◌, ap, sym, ◌∙◌}
 use Rattle.storage.specs.Rows.Part.{put}
 use Rattle.storage.proofs.RowsLaws.Parts.{put-nil}
-use Rattle.steps.specs.Panels.{state}
+use Rattle.block.specs.Panels.{state}
 use Rattle.machine.specs.Outcomes.{task_bytes}
 use Rattle.machine.specs.declared.event.Task.{Task}
 use Rattle.machine.proofs.event.carry_out.Goals as goal

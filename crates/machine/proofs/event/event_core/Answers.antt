@@ -11,7 +11,7 @@ use Rattle.block.specs.Sound.{Sound}
 use Rattle.block.specs.View.{state_of}
 use Rattle.block.specs.declared.head.Head.{Head}
 use Rattle.whole.specs.Held.{held}
-use Rattle.steps.specs.Panels.{AtRest}
+use Rattle.block.specs.Panels.{AtRest}
 use Rattle.steps.proofs.AtRestLaws.{rest_of}
 use Rattle.machine.specs.Called.{counts_of, call_of, lent}
 use Rattle.machine.specs.Core.{core_rooms}

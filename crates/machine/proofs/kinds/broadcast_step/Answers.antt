@@ -3,7 +3,7 @@ use Rattle.std.proofs.Common.{ap, ◌≡◌, sym, ◌∙◌, not, ltb, length}
 use borrow.Author.Tests.{not-false}
 use Rattle.postcard.specs.Sizes.{gossip_size}
 use Rattle.block.specs.View.{state_of}
-use Rattle.steps.specs.Views.{shown}
+use Rattle.block.specs.Views.{shown}
 use Rattle.machine.proofs.KindsLaws.MeaningLaws.{means-oversize, means-broadcast, broadcast-held, over-of}
 use Rattle.machine.proofs.kinds.broadcast_step.Goals as goal
 use Rattle.machine.proofs.kinds.broadcast_step.Goals.{After-broadcast_fits}

@@ -3,7 +3,7 @@ use Rattle.std.proofs.Common.{ap, Bool, true, false, not, ◌≡◌, refl, sym, 
 use Rattle.storage.specs.Rows.Ident.{id_of}
 use Rattle.blake3.specs.Blake3.{identifier}
 use Rattle.postcard.specs.Values.{delivery_value}
-use Rattle.steps.specs.Views.{shown}
+use Rattle.block.specs.Views.{shown}
 use Rattle.machine.proofs.KindsLaws.MeaningLaws.{means-invalid, means-late, means-new, means-near, gossip-held, valid-of}
 use Rattle.machine.proofs.kinds.gossip_step.Goals as goal
 use Rattle.machine.proofs.kinds.gossip_step.Goals.{After-ne}

@@ -1,7 +1,7 @@
 -- `ihave_step`: by whether every identifier is received.
 use Rattle.std.proofs.Common.{refl, sym, ◌∙◌}
 use Rattle.wire.specs.Reader.Values.{ihaves_value}
-use Rattle.steps.specs.Views.{shown}
+use Rattle.block.specs.Views.{shown}
 use Rattle.block.specs.LinkSteps.{peer_at}
 use Rattle.machine.proofs.KindsLaws.MeaningLaws.{means-ihave, means-known-ihave}
 use Rattle.machine.proofs.kinds.ihave_step.Goals as goal

@@ -3,8 +3,8 @@ use Rattle.std.proofs.Common.{◌≡◌, sym, subst, ℕ, ◌≤◌, length, Opt
 use Rattle.postcard.specs.Message.{Received, message_bytes}
 use Rattle.wire.specs.Reader.Values.{message_value}
 use Rattle.wire.specs.declared.reader.message.Message.{Message}
-use Rattle.steps.specs.Found.{LinkOf}
-use Rattle.steps.specs.Views.{shown}
+use Rattle.block.specs.Found.{LinkOf}
+use Rattle.block.specs.Views.{shown}
 use Rattle.machine.specs.Kinds.Meaning.{Means}
 use Rattle.machine.specs.declared.kinds.Step.{Step}
 use Rattle.machine.proofs.KindsLaws.MeaningLaws.{means-prune, means-graft, means-stranger-prune, means-stranger-graft, means-stranger-ihave, ihaves-held}

@@ -6,7 +6,7 @@ use Rattle.wire.specs.Reader.Values.{message_value, event_value}
 use Rattle.wire.specs.declared.reader.event.Event.{Event as Read}
 use Rattle.protocol.specs.State.{State}
 use Rattle.steps.specs.Calls.{rooms_of}
-use Rattle.steps.specs.Views.{shown}
+use Rattle.block.specs.Views.{shown}
 use Rattle.machine.specs.Core.{event_size, Shortened}
 use Rattle.machine.specs.Decided.{size_fits}
 use Rattle.machine.specs.Kinds.Meaning.{Means}

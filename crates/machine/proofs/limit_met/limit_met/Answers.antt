@@ -4,7 +4,7 @@ use Rattle.refusal.specs.Numbers.{number_of}
 use Rattle.wire.specs.Reader.Values.{event_value}
 use Rattle.block.specs.View.{state_of}
 use Rattle.block.specs.declared.head.Head.{Head}
-use Rattle.steps.specs.Panels.{AtRest}
+use Rattle.block.specs.Panels.{AtRest}
 use Rattle.block.specs.Sound.{Sound}
 use Rattle.steps.proofs.AtRestLaws.{rest_of}
 use Rattle.machine.specs.Core.{core_rooms}

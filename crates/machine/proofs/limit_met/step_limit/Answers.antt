@@ -1,6 +1,6 @@
 -- `step_limit` meets its contract: questions 12 and 13 of the step.
 use Rattle.std.proofs.Common.{sym, ◌∙◌}
-use Rattle.steps.specs.Views.{shown}
+use Rattle.block.specs.Views.{shown}
 use Rattle.machine.specs.LimitMet.Told.{limit_told}
 use Rattle.machine.proofs.LimitMetLaws.StepLaws.{far-past, near-past}
 use Rattle.machine.proofs.limit_met.step_limit.Goals as goal

@@ -2,7 +2,7 @@
 use Rattle.std.proofs.Common.{◌≡◌, ap, ◌∙◌}
 use Rattle.decide.specs.Settled.{settled}
 use Rattle.protocol.specs.State.{State}
-use Rattle.steps.specs.Panels.{state}
+use Rattle.block.specs.Panels.{state}
 use Rattle.machine.specs.Steps.{after_step}
 use Rattle.machine.proofs.KindsLaws.MeaningLaws.{first-settled}
 use Rattle.machine.proofs.StepLaws.{due-ready}

@@ -3,7 +3,7 @@ use Rattle.std.proofs.Common.{◌≡◌, ap, sym, ◌∙◌}
 use Rattle.protocol.specs.State.{State}
 use Rattle.decide.specs.Settled.{settled}
 use Rattle.decide.specs.Sizes.{sizes_of}
-use Rattle.steps.specs.Views.{shown}
+use Rattle.block.specs.Views.{shown}
 use Rattle.machine.specs.Kinds.Meaning.{step_state}
 use Rattle.machine.specs.declared.kinds.Step.{Step}
 use Rattle.machine.specs.Steps.{after_event}

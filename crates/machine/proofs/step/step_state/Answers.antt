@@ -1,8 +1,8 @@
 -- `step_state` meets its contract: each arm is its step.
 use Rattle.std.proofs.Common.{◌≡◌, sym, refl, subst}
 use borrow.Author.Tests.{eqb-false}
-use Rattle.steps.specs.Panels.{state, Goes}
-use Rattle.steps.specs.declared.panel.Panel.{Panel}
+use Rattle.block.specs.Panels.{state, Goes}
+use Rattle.block.specs.declared.panel.Panel.{Panel}
 use Rattle.machine.specs.Kinds.Meaning.{step_state, step_far}
 use Rattle.machine.specs.declared.kinds.Step.{Step}
 use Rattle.machine.specs.Steps.{after_step, Ready}

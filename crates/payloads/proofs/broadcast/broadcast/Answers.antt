@@ -2,7 +2,7 @@
 use Rattle.std.proofs.Common.{ap, ◌∙◌}
 use Rattle.storage.specs.Rows.Ident.{id_of}
 use Rattle.decide.specs.StateAfter.{lazy_state}
-use Rattle.steps.specs.Panels.{state}
+use Rattle.block.specs.Panels.{state}
 use Rattle.payloads.proofs.PushedLaws.{own-number}
 use Rattle.payloads.proofs.BroadcastStateLaws.{takes, lazy-asks, back-asks, end-is}
 use Rattle.payloads.proofs.broadcast.broadcast.Goals as goal

@@ -1,6 +1,6 @@
 -- `broadcast_actions` meets its contract: a dispatch timer and the push.
 use Rattle.block.specs.View.{state_of}
-use Rattle.steps.specs.Views.{shown}
+use Rattle.block.specs.Views.{shown}
 use Rattle.payloads.proofs.AfterLaws.{room-first, room-then, after-both}
 use Rattle.payloads.proofs.BroadcastLaws.{broadcast-parts}
 use Rattle.payloads.proofs.broadcast.broadcast_actions.Goals as goal

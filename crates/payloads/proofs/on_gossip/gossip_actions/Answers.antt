@@ -1,5 +1,5 @@
 -- `gossip_actions` meets its contract: the push, the dispatch timer, the optimising and the content, one behind the other.
-use Rattle.steps.specs.Views.{shown}
+use Rattle.block.specs.Views.{shown}
 use Rattle.payloads.proofs.AfterLaws.{after-4}
 use Rattle.payloads.proofs.OnGossipLaws.{new-bytes}
 use Rattle.payloads.proofs.on_gossip.gossip_actions.Goals as goal

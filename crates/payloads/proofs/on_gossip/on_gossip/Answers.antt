@@ -2,9 +2,9 @@
 use Rattle.std.proofs.Common.{arith, ◌≡◌, ap, ◌∙◌, ◌+◌, add-one}
 use Rattle.storage.specs.Rows.Ident.{id_of}
 use Rattle.decide.specs.StateAfter.{first_set_state, lazy_state, closed_state}
-use Rattle.steps.specs.Panels.{state}
-use Rattle.steps.specs.Views.{shown}
-use Rattle.steps.proofs.PanelLaws.{same-state}
+use Rattle.block.specs.Panels.{state}
+use Rattle.block.specs.Views.{shown}
+use Rattle.block.proofs.PanelLaws.{same-state}
 use Rattle.payloads.proofs.GossipStateLaws.StageLaws.{first_set, pushed_on, queued, end-new, takes, first-asks, skip-asks, pushes, back-asks, lazy-asks, close-asks}
 use Rattle.payloads.proofs.on_gossip.on_gossip.Goals as goal
 use Rattle.payloads.proofs.on_gossip.on_gossip.Goals.{After-set_first, After-note_back, After-lazy_push}

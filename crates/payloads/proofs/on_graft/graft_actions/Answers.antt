@@ -10,11 +10,11 @@ use Rattle.decide.specs.RecordGrowth.{announce_action}
 use Rattle.block.specs.LinkSteps.{peer_at}
 use Rattle.wire.specs.Encode.Intake.{after}
 use Rattle.wire.proofs.EncodeLaws.IntakeLaws.{after_append, after_nil, room_after}
-use Rattle.steps.specs.Lookups.{cached_value}
-use Rattle.steps.specs.Views.{shown}
+use Rattle.block.specs.Caches.CachedReads.{cached_value}
+use Rattle.block.specs.Views.{shown}
 use Rattle.payloads.specs.OnGraft.{graft_bytes}
-use Rattle.steps.proofs.ViewLaws.{links-few}
-use Rattle.steps.specs.declared.view.Link.{Link}
+use Rattle.block.proofs.ViewLaws.{links-few}
+use Rattle.block.specs.declared.links.NumberedLink.{NumberedLink}
 use Rattle.steps.specs.Calls.{rooms_of}
 use Rattle.payloads.proofs.OnGraftLaws.{no-bytes, not-there, sends}
 use Rattle.payloads.proofs.on_graft.graft_actions.Goals as goal

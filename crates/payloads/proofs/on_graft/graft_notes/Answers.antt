@@ -4,10 +4,10 @@ use Rattle.storage.specs.Rows.Ident.{id_of}
 use Rattle.storage.specs.declared.rows.id.Id.{Id}
 use Rattle.decide.specs.Settled.{settled}
 use Rattle.protocol.specs.State.{State}
-use Rattle.steps.specs.Views.{shown}
+use Rattle.block.specs.Views.{shown}
 use Rattle.payloads.specs.OnGraft.{after_graft}
-use Rattle.steps.proofs.ViewLaws.{links-few}
-use Rattle.steps.proofs.LookupLaws.{value-missed, value-there}
+use Rattle.block.proofs.ViewLaws.{links-few}
+use Rattle.block.proofs.LookupLaws.{value-missed, value-there}
 use Rattle.payloads.proofs.OnGraftLaws.{first-taken, length-only, length-missed, length-taken, length-noted, length-full}
 use Rattle.steps.proofs.AtRestLaws.{settled-up, settled-low, settled-takes}
 use Rattle.payloads.proofs.on_graft.graft_notes.Goals as goal

@@ -3,7 +3,7 @@ use Rattle.std.proofs.Common.{arith, ap, sym, ◌∙◌, ◌≡◌, ◌+◌, ℕ
 use Rattle.postcard.specs.Values.{wanted_value}
 use Rattle.decide.specs.Settled.{settled}
 use Rattle.decide.specs.Sizes.{sizes_of, sized_recorded}
-use Rattle.steps.specs.Views.{shown}
+use Rattle.block.specs.Views.{shown}
 use Rattle.payloads.specs.OnGraft.{after_graft}
 use Rattle.payloads.proofs.OnGraftLaws.{graft-sizes, recorded-of}
 use Rattle.steps.proofs.AtRestLaws.{settled-up, settled-low, same_dropped}

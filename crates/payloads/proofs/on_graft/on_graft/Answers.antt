@@ -5,14 +5,14 @@ use Rattle.storage.specs.declared.rows.id.Id.{Id}
 use Rattle.postcard.specs.declared.units.Round.{Round}
 use Rattle.protocol.specs.State.{State}
 use Rattle.time_cache.specs.TimeCache.{get}
-use Rattle.steps.specs.Lookups.{RoundOf}
+use Rattle.block.specs.Caches.CachedReads.{RoundOf}
 use Rattle.steps.specs.Record.{Notable}
 use Rattle.protocol.specs.Whole.{fits}
 use Rattle.steps.specs.Pushes.Noted.{noted_state}
-use Rattle.steps.specs.Panels.{state}
+use Rattle.block.specs.Panels.{state}
 use Rattle.payloads.specs.OnGraft.{after_graft}
-use Rattle.steps.proofs.PanelLaws.{same-state}
-use Rattle.steps.proofs.ViewLaws.{links-few}
+use Rattle.block.proofs.PanelLaws.{same-state}
+use Rattle.block.proofs.ViewLaws.{links-few}
 use Rattle.payloads.proofs.OnGraftLaws.{first-taken, graft-only, graft-missed, graft-still, graft-noted, graft-notable}
 use Rattle.payloads.proofs.on_graft.on_graft.Goals as goal
 use Rattle.payloads.proofs.on_graft.on_graft.Goals.{After-cached_round, After-takes}

@@ -3,9 +3,9 @@ use Rattle.std.proofs.Common.{◌∙◌, ap, sym, refl, arith, length, List, ℕ
 use Rattle.block.specs.LinkSteps.{peer_at}
 use Rattle.wire.specs.Encode.Intake.{after}
 use Rattle.wire.proofs.EncodeLaws.IntakeLaws.{after_nil}
-use Rattle.steps.specs.Views.{shown}
-use Rattle.steps.specs.declared.view.Link.{Link}
-use Rattle.steps.proofs.ViewLaws.{links-few}
+use Rattle.block.specs.Views.{shown}
+use Rattle.block.specs.declared.links.NumberedLink.{NumberedLink}
+use Rattle.block.proofs.ViewLaws.{links-few}
 use Rattle.payloads.proofs.OptimizeTreeLaws.{link-peer}
 use Rattle.payloads.proofs.OnLateGraftReplyLaws.{taken-link, bytes-sender, bytes-first, bytes-none}
 use Rattle.payloads.proofs.on_late_graft_reply.late_actions.Goals as goal

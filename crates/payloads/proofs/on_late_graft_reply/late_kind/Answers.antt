@@ -6,7 +6,7 @@ use Rattle.postcard.specs.Values.{delivery_value}
 use Rattle.protocol.specs.Gossips.{faster}
 use Rattle.block.specs.MissingSteps.{hop}
 use Rattle.block.specs.Caches.GraftSteps.{grafts_at}
-use Rattle.steps.specs.Views.{shown}
+use Rattle.block.specs.Views.{shown}
 use Rattle.payloads.proofs.OnLateGraftReplyLaws.{link-eager, from-none, from-other, from-again, from-far, from-lazy, from-near, kind-none, kind-held, kind-stranger}
 use Rattle.payloads.proofs.on_late_graft_reply.late_kind.Goals as goal
 use Rattle.payloads.proofs.on_late_graft_reply.late_kind.Goals.{After-is_grafted, then-not-no_more_hops-via-then-not-no_more_hops, then-not-no_more_hops-via-else-not-no_more_hops+then-not-link}

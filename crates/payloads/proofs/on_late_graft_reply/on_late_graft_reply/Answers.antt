@@ -6,9 +6,9 @@ use Rattle.protocol.specs.State.{State}
 use Rattle.protocol.specs.Links.{add_lazy}
 use Rattle.decide.specs.Settled.{settled}
 use Rattle.block.specs.LinkSteps.{peer_at, linked}
-use Rattle.steps.specs.Panels.{state}
-use Rattle.steps.specs.Views.{shown}
-use Rattle.steps.proofs.PanelLaws.{same-state}
+use Rattle.block.specs.Panels.{state}
+use Rattle.block.specs.Views.{shown}
+use Rattle.block.proofs.PanelLaws.{same-state}
 use Rattle.steps.proofs.SettledLaws.ThenLaws.{settled-still}
 use Rattle.payloads.specs.OnLateGraftReply.{copy_kind, FasterAt}
 use Rattle.payloads.proofs.OnLateGraftReplyLaws.{after-duplicate, after-repeated, after-faster}

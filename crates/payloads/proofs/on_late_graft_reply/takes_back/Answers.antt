@@ -1,6 +1,6 @@
 use Rattle.std.proofs.Common.{◌∙◌, arith}
-use Rattle.steps.specs.Views.{shown}
-use Rattle.steps.proofs.ViewLaws.{links-few}
+use Rattle.block.specs.Views.{shown}
+use Rattle.block.proofs.ViewLaws.{links-few}
 use Rattle.payloads.proofs.OnLateGraftReplyLaws.{taken-link, taken-stranger}
 use Rattle.payloads.proofs.on_late_graft_reply.takes_back.Goals as goal
 

@@ -6,7 +6,7 @@ use Rattle.storage.specs.Lists.Map.{keys}
 use Rattle.protocol.specs.State.{State}
 use Rattle.block.specs.MissingSteps.{miss_out}
 use Rattle.block.specs.TimerSteps.{timer_out}
-use Rattle.steps.specs.Panels.{state}
+use Rattle.block.specs.Panels.{state}
 use Rattle.payloads.proofs.OptimizeTreeLaws.{optimised-only, closed}
 use Rattle.payloads.proofs.optimize_tree.close.Goals as goal
 

@@ -4,9 +4,8 @@ use Rattle.storage.specs.Rows.Ident.{id_of}
 use Rattle.protocol.specs.Gossips.{announcers}
 use Rattle.block.specs.MissingSteps.{hops_at}
 use Rattle.block.specs.declared.hops.Hop.{Hop as LinkHop}
-use Rattle.steps.specs.Views.{shown}
-use Rattle.payloads.specs.OptimizeTree.{nearest}
-use Rattle.payloads.specs.OptimizeTree.{NearestOf}
+use Rattle.block.specs.Views.{shown}
+use Rattle.payloads.specs.OptimizeTree.{nearest, NearestOf}
 use Rattle.payloads.proofs.OptimizeTreeLaws.{threshold-of, announced-some, nearest-far, nearest-not, nearest-few, nearest-none}
 use Rattle.payloads.proofs.optimize_tree.closer_announcer.Goals as goal
 use Rattle.payloads.proofs.optimize_tree.closer_announcer.Goals.{else-least-round-via-then-least-round+else-round-least, else-least-round-via-else-least-round}

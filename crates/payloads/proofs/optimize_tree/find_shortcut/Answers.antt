@@ -2,7 +2,7 @@
 use Rattle.std.proofs.Common.{◌∙◌, sym, subst, Option}
 use Rattle.storage.specs.Rows.Ident.{id_of}
 use Rattle.decide.specs.Settled.{settled}
-use Rattle.steps.specs.Views.{shown}
+use Rattle.block.specs.Views.{shown}
 use Rattle.payloads.specs.OptimizeTree.{shortcut, ShortcutOf}
 use Rattle.payloads.specs.declared.optimize_tree.Shortcut.{Shortcut}
 use Rattle.payloads.proofs.OptimizeTreeLaws.{shortcut-yes, shortcut-no}

@@ -4,8 +4,8 @@ use Rattle.protocol.specs.State.{Hop}
 use Rattle.protocol.specs.Gossips.{least_from}
 use Rattle.block.specs.MissingSteps.{hop, hops_at}
 use Rattle.block.specs.declared.hops.Hop.{Hop as LinkHop}
-use Rattle.steps.specs.Found.{hop_of}
-use Rattle.steps.specs.Views.{shown}
+use Rattle.block.specs.Found.{hop_of}
+use Rattle.block.specs.Views.{shown}
 use Rattle.payloads.specs.OptimizeTree.{least_of}
 use Rattle.payloads.proofs.OptimizeTreeLaws.{least-begin, least-end, least-closer, least-further}
 use Rattle.payloads.proofs.optimize_tree.least_announcer.Goals as goal

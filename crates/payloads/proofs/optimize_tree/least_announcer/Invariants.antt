@@ -2,8 +2,8 @@
 use Rattle.std.proofs.Common.{◌≡◌, ◌<◌, length, drop}
 use Rattle.block.specs.MissingSteps.{hops_at}
 use Rattle.protocol.specs.Gossips.{least_from}
-use Rattle.steps.specs.Found.{hop_of}
-use Rattle.steps.specs.Views.{shown}
+use Rattle.block.specs.Found.{hop_of}
+use Rattle.block.specs.Views.{shown}
 use Rattle.payloads.specs.OptimizeTree.{least_of}
 use Rattle.payloads.proofs.optimize_tree.least_announcer.Given as goal
 

@@ -3,10 +3,10 @@ use Rattle.std.proofs.Common.{◌≡◌, ◌∙◌, refl, sym, subst}
 use Rattle.storage.specs.Rows.Ident.{id_of}
 use Rattle.protocol.specs.State.{State}
 use Rattle.decide.specs.Settled.{settled}
-use Rattle.steps.specs.Found.{LinkAt}
-use Rattle.steps.specs.Panels.{state}
-use Rattle.steps.specs.Views.{shown}
-use Rattle.steps.proofs.PanelLaws.{same-state}
+use Rattle.block.specs.Found.{LinkAt}
+use Rattle.block.specs.Panels.{state}
+use Rattle.block.specs.Views.{shown}
+use Rattle.block.proofs.PanelLaws.{same-state}
 use Rattle.steps.proofs.SettledLaws.ThenLaws.{settled-still}
 use Rattle.payloads.specs.OptimizeTree.{shortcut, NearestAt}
 use Rattle.payloads.proofs.OptimizeTreeLaws.{state-some, state-none}

@@ -2,7 +2,7 @@
 use Rattle.std.proofs.Common.{◌∙◌, ap, sym, arith, length, List, ℕ}
 use Rattle.wire.specs.Encode.Intake.{after}
 use Rattle.wire.proofs.EncodeLaws.IntakeLaws.{after_nil}
-use Rattle.steps.specs.Views.{shown}
+use Rattle.block.specs.Views.{shown}
 use Rattle.payloads.proofs.OptimizeTreeLaws.{bytes-some, bytes-none}
 use Rattle.payloads.proofs.optimize_tree.optimize_actions.Goals as goal
 

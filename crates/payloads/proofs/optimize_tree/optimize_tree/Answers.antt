@@ -5,8 +5,8 @@ use Rattle.storage.specs.Lists.Map.{keys}
 use Rattle.protocol.specs.Links.{add_lazy}
 use Rattle.protocol.specs.State.{State}
 use Rattle.block.specs.LinkSteps.{peer_at, linked}
-use Rattle.steps.specs.Panels.{state}
-use Rattle.steps.specs.declared.panel.Panel.{Panel}
+use Rattle.block.specs.Panels.{state}
+use Rattle.block.specs.declared.panel.Panel.{Panel}
 use Rattle.payloads.proofs.OptimizeTreeLaws.{marked, marked-yes, marked-no, marked-up, marked-low, marked-then}
 use Rattle.payloads.proofs.optimize_tree.optimize_tree.Goals as goal
 use Rattle.payloads.proofs.optimize_tree.optimize_tree.Goals.{Joined-not-eager_at, then-not-eager_at, else-not-eager_at}

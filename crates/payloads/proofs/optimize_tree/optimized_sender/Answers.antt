@@ -1,9 +1,9 @@
 use Rattle.std.proofs.Common.{◌∙◌, ap, not, sym, ℕ, subst, Option}
 use Rattle.decide.specs.Settled.{settled}
 use Rattle.payloads.specs.OptimizeTree.{wanted}
-use Rattle.steps.specs.Found.{LinkIf}
+use Rattle.block.specs.Found.{LinkIf}
 use Rattle.storage.specs.Rows.Ident.{id_of}
-use Rattle.steps.specs.Views.{shown}
+use Rattle.block.specs.Views.{shown}
 use Rattle.payloads.proofs.OptimizeTreeLaws.{wanted-link, wanted-stranger}
 use Rattle.payloads.proofs.optimize_tree.optimized_sender.Goals as goal
 

@@ -4,8 +4,8 @@ use Rattle.postcard.specs.Message.{Prune, Graft, message_bytes}
 use Rattle.postcard.specs.Output.{send_head}
 use Rattle.wire.specs.Encode.Intake.{after}
 use Rattle.wire.proofs.EncodeLaws.IntakeLaws.{after_append}
-use Rattle.steps.specs.Views.{shown}
-use Rattle.steps.proofs.ViewLaws.{links-few}
+use Rattle.block.specs.Views.{shown}
+use Rattle.block.proofs.ViewLaws.{links-few}
 use Rattle.payloads.proofs.OptimizeTreeLaws.{sent-eager, sent-lazy}
 use Rattle.payloads.proofs.optimize_tree.shortcut_actions.Goals as goal
 

@@ -5,7 +5,7 @@ use Rattle.decide.specs.Settled.{settled}
 use Rattle.block.proofs.CachesLaws.CachedLaws.{count-cached}
 use Rattle.steps.specs.Settled.Then.{no_cached}
 use Rattle.steps.specs.Shared.{EntryIs, HeldAt}
-use Rattle.steps.specs.Views.{shown}
+use Rattle.block.specs.Views.{shown}
 use Rattle.steps.proofs.message_cache.cached_then.Goals as goal
 use Rattle.steps.proofs.message_cache.cached_then.Goals.{In-Some}
 

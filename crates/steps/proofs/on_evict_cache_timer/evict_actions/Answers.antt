@@ -3,7 +3,7 @@ use Rattle.std.proofs.Common.{List, ap, sym, ◌∙◌, ℕ, subst}
 use Rattle.storage.specs.Lists.Base.{concat_map}
 use Rattle.postcard.specs.Message.{Action, action_bytes}
 use Rattle.wire.specs.Encode.Intake.{after, RoomFor}
-use Rattle.steps.specs.Views.{shown}
+use Rattle.block.specs.Views.{shown}
 use Rattle.steps.proofs.StandsLaws.{in_order}
 use Rattle.steps.proofs.ActionLaws.{evict-yes, evict-no, one-action, scheduled}
 use Rattle.steps.proofs.ForgottenLaws.{init-of}

@@ -4,7 +4,7 @@ use Rattle.storage.specs.Lists.Base.{concat_map}
 use Rattle.postcard.specs.Message.{Action, action_bytes}
 use Rattle.wire.specs.Encode.Intake.{after, RoomFor}
 use Rattle.wire.proofs.EncodeLaws.IntakeLaws.{after_nil}
-use Rattle.steps.specs.Views.{shown}
+use Rattle.block.specs.Views.{shown}
 use Rattle.steps.proofs.StandsLaws.{in_order}
 use Rattle.steps.proofs.ActionLaws.{first-yes, first-no, no-action}
 use Rattle.steps.proofs.ForgottenLaws.{init-of}

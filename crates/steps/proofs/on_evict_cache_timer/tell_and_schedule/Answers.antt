@@ -1,5 +1,5 @@
 -- `tell_and_schedule`: what is told, and the schedule behind it.
-use Rattle.steps.specs.Views.{shown}
+use Rattle.block.specs.Views.{shown}
 use Rattle.steps.proofs.ForgottenLaws.{told-room, rest-room, told-then}
 use Rattle.steps.proofs.on_evict_cache_timer.tell_and_schedule.Goals as goal
 

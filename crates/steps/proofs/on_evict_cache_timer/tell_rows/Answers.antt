@@ -7,7 +7,7 @@ use Rattle.postcard.specs.Message.{action_bytes}
 use Rattle.wire.specs.Encode.Intake.{after}
 use Rattle.block.specs.Caches.CachedReads.{row_id}
 use Rattle.decide.specs.Settled.{forgotten_actions}
-use Rattle.steps.specs.Views.{shown}
+use Rattle.block.specs.Views.{shown}
 use Rattle.steps.proofs.ForgottenLaws.{told_from, told-all, row-room, row-same, row-left, rows-done}
 use Rattle.steps.proofs.on_evict_cache_timer.tell_rows.Given.{Over}
 use Rattle.steps.proofs.on_evict_cache_timer.tell_rows.Goals as goal

@@ -2,8 +2,8 @@
 use Rattle.std.proofs.Common.{◌≡◌, refl, false, subst}
 use Rattle.protocol.specs.Links.{is_neighbour}
 use Rattle.protocol.specs.State.{State}
-use Rattle.steps.specs.Panels.{state}
-use Rattle.steps.proofs.PanelLaws.{same-state}
+use Rattle.block.specs.Panels.{state}
+use Rattle.block.proofs.PanelLaws.{same-state}
 use Rattle.steps.proofs.NeighborLaws.{down-away}
 use Rattle.steps.proofs.on_neighbor_down.on_neighbor_down.Goals as goal
 

@@ -1,7 +1,7 @@
 -- `contents_adjoin`: the rows of table 5.
 use Rattle.std.proofs.Common.{ap, ◌∙◌, List, ℕ, arith, lit<}
 use Rattle.block.specs.View.{limits_of}
-use Rattle.whole.specs.Held.{adjoin}
+use Rattle.block.specs.Sound.{adjoin}
 use Rattle.whole.proofs.LentLaws.{rows-lent}
 use Rattle.whole.proofs.tables.contents_adjoin.Goals as goal
 

@@ -3,7 +3,7 @@ use Rattle.std.proofs.Common.{◌≡◌, drop}
 use Rattle.storage.specs.Lists.Base.{concat_map}
 use Rattle.postcard.specs.Message.{ihave_bytes}
 use Rattle.wire.specs.Encode.Intake.{after, RoomFor}
-use Rattle.steps.specs.Views.{shown}
+use Rattle.block.specs.Views.{shown}
 use Rattle.announcements.specs.QueuedRows.{ihaves_at}
 use Rattle.announcements.proofs.on_dispatch_timer.ihave.encode_entries.Given as goal
 

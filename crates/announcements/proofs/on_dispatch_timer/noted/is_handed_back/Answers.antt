@@ -3,9 +3,9 @@ use Rattle.std.proofs.Common.{◌≡◌, ℕ, ◌*◌, ◌<◌, length, get_or, 
 use lib.ListN.{length-map}
 use Rattle.block.specs.LinkSteps.{peer_at}
 use Rattle.steps.specs.Groups.{part}
-use Rattle.steps.specs.Queue.{note_at}
-use Rattle.steps.specs.Views.{shown}
-use Rattle.steps.proofs.RowLaws.{queue-few, per-message}
+use Rattle.block.specs.NoteSteps.{note_at}
+use Rattle.block.specs.Views.{shown}
+use Rattle.block.proofs.NoteRowLaws.{queue-few, per-message}
 use Rattle.announcements.specs.QueuedRows.{held_then, ihave_of}
 use Rattle.announcements.proofs.OnDispatchLaws.QueueLaws.{queued-few}
 use Rattle.announcements.proofs.OnDispatchLaws.BatchLaws.{k, after-none, all-taken, after-all}

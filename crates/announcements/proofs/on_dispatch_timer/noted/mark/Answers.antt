@@ -4,7 +4,7 @@ use Rattle.std.proofs.Math.Seq.{take_all}
 use Rattle.storage.specs.Rows.Ident.{id_of}
 use Rattle.postcard.specs.Message.{Ihave}
 use Rattle.protocol.specs.State.{Note}
-use Rattle.steps.specs.Views.{shown}
+use Rattle.block.specs.Views.{shown}
 use Rattle.announcements.specs.Marks.{Covers}
 use Rattle.announcements.specs.QueuedRows.{ihaves_at, among}
 use Rattle.announcements.proofs.OnDispatchLaws.MarkLaws.{low-in, covers-none, covers_more, among-known}

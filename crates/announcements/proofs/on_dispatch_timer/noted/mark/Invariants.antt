@@ -1,5 +1,5 @@
 use Rattle.std.proofs.Common.{take}
-use Rattle.steps.specs.Views.{shown}
+use Rattle.block.specs.Views.{shown}
 use Rattle.announcements.specs.Marks.{Covers}
 use Rattle.announcements.specs.QueuedRows.{ihaves_at, among}
 use Rattle.announcements.proofs.on_dispatch_timer.noted.mark.Given as goal

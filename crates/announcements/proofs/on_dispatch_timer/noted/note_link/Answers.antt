@@ -8,9 +8,9 @@ use Rattle.protocol.specs.State.{State, Note}
 use Rattle.protocol.specs.Push.{record_full}
 use Rattle.decide.specs.RecordGrowth.{add_note}
 use Rattle.block.specs.LinkSteps.{peer_at}
-use Rattle.steps.specs.Queue.{note_at}
-use Rattle.steps.specs.Views.{shown}
-use Rattle.steps.proofs.ViewLaws.{links-few}
+use Rattle.block.specs.NoteSteps.{note_at}
+use Rattle.block.specs.Views.{shown}
+use Rattle.block.proofs.ViewLaws.{links-few}
 use Rattle.announcements.specs.Marks.{low_of, Covers, Found}
 use Rattle.announcements.specs.QueuedRows.{held_then, ihave_of, ihaves_at, notes_at, among}
 use Rattle.announcements.proofs.OnDispatchLaws.MarkLaws.{low-in, covers-same, covers-clear}

@@ -7,11 +7,11 @@ use Rattle.postcard.specs.Message.{Ihave}
 use Rattle.protocol.specs.State.{State}
 use Rattle.decide.specs.RecordGrowth.{add_notes}
 use Rattle.block.specs.LinkSteps.{peer_at}
-use Rattle.steps.specs.Queue.{note_at}
-use Rattle.steps.specs.Views.{shown}
+use Rattle.block.specs.NoteSteps.{note_at}
+use Rattle.block.specs.Views.{shown}
 use Rattle.steps.proofs.GroupsLaws.GroupLaws.{apart_of}
-use Rattle.steps.proofs.RowLaws.{queue-few, record-few, per-message}
-use Rattle.steps.proofs.ViewLaws.{links-few}
+use Rattle.block.proofs.NoteRowLaws.{queue-few, record-few, per-message}
+use Rattle.block.proofs.ViewLaws.{links-few}
 use Rattle.announcements.specs.QueuedRows.{held_then, ihave_of, ihaves_at, Mine}
 use Rattle.announcements.proofs.OnDispatchLaws.QueueLaws.{queued-few}
 use Rattle.announcements.proofs.OnDispatchLaws.FoundLaws.{found-none}

@@ -2,7 +2,7 @@
 use Rattle.std.proofs.Common.{sym, ap, ◌∙◌}
 use Rattle.postcard.specs.Message.{Ihave}
 use Rattle.protocol.specs.State.{Note}
-use Rattle.steps.specs.Views.{shown}
+use Rattle.block.specs.Views.{shown}
 use Rattle.announcements.specs.QueuedRows.{held_then}
 use Rattle.announcements.proofs.OnDispatchLaws.RowLaws.{any-start, any-found, any-not}
 use Rattle.announcements.proofs.on_dispatch_timer.sends.any_cached.Goals as goal

@@ -14,12 +14,12 @@ use Rattle.block.specs.LinkSteps.{peer_at}
 use Rattle.block.proofs.LinkLaws.{count-links}
 use Rattle.steps.specs.Calls.{rooms_of}
 use Rattle.steps.specs.Stands.{Stands}
-use Rattle.steps.specs.Views.{shown}
+use Rattle.block.specs.Views.{shown}
 use Rattle.steps.proofs.AtRestLaws.{stands_of, same_links}
 use Rattle.steps.proofs.GroupsLaws.GroupLaws.{apart_of}
 use Rattle.steps.proofs.RoomsLaws.{same-rooms-in}
-use Rattle.steps.proofs.RowLaws.{queue-few}
-use Rattle.steps.proofs.ViewLaws.{links-few}
+use Rattle.block.proofs.NoteRowLaws.{queue-few}
+use Rattle.block.proofs.ViewLaws.{links-few}
 use Rattle.announcements.specs.OnDispatchTimer.{dispatch_bytes}
 use Rattle.announcements.specs.QueuedRows.{held_then}
 use Rattle.announcements.proofs.OnDispatchLaws.ActionLoop.{all-actions, next-peer, no-peer}

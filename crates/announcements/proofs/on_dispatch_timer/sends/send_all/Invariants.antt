@@ -4,7 +4,7 @@ use Rattle.storage.specs.Lists.Map.{keys}
 use Rattle.protocol.specs.Ticks.{per_message}
 use Rattle.decide.specs.Settled.{settled}
 use Rattle.steps.specs.Calls.{rooms_of}
-use Rattle.steps.specs.Views.{shown}
+use Rattle.block.specs.Views.{shown}
 use Rattle.announcements.specs.OnDispatchTimer.{dispatch_bytes}
 use Rattle.announcements.specs.QueuedRows.{held_then}
 use Rattle.announcements.proofs.OnDispatchLaws.SendLaws.{Going}

@@ -7,13 +7,13 @@ use Rattle.protocol.specs.Ticks.{per_message}
 use Rattle.decide.specs.Rooms.{kth_taken}
 use Rattle.block.specs.LinkSteps.{peer_at}
 use Rattle.steps.specs.Calls.{rooms_of}
-use Rattle.steps.specs.Queue.{note_at}
-use Rattle.steps.specs.Views.{shown}
-use Rattle.steps.specs.declared.view.Link.{Link}
-use Rattle.steps.proofs.PanelLaws.{link-key}
+use Rattle.block.specs.NoteSteps.{note_at}
+use Rattle.block.specs.Views.{shown}
+use Rattle.block.specs.declared.links.NumberedLink.{NumberedLink}
+use Rattle.block.proofs.PanelLaws.{link-key}
 use Rattle.steps.proofs.RoomsLaws.{kth-link}
-use Rattle.steps.proofs.RowLaws.{per-message, queue-few}
-use Rattle.steps.proofs.ViewLaws.{links-few}
+use Rattle.block.proofs.NoteRowLaws.{per-message, queue-few}
+use Rattle.block.proofs.ViewLaws.{links-few}
 use Rattle.announcements.specs.QueuedRows.{held_then, ihave_of, ihaves_at}
 use Rattle.announcements.proofs.OnDispatchLaws.QueueLaws.{queued-few}
 use Rattle.announcements.proofs.OnDispatchLaws.RowLaws.{piece-first, piece-rest, piece-rows, rest-rows, later-than}

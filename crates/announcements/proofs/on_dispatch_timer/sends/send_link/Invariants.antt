@@ -7,7 +7,7 @@ use Rattle.protocol.specs.Ticks.{per_message}
 use Rattle.decide.specs.Pieces.{peer_pieces, piece_actions}
 use Rattle.block.specs.LinkSteps.{peer_at}
 use Rattle.steps.specs.Calls.{rooms_of}
-use Rattle.steps.specs.Views.{shown}
+use Rattle.block.specs.Views.{shown}
 use Rattle.announcements.specs.QueuedRows.{held_then, flag_after_all, ihaves_at, RowsOf}
 use Rattle.announcements.proofs.OnDispatchLaws.SendLaws.{Linking}
 use Rattle.announcements.proofs.on_dispatch_timer.sends.send_link.Given as goal

@@ -4,7 +4,7 @@ use borrow.Author.Tests.{eqb-false}
 use Rattle.postcard.specs.Message.{Neighbors, Emitted}
 use Rattle.wire.specs.Encode.Intake.{Intake, after, RoomFor}
 use Rattle.decide.specs.Settled.{settled}
-use Rattle.steps.specs.Views.{shown}
+use Rattle.block.specs.Views.{shown}
 use Rattle.steps.proofs.ActionLaws.{one-action, no-action}
 use Rattle.machine.specs.Kinds.Meaning.{StepHeld, SenderIs, step_actions, step_far}
 use Rattle.machine.specs.Steps.{event_bytes}

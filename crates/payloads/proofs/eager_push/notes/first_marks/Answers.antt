@@ -1,6 +1,6 @@
 use Rattle.std.proofs.Common.{◌≡◌, sym, ap, ◌∙◌, arith, Bool, ℕ, ◌<◌, length-set, if◌then◌else◌}
-use Rattle.steps.specs.Views.{shown}
-use Rattle.steps.proofs.ViewLaws.{links-few}
+use Rattle.block.specs.Views.{shown}
+use Rattle.block.proofs.ViewLaws.{links-few}
 use Rattle.payloads.specs.Eager.Targets.{hands_back}
 use Rattle.payloads.specs.EagerPush.Targets.{skipped_peers}
 use Rattle.payloads.proofs.EagerLaws.ScanLaws.{set_more}

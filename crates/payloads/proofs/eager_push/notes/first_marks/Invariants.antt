@@ -1,4 +1,4 @@
-use Rattle.steps.specs.Views.{shown}
+use Rattle.block.specs.Views.{shown}
 use Rattle.payloads.specs.Eager.Scan.{Starts}
 use Rattle.payloads.specs.EagerPush.Targets.{skipped_peers}
 use Rattle.payloads.proofs.eager_push.notes.first_marks.Given as goal

@@ -1,5 +1,5 @@
 use Rattle.std.proofs.Common.{sym, ◌∙◌, arith}
-use Rattle.steps.specs.Views.{shown}
+use Rattle.block.specs.Views.{shown}
 use Rattle.payloads.proofs.EagerPushLaws.NoteLaws.{no-backs-start, no-backs-more, no-backs-all}
 use Rattle.payloads.proofs.eager_push.notes.is_handed_back.Goals as goal
 

@@ -1,5 +1,5 @@
 use Rattle.std.proofs.Common.{◌≡◌, []}
-use Rattle.steps.specs.Views.{shown}
+use Rattle.block.specs.Views.{shown}
 use Rattle.payloads.proofs.EagerPushLaws.NoteLaws.{first_backs}
 use Rattle.payloads.proofs.eager_push.notes.is_handed_back.Given as goal
 

@@ -5,7 +5,7 @@ use Rattle.block.specs.LinkSteps.{peer_at}
 use Rattle.block.specs.NoteSteps.{note}
 use Rattle.block.proofs.LinkLaws.{count-links}
 use Rattle.block.proofs.NoteLaws.{count-dropped}
-use Rattle.steps.specs.Views.{shown}
+use Rattle.block.specs.Views.{shown}
 use Rattle.payloads.proofs.EagerLaws.ScanLaws.{seen_start, seen_end, seen-passed, seen-set, seen_same, seen_one}
 use Rattle.payloads.proofs.eager_push.notes.marks_after.Goals as goal
 use Rattle.payloads.proofs.eager_push.notes.marks_after.Goals.{then-marks-link-lt-MAX_DROPPED_PER_PEER, then-same, else-same, else-marks-link-lt-MAX_DROPPED_PER_PEER}

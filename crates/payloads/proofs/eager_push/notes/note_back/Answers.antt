@@ -3,9 +3,9 @@ use Rattle.std.proofs.Math.Path.{subst}
 use Rattle.storage.specs.Rows.Ident.{id_of}
 use Rattle.protocol.specs.State.{State}
 use Rattle.decide.specs.RecordGrowth.{cached_in}
-use Rattle.steps.specs.Panels.{state}
+use Rattle.block.specs.Panels.{state}
 use Rattle.steps.specs.Record.{with_these}
-use Rattle.steps.proofs.PanelLaws.{same-state}
+use Rattle.block.proofs.PanelLaws.{same-state}
 use Rattle.payloads.specs.EagerPush.Notes.{record_back}
 use Rattle.payloads.proofs.EagerPushLaws.NoteLaws.{noted-back, these-length, back-record}
 use Rattle.payloads.proofs.eager_push.notes.note_back.Goals as goal

@@ -1,8 +1,8 @@
 use Rattle.std.proofs.Common.{◌≡◌, ◌<◌, ◌∙◌, sym, length, arith, [], ◌∷◌, Bool, true, false, get_or, ltb, length-append, lt-ltb, le-ltb, rules}
 use Rattle.storage.specs.Rows.Ident.{id_of}
 use Rattle.block.proofs.NoteLaws.{count-dropped}
-use Rattle.steps.specs.Views.{shown}
-use Rattle.steps.proofs.ViewLaws.{links-few}
+use Rattle.block.specs.Views.{shown}
+use Rattle.block.proofs.ViewLaws.{links-few}
 use Rattle.payloads.proofs.EagerLaws.ScanLaws.{wants}
 use Rattle.payloads.specs.EagerPush.Targets.{skipped_peers}
 use Rattle.payloads.proofs.EagerPushLaws.NoteLaws.{none-back, noted-none, noted-more, noted-full, noted-pass, noted-all, below-more}

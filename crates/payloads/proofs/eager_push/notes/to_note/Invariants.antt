@@ -1,6 +1,6 @@
 use Rattle.std.proofs.Common.{◌≤◌, ◌<◌, length, All}
 use Rattle.storage.specs.Rows.Ident.{id_of}
-use Rattle.steps.specs.Views.{shown}
+use Rattle.block.specs.Views.{shown}
 use Rattle.payloads.proofs.EagerPushLaws.NoteLaws.{Noted}
 use Rattle.payloads.proofs.eager_push.notes.to_note.Given as goal
 

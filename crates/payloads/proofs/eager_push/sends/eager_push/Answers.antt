@@ -2,7 +2,7 @@
 use Rattle.std.proofs.Common.{refl, not}
 use Rattle.storage.specs.Lists.Base.{is_empty}
 use Rattle.block.specs.View.{state_of}
-use Rattle.steps.specs.Views.{shown}
+use Rattle.block.specs.Views.{shown}
 use Rattle.payloads.specs.EagerPush.Targets.{push_backs}
 use Rattle.payloads.proofs.AfterLaws.{after-both}
 use Rattle.payloads.proofs.EagerPushLaws.SendLaws.{push-parts}

@@ -1,6 +1,6 @@
 -- `push_sends` meets its contract: a send more where the link is a target, and `back` where it was handed back.
 use Rattle.std.proofs.Common.{arith, ap, ◌∙◌, ◌<◌, length}
-use Rattle.steps.specs.Views.{shown}
+use Rattle.block.specs.Views.{shown}
 use Rattle.payloads.proofs.EagerPushLaws.TargetLaws.{few_links}
 use Rattle.payloads.proofs.EagerPushLaws.SendLaws.{sends-start, sends-done, sends-skip, sends-more, back-start, back-done, back-skip, back-more}
 use Rattle.payloads.proofs.eager_push.sends.push_sends.Goals as goal

@@ -1,7 +1,7 @@
 -- `push_sends`: the sends to the links before this one are out, and `back` tells whether any of them was handed back.
 use Rattle.std.proofs.Common.{◌≡◌}
 use Rattle.wire.specs.Encode.Intake.{after}
-use Rattle.steps.specs.Views.{shown}
+use Rattle.block.specs.Views.{shown}
 use Rattle.payloads.proofs.EagerPushLaws.SendLaws.{sends_to, any_back}
 use Rattle.payloads.proofs.eager_push.sends.push_sends.Given as goal
 

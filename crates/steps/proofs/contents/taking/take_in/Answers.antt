@@ -1,8 +1,8 @@
 -- `taking::take_in` meets its contract: the message is marked received, and then cached.
 use Rattle.std.proofs.Common.{arith}
 use Rattle.storage.specs.Rows.Ident.{id_of}
-use Rattle.steps.specs.Contents.Taking.{forgotten_at, uncached_at}
-use Rattle.steps.proofs.ContentsLaws.Takings.{times-fit, order-then, most-then, bytes-then, taken-goes}
+use Rattle.steps.specs.Taking.{forgotten_at, uncached_at}
+use Rattle.steps.proofs.Takings.{times-fit, order-then, most-then, bytes-then, taken-goes}
 use Rattle.steps.proofs.contents.taking.take_in.Goals as goal
 
 pub overflow_add-forgotten : goal.overflow_add-forgotten

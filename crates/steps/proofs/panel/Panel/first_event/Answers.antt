@@ -2,7 +2,7 @@
 use Rattle.std.proofs.Common.{true, refl, ap, sym, ◌∙◌, ◌≡◌, subst}
 use Rattle.protocol.specs.State.{with_init}
 use Rattle.decide.specs.StateAfter.{first_state}
-use Rattle.steps.specs.Panels.{state, AtRest}
+use Rattle.block.specs.Panels.{state, AtRest}
 use Rattle.steps.proofs.EvictStepLaws.{first-still, first-done, rest-first}
 use Rattle.steps.proofs.panel.Panel.first_event.Goals as goal
 use Rattle.steps.proofs.panel.Panel.first_event.Goals.{After-flag_init}

@@ -1,7 +1,7 @@
 -- `lazy_push` meets its contract.
 use Rattle.std.proofs.Common.{◌∙◌, sym, ◌<◌, length, arith}
 use Rattle.storage.specs.Rows.Ident.{id_of}
-use Rattle.steps.specs.Panels.{state}
+use Rattle.block.specs.Panels.{state}
 use Rattle.steps.proofs.LazyPushLaws.{lazy-take, lazy-skip, lazy-room, lazy-end}
 use Rattle.steps.proofs.panel.Panel.lazy_push.Goals as goal
 use Rattle.steps.proofs.panel.Panel.lazy_push.Goals.{then-is_lazy_target, else-is_lazy_target}

@@ -1,6 +1,6 @@
 use Rattle.std.proofs.Common.{take}
 use Rattle.storage.specs.Rows.Ident.{id_of}
-use Rattle.steps.specs.Panels.{state, Goes}
+use Rattle.block.specs.Panels.{state, Goes}
 use Rattle.steps.proofs.LazyPushLaws.{lazy_queued}
 use Rattle.steps.proofs.panel.Panel.lazy_push.Given as goal
 

@@ -2,11 +2,11 @@ use Rattle.std.proofs.Common.{arith, ap, sym, ◌∙◌, ◌≡◌, length, ◌�
 use Rattle.storage.specs.Rows.Ident.{id_of}
 use Rattle.protocol.specs.State.{State}
 use Rattle.block.specs.LinkSteps.{peer_at}
-use Rattle.block.specs.NoteSteps.{note}
-use Rattle.steps.specs.Panels.{state, standing}
+use Rattle.block.specs.NoteSteps.{note, standing}
+use Rattle.block.specs.Panels.{state}
 use Rattle.steps.specs.Record.{takes_note}
-use Rattle.steps.specs.declared.panel.Panel.{Panel}
-use Rattle.steps.proofs.PanelLaws.{same-state}
+use Rattle.block.specs.declared.panel.Panel.{Panel}
+use Rattle.block.proofs.PanelLaws.{same-state}
 use Rattle.steps.proofs.RecordLaws.{noted-yes, state-yes, state-no}
 use Rattle.steps.proofs.panel.Panel.note_dropped.Goals as goal
 use Rattle.steps.proofs.panel.Panel.note_dropped.Goals.{then-takes_note, else-takes_note, After-takes_note}

@@ -1,6 +1,6 @@
 use Rattle.std.proofs.Common.{arith, refl}
 use Rattle.block.specs.View.{state_of}
-use Rattle.steps.proofs.PanelLaws.{link-below}
+use Rattle.block.proofs.PanelLaws.{link-below}
 use Rattle.steps.proofs.panel.Panel.note_graft.Goals as goal
 
 pub overflow_add-expires : goal.overflow_add-expires

@@ -1,6 +1,6 @@
 use Rattle.std.proofs.Common.{take}
 use Rattle.storage.specs.Rows.Ident.{id_of}
-use Rattle.steps.specs.Panels.{Goes}
+use Rattle.block.specs.Panels.{Goes}
 use Rattle.steps.proofs.NoteTheseLaws.{noting}
 use Rattle.steps.proofs.panel.Panel.note_these.Given as goal
 

@@ -6,11 +6,11 @@ use Rattle.time_cache.specs.TimeCache.{get}
 use Rattle.protocol.specs.State.{State}
 use Rattle.decide.specs.Settled.{settled}
 use Rattle.block.proofs.CachesLaws.GraftedLaws.{count-grafted}
-use Rattle.steps.specs.Panels.{state}
+use Rattle.block.specs.Panels.{state}
 use Rattle.steps.specs.Settled.Then.{no_grafts}
 use Rattle.steps.specs.Shared.{HeldAt}
 use Rattle.steps.proofs.AtRestLaws.{stands_of}
-use Rattle.steps.proofs.PanelLaws.{same-state}
+use Rattle.block.proofs.PanelLaws.{same-state}
 use Rattle.steps.proofs.SetFirstLaws.{first-some, first-none}
 use Rattle.steps.proofs.StandsLaws.{grafted-order}
 use Rattle.steps.proofs.panel.Panel.set_first.Goals as goal

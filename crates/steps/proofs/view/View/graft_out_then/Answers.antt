@@ -8,9 +8,9 @@ use Rattle.decide.specs.Settled.{settled}
 use Rattle.block.specs.LinkSteps.{peer_at}
 use Rattle.steps.specs.Settled.Then.{no_grafts}
 use Rattle.steps.specs.Shared.{EntryIs, HeldAt}
-use Rattle.steps.specs.Views.{shown}
-use Rattle.steps.proofs.FoundLaws.{peers-none, peers-some}
-use Rattle.steps.proofs.GraftsLaws.PeerLaws.{out-away, out_none, out-empty}
+use Rattle.block.specs.Views.{shown}
+use Rattle.steps.proofs.PeersLaws.{peers-none, peers-some}
+use Rattle.block.proofs.GraftsLaws.PeerLaws.{out-away, out_none, out-empty}
 use Rattle.steps.proofs.view.View.graft_out_then.Goals as goal
 use Rattle.steps.proofs.view.View.graft_out_then.Goals.{Start, In-Some}
 

@@ -1,6 +1,6 @@
 use Rattle.std.proofs.Common.{arith}
 use Rattle.block.specs.View.{state_of}
-use Rattle.steps.proofs.RowLaws.{size_low}
+use Rattle.block.proofs.NoteRowLaws.{size_low}
 use Rattle.steps.proofs.view.View.per_message.Goals as goal
 
 pub chunk_len-requires : goal.chunk_len-requires

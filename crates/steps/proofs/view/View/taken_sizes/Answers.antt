@@ -4,7 +4,7 @@ use Rattle.std.proofs.Math.Path.{subst}
 use Rattle.storage.specs.Rows.Ident.{id_of}
 use Rattle.decide.specs.Settled.{settled}
 use Rattle.steps.specs.Shared.{sizes_value}
-use Rattle.steps.specs.Views.{shown}
+use Rattle.block.specs.Views.{shown}
 use Rattle.steps.proofs.SettledLaws.FewLaws.{Few, few-then}
 use Rattle.steps.proofs.TakeInLaws.{byte-small, settled-rest, taken-over, taken-new, old-least}
 use Rattle.steps.proofs.view.View.taken_sizes.Goals as goal

@@ -2,9 +2,9 @@ use Rattle.std.proofs.Common.{arith, not, sym, ap, ◌∙◌, ltb-true, ltb-fals
 use Rattle.storage.specs.Rows.Ident.{id_of}
 use Rattle.block.specs.LinkSteps.{peer_at}
 use Rattle.block.proofs.NoteLaws.{count-dropped}
-use Rattle.steps.specs.Views.{shown}
+use Rattle.block.specs.Views.{shown}
 use Rattle.steps.proofs.RecordLaws.{takes-open, takes-peer, takes-all}
-use Rattle.steps.proofs.PanelLaws.{link-below}
+use Rattle.block.proofs.PanelLaws.{link-below}
 use Rattle.steps.proofs.view.View.takes_note.Goals as goal
 use Rattle.steps.proofs.view.View.takes_note.Goals.{then-scan-lt-MAX_DROPPED_PER_PEER, else-scan-lt-MAX_DROPPED_PER_PEER}
 

@@ -1,7 +1,7 @@
 -- `QueuedIhave::encode`: the beginning, then the entries.
 use lib.ListN.{length-map}
-use Rattle.steps.specs.Queue.{note_at}
-use Rattle.steps.specs.Views.{shown}
+use Rattle.block.specs.NoteSteps.{note_at}
+use Rattle.block.specs.Views.{shown}
 use Rattle.announcements.specs.QueuedRows.{ihave_of, ihaves_at}
 use Rattle.announcements.proofs.OnDispatchLaws.RowLaws.{head-room, entries-room, ihave-after}
 use Rattle.announcements.proofs.on_dispatch_timer.ihave.QueuedIhaveEncode.encode.Goals as goal

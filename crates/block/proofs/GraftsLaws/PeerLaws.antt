@@ -1,0 +1,85 @@
+-- The grafted peers of a message: in order, neighbours, and no more than the links.
+-- Assumes nothing.
+use Rattle.std.proofs.Common.{None, ◌≡◌, refl, sym, ap, ◌∙◌, Bool, true, false, not, ◌&&◌, List, [], ◌∷◌, ℕ, ◌≤◌, ◌<◌, arith, ltb-true, ne_eqb, leb, ltb, length, get_or}
+use lib.ListN.{length-map, get_or-map}
+use Rattle.storage.specs.Lists.Base.{all, any, member, once, ascending}
+use Rattle.storage.specs.Lists.Map.{Map, Entry, entry, keys, insert, has}
+use Rattle.storage.proofs.ListsLaws.MapLaws.{and_left, and_right, and_intro, all_head, all_tail}
+use Rattle.storage.proofs.ListsLaws.ListLaws.{all_map}
+use Rattle.storage.proofs.ListsLaws.Places.{all-at}
+use Rattle.storage.specs.Rows.Sorted.{Ascending, Between}
+use Rattle.time_cache.specs.TimeCache.{Timed}
+use Rattle.time_cache.proofs.Orders.{up_of}
+use Rattle.protocol.specs.Links.{is_neighbour}
+use Rattle.protocol.specs.State.{State, Grafts}
+use Rattle.protocol.specs.Gossips.{graft_out}
+use Rattle.protocol.specs.Whole.{grafts_whole}
+use Rattle.protocol.proofs.ConsistentTables.{Grafted, to-grafted, grafted-insert}
+use Rattle.block.specs.View.{state_of}
+use Rattle.block.specs.LinkSteps.{peer_at}
+use Rattle.block.specs.declared.head.Head.{Head}
+use Rattle.block.proofs.LinkLaws.{count-links, count-peers, neighbour-here}
+use Rattle.block.proofs.Few.{once-few}
+use Rattle.block.proofs.AnnounceLaws.{insert-long}
+use Rattle.block.specs.Caches.GraftSteps.{grafted_at, grafts_at, Grafting}
+use Rattle.block.proofs.CachesLaws.GraftedLaws.{count-grafted}
+
+-- numbers that ascend stand once
+above-out : (x : ℕ) (xs : List ℕ) → all (ltb x) xs ≡ true → member x xs ≡ false
+unfolding member
+above-out x [] h = refl
+above-out x (y ∷ ys) h = rw (ne_eqb x y (λ e. omega (arith, ltb-true x y (all_head (ltb x) y ys h)))) (above-out x ys (all_tail (ltb x) y ys h))
+
+ascending-once : (ks : List ℕ) → ascending ks ≡ true → once ks ≡ true
+unfolding ascending once
+ascending-once [] h = refl
+ascending-once (x ∷ xs) h =
+    and_intro (ap not (above-out x xs (and_left (all (ltb x) xs) (ascending xs) h))) (ascending-once xs (and_right (all (ltb x) xs) (ascending xs) h))
+
+-- the peer of a link is a neighbour
+pub link_near : (h : Head) (xs : List ℕ) (link : ℕ) → Grafting h xs → link < h.live.links → is_neighbour (peer_at (state_of h xs) link) (state_of h xs).links ≡ true
+link_near h xs link g q =
+    neighbour-here (peer_at (state_of h xs) link) link (state_of h xs).links (up_of (keys (state_of h xs).links) g.links_up) (record { within = omega (arith, count-peers h xs); same = refl })
+
+module _ (h : Head) (xs : List ℕ) (g : Grafting h xs) (i : ℕ) (q : i < h.live.grafted) where
+  abbrev st : State
+  st = state_of h xs
+
+  abbrev peers : Map ℕ
+  peers = (grafts_at st i).peers
+
+  grafts-whole : Grafted st.links peers
+  grafts-whole =
+      let d : Entry (Timed Grafts) = entry 0 (record { expires = 0; value = record { first = None; kept = None; peers = [] } }) in
+      to-grafted st.links (grafted_at st i) (all-at (grafts_whole st.links) d st.grafted.entries g.whole i (omega (arith, count-grafted h xs g.sound.fit)))
+
+  pub peers-ascend : ascending (keys peers) ≡ true
+  peers-ascend = grafts-whole.up
+
+  pub peers-up : Ascending (keys peers)
+  peers-up = up_of (keys peers) peers-ascend
+
+  pub key-at : (j : ℕ) → get_or (keys peers) j 0 ≡ (get_or peers j (entry 0 0)).key
+  key-at j = get_or-map (λ (e : Entry ℕ). e.key) peers j (entry 0 0)
+
+  -- a peer of a link that is not among them finds room
+  pub peers-few : (link j : ℕ) → link < h.live.links → Between (keys peers) (peer_at st link) j → length peers < 32
+  peers-few link j ql b =
+      let p : ℕ = peer_at st link in
+      let m : Map ℕ = insert p 0 peers in
+      let w : Grafted st.links m = grafted-insert st.links p 0 peers (link_near h xs link g ql) grafts-whole in
+      let most : length (keys m) ≤ length st.links = once-few st.links (keys m) (ascending-once (keys m) w.up) (all_map (λ n. has n st.links) (λ (e : Entry ℕ). e.key) m ∙ w.near) in
+      omega (arith, most, length-map m (λ (e : Entry ℕ). e.key), insert-long p j 0 0 peers peers-up b, count-links h xs, g.sound.fit.within.links, g.sound.fit.ceilings.N)
+
+-- a graft is out
+pub out-away : (sender round : ℕ) (m : Map ℕ) (t : Bool) → any (λ e. leb e.value round) m ≡ true → t ≡ has sender m → not t ≡ graft_out sender round m
+unfolding graft_out
+out-away sender round m t w e = ap not e ∙ ap (λ (b : Bool). b && not (has sender m)) (sym w)
+
+pub out_none : (sender round : ℕ) (m : Map ℕ) → any (λ e. leb e.value round) m ≡ false → false ≡ graft_out sender round m
+unfolding graft_out
+out_none sender round m w = ap (λ (b : Bool). b && not (has sender m)) (sym w)
+
+pub out-empty : (sender round : ℕ) → false ≡ graft_out sender round []
+unfolding graft_out any
+out-empty sender round = refl

@@ -1,0 +1,61 @@
+-- What a panel's state says of its header, a panel that is read, and a link that gets another mark.
+-- Assumes nothing.
+use Rattle.std.proofs.Common.{◌≡◌, ℕ, ◌<◌, length, arith, List, [], ◌∷◌, refl, sym, ap, ◌∙◌, true, not, ◌&&◌}
+use lib.ListN.{get_or-map, length-map}
+use lib.Seq.{set-get_or}
+use Rattle.storage.specs.Lists.Base.{ascending}
+use Rattle.storage.specs.Lists.Map.{Entry, entry, keys, insert}
+use Rattle.storage.specs.Rows.Sorted.{Here}
+use Rattle.storage.proofs.ListsLaws.MapLaws.{cases}
+use Rattle.storage.proofs.RowsLaws.Parts.{set-put}
+use Rattle.storage.proofs.RowsLaws.Views.{map-put}
+use Rattle.time_cache.proofs.MapPlaces.{insert-here}
+use Rattle.time_cache.proofs.Orders.{up_of}
+use Rattle.protocol.specs.Links.{Mark, eager, Links, is_neighbour, quiet_in, mark_if_there}
+use Rattle.protocol.specs.State.{State}
+use Rattle.block.specs.LinkSteps.{link_at, peer_at}
+use Rattle.block.specs.View.{state_of}
+use Rattle.block.specs.Sound.{Sound}
+use Rattle.block.specs.declared.head.Head.{Head}
+use Rattle.block.proofs.LinkLaws.{count-links}
+use Rattle.block.proofs.NoteLaws.{count-queue, count-dropped}
+use Rattle.block.specs.Panels.{state}
+use Rattle.block.specs.Views.{shown}
+use Rattle.block.specs.declared.panel.Panel.{Panel}
+use Rattle.block.specs.declared.panel.View.{View}
+
+module _ (h : Head) (xs : List ℕ) where
+  pub link-below : (i : ℕ) → i < length (state_of h xs).links → i < h.live.links
+  link-below i q = omega (arith, count-links h xs)
+
+  -- the peer of a link
+  pub link-key : (i p : ℕ) → p ≡ peer_at (state_of h xs) i → p ≡ (link_at (state_of h xs) i).key
+  link-key i p e = e ∙ get_or-map (λ (e : Entry Mark). e.key) (state_of h xs).links i (entry 0 eager)
+
+  pub queue-room : Sound h xs → length (state_of h xs).queue < (state_of h xs).limits.Q → h.live.queued < h.limits.queued
+  unfolding state_of
+  queue-room sound q = omega (arith, count-queue h xs sound, q)
+
+  pub dropped-room : Sound h xs → length (state_of h xs).dropped < (state_of h xs).limits.D → h.live.dropped < h.limits.dropped
+  unfolding state_of
+  dropped-room sound q = omega (arith, count-dropped h xs sound, q)
+
+-- a panel that is read
+pub same-state : (p : Panel) (v : View) → v.head ≡ p.head → v.block.now ≡ p.block.now → shown v ≡ state p
+same-state p v e f = ap (λ (h : Head). state_of h v.block.now) e ∙ ap (state_of p.head) f
+
+-- the peer of a link, which may get another mark
+module _ (l : ℕ) (s : State) (up : ascending (keys s.links) ≡ true) (low : l < length s.links) where
+  pub here : Here (keys s.links) (peer_at s l) l
+  here = record { within = omega (arith, low, length-map s.links (λ e. e.key)); same = refl }
+
+  pub same_keys : (k : Mark) → keys (mark_if_there (peer_at s l) k s.links) ≡ keys s.links
+  unfolding mark_if_there
+  same_keys k = cases (is_neighbour (peer_at s l) s.links && not (quiet_in (peer_at s l) s.links)) (λ n. rw n inserted) (λ n. rw n refl)
+    where
+      inserted : keys (insert (peer_at s l) k s.links) ≡ keys s.links
+      inserted =
+          ap (λ (x : Links). keys x) (insert-here (peer_at s l) k l s.links (up_of (keys s.links) up) here)
+          ∙ map-put (λ (e : Entry Mark). e.key) l (entry (peer_at s l) k ∷ []) s.links
+          ∙ sym (set-put l (peer_at s l) (keys s.links) here.within)
+          ∙ set-get_or (keys s.links) l 0

@@ -1,0 +1,14 @@
+-- `is_any_due`: of the table that the message cache stands in.
+use Rattle.std.proofs.Common.{◌≡◌, not, ap, ◌∙◌, List, subst}
+use Rattle.storage.specs.Lists.Base.{is_empty}
+use Rattle.time_cache.specs.TimeCache.{Expiry, due}
+use Rattle.time_cache.specs.Tables.{cache_at}
+use Rattle.time_cache.specs.declared.cache.TimeBoundCache.{TimeBoundCache}
+use Rattle.block.proofs.CachesLaws.CachedLaws.{cached-expiry}
+use Rattle.block.proofs.panel.View.is_any_due.Goals as goal
+
+pub returns : goal.returns
+returns c =
+    let a = c.args in
+    subst (λ (t : TimeBoundCache). c.is_due.result ≡ not (is_empty (due a.instant.0 (cache_at t a.block.now).expiry))) c.table.ensures.at c.is_due.ensures
+    ∙ ap (λ (es : List Expiry). not (is_empty (due a.instant.0 es))) (cached-expiry a.head a.block.now c.requires.0.fit)

@@ -1,9 +1,0 @@
--- `cached::shift_starts` meets its contract: the first i rows are done, the others are as they were.
-use Rattle.std.proofs.Common.{◌≡◌, length}
-use Rattle.storage.proofs.RefsLaws.Shifts.{done}
-use Rattle.time_cache.specs.Tables.{expiry_rows, no_row}
-use Rattle.steps.specs.Contents.Starts.{shifted_row}
-use Rattle.steps.proofs.contents.cached.shift_starts.Given as goal
-
-abbrev pub invariant-loop-i : goal.invariant-loop-i
-invariant-loop-i l = (expiry_rows 48 l.n l.rows ≡ done (shifted_row l.up l.down) no_row (expiry_rows 48 l.n l.initial.rows) l.i) × (length l.rows ≡ length l.initial.rows)

@@ -1,8 +1,0 @@
--- `lower::keep_announced`: the rows that are retained, with their lists.
-use Rattle.steps.proofs.NeighboursLaws.LoweredRows.{kept-announced}
-use Rattle.steps.proofs.neighbours.lower.keep_announced.Goals as goal
-
-pub returns : goal.returns
-returns c =
-    let a = c.args in
-    (c.retain.ensures.0, kept-announced a.n c.retain.result a.bytes.now c.retain.new.bytes c.retain.ensures.1)

@@ -1,6 +1,0 @@
-use Rattle.std.proofs.Common.{refl, true}
-use Rattle.block.proofs.GoesLaws.{dispatch-goes}
-use Rattle.steps.proofs.panel.Panel.flag_dispatch.Goals as goal
-
-pub returns : goal.returns
-returns c = record { state = (dispatch-goes true c.args.self.now.head c.args.self.now.block.now c.args.self.now.sound).state; loan = refl }

@@ -1,8 +1,0 @@
-use Rattle.std.proofs.Common.{◌∙◌, []}
-use Rattle.storage.specs.Rows.Ident.{id_of}
-use Rattle.steps.specs.Views.{shown}
-use Rattle.steps.proofs.AskedLaws.{found-has}
-use Rattle.steps.proofs.view.View.is_missing.Goals as goal
-
-pub returns : goal.returns
-returns c = c.is_ok.ensures.value ∙ found-has (id_of c.args.id) [] (shown c.args.self.now).missing c.find_missing.result c.requires c.find_missing.ensures

@@ -1,6 +1,0 @@
-use Rattle.std.proofs.Common.{sym}
-use Rattle.block.proofs.NoteLaws.{count-queue}
-use Rattle.steps.proofs.view.View.queue_len.Goals as goal
-
-pub returns-clause-long : goal.returns-clause-long
-returns-clause-long c = sym (count-queue _ _ c.args.self.now.sound)

@@ -1,6 +1,0 @@
-use Rattle.block.specs.declared.note.NoteTable.TheVariants.{Queue}
-use Rattle.steps.proofs.RowLaws.{note-column}
-use Rattle.steps.proofs.view.View.queue_links.Goals as goal
-
-pub returns : goal.returns
-returns c = let v = c.args.self.now in note-column v.head v.block.now v.sound Queue _ c.queue_at-at.ensures

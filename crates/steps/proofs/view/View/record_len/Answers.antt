@@ -1,6 +1,0 @@
-use Rattle.std.proofs.Common.{sym}
-use Rattle.block.proofs.NoteLaws.{count-dropped}
-use Rattle.steps.proofs.view.View.record_len.Goals as goal
-
-pub returns-clause-long : goal.returns-clause-long
-returns-clause-long c = sym (count-dropped _ _ c.args.self.now.sound)

@@ -14,9 +14,9 @@ use Rattle.block.proofs.panel.Panel.forget_missing.Goals as goal
 use Rattle.block.proofs.panel.Panel.forget_missing.Goals.{In-Ok}
 
 -- where the search found the identifier
-here : (c : In-Ok) → Here (keys (state c.args.self.now).missing) (id_of c.args.id) c.in-Ok.missing
+here : (c : In-Ok) → Here (keys (state c.args.self.now).missing) (id_of c.args.id) c.in-Ok.found
 here c =
-    subst (λ (s : State). Here (keys s.missing) (id_of c.args.id) c.in-Ok.missing) (same-state c.args.self.now c.view.result c.view.ensures.head c.view.ensures.block) (c.in-Ok.ensures)
+    subst (λ (s : State). Here (keys s.missing) (id_of c.args.id) c.in-Ok.found) (same-state c.args.self.now c.view.result c.view.ensures.head c.view.ensures.block) (c.in-Ok.ensures)
 
 pub remove_missing-requires : goal.remove_missing-requires
 remove_missing-requires c =
@@ -26,7 +26,7 @@ pub returns-in-Ok : goal.returns-in-Ok
 returns-in-Ok c =
     let s = state c.args.self.now in
     let g = c.remove_missing.ensures in
-    record { state = g.state ∙ ap (λ (k : ℕ). miss_out k s) (key_here s (id_of c.args.id) c.in-Ok.missing (here (goal.at.returns-in-Ok c).In-Ok)); loan = g.loan }
+    record { state = g.state ∙ ap (λ (k : ℕ). miss_out k s) (key_here s (id_of c.args.id) c.in-Ok.found (here (goal.at.returns-in-Ok c).In-Ok)); loan = g.loan }
 
 pub returns-in_default : goal.returns-in_default
 returns-in_default c =

@@ -56,21 +56,21 @@ raise-up round c h =
     λ k. record { payload = c.payload; control = c.control; hops = e k }
 
 -- what a view shows is whole, and its limits are the header's
-pub limits-of : (v : View) → (shown v).limits ≡ limits_of v.head.limits
+pub limits-of : (v : View) → (shown v).limits ≡ limits_of v.head.now.limits
 unfolding state_of
 limits-of v = refl
 
-pub max-of : (v : View) → (shown v).settings.max_message_size ≡ v.head.settings.max_message_size
+pub max-of : (v : View) → (shown v).settings.max_message_size ≡ v.head.now.settings.max_message_size
 unfolding state_of
 max-of v = refl
 
 pub shown-whole : (v : View) → AtRest (shown v) → whole (shown v) ≡ true
-shown-whole v rest = stands-whole v.head v.block.now (stands_of v.head v.block.now v.sound rest)
+shown-whole v rest = stands-whole v.head.now v.block.now (stands_of v.head.now v.block.now v.sound rest)
 
 -- (13) the test of the code, of a state with the same limits
-pub fitted : (v : View) (t : State) (z : CodeSizes) (b : Bool) → t.limits ≡ (shown v).limits → sizes_value z ≡ sizes_of t → b ≡ fit_sizes (limits_of v.head.limits) (sizes_value z) → b ≡ fits t
+pub fitted : (v : View) (t : State) (z : CodeSizes) (b : Bool) → t.limits ≡ (shown v).limits → sizes_value z ≡ sizes_of t → b ≡ fit_sizes (limits_of v.head.now.limits) (sizes_value z) → b ≡ fits t
 fitted v t z b same e f =
-    f ∙ ap (fit_sizes (limits_of v.head.limits)) e
+    f ∙ ap (fit_sizes (limits_of v.head.now.limits)) e
     ∙ ap (λ (l : Limits). fit_sizes l (sizes_of t)) (sym (same ∙ limits-of v))
     ∙ sym (fits-sizes t)
 
@@ -89,8 +89,8 @@ down_fits p v rest =
     let s = shown v in
     fits-sizes (forget_peer p s)
     ∙ ap (λ (l : Limits). fit_sizes l (sizes_of (forget_peer p s))) ((down-keeps p s).limits ∙ limits-of v)
-    ∙ ap (fit_sizes (limits_of v.head.limits)) (down-sized p s rest)
-    ∙ fit-down p v.head v.block.now v.sound
+    ∙ ap (fit_sizes (limits_of v.head.now.limits)) (down-sized p s rest)
+    ∙ fit-down p v.head.now v.block.now v.sound
 
 both : {A : Type 0} (x y z : A) (a b : Bool) → a ≡ true → b ≡ true → x ≡ (if a then if b then x else y else z)
 both x y z a b p q = rw (p, q) refl

@@ -13,11 +13,12 @@ ghost use Rattle.block.specs.Views.{shown};
 ghost use Rattle.machine.specs.Kinds.Meaning.{ListHeld, Means};
 
 use announcements::on_ihave::all_received;
+use block::panel::View;
 use payloads::on_gossip::NewMessage;
 use payloads::on_late_graft_reply::LateCopy;
 use postcard::message::{Delivery, Timer};
 use steps::call::Call;
-use steps::view::View;
+use steps::lookups::is_received_then;
 use storage::rows::id::Id;
 use wire::encode::message::Gossip;
 use wire::reader::ihaves::Ihaves;
@@ -59,7 +60,7 @@ fn gossip_step<'a>(view: &View, call: &Call, sender: u64, gossip: Gossip<'a>) ->
     if blake3::hash(content) != id {
         return Step::Nothing;
     }
-    if view.is_received_then(call.instant, id) {
+    if is_received_then(view, call.instant, id) {
         return Step::Late(LateCopy {
             sender,
             id,

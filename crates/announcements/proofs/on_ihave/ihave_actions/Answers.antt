@@ -49,8 +49,8 @@ module _ (g : _) (d : After-gets_timer g) where
   wants : (b : Bool) → d.gets_timer.result ≡ b → is_new (known_timer t) (take d.loop-ihave.i all) x.id ≡ b
   wants b e = ap (λ (l : List Ihave). is_new (known_timer t) l x.id) (sym d.first.ensures) ∙ sym d.gets_timer.ensures ∙ e
 
-  same-delay : t.settings.graft_timeout_1 ≡ d.args.view.now.head.settings.config.graft_timeout_1.0
-  same-delay = then-delay d.args.call.now.instant.0 d.args.view.now.head d.args.view.now.block.now
+  same-delay : t.settings.graft_timeout_1 ≡ d.args.view.now.head.now.settings.config.graft_timeout_1.0
+  same-delay = then-delay d.args.call.now.instant.0 d.args.view.now.head.now d.args.view.now.block.now
 
 pub encode-requires : goal.encode-requires
 encode-requires g c =

@@ -23,7 +23,7 @@ pub size-length-requires : goal.size-length-requires
 size-length-requires c =
     let v = c.args.view.now in
     let k = c.args.call.now in
-    omega (arith, step-length v.head v.block.now (rooms_of k (shown v)) k.instant.0 c.args.step (stands_of v.head v.block.now v.sound c.requires.named.rest) c.requires.named.held)
+    omega (arith, step-length v.head.now v.block.now (rooms_of k (shown v)) k.instant.0 c.args.step (stands_of v.head.now v.block.now v.sound c.requires.named.rest) c.requires.named.held)
 
 pub returns-then-is_far : goal.returns-then-is_far
 returns-then-is_far c = record {

@@ -15,7 +15,7 @@ encode-requires g c =
     omega (arith, c.requires.room, ap length (bytes-sender c.args.call.now c.args.copy (shown c.args.view.now) c.in-Duplicate.ensures c.takes_back-taken.result c.takes_back-taken.ensures))
 
 pub takes-requires : goal.takes-requires
-takes-requires g c = let v = c.args.view.now in omega (arith, c.in-Faster.ensures.below, links-few v.head v.block.now v.sound)
+takes-requires g c = let v = c.args.view.now in omega (arith, c.in-Faster.ensures.below, links-few v.head.now v.block.now v.sound)
 
 pub encode-requires-in-Faster : goal.encode-requires-in-Faster
 encode-requires-in-Faster g c =

@@ -15,23 +15,23 @@ tell_and_schedule-requires-clause-order g c = in_order (shown c.args.view.now).c
 pub tell_and_schedule-requires-clause-room : goal.tell_and_schedule-requires-clause-room
 tell_and_schedule-requires-clause-room g c =
     let v = c.args.view.now in
-    subst (λ (xs : List Action). RoomFor (concat_map action_bytes xs) (g.S.Sink.intake c.args.out.now)) (evict-yes c.args.call.now.instant.0 (shown v) (init-of v.head v.block.now ∙ c.if-view.true)) c.requires.room
+    subst (λ (xs : List Action). RoomFor (concat_map action_bytes xs) (g.S.Sink.intake c.args.out.now)) (evict-yes c.args.call.now.instant.0 (shown v) (init-of v.head.now v.block.now ∙ c.if-view.true)) c.requires.room
 
 pub schedule_evict_cache-requires : goal.schedule_evict_cache-requires
 schedule_evict_cache-requires g c =
     let v = c.args.view.now in
     let now = c.args.call.now.instant.0 in
-    subst (λ (bs : List ℕ). RoomFor bs (g.S.Sink.intake c.args.out.now)) (ap (concat_map action_bytes) (evict-no now (shown v) (init-of v.head v.block.now ∙ c.if-view.false)) ∙ one-action (scheduled now (shown v))) c.requires.room
+    subst (λ (bs : List ℕ). RoomFor bs (g.S.Sink.intake c.args.out.now)) (ap (concat_map action_bytes) (evict-no now (shown v) (init-of v.head.now v.block.now ∙ c.if-view.false)) ∙ one-action (scheduled now (shown v))) c.requires.room
 
 pub returns-then-view : goal.returns-then-view
 returns-then-view g c =
     let v = c.args.view.now in
     c.tell_and_schedule.ensures
-    ∙ ap (λ (xs : List Action). after (concat_map action_bytes xs) (g.S.Sink.intake c.args.out.now)) (sym (evict-yes c.args.call.now.instant.0 (shown v) (init-of v.head v.block.now ∙ c.if-view.true)))
+    ∙ ap (λ (xs : List Action). after (concat_map action_bytes xs) (g.S.Sink.intake c.args.out.now)) (sym (evict-yes c.args.call.now.instant.0 (shown v) (init-of v.head.now v.block.now ∙ c.if-view.true)))
 
 pub returns-else-view : goal.returns-else-view
 returns-else-view g c =
     let v = c.args.view.now in
     let now = c.args.call.now.instant.0 in
     c.schedule_evict_cache.ensures
-    ∙ ap (λ (bs : List ℕ). after bs (g.S.Sink.intake c.args.out.now)) (sym (ap (concat_map action_bytes) (evict-no now (shown v) (init-of v.head v.block.now ∙ c.if-view.false)) ∙ one-action (scheduled now (shown v))))
+    ∙ ap (λ (bs : List ℕ). after bs (g.S.Sink.intake c.args.out.now)) (sym (ap (concat_map action_bytes) (evict-no now (shown v) (init-of v.head.now v.block.now ∙ c.if-view.false)) ∙ one-action (scheduled now (shown v))))

@@ -16,19 +16,19 @@ tell_and_schedule-requires-clause-order g c = in_order (shown c.args.view.now).c
 pub tell_and_schedule-requires-clause-room : goal.tell_and_schedule-requires-clause-room
 tell_and_schedule-requires-clause-room g c =
     let v = c.args.view.now in
-    subst (λ (xs : List Action). RoomFor (concat_map action_bytes xs) (g.S.Sink.intake c.args.out.now)) (first-no c.args.call.now.instant.0 (shown v) (init-of v.head v.block.now ∙ c.if-not-view.true)) c.requires.room
+    subst (λ (xs : List Action). RoomFor (concat_map action_bytes xs) (g.S.Sink.intake c.args.out.now)) (first-no c.args.call.now.instant.0 (shown v) (init-of v.head.now v.block.now ∙ c.if-not-view.true)) c.requires.room
 
 pub returns-then-not-view : goal.returns-then-not-view
 returns-then-not-view g c =
     let v = c.args.view.now in
     c.tell_and_schedule.ensures
-    ∙ ap (λ (xs : List Action). after (concat_map action_bytes xs) (g.S.Sink.intake c.args.out.now)) (sym (first-no c.args.call.now.instant.0 (shown v) (init-of v.head v.block.now ∙ c.if-not-view.true)))
+    ∙ ap (λ (xs : List Action). after (concat_map action_bytes xs) (g.S.Sink.intake c.args.out.now)) (sym (first-no c.args.call.now.instant.0 (shown v) (init-of v.head.now v.block.now ∙ c.if-not-view.true)))
 
 pub returns-else-not-view : goal.returns-else-not-view
 returns-else-not-view g c =
     let v = c.args.view.now in
     let x = g.S.Sink.intake c.args.out.now in
     sym (
-    ap (λ (xs : List Action). after (concat_map action_bytes xs) x) (first-yes c.args.call.now.instant.0 (shown v) (init-of v.head v.block.now ∙ c.if-not-view.false))
+    ap (λ (xs : List Action). after (concat_map action_bytes xs) x) (first-yes c.args.call.now.instant.0 (shown v) (init-of v.head.now v.block.now ∙ c.if-not-view.false))
     ∙ ap (λ (bs : List ℕ). after bs x) no-action ∙ after_nil x
     )

@@ -16,11 +16,11 @@ use Rattle.steps.proofs.on_evict_cache_timer.tell_rows.Goals.{After-as_slice-row
 -- what the rows tell is what the eviction tells
 all : (g : Over) (c : After-as_slice-row-items g) →
     let v = c.args.view.now in
-    told_from v.head v.block.now c.as_slice-row-items.result.now 0 ≡ concat_map action_bytes (forgotten_actions c.args.call.now.instant.0 (shown v))
+    told_from v.head.now v.block.now c.as_slice-row-items.result.now 0 ≡ concat_map action_bytes (forgotten_actions c.args.call.now.instant.0 (shown v))
 all g c =
     let v = c.args.view.now in
-    told-all v.head v.block.now c.as_slice-row-items.result.now c.args.call.now.instant.0
-    (ap (map (row_id v.head v.block.now)) c.as_slice-row-items.ensures.value ∙ c.forgotten_rows-rows.ensures.keys)
+    told-all v.head.now v.block.now c.as_slice-row-items.result.now c.args.call.now.instant.0
+    (ap (map (row_id v.head.now v.block.now)) c.as_slice-row-items.ensures.value ∙ c.forgotten_rows-rows.ensures.keys)
 
 pub forgotten_rows-rows-requires : goal.forgotten_rows-rows-requires
 forgotten_rows-rows-requires g c = (c.args.view.now.sound, c.requires.order)
@@ -32,14 +32,14 @@ pub row_id-id-requires : goal.row_id-id-requires
 row_id-id-requires g c =
     let v = c.args.view.now in (
       v.sound,
-      All-get_or (λ r. r < v.head.live.cached_rows) c.as_slice-row-items.result.now c.loop-row.row-index 0 c.loop-row-test.true
-          (subst (λ (l : List ℕ). All (λ r. r < v.head.live.cached_rows) l) (sym c.as_slice-row-items.ensures.value) c.forgotten_rows-rows.ensures.rows),
+      All-get_or (λ r. r < v.head.now.live.cached_rows) c.as_slice-row-items.result.now c.loop-row.row-index 0 c.loop-row-test.true
+          (subst (λ (l : List ℕ). All (λ r. r < v.head.now.live.cached_rows) l) (sym c.as_slice-row-items.ensures.value) c.forgotten_rows-rows.ensures.rows),
     )
 
 pub encode-requires : goal.encode-requires
 encode-requires g c =
     let v = c.args.view.now in
-    row-room v.head v.block.now c.as_slice-row-items.result.now c.loop-row.row-index c.loop-row-test.true (id_of c.row_id-id.result) c.row_id-id.ensures _ c.loop-row.invariant.room
+    row-room v.head.now v.block.now c.as_slice-row-items.result.now c.loop-row.row-index c.loop-row-test.true (id_of c.row_id-id.result) c.row_id-id.ensures _ c.loop-row.invariant.room
 
 pub loop-row-preserved : goal.loop-row-preserved
 loop-row-preserved g c =
@@ -47,13 +47,13 @@ loop-row-preserved g c =
     let rows = c.as_slice-row-items.result.now in
     let i = c.loop-row.row-index in
     record {
-      same = row-same v.head v.block.now rows i c.loop-row-test.true (id_of c.row_id-id.result) c.row_id-id.ensures _ _ _ c.loop-row.invariant.same c.encode.ensures;
-      room = row-left v.head v.block.now rows i c.loop-row-test.true (id_of c.row_id-id.result) c.row_id-id.ensures _ _ c.loop-row.invariant.room c.encode.ensures;
+      same = row-same v.head.now v.block.now rows i c.loop-row-test.true (id_of c.row_id-id.result) c.row_id-id.ensures _ _ _ c.loop-row.invariant.same c.encode.ensures;
+      room = row-left v.head.now v.block.now rows i c.loop-row-test.true (id_of c.row_id-id.result) c.row_id-id.ensures _ _ c.loop-row.invariant.room c.encode.ensures;
     }
 
 pub returns : goal.returns
 returns g c =
     let v = c.args.view.now in
     let e = all g (goal.at.returns g c).After-as_slice-row-items in
-    rows-done v.head v.block.now c.as_slice-row-items.result.now c.loop-row.row-index c.loop-row-test.false _ _ c.loop-row.invariant.same
+    rows-done v.head.now v.block.now c.as_slice-row-items.result.now c.loop-row.row-index c.loop-row-test.false _ _ c.loop-row.invariant.same
     ∙ ap (λ (l : List ℕ). after l (g.S.Sink.intake c.args.out.now)) e

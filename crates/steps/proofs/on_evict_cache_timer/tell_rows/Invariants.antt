@@ -9,6 +9,6 @@ invariant-loop-row g l =
     let held = g.S.Sink.intake in
     let v = l.view in
     record {
-      same : after (told_from v.head v.block.now l.row-items l.row-index) (held l.out) ≡ after (told_from v.head v.block.now l.row-items 0) (held l.initial.out);
-      room : RoomFor (told_from v.head v.block.now l.row-items l.row-index) (held l.out);
+      same : after (told_from v.head.now v.block.now l.row-items l.row-index) (held l.out) ≡ after (told_from v.head.now v.block.now l.row-items 0) (held l.initial.out);
+      room : RoomFor (told_from v.head.now v.block.now l.row-items l.row-index) (held l.out);
     }

@@ -12,5 +12,5 @@ pub returns : goal.returns
 unfolding state_of
 returns g c =
     let a = c.args in
-    after-both _ _ _ (push-parts a.call.now a.push.now a.message.now (shown a.view.now) _ a.view.now.head.live.announce_dropped_scheduled c.push_sends-back.ensures.back refl)
+    after-both _ _ _ (push-parts a.call.now a.push.now a.message.now (shown a.view.now) _ a.view.now.head.now.live.announce_dropped_scheduled c.push_sends-back.ensures.back refl)
     _ _ _ c.push_sends-back.ensures.sent c.schedule_announce_dropped.ensures

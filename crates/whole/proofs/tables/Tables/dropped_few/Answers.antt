@@ -9,7 +9,7 @@ use Rattle.block.specs.declared.head.Head.{Head}
 use Rattle.whole.specs.Parts.{table_of, few}
 use Rattle.whole.proofs.LentLaws.{bytes-lent}
 use Rattle.whole.proofs.RecordLaws.{record-few}
-use Rattle.whole.proofs.tables.dropped_few.Goals as goal
+use Rattle.whole.proofs.tables.Tables.dropped_few.Goals as goal
 
 -- the numbers as they are lent
 lent : (h : Head) (xs : List ℕ) (a : ℕ) → Fit h xs → a ≡ place (limits_of h.limits) 13 → take (a + h.live.dropped - a) (drop a xs) ≡ take h.live.dropped (table_of h 13 xs)
@@ -17,8 +17,8 @@ lent h xs a fit e = bytes-lent (limits_of h.limits) xs 13 h.live.dropped a (lit<
 
 pub few_each-requires : goal.few_each-requires
 few_each-requires c =
-    let h = c.args.head in
-    let xs = c.args.block.now in
+    let h = c.args.self.now.head.now in
+    let xs = c.args.self.now.block.now in
     let fit = c.requires.fits.0 in
     let at = c.dropped_at-at in
     let b = below_of h.live.links (take h.live.dropped (table_of h 13 xs)) c.requires.named in
@@ -26,7 +26,7 @@ few_each-requires c =
 
 pub returns : goal.returns
 returns c =
-    let h = c.args.head in
-    let xs = c.args.block.now in
+    let h = c.args.self.now.head.now in
+    let xs = c.args.self.now.block.now in
     let at = c.dropped_at-at in
     c.few_each.ensures ∙ ap few (lent h xs at.result c.requires.fits.0 at.ensures) ∙ record-few h xs c.requires.fits.0 c.requires.fits.1 c.requires.named

@@ -13,7 +13,7 @@ use Rattle.whole.specs.Held.{places_name}
 use Rattle.whole.specs.Parts.{table_of, length_at, cached_in_order}
 use Rattle.whole.proofs.LentLaws.{cache-below, rows-lent, refs-lent, length-open}
 use Rattle.whole.proofs.ContentLaws.{content-held}
-use Rattle.whole.proofs.tables.contents_used.Goals as goal
+use Rattle.whole.proofs.tables.Tables.contents_used.Goals as goal
 
 -- the tables as they are lent
 entries-lent : (h : Head) (xs : List ℕ) (a : ℕ) → Fit h xs → a ≡ place (limits_of h.limits) 4
@@ -30,8 +30,8 @@ named h xs = cache-below h.live.cached_rows 4 h.live.cached (table_of h 4 xs) (s
 
 pub named_lengths-total-requires : goal.named_lengths-total-requires
 named_lengths-total-requires c =
-    let h = c.args.head in
-    let xs = c.args.block.now in
+    let h = c.args.self.now.head.now in
+    let xs = c.args.self.now.block.now in
     let fit = c.requires.fits in
     let at = c.cached_at-at in
     let rows_at = c.cached_rows_at-rows_at in (
@@ -44,8 +44,8 @@ named_lengths-total-requires c =
 
 pub returns : goal.returns
 returns c =
-    let h = c.args.head in
-    let xs = c.args.block.now in
+    let h = c.args.self.now.head.now in
+    let xs = c.args.self.now.block.now in
     let fit = c.requires.fits in
     let at = c.cached_at-at in
     let rows_at = c.cached_rows_at-rows_at in

@@ -9,7 +9,7 @@ use Rattle.block.specs.declared.head.Head.{Head}
 use Rattle.block.specs.TimeCaches.{grafted_cache}
 use Rattle.whole.specs.Parts.{grafted_in_order}
 use Rattle.whole.proofs.LentLaws.{cache-sound}
-use Rattle.whole.proofs.tables.grafted_in_order.Goals as goal
+use Rattle.whole.proofs.tables.Tables.grafted_in_order.Goals as goal
 
 told : (h : Head) (xs : List ℕ) → Fit h xs → sound (grafted_cache h) xs ≡ grafted_in_order h xs
 unfolding state_of grafted_in
@@ -17,4 +17,4 @@ told h xs fit = cache-sound (limits_of h.limits) xs (grafts_of (keys (state_of h
 
 pub returns : goal.returns
 returns c =
-    c.is_sound.ensures ∙ ap (λ (t : TimeBoundCache). sound t c.args.block.now) c.table.ensures.at ∙ told c.args.head c.args.block.now c.requires
+    c.is_sound.ensures ∙ ap (λ (t : TimeBoundCache). sound t c.args.self.now.block.now) c.table.ensures.at ∙ told c.args.self.now.head.now c.args.self.now.block.now c.requires

@@ -8,7 +8,7 @@ use Rattle.block.specs.declared.head.Head.{Head}
 use Rattle.block.specs.TimeCaches.{received_cache}
 use Rattle.whole.specs.Parts.{received_whole}
 use Rattle.whole.proofs.LentLaws.{cache-sound}
-use Rattle.whole.proofs.tables.received_whole.Goals as goal
+use Rattle.whole.proofs.tables.Tables.received_whole.Goals as goal
 
 told : (h : Head) (xs : List ℕ) → Fit h xs → sound (received_cache h) xs ≡ received_whole h xs
 unfolding received_whole state_of received_in
@@ -16,4 +16,4 @@ told h xs fit = cache-sound (limits_of h.limits) xs nothing_of 2 2 h.live.receiv
 
 pub returns : goal.returns
 returns c =
-    c.is_sound.ensures ∙ ap (λ (t : TimeBoundCache). sound t c.args.block.now) c.table.ensures.at ∙ told c.args.head c.args.block.now c.requires
+    c.is_sound.ensures ∙ ap (λ (t : TimeBoundCache). sound t c.args.self.now.block.now) c.table.ensures.at ∙ told c.args.self.now.head.now c.args.self.now.block.now c.requires

@@ -8,7 +8,7 @@ use Rattle.block.specs.declared.head.Head.{Head}
 use Rattle.block.specs.TimeCaches.{cached_cache}
 use Rattle.whole.specs.Parts.{table_of, cached_in_order}
 use Rattle.whole.proofs.LentLaws.{cache-sound}
-use Rattle.whole.proofs.tables.cached_in_order.Goals as goal
+use Rattle.whole.proofs.tables.Tables.cached_in_order.Goals as goal
 
 told : (h : Head) (xs : List ℕ) → Fit h xs → sound (cached_cache h) xs ≡ cached_in_order h xs
 unfolding state_of cached_in
@@ -16,4 +16,4 @@ told h xs fit = cache-sound (limits_of h.limits) xs (cached_of (table_of h 6 xs)
 
 pub returns : goal.returns
 returns c =
-    c.is_sound.ensures ∙ ap (λ (t : TimeBoundCache). sound t c.args.block.now) c.table.ensures.at ∙ told c.args.head c.args.block.now c.requires
+    c.is_sound.ensures ∙ ap (λ (t : TimeBoundCache). sound t c.args.self.now.block.now) c.table.ensures.at ∙ told c.args.self.now.head.now c.args.self.now.block.now c.requires

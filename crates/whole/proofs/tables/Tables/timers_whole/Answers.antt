@@ -7,7 +7,7 @@ use Rattle.block.specs.View.{limits_of, id_at, timers_in, state_of}
 use Rattle.block.specs.declared.head.Head.{Head}
 use Rattle.whole.specs.Parts.{table_of, timers_whole}
 use Rattle.whole.proofs.LentLaws.{keys-lent}
-use Rattle.whole.proofs.tables.timers_whole.Goals as goal
+use Rattle.whole.proofs.tables.Tables.timers_whole.Goals as goal
 
 -- the timers are the keys
 told : (h : Head) (xs : List ℕ) → keys 32 h.live.timers (table_of h 10 xs) ≡ (state_of h xs).timers.graft
@@ -17,8 +17,8 @@ told h xs = refl
 pub returns : goal.returns
 unfolding timers_whole
 returns c =
-    let h = c.args.head in
-    let xs = c.args.block.now in
+    let h = c.args.self.now.head.now in
+    let xs = c.args.self.now.block.now in
     let at = c.timers_at-at in
     tells-ascending (keys 32 h.live.timers (take (length xs - at.result) (drop at.result xs))) c.ascending.result c.ascending.ensures
     ∙ ap ascending (keys-lent (limits_of h.limits) xs 10 32 h.live.timers at.result (lit< tt) (omega (arith, c.requires.within.timers)) at.ensures ∙ told h xs)

@@ -4,12 +4,12 @@ use Rattle.block.specs.View.{limits_of}
 use Rattle.whole.specs.Held.{all_below}
 use Rattle.whole.specs.Parts.{queue_whole}
 use Rattle.whole.proofs.LentLaws.{bytes-lent}
-use Rattle.whole.proofs.tables.queue_whole.Goals as goal
+use Rattle.whole.proofs.tables.Tables.queue_whole.Goals as goal
 
 pub returns : goal.returns
 unfolding queue_whole
 returns c =
-    let h = c.args.head in
+    let h = c.args.self.now.head.now in
     let at = c.queue_at-at in
     c.numbers_below.ensures
-    ∙ ap (all_below h.live.links) (bytes-lent (limits_of h.limits) c.args.block.now 11 h.live.queued at.result (lit< tt) (omega (arith, c.requires.within.queued)) at.ensures)
+    ∙ ap (all_below h.live.links) (bytes-lent (limits_of h.limits) c.args.self.now.block.now 11 h.live.queued at.result (lit< tt) (omega (arith, c.requires.within.queued)) at.ensures)

@@ -4,12 +4,12 @@ use Rattle.block.specs.View.{limits_of}
 use Rattle.whole.specs.Parts.{graft_list}
 use Rattle.whole.proofs.LentLaws.{lists-lent}
 use Rattle.whole.proofs.HopLaws.{grafted-lists}
-use Rattle.whole.proofs.tables.grafted_peers.Goals as goal
+use Rattle.whole.proofs.tables.Tables.grafted_peers.Goals as goal
 
 pub returns : goal.returns
 returns c =
-    let h = c.args.head in
-    let xs = c.args.block.now in
+    let h = c.args.self.now.head.now in
+    let xs = c.args.self.now.block.now in
     let at = c.grafted_at-at in
     c.lists_pass.ensures (graft_list h.live.links) (λ list r t. search rules)
     ∙ lists-lent (limits_of h.limits) xs (graft_list h.live.links) 22 7 119 h.live.grafted at.result (lit< tt) (omega (arith, c.requires.0.within.grafted)) at.ensures

@@ -4,12 +4,12 @@ use Rattle.storage.specs.Buckets.{TellsOnce}
 use Rattle.block.specs.View.{limits_of}
 use Rattle.whole.proofs.LentLaws.{bytes-lent, rows-lent}
 use Rattle.whole.proofs.RecordLaws.{record-once}
-use Rattle.whole.proofs.tables.dropped_once.Goals as goal
+use Rattle.whole.proofs.tables.Tables.dropped_once.Goals as goal
 
 pub returns : goal.returns
 returns c =
-    let h = c.args.head in
-    let xs = c.args.block.now in
+    let h = c.args.self.now.head.now in
+    let xs = c.args.self.now.block.now in
     let l = limits_of h.limits in
     let n = h.live.dropped in
     let fit = c.requires.fits.0 in

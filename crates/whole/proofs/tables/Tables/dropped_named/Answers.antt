@@ -3,11 +3,11 @@ use Rattle.std.proofs.Common.{ap, ◌∙◌, arith, lit<}
 use Rattle.block.specs.View.{limits_of}
 use Rattle.whole.specs.Held.{all_below}
 use Rattle.whole.proofs.LentLaws.{bytes-lent}
-use Rattle.whole.proofs.tables.dropped_named.Goals as goal
+use Rattle.whole.proofs.tables.Tables.dropped_named.Goals as goal
 
 pub returns : goal.returns
 returns c =
-    let h = c.args.head in
+    let h = c.args.self.now.head.now in
     let at = c.dropped_at-at in
     c.numbers_below.ensures
-    ∙ ap (all_below h.live.links) (bytes-lent (limits_of h.limits) c.args.block.now 13 h.live.dropped at.result (lit< tt) (omega (arith, c.requires.within.dropped)) at.ensures)
+    ∙ ap (all_below h.live.links) (bytes-lent (limits_of h.limits) c.args.self.now.block.now 13 h.live.dropped at.result (lit< tt) (omega (arith, c.requires.within.dropped)) at.ensures)

@@ -12,5 +12,5 @@ returns c =
     let xs = c.args.self.now.block.now in
     let at = c.missing_at-at in
     c.lists_pass.ensures (missed_list h.live.links) (λ list r t. search rules)
-    ∙ lists-lent (limits_of h.limits) xs (missed_list h.live.links) 32 9 129 h.live.missing at.result (lit< tt) (omega (arith, c.requires.0.within.missing)) at.ensures
-    ∙ missing-lists h xs c.requires.0 c.requires.1
+    ∙ lists-lent (limits_of h.limits) xs (missed_list h.live.links) 32 9 129 h.live.missing at.result (lit< tt) (omega (arith, c.args.self.now.fit.within.missing)) at.ensures
+    ∙ missing-lists h xs c.args.self.now.fit c.requires

@@ -10,4 +10,4 @@ returns c =
     let h = c.args.self.now.head.now in
     let at = c.cached_rows_at-rows_at in
     c.adjoin.ensures
-    ∙ ap (λ (rs : List (List ℕ)). adjoin 0 rs h.live.contents) (rows-lent (limits_of h.limits) c.args.self.now.block.now 5 48 h.live.cached_rows at.result (lit< tt) (omega (arith, c.requires.within.cached_rows)) at.ensures)
+    ∙ ap (λ (rs : List (List ℕ)). adjoin 0 rs h.live.contents) (rows-lent (limits_of h.limits) c.args.self.now.block.now 5 48 h.live.cached_rows at.result (lit< tt) (omega (arith, c.args.self.now.fit.within.cached_rows)) at.ensures)

@@ -32,7 +32,7 @@ pub named_lengths-total-requires : goal.named_lengths-total-requires
 named_lengths-total-requires c =
     let h = c.args.self.now.head.now in
     let xs = c.args.self.now.block.now in
-    let fit = c.requires.fits in
+    let fit = c.args.self.now.fit in
     let at = c.cached_at-at in
     let rows_at = c.cached_rows_at-rows_at in (
       omega (arith, fit.ceilings.C, fit.within.cached),
@@ -46,7 +46,7 @@ pub returns : goal.returns
 returns c =
     let h = c.args.self.now.head.now in
     let xs = c.args.self.now.block.now in
-    let fit = c.requires.fits in
+    let fit = c.args.self.now.fit in
     let at = c.cached_at-at in
     let rows_at = c.cached_rows_at-rows_at in
     let total : c.named_lengths-total.result ≡ content_held (state_of h xs) =

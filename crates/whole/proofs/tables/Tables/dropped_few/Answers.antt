@@ -19,7 +19,7 @@ pub few_each-requires : goal.few_each-requires
 few_each-requires c =
     let h = c.args.self.now.head.now in
     let xs = c.args.self.now.block.now in
-    let fit = c.requires.fits.0 in
+    let fit = c.args.self.now.fit in
     let at = c.dropped_at-at in
     let b = below_of h.live.links (take h.live.dropped (table_of h 13 xs)) c.requires.named in
     subst (λ (l : List ℕ). Below 32 l) (sym (lent h xs at.result fit at.ensures)) (record { below = λ i q. omega (arith, b.below i q, fit.within.links, fit.ceilings.N) })
@@ -29,4 +29,4 @@ returns c =
     let h = c.args.self.now.head.now in
     let xs = c.args.self.now.block.now in
     let at = c.dropped_at-at in
-    c.few_each.ensures ∙ ap few (lent h xs at.result c.requires.fits.0 at.ensures) ∙ record-few h xs c.requires.fits.0 c.requires.fits.1 c.requires.named
+    c.few_each.ensures ∙ ap few (lent h xs at.result c.args.self.now.fit at.ensures) ∙ record-few h xs c.args.self.now.fit c.requires.links c.requires.named

@@ -10,4 +10,4 @@ returns c =
     let h = c.args.self.now.head.now in
     let at = c.dropped_at-at in
     c.numbers_below.ensures
-    ∙ ap (all_below h.live.links) (bytes-lent (limits_of h.limits) c.args.self.now.block.now 13 h.live.dropped at.result (lit< tt) (omega (arith, c.requires.within.dropped)) at.ensures)
+    ∙ ap (all_below h.live.links) (bytes-lent (limits_of h.limits) c.args.self.now.block.now 13 h.live.dropped at.result (lit< tt) (omega (arith, c.args.self.now.fit.within.dropped)) at.ensures)

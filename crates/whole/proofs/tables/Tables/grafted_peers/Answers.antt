@@ -12,5 +12,5 @@ returns c =
     let xs = c.args.self.now.block.now in
     let at = c.grafted_at-at in
     c.lists_pass.ensures (graft_list h.live.links) (λ list r t. search rules)
-    ∙ lists-lent (limits_of h.limits) xs (graft_list h.live.links) 22 7 119 h.live.grafted at.result (lit< tt) (omega (arith, c.requires.0.within.grafted)) at.ensures
-    ∙ grafted-lists h xs c.requires.0 c.requires.1
+    ∙ lists-lent (limits_of h.limits) xs (graft_list h.live.links) 22 7 119 h.live.grafted at.result (lit< tt) (omega (arith, c.args.self.now.fit.within.grafted)) at.ensures
+    ∙ grafted-lists h xs c.args.self.now.fit c.requires

@@ -23,4 +23,4 @@ returns c =
     let xs = c.args.self.now.block.now in
     let at = c.missing_at-at in
     tells-ascending (row_keys 129 h.live.missing (take (length xs - at.result) (drop at.result xs))) c.ascending.result c.ascending.ensures
-    ∙ ap ascending (keys-lent (limits_of h.limits) xs 9 129 h.live.missing at.result (lit< tt) (omega (arith, c.requires.within.missing)) at.ensures ∙ told h xs)
+    ∙ ap ascending (keys-lent (limits_of h.limits) xs 9 129 h.live.missing at.result (lit< tt) (omega (arith, c.args.self.now.fit.within.missing)) at.ensures ∙ told h xs)

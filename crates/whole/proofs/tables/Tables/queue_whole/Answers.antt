@@ -12,4 +12,4 @@ returns c =
     let h = c.args.self.now.head.now in
     let at = c.queue_at-at in
     c.numbers_below.ensures
-    ∙ ap (all_below h.live.links) (bytes-lent (limits_of h.limits) c.args.self.now.block.now 11 h.live.queued at.result (lit< tt) (omega (arith, c.requires.within.queued)) at.ensures)
+    ∙ ap (all_below h.live.links) (bytes-lent (limits_of h.limits) c.args.self.now.block.now 11 h.live.queued at.result (lit< tt) (omega (arith, c.args.self.now.fit.within.queued)) at.ensures)

@@ -16,4 +16,4 @@ told h xs fit = cache-sound (limits_of h.limits) xs nothing_of 2 2 h.live.receiv
 
 pub returns : goal.returns
 returns c =
-    c.is_sound.ensures ∙ ap (λ (t : TimeBoundCache). sound t c.args.self.now.block.now) c.table.ensures.at ∙ told c.args.self.now.head.now c.args.self.now.block.now c.requires
+    c.is_sound.ensures ∙ ap (λ (t : TimeBoundCache). sound t c.args.self.now.block.now) c.table.ensures.at ∙ told c.args.self.now.head.now c.args.self.now.block.now c.args.self.now.fit

@@ -21,4 +21,4 @@ returns c =
     let xs = c.args.self.now.block.now in
     let at = c.timers_at-at in
     tells-ascending (keys 32 h.live.timers (take (length xs - at.result) (drop at.result xs))) c.ascending.result c.ascending.ensures
-    ∙ ap ascending (keys-lent (limits_of h.limits) xs 10 32 h.live.timers at.result (lit< tt) (omega (arith, c.requires.within.timers)) at.ensures ∙ told h xs)
+    ∙ ap ascending (keys-lent (limits_of h.limits) xs 10 32 h.live.timers at.result (lit< tt) (omega (arith, c.args.self.now.fit.within.timers)) at.ensures ∙ told h xs)

@@ -1,5 +1,5 @@
 -- `shortcut_actions` meets its contract: a Prune alone, or a Graft and a Prune.
-use Rattle.std.proofs.Common.{◌∙◌, ap, sym, refl, ℕ, Bool, List, ◌++◌, length, get_or, arith, leb, eqb, if◌then◌else◌, None, length-append}
+use Rattle.std.proofs.Common.{◌∙◌, ap, sym, ℕ, Bool, List, ◌++◌, arith, None}
 use Rattle.postcard.specs.Message.{Prune, Graft, message_bytes}
 use Rattle.postcard.specs.Output.{send_head}
 use Rattle.wire.specs.Encode.Intake.{after}

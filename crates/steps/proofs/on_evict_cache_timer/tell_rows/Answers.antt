@@ -8,7 +8,7 @@ use Rattle.wire.specs.Encode.Intake.{after}
 use Rattle.block.specs.Caches.CachedReads.{row_id}
 use Rattle.decide.specs.Settled.{forgotten_actions}
 use Rattle.block.specs.Views.{shown}
-use Rattle.steps.proofs.ForgottenLaws.{told_from, told-all, row-room, row-same, row-left, rows-done}
+use Rattle.steps.proofs.ForgottenLaws.{told_from, told-all, row-same, rows-done}
 use Rattle.steps.proofs.on_evict_cache_timer.tell_rows.Given.{Over}
 use Rattle.steps.proofs.on_evict_cache_timer.tell_rows.Goals as goal
 use Rattle.steps.proofs.on_evict_cache_timer.tell_rows.Goals.{After-as_slice-row-items}
@@ -26,7 +26,7 @@ pub forgotten_rows-rows-requires : goal.forgotten_rows-rows-requires
 forgotten_rows-rows-requires g c = (c.args.view.now.sound, c.requires.order)
 
 pub loop-row-init : goal.loop-row-init
-loop-row-init g c = record { same = refl; room = rw (all g (goal.at.loop-row-init g c).After-as_slice-row-items) c.requires.room }
+loop-row-init g c = refl
 
 pub row_id-id-requires : goal.row_id-id-requires
 row_id-id-requires g c =
@@ -36,24 +36,14 @@ row_id-id-requires g c =
           (subst (λ (l : List ℕ). All (λ r. r < v.head.now.live.cached_rows) l) (sym c.as_slice-row-items.ensures.value) c.forgotten_rows-rows.ensures.rows),
     )
 
-pub encode-requires : goal.encode-requires
-encode-requires g c =
-    let v = c.args.view.now in
-    row-room v.head.now v.block.now c.as_slice-row-items.result.now c.loop-row.row-index c.loop-row-test.true (id_of c.row_id-id.result) c.row_id-id.ensures _ c.loop-row.invariant.room
-
 pub loop-row-preserved : goal.loop-row-preserved
 loop-row-preserved g c =
     let v = c.args.view.now in
-    let rows = c.as_slice-row-items.result.now in
-    let i = c.loop-row.row-index in
-    record {
-      same = row-same v.head.now v.block.now rows i c.loop-row-test.true (id_of c.row_id-id.result) c.row_id-id.ensures _ _ _ c.loop-row.invariant.same c.encode.ensures;
-      room = row-left v.head.now v.block.now rows i c.loop-row-test.true (id_of c.row_id-id.result) c.row_id-id.ensures _ _ c.loop-row.invariant.room c.encode.ensures;
-    }
+    row-same v.head.now v.block.now c.as_slice-row-items.result.now c.loop-row.row-index c.loop-row-test.true (id_of c.row_id-id.result) c.row_id-id.ensures _ _ _ c.loop-row.invariant c.encode.ensures
 
 pub returns : goal.returns
 returns g c =
     let v = c.args.view.now in
     let e = all g (goal.at.returns g c).After-as_slice-row-items in
-    rows-done v.head.now v.block.now c.as_slice-row-items.result.now c.loop-row.row-index c.loop-row-test.false _ _ c.loop-row.invariant.same
+    rows-done v.head.now v.block.now c.as_slice-row-items.result.now c.loop-row.row-index c.loop-row-test.false _ _ c.loop-row.invariant
     ∙ ap (λ (l : List ℕ). after l (g.S.Sink.intake c.args.out.now)) e

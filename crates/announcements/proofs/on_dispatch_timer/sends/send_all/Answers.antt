@@ -24,7 +24,7 @@ use Rattle.announcements.specs.OnDispatchTimer.{dispatch_bytes}
 use Rattle.announcements.specs.QueuedRows.{held_then}
 use Rattle.announcements.proofs.OnDispatchLaws.ActionLoop.{all-actions, next-peer, no-peer}
 use Rattle.announcements.proofs.OnDispatchLaws.LinkRows.{column-long, below-links, mine}
-use Rattle.announcements.proofs.OnDispatchLaws.SendLaws.{going_start, going-room, going_next, going_end}
+use Rattle.announcements.proofs.OnDispatchLaws.SendLaws.{going_start, going_next, going_end}
 use Rattle.announcements.proofs.on_dispatch_timer.sends.send_all.Given.{Over}
 use Rattle.announcements.proofs.on_dispatch_timer.sends.send_all.Goals as goal
 use Rattle.announcements.proofs.on_dispatch_timer.sends.send_all.Goals.{Start, In-loop-link}
@@ -80,11 +80,6 @@ send_link-flag-requires-clause-mine g c =
     let n = (goal.at.send_link-flag-requires-clause-mine g c).In-loop-link in
     let v = c.args.view.now in
     rw c.link_rows.ensures (mine (shown v) (shown v).queue c.queue_links.result.now c.queue_links.ensures c.requires.rest.consistent.core.links_up c.loop-link.link (low g n) c.group-starts.new.rows c.group-starts.result c.group-starts.ensures.grouped (links-few v.head.now v.block.now v.sound))
-
-pub send_link-flag-requires-clause-room : goal.send_link-flag-requires-clause-room
-send_link-flag-requires-clause-room g c =
-    let n = (goal.at.send_link-flag-requires-clause-room g c).In-loop-link in
-    going-room (drop c.loop-link.link (keys (s g n).links)) c.loop-link.invariant (peer_at (s g n) c.loop-link.link) (drop (c.loop-link.link + 1) (keys (s g n).links)) (next-is g n) c.requires.room
 
 pub loop-link-preserved : goal.loop-link-preserved
 loop-link-preserved g c =

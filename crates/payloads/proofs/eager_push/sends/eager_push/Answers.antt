@@ -1,9 +1,7 @@
 -- `eager_push` meets its contract: the sends, and the record's timer behind them.
-use Rattle.std.proofs.Common.{refl, not}
-use Rattle.storage.specs.Lists.Base.{is_empty}
+use Rattle.std.proofs.Common.{refl}
 use Rattle.block.specs.View.{state_of}
 use Rattle.block.specs.Views.{shown}
-use Rattle.payloads.specs.EagerPush.Targets.{push_backs}
 use Rattle.payloads.proofs.AfterLaws.{after-both}
 use Rattle.payloads.proofs.EagerPushLaws.SendLaws.{push-parts}
 use Rattle.payloads.proofs.eager_push.sends.eager_push.Goals as goal

@@ -177,7 +177,7 @@ impl<'a> Tables<'a> {
     pub fn links_whole(&self) -> bool
         ensures { result ≡ links_whole self.now.head.now self.now.block.now }
     {
-        for i in 1..head.live.links {
+        for i in 1..self.head.live.links {
             if self.peer_at(i) <= self.peer_at(i - 1) {
                 return false;
             }

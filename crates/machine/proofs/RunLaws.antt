@@ -111,9 +111,9 @@ module _ (rooms : List Room) (now p : ℕ) (s : State) (c : Counts) (output : �
 -- a message's counts
 pub counted-message : (m : Message) (c : Counts) → counted_as (is_payload m) c ≡ count_message (message_value m) c
 unfolding count_message
-counted-message (messages.Gossip id content d) c = refl
+counted-message (messages.Gossip g) c = refl
 counted-message messages.Prune c = refl
-counted-message (messages.Graft w r) c = refl
+counted-message (messages.Graft g) c = refl
 counted-message (messages.IHave ihaves) c = refl
 
 pub message-counted : (peer : ℕ) (m : Message) (c : Counts) → counted_as (is_payload m) c ≡ counted_for (Received peer (message_value m)) c

@@ -96,23 +96,12 @@ pub fn message_step<'a>(view: &View, call: &Call, sender: u64, message: Message<
     ensures { Means call.now.instant.0 (shown view.now) result (Received sender (message_value message.entry)) }
 {
     match (message, view.find_link(sender)) {
-        (
-            Message::Gossip {
-                id,
-                content,
-                delivery,
-            },
-            _,
-        ) => {
-            let gossip = Gossip {
-                id,
-                content,
-                delivery,
-            };
-            gossip_step(view, call, sender, gossip)
-        }
+        (Message::Gossip(gossip), _) => gossip_step(view, call, sender, gossip),
         (Message::Prune, Some(link)) => Step::Prune { link },
-        (Message::Graft { wanted, .. }, Some(link)) => Step::Graft { link, wanted },
+        (Message::Graft(graft), Some(link)) => Step::Graft {
+            link,
+            wanted: graft.wanted,
+        },
         (Message::IHave(ihaves), Some(link)) => ihave_step(view, call, link, ihaves),
         (_, None) => Step::Nothing,
     }

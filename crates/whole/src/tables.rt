@@ -27,6 +27,7 @@ use storage::tables::Row;
 use storage::{notes, refs};
 
 // A header and the block beside it, in which the tables lie: all that is known of them before question 5 is answered.
+#[derive(Clone, Copy)]
 pub struct Tables<'a> {
     pub head: &'a Head,
     pub block: &'a [u8],

@@ -52,7 +52,7 @@ use Rattle.steps.proofs.AtRestLaws.{settled-as, settled-up, settled-low}
 use Rattle.steps.proofs.EvictStepLaws.{rest-settled}
 use Rattle.block.proofs.PanelLaws.{same_keys, link-key}
 use Rattle.steps.proofs.RoomsLaws.{kth-link}
-use Rattle.steps.proofs.StandsLaws.{in_order}
+use Rattle.steps.proofs.AtRestLaws.{in_order}
 use Rattle.steps.proofs.TakeInLaws.{byte-small}
 use Rattle.announcements.specs.SendGraft.Asks.{asked_first, missing_left}
 use Rattle.announcements.specs.OnSendGraftTimer.{send_graft_bytes}

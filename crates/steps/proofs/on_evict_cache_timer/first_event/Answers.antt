@@ -8,7 +8,7 @@ use Rattle.steps.proofs.on_evict_cache_timer.first_event.Goals as goal
 use Rattle.steps.proofs.on_evict_cache_timer.first_event.Goals.{After-flag_init}
 
 -- the state once the flag is set
-done : (c : After-flag_init) → state c.flag_init.new.panel ≡ first_state c.args.call.now.instant.0 (state c.args.panel.now)
+done : (c : After-flag_init) → state c.flag_init.new.self ≡ first_state c.args.call.now.instant.0 (state c.args.panel.now)
 done c =
     let p = c.args.panel.now in
     let now = c.args.call.now.instant.0 in

@@ -7,13 +7,13 @@ use Rattle.block.specs.Heads.{with_link_count}
 use Rattle.block.specs.Panels.{state}
 use Rattle.block.specs.LinkSteps.{peer_at}
 use Rattle.block.proofs.Lent.{given_back, lent-room}
-use Rattle.block.proofs.PanelLaws.{link-below}
+use Rattle.block.proofs.LinkLaws.{count-links}
 use Rattle.block.proofs.NeighboursLaws.LinkOut.{link-out}
 use Rattle.block.proofs.panel.Panel.remove_link.Goals as goal
 use Rattle.block.proofs.panel.Panel.remove_link.Goals.{Start, After-remove}
 
 below : (s : Start) → s.args.link < s.args.self.now.head.live.links
-below s = link-below s.args.self.now.head s.args.self.now.block.now s.args.link s.requires.1
+below s = omega (arith, s.requires.1, count-links s.args.self.now.head s.args.self.now.block.now)
 
 pub lower_links-lowered-requires : goal.lower_links-lowered-requires
 lower_links-lowered-requires c = (c.args.self.now.sound, c.requires.0, below (goal.at.lower_links-lowered-requires c).Start)

@@ -8,8 +8,6 @@ use Rattle.time_cache.specs.TimeCache.{Timed, Cache, value_of, get, put as put_i
 use Rattle.time_cache.proofs.Timely.{order-added}
 use Rattle.time_cache.proofs.ValueLaws.{replace-put}
 use Rattle.protocol.specs.State.{State, Cached, with_cache}
-use Rattle.decide.proofs.SizesAfter.{content_length}
-use Rattle.decide.proofs.Broadcast.{content-put}
 use Rattle.block.specs.View.{state_of}
 use Rattle.block.specs.Sound.{Sound, held}
 use Rattle.block.specs.Goes.{Goes}
@@ -35,6 +33,19 @@ sum-insert-le f k v [] = omega arith
 sum-insert-le f k v (e ∷ m) =
     cases (ltb k e.key) (λ p. rw p (omega arith))
     (λ p. rw p (cases (eqb k e.key) (λ q. rw q (omega arith)) (λ q. rw q (omega (arith, sum-insert-le f k v m)))))
+
+-- the content bytes of a message that was looked up
+bytes_of : Option Cached → ℕ
+bytes_of None = 0
+bytes_of (Some v) = length v.content
+
+-- an entry without a content in place of one without, or of none
+insert-bare : (k : ℕ) (v : Timed Cached) (m : Map (Timed Cached)) → length v.value.content ≡ 0 → bytes_of (value_of (lookup k m)) ≡ 0 → held (insert k v m) ≡ held m
+unfolding insert lookup sum value_of bytes_of
+insert-bare k v [] z b = omega (arith, z)
+insert-bare k v (e ∷ m) z b =
+    cases (ltb k e.key) (λ p. rw p (omega (arith, z)))
+    (λ p. rw p (cases (eqb k e.key) (λ q. rw q (omega (arith, z, rw q at b))) (λ q. rw q (omega (arith, insert-bare k v m z (rw q at b))))))
 
 module _ (id : ℕ) where
   -- a value put in over one that was replaced
@@ -102,19 +113,19 @@ module _ (id : ℕ) where
   held-less c = less-given (get id c) c
 
   -- nothing is left of an old content
-  bare-with : (r : ℕ) (o : Option (Timed Cached)) (m : Map (Timed Cached)) → lookup id m ≡ o → content_length (value_of (lookup id (with_value id (message [] r) o m))) ≡ 0
-  unfolding with_value value_of content_length
-  bare-with r None m e = ap (λ (o : Option (Timed Cached)). content_length (value_of o)) e
-  bare-with r (Some y) m e = ap (λ (o : Option (Timed Cached)). content_length (value_of o)) (lookup-insert-same id (record { expires = y.expires; value = message [] r }) m)
+  bare-with : (r : ℕ) (o : Option (Timed Cached)) (m : Map (Timed Cached)) → lookup id m ≡ o → bytes_of (value_of (lookup id (with_value id (message [] r) o m))) ≡ 0
+  unfolding with_value value_of bytes_of
+  bare-with r None m e = ap (λ (o : Option (Timed Cached)). bytes_of (value_of o)) e
+  bare-with r (Some y) m e = ap (λ (o : Option (Timed Cached)). bytes_of (value_of o)) (lookup-insert-same id (record { expires = y.expires; value = message [] r }) m)
 
-  bare-given : (o : Option Cached) (c : Cache Cached) → get id c ≡ o → content_length (get id (refill_with id [] o c)) ≡ 0
-  unfolding refill_with replace get content_length
-  bare-given None c e = ap content_length e
+  bare-given : (o : Option Cached) (c : Cache Cached) → get id c ≡ o → bytes_of (get id (refill_with id [] o c)) ≡ 0
+  unfolding refill_with replace get bytes_of
+  bare-given None c e = ap bytes_of e
   bare-given (Some v) c e = bare-with v.round (lookup id c.entries) c.entries refl
 
-  pub held_same : (round t : ℕ) (c : Cache Cached) → InOrder c → held (put_in id (message [] round) t (refill id [] c)).entries ≡ held (refill id [] c).entries
-  held_same round t c i =
-      omega (arith, content-put id t (message [] round) (refill id [] c) (in-order-refill [] c i).up, bare-given (get id c) c refl)
+  pub held_same : (round t : ℕ) (c : Cache Cached) → held (put_in id (message [] round) t (refill id [] c)).entries ≡ held (refill id [] c).entries
+  unfolding put_in get
+  held_same round t c = insert-bare id (record { expires = t; value = message [] round }) (refill id [] c).entries refl (bare-given (get id c) c refl)
 
   pub most-refill : (n : ℕ) (content : List ℕ) (round t : ℕ) (c : Cache Cached) → AtMost n (put_in id (message content round) t c) → AtMost n (put_in id (message [] round) t (refill id [] c))
   most-refill n content round t c a =

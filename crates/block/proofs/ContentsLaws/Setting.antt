@@ -33,7 +33,7 @@ use Rattle.block.specs.Caches.InBlock.{InOrder}
 use Rattle.block.proofs.CachesLaws.CacheLaws.{refs-in}
 use Rattle.block.specs.Contents.Starts.{start_of, len_of, RowsAdjoin, with_len, shifted_row, Above}
 use Rattle.block.specs.Contents.CacheSteps.{refill_with, refill, refilled, cached_rows, Others, Shifts, Resized}
-use Rattle.block.proofs.ContentsLaws.RowsAdjoin.{of-adjoining, chain-at, chain-drop, chain_next, chain-above, wide_rows}
+use Rattle.block.proofs.ContentsLaws.RowsAdjoin.{chain-at, chain-drop, chain_next, chain-above, wide_rows, chain-of}
 use Rattle.block.proofs.ContentsLaws.Contents.{place-low}
 use Rattle.block.proofs.ContentsLaws.Resizing.{no_entry, sum-put, refill-set, rows_then, store_then, chain-then, expiry-then, content-new, content-kept}
 use Rattle.block.proofs.ContentsLaws.Closing.{others-of, move-frame, cached-state, cached-fit, cached-laid}
@@ -95,8 +95,7 @@ module _ (h : Head) (xs content : List ℕ) (p : ℕ) (sound : Sound h xs) (hp :
   count = length-expiry_rows 48 m (table l 5 xs)
 
   pub chain : RowsAdjoin 0 rs u
-  unfolding expiry_rows
-  chain = of-adjoining sound.laid.contents
+  chain = chain-of h xs sound
 
   pub row_ends : a + o ≤ u
   row_ends = (chain-at chain p (omega (arith, count))).1
@@ -232,8 +231,7 @@ module _ (h : Head) (xs content : List ℕ) (id i : ℕ) (sound : Sound h xs) (o
   row_low = omega (arith, names, place-low (length rows) es below i low, lrows)
 
   chained : RowsAdjoin 0 rows uc
-  unfolding expiry_rows
-  chained = of-adjoining sound.laid.contents
+  chained = chain-of h xs sound
 
   long : length store ≡ lim.B
   long = length-table lim 6 xs (lit< tt) sound.fit.long

@@ -10,7 +10,6 @@ use Rattle.time_cache.proofs.ValueLaws.{replace-put}
 use Rattle.protocol.specs.State.{State, Cached, with_cache}
 use Rattle.block.specs.View.{state_of}
 use Rattle.block.specs.Sound.{Sound, held}
-use Rattle.block.specs.Goes.{Goes}
 use Rattle.block.specs.declared.head.Head.{Head}
 use Rattle.block.specs.Caches.InBlock.{InOrder, AtMost}
 use Rattle.block.specs.Contents.CacheSteps.{message, cached_also, refill_with, refill, refilled}
@@ -135,56 +134,37 @@ module _ (id : ℕ) where
         expiry = omega (arith, a.expiry, expiry-put id t (message content round) (message [] round) c);
       })
 
--- of header and block
-module _ (id : ℕ) (content : List ℕ) (round t : ℕ) (h : Head) (xs : List ℕ) (sound : Sound h xs) (order : InOrder (state_of h xs).cache) where
-  used : held (state_of h xs).cache.entries ≤ h.limits.content
-  unfolding state_of
-  used = omega (arith, sound.laid.used, sound.fit.within.contents)
+-- what the contents hold is within their limit
+pub held-within : (h : Head) (xs : List ℕ) → Sound h xs → held (state_of h xs).cache.entries ≤ (state_of h xs).limits.B
+unfolding state_of
+held-within h xs sound = omega (arith, sound.laid.used, sound.fit.within.contents)
 
-  pub first-room : held (refill id [] (state_of h xs).cache).entries ≤ h.limits.content
-  first-room = omega (arith, held-less id (state_of h xs).cache, used)
+-- of the state, which goes to s1, s2 and s3
+module _ (id : ℕ) (content : List ℕ) (round t : ℕ) (s : State) (order : InOrder s.cache) where
+  pub first-room : held s.cache.entries ≤ s.limits.B → held (refill id [] s.cache).entries ≤ s.limits.B
+  first-room w = omega (arith, held-less id s.cache, w)
 
-  module _ (a : Head) (ys : List ℕ) (g : Goes (refilled id []) h xs a ys) where
-    -- the limits are those of before
-    limit-1 : (a.limits.cached ≡ h.limits.cached) × (a.limits.content ≡ h.limits.content)
-    unfolding state_of
-    limit-1 = (ap (λ (s : State). s.limits.C) g.state, ap (λ (s : State). s.limits.B) g.state)
+  module _ (s1 : State) (g : s1 ≡ refilled id [] s) where
+    pub order-1 : InOrder s1.cache
+    order-1 = subst (λ (z : State). InOrder z.cache) (sym g) (in-order-refill id [] s.cache order)
 
-    pub order-1 : InOrder (state_of a ys).cache
-    order-1 = subst (λ (s : State). InOrder s.cache) (sym g.state) (in-order-refill id [] (state_of h xs).cache order)
+    pub most-1 : AtMost s.limits.C (put_in id (message content round) t s.cache) → AtMost s1.limits.C (put_in id (message [] round) t s1.cache)
+    most-1 m = subst (λ (z : State). AtMost z.limits.C (put_in id (message [] round) t z.cache)) (sym g) (most-refill id s.limits.C content round t s.cache m)
 
-    pub most-1 : AtMost h.limits.cached (put_in id (message content round) t (state_of h xs).cache) → AtMost a.limits.cached (put_in id (message [] round) t (state_of a ys).cache)
-    most-1 m =
-        subst (λ (n : ℕ). AtMost n (put_in id (message [] round) t (state_of a ys).cache)) (sym limit-1.0)
-        (subst (λ (s : State). AtMost h.limits.cached (put_in id (message [] round) t s.cache)) (sym g.state) (most-refill id h.limits.cached content round t (state_of h xs).cache m))
+    pub bare-1 : held (put_in id (message [] round) t s1.cache).entries ≡ held s1.cache.entries
+    bare-1 = subst (λ (z : State). held (put_in id (message [] round) t z.cache).entries ≡ held z.cache.entries) (sym g) (held_same id round t s.cache)
 
-    pub bare-1 : held (put_in id (message [] round) t (state_of a ys).cache).entries ≡ a.live.contents
-    unfolding state_of
-    bare-1 =
-        ap (λ (s : State). held (put_in id (message [] round) t s.cache).entries) g.state
-        ∙ held_same id round t (state_of h xs).cache order
-        ∙ sym (ap (λ (s : State). held s.cache.entries) g.state)
-        ∙ g.sound.laid.used
+    module _ (s2 : State) (f : s2 ≡ cached_also id [] round t s1) where
+      both : s2 ≡ cached_also id [] round t (refilled id [] s)
+      both = f ∙ ap (cached_also id [] round t) g
 
-    module _ (b : Head) (zs : List ℕ) (f : Goes (cached_also id [] round t) a ys b zs) where
-      cache-2 : (state_of b zs).cache ≡ put_in id (message [] round) t (refill id [] (state_of h xs).cache)
-      cache-2 = ap (λ (s : State). s.cache) (f.state ∙ ap (cached_also id [] round t) g.state)
+      pub order-2 : InOrder s2.cache
+      order-2 = subst (λ (z : State). InOrder z.cache) (sym f) (in-order-put id (message [] round) t s1.cache order-1)
 
-      limit-2 : b.limits.content ≡ h.limits.content
-      unfolding state_of
-      limit-2 = ap (λ (s : State). s.limits.B) f.state ∙ limit-1.1
-
-      pub order-2 : InOrder (state_of b zs).cache
-      order-2 = subst (λ (s : State). InOrder s.cache) (sym f.state) (in-order-put id (message [] round) t (state_of a ys).cache order-1)
-
-      pub room-2 : held (put_in id (message content round) t (state_of h xs).cache).entries ≤ h.limits.content → held (refill id content (state_of b zs).cache).entries ≤ b.limits.content
+      pub room-2 : held (put_in id (message content round) t s.cache).entries ≤ s.limits.B → held (refill id content s2.cache).entries ≤ s2.limits.B
       room-2 w =
-          omega (arith, w, limit-2, ap (λ (c : Cache Cached). held (refill id content c).entries) cache-2, ap (λ (c : Cache Cached). held c.entries) (put_three id content round t (state_of h xs).cache))
+          subst (λ (z : State). held (refill id content z.cache).entries ≤ z.limits.B) (sym both)
+          (omega (arith, w, ap (λ (c : Cache Cached). held c.entries) (put_three id content round t s.cache)))
 
-      pub also-goes : (r : Head) (ws : List ℕ) → Goes (refilled id content) b zs r ws → Goes (cached_also id content round t) h xs r ws
-      also-goes r ws e = record {
-        state =
-            e.state ∙ ap (refilled id content) (f.state ∙ ap (cached_also id [] round t) g.state)
-            ∙ ap (λ (c : Cache Cached). with_cache c (state_of h xs)) (put_three id content round t (state_of h xs).cache);
-        sound = e.sound;
-      }
+      pub also : (s3 : State) → s3 ≡ refilled id content s2 → s3 ≡ cached_also id content round t s
+      also s3 e = e ∙ ap (refilled id content) both ∙ ap (λ (c : Cache Cached). with_cache c s) (put_three id content round t s.cache)

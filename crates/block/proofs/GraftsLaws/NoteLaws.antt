@@ -106,12 +106,11 @@ module _ (h : Head) (xs : List ℕ) (sound : Sound h xs) (g : Grafting (state_of
     low = ap (λ (o : Option ℕ). insert p (lower o rd) peers) (lookup-here p j (entry 0 0) peers (peers-up st g i q) here)
 
     -- a lower round
-    pub lower-goes : (k : ℕ) → (get_or peers j (entry 0 0)).value ≡ k → rd < k → Goes (λ s. peers_to i (peers_with i (peer_at s link) rd s) s) h xs h (put (at + 33 + 2 * j) (le_bytes 2 rd) xs)
+    pub lower-goes : (k : ℕ) → (get_or peers j (entry 0 0)).value ≡ k → rd < k → Goes (λ s. peers_to i (peers_with i (peer_at s link) rd s) s) h xs h (put at (round_put j rd list) xs)
     unfolding round_of known
     lower-goes k e lt =
         let jk : j < byte_at 0 list = omega (arith, there, many) in
         let few : byte_at 0 list ≤ 32 = num.few in
-        let a : at + 33 + 2 * j ≡ at + (33 + 2 * j) = omega arith in
         let key : peer_of (peers_of h xs) (get_or list (1 + j) 0) ≡ p =
         sym (ap (λ (y : Entry ℕ). y.key) (ap (λ (m : Map ℕ). get_or m j (entry 0 0)) row ∙ hop-in list long f j (entry 0 0) jk few)) ∙ sym (key-at st g i q j) ∙ here.same in
         let m0 : min known rd ≡ rd = omega (arith, e, lt) in
@@ -121,10 +120,7 @@ module _ (h : Head) (xs : List ℕ) (sound : Sound h xs) (g : Grafting (state_of
         ∙ sym (insert-here p rd j peers (peers-up st g i q) here)
         ∙ sym (low ∙ ap (λ (n : ℕ). insert p n peers) m0) in
         let go = peers-goes h xs sound g.order i q (round_put j rd list) (round-long list long j rd jk few) (numbered-round list long j rd jk few h.live.links num) in
-        let lr : length (le_bytes 2 rd) ≡ 2 = length-le_bytes 2 rd in
-        subst (Goes (λ s. peers_to i (peers_with i (peer_at s link) rd s) s) h xs h)
-        (sym (ap (λ (b : ℕ). put b (le_bytes 2 rd) xs) a ∙ put-inside at (33 + 2 * j) 97 (le_bytes 2 rd) xs (omega arith) (omega (arith, entry-below h xs sound i q, sound.fit.long, sound.fit.within.grafted))))
-        (record { state = go.state ∙ ap (λ (m : Map ℕ). peers_to i m st) value; sound = go.sound })
+        record { state = go.state ∙ ap (λ (m : Map ℕ). peers_to i m st) value; sound = go.sound }
 
     -- the known round
     pub same-goes : (k : ℕ) → (get_or peers j (entry 0 0)).value ≡ k → k ≤ rd → Goes (λ s. peers_to i (peers_with i (peer_at s link) rd s) s) h xs h xs

@@ -379,7 +379,7 @@ module _ (call : Call) (id : Id) (h : Head) (xs : List ℕ) (rest : AtRest (stat
       ∙ both-bytes q b (id_of id) r.round.0 (Scheduled h.settings.config.graft_timeout_2.0 (SendGraft (id_of id)))
     where
       peer : peer_at st r.link ≡ q
-      peer = link-key h xs r.link (peer_at st r.link) refl ∙ sym eq
+      peer = link-key st r.link ∙ sym eq
 
       same : peer_at st r.link ≡ peer_at later r.link
       same = sym (settled-as at st (λ (x : State). peer_at x r.link) refl)

@@ -28,10 +28,6 @@ module _ (h : Head) (xs : List ℕ) where
   pub link-below : (i : ℕ) → i < length (state_of h xs).links → i < h.live.links
   link-below i q = omega (arith, count-links h xs)
 
-  -- the peer of a link
-  pub link-key : (i p : ℕ) → p ≡ peer_at (state_of h xs) i → p ≡ (link_at (state_of h xs) i).key
-  link-key i p e = e ∙ get_or-map (λ (e : Entry Mark). e.key) (state_of h xs).links i (entry 0 eager)
-
   pub queue-room : Sound h xs → length (state_of h xs).queue < (state_of h xs).limits.Q → h.live.queued < h.limits.queued
   unfolding state_of
   queue-room sound q = omega (arith, count-queue h xs sound, q)
@@ -40,8 +36,12 @@ module _ (h : Head) (xs : List ℕ) where
   unfolding state_of
   dropped-room sound q = omega (arith, count-dropped h xs sound, q)
 
+-- the peer of a link
+pub link-key : (s : State) (i : ℕ) → peer_at s i ≡ (link_at s i).key
+link-key s i = get_or-map (λ (e : Entry Mark). e.key) s.links i (entry 0 eager)
+
 -- a panel that is read
-pub same-state : (p : Panel) (v : View) → v.head ≡ p.head → v.block.now ≡ p.block.now → shown v ≡ state p
+pub same-state : (p : Panel) (v : View) → v.head.now ≡ p.head → v.block.now ≡ p.block.now → shown v ≡ state p
 same-state p v e f = ap (λ (h : Head). state_of h v.block.now) e ∙ ap (state_of p.head) f
 
 -- the peer of a link, which may get another mark

@@ -42,7 +42,7 @@ rows-few g c =
 peer-is : (g : Over) (c : After-link-peer g) → c.link-peer.result.peer ≡ peer_at (shown c.args.view.now) c.args.queued.now.link
 peer-is g c =
     let v = c.args.view.now in
-    ap (λ (x : Link). x.peer) c.link-peer.ensures ∙ sym (link-key v.head v.block.now c.args.queued.now.link (peer_at (shown v) c.args.queued.now.link) refl)
+    ap (λ (x : Link). x.peer) c.link-peer.ensures ∙ sym (link-key (shown v) c.args.queued.now.link)
 
 pub loop-rows-init : goal.loop-rows-init
 loop-rows-init g c =

@@ -28,7 +28,9 @@ known c =
     subst (λ (s : State). (get_or (grafts_at s c.args.i).peers c.args.j (entry 0 0)).value ≡ c.graft.result.round.0) (same-state p c.view.result c.view.ensures.head c.view.ensures.block) (ap (λ (e : Entry ℕ). e.value) c.graft.ensures.same)
 
 pub graft-requires : goal.graft-requires
-graft-requires c = ?
+graft-requires c =
+    subst (λ (s : State). (c.args.i < length s.grafted.entries) × (c.args.j < length (grafts_at s c.args.i).peers)) (sym (same-state c.args.self.now c.view.result c.view.ensures.head c.view.ensures.block))
+    (c.requires.there.0, there (goal.at.graft-requires c).Start)
 
 pub returns-then-graft-hop : goal.returns-then-graft-hop
 returns-then-graft-hop c =
@@ -38,11 +40,22 @@ returns-then-graft-hop c =
     record { state = g.state; loan = refl }
 
 pub set_round-requires : goal.set_round-requires
-set_round-requires c = ?
+set_round-requires c =
+    let a = c.args in
+    let p = a.self.now in
+    let many = graft-many p.head p.block.now p.sound a.i c.requires.there.0 in
+    (omega (arith, there (goal.at.set_round-requires c).Start, many, graft-few p.head p.block.now p.sound a.i c.requires.there.0), omega (arith, c.graft_at-at.ensures.within, ap (λ (bs : List ℕ). length bs) c.view-2.ensures.block))
 
 goes : (c : After-set_round) → let p = c.args.self.now in
     Goes (λ s. peers_to c.args.i (peers_with c.args.i (peer_at s c.args.hop.link) c.args.hop.round.0 s) s) p.head p.block.now p.head c.set_round.new.block
-goes c = ?
+goes c =
+    let a = c.args in
+    let p = a.self.now in
+    let xs = p.block.now in
+    let e = ap (λ (n : ℕ). n + 22) (c.graft_at-at.ensures.at ∙ ap (λ (h : Head). place (limits_of h.limits) 7 + 119 * a.i) c.view-2.ensures.head) in
+    subst (Goes (λ s. peers_to a.i (peers_with a.i (peer_at s a.hop.link) a.hop.round.0 s) s) p.head xs p.head)
+    (sym (c.set_round.ensures ∙ (λ k. put (e k) (round_put a.j a.hop.round.0 (part (e k) 97 xs)) xs)))
+    (lower-goes p.head xs p.sound c.requires.grafting a.i c.requires.there.0 a.hop.link a.hop.round.0 c.requires.there.1 (omega (arith, c.well_formed)) a.j c.requires.place c.graft.result.round.0 (known (goal.at.After-set_round c).After-graft) c.if-graft-hop.false)
 
 pub invariant_of-self : goal.invariant_of-self
 invariant_of-self c = record { sound = (goes (goal.at.invariant_of-self c).After-set_round).sound }

@@ -6,7 +6,6 @@ use borrow.Rule.Slice.PartMut.{put_mid}
 use Rattle.storage.specs.Lists.Base.{filter}
 use Rattle.storage.specs.Lists.Map.{keys}
 use Rattle.storage.specs.Rows.Part.{part, put}
-use Rattle.storage.specs.Rows.Rows.{rows}
 use Rattle.storage.specs.Rows.Sorted.{Ascending}
 use Rattle.storage.proofs.RowsLaws.Parts.{length-put, part-add, put-put-next, put_all, loan-put, get_d_part}
 use Rattle.storage.specs.Refs.Refs.{ref, places, Below}

@@ -10,7 +10,6 @@ use Rattle.block.specs.Layout.{sizes, place, span, tables, table, end}
 use Rattle.block.specs.View.{limits_of}
 use Rattle.block.specs.Sound.{Sound, AllNumbered}
 use Rattle.block.specs.declared.head.Head.{Head}
-use Rattle.block.proofs.Cut.{cut-part}
 use Rattle.block.proofs.RowLaws.{part_in}
 use Rattle.block.specs.Neighbours.Raised.{raised_row, RaisedLinks}
 use Rattle.block.proofs.Lent.{lent_at, given_back, lent-table, lent-room, lent-frame, lent-long}

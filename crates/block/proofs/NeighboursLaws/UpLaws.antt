@@ -14,8 +14,8 @@ use Rattle.block.specs.Fit.{Fit}
 use Rattle.block.specs.Sound.{Laid, Sound, AllNumbered}
 use Rattle.block.specs.Heads.{with_link_count}
 use Rattle.block.specs.declared.head.Head.{Head}
-use Rattle.block.proofs.Cut.{cut-part, within}
-use Rattle.block.proofs.Tables.{frame, frame-whole, length-table}
+use Rattle.block.proofs.Cut.{within}
+use Rattle.block.proofs.Tables.{frame, length-table}
 use Rattle.block.proofs.RowLaws.{part_in}
 use Rattle.block.proofs.LinkLaws.{count-peers}
 use Rattle.block.specs.Neighbours.Raised.{raised_row, RaisedLinks, with_peer}

@@ -8,7 +8,7 @@ use Rattle.protocol.specs.State.{State, with_missing, with_queue, with_dropped, 
 use Rattle.protocol.specs.Neighbours.{forget_announcer, without_notes, forget_grafted}
 use Rattle.block.specs.Layout.{tables}
 use Rattle.block.specs.View.{byte_at, hops_in, limits_of, view_with, state_of}
-use Rattle.storage.specs.Refs.Numbers.{lower_all, entries}
+use Rattle.storage.specs.Refs.Numbers.{lower_all}
 use Rattle.block.specs.Fit.{Fit}
 use Rattle.block.specs.Sound.{Laid}
 use Rattle.block.specs.Heads.{with_link_count}

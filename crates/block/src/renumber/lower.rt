@@ -1,6 +1,6 @@
 // A link that went: its number is dropped wherever it stands, and the numbers after it are one lower (the specification, "Sets": "Down: out of both, and out of
 // announcers (empty lists go), queue, record, grafted peers").
-ghost use Rattle.std.specs.Prelude.{◌≡◌, map, ◌+◌, ◌-◌, ◌*◌, ◌≤◌, ◌<◌, length, get_or};
+ghost use Rattle.std.specs.Prelude.{◌≡◌, map, ◌+◌, ◌*◌, ◌≤◌, ◌<◌, length, get_or};
 ghost use Rattle.storage.specs.Lists.Base.{filter};
 ghost use Rattle.block.specs.Sound.{Sound};
 ghost use Rattle.block.specs.LinkSteps.{LinksAscend};

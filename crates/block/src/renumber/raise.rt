@@ -1,5 +1,5 @@
 // The link numbers of the block after a link came in.
-ghost use Rattle.std.specs.Prelude.{◌≡◌, ◌+◌, ◌-◌, ◌*◌, ◌≤◌, ◌<◌, map, length};
+ghost use Rattle.std.specs.Prelude.{◌≡◌, ◌+◌, ◌*◌, ◌≤◌, map, length};
 ghost use Rattle.storage.specs.Rows.Rows.{rows};
 ghost use Rattle.block.specs.Sound.{Sound, AllNumbered};
 ghost use Rattle.block.specs.Neighbours.Raised.{raised_row, RaisedLinks};

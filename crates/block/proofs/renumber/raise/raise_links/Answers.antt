@@ -1,10 +1,9 @@
 -- The four changes one after the other.
 use Rattle.std.proofs.Common.{◌≡◌, arith}
-use Rattle.std.specs.declared.ops.Range.{Range}
 use Rattle.block.specs.Layout.{span}
 use Rattle.block.specs.View.{limits_of}
 use Rattle.block.proofs.NeighboursLaws.Spans.{grafted-span, missing-span}
-use Rattle.block.proofs.NeighboursLaws.RaiseSteps.{first-asks, long1, second-asks, third-asks, fourth-asks, all-steps}
+use Rattle.block.proofs.NeighboursLaws.RaiseSteps.{first-asks, second-asks, third-asks, fourth-asks, all-steps}
 use Rattle.block.proofs.renumber.raise.raise_links.Goals as goal
 use Rattle.block.proofs.renumber.raise.raise_links.Goals.{After-timers_at-timers}
 

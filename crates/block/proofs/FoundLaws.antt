@@ -17,7 +17,6 @@ use Rattle.block.specs.Sound.{Sound}
 use Rattle.block.specs.declared.head.Head.{Head}
 use Rattle.block.proofs.AnnounceLaws.{key_here}
 use Rattle.block.proofs.LinkLaws.{neighbour-between}
-use Rattle.block.proofs.MissingLaws.{count-missing}
 use Rattle.block.proofs.CachesLaws.GraftedLaws.{count-grafted}
 use Rattle.block.specs.Found.{LinkOf, MissingOf}
 
@@ -32,9 +31,6 @@ found-missing s id (Ok i) up h =
 found-missing s id (Err i) up b = ap hops_of (lookup-between id i s.missing b)
 
 module _ (h : Head) (xs : List ℕ) (i : ℕ) where
-  pub missing-below : i < length (state_of h xs).missing → i < h.live.missing
-  missing-below q = omega (arith, count-missing h xs)
-
   pub grafted-below : Sound h xs → i < length (state_of h xs).grafted.entries → i < h.live.grafted
   grafted-below s q = omega (arith, count-grafted h xs s.fit)
 

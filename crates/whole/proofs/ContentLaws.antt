@@ -1,10 +1,9 @@
 -- Contents of cached messages: that they adjoin, told row by row, and that the lengths of the rows that entries name are those of the messages' contents.
 -- Assumes nothing.
-use Rattle.std.proofs.Common.{◌≡◌, sym, ap, ◌∙◌, subst, Bool, true, false, ◌&&◌, List, [], ◌∷◌, ◌++◌, map, ℕ, ◌+◌, ◌*◌, ◌≤◌, ◌<◌, add-one, arith, eq-eqb, ne_eqb, eqb, lit<, length, take, drop, get_or, drop_of_length-le, drop-cons, take-suc}
-use lib.ListN.{get_or-map}
+use Rattle.std.proofs.Common.{◌≡◌, refl, sym, ap, ◌∙◌, subst, Bool, true, false, ◌&&◌, List, [], ◌∷◌, ◌++◌, map, ℕ, zero, suc, ◌+◌, ◌*◌, ◌≤◌, ◌<◌, add-one, arith, eq-eqb, ne_eqb, eqb, lit<, length, take, drop, get_or, drop_of_length-le, drop-cons, take-suc}
 use Rattle.storage.specs.Lists.Base.{sum}
 use Rattle.storage.specs.Rows.Part.{part}
-use Rattle.storage.specs.Rows.Digits.{le_nat, be_nat}
+use Rattle.storage.specs.Rows.Digits.{le_nat}
 use Rattle.storage.specs.Rows.Rows.{rows}
 use Rattle.storage.proofs.RowsLaws.Parts.{part-part}
 use Rattle.storage.proofs.RowsLaws.Rows.{get_d_rows}
@@ -68,8 +67,10 @@ module _ {A : Type 0} (f : A → ℕ) where
 
 -- the length in a row, as the row is read
 row-length : (rs : List (List ℕ)) (p : ℕ) → len_of (row_at (map expiry_row_of rs) p) ≡ length_at rs p
-unfolding expiry_row_of le_nat be_nat part
-row-length rs p = ap len_of (get_or-map expiry_row_of rs p []) ∙ len-bytes (get_or rs p [])
+unfolding four_at part
+row-length [] p = refl
+row-length (row ∷ rs) zero = len-bytes row
+row-length (row ∷ rs) (suc p) = row-length rs p
 
 -- the contents of the cached messages
 pub content-held : (h : Head) (xs : List ℕ) → Fit h xs → places_name h.live.cached_rows 4 h.live.cached (table_of h 4 xs) ≡ true

@@ -1,5 +1,5 @@
 -- Start and length are those of the content in the view.
-use Rattle.std.proofs.Common.{◌≡◌, ◌+◌, ◌-◌, ap, ◌∙◌, ℕ, List, take, drop, arith}
+use Rattle.std.proofs.Common.{◌≡◌, ◌+◌, ◌-◌, ap, ◌∙◌, ℕ, take, drop, arith}
 use Rattle.storage.specs.Rows.Part.{part}
 use Rattle.block.proofs.CachesLaws.ContentReads.{content-ends, content-is}
 use Rattle.block.proofs.panel.View.cached_content.Goals as goal

@@ -8,8 +8,12 @@ use Rattle.block.proofs.panel.View.cached_content.Goals as goal
 pub slice_bounds-result-end : goal.slice_bounds-result-end
 slice_bounds-result-end c =
     let v = c.args.self.now in
-    omega (arith, content-ends v.head.now v.block.now v.sound c.args.entry c.requires c.cached_row.result c.cached_rows_at.result c.load4-start.result c.load4-len.result c.cached_row.ensures.at c.cached_rows_at.ensures c.load4-start.ensures.0 c.load4-len.ensures.0,
-      c.contents_at.ensures, v.sound.fit)
+    omega (
+      arith,
+      content-ends v.head.now v.block.now v.sound c.args.entry c.requires c.cached_row.result c.cached_rows_at.result c.load4-start.result c.load4-len.result c.cached_row.ensures.at c.cached_rows_at.ensures c.load4-start.ensures.0 c.load4-len.ensures.0,
+      c.contents_at.ensures,
+      v.sound.fit,
+    )
 
 pub returns-clause-content : goal.returns-clause-content
 unfolding part
